@@ -4,9 +4,8 @@ use Rattle.syslog_loose.proofs.Names.{ap, subst, arith, IsTrue, MatchBool, chars
 use Rattle.syslog_loose.proofs.Names.{drop_trailing_whitespace, length-map, nil_from_length, bytes_eq-Decides, Text}
 use Rattle.syslog_loose.proofs.Names.{NoFront, BeginsNoList, rfc3164_list, DashRule, EndsVisibly}
 use Rattle.std.specs.Str.{trim_end}
-use Rattle.syslog_pieces.proofs.TextLemmas.Chars.{same_chars}
-use Rattle.syslog_pieces.proofs.TextLemmas.Trim.{end_trimmed_chars}
-use Rattle.syslog_pieces.proofs.StructuredDataLemmas.Rfc3164List.{no_list_is}
+use Rattle.syslog_pieces.proofs.TextLemmas.Runs.{same_chars, end_trimmed_chars}
+use Rattle.syslog_pieces.proofs.StructuredDataLemmas.Walk.{no_list_is}
 use Rattle.syslog_loose.proofs.TrimLemmas.{drop_none, drop_ends}
 
 -- a text that trimming leaves as it is

@@ -9,7 +9,7 @@ use Rattle.syslog_pieces.proofs.TextLemmas.Words.{dash_ascii}
 use Rattle.std.proofs.Math.Seq.{take-append_seam}
 use Rattle.std.proofs.lemmas.Str.Pattern.{contains_char, NoCharPasses-char}
 use Rattle.std.specs.Str.Pattern.{FindsChar, HasMatch}
-use Rattle.syslog_pieces.proofs.TextLemmas.Chars.{from_not_true}
+use Rattle.syslog_pieces.proofs.TextLemmas.Runs.{from_not_true}
 
 -- the bytes of a dash
 pub dash_bytes : (bs : List ℕ) → IsUtf8 bs → chars bs ≡ dash → bs ≡ dash

@@ -13,7 +13,7 @@ use Rattle.std.proofs.lemmas.List.{append_cancel_right}
 use Rattle.syslog_pieces.specs.Pieces.View.{Skips}
 use Rattle.std.specs.Str.Pattern.{FindsTextPrefix, FindsTextSuffix, StripsPrefix, StripsSuffix}
 use Rattle.std.specs.Option.{is_some}
-use Rattle.syslog_pieces.proofs.TextLemmas.Chars.{chars_empty}
+use Rattle.syslog_pieces.proofs.TextLemmas.Runs.{chars_empty}
 use Rattle.std.specs.Char.{encode_utf8}
 use Rattle.syslog_loose.specs.Bodies.Jumps.{message_end}
 use Rattle.syslog_loose.specs.Printed.{printed_3164}

@@ -67,39 +67,29 @@ pub use Rattle.syslog_pieces.proofs.PieceLemmas.Class.{optional_det, both_values
 pub use Rattle.syslog_pieces.proofs.PieceLemmas.Class.{run_same, rest_same, front_division, spaced_parts, rest_whole}
 pub use Rattle.syslog_pieces.proofs.PieceLemmas.Class.{◌also◌, rest_front, spaced_front, no_spaced_piece}
 pub use Rattle.syslog_pieces.proofs.PieceLemmas.Class.{no_row_division, rows_none_here, exactly_det, unique_division}
-pub use Rattle.syslog_pieces.proofs.PieceLemmas.Class.{rest_det, some_run_det, no_texted, no_spaced_space}
-pub use Rattle.syslog_pieces.proofs.PieceLemmas.Steps.{absent_stays, piece_front, step, rows_step, front_longer}
-pub use Rattle.syslog_pieces.proofs.PieceLemmas.Steps.{absent_none, present_front, step_value}
+pub use Rattle.syslog_pieces.proofs.PieceLemmas.Class.{rest_det, some_run_det, no_texted, no_spaced_space, absent_stays}
+pub use Rattle.syslog_pieces.proofs.PieceLemmas.Class.{piece_front, step, rows_step, front_longer, absent_none}
+pub use Rattle.syslog_pieces.proofs.PieceLemmas.Class.{present_front, step_value, each_map, each_front, each_behind}
+pub use Rattle.syslog_pieces.proofs.PieceLemmas.Class.{all_left, all_right, each_append, each_both, each_left}
+pub use Rattle.syslog_pieces.proofs.PieceLemmas.Class.{each_right, ◌then◌, row_of, row_pieces, no_row, ◌past◌}
 pub use Rattle.syslog_pieces.proofs.StructuredDataLemmas.Units.{decide}
-pub use Rattle.syslog_pieces.proofs.StructuredDataLemmas.Rfc3164List.{dash_rfc3164_list, full_begins, no_rfc3164_list}
-pub use Rattle.syslog_pieces.proofs.StructuredDataLemmas.Rfc3164List.{rfc3164_list_det, begins_no_list, no_full_nil}
-pub use Rattle.syslog_pieces.proofs.StructuredDataLemmas.Rfc3164List.{no_full_start, no_full_opening, full_shorter}
-pub use Rattle.syslog_pieces.proofs.TextLemmas.Canonical.{false_is, no_truth, last_is}
-pub use Rattle.syslog_pieces.proofs.TextLemmas.Words.{colon_ascii, host_det}
-pub use Rattle.syslog_pieces.proofs.PieceLemmas.Lists.{begins}
-pub use Rattle.syslog_pieces.proofs.PieceLemmas.Each.{each_map, each_front, each_behind, all_left, all_right}
-pub use Rattle.syslog_pieces.proofs.PieceLemmas.Each.{each_append, each_both, each_left, each_right}
-pub use Rattle.syslog_pieces.proofs.PieceLemmas.Parts.{part_joined, Quoted, row_quotes, silent, rest_quotes}
-pub use Rattle.syslog_pieces.proofs.PieceLemmas.Parts.{host_quotes}
-pub use Rattle.syslog_pieces.proofs.TextLemmas.ReadBack.{decimal_digits, number_back, host_back}
-pub use Rattle.syslog_pieces.proofs.TextLemmas.Decimals.{encodes-decimal}
-pub use Rattle.syslog_pieces.proofs.TimestampLemmas.Printing.{printed_stamp-bytes}
-pub use Rattle.syslog_pieces.proofs.PieceLemmas.Rows.{◌then◌, row_of, row_pieces, no_row, ◌past◌}
-pub use Rattle.syslog_pieces.proofs.ProcIdLemmas.{process_same, bare_prints}
-pub use Rattle.syslog_pieces.proofs.PieceLemmas.Kinds.{Begins, begins_apart, begins_more, begins_with}
+pub use Rattle.syslog_pieces.proofs.StructuredDataLemmas.Walk.{dash_rfc3164_list, no_rfc3164_list, rfc3164_list_det}
+pub use Rattle.syslog_pieces.proofs.StructuredDataLemmas.Walk.{full_begins, no_full_nil, full_shorter, visits_none}
+pub use Rattle.syslog_pieces.proofs.StructuredDataLemmas.Walk.{begins_no_list, no_full_start, no_full_opening}
+pub use Rattle.syslog_pieces.proofs.TextLemmas.Words.{false_is, no_truth, last_is, host_det, number_back, host_back}
+pub use Rattle.syslog_pieces.proofs.TextLemmas.Words.{colon_ascii, decimal_digits, encodes-decimal, encodes_shown}
+pub use Rattle.syslog_pieces.proofs.PieceLemmas.Lists.{begins, part_joined, Quoted, row_quotes, silent, rest_quotes}
+pub use Rattle.syslog_pieces.proofs.PieceLemmas.Lists.{host_quotes, Begins, begins_apart, begins_more, begins_with}
+pub use Rattle.syslog_pieces.proofs.TimestampLemmas.Rfc3339.{printed_stamp-bytes, stamp_text-canonical}
+pub use Rattle.syslog_pieces.proofs.TimestampLemmas.Rfc3339.{printed_stamp-begins, printed_stamp-back}
+pub use Rattle.syslog_pieces.proofs.TimestampLemmas.Rfc3339.{printed_stamp-visible}
+pub use Rattle.syslog_pieces.proofs.ProcIdLemmas.{process_same, bare_prints, named_names}
 pub use Rattle.syslog_pieces.proofs.PriLemmas.{priority_det, priority_composed, severity_there, facility_composed}
 pub use Rattle.syslog_pieces.proofs.PriLemmas.{severity_composed}
-pub use Rattle.syslog_pieces.proofs.TimestampLemmas.MonthDate.{month_date_begins}
-pub use Rattle.syslog_pieces.proofs.TimestampLemmas.Rfc3164.{IsLow, rfc3164_stamp_det, stamped_date_begins}
-pub use Rattle.syslog_pieces.proofs.TimestampLemmas.RoundTrip.{stamp_text-canonical, printed_stamp-begins}
-pub use Rattle.syslog_pieces.proofs.TimestampLemmas.RoundTrip.{printed_stamp-back, printed_stamp-visible}
-pub use Rattle.syslog_pieces.proofs.TextLemmas.Runs.{some_front_run}
+pub use Rattle.syslog_pieces.proofs.TimestampLemmas.MonthDate.{month_date_begins, IsLow, rfc3164_stamp_det}
+pub use Rattle.syslog_pieces.proofs.TimestampLemmas.MonthDate.{stamped_date_begins, IsLetter}
+pub use Rattle.syslog_pieces.proofs.TextLemmas.Runs.{some_front_run, one_ascii, nonempty_is, text_is}
 pub use Rattle.syslog_pieces.proofs.StructuredDataLemmas.Closing.{opening_det}
-pub use Rattle.syslog_pieces.proofs.TimestampLemmas.Months.{IsLetter}
-pub use Rattle.syslog_pieces.proofs.TextLemmas.Chars.{one_ascii, nonempty_is, text_is}
-pub use Rattle.syslog_pieces.proofs.ProcIdLemmas.Named.{named_names}
-pub use Rattle.syslog_pieces.proofs.TextLemmas.Printed.{encodes_shown}
-pub use Rattle.syslog_pieces.proofs.StructuredDataLemmas.Listed.{visits_none}
 pub use Rattle.syslog_loose.specs.Canonical.{IsBounded, IsCanonicalFor, IsCanonical, IsBoundedProcess, IsCanonicalHost}
 pub use Rattle.syslog_loose.specs.Canonical.{IsVisible, IsBracketedProcess, is_process_char, AreCanonicalNames}
 pub use Rattle.syslog_loose.specs.Canonical.{IsCanonical3164, IsCanonicalElement, IsCanonicalInBoth}

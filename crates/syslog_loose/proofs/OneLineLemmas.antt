@@ -11,11 +11,11 @@ use Rattle.syslog_loose.proofs.Names.{IsBoundedProtocol, MessageValue, message_t
 use Rattle.syslog_loose.proofs.Names.{tag_text, priority_of, printed, dash_rule, IsRead, IsRead3164, IsRead5424}
 use Rattle.syslog_loose.proofs.Names.{Variant}
 use Rattle.std.proofs.Common.{nat_le, nat_lt}
-use Rattle.syslog_pieces.proofs.PieceLemmas.Each.{all_map}
+use Rattle.syslog_pieces.proofs.PieceLemmas.Class.{all_map}
 use Rattle.std.proofs.Math.Utf8.{scalar, scalars, low_scalar}
 use Rattle.std.proofs.lemmas.Bool.{and_from, and_parts, cond_both}
-use Rattle.syslog_pieces.proofs.TimestampLemmas.Characters.{is_stamp_character, stamp_range}
-use Rattle.syslog_pieces.proofs.TimestampLemmas.Printing.{printed_stamp-characters}
+use Rattle.syslog_pieces.proofs.TimestampLemmas.Digits.{is_stamp_character, stamp_range}
+use Rattle.syslog_pieces.proofs.TimestampLemmas.Rfc3339.{printed_stamp-characters}
 use Rattle.syslog_loose.specs.Printed.{process_text, printed_3164, printed_5424}
 use Rattle.syslog_loose.specs.OneLine.{is_no_feed, IsOneLine}
 use Rattle.syslog_loose.proofs.BoundLemmas.{read_as}

@@ -7,12 +7,12 @@ use Rattle.syslog_loose.proofs.Names.{trimmed, is_blank, number, AreInPieces, te
 use Rattle.syslog_loose.proofs.Names.{element_texts, priority, Quoted, row_quotes, silent, rest_quotes, host_quotes}
 use Rattle.syslog_loose.proofs.Names.{priority_det, host_det, MessageValue, message_texts, header_row, data_row}
 use Rattle.syslog_loose.proofs.Names.{rfc5424_row, message_of, IsRead5424, IsNot5424}
-use Rattle.syslog_pieces.proofs.PieceLemmas.Parts.{word_quotes, process_quotes}
+use Rattle.syslog_pieces.proofs.PieceLemmas.Lists.{word_quotes, process_quotes}
 use Rattle.syslog_pieces.proofs.TextLemmas.Words.{number_det, word_det}
 use Rattle.syslog_pieces.proofs.StructuredDataLemmas.Elements.{forgiving_det}
-use Rattle.syslog_pieces.proofs.StructuredDataLemmas.ElementParts.{forgiving_quotes}
+use Rattle.syslog_pieces.proofs.StructuredDataLemmas.Units.{forgiving_quotes}
 use Rattle.syslog_pieces.proofs.ProcIdLemmas.{process_word_det}
-use Rattle.syslog_pieces.proofs.TimestampLemmas.Piece.{header_stamp_det}
+use Rattle.syslog_pieces.proofs.TimestampLemmas.Rfc3339.{header_stamp_det}
 use Rattle.syslog_loose.specs.Rfc5424.{Quotes5424}
 
 pub header_det : AllDeterministic header_row

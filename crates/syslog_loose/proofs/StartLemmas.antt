@@ -12,8 +12,8 @@ use Rattle.syslog_loose.proofs.Names.{Invalid, Variant, Either, RFC5424}
 use Rattle.syslog_pieces.specs.Pieces.View.{Reads}
 use Rattle.syslog_pieces.specs.Timestamp.{IsAnswer}
 use Rattle.syslog_pieces.specs.Timestamp.Zone.{IsMonthStamp}
-use Rattle.syslog_pieces.proofs.TimestampLemmas.Rfc3164.{date_front, header_front, header_stamp_begins, no_date}
-use Rattle.syslog_pieces.proofs.TimestampLemmas.Rfc3164.{no_stamp_of_date}
+use Rattle.syslog_pieces.proofs.TimestampLemmas.MonthDate.{date_front, header_front, header_stamp_begins, no_date}
+use Rattle.syslog_pieces.proofs.TimestampLemmas.MonthDate.{no_stamp_of_date}
 use Rattle.syslog_loose.specs.Bodies.Start.{BeginsWith}
 use Rattle.syslog_loose.specs.declared.variant.Variant.TheVariants.{RFC3164}
 use Rattle.syslog_loose.specs.Bodies.View3164.{IsBehindStamp}

@@ -4,12 +4,10 @@ use Rattle.syslog_loose.proofs.Names.{AllDeterministic, unique_division, divisio
 use Rattle.syslog_loose.proofs.Names.{some_run_det, no_texted, no_row_division, all_joined, chars, Text, Class, Values}
 use Rattle.syslog_loose.proofs.Names.{Front, NoFront, Row, run, some_run, exactly, texted, is_label_char, is_open_char}
 use Rattle.syslog_loose.proofs.Names.{rows_step, one_ascii, form_row, IsForm, IsNoForm, row_pieces, no_row}
-use Rattle.syslog_pieces.proofs.PieceLemmas.Class.{texted_det}
+use Rattle.syslog_pieces.proofs.PieceLemmas.Class.{texted_det, Fails}
 use Rattle.std.specs.Str.{IsAscii}
-use Rattle.syslog_pieces.proofs.TextLemmas.Chars.{chars_nonempty}
-use Rattle.syslog_pieces.proofs.PieceLemmas.Rows.{Fails}
+use Rattle.syslog_pieces.proofs.TextLemmas.Runs.{chars_nonempty, no_some_run}
 use Rattle.syslog_pieces.specs.Bodies.Scan.{SplitsRun}
-use Rattle.syslog_pieces.proofs.TextLemmas.Runs.{no_some_run}
 
 abbrev pub label : Class
 label = texted (run is_label_char)

@@ -6,7 +6,7 @@ use Rattle.syslog_loose.proofs.Names.{drop_trailing_whitespace, Text, Class, Val
 use Rattle.syslog_loose.proofs.Names.{classes, printed_row, Format, ElementValue, param_text, element_text}
 use Rattle.syslog_loose.proofs.Names.{joined_elements, elements_text, OffsetTimestamp, row_head, rest_whole, row_pieces}
 use Rattle.syslog_loose.proofs.Names.{printed_stamp-visible, printed_stamp-begins, timestamp_text, is_blank}
-use Rattle.syslog_pieces.proofs.PieceLemmas.Formats.{printed_more}
+use Rattle.syslog_pieces.proofs.PieceLemmas.Lists.{printed_more}
 use Rattle.syslog_loose.specs.Canonical.{EndsVisibly}
 unfoldable pub use Rattle.syslog_loose.specs.Bodies.Jumps.{message_end}
 

@@ -1,19 +1,19 @@
--- Numbers and names as process ids.
-pub mod Named
-pub mod ReadBack
-use Rattle.syslog_pieces.proofs.Names.{◌≡◌, ◌≢◌, ℕ, ℤ, pos, ◌<◌, ◌^◌, ◌⊎◌, inl, inr, w32, List, [], ◌∷◌, length, get_or}
-use Rattle.syslog_pieces.proofs.Names.{Some, None, Result, Ok, Err, refl, sym, ap, ◌∙◌, rules, arith, is_ascii_digit}
-use Rattle.syslog_pieces.proofs.Names.{chars, IsUtf8, IsAscii, digits_value, ParsesSigned, IsNumeral}
-use Rattle.syslog_pieces.proofs.Names.{signed_digits_value, cases_Bool, cases_eq, cases_lt, ne_eqb}
-use Rattle.syslog_pieces.proofs.Names.{decimal-digits_value, chars-IsAscii, IsAscii-cons, IsBareWord, Text, Each, Front}
-use Rattle.syslog_pieces.proofs.Names.{NoFront, IsDeterministic, word, IsI32Text, process_word, ProcId, PID}
-use Rattle.syslog_pieces.proofs.Names.{encode_utf8_all, IsAscii-nil, length-le-encodes, without_leading_sign}
-use Rattle.syslog_pieces.proofs.Names.{NamesProcess, Name}
-use Rattle.syslog_pieces.specs.Bodies.Looks.{LeadsBare}
-use Rattle.syslog_pieces.specs.ProcId.{procid_text}
-use Rattle.syslog_pieces.proofs.TextLemmas.Chars.{digits_ascii, ascii_ahead, ascii_chars}
-use Rattle.syslog_pieces.proofs.TextLemmas.Words.{own, word_det}
-use Rattle.std.proofs.Common.{neg_ℤ}
+-- Numbers and names as process ids, and what is read back of them.
+use Rattle.syslog_pieces.proofs.Names.{◌≡◌, ◌≢◌, pos, ◌<◌, ◌^◌, ◌⊎◌, inl, inr, w32, ◌∷◌, Err, sym, ◌∙◌, PID, suc, not}
+use Rattle.syslog_pieces.proofs.Names.{ℕ, signed_digits_value, length-le-encodes, is_not_whitespace, IsCanonicalProcess}
+use Rattle.syslog_pieces.proofs.Names.{ℤ, get_or, Result, IsUtf8, IsAscii, ne_eqb, NoFront, and_from, list_all, decimal}
+use Rattle.syslog_pieces.proofs.Names.{List, IsNumeral, cases_eq, cases_lt, IsI32Text, FitsSigned, nat_tests, and_parts}
+use Rattle.syslog_pieces.proofs.Names.{[], Ok, ap, ◌↔◌, length, digits_value, ParsesSigned, chars-IsAscii}
+use Rattle.syslog_pieces.proofs.Names.{if◌then◌else◌, signed_decimal, Some, rules, arith, chars, Front, ProcId, negsuc}
+use Rattle.syslog_pieces.proofs.Names.{lt-ltb, Option, IfSome, IsTrue, None, refl, Text, Each, word, Name, neg_ℤ, true}
+use Rattle.syslog_pieces.proofs.Names.{false, Bool, ◌&&◌, Ends, heads, is_ascii_digit, decimal-digits_value}
+use Rattle.syslog_pieces.proofs.Names.{without_leading_sign, digits_value-decimal, cases_Bool, IsAscii-cons, IsBareWord}
+use Rattle.syslog_pieces.proofs.Names.{process_word, NamesProcess, process_text, IsDeterministic, encode_utf8_all}
+use Rattle.syslog_pieces.proofs.Names.{IsAscii-nil, IsBoundedProcess, IsCanonicalWord, LeadsBare}
+use Rattle.syslog_pieces.specs.ProcId.{procid_text, has_32_bits, is_signed_text, named_process, IsNoI32Text}
+use Rattle.syslog_pieces.proofs.TextLemmas.Runs.{digits_ascii, ascii_ahead, ascii_chars}
+use Rattle.syslog_pieces.proofs.TextLemmas.Words.{own, word_det, false_is, last_is, decimal_digits, digits_visible}
+use Rattle.syslog_pieces.proofs.TextLemmas.Words.{word_back, word_canonical}
 
 -- ---- a text writes one number
 
@@ -176,3 +176,123 @@ bare_word bs (c ∷ d ∷ p) u h e l = (
 pub bare_prints : (t : Text) (i : ProcId Text) → 0 < length t → IsBareWord t → NamesProcess t i → procid_text i ≡ t
 bare_prints t i l bare n =
     let (j, names, prints) = names_itself t l bare in ap procid_text (process_same t i j n names) ∙ prints
+
+-- ---- the process id that a text names, computed
+each_of_all : (t : Text) → list_all is_ascii_digit t ≡ true → Each is_ascii_digit t
+each_of_all [] h = tt
+each_of_all (c ∷ cs) h = let parts = and_parts _ _ h in (parts.0, each_of_all cs parts.1)
+
+all_of_each : (t : Text) → Each is_ascii_digit t → list_all is_ascii_digit t ≡ true
+all_of_each [] h = refl
+all_of_each (c ∷ cs) h = rw h.0 (all_of_each cs h.1)
+
+fits_of_bits : (z : ℤ) → has_32_bits z ≡ true → FitsSigned w32 z
+fits_of_bits (pos n) h = let small : n < 2_147_483_648 = grind (arith, nat_tests) in omega arith
+fits_of_bits (negsuc n) h = let small : n < 2_147_483_648 = grind (arith, nat_tests) in omega arith
+
+bits_of_fits : (z : ℤ) → FitsSigned w32 z → has_32_bits z ≡ true
+bits_of_fits (pos n) h = let small : n < 2_147_483_648 = omega arith in grind (arith, nat_tests)
+bits_of_fits (negsuc n) h = let small : n < 2_147_483_648 = omega arith in grind (arith, nat_tests)
+
+signed_of_test : (t : Text) → is_signed_text t ≡ true → IsNumeral 10 (without_leading_sign t)
+signed_of_test t h =
+    let parts = and_parts _ _ h in
+    let some : 0 < length (without_leading_sign t) = grind (arith, nat_tests) in
+    numeral _ (some, each_of_all _ parts.1)
+
+test_of_signed : (t : Text) → IsNumeral 10 (without_leading_sign t) → is_signed_text t ≡ true
+test_of_signed t h =
+    let digits = digits_from _ h in
+    and_from _ _ (lt-ltb _ _ digits.0) (all_of_each _ digits.1)
+
+no_number : (t : Text) → (is_signed_text t && has_32_bits (signed_digits_value 10 t)) ≡ false → (n : ℤ)
+    → IsI32Text t n → ⊥
+no_number t h n is =
+    let value = is.0.1 in
+    let both = and_from _ _ (test_of_signed t is.0.0) (bits_of_fits _ (rw value at is.1)) in
+    let f = rw both at h in cc
+
+named_as : (t : Text) (test : Bool) → test ≡ (is_signed_text t && has_32_bits (signed_digits_value 10 t))
+    → NamesProcess t (if test then PID (signed_digits_value 10 t) else Name t)
+named_as t true h =
+    let parts = and_parts _ _ (sym h) in ((signed_of_test t parts.0, refl), fits_of_bits _ parts.1)
+named_as t false h = (no_number t (sym h), refl)
+
+pub named_names : (t : Text) → NamesProcess t (named_process t)
+named_names t = named_as t _ refl
+
+-- ---- the text of a number
+
+digits_no_mark : (t : Text) (c : ℕ) → Each is_ascii_digit t → is_ascii_digit c ≡ false → t ≡ c ∷ [] → ⊥
+digits_no_mark [] c h n e = let k = ap length e in omega arith
+digits_no_mark (d ∷ t) c h n e = let a = h.0 in let k = rw (← heads d c t [] e) at n in cc
+
+-- it writes the number
+pub signed_writes : (n : ℤ) → FitsSigned w32 n → IsI32Text (signed_decimal n) n
+signed_writes (pos n) h =
+    let small : n < 2 ^ 64 = omega (arith, h) in
+    (writes_numeral (signed_decimal (pos n)) (pos n) (inl (decimal_digits n small, ap pos (sym (digits_value-decimal own n small)))), h)
+signed_writes (negsuc n) h =
+    let small : suc n < 2 ^ 64 = omega (arith, h) in (
+      writes_numeral (signed_decimal (negsuc n)) (negsuc n) (inr (inr (
+        decimal (suc n),
+        refl,
+        decimal_digits (suc n) small,
+        ap (λ (k : ℕ). neg_ℤ (pos k)) (sym (digits_value-decimal own (suc n) small)),
+      ))),
+      h,
+    )
+
+-- and is a canonical word
+pub signed_canonical : (n : ℤ) → FitsSigned w32 n → IsCanonicalWord (signed_decimal n)
+signed_canonical (pos n) h =
+    let (long, digits) = decimal_digits n (omega (arith, h)) in (
+      (long, digits_visible (decimal n) digits),
+      digits_no_mark (decimal n) 45 digits refl,
+      digits_no_mark (decimal n) 58 digits refl,
+    )
+signed_canonical (negsuc n) h =
+    let (long, digits) = decimal_digits (suc n) (omega (arith, h)) in (
+      (omega arith, (refl, digits_visible (decimal (suc n)) digits)),
+      (λ e. let k = ap length e in omega arith),
+      (λ e. let k = ap length e in omega arith),
+    )
+
+-- ---- process ids
+
+-- a canonical process id, or none, is read back before the end or white space
+pub process_back : (v : Option (ProcId Text)) (q : Text) → IfSome v IsCanonicalProcess → IfSome v IsBoundedProcess
+    → Ends is_not_whitespace q → process_word.Is (process_text v) q v
+process_back None q h b e = word_back None q tt e
+process_back (Some (PID n)) q h b e =
+    (signed_decimal n, word_back (Some (signed_decimal n)) q (signed_canonical n b) e, signed_writes n b)
+process_back (Some (Name t)) q (canonical, no_number) b e = (t, word_back (Some t) q canonical e, (no_number, refl))
+
+-- what is read as a process id is canonical
+pub process_canonical : (p q : Text) (v : Option (ProcId Text)) → process_word.Is p q v → IfSome v IsCanonicalProcess
+process_canonical p q None h = tt
+process_canonical p q (Some (PID n)) h = tt
+process_canonical p q (Some (Name t)) (u, w, (no_number, same)) =
+    rw same (word_canonical p q (Some u) w, no_number)
+
+-- what the law of process ids rests on
+pub ruleset processes = (process_back, process_canonical)
+
+-- and its number has 32 bits
+pub process_bounded : (p q : Text) (v : Option (ProcId Text)) → process_word.Is p q v → IfSome v IsBoundedProcess
+process_bounded p q None h = tt
+process_bounded p q (Some (PID n)) (u, w, i) = i.1
+process_bounded p q (Some (Name t)) h = tt
+
+-- ---- what the test of a process name returns
+
+-- the text is one of no number where the test of one fails
+pub no_number_told : (t : Text) (b : Bool) → IsTrue b ↔ (IsNoI32Text t → ⊥) → IsTrue (not b) ↔ IsNoI32Text t
+no_number_told t true e = false_is (λ n. e.0 refl n)
+no_number_told t false e = ((λ h n i. (let u : false ≡ true = e.1 (λ z. z n i) in cc)), (λ n. refl))
+
+pub name_told : (bytes text : List ℕ) (process : ProcId Text) (w number : Bool) → bytes ≡ text
+    → process ≡ Name (chars text) → IsTrue w ↔ IsCanonicalWord (chars bytes) → w ≡ true
+    → IsTrue number ↔ (IsNoI32Text (chars bytes) → ⊥) → IsTrue (not number) ↔ IsCanonicalProcess process
+name_told bytes text process w number e p canonical is number_told =
+    rw (p, ← e) (last_is (not number) (canonical.0 is) (no_number_told (chars bytes) number number_told))

@@ -83,7 +83,7 @@ impl Ascii {
     }
 
     // Appends a number in decimal digits.
-    #[tactic(auto, using(crate::proofs::TextLemmas::Decimals::decimal_steps))]
+    #[tactic(auto, using(crate::proofs::TextLemmas::Words::decimal_steps))]
     fn push_number(&mut self, number: u32)
         requires room { self.old.length + length (decimal number) ≤ 64 }
         ensures text { ascii_bytes self.new ≡ ascii_bytes self.old ++ decimal number }
@@ -98,7 +98,7 @@ impl Ascii {
     }
 
     // Appends a version of RFC 5424, where there is one.
-    #[tactic(auto, using(crate::proofs::TextLemmas::Decimals::ten_digits))]
+    #[tactic(auto, using(crate::proofs::TextLemmas::Words::ten_digits))]
     #[inline(always)]
     fn push_version(&mut self, version: Option<u32>)
         requires room { self.old.length + 10 ≤ 64 }

@@ -41,7 +41,7 @@ pub fn priority_is_composed()
 {}
 
 /// The process id that is computed of a text is the one that it names.
-#[tactic(auto, using(crate::proofs::ProcIdLemmas::Named::named_names))]
+#[tactic(auto, using(crate::proofs::ProcIdLemmas::named_names))]
 pub fn text_names_computed_process()
     ensures { (text : Text) → NamesProcess text (named_process text) }
 {}
@@ -67,7 +67,7 @@ pub fn text_has_one_rfc3164_stamp()
 
 /// Where a clock in a zone shows a datetime twice, the offset that jiff names first gives the earlier of the two
 /// instants.
-#[tactic(auto, using(crate::proofs::TimestampLemmas::Fold::earlier_in_fold))]
+#[tactic(auto, using(crate::proofs::TimestampLemmas::Civil::earlier_in_fold))]
 pub fn fold_has_its_earlier_instant_first()
     ensures { (tz : TimeZone) (dt : DateTime) (before after : Offset) (s other : OffsetTimestamp)
         → ambiguous_at tz dt ≡ Fold before after → IsStampOf (Fold before after) dt (λ _. ⊥) s
@@ -91,7 +91,7 @@ pub fn canonical_stamp_reads_back()
 
 /// The printed text of any timestamp begins with a digit, or with `-` and a digit, and no character of it is white
 /// space.
-#[tactic(auto, using(crate::proofs::TimestampLemmas::RoundTrip::printed_word))]
+#[tactic(auto, using(crate::proofs::TimestampLemmas::Rfc3339::printed_word))]
 pub fn printed_stamp_is_one_word()
     ensures begins { (stamp : OffsetTimestamp)
         → BeginsWithYear (printed_stamp stamp.instant.nanosecond stamp.offset.seconds) }

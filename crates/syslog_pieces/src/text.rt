@@ -151,7 +151,7 @@ pub fn past_colon(text: &str) -> &str
 }
 
 /// The text after the blanks at the front, of which there may be none.
-#[tactic(auto, using(crate::proofs::TextLemmas::Looks::no_blanks, crate::proofs::TextLemmas::Runs::split_at_end))]
+#[tactic(auto, using(crate::proofs::TextLemmas::Runs::no_blanks, crate::proofs::TextLemmas::Runs::split_at_end))]
 #[inline(always)]
 pub fn blanks(text: &str) -> &str
     ensures { Front (run spec.is_blank) (chars text.now) (shown result) tt }
@@ -180,7 +180,7 @@ pub fn some_blanks(text: &str) -> Option<&str>
 }
 
 // The text after a space before no blank, which most gaps are: it needs no scan.
-#[tactic(auto, using(crate::proofs::TextLemmas::Looks::gap))]
+#[tactic(auto, using(crate::proofs::TextLemmas::Runs::gap))]
 #[inline(always)]
 pub(crate) fn past_space(text: &str) -> Option<&str>
     ensures { IfSome result (λ rest. Front (some_run spec.is_blank) (chars text.now) (shown rest) tt
@@ -312,7 +312,7 @@ pub fn tag_word(text: &str) -> Option<(Option<&str>, &str)>
 }
 
 /// The text without the white space at its two ends.
-#[tactic(auto, using(crate::proofs::TextLemmas::Trim::bare_trimmed))]
+#[tactic(auto, using(crate::proofs::TextLemmas::Runs::bare_trimmed))]
 #[inline(always)]
 pub fn trimmed(text: &str) -> &str
     ensures { shown result ≡ spec.trimmed (chars text.now) }
@@ -325,7 +325,7 @@ pub fn trimmed(text: &str) -> &str
 }
 
 // Trims any text. It is a call, since few lines have white space or a character past ASCII at an end.
-#[tactic(auto, using(crate::proofs::TextLemmas::Trim::trimmed_chars))]
+#[tactic(auto, using(crate::proofs::TextLemmas::Runs::trimmed_chars))]
 #[inline(never)]
 fn trim(text: &str) -> &str
     ensures { shown result ≡ spec.trimmed (chars text.now) }

@@ -9,7 +9,7 @@ use Rattle.jiff_core.proofs.SignedLemmas.{signed_arith, int_rem_euclid-parts}
 use Rattle.syslog_pieces.specs.Pieces.Class.{Text, join}
 use Rattle.syslog_pieces.specs.Pieces.View.{text_eq}
 use Rattle.syslog_pieces.specs.ProcId.{NamesProcess, named_process}
-use Rattle.syslog_pieces.proofs.ProcIdLemmas.Named.{named_names}
+use Rattle.syslog_pieces.proofs.ProcIdLemmas.{named_names}
 use Rattle.std.proofs.Common.{◌%◌, ◌&&◌, nat_lt, unsigned_abs}
 use Rattle.std.specs.Bool.{◌==◌}
 use Rattle.jiff.specs.Words.{nanos_of_seconds}

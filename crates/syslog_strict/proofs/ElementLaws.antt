@@ -12,7 +12,7 @@ use Rattle.syslog_pieces.specs.StructuredData.Element.{ElementValue, element_tex
 use Rattle.syslog_pieces.specs.StructuredData.Escapes.{TextUnit, pair, single, unit_text}
 use Rattle.syslog_pieces.specs.Text.{is_blank}
 use Rattle.syslog_pieces.specs.Text.CharClass.{is_id_char, is_name_char}
-use Rattle.syslog_pieces.proofs.PieceLemmas.Each.{all_append, all_map, each_map}
+use Rattle.syslog_pieces.proofs.PieceLemmas.Class.{all_append, all_map, each_map}
 use Rattle.syslog_strict.specs.Conversion.{converted_element, converted_elements, converted_name, converted_param, escaped_from}
 use Rattle.syslog_strict.specs.Conversion.{is_among, joined_past, or_mark, params_of}
 use Rattle.syslog_strict.specs.Grammar.{AreDistinct, IsParamValue, IsSdElement, IsSdName, IsSdParam, IsStructuredData, IsValuePiece}

@@ -7,8 +7,7 @@ use Rattle.std.specs.Borrow.{Bor}
 use Rattle.std.specs.List.{AllByRecursion}
 use Rattle.syslog_pieces.specs.Pieces.Class.{Text, join}
 use Rattle.syslog_pieces.specs.Pieces.View.{shown, text_eq}
-use Rattle.syslog_pieces.proofs.PieceLemmas.Class.{heads}
-use Rattle.syslog_pieces.proofs.PieceLemmas.Each.{all_append, all_right}
+use Rattle.syslog_pieces.proofs.PieceLemmas.Class.{heads, all_append, all_right}
 use Rattle.syslog_strict.specs.Beginnings.{BeginsDistinct, BeginsElement, BeginsElements, IsBody, IsDistinctAndMsg, IsElementsAndMsg, Only, both}
 use Rattle.syslog_strict.specs.Conversion.{is_among}
 use Rattle.syslog_strict.specs.Grammar.{AreDistinct, IsSdElement, IsSpacedMsg}

@@ -15,7 +15,7 @@ use Rattle.std.specs.Prelude.{◌||◌}
 use Rattle.syslog_pieces.specs.Pieces.Class.{Text}
 use Rattle.syslog_pieces.specs.Pieces.View.{text_eq}
 use Rattle.syslog_pieces.specs.StructuredData.Element.{ElementValue, element_text, joined_elements, param_text}
-use Rattle.syslog_pieces.proofs.PieceLemmas.Each.{all_map}
+use Rattle.syslog_pieces.proofs.PieceLemmas.Class.{all_map}
 use Rattle.syslog_strict.specs.Conversion.{is_among, joined_past, params_of}
 use Rattle.syslog_strict.specs.Joined.{HasJoined, firsts, joined_text, text_or_none}
 use Rattle.syslog_strict.specs.Pushing.{text_in}

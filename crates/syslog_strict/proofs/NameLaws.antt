@@ -14,14 +14,12 @@ use Rattle.syslog_pieces.specs.Text.{colon, dash, name_text}
 use Rattle.syslog_pieces.specs.Text.Canonical.{IsCanonicalHost, IsCanonicalWord}
 use Rattle.syslog_pieces.specs.declared.procid.ProcId.{ProcId}
 use Rattle.syslog_pieces.specs.declared.procid.ProcId.TheVariants.{PID, Name}
-use Rattle.syslog_pieces.proofs.PieceLemmas.Each.{each_map}
-use Rattle.syslog_pieces.proofs.ProcIdLemmas.Named.{named_names}
-use Rattle.syslog_pieces.proofs.TextLemmas.Decimals.{ten_long}
-use Rattle.syslog_pieces.proofs.TextLemmas.ReadBack.{decimal_digits}
+use Rattle.syslog_pieces.proofs.PieceLemmas.Class.{each_map, heads}
+use Rattle.syslog_pieces.proofs.ProcIdLemmas.{named_names}
+use Rattle.syslog_pieces.proofs.TextLemmas.Words.{ten_long, decimal_digits}
 use Rattle.syslog_strict.specs.Conversion.{cleaned, converted_host, converted_process, converted_word, kept_char, named, no_colon}
 use Rattle.syslog_strict.specs.Conversion.{without_last_colon, without_lone_colon}
 use Rattle.syslog_strict.specs.Grammar.{IsSomeOf, is_printusascii}
-use Rattle.syslog_pieces.proofs.PieceLemmas.Class.{heads}
 use Rattle.syslog_strict.proofs.TextLemmas.{cleaned_passes, cleaned_short, kept_as, lost_as}
 
 -- what is left of a name that isn't empty

@@ -18,9 +18,8 @@ use Rattle.syslog_pieces.specs.Pieces.View.{shown}
 use Rattle.syslog_pieces.specs.Text.{number}
 use Rattle.syslog_pieces.specs.Text.CharClass.{is_inert_char}
 use Rattle.syslog_pieces.proofs.PieceLemmas.Class.{heads, run_same}
-use Rattle.syslog_pieces.proofs.TextLemmas.Chars.{ascii_chars, low_ascii}
-use Rattle.syslog_pieces.proofs.TextLemmas.Decimals.{digit_is, one_digit, two_digits, three_digits}
-use Rattle.syslog_pieces.proofs.TextLemmas.ReadBack.{number_back}
+use Rattle.syslog_pieces.proofs.TextLemmas.Runs.{ascii_chars, low_ascii}
+use Rattle.syslog_pieces.proofs.TextLemmas.Words.{digit_is, one_digit, two_digits, three_digits, number_back}
 use Rattle.syslog_strict.specs.Beginnings.{Begins, BeginsName, BeginsParams, BeginsSecfrac, BeginsTime, BeginsValue, Follows}
 use Rattle.syslog_strict.specs.Beginnings.{BeginsElement, IsHeader, IsMarkedDigits, IsShort, IsTwoDigits, Only, both, is_more_secfrac}
 use Rattle.syslog_strict.specs.Grammar.{IsFullDate, IsPri, IsSdParam, IsTimeOffset, IsTimestamp}

@@ -12,7 +12,7 @@ use Rattle.std.specs.Str.{bytes_eq, chars, IsUtf8}
 use Rattle.syslog_pieces.specs.Pieces.Class.{Text}
 use Rattle.syslog_pieces.specs.Pieces.View.{shown, text_eq}
 use Rattle.syslog_pieces.proofs.Names.{not-false, not-true, one_answer}
-use Rattle.syslog_pieces.proofs.TextLemmas.Chars.{same_chars}
+use Rattle.syslog_pieces.proofs.TextLemmas.Runs.{same_chars}
 use Rattle.syslog_strict.specs.Conversion.{is_among}
 use Rattle.syslog_strict.specs.Ids.{HasSeen}
 use Rattle.syslog_strict.specs.declared.ids.Ids.{Ids}

@@ -15,8 +15,8 @@ use Rattle.syslog_pieces.specs.Timestamp.Fields.{AreCivil}
 use Rattle.syslog_pieces.specs.Timestamp.Printed.{civil_fields, date_time_text, fraction_text, offset_text, pad3, place_fields, printed_stamp}
 use Rattle.syslog_pieces.specs.declared.timestamp.OffsetTimestamp.{OffsetTimestamp}
 use Rattle.syslog_pieces.specs.declared.timestamp.fields.CivilFields.{CivilFields}
-use Rattle.syslog_pieces.proofs.TimestampLemmas.Range.{civil_fields_exist, in_range-at_offset}
-use Rattle.syslog_pieces.proofs.PieceLemmas.Each.{each_append}
+use Rattle.syslog_pieces.proofs.TimestampLemmas.Civil.{civil_fields_exist, in_range-at_offset}
+use Rattle.syslog_pieces.proofs.PieceLemmas.Class.{each_append}
 use Rattle.syslog_loose.specs.Printed.{timestamp_text}
 use Rattle.syslog_strict.specs.Conversion.{converted_stamp, cut_stamp, has_text, in_utc, is_four_digits, micros}
 use Rattle.syslog_strict.specs.Grammar.{IsSecfrac, IsTimeOffset, IsTimestamp}

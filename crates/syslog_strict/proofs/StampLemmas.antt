@@ -10,13 +10,13 @@ use Rattle.std.specs.Fmt.{decimal, digits}
 use Rattle.syslog_pieces.specs.Front.{clock_text, front_text as printed_front}
 use Rattle.syslog_pieces.specs.Pieces.Class.{Text}
 use Rattle.syslog_pieces.specs.Pri.{priority_text}
-use Rattle.syslog_pieces.proofs.TextLemmas.Decimals.{decimal_ascii}
+use Rattle.syslog_pieces.proofs.TextLemmas.Words.{decimal_ascii}
 use Rattle.syslog_strict.specs.Pushing.{front_text}
 use Rattle.std.specs.Str.{chars, IsAscii, IsUtf8}
 use Rattle.syslog_loose.specs.Printed.{timestamp_text}
 use Rattle.syslog_pieces.specs.Timestamp.Printed.{printed_stamp}
-use Rattle.syslog_pieces.proofs.TimestampLemmas.Characters.{each_ascii}
-use Rattle.syslog_pieces.proofs.TimestampLemmas.Printing.{printed_stamp-characters}
+use Rattle.syslog_pieces.proofs.TimestampLemmas.Digits.{each_ascii}
+use Rattle.syslog_pieces.proofs.TimestampLemmas.Rfc3339.{printed_stamp-characters}
 use Rattle.jiff_core.specs.Calendar.{days_from_civil}
 use Rattle.syslog_pieces.specs.Timestamp.{clock_value, stamp_seen}
 use Rattle.syslog_pieces.specs.declared.timestamp.OffsetTimestamp.{OffsetTimestamp}

@@ -14,10 +14,9 @@ use Rattle.syslog_pieces.specs.Bodies.Scan.{SplitsRun}
 use Rattle.syslog_pieces.specs.Pieces.Class.{Text, Each, Front, exactly, join}
 use Rattle.syslog_pieces.specs.Pieces.View.{Skips, shown}
 use Rattle.syslog_pieces.specs.Text.CharClass.{is_inert_char}
-use Rattle.syslog_pieces.proofs.PieceLemmas.Each.{all_append}
+use Rattle.syslog_pieces.proofs.PieceLemmas.Class.{all_append}
 use Rattle.syslog_pieces.specs.Text.{number}
-use Rattle.syslog_pieces.proofs.TextLemmas.Decimals.{one_digit}
-use Rattle.syslog_pieces.proofs.TextLemmas.Words.{own}
+use Rattle.syslog_pieces.proofs.TextLemmas.Words.{one_digit, own}
 use Rattle.syslog_strict.specs.Beginnings.{Begins, BeginsElement, BeginsName, BeginsParams, BeginsValue, IsBody, IsHeader, IsMarkedDigits, IsShort, IsTwoDigits}
 use Rattle.syslog_strict.specs.Grammar.{IsFullDate, IsParamValue, IsPartialTime, IsPri}
 use Rattle.syslog_strict.specs.Grammar.{IsSdName, IsSdParam, IsSecfrac, IsStructuredData, IsSyslogMsg, IsTimeOffset}

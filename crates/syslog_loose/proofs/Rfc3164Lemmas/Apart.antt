@@ -6,9 +6,9 @@ use Rattle.syslog_loose.proofs.Names.{rfc3164_stamp, ShowsMonthDate, month_date,
 use Rattle.syslog_loose.proofs.Names.{MonthDate, run_same, rest_same, front_same, optional_det, division_front, Begins}
 use Rattle.syslog_loose.proofs.Names.{begins_apart, begins_more, begins_with, priority_det, month_date_begins}
 use Rattle.syslog_loose.proofs.Names.{rfc3164_row, rfc5424_row, IsNot5424, row_pieces}
-use Rattle.syslog_pieces.proofs.PieceLemmas.Kinds.{each_begins}
+use Rattle.syslog_pieces.proofs.PieceLemmas.Lists.{each_begins}
 use Rattle.syslog_pieces.proofs.TimestampLemmas.MonthDate.{IsBlank, blanks_begin, blank_low}
-use Rattle.syslog_pieces.proofs.TimestampLemmas.Texts.{stamp_text-year}
+use Rattle.syslog_pieces.proofs.TimestampLemmas.Rfc3339.{stamp_text-year}
 use Rattle.syslog_loose.proofs.Rfc3164Lemmas.Shown.{shown_parts}
 
 -- ---- what a text begins with

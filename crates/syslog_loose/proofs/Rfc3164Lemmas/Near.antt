@@ -14,13 +14,13 @@ use Rattle.syslog_loose.proofs.Names.{AreNamesButExceptions, HasExceptionsAlone,
 use Rattle.syslog_loose.proofs.Names.{tag_text, Names3164, Resolves, names, rfc3164_row, IsRead3164, stamped_row}
 use Rattle.syslog_loose.proofs.Names.{fields_row, NamesProgram, fields_before, form_row, IsForm, each_behind, each_both}
 use Rattle.syslog_loose.proofs.Names.{each_left, each_front, each_right, begins, row_pieces}
-use Rattle.syslog_pieces.proofs.StructuredDataLemmas.ReadBack.{element_canonical}
+use Rattle.syslog_pieces.proofs.StructuredDataLemmas.Elements.{element_canonical}
 use Rattle.syslog_loose.specs.Exceptions.{IsOfMonthDate}
 use Rattle.syslog_loose.proofs.Rfc3164Lemmas.{of_names}
 use Rattle.syslog_loose.proofs.Rfc3164Lemmas.Shown.{shows}
 use Rattle.syslog_loose.proofs.TagFormLemmas.{one_form}
 use Rattle.syslog_loose.proofs.TrimLemmas.{drop_ends, last_ends}
-use Rattle.syslog_pieces.proofs.TextLemmas.Verbatim as verbatim
+use Rattle.syslog_pieces.proofs.TextLemmas.Runs as verbatim
 
 -- ---- elements
 

@@ -7,10 +7,10 @@ use Rattle.syslog_loose.proofs.Names.{PID, Name, DashRule, all_left, all_right, 
 use Rattle.syslog_loose.proofs.Names.{host_quotes, part_joined, MessageValue, Names3164, names, Resolves, rfc3164_row}
 use Rattle.syslog_loose.proofs.Names.{IsRead3164, Quotes3164, form_row, IsForm}
 use Rattle.syslog_pieces.specs.Pieces.Parts.{IsInPieces}
-use Rattle.syslog_pieces.proofs.PieceLemmas.Each.{all_append}
-use Rattle.syslog_pieces.proofs.PieceLemmas.Parts.{texted_quotes, tag_word_quotes, optional_quotes, optional_texts}
-use Rattle.syslog_pieces.proofs.PieceLemmas.Parts.{spaced_quotes, part_left, part_right}
-use Rattle.syslog_pieces.proofs.StructuredDataLemmas.ElementParts.{optional_rfc3164_list_quotes}
+use Rattle.syslog_pieces.proofs.PieceLemmas.Class.{all_append}
+use Rattle.syslog_pieces.proofs.PieceLemmas.Lists.{texted_quotes, tag_word_quotes, optional_quotes, optional_texts}
+use Rattle.syslog_pieces.proofs.PieceLemmas.Lists.{spaced_quotes, part_left, part_right}
+use Rattle.syslog_pieces.proofs.StructuredDataLemmas.Units.{optional_rfc3164_list_quotes}
 use Rattle.syslog_loose.proofs.Rfc3164Lemmas.{of_names}
 
 -- ---- parts of texts in pieces

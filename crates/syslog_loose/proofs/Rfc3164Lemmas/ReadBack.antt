@@ -18,8 +18,8 @@ use Rattle.syslog_loose.proofs.Names.{AreCanonicalNames, IsCanonical3164, IsCano
 use Rattle.syslog_loose.proofs.Names.{timestamp_text, priority_of, printed_3164, names, Resolves, rfc3164_row}
 use Rattle.syslog_loose.proofs.Names.{IsRead3164, body_row, IsForm, Protocol, RFC3164, each_map, each_left, each_right}
 use Rattle.syslog_loose.proofs.Names.{each_append}
-use Rattle.syslog_pieces.proofs.ProcIdLemmas.ReadBack.{signed_writes}
-use Rattle.syslog_pieces.proofs.StructuredDataLemmas.ReadBack.{element_back}
+use Rattle.syslog_pieces.proofs.ProcIdLemmas.{signed_writes}
+use Rattle.syslog_pieces.proofs.StructuredDataLemmas.Elements.{element_back}
 use Rattle.syslog_loose.proofs.PriorityLemmas.{priority_low, priority_front}
 use Rattle.syslog_loose.proofs.Rfc3164Lemmas.Rows.{from_blanks, to_stamp, to_colon, from_stamp}
 use Rattle.syslog_loose.proofs.Rfc3164Lemmas.Unique.{told}

@@ -7,7 +7,7 @@ use Rattle.syslog_loose.proofs.Names.{month_date, MonthDate, priority_det, incom
 use Rattle.syslog_pieces.specs.Timestamp.MonthDate.{month_names, short_number, clock_row, yearless_row, yearless_of}
 use Rattle.std.proofs.lemmas.Option.{slice_get_within}
 use Rattle.std.specs.Char.{to_ascii_lowercase}
-use Rattle.syslog_pieces.proofs.PieceLemmas.Kinds.{first_kind}
+use Rattle.syslog_pieces.proofs.PieceLemmas.Lists.{first_kind}
 use Rattle.syslog_pieces.proofs.TimestampLemmas.MonthDate.{month_date_det, dated_date}
 use Rattle.syslog_pieces.specs.Bodies.MonthReading.{BeginsWithDate, showing_row}
 

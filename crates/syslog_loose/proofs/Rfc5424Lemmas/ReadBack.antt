@@ -20,13 +20,12 @@ use Rattle.std.proofs.Common.{ap₂}
 use Rattle.syslog_pieces.specs.Pieces.Format.{IsSound, RowReadsBack}
 use Rattle.syslog_pieces.specs.Pri.{composed}
 use Rattle.syslog_pieces.specs.Text.Canonical.{IsVisible, IsCanonicalHost}
-use Rattle.syslog_pieces.proofs.TextLemmas.ReadBack.{word_back, word_canonical, host_canonical, NoColonNext}
-use Rattle.syslog_pieces.proofs.TextLemmas.ReadBack.{blanks_next}
+use Rattle.syslog_pieces.proofs.TextLemmas.Words.{word_back, word_canonical, host_canonical, NoColonNext, blanks_next}
 use Rattle.syslog_pieces.specs.StructuredData.{forgiving, item}
-use Rattle.syslog_pieces.proofs.PieceLemmas.Formats.{AllSound, row_back}
-use Rattle.syslog_pieces.proofs.ProcIdLemmas.ReadBack.{process_back, process_canonical, process_bounded}
-use Rattle.syslog_pieces.proofs.StructuredDataLemmas.ReadBack.{forgiving_back, forgiving_canonical, no_item_nil}
-use Rattle.syslog_pieces.proofs.StructuredDataLemmas.ReadBack.{no_item_before}
+use Rattle.syslog_pieces.proofs.PieceLemmas.Lists.{AllSound, row_back}
+use Rattle.syslog_pieces.proofs.ProcIdLemmas.{process_back, process_canonical, process_bounded}
+use Rattle.syslog_pieces.proofs.StructuredDataLemmas.Elements.{forgiving_back, forgiving_canonical, no_item_nil}
+use Rattle.syslog_pieces.proofs.StructuredDataLemmas.Elements.{no_item_before}
 use Rattle.syslog_loose.specs.Canonical.{IsCanonical5424}
 use Rattle.syslog_loose.specs.Printed.{printed_5424}
 use Rattle.syslog_loose.specs.declared.message.Protocol.TheVariants.{RFC5424}

@@ -7,17 +7,17 @@ use Rattle.syslog_loose.proofs.Names.{Each, Ends, run, some_run, exactly, texted
 use Rattle.syslog_loose.proofs.Names.{BeginsNoList, is_blank, DashRule, BeforeBlank, BeforeAnything, front_longer}
 use Rattle.syslog_loose.proofs.Names.{decide, start_row, start, opening_row, is_id_char, is_name_char, begins}
 use Rattle.syslog_loose.proofs.Names.{opening_det, no_full_start, no_full_opening}
-use Rattle.syslog_pieces.proofs.PieceLemmas.Class.{row_nil, row_none_here, row_none_later, texted_front}
+use Rattle.syslog_pieces.proofs.PieceLemmas.Class.{row_nil, row_none_here, row_none_later, texted_front, Meets}
+use Rattle.syslog_pieces.proofs.PieceLemmas.Class.{meets_here, meets_none}
 use Rattle.std.proofs.lemmas.Bool.Decides.{not_from_Decides}
 use Rattle.syslog_pieces.specs.Bodies.Closing.{opening, quoted_row, quoted, closing}
 use Rattle.syslog_pieces.proofs.PieceLemmas.Lists.{no_more, no_more_behind}
 use Rattle.syslog_pieces.proofs.StructuredDataLemmas.Closing.{start_det, no_closing, closing_goes, quoted_goes}
 use Rattle.syslog_pieces.proofs.StructuredDataLemmas.Closing.{no_opening, no_quoted_short, passes_here, value_ends}
 use Rattle.syslog_pieces.proofs.StructuredDataLemmas.Closing.{value_breaks, value_goes}
-use Rattle.syslog_pieces.proofs.StructuredDataLemmas.Rfc3164List.{full_goes}
+use Rattle.syslog_pieces.proofs.StructuredDataLemmas.Walk.{full_goes}
 use Rattle.std.specs.Bool.{Decides}
 use Rattle.syslog_pieces.specs.StructuredData.Escapes.{pair, single}
-use Rattle.syslog_pieces.proofs.PieceLemmas.Meets.{Meets, meets_here, meets_none}
 use Rattle.syslog_pieces.proofs.StructuredDataLemmas.Elements.{value_here, unit_goes}
 use Rattle.syslog_pieces.specs.StructuredData.{param}
 

@@ -13,7 +13,7 @@ use Rattle.syslog_loose.proofs.Names.{heads, row_head, front_same, row_det, divi
 use Rattle.syslog_loose.proofs.Names.{no_spaced_space, Begins, begins_apart, begins_more, begins_with}
 use Rattle.syslog_loose.proofs.Names.{priority_composed, IsLow, rfc3164_stamp_det, stamped_date_begins}
 use Rattle.syslog_loose.proofs.Names.{stamp_text-canonical, printed_stamp-visible, printed_stamp-begins}
-use Rattle.syslog_pieces.proofs.TimestampLemmas.Piece.{stamp_each, space_ends}
+use Rattle.syslog_pieces.proofs.TimestampLemmas.Rfc3339.{stamp_each, space_ends}
 use Rattle.syslog_loose.specs.Printed.{printed_3164}
 use Rattle.syslog_loose.proofs.PriorityLemmas.{priority_small}
 use Rattle.syslog_loose.proofs.Rfc3164Lemmas.Apart.{IsDigit, digit_range}

@@ -7,7 +7,7 @@ use Rattle.syslog_loose.proofs.Names.{IsCanonicalStamp, Dating, DashRule, Offset
 use Rattle.syslog_loose.proofs.Names.{present_front, MessageValue, Names3164, Resolves, rfc3164_row, IsRead3164}
 use Rattle.syslog_loose.proofs.Names.{body_row, Costs, names_weight, Weighs, priority, month, month_date, row_head}
 use Rattle.syslog_loose.proofs.Names.{division_front, spaced_parts, stamp_text-canonical}
-use Rattle.syslog_pieces.proofs.TimestampLemmas.Months.{month_begins}
+use Rattle.syslog_pieces.proofs.TimestampLemmas.MonthDate.{month_begins}
 use Rattle.syslog_loose.proofs.Rfc3164Lemmas.Rows.{from_blanks, from_colon, from_tag_end, from_tag, from_stamp}
 use Rattle.syslog_loose.proofs.Rfc3164Lemmas.Rows.{from_priority_end}
 use Rattle.syslog_loose.proofs.SettlingLemmas.Weights.{free, at_most, field_length, fields_light, message_short}

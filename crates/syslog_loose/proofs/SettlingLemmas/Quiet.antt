@@ -8,7 +8,7 @@ use Rattle.syslog_loose.proofs.Names.{ShowsMonthDate, month_date, run_same, rest
 use Rattle.syslog_loose.proofs.Names.{optional_some, Begins, begins_apart, begins_with, priority_det, number_back}
 use Rattle.syslog_loose.proofs.Names.{IsLow, month_date_begins, IsLetter, printed_stamp-visible, IsBounded}
 use Rattle.syslog_loose.proofs.Names.{IsBoundedProtocol, ReadsProtocol, Protocol, Either, RFC5424}
-use Rattle.syslog_pieces.proofs.TextLemmas.ReadBack.{digits_visible}
+use Rattle.syslog_pieces.proofs.TextLemmas.Words.{digits_visible}
 use Rattle.syslog_loose.specs.Printed.{printed_3164, printed_5424}
 use Rattle.syslog_loose.specs.declared.variant.Variant.TheVariants.{RFC3164}
 use Rattle.syslog_loose.proofs.PriorityLemmas.{priority_front, priority_low, priority_trimmed}

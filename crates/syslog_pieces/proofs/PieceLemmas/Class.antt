@@ -1,9 +1,14 @@
--- One text has one front of each class, and so one division into a row.
+-- One text has one front of each class, and so one division into a row; and rows, piece by piece.
 use Rattle.std.proofs.Common.{◌≡◌, ℕ, Bool, List, [], ◌∷◌, ◌++◌, Some, None, refl, sym, ap, subst, ◌∙◌, append_assoc}
-use Rattle.std.proofs.lemmas.List.{append_cancel_left, append-nil}
+use Rattle.std.proofs.Common.{true, ◌&&◌, false, Option, MatchOption, ◌⊎◌, inl, inr, ◌≤◌, length, arith}
+use Rattle.std.proofs.lemmas.List.{append_cancel_left, append-nil, length-append}
+use Rattle.std.proofs.lemmas.Bool.{and_from, and_parts}
+use Rattle.std.specs.List.{AllByRecursion}
+use Rattle.std.specs.Prelude.{◌↔◌, IsTrue}
 use Rattle.syslog_pieces.specs.Pieces.Class.{Text, Class, Front, NoFront, IsDeterministic, join, Values, Divides, Row}
 use Rattle.syslog_pieces.specs.Pieces.Class.{Division, NoDivision, Each, Ends, run, some_run, exactly, rest, optional}
 use Rattle.syslog_pieces.specs.Pieces.Class.{after, mapped, texted, spaced}
+use Rattle.syslog_pieces.specs.Pieces.Lists.{IsList, IsMore, list_before}
 
 -- ---- texts
 
@@ -287,3 +292,290 @@ no_spaced_piece C {c} {q = q} g n p r v e (t, f, h) =
     let same : c ∷ q ≡ c ∷ (t ++ r) =
     sym (ap (λ (x : Text). x ++ q) g.is) ∙ sym g.whole ∙ e ∙ ap (λ (x : Text). x ++ r) f in
     n t r v (cc) h
+
+-- ---- what holds of each character of a text
+pub each_map : (f g : ℕ → Bool) → ((c : ℕ) → f c ≡ true → g c ≡ true) → (t : Text) → Each f t → Each g t
+each_map f g k [] h = tt
+each_map f g k (c ∷ t) h = (k c h.0, each_map f g k t h.1)
+
+pub each_append : (f : ℕ → Bool) (p q : Text) → Each f p → Each f q → Each f (p ++ q)
+each_append f [] q h k = k
+each_append f (c ∷ p) q h k = (h.0, each_append f p q h.1 k)
+
+pub each_front : (f : ℕ → Bool) (p q : Text) → Each f (p ++ q) → Each f p
+each_front f [] q h = tt
+each_front f (c ∷ p) q h = (h.0, each_front f p q h.1)
+
+pub each_behind : (f : ℕ → Bool) (p q : Text) → Each f (p ++ q) → Each f q
+each_behind f [] q h = h
+each_behind f (c ∷ p) q h = each_behind f p q h.1
+
+pub each_both : (f g : ℕ → Bool) (t : Text) → Each f t → Each g t → Each (λ c. f c && g c) t
+each_both f g [] h k = tt
+each_both f g (c ∷ t) h k = (and_from (f c) (g c) h.0 k.0, each_both f g t h.1 k.1)
+
+pub each_left : (f g : ℕ → Bool) (t : Text) → Each (λ c. f c && g c) t → Each f t
+each_left f g = each_map (λ c. f c && g c) f (λ c h. (and_parts (f c) (g c) h).0)
+
+pub each_right : (f g : ℕ → Bool) (t : Text) → Each (λ c. f c && g c) t → Each g t
+each_right f g = each_map (λ c. f c && g c) g (λ c h. (and_parts (f c) (g c) h).1)
+
+-- ---- elements of a list
+pub all_map : {A : Type 0} {P Q : A → Type 0} → ((t : A) → P t → Q t) → (ts : List A) → AllByRecursion P ts
+    → AllByRecursion Q ts
+all_map f [] h = tt
+all_map f (t ∷ ts) h = (f t h.0, all_map f ts h.1)
+
+pub all_append : {A : Type 0} (P : A → Type 0) (ts us : List A) → AllByRecursion P ts → AllByRecursion P us
+    → AllByRecursion P (ts ++ us)
+all_append P [] us h k = k
+all_append P (t ∷ ts) us h k = (h.0, all_append P ts us h.1 k)
+
+pub all_left : {A : Type 0} (P : A → Type 0) (ts us : List A) → AllByRecursion P (ts ++ us) → AllByRecursion P ts
+all_left P [] us h = tt
+all_left P (t ∷ ts) us h = (h.0, all_left P ts us h.1)
+
+pub all_right : {A : Type 0} (P : A → Type 0) (ts us : List A) → AllByRecursion P (ts ++ us) → AllByRecursion P us
+all_right P [] us h = h
+all_right P (t ∷ ts) us h = all_right P ts us h.1
+
+-- ---- several tests in turn
+pub no_truth : IsTrue false → ⊥
+no_truth h = let e : false ≡ true = h in cc
+
+-- a test that fails
+pub false_is : {P : Type 0} → (P → ⊥) → IsTrue false ↔ P
+false_is n = ((λ h. absurd (no_truth h)), (λ p. absurd (n p)))
+
+-- the last test, where those before it have passed
+pub last_is : {P Q : Type 0} (b : Bool) → P → IsTrue b ↔ Q → IsTrue b ↔ (P × Q)
+last_is b p e = ((λ h. (p, e.0 h)), (λ h. e.1 h.1))
+
+-- ---- one class at one text has the same fronts as another class further on
+
+-- the fronts of C at t end where those of D at u end
+pub record Meets (C : Class) (t : Text) (D : Class) (u : Text) : Type 0 where
+  pub forth : (q : Text) (v : D.Value) → Front D u q v → (w : C.Value) × Front C t q w
+  pub back : (q : Text) (w : C.Value) → Front C t q w → (v : D.Value) × Front D u q v
+
+pub meets_here : (C : Class) (t : Text) → Meets C t C t
+meets_here C t = record { forth = λ q v f. (v, f); back = λ q v f. (v, f) }
+
+pub meets_on : {C D E : Class} {t u s : Text} → Meets C t D u → Meets D u E s → Meets C t E s
+meets_on m n = record {
+  forth = λ q v f. (let g = n.forth q v f in m.forth q g.0 g.1);
+  back = λ q w f. (let g = m.back q w f in n.back q g.0 g.1);
+}
+
+pub meets_none : (C : Class) (t : Text) (D : Class) (u : Text) → Meets C t D u → NoFront D u → NoFront C t
+meets_none C t D u m n p q v e h = let g = m.back q v (record { piece = p; whole = e; is = h }) in no_front_no D n g.1
+
+pub meets_none_on : (C : Class) (t : Text) (D : Class) (u : Text) → Meets C t D u → NoFront C t → NoFront D u
+meets_none_on C t D u m n p q v e h =
+    let g = m.forth q v (record { piece = p; whole = e; is = h }) in no_front_no C n g.1
+
+pub mapped_meets : (C : Class) (B : Type 0) (f : C.Value → B) (t : Text) → Meets (mapped C B f) t C t
+mapped_meets C B f t = record {
+  forth = λ q v g. (f v, mapped_front C B f g);
+  back = λ q w g. (g.is.0, record { piece = g.piece; whole = g.whole; is = g.is.1 });
+}
+
+-- after the first piece of a row
+pub row_goes : (C : Class) (Cs : List Class) → IsDeterministic C → {t u : Text} {v : C.Value} → Front C t u v
+    → Meets (Row (C ∷ Cs)) t (Row Cs) u
+row_goes C Cs d {v = v} f = record {
+  forth = λ q vs g. ((v, vs), row_cons C Cs f g);
+  back = λ q vs g. (let r = row_head C Cs g in let s = front_same C d r.1 f in
+      (vs.1, subst (λ (x : Text). Front (Row Cs) x q vs.1) s.0 r.2));
+}
+
+-- another first piece of a row
+pub row_first : (C D : Class) (Cs : List Class) {t u : Text} → Meets C t D u → Meets (Row (C ∷ Cs)) t (Row (D ∷ Cs)) u
+row_first C D Cs m = record {
+  forth = λ q vs g. (let r = row_head D Cs g in let s = m.forth r.0 vs.0 r.1 in ((s.0, vs.1), row_cons C Cs s.1 r.2));
+  back = λ q vs g. (let r = row_head C Cs g in let s = m.back r.0 vs.0 r.1 in ((s.0, vs.1), row_cons D Cs s.1 r.2));
+}
+
+-- after the first pieces of a row
+pub rows_go : (As Bs : List Class) → AllDeterministic As → (t u : Text) (vs : Values As) → Front (Row As) t u vs
+    → Meets (Row (As ++ Bs)) t (Row Bs) u
+rows_go [] Bs d t u vs f = subst (λ (x : Text). Meets (Row Bs) t (Row Bs) x) (nil_front f) (meets_here (Row Bs) t)
+rows_go (C ∷ As) Bs d t u vs f =
+    let r = row_head C As f in
+    meets_on (row_goes C (As ++ Bs) d.0 r.1) (rows_go As Bs d.1 r.0 u vs.1 r.2)
+
+-- ---- a result with another meaning
+pub match_map : {X : Type 0} (r : Option X) {N M : Type 0} {S T : X → Type 0} → (N → M) → ((x : X) → S x → T x)
+    → MatchOption r N S → MatchOption r M T
+match_map None f g h = f h
+match_map (Some x) f g h = g x h
+
+-- ---- all pieces of a row, each with what follows it
+
+-- the pieces of a row, each with what follows it
+abbrev pub Pieces : (Cs : List Class) → Text → Text → Values Cs → Type 0
+Pieces [] t q vs = t ≡ q
+Pieces (C ∷ Cs) t q vs = (u : Text) × Front C t u vs.0 × Pieces Cs u q vs.1
+
+pub row_pieces : (Cs : List Class) → {t q : Text} {vs : Values Cs} → Front (Row Cs) t q vs → Pieces Cs t q vs
+row_pieces [] f = nil_front f
+row_pieces (C ∷ Cs) f = let r = row_head C Cs f in (r.0, r.1, row_pieces Cs r.2)
+
+pub row_of : (Cs : List Class) → {t q : Text} {vs : Values Cs} → Pieces Cs t q vs → Front (Row Cs) t q vs
+row_of [] {t = t} e = subst (λ (x : Text). Front (Row []) t x tt) e (row_nil t)
+row_of (C ∷ Cs) (u, f, p) = row_cons C Cs f (row_of Cs p)
+
+-- a piece, and then those after it
+infixr 20 ◌then◌
+abbrev pub ◌then◌ : {C : Class} {t u : Text} {v : C.Value} {P : Text → Type 0} → Front C t u v → P u
+    → (q : Text) × Front C t q v × P q
+◌then◌ {u = u} f p = (u, f, p)
+
+-- ---- the first that is not there
+
+abbrev pub Fails : List Class → Text → Type 0
+Fails [] t = ⊥
+Fails (C ∷ Cs) t = NoFront C t ⊎ ((u : Text) × (v : C.Value) × Front C t u v × Fails Cs u)
+
+pub no_row : (Cs : List Class) → AllDeterministic Cs → {t : Text} → Fails Cs t → NoFront (Row Cs) t
+no_row [] d h = absurd h
+no_row (C ∷ Cs) d (inl n) = row_none_here C Cs n
+no_row (C ∷ Cs) d (inr (u, v, f, h)) = row_none_later C Cs d.0 f (no_row Cs d.1 h)
+
+-- a piece, after which one is missing
+infixr 20 ◌past◌
+abbrev pub ◌past◌ : {C : Class} {t u : Text} {v : C.Value} {P : Text → Type 0} → Front C t u v → P u
+    → NoFront C t ⊎ ((q : Text) × (w : C.Value) × Front C t q w × P q)
+◌past◌ {u = u} {v = v} f p = inr (u, v, f, p)
+
+-- ---- a front at a known place
+
+-- a text that is a piece and what follows it
+pub piece_front : (C : Class) (p q : Text) (v : C.Value) → C.Is p q v → Front C (p ++ q) q v
+piece_front C p q v h = record { piece = p; whole = refl; is = h }
+
+-- after a known front of the first class, the row goes on with its other classes
+pub step : (C : Class) (Cs : List Class) → IsDeterministic C → {t q r : Text} {v : C.Value} {vs : Values (C ∷ Cs)}
+    → Front C t q v → Front (Row (C ∷ Cs)) t r vs → Front (Row Cs) q r vs.1
+step C Cs d {r = r} {vs = vs} g f =
+    let h = row_head C Cs f in
+    let e = (front_same C d h.1 g).0 in subst (λ (x : Text). Front (Row Cs) x r vs.1) e h.2
+
+-- and the first meaning is that of the known front
+pub step_value : (C : Class) (Cs : List Class) → IsDeterministic C → {t q r : Text} {v : C.Value} {vs : Values (C ∷ Cs)}
+    → Front C t q v → Front (Row (C ∷ Cs)) t r vs → vs.0 ≡ v
+step_value C Cs d g f = let h = row_head C Cs f in (front_same C d h.1 g).1
+
+-- after several known fronts, the row goes on with its other classes
+pub rows_step : (As Bs : List Class) → AllDeterministic As → {t q r : Text} {us : Values As} {vs : Values (As ++ Bs)}
+    → Front (Row As) t q us → Front (Row (As ++ Bs)) t r vs
+    → (firsts As Bs vs ≡ us) × Front (Row Bs) q r (lasts As Bs vs)
+rows_step As Bs d {r = r} {vs = vs} g f =
+    let (u, a, b) = rows_split As Bs f in
+    let (e, same) = front_same (Row As) (row_det As d) a g in
+    (same, subst (λ (x : Text). Front (Row Bs) x r (lasts As Bs vs)) e b)
+
+-- what follows a front is no longer than the text
+pub front_longer : (C : Class) {t q : Text} {v : C.Value} → Front C t q v → length q ≤ length t
+front_longer C {q = q} f = omega (arith, ap length f.whole, length-append f.piece q)
+
+-- where the optional piece is absent, the text stays, and no front of it is of the class
+pub absent_stays : (C : Class) {t q : Text} → Front (optional C) t q None → t ≡ q
+absent_stays C {q = q} f = f.whole ∙ ap (λ (x : Text). x ++ q) f.is.0
+
+pub absent_none : (C : Class) {t q : Text} → Front (optional C) t q None → NoFront C t
+absent_none C f = subst (λ (x : Text). NoFront C x) (sym (absent_stays C f)) f.is.1
+
+pub present_front : (C : Class) {t q : Text} {v : C.Value} → Front (optional C) t q (Some v) → Front C t q v
+present_front C f = record { piece = f.piece; whole = f.whole; is = f.is }
+
+-- ---- pieces that are of their class whatever follows them, and pieces that are where the same character follows
+
+-- whatever follows
+abbrev pub IsAlone : Class → Type 0
+IsAlone C = (p q r : Text) (v : C.Value) → C.Is p q v → C.Is p r v
+
+-- whatever follows a character that follows
+abbrev pub IsSteady : Class → Type 0
+IsSteady C = (p : Text) (c : ℕ) (q r : Text) (v : C.Value) → C.Is p (c ∷ q) v → C.Is p (c ∷ r) v
+
+pub alone_steady : (C : Class) → IsAlone C → IsSteady C
+alone_steady C h p c q r v = h p (c ∷ q) (c ∷ r) v
+
+pub exactly_alone : (t : Text) → IsAlone (exactly t)
+exactly_alone t p q r v h = h
+
+pub run_steady : (test : ℕ → Bool) → IsSteady (run test)
+run_steady test p c q r v h = h
+
+pub some_run_steady : (test : ℕ → Bool) → IsSteady (some_run test)
+some_run_steady test p c q r v h = h
+
+pub texted_steady : (C : Class) → IsSteady C → IsSteady (texted C)
+texted_steady C s p c q r t (v, h, e) = (v, s p c q r v h, e)
+
+pub mapped_alone : (C : Class) (B : Type 0) (f : C.Value → B) → IsAlone C → IsAlone (mapped C B f)
+mapped_alone C B f s p q r b (v, h, e) = (v, s p q r v h, e)
+
+-- ---- a row whose last piece is not empty, and of its class whatever follows
+abbrev pub AllSteady : List Class → Type 0
+AllSteady [] = Unit {0}
+AllSteady (C ∷ Cs) = IsSteady C × AllSteady Cs
+
+-- no piece is empty
+abbrev pub IsFilled : Class → Type 0
+IsFilled C = (p q : Text) (v : C.Value) → C.Is p q v → (d : ℕ) × (t : Text) × (p ≡ d ∷ t)
+
+module _ (L : Class) (alone : IsAlone L) (filled : IsFilled L) where
+  -- such a row begins with a character, and is a row whatever follows it
+  row_begins : (Cs : List Class) (ps : List Text) (q : Text) (vs : Values (Cs ++ (L ∷ [])))
+      → Divides (Cs ++ (L ∷ [])) ps q vs → (d : ℕ) × (t : Text) × (join ps ≡ d ∷ t)
+  row_begins [] [] q vs h = absurd h
+  row_begins [] (p ∷ ps) q vs h =
+      let (d, t, e) = filled p (join ps ++ q) vs.0 h.0 in (d, t ++ join ps, ap (λ (x : Text). x ++ join ps) e)
+  row_begins (C ∷ Cs) [] q vs h = absurd h
+  row_begins (C ∷ Cs) ([] ∷ ps) q vs h = row_begins Cs ps q vs.1 h.1
+  row_begins (C ∷ Cs) ((d ∷ p) ∷ ps) q vs h = (d, p ++ join ps, λ i. d ∷ (p ++ join ps))
+
+  divides_alone : (Cs : List Class) → AllSteady Cs → (ps : List Text) (q r : Text) (vs : Values (Cs ++ (L ∷ [])))
+      → Divides (Cs ++ (L ∷ [])) ps q vs → Divides (Cs ++ (L ∷ [])) ps r vs
+  divides_alone [] s [] q r vs h = h
+  divides_alone [] s (p ∷ []) q r vs h = (alone p q r vs.0 h.0, tt)
+  divides_alone [] s (p ∷ p' ∷ ps) q r vs h = absurd h.1
+  divides_alone (C ∷ Cs) s [] q r vs h = h
+  divides_alone (C ∷ Cs) s (p ∷ ps) q r vs h =
+      let (d, t, e) = row_begins Cs ps q vs.1 h.1 in
+      let more : C.Is p (d ∷ (t ++ q)) vs.0 = subst (λ (x : Text). C.Is p (x ++ q) vs.0) e h.0 in (
+        subst (λ (x : Text). C.Is p (x ++ r) vs.0) (sym e) (s.0 p d (t ++ q) (t ++ r) vs.0 more),
+        divides_alone Cs s.1 ps q r vs.1 h.1,
+      )
+
+  pub closed_alone : (Cs : List Class) → AllSteady Cs → IsAlone (Row (Cs ++ (L ∷ [])))
+  closed_alone Cs s p q r vs (ps, e, h) = (ps, e, divides_alone Cs s ps q r vs h)
+
+  pub closed_filled : (Cs : List Class) → IsFilled (Row (Cs ++ (L ∷ [])))
+  closed_filled Cs p q vs (ps, e, h) = let (d, t, f) = row_begins Cs ps q vs h in (d, t, e ∙ f)
+
+-- a row that one character closes
+pub row_alone : (c : ℕ) (Cs : List Class) → AllSteady Cs → IsAlone (Row (Cs ++ (exactly (c ∷ []) ∷ [])))
+row_alone c = closed_alone (exactly (c ∷ [])) (exactly_alone (c ∷ [])) (λ p q v h. (c, [], h))
+
+-- ---- lists
+more_alone : (C : Class) (separator : ℕ) → IsAlone C → (p q r : Text) (vs : List C.Value) → IsMore C separator p q vs
+    → IsMore C separator p r vs
+more_alone C separator s p q r [] h = h
+more_alone C separator s p q r (v ∷ vs) (a, b, e, h, more) =
+    (a, b, e, s a (b ++ q) (b ++ r) v h, more_alone C separator s b q r vs more)
+
+list_alone : (C : Class) (separator : ℕ) → IsAlone C → (p q r : Text) (vs : List C.Value) → IsList C separator p q vs
+    → IsList C separator p r vs
+list_alone C separator s p q r [] h = h
+list_alone C separator s p q r (v ∷ vs) (a, b, e, h, more) =
+    (a, b, e, s a (b ++ q) (b ++ r) v h, more_alone C separator s b q r vs more)
+
+pub closed_steady : (c d : ℕ) (q r : Text) → ((t : Text) × (d ∷ q ≡ c ∷ t)) → (t : Text) × (d ∷ r ≡ c ∷ t)
+closed_steady c d q r (t, e) = (r, ap (λ (x : ℕ). x ∷ r) (heads d c q t e))
+
+pub list_before_steady : (C : Class) (separator close : ℕ) → IsAlone C → IsSteady (list_before C separator close)
+list_before_steady C separator close s p c q r vs (h, z) =
+    (list_alone C separator s p (c ∷ q) (c ∷ r) vs h, closed_steady close c q r z)

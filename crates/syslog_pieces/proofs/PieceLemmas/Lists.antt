@@ -1,12 +1,66 @@
--- Lists of pieces of one class.
-use Rattle.std.proofs.Common.{◌≡◌, ◌≢◌, ℕ, zero, suc, ◌<◌, ◌≤◌, List, [], ◌∷◌, ◌++◌, length, arith, refl, sym, ap}
-use Rattle.std.proofs.Common.{subst, ◌∙◌, append_assoc, append-nil}
-use Rattle.syslog_pieces.specs.Pieces.Class.{Text, Class, Front, NoFront, IsDeterministic, Row, exactly}
+-- Classes of two kinds, lists of pieces, the texts that a meaning holds, and rows of formats.
+use Rattle.std.proofs.Common.{◌≡◌, inl, inr, ℕ, ◌<◌, Bool, true, [], ◌∷◌, ◌++◌, length, sym, subst, arith, ◌≢◌, zero}
+use Rattle.std.proofs.Common.{suc, ◌≤◌, List, refl, ap, ◌∙◌, append_assoc, append-nil, Option, Some, None}
+use Rattle.std.specs.List.{AllByRecursion}
+use Rattle.syslog_pieces.specs.Pieces.Class.{Text, Front, NoFront, IsDeterministic, Each, either, Class, Row, exactly}
+use Rattle.syslog_pieces.specs.Pieces.Class.{Values, join, Divides, rest, optional, spaced, texted}
 use Rattle.syslog_pieces.specs.Pieces.Lists.{IsMany, many, HasRead, IsList, IsMore, list_before, more_before}
-use Rattle.syslog_pieces.proofs.PieceLemmas.Class.{rest_same, after_nil, behind, heads, no_front_no}
-use Rattle.syslog_pieces.proofs.PieceLemmas.Class.{row_cons, row_head}
-use Rattle.syslog_pieces.proofs.PieceLemmas.Meets.{Meets}
+use Rattle.syslog_pieces.specs.Pieces.Parts.{IsPart, IsInPieces, AreInPieces, text_list, process_texts}
+use Rattle.syslog_pieces.specs.ProcId.{process_word}
+use Rattle.syslog_pieces.specs.Text.{Names, host, tag_word, word}
+use Rattle.syslog_pieces.specs.declared.procid.ProcId.TheVariants.{PID, Name}
+use Rattle.syslog_pieces.specs.Pieces.Format.{Format, IsSound, classes, printed_row, RowReadsBack}
+use Rattle.syslog_pieces.proofs.PieceLemmas.Class.{rest_same, after_nil, behind, heads, no_front_no, row_cons, row_head}
+use Rattle.syslog_pieces.proofs.PieceLemmas.Class.{Meets, all_map, all_append, row_nil, piece_front}
 
+-- ---- what a text begins with, and classes whose pieces are of one of two kinds
+
+-- the text is not empty, and this holds of its first character
+abbrev pub Begins : (ℕ → Type 0) → Text → Type 0
+Begins H [] = ⊥
+Begins H (c ∷ cs) = H c
+
+pub begins_apart : {H K : ℕ → Type 0} (t : Text) → ((c : ℕ) → H c → K c → ⊥) → Begins H t → Begins K t → ⊥
+begins_apart [] n h k = h
+begins_apart (c ∷ cs) n h k = n c h k
+
+pub begins_more : (H : ℕ → Type 0) (p q : Text) → Begins H p → Begins H (p ++ q)
+begins_more H [] q h = absurd h
+begins_more H (c ∷ cs) q h = h
+
+pub begins_with : (H : ℕ → Type 0) (c : ℕ) (t r : Text) → t ≡ c ∷ r → H c → Begins H t
+begins_with H c t r e h = subst (λ (x : Text). Begins H x) (sym e) h
+
+pub each_begins : (test : ℕ → Bool) (p : Text) → 0 < length p → Each test p → Begins (λ c. test c ≡ true) p
+each_begins test [] l e = absurd (omega arith)
+each_begins test (c ∷ p) l e = e.0
+
+-- ---- one of two kinds
+
+-- no text has a front of the one kind and a front of the other
+abbrev pub Apart : (B : Type 0) → (P Q : Text → Text → B → Type 0) → Type 0
+Apart B P Q = (p q p' q' : Text) (v v' : B) → p ++ q ≡ p' ++ q' → P p q v → Q p' q' v' → ⊥
+
+pub either_det : (B : Type 0) (P Q : Text → Text → B → Type 0) → IsDeterministic (record { Value = B; Is = P })
+    → IsDeterministic (record { Value = B; Is = Q }) → Apart B P Q → IsDeterministic (either B P Q)
+either_det B P Q d d' n p q p' q' v v' e (inl h) (inl h') = d p q p' q' v v' e h h'
+either_det B P Q d d' n p q p' q' v v' e (inl h) (inr h') = absurd (n p q p' q' v v' e h h')
+either_det B P Q d d' n p q p' q' v v' e (inr h) (inl h') = absurd (n p' q' p q v' v (sym e) h' h)
+either_det B P Q d d' n p q p' q' v v' e (inr h) (inr h') = d' p q p' q' v v' e h h'
+
+module _ (B : Type 0) (P Q : Text → Text → B → Type 0) {t : Text} where
+  pub first_kind : {q : Text} {v : B} → Front (record { Value = B; Is = P }) t q v → Front (either B P Q) t q v
+  first_kind f = record { piece = f.piece; whole = f.whole; is = inl f.is }
+
+  pub second_kind : {q : Text} {v : B} → Front (record { Value = B; Is = Q }) t q v → Front (either B P Q) t q v
+  second_kind f = record { piece = f.piece; whole = f.whole; is = inr f.is }
+
+  pub no_either : NoFront (record { Value = B; Is = P }) t → NoFront (record { Value = B; Is = Q }) t
+      → NoFront (either B P Q) t
+  no_either n m p q v e (inl h) = n p q v e h
+  no_either n m p q v e (inr h) = m p q v e h
+
+-- ---- lists of pieces of one class
 heads_differ : (c d : ℕ) (xs ys : Text) → c ≢ d → c ∷ xs ≡ d ∷ ys → ⊥
 heads_differ c d xs ys n e = n (heads c d xs ys e)
 
@@ -226,3 +280,112 @@ module _ (C : Class) (separator close : ℕ) where
   pub leaves_last : (t s u r : Text) (vs : List C.Value) (v : C.Value) → Leaves C separator close t vs s
       → Front C s u v → u ≡ close ∷ r → Front (list_before C separator close) t u (vs ++ (v ∷ []))
   leaves_last t s u r vs v c f e = c u u v [] f (more_here C separator close u r e)
+
+-- ---- parts of parts
+pub part_same : (p t : Text) → t ≡ p → IsPart p t
+part_same p t e = ([], [], sym e ∙ sym (append-nil t))
+
+pub part_left : (p q t : Text) → IsPart p t → IsPart (p ++ q) t
+part_left p q t (a, b, e) = (a, b ++ q, rw (e, append_assoc, append_assoc))
+
+pub part_right : (p q t : Text) → IsPart q t → IsPart (p ++ q) t
+part_right p q t (a, b, e) = (p ++ a, b, rw (e, append_assoc))
+
+-- what is in the pieces is a part of what they join to
+pub part_joined : (ps : List Text) (t : Text) → IsInPieces ps t → IsPart (join ps) t
+part_joined [] t h = absurd h
+part_joined (p ∷ ps) t (inl h) = part_left p (join ps) t h
+part_joined (p ∷ ps) t (inr h) = part_right p (join ps) t (part_joined ps t h)
+
+-- ---- the texts of a meaning
+
+-- the texts that a function finds in a meaning are parts of the piece
+abbrev pub Quotes : (C : Class) → (C.Value → List Text) → Type 0
+Quotes C f = (p q : Text) (v : C.Value) → C.Is p q v → AllByRecursion (λ t. IsPart p t) (f v)
+
+-- such a function for each class of a row
+abbrev pub Quoted : List Class → Type 0
+Quoted [] = Unit {0}
+Quoted (C ∷ Cs) = ((f : C.Value → List Text) × Quotes C f) × Quoted Cs
+
+-- the texts of a row's meanings, in order
+abbrev pub row_texts : (Cs : List Class) → Quoted Cs → Values Cs → List Text
+row_texts [] k vs = []
+row_texts (C ∷ Cs) k vs = k.0.0 vs.0 ++ row_texts Cs k.1 vs.1
+
+pub row_quotes : (Cs : List Class) (k : Quoted Cs) (ps : List Text) (q : Text) (vs : Values Cs) → Divides Cs ps q vs
+    → AreInPieces ps (row_texts Cs k vs)
+row_quotes [] k ps q vs h = tt
+row_quotes (C ∷ Cs) k [] q vs h = absurd h
+row_quotes (C ∷ Cs) ((f, g), k) (p ∷ ps) q vs h =
+    all_append (λ t. IsInPieces (p ∷ ps) t) (f vs.0) (row_texts Cs k vs.1)
+    (all_map (λ t x. inl x) (f vs.0) (g p (join ps ++ q) vs.0 h.0))
+    (all_map (λ t x. inr x) (row_texts Cs k vs.1) (row_quotes Cs k ps q vs.1 h.1))
+
+-- a meaning without texts
+abbrev pub silent : (C : Class) → (f : C.Value → List Text) × Quotes C f
+silent C = ((λ v. []), (λ p q v h. tt))
+
+pub texted_quotes : (C : Class) → Quotes (texted C) (λ t. t ∷ [])
+texted_quotes C p q t (v, h, e) = (part_same p t e, tt)
+
+pub rest_quotes : Quotes rest (λ t. t ∷ [])
+rest_quotes p q t h = (part_same p t h.1, tt)
+
+names_quotes : (p : Text) (v : Option Text) → Names p v → AllByRecursion (λ t. IsPart p t) (text_list v)
+names_quotes p None h = tt
+names_quotes p (Some t) h = (part_same p t h.0, tt)
+
+pub word_quotes : Quotes word text_list
+word_quotes p q v h = names_quotes p v h.4
+
+pub host_quotes : Quotes host text_list
+host_quotes p q v (l, a, inl (n, b, m)) = names_quotes p v m
+host_quotes p q v (l, a, inr (r, f, b, m)) = rw m (part_same p p refl, tt)
+
+pub process_quotes : Quotes process_word process_texts
+process_quotes p q None h = tt
+process_quotes p q (Some (PID n)) h = tt
+process_quotes p q (Some (Name t)) (u, w, k) = (part_same p t (k.1 ∙ w.4.0), tt)
+
+pub tag_word_quotes : Quotes tag_word text_list
+tag_word_quotes p q v h = names_quotes p v h.3
+
+-- ---- pieces that may be absent, and pieces after a space
+
+-- the texts of a meaning that may be absent
+abbrev pub optional_texts : {V : Type 0} → (V → List Text) → Option V → List Text
+optional_texts f None = []
+optional_texts f (Some v) = f v
+
+pub optional_quotes : (C : Class) (f : C.Value → List Text) → Quotes C f → Quotes (optional C) (λ v. optional_texts f v)
+optional_quotes C f g p q None h = tt
+optional_quotes C f g p q (Some v) h = g p q v h
+
+pub spaced_quotes : (C : Class) (f : C.Value → List Text) → Quotes C f → Quotes (spaced C) f
+spaced_quotes C f g p q v (t, e, h) =
+    rw e (all_map (λ x k. part_right (32 ∷ []) t x k) (f v) (g t q v h))
+
+-- ---- rows of formats: printed, they are read back
+abbrev pub AllSound : List Format → Type 0
+AllSound [] = Unit {0}
+AllSound (F ∷ Fs) = IsSound F × AllSound Fs
+
+-- a row of sound formats, printed, is read back as its values
+pub row_back : (Fs : List Format) → AllSound Fs → (vs : Values (classes Fs)) (q : Text) → RowReadsBack Fs vs q
+    → Front (Row (classes Fs)) (printed_row Fs vs q) q vs
+row_back [] s vs q h = row_nil q
+row_back (F ∷ Fs) s vs q h =
+    let behind : Text = printed_row Fs vs.1 q in
+    row_cons F.reads (classes Fs) (piece_front F.reads (F.print vs.0) behind vs.0 (s.0 vs.0 behind h.0.0 h.0.1))
+    (row_back Fs s.1 vs.1 q h.1)
+
+-- ---- what is printed
+
+-- a row printed before two texts
+pub printed_more : (Fs : List Format) (vs : Values (classes Fs)) (p q : Text)
+    → printed_row Fs vs p ++ q ≡ printed_row Fs vs (p ++ q)
+printed_more [] vs p q = refl
+printed_more (F ∷ Fs) vs p q =
+    append_assoc (F.print vs.0) (printed_row Fs vs.1 p) q
+    ∙ ap (λ (x : Text). F.print vs.0 ++ x) (printed_more Fs vs.1 p q)

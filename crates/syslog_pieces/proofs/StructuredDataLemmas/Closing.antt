@@ -1,29 +1,24 @@
--- The walk over an element: its steps, why a bracket inside a value decides it, and a value cut from its text by bytes.
-use Rattle.syslog_pieces.proofs.Names.{◌≡◌, ◌≢◌, ℕ, ◌<◌, ◌⊎◌, inl, inr, Bool, true, false, List, [], ◌∷◌, ◌++◌, length}
-use Rattle.syslog_pieces.proofs.Names.{refl, sym, ap, subst, ◌∙◌, append_assoc, arith, ◌≤◌, ◌+◌, ◌-◌, take, and_parts}
-use Rattle.syslog_pieces.proofs.Names.{eqb_tells, nat_tests, length-append, append_cancel_right, encodes-append}
-use Rattle.syslog_pieces.proofs.Names.{encodes-chars, chars_past_char, IsUtf8-from_ascii, flat_map, AllByRecursion}
-use Rattle.syslog_pieces.proofs.Names.{chars, IsUtf8, encode_utf8_all, IsCharBoundary, is_name_char, is_id_char}
-use Rattle.syslog_pieces.proofs.Names.{is_open_char, is_unescaped_char, Text, Class, Front, NoFront, Values}
-use Rattle.syslog_pieces.proofs.Names.{IsDeterministic, Row, Each, some_run, exactly, start_row, start, id_alone}
-use Rattle.syslog_pieces.proofs.Names.{inside_row, inside, opening_row, opening, quoted_row, quoted, closing}
-use Rattle.syslog_pieces.proofs.Names.{byte_count, IsDead, last_char, ElementValue, TextUnit, pair, single, unit_text}
-use Rattle.syslog_pieces.proofs.Names.{escaped, IsValueUnit, IsValue, value, param_row, param_of, param, element}
-use Rattle.syslog_pieces.proofs.Names.{element_row, element_of, is_blank, AllDeterministic, run_det, some_run_det}
-use Rattle.syslog_pieces.proofs.Names.{◌also◌, exactly_det, texted_det, row_det, row_none_here, no_front_no}
-use Rattle.syslog_pieces.proofs.Names.{mapped_front, nil_front, Meets, meets_on, meets_none, meets_here, mapped_meets}
-use Rattle.syslog_pieces.proofs.Names.{row_of, ◌then◌, row_pieces, more_before, SplitsRun, begins, more_here}
-use Rattle.syslog_pieces.proofs.Names.{is_not_whitespace, each_map, each_behind, min, name_alone, tail_row, row_head}
-use Rattle.syslog_pieces.proofs.Names.{rows_join, rows_none_here, no_mapped, row_first, row_goes, list_goes, more_goes}
-use Rattle.std.proofs.lemmas.Str.{IsUtf8-append}
-use Rattle.syslog_pieces.specs.Text.CharClass.{is_inert_char}
-use Rattle.syslog_pieces.proofs.PieceLemmas.Class.{row_cons, row_none_later}
-use Rattle.syslog_pieces.proofs.PieceLemmas.Meets.{meets_none_on, rows_go}
+-- The walk over an element: its steps, why a bracket inside a value decides it, and a value cut by bytes.
+use Rattle.syslog_pieces.proofs.Names.{◌≡◌, param_row, nil_front, SplitsRun, more_here, rows_join, no_mapped, row_first}
+use Rattle.syslog_pieces.proofs.Names.{last_char, unit_text, byte_count, element_of, texted_det, meets_none, meets_here}
+use Rattle.syslog_pieces.proofs.Names.{◌≢◌, ◌++◌, refl, take, Text, Each, pair, zero, Bool, start, value, param, Meets}
+use Rattle.syslog_pieces.proofs.Names.{◌<◌, ◌⊎◌, inl, inr, [], ◌∷◌, sym, ◌∙◌, ◌≤◌, ◌+◌, ◌-◌, Row, min, suc, map, ◌↔◌}
+use Rattle.syslog_pieces.proofs.Names.{true, id_alone, list_goes, more_goes, and_parts, eqb_tells, nat_tests, start_row}
+use Rattle.syslog_pieces.proofs.Names.{List, arith, chars, Class, Front, single, ◌also◌, row_of, ◌then◌, begins, get_or}
+use Rattle.syslog_pieces.proofs.Names.{ℕ, length-append, encodes-append, AllByRecursion, IsCharBoundary, rows_none_here}
+use Rattle.syslog_pieces.proofs.Names.{is_id_char, is_name_char, is_open_char, ElementValue, some_run_det, mapped_front}
+use Rattle.syslog_pieces.proofs.Names.{inside_row, row_pieces, name_alone, front_same, exactly, quoted_row, element_row}
+use Rattle.syslog_pieces.proofs.Names.{exactly_det, chars_past_char, encode_utf8_all, IsDeterministic, AllDeterministic}
+use Rattle.syslog_pieces.proofs.Names.{no_front_no, more_before, each_behind, opening_row, IsValueUnit, mapped_meets}
+use Rattle.syslog_pieces.proofs.Names.{false, opening, closing, escaped, IsValue, element, row_goes, false_is, some_run}
+use Rattle.syslog_pieces.proofs.Names.{ap, append_cancel_right, IsUtf8-from_ascii, is_unescaped_char, is_not_whitespace}
+use Rattle.syslog_pieces.proofs.Names.{subst, length, IsUtf8, run_det, row_det, NoFront, Values, inside, quoted, IsDead}
+use Rattle.syslog_pieces.proofs.Names.{IsTrue, append_assoc, encodes-chars, row_none_here, IsUtf8-append, is_inert_char}
+use Rattle.syslog_pieces.proofs.Names.{TextUnit, param_of, flat_map, is_blank, meets_on, each_map, tail_row, row_head}
 use Rattle.std.specs.Char.{encode_utf8}
-use Rattle.syslog_pieces.proofs.PieceLemmas.Each.{each_right}
+use Rattle.syslog_pieces.proofs.PieceLemmas.Class.{row_cons, row_none_later, meets_none_on, rows_go, each_right}
 use Rattle.syslog_pieces.proofs.StructuredDataLemmas.Elements.{unit_goes, value_here, space_is_no_close, value_det}
-use Rattle.syslog_pieces.proofs.TextLemmas.Chars.{one_ascii}
-use Rattle.syslog_pieces.proofs.TextLemmas.Cuts.{rest_shorter, front_chars, front_cut}
+use Rattle.syslog_pieces.proofs.TextLemmas.Runs.{one_ascii, rest_shorter, front_chars, front_cut}
 
 -- ---- bytes, and where a bracket is in two joined texts
 pub byte_count_slice : (bs : Text) → IsUtf8 bs → byte_count (chars bs) ≡ length bs
@@ -394,3 +389,72 @@ module _ (t r : List ℕ) (u : IsUtf8 t) (z : IsUtf8 r) (v : Values quoted_row)
       let piece = append_cancel_right first.1.piece (chars xs) (chars (34 ∷ r)) (sym whole ∙ split) in
       row_cons value (exactly (34 ∷ []) ∷ [])
       (subst (λ (y : Text). Front value (chars t) first.0 y) (first.1.is.2 ∙ piece) first.1) first.2
+
+-- ---- what the tests of canonical values return
+abbrev quote : Text
+quote = 34 ∷ []
+
+-- the one text is a value before a quote where the other is
+abbrev pub ExtendsValue : Text → Text → Type 0
+ExtendsValue t u = Meets value (t ++ quote) value (u ++ quote)
+
+closed : (t : Text) → IsValue t → Front value (t ++ quote) quote t
+closed t h = record { piece = t; whole = refl; is = (h, ([], refl), refl) }
+
+opened : (t v : Text) → Front value (t ++ quote) quote v → IsValue t
+opened t v f = subst (λ (x : Text). IsValue x) (append_cancel_right f.piece t quote (sym f.whole)) f.is.0
+
+pub value_same : (t u : Text) → ExtendsValue t u → IsValue t ↔ IsValue u
+value_same t u m = (
+  (λ h. let (v, f) = m.back quote t (closed t h) in opened u v f),
+  (λ h. let (v, f) = m.forth quote u (closed u h) in opened t v f),
+)
+
+no_quote_value : (q : Text) → IsValue (34 ∷ q) → ⊥
+no_quote_value q h =
+    let empty = front_same value value_det (closed (34 ∷ q) h) (value_here ((34 ∷ q) ++ quote) (q ++ quote) refl) in cc
+
+no_lone_value : IsValue (92 ∷ []) → ⊥
+no_lone_value ([], e, h) = cc
+no_lone_value (pair c ∷ us, e, h) = cc
+no_lone_value (single c ∷ us, e, h) = h.0.0 (cc)
+
+module _ (text bs xs ys : List ℕ) (s : SplitsRun is_unescaped_char bs xs ys)
+    (m : ExtendsValue (chars text) (chars bs)) where
+  to_end : ExtendsValue (chars text) (chars ys)
+  to_end = run_on is_unescaped_char unescaped_plain _ _ (chars xs) (chars ys ++ quote)
+      (ap (λ (x : Text). x ++ quote) s.characters ∙ append_assoc (chars xs) (chars ys) quote) s.each m
+
+  pub value_at_end : chars ys ≡ [] → IsTrue true ↔ IsValue (chars text)
+  value_at_end e = ((λ h. (value_same (chars text) (chars ys) to_end).1 (rw e ([], refl, tt))), (λ h. refl))
+
+  module _ (c : ℕ) (q : Text) (e : chars ys ≡ c ∷ q) where
+    fails : (IsValue (c ∷ q) → ⊥) → IsTrue false ↔ IsValue (chars text)
+    fails n = false_is (λ h. n (rw e at ((value_same (chars text) (chars ys) to_end).0 h)))
+
+    pub value_at_quote : c ≡ 34 → IsTrue false ↔ IsValue (chars text)
+    value_at_quote z = fails (λ h. no_quote_value q (rw z at h))
+
+    module _ (n : c ≢ 34) where
+      is_backslash : c ≡ 92
+      is_backslash = let h : is_unescaped_char c ≡ false = rw e at s.ends in grind (arith, nat_tests)
+
+      pub value_lone : q ≡ [] → IsTrue false ↔ IsValue (chars text)
+      value_lone z = fails (λ h. no_lone_value (rw (z, is_backslash) at h))
+
+      pub value_further : (d : ℕ) (r : Text) → q ≡ d ∷ r → ExtendsValue (chars text) r
+      value_further d r z =
+          let whole : chars ys ++ quote ≡ 92 ∷ d ∷ (r ++ quote) = (let b = is_backslash in
+          ap (λ (x : Text). x ++ quote) (let w : chars ys ≡ 92 ∷ d ∷ r = cc in w)) in
+          meets_on to_end (unit_goes (pair d) (chars ys ++ quote) (r ++ quote) tt whole)
+
+-- how the test of a value ends
+pub ruleset value_steps = (value_at_end, value_at_quote, value_lone)
+
+-- ---- lists of parameters and of elements
+
+module _ {X Y : Type 0} (f : X → Y) (P : Y → Type 0) where
+  pub all_at : (xs : List X) (i : ℕ) (x : X) → i < length xs → x ≡ get_or xs i x → AllByRecursion P (map f xs) → P (f x)
+  all_at [] i x l e h = absurd (omega arith)
+  all_at (y ∷ xs) zero x l e h = subst (λ (z : X). P (f z)) (sym e) h.0
+  all_at (y ∷ xs) (suc i) x l e h = all_at xs i x (omega arith) e h.1

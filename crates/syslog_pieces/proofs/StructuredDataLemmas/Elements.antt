@@ -1,14 +1,21 @@
--- Values, parameters, elements and forgiving lists: a text has one of each at its front; and items of a list, one after
--- the other.
-use Rattle.syslog_pieces.proofs.Names.{◌≡◌, ◌≢◌, ℕ, ◌<◌, inl, inr, true, false, List, [], ◌∷◌, ◌++◌, length, Option}
-use Rattle.syslog_pieces.proofs.Names.{Some, None, refl, sym, ap, ◌∙◌, append_assoc, arith, map, subst, nat_tests}
-use Rattle.syslog_pieces.proofs.Names.{length-append, flat_map, AllByRecursion, list_any, is_name_char, is_id_char}
-use Rattle.syslog_pieces.proofs.Names.{is_open_char, Text, join, Front, IsDeterministic, Row, Each, run, some_run}
-use Rattle.syslog_pieces.proofs.Names.{exactly, Class, NoFront, ElementValue, TextUnit, pair, single, unit_text, many}
-use Rattle.syslog_pieces.proofs.Names.{list_before, IsValueUnit, value, param_row, param_of, param, element_row}
-use Rattle.syslog_pieces.proofs.Names.{element_of, element, bracketed, item, strict, forgiving, is_blank, dash, heads}
-use Rattle.syslog_pieces.proofs.Names.{behind, run_det, some_run_det, exactly_det, AllDeterministic, row_det}
-use Rattle.syslog_pieces.proofs.Names.{texted_det, ◌also◌, front_same, mapped_det, many_det, begins, Meets, is_none}
+-- Values, parameters, elements and items: a text has one of each at its front.
+-- Canonical elements are read back from their print, and what is read is canonical.
+use Rattle.syslog_pieces.proofs.Names.{◌≡◌, ◌≢◌, ◌<◌, inl, inr, ◌∷◌, ap, Each, pair, many, item, dash, Ends, Bool, drop}
+use Rattle.syslog_pieces.proofs.Names.{ℕ, Some, None, refl, Text, join, Class, value, param, heads, Meets, props, chars}
+use Rattle.syslog_pieces.proofs.Names.{true, BeginsUnblank, elements_text, encodes-chars, encodes-append, is_prop→PathP}
+use Rattle.syslog_pieces.proofs.Names.{false, ◌++◌, arith, subst, Front, IsMany, IsList, IsMore, quoted, inside, IsUtf8}
+use Rattle.syslog_pieces.proofs.Names.{List, param_of, element, is_blank, run_det, row_det, many_det, is_none, ∥∥₁_elim}
+use Rattle.syslog_pieces.proofs.Names.{[], AllDeterministic, IsCanonicalElement, length-le-encodes, AllByRecursion-prop}
+use Rattle.syslog_pieces.proofs.Names.{length, Option, single, strict, behind, ◌also◌, begins, Values, texted, IsValue}
+use Rattle.syslog_pieces.proofs.Names.{sym, ◌∙◌, map, Row, run, ◌+◌}
+use Rattle.syslog_pieces.proofs.Names.{append_assoc, nat_tests, is_name_char, is_open_char, ElementValue, list_elements}
+use Rattle.syslog_pieces.proofs.Names.{length-append, AllByRecursion, encode_utf8_all, nil_from_length, bare_param_text}
+use Rattle.syslog_pieces.proofs.Names.{flat_map, list_any, some_run, NoFront, TextUnit, forgiving, many_here, one_value}
+use Rattle.syslog_pieces.proofs.Names.{is_id_char, IsDeterministic, IsCanonicalParam, joined_elements, drop-append_seam}
+use Rattle.syslog_pieces.proofs.Names.{exactly, element_of, exactly_det, texted_det, front_same, mapped_det, param_text}
+use Rattle.syslog_pieces.proofs.Names.{unit_text, param_row, bracketed, row_pieces, quoted_row, append-nil, OneMeaning}
+use Rattle.syslog_pieces.proofs.Names.{list_before, IsValueUnit, element_row, some_run_det, element_text, one_value-is}
+use Rattle.syslog_pieces.specs.declared.structured_data.recognised.ElementList.{ElementList}
 use Rattle.syslog_pieces.proofs.PieceLemmas.Lists.{list_before_det}
 use Rattle.syslog_pieces.proofs.StructuredDataLemmas.Units.{unit_same, units_same}
 
@@ -171,10 +178,10 @@ strict_some (e ∷ es) = ap (λ (x : List ElementValue). e ∷ x) (strict_some e
 
 -- ---- the list
 
-pub no_list : (t q : Text) (vs : List (Option ElementValue)) → NoFront (exactly dash) t → Front (many item) t q vs
+pub no_forgiving_list : (t q : Text) (vs : List (Option ElementValue)) → NoFront (exactly dash) t → Front (many item) t q vs
     → vs ≡ [] → NoFront forgiving t
-no_list t q vs n f z p r es e (inl (g, h)) = n p r tt e g
-no_list t q vs n f z p r es e (inr (ws, l, m, g)) =
+no_forgiving_list t q vs n f z p r es e (inl (g, h)) = n p r tt e g
+no_forgiving_list t q vs n f z p r es e (inr (ws, l, m, g)) =
     let s = front_same (many item) (many_det item item_det) f (record { piece = p; whole = e; is = m }) in
     let k = ap length (sym z ∙ s.1) in omega arith
 
@@ -183,3 +190,251 @@ pub no_items : (vs : List (Option ElementValue)) → [] ≡ strict vs → false 
 no_items [] e f = refl
 no_items (None ∷ vs) e f = cc
 no_items (Some d ∷ vs) e f = cc
+
+-- ---- parameters are read back from their print
+abbrev param_values : Text → Text → Values param_row
+param_values name v = (name, (tt, (tt, (tt, (v, (tt, tt))))))
+
+-- a canonical parameter is read back, whatever follows it
+param_back : (name v q : Text) → IsCanonicalParam (name, v) → param.Is (bare_param_text (name, v)) q (name, v)
+param_back name v q (long, each, units) = (
+  param_values name v,
+  (
+    name ∷ (61 ∷ []) ∷ [] ∷ (34 ∷ []) ∷ v ∷ (34 ∷ []) ∷ [],
+    refl,
+    (tt, (long, each, refl), refl) also refl also (tt, refl) also refl also (units, (_, refl), refl) also refl also tt,
+  ),
+  refl,
+)
+
+-- further parameters, each after its space
+more_back : (ps : List (Text × Text)) (q : Text) → AllByRecursion IsCanonicalParam ps
+    → IsMore param 32 (flat_map param_text ps) q ps
+more_back [] q h = refl
+more_back ((name, v) ∷ ps) q (canonical, canonicals) = (
+  bare_param_text (name, v),
+  flat_map param_text ps,
+  refl,
+  param_back name v (flat_map param_text ps ++ q) canonical,
+  more_back ps q canonicals,
+)
+
+-- what is read as a parameter is canonical
+param_canonical : (p q : Text) (v : Text × Text) → param.Is p q v → IsCanonicalParam v
+param_canonical p q v (vs, row, e) =
+    let g = row_pieces param_row (record { piece = p; whole = refl; is = row }) in
+    let (_, name, name_is) = g.1.is in
+    let (units, _, value_is) = g.2.2.2.2.1.is in
+    rw e (rw name_is name.0, rw name_is name.1, rw value_is units)
+
+more_canonical : (p q : Text) (vs : List (Text × Text)) → IsMore param 32 p q vs → AllByRecursion IsCanonicalParam vs
+more_canonical p q [] h = tt
+more_canonical p q (v ∷ vs) (a, b, e, h, more) = (param_canonical a (b ++ q) v h, more_canonical b q vs more)
+
+list_canonical : (p q : Text) (vs : List (Text × Text)) → IsList param 32 p q vs → AllByRecursion IsCanonicalParam vs
+list_canonical p q [] h = tt
+list_canonical p q (v ∷ vs) (a, b, e, h, more) = (param_canonical a (b ++ q) v h, more_canonical b q vs more)
+
+-- ---- elements
+
+abbrev element_values : Text → List (Text × Text) → Values element_row
+element_values id ps = (tt, (id, (tt, (ps, (tt, tt)))))
+
+-- a canonical element is read back, whatever follows it
+element_of_parts : (id : Text) (ps : List (Text × Text)) (q : Text)
+    → IsCanonicalElement (record { id = id; params = ps })
+    → element.Is (element_text (record { id = id; params = ps })) q (record { id = id; params = ps })
+element_of_parts id [] q (long, each, canonical, first) = (
+  element_values id [],
+  (
+    (91 ∷ []) ∷ id ∷ [] ∷ [] ∷ (93 ∷ []) ∷ [],
+    refl,
+    refl also (tt, (long, each, refl), refl) also (tt, refl) also (refl, (_, refl)) also refl also tt,
+  ),
+  refl,
+)
+element_of_parts id ((name, v) ∷ ps) q (long, each, (canonical, canonicals), first) =
+    let more : Text = flat_map param_text ps in
+    let gap = begins_more name (61 ∷ 34 ∷ (v ++ (34 ∷ []))) more (93 ∷ []) q canonical.0 first in
+    let param = param_back name v (more ++ (93 ∷ q)) canonical in (
+      element_values id ((name, v) ∷ ps),
+      (
+        (91 ∷ []) ∷ id ∷ (32 ∷ []) ∷ (bare_param_text (name, v) ++ more) ∷ (93 ∷ []) ∷ [],
+        refl,
+        refl also (tt, (long, each, refl), refl) also ((refl, tt), gap)
+            also ((bare_param_text (name, v), more, refl, param, more_back ps (93 ∷ q) canonicals), (q, refl))
+            also refl also tt,
+      ),
+      refl,
+    )
+  where
+    begins_more : (name a b c d : Text) → 0 < length name → Ends is_blank name
+        → Ends is_blank ((((name ++ a) ++ b) ++ c) ++ d)
+    begins_more [] a b c d l h = absurd (omega arith)
+    begins_more (x ∷ name) a b c d l h = h
+
+pub element_back : (e : ElementValue) (q : Text) → IsCanonicalElement e → element.Is (element_text e) q e
+element_back e q h = element_of_parts e.id e.params q h
+
+first_canonical : (p q : Text) (vs : List (Text × Text)) → IsList param 32 p q vs → Ends is_blank (p ++ q)
+    → BeginsUnblank vs
+first_canonical p q [] h e = tt
+first_canonical p q (v ∷ vs) (a, b, w, (ws, row, same), more) e =
+    let g = row_pieces param_row {t = a ++ (b ++ q)} {q = b ++ q} (record { piece = a; whole = refl; is = row }) in
+    let (_, name, name_is) = g.1.is in
+    rw (same, name_is) (front_ends g.1.piece g.0 name.0 (rw (behind p a b q w ∙ g.1.whole) at e))
+  where
+    front_ends : (x y : Text) → 0 < length x → Ends is_blank (x ++ y) → Ends is_blank x
+    front_ends [] y l h = tt
+    front_ends (c ∷ x) y l h = h
+
+-- what is read as an element is canonical
+pub element_canonical : (p q : Text) (e : ElementValue) → element.Is p q e → IsCanonicalElement e
+element_canonical p q e (vs, row, same) =
+    let (_, _, (_, named, (_, gap, (after, list, _)))) = row_pieces element_row
+    (record { piece = p; whole = refl; is = row }) in
+    let (_, id, id_is) = named.is in
+    let params = list.is.0 in
+    rw (same, id_is) (
+      id.0,
+      id.1,
+      list_canonical list.piece after (element_of vs).params params,
+      first_canonical list.piece after (element_of vs).params params
+          (subst (λ (x : Text). Ends is_blank x) list.whole gap.is.1),
+    )
+
+-- no item begins at the end, nor with another character than `[`
+pub no_item_nil : NoFront item []
+no_item_nil p q v e h = let (r, w) = item_begins p q v h in let k = ap length (e ∙ w) in omega arith
+
+pub no_item_before : (c : ℕ) (t : Text) → c ≢ 91 → NoFront item (c ∷ t)
+no_item_before c t n p q v e h = let (r, w) = item_begins p q v h in n (heads c 91 t r (e ∙ w))
+
+items_back : (es : List ElementValue) (q : Text) → AllByRecursion IsCanonicalElement es → NoFront item q
+    → IsMany item (joined_elements es) q (map Some es)
+items_back [] q h n = (refl, n)
+items_back (e ∷ es) q (canonical, canonicals) n = (
+  element_text e,
+  joined_elements es,
+  refl,
+  element_back e (joined_elements es ++ q) canonical,
+  items_back es q canonicals n,
+)
+
+-- canonical elements, or none, are read back where no item follows
+pub forgiving_back : (es : List ElementValue) (q : Text) → AllByRecursion IsCanonicalElement es → NoFront item q
+    → forgiving.Is (elements_text es) q es
+forgiving_back [] q h n = inl (refl, refl)
+forgiving_back (e ∷ es) q h n = inr (map Some (e ∷ es), omega arith, items_back (e ∷ es) q h n, strict_some (e ∷ es))
+
+pub items_canonical : (p q : Text) (vs : List (Option ElementValue)) → IsMany item p q vs
+    → AllByRecursion IsCanonicalElement (strict vs)
+items_canonical p q [] h = tt
+items_canonical p q (None ∷ vs) (a, b, e, h, more) = items_canonical b q vs more
+items_canonical p q (Some v ∷ vs) (a, b, e, h, more) = (element_canonical a (b ++ q) v h, items_canonical b q vs more)
+
+-- what is read as a list is canonical
+pub forgiving_canonical : (p q : Text) (es : List ElementValue) → forgiving.Is p q es
+    → AllByRecursion IsCanonicalElement es
+forgiving_canonical p q es (inl (d, e)) = rw e tt
+forgiving_canonical p q es (inr (vs, l, m, e)) = rw e (items_canonical p q vs m)
+
+-- a value and its quote
+pub quoted_text : {t u v : Text} → Front quoted t u (v, (tt, tt)) → t ≡ v ++ (34 ∷ u)
+quoted_text f =
+    let (r, g, (s, quote, end)) = row_pieces quoted_row f in cc (g.whole, g.is.2, begins 34 r s quote, end)
+
+-- no blank is before another character
+pub no_blanks : {t q : Text} (c : ℕ) → is_blank c ≡ false → t ≡ c ∷ q → Front (run is_blank) t t tt
+no_blanks c h e = record { piece = []; whole = refl; is = (tt, subst (λ (x : Text). Ends is_blank x) (sym e) h) }
+
+-- ---- elements
+
+pub start_text : {t r i id : Text} → Front (exactly (91 ∷ [])) t r tt → Front (texted (some_run is_id_char)) r i id
+    → t ≡ 91 ∷ (id ++ i)
+start_text {t = t} {r = r} f g = cc (begins 91 t r f, g.whole, g.is.2)
+
+-- ---- lists
+
+-- ---- what recognised elements and lists mean is what is in their texts
+
+-- an element that was recognised, by its parameters
+pub seen_is : {id inner q : Text} {ps : List (Text × Text)} (m : OneMeaning inside inner)
+    → Front inside inner q (ps, (tt, tt))
+    → ◌≡◌ {A = ElementValue} (record { id = id; params = (one_value m).0 }) (record { id = id; params = ps })
+seen_is {id = id} m f =
+    ap (λ (v : List (Text × Text)). record { id = id; params = v }) (ap (λ v. v.0) (one_value-is m f))
+
+-- a list that was recognised, by its items
+pub items_are : {t q : Text} {vs : List (Option ElementValue)} (m : OneMeaning (many item) t) → Front (many item) t q vs
+    → strict (one_value m) ≡ strict vs
+items_are m f = ap strict (one_value-is m f)
+
+-- a front of a text, and what the text is after it
+pub left_out : (t p left : Text) → t ≡ p ++ left → t ≡ p ++ drop (length p) t
+left_out t p left e = e ∙ ap (λ (x : Text). p ++ x) (sym (ap (drop (length p)) e ∙ drop-append_seam p left))
+
+-- a front of as many bytes is the text
+pub same_front : (t p : List ℕ) → IsUtf8 t → IsUtf8 p → (left : Text) → chars t ≡ chars p ++ left → length p ≡ length t
+    → chars t ≡ chars p
+same_front t p u z left e l =
+    let whole : length t ≡ length p + length (encode_utf8_all left) =
+    omega (
+      arith,
+      ap length (sym (encodes-chars t u) ∙ ap encode_utf8_all e ∙ encodes-append (chars p) left),
+      ap length (encodes-chars p z),
+      length-append (encode_utf8_all (chars p)) (encode_utf8_all left),
+    ) in
+    let none : left ≡ [] = nil_from_length left (omega (arith, l, whole, length-le-encodes left)) in
+    rw none at e ∙ append-nil (chars p)
+
+-- `-`, which is no item
+pub dash_items : (t : Text) → t ≡ 45 ∷ [] → Front (many item) t t []
+dash_items t e = many_here item t (λ p q v w h. no_item_before 45 [] (λ n. omega arith) p q v (sym e ∙ w) h)
+
+pub no_items_here : (t : Text) → t ≡ [] → Front (many item) t t []
+no_items_here t e = many_here item t (λ p q v w h. no_item_nil p q v (sym e ∙ w) h)
+
+-- ---- recognised elements are canonical
+
+unit_prop : (u : TextUnit) → IsProp (IsValueUnit u)
+unit_prop (pair c) = Prim.hlevel props
+unit_prop (single c) = Prim.hlevel props
+
+no_unit_at_end : (u : TextUnit) (t : Text) → IsValueUnit u → unit_text u ++ t ≡ [] → ⊥
+no_unit_at_end (pair c) t h e = cc
+no_unit_at_end (single c) t h e = cc
+
+value_prop : (t : Text) → IsProp (IsValue t)
+value_prop t v w =
+    let same : v.0 ≡ w.0 = (units_same IsValueUnit (λ c h. h.0) (λ x. x ≡ []) no_unit_at_end v.0 w.0 [] [] v.2 w.2 refl refl
+    (ap (λ (x : Text). x ++ []) (sym v.1 ∙ w.1))).0 in
+    let whole = is_prop→PathP (λ i. t ≡ flat_map unit_text (same i)) (λ i. Prim.hlevel props) v.1 w.1 in
+    let each = is_prop→PathP (λ i. AllByRecursion IsValueUnit (same i))
+    (λ i. AllByRecursion-prop IsValueUnit unit_prop (same i)) v.2 w.2 in
+    λ i. (same i, whole i, each i)
+
+each_prop : (test : ℕ → Bool) (t : Text) → IsProp (Each test t)
+each_prop test [] = Prim.hlevel props
+each_prop test (c ∷ t) = Prim.hlevel (props, each_prop test t)
+
+ends_prop : (test : ℕ → Bool) (t : Text) → IsProp (Ends test t)
+ends_prop test [] = Prim.hlevel props
+ends_prop test (c ∷ t) = Prim.hlevel props
+
+unblank_prop : (ps : List (Text × Text)) → IsProp (BeginsUnblank ps)
+unblank_prop [] = Prim.hlevel props
+unblank_prop (p ∷ ps) = ends_prop is_blank p.0
+
+element_prop : (e : ElementValue) → IsProp (IsCanonicalElement e)
+element_prop e = Prim.hlevel (
+  props,
+  each_prop is_id_char e.id,
+  AllByRecursion-prop IsCanonicalParam (λ p. Prim.hlevel (props, each_prop is_name_char p.0, value_prop p.1)) e.params,
+  unblank_prop e.params,
+)
+
+pub are_canonical : (l : ElementList) → AllByRecursion IsCanonicalElement (list_elements l)
+are_canonical l = ∥∥₁_elim l.meaning.1.0 (AllByRecursion-prop IsCanonicalElement element_prop (list_elements l)) (λ f.
+    subst (λ (vs : List (Option ElementValue)). AllByRecursion IsCanonicalElement (strict vs))
+    (sym (one_value-is l.meaning f.1)) (items_canonical f.1.piece f.0 _ f.1.is))

@@ -1,12 +1,29 @@
--- Texts split into units in one way, and the removal of escapes.
-use Rattle.syslog_pieces.proofs.Names.{◌≡◌, ◌≢◌, ℕ, Bool, true, false, cond, inl, inr, List, [], ◌∷◌, ◌++◌, refl, sym}
-use Rattle.syslog_pieces.proofs.Names.{ap, subst, ◌∙◌, append_assoc, append-nil, arith, Err, Result, Ok, IfOk}
-use Rattle.syslog_pieces.proofs.Names.{eqb_tells, nat_tests, flat_map, AllByRecursion, chars, IsUtf8, ◌↔◌, is_ok, Text}
-use Rattle.syslog_pieces.proofs.Names.{Each, Ends, TextUnit, pair, single, unit_text, escaped, IsUnescaped, SplitsRun}
-use Rattle.syslog_pieces.proofs.Names.{IsValueUnit, IsValue, all_append, chars-append, cases_Bool, flat_map-append}
+-- Texts split into units in one way, escapes, and the texts and the equality of elements.
+use Rattle.syslog_pieces.proofs.Names.{◌≡◌, Bool, true, cond, List, ◌++◌, refl, arith, IfOk, chars, is_ok, Class, param}
+use Rattle.syslog_pieces.proofs.Names.{◌≢◌, inl, inr, ◌∷◌, sym, Text, Each, Ends, pair, item, Some, None, take, drop}
+use Rattle.syslog_pieces.proofs.Names.{ℕ, eqb_tells, nat_tests, unit_text, SplitsRun, param_row, map-append, one_answer}
+use Rattle.syslog_pieces.proofs.Names.{false, Result, IsUtf8, single, String, Option, Values, exactly, element, all_map}
+use Rattle.syslog_pieces.proofs.Names.{[], element_row, elements_or, length-drop, param_value, param_count, same_params}
+use Rattle.syslog_pieces.proofs.Names.{ap, ◌∙◌, Err, Ok, ◌↔◌, Bor, Row, run, ◌+◌, ◌<◌, map, ◌-◌}
+use Rattle.syslog_pieces.proofs.Names.{subst, mapped, IsMany, IsMore, IsList, strict, ◌also◌, length, get_or, nat_eq}
+use Rattle.syslog_pieces.proofs.Names.{append_assoc, append-nil, chars-append, is_name_char, ElementValue, full_element}
+use Rattle.syslog_pieces.proofs.Names.{flat_map, TextUnit, some_run, optional, forgiving, param_of, is_blank, take_more}
+use Rattle.syslog_pieces.proofs.Names.{AllByRecursion, flat_map-append, take-append-drop, sum_by-append, element_texts}
+use Rattle.syslog_pieces.proofs.Names.{escaped, all_append, cases_Bool, is_id_char, element_of, length-map, sum_by-cons}
+use Rattle.syslog_pieces.proofs.Names.{IsUnescaped, IsValueUnit, rfc3164_list, counts_agree, list_all-map, is_bare_char}
+use Rattle.syslog_pieces.proofs.Names.{IsValue, DashRule, count_by, take_all, drop-map, list_all, param_eq, take-map}
+use Rattle.std.specs.Global.{Global}
+use Rattle.std.specs.Iterator.{Drains}
+use Rattle.std.specs.declared.alloc.AllocError.{AllocError}
 use Rattle.syslog_pieces.specs.StructuredData.Escapes.{IsUnit, IsUnquoted, lone_backslash, SplitsUnits, is_escaped}
 use Rattle.syslog_pieces.specs.StructuredData.Escapes.{pair_meaning, unit_meaning, escaped_char}
-use Rattle.syslog_pieces.specs.Text.CharClass.{is_bare_char}
+use Rattle.syslog_pieces.specs.StructuredData.Params.{NextParam, AreParamItems}
+use Rattle.syslog_pieces.specs.Pieces.Parts.{IsPart}
+use Rattle.syslog_pieces.specs.StructuredData.EqualLaws.{Param, param_eq-same, counts_agree-at, counts_agree-from}
+use Rattle.syslog_pieces.specs.StructuredData.EqualLaws.{same_params-counts, same_params-from, same_params-decides}
+use Rattle.syslog_pieces.specs.StructuredData.EqualLaws.{counts_of_permutation, permuted, length_of_counts}
+use Rattle.syslog_pieces.proofs.PieceLemmas.Lists.{Quotes, Quoted, row_texts, row_quotes, part_same, part_left}
+use Rattle.syslog_pieces.proofs.PieceLemmas.Lists.{part_right, part_joined, silent, texted_quotes}
 pub use Rattle.std.proofs.lemmas.Bool.{cases_Bool as decide}
 
 -- ---- a text has one split
@@ -199,3 +216,178 @@ module _ {t bs xs ys out out' : Text} (s : SplitsRun is_bare_char bs xs ys) (r :
   removes_pair c d q q' out'' e g h =
       removes_on t out' (chars ys) q' out'' (pair_meaning d) (pair d ∷ []) removes_run
       (backslash c q (d ∷ q') e g) (tt, tt) h (sym (append-nil (pair_meaning d)))
+
+-- ---- what an iterator over parameters gives in all
+pub AreParamItems-Drains : {S : Type 0} (bytes : S → List ℕ) (params : List (S × S))
+    (items : List (Result (Bor S × String Global) AllocError)) → Drains (NextParam bytes) params items
+    → AreParamItems bytes params items
+AreParamItems-Drains bytes [] [] d = tt
+AreParamItems-Drains bytes [] (item ∷ items) d = let step = d.1.1.1.0 in absurd (cc)
+AreParamItems-Drains bytes (p ∷ ps) [] d = absurd (rw (← d.1.1) at d.1.2).0
+AreParamItems-Drains bytes (p ∷ ps) (item ∷ items) d =
+    let step = d.1.1.1 in
+    (step.0, AreParamItems-Drains bytes ps items (d.0, (d.1.0, rw step.1 at d.1.1.2, d.1.2)))
+
+-- ---- the texts of elements are parts of their list
+
+-- the texts that a row's meaning holds are parts of the row
+row_parts : (Cs : List Class) (k : Quoted Cs) (B : Type 0) (f : Values Cs → B) (g : B → List Text)
+    → ((vs : Values Cs) → row_texts Cs k vs ≡ g (f vs)) → Quotes (mapped (Row Cs) B f) g
+row_parts Cs k B f g same p q v (vs, (ps, e, h), i) =
+    rw (i, ← same vs, e) (all_map (part_joined ps) (row_texts Cs k vs) (row_quotes Cs k ps q vs h))
+
+-- ---- lists
+module _ (C : Class) (f : C.Value → List Text) (g : Quotes C f) (sep : ℕ) where
+  two_parts : (p a b : Text) (ts us : List Text) → p ≡ a ++ b → AllByRecursion (λ t. IsPart a t) ts
+      → AllByRecursion (λ t. IsPart b t) us → AllByRecursion (λ t. IsPart p t) (ts ++ us)
+  two_parts p a b ts us e h k = rw e
+      (all_append (λ t. IsPart (a ++ b) t) ts us (all_map (part_left a b) ts h) (all_map (part_right a b) us k))
+
+  more_parts : (p q : Text) (vs : List C.Value) → IsMore C sep p q vs → AllByRecursion (λ t. IsPart p t) (flat_map f vs)
+  more_parts p q [] h = tt
+  more_parts p q (v ∷ vs) (a, b, e, h, more) =
+      let there = two_parts (a ++ b) a b (f v) (flat_map f vs) refl (g a (b ++ q) v h) (more_parts b q vs more) in
+      rw e (all_map (part_right (sep ∷ []) (a ++ b)) (flat_map f (v ∷ vs)) there)
+
+  list_parts : (p q : Text) (vs : List C.Value) → IsList C sep p q vs → AllByRecursion (λ t. IsPart p t) (flat_map f vs)
+  list_parts p q [] h = tt
+  list_parts p q (v ∷ vs) (a, b, e, h, more) =
+      two_parts p a b (f v) (flat_map f vs) e (g a (b ++ q) v h) (more_parts b q vs more)
+
+-- ---- parameters and elements
+abbrev param_quoted : Quoted param_row
+param_quoted =
+    ((λ t. t ∷ []), texted_quotes (some_run is_name_char)) also silent (exactly (61 ∷ [])) also silent (run is_blank)
+    also silent (exactly (34 ∷ [])) also ((λ v. v ∷ []), λ p q v h. (part_same p v h.2, tt))
+    also silent (exactly (34 ∷ [])) also tt
+
+abbrev param_texts : Text × Text → List Text
+param_texts p = p.0 ∷ p.1 ∷ []
+
+param_quotes : Quotes param param_texts
+param_quotes = row_parts param_row param_quoted (Text × Text) param_of param_texts (λ vs. refl)
+
+abbrev element_quoted : Quoted element_row
+element_quoted =
+    silent (exactly (91 ∷ [])) also ((λ t. t ∷ []), texted_quotes (some_run is_id_char)) also silent (run is_blank)
+    also (flat_map param_texts, λ p q vs h. list_parts param param_texts param_quotes 32 p q vs h.0)
+    also silent (exactly (93 ∷ [])) also tt
+
+pub element_quotes : Quotes element element_texts
+element_quotes = row_parts element_row element_quoted ElementValue element_of element_texts
+    (λ vs. append-nil (element_texts (element_of vs)))
+
+-- ---- the forgiving list
+items_parts : (p q : Text) (items : List (Option ElementValue)) → IsMany item p q items
+    → AllByRecursion (λ t. IsPart p t) (flat_map element_texts (strict items))
+items_parts p q [] h = tt
+items_parts p q (None ∷ items) (a, b, e, h, more) =
+    rw e (all_map (part_right a b) (flat_map element_texts (strict items)) (items_parts b q items more))
+items_parts p q (Some v ∷ items) (a, b, e, h, more) =
+    two_parts element element_texts element_quotes 32 p a b (element_texts v) (flat_map element_texts (strict items)) e
+    (element_quotes a (b ++ q) v h) (items_parts b q items more)
+
+pub forgiving_quotes : Quotes forgiving (λ es. flat_map element_texts es)
+forgiving_quotes p q es (inl (d, e)) = rw e tt
+forgiving_quotes p q es (inr (items, l, m, e)) = rw e (items_parts p q items m)
+
+-- ---- the list of RFC 3164
+full_parts : (p q : Text) (es : List ElementValue) → IsMany full_element p q es
+    → AllByRecursion (λ t. IsPart p t) (flat_map element_texts es)
+full_parts p q [] h = tt
+full_parts p q (v ∷ es) (a, b, e, h, more) =
+    two_parts element element_texts element_quotes 32 p a b (element_texts v) (flat_map element_texts es) e
+    (element_quotes a (b ++ q) v h.0) (full_parts b q es more)
+
+pub rfc3164_list_quotes : (rule : DashRule) → Quotes (rfc3164_list rule) (λ es. flat_map element_texts es)
+rfc3164_list_quotes rule p q es (inl (d, a, e)) = rw e tt
+rfc3164_list_quotes rule p q es (inr (l, m)) = full_parts p q es m
+
+pub optional_rfc3164_list_quotes : (rule : DashRule)
+    → Quotes (optional (rfc3164_list rule)) (λ es. flat_map element_texts (elements_or es))
+optional_rfc3164_list_quotes rule p q None h = tt
+optional_rfc3164_list_quotes rule p q (Some es) h = rfc3164_list_quotes rule p q es h
+
+-- ---- counting parameters of any type of texts is counting them over texts, and where counting may begin
+
+-- counting over the texts is counting by the texts
+pub param_count-map : {S : Type 0} (text : S → Text) (p : Param) (qs : List (S × S))
+    → param_count p (map (param_value text) qs) ≡ count_by (λ q. param_eq p (param_value text q)) qs
+param_count-map text p [] = refl
+param_count-map text p (q ∷ qs) =
+    sum_by-cons (λ r. cond (param_eq p r) 1 0) (param_value text q) (map (param_value text) qs)
+    ∙ ap (λ n. cond (param_eq p (param_value text q)) 1 0 + n) (param_count-map text p qs)
+    ∙ sym (sum_by-cons (λ r. cond (param_eq p (param_value text r)) 1 0) q qs)
+
+-- the same of the test whether counts agree
+pub counts_agree-map : {S : Type 0} (text : S → Text) (these ps qs : List (S × S))
+    → counts_agree (map (param_value text) these) (map (param_value text) ps) (map (param_value text) qs)
+    ≡ list_all (λ p. nat_eq (count_by (λ q. param_eq (param_value text p) (param_value text q)) ps)
+    (count_by (λ q. param_eq (param_value text p) (param_value text q)) qs)) these
+counts_agree-map text these ps qs = simp (list_all-map, param_count-map text)
+
+-- ---- lists of one length are compared by the counts of the first's parameters
+
+pub counted_once : (ps qs : List Param) → length ps ≡ length qs → counts_agree ps ps qs ≡ same_params ps qs
+counted_once ps qs long =
+    one_answer _ _ (
+      λ e. counts_of_permutation ps qs (permuted ps qs long (λ p some. counts_agree-at ps ps qs p e some)),
+      λ same. counts_agree-from ps ps qs same,
+    )
+    (same_params-decides ps qs)
+
+-- what is in front of both lists in one order changes nothing
+pub same_params-behind : (zs ps qs : List Param) → same_params ps qs ≡ same_params (zs ++ ps) (zs ++ qs)
+same_params-behind zs ps qs =
+    let more = λ (ls : List Param) (p : Param). sum_by-append (λ q. cond (param_eq p q) 1 0) zs ls in
+    one_answer _ _ (
+      λ e p. let same = same_params-counts ps qs e p in omega (arith, same, more ps p, more qs p),
+      λ same. same_params-from ps qs (λ p. omega (arith, same p, more ps p, more qs p)),
+    )
+    (same_params-decides (zs ++ ps) (zs ++ qs))
+
+-- so counting may begin where the two lists first differ
+counted_behind : (ps qs : List Param) (i : ℕ) → length ps ≡ length qs → take i ps ≡ take i qs
+    → counts_agree (drop i ps) (drop i ps) (drop i qs) ≡ same_params ps qs
+counted_behind ps qs i long front =
+    counted_once (drop i ps) (drop i qs) (length-drop i ps ∙ ap (λ (n : ℕ). n - i) long ∙ sym (length-drop i qs))
+    ∙ same_params-behind (take i ps) (drop i ps) (drop i qs)
+    ∙ rw (take-append-drop i ps, front, take-append-drop i qs)
+
+pub counted_from : {S : Type 0} (text : S → Text) (xs ys : List (S × S)) (i : ℕ) → length xs ≡ length ys
+    → map (param_value text) (take i xs) ≡ map (param_value text) (take i ys)
+    → counts_agree (map (param_value text) (drop i xs)) (map (param_value text) (drop i xs))
+    (map (param_value text) (drop i ys))
+    ≡ same_params (map (param_value text) xs) (map (param_value text) ys)
+counted_from text xs ys i long front =
+    let view = param_value text in
+    rw (← drop-map view i xs, ← drop-map view i ys) (counted_behind (map view xs) (map view ys) i
+    (length-map xs view ∙ long ∙ sym (length-map ys view)) (take-map view i xs ∙ front ∙ sym (take-map view i ys)))
+
+-- a slice to its end
+pub slice_to_end : {X : Type 0} (xs : List X) (i : ℕ) → take (length xs - i) (drop i xs) ≡ drop i xs
+slice_to_end xs i = let long = length-drop i xs in take_all (length xs - i) (drop i xs) (omega (arith, long))
+
+-- lists of different lengths are not equal
+pub unlike_lists : {S : Type 0} (text : S → Text) (xs ys : List (S × S)) → length xs ≢ length ys
+    → false ≡ same_params (map (param_value text) xs) (map (param_value text) ys)
+unlike_lists text xs ys differ =
+    let view = param_value text in
+    elim (cases_Bool (same_params (map view xs) (map view ys))) [
+      | inl same ↦ absurd (differ (sym (length-map xs view)
+          ∙ length_of_counts _ _ (same_params-counts (map view xs) (map view ys) same) ∙ length-map ys view))
+      | inr unlike ↦ sym unlike
+    ]
+
+-- one parameter more that is the same in both
+pub front_more : {S : Type 0} (text : S → Text) (xs ys : List (S × S)) (i : ℕ) (x y : S × S) → i < length xs
+    → i < length ys → x ≡ get_or xs i x → y ≡ get_or ys i y
+    → map (param_value text) (take i xs) ≡ map (param_value text) (take i ys)
+    → param_eq (param_value text x) (param_value text y) ≡ true
+    → map (param_value text) (take (i + 1) xs) ≡ map (param_value text) (take (i + 1) ys)
+front_more text xs ys i x y h k at there front same =
+    let equal = param_eq-same (param_value text x) (param_value text y) same in
+    rw (take_more xs i x h, take_more ys i y k, ← at, ← there) (simp map-append (cc))
+
+-- what the comparison of two lists rests on
+pub ruleset comparing = (counted_from, slice_to_end, unlike_lists)

@@ -1,22 +1,164 @@
--- The walk over an element: what is known at each of its parameters, and where it ends.
-use Rattle.syslog_pieces.proofs.Names.{◌≡◌, ℕ, ◌+◌, ◌<◌, ◌≤◌, Bool, List, [], ◌∷◌, ◌++◌, ◌&&◌, length, refl, sym, ap}
-use Rattle.syslog_pieces.proofs.Names.{◌∙◌, subst, shown, encodes-chars, append_assoc, append-nil, and_parts, arith}
-use Rattle.syslog_pieces.proofs.Names.{nil_from_length, length-append, chars, IsUtf8, encode_utf8_all, IsTrue, flat_map}
-use Rattle.syslog_pieces.proofs.Names.{Text, Class, Front, NoFront, IsDeterministic, Row, exactly, texted, some_run}
-use Rattle.syslog_pieces.proofs.Names.{start, start_row, id_alone, inside, inside_row, opening, opening_row, quoted}
-use Rattle.syslog_pieces.proofs.Names.{closing, byte_count, IsDead, ElementValue, element, param, param_text, Leaves}
-use Rattle.syslog_pieces.proofs.Names.{Meets, meets_on, meets_none, row_none_here, row_of, ◌then◌, ◌also◌, row_det}
-use Rattle.syslog_pieces.proofs.Names.{begins, exactly_det, front_same, is_name_char, no_more, list_here, name_alone}
-use Rattle.syslog_pieces.proofs.Names.{tail_row, element_text, length-le-encodes, OneMeaning, IsWalked, element_seen}
-use Rattle.syslog_pieces.proofs.Names.{Walked, list_goes, more_goes, row_first, row_goes}
-use Rattle.syslog_pieces.proofs.PieceLemmas.Lists.{leaves_all, leaves_less, leaves_last}
-use Rattle.syslog_pieces.proofs.StructuredDataLemmas.Closing.{Passes, passes_here, passes_row, passes_opening}
-use Rattle.syslog_pieces.proofs.StructuredDataLemmas.Closing.{passes_space, passes_quoted, start_shut, element_starts}
-use Rattle.syslog_pieces.proofs.StructuredDataLemmas.Closing.{element_read, param_read, param_opens, no_opening}
-use Rattle.syslog_pieces.proofs.StructuredDataLemmas.Closing.{dead_whole, quoted_det, value_breaks}
-use Rattle.syslog_pieces.proofs.StructuredDataLemmas.Elements.{params_det, space_is_no_close}
-use Rattle.syslog_pieces.proofs.StructuredDataLemmas.ReadBack.{no_blanks, quoted_text}
-use Rattle.syslog_pieces.proofs.TextLemmas.Cuts.{bytes}
+-- The walk over lists: where an element ends, what is left, and the counts; and the list of RFC 3164.
+use Rattle.syslog_pieces.proofs.Names.{◌≡◌, start_row, many_cons, many_none, rows_step, and_parts, list_here, list_goes}
+use Rattle.syslog_pieces.proofs.Names.{◌<◌, more_goes, row_first, more_here, many_here, one_value, forgiving, bracketed}
+use Rattle.syslog_pieces.proofs.Names.{Some, None, List, ◌++◌, refl, Text, many, dash, Bool, Class, heads, false, value}
+use Rattle.syslog_pieces.proofs.Names.{inl, opening, closing, NoFront, row_goes, ∥∥₁_elim, row_head, param_of, is_blank}
+use Rattle.syslog_pieces.proofs.Names.{inr, ◌∷◌, sym, ◌∙◌, Row, ◌↔◌, ◌+◌, ◌≤◌, ◌&&◌, ◌⊎◌, item, true, map, run}
+use Rattle.syslog_pieces.proofs.Names.{[], opening_row, list_before, element_row, exactly_det, more_before, no_front_no}
+use Rattle.syslog_pieces.proofs.Names.{length, IsDeterministic, nil_from_length, length-le-encodes, append_cancel_right}
+use Rattle.syslog_pieces.proofs.Names.{ap, exactly, element, IsUtf8, IsTrue, texted, row_det, no_more, no_list, IsAlone}
+use Rattle.syslog_pieces.proofs.Names.{subst, arith, start, Front, param, Meets, shown, chars, IsMany, strict, Visits}
+use Rattle.syslog_pieces.proofs.Names.{inside_row, full_element, IsDashBefore, rfc3164_list, BeginsNoList, append_assoc}
+use Rattle.syslog_pieces.proofs.Names.{optional, param_text, meets_none, name_alone, OneMeaning, element_of, is_id_char}
+use Rattle.syslog_pieces.proofs.Names.{Values, ElementValue, length-append, row_none_here, sum_by-append, elements_text}
+use Rattle.syslog_pieces.proofs.Names.{DashRule, many_det, flat_map, some_run, id_alone, meets_on, tail_row, IsWalked}
+use Rattle.syslog_pieces.proofs.Names.{behind, no_many_no, row_pieces, append-nil, byte_count, sum_by-cons, elements_or}
+use Rattle.syslog_pieces.proofs.Names.{front_same, is_name_char, element_text, element_seen, one_value-is, is_open_char}
+use Rattle.syslog_pieces.proofs.Names.{optional_some, optional_none, ℕ, encodes-chars, encode_utf8_all, joined_elements}
+use Rattle.syslog_pieces.proofs.Names.{inside, quoted, IsDead, Leaves, row_of, ◌then◌, ◌also◌, begins, Walked, Option}
+use mathlib.Core.HLevel.{Σ_prop, ⊥_prop}
+use Rattle.syslog_pieces.specs.StructuredData.Recognised.{OneInside-prop, OneItems-prop, params_set, items_set}
+use Rattle.syslog_pieces.specs.StructuredData.Visited.{IsTallied, AreItems}
+use Rattle.syslog_pieces.specs.declared.structured_data.line_list.Tally.{Tally}
+use Rattle.syslog_pieces.proofs.StructuredDataLemmas.Closing.{start_det, element_enters, passes_opening, element_starts}
+use Rattle.syslog_pieces.proofs.StructuredDataLemmas.Closing.{no_start, start_shut, param_read, dead_whole, quoted_det}
+use Rattle.syslog_pieces.proofs.StructuredDataLemmas.Closing.{no_opening, Passes, passes_here, passes_row, param_opens}
+use Rattle.syslog_pieces.proofs.StructuredDataLemmas.Closing.{passes_space, passes_quoted, element_read, value_breaks}
+use Rattle.syslog_pieces.proofs.StructuredDataLemmas.Elements.{element_det, element_shorter, item_begins, run_no_close}
+use Rattle.syslog_pieces.proofs.StructuredDataLemmas.Elements.{dash_apart, params_det, space_is_no_close, no_blanks}
+use Rattle.syslog_pieces.proofs.StructuredDataLemmas.Elements.{quoted_text, param_det, item_det, strict_append}
+use Rattle.syslog_pieces.proofs.StructuredDataLemmas.Elements.{item_shorter, no_item_nil, no_forgiving_list}
+use Rattle.syslog_pieces.proofs.PieceLemmas.Lists.{leaves_all, leaves_less, leaves_last, list_cons, more_cons}
+use Rattle.syslog_pieces.proofs.PieceLemmas.Lists.{list_parts}
+use Rattle.syslog_pieces.proofs.TextLemmas.Runs.{bytes}
+use Rattle.syslog_pieces.proofs.PieceLemmas.Class.{IsSteady, alone_steady, exactly_alone, run_steady, some_run_steady}
+use Rattle.syslog_pieces.proofs.PieceLemmas.Class.{texted_steady, mapped_alone, row_alone, closed_steady}
+use Rattle.syslog_pieces.proofs.PieceLemmas.Class.{list_before_steady}
+
+-- ---- elements with a parameter
+pub full_element_det : IsDeterministic full_element
+full_element_det p q p' q' v v' e h h' = element_det p q p' q' v v' e h.0 h'.0
+
+pub full_is_element : {t q : Text} {v : ElementValue} → Front full_element t q v → Front element t q v
+full_is_element f = record { piece = f.piece; whole = f.whole; is = f.is.0 }
+
+pub full_shorter : (t u : Text) (v : ElementValue) → Front full_element t u v → length u < length t
+full_shorter t u v f = element_shorter t u v (full_is_element f)
+
+pub bare_is_not_full : (t q : Text) (v : ElementValue) → Front element t q v → length v.params ≡ 0
+    → NoFront full_element t
+bare_is_not_full t q v f z p r w e h =
+    let s = front_same element element_det f (record { piece = p; whole = e; is = h.0 }) in
+    let k = ap (λ (x : ElementValue). length x.params) s.1 in
+    omega (arith, h.1, k, z)
+
+-- where no element begins the text, none with a parameter does
+pub none_full : {t : Text} → NoFront element t → NoFront full_element t
+none_full n p q v w h = n p q v w h.0
+
+-- such an element begins with a bracket
+pub full_begins : (p q : Text) (v : ElementValue) → full_element.Is p q v → (r : Text) × (p ++ q ≡ 91 ∷ r)
+full_begins p q v h = item_begins p q (Some v) h.0
+
+pub no_full_unopened : (t : Text) → NoFront (exactly (91 ∷ [])) t → NoFront full_element t
+no_full_unopened t n p q v e h = let s = full_begins p q v h in n (91 ∷ []) s.0 tt (e ∙ s.1) refl
+
+pub no_full_nil : NoFront full_element []
+no_full_nil p q v e h = let s = full_begins p q v h in let t : [] ≡ 91 ∷ s.0 = e ∙ s.1 in cc
+
+-- ---- the list
+pub rfc3164_list_det : (rule : DashRule) → IsDeterministic (rfc3164_list rule)
+rfc3164_list_det rule p q p' q' es es' e (inl (f, u, g)) (inl (f', u', g')) = (f ∙ sym f', g ∙ sym g')
+rfc3164_list_det rule p q p' q' es es' e (inl (f, u, g)) (inr (l, m)) =
+    absurd (dash_apart full_element full_begins p q p' q' es' f l m e)
+rfc3164_list_det rule p q p' q' es es' e (inr (l, m)) (inl (f, u, g)) =
+    absurd (dash_apart full_element full_begins p' q' p q es f l m (sym e))
+rfc3164_list_det rule p q p' q' es es' e (inr (l, m)) (inr (l', m')) =
+    many_det full_element full_element_det p q p' q' es es' e m m'
+
+pub dash_rfc3164_list : (rule : DashRule) (t q : Text) → t ≡ 45 ∷ q → IsDashBefore rule q
+    → Front (rfc3164_list rule) t q []
+dash_rfc3164_list rule t q e a = record { piece = dash; whole = e; is = inl (refl, a, refl) }
+
+-- what the reader of a list that is a dash cites
+pub ruleset dash_list = (dash_rfc3164_list, optional_some)
+
+-- no list begins the text where neither of its two kinds does
+pub no_rfc3164_list : (rule : DashRule) (t : Text) → BeginsNoList rule t → NoFront (rfc3164_list rule) t
+no_rfc3164_list rule t (n, m) p q es e (inl (f, u, g)) = n q (e ∙ ap (λ (x : Text). x ++ q) f) u
+no_rfc3164_list rule t (n, m) p q [] e (inr (l, h)) = omega arith
+no_rfc3164_list rule t (n, m) p q (v ∷ vs) e (inr (l, (a, b, i, k, more))) = m a (b ++ q) v (e ∙ behind p a b q i) k
+
+-- and the other way: an element that begins it begins a list
+pub full_rfc3164_list : (rule : DashRule) (t q : Text) (v : ElementValue) → Front full_element t q v
+    → ((r : Text) (es : List ElementValue) → 0 < length es → Front (rfc3164_list rule) t r es → ⊥) → ⊥
+full_rfc3164_list rule t q v f k = no_many_no full_element full_shorter (length q) q (omega arith) (λ r vs g.
+    let all = many_cons full_element f g in
+    k r (v ∷ vs) (omega arith) (record { piece = all.piece; whole = all.whole; is = inr (omega arith, all.is) }))
+
+pub begins_no_list : (rule : DashRule) (t : Text) → NoFront (rfc3164_list rule) t → BeginsNoList rule t
+begins_no_list rule t n = (
+  λ q e a. n dash q [] e (inl (refl, a, refl)),
+  λ p q v e h. full_rfc3164_list rule t q v (record { piece = p; whole = e; is = h })
+      (λ r es l f. n f.piece r es f.whole f.is),
+)
+
+pub no_list_is : (rule : DashRule) (t : Text) → NoFront (rfc3164_list rule) t ↔ BeginsNoList rule t
+no_list_is rule t = (begins_no_list rule t, no_rfc3164_list rule t)
+
+-- no dash begins the text, and no element does
+pub list_absent : (rule : DashRule) (t q : Text) (es : List ElementValue)
+    → ((r : Text) → t ≡ 45 ∷ r → IsDashBefore rule r → ⊥) → Front (many full_element) t q es → es ≡ []
+    → Front (optional (rfc3164_list rule)) t t None
+list_absent rule t q es n f z =
+    optional_none (rfc3164_list rule) (no_rfc3164_list rule t (n, many_none full_element t q (rw z at f)))
+
+-- ---- recognising an element with a parameter
+
+-- the parameters of an element, after its start
+element_params : {t u q : Text} {vs : Values start_row} {v : ElementValue} → Front start t u vs → Front element t q v
+    → (r : Text) × Front (list_before param 32 93) u r v.params
+element_params {t = t} {u = u} {q = q} f g =
+    let row : Front (Row element_row) t q g.is.0 = record { piece = g.piece; whole = g.whole; is = g.is.1 } in
+    let (r, list, _) = row_pieces inside_row (rows_step start_row inside_row start_det f row).1 in
+    (r, subst (λ (x : ElementValue). Front (list_before param 32 93) u r x.params) (sym g.is.2) list)
+
+some_params : (t r : Text) (ps : List (Text × Text)) → NoFront (exactly (93 ∷ [])) t
+    → Front (list_before param 32 93) t r ps → 0 < length ps
+some_params t r [] n f = absurd (n (93 ∷ []) f.is.1.0 tt (f.whole ∙ ap (λ (x : Text). x ++ r) f.is.0 ∙ f.is.1.1) refl)
+some_params t r (p ∷ ps) n f = omega arith
+
+first_param : (t r : Text) (ps : List (Text × Text)) → NoFront param t → 0 < length ps
+    → Front (list_before param 32 93) t r ps → ⊥
+first_param t r [] n l f = omega arith
+first_param t r (p ∷ ps) n l f = let (a, b, i, k, more) = f.is.0 in n a (b ++ r) p (f.whole ∙ behind f.piece a b r i) k
+
+-- no parameter begins with a bracket
+opening_open : (t u : Text) (ws : Values opening_row) → Front opening t u ws → NoFront (exactly (93 ∷ [])) t
+opening_open t u ws f p q v e h =
+    let (r, name, _) = row_pieces opening_row f in
+    run_no_close name.piece r q name.is.1.0 name.is.1.1 (sym name.whole ∙ e ∙ ap (λ (x : Text). x ++ q) h)
+
+pub no_full_start : (t : Text) → NoFront start t → NoFront full_element t
+no_full_start t n p q v e h = no_start n p q v e h.0
+
+module _ (t u : Text) (vs : Values start_row) (f : Front start t u vs) where
+  pub no_full_opening : NoFront opening u → NoFront full_element t
+  no_full_opening n p q v e h =
+      let (r, l) = element_params f (record { piece = p; whole = e; is = h.0 }) in
+      first_param u r v.params (no_opening n) h.1 l
+
+  pub full_goes : (x : Text) (ws : Values opening_row) → Front opening u x ws → Meets full_element t closing x
+  full_goes x ws g =
+      let n = opening_open u x ws g in
+      let m = (element_enters f x ws n g).1 in
+      record {
+        forth = λ q v h. (
+            let k = m.forth q v h in
+            let (r, l) = element_params f k.1 in
+            (k.0, record { piece = k.1.piece; whole = k.1.whole; is = (k.1.is, some_params u r k.0.params n l) }));
+        back = λ q w h. m.back q w (full_is_element h);
+      }
 
 -- ---- one thing more, and then a text
 pub flat_map_more : {A : Type 0} (f : A → Text) (xs : List A) (x : A) (y : Text)
@@ -165,3 +307,340 @@ walked {text = text} {w = w} e u s f p l = record {
   prints = λ t. subst (λ (x : ElementValue). text ≡ element_text x ++ shown w.rest) (sym s) (p t);
   few = subst (λ (x : ElementValue). length x.params + length (shown w.rest) ≤ length text) (sym s) l;
 }
+
+-- ---- what is left of a recognised element and of a recognised list, one parameter or one item less
+pub inside_same : {t : Text} (m n : OneMeaning inside t) → (one_value m).0 ≡ (one_value n).0
+inside_same {t = t} m n = ap (λ (x : OneMeaning inside t). (one_value x).0) (OneInside-prop t m n)
+
+pub items_same : {t : Text} (m n : OneMeaning (many item) t) → one_value m ≡ one_value n
+items_same {t = t} m n = ap (λ (x : OneMeaning (many item) t). one_value x) (OneItems-prop t m n)
+
+-- ---- parameters
+close : {t r : Text} → t ≡ 93 ∷ r → Front (exactly (93 ∷ [])) t r tt
+close e = record { piece = 93 ∷ []; whole = e; is = refl }
+
+inside_from : {t u r : Text} {vs : List (Text × Text)} → Front (list_before param 32 93) t u vs → u ≡ 93 ∷ r
+    → Front inside t r (vs, (tt, tt))
+inside_from f e = row_of inside_row (f then close e then refl)
+
+pub no_params : {t q : Text} (m : OneMeaning inside t) → Front (exactly (93 ∷ [])) t q tt → (one_value m).0 ≡ []
+no_params {t = t} {q = q} m f =
+    let e = begins 93 t q f in ap (λ v. v.0) (one_value-is m (inside_from (list_here param 32 93 t q e) e))
+
+pub not_inside : {t : Text} → OneMeaning inside t → NoFront (exactly (93 ∷ [])) t → NoFront param t → ⊥
+not_inside {t = t} m n k = ∥∥₁_elim m.1.0 ⊥_prop
+    (λ f. no_front_no inside (row_none_here _ (exactly (93 ∷ []) ∷ []) (no_list param 32 93 t n k)) f.1)
+
+-- the text after the first parameter and the separator after it
+abbrev pub IsNext : Text → Text → Type 0
+IsNext u z = (u ≡ 32 ∷ z) ⊎ (NoFront (exactly (32 ∷ [])) u × (u ≡ z))
+
+-- the parameters that are left there
+abbrev Rests : (t z : Text) → Text × Text → Type 0
+Rests t z v = (r : Text) × ((ws : List (Text × Text)) × Front inside z r (ws, (tt, tt))
+    × Front inside t r (v ∷ ws, (tt, tt)))
+
+tail_rests : {t u z q : Text} {v : Text × Text} (ws : List (Text × Text)) → Front param t u v → IsNext u z
+    → Front (more_before param 32 93) u q ws → Rests t z v
+tail_rests {t = t} {u = u} {z = z} {q = q} {v = v} [] f (inl e) g =
+    let end = g.whole ∙ ap (λ (x : Text). x ++ q) g.is.0 ∙ g.is.1.1 in
+    let no : 32 ∷ z ≡ 93 ∷ g.is.1.0 = sym e ∙ end in absurd (space_is_no_close (heads 32 93 z g.is.1.0 no))
+tail_rests {u = u} {z = z} {q = q} (w ∷ ws) f (inl e) g =
+    let (a, b, i, k, more) = g.is.0 in
+    let (r, end) = g.is.1 in
+    let same : 32 ∷ z ≡ 32 ∷ (a ++ b ++ q) = sym e ∙ g.whole ∙ ap (λ (x : Text). x ++ q) i in
+    let second : Front param z (b ++ q) w =
+    record { piece = a; whole = (let y : z ≡ a ++ b ++ q = cc in y) ∙ append_assoc a b q; is = k } in
+    let others : Front (more_before param 32 93) (b ++ q) q ws =
+    record { piece = b; whole = refl; is = (more, g.is.1) } in (
+      r,
+      (
+        w ∷ ws,
+        inside_from (list_cons param 32 93 second others) end,
+        inside_from (list_cons param 32 93 f (more_cons param 32 93 e second others)) end,
+      ),
+    )
+tail_rests {t = t} {u = u} {z = z} {q = q} [] f (inr (n, e)) g =
+    let same = g.whole ∙ ap (λ (x : Text). x ++ q) g.is.0 in
+    let end = same ∙ g.is.1.1 in (
+      g.is.1.0,
+      (
+        [],
+        inside_from (list_here param 32 93 z _ (sym e ∙ end)) (sym e ∙ end),
+        inside_from (list_cons param 32 93 f (more_here param 32 93 u _ end)) end,
+      ),
+    )
+tail_rests {u = u} {z = z} {q = q} (w ∷ ws) f (inr (n, e)) g =
+    let (a, b, i, k, more) = g.is.0 in
+    absurd (n (32 ∷ []) (a ++ b ++ q) tt (g.whole ∙ ap (λ (x : Text). x ++ q) i) refl)
+
+pub params_less : {t u z : Text} {v : Text × Text} (m : OneMeaning inside t) → NoFront (exactly (93 ∷ [])) t
+    → Front param t u v → IsNext u z → (k : OneMeaning inside z) × ((one_value m).0 ≡ v ∷ (one_value k).0)
+params_less {t = t} {u = u} {z = z} {v = v} m n f e = ∥∥₁_elim m.1.0
+    (Σ_prop (OneInside-prop z) (λ k. params_set (one_value m).0 (v ∷ (one_value k).0))) (λ x.
+    let (s, list, close) = row_head (list_before param 32 93) (exactly (93 ∷ []) ∷ []) x.1 in
+    let (w, ws, r, g, more) = list_parts param 32 93 t list.piece s _ n list.whole list.is in
+    let there = subst (λ (y : Text). Front (more_before param 32 93) y s ws) (front_same param param_det g f).0 more in
+    let (q, (ds, rest, all)) = tail_rests ws f e there in
+    let k = one_meaning inside inside_det rest in (
+      k,
+      ap (λ y. y.0) (one_value-is m all)
+          ∙ ap (λ (y : List (Text × Text)). v ∷ y) (sym (ap (λ y. y.0) (one_value-is k rest))),
+    ))
+
+-- ---- items
+first_item : {t u : Text} {v : Option ElementValue} (m : OneMeaning (many item) t) → Front item t u v → (q : Text)
+    (vs : List (Option ElementValue)) → Front (many item) t q vs
+    → (k : OneMeaning (many item) u) × (one_value m ≡ v ∷ one_value k)
+first_item m f q [] g = absurd (no_front_no item (many_none item _ q g) f)
+first_item {t = t} {u = u} {v = v} m f q (w ∷ ws) g =
+    let (a, b, i, h, more) = g.is in
+    let one : Front item t (b ++ q) w = record { piece = a; whole = g.whole ∙ behind g.piece a b q i; is = h } in
+    let rest : Front (many item) (b ++ q) q ws = record { piece = b; whole = refl; is = more } in
+    let there = subst (λ (y : Text). Front (many item) y q ws) (front_same item item_det one f).0 rest in
+    let k = one_meaning (many item) (many_det item item_det) there in (
+      k,
+      one_value-is m (many_cons item f there)
+          ∙ ap (λ (y : List (Option ElementValue)). v ∷ y) (sym (one_value-is k there)),
+    )
+
+pub items_less : {t u : Text} {v : Option ElementValue} (m : OneMeaning (many item) t) → Front item t u v
+    → (k : OneMeaning (many item) u) × (one_value m ≡ v ∷ one_value k)
+items_less {u = u} {v = v} m f = ∥∥₁_elim m.1.0
+    (Σ_prop (OneItems-prop u) (λ k. items_set (one_value m) (v ∷ one_value k))) (λ x. first_item m f x.0 m.0 x.1)
+
+pub no_elements : {t : Text} (m : OneMeaning (many item) t) → NoFront item t → one_value m ≡ []
+no_elements {t = t} m n = one_value-is m (many_here item t n)
+
+-- ---- items, whatever follows the list
+value_steady : IsSteady value
+value_steady p c q r v (h, z, e) = (h, closed_steady 34 c q r z, e)
+
+param_alone : IsAlone param
+param_alone = mapped_alone _ (Text × Text) param_of (row_alone 34 (texted (some_run is_name_char) ∷ exactly (61 ∷ [])
+    ∷ run is_blank ∷ exactly (34 ∷ []) ∷ value ∷ []) (texted_steady (some_run is_name_char)
+    (some_run_steady is_name_char) also alone_steady (exactly (61 ∷ [])) (exactly_alone (61 ∷ []))
+    also run_steady is_blank also alone_steady (exactly (34 ∷ [])) (exactly_alone (34 ∷ [])) also value_steady
+    also tt))
+
+element_alone : IsAlone element
+element_alone = mapped_alone _ ElementValue element_of (row_alone 93 (exactly (91 ∷ []) ∷ texted (some_run is_id_char)
+    ∷ run is_blank ∷ list_before param 32 93 ∷ []) (alone_steady (exactly (91 ∷ [])) (exactly_alone (91 ∷ []))
+    also texted_steady (some_run is_id_char) (some_run_steady is_id_char) also run_steady is_blank
+    also list_before_steady param 32 93 param_alone also tt))
+
+bracketed_alone : IsAlone bracketed
+bracketed_alone = row_alone 93 (exactly (91 ∷ []) ∷ run is_open_char ∷ [])
+    (alone_steady (exactly (91 ∷ [])) (exactly_alone (91 ∷ [])) also run_steady is_open_char also tt)
+
+-- where none begins a longer text, none begins this one
+no_element_shorter : (t q : Text) → NoFront element (t ++ q) → NoFront element t
+no_element_shorter t q n p r e w h =
+    n p (r ++ q) e (behind t p r q w) (element_alone p r (r ++ q) e h)
+
+items_alone : (p q : Text) (vs : List (Option ElementValue)) → IsMany item p q vs → IsMany item p [] vs
+items_alone p q [] h = (h.0, no_item_nil)
+items_alone p q (Some e ∷ vs) (a, b, w, h, more) =
+    (a, b, w, element_alone a (b ++ q) (b ++ []) e h, items_alone b q vs more)
+items_alone p q (None ∷ vs) (a, b, w, h, more) = (
+  a,
+  b,
+  w,
+  (
+    subst (λ (x : Text). NoFront element (a ++ x)) (sym (append-nil b)) (no_element_shorter (a ++ b) q
+        (subst (λ (x : Text). NoFront element x) (sym (append_assoc a b q)) h.0)),
+    bracketed_alone a (b ++ q) (b ++ []) (tt, (tt, (tt, tt))) h.1,
+  ),
+  items_alone b q vs more,
+)
+
+full_alone : (p q : Text) (es : List ElementValue) → IsMany full_element p q es → IsMany item p [] (map Some es)
+full_alone p q [] h = (h.0, no_item_nil)
+full_alone p q (e ∷ es) (a, b, w, h, more) =
+    (a, b, w, element_alone a (b ++ q) (b ++ []) e h.0, full_alone b q es more)
+
+pub are_items : {t q : Text} {vs : List (Option ElementValue)} → Front (many item) t q vs → AreItems t q vs
+are_items {q = q} {vs = vs} f = record {
+  piece = f.piece;
+  whole = f.whole;
+  items = record { piece = f.piece; whole = sym (append-nil f.piece); is = items_alone f.piece q vs f.is };
+}
+
+pub are_full_items : {t q : Text} {es : List ElementValue} → Front (many full_element) t q es → AreItems t q (map Some es)
+are_full_items {q = q} {es = es} f = record {
+  piece = f.piece;
+  whole = f.whole;
+  items = record { piece = f.piece; whole = sym (append-nil f.piece); is = full_alone f.piece q es f.is };
+}
+
+-- ---- the own text of a list
+module _ {t rest own : Text} (cut : t ≡ own ++ rest) where
+  pub own_items : {vs : List (Option ElementValue)} → AreItems t rest vs → Front (many item) own [] vs
+  own_items {vs = vs} a = subst (λ (x : Text). Front (many item) x [] vs)
+      (append_cancel_right a.piece own rest (sym a.whole ∙ cut)) a.items
+
+  pub own_printed : {end printed joined : Text} → (between : Text) × (end ≡ between ++ rest) → t ≡ joined ++ end
+      → t ≡ printed ++ end → (printed ≡ joined) × ((left : Text) × (own ≡ printed ++ left))
+  own_printed {end = end} {printed = printed} {joined = joined} (between, e) f g = (
+    append_cancel_right printed joined end (sym g ∙ f),
+    (
+      between,
+      append_cancel_right own (printed ++ between) rest (sym cut ∙ g
+          ∙ ap (λ (x : Text). printed ++ x) e ∙ sym (append_assoc printed between rest)),
+    ),
+  )
+
+pub some_joined : (es : List ElementValue) → 0 < length es → joined_elements es ≡ elements_text es
+some_joined [] l = absurd (omega arith)
+some_joined (e ∷ es) l = refl
+
+-- ---- the count of a list, as far as it was walked: where the second mark says so, nothing was left out
+pub record Counts (text rest : Text) (es : List ElementValue) (tally : Tally) (strict : Bool) : Type 0 where
+  pub tallied : IsTallied text rest es tally
+  pub level : IsTrue strict → shown tally.end ≡ rest
+  pub elements : tally.elements + length rest ≤ length text
+  pub params : tally.params + length rest ≤ length text
+
+pub counts_none : (text : Text) (tally : Tally) → IsUtf8 tally.end.now → tally.elements ≡ 0 → tally.params ≡ 0
+    → shown tally.end ≡ text → Counts text text [] tally true
+counts_none text tally u e p s = record {
+  tallied = record {
+    utf8 = u;
+    elements = e;
+    params = p;
+    after = ([], s);
+    prints = λ t. sym s;
+  };
+  level = λ t. s;
+  elements = omega (arith, e);
+  params = omega (arith, p);
+}
+
+-- an element more, whose mark is that of the walk and of the list
+pub counts_more : {text rest : Text} {es : List ElementValue} {tally new : Tally} {strict : Bool} {w : Walked}
+    → Counts text rest es tally strict → IsWalked rest w → length (shown w.rest) < length rest
+    → new.elements ≡ tally.elements + 1 → new.params ≡ tally.params + length (element_seen w.element).params
+    → new.end ≡ w.rest → (IsTrue new.prints → IsTrue tally.prints × IsTrue w.prints × IsTrue strict)
+    → Counts text (shown w.rest) (es ++ (element_seen w.element ∷ [])) new strict
+counts_more {text = text} {rest = rest} {es = es} {tally = tally} {new = new} {strict = strict} {w = w} c k l n m e p =
+    let t = c.tallied in
+    let x = element_seen w.element in
+    let same : shown new.end ≡ shown w.rest = ap (λ s. shown s) e in
+    record {
+      tallied = record {
+        utf8 = subst (λ s. IsUtf8 s.now) (sym e) k.utf8;
+        elements = n ∙ one_more es x t.elements;
+        params = m ∙ omega (
+          arith,
+          t.params,
+          sum_by-append (λ d. length d.params) es (x ∷ []),
+          sum_by-cons (λ d. length d.params) x [],
+        );
+        after = ([], same);
+        prints = λ all. (
+            let (a, b, d) = p all in
+            t.prints a ∙ ap (λ (y : Text). joined_elements es ++ y) (c.level d ∙ k.prints b)
+            ∙ sym (flat_map_more element_text es x (shown w.rest))
+            ∙ ap (λ (y : Text). joined_elements (es ++ (x ∷ [])) ++ y) (sym same));
+      };
+      level = λ d. same;
+      elements = omega (arith, c.elements, n, l);
+      params = omega (arith, c.params, m, k.few);
+    }
+
+-- a broken element more
+pub counts_broken : {text rest next : Text} {es : List ElementValue} {tally : Tally} {strict : Bool} (p : Text)
+    → Counts text rest es tally strict → rest ≡ p ++ next → Counts text next es tally false
+counts_broken {next = next} p c e = record {
+  tallied = record {
+    utf8 = c.tallied.utf8;
+    elements = c.tallied.elements;
+    params = c.tallied.params;
+    after = (
+      c.tallied.after.0 ++ p,
+      c.tallied.after.1 ∙ ap (λ (y : Text). c.tallied.after.0 ++ y) e
+          ∙ sym (append_assoc c.tallied.after.0 p next),
+    );
+    prints = c.tallied.prints;
+  };
+  level = λ t. cc;
+  elements = omega (arith, c.elements, ap length e, length-append p next);
+  params = omega (arith, c.params, ap length e, length-append p next);
+}
+
+-- ---- what a visitor was given, one element more
+pub visits_none : {V : Type 0} (given : V → V → List ElementValue → Type 0) (v : V) → Visits given v [] v
+visits_none given v first ds h = subst (λ (x : List ElementValue). given first v x) (sym (append-nil ds)) h
+
+pub visits_more : {V : Type 0} (given : V → V → List ElementValue → Type 0) (old mid new : V) (es : List ElementValue)
+    (x : ElementValue) → Visits given old es mid → Visits given mid (x ∷ []) new → Visits given old (es ++ (x ∷ [])) new
+visits_more given old mid new es x m step first ds h =
+    subst (λ (y : List ElementValue). given first new y) (append_assoc ds es (x ∷ []))
+    (step first (ds ++ es) (m first ds h))
+
+pub strict_more : (vs : List (Option ElementValue)) (x : ElementValue) → strict vs ++ (x ∷ [])
+    ≡ strict (vs ++ (Some x ∷ []))
+strict_more vs x = sym (strict_append vs (Some x ∷ []))
+
+pub strict_same : (vs : List (Option ElementValue)) → strict vs ≡ strict (vs ++ (None ∷ []))
+strict_same vs = sym (strict_append vs (None ∷ []) ∙ append-nil (strict vs))
+
+pub counts_along : {text rest : Text} {es ds : List ElementValue} {tally : Tally} {strict : Bool} → es ≡ ds
+    → Counts text rest es tally strict → Counts text rest ds tally strict
+counts_along {text = text} {rest = rest} {tally = tally} {strict = strict} e c =
+    subst (λ (x : List ElementValue). Counts text rest x tally strict) e c
+
+pub visits_along : {V : Type 0} (given : V → V → List ElementValue → Type 0) (old new : V) (es ds : List ElementValue)
+    → es ≡ ds → Visits given old es new → Visits given old ds new
+visits_along given old new es ds e v = subst (λ (x : List ElementValue). Visits given old x new) e v
+
+pub tallied_along : {text rest : Text} {es ds : List ElementValue} {tally : Tally} → es ≡ ds
+    → IsTallied text rest es tally → IsTallied text rest ds tally
+tallied_along {text = text} {rest = rest} {tally = tally} e t =
+    subst (λ (x : List ElementValue). IsTallied text rest x tally) e t
+
+-- ---- whether there is a list
+items_none : {t q : Text} (vs : List (Option ElementValue)) → Front (many item) t q vs → length t ≤ length q → vs ≡ []
+items_none [] f l = refl
+items_none {q = q} (v ∷ vs) f l =
+    let (a, b, w, h, more) = f.is in
+    let first : Front item (a ++ (b ++ q)) (b ++ q) v = record { piece = a; whole = refl; is = h } in
+    absurd (omega (arith, l, item_shorter _ _ v first, ap length (f.whole ∙ behind f.piece a b q w), length-append b q))
+
+-- a list with no character has no element
+pub none_strict : {t q : Text} {vs : List (Option ElementValue)} (own : Text) → Front (many item) t q vs
+    → t ≡ own ++ q → length own ≡ 0 → strict vs ≡ []
+none_strict {q = q} {vs = vs} own f e l =
+    ap strict (items_none vs f (omega (arith, ap length e, length-append own q, l)))
+
+-- a list with no character, where no dash begins the text
+pub no_forgiving : {t q : Text} {vs : List (Option ElementValue)} (own : Text) → NoFront (exactly dash) t
+    → Front (many item) t q vs → t ≡ own ++ q → length own ≡ 0 → NoFront forgiving t
+no_forgiving {t = t} {q = q} {vs = vs} own n f e l =
+    no_forgiving_list t q vs n f (items_none vs f (omega (arith, ap length e, length-append own q, l)))
+
+-- a list with a character
+pub some_forgiving : {t q : Text} (own : Text) (vs : List (Option ElementValue)) → Front (many item) t q vs → t ≡ own ++ q
+    → 0 < length own → Front forgiving t q (strict vs)
+some_forgiving {q = q} own [] f e l =
+    let same = f.whole ∙ ap (λ (x : Text). x ++ q) f.is.0 in
+    absurd (omega (arith, ap length (sym same ∙ e), length-append own q))
+some_forgiving own (v ∷ vs) f e l =
+    record { piece = f.piece; whole = f.whole; is = inr (v ∷ vs, omega arith, f.is, refl) }
+
+-- elements with a parameter, of which there may be none
+pub optional_full : (rule : DashRule) {t q : Text} (es : List ElementValue)
+    → ((r : Text) → t ≡ 45 ∷ r → IsDashBefore rule r → ⊥) → Front (many full_element) t q es
+    → (os : Option (List ElementValue)) × Front (optional (rfc3164_list rule)) t q os × (es ≡ elements_or os)
+optional_full rule {t = t} {q = q} [] n f =
+    let same = f.whole ∙ ap (λ (x : Text). x ++ q) f.is.0 in (
+      None,
+      subst (λ (x : Text). Front (optional (rfc3164_list rule)) t x None) same
+          (list_absent rule t q [] n f refl),
+      refl,
+    )
+optional_full rule (e ∷ es) n f = (
+  Some (e ∷ es),
+  optional_some (rfc3164_list rule) (record { piece = f.piece; whole = f.whole; is = inr (omega arith, f.is) }),
+  refl,
+)

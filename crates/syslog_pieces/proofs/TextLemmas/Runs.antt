@@ -1,16 +1,164 @@
--- Runs: of bytes, and of the characters that they are.
-use Rattle.syslog_pieces.proofs.Names.{◌≡◌, ◌≤◌, ◌<◌, ℕ, zero, suc, Bool, true, not, nat_lt, List, [], ◌∷◌, ◌++◌}
-use Rattle.syslog_pieces.proofs.Names.{length, get_or, take, drop, refl, sym, ap, ◌∙◌, inl, inr, add-one, add-zero}
-use Rattle.syslog_pieces.proofs.Names.{arith, length-drop, take-append-drop, cases_Bool, cases_lt, and_parts, and_left}
-use Rattle.syslog_pieces.proofs.Names.{ltb-true, lt-ltb, chars-IsAscii, IsCharBoundary-after_ascii, IsUtf8-take}
-use Rattle.syslog_pieces.proofs.Names.{IsUtf8-drop, chars, IsUtf8, IsCharBoundary, Text, Class, Front, NoFront, Each}
-use Rattle.syslog_pieces.proofs.Names.{Ends, run, some_run, IsRun, EndsRun, SplitsRun, byte_in, past_in, has, CharClass}
-use Rattle.syslog_pieces.proofs.Names.{run_same, each_map, length-take}
-use Rattle.std.proofs.Common.{get_or-take, get_or-drop}
+-- From the bytes of a text to its characters: cuts, runs, and what the first bytes say.
+use Rattle.syslog_pieces.proofs.Names.{◌≡◌, IsAscii, add-one, NoFront, run_same, each_map, is_blank, not-true, and_from}
+use Rattle.syslog_pieces.proofs.Names.{◌≢◌, false, arith, chars, Option, IsHost, nat_lt, lt-ltb, number, map-id, IsBare}
+use Rattle.syslog_pieces.proofs.Names.{ℕ, IsAscii-nil, IsAscii-cons, IsUtf8-take, length-drop, IsUtf8-drop, length-take}
+use Rattle.syslog_pieces.proofs.Names.{◌<◌, Bool, true, List, ◌++◌, Text, Each, Ends, Front, Names, Class, IsRun, subst}
+use Rattle.syslog_pieces.proofs.Names.{nat_eq, chars-append, encodes-chars, chars-IsAscii, length-append, is_whitespace}
+use Rattle.syslog_pieces.proofs.Names.{[], length, get_or, IsUtf8, EndsRun, byte_in, past_in, exactly, IsRunIn, trimmed}
+use Rattle.syslog_pieces.proofs.Names.{◌∷◌, sym, ◌∙◌, take, drop, Some, None, word, host, zero, refl, cond, Fits, ◌&&◌}
+use Rattle.syslog_pieces.proofs.Names.{ap, suc, ◌-◌, ◌≤◌, inl, inr, not, run, has, ◌+◌, ◌%◌, ◌^◌, map, eqb-true}
+use Rattle.syslog_pieces.proofs.Names.{bytes_eq, add-zero, cases_lt, and_left, ltb-true, some_run, not-false, nat_tests}
+use Rattle.syslog_pieces.proofs.Names.{IsUtf8-from_ascii, IsCharBoundary-at_seam, IsCharBoundary-after_ascii, chars-nil}
+use Rattle.syslog_pieces.proofs.Names.{encodes-IsAscii, drop-append_seam, take-append_seam, take-append-drop}
+use Rattle.syslog_pieces.proofs.Names.{is_ascii_digit, encode_utf8_all, encodes-append, IsCharBoundary, agree_below_at}
+use Rattle.syslog_pieces.proofs.Names.{name_text, cases_Bool, and_parts, SplitsRun, CharClass, agree_below, length-map}
+use Rattle.syslog_pieces.proofs.Names.{get_or-drop, leb, ltb, eqb, replicate, w8, bit_or, ◌||◌, byte_from_char}
+use Rattle.syslog_pieces.proofs.Names.{char_from_byte, IsCharBoundary-start, chars-encodes, scalars-chars, drop_more}
+use Rattle.syslog_pieces.proofs.Names.{get_or_append_left, beq, BeginsVisibly, BeginsWithGap, EndsDigits}
+use Rattle.std.proofs.Common.{get_or-take}
+use Rattle.std.proofs.lemmas.Slice.Eq.{bytes_eq-Decides}
 use Rattle.std.proofs.lemmas.Bool.{le-ltb, not_from_true}
-use Rattle.std.proofs.lemmas.Str.{IsCharBoundary-start}
-use Rattle.syslog_pieces.proofs.TextLemmas.Chars.{chars_cut, chars_nonempty, chars_empty, ends_by_byte, low_ascii}
-use Rattle.syslog_pieces.proofs.TextLemmas.Chars.{nonempty_is}
+use Rattle.std.specs.Int.RustNames.{bit_xor}
+use Rattle.std.proofs.lemmas.Simd.{first_set_mask_l, run_in_chunk_fails, run_in_chunk_le, run_in_chunk_stops, map-map}
+use Rattle.std.proofs.lemmas.Simd.{mask_l-mod, length-chunk, zip2_of_maps, zip2_splat, splat_is_map}
+use Rattle.std.specs.Str.{all_scalars, trim, trim_start, trim_end, skip_leading_whitespace, drop_trailing_whitespace}
+use mir.Val.{bool_byte}
+use lib.Lanes.{chunk, zip2, mask_l, top}
+use lib.Utf8.{scalar}
+use Rattle.syslog_pieces.specs.Bodies.Scan.{first_set}
+pub use Rattle.std.proofs.lemmas.Bool.{not-true as from_not_true}
+
+-- ---- texts and their bytes
+pub same_chars : (bs ds : List ℕ) → IsUtf8 bs → IsUtf8 ds → chars bs ≡ chars ds → bs ≡ ds
+same_chars bs ds u v e = sym (encodes-chars bs u) ∙ ap encode_utf8_all e ∙ encodes-chars ds v
+
+pub chars_empty : (bs : List ℕ) → length bs ≡ 0 → length (chars bs) ≡ 0
+chars_empty [] e = ap length chars-nil
+chars_empty (b ∷ bs) e = absurd (omega arith)
+
+some_encodes : (cs : Text) (bs : List ℕ) → encode_utf8_all cs ≡ bs → 0 < length bs → 0 < length cs
+some_encodes [] bs e l = absurd (omega (arith, ap length e))
+some_encodes (c ∷ cs) bs e l = omega arith
+
+pub chars_nonempty : (bs : List ℕ) → IsUtf8 bs → 0 < length bs → 0 < length (chars bs)
+chars_nonempty bs u l = some_encodes (chars bs) bs (encodes-chars bs u) l
+
+-- a text whose characters are ASCII is its characters
+pub ascii_chars : (bs : List ℕ) → IsUtf8 bs → IsAscii (chars bs) → chars bs ≡ bs
+ascii_chars bs u a = sym (encodes-IsAscii (chars bs) a) ∙ encodes-chars bs u
+
+pub low_ascii : (test : ℕ → Bool) (cs : Text) → ((c : ℕ) → test c ≡ true → c < 128) → Each test cs → IsAscii cs
+low_ascii test [] low h = IsAscii-nil
+low_ascii test (c ∷ cs) low h = IsAscii-cons c cs (low c h.0) (low_ascii test cs low h.1)
+
+pub digits_ascii : (cs : Text) → Each is_ascii_digit cs → IsAscii cs
+digits_ascii cs = low_ascii is_ascii_digit cs (λ c h. grind (arith, nat_tests))
+
+pub digit_chars : (bs : List ℕ) → IsUtf8 bs → Each is_ascii_digit (chars bs) → chars bs ≡ bs
+digit_chars bs u h = ascii_chars bs u (digits_ascii (chars bs) h)
+
+pub one_ascii : (c : ℕ) → c < 128 → IsAscii (c ∷ [])
+one_ascii c l = IsAscii-cons c [] l IsAscii-nil
+
+-- the first character is the first byte, or both are past ASCII
+first_char : (test : ℕ → Bool) (bs cs : List ℕ) → encode_utf8_all cs ≡ bs → 0 < length bs
+    → ((c : ℕ) → (c < 128 → get_or bs 0 0 ≡ c) → (get_or bs 0 0 < 128 → c ≡ get_or bs 0 0) → test c ≡ false)
+    → Ends test cs
+first_char test bs [] e l f = tt
+first_char test bs (c ∷ cs) e l f = f c (byte_from_char bs (encode_utf8_all cs) c (sym e))
+    (λ low. char_from_byte bs (encode_utf8_all cs) c (sym e) low l)
+
+pub ends_by_byte : (test : ℕ → Bool) (bs : List ℕ) → IsUtf8 bs → (0 < length bs → (c : ℕ)
+    → (c < 128 → get_or bs 0 0 ≡ c) → (get_or bs 0 0 < 128 → c ≡ get_or bs 0 0) → test c ≡ false) → Ends test (chars bs)
+ends_by_byte test [] u f = rw chars-nil tt
+ends_by_byte test (b ∷ bs) u f =
+    first_char test (b ∷ bs) (chars (b ∷ bs)) (encodes-chars (b ∷ bs) u) (omega arith) (f (omega arith))
+
+-- ---- what `is_empty` and a comparison with an ASCII text return
+pub empty_is : (n : ℕ) → true ≡ nat_eq n 0 → n ≡ 0
+empty_is n h = eqb-true n 0 (sym h)
+
+pub nonempty_is : (n : ℕ) → false ≡ nat_eq n 0 → 0 < n
+nonempty_is n h = grind (arith, nat_tests)
+
+pub text_is : (bs : List ℕ) (w : Text) → IsAscii w → true ≡ bytes_eq bs w → chars bs ≡ w
+text_is bs w a h = ap chars ((bytes_eq-Decides bs w).0 (sym h)) ∙ chars-IsAscii w a
+
+pub text_is_not : (bs : List ℕ) (w : Text) → IsUtf8 bs → IsAscii w → false ≡ bytes_eq bs w → chars bs ≢ w
+text_is_not bs w u a h e =
+    let f : bs ≡ w = sym (encodes-chars bs u) ∙ ap encode_utf8_all e ∙ encodes-IsAscii w a in
+    let t = (bytes_eq-Decides bs w).1 f in cc
+
+-- ASCII at the front of bytes
+pub ascii_front : (p rest bs : List ℕ) → IsAscii p → bs ≡ p ++ rest → chars bs ≡ p ++ chars rest
+ascii_front p rest bs a e = rw e (chars-append p rest (IsUtf8-from_ascii p a)
+    ∙ ap (λ (x : List ℕ). x ++ chars rest) (chars-IsAscii p a))
+
+-- ASCII at the front of characters
+pub ascii_ahead : (p q bs : List ℕ) → IsUtf8 bs → IsAscii p → chars bs ≡ p ++ q → bs ≡ p ++ encode_utf8_all q
+ascii_ahead p q bs u a e = sym (encodes-chars bs u) ∙ ap encode_utf8_all e ∙ encodes-append p q
+    ∙ ap (λ (x : List ℕ). x ++ encode_utf8_all q) (encodes-IsAscii p a)
+
+pub chars_cut : (bs xs ys : List ℕ) → bs ≡ xs ++ ys → IsUtf8 xs → chars bs ≡ chars xs ++ chars ys
+chars_cut bs xs ys e u = rw e (chars-append xs ys u)
+
+-- ---- a text cut by bytes before a rest of it
+module _ (t r : List ℕ) (u : IsUtf8 t) (z : IsUtf8 r) (p : Text) (whole : chars t ≡ p ++ chars r) where
+  pub bytes : t ≡ encode_utf8_all p ++ r
+  bytes = sym (encodes-chars t u) ∙ ap encode_utf8_all whole ∙ encodes-append p (chars r)
+      ∙ ap (λ (x : List ℕ). encode_utf8_all p ++ x) (encodes-chars r z)
+
+  pub rest_shorter : length r ≤ length t
+  rest_shorter = omega (arith, ap length bytes, length-append (encode_utf8_all p) r)
+
+  front_length : length (encode_utf8_all p) ≡ length t - length r
+  front_length = omega (arith, ap length bytes, length-append (encode_utf8_all p) r)
+
+  -- after the first byte is the rest, where the text has one byte more
+  pub behind_one : length t ≡ suc (length r) → drop 1 t ≡ r
+  behind_one l =
+      let n : length (encode_utf8_all p) ≡ 1 = omega (arith, front_length) in
+      let d : drop (length (encode_utf8_all p)) t ≡ r =
+      ap (drop (length (encode_utf8_all p))) bytes ∙ drop-append_seam (encode_utf8_all p) r in
+      rw n at d
+
+  -- the text may be cut there
+  pub front_cut : IsCharBoundary t (length t - length r)
+  front_cut = rw (← front_length) (IsCharBoundary-at_seam t (encode_utf8_all p) r bytes z)
+
+  -- and what is before the rest is what was cut off
+  pub front_chars : (xs : List ℕ) → xs ≡ take (length t - length r) t → chars t ≡ chars xs ++ chars r
+  front_chars xs e =
+      let n = length (encode_utf8_all p) in
+      let same = e ∙ rw (← front_length) (ap (take n) bytes ∙ take-append_seam (encode_utf8_all p) r) in
+      chars_cut t xs r (rw same bytes) (rw e (IsUtf8-take t (length t - length r) u front_cut))
+
+-- what the reader of that front rests on
+pub ruleset cuts = (rest_shorter, front_cut, front_chars)
+
+-- ---- words, hosts and gaps that are in printed form
+names_text : (p : Text) (v : Option Text) → Names p v → p ≡ name_text v
+names_text p None m = m
+names_text p (Some t) m = sym m.0
+
+pub host_text : (p q : Text) (v : Option Text) → IsHost p q v → p ≡ name_text v
+host_text p q v (l, a, inl (n, b, m)) = names_text p v m
+host_text p q v (l, a, inr (r, f, b, m)) = rw m
+
+-- a word and a host are in printed form
+pub word_stands : (text follows : Text) (v : Option Text) → Front word text follows v → text ≡ name_text v ++ follows
+word_stands text follows v f = f.whole ∙ ap (λ (x : Text). x ++ follows) (names_text f.piece v f.is.4)
+
+pub host_stands : (text follows : Text) (v : Option Text) → Front host text follows v → text ≡ name_text v ++ follows
+host_stands text follows v f = f.whole ∙ ap (λ (x : Text). x ++ follows) (host_text f.piece follows v f.is)
+
+-- ---- bytes in printed form
+
+-- a space, and then as many bytes as the rest has
+pub space_stands : (t r : List ℕ) → IsUtf8 t → IsUtf8 r → (gap : Text) → chars t ≡ gap ++ chars r → t ≡ 32 ∷ drop 1 t
+    → length t ≡ suc (length r) → chars t ≡ 32 ∷ chars r
+space_stands t r u z gap e f l = ascii_front (32 ∷ []) r t (one_ascii 32 (omega arith))
+    (f ∙ ap (λ (x : List ℕ). 32 ∷ x) (behind_one t r u z gap e l))
 
 -- ---- where a run ends
 
@@ -130,3 +278,225 @@ some_front_run test (c ∷ cs) = elim (cases_Bool (test c)) [
 
 -- what the reader of a run that is not empty rests on
 pub ruleset some_read = (split_at_end, some_run_front, nonempty_is)
+
+-- ---- a text after ASCII bytes
+module _ (p bs rest : List ℕ) (a : IsAscii p) (u : IsUtf8 bs) (e : bs ≡ p ++ rest) where
+  place : length p ≡ length bs - length rest
+  place = omega (arith, ap length e, length-append p rest)
+
+  -- it may be cut there
+  pub behind_cut : IsCharBoundary bs (length bs - length rest)
+  behind_cut = rw (← place) (ascii_cut bs (length p) u (omega (arith, ap length e, length-append p rest))
+      (λ k l. rw (e, get_or_append_left) (a k)))
+
+  -- and what is cut off is the rest
+  pub behind_is : (ys : List ℕ) → ys ≡ drop (length bs - length rest) bs → ys ≡ rest
+  behind_is ys f = f ∙ rw (← place) (ap (drop (length p)) e ∙ drop-append_seam p rest)
+
+  pub behind_chars : chars bs ≡ p ++ chars rest
+  behind_chars = ascii_front p rest bs a e
+
+-- ---- one byte
+pub behind_first : (bs ys : List ℕ) → 0 < length bs → get_or bs 0 0 < 128 → ys ≡ drop 1 bs
+    → chars bs ≡ get_or bs 0 0 ∷ chars ys
+behind_first bs ys l low f =
+    ascii_front (get_or bs 0 0 ∷ []) ys bs (one_ascii (get_or bs 0 0) low) (rw f (drop_more bs 0 0 l))
+
+module _ (b : ℕ) (bs : List ℕ) (low : b < 128) (u : IsUtf8 bs) where
+  pub one_cut : bs ≡ b ∷ drop 1 bs → IsCharBoundary bs 1
+  one_cut e = IsCharBoundary-after_ascii bs 0 u (omega (arith, ap length e))
+      (let k = ap (λ (x : List ℕ). get_or x 0 0) e in omega arith)
+
+  pub one_front : bs ≡ b ∷ drop 1 bs → (ys : List ℕ) → ys ≡ drop 1 bs
+      → Front (exactly (b ∷ [])) (chars bs) (chars ys) tt
+  one_front e ys f = record {
+    piece = b ∷ [];
+    whole = ascii_front (b ∷ []) ys bs (one_ascii b low) (e ∙ ap (λ (x : List ℕ). b ∷ x) (sym f));
+    is = refl;
+  }
+
+  pub no_one_front : ((more : List ℕ) → bs ≢ b ∷ more) → NoFront (exactly (b ∷ [])) (chars bs)
+  no_one_front n p q v e h =
+      n (encode_utf8_all q) (ascii_ahead (b ∷ []) q bs u (one_ascii b low) (e ∙ ap (λ (x : List ℕ). x ++ q) h))
+
+-- ---- gaps
+-- the byte, or a character past ASCII
+no_blank : (c byte : ℕ) → (c < 128 → byte ≡ c) → 32 < byte → is_blank c ≡ false
+no_blank c byte e h = grind (arith, nat_tests)
+
+-- a text that begins past white space begins with no blank
+pub no_blanks : (bs : List ℕ) → IsUtf8 bs → BeginsVisibly bs → Front (run is_blank) (chars bs) (chars bs) tt
+no_blanks bs u g = record {
+  piece = [];
+  whole = refl;
+  is = (tt, ends_by_byte is_blank bs u (λ l c byte char. no_blank c (get_or bs 0 0) byte g.1));
+}
+
+pub gap_cut : (bs : List ℕ) → IsUtf8 bs → BeginsWithGap bs → IsCharBoundary bs 1
+gap_cut bs u g = IsCharBoundary-after_ascii bs 0 u (omega (arith, g.0)) (omega (arith, g.1))
+
+pub gap_space : (bs : List ℕ) → BeginsWithGap bs → (ys : List ℕ) → ys ≡ drop 1 bs → chars bs ≡ 32 ∷ chars ys
+gap_space bs g ys f = rw g.1 at (behind_first bs ys (omega (arith, g.0)) (omega (arith, g.1)) f)
+
+pub gap_some : (bs : List ℕ) → IsUtf8 bs → BeginsWithGap bs → (ys : List ℕ) → ys ≡ drop 1 bs
+    → Front (some_run is_blank) (chars bs) (chars ys) tt
+gap_some bs u g ys f = record {
+  piece = 32 ∷ [];
+  whole = gap_space bs g ys f;
+  is = (
+    omega arith,
+    (refl, tt),
+    rw f (ends_by_byte is_blank (drop 1 bs) (IsUtf8-drop bs 1 u (gap_cut bs u g))
+        (λ l c byte char. no_blank c (get_or (drop 1 bs) 0 0) byte (omega (arith, first_left 1 bs, g.2)))),
+  );
+}
+
+-- what the reader of such a gap rests on
+pub ruleset gap = (gap_cut, gap_space, gap_some)
+
+-- ---- no digit
+past_digits : (c : ℕ) → 128 ≤ c → is_ascii_digit c ≡ false
+past_digits c h = grind (arith, nat_tests)
+
+-- no digit is at the front
+pub ends_digits : (bs : List ℕ) → IsUtf8 bs → EndsDigits bs → Ends is_ascii_digit (chars bs)
+ends_digits bs u h = ends_by_byte is_ascii_digit bs u (λ l c byte char. elim (cases_lt c 128) [
+  | inl low ↦ rw (sym (byte low)) (h l)
+  | inr high ↦ past_digits c high
+])
+
+pub no_number : (limit : ℕ) (bs : List ℕ) → IsUtf8 bs → EndsDigits bs → NoFront (number limit) (chars bs)
+no_number limit bs u h = no_run is_ascii_digit (chars bs) (ends_digits bs u h) (number limit) (λ p q v k. (k.0, k.1))
+
+-- ---- vectors that are computed lane by lane from a load v of sixteen bytes
+pub record IsLanes (v z : List ℕ) (f : ℕ → ℕ) : Type 0 where
+  pub same : length v ≡ 16 → z ≡ map f v
+
+module _ {v : List ℕ} where
+  -- each lane with one number
+  pub lanes : (h : ℕ → ℕ → ℕ) (n : ℕ) → IsLanes v (zip2 h v (replicate 16 n)) (λ x. h x n)
+  lanes h n = record { same = λ long. zip2_splat h v 16 n long }
+
+  pub joined : (h : ℕ → ℕ → ℕ) {y z : List ℕ} {f g : ℕ → ℕ} → IsLanes v y f → IsLanes v z g
+      → IsLanes v (zip2 h y z) (λ x. h (f x) (g x))
+  joined h {f = f} {g = g} a b = record { same = λ long. zip2_of_maps h f g v (a.same long) (b.same long) }
+
+  -- one number in each lane
+  pub splat : (n : ℕ) → IsLanes v (replicate 16 n) (λ _. n)
+  splat n = record { same = splat_is_map v 16 n }
+
+  -- bytes past ASCII
+  pub past : IsLanes v (zip2 (λ a b. cond (leb a b) 255 0) (replicate 16 128) v) (λ x. cond (leb 128 x) 255 0)
+  past = joined (λ a b. cond (leb a b) 255 0) (splat 128) (record { same = λ long. sym (map-id v) })
+
+-- a lane of the kernel of a set stops where the set lacks it, from the answers of the comparisons
+pub mask_tests : (r a b c l p d : Bool) → p ≡ not d → top 7 (bit_or (bit_xor (bit_or (cond r 255 0)
+    (bit_or (bit_or (cond a 255 0) (cond b 255 0)) (cond c 255 0))) (cond (not (eqb (bool_byte l) 0)) 255 0))
+    (cond p 255 0)) ≡ not (d && beq (r || a || b || c) l)
+mask_tests r a b c l p d e = grind arith
+
+pub past_ascii : (x : ℕ) → leb 128 x ≡ not (ltb x 128)
+past_ascii x = grind (arith, nat_tests)
+
+-- a lane stops just where q fails
+pub run_in : {q : ℕ → Bool} {d : List ℕ} {i r : ℕ} {z : List ℕ} {f : ℕ → ℕ} → i + 16 ≤ length d
+    → r ≡ first_set (mask_l (map (top 7) z) % 2 ^ 64) → IsLanes (chunk i 16 d) z f
+    → ((x : ℕ) → top 7 (f x) ≡ not (q x)) → IsRunIn q d i r
+run_in {q = q} {d = d} {i = i} {r = r} {z = z} {f = f} room found by_lanes all =
+    let v = chunk i 16 d in
+    let stops : ℕ → Bool = λ x. top 7 (f x) in
+    let long = length-chunk i 16 d room in
+    let mask = ap (λ l. mask_l l % 2 ^ 64) (ap (map (top 7)) (by_lanes.same long) ∙ map-map (top 7) f v)
+    ∙ mask_l-mod (map stops v) 64 (omega (arith, length-map v stops, long)) in
+    let counted = found ∙ ap first_set mask ∙ first_set_mask_l stops v 16 long (omega arith) in record {
+      within = run_in_chunk_le stops d i 16 r 0 room counted;
+      pass = λ k from to. not-false _ (sym (all _) ∙ run_in_chunk_fails stops d i 16 r 0 room counted k from to);
+      stops = λ short. not-true _ (sym (all _) ∙ run_in_chunk_stops stops d i 16 r 0 room counted short);
+    }
+
+-- the run of a set is that of the class that it lists
+pub class_run : {p q : ℕ → Bool} {d : List ℕ} {i r : ℕ} → agree_below p q 256 ≡ true
+    → ((k : ℕ) → Fits w8 (get_or d k 0)) → IsRunIn p d i r → IsRunIn q d i r
+class_run {p = p} {q = q} {d = d} {i = i} {r = r} all fits h =
+    let same = λ (k : ℕ). sym (agree_below_at p q 256 (get_or d k 0) all (fits k).fits) in record {
+      within = h.within;
+      pass = λ k from to. same k ∙ h.pass k from to;
+      stops = λ short. same (i + r) ∙ h.stops short;
+    }
+
+-- ---- `trim`, by characters
+skip_scalars : (cs : Text) → all_scalars cs ≡ true → all_scalars (skip_leading_whitespace cs) ≡ true
+skip_scalars [] h = refl
+skip_scalars (c ∷ cs) h = elim (cases_Bool (is_whitespace c)) [
+  | inl white ↦ rw white (skip_scalars cs (and_parts (scalar c) (all_scalars cs) h).1)
+  | inr other ↦ rw other h
+]
+
+drop_scalars : (cs : Text) → all_scalars cs ≡ true → all_scalars (drop_trailing_whitespace cs) ≡ true
+drop_scalars [] h = refl
+drop_scalars (c ∷ cs) h =
+    let p = and_parts (scalar c) (all_scalars cs) h in
+    elim (cases_Bool (is_whitespace c && nat_eq (length (drop_trailing_whitespace cs)) 0)) [
+      | inl white ↦ rw white refl
+      | inr other ↦ rw other (and_from (scalar c) (all_scalars (drop_trailing_whitespace cs)) p.0 (drop_scalars cs p.1))
+    ]
+
+pub trimmed_chars : (bs : List ℕ) → IsUtf8 bs → chars (trim bs) ≡ trimmed (chars bs)
+unfolding trim_start trim_end
+trimmed_chars bs u =
+    let s = skip_scalars (chars bs) (scalars-chars bs u) in
+    ap (λ (x : Text). chars (encode_utf8_all (drop_trailing_whitespace x)))
+    (chars-encodes (skip_leading_whitespace (chars bs)) s)
+    ∙ chars-encodes (trimmed (chars bs)) (drop_scalars (skip_leading_whitespace (chars bs)) s)
+
+pub end_trimmed_chars : (bs : List ℕ) → IsUtf8 bs → chars (trim_end bs) ≡ drop_trailing_whitespace (chars bs)
+unfolding trim_end
+end_trimmed_chars bs u =
+    chars-encodes (drop_trailing_whitespace (chars bs)) (drop_scalars (chars bs) (scalars-chars bs u))
+
+-- ---- texts with no white space at either end
+stays : (b t : Bool) (x : ℕ) (xs : Text) → t ≡ false → cond (b && t) [] (x ∷ xs) ≡ x ∷ xs
+stays true t x xs h = rw h refl
+stays false t x xs h = refl
+
+nonempty : (cs : Text) (c : ℕ) → nat_eq (length (cs ++ (c ∷ []))) 0 ≡ false
+nonempty cs c = grind (arith, nat_tests, length-append cs (c ∷ []))
+
+end_stays : (cs : Text) (c : ℕ) → is_whitespace c ≡ false → drop_trailing_whitespace (cs ++ (c ∷ [])) ≡ cs ++ (c ∷ [])
+end_stays [] c h = rw h refl
+end_stays (d ∷ cs) c h = rw (end_stays cs c h)
+    (stays (is_whitespace d) (nat_eq (length (cs ++ (c ∷ []))) 0) d (cs ++ (c ∷ [])) (nonempty cs c))
+
+start_stays : (c : ℕ) (cs : Text) → is_whitespace c ≡ false → skip_leading_whitespace (c ∷ cs) ≡ c ∷ cs
+start_stays c cs h = rw h refl
+
+visible : (b : ℕ) → (nat_lt b 128 && not (is_whitespace b)) ≡ true → (b < 128) × (is_whitespace b ≡ false)
+visible b h = let p = and_parts (nat_lt b 128) (not (is_whitespace b)) h in
+    (ltb-true b 128 p.0, not-true (is_whitespace b) p.1)
+
+module _ (bs : List ℕ) (u : IsUtf8 bs) (h : IsBare bs) where
+  head : (h.first < 128) × (is_whitespace h.first ≡ false)
+  head = visible h.first h.first_in
+
+  last : (h.last < 128) × (is_whitespace h.last ≡ false)
+  last = visible h.last h.last_in
+
+  front_utf8 : IsUtf8 (h.first ∷ h.middle)
+  front_utf8 =
+      let front = h.first ∷ h.middle in
+      let cut = IsCharBoundary-at_seam bs front (h.last ∷ []) h.whole
+      (IsUtf8-from_ascii (h.last ∷ []) (one_ascii h.last last.0)) in
+      subst IsUtf8 (ap (take (length front)) h.whole ∙ take-append_seam front (h.last ∷ []))
+      (IsUtf8-take bs (length front) u cut)
+
+  text_split : chars bs ≡ (h.first ∷ chars h.middle) ++ (h.last ∷ [])
+  text_split =
+      let front = h.first ∷ h.middle in
+      ap chars h.whole ∙ chars-append front (h.last ∷ []) front_utf8
+      ∙ rw (chars-IsAscii (h.last ∷ []) (one_ascii h.last last.0)) (ap (λ (x : Text). x ++ (h.last ∷ []))
+      (ascii_front (h.first ∷ []) h.middle front (one_ascii h.first head.0) refl))
+
+  pub bare_trimmed : chars bs ≡ trimmed (chars bs)
+  bare_trimmed =
+      rw text_split (sym (ap drop_trailing_whitespace (start_stays h.first (chars h.middle ++ (h.last ∷ [])) head.1)
+      ∙ end_stays (h.first ∷ chars h.middle) h.last last.1))

@@ -1,17 +1,174 @@
--- The fields of a datetime; those of a count of nanoseconds, which are the fields of the datetime that has it; and what
--- a clock at an offset shows.
-use Rattle.syslog_pieces.proofs.Names.{◌≡◌, ℤ, pos, neg_ℤ, ◌+ℤ◌, ◌-ℤ◌, ◌≤ℤ◌, ◌<ℤ◌, refl, sym, ap, subst, ◌∙◌, arith}
-use Rattle.syslog_pieces.proofs.Names.{same_datetime, DateTime, Offset, civil_nanos, instant_of, nanos_of_seconds}
-use Rattle.syslog_pieces.proofs.Names.{IsTimestampNanos, days_from_civil-day_count, day_count-day_of_year, signed_arith}
-use Rattle.syslog_pieces.proofs.Names.{CivilFields, AreCivil, fields_of, nanos_of_fields, civil_fields, fields_text}
+-- Civil fields: which are in range, what they count to, and where a fold is.
+use Rattle.syslog_pieces.proofs.Names.{◌≡◌, ℤ, suc, pos, ◌+◌, ◌-◌, ◌*◌, ◌/◌, ◌%◌, ◌<◌, ◌≤◌, ◌≢◌, ap, ◌∙◌, sym, Gap, ⊤}
+use Rattle.syslog_pieces.proofs.Names.{ℕ, arith, AreCivil, neg_ℤ, DateTime, Offset, fields_of, Option, TimeZone, int_lt}
+use Rattle.syslog_pieces.proofs.Names.{zero, signed_arith, same_datetime, if◌then◌else◌, int_div_euclid, int_rem_euclid}
+use Rattle.syslog_pieces.proofs.Names.{negsuc, nat_tests, civil_nanos, instant_of, fields_text, Unambiguous, IsDateTime}
+use Rattle.syslog_pieces.proofs.Names.{◌+ℤ◌, ◌-ℤ◌, ◌≤ℤ◌, refl, ◌<ℤ◌, subst, Bool, true, false, Some, None, Fold, ◌*ℤ◌}
+use Rattle.syslog_pieces.proofs.Names.{unsigned_abs, nanos_of_seconds, days_from_civil-day_count, day_count-day_of_year}
+use Rattle.syslog_pieces.proofs.Names.{IsTimestampNanos, IsOffsetSeconds, CivilFields, nanos_of_fields, AmbiguousOffset}
+use Rattle.jiff.specs.Words.{IsCivilNanos, IsEpochDay, IsYear, ambiguous_at}
+use Rattle.jiff_core.specs.Calendar.{days_of_months, days_of_years, days_from_civil, days_in_month, days_in_year}
+use Rattle.jiff_core.specs.Calendar.{day_count, IsCivilDate}
+use Rattle.jiff_core.proofs.CalendarLemmas.{days_of_months_more, days_of_months_all, days_of_months-zero}
 use Rattle.jiff_core.proofs.CalendarLemmas.{day_count-later_year, day_count-lt_year, day_count-min, day_count-end}
 use Rattle.jiff_core.proofs.CalendarLemmas.{day_count-next_year, days_in_year_bounds}
+use Rattle.jiff_core.proofs.MarchLemmas.{days_of_years-march_days}
+use Rattle.jiff_core.proofs.SignedLemmas.{int_rem_euclid-parts, int_div_euclid-parts}
+use Rattle.jiff_tz.specs.Year.{year_of_day, years_within}
 use Rattle.jiff_core.proofs.DateLemmas.{civil}
 use Rattle.jiff_core.proofs.DateTimeLemmas.{civil_nanos-parts, civil_nanos_range, time_nanos_bound}
-use Rattle.syslog_pieces.specs.Timestamp.Printed.{printed_stamp}
-use Rattle.syslog_pieces.proofs.TimestampLemmas.Range.{civil_fields_exist}
-use Rattle.syslog_pieces.specs.Timestamp.Fields.{IsDateTime}
+use Rattle.jiff_tz.specs.PosixReader.{match_some}
+use Rattle.jiff_tz.specs.declared.posix.Dst.{Dst}
+use Rattle.jiff_tz.specs.declared.posix.TimeZone.{TimeZone as PosixZone}
+use Rattle.jiff_tz.specs.declared.timezone.TimeZone.TheVariants.{UTC, Unknown, Fixed, Posix as InPosix, Tzif as InTable}
+use Rattle.jiff_tz.specs.declared.tzif.Tzif.{Tzif}
+use Rattle.jiff_tz.specs.declared.tzif.transition.Transition.{Transition}
+use Rattle.syslog_pieces.specs.Timestamp.Printed.{months_within, place_fields, civil_fields, printed_stamp}
+use Rattle.jiff_tz.specs.PosixRule as Posix
+use Rattle.jiff_tz.specs.Tzif as Table
 
+-- ---- every count of nanoseconds in range has civil fields, which the calendar has
+
+-- an instant has civil nanoseconds at every offset
+pub in_range-at_offset : (n o : ℤ) → IsTimestampNanos n → IsOffsetSeconds o → IsCivilNanos (n +ℤ nanos_of_seconds o)
+in_range-at_offset n o h k = omega (arith, signed_arith)
+
+abs-diff : (a b : ℤ) (k : ℕ) → a ≡ b +ℤ pos k → unsigned_abs (a -ℤ b) ≡ k
+abs-diff a b k e = grind (arith, signed_arith)
+
+months_fit : (y : ℤ) (n count : ℕ) → (days_of_months y (months_within y n count) ≤ count)
+    × (months_within y n count ≤ n)
+    × (count < days_of_months y (suc n) → count < days_of_months y (suc (months_within y n count)))
+unfolding months_within
+months_fit y zero count = let none = days_of_months-zero y in (omega arith, omega arith, λ h. h)
+months_fit y (suc n) count = let below = months_fit y n count in grind (arith, nat_tests)
+
+years_fit : (n count : ℕ) → (days_of_years (years_within n count) ≤ count) × (years_within n count ≤ n)
+    × (count < days_of_years (suc n) → count < days_of_years (suc (years_within n count)))
+unfolding years_within days_of_years
+years_fit zero count = (omega arith, omega arith, λ h. h)
+years_fit (suc n) count = let below = years_fit n count in grind (arith, nat_tests)
+
+day_count-first : (y : ℤ) (k : ℕ) → y +ℤ pos 10000 ≡ pos k → day_count y 1 1 ≡ days_of_years k
+unfolding day_count
+day_count-first y k e = rw e (omega (arith, days_of_months-zero y))
+
+days_of_years-next : (k : ℕ) → days_of_years (suc k) ≡ days_of_years k + days_in_year (pos k -ℤ pos 10000)
+unfolding days_of_years
+days_of_years-next k = refl
+
+-- the year and the place in it of a day that the library has
+pub record IsPlaced (day year : ℤ) (place : ℕ) : Type 0 where
+  pub year_in : IsYear year
+  pub place_in : place < days_in_year year
+  pub same : day ≡ days_from_civil year 1 1 +ℤ pos place
+
+pub from_start : (z : ℤ) → pos 0 ≤ℤ z → pos (unsigned_abs z) ≡ z
+from_start (pos n) h = refl
+from_start (negsuc n) h = absurd (omega (arith, signed_arith))
+
+year_placed : (day : ℤ) (count k : ℕ) → IsEpochDay day → pos count ≡ day +ℤ pos 4_371_953 → days_of_years k ≤ count
+    → k ≤ 20000
+    → (count < days_of_years (suc 20000) → count < days_of_years (suc k))
+    → IsPlaced day (pos k -ℤ pos 10000) (count - days_of_years k)
+year_placed day count k range e low most next =
+    let high : count < days_of_years (suc k) =
+    next (omega (arith, signed_arith, range.1, days_of_years-march_days 20000, days_of_years-next 20000)) in
+    let below : k ≢ 20000 = λ s. let f = ap days_of_years s in
+    omega (arith, signed_arith, range.1, days_of_years-march_days 20000) in
+    let above : k ≢ 0 = λ s. let f = ap (λ j. days_of_years (suc j)) s in
+    omega (arith, signed_arith, range.0, days_of_years-march_days 1) in
+    let first = day_count-first (pos k -ℤ pos 10000) k (omega (arith, signed_arith)) in
+    let number = days_from_civil-day_count (pos k -ℤ pos 10000) 1 1 in
+    let step = days_of_years-next k in
+    record {
+      year_in = omega (arith, signed_arith, below, above);
+      place_in = omega arith;
+      same = omega (arith, signed_arith);
+    }
+
+day_placed : (day : ℤ) → IsEpochDay day → IsPlaced day (year_of_day day)
+    (unsigned_abs (day -ℤ days_from_civil (year_of_day day) 1 1))
+day_placed day range =
+    let count = unsigned_abs (day +ℤ pos 4_371_953) in
+    let e = from_start (day +ℤ pos 4_371_953) (omega (arith, signed_arith, range.0)) in
+    let fit = years_fit 20000 count in
+    let p = year_placed day count (years_within 20000 count) range e fit.0 fit.1 fit.2 in
+    let place : unsigned_abs (day -ℤ days_from_civil (year_of_day day) 1 1) ≡ count - days_of_years (years_within 20000 count) =
+    abs-diff day _ _ p.same in
+    rw place p
+
+-- the month and the day at a place in a year
+month_placed : (y : ℤ) (place j : ℕ) → place < days_in_year y → days_of_months y j ≤ place → j ≤ 11
+    → (place < days_of_months y 12 → place < days_of_months y (suc j))
+    → (place - days_of_months y j + 1 ≤ days_in_month y (j + 1))
+    × (days_of_months y (j + 1 - 1) + (place - days_of_months y j + 1) ≡ place + 1)
+month_placed y place j h low most next =
+    let all = days_of_months_all y in
+    let high = next (omega arith) in
+    let more = days_of_months_more y (suc j) (omega arith) in
+    let back : suc j - 1 ≡ j = omega arith in
+    let step = rw back at more in
+    let same : j + 1 ≡ suc j = omega arith in
+    rw (same, back) (omega arith, omega arith)
+
+-- the fields at a place in a year, on plain numbers
+place_exists : (y day : ℤ) (place j n : ℕ) → IsPlaced day y place → days_of_months y j ≤ place → j ≤ 11
+    → (place < days_of_months y 12 → place < days_of_months y (suc j)) → n < 86_400_000_000_000
+    → IsCivilDate y (j + 1) (place - days_of_months y j + 1)
+    × (days_from_civil y (j + 1) (place - days_of_months y j + 1) ≡ day)
+place_exists y day place j n p low most next small =
+    let m = month_placed y place j p.place_in low most next in
+    let d = place - days_of_months y j + 1 in
+    let ordinal = day_count-day_of_year y (j + 1) d (omega arith) in
+    let number = days_from_civil-day_count y (j + 1) d in
+    let first = days_from_civil-day_count y 1 1 in
+    let year_in = p.year_in in
+    let same = p.same in
+    ((year_in, (omega arith, omega arith), (omega arith, m.0)), omega (arith, signed_arith, m.1))
+
+clock_parts : (n : ℕ) → n < 86_400_000_000_000
+    → (n / 3_600_000_000_000 < 24) × (n / 60_000_000_000 % 60 < 60) × (n / 1_000_000_000 % 60 < 60)
+    × (n % 1_000_000_000 < 1_000_000_000)
+    × ((n / 3_600_000_000_000 * 3600 + n / 60_000_000_000 % 60 * 60 + n / 1_000_000_000 % 60) * 1_000_000_000
+    + n % 1_000_000_000 ≡ n)
+clock_parts n h = (omega arith, omega arith, omega arith, omega arith, omega arith)
+
+fields_exist-place : (y day : ℤ) (place n : ℕ) → IsPlaced day y place → n < 86_400_000_000_000
+    → AreCivil (place_fields y place n)
+    × (nanos_of_fields (place_fields y place n) ≡ day *ℤ pos 86_400_000_000_000 +ℤ pos n)
+unfolding place_fields
+fields_exist-place y day place n p small =
+    let fit = months_fit y 11 place in
+    let there = place_exists y day place (months_within y 11 place) n p fit.0 fit.1 fit.2 small in
+    let clock = clock_parts n small in (
+      record { date = there.0; hour_in = clock.0; minute_in = clock.1; second_in = clock.2; nanosecond_in = clock.3 },
+      rw (there.1, clock.4),
+    )
+
+-- the fields of a count in range exist, and have that count
+pub civil_fields_exist : (n : ℤ) → IsCivilNanos n → AreCivil (civil_fields n) × (nanos_of_fields (civil_fields n) ≡ n)
+unfolding civil_fields
+civil_fields_exist n h =
+    let day = int_div_euclid n (pos 86_400_000_000_000) in
+    let left = int_rem_euclid n (pos 86_400_000_000_000) in
+    let quot = int_div_euclid-parts n 86_400_000_000_000 (omega arith) in
+    let rem = int_rem_euclid-parts n 86_400_000_000_000 (omega arith) in
+    let range : IsEpochDay day = omega (arith, signed_arith, h.0, h.1) in
+    let whole : pos (unsigned_abs left) ≡ left = from_start left (omega (arith, signed_arith)) in
+    let small : unsigned_abs left < 86_400_000_000_000 = omega (arith, signed_arith) in
+    let there = fields_exist-place (year_of_day day) day _ (unsigned_abs left) (day_placed day range) small in
+    (there.0, there.1 ∙ omega (arith, signed_arith))
+
+-- the instant of fields by the days and seconds that they count
+pub instant_by_count : (f : CivilFields) (count : ℕ) (off sec nan : ℤ) → count ≡ day_count f.year f.month f.day
+    → sec +ℤ off +ℤ pos 377_736_739_200 ≡ pos (count * 86_400 + (f.hour * 3_600 + f.minute * 60 + f.second))
+    → nan ≡ sec *ℤ pos 1_000_000_000 +ℤ pos f.nanosecond → nan ≡ nanos_of_fields f -ℤ nanos_of_seconds off
+instant_by_count f count off sec nan counted second nanos =
+    let number = days_from_civil-day_count f.year f.month f.day in
+    omega (arith, signed_arith, counted, number, second, nanos)
+
+-- ---- the fields of a datetime, of a count of nanoseconds, and on a clock
 pub civil-fields_of : (dt : DateTime) → AreCivil (fields_of dt)
 civil-fields_of dt = record {
   date = (dt.date.year_in, dt.date.month_in, dt.date.day_in);
@@ -135,3 +292,63 @@ pub early_in_range : (f : CivilFields) (offset : Offset) → AreCivil f → (pos
 early_in_range f offset h (from, to) =
     let (dt, same) = datetime_of f h in
     rw (civil_nanos-fields dt f same) at (in_range-years dt offset from to)
+
+-- ---- a fold: the offset before it is ahead of the one after it, so it gives the earlier instant
+
+-- what a fold goes back to is no further ahead than what it comes from
+abbrev pub FoldsBack : AmbiguousOffset → Type 0
+FoldsBack (Unambiguous offset) = ⊤
+FoldsBack (Gap before after) = ⊤
+FoldsBack (Fold before after) = after.seconds ≤ℤ before.seconds
+
+either : (b : Bool) (x y : AmbiguousOffset) → (b ≡ true → FoldsBack x) → (b ≡ false → FoldsBack y)
+    → FoldsBack (if b then x else y)
+either b x y h k = grind arith
+
+less : (a b : ℤ) → int_lt a b ≡ true → a ≤ℤ b
+less a b e = grind arith
+
+behind : (std dst : Offset) (w : ℤ × ℤ) (at : ℤ) → dst.seconds ≤ℤ std.seconds
+    → FoldsBack (Posix.ambiguous_behind std dst w at)
+behind std dst w at h = grind arith
+
+ahead : (std dst : Offset) (w : ℤ × ℤ) (at : ℤ) → std.seconds ≤ℤ dst.seconds
+    → FoldsBack (Posix.ambiguous_ahead std dst w at)
+ahead std dst w at h = grind arith
+
+by_rule : (std dst : Offset) (w : ℤ × ℤ) (at : ℤ) → FoldsBack (Posix.ambiguous_by std dst w at)
+by_rule std dst w at =
+    either (int_lt dst.seconds std.seconds) _ _ (λ e. behind std dst w at (less _ _ e))
+    (λ e. either (int_lt std.seconds dst.seconds) _ _ (λ e. ahead std dst w at (less _ _ e)) (λ e. tt))
+
+of_rule : (std : Offset) (dst : Option Dst) (dt : DateTime) → FoldsBack (Posix.ambiguous_at_by std dst dt)
+of_rule std None dt = tt
+of_rule std (Some d) dt = by_rule std d.offset
+    (Posix.rule_nanos dt.date.year d.rule.start (pos 0), Posix.rule_nanos dt.date.year d.rule.end (pos 0))
+    (civil_nanos dt)
+
+of_transition : (t : Transition) → FoldsBack (Table.offsets_in t)
+of_transition t = grind arith
+
+after_table : (rule : Option PosixZone) (offset : Offset) (dt : DateTime)
+    → FoldsBack (match_some rule (Unambiguous offset) (λ tz. Posix.ambiguous_at tz dt))
+after_table None offset dt = tt
+after_table (Some tz) offset dt = of_rule tz.std_offset tz.dst dt
+
+of_table : (z : Tzif) (dt : DateTime) → FoldsBack (Table.ambiguous_at z dt)
+of_table z dt = grind (arith, of_transition, after_table)
+
+-- a zone's fold goes back
+pub zone_folds_back : (tz : TimeZone) (dt : DateTime) → FoldsBack (ambiguous_at tz dt)
+unfolding ambiguous_at
+zone_folds_back UTC dt = tt
+zone_folds_back Unknown dt = tt
+zone_folds_back (Fixed offset) dt = tt
+zone_folds_back (InPosix tz) dt = of_rule tz.std_offset tz.dst dt
+zone_folds_back (InTable z) dt = of_table z.now dt
+
+-- the instant before a fold is the earlier of its two
+pub earlier_in_fold : (tz : TimeZone) (dt : DateTime) (before after : Offset) → ambiguous_at tz dt ≡ Fold before after
+    → instant_of dt before ≤ℤ instant_of dt after
+earlier_in_fold tz dt before after e =
+    let back : after.seconds ≤ℤ before.seconds = rw e at (zone_folds_back tz dt) in omega (arith, signed_arith)

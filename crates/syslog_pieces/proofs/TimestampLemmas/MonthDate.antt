@@ -1,23 +1,163 @@
--- A text has one month date at its front, and shows one; and what the readers of month dates return.
-use Rattle.syslog_pieces.proofs.Names.{◌≡◌, inl, inr, ℕ, ◌≤◌, true, List, [], ◌∷◌, ◌++◌, Option, Some, None, refl, sym}
-use Rattle.syslog_pieces.proofs.Names.{ap, ◌∙◌, arith, nat_tests, is_ascii_digit, day_row, year_row, Text, Class}
-use Rattle.syslog_pieces.proofs.Names.{Values, Front, NoFront, Row, IsDeterministic, some_run, priority, number}
-use Rattle.syslog_pieces.proofs.Names.{is_blank, colon, month, clock_row, month_date, MonthDate, AllDeterministic}
-use Rattle.syslog_pieces.proofs.Names.{◌also◌, run_same, rest_same, some_run_det, run_det, exactly_det, mapped_det}
-use Rattle.syslog_pieces.proofs.Names.{row_det, row_head, mapped_front, no_mapped, rows_join, rows_none_here}
-use Rattle.syslog_pieces.proofs.Names.{rows_none_later, Apart, Begins, begins_apart, begins_more, begins_with}
-use Rattle.syslog_pieces.proofs.Names.{either_det, first_kind, second_kind, no_either, row_pieces, rows_step}
-use Rattle.syslog_pieces.specs.Timestamp.MonthDate.{short_number, yearless_row, yearless_of, yearless_date, dated_row}
-use Rattle.syslog_pieces.specs.Timestamp.MonthDate.{dated_of}
+-- Dates with the name of a month, their timestamps in a zone, and the timestamps of RFC 3164.
+use Rattle.syslog_pieces.proofs.Names.{◌≡◌, either_det, begins_with, exactly_det, begins_more, second_kind, MatchOption}
+use Rattle.syslog_pieces.proofs.Names.{nat_eq, nat_lt, get_or, length, row_det, Option, IsUtf8, Begins, Values, number}
+use Rattle.syslog_pieces.proofs.Names.{IsAscii, year_row, fields_of, some_run, priority, is_blank, unwrap_or, IsStampAt}
+use Rattle.syslog_pieces.proofs.Names.{NoFront, day_row, run_det, ◌-◌, run_same, row_head, DateTime, TimeZone, IsAnswer}
+use Rattle.syslog_pieces.proofs.Names.{ℕ, ◌<◌, ◌≤◌, ◌∷◌, sym, ◌∙◌, map, inl, drop, Some, [], ap, inr, Row, pos, Gap, ℤ}
+use Rattle.syslog_pieces.proofs.Names.{slice_get, and_parts, nat_tests, first_kind, row_pieces, mapped_det, month_date}
+use Rattle.syslog_pieces.proofs.Names.{clock_row, MonthDate, ◌+◌, rest_same, no_mapped, rows_join, no_either, rows_step}
+use Rattle.syslog_pieces.proofs.Names.{ClockStamp, AmbiguousOffset, OffsetTimestamp, AllDeterministic, nanos_of_seconds}
+use Rattle.syslog_pieces.proofs.Names.{front_same, IsAscii-cons, some_run_det, mapped_front, begins_apart, signed_arith}
+use Rattle.syslog_pieces.proofs.Names.{None, common_steps, same_datetime, rfc3164_stamp, agree_below_at, is_ascii_digit}
+use Rattle.syslog_pieces.proofs.Names.{refl, Text, ◌<ℤ◌, ◌-ℤ◌, Fold, ◌&&◌, Bool, true, List, ◌++◌, subst, false, arith}
+use Rattle.syslog_pieces.proofs.Names.{rows_none_here, IsStampOfClock, IsCharBoundary, IsDeterministic, rows_none_later}
+use Rattle.syslog_pieces.proofs.Names.{chars, Front, month, Class, colon, Apart, ◌also◌, IfSome, Offset, Dating, mapped}
+use Rattle.syslog_pieces.proofs.Names.{Unambiguous, CivilFields, no_front_no, IsMonthStamp, header_stamp, lowercase_is}
+use Rattle.std.specs.Char.{to_ascii_lowercase}
+use Rattle.std.proofs.lemmas.Option.{slice_get_within}
+use Rattle.jiff.specs.Types.{UTC, Unknown, Fixed as FixedZone}
+use Rattle.jiff.specs.Words.{offset_at, ambiguous_at, IsFixed}
+use Rattle.jiff_tz.specs.Zone.{utc_offset}
+use Rattle.syslog_pieces.specs.Bodies.MonthReading.{IsNamed, IsMonthBytes, NamesNoMonth, small_month, showing_row}
+use Rattle.syslog_pieces.specs.Timestamp.MonthDate.{month_names, IsMonthName, short_number, yearless_row, yearless_of}
+use Rattle.syslog_pieces.specs.Timestamp.MonthDate.{yearless_date, dated_row, dated_of}
 use Rattle.syslog_pieces.specs.Timestamp.Rfc3164.{ShowsYearless}
+use Rattle.syslog_pieces.specs.Bodies.Clock.{zone_of, IsStampOfFields, civil_of, year_of}
+use Rattle.syslog_pieces.specs.Timestamp.Zone.{earlier, IsStampOf, IsStampInGap, IsStampInAny}
+use Rattle.syslog_pieces.proofs.TextLemmas.Runs.{ascii_ahead, one_ascii, behind_cut, behind_is, behind_chars}
 use Rattle.syslog_pieces.proofs.PieceLemmas.Class.{all_joined, rest_det, optional_det, unique_division, rows_split}
-use Rattle.syslog_pieces.proofs.PieceLemmas.Kinds.{each_begins}
+use Rattle.syslog_pieces.proofs.PieceLemmas.Lists.{each_begins}
 use Rattle.syslog_pieces.proofs.PriLemmas.{priority_det}
 use Rattle.syslog_pieces.proofs.TextLemmas.Words.{number_det}
-use Rattle.syslog_pieces.proofs.TimestampLemmas.Months.{IsLetter, month_det, month_begins}
-use Rattle.syslog_pieces.specs.Pieces.Class.{mapped}
-use Rattle.syslog_pieces.specs.Bodies.MonthReading.{showing_row}
+use Rattle.syslog_pieces.proofs.TimestampLemmas.Rfc3339.{answer_same, same_timestamp, same_offset, header_stamp_det}
+use Rattle.syslog_pieces.proofs.TimestampLemmas.Rfc3339.{stamp_text-first}
+use Rattle.syslog_pieces.proofs.TimestampLemmas.Civil.{civil_nanos-fields, civil-fields, datetime_of, has_fields}
+use Rattle.syslog_pieces.proofs.TimestampLemmas.Civil.{is_datetime}
 
+-- ---- the names of the months, letter by letter
+
+-- the name of a month, by its number
+pub month_named : {a b c n : ℕ} → IsNamed a b c n
+    → (before : ℕ) × (n ≡ before + 1) × (slice_get month_names before ≡ Some (a ∷ b ∷ c ∷ []))
+month_named {n = n} h = let l = h.from in (n - 1, omega arith, h.name)
+
+-- ---- from the name to the number
+
+-- the number of a month in small letters
+abbrev told : Option Text → Option ℕ
+told (Some (a ∷ b ∷ c ∷ [])) = small_month a b c
+told _ = None
+
+abbrev is_told : ℕ → Bool
+is_told k = nat_eq (unwrap_or (told (slice_get month_names k)) 0) (k + 1)
+
+unwrapped : (o : Option ℕ) (k : ℕ) → nat_eq (unwrap_or o 0) (k + 1) ≡ true → o ≡ Some (k + 1)
+unwrapped o k h = grind (arith, nat_tests, common_steps)
+
+placed : (k : ℕ) (t : Text) → slice_get month_names k ≡ Some t → told (Some t) ≡ Some (k + 1)
+unfolding small_month
+placed k t e =
+    let within = slice_get_within month_names k t e in
+    unwrapped (told (Some t)) k (rw e at (agree_below_at is_told (λ k. true) 12 k refl (omega arith)))
+
+-- three letters, which in small letters name month n
+abbrev pub IsLetters : Text → ℕ → Type 0
+IsLetters p n = (a : ℕ) × (b : ℕ) × (c : ℕ) × (p ≡ a ∷ b ∷ c ∷ [])
+    × (small_month (to_ascii_lowercase a) (to_ascii_lowercase b) (to_ascii_lowercase c) ≡ Some n)
+
+spelt : (p : Text) (n : ℕ) → told (Some (map to_ascii_lowercase p)) ≡ Some n → IsLetters p n
+spelt (a ∷ b ∷ c ∷ []) n e = (a, b, c, refl, e)
+spelt _ n e = cc
+
+pub month_letters : (p : Text) (n : ℕ) → IsMonthName p n → IsLetters p n
+month_letters p n (k, e, name) = spelt p n (placed k (map to_ascii_lowercase p) name ∙ ap Some (sym e))
+
+-- ---- a text has one month at its front, which begins with a letter
+pub month_det : IsDeterministic month
+month_det p q p' q' n n' e h h' =
+    let (a, b, c, w, m) = month_letters p n h in
+    let (a', b', c', w', m') = month_letters p' n' h' in
+    let t : a ∷ b ∷ c ∷ q ≡ a' ∷ b' ∷ c' ∷ q' = sym (ap (λ (x : Text). x ++ q) w) ∙ e ∙ ap (λ (x : Text). x ++ q') w' in
+    let ha : a ≡ a' = cc in let hb : b ≡ b' = cc in let hc : c ≡ c' = cc in
+    (cc, let s : Some n ≡ Some n' = sym m ∙ (rw (ha, hb, hc) refl) ∙ m' in cc)
+
+first_small : (a b c n : ℕ) → small_month a b c ≡ Some n → 97 ≤ a
+unfolding small_month
+first_small a b c n m = grind (arith, nat_tests)
+
+-- three bytes of which the first is before the letters, or fewer than three bytes
+pub no_month_letters : (bs : List ℕ) → (3 ≤ length bs → get_or bs 0 0 < 65) → NamesNoMonth bs
+no_month_letters bs low a b c rest e =
+    let first = low (rw e (omega arith)) in
+    none (small_month (to_ascii_lowercase a) (to_ascii_lowercase b) (to_ascii_lowercase c)) (λ n m.
+    let large = first_small _ _ _ n m in
+    let before : a < 65 = rw e at first in
+    let same = (lowercase_is a).1 before in
+    absurd (omega (arith, same)))
+  where
+    none : (o : Option ℕ) → ((n : ℕ) → o ≡ Some n → ⊥) → o ≡ None
+    none None f = refl
+    none (Some n) f = absurd (f n refl)
+
+-- a letter, or a character past the letters
+abbrev pub IsLetter : ℕ → Type 0
+IsLetter c = 65 ≤ c
+
+pub month_begins : (p q : Text) (n : ℕ) → month.Is p q n → Begins IsLetter p
+month_begins p q n h =
+    let (a, b, c, w, m) = month_letters p n h in
+    let small = first_small _ _ _ n m in
+    begins_with IsLetter a p (b ∷ c ∷ []) w (grind (arith, lowercase_is a))
+
+-- ---- by bytes
+abbrev are_low : Option Text → Bool
+are_low (Some (a ∷ b ∷ c ∷ [])) = nat_lt a 128 && (nat_lt b 128 && nat_lt c 128)
+are_low _ = false
+
+letter_low : (c : ℕ) → nat_lt (to_ascii_lowercase c) 128 ≡ true → c < 128
+letter_low c h = grind (arith, nat_tests, lowercase_is c)
+
+-- letters that name a month are ASCII
+letters_ascii : (a b c k : ℕ) → slice_get month_names k ≡ Some (map to_ascii_lowercase (a ∷ b ∷ c ∷ []))
+    → IsAscii (a ∷ b ∷ c ∷ [])
+letters_ascii a b c k name =
+    let within = slice_get_within month_names k _ name in
+    let low = rw name at
+    (agree_below_at (λ i. are_low (slice_get month_names i)) (λ _. true) 12 k refl (omega arith)) in
+    let (x, yz) = and_parts (nat_lt (to_ascii_lowercase a) 128)
+    (nat_lt (to_ascii_lowercase b) 128 && nat_lt (to_ascii_lowercase c) 128) low in
+    let (y, z) = and_parts (nat_lt (to_ascii_lowercase b) 128) (nat_lt (to_ascii_lowercase c) 128) yz in
+    IsAscii-cons a (b ∷ c ∷ []) (letter_low a x)
+    (IsAscii-cons b (c ∷ []) (letter_low b y) (one_ascii c (letter_low c z)))
+
+module _ (bs : List ℕ) (n : ℕ) (rest : List ℕ) (u : IsUtf8 bs) (m : IsMonthBytes bs n rest) where
+  abbrev its : Text
+  its = m.a ∷ m.b ∷ m.c ∷ []
+
+  its_named : IsMonthName its n
+  its_named = month_named m.named
+
+  its_ascii : IsAscii its
+  its_ascii = let (k, e, name) = its_named in letters_ascii m.a m.b m.c k name
+
+  pub month_cut : IsCharBoundary bs (length bs - length rest)
+  month_cut = behind_cut its bs rest its_ascii u m.whole
+
+  pub month_read : (ys : List ℕ) → ys ≡ drop (length bs - length rest) bs → Front month (chars bs) (chars ys) n
+  month_read ys f = rw (behind_is its bs rest its_ascii u m.whole ys f) (record {
+    piece = its;
+    whole = behind_chars its bs rest its_ascii u m.whole;
+    is = its_named;
+  })
+
+pub no_month : (bs : List ℕ) → IsUtf8 bs → NamesNoMonth bs → NoFront month (chars bs)
+no_month bs u none p q n w (k, f, name) =
+    let (a, b, c, w', m) = month_letters p n (k, f, name) in
+    let low = letters_ascii a b c k (rw w' at name) in
+    let e = ascii_ahead (a ∷ b ∷ c ∷ []) q bs u low (w ∙ ap (λ (x : Text). x ++ q) w') in
+    let r : None ≡ Some n = sym (none a b c _ e) ∙ m in cc
+
+-- ---- a text has one month date at its front, and shows one; and what the readers of month dates return
 pub clock_det : AllDeterministic clock_row
 clock_det =
     number_det 4294967295 also exactly_det colon also number_det 4294967295 also exactly_det colon
@@ -139,3 +279,206 @@ module _ {t : Text} where
         second_kind MonthDate yearless_date.Is dated_date.Is
         (mapped_front (Row dated_row) MonthDate dated_of
         (rows_join day_row from_year f (rows_join year_row clock_row g h)))
+
+-- ---- the timestamp of civil fields in a zone: there is at most one, and what its readers return
+
+-- fields name one datetime
+pub one_datetime : (f : CivilFields) (a b : DateTime) → fields_of a ≡ f → fields_of b ≡ f → a ≡ b
+one_datetime f a b e e' = same_datetime a b (civil_nanos-fields a f e ∙ sym (civil_nanos-fields b f e'))
+
+at_once : (dt : DateTime) (offset : Offset) (s t : OffsetTimestamp) → IsStampAt dt offset s → IsStampAt dt offset t
+    → s ≡ t
+at_once dt offset s t h k = same_timestamp s t (cc) (cc)
+
+in_gap_once : (tz : TimeZone) (dt : DateTime) (s t : OffsetTimestamp) → IsStampInGap tz dt s → IsStampInGap tz dt t
+    → s ≡ t
+in_gap_once tz dt s t h k = same_timestamp s t (cc) (cc)
+
+once_of : (a : AmbiguousOffset) (tz : TimeZone) (dt : DateTime) (s t : OffsetTimestamp)
+    → (IsStampOf a dt (λ _. ⊥) s → IsStampOf a dt (λ _. ⊥) t → s ≡ t)
+    × (IsStampOf a dt (IsStampInGap tz dt) s → IsStampOf a dt (IsStampInGap tz dt) t → s ≡ t)
+once_of (Unambiguous offset) tz dt s t = (at_once dt offset s t, at_once dt offset s t)
+once_of (Gap before after) tz dt s t = (λ h k. absurd h, in_gap_once tz dt s t)
+once_of (Fold before after) tz dt s t = (at_once dt before s t, at_once dt before s t)
+
+in_any_once : (tz : Option TimeZone) (local : TimeZone) (dt : DateTime) (s t : OffsetTimestamp)
+    → IsStampInAny tz local dt s → IsStampInAny tz local dt t → s ≡ t
+in_any_once (Some tz) local dt s t = (once_of (ambiguous_at tz dt) tz dt s t).0
+in_any_once None local dt s t = (once_of (ambiguous_at local dt) local dt s t).1
+
+-- the timestamp of a month date is that of its civil fields in its year
+fields_in_year : (dating : Dating) (date : MonthDate) (s : OffsetTimestamp) → IsMonthStamp dating date s
+    → (year : ℤ) × (year_of date dating.year ≡ Some year)
+    × IsStampOfFields dating.zone dating.local (civil_of date year) s
+fields_in_year dating date s (year, dt, y, f, h) = (year, y, (dt, has_fields dt (civil_of date year) f, h))
+
+month_in_year : (dating : Dating) (date : MonthDate) (year : ℤ) (s : OffsetTimestamp)
+    → year_of date dating.year ≡ Some year → IsStampOfFields dating.zone dating.local (civil_of date year) s
+    → IsMonthStamp dating date s
+month_in_year dating date year s y (dt, e, h) = (year, dt, y, is_datetime dt (civil_of date year) e, h)
+
+-- a month date has one timestamp
+pub month_stamp_once : (dating : Dating) (date : MonthDate) (s t : OffsetTimestamp) → IsMonthStamp dating date s
+    → IsMonthStamp dating date t → s ≡ t
+month_stamp_once dating date s t a b =
+    let (year, y, (dt, f, h)) = fields_in_year dating date s a in
+    let (year', y', (dt', f', h')) = fields_in_year dating date t b in
+    let same_year : year ≡ year' = cc in
+    let same : dt ≡ dt' = one_datetime (civil_of date year') dt dt' (cc) f' in
+    in_any_once dating.zone dating.local dt' s t (rw same at h) h'
+
+-- ---- what the readers return
+
+-- at the one offset, or at the one before a fold
+pub answer_at : (a : AmbiguousOffset) (tz : TimeZone) (dt : DateTime) (offset : Offset) (r : Option ClockStamp)
+    → earlier a ≡ Some offset → IsAnswer (IsStampAt dt offset) r
+    → IsAnswer (IsStampOf a dt (λ _. ⊥)) r × IsAnswer (IsStampOf a dt (IsStampInGap tz dt)) r
+answer_at (Unambiguous o) tz dt offset r e h = let same : offset ≡ o = cc in let at = rw same at h in (at, at)
+answer_at (Gap before after) tz dt offset r e h = absurd (let s : None ≡ Some offset = e in cc)
+answer_at (Fold before after) tz dt offset r e h = let same : offset ≡ before = cc in let at = rw same at h in (at, at)
+
+-- fields that name a datetime have its timestamp
+pub answer_of_fields : (f : CivilFields) (dt : DateTime) (tz : Option TimeZone) (local : TimeZone)
+    (r : Option ClockStamp) → fields_of dt ≡ f
+    → IsAnswer (IsStampInAny tz local dt) r → IsAnswer (IsStampOfFields tz local f) r
+answer_of_fields f dt tz local r e h =
+    answer_same (IsStampInAny tz local dt) (IsStampOfFields tz local f) r (λ s p. (dt, e, p))
+    (λ s (dt', e', p). rw (one_datetime f dt' dt e' e) at p) h
+
+-- ---- the year of a month date
+module _ (dating : Dating) (date : MonthDate) where
+  pub answer_in_year : (y : ℤ) (r : Option ClockStamp) → year_of date dating.year ≡ Some y
+      → IsAnswer (IsStampOfFields dating.zone dating.local (civil_of date y)) r → IsAnswer (IsMonthStamp dating date) r
+  answer_in_year y r e h =
+      answer_same (IsStampOfFields dating.zone dating.local (civil_of date y)) (IsMonthStamp dating date) r
+      (λ s p. month_in_year dating date y s e p)
+      (λ s k. (let (y', e', p) = fields_in_year dating date s k in let same : y' ≡ y = cc in rw same at p)) h
+
+  -- no year, or one past the calendar's
+  pub no_such_year : IfSome (year_of date dating.year) (λ y. pos 9999 <ℤ y) → IsAnswer (IsMonthStamp dating date) None
+  no_such_year n s k =
+      let (y, e, (dt, f, h)) = fields_in_year dating date s k in
+      let past : pos 9999 <ℤ y = subst (λ (x : Option ℤ). IfSome x (λ y. pos 9999 <ℤ y)) e n in
+      let in_range = (civil-fields dt (civil_of date y) f).date in
+      omega (arith, signed_arith, past, in_range.0)
+
+-- in the zone that counts
+in_any : (tz : Option TimeZone) (local : TimeZone) (dt : DateTime) (offset : Offset) (r : Option ClockStamp)
+    → earlier (ambiguous_at (zone_of tz local) dt) ≡ Some offset → IsAnswer (IsStampAt dt offset) r
+    → IsAnswer (IsStampInAny tz local dt) r
+in_any (Some tz) local dt offset r e h = (answer_at (ambiguous_at tz dt) tz dt offset r e h).0
+in_any None local dt offset r e h = (answer_at (ambiguous_at local dt) local dt offset r e h).1
+
+-- a zone of one offset has it at each datetime
+fixed_earlier : (tz : TimeZone) (offset : Offset) (dt : DateTime) → IsFixed tz
+    → ((n : ℤ) → offset.seconds ≡ offset_at tz n) → earlier (ambiguous_at tz dt) ≡ Some offset
+unfolding ambiguous_at offset_at
+fixed_earlier UTC offset dt fixed h = ap Some (same_offset utc_offset offset (sym (h (pos 0))))
+fixed_earlier Unknown offset dt fixed h = ap Some (same_offset utc_offset offset (sym (h (pos 0))))
+fixed_earlier (FixedZone o) offset dt fixed h = ap Some (same_offset o offset (sym (h (pos 0))))
+fixed_earlier _ offset dt fixed h = absurd fixed
+
+-- ---- by what a clock shows
+
+-- the timestamp of fields on a clock is that of the datetime that they name
+pub answer_on_clock : (f : CivilFields) (dt : DateTime) (offset : Offset) (r : Option ClockStamp) → fields_of dt ≡ f
+    → IsAnswer (IsStampOfClock f offset) r → IsAnswer (IsStampAt dt offset) r
+answer_on_clock f dt offset r e h =
+    let shift = λ (x : ℤ). x -ℤ nanos_of_seconds offset.seconds in
+    let nanos = civil_nanos-fields dt f e in
+    answer_same (IsStampOfClock f offset) (IsStampAt dt offset) r
+    (λ s p. record { instant = p.instant ∙ ap shift (sym nanos); at_offset = p.at_offset })
+    (λ s p. record {
+      civil = civil-fields dt f e;
+      instant = p.instant ∙ ap shift nanos;
+      at_offset = p.at_offset;
+    }) h
+
+-- in a zone of one offset
+module _ (tz : Option TimeZone) (local zone : TimeZone) (f : CivilFields) (offset : Offset)
+    (e : zone ≡ zone_of tz local) (fixed : IsFixed zone) (at : (n : ℤ) → offset.seconds ≡ offset_at zone n) where
+  fixed_datetime : (r : Option ClockStamp) → IsAnswer (IsStampOfClock f offset) r → (dt : DateTime) → fields_of dt ≡ f
+      → IsAnswer (IsStampOfFields tz local f) r
+  fixed_datetime r h dt same =
+      answer_of_fields f dt tz local r same
+      (in_any tz local dt offset r (rw e at (fixed_earlier zone offset dt fixed at))
+      (answer_on_clock f dt offset r same h))
+
+  pub fixed_answer : (r : Option ClockStamp) → IsAnswer (IsStampOfClock f offset) r
+      → IsAnswer (IsStampOfFields tz local f) r
+  fixed_answer None h = λ s (dt, same, p). fixed_datetime None h dt same s (dt, same, p)
+  fixed_answer (Some c) h = let (dt, same) = datetime_of f h.civil in fixed_datetime (Some c) h dt same
+
+-- ---- a text has one timestamp of RFC 3164 at its front
+
+-- a digit or a dash
+abbrev pub IsLow : ℕ → Type 0
+IsLow c = c ≤ 57
+
+-- `-`, or an RFC 3339 text
+pub header_stamp_begins : (p q : Text) (v : Option OffsetTimestamp) → header_stamp.Is p q v → Begins IsLow (p ++ q)
+header_stamp_begins p q None h = begins_with IsLow 45 (p ++ q) q (ap (λ (x : Text). x ++ q) h) (omega arith)
+header_stamp_begins p q (Some s) (h, z) =
+    let (c, more, f, digit) = stamp_text-first p s h in
+    begins_more IsLow p q (begins_with IsLow c p more f (let d = digit.1 in omega arith))
+
+-- a month date that has this timestamp
+abbrev IsStampedDate : Dating → Text → Text → Option OffsetTimestamp → Type 0
+IsStampedDate dating p q v =
+    MatchOption v ⊥ (λ s. (date : MonthDate) × month_date.Is p q date × IsMonthStamp dating date s)
+
+pub stamped_date_begins : (dating : Dating) (p q : Text) (v : Option OffsetTimestamp) → IsStampedDate dating p q v
+    → Begins IsLetter (p ++ q)
+stamped_date_begins dating p q None h = absurd h
+stamped_date_begins dating p q (Some s) (d, h, k) = month_date_begins p q d h
+
+abbrev stamped_date : Dating → Class
+stamped_date dating = record { Value = Option OffsetTimestamp; Is = IsStampedDate dating }
+
+pub stamped_date_det : (dating : Dating) → IsDeterministic (stamped_date dating)
+stamped_date_det dating p q p' q' None v' e h h' = absurd h
+stamped_date_det dating p q p' q' (Some s) None e h h' = absurd h'
+stamped_date_det dating p q p' q' (Some s) (Some t) e (d, h, k) (d', h', k') =
+    let r = month_date_det p q p' q' d d' e h h' in
+    (r.0, ap Some (month_stamp_once dating d' s t (subst (λ (x : MonthDate). IsMonthStamp dating x s) r.1 k) k'))
+
+kinds_apart : (dating : Dating) → Apart (Option OffsetTimestamp) header_stamp.Is (IsStampedDate dating)
+kinds_apart dating p q p' q' v v' e h h' =
+    begins_apart (p ++ q) (λ c a b. omega arith) (header_stamp_begins p q v h)
+    (subst (λ (x : Text). Begins IsLetter x) (sym e) (stamped_date_begins dating p' q' v' h'))
+
+pub rfc3164_stamp_det : (dating : Dating) → IsDeterministic (rfc3164_stamp dating)
+rfc3164_stamp_det dating = either_det (Option OffsetTimestamp) header_stamp.Is (IsStampedDate dating) header_stamp_det
+    (stamped_date_det dating) (kinds_apart dating)
+
+-- ---- what the reader returns
+module _ (dating : Dating) {t : Text} where
+  pub header_front : {q : Text} {v : Option OffsetTimestamp} → Front header_stamp t q v
+      → Front (rfc3164_stamp dating) t q v
+  header_front f = first_kind (Option OffsetTimestamp) header_stamp.Is (IsStampedDate dating) f
+
+  pub date_front : {q : Text} {d : MonthDate} (s : OffsetTimestamp) → Front month_date t q d → IsMonthStamp dating d s
+      → Front (rfc3164_stamp dating) t q (Some s)
+  date_front {d = d} s f h =
+      second_kind (Option OffsetTimestamp) header_stamp.Is (IsStampedDate dating)
+      (record { piece = f.piece; whole = f.whole; is = (d, f.is, h) })
+
+  module _ (n : NoFront header_stamp t) where
+    -- no month date there has a timestamp
+    no_stamped : ((d : MonthDate) (s : OffsetTimestamp) (q : Text) → Front month_date t q d → IsMonthStamp dating d s
+        → ⊥)
+        → NoFront (rfc3164_stamp dating) t
+    no_stamped m = no_either (Option OffsetTimestamp) header_stamp.Is (IsStampedDate dating) n
+        (λ p q v e h. none v p q e h)
+      where
+        none : (v : Option OffsetTimestamp) (p q : Text) → t ≡ p ++ q → IsStampedDate dating p q v → ⊥
+        none None p q e h = h
+        none (Some s) p q e (d, h, k) = m d s q (record { piece = p; whole = e; is = h }) k
+
+    pub no_date : NoFront month_date t → NoFront (rfc3164_stamp dating) t
+    no_date m = no_stamped (λ d s q f k. no_front_no month_date m f)
+
+    -- the date that is there has none
+    pub no_stamp_of_date : {r : Text} (d : MonthDate) → Front month_date t r d → IsAnswer (IsMonthStamp dating d) None
+        → NoFront (rfc3164_stamp dating) t
+    no_stamp_of_date d f m = no_stamped (λ d' s q g k. m s (rw (front_same month_date month_date_det g f).1 at k))

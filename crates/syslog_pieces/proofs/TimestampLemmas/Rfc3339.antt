@@ -1,25 +1,32 @@
--- A text has one RFC 3339 text at its front, which is one whatever follows it, and at most one timestamp.
-use Rattle.syslog_pieces.proofs.Names.{◌≡◌, inl, inr, ℕ, ℤ, ◌+◌, ◌/◌, ◌%◌, ◌<◌, ◌≤◌, List, [], ◌∷◌, ◌++◌, Bool, true}
-use Rattle.syslog_pieces.proofs.Names.{false, Some, None, Option, refl, sym, ap, subst, ◌∙◌, arith, props}
-use Rattle.syslog_pieces.proofs.Names.{is_ascii_digit, is_prop→PathP, Offset, IsOffsetSeconds, IsTimestampNanos, pad2}
-use Rattle.syslog_pieces.proofs.Names.{pad4, IsStampOfClock, Text, Front, NoFront, IsDeterministic, Ends, Values, Row}
-use Rattle.syslog_pieces.proofs.Names.{join, some_run, texted, mapped, after, IsAnswer, IsStampText, IsStampOfRfc3339}
-use Rattle.syslog_pieces.proofs.Names.{clock_value, HasStamp, decimals, fields_of_rfc3339, fraction, is_dot, letter}
-use Rattle.syslog_pieces.proofs.Names.{numeric_row, offset, seconds_of, sign, stamp_row, stamp_text, written_of, year}
-use Rattle.syslog_pieces.proofs.Names.{OffsetTimestamp, ClockStamp, CivilFields, Rfc3339Fields, IsAlone}
-use Rattle.syslog_pieces.proofs.Names.{AllDeterministic, ◌also◌, heads, mapped_det, mapped_front, no_mapped, row_det}
-use Rattle.syslog_pieces.proofs.Names.{some_run_det, texted_det, Apart, Begins, begins_apart, begins_more, begins_with}
-use Rattle.syslog_pieces.proofs.Names.{either_det, no_either, second_kind}
-use Rattle.jiff.specs.Types.{Timestamp}
-use Rattle.syslog_pieces.specs.Timestamp.Rfc3339.{pair}
-use Rattle.syslog_pieces.proofs.PieceLemmas.Alone.{IsFilled, closed_alone, closed_filled}
-use Rattle.syslog_pieces.proofs.PieceLemmas.Class.{after_det}
-use Rattle.std.proofs.Common.{◌-ℤ◌, pos}
-use Rattle.jiff.specs.Words.{nanos_of_seconds}
-use Rattle.syslog_pieces.specs.Pieces.Class.{Class}
-use Rattle.syslog_pieces.specs.Timestamp.Fields.{AreCivil, nanos_of_fields}
-use Rattle.syslog_pieces.specs.Timestamp.Rfc3339.{HasRfc3339Stamp}
-use Rattle.syslog_pieces.proofs.TimestampLemmas.Civil.{civil-fields, civil_nanos-fields, datetime_of, has_fields, is_datetime}
+-- A text has one RFC 3339 text at its front, and at most one timestamp, which is read back from its print.
+-- What is printed of a canonical timestamp has it, and no other timestamp has a text.
+use Rattle.syslog_pieces.proofs.Names.{◌≡◌, IsAnswer, no_mapped, no_either, nat_tests, front_same, year_sign, Timestamp}
+use Rattle.syslog_pieces.proofs.Names.{inl, inr, ◌+◌, ◌/◌, ◌%◌, ◌<◌, ◌≤◌, ◌∷◌, sym, ◌∙◌, Each, dash, ◌+ℤ◌, ◌≤ℤ◌, ◌-ℤ◌}
+use Rattle.syslog_pieces.proofs.Names.{ℕ, is_ascii_digit, is_prop→PathP, IsStampOfClock, Rfc3339Fields, encode_utf8_all}
+use Rattle.syslog_pieces.proofs.Names.{ℤ, IsStampText, clock_value, numeric_row, CivilFields, begins_more, append_assoc}
+use Rattle.syslog_pieces.proofs.Names.{List, stamp_text, written_of, begins_with, second_kind, piece_front, each_append}
+use Rattle.syslog_pieces.proofs.Names.{[], IsTimestampNanos, fields_of_rfc3339, is_not_whitespace, days_in_month_bounds}
+use Rattle.syslog_pieces.proofs.Names.{◌++◌, HasStamp, decimals, fraction, IsAlone, row_det, AreCivil, exactly, Divides}
+use Rattle.syslog_pieces.proofs.Names.{Bool, true, Some, None, refl, pad2, pad4, Text, Ends, join, sign, year, neg_ℤ}
+use Rattle.syslog_pieces.proofs.Names.{false, subst, arith, props, Front, after, heads, Apart, Class, length, negsuc}
+use Rattle.syslog_pieces.proofs.Names.{Option, Offset, Values, texted, mapped, is_dot, letter, offset, ◌also◌, Begins}
+use Rattle.syslog_pieces.proofs.Names.{ap, Row, pos, suc, ◌*◌, min}
+use Rattle.syslog_pieces.proofs.Names.{IsOffsetSeconds, IsStampOfRfc3339, stamp_row, AllDeterministic, nanos_of_seconds}
+use Rattle.syslog_pieces.proofs.Names.{NoFront, some_run_det, begins_apart, length-append, fraction_text, if◌then◌else◌}
+use Rattle.syslog_pieces.proofs.Names.{IsDeterministic, OffsetTimestamp, mapped_front, nanos_of_fields, encodes-IsAscii}
+use Rattle.syslog_pieces.proofs.Names.{some_run, ClockStamp, mapped_det, texted_det, either_det, append-nil, row_pieces}
+use Rattle.syslog_pieces.proofs.Names.{seconds_of, IsAsciiDigit, header_stamp, unsigned_abs, signed_arith, civil_fields}
+use Rattle.jiff_core.specs.Calendar.{IsWithin}
+use Rattle.syslog_pieces.specs.Timestamp.Rfc3339.{pair, HasRfc3339Stamp}
+use Rattle.syslog_pieces.specs.Timestamp.Printed.{printed_stamp, date_time_text, offset_text, offset_sign}
+use Rattle.syslog_pieces.specs.Bodies.Clock.{unsigned_date_time}
+use Rattle.syslog_pieces.specs.Timestamp.Canonical.{IsCanonicalStamp, BeginsWithYear, own_year}
+use Rattle.syslog_pieces.proofs.PieceLemmas.Class.{IsFilled, closed_alone, closed_filled, after_det, spaced_parts}
+use Rattle.syslog_pieces.proofs.TimestampLemmas.Civil.{civil-fields, civil_nanos-fields, datetime_of, has_fields}
+use Rattle.syslog_pieces.proofs.TimestampLemmas.Civil.{is_datetime, civil_fields_exist, in_range-at_offset}
+use Rattle.syslog_pieces.proofs.TimestampLemmas.Civil.{shows_fields, from_start}
+use Rattle.syslog_pieces.proofs.TimestampLemmas.Digits.{each_visible, stamp_characters, is_stamp_character, each_ascii}
+use Rattle.syslog_pieces.proofs.TimestampLemmas.Digits.{fraction_characters, pair_characters, fraction_text-is}
 
 -- ---- a text has one front of each piece
 
@@ -248,3 +255,336 @@ same_timestamp s t e f = λ i. record {
 pub one_timestamp : (text : List ℕ) (s t : OffsetTimestamp) → IsStampText text s → IsStampText text t → s ≡ t
 one_timestamp text s t h k =
     let same = one_stamp text _ _ _ _ h k in same_timestamp s t same.0 same.1
+
+-- ---- what a header may know of a text that has a stamp
+
+-- a text is no shorter than a date, a clock and an offset of one character
+letter_long : (p q : Text) (v : Unit {0}) → (letter 84).Is p q v → length p ≡ 1
+letter_long p q v (inl e) = ap length e
+letter_long p q v (inr e) = ap length e
+
+front_length : (C : Class) {t u : Text} {v : C.Value} → (f : Front C t u v) → length t ≡ length f.piece + length u
+front_length C {u = u} f = ap length f.whole ∙ length-append f.piece u
+
+pub text_long : {t q : Text} {w : Rfc3339Fields} → Front stamp_text t q w → 20 ≤ length t
+text_long {t} {q} f =
+    let (vs, h, _) = f.is in
+    let (_, f1, (_, f2, (_, f3, (_, f4, (_, f5, (_, f6, (_, f7, (_, f8, (_, f9, _))))))))) =
+    row_pieces stamp_row {vs = vs} (record { piece = f.piece; whole = f.whole; is = h }) in
+    let (_, _, e) = offset_filled f9.piece _ _ f9.is in
+    omega (
+      arith,
+      front_length year f1,
+      ap length f1.is.0,
+      front_length (after 45 (pair 100)) f2,
+      ap length f2.is.1,
+      ap length f2.is.2.0,
+      front_length (after 45 (pair 100)) f3,
+      ap length f3.is.1,
+      ap length f3.is.2.0,
+      front_length (letter 84) f4,
+      letter_long f4.piece [] _ f4.is,
+      front_length (pair 100) f5,
+      ap length f5.is.0,
+      front_length (after 58 (pair 100)) f6,
+      ap length f6.is.1,
+      ap length f6.is.2.0,
+      front_length (after 58 (pair 61)) f7,
+      ap length f7.is.1,
+      ap length f7.is.2.0,
+      front_length fraction f8,
+      front_length offset f9,
+      ap length e,
+    )
+
+-- the year of the text, which a dash follows
+pub begins_with_year : (text : Text) (w : Rfc3339Fields) → stamp_text.Is text [] w
+    → (y : ℕ) × (rest : Text) × (text ≡ pad4 y ++ (45 ∷ rest)) × (y < 10_000)
+begins_with_year text w (vs, h, e) =
+    let (u, f, (_, g, _)) = row_pieces stamp_row (piece_front (Row stamp_row) text [] vs h) in
+    let (rest, same, _) = spaced_parts (pair 100) g in (
+      vs.0,
+      rest,
+      sym (append-nil text) ∙ f.whole ∙ ap (λ (x : Text). x ++ u) f.is.0
+          ∙ ap (λ (x : Text). pad4 vs.0 ++ x) same,
+      f.is.1,
+    )
+
+pub writes-first : (text : List ℕ) (w : Rfc3339Fields) → stamp_text.Is text [] w
+    → (c : ℕ) × (rest : List ℕ) × (text ≡ c ∷ rest) × IsAsciiDigit c
+writes-first text w h =
+    let (y, rest, e, fits) = begins_with_year text w h in (48 + y / 100 / 10, _, e, (omega arith, omega arith))
+
+pub stamp_text-first : (text : List ℕ) (s : OffsetTimestamp) → IsStampText text s
+    → (c : ℕ) × (rest : List ℕ) × (text ≡ c ∷ rest) × IsAsciiDigit c
+stamp_text-first text s (w, h, stamp) = writes-first text w h
+
+-- the year of the text: four digits, which a dash follows
+pub stamp_text-year : (text : List ℕ) (s : OffsetTimestamp) → IsStampText text s
+    → (year : List ℕ) × (rest : List ℕ) × (text ≡ year ++ (45 ∷ rest)) × Each is_ascii_digit year
+stamp_text-year text s (w, h, stamp) =
+    let (y, rest, e, fits) = begins_with_year text w h in (pad4 y, rest, e, grind (arith, nat_tests))
+
+-- ---- the timestamp of a header, as a piece
+
+-- a stamp's text is a run that a space ends
+pub stamp_each : (t : Text) (s : OffsetTimestamp) → IsStampText t s → Each is_not_whitespace t
+stamp_each t s (w, h, a) = each_visible t (stamp_characters t [] w h)
+
+pub space_ends : (q r : Text) → q ≡ 32 ∷ r → Ends is_not_whitespace q
+space_ends q r e = subst (λ (x : Text). Ends is_not_whitespace x) (sym e) refl
+
+-- and begins with no dash
+no_dash : (p q q' : Text) (w : Rfc3339Fields) → stamp_text.Is p [] w → p ++ q ≡ 45 ∷ q' → ⊥
+no_dash p q q' w h e =
+    let (c, more, f, digit) = writes-first p w h in
+    let first : c ≡ 45 = heads c 45 (more ++ q) q' (ap (λ (x : Text). x ++ q) (sym f) ∙ e) in
+    omega (arith, digit.0)
+
+pub header_stamp_det : IsDeterministic header_stamp
+header_stamp_det p q p' q' None None e h h' = (h ∙ sym h', refl)
+header_stamp_det p q p' q' None (Some s) e h ((w, k, a), z) =
+    absurd (no_dash p' q' q w k (sym e ∙ ap (λ (x : Text). x ++ q) h))
+header_stamp_det p q p' q' (Some s) None e ((w, h, a), z) k =
+    absurd (no_dash p q q' w h (e ∙ ap (λ (x : Text). x ++ q') k))
+header_stamp_det p q p' q' (Some s) (Some t) e ((w, h, a), z) ((w', k, b), z') =
+    let same = (stamp_text_det p q p' q' w w' e (stamp_alone p [] q w h) (stamp_alone p' [] q' w' k)).0 in
+    (same, ap Some (one_timestamp p' s t (subst (λ (x : Text). IsStampText x s) same (w, h, a)) (w', k, b)))
+
+-- ---- what the reader returns
+pub dash_front : {t q : Text} → Front (exactly dash) t q tt → Front header_stamp t q None
+dash_front f = record { piece = f.piece; whole = f.whole; is = f.is }
+
+-- neither an RFC 3339 text nor a dash
+pub no_stamp_front : {t : Text} → NoFront stamp_text t → NoFront (exactly dash) t → NoFront header_stamp t
+no_stamp_front n m p q None e h = m p q tt e h
+no_stamp_front n m p q (Some v) e ((w, h, k), z) = n p q w e (stamp_alone p [] q w h)
+
+module _ {t q : Text} {w : Rfc3339Fields} (f : Front stamp_text t q w) where
+  pub stamp_front : {r : Text} (v : OffsetTimestamp) → IsStampOfRfc3339 w v → Front (exactly (32 ∷ [])) q r tt
+      → Front header_stamp t q (Some v)
+  stamp_front {r = r} v h g = record {
+    piece = f.piece;
+    whole = f.whole;
+    is = ((w, stamp_alone f.piece q [] w f.is, h), (r, g.whole ∙ ap (λ (x : Text). x ++ r) g.is));
+  }
+
+  -- it has no timestamp, or no space after it
+  pub no_header : ((v : OffsetTimestamp) (r : Text) → q ≡ 32 ∷ r → IsStampOfRfc3339 w v → ⊥) → NoFront header_stamp t
+  no_header n p q' None e h =
+      no_dash f.piece q q' w (stamp_alone f.piece q [] w f.is) (sym f.whole ∙ e ∙ ap (λ (x : Text). x ++ q') h)
+  no_header n p q' (Some v) e ((w', h, k), (r, z)) =
+      let g : Front stamp_text t q' w' = record { piece = p; whole = e; is = stamp_alone p [] q' w' h } in
+      let (rest, same) = front_same stamp_text stamp_text_det g f in
+      n v r (sym rest ∙ z) (subst (λ (x : Rfc3339Fields). IsStampOfRfc3339 x v) same k)
+
+-- what the reader of such timestamps rests on
+pub ruleset header_fronts = (stamp_front, dash_front)
+
+-- ---- a printed stamp is ASCII, so that its characters are its bytes
+
+-- a number from -k to k
+pub absolute : (z : ℤ) (k : ℕ) → IsWithin k z → unsigned_abs z ≤ k
+absolute (pos n) k h = omega (arith, signed_arith, h.1)
+absolute (negsuc n) k h = omega (arith, signed_arith, h.0)
+
+offset_characters : (o : ℤ) → IsOffsetSeconds o → Each is_stamp_character (offset_text o)
+unfolding offset_text
+offset_characters o h =
+    let minutes = (unsigned_abs o + 30) / 60 in
+    let most = absolute o 93_599 h in (
+      sign o,
+      each_append is_stamp_character (pad2 (minutes / 60)) (58 ∷ pad2 (minutes % 60))
+          (pair_characters (minutes / 60) (omega arith)) (refl, pair_characters (minutes % 60) (omega arith)),
+    )
+  where
+    sign : (o : ℤ) → is_stamp_character (offset_sign o) ≡ true
+    sign (pos n) = refl
+    sign (negsuc n) = refl
+
+year_characters : (z : ℤ) → Each is_stamp_character (year_sign z)
+year_characters (pos n) = tt
+year_characters (negsuc n) = (refl, tt)
+
+date_characters : (y m d h mi s : ℕ) → y < 10_000 → m < 100 → d < 100 → h < 100 → mi < 100 → s < 100
+    → Each is_stamp_character (unsigned_date_time y m d h mi s)
+date_characters y m d h mi s y_in m_in d_in h_in mi_in s_in = grind (arith, nat_tests)
+
+date_time : (f : CivilFields) → AreCivil f → Each is_stamp_character (date_time_text f)
+unfolding date_time_text
+date_time f there =
+    let date = there.date in
+    let days = days_in_month_bounds f.year f.month in
+    each_append is_stamp_character (year_sign f.year) _ (year_characters f.year)
+    (date_characters (unsigned_abs f.year) f.month f.day f.hour f.minute f.second
+    (omega (arith, absolute f.year 9_999 date.0)) (omega (arith, date.1.1)) (omega (arith, date.2.1))
+    (omega (arith, there.hour_in)) (omega (arith, there.minute_in)) (omega (arith, there.second_in)))
+
+-- each character of a printed stamp in range is one from `+` to `z`
+pub printed_stamp-characters : (n o : ℤ) → IsTimestampNanos n → IsOffsetSeconds o
+    → Each is_stamp_character (printed_stamp n o)
+unfolding printed_stamp
+printed_stamp-characters n o h k =
+    let there = (civil_fields_exist _ (in_range-at_offset n o h k)).0 in
+    let f = civil_fields (n +ℤ nanos_of_seconds o) in
+    each_append is_stamp_character (date_time_text f) (fraction_text f.nanosecond ++ offset_text o) (date_time f there)
+    (each_append is_stamp_character (fraction_text f.nanosecond) (offset_text o)
+    (fraction_characters _ [] f.nanosecond (fraction_text-is [] tt tt f.nanosecond there.nanosecond_in)) (offset_characters o k))
+
+-- the bytes of a printed stamp are its characters
+pub printed_stamp-bytes : (s : OffsetTimestamp)
+    → encode_utf8_all (printed_stamp s.instant.nanosecond s.offset.seconds)
+    ≡ printed_stamp s.instant.nanosecond s.offset.seconds
+printed_stamp-bytes s =
+    encodes-IsAscii _ (each_ascii _ (printed_stamp-characters _ _ s.instant.in_range s.offset.in_range))
+
+-- ---- a printed offset
+
+minutes_back : (n : ℕ) → n % 60 ≡ 0 → (n + 30) / 60 * 60 ≡ n
+minutes_back n whole = omega arith
+
+signed : (b : Bool) (m : ℕ) → m < 1440
+    → offset.Is ((if b then 45 else 43) ∷ (pad2 (m / 60) ++ (58 ∷ pad2 (m % 60)))) []
+    (if b then neg_ℤ (pos (m * 60)) else pos (m * 60))
+signed b m small =
+    let same : (m / 60 * 60 + m % 60) * 60 ≡ m * 60 = omega arith in
+    inr (
+      (b, (m / 60, (m % 60, tt))),
+      (
+        ((if b then 45 else 43) ∷ []) ∷ pad2 (m / 60) ∷ (58 ∷ pad2 (m % 60)) ∷ [],
+        refl,
+        (refl, ((refl, omega arith), ((pad2 (m % 60), refl, (refl, omega arith)), tt))),
+      ),
+      rw same refl,
+    )
+
+pub offset_text-is : (o : ℤ) → unsigned_abs o % 60 ≡ 0 → unsigned_abs o < 86_400 → offset.Is (offset_text o) [] o
+unfolding offset_text
+offset_text-is (pos n) whole small = rw (minutes_back n whole) at (signed false ((n + 30) / 60) (omega arith))
+offset_text-is (negsuc n) whole small =
+    rw (minutes_back (suc n) whole) at (signed true ((suc n + 30) / 60) (omega arith))
+
+-- before no digit and no dot
+offset_ends : (o : ℤ) → Ends is_ascii_digit ((offset_text o ++ []) ++ []) × Ends is_dot ((offset_text o ++ []) ++ [])
+unfolding offset_text
+offset_ends (pos n) = (refl, refl)
+offset_ends (negsuc n) = (refl, refl)
+
+-- ---- what is printed of a canonical timestamp has it
+
+-- fields as they print, in a year from 0 on
+fields-read : (f : CivilFields) (n o : ℤ) → pos 0 ≤ℤ f.year → AreCivil f → IsTimestampNanos n
+    → nanos_of_fields f ≡ n +ℤ nanos_of_seconds o → offset.Is (offset_text o) [] o
+    → HasStamp (date_time_text f ++ (fraction_text f.nanosecond ++ offset_text o)) n o
+unfolding date_time_text
+fields-read f n o from there range nanos zone =
+    let y = unsigned_abs f.year in
+    let e : f.year ≡ pos y = sym (from_start f.year from) in
+    let least : min f.second 59 ≡ f.second = omega (arith, there.second_in) in
+    let date = there.date in
+    let days = days_in_month_bounds f.year f.month in
+    let vs : Values stamp_row =
+    (y, (f.month, (f.day, (tt, (f.hour, (f.minute, (f.second, (f.nanosecond, (o, tt))))))))) in
+    let same : fields_of_rfc3339 (written_of vs) ≡ f = rw (← e, least) in
+    let count : nanos_of_fields (fields_of_rfc3339 (written_of vs)) ≡ n +ℤ nanos_of_seconds o =
+    ap nanos_of_fields same ∙ nanos in
+    let ends = offset_ends o in
+    let ps : List Text =
+    pad4 y ∷ (45 ∷ pad2 f.month) ∷ (45 ∷ pad2 f.day) ∷ (84 ∷ []) ∷ pad2 f.hour ∷ (58 ∷ pad2 f.minute)
+    ∷ (58 ∷ pad2 f.second) ∷ fraction_text f.nanosecond ∷ offset_text o ∷ [] in
+    let each : Divides stamp_row ps [] vs =
+    (refl, omega (arith, signed_arith, date.0.1)) also (pad2 f.month, refl, (refl, omega (arith, date.1.1)))
+    also (pad2 f.day, refl, (refl, omega (arith, date.2.1))) also inl refl also (refl, omega (arith, there.hour_in))
+    also (pad2 f.minute, refl, (refl, omega (arith, there.minute_in)))
+    also (pad2 f.second, refl, (refl, omega (arith, there.second_in)))
+    also fraction_text-is _ ends.0 ends.1 f.nanosecond there.nanosecond_in also zone also tt in (
+      written_of vs,
+      (vs, (ps, rw e (simp (append_assoc, append-nil)), each), refl),
+      fields_stamp (written_of vs) n o (rw same there) (omega (arith, signed_arith, count)) refl range,
+    )
+
+pub printed_stamp-back : (s : OffsetTimestamp) → IsCanonicalStamp s
+    → IsStampText (printed_stamp s.instant.nanosecond s.offset.seconds) s
+unfolding printed_stamp
+printed_stamp-back s p =
+    let n = s.instant.nanosecond in
+    let o = s.offset.seconds in
+    let fields = civil_fields_exist _ (in_range-at_offset n o s.instant.in_range s.offset.in_range) in
+    fields-read _ n o p.year_from fields.0 s.instant.in_range fields.1 (offset_text-is o p.minutes p.day)
+
+-- ---- a timestamp that a text has is canonical
+
+numeric-canonical : (p q : Text) (vs : Values numeric_row) → (Row numeric_row).Is p q vs
+    → (unsigned_abs (seconds_of vs) % 60 ≡ 0) × (unsigned_abs (seconds_of vs) < 86_400)
+numeric-canonical p q (b, vs) h =
+    let (_, _, (_, hours, (_, minutes, _))) = row_pieces numeric_row (piece_front (Row numeric_row) p q (b, vs) h) in
+    let hours_in = hours.is.1 in
+    let minutes_in = minutes.is.2.1 in
+    sized b ((vs.0 * 60 + vs.1.0) * 60) (omega arith) (omega arith)
+  where
+    sized : (b : Bool) (n : ℕ) → n % 60 ≡ 0 → n < 86_400
+        → (unsigned_abs (if b then neg_ℤ (pos n) else pos n) % 60 ≡ 0)
+        × (unsigned_abs (if b then neg_ℤ (pos n) else pos n) < 86_400)
+    sized true n m h = (omega (arith, signed_arith), omega (arith, signed_arith))
+    sized false n m h = (m, h)
+
+offset-canonical : (p q : Text) (o : ℤ) → offset.Is p q o → (unsigned_abs o % 60 ≡ 0) × (unsigned_abs o < 86_400)
+offset-canonical p q o (inl (u, l, e)) = rw e (refl, omega arith)
+offset-canonical p q o (inr (vs, h, e)) = rw e (numeric-canonical p q vs h)
+
+-- a clock at the offset shows what the text wrote
+pub shows_written : (w : Rfc3339Fields) (n o : ℤ) → HasRfc3339Stamp w n o
+    → civil_fields (n +ℤ nanos_of_seconds o) ≡ fields_of_rfc3339 w
+shows_written w n o h =
+    let (there, instant) = stamp_fields w n o h in
+    shows_fields (fields_of_rfc3339 w) n o there
+    (omega (arith, signed_arith, instant, ap nanos_of_seconds h.at_offset))
+
+pub stamp_text-canonical : (text : List ℕ) (s : OffsetTimestamp) → IsStampText text s → IsCanonicalStamp s
+stamp_text-canonical text s (w, (vs, h, e), stamp) =
+    let (_, y, (_, _, (_, _, (_, _, (_, _, (_, _, (_, _, (_, _, (_, zone, _))))))))) =
+    row_pieces stamp_row (piece_front (Row stamp_row) text [] vs h) in
+    let offset = offset-canonical zone.piece _ _ zone.is in
+    let same = stamp.at_offset ∙ ap (λ (x : Rfc3339Fields). x.offset) e in
+    let year : own_year s ≡ pos vs.0 =
+    ap (λ (g : CivilFields). g.year) (shows_written w _ _ stamp) ∙ ap (λ (x : Rfc3339Fields). pos x.year) e in
+    let fits = y.is.1 in
+    record {
+      year_from = omega (arith, signed_arith);
+      year_to = omega (arith, signed_arith);
+      minutes = rw same offset.0;
+      day = rw same offset.1;
+    }
+
+-- ---- the printed text of any timestamp
+
+own_fields : (s : OffsetTimestamp) → AreCivil (civil_fields (s.instant.nanosecond +ℤ nanos_of_seconds s.offset.seconds))
+own_fields s =
+    (civil_fields_exist _ (in_range-at_offset s.instant.nanosecond s.offset.seconds s.instant.in_range
+    s.offset.in_range)).0
+
+-- no timestamp lies past the year 9999 at its own offset
+pub own_year-to : (s : OffsetTimestamp) → own_year s ≤ℤ pos 9999
+own_year-to s = let (year_in, _, _) = (own_fields s).date in year_in.1
+
+-- no character of it is white space
+pub printed_stamp-visible : (s : OffsetTimestamp)
+    → Each is_not_whitespace (printed_stamp s.instant.nanosecond s.offset.seconds)
+printed_stamp-visible s = each_visible _ (printed_stamp-characters _ _ s.instant.in_range s.offset.in_range)
+
+begins : (year : ℤ) (y : ℕ) (more tail : List ℕ) → y < 10_000
+    → BeginsWithYear ((year_sign year ++ (pad4 y ++ more)) ++ tail)
+begins (pos n) y more tail h = (48 + y / 100 / 10, _, grind (arith, nat_tests), inl refl)
+begins (negsuc n) y more tail h = (48 + y / 100 / 10, _, grind (arith, nat_tests), inr refl)
+
+-- it begins with a digit, or with `-` and a digit
+pub printed_stamp-begins : (s : OffsetTimestamp) → BeginsWithYear (printed_stamp s.instant.nanosecond s.offset.seconds)
+unfolding printed_stamp date_time_text
+printed_stamp-begins s =
+    let f = civil_fields (s.instant.nanosecond +ℤ nanos_of_seconds s.offset.seconds) in
+    let (year_in, _, _) = (own_fields s).date in
+    let small = absolute f.year 9_999 year_in in
+    begins f.year (unsigned_abs f.year) _ _ (omega arith)
+
+-- what the law of printed stamps rests on
+pub ruleset printed_word = (printed_stamp-begins, printed_stamp-visible)

@@ -1,5 +1,5 @@
 -- The timestamp of a header of RFC 3164, and the month date that a text shows.
-use Rattle.std.specs.Prelude.{ℕ, List, [], ◌∷◌, Option, MatchOption}
+use Rattle.std.specs.Prelude.{ℕ, [], ◌∷◌, Option, MatchOption}
 use Rattle.syslog_pieces.specs.Pieces.Class.{Text, Class, Division, run, rest, optional, either}
 use Rattle.syslog_pieces.specs.Pri.{priority}
 use Rattle.syslog_pieces.specs.Text.{trimmed, is_blank}

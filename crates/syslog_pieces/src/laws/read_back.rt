@@ -19,7 +19,7 @@ pub fn decimal_is_read_back()
 
 /// A canonical host, or none, is read back before the end or white space; what is read before a blank is a canonical
 /// host, or none.
-#[tactic(auto, using(crate::proofs::TextLemmas::ReadBack::hosts))]
+#[tactic(auto, using(crate::proofs::TextLemmas::Words::hosts))]
 pub fn canonical_host_is_read_back()
     ensures back { (v : Option Text) (q : Text) → IfSome v IsCanonicalHost → Ends is_not_whitespace q
         → host.Is (name_text v) q v }
@@ -29,7 +29,7 @@ pub fn canonical_host_is_read_back()
 
 /// A canonical word, or none, is read back before the end or white space, and what is read is a canonical word, or
 /// none.
-#[tactic(auto, using(crate::proofs::TextLemmas::ReadBack::words))]
+#[tactic(auto, using(crate::proofs::TextLemmas::Words::words))]
 pub fn canonical_word_is_read_back()
     ensures back { (v : Option Text) (q : Text) → IfSome v IsCanonicalWord → Ends is_not_whitespace q
         → word.Is (name_text v) q v }
@@ -38,7 +38,7 @@ pub fn canonical_word_is_read_back()
 
 /// A canonical process id, or none, is read back before the end or white space, and what is read is a canonical one, or
 /// none.
-#[tactic(auto, using(crate::proofs::ProcIdLemmas::ReadBack::processes))]
+#[tactic(auto, using(crate::proofs::ProcIdLemmas::processes))]
 pub fn canonical_process_is_read_back()
     ensures back { (v : Option (ProcId Text)) (q : Text) → IfSome v IsCanonicalProcess → IfSome v IsBoundedProcess
         → Ends is_not_whitespace q → process_word.Is (process_text v) q v }

@@ -27,7 +27,7 @@ impl<S: AsStr> Eq for StructuredElement<S> {
 
 // Whether both lists have the same parameters, each as often. Nearly always they are in one order, and the first pass
 // is all; only after the first difference are they counted.
-#[tactic(auto, using(crate::proofs::StructuredDataLemmas::Equality::comparing))]
+#[tactic(auto, using(crate::proofs::StructuredDataLemmas::Units::comparing))]
 fn have_same_params<S: AsStr>(a: &[(S, S)], b: &[(S, S)]) -> bool
     ensures { result ≡ same_params (map (param_value (text_of S.text)) a.now)
         (map (param_value (text_of S.text)) b.now) }
@@ -40,7 +40,7 @@ fn have_same_params<S: AsStr>(a: &[(S, S)], b: &[(S, S)]) -> bool
 }
 
 // How many parameters at the front of two lists of one length are the same.
-#[tactic(auto, using(crate::proofs::StructuredDataLemmas::Equality::front_more))]
+#[tactic(auto, using(crate::proofs::StructuredDataLemmas::Units::front_more))]
 fn first_difference<S: AsStr>(a: &[(S, S)], b: &[(S, S)]) -> usize
     requires { length a.now ≡ length b.now }
     ensures within { result ≤ length a.now }

@@ -15,7 +15,7 @@ ghost use Rattle.syslog_pieces.specs.StructuredData.{bracketed as bracketed_clas
 use crate::text::{CharClass, blanks, first, literal, split_run};
 
 // The nonempty run of the class at the front, and the text after it.
-#[tactic(auto, using(crate::proofs::TextLemmas::Chars::chars_nonempty, crate::proofs::TextLemmas::Chars::nonempty_is))]
+#[tactic(auto, using(crate::proofs::TextLemmas::Runs::chars_nonempty, crate::proofs::TextLemmas::Runs::nonempty_is))]
 #[inline(always)]
 pub(super) fn nonempty_run(text: &str, class: CharClass) -> Option<(&str, &str)>
     ensures { Reads (texted (some_run (has class))) (λ run. shown run) (chars text.now) result }

@@ -98,7 +98,7 @@ impl<'a> Element<'a> {
     ghost use Rattle.syslog_pieces.specs.StructuredData.Visited.{element_seen, params_left};
 
     /// The names and the raw values of its parameters.
-    #[tactic(auto, using(crate::proofs::StructuredDataLemmas::Left::inside_same))]
+    #[tactic(auto, using(crate::proofs::StructuredDataLemmas::Walk::inside_same))]
     pub fn params(&self) -> Params<'a>
         ensures { params_left result ≡ (element_seen self.now).params }
     {

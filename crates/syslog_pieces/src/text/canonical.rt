@@ -9,7 +9,7 @@ ghost use Rattle.syslog_pieces.specs.Text.Canonical.{IsCanonicalHost, IsCanonica
 use super::{CharClass, host, split_run, tag_word, word};
 
 /// Whether no character is left.
-#[tactic(auto, using(crate::proofs::TextLemmas::Canonical::end_told))]
+#[tactic(auto, using(crate::proofs::TextLemmas::Words::end_told))]
 pub(crate) fn is_end(text: &str) -> bool
     ensures { IsTrue result ↔ (chars text.now ≡ []) }
 {
@@ -25,7 +25,7 @@ pub fn is_only(text: &str, class: CharClass) -> bool
 }
 
 /// Whether the text has a character, and each is of the class.
-#[tactic(auto, using(crate::proofs::TextLemmas::Canonical::both_told))]
+#[tactic(auto, using(crate::proofs::TextLemmas::Words::both_told))]
 pub fn is_some_of(text: &str, class: CharClass) -> bool
     ensures { IsTrue result ↔ ((0 < length (chars text.now)) × Each (has class) (chars text.now)) }
 {

@@ -27,7 +27,7 @@ static PAIRS: [u8; 200] = [
 ];
 
 /// A number below 100, in two digits.
-#[tactic(auto, using(crate::proofs::TextLemmas::Decimals::pairs_at))]
+#[tactic(auto, using(crate::proofs::TextLemmas::Words::pairs_at))]
 #[inline(always)]
 pub(crate) fn two_digits(n: u32) -> [u8; 2]
     requires { n < 100 }

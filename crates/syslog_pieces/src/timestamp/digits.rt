@@ -27,7 +27,7 @@ pub fn pair(text: &[u8], limit: u32) -> Option<(u32, &[u8])>
 }
 
 /// This byte and two digits.
-#[tactic(auto, using(crate::proofs::TimestampLemmas::Bytes::after_reads, crate::proofs::TimestampLemmas::Bytes::first_rest))]
+#[tactic(auto, using(crate::proofs::TimestampLemmas::Digits::after_reads, crate::proofs::TimestampLemmas::Digits::first_rest))]
 #[inline(always)]
 pub fn pair_after(text: &[u8], byte: u8, limit: u32) -> Option<(u32, &[u8])>
     requires { limit ≤ 100 }

@@ -3,7 +3,7 @@ use Rattle.syslog_loose.proofs.Names.{ap, arith, inl, refl, rules, option_map, I
 use Rattle.syslog_loose.proofs.Names.{process_text, process_word, bare_prints, named_names, word, name_text, row_of}
 use Rattle.syslog_loose.proofs.Names.{no_row, seen, shown, header_row}
 use Rattle.syslog_pieces.proofs.ProcIdLemmas.{absent_front, process_front, no_process}
-use Rattle.syslog_pieces.proofs.TextLemmas.Verbatim.{word_stands, host_stands}
+use Rattle.syslog_pieces.proofs.TextLemmas.Runs.{word_stands, host_stands}
 use Rattle.syslog_loose.proofs.Rfc5424Lemmas.{header_det}
 use Rattle.syslog_loose.proofs.rfc5424.read_header.Goals as goal
 

@@ -1,6 +1,6 @@
 use Rattle.syslog_pieces.proofs.Names.{◌≡◌, ℕ, List, nat_eq, ap, ◌∙◌, one_answer, chars, IsUtf8, text_eq}
 use Rattle.std.specs.Cmp.Lexicographic.{pointwise, bytes_decides}
-use Rattle.syslog_pieces.proofs.TextLemmas.Chars.{same_chars}
+use Rattle.syslog_pieces.proofs.TextLemmas.Runs.{same_chars}
 use Rattle.syslog_pieces.proofs.as_str.is_same_text.Goals as goal
 
 -- texts are equal as lists of characters exactly where their bytes are

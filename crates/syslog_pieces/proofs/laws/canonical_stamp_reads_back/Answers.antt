@@ -1,4 +1,4 @@
-use Rattle.syslog_pieces.proofs.TimestampLemmas.RoundTrip.{printed_stamp-back, stamp_text-canonical}
+use Rattle.syslog_pieces.proofs.TimestampLemmas.Rfc3339.{printed_stamp-back, stamp_text-canonical}
 use Rattle.syslog_pieces.proofs.laws.canonical_stamp_reads_back.Goals as goal
 
 pub returns-clause-back : goal.returns-clause-back

@@ -1,4 +1,4 @@
-use Rattle.syslog_pieces.proofs.StructuredDataLemmas.Params.{AreParamItems-Drains}
+use Rattle.syslog_pieces.proofs.StructuredDataLemmas.Units.{AreParamItems-Drains}
 use Rattle.syslog_pieces.proofs.laws.params_are_given_in_order.Goals as goal
 
 pub returns : goal.returns

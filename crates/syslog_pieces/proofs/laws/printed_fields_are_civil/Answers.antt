@@ -1,4 +1,4 @@
-use Rattle.syslog_pieces.proofs.TimestampLemmas.Range.{civil_fields_exist}
+use Rattle.syslog_pieces.proofs.TimestampLemmas.Civil.{civil_fields_exist}
 use Rattle.syslog_pieces.proofs.laws.printed_fields_are_civil.Goals as goal
 
 pub returns-clause-exist : goal.returns-clause-exist

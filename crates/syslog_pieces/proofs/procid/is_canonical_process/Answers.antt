@@ -1,6 +1,6 @@
 use Rattle.syslog_pieces.proofs.Names.{ap, text_of}
 use Rattle.syslog_pieces.specs.ProcId.{procid_value}
-use Rattle.syslog_pieces.proofs.ProcIdLemmas.ReadBack.{name_told}
+use Rattle.syslog_pieces.proofs.ProcIdLemmas.{name_told}
 use Rattle.syslog_pieces.proofs.procid.is_canonical_process.Goals as goal
 
 pub returns-then-is_canonical_word : goal.returns-then-is_canonical_word

@@ -1,8 +1,6 @@
 use Rattle.syslog_pieces.proofs.Names.{arith, rules}
-use Rattle.syslog_pieces.proofs.TextLemmas.Looks.{no_number}
-use Rattle.syslog_pieces.proofs.TextLemmas.Numbers.{small_cut, small_read}
-use Rattle.syslog_pieces.proofs.TextLemmas.Runs.{split_at_end}
-use Rattle.syslog_pieces.proofs.TextLemmas.Words.{number_stuck}
+use Rattle.syslog_pieces.proofs.TextLemmas.Runs.{no_number, split_at_end}
+use Rattle.syslog_pieces.proofs.TextLemmas.Words.{small_cut, small_read, number_stuck}
 use Rattle.syslog_pieces.proofs.text.any_number.Goals as goal
 
 pub returns-then-not-begins_with_digit : goal.returns-then-not-begins_with_digit

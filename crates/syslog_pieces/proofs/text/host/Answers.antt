@@ -1,6 +1,5 @@
 use Rattle.syslog_pieces.proofs.Names.{host}
-use Rattle.syslog_pieces.proofs.TextLemmas.Chars.{empty_is}
-use Rattle.syslog_pieces.proofs.TextLemmas.Runs.{no_run_front}
+use Rattle.syslog_pieces.proofs.TextLemmas.Runs.{empty_is, no_run_front}
 use Rattle.syslog_pieces.proofs.TextLemmas.Words.{no_host_colon}
 use Rattle.syslog_pieces.proofs.text.host.Goals as goal
 

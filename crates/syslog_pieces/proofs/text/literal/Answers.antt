@@ -1,4 +1,4 @@
-use Rattle.syslog_pieces.proofs.TextLemmas.Looks.{one_cut, one_front, no_one_front}
+use Rattle.syslog_pieces.proofs.TextLemmas.Runs.{one_cut, one_front, no_one_front}
 use Rattle.syslog_pieces.proofs.text.literal.Goals as goal
 
 pub split_at-requires : goal.split_at-requires

@@ -1,5 +1,5 @@
 use Rattle.syslog_pieces.proofs.Names.{arith}
-use Rattle.syslog_pieces.proofs.TextLemmas.Numbers.{number_past}
+use Rattle.syslog_pieces.proofs.TextLemmas.Words.{number_past}
 use Rattle.syslog_pieces.proofs.text.number.Goals as goal
 
 pub returns-then-value-limit : goal.returns-then-value-limit

@@ -1,5 +1,4 @@
-use Rattle.syslog_pieces.proofs.TextLemmas.Runs.{no_some_run, split_at_end}
-use Rattle.syslog_pieces.proofs.TextLemmas.Chars.{empty_is}
+use Rattle.syslog_pieces.proofs.TextLemmas.Runs.{no_some_run, split_at_end, empty_is}
 use Rattle.syslog_pieces.proofs.text.some_blanks.Goals as goal
 
 pub returns-then-is_empty : goal.returns-then-is_empty

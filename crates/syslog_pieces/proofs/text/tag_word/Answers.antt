@@ -1,6 +1,5 @@
 use Rattle.syslog_pieces.proofs.Names.{tag_word}
-use Rattle.syslog_pieces.proofs.TextLemmas.Chars.{chars_nonempty, empty_is, nonempty_is}
-use Rattle.syslog_pieces.proofs.TextLemmas.Runs.{no_run_front}
+use Rattle.syslog_pieces.proofs.TextLemmas.Runs.{chars_nonempty, empty_is, nonempty_is, no_run_front}
 use Rattle.syslog_pieces.proofs.text.tag_word.Goals as goal
 
 pub returns-then-is_empty : goal.returns-then-is_empty

@@ -1,6 +1,6 @@
 use Rattle.syslog_pieces.proofs.Names.{◌∙◌, word, colon}
-use Rattle.syslog_pieces.proofs.TextLemmas.Chars.{chars_nonempty, empty_is, nonempty_is, text_is, text_is_not}
-use Rattle.syslog_pieces.proofs.TextLemmas.Runs.{run_is, no_run_front}
+use Rattle.syslog_pieces.proofs.TextLemmas.Runs.{chars_nonempty, empty_is, nonempty_is, text_is, text_is_not, run_is}
+use Rattle.syslog_pieces.proofs.TextLemmas.Runs.{no_run_front}
 use Rattle.syslog_pieces.proofs.TextLemmas.Words.{colon_ascii}
 use Rattle.syslog_pieces.proofs.text.word.Goals as goal
 

@@ -1,5 +1,5 @@
 use Rattle.syslog_pieces.proofs.Names.{[], ◌∷◌, refl, rules}
-use Rattle.syslog_pieces.proofs.TimestampLemmas.Piece.{no_header, no_stamp_front}
+use Rattle.syslog_pieces.proofs.TimestampLemmas.Rfc3339.{no_header, no_stamp_front}
 use Rattle.syslog_pieces.proofs.timestamp.header_stamp.Goals as goal
 
 pub returns-in_err-literal-in-Some : goal.returns-in_err-literal-in-Some

@@ -4,8 +4,7 @@ use Rattle.std.specs.Fmt.{signed_decimal}
 use Rattle.std.specs.Str.{chars}
 use Rattle.syslog_pieces.specs.ProcId.{procid_text}
 use Rattle.syslog_pieces.specs.declared.procid.ProcId.TheVariants.{PID, Name}
-use Rattle.syslog_pieces.proofs.ProcIdLemmas.{process_same}
-use Rattle.syslog_pieces.proofs.ProcIdLemmas.Named.{named_names}
+use Rattle.syslog_pieces.proofs.ProcIdLemmas.{process_same, named_names}
 use Rattle.syslog_strict.proofs.TextLemmas.{appended}
 use Rattle.syslog_strict.proofs.names.push_named.Goals as goal
 

@@ -3,7 +3,7 @@ use Rattle.std.proofs.lemmas.Int.{to_z-of_z}
 use Rattle.std.proofs.lemmas.Str.{IsUtf8-string_bytes, chars-append, chars-IsAscii}
 use Rattle.std.specs.Fmt.{signed_decimal}
 use Rattle.std.specs.Str.{chars}
-use Rattle.syslog_pieces.proofs.TextLemmas.Decimals.{signed_ascii}
+use Rattle.syslog_pieces.proofs.TextLemmas.Words.{signed_ascii}
 use Rattle.syslog_strict.specs.Pushing.{text_in}
 use Rattle.syslog_strict.proofs.names.push_number.Goals as goal
 

@@ -1,5 +1,5 @@
 use Rattle.syslog_loose.proofs.Names.{list_elements}
-use Rattle.syslog_pieces.proofs.StructuredDataLemmas.Recognised.{are_canonical}
+use Rattle.syslog_pieces.proofs.StructuredDataLemmas.Elements.{are_canonical}
 use Rattle.syslog_loose.proofs.line.Line.is_canonical.Goals as goal
 
 pub returns : goal.returns

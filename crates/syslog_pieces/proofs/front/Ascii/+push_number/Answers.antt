@@ -1,5 +1,5 @@
 use Rattle.syslog_pieces.proofs.Names.{arith, common_steps}
-use Rattle.syslog_pieces.proofs.TextLemmas.Decimals.{last_of_more, one_longer}
+use Rattle.syslog_pieces.proofs.TextLemmas.Words.{last_of_more, one_longer}
 use Rattle.syslog_pieces.proofs.front.Ascii.+push_number.Goals as goal
 
 pub push_number-requires : goal.push_number-requires

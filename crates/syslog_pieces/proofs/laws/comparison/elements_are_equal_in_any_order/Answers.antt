@@ -1,6 +1,5 @@
-use Rattle.syslog_pieces.proofs.Names.{ap, sym, ◌∙◌, text_of, ElementValue, element_value}
+use Rattle.syslog_pieces.proofs.Names.{ap, sym, ◌∙◌, text_of, ElementValue, element_value, element_eq}
 use Rattle.std.specs.Cmp.{partial_equiv_from_equiv}
-use Rattle.syslog_pieces.specs.StructuredData.Equal.{element_eq}
 use Rattle.syslog_pieces.specs.StructuredData.EqualLaws.{element_equivalence, element_eq-decides}
 use Rattle.syslog_pieces.proofs.laws.comparison.elements_are_equal_in_any_order.Goals as goal
 

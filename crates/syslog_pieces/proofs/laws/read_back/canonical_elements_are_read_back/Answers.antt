@@ -1,4 +1,4 @@
-use Rattle.syslog_pieces.proofs.StructuredDataLemmas.ReadBack.{forgiving_back, forgiving_canonical}
+use Rattle.syslog_pieces.proofs.StructuredDataLemmas.Elements.{forgiving_back, forgiving_canonical}
 use Rattle.syslog_pieces.proofs.laws.read_back.canonical_elements_are_read_back.Goals as goal
 
 pub returns-clause-back : goal.returns-clause-back

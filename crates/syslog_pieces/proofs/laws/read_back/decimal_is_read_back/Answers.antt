@@ -1,4 +1,4 @@
-use Rattle.syslog_pieces.proofs.TextLemmas.ReadBack.{number_back}
+use Rattle.syslog_pieces.proofs.TextLemmas.Words.{number_back}
 use Rattle.syslog_pieces.proofs.laws.read_back.decimal_is_read_back.Goals as goal
 
 pub returns : goal.returns

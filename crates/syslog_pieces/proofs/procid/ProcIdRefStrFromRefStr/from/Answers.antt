@@ -1,9 +1,8 @@
-use Rattle.syslog_pieces.proofs.Names.{◌≡◌, FitsSigned, pos, w32, inl, arith, ap, chars-IsAscii, signed_arith}
-use Rattle.std.proofs.Common.{to_z}
+use Rattle.syslog_pieces.proofs.Names.{◌≡◌, FitsSigned, pos, w32, inl, arith, ap, chars-IsAscii, signed_arith, to_z}
 use Rattle.std.proofs.lemmas.Int.{to_z_pos}
-use Rattle.syslog_pieces.proofs.TextLemmas.Chars.{digits_ascii}
-use Rattle.syslog_pieces.proofs.procid.ProcIdRefStrFromRefStr.from.Goals as goal
+use Rattle.syslog_pieces.proofs.TextLemmas.Runs.{digits_ascii}
 use Rattle.syslog_pieces.proofs.ProcIdLemmas.{writes_numeral}
+use Rattle.syslog_pieces.proofs.procid.ProcIdRefStrFromRefStr.from.Goals as goal
 
 pub returns-in-Some : goal.returns-in-Some
 returns-in-Some c =

@@ -1,7 +1,7 @@
 use Rattle.syslog_pieces.proofs.Names.{refl, ◌∙◌, ap, sym, [], ◌∷◌, ◌++◌, append_assoc, take_all, flat_map, Text}
 use Rattle.syslog_pieces.proofs.Names.{param_text, param_value, text_of, put_two}
-use Rattle.syslog_pieces.proofs.TextLemmas.Printed.{encodes_shown, encodes_step, encodes_param, encodes_opening}
-use Rattle.syslog_pieces.proofs.TextLemmas.Printed.{encodes_closed, flat_map-map}
+use Rattle.syslog_pieces.proofs.TextLemmas.Words.{encodes_shown, encodes_step, encodes_param, encodes_opening}
+use Rattle.syslog_pieces.proofs.TextLemmas.Words.{encodes_closed, flat_map-map}
 use Rattle.syslog_pieces.proofs.structured_data.StructuredElementDisplay.fmt.Goals as goal
 
 pub loop-name-init : goal.loop-name-init

@@ -1,5 +1,5 @@
 use Rattle.syslog_pieces.proofs.Names.{text_of, element_value, IsCanonicalElement, false_is, no_truth}
-use Rattle.syslog_pieces.proofs.StructuredDataLemmas.Canonical.{all_at}
+use Rattle.syslog_pieces.proofs.StructuredDataLemmas.Closing.{all_at}
 use Rattle.syslog_pieces.proofs.structured_data.canonical.are_canonical_elements.Goals as goal
 
 pub returns-then-not-is_canonical_element : goal.returns-then-not-is_canonical_element

@@ -1,5 +1,5 @@
 use Rattle.syslog_pieces.proofs.Names.{text_of, param_value, IsCanonicalParam, false_is, no_truth}
-use Rattle.syslog_pieces.proofs.StructuredDataLemmas.Canonical.{all_at}
+use Rattle.syslog_pieces.proofs.StructuredDataLemmas.Closing.{all_at}
 use Rattle.syslog_pieces.proofs.structured_data.canonical.are_canonical_params.Goals as goal
 
 pub returns-then-not-is_canonical_param : goal.returns-then-not-is_canonical_param

@@ -1,9 +1,9 @@
-use Rattle.syslog_pieces.proofs.StructuredDataLemmas.Canonical.{value_on}
+use Rattle.syslog_pieces.proofs.StructuredDataLemmas.Closing.{value_further}
 use Rattle.syslog_pieces.proofs.structured_data.canonical.is_value.Goals as goal
 
 pub units-preserved : goal.units-preserved
 units-preserved c = (
   c.in-Some-first.ensures.1,
-  value_on _ _ _ _ c.split_run.ensures c.units.invariant.1 _ _ c.in-Some.ensures.0 c.if-c-eq34.false _ _
+  value_further _ _ _ _ c.split_run.ensures c.units.invariant.1 _ _ c.in-Some.ensures.0 c.if-c-eq34.false _ _
       c.in-Some-first.ensures.0,
 )

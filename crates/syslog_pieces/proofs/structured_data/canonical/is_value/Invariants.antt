@@ -1,5 +1,5 @@
 use Rattle.syslog_pieces.proofs.Names.{length, shadow, Utf8, chars}
-use Rattle.syslog_pieces.proofs.StructuredDataLemmas.Canonical.{ExtendsValue}
+use Rattle.syslog_pieces.proofs.StructuredDataLemmas.Closing.{ExtendsValue}
 use Rattle.syslog_pieces.proofs.structured_data.canonical.is_value.Given as goal
 
 abbrev pub invariant-units : goal.invariant-units

@@ -1,5 +1,5 @@
 use Rattle.syslog_pieces.proofs.Names.{refl, [], put_two, element_text, element_seen}
-use Rattle.syslog_pieces.proofs.TextLemmas.Printed.{encodes_more}
+use Rattle.syslog_pieces.proofs.TextLemmas.Words.{encodes_more}
 use Rattle.syslog_pieces.proofs.structured_data.display.write_joined.Goals as goal
 
 pub loop-element-preserved : goal.loop-element-preserved

@@ -1,7 +1,6 @@
-use Rattle.syslog_pieces.proofs.Names.{◌∙◌, sym, and_from, take_all, text_of, ne_eqb}
+use Rattle.syslog_pieces.proofs.Names.{◌∙◌, sym, and_from, take_all, text_of, ne_eqb, list_all_more, list_all_at}
 use Rattle.std.proofs.lemmas.Bool.{eq-eqb}
-use Rattle.std.proofs.lemmas.List.Folds.{list_all_more, list_all_at}
-use Rattle.syslog_pieces.proofs.StructuredDataLemmas.Equality.{counts_agree-map}
+use Rattle.syslog_pieces.proofs.StructuredDataLemmas.Units.{counts_agree-map}
 use Rattle.syslog_pieces.proofs.structured_data.equality.are_as_frequent.Goals as goal
 
 pub returns-then-count_param : goal.returns-then-count_param

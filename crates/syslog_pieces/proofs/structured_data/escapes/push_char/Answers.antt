@@ -1,6 +1,5 @@
-use Rattle.syslog_pieces.proofs.Names.{string_bytes, append-nil, sym, [], ◌∷◌, ◌++◌, ◌∙◌, ap, List, ℕ, ◌≡◌}
-use Rattle.syslog_pieces.proofs.Names.{IsUtf8-string_bytes, chars_past_char, chars-nil, chars, IfOk-weaker}
-use Rattle.std.proofs.lemmas.Str.{IsUtf8-encode}
+use Rattle.syslog_pieces.proofs.Names.{string_bytes, IsUtf8-string_bytes, chars_past_char, IfOk-weaker, IsUtf8-encode}
+use Rattle.syslog_pieces.proofs.Names.{append-nil, sym, [], ◌∷◌, ◌++◌, ◌∙◌, ap, List, ℕ, ◌≡◌, chars-nil, chars}
 use Rattle.std.specs.Char.{encode_utf8}
 use Rattle.syslog_pieces.proofs.StructuredDataLemmas.Units.{pushed}
 use Rattle.syslog_pieces.proofs.structured_data.escapes.push_char.Goals as goal

@@ -1,5 +1,5 @@
 use Rattle.syslog_pieces.proofs.Names.{rules, refl, sym, ◌≡◌, ◌∙◌, chars, [], ◌∷◌, append_cancel_right, append-nil}
-use Rattle.syslog_pieces.proofs.StructuredDataLemmas.Recognised.{dash_items}
+use Rattle.syslog_pieces.proofs.StructuredDataLemmas.Elements.{dash_items}
 use Rattle.syslog_pieces.proofs.structured_data.line_list.dash_list.Goals as goal
 
 pub before-dash-requires : goal.before-dash-requires

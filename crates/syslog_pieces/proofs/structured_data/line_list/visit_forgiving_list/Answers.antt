@@ -1,6 +1,6 @@
 use Rattle.syslog_pieces.proofs.Names.{rules, ◌≡◌, ◌<◌, ◌∙◌, sym, ap, length}
-use Rattle.syslog_pieces.proofs.TextLemmas.Chars.{chars_empty, chars_nonempty}
-use Rattle.syslog_pieces.proofs.StructuredDataLemmas.Listed.{no_forgiving, none_strict, some_forgiving, visits_along}
+use Rattle.syslog_pieces.proofs.TextLemmas.Runs.{chars_empty, chars_nonempty}
+use Rattle.syslog_pieces.proofs.StructuredDataLemmas.Walk.{no_forgiving, none_strict, some_forgiving, visits_along}
 use Rattle.syslog_pieces.proofs.structured_data.line_list.visit_forgiving_list.Goals as goal
 
 pub returns-then-is_empty-clause-list : goal.returns-then-is_empty-clause-list

@@ -2,9 +2,8 @@ use Rattle.syslog_pieces.proofs.Names.{rules, arith, refl, sym, ap, ◌∙◌, �
 use Rattle.syslog_pieces.proofs.Names.{full_element, has_read_none, Front, has_read_more, has_read_all, and_parts}
 use Rattle.syslog_pieces.proofs.Names.{element_seen}
 use Rattle.syslog_pieces.proofs.StructuredDataLemmas.Elements.{element_shorter, strict_some}
-use Rattle.syslog_pieces.proofs.StructuredDataLemmas.Listed.{are_full_items, counts_none, counts_more, visits_none}
-use Rattle.syslog_pieces.proofs.StructuredDataLemmas.Listed.{visits_more, visits_along, tallied_along}
-use Rattle.syslog_pieces.proofs.StructuredDataLemmas.Walk.{chars_length}
+use Rattle.syslog_pieces.proofs.StructuredDataLemmas.Walk.{are_full_items, counts_none, counts_more, visits_none}
+use Rattle.syslog_pieces.proofs.StructuredDataLemmas.Walk.{visits_more, visits_along, tallied_along, chars_length}
 use Rattle.syslog_pieces.proofs.structured_data.line_list.visit_full_elements.Goals as goal
 
 pub elements-init : goal.elements-init

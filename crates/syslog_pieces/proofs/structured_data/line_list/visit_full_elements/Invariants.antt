@@ -1,6 +1,6 @@
 use Rattle.syslog_pieces.proofs.Names.{List, length, shadow, Utf8, chars, ElementValue, full_element, HasRead, true}
 use Rattle.syslog_pieces.proofs.Names.{Visits}
-use Rattle.syslog_pieces.proofs.StructuredDataLemmas.Listed.{Counts}
+use Rattle.syslog_pieces.proofs.StructuredDataLemmas.Walk.{Counts}
 use Rattle.syslog_pieces.proofs.structured_data.line_list.visit_full_elements.Given as goal
 
 abbrev pub invariant-elements : goal.invariant-elements

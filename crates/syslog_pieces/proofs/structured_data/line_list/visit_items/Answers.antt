@@ -3,10 +3,9 @@ use Rattle.syslog_pieces.proofs.Names.{length, chars, item, strict, has_read_non
 use Rattle.syslog_pieces.proofs.Names.{and_parts, element_seen}
 use Rattle.syslog_pieces.proofs.StructuredDataLemmas.Closing.{byte_count_slice, dead_whole, dead_suffix, dead_least}
 use Rattle.syslog_pieces.proofs.StructuredDataLemmas.Elements.{element_item, element_shorter, no_item, bracketed_item}
-use Rattle.syslog_pieces.proofs.StructuredDataLemmas.Listed.{are_items, counts_none, counts_more, counts_broken}
-use Rattle.syslog_pieces.proofs.StructuredDataLemmas.Listed.{visits_none, visits_more, visits_along, counts_along}
-use Rattle.syslog_pieces.proofs.StructuredDataLemmas.Listed.{strict_more, strict_same}
-use Rattle.syslog_pieces.proofs.StructuredDataLemmas.Walk.{chars_length}
+use Rattle.syslog_pieces.proofs.StructuredDataLemmas.Walk.{are_items, counts_none, counts_more, counts_broken}
+use Rattle.syslog_pieces.proofs.StructuredDataLemmas.Walk.{visits_none, visits_more, visits_along, counts_along}
+use Rattle.syslog_pieces.proofs.StructuredDataLemmas.Walk.{strict_more, strict_same, chars_length}
 use Rattle.syslog_pieces.proofs.structured_data.line_list.visit_items.Goals as goal
 
 pub items-init : goal.items-init

@@ -1,6 +1,6 @@
 use Rattle.syslog_pieces.proofs.Names.{List, Option, length, shadow, Utf8, chars, IsDead, ElementValue, item, strict}
 use Rattle.syslog_pieces.proofs.Names.{HasRead, Visits}
-use Rattle.syslog_pieces.proofs.StructuredDataLemmas.Listed.{Counts}
+use Rattle.syslog_pieces.proofs.StructuredDataLemmas.Walk.{Counts}
 use Rattle.syslog_pieces.proofs.structured_data.line_list.visit_items.Given as goal
 
 abbrev pub invariant-items : goal.invariant-items

@@ -1,7 +1,6 @@
 use Rattle.syslog_pieces.proofs.Names.{has, some_run}
-use Rattle.syslog_pieces.proofs.TextLemmas.Chars.{empty_is}
+use Rattle.syslog_pieces.proofs.TextLemmas.Runs.{empty_is, no_some_run}
 use Rattle.syslog_pieces.proofs.PieceLemmas.Class.{no_texted}
-use Rattle.syslog_pieces.proofs.TextLemmas.Runs.{no_some_run}
 use Rattle.syslog_pieces.proofs.structured_data.recognise.nonempty_run.Goals as goal
 
 pub returns-then-is_empty : goal.returns-then-is_empty

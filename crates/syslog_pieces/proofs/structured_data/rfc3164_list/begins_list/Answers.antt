@@ -1,4 +1,4 @@
-use Rattle.syslog_pieces.proofs.StructuredDataLemmas.Rfc3164List.{begins_no_list, no_rfc3164_list}
+use Rattle.syslog_pieces.proofs.StructuredDataLemmas.Walk.{begins_no_list, no_rfc3164_list}
 use Rattle.syslog_pieces.proofs.structured_data.rfc3164_list.begins_list.Goals as goal
 
 pub returns-in-Some : goal.returns-in-Some

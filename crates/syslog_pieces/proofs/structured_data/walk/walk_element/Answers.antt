@@ -2,7 +2,7 @@ use Rattle.syslog_pieces.proofs.Names.{rules, arith, refl, sym, subst, ◌≡◌
 use Rattle.syslog_pieces.proofs.Names.{MatchResult, IsErrAnd, inl, NoFront, start_row, row_of, no_row, ◌then◌, IsDead}
 use Rattle.syslog_pieces.proofs.Names.{element, eqb-true, ElementValue}
 use Rattle.syslog_pieces.proofs.StructuredDataLemmas.Closing.{byte_count_slice, dead_suffix, start_det, no_start}
-use Rattle.syslog_pieces.proofs.StructuredDataLemmas.ReadBack.{start_text}
+use Rattle.syslog_pieces.proofs.StructuredDataLemmas.Elements.{start_text}
 use Rattle.syslog_pieces.proofs.StructuredDataLemmas.Walk.{bare_inside, bare_element, bare_prints, same_rest, at_first}
 use Rattle.syslog_pieces.proofs.StructuredDataLemmas.Walk.{not_opened, value_passes, not_closed, not_separated, ends}
 use Rattle.syslog_pieces.proofs.StructuredDataLemmas.Walk.{goes_on, front_length, param_length, chars_length, one_more}

@@ -1,6 +1,6 @@
 use Rattle.syslog_pieces.proofs.Names.{sym, ◌∙◌, rules, chars, length, IsDead}
 use Rattle.syslog_pieces.proofs.StructuredDataLemmas.Closing.{byte_count_slice, dead_whole}
-use Rattle.syslog_pieces.proofs.StructuredDataLemmas.Rfc3164List.{bare_is_not_full, none_full}
+use Rattle.syslog_pieces.proofs.StructuredDataLemmas.Walk.{bare_is_not_full, none_full}
 use Rattle.syslog_pieces.proofs.structured_data.walk.walk_full_element.Goals as goal
 
 pub walk_element-requires : goal.walk_element-requires

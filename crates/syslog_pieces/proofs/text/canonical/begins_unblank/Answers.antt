@@ -1,4 +1,4 @@
-use Rattle.syslog_pieces.proofs.TextLemmas.Canonical.{none_told}
+use Rattle.syslog_pieces.proofs.TextLemmas.Words.{none_told}
 use Rattle.syslog_pieces.proofs.text.canonical.begins_unblank.Goals as goal
 
 pub returns : goal.returns

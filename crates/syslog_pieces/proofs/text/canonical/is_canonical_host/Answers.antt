@@ -1,4 +1,4 @@
-use Rattle.syslog_pieces.proofs.TextLemmas.Canonical.{host_told}
+use Rattle.syslog_pieces.proofs.TextLemmas.Words.{host_told}
 use Rattle.syslog_pieces.proofs.text.canonical.is_canonical_host.Goals as goal
 
 pub returns : goal.returns

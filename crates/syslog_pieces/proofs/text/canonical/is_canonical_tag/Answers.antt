@@ -1,4 +1,4 @@
-use Rattle.syslog_pieces.proofs.TextLemmas.Canonical.{tag_told}
+use Rattle.syslog_pieces.proofs.TextLemmas.Words.{tag_told}
 use Rattle.syslog_pieces.proofs.text.canonical.is_canonical_tag.Goals as goal
 
 pub returns : goal.returns

@@ -1,4 +1,4 @@
-use Rattle.syslog_pieces.proofs.TextLemmas.Canonical.{word_told}
+use Rattle.syslog_pieces.proofs.TextLemmas.Words.{word_told}
 use Rattle.syslog_pieces.proofs.text.canonical.is_canonical_word.Goals as goal
 
 pub returns : goal.returns

@@ -1,4 +1,4 @@
-use Rattle.syslog_pieces.proofs.TextLemmas.Canonical.{only_told}
+use Rattle.syslog_pieces.proofs.TextLemmas.Words.{only_told}
 use Rattle.syslog_pieces.proofs.text.canonical.is_only.Goals as goal
 
 pub returns : goal.returns

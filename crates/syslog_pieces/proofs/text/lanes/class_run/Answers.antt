@@ -1,4 +1,4 @@
-use Rattle.syslog_pieces.proofs.TextLemmas.Lanes.{class_run}
+use Rattle.syslog_pieces.proofs.TextLemmas.Runs.{class_run}
 use Rattle.syslog_pieces.proofs.text.lanes.class_run.Goals as goal
 
 pub returns : goal.returns

@@ -1,5 +1,5 @@
 use Rattle.syslog_pieces.proofs.Names.{ℕ, ◌+◌, ◌-◌, ◌%◌, nat_eq, slice_index, nat_lt}
-use Rattle.syslog_pieces.proofs.TextLemmas.Lanes.{run_in, lanes, joined, splat, past, mask_tests, past_ascii}
+use Rattle.syslog_pieces.proofs.TextLemmas.Runs.{run_in, lanes, joined, splat, past, mask_tests, past_ascii}
 use Rattle.syslog_pieces.proofs.text.lanes.set_run.Goals as goal
 
 pub returns : goal.returns

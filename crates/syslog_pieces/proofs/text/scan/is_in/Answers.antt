@@ -1,7 +1,6 @@
 -- The table is held against the classes at each of the 256 bytes, by computing.
 use Rattle.syslog_pieces.proofs.Names.{◌≡◌, ℕ, Bool, true, not, nat_eq, get_or, refl, ap, ◌∙◌, arith, agree_below}
-use Rattle.syslog_pieces.proofs.Names.{agree_below_at, CharClass, byte_in, bit_of}
-use Rattle.std.proofs.Common.{bit_and}
+use Rattle.syslog_pieces.proofs.Names.{agree_below_at, CharClass, byte_in, bit_of, bit_and}
 use Rattle.syslog_pieces.specs.declared.text.scan.TheConstants.{CLASSES}
 use Rattle.syslog_pieces.specs.declared.text.CharClass.TheVariants.{Digit}
 use Rattle.syslog_pieces.proofs.text.scan.is_in.Goals as goal

@@ -1,5 +1,5 @@
 use Rattle.syslog_pieces.proofs.Names.{ap, length, arith, eqb-true}
-use Rattle.syslog_pieces.proofs.TextLemmas.Verbatim.{space_stands}
+use Rattle.syslog_pieces.proofs.TextLemmas.Runs.{space_stands}
 use Rattle.syslog_pieces.proofs.text.verbatim.is_one_space.Goals as goal
 
 pub returns-then-begins_with : goal.returns-then-begins_with

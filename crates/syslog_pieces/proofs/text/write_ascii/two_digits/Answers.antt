@@ -1,5 +1,5 @@
 use Rattle.syslog_pieces.proofs.Names.{arith}
-use Rattle.syslog_pieces.proofs.TextLemmas.Decimals.{pairs_at}
+use Rattle.syslog_pieces.proofs.TextLemmas.Words.{pairs_at}
 use Rattle.syslog_pieces.proofs.text.write_ascii.two_digits.Goals as goal
 
 pub returns-clause-ascii : goal.returns-clause-ascii

@@ -1,11 +1,10 @@
 use Rattle.syslog_pieces.proofs.Names.{◌≡◌, ◌↔◌, ◌≤ℤ◌, ℤ, pos, Bool, true, false, IsTrue, refl, ap, arith, to_z-of_z}
-use Rattle.syslog_pieces.proofs.Names.{CivilFields, clock_value}
-use Rattle.std.proofs.Common.{SFits}
+use Rattle.syslog_pieces.proofs.Names.{CivilFields, clock_value, SFits}
 use Rattle.std.proofs.Math.Dec.{T}
 use Rattle.std.specs.Int.{w32}
 use Rattle.std.specs.Int.Signed.{le_z, le_z_yes}
 use Rattle.syslog_pieces.proofs.TimestampLemmas.Civil.{shows_fields}
-use Rattle.syslog_pieces.proofs.TimestampLemmas.RoundTrip.{own_year-to}
+use Rattle.syslog_pieces.proofs.TimestampLemmas.Rfc3339.{own_year-to}
 use Rattle.syslog_pieces.proofs.timestamp.canonical.shows_late.Goals as goal
 
 yes : (b : Bool) → T b → IsTrue b

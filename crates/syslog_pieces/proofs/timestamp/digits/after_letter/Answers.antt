@@ -1,5 +1,5 @@
 use Rattle.syslog_pieces.proofs.Names.{inl, inr, ◌+◌, [], ◌∷◌, refl, rules}
-use Rattle.syslog_pieces.proofs.TimestampLemmas.Bytes.{first_rest}
+use Rattle.syslog_pieces.proofs.TimestampLemmas.Digits.{first_rest}
 use Rattle.syslog_pieces.proofs.timestamp.digits.after_letter.Goals as goal
 
 pub returns-in-len1-up : goal.returns-in-len1-up

@@ -1,5 +1,5 @@
 use Rattle.syslog_pieces.proofs.Names.{refl}
-use Rattle.syslog_pieces.proofs.TimestampLemmas.Decimals.{decimals_front, three, six, nine}
+use Rattle.syslog_pieces.proofs.TimestampLemmas.Digits.{decimals_front, three, six, nine}
 use Rattle.syslog_pieces.proofs.timestamp.digits.few_decimals.Goals as goal
 
 pub returns-then-not-begins_with_digit : goal.returns-then-not-begins_with_digit

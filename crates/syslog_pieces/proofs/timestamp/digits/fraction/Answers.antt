@@ -1,6 +1,5 @@
 use Rattle.syslog_pieces.proofs.Names.{rules}
-use Rattle.syslog_pieces.proofs.TimestampLemmas.Bytes.{first_rest}
-use Rattle.syslog_pieces.proofs.TimestampLemmas.Decimals.{fraction_reads, no_dot_front}
+use Rattle.syslog_pieces.proofs.TimestampLemmas.Digits.{first_rest, fraction_reads, no_dot_front}
 use Rattle.syslog_pieces.proofs.timestamp.digits.fraction.Goals as goal
 
 pub returns-in-46 : goal.returns-in-46

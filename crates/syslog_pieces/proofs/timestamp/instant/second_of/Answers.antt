@@ -1,5 +1,5 @@
 use Rattle.syslog_pieces.proofs.Names.{FitsSigned, w32, w64, refl, rules, to_z-of_z}
-use Rattle.syslog_pieces.proofs.TimestampLemmas.Range.{instant_by_count}
+use Rattle.syslog_pieces.proofs.TimestampLemmas.Civil.{instant_by_count}
 use Rattle.syslog_pieces.proofs.timestamp.instant.second_of.Goals as goal
 
 pub returns : goal.returns

@@ -1,5 +1,5 @@
 use Rattle.syslog_pieces.proofs.Names.{rules}
-use Rattle.syslog_pieces.proofs.TimestampLemmas.Months.{month_cut, month_read, no_month}
+use Rattle.syslog_pieces.proofs.TimestampLemmas.MonthDate.{month_cut, month_read, no_month}
 use Rattle.syslog_pieces.proofs.timestamp.month_date.read_month.Goals as goal
 
 pub split_at-requires : goal.split_at-requires

@@ -1,8 +1,6 @@
 use Rattle.syslog_pieces.proofs.Names.{◌<◌, length, arith, rules, stamp_text}
-use Rattle.syslog_pieces.proofs.TimestampLemmas.Bytes.{bytes_cut, bytes_front, no_bytes_front}
-use Rattle.syslog_pieces.proofs.TimestampLemmas.Characters.{stamp_ascii}
-use Rattle.syslog_pieces.proofs.TimestampLemmas.Rfc3339.{stamp_alone}
-use Rattle.syslog_pieces.proofs.TimestampLemmas.Texts.{text_long}
+use Rattle.syslog_pieces.proofs.TimestampLemmas.Digits.{bytes_cut, bytes_front, no_bytes_front, stamp_ascii}
+use Rattle.syslog_pieces.proofs.TimestampLemmas.Rfc3339.{stamp_alone, text_long}
 use Rattle.syslog_pieces.proofs.timestamp.rfc3339_text.read.Goals as goal
 
 pub returns-then-bytes-lt-LEAST : goal.returns-then-bytes-lt-LEAST

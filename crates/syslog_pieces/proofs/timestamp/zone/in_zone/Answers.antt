@@ -1,5 +1,5 @@
 use Rattle.syslog_pieces.proofs.Names.{sym, plain_zone}
-use Rattle.syslog_pieces.proofs.TimestampLemmas.Zone.{answer_at, answer_on_clock}
+use Rattle.syslog_pieces.proofs.TimestampLemmas.MonthDate.{answer_at, answer_on_clock}
 use Rattle.syslog_pieces.proofs.timestamp.zone.in_zone.Goals as goal
 
 pub returns : goal.returns

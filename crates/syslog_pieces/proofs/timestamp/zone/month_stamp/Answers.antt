@@ -1,6 +1,6 @@
 use Rattle.syslog_pieces.proofs.Names.{FitsSigned, w32, refl, rules, to_z-of_z}
 use Rattle.syslog_pieces.specs.Timestamp.Zone.{dating_value}
-use Rattle.syslog_pieces.proofs.TimestampLemmas.Zone.{answer_in_year, fixed_answer}
+use Rattle.syslog_pieces.proofs.TimestampLemmas.MonthDate.{answer_in_year, fixed_answer}
 use Rattle.syslog_pieces.proofs.timestamp.zone.month_stamp.Goals as goal
 
 pub returns-in-Ok : goal.returns-in-Ok

@@ -1,5 +1,5 @@
 use Rattle.syslog_pieces.proofs.Names.{Some, None, plain_zone}
-use Rattle.syslog_pieces.proofs.TimestampLemmas.Zone.{answer_of_fields}
+use Rattle.syslog_pieces.proofs.TimestampLemmas.MonthDate.{answer_of_fields}
 use Rattle.syslog_pieces.proofs.timestamp.zone.of_fields.Goals as goal
 
 pub returns-in-Some : goal.returns-in-Some

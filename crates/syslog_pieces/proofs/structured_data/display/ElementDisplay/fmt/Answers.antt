@@ -1,8 +1,8 @@
 use Rattle.syslog_pieces.proofs.Names.{refl, ◌∙◌, ap, sym, [], ◌∷◌, ◌++◌, append_assoc, flat_map, param_text}
 use Rattle.syslog_pieces.proofs.Names.{encode_utf8_all, param_value, shown, put_two, YieldsList-end}
 use Rattle.syslog_pieces.proofs.Names.{YieldsList-from_first, element_seen, params_left}
-use Rattle.syslog_pieces.proofs.TextLemmas.Printed.{encodes_closed, encodes_more, encodes_opening, encodes_param}
-use Rattle.syslog_pieces.proofs.TextLemmas.Printed.{encodes_shown}
+use Rattle.syslog_pieces.proofs.TextLemmas.Words.{encodes_closed, encodes_more, encodes_opening, encodes_param}
+use Rattle.syslog_pieces.proofs.TextLemmas.Words.{encodes_shown}
 use Rattle.syslog_pieces.proofs.structured_data.display.ElementDisplay.fmt.Goals as goal
 
 pub loop-name-init : goal.loop-name-init

@@ -1,5 +1,5 @@
 use Rattle.syslog_pieces.proofs.Names.{sym, ap, ◌∙◌, encode_utf8_all, has_written_of_eq}
-use Rattle.syslog_pieces.proofs.TextLemmas.Printed.{encodes_shown}
+use Rattle.syslog_pieces.proofs.TextLemmas.Words.{encodes_shown}
 use Rattle.syslog_pieces.proofs.structured_data.display.ElementListDisplay.fmt.Goals as goal
 
 pub returns-in-Some-clause-writes : goal.returns-in-Some-clause-writes

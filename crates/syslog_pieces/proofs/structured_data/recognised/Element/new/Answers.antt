@@ -1,5 +1,5 @@
 use Rattle.syslog_pieces.proofs.Names.{rules, inside, ap, length, ◌∙◌, sym, one_value-is}
-use Rattle.syslog_pieces.proofs.StructuredDataLemmas.Recognised.{seen_is}
+use Rattle.syslog_pieces.proofs.StructuredDataLemmas.Elements.{seen_is}
 use Rattle.syslog_pieces.proofs.StructuredDataLemmas.Walk.{one_meaning, inside_det}
 use Rattle.syslog_pieces.proofs.structured_data.recognised.Element.new.Goals as goal
 

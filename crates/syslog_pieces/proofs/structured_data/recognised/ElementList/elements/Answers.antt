@@ -1,6 +1,6 @@
 use Rattle.syslog_pieces.proofs.Names.{ap, sym, strict}
 use Rattle.syslog_pieces.proofs.StructuredDataLemmas.Closing.{byte_count_slice, dead_whole}
-use Rattle.syslog_pieces.proofs.StructuredDataLemmas.Left.{items_same}
+use Rattle.syslog_pieces.proofs.StructuredDataLemmas.Walk.{items_same}
 use Rattle.syslog_pieces.proofs.structured_data.recognised.ElementList.elements.Goals as goal
 
 pub invariant_of-result : goal.invariant_of-result

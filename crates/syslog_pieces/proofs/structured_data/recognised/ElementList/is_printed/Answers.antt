@@ -1,5 +1,5 @@
 use Rattle.syslog_pieces.proofs.Names.{◌∙◌, eqb-true}
-use Rattle.syslog_pieces.proofs.StructuredDataLemmas.Recognised.{same_front}
+use Rattle.syslog_pieces.proofs.StructuredDataLemmas.Elements.{same_front}
 use Rattle.syslog_pieces.proofs.structured_data.recognised.ElementList.is_printed.Goals as goal
 
 pub returns-in-Some : goal.returns-in-Some

@@ -1,7 +1,6 @@
 use Rattle.syslog_pieces.proofs.Names.{rules, List, Option, Some, None, IfSome, length, ap, sym, ◌∙◌, many, item}
 use Rattle.syslog_pieces.proofs.Names.{many_det, ElementValue, sum_by, elements_text}
-use Rattle.syslog_pieces.proofs.StructuredDataLemmas.Elements.{item_det}
-use Rattle.syslog_pieces.proofs.StructuredDataLemmas.Recognised.{items_are, left_out}
+use Rattle.syslog_pieces.proofs.StructuredDataLemmas.Elements.{item_det, items_are, left_out}
 use Rattle.syslog_pieces.proofs.StructuredDataLemmas.Walk.{one_meaning}
 use Rattle.syslog_pieces.proofs.structured_data.recognised.ElementList.new.Goals as goal
 

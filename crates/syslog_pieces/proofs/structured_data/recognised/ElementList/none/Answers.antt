@@ -1,5 +1,5 @@
 use Rattle.syslog_pieces.proofs.Names.{refl, chars-nil, [], ◌∙◌}
-use Rattle.syslog_pieces.proofs.StructuredDataLemmas.Recognised.{no_items_here}
+use Rattle.syslog_pieces.proofs.StructuredDataLemmas.Elements.{no_items_here}
 use Rattle.syslog_pieces.proofs.structured_data.recognised.ElementList.none.Goals as goal
 
 pub new-requires : goal.new-requires

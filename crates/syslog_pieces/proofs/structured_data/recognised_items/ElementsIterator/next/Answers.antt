@@ -2,7 +2,7 @@ use Rattle.syslog_pieces.proofs.Names.{rules, refl, ap, sym, subst, ◌∙◌, �
 use Rattle.syslog_pieces.proofs.Names.{IsDead, strict, element_seen}
 use Rattle.syslog_pieces.proofs.StructuredDataLemmas.Closing.{dead_suffix, dead_least}
 use Rattle.syslog_pieces.proofs.StructuredDataLemmas.Elements.{element_item, no_item, bracketed_item}
-use Rattle.syslog_pieces.proofs.StructuredDataLemmas.Left.{items_less, items_same, no_elements}
+use Rattle.syslog_pieces.proofs.StructuredDataLemmas.Walk.{items_less, items_same, no_elements}
 use Rattle.syslog_pieces.proofs.structured_data.recognised_items.ElementsIterator.next.Goals as goal
 
 pub items-init : goal.items-init

@@ -1,5 +1,5 @@
 use Rattle.syslog_pieces.proofs.Names.{rules, ap, ◌∙◌, ◌∷◌, List, Text, param_value, shown}
-use Rattle.syslog_pieces.proofs.StructuredDataLemmas.Left.{inside_same, no_params, not_inside, params_less}
+use Rattle.syslog_pieces.proofs.StructuredDataLemmas.Walk.{inside_same, no_params, not_inside, params_less}
 use Rattle.syslog_pieces.proofs.structured_data.recognised_items.ParamsIterator.next.Goals as goal
 
 pub returns-in-Some-clause-steps : goal.returns-in-Some-clause-steps
