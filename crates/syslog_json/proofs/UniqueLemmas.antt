@@ -4,7 +4,7 @@ use Rattle.std.proofs.Common.{ap, inl, inr, refl, subst, sym, ◌∙◌}
 use Rattle.std.specs.Str.{chars}
 use Rattle.jiff.specs.Words.{plain_zone}
 use Rattle.jiff.specs.Types.{TimeZone}
-use Rattle.serde_json.specs.Data.{Data}
+use Rattle.json.specs.Json.{Json}
 use Rattle.syslog_pieces.specs.Pieces.Class.{Text}
 use Rattle.syslog_pieces.specs.declared.timestamp.month_date.MonthDate.{MonthDate}
 use Rattle.syslog_loose.specs.Line.{line_value}
@@ -26,7 +26,7 @@ use Rattle.syslog_object.specs.declared.writer.ObjectWriter.{ObjectWriter}
 use Rattle.syslog_json.specs.Objects.{IsLineRead, IsOnly, IsReadJson, IsRefusedJson, answer_of, raw_text}
 use Rattle.syslog_json.specs.declared.options.Options.{Options}
 
-read_twice : (options : Options) (line : List ℕ) (value other : Data) → IsReadJson options line value
+read_twice : (options : Options) (line : List ℕ) (value other : Json) → IsReadJson options line value
     → IsReadJson options line other → other ≡ value
 read_twice options line value other (utf8, (m, read, is)) (also, (n, more, same)) =
     let (dating, this, that) =
@@ -35,18 +35,18 @@ read_twice options line value other (utf8, (m, read, is)) (also, (n, more, same)
     same ∙ ap (λ (k : MessageValue). message_json k (raw_text options.raw (chars line))) (this.only n (that.read))
     ∙ sym is
 
-pub only_read : (options : Options) (line : List ℕ) (value : Data) → IsReadJson options line value
+pub only_read : (options : Options) (line : List ℕ) (value : Json) → IsReadJson options line value
     → IsOnly (IsReadJson options line) value
 only_read options line value is = (is, λ other also. read_twice options line value other is also)
 
-other_refused : (options : Options) (line : List ℕ) (value other : Data) → IsRefusedJson options line value
+other_refused : (options : Options) (line : List ℕ) (value other : Json) → IsRefusedJson options line value
     → IsRefusedJson options line other → other ≡ value
 other_refused options line value other (inl (u, none, e)) (inl (v, never, f)) = f ∙ sym e
 other_refused options line value other (inl (u, none, e)) (inr (v, f)) = absurd (v u)
 other_refused options line value other (inr (u, e)) (inl (v, never, f)) = absurd (u v)
 other_refused options line value other (inr (u, e)) (inr (v, f)) = f ∙ sym e
 
-pub only_refused : (options : Options) (line : List ℕ) (value : Data) → IsRefusedJson options line value
+pub only_refused : (options : Options) (line : List ℕ) (value : Json) → IsRefusedJson options line value
     → IsOnly (IsRefusedJson options line) value
 only_refused options line value is = (is, λ other also. other_refused options line value other is also)
 
@@ -91,7 +91,7 @@ line_read {post = post} v w old new options text (Some made) h tells none =
     )
 
 -- what was written after nothing is the text
-pub text_after_nothing : (value : Data) (old bytes new : List ℕ) → old ≡ [] → new ≡ old ++ bytes → IsTextOf value bytes
+pub text_after_nothing : (value : Json) (old bytes new : List ℕ) → old ≡ [] → new ≡ old ++ bytes → IsTextOf value bytes
     → IsTextOf value new
 text_after_nothing value old bytes new none added text = rw (added, none) text
 

@@ -1,6 +1,6 @@
 -- What is written for each line: this project's own choice.
-use Rattle.std.specs.Prelude.{◌≡◌, ◌⊎◌, ⊤, ℕ, Bool, true, false, List, Option, Some, None, MatchOption, length, count_by}
-use Rattle.std.specs.Prelude.{IsUtf8}
+use Rattle.std.specs.Prelude.{◌≡◌, ◌⊎◌, ⊤, ℕ, Bool, true, false, List, Option, Some, None, MatchOption}
+use Rattle.std.specs.Prelude.{IsUtf8, count_by, length}
 use Rattle.std.specs.Str.{chars}
 use Rattle.std.specs.Str.Lossy.{utf8_lossy}
 use Rattle.jiff.specs.Words.{plain_zone}
@@ -13,7 +13,9 @@ use Rattle.syslog_loose.specs.Reading.{IsOnlyRead, IsUnreadable}
 use Rattle.syslog_loose.specs.Reckoning.{InDating}
 use Rattle.syslog_loose.specs.declared.line.Line.{Line}
 use Rattle.syslog_loose.specs.declared.variant.Variant.TheVariants.{Either}
+use Rattle.json.specs.Json.{Json}
 use Rattle.serde_json.specs.Data.{Data}
+use Rattle.serde_json.specs.Read.{of_json, read}
 use Rattle.syslog_lines.specs.Count.{held_count}
 use Rattle.syslog_lines.specs.Output.{Answer, Filter, Written, Marked, Omitted, is_passed_over}
 use Rattle.syslog_lines.specs.Pump.{FiltersAll}
@@ -34,26 +36,33 @@ raw_text true text = Some text
 raw_text false text = None
 
 -- the value of the message as which the line is read
-abbrev pub IsReadJson : Options → List ℕ → Data → Type 0
+abbrev pub IsReadJson : Options → List ℕ → Json → Type 0
 IsReadJson options line value = IsUtf8 line × ((m : MessageValue)
     × IsDated options (chars line) (λ dating. IsOnlyRead Either dating (chars line) m)
     × (value ≡ message_json m (raw_text options.raw (chars line))))
 
 -- the value of a line that is no message; of one that is no UTF-8, what is none of it is replaced
-abbrev pub IsRefusedJson : Options → List ℕ → Data → Type 0
+abbrev pub IsRefusedJson : Options → List ℕ → Json → Type 0
 IsRefusedJson options line value =
     (IsUtf8 line × IsDated options (chars line) (λ dating. IsUnreadable Either dating (chars line))
     × (value ≡ refused_json line))
     ⊎ ((¬ (IsUtf8 line)) × (value ≡ invalid_json (utf8_lossy line)))
 
 -- the value is such, and there is no other
-abbrev pub IsOnly : (Data → Type 0) → Data → Type 0
-IsOnly Is value = Is value × ((other : Data) → Is other → other ≡ value)
+abbrev pub IsOnly : (Json → Type 0) → Json → Type 0
+IsOnly Is value = Is value × ((other : Json) → Is other → other ≡ value)
+
+-- the bytes are the text of the value, and serde_json reads them as its own form of the value
+pub record IsReadAs (value : Json) (bytes : List ℕ) : Type 0 where
+  pub text : IsTextOf value bytes
+  pub own : Data
+  pub made : of_json value ≡ Some own
+  pub read_back : read bytes ≡ Some own
 
 -- the answer to a line: the text of its only value; a line that is no message counts as passed over
 abbrev pub IsObject : Options → List ℕ → Answer → Type 0
-IsObject options line (Written bytes) = (value : Data) × IsOnly (IsReadJson options line) value × IsTextOf value bytes
-IsObject options line (Marked bytes) = (value : Data) × IsOnly (IsRefusedJson options line) value × IsTextOf value bytes
+IsObject options line (Written bytes) = (value : Json) × IsOnly (IsReadJson options line) value × IsReadAs value bytes
+IsObject options line (Marked bytes) = (value : Json) × IsOnly (IsRefusedJson options line) value × IsReadAs value bytes
 IsObject options line Omitted = ⊥
 
 -- memory may be wanted for any line
@@ -62,7 +71,8 @@ objects options = record { Answers = IsObject options; Wants = λ line. ⊤ }
 
 -- all was read, the text of each line's value was written, and the summary counts the lines and those that are no
 -- message
-abbrev pub WritesObjects : Options → Option (List ℕ) → Option (List ℕ) → Option (List ℕ) → Option (List ℕ) → Summary → Type 0
+abbrev pub WritesObjects : Options → Option (List ℕ) → Option (List ℕ) → Option (List ℕ) → Option (List ℕ)
+    → Summary → Type 0
 WritesObjects options in_before in_after out_before out_after summary = (answers : List Answer)
     × (all : FiltersAll (objects options) in_before in_after out_before out_after answers)
     × (summary.lines ≡ held_count (length all.lines)) × (summary.refused ≡ held_count (count_by is_passed_over answers))

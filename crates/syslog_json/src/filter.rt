@@ -88,8 +88,8 @@ impl Objects {
         if self.options.raw { Some(line) } else { None }
     }
 
-    // Adds the object of the line, or nothing where memory is refused. Returns the memory that was used, and whether the
-    // line is a message.
+    // Adds the object of the line, or nothing where memory is refused. Returns the memory that was used, and whether
+    // the line is a message.
     #[inline(always)]
     fn write_line(
         &self,

@@ -7,10 +7,10 @@ use Rattle.std.specs.Prelude.{encode_utf8_all}
 use Rattle.syslog_pieces.specs.StructuredData.Element.{ElementValue, param_value}
 use Rattle.syslog_pieces.specs.StructuredData.Visited.{element_seen}
 use Rattle.syslog_pieces.specs.declared.structured_data.recognised.Element.{Element}
-use Rattle.serde_json.specs.Data.{Data}
-use Rattle.serde_json.specs.Written.{compact_text}
+use Rattle.json.specs.Json.{Json}
 use Rattle.syslog_object.specs.Gathered.{gathered}
 use Rattle.syslog_object.specs.Object.{element_json, element_pair, param_pair}
+use Rattle.syslog_object.specs.Parts.{compact_text}
 use Rattle.syslog_object.proofs.GatherLemmas.{pairs_of}
 
 -- a name and a value, as slices
@@ -24,7 +24,7 @@ param_seen p = param_value (λ s. shown s) p
 abbrev pub param_key : Param → List ℕ
 param_key p = (param_pair (param_seen p)).0
 
-abbrev pub param_json : Param → Data
+abbrev pub param_json : Param → Json
 param_json p = (param_pair (param_seen p)).1
 
 -- where no item is left, all were seen
@@ -36,7 +36,7 @@ param_pairs [] = refl
 param_pairs (p ∷ ps) = ap (λ qs. param_pair (param_seen p) ∷ qs) (param_pairs ps)
 
 -- the text of an object of such pairs
-abbrev gathered_text : List (List ℕ × Data) → List ℕ
+abbrev gathered_text : List (List ℕ × Json) → List ℕ
 gathered_text pairs = compact_text (gathered pairs)
 
 pub params_json : (ps slice : List Param) (params : List (Text × Text)) → slice ≡ ps

@@ -8,28 +8,27 @@ use Rattle.syslog_pieces.specs.StructuredData.Element.{ElementValue}
 use Rattle.syslog_pieces.specs.declared.procid.ProcId.{ProcId}
 use Rattle.syslog_loose.specs.declared.message.Protocol.{Protocol}
 use Rattle.json.specs.Print.{escape, escape_byte, quoted}
-use Rattle.serde_json.specs.Data.{Data, string}
-use Rattle.serde_json.specs.Written.{compact_text}
+use Rattle.json.specs.Json.{Json, string}
 use Rattle.syslog_object.specs.Gathered.{gathered}
 use Rattle.syslog_object.specs.Object.{element_pair, message_json, structured_json, timestamp_json, Field, object_of, protocol_text, text_json, version_json}
-use Rattle.syslog_object.specs.Parts.{back_fields, facility_fields, field_text, front_text, protocol_fields, rest_text, severity_fields, text_field}
+use Rattle.syslog_object.specs.Parts.{back_fields, compact_text, facility_fields, field_text, front_text, protocol_fields, rest_text, severity_fields, text_field}
 use Rattle.syslog_loose.specs.Message.{MessageValue}
 
 -- a field comes before the rest
-rest_more : (key : List ℕ) (value : Option Data) (fields : List Field)
+rest_more : (key : List ℕ) (value : Option Json) (fields : List Field)
     → rest_text ((key, value) ∷ fields) ≡ field_text key value ++ rest_text fields
 rest_more key None fields = refl
 rest_more key (Some value) fields = sym (ap (λ xs. 44 ∷ xs) (append_assoc (quoted key) (58 ∷ compact_text value) (rest_text fields)))
 
 -- a field was written
-pub field_written : (out now all : List ℕ) (key : List ℕ) (value : Option Data) (fields : List Field)
+pub field_written : (out now all : List ℕ) (key : List ℕ) (value : Option Json) (fields : List Field)
     → now ≡ out ++ field_text key value → out ++ rest_text ((key, value) ∷ fields) ≡ all → now ++ rest_text fields ≡ all
 field_written out now all key value fields e before =
     ap (λ xs. xs ++ rest_text fields) e ∙ append_assoc out (field_text key value) (rest_text fields)
     ∙ ap (λ xs. out ++ xs) (sym (rest_more key value fields)) ∙ before
 
 -- two fields were
-pub fields_written : (out now all : List ℕ) (key : List ℕ) (value : Option Data) (other : List ℕ) (more : Option Data)
+pub fields_written : (out now all : List ℕ) (key : List ℕ) (value : Option Json) (other : List ℕ) (more : Option Json)
     (fields : List Field) → now ≡ out ++ (field_text key value ++ field_text other more)
     → out ++ rest_text ((key, value) ∷ (other, more) ∷ fields) ≡ all → now ++ rest_text fields ≡ all
 fields_written out now all key value other more fields e before =
@@ -76,7 +75,7 @@ pub process_written : (out now all key prefix : List ℕ) (process : Option (Pro
     → now ++ rest_text fields ≡ all
 process_written out now all key prefix process fields is e before =
     name_written out now all key prefix (option_map procid_text process) fields is e
-    (ap (λ (v : Option Data). out ++ rest_text ((key, v) ∷ fields)) (process_field process) ∙ before)
+    (ap (λ (v : Option Json). out ++ rest_text ((key, v) ∷ fields)) (process_field process) ∙ before)
 
 -- the structured data was
 pub list_field : (elements : List ElementValue) → (elements ≡ [] → ⊥)

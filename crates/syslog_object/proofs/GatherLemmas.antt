@@ -8,11 +8,10 @@ use Rattle.std.proofs.lemmas.List.Elements.{filter-append}
 use Rattle.std.proofs.lemmas.Slice.Eq.{bytes_eq-Decides}
 use Rattle.std.specs.List.{filter, list_any}
 use Rattle.json.specs.Print.{quoted}
-use Rattle.serde_json.specs.Data.{Data}
-use Rattle.serde_json.specs.View.{items_of}
-use Rattle.serde_json.specs.Written.{compact_text, items_text}
+use Rattle.json.specs.Json.{Json}
+use Rattle.json.specs.Value.{items_of}
 use Rattle.syslog_object.specs.Gathered.{first_keys, gathered, one_or_all, values_at}
-use Rattle.syslog_object.specs.Parts.{AreDistinct, IsNewKey, members_after, object_text}
+use Rattle.syslog_object.specs.Parts.{AreDistinct, IsNewKey, compact_text, items_text, members_after, object_text}
 
 -- the item at a place, and those after it
 pub at_place : {X : Type 0} (xs : List X) (i : ℕ) (x : X) → i < length xs → x ≡ get_or xs i x
@@ -32,7 +31,7 @@ empty_list [] e = refl
 empty_list (x ∷ xs) e = absurd (omega arith)
 
 -- a key and its value were written
-pub member_written : (out key_out now all key : List ℕ) (before : ℕ) (value : Data) (rest : List (List ℕ × Data))
+pub member_written : (out key_out now all key : List ℕ) (before : ℕ) (value : Json) (rest : List (List ℕ × Json))
     → key_out ≡ out ++ (before ∷ (quoted key ++ 58 ∷ [])) → now ≡ key_out ++ compact_text value
     → out ++ (before ∷ (quoted key ++ 58 ∷ (compact_text value ++ members_after rest))) ≡ all
     → now ++ members_after rest ≡ all
@@ -62,8 +61,8 @@ distinct_keys (p ∷ ps) distinct =
     rw (distinct_keys ps distinct.1) (ap (λ ks. p.0 ∷ ks) (new_filtered p.0 _ distinct.0))
 
 -- ---- members that are written one after the other
-module _ {X : Type 0} (key : X → List ℕ) (json : X → Data) where
-  abbrev pub pairs_of : List X → List (List ℕ × Data)
+module _ {X : Type 0} (key : X → List ℕ) (json : X → Json) where
+  abbrev pub pairs_of : List X → List (List ℕ × Json)
   pairs_of xs = map (λ x. (key x, json x)) xs
 
   pub first_written : (members rest : List X) (first : X) (out key_out now name : List ℕ) → members ≡ first ∷ rest
@@ -171,7 +170,7 @@ module _ {X : Type 0} (key : X → List ℕ) (xs : List X) (i : ℕ) (x : X) (ne
   key_is_old there stays = rw (next, stays, keys_next key (take i xs) x, rw same at there) before
 
 -- ---- values that are written one after the other
-module _ {X : Type 0} (json : X → Data) where
+module _ {X : Type 0} (json : X → Json) where
   pub first_value : (members rest : List X) (first : X) (out opened now : List ℕ) → members ≡ first ∷ rest
       → (length rest == 0) ≡ false → opened ≡ out ++ 91 ∷ [] → now ≡ opened ++ compact_text (json first)
       → now ++ items_text true (items_of (map json rest)) ≡ out ++ compact_text (one_or_all (map json members))
@@ -212,7 +211,7 @@ one_piece : (out now key text : List ℕ) (before : ℕ) → now ≡ out ++ (bef
 one_piece out now key text before e = e ∙ sym (append_assoc out (before ∷ (quoted key ++ 58 ∷ [])) text
     ∙ ap (λ xs. out ++ (before ∷ xs)) (append_assoc (quoted key) (58 ∷ []) text))
 
-values_of : {X : Type 0} (key : X → List ℕ) (json : X → Data) (name : List ℕ) (xs : List X)
+values_of : {X : Type 0} (key : X → List ℕ) (json : X → Json) (name : List ℕ) (xs : List X)
     → values_at name (pairs_of key json xs) ≡ map json (filter (λ x. bytes_eq name (key x)) xs)
 values_of key json name [] = refl
 values_of key json name (x ∷ xs) = elim (cases_Bool (bytes_eq name (key x))) [
@@ -220,14 +219,14 @@ values_of key json name (x ∷ xs) = elim (cases_Bool (bytes_eq name (key x))) [
   | inr other ↦ rw other (values_of key json name xs)
 ]
 
-keys_of_pairs : {X : Type 0} (key : X → List ℕ) (json : X → Data) (xs : List X)
+keys_of_pairs : {X : Type 0} (key : X → List ℕ) (json : X → Json) (xs : List X)
     → first_keys (pairs_of key json xs) ≡ first_keys (keyed key xs)
 keys_of_pairs key json [] = refl
 keys_of_pairs key json (x ∷ xs) = rw (keys_of_pairs key json xs) refl
 
-module _ {X : Type 0} (key : X → List ℕ) (json : X → Data) (xs : List X) where
+module _ {X : Type 0} (key : X → List ℕ) (json : X → Json) (xs : List X) where
   -- the value of a key
-  abbrev pub value_of : Bor (List ℕ) → Data
+  abbrev pub value_of : Bor (List ℕ) → Json
   value_of k = one_or_all (values_at k.now (pairs_of key json xs))
 
   pub group_value : (k : Bor (List ℕ)) (held : List X) → held ≡ filter (λ x. bytes_eq k.now (key x)) xs
@@ -272,26 +271,26 @@ module _ {X : Type 0} (key : X → List ℕ) (json : X → Data) (xs : List X) w
 -- ---- keys that each come once have no other value
 
 -- each key with what stands at it
-abbrev valued : List (List ℕ × Data) → List (List ℕ) → List (List ℕ × Data)
+abbrev valued : List (List ℕ × Json) → List (List ℕ) → List (List ℕ × Json)
 valued ps ks = map (λ k. (k, one_or_all (values_at k ps))) ks
 
-skipped : (p : List ℕ × Data) (ps : List (List ℕ × Data)) (ks : List (List ℕ)) → IsNewKey p.0 ks
+skipped : (p : List ℕ × Json) (ps : List (List ℕ × Json)) (ks : List (List ℕ)) → IsNewKey p.0 ks
     → valued (p ∷ ps) ks ≡ valued ps ks
 skipped p ps [] new = refl
 skipped p ps (k ∷ ks) new = rw (differs_back p.0 k new.0, skipped p ps ks new.1) refl
 
-each_alone : (ps : List (List ℕ × Data)) → AreDistinct (map (λ p. p.0) ps) → valued ps (map (λ p. p.0) ps) ≡ ps
+each_alone : (ps : List (List ℕ × Json)) → AreDistinct (map (λ p. p.0) ps) → valued ps (map (λ p. p.0) ps) ≡ ps
 each_alone [] distinct = refl
 each_alone (p ∷ ps) distinct =
     let same : bytes_eq p.0 p.0 ≡ true = (bytes_eq-Decides p.0 p.0).1 refl in
     rw (same, no_values p.0 ps distinct.0, skipped p ps (map (λ q. q.0) ps) distinct.0, each_alone ps distinct.1) refl
 
-names : {X : Type 0} (key : X → List ℕ) (json : X → Data) (xs : List X)
+names : {X : Type 0} (key : X → List ℕ) (json : X → Json) (xs : List X)
     → map key xs ≡ map (λ p. p.0) (pairs_of key json xs)
 names key json [] = refl
 names key json (x ∷ xs) = ap (λ ks. key x ∷ ks) (names key json xs)
 
-pub distinct_gathered : {X : Type 0} (key : X → List ℕ) (json : X → Data) (xs : List X) → AreDistinct (map key xs)
+pub distinct_gathered : {X : Type 0} (key : X → List ℕ) (json : X → Json) (xs : List X) → AreDistinct (map key xs)
     → object_text (pairs_of key json xs) ≡ compact_text (gathered (pairs_of key json xs))
 distinct_gathered key json xs distinct =
     let pairs = pairs_of key json xs in

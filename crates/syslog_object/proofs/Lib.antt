@@ -3,7 +3,7 @@ mod EscapeLemmas
 mod FieldLemmas
 mod FlatLemmas
 mod GatherLemmas
-mod ReadLemmas
+pub mod ReadLemmas
 mod TextLemmas
 mod TextOfLemmas
 mod WriterLemmas

@@ -1,107 +1,73 @@
--- The text of a value is read back.
-use Rattle.std.proofs.Common.{◌≡◌, suc, ◌<◌, ◌≤◌, ◌^◌, max, [], Option, Some, option_map, option_and_then, refl, sym, ap, ap₂, ◌∙◌, arith}
-use Rattle.std.proofs.Common.{append-nil}
-use Rattle.std.specs.Prelude.{⊤}
-use Rattle.json.specs.Json as json
-use Rattle.json.specs.Lex.{tokens}
-use Rattle.json.specs.Tree as tree
+-- The text of a value is what `json` prints, and its numbers are numbers of JSON.
+use Rattle.std.proofs.Common.{◌≡◌, ℕ, Bool, true, false, List, [], ◌∷◌, ◌++◌, refl, sym, ap, ◌∙◌, subst}
+use Rattle.std.proofs.Common.{append_assoc, append-nil}
+use Rattle.json.specs.Json.{Json, null, boolean, number, string, array, object}
+use Rattle.json.specs.Json.{Items, no_items, item, Members, no_members, member}
+use Rattle.json.specs.Print.{IsNumber, print, print_from, quoted}
+use Rattle.json.specs.Token.{Token}
+use Rattle.json.specs.Tree.{HasNumbers, ItemsHaveNumbers, MembersHaveNumbers, json_tokens, items_tokens, members_tokens}
 use Rattle.json.proofs.Printed.Decimals.{IsNumber-decimal}
-use Rattle.json.proofs.Printed.Tokens.{tokens-print}
-use Rattle.json.proofs.Printed.Trees.{value-json_tokens, ArePrintable-json_tokens}
-use Rattle.serde_json.specs.Data.{Num, unsigned, negative, float, Data, null, boolean, number, string, array, object}
-use Rattle.serde_json.specs.Data.{Items, no_items, item, Members, no_members, member, depth, items_depth, members_depth, put}
-use Rattle.serde_json.specs.Read.{of_json, of_items, of_members, read, max_depth}
-use Rattle.serde_json.specs.Written.{compact_text, outline, items_outline, members_outline}
-use Rattle.serde_json.proofs.Numbers.{number_of-decimal}
-use Rattle.serde_json.proofs.Texts.{print-outline}
-use Rattle.syslog_object.specs.Written.{kept, items_kept, members_kept}
-
--- each number is a natural one of 64 bits
-abbrev IsSmallNumber : Num → Type 0
-IsSmallNumber (unsigned n) = n < 2 ^ 64
-IsSmallNumber (negative z) = ⊥
-IsSmallNumber (float x) = ⊥
-
-abbrev mutual
-  pub IsSmall : Data → Type 0
-  IsSmall null = ⊤
-  IsSmall (boolean b) = ⊤
-  IsSmall (number n) = IsSmallNumber n
-  IsSmall (string s) = ⊤
-  IsSmall (array ds) = AreSmallItems ds
-  IsSmall (object ms) = AreSmallMembers ms
-
-  pub AreSmallItems : Items → Type 0
-  AreSmallItems no_items = ⊤
-  AreSmallItems (item d ds) = IsSmall d × AreSmallItems ds
-
-  pub AreSmallMembers : Members → Type 0
-  AreSmallMembers no_members = ⊤
-  AreSmallMembers (member k d ms) = IsSmall d × AreSmallMembers ms
+use Rattle.syslog_object.specs.Parts.{comma_if, compact_text, items_text, members_text}
+use Rattle.syslog_object.specs.Written.{HasSmallNumbers, ItemsHaveSmallNumbers, MembersHaveSmallNumbers}
 
 mutual
-  numbers : (d : Data) → IsSmall d → tree.HasNumbers (outline d)
+  pub numbers : (j : Json) → HasSmallNumbers j → HasNumbers j
   numbers null h = tt
   numbers (boolean b) h = tt
-  numbers (number (unsigned n)) h = IsNumber-decimal n h
-  numbers (number (negative z)) h = absurd h
-  numbers (number (float x)) h = absurd h
+  numbers (number s) (n, small, is) = subst IsNumber (sym is) (IsNumber-decimal n small)
   numbers (string s) h = tt
-  numbers (array ds) h = items_numbers ds h
+  numbers (array js) h = items_numbers js h
   numbers (object ms) h = members_numbers ms h
 
-  items_numbers : (ds : Items) → AreSmallItems ds → tree.ItemsHaveNumbers (items_outline ds)
+  items_numbers : (js : Items) → ItemsHaveSmallNumbers js → ItemsHaveNumbers js
   items_numbers no_items h = tt
-  items_numbers (item d ds) h = (numbers d h.0, items_numbers ds h.1)
+  items_numbers (item j js) h = (numbers j h.0, items_numbers js h.1)
 
-  members_numbers : (ms : Members) → AreSmallMembers ms → tree.MembersHaveNumbers (members_outline ms)
+  members_numbers : (ms : Members) → MembersHaveSmallNumbers ms → MembersHaveNumbers ms
   members_numbers no_members h = tt
-  members_numbers (member k d ms) h = (numbers d h.0, members_numbers ms h.1)
+  members_numbers (member k j ms) h = (numbers j h.0, members_numbers ms h.1)
+
+-- ---- what `json` prints
+
+regroup_item : (q a b c : List ℕ) → q ++ (a ++ (b ++ c)) ≡ (q ++ (a ++ b)) ++ c
+regroup_item q a b c = simp append_assoc
+
+regroup_member : (q k a b c : List ℕ) → q ++ ((k ++ 58 ∷ []) ++ (a ++ (b ++ c))) ≡ (q ++ (k ++ 58 ∷ (a ++ b))) ++ c
+regroup_member q k a b c = simp append_assoc
 
 mutual
-  same_depth : (d : Data) → tree.depth (outline d) ≡ depth d
-  same_depth null = refl
-  same_depth (boolean b) = refl
-  same_depth (number n) = refl
-  same_depth (string s) = refl
-  same_depth (array ds) = ap suc (same_items_depth ds)
-  same_depth (object ms) = ap suc (same_members_depth ms)
+  unfolding print_from
 
-  same_items_depth : (ds : Items) → tree.items_depth (items_outline ds) ≡ items_depth ds
-  same_items_depth no_items = refl
-  same_items_depth (item d ds) = ap₂ max (same_depth d) (same_items_depth ds)
+  print_value : (later : Bool) (j : Json) (ts : List Token)
+      → print_from later (json_tokens j ++ ts) ≡ comma_if later ++ (compact_text j ++ print_from true ts)
+  print_value later null ts = refl
+  print_value later (boolean b) ts = refl
+  print_value later (number s) ts = refl
+  print_value later (string s) ts = refl
+  print_value later (array js) ts = ap (λ s. comma_if later ++ 91 ∷ s) (print_items false js ts)
+  print_value later (object ms) ts = ap (λ s. comma_if later ++ 123 ∷ s) (print_members false ms ts)
 
-  same_members_depth : (ms : Members) → tree.members_depth (members_outline ms) ≡ members_depth ms
-  same_members_depth no_members = refl
-  same_members_depth (member k d ms) = ap₂ max (same_depth d) (same_members_depth ms)
+  print_items : (later : Bool) (js : Items) (ts : List Token)
+      → print_from later (items_tokens js ++ ts) ≡ items_text later js ++ print_from true ts
+  print_items true no_items ts = refl
+  print_items false no_items ts = refl
+  print_items later (item j js) ts =
+      let rest = items_tokens js in
+      ap (print_from later) (append_assoc (json_tokens j) rest ts) ∙ print_value later j (rest ++ ts)
+      ∙ ap (λ s. comma_if later ++ (compact_text j ++ s)) (print_items true js ts)
+      ∙ regroup_item (comma_if later) (compact_text j) (items_text true js) (print_from true ts)
 
-mutual
-  outline_read : (d : Data) → IsSmall d → of_json (outline d) ≡ Some (kept d)
-  outline_read null h = refl
-  outline_read (boolean b) h = refl
-  outline_read (number (unsigned n)) h = ap (option_map number) (number_of-decimal n h)
-  outline_read (number (negative z)) h = absurd h
-  outline_read (number (float x)) h = absurd h
-  outline_read (string s) h = refl
-  outline_read (array ds) h = ap (option_map array) (items_read ds h)
-  outline_read (object ms) h = ap (option_map object) (members_read ms no_members h)
+  print_members : (later : Bool) (ms : Members) (ts : List Token)
+      → print_from later (members_tokens ms ++ ts) ≡ members_text later ms ++ print_from true ts
+  print_members true no_members ts = refl
+  print_members false no_members ts = refl
+  print_members later (member k j ms) ts =
+      let rest = members_tokens ms in
+      ap (λ s. comma_if later ++ ((quoted k ++ 58 ∷ []) ++ s))
+      (ap (print_from false) (append_assoc (json_tokens j) rest ts) ∙ print_value false j (rest ++ ts)
+      ∙ ap (λ s. compact_text j ++ s) (print_members true ms ts))
+      ∙ regroup_member (comma_if later) (quoted k) (compact_text j) (members_text true ms) (print_from true ts)
 
-  items_read : (ds : Items) → AreSmallItems ds → of_items (items_outline ds) ≡ Some (items_kept ds)
-  items_read no_items h = refl
-  items_read (item d ds) h = rw (outline_read d h.0, items_read ds h.1) refl
-
-  members_read : (ms before : Members) → AreSmallMembers ms
-      → of_members (members_outline ms) before ≡ Some (members_kept ms before)
-  members_read no_members before h = refl
-  members_read (member k d ms) before h = rw (outline_read d h.0) (members_read ms (put k (kept d) before) h.1)
-
-abbrev whole : Option json.Json → Option Data
-whole o = option_and_then of_json o
-
-pub read_back : (d : Data) → IsSmall d → depth d ≤ max_depth → read (compact_text d) ≡ Some (kept d)
-read_back d small shallow =
-    let same : tokens (compact_text d) ≡ tree.json_tokens (outline d) =
-    ap tokens (sym (print-outline d)) ∙ tokens-print _ (ArePrintable-json_tokens (outline d) (numbers d small)) in
-    ap (λ o. whole (option_and_then (λ p. json.if_last p.0 p.1) o))
-    (ap (json.value max_depth) (same ∙ sym (append-nil _))
-    ∙ value-json_tokens (outline d) max_depth [] (omega (arith, shallow, same_depth d))) ∙ outline_read d small
+pub printed : (j : Json) → compact_text j ≡ print (json_tokens j)
+unfolding print_from
+printed j = sym (ap print (sym (append-nil (json_tokens j))) ∙ print_value false j [] ∙ append-nil (compact_text j))

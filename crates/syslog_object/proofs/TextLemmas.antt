@@ -1,6 +1,6 @@
 -- The text of a value has no control character.
-use Rattle.std.proofs.Common.{ℕ, zero, suc, ◌<◌, ◌≤◌, ◌/◌, ◌%◌, negsuc, pos, List, [], ◌∷◌}
-use Rattle.std.proofs.Common.{◌++◌, Bool, true, false, nat_lt, ◌==◌, decimal, subst, arith}
+use Rattle.std.proofs.Common.{ℕ, zero, suc, ◌<◌, ◌≤◌, ◌/◌, ◌%◌, List, [], ◌∷◌}
+use Rattle.std.proofs.Common.{◌++◌, Bool, true, false, nat_lt, ◌==◌, decimal, subst, sym, arith}
 use Rattle.std.proofs.lemmas.Bool.{cond_both}
 use Rattle.std.proofs.lemmas.Grind.{common_steps}
 use Rattle.std.proofs.DigitsParse.{digits_onto-nil}
@@ -8,9 +8,10 @@ use Rattle.std.specs.Char.{digit_char}
 use Rattle.std.specs.Fmt.{digit_glyph, digits_onto}
 use Rattle.std.specs.List.{AllByRecursion}
 use Rattle.json.specs.Print.{escape, escape_byte, escape_letter, quoted}
-use Rattle.serde_json.specs.Data.{Data, Num, unsigned, negative, float, null, boolean, number, string}
-use Rattle.serde_json.specs.Data.{array, object, Items, no_items, item, Members, no_members, member}
-use Rattle.serde_json.specs.Written.{comma_if, compact_text, items_text, members_text, number_text}
+use Rattle.json.specs.Json.{Json, null, boolean, number, string, array, object}
+use Rattle.json.specs.Json.{Items, no_items, item, Members, no_members, member}
+use Rattle.syslog_object.specs.Parts.{comma_if, compact_text, items_text, members_text}
+use Rattle.syslog_object.specs.Written.{HasSmallNumbers, ItemsHaveSmallNumbers, MembersHaveSmallNumbers}
 
 abbrev pub Printable : List ℕ → Type 0
 Printable bytes = AllByRecursion (λ byte. 32 ≤ byte) bytes
@@ -52,12 +53,6 @@ onto (suc k) n acc h =
 in_decimal : (n : ℕ) → Printable (decimal n)
 in_decimal n = subst Printable (digits_onto-nil 10 false n) (onto 64 n [] tt)
 
-in_number : (n : Num) → Printable (number_text n)
-in_number (unsigned n) = in_decimal n
-in_number (negative (pos n)) = in_decimal n
-in_number (negative (negsuc n)) = (omega arith, in_decimal (suc n))
-in_number (float x) = tt
-
 -- ---- values
 
 comma : (later : Bool) → Printable (comma_if later)
@@ -65,22 +60,22 @@ comma true = (omega arith, tt)
 comma false = tt
 
 mutual
-  pub printable : (d : Data) → Printable (compact_text d)
-  printable null = omega arith
-  printable (boolean true) = omega arith
-  printable (boolean false) = omega arith
-  printable (number n) = in_number n
-  printable (string s) = in_quotes s
-  printable (array ds) = (omega arith, items false ds)
-  printable (object ms) = (omega arith, members false ms)
+  pub printable : (j : Json) → HasSmallNumbers j → Printable (compact_text j)
+  printable null h = omega arith
+  printable (boolean true) h = omega arith
+  printable (boolean false) h = omega arith
+  printable (number s) (n, small, is) = subst Printable (sym is) (in_decimal n)
+  printable (string s) h = in_quotes s
+  printable (array js) h = (omega arith, items false js h)
+  printable (object ms) h = (omega arith, members false ms h)
 
-  items : (later : Bool) (ds : Items) → Printable (items_text later ds)
-  items later no_items = (omega arith, tt)
-  items later (item d ds) =
-      joined (comma_if later) _ (comma later) (joined (compact_text d) _ (printable d) (items true ds))
+  items : (later : Bool) (js : Items) → ItemsHaveSmallNumbers js → Printable (items_text later js)
+  items later no_items h = (omega arith, tt)
+  items later (item j js) h =
+      joined (comma_if later) _ (comma later) (joined (compact_text j) _ (printable j h.0) (items true js h.1))
 
-  members : (later : Bool) (ms : Members) → Printable (members_text later ms)
-  members later no_members = (omega arith, tt)
-  members later (member k d ms) =
+  members : (later : Bool) (ms : Members) → MembersHaveSmallNumbers ms → Printable (members_text later ms)
+  members later no_members h = (omega arith, tt)
+  members later (member k j ms) h =
       joined (comma_if later) _ (comma later)
-      (joined (quoted k) _ (in_quotes k) (omega arith, joined (compact_text d) _ (printable d) (members true ms)))
+      (joined (quoted k) _ (in_quotes k) (omega arith, joined (compact_text j) _ (printable j h.0) (members true ms h.1)))

@@ -10,12 +10,11 @@ use Rattle.syslog_pieces.specs.Pieces.Class.{Text}
 use Rattle.syslog_pieces.specs.StructuredData.Element.{ElementValue}
 use Rattle.syslog_loose.specs.Message.{MessageValue}
 use Rattle.json.specs.Print.{quoted}
-use Rattle.serde_json.specs.Data.{Data}
-use Rattle.serde_json.specs.Written.{compact_text}
+use Rattle.json.specs.Json.{Json}
 use Rattle.syslog_object.specs.Gathered.{gathered}
 use Rattle.syslog_object.specs.Object.{element_json, element_pair, message_json, param_pair, structured_json}
 use Rattle.syslog_object.specs.Parts.{AreDistinct, IsNewKey, back_fields, field_text, front_text, later_text, member_text}
-use Rattle.syslog_object.specs.Parts.{members_after, object_text, open_text, rest_text}
+use Rattle.syslog_object.specs.Parts.{compact_text, members_after, object_text, open_text, rest_text}
 use Rattle.syslog_object.specs.Writer.{AreWritten, HasWritten, element_keys}
 use Rattle.syslog_object.specs.declared.writer.ObjectWriter.{ObjectWriter}
 use Rattle.syslog_object.proofs.ElementLemmas.{Param, param_json, param_key, param_pairs, param_seen}
@@ -24,12 +23,12 @@ use Rattle.syslog_object.proofs.GatherLemmas.{differs_back, distinct_gathered, p
 
 -- ---- one element more
 
-later_more : (ps : List (List ℕ × Data)) (p : List ℕ × Data) → later_text (ps ++ p ∷ []) ≡ later_text ps ++ member_text p
+later_more : (ps : List (List ℕ × Json)) (p : List ℕ × Json) → later_text (ps ++ p ∷ []) ≡ later_text ps ++ member_text p
 later_more [] p = append-nil (member_text p)
 later_more (q ∷ qs) p =
     ap (λ xs. member_text q ++ xs) (later_more qs p) ∙ sym (append_assoc (member_text q) (later_text qs) (member_text p))
 
-pub open_more : (ps : List (List ℕ × Data)) (p : List ℕ × Data) (before : ℕ) → (ps ≡ [] → before ≡ 123)
+pub open_more : (ps : List (List ℕ × Json)) (p : List ℕ × Json) (before : ℕ) → (ps ≡ [] → before ≡ 123)
     → (ps ≢ [] → before ≡ 44)
     → open_text (ps ++ p ∷ []) ≡ open_text ps ++ (before ∷ (quoted p.0 ++ 58 ∷ compact_text p.1))
 open_more [] p before first later =
@@ -105,13 +104,13 @@ keys_distinct es e id keys distinct held same new =
 
 -- ---- the whole
 
-later_closed : (ps : List (List ℕ × Data)) → later_text ps ++ 125 ∷ [] ≡ members_after ps
+later_closed : (ps : List (List ℕ × Json)) → later_text ps ++ 125 ∷ [] ≡ members_after ps
 later_closed [] = refl
 later_closed (p ∷ ps) =
     append_assoc (member_text p) (later_text ps) (125 ∷ []) ∙ ap (λ xs. member_text p ++ xs) (later_closed ps)
     ∙ ap (λ xs. 44 ∷ xs) (append_assoc (quoted p.0) (58 ∷ compact_text p.1) (members_after ps))
 
-open_closed : (ps : List (List ℕ × Data)) → ps ≢ [] → open_text ps ++ 125 ∷ [] ≡ object_text ps
+open_closed : (ps : List (List ℕ × Json)) → ps ≢ [] → open_text ps ++ 125 ∷ [] ≡ object_text ps
 open_closed [] some = absurd (some refl)
 open_closed (p ∷ ps) some =
     let text = compact_text p.1 in

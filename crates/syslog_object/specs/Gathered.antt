@@ -2,8 +2,8 @@
 use Rattle.std.specs.Prelude.{ℕ, List, [], ◌∷◌, map, not}
 use Rattle.std.specs.List.{filter}
 use Rattle.std.specs.Str.{bytes_eq}
-use Rattle.serde_json.specs.Data.{Data, array, object, Members, no_members, member}
-use Rattle.serde_json.specs.View.{items_of}
+use Rattle.json.specs.Json.{Json, array, object, Members, no_members, member}
+use Rattle.json.specs.Value.{items_of}
 
 -- the values at a key, in order
 abbrev pub values_at : {V : Type 0} → List ℕ → List (List ℕ × V) → List V
@@ -15,16 +15,16 @@ first_keys [] = []
 first_keys (p ∷ ps) = p.0 ∷ filter (λ k. not (bytes_eq p.0 k)) (first_keys ps)
 
 -- a value that is alone as it is, and more in an array
-abbrev pub one_or_all : List Data → Data
+abbrev pub one_or_all : List Json → Json
 one_or_all [] = array (items_of [])
 one_or_all (d ∷ []) = d
 one_or_all (d ∷ e ∷ ds) = array (items_of (d ∷ e ∷ ds))
 
 -- members in this order
-abbrev pub members_of : List (List ℕ × Data) → Members
+abbrev pub members_of : List (List ℕ × Json) → Members
 members_of [] = no_members
 members_of (p ∷ ps) = member p.0 p.1 (members_of ps)
 
 -- each key at its first place, with its value, or an array of all its values
-abbrev pub gathered : List (List ℕ × Data) → Data
+abbrev pub gathered : List (List ℕ × Json) → Json
 gathered pairs = object (members_of (map (λ k. (k, one_or_all (values_at k pairs))) (first_keys pairs)))

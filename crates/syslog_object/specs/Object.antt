@@ -1,6 +1,6 @@
 -- The object of a line: this project's own choice.
 use Rattle.std.specs.Prelude.{ℕ, nat_eq, if◌then◌else◌, true, List, [], ◌∷◌, ◌++◌, Option, Some, None, codes, map}
-use Rattle.std.specs.Prelude.{encode_utf8_all}
+use Rattle.std.specs.Prelude.{decimal, encode_utf8_all}
 use Rattle.std.specs.Option.{option_map}
 use Rattle.syslog_pieces.specs.Pieces.Class.{Text}
 use Rattle.syslog_pieces.specs.Pri.{facility_name, facility_number, severity_name, severity_number}
@@ -12,14 +12,14 @@ use Rattle.syslog_pieces.specs.declared.timestamp.OffsetTimestamp.{OffsetTimesta
 use Rattle.syslog_loose.specs.declared.message.Protocol.{Protocol}
 use Rattle.syslog_loose.specs.declared.message.Protocol.TheVariants.{RFC3164, RFC5424}
 use Rattle.syslog_loose.specs.Message.{MessageValue}
-use Rattle.serde_json.specs.Data.{Data, boolean, number, string, object, unsigned}
+use Rattle.json.specs.Json.{Json, boolean, number, string, object}
 use Rattle.syslog_object.specs.Gathered.{gathered, members_of}
 
-abbrev pub text_json : Text → Data
+abbrev pub text_json : Text → Json
 text_json text = string (encode_utf8_all text)
 
-abbrev pub number_json : ℕ → Data
-number_json n = number (unsigned n)
+abbrev pub number_json : ℕ → Json
+number_json n = number (decimal n)
 
 -- ---- elements
 
@@ -35,18 +35,18 @@ abbrev mutual
   after_backslash (c ∷ rest) = pair_meaning c ++ unescaped rest
 
 -- a parameter's name, and its value without escapes
-abbrev pub param_pair : Text × Text → List ℕ × Data
+abbrev pub param_pair : Text × Text → List ℕ × Json
 param_pair param = (encode_utf8_all param.0, string (unescaped (encode_utf8_all param.1)))
 
 -- the object of an element's parameters
-abbrev pub element_json : ElementValue → Data
+abbrev pub element_json : ElementValue → Json
 element_json element = gathered (map param_pair element.params)
 
-abbrev pub element_pair : ElementValue → List ℕ × Data
+abbrev pub element_pair : ElementValue → List ℕ × Json
 element_pair element = (encode_utf8_all element.id, element_json element)
 
 -- the object of elements, where there are some
-abbrev pub structured_json : List ElementValue → Option Data
+abbrev pub structured_json : List ElementValue → Option Json
 structured_json [] = None
 structured_json (e ∷ es) = Some (gathered (map element_pair (e ∷ es)))
 
@@ -56,25 +56,25 @@ abbrev pub protocol_text : Protocol → List ℕ
 protocol_text RFC3164 = codes "RFC3164"
 protocol_text (RFC5424 version) = codes "RFC5424"
 
-abbrev pub version_json : Protocol → Option Data
+abbrev pub version_json : Protocol → Option Json
 version_json RFC3164 = None
 version_json (RFC5424 version) = Some (number_json version)
 
 -- as it is printed
-abbrev pub timestamp_json : OffsetTimestamp → Data
+abbrev pub timestamp_json : OffsetTimestamp → Json
 timestamp_json stamp = string (printed_stamp stamp.instant.nanosecond stamp.offset.seconds)
 
 -- a key, and its value if it has one
 abbrev pub Field : Type 0
-Field = List ℕ × Option Data
+Field = List ℕ × Option Json
 
 -- the fields that have a value
-abbrev pub present : List Field → List (List ℕ × Data)
+abbrev pub present : List Field → List (List ℕ × Json)
 present [] = []
 present ((key, None) ∷ fields) = present fields
 present ((key, Some value) ∷ fields) = (key, value) ∷ present fields
 
-abbrev pub object_of : List Field → Data
+abbrev pub object_of : List Field → Json
 object_of fields = object (members_of (present fields))
 
 -- the fields of a message; where it is given, the line as it came is the last
@@ -97,15 +97,15 @@ fields_of m raw =
     ∷ []
 
 -- the value of a message
-abbrev pub message_json : MessageValue → Option Text → Data
+abbrev pub message_json : MessageValue → Option Text → Json
 message_json m raw = object_of (fields_of m raw)
 
 -- the value of a line that is no message
-abbrev pub refused_json : List ℕ → Data
+abbrev pub refused_json : List ℕ → Json
 refused_json line = object_of ((codes "message", Some (string line)) ∷ (codes "refused", Some (boolean true)) ∷ [])
 
 -- the value of a line that is no UTF-8, with what is none of it replaced
-abbrev pub invalid_json : List ℕ → Data
+abbrev pub invalid_json : List ℕ → Json
 invalid_json line =
     object_of ((codes "message", Some (string line)) ∷ (codes "refused", Some (boolean true))
     ∷ (codes "invalid_utf8", Some (boolean true)) ∷ [])

@@ -1,5 +1,6 @@
 -- The pieces of an object's text: what private clauses cite.
-use Rattle.std.specs.Prelude.{◌≡◌, ◌<◌, ◌^◌, ⊤, false, true, ℕ, List, [], ◌∷◌, ◌++◌, Option, Some, None, codes, encode_utf8_all}
+use Rattle.std.specs.Prelude.{◌≡◌, ◌<◌, ◌^◌, ⊤, Bool, false, true, ℕ, List, [], ◌∷◌, ◌++◌}
+use Rattle.std.specs.Prelude.{Option, Some, None, codes, encode_utf8_all}
 use Rattle.std.specs.List.{AllByRecursion}
 use Rattle.std.specs.Str.{bytes_eq}
 use Rattle.std.specs.Option.{option_map}
@@ -11,18 +12,42 @@ use Rattle.syslog_pieces.specs.declared.pri.SyslogFacility.{SyslogFacility}
 use Rattle.syslog_pieces.specs.declared.pri.SyslogSeverity.{SyslogSeverity}
 use Rattle.syslog_loose.specs.declared.message.Protocol.{Protocol}
 use Rattle.syslog_loose.specs.declared.message.Protocol.TheVariants.{RFC3164, RFC5424}
-use Rattle.json.specs.Print.{escape, quoted}
-use Rattle.serde_json.specs.Data.{Data, object}
-use Rattle.serde_json.specs.Written.{compact_text, members_text}
+use Rattle.json.specs.Json.{Json, null, boolean, number, string, array, object}
+use Rattle.json.specs.Json.{Items, no_items, item, Members, no_members, member}
+use Rattle.json.specs.Print.{escape, quoted, separator, token_text}
+use Rattle.json.specs.Token as token
 use Rattle.syslog_object.specs.Gathered.{members_of}
-use Rattle.syslog_object.specs.Object.{Field, present, number_json, protocol_text, text_json, timestamp_json, version_json}
+use Rattle.syslog_object.specs.Object.{Field, present, number_json, protocol_text, text_json}
+use Rattle.syslog_object.specs.Object.{timestamp_json, version_json}
+
+-- a comma, where something comes before
+abbrev pub comma_if : Bool → List ℕ
+comma_if later = separator later token.null
+
+-- the text of a value without a space between tokens: each list goes to its closing bracket
+abbrev mutual
+  pub compact_text : Json → List ℕ
+  compact_text null = token_text token.null
+  compact_text (boolean b) = token_text (token.boolean b)
+  compact_text (number s) = s
+  compact_text (string s) = quoted s
+  compact_text (array js) = 91 ∷ items_text false js
+  compact_text (object ms) = 123 ∷ members_text false ms
+
+  pub items_text : Bool → Items → List ℕ
+  items_text later no_items = 93 ∷ []
+  items_text later (item j js) = comma_if later ++ (compact_text j ++ items_text true js)
+
+  pub members_text : Bool → Members → List ℕ
+  members_text later no_members = 125 ∷ []
+  members_text later (member k j ms) = comma_if later ++ (quoted k ++ 58 ∷ (compact_text j ++ members_text true ms))
 
 -- a member after another one
-abbrev pub member_text : List ℕ × Data → List ℕ
+abbrev pub member_text : List ℕ × Json → List ℕ
 member_text pair = 44 ∷ (quoted pair.0 ++ 58 ∷ compact_text pair.1)
 
 -- a field after another one; nothing where it has no value
-abbrev pub field_text : List ℕ → Option Data → List ℕ
+abbrev pub field_text : List ℕ → Option Json → List ℕ
 field_text key None = []
 field_text key (Some value) = member_text (key, value)
 
@@ -72,20 +97,20 @@ AreDistinct [] = ⊤
 AreDistinct (k ∷ ks) = IsNewKey k ks × AreDistinct ks
 
 -- the members after the first one, and the brace
-abbrev pub members_after : List (List ℕ × Data) → List ℕ
+abbrev pub members_after : List (List ℕ × Json) → List ℕ
 members_after pairs = members_text true (members_of pairs)
 
 -- the object of members in this order
-abbrev pub object_text : List (List ℕ × Data) → List ℕ
+abbrev pub object_text : List (List ℕ × Json) → List ℕ
 object_text pairs = compact_text (object (members_of pairs))
 
 -- members after the first one, without the brace
-abbrev pub later_text : List (List ℕ × Data) → List ℕ
+abbrev pub later_text : List (List ℕ × Json) → List ℕ
 later_text [] = []
 later_text (p ∷ ps) = member_text p ++ later_text ps
 
 -- the object of members in this order, without its last brace; nothing where there are none
-abbrev pub open_text : List (List ℕ × Data) → List ℕ
+abbrev pub open_text : List (List ℕ × Json) → List ℕ
 open_text [] = []
 open_text (p ∷ ps) = 123 ∷ (quoted p.0 ++ 58 ∷ (compact_text p.1 ++ later_text ps))
 

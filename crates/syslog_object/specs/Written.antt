@@ -1,31 +1,37 @@
 -- The text of a value, and how it is read.
-use Rattle.std.specs.Prelude.{◌≡◌, ◌≤◌, ℕ, List, Some, All}
-use Rattle.serde_json.specs.Data.{Data, null, boolean, number, string, array, object, put}
-use Rattle.serde_json.specs.Data.{Items, no_items, item, Members, no_members, member}
-use Rattle.serde_json.specs.Read.{read}
-use Rattle.serde_json.specs.Written.{compact_text}
+use Rattle.std.specs.Prelude.{◌≡◌, ◌<◌, ◌≤◌, ◌^◌, ⊤, ℕ, List, Some, All, decimal}
+use Rattle.json.specs.Json.{Json, null, boolean, number, string, array, object, document}
+use Rattle.json.specs.Json.{Items, no_items, item, Members, no_members, member}
+use Rattle.json.specs.Print.{print}
+use Rattle.json.specs.Tree.{depth, json_tokens}
 
--- the value as a reader of JSON keeps it: it puts the members into each object one after the other, by their keys
+-- the text is a natural number of 64 bits
+abbrev pub IsSmall : List ℕ → Type 0
+IsSmall text = (n : ℕ) × (n < 2 ^ 64) × (text ≡ decimal n)
+
+-- each number is one of these
 abbrev mutual
-  pub kept : Data → Data
-  kept null = null
-  kept (boolean b) = boolean b
-  kept (number n) = number n
-  kept (string s) = string s
-  kept (array ds) = array (items_kept ds)
-  kept (object ms) = object (members_kept ms no_members)
+  pub HasSmallNumbers : Json → Type 0
+  HasSmallNumbers null = ⊤
+  HasSmallNumbers (boolean b) = ⊤
+  HasSmallNumbers (number text) = IsSmall text
+  HasSmallNumbers (string s) = ⊤
+  HasSmallNumbers (array js) = ItemsHaveSmallNumbers js
+  HasSmallNumbers (object ms) = MembersHaveSmallNumbers ms
 
-  pub items_kept : Items → Items
-  items_kept no_items = no_items
-  items_kept (item d ds) = item (kept d) (items_kept ds)
+  pub ItemsHaveSmallNumbers : Items → Type 0
+  ItemsHaveSmallNumbers no_items = ⊤
+  ItemsHaveSmallNumbers (item j js) = HasSmallNumbers j × ItemsHaveSmallNumbers js
 
-  pub members_kept : Members → Members → Members
-  members_kept no_members before = before
-  members_kept (member k d ms) before = members_kept ms (put k (kept d) before)
+  pub MembersHaveSmallNumbers : Members → Type 0
+  MembersHaveSmallNumbers no_members = ⊤
+  MembersHaveSmallNumbers (member k j ms) = HasSmallNumbers j × MembersHaveSmallNumbers ms
 
--- the bytes are read as the value, are its text without a space between tokens, its members in their order, and have no
--- control character
-pub record IsTextOf (value : Data) (bytes : List ℕ) : Type 0 where
-  pub read_back : read bytes ≡ Some (kept value)
-  pub compact : bytes ≡ compact_text value
+-- the bytes are read as exactly this value, are its text without a space between tokens, its members in their order, and
+-- have no control character; the numbers are small, and few arrays and objects are nested
+pub record IsTextOf (value : Json) (bytes : List ℕ) : Type 0 where
+  pub read_back : document bytes ≡ Some value
+  pub compact : bytes ≡ print (json_tokens value)
   pub printable : All (λ byte. 32 ≤ byte) bytes
+  pub numbers : HasSmallNumbers value
+  pub nesting : depth value ≤ 5

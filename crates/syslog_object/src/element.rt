@@ -1,9 +1,9 @@
 //! Elements: the object of their ids, and of the names and the values of each.
 ghost use Rattle.std.specs.Prelude.{◌≡◌, ◌≤◌, ◌++◌, length, OnOk, map};
 ghost use Rattle.syslog_pieces.specs.StructuredData.Visited.{element_seen, list_elements};
-ghost use Rattle.serde_json.specs.Written.{compact_text};
 ghost use Rattle.syslog_object.specs.Gathered.{gathered};
 ghost use Rattle.syslog_object.specs.Object.{element_json, element_pair};
+ghost use Rattle.syslog_object.specs.Parts.{compact_text};
 
 use crate::escapes::push_value;
 use crate::gather::{FEW, Member, push_members};

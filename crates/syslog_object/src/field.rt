@@ -8,7 +8,8 @@ ghost use Rattle.syslog_pieces.specs.ProcId.{procid_text, procid_value};
 ghost use Rattle.syslog_pieces.specs.Timestamp.{stamp_seen};
 ghost use Rattle.syslog_loose.specs.Line.{protocol_of};
 ghost use Rattle.syslog_object.specs.Object.{timestamp_json};
-ghost use Rattle.syslog_object.specs.Parts.{IsSmallVersion, facility_fields, field_text, protocol_fields, severity_fields, text_field};
+ghost use Rattle.syslog_object.specs.Parts.{IsSmallVersion, facility_fields, field_text};
+ghost use Rattle.syslog_object.specs.Parts.{protocol_fields, severity_fields, text_field};
 
 use crate::escapes::push_text;
 use std::alloc::AllocError;

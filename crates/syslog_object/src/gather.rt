@@ -2,10 +2,9 @@
 ghost use Rattle.std.specs.Prelude.{◌≡◌, ◌++◌, ◌∷◌, [], List, ℕ, OnOk, IfOk, map};
 ghost use Rattle.std.specs.Bool.{OnTrue};
 ghost use Rattle.json.specs.Print.{quoted};
-ghost use Rattle.serde_json.specs.Data.{Data};
-ghost use Rattle.serde_json.specs.Written.{compact_text};
+ghost use Rattle.json.specs.Json.{Json};
 ghost use Rattle.syslog_object.specs.Gathered.{gathered, one_or_all};
-ghost use Rattle.syslog_object.specs.Parts.{AreDistinct, IsNewKey, object_text};
+ghost use Rattle.syslog_object.specs.Parts.{AreDistinct, IsNewKey, compact_text, object_text};
 ghost use Rattle.std.specs.BTreeMap.{get_by};
 ghost use Rattle.std.specs.Cmp.Lexicographic.{slice_cmp};
 ghost use Rattle.std.specs.List.{filter};
@@ -26,7 +25,7 @@ pub(crate) trait Member<'a>: Copy {
     // the bytes of the key
     ghost key_of: { Self → List ℕ };
 
-    ghost json: { Self → Data };
+    ghost json: { Self → Json };
 
     fn key(&self) -> &'a str
         ensures { result.now ≡ key_of self.now };
@@ -111,7 +110,8 @@ struct Groups<'a, M> {
 
 // Gathers the members, in n log n steps.
 fn gather<'a, M: Member<'a>>(alloc: Global, members: &[M]) -> Result<Groups<'a, M>, AllocError>
-    ensures keys { IfOk result (λ groups. map (λ k. k.now) groups.keys.items ≡ first_keys (map (λ m. (M.key_of m, m)) members.now)) }
+    ensures keys { IfOk result (λ groups. map (λ k. k.now) groups.keys.items
+        ≡ first_keys (map (λ m. (M.key_of m, m)) members.now)) }
     ensures each { IfOk result (λ groups. (q : List ℕ)
         → option_map_or (λ g. g.items) (get_by (λ k. slice_cmp nat_cmp q k.now) groups.members) []
         ≡ filter (λ m. bytes_eq q (M.key_of m)) members.now) }

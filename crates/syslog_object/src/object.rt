@@ -2,10 +2,10 @@
 ghost use Rattle.std.specs.Prelude.{◌≡◌, ◌++◌, List, ℕ, OnOk, codes};
 ghost use Rattle.syslog_pieces.specs.Pieces.View.{seen};
 ghost use Rattle.syslog_loose.specs.Line.{line_value};
-ghost use Rattle.serde_json.specs.Written.{compact_text};
 ghost use Rattle.syslog_pieces.specs.StructuredData.Visited.{list_elements};
 ghost use Rattle.syslog_object.specs.Object.{invalid_json, message_json, refused_json, structured_json};
-ghost use Rattle.syslog_object.specs.Parts.{IsSmallVersion, back_fields, field_text, front_text, rest_text};
+ghost use Rattle.syslog_object.specs.Parts.{IsSmallVersion, back_fields, compact_text};
+ghost use Rattle.syslog_object.specs.Parts.{field_text, front_text, rest_text};
 ghost use Rattle.syslog_object.specs.Written.{IsTextOf};
 
 use crate::element::push_elements;
@@ -56,7 +56,8 @@ pub(crate) fn push_back(
     line: &Line<'_>,
     raw: Option<&str>,
 ) -> Result<(), AllocError>
-    ensures { OnOk result (out.new.items ≡ out.old.items ++ rest_text (back_fields (line_value line.now) (seen raw.entry))) }
+    ensures { OnOk result (out.new.items
+        ≡ out.old.items ++ rest_text (back_fields (line_value line.now) (seen raw.entry))) }
 {
     push_field(out, b",\"message\":\"", Some(line.msg))?;
     push_field(out, b",\"raw\":\"", raw)?;

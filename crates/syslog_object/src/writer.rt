@@ -1,5 +1,6 @@
 //! The writer of a line's object that is given the elements while the line is read.
-ghost use Rattle.std.specs.Prelude.{◌≡◌, ◌≢◌, ◌≤◌, ◌-◌, ◌++◌, ◌∷◌, [], List, ℕ, IfOk, OnErr, OnOk, codes, cond, drop, length, map, take};
+ghost use Rattle.std.specs.Prelude.{◌≡◌, ◌≢◌, ◌≤◌, ◌-◌, ◌++◌, ◌∷◌, [], List, ℕ, IfOk, OnErr, OnOk};
+ghost use Rattle.std.specs.Prelude.{codes, cond, drop, length, map, take};
 ghost use Rattle.std.specs.Bool.{OnTrue};
 ghost use Rattle.json.specs.Print.{quoted};
 ghost use Rattle.syslog_pieces.specs.Pieces.View.{seen, shown};
@@ -92,7 +93,8 @@ impl<'a> ObjectWriter<'a> {
     // Whether it was given elements, and has written them.
     #[inline(always)]
     fn has_elements(&self) -> bool
-        ensures { OnTrue result ((es : List ElementValue) → HasWritten self.now es → (es ≢ []) × AreWritten self.now es) }
+        ensures { OnTrue result ((es : List ElementValue) → HasWritten self.now es
+            → (es ≢ []) × AreWritten self.now es) }
     {
         self.is_whole && self.count > 0
     }
@@ -109,7 +111,8 @@ impl<'a> ObjectWriter<'a> {
         output: &mut Vec<u8>,
     ) -> Result<(), AllocError>
         requires { HasWritten self.old (list_elements line.now.list) }
-        ensures ok { OnOk result ((bytes : List ℕ) × IsTextOf (message_json (line_value line.now) (seen raw.entry)) bytes
+        ensures ok { OnOk result ((bytes : List ℕ)
+            × IsTextOf (message_json (line_value line.now) (seen raw.entry)) bytes
             × (output.new.items ≡ output.old.items ++ bytes)) }
         ensures err { OnErr result (output.new.items ≡ output.old.items) }
     {
@@ -199,7 +202,8 @@ fn push_key_or_list(
     list: &ElementList<'_>,
     has_elements: bool,
 ) -> Result<(), AllocError>
-    ensures { OnOk result (text.new.items ≡ text.old.items ++ cond has_elements (44 ∷ (quoted (codes "structured_data") ++ 58 ∷ []))
+    ensures { OnOk result (text.new.items ≡ text.old.items
+        ++ cond has_elements (44 ∷ (quoted (codes "structured_data") ++ 58 ∷ []))
         (field_text (codes "structured_data") (structured_json (list_elements list.now)))) }
 {
     if has_elements {

@@ -1,9 +1,10 @@
-use Rattle.std.proofs.Common.{Option, refl, subst}
+use Rattle.std.proofs.Common.{Option, inl, refl, subst}
 use Rattle.syslog_pieces.specs.Pieces.Class.{Text}
 use Rattle.syslog_loose.specs.Line.{line_value}
 use Rattle.syslog_object.specs.Object.{message_json}
 use Rattle.syslog_object.specs.Written.{IsTextOf}
-use Rattle.syslog_json.proofs.UniqueLemmas.{only_read}
+use Rattle.syslog_json.proofs.ReadLemmas.{read_as}
+use Rattle.syslog_json.proofs.UniqueLemmas.{only_read, only_refused}
 use Rattle.syslog_json.proofs.filter.Objects.write_line.Goals as goal
 
 pub returns-in_ok-write-in-Some-clause-ok : goal.returns-in_ok-write-in-Some-clause-ok
@@ -14,7 +15,15 @@ returns-in_ok-write-in-Some-clause-ok c =
       (
         _,
         only_read c.args.self.now.options _ _ (c.utf8.line, (m, c.in-Some.ensures.0, refl)),
-        subst (λ (o : Option Text). IsTextOf (message_json m o) bytes) c.raw-raw.ensures text,
+        read_as _ _ (subst (λ (o : Option Text). IsTextOf (message_json m o) bytes) c.raw-raw.ensures text),
       ),
+      added,
+    )
+
+pub returns-in_ok-write_refused-in-None-clause-ok : goal.returns-in_ok-write_refused-in-None-clause-ok
+returns-in_ok-write_refused-in-None-clause-ok c =
+    let (bytes, text, added) = c.in_ok-write_refused-in-None.ensures.ok in (
+      bytes,
+      (_, only_refused c.args.self.now.options _ _ (inl (c.utf8.line, c.in-None.ensures, refl)), read_as _ _ text),
       added,
     )

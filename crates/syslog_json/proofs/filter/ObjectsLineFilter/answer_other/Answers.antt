@@ -1,5 +1,6 @@
 use Rattle.std.proofs.Common.{inr, refl, ◌∙◌}
 use Rattle.syslog_lines.specs.Output.{Marked}
+use Rattle.syslog_json.proofs.ReadLemmas.{read_as}
 use Rattle.syslog_json.proofs.UniqueLemmas.{only_refused, text_after_nothing}
 use Rattle.syslog_json.proofs.filter.ObjectsLineFilter.answer_other.Goals as goal
 
@@ -11,7 +12,7 @@ returns-clause-ok c =
       (
         _,
         only_refused c.args.self.now.options _ _ (inr (c.requires, refl)),
-        text_after_nothing _ _ bytes _ c.new-object.ensures.items added (rw lossy at text),
+        read_as _ _ (text_after_nothing _ _ bytes _ c.new-object.ensures.items added (rw lossy at text)),
       ),
       rw (c.as_slice.ensures.value) at c.in_ok-push_line.ensures.ok,
       refl,
