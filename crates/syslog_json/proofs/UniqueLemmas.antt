@@ -17,7 +17,7 @@ use Rattle.syslog_loose.specs.declared.line.Line.{Line}
 use Rattle.syslog_loose.specs.declared.variant.Variant.TheVariants.{Either}
 use Rattle.syslog_loose.proofs.ReadingLemmas as reading
 use Rattle.syslog_loose.proofs.ReckoningLemmas.{one_dating}
-use Rattle.syslog_loose.proofs.Rfc3164Lemmas.Years.{other_read}
+use Rattle.syslog_loose.proofs.Rfc3164Lemmas.{other_read}
 use Rattle.syslog_lines.specs.Output.{answer_bytes, is_answered}
 use Rattle.syslog_object.specs.Object.{message_json}
 use Rattle.syslog_object.specs.Written.{IsTextOf}

@@ -1,12 +1,24 @@
--- What the tests of the written condition return.
+-- The written condition and its quirks: what the tests of both return, and that the condition for RFC 3164 is the
+-- quirks' absence beside all that they leave.
 use Rattle.syslog_loose.proofs.Names.{◌≡◌, ◌<◌, ◌∙◌, ◌↔◌, ℕ, Bool, true, false, not, List, [], length, map, refl, sym}
 use Rattle.syslog_loose.proofs.Names.{ap, subst, arith, IsTrue, MatchBool, chars, IsUtf8, bytes_eq}
 use Rattle.syslog_loose.proofs.Names.{drop_trailing_whitespace, length-map, nil_from_length, bytes_eq-Decides, Text}
-use Rattle.syslog_loose.proofs.Names.{NoFront, BeginsNoList, rfc3164_list, DashRule, EndsVisibly}
-use Rattle.std.specs.Str.{trim_end}
-use Rattle.syslog_pieces.proofs.TextLemmas.Runs.{same_chars, end_trimmed_chars}
-use Rattle.syslog_pieces.proofs.StructuredDataLemmas.Walk.{no_list_is}
-use Rattle.syslog_loose.proofs.TrimLemmas.{drop_none, drop_ends}
+use Rattle.syslog_loose.proofs.Names.{NoFront, BeginsNoList, rfc3164_list, DashRule, EndsVisibly, ◌≢◌, ◌∷◌, ◌++◌}
+use Rattle.syslog_loose.proofs.Names.{nat_eq, None, chars_from_encodes, chars-IsAscii, encodes-append, encodes-chars}
+use Rattle.syslog_loose.proofs.Names.{encode_utf8_all, Each, colon, dash, EndsInColon, is_no_colon, false_is}
+use Rattle.syslog_loose.proofs.Names.{colon_ascii, ◌&&◌, inl, inr, Option, Some, IfSome, IsSome, ProcId, PID, Name}
+use Rattle.syslog_loose.proofs.Names.{Protocol, RFC3164, IsVisible, IsCanonicalHost, IsBracketedProcess}
+use Rattle.syslog_loose.proofs.Names.{is_process_char, AreCanonicalNames, IsCanonical3164, IsCanonicalFor, IsCanonical}
+use Rattle.syslog_loose.proofs.Names.{is_inner_char, HasNoColon, HasNoException, IsOddHost, IsInnerProcess}
+use Rattle.syslog_loose.proofs.Names.{AreNamesButExceptions, HasExceptionsAlone, IsNearlyCanonical, MessageValue}
+use Rattle.syslog_loose.proofs.Names.{each_both, each_map, nat_tests, IfSome_then, SyslogFacility, SyslogSeverity}
+use Rattle.syslog_loose.proofs.Names.{trim_end, NonePass, same_chars, end_trimmed_chars, no_list_is, dash_ascii}
+use Rattle.syslog_pieces.proofs.TextLemmas.Chars.{from_not_true}
+use Rattle.syslog_loose.proofs.PrintedLemmas.{drop_none, drop_ends}
+use Rattle.std.proofs.lemmas.Str.{chars-append, encodes-IsAscii, IsCharBoundary-at_seam, IsUtf8-from_ascii, IsUtf8-take}
+use Rattle.std.proofs.Math.Seq.{take-append_seam}
+use Rattle.std.proofs.lemmas.Str.Pattern.{contains_char, NoCharPasses-char}
+use Rattle.std.specs.Str.Pattern.{FindsChar, HasMatch}
 
 -- a text that trimming leaves as it is
 pub visible_told : (bs ts : List ℕ) (b : Bool) → IsUtf8 bs → IsUtf8 ts → ts ≡ trim_end bs → b ≡ bytes_eq ts bs
@@ -36,3 +48,159 @@ pub no_list_told : (rule : DashRule) (t : Text) (b : Bool)
 no_list_told rule t true m =
     ((λ h. absurd (let e : false ≡ true = h in cc)), (λ n. absurd (m ((no_list_is rule t).1 n))))
 no_list_told rule t false m = ((λ h. (no_list_is rule t).0 m), (λ n. refl))
+
+-- the bytes of a dash
+pub dash_bytes : (bs : List ℕ) → IsUtf8 bs → chars bs ≡ dash → bs ≡ dash
+dash_bytes bs u e = sym (encodes-chars bs u) ∙ ap encode_utf8_all e ∙ encodes-IsAscii dash dash_ascii
+
+-- ---- what the test of a host returns
+
+pub odd_told : (bs : List ℕ) → IsUtf8 bs → (front : List ℕ) × (bs ≡ front ++ colon)
+    → IsTrue false ↔ ((chars bs ≢ dash) × (EndsInColon (chars bs) → ⊥))
+odd_told bs u (front, e) =
+    let whole = rw (e, take-append_seam) at (IsUtf8-take bs (length front) u
+    (IsCharBoundary-at_seam bs front colon e (IsUtf8-from_ascii colon colon_ascii))) in
+    false_is (λ h. h.1 (chars front, rw (e, chars-append front colon whole, chars-IsAscii colon colon_ascii) refl))
+
+-- bytes that do not end in a colon are of no text that does
+pub no_colon_end : (bs : List ℕ) → IsUtf8 bs → ((front : List ℕ) → bs ≢ front ++ colon) → EndsInColon (chars bs) → ⊥
+no_colon_end bs u n k = n (encode_utf8_all k.0)
+    (rw (← encodes-chars bs u, k.1, encodes-append, encodes-IsAscii colon colon_ascii) refl)
+
+pub no_odd_told : (bs : List ℕ) (b : Bool) → IsUtf8 bs → ((front : List ℕ) → bs ≢ front ++ colon)
+    → MatchBool b (bs ≢ dash) (bs ≡ dash) → IsTrue b ↔ ((chars bs ≢ dash) × (EndsInColon (chars bs) → ⊥))
+no_odd_told bs true u n m =
+    ((λ h. (λ e. m (dash_bytes bs u e), no_colon_end bs u n)), (λ k. refl))
+no_odd_told bs false u n m = false_is (λ k. k.0 (ap chars m ∙ chars-IsAscii dash dash_ascii))
+
+-- ---- a name without a colon
+each_of : (cs : Text) → NonePass (λ d. nat_eq d 58) cs → Each is_no_colon cs
+each_of [] n = tt
+each_of (c ∷ cs) n = (ap not n.0, each_of cs n.1)
+
+none_of : (cs : Text) → Each is_no_colon cs → NonePass (λ d. nat_eq d 58) cs
+none_of [] h = tt
+none_of (c ∷ cs) h = (from_not_true (nat_eq c 58) h.0, none_of cs h.1)
+
+pub no_colon_told : (bs : List ℕ) (b : Bool) → IsUtf8 bs
+    → MatchBool b (HasMatch (FindsChar 58) bs) (FindsChar 58 bs None) → IsTrue (not b) ↔ Each is_no_colon (chars bs)
+no_colon_told bs true u m =
+    let (k, l, e) = (contains_char 58 bs true m (omega arith)).0 refl in
+    false_is (λ h. NoCharPasses-char 58 bs k (chars bs, encodes-chars bs u, none_of (chars bs) h) (omega arith) l e)
+no_colon_told bs false u m = (
+  (λ h. let (cs, e, n) = m in subst (λ (x : Text). Each is_no_colon x) (chars_from_encodes cs bs u e) (each_of cs n)),
+  (λ h. refl),
+)
+
+-- ---- the host
+pub no_dash_host : (host : Option Text) → IfSome host IsCanonicalHost → IfSome host (λ x. x ≡ dash → ⊥)
+no_dash_host host h = IfSome_then host h (λ x k. k.1)
+
+pub no_colon_host : (host : Option Text) → IfSome host IsCanonicalHost → IfSome host (λ x. EndsInColon x → ⊥)
+no_colon_host host h = IfSome_then host h (λ x k. k.2)
+
+no_odd_host : (host app : Option Text) → IfSome host IsCanonicalHost → IfSome host (λ x. IsOddHost x → app ≡ None)
+no_odd_host host app h = IfSome_then host h (λ x k o. absurd (elim o [ inl d ↦ k.1 d | inr c ↦ k.2 c ]))
+
+pub canonical_host : (host : Option Text) → IfSome host IsVisible → IfSome host (λ x. x ≡ dash → ⊥)
+    → IfSome host (λ x. EndsInColon x → ⊥) → IfSome host IsCanonicalHost
+canonical_host None v d c = tt
+canonical_host (Some x) v d c = (v, d, c)
+
+-- ---- the process
+inner_of : (process : ProcId Text) → IsBracketedProcess process → IsInnerProcess process
+inner_of (PID n) h = tt
+inner_of (Name t) (l, a, none) =
+    (l, each_map is_process_char is_inner_char (λ c h. grind (arith, nat_tests)) t a, none)
+
+no_colon_of : (process : ProcId Text) → IsBracketedProcess process → HasNoColon process
+no_colon_of (PID n) h = tt
+no_colon_of (Name t) (l, a, none) = each_map is_process_char is_no_colon (λ c h. grind (arith, nat_tests)) t a
+
+pub bracketed_of : (process : ProcId Text) → IsInnerProcess process → HasNoColon process → IsBracketedProcess process
+bracketed_of (PID n) h k = tt
+bracketed_of (Name t) (l, a, none) k = (
+  l,
+  each_map (λ c. is_inner_char c && is_no_colon c) is_process_char (λ c h. grind (arith, nat_tests)) t
+      (each_both is_inner_char is_no_colon t a k),
+  none,
+)
+
+-- ---- the names
+near_of : (host app : Option Text) (process : Option (ProcId Text)) → AreCanonicalNames host app process
+    → AreNamesButExceptions host app process
+near_of host (Some a) (Some p) h = (h.0, inner_of p h.1)
+near_of host app process h = h
+
+pub no_colon_names : (host app : Option Text) (process : Option (ProcId Text)) → AreCanonicalNames host app process
+    → IfSome process HasNoColon
+no_colon_names host app None h = tt
+no_colon_names host None (Some p) h = absurd h
+no_colon_names host (Some a) (Some p) h = no_colon_of p h.1
+
+pub canonical_names : (host app : Option Text) (process : Option (ProcId Text)) → AreNamesButExceptions host app process
+    → IfSome process HasNoColon → AreCanonicalNames host app process
+canonical_names host (Some a) (Some p) h k = (h.0, bracketed_of p h.1 k)
+canonical_names host app process h k = h
+
+-- ---- the message
+pub canonical_near : (rule : DashRule) (m : MessageValue) → m.protocol ≡ RFC3164 → IsCanonical rule m
+    → IsNearlyCanonical m × HasNoException rule m
+canonical_near rule m e (canonical, other) =
+    let own : IsCanonical3164 rule m = subst (λ (x : Protocol). IsCanonicalFor rule x m) e other in (
+      record {
+        facility = canonical.facility;
+        severity = canonical.severity;
+        rest = record {
+          protocol = e;
+          hostname = IfSome_then m.hostname canonical.hostname (λ x k. k.0);
+          odd_host = no_odd_host m.hostname m.appname canonical.hostname;
+          names = near_of m.hostname m.appname m.procid own.names;
+          colon_process = inl (no_colon_names m.hostname m.appname m.procid own.names);
+          msgid = own.msgid;
+          elements = canonical.elements;
+          parameters = own.elements;
+          msg_front = canonical.msg_front;
+          msg_end = canonical.msg_end;
+        };
+      },
+      record {
+        timestamp = canonical.timestamp;
+        names = record {
+          no_dash = no_dash_host m.hostname canonical.hostname;
+          no_last_colon = no_colon_host m.hostname canonical.hostname;
+          no_colon = no_colon_names m.hostname m.appname m.procid own.names;
+        };
+        no_list = own.no_list;
+      },
+    )
+
+-- the message with this facility and severity instead of its own
+pub near_completed : (rule : DashRule) (m : MessageValue) (f : Option SyslogFacility) (s : Option SyslogSeverity)
+    → IsSome f → IsSome s → HasExceptionsAlone m → HasNoException rule m
+    → IsCanonical rule (record m { facility = f; severity = s })
+near_completed rule m f s facility severity near none = (
+  record {
+    facility = facility;
+    severity = severity;
+    timestamp = none.timestamp;
+    hostname = canonical_host m.hostname near.hostname none.names.no_dash none.names.no_last_colon;
+    elements = near.elements;
+    msg_front = near.msg_front;
+    msg_end = near.msg_end;
+  },
+  rw near.protocol (record {
+    msgid = near.msgid;
+    names = canonical_names m.hostname m.appname m.procid near.names none.names.no_colon;
+    elements = near.parameters;
+    no_list = none.no_list;
+  }),
+)
+
+pub near_canonical : (rule : DashRule) (m : MessageValue) → IsNearlyCanonical m × HasNoException rule m
+    → IsCanonical rule m
+near_canonical rule m (nearly, none) =
+    near_completed rule m m.facility m.severity nearly.facility nearly.severity nearly.rest none
+
+-- the condition is the exceptions and the rest, both ways
+pub ruleset nearly = (canonical_near, near_canonical)

@@ -10,21 +10,18 @@ use Rattle.syslog_loose.proofs.Names.{row_cons, row_head, rows_join, division_fr
 use Rattle.syslog_loose.proofs.Names.{all_joined, rows_split, absent_stays, piece_front, decide, dash_rfc3164_list}
 use Rattle.syslog_loose.proofs.Names.{full_begins, no_rfc3164_list, rfc3164_list_det, Protocol, Variant, Either}
 use Rattle.syslog_loose.proofs.Names.{RFC5424, IsCanonicalFor, IsCanonical, MessageValue, Names3164, Resolves}
-use Rattle.syslog_loose.proofs.Names.{rfc3164_row, IsRead3164, stamped_row, fields_row}
-use Rattle.syslog_pieces.specs.Pieces.Class.{Divides}
+use Rattle.syslog_loose.proofs.Names.{rfc3164_row, IsRead3164, stamped_row, fields_row, Divides, IsReadUnder}
 use Rattle.syslog_pieces.proofs.PieceLemmas.Class.{firsts, lasts}
 use Rattle.std.proofs.Math.Seq.{drop-append_seam}
-use Rattle.syslog_loose.specs.Reading.{IsReadUnder}
 use Rattle.syslog_loose.specs.Bodies.View3164.{FieldsAreRead}
 use Rattle.syslog_loose.specs.declared.variant.Variant.TheVariants.{RFC3164}
 use Rattle.syslog_loose.specs.declared.rfc3164.Fields.{Fields}
 use Rattle.syslog_loose.specs.DashChange.{ReadsDifferently, BeginsDashChange, HasDashChange3164, HasDashChange}
 use Rattle.syslog_loose.specs.DashChange.{IsReadingUnder, WasUnreadable}
-use Rattle.syslog_loose.proofs.Rfc3164Lemmas.Reading.{is_read}
-use Rattle.syslog_loose.proofs.Rfc3164Lemmas.Rows.{from_gap, from_list, gap_back}
-use Rattle.syslog_loose.proofs.VisitLemmas.{unversioned, versioned}
+use Rattle.syslog_loose.proofs.Rfc3164Lemmas.{is_read, from_gap, from_list, gap_back}
+use Rattle.syslog_loose.proofs.ReadingLemmas.{unversioned, versioned}
+use Rattle.syslog_loose.proofs.Rfc3164Lemmas as rfc3164
 use Rattle.syslog_loose.specs.declared.message.Protocol.TheVariants as protocol
-use Rattle.syslog_loose.proofs.Rfc3164Lemmas.Unique as rfc3164
 use Rattle.syslog_loose.proofs.Rfc5424Lemmas as strict
 
 -- ---- two readings

@@ -1,9 +1,201 @@
--- The bytes of printed messages.
-use Rattle.syslog_loose.proofs.Names.{◌≡◌, ◌<◌, ◌∷◌, ◌++◌, ◌∙◌, ℕ, List, [], append_assoc, length, refl, sym, ap, arith}
-use Rattle.syslog_loose.proofs.Names.{encodes-append, decimal, encode_utf8_all, Text, ElementValue, encodes-decimal}
-use Rattle.syslog_loose.proofs.Names.{spaced_elements}
-use Rattle.std.specs.Char.{encode_utf8}
-use Rattle.syslog_loose.specs.Printed.{joined_elements}
+-- What is printed: what trimming leaves of it, the priority that it begins with, and its bytes.
+use Rattle.syslog_loose.proofs.Names.{◌≡◌, ◌<◌, ◌&&◌, ◌∷◌, ◌++◌, ◌∙◌, ℕ, inl, inr, Bool, true, false, cond, not, nat_eq}
+use Rattle.syslog_loose.proofs.Names.{Option, Some, None, List, [], length, refl, sym, ap, subst, arith, append_assoc}
+use Rattle.syslog_loose.proofs.Names.{append-nil, flat_map, nat_tests, is_whitespace, is_not_whitespace}
+use Rattle.syslog_loose.proofs.Names.{drop_trailing_whitespace, Text, Class, Values, Front, Row, Each, Ends, run, rest}
+use Rattle.syslog_loose.proofs.Names.{classes, printed_row, Format, ElementValue, param_text, element_text}
+use Rattle.syslog_loose.proofs.Names.{joined_elements, elements_text, OffsetTimestamp, row_head, rest_whole, row_pieces}
+use Rattle.syslog_loose.proofs.Names.{printed_stamp-visible, printed_stamp-begins, timestamp_text, is_blank, ◌≤◌}
+use Rattle.syslog_loose.proofs.Names.{◌then◌, row_of, option_map_or, exactly, piece_front, MessageValue, priority_of}
+use Rattle.syslog_loose.proofs.Names.{decimal, priority, facility_number, severity_number, number, SyslogFacility}
+use Rattle.syslog_loose.proofs.Names.{SyslogSeverity, number_back, encodes-append, encode_utf8_all, encodes-decimal}
+use Rattle.syslog_loose.proofs.Names.{spaced_elements, ◌≢◌, clock_value, stamp_seen, ClockStamp, printed_stamp-bytes}
+use Rattle.syslog_loose.proofs.Names.{line_value, protocol_of, printed, rest_text, Line, RFC3164, encode_utf8}
+use Rattle.syslog_pieces.proofs.PieceLemmas.Lists.{printed_more}
+use Rattle.syslog_pieces.proofs.PriLemmas.{as_priority, facility_low, severity_low}
+use Rattle.syslog_loose.specs.Canonical.{EndsVisibly}
+unfoldable pub use Rattle.syslog_loose.specs.Bodies.Jumps.{message_end}
+use Rattle.syslog_pieces.specs.Pri.{priority_row}
+use Rattle.syslog_loose.specs.Printed.{printed_3164, printed_5424, rest_3164, rest_5424}
+use Rattle.syslog_pieces.specs.Front.{clock_text, front_text}
+use Rattle.syslog_loose.specs.declared.message.Protocol.TheVariants.{RFC5424}
+use Rattle.syslog_loose.specs.Bodies.Cases.{printed_number}
+
+-- ---- characters
+
+-- what is no white space is no blank
+pub visible_no_blank : (c : ℕ) → is_not_whitespace c ≡ true → is_blank c ≡ false
+visible_no_blank c h = grind (arith, nat_tests)
+
+pub visible_ends_blanks : (t q : Text) → 0 < length t → Each is_not_whitespace t → Ends is_blank (t ++ q)
+visible_ends_blanks [] q l h = absurd (omega arith)
+visible_ends_blanks (c ∷ t) q l h = visible_no_blank c h.0
+
+-- ---- a visible last character keeps all before it
+drop_visible : (c : ℕ) (cs : Text) → is_not_whitespace c ≡ true
+    → drop_trailing_whitespace (c ∷ cs) ≡ c ∷ drop_trailing_whitespace cs
+drop_visible c cs h = grind (arith, nat_tests)
+
+drop_before : (c : ℕ) (cs : Text) → 0 < length (drop_trailing_whitespace cs)
+    → drop_trailing_whitespace (c ∷ cs) ≡ c ∷ drop_trailing_whitespace cs
+drop_before c cs h = grind (arith, nat_tests)
+
+-- the text has a last character, which is no white space
+abbrev pub LastVisible : Text → Type 0
+LastVisible [] = ⊥
+LastVisible (c ∷ []) = is_not_whitespace c ≡ true
+LastVisible (c ∷ d ∷ cs) = LastVisible (d ∷ cs)
+
+pub last_append : (xs ys : Text) → LastVisible ys → LastVisible (xs ++ ys)
+last_append [] ys h = h
+last_append (c ∷ []) [] h = absurd h
+last_append (c ∷ []) (d ∷ ys) h = h
+last_append (c ∷ d ∷ xs) ys h = last_append (d ∷ xs) ys h
+
+-- what comes before such a character is kept
+pub drop_after : (xs ys : Text) → LastVisible xs
+    → drop_trailing_whitespace (xs ++ ys) ≡ xs ++ drop_trailing_whitespace ys
+drop_after [] ys h = absurd h
+drop_after (c ∷ []) ys h = drop_visible c ys h
+drop_after (c ∷ d ∷ cs) ys h =
+    let r = drop_after (d ∷ cs) ys h in
+    drop_before c ((d ∷ cs) ++ ys) (rw r (omega arith)) ∙ ap (λ (x : Text). c ∷ x) r
+
+-- a text that ends visibly is kept whole
+pub drop_none : (xs : Text) → EndsVisibly xs → drop_trailing_whitespace xs ≡ xs
+drop_none [] h = refl
+drop_none (c ∷ []) h = drop_visible c [] (h [] c refl)
+drop_none (c ∷ d ∷ xs) h =
+    let r = drop_none (d ∷ xs) (λ front e w. h (c ∷ front) e (ap (λ (x : Text). c ∷ x) w)) in
+    drop_before c (d ∷ xs) (rw r (omega arith)) ∙ ap (λ (x : Text). c ∷ x) r
+
+-- ---- what is left ends visibly
+ends_case : (t n : Bool) (d : ℕ) (ds : Text) → is_whitespace d ≡ t → nat_eq (length ds) 0 ≡ n → EndsVisibly ds
+    → EndsVisibly (cond (t && n) [] (d ∷ ds))
+ends_case true true d ds a b h [] c e = cc
+ends_case true true d ds a b h (x ∷ front) c e = cc
+ends_case true false d ds a b h [] c e =
+    absurd (let z : ds ≡ [] = cc in let u : true ≡ false = rw z at b in cc)
+ends_case true false d ds a b h (x ∷ front) c e = h front c cc
+ends_case false n d ds a b h [] c e = let z : c ≡ d = cc in ap is_not_whitespace z ∙ ap not a
+ends_case false n d ds a b h (x ∷ front) c e = h front c cc
+
+nil_ends : EndsVisibly []
+nil_ends [] c e = cc
+nil_ends (x ∷ front) c e = cc
+
+pub drop_ends : (cs : Text) → EndsVisibly (drop_trailing_whitespace cs)
+drop_ends [] = nil_ends
+drop_ends (d ∷ cs) =
+    ends_case (is_whitespace d) (nat_eq (length (drop_trailing_whitespace cs)) 0) d
+    (drop_trailing_whitespace cs) refl refl (drop_ends cs)
+
+-- and what follows a piece of it does too
+pub ends_behind : (C : Class) {t q : Text} {v : C.Value} → Front C t q v → EndsVisibly t → EndsVisibly q
+ends_behind C {q = q} f h front c e =
+    h (f.piece ++ front) c (f.whole ∙ ap (λ (x : Text). f.piece ++ x) e ∙ sym (append_assoc f.piece front (c ∷ [])))
+
+-- ---- a space and the message at the end of a text
+
+pub message_end_is : (msg : Text) → EndsVisibly msg → drop_trailing_whitespace (32 ∷ msg) ≡ message_end msg
+unfolding message_end
+message_end_is [] h = refl
+message_end_is (c ∷ cs) h =
+    let r = drop_none (c ∷ cs) h in
+    drop_before 32 (c ∷ cs) (rw r (omega arith)) ∙ ap (λ (x : Text). 32 ∷ x) r
+
+-- blanks and the message are there
+pub message_blanks : (msg : Text) → Ends is_blank msg → Front (run is_blank) (message_end msg) msg tt
+unfolding message_end
+message_blanks [] h = record { piece = []; whole = refl; is = (tt, tt) }
+message_blanks (c ∷ cs) h = record { piece = 32 ∷ []; whole = refl; is = ((refl, tt), h) }
+
+-- ---- printed rows
+
+pub row_last : (Fs : List Format) (vs : Values (classes Fs)) (q : Text) → LastVisible q
+    → LastVisible (printed_row Fs vs q)
+row_last [] vs q h = h
+row_last (F ∷ Fs) vs q h = last_append (F.print vs.0) (printed_row Fs vs.1 q) (row_last Fs vs.1 q h)
+
+-- where a text that ends visibly and a message end a printed row, trimming loses nothing but the space before an empty
+-- one
+pub row_trimmed : (Fs : List Format) (vs : Values (classes Fs)) (t msg : Text) → LastVisible t → EndsVisibly msg
+    → drop_trailing_whitespace (printed_row Fs vs (t ++ (32 ∷ msg))) ≡ printed_row Fs vs (t ++ message_end msg)
+row_trimmed Fs vs t msg h end =
+    ap drop_trailing_whitespace (sym (printed_more Fs vs t (32 ∷ msg)))
+    ∙ drop_after (printed_row Fs vs t) (32 ∷ msg) (row_last Fs vs t h)
+    ∙ ap (λ (x : Text). printed_row Fs vs t ++ x) (message_end_is msg end) ∙ printed_more Fs vs t (message_end msg)
+
+-- ---- printed elements and timestamps
+
+element_last : (e : ElementValue) → LastVisible (element_text e)
+element_last e =
+    last_append (91 ∷ e.id) (flat_map param_text e.params ++ (93 ∷ []))
+    (last_append (flat_map param_text e.params) (93 ∷ []) refl)
+
+pub joined_last : (e : ElementValue) (es : List ElementValue) → LastVisible (joined_elements (e ∷ es))
+joined_last e [] = subst LastVisible (sym (append-nil (element_text e))) (element_last e)
+joined_last e (f ∷ es) = last_append (element_text e) (joined_elements (f ∷ es)) (joined_last f es)
+
+pub elements_last : (es : List ElementValue) → LastVisible (elements_text es)
+elements_last [] = refl
+elements_last (e ∷ es) = joined_last e es
+
+-- a printed timestamp, or `-`, begins with no blank
+pub stamp_unblank : (v : Option OffsetTimestamp) (q : Text) → Ends is_blank (timestamp_text v ++ q)
+stamp_unblank None q = refl
+stamp_unblank (Some s) q =
+    let (c, more, digit, first) = printed_stamp-begins s in
+    let some : 0 < length (timestamp_text (Some s)) =
+    elim first [ inl e ↦ (rw e (omega arith)) | inr e ↦ (rw e (omega arith)) ] in
+    visible_ends_blanks (timestamp_text (Some s)) q some (printed_stamp-visible s)
+
+-- ---- the last piece of a row
+
+abbrev pub last_text : (Cs : List Class) → Values (Cs ++ (rest ∷ [])) → Text
+last_text [] vs = vs.0
+last_text (C ∷ Cs) vs = last_text Cs vs.1
+
+-- all that is left of a text that ends visibly does too
+pub last_ends : (Cs : List Class) {t : Text} {vs : Values (Cs ++ (rest ∷ []))} → Front (Row (Cs ++ (rest ∷ []))) t [] vs
+    → EndsVisibly t
+    → EndsVisibly (last_text Cs vs)
+last_ends [] f h = let (u, g, e) = row_pieces (rest ∷ []) f in subst EndsVisibly (rest_whole g) h
+last_ends (C ∷ Cs) f h = let g = row_head C (Cs ++ (rest ∷ [])) f in last_ends Cs g.2 (ends_behind C g.1 h)
+
+-- ---- the priority that each printed text begins with
+
+facility_or : (f : Option SyslogFacility) → option_map_or facility_number f 5 < 24
+facility_or None = omega arith
+facility_or (Some f) = facility_low f
+
+severity_or : (s : Option SyslogSeverity) → option_map_or severity_number s 7 < 8
+severity_or None = omega arith
+severity_or (Some s) = severity_low s
+
+pub priority_small : (m : MessageValue) → priority_of m < 192
+priority_small m = let f = facility_or m.facility in let s = severity_or m.severity in omega arith
+
+pub priority_low : (m : MessageValue) → priority_of m ≤ 255
+priority_low m = let h = priority_small m in omega arith
+
+-- a printed priority, before any text
+pub priority_front : (n : ℕ) (q : Text) → n ≤ 255 → Front priority (60 ∷ (decimal n ++ (62 ∷ q))) q n
+priority_front n q l =
+    as_priority
+    (row_of priority_row
+    (piece_front (exactly (60 ∷ [])) (60 ∷ []) _ tt refl
+    then piece_front (number 255) (decimal n) (62 ∷ q) n (number_back n 255 (62 ∷ q) l (omega arith) refl)
+    then piece_front (exactly (62 ∷ [])) (62 ∷ []) q tt refl then refl))
+
+-- trimming leaves it
+pub priority_trimmed : (n : ℕ) (q : Text)
+    → drop_trailing_whitespace (60 ∷ (decimal n ++ (62 ∷ q))) ≡ 60 ∷ (decimal n ++ (62 ∷ drop_trailing_whitespace q))
+priority_trimmed n q =
+    simp append_assoc at
+    (drop_after (60 ∷ (decimal n ++ (62 ∷ []))) q (last_append (60 ∷ decimal n) (62 ∷ []) refl))
+
+-- ---- the bytes of printed messages
 
 -- writes in writes, joined
 joined : (a b c d e f g : List ℕ)
@@ -63,3 +255,78 @@ pub encodes_spaced : (es : List ElementValue) → 0 < length es
 unfolding encode_utf8
 encodes_spaced [] h = absurd (omega arith)
 encodes_spaced (e ∷ es) h = encodes-append (joined_elements (e ∷ es)) (32 ∷ [])
+
+-- ---- the bytes of printed lines: the front, and the rest
+
+-- ---- the rest
+
+-- the four names, the elements and the text of a line of RFC 5424
+pub written_rest_5424 : (host app process id elements msg : Text) (m : List ℕ) → encode_utf8_all msg ≡ m
+    → (32 ∷ encode_utf8_all host) ++ ((32 ∷ encode_utf8_all app) ++ ((32 ∷ encode_utf8_all process)
+    ++ ((32 ∷ encode_utf8_all id) ++ ((32 ∷ []) ++ (encode_utf8_all elements ++ (32 ∷ m))))))
+    ≡ encode_utf8_all
+    (32 ∷ (host ++ (32 ∷ (app ++ (32 ∷ (process ++ (32 ∷ (id ++ (32 ∷ (elements ++ (32 ∷ msg)))))))))))
+unfolding encode_utf8
+written_rest_5424 host app process id elements msg m e = sym (simp (encodes-append, e))
+
+-- the host, the tag, the elements and the text of one of RFC 3164
+pub written_rest_3164 : (host tag elements msg : Text) (m : List ℕ) → encode_utf8_all msg ≡ m
+    → (32 ∷ encode_utf8_all host) ++ ((32 ∷ encode_utf8_all tag) ++ (encode_utf8_all elements ++ m))
+    ≡ encode_utf8_all (32 ∷ (host ++ (32 ∷ (tag ++ (elements ++ msg)))))
+unfolding encode_utf8
+written_rest_3164 host tag elements msg m e = sym (simp (encodes-append, e))
+
+-- elements that are there, and a space after them
+pub encodes_spaced_list : (es : List ElementValue) → es ≢ []
+    → encode_utf8_all (elements_text es) ++ (32 ∷ []) ≡ encode_utf8_all (spaced_elements es)
+unfolding encode_utf8
+encodes_spaced_list [] some = absurd (some refl)
+encodes_spaced_list (e ∷ es) some = sym (encodes-append (joined_elements (e ∷ es)) (32 ∷ []))
+
+-- ---- the front and the rest
+
+clock_bytes : (c : Option ClockStamp) → encode_utf8_all (timestamp_text (stamp_seen c)) ≡ clock_text c
+unfolding encode_utf8
+clock_bytes None = refl
+clock_bytes (Some c) = printed_stamp-bytes (clock_value c)
+
+joined_front_5424 : (p v t r : List ℕ) → (60 ∷ (p ++ (62 ∷ []))) ++ (v ++ (32 ∷ t)) ++ r
+    ≡ 60 ∷ (p ++ (62 ∷ (v ++ (32 ∷ (t ++ r)))))
+joined_front_5424 p v t r = simp append_assoc refl
+
+bytes_5424 : (p v : ℕ) (stamp rest : Text) (t : List ℕ) → encode_utf8_all stamp ≡ t
+    → ((60 ∷ (decimal p ++ (62 ∷ []))) ++ (decimal v ++ (32 ∷ t))) ++ encode_utf8_all rest
+    ≡ encode_utf8_all (60 ∷ (decimal p ++ (62 ∷ (decimal v ++ (32 ∷ (stamp ++ rest))))))
+unfolding encode_utf8
+bytes_5424 p v stamp rest t e =
+    joined_front_5424 (decimal p) (decimal v) t (encode_utf8_all rest) ∙ sym (simp (encodes-append, encodes-decimal, e))
+
+joined_front_3164 : (p t r : List ℕ) → ((60 ∷ (p ++ (62 ∷ []))) ++ (32 ∷ t)) ++ r
+    ≡ 60 ∷ (p ++ (62 ∷ 32 ∷ (t ++ r)))
+joined_front_3164 p t r = simp append_assoc refl
+
+bytes_3164 : (p : ℕ) (stamp rest : Text) (t : List ℕ) → encode_utf8_all stamp ≡ t
+    → ((60 ∷ (decimal p ++ (62 ∷ []))) ++ (32 ∷ t)) ++ encode_utf8_all rest
+    ≡ encode_utf8_all (60 ∷ (decimal p ++ (62 ∷ 32 ∷ (stamp ++ rest))))
+unfolding encode_utf8
+bytes_3164 p stamp rest t e =
+    joined_front_3164 (decimal p) t (encode_utf8_all rest) ∙ sym (simp (encodes-append, encodes-decimal, e))
+
+front_bytes : (version : Option ℕ) (m : MessageValue) (c : Option ClockStamp) → m.timestamp ≡ stamp_seen c
+    → front_text (priority_of m) version c
+    ++ encode_utf8_all (elim (protocol_of version) [ RFC5424 v ↦ rest_5424 m | RFC3164 ↦ rest_3164 m ])
+    ≡ encode_utf8_all (elim (protocol_of version) [ RFC5424 v ↦ printed_5424 v m | RFC3164 ↦ printed_3164 m ])
+unfolding printed_5424 printed_3164
+front_bytes (Some v) m c e =
+    bytes_5424 (priority_of m) v (timestamp_text m.timestamp) (rest_5424 m) (clock_text c)
+    (ap (λ t. encode_utf8_all (timestamp_text t)) e ∙ clock_bytes c)
+front_bytes None m c e =
+    bytes_3164 (priority_of m) (timestamp_text m.timestamp) (rest_3164 m) (clock_text c)
+    (ap (λ t. encode_utf8_all (timestamp_text t)) e ∙ clock_bytes c)
+
+-- a printed line is its front and the rest
+pub printed_line : (line : Line)
+    → front_text (printed_number line.priority) line.version line.timestamp
+    ++ encode_utf8_all (rest_text (line_value line))
+    ≡ encode_utf8_all (printed (line_value line))
+printed_line line = front_bytes line.version (line_value line) line.timestamp refl

@@ -1,17 +1,38 @@
--- What the reading calls return.
+-- How a text is read: what the pieces at its front say, what is made of it by way of its line, and what the calls return.
 use Rattle.syslog_loose.proofs.Names.{◌≡◌, ◌≢◌, ◌∙◌, inl, inr, ℕ, ℤ, List, Option, Some, None, w32, to_z, of_z, refl}
 use Rattle.syslog_loose.proofs.Names.{sym, ap, subst, MatchOption, IsSomeAnd, Bor, TimeZone, Text, shown, Dating}
 use Rattle.syslog_loose.proofs.Names.{dating_of, MonthDate, MessageValue, message_value, dash_rule, IsRead, IsOnlyRead}
 use Rattle.syslog_loose.proofs.Names.{IncompleteDate, AsksYear, IsYearAnswered, InYear, IsQuoted, incomplete}
-use Rattle.syslog_loose.proofs.Names.{IsRead5424, Invalid, Memory, Variant, Either, RFC5424}
-use Rattle.std.proofs.Common.{SFits}
+use Rattle.syslog_loose.proofs.Names.{IsRead5424, Invalid, Memory, Variant, Either, RFC5424, ◌↔◌, ◌then◌, ◌past◌, Err}
+use Rattle.syslog_loose.proofs.Names.{false, true, arith, IsSome, row_of, no_row, Class, Front, NoFront, run, optional}
+use Rattle.syslog_loose.proofs.Names.{priority, trimmed, is_blank, clock_value, header_stamp, stamp_seen, rfc3164_stamp}
+use Rattle.syslog_loose.proofs.Names.{ShowsYearless, ShowsMonthDate, yearless_date, month_date, ClockStamp, front_same}
+use Rattle.syslog_loose.proofs.Names.{optional_det, run_det, Begins, begins_apart, priority_det, some_front_run}
+use Rattle.syslog_loose.proofs.Names.{month_date_begins, IsLetter, IsLow, ReadsProtocol, Answers, IsLeftTo3164}
+use Rattle.syslog_loose.proofs.Names.{HasMonth, stamped_row, IsNot3164, IsNot5424, IsBehindPriority, BeginsWithout, []}
+use Rattle.syslog_loose.proofs.Names.{Result, Ok, append-nil, ElementValue, list_elements, DashRule, line_value}
+use Rattle.syslog_loose.proofs.Names.{protocol_of, IsUnreadable, IsRead3164, IsLineOf, Made, ParseFault, Line, SFits}
 use Rattle.std.proofs.lemmas.Int.{to_z-of_z}
 use Rattle.syslog_loose.specs.declared.variant.Variant.TheVariants.{RFC3164}
 use Rattle.syslog_loose.specs.declared.message.Message.{Message}
-use Rattle.syslog_loose.proofs.Rfc3164Lemmas.Years.{other_read}
-use Rattle.syslog_loose.proofs.Rfc3164Lemmas.Quoting as rfc3164
-use Rattle.syslog_loose.proofs.Rfc3164Lemmas.Unique as rfc3164_unique
+use Rattle.syslog_loose.proofs.Rfc3164Lemmas.{other_read, shown_apart, not_read, date_has_month, shows_month_date}
+use Rattle.syslog_loose.proofs.Rfc3164Lemmas.{shown_once, shown_parts, shows, stamped_det, other_stamped}
+use Rattle.syslog_pieces.specs.Pieces.View.{Reads}
+use Rattle.syslog_pieces.specs.Timestamp.{IsAnswer}
+use Rattle.syslog_pieces.specs.Timestamp.Zone.{IsMonthStamp}
+use Rattle.syslog_pieces.proofs.TimestampLemmas.MonthDate.{date_front, header_front, header_stamp_begins, no_date}
+use Rattle.syslog_pieces.proofs.TimestampLemmas.MonthDate.{no_stamp_of_date}
+use Rattle.syslog_loose.specs.Bodies.Start.{BeginsWith}
+use Rattle.syslog_loose.specs.Bodies.View3164.{IsBehindStamp}
+use Rattle.syslog_pieces.specs.StructuredData.Visited.{Visits}
+use Rattle.syslog_pieces.specs.StructuredData.Collected.{HasCollected}
+use Rattle.syslog_pieces.specs.declared.structured_data.collect.Collect.{Collect}
+use Rattle.syslog_loose.specs.Message.{with_elements}
+use Rattle.syslog_loose.specs.Reading.{IsFault}
+use Rattle.syslog_loose.specs.Visit.{HasRest, IsCompleted}
+use Rattle.syslog_loose.proofs.Rfc3164Lemmas as rfc3164
 use Rattle.syslog_loose.proofs.Rfc5424Lemmas as strict
+use Rattle.syslog_loose.specs.declared.message.Protocol.TheVariants as protocol
 
 abbrev pub Found : Type 0
 Found = Message (Bor (List ℕ))
@@ -23,12 +44,12 @@ value m = message_value (λ s. shown s) m
 pub read_once : (variant : Variant) (dating : Dating) (text : Text) (m n : MessageValue) → IsRead variant dating text m
     → IsRead variant dating text n → m ≡ n
 read_once RFC5424 dating text m n r s = strict.one_message text m n r s
-read_once RFC3164 dating text m n r s = rfc3164_unique.one_message dash_rule dating text m n r s
+read_once RFC3164 dating text m n r s = rfc3164.one_message dash_rule dating text m n r s
 read_once Either dating text m n (inl r) (inl s) = strict.one_message text m n r s
 read_once Either dating text m n (inl r) (inr (none, s)) = absurd (none r.values r.division)
 read_once Either dating text m n (inr (none, r)) (inl s) = absurd (none s.values s.division)
 read_once Either dating text m n (inr (none, r)) (inr (also, s)) =
-    rfc3164_unique.one_message dash_rule dating text m n r s
+    rfc3164.one_message dash_rule dating text m n r s
 
 pub quoted : (variant : Variant) (dating : Dating) (text : Text) (m : MessageValue) → IsRead variant dating text m
     → IsQuoted variant dating text m
@@ -126,3 +147,249 @@ in_year_told {post = post} {told = told} {variant = variant} {text = text} h tel
 -- ---- faults
 pub invalid_or_memory : Memory ≡ Invalid → ⊥
 invalid_or_memory e = cc
+
+-- ---- the pieces at the front
+
+-- what a reader of pieces after blanks returns
+pub front_read : {X : Type 0} (C : Class) (view : X → C.Value) (variant : Variant) (t start : Text)
+    (r : Option (X × Bor (List ℕ)))
+    → ReadsProtocol variant protocol.RFC3164 → Front (run is_blank) t start tt → Reads C view start r
+    → MatchOption r (BeginsWithout C variant t) (λ x. BeginsWith C variant t (view x.0) (shown x.1))
+front_read C view variant t start None reads gap none = λ r other same.
+    subst (λ (x : Text). NoFront C x) (front_same (run is_blank) (run_det is_blank) gap same).0 none
+front_read C view variant t start (Some x) reads gap f = record { reads = reads; start = start; gap = gap; front = f }
+
+-- where RFC 5424 does not parse, RFC 3164 is left to try
+pub left_to_try : (variant : Variant) (text : Text) → ReadsProtocol variant protocol.RFC3164
+    → (variant ≢ RFC3164 → IsNot5424 text) → IsLeftTo3164 variant text
+left_to_try RFC5424 text reads strict = absurd reads
+left_to_try RFC3164 text reads strict = tt
+left_to_try Either text reads strict = strict (λ e. cc)
+
+-- where neither protocol has a division that the variant reads, the text is invalid
+neither : (variant : Variant) (dating : Dating) (text : Text) → (variant ≢ RFC3164 → IsNot5424 text)
+    → (ReadsProtocol variant protocol.RFC3164 → IsNot3164 dash_rule dating text)
+    → Answers variant dating text (Err Invalid)
+neither RFC5424 dating text strict loose = λ m r. strict (λ e. cc) r.values r.division
+neither RFC3164 dating text strict loose = λ m r. loose tt r.values r.division
+neither Either dating text strict loose = λ m r. elim r [
+  | inl s ↦ strict (λ e. cc) s.values s.division
+  | inr (also, s) ↦ loose tt s.values s.division
+]
+
+-- where no timestamp of RFC 3164 is after the blanks, the text has no division
+unstamped : (text : Text) {follows start : Text} {p : Option ℕ} → IsBehindPriority (trimmed text) p follows
+    → Front (run is_blank) follows start tt → (dating : Dating) → NoFront (rfc3164_stamp dating) start
+    → IsNot3164 dash_rule dating text
+unstamped text f gap dating none = not_read dash_rule dating text (trimmed text) refl
+    (no_row (stamped_row dating) (stamped_det dating) (f past gap past inl none))
+
+-- ---- the year
+asks_is : (variant : Variant) (text : Text) (d : MonthDate)
+    → AsksYear variant text d ↔ (ReadsProtocol variant protocol.RFC3164 × ShowsYearless text d)
+asks_is RFC5424 text d = (λ asks. absurd asks, λ k. k.0)
+asks_is variant text d = (λ h. (tt, h), λ k. k.1)
+
+-- a month date that shows no year is one without a year
+yearless : {t q : Text} (d : MonthDate) → Front month_date t q d → d.year ≡ None → Front yearless_date t q d
+yearless d f none = elim f.is [
+  | inl h ↦ record { piece = f.piece; whole = f.whole; is = h }
+  | inr (vs, h, e) ↦
+      absurd (let y : None ≡ Some vs.1.1.1.1.0 = sym none ∙ ap (λ (x : MonthDate). x.year) e in cc)
+]
+
+-- and the numbers that a closure is asked with are those of one of twelve months
+pub asked_month : {t q : Text} (d : MonthDate) (asked : Option IncompleteDate) (x : IncompleteDate)
+    → Front month_date t q d → MatchOption asked (IsSome d.year) (λ y. (d.year ≡ None) × (y ≡ incomplete d))
+    → asked ≡ Some x → HasMonth x
+asked_month d None x f h is = cc
+asked_month d (Some y) x f (none, e) is =
+    let same : y ≡ x = cc in subst HasMonth (sym e ∙ same) (date_has_month d (yearless d f none))
+
+module _ (variant : Variant) (text : Text) {follows : Text} {p : Option ℕ}
+    (f : IsBehindPriority (trimmed text) p follows) where
+  module _ {q : Text} (d : MonthDate) (b : BeginsWith month_date variant follows d q) where
+    shows_date : ShowsMonthDate text d
+    shows_date = shows month_date f b.gap b.front
+
+    -- its year is asked for where it shows none
+    asks_year : d.year ≡ None → AsksYear variant text d
+    asks_year none = (asks_is variant text d).1 (b.reads, shows yearless_date f b.gap (yearless d b.front none))
+
+    -- and no year is where it shows one
+    asks_no_other : IsSome d.year → (other : MonthDate) → AsksYear variant text other → ⊥
+    asks_no_other some other asks =
+        let shown = ((asks_is variant text other).0 asks).1 in
+        let (_, _, _, _, _, _, date) = shown_parts yearless_date (trimmed text) other shown in
+        let same = shown_once text d other shows_date (shows_month_date text other shown) in
+        let none : d.year ≡ None = ap (λ (x : MonthDate). x.year) (same ∙ date.is.2) in
+        let t : false ≡ true = rw none at some in cc
+
+    -- so the year is the one that was answered, if one was asked for
+    pub date_answered : (post : IncompleteDate → ℤ → Type 0) (asked : Option IncompleteDate) (year : Option ℤ)
+        → MatchOption asked (IsSome d.year) (λ x. (d.year ≡ None) × (x ≡ incomplete d))
+        → MatchOption asked (year ≡ None) (λ x. IsSomeAnd year (λ y. post x y)) → IsYearAnswered post variant text year
+    date_answered post None year some is = answered_to post variant text None year (asks_no_other some) is
+    date_answered post (Some x) year (none, e) is =
+        answered_to post variant text (Some x) year (d, asks_year none, e) is
+
+    -- the text is none of RFC 5424
+    dated_unread : IsNot5424 text
+    dated_unread = shown_apart text d shows_date
+
+    -- the date has no timestamp
+    pub dated_invalid : (dating : Dating) → IsAnswer (IsMonthStamp dating d) None
+        → Answers variant dating text (Err Invalid)
+    dated_invalid dating none = neither variant dating text (λ n. dated_unread)
+        (λ reads. unstamped text f b.gap dating (no_stamp_of_date dating no_header d b.front none))
+      where
+        no_header : NoFront header_stamp b.start
+        no_header p q v e h =
+            let low : Begins IsLow b.start = rw e (header_stamp_begins p q v h) in
+            let letter : Begins IsLetter b.start = rw b.front.whole (month_date_begins b.front.piece _ d b.front.is) in
+            begins_apart b.start (λ c a l. omega arith) low letter
+
+    -- or one, and then RFC 3164 is left to try
+    pub dated_left : IsLeftTo3164 variant text
+    dated_left = left_to_try variant text b.reads (λ n. dated_unread)
+
+    pub dated_front : (dating : Dating) (c : ClockStamp) → IsMonthStamp dating d (clock_value c)
+        → IsBehindStamp dating (trimmed text) p (Some c) q
+    dated_front dating c h =
+        row_of (stamped_row dating) (f then b.gap then date_front dating (clock_value c) b.front h then refl)
+
+  -- no month date is there
+  module _ (without : BeginsWithout month_date variant follows) where
+    pub asks_none : (d : MonthDate) → AsksYear variant text d → ⊥
+    asks_none d asks =
+        let (reads, shown) = (asks_is variant text d).0 asks in
+        let (_, t, u, q, f', gap, g) = shown_parts yearless_date (trimmed text) d shown in
+        let same = (front_same (optional priority) (optional_det priority priority_det) f' f).0 in
+        without reads u (rw same at gap) g.piece q d g.whole (inl g.is)
+
+    -- and no other timestamp
+    pub undated_invalid : BeginsWithout header_stamp variant follows → (variant ≢ RFC3164 → IsNot5424 text)
+        → (dating : Dating) → Answers variant dating text (Err Invalid)
+    undated_invalid header strict dating = neither variant dating text strict (λ reads.
+        let (start, gap) = some_front_run is_blank follows in
+        unstamped text f gap dating (no_date dating (header reads start gap) (without reads start gap)))
+
+    -- or another one
+    pub other_front : (dating : Dating) {q : Text} (v : Option ClockStamp)
+        → BeginsWith header_stamp variant follows (stamp_seen v) q
+        → IsBehindStamp dating (trimmed text) p v q
+    other_front dating v b = row_of (stamped_row dating) (f then b.gap then header_front dating b.front then refl)
+
+-- ---- what is made of a text by way of its line
+
+-- what RFC 3164 reads, each variant reads that is left to try it
+pub reads_so : (variant : Variant) (dating : Dating) (text : Text) (m : MessageValue) → IsLeftTo3164 variant text
+    → IsRead3164 dash_rule dating text m → IsRead variant dating text m
+reads_so RFC5424 dating text m left r = absurd left
+reads_so RFC3164 dating text m left r = r
+reads_so Either dating text m left r = inr (left, r)
+
+-- a line of RFC 5424 has a version
+pub versioned : {text : Text} (line : Line) → IsRead5424 text (line_value line) → line.version ≡ None → ⊥
+versioned line r none =
+    let e : protocol_of line.version ≡ protocol.RFC5424 r.values.1.0 = ap (λ (m : MessageValue). m.protocol) r.means in
+    let none_here : protocol.RFC3164 ≡ protocol.RFC5424 r.values.1.0 = rw none at e in cc
+
+-- and one of RFC 3164 none
+pub unversioned : {rule : DashRule} {dating : Dating} {text : Text} (line : Line)
+    → IsRead3164 rule dating text (line_value line) → line.version ≡ None
+unversioned line r =
+    let (_, _, is) = r.means in no_version line.version (ap (λ (m : MessageValue). m.protocol) is)
+  where
+    no_version : (version : Option ℕ) → protocol_of version ≡ protocol.RFC3164 → version ≡ None
+    no_version None e = refl
+    no_version (Some n) e = cc
+
+-- a reading that asks for no year is one of the line in each year
+line_in_any : (variant : Variant) (text : Text) (tz : Option (Bor TimeZone)) (local : Bor TimeZone) (line : Line)
+    (year other : Option ℤ) → ((date : MonthDate) → AsksYear variant text date → ⊥)
+    → IsLineOf variant (dating_of year tz local) text line → IsLineOf variant (dating_of other tz local) text line
+line_in_any variant text tz local line year other never of = record {
+  only = only_read variant (dating_of other tz local) text (line_value line)
+      (any_year variant text tz local year other (line_value line) never of.only.read);
+  rest = rest_in_any variant never of.only.read of.rest;
+}
+  where
+    rest_in_any : (variant : Variant) → ((date : MonthDate) → AsksYear variant text date → ⊥)
+        → IsRead variant (dating_of year tz local) text (line_value line)
+        → (line.version ≡ None → HasRest (dating_of year tz local) text line)
+        → line.version ≡ None → HasRest (dating_of other tz local) text line
+    rest_in_any RFC5424 never r rest none = absurd (versioned line r none)
+    rest_in_any variant never r rest none =
+        other_stamped (dating_of year tz local) (dating_of other tz local) refl refl text never (rest none)
+
+module _ {V A E : Type 0} (makes : V → Line → A → V → Type 0) (given : E → E → List ElementValue → Type 0)
+    (variant : Variant) (text : Text) (old new : V) (before after : E) where
+  pub made_5424 : (dating : Dating) → variant ≢ RFC3164 → (line : Line) (made : A) → IsRead5424 text (line_value line)
+      → makes old line made new → Visits given before (list_elements line.list) after
+      → Made makes given variant dating text old before (Some made) new after
+  made_5424 dating reads line made r m v =
+      let only = only_read variant dating text (line_value line) (strictly variant dating reads r) in
+      (line, record { only = only; rest = λ none. absurd (versioned line r none) }, m, v)
+
+  pub made_3164 : (dating : Dating) → IsLeftTo3164 variant text → (line : Line) (made : A)
+      → IsRead3164 dash_rule dating text (line_value line) × HasRest dating text line → makes old line made new
+      → Visits given before (list_elements line.list) after
+      → Made makes given variant dating text old before (Some made) new after
+  made_3164 dating left line made (r, rest) m v =
+      let only = only_read variant dating text (line_value line) (reads_so variant dating text (line_value line) left r) in
+      (line, record { only = only; rest = λ none. rest }, m, v)
+
+  module _ (tz : Option (Bor TimeZone)) (local : Bor TimeZone) where
+    any_made : (result : Option A) (year other : Option ℤ) → ((date : MonthDate) → AsksYear variant text date → ⊥)
+        → Made makes given variant (dating_of year tz local) text old before result new after
+        → Made makes given variant (dating_of other tz local) text old before result new after
+    any_made None year other never (none, same, v) =
+        ((λ m r. none m (any_year variant text tz local other year m never r)), same, v)
+    any_made (Some made) year other never (line, of, m, v) =
+        (line, line_in_any variant text tz local line year other never of, m, v)
+
+    -- what is made in the year that the closure answered
+    pub made_in : (post : IncompleteDate → ℤ → Type 0) (result : Option A) (year : Option ℤ)
+        → IsYearAnswered post variant text year
+        → Made makes given variant (dating_of year tz local) text old before result new after
+        → InYear post variant text (λ y. Made makes given variant (dating_of y tz local) text old before result new after)
+    made_in post result year is h = in_answered_year post variant text
+        (λ y. Made makes given variant (dating_of y tz local) text old before result new after) year is
+        (λ never other made. any_made result None other never made) h
+
+-- what is given after nothing was
+pub visits_after : {E : Type 0} (given : E → E → List ElementValue → Type 0) (old mid new : E) (es : List ElementValue)
+    → Visits given old [] mid → Visits given mid es new → Visits given old es new
+visits_after given old mid new es none v first ds h =
+    v first ds (subst (λ (x : List ElementValue). given first mid x) (append-nil ds) (none first ds h))
+
+-- ---- what the reading calls make
+
+-- the message that was made with the elements that were collected
+completed : (variant : Variant) (dating : Dating) (text : Text) (line : Line) (m : Found)
+    → IsOnlyRead variant dating text (line_value line)
+    → message_value (λ s. shown s) m ≡ with_elements (line_value line) []
+    → (r : Result Found ParseFault) → IsCompleted (Some m) (list_elements line.list) r → Answers variant dating text r
+completed variant dating text line m only e (Ok n) same =
+    subst (λ (x : MessageValue). IsOnlyRead variant dating text x)
+    (sym (same ∙ ap (λ (x : MessageValue). with_elements x (list_elements line.list)) e)) only
+completed variant dating text line m only e (Err fault) (is, some) =
+    subst (λ (x : ParseFault). IsFault variant dating text x) (sym is)
+    (λ needless. some (needless (line_value line) only.read))
+
+not_made : (variant : Variant) (dating : Dating) (text : Text) → IsUnreadable variant dating text
+    → (r : Result Found ParseFault) → IsCompleted None [] r → Answers variant dating text r
+not_made variant dating text none (Ok m) h = absurd h
+not_made variant dating text none (Err fault) h =
+    subst (λ (y : ParseFault). IsFault variant dating text y) (sym h) none
+
+module _ {V : Type 0} (variant : Variant) (dating : Dating) (text : Text) (old new : V) (before after : Collect) where
+  pub message_answers : (made : Option Found) (r : Result Found ParseFault)
+      → Made (λ (_ : V) line m _. message_value (λ s. shown s) m ≡ with_elements (line_value line) [])
+      (λ _ c es. HasCollected c es) variant dating text old before made new after
+      → HasCollected before [] → ((es : List ElementValue) → HasCollected after es → IsCompleted made es r)
+      → Answers variant dating text r
+  message_answers None r (none, same, v) empty h = not_made variant dating text none r (h [] (v before [] empty))
+  message_answers (Some m) r (line, of, e, v) empty h =
+      completed variant dating text line m of.only e r (h (list_elements line.list) (v before [] empty))

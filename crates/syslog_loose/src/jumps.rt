@@ -195,7 +195,7 @@ impl fmt::Display for Tail<'_> {
 }
 
 // Writes a space and the message part, where that is not empty.
-#[tactic(auto, using(crate::proofs::JumpLemmas::ends_empty, crate::proofs::JumpLemmas::ends_some))]
+#[tactic(auto, using(crate::proofs::SettlingLemmas::Jumps::ends_empty, crate::proofs::SettlingLemmas::Jumps::ends_some))]
 fn write_end<W: fmt::Write>(f: &mut fmt::Formatter<W>, msg: &str) -> fmt::Result
     ensures { WritesOnOk W.write_str_gives f.old result (encode_utf8_all (message_end (chars msg.now))) f.new }
 {

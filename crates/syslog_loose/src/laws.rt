@@ -81,7 +81,7 @@ pub fn month_date_is_no_rfc5424()
 {}
 
 /// If a text shows no date without a year, the year that would be used for one makes no difference.
-#[tactic(auto, using(crate::proofs::Rfc3164Lemmas::Years::other_read))]
+#[tactic(auto, using(crate::proofs::Rfc3164Lemmas::other_read))]
 pub fn year_counts_for_yearless_dates_alone()
     ensures reads { (rule : DashRule) (text : Text) → ((date : MonthDate) → ShowsYearless text date → ⊥)
         → (dating other : Dating) → dating.zone ≡ other.zone → dating.local ≡ other.local

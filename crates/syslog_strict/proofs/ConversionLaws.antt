@@ -15,11 +15,10 @@ use Rattle.syslog_loose.specs.declared.fault.ParseFault.TheVariants.{Invalid, Me
 use Rattle.syslog_strict.specs.Call.{IsConvertedText}
 use Rattle.syslog_loose.specs.declared.variant.Variant.{Variant}
 use Rattle.syslog_loose.specs.declared.variant.Variant.TheVariants.{Either}
-use Rattle.syslog_loose.proofs.BoundLemmas.{read_as, read_bounded}
-use Rattle.syslog_loose.proofs.PriorityLemmas.{priority_small}
-use Rattle.syslog_loose.proofs.ReadBackLemmas.{printed_exact}
+use Rattle.syslog_loose.proofs.ReadBackLemmas.{read_as, read_bounded, printed_exact}
+use Rattle.syslog_loose.proofs.PrintedLemmas.{priority_small}
+use Rattle.syslog_loose.proofs.Rfc5424Lemmas.{read_completed}
 use Rattle.syslog_loose.proofs.Rfc3164Lemmas.Near.{read_near}
-use Rattle.syslog_loose.proofs.Rfc5424Lemmas.ReadBack.{read_completed}
 use Rattle.syslog_strict.specs.Conversion.{converted}
 use Rattle.syslog_strict.specs.Grammar.{IsSyslogMsg}
 use Rattle.syslog_strict.proofs.ElementLaws.{elements_back, elements_is}

@@ -18,8 +18,8 @@ use Rattle.syslog_loose.specs.Printed.{printed}
 use Rattle.syslog_loose.specs.Reading.{IsRead, in_utc}
 use Rattle.syslog_loose.specs.Settling.{IsRound, IsFirstSettled}
 use Rattle.syslog_loose.specs.declared.variant.Variant.TheVariants.{Either}
-use Rattle.syslog_loose.proofs.OneLineLemmas.{printed_line, printed_scalars}
-use Rattle.syslog_loose.proofs.SettlingLemmas.Rounds.{one_first_settled}
+use Rattle.syslog_loose.proofs.ReadBackLemmas.{printed_line, printed_scalars}
+use Rattle.syslog_loose.proofs.SettlingLemmas.Settles.{one_first_settled}
 use Rattle.syslog_lines.specs.declared.summary.Summary.{Summary}
 use Rattle.syslog_lines.specs.Lines.{NoFeed, with_feeds, IsLines}
 use Rattle.syslog_lines.specs.Count.{held_count}

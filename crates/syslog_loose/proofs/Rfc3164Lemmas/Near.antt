@@ -13,13 +13,10 @@ use Rattle.syslog_loose.proofs.Names.{HasQuietNames, is_no_colon, HasNoColon, Is
 use Rattle.syslog_loose.proofs.Names.{AreNamesButExceptions, HasExceptionsAlone, IsNearlyCanonical, MessageValue}
 use Rattle.syslog_loose.proofs.Names.{tag_text, Names3164, Resolves, names, rfc3164_row, IsRead3164, stamped_row}
 use Rattle.syslog_loose.proofs.Names.{fields_row, NamesProgram, fields_before, form_row, IsForm, each_behind, each_both}
-use Rattle.syslog_loose.proofs.Names.{each_left, each_front, each_right, begins, row_pieces}
+use Rattle.syslog_loose.proofs.Names.{each_left, each_front, each_right, begins, row_pieces, IsOfMonthDate}
 use Rattle.syslog_pieces.proofs.StructuredDataLemmas.Elements.{element_canonical}
-use Rattle.syslog_loose.specs.Exceptions.{IsOfMonthDate}
-use Rattle.syslog_loose.proofs.Rfc3164Lemmas.{of_names}
-use Rattle.syslog_loose.proofs.Rfc3164Lemmas.Shown.{shows}
-use Rattle.syslog_loose.proofs.TagFormLemmas.{one_form}
-use Rattle.syslog_loose.proofs.TrimLemmas.{drop_ends, last_ends}
+use Rattle.syslog_loose.proofs.Rfc3164Lemmas.{of_names, shows, one_form}
+use Rattle.syslog_loose.proofs.PrintedLemmas.{drop_ends, last_ends}
 use Rattle.syslog_pieces.proofs.TextLemmas.Runs as verbatim
 
 -- ---- elements

@@ -1,28 +1,208 @@
--- A text comes to rest, or one of its rounds is missing.
-use Rattle.syslog_loose.proofs.Names.{◌≡◌, ◌+◌, ◌<◌, ◌≤◌, ◌∙◌, ◌↔◌, ℕ, zero, suc, inl, inr, Bool, true, false, List}
-use Rattle.syslog_loose.proofs.Names.{length, refl, sym, ap, subst, arith, leb_tells, chars_from_encodes, chars, IsUtf8}
-use Rattle.syslog_loose.proofs.Names.{encode_utf8_all, Text, Dating, IsCanonical, HasNoException, MessageValue, printed}
-use Rattle.syslog_loose.proofs.Names.{dash_rule, IsRead, IsUnreadable, IsRead3164, IsNext, IsRound, IsSettled}
-use Rattle.syslog_loose.proofs.Names.{NoneSettled, Reaches, IsFirstSettled, Weighs, Variant, ParseFault, Invalid}
-use Rattle.syslog_loose.proofs.Names.{Memory, IsFixed, IsRead5424, HasRank, IsLater, IsToldRound, ReachesRank, Protocol}
-use Rattle.syslog_loose.specs.Settling.{SettlesAs, IsSettlingFault}
-use Rattle.syslog_loose.specs.Passes.{IsAtRest}
-use Rattle.syslog_loose.proofs.BoundLemmas.{read_as, read_bounded}
-use Rattle.syslog_loose.proofs.ReadBackLemmas.{printed_exact, fixed_again}
+-- Rounds of a text: one is stable first, or one is missing.
+use Rattle.syslog_loose.proofs.Names.{◌≡◌, ◌<◌, ◌⊎◌, ◌∙◌, ℕ, zero, suc, inl, inr, refl, sym, ap, subst, arith}
+use Rattle.syslog_loose.proofs.Names.{leb_tells, Text, Dating, printed, IsUnreadable, IsNext, IsRound, IsSettled}
+use Rattle.syslog_loose.proofs.Names.{NoneSettled, Reaches, IsFirstSettled, Variant, ◌≤◌, ◌∷◌, ◌++◌, ◌^◌, [], length}
+use Rattle.syslog_loose.proofs.Names.{true, Option, None, Some, append_assoc, is_not_whitespace, is_ascii_digit}
+use Rattle.syslog_loose.proofs.Names.{drop_trailing_whitespace, Front, Each, optional, is_blank, trimmed}
+use Rattle.syslog_loose.proofs.Names.{OffsetTimestamp, MonthDate, MessageValue, timestamp_text, priority_of, dash_rule}
+use Rattle.syslog_loose.proofs.Names.{IsRead, AsksYear, decimal, priority, ShowsMonthDate, month_date, run_same}
+use Rattle.syslog_loose.proofs.Names.{rest_same, front_same, optional_det, optional_some, Begins, begins_apart}
+use Rattle.syslog_loose.proofs.Names.{begins_with, priority_det, number_back, IsLow, month_date_begins, IsLetter}
+use Rattle.syslog_loose.proofs.Names.{printed_stamp-visible, IsBounded, IsBoundedProtocol, ReadsProtocol, Protocol}
+use Rattle.syslog_loose.proofs.Names.{Either, RFC5424, ◌+◌, ◌↔◌, Bool, false, List, chars_from_encodes, chars, IsUtf8}
+use Rattle.syslog_loose.proofs.Names.{encode_utf8_all, IsCanonical, HasNoException, IsRead3164, Weighs, ParseFault}
+use Rattle.syslog_loose.proofs.Names.{Invalid, Memory, IsFixed, IsRead5424, HasRank, IsLater, IsToldRound, ReachesRank}
+use Rattle.syslog_loose.proofs.Names.{Result, Ok, Err, string_bytes, Global, IfOk, String, ElementValue, line_value}
+use Rattle.syslog_loose.proofs.Names.{BeginsWithout, IsBehindPriority, Made, digits_visible}
 use Rattle.syslog_loose.proofs.ReadingLemmas.{read_once, invalid_or_memory}
-use Rattle.syslog_loose.proofs.Rfc3164Lemmas.Exceptions.{canonical_near}
+use Rattle.syslog_loose.specs.Printed.{printed_3164, printed_5424}
+use Rattle.syslog_loose.specs.declared.variant.Variant.TheVariants.{RFC3164}
+use Rattle.syslog_loose.proofs.PrintedLemmas.{priority_front, priority_low, priority_trimmed, visible_no_blank}
+use Rattle.syslog_loose.proofs.PrintedLemmas.{last_append, drop_after}
+use Rattle.syslog_loose.proofs.Rfc3164Lemmas.{digit_range, printed_3164_is, shown_parts, shows_month_date}
+use Rattle.syslog_loose.proofs.Rfc3164Lemmas.{printed_apart, rfc3164_bounded, shows}
+use Rattle.syslog_loose.proofs.Rfc3164Lemmas.ReadBack.{stamp_low}
 use Rattle.syslog_loose.proofs.Rfc3164Lemmas.Near.{read_near}
-use Rattle.syslog_loose.proofs.Rfc3164Lemmas.Printed.{printed_is, printed_apart}
-use Rattle.syslog_loose.proofs.SettlingLemmas.Falls.{falls}
-use Rattle.syslog_loose.proofs.SettlingLemmas.Light.{light}
-use Rattle.syslog_loose.proofs.SettlingLemmas.Names.{same_text}
-use Rattle.syslog_loose.proofs.SettlingLemmas.Quiet.{read_protocol}
-use Rattle.syslog_loose.proofs.SettlingLemmas.Ranks.{rank_falls}
-use Rattle.syslog_loose.proofs.SettlingLemmas.Rounds.{none_behind, moves_on, reached_first, reached_next}
-use Rattle.syslog_loose.proofs.SettlingLemmas.Rounds.{reached_further, reached_last, none_settled}
-use Rattle.syslog_loose.proofs.SettlingLemmas.Weights.{weight}
+use Rattle.syslog_loose.specs.Settling.{SettlesAs, IsSettlingFault, Settles}
+use Rattle.syslog_loose.specs.Passes.{IsAtRest, AnswersRound, ShowsNoDate, WritesRound, round_answer}
+use Rattle.syslog_loose.proofs.ReadBackLemmas.{read_as, read_bounded, printed_exact, fixed_again}
+use Rattle.syslog_loose.proofs.CanonicalLemmas.{canonical_near}
+use Rattle.syslog_loose.proofs.SettlingLemmas.Falls.{falls, same_text, rank_falls}
+use Rattle.syslog_loose.proofs.SettlingLemmas.Weights.{light, weight}
+use Rattle.std.specs.declared.alloc.AllocError.{AllocError}
 use Rattle.syslog_loose.specs.declared.message.Protocol.TheVariants as protocol
-use Rattle.syslog_loose.proofs.Rfc3164Lemmas.Bounded as rfc3164
+use Rattle.syslog_loose.proofs.Rfc5424Lemmas as rfc5424
+
+-- ---- one round of each number, and one that is settled first
+
+last_or_before : (k n : ℕ) → k < suc n → (k ≡ n) ⊎ (k < n)
+last_or_before k n l = elim (leb_tells n k) [ inl a ↦ inl (omega (arith, a.1)) | inr a ↦ inr a.1 ]
+
+module _ (variant : Variant) (dating : Dating) where
+  one_next : (t u x : Text) → IsNext variant dating t u → IsNext variant dating t x → u ≡ x
+  one_next t u x a b = a.is_printed ∙ ap printed (read_once variant dating t a.message b.message a.read b.read)
+      ∙ sym b.is_printed
+
+  one_round : (t : Text) (n : ℕ) (u x : Text) → IsRound variant dating t n u → IsRound variant dating t n x → u ≡ x
+  one_round t zero u x a b = a ∙ sym b
+  one_round t (suc n) u x (y, r, h) (z, s, k) =
+      one_next z u x (rw (one_round t n y z r s) at h) k
+
+  -- after a round that is not read there is none
+  pub none_behind : (t : Text) (j : ℕ) (u : Text) → IsRound variant dating t j u → IsUnreadable variant dating u
+      → (n : ℕ) (x : Text) → j < n → IsRound variant dating t n x → ⊥
+  none_behind t j u r never zero x l s = omega arith
+  none_behind t j u r never (suc n) x l (before, s, h) = elim (last_or_before j n l) [
+    | inl e ↦ never h.message (rw (one_round t n before u s (rw e at r)) at h.read)
+    | inr a ↦ none_behind t j u r never n before a s
+  ]
+
+  -- a text whose next round is another one is not settled
+  pub moves_on : (u x : Text) → IsNext variant dating u x → (u ≡ x → ⊥) → IsSettled variant dating u → ⊥
+  moves_on u x n k s = k (one_next u u x s n)
+
+  pub one_first_settled : (t u x : Text) → IsFirstSettled variant dating t u → IsFirstSettled variant dating t x → u ≡ x
+  one_first_settled t u x a b = elim (leb_tells b.before a.before) [
+    | inl l ↦ elim (leb_tells a.before b.before) [
+      | inl k ↦ one_round t (suc b.before) u x
+          (subst (λ (n : ℕ). IsRound variant dating t (suc n) u) (omega (arith, l.1, k.1)) a.round) b.round
+      | inr k ↦ absurd (a.none_before b.before x k.1 b.round b.settled)
+    ]
+    | inr l ↦ absurd (b.none_before a.before u l.1 a.round a.settled)
+  ]
+
+  -- ---- what is known after so many rounds that are not settled
+  pub reached_first : (t u : Text) → IsNext variant dating t u → Reaches variant dating t 0 u
+  reached_first t u h = record { round = (t, refl, h); none = λ k x l. absurd (omega arith) }
+
+  pub reached_next : (t : Text) (n : ℕ) (u x : Text) → Reaches variant dating t n u → (IsSettled variant dating u → ⊥)
+      → IsNext variant dating u x → Reaches variant dating t (suc n) x
+  reached_next t n u x r never h = record {
+    round = (u, r.round, h);
+    none = λ k y l round settled. elim (last_or_before k n l) [
+      | inl e ↦ never (rw (one_round t (suc n) y u (rw e at round) r.round) at settled)
+      | inr a ↦ r.none k y a round settled
+    ];
+  }
+
+  -- what is reached from a round that is not settled
+  pub reached_further : (t : Text) (n : ℕ) (u : Text) (k : ℕ) (x : Text) → Reaches variant dating t n u
+      → (IsSettled variant dating u → ⊥) → Reaches variant dating u k x
+      → (j : ℕ) × (n < j) × Reaches variant dating t j x
+  reached_further t n u zero x r never s =
+      let (b, e, h) = s.round in
+      (suc n, omega arith, reached_next t n u x r never (rw e at h))
+  reached_further t n u (suc k) x r never s =
+      let (b, round, h) = s.round in
+      let (j, l, more) = reached_further t n u k b r never
+      (record { round = round; none = λ i y a. s.none i y (omega arith) }) in
+      (suc j, omega arith, reached_next t j b x more (s.none k b (omega arith) round) h)
+
+  -- where it is read as no message, none is settled
+  pub reached_last : (t : Text) (n : ℕ) (u y : Text) → Reaches variant dating t n u → IsUnreadable variant dating u
+      → IsFirstSettled variant dating t y → ⊥
+  reached_last t n u y r never s = elim (leb_tells n s.before) [
+    | inl a ↦ none_behind t (suc n) u r.round never (suc (suc s.before)) y (omega (arith, a.1)) (y, s.round, s.settled)
+    | inr a ↦ r.none s.before y a.1 s.round s.settled
+  ]
+
+  -- ---- where no round is settled first, none is settled
+  pub none_settled : (t : Text) → ((u : Text) → IsFirstSettled variant dating t u → ⊥) → (n : ℕ)
+      → NoneSettled variant dating t n
+  none_settled t never zero k u l round settled = omega arith
+  none_settled t never (suc n) k u l round settled = elim (last_or_before k n l) [
+    | inl e ↦ never u (record {
+      before = n;
+      round = rw e at round;
+      settled = settled;
+      none_before = none_settled t never n;
+    })
+    | inr a ↦ none_settled t never n k u a round settled
+  ]
+
+-- ---- the protocol of a message that was read is one that the variant reads
+pub read_protocol : (variant : Variant) (dating : Dating) (text : Text) (m : MessageValue)
+    → IsRead variant dating text m → ReadsProtocol variant m.protocol
+read_protocol RFC5424 dating text m r = rw (ap (λ (x : MessageValue). x.protocol) r.means) tt
+read_protocol RFC3164 dating text m r = rw (read_near dash_rule dating text m r).protocol tt
+read_protocol Either dating text m r = tt
+
+-- ---- no month date
+
+-- what a text begins with that has a visible first character below all letters
+abbrev pub BeginsLow : Text → Type 0
+BeginsLow t = (c : ℕ) × (more : Text) × (t ≡ c ∷ more) × IsLow c × (is_not_whitespace c ≡ true)
+
+low_more : (t q : Text) → Begins IsLow t → Each is_not_whitespace t → BeginsLow (t ++ q)
+low_more [] q h visible = absurd h
+low_more (c ∷ t) q h visible = (c, t ++ q, refl, h, visible.0)
+
+digits_low : (t : Text) → 0 < length t → Each is_ascii_digit t → Begins IsLow t
+digits_low [] long digits = absurd (omega arith)
+digits_low (c ∷ t) long digits = (digit_range c digits.0).1
+
+stamp_begins : (v : Option OffsetTimestamp) (q : Text) → BeginsLow (timestamp_text v ++ q)
+stamp_begins None q = (45, q, refl, omega arith, refl)
+stamp_begins (Some s) q = low_more (timestamp_text (Some s)) q (stamp_low s) (printed_stamp-visible s)
+
+version_begins : (version : ℕ) (q : Text) → version < 2 ^ 32 → BeginsLow (decimal version ++ q)
+version_begins version q l =
+    let (long, digits, _, _, _) = number_back version 4294967295 [] (omega (arith, l)) (omega arith) tt in
+    low_more (decimal version) q (digits_low (decimal version) long digits) (digits_visible (decimal version) digits)
+
+-- no letter follows a priority and such blanks, once the text is trimmed
+low_shows_none : (n : ℕ) (gap t : Text) → n ≤ 255 → Each is_blank gap → BeginsLow t → (date : MonthDate)
+    → ShowsMonthDate (60 ∷ (decimal n ++ (62 ∷ (gap ++ t)))) date → ⊥
+low_shows_none n gap t l blank (c, more, e, low, visible) date shown =
+    let text : Text = 60 ∷ (decimal n ++ (62 ∷ (gap ++ t))) in
+    let (p, behind, u, q, pri, run, f) = shown_parts month_date (trimmed text) date shown in
+    let left : Text = drop_trailing_whitespace (gap ++ t) in
+    let known : Front (optional priority) (trimmed text) left (Some n) =
+    rw (priority_trimmed n (gap ++ t)) (optional_some priority (priority_front n left l)) in
+    let at = (front_same (optional priority) (optional_det priority priority_det) pri known).0 in
+    let kept : left ≡ gap ++ (c ∷ drop_trailing_whitespace more) =
+    ap (λ (x : Text). drop_trailing_whitespace (gap ++ x)) e
+    ∙ ap drop_trailing_whitespace (sym (append_assoc gap (c ∷ []) more))
+    ∙ drop_after (gap ++ (c ∷ [])) more (last_append gap (c ∷ []) visible)
+    ∙ append_assoc gap (c ∷ []) (drop_trailing_whitespace more) in
+    let whole : run.piece ++ u ≡ gap ++ (c ∷ drop_trailing_whitespace more) = sym run.whole ∙ at ∙ kept in
+    let same = run_same is_blank run.piece u gap (c ∷ drop_trailing_whitespace more) whole run.is.0 run.is.1 blank
+    (visible_no_blank c visible) in
+    begins_apart u (λ x a b. omega arith)
+    (begins_with IsLow c u (drop_trailing_whitespace more)
+    (rest_same run.piece u gap (c ∷ drop_trailing_whitespace more) whole same) low)
+    (subst (Begins IsLetter) (sym f.whole) (month_date_begins f.piece q date f.is))
+
+shows_none_as : (p : Protocol) (m : MessageValue) → m.protocol ≡ p → IsBoundedProtocol p → (date : MonthDate)
+    → ShowsMonthDate (printed m) date → ⊥
+unfolding printed_3164 printed_5424
+shows_none_as protocol.RFC3164 m e l date shown =
+    low_shows_none (priority_of m) (32 ∷ []) _ (priority_low m) (refl, tt) (stamp_begins m.timestamp _) date
+    (rw (printed_3164_is m e) at shown)
+shows_none_as (protocol.RFC5424 version) m e l date shown =
+    low_shows_none (priority_of m) [] _ (priority_low m) tt (version_begins version _ l) date
+    (rw (rfc5424.printed_is version m e) at shown)
+
+-- the printed text of a message shows none, whether the message was read or not
+pub printed_shows_none : (m : MessageValue) → IsBounded m → (date : MonthDate) → ShowsMonthDate (printed m) date → ⊥
+printed_shows_none m b = shows_none_as m.protocol m refl b.protocol
+
+-- so neither does that of a message that was read
+pub read_shows_none : (variant : Variant) (dating : Dating) (text : Text) (m : MessageValue)
+    → IsRead variant dating text m → (date : MonthDate) → ShowsMonthDate (printed m) date → ⊥
+read_shows_none variant dating text m r = shows_none_as m.protocol m refl (read_bounded variant dating text m r).protocol
+
+-- and it asks for no year
+asks_shown : (variant : Variant) (text : Text) (date : MonthDate) → AsksYear variant text date
+    → ShowsMonthDate text date
+asks_shown RFC5424 text date asks = absurd asks
+asks_shown RFC3164 text date asks = shows_month_date text date asks
+asks_shown Either text date asks = shows_month_date text date asks
+
+pub printed_quiet : (variant : Variant) (dating : Dating) (text : Text) (m : MessageValue)
+    → IsRead variant dating text m → (date : MonthDate) → AsksYear variant (printed m) date → ⊥
+printed_quiet variant dating text m r date asks =
+    read_shows_none variant dating text m r date (asks_shown variant (printed m) date asks)
 
 -- ---- by which protocol a text was read
 pub no_protocol : (version : ℕ) → protocol.RFC3164 ≡ protocol.RFC5424 version → ⊥
@@ -50,7 +230,7 @@ rests_so (protocol.RFC5424 version) m h = tt
 stays_rfc3164 : (variant : Variant) (dating : Dating) (m n : MessageValue) → m.protocol ≡ protocol.RFC3164
     → IsRead variant dating (printed m) n → IsRead3164 dash_rule dating (printed m) n
 stays_rfc3164 variant dating m n e s = elim (read_as variant dating (printed m) n s) [
-  | inl k ↦ (let k = rw (printed_is m e) at k in absurd (printed_apart m k.values k.division))
+  | inl k ↦ (let k = rw (printed_3164_is m e) at k in absurd (printed_apart m k.values k.division))
   | inr k ↦ k
 ]
 
@@ -181,7 +361,7 @@ module _ (variant : Variant) (dating : Dating) where
     later_falls later l n x s rank =
         let first = as_rfc3164 variant dating l.text l.message l.read l.is_rfc3164 in
         rank_falls dating l.message (read_near dash_rule dating l.text l.message first)
-        (rfc3164.read_bounded dash_rule dating l.text l.message first).procid x
+        (rfc3164_bounded dash_rule dating l.text l.message first).procid x
         (stays_rfc3164 variant dating l.message x l.is_rfc3164
         (subst (λ (u : Text). IsRead variant dating u x) l.is_printed s)) m n l.passes rank
 
@@ -208,9 +388,9 @@ module _ (variant : Variant) (dating : Dating) where
       record { before = j; reaches = more; ranked = λ m s. told.lower n m s (r.ranked told.message told.read) }
 
   -- and the result where it is stable: that, or the one before, which is the same text
-  pub round_answer : (t : Text) (n : ℕ) (u x : Text) (settled : Bool) → ReachesRank variant dating t n u
+  pub round_settled : (t : Text) (n : ℕ) (u x : Text) (settled : Bool) → ReachesRank variant dating t n u
       → settled ≡ true → IsToldRound variant dating u x settled → SettlesAs variant dating t x
-  round_answer t n u x settled r e h =
+  round_settled t n u x settled r e h =
       let (next, s) = rw e at h in
       elim (same_text u x) [
         | inl same ↦ settled_here t r.before x (rw same at r.reaches) s
@@ -227,5 +407,48 @@ module _ (variant : Variant) (dating : Dating) where
   -- of the lowest rank it is settled
   pub last_answer : (t u x : Text) (settled : Bool) → ReachesRank variant dating t 0 u
       → IsToldRound variant dating u x settled → SettlesAs variant dating t x
-  last_answer t u x true r h = round_answer t 0 u x true r refl h
+  last_answer t u x true r h = round_settled t 0 u x true r refl h
   last_answer t u x false r h = absurd (h.odd (r.ranked h.message h.read))
+
+-- ---- a round, by way of the line
+
+module _ (variant : Variant) (dating : Dating) where
+  -- what was written of the line of a text is known to be a round of the text
+  pub made_told : {E : Type 0} (given : E → E → List ElementValue → Type 0) (before after : E)
+      (text : Text) (old new : String Global) (made : Option (Result Bool AllocError))
+      → Made (λ (_ : String Global) line written last. WritesRound line written (string_bytes last)) given variant
+      dating text old before made new after
+      → AnswersRound variant dating text (string_bytes new) (round_answer made)
+  made_told given before after text old new None (none, _, _) = ((λ e. none), (λ u. refl))
+  made_told given before after text old new (Some (Ok settled)) (line, of, writes, _) =
+      writes variant dating text of.only.read
+  made_told given before after text old new (Some (Err _)) (line, of, writes, _) =
+      ((λ e. absurd (invalid_or_memory e)), (λ u. absurd (u (line_value line) of.only.read)))
+
+  -- a round that is not settled is one from which to go on
+  pub told_reaches : (text later : Text) (settled : Bool) → settled ≡ false
+      → IsToldRound variant dating text later settled → ReachesRank variant dating text 4 later
+  told_reaches text later true e told = cc
+  told_reaches text later false e told =
+      record { before = told.before; reaches = told.reaches; ranked = λ m s. told.lower 4 m s tt }
+
+  -- what is printed of a text shows no month date
+  pub reached_shows_none : (text : Text) (n : ℕ) (u : Text) → ReachesRank variant dating text n u → ShowsNoDate u
+  reached_shows_none text n u r date shown =
+      let (before, round, h) = r.reaches.round in
+      read_shows_none variant dating before h.message h.read date
+      (subst (λ (x : Text). ShowsMonthDate x date) h.is_printed shown)
+
+  -- the message of a settled text is canonical
+  pub answer_canonical : (text : Text) (result : Result (String Global) ParseFault)
+      → Settles variant dating text result → IfOk result
+      (λ u. (m : MessageValue) → IsRead variant dating (chars (string_bytes u)) m → IsCanonical dash_rule m)
+  answer_canonical text (Ok u) s = λ m r.
+      settled_canonical variant dating (chars (string_bytes u)) m s.first.settled r
+  answer_canonical text (Err fault) s = tt
+
+-- a text that shows no month date has none after its priority
+pub without_date : (variant : Variant) (text : Text) {follows : Text} {p : Option ℕ} → ShowsNoDate text
+    → IsBehindPriority (trimmed text) p follows → BeginsWithout month_date variant follows
+without_date variant text never f reads start gap =
+    λ p q date whole is. never date (shows month_date f gap (record { piece = p; whole = whole; is = is }))

@@ -1,25 +1,261 @@
--- A message has one weight, and what the terms of a weight are where a text is read.
-use Rattle.syslog_loose.proofs.Names.{◌≡◌, ◌+◌, ◌<◌, ◌≤◌, ◌%◌, ◌⊎◌, ◌∷◌, ◌++◌, ◌∙◌, ℕ, zero, suc, inl, inr, List, []}
-use Rattle.syslog_loose.proofs.Names.{length, nat_eq, Option, None, IfSome, refl, sym, ap, subst, arith, Some}
-use Rattle.syslog_loose.proofs.Names.{length-append, pos, leb_tells, eqb_tells, bytes_eq-Decides, option_map_or}
-use Rattle.syslog_loose.proofs.Names.{bytes_eq, Text, Values, Front, Row, Ends, optional, run, ElementValue}
-use Rattle.syslog_loose.proofs.Names.{full_element, BeginsNoList, rfc3164_list, elements_or, IsDashBefore}
-use Rattle.syslog_loose.proofs.Names.{IsRfc3164List, dash, colon, is_blank, IsCanonicalStamp, ProcId, PID, Name}
-use Rattle.syslog_loose.proofs.Names.{DashRule, OffsetTimestamp, row_pieces, front_longer, piece_front, present_front}
-use Rattle.syslog_loose.proofs.Names.{step, absent_none, absent_stays, decide, MessageValue, Names3164, Resolves}
-use Rattle.syslog_loose.proofs.Names.{NamesProgram, Costs, names_weight, ListWeighs, Weighs, front_same, rest_whole}
-use Rattle.syslog_loose.proofs.Names.{row_head, run_det, begins_no_list, full_shorter, no_rfc3164_list}
-use Rattle.syslog_pieces.specs.Timestamp.Canonical.{own_year}
-use Rattle.syslog_pieces.proofs.PieceLemmas.Class.{no_front_no}
+-- What a message weighs: one weight, no more than its text has characters; and which texts begin with a list.
+use Rattle.syslog_loose.proofs.Names.{◌≡◌, ◌≤◌, ◌⊎◌, ◌∷◌, ◌++◌, ◌∙◌, ◌then◌, ◌also◌, ℕ, zero, suc, inl, inr, Bool, true}
+use Rattle.syslog_loose.proofs.Names.{false, List, [], length, refl, sym, ap, subst, arith, row_of, AllDeterministic}
+use Rattle.syslog_loose.proofs.Names.{heads, run_same, row_cons, no_texted, eqb_tells, Text, Class, Front, NoFront, Row}
+use Rattle.syslog_loose.proofs.Names.{Each, Ends, run, some_run, exactly, texted, full_element, IsDashBefore}
+use Rattle.syslog_loose.proofs.Names.{BeginsNoList, is_blank, DashRule, BeforeBlank, BeforeAnything, front_longer}
+use Rattle.syslog_loose.proofs.Names.{decide, start_row, start, opening_row, is_id_char, is_name_char, begins}
+use Rattle.syslog_loose.proofs.Names.{opening_det, no_full_start, no_full_opening, ◌<◌, not, nat_eq, is_not_whitespace}
+use Rattle.syslog_loose.proofs.Names.{each_both, each_left, each_right, row_pieces, no_row, piece_front, is_inner_char}
+use Rattle.syslog_loose.proofs.Names.{is_open_char, front_same, run_det, full_begins, ◌+◌, ◌%◌, Option, None, IfSome}
+use Rattle.syslog_loose.proofs.Names.{Some, length-append, pos, leb_tells, bytes_eq-Decides, option_map_or, bytes_eq}
+use Rattle.syslog_loose.proofs.Names.{Values, optional, ElementValue, rfc3164_list, elements_or, IsRfc3164List, dash}
+use Rattle.syslog_loose.proofs.Names.{colon, IsCanonicalStamp, ProcId, PID, Name, OffsetTimestamp, present_front, step}
+use Rattle.syslog_loose.proofs.Names.{absent_none, absent_stays, MessageValue, Names3164, Resolves, NamesProgram, Costs}
+use Rattle.syslog_loose.proofs.Names.{names_weight, ListWeighs, Weighs, rest_whole, row_head, begins_no_list}
+use Rattle.syslog_loose.proofs.Names.{full_shorter, no_rfc3164_list, drop_trailing_whitespace, skip_leading_whitespace}
+use Rattle.syslog_loose.proofs.Names.{spaced, join, host, tag_word, IsHost, rfc3164_stamp, Dating, MonthDate}
+use Rattle.syslog_loose.proofs.Names.{rfc3164_row, IsRead3164, body_row, priority, month, month_date, division_front}
+use Rattle.syslog_loose.proofs.Names.{spaced_parts, stamp_text-canonical, own_year, prefix_len, unsigned_abs, NamesHost}
+use Rattle.syslog_pieces.proofs.PieceLemmas.Class.{row_nil, row_none_here, row_none_later, texted_front, no_front_no}
+use Rattle.syslog_pieces.proofs.PieceLemmas.Class.{Meets, meets_here, meets_none}
+use Rattle.syslog_pieces.proofs.PieceLemmas.Lists.{no_more, no_more_behind}
+use Rattle.syslog_pieces.proofs.StructuredDataLemmas.Closing.{start_det, no_closing, closing_goes, quoted_goes}
+use Rattle.syslog_pieces.proofs.StructuredDataLemmas.Closing.{no_opening, no_quoted_short, passes_here, value_ends}
+use Rattle.syslog_pieces.proofs.StructuredDataLemmas.Closing.{value_breaks, value_goes}
+use Rattle.syslog_pieces.proofs.StructuredDataLemmas.Walk.{full_goes}
+use Rattle.syslog_pieces.proofs.StructuredDataLemmas.Elements.{value_here, unit_goes}
+use Rattle.syslog_pieces.proofs.TimestampLemmas.MonthDate.{month_begins}
+use Rattle.std.proofs.lemmas.Bool.Decides.{not_from_Decides}
+use Rattle.syslog_pieces.specs.Bodies.Closing.{opening, quoted_row, quoted, closing}
+use Rattle.std.specs.Bool.{Decides}
+use Rattle.syslog_pieces.specs.StructuredData.Escapes.{pair, single}
+use Rattle.syslog_pieces.specs.StructuredData.{param}
+use Rattle.syslog_loose.proofs.PrintedLemmas.{visible_no_blank}
 use Rattle.std.proofs.lemmas.List.{reverse-append}
 use Rattle.std.proofs.lemmas.Int.{ints, by_lt_z}
 use Rattle.std.proofs.lemmas.List.Sums.{suffix_len-le-length}
-use Rattle.std.specs.List.{prefix_len}
-use Rattle.std.specs.Prelude.{unsigned_abs}
-use Rattle.syslog_loose.specs.Bodies.View3164.{NamesHost}
 use Rattle.syslog_loose.specs.Settling.{end_colons, colons_weight, host_weight, process_weight}
-use Rattle.syslog_loose.proofs.Rfc3164Lemmas.Rows.{from_list, from_blanks}
-use Rattle.syslog_loose.proofs.SettlingLemmas.Decided.{Decided, list_decided}
+use Rattle.syslog_loose.proofs.Rfc3164Lemmas.{from_list, from_blanks, from_colon, from_tag_end, from_tag, from_stamp}
+use Rattle.syslog_loose.proofs.Rfc3164Lemmas.{from_priority_end}
+
+-- ---- whether a list begins a text can be decided, piece by piece
+
+-- it holds, or it does not
+abbrev pub Decided : Type 0 → Type 0
+Decided A = A ⊎ (A → ⊥)
+
+pub decided : {A : Type 0} (b : Bool) → Decides b A → Decided A
+decided true d = inl (d.0 refl)
+decided false d = inr (not_from_Decides false d refl)
+
+-- a piece of the class begins the text, or none does
+abbrev Finds : Class → Text → Type 0
+Finds C t = ((q : Text) × (v : C.Value) × Front C t q v) ⊎ NoFront C t
+
+find_moved : (C : Class) (t : Text) (D : Class) (u : Text) → Meets C t D u → Finds D u → Finds C t
+find_moved C t D u m (inl (q, v, f)) = (let (w, g) = m.forth q v f in inl (q, w, g))
+find_moved C t D u m (inr n) = inr (meets_none C t D u m n)
+
+-- ---- one character, runs, and rows of them
+pub no_char : (c d : ℕ) (t : Text) → (d ≡ c → ⊥) → NoFront (exactly (c ∷ [])) (d ∷ t)
+no_char c d t k p q v e h = k (heads d c t q (e ∙ ap (λ (x : Text). x ++ q) h))
+
+find_char : (c : ℕ) (t : Text) → Finds (exactly (c ∷ [])) t
+find_char c [] = inr (λ p q v e h. let k : [] ≡ c ∷ q = e ∙ ap (λ (x : Text). x ++ q) h in cc)
+find_char c (d ∷ t) = elim (eqb_tells d c) [
+  | inl r ↦ inl (t, tt, record { piece = c ∷ []; whole = ap (λ (x : ℕ). x ∷ t) r.1; is = refl })
+  | inr r ↦ inr (no_char c d t r.1)
+]
+
+pub find_run : (test : ℕ → Bool) (t : Text) → (p : Text) × (q : Text) × (t ≡ p ++ q) × Each test p × Ends test q
+find_run test [] = ([], [], refl, tt, tt)
+find_run test (c ∷ t) = elim (decide (test c)) [
+  | inl h ↦ (let (p, q, e, a, b) = find_run test t in (c ∷ p, q, ap (λ (x : Text). c ∷ x) e, (h, a), b))
+  | inr h ↦ ([], c ∷ t, refl, tt, h)
+]
+
+find_blanks : (t : Text) → Finds (run is_blank) t
+find_blanks t = let (p, q, e, a, b) = find_run is_blank t in inl (q, tt, record { piece = p; whole = e; is = (a, b) })
+
+find_text : (test : ℕ → Bool) (t : Text) → Finds (texted (some_run test)) t
+find_text test t = let (p, q, e, a, b) = find_run test t in by p q e a b
+  where
+    by : (p q : Text) → t ≡ p ++ q → Each test p → Ends test q → Finds (texted (some_run test)) t
+    by [] q e a b = inr (no_texted (some_run test) (λ p r v f h.
+        let s = ap length (run_same test p r [] q (sym f ∙ e) h.1 h.2 a b) in let l = h.0 in omega (arith, s, l)))
+    by (c ∷ p) q e a b =
+        inl (q, _, texted_front (some_run test) (record { piece = c ∷ p; whole = e; is = (omega arith, a, b) }))
+
+-- of each class of a row
+abbrev AllFind : List Class → Type 0
+AllFind [] = Unit {0}
+AllFind (C ∷ Cs) = ((t : Text) → Finds C t) × AllFind Cs
+
+find_row : (Cs : List Class) → AllDeterministic Cs → AllFind Cs → (t : Text) → Finds (Row Cs) t
+find_row [] d k t = inl (t, tt, row_nil t)
+find_row (C ∷ Cs) d k t = elim (k.0 t) [
+  | inl (q, v, f) ↦ elim (find_row Cs d.1 k.1 q) [
+    | inl (r, vs, g) ↦ inl (r, (v, vs), row_cons C Cs f g)
+    | inr n ↦ inr (row_none_later C Cs d.0 f n)
+  ]
+  | inr n ↦ inr (row_none_here C Cs n)
+]
+
+find_start : (t : Text) → Finds start t
+find_start t = find_row start_row start_det (find_char 91 also find_text is_id_char also find_blanks also tt) t
+
+find_opening : (t : Text) → Finds opening t
+find_opening t = find_row opening_row opening_det
+    (find_text is_name_char also find_char 61 also find_blanks also find_char 34 also tt) t
+
+-- ---- from inside a value to the end of its element
+
+-- from a quote that closes the value
+find_behind : (t y : Text) → t ≡ 34 ∷ y → ((s : Text) → length s ≤ length y → Finds closing s) → Finds closing t
+find_behind t y e next =
+    let here = passes_here closing t in
+    let same = meets_here closing t in
+    let quote : Front (exactly (34 ∷ [])) t y tt = record { piece = 34 ∷ []; whole = e; is = refl } in
+    let f : Front quoted t y ([], (tt, tt)) = row_of quoted_row (value_here t y e then quote then refl) in
+    elim (find_char 93 y) [
+      | inl (q, _, g) ↦ (let (v, whole) = value_ends here same f q g in inl (q, v, whole))
+      | inr m ↦ elim (find_char 32 y) [
+        | inl (z, _, g) ↦ elim (find_opening z) [
+          | inl (r, ws, o) ↦ find_moved closing t closing r (value_goes here same f z r ws g o).1
+              (next r (omega (arith, front_longer _ g, front_longer _ o)))
+          | inr k ↦ inr (value_breaks here same f
+              (no_more_behind param 32 93 y z m (begins 32 y z g) (no_opening k)) _ refl).0
+        ]
+        | inr k ↦ inr (value_breaks here same f (no_more param 32 93 y m k) _ refl).0
+      ]
+    ]
+
+-- from a backslash
+find_escaped : (c : ℕ) (t : Text) → c ≡ 92 → ((s : Text) → length s ≤ length t → Finds closing s)
+    → Finds closing (c ∷ t)
+find_escaped c [] e next = inr (no_closing (c ∷ []) (no_quoted_short (c ∷ []) refl (omega arith)
+    (λ r k. let q : c ≡ 34 = cc in omega (arith, e, q))))
+find_escaped c (d ∷ t) e next = find_moved closing _ closing t
+    (closing_goes (quoted_goes (unit_goes (pair d) (c ∷ d ∷ t) t tt (ap (λ (x : ℕ). x ∷ d ∷ t) e))))
+    (next t (omega arith))
+
+find_closing : (n : ℕ) (t : Text) → length t ≤ n → Finds closing t
+find_closing n [] l = inr (no_closing [] (no_quoted_short [] refl (omega arith) (λ r k. cc)))
+find_closing zero (c ∷ t) l = absurd (omega arith)
+find_closing (suc n) (c ∷ t) l =
+    let next : (s : Text) → length s ≤ length t → Finds closing s = λ s k. find_closing n s (omega arith) in
+    elim (eqb_tells c 34) [
+      | inl a ↦ find_behind (c ∷ t) t (ap (λ (x : ℕ). x ∷ t) a.1) next
+      | inr a ↦ elim (eqb_tells c 92) [
+        | inl b ↦ find_escaped c t b.1 next
+        | inr b ↦ find_moved closing _ closing t
+            (closing_goes (quoted_goes (unit_goes (single c) (c ∷ t) t (b.1, a.1) refl))) (next t (omega arith))
+      ]
+    ]
+
+find_full : (t : Text) → Finds full_element t
+find_full t = elim (find_start t) [
+  | inl (u, vs, f) ↦ elim (find_opening u) [
+    | inl (x, ws, g) ↦ find_moved full_element t closing x (full_goes t u vs f x ws g)
+        (find_closing (length x) x (omega arith))
+    | inr n ↦ inr (no_full_opening t u vs f n)
+  ]
+  | inr n ↦ inr (no_full_start t n)
+]
+
+-- ---- lists
+dash_before_decided : (rule : DashRule) (q : Text) → Decided (IsDashBefore rule q)
+dash_before_decided BeforeAnything q = inl tt
+dash_before_decided BeforeBlank [] = inl tt
+dash_before_decided BeforeBlank (c ∷ q) = decided (is_blank c) ((λ h. h), (λ h. h))
+
+dash_decided : (rule : DashRule) (t : Text) → Decided ((q : Text) → t ≡ 45 ∷ q → IsDashBefore rule q → ⊥)
+dash_decided rule [] = inl (λ q e a. cc)
+dash_decided rule (c ∷ t) = elim (eqb_tells c 45) [
+  | inl h ↦ elim (dash_before_decided rule t) [
+    | inl a ↦ inr (λ k. k t (ap (λ (x : ℕ). x ∷ t) h.1) a)
+    | inr b ↦ inl (λ q e a. b (subst (λ (x : Text). IsDashBefore rule x) (let same : q ≡ t = cc in same) a))
+  ]
+  | inr m ↦ inl (λ q e a. m.1 (heads c 45 t q e))
+]
+
+pub list_decided : (rule : DashRule) (t : Text) → Decided (BeginsNoList rule t)
+list_decided rule t = elim (find_full t) [
+  | inl (q, v, f) ↦ inr (λ k. k.1 f.piece q v f.whole f.is)
+  | inr n ↦ elim (dash_decided rule t) [ inl d ↦ inl (d, n) | inr d ↦ inr (λ k. d k.0) ]
+]
+
+-- ---- texts that begin with no list
+
+-- by the first character
+pub no_list_by : (rule : DashRule) (c : ℕ) (t : Text) → (c ≡ 45 → ⊥) → (c ≡ 91 → ⊥) → BeginsNoList rule (c ∷ t)
+no_list_by rule c t a b =
+    (λ q e k. a (heads c 45 t q e), λ p q v e h. (let s = full_begins p q v h in b (heads c 91 t s.0 (e ∙ s.1))))
+
+-- ---- inside a process name no list begins that its bracket ends
+
+-- no white space up to a `]`, which is there
+abbrev Inner : Text → Type 0
+Inner [] = ⊥
+Inner (c ∷ t) = (is_not_whitespace c ≡ true) × ((c ≡ 93) ⊎ Inner t)
+
+inner_name : (z s : Text) → Each is_inner_char z → Inner (z ++ (93 ∷ s))
+inner_name [] s h = (refl, inl refl)
+inner_name (c ∷ z) s h = ((each_left is_not_whitespace is_open_char (c ∷ z) h).0, inr (inner_name z s h.1))
+
+inside : (p w : Text) → Each is_open_char p → Inner (p ++ w) → Each is_not_whitespace p × Inner w
+inside [] w o i = (tt, i)
+inside (c ∷ p) w o (v, inl e) = absurd (let k : false ≡ true = rw e at o.0 in cc)
+inside (c ∷ p) w o (v, inr i) = (let (seen, inner) = inside p w o.1 i in ((v, seen), inner))
+
+inner_on : {t : Text} (p w : Text) → t ≡ p ++ w → Each is_open_char p → Inner t → Each is_not_whitespace p × Inner w
+inner_on p w e o i = inside p w o (subst Inner e i)
+
+ends_blank : (t : Text) → Inner t → Ends is_blank t
+ends_blank [] i = tt
+ends_blank (c ∷ t) i = visible_no_blank c i.0
+
+-- after a dash is neither a blank nor the end
+no_dash : (q : Text) → Inner q → IsDashBefore BeforeBlank q → ⊥
+no_dash [] i a = i
+no_dash (c ∷ q) i a = let t : true ≡ false = sym a ∙ visible_no_blank c i.0 in cc
+
+ends_run : (test : ℕ → Bool) (n r : Text) → 0 < length n → Each test n → Ends test (n ++ r) → ⊥
+ends_run test [] r l h e = omega arith
+ends_run test (c ∷ n) r l h e = let t : true ≡ false = sym h.0 ∙ e in cc
+
+-- what follows an id is the bracket, or no blank and no name
+no_full : (t : Text) → Inner t → NoFront full_element t
+no_full t i p q v e h =
+    no_full_start t (λ a u vs w s.
+    let f : Front start t u vs = record { piece = a; whole = w; is = s } in
+    let (_, bracket, (t2, id, (_, blanks, end))) = row_pieces start_row f in
+    let behind = (inner_on bracket.piece _ bracket.whole (rw bracket.is (refl, tt)) i).1 in
+    let named = each_right is_not_whitespace is_name_char id.piece id.is.1.1 in
+    let inner =
+    (inner_on id.piece _ id.whole (each_left is_open_char (λ c. not (nat_eq c 61)) id.piece named) behind).1 in
+    let same = (front_same (run is_blank) (run_det is_blank) blanks
+    (piece_front (run is_blank) [] t2 tt (tt, ends_blank t2 inner))).0 in
+    no_full_opening t u vs f (no_row opening_row opening_det (inl (λ n r x g k.
+    let here : t2 ≡ n ++ r = sym same ∙ end ∙ g in
+    let (seen, _) = inner_on n r here (each_left is_open_char (λ c. not (nat_eq c 61)) n k.1.1) inner in
+    ends_run is_id_char n r k.1.0 (each_both is_not_whitespace is_name_char n seen k.1.1) (rw here at id.is.1.2))))
+    p q v e h) p q v e h
+
+-- the text is the message
+pub no_list_inner : (z s : Text) → Each is_inner_char z
+    → Ends is_blank (z ++ (93 ∷ s)) × BeginsNoList BeforeBlank (z ++ (93 ∷ s))
+no_list_inner z s h =
+    let i = inner_name z s h in
+    let none = no_full (z ++ (93 ∷ s)) i in
+    (ends_blank (z ++ (93 ∷ s)) i, (λ q e a. no_dash q (inner_on (45 ∷ []) q e (refl, tt) i).1 a, none))
+
+-- a text that begins with a dash and a blank begins with a list
+pub dash_before : (blanks next : Text) → 0 < length blanks → Each is_blank blanks
+    → IsDashBefore BeforeBlank (blanks ++ next)
+dash_before [] next l k = absurd (omega arith)
+dash_before (c ∷ cs) next l k = k.0
 
 -- ---- one weight
 cost_once : {A : Type 0} {n w v : ℕ} → Costs A n w → Costs A n v → w ≡ v
@@ -208,3 +444,89 @@ module _ (rule : DashRule) where
         | inl (_, l) ↦ omega (arith, l, front_longer _ gap)
         | inr (_, _, e) ↦ omega (arith, ap length e, front_longer _ gap)
       ]
+
+-- ---- the trimmed text
+skip_shorter : (cs : Text) → length (skip_leading_whitespace cs) ≤ length cs
+skip_shorter [] = omega arith
+skip_shorter (c ∷ cs) = grind (arith, skip_shorter cs)
+
+drop_shorter : (cs : Text) → length (drop_trailing_whitespace cs) ≤ length cs
+drop_shorter [] = omega arith
+drop_shorter (c ∷ cs) = grind (arith, drop_shorter cs)
+
+-- ---- the timestamp
+row_some : (Cs : List Class) (p q : Text) (vs : Values (month ∷ Cs)) → (Row (month ∷ Cs)).Is p q vs → 0 < length p
+row_some Cs p q vs ([], e, h) = absurd h
+row_some Cs p q vs ([] ∷ ps, e, h) = absurd (month_begins [] (join ps ++ q) vs.0 h.0)
+row_some Cs p q vs ((c ∷ x) ∷ ps, e, h) = omega (arith, ap length e)
+
+date_some : (p q : Text) (d : MonthDate) → month_date.Is p q d → 0 < length p
+date_some p q d (inl (vs, k, i)) = search row_some
+date_some p q d (inr (vs, k, i)) = search row_some
+
+stamp_light : (dating : Dating) (p q : Text) (s : Option OffsetTimestamp) (w : ℕ) → (rfc3164_stamp dating).Is p q s
+    → Costs (IfSome s IsCanonicalStamp) 1 w → w ≤ length p
+stamp_light dating p q None w h c = omega (arith, free c tt)
+stamp_light dating p q (Some s) w (inl (text, space)) c = omega (arith, free c (stamp_text-canonical p s text))
+stamp_light dating p q (Some s) w (inr (d, h, k)) c = omega (arith, at_most c, date_some p q d h)
+
+-- ---- the names
+host_length : (p q : Text) (v : Option Text) → IsHost p q v → field_length (Some v) ≤ suc (length p)
+host_length p q None h = omega arith
+host_length p q (Some x) (l, a, inl (n, b, (w, d))) = omega (arith, ap length w)
+host_length p q (Some x) (l, a, inr (r, w, b, z)) = omega (arith, ap (λ (o : Option Text). field_length (Some o)) z)
+
+tag_length : (p q : Text) (v : Option Text) → tag_word.Is p q v → field_length (Some v) ≤ suc (length p)
+tag_length p q None h = omega arith
+tag_length p q (Some x) (l, a, b, (w, d)) = omega (arith, ap length w)
+
+field_light : (Is : Text → Text → Option Text → Type 0)
+    → ((p q : Text) (v : Option Text) → Is p q v → field_length (Some v) ≤ suc (length p))
+    → {t q : Text} (v : Option (Option Text))
+    → Front (optional (spaced (record { Value = Option Text; Is = Is }))) t q v → field_length v + length q ≤ length t
+field_light Is short None f = omega (arith, front_longer _ f)
+field_light Is short {q = q} (Some v) f =
+    let (r, e, g) = spaced_parts (record { Value = Option Text; Is = Is }) (present_front _ f) in
+    omega (arith, short g.piece q v g.is, ap length e, ap length g.whole, length-append g.piece q)
+
+-- ---- the message
+body_light : (rule : DashRule) (t : Text) (vs : Values (body_row rule)) (n : Names3164)
+    → Front (Row (body_row rule)) t [] vs → Resolves vs.0 vs.1.0 n
+    → names_weight n.hostname n.procid + length vs.1.1.1.1.1.1.1.0 ≤ length t
+body_light rule t vs n f means =
+    let (_, origin, f1) = row_head (optional (spaced host)) (from_tag rule) f in
+    let (_, program, f2) = row_head (optional (spaced tag_word)) (from_tag_end rule) f1 in
+    let (_, blanks, f3) = row_head (run is_blank) (from_colon rule) f2 in
+    let (u, mark, f4) = row_head (optional (exactly colon)) (from_blanks rule) f3 in
+    omega (
+      arith,
+      fields_light vs.0 vs.1.0 n means,
+      field_light IsHost host_length vs.0 origin,
+      field_light tag_word.Is tag_length vs.1.0 program,
+      front_longer _ blanks,
+      front_longer _ mark,
+      message_short rule u vs.1.1.1.1 f4,
+    )
+
+pub light : (rule : DashRule) (dating : Dating) (text : Text) (m : MessageValue) (w : ℕ) → IsRead3164 rule dating text m
+    → Weighs rule m w → w ≤ length text
+light rule dating text m w r x =
+    let (n, resolves, means) = r.means in
+    let y = subst (λ (z : MessageValue). Weighs rule z w) means x in
+    let (_, pri, f1) = row_head (optional priority) (from_priority_end rule dating)
+    (division_front (rfc3164_row rule dating) r.division) in
+    let (_, blanks, f2) = row_head (run is_blank) (from_stamp rule dating) f1 in
+    let (u, stamp, f3) = row_head (rfc3164_stamp dating) (body_row rule) f2 in
+    omega (
+      arith,
+      y.total,
+      stamp_light dating stamp.piece u r.values.1.1.0 y.stamp stamp.is y.stamp_is,
+      body_light rule u r.values.1.1.1 n f3 resolves,
+      at_most y.taken_is,
+      ap length stamp.whole,
+      length-append stamp.piece u,
+      front_longer _ blanks,
+      front_longer _ pri,
+      drop_shorter (skip_leading_whitespace text),
+      skip_shorter text,
+    )

@@ -52,7 +52,7 @@ pub fn read_rfc3164_has_exceptions_alone()
 {}
 
 /// The exceptions are all that a message of RFC 3164 can miss beside the rest of the condition.
-#[tactic(auto, using(crate::proofs::Rfc3164Lemmas::Exceptions::nearly))]
+#[tactic(auto, using(crate::proofs::CanonicalLemmas::nearly))]
 pub fn canonical_rfc3164_has_no_exception()
     ensures { (rule : DashRule) (m : MessageValue) → m.protocol ≡ RFC3164
         → IsCanonical rule m ↔ (IsNearlyCanonical m × HasNoException rule m) }
@@ -72,7 +72,7 @@ pub fn printed_is_read_back_exactly()
 
 /// What is read of one line is printed as one line: where the text has no line feed, the printed text of its message
 /// has none.
-#[tactic(auto, using(crate::proofs::OneLineLemmas::printed_line))]
+#[tactic(auto, using(crate::proofs::ReadBackLemmas::printed_line))]
 pub fn message_of_one_line_prints_as_one()
     ensures { (variant : Variant) (dating : Dating) (text : Text) (m : MessageValue) → IsRead variant dating text m
         → IsOneLine text

@@ -39,7 +39,7 @@ fn has_no_odd_host(host: Option<&str>) -> bool
     }
 }
 
-#[tactic(auto, using(crate::proofs::ExceptionLemmas::odd_told, crate::proofs::ExceptionLemmas::no_odd_told))]
+#[tactic(auto, using(crate::proofs::CanonicalLemmas::odd_told, crate::proofs::CanonicalLemmas::no_odd_told))]
 fn is_no_odd_host(name: &str) -> bool
     ensures { IsTrue result ↔ ((chars name.now ≢ dash) × (EndsInColon (chars name.now) → ⊥)) }
 {
@@ -74,7 +74,7 @@ fn is_uncut_process(process: Option<ProcId<&str>>) -> bool
     }
 }
 
-#[tactic(auto, using(crate::proofs::ExceptionLemmas::no_colon_told))]
+#[tactic(auto, using(crate::proofs::CanonicalLemmas::no_colon_told))]
 fn has_no_colon(name: &str) -> bool
     ensures { IsTrue result ↔ Each spec.is_no_colon (chars name.now) }
 {

@@ -1,6 +1,6 @@
 use Rattle.syslog_loose.proofs.Names.{Some, None, arith, rules, chars, IsUtf8}
 use Rattle.std.proofs.lemmas.Str.Pattern.{strip_suffix_char}
-use Rattle.syslog_loose.proofs.JumpLemmas.{ends_once, ends_once_in, suffix_bytes, suffix_some}
+use Rattle.syslog_loose.proofs.SettlingLemmas.Jumps.{ends_once, ends_once_in, suffix_bytes, suffix_some}
 use Rattle.syslog_loose.proofs.jumps.before_run.Goals as goal
 
 pub returns-in_default : goal.returns-in_default

@@ -1,5 +1,5 @@
 use Rattle.syslog_loose.proofs.Names.{refl}
-use Rattle.syslog_loose.proofs.JumpLemmas.{cut_twice}
+use Rattle.syslog_loose.proofs.SettlingLemmas.Jumps.{cut_twice}
 use Rattle.syslog_loose.proofs.jumps.cut_colons.Goals as goal
 
 pub returns-clause-cuts : goal.returns-clause-cuts

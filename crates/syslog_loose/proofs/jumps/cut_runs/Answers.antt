@@ -1,5 +1,5 @@
 use Rattle.syslog_loose.proofs.Names.{◌++◌, ◌∙◌, ap, length, List, ℕ, rules, arith, length-append, IsUtf8}
-use Rattle.syslog_loose.proofs.JumpLemmas.{suffix_some, cut_on}
+use Rattle.syslog_loose.proofs.SettlingLemmas.Jumps.{suffix_some, cut_on}
 use Rattle.syslog_loose.proofs.jumps.cut_runs.Goals as goal
 
 pub cuts-preserved : goal.cuts-preserved

@@ -1,6 +1,5 @@
-use Rattle.syslog_loose.proofs.Names.{◌≡◌, ◌+◌, ◌*◌, ◌%◌, refl, arith, string_bytes, on_ok_weaker}
-use Rattle.std.proofs.Common.{◌/◌}
-use Rattle.syslog_loose.proofs.JumpLemmas.{colons_pushed}
+use Rattle.syslog_loose.proofs.Names.{◌≡◌, ◌+◌, ◌*◌, ◌%◌, refl, arith, string_bytes, on_ok_weaker, ◌/◌}
+use Rattle.syslog_loose.proofs.SettlingLemmas.Jumps.{colons_pushed}
 use Rattle.syslog_loose.proofs.jumps.push_colons.Goals as goal
 
 pub returns : goal.returns

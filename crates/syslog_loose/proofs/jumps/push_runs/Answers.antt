@@ -1,5 +1,5 @@
 use Rattle.syslog_loose.proofs.Names.{◌≡◌, ◌+◌, ◌*◌, ◌++◌, ◌∙◌, ap, List, ℕ, arith, string_bytes}
-use Rattle.syslog_loose.proofs.JumpLemmas.{colons_pushed}
+use Rattle.syslog_loose.proofs.SettlingLemmas.Jumps.{colons_pushed}
 use Rattle.syslog_loose.proofs.jumps.push_runs.Goals as goal
 
 pub loop-done-preserved : goal.loop-done-preserved

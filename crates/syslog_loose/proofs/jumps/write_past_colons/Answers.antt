@@ -1,6 +1,6 @@
 use Rattle.syslog_loose.proofs.Names.{◌∙◌, ◌++◌, ◌-◌, [], ap, List, ℕ, refl, chars-IsAscii, chars, encode_utf8_all}
 use Rattle.syslog_loose.proofs.Names.{colon, colons_before, tail_text, line_value, colon_ascii}
-use Rattle.syslog_loose.proofs.JumpLemmas.{past_written}
+use Rattle.syslog_loose.proofs.SettlingLemmas.Jumps.{past_written}
 use Rattle.syslog_loose.proofs.jumps.write_past_colons.Goals as goal
 
 pub print_line-requires : goal.print_line-requires

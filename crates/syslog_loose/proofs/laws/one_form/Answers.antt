@@ -1,4 +1,4 @@
-use Rattle.syslog_loose.proofs.TagFormLemmas.{one_form}
+use Rattle.syslog_loose.proofs.Rfc3164Lemmas.{one_form}
 use Rattle.syslog_loose.proofs.laws.one_form.Goals as goal
 
 pub returns-clause-tag : goal.returns-clause-tag

@@ -1,4 +1,4 @@
-use Rattle.syslog_loose.proofs.Rfc3164Lemmas.Years.{other_quotes}
+use Rattle.syslog_loose.proofs.Rfc3164Lemmas.{other_quotes}
 use Rattle.syslog_loose.proofs.laws.year_counts_for_yearless_dates_alone.Goals as goal
 
 pub returns-clause-quotes : goal.returns-clause-quotes

@@ -1,5 +1,5 @@
 use Rattle.syslog_loose.proofs.Names.{◌∙◌, ap, arith, refl, subst, sym, elements_left}
-use Rattle.syslog_pieces.proofs.PieceLemmas.Class.{false_is}
+use Rattle.syslog_pieces.proofs.PieceLemmas.Tests.{false_is}
 use Rattle.syslog_loose.proofs.line.have_params.Invariants.{HaveParams}
 use Rattle.syslog_loose.proofs.line.have_params.Goals as goal
 

@@ -1,7 +1,6 @@
 use Rattle.syslog_loose.proofs.Names.{chars, dating_of}
 use Rattle.syslog_loose.proofs.ReadBackLemmas.{answered_in}
-use Rattle.syslog_loose.proofs.ReadingLemmas.{in_year_map}
-use Rattle.syslog_loose.proofs.VisitLemmas.{message_answers}
+use Rattle.syslog_loose.proofs.ReadingLemmas.{message_answers, in_year_map}
 use Rattle.syslog_loose.proofs.reading.parse_message_with_year_exact_tz.Goals as goal
 
 pub returns-clause-reads : goal.returns-clause-reads

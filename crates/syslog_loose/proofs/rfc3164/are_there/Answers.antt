@@ -1,5 +1,4 @@
-use Rattle.syslog_loose.proofs.Names.{refl, ap, seen, shown}
-use Rattle.syslog_pieces.specs.Pieces.View.{field_seen}
+use Rattle.syslog_loose.proofs.Names.{refl, ap, seen, shown, field_seen}
 use Rattle.syslog_loose.proofs.rfc3164.are_there.Goals as goal
 
 pub returns : goal.returns

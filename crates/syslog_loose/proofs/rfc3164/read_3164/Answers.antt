@@ -2,13 +2,11 @@ use Rattle.syslog_loose.proofs.Names.{◌≡◌, ◌∷◌, ◌++◌, ◌∙◌,
 use Rattle.syslog_loose.proofs.Names.{Some, None, refl, sym, ap, arith, true, Text, Ends, Front, NoFront, optional, run}
 use Rattle.syslog_loose.proofs.Names.{ElementValue, elements_or, rfc3164_list, is_blank, front_same, run_det, rows_join}
 use Rattle.syslog_loose.proofs.Names.{rest_front, full_shorter, begins_no_list, dash_rule, row_of, spaced_elements}
-use Rattle.syslog_loose.proofs.Names.{shown, stamped_row, fields_row, body_row, fields_before, names_value}
+use Rattle.syslog_loose.proofs.Names.{shown, stamped_row, fields_row, body_row, fields_before, names_value, list_text}
 use Rattle.std.proofs.lemmas.Bool.{eqb-true}
 use Rattle.std.specs.Bool.{◌==◌}
 use Rattle.std.specs.Str.{chars}
-use Rattle.syslog_pieces.specs.StructuredData.Visited.{list_text}
-use Rattle.syslog_loose.proofs.Rfc3164Lemmas.Reading.{is_read}
-use Rattle.syslog_loose.proofs.Rfc3164Lemmas.Rows.{from_list}
+use Rattle.syslog_loose.proofs.Rfc3164Lemmas.{is_read, from_list}
 use Rattle.syslog_loose.proofs.rfc3164.read_3164.Goals.{then-fields, else-fields}
 use Rattle.syslog_loose.proofs.rfc3164.read_3164.Goals as goal
 

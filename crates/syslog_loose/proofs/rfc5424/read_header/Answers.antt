@@ -1,9 +1,8 @@
 use Rattle.syslog_loose.proofs.Names.{◌≡◌, ◌<◌, ◌∷◌, ◌++◌, ◌∙◌, ◌then◌, ◌past◌, length, Option, Some, None, IfSome, sym}
 use Rattle.syslog_loose.proofs.Names.{ap, arith, inl, refl, rules, option_map, IsBareWord, Text, Front, named_process}
 use Rattle.syslog_loose.proofs.Names.{process_text, process_word, bare_prints, named_names, word, name_text, row_of}
-use Rattle.syslog_loose.proofs.Names.{no_row, seen, shown, header_row}
+use Rattle.syslog_loose.proofs.Names.{no_row, seen, shown, header_row, word_stands, host_stands}
 use Rattle.syslog_pieces.proofs.ProcIdLemmas.{absent_front, process_front, no_process}
-use Rattle.syslog_pieces.proofs.TextLemmas.Runs.{word_stands, host_stands}
 use Rattle.syslog_loose.proofs.Rfc5424Lemmas.{header_det}
 use Rattle.syslog_loose.proofs.rfc5424.read_header.Goals as goal
 

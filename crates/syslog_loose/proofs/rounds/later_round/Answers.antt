@@ -1,5 +1,5 @@
 use Rattle.syslog_loose.proofs.Names.{⊤, chars}
-use Rattle.syslog_loose.proofs.SettlingLemmas.Told.{made_told, without_date}
+use Rattle.syslog_loose.proofs.SettlingLemmas.Settles.{made_told, without_date}
 use Rattle.syslog_loose.proofs.rounds.later_round.Goals as goal
 
 pub returns : goal.returns

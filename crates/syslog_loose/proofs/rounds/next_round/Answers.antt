@@ -1,6 +1,6 @@
 use Rattle.syslog_loose.proofs.Names.{⊤, chars, dating_of}
 use Rattle.syslog_loose.proofs.ReadingLemmas.{in_year_map}
-use Rattle.syslog_loose.proofs.SettlingLemmas.Told.{made_told}
+use Rattle.syslog_loose.proofs.SettlingLemmas.Settles.{made_told}
 use Rattle.syslog_loose.proofs.rounds.next_round.Goals as goal
 
 pub returns : goal.returns

@@ -1,8 +1,6 @@
-use Rattle.syslog_loose.proofs.Names.{Ok, err_from_is_err_and, chars, dating_of}
-use Rattle.syslog_loose.specs.Settling.{answer_in}
+use Rattle.syslog_loose.proofs.Names.{Ok, err_from_is_err_and, chars, dating_of, answer_in}
 use Rattle.syslog_loose.proofs.ReadingLemmas.{in_year_map}
-use Rattle.syslog_loose.proofs.SettlingLemmas.Settles.{first_answer, first_fault}
-use Rattle.syslog_loose.proofs.SettlingLemmas.Told.{answer_canonical, told_reaches}
+use Rattle.syslog_loose.proofs.SettlingLemmas.Settles.{answer_canonical, told_reaches, first_answer, first_fault}
 use Rattle.syslog_loose.proofs.settling.settle_into.Goals as goal
 
 pub returns-in_err-settled-clause-settles : goal.returns-in_err-settled-clause-settles

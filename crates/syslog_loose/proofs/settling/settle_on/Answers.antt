@@ -1,6 +1,6 @@
 use Rattle.syslog_loose.proofs.Names.{◌≡◌, ◌+◌, ◌-◌, suc, arith, err_from_is_err_and}
-use Rattle.syslog_loose.proofs.SettlingLemmas.Settles.{last_answer, round_fault, round_answer, round_more}
-use Rattle.syslog_loose.proofs.SettlingLemmas.Told.{reached_shows_none}
+use Rattle.syslog_loose.proofs.SettlingLemmas.Settles.{reached_shows_none, last_answer, round_fault, round_settled}
+use Rattle.syslog_loose.proofs.SettlingLemmas.Settles.{round_more}
 use Rattle.syslog_loose.proofs.settling.settle_on.Goals as goal
 
 pub returns-in_err-settled : goal.returns-in_err-settled
@@ -15,7 +15,7 @@ pub returns-then-settled : goal.returns-then-settled
 returns-then-settled c = λ dating input start.
     let reached = c.loop-done.invariant dating input start in
     let told = rw (c.as_str.ensures.value, c.swap.ensures.x_after) at c.in_ok-settled.ensures in
-    round_answer c.args.variant dating _ _ _ _ _ reached c.if-settled.true
+    round_settled c.args.variant dating _ _ _ _ _ reached c.if-settled.true
     (told (reached_shows_none c.args.variant dating _ _ _ reached) dating)
 
 pub loop-done-preserved : goal.loop-done-preserved

@@ -1,6 +1,5 @@
 use Rattle.syslog_loose.proofs.Names.{◌past◌, no_row, inl, refl, Option, Some, None, MatchOption, rows_none_here}
-use Rattle.syslog_loose.proofs.Names.{visits_none, data_row, header_row}
-use Rattle.syslog_pieces.proofs.TextLemmas.Runs.{no_number}
+use Rattle.syslog_loose.proofs.Names.{visits_none, data_row, header_row, no_number}
 use Rattle.syslog_loose.proofs.Rfc5424Lemmas.{header_det, not_read}
 use Rattle.syslog_loose.proofs.visit.visit_5424.Goals as goal
 

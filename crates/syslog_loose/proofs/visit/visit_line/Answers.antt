@@ -1,7 +1,7 @@
 use Rattle.syslog_loose.proofs.Names.{None, Some, refl, sym, chars, dating_of, visits_none}
-use Rattle.syslog_loose.proofs.StartLemmas.{asked_month, asks_none, date_answered, dated_front, dated_invalid}
-use Rattle.syslog_loose.proofs.StartLemmas.{dated_left, left_to_try, other_front, undated_invalid}
-use Rattle.syslog_loose.proofs.VisitLemmas.{made_3164, made_5424, made_in, visits_after}
+use Rattle.syslog_loose.proofs.ReadingLemmas.{asked_month, asks_none, date_answered, dated_front, dated_invalid}
+use Rattle.syslog_loose.proofs.ReadingLemmas.{dated_left, left_to_try, other_front, undated_invalid, made_3164}
+use Rattle.syslog_loose.proofs.ReadingLemmas.{made_5424, made_in, visits_after}
 use Rattle.syslog_loose.proofs.visit.visit_line.Goals.{in-Some+in-Some-month_stamp}
 use Rattle.syslog_loose.proofs.visit.visit_line.Goals.{in-None+in_default-visit_5424+in-Some-front_stamp}
 use Rattle.syslog_loose.proofs.visit.visit_line.Goals as goal

@@ -1,6 +1,6 @@
 use Rattle.syslog_loose.proofs.Names.{sym}
-use Rattle.syslog_loose.proofs.StartLemmas.{left_to_try, other_front, undated_invalid}
-use Rattle.syslog_loose.proofs.VisitLemmas.{made_3164, made_5424, visits_after}
+use Rattle.syslog_loose.proofs.ReadingLemmas.{left_to_try, other_front, undated_invalid, made_3164, made_5424}
+use Rattle.syslog_loose.proofs.ReadingLemmas.{visits_after}
 use Rattle.syslog_loose.proofs.visit.visit_undated.Goals as goal
 
 pub returns-in-Some : goal.returns-in-Some

@@ -1,6 +1,5 @@
-use Rattle.syslog_loose.proofs.Names.{refl, chars, list_elements}
-use Rattle.std.proofs.lemmas.Grind.{put_three}
-use Rattle.syslog_loose.proofs.JumpLemmas.{some_long, tail_elements}
+use Rattle.syslog_loose.proofs.Names.{refl, chars, list_elements, put_three}
+use Rattle.syslog_loose.proofs.SettlingLemmas.Jumps.{some_long, tail_elements}
 use Rattle.syslog_loose.proofs.jumps.TailDisplay.fmt.Goals as goal
 
 pub returns-clause-writes : goal.returns-clause-writes

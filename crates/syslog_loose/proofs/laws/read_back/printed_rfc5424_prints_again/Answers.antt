@@ -1,4 +1,4 @@
-use Rattle.syslog_loose.proofs.Rfc5424Lemmas.ReadBack.{completed, read_again}
+use Rattle.syslog_loose.proofs.Rfc5424Lemmas.{completed, read_again}
 use Rattle.syslog_loose.proofs.laws.read_back.printed_rfc5424_prints_again.Goals as goal
 
 pub returns : goal.returns

@@ -1,9 +1,8 @@
 use Rattle.syslog_loose.proofs.Names.{◌≡◌, ◌++◌, ◌∙◌, [], ℕ, List, Result, Ok, Err, string_bytes, sym, ap, on_ok_weaker}
-use Rattle.syslog_loose.proofs.Names.{encodes-chars, encode_utf8_all, line_value, rest_text, printed}
-use Rattle.std.proofs.Common.{OnOk}
+use Rattle.syslog_loose.proofs.Names.{encodes-chars, encode_utf8_all, line_value, rest_text, printed, OnOk}
 use Rattle.std.specs.Bool.{if◌then◌else◌}
 use Rattle.std.specs.Result.{is_ok}
-use Rattle.syslog_loose.proofs.PrintedLineLemmas.{printed_line}
+use Rattle.syslog_loose.proofs.PrintedLemmas.{printed_line}
 use Rattle.syslog_loose.proofs.line.printing.print_line.Goals as goal
 
 -- a text that was empty

@@ -1,5 +1,5 @@
 use Rattle.syslog_loose.proofs.Names.{refl, put_two}
-use Rattle.syslog_loose.proofs.PrintedLineLemmas.{encodes_spaced_list}
+use Rattle.syslog_loose.proofs.PrintedLemmas.{encodes_spaced_list}
 use Rattle.syslog_loose.proofs.line.printing.write_list_before.Goals as goal
 
 pub returns : goal.returns

@@ -1,6 +1,5 @@
-use Rattle.syslog_loose.proofs.Names.{refl, encodes_shown}
-use Rattle.std.proofs.lemmas.Grind.{put_four}
-use Rattle.syslog_loose.proofs.PrintedLineLemmas.{written_rest_3164}
+use Rattle.syslog_loose.proofs.Names.{refl, encodes_shown, put_four}
+use Rattle.syslog_loose.proofs.PrintedLemmas.{written_rest_3164}
 use Rattle.syslog_loose.proofs.line.printing.write_rest_3164.Goals as goal
 
 pub returns : goal.returns

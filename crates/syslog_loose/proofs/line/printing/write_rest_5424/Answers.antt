@@ -1,6 +1,5 @@
-use Rattle.syslog_loose.proofs.Names.{refl, put_two, encodes_shown}
-use Rattle.std.proofs.lemmas.Grind.{put_six}
-use Rattle.syslog_loose.proofs.PrintedLineLemmas.{written_rest_5424}
+use Rattle.syslog_loose.proofs.Names.{refl, put_two, encodes_shown, put_six}
+use Rattle.syslog_loose.proofs.PrintedLemmas.{written_rest_5424}
 use Rattle.syslog_loose.proofs.line.printing.write_rest_5424.Goals as goal
 
 pub returns : goal.returns

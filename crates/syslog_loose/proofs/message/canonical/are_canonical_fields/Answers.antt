@@ -1,6 +1,5 @@
 use Rattle.syslog_loose.proofs.Names.{◌↔◌, refl, subst, sym, IsTrue, text_of, last_is, IsCanonicalFor}
-use Rattle.syslog_loose.proofs.Names.{IsCanonicalInBoth, dash_rule}
-use Rattle.syslog_loose.specs.Canonical.{fields_value}
+use Rattle.syslog_loose.proofs.Names.{IsCanonicalInBoth, dash_rule, fields_value}
 use Rattle.syslog_loose.proofs.message.canonical.are_canonical_fields.Goals as goal
 
 pub returns-in-RFC5424 : goal.returns-in-RFC5424

@@ -1,6 +1,5 @@
 use Rattle.syslog_loose.proofs.Names.{refl, false_is, no_truth, each_both, each_left, each_right, is_tag_char}
-use Rattle.syslog_loose.proofs.Names.{is_open_char, chars}
-use Rattle.syslog_pieces.proofs.ProcIdLemmas.{no_number_told}
+use Rattle.syslog_loose.proofs.Names.{is_open_char, chars, no_number_told}
 use Rattle.syslog_loose.proofs.message.canonical.is_bracketed_name.Goals as goal
 
 pub returns-then-not-is_some_of : goal.returns-then-not-is_some_of

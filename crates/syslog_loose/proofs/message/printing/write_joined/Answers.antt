@@ -1,7 +1,5 @@
 use Rattle.syslog_loose.proofs.Names.{sym, ap, refl, [], has_written_of_eq, put_two, encode_utf8_all, element_text}
-use Rattle.syslog_loose.proofs.Names.{element_value, text_of}
-use Rattle.std.proofs.lemmas.List.{take_all}
-use Rattle.syslog_pieces.proofs.TextLemmas.Words.{encodes_step, flat_map-map}
+use Rattle.syslog_loose.proofs.Names.{element_value, text_of, take_all, encodes_step, flat_map-map}
 use Rattle.syslog_loose.proofs.message.printing.write_joined.Goals as goal
 
 pub loop-element-preserved : goal.loop-element-preserved

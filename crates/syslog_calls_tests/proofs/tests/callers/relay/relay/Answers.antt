@@ -1,7 +1,6 @@
 use Rattle.std.proofs.Common.{inl, inr}
 use Rattle.syslog_loose.specs.declared.variant.Variant.TheVariants.{Either}
-use Rattle.syslog_loose.proofs.BoundLemmas.{read_bounded}
-use Rattle.syslog_loose.proofs.ReadBackLemmas.{printed_exact}
+use Rattle.syslog_loose.proofs.ReadBackLemmas.{read_bounded, printed_exact}
 use Rattle.syslog_loose.proofs.ReadingLemmas.{in_this_year}
 use Rattle.syslog_calls_tests.proofs.tests.callers.relay.relay.Goals as goal
 

@@ -1,5 +1,5 @@
 use Rattle.syslog_loose.proofs.Names.{◌∙◌, ◌++◌, refl, ap, ℕ, List, put_two, encode_utf8_all, line_value, rest_text}
-use Rattle.syslog_loose.proofs.PrintedLineLemmas.{printed_line}
+use Rattle.syslog_loose.proofs.PrintedLemmas.{printed_line}
 use Rattle.syslog_loose.proofs.line.printing.LineDisplay.fmt.Goals as goal
 
 pub returns-clause-writes : goal.returns-clause-writes
