@@ -13,7 +13,7 @@ use Rattle.syslog_loose.proofs.Names.{is_inner_char, HasNoColon, HasNoException,
 use Rattle.syslog_loose.proofs.Names.{AreNamesButExceptions, HasExceptionsAlone, IsNearlyCanonical, MessageValue}
 use Rattle.syslog_loose.proofs.Names.{each_both, each_map, nat_tests, IfSome_then, SyslogFacility, SyslogSeverity}
 use Rattle.syslog_loose.proofs.Names.{trim_end, NonePass, same_chars, end_trimmed_chars, no_list_is, dash_ascii}
-use Rattle.syslog_pieces.proofs.TextLemmas.Chars.{from_not_true}
+use Rattle.syslog_pieces.proofs.TextLemmas.Runs.{from_not_true}
 use Rattle.syslog_loose.proofs.PrintedLemmas.{drop_none, drop_ends}
 use Rattle.std.proofs.lemmas.Str.{chars-append, encodes-IsAscii, IsCharBoundary-at_seam, IsUtf8-from_ascii, IsUtf8-take}
 use Rattle.std.proofs.Math.Seq.{take-append_seam}

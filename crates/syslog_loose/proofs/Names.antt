@@ -78,10 +78,10 @@ pub use Rattle.syslog_pieces.proofs.StructuredDataLemmas.Walk.{dash_rfc3164_list
 pub use Rattle.syslog_pieces.proofs.StructuredDataLemmas.Walk.{rfc3164_list_det, begins_no_list, no_full_nil}
 pub use Rattle.syslog_pieces.proofs.StructuredDataLemmas.Walk.{no_full_start, no_full_opening, full_shorter}
 pub use Rattle.syslog_pieces.proofs.StructuredDataLemmas.Walk.{visits_none, no_list_is}
-pub use Rattle.syslog_pieces.proofs.TextLemmas.Canonical.{false_is, no_truth, last_is}
-pub use Rattle.syslog_pieces.proofs.TextLemmas.Words.{colon_ascii, host_det, tag_word_det, decimal_digits, number_back}
-pub use Rattle.syslog_pieces.proofs.TextLemmas.Words.{host_back, digits_visible, encodes-decimal, encodes_shown}
-pub use Rattle.syslog_pieces.proofs.TextLemmas.Words.{encodes_step, flat_map-map, dash_ascii}
+pub use Rattle.syslog_pieces.proofs.TextLemmas.Words.{false_is, no_truth, last_is, colon_ascii, host_det, tag_word_det}
+pub use Rattle.syslog_pieces.proofs.TextLemmas.Words.{decimal_digits, number_back, host_back, digits_visible}
+pub use Rattle.syslog_pieces.proofs.TextLemmas.Words.{encodes-decimal, encodes_shown, encodes_step, flat_map-map}
+pub use Rattle.syslog_pieces.proofs.TextLemmas.Words.{dash_ascii}
 pub use Rattle.syslog_pieces.proofs.PieceLemmas.Lists.{begins, part_joined, Quoted, row_quotes, silent, rest_quotes}
 pub use Rattle.syslog_pieces.proofs.PieceLemmas.Lists.{host_quotes, Begins, begins_apart, begins_more, begins_with}
 pub use Rattle.syslog_pieces.proofs.TimestampLemmas.Rfc3339.{printed_stamp-bytes, printed_stamp-characters}

@@ -5,7 +5,7 @@
 //! before it, so the last of them is written at once.
 ghost use Rattle.std.specs.Prelude.{◌≡◌, ◌+◌, ◌*◌, ◌++◌, ◌<◌, ◌≤◌, ◌∷◌};
 ghost use Rattle.syslog_loose.specs.Words.{ℕ, [], IfSome, MatchOption, None, OnOk};
-ghost use Rattle.syslog_loose.specs.Words.{Some, length, string_bytes, WritesOnOk, chars, encode_utf8_all, Text, shown};
+ghost use Rattle.syslog_loose.specs.Words.{Some, length, string_bytes, chars, encode_utf8_all, Text, shown};
 ghost use Rattle.syslog_loose.specs.Words.{list_elements, EndsInColon, IsCanonicalStamp, Dating};
 ghost use Rattle.std.specs.Prelude.{◌-◌};
 ghost use Rattle.syslog_loose.specs.Bodies.Jumps.{CutsColons, EndsColons, IsDashed, PassesDashes, colons};
@@ -16,21 +16,17 @@ ghost use Rattle.syslog_loose.specs.Passes.{EndsOnce, IsLater};
 ghost use Rattle.syslog_loose.specs.Reading.{IsRead};
 ghost use Rattle.syslog_loose.specs.declared.variant.Variant.{Variant};
 
-use crate::line::{Line, has_quiet_names, print_line, write_list};
-use crate::message::write_spaced;
+use crate::line::{Line, has_quiet_names, print_line};
 use std::alloc::AllocError;
-use std::fmt;
 use std::fmt::Write;
 use syslog_pieces::structured_data::ElementList;
 use syslog_pieces::text::{literal, some_blanks};
 use syslog_pieces::timestamp::canonical::is_canonical_clock;
 
-// What is passed or written at once of a long run, thirty-two bytes each.
+// What is cut or written at once of a long run, thirty-two bytes each.
 const COLONS: &str = "::::::::::::::::::::::::::::::::";
 
 const SPACED_COLONS: &str = " : : : : : : : : : : : : : : : :";
-
-const SPACED_DASHES: &str = "- - - - - - - - - - - - - - - - ";
 
 /// Writes a round of the line of RFC 3164: the next one, or the last of those that are known from it. None before it is
 /// settled.
@@ -146,12 +142,7 @@ fn write_past_colons(
     };
     print_line(text, &front)?;
     push_colons(text, cut - 1)?;
-    let tail = Tail {
-        list: line.list,
-        msg: line.msg,
-    };
-    write!(text, "{tail}")?;
-    Ok(())
+    push_tail(text, &line.list, line.msg)
 }
 
 // Appends so many times a space and a colon: by sixteen, then one by one.
@@ -174,36 +165,30 @@ fn push_runs(text: &mut String, run: &str, count: usize) -> Result<(), AllocErro
     Ok(())
 }
 
-// Writes what comes after the colon of the names: elements and the message part, each after a space.
-#[derive(Clone, Copy)]
-struct Tail<'a> {
-    list: ElementList<'a>,
-    msg: &'a str,
-}
-
-impl fmt::Display for Tail<'_> {
-    ghost output = { λ tail. Some (encode_utf8_all (tail_text (list_elements tail.list) (chars tail.msg.now))) };
-
-    fn fmt<W: fmt::Write>(&self, f: &mut fmt::Formatter<W>) -> fmt::Result {
-        if self.list.is_empty() {
-            return write_end(f, self.msg);
-        }
-        f.write_str(" ")?;
-        write_list(f, &self.list)?;
-        write_end(f, self.msg)
+// Appends what comes after the colon of the names: elements and the message part, each after a space.
+fn push_tail(text: &mut String, list: &ElementList<'_>, msg: &str) -> Result<(), AllocError>
+    ensures { OnOk result (string_bytes text.new ≡ string_bytes text.old
+        ++ encode_utf8_all (tail_text (list_elements list.now) (chars msg.now))) }
+{
+    if list.is_empty() {
+        return push_end(text, msg);
     }
+    write!(text, " {list}")?;
+    push_end(text, msg)
 }
 
-// Writes a space and the message part, where that is not empty.
+// Appends a space and the message part, or nothing where that is empty.
 #[tactic(auto, using(crate::proofs::SettlingLemmas::Jumps::ends_empty, crate::proofs::SettlingLemmas::Jumps::ends_some))]
-fn write_end<W: fmt::Write>(f: &mut fmt::Formatter<W>, msg: &str) -> fmt::Result
-    ensures { WritesOnOk W.write_str_gives f.old result (encode_utf8_all (message_end (chars msg.now))) f.new }
+fn push_end(text: &mut String, msg: &str) -> Result<(), AllocError>
+    ensures { OnOk result (string_bytes text.new ≡ string_bytes text.old
+        ++ encode_utf8_all (message_end (chars msg.now))) }
 {
     if msg.is_empty() {
-        Ok(())
-    } else {
-        write_spaced(f, msg)
+        return Ok(());
     }
+    text.push_str(" ")?;
+    text.push_str(msg)?;
+    Ok(())
 }
 
 // The message part without the dashes that the next readings take from it, one in each round, up to the last one that has
@@ -224,12 +209,12 @@ fn msg_past_dashes<'a>(line: &Line<'a>) -> &'a str
 }
 
 // The text from the last dash on of those that it begins with, each with blanks after it; the text itself where none
-// does. Dashes with a space after each are passed by sixteen, the others one by one.
+// does.
 fn last_dash(text: &str) -> &str
     ensures passes { (n : ℕ) × PassesDashes n (chars text.now) (shown result) }
     ensures last { (p q : Text) → IsDashed (shown result) p → IsDashed p q → ⊥ }
 {
-    let mut from = past_many_dashes(text);
+    let mut from = text;
     let Some(behind) = behind_dash(from) else {
         return from;
     };
@@ -237,20 +222,6 @@ fn last_dash(text: &str) -> &str
     'dashes: while let Some(next) = behind_dash(rest) {
         from = rest;
         rest = next;
-    }
-    from
-}
-
-// The text after sixteen dashes with a space each, again and again as long as a further dash follows.
-fn past_many_dashes(text: &str) -> &str
-    ensures { (n : ℕ) × PassesDashes n (chars text.now) (shown result) }
-{
-    let mut from = text;
-    'many: while let Some(rest) = from.strip_prefix(SPACED_DASHES) {
-        if behind_dash(rest).is_none() {
-            break 'many;
-        }
-        from = rest;
     }
     from
 }

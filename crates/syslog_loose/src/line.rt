@@ -7,7 +7,7 @@ mod printing;
 mod quirks;
 
 use crate::message::{Fields, Message, Protocol, are_canonical_fields};
-pub(crate) use printing::{print_line, write_list};
+pub(crate) use printing::print_line;
 pub(crate) use quirks::{has_no_quirk, has_quiet_names};
 use std::alloc::{AllocError, Global};
 use syslog_pieces::pri::{SyslogFacility, SyslogSeverity, parts};

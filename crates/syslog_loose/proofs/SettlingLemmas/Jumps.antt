@@ -9,12 +9,12 @@ use Rattle.syslog_loose.proofs.Names.{EndsColons, IsDashed, PassesDashes, with_m
 use Rattle.syslog_loose.proofs.Names.{priority_of, printed, Names3164, names, Resolves, rfc3164_row, IsRead3164}
 use Rattle.syslog_loose.proofs.Names.{body_row, IsNext, Reaches, Variant, facility_of, severity_of, row_cons, rows_join}
 use Rattle.syslog_loose.proofs.Names.{rest_front, front_division, optional_some, dash_rfc3164_list, EndsOnce, IsLater}
-use Rattle.syslog_loose.proofs.Names.{Prints, RFC3164, ◌+◌, ◌-◌, ◌≢◌, true, false, List, Option, append-nil}
-use Rattle.syslog_loose.proofs.Names.{nil_from_length, Bor, chars, encode_utf8_all, IsUtf8, chars_from_encodes}
-use Rattle.syslog_loose.proofs.Names.{encodes-append, encodes-chars, Ends, NoFront, exactly, some_run, shown, name_text}
-use Rattle.syslog_loose.proofs.Names.{CutsColons, tag_text, ElementValue, joined_elements, elements_text, MatchOption}
-use Rattle.syslog_loose.proofs.Names.{begins, front_same, run_det, zero-add, suc-add, add-zero, add-suc, encode_utf8}
-use Rattle.syslog_loose.proofs.Names.{append_cancel_right, Skips, is_some, chars_empty}
+use Rattle.syslog_loose.proofs.Names.{Prints, RFC3164, ◌+◌, ◌-◌, ◌≢◌, List, Option, append-nil, nil_from_length, Bor}
+use Rattle.syslog_loose.proofs.Names.{chars, encode_utf8_all, IsUtf8, chars_from_encodes, encodes-append, encodes-chars}
+use Rattle.syslog_loose.proofs.Names.{NoFront, exactly, some_run, shown, name_text, CutsColons, tag_text, ElementValue}
+use Rattle.syslog_loose.proofs.Names.{joined_elements, elements_text, MatchOption, begins, front_same, run_det}
+use Rattle.syslog_loose.proofs.Names.{zero-add, suc-add, add-zero, add-suc, encode_utf8, append_cancel_right, Skips}
+use Rattle.syslog_loose.proofs.Names.{chars_empty}
 use Rattle.syslog_loose.specs.Bodies.Jumps.{message_end}
 use Rattle.syslog_loose.proofs.PrintedLemmas.{priority_small}
 use Rattle.syslog_loose.proofs.Rfc3164Lemmas.{rfc3164_bounded, printed_3164_is, printed_apart, from_blanks, from_stamp}
@@ -28,7 +28,7 @@ use Rattle.syslog_loose.proofs.SettlingLemmas.Falls.{no_form_open}
 use Rattle.syslog_loose.proofs.SettlingLemmas.Weights.{dash_before, no_list_by}
 use Rattle.syslog_loose.proofs.SettlingLemmas.Settles.{reached_first, reached_next, no_protocol, as_rfc3164}
 use Rattle.syslog_loose.proofs.SettlingLemmas.Settles.{odd_unsettled}
-use Rattle.std.specs.Str.Pattern.{FindsTextPrefix, FindsTextSuffix, StripsPrefix, StripsSuffix}
+use Rattle.std.specs.Str.Pattern.{FindsTextSuffix, StripsSuffix}
 use Rattle.syslog_loose.specs.Printed.{printed_3164}
 use Rattle.syslog_loose.specs.declared.variant.Variant.TheVariants as variants
 
@@ -278,47 +278,6 @@ dash_told t q f (Some x) g =
     let b = begins 45 t q f in
     record { blanks = g.piece; whole = cc; some = g.is.0; each = g.is.1; no_more = g.is.2 }
 
--- n dashes, each with a space after it
-abbrev pub spaced_dashes : ℕ → Text
-spaced_dashes zero = []
-spaced_dashes (suc n) = 45 ∷ 32 ∷ spaced_dashes n
-
-dashes_more : (n : ℕ) (t : Text) → spaced_dashes (suc n) ++ t ≡ spaced_dashes n ++ (45 ∷ 32 ∷ t)
-dashes_more zero t = refl
-dashes_more (suc n) t = ap (λ (x : Text). 45 ∷ 32 ∷ x) (dashes_more n t)
-
-one_dashed : (t next : Text) → IsDashed t next → IsDashed (45 ∷ 32 ∷ t) t
-one_dashed t next d = record {
-  blanks = 32 ∷ [];
-  whole = refl;
-  some = omega arith;
-  each = (refl, tt);
-  no_more = subst (Ends is_blank) (sym d.whole) refl;
-}
-
-pub passes_spaced : (n : ℕ) (t next : Text) → IsDashed t next → PassesDashes n (spaced_dashes n ++ t) t
-passes_spaced zero t next d = refl
-passes_spaced (suc n) t next d =
-    let one = one_dashed t next d in
-    (45 ∷ 32 ∷ t, rw (dashes_more n t) (passes_spaced n (45 ∷ 32 ∷ t) t one), one, next, d)
-
-pub passes_both : (m n : ℕ) (a b t : Text) → PassesDashes m a b → PassesDashes n b t → (k : ℕ) × PassesDashes k a t
-passes_both m zero a b t p q = (m, subst (λ (x : Text). PassesDashes m a x) (sym q) p)
-passes_both m (suc n) a b t p (before, q, d, next, f) =
-    let (k, r) = passes_both m n a b before p q in (suc k, (before, r, d, next, f))
-
-dashes_alone : (n : ℕ) → encode_utf8_all (spaced_dashes n) ≡ spaced_dashes n
-unfolding encode_utf8
-dashes_alone zero = refl
-dashes_alone (suc n) = ap (λ (x : Text). 45 ∷ 32 ∷ x) (dashes_alone n)
-
--- what `strip_prefix` of dashes gives
-pub dashes_front : (bytes rest : List ℕ) (n : ℕ) → IsUtf8 bytes → IsUtf8 rest
-    → StripsPrefix (FindsTextPrefix (spaced_dashes n)) bytes rest → chars bytes ≡ spaced_dashes n ++ chars rest
-dashes_front bytes rest n u v (k, (long, whole, cut), behind_is, fits) =
-    sym (chars_from_encodes (spaced_dashes n ++ chars rest) bytes u
-    (rw (encodes-append, dashes_alone n, encodes-chars rest v, behind_is) (sym whole)))
-
 -- ---- the end of a line
 some_end : (t : Text) (bytes : List ℕ) → encode_utf8_all t ≡ bytes → 0 < length bytes
     → encode_utf8_all (message_end t) ≡ 32 ∷ bytes
@@ -326,25 +285,21 @@ unfolding message_end encode_utf8
 some_end [] bytes e l = absurd (let k = ap length e in omega (arith, k, l))
 some_end (c ∷ cs) bytes e l = ap (λ (x : List ℕ). 32 ∷ x) e
 
-pub ends_empty : (bytes : List ℕ) → length bytes ≡ 0 → encode_utf8_all (message_end (chars bytes)) ≡ []
+pub ends_empty : (old bytes : List ℕ) → length bytes ≡ 0 → old ≡ old ++ encode_utf8_all (message_end (chars bytes))
 unfolding message_end
-ends_empty bytes l = rw (nil_from_length (chars bytes) (chars_empty bytes l)) refl
+ends_empty old bytes l = rw (nil_from_length (chars bytes) (chars_empty bytes l), append-nil) refl
 
-pub ends_some : (bytes : List ℕ) → IsUtf8 bytes → 0 < length bytes
-    → encode_utf8_all (message_end (chars bytes)) ≡ 32 ∷ bytes
-ends_some bytes u l = some_end (chars bytes) bytes (encodes-chars bytes u) l
+pub ends_some : (old bytes : List ℕ) → IsUtf8 bytes → 0 < length bytes
+    → (old ++ (32 ∷ [])) ++ bytes ≡ old ++ encode_utf8_all (message_end (chars bytes))
+ends_some old bytes u l = rw (some_end (chars bytes) bytes (encodes-chars bytes u) l) (append_assoc old (32 ∷ []) bytes)
 
 -- ---- a tail of elements and a message part
-pub some_long : {A : Type 0} (xs : List A) → (xs ≡ [] → ⊥) → 0 < length xs
-some_long [] n = absurd (n refl)
-some_long (x ∷ xs) n = omega arith
-
-pub tail_elements : (es : List ElementValue) (msg : Text) → 0 < length es → (32 ∷ encode_utf8_all (elements_text es))
-    ++ encode_utf8_all (message_end msg) ≡ encode_utf8_all (tail_text es msg)
+pub tail_pushed : (old mid new : List ℕ) (es : List ElementValue) (msg : Text) → (es ≡ [] → ⊥)
+    → mid ≡ old ++ (32 ∷ encode_utf8_all (elements_text es)) → new ≡ mid ++ encode_utf8_all (message_end msg)
+    → new ≡ old ++ encode_utf8_all (tail_text es msg)
 unfolding encode_utf8
-tail_elements [] msg l = absurd (omega (arith, l))
-tail_elements (e ∷ es) msg l =
-    ap (λ (x : List ℕ). 32 ∷ x) (sym (encodes-append (joined_elements (e ∷ es)) (message_end msg)))
+tail_pushed old mid new [] msg n e f = absurd (n refl)
+tail_pushed old mid new (x ∷ es) msg n e f = rw (f, e, encodes-append (joined_elements (x ∷ es)) (message_end msg), append_assoc) refl
 
 -- ---- colons
 colons_both : (m n : ℕ) → colons_before (m + n) [] ≡ colons_before m [] ++ colons_before n []
@@ -400,11 +355,6 @@ cut_twice name host shorter c zero k l =
     (λ p. subst EndsInColon (l.whole ∙ append-nil (chars shorter)) (k.keeps (omega (arith, p))))
 cut_twice name host shorter c (suc n) k l = cut_on name host shorter c (suc n) k l.whole (λ p. l.keeps (omega arith))
 
-pub some_next : (t : Text) (A : Type 0) (r : Option (Bor (List ℕ))) → is_some r ≡ true
-    → MatchOption r A (λ x. IsDashed t (shown x)) → (next : Text) × IsDashed t next
-some_next t A None h m = absurd (let u : false ≡ true = h in cc)
-some_next t A (Some x) h m = (shown x, m)
-
 -- a text that ends in no colon, or in just one
 pub ends_once : (bs : List ℕ) → IsUtf8 bs → ((front : List ℕ) → bs ≢ front ++ colon) → EndsOnce (chars bs)
 ends_once bs u n front e ends = no_colon_end bs u n (front, e)
@@ -446,13 +396,13 @@ front_more : (m : MessageValue) (t : Text) → printed_3164 (with_msg m (m.msg +
 unfolding printed_3164
 front_more m t = simp append_assoc refl
 
-pub past_written : (m front : MessageValue) (h : Text) (n : ℕ) (bytes : List ℕ)
-    → bytes ≡ (encode_utf8_all (printed_3164 front) ++ colons_before n [])
-    ++ encode_utf8_all (tail_text m.structured_data m.msg) → priority_of front ≡ priority_of m
+pub past_written : (m front : MessageValue) (h : Text) (n : ℕ) (start mid bytes : List ℕ)
+    → start ≡ encode_utf8_all (printed_3164 front) → mid ≡ start ++ colons_before n [] → priority_of front ≡ priority_of m
     → front.timestamp ≡ m.timestamp → name_text front.hostname ≡ h
     → tag_text front.appname front.procid ≡ tag_text None None → front.structured_data ≡ [] → front.msg ≡ 58 ∷ []
+    → bytes ≡ mid ++ encode_utf8_all (tail_text m.structured_data m.msg)
     → bytes ≡ encode_utf8_all (printed_3164 (past_colons m h n))
-past_written m front h n bytes e p stamp host tag es msg =
+past_written m front h n start mid bytes first more p stamp host tag es msg e =
     let q : Text = colons_before n (tail_text m.structured_data m.msg) in
     let same : printed_3164 (past_colons m h n) ≡ printed_3164 (with_msg front (front.msg ++ q)) =
     printed_same (with_msg front (front.msg ++ q)) (past_colons m h n)
@@ -465,4 +415,4 @@ past_written m front h n bytes e p stamp host tag es msg =
       encodes-append,
       encodes-append,
       colons_encode n,
-    ) (rw append_assoc at e)
+    ) (rw (more, first, append_assoc) at e)

@@ -1,7 +1,7 @@
 //! Prints a line: the front from one array of ASCII, and the rest copied where it is already in printed form.
 //!
 //! The rest of other lines is printed field by field. No message is made of a line that is printed.
-ghost use Rattle.std.specs.Prelude.{◌≡◌, ◌<◌, ◌++◌};
+ghost use Rattle.std.specs.Prelude.{◌≡◌, ◌++◌};
 ghost use Rattle.syslog_loose.specs.Words.{OnOk, Some, string_bytes, WritesOnOk, encode_utf8_all};
 ghost use Rattle.syslog_loose.specs.Words.{list_elements};
 ghost use Rattle.syslog_pieces.specs.Front.{ascii_bytes, front_text};
@@ -91,12 +91,9 @@ fn write_list_before<W: fmt::Write>(
     f.write_str(" ")
 }
 
-/// Writes the elements as they print, or `-` where there are none.
+// Writes the elements as they print, or `-` where there are none.
 #[inline(always)]
-pub(crate) fn write_list<W: fmt::Write>(
-    f: &mut fmt::Formatter<W>,
-    list: &ElementList<'_>,
-) -> fmt::Result
+fn write_list<W: fmt::Write>(f: &mut fmt::Formatter<W>, list: &ElementList<'_>) -> fmt::Result
     ensures { WritesOnOk W.write_str_gives f.old result
         (encode_utf8_all (elements_text (list_elements list.now))) f.new }
 {

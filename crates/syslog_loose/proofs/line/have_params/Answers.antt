@@ -1,5 +1,4 @@
-use Rattle.syslog_loose.proofs.Names.{◌∙◌, ap, arith, refl, subst, sym, elements_left}
-use Rattle.syslog_pieces.proofs.PieceLemmas.Tests.{false_is}
+use Rattle.syslog_loose.proofs.Names.{◌∙◌, ap, arith, refl, subst, sym, elements_left, false_is}
 use Rattle.syslog_loose.proofs.line.have_params.Invariants.{HaveParams}
 use Rattle.syslog_loose.proofs.line.have_params.Goals as goal
 
