@@ -4,36 +4,19 @@ use Rattle.syslog_loose.specs.Words.{ℕ, Option, Some, MatchOption, Bor, List, 
 use Rattle.syslog_loose.specs.Words.{NoFront, Row, Values, seen, shown, named_process, stamp_seen}
 use Rattle.syslog_pieces.specs.ProcId.{process_text}
 use Rattle.syslog_pieces.specs.Text.{name_text}
-use Rattle.syslog_loose.specs.Bodies.Rows.{header_row}
+use Rattle.syslog_loose.specs.Bodies.Rows.{header_row, names_row}
 use Rattle.syslog_loose.specs.declared.line.Line.{Line}
+
+-- the meanings of the names and of the blanks between them
+abbrev names_values : Line → Values names_row
+names_values line = (
+  seen line.hostname,
+  (tt, (seen line.appname, (tt, (option_map named_process (seen line.process), (tt, (seen line.msgid, tt)))))),
+)
 
 -- the meanings of the pieces of a header, of this version
 abbrev pub header_values : Line → ℕ → Values header_row
-header_values line version = (
-  line.priority,
-  (
-    version,
-    (
-      tt,
-      (
-        stamp_seen line.timestamp,
-        (
-          tt,
-          (
-            seen line.hostname,
-            (
-              tt,
-              (
-                seen line.appname,
-                (tt, (option_map named_process (seen line.process), (tt, (seen line.msgid, tt)))),
-              ),
-            ),
-          ),
-        ),
-      ),
-    ),
-  ),
-)
+header_values line version = (line.priority, (version, (tt, (stamp_seen line.timestamp, (tt, names_values line)))))
 
 -- the header at the front of the text, or nothing where there is none
 abbrev pub ReadsHeader : Text → Option (Line × Bor (List ℕ)) → Type 0

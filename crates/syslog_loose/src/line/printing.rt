@@ -108,33 +108,20 @@ pub(crate) fn print_line(text: &mut String, line: &Line<'_>) -> Result<(), Alloc
 {
     text.clear();
     text.reserve(line.rest.len().saturating_add(MORE_PRINTED))?;
+    if !line.is_printed {
+        return push_line(text, line);
+    }
     let front = front_of(line);
     text.push_str(front.as_str())?;
-    if line.is_printed {
-        return text.push_str(line.rest);
-    }
-    push_rest(text, line)
+    text.push_str(line.rest)
 }
 
-// All after the timestamp of a line, printed field by field.
-#[derive(Clone, Copy)]
-struct Rest<'a, 'b>(&'b Line<'a>);
-
-impl fmt::Display for Rest<'_, '_> {
-    ghost output = { λ rest. Some (encode_utf8_all (rest_text (line_value rest.0.now))) };
-
-    fn fmt<W: fmt::Write>(&self, f: &mut fmt::Formatter<W>) -> fmt::Result {
-        write_rest(f, self.0)
-    }
-}
-
-// Appends all after the timestamp, field by field.
+// Appends the line, field by field.
 #[inline(never)]
-fn push_rest(text: &mut String, line: &Line<'_>) -> Result<(), AllocError>
+fn push_line(text: &mut String, line: &Line<'_>) -> Result<(), AllocError>
     ensures { OnOk result
-        (string_bytes text.new ≡ string_bytes text.old ++ encode_utf8_all (rest_text (line_value line.now))) }
+        (string_bytes text.new ≡ string_bytes text.old ++ encode_utf8_all (printed (line_value line.now))) }
 {
-    let rest = Rest(line);
-    write!(text, "{rest}")?;
+    write!(text, "{line}")?;
     Ok(())
 }

@@ -1,13 +1,13 @@
 use Rattle.syslog_loose.proofs.Names.{◌≡◌, ◌++◌, ◌∙◌, [], ℕ, List, Result, Ok, Err, string_bytes, sym, ap, on_ok_weaker}
-use Rattle.syslog_loose.proofs.Names.{encodes-chars, encode_utf8_all, line_value, rest_text, printed, OnOk}
+use Rattle.syslog_loose.proofs.Names.{encodes-chars, encode_utf8_all, line_value, printed, OnOk, refl}
 use Rattle.std.specs.Bool.{if◌then◌else◌}
 use Rattle.std.specs.Result.{is_ok}
 use Rattle.syslog_loose.proofs.PrintedLemmas.{printed_line}
 use Rattle.syslog_loose.proofs.line.printing.print_line.Goals as goal
 
 -- a text that was empty
-started : (text before piece front : List ℕ) → text ≡ before ++ piece → before ≡ [] → piece ≡ front → text ≡ front
-started text before piece front e h k = e ∙ ap (λ (x : List ℕ). x ++ piece) h ∙ k
+started : (text before piece front : List ℕ) → before ≡ [] → piece ≡ front → text ≡ before ++ piece → text ≡ front
+started text before piece front h k e = e ∙ ap (λ (x : List ℕ). x ++ piece) h ∙ k
 
 both : (a b x y : List ℕ) → a ≡ b → x ≡ y → a ++ x ≡ b ++ y
 both a b x y e f = cc
@@ -18,23 +18,18 @@ pushed : {T E : Type 0} (r : Result T E) (new old piece all : List ℕ)
 pushed (Ok x) new old piece all e h = e ∙ h
 pushed (Err x) new old piece all e h = tt
 
-pub returns-then-line : goal.returns-then-line
-returns-then-line c =
-    let line = c.args.line.now in
-    let front = started _ _ _ _ c.in_ok-push_str.ensures.bytes (c.in_ok-reserve.ensures.bytes ∙ c.clear.ensures.bytes)
-    (c.as_str.ensures ∙ c.front_of-front.ensures) in
-    let rest = sym (encodes-chars line.rest.now c.requires.utf8)
-    ∙ ap encode_utf8_all (c.requires.prints c.if-line.true) in
-    pushed c.push_str-then-line.result (string_bytes c.push_str-then-line.new.self) (string_bytes c.push_str.new.self)
-    line.rest.now (encode_utf8_all (printed (line_value line))) c.push_str-then-line.ensures.bytes
-    (both _ _ _ _ front rest ∙ printed_line line)
+pub returns-then-not-line : goal.returns-then-not-line
+returns-then-not-line c =
+    on_ok_weaker c.push_line.result (started _ _ _ _ (c.in_ok-reserve.ensures.bytes ∙ c.clear.ensures.bytes) refl)
+    c.push_line.ensures
 
 pub returns : goal.returns
 returns c =
     let line = c.args.line.now in
-    let front = started _ _ _ _ c.in_ok-push_str.ensures.bytes (c.in_ok-reserve.ensures.bytes ∙ c.clear.ensures.bytes)
-    (c.as_str.ensures ∙ c.front_of-front.ensures) in
-    on_ok_weaker c.push_rest.result (λ (e : string_bytes c.push_rest.new.text
-    ≡ string_bytes c.push_str.new.self ++ encode_utf8_all (rest_text (line_value line))).
-    e ∙ ap (λ (x : List ℕ). x ++ encode_utf8_all (rest_text (line_value line))) front ∙ printed_line line)
-    c.push_rest.ensures
+    let front = started _ _ _ _ (c.in_ok-reserve.ensures.bytes ∙ c.clear.ensures.bytes)
+    (c.as_str.ensures ∙ c.front_of-front.ensures) c.in_ok-push_str.ensures.bytes in
+    let rest = sym (encodes-chars line.rest.now c.requires.utf8)
+    ∙ ap encode_utf8_all (c.requires.prints c.if-not-line.false) in
+    pushed c.push_str-2.result (string_bytes c.push_str-2.new.self) (string_bytes c.push_str.new.self)
+    line.rest.now (encode_utf8_all (printed (line_value line))) c.push_str-2.ensures.bytes
+    (both _ _ _ _ front rest ∙ printed_line line)
