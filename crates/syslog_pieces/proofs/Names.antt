@@ -6,14 +6,14 @@ pub use Rattle.std.proofs.Common.{ℕ, Option, nat_eq, length, get_or, Result, I
 pub use Rattle.std.proofs.Common.{List, ◌++◌, subst, false, arith, rules, negsuc, neg_ℤ, sum_by, int_lt, SFits, bit_or}
 pub use Rattle.std.proofs.Common.{[], append_assoc, string_bytes, MatchOption, length-drop, if◌then◌else◌, unsigned_abs}
 pub use Rattle.std.proofs.Common.{Some, None, refl, Bool, true, cond, take, zero, ◌&&◌, IfOk, Fits, drop, ℤ, ◌+ℤ◌, ◌-ℤ◌}
-pub use Rattle.std.proofs.Common.{ap, ◌≤◌, ◌<◌, suc, Ok, Err, pos, w32, ◌%◌, ◌^◌, min, w64, ◌*◌, ◌/◌, leb, ltb, eqb, w8}
+pub use Rattle.std.proofs.Common.{ap, ◌≤◌, ◌<◌, suc, Ok, Err, pos, w32, ◌%◌, ◌^◌, min, w64, ◌*◌, ◌/◌, eqb, w8}
 pub use Rattle.std.proofs.Math.Seq.{drop-append_seam, take-append_seam}
 pub use Rattle.std.proofs.lemmas.Bool.{and_parts, and_from, agree_below, agree_below_at, and_left, cases_Bool, cases_eq}
 pub use Rattle.std.proofs.lemmas.Bool.{cases_lt, eqb-true, lt-ltb, ltb-true, ne_eqb, not-false, not-true}
 pub use Rattle.std.proofs.lemmas.Bool.Decides.{eqb_tells, nat_tests}
 pub use Rattle.std.proofs.lemmas.Fmt.{decimal-digits_value, decimal_digit, decimal_nonempty, digits_value-decimal}
 pub use Rattle.std.proofs.lemmas.List.{length-append, append_cancel_right, nil_from_length, take_all, length-map}
-pub use Rattle.std.proofs.lemmas.List.{map-append, drop-map, drop_all, map-id, take-append-drop, take_more, at_drop_all}
+pub use Rattle.std.proofs.lemmas.List.{map-append, drop-map, drop_all, take-append-drop, take_more, at_drop_all}
 pub use Rattle.std.proofs.lemmas.List.{take-map, drop_more, get_or_append_left, same_from_push}
 pub use Rattle.std.proofs.lemmas.List.Concat.{flat_map-append}
 pub use Rattle.std.proofs.lemmas.Result.{IfOk-weaker}

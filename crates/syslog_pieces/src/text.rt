@@ -20,6 +20,7 @@ pub mod verbatim;
 pub mod write_ascii;
 
 pub use fields::{host_field, tag_field};
+use lanes::visible_front;
 use looks::{begins_visibly, begins_with, begins_with_digit, begins_with_gap, ends_in_colon};
 pub(crate) use numerals::few_digits;
 use numerals::{number_of_digits, small_digits};
@@ -102,12 +103,18 @@ pub fn run_end(text: &str, class: CharClass) -> usize
     }
 }
 
-// The place after a run that reaches a character past ASCII: its characters are looked at one by one.
+// The place after a run that reaches a character past ASCII. Most visible ones are passed by their bytes, and all others
+// are looked at one by one.
 #[cold]
 #[inline(never)]
 fn mixed_run_end(text: &str, class: CharClass) -> usize
     ensures { EndsRun (has class) text.now result }
 {
+    if let CharClass::Visible = class {
+        if let Some(end) = visible_front(text.as_bytes()) {
+            return end;
+        }
+    }
     match text.find(|c: char| !class.has(c)) {
         Some(end) => end,
         None => text.len(),

@@ -1,6 +1,6 @@
 -- From the bytes of a text to its characters: cuts, runs, and what the first bytes say.
 use Rattle.syslog_pieces.proofs.Names.{◌≡◌, IsAscii, add-one, NoFront, run_same, each_map, is_blank, not-true, and_from}
-use Rattle.syslog_pieces.proofs.Names.{◌≢◌, false, arith, chars, Option, IsHost, nat_lt, lt-ltb, number, map-id, IsBare}
+use Rattle.syslog_pieces.proofs.Names.{◌≢◌, false, arith, chars, Option, IsHost, nat_lt, lt-ltb, number, IsBare}
 use Rattle.syslog_pieces.proofs.Names.{ℕ, IsAscii-nil, IsAscii-cons, IsUtf8-take, length-drop, IsUtf8-drop, length-take}
 use Rattle.syslog_pieces.proofs.Names.{◌<◌, Bool, true, List, ◌++◌, Text, Each, Ends, Front, Names, Class, IsRun, subst}
 use Rattle.syslog_pieces.proofs.Names.{nat_eq, chars-append, encodes-chars, chars-IsAscii, length-append, is_whitespace}
@@ -12,10 +12,13 @@ use Rattle.syslog_pieces.proofs.Names.{IsUtf8-from_ascii, IsCharBoundary-at_seam
 use Rattle.syslog_pieces.proofs.Names.{encodes-IsAscii, drop-append_seam, take-append_seam, take-append-drop}
 use Rattle.syslog_pieces.proofs.Names.{is_ascii_digit, encode_utf8_all, encodes-append, IsCharBoundary, agree_below_at}
 use Rattle.syslog_pieces.proofs.Names.{name_text, cases_Bool, and_parts, SplitsRun, CharClass, agree_below, length-map}
-use Rattle.syslog_pieces.proofs.Names.{get_or-drop, leb, ltb, eqb, replicate, w8, bit_or, ◌||◌, byte_from_char}
+use Rattle.syslog_pieces.proofs.Names.{get_or-drop, eqb, replicate, w8, bit_or, ◌||◌, byte_from_char}
 use Rattle.syslog_pieces.proofs.Names.{char_from_byte, IsCharBoundary-start, chars-encodes, scalars-chars, drop_more}
 use Rattle.syslog_pieces.proofs.Names.{get_or_append_left, beq, BeginsVisibly, BeginsWithGap, EndsDigits}
+use Rattle.syslog_pieces.proofs.Names.{is_not_whitespace, length-le-encodes, ◌/◌}
 use Rattle.std.proofs.Common.{get_or-take}
+use Rattle.std.proofs.lemmas.List.{get_or-append-add}
+use Rattle.std.proofs.lemmas.Str.{IsCharBoundary-before_ascii}
 use Rattle.std.proofs.lemmas.Slice.Eq.{bytes_eq-Decides}
 use Rattle.std.proofs.lemmas.Bool.{le-ltb, not_from_true}
 use Rattle.std.specs.Int.RustNames.{bit_xor}
@@ -24,8 +27,8 @@ use Rattle.std.proofs.lemmas.Simd.{mask_l-mod, length-chunk, zip2_of_maps, zip2_
 use Rattle.std.specs.Str.{all_scalars, trim, trim_start, trim_end, skip_leading_whitespace, drop_trailing_whitespace}
 use mir.Val.{bool_byte}
 use lib.Lanes.{chunk, zip2, mask_l, top}
-use lib.Utf8.{scalar}
-use Rattle.syslog_pieces.specs.Bodies.Scan.{first_set}
+use lib.Utf8.{scalar, encode}
+use Rattle.syslog_pieces.specs.Bodies.Scan.{first_set, visible_byte}
 pub use Rattle.std.proofs.lemmas.Bool.{not-true as from_not_true}
 
 -- ---- texts and their bytes
@@ -235,6 +238,41 @@ module _ (class : CharClass) where
       ends_run (has class) bs n u cut (each_map (byte_in class) (has class) (λ c a. (byte_parts c a).1) _ s.each)
       (ends_both (chars (drop n bs)) s.ends (ends_at_cut bs n s.back_utf8 low))
 
+-- ---- a run of bytes of visible characters
+
+-- no white space is from 192 to 4095, or from 16384 on: b is the first byte of the character c
+visible_lead : (c b : ℕ) → visible_byte b ≡ true → (c < 128 → b ≡ c) → (128 ≤ c → c < 2048 → b ≡ 192 + c / 64)
+    → (2048 ≤ c → c < 65536 → b ≡ 224 + c / 4096) → is_not_whitespace c ≡ true
+visible_lead c b h one two three = grind (arith, nat_tests)
+
+visible_char : (c : ℕ) (more : List ℕ) → visible_byte (get_or (encode c ++ more) 0 0) ≡ true
+    → is_not_whitespace c ≡ true
+unfolding encode
+visible_char c more h = visible_lead c (get_or (encode c ++ more) 0 0) h (λ l. rw (lt-ltb c 128 l) refl)
+    (λ l m. rw (le-ltb c 128 l, lt-ltb c 2048 m) refl)
+    (λ l m. rw (le-ltb c 128 (omega arith), le-ltb c 2048 l, lt-ltb c 65536 m) refl)
+
+each_visible : (cs : Text) → ((k : ℕ) → k < length (encode_utf8_all cs)
+    → visible_byte (get_or (encode_utf8_all cs) k 0) ≡ true) → Each is_not_whitespace cs
+each_visible [] h = tt
+each_visible (c ∷ cs) h = (
+  visible_char c (encode_utf8_all cs) (h 0 (omega (arith, length-le-encodes (c ∷ cs)))),
+  each_visible cs (λ k l. rw get_or-append-add at (h (length (encode c) + k)
+      (omega (arith, l, length-append (encode c) (encode_utf8_all cs))))),
+)
+
+-- before an ASCII byte it is the run of those characters
+pub visible_run : (bs : List ℕ) (n : ℕ) → IsUtf8 bs → IsRun visible_byte bs n → n < length bs → get_or bs n 0 < 128
+    → EndsRun is_not_whitespace bs n
+visible_run bs n u r short low =
+    let cut = IsCharBoundary-before_ascii bs n short low in
+    let white = sym (agree_below_at visible_byte is_not_whitespace 128 _ refl low) ∙ r.stops short in
+    ends_run is_not_whitespace bs n u cut
+    (each_visible _ (rw (encodes-chars (take n bs) (IsUtf8-take bs n u cut)) (λ k l.
+    let less : k < n = omega (arith, l, length-take n bs) in rw get_or-take (r.pass k less))))
+    (ends_by_byte is_not_whitespace (drop n bs) (IsUtf8-drop bs n u cut) (λ l c byte char.
+    rw (char (rw (first_left n bs) low) ∙ first_left n bs) white))
+
 -- ---- the front of a run
 
 -- no piece of such characters is at the front of a text that begins with none
@@ -385,18 +423,11 @@ module _ {v : List ℕ} where
   pub splat : (n : ℕ) → IsLanes v (replicate 16 n) (λ _. n)
   splat n = record { same = splat_is_map v 16 n }
 
-  -- bytes past ASCII
-  pub past : IsLanes v (zip2 (λ a b. cond (leb a b) 255 0) (replicate 16 128) v) (λ x. cond (leb 128 x) 255 0)
-  past = joined (λ a b. cond (leb a b) 255 0) (splat 128) (record { same = λ long. sym (map-id v) })
-
 -- a lane of the kernel of a set stops where the set lacks it, from the answers of the comparisons
-pub mask_tests : (r a b c l p d : Bool) → p ≡ not d → top 7 (bit_or (bit_xor (bit_or (cond r 255 0)
+pub mask_tests : (r a b c l p : Bool) → top 7 (bit_or (bit_xor (bit_or (cond r 255 0)
     (bit_or (bit_or (cond a 255 0) (cond b 255 0)) (cond c 255 0))) (cond (not (eqb (bool_byte l) 0)) 255 0))
-    (cond p 255 0)) ≡ not (d && beq (r || a || b || c) l)
-mask_tests r a b c l p d e = grind arith
-
-pub past_ascii : (x : ℕ) → leb 128 x ≡ not (ltb x 128)
-past_ascii x = grind (arith, nat_tests)
+    (cond p 255 0)) ≡ not (not p && beq (r || a || b || c) l)
+mask_tests r a b c l p = grind arith
 
 -- a lane stops just where q fails
 pub run_in : {q : ℕ → Bool} {d : List ℕ} {i r : ℕ} {z : List ℕ} {f : ℕ → ℕ} → i + 16 ≤ length d

@@ -34,13 +34,17 @@ abbrev pub lists : ByteSet → ℕ → Bool
 lists set b = nat_lt ((b + (256 - set.0)) % 256) set.1
     || nat_eq b (slice_index set.2 0) || nat_eq b (slice_index set.2 1) || nat_eq b (slice_index set.2 2)
 
--- an ASCII byte that is listed, or one that is not
-abbrev pub in_set : ByteSet → ℕ → Bool
-in_set set b = nat_lt b 128 && beq (lists set b) set.3
+-- a byte that is listed, or one that is not, but none of the range from the lowest on
+abbrev pub in_set : ByteSet → ℕ → ℕ → ℕ → Bool
+in_set set lowest width b = not (nat_lt ((b + (256 - lowest)) % 256) width) && beq (lists set b) set.3
 
 -- the set is the class
 abbrev pub lists_class : ByteSet → CharClass → Bool
-lists_class set class = agree_below (in_set set) (byte_in class) 256
+lists_class set class = agree_below (in_set set 128 128) (byte_in class) 256
+
+-- any byte but ASCII white space and those with which other white space begins: 194, and 225 to 227
+abbrev pub visible_byte : ℕ → Bool
+visible_byte = in_set (record { 0 = 9; 1 = 5; 2 = 32 ∷ 194 ∷ 194 ∷ []; 3 = false }) 225 3
 
 -- a character past ASCII of the class
 abbrev pub past_in : CharClass → ℕ → Bool

@@ -2,8 +2,8 @@
 //!
 //! It compares sixteen bytes at once, and returns the place of the first that stops the run. There is one for all
 //! classes: it is inlined where the class is known, so that only the comparisons of that class are left.
-ghost use Rattle.std.specs.Prelude.{◌≡◌, ◌+◌, ◌≤◌, IsTrue, length};
-ghost use Rattle.syslog_pieces.specs.Bodies.Scan.{IsRunIn, byte_in, first_set, in_set, lists_class};
+ghost use Rattle.std.specs.Prelude.{◌≡◌, ◌+◌, ◌≤◌, ◌<◌, IfSome, IsTrue, length, slice_index};
+ghost use Rattle.syslog_pieces.specs.Bodies.Scan.{IsRun, IsRunIn, byte_in, first_set, in_set, lists_class, visible_byte};
 
 use crate::text::CharClass;
 use std::simd::prelude::*;
@@ -11,7 +11,7 @@ use std::simd::prelude::*;
 /// How many bytes the kernel looks at.
 pub(crate) const LANES: usize = 16;
 
-/// A range of bytes (the first, and how many) and three more; and whether those are the set, or all other ASCII bytes.
+/// A range of bytes (the first, and how many) and three more; and whether those are the set, or all others.
 #[derive(Clone, Copy)]
 struct ByteSet(u8, u8, [u8; 3], bool);
 
@@ -48,17 +48,18 @@ fn first_set(mask: u64) -> usize
     }
 }
 
-// The kernel of a set.
+// The kernel of a set, without a range of bytes: the first, and how many.
 #[inline(always)]
-fn set_run(bytes: &[u8], at: usize, set: ByteSet) -> usize
+fn set_run(bytes: &[u8], at: usize, set: ByteSet, lowest: u8, width: u8) -> usize
     requires { at + LANES ≤ length bytes.now }
-    ensures { IsRunIn (in_set set) bytes.now at result }
+    ensures { IsRunIn (in_set set lowest width) bytes.now at result }
 {
     let ByteSet(first, count, [a, b, c], is_listed) = set;
     let v = u8x16::from_slice(&bytes[at..]);
     let range = (v - u8x16::splat(first)).simd_lt(u8x16::splat(count));
     let more = v.simd_eq(u8x16::splat(a)) | v.simd_eq(u8x16::splat(b)) | v.simd_eq(u8x16::splat(c));
-    let stops = (range | more) ^ mask8x16::splat(is_listed) | v.simd_ge(u8x16::splat(0x80));
+    let barred = (v - u8x16::splat(lowest)).simd_lt(u8x16::splat(width));
+    let stops = (range | more) ^ mask8x16::splat(is_listed) | barred;
     first_set(stops.to_bitmask())
 }
 
@@ -68,5 +69,23 @@ pub(crate) fn class_run(bytes: &[u8], at: usize, class: CharClass) -> usize
     requires { at + LANES ≤ length bytes.now }
     ensures { IsRunIn (byte_in class) bytes.now at result }
 {
-    set_run(bytes, at, bytes_of(class))
+    set_run(bytes, at, bytes_of(class), 0x80, 0x80)
+}
+
+/// How many bytes at the front are of visible characters, if ASCII white space ends them, and none of them is C2 or E1 to
+/// E3, with which other white space begins. Near the end of the bytes it doesn't look.
+pub(crate) fn visible_front(bytes: &[u8]) -> Option<usize>
+    ensures { IfSome result (λ n. IsRun visible_byte bytes.now n × (n < length bytes.now)
+        × (slice_index bytes.now n < 128)) }
+{
+    let set = ByteSet(9, 5, [b' ', 0xc2, 0xc2], false);
+    let mut end = 0;
+    'blocks: while bytes.len() - end >= LANES {
+        let run = set_run(bytes, end, set, 0xe1, 3);
+        end += run;
+        if run < LANES {
+            return if bytes[end] < 128 { Some(end) } else { None };
+        }
+    }
+    None
 }

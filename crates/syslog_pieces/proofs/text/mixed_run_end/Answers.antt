@@ -3,7 +3,7 @@ use Rattle.syslog_pieces.proofs.Names.{drop_all, not-true, not-false, IsUtf8-tak
 use Rattle.syslog_pieces.proofs.Names.{chars-nil, chars, IsUtf8, NoCharPasses, NonePass, has, Each}
 use Rattle.std.proofs.lemmas.Fn.{always_returns_same}
 use Rattle.std.proofs.lemmas.Str.{IsCharBoundary-end, chars_from_encodes}
-use Rattle.syslog_pieces.proofs.TextLemmas.Runs.{ends_run}
+use Rattle.syslog_pieces.proofs.TextLemmas.Runs.{ends_run, visible_run}
 use Rattle.syslog_pieces.proofs.text.mixed_run_end.Goals as goal
 
 each_from_none : (test : ℕ → Bool) (cs : List ℕ) → NonePass (λ c. not (test c)) cs → Each test cs
@@ -15,10 +15,15 @@ each_of_text test bs u (cs, e, n) = rw (← chars_from_encodes cs bs u e) (each_
 
 pub returns-in-Some : goal.returns-in-Some
 returns-in-Some c =
+    let (run, short, low) = rw c.as_bytes.ensures.value at c.in-Some.ensures in
+    rw c.in-Visible.is (visible_run _ _ c.utf8.text run short low)
+
+pub returns-in-Some-find : goal.returns-in-Some-find
+returns-in-Some-find c =
     let bs = c.args.text.now in
-    let i = c.in-Some.end in
+    let i = c.in-Some-find.end in
     let test : ℕ → Bool = has c.args.class in
-    let (j, find, le, cut, more) = c.in-Some.ensures.cases in
+    let (j, find, le, cut, more) = c.in-Some-find.ensures.cases in
     let (none, (x, pass, at)) = find (λ x. not (test x))
     (always_returns_same _ _ _ (λ a r f g. (search rules, search rules))) in
     ends_run test bs i c.utf8.text cut (each_of_text test (take i bs) (IsUtf8-take bs i c.utf8.text cut) none)
