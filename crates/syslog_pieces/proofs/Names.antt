@@ -57,7 +57,7 @@ pub use mathlib.Core.HLevel.{is_prop→PathP}
 pub use Rattle.syslog_pieces.specs.Bodies.Closing.{opening, quoted, start, id_alone, inside_row, opening_row, start_row}
 pub use Rattle.syslog_pieces.specs.Bodies.Closing.{quoted_row, inside, closing, byte_count, IsDead, last_char}
 pub use Rattle.syslog_pieces.specs.Bodies.Closing.{name_alone, tail_row}
-pub use Rattle.syslog_pieces.specs.Bodies.Scan.{SplitsRun, EndsRun, IsBare, IsRun, IsRunIn, bit_of, byte_in, past_in}
+pub use Rattle.syslog_pieces.specs.Bodies.Scan.{SplitsRun, EndsRun, IsBare, IsRun, IsRunIn, byte_in, past_in}
 pub use Rattle.syslog_pieces.specs.Bodies.Verbatim.{IsBareWord, bare_param_text}
 pub use Rattle.syslog_pieces.specs.Pieces.Class.{Text, Class, Values, Row, run, some_run, exactly, optional, Each, Ends}
 pub use Rattle.syslog_pieces.specs.Pieces.Class.{Front, NoFront, IsDeterministic, join, mapped, texted, Divides, after}
@@ -97,7 +97,7 @@ pub use Rattle.syslog_pieces.specs.Timestamp.Printed.{civil_fields, fraction_tex
 pub use Rattle.syslog_pieces.specs.Timestamp.Rfc3164.{rfc3164_stamp}
 pub use Rattle.syslog_pieces.specs.Timestamp.Rfc3339.{HasStamp, decimals, fraction, letter, numeric_row, offset}
 pub use Rattle.syslog_pieces.specs.Timestamp.Rfc3339.{seconds_of, sign, stamp_row, stamp_text, written_of, year}
-pub use Rattle.syslog_pieces.specs.Bodies.Looks.{is_dot, LeadsBare, BeginsVisibly, BeginsWithGap, EndsDigits}
+pub use Rattle.syslog_pieces.specs.Bodies.Looks.{is_dot, LeadsBare, BeginsVisibly, BeginsWithGap}
 pub use Rattle.syslog_pieces.specs.Bodies.Looks.{IsSmallNumber}
 pub use Rattle.syslog_pieces.specs.Timestamp.Zone.{Dating, IsMonthStamp}
 pub use Rattle.syslog_pieces.specs.declared.structured_data.walk.Walked.{Walked}

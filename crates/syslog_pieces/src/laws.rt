@@ -1,37 +1,50 @@
 //! Laws over the definitions alone: each function does nothing, and its contract is the law.
-ghost use Rattle.std.specs.Prelude.{◌≡◌, ◌↔◌, ℕ, ℤ, ◌<◌, ◌≤ℤ◌, Bool, false, List, Option, Result, Some, String};
+ghost use Rattle.std.specs.Prelude.{◌≡◌, ◌↔◌, ℕ, ℤ, ◌<◌, ◌≤ℤ◌, Bool, false, List, Option, Result, Some, String, nat_eq};
+ghost use Rattle.std.specs.Prelude.{IsTrue, ◌≤◌, ◌^◌, ◌++◌, IfSome, length, decimal};
 ghost use Rattle.std.specs.Borrow.{Bor};
 ghost use Rattle.std.specs.Global.{Global};
 ghost use Rattle.std.specs.Iterator.{Drains};
 ghost use Rattle.std.specs.List.{AllByRecursion};
 ghost use Rattle.std.specs.declared.alloc.AllocError.{AllocError};
-ghost use Rattle.syslog_pieces.specs.Pieces.{Text, Each, Front, NoFront};
+ghost use Rattle.jiff.specs.Types.{DateTime, Fold, Offset, TimeZone};
+ghost use Rattle.jiff.specs.Words.{IsCivilNanos, ambiguous_at};
+ghost use Rattle.std.specs.Char.{is_not_whitespace, is_ascii_digit};
+ghost use Rattle.std.specs.Ordering.{nat_cmp};
+ghost use Rattle.std.specs.declared.cmp.Ordering.TheVariants.{Equal};
+ghost use Rattle.syslog_pieces.specs.Pieces.{Text, Each, Front, NoFront, text_of, Ends};
 ghost use Rattle.syslog_pieces.specs.StructuredData.Escapes.{TextUnit, SplitsUnits, IsUnescaped, IsUnquoted, escaped};
 ghost use Rattle.syslog_pieces.specs.StructuredData.Params.{NextParam, AreParamItems};
 ghost use Rattle.syslog_pieces.specs.StructuredData.Rfc3164List.{BeginsNoList, rfc3164_list};
-ghost use Rattle.syslog_pieces.specs.ProcId.{NamesProcess, named_process};
-ghost use Rattle.syslog_pieces.specs.Pri.{facility_of, severity_of, composed};
-ghost use Rattle.syslog_pieces.specs.StructuredData.{IsValue};
-ghost use Rattle.jiff.specs.Types.{DateTime, Fold, Offset, TimeZone};
-ghost use Rattle.jiff.specs.Words.{IsCivilNanos, ambiguous_at};
+ghost use Rattle.syslog_pieces.specs.ProcId.{NamesProcess, named_process, procid_value, IsCanonicalProcess};
+ghost use Rattle.syslog_pieces.specs.ProcId.{IsBoundedProcess, process_word, process_text};
+ghost use Rattle.syslog_pieces.specs.Pri.{facility_of, severity_of, composed, facility_number, severity_number};
+ghost use Rattle.syslog_pieces.specs.Pri.{facility_name, severity_name};
+ghost use Rattle.syslog_pieces.specs.StructuredData.{IsValue, forgiving, item};
 ghost use Rattle.syslog_pieces.specs.Timestamp.Fields.{AreCivil, IsStampAt, nanos_of_fields};
-ghost use Rattle.std.specs.Char.{is_not_whitespace};
 ghost use Rattle.syslog_pieces.specs.Timestamp.{IsStampText};
 ghost use Rattle.syslog_pieces.specs.Timestamp.Rfc3164.{rfc3164_stamp, ShowsYearless};
 ghost use Rattle.syslog_pieces.specs.Timestamp.Canonical.{IsCanonicalStamp, BeginsWithYear};
 ghost use Rattle.syslog_pieces.specs.Timestamp.Printed.{civil_fields, printed_stamp};
 ghost use Rattle.syslog_pieces.specs.Timestamp.Rfc3339.{HasStamp};
 ghost use Rattle.syslog_pieces.specs.Timestamp.Zone.{Dating, IsStampOf};
+ghost use Rattle.syslog_pieces.specs.StructuredData.Element.{element_value, ElementValue, elements_text};
+ghost use Rattle.syslog_pieces.specs.StructuredData.Equal.{IsSameInSomeOrder};
+ghost use Rattle.syslog_pieces.specs.StructuredData.Canonical.{IsCanonicalElement};
+ghost use Rattle.syslog_pieces.specs.Text.{number, host, word, name_text, is_blank};
+ghost use Rattle.syslog_pieces.specs.Text.Canonical.{IsCanonicalHost, IsCanonicalWord};
 ghost use Rattle.syslog_pieces.specs.declared.pri.SyslogFacility.{SyslogFacility};
 ghost use Rattle.syslog_pieces.specs.declared.pri.SyslogSeverity.{SyslogSeverity};
 ghost use Rattle.syslog_pieces.specs.declared.structured_data.rfc3164_list.DashRule.{DashRule};
 ghost use Rattle.syslog_pieces.specs.declared.timestamp.OffsetTimestamp.{OffsetTimestamp};
 ghost use Rattle.syslog_pieces.specs.declared.timestamp.month_date.MonthDate.{MonthDate};
-
-pub mod comparison;
-pub mod read_back;
+ghost use Rattle.syslog_pieces.specs.declared.procid.ProcId.{ProcId};
+ghost use Rattle.syslog_pieces.specs.declared.structured_data.StructuredElement.{StructuredElement};
 
 use crate::as_str::AsStr;
+use crate::pri::{SyslogFacility, SyslogSeverity};
+use crate::procid::ProcId;
+use crate::structured_data::StructuredElement;
+use crate::timestamp::OffsetTimestamp;
 
 /// A priority below 192 is composed of its two parts.
 #[tactic(auto, using(crate::proofs::PriLemmas::priority_composed))]
@@ -135,4 +148,109 @@ pub fn params_are_given_in_order<S: AsStr>()
 /// No list of RFC 3164 begins a text exactly where neither a dash that is such a list begins it, nor an element of one.
 pub fn list_begins_with_dash_or_element()
     ensures { (rule : DashRule) (text : Text) → NoFront (rfc3164_list rule) text ↔ BeginsNoList rule text }
+{}
+
+// When two values are equal, which comes first, and which name is whose.
+
+/// Facilities are equal and ordered by their numbers, and so are severities.
+pub fn parts_compare_by_number()
+    ensures facility_eq { (a b : SyslogFacility)
+        → ⟦<SyslogFacility as PartialEq>⟧.eq a b ≡ nat_eq (facility_number a) (facility_number b) }
+    ensures facility_cmp { (a b : SyslogFacility)
+        → ⟦<SyslogFacility as Ord>⟧.cmp a b ≡ nat_cmp (facility_number a) (facility_number b) }
+    ensures severity_eq { (a b : SyslogSeverity)
+        → ⟦<SyslogSeverity as PartialEq>⟧.eq a b ≡ nat_eq (severity_number a) (severity_number b) }
+    ensures severity_cmp { (a b : SyslogSeverity)
+        → ⟦<SyslogSeverity as Ord>⟧.cmp a b ≡ nat_cmp (severity_number a) (severity_number b) }
+{}
+
+/// Within facilities, and within severities, one name is one value, and so is one number.
+pub fn name_is_of_one_value()
+    ensures facility { (a b : SyslogFacility) → facility_name a ≡ facility_name b → a ≡ b }
+    ensures severity { (a b : SyslogSeverity) → severity_name a ≡ severity_name b → a ≡ b }
+    ensures facility_by_number { (a b : SyslogFacility) → facility_number a ≡ facility_number b → a ≡ b }
+    ensures severity_by_number { (a b : SyslogSeverity) → severity_number a ≡ severity_number b → a ≡ b }
+{}
+
+/// Two process ids are equal exactly when they are one value over texts. So this is an equivalence.
+pub fn process_ids_are_equal_by_value<S: AsStr>()
+    ensures exact { (a b : ProcId S) → IsTrue (⟦<ProcId<S> as PartialEq>⟧.eq a b)
+        ↔ (procid_value (text_of S.text) a ≡ procid_value (text_of S.text) b) }
+    ensures reflexive { (a : ProcId S) → IsTrue (⟦<ProcId<S> as PartialEq>⟧.eq a a) }
+    ensures symmetric { (a b : ProcId S) → IsTrue (⟦<ProcId<S> as PartialEq>⟧.eq a b)
+        → IsTrue (⟦<ProcId<S> as PartialEq>⟧.eq b a) }
+    ensures transitive { (a b c : ProcId S) → IsTrue (⟦<ProcId<S> as PartialEq>⟧.eq a b)
+        → IsTrue (⟦<ProcId<S> as PartialEq>⟧.eq b c) → IsTrue (⟦<ProcId<S> as PartialEq>⟧.eq a c) }
+{}
+
+/// Two elements are equal exactly when their ids are one text and the parameters of one are those of the other in some
+/// order. So this is an equivalence, and elements with one value over texts are equal.
+pub fn elements_are_equal_in_any_order<S: AsStr>()
+    ensures exact { (a b : StructuredElement S) → IsTrue (⟦<StructuredElement<S> as PartialEq>⟧.eq a b)
+        ↔ IsSameInSomeOrder (element_value (text_of S.text) a) (element_value (text_of S.text) b) }
+    ensures reflexive { (a : StructuredElement S) → IsTrue (⟦<StructuredElement<S> as PartialEq>⟧.eq a a) }
+    ensures symmetric { (a b : StructuredElement S) → IsTrue (⟦<StructuredElement<S> as PartialEq>⟧.eq a b)
+        → IsTrue (⟦<StructuredElement<S> as PartialEq>⟧.eq b a) }
+    ensures transitive { (a b c : StructuredElement S) → IsTrue (⟦<StructuredElement<S> as PartialEq>⟧.eq a b)
+        → IsTrue (⟦<StructuredElement<S> as PartialEq>⟧.eq b c)
+        → IsTrue (⟦<StructuredElement<S> as PartialEq>⟧.eq a c) }
+    ensures same { (a b : StructuredElement S) → element_value (text_of S.text) a ≡ element_value (text_of S.text) b
+        → IsTrue (⟦<StructuredElement<S> as PartialEq>⟧.eq a b) }
+{}
+
+/// Two timestamps are equal exactly when their instants are, whatever the offsets. So this is an equivalence, with
+/// which the order agrees.
+pub fn timestamps_are_equal_by_instant()
+    ensures exact { (a b : OffsetTimestamp) → IsTrue (⟦<OffsetTimestamp as PartialEq>⟧.eq a b)
+        ↔ (a.instant.nanosecond ≡ b.instant.nanosecond) }
+    ensures reflexive { (a : OffsetTimestamp) → IsTrue (⟦<OffsetTimestamp as PartialEq>⟧.eq a a) }
+    ensures symmetric { (a b : OffsetTimestamp) → IsTrue (⟦<OffsetTimestamp as PartialEq>⟧.eq a b)
+        → IsTrue (⟦<OffsetTimestamp as PartialEq>⟧.eq b a) }
+    ensures transitive { (a b c : OffsetTimestamp) → IsTrue (⟦<OffsetTimestamp as PartialEq>⟧.eq a b)
+        → IsTrue (⟦<OffsetTimestamp as PartialEq>⟧.eq b c) → IsTrue (⟦<OffsetTimestamp as PartialEq>⟧.eq a c) }
+    ensures order { (a b : OffsetTimestamp) → IsTrue (⟦<OffsetTimestamp as PartialEq>⟧.eq a b)
+        ↔ (⟦<OffsetTimestamp as Ord>⟧.cmp a b ≡ Equal) }
+{}
+
+// What is printed of a canonical piece is read back, and what is read is canonical.
+
+/// A number up to the limit is read back before what begins with no digit.
+pub fn decimal_is_read_back()
+    ensures { (n limit : ℕ) (q : Text) → n ≤ limit → limit < 2 ^ 64 → Ends is_ascii_digit q
+        → (number limit).Is (decimal n) q n }
+{}
+
+/// A canonical host, or none, is read back before the end or white space; what is read before a blank is a canonical
+/// host, or none.
+#[tactic(auto, using(crate::proofs::TextLemmas::Words::hosts))]
+pub fn canonical_host_is_read_back()
+    ensures back { (v : Option Text) (q : Text) → IfSome v IsCanonicalHost → Ends is_not_whitespace q
+        → host.Is (name_text v) q v }
+    ensures only { (p b q : Text) (v : Option Text) → 0 < length b → Each is_blank b → host.Is p (b ++ q) v
+        → IfSome v IsCanonicalHost }
+{}
+
+/// A canonical word, or none, is read back before the end or white space, and what is read is a canonical word, or
+/// none.
+#[tactic(auto, using(crate::proofs::TextLemmas::Words::words))]
+pub fn canonical_word_is_read_back()
+    ensures back { (v : Option Text) (q : Text) → IfSome v IsCanonicalWord → Ends is_not_whitespace q
+        → word.Is (name_text v) q v }
+    ensures only { (p q : Text) (v : Option Text) → word.Is p q v → IfSome v IsCanonicalWord }
+{}
+
+/// A canonical process id, or none, is read back before the end or white space, and what is read is a canonical one, or
+/// none.
+#[tactic(auto, using(crate::proofs::ProcIdLemmas::processes))]
+pub fn canonical_process_is_read_back()
+    ensures back { (v : Option (ProcId Text)) (q : Text) → IfSome v IsCanonicalProcess → IfSome v IsBoundedProcess
+        → Ends is_not_whitespace q → process_word.Is (process_text v) q v }
+    ensures only { (p q : Text) (v : Option (ProcId Text)) → process_word.Is p q v → IfSome v IsCanonicalProcess }
+{}
+
+/// Canonical elements, or none, are read back as a forgiving list where no item follows, and what is read is canonical.
+pub fn canonical_elements_are_read_back()
+    ensures back { (es : List ElementValue) (q : Text) → AllByRecursion IsCanonicalElement es → NoFront item q
+        → forgiving.Is (elements_text es) q es }
+    ensures only { (p q : Text) (es : List ElementValue) → forgiving.Is p q es → AllByRecursion IsCanonicalElement es }
 {}

@@ -53,8 +53,7 @@ impl<S: AsStr> PartialEq for ProcId<S> {
         match (self, other) {
             (ProcId::PID(a), ProcId::PID(b)) => *a == *b,
             (ProcId::Name(a), ProcId::Name(b)) => is_same_text(a, b),
-            (ProcId::PID(_), ProcId::Name(_)) => false,
-            (ProcId::Name(_), ProcId::PID(_)) => false,
+            _ => false,
         }
     }
 }
@@ -119,14 +118,7 @@ fn any_process(text: &str) -> ProcId<&str>
 pub fn is_bare_word(name: &str) -> bool
     ensures { IsTrue result → IsBareWord (chars name.now) }
 {
-    !leads_with_mark(name.as_bytes())
-}
-
-// Whether a sign or a zero is before a further byte.
-fn leads_with_mark(bytes: &[u8]) -> bool
-    ensures { OnFalse result (LeadsBare bytes.now) }
-{
-    matches!(bytes, [b'+' | b'-' | b'0', _, ..])
+    !matches!(name.as_bytes(), [b'+' | b'-' | b'0', _, ..])
 }
 
 /// Whether the text is one of a number of 32 bits.

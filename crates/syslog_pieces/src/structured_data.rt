@@ -9,11 +9,8 @@ ghost use Rattle.syslog_pieces.specs.Pieces.{text_of};
 
 pub mod canonical;
 mod collect;
-mod collect_element;
-mod collect_list;
 mod copies;
 mod display;
-mod element;
 mod equality;
 mod escapes;
 mod few_params;

@@ -6,12 +6,12 @@
 ghost use Rattle.std.specs.Prelude.{◌≡◌, ◌<◌, [], ◌∷◌, IfSome, IsTrue, Option, MatchOption, bytes_eq, chars, IsUtf8};
 ghost use Rattle.syslog_pieces.specs.Text.CharClass.{has};
 ghost use Rattle.syslog_pieces.specs.declared.text.CharClass.TheVariants.{Blank, Digit};
-ghost use Rattle.syslog_pieces.specs.Pieces.{Front, exactly, optional, run, some_run, seen, shown, Reads, Skips};
+ghost use Rattle.syslog_pieces.specs.Pieces.{Front, exactly, optional, run, some_run, spaced, field_seen, seen, shown};
+ghost use Rattle.syslog_pieces.specs.Pieces.{Reads, Skips};
 ghost use Rattle.syslog_pieces.specs.Bodies.Scan.{EndsRun, IsBare, SplitsRun, byte_in};
 ghost use Rattle.syslog_pieces.specs.Text as spec;
 
 pub mod canonical;
-mod fields;
 mod lanes;
 mod looks;
 mod numerals;
@@ -19,9 +19,9 @@ mod scan;
 pub mod verbatim;
 pub mod write_ascii;
 
-pub use fields::{host_field, tag_field};
 use lanes::visible_front;
-use looks::{begins_visibly, begins_with, begins_with_digit, begins_with_gap, ends_in_colon};
+pub(crate) use looks::begins_with_digit;
+use looks::{begins_visibly, begins_with, begins_with_gap, ends_in_colon};
 pub(crate) use numerals::few_digits;
 use numerals::{number_of_digits, small_digits};
 use scan::{ascii_run, is_cut, is_in};
@@ -139,8 +139,7 @@ pub fn literal(text: &str, c: char) -> Option<&str>
     ensures { Skips (exactly (c ∷ [])) tt (chars text.now) result }
 {
     if begins_with(text.as_bytes(), c as u8) {
-        let (_, rest) = text.split_at(1);
-        Some(rest)
+        Some(text.split_at(1).1)
     } else {
         None
     }
@@ -169,8 +168,7 @@ pub fn blanks(text: &str) -> &str
     if let Some(rest) = past_space(text) {
         return rest;
     }
-    let (_, rest) = text.split_at(blanks_end(text));
-    rest
+    text.split_at(blanks_end(text)).1
 }
 
 /// The text after the blanks at the front, of which there is at least one.
@@ -194,8 +192,7 @@ pub(crate) fn past_space(text: &str) -> Option<&str>
         × (chars text.now ≡ 32 ∷ shown rest)) }
 {
     if begins_with_gap(text.as_bytes()) {
-        let (_, rest) = text.split_at(1);
-        Some(rest)
+        Some(text.split_at(1).1)
     } else {
         None
     }
@@ -256,10 +253,7 @@ fn digits_end(text: &str) -> usize
 fn is_byte(text: &str, byte: u8) -> bool
     ensures { result ≡ bytes_eq text.now (byte ∷ []) }
 {
-    match text.as_bytes() {
-        [only] => *only == byte,
-        _ => false,
-    }
+    matches!(text.as_bytes(), [only] if *only == byte)
 }
 
 // `-` is an absent name.
@@ -318,6 +312,36 @@ pub fn tag_word(text: &str) -> Option<(Option<&str>, &str)>
     Some((named(run), rest))
 }
 
+/// The host field of RFC 3164, where a space and a host begin the text, and the text after it. The field is there and
+/// empty for `-`.
+#[inline(always)]
+pub fn host_field(text: &str) -> (Option<Option<&str>>, &str)
+    ensures { Front (optional (spaced spec.host)) (chars text.now) (shown result.1) (field_seen result.0) }
+{
+    let Some(after_space) = literal(text, ' ') else {
+        return (None, text);
+    };
+    match host(after_space) {
+        Some((name, rest)) => (Some(name), rest),
+        None => (None, text),
+    }
+}
+
+/// The tag field of RFC 3164, where a space and a tag word begin the text, and the text after it. The field is there
+/// and empty for `-`.
+#[inline(always)]
+pub fn tag_field(text: &str) -> (Option<Option<&str>>, &str)
+    ensures { Front (optional (spaced spec.tag_word)) (chars text.now) (shown result.1) (field_seen result.0) }
+{
+    let Some(after_space) = literal(text, ' ') else {
+        return (None, text);
+    };
+    match tag_word(after_space) {
+        Some((tag, rest)) => (Some(tag), rest),
+        None => (None, text),
+    }
+}
+
 /// The text without the white space at its two ends.
 #[tactic(auto, using(crate::proofs::TextLemmas::Runs::bare_trimmed))]
 #[inline(always)]
@@ -345,10 +369,5 @@ fn trim(text: &str) -> &str
 fn is_bare(bytes: &[u8]) -> bool
     ensures { IsTrue result → IsBare bytes.now }
 {
-    match bytes {
-        [first, .., last] => {
-            is_in(*first, CharClass::Visible) && is_in(*last, CharClass::Visible)
-        }
-        _ => false,
-    }
+    matches!(bytes, [first, .., last] if is_in(*first, CharClass::Visible) && is_in(*last, CharClass::Visible))
 }

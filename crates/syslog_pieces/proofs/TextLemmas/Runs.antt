@@ -14,7 +14,7 @@ use Rattle.syslog_pieces.proofs.Names.{is_ascii_digit, encode_utf8_all, encodes-
 use Rattle.syslog_pieces.proofs.Names.{name_text, cases_Bool, and_parts, SplitsRun, CharClass, agree_below, length-map}
 use Rattle.syslog_pieces.proofs.Names.{get_or-drop, eqb, replicate, w8, bit_or, ◌||◌, byte_from_char}
 use Rattle.syslog_pieces.proofs.Names.{char_from_byte, IsCharBoundary-start, chars-encodes, scalars-chars, drop_more}
-use Rattle.syslog_pieces.proofs.Names.{get_or_append_left, beq, BeginsVisibly, BeginsWithGap, EndsDigits}
+use Rattle.syslog_pieces.proofs.Names.{get_or_append_left, beq, BeginsVisibly, BeginsWithGap}
 use Rattle.syslog_pieces.proofs.Names.{is_not_whitespace, length-le-encodes, ◌/◌}
 use Rattle.std.proofs.Common.{get_or-take}
 use Rattle.std.proofs.lemmas.List.{get_or-append-add}
@@ -397,13 +397,14 @@ past_digits : (c : ℕ) → 128 ≤ c → is_ascii_digit c ≡ false
 past_digits c h = grind (arith, nat_tests)
 
 -- no digit is at the front
-pub ends_digits : (bs : List ℕ) → IsUtf8 bs → EndsDigits bs → Ends is_ascii_digit (chars bs)
-ends_digits bs u h = ends_by_byte is_ascii_digit bs u (λ l c byte char. elim (cases_lt c 128) [
-  | inl low ↦ rw (sym (byte low)) (h l)
+pub ends_digits : (bs : List ℕ) → IsUtf8 bs → Ends is_ascii_digit bs → Ends is_ascii_digit (chars bs)
+ends_digits [] u h = rw chars-nil tt
+ends_digits (b ∷ bs) u h = ends_by_byte is_ascii_digit (b ∷ bs) u (λ l c byte char. elim (cases_lt c 128) [
+  | inl low ↦ rw (sym (byte low)) h
   | inr high ↦ past_digits c high
 ])
 
-pub no_number : (limit : ℕ) (bs : List ℕ) → IsUtf8 bs → EndsDigits bs → NoFront (number limit) (chars bs)
+pub no_number : (limit : ℕ) (bs : List ℕ) → IsUtf8 bs → Ends is_ascii_digit bs → NoFront (number limit) (chars bs)
 no_number limit bs u h = no_run is_ascii_digit (chars bs) (ends_digits bs u h) (number limit) (λ p q v k. (k.0, k.1))
 
 -- ---- vectors that are computed lane by lane from a load v of sixteen bytes

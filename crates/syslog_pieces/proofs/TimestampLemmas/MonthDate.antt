@@ -354,14 +354,6 @@ module _ (dating : Dating) (date : MonthDate) where
       (λ s p. month_in_year dating date y s e p)
       (λ s k. (let (y', e', p) = fields_in_year dating date s k in let same : y' ≡ y = cc in rw same at p)) h
 
-  -- no year, or one past the calendar's
-  pub no_such_year : IfSome (year_of date dating.year) (λ y. pos 9999 <ℤ y) → IsAnswer (IsMonthStamp dating date) None
-  no_such_year n s k =
-      let (y, e, (dt, f, h)) = fields_in_year dating date s k in
-      let past : pos 9999 <ℤ y = subst (λ (x : Option ℤ). IfSome x (λ y. pos 9999 <ℤ y)) e n in
-      let in_range = (civil-fields dt (civil_of date y) f).date in
-      omega (arith, signed_arith, past, in_range.0)
-
 -- in the zone that counts
 in_any : (tz : Option TimeZone) (local : TimeZone) (dt : DateTime) (offset : Offset) (r : Option ClockStamp)
     → earlier (ambiguous_at (zone_of tz local) dt) ≡ Some offset → IsAnswer (IsStampAt dt offset) r

@@ -1,7 +1,8 @@
 -- What the first bytes of a text are.
-use Rattle.std.specs.Prelude.{◌≡◌, ◌≢◌, ◌⊎◌, ℕ, ◌+◌, ◌<◌, Bool, false, nat_eq, List, ◌∷◌, ◌++◌, length, slice_index}
+use Rattle.std.specs.Prelude.{◌≡◌, ◌≢◌, ◌⊎◌, ℕ, ◌+◌, ◌<◌, Bool, nat_eq, List, ◌∷◌, ◌++◌, length, slice_index}
 use Rattle.std.specs.Char.{is_ascii_digit}
 use Rattle.jiff_fmt.specs.Text.{pad2}
+use Rattle.syslog_pieces.specs.Pieces.Class.{Ends}
 use Rattle.syslog_pieces.specs.Timestamp.Printed.{pad3}
 
 abbrev pub is_dot : ℕ → Bool
@@ -22,7 +23,7 @@ LeadsBare bytes = 1 < length bytes
 
 -- no digit is at the front
 abbrev pub EndsDigits : List ℕ → Type 0
-EndsDigits bytes = 0 < length bytes → is_ascii_digit (slice_index bytes 0) ≡ false
+EndsDigits bytes = Ends is_ascii_digit bytes
 
 -- a number of one to three digits before none, and the rest
 abbrev pub IsSmallNumber : List ℕ → ℕ → List ℕ → Type 0

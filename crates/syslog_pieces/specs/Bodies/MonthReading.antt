@@ -55,9 +55,6 @@ day_values d = (d.month, (tt, (d.day, (tt, tt))))
 abbrev pub year_row : List Class
 year_row = number 2147483647 ∷ some_run is_blank ∷ []
 
-abbrev pub year_values : ℕ → Values year_row
-year_values y = (y, (tt, tt))
-
 -- the clock, with one more colon after it or not
 abbrev pub clock_values : Clock → Option (Unit {0}) → Values clock_row
 clock_values c more = (c.hour, (tt, (c.minute, (tt, (c.second, (more, tt))))))

@@ -66,22 +66,6 @@ pub record IsRunIn (test : ℕ → Bool) (bytes : List ℕ) (at n : ℕ) : Type 
 abbrev pub first_set : ℕ → ℕ
 first_set mask = if mask == 0 then 16 else trailing_zeros w64 mask
 
--- the bit of the class in an entry of the scanner's table
-abbrev pub bit_of : CharClass → ℕ
-bit_of Digit = 1
-bit_of Blank = 2
-bit_of Visible = 4
-bit_of Id = 8
-bit_of Name = 16
-bit_of Unescaped = 32
-bit_of Open = 64
-bit_of Inert = 128
-bit_of Bare = 256
-bit_of Tag = 512
-bit_of Label = 1024
-bit_of Printable = 2048
-bit_of SdName = 4096
-
 -- bytes that begin and end with ASCII characters that are no white space
 pub record IsBare (bytes : List ℕ) : Type 0 where
   pub first : ℕ

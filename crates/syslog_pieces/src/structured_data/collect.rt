@@ -1,12 +1,13 @@
-//! Collecting the elements of a list while the list is recognised.
-ghost use Rattle.std.specs.Prelude.{◌≡◌, ◌≢◌, [], MatchResult, map};
+//! Collecting elements: those of a list while it is recognised, and those of one that was.
+ghost use Rattle.std.specs.Prelude.{◌≡◌, ◌≢◌, ◌++◌, ◌∷◌, [], IfOk, MatchResult, map};
 ghost use Rattle.syslog_pieces.specs.Pieces.{shown};
-ghost use Rattle.syslog_pieces.specs.StructuredData.Element.{element_value};
+ghost use Rattle.syslog_pieces.specs.StructuredData.Collected.{HasNoted};
+ghost use Rattle.syslog_pieces.specs.StructuredData.Element.{element_value, param_value};
+ghost use Rattle.syslog_pieces.specs.StructuredData.Visited.{element_seen, list_elements};
 
 use super::StructuredElement;
-use super::collect_element::push_element;
 use super::few_params::FewParams;
-use super::recognised::Element;
+use super::recognised::{Element, ElementList};
 use super::visit::ElementVisitor;
 use std::alloc::{AllocError, Global};
 
@@ -58,4 +59,85 @@ impl<'a> ElementVisitor<'a> for Collect<'a> {
             self.elements = Err(refused);
         }
     }
+}
+
+impl<'a> Element<'a> {
+    /// Collects its parameters, for which memory is asked once. An `Err` is only for memory.
+    pub fn collect(&self, alloc: Global) -> Result<StructuredElement<&'a str>, AllocError>
+        ensures { IfOk result (λ e. element_value (λ s. shown s) e ≡ element_seen self.now) }
+    {
+        Ok(StructuredElement {
+            id: self.id(),
+            params: walk_params(alloc, *self)?,
+        })
+    }
+}
+
+impl<'a> ElementList<'a> {
+    /// Collects its strict elements, and asks for no memory where it has none. An `Err` is only for memory.
+    pub fn collect(&self, alloc: Global) -> Result<Vec<StructuredElement<&'a str>>, AllocError>
+        ensures { MatchResult result (λ v. map (element_value (λ s. shown s)) v.items ≡ list_elements self.now)
+            (λ _. list_elements self.now ≢ []) }
+    {
+        if self.is_empty() {
+            return Ok(Vec::new(alloc));
+        }
+        let mut elements = Vec::with_capacity(alloc, self.len())?;
+        for element in self.elements() {
+            elements.push(element.collect(alloc)?)?;
+        }
+        Ok(elements)
+    }
+}
+
+// The parameters of an element, walked once more.
+#[inline(never)]
+fn walk_params<'a>(
+    alloc: Global,
+    element: Element<'a>,
+) -> Result<Vec<(&'a str, &'a str)>, AllocError>
+    ensures { IfOk result (λ v. map (param_value (λ s. shown s)) v.items ≡ (element_seen element.entry).params) }
+{
+    let mut params = Vec::with_capacity(alloc, element.params_len())?;
+    for param in element.params() {
+        params.push(param)?;
+    }
+    Ok(params)
+}
+
+// The parameters of an element, from its notes where these have all. Memory is asked for once.
+#[inline(always)]
+fn collect_params<'a>(
+    alloc: Global,
+    element: Element<'a>,
+    notes: &FewParams<'a>,
+) -> Result<Vec<(&'a str, &'a str)>, AllocError>
+    requires { HasNoted notes.now (element_seen element).params }
+    ensures { IfOk result (λ v. map (param_value (λ s. shown s)) v.items ≡ (element_seen element.entry).params) }
+{
+    let Some(noted) = notes.all_of(&element) else {
+        return walk_params(alloc, element);
+    };
+    let mut params = Vec::with_capacity(alloc, noted.len())?;
+    params.extend_from_slice(noted)?;
+    Ok(params)
+}
+
+// Adds the element.
+fn push_element<'a>(
+    alloc: Global,
+    elements: &mut Vec<StructuredElement<&'a str>>,
+    element: Element<'a>,
+    notes: &FewParams<'a>,
+) -> Result<(), AllocError>
+    requires { HasNoted notes.now (element_seen element).params }
+    ensures { IfOk result (λ _. map (element_value (λ s. shown s)) elements.new.items
+        ≡ map (element_value (λ s. shown s)) elements.old.items ++ (element_seen element.entry ∷ [])) }
+{
+    let params = collect_params(alloc, element, notes)?;
+    elements.push(StructuredElement {
+        id: element.id(),
+        params,
+    })?;
+    Ok(())
 }

@@ -10,7 +10,8 @@ ghost use Rattle.syslog_pieces.specs.Pieces.{Front, NoFront, exactly, some_run, 
 ghost use Rattle.syslog_pieces.specs.Bodies.Closing.{opening as opening_class, quoted as quoted_class, name_alone};
 ghost use Rattle.syslog_pieces.specs.Bodies.Closing.{closing, IsDead, last_char};
 ghost use Rattle.syslog_pieces.specs.StructuredData.Escapes.{TextUnit, unit_text};
-ghost use Rattle.syslog_pieces.specs.StructuredData.{bracketed as bracketed_class, IsValueUnit};
+ghost use Rattle.syslog_pieces.specs.StructuredData.{bracketed as bracketed_class, param as param_class, IsValueUnit};
+ghost use Rattle.syslog_pieces.specs.StructuredData.Element.{param_value};
 
 use crate::text::{CharClass, blanks, first, literal, split_run};
 
@@ -68,6 +69,35 @@ pub(super) fn after_value(text: &str) -> Option<&str>
         let (_, more) = unit(after)?;
         rest = more;
     }
+}
+
+// The value whose closing quote is before the rest.
+#[tactic(auto, using(crate::proofs::StructuredDataLemmas::Closing::quoted_value))]
+pub(super) fn value_before<'a>(text: &'a str, rest: &str) -> &'a str
+    requires { (v : quoted_class.Value) × Front quoted_class (chars text.now) (chars rest.now) v }
+    ensures { Front quoted_class (chars text.now) (chars rest.now) (shown result, (tt, tt)) }
+{
+    text.split_at(text.len() - rest.len() - 1).0
+}
+
+// The value at the front, and the text after the quote that closes it.
+#[inline(always)]
+fn quoted(text: &str) -> Option<(&str, &str)>
+    ensures { Reads quoted_class (λ v. (shown v, (tt, tt))) (chars text.now) result }
+{
+    let behind = after_value(text)?;
+    Some((value_before(text, behind), behind))
+}
+
+// The name and the value of the parameter at the front, and the text after it.
+#[tactic(auto, using(crate::proofs::StructuredDataLemmas::Closing::param_read))]
+#[inline(always)]
+pub(super) fn param(text: &str) -> Option<((&str, &str), &str)>
+    ensures { Reads param_class (param_value (λ s. shown s)) (chars text.now) result }
+{
+    let (name, rest) = opening(text)?;
+    let (value, rest) = quoted(rest)?;
+    Some(((name, value), rest))
 }
 
 // The text after the value at the front and its closing quote. A refusal says that no element closes from here, and

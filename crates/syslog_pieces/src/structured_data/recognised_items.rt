@@ -6,8 +6,7 @@ ghost use Rattle.syslog_pieces.specs.Pieces.{NoFront, exactly, many};
 ghost use Rattle.syslog_pieces.specs.StructuredData.{item as item_class};
 ghost use Rattle.syslog_pieces.specs.StructuredData.Recognised.{OneMeaning, OneInside-prop, OneItems-prop};
 
-use super::element::param;
-use super::recognise::after_bracketed;
+use super::recognise::{after_bracketed, param};
 use super::recognised::{Element, ElementList};
 use super::visit::NoNotes;
 use super::walk::walk_element;

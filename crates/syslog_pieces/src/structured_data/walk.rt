@@ -2,15 +2,14 @@
 //! it prints as it is.
 ghost use Rattle.std.specs.Prelude.{◌≡◌, ◌++◌, ◌<◌, [], ◌∷◌, IfOk, IfSome, IsTrue, MatchOption, MatchResult, chars};
 ghost use Rattle.std.specs.Prelude.{length};
-ghost use Rattle.syslog_pieces.specs.Bodies.Closing.{IsDead, opening as opening_class, quoted as quoted_class};
-ghost use Rattle.syslog_pieces.specs.Bodies.Closing.{name_alone};
+ghost use Rattle.syslog_pieces.specs.Bodies.Closing.{IsDead, opening as opening_class, name_alone};
 ghost use Rattle.syslog_pieces.specs.Pieces.{Front, NoFront, run, shown};
 ghost use Rattle.syslog_pieces.specs.StructuredData.{element as element_class};
 ghost use Rattle.syslog_pieces.specs.StructuredData.Rfc3164List.{full_element};
 ghost use Rattle.syslog_pieces.specs.StructuredData.Visited.{IsWalked, element_seen};
 ghost use Rattle.syslog_pieces.specs.Text as spec;
 
-use super::recognise::{live_value, nonempty_run};
+use super::recognise::{live_value, nonempty_run, value_before};
 use super::recognised::Element;
 use super::visit::ParamNotes;
 use crate::text::{CharClass, blanks, literal, past_space};
@@ -51,16 +50,6 @@ fn open_param(text: &str) -> Option<(&str, &str, bool)>
     }
     let value = literal(blanks(after_equals), '"')?;
     Some((name, value, false))
-}
-
-// The value whose closing quote is before the rest.
-#[tactic(auto, using(crate::proofs::StructuredDataLemmas::Closing::quoted_value))]
-fn value_before<'a>(text: &'a str, rest: &str) -> &'a str
-    requires { (v : quoted_class.Value) × Front quoted_class (chars text.now) (chars rest.now) v }
-    ensures { Front quoted_class (chars text.now) (chars rest.now) (shown result, (tt, tt)) }
-{
-    let (value, _) = text.split_at(text.len() - rest.len() - 1);
-    value
 }
 
 /// Walks the strict element at the front, and notes its parameters. A refusal has a number as that of `live_value`.

@@ -29,23 +29,14 @@ pub fn is_only(text: &str, class: CharClass) -> bool
 pub fn is_some_of(text: &str, class: CharClass) -> bool
     ensures { IsTrue result ↔ ((0 < length (chars text.now)) × Each (has class) (chars text.now)) }
 {
-    if is_end(text) {
-        return false;
-    }
-    is_only(text, class)
+    !is_end(text) && is_only(text, class)
 }
 
 // Whether a reader has taken the whole text for a name.
 fn is_whole(read: Option<(Option<&str>, &str)>) -> bool
     ensures { IsTrue result ↔ IsSomeAnd read.entry (λ x. IsSomeAnd x.0 (λ _. shown x.1 ≡ [])) }
 {
-    match read {
-        Some((name, rest)) => match name {
-            Some(_) => is_end(rest),
-            None => false,
-        },
-        None => false,
-    }
+    matches!(read, Some((Some(_), rest)) if is_end(rest))
 }
 
 /// Whether the reader of hosts takes the whole text for a host.

@@ -9,10 +9,7 @@ ghost use Rattle.syslog_pieces.specs.Bodies.Looks as spec;
 pub(crate) fn begins_with(bytes: &[u8], byte: u8) -> bool
     ensures { MatchBool result (bytes.now ≡ byte ∷ drop 1 bytes.now) ((more : List ℕ) → bytes.now ≢ byte ∷ more) }
 {
-    match bytes {
-        [first, ..] => *first == byte,
-        [] => false,
-    }
+    matches!(bytes, [first, ..] if *first == byte)
 }
 
 /// Whether a byte that is no blank begins the bytes.
@@ -20,10 +17,7 @@ pub(crate) fn begins_with(bytes: &[u8], byte: u8) -> bool
 pub(crate) fn begins_visibly(bytes: &[u8]) -> bool
     ensures { IsTrue result → spec.BeginsVisibly bytes.now }
 {
-    match bytes {
-        [first, ..] => *first > b' ',
-        [] => false,
-    }
+    matches!(bytes, [first, ..] if *first > b' ')
 }
 
 /// Whether a space begins the bytes, and a byte that is no blank follows it.
@@ -31,10 +25,7 @@ pub(crate) fn begins_visibly(bytes: &[u8]) -> bool
 pub(crate) fn begins_with_gap(bytes: &[u8]) -> bool
     ensures { IsTrue result → spec.BeginsWithGap bytes.now }
 {
-    match bytes {
-        [b' ', next, ..] => *next > b' ',
-        _ => false,
-    }
+    matches!(bytes, [b' ', next, ..] if *next > b' ')
 }
 
 /// Whether the last byte is that of a colon.

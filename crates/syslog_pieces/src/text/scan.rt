@@ -1,6 +1,6 @@
 //! Runs of ASCII bytes of a class: sixteen at a time while they last, then one by one.
 ghost use Rattle.std.specs.Prelude.{◌≡◌, ◌<◌, IsTrue, length, slice_index};
-ghost use Rattle.syslog_pieces.specs.Bodies.Scan.{IsRun, bit_of, byte_in};
+ghost use Rattle.syslog_pieces.specs.Bodies.Scan.{IsRun, byte_in};
 
 use crate::text::CharClass;
 use crate::text::lanes::{LANES, class_run};
@@ -22,19 +22,12 @@ static CLASSES: [u16; 256] = [
     0, 0, 0, 0, 0, 0, 0, 0, 0, 0, 0, 0, 0, 0, 0, 0, 0, 0, 0, 0, 0, 0, 0, 0, 0, 0, 0, 0, 0, 0, 0, 0,
 ];
 
-#[inline(always)]
-fn bit(class: CharClass) -> u16
-    ensures { result ≡ bit_of class }
-{
-    1 << class as u16
-}
-
 /// Whether the byte is ASCII and of the class.
 #[inline(always)]
 pub(crate) fn is_in(b: u8, class: CharClass) -> bool
     ensures { result ≡ byte_in class b }
 {
-    CLASSES[b as usize] & bit(class) != 0
+    CLASSES[b as usize] & (1 << class as u16) != 0
 }
 
 /// How many bytes at the front are ASCII and of the class.
@@ -61,9 +54,5 @@ pub(crate) fn ascii_run(bytes: &[u8], class: CharClass) -> usize
 pub(crate) fn is_cut(bytes: &[u8], at: usize) -> bool
     ensures { IsTrue result → at < length bytes.now → slice_index bytes.now at < 128 }
 {
-    if at < bytes.len() {
-        bytes[at] < 128
-    } else {
-        true
-    }
+    at >= bytes.len() || bytes[at] < 128
 }

@@ -22,6 +22,5 @@ pub fn before<'a>(text: &'a str, rest: &str) -> &'a str
     requires { (front : Text) × (chars text.now ≡ front ++ chars rest.now) }
     ensures { chars text.now ≡ chars result.now ++ chars rest.now }
 {
-    let (front, _) = text.split_at(text.len() - rest.len());
-    front
+    text.split_at(text.len() - rest.len()).0
 }

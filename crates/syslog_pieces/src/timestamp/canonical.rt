@@ -1,5 +1,5 @@
 //! Whether a timestamp is read back from its printed text.
-ghost use Rattle.std.specs.Prelude.{◌≡◌, ◌↔◌, ◌≤ℤ◌, pos, IfSome, IsTrue};
+ghost use Rattle.std.specs.Prelude.{◌≡◌, ◌↔◌, ◌%◌, ◌<◌, ◌≤ℤ◌, pos, unsigned_abs, IfSome, IsTrue};
 ghost use Rattle.syslog_pieces.specs.Timestamp.{clock_value, stamp_seen};
 ghost use Rattle.syslog_pieces.specs.Timestamp.Canonical as spec;
 ghost use Rattle.syslog_pieces.specs.Timestamp.Canonical.{IsCanonicalStamp};
@@ -11,11 +11,7 @@ use super::{ClockStamp, OffsetTimestamp};
 pub fn is_canonical_stamp(stamp: OffsetTimestamp) -> bool
     ensures { IsTrue result ↔ IsCanonicalStamp stamp }
 {
-    let seconds = stamp.offset.seconds().unsigned_abs();
-    if own_year(stamp) < 0 || seconds % 60 != 0 {
-        return false;
-    }
-    seconds < 86_400
+    is_read_back(stamp.offset.seconds(), i32::from(own_year(stamp)))
 }
 
 // The year that a clock at the timestamp's own offset shows.
@@ -31,25 +27,23 @@ pub fn is_canonical_clock(clock: Option<ClockStamp>) -> bool
     ensures { IsTrue result ↔ IfSome (stamp_seen clock) IsCanonicalStamp }
 {
     match clock {
-        Some(clock) => shows_canonical(clock),
+        Some(clock) => is_read_back(clock.offset.seconds(), shown_year(clock)),
         None => true,
     }
 }
 
-fn shows_canonical(clock: ClockStamp) -> bool
-    ensures { IsTrue result ↔ IsCanonicalStamp (clock_value clock) }
+// Whether an offset and a year are read back from print.
+fn is_read_back(offset: i32, year: i32) -> bool
+    ensures { IsTrue result ↔ (pos 0 ≤ℤ year) × (unsigned_abs offset % 60 ≡ 0) × (unsigned_abs offset < 86_400) }
 {
-    let seconds = clock.offset.seconds().unsigned_abs();
-    if !shows_late(clock) || seconds % 60 != 0 {
-        return false;
-    }
-    seconds < 86_400
+    let seconds = offset.unsigned_abs();
+    year >= 0 && seconds % 60 == 0 && seconds < 86_400
 }
 
-// Whether the year that it shows, which is its own, is 0 or a later one.
-fn shows_late(clock: ClockStamp) -> bool
-    ensures from { IsTrue result ↔ pos 0 ≤ℤ spec.own_year (clock_value clock) }
-    ensures to { spec.own_year (clock_value clock) ≤ℤ pos 9999 }
+// The year that it shows, which is its own.
+fn shown_year(clock: ClockStamp) -> i32
+    ensures value { result ≡ spec.own_year (clock_value clock) }
+    ensures to { result ≤ℤ pos 9999 }
 {
-    clock.fields.year >= 0
+    clock.fields.year
 }

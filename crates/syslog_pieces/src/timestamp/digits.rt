@@ -1,11 +1,12 @@
 //! The small pieces at the front of bytes: digits as numbers, and letters. Nothing is copied.
 ghost use Rattle.std.specs.Prelude.{◌≡◌, ℕ, ◌<◌, ◌≤◌, ◌++◌, ◌∷◌, length, slice_index, IfSome, MatchOption};
-ghost use Rattle.std.specs.Bool.{OnFalse};
 ghost use Rattle.std.specs.List.{prefix_len};
 ghost use Rattle.std.specs.Char.{is_ascii_digit, IsAsciiDigit};
-ghost use Rattle.syslog_pieces.specs.Pieces.{Ends, Front, NoFront, after, ReadsBytes};
+ghost use Rattle.syslog_pieces.specs.Pieces.{Front, NoFront, after, ReadsBytes};
 ghost use Rattle.syslog_pieces.specs.Timestamp.Printed.{pad3};
 ghost use Rattle.syslog_pieces.specs.Timestamp.Rfc3339 as spec;
+
+use crate::text::begins_with_digit;
 
 /// Two digits, as a number below a limit.
 #[inline(always)]
@@ -68,19 +69,11 @@ pub fn fraction(text: &[u8]) -> Option<(u32, &[u8])>
     ensures { ReadsBytes spec.fraction (λ n. n) text.now result }
 {
     match text {
-        [b'.', rest @ ..] => nanoseconds(rest),
+        [b'.', rest @ ..] => match few_decimals(rest) {
+            Some(read) => Some(read),
+            None => many_decimals(rest),
+        },
         _ => Some((0, text)),
-    }
-}
-
-// One or more digits, as decimals in nanoseconds.
-#[inline(always)]
-fn nanoseconds(text: &[u8]) -> Option<(u32, &[u8])>
-    ensures { ReadsBytes spec.decimals (λ n. n) text.now result }
-{
-    match few_decimals(text) {
-        Some(read) => Some(read),
-        None => many_decimals(text),
     }
 }
 
@@ -117,13 +110,6 @@ fn three_digits(text: &[u8]) -> Option<(u32, &[u8])>
         }
         _ => None,
     }
-}
-
-#[inline(always)]
-fn begins_with_digit(text: &[u8]) -> bool
-    ensures { OnFalse result (Ends is_ascii_digit text.now) }
-{
-    matches!(text, [b'0'..=b'9', ..])
 }
 
 // One or more digits, of any number: those past nine are worth nothing.

@@ -117,10 +117,7 @@ impl ClockStamp {
 pub fn stamp_of(clock: Option<ClockStamp>) -> Option<OffsetTimestamp>
     ensures { result ≡ stamp_seen clock }
 {
-    match clock {
-        Some(clock) => Some(clock.stamp()),
-        None => None,
-    }
+    Some(clock?.stamp())
 }
 
 // The second of the instant, which its nanosecond is counted from.

@@ -57,7 +57,8 @@ fn dated(day: Day, text: &str) -> Option<(MonthDate, &str)>
     ensures { (whole : Text) → Front (Row parts.day_row) whole (chars text.now) (parts.day_values day)
         → NoFront (Row spec.clock_row) (chars text.now) → Reads spec.month_date (λ d. d) whole result }
 {
-    let (year, rest) = read_year(text)?;
+    let (year, rest) = number(text, 2_147_483_647)?;
+    let rest = some_blanks(rest)?;
     let (clock, rest) = read_clock(rest)?;
     Some((date_of(Some(year), day, clock), rest))
 }
@@ -87,15 +88,6 @@ fn read_day(text: &str) -> Option<(Day, &str)>
     Some((Day { month, day }, rest))
 }
 
-// Reads the year, and the blanks after it.
-fn read_year(text: &str) -> Option<(u32, &str)>
-    ensures { Reads (Row parts.year_row) parts.year_values (chars text.now) result }
-{
-    let (year, rest) = number(text, 2_147_483_647)?;
-    let rest = some_blanks(rest)?;
-    Some((year, rest))
-}
-
 // Reads hour, minute and second, and the colon after them if there is one.
 #[inline(always)]
 fn read_clock(text: &str) -> Option<(Clock, &str)>
@@ -109,15 +101,12 @@ fn read_clock(text: &str) -> Option<(Clock, &str)>
     let (minute, rest) = number(rest, u32::MAX)?;
     let rest = literal(rest, ':')?;
     let (second, rest) = number(rest, u32::MAX)?;
-    let rest = past_colon(rest);
-    Some((
-        Clock {
-            hour,
-            minute,
-            second,
-        },
-        rest,
-    ))
+    let clock = Clock {
+        hour,
+        minute,
+        second,
+    };
+    Some((clock, past_colon(rest)))
 }
 
 // The number of the month that the text begins with the name of, which has three letters.
@@ -126,8 +115,7 @@ fn read_month(text: &str) -> Option<(u32, &str)>
     ensures { Reads spec.month (λ n. n) (chars text.now) result }
 {
     let (number, behind) = month(text.as_bytes())?;
-    let (_, rest) = text.split_at(text.len() - behind.len());
-    Some((number, rest))
+    Some((number, text.split_at(text.len() - behind.len()).1))
 }
 
 // Reads a month of bytes.

@@ -72,8 +72,7 @@ pub fn read(text: &str) -> Option<(Rfc3339Fields, &str)>
         return None;
     }
     let (written, end) = numbers(bytes)?;
-    let (_, rest) = text.split_at(text.len() - end.len());
-    Some((written, rest))
+    Some((written, text.split_at(text.len() - end.len()).1))
 }
 
 #[inline(always)]
@@ -107,9 +106,8 @@ fn numbers(text: &[u8]) -> Option<(Rfc3339Fields, &[u8])>
 fn offset(text: &[u8]) -> Option<(i32, &[u8])>
     ensures { ReadsBytes spec.offset (λ seconds. seconds) text.now result }
 {
-    match after_letter(text, b'Z') {
-        Some(rest) => return Some((0, rest)),
-        None => {}
+    if let Some(rest) = after_letter(text, b'Z') {
+        return Some((0, rest));
     }
     let (is_behind, rest) = sign(text)?;
     let (hours, rest) = pair(rest, 24)?;

@@ -1,18 +1,18 @@
 -- The table is held against the classes at each of the 256 bytes, by computing.
-use Rattle.syslog_pieces.proofs.Names.{◌≡◌, ℕ, Bool, true, not, nat_eq, get_or, refl, ap, ◌∙◌, arith, agree_below}
-use Rattle.syslog_pieces.proofs.Names.{agree_below_at, CharClass, byte_in, bit_of, bit_and}
+use Rattle.syslog_pieces.proofs.Names.{◌≡◌, ℕ, Bool, true, not, nat_eq, get_or, refl, arith, agree_below, ◌*◌, ◌^◌, ◌%◌}
+use Rattle.syslog_pieces.proofs.Names.{agree_below_at, CharClass, byte_in, bit_and}
+use denote.Enum.Declared.{tag_of}
+use Rattle.syslog_pieces.specs.contracts.text.CharClass.{the_type}
 use Rattle.syslog_pieces.specs.declared.text.scan.TheConstants.{CLASSES}
 use Rattle.syslog_pieces.specs.declared.text.CharClass.TheVariants.{Digit}
 use Rattle.syslog_pieces.proofs.text.scan.is_in.Goals as goal
 
 abbrev reads : CharClass → ℕ → Bool
-reads class k = not (nat_eq (bit_and (get_or CLASSES k 0) (bit_of class)) 0)
+reads class k = not (nat_eq (bit_and (get_or CLASSES k 0) ((1 * (2 ^ tag_of the_type class)) % 65_536)) 0)
 
 agrees : (class : CharClass) → agree_below (reads class) (byte_in class) 256 ≡ true
 agrees Digit = refl
 agrees other = refl
 
 pub returns : goal.returns
-returns c =
-    ap (λ (m : ℕ). not (nat_eq (bit_and (get_or CLASSES c.args.b 0) m) 0)) c.bit.ensures
-    ∙ agree_below_at (reads c.args.class) (byte_in c.args.class) 256 c.args.b (agrees c.args.class) (omega arith)
+returns c = agree_below_at (reads c.args.class) (byte_in c.args.class) 256 c.args.b (agrees c.args.class) (omega arith)

@@ -5,11 +5,11 @@ use Rattle.syslog_pieces.proofs.timestamp.rfc3339_text.offset.Goals as goal
 
 pub returns-in_err-is_behind : goal.returns-in_err-is_behind
 returns-in_err-is_behind c =
-    let n = no_offset c.in-None.ensures (no_row numeric_row numeric_det (inl c.in_err-is_behind.ensures)) in search rules
+    let n = no_offset c.in_default.ensures (no_row numeric_row numeric_det (inl c.in_err-is_behind.ensures)) in search rules
 
 pub returns-in_err-minutes : goal.returns-in_err-minutes
 returns-in_err-minutes c =
-    let n = no_offset c.in-None.ensures (no_row numeric_row numeric_det (c.in_ok-is_behind.ensures past
+    let n = no_offset c.in_default.ensures (no_row numeric_row numeric_det (c.in_ok-is_behind.ensures past
     c.in_ok-hours.ensures past inl c.in_err-minutes.ensures)) in search rules
 
 pub returns : goal.returns

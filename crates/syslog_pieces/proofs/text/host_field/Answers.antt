@@ -1,6 +1,6 @@
 use Rattle.syslog_pieces.proofs.Names.{host, optional_some, spaced_front, no_spaced_space, no_spaced_piece, spaced}
 use Rattle.syslog_pieces.proofs.Names.{optional_none}
-use Rattle.syslog_pieces.proofs.text.fields.host_field.Goals as goal
+use Rattle.syslog_pieces.proofs.text.host_field.Goals as goal
 
 pub returns-in_default : goal.returns-in_default
 returns-in_default c = optional_none (spaced host) (no_spaced_space host c.in_default.ensures)

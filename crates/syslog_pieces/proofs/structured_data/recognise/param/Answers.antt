@@ -1,6 +1,6 @@
 use Rattle.syslog_pieces.proofs.Names.{rules, meets_none}
 use Rattle.syslog_pieces.proofs.StructuredDataLemmas.Closing.{no_opening, param_opens}
-use Rattle.syslog_pieces.proofs.structured_data.element.param.Goals as goal
+use Rattle.syslog_pieces.proofs.structured_data.recognise.param.Goals as goal
 
 pub returns-in_err-name : goal.returns-in_err-name
 returns-in_err-name c = let n = no_opening c.in_err-name.ensures in search rules

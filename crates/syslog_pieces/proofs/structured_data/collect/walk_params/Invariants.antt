@@ -1,5 +1,5 @@
 use Rattle.syslog_pieces.proofs.Names.{◌≡◌, ◌++◌, map, param_value, shown, element_seen, params_left}
-use Rattle.syslog_pieces.proofs.structured_data.collect_element.walk_params.Given as goal
+use Rattle.syslog_pieces.proofs.structured_data.collect.walk_params.Given as goal
 
 abbrev pub invariant-loop-param : goal.invariant-loop-param
 invariant-loop-param l =

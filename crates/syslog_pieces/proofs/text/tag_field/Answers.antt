@@ -1,5 +1,5 @@
 use Rattle.syslog_pieces.proofs.Names.{tag_word, optional_some, spaced_front, no_spaced_space, spaced, optional_none}
-use Rattle.syslog_pieces.proofs.text.fields.tag_field.Goals as goal
+use Rattle.syslog_pieces.proofs.text.tag_field.Goals as goal
 
 pub returns-in_default : goal.returns-in_default
 returns-in_default c = optional_none (spaced tag_word) (no_spaced_space tag_word c.in_default.ensures)

@@ -1,7 +1,7 @@
 use Rattle.syslog_pieces.proofs.Names.{ap, sym, ◌∙◌, text_of, ElementValue, element_value, element_eq}
 use Rattle.std.specs.Cmp.{partial_equiv_from_equiv}
 use Rattle.syslog_pieces.specs.StructuredData.EqualLaws.{element_equivalence, element_eq-decides}
-use Rattle.syslog_pieces.proofs.laws.comparison.elements_are_equal_in_any_order.Goals as goal
+use Rattle.syslog_pieces.proofs.laws.elements_are_equal_in_any_order.Goals as goal
 
 pub returns-clause-exact : goal.returns-clause-exact
 returns-clause-exact g c a b = element_eq-decides _ _

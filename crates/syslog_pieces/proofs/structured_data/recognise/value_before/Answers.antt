@@ -1,6 +1,6 @@
 use Rattle.syslog_pieces.proofs.Names.{rules, arith}
 use Rattle.syslog_pieces.proofs.StructuredDataLemmas.Closing.{quoted_longer, quoted_cut}
-use Rattle.syslog_pieces.proofs.structured_data.walk.value_before.Goals as goal
+use Rattle.syslog_pieces.proofs.structured_data.recognise.value_before.Goals as goal
 
 pub overflow_sub-text : goal.overflow_sub-text
 overflow_sub-text c = omega (arith, quoted_longer _ _ c.utf8.text (search rules) _ c.requires.1)

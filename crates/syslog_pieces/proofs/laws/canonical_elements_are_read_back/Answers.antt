@@ -1,5 +1,5 @@
 use Rattle.syslog_pieces.proofs.StructuredDataLemmas.Elements.{forgiving_back, forgiving_canonical}
-use Rattle.syslog_pieces.proofs.laws.read_back.canonical_elements_are_read_back.Goals as goal
+use Rattle.syslog_pieces.proofs.laws.canonical_elements_are_read_back.Goals as goal
 
 pub returns-clause-back : goal.returns-clause-back
 returns-clause-back c = forgiving_back
