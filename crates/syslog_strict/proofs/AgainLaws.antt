@@ -1,15 +1,20 @@
 -- What was converted is converted to the same text again.
 use Rattle.std.proofs.Common.{◌≡◌, ◌≢◌, ◌⊎◌, inl, inr, ℕ, ℤ, ◌<◌, ◌+ℤ◌, Bool, true, false, List, [], ◌∷◌, ◌++◌, length, map, nat_eq}
-use Rattle.std.proofs.Common.{Option, Some, None, refl, sym, ap, ap₂, ◌∙◌, arith, append-nil, if◌then◌else◌}
+use Rattle.std.proofs.Common.{Option, Some, None, refl, sym, ap, ap₂, subst, ◌∙◌, arith, append-nil, if◌then◌else◌}
 use Rattle.std.proofs.lemmas.Bool.{cases_Bool}
+use Rattle.std.proofs.lemmas.List.{length-map}
 use Rattle.std.proofs.lemmas.Bool.Decides.{nat_tests}
 use Rattle.std.specs.List.{AllByRecursion}
 use Rattle.std.specs.Option.{option_and_then, option_map}
 use Rattle.jiff_core.proofs.SignedLemmas.{signed_arith, int_rem_euclid-parts}
 use Rattle.syslog_pieces.specs.Pieces.Class.{Text, join}
+use Rattle.syslog_pieces.specs.Bodies.Verbatim.{IsBareWord}
 use Rattle.syslog_pieces.specs.Pieces.View.{text_eq}
-use Rattle.syslog_pieces.specs.ProcId.{NamesProcess, named_process}
-use Rattle.syslog_pieces.proofs.ProcIdLemmas.{named_names}
+use Rattle.syslog_pieces.specs.ProcId.{NamesProcess, named_process, process_text}
+use Rattle.syslog_pieces.specs.StructuredData.Canonical.{IsCanonicalElement}
+use Rattle.syslog_pieces.proofs.PieceLemmas.Class.{all_map}
+use Rattle.syslog_pieces.proofs.ProcIdLemmas.{bare_prints, named_names}
+use Rattle.syslog_pieces.proofs.StructuredDataLemmas.Elements.{forgiving_back, forgiving_det, no_item_nil}
 use Rattle.std.proofs.Common.{◌%◌, ◌&&◌, nat_lt, unsigned_abs}
 use Rattle.std.specs.Bool.{◌==◌}
 use Rattle.jiff.specs.Words.{nanos_of_seconds}
@@ -22,7 +27,7 @@ use Rattle.syslog_loose.specs.declared.variant.Variant.{Variant}
 use Rattle.syslog_loose.specs.declared.variant.Variant.TheVariants.{Either}
 use Rattle.syslog_strict.specs.Call.{IsConvertedText}
 use Rattle.syslog_strict.specs.Conversion.{converted, converted_stamp, cut_stamp, has_text, in_utc, is_four_digits, micros}
-use Rattle.syslog_pieces.specs.StructuredData.Element.{ElementValue}
+use Rattle.syslog_pieces.specs.StructuredData.Element.{ElementValue, elements_text}
 use Rattle.syslog_pieces.specs.Text.{colon, dash}
 use Rattle.syslog_pieces.specs.declared.procid.ProcId.{ProcId}
 use Rattle.syslog_pieces.specs.declared.procid.ProcId.TheVariants.{PID, Name}
@@ -30,9 +35,14 @@ use Rattle.syslog_strict.specs.Conversion.{cleaned, converted_element, converted
 use Rattle.syslog_strict.specs.Conversion.{converted_process, converted_value, converted_word, escaped_from, is_among, joined_past}
 use Rattle.syslog_strict.specs.Conversion.{named, or_mark, params_of, without_last_colon, without_lone_colon}
 use Rattle.syslog_strict.specs.Grammar.{AreDistinct, IsParamValue, IsSdName, IsSyslogMsg, IsValuePiece, is_escaped, is_printusascii, is_sd_char}
-use Rattle.syslog_strict.proofs.ElementLaws.{IsStrictElement, IsStrictParam, converted_are, converted_distinct}
+use Rattle.syslog_strict.proofs.ElementLaws.{IsStrictElement, IsStrictParam, converted_are, converted_distinct, element_back, elements_in}
+use Rattle.syslog_strict.proofs.ElementLemmas.{elements_some}
+use Rattle.syslog_strict.specs.Beginnings.{BeginsDistinct}
 use Rattle.syslog_strict.proofs.NameLaws.{colonless_end, colonless_length, colonless_passes, lone_other, lone_passes, lone_short}
 use Rattle.syslog_strict.proofs.TextLemmas.{cleaned_passes, cleaned_same, cleaned_short, colonless_same, text_eq_true}
+
+no_text : (t u : Text) → t ≢ u → text_eq t u ≡ false
+no_text t u other = elim (cases_Bool (text_eq t u)) [ inl e ↦ absurd (other (text_eq_true t u e)) | inr e ↦ e ]
 
 -- ---- names
 
@@ -89,6 +99,18 @@ word_process_again : (v : Option Text) → option_and_then (converted_word 128) 
 word_process_again None same = refl
 word_process_again (Some u) same = named_process_again u (named_process u) refl (named_names u) same
 
+-- a word of several characters of the grammar that is printed as what it names
+pub bare_stays : (t : Text) → 1 < length t → cleaned is_printusascii 128 t ≡ t → IsBareWord t
+    → process_text (converted_process (named_process t)) ≡ t
+bare_stays [] long same bare = absurd (omega arith)
+bare_stays (c ∷ []) long same bare = absurd (omega arith)
+bare_stays (c ∷ d ∷ t) long same bare =
+    let u : Text = c ∷ d ∷ t in
+    let kept : converted_word 128 u ≡ Some u = ap (λ (x : Text). named (without_lone_colon x)) same
+    ∙ ap named (lone_same u (λ e. cc)) ∙ rw (no_text u dash (λ e. cc)) refl in
+    ap process_text (named_process_again u (named_process u) refl (named_names u) kept)
+    ∙ bare_prints u (named_process u) (omega arith) bare (named_names u)
+
 pub process_again : (v : Option (ProcId Text))
     → option_and_then converted_process (option_and_then converted_process v) ≡ option_and_then converted_process v
 process_again None = refl
@@ -143,9 +165,6 @@ elements_same [] each = refl
 elements_same (e ∷ es) each =
     ap₂ (λ (x : ElementValue) (y : List ElementValue). x ∷ y) (element_same e each.0) (elements_same es each.1)
 
-no_text : (t u : Text) → t ≢ u → text_eq t u ≡ false
-no_text t u other = elim (cases_Bool (text_eq t u)) [ inl e ↦ absurd (other (text_eq_true t u e)) | inr e ↦ e ]
-
 pick_false : (b : Bool) (xs ys : List (Text × Text)) → b ≡ false → (if b then xs else ys) ≡ ys
 pick_false b xs ys e = rw e refl
 
@@ -188,10 +207,25 @@ none_among : (es : List ElementValue) → AllByRecursion (λ (e : ElementValue).
 none_among [] = tt
 none_among (e ∷ es) = (refl, none_among es)
 
+-- elements in the grammar of which no id comes twice
+distinct_again : (es : List ElementValue) → AllByRecursion IsStrictElement es
+    → AreDistinct (map (λ (e : ElementValue). e.id) es) → converted_elements es ≡ es
+distinct_again es are apart = ap (joined_past []) (elements_same es are) ∙ joined_same [] es (none_among es) apart
+
 pub elements_again : (es : List ElementValue) → converted_elements (converted_elements es) ≡ converted_elements es
-elements_again es =
-    let ds = converted_elements es in
-    ap (joined_past []) (elements_same ds (converted_are es)) ∙ joined_same [] ds (none_among ds) (converted_distinct es)
+elements_again es = distinct_again (converted_elements es) (converted_are es) (converted_distinct es)
+
+-- canonical elements, if their text is such elements: then they are these
+pub strict_stay : (es : List ElementValue) → AllByRecursion IsCanonicalElement es → BeginsDistinct (elements_text es) []
+    → elements_text (converted_elements es) ≡ elements_text es
+strict_stay es canonical (ids, some, begins, apart) =
+    let (ds, are, same, texts) = elements_in begins.elements begins.each in
+    let ids_are = same ∙ begins.have in
+    let long : 0 < length ds = omega (arith, ap length ids_are, length-map {A = ElementValue} {B = Text}) in
+    let text : elements_text es ≡ elements_text ds = begins.whole ∙ append-nil _ ∙ texts ∙ sym (elements_some ds (λ e. (let k = ap length e in omega arith))) in
+    let here : es ≡ ds = (forgiving_det _ [] _ [] es ds (ap (λ (t : Text). t ++ []) text)
+    (forgiving_back es [] canonical no_item_nil) (forgiving_back ds [] (all_map element_back ds are) no_item_nil)).1 in
+    rw here (ap elements_text (distinct_again ds are (subst AreDistinct (sym ids_are) apart)))
 
 -- ---- timestamps
 

@@ -217,6 +217,31 @@ pub elements_is : (es : List ElementValue) → IsStructuredData (elements_text (
 elements_is es = data_is (converted_elements es) (joined_are [] (map converted_element es) (elements_are es))
     (distinct [] (map converted_element es))
 
+-- ---- elements of the grammar, by their texts
+
+-- parameters that have these texts
+params_in : (ts : List Text) → AllByRecursion IsSdParam ts
+    → (ps : List (Text × Text)) × AllByRecursion IsStrictParam ps × (join ts ≡ flat_map param_text ps)
+params_in [] each = ([], tt, refl)
+params_in (t ∷ ts) ((name, value, is, valued, e), each) =
+    let (ps, are, same) = params_in ts each in
+    ((name, value) ∷ ps, ((is, valued), are), ap₂ (λ (x y : Text). x ++ y) e same)
+
+-- elements that have these ids and texts
+pub elements_in : (ts : List (Text × Text)) → AllByRecursion (λ (t : Text × Text). IsSdElement t.0 t.1) ts
+    → (es : List ElementValue) × AllByRecursion IsStrictElement es
+    × (map (λ (e : ElementValue). e.id) es ≡ map (λ (t : Text × Text). t.0) ts)
+    × (join (map (λ (t : Text × Text). t.1) ts) ≡ joined_elements es)
+elements_in [] each = ([], tt, refl, refl)
+elements_in (t ∷ ts) ((params, is, are, e), each) =
+    let (ps, strict, inner) = params_in params are in
+    let (es, more, ids, texts) = elements_in ts each in (
+      record { id = t.0; params = ps } ∷ es,
+      ((is, strict), more),
+      ap (λ (x : List Text). t.0 ∷ x) ids,
+      ap₂ (λ (x y : Text). x ++ y) (e ∙ ap (λ (x : Text). 91 ∷ (t.0 ++ (x ++ (93 ∷ [])))) inner) texts,
+    )
+
 -- ---- read back
 
 sd_id : (c : ℕ) → is_sd_char c ≡ true → is_id_char c ≡ true
@@ -239,7 +264,7 @@ params_unblank : (ps : List (Text × Text)) → AllByRecursion IsStrictParam ps 
 params_unblank [] each = tt
 params_unblank (p ∷ ps) each = begins_unblank p.0 each.0.0.2
 
-element_back : (e : ElementValue) → IsStrictElement e → IsCanonicalElement e
+pub element_back : (e : ElementValue) → IsStrictElement e → IsCanonicalElement e
 element_back e is = (
   is.0.0,
   each_map is_sd_char is_id_char sd_id e.id is.0.2,

@@ -1,10 +1,7 @@
 //! A line as RFC 5424.
-ghost use Rattle.std.specs.Prelude.{◌≡◌, ◌↔◌, ⊤, MatchResult, OnOk, string_bytes};
-ghost use Rattle.std.specs.Str.{chars};
+ghost use Rattle.std.specs.Prelude.{◌≡◌, OnOk};
 ghost use Rattle.syslog_loose.specs.Line.{line_value};
 ghost use Rattle.syslog_loose.specs.Printed.{printed};
-ghost use Rattle.syslog_loose.specs.Reading.{AnswersEachMonth, InYear, IsOnlyRead, IsUnreadable};
-ghost use Rattle.syslog_pieces.specs.Timestamp.Zone.{dating_of};
 ghost use Rattle.syslog_strict.specs.Conversion.{converted};
 ghost use Rattle.syslog_strict.specs.Pushing.{text_in};
 
@@ -34,11 +31,11 @@ pub(crate) fn write_line(
     push_char(text, ' ')?;
     push_word(text, line.appname, 48)?;
     push_char(text, ' ')?;
-    push_process(alloc, text, line.process())?;
+    push_process(alloc, text, line.process)?;
     push_char(text, ' ')?;
     push_word(text, line.msgid, 32)?;
     push_char(text, ' ')?;
-    push_list(alloc, text, &line.list)?;
+    push_list(alloc, text, line.list)?;
     push_char(text, ' ')?;
     push_text(text, line.msg)
 }

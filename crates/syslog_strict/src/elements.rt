@@ -1,18 +1,17 @@
 //! Structured data, as RFC 5424 has it.
-ghost use Rattle.std.specs.Prelude.{◌≡◌, [], ◌∷◌, ◌++◌, OnOk, map, if◌then◌else◌};
+ghost use Rattle.std.specs.Prelude.{◌≡◌, [], ◌∷◌, OnOk, map, if◌then◌else◌};
 ghost use Rattle.std.specs.List.{flat_map};
 ghost use Rattle.std.specs.Str.{chars};
-ghost use Rattle.syslog_pieces.specs.Pieces.View.{shown, text_eq};
-ghost use Rattle.syslog_pieces.specs.StructuredData.Element.{element_text, joined_elements, param_text};
-ghost use Rattle.syslog_pieces.specs.StructuredData.Visited.{element_seen, elements_left, list_elements};
-ghost use Rattle.syslog_strict.specs.Conversion.{converted_element, converted_elements, converted_name, converted_param};
-ghost use Rattle.syslog_strict.specs.Conversion.{converted_value, is_among, joined_with, or_mark, params_of};
+ghost use Rattle.syslog_pieces.specs.StructuredData.Element.{param_text};
+ghost use Rattle.syslog_pieces.specs.StructuredData.Visited.{element_seen};
+ghost use Rattle.syslog_strict.specs.Conversion.{converted_name, converted_param};
+ghost use Rattle.syslog_strict.specs.Conversion.{converted_value, or_mark};
 ghost use Rattle.syslog_strict.specs.Grammar.{is_escaped};
 ghost use Rattle.syslog_strict.specs.Pushing.{Appends};
 
-use crate::text::{Kept, is_same_cleaned, push_char, push_cleaned, push_text};
-use std::alloc::{AllocError, Global};
-use syslog_loose::{Element, ElementList, Elements};
+use crate::text::{Kept, push_char, push_cleaned, push_text};
+use std::alloc::AllocError;
+use syslog_loose::Element;
 use syslog_pieces::text::{CharClass, first, split_run};
 
 // How many characters an id or a name has at most.
@@ -35,13 +34,6 @@ pub(crate) fn push_name(out: &mut String, name: &str) -> Result<(), AllocError>
     ensures { OnOk result (Appends out.old (converted_name (chars name.now)) out.new) }
 {
     push_cleaned(out, or_mark(name), Kept::SdName, NAME)
-}
-
-// Whether two ids are one.
-fn is_same_id(a: &str, b: &str) -> bool
-    ensures { result ≡ text_eq (converted_name (chars a.now)) (converted_name (chars b.now)) }
-{
-    is_same_cleaned(or_mark(a), or_mark(b), Kept::SdName, NAME)
 }
 
 // Appends a character after a backslash that was read.
@@ -108,67 +100,6 @@ pub(crate) fn push_params(out: &mut String, element: &Element<'_>) -> Result<(),
 {
     for (name, value) in element.params() {
         push_param(out, name, value)?;
-    }
-    Ok(())
-}
-
-// Appends the parameters of those of the elements that have the id.
-fn push_params_of(out: &mut String, id: &str, elements: Elements<'_>) -> Result<(), AllocError>
-    ensures { OnOk result (Appends out.old (flat_map param_text
-        (params_of (converted_name (chars id.now)) (map converted_element (elements_left elements.entry)))) out.new) }
-{
-    for element in elements {
-        if is_same_id(element.id(), id) {
-            push_params(out, &element)?;
-        }
-    }
-    Ok(())
-}
-
-// Appends an element, with the parameters of those of the later elements that have its id.
-fn push_element(
-    out: &mut String,
-    element: &Element<'_>,
-    later: Elements<'_>,
-) -> Result<(), AllocError>
-    ensures { OnOk result (Appends out.old (element_text (joined_with (converted_element (element_seen element.now))
-        (map converted_element (elements_left later.entry)))) out.new) }
-{
-    push_char(out, '[')?;
-    push_name(out, element.id())?;
-    push_params(out, element)?;
-    push_params_of(out, element.id(), later)?;
-    push_char(out, ']')
-}
-
-// Whether the id is one of these.
-fn came_before(ids: &Vec<&str>, id: &str) -> bool
-    ensures { result ≡ is_among (converted_name (chars id.now)) (map (λ s. converted_name (shown s)) ids.now.items) }
-{
-    for other in ids {
-        if is_same_id(*other, id) {
-            return true;
-        }
-    }
-    false
-}
-
-/// Appends the elements, those with one id as one. Each is compared with each.
-pub(crate) fn push_elements(
-    alloc: Global,
-    out: &mut String,
-    list: &ElementList<'_>,
-) -> Result<(), AllocError>
-    ensures { OnOk result (Appends out.old (joined_elements (converted_elements (list_elements list.now))) out.new) }
-{
-    let mut ids = Vec::new(alloc);
-    let mut later = list.elements();
-    'elements: while let Some(element) = later.next() {
-        let id = element.id();
-        if !came_before(&ids, id) {
-            push_element(out, &element, later)?;
-            ids.push(id)?;
-        }
     }
     Ok(())
 }

@@ -1,4 +1,4 @@
-//! The elements of a line, those with one id joined. Of many elements the parameters of each id are gathered in one pass.
+//! The elements of a line, those with one id joined: the parameters of each id are gathered in one pass.
 ghost use Rattle.std.specs.Prelude.{◌≡◌, ◌++◌, ◌∷◌, [], ℕ, cond, if◌then◌else◌, is_some, IfOk, List, None, OnOk, map, string_bytes};
 ghost use Rattle.std.specs.BTreeMap.{get_by_text};
 ghost use Rattle.std.specs.Str.{bytes_eq};
@@ -8,14 +8,12 @@ ghost use Rattle.syslog_strict.specs.Conversion.{converted_element, converted_el
 ghost use Rattle.syslog_strict.specs.Joined.{HasJoined, joined_text, text_or_none};
 ghost use Rattle.syslog_strict.specs.Pushing.{Appends, text_in};
 
-use crate::elements::{push_elements, push_name, push_params};
+use crate::elements::{push_name, push_params};
 use crate::text::{push_char, push_text};
+use crate::valid::are_elements;
 use std::alloc::{AllocError, Global};
 use std::collections::BTreeMap;
 use syslog_loose::{Element, ElementList};
-
-// How many elements are joined without memory for their parameters.
-const FEW: usize = 8;
 
 // Ids in the order in which they first came, and the parameters of each id, as they are written.
 #[derive(Drop)]
@@ -111,19 +109,23 @@ fn push_many(alloc: Global, out: &mut String, list: &ElementList<'_>) -> Result<
     joined.push_to(out)
 }
 
-/// Appends the elements, or `-` where there are none.
+/// Appends the elements, or `-` where there are none. Elements that are in the grammar are copied.
+///
+/// The list is no reference: while one was taken, the whole line would be kept in memory.
 pub(crate) fn push_list(
     alloc: Global,
     out: &mut String,
-    list: &ElementList<'_>,
+    list: ElementList<'_>,
 ) -> Result<(), AllocError>
-    ensures { OnOk result (Appends out.old (elements_text (converted_elements (list_elements list.now))) out.new) }
+    ensures { OnOk result (Appends out.old (elements_text (converted_elements (list_elements list.entry))) out.new) }
 {
     if list.is_empty() {
         return push_char(out, '-');
     }
-    if list.len() > FEW {
-        return push_many(alloc, out, list);
+    if let Some(text) = list.printed() {
+        if are_elements(alloc, text) {
+            return push_text(out, text);
+        }
     }
-    push_elements(alloc, out, list)
+    push_many(alloc, out, &list)
 }

@@ -3,18 +3,18 @@ ghost use Rattle.std.specs.Prelude.{◌≡◌, ◌≢◌, ◌⊎◌, ◌<◌, []
 ghost use Rattle.std.specs.Option.{option_and_then, option_map};
 ghost use Rattle.std.specs.Fmt.{signed_decimal};
 ghost use Rattle.std.specs.Str.{chars};
-ghost use Rattle.syslog_pieces.specs.Pieces.View.{seen, shown};
-ghost use Rattle.syslog_pieces.specs.ProcId.{named_process, procid_text, procid_value, process_text};
+ghost use Rattle.syslog_pieces.specs.Pieces.View.{seen};
+ghost use Rattle.syslog_pieces.specs.ProcId.{named_process, procid_text, process_text};
 ghost use Rattle.syslog_pieces.specs.Text.{name_text};
 ghost use Rattle.syslog_strict.specs.Conversion.{converted_host, converted_process, converted_word, kept_char};
-ghost use Rattle.syslog_strict.specs.Conversion.{no_colon, without_last_colon};
+ghost use Rattle.syslog_strict.specs.Conversion.{no_colon};
 ghost use Rattle.syslog_strict.specs.Grammar.{is_printusascii};
 ghost use Rattle.syslog_strict.specs.Pushing.{Appends};
 
 use crate::text::{Kept, is_kept, push_char, push_cleaned, push_text};
 use std::alloc::{AllocError, Global};
 use syslog_pieces::as_str::is_same_text;
-use syslog_pieces::procid::ProcId;
+use syslog_pieces::procid::{ProcId, is_bare_word};
 use syslog_pieces::text::first;
 
 // How many characters a host has at most, and a process id.
@@ -133,20 +133,33 @@ fn push_word_text(out: &mut String, word: &str, most: usize) -> Result<(), Alloc
     push_cleaned(out, word, Kept::Printable, most)
 }
 
-/// Appends the process id.
+/// Appends the process id that the text names.
 #[inline(always)]
 pub(crate) fn push_process(
     alloc: Global,
     out: &mut String,
-    process: Option<ProcId<&str>>,
+    word: Option<&str>,
 ) -> Result<(), AllocError>
     ensures { OnOk result (Appends out.old (process_text
-        (option_and_then converted_process (option_map (procid_value (λ s. shown s)) process.entry))) out.new) }
+        (option_and_then converted_process (option_map named_process (seen word.entry)))) out.new) }
 {
-    match process {
-        Some(ProcId::PID(number)) => push_number(out, number),
-        Some(ProcId::Name(name)) => push_process_name(alloc, out, name),
+    match word {
+        Some(word) => push_process_text(alloc, out, word),
         None => push_char(out, '-'),
+    }
+}
+
+// Appends the process id that this text names: the text itself, where that is in the grammar and printed as it is.
+#[inline(always)]
+fn push_process_text(alloc: Global, out: &mut String, word: &str) -> Result<(), AllocError>
+    ensures { OnOk result (Appends out.old (process_text (converted_process (named_process (chars word.now)))) out.new) }
+{
+    if word.len() > 1 && is_bare_word(word) && is_kept(word, Kept::Printable, PROCESS) {
+        return push_text(out, word);
+    }
+    match ProcId::from(word) {
+        ProcId::PID(number) => push_number(out, number),
+        ProcId::Name(name) => push_process_name(alloc, out, name),
     }
 }
 

@@ -2,7 +2,6 @@
 ghost use Rattle.std.specs.Prelude.{◌≡◌, ◌+◌, ◌*◌, ◌<◌, ◌++◌, ◌∷◌, [], true, false, IfSome, IsTrue, MatchOption, OnOk, Some, unwrap_or};
 ghost use Rattle.std.specs.Fmt.{decimal};
 ghost use Rattle.std.specs.Option.{option_and_then};
-ghost use Rattle.syslog_pieces.specs.Front.{clock_text};
 ghost use Rattle.syslog_pieces.specs.Pri.{facility_number, severity_number};
 ghost use Rattle.syslog_pieces.specs.Timestamp.{stamp_seen};
 ghost use Rattle.syslog_pieces.specs.declared.timestamp.OffsetTimestamp.{OffsetTimestamp as OffsetValue};

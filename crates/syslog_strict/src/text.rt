@@ -1,7 +1,6 @@
 //! Texts that are appended, as they are or with what a class lacks as `?`.
 ghost use Rattle.std.specs.Prelude.{◌≡◌, [], ◌∷◌, IsTrue, OnOk};
 ghost use Rattle.std.specs.Str.{chars};
-ghost use Rattle.syslog_pieces.specs.Pieces.View.{text_eq};
 ghost use Rattle.syslog_strict.specs.Conversion.{cleaned as cleaned_text, kept_char};
 ghost use Rattle.syslog_strict.specs.Pushing.{Appends, keeps};
 
@@ -117,29 +116,4 @@ fn push_each(out: &mut String, text: &str, kept: Kept, most: usize) -> Result<()
         left -= 1;
     }
     Ok(())
-}
-
-/// Whether both texts are the same once they are cleaned.
-pub(crate) fn is_same_cleaned(a: &str, b: &str, kept: Kept, most: usize) -> bool
-    ensures { result ≡ text_eq (cleaned_text (keeps kept) most (chars a.now))
-        (cleaned_text (keeps kept) most (chars b.now)) }
-{
-    let mut a = a;
-    let mut b = b;
-    let mut left = most;
-    'chars: while left > 0 {
-        let Some((c, rest_a)) = first(a) else {
-            return first(b).is_none();
-        };
-        let Some((d, rest_b)) = first(b) else {
-            return false;
-        };
-        if kept.kept(c) != kept.kept(d) {
-            return false;
-        }
-        a = rest_a;
-        b = rest_b;
-        left -= 1;
-    }
-    true
 }

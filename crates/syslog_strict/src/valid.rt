@@ -1,12 +1,11 @@
 //! Whether a text is in the grammar of RFC 5424 already.
 //!
 //! A reader has two clauses: `found` says what it finds, and `only` that nothing else is so.
-ghost use Rattle.std.specs.Prelude.{◌≡◌, ◌≢◌, ◌⊎◌, ◌↔◌, ◌<◌, ◌++◌, ◌∷◌, [], ℕ, ⊤, true, IfOk, IsSomeAnd, IsTrue, List, MatchOption, length, pos};
+ghost use Rattle.std.specs.Prelude.{◌≡◌, ◌≢◌, ◌⊎◌, ◌↔◌, ◌<◌, ◌∷◌, [], ℕ, ⊤, true, IfOk, IsSomeAnd, IsTrue, List, MatchOption, length, pos};
 ghost use Rattle.std.specs.Str.{chars, IsUtf8};
 ghost use Rattle.jiff_core.specs.Calendar.{IsCivilDate};
-ghost use Rattle.jiff_fmt.specs.Text.{pad2};
 ghost use Rattle.syslog_pieces.specs.Pieces.Class.{Text};
-ghost use Rattle.syslog_pieces.specs.Pieces.View.{shown, text_eq};
+ghost use Rattle.syslog_pieces.specs.Pieces.View.{shown};
 ghost use Rattle.syslog_pieces.specs.Text.CharClass.{has};
 ghost use Rattle.syslog_strict.specs.Beginnings.{Begins, BeginsDistinct, BeginsElement, BeginsElements, BeginsName, BeginsParams, BeginsSecfrac};
 ghost use Rattle.syslog_strict.specs.Beginnings.{BeginsTime, BeginsValue, Follows, IsBody, IsDistinctAndMsg, IsElementsAndMsg, IsHeader};
@@ -367,6 +366,16 @@ fn after_distinct(alloc: Global, text: &str) -> Result<Option<&str>, AllocError>
         rest = after;
     }
     Ok(Some(rest))
+}
+
+/// Whether the text is elements of which no id comes twice. It may be `false` though it is, if an allocation fails.
+pub(crate) fn are_elements(alloc: Global, text: &str) -> bool
+    ensures { IsTrue result → BeginsDistinct (chars text.now) [] }
+{
+    match after_distinct(alloc, text) {
+        Ok(Some(rest)) => rest.is_empty(),
+        _ => false,
+    }
 }
 
 // Whether the text is `SP MSG`, or nothing.

@@ -1,11 +1,9 @@
-use Rattle.std.proofs.Common.{ap, ◌++◌, ◌∙◌}
+use Rattle.std.proofs.Common.{ap, ◌∙◌}
 use Rattle.std.proofs.lemmas.Result.{on_ok_weaker}
 use Rattle.std.proofs.lemmas.Str.{chars-nil}
-use Rattle.std.specs.Option.{option_and_then}
 use Rattle.std.specs.Str.{chars}
 use Rattle.syslog_loose.specs.Line.{line_value}
-use Rattle.syslog_loose.specs.Printed.{process_text}
-use Rattle.syslog_strict.specs.Conversion.{converted, converted_process}
+use Rattle.syslog_strict.specs.Conversion.{converted}
 use Rattle.syslog_strict.specs.Pushing.{text_in}
 use Rattle.syslog_strict.proofs.LineLemmas.{line_joined}
 use Rattle.syslog_strict.proofs.conversion.write_line.Goals as goal
@@ -22,8 +20,5 @@ returns c =
     (ap chars (c.in_ok-reserve.ensures.bytes ∙ c.clear.ensures.bytes) ∙ chars-nil)
     c.in_ok-push_front.ensures c.in_ok-push_char.ensures c.in_ok-push_host.ensures c.in_ok-push_char-2.ensures
     c.in_ok-push_word.ensures c.in_ok-push_char-3.ensures
-    (c.in_ok-push_process.ensures
-    ∙ ap (λ v. text_in c.push_char-3.new.out ++ process_text (option_and_then converted_process v)) c.process.ensures)
-    c.in_ok-push_char-4.ensures
-    c.in_ok-push_word-2.ensures c.in_ok-push_char-5.ensures c.in_ok-push_list.ensures c.in_ok-push_char-6.ensures e)
+    c.in_ok-push_process.ensures c.in_ok-push_char-4.ensures c.in_ok-push_word-2.ensures c.in_ok-push_char-5.ensures c.in_ok-push_list.ensures c.in_ok-push_char-6.ensures e)
     c.push_text.ensures

@@ -1,13 +1,19 @@
-use Rattle.std.proofs.Common.{sym}
+use Rattle.std.proofs.Common.{[], refl, sym, subst, ◌∙◌}
 use Rattle.syslog_pieces.specs.StructuredData.Visited.{list_elements}
+use Rattle.syslog_pieces.proofs.StructuredDataLemmas.Elements.{are_canonical}
+use Rattle.syslog_strict.specs.Beginnings.{BeginsDistinct}
+use Rattle.syslog_strict.proofs.AgainLaws.{strict_stay}
 use Rattle.syslog_strict.proofs.ElementLemmas.{converted_some, elements_some}
 use Rattle.syslog_strict.proofs.TextLemmas.{appended}
 use Rattle.syslog_strict.proofs.joined.push_list.Goals as goal
 
-pub returns : goal.returns
-returns c = appended c.push_elements.result _ _ _ _
-    (sym (elements_some _ (converted_some (list_elements c.args.list.now) c.if-is_empty.ensures))) c.push_elements.ensures
+pub returns-then-are_elements : goal.returns-then-are_elements
+returns-then-are_elements c =
+    let prints = c.in-Some.ensures.prints in
+    let begins = subst (λ t. BeginsDistinct t []) prints (c.if-are_elements.ensures refl) in
+    appended c.push_text.result _ _ _ _
+    (prints ∙ sym (strict_stay (list_elements c.args.list) (are_canonical c.args.list) begins)) c.push_text.ensures
 
-pub returns-then-len-gt-FEW : goal.returns-then-len-gt-FEW
-returns-then-len-gt-FEW c = appended c.push_many.result _ _ _ _
-    (sym (elements_some _ (converted_some (list_elements c.args.list.now) c.if-is_empty.ensures))) c.push_many.ensures
+pub returns : goal.returns
+returns c = appended c.push_many.result _ _ _ _
+    (sym (elements_some _ (converted_some (list_elements c.args.list) c.if-is_empty.ensures))) c.push_many.ensures
