@@ -2,7 +2,7 @@
 use Rattle.std.proofs.Common.{◌≡◌, ℕ, suc, ◌<◌, ◌≤◌, ◌==◌, true, false, nat_eq, List, [], ◌∷◌, ◌++◌, length, take, refl, sym, ap, ◌∙◌, arith, append_assoc, append-nil, get_or-take}
 use Rattle.std.proofs.lemmas.Bool.{ne_eqb, or_parts, not-true}
 use Rattle.std.proofs.lemmas.Grind.{flat_map-append}
-use Rattle.std.proofs.lemmas.List.{length-take}
+use Rattle.std.proofs.lemmas.List.{length-take, nil_from_length}
 use Rattle.std.proofs.Common.{Result, Ok, Err, OnOk}
 use Rattle.std.specs.Bool.{if◌then◌else◌}
 use Rattle.std.specs.Result.{is_ok}
@@ -92,13 +92,9 @@ pub appended : {T E : Type 0} (r : Result T E) (new old bytes all : List ℕ)
 appended (Ok x) new old bytes all e h = e ∙ ap (λ xs. old ++ xs) h
 appended (Err x) new old bytes all e h = tt
 
-pub none_left : (xs : List ℕ) → length xs ≡ 0 → xs ≡ []
-none_left [] e = refl
-none_left (x ∷ xs) e = absurd (omega arith)
-
 -- a last backslash stands for nothing
 pub lone_backslash : (after next : List ℕ) (x : ℕ) → after ≡ x ∷ next → x ≡ 92 → length next ≡ 0 → unescaped after ≡ []
-lone_backslash after next x whole is none = rw (whole, is, none_left next none) refl
+lone_backslash after next x whole is none = rw (whole, is, nil_from_length next none) refl
 
 -- a backslash and the byte after it, in place
 pub pair_begins : (after next more : List ℕ) (x c : ℕ) → after ≡ x ∷ next → x ≡ 92 → next ≡ c ∷ more

@@ -5,7 +5,7 @@ ghost use Rattle.syslog_pieces.specs.StructuredData.Escapes.{pair_meaning};
 ghost use Rattle.json.specs.Print.{escape, escape_byte};
 ghost use Rattle.syslog_object.specs.Object.{unescaped};
 
-use crate::plain::{is_plain, split_plain};
+use crate::plain::{is_plain, push_plain};
 use std::alloc::AllocError;
 
 /// Appends the text with JSON's escapes.
@@ -27,8 +27,7 @@ fn push_escaped(out: &mut Vec<u8>, text: &[u8]) -> Result<(), AllocError>
 {
     let mut rest = text;
     'runs: loop {
-        let (run, after) = split_plain(rest);
-        out.extend_from_slice(run)?;
+        let after = push_plain(out, rest)?;
         let Some((byte, next)) = after.split_first() else {
             return Ok(());
         };
@@ -43,8 +42,7 @@ fn push_byte(out: &mut Vec<u8>, byte: u8) -> Result<(), AllocError>
     ensures { OnOk result (out.new.items ≡ out.old.items ++ escape_byte byte) }
 {
     match byte {
-        b'"' => out.extend_from_slice(b"\\\""),
-        b'\\' => out.extend_from_slice(b"\\\\"),
+        b'"' | b'\\' => out.extend_from_slice(&[b'\\', byte]),
         8 => out.extend_from_slice(b"\\b"),
         9 => out.extend_from_slice(b"\\t"),
         10 => out.extend_from_slice(b"\\n"),
@@ -84,8 +82,7 @@ fn push_unescaped(out: &mut Vec<u8>, raw: &[u8]) -> Result<(), AllocError>
 {
     let mut rest = raw;
     'runs: loop {
-        let (run, after) = split_plain(rest);
-        out.extend_from_slice(run)?;
+        let after = push_plain(out, rest)?;
         let Some((byte, next)) = after.split_first() else {
             return Ok(());
         };

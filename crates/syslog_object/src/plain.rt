@@ -1,21 +1,43 @@
 //! Bytes that need no escape in JSON.
-ghost use Rattle.std.specs.Prelude.{◌≡◌, ◌+◌, ◌++◌, ◌≤◌, length};
+ghost use Rattle.std.specs.Prelude.{◌≡◌, ◌+◌, ◌++◌, ◌≤◌, List, ℕ, IfOk, OnOk, length, take};
 ghost use Rattle.std.specs.Bool.{OnTrue};
-ghost use Rattle.json.specs.Print.{escape};
+ghost use Rattle.syslog_pieces.specs.Bodies.Scan.{IsRunIn, first_set};
+ghost use Rattle.json.specs.Run.{is_plain};
 ghost use Rattle.json.specs.Written.{PlainBetween};
 
+use std::alloc::AllocError;
 use std::simd::prelude::*;
+
+#[inline(always)]
+fn first_set(mask: u64) -> usize
+    ensures { result ≡ first_set mask }
+{
+    if mask == 0 {
+        16
+    } else {
+        mask.trailing_zeros() as usize
+    }
+}
+
+// How many of sixteen bytes come before the first that needs an escape.
+#[inline(always)]
+fn plain_run(text: &[u8], at: usize) -> usize
+    requires { at + 16 ≤ length text.now }
+    ensures { IsRunIn is_plain text.now at result }
+{
+    let v = u8x16::from_slice(&text[at..]);
+    let stops = (v.simd_eq(u8x16::splat(b'"'))
+        | v.simd_eq(u8x16::splat(b'\\'))
+        | v.simd_lt(u8x16::splat(0x20))).to_bitmask();
+    first_set(stops)
+}
 
 #[inline(always)]
 fn is_plain_16(text: &[u8], at: usize) -> bool
     requires { at + 16 ≤ length text.now }
     ensures { OnTrue result (PlainBetween text.now at (at + 16)) }
 {
-    let v = u8x16::from_slice(&text[at..]);
-    (v.simd_eq(u8x16::splat(b'"'))
-        | v.simd_eq(u8x16::splat(b'\\'))
-        | v.simd_lt(u8x16::splat(0x20))).to_bitmask()
-        == 0
+    plain_run(text, at) == 16
 }
 
 #[inline(always)]
@@ -94,7 +116,11 @@ fn plain_length(text: &[u8]) -> usize
     ensures within { result ≤ length text.now }
 {
     let mut end = 0;
-    'blocks: while text.len() - end >= 16 && is_plain_16(text, end) {
+    'blocks: while text.len() - end >= 16 {
+        let run = plain_run(text, end);
+        if run < 16 {
+            return end + run;
+        }
         end += 16;
     }
     'bytes: while end < text.len() {
@@ -107,11 +133,38 @@ fn plain_length(text: &[u8]) -> usize
     end
 }
 
-/// The bytes at the front that need no escape, and the rest.
+// The bytes at the front that need no escape, and the rest.
 #[inline(always)]
-pub(crate) fn split_plain(text: &[u8]) -> (&[u8], &[u8])
+fn split_plain(text: &[u8]) -> (&[u8], &[u8])
     ensures whole { text.now ≡ result.0.now ++ result.1.now }
     ensures plain { PlainBetween result.0.now 0 (length result.0.now) }
 {
     text.split_at(plain_length(text))
+}
+
+// Appends so many bytes of the front. Of few, sixteen are copied and the others cut off again: a copy of a length that
+// is not known is a call.
+#[inline(always)]
+fn push_some(out: &mut Vec<u8>, text: &[u8], count: usize) -> Result<(), AllocError>
+    requires { count ≤ length text.now }
+    ensures { OnOk result (out.new.items ≡ out.old.items ++ take count text.now) }
+{
+    if count > 16 || text.len() < 16 {
+        return out.extend_from_slice(&text[..count]);
+    }
+    let end = out.len() + count;
+    out.extend_from_slice(&text[..16])?;
+    out.truncate(end);
+    Ok(())
+}
+
+/// Appends the bytes at the front that need no escape, and returns the rest.
+#[inline(always)]
+pub(crate) fn push_plain<'a>(out: &mut Vec<u8>, text: &'a [u8]) -> Result<&'a [u8], AllocError>
+    ensures { IfOk result (λ after. (run : List ℕ) × (text.entry.now ≡ run ++ after.now)
+        × PlainBetween run 0 (length run) × (out.new.items ≡ out.old.items ++ run)) }
+{
+    let (run, after) = split_plain(text);
+    push_some(out, text, run.len())?;
+    Ok(after)
 }

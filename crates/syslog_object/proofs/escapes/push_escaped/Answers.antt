@@ -1,14 +1,15 @@
-use Rattle.syslog_object.proofs.EscapeLemmas.{run_written, byte_written, all_written, none_left}
+use Rattle.std.proofs.lemmas.List.{nil_from_length}
+use Rattle.syslog_object.proofs.EscapeLemmas.{run_written, byte_written, all_written}
 use Rattle.syslog_object.proofs.escapes.push_escaped.Goals as goal
 
 pub returns-in_default : goal.returns-in_default
 returns-in_default c =
-    let run = run_written _ _ _ _ _ _ c.split_plain.ensures.whole c.split_plain.ensures.plain c.runs.invariant
-    c.in_ok-extend_from_slice.ensures.items in
-    all_written _ _ _ (none_left _ c.in_default.ensures.cases) run
+    let (front, whole, plain, added) = c.in_ok-after.ensures in
+    let run = run_written _ front _ _ _ _ whole plain c.runs.invariant added in
+    all_written _ _ _ (nil_from_length _ c.in_default.ensures.cases) run
 
 pub runs-preserved : goal.runs-preserved
 runs-preserved c =
-    let run = run_written _ _ _ _ _ _ c.split_plain.ensures.whole c.split_plain.ensures.plain c.runs.invariant
-    c.in_ok-extend_from_slice.ensures.items in
+    let (front, whole, plain, added) = c.in_ok-after.ensures in
+    let run = run_written _ front _ _ _ _ whole plain c.runs.invariant added in
     byte_written _ _ _ _ _ (rw (c.in-Some.ensures.cases.0) at run) c.in_ok-push_byte.ensures

@@ -1,6 +1,15 @@
-use Rattle.std.proofs.Common.{arith}
-use Rattle.json.proofs.Printed.Plain.{plain_from_lanes}
+use Rattle.std.proofs.Common.{◌≡◌, ◌+◌, ℕ, List, Bool, true, false, ◌==◌, refl, subst, sym}
+use Rattle.std.proofs.lemmas.Bool.{eqb-true}
+use Rattle.std.specs.Bool.{OnTrue}
+use Rattle.syslog_pieces.specs.Bodies.Scan.{IsRunIn}
+use Rattle.json.specs.Run.{is_plain}
+use Rattle.json.specs.Written.{PlainBetween}
 use Rattle.syslog_object.proofs.plain.is_plain_16.Goals as goal
 
+whole_run : (b : Bool) (d : List ℕ) (at run : ℕ) → b ≡ (run == 16) → IsRunIn is_plain d at run
+    → OnTrue b (PlainBetween d at (at + 16))
+whole_run true d at run is h = subst (λ n. PlainBetween d at (at + n)) (eqb-true run 16 (sym is)) h.pass
+whole_run false d at run is h = tt
+
 pub returns : goal.returns
-returns c = plain_from_lanes c.args.text.now c.args.at 16 c.requires (omega arith) c.type_inv.text
+returns c = whole_run _ c.args.text.now c.args.at c.plain_run.result refl c.plain_run.ensures
