@@ -12,7 +12,7 @@ use Rattle.serde_json.specs.Data as serde
 use Rattle.serde_json.specs.Read.{max_depth, number_of, of_items, of_json, of_members}
 use Rattle.serde_json.proofs.Numbers.{number_of-decimal}
 use Rattle.syslog_object.specs.Written.{HasSmallNumbers, IsTextOf, ItemsHaveSmallNumbers, MembersHaveSmallNumbers}
-use Rattle.syslog_object.proofs.ReadLemmas.{numbers}
+use Rattle.syslog_object.proofs.WrittenLemmas.{numbers}
 use Rattle.syslog_json.specs.Objects.{IsReadAs}
 
 mutual

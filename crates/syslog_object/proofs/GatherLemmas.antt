@@ -1,17 +1,27 @@
--- The members of objects, one after the other.
-use Rattle.std.proofs.Common.{◌≡◌, ℕ, ◌+◌, ◌<◌, ◌≤◌, Bool, true, false, not, List, [], ◌∷◌, ◌++◌, length, take, drop, get_or, map, refl, sym, ap, ◌∙◌, subst, arith, append_assoc, append-nil, drop_of_length-le, bytes_eq, cond}
-use Rattle.std.proofs.lemmas.List.{drop_more, map-append, take_more}
+-- The members of objects, one after the other, and parameters and elements as members.
+use Rattle.std.proofs.Common.{◌≡◌, ℕ, ◌+◌, ◌<◌, ◌≤◌, Bool, true, false, not, List, [], ◌∷◌, ◌++◌, length, take, drop}
+use Rattle.std.proofs.Common.{get_or, map, refl, sym, ap, ◌∙◌, subst, arith, append_assoc, append-nil}
+use Rattle.std.proofs.Common.{drop_of_length-le, bytes_eq, cond, inl, inr, ◌||◌, ◌==◌}
+use Rattle.std.proofs.lemmas.List.{drop_more, map-append, nil_from_length, take_more}
 use Rattle.std.specs.Borrow.{Bor}
-use Rattle.std.proofs.Common.{inl, inr, ◌||◌, ◌==◌}
 use Rattle.std.proofs.lemmas.Bool.{cases_Bool, true≢false}
 use Rattle.std.proofs.lemmas.List.Elements.{filter-append}
 use Rattle.std.proofs.lemmas.Slice.Eq.{bytes_eq-Decides}
 use Rattle.std.specs.List.{filter, list_any}
+use Rattle.std.specs.Prelude.{encode_utf8_all}
 use Rattle.json.specs.Print.{quoted}
 use Rattle.json.specs.Json.{Json}
 use Rattle.json.specs.Value.{items_of}
+use Rattle.syslog_pieces.specs.Pieces.Class.{Text}
+use Rattle.syslog_pieces.specs.Pieces.View.{shown}
+use Rattle.syslog_pieces.specs.StructuredData.Element.{ElementValue, param_value}
+use Rattle.syslog_pieces.specs.StructuredData.Visited.{element_seen}
+use Rattle.syslog_pieces.specs.declared.structured_data.recognised.Element.{Element}
 use Rattle.syslog_object.specs.Gathered.{first_keys, gathered, one_or_all, values_at}
 use Rattle.syslog_object.specs.Parts.{AreDistinct, IsNewKey, compact_text, items_text, members_after, object_text}
+use Rattle.syslog_object.specs.Object.{element_json, element_pair, param_pair}
+
+-- ---- the members of objects, one after the other
 
 -- the item at a place, and those after it
 pub at_place : {X : Type 0} (xs : List X) (i : ℕ) (x : X) → i < length xs → x ≡ get_or xs i x
@@ -25,10 +35,6 @@ nothing_after xs i past = drop_of_length-le xs past
 pub of_keys : {X : Type 0} (P : List (List ℕ) → Type 0) (key : X → List ℕ) (xs ys : List X) → xs ≡ ys
     → P (map key ys) → P (map key xs)
 of_keys P key xs ys same h = rw same h
-
-pub empty_list : {X : Type 0} (xs : List X) → length xs ≡ 0 → xs ≡ []
-empty_list [] e = refl
-empty_list (x ∷ xs) e = absurd (omega arith)
 
 -- a key and its value were written
 pub member_written : (out key_out now all key : List ℕ) (before : ℕ) (value : Json) (rest : List (List ℕ × Json))
@@ -202,7 +208,7 @@ module _ {X : Type 0} (json : X → Json) where
 
   pub alone : (members rest : List X) (first : X) → members ≡ first ∷ rest → length rest ≡ 0
       → json first ≡ one_or_all (map json members)
-  alone members rest first whole none = rw (whole, empty_list rest none) refl
+  alone members rest first whole none = rw (whole, nil_from_length rest none) refl
 
 -- ---- groups
 
@@ -297,3 +303,51 @@ distinct_gathered key json xs distinct =
     let keys = subst AreDistinct (names key json xs) distinct in
     let same : valued pairs (first_keys pairs) ≡ pairs = rw (distinct_keys pairs keys) (each_alone pairs keys) in
     ap object_text (sym same)
+
+-- ---- parameters and elements with their keys and values
+
+-- a name and a value, as slices
+abbrev pub Param : Type 0
+Param = Bor (List ℕ) × Bor (List ℕ)
+
+-- a parameter over texts
+abbrev pub param_seen : Param → Text × Text
+param_seen p = param_value (λ s. shown s) p
+
+abbrev pub param_key : Param → List ℕ
+param_key p = (param_pair (param_seen p)).0
+
+abbrev pub param_json : Param → Json
+param_json p = (param_pair (param_seen p)).1
+
+-- where no item is left, all were seen
+pub all_seen : {X : Type 0} (seen left all : List X) → seen ++ left ≡ all → left ≡ [] → seen ≡ all
+all_seen seen left all whole none = sym (append-nil seen) ∙ ap (λ xs. seen ++ xs) (sym none) ∙ whole
+
+pub param_pairs : (ps : List Param) → pairs_of param_key param_json ps ≡ map param_pair (map param_seen ps)
+param_pairs [] = refl
+param_pairs (p ∷ ps) = ap (λ qs. param_pair (param_seen p) ∷ qs) (param_pairs ps)
+
+-- the text of an object of such pairs
+abbrev text_of_pairs : List (List ℕ × Json) → List ℕ
+text_of_pairs pairs = compact_text (gathered pairs)
+
+pub params_json : (ps slice : List Param) (params : List (Text × Text)) → slice ≡ ps
+    → map param_seen ps ≡ params
+    → compact_text (gathered (pairs_of param_key param_json slice)) ≡ compact_text (gathered (map param_pair params))
+params_json ps slice params same seen =
+    ap (λ xs. text_of_pairs (pairs_of param_key param_json xs)) same
+    ∙ ap text_of_pairs (param_pairs ps ∙ ap (map param_pair) seen)
+
+element_pairs : (es : List Element)
+    → pairs_of (λ e. encode_utf8_all (element_seen e).id) (λ e. element_json (element_seen e)) es
+    ≡ map element_pair (map element_seen es)
+element_pairs [] = refl
+element_pairs (e ∷ es) = ap (λ ps. element_pair (element_seen e) ∷ ps) (element_pairs es)
+
+pub elements_json : (es slice : List Element) (seen : List ElementValue) → slice ≡ es → map element_seen es ≡ seen
+    → compact_text (gathered (pairs_of (λ e. encode_utf8_all (element_seen e).id) (λ e. element_json (element_seen e)) slice))
+    ≡ compact_text (gathered (map element_pair seen))
+elements_json es slice seen same is =
+    ap (λ xs. text_of_pairs (pairs_of (λ e. encode_utf8_all (element_seen e).id) (λ e. element_json (element_seen e)) xs))
+    same ∙ ap text_of_pairs (element_pairs es ∙ ap (map element_pair) is)

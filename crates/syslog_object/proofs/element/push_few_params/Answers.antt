@@ -1,5 +1,5 @@
 use Rattle.std.proofs.Common.{refl, take}
-use Rattle.syslog_object.proofs.ElementLemmas.{all_seen, params_json}
+use Rattle.syslog_object.proofs.GatherLemmas.{all_seen, params_json}
 use Rattle.syslog_object.proofs.element.push_few_params.Goals as goal
 
 pub returns : goal.returns

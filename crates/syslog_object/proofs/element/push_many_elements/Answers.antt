@@ -1,4 +1,4 @@
-use Rattle.syslog_object.proofs.ElementLemmas.{all_seen, elements_json}
+use Rattle.syslog_object.proofs.GatherLemmas.{all_seen, elements_json}
 use Rattle.syslog_object.proofs.element.push_many_elements.Goals as goal
 
 pub returns : goal.returns

@@ -1,4 +1,4 @@
-use Rattle.syslog_object.proofs.ElementLemmas.{all_seen, params_json}
+use Rattle.syslog_object.proofs.GatherLemmas.{all_seen, params_json}
 use Rattle.syslog_object.proofs.element.push_many_params.Goals as goal
 
 pub returns : goal.returns

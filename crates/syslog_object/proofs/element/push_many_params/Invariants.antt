@@ -1,6 +1,6 @@
 use Rattle.std.proofs.Common.{◌≡◌, ◌++◌, map}
 use Rattle.syslog_pieces.specs.StructuredData.Visited.{element_seen, params_left}
-use Rattle.syslog_object.proofs.ElementLemmas.{param_seen}
+use Rattle.syslog_object.proofs.GatherLemmas.{param_seen}
 use Rattle.syslog_object.proofs.element.push_many_params.Given as goal
 
 abbrev pub invariant-loop-param : goal.invariant-loop-param

@@ -1,10 +1,11 @@
+use Rattle.std.proofs.lemmas.List.{nil_from_length}
 use Rattle.syslog_object.specs.Parts.{AreDistinct}
-use Rattle.syslog_object.proofs.GatherLemmas.{empty_list, of_keys}
+use Rattle.syslog_object.proofs.GatherLemmas.{of_keys}
 use Rattle.syslog_object.proofs.gather.are_distinct.Goals as goal
 
 pub returns-in_default : goal.returns-in_default
 returns-in_default g c = c.members.invariant (of_keys AreDistinct g.M.Member.key_of _ _
-    (empty_list c.members.rest.now c.in_default.ensures.cases) tt)
+    (nil_from_length c.members.rest.now c.in_default.ensures.cases) tt)
 
 pub members-preserved : goal.members-preserved
 members-preserved g c = λ distinct. c.members.invariant (of_keys AreDistinct g.M.Member.key_of _ _

@@ -1,12 +1,13 @@
+use Rattle.std.proofs.lemmas.List.{nil_from_length}
 use Rattle.syslog_object.proofs.EscapeLemmas.{appended}
-use Rattle.syslog_object.proofs.GatherLemmas.{at_place, empty_list, first_written, last_written, next_written}
-use Rattle.syslog_object.proofs.GatherLemmas.{none_written, nothing_after}
+use Rattle.syslog_object.proofs.GatherLemmas.{at_place, first_written, last_written, next_written, none_written}
+use Rattle.syslog_object.proofs.GatherLemmas.{nothing_after}
 use Rattle.syslog_object.proofs.gather.push_each.Goals as goal
 
 pub returns-in_default : goal.returns-in_default
 returns-in_default g c = appended c.extend_from_slice.result _ _ _ _ c.extend_from_slice.ensures.items
     (none_written g.M.Member.key_of g.M.Member.json c.args.members.now
-    (empty_list c.args.members.now c.in_default.ensures.cases))
+    (nil_from_length c.args.members.now c.in_default.ensures.cases))
 
 pub loop-member-init : goal.loop-member-init
 loop-member-init g c = first_written g.M.Member.key_of g.M.Member.json c.args.members.now c.in-Some.rest.now

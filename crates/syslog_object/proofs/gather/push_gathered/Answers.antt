@@ -1,15 +1,14 @@
 use Rattle.std.proofs.Common.{◌∙◌, sym, get_or, List, ℕ, []}
-use Rattle.std.proofs.lemmas.List.{drop_more}
+use Rattle.std.proofs.lemmas.List.{drop_more, nil_from_length}
 use Rattle.std.specs.Borrow.{Bor}
 use Rattle.syslog_object.proofs.EscapeLemmas.{appended}
-use Rattle.syslog_object.proofs.GatherLemmas.{empty_list, first_group, last_written, next_group, no_group}
-use Rattle.syslog_object.proofs.GatherLemmas.{nothing_after, value_of}
+use Rattle.syslog_object.proofs.GatherLemmas.{first_group, last_written, next_group, no_group, nothing_after, value_of}
 use Rattle.syslog_object.proofs.gather.push_gathered.Goals as goal
 
 pub returns-in_default : goal.returns-in_default
 returns-in_default g c = appended c.extend_from_slice.result _ _ _ _ c.extend_from_slice.ensures.items
     (no_group g.M.Member.key_of g.M.Member.json c.args.members.now _ c.in_ok-groups.ensures.keys
-    (sym c.as_slice.ensures.value ∙ empty_list c.as_slice.result.now c.in_default.ensures.cases))
+    (sym c.as_slice.ensures.value ∙ nil_from_length c.as_slice.result.now c.in_default.ensures.cases))
 
 pub loop-key-init : goal.loop-key-init
 loop-key-init g c = first_group g.M.Member.key_of g.M.Member.json c.args.members.now _ c.in-Some.rest.now

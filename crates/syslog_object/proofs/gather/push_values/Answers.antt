@@ -1,12 +1,13 @@
 use Rattle.std.proofs.Common.{rules, sym, ◌∙◌}
+use Rattle.std.proofs.lemmas.List.{nil_from_length}
 use Rattle.syslog_object.proofs.EscapeLemmas.{appended}
-use Rattle.syslog_object.proofs.GatherLemmas.{alone, at_place, empty_list, first_value, last_value, next_value}
-use Rattle.syslog_object.proofs.GatherLemmas.{no_value, nothing_after}
+use Rattle.syslog_object.proofs.GatherLemmas.{alone, at_place, first_value, last_value, next_value, no_value}
+use Rattle.syslog_object.proofs.GatherLemmas.{nothing_after}
 use Rattle.syslog_object.proofs.gather.push_values.Goals as goal
 
 pub returns-in_default : goal.returns-in_default
 returns-in_default g c = appended c.extend_from_slice.result _ _ _ _ c.extend_from_slice.ensures.items
-    (no_value g.M.Member.json c.args.members.now (empty_list c.args.members.now c.in_default.ensures.cases))
+    (no_value g.M.Member.json c.args.members.now (nil_from_length c.args.members.now c.in_default.ensures.cases))
 
 pub returns-then-is_empty : goal.returns-then-is_empty
 returns-then-is_empty g c = rw (sym (alone g.M.Member.json c.args.members.now c.in-Some.rest.now c.in-Some.first.now

@@ -4,7 +4,7 @@ use Rattle.syslog_pieces.specs.Pieces.View.{seen}
 use Rattle.syslog_loose.specs.Line.{line_value}
 use Rattle.json.specs.Print.{escape_byte}
 use Rattle.syslog_object.specs.Object.{text_json}
-use Rattle.syslog_object.proofs.FieldLemmas.{closed, name_written}
+use Rattle.syslog_object.proofs.WriterLemmas.{closed, name_written}
 use Rattle.syslog_object.proofs.object.push_back.Goals as goal
 
 pub returns : goal.returns

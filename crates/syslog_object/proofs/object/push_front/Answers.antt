@@ -5,7 +5,7 @@ use Rattle.syslog_pieces.specs.ProcId.{procid_text}
 use Rattle.syslog_loose.specs.Line.{line_value}
 use Rattle.syslog_object.specs.Object.{timestamp_json}
 use Rattle.syslog_object.specs.Parts.{facility_fields, field_text, protocol_fields, severity_fields, text_field}
-use Rattle.syslog_object.proofs.FieldLemmas.{more}
+use Rattle.syslog_object.proofs.WriterLemmas.{more}
 use Rattle.syslog_object.proofs.object.push_front.Goals as goal
 
 pub returns-clause-text : goal.returns-clause-text

@@ -2,7 +2,7 @@ use Rattle.std.proofs.Common.{refl}
 use Rattle.std.proofs.lemmas.Result.{on_ok_weaker}
 use Rattle.json.specs.Print.{escape_byte}
 use Rattle.syslog_pieces.specs.StructuredData.Visited.{list_elements}
-use Rattle.syslog_object.proofs.FieldLemmas.{list_field, two_appended}
+use Rattle.syslog_object.proofs.WriterLemmas.{list_field, two_appended}
 use Rattle.syslog_object.proofs.object.push_list.Goals as goal
 
 pub returns : goal.returns

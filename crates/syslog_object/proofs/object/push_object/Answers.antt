@@ -1,7 +1,7 @@
 use Rattle.std.proofs.lemmas.Result.{on_ok_weaker}
 use Rattle.syslog_loose.specs.Line.{line_value}
 use Rattle.syslog_pieces.specs.Pieces.View.{seen}
-use Rattle.syslog_object.proofs.TextOfLemmas.{text_of_message}
+use Rattle.syslog_object.proofs.WrittenLemmas.{text_of_message}
 use Rattle.syslog_object.proofs.object.push_object.Goals as goal
 
 pub returns : goal.returns
