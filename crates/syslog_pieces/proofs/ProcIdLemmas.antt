@@ -67,11 +67,8 @@ writes_numeral t n (inr (inr (d, s, h, e))) = rw s (numeral d h, e)
 pub numeral_signed : (t : Text) (n : ℤ) → IsI32Text t n → WritesSigned t n
 numeral_signed t n h = rw h.0.1 (numeral_writes t h.0.0)
 
-number_same : (t : Text) (m n : ℤ) → IsI32Text t m → IsI32Text t n → m ≡ n
-number_same t m n h k = h.0.1 ∙ sym k.0.1
-
 pub process_same : (t : Text) (i j : ProcId Text) → NamesProcess t i → NamesProcess t j → i ≡ j
-process_same t (PID m) (PID n) h k = ap (λ (z : ℤ). PID z) (number_same t m n h k)
+process_same t (PID m) (PID n) h k = ap (λ (z : ℤ). PID z) (h.0.1 ∙ sym k.0.1)
 process_same t (PID m) (Name u) h k = absurd (k.0 m h)
 process_same t (Name s) (PID n) h k = absurd (h.0 n k)
 process_same t (Name s) (Name u) h k = ap (λ (z : Text). Name z) (h.1 ∙ sym k.1)

@@ -209,6 +209,7 @@ fn blanks_end(text: &str) -> usize
 }
 
 /// The number at the front, up to a limit, and the text after it. Leading zeros are allowed.
+#[tactic(auto, using(crate::proofs::TextLemmas::Words::number_past))]
 #[inline(always)]
 pub fn number(text: &str, limit: u32) -> Option<(u32, &str)>
     ensures { Reads (spec.number limit) (λ n. n) (chars text.now) result }

@@ -267,19 +267,12 @@ Leaves C separator close t vs t' =
     → Front (list_before C separator close) t q (vs ++ (v ∷ ws))
 
 module _ (C : Class) (separator close : ℕ) where
-  pub leaves_all : (t : Text) → Leaves C separator close t [] t
-  leaves_all t q u v ws f g = list_cons C separator close f g
-
   pub leaves_less : (t s u s' : Text) (vs : List C.Value) (v : C.Value) → Leaves C separator close t vs s
       → Front C s u v → u ≡ separator ∷ s' → Leaves C separator close t (vs ++ (v ∷ [])) s'
   leaves_less t s u s' vs v c f e q u' v' ws f' g =
       subst (λ (x : List C.Value). Front (list_before C separator close) t q x)
       (sym (append_assoc vs (v ∷ []) (v' ∷ ws)))
       (c q u v (v' ∷ ws) f (more_cons C separator close e f' g))
-
-  pub leaves_last : (t s u r : Text) (vs : List C.Value) (v : C.Value) → Leaves C separator close t vs s
-      → Front C s u v → u ≡ close ∷ r → Front (list_before C separator close) t u (vs ++ (v ∷ []))
-  leaves_last t s u r vs v c f e = c u u v [] f (more_here C separator close u r e)
 
 -- ---- parts of parts
 pub part_same : (p t : Text) → t ≡ p → IsPart p t

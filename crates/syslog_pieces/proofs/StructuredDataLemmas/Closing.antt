@@ -69,11 +69,8 @@ opening_det =
     texted_det (some_run is_name_char) (some_run_det is_name_char) also exactly_det (61 ∷ []) also run_det is_blank
     also exactly_det (34 ∷ []) also tt
 
-pub quoted_row_det : AllDeterministic quoted_row
-quoted_row_det = value_det also exactly_det (34 ∷ []) also tt
-
 pub quoted_det : IsDeterministic quoted
-quoted_det = row_det quoted_row quoted_row_det
+quoted_det = row_det quoted_row (value_det also exactly_det (34 ∷ []) also tt)
 
 pub element_starts : {t u : Text} {vs : Values start_row} → Front start t u vs → Meets element t inside u
 element_starts {t = t} {u = u} {vs = vs} f =

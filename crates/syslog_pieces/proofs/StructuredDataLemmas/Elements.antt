@@ -107,15 +107,12 @@ bracketed_row = exactly (91 ∷ []) ∷ run is_open_char ∷ exactly (93 ∷ [])
 pub bracketed_row_det : AllDeterministic bracketed_row
 bracketed_row_det = exactly_det (91 ∷ []) also run_det is_open_char also exactly_det (93 ∷ []) also tt
 
-pub bracketed_det : IsDeterministic bracketed
-bracketed_det = row_det bracketed_row bracketed_row_det
-
 pub item_det : IsDeterministic item
 item_det p q p' q' (Some v) (Some v') e h h' = let r = element_det p q p' q' v v' e h h' in (r.0, ap Some r.1)
 item_det p q p' q' (Some v) None e h h' = absurd (h'.0 p q v (sym e) h)
 item_det p q p' q' None (Some v') e h h' = absurd (h.0 p' q' v' e h')
 item_det p q p' q' None None e (n, h) (n', h') =
-    ((bracketed_det p q p' q' (tt, (tt, (tt, tt))) (tt, (tt, (tt, tt))) e h h').0, refl)
+    ((row_det bracketed_row bracketed_row_det p q p' q' (tt, (tt, (tt, tt))) (tt, (tt, (tt, tt))) e h h').0, refl)
 
 -- an item begins with a bracket
 item_piece : (p q : Text) (v : Option ElementValue) → item.Is p q v → (r : Text) × (p ≡ 91 ∷ r)

@@ -264,13 +264,14 @@ param_quoted =
 abbrev param_texts : Text × Text → List Text
 param_texts p = p.0 ∷ p.1 ∷ []
 
-param_quotes : Quotes param param_texts
-param_quotes = row_parts param_row param_quoted (Text × Text) param_of param_texts (λ vs. refl)
-
 abbrev element_quoted : Quoted element_row
 element_quoted =
     silent (exactly (91 ∷ [])) also ((λ t. t ∷ []), texted_quotes (some_run is_id_char)) also silent (run is_blank)
-    also (flat_map param_texts, λ p q vs h. list_parts param param_texts param_quotes 32 p q vs h.0)
+    also (
+      flat_map param_texts,
+      λ p q vs h. list_parts param param_texts
+          (row_parts param_row param_quoted (Text × Text) param_of param_texts (λ vs. refl)) 32 p q vs h.0,
+    )
     also silent (exactly (93 ∷ [])) also tt
 
 pub element_quotes : Quotes element element_texts

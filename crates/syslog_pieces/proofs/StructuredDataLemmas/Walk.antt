@@ -28,7 +28,7 @@ use Rattle.syslog_pieces.proofs.StructuredDataLemmas.Elements.{element_det, elem
 use Rattle.syslog_pieces.proofs.StructuredDataLemmas.Elements.{dash_apart, params_det, space_is_no_close, no_blanks}
 use Rattle.syslog_pieces.proofs.StructuredDataLemmas.Elements.{quoted_text, param_det, item_det, strict_append}
 use Rattle.syslog_pieces.proofs.StructuredDataLemmas.Elements.{item_shorter, no_item_nil, no_forgiving_list}
-use Rattle.syslog_pieces.proofs.PieceLemmas.Lists.{leaves_all, leaves_less, leaves_last, list_cons, more_cons}
+use Rattle.syslog_pieces.proofs.PieceLemmas.Lists.{leaves_less, list_cons, more_cons}
 use Rattle.syslog_pieces.proofs.PieceLemmas.Lists.{list_parts}
 use Rattle.syslog_pieces.proofs.TextLemmas.Runs.{bytes}
 use Rattle.syslog_pieces.proofs.PieceLemmas.Class.{IsSteady, alone_steady, exactly_alone, run_steady, some_run_steady}
@@ -36,9 +36,6 @@ use Rattle.syslog_pieces.proofs.PieceLemmas.Class.{texted_steady, mapped_alone, 
 use Rattle.syslog_pieces.proofs.PieceLemmas.Class.{list_before_steady}
 
 -- ---- elements with a parameter
-pub full_element_det : IsDeterministic full_element
-full_element_det p q p' q' v v' e h h' = element_det p q p' q' v v' e h.0 h'.0
-
 pub full_is_element : {t q : Text} {v : ElementValue} → Front full_element t q v → Front element t q v
 full_is_element f = record { piece = f.piece; whole = f.whole; is = f.is.0 }
 
@@ -51,10 +48,6 @@ bare_is_not_full t q v f z p r w e h =
     let s = front_same element element_det f (record { piece = p; whole = e; is = h.0 }) in
     let k = ap (λ (x : ElementValue). length x.params) s.1 in
     omega (arith, h.1, k, z)
-
--- where no element begins the text, none with a parameter does
-pub none_full : {t : Text} → NoFront element t → NoFront full_element t
-none_full n p q v w h = n p q v w h.0
 
 -- such an element begins with a bracket
 pub full_begins : (p q : Text) (v : ElementValue) → full_element.Is p q v → (r : Text) × (p ++ q ≡ 91 ∷ r)
@@ -74,7 +67,7 @@ rfc3164_list_det rule p q p' q' es es' e (inl (f, u, g)) (inr (l, m)) =
 rfc3164_list_det rule p q p' q' es es' e (inr (l, m)) (inl (f, u, g)) =
     absurd (dash_apart full_element full_begins p' q' p q es f l m (sym e))
 rfc3164_list_det rule p q p' q' es es' e (inr (l, m)) (inr (l', m')) =
-    many_det full_element full_element_det p q p' q' es es' e m m'
+    many_det full_element (λ a b a' b' v v' e h h'. element_det a b a' b' v v' e h.0 h'.0) p q p' q' es es' e m m'
 
 pub dash_rfc3164_list : (rule : DashRule) (t q : Text) → t ≡ 45 ∷ q → IsDashBefore rule q
     → Front (rfc3164_list rule) t q []
@@ -219,7 +212,7 @@ pub at_first : {text inner id : Text} {stands : Bool} → Front start text inner
 at_first {text = text} {inner = inner} f n p = record {
   passes = passes_row element start_row start_shut (passes_here element text) f;
   meets = meets_on (element_starts f) (list_goes param 32 93 (exactly (93 ∷ []) ∷ []) inner n);
-  leaves = leaves_all param 32 93 inner;
+  leaves = λ q u v ws g k. list_cons param 32 93 g k;
   prints = p;
 }
 
@@ -264,7 +257,7 @@ module _ {text inner at id : Text} {ps : List (Text × Text)} {mark : Bool} (w :
             → text ≡ element_text (record { id = id; params = ps ++ ((name, v) ∷ []) }) ++ q)
         ends {q = q} s g =
             let close = begins 93 y q g in
-            let list = leaves_last param 32 93 _ _ _ _ _ _ w.leaves (param_read o f) close in
+            let list = w.leaves _ _ _ [] (param_read o f) (more_here param 32 93 _ _ close) in
             let inner = row_of inside_row (list then g then refl) in
             (inner, element_read s inner, λ both. simp append_assoc (rw close at (printed_param both)))
 
@@ -335,13 +328,10 @@ not_inside {t = t} m n k = ∥∥₁_elim m.1.0 ⊥_prop
 abbrev pub IsNext : Text → Text → Type 0
 IsNext u z = (u ≡ 32 ∷ z) ⊎ (NoFront (exactly (32 ∷ [])) u × (u ≡ z))
 
--- the parameters that are left there
-abbrev Rests : (t z : Text) → Text × Text → Type 0
-Rests t z v = (r : Text) × ((ws : List (Text × Text)) × Front inside z r (ws, (tt, tt))
-    × Front inside t r (v ∷ ws, (tt, tt)))
-
+-- and the parameters that are left there
 tail_rests : {t u z q : Text} {v : Text × Text} (ws : List (Text × Text)) → Front param t u v → IsNext u z
-    → Front (more_before param 32 93) u q ws → Rests t z v
+    → Front (more_before param 32 93) u q ws → (r : Text)
+    × ((rs : List (Text × Text)) × Front inside z r (rs, (tt, tt)) × Front inside t r (v ∷ rs, (tt, tt)))
 tail_rests {t = t} {u = u} {z = z} {q = q} {v = v} [] f (inl e) g =
     let end = g.whole ∙ ap (λ (x : Text). x ++ q) g.is.0 ∙ g.is.1.1 in
     let no : 32 ∷ z ≡ 93 ∷ g.is.1.0 = sym e ∙ end in absurd (space_is_no_close (heads 32 93 z g.is.1.0 no))

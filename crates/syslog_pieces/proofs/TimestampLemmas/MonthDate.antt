@@ -7,11 +7,11 @@ use Rattle.syslog_pieces.proofs.Names.{ℕ, ◌<◌, ◌≤◌, ◌∷◌, sym, 
 use Rattle.syslog_pieces.proofs.Names.{slice_get, and_parts, nat_tests, first_kind, row_pieces, mapped_det, month_date}
 use Rattle.syslog_pieces.proofs.Names.{clock_row, MonthDate, ◌+◌, rest_same, no_mapped, rows_join, no_either, rows_step}
 use Rattle.syslog_pieces.proofs.Names.{ClockStamp, AmbiguousOffset, OffsetTimestamp, AllDeterministic, nanos_of_seconds}
-use Rattle.syslog_pieces.proofs.Names.{front_same, IsAscii-cons, some_run_det, mapped_front, begins_apart, signed_arith}
+use Rattle.syslog_pieces.proofs.Names.{front_same, IsAscii-cons, some_run_det, mapped_front, begins_apart}
 use Rattle.syslog_pieces.proofs.Names.{None, common_steps, same_datetime, rfc3164_stamp, agree_below_at, is_ascii_digit}
-use Rattle.syslog_pieces.proofs.Names.{refl, Text, ◌<ℤ◌, ◌-ℤ◌, Fold, ◌&&◌, Bool, true, List, ◌++◌, subst, false, arith}
+use Rattle.syslog_pieces.proofs.Names.{refl, Text, ◌-ℤ◌, Fold, ◌&&◌, Bool, true, List, ◌++◌, subst, false, arith}
 use Rattle.syslog_pieces.proofs.Names.{rows_none_here, IsStampOfClock, IsCharBoundary, IsDeterministic, rows_none_later}
-use Rattle.syslog_pieces.proofs.Names.{chars, Front, month, Class, colon, Apart, ◌also◌, IfSome, Offset, Dating, mapped}
+use Rattle.syslog_pieces.proofs.Names.{chars, Front, month, Class, colon, Apart, ◌also◌, Offset, Dating, mapped}
 use Rattle.syslog_pieces.proofs.Names.{Unambiguous, CivilFields, no_front_no, IsMonthStamp, header_stamp, lowercase_is}
 use Rattle.std.specs.Char.{to_ascii_lowercase}
 use Rattle.std.proofs.lemmas.Option.{slice_get_within}

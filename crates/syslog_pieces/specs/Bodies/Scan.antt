@@ -6,8 +6,7 @@ use Rattle.std.specs.Prelude.{◌≡◌, ◌+◌, ◌==◌, if◌then◌else◌,
 use Rattle.std.specs.Prelude.{◌-◌, ◌%◌, ◌||◌, nat_eq, ◌&&◌, nat_lt, List, [], ◌∷◌, ◌++◌, length, slice_index, take, drop}
 use Rattle.std.specs.Str.{chars, IsUtf8, IsCharBoundary}
 use Rattle.syslog_pieces.specs.declared.text.CharClass.{CharClass}
-use Rattle.syslog_pieces.specs.declared.text.CharClass.TheVariants.{Digit, Blank, Visible, Id, Name}
-use Rattle.syslog_pieces.specs.declared.text.CharClass.TheVariants.{Unescaped, Open, Inert, Bare, Tag, Label, Printable, SdName}
+use Rattle.syslog_pieces.specs.declared.text.CharClass.TheVariants.{Visible}
 use Rattle.syslog_pieces.specs.declared.text.lanes.ByteSet.{ByteSet}
 use Rattle.syslog_pieces.specs.Text.CharClass.{has}
 use Rattle.syslog_pieces.specs.Pieces.Class.{Each, Ends}

@@ -36,12 +36,7 @@ fn is_value(text: &str) -> bool
 fn is_canonical_param<S: AsStr>(param: &(S, S)) -> bool
     ensures { IsTrue result ↔ spec.IsCanonicalParam (param_value (text_of S.text) param.now) }
 {
-    let name = param.0.as_str();
-    let value = param.1.as_str();
-    if !is_some_of(name, CharClass::Name) {
-        return false;
-    }
-    is_value(value)
+    is_some_of(param.0.as_str(), CharClass::Name) && is_value(param.1.as_str())
 }
 
 fn are_canonical_params<S: AsStr>(params: &[(S, S)]) -> bool

@@ -63,6 +63,7 @@ pub(crate) fn few_digits(digits: &[u8]) -> Option<u32>
 }
 
 /// The number that a run of digits writes, where it has 32 bits.
+#[tactic(auto, using(crate::proofs::TextLemmas::Words::parsed_digits))]
 #[inline(never)]
 pub(crate) fn number_of_digits(digits: &str) -> Option<u32>
     requires { Each is_ascii_digit (chars digits.now) }

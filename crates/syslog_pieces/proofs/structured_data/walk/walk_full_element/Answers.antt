@@ -1,6 +1,6 @@
 use Rattle.syslog_pieces.proofs.Names.{sym, ◌∙◌, rules, chars, length, IsDead}
 use Rattle.syslog_pieces.proofs.StructuredDataLemmas.Closing.{byte_count_slice, dead_whole}
-use Rattle.syslog_pieces.proofs.StructuredDataLemmas.Walk.{bare_is_not_full, none_full}
+use Rattle.syslog_pieces.proofs.StructuredDataLemmas.Walk.{bare_is_not_full}
 use Rattle.syslog_pieces.proofs.structured_data.walk.walk_full_element.Goals as goal
 
 pub walk_element-requires : goal.walk_element-requires
@@ -9,7 +9,7 @@ walk_element-requires g c =
     dead_whole _ _ (sym (byte_count_slice c.args.text.now c.utf8.text)) in search rules
 
 pub returns-in_default-clause-walked : goal.returns-in_default-clause-walked
-returns-in_default-clause-walked g c = none_full (rw c.in_default.is at c.walk_element.ensures.walked).0
+returns-in_default-clause-walked g c p q v w h = (rw c.in_default.is at c.walk_element.ensures.walked).0 p q v w h.0
 
 pub returns-then-params_len-eq0-clause-walked : goal.returns-then-params_len-eq0-clause-walked
 returns-then-params_len-eq0-clause-walked g c =
