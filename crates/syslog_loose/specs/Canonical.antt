@@ -1,10 +1,10 @@
 -- The written condition: the messages that are read back unchanged from their printed text. It speaks of the fields
 -- alone, and never of reading. (This project's own.)
 use Rattle.std.specs.Prelude.{◌≡◌, ◌≢◌, ◌↔◌, ◌<◌, ◌^◌, ◌&&◌}
-use Rattle.syslog_loose.specs.Words.{ℕ, not, nat_eq, ⊤, Bool, IsTrue, MatchBool, List}
-use Rattle.syslog_loose.specs.Words.{[], length, Option, Some, None, IfSome, IsSome, AllByRecursion, option_map, Text}
-use Rattle.syslog_loose.specs.Words.{Each, Ends, procid_value, ElementValue, BeginsNoList, is_blank, is_tag_char, dash}
-use Rattle.syslog_loose.specs.Words.{is_label_char, ProcId, PID, Name, DashRule}
+use Rattle.syslog_loose.specs.Words.{ℕ, not, nat_eq, ⊤, Bool, IsTrue, MatchBool, List, [], length, Option, Some, None}
+use Rattle.syslog_loose.specs.Words.{IfSome, IsSome, AllByRecursion, option_map, Text, Each, Ends, procid_value}
+use Rattle.syslog_loose.specs.Words.{ElementValue, BeginsNoList, is_blank, is_tag_char, dash, is_label_char, ProcId}
+use Rattle.syslog_loose.specs.Words.{PID, Name, DashRule}
 pub use Rattle.syslog_pieces.specs.ProcId.{IsBoundedProcess, IsNoI32Text, IsCanonicalProcess}
 pub use Rattle.syslog_pieces.specs.StructuredData.Canonical.{IsCanonicalElement}
 pub use Rattle.syslog_pieces.specs.Text.Canonical.{IsVisible, IsCanonicalHost, IsCanonicalWord, EndsVisibly}

@@ -1,10 +1,8 @@
 -- What the rule of the dash changed: how it was while a dash was a list of RFC 3164 before anything, and which texts
 -- are read otherwise now. (This project's own.)
-use Rattle.std.specs.Prelude.{◌≡◌, ◌≢◌, ◌∷◌, ◌++◌}
-use Rattle.syslog_loose.specs.Words.{ℕ, List, [], length, Option, Some, None, Text, Class}
-use Rattle.syslog_loose.specs.Words.{rfc3164_list, is_blank, dash, Dating, DashRule}
-use Rattle.std.specs.Prelude.{false}
-use Rattle.syslog_pieces.specs.Pieces.Class.{join}
+use Rattle.std.specs.Prelude.{◌≡◌, ◌≢◌, ◌∷◌, ◌++◌, false}
+use Rattle.syslog_loose.specs.Words.{ℕ, List, [], length, Option, Some, None, Text, Class, rfc3164_list, is_blank, dash}
+use Rattle.syslog_loose.specs.Words.{Dating, DashRule, join}
 use Rattle.syslog_pieces.specs.declared.structured_data.rfc3164_list.DashRule.TheVariants.{BeforeAnything}
 use Rattle.syslog_loose.specs.declared.variant.Variant.{Variant}
 use Rattle.syslog_loose.specs.declared.variant.Variant.TheVariants.{Either, RFC3164, RFC5424}

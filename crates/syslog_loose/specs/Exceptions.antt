@@ -1,12 +1,11 @@
 -- What a message that was read as RFC 3164 may miss of the written condition: five things and no more. So these are the
 -- messages that are read as another one, or not at all, when they are printed. (This project's own.)
 use Rattle.std.specs.Prelude.{◌≡◌, ◌≢◌, ◌⊎◌, ◌<◌, ◌&&◌}
-use Rattle.syslog_loose.specs.Words.{⊤, ℕ, nat_eq, not, Bool, [], length, Option, Some, None}
-use Rattle.syslog_loose.specs.Words.{IfSome, IsSome, AllByRecursion, Text, Each, Ends, BeginsNoList, is_blank}
-use Rattle.syslog_loose.specs.Words.{is_tag_char, dash, EndsInColon, is_label_char, ShowsMonthDate, IsCanonicalStamp}
-use Rattle.syslog_loose.specs.Words.{Dating, ProcId, PID, Name, DashRule, OffsetTimestamp, MonthDate}
+use Rattle.syslog_loose.specs.Words.{⊤, ℕ, nat_eq, not, Bool, [], length, Option, Some, None, IfSome, IsSome}
+use Rattle.syslog_loose.specs.Words.{AllByRecursion, Text, Each, Ends, BeginsNoList, is_blank, is_tag_char, dash}
+use Rattle.syslog_loose.specs.Words.{EndsInColon, is_label_char, ShowsMonthDate, IsCanonicalStamp, Dating, ProcId, PID}
+use Rattle.syslog_loose.specs.Words.{Name, DashRule, OffsetTimestamp, MonthDate, IsMonthStamp}
 use Rattle.std.specs.Char.{is_not_whitespace}
-use Rattle.syslog_pieces.specs.Timestamp.Zone.{IsMonthStamp}
 use Rattle.syslog_loose.specs.declared.message.Protocol.TheVariants.{RFC3164}
 use Rattle.syslog_loose.specs.Canonical.{IsVisible, IsNoI32Text, IsCanonicalElement, EndsVisibly}
 use Rattle.syslog_loose.specs.Message.{MessageValue}

@@ -2,9 +2,7 @@
 use Rattle.std.specs.Prelude.{◌∷◌, ◌++◌}
 use Rattle.syslog_loose.specs.Words.{ℕ, List, [], Option, map, flat_map, option_and_then, option_map, Text}
 use Rattle.syslog_loose.specs.Words.{ElementValue, element_value, facility_of, severity_of, procid_value, ProcId}
-use Rattle.syslog_loose.specs.Words.{OffsetTimestamp}
-use Rattle.syslog_pieces.specs.StructuredData.Element.{element_texts}
-use Rattle.syslog_pieces.specs.Pieces.Parts.{text_list, process_texts}
+use Rattle.syslog_loose.specs.Words.{OffsetTimestamp, element_texts, text_list, process_texts}
 use Rattle.syslog_pieces.specs.declared.pri.SyslogFacility.{SyslogFacility}
 use Rattle.syslog_pieces.specs.declared.pri.SyslogSeverity.{SyslogSeverity}
 use Rattle.syslog_loose.specs.declared.message.Message.{Message}

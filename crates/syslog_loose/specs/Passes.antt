@@ -1,9 +1,9 @@
 -- What a pass of `settle` writes, and the rank of a message, which falls with each pass. (All of it is this project's
 -- own.)
 use Rattle.std.specs.Prelude.{◌≡◌, ◌↔◌, ◌++◌}
-use Rattle.syslog_loose.specs.Words.{⊤, ℕ, zero, suc, List, [], Bool, MatchBool, Option, Some, None}
-use Rattle.syslog_loose.specs.Words.{IfSome, Result, Ok, Err, MatchResult, chars, AllocError, Text, colon, EndsInColon}
-use Rattle.syslog_loose.specs.Words.{IsCanonicalStamp, ShowsMonthDate, Dating, MonthDate}
+use Rattle.syslog_loose.specs.Words.{⊤, ℕ, zero, suc, List, [], Bool, MatchBool, Option, Some, None, IfSome, Result, Ok}
+use Rattle.syslog_loose.specs.Words.{Err, MatchResult, chars, AllocError, Text, colon, EndsInColon, IsCanonicalStamp}
+use Rattle.syslog_loose.specs.Words.{ShowsMonthDate, Dating, MonthDate}
 use Rattle.syslog_loose.specs.Exceptions.{HasNoException, HasNoNameException}
 use Rattle.syslog_loose.specs.Bodies.Jumps.{IsDashed}
 use Rattle.syslog_loose.specs.Line.{line_value}

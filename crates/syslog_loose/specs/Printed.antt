@@ -1,10 +1,7 @@
 -- The printed text of a message, which is the form of RFC 5424 section 6, or of RFC 3164 section 4.
-use Rattle.std.specs.Prelude.{◌+◌, ◌*◌, ◌∷◌, ◌++◌}
-use Rattle.syslog_loose.specs.Words.{ℕ, List, [], Option, None, Some, option_map_or, flat_map}
-use Rattle.syslog_loose.specs.Words.{Text, ElementValue, facility_number, severity_number, dash, ProcId}
-use Rattle.syslog_loose.specs.Words.{OffsetTimestamp}
-use Rattle.std.specs.Prelude.{decimal}
-use Rattle.syslog_pieces.specs.StructuredData.Element.{element_text}
+use Rattle.std.specs.Prelude.{◌+◌, ◌*◌, ◌∷◌, ◌++◌, decimal}
+use Rattle.syslog_loose.specs.Words.{ℕ, List, [], Option, None, Some, option_map_or, flat_map, Text, ElementValue}
+use Rattle.syslog_loose.specs.Words.{facility_number, severity_number, dash, ProcId, OffsetTimestamp, element_text}
 pub use Rattle.syslog_pieces.specs.StructuredData.Element.{joined_elements, elements_text}
 use Rattle.syslog_pieces.specs.ProcId.{procid_text}
 pub use Rattle.syslog_pieces.specs.ProcId.{process_text}

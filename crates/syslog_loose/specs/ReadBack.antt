@@ -1,7 +1,7 @@
 -- What the reading calls return for a printed message, and what is known of the fields of a message that was read.
 use Rattle.std.specs.Prelude.{◌≡◌, ◌≢◌, ◌↔◌, ◌⊎◌}
-use Rattle.syslog_loose.specs.Words.{⊤, ℕ, List, Result, Err, String, string_bytes, IfSome, IsSome}
-use Rattle.syslog_loose.specs.Words.{IsOkAnd, Global, Bor, Text, shown, IsCanonicalStamp, Dating}
+use Rattle.syslog_loose.specs.Words.{⊤, ℕ, List, Result, Err, String, string_bytes, IfSome, IsSome, IsOkAnd, Global}
+use Rattle.syslog_loose.specs.Words.{Bor, Text, shown, IsCanonicalStamp, Dating}
 use Rattle.syslog_loose.specs.Canonical.{IsBounded, IsCanonical}
 use Rattle.syslog_loose.specs.Exceptions.{HasNoException, IsNearlyCanonical, IsOfMonthDate}
 use Rattle.syslog_loose.specs.Message.{MessageValue, message_value}
@@ -13,9 +13,9 @@ use Rattle.syslog_loose.specs.declared.fault.ParseFault.{ParseFault}
 use Rattle.syslog_loose.specs.declared.fault.ParseFault.TheVariants.{Memory}
 use Rattle.syslog_loose.specs.declared.message.Message.{Message}
 use Rattle.syslog_loose.specs.declared.message.Protocol.{Protocol}
-use Rattle.syslog_loose.specs.declared.message.Protocol.TheVariants as protocol
 use Rattle.syslog_loose.specs.declared.variant.Variant.{Variant}
 use Rattle.syslog_loose.specs.declared.variant.Variant.TheVariants.{Either, RFC3164, RFC5424}
+use Rattle.syslog_loose.specs.declared.message.Protocol.TheVariants as protocol
 
 -- `Either`, or the protocol's own
 abbrev pub ReadsProtocol : Variant → Protocol → Type 0

@@ -1,20 +1,16 @@
 -- What it is to read a text, by which protocol and in which year, and what the reading calls return.
 use Rattle.std.specs.Prelude.{◌≡◌, ◌⊎◌, ◌<◌, ◌≤◌, ◌^◌}
-use Rattle.syslog_loose.specs.Words.{⊤, ℕ, ℤ, List, [], Option, Some, None, Result}
-use Rattle.syslog_loose.specs.Words.{MatchResult, Bor, AllocError, Text, shown, Dating, DashRule, BeforeBlank}
-use Rattle.syslog_loose.specs.Words.{MonthDate}
-use Rattle.jiff.specs.Types.{UTC}
-use Rattle.syslog_pieces.specs.Timestamp.MonthDate.{yearless_date}
-use Rattle.syslog_pieces.specs.Timestamp.Rfc3164.{ShowsOf}
+use Rattle.syslog_loose.specs.Words.{⊤, ℕ, ℤ, List, [], Option, Some, None, Result, MatchResult, Bor, AllocError, Text}
+use Rattle.syslog_loose.specs.Words.{shown, Dating, DashRule, BeforeBlank, MonthDate, UTC, yearless_date, ShowsOf}
 use Rattle.syslog_loose.specs.declared.fault.ParseFault.{ParseFault}
 use Rattle.syslog_loose.specs.declared.fault.ParseFault.TheVariants.{Invalid, Memory}
 use Rattle.syslog_loose.specs.declared.message.Message.{Message}
-use Rattle.syslog_loose.specs.declared.message.Protocol.TheVariants as protocol
 use Rattle.syslog_loose.specs.declared.variant.Variant.{Variant}
 use Rattle.syslog_loose.specs.declared.variant.Variant.TheVariants.{Either, RFC3164, RFC5424}
 use Rattle.syslog_loose.specs.Message.{MessageValue, message_of_parts, message_value}
 use Rattle.syslog_loose.specs.Rfc3164.{IsRead3164, Quotes3164}
 use Rattle.syslog_loose.specs.Rfc5424.{IsRead5424, IsNot5424, Quotes5424}
+use Rattle.syslog_loose.specs.declared.message.Protocol.TheVariants as protocol
 
 -- ---- reading a text, its dates taken so
 

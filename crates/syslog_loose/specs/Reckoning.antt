@@ -1,8 +1,6 @@
 -- The year and the zone of dates that show none: this project's own choice.
-use Rattle.std.specs.Prelude.{◌≡◌, if◌then◌else◌}
-use Rattle.syslog_loose.specs.Words.{ℕ, ℤ, nat_eq, Option, Some, None, Text, Dating}
-use Rattle.std.specs.Prelude.{◌-ℤ◌, pos}
-use Rattle.jiff.specs.Types.{Offset, TimeZone}
+use Rattle.std.specs.Prelude.{◌≡◌, if◌then◌else◌, ◌-ℤ◌, pos}
+use Rattle.syslog_loose.specs.Words.{ℕ, ℤ, nat_eq, Option, Some, None, Text, Dating, Offset, TimeZone}
 use Rattle.jiff.specs.Placed.{fixed_zone}
 use Rattle.syslog_loose.specs.Reading.{IncompleteDate, InYear}
 use Rattle.syslog_loose.specs.declared.variant.Variant.{Variant}

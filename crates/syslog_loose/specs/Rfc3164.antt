@@ -1,12 +1,9 @@
 -- The header of RFC 3164 (section 4, read loosely), as eleven pieces of the trimmed text, and the message that they
 -- mean. Behind the timestamp nothing can fail.
-use Rattle.std.specs.Prelude.{◌≡◌, ◌⊎◌, ◌∷◌}
-use Rattle.syslog_loose.specs.Words.{List, [], Option, Some, None, Text, Class, Values, Division, run}
-use Rattle.syslog_loose.specs.Words.{rest, exactly, optional, AreInPieces, priority, rfc3164_list, trimmed, is_blank}
-use Rattle.syslog_loose.specs.Words.{colon, host, tag_word, rfc3164_stamp, Dating, ProcId, DashRule}
-use Rattle.std.specs.Prelude.{unwrap_or}
-use Rattle.syslog_pieces.specs.Pieces.Class.{after}
-use Rattle.syslog_pieces.specs.ProcId.{NamesProcess}
+use Rattle.std.specs.Prelude.{◌≡◌, ◌⊎◌, ◌∷◌, unwrap_or}
+use Rattle.syslog_loose.specs.Words.{List, [], Option, Some, None, Text, Class, Values, Division, run, rest, exactly}
+use Rattle.syslog_loose.specs.Words.{optional, AreInPieces, priority, rfc3164_list, trimmed, is_blank, colon, host}
+use Rattle.syslog_loose.specs.Words.{tag_word, rfc3164_stamp, Dating, ProcId, DashRule, after, NamesProcess}
 use Rattle.syslog_loose.specs.declared.message.Protocol.TheVariants.{RFC3164}
 use Rattle.syslog_loose.specs.Message.{MessageValue, message_of_parts, message_texts}
 use Rattle.syslog_loose.specs.TagForm.{IsNoForm, form_row}

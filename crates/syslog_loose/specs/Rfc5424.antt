@@ -1,8 +1,8 @@
 -- The header of RFC 5424 (section 6), as sixteen pieces of the trimmed text, and the message that they mean.
 use Rattle.std.specs.Prelude.{◌≡◌, ◌∷◌}
-use Rattle.syslog_loose.specs.Words.{List, [], Text, Class, Values, Division, run, some_run, rest, optional}
-use Rattle.syslog_loose.specs.Words.{priority, process_word, forgiving, trimmed, is_blank, number, host, word}
-use Rattle.syslog_loose.specs.Words.{header_stamp, AreInPieces}
+use Rattle.syslog_loose.specs.Words.{List, [], Text, Class, Values, Division, run, some_run, rest, optional, priority}
+use Rattle.syslog_loose.specs.Words.{process_word, forgiving, trimmed, is_blank, number, host, word, header_stamp}
+use Rattle.syslog_loose.specs.Words.{AreInPieces}
 use Rattle.syslog_loose.specs.declared.message.Protocol.TheVariants.{RFC5424}
 use Rattle.syslog_loose.specs.Message.{MessageValue, message_of_parts, message_texts}
 

@@ -1,11 +1,10 @@
 -- Rounds: a text is read and printed, and what was printed is read and printed again, until it no longer changes. And
 -- the weight of a message of RFC 3164, which falls from round to round until then. (All of it is this project's own.)
 use Rattle.std.specs.Prelude.{◌≡◌, ◌⊎◌, ◌+◌, ◌<◌, ◌≤◌, if◌then◌else◌}
-use Rattle.syslog_loose.specs.Words.{ℕ, zero, suc, List, [], length, nat_eq}
-use Rattle.syslog_loose.specs.Words.{Option, IfSome, Result, Ok, Err, MatchResult, String, string_bytes, Global}
-use Rattle.syslog_loose.specs.Words.{option_map_or, chars, bytes_eq, Text, ElementValue, BeginsNoList, dash}
-use Rattle.syslog_loose.specs.Words.{IsCanonicalStamp, Dating, ProcId, PID, Name, DashRule}
-use Rattle.std.specs.List.{list_any, suffix_len}
+use Rattle.syslog_loose.specs.Words.{ℕ, zero, suc, List, [], length, nat_eq, Option, IfSome, Result, Ok, Err}
+use Rattle.syslog_loose.specs.Words.{MatchResult, String, string_bytes, Global, option_map_or, chars, bytes_eq, Text}
+use Rattle.syslog_loose.specs.Words.{ElementValue, BeginsNoList, dash, IsCanonicalStamp, Dating, ProcId, PID, Name}
+use Rattle.syslog_loose.specs.Words.{DashRule, list_any, suffix_len}
 use Rattle.syslog_loose.specs.Message.{MessageValue}
 use Rattle.syslog_loose.specs.Printed.{printed}
 use Rattle.syslog_loose.specs.Reading.{IsRead, IsUnreadable}

@@ -1,9 +1,7 @@
 -- The form `tag[id]` of a program's name in RFC 3164 (section 5.3 of RFC 3164 has it by example; own).
 use Rattle.std.specs.Prelude.{◌∷◌}
-use Rattle.syslog_loose.specs.Words.{List, [], Text, Class, Division, Values, run, some_run, exactly}
-use Rattle.syslog_loose.specs.Words.{is_label_char}
-use Rattle.syslog_pieces.specs.Pieces.Class.{texted}
-use Rattle.syslog_pieces.specs.Text.CharClass.{is_open_char}
+use Rattle.syslog_loose.specs.Words.{List, [], Text, Class, Division, Values, run, some_run, exactly, is_label_char}
+use Rattle.syslog_loose.specs.Words.{texted, is_open_char}
 
 -- a tag without white space, colon and `[`, perhaps empty; `[`; an id without `]`, not empty; `]`
 abbrev pub form_row : List Class

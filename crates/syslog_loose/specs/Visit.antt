@@ -1,7 +1,7 @@
 -- What is made of a text by way of its line.
 use Rattle.std.specs.Prelude.{◌≡◌, ◌≢◌}
-use Rattle.syslog_loose.specs.Words.{ℕ, List, [], Option, None, MatchOption, Result, MatchResult, Bor, Text}
-use Rattle.syslog_loose.specs.Words.{shown, ElementValue, list_elements, Visits, trimmed, Dating}
+use Rattle.syslog_loose.specs.Words.{ℕ, List, [], Option, None, MatchOption, Result, MatchResult, Bor, Text, shown}
+use Rattle.syslog_loose.specs.Words.{ElementValue, list_elements, Visits, trimmed, Dating}
 use Rattle.syslog_loose.specs.Line.{line_value}
 use Rattle.syslog_loose.specs.Message.{message_value, with_elements}
 use Rattle.syslog_loose.specs.declared.fault.ParseFault.{ParseFault}

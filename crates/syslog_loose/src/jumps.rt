@@ -3,11 +3,10 @@
 //! A host of RFC 3164 that ends in colons is read with one fewer each time, and the colon is in the message part after
 //! it; of a message part of dashes each reading takes one for an empty list. Each of these rounds is known from the one
 //! before it, so the last of them is written at once.
-ghost use Rattle.std.specs.Prelude.{◌≡◌, ◌+◌, ◌*◌, ◌++◌, ◌<◌, ◌≤◌, ◌∷◌};
-ghost use Rattle.syslog_loose.specs.Words.{ℕ, [], IfSome, MatchOption, None, OnOk};
-ghost use Rattle.syslog_loose.specs.Words.{Some, length, string_bytes, chars, encode_utf8_all, Text, shown};
-ghost use Rattle.syslog_loose.specs.Words.{list_elements, EndsInColon, IsCanonicalStamp, Dating};
-ghost use Rattle.std.specs.Prelude.{◌-◌};
+ghost use Rattle.std.specs.Prelude.{◌≡◌, ◌+◌, ◌*◌, ◌++◌, ◌<◌, ◌≤◌, ◌∷◌, ◌-◌};
+ghost use Rattle.syslog_loose.specs.Words.{ℕ, [], IfSome, MatchOption, None, OnOk, Some, length, string_bytes, chars};
+ghost use Rattle.syslog_loose.specs.Words.{encode_utf8_all, Text, shown, list_elements, EndsInColon, IsCanonicalStamp};
+ghost use Rattle.syslog_loose.specs.Words.{Dating};
 ghost use Rattle.syslog_loose.specs.Bodies.Jumps.{CutsColons, EndsColons, IsDashed, PassesDashes, colons};
 ghost use Rattle.syslog_loose.specs.Bodies.Jumps.{colons_before, message_end, past_colons, tail_text, with_msg};
 ghost use Rattle.syslog_loose.specs.Line.{line_value};

@@ -1,9 +1,7 @@
 //! Laws over the definitions alone: each function does nothing, and its contract is the law.
 ghost use Rattle.std.specs.Prelude.{◌≡◌, ◌↔◌};
-ghost use Rattle.syslog_loose.specs.Words.{Option, Text, Division, NoFront, Row, Values, ShowsMonthDate};
-ghost use Rattle.syslog_loose.specs.Words.{Dating, DashRule, MonthDate};
-ghost use Rattle.syslog_pieces.specs.Pieces.Class.{NoDivision};
-ghost use Rattle.syslog_pieces.specs.Timestamp.Rfc3164.{ShowsYearless};
+ghost use Rattle.syslog_loose.specs.Words.{Option, Text, Division, NoFront, Row, Values, ShowsMonthDate, Dating};
+ghost use Rattle.syslog_loose.specs.Words.{DashRule, MonthDate, NoDivision, ShowsYearless};
 ghost use Rattle.syslog_loose.specs.Message.{MessageValue};
 ghost use Rattle.syslog_loose.specs.Printed.{printed};
 ghost use Rattle.syslog_loose.specs.declared.message.Protocol.TheVariants.{RFC3164};

@@ -1,7 +1,7 @@
 //! A parsed line: the one value between a text and whatever is made of it. It takes no memory.
 ghost use Rattle.std.specs.Prelude.{◌≡◌, ◌↔◌, ◌<◌};
-ghost use Rattle.syslog_loose.specs.Words.{IsTrue, length, map, AllByRecursion, option_map, shown};
-ghost use Rattle.syslog_loose.specs.Words.{procid_value, element_value, list_elements};
+ghost use Rattle.syslog_loose.specs.Words.{IsTrue, length, map, AllByRecursion, option_map, shown, procid_value};
+ghost use Rattle.syslog_loose.specs.Words.{element_value, list_elements};
 
 mod printing;
 mod quirks;
@@ -45,9 +45,8 @@ pub struct Line<'a> {
 
 impl<'a> Line<'a> {
     ghost use Rattle.std.specs.Prelude.{◌≢◌, ◌↔◌};
-    ghost use Rattle.syslog_loose.specs.Words.{[], IsTrue, MatchResult};
+    ghost use Rattle.syslog_loose.specs.Words.{[], IsTrue, MatchResult, elements_left};
     ghost use Rattle.syslog_loose.specs.Line.{line_value};
-    ghost use Rattle.syslog_pieces.specs.StructuredData.Visited.{elements_left};
     ghost use Rattle.syslog_loose.specs.Canonical.{IsCanonical};
     ghost use Rattle.syslog_loose.specs.Reading.{dash_rule};
     ghost use Rattle.syslog_loose.specs.Message.{message_value, with_elements};

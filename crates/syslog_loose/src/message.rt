@@ -1,7 +1,7 @@
 //! The message: its fields, and its printed text.
 ghost use Rattle.std.specs.Prelude.{◌≡◌, ◌+◌, ◌*◌, ◌++◌, ◌∷◌};
-ghost use Rattle.syslog_loose.specs.Words.{WritesOnOk, option_map, option_map_or, Some};
-ghost use Rattle.syslog_loose.specs.Words.{encode_utf8_all, text_of, facility_number, severity_number, procid_value};
+ghost use Rattle.syslog_loose.specs.Words.{WritesOnOk, option_map, option_map_or, Some, encode_utf8_all, text_of};
+ghost use Rattle.syslog_loose.specs.Words.{facility_number, severity_number, procid_value};
 ghost use Rattle.syslog_loose.specs.Message.{message_value};
 ghost use Rattle.syslog_loose.specs.Printed as spec;
 

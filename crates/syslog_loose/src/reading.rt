@@ -3,18 +3,17 @@
 //! Each goes by `visit_line`, and collects the elements of the line. The calls with `exact` in their names refuse a text
 //! that does not parse; the others return the fallback.
 ghost use Rattle.std.specs.Prelude.{◌≡◌};
-ghost use Rattle.syslog_loose.specs.Words.{List, [], IfOk, None, chars, plain_zone, shown, dating_of};
-ghost use Rattle.syslog_loose.specs.Words.{ElementValue};
-ghost use Rattle.syslog_pieces.specs.Timestamp.Zone as zone;
+ghost use Rattle.syslog_loose.specs.Words.{List, [], IfOk, None, chars, plain_zone, shown, dating_of, ElementValue};
 ghost use Rattle.syslog_pieces.specs.Timestamp.Zone.{IsYearAt};
 ghost use Rattle.syslog_pieces.specs.StructuredData.Collected.{HasCollected};
 ghost use Rattle.syslog_loose.specs.Line.{line_value};
 ghost use Rattle.syslog_loose.specs.Message.{message_value, with_elements};
 ghost use Rattle.syslog_loose.specs.Visit.{IsCompleted};
 ghost use Rattle.syslog_loose.specs.ReadBack.{AnswersItself, FieldsAsRead};
-ghost use Rattle.syslog_loose.specs.Reading as spec;
 ghost use Rattle.syslog_loose.specs.Reading.{Answers, AnswersEachMonth, AnswersOrWhole, InYear, IsQuoted};
 ghost use Rattle.syslog_loose.specs.declared.variant.Variant.{Variant};
+ghost use Rattle.syslog_pieces.specs.Timestamp.Zone as zone;
+ghost use Rattle.syslog_loose.specs.Reading as spec;
 
 use crate::fault::ParseFault;
 use crate::line::Line;

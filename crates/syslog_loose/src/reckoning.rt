@@ -2,8 +2,7 @@
 //!
 //! The programs and the library for C use it, so that each takes such dates in one way.
 ghost use Rattle.std.specs.Prelude.{◌≡◌};
-ghost use Rattle.syslog_loose.specs.Words.{MatchOption, plain_zone};
-ghost use Rattle.jiff.specs.Words.{IsOffsetSeconds, IsYear};
+ghost use Rattle.syslog_loose.specs.Words.{MatchOption, plain_zone, IsOffsetSeconds, IsYear};
 ghost use Rattle.syslog_loose.specs.Reckoning.{IsZoneAt, reckoned_year};
 
 use crate::variant::IncompleteDate;

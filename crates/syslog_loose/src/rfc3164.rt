@@ -5,15 +5,14 @@
 //! piece from the readers of `syslog_pieces`, from the left. `resolve` says what the host field and the tag field mean
 //! together.
 ghost use Rattle.std.specs.Prelude.{◌≡◌};
-ghost use Rattle.syslog_loose.specs.Words.{IsTrue, MatchOption, Option, Some, None, chars, Text, seen};
-ghost use Rattle.syslog_loose.specs.Words.{list_elements, Visits, trimmed, Dating};
-ghost use Rattle.syslog_pieces.specs.Pieces.View.{field_seen};
+ghost use Rattle.syslog_loose.specs.Words.{IsTrue, Option, Some, None, chars, Text, seen, list_elements, Visits};
+ghost use Rattle.syslog_loose.specs.Words.{trimmed, Dating, field_seen};
 ghost use Rattle.syslog_loose.specs.Line.{line_value, KnowsForm};
 ghost use Rattle.syslog_loose.specs.Reading.{dash_rule};
-ghost use Rattle.syslog_loose.specs.Rfc3164 as spec;
 ghost use Rattle.syslog_loose.specs.Bodies.View3164.{FieldsAreRead, IsBehindStamp, IsProcessOf, names_value, NamesHost};
 ghost use Rattle.syslog_loose.specs.Bodies.View3164.{NamesProgram};
 ghost use Rattle.syslog_loose.specs.Visit.{HasRest};
+ghost use Rattle.syslog_loose.specs.Rfc3164 as spec;
 
 use crate::line::Line;
 use crate::rfc5424::{are_all, is_bare};
@@ -84,17 +83,6 @@ fn nobody() -> Names<'static>
     }
 }
 
-// The host of a field, absent where the field is.
-#[inline(always)]
-fn origin<'a>(host: Option<Option<&'a str>>) -> Option<&'a str>
-    ensures { MatchOption (field_seen host.entry) (seen result ≡ None) (λ name. seen result ≡ name) }
-{
-    match host {
-        Some(hostname) => hostname,
-        None => None,
-    }
-}
-
 /// What the host field and the tag field mean together: each is not there, or there and empty, or a text.
 #[inline(always)]
 pub(crate) fn resolve<'a, C>(
@@ -110,7 +98,7 @@ pub(crate) fn resolve<'a, C>(
             _ => nobody(),
         },
         Some(None) => nobody(),
-        Some(Some(name)) => program(origin(host), name),
+        Some(Some(name)) => program(host.flatten(), name),
     }
 }
 

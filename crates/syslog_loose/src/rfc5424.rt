@@ -3,8 +3,8 @@
 //! `read_5424` returns the line of the one division of a trimmed text, or that there is none. What it reads it takes
 //! from the readers of `syslog_pieces`, piece by piece from the left.
 ghost use Rattle.std.specs.Prelude.{◌≡◌};
-ghost use Rattle.syslog_loose.specs.Words.{[], ℕ, IfSome, IsTrue, MatchOption, Some, AllByRecursion, chars};
-ghost use Rattle.syslog_loose.specs.Words.{IsUtf8, Text, seen, shown, list_elements, Visits, trimmed};
+ghost use Rattle.syslog_loose.specs.Words.{[], ℕ, IfSome, IsTrue, MatchOption, Some, AllByRecursion, chars, IsUtf8};
+ghost use Rattle.syslog_loose.specs.Words.{Text, seen, shown, list_elements, Visits, trimmed};
 ghost use Rattle.syslog_pieces.specs.Bodies.Verbatim.{IsBareWord};
 ghost use Rattle.syslog_loose.specs.Line.{line_value, KnowsForm};
 ghost use Rattle.syslog_loose.specs.Rfc5424.{IsNot5424, IsRead5424};

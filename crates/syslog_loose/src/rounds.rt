@@ -4,8 +4,8 @@
 //! RFC 3164 and has no quirk. So nearly each line is settled by one round, and `settling` asks for more of the others
 //! alone.
 ghost use Rattle.std.specs.Prelude.{◌≡◌, ◌↔◌};
-ghost use Rattle.syslog_loose.specs.Words.{MatchBool, MatchResult, None, string_bytes, chars};
-ghost use Rattle.syslog_loose.specs.Words.{encode_utf8_all, dating_of};
+ghost use Rattle.syslog_loose.specs.Words.{MatchBool, MatchResult, None, string_bytes, chars, encode_utf8_all};
+ghost use Rattle.syslog_loose.specs.Words.{dating_of};
 ghost use Rattle.syslog_pieces.specs.Timestamp.Zone.{Dating as AnyDating};
 ghost use Rattle.syslog_loose.specs.Line.{KnowsForm, line_value};
 ghost use Rattle.syslog_loose.specs.Message.{MessageValue};

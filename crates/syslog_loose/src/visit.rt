@@ -3,12 +3,11 @@
 //! A text is trimmed once, and its priority and its month date are read once: after a month date RFC 5424 is not tried,
 //! and where the date has no year the closure is asked.
 ghost use Rattle.std.specs.Prelude.{◌≡◌, ◌≢◌};
-ghost use Rattle.syslog_loose.specs.Words.{[], IfSome, IsSome, MatchOption, None, chars, Text, shown};
-ghost use Rattle.syslog_loose.specs.Words.{list_elements, Visits, header_stamp, stamp_seen, dating_of, MonthDate};
+ghost use Rattle.syslog_loose.specs.Words.{[], IfSome, IsSome, MatchOption, None, chars, Text, shown, list_elements};
+ghost use Rattle.syslog_loose.specs.Words.{Visits, header_stamp, stamp_seen, dating_of, MonthDate, month_date};
 ghost use Rattle.std.specs.Bool.{OnFalse};
 ghost use Rattle.syslog_pieces.specs.Bodies.Looks.{EndsDigits};
 ghost use Rattle.syslog_pieces.specs.Text.{trimmed as trimmed_text};
-ghost use Rattle.syslog_pieces.specs.Timestamp.MonthDate.{month_date};
 ghost use Rattle.syslog_pieces.specs.Timestamp.Zone.{Dating as AnyDating};
 ghost use Rattle.syslog_loose.specs.Line.{line_value, KnowsForm};
 ghost use Rattle.syslog_loose.specs.Reading.{AnswersEachMonth, InYear, IsUnreadable, dash_rule};

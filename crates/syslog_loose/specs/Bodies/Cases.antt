@@ -1,7 +1,7 @@
 -- The bound of a protocol's version, the dates that the closure for years is asked of, and what a priority prints as.
 use Rattle.std.specs.Prelude.{◌+◌, ◌*◌, ◌<◌, ◌≤◌, ◌^◌}
-use Rattle.syslog_loose.specs.Words.{⊤, ℕ, Option, option_and_then, option_map_or, facility_of}
-use Rattle.syslog_loose.specs.Words.{severity_of, facility_number, severity_number, MonthDate}
+use Rattle.syslog_loose.specs.Words.{⊤, ℕ, Option, option_and_then, option_map_or, facility_of, severity_of}
+use Rattle.syslog_loose.specs.Words.{facility_number, severity_number, MonthDate}
 use Rattle.syslog_loose.specs.Reading.{IncompleteDate}
 use Rattle.syslog_loose.specs.declared.message.Protocol.{Protocol}
 use Rattle.syslog_loose.specs.declared.message.Protocol.TheVariants.{RFC3164, RFC5424}

@@ -1,9 +1,8 @@
 -- In which parts the two headers are read.
 use Rattle.std.specs.Prelude.{◌∷◌, ◌++◌}
-use Rattle.syslog_loose.specs.Words.{List, [], Text, Class, Values, Front, Row, run, some_run, rest, exactly}
-use Rattle.syslog_loose.specs.Words.{optional, priority, process_word, forgiving, rfc3164_list, is_blank, number, colon}
-use Rattle.syslog_loose.specs.Words.{host, word, tag_word, header_stamp, rfc3164_stamp, Dating, DashRule}
-use Rattle.syslog_pieces.specs.Pieces.Class.{spaced}
+use Rattle.syslog_loose.specs.Words.{List, [], Text, Class, Values, Front, Row, run, some_run, rest, exactly, optional}
+use Rattle.syslog_loose.specs.Words.{priority, process_word, forgiving, rfc3164_list, is_blank, number, colon, host}
+use Rattle.syslog_loose.specs.Words.{word, tag_word, header_stamp, rfc3164_stamp, Dating, DashRule, spaced}
 use Rattle.syslog_loose.specs.Rfc3164.{Names3164, Resolves}
 
 -- ---- of RFC 5424

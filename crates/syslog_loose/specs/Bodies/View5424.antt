@@ -1,8 +1,7 @@
 -- What the reader of the header holds, as the meanings of its pieces, and how it appears in the text.
 use Rattle.std.specs.Prelude.{◌≡◌, ◌∷◌, ◌++◌}
-use Rattle.syslog_loose.specs.Words.{ℕ, Option, Some, MatchOption, Bor, List, option_map, Text, Front}
-use Rattle.syslog_loose.specs.Words.{NoFront, Row, Values, seen, shown, named_process, stamp_seen}
-use Rattle.syslog_pieces.specs.ProcId.{process_text}
+use Rattle.syslog_loose.specs.Words.{ℕ, Option, Some, MatchOption, Bor, List, option_map, Text, Front, NoFront, Row}
+use Rattle.syslog_loose.specs.Words.{Values, seen, shown, named_process, stamp_seen, process_text}
 use Rattle.syslog_pieces.specs.Text.{name_text}
 use Rattle.syslog_loose.specs.Bodies.Rows.{header_row, names_row}
 use Rattle.syslog_loose.specs.declared.line.Line.{Line}

@@ -2,8 +2,7 @@
 //!
 //! The rest of other lines is printed field by field. No message is made of a line that is printed.
 ghost use Rattle.std.specs.Prelude.{◌≡◌, ◌++◌};
-ghost use Rattle.syslog_loose.specs.Words.{OnOk, Some, string_bytes, WritesOnOk, encode_utf8_all};
-ghost use Rattle.syslog_loose.specs.Words.{list_elements};
+ghost use Rattle.syslog_loose.specs.Words.{OnOk, Some, string_bytes, WritesOnOk, encode_utf8_all, list_elements};
 ghost use Rattle.syslog_pieces.specs.Front.{ascii_bytes, front_text};
 ghost use Rattle.syslog_loose.specs.Bodies.Cases.{printed_number};
 ghost use Rattle.syslog_loose.specs.Line.{line_value, KnowsForm};

@@ -1,11 +1,11 @@
 //! The quirks, tested on the fields of a line. What was read as RFC 3164 meets all else of the written condition but for
 //! an absent facility and severity, so without a quirk its printed text is settled. The tests look at a few bytes.
 ghost use Rattle.std.specs.Prelude.{◌≡◌, ◌≢◌, ◌↔◌, ◌++◌, ◌∷◌};
-ghost use Rattle.syslog_loose.specs.Words.{[], ℕ, List, IfSome, IsTrue, MatchBool};
-ghost use Rattle.syslog_loose.specs.Words.{option_map, chars, Each, seen, shown, procid_value, EndsInColon, dash};
-ghost use Rattle.syslog_loose.specs.Exceptions as spec;
+ghost use Rattle.syslog_loose.specs.Words.{[], ℕ, List, IfSome, IsTrue, MatchBool, option_map, seen, shown};
+ghost use Rattle.syslog_loose.specs.Words.{procid_value, EndsInColon, dash};
 ghost use Rattle.syslog_loose.specs.Line.{line_value};
 ghost use Rattle.syslog_loose.specs.Reading.{dash_rule};
+ghost use Rattle.syslog_loose.specs.Exceptions as spec;
 
 use super::Line;
 use crate::message::begins_no_list;
@@ -29,21 +29,15 @@ pub(crate) fn has_quiet_names(line: &Line<'_>) -> bool
 }
 
 // Whether the host is neither the text of an absent one nor taken for the one after the names.
+#[tactic(auto, using(crate::proofs::CanonicalLemmas::odd_told, crate::proofs::CanonicalLemmas::no_odd_told))]
 fn has_no_odd_host(host: Option<&str>) -> bool
     ensures { IsTrue result ↔ (IfSome (seen host.entry) (λ h. h ≢ dash)
         × IfSome (seen host.entry) (λ h. EndsInColon h → ⊥)) }
 {
     match host {
-        Some(name) => is_no_odd_host(name),
+        Some(name) => !ends_in_colon(name) && is_no_dash(name),
         None => true,
     }
-}
-
-#[tactic(auto, using(crate::proofs::CanonicalLemmas::odd_told, crate::proofs::CanonicalLemmas::no_odd_told))]
-fn is_no_odd_host(name: &str) -> bool
-    ensures { IsTrue result ↔ ((chars name.now ≢ dash) × (EndsInColon (chars name.now) → ⊥)) }
-{
-    !ends_in_colon(name) && is_no_dash(name)
 }
 
 // Whether the last byte is that of a colon.
@@ -64,19 +58,13 @@ fn is_no_dash(name: &str) -> bool
 }
 
 // Whether the process is a number, or a name at which no other is cut.
+#[tactic(auto, using(crate::proofs::CanonicalLemmas::no_colon_told))]
 fn is_uncut_process(process: Option<ProcId<&str>>) -> bool
     ensures { IsTrue result ↔ IfSome (option_map (procid_value (λ s. shown s)) process.entry) spec.HasNoColon }
 {
     match process {
-        Some(ProcId::Name(name)) => has_no_colon(name),
+        Some(ProcId::Name(name)) => !name.contains(':'),
         Some(ProcId::PID(_)) => true,
         None => true,
     }
-}
-
-#[tactic(auto, using(crate::proofs::CanonicalLemmas::no_colon_told))]
-fn has_no_colon(name: &str) -> bool
-    ensures { IsTrue result ↔ Each spec.is_no_colon (chars name.now) }
-{
-    !name.contains(':')
 }

@@ -1,13 +1,13 @@
 //! The written condition, tested on the fields: each text is put before the scanner or the reader that would read it.
 ghost use Rattle.std.specs.Prelude.{◌≡◌, ◌≢◌, ◌↔◌, ◌<◌};
-ghost use Rattle.syslog_loose.specs.Words.{AllByRecursion, option_map, List, [], IfSome, IsTrue};
-ghost use Rattle.syslog_loose.specs.Words.{MatchBool, None, Some, length, map, chars, Ends, text_of, procid_value};
-ghost use Rattle.syslog_loose.specs.Words.{ElementValue, element_value, BeginsNoList, is_blank, Name};
-ghost use Rattle.syslog_loose.specs.Canonical as spec;
+ghost use Rattle.syslog_loose.specs.Words.{AllByRecursion, option_map, List, [], IfSome, IsTrue, MatchBool, None, Some};
+ghost use Rattle.syslog_loose.specs.Words.{length, map, chars, Ends, text_of, procid_value, ElementValue};
+ghost use Rattle.syslog_loose.specs.Words.{element_value, BeginsNoList, is_blank, Name};
 ghost use Rattle.syslog_loose.specs.Canonical.{AreElements, fields_value};
 ghost use Rattle.syslog_loose.specs.Message.{message_value};
 ghost use Rattle.syslog_loose.specs.Reading.{dash_rule};
 ghost use Rattle.syslog_loose.specs.TagForm.{IsNoForm};
+ghost use Rattle.syslog_loose.specs.Canonical as spec;
 
 use super::{Message, Protocol};
 use crate::tag_form::tag_form;
