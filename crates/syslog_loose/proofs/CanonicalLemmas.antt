@@ -42,9 +42,8 @@ pub some_items : {X Y : Type 0} (f : X → Y) (xs : List X) → 0 < length xs �
 some_items f xs h e = omega (arith, length-map xs f, ap length e)
 
 -- a message that begins no list
-pub no_list_told : (rule : DashRule) (t : Text) (b : Bool)
-    → MatchBool b (NoFront (rfc3164_list rule) t → ⊥) (NoFront (rfc3164_list rule) t) → IsTrue (not b)
-    ↔ BeginsNoList rule t
+pub no_list_told : (rule : DashRule) (t : Text) (b : Bool) → MatchBool b (NoFront (rfc3164_list rule) t → ⊥)
+    (NoFront (rfc3164_list rule) t) → IsTrue (not b) ↔ BeginsNoList rule t
 no_list_told rule t true m =
     ((λ h. absurd (let e : false ≡ true = h in cc)), (λ n. absurd (m ((no_list_is rule t).1 n))))
 no_list_told rule t false m = ((λ h. (no_list_is rule t).0 m), (λ n. refl))
@@ -69,8 +68,7 @@ no_colon_end bs u n k = n (encode_utf8_all k.0)
 
 pub no_odd_told : (bs : List ℕ) (b : Bool) → IsUtf8 bs → ((front : List ℕ) → bs ≢ front ++ colon)
     → MatchBool b (bs ≢ dash) (bs ≡ dash) → IsTrue b ↔ ((chars bs ≢ dash) × (EndsInColon (chars bs) → ⊥))
-no_odd_told bs true u n m =
-    ((λ h. (λ e. m (dash_bytes bs u e), no_colon_end bs u n)), (λ k. refl))
+no_odd_told bs true u n m = ((λ h. (λ e. m (dash_bytes bs u e), no_colon_end bs u n)), (λ k. refl))
 no_odd_told bs false u n m = false_is (λ k. k.0 (ap chars m ∙ chars-IsAscii dash dash_ascii))
 
 -- ---- a name without a colon
@@ -110,8 +108,7 @@ canonical_host (Some x) v d c = (v, d, c)
 -- ---- the process
 inner_of : (process : ProcId Text) → IsBracketedProcess process → IsInnerProcess process
 inner_of (PID n) h = tt
-inner_of (Name t) (l, a, none) =
-    (l, each_map is_process_char is_inner_char (λ c h. grind (arith, nat_tests)) t a, none)
+inner_of (Name t) (l, a, none) = (l, each_map is_process_char is_inner_char (λ c h. grind (arith, nat_tests)) t a, none)
 
 no_colon_of : (process : ProcId Text) → IsBracketedProcess process → HasNoColon process
 no_colon_of (PID n) h = tt

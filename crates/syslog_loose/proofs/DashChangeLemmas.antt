@@ -34,9 +34,8 @@ record ReadsApart (dating : Dating) (text : Text) : Type 0 where
   pub is_read : IsRead3164 dash_rule dating text now
   pub differ : before ≢ now
 
-differs_by : (variant : Variant) (dating : Dating) (text : Text) (m n : MessageValue)
-    → IsReadUnder BeforeAnything variant dating text m → IsReadUnder dash_rule variant dating text n → m ≢ n
-    → ReadsDifferently variant dating text
+differs_by : (variant : Variant) (dating : Dating) (text : Text) (m n : MessageValue) → IsReadUnder BeforeAnything
+    variant dating text m → IsReadUnder dash_rule variant dating text n → m ≢ n → ReadsDifferently variant dating text
 differs_by variant dating text m n r s differ = record {
   before = Some m;
   now = Some n;
@@ -120,26 +119,23 @@ rows_cut As C Bs vs ps e d = absurd d
 
 module _ (dating : Dating) (text : Text) where
   -- such a dash begins the text from the list on, or the text is read under the other rule too
-  turn : (rule other : DashRule) (m : MessageValue) (r : IsRead3164 rule dating text m)
-      → ((u : Text) × Front (Row (before_list dating)) (trimmed text) u
-      (firsts (before_list dating) (from_list rule) r.values) × BeginsDashChange u)
-      ⊎ IsRead3164 other dating text m
+  turn : (rule other : DashRule) (m : MessageValue) (r : IsRead3164 rule dating text m) → ((u : Text) × Front
+      (Row (before_list dating)) (trimmed text) u (firsts (before_list dating) (from_list rule) r.values)
+      × BeginsDashChange u) ⊎ IsRead3164 other dating text m
   turn rule other m r =
       let (u, a, b) = rows_split (before_list dating) (from_list rule)
       (division_front (rfc3164_row rule dating) r.division) in
       let (q, list, gap) = row_head (optional (rfc3164_list rule)) from_gap b in
       elim (dash_change_or_not u) [
         | inl d ↦ inl (u, a, d)
-        | inr n ↦ inr (is_read other dating text _ _ m refl r.means
-            (rows_join (before_list dating) (from_list other) a
+        | inr n ↦ inr (is_read other dating text _ _ m refl r.means (rows_join (before_list dating) (from_list other) a
             (row_cons (optional (rfc3164_list other)) from_gap (field_stays rule other u q _ n list) gap)))
       ]
 
   -- under the old rule the list was that dash
-  is_dropped : (m : MessageValue) (r : IsRead3164 BeforeAnything dating text m) (u : Text)
-      → Front (Row (before_list dating)) (trimmed text) u
-      (firsts (before_list dating) (from_list BeforeAnything) r.values) → BeginsDashChange u
-      → HasDashChange3164 dating text
+  is_dropped : (m : MessageValue) (r : IsRead3164 BeforeAnything dating text m) (u : Text) → Front
+      (Row (before_list dating)) (trimmed text) u (firsts (before_list dating) (from_list BeforeAnything) r.values)
+      → BeginsDashChange u → HasDashChange3164 dating text
   is_dropped m r u a k =
       let (before, p, ps, e, l, f, list, gap) = rows_cut (before_list dating) (optional (rfc3164_list BeforeAnything))
       from_gap r.values r.division.pieces (r.division.whole ∙ sym (append-nil _)) r.division.each in
@@ -164,9 +160,8 @@ module _ (dating : Dating) (text : Text) where
       }
 
   -- where such a dash is dropped, the text from it on
-  dropped_at : (d : HasDashChange3164 dating text)
-      → Front (Row (before_list dating)) (trimmed text) (45 ∷ (d.next ∷ d.more))
-      (firsts (before_list dating) (from_list BeforeAnything) d.read.values)
+  dropped_at : (d : HasDashChange3164 dating text) → Front (Row (before_list dating)) (trimmed text)
+      (45 ∷ (d.next ∷ d.more)) (firsts (before_list dating) (from_list BeforeAnything) d.read.values)
   dropped_at d =
       let r = d.read.division in
       let (before, p, ps, e, l, f, _, _) = rows_cut (before_list dating) (optional (rfc3164_list BeforeAnything))
@@ -209,9 +204,8 @@ module _ (dating : Dating) (text : Text) where
         (rows_join (before_list dating) (from_list rule) f (row_cons (optional (rfc3164_list rule)) from_gap list
         (gap_back msg msg (piece_front (run is_blank) [] msg tt (tt, b)))))
 
-    differ_of_dash_change : (c : ℕ) (q : Text)
-        → Front (Row (before_list dating)) (trimmed text) (45 ∷ (c ∷ q)) vs → is_blank c ≡ false
-        → ReadsApart dating text
+    differ_of_dash_change : (c : ℕ) (q : Text) → Front (Row (before_list dating)) (trimmed text) (45 ∷ (c ∷ q)) vs
+        → is_blank c ≡ false → ReadsApart dating text
     differ_of_dash_change c q f b =
         let t : Text = 45 ∷ (c ∷ q) in
         record {
@@ -264,9 +258,8 @@ module _ (dating : Dating) (text : Text) where
   ]
 
   -- so a text unreadable under one rule is so under the other
-  unread_too : (rule other : DashRule) (variant : Variant)
-      → ((m : MessageValue) → IsReadUnder other variant dating text m → ⊥)
-      → (m : MessageValue) → IsReadUnder rule variant dating text m → ⊥
+  unread_too : (rule other : DashRule) (variant : Variant) → ((m : MessageValue) → IsReadUnder other variant dating text
+      m → ⊥) → (m : MessageValue) → IsReadUnder rule variant dating text m → ⊥
   unread_too rule other RFC5424 h m r = h m r
   unread_too rule other RFC3164 h m r = let (n, s) = other_too rule other m r in h n s
   unread_too rule other Either h m (inl s) = h m (inl s)
@@ -277,9 +270,8 @@ module _ (dating : Dating) (text : Text) where
 
   -- ---- readings that differ are two
 
-  two : (variant : Variant) (before now : Option MessageValue)
-      → IsReadingUnder BeforeAnything variant dating text before → IsReadingUnder BeforeBlank variant dating text now
-      → before ≢ now → HasDashChange variant dating text
+  two : (variant : Variant) (before now : Option MessageValue) → IsReadingUnder BeforeAnything variant dating text
+      before → IsReadingUnder BeforeBlank variant dating text now → before ≢ now → HasDashChange variant dating text
   two variant None None r s d = absurd (d refl)
   two variant None (Some n) r s d = absurd ((unread_alike variant).0 r n s)
   two variant (Some m) None r s d = absurd ((unread_alike variant).1 s m r)

@@ -74,8 +74,7 @@ ends_case : (t n : Bool) (d : ℕ) (ds : Text) → is_whitespace d ≡ t → nat
     → EndsVisibly (cond (t && n) [] (d ∷ ds))
 ends_case true true d ds a b h [] c e = cc
 ends_case true true d ds a b h (x ∷ front) c e = cc
-ends_case true false d ds a b h [] c e =
-    absurd (let z : ds ≡ [] = cc in let u : true ≡ false = rw z at b in cc)
+ends_case true false d ds a b h [] c e = absurd (let z : ds ≡ [] = cc in let u : true ≡ false = rw z at b in cc)
 ends_case true false d ds a b h (x ∷ front) c e = h front c cc
 ends_case false n d ds a b h [] c e = let z : c ≡ d = cc in ap is_not_whitespace z ∙ ap not a
 ends_case false n d ds a b h (x ∷ front) c e = h front c cc
@@ -158,8 +157,7 @@ last_text (C ∷ Cs) vs = last_text Cs vs.1
 
 -- all that is left of a text that ends visibly does too
 pub last_ends : (Cs : List Class) {t : Text} {vs : Values (Cs ++ (rest ∷ []))} → Front (Row (Cs ++ (rest ∷ []))) t [] vs
-    → EndsVisibly t
-    → EndsVisibly (last_text Cs vs)
+    → EndsVisibly t → EndsVisibly (last_text Cs vs)
 last_ends [] f h = let (u, g, e) = row_pieces (rest ∷ []) f in subst EndsVisibly (rest_whole g) h
 last_ends (C ∷ Cs) f h = let g = row_head C (Cs ++ (rest ∷ [])) f in last_ends Cs g.2 (ends_behind C g.1 h)
 
@@ -182,18 +180,15 @@ priority_low m = let h = priority_small m in omega arith
 -- a printed priority, before any text
 pub priority_front : (n : ℕ) (q : Text) → n ≤ 255 → Front priority (60 ∷ (decimal n ++ (62 ∷ q))) q n
 priority_front n q l =
-    as_priority
-    (row_of priority_row
-    (piece_front (exactly (60 ∷ [])) (60 ∷ []) _ tt refl
-    then piece_front (number 255) (decimal n) (62 ∷ q) n (number_back n 255 (62 ∷ q) l (omega arith) refl)
-    then piece_front (exactly (62 ∷ [])) (62 ∷ []) q tt refl then refl))
+    as_priority (row_of priority_row (piece_front (exactly (60 ∷ [])) (60 ∷ []) _ tt refl then piece_front (number 255)
+    (decimal n) (62 ∷ q) n (number_back n 255 (62 ∷ q) l (omega arith) refl) then piece_front (exactly (62 ∷ []))
+    (62 ∷ []) q tt refl then refl))
 
 -- trimming leaves it
 pub priority_trimmed : (n : ℕ) (q : Text)
     → drop_trailing_whitespace (60 ∷ (decimal n ++ (62 ∷ q))) ≡ 60 ∷ (decimal n ++ (62 ∷ drop_trailing_whitespace q))
 priority_trimmed n q =
-    simp append_assoc at
-    (drop_after (60 ∷ (decimal n ++ (62 ∷ []))) q (last_append (60 ∷ decimal n) (62 ∷ []) refl))
+    simp append_assoc at (drop_after (60 ∷ (decimal n ++ (62 ∷ []))) q (last_append (60 ∷ decimal n) (62 ∷ []) refl))
 
 -- ---- the bytes of printed messages
 
@@ -203,14 +198,12 @@ joined : (a b c d e f g : List ℕ)
 joined a b c d e f g = simp append_assoc
 
 -- what is written, field by field, is the encoded text
-pub written_5424 : (pri priority version : ℕ) (stamp host app process id shown elements msg : Text) (m : List ℕ)
-    → pri ≡ priority → shown ≡ elements → encode_utf8_all msg ≡ m
-    → (60 ∷ (decimal pri ++ (62 ∷ decimal version))) ++ (((32 ∷ encode_utf8_all stamp) ++ (32 ∷ encode_utf8_all host))
-    ++ (((32 ∷ encode_utf8_all app) ++ ((32 ∷ encode_utf8_all process) ++ (32 ∷ encode_utf8_all id)))
-    ++ ((32 ∷ encode_utf8_all shown) ++ (32 ∷ m))))
-    ≡ encode_utf8_all
-    (60 ∷ (decimal priority ++ (62 ∷ (decimal version ++ (32 ∷ (stamp ++ (32 ∷ (host ++ (32 ∷ (app ++ (32 ∷ (process
-    ++ (32 ∷ (id ++ (32 ∷ (elements ++ (32 ∷ msg)))))))))))))))))
+pub written_5424 : (pri priority version : ℕ) (stamp host app process id shown elements msg : Text) (m : List ℕ) → pri
+    ≡ priority → shown ≡ elements → encode_utf8_all msg ≡ m → (60 ∷ (decimal pri ++ (62 ∷ decimal version)))
+    ++ (((32 ∷ encode_utf8_all stamp) ++ (32 ∷ encode_utf8_all host)) ++ (((32 ∷ encode_utf8_all app)
+    ++ ((32 ∷ encode_utf8_all process) ++ (32 ∷ encode_utf8_all id))) ++ ((32 ∷ encode_utf8_all shown) ++ (32 ∷ m))))
+    ≡ encode_utf8_all (60 ∷ (decimal priority ++ (62 ∷ (decimal version ++ (32 ∷ (stamp ++ (32 ∷ (host ++ (32 ∷ (app
+    ++ (32 ∷ (process ++ (32 ∷ (id ++ (32 ∷ (elements ++ (32 ∷ msg)))))))))))))))))
 unfolding encode_utf8
 written_5424 pri priority version stamp host app process id shown elements msg m e f h =
     rw (e, f) (joined (60 ∷ (decimal priority ++ (62 ∷ decimal version))) (32 ∷ encode_utf8_all stamp)
@@ -225,9 +218,8 @@ unfolding encode_utf8
 encodes_tag app a e = encodes-append app (58 ∷ 32 ∷ []) ∙ ap (λ (x : List ℕ). x ++ (58 ∷ 32 ∷ [])) e
 
 -- `app[process]: `
-pub encodes_process_tag : (app process : Text) (a : List ℕ) → encode_utf8_all app ≡ a
-    → encode_utf8_all (app ++ (91 ∷ (process ++ (93 ∷ 58 ∷ 32 ∷ [])))) ≡ a
-    ++ (91 ∷ (encode_utf8_all process ++ (93 ∷ 58 ∷ 32 ∷ [])))
+pub encodes_process_tag : (app process : Text) (a : List ℕ) → encode_utf8_all app ≡ a → encode_utf8_all
+    (app ++ (91 ∷ (process ++ (93 ∷ 58 ∷ 32 ∷ [])))) ≡ a ++ (91 ∷ (encode_utf8_all process ++ (93 ∷ 58 ∷ 32 ∷ [])))
 unfolding encode_utf8
 encodes_process_tag app process a e = simp (encodes-append, e)
 
@@ -238,11 +230,9 @@ joined_3164 : (pri stamp host tag elements msg : List ℕ)
 joined_3164 pri stamp host tag elements msg = simp append_assoc refl
 
 -- `<priority>` and the fields of RFC 3164
-pub written_3164 : (pri priority : ℕ) (stamp host tag shown elements msg : Text) (m : List ℕ) → pri ≡ priority
-    → shown ≡ elements → encode_utf8_all msg ≡ m
-    → (60 ∷ (decimal pri ++ (62 ∷ []))) ++ (((32 ∷ encode_utf8_all stamp) ++ (32 ∷ encode_utf8_all host))
-    ++ ((32 ∷ encode_utf8_all tag) ++ (encode_utf8_all shown ++ m)))
-    ≡ encode_utf8_all
+pub written_3164 : (pri priority : ℕ) (stamp host tag shown elements msg : Text) (m : List ℕ) → pri ≡ priority → shown
+    ≡ elements → encode_utf8_all msg ≡ m → (60 ∷ (decimal pri ++ (62 ∷ []))) ++ (((32 ∷ encode_utf8_all stamp)
+    ++ (32 ∷ encode_utf8_all host)) ++ ((32 ∷ encode_utf8_all tag) ++ (encode_utf8_all shown ++ m))) ≡ encode_utf8_all
     (60 ∷ (decimal priority ++ (62 ∷ 32 ∷ (stamp ++ (32 ∷ (host ++ (32 ∷ (tag ++ (elements ++ msg)))))))))
 unfolding encode_utf8
 written_3164 pri priority stamp host tag shown elements msg m e f h =
@@ -263,9 +253,8 @@ encodes_spaced (e ∷ es) h = encodes-append (joined_elements (e ∷ es)) (32 �
 -- the four names, the elements and the text of a line of RFC 5424
 pub written_rest_5424 : (host app process id elements msg : Text) (m : List ℕ) → encode_utf8_all msg ≡ m
     → (32 ∷ encode_utf8_all host) ++ ((32 ∷ encode_utf8_all app) ++ ((32 ∷ encode_utf8_all process)
-    ++ ((32 ∷ encode_utf8_all id) ++ ((32 ∷ []) ++ (encode_utf8_all elements ++ (32 ∷ m))))))
-    ≡ encode_utf8_all
-    (32 ∷ (host ++ (32 ∷ (app ++ (32 ∷ (process ++ (32 ∷ (id ++ (32 ∷ (elements ++ (32 ∷ msg)))))))))))
+    ++ ((32 ∷ encode_utf8_all id) ++ ((32 ∷ []) ++ (encode_utf8_all elements ++ (32 ∷ m)))))) ≡ encode_utf8_all (32
+    ∷ (host ++ (32 ∷ (app ++ (32 ∷ (process ++ (32 ∷ (id ++ (32 ∷ (elements ++ (32 ∷ msg)))))))))))
 unfolding encode_utf8
 written_rest_5424 host app process id elements msg m e = sym (simp (encodes-append, e))
 
@@ -301,8 +290,7 @@ unfolding encode_utf8
 bytes_5424 p v stamp rest t e =
     joined_front_5424 (decimal p) (decimal v) t (encode_utf8_all rest) ∙ sym (simp (encodes-append, encodes-decimal, e))
 
-joined_front_3164 : (p t r : List ℕ) → ((60 ∷ (p ++ (62 ∷ []))) ++ (32 ∷ t)) ++ r
-    ≡ 60 ∷ (p ++ (62 ∷ 32 ∷ (t ++ r)))
+joined_front_3164 : (p t r : List ℕ) → ((60 ∷ (p ++ (62 ∷ []))) ++ (32 ∷ t)) ++ r ≡ 60 ∷ (p ++ (62 ∷ 32 ∷ (t ++ r)))
 joined_front_3164 p t r = simp append_assoc refl
 
 bytes_3164 : (p : ℕ) (stamp rest : Text) (t : List ℕ) → encode_utf8_all stamp ≡ t
@@ -325,8 +313,6 @@ front_bytes None m c e =
     (ap (λ t. encode_utf8_all (timestamp_text t)) e ∙ clock_bytes c)
 
 -- a printed line is its front and the rest
-pub printed_line : (line : Line)
-    → front_text (printed_number line.priority) line.version line.timestamp
-    ++ encode_utf8_all (rest_text (line_value line))
-    ≡ encode_utf8_all (printed (line_value line))
+pub printed_line : (line : Line) → front_text (printed_number line.priority) line.version line.timestamp
+    ++ encode_utf8_all (rest_text (line_value line)) ≡ encode_utf8_all (printed (line_value line))
 printed_line line = front_bytes line.version (line_value line) line.timestamp refl

@@ -120,16 +120,13 @@ fields variant dating text m r =
           ((λ f. read_nearly dash_rule dating text m s f), stamp_read dash_rule dating text m s)
     ]
 
-fields_answered : (variant : Variant) (dating : Dating) (text : Text)
-    (r : Result Found ParseFault) → Answers variant dating text r
-    → IfOk r (λ found. FieldsAsRead found.protocol dating text (value found))
-fields_answered variant dating text (Ok found) a =
-    fields variant dating text (value found) a.read
+fields_answered : (variant : Variant) (dating : Dating) (text : Text) (r : Result Found ParseFault) → Answers variant
+    dating text r → IfOk r (λ found. FieldsAsRead found.protocol dating text (value found))
+fields_answered variant dating text (Ok found) a = fields variant dating text (value found) a.read
 fields_answered variant dating text (Err fault) a = tt
 
-quotes_answered : (variant : Variant) (dating : Dating) (text : Text)
-    (r : Result Found ParseFault) → Answers variant dating text r
-    → IfOk r (λ found. IsQuoted variant dating text (value found))
+quotes_answered : (variant : Variant) (dating : Dating) (text : Text) (r : Result Found ParseFault) → Answers variant
+    dating text r → IfOk r (λ found. IsQuoted variant dating text (value found))
 quotes_answered variant dating text (Ok found) a = quoted variant dating text (value found) a.read
 quotes_answered variant dating text (Err fault) a = tt
 
@@ -157,9 +154,8 @@ read_like : (variant : Variant) (dating : Dating) (m n : MessageValue) → IsBou
 read_like variant dating m n b c h same = rw same at ((printed_exact dating n b variant h).1 c)
 
 -- a fixed message's printed text is read as one that prints the same
-pub fixed_again : (variant : Variant) (dating : Dating) (m : MessageValue) → IsFixed m
-    → ReadsProtocol variant m.protocol → (n : MessageValue) × IsRead variant dating (printed m) n
-    × (printed n ≡ printed m)
+pub fixed_again : (variant : Variant) (dating : Dating) (m : MessageValue) → IsFixed m → ReadsProtocol variant
+    m.protocol → (n : MessageValue) × IsRead variant dating (printed m) n × (printed n ≡ printed m)
 fixed_again variant dating m (inl (b, c)) h = (m, read_like variant dating m m b c h refl, refl)
 fixed_again variant dating m (inr (inl (text, r))) h =
     let (c, b) = rfc5424.read_completed dash_rule text m r in
@@ -170,11 +166,9 @@ fixed_again variant dating m (inr (inr (text, own, r, none))) h =
     (rfc5424.completed m, read_like variant dating m (rfc5424.completed m) b c h same, same)
 
 pub again : (variant : Variant) (dating : Dating) (bytes : List ℕ) → IsUtf8 bytes
-    → (r : Result (String Global) ParseFault)
-    → MatchResult r (λ text. (m : MessageValue) × IsOnlyRead variant dating (chars bytes) m
-    × (string_bytes text ≡ encode_utf8_all (printed m)))
-    (λ fault. (fault ≡ Invalid) ↔ IsUnreadable variant dating (chars bytes))
-    → AnswersAgain variant (chars bytes) bytes r
+    → (r : Result (String Global) ParseFault) → MatchResult r (λ text. (m : MessageValue) × IsOnlyRead variant dating
+    (chars bytes) m × (string_bytes text ≡ encode_utf8_all (printed m))) (λ fault. (fault ≡ Invalid) ↔ IsUnreadable
+    variant dating (chars bytes)) → AnswersAgain variant (chars bytes) bytes r
 again variant dating bytes u (Ok text) (found, only, written) m k h e n =
     let (other, r, same) = fixed_again variant dating m k h in
     let is : other ≡ found = only.only other (rw e r) in
@@ -231,8 +225,7 @@ module _ (test : ℕ → Bool) (ascii : (c : ℕ) → is_ascii_print c ≡ true 
       (c ∷ drop_trailing_whitespace t) Passes (λ _. tt) (λ _. (h.0, drop_line t h.1))
 
   part_line : (p t : Text) → Passes p → IsPart p t → Passes t
-  part_line p t h (before, after, e) =
-      each_front test t after (each_behind test before (t ++ after) (subst Passes e h))
+  part_line p t h (before, after, e) = each_front test t after (each_behind test before (t ++ after) (subst Passes e h))
 
   -- what is in the pieces of a trimmed line is one line
   pieces_line : (text : Text) (ps ts : List Text) → Passes text → trimmed text ≡ join ps → AreInPieces ps ts
@@ -254,9 +247,8 @@ module _ (test : ℕ → Bool) (ascii : (c : ℕ) → is_ascii_print c ≡ true 
   process_line (Some (PID (negsuc n))) b h = (ascii 45 refl, number_line (suc n) (omega (arith, b)))
   process_line (Some (Name t)) b h = h.0
 
-  tag_line : (app : Option Text) (process : Option (ProcId Text)) → IfSome process IsBoundedProcess
-      → AllByRecursion Passes (text_list app) → AllByRecursion Passes (process_texts process)
-      → Passes (tag_text app process)
+  tag_line : (app : Option Text) (process : Option (ProcId Text)) → IfSome process IsBoundedProcess → AllByRecursion
+      Passes (text_list app) → AllByRecursion Passes (process_texts process) → Passes (tag_text app process)
   tag_line None process b h k = search ascii
   tag_line (Some a) None b h k = search (each_append test, ascii)
   tag_line (Some a) (Some p) b h k = search (each_append test, ascii, process_line (Some p) b k) depth 12

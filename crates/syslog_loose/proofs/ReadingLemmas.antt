@@ -48,8 +48,7 @@ read_once RFC3164 dating text m n r s = rfc3164.one_message dash_rule dating tex
 read_once Either dating text m n (inl r) (inl s) = strict.one_message text m n r s
 read_once Either dating text m n (inl r) (inr (none, s)) = absurd (none r.values r.division)
 read_once Either dating text m n (inr (none, r)) (inl s) = absurd (none s.values s.division)
-read_once Either dating text m n (inr (none, r)) (inr (also, s)) =
-    rfc3164.one_message dash_rule dating text m n r s
+read_once Either dating text m n (inr (none, r)) (inr (also, s)) = rfc3164.one_message dash_rule dating text m n r s
 
 pub quoted : (variant : Variant) (dating : Dating) (text : Text) (m : MessageValue) → IsRead variant dating text m
     → IsQuoted variant dating text m
@@ -60,8 +59,7 @@ quoted Either dating text m (inr (none, r)) = inr (none, rfc3164.quotes dash_rul
 
 pub only_read : (variant : Variant) (dating : Dating) (text : Text) (m : MessageValue) → IsRead variant dating text m
     → IsOnlyRead variant dating text m
-only_read variant dating text m r =
-    record { read = r; only = λ n s. read_once variant dating text n m s r }
+only_read variant dating text m r = record { read = r; only = λ n s. read_once variant dating text n m s r }
 
 -- ---- from the headers
 
@@ -97,19 +95,17 @@ in_answered_year post variant text Holds (Some year) is any h =
 
 -- the year for the date that the text asks a year of
 pub answered_to : (post : IncompleteDate → ℤ → Type 0) (variant : Variant) (text : Text) (asked : Option IncompleteDate)
-    (year : Option ℤ)
-    → MatchOption asked ((date : MonthDate) → AsksYear variant text date → ⊥)
-    (λ d. (date : MonthDate) × AsksYear variant text date × (d ≡ incomplete date))
-    → MatchOption asked (year ≡ None) (λ d. IsSomeAnd year (λ y. post d y)) → IsYearAnswered post variant text year
+    (year : Option ℤ) → MatchOption asked ((date : MonthDate) → AsksYear variant text date → ⊥) (λ d. (date : MonthDate)
+    × AsksYear variant text date × (d ≡ incomplete date)) → MatchOption asked (year ≡ None)
+    (λ d. IsSomeAnd year (λ y. post d y)) → IsYearAnswered post variant text year
 answered_to post variant text None None h k = h
 answered_to post variant text None (Some y) h k = cc
 answered_to post variant text (Some d) None h k = absurd k
 answered_to post variant text (Some d) (Some y) (date, asks, e) k = (date, asks, rw e at k)
 
 -- what holds in each year that agrees holds in that year
-pub in_year_map : {post : IncompleteDate → ℤ → Type 0} {variant : Variant} {text : Text} {Holds More : Option ℤ
-    → Type 0} → ((year : Option ℤ) → Holds year → More year)
-    → InYear post variant text Holds → InYear post variant text More
+pub in_year_map : {post : IncompleteDate → ℤ → Type 0} {variant : Variant} {text : Text} {Holds More : Option ℤ → Type
+    0} → ((year : Option ℤ) → Holds year → More year) → InYear post variant text Holds → InYear post variant text More
 in_year_map f h =
     record { answered = h.answered; is_answered = h.is_answered; holds = λ year agrees. f year (h.holds year agrees) }
 
@@ -121,9 +117,8 @@ year_same post variant text year same (Some y) (d, a, p) date asks = ap Some (sy
 
 -- For callers: what holds in the year of a closure that always returns this one, an `i32`.
 pub in_this_year : {post : IncompleteDate → ℤ → Type 0} {variant : Variant} {text : Text} {Holds : Option ℤ → Type 0}
-    → InYear post variant text Holds
-    → (year : ℤ) → SFits w32 year → ((date : IncompleteDate) (y : ℤ) → post date y → y ≡ to_z w32 (of_z w32 year))
-    → Holds (Some year)
+    → InYear post variant text Holds → (year : ℤ) → SFits w32 year → ((date : IncompleteDate) (y : ℤ) → post date y → y
+    ≡ to_z w32 (of_z w32 year)) → Holds (Some year)
 in_this_year {post = post} {variant = variant} {text = text} h year fits same = h.holds (Some year)
     (year_same post variant text year (λ date y is. same date y is ∙ to_z-of_z w32 year fits) h.answered h.is_answered)
 
@@ -152,9 +147,8 @@ invalid_or_memory e = cc
 
 -- what a reader of pieces after blanks returns
 pub front_read : {X : Type 0} (C : Class) (view : X → C.Value) (variant : Variant) (t start : Text)
-    (r : Option (X × Bor (List ℕ)))
-    → ReadsProtocol variant protocol.RFC3164 → Front (run is_blank) t start tt → Reads C view start r
-    → MatchOption r (BeginsWithout C variant t) (λ x. BeginsWith C variant t (view x.0) (shown x.1))
+    (r : Option (X × Bor (List ℕ))) → ReadsProtocol variant protocol.RFC3164 → Front (run is_blank) t start tt → Reads C
+    view start r → MatchOption r (BeginsWithout C variant t) (λ x. BeginsWith C variant t (view x.0) (shown x.1))
 front_read C view variant t start None reads gap none = λ r other same.
     subst (λ (x : Text). NoFront C x) (front_same (run is_blank) (run_det is_blank) gap same).0 none
 front_read C view variant t start (Some x) reads gap f = record { reads = reads; start = start; gap = gap; front = f }
@@ -167,9 +161,8 @@ left_to_try RFC3164 text reads strict = tt
 left_to_try Either text reads strict = strict (λ e. cc)
 
 -- where neither protocol has a division that the variant reads, the text is invalid
-neither : (variant : Variant) (dating : Dating) (text : Text) → (variant ≢ RFC3164 → IsNot5424 text)
-    → (ReadsProtocol variant protocol.RFC3164 → IsNot3164 dash_rule dating text)
-    → Answers variant dating text (Err Invalid)
+neither : (variant : Variant) (dating : Dating) (text : Text) → (variant ≢ RFC3164 → IsNot5424 text) → (ReadsProtocol
+    variant protocol.RFC3164 → IsNot3164 dash_rule dating text) → Answers variant dating text (Err Invalid)
 neither RFC5424 dating text strict loose = λ m r. strict (λ e. cc) r.values r.division
 neither RFC3164 dating text strict loose = λ m r. loose tt r.values r.division
 neither Either dating text strict loose = λ m r. elim r [
@@ -199,9 +192,8 @@ yearless d f none = elim f.is [
 ]
 
 -- and the numbers that a closure is asked with are those of one of twelve months
-pub asked_month : {t q : Text} (d : MonthDate) (asked : Option IncompleteDate) (x : IncompleteDate)
-    → Front month_date t q d → MatchOption asked (IsSome d.year) (λ y. (d.year ≡ None) × (y ≡ incomplete d))
-    → asked ≡ Some x → HasMonth x
+pub asked_month : {t q : Text} (d : MonthDate) (asked : Option IncompleteDate) (x : IncompleteDate) → Front month_date t
+    q d → MatchOption asked (IsSome d.year) (λ y. (d.year ≡ None) × (y ≡ incomplete d)) → asked ≡ Some x → HasMonth x
 asked_month d None x f h is = cc
 asked_month d (Some y) x f (none, e) is =
     let same : y ≡ x = cc in subst HasMonth (sym e ∙ same) (date_has_month d (yearless d f none))
@@ -275,9 +267,8 @@ module _ (variant : Variant) (text : Text) {follows : Text} {p : Option ℕ}
         unstamped text f gap dating (no_date dating (header reads start gap) (without reads start gap)))
 
     -- or another one
-    pub other_front : (dating : Dating) {q : Text} (v : Option ClockStamp)
-        → BeginsWith header_stamp variant follows (stamp_seen v) q
-        → IsBehindStamp dating (trimmed text) p v q
+    pub other_front : (dating : Dating) {q : Text} (v : Option ClockStamp) → BeginsWith header_stamp variant follows
+        (stamp_seen v) q → IsBehindStamp dating (trimmed text) p v q
     other_front dating v b = row_of (stamped_row dating) (f then b.gap then header_front dating b.front then refl)
 
 -- ---- what is made of a text by way of its line
@@ -315,10 +306,9 @@ line_in_any variant text tz local line year other never of = record {
   rest = rest_in_any variant never of.only.read of.rest;
 }
   where
-    rest_in_any : (variant : Variant) → ((date : MonthDate) → AsksYear variant text date → ⊥)
-        → IsRead variant (dating_of year tz local) text (line_value line)
-        → (line.version ≡ None → HasRest (dating_of year tz local) text line)
-        → line.version ≡ None → HasRest (dating_of other tz local) text line
+    rest_in_any : (variant : Variant) → ((date : MonthDate) → AsksYear variant text date → ⊥) → IsRead variant
+        (dating_of year tz local) text (line_value line) → (line.version ≡ None → HasRest (dating_of year tz local) text
+        line) → line.version ≡ None → HasRest (dating_of other tz local) text line
     rest_in_any RFC5424 never r rest none = absurd (versioned line r none)
     rest_in_any variant never r rest none =
         other_stamped (dating_of year tz local) (dating_of other tz local) refl refl text never (rest none)
@@ -332,10 +322,9 @@ module _ {V A E : Type 0} (makes : V → Line → A → V → Type 0) (given : E
       let only = only_read variant dating text (line_value line) (strictly variant dating reads r) in
       (line, record { only = only; rest = λ none. absurd (versioned line r none) }, m, v)
 
-  pub made_3164 : (dating : Dating) → IsLeftTo3164 variant text → (line : Line) (made : A)
-      → IsRead3164 dash_rule dating text (line_value line) × HasRest dating text line → makes old line made new
-      → Visits given before (list_elements line.list) after
-      → Made makes given variant dating text old before (Some made) new after
+  pub made_3164 : (dating : Dating) → IsLeftTo3164 variant text → (line : Line) (made : A) → IsRead3164 dash_rule dating
+      text (line_value line) × HasRest dating text line → makes old line made new → Visits given before
+      (list_elements line.list) after → Made makes given variant dating text old before (Some made) new after
   made_3164 dating left line made (r, rest) m v =
       let only = only_read variant dating text (line_value line) (reads_so variant dating text (line_value line) left r) in
       (line, record { only = only; rest = λ none. rest }, m, v)
@@ -350,10 +339,9 @@ module _ {V A E : Type 0} (makes : V → Line → A → V → Type 0) (given : E
         (line, line_in_any variant text tz local line year other never of, m, v)
 
     -- what is made in the year that the closure answered
-    pub made_in : (post : IncompleteDate → ℤ → Type 0) (result : Option A) (year : Option ℤ)
-        → IsYearAnswered post variant text year
-        → Made makes given variant (dating_of year tz local) text old before result new after
-        → InYear post variant text (λ y. Made makes given variant (dating_of y tz local) text old before result new after)
+    pub made_in : (post : IncompleteDate → ℤ → Type 0) (result : Option A) (year : Option ℤ) → IsYearAnswered post
+        variant text year → Made makes given variant (dating_of year tz local) text old before result new after → InYear
+        post variant text (λ y. Made makes given variant (dating_of y tz local) text old before result new after)
     made_in post result year is h = in_answered_year post variant text
         (λ y. Made makes given variant (dating_of y tz local) text old before result new after) year is
         (λ never other made. any_made result None other never made) h
@@ -367,9 +355,8 @@ visits_after given old mid new es none v first ds h =
 -- ---- what the reading calls make
 
 -- the message that was made with the elements that were collected
-completed : (variant : Variant) (dating : Dating) (text : Text) (line : Line) (m : Found)
-    → IsOnlyRead variant dating text (line_value line)
-    → message_value (λ s. shown s) m ≡ with_elements (line_value line) []
+completed : (variant : Variant) (dating : Dating) (text : Text) (line : Line) (m : Found) → IsOnlyRead variant dating
+    text (line_value line) → message_value (λ s. shown s) m ≡ with_elements (line_value line) []
     → (r : Result Found ParseFault) → IsCompleted (Some m) (list_elements line.list) r → Answers variant dating text r
 completed variant dating text line m only e (Ok n) same =
     subst (λ (x : MessageValue). IsOnlyRead variant dating text x)
@@ -381,15 +368,13 @@ completed variant dating text line m only e (Err fault) (is, some) =
 not_made : (variant : Variant) (dating : Dating) (text : Text) → IsUnreadable variant dating text
     → (r : Result Found ParseFault) → IsCompleted None [] r → Answers variant dating text r
 not_made variant dating text none (Ok m) h = absurd h
-not_made variant dating text none (Err fault) h =
-    subst (λ (y : ParseFault). IsFault variant dating text y) (sym h) none
+not_made variant dating text none (Err fault) h = subst (λ (y : ParseFault). IsFault variant dating text y) (sym h) none
 
 module _ {V : Type 0} (variant : Variant) (dating : Dating) (text : Text) (old new : V) (before after : Collect) where
-  pub message_answers : (made : Option Found) (r : Result Found ParseFault)
-      → Made (λ (_ : V) line m _. message_value (λ s. shown s) m ≡ with_elements (line_value line) [])
-      (λ _ c es. HasCollected c es) variant dating text old before made new after
-      → HasCollected before [] → ((es : List ElementValue) → HasCollected after es → IsCompleted made es r)
-      → Answers variant dating text r
+  pub message_answers : (made : Option Found) (r : Result Found ParseFault) → Made (λ (_ : V) line m _. message_value
+      (λ s. shown s) m ≡ with_elements (line_value line) []) (λ _ c es. HasCollected c es) variant dating text old
+      before made new after → HasCollected before [] → ((es : List ElementValue) → HasCollected after es → IsCompleted
+      made es r) → Answers variant dating text r
   message_answers None r (none, same, v) empty h = not_made variant dating text none r (h [] (v before [] empty))
   message_answers (Some m) r (line, of, e, v) empty h =
       completed variant dating text line m of.only e r (h (list_elements line.list) (v before [] empty))

@@ -12,9 +12,8 @@ asked_once RFC5424 text d e asks also = absurd asks
 asked_once RFC3164 text d e asks also = shown_once text d e asks also
 asked_once Either text d e asks also = shown_once text d e asks also
 
-answered_once : (answer : IncompleteDate → ℤ) (variant : Variant) (text : Text) (year other : Option ℤ)
-    → IsYearAnswered (λ date y. y ≡ answer date) variant text year
-    → IsYearAnswered (λ date y. y ≡ answer date) variant text other
+answered_once : (answer : IncompleteDate → ℤ) (variant : Variant) (text : Text) (year other : Option ℤ) → IsYearAnswered
+    (λ date y. y ≡ answer date) variant text year → IsYearAnswered (λ date y. y ≡ answer date) variant text other
     → (date : MonthDate) → AsksYear variant text date → year ≡ other
 answered_once answer variant text None other never is date asks = absurd (never date asks)
 answered_once answer variant text (Some y) None is never date asks = absurd (never date asks)

@@ -72,8 +72,7 @@ one_form text tag id tag' id' f g =
 pub closing_ascii : IsAscii (93 ∷ [])
 closing_ascii = one_ascii 93 (omega arith)
 
-pub label_front : {bs xs ys : List ℕ} → SplitsRun is_label_char bs xs ys
-    → Front label (chars bs) (chars ys) (chars xs)
+pub label_front : {bs xs ys : List ℕ} → SplitsRun is_label_char bs xs ys → Front label (chars bs) (chars ys) (chars xs)
 label_front s = record { piece = _; whole = s.characters; is = (tt, (s.each, s.ends), refl) }
 
 pub id_front : {bs xs ys : List ℕ} → SplitsRun is_open_char bs xs ys → 0 < length xs
@@ -85,8 +84,7 @@ id_front {xs = xs} s l = record {
 }
 
 pub no_id : {bs xs ys : List ℕ} → SplitsRun is_open_char bs xs ys → length xs ≡ 0 → NoFront id_text (chars bs)
-no_id {bs = bs} {xs = xs} {ys = ys} s z =
-    no_texted (some_run is_open_char) (no_some_run is_open_char bs xs ys s z)
+no_id {bs = bs} {xs = xs} {ys = ys} s z = no_texted (some_run is_open_char) (no_some_run is_open_char bs xs ys s z)
 
 pub closing_front : {t : Text} → t ≡ 93 ∷ [] → Front closing t [] tt
 closing_front e = record { piece = 93 ∷ []; whole = e; is = refl }
@@ -108,8 +106,7 @@ no_closing f n vs d =
 abbrev Names : Option Text → Names3164 → Text → Names3164 → Type 0
 Names host other text n =
     ((tag : Text) × (id : Text) × (process : ProcId Text) × IsForm text tag id × NamesProcess id process
-    × (n ≡ names host (Some tag) (Some process)))
-    ⊎ (IsNoForm text × (n ≡ other))
+    × (n ≡ names host (Some tag) (Some process))) ⊎ (IsNoForm text × (n ≡ other))
 
 names_once : (host : Option Text) (other : Names3164) (text : Text) (r s : Names3164) → Names host other text r
     → Names host other text s → r ≡ s
@@ -227,8 +224,7 @@ pub fields_det : AllDeterministic fields_row
 fields_det = all_joined to_colon (run is_blank ∷ []) to_colon_det (run_det is_blank also tt)
 
 pub stamped_det : (dating : Dating) → AllDeterministic (stamped_row dating)
-stamped_det dating =
-    all_joined to_stamp (rfc3164_stamp dating ∷ []) to_stamp_det (rfc3164_stamp_det dating also tt)
+stamped_det dating = all_joined to_stamp (rfc3164_stamp dating ∷ []) to_stamp_det (rfc3164_stamp_det dating also tt)
 
 pub body_det : (rule : DashRule) → AllDeterministic (body_row rule)
 body_det rule =
@@ -296,9 +292,8 @@ body_stands rule =
 pub division_is_stamped : (rule : DashRule) (dating : Dating) (text : Text) → NoDivision (rfc3164_row rule dating) text
     ↔ NoFront (Row (stamped_row dating)) text
 division_is_stamped rule dating text = (
-  (λ n p q vs e h. body_stands rule q (λ ws g.
-      n _ (front_division (rfc3164_row rule dating)
-      (rows_join (stamped_row dating) (body_row rule) (record { piece = p; whole = e; is = h }) g)))),
+  (λ n p q vs e h. body_stands rule q (λ ws g. n _ (front_division (rfc3164_row rule dating) (rows_join
+      (stamped_row dating) (body_row rule) (record { piece = p; whole = e; is = h }) g)))),
   (λ n. no_row_division (rfc3164_row rule dating) (rows_none_here (stamped_row dating) (body_row rule) n)),
 )
 
@@ -376,8 +371,7 @@ no_blanks [] q a b = refl
 no_blanks (c ∷ p) q a b = absurd (let t = blank_low c a.0 in let u = digit_range c b in omega arith)
 
 stays : {t q : Text} → Begins IsDigit t → Front (run is_blank) t q tt → t ≡ q
-stays {t = t} {q = q} b f =
-    f.whole ∙ ap (λ (x : Text). x ++ q) (no_blanks f.piece q f.is.0 (rw f.whole at b))
+stays {t = t} {q = q} b f = f.whole ∙ ap (λ (x : Text). x ++ q) (no_blanks f.piece q f.is.0 (rw f.whole at b))
 
 -- ---- a version, which no timestamp begins with
 
@@ -467,8 +461,7 @@ printed_apart m vs d =
 
 -- ---- parts of texts in pieces
 part_on : (p t u : Text) → IsPart p t → IsPart t u → IsPart p u
-part_on p t u (before, after, e) h =
-    rw e (part_right before (t ++ after) u (part_left t after u h))
+part_on p t u (before, after, e) h = rw e (part_right before (t ++ after) u (part_left t after u h))
 
 part_in : (ps : List Text) (t u : Text) → IsInPieces ps t → IsPart t u → IsInPieces ps u
 part_in [] t u h k = absurd h

@@ -62,8 +62,7 @@ not_read text t e n = no_row_division rfc5424_row (rw e at n)
 
 pub is_read : (text t : Text) (vs : Values rfc5424_row) (m : MessageValue) → t ≡ trimmed text → m ≡ message_of vs
     → Front (Row rfc5424_row) t [] vs → IsRead5424 text m
-is_read text t vs m e f g =
-    record { values = vs; division = rw e at (front_division rfc5424_row g); means = f }
+is_read text t vs m e f g = record { values = vs; division = rw e at (front_division rfc5424_row g); means = f }
 
 -- ---- the texts of a message are in the pieces
 quoted_row : Quoted rfc5424_row
@@ -121,8 +120,7 @@ abbrev pub word_field : Format
 word_field = name_field word name_text (λ v. IfSome v IsCanonicalWord)
 
 abbrev pub process_field : Format
-process_field =
-    name_field process_word process_text (λ v. IfSome v IsCanonicalProcess × IfSome v IsBoundedProcess)
+process_field = name_field process_word process_text (λ v. IfSome v IsCanonicalProcess × IfSome v IsBoundedProcess)
 
 -- from the version up to the space before the elements
 abbrev pub fields : List Format
@@ -185,10 +183,9 @@ line_values version m = (
 )
 
 -- what trimming leaves of it
-trimmed_5424 : (version : ℕ) (m : MessageValue) → EndsVisibly m.msg
-    → trimmed (printed_5424 version m)
-    ≡ 60 ∷ (decimal (priority_of m) ++
-    (62 ∷ printed_row fields (values_of version m) (32 ∷ (elements_text m.structured_data ++ message_end m.msg))))
+trimmed_5424 : (version : ℕ) (m : MessageValue) → EndsVisibly m.msg → trimmed (printed_5424 version m) ≡ 60 ∷ (decimal
+    (priority_of m) ++ (62 ∷ printed_row fields (values_of version m) (32
+    ∷ (elements_text m.structured_data ++ message_end m.msg))))
 unfolding printed_5424
 trimmed_5424 version m h =
     let last = last_append (32 ∷ []) (elements_text m.structured_data) (elements_last m.structured_data) in
@@ -200,12 +197,23 @@ module _ (version : ℕ) (m : MessageValue) (bounded : version ≤ 4294967295) (
     (q : IsCanonical5424 m) where
   fields_back : (t : Text) → RowReadsBack fields (values_of version m) (32 ∷ t)
   fields_back t =
-      (bounded, refl) also (tt, stamp_unblank m.timestamp _) also (p.timestamp, (_, refl))
-      also (tt, name_unblank m.hostname _ IsCanonicalHost (λ t k. k.0) p.hostname) also (p.hostname, refl)
-      also (tt, name_unblank m.appname _ IsCanonicalWord (λ t k. k.0) q.appname) also (q.appname, refl)
-      also (tt, process_unblank m.procid _ [] (process_back m.procid [] q.procid b.procid tt))
-      also ((q.procid, b.procid), refl)
-      also (tt, name_unblank m.msgid _ IsCanonicalWord (λ t k. k.0) q.msgid) also (q.msgid, refl) also tt
+      (bounded, refl) also (tt, stamp_unblank m.timestamp _) also (p.timestamp, (_, refl)) also (
+        tt,
+        name_unblank
+            m.hostname _ IsCanonicalHost (λ t k. k.0) p.hostname,
+      ) also (p.hostname, refl) also (
+        tt,
+        name_unblank m.appname _
+            IsCanonicalWord (λ t k. k.0) q.appname,
+      ) also (q.appname, refl) also (
+        tt,
+        process_unblank m.procid _ []
+            (process_back m.procid [] q.procid b.procid tt),
+      ) also ((q.procid, b.procid), refl) also (
+        tt,
+        name_unblank m.msgid
+            _ IsCanonicalWord (λ t k. k.0) q.msgid,
+      ) also (q.msgid, refl) also tt
 
   -- the one division, piece by piece
   line_divided : Division rfc5424_row (trimmed (printed_5424 version m)) (line_values version m)
@@ -232,8 +240,7 @@ printed_is version m e = rw e refl
 
 -- a canonical message is read back
 pub canonical_read : (rule : DashRule) (version : ℕ) (m : MessageValue) → m.protocol ≡ RFC5424 version → IsBounded m
-    → IsCanonical rule m
-    → IsRead5424 (printed m) m
+    → IsCanonical rule m → IsRead5424 (printed m) m
 canonical_read rule version m e b c =
     let (f, ef) = some_of m.facility c.0.facility in
     let (s, es) = some_of m.severity c.0.severity in
@@ -330,9 +337,8 @@ read_canonical rule text m r there =
 -- ---- a printed message that is read back as itself has a facility
 
 -- what an absent facility and severity print as
-pub priority_same : (f : Option SyslogFacility) (s : Option SyslogSeverity)
-    → composed (unwrap_or f LOG_SYSLOG) (unwrap_or s SEV_DEBUG)
-    ≡ option_map_or facility_number f 5 * 8 + option_map_or severity_number s 7
+pub priority_same : (f : Option SyslogFacility) (s : Option SyslogSeverity) → composed (unwrap_or f LOG_SYSLOG)
+    (unwrap_or s SEV_DEBUG) ≡ option_map_or facility_number f 5 * 8 + option_map_or severity_number s 7
 priority_same None None = refl
 priority_same None (Some s) = refl
 priority_same (Some f) None = refl

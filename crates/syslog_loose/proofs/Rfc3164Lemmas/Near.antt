@@ -126,8 +126,7 @@ pub near_names : (q : Text) (origin program : Option (Option Text)) (n : Names31
     → HostField q origin → TagField q program → NearNames origin n
 near_names q = of_names (λ v t n. HostField q v → TagField q t → NearNames v n) (record {
   nobody = λ v t a b. record { visible = tt; odd_host = tt; names = tt; colon = inl tt; host_is = tt };
-  host = λ h none a b.
-      record { visible = a.0; odd_host = λ o. refl; names = none; colon = inl tt; host_is = refl };
+  host = λ h none a b. record { visible = a.0; odd_host = λ o. refl; names = none; colon = inl tt; host_is = refl };
   lone = λ h tag id p f g a b. let parts = form_parts h tag id f in
       record {
         visible = tt;
@@ -240,9 +239,8 @@ module _ {tail t u name : Text} {origin : Option Text} (f : Front (optional (spa
       cc (before, h.whole, verbatim.host_text h.piece _ origin h.is, between, i.whole, i.is.3.0, e, prints)
 
   -- what they mean is quiet
-  fields_quiet : (app : Text) (process : Option (ProcId Text))
-      → Resolves (Some origin) (Some (Some name)) (names origin (Some app) process)
-      → HasQuietNames origin process
+  fields_quiet : (app : Text) (process : Option (ProcId Text)) → Resolves (Some origin) (Some (Some name))
+      (names origin (Some app) process) → HasQuietNames origin process
   fields_quiet app process r =
       let near = near_names t (Some origin) (Some (Some name)) (names origin (Some app) process) r
       (host_field tail t (Some origin) f) (tag_field t u (Some (Some name)) g) in
@@ -256,10 +254,9 @@ module _ {tail t u name : Text} {origin : Option Text} (f : Front (optional (spa
   FieldsKnown msg n = (tail ≡ fields_before n msg) × HasQuietNames n.hostname n.procid
 
   -- so where the text of a process is bare, all of them are in printed form and quiet
-  pub fields_known : (msg : Text) (h a process : Option Text) → u ≡ 58 ∷ 32 ∷ msg
-      → NamesProgram origin name (names h a (option_map named_process process))
-      → IfSome process (λ id. (tag : Text) × IsForm name tag id) → IfSome process IsBareWord
-      → FieldsKnown msg (names h a (option_map named_process process))
+  pub fields_known : (msg : Text) (h a process : Option Text) → u ≡ 58 ∷ 32 ∷ msg → NamesProgram origin name
+      (names h a (option_map named_process process)) → IfSome process (λ id. (tag : Text) × IsForm name tag id) → IfSome
+      process IsBareWord → FieldsKnown msg (names h a (option_map named_process process))
   fields_known msg h a None e (inl (tag, id, p, form, named, same)) of bare =
       absurd (let none = ap (λ (x : Names3164). x.procid) same in cc)
   fields_known msg h a None e (inr (none, same)) of bare =

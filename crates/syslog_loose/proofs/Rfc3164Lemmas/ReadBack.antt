@@ -83,17 +83,15 @@ whole_is m q = simp append_assoc refl
 
 whole_last : (m : MessageValue) → LastVisible (whole m [])
 whole_last m =
-    last_append (60 ∷ decimal (priority_of m)) _ (last_append (62 ∷ 32 ∷ timestamp_text m.timestamp) _
-    (last_append (32 ∷ name_text m.hostname) _
-    (last_append (32 ∷ program_text m.appname m.procid) (58 ∷ []) refl)))
+    last_append (60 ∷ decimal (priority_of m)) _ (last_append (62 ∷ 32 ∷ timestamp_text m.timestamp) _ (last_append
+    (32 ∷ name_text m.hostname) _ (last_append (32 ∷ program_text m.appname m.procid) (58 ∷ []) refl)))
 
 tail_is : (es : List ElementValue) (msg : Text) → EndsVisibly msg
     → drop_trailing_whitespace (32 ∷ body_text es msg) ≡ tail_text es msg
 tail_is [] msg h = message_end_is msg h
 tail_is (e ∷ es) msg h =
-    drop_after (32 ∷ joined_elements (e ∷ es)) (32 ∷ msg)
-    (last_append (32 ∷ []) (joined_elements (e ∷ es)) (joined_last e es))
-    ∙ ap (λ (x : Text). 32 ∷ (joined_elements (e ∷ es) ++ x)) (message_end_is msg h)
+    drop_after (32 ∷ joined_elements (e ∷ es)) (32 ∷ msg) (last_append (32 ∷ []) (joined_elements (e ∷ es))
+    (joined_last e es)) ∙ ap (λ (x : Text). 32 ∷ (joined_elements (e ∷ es) ++ x)) (message_end_is msg h)
 
 pub trimmed_whole : (m : MessageValue) → EndsVisibly m.msg
     → trimmed (printed_3164 m) ≡ whole m (tail_text m.structured_data m.msg)
@@ -105,9 +103,8 @@ trimmed_whole m h =
     ∙ whole_is m (tail_text m.structured_data m.msg)
 
 -- ---- elements and the message
-many_back : (es : List ElementValue) (q : Text) → AllByRecursion IsCanonicalElement es
-    → AllByRecursion (λ e. 0 < length e.params) es → NoFront full_element q
-    → IsMany full_element (joined_elements es) q es
+many_back : (es : List ElementValue) (q : Text) → AllByRecursion IsCanonicalElement es → AllByRecursion
+    (λ e. 0 < length e.params) es → NoFront full_element q → IsMany full_element (joined_elements es) q es
 many_back [] q h k n = (refl, n)
 many_back (e ∷ es) q h k n = (
   element_text e,
@@ -135,16 +132,16 @@ pub body_back : (rule : DashRule) (es : List ElementValue) (msg : Text) → AllB
     → AllByRecursion (λ e. 0 < length e.params) es → Ends is_blank msg → (es ≡ [] → BeginsNoList rule msg)
     → Front (Row (from_blanks rule)) (tail_text es msg) [] (tt, (list_field es, (tt, (msg, tt))))
 body_back rule [] msg h k b n =
-    row_of (from_blanks rule)
-    (message_blanks msg b then optional_none (rfc3164_list rule) (no_rfc3164_list rule msg (n refl))
-    then piece_front (run is_blank) [] msg tt (tt, b) then rest_front msg then refl)
+    row_of (from_blanks rule) (message_blanks msg b then optional_none (rfc3164_list rule)
+    (no_rfc3164_list rule msg (n refl)) then piece_front (run is_blank) [] msg tt (tt, b) then rest_front msg then refl)
 body_back rule (e ∷ es) msg h k b n =
-    row_of (from_blanks rule)
-    (piece_front (run is_blank) (32 ∷ []) (joined_elements (e ∷ es) ++ message_end msg) tt ((refl, tt), refl)
-    then optional_some (rfc3164_list rule)
-    (piece_front (rfc3164_list rule) (joined_elements (e ∷ es)) (message_end msg) (e ∷ es)
-    (inr (omega arith, many_back (e ∷ es) (message_end msg) h k (no_full_end msg))))
-    then message_blanks msg b then rest_front msg then refl)
+    row_of (from_blanks rule) (piece_front (run is_blank) (32 ∷ []) (joined_elements (e ∷ es) ++ message_end msg) tt
+    ((refl, tt), refl) then optional_some (rfc3164_list rule) (piece_front (rfc3164_list rule)
+    (joined_elements (e ∷ es)) (message_end msg) (e ∷ es) (inr (
+      omega arith,
+      many_back (e ∷ es) (message_end msg) h k
+          (no_full_end msg),
+    ))) then message_blanks msg b then rest_front msg then refl)
 
 -- ---- the process
 pub digit_inside : (c : ℕ) → is_ascii_digit c ≡ true → is_process_char c ≡ true
@@ -204,16 +201,13 @@ no_tag_colon t (c ∷ p) q v e h =
 pub tagged : (w t : Text) → 0 < length w → Each is_tag_char w → w ≢ dash
     → Front (optional (spaced tag_word)) (32 ∷ (w ++ (58 ∷ t))) (58 ∷ t) (Some (Some w))
 tagged w t l e n =
-    optional_some (spaced tag_word)
-    (spaced_front tag_word (piece_front (exactly (32 ∷ [])) (32 ∷ []) (w ++ (58 ∷ t)) tt refl)
-    (piece_front tag_word w (58 ∷ t) (Some w) (l, e, refl, (refl, n))))
+    optional_some (spaced tag_word) (spaced_front tag_word (piece_front (exactly (32 ∷ [])) (32 ∷ []) (w ++ (58 ∷ t)) tt
+    refl) (piece_front tag_word w (58 ∷ t) (Some w) (l, e, refl, (refl, n))))
 
 -- the tag field and the blanks after it, up to the colon
-pub tag_back : (origin app : Option Text) (process : Option (ProcId Text)) (t : Text)
-    → AreCanonicalNames origin app process
-    → IfSome process IsBoundedProcess
-    → (q : Text) × Front (optional (spaced tag_word)) (32 ∷ (program_text app process ++ (58 ∷ t))) q
-    (program_field app process) × Front (run is_blank) q (58 ∷ t) tt
+pub tag_back : (origin app : Option Text) (process : Option (ProcId Text)) (t : Text) → AreCanonicalNames origin app
+    process → IfSome process IsBoundedProcess → (q : Text) × Front (optional (spaced tag_word))
+    (32 ∷ (program_text app process ++ (58 ∷ t))) q (program_field app process) × Front (run is_blank) q (58 ∷ t) tt
 tag_back origin None None t h b = (
   32 ∷ 58 ∷ t,
   optional_none (spaced tag_word)
@@ -251,9 +245,8 @@ stamp_back dating (Some s) q h =
 
 -- the names up to the colon, as they are printed
 pub names_back : (h a : Option Text) (p : Option (ProcId Text)) (t : Text) → IfSome h IsCanonicalHost
-    → AreCanonicalNames h a p → IfSome p IsBoundedProcess
-    → Front (Row to_colon) (32 ∷ (name_text h ++ (32 ∷ (program_text a p ++ (58 ∷ t))))) t
-    (Some h, (program_field a p, (tt, (Some tt, tt))))
+    → AreCanonicalNames h a p → IfSome p IsBoundedProcess → Front (Row to_colon) (32
+    ∷ (name_text h ++ (32 ∷ (program_text a p ++ (58 ∷ t))))) t (Some h, (program_field a p, (tt, (Some tt, tt))))
 names_back h a p t k c b =
     let (q, tag, gap) = tag_back h a p t c b in
     row_of to_colon (host_field_back h (program_text a p ++ (58 ∷ t)) k then tag then gap
@@ -265,8 +258,7 @@ names_back h a p t k c b =
 pub to_stamp_back : (m : MessageValue) (y : Text)
     → Front (Row to_stamp) (60 ∷ (decimal (priority_of m) ++ (62 ∷ 32 ∷ (timestamp_text m.timestamp ++ (32 ∷ y)))))
     (timestamp_text m.timestamp ++ (32 ∷ y)) (Some (priority_of m), (tt, tt))
-to_stamp_back m y = row_of to_stamp
-    (optional_some priority (priority_front (priority_of m) _ (priority_low m))
+to_stamp_back m y = row_of to_stamp (optional_some priority (priority_front (priority_of m) _ (priority_low m))
     then piece_front (run is_blank) (32 ∷ []) _ tt ((refl, tt), stamp_unblank m.timestamp (32 ∷ y)) then refl)
 
 pub parts_back : (f : Option SyslogFacility) (s : Option SyslogSeverity) → IsSome f → IsSome s
@@ -285,18 +277,16 @@ module _ (rule : DashRule) (dating : Dating) (m : MessageValue) (e : m.protocol 
   abbrev values : Values (rfc3164_row rule dating)
   values = both_values to_stamp (from_stamp rule dating) (Some (priority_of m), (tt, tt)) (
     m.timestamp,
-    both_values to_colon (from_blanks rule)
-        (Some m.hostname, (program_field m.appname m.procid, (tt, (Some tt, tt))))
+    both_values to_colon (from_blanks rule) (Some m.hostname, (program_field m.appname m.procid, (tt, (Some tt, tt))))
         (tt, (list_field m.structured_data, (tt, (m.msg, tt)))),
   )
 
   row_back : Front (Row (rfc3164_row rule dating)) (whole m (tail_text m.structured_data m.msg)) [] values
   row_back =
-      rows_join to_stamp (from_stamp rule dating) (to_stamp_back m _)
-      (row_cons (rfc3164_stamp dating) (body_row rule) (stamp_back dating m.timestamp _ c.0.timestamp)
-      (rows_join to_colon (from_blanks rule)
-      (names_back m.hostname m.appname m.procid _ c.0.hostname own.names b.procid)
-      (body_back rule m.structured_data m.msg c.0.elements own.elements c.0.msg_front own.no_list)))
+      rows_join to_stamp (from_stamp rule dating) (to_stamp_back m _) (row_cons (rfc3164_stamp dating) (body_row rule)
+      (stamp_back dating m.timestamp _ c.0.timestamp) (rows_join to_colon (from_blanks rule) (names_back m.hostname
+      m.appname m.procid _ c.0.hostname own.names b.procid) (body_back rule m.structured_data m.msg c.0.elements
+      own.elements c.0.msg_front own.no_list)))
 
   means_back : m ≡ told rule dating values (names m.hostname m.appname m.procid)
   means_back =
@@ -312,9 +302,8 @@ module _ (rule : DashRule) (dating : Dating) (m : MessageValue) (e : m.protocol 
   pub canonical_back : IsRead3164 rule dating (printed_3164 m) m
   canonical_back = record {
     values = values;
-    division = front_division (rfc3164_row rule dating)
-        (subst (λ (x : Text). Front (Row (rfc3164_row rule dating)) x [] values)
-        (sym (trimmed_whole m c.0.msg_end)) row_back);
+    division = front_division (rfc3164_row rule dating) (subst (λ (x : Text). Front (Row (rfc3164_row rule dating)) x []
+        values) (sym (trimmed_whole m c.0.msg_end)) row_back);
     means = (
       names m.hostname m.appname m.procid,
       resolved m.hostname m.appname m.procid own.names b.procid,
@@ -339,9 +328,8 @@ host_word x p q u w h e (l, a, inr (r, f, b, z)) =
     ))
 
 -- the same of the host field
-field_word : (x q u w : Text) → Each is_not_whitespace x
-    → Front (optional (spaced host)) (32 ∷ (x ++ (32 ∷ u))) q (Some (Some w))
-    → (IsCanonicalHost w × (w ≡ x)) ⊎ ((0 < length w) × (x ≡ w ++ colon))
+field_word : (x q u w : Text) → Each is_not_whitespace x → Front (optional (spaced host)) (32 ∷ (x ++ (32 ∷ u))) q
+    (Some (Some w)) → (IsCanonicalHost w × (w ≡ x)) ⊎ ((0 < length w) × (x ≡ w ++ colon))
 field_word x q u w h f =
     let (r, e, g) = spaced_parts host (present_front (spaced host) f) in
     let whole : g.piece ++ q ≡ x ++ (32 ∷ u) = cc in host_word x g.piece q u w h whole g.is
@@ -380,16 +368,14 @@ stamp_canonical : (dating : Dating) (v : Option OffsetTimestamp) (q u : Text)
 stamp_canonical dating None q u f = tt
 stamp_canonical dating (Some s) q u f = elim f.is [
   | inl h ↦ stamp_text-canonical f.piece s h.0
-  | inr h ↦ absurd (begins_apart (f.piece ++ q) (λ c l k. omega arith)
-      (subst (λ (y : Text). Begins IsLow y) f.whole
+  | inr h ↦ absurd (begins_apart (f.piece ++ q) (λ c l k. omega arith) (subst (λ (y : Text). Begins IsLow y) f.whole
       (begins_more IsLow (timestamp_text (Some s)) (32 ∷ u) (stamp_low s)))
       (stamped_date_begins dating f.piece q (Some s) h))
 ]
 
 -- ---- the list
-list_none : (rule : DashRule) (msg q : Text) (v : Option (List ElementValue))
-    → Front (optional (rfc3164_list rule)) msg q v → elements_or v ≡ [] → length msg ≤ length q
-    → NoFront (rfc3164_list rule) msg
+list_none : (rule : DashRule) (msg q : Text) (v : Option (List ElementValue)) → Front (optional (rfc3164_list rule)) msg
+    q v → elements_or v ≡ [] → length msg ≤ length q → NoFront (rfc3164_list rule) msg
 list_none rule msg q None f e l = absent_none (rfc3164_list rule) f
 list_none rule msg q (Some es) f e l = elim f.is [
   | inl (d, a, z) ↦ absurd (let y = ap length (f.whole ∙ ap (λ x. x ++ q) d) in omega arith)

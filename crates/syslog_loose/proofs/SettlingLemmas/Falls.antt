@@ -180,9 +180,8 @@ module _ (rule : DashRule) (t : Text) (n : Names3164) (vs : Values (body_row rul
   known f d = let (same, behind) = rows_step to_colon (from_blanks rule) to_colon_det {vs = vs} f d in
       (subst (λ (x : Values to_colon). Resolves x.0 x.1.0 n) same r, behind)
 
-  canonical_stays : (h a : Option Text) (p : Option (ProcId Text)) → IfSome h IsCanonicalHost
-      → AreCanonicalNames h a p → IfSome p HasNoColon → IfSome p IsBoundedProcess → Reads (names_text h a p t)
-      → Stays h a p
+  canonical_stays : (h a : Option Text) (p : Option (ProcId Text)) → IfSome h IsCanonicalHost → AreCanonicalNames h a p
+      → IfSome p HasNoColon → IfSome p IsBoundedProcess → Reads (names_text h a p t) → Stays h a p
   canonical_stays h a p k c q b d =
       let (means, behind) = known (names_back h a p t k c b) d in
       let e : n ≡ names h a p = resolves_once (Some h) (program_field a p) n (names h a p) means (resolved h a p c b) in
@@ -281,9 +280,8 @@ module _ (rule : DashRule) (t : Text) (n : Names3164) (vs : Values (body_row rul
 -- ---- elements and the message after the colon: read as the same, or as a lighter message
 end_step : (rule : DashRule) (es : List ElementValue) (msg : Text) → AllByRecursion IsCanonicalElement es
     → AllByRecursion (λ e. 0 < length e.params) es → Ends is_blank msg → (vs : Values (from_blanks rule)) (w v : ℕ)
-    → ListWeighs rule es msg w → ListWeighs rule (elements_or vs.1.0) vs.1.1.1.0 v
-    → Front (Row (from_blanks rule)) (tail_text es msg) [] vs
-    → (v < w) ⊎ ((v ≤ w) × (elements_or vs.1.0 ≡ es) × (vs.1.1.1.0 ≡ msg))
+    → ListWeighs rule es msg w → ListWeighs rule (elements_or vs.1.0) vs.1.1.1.0 v → Front (Row (from_blanks rule))
+    (tail_text es msg) [] vs → (v < w) ⊎ ((v ≤ w) × (elements_or vs.1.0 ≡ es) × (vs.1.1.1.0 ≡ msg))
 end_step rule [] msg h k b vs w v x y d =
     elim (list_read rule _ msg vs (message_blanks msg b) d) [
       | inl (began, short) ↦ inl (omega (arith, paid x (λ n. began (n refl)), at_most y, short))
@@ -371,9 +369,8 @@ stamp_step dating s q p r (Some z) e (inl (h, (more, f))) =
     (stamp_each p z h) (space_ends r more f) in
     (stamp_text-canonical p z h, inl (sym (rest_same (timestamp_text (Some s)) (32 ∷ q) p r e same)))
 stamp_step dating s q p r v e (inr h) =
-    absurd (begins_apart (p ++ r) (λ c l k. omega arith)
-    (subst (λ (y : Text). Begins IsLow y) e (begins_more IsLow (timestamp_text (Some s)) (32 ∷ q) (stamp_low s)))
-    (stamped_date_begins dating p r v h))
+    absurd (begins_apart (p ++ r) (λ c l k. omega arith) (subst (λ (y : Text). Begins IsLow y) e (begins_more IsLow
+    (timestamp_text (Some s)) (32 ∷ q) (stamp_low s))) (stamped_date_begins dating p r v h))
 
 -- ---- the message
 pub priority_again : (p : ℕ) → p < 192
@@ -468,8 +465,7 @@ end_or_dashed t (c ∷ cs) left e before f = by f.piece f.whole f.is
       no_more = is.1;
     })
 
-host_is : (o : Option Text) (x : Text) → IfSome o (λ y. y ≡ x) → (EndsInColon x → ⊥)
-    → IfSome o (λ y. EndsInColon y → ⊥)
+host_is : (o : Option Text) (x : Text) → IfSome o (λ y. y ≡ x) → (EndsInColon x → ⊥) → IfSome o (λ y. EndsInColon y → ⊥)
 host_is None x e n = tt
 host_is (Some y) x e n = λ ends. n (subst EndsInColon e ends)
 
@@ -519,8 +515,7 @@ module _ (dating : Dating) (m : MessageValue) (near : HasExceptionsAlone m) (bou
     | inr (_, _, inr (x, is, host)) ↦ rw s.means.2 (host_is s.means.0.hostname x host ((rw is at once) x refl))
   ]
 
-  quiet_falls : IfSome m.timestamp IsCanonicalStamp → IfSome m.hostname (λ h. EndsInColon h → ⊥)
-      → HasNoNameException n
+  quiet_falls : IfSome m.timestamp IsCanonicalStamp → IfSome m.hostname (λ h. EndsInColon h → ⊥) → HasNoNameException n
   quiet_falls k none = elim (named k) [
     | inl stays ↦ quiet_so stays.quiet
     | inr (_, _, inl (_, quiet)) ↦ quiet_so quiet
@@ -531,9 +526,8 @@ module _ (dating : Dating) (m : MessageValue) (near : HasExceptionsAlone m) (bou
   abbrev Part : Type 0
   Part = n.structured_data ≡ [] → (m.structured_data ≡ []) × TakesNone BeforeBlank m.msg n.msg
 
-  part_of : (es : List ElementValue) → m.structured_data ≡ es
-      → Front (Row (from_blanks BeforeBlank)) (tail_text es m.msg) [] s.values.1.1.1.1.1.1.1
-      → elements_or s.values.1.1.1.1.1.1.1.1.0 ≡ []
+  part_of : (es : List ElementValue) → m.structured_data ≡ es → Front (Row (from_blanks BeforeBlank))
+      (tail_text es m.msg) [] s.values.1.1.1.1.1.1.1 → elements_or s.values.1.1.1.1.1.1.1.1.0 ≡ []
       → (m.structured_data ≡ []) × TakesNone BeforeBlank m.msg s.values.1.1.1.1.1.1.1.1.1.1.0
   part_of [] e d none = (e, none_read BeforeBlank _ m.msg _ (message_blanks m.msg near.msg_front) d none)
   part_of (x ∷ es) e d none =

@@ -71,8 +71,7 @@ colons_last zero = refl
 colons_last (suc n) = ap (λ (x : Text). 58 ∷ x) (colons_last n)
 
 colons_end : (h : Text) (n : ℕ) → EndsInColon (h ++ colons (suc n))
-colons_end h n =
-    (h ++ colons n, ap (λ (x : Text). h ++ x) (colons_last n) ∙ sym (append_assoc h (colons n) colon))
+colons_end h n = (h ++ colons n, ap (λ (x : Text). h ++ x) (colons_last n) ∙ sym (append_assoc h (colons n) colon))
 
 passes_dashed : (n : ℕ) (t u : Text) → PassesDashes (suc n) t u → (next : Text) × IsDashed t next
 passes_dashed zero t u (before, is, d, next, f) = (u, rw is at d)
@@ -96,10 +95,9 @@ module _ (variant : Variant) (dating : Dating) (text : Text) (m : MessageValue) 
   behind_stamp vs n k f means =
       as_variant variant dating text m _ r e (record {
         values = (Some (priority_of m), (tt, (m.timestamp, vs)));
-        division = front_division (rfc3164_row BeforeBlank dating) (rw (trimmed_whole m near.msg_end)
-            (rows_join to_stamp (from_stamp BeforeBlank dating) (to_stamp_back m (behind_space m))
-            (row_cons (rfc3164_stamp dating) (body_row BeforeBlank)
-            (stamp_back dating m.timestamp (behind_space m) k) f)));
+        division = front_division (rfc3164_row BeforeBlank dating) (rw (trimmed_whole m near.msg_end) (rows_join
+            to_stamp (from_stamp BeforeBlank dating) (to_stamp_back m (behind_space m)) (row_cons (rfc3164_stamp dating)
+            (body_row BeforeBlank) (stamp_back dating m.timestamp (behind_space m) k) f)));
         means = (n, means, refl);
       })
 
@@ -182,8 +180,7 @@ module _ (variant : Variant) (dating : Dating) (input : Text) (m : MessageValue)
         → IfSome y.timestamp IsCanonicalStamp → y.hostname ≡ Some (h ++ colon) → EndsInColon h
         → Known (suc n) (read_with y (names (Some h) None None) (58 ∷ tail_text y.structured_data y.msg))
     next_colons n y h k p s is o =
-        next_known n y _ k refl (colon_read variant dating k.0 y k.1 p h s is o)
-        (λ none. none.names.no_last_colon o)
+        next_known n y _ k refl (colon_read variant dating k.0 y k.1 p h s is o) (λ none. none.names.no_last_colon o)
 
     all_colons : (h : Text) (n : ℕ) → m.hostname ≡ Some (h ++ colons (suc n)) → EndsInColon h
         → Known (suc n) (past_colons m h n)
@@ -269,9 +266,8 @@ module _ (variant : Variant) (dating : Dating) (input : Text) (m : MessageValue)
 pub no_dash : (t : Text) → NoFront (exactly (45 ∷ [])) t → (rest : Text) → IsDashed t rest → ⊥
 no_dash t n rest d = n (45 ∷ []) (d.blanks ++ rest) tt d.whole refl
 
-pub dash_told : (t q : Text) (f : Front (exactly (45 ∷ [])) t q tt) (r : Option (Bor (List ℕ)))
-    → Skips (some_run is_blank) tt q r
-    → MatchOption r ((rest : Text) → IsDashed t rest → ⊥) (λ x. IsDashed t (shown x))
+pub dash_told : (t q : Text) (f : Front (exactly (45 ∷ [])) t q tt) (r : Option (Bor (List ℕ))) → Skips
+    (some_run is_blank) tt q r → MatchOption r ((rest : Text) → IsDashed t rest → ⊥) (λ x. IsDashed t (shown x))
 dash_told t q f None n = λ rest d.
     let b = begins 45 t q f in n d.blanks rest tt (cc) (d.some, d.each, d.no_more)
 dash_told t q f (Some x) g =
@@ -309,8 +305,7 @@ colons_both (suc m) n = simp (suc-add, colons_both m n) refl
 -- what was pushed m times and then n times more
 pub colons_pushed : (old mid new : List ℕ) (m n k : ℕ) → mid ≡ old ++ colons_before m []
     → new ≡ mid ++ colons_before n [] → m + n ≡ k → new ≡ old ++ colons_before k []
-colons_pushed old mid new m n k e f same =
-    rw (f, e, ← same, colons_both m n, append_assoc)
+colons_pushed old mid new m n k e f same = rw (f, e, ← same, colons_both m n, append_assoc)
 
 pub colons_apart : (n : ℕ) (t : Text) → colons_before n t ≡ colons_before n [] ++ t
 colons_apart zero t = refl
@@ -342,11 +337,9 @@ suffix_some bytes short n u v e =
     sym (chars_from_encodes (chars short ++ colons n) bytes u
     (rw (encodes-append, encodes-chars short v, colons_alone n) (sym e)))
 
-pub cut_on : (name host shorter : List ℕ) (c n : ℕ) → CutsColons name host c
-    → chars host ≡ chars shorter ++ colons n → (0 < c + n → EndsInColon (chars shorter))
-    → CutsColons name shorter (c + n)
-cut_on name host shorter c n k e o =
-    record { whole = rw (k.whole, e, append_assoc, colons_sum n c) refl; keeps = o }
+pub cut_on : (name host shorter : List ℕ) (c n : ℕ) → CutsColons name host c → chars host ≡ chars shorter ++ colons n
+    → (0 < c + n → EndsInColon (chars shorter)) → CutsColons name shorter (c + n)
+cut_on name host shorter c n k e o = record { whole = rw (k.whole, e, append_assoc, colons_sum n c) refl; keeps = o }
 
 pub cut_twice : (name host shorter : List ℕ) (c n : ℕ) → CutsColons name host c → CutsColons host shorter n
     → CutsColons name shorter (c + n)
@@ -382,10 +375,9 @@ module _ (variant : Variant) (dating : Dating) (input : Text) (m : MessageValue)
       → IsLater variant dating input m t → IsLater variant dating input m (chars bytes)
   later_printed t bytes u w later = rw (← chars_from_encodes t bytes u (sym w)) later
 
-  pub later_written : (h : Text) (cut : ℕ) (bytes : List ℕ) → IsUtf8 bytes
-      → IsRead variant dating input m → m.protocol ≡ RFC3164 → EndsColons m h cut → 0 < cut → EndsOnce h
-      → bytes ≡ encode_utf8_all (printed (past_colons m h (cut - 1)))
-      → IsLater variant dating input m (chars bytes)
+  pub later_written : (h : Text) (cut : ℕ) (bytes : List ℕ) → IsUtf8 bytes → IsRead variant dating input m → m.protocol
+      ≡ RFC3164 → EndsColons m h cut → 0 < cut → EndsOnce h → bytes ≡ encode_utf8_all
+      (printed (past_colons m h (cut - 1))) → IsLater variant dating input m (chars bytes)
   later_written h cut bytes u r e k l once w =
       let same : cut ≡ suc (cut - 1) = omega (arith, l) in
       later_printed (printed (past_colons m h (cut - 1))) bytes u w
@@ -396,12 +388,11 @@ front_more : (m : MessageValue) (t : Text) → printed_3164 (with_msg m (m.msg +
 unfolding printed_3164
 front_more m t = simp append_assoc refl
 
-pub past_written : (m front : MessageValue) (h : Text) (n : ℕ) (start mid bytes : List ℕ)
-    → start ≡ encode_utf8_all (printed_3164 front) → mid ≡ start ++ colons_before n [] → priority_of front ≡ priority_of m
-    → front.timestamp ≡ m.timestamp → name_text front.hostname ≡ h
-    → tag_text front.appname front.procid ≡ tag_text None None → front.structured_data ≡ [] → front.msg ≡ 58 ∷ []
-    → bytes ≡ mid ++ encode_utf8_all (tail_text m.structured_data m.msg)
-    → bytes ≡ encode_utf8_all (printed_3164 (past_colons m h n))
+pub past_written : (m front : MessageValue) (h : Text) (n : ℕ) (start mid bytes : List ℕ) → start ≡ encode_utf8_all
+    (printed_3164 front) → mid ≡ start ++ colons_before n [] → priority_of front ≡ priority_of m → front.timestamp
+    ≡ m.timestamp → name_text front.hostname ≡ h → tag_text front.appname front.procid ≡ tag_text None None
+    → front.structured_data ≡ [] → front.msg ≡ 58 ∷ [] → bytes ≡ mid ++ encode_utf8_all
+    (tail_text m.structured_data m.msg) → bytes ≡ encode_utf8_all (printed_3164 (past_colons m h n))
 past_written m front h n start mid bytes first more p stamp host tag es msg e =
     let q : Text = colons_before n (tail_text m.structured_data m.msg) in
     let same : printed_3164 (past_colons m h n) ≡ printed_3164 (with_msg front (front.msg ++ q)) =

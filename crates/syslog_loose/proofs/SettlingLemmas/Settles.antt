@@ -45,8 +45,7 @@ module _ (variant : Variant) (dating : Dating) where
 
   one_round : (t : Text) (n : ℕ) (u x : Text) → IsRound variant dating t n u → IsRound variant dating t n x → u ≡ x
   one_round t zero u x a b = a ∙ sym b
-  one_round t (suc n) u x (y, r, h) (z, s, k) =
-      one_next z u x (rw (one_round t n y z r s) at h) k
+  one_round t (suc n) u x (y, r, h) (z, s, k) = one_next z u x (rw (one_round t n y z r s) at h) k
 
   -- after a round that is not read there is none
   pub none_behind : (t : Text) (j : ℕ) (u : Text) → IsRound variant dating t j u → IsUnreadable variant dating u
@@ -414,10 +413,9 @@ module _ (variant : Variant) (dating : Dating) where
 
 module _ (variant : Variant) (dating : Dating) where
   -- what was written of the line of a text is known to be a round of the text
-  pub made_told : {E : Type 0} (given : E → E → List ElementValue → Type 0) (before after : E)
-      (text : Text) (old new : String Global) (made : Option (Result Bool AllocError))
-      → Made (λ (_ : String Global) line written last. WritesRound line written (string_bytes last)) given variant
-      dating text old before made new after
+  pub made_told : {E : Type 0} (given : E → E → List ElementValue → Type 0) (before after : E) (text : Text)
+      (old new : String Global) (made : Option (Result Bool AllocError)) → Made (λ (_ : String Global) line written
+      last. WritesRound line written (string_bytes last)) given variant dating text old before made new after
       → AnswersRound variant dating text (string_bytes new) (round_answer made)
   made_told given before after text old new None (none, _, _) = ((λ e. none), (λ u. refl))
   made_told given before after text old new (Some (Ok settled)) (line, of, writes, _) =
@@ -443,8 +441,7 @@ module _ (variant : Variant) (dating : Dating) where
   pub answer_canonical : (text : Text) (result : Result (String Global) ParseFault)
       → Settles variant dating text result → IfOk result
       (λ u. (m : MessageValue) → IsRead variant dating (chars (string_bytes u)) m → IsCanonical dash_rule m)
-  answer_canonical text (Ok u) s = λ m r.
-      settled_canonical variant dating (chars (string_bytes u)) m s.first.settled r
+  answer_canonical text (Ok u) s = λ m r. settled_canonical variant dating (chars (string_bytes u)) m s.first.settled r
   answer_canonical text (Err fault) s = tt
 
 -- a text that shows no month date has none after its priority

@@ -136,9 +136,8 @@ find_escaped : (c : ℕ) (t : Text) → c ≡ 92 → ((s : Text) → length s �
     → Finds closing (c ∷ t)
 find_escaped c [] e next = inr (no_closing (c ∷ []) (no_quoted_short (c ∷ []) refl (omega arith)
     (λ r k. let q : c ≡ 34 = cc in omega (arith, e, q))))
-find_escaped c (d ∷ t) e next = find_moved closing _ closing t
-    (closing_goes (quoted_goes (unit_goes (pair d) (c ∷ d ∷ t) t tt (ap (λ (x : ℕ). x ∷ d ∷ t) e))))
-    (next t (omega arith))
+find_escaped c (d ∷ t) e next = find_moved closing _ closing t (closing_goes (quoted_goes (unit_goes (pair d)
+    (c ∷ d ∷ t) t tt (ap (λ (x : ℕ). x ∷ d ∷ t) e)))) (next t (omega arith))
 
 find_closing : (n : ℕ) (t : Text) → length t ≤ n → Finds closing t
 find_closing n [] l = inr (no_closing [] (no_quoted_short [] refl (omega arith) (λ r k. cc)))
@@ -275,8 +274,7 @@ at_most (inl (a, e)) = omega arith
 at_most (inr (k, e)) = omega arith
 
 pub once : (rule : DashRule) (m : MessageValue) (w v : ℕ) → Weighs rule m w → Weighs rule m v → w ≡ v
-once rule m w v a b =
-    omega (arith, a.total, b.total, cost_once a.stamp_is b.stamp_is, cost_once a.taken_is b.taken_is)
+once rule m w v a b = omega (arith, a.total, b.total, cost_once a.stamp_is b.stamp_is, cost_once a.taken_is b.taken_is)
 
 -- ---- some weight
 
@@ -284,10 +282,9 @@ once rule m w v a b =
 stamp_decided : (s : Option OffsetTimestamp) → Decided (IfSome s IsCanonicalStamp)
 stamp_decided None = inl tt
 stamp_decided (Some s) =
-    by_lt_z {P = Decided (IsCanonicalStamp s)} (own_year s) (pos 0)
-    (λ l. inr (λ k. let e = k.year_from in omega (arith, ints, e, l))) (λ from.
-    by_lt_z {P = Decided (IsCanonicalStamp s)} (pos 9999) (own_year s)
-    (λ l. inr (λ k. let e = k.year_to in omega (arith, ints, e, l))) (λ to.
+    by_lt_z {P = Decided (IsCanonicalStamp s)} (own_year s) (pos 0) (λ l. inr
+    (λ k. let e = k.year_from in omega (arith, ints, e, l))) (λ from. by_lt_z {P = Decided (IsCanonicalStamp s)}
+    (pos 9999) (own_year s) (λ l. inr (λ k. let e = k.year_to in omega (arith, ints, e, l))) (λ to.
     elim (eqb_tells (unsigned_abs s.offset.seconds % 60) 0) [
       | inl m ↦ elim (leb_tells 86_400 (unsigned_abs s.offset.seconds)) [
         | inl d ↦ inr (λ k. let e = k.day in let f = d.1 in omega (arith, e, f))
@@ -347,8 +344,7 @@ program_light : (host : Option Text) (text : Text) (n : Names3164) → NamesProg
 program_light host text n (inl (tag, id, p, f, h, e)) = rw e (omega (arith, host_short host, process_light p))
 program_light host text n (inr (none, e)) = rw e (omega (arith, host_short host))
 
-pub lone_light : (h : Text) (n : Names3164) → NamesHost h n
-    → names_weight n.hostname n.procid ≤ end_colons h + 1
+pub lone_light : (h : Text) (n : Names3164) → NamesHost h n → names_weight n.hostname n.procid ≤ end_colons h + 1
 lone_light h n (inl (tag, id, p, f, k, e)) = rw e (omega (arith, process_light p))
 lone_light h n (inr (none, e)) = rw e (omega (arith, host_light h))
 
@@ -404,9 +400,8 @@ module _ (rule : DashRule) where
   TakesNone t left = BeginsNoList rule left
       ⊎ ((rest : Text) × (t ≡ 45 ∷ rest) × IsDashBefore rule rest × Front (run is_blank) rest left tt)
 
-  takes_none : {t q : Text} (v : Option (List ElementValue)) (left : Text) → Ends is_blank t
-      → Front (optional (rfc3164_list rule)) t q v → Front (run is_blank) q left tt → elements_or v ≡ []
-      → TakesNone t left
+  takes_none : {t q : Text} (v : Option (List ElementValue)) (left : Text) → Ends is_blank t → Front
+      (optional (rfc3164_list rule)) t q v → Front (run is_blank) q left tt → elements_or v ≡ [] → TakesNone t left
   takes_none None left b g gap e = elim (leaves None left b g gap) [
     | inl (began, l) ↦ absurd (began (begins_no_list rule _ (absent_none (rfc3164_list rule) g)))
     | inr (n, _, same) ↦ inl (rw same n)
@@ -480,19 +475,17 @@ tag_length : (p q : Text) (v : Option Text) → tag_word.Is p q v → field_leng
 tag_length p q None h = omega arith
 tag_length p q (Some x) (l, a, b, (w, d)) = omega (arith, ap length w)
 
-field_light : (Is : Text → Text → Option Text → Type 0)
-    → ((p q : Text) (v : Option Text) → Is p q v → field_length (Some v) ≤ suc (length p))
-    → {t q : Text} (v : Option (Option Text))
-    → Front (optional (spaced (record { Value = Option Text; Is = Is }))) t q v → field_length v + length q ≤ length t
+field_light : (Is : Text → Text → Option Text → Type 0) → ((p q : Text) (v : Option Text) → Is p q v → field_length
+    (Some v) ≤ suc (length p)) → {t q : Text} (v : Option (Option Text)) → Front (optional
+    (spaced (record { Value = Option Text; Is = Is }))) t q v → field_length v + length q ≤ length t
 field_light Is short None f = omega (arith, front_longer _ f)
 field_light Is short {q = q} (Some v) f =
     let (r, e, g) = spaced_parts (record { Value = Option Text; Is = Is }) (present_front _ f) in
     omega (arith, short g.piece q v g.is, ap length e, ap length g.whole, length-append g.piece q)
 
 -- ---- the message
-body_light : (rule : DashRule) (t : Text) (vs : Values (body_row rule)) (n : Names3164)
-    → Front (Row (body_row rule)) t [] vs → Resolves vs.0 vs.1.0 n
-    → names_weight n.hostname n.procid + length vs.1.1.1.1.1.1.1.0 ≤ length t
+body_light : (rule : DashRule) (t : Text) (vs : Values (body_row rule)) (n : Names3164) → Front (Row (body_row rule)) t
+    [] vs → Resolves vs.0 vs.1.0 n → names_weight n.hostname n.procid + length vs.1.1.1.1.1.1.1.0 ≤ length t
 body_light rule t vs n f means =
     let (_, origin, f1) = row_head (optional (spaced host)) (from_tag rule) f in
     let (_, program, f2) = row_head (optional (spaced tag_word)) (from_tag_end rule) f1 in

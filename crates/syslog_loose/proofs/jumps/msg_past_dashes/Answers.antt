@@ -8,9 +8,8 @@ returns-then-not-has_quiet_names c = λ variant dating input r e.
     (λ quiet none. no_truth (c.if-not-has_quiet_names.ensures.1 quiet)) c.requires
 
 pub returns-then-not-is_empty : goal.returns-then-not-is_empty
-returns-then-not-is_empty c = λ variant dating input r e.
-    itself variant dating input (line_value c.args.line.now) r (ap protocol_of e)
-    (λ quiet none. c.if-not-is_empty.ensures none) c.requires
+returns-then-not-is_empty c = λ variant dating input r e. itself variant dating input (line_value c.args.line.now) r
+    (ap protocol_of e) (λ quiet none. c.if-not-is_empty.ensures none) c.requires
 
 pub returns : goal.returns
 returns c = λ variant dating input r e.

@@ -52,9 +52,8 @@ returns-clause-reads g c dating whole f =
     let fields = c.read_fields-fields.ensures.read in
     let (es, list, same) = c.visit_rfc3164_list.ensures.list in (
       is_read dash_rule dating whole _ _ _ refl (names_value c.read_fields-fields.result.names, fields.means, rw same refl)
-          (rows_join (stamped_row dating) (body_row dash_rule) f
-          (rows_join fields_row (from_list dash_rule) fields.front
-          (row_of (from_list dash_rule) (list then c.blanks.ensures then rest_front _ then refl)))),
+          (rows_join (stamped_row dating) (body_row dash_rule) f (rows_join fields_row (from_list dash_rule)
+          fields.front (row_of (from_list dash_rule) (list then c.blanks.ensures then rest_front _ then refl)))),
       f,
     )
 
@@ -72,10 +71,9 @@ returns-clause-form g c = elim c.if-fields.branch [
       λ e. msg_same list (after e) fields.ends c.blanks.ensures in
       record {
         utf8 = c.utf8.text;
-        prints = λ e. fields.prints w.if-fields.true
-            ∙ ap (λ (x : Text). fields_before (names_value c.read_fields-fields.result.names) x)
-            (sym (ap (λ (es : List ElementValue). spaced_elements es ++ shown c.blanks.result)
-            (same ∙ (no_list list (after e)).0) ∙ msg e));
+        prints = λ e. fields.prints w.if-fields.true ∙ ap (λ (x : Text). fields_before
+            (names_value c.read_fields-fields.result.names) x) (sym (ap (λ (es : List ElementValue). spaced_elements es
+            ++ shown c.blanks.result) (same ∙ (no_list list (after e)).0) ∙ msg e));
         quiet = λ e none canonical. record {
           timestamp = canonical;
           names = fields.quiet w.if-fields.true;

@@ -31,8 +31,7 @@ returns-clause-form g c =
     let es = list_elements c.in-Some-visit_forgiving_list.list in
     record {
       utf8 = c.in-Some.ensures.utf8;
-      prints = λ e.
-          (let (starts, (gap, (list, (space, _)))) = c.are_all-is_printed.ensures e in
+      prints = λ e. (let (starts, (gap, (list, (space, _)))) = c.are_all-is_printed.ensures e in
           let after = c.in-Some-visit_forgiving_list.ensures.text
           ∙ ap (λ (x : Text). x ++ shown c.in-Some-visit_forgiving_list.after_list) (c.is_printed.ensures list)
           ∙ ap (λ (x : Text). elements_text es ++ x) (c.is_one_space-2.ensures space) in

@@ -9,8 +9,7 @@ use Rattle.syslog_loose.proofs.Rfc5424Lemmas.{header_det}
 use Rattle.syslog_loose.proofs.rfc5424.read_header.Goals as goal
 
 -- the process id that the word names is there
-process_named : {t q : Text} {v : Option Text} → Front word t q v
-    → Front process_word t q (option_map named_process v)
+process_named : {t q : Text} {v : Option Text} → Front word t q v → Front process_word t q (option_map named_process v)
 process_named {v = None} f = absent_front f
 process_named {v = Some t} f = process_front (named_process t) f (named_names t)
 
@@ -34,8 +33,7 @@ unread : {text : Text} (r : Option (Line × Bor (List ℕ))) → r ≡ None → 
 unread r e fails = rw e (no_row header_row header_det fails)
 
 pub returns-in_err-version-clause-reads : goal.returns-in_err-version-clause-reads
-returns-in_err-version-clause-reads g c whole f =
-    unread _ (search rules) (f past inl c.in_err-version.ensures)
+returns-in_err-version-clause-reads g c whole f = unread _ (search rules) (f past inl c.in_err-version.ensures)
 
 pub returns-in_err-start-clause-reads : goal.returns-in_err-start-clause-reads
 returns-in_err-start-clause-reads g c whole f =
@@ -63,8 +61,7 @@ returns-in_err-at_app-clause-reads g c whole f =
 pub returns-in_err-appname-clause-reads : goal.returns-in_err-appname-clause-reads
 returns-in_err-appname-clause-reads g c whole f =
     unread _ (search rules) (f past c.in_ok-version.ensures past c.in_ok-start.ensures past c.in-Some.ensures past
-    c.in_ok-at_host.ensures past c.in_ok-hostname.ensures past c.in_ok-at_app.ensures past inl
-    c.in_err-appname.ensures)
+    c.in_ok-at_host.ensures past c.in_ok-hostname.ensures past c.in_ok-at_app.ensures past inl c.in_err-appname.ensures)
 
 pub returns-in_err-at_process-clause-reads : goal.returns-in_err-at_process-clause-reads
 returns-in_err-at_process-clause-reads g c whole f =

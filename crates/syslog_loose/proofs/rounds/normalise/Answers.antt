@@ -5,8 +5,7 @@ use Rattle.syslog_loose.proofs.rounds.normalise.Goals as goal
 
 pub returns-in_default-clause-again : goal.returns-in_default-clause-again
 returns-in_default-clause-again g c =
-    again_in _ _ _ _ c.utf8.input _
-    (in_year_map (λ year none. ((λ e. none), (λ u. refl))) c.in_default.ensures.reads)
+    again_in _ _ _ _ c.utf8.input _ (in_year_map (λ year none. ((λ e. none), (λ u. refl))) c.in_default.ensures.reads)
 
 pub returns-in_err-print_line-clause-reads : goal.returns-in_err-print_line-clause-reads
 returns-in_err-print_line-clause-reads g c =

@@ -9,7 +9,6 @@ returns-then-has_no_quirk c = λ variant dating whole r.
     (rests_so m.protocol m (c.if-has_no_quirk.ensures.0 refl))
 
 pub returns : goal.returns
-returns c = λ variant dating whole r.
-    told_later variant dating whole (line_value c.args.line.now) r _ (ap protocol_of c.requires.rfc3164)
-    (λ h. no_truth (c.if-has_no_quirk.ensures.1 h))
-    (c.in_ok-write_round.ensures variant dating whole r c.requires.rfc3164)
+returns c = λ variant dating whole r. told_later variant dating whole (line_value c.args.line.now) r _
+    (ap protocol_of c.requires.rfc3164) (λ h. no_truth (c.if-has_no_quirk.ensures.1 h)) (c.in_ok-write_round.ensures
+    variant dating whole r c.requires.rfc3164)

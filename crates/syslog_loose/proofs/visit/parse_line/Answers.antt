@@ -5,11 +5,10 @@ use Rattle.syslog_loose.proofs.ReadingLemmas.{in_year_map}
 use Rattle.syslog_loose.proofs.visit.parse_line.Goals as goal
 
 -- what is made where the line itself is made
-parsed : {V E : Type 0} (given : E → E → List ElementValue → Type 0) (before after : E)
-    (variant : Variant) (dating : Dating) (text : Text) (old new : V) (made : Option Line)
-    → Made (λ (_ : V) line itself _. (itself ≡ line) × KnowsForm line) given variant dating text old before made new after
-    → MatchOption made (IsUnreadable variant dating text)
-    (λ line. IsLineOf variant dating text line)
+parsed : {V E : Type 0} (given : E → E → List ElementValue → Type 0) (before after : E) (variant : Variant)
+    (dating : Dating) (text : Text) (old new : V) (made : Option Line) → Made
+    (λ (_ : V) line itself _. (itself ≡ line) × KnowsForm line) given variant dating text old before made new after
+    → MatchOption made (IsUnreadable variant dating text) (λ line. IsLineOf variant dating text line)
 parsed given before after variant dating text old new None (none, _, _) = none
 parsed given before after variant dating text old new (Some made) (line, of, (e, form), _) =
     subst (IsLineOf variant dating text) (sym e) of
