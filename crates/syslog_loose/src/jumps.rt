@@ -22,10 +22,12 @@ use syslog_pieces::structured_data::ElementList;
 use syslog_pieces::text::{literal, some_blanks};
 use syslog_pieces::timestamp::canonical::is_canonical_clock;
 
-// What is cut or written at once of a long run, thirty-two bytes each.
+// What is passed, cut or written at once of a long run, thirty-two bytes each.
 const COLONS: &str = "::::::::::::::::::::::::::::::::";
 
 const SPACED_COLONS: &str = " : : : : : : : : : : : : : : : :";
+
+const SPACED_DASHES: &str = "- - - - - - - - - - - - - - - - ";
 
 /// Writes a round of the line of RFC 3164: the next one, or the last of those that are known from it. None before it is
 /// settled.
@@ -208,12 +210,12 @@ fn msg_past_dashes<'a>(line: &Line<'a>) -> &'a str
 }
 
 // The text from the last dash on of those that it begins with, each with blanks after it; the text itself where none
-// does.
+// does. Dashes with a space after each are passed by sixteen, the others one by one.
 fn last_dash(text: &str) -> &str
     ensures passes { (n : ℕ) × PassesDashes n (chars text.now) (shown result) }
     ensures last { (p q : Text) → IsDashed (shown result) p → IsDashed p q → ⊥ }
 {
-    let mut from = text;
+    let mut from = past_many_dashes(text);
     let Some(behind) = behind_dash(from) else {
         return from;
     };
@@ -221,6 +223,20 @@ fn last_dash(text: &str) -> &str
     'dashes: while let Some(next) = behind_dash(rest) {
         from = rest;
         rest = next;
+    }
+    from
+}
+
+// The text after sixteen dashes with a space each, again and again as long as a further dash follows.
+fn past_many_dashes(text: &str) -> &str
+    ensures { (n : ℕ) × PassesDashes n (chars text.now) (shown result) }
+{
+    let mut from = text;
+    'many: while let Some(rest) = from.strip_prefix(SPACED_DASHES) {
+        if behind_dash(rest).is_none() {
+            break 'many;
+        }
+        from = rest;
     }
     from
 }

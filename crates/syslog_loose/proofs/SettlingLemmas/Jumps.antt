@@ -14,7 +14,7 @@ use Rattle.syslog_loose.proofs.Names.{chars, encode_utf8_all, IsUtf8, chars_from
 use Rattle.syslog_loose.proofs.Names.{NoFront, exactly, some_run, shown, name_text, CutsColons, tag_text, ElementValue}
 use Rattle.syslog_loose.proofs.Names.{joined_elements, elements_text, MatchOption, begins, front_same, run_det}
 use Rattle.syslog_loose.proofs.Names.{zero-add, suc-add, add-zero, add-suc, encode_utf8, append_cancel_right, Skips}
-use Rattle.syslog_loose.proofs.Names.{chars_empty}
+use Rattle.syslog_loose.proofs.Names.{chars_empty, true, false, Ends, is_some}
 use Rattle.syslog_loose.specs.Bodies.Jumps.{message_end}
 use Rattle.syslog_loose.proofs.PrintedLemmas.{priority_small}
 use Rattle.syslog_loose.proofs.Rfc3164Lemmas.{rfc3164_bounded, printed_3164_is, printed_apart, from_blanks, from_stamp}
@@ -28,7 +28,7 @@ use Rattle.syslog_loose.proofs.SettlingLemmas.Falls.{no_form_open}
 use Rattle.syslog_loose.proofs.SettlingLemmas.Weights.{dash_before, no_list_by}
 use Rattle.syslog_loose.proofs.SettlingLemmas.Settles.{reached_first, reached_next, no_protocol, as_rfc3164}
 use Rattle.syslog_loose.proofs.SettlingLemmas.Settles.{odd_unsettled}
-use Rattle.std.specs.Str.Pattern.{FindsTextSuffix, StripsSuffix}
+use Rattle.std.specs.Str.Pattern.{FindsTextPrefix, FindsTextSuffix, StripsPrefix, StripsSuffix}
 use Rattle.syslog_loose.specs.Printed.{printed_3164}
 use Rattle.syslog_loose.specs.declared.variant.Variant.TheVariants as variants
 
@@ -273,6 +273,47 @@ dash_told t q f None n = λ rest d.
 dash_told t q f (Some x) g =
     let b = begins 45 t q f in
     record { blanks = g.piece; whole = cc; some = g.is.0; each = g.is.1; no_more = g.is.2 }
+
+-- n dashes, each with a space after it
+abbrev pub spaced_dashes : ℕ → Text
+spaced_dashes zero = []
+spaced_dashes (suc n) = 45 ∷ 32 ∷ spaced_dashes n
+
+dashes_more : (n : ℕ) (t : Text) → spaced_dashes (suc n) ++ t ≡ spaced_dashes n ++ (45 ∷ 32 ∷ t)
+dashes_more zero t = refl
+dashes_more (suc n) t = ap (λ (x : Text). 45 ∷ 32 ∷ x) (dashes_more n t)
+
+one_dashed : (t next : Text) → IsDashed t next → IsDashed (45 ∷ 32 ∷ t) t
+one_dashed t next d = record { blanks = 32 ∷ []; whole = refl; some = omega arith; each = (refl, tt);
+    no_more = subst (Ends is_blank) (sym d.whole) refl }
+
+pub passes_spaced : (n : ℕ) (t next : Text) → IsDashed t next → PassesDashes n (spaced_dashes n ++ t) t
+passes_spaced zero t next d = refl
+passes_spaced (suc n) t next d =
+    let one = one_dashed t next d in
+    (45 ∷ 32 ∷ t, rw (dashes_more n t) (passes_spaced n (45 ∷ 32 ∷ t) t one), one, next, d)
+
+pub passes_both : (m n : ℕ) (a b t : Text) → PassesDashes m a b → PassesDashes n b t → (k : ℕ) × PassesDashes k a t
+passes_both m zero a b t p q = (m, subst (λ (x : Text). PassesDashes m a x) (sym q) p)
+passes_both m (suc n) a b t p (before, q, d, next, f) =
+    let (k, r) = passes_both m n a b before p q in (suc k, (before, r, d, next, f))
+
+dashes_alone : (n : ℕ) → encode_utf8_all (spaced_dashes n) ≡ spaced_dashes n
+unfolding encode_utf8
+dashes_alone zero = refl
+dashes_alone (suc n) = ap (λ (x : Text). 45 ∷ 32 ∷ x) (dashes_alone n)
+
+-- what `strip_prefix` of dashes gives
+pub dashes_front : (bytes rest : List ℕ) (n : ℕ) → IsUtf8 bytes → IsUtf8 rest
+    → StripsPrefix (FindsTextPrefix (spaced_dashes n)) bytes rest → chars bytes ≡ spaced_dashes n ++ chars rest
+dashes_front bytes rest n u v (k, (long, whole, cut), behind_is, fits) =
+    sym (chars_from_encodes (spaced_dashes n ++ chars rest) bytes u
+    (rw (encodes-append, dashes_alone n, encodes-chars rest v, behind_is) (sym whole)))
+
+pub some_next : (t : Text) (A : Type 0) (r : Option (Bor (List ℕ))) → is_some r ≡ true
+    → MatchOption r A (λ x. IsDashed t (shown x)) → (next : Text) × IsDashed t next
+some_next t A None h m = absurd (let u : false ≡ true = h in cc)
+some_next t A (Some x) h m = (shown x, m)
 
 -- ---- the end of a line
 some_end : (t : Text) (bytes : List ℕ) → encode_utf8_all t ≡ bytes → 0 < length bytes
