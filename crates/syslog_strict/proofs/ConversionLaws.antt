@@ -1,30 +1,292 @@
--- The text of a converted message is in the grammar, and whoever reads it reads the converted message.
-use Rattle.std.proofs.Common.{◌≡◌, inl, inr, [], ◌∷◌, ◌++◌, IfSome, refl, sym, arith, append_assoc}
-use Rattle.std.specs.Fmt.{decimal}
-use Rattle.syslog_pieces.specs.Pieces.Class.{Text, Ends}
-use Rattle.syslog_pieces.specs.ProcId.{IsBoundedProcess}
-use Rattle.syslog_pieces.specs.Text.{is_blank}
-use Rattle.syslog_pieces.specs.Text.Canonical.{EndsVisibly}
-use Rattle.syslog_pieces.specs.Timestamp.Zone.{Dating}
-use Rattle.syslog_loose.specs.Canonical.{IsBounded, IsCanonical}
-use Rattle.syslog_loose.specs.Message.{MessageValue}
-use Rattle.syslog_loose.specs.Printed.{printed, printed_5424, priority_of}
+-- What was converted is converted to the same text again; its text is in the grammar, and is read back.
+use Rattle.syslog_strict.proofs.Words.{◌≡◌, ◌≢◌, ◌⊎◌, inl, inr, ℕ, ℤ, ◌<◌, ◌+ℤ◌, Bool, true, false, List, [], ◌∷◌, ◌++◌}
+use Rattle.syslog_strict.proofs.Words.{length, map, nat_eq, Option, Some, None, refl, sym, ap, ap₂, subst, ◌∙◌, arith}
+use Rattle.syslog_strict.proofs.Words.{append-nil, if◌then◌else◌, ◌%◌, unsigned_abs, IfSome, append_assoc, cases_Bool}
+use Rattle.syslog_strict.proofs.Words.{nat_tests, AllByRecursion, option_and_then, option_map, decimal, signed_arith}
+use Rattle.syslog_strict.proofs.Words.{int_rem_euclid-parts, Text, join, Ends, text_eq, NamesProcess, named_process}
+use Rattle.syslog_strict.proofs.Words.{process_text, IsBoundedProcess, IsCanonicalElement, all_map, named_names}
+use Rattle.syslog_strict.proofs.Words.{nanos_of_seconds, civil_fields, printed_stamp, OffsetTimestamp, MessageValue}
+use Rattle.syslog_strict.proofs.Words.{timestamp_text, priority_of, ElementValue, elements_text, colon, dash, is_blank}
+use Rattle.syslog_strict.proofs.Words.{ProcId, PID, Name, converted, converted_stamp, cut_stamp, has_text, in_utc}
+use Rattle.syslog_strict.proofs.Words.{is_four_digits, micros, cleaned, converted_element, converted_elements}
+use Rattle.syslog_strict.proofs.Words.{converted_host, converted_name, converted_param, converted_process}
+use Rattle.syslog_strict.proofs.Words.{converted_word, escaped_from, is_among, joined_past, named, or_mark, params_of}
+use Rattle.syslog_strict.proofs.Words.{without_last_colon, without_lone_colon, AreDistinct, IsParamValue, IsSdName}
+use Rattle.syslog_strict.proofs.Words.{IsSyslogMsg, IsValuePiece, is_escaped, is_printusascii, is_sd_char}
+use Rattle.syslog_strict.proofs.Words.{BeginsDistinct}
+use Rattle.std.proofs.Common.{◌&&◌, nat_lt}
+use Rattle.std.proofs.lemmas.List.{length-map}
+use Rattle.std.specs.Bool.{◌==◌}
 use Rattle.std.specs.Prelude.{◌↔◌}
-use Rattle.syslog_loose.specs.Reading.{IsOnlyRead, IsRead, IsUnreadable, dash_rule}
-use Rattle.syslog_loose.specs.declared.fault.ParseFault.TheVariants.{Invalid, Memory}
-use Rattle.syslog_strict.specs.Call.{IsConvertedText}
+use Rattle.syslog_pieces.specs.Bodies.Verbatim.{IsBareWord}
+use Rattle.syslog_pieces.proofs.ProcIdLemmas.{bare_prints}
+use Rattle.syslog_pieces.proofs.StructuredDataLemmas.Elements.{forgiving_back, forgiving_det, no_item_nil}
+use Rattle.syslog_pieces.specs.Timestamp.Zone.{Dating}
+use Rattle.syslog_loose.specs.Printed.{printed, printed_5424}
 use Rattle.syslog_loose.specs.declared.variant.Variant.{Variant}
 use Rattle.syslog_loose.specs.declared.variant.Variant.TheVariants.{Either}
+use Rattle.syslog_pieces.specs.Text.Canonical.{EndsVisibly}
+use Rattle.syslog_loose.specs.Canonical.{IsBounded, IsCanonical}
+use Rattle.syslog_loose.specs.Reading.{IsOnlyRead, IsRead, IsUnreadable, dash_rule}
+use Rattle.syslog_loose.specs.declared.fault.ParseFault.TheVariants.{Invalid, Memory}
 use Rattle.syslog_loose.proofs.ReadBackLemmas.{read_as, read_bounded, printed_exact}
 use Rattle.syslog_loose.proofs.PrintedLemmas.{priority_small}
 use Rattle.syslog_loose.proofs.Rfc5424Lemmas.{read_completed}
 use Rattle.syslog_loose.proofs.Rfc3164Lemmas.Near.{read_near}
-use Rattle.syslog_strict.specs.Conversion.{converted}
-use Rattle.syslog_strict.specs.Grammar.{IsSyslogMsg}
-use Rattle.syslog_strict.proofs.ElementLaws.{elements_back, elements_is}
+use Rattle.syslog_strict.specs.Call.{IsConvertedText}
+use Rattle.syslog_strict.specs.Conversion.{converted_value}
+use Rattle.syslog_strict.proofs.NameLaws.{IsStrictElement, IsStrictParam, converted_are, converted_distinct}
+use Rattle.syslog_strict.proofs.NameLaws.{element_back, elements_in, colonless_end, colonless_length, colonless_passes}
+use Rattle.syslog_strict.proofs.NameLaws.{lone_other, lone_passes, lone_short, elements_back, elements_is}
+use Rattle.syslog_strict.proofs.ElementLemmas.{elements_some}
+use Rattle.syslog_strict.proofs.TextLemmas.{cleaned_passes, cleaned_same, cleaned_short, colonless_same, text_eq_true}
+use Rattle.syslog_strict.proofs.StampLemmas.{stamp_back, stamp_is, one}
 use Rattle.syslog_strict.proofs.NameLaws as names
-use Rattle.syslog_strict.proofs.StampLaws.{stamp_back, stamp_is}
-use Rattle.syslog_strict.proofs.StampLemmas.{one}
+
+-- ---- what was converted is converted to the same text again
+no_text : (t u : Text) → t ≢ u → text_eq t u ≡ false
+no_text t u other = elim (cases_Bool (text_eq t u)) [ inl e ↦ absurd (other (text_eq_true t u e)) | inr e ↦ e ]
+
+-- ---- names
+
+-- a text that the cleaning f leaves as it is, named, is left as it is
+named_again : (t : Text) (f : Text → Text) → f t ≡ t → option_and_then (λ x. named (f x)) (named t) ≡ named t
+named_again [] f same = refl
+named_again (c ∷ t) f same = elim (cases_Bool (text_eq (c ∷ t) dash)) [
+  | inl e ↦ rw e refl
+  | inr e ↦ rw e (ap named same ∙ rw e refl)
+]
+
+pub host_again : (v : Option Text)
+    → option_and_then converted_host (option_and_then converted_host v) ≡ option_and_then converted_host v
+host_again None = refl
+host_again (Some t) =
+    let u = cleaned is_printusascii 255 t in
+    let w = without_last_colon u in
+    let each = colonless_passes u (cleaned_passes is_printusascii 255 t refl) in
+    let short = cleaned_short is_printusascii 255 t in
+    let same = colonless_length u in
+    named_again w (λ x. without_last_colon (cleaned is_printusascii 255 x))
+    (ap without_last_colon (cleaned_same is_printusascii 255 w each (omega (arith, short, same)))
+    ∙ colonless_same w (λ front e. colonless_end u front e))
+
+lone_same : (t : Text) → t ≢ colon → without_lone_colon t ≡ t
+lone_same t other = elim (cases_Bool (text_eq t colon)) [
+  | inl e ↦ absurd (other (text_eq_true t colon e))
+  | inr e ↦ rw e refl
+]
+
+word_text_again : (most : ℕ) (t : Text) → 0 < most → option_and_then (converted_word most) (converted_word most t) ≡ converted_word most t
+word_text_again most t h =
+    let u = cleaned is_printusascii most t in
+    let w = without_lone_colon u in
+    named_again w (λ x. without_lone_colon (cleaned is_printusascii most x))
+    (ap without_lone_colon (cleaned_same is_printusascii most w (lone_passes u (cleaned_passes is_printusascii most t refl))
+    (lone_short most u h (cleaned_short is_printusascii most t)))
+    ∙ lone_same w (lone_other u))
+
+pub word_again : (most : ℕ) (v : Option Text) → 0 < most
+    → option_and_then (converted_word most) (option_and_then (converted_word most) v) ≡ option_and_then (converted_word most) v
+word_again most None h = refl
+word_again most (Some t) h = word_text_again most t h
+
+-- a process id that a word names
+named_process_again : (u : Text) (p : ProcId Text) → named_process u ≡ p → NamesProcess u p → converted_word 128 u ≡ Some u
+    → converted_process p ≡ Some p
+named_process_again u (PID n) is names same = refl
+named_process_again u (Name t) is names same =
+    ap (λ (x : Text). option_map named_process (converted_word 128 x)) names.1 ∙ ap (option_map named_process) same ∙ ap Some is
+
+word_process_again : (v : Option Text) → option_and_then (converted_word 128) v ≡ v
+    → option_and_then converted_process (option_map named_process v) ≡ option_map named_process v
+word_process_again None same = refl
+word_process_again (Some u) same = named_process_again u (named_process u) refl (named_names u) same
+
+-- a word of several characters of the grammar that is printed as what it names
+pub bare_stays : (t : Text) → 1 < length t → cleaned is_printusascii 128 t ≡ t → IsBareWord t
+    → process_text (converted_process (named_process t)) ≡ t
+bare_stays [] long same bare = absurd (omega arith)
+bare_stays (c ∷ []) long same bare = absurd (omega arith)
+bare_stays (c ∷ d ∷ t) long same bare =
+    let u : Text = c ∷ d ∷ t in
+    let kept : converted_word 128 u ≡ Some u = ap (λ (x : Text). named (without_lone_colon x)) same
+    ∙ ap named (lone_same u (λ e. cc)) ∙ rw (no_text u dash (λ e. cc)) refl in
+    ap process_text (named_process_again u (named_process u) refl (named_names u) kept)
+    ∙ bare_prints u (named_process u) (omega arith) bare (named_names u)
+
+pub process_again : (v : Option (ProcId Text))
+    → option_and_then converted_process (option_and_then converted_process v) ≡ option_and_then converted_process v
+process_again None = refl
+process_again (Some (PID n)) = refl
+process_again (Some (Name t)) = word_process_again (converted_word 128 t) (word_text_again 128 t (omega arith))
+
+-- ---- structured data
+
+mark_same : (t : Text) → 0 < length t → or_mark t ≡ t
+mark_same [] h = absurd (omega arith)
+mark_same (c ∷ t) h = refl
+
+name_same : (t : Text) → IsSdName t → converted_name t ≡ t
+name_same t is = ap (cleaned is_sd_char 32) (mark_same t is.0) ∙ cleaned_same is_sd_char 32 t is.2 is.1
+
+taken : (b : Bool) (x y : Text) → b ≡ true → (if b then x else y) ≡ x
+taken b x y e = rw e refl
+
+left : (b : Bool) (x y : Text) → b ≡ false → (if b then x else y) ≡ y
+left b x y e = rw e refl
+
+plain_char : (c : ℕ) → is_escaped c ≡ false → nat_eq c 92 ≡ false
+plain_char c h = grind (arith, nat_tests)
+
+pieces_same : (pieces : List Text) → AllByRecursion IsValuePiece pieces → escaped_from false (join pieces) ≡ join pieces
+pieces_same [] each = refl
+pieces_same (piece ∷ pieces) (inl (c, escapes, e), each) =
+    ap (λ (x : Text). escaped_from false (x ++ join pieces)) e
+    ∙ taken (is_escaped c) _ _ escapes ∙ ap (λ (x : Text). 92 ∷ c ∷ x) (pieces_same pieces each)
+    ∙ ap (λ (x : Text). x ++ join pieces) (sym e)
+pieces_same (piece ∷ pieces) (inr (c, plain, e), each) =
+    ap (λ (x : Text). escaped_from false (x ++ join pieces)) e
+    ∙ left (nat_eq c 92) _ _ (plain_char c plain) ∙ left (is_escaped c) _ _ plain
+    ∙ ap (λ (x : Text). c ∷ x) (pieces_same pieces each) ∙ ap (λ (x : Text). x ++ join pieces) (sym e)
+
+value_same : (t : Text) → IsParamValue t → converted_value t ≡ t
+value_same t (pieces, each, e) = ap (escaped_from false) e ∙ pieces_same pieces each ∙ sym e
+
+pair_same : {A B : Type 0} (x y : A × B) → x.0 ≡ y.0 → x.1 ≡ y.1 → x ≡ y
+pair_same (a, b) (c, d) e f = cc
+
+params_same : (ps : List (Text × Text)) → AllByRecursion IsStrictParam ps → map converted_param ps ≡ ps
+params_same [] each = refl
+params_same (p ∷ ps) each = ap₂ (λ (x : Text × Text) (y : List (Text × Text)). x ∷ y)
+    (pair_same (converted_param p) p (name_same p.0 each.0.0) (value_same p.1 each.0.1)) (params_same ps each.1)
+
+element_same : (e : ElementValue) → IsStrictElement e → converted_element e ≡ e
+element_same e is = λ i. record { id = name_same e.id is.0 i; params = params_same e.params is.1 i }
+
+elements_same : (es : List ElementValue) → AllByRecursion IsStrictElement es → map converted_element es ≡ es
+elements_same [] each = refl
+elements_same (e ∷ es) each =
+    ap₂ (λ (x : ElementValue) (y : List ElementValue). x ∷ y) (element_same e each.0) (elements_same es each.1)
+
+pick_false : (b : Bool) (xs ys : List (Text × Text)) → b ≡ false → (if b then xs else ys) ≡ ys
+pick_false b xs ys e = rw e refl
+
+-- no parameters of an id that none of the elements has
+no_params : (id : Text) (es : List ElementValue) → AllByRecursion (λ u. u ≢ id) (map (λ (e : ElementValue). e.id) es)
+    → params_of id es ≡ []
+no_params id [] others = refl
+no_params id (e ∷ es) others = pick_false (text_eq e.id id) _ _ (no_text e.id id others.0) ∙ no_params id es others.1
+
+among_more : (u t : Text) (ts : List Text) → is_among u ts ≡ false → t ≢ u → is_among u (ts ++ t ∷ []) ≡ false
+among_more u t [] none other = rw (no_text t u other) refl
+among_more u t (s ∷ ts) none other = elim (cases_Bool (text_eq s u)) [
+  | inl e ↦ absurd (let off = rw e at none in let no : true ≡ false = off in cc)
+  | inr e ↦ rw e (among_more u t ts (rw e at none) other)
+]
+
+all_more : (ids : List Text) (id : Text) (es : List ElementValue)
+    → AllByRecursion (λ (e : ElementValue). is_among e.id ids ≡ false) es
+    → AllByRecursion (λ u. u ≢ id) (map (λ (e : ElementValue). e.id) es)
+    → AllByRecursion (λ (e : ElementValue). is_among e.id (ids ++ id ∷ []) ≡ false) es
+all_more ids id [] new others = tt
+all_more ids id (e ∷ es) new others =
+    (among_more e.id id ids new.0 (λ same. others.0 (sym same)), all_more ids id es new.1 others.1)
+
+pick_elements_false : (b : Bool) (xs ys : List ElementValue) → b ≡ false → (if b then xs else ys) ≡ ys
+pick_elements_false b xs ys e = rw e refl
+
+joined_same : (ids : List Text) (es : List ElementValue)
+    → AllByRecursion (λ (e : ElementValue). is_among e.id ids ≡ false) es
+    → AreDistinct (map (λ (e : ElementValue). e.id) es) → joined_past ids es ≡ es
+joined_same ids [] new apart = refl
+joined_same ids (e ∷ es) new apart =
+    pick_elements_false (is_among e.id ids) _ _ new.0
+    ∙ ap₂ (λ (x : ElementValue) (y : List ElementValue). x ∷ y)
+    (ap (λ (x : List (Text × Text)). record e { params = e.params ++ x }) (no_params e.id es apart.0)
+    ∙ ap (λ (x : List (Text × Text)). record e { params = x }) (append-nil e.params))
+    (joined_same (ids ++ e.id ∷ []) es (all_more ids e.id es new.1 apart.0) apart.1)
+
+none_among : (es : List ElementValue) → AllByRecursion (λ (e : ElementValue). is_among e.id [] ≡ false) es
+none_among [] = tt
+none_among (e ∷ es) = (refl, none_among es)
+
+-- elements in the grammar of which no id comes twice
+distinct_again : (es : List ElementValue) → AllByRecursion IsStrictElement es
+    → AreDistinct (map (λ (e : ElementValue). e.id) es) → converted_elements es ≡ es
+distinct_again es are apart = ap (joined_past []) (elements_same es are) ∙ joined_same [] es (none_among es) apart
+
+pub elements_again : (es : List ElementValue) → converted_elements (converted_elements es) ≡ converted_elements es
+elements_again es = distinct_again (converted_elements es) (converted_are es) (converted_distinct es)
+
+-- canonical elements, if their text is such elements: then they are these
+pub strict_stay : (es : List ElementValue) → AllByRecursion IsCanonicalElement es → BeginsDistinct (elements_text es) []
+    → elements_text (converted_elements es) ≡ elements_text es
+strict_stay es canonical (ids, some, begins, apart) =
+    let (ds, are, same, texts) = elements_in begins.elements begins.each in
+    let ids_are = same ∙ begins.have in
+    let long : 0 < length ds = omega (arith, ap length ids_are, length-map {A = ElementValue} {B = Text}) in
+    let text : elements_text es ≡ elements_text ds = begins.whole ∙ append-nil _ ∙ texts ∙ sym (elements_some ds (λ e. (let k = ap length e in omega arith))) in
+    let here : es ≡ ds = (forgiving_det _ [] _ [] es ds (ap (λ (t : Text). t ++ []) text)
+    (forgiving_back es [] canonical no_item_nil) (forgiving_back ds [] (all_map element_back ds are) no_item_nil)).1 in
+    rw here (ap elements_text (distinct_again ds are (subst AreDistinct (sym ids_are) apart)))
+
+-- ---- timestamps
+
+micros_again : (n : ℤ) → micros (micros n) ≡ micros n
+micros_again n =
+    let first = int_rem_euclid-parts n 1_000 (omega arith) in
+    let second = int_rem_euclid-parts (micros n) 1_000 (omega arith) in
+    omega (arith, signed_arith, first, second)
+
+-- whether the grammar has a text for the instant n at the offset o
+abbrev text_at : ℤ → ℤ → Bool
+text_at n o = is_four_digits (civil_fields (n +ℤ nanos_of_seconds o)).year && (unsigned_abs o % 60 == 0)
+    && nat_lt (unsigned_abs o) 86_400
+
+pick_stamp : (b : Bool) (x y : Option OffsetTimestamp) → b ≡ true → (if b then x else y) ≡ x
+pick_stamp b x y e = rw e refl
+
+-- a timestamp of whole microseconds that has a text
+stamp_same : (t : OffsetTimestamp) → micros t.instant.nanosecond ≡ t.instant.nanosecond → has_text t ≡ true
+    → timestamp_text (converted_stamp t) ≡ timestamp_text (Some t)
+stamp_same t whole h =
+    let own : has_text (cut_stamp t) ≡ true = ap (λ (n : ℤ). text_at n t.offset.seconds) whole ∙ h in
+    ap timestamp_text (pick_stamp (has_text (cut_stamp t)) _ _ own)
+    ∙ ap (λ (n : ℤ). printed_stamp n t.offset.seconds) whole
+
+chosen_again : (s : OffsetTimestamp) (own utc : Bool) → has_text (cut_stamp s) ≡ own → has_text (in_utc (cut_stamp s)) ≡ utc
+    → timestamp_text (option_and_then converted_stamp (converted_stamp s)) ≡ timestamp_text (converted_stamp s)
+chosen_again s true utc h k = rw h (stamp_same (cut_stamp s) (micros_again s.instant.nanosecond) h)
+chosen_again s false true h k = rw (h, k) (stamp_same (in_utc (cut_stamp s)) (micros_again s.instant.nanosecond) k)
+chosen_again s false false h k = rw (h, k) refl
+
+pub stamp_again : (v : Option OffsetTimestamp)
+    → timestamp_text (option_and_then converted_stamp (option_and_then converted_stamp v))
+    ≡ timestamp_text (option_and_then converted_stamp v)
+stamp_again None = refl
+stamp_again (Some s) = chosen_again s _ _ refl refl
+
+-- ---- messages
+
+pub printed_again : (m : MessageValue) → printed (converted (converted m)) ≡ printed (converted m)
+unfolding printed_5424
+printed_again m =
+    rw (
+      stamp_again m.timestamp,
+      host_again m.hostname,
+      word_again 48 m.appname (omega arith),
+      process_again m.procid,
+      word_again 32 m.msgid (omega arith),
+      elements_again m.structured_data,
+    ) refl
+
+-- what is written of a converted text is that text
+pub text_stays : (variant : Variant) (dating receiver : Dating) (input text again : Text) → IsConvertedText variant dating input text
+    → (IsSyslogMsg text × (again ≡ text)) ⊎ IsConvertedText Either receiver text again → again ≡ text
+text_stays variant dating receiver input text again first (inl (valid, e)) = e
+text_stays variant dating receiver input text again first (inr second) =
+    let same = second.read.only (converted first.message) (first.again receiver) in
+    second.prints ∙ ap (λ (x : MessageValue). printed (converted x)) (sym same) ∙ printed_again first.message ∙ sym first.prints
 
 -- ---- in the grammar
 

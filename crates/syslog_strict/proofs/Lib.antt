@@ -1,14 +1,8 @@
-pub mod ElementLemmas
-pub mod AgainLaws
 pub mod ConversionLaws
-pub mod ElementLaws
-pub mod JoinedLemmas
-pub mod LineLemmas
+pub mod ElementLemmas
 pub mod NameLaws
+pub mod Words
 pub mod OnlyLemmas
-pub mod IdLemmas
-pub mod SeenLemmas
 pub mod StampLemmas
-pub mod StampLaws
 pub mod TextLemmas
 pub mod ValidLemmas

@@ -1,26 +1,32 @@
--- Converted names are in the grammar, and are read back from their printed text.
-use Rattle.std.proofs.Common.{◌≡◌, ◌≢◌, inl, inr, ℕ, ℤ, pos, negsuc, suc, ◌<◌, ◌≤◌, ◌^◌, true, false, [], ◌∷◌, ◌++◌}
-use Rattle.std.proofs.Common.{length, Option, Some, None, IfSome, refl, sym, ap, ◌∙◌, arith, FitsSigned, w32}
-use Rattle.std.proofs.lemmas.Bool.{cases_Bool}
-use Rattle.std.proofs.lemmas.Bool.Decides.{nat_tests}
-use Rattle.std.specs.Char.{is_ascii_digit, is_not_whitespace}
-use Rattle.std.specs.Cmp.Lexicographic.{bytes_decides}
-use Rattle.std.specs.Fmt.{decimal, signed_decimal}
-use Rattle.std.specs.Option.{option_and_then, option_map}
-use Rattle.syslog_pieces.specs.Pieces.Class.{Text, Each}
-use Rattle.syslog_pieces.specs.Pieces.View.{text_eq}
-use Rattle.syslog_pieces.specs.ProcId.{IsBoundedProcess, IsCanonicalProcess, NamesProcess, named_process, procid_text, process_text}
-use Rattle.syslog_pieces.specs.Text.{colon, dash, name_text}
+-- Converted names and elements are in the grammar, and are read back from their printed text.
+use Rattle.syslog_strict.proofs.Words.{◌≡◌, ◌≢◌, inl, inr, ℕ, ℤ, pos, negsuc, suc, ◌<◌, ◌≤◌, true, false, [], ◌∷◌, ◌++◌}
+use Rattle.syslog_strict.proofs.Words.{length, Option, Some, None, IfSome, refl, sym, ap, ◌∙◌, arith, Bool, List, map}
+use Rattle.syslog_strict.proofs.Words.{ap₂, subst, nat_eq, if◌then◌else◌, cases_Bool, nat_tests, is_ascii_digit}
+use Rattle.syslog_strict.proofs.Words.{bytes_decides, decimal, signed_decimal, option_and_then, option_map, ◌||◌}
+use Rattle.syslog_strict.proofs.Words.{AllByRecursion, flat_map, Text, Each, Ends, join, text_eq, IsBoundedProcess}
+use Rattle.syslog_strict.proofs.Words.{NamesProcess, named_process, procid_text, process_text, colon, dash, name_text}
+use Rattle.syslog_strict.proofs.Words.{is_blank, ProcId, PID, Name, heads, all_append, all_map, named_names}
+use Rattle.syslog_strict.proofs.Words.{IsCanonicalElement, ElementValue, element_text, elements_text, joined_elements}
+use Rattle.syslog_strict.proofs.Words.{param_text, cleaned, converted_host, converted_process, converted_word}
+use Rattle.syslog_strict.proofs.Words.{kept_char, named, no_colon, without_last_colon, without_lone_colon}
+use Rattle.syslog_strict.proofs.Words.{converted_element, converted_elements, converted_name, converted_param}
+use Rattle.syslog_strict.proofs.Words.{escaped_from, is_among, joined_past, or_mark, params_of, is_printusascii}
+use Rattle.syslog_strict.proofs.Words.{AreDistinct, IsParamValue, IsSdElement, IsSdName, IsSdParam, IsStructuredData}
+use Rattle.syslog_strict.proofs.Words.{IsValuePiece, is_escaped, is_sd_char}
+use Rattle.std.proofs.Common.{◌^◌, FitsSigned, w32}
+use Rattle.std.specs.Char.{is_not_whitespace}
+use Rattle.syslog_pieces.specs.ProcId.{IsCanonicalProcess}
 use Rattle.syslog_pieces.specs.Text.Canonical.{IsCanonicalHost, IsCanonicalWord}
-use Rattle.syslog_pieces.specs.declared.procid.ProcId.{ProcId}
-use Rattle.syslog_pieces.specs.declared.procid.ProcId.TheVariants.{PID, Name}
-use Rattle.syslog_pieces.proofs.PieceLemmas.Class.{each_map, heads}
-use Rattle.syslog_pieces.proofs.ProcIdLemmas.{named_names}
+use Rattle.syslog_pieces.proofs.PieceLemmas.Class.{each_map}
 use Rattle.syslog_pieces.proofs.TextLemmas.Words.{ten_long, decimal_digits}
-use Rattle.syslog_strict.specs.Conversion.{cleaned, converted_host, converted_process, converted_word, kept_char, named, no_colon}
-use Rattle.syslog_strict.specs.Conversion.{without_last_colon, without_lone_colon}
-use Rattle.syslog_strict.specs.Grammar.{IsSomeOf, is_printusascii}
-use Rattle.syslog_strict.proofs.TextLemmas.{cleaned_passes, cleaned_short, kept_as, lost_as}
+use Rattle.syslog_pieces.specs.StructuredData.{IsValue, IsValueUnit}
+use Rattle.syslog_pieces.specs.StructuredData.Canonical.{IsCanonicalParam, BeginsUnblank}
+use Rattle.syslog_pieces.specs.StructuredData.Escapes.{TextUnit, pair, single, unit_text}
+use Rattle.syslog_pieces.specs.Text.CharClass.{is_id_char, is_name_char}
+use Rattle.syslog_strict.specs.Grammar.{IsSomeOf}
+use Rattle.syslog_strict.proofs.TextLemmas.{cleaned_passes, cleaned_short, kept_as, lost_as, cleaned_some}
+
+-- ---- converted names are in the grammar, and are read back from their printed text
 
 -- what is left of a name that isn't empty
 long : (c : ℕ) (t : Text) → 0 < length (c ∷ t)
@@ -206,3 +212,258 @@ pub process_bounded : (v : Option (ProcId Text)) → IfSome v IsBoundedProcess
 process_bounded None b = tt
 process_bounded (Some (PID n)) b = b
 process_bounded (Some (Name t)) b = word_process_bounded (converted_word 128 t)
+
+-- ---- names
+
+mark_some : (t : Text) → or_mark t ≢ []
+mark_some [] e = cc
+mark_some (c ∷ t) e = cc
+
+pub name_is : (t : Text) → IsSdName (converted_name t)
+name_is t = (
+  some_long _ (cleaned_some is_sd_char 32 (or_mark t) (omega arith) (mark_some t)),
+  cleaned_short is_sd_char 32 (or_mark t),
+  cleaned_passes is_sd_char 32 (or_mark t) refl,
+)
+
+-- ---- values
+
+-- what holds of both holds of the one that is taken
+pick : (b : Bool) (x y : Text) (P : Text → Type 0) → (b ≡ true → P x) → (b ≡ false → P y) → P (if b then x else y)
+pick true x y P f g = f refl
+pick false x y P f g = g refl
+
+value_on : (piece t : Text) → IsValuePiece piece → IsParamValue t → IsParamValue (piece ++ t)
+value_on piece t is (pieces, each, e) = (piece ∷ pieces, (is, each), ap (λ (x : Text). piece ++ x) e)
+
+backslash : IsValuePiece (92 ∷ 92 ∷ [])
+backslash = inl (92, refl, refl)
+
+after_backslash : (c : ℕ) (t : Text) → IsParamValue t
+    → IsParamValue (if is_escaped c then 92 ∷ c ∷ t else 92 ∷ 92 ∷ c ∷ t)
+after_backslash c t is = pick (is_escaped c) _ _ IsParamValue (λ e. value_on (92 ∷ c ∷ []) t (inl (c, e, refl)) is)
+    (λ e. value_on (92 ∷ 92 ∷ []) (c ∷ t) backslash (value_on (c ∷ []) t (inr (c, e, refl)) is))
+
+pub escaped_is : (after : Bool) (t : Text) → IsParamValue (escaped_from after t)
+escaped_is false [] = ([], tt, refl)
+escaped_is true [] = ((92 ∷ 92 ∷ []) ∷ [], (backslash, tt), refl)
+escaped_is false (c ∷ t) = pick (nat_eq c 92) _ _ IsParamValue (λ e. escaped_is true t)
+    (λ e. pick (is_escaped c) _ _ IsParamValue
+    (λ f. value_on (92 ∷ c ∷ []) _ (inl (c, f, refl)) (escaped_is false t))
+    (λ f. value_on (c ∷ []) _ (inr (c, f, refl)) (escaped_is false t)))
+escaped_is true (c ∷ t) = after_backslash c (escaped_from false t) (escaped_is false t)
+
+-- the units of such a value
+plain_unit : (c : ℕ) → is_escaped c ≡ false → (c ≢ 92) × (c ≢ 34)
+plain_unit c h = (grind (arith, nat_tests), grind (arith, nat_tests))
+
+value_units : (pieces : List Text) → AllByRecursion IsValuePiece pieces
+    → (units : List TextUnit) × (join pieces ≡ flat_map unit_text units) × AllByRecursion IsValueUnit units
+value_units [] each = ([], refl, tt)
+value_units (piece ∷ pieces) (inl (c, escapes, e), each) =
+    let (units, same, are) = value_units pieces each in
+    (pair c ∷ units, ap₂ (λ (x y : Text). x ++ y) e same, (tt, are))
+value_units (piece ∷ pieces) (inr (c, plain, e), each) =
+    let (units, same, are) = value_units pieces each in
+    (single c ∷ units, ap₂ (λ (x y : Text). x ++ y) e same, (plain_unit c plain, are))
+
+value_back : (t : Text) → IsParamValue t → IsValue t
+value_back t (pieces, each, e) = let (units, same, are) = value_units pieces each in (units, e ∙ same, are)
+
+-- ---- elements
+
+-- a name and a value of the grammar
+abbrev pub IsStrictParam : Text × Text → Type 0
+IsStrictParam p = IsSdName p.0 × IsParamValue p.1
+
+abbrev pub IsStrictElement : ElementValue → Type 0
+IsStrictElement e = IsSdName e.id × AllByRecursion IsStrictParam e.params
+
+params_are : (ps : List (Text × Text)) → AllByRecursion IsStrictParam (map converted_param ps)
+params_are [] = tt
+params_are (p ∷ ps) = ((name_is p.0, escaped_is false p.1), params_are ps)
+
+elements_are : (es : List ElementValue) → AllByRecursion IsStrictElement (map converted_element es)
+elements_are [] = tt
+elements_are (e ∷ es) = ((name_is e.id, params_are e.params), elements_are es)
+
+pick_params : (b : Bool) (xs ys : List (Text × Text)) → AllByRecursion IsStrictParam xs → AllByRecursion IsStrictParam ys
+    → AllByRecursion IsStrictParam (if b then xs else ys)
+pick_params true xs ys each other = each
+pick_params false xs ys each other = other
+
+params_of_are : (id : Text) (es : List ElementValue) → AllByRecursion IsStrictElement es
+    → AllByRecursion IsStrictParam (params_of id es)
+params_of_are id [] each = tt
+params_of_are id (e ∷ es) each =
+    let rest = params_of_are id es each.1 in
+    pick_params (text_eq e.id id) _ _ (all_append IsStrictParam e.params (params_of id es) each.0.1 rest) rest
+
+pick_elements : (b : Bool) (P : List ElementValue → Type 0) (xs ys : List ElementValue) → (b ≡ true → P xs) → (b ≡ false → P ys)
+    → P (if b then xs else ys)
+pick_elements true P xs ys f g = f refl
+pick_elements false P xs ys f g = g refl
+
+joined_are : (ids : List Text) (es : List ElementValue) → AllByRecursion IsStrictElement es
+    → AllByRecursion IsStrictElement (joined_past ids es)
+joined_are ids [] each = tt
+joined_are ids (e ∷ es) each =
+    pick_elements (is_among e.id ids) (AllByRecursion IsStrictElement) _ _ (λ h. joined_are ids es each.1)
+    (λ h. (
+      (each.0.0, all_append IsStrictParam e.params (params_of e.id es) each.0.1 (params_of_are e.id es each.1)),
+      joined_are (ids ++ e.id ∷ []) es each.1,
+    ))
+
+-- ---- no id comes twice
+
+or_false : (a b : Bool) → (a || b) ≡ false → (a ≡ false) × (b ≡ false)
+or_false true b h = cc
+or_false false b h = (refl, h)
+
+apart : (u t : Text) (ts : List Text) → is_among u (ts ++ t ∷ []) ≡ false → (is_among u ts ≡ false) × (text_eq t u ≡ false)
+apart u t [] h = (refl, (or_false (text_eq t u) false h).0)
+apart u t (s ∷ ts) h =
+    let (first, more) = or_false (text_eq s u) (is_among u (ts ++ t ∷ [])) h in
+    let (none, last) = apart u t ts more in
+    (rw first none, last)
+
+new_ids : (ids : List Text) (es : List ElementValue)
+    → AllByRecursion (λ (e : ElementValue). is_among e.id ids ≡ false) (joined_past ids es)
+new_ids ids [] = tt
+new_ids ids (e ∷ es) =
+    pick_elements (is_among e.id ids) (AllByRecursion (λ (d : ElementValue). is_among d.id ids ≡ false)) _ _
+    (λ h. new_ids ids es)
+    (λ h. (h, all_map (λ d k. (apart d.id e.id ids k).0) (joined_past (ids ++ e.id ∷ []) es) (new_ids (ids ++ e.id ∷ []) es)))
+
+all_ids : (P : Text → Type 0) (es : List ElementValue) → AllByRecursion (λ (e : ElementValue). P e.id) es
+    → AllByRecursion P (map (λ (e : ElementValue). e.id) es)
+all_ids P [] each = tt
+all_ids P (e ∷ es) each = (each.0, all_ids P es each.1)
+
+other_text : (t u : Text) → text_eq t u ≡ false → u ≢ t
+other_text t u h e = no_text_eq t u h (sym e)
+
+distinct : (ids : List Text) (es : List ElementValue) → AreDistinct (map (λ (e : ElementValue). e.id) (joined_past ids es))
+distinct ids [] = tt
+distinct ids (e ∷ es) =
+    pick_elements (is_among e.id ids) (λ xs. AreDistinct (map (λ (d : ElementValue). d.id) xs)) _ _
+    (λ h. distinct ids es)
+    (λ h. (
+      all_ids (λ u. u ≢ e.id) (joined_past (ids ++ e.id ∷ []) es)
+          (all_map (λ (d : ElementValue) k. other_text e.id d.id (apart d.id e.id ids k).1) (joined_past (ids ++ e.id ∷ []) es) (new_ids (ids ++ e.id ∷ []) es)),
+      distinct (ids ++ e.id ∷ []) es,
+    ))
+
+pub converted_are : (es : List ElementValue) → AllByRecursion IsStrictElement (converted_elements es)
+converted_are es = joined_are [] (map converted_element es) (elements_are es)
+
+pub converted_distinct : (es : List ElementValue) → AreDistinct (map (λ (e : ElementValue). e.id) (converted_elements es))
+converted_distinct es = distinct [] (map converted_element es)
+
+-- ---- the text of elements
+
+joined_texts : {A : Type 0} (f : A → Text) (xs : List A) → flat_map f xs ≡ join (map f xs)
+joined_texts f [] = refl
+joined_texts f (x ∷ xs) = ap (λ (t : Text). f x ++ t) (joined_texts f xs)
+
+param_texts : (ps : List (Text × Text)) → AllByRecursion IsStrictParam ps → AllByRecursion IsSdParam (map param_text ps)
+param_texts [] each = tt
+param_texts (p ∷ ps) each = ((p.0, p.1, each.0.0, each.0.1, refl), param_texts ps each.1)
+
+element_is : (e : ElementValue) → IsStrictElement e → IsSdElement e.id (element_text e)
+element_is e is = (
+  map param_text e.params,
+  is.0,
+  param_texts e.params is.1,
+  ap (λ (t : Text). 91 ∷ (e.id ++ (t ++ (93 ∷ [])))) (joined_texts param_text e.params),
+)
+
+-- an element's id and its text
+abbrev id_text : ElementValue → Text × Text
+id_text e = (e.id, element_text e)
+
+texts_are : (es : List ElementValue) → AllByRecursion IsStrictElement es
+    → AllByRecursion (λ (p : Text × Text). IsSdElement p.0 p.1) (map id_text es)
+texts_are [] each = tt
+texts_are (e ∷ es) each = (element_is e each.0, texts_are es each.1)
+
+ids_same : (es : List ElementValue) → map (λ (e : ElementValue). e.id) es ≡ map (λ (p : Text × Text). p.0) (map id_text es)
+ids_same [] = refl
+ids_same (e ∷ es) = ap (λ (ts : List Text). e.id ∷ ts) (ids_same es)
+
+texts_same : (es : List ElementValue) → joined_elements es ≡ join (map (λ (p : Text × Text). p.1) (map id_text es))
+texts_same [] = refl
+texts_same (e ∷ es) = ap (λ (t : Text). element_text e ++ t) (texts_same es)
+
+data_is : (es : List ElementValue) → AllByRecursion IsStrictElement es → AreDistinct (map (λ (e : ElementValue). e.id) es)
+    → IsStructuredData (elements_text es)
+data_is [] each apart_ids = inl refl
+data_is (e ∷ es) each apart_ids = inr (
+  map id_text (e ∷ es),
+  omega arith,
+  texts_are (e ∷ es) each,
+  subst AreDistinct (ids_same (e ∷ es)) apart_ids,
+  texts_same (e ∷ es),
+)
+
+pub elements_is : (es : List ElementValue) → IsStructuredData (elements_text (converted_elements es))
+elements_is es = data_is (converted_elements es) (joined_are [] (map converted_element es) (elements_are es))
+    (distinct [] (map converted_element es))
+
+-- ---- elements of the grammar, by their texts
+
+-- parameters that have these texts
+params_in : (ts : List Text) → AllByRecursion IsSdParam ts
+    → (ps : List (Text × Text)) × AllByRecursion IsStrictParam ps × (join ts ≡ flat_map param_text ps)
+params_in [] each = ([], tt, refl)
+params_in (t ∷ ts) ((name, value, is, valued, e), each) =
+    let (ps, are, same) = params_in ts each in
+    ((name, value) ∷ ps, ((is, valued), are), ap₂ (λ (x y : Text). x ++ y) e same)
+
+-- elements that have these ids and texts
+pub elements_in : (ts : List (Text × Text)) → AllByRecursion (λ (t : Text × Text). IsSdElement t.0 t.1) ts
+    → (es : List ElementValue) × AllByRecursion IsStrictElement es
+    × (map (λ (e : ElementValue). e.id) es ≡ map (λ (t : Text × Text). t.0) ts)
+    × (join (map (λ (t : Text × Text). t.1) ts) ≡ joined_elements es)
+elements_in [] each = ([], tt, refl, refl)
+elements_in (t ∷ ts) ((params, is, are, e), each) =
+    let (ps, strict, inner) = params_in params are in
+    let (es, more, ids, texts) = elements_in ts each in (
+      record { id = t.0; params = ps } ∷ es,
+      ((is, strict), more),
+      ap (λ (x : List Text). t.0 ∷ x) ids,
+      ap₂ (λ (x y : Text). x ++ y) (e ∙ ap (λ (x : Text). 91 ∷ (t.0 ++ (x ++ (93 ∷ [])))) inner) texts,
+    )
+
+-- ---- read back
+
+sd_id : (c : ℕ) → is_sd_char c ≡ true → is_id_char c ≡ true
+sd_id c h = grind (arith, nat_tests)
+
+sd_name : (c : ℕ) → is_sd_char c ≡ true → is_name_char c ≡ true
+sd_name c h = grind (arith, nat_tests)
+
+sd_unblank : (c : ℕ) → is_sd_char c ≡ true → is_blank c ≡ false
+sd_unblank c h = grind (arith, nat_tests)
+
+param_back : (p : Text × Text) → IsStrictParam p → IsCanonicalParam p
+param_back p is = (is.0.0, each_map is_sd_char is_name_char sd_name p.0 is.0.2, value_back p.1 is.1)
+
+begins_unblank : (t : Text) → Each is_sd_char t → Ends is_blank t
+begins_unblank [] each = tt
+begins_unblank (c ∷ t) each = sd_unblank c each.0
+
+params_unblank : (ps : List (Text × Text)) → AllByRecursion IsStrictParam ps → BeginsUnblank ps
+params_unblank [] each = tt
+params_unblank (p ∷ ps) each = begins_unblank p.0 each.0.0.2
+
+pub element_back : (e : ElementValue) → IsStrictElement e → IsCanonicalElement e
+element_back e is = (
+  is.0.0,
+  each_map is_sd_char is_id_char sd_id e.id is.0.2,
+  all_map param_back e.params is.1,
+  params_unblank e.params is.1,
+)
+
+pub elements_back : (es : List ElementValue) → AllByRecursion IsCanonicalElement (converted_elements es)
+elements_back es = all_map element_back (converted_elements es) (joined_are [] (map converted_element es) (elements_are es))

@@ -1,29 +1,20 @@
 -- What the readers find is all that there is: from the left, each rule ends where the next one begins.
-use Rattle.std.proofs.Common.{◌≡◌, ◌≢◌, ◌⊎◌, inl, inr, ℕ, pos, ◌+◌, ◌-◌, ◌*◌, ◌/◌, ◌%◌, ◌<◌, ◌≤◌, Bool, true, false, List, [], ◌∷◌, ◌++◌, length}
-use Rattle.std.proofs.Common.{Option, Some, None, refl, sym, ap, ap₂, subst, ◌∙◌, arith, append_assoc}
+use Rattle.syslog_strict.proofs.Words.{◌≡◌, ◌≢◌, ◌⊎◌, inl, inr, ℕ, pos, ◌+◌, ◌-◌, ◌*◌, ◌/◌, ◌%◌, ◌<◌, ◌≤◌, Bool, true}
+use Rattle.syslog_strict.proofs.Words.{false, List, [], ◌∷◌, ◌++◌, length, Option, Some, None, refl, sym, ap, ap₂}
+use Rattle.syslog_strict.proofs.Words.{subst, ◌∙◌, arith, append_assoc, nat_tests, Bor, is_ascii_digit, decimal, chars}
+use Rattle.syslog_strict.proofs.Words.{signed_arith, IsCivilDate, pad2, SplitsRun, Text, Each, Ends, Front, join, shown}
+use Rattle.syslog_strict.proofs.Words.{number, is_inert_char, heads, one_digit, Begins, BeginsName, BeginsParams}
+use Rattle.syslog_strict.proofs.Words.{BeginsValue, BeginsElement, IsHeader, IsMarkedDigits, IsShort, IsTwoDigits, Only}
+use Rattle.syslog_strict.proofs.Words.{both, IsFullDate, IsPri, IsSdParam, IsTimeOffset, IsTimestamp, is_escaped}
+use Rattle.syslog_strict.proofs.Words.{is_printusascii, is_sd_char}
 use Rattle.std.proofs.lemmas.Bool.{cases_lt}
-use Rattle.std.proofs.lemmas.Bool.Decides.{nat_tests}
-use Rattle.std.specs.Borrow.{Bor}
-use Rattle.std.specs.Char.{is_ascii_digit}
-use Rattle.std.specs.Fmt.{decimal}
 use Rattle.std.specs.Prelude.{MatchOption}
-use Rattle.std.specs.Str.{chars}
 use Rattle.jiff_core.proofs.CalendarLemmas.{days_in_month_bounds}
-use Rattle.jiff_core.proofs.SignedLemmas.{signed_arith}
-use Rattle.jiff_core.specs.Calendar.{IsCivilDate}
-use Rattle.jiff_fmt.specs.Text.{pad2}
-use Rattle.syslog_pieces.specs.Bodies.Scan.{SplitsRun}
-use Rattle.syslog_pieces.specs.Pieces.Class.{Text, Each, Ends, Front, NoFront, join}
-use Rattle.syslog_pieces.specs.Pieces.View.{shown}
-use Rattle.syslog_pieces.specs.Text.{number}
-use Rattle.syslog_pieces.specs.Text.CharClass.{is_inert_char}
-use Rattle.syslog_pieces.proofs.PieceLemmas.Class.{heads, run_same}
+use Rattle.syslog_pieces.specs.Pieces.Class.{NoFront}
+use Rattle.syslog_pieces.proofs.PieceLemmas.Class.{run_same}
 use Rattle.syslog_pieces.proofs.TextLemmas.Runs.{ascii_chars, low_ascii}
-use Rattle.syslog_pieces.proofs.TextLemmas.Words.{digit_is, one_digit, two_digits, three_digits, number_back}
-use Rattle.syslog_strict.specs.Beginnings.{Begins, BeginsName, BeginsParams, BeginsSecfrac, BeginsTime, BeginsValue, Follows}
-use Rattle.syslog_strict.specs.Beginnings.{BeginsElement, IsHeader, IsMarkedDigits, IsShort, IsTwoDigits, Only, both, is_more_secfrac}
-use Rattle.syslog_strict.specs.Grammar.{IsFullDate, IsPri, IsSdParam, IsTimeOffset, IsTimestamp}
-use Rattle.syslog_strict.specs.Grammar.{is_escaped, is_printusascii, is_sd_char}
+use Rattle.syslog_pieces.proofs.TextLemmas.Words.{digit_is, two_digits, three_digits, number_back}
+use Rattle.syslog_strict.specs.Beginnings.{BeginsSecfrac, BeginsTime, Follows, is_more_secfrac}
 
 -- ---- readers one after the other
 
@@ -194,9 +185,6 @@ date_as text rest (piece, (year, month, day, civil, e), f) =
         };
       };
     }
-
-digit_more : (c : ℕ) → is_ascii_digit c ≡ true → is_more_secfrac c ≡ true
-digit_more c h = grind (arith, nat_tests)
 
 ends_digits : (t : Text) → Ends is_more_secfrac t → Ends is_ascii_digit t
 ends_digits [] h = tt

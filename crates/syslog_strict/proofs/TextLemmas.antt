@@ -1,25 +1,19 @@
--- Texts that grow, and cleaned texts.
-use Rattle.std.proofs.Common.{◌≡◌, ℕ, zero, suc, ◌-◌, ◌<◌, ◌≤◌, Bool, true, false, List, [], ◌∷◌, ◌++◌, length, map}
-use Rattle.std.proofs.Common.{Option, Some, None, ◌≢◌, ◌⊎◌, inl, inr, drop, take, Result, Ok, Err, refl, sym, ap, ap₂, subst, ◌∙◌, arith, append-nil, append_assoc, OnOk, MatchBool, cond, if◌then◌else◌}
-use Rattle.std.proofs.lemmas.Bool.{cases_Bool}
-use Rattle.std.proofs.lemmas.Bool.Decides.{nat_tests}
+-- Texts that are appended: cleaned, cut, one character after the other, and the pieces of a line.
+use Rattle.syslog_strict.proofs.Words.{◌≡◌, ℕ, suc, ◌-◌, ◌<◌, ◌≤◌, Bool, true, false, List, [], ◌∷◌, ◌++◌, length, map}
+use Rattle.syslog_strict.proofs.Words.{Option, Some, None, ◌≢◌, ◌⊎◌, inl, inr, drop, refl, sym, ap, ap₂, subst, ◌∙◌}
+use Rattle.syslog_strict.proofs.Words.{arith, append-nil, append_assoc, cond, if◌then◌else◌, cases_Bool, nat_tests}
+use Rattle.syslog_strict.proofs.Words.{chars-append, chars-IsAscii, chars-nil, IsAscii-cons, IsAscii-nil, encode_utf8}
+use Rattle.syslog_strict.proofs.Words.{chars, IsUtf8, IsAscii, bytes_decides, option_map, decimal, Text, Each, text_eq}
+use Rattle.syslog_strict.proofs.Words.{named_process, procid_text, process_text, colon, dash, name_text, heads}
+use Rattle.syslog_strict.proofs.Words.{MessageValue, priority_of, timestamp_text, cleaned, kept_char, named, no_colon}
+use Rattle.syslog_strict.proofs.Words.{without_last_colon, without_lone_colon, converted_host, converted_word}
+use Rattle.syslog_strict.proofs.Words.{is_printusascii, keeps, front_text}
+use Rattle.std.proofs.Common.{zero, take, Result, Ok, Err, OnOk, MatchBool}
 use Rattle.std.proofs.lemmas.List.{take_all, drop_all}
-use Rattle.std.proofs.lemmas.Str.{chars-append, chars-IsAscii, chars-nil, chars_past_char, IsUtf8-encode}
-use Rattle.std.proofs.lemmas.Str.Ascii.{IsAscii-cons, IsAscii-nil}
-use Rattle.std.specs.Char.{encode_utf8, IsScalar}
+use Rattle.std.proofs.lemmas.Str.{chars_past_char, IsUtf8-encode}
+use Rattle.std.specs.Char.{IsScalar}
 use Rattle.std.specs.Result.{is_ok}
-use Rattle.std.specs.Str.{chars, IsUtf8, IsAscii}
-use Rattle.syslog_pieces.specs.Pieces.Class.{Text, Each}
-use Rattle.std.specs.Cmp.Lexicographic.{bytes_decides}
-use Rattle.syslog_pieces.specs.Pieces.View.{text_eq}
-use Rattle.std.specs.Option.{option_map}
-use Rattle.syslog_pieces.specs.ProcId.{named_process, procid_text, process_text}
-use Rattle.syslog_pieces.specs.Text.{colon, dash, name_text}
-use Rattle.syslog_pieces.proofs.PieceLemmas.Class.{heads}
-use Rattle.syslog_strict.specs.Conversion.{cleaned, kept_char, named, no_colon, without_last_colon, without_lone_colon}
-use Rattle.syslog_strict.specs.Conversion.{converted_host, converted_word}
-use Rattle.syslog_strict.specs.Grammar.{is_printusascii}
-use Rattle.syslog_strict.specs.Pushing.{keeps}
+use Rattle.syslog_loose.specs.Printed.{elements_text, printed_5424}
 use Rattle.syslog_strict.specs.declared.text.Kept.{Kept}
 use Rattle.syslog_strict.specs.declared.text.Kept.TheVariants.{Printable, SdName}
 
@@ -42,19 +36,6 @@ one_char c s =
     ∙ ap (λ (y : List ℕ). c ∷ y) chars-nil
 
 -- ---- cleaned texts
-
-pub cleaned_step : (test : ℕ → Bool) (n : ℕ) (c : ℕ) (t : Text) → 0 < n
-    → cleaned test n (c ∷ t) ≡ kept_char test c ∷ cleaned test (n - 1) t
-cleaned_step test zero c t h = absurd (omega arith)
-cleaned_step test (suc n) c t h = ap (λ (k : ℕ). kept_char test c ∷ cleaned test k t) (omega arith)
-
--- a step of the copy, character by character
-pub cleaned_more : (test : ℕ → Bool) (n : ℕ) (c : ℕ) (old now start t more whole : Text) → 0 < n → t ≡ c ∷ more
-    → now ≡ old ++ (kept_char test c ∷ []) → old ++ cleaned test n t ≡ whole
-    → now ++ cleaned test (n - 1) more ≡ whole
-cleaned_more test n c old now start t more whole h e p i =
-    ap (λ (x : Text). x ++ cleaned test (n - 1) more) p ∙ append_assoc old (kept_char test c ∷ []) (cleaned test (n - 1) more)
-    ∙ ap (λ (x : Text). old ++ x) (sym (ap (cleaned test n) e ∙ cleaned_step test n c more h)) ∙ i
 
 kept_low : (kept : Kept) (c : ℕ) → keeps kept c ≡ true → c < 128
 kept_low Printable c h = grind (arith, nat_tests)
@@ -280,15 +261,29 @@ length_taken (suc n) (c ∷ t) = let short = length_taken n t in omega (arith, s
 pub cleaned_short : (test : ℕ → Bool) (most : ℕ) (t : Text) → length (cleaned test most t) ≤ most
 cleaned_short test most t = rw (length_mapped (kept_char test) (take most t)) (length_taken most t)
 
-mark_kept : (kept : Kept) → keeps kept 63 ≡ true
-mark_kept Printable = refl
-mark_kept SdName = refl
+-- ---- the pieces of a converted line, one after the other
+abbrev space : Text
+space = 32 ∷ []
 
--- a text that isn't empty, and that cleaning leaves as it is
-pub kept_is : (kept : Kept) (most : ℕ) (t : Text) (c : ℕ) (more : Text) → t ≡ c ∷ more → cleaned (keeps kept) most t ≡ t
-    → (0 < length t) × (length t ≤ most) × Each (keeps kept) t
-kept_is kept most t c more e same = (
-  omega (arith, ap length e),
-  subst (λ (x : Text). length x ≤ most) same (cleaned_short (keeps kept) most t),
-  subst (λ (x : Text). Each (keeps kept) x) same (cleaned_passes (keeps kept) most t (mark_kept kept)),
-)
+pieces : (front host app process id elements msg : Text)
+    → (((((((((((front ++ space) ++ host) ++ space) ++ app) ++ space) ++ process) ++ space) ++ id) ++ space) ++ elements) ++ space) ++ msg
+    ≡ front ++ (32 ∷ (host ++ (32 ∷ (app ++ (32 ∷ (process ++ (32 ∷ (id ++ (32 ∷ (elements ++ (32 ∷ msg)))))))))))
+pieces front host app process id elements msg = simp append_assoc refl
+
+front_before : (p stamp more : Text) → (60 ∷ (p ++ (62 ∷ (decimal 1 ++ (32 ∷ stamp))))) ++ more
+    ≡ 60 ∷ (p ++ (62 ∷ (decimal 1 ++ (32 ∷ (stamp ++ more)))))
+front_before p stamp more = simp append_assoc refl
+
+-- what was appended to no text, piece by piece, is the printed message
+pub line_joined : (m : MessageValue) (t0 t1 t2 t3 t4 t5 t6 t7 t8 t9 t10 t11 t12 t13 : Text) → t0 ≡ []
+    → t1 ≡ t0 ++ front_text (priority_of m) (timestamp_text m.timestamp) → t2 ≡ t1 ++ space
+    → t3 ≡ t2 ++ name_text m.hostname → t4 ≡ t3 ++ space → t5 ≡ t4 ++ name_text m.appname → t6 ≡ t5 ++ space
+    → t7 ≡ t6 ++ process_text m.procid → t8 ≡ t7 ++ space → t9 ≡ t8 ++ name_text m.msgid → t10 ≡ t9 ++ space
+    → t11 ≡ t10 ++ elements_text m.structured_data → t12 ≡ t11 ++ space → t13 ≡ t12 ++ m.msg
+    → t13 ≡ printed_5424 1 m
+unfolding printed_5424
+line_joined m t0 t1 t2 t3 t4 t5 t6 t7 t8 t9 t10 t11 t12 t13 e0 e1 e2 e3 e4 e5 e6 e7 e8 e9 e10 e11 e12 e13 =
+    rw (e13, e12, e11, e10, e9, e8, e7, e6, e5, e4, e3, e2, e1, e0)
+    (pieces (front_text (priority_of m) (timestamp_text m.timestamp)) (name_text m.hostname) (name_text m.appname)
+    (process_text m.procid) (name_text m.msgid) (elements_text m.structured_data) m.msg
+    ∙ front_before (decimal (priority_of m)) (timestamp_text m.timestamp) _)

@@ -1,4 +1,4 @@
-use Rattle.std.proofs.Common.{refl}
+use Rattle.syslog_strict.proofs.Words.{refl}
 use Rattle.syslog_loose.proofs.ReadingLemmas.{in_year_map}
 use Rattle.syslog_strict.proofs.ConversionLaws.{no_memory, text_converts}
 use Rattle.syslog_strict.proofs.call.convert.Goals as goal

@@ -1,5 +1,4 @@
-use Rattle.std.proofs.Common.{ap}
-use Rattle.std.specs.Str.{chars}
+use Rattle.syslog_strict.proofs.Words.{ap, chars}
 use Rattle.syslog_strict.proofs.TextLemmas.{started}
 use Rattle.syslog_strict.proofs.call.copy.Goals as goal
 

@@ -1,11 +1,5 @@
-use Rattle.std.proofs.Common.{ap, ◌∙◌}
-use Rattle.std.proofs.lemmas.Result.{on_ok_weaker}
-use Rattle.std.proofs.lemmas.Str.{chars-nil}
-use Rattle.std.specs.Str.{chars}
-use Rattle.syslog_loose.specs.Line.{line_value}
-use Rattle.syslog_strict.specs.Conversion.{converted}
-use Rattle.syslog_strict.specs.Pushing.{text_in}
-use Rattle.syslog_strict.proofs.LineLemmas.{line_joined}
+use Rattle.syslog_strict.proofs.Words.{ap, ◌∙◌, on_ok_weaker, chars-nil, chars, line_value, converted, text_in}
+use Rattle.syslog_strict.proofs.TextLemmas.{line_joined}
 use Rattle.syslog_strict.proofs.conversion.write_line.Goals as goal
 
 pub returns : goal.returns

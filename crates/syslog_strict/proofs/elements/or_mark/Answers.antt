@@ -1,5 +1,4 @@
-use Rattle.std.proofs.Common.{ap, sym, ◌∙◌}
-use Rattle.syslog_strict.specs.Conversion.{or_mark}
+use Rattle.syslog_strict.proofs.Words.{ap, sym, ◌∙◌, or_mark}
 use Rattle.syslog_strict.proofs.ElementLemmas.{chars_mark}
 use Rattle.syslog_strict.proofs.elements.or_mark.Goals as goal
 

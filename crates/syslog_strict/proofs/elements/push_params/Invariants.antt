@@ -1,9 +1,5 @@
-use Rattle.std.proofs.Common.{◌≡◌, ◌++◌, map}
-use Rattle.std.specs.List.{flat_map}
-use Rattle.syslog_pieces.specs.StructuredData.Element.{param_text}
-use Rattle.syslog_pieces.specs.StructuredData.Visited.{element_seen, params_left}
-use Rattle.syslog_strict.specs.Conversion.{converted_param}
-use Rattle.syslog_strict.specs.Pushing.{text_in}
+use Rattle.syslog_strict.proofs.Words.{◌≡◌, ◌++◌, map, flat_map, param_text, element_seen, converted_param, text_in}
+use Rattle.syslog_pieces.specs.StructuredData.Visited.{params_left}
 use Rattle.syslog_strict.proofs.elements.push_params.Given as goal
 
 abbrev pub invariant-loop-name : goal.invariant-loop-name

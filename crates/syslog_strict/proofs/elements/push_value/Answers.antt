@@ -1,5 +1,4 @@
-use Rattle.std.proofs.lemmas.Result.{on_ok_weaker}
-use Rattle.std.proofs.Common.{◌∙◌, ◌++◌, ◌∷◌, [], ap}
+use Rattle.syslog_strict.proofs.Words.{on_ok_weaker, ◌∙◌, ◌++◌, ◌∷◌, [], ap}
 use Rattle.syslog_strict.proofs.ElementLemmas.{at_end, past_lone, past_other, past_pair}
 use Rattle.syslog_strict.proofs.elements.push_value.Goals as goal
 

@@ -1,9 +1,6 @@
-use Rattle.std.proofs.Common.{◌≡◌, ◌++◌, false, length}
+use Rattle.syslog_strict.proofs.Words.{◌≡◌, ◌++◌, false, length, chars, escaped_from, text_in}
 use denote.Text.{Utf8}
 use denote.Shadow.{shadow}
-use Rattle.std.specs.Str.{chars}
-use Rattle.syslog_strict.specs.Conversion.{escaped_from}
-use Rattle.syslog_strict.specs.Pushing.{text_in}
 use Rattle.syslog_strict.proofs.elements.push_value.Given as goal
 
 abbrev pub invariant-stretches : goal.invariant-stretches

@@ -1,7 +1,4 @@
-use Rattle.std.proofs.Common.{◌≡◌, drop, map}
-use Rattle.std.specs.Str.{chars}
-use Rattle.syslog_pieces.specs.Pieces.View.{shown}
-use Rattle.syslog_strict.specs.Conversion.{is_among}
+use Rattle.syslog_strict.proofs.Words.{◌≡◌, drop, map, chars, shown, is_among}
 use Rattle.syslog_strict.proofs.ids.is_one_of.Given as goal
 
 abbrev pub invariant-loop-other : goal.invariant-loop-other

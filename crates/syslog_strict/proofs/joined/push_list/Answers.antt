@@ -1,8 +1,6 @@
-use Rattle.std.proofs.Common.{[], refl, sym, subst, ◌∙◌}
-use Rattle.syslog_pieces.specs.StructuredData.Visited.{list_elements}
+use Rattle.syslog_strict.proofs.Words.{[], refl, sym, subst, ◌∙◌, list_elements, BeginsDistinct}
 use Rattle.syslog_pieces.proofs.StructuredDataLemmas.Elements.{are_canonical}
-use Rattle.syslog_strict.specs.Beginnings.{BeginsDistinct}
-use Rattle.syslog_strict.proofs.AgainLaws.{strict_stay}
+use Rattle.syslog_strict.proofs.ConversionLaws.{strict_stay}
 use Rattle.syslog_strict.proofs.ElementLemmas.{converted_some, elements_some}
 use Rattle.syslog_strict.proofs.TextLemmas.{appended}
 use Rattle.syslog_strict.proofs.joined.push_list.Goals as goal

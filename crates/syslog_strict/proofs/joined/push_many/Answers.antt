@@ -1,7 +1,5 @@
-use Rattle.std.proofs.Common.{[], ap, ◌∙◌}
-use Rattle.syslog_pieces.specs.StructuredData.Element.{joined_elements}
-use Rattle.syslog_strict.specs.Conversion.{converted_element, joined_past}
-use Rattle.syslog_strict.proofs.JoinedLemmas.{all_of, joined_is}
+use Rattle.syslog_strict.proofs.Words.{[], ap, ◌∙◌, joined_elements, converted_element, joined_past}
+use Rattle.syslog_strict.proofs.ElementLemmas.{all_of, joined_is}
 use Rattle.syslog_strict.proofs.TextLemmas.{appended}
 use Rattle.syslog_strict.proofs.joined.push_many.Goals as goal
 

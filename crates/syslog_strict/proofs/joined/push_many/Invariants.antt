@@ -1,8 +1,5 @@
-use Rattle.std.proofs.Common.{◌≡◌, ◌++◌, List, map}
-use Rattle.syslog_pieces.specs.StructuredData.Element.{ElementValue}
-use Rattle.syslog_pieces.specs.StructuredData.Visited.{elements_left, list_elements}
-use Rattle.syslog_strict.specs.Conversion.{converted_element}
-use Rattle.syslog_strict.specs.Joined.{HasJoined}
+use Rattle.syslog_strict.proofs.Words.{◌≡◌, ◌++◌, List, map, ElementValue, list_elements, converted_element, HasJoined}
+use Rattle.syslog_pieces.specs.StructuredData.Visited.{elements_left}
 use Rattle.syslog_strict.proofs.joined.push_many.Given as goal
 
 abbrev pub invariant-loop-element : goal.invariant-loop-element

@@ -1,4 +1,4 @@
-use Rattle.syslog_strict.proofs.AgainLaws.{printed_again, text_stays}
+use Rattle.syslog_strict.proofs.ConversionLaws.{printed_again, text_stays}
 use Rattle.syslog_strict.proofs.laws.converted_text_stays.Goals as goal
 
 pub returns-clause-text : goal.returns-clause-text

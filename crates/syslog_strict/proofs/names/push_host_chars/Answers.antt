@@ -1,5 +1,4 @@
-use Rattle.std.proofs.Common.{◌∷◌, ◌++◌, [], ap, ◌∙◌, arith}
-use Rattle.syslog_strict.specs.Pushing.{text_in}
+use Rattle.syslog_strict.proofs.Words.{◌∷◌, ◌++◌, [], ap, ◌∙◌, arith, text_in}
 use Rattle.syslog_strict.proofs.TextLemmas.{host_end, host_step, host_stop}
 use Rattle.syslog_strict.proofs.names.push_host_chars.Goals as goal
 

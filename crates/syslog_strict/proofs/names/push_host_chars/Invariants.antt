@@ -1,10 +1,6 @@
-use Rattle.std.proofs.Common.{◌≡◌, ◌++◌}
+use Rattle.syslog_strict.proofs.Words.{◌≡◌, ◌++◌, chars, cleaned, without_last_colon, is_printusascii, text_in}
 use denote.Text.{Utf8}
 use denote.Shadow.{shadow}
-use Rattle.std.specs.Str.{chars}
-use Rattle.syslog_strict.specs.Conversion.{cleaned, without_last_colon}
-use Rattle.syslog_strict.specs.Grammar.{is_printusascii}
-use Rattle.syslog_strict.specs.Pushing.{text_in}
 use Rattle.syslog_strict.proofs.names.push_host_chars.Given as goal
 
 abbrev pub invariant-chars : goal.invariant-chars

@@ -1,5 +1,4 @@
-use Rattle.std.proofs.Common.{refl, sym, ◌∙◌}
-use Rattle.std.specs.Str.{chars}
+use Rattle.syslog_strict.proofs.Words.{refl, sym, ◌∙◌, chars}
 use Rattle.syslog_strict.proofs.TextLemmas.{appended, host_stays}
 use Rattle.syslog_strict.proofs.names.push_host_text.Goals as goal
 

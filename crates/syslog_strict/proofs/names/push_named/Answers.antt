@@ -1,10 +1,5 @@
-use Rattle.std.proofs.Common.{ap, ◌∙◌}
-use Rattle.std.proofs.lemmas.Int.{to_z-of_z}
-use Rattle.std.specs.Fmt.{signed_decimal}
-use Rattle.std.specs.Str.{chars}
-use Rattle.syslog_pieces.specs.ProcId.{procid_text}
-use Rattle.syslog_pieces.specs.declared.procid.ProcId.TheVariants.{PID, Name}
-use Rattle.syslog_pieces.proofs.ProcIdLemmas.{process_same, named_names}
+use Rattle.syslog_strict.proofs.Words.{ap, ◌∙◌, to_z-of_z, signed_decimal, chars, procid_text, PID, Name, process_same}
+use Rattle.syslog_strict.proofs.Words.{named_names}
 use Rattle.syslog_strict.proofs.TextLemmas.{appended}
 use Rattle.syslog_strict.proofs.names.push_named.Goals as goal
 

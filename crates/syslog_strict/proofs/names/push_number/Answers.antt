@@ -1,10 +1,6 @@
-use Rattle.std.proofs.Common.{◌++◌, ap, ◌∙◌}
-use Rattle.std.proofs.lemmas.Int.{to_z-of_z}
-use Rattle.std.proofs.lemmas.Str.{IsUtf8-string_bytes, chars-append, chars-IsAscii}
-use Rattle.std.specs.Fmt.{signed_decimal}
-use Rattle.std.specs.Str.{chars}
+use Rattle.syslog_strict.proofs.Words.{◌++◌, ap, ◌∙◌, to_z-of_z, IsUtf8-string_bytes, chars-append, chars-IsAscii}
+use Rattle.syslog_strict.proofs.Words.{signed_decimal, chars, text_in}
 use Rattle.syslog_pieces.proofs.TextLemmas.Words.{signed_ascii}
-use Rattle.syslog_strict.specs.Pushing.{text_in}
 use Rattle.syslog_strict.proofs.names.push_number.Goals as goal
 
 pub returns : goal.returns

@@ -1,6 +1,4 @@
-use Rattle.std.proofs.Common.{ap, sym, ◌∙◌}
-use Rattle.std.specs.Str.{chars}
-use Rattle.syslog_pieces.specs.ProcId.{named_process, procid_text}
+use Rattle.syslog_strict.proofs.Words.{ap, sym, ◌∙◌, chars, named_process, procid_text}
 use Rattle.syslog_strict.proofs.TextLemmas.{appended, process_prints, started}
 use Rattle.syslog_strict.proofs.names.push_process_name.Goals as goal
 

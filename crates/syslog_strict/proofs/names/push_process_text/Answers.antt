@@ -1,12 +1,6 @@
-use Rattle.std.proofs.Common.{◌<◌, ap, arith, length, refl, sym, ◌∙◌}
-use Rattle.std.proofs.lemmas.Int.{to_z-of_z}
-use Rattle.std.specs.Fmt.{signed_decimal}
-use Rattle.std.specs.Str.{chars}
-use Rattle.syslog_pieces.specs.ProcId.{process_text}
-use Rattle.syslog_pieces.specs.declared.procid.ProcId.TheVariants.{PID, Name}
-use Rattle.syslog_pieces.proofs.ProcIdLemmas.{named_names, process_same}
-use Rattle.syslog_strict.specs.Conversion.{converted_process}
-use Rattle.syslog_strict.proofs.AgainLaws.{bare_stays}
+use Rattle.syslog_strict.proofs.Words.{◌<◌, ap, arith, length, refl, sym, ◌∙◌, to_z-of_z, signed_decimal, chars}
+use Rattle.syslog_strict.proofs.Words.{process_text, PID, Name, named_names, process_same, converted_process}
+use Rattle.syslog_strict.proofs.ConversionLaws.{bare_stays}
 use Rattle.syslog_strict.proofs.TextLemmas.{appended}
 use Rattle.syslog_strict.proofs.names.push_process_text.Goals as goal
 

@@ -1,6 +1,4 @@
-use Rattle.std.proofs.Common.{ap, sym, ◌∙◌}
-use Rattle.std.specs.Str.{chars}
-use Rattle.syslog_pieces.specs.Pieces.View.{text_eq}
+use Rattle.syslog_strict.proofs.Words.{ap, sym, ◌∙◌, chars, text_eq}
 use Rattle.syslog_strict.proofs.TextLemmas.{appended, chars_colon, text_eq_true, word_colon, word_prints}
 use Rattle.syslog_strict.proofs.names.push_word_text.Goals as goal
 

@@ -1,9 +1,5 @@
-use Rattle.std.proofs.Common.{ap, sym, ◌∙◌}
-use Rattle.std.proofs.lemmas.Result.{on_ok_weaker}
-use Rattle.std.specs.Option.{option_and_then}
-use Rattle.syslog_loose.specs.Printed.{timestamp_text}
-use Rattle.syslog_strict.specs.Conversion.{converted_stamp}
-use Rattle.syslog_strict.specs.Pushing.{text_in}
+use Rattle.syslog_strict.proofs.Words.{ap, sym, ◌∙◌, on_ok_weaker, option_and_then, timestamp_text, converted_stamp}
+use Rattle.syslog_strict.proofs.Words.{text_in}
 use Rattle.syslog_strict.proofs.StampLemmas.{front_parts}
 use Rattle.syslog_strict.proofs.TextLemmas.{appended}
 use Rattle.syslog_strict.proofs.stamp.push_converted.Goals as goal

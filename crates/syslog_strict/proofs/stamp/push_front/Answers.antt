@@ -1,12 +1,9 @@
-use Rattle.std.proofs.Common.{ap, ap₂, refl, sym, ◌∙◌, ◌+◌, ◌*◌}
+use Rattle.syslog_strict.proofs.Words.{ap, ap₂, refl, sym, ◌∙◌, ◌+◌, ◌*◌, line_value, timestamp_text, converted}
+use Rattle.syslog_strict.proofs.Words.{front_text}
 use Rattle.std.specs.Prelude.{unwrap_or}
 use Rattle.syslog_pieces.specs.Pri.{facility_number, severity_number}
 use Rattle.syslog_pieces.specs.declared.pri.SyslogFacility.TheVariants.{LOG_USER}
 use Rattle.syslog_pieces.specs.declared.pri.SyslogSeverity.TheVariants.{SEV_NOTICE}
-use Rattle.syslog_loose.specs.Line.{line_value}
-use Rattle.syslog_loose.specs.Printed.{timestamp_text}
-use Rattle.syslog_strict.specs.Conversion.{converted}
-use Rattle.syslog_strict.specs.Pushing.{front_text}
 use Rattle.syslog_strict.proofs.StampLemmas.{front_chars}
 use Rattle.syslog_strict.proofs.TextLemmas.{appended}
 use Rattle.syslog_strict.proofs.stamp.push_front.Goals as goal

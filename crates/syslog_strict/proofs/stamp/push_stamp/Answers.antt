@@ -1,6 +1,4 @@
-use Rattle.std.proofs.Common.{ap, sym, ◌∙◌}
-use Rattle.std.proofs.lemmas.Str.{IsUtf8-string_bytes}
-use Rattle.syslog_loose.specs.Printed.{timestamp_text}
+use Rattle.syslog_strict.proofs.Words.{ap, sym, ◌∙◌, IsUtf8-string_bytes, timestamp_text}
 use Rattle.syslog_strict.proofs.StampLemmas.{stamp_chars, written}
 use Rattle.syslog_strict.proofs.stamp.push_stamp.Goals as goal
 

@@ -1,6 +1,4 @@
-use Rattle.std.proofs.Common.{refl, ap, sym, ◌∙◌}
-use Rattle.syslog_loose.specs.Printed.{timestamp_text}
-use Rattle.syslog_strict.specs.Conversion.{cut_stamp, in_utc}
+use Rattle.syslog_strict.proofs.Words.{refl, ap, sym, ◌∙◌, timestamp_text, cut_stamp, in_utc}
 use Rattle.syslog_strict.proofs.StampLemmas.{converted_own, utc_told}
 use Rattle.syslog_strict.proofs.stamp.strict_stamp.Goals as goal
 

@@ -1,6 +1,4 @@
-use Rattle.std.proofs.Common.{◌≤◌, length, subst, arith}
-use Rattle.syslog_pieces.specs.Pieces.Class.{Text}
-use Rattle.syslog_strict.specs.Pushing.{keeps}
+use Rattle.syslog_strict.proofs.Words.{◌≤◌, length, subst, arith, Text, keeps}
 use Rattle.syslog_strict.proofs.TextLemmas.{each_tested, kept_text, kept_chars}
 use Rattle.syslog_strict.proofs.text.is_kept.Goals as goal
 

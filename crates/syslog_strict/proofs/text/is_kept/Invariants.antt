@@ -1,6 +1,4 @@
-use Rattle.std.proofs.Common.{◌-◌, drop, length}
-use Rattle.syslog_pieces.specs.Pieces.Class.{Each}
-use Rattle.syslog_strict.specs.Pushing.{keeps}
+use Rattle.syslog_strict.proofs.Words.{◌-◌, drop, length, Each, keeps}
 use Rattle.syslog_strict.proofs.text.is_kept.Given as goal
 
 abbrev pub invariant-bytes : goal.invariant-bytes

@@ -1,9 +1,4 @@
-use Rattle.std.proofs.Common.{◌++◌, ap}
-use Rattle.std.proofs.lemmas.Str.{IsUtf8-string_bytes}
-use Rattle.std.specs.Char.{encode_utf8}
-use Rattle.std.proofs.lemmas.Result.{on_ok_weaker}
-use Rattle.std.proofs.Common.{◌∙◌}
-use Rattle.syslog_strict.specs.Pushing.{text_in}
+use Rattle.syslog_strict.proofs.Words.{◌++◌, ap, IsUtf8-string_bytes, encode_utf8, on_ok_weaker, ◌∙◌, text_in}
 use Rattle.syslog_strict.proofs.TextLemmas.{one_char, pushed}
 use Rattle.syslog_strict.proofs.text.push_char.Goals as goal
 

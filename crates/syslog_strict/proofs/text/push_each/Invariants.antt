@@ -1,9 +1,6 @@
-use Rattle.std.proofs.Common.{◌≡◌, ◌++◌}
+use Rattle.syslog_strict.proofs.Words.{◌≡◌, ◌++◌, chars, cleaned, keeps, text_in}
 use denote.Text.{Utf8}
 use denote.Shadow.{shadow}
-use Rattle.std.specs.Str.{chars}
-use Rattle.syslog_strict.specs.Conversion.{cleaned}
-use Rattle.syslog_strict.specs.Pushing.{keeps, text_in}
 use Rattle.syslog_strict.proofs.text.push_each.Given as goal
 
 abbrev pub invariant-chars : goal.invariant-chars

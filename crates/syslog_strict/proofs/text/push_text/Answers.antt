@@ -1,4 +1,4 @@
-use Rattle.std.proofs.lemmas.Str.{IsUtf8-string_bytes}
+use Rattle.syslog_strict.proofs.Words.{IsUtf8-string_bytes}
 use Rattle.syslog_strict.proofs.TextLemmas.{pushed}
 use Rattle.syslog_strict.proofs.text.push_text.Goals as goal
 

@@ -1,4 +1,4 @@
-use Rattle.std.specs.Str.{chars}
+use Rattle.syslog_strict.proofs.Words.{chars}
 use Rattle.syslog_strict.proofs.OnlyLemmas.{char_only}
 use Rattle.syslog_strict.proofs.ValidLemmas.{char_as}
 use Rattle.syslog_strict.proofs.valid.after_char.Goals as goal

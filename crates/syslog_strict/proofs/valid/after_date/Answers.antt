@@ -1,4 +1,4 @@
-use Rattle.std.proofs.Common.{refl, sym}
+use Rattle.syslog_strict.proofs.Words.{refl, sym}
 use Rattle.syslog_strict.proofs.ValidLemmas.{date_is}
 use Rattle.syslog_strict.proofs.OnlyLemmas.{date_as, none_is, off, on, one_is, through}
 use Rattle.syslog_strict.proofs.valid.after_date.Goals as goal

@@ -1,8 +1,7 @@
-use Rattle.std.proofs.Common.{[]}
-use Rattle.std.specs.Str.{chars}
-use Rattle.syslog_strict.proofs.IdLemmas.{no_passed, passed_all, passed_on, passed_start, passed_twice}
+use Rattle.syslog_strict.proofs.Words.{[], chars}
+use Rattle.syslog_strict.proofs.ValidLemmas.{no_passed, passed_all, passed_on, passed_start, passed_twice, first_seen}
+use Rattle.syslog_strict.proofs.ValidLemmas.{was_new, was_old}
 use Rattle.syslog_strict.proofs.OnlyLemmas.{none_is, one_is}
-use Rattle.syslog_strict.proofs.SeenLemmas.{first_seen, was_new, was_old}
 use Rattle.syslog_strict.proofs.valid.after_distinct.Goals as goal
 
 pub returns-in_default-clause-only : goal.returns-in_default-clause-only

@@ -1,10 +1,7 @@
-use Rattle.std.proofs.Common.{List, length}
+use Rattle.syslog_strict.proofs.Words.{List, length, chars, Text, HasSeen}
 use denote.Text.{Utf8}
 use denote.Shadow.{shadow}
-use Rattle.std.specs.Str.{chars}
-use Rattle.syslog_pieces.specs.Pieces.Class.{Text}
-use Rattle.syslog_strict.specs.Ids.{HasSeen}
-use Rattle.syslog_strict.proofs.IdLemmas.{Passed}
+use Rattle.syslog_strict.proofs.ValidLemmas.{Passed}
 use Rattle.syslog_strict.proofs.valid.after_distinct.Given as goal
 
 abbrev pub invariant-elements : goal.invariant-elements

@@ -1,4 +1,4 @@
-use Rattle.syslog_strict.proofs.IdLemmas.{leaves_end, leaves_none, leaves_on, leaves_start, some_on, some_start}
+use Rattle.syslog_strict.proofs.ValidLemmas.{leaves_end, leaves_none, leaves_on, leaves_start, some_on, some_start}
 use Rattle.syslog_strict.proofs.OnlyLemmas.{none_is}
 use Rattle.syslog_strict.proofs.valid.after_elements.Goals as goal
 

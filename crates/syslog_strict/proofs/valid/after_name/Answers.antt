@@ -1,4 +1,4 @@
-use Rattle.std.proofs.Common.{sym}
+use Rattle.syslog_strict.proofs.Words.{sym}
 use Rattle.syslog_strict.proofs.ValidLemmas.{name_is}
 use Rattle.syslog_strict.proofs.OnlyLemmas.{name_as, off, on, one_is, printable_low, through}
 use Rattle.syslog_strict.proofs.valid.after_name.Goals as goal

@@ -1,7 +1,7 @@
-use Rattle.std.proofs.Common.{refl, sym}
+use Rattle.syslog_strict.proofs.Words.{refl, sym, arith}
 use Rattle.syslog_strict.proofs.ValidLemmas.{offset_is, zulu_is}
-use Rattle.syslog_strict.proofs.OnlyLemmas.{none_is, no_offset, off, on, one_is, offset_row, offset_sign, offset_zulu, through}
-use Rattle.std.proofs.Common.{arith}
+use Rattle.syslog_strict.proofs.OnlyLemmas.{none_is, no_offset, off, on, one_is, offset_row, offset_sign, offset_zulu}
+use Rattle.syslog_strict.proofs.OnlyLemmas.{through}
 use Rattle.syslog_strict.proofs.valid.after_offset.Goals as goal
 
 pub returns-in_err-sign-clause-only : goal.returns-in_err-sign-clause-only

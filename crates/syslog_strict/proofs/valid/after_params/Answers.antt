@@ -1,6 +1,4 @@
-use Rattle.std.proofs.Common.{◌∷◌, ap, ◌∙◌}
-use Rattle.std.specs.Str.{chars}
-use Rattle.syslog_strict.specs.Grammar.{IsSdParam}
+use Rattle.syslog_strict.proofs.Words.{◌∷◌, ap, ◌∙◌, chars, IsSdParam}
 use Rattle.syslog_strict.proofs.ValidLemmas.{many_closed, many_on}
 use Rattle.syslog_strict.proofs.OnlyLemmas.{none_is, one_is, params_closed, params_next, params_none, params_some}
 use Rattle.syslog_strict.proofs.valid.after_params.Goals as goal

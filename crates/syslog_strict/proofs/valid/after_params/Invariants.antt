@@ -1,10 +1,6 @@
-use Rattle.std.proofs.Common.{length}
+use Rattle.syslog_strict.proofs.Words.{length, chars, Text, BeginsParams, IsSdParam}
 use denote.Text.{Utf8}
 use denote.Shadow.{shadow}
-use Rattle.std.specs.Str.{chars}
-use Rattle.syslog_pieces.specs.Pieces.Class.{Text}
-use Rattle.syslog_strict.specs.Beginnings.{BeginsParams}
-use Rattle.syslog_strict.specs.Grammar.{IsSdParam}
 use Rattle.syslog_strict.proofs.ValidLemmas.{BeginsMany}
 use Rattle.syslog_strict.proofs.valid.after_params.Given as goal
 

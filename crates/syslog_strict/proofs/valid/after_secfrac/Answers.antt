@@ -1,4 +1,4 @@
-use Rattle.std.proofs.Common.{sym}
+use Rattle.syslog_strict.proofs.Words.{sym}
 use Rattle.syslog_strict.proofs.ValidLemmas.{no_secfrac, secfrac_is}
 use Rattle.syslog_strict.proofs.OnlyLemmas.{dot_as, digit_low, no_dot, off, on, one_is, through}
 use Rattle.syslog_strict.proofs.valid.after_secfrac.Goals as goal

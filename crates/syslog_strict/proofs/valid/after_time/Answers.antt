@@ -1,4 +1,4 @@
-use Rattle.std.proofs.Common.{refl}
+use Rattle.syslog_strict.proofs.Words.{refl}
 use Rattle.syslog_strict.proofs.ValidLemmas.{some_as, time_is}
 use Rattle.syslog_strict.proofs.OnlyLemmas.{none_is, off, on, through, time_as}
 use Rattle.syslog_strict.proofs.valid.after_time.Goals as goal

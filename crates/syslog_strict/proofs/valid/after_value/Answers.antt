@@ -1,6 +1,7 @@
-use Rattle.std.proofs.Common.{sym}
+use Rattle.syslog_strict.proofs.Words.{sym}
 use Rattle.syslog_strict.proofs.ValidLemmas.{value_closed, value_pair}
-use Rattle.syslog_strict.proofs.OnlyLemmas.{none_is, one_is, value_ends, value_first, value_lone, value_no_pair, value_on, value_open, value_quote}
+use Rattle.syslog_strict.proofs.OnlyLemmas.{none_is, one_is, value_ends, value_first, value_lone, value_no_pair}
+use Rattle.syslog_strict.proofs.OnlyLemmas.{value_on, value_open, value_quote}
 use Rattle.syslog_strict.proofs.valid.after_value.Goals as goal
 
 pub returns-in_err-c-clause-only : goal.returns-in_err-c-clause-only

@@ -1,10 +1,6 @@
-use Rattle.std.proofs.Common.{length}
+use Rattle.syslog_strict.proofs.Words.{length, chars, Text, Begins, BeginsValue, IsParamValue}
 use denote.Text.{Utf8}
 use denote.Shadow.{shadow}
-use Rattle.std.specs.Str.{chars}
-use Rattle.syslog_pieces.specs.Pieces.Class.{Text}
-use Rattle.syslog_strict.specs.Beginnings.{Begins, BeginsValue}
-use Rattle.syslog_strict.specs.Grammar.{IsParamValue}
 use Rattle.syslog_strict.proofs.valid.after_value.Given as goal
 
 abbrev pub invariant-stretches : goal.invariant-stretches

@@ -1,5 +1,5 @@
-use Rattle.std.proofs.Common.{refl}
-use Rattle.syslog_strict.proofs.IdLemmas.{compares_end, compares_on, compares_twice}
+use Rattle.syslog_strict.proofs.Words.{refl}
+use Rattle.syslog_strict.proofs.ValidLemmas.{compares_end, compares_on, compares_twice}
 use Rattle.syslog_strict.proofs.valid.are_distinct_pairs.Goals as goal
 
 pub returns-then-has_id : goal.returns-then-has_id

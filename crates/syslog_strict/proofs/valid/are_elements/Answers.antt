@@ -1,9 +1,5 @@
-use Rattle.std.proofs.Common.{ap, sym, subst, ◌∙◌}
+use Rattle.syslog_strict.proofs.Words.{ap, sym, subst, ◌∙◌, chars-nil, chars, empty_is, BeginsDistinct}
 use Rattle.std.proofs.lemmas.List.{nil_from_length}
-use Rattle.std.proofs.lemmas.Str.{chars-nil}
-use Rattle.std.specs.Str.{chars}
-use Rattle.syslog_pieces.proofs.TextLemmas.Runs.{empty_is}
-use Rattle.syslog_strict.specs.Beginnings.{BeginsDistinct}
 use Rattle.syslog_strict.proofs.valid.are_elements.Goals as goal
 
 pub returns-in-Ok-Some : goal.returns-in-Ok-Some

@@ -1,5 +1,5 @@
-use Rattle.std.proofs.Common.{sym}
-use Rattle.syslog_strict.proofs.IdLemmas.{seeks_end, seeks_found, seeks_on}
+use Rattle.syslog_strict.proofs.Words.{sym}
+use Rattle.syslog_strict.proofs.ValidLemmas.{seeks_end, seeks_found, seeks_on}
 use Rattle.syslog_strict.proofs.valid.has_id.Goals as goal
 
 pub returns-then-is_same_text : goal.returns-then-is_same_text

@@ -1,8 +1,7 @@
-use Rattle.std.proofs.Common.{length}
+use Rattle.syslog_strict.proofs.Words.{length, chars}
 use denote.Text.{Utf8}
 use denote.Shadow.{shadow}
-use Rattle.std.specs.Str.{chars}
-use Rattle.syslog_strict.proofs.IdLemmas.{Seeks}
+use Rattle.syslog_strict.proofs.ValidLemmas.{Seeks}
 use Rattle.syslog_strict.proofs.valid.has_id.Given as goal
 
 abbrev pub invariant-elements : goal.invariant-elements

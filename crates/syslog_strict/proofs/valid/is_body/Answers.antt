@@ -1,4 +1,4 @@
-use Rattle.syslog_strict.proofs.IdLemmas.{body_after, body_nil, nil_body}
+use Rattle.syslog_strict.proofs.ValidLemmas.{body_after, body_nil, nil_body}
 use Rattle.syslog_strict.proofs.valid.is_body.Goals as goal
 
 pub returns-in-Some : goal.returns-in-Some

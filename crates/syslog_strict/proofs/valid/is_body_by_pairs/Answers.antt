@@ -1,6 +1,5 @@
-use Rattle.std.proofs.Common.{refl, subst}
-use Rattle.syslog_strict.specs.Grammar.{IsSpacedMsg}
-use Rattle.syslog_strict.proofs.IdLemmas.{body_elements, elements_body}
+use Rattle.syslog_strict.proofs.Words.{refl, subst, IsSpacedMsg}
+use Rattle.syslog_strict.proofs.ValidLemmas.{body_elements, elements_body}
 use Rattle.syslog_strict.proofs.valid.is_body_by_pairs.Goals as goal
 
 pub returns-in_default : goal.returns-in_default

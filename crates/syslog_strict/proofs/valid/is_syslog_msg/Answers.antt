@@ -1,5 +1,4 @@
-use Rattle.std.proofs.Common.{subst}
-use Rattle.syslog_strict.specs.Beginnings.{IsBody}
+use Rattle.syslog_strict.proofs.Words.{subst, IsBody}
 use Rattle.syslog_strict.proofs.ValidLemmas.{msg_is, msg_parts}
 use Rattle.syslog_strict.proofs.valid.is_syslog_msg.Goals as goal
 

@@ -1,5 +1,5 @@
-use Rattle.std.proofs.Common.{arith}
-use Rattle.syslog_pieces.proofs.TextLemmas.Runs.{empty_is, nonempty_is}
+use Rattle.syslog_strict.proofs.Words.{arith, empty_is}
+use Rattle.syslog_pieces.proofs.TextLemmas.Runs.{nonempty_is}
 use Rattle.syslog_strict.proofs.OnlyLemmas.{none_is, one_is, short_are, short_is}
 use Rattle.syslog_strict.proofs.valid.short_run.Goals as goal
 

@@ -1,8 +1,5 @@
-use Rattle.std.proofs.Common.{arith, ap, refl, map, ◌∙◌}
-use Rattle.std.specs.Str.{chars}
-use Rattle.syslog_pieces.specs.Pieces.View.{shown}
-use Rattle.syslog_strict.specs.Conversion.{is_among}
-use Rattle.syslog_strict.proofs.SeenLemmas.{seen_put}
+use Rattle.syslog_strict.proofs.Words.{arith, ap, refl, map, ◌∙◌, chars, shown, is_among}
+use Rattle.syslog_strict.proofs.ValidLemmas.{seen_put}
 use Rattle.syslog_strict.proofs.ids.Ids.insert.Goals as goal
 
 pub returns-in-Ok : goal.returns-in-Ok

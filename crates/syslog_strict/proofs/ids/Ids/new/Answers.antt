@@ -1,4 +1,4 @@
-use Rattle.syslog_strict.proofs.SeenLemmas.{seen_none}
+use Rattle.syslog_strict.proofs.ValidLemmas.{seen_none}
 use Rattle.syslog_strict.proofs.ids.Ids.new.Goals as goal
 
 pub returns : goal.returns

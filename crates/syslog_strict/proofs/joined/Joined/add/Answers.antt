@@ -1,13 +1,7 @@
-use Rattle.std.proofs.Common.{ap, ◌∙◌, ◌++◌, string_bytes}
-use Rattle.std.proofs.lemmas.Map.Text.{btree_map_updates_text}
-use Rattle.std.specs.BTreeMap.{get_by_text}
-use Rattle.std.specs.List.{flat_map}
-use Rattle.std.specs.Str.{chars}
-use Rattle.syslog_pieces.specs.Pieces.Class.{Text}
-use Rattle.syslog_pieces.specs.StructuredData.Element.{param_text}
-use Rattle.syslog_pieces.specs.StructuredData.Visited.{element_seen}
-use Rattle.syslog_strict.specs.Conversion.{converted_element, converted_name}
-use Rattle.syslog_strict.proofs.JoinedLemmas.{joined_more}
+use Rattle.syslog_strict.proofs.Words.{ap, ◌∙◌, ◌++◌, btree_map_updates_text, get_by_text, flat_map, chars, Text}
+use Rattle.syslog_strict.proofs.Words.{param_text, element_seen, converted_element, converted_name}
+use Rattle.std.proofs.Common.{string_bytes}
+use Rattle.syslog_strict.proofs.ElementLemmas.{joined_more}
 use Rattle.syslog_strict.proofs.TextLemmas.{started}
 use Rattle.syslog_strict.proofs.joined.Joined.add.Goals as goal
 

@@ -1,9 +1,5 @@
-use Rattle.std.proofs.Common.{◌≡◌, ◌∷◌, [], ◌++◌, drop}
-use Rattle.std.specs.BTreeMap.{get_by_text}
-use Rattle.std.specs.List.{flat_map}
-use Rattle.std.specs.Prelude.{string_bytes}
-use Rattle.syslog_strict.specs.Joined.{joined_text, text_or_none}
-use Rattle.syslog_strict.specs.Pushing.{text_in}
+use Rattle.syslog_strict.proofs.Words.{◌≡◌, ◌∷◌, [], ◌++◌, drop, get_by_text, flat_map, string_bytes, joined_text}
+use Rattle.syslog_strict.proofs.Words.{text_or_none, text_in}
 use Rattle.syslog_strict.proofs.joined.Joined.push_to.Given as goal
 
 abbrev pub invariant-loop-id : goal.invariant-loop-id

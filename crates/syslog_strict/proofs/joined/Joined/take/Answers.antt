@@ -1,9 +1,5 @@
-use Rattle.std.proofs.Common.{◌≡◌, cond, None, subst, ap, ◌∙◌}
-use Rattle.std.proofs.lemmas.Map.Text.{btree_map_updates_text}
-use Rattle.std.proofs.lemmas.Str.{chars-nil}
-use Rattle.std.specs.BTreeMap.{get_by_text}
-use Rattle.std.specs.Str.{bytes_eq, chars}
-use Rattle.syslog_strict.specs.Joined.{text_or_none}
+use Rattle.syslog_strict.proofs.Words.{◌≡◌, cond, None, subst, ap, ◌∙◌, btree_map_updates_text, chars-nil, get_by_text}
+use Rattle.syslog_strict.proofs.Words.{bytes_eq, chars, text_or_none}
 use Rattle.syslog_strict.proofs.joined.Joined.take.Goals as goal
 
 pub returns-in-Some-clause-others : goal.returns-in-Some-clause-others
