@@ -18,3 +18,4 @@ pub mod Settling
 pub mod TagForm
 pub mod Visit
 pub mod Words
+pub mod Clauses

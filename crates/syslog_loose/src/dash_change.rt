@@ -3,10 +3,8 @@
 ghost use Rattle.std.specs.Prelude.{◌↔◌};
 ghost use Rattle.syslog_loose.specs.Words.{IsTrue, MatchBool, IsOkAnd, chars, Text, dating_of};
 ghost use Rattle.syslog_pieces.specs.Timestamp.Zone.{Dating as AnyDating};
-ghost use Rattle.syslog_loose.specs.DashChange.{BeginsDashChange, HasDashChange, ReadsDifferently};
-ghost use Rattle.syslog_loose.specs.Reading.{AnswersEachMonth, InYear};
-ghost use Rattle.syslog_loose.specs.Visit.{IsLineOf};
-ghost use Rattle.syslog_loose.specs.declared.variant.Variant.{Variant};
+ghost use Rattle.syslog_loose.specs.Clauses.{BeginsDashChange, HasDashChange, ReadsDifferently, AnswersEachMonth};
+ghost use Rattle.syslog_loose.specs.Clauses.{InYear, IsLineOf, Variant};
 
 use crate::line::Line;
 use crate::rfc3164::read_fields;

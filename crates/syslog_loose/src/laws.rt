@@ -2,15 +2,10 @@
 ghost use Rattle.std.specs.Prelude.{◌≡◌, ◌↔◌};
 ghost use Rattle.syslog_loose.specs.Words.{Option, Text, Division, NoFront, Row, Values, ShowsMonthDate, Dating};
 ghost use Rattle.syslog_loose.specs.Words.{DashRule, MonthDate, NoDivision, ShowsYearless};
-ghost use Rattle.syslog_loose.specs.Message.{MessageValue};
-ghost use Rattle.syslog_loose.specs.Printed.{printed};
 ghost use Rattle.syslog_loose.specs.declared.message.Protocol.TheVariants.{RFC3164};
-ghost use Rattle.syslog_loose.specs.Reading.{IsRead, IsQuoted};
-ghost use Rattle.syslog_loose.specs.declared.variant.Variant.{Variant};
-ghost use Rattle.syslog_loose.specs.Rfc3164.{Names3164, Resolves, rfc3164_row, IsRead3164, Quotes3164};
-ghost use Rattle.syslog_loose.specs.Bodies.Rows.{stamped_row};
-ghost use Rattle.syslog_loose.specs.Rfc5424.{rfc5424_row, IsRead5424, IsNot5424};
-ghost use Rattle.syslog_loose.specs.TagForm.{IsForm};
+ghost use Rattle.syslog_loose.specs.Clauses.{MessageValue, printed, IsRead, IsQuoted, Variant, Names3164, Resolves};
+ghost use Rattle.syslog_loose.specs.Clauses.{rfc3164_row, IsRead3164, Quotes3164, stamped_row, rfc5424_row, IsRead5424};
+ghost use Rattle.syslog_loose.specs.Clauses.{IsNot5424, IsForm};
 
 pub mod comparison;
 pub mod dash_change;

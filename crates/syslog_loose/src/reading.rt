@@ -6,14 +6,11 @@ ghost use Rattle.std.specs.Prelude.{◌≡◌};
 ghost use Rattle.syslog_loose.specs.Words.{List, [], IfOk, None, chars, plain_zone, shown, dating_of, ElementValue};
 ghost use Rattle.syslog_pieces.specs.Timestamp.Zone.{IsYearAt};
 ghost use Rattle.syslog_pieces.specs.StructuredData.Collected.{HasCollected};
-ghost use Rattle.syslog_loose.specs.Line.{line_value};
-ghost use Rattle.syslog_loose.specs.Message.{message_value, with_elements};
-ghost use Rattle.syslog_loose.specs.Visit.{IsCompleted};
-ghost use Rattle.syslog_loose.specs.ReadBack.{AnswersItself, FieldsAsRead};
-ghost use Rattle.syslog_loose.specs.Reading.{Answers, AnswersEachMonth, AnswersOrWhole, InYear, IsQuoted};
-ghost use Rattle.syslog_loose.specs.declared.variant.Variant.{Variant};
 ghost use Rattle.syslog_pieces.specs.Timestamp.Zone as zone;
 ghost use Rattle.syslog_loose.specs.Reading as spec;
+ghost use Rattle.syslog_loose.specs.Clauses.{line_value, message_value, with_elements, IsCompleted, AnswersItself};
+ghost use Rattle.syslog_loose.specs.Clauses.{FieldsAsRead, Answers, AnswersEachMonth, AnswersOrWhole, InYear, IsQuoted};
+ghost use Rattle.syslog_loose.specs.Clauses.{Variant};
 
 use crate::fault::ParseFault;
 use crate::line::Line;

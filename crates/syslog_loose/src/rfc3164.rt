@@ -7,12 +7,9 @@
 ghost use Rattle.std.specs.Prelude.{◌≡◌};
 ghost use Rattle.syslog_loose.specs.Words.{IsTrue, Option, Some, None, chars, Text, seen, list_elements, Visits};
 ghost use Rattle.syslog_loose.specs.Words.{trimmed, Dating, field_seen};
-ghost use Rattle.syslog_loose.specs.Line.{line_value, KnowsForm};
-ghost use Rattle.syslog_loose.specs.Reading.{dash_rule};
-ghost use Rattle.syslog_loose.specs.Bodies.View3164.{FieldsAreRead, IsBehindStamp, IsProcessOf, names_value, NamesHost};
-ghost use Rattle.syslog_loose.specs.Bodies.View3164.{NamesProgram};
-ghost use Rattle.syslog_loose.specs.Visit.{HasRest};
 ghost use Rattle.syslog_loose.specs.Rfc3164 as spec;
+ghost use Rattle.syslog_loose.specs.Clauses.{line_value, KnowsForm, dash_rule, FieldsAreRead, IsBehindStamp};
+ghost use Rattle.syslog_loose.specs.Clauses.{IsProcessOf, names_value, NamesHost, NamesProgram, HasRest};
 
 use crate::line::Line;
 use crate::rfc5424::{are_all, is_bare};

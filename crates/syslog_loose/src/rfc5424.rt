@@ -6,10 +6,8 @@ ghost use Rattle.std.specs.Prelude.{◌≡◌};
 ghost use Rattle.syslog_loose.specs.Words.{[], ℕ, IfSome, IsTrue, MatchOption, Some, AllByRecursion, chars, IsUtf8};
 ghost use Rattle.syslog_loose.specs.Words.{Text, seen, shown, list_elements, Visits, trimmed};
 ghost use Rattle.syslog_pieces.specs.Bodies.Verbatim.{IsBareWord};
-ghost use Rattle.syslog_loose.specs.Line.{line_value, KnowsForm};
-ghost use Rattle.syslog_loose.specs.Rfc5424.{IsNot5424, IsRead5424};
-ghost use Rattle.syslog_loose.specs.Bodies.Start.{IsBehindPriority};
-ghost use Rattle.syslog_loose.specs.Bodies.View5424.{ReadsHeader, names_before};
+ghost use Rattle.syslog_loose.specs.Clauses.{line_value, KnowsForm, IsNot5424, IsRead5424, IsBehindPriority};
+ghost use Rattle.syslog_loose.specs.Clauses.{ReadsHeader, names_before};
 
 use crate::line::Line;
 use syslog_pieces::procid::is_bare_word;

@@ -7,13 +7,9 @@ ghost use Rattle.std.specs.Prelude.{◌≡◌, ◌↔◌};
 ghost use Rattle.syslog_loose.specs.Words.{MatchBool, MatchResult, None, string_bytes, chars, encode_utf8_all};
 ghost use Rattle.syslog_loose.specs.Words.{dating_of};
 ghost use Rattle.syslog_pieces.specs.Timestamp.Zone.{Dating as AnyDating};
-ghost use Rattle.syslog_loose.specs.Line.{KnowsForm, line_value};
-ghost use Rattle.syslog_loose.specs.Message.{MessageValue};
-ghost use Rattle.syslog_loose.specs.Printed.{printed};
-ghost use Rattle.syslog_loose.specs.ReadBack.{AnswersAgain};
-ghost use Rattle.syslog_loose.specs.Reading.{AnswersEachMonth, InYear, IsOnlyRead, IsUnreadable};
-ghost use Rattle.syslog_loose.specs.Passes.{AnswersRound, IsAtRest, ShowsNoDate, WritesRound, round_answer};
-ghost use Rattle.syslog_loose.specs.declared.fault.ParseFault.TheVariants.{Invalid};
+ghost use Rattle.syslog_loose.specs.Clauses.{KnowsForm, line_value, MessageValue, printed, AnswersAgain};
+ghost use Rattle.syslog_loose.specs.Clauses.{AnswersEachMonth, InYear, IsOnlyRead, IsUnreadable, AnswersRound};
+ghost use Rattle.syslog_loose.specs.Clauses.{IsAtRest, ShowsNoDate, WritesRound, round_answer, Invalid};
 
 use crate::fault::ParseFault;
 use crate::jumps::write_round;

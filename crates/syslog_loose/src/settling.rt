@@ -3,11 +3,8 @@
 //! A message of RFC 3164 that has a quirk weighs less each time that what was printed of it is read again, and no
 //! more than its text has characters at first: so this ends.
 ghost use Rattle.syslog_loose.specs.Words.{IfOk, string_bytes, chars, Text, Dating, dating_of};
-ghost use Rattle.syslog_loose.specs.Canonical.{IsCanonical};
-ghost use Rattle.syslog_loose.specs.Message.{MessageValue};
-ghost use Rattle.syslog_loose.specs.Reading.{AnswersEachMonth, InYear, IsRead, dash_rule};
-ghost use Rattle.syslog_loose.specs.Passes.{ReachesRank};
-ghost use Rattle.syslog_loose.specs.Settling.{Settles, answer_in};
+ghost use Rattle.syslog_loose.specs.Clauses.{IsCanonical, MessageValue, AnswersEachMonth, InYear, IsRead, dash_rule};
+ghost use Rattle.syslog_loose.specs.Clauses.{ReachesRank, Settles, answer_in};
 
 use crate::fault::ParseFault;
 use crate::rounds::{later_round, next_round};

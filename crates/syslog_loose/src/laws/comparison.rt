@@ -1,10 +1,7 @@
 //! When two messages, and two protocols, are equal.
 ghost use Rattle.std.specs.Prelude.{◌≡◌, ◌↔◌};
 ghost use Rattle.syslog_loose.specs.Words.{IsTrue, text_of};
-ghost use Rattle.syslog_loose.specs.Equal.{message_eq};
-ghost use Rattle.syslog_loose.specs.Message.{MessageValue, message_value};
-ghost use Rattle.syslog_loose.specs.declared.message.Message.{Message};
-ghost use Rattle.syslog_loose.specs.declared.message.Protocol.{Protocol};
+ghost use Rattle.syslog_loose.specs.Clauses.{message_eq, MessageValue, message_value, Message, Protocol};
 
 use crate::message::{Message, Protocol};
 use syslog_pieces::as_str::AsStr;

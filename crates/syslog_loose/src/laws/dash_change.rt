@@ -2,11 +2,8 @@
 //! before a blank.
 ghost use Rattle.std.specs.Prelude.{◌↔◌};
 ghost use Rattle.syslog_loose.specs.Words.{Text, Dating};
-ghost use Rattle.syslog_loose.specs.Canonical.{IsCanonical};
-ghost use Rattle.syslog_loose.specs.DashChange.{ReadsDifferently, HasDashChange, WasCanonical, WasUnreadable};
-ghost use Rattle.syslog_loose.specs.Message.{MessageValue};
-ghost use Rattle.syslog_loose.specs.Reading.{dash_rule, IsUnreadable};
-ghost use Rattle.syslog_loose.specs.declared.variant.Variant.{Variant};
+ghost use Rattle.syslog_loose.specs.Clauses.{IsCanonical, ReadsDifferently, HasDashChange, WasCanonical, WasUnreadable};
+ghost use Rattle.syslog_loose.specs.Clauses.{MessageValue, dash_rule, IsUnreadable, Variant};
 
 /// A message that was canonical is so.
 #[tactic(auto, using(crate::proofs::DashChangeLemmas::condition_grows))]

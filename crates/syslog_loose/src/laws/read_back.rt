@@ -1,17 +1,11 @@
 //! What is printed of a message, and what is read of it.
 ghost use Rattle.std.specs.Prelude.{◌≡◌, ◌↔◌, ◌⊎◌};
 ghost use Rattle.syslog_loose.specs.Words.{ℕ, IfSome, IsSome, Text, IsCanonicalStamp, Dating, DashRule};
-ghost use Rattle.syslog_loose.specs.Canonical.{IsBounded, IsCanonical};
-ghost use Rattle.syslog_loose.specs.Exceptions.{HasNoException, HasExceptionsAlone, IsNearlyCanonical, IsOfMonthDate};
-ghost use Rattle.syslog_loose.specs.Message.{MessageValue};
-ghost use Rattle.syslog_loose.specs.OneLine.{IsOneLine};
-ghost use Rattle.syslog_loose.specs.Printed.{printed};
-ghost use Rattle.syslog_loose.specs.ReadBack.{ReadsProtocol};
-ghost use Rattle.syslog_loose.specs.Reading.{dash_rule, IsRead, IsOnlyRead};
-ghost use Rattle.syslog_loose.specs.Rfc3164.{IsRead3164};
-ghost use Rattle.syslog_loose.specs.Rfc5424.{IsRead5424};
-ghost use Rattle.syslog_loose.specs.declared.message.Protocol.TheVariants.{RFC3164, RFC5424};
-ghost use Rattle.syslog_loose.specs.declared.variant.Variant.{Variant};
+ghost use Rattle.syslog_loose.specs.declared.message.Protocol.TheVariants.{RFC3164};
+ghost use Rattle.syslog_loose.specs.Clauses.{IsBounded, IsCanonical, HasNoException, HasExceptionsAlone};
+ghost use Rattle.syslog_loose.specs.Clauses.{IsNearlyCanonical, IsOfMonthDate, MessageValue, IsOneLine, printed};
+ghost use Rattle.syslog_loose.specs.Clauses.{ReadsProtocol, dash_rule, IsRead, IsOnlyRead, IsRead3164, IsRead5424};
+ghost use Rattle.syslog_loose.specs.Clauses.{RFC5424, Variant};
 
 /// The printed text of a message of RFC 5424 is read as the same message exactly where the message is canonical, under
 /// either rule of the dash.

@@ -1,12 +1,8 @@
 //! Rounds of a text.
 ghost use Rattle.std.specs.Prelude.{◌≡◌, ◌+◌};
 ghost use Rattle.syslog_loose.specs.Words.{length, Text, Dating, MonthDate, ShowsMonthDate};
-ghost use Rattle.syslog_loose.specs.Canonical.{IsBounded, IsCanonical};
-ghost use Rattle.syslog_loose.specs.Message.{MessageValue};
-ghost use Rattle.syslog_loose.specs.Printed.{printed};
-ghost use Rattle.syslog_loose.specs.Reading.{AsksYear, IsRead, dash_rule};
-ghost use Rattle.syslog_loose.specs.Settling.{IsFirstSettled, IsRound, IsSettled, NoneSettled};
-ghost use Rattle.syslog_loose.specs.declared.variant.Variant.{Variant};
+ghost use Rattle.syslog_loose.specs.Clauses.{IsBounded, IsCanonical, MessageValue, printed, AsksYear, IsRead};
+ghost use Rattle.syslog_loose.specs.Clauses.{dash_rule, IsFirstSettled, IsRound, IsSettled, NoneSettled, Variant};
 
 /// A text has at most one first settled round.
 pub fn one_first_settled_round()

@@ -2,12 +2,7 @@
 ghost use Rattle.std.specs.Prelude.{◌≡◌, ◌≢◌, ◌⊎◌, ◌<◌, ◌≤◌};
 ghost use Rattle.syslog_loose.specs.Words.{ℕ, suc, length, IfSome, Text, Dating, DashRule};
 ghost use Rattle.syslog_loose.specs.Words.{BeforeBlank};
-ghost use Rattle.syslog_loose.specs.Exceptions.{HasNoColon};
-ghost use Rattle.syslog_loose.specs.Message.{MessageValue};
-ghost use Rattle.syslog_loose.specs.Passes.{HasRank, Prints};
-ghost use Rattle.syslog_loose.specs.Printed.{printed};
-ghost use Rattle.syslog_loose.specs.Rfc3164.{IsRead3164};
-ghost use Rattle.syslog_loose.specs.Settling.{Weighs};
+ghost use Rattle.syslog_loose.specs.Clauses.{HasNoColon, MessageValue, HasRank, Prints, printed, IsRead3164, Weighs};
 
 /// Where the printed text of a message that was read as RFC 3164 is read as one that prints otherwise, the new one
 /// weighs less. The years and zones of the two readings count for nothing. Where a dash is a list before anything, a

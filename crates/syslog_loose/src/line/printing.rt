@@ -4,9 +4,8 @@
 ghost use Rattle.std.specs.Prelude.{◌≡◌, ◌++◌};
 ghost use Rattle.syslog_loose.specs.Words.{OnOk, Some, string_bytes, WritesOnOk, encode_utf8_all, list_elements};
 ghost use Rattle.syslog_pieces.specs.Front.{ascii_bytes, front_text};
-ghost use Rattle.syslog_loose.specs.Bodies.Cases.{printed_number};
-ghost use Rattle.syslog_loose.specs.Line.{line_value, KnowsForm};
-ghost use Rattle.syslog_loose.specs.Printed.{elements_text, printed, rest_3164, rest_5424, rest_text, spaced_elements};
+ghost use Rattle.syslog_loose.specs.Clauses.{printed_number, line_value, KnowsForm, elements_text, printed, rest_3164};
+ghost use Rattle.syslog_loose.specs.Clauses.{rest_5424, rest_text, spaced_elements};
 
 use super::Line;
 use crate::message::{read_priority, write_name, write_process, write_spaced, write_tag};

@@ -3,9 +3,8 @@
 ghost use Rattle.std.specs.Prelude.{◌≡◌, ◌≢◌, ◌↔◌, ◌++◌, ◌∷◌};
 ghost use Rattle.syslog_loose.specs.Words.{[], ℕ, List, IfSome, IsTrue, MatchBool, option_map, seen, shown};
 ghost use Rattle.syslog_loose.specs.Words.{procid_value, EndsInColon, dash};
-ghost use Rattle.syslog_loose.specs.Line.{line_value};
-ghost use Rattle.syslog_loose.specs.Reading.{dash_rule};
 ghost use Rattle.syslog_loose.specs.Exceptions as spec;
+ghost use Rattle.syslog_loose.specs.Clauses.{line_value, dash_rule};
 
 use super::Line;
 use crate::message::begins_no_list;

@@ -3,11 +3,8 @@ ghost use Rattle.std.specs.Prelude.{◌≡◌, ◌≢◌, ◌↔◌, ◌<◌};
 ghost use Rattle.syslog_loose.specs.Words.{AllByRecursion, option_map, List, [], IfSome, IsTrue, MatchBool, None, Some};
 ghost use Rattle.syslog_loose.specs.Words.{length, map, chars, Ends, text_of, procid_value, ElementValue};
 ghost use Rattle.syslog_loose.specs.Words.{element_value, BeginsNoList, is_blank, Name};
-ghost use Rattle.syslog_loose.specs.Canonical.{AreElements, fields_value};
-ghost use Rattle.syslog_loose.specs.Message.{message_value};
-ghost use Rattle.syslog_loose.specs.Reading.{dash_rule};
-ghost use Rattle.syslog_loose.specs.TagForm.{IsNoForm};
 ghost use Rattle.syslog_loose.specs.Canonical as spec;
+ghost use Rattle.syslog_loose.specs.Clauses.{AreElements, fields_value, message_value, dash_rule, IsNoForm};
 
 use super::{Message, Protocol};
 use crate::tag_form::tag_form;

@@ -3,9 +3,7 @@ ghost use Rattle.std.specs.Prelude.{◌≡◌};
 ghost use Rattle.syslog_loose.specs.Words.{pointwise, option_eq, option_map, map, text_eq, text_of, facility_eq};
 ghost use Rattle.syslog_loose.specs.Words.{severity_eq, procid_value, procid_eq, element_value, element_eq, on};
 ghost use Rattle.std.specs.Cmp.{on_per, partial_equiv_from_equiv};
-ghost use Rattle.syslog_loose.specs.Equal.{message_eq, stamp_eq};
-ghost use Rattle.syslog_loose.specs.EqualLaws.{message_equivalence};
-ghost use Rattle.syslog_loose.specs.Message.{message_value};
+ghost use Rattle.syslog_loose.specs.Clauses.{message_eq, stamp_eq, message_equivalence, message_value};
 
 use super::Message;
 use syslog_pieces::as_str::{AsStr, is_same_text};

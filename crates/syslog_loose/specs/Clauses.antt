@@ -1,0 +1,35 @@
+-- The definitions of this crate that its clauses cite, passed on from one place. Declares nothing.
+pub use Rattle.syslog_loose.specs.Bodies.Cases.{printed_number}
+pub use Rattle.syslog_loose.specs.Bodies.Jumps.{CutsColons, EndsColons, IsDashed, PassesDashes, colons, colons_before}
+pub use Rattle.syslog_loose.specs.Bodies.Jumps.{message_end, past_colons, tail_text, with_msg}
+pub use Rattle.syslog_loose.specs.Bodies.Rows.{stamped_row}
+pub use Rattle.syslog_loose.specs.Bodies.Start.{IsBehindPriority}
+pub use Rattle.syslog_loose.specs.Bodies.View3164.{FieldsAreRead, IsBehindStamp, IsProcessOf, NamesHost, NamesProgram}
+pub use Rattle.syslog_loose.specs.Bodies.View3164.{names_value}
+pub use Rattle.syslog_loose.specs.Bodies.View5424.{ReadsHeader, names_before}
+pub use Rattle.syslog_loose.specs.Canonical.{AreElements, IsBounded, IsCanonical, fields_value}
+pub use Rattle.syslog_loose.specs.DashChange.{BeginsDashChange, HasDashChange, ReadsDifferently, WasCanonical}
+pub use Rattle.syslog_loose.specs.DashChange.{WasUnreadable}
+pub use Rattle.syslog_loose.specs.Equal.{message_eq, stamp_eq}
+pub use Rattle.syslog_loose.specs.EqualLaws.{message_equivalence}
+pub use Rattle.syslog_loose.specs.Exceptions.{HasExceptionsAlone, HasNoColon, HasNoException, IsNearlyCanonical}
+pub use Rattle.syslog_loose.specs.Exceptions.{IsOfMonthDate}
+pub use Rattle.syslog_loose.specs.Line.{KnowsForm, line_value}
+pub use Rattle.syslog_loose.specs.Message.{MessageValue, message_value, with_elements}
+pub use Rattle.syslog_loose.specs.OneLine.{IsOneLine}
+pub use Rattle.syslog_loose.specs.Passes.{AnswersRound, EndsOnce, HasRank, IsAtRest, IsLater, Prints, ReachesRank}
+pub use Rattle.syslog_loose.specs.Passes.{ShowsNoDate, WritesRound, round_answer}
+pub use Rattle.syslog_loose.specs.Printed.{elements_text, printed, rest_3164, rest_5424, rest_text, spaced_elements}
+pub use Rattle.syslog_loose.specs.ReadBack.{AnswersAgain, AnswersItself, FieldsAsRead, ReadsProtocol}
+pub use Rattle.syslog_loose.specs.Reading.{Answers, AnswersEachMonth, AnswersOrWhole, AsksYear, InYear, IsOnlyRead}
+pub use Rattle.syslog_loose.specs.Reading.{IsQuoted, IsRead, IsUnreadable, dash_rule}
+pub use Rattle.syslog_loose.specs.Rfc3164.{IsRead3164, Names3164, Quotes3164, Resolves, rfc3164_row}
+pub use Rattle.syslog_loose.specs.Rfc5424.{IsNot5424, IsRead5424, rfc5424_row}
+pub use Rattle.syslog_loose.specs.Settling.{IsFirstSettled, IsRound, IsSettled, NoneSettled, Settles, Weighs, answer_in}
+pub use Rattle.syslog_loose.specs.TagForm.{IsForm, IsNoForm}
+pub use Rattle.syslog_loose.specs.Visit.{HasRest, IsCompleted, IsLineOf}
+pub use Rattle.syslog_loose.specs.declared.fault.ParseFault.TheVariants.{Invalid}
+pub use Rattle.syslog_loose.specs.declared.message.Message.{Message}
+pub use Rattle.syslog_loose.specs.declared.message.Protocol.{Protocol}
+pub use Rattle.syslog_loose.specs.declared.message.Protocol.TheVariants.{RFC5424}
+pub use Rattle.syslog_loose.specs.declared.variant.Variant.{Variant}
