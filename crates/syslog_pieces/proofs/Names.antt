@@ -97,8 +97,7 @@ pub use Rattle.syslog_pieces.specs.Timestamp.Printed.{civil_fields, fraction_tex
 pub use Rattle.syslog_pieces.specs.Timestamp.Rfc3164.{rfc3164_stamp}
 pub use Rattle.syslog_pieces.specs.Timestamp.Rfc3339.{HasStamp, decimals, fraction, letter, numeric_row, offset}
 pub use Rattle.syslog_pieces.specs.Timestamp.Rfc3339.{seconds_of, sign, stamp_row, stamp_text, written_of, year}
-pub use Rattle.syslog_pieces.specs.Bodies.Looks.{is_dot, LeadsBare, BeginsVisibly, BeginsWithGap}
-pub use Rattle.syslog_pieces.specs.Bodies.Looks.{IsSmallNumber}
+pub use Rattle.syslog_pieces.specs.Bodies.Looks.{is_dot, LeadsBare, BeginsVisibly, BeginsWithGap, IsSmallNumber}
 pub use Rattle.syslog_pieces.specs.Timestamp.Zone.{Dating, IsMonthStamp}
 pub use Rattle.syslog_pieces.specs.declared.structured_data.walk.Walked.{Walked}
 pub use Rattle.syslog_pieces.specs.declared.timestamp.OffsetTimestamp.{OffsetTimestamp}

@@ -6,3 +6,4 @@ pub mod StructuredData
 pub mod Text
 pub mod Timestamp
 pub mod Front
+pub mod Words

@@ -8,8 +8,7 @@ ghost use Rattle.std.specs.List.{AllByRecursion};
 ghost use Rattle.syslog_pieces.specs.Bodies.Clock.{fields_text, unsigned_date_time};
 ghost use Rattle.syslog_pieces.specs.Pri.{priority_text};
 ghost use Rattle.syslog_pieces.specs.Timestamp.Fields.{AreCivil};
-ghost use Rattle.syslog_pieces.specs.Timestamp.Printed.{date_time_text, fraction_text, offset_text};
-ghost use Rattle.syslog_pieces.specs.Timestamp.Printed.{printed_stamp};
+ghost use Rattle.syslog_pieces.specs.Timestamp.Printed.{date_time_text, fraction_text, offset_text, printed_stamp};
 
 use crate::text::write_ascii::{digit, three_digits, two_digits};
 use crate::timestamp::fields::{CivilFields, datetime_fields};

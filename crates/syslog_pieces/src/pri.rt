@@ -3,8 +3,7 @@
 //! The priority of a line is optional; `optional_priority` returns it and the text after it. Nothing here takes
 //! memory.
 ghost use Rattle.std.specs.Prelude.{◌≡◌, ◌<◌, ◌≤◌, MatchOption, option_and_then, chars, encode_utf8_all};
-ghost use Rattle.std.specs.Fmt.{WritesOnOk};
-ghost use Rattle.syslog_pieces.specs.Pieces.{Front, optional, shown, Reads};
+ghost use Rattle.syslog_pieces.specs.Words.{WritesOnOk, Front, optional, shown, Reads};
 ghost use Rattle.syslog_pieces.specs.Pri.{priority_text};
 ghost use Rattle.syslog_pieces.specs.Pri as spec;
 

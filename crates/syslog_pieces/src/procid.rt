@@ -4,15 +4,13 @@
 //! RFC 5424 section 6.2.6 leaves the form open.
 ghost use Rattle.std.specs.Bool.{OnFalse};
 ghost use Rattle.std.specs.Cmp.{on_equiv, on_per, partial_equiv_from_equiv};
-ghost use Rattle.std.specs.Ordering.{on};
+ghost use Rattle.syslog_pieces.specs.Words.{on, ProcId, shown, text_of, ClonesKeepText};
 ghost use Rattle.std.specs.Prelude.{◌≡◌, ◌↔◌, IfOk, IsTrue, Some, string_bytes, chars, encode_utf8_all};
 ghost use Rattle.syslog_pieces.specs.Bodies.Looks.{LeadsBare};
 ghost use Rattle.syslog_pieces.specs.Bodies.Verbatim.{IsBareWord};
-ghost use Rattle.syslog_pieces.specs.ProcId as spec;
-ghost use Rattle.syslog_pieces.specs.declared.procid.ProcId.{ProcId};
 ghost use Rattle.syslog_pieces.specs.ProcId.Equal.{procid_eq};
 ghost use Rattle.syslog_pieces.specs.ProcId.EqualLaws.{procid_equivalence};
-ghost use Rattle.syslog_pieces.specs.Pieces.{shown, text_of, ClonesKeepText};
+ghost use Rattle.syslog_pieces.specs.ProcId as spec;
 
 use crate::as_str::{AsStr, is_same_text};
 use crate::text::canonical::is_canonical_word;

@@ -3,9 +3,7 @@
 //! Values stay raw, and `StructuredElement::params` takes the escapes out. Recognising an element or a list takes no
 //! memory, and time in proportion to the text; collecting it allocates.
 ghost use Rattle.std.specs.Prelude.{◌≡◌, ◌++◌, [], ◌∷◌, Some, encode_utf8_all};
-ghost use Rattle.std.specs.Fmt.{WritesOnOk};
-ghost use Rattle.syslog_pieces.specs.StructuredData.Element.{element_text, element_value};
-ghost use Rattle.syslog_pieces.specs.Pieces.{text_of};
+ghost use Rattle.syslog_pieces.specs.Words.{WritesOnOk, element_text, element_value, text_of};
 
 pub mod canonical;
 mod collect;

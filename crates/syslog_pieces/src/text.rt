@@ -4,10 +4,9 @@
 //! it. A reader returns what its class in `specs/Text.antt` means and the rest, or nothing where no front of the text
 //! is of the class. Nothing here takes memory, and no text is copied.
 ghost use Rattle.std.specs.Prelude.{◌≡◌, ◌<◌, [], ◌∷◌, IfSome, IsTrue, Option, MatchOption, bytes_eq, chars, IsUtf8};
-ghost use Rattle.syslog_pieces.specs.Text.CharClass.{has};
+ghost use Rattle.syslog_pieces.specs.Words.{has, Front, exactly, optional, run, some_run, spaced, field_seen, seen};
+ghost use Rattle.syslog_pieces.specs.Words.{shown, Reads, Skips};
 ghost use Rattle.syslog_pieces.specs.declared.text.CharClass.TheVariants.{Blank, Digit};
-ghost use Rattle.syslog_pieces.specs.Pieces.{Front, exactly, optional, run, some_run, spaced, field_seen, seen, shown};
-ghost use Rattle.syslog_pieces.specs.Pieces.{Reads, Skips};
 ghost use Rattle.syslog_pieces.specs.Bodies.Scan.{EndsRun, IsBare, SplitsRun, byte_in};
 ghost use Rattle.syslog_pieces.specs.Text as spec;
 

@@ -12,11 +12,9 @@
 ghost use Rattle.std.proofs.Common.{rules};
 ghost use Rattle.std.specs.Cmp.{partial_order_from_own_ties};
 ghost use Rattle.std.specs.Cmp.Rules.{comparing};
-ghost use Rattle.std.specs.Ordering.{on, int_eq, int_cmp, as_partial_cmp};
+ghost use Rattle.syslog_pieces.specs.Words.{on, int_eq, int_cmp, as_partial_cmp, stamp_seen, Reads};
 ghost use Rattle.std.specs.Prelude.{Some, chars};
 ghost use Rattle.syslog_pieces.specs.Timestamp as spec;
-ghost use Rattle.syslog_pieces.specs.Timestamp.{stamp_seen};
-ghost use Rattle.syslog_pieces.specs.Pieces.{Reads};
 
 pub mod canonical;
 mod clock;

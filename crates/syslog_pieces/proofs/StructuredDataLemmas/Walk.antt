@@ -3,8 +3,8 @@ use Rattle.syslog_pieces.proofs.Names.{◌≡◌, start_row, many_cons, many_non
 use Rattle.syslog_pieces.proofs.Names.{◌<◌, more_goes, row_first, more_here, many_here, one_value, forgiving, bracketed}
 use Rattle.syslog_pieces.proofs.Names.{Some, None, List, ◌++◌, refl, Text, many, dash, Bool, Class, heads, false, value}
 use Rattle.syslog_pieces.proofs.Names.{inl, opening, closing, NoFront, row_goes, ∥∥₁_elim, row_head, param_of, is_blank}
-use Rattle.syslog_pieces.proofs.Names.{inr, ◌∷◌, sym, ◌∙◌, Row, ◌↔◌, ◌+◌, ◌≤◌, ◌&&◌, ◌⊎◌, item, true, map, run}
-use Rattle.syslog_pieces.proofs.Names.{[], opening_row, list_before, element_row, exactly_det, more_before, no_front_no}
+use Rattle.syslog_pieces.proofs.Names.{inr, ◌∷◌, sym, ◌∙◌, Row, ◌↔◌, ◌+◌, ◌≤◌, ◌&&◌, ◌⊎◌, item, true, map, run, []}
+use Rattle.syslog_pieces.proofs.Names.{opening_row, list_before, element_row, exactly_det, more_before, no_front_no}
 use Rattle.syslog_pieces.proofs.Names.{length, IsDeterministic, nil_from_length, length-le-encodes, append_cancel_right}
 use Rattle.syslog_pieces.proofs.Names.{ap, exactly, element, IsUtf8, IsTrue, texted, row_det, no_more, no_list, IsAlone}
 use Rattle.syslog_pieces.proofs.Names.{subst, arith, start, Front, param, Meets, shown, chars, IsMany, strict, Visits}
@@ -28,8 +28,7 @@ use Rattle.syslog_pieces.proofs.StructuredDataLemmas.Elements.{element_det, elem
 use Rattle.syslog_pieces.proofs.StructuredDataLemmas.Elements.{dash_apart, params_det, space_is_no_close, no_blanks}
 use Rattle.syslog_pieces.proofs.StructuredDataLemmas.Elements.{quoted_text, param_det, item_det, strict_append}
 use Rattle.syslog_pieces.proofs.StructuredDataLemmas.Elements.{item_shorter, no_item_nil, no_forgiving_list}
-use Rattle.syslog_pieces.proofs.PieceLemmas.Lists.{leaves_less, list_cons, more_cons}
-use Rattle.syslog_pieces.proofs.PieceLemmas.Lists.{list_parts}
+use Rattle.syslog_pieces.proofs.PieceLemmas.Lists.{leaves_less, list_cons, more_cons, list_parts}
 use Rattle.syslog_pieces.proofs.TextLemmas.Runs.{bytes}
 use Rattle.syslog_pieces.proofs.PieceLemmas.Class.{IsSteady, alone_steady, exactly_alone, run_steady, some_run_steady}
 use Rattle.syslog_pieces.proofs.PieceLemmas.Class.{texted_steady, mapped_alone, row_alone, closed_steady}

@@ -1,21 +1,20 @@
 -- From the bytes of a text to its characters: cuts, runs, and what the first bytes say.
-use Rattle.syslog_pieces.proofs.Names.{◌≡◌, IsAscii, add-one, NoFront, run_same, each_map, is_blank, not-true, and_from}
-use Rattle.syslog_pieces.proofs.Names.{◌≢◌, false, arith, chars, Option, IsHost, nat_lt, lt-ltb, number, IsBare}
-use Rattle.syslog_pieces.proofs.Names.{ℕ, IsAscii-nil, IsAscii-cons, IsUtf8-take, length-drop, IsUtf8-drop, length-take}
-use Rattle.syslog_pieces.proofs.Names.{◌<◌, Bool, true, List, ◌++◌, Text, Each, Ends, Front, Names, Class, IsRun, subst}
-use Rattle.syslog_pieces.proofs.Names.{nat_eq, chars-append, encodes-chars, chars-IsAscii, length-append, is_whitespace}
-use Rattle.syslog_pieces.proofs.Names.{[], length, get_or, IsUtf8, EndsRun, byte_in, past_in, exactly, IsRunIn, trimmed}
-use Rattle.syslog_pieces.proofs.Names.{◌∷◌, sym, ◌∙◌, take, drop, Some, None, word, host, zero, refl, cond, Fits, ◌&&◌}
-use Rattle.syslog_pieces.proofs.Names.{ap, suc, ◌-◌, ◌≤◌, inl, inr, not, run, has, ◌+◌, ◌%◌, ◌^◌, map, eqb-true}
-use Rattle.syslog_pieces.proofs.Names.{bytes_eq, add-zero, cases_lt, and_left, ltb-true, some_run, not-false, nat_tests}
-use Rattle.syslog_pieces.proofs.Names.{IsUtf8-from_ascii, IsCharBoundary-at_seam, IsCharBoundary-after_ascii, chars-nil}
-use Rattle.syslog_pieces.proofs.Names.{encodes-IsAscii, drop-append_seam, take-append_seam, take-append-drop}
+use Rattle.syslog_pieces.proofs.Names.{◌≡◌, IsUtf8-from_ascii, get_or_append_left, is_not_whitespace, length-le-encodes}
+use Rattle.syslog_pieces.proofs.Names.{IsAscii, add-one, NoFront, Bool, EndsRun, cases_lt, and_left, ltb-true, some_run}
+use Rattle.syslog_pieces.proofs.Names.{run_same, each_map, is_blank, not-true, and_from, eqb-true, bytes_eq, add-zero}
+use Rattle.syslog_pieces.proofs.Names.{◌≢◌, encodes-chars, chars-IsAscii, length-append, byte_from_char, char_from_byte}
+use Rattle.syslog_pieces.proofs.Names.{false, is_whitespace, chars-encodes, scalars-chars, BeginsVisibly, BeginsWithGap}
+use Rattle.syslog_pieces.proofs.Names.{arith, chars, Front, Names, Class, IsRun, nat_eq, length, get_or, IsUtf8, bit_or}
+use Rattle.syslog_pieces.proofs.Names.{Option, IsCharBoundary-at_seam, IsCharBoundary-after_ascii, IsCharBoundary-start}
+use Rattle.syslog_pieces.proofs.Names.{IsHost, length-take, nat_tests, cases_Bool, agree_below, length-map, get_or-drop}
+use Rattle.syslog_pieces.proofs.Names.{nat_lt, lt-ltb, number, IsBare, byte_in, past_in, exactly, IsRunIn, trimmed, ◌∷◌}
+use Rattle.syslog_pieces.proofs.Names.{ℕ, true, List, ◌++◌, Text, Each, Ends, subst, take, drop, Some, None, word, host}
+use Rattle.syslog_pieces.proofs.Names.{IsAscii-nil, IsAscii-cons, IsUtf8-take, length-drop, IsUtf8-drop, chars-append}
+use Rattle.syslog_pieces.proofs.Names.{◌<◌, chars-nil, name_text, and_parts, SplitsRun, CharClass, replicate, drop_more}
+use Rattle.syslog_pieces.proofs.Names.{[], ap, has, ◌+◌, ◌%◌, ◌^◌, map, eqb, w8, beq, ◌/◌}
+use Rattle.syslog_pieces.proofs.Names.{sym, ◌∙◌, zero, refl, cond, Fits, ◌&&◌, suc, ◌-◌, ◌≤◌, inl, inr, not, run, ◌||◌}
+use Rattle.syslog_pieces.proofs.Names.{not-false, encodes-IsAscii, drop-append_seam, take-append_seam, take-append-drop}
 use Rattle.syslog_pieces.proofs.Names.{is_ascii_digit, encode_utf8_all, encodes-append, IsCharBoundary, agree_below_at}
-use Rattle.syslog_pieces.proofs.Names.{name_text, cases_Bool, and_parts, SplitsRun, CharClass, agree_below, length-map}
-use Rattle.syslog_pieces.proofs.Names.{get_or-drop, eqb, replicate, w8, bit_or, ◌||◌, byte_from_char}
-use Rattle.syslog_pieces.proofs.Names.{char_from_byte, IsCharBoundary-start, chars-encodes, scalars-chars, drop_more}
-use Rattle.syslog_pieces.proofs.Names.{get_or_append_left, beq, BeginsVisibly, BeginsWithGap}
-use Rattle.syslog_pieces.proofs.Names.{is_not_whitespace, length-le-encodes, ◌/◌}
 use Rattle.std.proofs.Common.{get_or-take}
 use Rattle.std.proofs.lemmas.List.{get_or-append-add}
 use Rattle.std.proofs.lemmas.Str.{IsCharBoundary-before_ascii}

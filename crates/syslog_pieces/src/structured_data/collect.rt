@@ -1,9 +1,6 @@
 //! Collecting elements: those of a list while it is recognised, and those of one that was.
 ghost use Rattle.std.specs.Prelude.{◌≡◌, ◌≢◌, ◌++◌, ◌∷◌, [], IfOk, MatchResult, map};
-ghost use Rattle.syslog_pieces.specs.Pieces.{shown};
-ghost use Rattle.syslog_pieces.specs.StructuredData.Collected.{HasNoted};
-ghost use Rattle.syslog_pieces.specs.StructuredData.Element.{element_value, param_value};
-ghost use Rattle.syslog_pieces.specs.StructuredData.Visited.{element_seen, list_elements};
+ghost use Rattle.syslog_pieces.specs.Words.{shown, HasNoted, element_value, param_value, element_seen, list_elements};
 
 use super::StructuredElement;
 use super::few_params::FewParams;
@@ -20,8 +17,7 @@ pub struct Collect<'a> {
 
 impl<'a> Collect<'a> {
     ghost use Rattle.std.specs.Prelude.{List};
-    ghost use Rattle.syslog_pieces.specs.StructuredData.Element.{ElementValue};
-    ghost use Rattle.syslog_pieces.specs.StructuredData.Collected.{HasCollected};
+    ghost use Rattle.syslog_pieces.specs.Words.{ElementValue, HasCollected};
 
     /// Nothing is collected yet, and no memory asked for.
     #[inline(always)]
@@ -44,7 +40,7 @@ impl<'a> Collect<'a> {
 }
 
 impl<'a> ElementVisitor<'a> for Collect<'a> {
-    ghost use Rattle.syslog_pieces.specs.StructuredData.Collected.{HasCollected};
+    ghost use Rattle.syslog_pieces.specs.Words.{HasCollected};
 
     type Notes = FewParams<'a>;
 

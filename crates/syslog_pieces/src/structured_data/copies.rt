@@ -1,7 +1,6 @@
 //! Copies of elements. The memory for a list is asked for once, at its final size.
 ghost use Rattle.std.specs.Prelude.{◌≡◌, IfOk, string_bytes};
-ghost use Rattle.syslog_pieces.specs.Pieces.{shown, text_of, ClonesKeepText};
-ghost use Rattle.syslog_pieces.specs.StructuredData.Element.{element_value};
+ghost use Rattle.syslog_pieces.specs.Words.{shown, text_of, ClonesKeepText, element_value};
 
 use super::StructuredElement;
 use crate::as_str::AsStr;

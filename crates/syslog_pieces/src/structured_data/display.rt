@@ -1,8 +1,7 @@
 //! The printed text of elements and lists that were recognised and not collected.
 ghost use Rattle.std.specs.Prelude.{◌≡◌, Some, encode_utf8_all};
-ghost use Rattle.std.specs.Fmt.{WritesOnOk};
-ghost use Rattle.syslog_pieces.specs.StructuredData.Element.{element_text, elements_text, joined_elements};
-ghost use Rattle.syslog_pieces.specs.StructuredData.Visited.{element_seen, list_elements};
+ghost use Rattle.syslog_pieces.specs.Words.{WritesOnOk, element_text, elements_text, joined_elements, element_seen};
+ghost use Rattle.syslog_pieces.specs.Words.{list_elements};
 
 use super::recognised::{Element, ElementList};
 use super::write_param;

@@ -1,10 +1,8 @@
 //! Equality of elements: one id, and the same parameters in any order. It takes no memory. It is one pass if the
 //! parameters are in one order, and at worst time in proportion to the product of the two lengths.
 ghost use Rattle.std.specs.Cmp.{on_equiv, on_per, partial_equiv_from_equiv};
-ghost use Rattle.std.specs.Ordering.{on};
+ghost use Rattle.syslog_pieces.specs.Words.{on, text_of, element_value, param_value};
 ghost use Rattle.std.specs.Prelude.{◌≡◌, ◌≤◌, count_by, length, map, take};
-ghost use Rattle.syslog_pieces.specs.Pieces.{text_of};
-ghost use Rattle.syslog_pieces.specs.StructuredData.Element.{element_value, param_value};
 ghost use Rattle.syslog_pieces.specs.StructuredData.Equal.{element_eq, same_params, counts_agree, param_eq};
 ghost use Rattle.syslog_pieces.specs.StructuredData.EqualLaws.{element_equivalence};
 

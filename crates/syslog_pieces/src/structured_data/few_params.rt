@@ -19,10 +19,7 @@ pub struct FewParams<'a> {
 
 impl<'a> FewParams<'a> {
     ghost use Rattle.std.specs.Prelude.{IfSome, map};
-    ghost use Rattle.syslog_pieces.specs.Pieces.{shown};
-    ghost use Rattle.syslog_pieces.specs.StructuredData.Collected.{HasNoted};
-    ghost use Rattle.syslog_pieces.specs.StructuredData.Element.{param_value};
-    ghost use Rattle.syslog_pieces.specs.StructuredData.Visited.{element_seen};
+    ghost use Rattle.syslog_pieces.specs.Words.{shown, HasNoted, param_value, element_seen};
 
     /// Returns the parameters of the element, where all of them were noted.
     pub fn all_of(&self, element: &Element<'a>) -> Option<&[(&'a str, &'a str)]>
@@ -37,7 +34,7 @@ impl<'a> FewParams<'a> {
 }
 
 impl<'a> ParamNotes<'a> for FewParams<'a> {
-    ghost use Rattle.syslog_pieces.specs.StructuredData.Collected.{HasNoted};
+    ghost use Rattle.syslog_pieces.specs.Words.{HasNoted};
 
     ghost noted = { λ notes ps. HasNoted notes ps };
 

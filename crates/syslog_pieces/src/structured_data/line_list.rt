@@ -1,11 +1,10 @@
 //! The list of a line, recognised and not collected. A visitor is given its strict elements on the way.
 ghost use Rattle.std.specs.Prelude.{◌≡◌, ◌++◌, [], ◌∷◌, ◌<◌, List, Option, IfSome, IsTrue, MatchOption, length, sum_by};
 ghost use Rattle.std.specs.Prelude.{chars};
-ghost use Rattle.syslog_pieces.specs.Pieces.{Text, Front, NoFront, optional, many, shown};
-ghost use Rattle.syslog_pieces.specs.StructuredData.{forgiving, item as item_class, strict as strict_of};
-ghost use Rattle.syslog_pieces.specs.StructuredData.Element.{ElementValue, joined_elements};
-ghost use Rattle.syslog_pieces.specs.StructuredData.Rfc3164List.{elements_or, full_element, rfc3164_list};
-ghost use Rattle.syslog_pieces.specs.StructuredData.Visited.{list_elements, list_text, AreItems, IsTallied, Visits};
+ghost use Rattle.syslog_pieces.specs.Words.{Text, Front, NoFront, optional, many, shown, forgiving, ElementValue};
+ghost use Rattle.syslog_pieces.specs.Words.{joined_elements, elements_or, full_element, rfc3164_list, list_elements};
+ghost use Rattle.syslog_pieces.specs.Words.{list_text, AreItems, IsTallied, Visits};
+ghost use Rattle.syslog_pieces.specs.StructuredData.{item as item_class, strict as strict_of};
 
 use super::recognise::after_bracketed;
 use super::recognised::ElementList;

@@ -1,6 +1,6 @@
 //! The parameters of an element, one after the other.
 ghost use Rattle.std.specs.Prelude.{◌≡◌, List};
-ghost use Rattle.std.specs.Iterator.{item_count};
+ghost use Rattle.syslog_pieces.specs.Words.{item_count};
 ghost use Rattle.syslog_pieces.specs.StructuredData.Params.{NextParam};
 
 use super::escapes::unescape;

@@ -5,13 +5,12 @@
 //! all of them continue alike. A number `dead` keeps how: no element closes from after a `]` that leaves `dead` bytes
 //! or more. A scan that passes such a `]` stops there.
 ghost use Rattle.std.specs.Prelude.{◌≡◌, ◌++◌, [], ◌∷◌, MatchOption, MatchResult, chars, IsUtf8};
-ghost use Rattle.syslog_pieces.specs.Text.CharClass.{has};
-ghost use Rattle.syslog_pieces.specs.Pieces.{Front, NoFront, exactly, some_run, texted, shown, Reads, Recognises};
+ghost use Rattle.syslog_pieces.specs.Words.{has, Front, NoFront, exactly, some_run, texted, shown, Reads, Recognises};
+ghost use Rattle.syslog_pieces.specs.Words.{IsValueUnit, param_value};
 ghost use Rattle.syslog_pieces.specs.Bodies.Closing.{opening as opening_class, quoted as quoted_class, name_alone};
 ghost use Rattle.syslog_pieces.specs.Bodies.Closing.{closing, IsDead, last_char};
 ghost use Rattle.syslog_pieces.specs.StructuredData.Escapes.{TextUnit, unit_text};
-ghost use Rattle.syslog_pieces.specs.StructuredData.{bracketed as bracketed_class, param as param_class, IsValueUnit};
-ghost use Rattle.syslog_pieces.specs.StructuredData.Element.{param_value};
+ghost use Rattle.syslog_pieces.specs.StructuredData.{bracketed as bracketed_class, param as param_class};
 
 use crate::text::{CharClass, blanks, first, literal, split_run};
 

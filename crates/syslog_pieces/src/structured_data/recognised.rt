@@ -22,8 +22,7 @@ pub struct Element<'a> {
 
 impl<'a> Element<'a> {
     ghost use Rattle.std.specs.Prelude.{List};
-    ghost use Rattle.syslog_pieces.specs.Pieces.{Text, Front};
-    ghost use Rattle.syslog_pieces.specs.StructuredData.Visited.{element_seen};
+    ghost use Rattle.syslog_pieces.specs.Words.{Text, Front, element_seen};
 
     // The element of the id and of the text inside, which has so many parameters.
     #[inline(always)]
@@ -70,9 +69,7 @@ pub struct ElementList<'a> {
 
 impl<'a> ElementList<'a> {
     ghost use Rattle.std.specs.Prelude.{◌≢◌, List, Option, [], IsTrue, MatchBool};
-    ghost use Rattle.syslog_pieces.specs.Pieces.{Text, Front};
-    ghost use Rattle.syslog_pieces.specs.StructuredData.Element.{ElementValue};
-    ghost use Rattle.syslog_pieces.specs.StructuredData.Visited.{list_elements, list_text};
+    ghost use Rattle.syslog_pieces.specs.Words.{Text, Front, ElementValue, list_elements, list_text};
 
     // The list of this text, of its printed text, and of its numbers of elements and of their parameters.
     #[inline(always)]

@@ -32,10 +32,7 @@ pub struct Params<'a> {
 }
 
 impl<'a> Iterator for Params<'a> {
-    ghost use Rattle.std.specs.Iterator.{YieldsFirstBy, item_count};
-    ghost use Rattle.syslog_pieces.specs.Pieces.{shown};
-    ghost use Rattle.syslog_pieces.specs.StructuredData.Element.{param_value};
-    ghost use Rattle.syslog_pieces.specs.StructuredData.Visited.{params_left};
+    ghost use Rattle.syslog_pieces.specs.Words.{YieldsFirstBy, item_count, shown, param_value, params_left};
 
     type Item = (&'a str, &'a str);
 
@@ -65,8 +62,7 @@ pub struct Elements<'a> {
 }
 
 impl<'a> Iterator for Elements<'a> {
-    ghost use Rattle.std.specs.Iterator.{YieldsFirstBy, item_count};
-    ghost use Rattle.syslog_pieces.specs.StructuredData.Visited.{element_seen, elements_left};
+    ghost use Rattle.syslog_pieces.specs.Words.{YieldsFirstBy, item_count, element_seen, elements_left};
 
     type Item = Element<'a>;
 
@@ -94,7 +90,7 @@ impl<'a> Iterator for Elements<'a> {
 }
 
 impl<'a> Element<'a> {
-    ghost use Rattle.syslog_pieces.specs.StructuredData.Visited.{element_seen, params_left};
+    ghost use Rattle.syslog_pieces.specs.Words.{element_seen, params_left};
 
     /// The names and the raw values of its parameters.
     #[tactic(auto, using(crate::proofs::StructuredDataLemmas::Walk::inside_same))]
@@ -106,7 +102,7 @@ impl<'a> Element<'a> {
 }
 
 impl<'a> ElementList<'a> {
-    ghost use Rattle.syslog_pieces.specs.StructuredData.Visited.{elements_left, list_elements};
+    ghost use Rattle.syslog_pieces.specs.Words.{elements_left, list_elements};
 
     /// Its strict elements.
     pub fn elements(&self) -> Elements<'a>

@@ -1,7 +1,6 @@
 //! The list of RFC 3164: `-`, or strict elements that each have a parameter. Anything else belongs to the message.
 ghost use Rattle.std.specs.Prelude.{◌≡◌, ◌∷◌, MatchBool, MatchOption, chars};
-ghost use Rattle.syslog_pieces.specs.Pieces.{Text, NoFront, shown};
-ghost use Rattle.syslog_pieces.specs.StructuredData.Rfc3164List.{rfc3164_list, IsDashBefore};
+ghost use Rattle.syslog_pieces.specs.Words.{Text, NoFront, shown, rfc3164_list, IsDashBefore};
 
 use super::visit::NoNotes;
 use super::walk::walk_full_element;

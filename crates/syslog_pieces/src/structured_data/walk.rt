@@ -3,10 +3,8 @@
 ghost use Rattle.std.specs.Prelude.{◌≡◌, ◌++◌, ◌<◌, [], ◌∷◌, IfOk, IfSome, IsTrue, MatchOption, MatchResult, chars};
 ghost use Rattle.std.specs.Prelude.{length};
 ghost use Rattle.syslog_pieces.specs.Bodies.Closing.{IsDead, opening as opening_class, name_alone};
-ghost use Rattle.syslog_pieces.specs.Pieces.{Front, NoFront, run, shown};
+ghost use Rattle.syslog_pieces.specs.Words.{Front, NoFront, run, shown, full_element, IsWalked, element_seen};
 ghost use Rattle.syslog_pieces.specs.StructuredData.{element as element_class};
-ghost use Rattle.syslog_pieces.specs.StructuredData.Rfc3164List.{full_element};
-ghost use Rattle.syslog_pieces.specs.StructuredData.Visited.{IsWalked, element_seen};
 ghost use Rattle.syslog_pieces.specs.Text as spec;
 
 use super::recognise::{live_value, nonempty_run, value_before};

@@ -1,9 +1,8 @@
 //! Which texts are read back from print as they are. Each test asks the scanner or the reader that reads such a text,
 //! and takes no memory.
 ghost use Rattle.std.specs.Prelude.{◌≡◌, ◌↔◌, ◌<◌, IsSomeAnd, IsTrue, [], length, chars};
-ghost use Rattle.syslog_pieces.specs.Pieces.{Each, Ends, shown};
+ghost use Rattle.syslog_pieces.specs.Words.{Each, Ends, shown, has};
 ghost use Rattle.syslog_pieces.specs.Text.{is_blank};
-ghost use Rattle.syslog_pieces.specs.Text.CharClass.{has};
 ghost use Rattle.syslog_pieces.specs.Text.Canonical.{IsCanonicalHost, IsCanonicalTag, IsCanonicalWord};
 
 use super::{CharClass, host, split_run, tag_word, word};

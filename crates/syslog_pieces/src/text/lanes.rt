@@ -3,7 +3,8 @@
 //! It compares sixteen bytes at once, and returns the place of the first that stops the run. There is one for all
 //! classes: it is inlined where the class is known, so that only the comparisons of that class are left.
 ghost use Rattle.std.specs.Prelude.{◌≡◌, ◌+◌, ◌≤◌, ◌<◌, IfSome, IsTrue, length, slice_index};
-ghost use Rattle.syslog_pieces.specs.Bodies.Scan.{IsRun, IsRunIn, byte_in, first_set, in_set, lists_class, visible_byte};
+ghost use Rattle.syslog_pieces.specs.Bodies.Scan.{IsRun, IsRunIn, byte_in, first_set, in_set, lists_class};
+ghost use Rattle.syslog_pieces.specs.Bodies.Scan.{visible_byte};
 
 use crate::text::CharClass;
 use std::simd::prelude::*;

@@ -1,10 +1,9 @@
 //! The numbers that runs of digits write.
 ghost use Rattle.std.specs.Prelude.{◌≡◌, ◌+◌, ◌<◌, ◌≤◌, ◌^◌, ◌∷◌, [], ℕ, IfSome, IsTrue, SomeIff, length, slice_index};
 ghost use Rattle.std.specs.Prelude.{chars};
-ghost use Rattle.std.specs.Char.{is_ascii_digit};
+ghost use Rattle.syslog_pieces.specs.Words.{is_ascii_digit, Each};
 ghost use Rattle.std.specs.Str.Parse.{digits_value};
 ghost use Rattle.syslog_pieces.specs.Bodies.Looks.{IsSmallNumber};
-ghost use Rattle.syslog_pieces.specs.Pieces.{Each};
 
 use crate::text::looks::begins_with_digit;
 

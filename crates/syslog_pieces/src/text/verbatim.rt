@@ -2,7 +2,7 @@
 //!
 //! Each test may always return false: then the piece is printed instead.
 ghost use Rattle.std.specs.Prelude.{◌≡◌, ◌∷◌, ◌++◌, IsTrue, chars};
-ghost use Rattle.syslog_pieces.specs.Pieces.{Text};
+ghost use Rattle.syslog_pieces.specs.Words.{Text};
 
 use crate::text::looks::begins_with;
 

@@ -1,8 +1,7 @@
 //! The bytes of digits.
 ghost use Rattle.std.specs.Prelude.{◌≡◌, ◌<◌, ◌+◌};
-ghost use Rattle.std.specs.List.{AllByRecursion};
+ghost use Rattle.syslog_pieces.specs.Words.{AllByRecursion, pad3};
 ghost use Rattle.jiff_fmt.specs.Text.{pad2};
-ghost use Rattle.syslog_pieces.specs.Timestamp.Printed.{pad3};
 
 /// The byte of a digit.
 #[inline(always)]

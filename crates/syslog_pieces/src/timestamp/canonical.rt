@@ -1,8 +1,7 @@
 //! Whether a timestamp is read back from its printed text.
 ghost use Rattle.std.specs.Prelude.{◌≡◌, ◌↔◌, ◌%◌, ◌<◌, ◌≤ℤ◌, pos, unsigned_abs, IfSome, IsTrue};
-ghost use Rattle.syslog_pieces.specs.Timestamp.{clock_value, stamp_seen};
+ghost use Rattle.syslog_pieces.specs.Words.{clock_value, stamp_seen, IsCanonicalStamp};
 ghost use Rattle.syslog_pieces.specs.Timestamp.Canonical as spec;
-ghost use Rattle.syslog_pieces.specs.Timestamp.Canonical.{IsCanonicalStamp};
 
 use super::{ClockStamp, OffsetTimestamp};
 

@@ -1,9 +1,7 @@
 //! The small pieces at the front of bytes: digits as numbers, and letters. Nothing is copied.
 ghost use Rattle.std.specs.Prelude.{◌≡◌, ℕ, ◌<◌, ◌≤◌, ◌++◌, ◌∷◌, length, slice_index, IfSome, MatchOption};
-ghost use Rattle.std.specs.List.{prefix_len};
-ghost use Rattle.std.specs.Char.{is_ascii_digit, IsAsciiDigit};
-ghost use Rattle.syslog_pieces.specs.Pieces.{Front, NoFront, after, ReadsBytes};
-ghost use Rattle.syslog_pieces.specs.Timestamp.Printed.{pad3};
+ghost use Rattle.syslog_pieces.specs.Words.{prefix_len, is_ascii_digit, IsAsciiDigit, Front, NoFront, after};
+ghost use Rattle.syslog_pieces.specs.Words.{ReadsBytes, pad3};
 ghost use Rattle.syslog_pieces.specs.Timestamp.Rfc3339 as spec;
 
 use crate::text::begins_with_digit;

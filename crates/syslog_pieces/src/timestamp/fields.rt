@@ -1,8 +1,6 @@
 //! Civil fields as numbers, and the datetime that they name.
 ghost use Rattle.std.specs.Prelude.{◌≡◌, ◌<◌, ◌^◌, pos, IsNone, IfSome, SomeIff, FitsSigned};
-ghost use Rattle.std.specs.Int.{w16};
-ghost use Rattle.jiff.specs.Words.{IsDate, IsYmd, IsTime, IsHms};
-ghost use Rattle.syslog_pieces.specs.Timestamp.Fields.{AreCivil, fields_of};
+ghost use Rattle.syslog_pieces.specs.Words.{w16, IsDate, IsYmd, IsTime, IsHms, AreCivil, fields_of};
 
 use jiff::civil::DateTime;
 

@@ -1,14 +1,12 @@
 //! Whether there is a timestamp of civil fields on a clock, and its instant, by its own arithmetic: of most dates no
 //! calendar is asked, and no datetime is made of any for its instant.
 ghost use Rattle.std.specs.Prelude.{◌≡◌, ◌↔◌, ◌+◌, ◌*◌, ◌<◌, ◌≤◌, ◌+ℤ◌, ◌-ℤ◌, ◌*ℤ◌, ◌≤ℤ◌, ◌<ℤ◌, neg_ℤ, pos, IsTrue};
-ghost use Rattle.std.specs.Int.{IsInRange};
-ghost use Rattle.jiff.specs.Words.{IsOffsetSeconds, IsTimestampNanos, nanos_of_seconds};
+ghost use Rattle.syslog_pieces.specs.Words.{IsInRange, IsOffsetSeconds, IsTimestampNanos, nanos_of_seconds, IsAnswer};
+ghost use Rattle.syslog_pieces.specs.Words.{clock_value, stamp_seen, AreCivil, nanos_of_fields};
 ghost use Rattle.jiff_core.specs.Calendar.{day_count};
 ghost use Rattle.jiff_core.specs.March.{march_days as days_of_march_years, march_months};
 ghost use Rattle.syslog_pieces.specs.Bodies.Clock.{IsStampOfClock};
 ghost use Rattle.syslog_pieces.specs.declared.timestamp.fields.CivilFields.{CivilFields};
-ghost use Rattle.syslog_pieces.specs.Timestamp.{IsAnswer, clock_value, stamp_seen};
-ghost use Rattle.syslog_pieces.specs.Timestamp.Fields.{AreCivil, nanos_of_fields};
 
 use super::fields::CivilFields;
 use super::{ClockStamp, OffsetTimestamp};
@@ -91,7 +89,7 @@ fn is_there(
 }
 
 impl ClockStamp {
-    ghost use Rattle.std.specs.Int.{int_div_euclid, int_rem_euclid};
+    ghost use Rattle.syslog_pieces.specs.Words.{int_div_euclid, int_rem_euclid};
 
     /// The timestamp: the instant at which the clock shows the fields, and the offset.
     pub fn stamp(self) -> OffsetTimestamp

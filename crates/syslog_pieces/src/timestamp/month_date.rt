@@ -2,10 +2,9 @@
 //!
 //! A date is recognised by its letters and digits alone, before anybody asks for its year. Nothing here takes memory.
 ghost use Rattle.std.specs.Prelude.{◌≡◌, IfSome, Option, MatchOption, chars};
+ghost use Rattle.syslog_pieces.specs.Words.{Front, NoFront, Row, Text, shown, Reads, MonthDate};
 ghost use Rattle.syslog_pieces.specs.Bodies.MonthReading as parts;
-ghost use Rattle.syslog_pieces.specs.Pieces.{Front, NoFront, Row, Text, shown, Reads};
 ghost use Rattle.syslog_pieces.specs.Timestamp.MonthDate as spec;
-ghost use Rattle.syslog_pieces.specs.declared.timestamp.month_date.MonthDate.{MonthDate};
 
 use crate::text::{literal, number, past_colon, some_blanks};
 

@@ -2,11 +2,9 @@
 //!
 //! The text is ASCII, so its bytes are its characters: it is read byte by byte, piece by piece from the left.
 ghost use Rattle.std.specs.Prelude.{◌≡◌, ◌<◌, pos, IfSome, IsNone, option_map, chars};
-ghost use Rattle.jiff.specs.Words.{IsOffsetSeconds};
-ghost use Rattle.syslog_pieces.specs.Pieces.{Reads, ReadsBytes};
-ghost use Rattle.syslog_pieces.specs.Timestamp.{IsAnswer, IsStampOfRfc3339};
-ghost use Rattle.syslog_pieces.specs.Timestamp.Rfc3339 as spec;
+ghost use Rattle.syslog_pieces.specs.Words.{IsOffsetSeconds, Reads, ReadsBytes, IsAnswer, IsStampOfRfc3339};
 ghost use Rattle.syslog_pieces.specs.Bodies.Clock.{fields_of_rfc3339};
+ghost use Rattle.syslog_pieces.specs.Timestamp.Rfc3339 as spec;
 
 use super::ClockStamp;
 use super::digits::{after_letter, four_digits, fraction, pair, pair_after};

@@ -3,14 +3,11 @@
 //! **Rule.** Where a clock in the zone shows the fields twice, the earlier instant counts. Where it never shows them, a
 //! zone that is given has no timestamp of them, and in the local zone they are taken as UTC. (This project's own
 //! choice, as the crate's documents have it.) No conversion here takes memory.
-ghost use Rattle.std.specs.Prelude.{◌≡◌, Some, pos, ◌<ℤ◌, IfSome, IsNone};
-ghost use Rattle.jiff.specs.Words.{plain_zone, ambiguous_at};
-ghost use Rattle.syslog_pieces.specs.Timestamp.{IsAnswer, clock_value};
-ghost use Rattle.syslog_pieces.specs.Timestamp.Fields.{fields_of};
-ghost use Rattle.syslog_pieces.specs.Bodies.Clock.{zone_of as one_zone};
+ghost use Rattle.std.specs.Prelude.{◌≡◌, Some, pos, ◌<ℤ◌, IfSome, IsNone, option_map};
+ghost use Rattle.syslog_pieces.specs.Words.{plain_zone, ambiguous_at, IsAnswer, clock_value, fields_of};
+ghost use Rattle.syslog_pieces.specs.Bodies.Clock.{zone_of as one_zone, IsStampOfFields, civil_of};
+ghost use Rattle.syslog_pieces.specs.Bodies.Clock.{year_of as shown_year};
 ghost use Rattle.syslog_pieces.specs.Timestamp.Zone as spec;
-ghost use Rattle.std.specs.Prelude.{option_map};
-ghost use Rattle.syslog_pieces.specs.Bodies.Clock.{IsStampOfFields, civil_of, year_of as shown_year};
 
 use super::ClockStamp;
 use super::fields::{CivilFields, datetime_fields};
