@@ -51,8 +51,7 @@ module _ {F : Type 0} (number : F → ℕ) (fs : List F) where
 
   numbered : (k n : ℕ) → agree_below (λ i. is_placed (slice_get fs i) i) (λ i. true) k ≡ true → n < k
       → (f : F) × (slice_get fs n ≡ Some f) × (number f ≡ n)
-  numbered k n h l =
-      placed (slice_get fs n) n (agree_below_at (λ i. is_placed (slice_get fs i) i) (λ i. true) k n h l)
+  numbered k n h l = placed (slice_get fs n) n (agree_below_at (λ i. is_placed (slice_get fs i) i) (λ i. true) k n h l)
 
 pub priority_composed : (pri : ℕ) → pri < 192 → (f : SyslogFacility) × (s : SyslogSeverity)
     × (facility_of pri ≡ Some f) × (severity_of pri ≡ Some s) × (composed f s ≡ pri)

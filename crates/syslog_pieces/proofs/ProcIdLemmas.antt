@@ -24,9 +24,8 @@ IsDigits t = (0 < length t) × Each is_ascii_digit t
 -- digits, after at most one sign, that write this number: sign by sign
 abbrev pub WritesSigned : Text → ℤ → Type 0
 WritesSigned t n =
-    (IsDigits t × (n ≡ pos (digits_value 10 t)))
-    ⊎ (((d : Text) × (t ≡ 43 ∷ d) × IsDigits d × (n ≡ pos (digits_value 10 d)))
-    ⊎ ((d : Text) × (t ≡ 45 ∷ d) × IsDigits d × (n ≡ neg_ℤ (pos (digits_value 10 d)))))
+    (IsDigits t × (n ≡ pos (digits_value 10 t))) ⊎ (((d : Text) × (t ≡ 43 ∷ d) × IsDigits d × (n ≡ pos (digits_value 10
+    d))) ⊎ ((d : Text) × (t ≡ 45 ∷ d) × IsDigits d × (n ≡ neg_ℤ (pos (digits_value 10 d)))))
 
 pub numeral : (d : Text) → IsDigits d → IsNumeral 10 d
 numeral d h = (h.0, own.to d h.1)
@@ -269,8 +268,7 @@ process_back (Some (Name t)) q (canonical, no_number) b e = (t, word_back (Some 
 pub process_canonical : (p q : Text) (v : Option (ProcId Text)) → process_word.Is p q v → IfSome v IsCanonicalProcess
 process_canonical p q None h = tt
 process_canonical p q (Some (PID n)) h = tt
-process_canonical p q (Some (Name t)) (u, w, (no_number, same)) =
-    rw same (word_canonical p q (Some u) w, no_number)
+process_canonical p q (Some (Name t)) (u, w, (no_number, same)) = rw same (word_canonical p q (Some u) w, no_number)
 
 -- what the law of process ids rests on
 pub ruleset processes = (process_back, process_canonical)

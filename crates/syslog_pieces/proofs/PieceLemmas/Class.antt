@@ -467,9 +467,8 @@ pub step_value : (C : Class) (Cs : List Class) → IsDeterministic C → {t q r 
 step_value C Cs d g f = let h = row_head C Cs f in (front_same C d h.1 g).1
 
 -- after several known fronts, the row goes on with its other classes
-pub rows_step : (As Bs : List Class) → AllDeterministic As → {t q r : Text} {us : Values As} {vs : Values (As ++ Bs)}
-    → Front (Row As) t q us → Front (Row (As ++ Bs)) t r vs
-    → (firsts As Bs vs ≡ us) × Front (Row Bs) q r (lasts As Bs vs)
+pub rows_step : (As Bs : List Class) → AllDeterministic As → {t q r : Text} {us : Values As} {vs : Values (As ++ Bs)} →
+    Front (Row As) t q us → Front (Row (As ++ Bs)) t r vs → (firsts As Bs vs ≡ us) × Front (Row Bs) q r (lasts As Bs vs)
 rows_step As Bs d {r = r} {vs = vs} g f =
     let (u, a, b) = rows_split As Bs f in
     let (e, same) = front_same (Row As) (row_det As d) a g in

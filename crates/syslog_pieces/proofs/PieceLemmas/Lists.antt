@@ -203,8 +203,7 @@ module _ (C : Class) (separator close : ℕ) where
 
   module _ (differ : separator ≢ close) where
     not_closed : (t u : Text) → t ≡ separator ∷ u → NoFront (exactly (close ∷ [])) t
-    not_closed t u e p q v f h =
-        heads_differ separator close u q differ (sym e ∙ f ∙ ap (λ (x : Text). x ++ q) h)
+    not_closed t u e p q v f h = heads_differ separator close u q differ (sym e ∙ f ∙ ap (λ (x : Text). x ++ q) h)
 
     -- a further piece after the separator
     pub more_goes : (Cs : List Class) (t u : Text) → t ≡ separator ∷ u
@@ -241,12 +240,10 @@ module _ (C : Class) (separator close : ℕ) where
         list_same : (p r p' r' : Text) (vs vs' : List C.Value) → p ++ (close ∷ r) ≡ p' ++ (close ∷ r')
             → IsList C separator p (close ∷ r) vs → IsList C separator p' (close ∷ r') vs' → (p ≡ p') × (vs ≡ vs')
         list_same p r p' r' [] [] e h h' = (h ∙ sym h', refl)
-        list_same p r p' r' [] (w ∷ ws) e h (a, b, i, k, others) = absurd
-            (apart a (b ++ (close ∷ r')) w r k
-            (sym (behind p' a b (close ∷ r') i) ∙ sym (after_nil p (close ∷ r) _ h e)))
-        list_same p r p' r' (v ∷ vs) [] e (a, b, i, k, others) h' = absurd
-            (apart a (b ++ (close ∷ r)) v r' k
-            (sym (behind p a b (close ∷ r) i) ∙ sym (after_nil p' (close ∷ r') _ h' (sym e))))
+        list_same p r p' r' [] (w ∷ ws) e h (a, b, i, k, others) = absurd (apart a (b ++ (close ∷ r')) w r k (sym
+            (behind p' a b (close ∷ r') i) ∙ sym (after_nil p (close ∷ r) _ h e)))
+        list_same p r p' r' (v ∷ vs) [] e (a, b, i, k, others) h' = absurd (apart a (b ++ (close ∷ r)) v r' k (sym
+            (behind p a b (close ∷ r) i) ∙ sym (after_nil p' (close ∷ r') _ h' (sym e))))
         list_same p r p' r' (v ∷ vs) (w ∷ ws) e (a, b, i, k, others) (a', b', i', k', others') =
             let behind = λ (x : Text). separator ∷ x in
             let s = many_det further further_det (separator ∷ p) (close ∷ r) (separator ∷ p') (close ∷ r') (v ∷ vs)
@@ -270,9 +267,8 @@ module _ (C : Class) (separator close : ℕ) where
   pub leaves_less : (t s u s' : Text) (vs : List C.Value) (v : C.Value) → Leaves C separator close t vs s
       → Front C s u v → u ≡ separator ∷ s' → Leaves C separator close t (vs ++ (v ∷ [])) s'
   leaves_less t s u s' vs v c f e q u' v' ws f' g =
-      subst (λ (x : List C.Value). Front (list_before C separator close) t q x)
-      (sym (append_assoc vs (v ∷ []) (v' ∷ ws)))
-      (c q u v (v' ∷ ws) f (more_cons C separator close e f' g))
+      subst (λ (x : List C.Value). Front (list_before C separator close) t q x) (sym (append_assoc vs (v ∷ []) (v' ∷
+      ws))) (c q u v (v' ∷ ws) f (more_cons C separator close e f' g))
 
 -- ---- parts of parts
 pub part_same : (p t : Text) → t ≡ p → IsPart p t
@@ -311,9 +307,8 @@ pub row_quotes : (Cs : List Class) (k : Quoted Cs) (ps : List Text) (q : Text) (
 row_quotes [] k ps q vs h = tt
 row_quotes (C ∷ Cs) k [] q vs h = absurd h
 row_quotes (C ∷ Cs) ((f, g), k) (p ∷ ps) q vs h =
-    all_append (λ t. IsInPieces (p ∷ ps) t) (f vs.0) (row_texts Cs k vs.1)
-    (all_map (λ t x. inl x) (f vs.0) (g p (join ps ++ q) vs.0 h.0))
-    (all_map (λ t x. inr x) (row_texts Cs k vs.1) (row_quotes Cs k ps q vs.1 h.1))
+    all_append (λ t. IsInPieces (p ∷ ps) t) (f vs.0) (row_texts Cs k vs.1) (all_map (λ t x. inl x) (f vs.0) (g p (join
+    ps ++ q) vs.0 h.0)) (all_map (λ t x. inr x) (row_texts Cs k vs.1) (row_quotes Cs k ps q vs.1 h.1))
 
 -- a meaning without texts
 abbrev pub silent : (C : Class) → (f : C.Value → List Text) × Quotes C f
@@ -356,8 +351,7 @@ optional_quotes C f g p q None h = tt
 optional_quotes C f g p q (Some v) h = g p q v h
 
 pub spaced_quotes : (C : Class) (f : C.Value → List Text) → Quotes C f → Quotes (spaced C) f
-spaced_quotes C f g p q v (t, e, h) =
-    rw e (all_map (λ x k. part_right (32 ∷ []) t x k) (f v) (g t q v h))
+spaced_quotes C f g p q v (t, e, h) = rw e (all_map (λ x k. part_right (32 ∷ []) t x k) (f v) (g t q v h))
 
 -- ---- rows of formats: printed, they are read back
 abbrev pub AllSound : List Format → Type 0

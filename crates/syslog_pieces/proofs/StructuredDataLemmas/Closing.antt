@@ -143,8 +143,7 @@ quoted_before (c ∷ a) b h =
         | inl r ↦ rw r.1 (
           _,
           _,
-          row_of quoted_row (value_here _ _ refl then
-              record { piece = 34 ∷ []; whole = refl; is = refl } then refl),
+          row_of quoted_row (value_here _ _ refl then record { piece = 34 ∷ []; whole = refl; is = refl } then refl),
         )
         | inr r ↦ elim (eqb_tells c 92) [
           | inl s ↦ rw s.1 escaped
@@ -182,9 +181,8 @@ one_shut c h p q v e = subst (λ (x : Text). Each is_open_char x) (sym e) (h, tt
 
 pub start_shut : AllShut start_row
 start_shut =
-    one_shut 91 refl
-    also (λ p q v i. each_map is_name_char is_open_char name_open p (each_right is_not_whitespace is_name_char p i.1.1))
-    also (λ p q v i. each_map is_blank is_open_char blank_open p i.0) also tt
+    one_shut 91 refl also (λ p q v i. each_map is_name_char is_open_char name_open p (each_right is_not_whitespace
+    is_name_char p i.1.1)) also (λ p q v i. each_map is_blank is_open_char blank_open p i.0) also tt
 
 opening_shut : AllShut opening_row
 opening_shut =
@@ -294,8 +292,7 @@ run_on test a text t w u e h m =
 module _ {test : ℕ → Bool} (a : AllPlain test) {text bs xs ys : Text} (s : SplitsRun test bs xs ys)
     (m : Meets quoted text quoted (chars bs)) where
   pub past_run : Meets quoted text quoted (chars ys)
-  past_run =
-      meets_on m (quoted_goes (run_on test a _ _ _ _ s.characters s.each (meets_here value (chars bs))))
+  past_run = meets_on m (quoted_goes (run_on test a _ _ _ _ s.characters s.each (meets_here value (chars bs))))
 
   pub value_quoted : (q : Text) → Front (exactly (34 ∷ [])) (chars ys) q tt → (v : Values quoted_row)
       × Front quoted text q v
@@ -327,8 +324,7 @@ value_missing text t m n = let k = meets_none _ _ _ _ m n in (no_closing text k,
 module _ {text params : Text} {vs : Values start_row} (f : Front start text params vs) where
   pub element_enters : (x : Text) (ws : Values opening_row) → NoFront (exactly (93 ∷ [])) params
       → Front opening params x ws → Passes element text x × Meets element text closing x
-  element_enters x ws n g =
-      (passes_start element f g, meets_on (element_starts f) (list_enters params x ws n g))
+  element_enters x ws n g = (passes_start element f g, meets_on (element_starts f) (list_enters params x ws n g))
 
 -- from inside a value, in a class whose pieces go on from there
 module _ {C : Class} {text x y : Text} {vs : Values quoted_row} (p : Passes C text x) (m : Meets C text closing x)
@@ -347,8 +343,7 @@ module _ {C : Class} {text x y : Text} {vs : Values quoted_row} (p : Passes C te
       → Passes C text r × Meets C text closing r
   value_goes z r ws g o = (
     passes_opening C (passes_space C text y z (passes_quoted C text x y vs p m f) (begins 32 y z g)) o,
-    meets_on m (meets_on (row_goes quoted tail_row quoted_det f)
-        (tail_enters y z r ws (begins 32 y z g) o)),
+    meets_on m (meets_on (row_goes quoted tail_row quoted_det f) (tail_enters y z r ws (begins 32 y z g) o)),
   )
 
 -- ---- a quoted value, cut from its text by bytes

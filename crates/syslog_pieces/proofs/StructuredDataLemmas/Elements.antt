@@ -56,8 +56,7 @@ unit_goes u t t' h e = record {
       );
     },
   );
-  back = λ q v f. value_behind u t' q f.is.0.0 h f.is.0.2 f.is.1
-      (sym e ∙ f.whole ∙ ap (λ (x : Text). x ++ q) f.is.0.1);
+  back = λ q v f. value_behind u t' q f.is.0.0 h f.is.0.2 f.is.1 (sym e ∙ f.whole ∙ ap (λ (x : Text). x ++ q) f.is.0.1);
 }
 
 pub value_here : (t r : Text) → t ≡ 34 ∷ r → Front value t t []
@@ -238,9 +237,10 @@ abbrev element_values : Text → List (Text × Text) → Values element_row
 element_values id ps = (tt, (id, (tt, (ps, (tt, tt)))))
 
 -- a canonical element is read back, whatever follows it
-element_of_parts : (id : Text) (ps : List (Text × Text)) (q : Text)
-    → IsCanonicalElement (record { id = id; params = ps })
-    → element.Is (element_text (record { id = id; params = ps })) q (record { id = id; params = ps })
+element_of_parts : (id : Text) (ps : List (Text × Text)) (q : Text) → IsCanonicalElement (record {
+  id = id;
+  params = ps;
+}) → element.Is (element_text (record { id = id; params = ps })) q (record { id = id; params = ps })
 element_of_parts id [] q (long, each, canonical, first) = (
   element_values id [],
   (
@@ -258,9 +258,16 @@ element_of_parts id ((name, v) ∷ ps) q (long, each, (canonical, canonicals), f
       (
         (91 ∷ []) ∷ id ∷ (32 ∷ []) ∷ (bare_param_text (name, v) ++ more) ∷ (93 ∷ []) ∷ [],
         refl,
-        refl also (tt, (long, each, refl), refl) also ((refl, tt), gap)
-            also ((bare_param_text (name, v), more, refl, param, more_back ps (93 ∷ q) canonicals), (q, refl))
-            also refl also tt,
+        refl also (tt, (long, each, refl), refl) also ((refl, tt), gap) also (
+          (
+            bare_param_text (name, v),
+            more,
+            refl,
+            param,
+            more_back ps (93 ∷ q) canonicals,
+          ),
+          (q, refl),
+        ) also refl also tt,
       ),
       refl,
     )
@@ -356,9 +363,10 @@ start_text {t = t} {r = r} f g = cc (begins 91 t r f, g.whole, g.is.2)
 -- ---- what recognised elements and lists mean is what is in their texts
 
 -- an element that was recognised, by its parameters
-pub seen_is : {id inner q : Text} {ps : List (Text × Text)} (m : OneMeaning inside inner)
-    → Front inside inner q (ps, (tt, tt))
-    → ◌≡◌ {A = ElementValue} (record { id = id; params = (one_value m).0 }) (record { id = id; params = ps })
+pub seen_is : {id inner q : Text} {ps : List (Text × Text)} (m : OneMeaning inside inner) → Front inside inner q (
+  ps,
+  (tt, tt),
+) → ◌≡◌ {A = ElementValue} (record { id = id; params = (one_value m).0 }) (record { id = id; params = ps })
 seen_is {id = id} m f =
     ap (λ (v : List (Text × Text)). record { id = id; params = v }) (ap (λ v. v.0) (one_value-is m f))
 

@@ -218,9 +218,8 @@ module _ {t bs xs ys out out' : Text} (s : SplitsRun is_bare_char bs xs ys) (r :
       (backslash c q (d ∷ q') e g) (tt, tt) h (sym (append-nil (pair_meaning d)))
 
 -- ---- what an iterator over parameters gives in all
-pub AreParamItems-Drains : {S : Type 0} (bytes : S → List ℕ) (params : List (S × S))
-    (items : List (Result (Bor S × String Global) AllocError)) → Drains (NextParam bytes) params items
-    → AreParamItems bytes params items
+pub AreParamItems-Drains : {S : Type 0} (bytes : S → List ℕ) (params : List (S × S)) (items : List (Result (Bor S ×
+    String Global) AllocError)) → Drains (NextParam bytes) params items → AreParamItems bytes params items
 AreParamItems-Drains bytes [] [] d = tt
 AreParamItems-Drains bytes [] (item ∷ items) d = let step = d.1.1.1.0 in absurd (cc)
 AreParamItems-Drains bytes (p ∷ ps) [] d = absurd (rw (← d.1.1) at d.1.2).0
@@ -351,15 +350,13 @@ same_params-behind zs ps qs =
 counted_behind : (ps qs : List Param) (i : ℕ) → length ps ≡ length qs → take i ps ≡ take i qs
     → counts_agree (drop i ps) (drop i ps) (drop i qs) ≡ same_params ps qs
 counted_behind ps qs i long front =
-    counted_once (drop i ps) (drop i qs) (length-drop i ps ∙ ap (λ (n : ℕ). n - i) long ∙ sym (length-drop i qs))
-    ∙ same_params-behind (take i ps) (drop i ps) (drop i qs)
-    ∙ rw (take-append-drop i ps, front, take-append-drop i qs)
+    counted_once (drop i ps) (drop i qs) (length-drop i ps ∙ ap (λ (n : ℕ). n - i) long ∙ sym (length-drop i qs)) ∙
+    same_params-behind (take i ps) (drop i ps) (drop i qs) ∙ rw (take-append-drop i ps, front, take-append-drop i qs)
 
-pub counted_from : {S : Type 0} (text : S → Text) (xs ys : List (S × S)) (i : ℕ) → length xs ≡ length ys
-    → map (param_value text) (take i xs) ≡ map (param_value text) (take i ys)
-    → counts_agree (map (param_value text) (drop i xs)) (map (param_value text) (drop i xs))
-    (map (param_value text) (drop i ys))
-    ≡ same_params (map (param_value text) xs) (map (param_value text) ys)
+pub counted_from : {S : Type 0} (text : S → Text) (xs ys : List (S × S)) (i : ℕ) → length xs ≡ length ys → map
+    (param_value text) (take i xs) ≡ map (param_value text) (take i ys) → counts_agree (map (param_value text) (drop i
+    xs)) (map (param_value text) (drop i xs)) (map (param_value text) (drop i ys)) ≡ same_params (map (param_value text)
+    xs) (map (param_value text) ys)
 counted_from text xs ys i long front =
     let view = param_value text in
     rw (← drop-map view i xs, ← drop-map view i ys) (counted_behind (map view xs) (map view ys) i
@@ -381,11 +378,10 @@ unlike_lists text xs ys differ =
     ]
 
 -- one parameter more that is the same in both
-pub front_more : {S : Type 0} (text : S → Text) (xs ys : List (S × S)) (i : ℕ) (x y : S × S) → i < length xs
-    → i < length ys → x ≡ get_or xs i x → y ≡ get_or ys i y
-    → map (param_value text) (take i xs) ≡ map (param_value text) (take i ys)
-    → param_eq (param_value text x) (param_value text y) ≡ true
-    → map (param_value text) (take (i + 1) xs) ≡ map (param_value text) (take (i + 1) ys)
+pub front_more : {S : Type 0} (text : S → Text) (xs ys : List (S × S)) (i : ℕ) (x y : S × S) → i < length xs → i <
+    length ys → x ≡ get_or xs i x → y ≡ get_or ys i y → map (param_value text) (take i xs) ≡ map (param_value text)
+    (take i ys) → param_eq (param_value text x) (param_value text y) ≡ true → map (param_value text) (take (i + 1) xs) ≡
+    map (param_value text) (take (i + 1) ys)
 front_more text xs ys i x y h k at there front same =
     let equal = param_eq-same (param_value text x) (param_value text y) same in
     rw (take_more xs i x h, take_more ys i y k, ← at, ← there) (simp map-append (cc))

@@ -99,9 +99,8 @@ pub no_list_is : (rule : DashRule) (t : Text) → NoFront (rfc3164_list rule) t 
 no_list_is rule t = (begins_no_list rule t, no_rfc3164_list rule t)
 
 -- no dash begins the text, and no element does
-pub list_absent : (rule : DashRule) (t q : Text) (es : List ElementValue)
-    → ((r : Text) → t ≡ 45 ∷ r → IsDashBefore rule r → ⊥) → Front (many full_element) t q es → es ≡ []
-    → Front (optional (rfc3164_list rule)) t t None
+pub list_absent : (rule : DashRule) (t q : Text) (es : List ElementValue) → ((r : Text) → t ≡ 45 ∷ r → IsDashBefore rule
+    r → ⊥) → Front (many full_element) t q es → es ≡ [] → Front (optional (rfc3164_list rule)) t t None
 list_absent rule t q es n f z =
     optional_none (rfc3164_list rule) (no_rfc3164_list rule t (n, many_none full_element t q (rw z at f)))
 
@@ -205,9 +204,8 @@ pub record AtParam (text inner at id : Text) (ps : List (Text × Text)) (mark : 
   pub leaves : Leaves param 32 93 inner ps at
   pub prints : IsTrue mark → text ≡ 91 ∷ (id ++ (flat_map param_text ps ++ (32 ∷ at)))
 
-pub at_first : {text inner id : Text} {stands : Bool} → Front start text inner (id_alone id)
-    → NoFront (exactly (93 ∷ [])) inner → (IsTrue stands → text ≡ 91 ∷ (id ++ (32 ∷ inner)))
-    → AtParam text inner inner id [] stands
+pub at_first : {text inner id : Text} {stands : Bool} → Front start text inner (id_alone id) → NoFront (exactly (93 ∷
+    [])) inner → (IsTrue stands → text ≡ 91 ∷ (id ++ (32 ∷ inner))) → AtParam text inner inner id [] stands
 at_first {text = text} {inner = inner} f n p = record {
   passes = passes_row element start_row start_shut (passes_here element text) f;
   meets = meets_on (element_starts f) (list_goes param 32 93 (exactly (93 ∷ []) ∷ []) inner n);
@@ -240,8 +238,7 @@ module _ {text inner at id : Text} {ps : List (Text × Text)} {mark : Bool} (w :
       not_separated n m d e = value_breaks value_passes value_meets f (no_more param 32 93 y n m) d e
 
       module _ {opens : Bool} (stands : IsTrue opens → at ≡ name ++ (61 ∷ 34 ∷ value)) where
-        printed_param : IsTrue (mark && opens)
-            → text ≡ 91 ∷ (id ++ (flat_map param_text (ps ++ ((name, v) ∷ [])) ++ y))
+        printed_param : IsTrue (mark && opens) → text ≡ 91 ∷ (id ++ (flat_map param_text (ps ++ ((name, v) ∷ [])) ++ y))
         printed_param both =
             let (left, right) = and_parts mark opens both in
             let whole : 32 ∷ at ≡ 32 ∷ (name ++ (61 ∷ 34 ∷ (v ++ (34 ∷ y)))) = cc (stands right, quoted_text f) in
@@ -249,11 +246,17 @@ module _ {text inner at id : Text} {ps : List (Text × Text)} {mark : Bool} (w :
             w.prints left ∙ ap (λ (x : Text). 91 ∷ (id ++ x)) (ap (λ (x : Text). flat_map param_text ps ++ x) here
             ∙ sym (flat_map_more param_text ps (name, v) y))
 
-        pub ends : {q : Text} → Front start text inner (id_alone id) → Front (exactly (93 ∷ [])) y q tt
-            → Front inside inner q (ps ++ ((name, v) ∷ []), (tt, tt))
-            × Front element text q (record { id = id; params = ps ++ ((name, v) ∷ []) })
-            × (IsTrue (mark && opens)
-            → text ≡ element_text (record { id = id; params = ps ++ ((name, v) ∷ []) }) ++ q)
+        pub ends : {q : Text} → Front start text inner (id_alone id) → Front (exactly (93 ∷ [])) y q tt → Front inside
+            inner q (ps ++ ((name, v) ∷ []), (tt, tt)) × Front element text q (record {
+              id = id;
+              params = ps ++ ((
+                name,
+                v,
+              ) ∷ []);
+            }) × (IsTrue (mark && opens) → text ≡ element_text (record {
+              id = id;
+              params = ps ++ ((name, v) ∷ []);
+            }) ++ q)
         ends {q = q} s g =
             let close = begins 93 y q g in
             let list = w.leaves _ _ _ [] (param_read o f) (more_here param 32 93 _ _ close) in
@@ -280,8 +283,7 @@ front_length {u = u} f = omega (arith, ap length f.whole, length-append f.piece 
 -- a parameter and what closes its value
 pub param_length : {t u y : Text} {name v : Text} → Front opening t u (name_alone name)
     → Front quoted u y (v, (tt, tt)) → length y < length t
-param_length {y = y} {v = v} o f =
-    omega (arith, front_length o, ap length (quoted_text f), length-append v (34 ∷ y))
+param_length {y = y} {v = v} o f = omega (arith, front_length o, ap length (quoted_text f), length-append v (34 ∷ y))
 
 pub chars_length : (bs : List ℕ) → IsUtf8 bs → length (chars bs) ≤ length bs
 chars_length bs u = omega (arith, length-le-encodes (chars bs), ap length (encodes-chars bs u))
@@ -406,11 +408,10 @@ value_steady : IsSteady value
 value_steady p c q r v (h, z, e) = (h, closed_steady 34 c q r z, e)
 
 param_alone : IsAlone param
-param_alone = mapped_alone _ (Text × Text) param_of (row_alone 34 (texted (some_run is_name_char) ∷ exactly (61 ∷ [])
-    ∷ run is_blank ∷ exactly (34 ∷ []) ∷ value ∷ []) (texted_steady (some_run is_name_char)
-    (some_run_steady is_name_char) also alone_steady (exactly (61 ∷ [])) (exactly_alone (61 ∷ []))
-    also run_steady is_blank also alone_steady (exactly (34 ∷ [])) (exactly_alone (34 ∷ [])) also value_steady
-    also tt))
+param_alone = mapped_alone _ (Text × Text) param_of (row_alone 34 (texted (some_run is_name_char) ∷ exactly (61 ∷ []) ∷
+    run is_blank ∷ exactly (34 ∷ []) ∷ value ∷ []) (texted_steady (some_run is_name_char) (some_run_steady is_name_char)
+    also alone_steady (exactly (61 ∷ [])) (exactly_alone (61 ∷ [])) also run_steady is_blank also alone_steady (exactly
+    (34 ∷ [])) (exactly_alone (34 ∷ [])) also value_steady also tt))
 
 element_alone : IsAlone element
 element_alone = mapped_alone _ ElementValue element_of (row_alone 93 (exactly (91 ∷ []) ∷ texted (some_run is_id_char)
@@ -424,8 +425,7 @@ bracketed_alone = row_alone 93 (exactly (91 ∷ []) ∷ run is_open_char ∷ [])
 
 -- where none begins a longer text, none begins this one
 no_element_shorter : (t q : Text) → NoFront element (t ++ q) → NoFront element t
-no_element_shorter t q n p r e w h =
-    n p (r ++ q) e (behind t p r q w) (element_alone p r (r ++ q) e h)
+no_element_shorter t q n p r e w h = n p (r ++ q) e (behind t p r q w) (element_alone p r (r ++ q) e h)
 
 items_alone : (p q : Text) (vs : List (Option ElementValue)) → IsMany item p q vs → IsMany item p [] vs
 items_alone p q [] h = (h.0, no_item_nil)
@@ -445,8 +445,7 @@ items_alone p q (None ∷ vs) (a, b, w, h, more) = (
 
 full_alone : (p q : Text) (es : List ElementValue) → IsMany full_element p q es → IsMany item p [] (map Some es)
 full_alone p q [] h = (h.0, no_item_nil)
-full_alone p q (e ∷ es) (a, b, w, h, more) =
-    (a, b, w, element_alone a (b ++ q) (b ++ []) e h.0, full_alone b q es more)
+full_alone p q (e ∷ es) (a, b, w, h, more) = (a, b, w, element_alone a (b ++ q) (b ++ []) e h.0, full_alone b q es more)
 
 pub are_items : {t q : Text} {vs : List (Option ElementValue)} → Front (many item) t q vs → AreItems t q vs
 are_items {q = q} {vs = vs} f = record {
@@ -547,8 +546,7 @@ counts_broken {next = next} p c e = record {
     params = c.tallied.params;
     after = (
       c.tallied.after.0 ++ p,
-      c.tallied.after.1 ∙ ap (λ (y : Text). c.tallied.after.0 ++ y) e
-          ∙ sym (append_assoc c.tallied.after.0 p next),
+      c.tallied.after.1 ∙ ap (λ (y : Text). c.tallied.after.0 ++ y) e ∙ sym (append_assoc c.tallied.after.0 p next),
     );
     prints = c.tallied.prints;
   };
@@ -624,8 +622,7 @@ pub optional_full : (rule : DashRule) {t q : Text} (es : List ElementValue)
 optional_full rule {t = t} {q = q} [] n f =
     let same = f.whole ∙ ap (λ (x : Text). x ++ q) f.is.0 in (
       None,
-      subst (λ (x : Text). Front (optional (rfc3164_list rule)) t x None) same
-          (list_absent rule t q [] n f refl),
+      subst (λ (x : Text). Front (optional (rfc3164_list rule)) t x None) same (list_absent rule t q [] n f refl),
       refl,
     )
 optional_full rule (e ∷ es) n f = (

@@ -63,9 +63,8 @@ pub one_ascii : (c : ℕ) → c < 128 → IsAscii (c ∷ [])
 one_ascii c l = IsAscii-cons c [] l IsAscii-nil
 
 -- the first character is the first byte, or both are past ASCII
-first_char : (test : ℕ → Bool) (bs cs : List ℕ) → encode_utf8_all cs ≡ bs → 0 < length bs
-    → ((c : ℕ) → (c < 128 → get_or bs 0 0 ≡ c) → (get_or bs 0 0 < 128 → c ≡ get_or bs 0 0) → test c ≡ false)
-    → Ends test cs
+first_char : (test : ℕ → Bool) (bs cs : List ℕ) → encode_utf8_all cs ≡ bs → 0 < length bs → ((c : ℕ) → (c < 128 → get_or
+    bs 0 0 ≡ c) → (get_or bs 0 0 < 128 → c ≡ get_or bs 0 0) → test c ≡ false) → Ends test cs
 first_char test bs [] e l f = tt
 first_char test bs (c ∷ cs) e l f = f c (byte_from_char bs (encode_utf8_all cs) c (sym e))
     (λ low. char_from_byte bs (encode_utf8_all cs) c (sym e) low l)
@@ -430,9 +429,8 @@ pub mask_tests : (r a b c l p : Bool) → top 7 (bit_or (bit_xor (bit_or (cond r
 mask_tests r a b c l p = grind arith
 
 -- a lane stops just where q fails
-pub run_in : {q : ℕ → Bool} {d : List ℕ} {i r : ℕ} {z : List ℕ} {f : ℕ → ℕ} → i + 16 ≤ length d
-    → r ≡ first_set (mask_l (map (top 7) z) % 2 ^ 64) → IsLanes (chunk i 16 d) z f
-    → ((x : ℕ) → top 7 (f x) ≡ not (q x)) → IsRunIn q d i r
+pub run_in : {q : ℕ → Bool} {d : List ℕ} {i r : ℕ} {z : List ℕ} {f : ℕ → ℕ} → i + 16 ≤ length d → r ≡ first_set (mask_l
+    (map (top 7) z) % 2 ^ 64) → IsLanes (chunk i 16 d) z f → ((x : ℕ) → top 7 (f x) ≡ not (q x)) → IsRunIn q d i r
 run_in {q = q} {d = d} {i = i} {r = r} {z = z} {f = f} room found by_lanes all =
     let v = chunk i 16 d in
     let stops : ℕ → Bool = λ x. top 7 (f x) in

@@ -36,9 +36,8 @@ in_range-at_offset n o h k = omega (arith, signed_arith)
 abs-diff : (a b : ℤ) (k : ℕ) → a ≡ b +ℤ pos k → unsigned_abs (a -ℤ b) ≡ k
 abs-diff a b k e = grind (arith, signed_arith)
 
-months_fit : (y : ℤ) (n count : ℕ) → (days_of_months y (months_within y n count) ≤ count)
-    × (months_within y n count ≤ n)
-    × (count < days_of_months y (suc n) → count < days_of_months y (suc (months_within y n count)))
+months_fit : (y : ℤ) (n count : ℕ) → (days_of_months y (months_within y n count) ≤ count) × (months_within y n count ≤
+    n) × (count < days_of_months y (suc n) → count < days_of_months y (suc (months_within y n count)))
 unfolding months_within
 months_fit y zero count = let none = days_of_months-zero y in (omega arith, omega arith, λ h. h)
 months_fit y (suc n) count = let below = months_fit y n count in grind (arith, nat_tests)
@@ -67,10 +66,9 @@ pub from_start : (z : ℤ) → pos 0 ≤ℤ z → pos (unsigned_abs z) ≡ z
 from_start (pos n) h = refl
 from_start (negsuc n) h = absurd (omega (arith, signed_arith))
 
-year_placed : (day : ℤ) (count k : ℕ) → IsEpochDay day → pos count ≡ day +ℤ pos 4_371_953 → days_of_years k ≤ count
-    → k ≤ 20000
-    → (count < days_of_years (suc 20000) → count < days_of_years (suc k))
-    → IsPlaced day (pos k -ℤ pos 10000) (count - days_of_years k)
+year_placed : (day : ℤ) (count k : ℕ) → IsEpochDay day → pos count ≡ day +ℤ pos 4_371_953 → days_of_years k ≤ count → k
+    ≤ 20000 → (count < days_of_years (suc 20000) → count < days_of_years (suc k)) → IsPlaced day (pos k -ℤ pos 10000)
+    (count - days_of_years k)
 year_placed day count k range e low most next =
     let high : count < days_of_years (suc k) =
     next (omega (arith, signed_arith, range.1, days_of_years-march_days 20000, days_of_years-next 20000)) in
@@ -99,9 +97,8 @@ day_placed day range =
     rw place p
 
 -- the month and the day at a place in a year
-month_placed : (y : ℤ) (place j : ℕ) → place < days_in_year y → days_of_months y j ≤ place → j ≤ 11
-    → (place < days_of_months y 12 → place < days_of_months y (suc j))
-    → (place - days_of_months y j + 1 ≤ days_in_month y (j + 1))
+month_placed : (y : ℤ) (place j : ℕ) → place < days_in_year y → days_of_months y j ≤ place → j ≤ 11 → (place <
+    days_of_months y 12 → place < days_of_months y (suc j)) → (place - days_of_months y j + 1 ≤ days_in_month y (j + 1))
     × (days_of_months y (j + 1 - 1) + (place - days_of_months y j + 1) ≡ place + 1)
 month_placed y place j h low most next =
     let all = days_of_months_all y in
@@ -113,10 +110,9 @@ month_placed y place j h low most next =
     rw (same, back) (omega arith, omega arith)
 
 -- the fields at a place in a year, on plain numbers
-place_exists : (y day : ℤ) (place j n : ℕ) → IsPlaced day y place → days_of_months y j ≤ place → j ≤ 11
-    → (place < days_of_months y 12 → place < days_of_months y (suc j)) → n < 86_400_000_000_000
-    → IsCivilDate y (j + 1) (place - days_of_months y j + 1)
-    × (days_from_civil y (j + 1) (place - days_of_months y j + 1) ≡ day)
+place_exists : (y day : ℤ) (place j n : ℕ) → IsPlaced day y place → days_of_months y j ≤ place → j ≤ 11 → (place <
+    days_of_months y 12 → place < days_of_months y (suc j)) → n < 86_400_000_000_000 → IsCivilDate y (j + 1) (place -
+    days_of_months y j + 1) × (days_from_civil y (j + 1) (place - days_of_months y j + 1) ≡ day)
 place_exists y day place j n p low most next small =
     let m = month_placed y place j p.place_in low most next in
     let d = place - days_of_months y j + 1 in
@@ -127,16 +123,13 @@ place_exists y day place j n p low most next small =
     let same = p.same in
     ((year_in, (omega arith, omega arith), (omega arith, m.0)), omega (arith, signed_arith, m.1))
 
-clock_parts : (n : ℕ) → n < 86_400_000_000_000
-    → (n / 3_600_000_000_000 < 24) × (n / 60_000_000_000 % 60 < 60) × (n / 1_000_000_000 % 60 < 60)
-    × (n % 1_000_000_000 < 1_000_000_000)
-    × ((n / 3_600_000_000_000 * 3600 + n / 60_000_000_000 % 60 * 60 + n / 1_000_000_000 % 60) * 1_000_000_000
-    + n % 1_000_000_000 ≡ n)
+clock_parts : (n : ℕ) → n < 86_400_000_000_000 → (n / 3_600_000_000_000 < 24) × (n / 60_000_000_000 % 60 < 60) × (n /
+    1_000_000_000 % 60 < 60) × (n % 1_000_000_000 < 1_000_000_000) × ((n / 3_600_000_000_000 * 3600 + n / 60_000_000_000
+    % 60 * 60 + n / 1_000_000_000 % 60) * 1_000_000_000 + n % 1_000_000_000 ≡ n)
 clock_parts n h = (omega arith, omega arith, omega arith, omega arith, omega arith)
 
-fields_exist-place : (y day : ℤ) (place n : ℕ) → IsPlaced day y place → n < 86_400_000_000_000
-    → AreCivil (place_fields y place n)
-    × (nanos_of_fields (place_fields y place n) ≡ day *ℤ pos 86_400_000_000_000 +ℤ pos n)
+fields_exist-place : (y day : ℤ) (place n : ℕ) → IsPlaced day y place → n < 86_400_000_000_000 → AreCivil (place_fields
+    y place n) × (nanos_of_fields (place_fields y place n) ≡ day *ℤ pos 86_400_000_000_000 +ℤ pos n)
 unfolding place_fields
 fields_exist-place y day place n p small =
     let fit = months_fit y 11 place in
@@ -323,9 +316,10 @@ by_rule std dst w at =
 
 of_rule : (std : Offset) (dst : Option Dst) (dt : DateTime) → FoldsBack (Posix.ambiguous_at_by std dst dt)
 of_rule std None dt = tt
-of_rule std (Some d) dt = by_rule std d.offset
-    (Posix.rule_nanos dt.date.year d.rule.start (pos 0), Posix.rule_nanos dt.date.year d.rule.end (pos 0))
-    (civil_nanos dt)
+of_rule std (Some d) dt = by_rule std d.offset (
+  Posix.rule_nanos dt.date.year d.rule.start (pos 0),
+  Posix.rule_nanos dt.date.year d.rule.end (pos 0),
+) (civil_nanos dt)
 
 of_transition : (t : Transition) → FoldsBack (Table.offsets_in t)
 of_transition t = grind arith

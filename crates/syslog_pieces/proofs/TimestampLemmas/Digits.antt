@@ -160,8 +160,7 @@ split_digits (b ∷ bs) =
 
 pub no_decimals : (bs : Text) → prefix_len is_ascii_digit bs ≡ 0 → NoFront decimals bs
 no_decimals bs e =
-    no_run is_ascii_digit bs (rw e at (split_digits bs).1) decimals
-    (λ p q n (ds, (u, h, same), value). (h.0, h.1))
+    no_run is_ascii_digit bs (rw e at (split_digits bs).1) decimals (λ p q n (ds, (u, h, same), value). (h.0, h.1))
 
 pub all_decimals : (bs ds q : Text) (len n : ℕ) → len ≡ prefix_len is_ascii_digit bs → 0 < length ds → ds ≡ take len bs
     → q ≡ drop len bs → n ≡ fraction_value 9 ds → Front decimals bs q n

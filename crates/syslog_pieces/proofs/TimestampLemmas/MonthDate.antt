@@ -199,8 +199,7 @@ abbrev pub IsBlank : ℕ → Type 0
 IsBlank c = is_blank c ≡ true
 
 pub blanks_begin : {t q : Text} → Front (some_run is_blank) t q tt → Begins IsBlank t
-blanks_begin {q = q} f =
-    rw f.whole (begins_more IsBlank f.piece q (each_begins is_blank f.piece f.is.0 f.is.1))
+blanks_begin {q = q} f = rw f.whole (begins_more IsBlank f.piece q (each_begins is_blank f.piece f.is.0 f.is.1))
 
 pub blank_low : (c : ℕ) → is_blank c ≡ true → c ≤ 32
 blank_low c h = grind (arith, nat_tests, h)
@@ -276,9 +275,8 @@ module _ {t : Text} where
         → Front (Row clock_row) w q (h, (tt, (n, (tt, (s, (more, tt))))))
         → Front month_date t q (record { year = Some y; month = m; day = d; hour = h; minute = n; second = s })
     dated_front g h =
-        second_kind MonthDate yearless_date.Is dated_date.Is
-        (mapped_front (Row dated_row) MonthDate dated_of
-        (rows_join day_row from_year f (rows_join year_row clock_row g h)))
+        second_kind MonthDate yearless_date.Is dated_date.Is (mapped_front (Row dated_row) MonthDate dated_of (rows_join
+        day_row from_year f (rows_join year_row clock_row g h)))
 
 -- ---- the timestamp of civil fields in a zone: there is at most one, and what its readers return
 
@@ -307,14 +305,12 @@ in_any_once (Some tz) local dt s t = (once_of (ambiguous_at tz dt) tz dt s t).0
 in_any_once None local dt s t = (once_of (ambiguous_at local dt) local dt s t).1
 
 -- the timestamp of a month date is that of its civil fields in its year
-fields_in_year : (dating : Dating) (date : MonthDate) (s : OffsetTimestamp) → IsMonthStamp dating date s
-    → (year : ℤ) × (year_of date dating.year ≡ Some year)
-    × IsStampOfFields dating.zone dating.local (civil_of date year) s
+fields_in_year : (dating : Dating) (date : MonthDate) (s : OffsetTimestamp) → IsMonthStamp dating date s → (year : ℤ) ×
+    (year_of date dating.year ≡ Some year) × IsStampOfFields dating.zone dating.local (civil_of date year) s
 fields_in_year dating date s (year, dt, y, f, h) = (year, y, (dt, has_fields dt (civil_of date year) f, h))
 
-month_in_year : (dating : Dating) (date : MonthDate) (year : ℤ) (s : OffsetTimestamp)
-    → year_of date dating.year ≡ Some year → IsStampOfFields dating.zone dating.local (civil_of date year) s
-    → IsMonthStamp dating date s
+month_in_year : (dating : Dating) (date : MonthDate) (year : ℤ) (s : OffsetTimestamp) → year_of date dating.year ≡ Some
+    year → IsStampOfFields dating.zone dating.local (civil_of date year) s → IsMonthStamp dating date s
 month_in_year dating date year s y (dt, e, h) = (year, dt, y, is_datetime dt (civil_of date year) e, h)
 
 -- a month date has one timestamp
@@ -338,9 +334,8 @@ answer_at (Gap before after) tz dt offset r e h = absurd (let s : None ≡ Some 
 answer_at (Fold before after) tz dt offset r e h = let same : offset ≡ before = cc in let at = rw same at h in (at, at)
 
 -- fields that name a datetime have its timestamp
-pub answer_of_fields : (f : CivilFields) (dt : DateTime) (tz : Option TimeZone) (local : TimeZone)
-    (r : Option ClockStamp) → fields_of dt ≡ f
-    → IsAnswer (IsStampInAny tz local dt) r → IsAnswer (IsStampOfFields tz local f) r
+pub answer_of_fields : (f : CivilFields) (dt : DateTime) (tz : Option TimeZone) (local : TimeZone) (r : Option
+    ClockStamp) → fields_of dt ≡ f → IsAnswer (IsStampInAny tz local dt) r → IsAnswer (IsStampOfFields tz local f) r
 answer_of_fields f dt tz local r e h =
     answer_same (IsStampInAny tz local dt) (IsStampOfFields tz local f) r (λ s p. (dt, e, p))
     (λ s (dt', e', p). rw (one_datetime f dt' dt e' e) at p) h
@@ -392,9 +387,8 @@ module _ (tz : Option TimeZone) (local zone : TimeZone) (f : CivilFields) (offse
   fixed_datetime : (r : Option ClockStamp) → IsAnswer (IsStampOfClock f offset) r → (dt : DateTime) → fields_of dt ≡ f
       → IsAnswer (IsStampOfFields tz local f) r
   fixed_datetime r h dt same =
-      answer_of_fields f dt tz local r same
-      (in_any tz local dt offset r (rw e at (fixed_earlier zone offset dt fixed at))
-      (answer_on_clock f dt offset r same h))
+      answer_of_fields f dt tz local r same (in_any tz local dt offset r (rw e at (fixed_earlier zone offset dt fixed
+      at)) (answer_on_clock f dt offset r same h))
 
   pub fixed_answer : (r : Option ClockStamp) → IsAnswer (IsStampOfClock f offset) r
       → IsAnswer (IsStampOfFields tz local f) r
@@ -457,9 +451,8 @@ module _ (dating : Dating) {t : Text} where
 
   module _ (n : NoFront header_stamp t) where
     -- no month date there has a timestamp
-    no_stamped : ((d : MonthDate) (s : OffsetTimestamp) (q : Text) → Front month_date t q d → IsMonthStamp dating d s
-        → ⊥)
-        → NoFront (rfc3164_stamp dating) t
+    no_stamped : ((d : MonthDate) (s : OffsetTimestamp) (q : Text) → Front month_date t q d → IsMonthStamp dating d s →
+        ⊥) → NoFront (rfc3164_stamp dating) t
     no_stamped m = no_either (Option OffsetTimestamp) header_stamp.Is (IsStampedDate dating) n
         (λ p q v e h. none v p q e h)
       where

@@ -175,9 +175,8 @@ stamp_alone p q r w (vs, h, e) = (
 -- ---- from what a text wrote to the result
 
 -- an answer to one question is one to another that asks the same
-pub answer_same : (P Q : OffsetTimestamp → Type 0) (answer : Option ClockStamp)
-    → ((s : OffsetTimestamp) → P s → Q s)
-    → ((s : OffsetTimestamp) → Q s → P s) → IsAnswer P answer → IsAnswer Q answer
+pub answer_same : (P Q : OffsetTimestamp → Type 0) (answer : Option ClockStamp) → ((s : OffsetTimestamp) → P s → Q s) →
+    ((s : OffsetTimestamp) → Q s → P s) → IsAnswer P answer → IsAnswer Q answer
 answer_same P Q None forth back h = λ s q. h s (back s q)
 answer_same P Q (Some c) forth back h = forth (clock_value c) h
 
@@ -191,9 +190,8 @@ stamp_fields w n o h =
       h.instant ∙ ap (λ (x : ℤ). x -ℤ nanos_of_seconds w.offset) (civil_nanos-fields h.shown f same),
     )
 
-pub fields_stamp : (w : Rfc3339Fields) (n o : ℤ) → AreCivil (fields_of_rfc3339 w)
-    → n ≡ nanos_of_fields (fields_of_rfc3339 w) -ℤ nanos_of_seconds w.offset → o ≡ w.offset → IsTimestampNanos n
-    → HasRfc3339Stamp w n o
+pub fields_stamp : (w : Rfc3339Fields) (n o : ℤ) → AreCivil (fields_of_rfc3339 w) → n ≡ nanos_of_fields
+    (fields_of_rfc3339 w) -ℤ nanos_of_seconds w.offset → o ≡ w.offset → IsTimestampNanos n → HasRfc3339Stamp w n o
 fields_stamp w n o there instant same range =
     let f = fields_of_rfc3339 w in
     let (dt, e) = datetime_of f there in
@@ -210,10 +208,9 @@ pub answer_of_rfc3339 : (w : Rfc3339Fields) (f : CivilFields) (offset : Offset) 
     → f ≡ fields_of_rfc3339 w → offset.seconds ≡ w.offset → IsAnswer (IsStampOfClock f offset) answer
     → IsAnswer (IsStampOfRfc3339 w) answer
 answer_of_rfc3339 w f offset answer e same h =
-    answer_same (IsStampOfClock (fields_of_rfc3339 w) offset) (IsStampOfRfc3339 w) answer
-    (λ s p. fields_stamp w s.instant.nanosecond s.offset.seconds p.civil (rw (← same) p.instant) (p.at_offset ∙ same)
-    s.instant.in_range)
-    (λ s q. (let (there, instant) = stamp_fields w s.instant.nanosecond s.offset.seconds q in
+    answer_same (IsStampOfClock (fields_of_rfc3339 w) offset) (IsStampOfRfc3339 w) answer (λ s p. fields_stamp w
+    s.instant.nanosecond s.offset.seconds p.civil (rw (← same) p.instant) (p.at_offset ∙ same) s.instant.in_range) (λ s
+    q. (let (there, instant) = stamp_fields w s.instant.nanosecond s.offset.seconds q in
     record { civil = there; instant = rw same instant; at_offset = q.at_offset ∙ sym same })) (rw e at h)
 
 -- ---- the stamp of a text
@@ -305,8 +302,7 @@ begins_with_year text w (vs, h, e) =
     let (rest, same, _) = spaced_parts (pair 100) g in (
       vs.0,
       rest,
-      sym (append-nil text) ∙ f.whole ∙ ap (λ (x : Text). x ++ u) f.is.0
-          ∙ ap (λ (x : Text). pad4 vs.0 ++ x) same,
+      sym (append-nil text) ∙ f.whole ∙ ap (λ (x : Text). x ++ u) f.is.0 ∙ ap (λ (x : Text). pad4 vs.0 ++ x) same,
       f.is.1,
     )
 
@@ -432,8 +428,7 @@ printed_stamp-characters n o h k =
     (fraction_characters _ [] f.nanosecond (fraction_text-is [] tt tt f.nanosecond there.nanosecond_in)) (offset_characters o k))
 
 -- the bytes of a printed stamp are its characters
-pub printed_stamp-bytes : (s : OffsetTimestamp)
-    → encode_utf8_all (printed_stamp s.instant.nanosecond s.offset.seconds)
+pub printed_stamp-bytes : (s : OffsetTimestamp) → encode_utf8_all (printed_stamp s.instant.nanosecond s.offset.seconds)
     ≡ printed_stamp s.instant.nanosecond s.offset.seconds
 printed_stamp-bytes s =
     encodes-IsAscii _ (each_ascii _ (printed_stamp-characters _ _ s.instant.in_range s.offset.in_range))
@@ -443,8 +438,7 @@ printed_stamp-bytes s =
 minutes_back : (n : ℕ) → n % 60 ≡ 0 → (n + 30) / 60 * 60 ≡ n
 minutes_back n whole = omega arith
 
-signed : (b : Bool) (m : ℕ) → m < 1440
-    → offset.Is ((if b then 45 else 43) ∷ (pad2 (m / 60) ++ (58 ∷ pad2 (m % 60)))) []
+signed : (b : Bool) (m : ℕ) → m < 1440 → offset.Is ((if b then 45 else 43) ∷ (pad2 (m / 60) ++ (58 ∷ pad2 (m % 60)))) []
     (if b then neg_ℤ (pos (m * 60)) else pos (m * 60))
 signed b m small =
     let same : (m / 60 * 60 + m % 60) * 60 ≡ m * 60 = omega arith in
@@ -522,8 +516,7 @@ numeric-canonical p q (b, vs) h =
     let minutes_in = minutes.is.2.1 in
     sized b ((vs.0 * 60 + vs.1.0) * 60) (omega arith) (omega arith)
   where
-    sized : (b : Bool) (n : ℕ) → n % 60 ≡ 0 → n < 86_400
-        → (unsigned_abs (if b then neg_ℤ (pos n) else pos n) % 60 ≡ 0)
+    sized : (b : Bool) (n : ℕ) → n % 60 ≡ 0 → n < 86_400 → (unsigned_abs (if b then neg_ℤ (pos n) else pos n) % 60 ≡ 0)
         × (unsigned_abs (if b then neg_ℤ (pos n) else pos n) < 86_400)
     sized true n m h = (omega (arith, signed_arith), omega (arith, signed_arith))
     sized false n m h = (m, h)

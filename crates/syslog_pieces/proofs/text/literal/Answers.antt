@@ -2,8 +2,7 @@ use Rattle.syslog_pieces.proofs.TextLemmas.Runs.{one_cut, one_front, no_one_fron
 use Rattle.syslog_pieces.proofs.text.literal.Goals as goal
 
 pub split_at-requires : goal.split_at-requires
-split_at-requires c =
-    one_cut _ _ c.requires c.utf8.text (rw c.as_bytes.ensures.value at c.if-begins_with.ensures)
+split_at-requires c = one_cut _ _ c.requires c.utf8.text (rw c.as_bytes.ensures.value at c.if-begins_with.ensures)
 
 pub returns-then-begins_with : goal.returns-then-begins_with
 returns-then-begins_with c =

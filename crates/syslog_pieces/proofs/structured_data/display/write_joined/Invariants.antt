@@ -4,7 +4,5 @@ use Rattle.syslog_pieces.proofs.structured_data.display.write_joined.Given as go
 
 abbrev pub invariant-loop-element : goal.invariant-loop-element
 invariant-loop-element g l =
-    IsPlainFormatter l.fn.f
-    → HasWritten g.W.Write.write_str_gives l.fn.f
-    (encode_utf8_all ([] ++ flat_map element_text (map element_seen l.yielded)))
-    l.f
+    IsPlainFormatter l.fn.f → HasWritten g.W.Write.write_str_gives l.fn.f (encode_utf8_all ([] ++ flat_map element_text
+    (map element_seen l.yielded))) l.f

@@ -5,10 +5,11 @@ use Rattle.syslog_pieces.proofs.structured_data.equality.are_as_frequent.Goals a
 
 pub returns-then-count_param : goal.returns-then-count_param
 returns-then-count_param g c =
-    sym (counts_agree-map (text_of g.S.AsStr.text) c.args.a.now c.args.a.now c.args.b.now
-    ∙ list_all_at _ c.args.a.now _ c.param-item.result c.loop-param-test.true
-    (rw c.param-item.is at (rw (c.count_param.ensures, c.count_param-in-loop-param.ensures) at
-    (ne_eqb _ _ c.if-count_param.true))))
+    sym (counts_agree-map (text_of g.S.AsStr.text) c.args.a.now c.args.a.now c.args.b.now ∙ list_all_at _ c.args.a.now _
+    c.param-item.result c.loop-param-test.true (rw c.param-item.is at (rw (
+      c.count_param.ensures,
+      c.count_param-in-loop-param.ensures,
+    ) at (ne_eqb _ _ c.if-count_param.true))))
 
 pub loop-param-preserved : goal.loop-param-preserved
 loop-param-preserved g c =

@@ -11,9 +11,8 @@ returns-in_default c =
 
 pub returns-in_default-first : goal.returns-in_default-first
 returns-in_default-first c =
-    removes_end c.split_run.ensures c.units.invariant.1 c.in_ok-push_text.ensures true
-    (backslash c.split_run.ensures c.units.invariant.1 c.in_ok-push_text.ensures _ _ _
-    c.in-Some.ensures.0 c.in_default-first.ensures)
+    removes_end c.split_run.ensures c.units.invariant.1 c.in_ok-push_text.ensures true (backslash c.split_run.ensures
+    c.units.invariant.1 c.in_ok-push_text.ensures _ _ _ c.in-Some.ensures.0 c.in_default-first.ensures)
 
 pub units-preserved : goal.units-preserved
 units-preserved c = (

@@ -25,5 +25,4 @@ pub returns-then-tally-gt0-clause-elements : goal.returns-then-tally-gt0-clause-
 returns-then-tally-gt0-clause-elements c vs a = c.new.ensures.elements _ vs (own_items c.before-own.ensures a)
 
 pub returns-else-tally-clause-elements : goal.returns-else-tally-clause-elements
-returns-else-tally-clause-elements c vs a =
-    c.new-else-tally.ensures.elements _ vs (own_items c.before-own.ensures a)
+returns-else-tally-clause-elements c vs a = c.new-else-tally.ensures.elements _ vs (own_items c.before-own.ensures a)

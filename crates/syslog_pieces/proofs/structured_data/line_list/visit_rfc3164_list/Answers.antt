@@ -6,8 +6,7 @@ use Rattle.syslog_pieces.proofs.structured_data.line_list.visit_rfc3164_list.Goa
 pub returns-in-Some-clause-list : goal.returns-in-Some-clause-list
 returns-in-Some-clause-list g c = (
   Some [],
-  optional_some (rfc3164_list c.args.rule)
-      (dash_rfc3164_list c.args.rule _ _ c.in-Some.ensures.0 c.in-Some.ensures.1),
+  optional_some (rfc3164_list c.args.rule) (dash_rfc3164_list c.args.rule _ _ c.in-Some.ensures.0 c.in-Some.ensures.1),
   c.dash_list.ensures.elements,
 )
 

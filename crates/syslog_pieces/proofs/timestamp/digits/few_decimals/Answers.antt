@@ -9,13 +9,11 @@ returns-then-not-begins_with_digit c =
 
 pub returns-then-not-begins_with_digit-2 : goal.returns-then-not-begins_with_digit-2
 returns-then-not-begins_with_digit-2 c =
-    rw (c.in_ok-milli.ensures.text, c.in_ok-micro.ensures.text)
-    (decimals_front _ (six _ c.in_ok-milli.ensures.small _ c.in_ok-micro.ensures.small refl)
-    c.if-not-begins_with_digit-2.ensures)
+    rw (c.in_ok-milli.ensures.text, c.in_ok-micro.ensures.text) (decimals_front _ (six _ c.in_ok-milli.ensures.small _
+    c.in_ok-micro.ensures.small refl) c.if-not-begins_with_digit-2.ensures)
 
 pub returns : goal.returns
 returns c =
-    rw (c.in_ok-milli.ensures.text, c.in_ok-micro.ensures.text, c.in_ok-nano.ensures.text)
-    (decimals_front _ (nine _ c.in_ok-milli.ensures.small _ c.in_ok-micro.ensures.small _
-    c.in_ok-nano.ensures.small refl)
+    rw (c.in_ok-milli.ensures.text, c.in_ok-micro.ensures.text, c.in_ok-nano.ensures.text) (decimals_front _ (nine _
+    c.in_ok-milli.ensures.small _ c.in_ok-micro.ensures.small _ c.in_ok-nano.ensures.small refl)
     c.if-begins_with_digit.ensures)

@@ -4,8 +4,7 @@ use Rattle.syslog_pieces.proofs.timestamp.digits.fraction.Goals as goal
 
 pub returns-in-Some : goal.returns-in-Some
 returns-in-Some c =
-    fraction_reads _ _ (Some c.in-Some.read)
-    (first_rest _ 46 c.in-46.len_at_least (search rules)) c.in-Some.ensures
+    fraction_reads _ _ (Some c.in-Some.read) (first_rest _ 46 c.in-46.len_at_least (search rules)) c.in-Some.ensures
 
 pub returns-in-None : goal.returns-in-None
 returns-in-None c = fraction_reads _ _ _ (first_rest _ 46 c.in-46.len_at_least (search rules)) c.many_decimals.ensures

@@ -27,7 +27,6 @@ returns-in_err-second c =
 pub returns : goal.returns
 returns c = (
   c.past_colon.ensures.0,
-  row_of clock_row (c.in_ok-hour.ensures then c.in_ok-rest.ensures then c.in_ok-minute.ensures
-      then c.in_ok-rest-2.ensures
-      then c.in_ok-second.ensures then c.past_colon.ensures.1 then refl),
+  row_of clock_row (c.in_ok-hour.ensures then c.in_ok-rest.ensures then c.in_ok-minute.ensures then
+      c.in_ok-rest-2.ensures then c.in_ok-second.ensures then c.past_colon.ensures.1 then refl),
 )

@@ -4,8 +4,5 @@ use Rattle.syslog_pieces.proofs.structured_data.display.ElementDisplay.fmt.Given
 
 abbrev pub invariant-loop-name : goal.invariant-loop-name
 invariant-loop-name g l =
-    IsPlainFormatter l.fn.f
-    → HasWritten g.W.Write.write_str_gives l.fn.f
-    (encode_utf8_all ((91 ∷ (element_seen l.self).id)
-    ++ flat_map param_text (map (param_value (λ s. shown s)) l.yielded)))
-    l.f
+    IsPlainFormatter l.fn.f → HasWritten g.W.Write.write_str_gives l.fn.f (encode_utf8_all ((91 ∷ (element_seen
+    l.self).id) ++ flat_map param_text (map (param_value (λ s. shown s)) l.yielded))) l.f

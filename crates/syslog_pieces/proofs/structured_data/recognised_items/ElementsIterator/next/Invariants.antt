@@ -3,9 +3,8 @@ use Rattle.syslog_pieces.proofs.Names.{one_value, elements_left}
 use Rattle.syslog_pieces.proofs.structured_data.recognised_items.ElementsIterator.next.Given as goal
 
 abbrev pub invariant-items : goal.invariant-items
-invariant-items l = shadow (Utf8 l.rest) × IsDead (chars l.rest) l.dead
-    × ((m : OneMeaning (many item) (chars l.rest)) × (elements_left l.fn.self ≡ strict (one_value m))
-    × (elements_left l.self ≡ strict (one_value m)))
+invariant-items l = shadow (Utf8 l.rest) × IsDead (chars l.rest) l.dead × ((m : OneMeaning (many item) (chars l.rest)) ×
+    (elements_left l.fn.self ≡ strict (one_value m)) × (elements_left l.self ≡ strict (one_value m)))
 
 abbrev pub decreases-items : goal.decreases-items
 decreases-items l = length (chars l.rest)
