@@ -14,7 +14,6 @@ ghost use Rattle.syslog_pieces.specs.ProcId as spec;
 
 use crate::as_str::{AsStr, is_same_text};
 use crate::text::canonical::is_canonical_word;
-use crate::text::few_digits;
 use std::alloc::{AllocError, Global};
 use std::fmt;
 
@@ -92,22 +91,13 @@ impl ProcId<&str> {
 impl<'a> From<&'a str> for ProcId<&'a str> {
     ghost from_gives = { λ text procid. spec.NamesProcess (chars text.now) (spec.procid_value (λ s. shown s) procid) };
 
+    // A call, because a reading call asks for the process at two places.
+    #[inline(never)]
     fn from(text: &'a str) -> ProcId<&'a str> {
-        match few_digits(text.as_bytes()) {
-            Some(number) => ProcId::PID(number as i32),
-            None => any_process(text),
+        match text.parse::<i32>() {
+            Ok(number) => ProcId::PID(number),
+            Err(_) => ProcId::Name(text),
         }
-    }
-}
-
-// The process id of any text.
-#[inline(never)]
-fn any_process(text: &str) -> ProcId<&str>
-    ensures { spec.NamesProcess (chars text.now) (spec.procid_value (λ s. shown s) result) }
-{
-    match text.parse::<i32>() {
-        Ok(number) => ProcId::PID(number),
-        Err(_) => ProcId::Name(text),
     }
 }
 

@@ -21,7 +21,6 @@ pub mod write_ascii;
 use lanes::visible_front;
 pub(crate) use looks::begins_with_digit;
 use looks::{begins_visibly, begins_with, begins_with_gap, ends_in_colon};
-pub(crate) use numerals::few_digits;
 use numerals::{number_of_digits, small_digits};
 use scan::{ascii_run, is_cut, is_in};
 

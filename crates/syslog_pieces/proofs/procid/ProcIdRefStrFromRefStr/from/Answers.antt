@@ -1,15 +1,12 @@
-use Rattle.syslog_pieces.proofs.Names.{◌≡◌, FitsSigned, pos, w32, inl, arith, ap, chars-IsAscii, signed_arith, to_z}
-use Rattle.std.proofs.lemmas.Int.{to_z_pos}
-use Rattle.syslog_pieces.proofs.TextLemmas.Runs.{digits_ascii}
-use Rattle.syslog_pieces.proofs.ProcIdLemmas.{writes_numeral}
+use Rattle.syslog_pieces.proofs.Names.{to_z-of_z}
+use Rattle.syslog_pieces.proofs.ProcIdLemmas.{number_read, no_number_read}
 use Rattle.syslog_pieces.proofs.procid.ProcIdRefStrFromRefStr.from.Goals as goal
 
-pub returns-in-Some : goal.returns-in-Some
-returns-in-Some c =
-    let n = c.in-Some.number in
-    let each = rw c.as_bytes.ensures.value at c.in-Some.ensures.digits in
-    let (some, small, value) = rw c.as_bytes.ensures.value at c.in-Some.ensures.value in
-    let number : to_z w32 n ≡ pos n = to_z_pos w32 n (omega (arith, small)) in
-    let fits : FitsSigned w32 (pos n) = omega (arith, small, signed_arith) in
-    rw (number, chars-IsAscii c.args.text.now (digits_ascii _ each))
-    (writes_numeral c.args.text.now (pos n) (inl ((some, each), ap pos value)), fits)
+pub returns-in-Ok : goal.returns-in-Ok
+returns-in-Ok c =
+    let h = number_read _ c.utf8.text _ c.in-Ok.number c.in-Ok.is c.parse.ensures.value.0 in
+    let fits = h.1 in
+    rw to_z-of_z h
+
+pub returns-in-Err : goal.returns-in-Err
+returns-in-Err c = (no_number_read _ c.utf8.text _ _ c.in-Err.is c.parse.ensures.value.0, cc)
