@@ -197,23 +197,12 @@ module _ (version : ℕ) (m : MessageValue) (bounded : version ≤ 4294967295) (
     (q : IsCanonical5424 m) where
   fields_back : (t : Text) → RowReadsBack fields (values_of version m) (32 ∷ t)
   fields_back t =
-      (bounded, refl) also (tt, stamp_unblank m.timestamp _) also (p.timestamp, (_, refl)) also (
-        tt,
-        name_unblank
-            m.hostname _ IsCanonicalHost (λ t k. k.0) p.hostname,
-      ) also (p.hostname, refl) also (
-        tt,
-        name_unblank m.appname _
-            IsCanonicalWord (λ t k. k.0) q.appname,
-      ) also (q.appname, refl) also (
-        tt,
-        process_unblank m.procid _ []
-            (process_back m.procid [] q.procid b.procid tt),
-      ) also ((q.procid, b.procid), refl) also (
-        tt,
-        name_unblank m.msgid
-            _ IsCanonicalWord (λ t k. k.0) q.msgid,
-      ) also (q.msgid, refl) also tt
+      (bounded, refl) also (tt, stamp_unblank m.timestamp _) also (p.timestamp, (_, refl))
+      also (tt, name_unblank m.hostname _ IsCanonicalHost (λ t k. k.0) p.hostname) also (p.hostname, refl)
+      also (tt, name_unblank m.appname _ IsCanonicalWord (λ t k. k.0) q.appname) also (q.appname, refl)
+      also (tt, process_unblank m.procid _ [] (process_back m.procid [] q.procid b.procid tt))
+      also ((q.procid, b.procid), refl)
+      also (tt, name_unblank m.msgid _ IsCanonicalWord (λ t k. k.0) q.msgid) also (q.msgid, refl) also tt
 
   -- the one division, piece by piece
   line_divided : Division rfc5424_row (trimmed (printed_5424 version m)) (line_values version m)

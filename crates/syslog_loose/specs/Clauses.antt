@@ -1,9 +1,9 @@
 -- The definitions of this crate that its clauses cite, passed on from one place. Declares nothing.
-pub use Rattle.syslog_loose.specs.Bodies.Cases.{printed_number}
+pub use Rattle.syslog_loose.specs.Bodies.Cases.{incomplete, printed_number}
 pub use Rattle.syslog_loose.specs.Bodies.Jumps.{CutsColons, EndsColons, IsDashed, PassesDashes, colons, colons_before}
 pub use Rattle.syslog_loose.specs.Bodies.Jumps.{message_end, past_colons, tail_text, with_msg}
 pub use Rattle.syslog_loose.specs.Bodies.Rows.{stamped_row}
-pub use Rattle.syslog_loose.specs.Bodies.Start.{IsBehindPriority}
+pub use Rattle.syslog_loose.specs.Bodies.Start.{BeginsWith, BeginsWithout, IsBehindPriority}
 pub use Rattle.syslog_loose.specs.Bodies.View3164.{FieldsAreRead, IsBehindStamp, IsProcessOf, NamesHost, NamesProgram}
 pub use Rattle.syslog_loose.specs.Bodies.View3164.{names_value}
 pub use Rattle.syslog_loose.specs.Bodies.View5424.{ReadsHeader, names_before}
@@ -27,8 +27,9 @@ pub use Rattle.syslog_loose.specs.Rfc3164.{IsRead3164, Names3164, Quotes3164, Re
 pub use Rattle.syslog_loose.specs.Rfc5424.{IsNot5424, IsRead5424, rfc5424_row}
 pub use Rattle.syslog_loose.specs.Settling.{IsFirstSettled, IsRound, IsSettled, NoneSettled, Settles, Weighs, answer_in}
 pub use Rattle.syslog_loose.specs.TagForm.{IsForm, IsNoForm}
-pub use Rattle.syslog_loose.specs.Visit.{HasRest, IsCompleted, IsLineOf}
+pub use Rattle.syslog_loose.specs.Visit.{HasRest, IsCompleted, IsLineOf, Made}
 pub use Rattle.syslog_loose.specs.declared.fault.ParseFault.TheVariants.{Invalid}
+pub use Rattle.syslog_loose.specs.declared.line.Line.{Line}
 pub use Rattle.syslog_loose.specs.declared.message.Message.{Message}
 pub use Rattle.syslog_loose.specs.declared.message.Protocol.{Protocol}
 pub use Rattle.syslog_loose.specs.declared.message.Protocol.TheVariants.{RFC5424}

@@ -46,10 +46,7 @@ pub struct Line<'a> {
 impl<'a> Line<'a> {
     ghost use Rattle.std.specs.Prelude.{◌≢◌, ◌↔◌};
     ghost use Rattle.syslog_loose.specs.Words.{[], IsTrue, MatchResult, elements_left};
-    ghost use Rattle.syslog_loose.specs.Line.{line_value};
-    ghost use Rattle.syslog_loose.specs.Canonical.{IsCanonical};
-    ghost use Rattle.syslog_loose.specs.Reading.{dash_rule};
-    ghost use Rattle.syslog_loose.specs.Message.{message_value, with_elements};
+    ghost use Rattle.syslog_loose.specs.Clauses.{line_value, IsCanonical, dash_rule, message_value, with_elements};
 
     /// Returns the protocol.
     #[inline(always)]

@@ -135,13 +135,12 @@ body_back rule [] msg h k b n =
     row_of (from_blanks rule) (message_blanks msg b then optional_none (rfc3164_list rule)
     (no_rfc3164_list rule msg (n refl)) then piece_front (run is_blank) [] msg tt (tt, b) then rest_front msg then refl)
 body_back rule (e ∷ es) msg h k b n =
-    row_of (from_blanks rule) (piece_front (run is_blank) (32 ∷ []) (joined_elements (e ∷ es) ++ message_end msg) tt
-    ((refl, tt), refl) then optional_some (rfc3164_list rule) (piece_front (rfc3164_list rule)
-    (joined_elements (e ∷ es)) (message_end msg) (e ∷ es) (inr (
-      omega arith,
-      many_back (e ∷ es) (message_end msg) h k
-          (no_full_end msg),
-    ))) then message_blanks msg b then rest_front msg then refl)
+    row_of (from_blanks rule)
+    (piece_front (run is_blank) (32 ∷ []) (joined_elements (e ∷ es) ++ message_end msg) tt ((refl, tt), refl)
+    then optional_some (rfc3164_list rule)
+    (piece_front (rfc3164_list rule) (joined_elements (e ∷ es)) (message_end msg) (e ∷ es)
+    (inr (omega arith, many_back (e ∷ es) (message_end msg) h k (no_full_end msg))))
+    then message_blanks msg b then rest_front msg then refl)
 
 -- ---- the process
 pub digit_inside : (c : ℕ) → is_ascii_digit c ≡ true → is_process_char c ≡ true

@@ -284,8 +284,13 @@ dashes_more zero t = refl
 dashes_more (suc n) t = ap (λ (x : Text). 45 ∷ 32 ∷ x) (dashes_more n t)
 
 one_dashed : (t next : Text) → IsDashed t next → IsDashed (45 ∷ 32 ∷ t) t
-one_dashed t next d = record { blanks = 32 ∷ []; whole = refl; some = omega arith; each = (refl, tt);
-    no_more = subst (Ends is_blank) (sym d.whole) refl }
+one_dashed t next d = record {
+  blanks = 32 ∷ [];
+  whole = refl;
+  some = omega arith;
+  each = (refl, tt);
+  no_more = subst (Ends is_blank) (sym d.whole) refl;
+}
 
 pub passes_spaced : (n : ℕ) (t next : Text) → IsDashed t next → PassesDashes n (spaced_dashes n ++ t) t
 passes_spaced zero t next d = refl

@@ -9,6 +9,8 @@ many-preserved c =
     let rest = c.in-Some.rest.now in
     let v : IsUtf8 rest = search rules in
     let (next, f) = some_next (chars rest) _ c.behind_dash.result c.if-is_none.ensures c.behind_dash.ensures in
-    let same = dashes_front from rest 16 c.many.invariant.0 v c.in-Some.ensures.cases in
-    (v, passes_both n 16 (chars c.args.text.now) (chars from) (chars rest) p
-    (subst (λ (x : Text). PassesDashes 16 x (chars rest)) (sym same) (passes_spaced 16 (chars rest) next f)))
+    let same = dashes_front from rest 16 c.many.invariant.0 v c.in-Some.ensures.cases in (
+      v,
+      passes_both n 16 (chars c.args.text.now) (chars from) (chars rest) p
+          (subst (λ (x : Text). PassesDashes 16 x (chars rest)) (sym same) (passes_spaced 16 (chars rest) next f)),
+    )
