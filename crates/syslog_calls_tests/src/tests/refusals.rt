@@ -5,6 +5,7 @@
 mod calls;
 mod copies;
 mod objects;
+mod strict;
 mod texts;
 
 /// How often a call is made until it is not refused.
