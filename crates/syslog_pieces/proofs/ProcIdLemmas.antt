@@ -138,8 +138,7 @@ names_itself t l p = elim (all_digits t) [
       Name t,
       (
         λ n h. (let same = h.0.1 ∙ sym (writes_numeral t (pos (digits_value 10 t)) (inl ((l, a), refl))).1 in
-            let fits = rw same at h.1 in
-            omega (arith, fits, large)),
+            omega (arith, (rw same at h.1), large)),
         refl,
       ),
       refl,
@@ -192,9 +191,7 @@ bits_of_fits (negsuc n) h = let small : n < 2_147_483_648 = omega arith in grind
 
 signed_of_test : (t : Text) → is_signed_text t ≡ true → IsNumeral 10 (without_leading_sign t)
 signed_of_test t h =
-    let parts = and_parts _ _ h in
-    let some : 0 < length (without_leading_sign t) = grind (arith, nat_tests) in
-    numeral _ (some, each_of_all _ parts.1)
+    numeral _ ((grind (arith, nat_tests)), each_of_all _ (and_parts _ _ h).1)
 
 test_of_signed : (t : Text) → IsNumeral 10 (without_leading_sign t) → is_signed_text t ≡ true
 test_of_signed t h =
@@ -204,8 +201,7 @@ test_of_signed t h =
 no_number : (t : Text) → (is_signed_text t && has_32_bits (signed_digits_value 10 t)) ≡ false → (n : ℤ)
     → IsI32Text t n → ⊥
 no_number t h n is =
-    let value = is.0.1 in
-    let both = and_from _ _ (test_of_signed t is.0.0) (bits_of_fits _ (rw value at is.1)) in
+    let both = and_from _ _ (test_of_signed t is.0.0) (bits_of_fits _ (rw is.0.1 at is.1)) in
     let f = rw both at h in cc
 
 named_as : (t : Text) (test : Bool) → test ≡ (is_signed_text t && has_32_bits (signed_digits_value 10 t))

@@ -188,8 +188,7 @@ pub row_none_later : (C : Class) (Cs : List Class) → IsDeterministic C → {te
     → Front C text q v → NoFront (Row Cs) q → NoFront (Row (C ∷ Cs)) text
 row_none_later C Cs d {text = text} {q = q} f n p r vs w h =
     let g = row_head C Cs (record { piece = p; whole = w; is = h }) in
-    let s = front_same C d g.1 f in
-    no_front_no (Row Cs) n (subst (λ (x : Text). Front (Row Cs) x r vs.1) s.0 g.2)
+    no_front_no (Row Cs) n (subst (λ (x : Text). Front (Row Cs) x r vs.1) (front_same C d g.1 f).0 g.2)
 
 -- ---- divisions of a whole text
 pub division_front : (Cs : List Class) → {text : Text} {vs : Values Cs} → Division Cs text vs
@@ -289,8 +288,6 @@ no_spaced_space C {c} n p q v e (t, f, h) = n (c ∷ []) (t ++ q) tt (e ∙ ap (
 pub no_spaced_piece : (C : Class) {c : ℕ} {t q : Text} → Front (exactly (c ∷ [])) t q tt → NoFront C q
     → NoFront (after c C) t
 no_spaced_piece C {c} {q = q} g n p r v e (t, f, h) =
-    let same : c ∷ q ≡ c ∷ (t ++ r) =
-    sym (ap (λ (x : Text). x ++ q) g.is) ∙ sym g.whole ∙ e ∙ ap (λ (x : Text). x ++ r) f in
     n t r v (cc) h
 
 -- ---- what holds of each character of a text

@@ -226,7 +226,6 @@ module _ (C : Class) (separator close : ℕ) where
 
       further_det : IsDeterministic further
       further_det p q p' q' v v' e (a, i, h) (a', i', h') =
-          let w : separator ∷ (a ++ q) ≡ separator ∷ (a' ++ q') = rw (i, i') at e in
           let r = d a q a' q' v v' (cc) h h' in (let t = r.0 in cc, r.1)
 
       -- before the character that closes the list, they are as many as there are

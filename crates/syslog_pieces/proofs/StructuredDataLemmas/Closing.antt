@@ -39,9 +39,7 @@ split_bracket [] w a b e = inr (a, e)
 split_bracket (x ∷ p) w [] b e =
     inl (p, (let t : x ≡ 93 = cc in ap (λ (y : ℕ). y ∷ p) t), (let t : b ≡ p ++ w = cc in t))
 split_bracket (x ∷ p) w (y ∷ a) b e =
-    let t : p ++ w ≡ a ++ (93 ∷ b) = cc in
-    let h : x ≡ y = cc in
-    elim (split_bracket p w a b t) [
+    elim (split_bracket p w a b cc) [
       | inl (c, i, j) ↦ inl (c, (let k = i in cc), j)
       | inr (c, i) ↦ inr (c, i)
     ]

@@ -45,8 +45,7 @@ pub bare_is_not_full : (t q : Text) (v : ElementValue) → Front element t q v �
     → NoFront full_element t
 bare_is_not_full t q v f z p r w e h =
     let s = front_same element element_det f (record { piece = p; whole = e; is = h.0 }) in
-    let k = ap (λ (x : ElementValue). length x.params) s.1 in
-    omega (arith, h.1, k, z)
+    omega (arith, h.1, (ap (λ (x : ElementValue). length x.params) s.1), z)
 
 -- such an element begins with a bracket
 pub full_begins : (p q : Text) (v : ElementValue) → full_element.Is p q v → (r : Text) × (p ++ q ≡ 91 ∷ r)
@@ -241,8 +240,7 @@ module _ {text inner at id : Text} {ps : List (Text × Text)} {mark : Bool} (w :
         printed_param : IsTrue (mark && opens) → text ≡ 91 ∷ (id ++ (flat_map param_text (ps ++ ((name, v) ∷ [])) ++ y))
         printed_param both =
             let (left, right) = and_parts mark opens both in
-            let whole : 32 ∷ at ≡ 32 ∷ (name ++ (61 ∷ 34 ∷ (v ++ (34 ∷ y)))) = cc (stands right, quoted_text f) in
-            let here : 32 ∷ at ≡ param_text (name, v) ++ y = simp append_assoc whole in
+            let here : 32 ∷ at ≡ param_text (name, v) ++ y = simp append_assoc (cc (stands right, quoted_text f)) in
             w.prints left ∙ ap (λ (x : Text). 91 ∷ (id ++ x)) (ap (λ (x : Text). flat_map param_text ps ++ x) here
             ∙ sym (flat_map_more param_text ps (name, v) y))
 
@@ -339,7 +337,6 @@ tail_rests {t = t} {u = u} {z = z} {q = q} {v = v} [] f (inl e) g =
 tail_rests {u = u} {z = z} {q = q} (w ∷ ws) f (inl e) g =
     let (a, b, i, k, more) = g.is.0 in
     let (r, end) = g.is.1 in
-    let same : 32 ∷ z ≡ 32 ∷ (a ++ b ++ q) = sym e ∙ g.whole ∙ ap (λ (x : Text). x ++ q) i in
     let second : Front param z (b ++ q) w =
     record { piece = a; whole = (let y : z ≡ a ++ b ++ q = cc in y) ∙ append_assoc a b q; is = k } in
     let others : Front (more_before param 32 93) (b ++ q) q ws =
@@ -352,8 +349,7 @@ tail_rests {u = u} {z = z} {q = q} (w ∷ ws) f (inl e) g =
       ),
     )
 tail_rests {t = t} {u = u} {z = z} {q = q} [] f (inr (n, e)) g =
-    let same = g.whole ∙ ap (λ (x : Text). x ++ q) g.is.0 in
-    let end = same ∙ g.is.1.1 in (
+    let end = (g.whole ∙ ap (λ (x : Text). x ++ q) g.is.0) ∙ g.is.1.1 in (
       g.is.1.0,
       (
         [],
@@ -610,8 +606,7 @@ no_forgiving {t = t} {q = q} {vs = vs} own n f e l =
 pub some_forgiving : {t q : Text} (own : Text) (vs : List (Option ElementValue)) → Front (many item) t q vs → t ≡ own ++ q
     → 0 < length own → Front forgiving t q (strict vs)
 some_forgiving {q = q} own [] f e l =
-    let same = f.whole ∙ ap (λ (x : Text). x ++ q) f.is.0 in
-    absurd (omega (arith, ap length (sym same ∙ e), length-append own q))
+    absurd (omega (arith, ap length (sym (f.whole ∙ ap (λ (x : Text). x ++ q) f.is.0) ∙ e), length-append own q))
 some_forgiving own (v ∷ vs) f e l =
     record { piece = f.piece; whole = f.whole; is = inr (v ∷ vs, omega arith, f.is, refl) }
 

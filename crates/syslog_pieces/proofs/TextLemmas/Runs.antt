@@ -220,9 +220,8 @@ module _ (class : CharClass) where
   pub ends_at_cut : (bs : List ℕ) (n : ℕ) → IsUtf8 (drop n bs) → (n < length bs → get_or bs n 0 < 128)
       → Ends (past_in class) (chars (drop n bs))
   ends_at_cut bs n u low = ends_by_byte (past_in class) (drop n bs) u (λ l c byte char.
-      let small = low (omega (arith, l, length-drop n bs)) in
       and_left (not (nat_lt c 128)) (has class c) (not_from_true (nat_lt c 128)
-      (lt-ltb c 128 (omega (arith, char, first_left n bs, small)))))
+      (lt-ltb c 128 (omega (arith, char, first_left n bs, (low (omega (arith, l, length-drop n bs))))))))
 
   -- where neither an ASCII character nor one past ASCII is of the class, no character is
   pub ends_both : (t : Text) → Ends (byte_in class) t → Ends (past_in class) t → Ends (has class) t

@@ -176,7 +176,6 @@ module _ (bs xs ys front : List ℕ) (s : SplitsRun is_not_whitespace bs xs ys) 
     pub no_host_colon : length before ≡ 0 → NoFront host (chars bs)
     no_host_colon z p q v g h =
         let (w, r, i, a, b, k) = host_run p q v h in
-        let l = h.0 in
         let t = chars_empty front (ap length (sym same) ∙ z) in
         let run = run_is is_not_whitespace bs xs ys s w r (g ∙ i) a b ∙ run_chars in elim k [
           | inl (j, n, m) ↦ n (chars front, sym j ∙ run)

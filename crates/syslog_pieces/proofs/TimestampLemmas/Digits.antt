@@ -166,12 +166,10 @@ pub all_decimals : (bs ds q : Text) (len n : ℕ) → len ≡ prefix_len is_asci
     → q ≡ drop len bs → n ≡ fraction_value 9 ds → Front decimals bs q n
 all_decimals bs ds q len n e some front back value =
     let (each, ends) = split_digits bs in
-    let these : Each is_ascii_digit ds = rw (front, e) each in
-    let none : Ends is_ascii_digit q = rw (back, e) ends in
     record {
       piece = ds;
       whole = rw (front, back) (sym (take-append-drop len bs));
-      is = (ds, (tt, (some, these, none), refl), value);
+      is = (ds, (tt, (some, (rw (front, e) each), (rw (back, e) ends)), refl), value);
     }
 
 -- a further digit: its place is worth a tenth of the one before, and nothing past nine
@@ -192,10 +190,9 @@ module _ (ds : Text) (i n d place v k j : ℕ) (within : i < length ds) (digit :
   pub step_past : k ≡ 0 → j ≡ 0 → Stepped
   unfolding fraction_value
   step_past none past =
-      let here : place ≡ 0 = rw none at worth in
       let one = rw none at bound in
       let value = rw none at so_far in
-      rw (past, here) (refl, omega arith, omega arith)
+      rw (past, (rw none at worth)) (refl, omega arith, omega arith)
 
 -- ---- three, six or nine digits
 pad3-digits : (n : ℕ) → n < 1_000 → Each is_ascii_digit (pad3 n)
@@ -237,14 +234,13 @@ module _ (q : Text) (no_digit : Ends is_ascii_digit q) (no_dot : Ends is_dot q) 
   fraction_text-is n h =
       let a_in : n / 1_000_000 < 1_000 = omega arith in
       let b_in : n / 1_000 % 1_000 < 1_000 = omega arith in
-      let c_in : n % 1_000 < 1_000 = omega arith in
       elim (eqb_tells n 0) [
         | inl z ↦ let none = z.1 in inl (rw z.0, no_dot, none)
         | inr z ↦ elim (eqb_tells (n % 1_000_000) 0) [
           | inl m ↦ let whole = m.1 in rw (z.0, m.0) (dotted (three _ a_in (omega arith)))
           | inr m ↦ elim (eqb_tells (n % 1_000) 0) [
             | inl k ↦ let whole = k.1 in rw (z.0, m.0, k.0) (dotted (six _ a_in _ b_in (omega arith)))
-            | inr k ↦ rw (z.0, m.0, k.0) (dotted (nine _ a_in _ b_in _ c_in (omega arith)))
+            | inr k ↦ rw (z.0, m.0, k.0) (dotted (nine _ a_in _ b_in _ (omega arith) (omega arith)))
           ]
         ]
       ]

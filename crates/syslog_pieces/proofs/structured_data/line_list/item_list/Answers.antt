@@ -5,7 +5,6 @@ use Rattle.syslog_pieces.proofs.structured_data.line_list.item_list.Goals as goa
 pub new-requires : goal.new-requires
 new-requires c =
     let (vs, items, t) = c.requires in
-    let n : 0 < length (strict vs) = omega (arith, t.elements, c.if-tally-gt0.true) in
     let p = own_printed c.before-own.ensures t.after (t.prints c.if-tally.true) c.before-printed.ensures in (
       _,
       (
@@ -13,7 +12,7 @@ new-requires c =
         own_items c.before-own.ensures items,
         t.elements,
         t.params,
-        (search rules, p.0 ∙ some_joined (strict vs) n, p.1),
+        (search rules, p.0 ∙ some_joined (strict vs) (omega (arith, t.elements, c.if-tally-gt0.true)), p.1),
       ),
     )
 

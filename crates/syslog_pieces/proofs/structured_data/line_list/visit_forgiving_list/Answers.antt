@@ -5,21 +5,18 @@ use Rattle.syslog_pieces.proofs.structured_data.line_list.visit_forgiving_list.G
 
 pub returns-then-is_empty-clause-list : goal.returns-then-is_empty-clause-list
 returns-then-is_empty-clause-list g c =
-    let none : length c.text.result.now ≡ 0 = search rules in
     no_forgiving _ c.in_default.ensures c.visit_items.ensures.list.1 c.visit_items.ensures.text
-    (ap length (sym c.text.ensures) ∙ chars_empty _ none)
+    (ap length (sym c.text.ensures) ∙ chars_empty _ (search rules))
 
 pub returns-else-is_empty-clause-list : goal.returns-else-is_empty-clause-list
 returns-else-is_empty-clause-list g c =
-    let some : 0 < length c.text.result.now = search rules in
     let (vs, f, e) = c.visit_items.ensures.list in
-    let n = rw c.text.ensures at (chars_nonempty _ c.text.utf8 some) in
+    let n = rw c.text.ensures at (chars_nonempty _ c.text.utf8 (search rules)) in
     rw e (some_forgiving _ vs f c.visit_items.ensures.text n)
 
 pub returns-then-is_empty-clause-visited : goal.returns-then-is_empty-clause-visited
 returns-then-is_empty-clause-visited g c =
-    let none : length c.text.result.now ≡ 0 = search rules in
     let (vs, f, e) = c.visit_items.ensures.list in
-    let no_text = ap length (sym c.text.ensures) ∙ chars_empty _ none in
+    let no_text = ap length (sym c.text.ensures) ∙ chars_empty _ (search rules) in
     visits_along g.V.ElementVisitor.was_given c.args.visitor.now c.visit_items.new.visitor _ _
     (e ∙ none_strict _ f c.visit_items.ensures.text no_text) c.visit_items.ensures.visited

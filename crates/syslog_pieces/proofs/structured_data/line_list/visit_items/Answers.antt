@@ -76,9 +76,8 @@ pub returns-in_default-clause-visited : goal.returns-in_default-clause-visited
 returns-in_default-clause-visited g c =
     let (vs, read, counts, visits) = c.items.invariant.2 in
     let none = no_item _ c.in-Err.ensures.walked.0 c.in_default.ensures in
-    let all = has_read_all item _ _ vs read none in
     visits_along g.V.ElementVisitor.was_given c.args.visitor.now c.items.visitor _ _
-    (sym (c.item_list.ensures.elements vs (are_items all))) visits
+    (sym (c.item_list.ensures.elements vs (are_items (has_read_all item _ _ vs read none)))) visits
 
 pub items-preserved : goal.items-preserved
 items-preserved g c =

@@ -5,7 +5,6 @@ use Rattle.syslog_pieces.proofs.structured_data.recognise.unit.Goals as goal
 pub returns-then-c-eq92 : goal.returns-then-c-eq92
 returns-then-c-eq92 c =
     let e = c.in_ok-c.ensures.0 in
-    let is = c.if-c-eq92.true in
     match_map c.first-then-c-eq92.result (λ n. no_quoted_short (c.in_ok-c.c ∷ []) (cc) (omega arith)
     (λ r f. let i : ◌≡◌ {A = ℕ} 92 34 = cc in omega arith)) (λ x f. (f.1, (pair x.0, tt, cc, refl)))
     c.first-then-c-eq92.ensures

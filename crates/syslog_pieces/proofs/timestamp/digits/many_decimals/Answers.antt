@@ -13,8 +13,7 @@ small_digit : (text front : List ℕ) (len i : ℕ) → front ≡ take len text 
     → ((k : ℕ) → k < len → IsAsciiDigit (get_or text k 0)) → get_or front i 0 - 48 ≤ 9
 small_digit text front len i e h digits =
     let within : i < len = omega (arith, ap length e, length-take len text) in
-    let digit = digits i within in
-    rw (e, get_or-take len text i 0 within) (omega (arith, digit.1))
+    rw (e, get_or-take len text i 0 within) (omega (arith, (digits i within).1))
 
 pub digits-preserved : goal.digits-preserved
 digits-preserved c =

@@ -9,6 +9,5 @@ returns c =
     let fits_seconds : FitsSigned w32 c.seconds.result = search rules in
     let fits_second : FitsSigned w64 c.second_at.result = search rules in
     let count = simp to_z-of_z at c.days-days.ensures.value in
-    let second = simp to_z-of_z at c.second_at.ensures in
     rw to_z-of_z (instant_by_count f c.days-days.result c.args.offset.seconds c.second_at.result _ count
-    (rw c.seconds.ensures at second) refl)
+    (rw c.seconds.ensures at (simp to_z-of_z at c.second_at.ensures)) refl)

@@ -7,7 +7,6 @@ pub returns-then-bytes-lt-LEAST : goal.returns-then-bytes-lt-LEAST
 returns-then-bytes-lt-LEAST c =
     no_bytes_front stamp_text stamp_alone stamp_ascii _ c.utf8.text (λ p q v e h.
     let long = text_long (record { piece = p; whole = e; is = h }) in
-    let short : length c.args.text.now < 20 = rw c.as_bytes-bytes.ensures.value at c.if-bytes-lt-LEAST.true in
     absurd (omega arith))
 
 pub split_at-requires : goal.split_at-requires

@@ -5,7 +5,5 @@ use Rattle.syslog_pieces.proofs.structured_data.recognised.ElementList.is_printe
 pub returns-in-Some : goal.returns-in-Some
 returns-in-Some c = λ same.
     let list = c.args.self.now in
-    let p = rw c.in-Some.is at list.prints in
-    let b = rw c.in-Some.is at list.begins in
     let u = rw c.in-Some.is at list.printed_utf8 in
-    same_front _ _ list.utf8 u _ b (eqb-true _ _ same) ∙ p
+    same_front _ _ list.utf8 u _ (rw c.in-Some.is at list.begins) (eqb-true _ _ same) ∙ (rw c.in-Some.is at list.prints)
