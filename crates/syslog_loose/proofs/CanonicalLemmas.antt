@@ -26,8 +26,7 @@ pub visible_told : (bs ts : List ℕ) (b : Bool) → IsUtf8 bs → IsUtf8 ts →
 visible_told bs ts b u v e f =
     let stays : chars ts ≡ drop_trailing_whitespace (chars bs) = ap chars e ∙ end_trimmed_chars bs u in (
       (λ h.
-          let same : ts ≡ bs = (bytes_eq-Decides ts bs).0 (sym f ∙ h) in
-          subst EndsVisibly (sym stays ∙ ap chars same) (drop_ends (chars bs))),
+          subst EndsVisibly (sym stays ∙ ap chars ((bytes_eq-Decides ts bs).0 (sym f ∙ h))) (drop_ends (chars bs))),
       (λ h. f ∙ (bytes_eq-Decides ts bs).1 (same_chars ts bs v u (stays ∙ drop_none (chars bs) h))),
     )
 

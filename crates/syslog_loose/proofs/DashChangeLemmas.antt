@@ -93,9 +93,8 @@ list_stays rule other p q es n (inr h) = inr h
 field_stays : (rule other : DashRule) (t q : Text) (es : Option (List ElementValue)) → (BeginsDashChange t → ⊥)
     → Front (optional (rfc3164_list rule)) t q es → Front (optional (rfc3164_list other)) t q es
 field_stays rule other t q None n f =
-    let e = absent_stays (rfc3164_list rule) f in
     let still : (p r : Text) (es : List ElementValue) → q ≡ p ++ r → IsRfc3164List other p r es → ⊥ = λ p r es w h.
-    f.is.1 p r es w (list_stays other rule p r es (rw (e, w) at n) h) in
+    f.is.1 p r es w (list_stays other rule p r es (rw ((absent_stays (rfc3164_list rule) f), w) at n) h) in
     record { piece = f.piece; whole = f.whole; is = (f.is.0, still) }
 field_stays rule other t q (Some es) n f =
     record { piece = f.piece; whole = f.whole; is = list_stays rule other f.piece q es (rw f.whole at n) f.is }
@@ -166,11 +165,11 @@ module _ (dating : Dating) (text : Text) where
       let r = d.read.division in
       let (before, p, ps, e, l, f, _, _) = rows_cut (before_list dating) (optional (rfc3164_list BeforeAnything))
       from_gap d.read.values r.pieces (r.whole ∙ sym (append-nil _)) r.each in
-      let place = d.place in
       let a = drop-append_seam before (p ∷ ps) in
+      let place = d.place in
       let b = drop-append_seam d.before (d.list ∷ d.behind) in
-      let same : p ∷ ps ≡ d.list ∷ d.behind = cc d.pieces in
       let list : p ≡ d.list = cc in
+      let same : p ∷ ps ≡ d.list ∷ d.behind = cc d.pieces in
       let behind : ps ≡ d.behind = cc in
       rw (list, behind, append-nil, d.is_dash, d.follows) at f
 

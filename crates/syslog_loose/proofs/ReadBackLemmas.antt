@@ -171,8 +171,7 @@ pub again : (variant : Variant) (dating : Dating) (bytes : List ℕ) → IsUtf8 
     variant dating (chars bytes)) → AnswersAgain variant (chars bytes) bytes r
 again variant dating bytes u (Ok text) (found, only, written) m k h e n =
     let (other, r, same) = fixed_again variant dating m k h in
-    let is : other ≡ found = only.only other (rw e r) in
-    written ∙ ap encode_utf8_all (ap printed (sym is) ∙ same ∙ sym e) ∙ encodes-chars bytes u
+    written ∙ ap encode_utf8_all (ap printed (sym (only.only other (rw e r))) ∙ same ∙ sym e) ∙ encodes-chars bytes u
 again variant dating bytes u (Err Invalid) told m k h e n =
     let (other, r, same) = fixed_again variant dating m k h in absurd (told.0 refl other (rw e r))
 again variant dating bytes u (Err Memory) told m k h e n = absurd (n refl)

@@ -318,8 +318,7 @@ pub read_canonical : (rule : DashRule) (text : Text) (m : MessageValue) → IsRe
     → IsCanonical rule m
 read_canonical rule text m r there =
     let (f, e) = some_of m.facility there in
-    let pri = r.values.0 in
-    let (s, g) = severity_too pri f (sym (ap (λ (x : MessageValue). x.facility) r.means) ∙ e) in
+    let (s, g) = severity_too r.values.0 f (sym (ap (λ (x : MessageValue). x.facility) r.means) ∙ e) in
     let severity : m.severity ≡ Some s = ap (λ (x : MessageValue). x.severity) r.means ∙ g in
     subst (λ (x : MessageValue). IsCanonical rule x) (completed_same m f s e severity) (read_completed rule text m r).0
 

@@ -74,10 +74,8 @@ pub form_parts : (text tag id : Text) → IsForm text tag id → FormParts text 
 form_parts text tag id d =
     let (t1, g1, (t2, g2, (t3, g3, (t4, g4, end)))) = row_pieces form_row (division_front form_row d) in
     let e : id ≡ g3.piece = g3.is.2 in
-    let opened = begins 91 t1 t2 g2 in
-    let closed = begins 93 t3 t4 g4 in
     record {
-      whole = cc (g1.whole, g1.is.2, opened, g3.whole, e, closed, end);
+      whole = cc (g1.whole, g1.is.2, (begins 91 t1 t2 g2), g3.whole, e, (begins 93 t3 t4 g4), end);
       label = rw g1.is.2 g1.is.1.0;
       some = rw e g3.is.1.0;
       unclosed = rw e g3.is.1.1;
@@ -265,8 +263,7 @@ module _ {tail t u name : Text} {origin : Option Text} (f : Front (optional (spa
         fields_quiet name None (inr (none, refl)),
       )
   fields_known msg h a (Some word) e (inl (tag, id, p, form, named, same)) (tag', form') bare =
-      let one = one_form name tag id tag' word form form' in
-      let bare' : IsBareWord id = subst IsBareWord (sym one.1) bare in
+      let bare' : IsBareWord id = subst IsBareWord (sym (one_form name tag id tag' word form form').1) bare in
       subst (FieldsKnown msg) (sym same) (
         fields_printed msg (Some tag) (Some p) e (formed_prints name tag id p form bare' named msg),
         fields_quiet tag (Some p) (inl (tag, id, p, form, named, refl)),

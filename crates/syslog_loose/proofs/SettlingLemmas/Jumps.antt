@@ -271,7 +271,6 @@ pub dash_told : (t q : Text) (f : Front (exactly (45 ∷ [])) t q tt) (r : Optio
 dash_told t q f None n = λ rest d.
     let b = begins 45 t q f in n d.blanks rest tt (cc) (d.some, d.each, d.no_more)
 dash_told t q f (Some x) g =
-    let b = begins 45 t q f in
     record { blanks = g.piece; whole = cc; some = g.is.0; each = g.is.1; no_more = g.is.2 }
 
 -- n dashes, each with a space after it

@@ -254,9 +254,8 @@ module _ (variant : Variant) (dating : Dating) where
       → IsRead variant dating text m → IsCanonical dash_rule m
   settled_canonical text m s r =
       let same = read_once variant dating text s.message m s.read r in
-      let e : text ≡ printed m = s.is_printed ∙ ap printed same in
       (printed_exact dating m (read_bounded variant dating text m r) variant (read_protocol variant dating text m r)).0
-      (subst (λ (x : Text). IsRead variant dating x m) e r)
+      (subst (λ (x : Text). IsRead variant dating x m) (s.is_printed ∙ ap printed same) r)
 
   -- so a text is not settled whose message of RFC 3164 has an exception
   pub odd_unsettled : (text : Text) (m : MessageValue) → IsRead variant dating text m → m.protocol ≡ protocol.RFC3164
@@ -282,9 +281,8 @@ module _ (variant : Variant) (dating : Dating) where
   weighs_less t (suc n) u m w (before, round, h) none k r x =
       let unsettled : IsSettled variant dating u → ⊥ = λ s. none n u (omega arith) (before, round, h) s in
       let first = unsettled_rfc3164 before u h unsettled in
-      let second = rw h.is_printed at r in
       let (v, y) = weight dash_rule h.message in
-      elim (falls dash_rule dating dating before h.message m v w (inl refl) first second y x) [
+      elim (falls dash_rule dating dating before h.message m v w (inl refl) first (rw h.is_printed at r) y x) [
         | inl less ↦ omega (
           arith,
           less,

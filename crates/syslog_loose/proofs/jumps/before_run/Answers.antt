@@ -19,7 +19,6 @@ returns-in-Some-strip_suffix c =
 pub returns-in-None : goal.returns-in-None
 returns-in-None c = λ one.
     let short = c.in-Some.shorter.now in
-    let v : IsUtf8 short = search rules in
     let z = strip_suffix_char 58 short None c.in-None.ensures.cases (omega arith) in
-    ends_once_in c.args.text.now short c.utf8.text v
+    ends_once_in c.args.text.now short c.utf8.text (search rules)
     (rw one at (suffix_bytes c.args.run.now c.args.text.now short c.in-Some.ensures.cases)) z

@@ -6,8 +6,7 @@ pub dashes-preserved : goal.dashes-preserved
 dashes-preserved c =
     let (u, v, (n, p), d) = c.dashes.invariant in
     let f = c.in-Some-behind_dash.ensures in
-    let next = chars c.in-Some-behind_dash.next.now in
-    (v, search rules, (suc n, (chars c.dashes.from.now, p, d, next, f)), f)
+    (v, search rules, (suc n, (chars c.dashes.from.now, p, d, (chars c.in-Some-behind_dash.next.now), f)), f)
 
 pub returns-in_default-clause-last : goal.returns-in_default-clause-last
 returns-in_default-clause-last c = λ p q d e. c.in_default.ensures p d
