@@ -1,16 +1,12 @@
 -- Arrays that are written from the front.
-use Rattle.std.proofs.Common.{◌≡◌, ◌∙◌, refl, sym, ap, subst, ℕ, ◌+◌, ◌-◌, ◌<◌, ◌≤◌, List, [], ◌∷◌, ◌++◌}
-use Rattle.std.proofs.Common.{length, get_or, map, set, take, drop, arith, append-nil, length-append}
-use Rattle.std.proofs.Common.{length-drop, drop_of_length-le, length-take-le, take_all}
-use Rattle.std.proofs.lemmas.List.Sums.{sum_by-cons}
-use Rattle.std.proofs.Math.Seq.{drop-append-add, take-append-add}
-use Rattle.std.specs.List.{AllZip}
-use Rattle.std.specs.Prelude.{sum_by}
-use Rattle.std.proofs.lemmas.Grind.{flat_map-append}
+use Rattle.syslog_c.proofs.Words.{◌≡◌, refl, subst, List, length, arith, append-nil, length-append, IsBegun, all_params}
+use Rattle.syslog_c.proofs.Words.{◌∙◌, sym, ap, ℕ, ◌+◌, ◌-◌, ◌<◌, ◌≤◌, [], ◌∷◌, ◌++◌, map, take}
+use Rattle.std.proofs.Common.{get_or, set, drop, length-drop, drop_of_length-le, length-take-le, take_all}
+use Rattle.std.{proofs.Math.Seq.drop-append-add, proofs.Math.Seq.take-append-add, proofs.lemmas.List.Sums.sum_by-cons}
+use Rattle.std.{proofs.lemmas.Grind.flat_map-append, specs.List.AllZip, specs.Prelude.sum_by}
 use Rattle.std.proofs.lemmas.List.{length-map, map-append, take_more, take_more_set, drop-set-lt, drop-drop}
 use borrow.Rule.Slice.PartMut.{mid_of, post_of, put_mid}
 use Rattle.syslog_pieces.specs.StructuredData.Element.{ElementValue}
-use Rattle.syslog_c.specs.Fields.{IsBegun, all_params}
 
 zip_append : {A B : Type 0} (R : A → B → Type 0) (xs ys : List A) (us vs : List B) → AllZip R xs us → AllZip R ys vs
     → AllZip R (xs ++ ys) (us ++ vs)

@@ -1,3 +1,4 @@
+pub mod Words
 pub mod ArrayLemmas
 pub mod LineLemmas
 pub mod NameLemmas

@@ -1,17 +1,9 @@
 -- A line that is read.
-use Rattle.std.proofs.Common.{ℕ, ℤ, List, ◌≡◌, inl, inr, subst}
-use Rattle.std.specs.Str.{chars, IsUtf8}
-use Rattle.jiff.specs.Types.{TimeZone}
-use Rattle.jiff_core.specs.Calendar.{IsYear}
-use Rattle.syslog_pieces.specs.Pieces.Class.{Text}
-use Rattle.syslog_pieces.specs.Timestamp.Zone.{Dating}
-use Rattle.syslog_loose.specs.Reading.{IncompleteDate, InYear}
-use Rattle.syslog_loose.specs.declared.variant.Variant.{Variant}
-use Rattle.syslog_loose.proofs.ReadingLemmas.{in_year_map, in_year_told}
-use Rattle.syslog_c.specs.Line.{IsTried, OnLine}
-use Rattle.syslog_c.specs.Options.{AreInRange, IsReckoned, IsZoneAt, dating_in, variant_number}
-use Rattle.syslog_c.specs.declared.options.Options.{Options}
-use Rattle.syslog_c.specs.declared.outcome.Outcome.{Outcome}
+use Rattle.syslog_c.proofs.Words.{ℕ, IncompleteDate, in_year_map, in_year_told, AreInRange, IsReckoned, variant_number}
+use Rattle.syslog_c.proofs.Words.{◌≡◌, IsUtf8, TimeZone, IsYear, Dating, Variant, IsZoneAt, dating_in, Options, Outcome}
+use Rattle.syslog_c.proofs.Words.{ℤ, List, inl, inr, subst, Text, InYear, OnLine}
+use Rattle.std.specs.Str.{chars}
+use Rattle.syslog_c.specs.Line.{IsTried}
 
 -- what holds of the text that the line's bytes are, in the year that the options' rules answer
 pub tried_line : {post : IncompleteDate → ℤ → Type 0} (Holds : Variant → Dating → Text → Type 0) (options : Options)

@@ -1,7 +1,7 @@
 -- The names of facilities and severities, once they are encoded; and the facility of a priority.
-use Rattle.std.proofs.Common.{◌≡◌, ◌*◌, ◌/◌, ℕ, true, arith}
-use Rattle.std.proofs.lemmas.Str.{chars-encodes}
-use Rattle.std.specs.Str.{all_scalars, chars, encode_utf8_all}
+use Rattle.syslog_c.proofs.Words.{◌≡◌, ℕ, arith, encode_utf8_all}
+use Rattle.std.proofs.Common.{◌*◌, ◌/◌, true}
+use Rattle.std.{proofs.lemmas.Str.chars-encodes, specs.Str.all_scalars, specs.Str.chars}
 use Rattle.syslog_pieces.specs.Pri.{facility_name, severity_name}
 use Rattle.syslog_pieces.specs.declared.pri.SyslogFacility.{SyslogFacility}
 use Rattle.syslog_pieces.specs.declared.pri.SyslogSeverity.{SyslogSeverity}

@@ -1,22 +1,13 @@
 -- A line that is read into the caller's arrays.
-use Rattle.std.proofs.Common.{◌≡◌, ◌⊎◌, ◌<◌, ◌≤◌, ℕ, List, [], Option, None, Some, inl, inr, refl}
-use Rattle.std.proofs.Common.{arith, length}
+use Rattle.syslog_c.proofs.Words.{List, list_elements, line_value, Variant, IsElement, all_params, ReadsInto, NoReading}
+use Rattle.syslog_c.proofs.Words.{◌≡◌, ◌⊎◌, ◌<◌, ◌≤◌, ℕ, Option, None, Some, refl, arith, length, Text, Dating, IsParam}
+use Rattle.syslog_c.proofs.Words.{[], inl, inr}
 use Rattle.std.proofs.lemmas.Bool.{cases_lt}
-use Rattle.syslog_pieces.specs.Pieces.Class.{Text}
-use Rattle.syslog_pieces.specs.StructuredData.Visited.{list_elements}
-use Rattle.syslog_pieces.specs.Timestamp.Zone.{Dating}
-use Rattle.syslog_loose.specs.Line.{line_value}
 use Rattle.syslog_loose.specs.Visit.{Made}
-use Rattle.syslog_loose.specs.declared.variant.Variant.{Variant}
-use Rattle.syslog_c.specs.Arrays.{HasPut}
-use Rattle.syslog_c.specs.Fields.{AreFields, IsElement, IsParam, all_params}
-use Rattle.syslog_c.specs.Told.{ReadsInto}
-use Rattle.syslog_c.specs.declared.arrays.Arrays.{Arrays}
-use Rattle.syslog_c.specs.declared.fields.Element.{Element}
-use Rattle.syslog_c.specs.declared.fields.Fields.{Fields}
-use Rattle.syslog_c.specs.declared.fields.Param.{Param}
-use Rattle.syslog_c.specs.declared.outcome.Outcome.TheVariants.{Done, NoReading, NoRoom}
-use Rattle.syslog_c.proofs.ArrayLemmas.{begun_none, begun_nothing}
+use Rattle.syslog_c.{specs.Arrays.HasPut, specs.declared.fields.Fields.Fields}
+use Rattle.syslog_c.{specs.Fields.AreFields, specs.declared.arrays.Arrays.Arrays, specs.declared.fields.Element.Element}
+use Rattle.syslog_c.{proofs.ArrayLemmas.begun_none, proofs.ArrayLemmas.begun_nothing, specs.declared.fields.Param.Param}
+use Rattle.syslog_c.specs.declared.outcome.Outcome.TheVariants.{Done, NoRoom}
 
 -- nothing is put yet
 start : (a : Arrays) → a.count ≡ 0 → a.filled ≡ 0 → HasPut a a []

@@ -1,19 +1,11 @@
 -- A line that is copied or converted.
-use Rattle.std.proofs.Common.{ℕ, ℤ, List, Result, ◌≡◌, ◌⊎◌, inl, inr, subst}
-use Rattle.std.specs.Str.{chars, IsUtf8}
-use Rattle.jiff.specs.Types.{TimeZone}
-use Rattle.jiff_core.specs.Calendar.{IsYear}
-use Rattle.syslog_pieces.specs.Pieces.Class.{Text}
-use Rattle.syslog_loose.specs.Reading.{IncompleteDate, InYear}
-use Rattle.syslog_loose.specs.declared.fault.ParseFault.{ParseFault}
-use Rattle.syslog_loose.specs.declared.variant.Variant.{Variant}
-use Rattle.syslog_loose.proofs.ReadingLemmas.{in_year_map}
+use Rattle.syslog_c.proofs.Words.{List, IncompleteDate, ParseFault, in_year_map, AreInRange, IsReckoned, variant_number}
+use Rattle.syslog_c.proofs.Words.{Result, ◌≡◌, IsUtf8, TimeZone, IsYear, Variant, IsZoneAt, dating_in, Options, Outcome}
+use Rattle.syslog_c.proofs.Words.{ℕ, ℤ, ◌⊎◌, inl, inr, subst, Text, InYear}
+use Rattle.std.specs.Str.{chars}
 use Rattle.syslog_strict.specs.Call.{Converts, Copies}
 use Rattle.syslog_c.proofs.LineLemmas.{tried_line}
-use Rattle.syslog_c.specs.Options.{AreInRange, IsReckoned, IsZoneAt, dating_in, variant_number}
 use Rattle.syslog_c.specs.Strict.{PutsResult, PutsSome, PutsStrict}
-use Rattle.syslog_c.specs.declared.options.Options.{Options}
-use Rattle.syslog_c.specs.declared.outcome.Outcome.{Outcome}
 
 -- what the call gives for the text that the line's bytes are, once it is put into the buffer
 pub strict_put : {post : IncompleteDate → ℤ → Type 0} (options : Options) (line bytes : List ℕ) (variant : Variant)

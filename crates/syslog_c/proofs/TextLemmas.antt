@@ -1,24 +1,15 @@
 -- What `settle` answers, once it is put into the room; and texts that are put piece by piece.
-use Rattle.std.proofs.Common.{ℕ, List, [], ◌∷◌, ◌++◌, Result, Ok, Err, MatchResult, String, ◌≡◌, ◌≤◌, ◌∙◌, inl, inr, refl, sym, ap}
-use Rattle.std.proofs.Common.{arith, length}
-use Rattle.std.specs.Prelude.{string_bytes}
-use Rattle.std.specs.Global.{Global}
-use Rattle.std.specs.List.{concat, FoldsTo}
-use Rattle.std.proofs.Common.{append-nil, append_assoc, subst}
-use Rattle.std.specs.Fmt.{WritesInCalls}
-use Rattle.std.proofs.lemmas.Str.{IsUtf8-append, IsUtf8-nil, IsUtf8-string_bytes}
-use Rattle.std.specs.Str.{chars}
-use Rattle.syslog_pieces.proofs.Names.{chars-append, chars-nil}
-use Rattle.syslog_pieces.specs.Pieces.Class.{Text}
-use Rattle.syslog_pieces.specs.Timestamp.Zone.{Dating}
+use Rattle.syslog_c.proofs.Words.{List, append-nil, append_assoc, IsUtf8-string_bytes, chars-nil, ParseFault, TakesText}
+use Rattle.syslog_c.proofs.Words.{ℕ, ◌∷◌, ◌++◌, Result, Err, refl, arith, length, subst, Text, Dating, Variant, Outcome}
+use Rattle.syslog_c.proofs.Words.{[], Ok, ◌≡◌, ◌≤◌, ◌∙◌, inl, inr, sym, ap}
+use Rattle.std.{proofs.Common.MatchResult, proofs.Common.String, specs.Fmt.WritesInCalls, specs.Prelude.string_bytes}
+use Rattle.std.{specs.Global.Global, specs.Str.chars}
+use Rattle.std.{proofs.lemmas.Str.IsUtf8-append, proofs.lemmas.Str.IsUtf8-nil, specs.List.concat, specs.List.FoldsTo}
+use Rattle.syslog_pieces.proofs.Names.{chars-append}
 use Rattle.syslog_loose.specs.Settling.{Settles}
-use Rattle.syslog_loose.specs.declared.fault.ParseFault.{ParseFault}
 use Rattle.syslog_loose.specs.declared.fault.ParseFault.TheVariants.{Invalid, Memory}
-use Rattle.syslog_loose.specs.declared.variant.Variant.{Variant}
-use Rattle.syslog_c.specs.Room.{HasTaken, IsLeftFor, Puts, Takes, TakesText, TellsLength}
-use Rattle.syslog_c.specs.Texts.{Settled}
-use Rattle.syslog_c.specs.declared.outcome.Outcome.{Outcome}
-use Rattle.syslog_c.specs.declared.room.Buffer.{Buffer}
+use Rattle.syslog_c.specs.Room.{HasTaken, IsLeftFor, Puts, Takes, TellsLength}
+use Rattle.syslog_c.{specs.Texts.Settled, specs.declared.room.Buffer.Buffer}
 
 pub settled_answer : (variant : Variant) (dating : Dating) (text : Text) (old new : List ℕ) (needed : ℕ) (outcome : Outcome)
     (answer : Result (String Global) ParseFault) → Settles variant dating text answer

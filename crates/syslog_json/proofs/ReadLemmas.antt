@@ -1,19 +1,17 @@
 -- serde_json reads the text of a value as its own form of the value.
-use Rattle.std.proofs.Common.{◌≡◌, ℕ, [], List, Option, Some, option_map, option_and_then, refl, sym, ap, ◌∙◌, arith}
-use Rattle.std.proofs.Common.{append-nil}
-use Rattle.json.specs.Json as json
-use Rattle.json.specs.Json.{Json, null, boolean, number, string, array, object}
-use Rattle.json.specs.Json.{Items, no_items, item, Members, no_members, member}
-use Rattle.json.specs.Lex.{tokens}
-use Rattle.json.specs.Tree.{json_tokens}
-use Rattle.json.proofs.Printed.Tokens.{tokens-print}
+use Rattle.syslog_json.proofs.Names.{◌≡◌, ℕ, [], List, Option, Some, refl, sym, ap, ◌∙◌, Json, IsTextOf}
+use Rattle.std.proofs.Common.{option_map, option_and_then, arith, append-nil}
+use Rattle.json.specs.Json.{null, boolean, number, string, array, object, Items, no_items, Members, no_members, member}
+use Rattle.json.specs.Json.{item}
+use Rattle.json.{proofs.Printed.Tokens.tokens-print, specs.Lex.tokens, specs.Tree.json_tokens}
 use Rattle.json.proofs.Printed.Trees.{value-json_tokens, ArePrintable-json_tokens}
-use Rattle.serde_json.specs.Data as serde
 use Rattle.serde_json.specs.Read.{max_depth, number_of, of_items, of_json, of_members}
 use Rattle.serde_json.proofs.Numbers.{number_of-decimal}
-use Rattle.syslog_object.specs.Written.{HasSmallNumbers, IsTextOf, ItemsHaveSmallNumbers, MembersHaveSmallNumbers}
+use Rattle.syslog_object.specs.Written.{HasSmallNumbers, ItemsHaveSmallNumbers, MembersHaveSmallNumbers}
 use Rattle.syslog_object.proofs.WrittenLemmas.{numbers}
 use Rattle.syslog_json.specs.Objects.{IsReadAs}
+use Rattle.json.specs.Json as json
+use Rattle.serde_json.specs.Data as serde
 
 mutual
   made : (j : Json) → HasSmallNumbers j → (d : serde.Data) × (of_json j ≡ Some d)

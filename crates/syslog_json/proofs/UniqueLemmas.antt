@@ -1,30 +1,19 @@
 -- A line has one value.
-use Rattle.std.proofs.Common.{◌≡◌, ◌++◌, [], ◌∷◌, ℕ, ℤ, List, Bool, true, false, Option, None, Some}
-use Rattle.std.proofs.Common.{ap, inl, inr, refl, subst, sym, ◌∙◌}
-use Rattle.std.specs.Str.{chars}
-use Rattle.jiff.specs.Words.{plain_zone}
-use Rattle.jiff.specs.Types.{TimeZone}
-use Rattle.json.specs.Json.{Json}
-use Rattle.syslog_pieces.specs.Pieces.Class.{Text}
+use Rattle.syslog_json.proofs.Names.{List, Option, Some, refl, subst, chars, Json, line_value, message_json, IsTextOf}
+use Rattle.syslog_json.proofs.Names.{◌≡◌, [], ℕ, ap, inl, inr, sym, ◌∙◌, Text}
+use Rattle.std.proofs.Common.{◌++◌, ◌∷◌, ℤ, Bool, true, false, None}
+use Rattle.jiff.{specs.Types.TimeZone, specs.Words.plain_zone}
 use Rattle.syslog_pieces.specs.declared.timestamp.month_date.MonthDate.{MonthDate}
-use Rattle.syslog_loose.specs.Line.{line_value}
-use Rattle.syslog_loose.specs.Message.{MessageValue}
+use Rattle.syslog_loose.{proofs.Rfc3164Lemmas.other_read, specs.Message.MessageValue, specs.declared.line.Line.Line}
 use Rattle.syslog_loose.specs.Reading.{AsksYear, IncompleteDate, InYear, IsOnlyRead, IsRead, dash_rule}
-use Rattle.syslog_loose.specs.Reckoning.{dating_in, reckoned_year}
-use Rattle.syslog_loose.specs.Visit.{IsLineOf, Made}
+use Rattle.syslog_loose.{proofs.ReckoningLemmas.one_dating, specs.Reckoning.dating_in, specs.Reckoning.reckoned_year}
+use Rattle.syslog_loose.{specs.Visit.IsLineOf, specs.Visit.Made, specs.declared.variant.Variant.TheVariants.Either}
 use Rattle.syslog_pieces.specs.StructuredData.Visited.{list_elements}
-use Rattle.syslog_loose.specs.declared.line.Line.{Line}
-use Rattle.syslog_loose.specs.declared.variant.Variant.TheVariants.{Either}
-use Rattle.syslog_loose.proofs.ReadingLemmas as reading
-use Rattle.syslog_loose.proofs.ReckoningLemmas.{one_dating}
-use Rattle.syslog_loose.proofs.Rfc3164Lemmas.{other_read}
 use Rattle.syslog_lines.specs.Output.{answer_bytes, is_answered}
-use Rattle.syslog_object.specs.Object.{message_json}
-use Rattle.syslog_object.specs.Written.{IsTextOf}
-use Rattle.syslog_object.specs.Writer.{HasWritten}
-use Rattle.syslog_object.specs.declared.writer.ObjectWriter.{ObjectWriter}
+use Rattle.syslog_object.{specs.Writer.HasWritten, specs.declared.writer.ObjectWriter.ObjectWriter}
 use Rattle.syslog_json.specs.Objects.{IsLineRead, IsOnly, IsReadJson, IsRefusedJson, answer_of, raw_text}
 use Rattle.syslog_json.specs.declared.options.Options.{Options}
+use Rattle.syslog_loose.proofs.ReadingLemmas as reading
 
 read_twice : (options : Options) (line : List ℕ) (value other : Json) → IsReadJson options line value
     → IsReadJson options line other → other ≡ value

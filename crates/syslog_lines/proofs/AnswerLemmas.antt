@@ -1,20 +1,14 @@
 -- What several lines in a row give, to whatever it is written.
-use Rattle.std.proofs.Common.{◌≡◌, ℕ, ◌+◌, ◌<◌, cond, List, [], ◌∷◌, ◌++◌, length, take, Bool, true, false, eqb}
-use Rattle.std.proofs.Common.{Option, Some, Result, Ok, Err, OnErr, IfErr, IsErr, IsErrAnd, sym, subst, refl, ◌∙◌}
-use Rattle.std.proofs.Common.{arith, append_assoc, append-nil, rules}
-use Rattle.std.specs.List.{AllZip}
-use Rattle.std.specs.Io.KnownBytes.{Keeps}
-use Rattle.std.proofs.KnownBytes.{Appends-kept, Appends-nil, Appends-trans}
-use Rattle.std.proofs.lemmas.Bool.{eqb-true}
-use Rattle.std.proofs.lemmas.Bool.Decides.{nat_tests}
-use Rattle.std.proofs.lemmas.List.Concat.{flat_map-append}
-use Rattle.std.proofs.Math.Seq.{take-append-add}
-use Rattle.syslog_lines.specs.Count.{held_count}
-use Rattle.syslog_lines.specs.declared.summary.Tally.{Tally}
-use Rattle.syslog_lines.specs.Lines.{IsFirstLine}
-use Rattle.syslog_lines.specs.Output.{AddsAnswer, Filter, answer_bytes, output_of}
-use Rattle.syslog_lines.specs.Write.{AddsAnswers, Answered, AnswersAll, AnswersBefore, Wrote, WroteBefore, WroteCut}
-use Rattle.syslog_lines.proofs.CountLemmas.{Counts-append, Counts-one}
+use Rattle.syslog_lines.proofs.Names.{append_assoc, append-nil, Appends-kept, Appends-trans, IsFirstLine, AnswersBefore}
+use Rattle.syslog_lines.proofs.Names.{◌≡◌, eqb-true, held_count, output_of, AddsAnswers, Answered, AnswersAll, WroteCut}
+use Rattle.syslog_lines.proofs.Names.{length, false, Option, Result, subst, arith, rules, Keeps, Tally, Filter, Wrote}
+use Rattle.syslog_lines.proofs.Names.{◌+◌, ◌<◌, cond, List, ◌∷◌, ◌++◌, take, Bool, true, eqb, Some, Err, sym, refl, ◌∙◌}
+use Rattle.syslog_lines.proofs.Names.{ℕ, [], Ok}
+use Rattle.std.proofs.Common.{OnErr, IfErr, IsErr, IsErrAnd}
+use Rattle.std.{proofs.lemmas.Bool.Decides.nat_tests, proofs.lemmas.List.Concat.flat_map-append, specs.List.AllZip}
+use Rattle.std.{proofs.KnownBytes.Appends-nil, proofs.Math.Seq.take-append-add}
+use Rattle.syslog_lines.specs.Output.{AddsAnswer, answer_bytes}
+use Rattle.syslog_lines.{proofs.CountLemmas.Counts-append, proofs.CountLemmas.Counts-one, specs.Write.WroteBefore}
 use Rattle.syslog_lines.proofs.LineLemmas.{IsLines-cons, IsLines-nil, some_lines}
 
 -- ---- some lines, and then those that follow

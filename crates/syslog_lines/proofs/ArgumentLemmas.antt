@@ -1,9 +1,9 @@
 -- The program's arguments as words.
-use Rattle.std.proofs.Common.{◌≡◌, ◌↔◌, ℕ, ℤ, Bor, List, [], ◌∷◌, map, length, get_or, MatchOption}
-use Rattle.std.proofs.Common.{Option, Some, None, ap, inl, inr, pos, subst, sym, true, nat_eq, arith}
-use Rattle.std.specs.Cmp.Lexicographic.{bytes_decides, pointwise}
-use Rattle.std.specs.Str.Parse.{digits_value}
-use Rattle.syslog_lines.specs.Arguments.{AreYearWords, IsYear, end_word}
+use Rattle.syslog_lines.proofs.Names.{List, length, get_or, MatchOption, Option, Some, subst, arith, IsYear, end_word}
+use Rattle.syslog_lines.proofs.Names.{◌≡◌, ℕ, ℤ, Bor, [], ◌∷◌, map, None, ap, inl, inr, pos, sym, true}
+use Rattle.std.proofs.Common.{◌↔◌, nat_eq}
+use Rattle.std.{specs.Cmp.Lexicographic.bytes_decides, specs.Cmp.Lexicographic.pointwise, specs.Str.Parse.digits_value}
+use Rattle.syslog_lines.specs.Arguments.{AreYearWords}
 
 -- one word, and whether it is this one
 pub word_alone : (args : List (Bor (List ℕ))) (d : Bor (List ℕ)) (wanted : List ℕ) → length args ≡ 1

@@ -1,9 +1,7 @@
 -- The bytes of a block, as it is moved and read into.
-use Rattle.std.proofs.Common.{◌≡◌, ℕ, ◌+◌, ◌-◌, ◌≤◌, List, length, length-take}
-use Rattle.std.proofs.Common.{length-drop, take, drop, ◌∙◌, arith}
-use Rattle.std.proofs.lemmas.List.{take_at}
-use Rattle.std.proofs.lemmas.Slice.{between_is}
-use Rattle.std.specs.List.{copy_within}
+use Rattle.syslog_lines.proofs.Names.{◌≡◌, ◌+◌, ◌-◌, List, length, length-drop, take, drop, arith, take_at, between_is}
+use Rattle.syslog_lines.proofs.Names.{ℕ, ◌≤◌, ◌∙◌}
+use Rattle.std.{proofs.Common.length-take, specs.List.copy_within}
 
 -- the line that was cut, after it was moved to the front
 pub take-copy_within : (bytes : List ℕ) (from end : ℕ) → from ≤ end → end ≤ length bytes

@@ -1,11 +1,8 @@
 -- Counts of lines.
-use Rattle.std.proofs.Common.{◌≡◌, ℕ, ◌+◌, List, [], ◌∷◌, ◌++◌, length, Bool, true, false, refl, cond, arith}
-use Rattle.std.specs.Prelude.{count_by, not}
-use Rattle.std.proofs.lemmas.List.Sums.{sum_by-append}
-use Rattle.std.proofs.lemmas.Slice.Zip.{AllZip-long}
-use Rattle.syslog_lines.specs.Count.{held_count}
-use Rattle.syslog_lines.specs.Output.{Answer, AreAnswers, Counts, Filter, HasCounted, is_answered, is_passed_over}
-use Rattle.syslog_lines.specs.declared.summary.Tally.{Tally}
+use Rattle.syslog_lines.proofs.Names.{[], length, count_by, held_count, Filter, HasCounted, is_answered, is_passed_over}
+use Rattle.syslog_lines.proofs.Names.{◌≡◌, ℕ, ◌+◌, List, ◌∷◌, ◌++◌, Bool, true, false, refl, cond, arith, Tally}
+use Rattle.std.{proofs.lemmas.List.Sums.sum_by-append, proofs.lemmas.Slice.Zip.AllZip-long, specs.Prelude.not}
+use Rattle.syslog_lines.specs.Output.{Answer, AreAnswers, Counts}
 
 count-append : (keep : Answer → Bool) (xs ys : List Answer)
     → count_by keep (xs ++ ys) ≡ count_by keep xs + count_by keep ys

@@ -1,9 +1,9 @@
 -- The word of a date.
-use Rattle.std.proofs.Common.{◌≡◌, ◌≢◌, ℕ, ℤ, ◌<◌, ◌≤◌, Bor, List, [], ◌∷◌, ◌++◌, length, get_or, MatchOption, Option, Some, None}
-use Rattle.std.proofs.Common.{arith, refl, subst, suc, sym}
+use Rattle.syslog_lines.proofs.Names.{length, get_or, MatchOption, Option, arith, subst, IsInRange, IsYear, NamesDate}
+use Rattle.syslog_lines.proofs.Names.{◌≡◌, ◌≢◌, ℕ, ℤ, ◌<◌, ◌≤◌, Bor, List, [], ◌∷◌, ◌++◌, Some, None, refl, sym}
+use Rattle.std.proofs.Common.{suc}
 use Rattle.std.proofs.lemmas.Str.Pattern.{IsSplitOnceResult, split_after, split_parts}
-use Rattle.std.specs.Int.{IsInRange}
-use Rattle.syslog_lines.specs.Arguments.{IsYear, NamesDate, two_digits}
+use Rattle.syslog_lines.specs.Arguments.{two_digits}
 
 no_dash : (word : List ℕ) → IsYear word → (i : ℕ) → i < length word → get_or word i 0 ≢ 45
 no_dash word is i within dash = let digit : IsInRange 48 57 (get_or word i 0) = is.2 i 0 within in omega (arith, digit.0)

@@ -1,9 +1,7 @@
 -- Line feeds among bytes, by those among the bytes from a place on.
-use Rattle.std.proofs.Common.{◌≡◌, ◌≢◌, ℕ, ◌+◌, ◌-◌, ◌<◌, ◌≤◌, List, length, length-drop, get_or, slice_index, drop}
-use Rattle.std.proofs.Common.{ap, ◌∙◌, arith, eq-eqb}
-use Rattle.std.proofs.lemmas.List.{get_or-drop, take_all}
-use Rattle.std.specs.List.{slice_range}
-use Rattle.memchr.specs.Find.{Nowhere, Passes, is_byte}
+use Rattle.syslog_lines.proofs.Names.{◌≡◌, length, length-drop, get_or, slice_index, eq-eqb, take_all, Nowhere, is_byte}
+use Rattle.syslog_lines.proofs.Names.{◌≢◌, ℕ, ◌+◌, ◌-◌, ◌<◌, ◌≤◌, List, drop, ap, ◌∙◌, arith, Passes}
+use Rattle.std.{proofs.lemmas.List.get_or-drop, specs.List.slice_range}
 
 module _ (bytes : List ℕ) (from : ℕ) where
   abbrev rest : List ℕ

@@ -1,15 +1,11 @@
 -- From the mask of one load of sixty-four bytes to the bytes before the first line feed.
-use Rattle.std.proofs.Common.{◌≡◌, ℕ, ◌+◌, ◌%◌, ◌^◌, ◌≤◌, eqb, cond, Bool}
-use Rattle.std.proofs.Common.{not, List, map, length, sym, ap, ◌∙◌, arith, inl, inr}
-use Rattle.std.proofs.lemmas.Bool.{cases_eq, eqb-false, eqb-true}
-use Rattle.std.proofs.lemmas.Bool.{cond_both}
-use Rattle.std.proofs.lemmas.Simd.{map-map, mask_l-mod, length-chunk}
-use Rattle.std.proofs.lemmas.Simd.{run_in_chunk_fails, run_in_chunk_le, run_in_chunk_stops}
-use Rattle.std.proofs.lemmas.Simd.{leading_from_mask_l, trailing_mask_l}
-use Rattle.std.proofs.lemmas.List.{length-map}
-use Rattle.std.specs.Int.{trailing_zeros, w64}
-use Rattle.std.specs.Int.Count.{trailing_of_zero}
-use Rattle.std.specs.List.{prefix_len}
+use Rattle.syslog_lines.proofs.Names.{◌≡◌, ◌+◌, ◌^◌, cond, Bool, List, length, arith, cases_eq, eqb-true, length-chunk}
+use Rattle.syslog_lines.proofs.Names.{ℕ, ◌≤◌, eqb, not, map, sym, ap, ◌∙◌, inl, inr}
+use Rattle.std.proofs.Common.{◌%◌}
+use Rattle.std.{proofs.lemmas.Bool.eqb-false, proofs.lemmas.Bool.cond_both, specs.Int.trailing_zeros, specs.Int.w64}
+use Rattle.std.proofs.lemmas.Simd.{run_in_chunk_fails, run_in_chunk_le, run_in_chunk_stops, leading_from_mask_l}
+use Rattle.std.proofs.lemmas.Simd.{map-map, mask_l-mod, trailing_mask_l}
+use Rattle.std.{proofs.lemmas.List.length-map, specs.Int.Count.trailing_of_zero, specs.List.prefix_len}
 use lib.Lanes.{chunk, mask_l, top}
 use Rattle.syslog_lines.specs.Search.{IsRun}
 

@@ -1,3 +1,4 @@
+pub mod Names
 pub mod LaneLemmas
 pub mod FeedLemmas
 pub mod LineLemmas

@@ -1,15 +1,14 @@
 -- Lines and the place of the first line feed.
-use Rattle.std.proofs.Common.{◌≡◌, ◌≢◌, ℕ, ◌+◌, ◌-◌, ◌<◌, List, [], ◌∷◌, ◌++◌, length, length-append}
-use Rattle.std.proofs.Common.{get_or, take, drop, refl, sym, ap, ◌∙◌, subst, arith, append-nil, eq-eqb, inl, inr}
-use Rattle.std.proofs.Math.Seq.{drop-append_seam, take-append_seam}
-use Rattle.std.proofs.lemmas.Bool.{cases_eq, eqb-true}
-use Rattle.std.proofs.lemmas.List.{get_or-append-add, drop_more}
-use Rattle.std.proofs.lemmas.List.{take-append-drop, get_or-take, length-take, append_assoc}
-use Rattle.std.proofs.lemmas.List.Elements.{All-from_get_or, All-nil, All-cons, All-head}
-use Rattle.std.proofs.lemmas.List.Elements.{All-append, All-drop, All-push, All-take}
+use Rattle.syslog_lines.proofs.Names.{List, append-nil, cases_eq, take-append-drop, All-append, IsFirstLine, EndsInFeed}
+use Rattle.syslog_lines.proofs.Names.{◌≡◌, length, get_or, eq-eqb, eqb-true, All-nil, NoFeed, IsLines, Nowhere, is_byte}
+use Rattle.syslog_lines.proofs.Names.{◌≢◌, ◌+◌, ◌-◌, ◌<◌, ◌∷◌, ◌++◌, take, drop, refl, sym, ◌∙◌, subst, arith, Passes}
+use Rattle.syslog_lines.proofs.Names.{ℕ, [], ap, inl, inr}
+use Rattle.std.{proofs.Common.length-append, proofs.Math.Seq.drop-append_seam, proofs.Math.Seq.take-append_seam}
+use Rattle.std.proofs.lemmas.List.{get_or-append-add, drop_more, get_or-take, length-take, append_assoc}
+use Rattle.std.proofs.lemmas.List.Elements.{All-from_get_or, All-cons, All-head, All-drop, All-push, All-take}
 use Rattle.std.specs.List.{All}
-use Rattle.syslog_lines.specs.Lines.{NoFeed, with_feeds, IsLines, IsFirstLine, EndsInFeed}
-use Rattle.memchr.specs.Find.{NoneBefore, Nowhere, Passes, is_byte}
+use Rattle.syslog_lines.specs.Lines.{with_feeds}
+use Rattle.memchr.specs.Find.{NoneBefore}
 
 -- the byte is no line feed
 abbrev pub IsOther : ℕ → Type 0

@@ -1,22 +1,14 @@
 -- How a filter is pumped over its input, block by block.
-use Rattle.std.proofs.Common.{◌≡◌, ◌≢◌, ℕ, Bool, List, [], ◌++◌, Option, inl, inr, refl, sym, subst, arith}
-use Rattle.std.proofs.Common.{append_assoc, append-nil}
-use Rattle.std.specs.Io.KnownBytes.{Consumes, IsAtEnd, Keeps}
+use Rattle.syslog_lines.proofs
+use proofs.Names.{append_assoc, append-nil, All-append, RunFault, EndsInFeed, is_answered, is_passed_over, WritesFirst}
+use proofs.Names.{Option, subst, All-nil, Memory, IsLines, NoFeed, count_by, Filter, HasCounted, Answered, AnswersAll}
+use proofs.Names.{◌≡◌, ◌≢◌, ℕ, Bool, List, [], ◌++◌, inl, inr, refl, sym, arith, Keeps, Tally, Write}
+use Rattle.std.specs.Io.KnownBytes.{Consumes, IsAtEnd}
 use Rattle.std.proofs.KnownBytes.{Consumes-kept, Consumes-nil, Consumes-trans, Keeps-refl}
-use Rattle.std.proofs.lemmas.List.Elements.{All-append, All-nil}
-use Rattle.syslog_lines.specs.declared.summary.Tally.{Tally}
-use Rattle.syslog_lines.specs.declared.summary.RunFault.{RunFault}
-use Rattle.syslog_lines.specs.declared.summary.RunFault.TheVariants.{Read, Write, Memory}
-use Rattle.syslog_lines.specs.Block.{StopsReading}
-use Rattle.syslog_lines.specs.Lines.{EndsInFeed, IsLines, NoFeed}
-use Rattle.std.specs.Prelude.{count_by}
-use Rattle.syslog_lines.specs.Output.{Filter, HasCounted, is_answered, is_passed_over}
-use Rattle.syslog_lines.proofs.CountLemmas.{lines_counted}
-use Rattle.syslog_lines.specs.Write.{Answered, AnswersAll, WritesFirst}
+use Rattle.syslog_lines.{specs.Block.StopsReading, specs.declared.summary.RunFault.TheVariants.Read}
+use proofs.{CountLemmas.lines_counted, LineLemmas.closed_lines, LineLemmas.lines_after, LineLemmas.with_feeds-append}
 use Rattle.syslog_lines.specs.Pump.{CanAnswer, EndsEarly, ReadAll, ReadLines, PumpsAll}
-use Rattle.syslog_lines.proofs.AnswerLemmas.{Answered-after, Answered-none, Wrote-none}
-use Rattle.syslog_lines.proofs.AnswerLemmas.{WroteBefore-after, WroteCut-after}
-use Rattle.syslog_lines.proofs.LineLemmas.{closed_lines, lines_after, with_feeds-append}
+use proofs.AnswerLemmas.{Answered-after, Answered-none, Wrote-none, WroteBefore-after, WroteCut-after}
 
 abbrev none_counted : Tally
 none_counted = record { answered = 0; passed_over = 0 }

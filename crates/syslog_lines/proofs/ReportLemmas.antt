@@ -1,12 +1,10 @@
 -- A line that is put together without memory.
-use Rattle.std.proofs.Common.{◌≡◌, ℕ, true, List, [], ◌∷◌, ◌++◌, append-nil, append_assoc, ap, subst, sym, ◌∙◌}
-use Rattle.std.proofs.Common.{Option, Result, Ok, Err, OnOk}
-use Rattle.std.specs.Fmt.{WritesInCalls}
-use Rattle.std.specs.Fmt.InlineText.{AppendsIfIntact, IsIntact, inline_text}
-use Rattle.std.specs.List.{FoldsTo, concat}
+use Rattle.syslog_lines.proofs.Names.{ℕ, true, List, ◌++◌, append-nil, append_assoc, subst, Option, Result, inline_text}
+use Rattle.syslog_lines.proofs.Names.{◌≡◌, [], ◌∷◌, ap, sym, ◌∙◌, Ok, Err}
+use Rattle.std.{proofs.Common.OnOk, specs.List.FoldsTo, specs.List.concat, specs.declared.fmt.InlineText.InlineText}
+use Rattle.std.{specs.Fmt.InlineText.AppendsIfIntact, specs.Fmt.InlineText.IsIntact, specs.Fmt.WritesInCalls}
 use Rattle.std.specs.Result.{is_ok}
 use Rattle.syslog_lines.specs.Report.{WritesFront}
-use Rattle.std.specs.declared.fmt.InlineText.{InlineText}
 
 module _ {n : ℕ} where
   -- several writes append what they wrote together

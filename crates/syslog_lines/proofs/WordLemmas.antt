@@ -1,15 +1,13 @@
 -- The words that a filter with dates is called with.
-use Rattle.std.proofs.Common.{◌≡◌, ℕ, ℤ, ◌<◌, ◌≤◌, ◌≤ℤ◌, ◌&&◌, ◌||◌, Bool, true, false, IsTrue, List, [], ◌∷◌, ◌++◌}
-use Rattle.std.proofs.Common.{length, get_or, Option, Some, None, negsuc, pos, ap, arith, inl, inr, refl, subst, sym, ◌∙◌}
-use Rattle.std.proofs.lemmas.Int.{ints}
-use Rattle.std.proofs.lemmas.Str.Parse.{digits_value_short, numerals_by_value, tells_by_index}
-use Rattle.std.specs.Int.{IsInRange}
-use Rattle.syslog_lines.specs.Arguments.{NamesDate, NamesOffset, NamesYear, end_word}
-use Rattle.std.proofs.lemmas.List.Elements.{Contains-append_right}
-use Rattle.syslog_lines.specs.declared.words.Wrong.{Wrong}
+use Rattle.syslog_lines.proofs.Names.{digits_value_short, numerals_by_value, tells_by_index, NamesOffset, AskForLines}
+use Rattle.syslog_lines.proofs.Names.{IsTrue, [], length, get_or, IsInRange, NamesDate, end_word, offset_word, raw_flag}
+use Rattle.syslog_lines.proofs.Names.{◌≡◌, Bool, true, false, List, ◌++◌, Option, Some, None, arith, refl, subst, Dates}
+use Rattle.syslog_lines.proofs.Names.{ℕ, ℤ, ◌<◌, ◌≤◌, ◌∷◌, pos, ap, inl, inr, sym, ◌∙◌}
+use Rattle.std.proofs.Common.{◌≤ℤ◌, ◌&&◌, ◌||◌, negsuc}
+use Rattle.std.{proofs.lemmas.Int.ints, proofs.lemmas.List.Elements.Contains-append_right}
+use Rattle.syslog_lines.{specs.Arguments.NamesYear, specs.declared.words.Wrong.Wrong}
 use Rattle.syslog_lines.specs.declared.words.Wrong.TheVariants.{Word, Missing, Unreadable}
-use Rattle.syslog_lines.specs.Words.{AreDateWords, AskForLines, IsAmong, IsOffsetFlag, offset_word, raw_flag, raw_word}
-use Rattle.syslog_lines.specs.declared.dates.Dates.{Dates}
+use Rattle.syslog_lines.specs.Words.{AreDateWords, IsAmong, IsOffsetFlag, raw_word}
 
 -- ---- ranges
 

@@ -1,16 +1,10 @@
 -- Bytes that are written in several steps.
-use Rattle.std.proofs.Common.{◌≡◌, ℕ, Bool, true, subst, ◌-◌, ◌≤◌, List, [], ◌∷◌, ◌++◌, length, length-drop, take, drop}
-use Rattle.std.proofs.Common.{Option, Some, Result, Ok, Err, sym, ◌∙◌}
-use Rattle.std.proofs.Common.{ap, append_assoc, append-nil, arith, refl}
-use Rattle.std.proofs.KnownBytes.{Appends-kept, Appends-trans}
-use Rattle.std.proofs.lemmas.List.{take_all, take_at, take-append-drop}
-use Rattle.std.specs.Io.KnownBytes.{Appends, Keeps}
-use Rattle.syslog_lines.specs.Lines.{IsLines}
-use Rattle.syslog_lines.specs.Output.{Filter, output_of}
-use Rattle.syslog_lines.specs.Write.{AddsAnswers, AnswersAll, AnswersBefore, WritesFirst, Wrote, WroteCut}
-use Rattle.syslog_lines.specs.declared.summary.Tally.{Tally}
-use Rattle.syslog_lines.specs.declared.summary.RunFault.{RunFault}
-use Rattle.syslog_lines.specs.declared.summary.RunFault.TheVariants.{Write}
+use Rattle.syslog_lines.proofs.Names.{subst, append_assoc, Appends-kept, Appends-trans, take-append-drop, AnswersBefore}
+use Rattle.syslog_lines.proofs.Names.{length-drop, append-nil, take_at, output_of, AddsAnswers, AnswersAll, WritesFirst}
+use Rattle.syslog_lines.proofs.Names.{◌≡◌, length, Option, Result, arith, take_all, IsLines, Filter, WroteCut, RunFault}
+use Rattle.syslog_lines.proofs.Names.{Bool, true, ◌-◌, List, ◌++◌, take, drop, Some, refl, Keeps, Wrote, Tally, Write}
+use Rattle.syslog_lines.proofs.Names.{ℕ, ◌≤◌, [], ◌∷◌, Ok, Err, sym, ◌∙◌, ap}
+use Rattle.std.specs.Io.KnownBytes.{Appends}
 
 -- what was written so far is what comes before the rest
 pub record WroteSoFar (old new : Option (List ℕ)) (bytes rest : List ℕ) : Type 0 where

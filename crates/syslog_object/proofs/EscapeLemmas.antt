@@ -1,17 +1,13 @@
 -- Texts with JSON's escapes, a piece after the other.
-use Rattle.std.proofs.Common.{◌≡◌, ℕ, suc, ◌<◌, ◌≤◌, ◌==◌, true, false, nat_eq, List, [], ◌∷◌, ◌++◌, length, take, refl, sym, ap, ◌∙◌, arith, append_assoc, append-nil, get_or-take}
-use Rattle.std.proofs.lemmas.Bool.{ne_eqb, or_parts, not-true}
-use Rattle.std.proofs.lemmas.Grind.{flat_map-append}
-use Rattle.std.proofs.lemmas.List.{length-take, nil_from_length}
-use Rattle.std.proofs.Common.{Result, Ok, Err, OnOk}
+use Rattle.syslog_object.proofs.Names.{[], append_assoc, append-nil, nil_from_length, is_plain, PlainBetween, unescaped}
+use Rattle.syslog_object.proofs.Names.{◌==◌, true, false, List, ◌++◌, length, take, refl, arith, Result, OnOk, escape}
+use Rattle.syslog_object.proofs.Names.{◌≡◌, ℕ, suc, ◌<◌, ◌≤◌, ◌∷◌, sym, ap, ◌∙◌, Ok, Err}
+use Rattle.std.{proofs.Common.nat_eq, proofs.Common.get_or-take, proofs.lemmas.Grind.flat_map-append}
+use Rattle.std.{proofs.lemmas.Bool.ne_eqb, proofs.lemmas.Bool.or_parts, proofs.lemmas.Bool.not-true, specs.Result.is_ok}
+use Rattle.std.proofs.lemmas.List.{length-take}
 use Rattle.std.specs.Bool.{if◌then◌else◌}
-use Rattle.std.specs.Result.{is_ok}
-use Rattle.json.specs.Print.{escape, escape_byte}
-use Rattle.json.specs.Run.{is_plain, is_stop}
-use Rattle.json.specs.Written.{PlainBetween}
-use Rattle.json.proofs.Printed.Plain.{escape_on_plain}
+use Rattle.json.{proofs.Printed.Plain.escape_on_plain, specs.Print.escape_byte, specs.Run.is_stop}
 use Rattle.syslog_pieces.specs.StructuredData.Escapes.{pair_meaning}
-use Rattle.syslog_object.specs.Object.{unescaped}
 
 -- no byte needs an escape
 abbrev pub Plain : List ℕ → Type 0

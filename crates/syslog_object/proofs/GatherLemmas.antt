@@ -1,25 +1,14 @@
 -- The members of objects, one after the other, and parameters and elements as members.
-use Rattle.std.proofs.Common.{◌≡◌, ℕ, ◌+◌, ◌<◌, ◌≤◌, Bool, true, false, not, List, [], ◌∷◌, ◌++◌, length, take, drop}
-use Rattle.std.proofs.Common.{get_or, map, refl, sym, ap, ◌∙◌, subst, arith, append_assoc, append-nil}
-use Rattle.std.proofs.Common.{drop_of_length-le, bytes_eq, cond, inl, inr, ◌||◌, ◌==◌}
-use Rattle.std.proofs.lemmas.List.{drop_more, map-append, nil_from_length, take_more}
-use Rattle.std.specs.Borrow.{Bor}
-use Rattle.std.proofs.lemmas.Bool.{cases_Bool, true≢false}
-use Rattle.std.proofs.lemmas.List.Elements.{filter-append}
-use Rattle.std.proofs.lemmas.Slice.Eq.{bytes_eq-Decides}
-use Rattle.std.specs.List.{filter, list_any}
-use Rattle.std.specs.Prelude.{encode_utf8_all}
-use Rattle.json.specs.Print.{quoted}
-use Rattle.json.specs.Json.{Json}
-use Rattle.json.specs.Value.{items_of}
-use Rattle.syslog_pieces.specs.Pieces.Class.{Text}
-use Rattle.syslog_pieces.specs.Pieces.View.{shown}
-use Rattle.syslog_pieces.specs.StructuredData.Element.{ElementValue, param_value}
-use Rattle.syslog_pieces.specs.StructuredData.Visited.{element_seen}
-use Rattle.syslog_pieces.specs.declared.structured_data.recognised.Element.{Element}
-use Rattle.syslog_object.specs.Gathered.{first_keys, gathered, one_or_all, values_at}
-use Rattle.syslog_object.specs.Parts.{AreDistinct, IsNewKey, compact_text, items_text, members_after, object_text}
-use Rattle.syslog_object.specs.Object.{element_json, element_pair, param_pair}
+use Rattle.syslog_object.proofs
+use proofs.Names.{append_assoc, append-nil, nil_from_length, encode_utf8_all, ElementValue, element_seen, members_after}
+use proofs.Names.{drop_more, map-append, cases_Bool, AreDistinct, compact_text, object_text, element_json, element_pair}
+use proofs.Names.{[], bytes_eq, list_any, items_of, first_keys, gathered, one_or_all, values_at, items_text, param_pair}
+use proofs.Names.{Bool, true, false, List, ◌++◌, length, take, drop, get_or, ap, subst, arith, filter, quoted, IsNewKey}
+use proofs.Names.{◌≡◌, ℕ, ◌+◌, ◌<◌, ◌≤◌, not, ◌∷◌, map, refl, sym, ◌∙◌, cond, inl, inr, ◌||◌, ◌==◌, Bor, Json, Text}
+use Rattle.std.{proofs.Common.drop_of_length-le, proofs.lemmas.Bool.true≢false, proofs.lemmas.List.take_more}
+use Rattle.std.{proofs.lemmas.List.Elements.filter-append, proofs.lemmas.Slice.Eq.bytes_eq-Decides}
+use Rattle.syslog_pieces.{specs.Pieces.View.shown, specs.declared.structured_data.recognised.Element.Element}
+use Rattle.syslog_pieces.specs.StructuredData.Element.{param_value}
 
 -- ---- the members of objects, one after the other
 

@@ -1,3 +1,4 @@
+pub mod Names
 mod EscapeLemmas
 mod GatherLemmas
 mod WriterLemmas

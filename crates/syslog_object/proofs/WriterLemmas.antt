@@ -1,32 +1,21 @@
 -- The fields of an object, and the object of the elements that a writer was given.
-use Rattle.std.proofs.Common.{◌≡◌, ℕ, List, [], ◌∷◌, ◌++◌, Option, Some, None, codes, refl, sym, ap, ◌∙◌, append_assoc}
-use Rattle.std.proofs.Common.{map, ◌≢◌, ◌≤◌, ◌-◌, ◌+◌, ◌<◌, Bool, true, false, cond, length, take, drop, arith}
-use Rattle.std.proofs.Common.{append-nil, bytes_eq, subst, Result, Ok, Err, OnOk, slice_set}
-use Rattle.std.specs.Option.{option_map}
-use Rattle.std.specs.Prelude.{encode_utf8_all}
-use Rattle.std.proofs.Math.Seq.{take-append_seam, drop-append_seam}
-use Rattle.std.proofs.lemmas.List.{length-append, map-append, take_more_set}
-use Rattle.std.specs.Borrow.{Bor}
-use Rattle.std.specs.Result.{is_err}
-use Rattle.std.specs.Bool.{OnTrue}
-use Rattle.syslog_pieces.specs.Pieces.Class.{Text}
-use Rattle.syslog_pieces.specs.ProcId.{procid_text}
-use Rattle.syslog_pieces.specs.StructuredData.Element.{ElementValue}
+use Rattle.syslog_object.proofs
+use Rattle.syslog_object.specs
+use proofs.Names.{encode_utf8_all, take-append_seam, structured_json, facility_fields, protocol_fields, severity_fields}
+use proofs.Names.{append_assoc, length-append, ElementValue, MessageValue, element_pair, timestamp_json, members_after}
+use proofs.Names.{Option, procid_text, message_json, version_json, element_json, back_fields, compact_text, AreDistinct}
+use proofs.Names.{List, append-nil, option_map, map-append, param_pair, field_text, front_text, text_field, object_text}
+use proofs.Names.{length, bytes_eq, Result, OnTrue, Protocol, escape, quoted, gathered, text_json, rest_text, IsNewKey}
+use proofs.Names.{◌++◌, Some, None, codes, refl, Bool, true, false, cond, take, drop, arith, subst, OnOk, string, Field}
+use proofs.Names.{◌≡◌, ℕ, [], ◌∷◌, sym, ap, ◌∙◌, map, ◌≤◌, ◌-◌, ◌+◌, ◌<◌, Ok, Err, Bor, Text, Json}
+use Rattle.std.proofs.Common.{◌≢◌, slice_set}
+use Rattle.std.{proofs.Math.Seq.drop-append_seam, proofs.lemmas.List.take_more_set, specs.Result.is_err}
 use Rattle.syslog_pieces.specs.declared.procid.ProcId.{ProcId}
-use Rattle.syslog_loose.specs.declared.message.Protocol.{Protocol}
-use Rattle.json.specs.Print.{escape, escape_byte, quoted}
-use Rattle.json.specs.Json.{Json, string}
-use Rattle.syslog_loose.specs.Message.{MessageValue}
-use Rattle.syslog_object.specs.Gathered.{gathered}
-use Rattle.syslog_object.specs.Object.{element_pair, message_json, structured_json, timestamp_json, Field, object_of}
-use Rattle.syslog_object.specs.Object.{protocol_text, text_json, version_json, element_json, param_pair}
-use Rattle.syslog_object.specs.Parts.{back_fields, compact_text, facility_fields, field_text, front_text}
-use Rattle.syslog_object.specs.Parts.{protocol_fields, rest_text, severity_fields, text_field, AreDistinct, IsNewKey}
-use Rattle.syslog_object.specs.Parts.{later_text, member_text, members_after, object_text, open_text}
-use Rattle.syslog_object.specs.Writer.{AreWritten, HasWritten, element_keys}
-use Rattle.syslog_object.specs.declared.writer.ObjectWriter.{ObjectWriter}
-use Rattle.syslog_object.proofs.GatherLemmas.{Param, param_json, param_key, param_pairs, param_seen, differs_back}
-use Rattle.syslog_object.proofs.GatherLemmas.{distinct_gathered, pairs_of}
+use Rattle.json.specs.Print.{escape_byte}
+use specs.{Object.object_of, Object.protocol_text, Parts.later_text, Parts.member_text, Parts.open_text}
+use specs.{Writer.AreWritten, Writer.HasWritten, Writer.element_keys, declared.writer.ObjectWriter.ObjectWriter}
+use proofs.GatherLemmas.{param_json, param_key, param_pairs, param_seen, differs_back, distinct_gathered, pairs_of}
+use proofs.GatherLemmas.{Param}
 
 -- ---- the fields of an object, one after the other
 

@@ -1,36 +1,26 @@
 -- The text of a value is what `json` prints and reads back, with small numbers and no control character.
-use Rattle.std.proofs.Common.{◌≡◌, ℕ, Bool, true, false, List, [], ◌∷◌, ◌++◌, refl, sym, ap, ◌∙◌, subst, append_assoc}
-use Rattle.std.proofs.Common.{append-nil, zero, suc, ◌<◌, ◌≤◌, ◌/◌, ◌%◌, nat_lt, ◌==◌, decimal, arith, Option, Some}
-use Rattle.std.proofs.Common.{None, map, bytes_eq, inl, inr}
-use Rattle.std.proofs.lemmas.Bool.{cond_both, cases_Bool}
-use Rattle.std.proofs.lemmas.Grind.{common_steps}
-use Rattle.std.proofs.DigitsParse.{digits_onto-nil}
-use Rattle.std.specs.Char.{digit_char}
-use Rattle.std.specs.Fmt.{digit_glyph, digits_onto}
-use Rattle.std.specs.List.{AllByRecursion}
-use Rattle.std.specs.Option.{option_map}
-use Rattle.std.specs.Prelude.{⊤}
-use Rattle.std.proofs.lemmas.List.Elements.{All-from_recursion}
-use Rattle.json.specs.Json.{Json, null, boolean, number, string, array, object, Items, no_items, item, Members}
-use Rattle.json.specs.Json.{no_members, member, document}
-use Rattle.json.specs.Print.{IsNumber, print, print_from, quoted, escape, escape_byte, escape_letter}
-use Rattle.json.specs.Token.{Token}
+use Rattle.syslog_object.proofs.Names.{append_assoc, nat_lt, ElementValue, MessageValue, compact_text, structured_json}
+use Rattle.syslog_object.proofs.Names.{append-nil, cases_Bool, element_json, element_pair, message_json, version_json}
+use Rattle.syslog_object.proofs.Names.{bytes_eq, option_map, items_text, first_keys, one_or_all, values_at, param_pair}
+use Rattle.syslog_object.proofs.Names.{Bool, false, subst, Option, string, quoted, escape, Protocol, items_of, gathered}
+use Rattle.syslog_object.proofs.Names.{◌≡◌, true, List, [], ◌∷◌, ◌++◌, refl, ◌==◌, arith, Some, None, Json, Text, Field}
+use Rattle.syslog_object.proofs.Names.{ℕ, sym, ap, ◌∙◌, suc, ◌<◌, ◌≤◌, map, inl, inr}
+use Rattle.std.proofs.Common.{zero, ◌/◌, ◌%◌, decimal}
+use Rattle.std.{proofs.DigitsParse.digits_onto-nil, proofs.lemmas.Bool.cond_both, proofs.lemmas.Grind.common_steps}
+use Rattle.std.{specs.Char.digit_char, specs.List.AllByRecursion, specs.Prelude.⊤}
+use Rattle.std.{proofs.lemmas.List.Elements.All-from_recursion, specs.Fmt.digit_glyph, specs.Fmt.digits_onto}
+use Rattle.json.specs.Json.{boolean, number, array, object, Items, no_items, Members, no_members, member, document}
+use Rattle.json.specs.Json.{null, item}
+use Rattle.json.specs.Print.{IsNumber, print, print_from, escape_byte, escape_letter}
+use Rattle.json.{proofs.Printed.Decimals.IsNumber-decimal, proofs.Printed.Trees.document-print, specs.Token.Token}
 use Rattle.json.specs.Tree.{HasNumbers, ItemsHaveNumbers, MembersHaveNumbers, json_tokens, items_tokens, members_tokens}
 use Rattle.json.specs.Tree.{depth}
-use Rattle.json.proofs.Printed.Decimals.{IsNumber-decimal}
-use Rattle.syslog_pieces.specs.Pieces.Class.{Text}
-use Rattle.syslog_pieces.specs.StructuredData.Element.{ElementValue}
 use Rattle.syslog_pieces.proofs.PriLemmas.{facility_low, severity_low}
-use Rattle.syslog_loose.specs.declared.message.Protocol.{Protocol}
 use Rattle.syslog_loose.specs.declared.message.Protocol.TheVariants.{RFC3164, RFC5424}
-use Rattle.syslog_loose.specs.Message.{MessageValue}
-use Rattle.json.specs.Value.{items_of}
-use Rattle.json.proofs.Printed.Trees.{document-print}
-use Rattle.syslog_object.specs.Parts.{comma_if, compact_text, items_text, members_text, IsSmallVersion}
+use Rattle.syslog_object.specs.Parts.{comma_if, members_text, IsSmallVersion}
 use Rattle.syslog_object.specs.Written.{HasSmallNumbers, ItemsHaveSmallNumbers, MembersHaveSmallNumbers, IsTextOf}
-use Rattle.syslog_object.specs.Gathered.{first_keys, gathered, members_of, one_or_all, values_at}
-use Rattle.syslog_object.specs.Object.{Field, element_json, element_pair, fields_of, message_json, param_pair, present}
-use Rattle.syslog_object.specs.Object.{structured_json, version_json, invalid_json, refused_json}
+use Rattle.syslog_object.specs.Gathered.{members_of}
+use Rattle.syslog_object.specs.Object.{fields_of, present, invalid_json, refused_json}
 
 -- ---- the numbers are numbers of JSON
 mutual

@@ -1,31 +1,21 @@
 -- What a run wrote is written again by a run in the same year: each of its lines is stable, and gives itself alone.
-use Rattle.std.proofs.Common.{◌≡◌, ◌≢◌, ℕ, zero, suc, ℤ, true, nat_lt, List, [], ◌∷◌, ◌++◌, length, length-append}
-use Rattle.std.proofs.Common.{Option, inl, inr, refl, sym, ap, subst, ◌∙◌, arith, append_assoc, append-nil}
-use Rattle.std.proofs.Math.Utf8.{scalars}
+use Rattle.syslog_tidy.proofs.Names.{[], append-nil, encodes-chars, IsRound, IsFirstSettled, AreAnswers, is_passed_over}
+use Rattle.syslog_tidy.proofs.Names.{ℕ, length, subst, arith, IsRead, in_utc, Either, Answer, Omitted, Written, tidying}
+use Rattle.syslog_tidy.proofs.Names.{◌≡◌, zero, suc, ℤ, true, List, ◌∷◌, ◌++◌, inl, inr, refl, sym, ap, ◌∙◌, chars}
+use Rattle.std.proofs.Common.{◌≢◌, nat_lt, length-append, Option, append_assoc}
+use Rattle.std.{proofs.KnownBytes.Consumes-whole, proofs.Math.Utf8.scalars, specs.List.All, specs.List.AllByRecursion}
 use Rattle.std.proofs.lemmas.Bool.{cond_both, eqb-false, not-true}
-use Rattle.std.proofs.lemmas.Bool.Decides.{eqb_tells}
-use Rattle.std.proofs.KnownBytes.{Consumes-whole}
+use Rattle.std.{proofs.lemmas.Bool.Decides.eqb_tells, proofs.lemmas.Str.chars-encodes, proofs.lemmas.Str.scalars-chars}
 use Rattle.std.proofs.lemmas.List.Elements.{All-nil, All-from_recursion, All-head, All-tail, All-append, All-weaker}
-use Rattle.std.proofs.lemmas.Str.{chars-encodes, encodes-chars, scalars-chars}
-use Rattle.std.specs.Char.{encode_utf8}
-use Rattle.std.specs.Io.KnownBytes.{Appends}
-use Rattle.std.specs.List.{All, AllByRecursion}
+use Rattle.std.{specs.Char.encode_utf8, specs.Io.KnownBytes.Appends}
 use Rattle.std.specs.Prelude.{IsUtf8, encode_utf8_all, count_by, not}
-use Rattle.std.specs.Str.{chars}
-use Rattle.syslog_loose.specs.OneLine.{IsOneLine}
-use Rattle.syslog_loose.specs.Message.{MessageValue}
-use Rattle.syslog_loose.specs.Printed.{printed}
-use Rattle.syslog_loose.specs.Reading.{IsRead, in_utc}
-use Rattle.syslog_loose.specs.Settling.{IsRound, IsFirstSettled}
-use Rattle.syslog_loose.specs.declared.variant.Variant.TheVariants.{Either}
+use Rattle.syslog_loose.{specs.OneLine.IsOneLine, specs.Printed.printed}
+use Rattle.syslog_loose.{proofs.SettlingLemmas.Settles.one_first_settled, specs.Message.MessageValue}
 use Rattle.syslog_loose.proofs.ReadBackLemmas.{printed_line, printed_scalars}
-use Rattle.syslog_loose.proofs.SettlingLemmas.Settles.{one_first_settled}
-use Rattle.syslog_lines.specs.declared.summary.Summary.{Summary}
-use Rattle.syslog_lines.specs.Lines.{NoFeed, with_feeds, IsLines}
-use Rattle.syslog_lines.specs.Count.{held_count}
-use Rattle.syslog_lines.specs.Output.{Answer, AreAnswers, Marked, Omitted, Written, is_passed_over, output_of}
+use Rattle.syslog_lines.{specs.Output.Marked, specs.Output.output_of, specs.declared.summary.Summary.Summary}
+use Rattle.syslog_lines.{specs.Count.held_count, specs.Lines.NoFeed, specs.Lines.with_feeds, specs.Lines.IsLines}
 use Rattle.syslog_lines.proofs.LineLemmas.{IsOther, all_behind, all_front}
-use Rattle.syslog_tidy.specs.Filters.{TidiesAll, WritesAgain, tidying}
+use Rattle.syslog_tidy.specs.Filters.{TidiesAll, WritesAgain}
 
 -- ---- line feeds in bytes and in characters
 encoded_free : (c : ℕ) → c ≢ 10 → NoFeed (encode_utf8 c)

@@ -1,13 +1,12 @@
 -- The program's arguments as words.
-use Rattle.std.proofs.Common.{◌≡◌, ℕ, ℤ, ◌-◌, ◌<◌, ◌≤◌, Bor, List, [], ◌∷◌, ◌++◌, length, map}
-use Rattle.std.proofs.Common.{take, drop, get_or, ap, inl, inr, nat_eq, refl, sym, true, ◌∙◌, arith}
-use Rattle.std.specs.Cmp.Lexicographic.{bytes_decides, pointwise}
-use Rattle.std.proofs.lemmas.List.{take_all}
+use Rattle.syslog_tidy.proofs.Names.{◌≡◌, List, ◌∷◌, ◌++◌, length, inl, refl, true, arith, changed_word, refused_word}
+use Rattle.syslog_tidy.proofs.Names.{ℕ, ℤ, [], ap, inr, sym, ◌∙◌}
+use Rattle.std.proofs.Common.{◌-◌, ◌<◌, ◌≤◌, Bor, map, take, drop, get_or, nat_eq}
+use Rattle.std.{proofs.lemmas.List.take_all, specs.Cmp.Lexicographic.bytes_decides, specs.Cmp.Lexicographic.pointwise}
 use Rattle.syslog_lines.specs.Arguments.{AreYearWords, help_word, version_word}
-use Rattle.syslog_tidy.specs.Arguments.{AskForLines, AsksFor, OnlyFlag, changed_word, flags_of, refused_word}
-use Rattle.syslog_tidy.specs.declared.args.Output.{Output}
+use Rattle.syslog_tidy.specs.Arguments.{AskForLines, AsksFor, OnlyFlag, flags_of}
+use Rattle.syslog_tidy.{specs.declared.args.Output.Output, specs.declared.args.Task.Task}
 use Rattle.syslog_tidy.specs.declared.args.Output.TheVariants.{Settled, Changed, Refused}
-use Rattle.syslog_tidy.specs.declared.args.Task.{Task}
 use Rattle.syslog_tidy.specs.declared.args.Task.TheVariants.{Help, Version, Lines}
 
 -- a flag is longer than a year and `--`

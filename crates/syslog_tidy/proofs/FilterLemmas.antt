@@ -1,17 +1,14 @@
 -- What the filters give.
-use Rattle.std.proofs.Common.{◌≡◌, ℕ, zero, suc, ℤ, List, [], ◌∷◌, Some, None}
-use Rattle.std.proofs.Common.{Result, Ok, Err, MatchResult, refl, subst}
-use Rattle.std.specs.Global.{Global}
-use Rattle.std.specs.Prelude.{String, string_bytes}
-use Rattle.std.specs.Str.{chars}
-use Rattle.syslog_loose.specs.Reading.{IsRead, IsUnreadable, in_utc}
-use Rattle.syslog_loose.specs.Settling.{IsRound, IsFirstSettled, Settles, answer_in}
-use Rattle.syslog_loose.proofs.ReadingLemmas.{invalid_or_memory}
-use Rattle.syslog_loose.specs.declared.fault.ParseFault.{ParseFault}
+use Rattle.syslog_tidy.proofs.Names.{[], IsRound, IsFirstSettled, tidying, AreAnswers, Omitted, Written, is_passed_over}
+use Rattle.syslog_tidy.proofs.Names.{◌≡◌, ℕ, zero, suc, List, ◌∷◌, refl, subst, chars, IsRead, in_utc, Either, Answer}
+use Rattle.syslog_tidy.proofs.Names.{ℤ}
+use Rattle.std.proofs.Common.{Some, None, Result, Ok, Err, MatchResult}
+use Rattle.std.{specs.Global.Global, specs.Prelude.String, specs.Prelude.string_bytes}
+use Rattle.syslog_loose.{proofs.ReadingLemmas.invalid_or_memory, specs.Reading.IsUnreadable}
+use Rattle.syslog_loose.{specs.Settling.Settles, specs.Settling.answer_in, specs.declared.fault.ParseFault.ParseFault}
 use Rattle.syslog_loose.specs.declared.fault.ParseFault.TheVariants.{Invalid, Memory}
-use Rattle.syslog_loose.specs.declared.variant.Variant.TheVariants.{Either}
-use Rattle.syslog_tidy.specs.Filters.{IsTidied, SharesOut, refusing, tidying}
-use Rattle.syslog_lines.specs.Output.{Answer, AreAnswers, Omitted, Written, is_answered, is_passed_over}
+use Rattle.syslog_tidy.specs.Filters.{IsTidied, SharesOut, refusing}
+use Rattle.syslog_lines.specs.Output.{is_answered}
 
 -- exactly one of two filters writes something for a line
 one_written : (year : ℤ) (line : List ℕ) (settled refused : Answer) → (tidying year).Answers line settled

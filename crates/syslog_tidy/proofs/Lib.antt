@@ -1,3 +1,4 @@
+pub mod Names
 pub mod FilterLemmas
 pub mod ArgumentLemmas
 pub mod AgainLemmas

@@ -1,7 +1,4 @@
-use Rattle.std.proofs.Common.{◌<◌, arith, length}
-use Rattle.syslog_pieces.specs.Pieces.View.{shown}
-use Rattle.syslog_pieces.specs.StructuredData.Element.{param_value}
-use Rattle.syslog_c.specs.Fields.{IsParam}
+use Rattle.syslog_c.proofs.Words.{◌<◌, arith, length, shown, param_value, IsParam}
 use Rattle.syslog_c.proofs.ArrayLemmas.{begun_more}
 use Rattle.syslog_c.proofs.arrays.put_noted.Goals as goal
 

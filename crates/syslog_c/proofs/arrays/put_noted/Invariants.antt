@@ -1,7 +1,4 @@
-use Rattle.std.proofs.Common.{map, take}
-use Rattle.syslog_pieces.specs.Pieces.View.{shown}
-use Rattle.syslog_pieces.specs.StructuredData.Element.{param_value}
-use Rattle.syslog_c.specs.Fields.{IsBegun, IsParam}
+use Rattle.syslog_c.proofs.Words.{map, take, shown, param_value, IsBegun, IsParam}
 use Rattle.syslog_c.proofs.arrays.put_noted.Given as goal
 
 abbrev pub invariant-loop-i : goal.invariant-loop-i

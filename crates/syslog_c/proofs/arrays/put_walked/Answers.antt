@@ -1,9 +1,5 @@
-use Rattle.std.proofs.Common.{◌∙◌, ◌+◌, ◌<◌, ◌++◌, ◌∷◌, [], ℕ, List, arith, ap, sym, length, append_assoc, length-append}
-use Rattle.syslog_pieces.specs.Pieces.Class.{Text}
-use Rattle.syslog_pieces.specs.Pieces.View.{shown}
-use Rattle.syslog_pieces.specs.StructuredData.Element.{param_value}
-use Rattle.syslog_pieces.specs.StructuredData.Visited.{params_left}
-use Rattle.syslog_c.specs.Fields.{IsParam}
+use Rattle.syslog_c.proofs.Words.{arith, length, append_assoc, length-append, shown, param_value, params_left, IsParam}
+use Rattle.syslog_c.proofs.Words.{◌∙◌, ◌+◌, ◌<◌, ◌++◌, ◌∷◌, [], ℕ, List, ap, sym, Text}
 use Rattle.syslog_c.proofs.ArrayLemmas.{begun_next}
 use Rattle.syslog_c.proofs.arrays.put_walked.Goals as goal
 

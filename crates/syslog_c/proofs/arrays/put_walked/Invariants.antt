@@ -1,7 +1,4 @@
-use Rattle.std.proofs.Common.{◌≡◌, ◌++◌, List, length}
-use Rattle.syslog_pieces.specs.Pieces.Class.{Text}
-use Rattle.syslog_pieces.specs.StructuredData.Visited.{element_seen, params_left}
-use Rattle.syslog_c.specs.Fields.{IsBegun, IsParam}
+use Rattle.syslog_c.proofs.Words.{◌≡◌, ◌++◌, List, length, Text, element_seen, params_left, IsBegun, IsParam}
 use Rattle.syslog_c.proofs.arrays.put_walked.Given as goal
 
 -- the parameters up to here were put

@@ -1,4 +1,4 @@
-use Rattle.std.proofs.Common.{inl, inr, refl}
+use Rattle.syslog_c.proofs.Words.{inl, inr, refl}
 use Rattle.syslog_c.proofs.LineLemmas.{on_line_map, tried_map}
 use Rattle.syslog_c.proofs.canonical.tell_canonical.Goals as goal
 

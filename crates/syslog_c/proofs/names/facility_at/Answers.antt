@@ -1,4 +1,4 @@
-use Rattle.std.proofs.Common.{◌∙◌, ap, slice_get}
+use Rattle.syslog_c.proofs.Words.{◌∙◌, ap, slice_get}
 use Rattle.syslog_pieces.specs.Pri.{facilities}
 use Rattle.syslog_c.proofs.NameLemmas.{eighth}
 use Rattle.syslog_c.proofs.names.facility_at.Goals as goal

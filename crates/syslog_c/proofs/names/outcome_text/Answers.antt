@@ -1,4 +1,4 @@
-use Rattle.std.proofs.Common.{refl}
+use Rattle.syslog_c.proofs.Words.{refl}
 use Rattle.std.specs.Str.{chars}
 use Rattle.syslog_c.proofs.names.outcome_text.Goals as goal
 

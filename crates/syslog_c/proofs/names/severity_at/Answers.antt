@@ -1,4 +1,4 @@
-use Rattle.std.proofs.Common.{◌∙◌, ap, arith, slice_get}
+use Rattle.syslog_c.proofs.Words.{◌∙◌, ap, arith, slice_get}
 use Rattle.syslog_pieces.specs.Pri.{severities}
 use Rattle.syslog_c.proofs.names.severity_at.Goals as goal
 

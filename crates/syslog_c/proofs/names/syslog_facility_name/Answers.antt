@@ -1,4 +1,4 @@
-use Rattle.std.proofs.Common.{◌∙◌, ap, sym}
+use Rattle.syslog_c.proofs.Words.{◌∙◌, ap, sym}
 use Rattle.std.specs.Str.{chars}
 use Rattle.syslog_c.proofs.NameLemmas.{facility_spelt}
 use Rattle.syslog_c.proofs.names.syslog_facility_name.Goals as goal

@@ -1,4 +1,4 @@
-use Rattle.std.proofs.Common.{◌∙◌, ap, sym}
+use Rattle.syslog_c.proofs.Words.{◌∙◌, ap, sym}
 use Rattle.std.specs.Str.{chars}
 use Rattle.syslog_c.proofs.NameLemmas.{severity_spelt}
 use Rattle.syslog_c.proofs.names.syslog_severity_name.Goals as goal

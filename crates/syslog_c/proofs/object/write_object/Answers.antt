@@ -1,10 +1,5 @@
-use Rattle.std.proofs.Common.{Option, inl, inr, refl, subst}
-use Rattle.syslog_pieces.specs.Pieces.Class.{Text}
-use Rattle.syslog_loose.proofs.ReadingLemmas.{in_year_map}
-use Rattle.syslog_loose.specs.Line.{line_value}
-use Rattle.syslog_c.proofs.LineLemmas.{tried_line}
-use Rattle.syslog_c.specs.Texts.{PutsObject, WritesObject}
-use Rattle.syslog_c.specs.declared.outcome.Outcome.TheVariants.{NoReading}
+use Rattle.syslog_c.proofs.Words.{Option, inl, inr, refl, subst, Text, in_year_map, line_value, NoReading}
+use Rattle.syslog_c.{proofs.LineLemmas.tried_line, specs.Texts.PutsObject, specs.Texts.WritesObject}
 use Rattle.syslog_c.proofs.object.write_object.Goals as goal
 
 pub returns-in-Some-parse_line : goal.returns-in-Some-parse_line

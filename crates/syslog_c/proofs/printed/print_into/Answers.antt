@@ -1,6 +1,4 @@
-use Rattle.std.proofs.Common.{◌∙◌, [], inl, rules}
-use Rattle.std.specs.Str.{encode_utf8_all}
-use Rattle.syslog_loose.specs.Line.{line_value}
+use Rattle.syslog_c.proofs.Words.{◌∙◌, [], inl, rules, encode_utf8_all, line_value}
 use Rattle.syslog_loose.specs.Printed.{printed}
 use Rattle.syslog_c.specs.Room.{PutsUnlessRefused}
 use Rattle.syslog_c.proofs.TextLemmas.{taken_none, takes_calls, told, with_room}

@@ -1,7 +1,5 @@
-use Rattle.std.proofs.Common.{inr}
-use Rattle.syslog_loose.proofs.ReadingLemmas.{in_year_map}
+use Rattle.syslog_c.{proofs.Words.inr, proofs.Words.in_year_map, proofs.TextLemmas.settled_answer}
 use Rattle.syslog_c.proofs.LineLemmas.{tried_line}
-use Rattle.syslog_c.proofs.TextLemmas.{settled_answer}
 use Rattle.syslog_c.proofs.printed.write_settled.Goals as goal
 
 pub returns : goal.returns

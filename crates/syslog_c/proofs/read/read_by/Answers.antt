@@ -1,7 +1,5 @@
-use Rattle.std.proofs.Common.{None, Some, refl}
+use Rattle.syslog_c.proofs.Words.{None, Some, refl, in_year_map, in_year_told, dating_in}
 use Rattle.std.specs.Str.{chars}
-use Rattle.syslog_loose.proofs.ReadingLemmas.{in_year_map, in_year_told}
-use Rattle.syslog_c.specs.Options.{dating_in}
 use Rattle.syslog_c.proofs.ReadLemmas.{all_read, kept, nothing_read, too_much_read}
 use Rattle.syslog_c.proofs.read.read_by.Goals as goal
 

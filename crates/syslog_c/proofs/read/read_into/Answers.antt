@@ -1,8 +1,5 @@
-use Rattle.std.proofs.Common.{◌≡◌, inr, rules}
-use Rattle.syslog_c.specs.Line.{OnLine}
-use Rattle.syslog_c.specs.Told.{ReadsInto}
-use Rattle.syslog_c.proofs.LineLemmas.{tried_line}
-use Rattle.syslog_c.proofs.ReadLemmas.{with_arrays}
+use Rattle.syslog_c.proofs.Words.{◌≡◌, inr, rules, OnLine, ReadsInto}
+use Rattle.syslog_c.{proofs.LineLemmas.tried_line, proofs.ReadLemmas.with_arrays}
 use Rattle.syslog_c.proofs.read.read_into.Goals as goal
 
 pub returns : goal.returns

@@ -1,8 +1,5 @@
-use Rattle.std.proofs.Common.{inr, refl}
-use Rattle.syslog_c.proofs.LineLemmas.{tried_line}
-use Rattle.syslog_c.specs.Line.{Refuses}
-use Rattle.syslog_c.specs.declared.outcome.Outcome.TheVariants.{NoReading}
-use Rattle.syslog_loose.proofs.ReadingLemmas.{in_year_map}
+use Rattle.syslog_c.proofs.Words.{inr, refl, NoReading, in_year_map}
+use Rattle.syslog_c.{proofs.LineLemmas.tried_line, specs.Line.Refuses}
 use Rattle.syslog_c.proofs.read_line.read_line.Goals as goal
 
 pub returns-in-Some-parse_line : goal.returns-in-Some-parse_line

@@ -1,4 +1,4 @@
-use Rattle.std.proofs.Common.{◌≡◌, of_z, rules, to_z, w32}
+use Rattle.syslog_c.proofs.Words.{◌≡◌, of_z, rules, to_z, w32}
 use Rattle.syslog_c.proofs.rules.rules_of.Goals as goal
 
 pub returns : goal.returns

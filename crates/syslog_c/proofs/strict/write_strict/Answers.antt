@@ -1,6 +1,5 @@
-use Rattle.std.proofs.Common.{Ok, Err, ap, refl}
+use Rattle.syslog_c.proofs.Words.{Ok, Err, ap, refl, IsUtf8-string_bytes}
 use Rattle.std.specs.Str.{chars}
-use Rattle.std.proofs.lemmas.Str.{IsUtf8-string_bytes}
 use Rattle.syslog_strict.specs.Pushing.{text_in}
 use Rattle.syslog_c.proofs.StrictLemmas.{strict_put}
 use Rattle.syslog_c.proofs.strict.write_strict.Goals as goal

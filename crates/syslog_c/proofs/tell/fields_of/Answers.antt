@@ -1,6 +1,4 @@
-use Rattle.std.proofs.Common.{◌≡◌, ◌∙◌, ap, sym, subst, rules, w32, to_z, of_z, Option}
-use Rattle.syslog_pieces.specs.Pieces.Class.{Text}
-use Rattle.syslog_pieces.specs.StructuredData.Visited.{list_elements}
+use Rattle.syslog_c.proofs.Words.{◌≡◌, ◌∙◌, ap, sym, subst, rules, w32, to_z, of_z, Option, Text, list_elements}
 use Rattle.syslog_pieces.specs.declared.procid.ProcId.{ProcId}
 use Rattle.syslog_c.specs.Fields.{IsProcess, facility_code, protocol_number, severity_code, version_number}
 use Rattle.syslog_c.proofs.ArrayLemmas.{all_params_length}

@@ -1,6 +1,6 @@
-use Rattle.syslog_pieces.proofs.Names.{append-nil, sym, [], ◌∷◌, ◌∙◌, ap, List, ℕ, ◌≡◌, chars_past_char, chars-nil, chars}
-use Rattle.std.proofs.lemmas.Str.{IsUtf8-encode}
-use Rattle.std.specs.Char.{encode_utf8}
+use Rattle.syslog_c.proofs.Words.{chars-nil}
+use Rattle.syslog_pieces.proofs.Names.{append-nil, sym, [], ◌∷◌, ◌∙◌, ap, List, ℕ, ◌≡◌, chars_past_char, chars}
+use Rattle.std.{proofs.lemmas.Str.IsUtf8-encode, specs.Char.encode_utf8}
 use Rattle.syslog_c.proofs.unescape.push_char.Goals as goal
 
 pub returns : goal.returns

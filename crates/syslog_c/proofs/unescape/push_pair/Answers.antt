@@ -1,5 +1,4 @@
-use Rattle.std.proofs.Common.{rules, ◌≡◌, [], ◌∷◌}
-use Rattle.syslog_pieces.specs.StructuredData.Escapes.{pair_meaning}
+use Rattle.syslog_c.proofs.Words.{rules, ◌≡◌, [], ◌∷◌, pair_meaning}
 use Rattle.syslog_c.proofs.TextLemmas.{text_after, text_along}
 use Rattle.syslog_c.proofs.unescape.push_pair.Goals as goal
 

@@ -1,7 +1,6 @@
+use Rattle.syslog_c.{proofs.Words.pair_meaning, proofs.TextLemmas.text_after, proofs.TextLemmas.text_none}
 use Rattle.syslog_pieces.proofs.Names.{rules, true, false, refl, [], ◌++◌, chars}
 use Rattle.syslog_pieces.proofs.StructuredDataLemmas.Units.{removes_here, removes_end, removes_pair, backslash}
-use Rattle.syslog_pieces.specs.StructuredData.Escapes.{pair_meaning}
-use Rattle.syslog_c.proofs.TextLemmas.{text_after, text_none}
 use Rattle.syslog_c.proofs.unescape.push_unescaped.Goals as goal
 
 pub units-init : goal.units-init

@@ -1,9 +1,6 @@
-use Rattle.std.proofs.Common.{length}
+use Rattle.syslog_c.proofs.Words.{length, Text, TakesText}
 use Rattle.std.specs.Str.{chars}
-use Rattle.syslog_pieces.specs.Pieces.Class.{Text}
-use Rattle.syslog_pieces.proofs.Names.{shadow, Utf8}
-use Rattle.syslog_pieces.proofs.StructuredDataLemmas.Units.{Removes}
-use Rattle.syslog_c.specs.Room.{TakesText}
+use Rattle.syslog_pieces.{proofs.Names.shadow, proofs.Names.Utf8, proofs.StructuredDataLemmas.Units.Removes}
 use Rattle.syslog_c.proofs.unescape.push_unescaped.Given as goal
 
 -- what was put up to here

@@ -1,6 +1,5 @@
-use Rattle.std.proofs.Common.{◌∙◌, ℕ, List, [], inl, rules, sym, subst}
+use Rattle.syslog_c.proofs.Words.{◌∙◌, ℕ, List, [], inl, rules, sym, subst, Text}
 use Rattle.std.specs.Str.{chars}
-use Rattle.syslog_pieces.specs.Pieces.Class.{Text}
 use Rattle.syslog_pieces.specs.StructuredData.Escapes.{IsUnescaped}
 use Rattle.syslog_c.specs.Texts.{IsUnescapedValue, Unescaped}
 use Rattle.syslog_c.proofs.TextLemmas.{taken_none, told, with_room}

@@ -1,4 +1,4 @@
-use Rattle.std.proofs.Common.{◌∙◌}
+use Rattle.syslog_json.proofs.Names.{◌∙◌}
 use Rattle.syslog_lines.proofs.AnswerLemmas.{IfErr-passed}
 use Rattle.syslog_json.proofs.filter.write_objects.Goals as goal
 

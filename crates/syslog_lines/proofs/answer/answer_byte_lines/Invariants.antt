@@ -1,5 +1,4 @@
-use Rattle.std.proofs.Common.{length}
-use Rattle.syslog_lines.proofs.AnswerLemmas.{GoesOn}
+use Rattle.syslog_lines.{proofs.AnswerLemmas.GoesOn, proofs.Names.length}
 use Rattle.syslog_lines.proofs.answer.answer_byte_lines.Given as goal
 
 abbrev pub invariant-loop-rest : goal.invariant-loop-rest

@@ -1,4 +1,4 @@
-use Rattle.std.proofs.Common.{rules}
+use Rattle.syslog_lines.proofs.Names.{rules}
 use Rattle.syslog_lines.proofs.AnswerLemmas.{AddsAnswers-stopped, Answered-one, AnswersAll-end, AnswersBefore-here}
 use Rattle.syslog_lines.proofs.AnswerLemmas.{GoesOn-more, some_left}
 use Rattle.syslog_lines.proofs.answer.answer_lines.Goals as goal

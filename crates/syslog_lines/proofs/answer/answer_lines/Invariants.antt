@@ -1,7 +1,6 @@
-use Rattle.std.proofs.Common.{length}
+use Rattle.syslog_lines.{proofs.AnswerLemmas.GoesOn, proofs.Names.length}
 use denote.Shadow.{shadow}
 use denote.Text.{Utf8}
-use Rattle.syslog_lines.proofs.AnswerLemmas.{GoesOn}
 use Rattle.syslog_lines.proofs.answer.answer_lines.Given as goal
 
 abbrev pub invariant-loop-rest : goal.invariant-loop-rest

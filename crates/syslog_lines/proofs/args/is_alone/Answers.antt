@@ -1,5 +1,4 @@
-use Rattle.std.proofs.Common.{arith}
-use Rattle.syslog_lines.proofs.ArgumentLemmas.{word_alone}
+use Rattle.syslog_lines.{proofs.ArgumentLemmas.word_alone, proofs.Names.arith}
 use Rattle.syslog_lines.proofs.args.is_alone.Goals as goal
 
 pub returns-in-len1 : goal.returns-in-len1

@@ -1,8 +1,6 @@
-use Rattle.std.proofs.Common.{ℕ, ◌<◌, length, get_or, arith, refl, w32}
-use Rattle.std.proofs.lemmas.Result.{Ok-from_Ok_iff}
-use Rattle.std.proofs.lemmas.Str.Parse.{digits_value_short, numerals_by_value, parse_signed_digits, tells_by_index}
-use Rattle.std.specs.Int.{IsInRange}
-use Rattle.syslog_lines.specs.Arguments.{IsYear}
+use Rattle.syslog_lines.proofs.Names.{length, get_or, digits_value_short, numerals_by_value, tells_by_index, IsInRange}
+use Rattle.syslog_lines.proofs.Names.{ℕ, ◌<◌, arith, refl, w32, IsYear}
+use Rattle.std.{proofs.lemmas.Result.Ok-from_Ok_iff, proofs.lemmas.Str.Parse.parse_signed_digits}
 use Rattle.syslog_lines.proofs.args.read_year.Goals as goal
 
 pub returns : goal.returns

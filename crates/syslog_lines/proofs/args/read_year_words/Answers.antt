@@ -1,4 +1,4 @@
-use Rattle.std.proofs.Common.{arith, sym, ◌∙◌}
+use Rattle.syslog_lines.proofs.Names.{arith, sym, ◌∙◌}
 use Rattle.syslog_lines.proofs.ArgumentLemmas.{year_behind}
 use Rattle.syslog_lines.proofs.args.read_year_words.Goals as goal
 

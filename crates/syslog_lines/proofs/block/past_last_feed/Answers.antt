@@ -1,4 +1,4 @@
-use Rattle.std.proofs.Common.{◌+◌, arith}
+use Rattle.syslog_lines.proofs.Names.{◌+◌, arith}
 use Rattle.syslog_lines.proofs.FeedLemmas.{others_on}
 use Rattle.syslog_lines.proofs.block.past_last_feed.Goals as goal
 

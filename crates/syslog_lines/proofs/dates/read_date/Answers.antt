@@ -1,5 +1,4 @@
-use Rattle.std.proofs.Common.{None}
-use Rattle.syslog_lines.proofs.DateLemmas.{date_parts}
+use Rattle.syslog_lines.{proofs.DateLemmas.date_parts, proofs.Names.None}
 use Rattle.syslog_lines.proofs.dates.read_date.Goals as goal
 
 pub returns-in_err-read_year-in-None : goal.returns-in_err-read_year-in-None

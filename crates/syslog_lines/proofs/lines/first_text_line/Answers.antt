@@ -1,6 +1,4 @@
-use Rattle.std.proofs.Common.{arith, ◌∙◌}
-use Rattle.std.proofs.lemmas.Bool.{eqb-true}
-use Rattle.std.proofs.lemmas.Slice.{between_is}
+use Rattle.syslog_lines.proofs.Names.{arith, ◌∙◌, eqb-true, between_is}
 use Rattle.std.proofs.lemmas.Str.{lead_after_ascii}
 use Rattle.syslog_lines.proofs.LineLemmas.{IsFirstLine-at_feed, IsFirstLine-whole}
 use Rattle.syslog_lines.proofs.lines.first_text_line.Goals as goal

@@ -1,10 +1,7 @@
-use Rattle.std.proofs.Common.{arith, length, refl, true}
-use Rattle.std.proofs.KnownBytes.{Appends-kept}
-use Rattle.std.proofs.lemmas.List.{take_all}
-use Rattle.syslog_lines.specs.declared.summary.RunFault.TheVariants.{Memory, Write}
+use Rattle.syslog_lines.proofs.Names.{arith, length, refl, true, Appends-kept, take_all, Memory, Write}
 use Rattle.syslog_lines.proofs.AnswerLemmas.{IfErr-passed}
-use Rattle.syslog_lines.proofs.PumpLemmas.{EndsEarly-last, EndsEarly-more, EndsEarly-stopped, EndsEarly-unbegun}
-use Rattle.syslog_lines.proofs.PumpLemmas.{PumpedSoFar-more, PumpedSoFar-start, PumpsAll-last}
+use Rattle.syslog_lines.proofs.PumpLemmas.{EndsEarly-stopped, EndsEarly-unbegun, PumpedSoFar-more, PumpedSoFar-start}
+use Rattle.syslog_lines.proofs.PumpLemmas.{EndsEarly-last, EndsEarly-more, PumpsAll-last}
 use Rattle.syslog_lines.proofs.WriteLemmas.{AnswersAll-begun, AnswersAll-moved}
 use Rattle.syslog_lines.proofs.pump.pump.Goals as goal
 

@@ -1,5 +1,4 @@
-use Rattle.std.proofs.Common.{◌≡◌, ◌-◌, ◌^◌, false}
-use Rattle.syslog_lines.specs.Block.{cut_bytes}
+use Rattle.syslog_lines.proofs.Names.{◌≡◌, ◌-◌, ◌^◌, false, cut_bytes}
 use Rattle.syslog_lines.proofs.PumpLemmas.{PumpedSoFar}
 use Rattle.syslog_lines.proofs.pump.pump.Given as goal
 

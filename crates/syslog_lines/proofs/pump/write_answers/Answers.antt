@@ -1,7 +1,6 @@
-use Rattle.syslog_lines.proofs.AnswerLemmas.{IfErr-passed}
-use Rattle.syslog_lines.proofs.WriteLemmas.{AnswersAll-moved, AnswersBefore-moved, WritesFirst-begun}
-use Rattle.syslog_lines.proofs.WriteLemmas.{appends_collected, begins_collected}
-use Rattle.syslog_lines.specs.declared.summary.RunFault.TheVariants.{Memory}
+use Rattle.syslog_lines.{proofs.AnswerLemmas.IfErr-passed, proofs.Names.Memory}
+use Rattle.syslog_lines.proofs.WriteLemmas.{AnswersAll-moved, AnswersBefore-moved, WritesFirst-begun, appends_collected}
+use Rattle.syslog_lines.proofs.WriteLemmas.{begins_collected}
 use Rattle.syslog_lines.proofs.pump.write_answers.Goals as goal
 
 pub returns-in_err-write_whole-clause-err : goal.returns-in_err-write_whole-clause-err

@@ -1,4 +1,4 @@
-use Rattle.std.proofs.Common.{◌∙◌}
+use Rattle.syslog_lines.proofs.Names.{◌∙◌}
 use Rattle.syslog_lines.proofs.WriteLemmas.{WroteSoFar-more, WroteSoFar-front}
 use Rattle.syslog_lines.proofs.pump.write_whole.Goals as goal
 

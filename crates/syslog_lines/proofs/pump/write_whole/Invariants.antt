@@ -1,4 +1,4 @@
-use Rattle.std.proofs.Common.{◌≡◌, length, false}
+use Rattle.syslog_lines.proofs.Names.{◌≡◌, length, false}
 use Rattle.syslog_lines.proofs.WriteLemmas.{WroteSoFar}
 use Rattle.syslog_lines.proofs.pump.write_whole.Given as goal
 

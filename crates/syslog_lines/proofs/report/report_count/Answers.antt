@@ -1,5 +1,5 @@
-use Rattle.std.proofs.Common.{◌≡◌, ◌==◌, ◌∙◌, false, rules}
-use Rattle.std.specs.Fmt.InlineText.{inline_text}
+use Rattle.syslog_lines.proofs.Names.{◌≡◌, ◌∙◌, false, rules, inline_text}
+use Rattle.std.proofs.Common.{◌==◌}
 use Rattle.syslog_lines.proofs.ReportLemmas.{WritesFront-same, put_together}
 use Rattle.syslog_lines.specs.Report.{count_line}
 use Rattle.syslog_lines.proofs.report.report_count.Goals as goal

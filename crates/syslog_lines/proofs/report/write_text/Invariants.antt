@@ -1,5 +1,4 @@
-use Rattle.std.proofs.Common.{length}
-use Rattle.syslog_lines.proofs.WriteLemmas.{WroteSoFar}
+use Rattle.syslog_lines.{proofs.Names.length, proofs.WriteLemmas.WroteSoFar}
 use Rattle.syslog_lines.proofs.report.write_text.Given as goal
 
 abbrev pub invariant-loop-rest : goal.invariant-loop-rest

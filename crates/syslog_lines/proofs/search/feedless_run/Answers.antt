@@ -1,7 +1,6 @@
-use Rattle.std.proofs.Common.{ℕ, refl}
-use Rattle.std.proofs.lemmas.Simd.{zip2_splat, length-chunk}
+use Rattle.syslog_lines.{proofs.LaneLemmas.run_from_mask, proofs.Names.ℕ, proofs.Names.refl, proofs.Names.length-chunk}
+use Rattle.std.proofs.lemmas.Simd.{zip2_splat}
 use lib.Lanes.{chunk}
-use Rattle.syslog_lines.proofs.LaneLemmas.{run_from_mask}
 use Rattle.syslog_lines.proofs.search.feedless_run.Goals as goal
 
 pub returns : goal.returns

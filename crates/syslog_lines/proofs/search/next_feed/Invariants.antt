@@ -1,4 +1,4 @@
-use Rattle.std.proofs.Common.{◌≢◌, ℕ, ◌-◌, ◌<◌, ◌≤◌, slice_index}
+use Rattle.syslog_lines.proofs.Names.{◌≢◌, ℕ, ◌-◌, ◌<◌, ◌≤◌, slice_index}
 use Rattle.syslog_lines.proofs.search.next_feed.Given as goal
 
 abbrev pub invariant-loop-seen : goal.invariant-loop-seen

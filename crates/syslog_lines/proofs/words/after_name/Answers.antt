@@ -1,8 +1,7 @@
-use Rattle.std.proofs.Common.{◌≡◌, ℕ, List, [], ◌∷◌, ◌++◌, MatchOption, Option, Some, None, arith, drop, length, refl, ◌∙◌}
-use Rattle.std.proofs.lemmas.Iterator.{items_from_collect}
-use Rattle.std.proofs.lemmas.Iterator.Adapters.{YieldsList-from_vec}
-use Rattle.std.proofs.lemmas.Result.{IfOk-weaker}
-use Rattle.std.specs.Option.{option_to_list}
+use Rattle.syslog_lines.proofs.Names.{◌≡◌, List, ◌∷◌, ◌++◌, MatchOption, Option, Some, None, arith, drop, length, refl}
+use Rattle.syslog_lines.proofs.Names.{ℕ, [], ◌∙◌}
+use Rattle.std.{proofs.lemmas.Iterator.Adapters.YieldsList-from_vec, proofs.lemmas.Iterator.items_from_collect}
+use Rattle.std.{proofs.lemmas.Result.IfOk-weaker, specs.Option.option_to_list}
 use Rattle.syslog_lines.proofs.words.after_name.Goals as goal
 
 after_first : {X : Type 0} (Is : X → Type 0) (r : Option X) (old new : List X) (m n : ℕ) → n ≡ length new

@@ -1,6 +1,4 @@
-use Rattle.std.proofs.Common.{[], ◌∷◌, ap, inr, ◌∙◌}
-use Rattle.std.proofs.lemmas.Result.{MatchResult-weaker}
-use Rattle.syslog_lines.specs.Arguments.{end_word}
+use Rattle.syslog_lines.proofs.Names.{[], ◌∷◌, ap, inr, ◌∙◌, MatchResult-weaker, end_word}
 use Rattle.syslog_lines.proofs.WordLemmas.{among_later, date_after_dash}
 use Rattle.syslog_lines.proofs.words.read_date_words.Goals as goal
 

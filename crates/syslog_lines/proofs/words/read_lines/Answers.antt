@@ -1,9 +1,9 @@
-use Rattle.std.proofs.Common.{◌≡◌, ◌∙◌, ap, not, rules, to_z, of_z, w32}
+use Rattle.syslog_lines.proofs.Names.{◌≡◌, ◌∙◌, ap, not, rules, to_z, of_z, w32, raw_flag}
 use Rattle.std.proofs.lemmas.Result.{err_from_is_err_and}
-use Rattle.syslog_lines.proofs.WordLemmas.{among_later, date_in_range, left_after_raw, left_after_zone, left_last, no_zone, offset_in_range}
-use Rattle.syslog_lines.specs.Words.{raw_flag}
-use Rattle.syslog_lines.proofs.words.read_lines.Goals as goal
+use Rattle.syslog_lines.proofs.WordLemmas.{among_later, date_in_range, left_after_raw, left_after_zone, offset_in_range}
+use Rattle.syslog_lines.proofs.WordLemmas.{left_last, no_zone}
 use Rattle.syslog_lines.proofs.words.read_lines.Goals.{then-has_raw, else-has_raw}
+use Rattle.syslog_lines.proofs.words.read_lines.Goals as goal
 
 pub returns-in_err-offset : goal.returns-in_err-offset
 returns-in_err-offset c =

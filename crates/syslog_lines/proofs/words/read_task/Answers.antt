@@ -1,10 +1,7 @@
-use Rattle.std.proofs.Common.{◌≡◌, Bool, IsTrue, ℕ, List, [], ◌∷◌}
+use Rattle.syslog_lines.proofs.Names.{◌≡◌, Bool, IsTrue, ℕ, List, [], ◌∷◌, MatchResult-weaker, AskForLines, Dates}
 use Rattle.std.proofs.lemmas.Bool.{iff_false}
-use Rattle.std.proofs.lemmas.Result.{MatchResult-weaker}
-use Rattle.syslog_lines.specs.Arguments.{help_word, version_word}
-use Rattle.syslog_lines.specs.Words.{AskForLines, AsksFor}
-use Rattle.syslog_lines.specs.declared.dates.Dates.{Dates}
-use Rattle.syslog_lines.specs.declared.words.Task.{Task}
+use Rattle.syslog_lines.{specs.Arguments.help_word, specs.Arguments.version_word, specs.declared.words.Task.Task}
+use Rattle.syslog_lines.specs.Words.{AsksFor}
 use Rattle.syslog_lines.specs.declared.words.Task.TheVariants.{Help, Version, Lines}
 use Rattle.syslog_lines.proofs.words.read_task.Goals as goal
 

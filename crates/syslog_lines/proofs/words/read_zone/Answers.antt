@@ -1,6 +1,7 @@
-use Rattle.std.proofs.Common.{arith, string_bytes, ◌≡◌, get_or, ℕ, List, [], ◌∷◌, inr, refl, rules, to_z, of_z, w32, ◌∙◌, sym, ap, subst}
-use Rattle.syslog_lines.specs.Arguments.{NamesOffset}
-use Rattle.syslog_lines.specs.Words.{texts, offset_word}
+use Rattle.syslog_lines.proofs.Names.{arith, get_or, List, [], refl, rules, to_z, of_z, subst, NamesOffset, offset_word}
+use Rattle.syslog_lines.proofs.Names.{◌≡◌, ℕ, ◌∷◌, inr, w32, ◌∙◌, sym, ap}
+use Rattle.std.proofs.Common.{string_bytes}
+use Rattle.syslog_lines.specs.Words.{texts}
 use Rattle.syslog_lines.proofs.words.read_zone.Goals as goal
 
 pub returns-in-Some-read_offset : goal.returns-in-Some-read_offset

@@ -1,5 +1,4 @@
-use Rattle.std.proofs.Common.{◌≡◌, ◌≤◌, ◌++◌, length, map, take}
-use Rattle.syslog_pieces.specs.StructuredData.Visited.{element_seen, params_left}
+use Rattle.syslog_object.proofs.Names.{◌≡◌, ◌≤◌, ◌++◌, length, map, take, element_seen, params_left}
 use Rattle.syslog_object.proofs.GatherLemmas.{param_seen}
 use Rattle.syslog_object.proofs.element.push_few_params.Given as goal
 

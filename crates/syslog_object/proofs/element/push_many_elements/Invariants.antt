@@ -1,5 +1,5 @@
-use Rattle.std.proofs.Common.{◌≡◌, ◌++◌, map}
-use Rattle.syslog_pieces.specs.StructuredData.Visited.{element_seen, elements_left, list_elements}
+use Rattle.syslog_object.proofs.Names.{◌≡◌, ◌++◌, map, element_seen, list_elements}
+use Rattle.syslog_pieces.specs.StructuredData.Visited.{elements_left}
 use Rattle.syslog_object.proofs.element.push_many_elements.Given as goal
 
 abbrev pub invariant-loop-element : goal.invariant-loop-element

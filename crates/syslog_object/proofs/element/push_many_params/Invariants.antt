@@ -1,5 +1,4 @@
-use Rattle.std.proofs.Common.{◌≡◌, ◌++◌, map}
-use Rattle.syslog_pieces.specs.StructuredData.Visited.{element_seen, params_left}
+use Rattle.syslog_object.proofs.Names.{◌≡◌, ◌++◌, map, element_seen, params_left}
 use Rattle.syslog_object.proofs.GatherLemmas.{param_seen}
 use Rattle.syslog_object.proofs.element.push_many_params.Given as goal
 

@@ -1,4 +1,4 @@
-use Rattle.std.proofs.lemmas.List.{nil_from_length}
+use Rattle.syslog_object.proofs.Names.{nil_from_length}
 use Rattle.syslog_object.proofs.EscapeLemmas.{run_written, byte_written, all_written}
 use Rattle.syslog_object.proofs.escapes.push_escaped.Goals as goal
 

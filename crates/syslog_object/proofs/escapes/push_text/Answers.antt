@@ -1,5 +1,4 @@
-use Rattle.std.proofs.Common.{sym, ap, ◌∙◌}
-use Rattle.json.specs.Print.{escape}
+use Rattle.syslog_object.proofs.Names.{sym, ap, ◌∙◌, escape}
 use Rattle.syslog_object.proofs.EscapeLemmas.{appended, plain_escape}
 use Rattle.syslog_object.proofs.escapes.push_text.Goals as goal
 

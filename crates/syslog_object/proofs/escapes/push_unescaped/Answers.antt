@@ -1,8 +1,6 @@
-use Rattle.std.proofs.Common.{ap}
-use Rattle.syslog_object.specs.Object.{unescaped}
-use Rattle.std.proofs.lemmas.List.{nil_from_length}
-use Rattle.syslog_object.proofs.EscapeLemmas.{value_run_written, value_byte_written, pair_written, value_all_written}
-use Rattle.syslog_object.proofs.EscapeLemmas.{lone_backslash, pair_begins, other_byte}
+use Rattle.syslog_object.proofs.Names.{ap, unescaped, nil_from_length}
+use Rattle.syslog_object.proofs.EscapeLemmas.{value_run_written, value_byte_written, value_all_written, lone_backslash}
+use Rattle.syslog_object.proofs.EscapeLemmas.{pair_written, pair_begins, other_byte}
 use Rattle.syslog_object.proofs.escapes.push_unescaped.Goals as goal
 
 pub returns-in_default : goal.returns-in_default

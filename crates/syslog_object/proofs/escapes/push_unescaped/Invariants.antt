@@ -1,6 +1,4 @@
-use Rattle.std.proofs.Common.{◌≡◌, ◌++◌, length}
-use Rattle.json.specs.Print.{escape}
-use Rattle.syslog_object.specs.Object.{unescaped}
+use Rattle.syslog_object.proofs.Names.{◌≡◌, ◌++◌, length, escape, unescaped}
 use Rattle.syslog_object.proofs.escapes.push_unescaped.Given as goal
 
 abbrev pub invariant-runs : goal.invariant-runs

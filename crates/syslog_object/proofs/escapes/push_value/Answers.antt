@@ -1,6 +1,4 @@
-use Rattle.std.proofs.Common.{sym, ap, ◌∙◌}
-use Rattle.json.specs.Print.{escape}
-use Rattle.syslog_object.specs.Object.{unescaped}
+use Rattle.syslog_object.proofs.Names.{sym, ap, ◌∙◌, escape, unescaped}
 use Rattle.syslog_object.proofs.EscapeLemmas.{appended, plain_value}
 use Rattle.syslog_object.proofs.escapes.push_value.Goals as goal
 

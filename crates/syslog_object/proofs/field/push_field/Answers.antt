@@ -1,4 +1,4 @@
-use Rattle.std.proofs.lemmas.Str.{encodes-chars}
+use Rattle.syslog_object.proofs.Names.{encodes-chars}
 use Rattle.syslog_object.proofs.field.push_field.Goals as goal
 
 pub returns-in-Some : goal.returns-in-Some

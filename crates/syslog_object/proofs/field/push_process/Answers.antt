@@ -1,4 +1,4 @@
-use Rattle.std.proofs.lemmas.Str.{encodes-chars}
+use Rattle.syslog_object.proofs.Names.{encodes-chars}
 use Rattle.syslog_object.proofs.field.push_process.Goals as goal
 
 pub returns-in-Some-Name : goal.returns-in-Some-Name

@@ -1,7 +1,5 @@
-use Rattle.std.proofs.Common.{◌≡◌, ap, ◌∙◌, subst}
-use Rattle.std.proofs.lemmas.Int.{to_z-of_z}
-use Rattle.std.proofs.lemmas.Str.{encodes-IsAscii}
-use Rattle.std.specs.Fmt.{signed_decimal}
+use Rattle.syslog_object.proofs.Names.{◌≡◌, ap, ◌∙◌, subst}
+use Rattle.std.{proofs.lemmas.Int.to_z-of_z, proofs.lemmas.Str.encodes-IsAscii, specs.Fmt.signed_decimal}
 use Rattle.std.specs.Str.{IsAscii}
 use Rattle.syslog_object.proofs.field.push_process_number.Goals as goal
 

@@ -1,4 +1,4 @@
-use Rattle.std.proofs.Common.{sym, ◌∙◌}
+use Rattle.syslog_object.proofs.Names.{sym, ◌∙◌}
 use Rattle.json.specs.Print.{escape_byte}
 use Rattle.syslog_object.proofs.field.push_timestamp.Goals as goal
 

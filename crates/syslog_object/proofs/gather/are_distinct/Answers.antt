@@ -1,6 +1,4 @@
-use Rattle.std.proofs.lemmas.List.{nil_from_length}
-use Rattle.syslog_object.specs.Parts.{AreDistinct}
-use Rattle.syslog_object.proofs.GatherLemmas.{of_keys}
+use Rattle.syslog_object.{proofs.GatherLemmas.of_keys, proofs.Names.nil_from_length, proofs.Names.AreDistinct}
 use Rattle.syslog_object.proofs.gather.are_distinct.Goals as goal
 
 pub returns-in_default : goal.returns-in_default

@@ -1,5 +1,4 @@
-use Rattle.std.proofs.Common.{length, map}
-use Rattle.syslog_object.specs.Parts.{AreDistinct}
+use Rattle.syslog_object.proofs.Names.{length, map, AreDistinct}
 use Rattle.syslog_object.proofs.gather.are_distinct.Given as goal
 
 abbrev pub invariant-members : goal.invariant-members

@@ -1,8 +1,8 @@
-use Rattle.std.proofs.Common.{arith, refl, sym, ◌∙◌, ap}
+use Rattle.syslog_object.proofs.Names.{arith, refl, sym, ◌∙◌, ap}
 use Rattle.std.proofs.lemmas.Grind.{text_groups}
 use Rattle.syslog_object.proofs.GatherLemmas.{key_is_new, key_is_old, taken_more}
-use Rattle.syslog_object.proofs.gather.gather.Goals as goal
 use Rattle.syslog_object.proofs.gather.gather.Goals.{then-not-contains_key+in_ok-push, else-not-contains_key}
+use Rattle.syslog_object.proofs.gather.gather.Goals as goal
 
 pub loop-member-preserved : goal.loop-member-preserved
 loop-member-preserved g c =

@@ -1,9 +1,6 @@
-use Rattle.std.proofs.Common.{◌≡◌, List, ℕ, [], map, take, bytes_eq, nat_cmp}
-use Rattle.std.specs.BTreeMap.{get_by}
-use Rattle.std.specs.Cmp.Lexicographic.{slice_cmp}
-use Rattle.std.specs.List.{filter, list_any}
-use Rattle.std.specs.Option.{is_some, option_map_or}
-use Rattle.syslog_object.specs.Gathered.{first_keys}
+use Rattle.syslog_object.proofs.Names.{◌≡◌, List, ℕ, [], map, take, bytes_eq, filter, list_any, first_keys}
+use Rattle.std.{proofs.Common.nat_cmp, specs.BTreeMap.get_by}
+use Rattle.std.{specs.Cmp.Lexicographic.slice_cmp, specs.Option.is_some, specs.Option.option_map_or}
 use Rattle.syslog_object.proofs.gather.gather.Given as goal
 
 abbrev pub invariant-loop-member : goal.invariant-loop-member

@@ -1,5 +1,4 @@
-use Rattle.std.proofs.Common.{sym}
-use Rattle.syslog_object.specs.Parts.{IsNewKey}
+use Rattle.syslog_object.proofs.Names.{sym, IsNewKey}
 use Rattle.syslog_object.proofs.GatherLemmas.{at_place, nothing_after, of_keys}
 use Rattle.syslog_object.proofs.gather.is_new.Goals as goal
 

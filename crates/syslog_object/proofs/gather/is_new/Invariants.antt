@@ -1,5 +1,4 @@
-use Rattle.std.proofs.Common.{drop, map}
-use Rattle.syslog_object.specs.Parts.{IsNewKey}
+use Rattle.syslog_object.proofs.Names.{drop, map, IsNewKey}
 use Rattle.syslog_object.proofs.gather.is_new.Given as goal
 
 abbrev pub invariant-loop-member : goal.invariant-loop-member

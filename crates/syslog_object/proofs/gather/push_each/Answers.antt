@@ -1,7 +1,6 @@
-use Rattle.std.proofs.lemmas.List.{nil_from_length}
-use Rattle.syslog_object.proofs.EscapeLemmas.{appended}
-use Rattle.syslog_object.proofs.GatherLemmas.{at_place, first_written, last_written, next_written, none_written}
-use Rattle.syslog_object.proofs.GatherLemmas.{nothing_after}
+use Rattle.syslog_object.{proofs.EscapeLemmas.appended, proofs.Names.nil_from_length}
+use Rattle.syslog_object.proofs.GatherLemmas.{first_written, last_written, next_written, none_written, nothing_after}
+use Rattle.syslog_object.proofs.GatherLemmas.{at_place}
 use Rattle.syslog_object.proofs.gather.push_each.Goals as goal
 
 pub returns-in_default : goal.returns-in_default

@@ -1,5 +1,4 @@
-use Rattle.std.proofs.Common.{◌≡◌, ◌++◌, drop, map}
-use Rattle.syslog_object.specs.Parts.{members_after, object_text}
+use Rattle.syslog_object.proofs.Names.{◌≡◌, ◌++◌, drop, map, members_after, object_text}
 use Rattle.syslog_object.proofs.gather.push_each.Given as goal
 
 abbrev pub invariant-loop-member : goal.invariant-loop-member

@@ -1,6 +1,4 @@
-use Rattle.std.proofs.Common.{◌∙◌, sym, get_or, List, ℕ, []}
-use Rattle.std.proofs.lemmas.List.{drop_more, nil_from_length}
-use Rattle.std.specs.Borrow.{Bor}
+use Rattle.syslog_object.proofs.Names.{◌∙◌, sym, get_or, List, ℕ, [], drop_more, nil_from_length, Bor}
 use Rattle.syslog_object.proofs.EscapeLemmas.{appended}
 use Rattle.syslog_object.proofs.GatherLemmas.{first_group, last_written, next_group, no_group, nothing_after, value_of}
 use Rattle.syslog_object.proofs.gather.push_gathered.Goals as goal

@@ -1,6 +1,5 @@
-use Rattle.std.proofs.Common.{◌≡◌, ◌++◌, drop, map}
-use Rattle.syslog_object.specs.Gathered.{gathered, one_or_all, values_at}
-use Rattle.syslog_object.specs.Parts.{compact_text, members_after}
+use Rattle.syslog_object.proofs.Names.{◌≡◌, ◌++◌, drop, gathered, one_or_all, values_at, compact_text, members_after}
+use Rattle.syslog_object.proofs.Names.{map}
 use Rattle.syslog_object.proofs.gather.push_gathered.Given as goal
 
 abbrev pub invariant-loop-key : goal.invariant-loop-key

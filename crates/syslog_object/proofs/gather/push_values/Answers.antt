@@ -1,8 +1,8 @@
-use Rattle.std.proofs.Common.{rules, sym, ◌∙◌}
-use Rattle.std.proofs.lemmas.List.{nil_from_length}
+use Rattle.syslog_object.proofs.Names.{sym, ◌∙◌, nil_from_length}
+use Rattle.std.proofs.Common.{rules}
 use Rattle.syslog_object.proofs.EscapeLemmas.{appended}
-use Rattle.syslog_object.proofs.GatherLemmas.{alone, at_place, first_value, last_value, next_value, no_value}
-use Rattle.syslog_object.proofs.GatherLemmas.{nothing_after}
+use Rattle.syslog_object.proofs.GatherLemmas.{at_place, first_value, last_value, next_value, no_value, nothing_after}
+use Rattle.syslog_object.proofs.GatherLemmas.{alone}
 use Rattle.syslog_object.proofs.gather.push_values.Goals as goal
 
 pub returns-in_default : goal.returns-in_default

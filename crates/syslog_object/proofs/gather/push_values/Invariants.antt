@@ -1,7 +1,4 @@
-use Rattle.std.proofs.Common.{◌≡◌, ◌++◌, true, drop, map}
-use Rattle.json.specs.Value.{items_of}
-use Rattle.syslog_object.specs.Gathered.{one_or_all}
-use Rattle.syslog_object.specs.Parts.{compact_text, items_text}
+use Rattle.syslog_object.proofs.Names.{◌≡◌, ◌++◌, true, drop, map, items_of, one_or_all, compact_text, items_text}
 use Rattle.syslog_object.proofs.gather.push_values.Given as goal
 
 abbrev pub invariant-loop-member : goal.invariant-loop-member

@@ -1,9 +1,5 @@
-use Rattle.std.proofs.Common.{[], ◌∷◌, Some, codes, refl}
-use Rattle.std.specs.Option.{option_map}
-use Rattle.syslog_pieces.specs.Pieces.View.{seen}
-use Rattle.syslog_loose.specs.Line.{line_value}
+use Rattle.syslog_object.proofs.Names.{[], ◌∷◌, Some, codes, refl, option_map, seen, line_value, text_json}
 use Rattle.json.specs.Print.{escape_byte}
-use Rattle.syslog_object.specs.Object.{text_json}
 use Rattle.syslog_object.proofs.WriterLemmas.{closed, name_written}
 use Rattle.syslog_object.proofs.object.push_back.Goals as goal
 

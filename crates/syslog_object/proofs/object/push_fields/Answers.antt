@@ -1,6 +1,4 @@
-use Rattle.std.proofs.lemmas.Result.{on_ok_weaker}
-use Rattle.syslog_pieces.specs.Pieces.View.{seen}
-use Rattle.syslog_loose.specs.Line.{line_value}
+use Rattle.syslog_object.proofs.Names.{on_ok_weaker, seen, line_value}
 use Rattle.syslog_object.proofs.WriterLemmas.{whole_written}
 use Rattle.syslog_object.proofs.object.push_fields.Goals as goal
 

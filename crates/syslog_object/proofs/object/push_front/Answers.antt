@@ -1,10 +1,5 @@
-use Rattle.std.proofs.Common.{codes, ◌++◌}
-use Rattle.std.proofs.lemmas.Result.{on_ok_weaker}
-use Rattle.std.specs.Option.{option_map}
-use Rattle.syslog_pieces.specs.ProcId.{procid_text}
-use Rattle.syslog_loose.specs.Line.{line_value}
-use Rattle.syslog_object.specs.Object.{timestamp_json}
-use Rattle.syslog_object.specs.Parts.{facility_fields, field_text, protocol_fields, severity_fields, text_field}
+use Rattle.syslog_object.proofs.Names.{on_ok_weaker, timestamp_json, facility_fields, protocol_fields, severity_fields}
+use Rattle.syslog_object.proofs.Names.{codes, ◌++◌, option_map, procid_text, line_value, field_text, text_field}
 use Rattle.syslog_object.proofs.WriterLemmas.{more}
 use Rattle.syslog_object.proofs.object.push_front.Goals as goal
 

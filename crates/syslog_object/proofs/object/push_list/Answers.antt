@@ -1,7 +1,5 @@
-use Rattle.std.proofs.Common.{refl}
-use Rattle.std.proofs.lemmas.Result.{on_ok_weaker}
+use Rattle.syslog_object.proofs.Names.{refl, on_ok_weaker, list_elements}
 use Rattle.json.specs.Print.{escape_byte}
-use Rattle.syslog_pieces.specs.StructuredData.Visited.{list_elements}
 use Rattle.syslog_object.proofs.WriterLemmas.{list_field, two_appended}
 use Rattle.syslog_object.proofs.object.push_list.Goals as goal
 

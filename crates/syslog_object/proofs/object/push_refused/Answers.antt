@@ -1,7 +1,6 @@
-use Rattle.std.proofs.Common.{append_assoc, [], ◌∷◌}
-use Rattle.json.specs.Print.{escape, escape_byte}
-use Rattle.syslog_object.proofs.EscapeLemmas.{three_appended}
-use Rattle.syslog_object.proofs.WrittenLemmas.{text_of_refused}
+use Rattle.syslog_object.proofs.Names.{append_assoc, [], ◌∷◌, escape}
+use Rattle.json.specs.Print.{escape_byte}
+use Rattle.syslog_object.{proofs.EscapeLemmas.three_appended, proofs.WrittenLemmas.text_of_refused}
 use Rattle.syslog_object.proofs.object.push_refused.Goals as goal
 
 pub returns : goal.returns

@@ -1,9 +1,7 @@
-use Rattle.std.proofs.Common.{◌≡◌, ◌+◌, ℕ, List, Bool, true, false, ◌==◌, refl, subst, sym}
+use Rattle.syslog_object.proofs.Names.{◌≡◌, List, Bool, true, false, ◌==◌, refl, subst, OnTrue, is_plain, PlainBetween}
+use Rattle.syslog_object.proofs.Names.{◌+◌, ℕ, sym}
 use Rattle.std.proofs.lemmas.Bool.{eqb-true}
-use Rattle.std.specs.Bool.{OnTrue}
 use Rattle.syslog_pieces.specs.Bodies.Scan.{IsRunIn}
-use Rattle.json.specs.Run.{is_plain}
-use Rattle.json.specs.Written.{PlainBetween}
 use Rattle.syslog_object.proofs.plain.is_plain_16.Goals as goal
 
 whole_run : (b : Bool) (d : List ℕ) (at run : ℕ) → b ≡ (run == 16) → IsRunIn is_plain d at run

@@ -1,5 +1,4 @@
-use Rattle.std.proofs.Common.{arith}
-use Rattle.json.proofs.Printed.Plain.{plain_from_lanes}
+use Rattle.syslog_object.proofs.Names.{arith, plain_from_lanes}
 use Rattle.syslog_object.proofs.plain.is_plain_8.Goals as goal
 
 pub returns : goal.returns

@@ -1,4 +1,4 @@
-use Rattle.json.specs.Written.{PlainBetween}
+use Rattle.syslog_object.proofs.Names.{PlainBetween}
 use Rattle.syslog_object.proofs.plain.is_plain_few.Given as goal
 
 abbrev pub invariant-loop-byte : goal.invariant-loop-byte

@@ -1,5 +1,4 @@
-use Rattle.std.proofs.Common.{◌-◌, ◌≤◌, length}
-use Rattle.json.specs.Written.{PlainBetween}
+use Rattle.syslog_object.proofs.Names.{◌-◌, ◌≤◌, length, PlainBetween}
 use Rattle.syslog_object.proofs.plain.is_plain_long.Given as goal
 
 abbrev pub invariant-blocks-2 : goal.invariant-blocks-2

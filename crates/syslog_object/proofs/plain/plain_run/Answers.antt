@@ -1,4 +1,5 @@
-use Rattle.std.proofs.Common.{◌≡◌, ◌==◌, ◌||◌, Bool, arith, bit_or, cond, nat_lt, not}
+use Rattle.syslog_object.proofs.Names.{◌≡◌, ◌==◌, ◌||◌, Bool, arith, cond, nat_lt, not}
+use Rattle.std.proofs.Common.{bit_or}
 use lib.Lanes.{top}
 use Rattle.syslog_pieces.proofs.TextLemmas.Runs.{joined, lanes, run_in}
 use Rattle.syslog_object.proofs.plain.plain_run.Goals as goal

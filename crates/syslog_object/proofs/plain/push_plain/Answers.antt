@@ -1,5 +1,4 @@
-use Rattle.std.proofs.Common.{◌++◌, ◌∙◌, ap, length, take}
-use Rattle.std.proofs.Math.Seq.{take-append_seam}
+use Rattle.syslog_object.proofs.Names.{◌++◌, ◌∙◌, ap, length, take, take-append_seam}
 use Rattle.syslog_object.proofs.plain.push_plain.Goals as goal
 
 pub returns : goal.returns

@@ -1,6 +1,5 @@
-use Rattle.std.proofs.Common.{ℕ, ◌≡◌, ◌+◌, ◌++◌, ◌∙◌, ap, arith, length, take}
-use Rattle.std.proofs.Math.Seq.{take-append-add}
-use Rattle.std.proofs.lemmas.List.{take-take}
+use Rattle.syslog_object.proofs.Names.{ℕ, ◌≡◌, ◌+◌, ◌++◌, ◌∙◌, ap, arith, length, take}
+use Rattle.std.{proofs.Math.Seq.take-append-add, proofs.lemmas.List.take-take}
 use Rattle.syslog_object.proofs.plain.push_some.Goals as goal
 
 pub returns : goal.returns

@@ -1,5 +1,5 @@
+use Rattle.syslog_object.proofs.Names.{sym, subst}
 use Rattle.syslog_object.proofs.EscapeLemmas.{Plain, plain_front}
-use Rattle.std.proofs.Common.{sym, subst}
 use Rattle.syslog_object.proofs.plain.split_plain.Goals as goal
 
 pub returns-clause-plain : goal.returns-clause-plain

@@ -1,7 +1,4 @@
-use Rattle.std.proofs.Common.{List, ℕ, sym}
-use Rattle.std.proofs.lemmas.List.{drop_more}
-use Rattle.std.specs.Borrow.{Bor}
-use Rattle.syslog_object.specs.Parts.{IsNewKey}
+use Rattle.syslog_object.proofs.Names.{List, ℕ, sym, drop_more, Bor, IsNewKey}
 use Rattle.syslog_object.proofs.GatherLemmas.{nothing_after, of_keys}
 use Rattle.syslog_object.proofs.writer.is_new_id.Goals as goal
 

@@ -1,5 +1,4 @@
-use Rattle.std.proofs.Common.{drop, map}
-use Rattle.syslog_object.specs.Parts.{IsNewKey}
+use Rattle.syslog_object.proofs.Names.{drop, map, IsNewKey}
 use Rattle.syslog_object.proofs.writer.is_new_id.Given as goal
 
 abbrev pub invariant-loop-other : goal.invariant-loop-other

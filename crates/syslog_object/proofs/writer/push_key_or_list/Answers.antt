@@ -1,5 +1,5 @@
-use Rattle.std.proofs.Common.{◌++◌, ◌∷◌, [], codes, refl}
-use Rattle.json.specs.Print.{escape_byte, quoted}
+use Rattle.syslog_object.proofs.Names.{◌++◌, ◌∷◌, [], codes, refl, quoted}
+use Rattle.json.specs.Print.{escape_byte}
 use Rattle.syslog_object.proofs.EscapeLemmas.{appended}
 use Rattle.syslog_object.proofs.writer.push_key_or_list.Goals as goal
 

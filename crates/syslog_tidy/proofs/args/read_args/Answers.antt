@@ -1,5 +1,4 @@
-use Rattle.std.proofs.Common.{arith, rules, sym, ◌∙◌}
-use Rattle.syslog_tidy.specs.Arguments.{changed_word}
+use Rattle.syslog_tidy.proofs.Names.{arith, rules, sym, ◌∙◌, changed_word}
 use Rattle.syslog_tidy.proofs.ArgumentLemmas.{two_words}
 use Rattle.syslog_tidy.proofs.args.read_args.Goals as goal
 

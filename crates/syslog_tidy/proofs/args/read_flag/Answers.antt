@@ -1,5 +1,4 @@
-use Rattle.std.proofs.Common.{sym, ◌∙◌}
-use Rattle.syslog_tidy.specs.Arguments.{changed_word, refused_word}
+use Rattle.syslog_tidy.proofs.Names.{sym, ◌∙◌, changed_word, refused_word}
 use Rattle.syslog_tidy.proofs.ArgumentLemmas.{flag_first}
 use Rattle.syslog_tidy.proofs.args.read_flag.Goals as goal
 

@@ -1,6 +1,4 @@
-use Rattle.std.proofs.Common.{◌∙◌}
-use Rattle.std.proofs.lemmas.Int.{to_z-of_z}
-use Rattle.syslog_lines.proofs.AnswerLemmas.{IfErr-passed}
+use Rattle.syslog_tidy.proofs.Names.{◌∙◌, to_z-of_z, IfErr-passed}
 use Rattle.syslog_tidy.proofs.filters.changed.Goals as goal
 
 pub returns-in_err-tally-clause-err : goal.returns-in_err-tally-clause-err

@@ -1,10 +1,8 @@
-use Rattle.std.proofs.Common.{◌+◌, ◌-◌, ◌≤◌, ◌∷◌, [], List, arith, ap, sym, subst, length, ◌∙◌, length-append}
+use Rattle.syslog_c.proofs.Words.{arith, length, length-append, element_seen, IsBegun, IsElement, IsParam, all_params}
+use Rattle.syslog_c.proofs.Words.{◌+◌, ◌-◌, ◌≤◌, ◌∷◌, [], List, ap, sym, subst, ◌∙◌, Text}
 use Rattle.std.proofs.lemmas.List.{length-set}
 use borrow.Rule.Slice.PartMut.{put_mid}
-use Rattle.syslog_pieces.specs.Pieces.Class.{Text}
-use Rattle.syslog_pieces.specs.StructuredData.Visited.{element_seen}
 use Rattle.syslog_c.specs.Arrays.{HaveSpace}
-use Rattle.syslog_c.specs.Fields.{IsBegun, IsElement, IsParam, all_params}
 use Rattle.syslog_c.proofs.ArrayLemmas.{all_params_more, begun_next, begun_part, put_length}
 use Rattle.syslog_c.proofs.arrays.ArraysElementVisitor.element.Goals as goal
 

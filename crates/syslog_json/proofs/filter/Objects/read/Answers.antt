@@ -1,5 +1,4 @@
-use Rattle.std.proofs.Common.{◌≡◌, of_z, rules, to_z, w32}
-use Rattle.std.specs.Str.{chars}
+use Rattle.syslog_json.proofs.Names.{◌≡◌, of_z, rules, to_z, w32, chars}
 use Rattle.syslog_json.proofs.UniqueLemmas.{line_read}
 use Rattle.syslog_json.proofs.filter.Objects.read.Goals as goal
 

@@ -1,10 +1,5 @@
-use Rattle.std.proofs.Common.{Option, inl, refl, subst}
-use Rattle.syslog_pieces.specs.Pieces.Class.{Text}
-use Rattle.syslog_loose.specs.Line.{line_value}
-use Rattle.syslog_object.specs.Object.{message_json}
-use Rattle.syslog_object.specs.Written.{IsTextOf}
-use Rattle.syslog_json.proofs.ReadLemmas.{read_as}
-use Rattle.syslog_json.proofs.UniqueLemmas.{only_read, only_refused}
+use Rattle.syslog_json.proofs.Names.{Option, inl, refl, subst, Text, line_value, message_json, IsTextOf}
+use Rattle.syslog_json.{proofs.ReadLemmas.read_as, proofs.UniqueLemmas.only_read, proofs.UniqueLemmas.only_refused}
 use Rattle.syslog_json.proofs.filter.Objects.write_line.Goals as goal
 
 pub returns-in_ok-write-in-Some-clause-ok : goal.returns-in_ok-write-in-Some-clause-ok

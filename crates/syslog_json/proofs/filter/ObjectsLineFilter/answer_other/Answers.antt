@@ -1,4 +1,4 @@
-use Rattle.std.proofs.Common.{inr, refl, ◌∙◌}
+use Rattle.syslog_json.proofs.Names.{inr, refl, ◌∙◌}
 use Rattle.syslog_lines.specs.Output.{Marked}
 use Rattle.syslog_json.proofs.ReadLemmas.{read_as}
 use Rattle.syslog_json.proofs.UniqueLemmas.{only_refused, text_after_nothing}

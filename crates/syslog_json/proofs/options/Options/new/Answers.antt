@@ -1,4 +1,4 @@
-use Rattle.std.proofs.Common.{◌≡◌, of_z, rules, to_z, w32}
+use Rattle.syslog_json.proofs.Names.{◌≡◌, of_z, rules, to_z, w32}
 use Rattle.syslog_json.proofs.options.Options.new.Goals as goal
 
 pub returns-clause-zone : goal.returns-clause-zone

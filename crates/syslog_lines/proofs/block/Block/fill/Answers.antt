@@ -1,5 +1,4 @@
-use Rattle.std.proofs.Common.{◌≡◌, ◌++◌, take, drop, ap, sym, ◌∙◌, List, ℕ}
-use Rattle.syslog_lines.specs.Block.{cut_bytes}
+use Rattle.syslog_lines.proofs.Names.{◌≡◌, ◌++◌, take, drop, ap, sym, ◌∙◌, List, ℕ, cut_bytes}
 use Rattle.std.proofs.Math.Seq.{take-add}
 use Rattle.syslog_lines.proofs.block.Block.fill.Goals as goal
 

@@ -1,4 +1,4 @@
-use Rattle.std.proofs.Common.{◌-◌, take, ap, ◌∙◌, arith}
+use Rattle.syslog_lines.proofs.Names.{◌-◌, take, ap, ◌∙◌, arith}
 use Rattle.syslog_lines.proofs.BlockLemmas.{take-copy_within}
 use Rattle.syslog_lines.proofs.block.Block.keep_cut.Goals as goal
 

@@ -1,5 +1,4 @@
-use Rattle.std.proofs.Common.{sym}
-use Rattle.std.proofs.lemmas.Str.{encodes-chars}
+use Rattle.syslog_object.proofs.Names.{sym, encodes-chars}
 use Rattle.syslog_object.proofs.element.ElementMember.key.Goals as goal
 
 pub returns : goal.returns

@@ -1,6 +1,4 @@
-use Rattle.std.proofs.Common.{sym}
-use Rattle.std.proofs.lemmas.Str.{encodes-chars}
-use Rattle.syslog_object.proofs.EscapeLemmas.{three_appended}
+use Rattle.syslog_object.{proofs.EscapeLemmas.three_appended, proofs.Names.sym, proofs.Names.encodes-chars}
 use Rattle.syslog_object.proofs.element.Tuple2RefStrRefStrMember.push_json.Goals as goal
 
 pub returns : goal.returns

@@ -1,8 +1,6 @@
-use Rattle.std.proofs.Common.{◌∙◌, ◌+◌, ◌<◌, ◌∷◌, [], ap, arith, length, sym}
-use Rattle.std.proofs.lemmas.List.{length-append, length-set}
-use Rattle.std.proofs.lemmas.Str.{encodes-chars}
-use Rattle.std.specs.Prelude.{encode_utf8_all}
-use Rattle.syslog_pieces.specs.StructuredData.Visited.{element_seen}
+use Rattle.syslog_object.proofs.Names.{◌∙◌, arith, length, length-append, encodes-chars, encode_utf8_all, element_seen}
+use Rattle.syslog_object.proofs.Names.{◌+◌, ◌<◌, ◌∷◌, [], ap, sym}
+use Rattle.std.proofs.lemmas.List.{length-set}
 use Rattle.syslog_object.proofs.WriterLemmas.{ids_added, keys_distinct, not_err, text_added}
 use Rattle.syslog_object.proofs.writer.ObjectWriter.add.Goals as goal
 

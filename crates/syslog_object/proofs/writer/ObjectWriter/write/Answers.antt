@@ -1,10 +1,6 @@
-use Rattle.std.proofs.Common.{◌++◌, ◌∙◌, ap, arith}
-use Rattle.std.proofs.lemmas.Result.{on_ok_weaker}
-use Rattle.syslog_pieces.specs.Pieces.View.{seen}
-use Rattle.syslog_loose.specs.Line.{line_value}
-use Rattle.syslog_object.specs.Parts.{back_fields, front_text, rest_text}
-use Rattle.syslog_object.proofs.WrittenLemmas.{text_of_message}
-use Rattle.syslog_object.proofs.WriterLemmas.{object_of_parts, ordered}
+use Rattle.syslog_object.proofs
+use proofs.Names.{◌++◌, ◌∙◌, ap, arith, on_ok_weaker, seen, line_value, back_fields, front_text, rest_text}
+use proofs.{WriterLemmas.object_of_parts, WriterLemmas.ordered, WrittenLemmas.text_of_message}
 use Rattle.syslog_object.proofs.writer.ObjectWriter.write.Goals as goal
 
 pub returns-clause-ok : goal.returns-clause-ok

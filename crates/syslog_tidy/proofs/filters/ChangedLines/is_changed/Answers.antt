@@ -1,5 +1,4 @@
-use Rattle.std.proofs.Common.{rules}
-use Rattle.syslog_loose.proofs.ReadingLemmas.{in_this_year}
+use Rattle.syslog_tidy.proofs.Names.{rules, in_this_year}
 use Rattle.syslog_tidy.proofs.filters.ChangedLines.is_changed.Goals as goal
 
 pub returns : goal.returns

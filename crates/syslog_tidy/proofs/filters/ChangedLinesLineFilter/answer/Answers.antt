@@ -1,6 +1,4 @@
-use Rattle.std.proofs.Common.{refl, sym}
-use Rattle.std.proofs.lemmas.Str.{encodes-chars}
-use Rattle.syslog_lines.specs.Output.{Written}
+use Rattle.syslog_tidy.proofs.Names.{refl, sym, encodes-chars, Written}
 use Rattle.syslog_tidy.proofs.filters.ChangedLinesLineFilter.answer.Goals as goal
 
 pub returns-in_ok-push_line-clause-ok : goal.returns-in_ok-push_line-clause-ok

@@ -1,5 +1,4 @@
-use Rattle.std.proofs.Common.{append-nil, refl, sym}
-use Rattle.syslog_lines.specs.Output.{Omitted, Written}
+use Rattle.syslog_tidy.proofs.Names.{append-nil, refl, sym, Omitted, Written}
 use Rattle.syslog_tidy.proofs.filters.RefusalsLineFilter.answer.Goals as goal
 
 pub returns-in-Ok-clause-ok : goal.returns-in-Ok-clause-ok

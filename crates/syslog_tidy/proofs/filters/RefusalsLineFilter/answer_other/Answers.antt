@@ -1,5 +1,4 @@
-use Rattle.std.proofs.Common.{refl}
-use Rattle.syslog_lines.specs.Output.{Written}
+use Rattle.syslog_tidy.proofs.Names.{refl, Written}
 use Rattle.syslog_tidy.proofs.filters.RefusalsLineFilter.answer_other.Goals as goal
 
 pub returns-clause-ok : goal.returns-clause-ok

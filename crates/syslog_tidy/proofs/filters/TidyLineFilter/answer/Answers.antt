@@ -1,8 +1,6 @@
-use Rattle.std.proofs.Common.{append-nil, refl, sym}
-use Rattle.std.proofs.lemmas.Str.{IsUtf8-string_bytes, encodes-chars}
+use Rattle.syslog_tidy.proofs.Names.{append-nil, refl, sym, encodes-chars, Omitted, Written, tidying}
+use Rattle.std.proofs.lemmas.Str.{IsUtf8-string_bytes}
 use Rattle.syslog_lines.proofs.AnswerLemmas.{OnErr-any}
-use Rattle.syslog_lines.specs.Output.{Omitted, Written}
-use Rattle.syslog_tidy.specs.Filters.{tidying}
 use Rattle.syslog_tidy.proofs.FilterLemmas.{settled_is_readable}
 use Rattle.syslog_tidy.proofs.filters.TidyLineFilter.answer.Goals as goal
 
