@@ -92,6 +92,15 @@ many_cons C {q = q} {v = v} f g = record {
   is = (f.piece, g.piece, refl, subst (λ (x : Text). C.Is f.piece x v) g.whole f.is, g.is);
 }
 
+-- the first of them, and the others
+pub many_parts : (C : Class) {t q : Text} {v : C.Value} {vs : List C.Value} → Front (many C) t q (v ∷ vs)
+    → (u : Text) × Front C t u v × Front (many C) u q vs
+many_parts C {q = q} f = let (a, b, i, k, more) = f.is in (
+  b ++ q,
+  record { piece = a; whole = f.whole ∙ behind f.piece a b q i; is = k },
+  record { piece = b; whole = refl; is = more },
+)
+
 pub has_read_none : (C : Class) (t : Text) → HasRead C t [] t
 has_read_none C t q ws f = f
 
@@ -147,45 +156,55 @@ module _ (C : Class) (separator close : ℕ) where
   pub more_here : (t r : Text) → t ≡ close ∷ r → Front more t t []
   more_here t r e = record { piece = []; whole = refl; is = (refl, (r, e)) }
 
-  -- the first piece of a list that is not closed at once, and the further ones
-  abbrev pub Parts : Text → Text → Type 0
-  Parts t q = (v : C.Value) × (vs : List C.Value) × (u : Text) × Front C t u v × Front more u q vs
-
-  pub list_parts : (t p q : Text) (vs : List C.Value) → NoFront (exactly (close ∷ [])) t → t ≡ p ++ q → list.Is p q vs
-      → Parts t q
-  list_parts t p q [] n e h = absurd (n (close ∷ []) h.1.0 tt (e ∙ ap (λ (x : Text). x ++ q) h.0 ∙ h.1.1) refl)
-  list_parts t p q (v ∷ vs) n e ((a, b, i, k, others), z) = (
-    v,
-    vs,
+  -- the first piece of a list, and the further ones
+  pub list_parts : {t q : Text} {v : C.Value} {vs : List C.Value} → Front list t q (v ∷ vs)
+      → (u : Text) × Front C t u v × Front more u q vs
+  list_parts {q = q} f = let (a, b, i, k, others) = f.is.0 in (
     b ++ q,
-    record { piece = a; whole = e ∙ behind p a b q i; is = k },
-    record { piece = b; whole = refl; is = (others, z) },
+    record { piece = a; whole = f.whole ∙ behind f.piece a b q i; is = k },
+    record { piece = b; whole = refl; is = (others, f.is.1) },
   )
 
   -- the piece after a separator
-  more_parts : (t u p q : Text) (vs : List C.Value) → NoFront (exactly (close ∷ [])) t → t ≡ separator ∷ u → t ≡ p ++ q
-      → more.Is p q vs → Parts u q
-  more_parts t u p q [] n f e h = absurd (n (close ∷ []) h.1.0 tt (e ∙ ap (λ (x : Text). x ++ q) h.0 ∙ h.1.1) refl)
-  more_parts t u p q (v ∷ vs) n f e ((a, b, i, k, others), z) =
-      let w : separator ∷ u ≡ separator ∷ (a ++ b ++ q) = sym f ∙ e ∙ ap (λ (x : Text). x ++ q) i in (
-        v,
-        vs,
+  pub more_parts : {t u q : Text} {v : C.Value} {vs : List C.Value} → t ≡ separator ∷ u → Front more t q (v ∷ vs)
+      → (r : Text) × Front C u r v × Front more r q vs
+  more_parts {u = u} {q = q} e f =
+      let (a, b, i, k, others) = f.is.0 in
+      let w : u ≡ a ++ (b ++ q) = cc (e, f.whole, behind f.piece (separator ∷ a) b q i) in (
         b ++ q,
-        record { piece = a; whole = (let y : u ≡ a ++ b ++ q = cc in y) ∙ append_assoc a b q; is = k },
-        record { piece = b; whole = refl; is = (others, z) },
+        record { piece = a; whole = w; is = k },
+        record { piece = b; whole = refl; is = (others, f.is.1) },
       )
 
+  -- a list without pieces is closed at once
+  not_empty : {t : Text} (p q : Text) → NoFront (exactly (close ∷ [])) t → t ≡ p ++ q → list.Is p q [] → ⊥
+  not_empty p q n e h = n (close ∷ []) h.1.0 tt (e ∙ ap (λ (x : Text). x ++ q) h.0 ∙ h.1.1) refl
+
+  abbrev Parts : Text → Text → Type 0
+  Parts t q = (v : C.Value) × (vs : List C.Value) × ((u : Text) × Front C t u v × Front more u q vs)
+
+  pub some_parts : {t q : Text} (vs : List C.Value) → NoFront (exactly (close ∷ [])) t → Front list t q vs → Parts t q
+  some_parts {q = q} [] n f = absurd (not_empty f.piece q n f.whole f.is)
+  some_parts (v ∷ vs) n f = (v, vs, list_parts f)
+
+  further_parts : {t u q : Text} (vs : List C.Value) → NoFront (exactly (close ∷ [])) t → t ≡ separator ∷ u
+      → Front more t q vs → Parts u q
+  further_parts {q = q} [] n e f = absurd (not_empty f.piece q n f.whole f.is)
+  further_parts (v ∷ vs) n e f = (v, vs, more_parts e f)
+
   pub no_list : (t : Text) → NoFront (exactly (close ∷ [])) t → NoFront C t → NoFront list t
-  no_list t m n p q vs e h = let (v, ws, u, f, g) = list_parts t p q vs m e h in no_front_no C n f
+  no_list t m n p q vs e h =
+      no_front_no C n (some_parts vs m (record { piece = p; whole = e; is = h })).2.1
 
   pub no_more : (t : Text) → NoFront (exactly (close ∷ [])) t → NoFront (exactly (separator ∷ [])) t → NoFront more t
-  no_more t m n p q [] e h = m (close ∷ []) h.1.0 tt (e ∙ ap (λ (x : Text). x ++ q) h.0 ∙ h.1.1) refl
+  no_more t m n p q [] e h = not_empty p q m e h
   no_more t m n p q (v ∷ vs) e ((a, b, i, k, others), z) =
       n (separator ∷ []) (a ++ b ++ q) tt (e ∙ ap (λ (x : Text). x ++ q) i) refl
 
   pub no_more_behind : (t u : Text) → NoFront (exactly (close ∷ [])) t → t ≡ separator ∷ u → NoFront C u
       → NoFront more t
-  no_more_behind t u m f n p q vs e h = let (v, ws, r, g, k) = more_parts t u p q vs m f e h in no_front_no C n g
+  no_more_behind t u m f n p q vs e h =
+      no_front_no C n (further_parts vs m f (record { piece = p; whole = e; is = h })).2.1
 
   -- the first parameter of a list that isn't closed at once
   pub list_goes : (Cs : List Class) (t : Text) → NoFront (exactly (close ∷ [])) t
@@ -197,8 +216,8 @@ module _ (C : Class) (separator close : ℕ) where
         ((vs.0 ∷ vs.1.0, vs.1.1), row_cons list Cs (list_cons r.1 s.1) s.2));
     back = λ q vs g. (
         let r = row_head list Cs g in
-        let s = list_parts t r.1.piece r.0 vs.0 n r.1.whole r.1.is in
-        ((s.0, (s.1, vs.1)), row_cons C (more ∷ Cs) s.3 (row_cons more Cs s.4 r.2)));
+        let (v, ws, s) = some_parts vs.0 n r.1 in
+        ((v, (ws, vs.1)), row_cons C (more ∷ Cs) s.1 (row_cons more Cs s.2 r.2)));
   }
 
   module _ (differ : separator ≢ close) where
@@ -215,8 +234,8 @@ module _ (C : Class) (separator close : ℕ) where
           ((vs.0 ∷ vs.1.0, vs.1.1), row_cons more Cs (more_cons e r.1 s.1) s.2));
       back = λ q vs g. (
           let r = row_head more Cs g in
-          let s = more_parts t u r.1.piece r.0 vs.0 (not_closed t u e) e r.1.whole r.1.is in
-          ((s.0, (s.1, vs.1)), row_cons C (more ∷ Cs) s.3 (row_cons more Cs s.4 r.2)));
+          let (v, ws, s) = further_parts vs.0 (not_closed t u e) e r.1 in
+          ((v, (ws, vs.1)), row_cons C (more ∷ Cs) s.1 (row_cons more Cs s.2 r.2)));
     }
 
     module _ (d : IsDeterministic C) where

@@ -352,14 +352,6 @@ quoted_text f =
 pub no_blanks : {t q : Text} (c : ℕ) → is_blank c ≡ false → t ≡ c ∷ q → Front (run is_blank) t t tt
 no_blanks c h e = record { piece = []; whole = refl; is = (tt, subst (λ (x : Text). Ends is_blank x) (sym e) h) }
 
--- ---- elements
-
-pub start_text : {t r i id : Text} → Front (exactly (91 ∷ [])) t r tt → Front (texted (some_run is_id_char)) r i id
-    → t ≡ 91 ∷ (id ++ i)
-start_text {t = t} {r = r} f g = cc (begins 91 t r f, g.whole, g.is.2)
-
--- ---- lists
-
 -- ---- what recognised elements and lists mean is what is in their texts
 
 -- an element that was recognised, by its parameters
@@ -383,15 +375,11 @@ left_out t p left e = e ∙ ap (λ (x : Text). p ++ x) (sym (ap (drop (length p)
 pub same_front : (t p : List ℕ) → IsUtf8 t → IsUtf8 p → (left : Text) → chars t ≡ chars p ++ left → length p ≡ length t
     → chars t ≡ chars p
 same_front t p u z left e l =
-    let whole : length t ≡ length p + length (encode_utf8_all left) =
-    omega (
-      arith,
-      ap length (sym (encodes-chars t u) ∙ ap encode_utf8_all e ∙ encodes-append (chars p) left),
-      ap length (encodes-chars p z),
-      length-append (encode_utf8_all (chars p)) (encode_utf8_all left),
-    ) in
-    let none : left ≡ [] = nil_from_length left (omega (arith, l, whole, length-le-encodes left)) in
-    rw none at e ∙ append-nil (chars p)
+    let w = sym (encodes-chars t u) ∙ ap encode_utf8_all e ∙ encodes-append (chars p) left
+    ∙ ap (λ (x : List ℕ). x ++ encode_utf8_all left) (encodes-chars p z) in
+    let none : encode_utf8_all left ≡ [] =
+    nil_from_length (encode_utf8_all left) (omega (arith, l, ap length w, length-append p (encode_utf8_all left))) in
+    ap chars (rw (none, append-nil) at w)
 
 -- `-`, which is no item
 pub dash_items : (t : Text) → t ≡ 45 ∷ [] → Front (many item) t t []

@@ -28,11 +28,13 @@ use Rattle.syslog_pieces.proofs.StructuredDataLemmas.Elements.{element_det, elem
 use Rattle.syslog_pieces.proofs.StructuredDataLemmas.Elements.{dash_apart, params_det, space_is_no_close, no_blanks}
 use Rattle.syslog_pieces.proofs.StructuredDataLemmas.Elements.{quoted_text, param_det, item_det, strict_append}
 use Rattle.syslog_pieces.proofs.StructuredDataLemmas.Elements.{item_shorter, no_item_nil, no_forgiving_list}
-use Rattle.syslog_pieces.proofs.PieceLemmas.Lists.{leaves_less, list_cons, more_cons, list_parts}
+use Rattle.syslog_pieces.proofs.PieceLemmas.Lists.{leaves_less, list_cons, list_parts, many_parts, more_parts, some_parts}
 use Rattle.syslog_pieces.proofs.TextLemmas.Runs.{bytes}
 use Rattle.syslog_pieces.proofs.PieceLemmas.Class.{IsSteady, alone_steady, exactly_alone, run_steady, some_run_steady}
 use Rattle.syslog_pieces.proofs.PieceLemmas.Class.{texted_steady, mapped_alone, row_alone, closed_steady}
-use Rattle.syslog_pieces.proofs.PieceLemmas.Class.{list_before_steady}
+use Rattle.syslog_pieces.proofs.PieceLemmas.Class.{list_before_steady, front_longer, row_cons}
+use Rattle.syslog_pieces.proofs.Names.{flat_map-append}
+use Rattle.syslog_pieces.proofs.Names.{HasRead, has_read_none, has_read_all, has_read_more}
 
 -- ---- elements with a parameter
 pub full_is_element : {t q : Text} {v : ElementValue} → Front full_element t q v → Front element t q v
@@ -121,7 +123,7 @@ some_params t r (p ∷ ps) n f = omega arith
 first_param : (t r : Text) (ps : List (Text × Text)) → NoFront param t → 0 < length ps
     → Front (list_before param 32 93) t r ps → ⊥
 first_param t r [] n l f = omega arith
-first_param t r (p ∷ ps) n l f = let (a, b, i, k, more) = f.is.0 in n a (b ++ r) p (f.whole ∙ behind f.piece a b r i) k
+first_param t r (p ∷ ps) n l f = no_front_no param n (list_parts param 32 93 f).1
 
 -- no parameter begins with a bracket
 opening_open : (t u : Text) (ws : Values opening_row) → Front opening t u ws → NoFront (exactly (93 ∷ [])) t
@@ -153,9 +155,7 @@ module _ (t u : Text) (vs : Values start_row) (f : Front start t u vs) where
 -- ---- one thing more, and then a text
 pub flat_map_more : {A : Type 0} (f : A → Text) (xs : List A) (x : A) (y : Text)
     → flat_map f (xs ++ (x ∷ [])) ++ y ≡ flat_map f xs ++ (f x ++ y)
-flat_map_more f [] x y = ap (λ (z : Text). z ++ y) (append-nil (f x))
-flat_map_more f (w ∷ xs) x y = append_assoc (f w) (flat_map f (xs ++ (x ∷ []))) y
-    ∙ ap (λ (z : Text). f w ++ z) (flat_map_more f xs x y) ∙ sym (append_assoc (f w) (flat_map f xs) (f x ++ y))
+flat_map_more f xs x y = simp (flat_map-append, append_assoc, append-nil)
 
 -- ---- one meaning
 abbrev pub one_meaning : (C : Class) → IsDeterministic C → {t q : Text} {v : C.Value} → Front C t q v → OneMeaning C t
@@ -175,20 +175,8 @@ module _ {t a b : Text} {name : Text} (f : Front (texted (some_run is_name_char)
         cc (f.whole, f.is.2, begins 61 a b g, quote),
       )
 
--- ---- an element without parameters
-module _ {text inner q id : Text} (s : Front start text inner (id_alone id)) (g : Front (exactly (93 ∷ [])) inner q tt)
-  where
-    pub bare_inside : Front inside inner q ([], (tt, tt))
-    bare_inside = row_of inside_row (list_here param 32 93 inner q (begins 93 inner q g) then g then refl)
-
-    pub bare_element : Front element text q (record { id = id; params = [] })
-    bare_element = element_read s bare_inside
-
-    pub bare_prints : text ≡ 91 ∷ (id ++ inner) → text ≡ element_text (record { id = id; params = [] }) ++ q
-    bare_prints e = simp append_assoc (rw (begins 93 inner q g) at e)
-
 -- a rest of as many bytes is the text
-pub same_rest : (t r : List ℕ) → IsUtf8 t → IsUtf8 r → (p : Text) → chars t ≡ p ++ chars r → length r ≡ length t
+same_rest : (t r : List ℕ) → IsUtf8 t → IsUtf8 r → (p : Text) → chars t ≡ p ++ chars r → length r ≡ length t
     → chars t ≡ chars r
 same_rest t r u z p e l =
     let b = bytes t r u z p e in
@@ -196,23 +184,66 @@ same_rest t r u z p e l =
     nil_from_length (encode_utf8_all p) (omega (arith, l, ap length b, length-append (encode_utf8_all p) r)) in
     ap chars (rw none at b)
 
--- ---- at a parameter: ps are before it; where the mark says so, what is before it is in printed form
-pub record AtParam (text inner at id : Text) (ps : List (Text × Text)) (mark : Bool) : Type 0 where
+-- ---- what the walk returns
+walked : {text : Text} {w : Walked} (e : ElementValue) → IsUtf8 w.rest.now → element_seen w.element ≡ e
+    → Front element text (shown w.rest) e → (IsTrue w.prints → text ≡ element_text e ++ shown w.rest)
+    → length e.params + length (shown w.rest) ≤ length text → IsWalked text w
+walked {text = text} {w = w} e u s f p l = record {
+  utf8 = u;
+  front = subst (λ (x : ElementValue). Front element text (shown w.rest) x) (sym s) f;
+  prints = λ t. subst (λ (x : ElementValue). text ≡ element_text x ++ shown w.rest) (sym s) (p t);
+  few = subst (λ (x : ElementValue). length x.params + length (shown w.rest) ≤ length text) (sym s) l;
+}
+
+pub chars_length : (bs : List ℕ) → IsUtf8 bs → length (chars bs) ≤ length bs
+chars_length bs u = omega (arith, length-le-encodes (chars bs), ap length (encodes-chars bs u))
+
+-- ---- at a parameter: ps are before it, so many; where the mark says so, what is before it is in printed form
+pub record AtParam (text inner at id : Text) (ps : List (Text × Text)) (count : ℕ) (mark : Bool) : Type 0 where
+  pub starts : Front start text inner (id_alone id)
   pub passes : Passes element text at
   pub meets : Meets element text (Row (param ∷ tail_row)) at
   pub leaves : Leaves param 32 93 inner ps at
   pub prints : IsTrue mark → text ≡ 91 ∷ (id ++ (flat_map param_text ps ++ (32 ∷ at)))
+  pub counted : count ≡ length ps
+  pub room : count + length at ≤ length text
 
-pub at_first : {text inner id : Text} {stands : Bool} → Front start text inner (id_alone id) → NoFront (exactly (93 ∷
-    [])) inner → (IsTrue stands → text ≡ 91 ∷ (id ++ (32 ∷ inner))) → AtParam text inner inner id [] stands
-at_first {text = text} {inner = inner} f n p = record {
-  passes = passes_row element start_row start_shut (passes_here element text) f;
-  meets = meets_on (element_starts f) (list_goes param 32 93 (exactly (93 ∷ []) ∷ []) inner n);
-  leaves = λ q u v ws g k. list_cons param 32 93 g k;
-  prints = p;
-}
+-- ---- an element up to its parameters
+pub bare_inside : {inner q : Text} → Front (exactly (93 ∷ [])) inner q tt → Front inside inner q ([], (tt, tt))
+bare_inside {inner = inner} {q = q} g = row_of inside_row (list_here param 32 93 inner q (begins 93 inner q g) then g then refl)
 
-module _ {text inner at id : Text} {ps : List (Text × Text)} {mark : Bool} (w : AtParam text inner at id ps mark) where
+module _ {text opened id : Text} (after inner : List ℕ) (f : Front (exactly (91 ∷ [])) text opened tt)
+    (g : Front (texted (some_run is_id_char)) opened (chars after) id)
+    (b : Front (run is_blank) (chars after) (chars inner) tt) where
+  started : Front start text (chars inner) (id_alone id)
+  started = row_of start_row (f then g then b then refl)
+
+  start_text : text ≡ 91 ∷ (id ++ chars after)
+  start_text = cc (begins 91 text opened f, g.whole, g.is.2)
+
+  -- an element without parameters
+  pub bare_walked : {w : Walked} → Front (exactly (93 ∷ [])) (chars inner) (shown w.rest) tt → IsUtf8 after
+      → IsUtf8 inner → IsUtf8 w.rest.now → element_seen w.element ≡ record { id = id; params = [] }
+      → (IsTrue w.prints → length inner ≡ length after) → IsWalked text w
+  bare_walked {w = w} close u z v s p =
+      walked _ v s (element_read started (bare_inside close)) (λ same. simp append_assoc (
+      rw (same_rest after inner u z b.piece b.whole (p same), begins 93 (chars inner) (shown w.rest) close) at start_text))
+      (omega (arith, front_longer start started, front_longer (exactly (93 ∷ [])) close))
+
+  pub at_first : {stands : Bool} → NoFront (exactly (93 ∷ [])) (chars inner)
+      → (IsTrue stands → chars after ≡ 32 ∷ chars inner) → AtParam text (chars inner) (chars inner) id [] 0 stands
+  at_first n p = record {
+    starts = started;
+    passes = passes_row element start_row start_shut (passes_here element text) started;
+    meets = meets_on (element_starts started) (list_goes param 32 93 (exactly (93 ∷ []) ∷ []) (chars inner) n);
+    leaves = λ q u v ws g k. list_cons param 32 93 g k;
+    prints = λ stands. rw (p stands) at start_text;
+    counted = refl;
+    room = omega (arith, front_longer start started);
+  }
+
+module _ {text inner at id : Text} {ps : List (Text × Text)} {count : ℕ} {mark : Bool}
+    (w : AtParam text inner at id ps count mark) where
   -- where no parameter opens, no element begins the text
   pub not_opened : NoFront opening at → (d : ℕ) → d ≡ byte_count at → NoFront element text × IsDead text d
   not_opened n d e =
@@ -236,6 +267,28 @@ module _ {text inner at id : Text} {ps : List (Text × Text)} {mark : Bool} (w :
           → NoFront element text × IsDead text d
       not_separated n m d e = value_breaks value_passes value_meets f (no_more param 32 93 y n m) d e
 
+      more_counted : count + 1 ≡ length (ps ++ ((name, v) ∷ []))
+      more_counted = omega (arith, w.counted, length-append ps ((name, v) ∷ []))
+
+      -- a parameter more is counted
+      pub more_room : count + 1 + length y ≤ length text
+      more_room = omega (
+        arith,
+        w.room,
+        front_longer opening o,
+        ap length (quoted_text f),
+        length-append v (34 ∷ y),
+      )
+
+      -- where a bracket follows the value, the element ends
+      pub ends : {q : Text} → Front (exactly (93 ∷ [])) y q tt
+          → Front inside inner q (ps ++ ((name, v) ∷ []), (tt, tt)) × (count + 1 ≡ length (ps ++ ((name, v) ∷ [])))
+      ends {q = q} g = (
+        row_of inside_row (w.leaves _ _ _ [] (param_read o f) (more_here param 32 93 _ _ (begins 93 y q g)) then g
+            then refl),
+        more_counted,
+      )
+
       module _ {opens : Bool} (stands : IsTrue opens → at ≡ name ++ (61 ∷ 34 ∷ value)) where
         printed_param : IsTrue (mark && opens) → text ≡ 91 ∷ (id ++ (flat_map param_text (ps ++ ((name, v) ∷ [])) ++ y))
         printed_param both =
@@ -244,61 +297,29 @@ module _ {text inner at id : Text} {ps : List (Text × Text)} {mark : Bool} (w :
             w.prints left ∙ ap (λ (x : Text). 91 ∷ (id ++ x)) (ap (λ (x : Text). flat_map param_text ps ++ x) here
             ∙ sym (flat_map_more param_text ps (name, v) y))
 
-        pub ends : {q : Text} → Front start text inner (id_alone id) → Front (exactly (93 ∷ [])) y q tt → Front inside
-            inner q (ps ++ ((name, v) ∷ []), (tt, tt)) × Front element text q (record {
-              id = id;
-              params = ps ++ ((
-                name,
-                v,
-              ) ∷ []);
-            }) × (IsTrue (mark && opens) → text ≡ element_text (record {
-              id = id;
-              params = ps ++ ((name, v) ∷ []);
-            }) ++ q)
-        ends {q = q} s g =
-            let close = begins 93 y q g in
-            let list = w.leaves _ _ _ [] (param_read o f) (more_here param 32 93 _ _ close) in
-            let inner = row_of inside_row (list then g then refl) in
-            (inner, element_read s inner, λ both. simp append_assoc (rw close at (printed_param both)))
+        pub ends_walked : {w : Walked} → Front (exactly (93 ∷ [])) y (shown w.rest) tt → IsUtf8 w.rest.now
+            → element_seen w.element ≡ record { id = id; params = ps ++ ((name, v) ∷ []) }
+            → (IsTrue w.prints → IsTrue (mark && opens)) → IsWalked text w
+        ends_walked {w = x} g u s p =
+            walked _ u s (element_read w.starts (ends g).0)
+            (λ all. simp append_assoc (rw (begins 93 y (shown x.rest) g) at (printed_param (p all))))
+            (omega (arith, more_room, more_counted, front_longer (exactly (93 ∷ [])) g))
 
         pub goes_on : {z : Text} → Front (exactly (32 ∷ [])) y z tt
-            → AtParam text inner z id (ps ++ ((name, v) ∷ [])) (mark && opens)
+            → AtParam text inner z id (ps ++ ((name, v) ∷ [])) (count + 1) (mark && opens)
         goes_on {z = z} g =
             let space = begins 32 y z g in
             record {
+              starts = w.starts;
               passes = passes_space element text y z (passes_quoted element text value y _ value_passes value_meets f)
                   space;
               meets = meets_on value_meets (meets_on (row_goes quoted tail_row quoted_det f)
                   (more_goes param 32 93 space_is_no_close (exactly (93 ∷ []) ∷ []) y z space));
               leaves = leaves_less param 32 93 _ _ _ _ _ _ w.leaves (param_read o f) space;
               prints = λ both. rw space at (printed_param both);
+              counted = more_counted;
+              room = omega (arith, more_room, front_longer (exactly (32 ∷ [])) g);
             }
-
--- ---- lengths
-pub front_length : {C : Class} {t u : Text} {v : C.Value} → Front C t u v → length u ≤ length t
-front_length {u = u} f = omega (arith, ap length f.whole, length-append f.piece u)
-
--- a parameter and what closes its value
-pub param_length : {t u y : Text} {name v : Text} → Front opening t u (name_alone name)
-    → Front quoted u y (v, (tt, tt)) → length y < length t
-param_length {y = y} {v = v} o f = omega (arith, front_length o, ap length (quoted_text f), length-append v (34 ∷ y))
-
-pub chars_length : (bs : List ℕ) → IsUtf8 bs → length (chars bs) ≤ length bs
-chars_length bs u = omega (arith, length-le-encodes (chars bs), ap length (encodes-chars bs u))
-
-pub one_more : {A : Type 0} {n : ℕ} (xs : List A) (x : A) → n ≡ length xs → n + 1 ≡ length (xs ++ (x ∷ []))
-one_more xs x e = omega (arith, e, length-append xs (x ∷ []))
-
--- ---- what the walk returns
-pub walked : {text : Text} {w : Walked} (e : ElementValue) → IsUtf8 w.rest.now → element_seen w.element ≡ e
-    → Front element text (shown w.rest) e → (IsTrue w.prints → text ≡ element_text e ++ shown w.rest)
-    → length e.params + length (shown w.rest) ≤ length text → IsWalked text w
-walked {text = text} {w = w} e u s f p l = record {
-  utf8 = u;
-  front = subst (λ (x : ElementValue). Front element text (shown w.rest) x) (sym s) f;
-  prints = λ t. subst (λ (x : ElementValue). text ≡ element_text x ++ shown w.rest) (sym s) (p t);
-  few = subst (λ (x : ElementValue). length x.params + length (shown w.rest) ≤ length text) (sym s) l;
-}
 
 -- ---- what is left of a recognised element and of a recognised list, one parameter or one item less
 pub inside_same : {t : Text} (m n : OneMeaning inside t) → (one_value m).0 ≡ (one_value n).0
@@ -308,16 +329,9 @@ pub items_same : {t : Text} (m n : OneMeaning (many item) t) → one_value m ≡
 items_same {t = t} m n = ap (λ (x : OneMeaning (many item) t). one_value x) (OneItems-prop t m n)
 
 -- ---- parameters
-close : {t r : Text} → t ≡ 93 ∷ r → Front (exactly (93 ∷ [])) t r tt
-close e = record { piece = 93 ∷ []; whole = e; is = refl }
-
-inside_from : {t u r : Text} {vs : List (Text × Text)} → Front (list_before param 32 93) t u vs → u ≡ 93 ∷ r
-    → Front inside t r (vs, (tt, tt))
-inside_from f e = row_of inside_row (f then close e then refl)
-
 pub no_params : {t q : Text} (m : OneMeaning inside t) → Front (exactly (93 ∷ [])) t q tt → (one_value m).0 ≡ []
 no_params {t = t} {q = q} m f =
-    let e = begins 93 t q f in ap (λ v. v.0) (one_value-is m (inside_from (list_here param 32 93 t q e) e))
+    ap (λ v. v.0) (one_value-is m (row_of inside_row (list_here param 32 93 t q (begins 93 t q f) then f then refl)))
 
 pub not_inside : {t : Text} → OneMeaning inside t → NoFront (exactly (93 ∷ [])) t → NoFront param t → ⊥
 not_inside {t = t} m n k = ∥∥₁_elim m.1.0 ⊥_prop
@@ -328,50 +342,28 @@ abbrev pub IsNext : Text → Text → Type 0
 IsNext u z = (u ≡ 32 ∷ z) ⊎ (NoFront (exactly (32 ∷ [])) u × (u ≡ z))
 
 -- and the parameters that are left there
-tail_rests : {t u z q : Text} {v : Text × Text} (ws : List (Text × Text)) → Front param t u v → IsNext u z
-    → Front (more_before param 32 93) u q ws → (r : Text)
-    × ((rs : List (Text × Text)) × Front inside z r (rs, (tt, tt)) × Front inside t r (v ∷ rs, (tt, tt)))
-tail_rests {t = t} {u = u} {z = z} {q = q} {v = v} [] f (inl e) g =
-    let end = g.whole ∙ ap (λ (x : Text). x ++ q) g.is.0 ∙ g.is.1.1 in
-    let no : 32 ∷ z ≡ 93 ∷ g.is.1.0 = sym e ∙ end in absurd (space_is_no_close (heads 32 93 z g.is.1.0 no))
-tail_rests {u = u} {z = z} {q = q} (w ∷ ws) f (inl e) g =
-    let (a, b, i, k, more) = g.is.0 in
-    let (r, end) = g.is.1 in
-    let second : Front param z (b ++ q) w =
-    record { piece = a; whole = (let y : z ≡ a ++ b ++ q = cc in y) ∙ append_assoc a b q; is = k } in
-    let others : Front (more_before param 32 93) (b ++ q) q ws =
-    record { piece = b; whole = refl; is = (more, g.is.1) } in (
-      r,
-      (
-        w ∷ ws,
-        inside_from (list_cons param 32 93 second others) end,
-        inside_from (list_cons param 32 93 f (more_cons param 32 93 e second others)) end,
-      ),
-    )
-tail_rests {t = t} {u = u} {z = z} {q = q} [] f (inr (n, e)) g =
-    let end = (g.whole ∙ ap (λ (x : Text). x ++ q) g.is.0) ∙ g.is.1.1 in (
-      g.is.1.0,
-      (
-        [],
-        inside_from (list_here param 32 93 z _ (sym e ∙ end)) (sym e ∙ end),
-        inside_from (list_cons param 32 93 f (more_here param 32 93 u _ end)) end,
-      ),
-    )
-tail_rests {u = u} {z = z} {q = q} (w ∷ ws) f (inr (n, e)) g =
-    let (a, b, i, k, more) = g.is.0 in
-    absurd (n (32 ∷ []) (a ++ b ++ q) tt (g.whole ∙ ap (λ (x : Text). x ++ q) i) refl)
+next_list : {u z q : Text} (ws : List (Text × Text)) → IsNext u z → Front (more_before param 32 93) u q ws
+    → Front (list_before param 32 93) z q ws
+next_list {z = z} {q = q} [] (inl e) g =
+    let end = sym e ∙ g.whole ∙ ap (λ (x : Text). x ++ q) g.is.0 ∙ g.is.1.1 in
+    absurd (space_is_no_close (heads 32 93 z g.is.1.0 end))
+next_list (w ∷ ws) (inl e) g = let (r, f, more) = more_parts param 32 93 e g in list_cons param 32 93 f more
+next_list [] (inr (n, e)) g = record { piece = g.piece; whole = sym e ∙ g.whole; is = g.is }
+next_list {q = q} (w ∷ ws) (inr (n, e)) g =
+    absurd (n (32 ∷ []) _ tt (g.whole ∙ ap (λ (x : Text). x ++ q) g.is.0.2) refl)
 
 pub params_less : {t u z : Text} {v : Text × Text} (m : OneMeaning inside t) → NoFront (exactly (93 ∷ [])) t
     → Front param t u v → IsNext u z → (k : OneMeaning inside z) × ((one_value m).0 ≡ v ∷ (one_value k).0)
 params_less {t = t} {u = u} {z = z} {v = v} m n f e = ∥∥₁_elim m.1.0
     (Σ_prop (OneInside-prop z) (λ k. params_set (one_value m).0 (v ∷ (one_value k).0))) (λ x.
-    let (s, list, close) = row_head (list_before param 32 93) (exactly (93 ∷ []) ∷ []) x.1 in
-    let (w, ws, r, g, more) = list_parts param 32 93 t list.piece s _ n list.whole list.is in
+    let end = exactly (93 ∷ []) ∷ [] in
+    let (s, list, close) = row_head (list_before param 32 93) end x.1 in
+    let (w, ws, (r, g, more)) = some_parts param 32 93 _ n list in
     let there = subst (λ (y : Text). Front (more_before param 32 93) y s ws) (front_same param param_det g f).0 more in
-    let (q, (ds, rest, all)) = tail_rests ws f e there in
+    let rest = row_cons (list_before param 32 93) end (next_list ws e there) close in
     let k = one_meaning inside inside_det rest in (
       k,
-      ap (λ y. y.0) (one_value-is m all)
+      ap (λ y. y.0) (one_value-is m (row_cons (list_before param 32 93) end (list_cons param 32 93 f there) close))
           ∙ ap (λ (y : List (Text × Text)). v ∷ y) (sym (ap (λ y. y.0) (one_value-is k rest))),
     ))
 
@@ -380,10 +372,8 @@ first_item : {t u : Text} {v : Option ElementValue} (m : OneMeaning (many item) 
     (vs : List (Option ElementValue)) → Front (many item) t q vs
     → (k : OneMeaning (many item) u) × (one_value m ≡ v ∷ one_value k)
 first_item m f q [] g = absurd (no_front_no item (many_none item _ q g) f)
-first_item {t = t} {u = u} {v = v} m f q (w ∷ ws) g =
-    let (a, b, i, h, more) = g.is in
-    let one : Front item t (b ++ q) w = record { piece = a; whole = g.whole ∙ behind g.piece a b q i; is = h } in
-    let rest : Front (many item) (b ++ q) q ws = record { piece = b; whole = refl; is = more } in
+first_item {v = v} m f q (w ∷ ws) g =
+    let (r, one, rest) = many_parts item g in
     let there = subst (λ (y : Text). Front (many item) y q ws) (front_same item item_det one f).0 rest in
     let k = one_meaning (many item) (many_det item item_det) there in (
       k,
@@ -443,19 +433,19 @@ full_alone : (p q : Text) (es : List ElementValue) → IsMany full_element p q e
 full_alone p q [] h = (h.0, no_item_nil)
 full_alone p q (e ∷ es) (a, b, w, h, more) = (a, b, w, element_alone a (b ++ q) (b ++ []) e h.0, full_alone b q es more)
 
-pub are_items : {t q : Text} {vs : List (Option ElementValue)} → Front (many item) t q vs → AreItems t q vs
-are_items {q = q} {vs = vs} f = record {
+are_of : {C : Class} {t q : Text} {v : C.Value} {vs : List (Option ElementValue)} (f : Front C t q v)
+    → IsMany item f.piece [] vs → AreItems t q vs
+are_of f h = record {
   piece = f.piece;
   whole = f.whole;
-  items = record { piece = f.piece; whole = sym (append-nil f.piece); is = items_alone f.piece q vs f.is };
+  items = record { piece = f.piece; whole = sym (append-nil f.piece); is = h };
 }
 
+pub are_items : {t q : Text} {vs : List (Option ElementValue)} → Front (many item) t q vs → AreItems t q vs
+are_items {q = q} {vs = vs} f = are_of f (items_alone f.piece q vs f.is)
+
 pub are_full_items : {t q : Text} {es : List ElementValue} → Front (many full_element) t q es → AreItems t q (map Some es)
-are_full_items {q = q} {es = es} f = record {
-  piece = f.piece;
-  whole = f.whole;
-  items = record { piece = f.piece; whole = sym (append-nil f.piece); is = full_alone f.piece q es f.is };
-}
+are_full_items {q = q} {es = es} f = are_of f (full_alone f.piece q es f.is)
 
 -- ---- the own text of a list
 module _ {t rest own : Text} (cut : t ≡ own ++ rest) where
@@ -478,135 +468,162 @@ pub some_joined : (es : List ElementValue) → 0 < length es → joined_elements
 some_joined [] l = absurd (omega arith)
 some_joined (e ∷ es) l = refl
 
--- ---- the count of a list, as far as it was walked: where the second mark says so, nothing was left out
-pub record Counts (text rest : Text) (es : List ElementValue) (tally : Tally) (strict : Bool) : Type 0 where
+-- ---- a list as far as it was walked: its pieces, which are these elements, their counts, and what a visitor was given;
+-- where the second mark says so, nothing was left out
+pub record Gone (C : Class) (view : List C.Value → List ElementValue) {V : Type 0}
+    (given : V → V → List ElementValue → Type 0) (text rest : Text) (old new : V) (tally : Tally) (strict : Bool)
+    : Type 0 where
+  pub vs : List C.Value
+  pub es : List ElementValue
+  pub same : es ≡ view vs
+  pub read : HasRead C text vs rest
   pub tallied : IsTallied text rest es tally
   pub level : IsTrue strict → shown tally.end ≡ rest
   pub elements : tally.elements + length rest ≤ length text
   pub params : tally.params + length rest ≤ length text
+  pub visits : Visits given old es new
 
-pub counts_none : (text : Text) (tally : Tally) → IsUtf8 tally.end.now → tally.elements ≡ 0 → tally.params ≡ 0
-    → shown tally.end ≡ text → Counts text text [] tally true
-counts_none text tally u e p s = record {
-  tallied = record {
-    utf8 = u;
-    elements = e;
-    params = p;
-    after = ([], s);
-    prints = λ t. sym s;
-  };
-  level = λ t. s;
-  elements = omega (arith, e);
-  params = omega (arith, p);
-}
-
--- an element more, whose mark is that of the walk and of the list
-pub counts_more : {text rest : Text} {es : List ElementValue} {tally new : Tally} {strict : Bool} {w : Walked}
-    → Counts text rest es tally strict → IsWalked rest w → length (shown w.rest) < length rest
-    → new.elements ≡ tally.elements + 1 → new.params ≡ tally.params + length (element_seen w.element).params
-    → new.end ≡ w.rest → (IsTrue new.prints → IsTrue tally.prints × IsTrue w.prints × IsTrue strict)
-    → Counts text (shown w.rest) (es ++ (element_seen w.element ∷ [])) new strict
-counts_more {text = text} {rest = rest} {es = es} {tally = tally} {new = new} {strict = strict} {w = w} c k l n m e p =
-    let t = c.tallied in
-    let x = element_seen w.element in
-    let same : shown new.end ≡ shown w.rest = ap (λ s. shown s) e in
-    record {
-      tallied = record {
-        utf8 = subst (λ s. IsUtf8 s.now) (sym e) k.utf8;
-        elements = n ∙ one_more es x t.elements;
-        params = m ∙ omega (
-          arith,
-          t.params,
-          sum_by-append (λ d. length d.params) es (x ∷ []),
-          sum_by-cons (λ d. length d.params) x [],
-        );
-        after = ([], same);
-        prints = λ all. (
-            let (a, b, d) = p all in
-            t.prints a ∙ ap (λ (y : Text). joined_elements es ++ y) (c.level d ∙ k.prints b)
-            ∙ sym (flat_map_more element_text es x (shown w.rest))
-            ∙ ap (λ (y : Text). joined_elements (es ++ (x ∷ [])) ++ y) (sym same));
-      };
-      level = λ d. same;
-      elements = omega (arith, c.elements, n, l);
-      params = omega (arith, c.params, m, k.few);
-    }
-
--- a broken element more
-pub counts_broken : {text rest next : Text} {es : List ElementValue} {tally : Tally} {strict : Bool} (p : Text)
-    → Counts text rest es tally strict → rest ≡ p ++ next → Counts text next es tally false
-counts_broken {next = next} p c e = record {
-  tallied = record {
-    utf8 = c.tallied.utf8;
-    elements = c.tallied.elements;
-    params = c.tallied.params;
-    after = (
-      c.tallied.after.0 ++ p,
-      c.tallied.after.1 ∙ ap (λ (y : Text). c.tallied.after.0 ++ y) e ∙ sym (append_assoc c.tallied.after.0 p next),
-    );
-    prints = c.tallied.prints;
-  };
-  level = λ t. cc;
-  elements = omega (arith, c.elements, ap length e, length-append p next);
-  params = omega (arith, c.params, ap length e, length-append p next);
-}
-
--- ---- what a visitor was given, one element more
 pub visits_none : {V : Type 0} (given : V → V → List ElementValue → Type 0) (v : V) → Visits given v [] v
 visits_none given v first ds h = subst (λ (x : List ElementValue). given first v x) (sym (append-nil ds)) h
-
-pub visits_more : {V : Type 0} (given : V → V → List ElementValue → Type 0) (old mid new : V) (es : List ElementValue)
-    (x : ElementValue) → Visits given old es mid → Visits given mid (x ∷ []) new → Visits given old (es ++ (x ∷ [])) new
-visits_more given old mid new es x m step first ds h =
-    subst (λ (y : List ElementValue). given first new y) (append_assoc ds es (x ∷ []))
-    (step first (ds ++ es) (m first ds h))
-
-pub strict_more : (vs : List (Option ElementValue)) (x : ElementValue) → strict vs ++ (x ∷ [])
-    ≡ strict (vs ++ (Some x ∷ []))
-strict_more vs x = sym (strict_append vs (Some x ∷ []))
-
-pub strict_same : (vs : List (Option ElementValue)) → strict vs ≡ strict (vs ++ (None ∷ []))
-strict_same vs = sym (strict_append vs (None ∷ []) ∙ append-nil (strict vs))
-
-pub counts_along : {text rest : Text} {es ds : List ElementValue} {tally : Tally} {strict : Bool} → es ≡ ds
-    → Counts text rest es tally strict → Counts text rest ds tally strict
-counts_along {text = text} {rest = rest} {tally = tally} {strict = strict} e c =
-    subst (λ (x : List ElementValue). Counts text rest x tally strict) e c
 
 pub visits_along : {V : Type 0} (given : V → V → List ElementValue → Type 0) (old new : V) (es ds : List ElementValue)
     → es ≡ ds → Visits given old es new → Visits given old ds new
 visits_along given old new es ds e v = subst (λ (x : List ElementValue). Visits given old x new) e v
 
-pub tallied_along : {text rest : Text} {es ds : List ElementValue} {tally : Tally} → es ≡ ds
-    → IsTallied text rest es tally → IsTallied text rest ds tally
-tallied_along {text = text} {rest = rest} {tally = tally} e t =
-    subst (λ (x : List ElementValue). IsTallied text rest x tally) e t
+module _ (C : Class) (view : List C.Value → List ElementValue) {V : Type 0}
+    (given : V → V → List ElementValue → Type 0) where
+  pub gone_none : (text : Text) (v : V) (tally : Tally) → [] ≡ view [] → IsUtf8 tally.end.now → tally.elements ≡ 0
+      → tally.params ≡ 0 → shown tally.end ≡ text → Gone C view given text text v v tally true
+  gone_none text v tally z u e p s = record {
+    vs = [];
+    es = [];
+    same = z;
+    read = has_read_none C text;
+    tallied = record {
+      utf8 = u;
+      elements = e;
+      params = p;
+      after = ([], s);
+      prints = λ t. sym s;
+    };
+    level = λ t. s;
+    elements = omega (arith, e);
+    params = omega (arith, p);
+    visits = visits_none given v;
+  }
+
+  module _ {text rest : Text} {old mid : V} {tally : Tally} {strict : Bool}
+      (s : Gone C view given text rest old mid tally strict) where
+    -- the pieces in all, where none is left
+    pub gone_all : NoFront C rest → Front (many C) text rest s.vs
+    gone_all n = has_read_all C text rest s.vs s.read n
+
+    module _ {w : Walked} (k : IsWalked rest w) where
+      shorter : length (shown w.rest) < length rest
+      shorter = element_shorter rest (shown w.rest) (element_seen w.element) k.front
+
+      -- the counts stay within the text
+      pub gone_within : (bytes : List ℕ) → IsUtf8 bytes → text ≡ chars bytes → (tally.elements + 1 ≤ length bytes)
+          × (tally.params + length (element_seen w.element).params ≤ length bytes)
+      gone_within bytes u e =
+          let l = chars_length bytes u in
+          let m = ap length e in
+          (omega (arith, l, m, shorter, s.elements), omega (arith, l, m, s.params, k.few))
+
+      -- an element more, whose mark is that of the walk and of the list
+      pub gone_on : {tally' : Tally} {new : V} (v : C.Value) → view (s.vs ++ (v ∷ [])) ≡ view s.vs ++ (element_seen w.element ∷ [])
+          → C.Is k.front.piece (shown w.rest) v → tally'.elements ≡ tally.elements + 1
+          → tally'.params ≡ tally.params + length (element_seen w.element).params → tally'.end ≡ w.rest
+          → (IsTrue tally'.prints → IsTrue ((tally.prints && w.prints) && strict))
+          → Visits given mid (element_seen w.element ∷ []) new → Gone C view given text (shown w.rest) old new tally' strict
+      gone_on {tally' = tally'} {new = new} v z is n m e p step =
+          let t = s.tallied in
+          let x = element_seen w.element in
+          let same : shown tally'.end ≡ shown w.rest = ap (λ r. shown r) e in
+          record {
+            vs = s.vs ++ (v ∷ []);
+            es = s.es ++ (x ∷ []);
+            same = ap (λ (es : List ElementValue). es ++ (x ∷ [])) s.same ∙ sym z;
+            read = has_read_more C text rest (shown w.rest) s.vs v s.read
+                (record { piece = k.front.piece; whole = k.front.whole; is = is });
+            tallied = record {
+              utf8 = subst (λ r. IsUtf8 r.now) (sym e) k.utf8;
+              elements = omega (arith, n, t.elements, length-append s.es (x ∷ []));
+              params = m ∙ omega (
+                arith,
+                t.params,
+                sum_by-append (λ d. length d.params) s.es (x ∷ []),
+                sum_by-cons (λ d. length d.params) x [],
+              );
+              after = ([], same);
+              prints = λ all. (
+                  let (both, d) = and_parts _ _ (p all) in
+                  let (a, b) = and_parts _ _ both in
+                  t.prints a ∙ ap (λ (y : Text). joined_elements s.es ++ y) (s.level d ∙ k.prints b)
+                  ∙ sym (flat_map_more element_text s.es x (shown w.rest))
+                  ∙ ap (λ (y : Text). joined_elements (s.es ++ (x ∷ [])) ++ y) (sym same));
+            };
+            level = λ d. same;
+            elements = omega (arith, s.elements, n, shorter);
+            params = omega (arith, s.params, m, k.few);
+            visits = λ first ds h. subst (λ (y : List ElementValue). given first new y) (append_assoc ds s.es (x ∷ []))
+                (step first (ds ++ s.es) (s.visits first ds h));
+          }
+
+    -- a piece more that is no element
+    pub gone_past : {next : Text} (v : C.Value) → view (s.vs ++ (v ∷ [])) ≡ view s.vs → Front C rest next v
+        → Gone C view given text next old mid tally false
+    gone_past {next = next} v z f = record {
+      vs = s.vs ++ (v ∷ []);
+      es = s.es;
+      same = s.same ∙ sym z;
+      read = has_read_more C text rest next s.vs v s.read f;
+      tallied = record {
+        utf8 = s.tallied.utf8;
+        elements = s.tallied.elements;
+        params = s.tallied.params;
+        after = (
+          s.tallied.after.0 ++ f.piece,
+          s.tallied.after.1 ∙ ap (λ (y : Text). s.tallied.after.0 ++ y) f.whole
+              ∙ sym (append_assoc s.tallied.after.0 f.piece next),
+        );
+        prints = s.tallied.prints;
+      };
+      level = λ t. cc;
+      elements = omega (arith, s.elements, front_longer C f);
+      params = omega (arith, s.params, front_longer C f);
+      visits = s.visits;
+    }
+
+-- what is told of the elements of the pieces
+module _ {C : Class} {view : List C.Value → List ElementValue} {V : Type 0} {given : V → V → List ElementValue → Type 0}
+    {text rest : Text} {old new : V} {tally : Tally} {strict : Bool}
+    (s : Gone C view given text rest old new tally strict) {ds : List ElementValue} (e : view s.vs ≡ ds) where
+  pub gone_tallied : IsTallied text rest ds tally
+  gone_tallied = subst (λ (x : List ElementValue). IsTallied text rest x tally) (s.same ∙ e) s.tallied
+
+  pub gone_visits : Visits given old ds new
+  gone_visits = visits_along given old new s.es ds (s.same ∙ e) s.visits
 
 -- ---- whether there is a list
-items_none : {t q : Text} (vs : List (Option ElementValue)) → Front (many item) t q vs → length t ≤ length q → vs ≡ []
-items_none [] f l = refl
-items_none {q = q} (v ∷ vs) f l =
-    let (a, b, w, h, more) = f.is in
-    let first : Front item (a ++ (b ++ q)) (b ++ q) v = record { piece = a; whole = refl; is = h } in
-    absurd (omega (arith, l, item_shorter _ _ v first, ap length (f.whole ∙ behind f.piece a b q w), length-append b q))
-
--- a list with no character has no element
-pub none_strict : {t q : Text} {vs : List (Option ElementValue)} (own : Text) → Front (many item) t q vs
-    → t ≡ own ++ q → length own ≡ 0 → strict vs ≡ []
-none_strict {q = q} {vs = vs} own f e l =
-    ap strict (items_none vs f (omega (arith, ap length e, length-append own q, l)))
-
--- a list with no character, where no dash begins the text
-pub no_forgiving : {t q : Text} {vs : List (Option ElementValue)} (own : Text) → NoFront (exactly dash) t
-    → Front (many item) t q vs → t ≡ own ++ q → length own ≡ 0 → NoFront forgiving t
-no_forgiving {t = t} {q = q} {vs = vs} own n f e l =
-    no_forgiving_list t q vs n f (items_none vs f (omega (arith, ap length e, length-append own q, l)))
+pub items_none : {t q : Text} (own : Text) (vs : List (Option ElementValue)) → Front (many item) t q vs → t ≡ own ++ q
+    → length own ≡ 0 → vs ≡ []
+items_none own [] f e l = refl
+items_none {t = t} {q = q} own (v ∷ vs) f e l =
+    let (u, first, rest) = many_parts item f in
+    absurd (omega (
+      arith,
+      item_shorter t u v first,
+      front_longer (many item) rest,
+      ap length e,
+      length-append own q,
+    ))
 
 -- a list with a character
 pub some_forgiving : {t q : Text} (own : Text) (vs : List (Option ElementValue)) → Front (many item) t q vs → t ≡ own ++ q
     → 0 < length own → Front forgiving t q (strict vs)
 some_forgiving {q = q} own [] f e l =
-    absurd (omega (arith, ap length (sym (f.whole ∙ ap (λ (x : Text). x ++ q) f.is.0) ∙ e), length-append own q))
+    absurd (omega (arith, ap length (sym e ∙ f.whole), ap length f.is.0, length-append own q, length-append f.piece q))
 some_forgiving own (v ∷ vs) f e l =
     record { piece = f.piece; whole = f.whole; is = inr (v ∷ vs, omega arith, f.is, refl) }
 

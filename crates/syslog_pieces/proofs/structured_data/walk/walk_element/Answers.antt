@@ -1,66 +1,48 @@
-use Rattle.syslog_pieces.proofs.Names.{rules, arith, refl, sym, subst, ◌≡◌, ◌+◌, ◌≤◌, ℕ, [], length, Result, Ok, Err}
-use Rattle.syslog_pieces.proofs.Names.{MatchResult, IsErrAnd, inl, NoFront, start_row, row_of, no_row, ◌then◌, IsDead}
-use Rattle.syslog_pieces.proofs.Names.{element, eqb-true, ElementValue}
+use Rattle.syslog_pieces.proofs.Names.{rules, arith, sym, subst, ◌≡◌, ◌+◌, ◌≤◌, ℕ, [], length, Result, Ok, Err, refl}
+use Rattle.syslog_pieces.proofs.Names.{MatchResult, IsErrAnd, inl, NoFront, start_row, no_row, IsDead, element, eqb-true}
+use Rattle.syslog_pieces.proofs.Names.{ElementValue}
 use Rattle.syslog_pieces.proofs.StructuredDataLemmas.Closing.{byte_count_slice, dead_suffix, start_det, no_start}
-use Rattle.syslog_pieces.proofs.StructuredDataLemmas.Elements.{start_text}
-use Rattle.syslog_pieces.proofs.StructuredDataLemmas.Walk.{bare_inside, bare_element, bare_prints, same_rest, at_first}
-use Rattle.syslog_pieces.proofs.StructuredDataLemmas.Walk.{not_opened, value_passes, not_closed, not_separated, ends}
-use Rattle.syslog_pieces.proofs.StructuredDataLemmas.Walk.{goes_on, front_length, param_length, chars_length, one_more}
-use Rattle.syslog_pieces.proofs.StructuredDataLemmas.Walk.{walked}
+use Rattle.syslog_pieces.proofs.StructuredDataLemmas.Walk.{bare_inside, bare_walked, at_first, not_opened, value_passes}
+use Rattle.syslog_pieces.proofs.StructuredDataLemmas.Walk.{not_closed, not_separated, ends, ends_walked, goes_on}
+use Rattle.syslog_pieces.proofs.StructuredDataLemmas.Walk.{more_room, chars_length}
 use Rattle.syslog_pieces.proofs.structured_data.walk.walk_element.Goals as goal
 
 pub returns-in_default-clause-walked : goal.returns-in_default-clause-walked
 returns-in_default-clause-walked g c = (no_start (no_row start_row start_det (inl c.in_default.ensures)), c.requires)
 
 pub new-requires : goal.new-requires
-new-requires g c =
-    let s = row_of start_row (c.in-Some.ensures then c.in-Some-nonempty_run.ensures then c.gap-stands.ensures.blanks
-    then refl) in
-    (_, ([], bare_inside s c.in-Some-literal.ensures, refl))
+new-requires g c = (_, ([], bare_inside c.in-Some-literal.ensures, refl))
 
 pub returns-in-Some-literal-clause-walked : goal.returns-in-Some-literal-clause-walked
 returns-in-Some-literal-clause-walked g c =
-    let s = row_of start_row (c.in-Some.ensures then c.in-Some-nonempty_run.ensures then c.gap-stands.ensures.blanks
-    then refl) in
-    let b = c.gap-stands.ensures.blanks in
-    let after = c.in-Some-nonempty_run.after_id.now in
-    let inner = c.gap-stands.result.0.now in
-    let printed = start_text c.in-Some.ensures c.in-Some-nonempty_run.ensures in
-    walked _ (search rules) (c.new.ensures _ [] (bare_inside s c.in-Some-literal.ensures))
-    (bare_element s c.in-Some-literal.ensures) (λ same. bare_prints s c.in-Some-literal.ensures
-    (rw (same_rest after inner (search rules) (search rules) b.piece b.whole (eqb-true _ _ same)) at printed))
-    (omega (arith, front_length s, front_length c.in-Some-literal.ensures))
+    bare_walked _ _ c.in-Some.ensures c.in-Some-nonempty_run.ensures c.gap-stands.ensures.blanks c.in-Some-literal.ensures
+    (search rules) (search rules) (search rules) (c.new.ensures _ [] (bare_inside c.in-Some-literal.ensures))
+    (λ same. eqb-true _ _ same)
 
 pub returns-in-Some-literal-clause-noted : goal.returns-in-Some-literal-clause-noted
 returns-in-Some-literal-clause-noted g c =
-    let s = row_of start_row (c.in-Some.ensures then c.in-Some-nonempty_run.ensures then c.gap-stands.ensures.blanks
-    then refl) in
     subst (λ (x : ElementValue). g.N.ParamNotes.noted c.clear.new.self x.params)
-    (sym (c.new.ensures _ [] (bare_inside s c.in-Some-literal.ensures))) c.clear.ensures
+    (sym (c.new.ensures _ [] (bare_inside c.in-Some-literal.ensures))) c.clear.ensures
 
 pub params-init : goal.params-init
-params-init g c =
-    let s = row_of start_row (c.in-Some.ensures then c.in-Some-nonempty_run.ensures then c.gap-stands.ensures.blanks
-    then refl) in (
-      search rules,
-      omega (arith, front_length s),
-      (
-        [],
-        at_first s c.in_default-literal.ensures (λ stands. rw (c.gap-stands.ensures.space stands) at
-            (start_text c.in-Some.ensures c.in-Some-nonempty_run.ensures)),
-        refl,
-        c.clear.ensures,
-      ),
-    )
+params-init g c = (
+  search rules,
+  (
+    [],
+    at_first _ _ c.in-Some.ensures c.in-Some-nonempty_run.ensures c.gap-stands.ensures.blanks c.in_default-literal.ensures
+        c.gap-stands.ensures.space,
+    c.clear.ensures,
+  ),
+)
 
 pub returns-in_default-open_param-clause-walked : goal.returns-in_default-open_param-clause-walked
 returns-in_default-open_param-clause-walked g c =
-    not_opened c.params.invariant.2.1 c.in_default-open_param.ensures _
+    not_opened c.params.invariant.1.1 c.in_default-open_param.ensures _
     (sym (byte_count_slice c.params.at.now c.params.invariant.0))
 
 pub live_value-requires : goal.live_value-requires
 live_value-requires g c =
-    let p = value_passes c.params.invariant.2.1 c.in-Some-open_param.ensures.0 in
+    let p = value_passes c.params.invariant.1.1 c.in-Some-open_param.ensures.0 in
     dead_suffix _ p.piece _ c.args.dead p.whole c.requires
 
 -- the refusal that `?` hands on
@@ -71,64 +53,47 @@ refused S T (Err x) d h t = subst T (sym h) t
 
 pub returns-in_err-after-clause-walked : goal.returns-in_err-after-clause-walked
 returns-in_err-after-clause-walked g c =
-    let r = not_closed c.params.invariant.2.1 c.in-Some-open_param.ensures.0 _ c.in_err-after.ensures.0
+    let r = not_closed c.params.invariant.1.1 c.in-Some-open_param.ensures.0 _ c.in_err-after.ensures.0
     c.in_err-after.ensures.1 in
     refused _ (λ d. NoFront element _ × IsDead _ d) c.from_residual.result _ c.from_residual.ensures.1 r
 
 pub overflow_add-count : goal.overflow_add-count
 overflow_add-count g c =
-    let l = param_length c.in-Some-open_param.ensures.0 c.value_before.ensures in
+    let l = more_room c.params.invariant.1.1 c.in-Some-open_param.ensures.0 c.value_before.ensures in
     let le : c.params.count + 1 ≤ length c.args.text.now =
-    omega (arith, l, c.params.invariant.1, chars_length c.args.text.now c.utf8.text) in
+    omega (arith, l, chars_length c.args.text.now c.utf8.text) in
     search rules
 
 pub new-requires-in-Some-literal-2 : goal.new-requires-in-Some-literal-2
 new-requires-in-Some-literal-2 g c =
-    let s = row_of start_row (c.in-Some.ensures then c.in-Some-nonempty_run.ensures then c.gap-stands.ensures.blanks
-    then refl) in
-    let (ps, at, n, noted) = c.params.invariant.2 in
-    let e = ends at c.in-Some-open_param.ensures.0 c.value_before.ensures c.in-Some-open_param.ensures.1 s
+    let e = ends c.params.invariant.1.1 c.in-Some-open_param.ensures.0 c.value_before.ensures
     c.in-Some-literal-2.ensures in
-    (_, (_, e.0, one_more ps _ n))
+    (_, (_, e.0, e.1))
 
 pub returns-in-Some-literal-2-clause-walked : goal.returns-in-Some-literal-2-clause-walked
 returns-in-Some-literal-2-clause-walked g c =
-    let s = row_of start_row (c.in-Some.ensures then c.in-Some-nonempty_run.ensures then c.gap-stands.ensures.blanks
-    then refl) in
-    let (ps, at, n, noted) = c.params.invariant.2 in
+    let (ps, at, noted) = c.params.invariant.1 in
     let o = c.in-Some-open_param.ensures in
-    let e = ends at o.0 c.value_before.ensures o.1 s c.in-Some-literal-2.ensures in
-    let l = param_length o.0 c.value_before.ensures in
-    walked _ (search rules) (c.new-in-Some-literal-2.ensures _ _ e.0) e.1 e.2
-    (rw (← one_more ps _ n) (omega (arith, l, c.params.invariant.1, front_length c.in-Some-literal-2.ensures)))
+    let close = c.in-Some-literal-2.ensures in
+    ends_walked at o.0 c.value_before.ensures o.1 close (search rules)
+    (c.new-in-Some-literal-2.ensures _ _ (ends at o.0 c.value_before.ensures close).0) (λ t. t)
 
 pub returns-in-Some-literal-2-clause-noted : goal.returns-in-Some-literal-2-clause-noted
 returns-in-Some-literal-2-clause-noted g c =
-    let s = row_of start_row (c.in-Some.ensures then c.in-Some-nonempty_run.ensures then c.gap-stands.ensures.blanks
-    then refl) in
-    let (ps, at, n, noted) = c.params.invariant.2 in
-    let e = ends at c.in-Some-open_param.ensures.0 c.value_before.ensures c.in-Some-open_param.ensures.1 s
-    c.in-Some-literal-2.ensures in
+    let (ps, at, noted) = c.params.invariant.1 in
+    let e = ends at c.in-Some-open_param.ensures.0 c.value_before.ensures c.in-Some-literal-2.ensures in
     subst (λ (x : ElementValue). g.N.ParamNotes.noted c.push.new.self x.params)
     (sym (c.new-in-Some-literal-2.ensures _ _ e.0)) (c.push.ensures ps noted)
 
 pub returns-in_default-literal-3-clause-walked : goal.returns-in_default-literal-3-clause-walked
 returns-in_default-literal-3-clause-walked g c =
-    not_separated c.params.invariant.2.1 c.in-Some-open_param.ensures.0 c.value_before.ensures
+    not_separated c.params.invariant.1.1 c.in-Some-open_param.ensures.0 c.value_before.ensures
     c.in_default-literal-2.ensures c.in_default-literal-3.ensures _
     (sym (byte_count_slice c.in_ok-after.after.now (search rules)))
 
 pub params-preserved : goal.params-preserved
 params-preserved g c =
-    let (ps, at, n, noted) = c.params.invariant.2 in
+    let (ps, at, noted) = c.params.invariant.1 in
     let o = c.in-Some-open_param.ensures in
-    let l = param_length o.0 c.value_before.ensures in (
-      search rules,
-      omega (arith, l, c.params.invariant.1, front_length c.in-Some-literal-3.ensures),
-      (
-        _,
-        goes_on at o.0 c.value_before.ensures o.1 c.in-Some-literal-3.ensures,
-        one_more ps _ n,
-        c.push.ensures ps noted,
-      ),
-    )
+    let on = goes_on at o.0 c.value_before.ensures o.1 c.in-Some-literal-3.ensures in
+    (search rules, (_, on, c.push.ensures ps noted))
