@@ -95,7 +95,7 @@ pub use Rattle.syslog_pieces.proofs.TimestampLemmas.MonthDate.{stamped_date_begi
 pub use Rattle.syslog_pieces.proofs.TextLemmas.Runs.{some_front_run, one_ascii, nonempty_is, text_is, chars_nonempty}
 pub use Rattle.syslog_pieces.proofs.TextLemmas.Runs.{same_chars, end_trimmed_chars, no_some_run, chars_empty}
 pub use Rattle.syslog_pieces.proofs.TextLemmas.Runs.{word_stands, host_stands, empty_is, text_is_not, no_number}
-pub use Rattle.syslog_pieces.proofs.StructuredDataLemmas.Closing.{opening_det}
+pub use Rattle.syslog_pieces.proofs.StructuredDataLemmas.Elements.{opening_det}
 pub use Rattle.syslog_loose.specs.Canonical.{IsBounded, IsCanonicalFor, IsCanonical, IsBoundedProcess, IsCanonicalHost}
 pub use Rattle.syslog_loose.specs.Canonical.{IsVisible, IsBracketedProcess, is_process_char, AreCanonicalNames}
 pub use Rattle.syslog_loose.specs.Canonical.{IsCanonical3164, IsCanonicalElement, IsCanonicalInBoth, fields_value}

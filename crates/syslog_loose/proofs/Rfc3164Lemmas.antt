@@ -24,7 +24,7 @@ use Rattle.syslog_loose.proofs.Names.{flat_map, IsPart, AreInPieces, text_list, 
 use Rattle.syslog_loose.proofs.Names.{all_right, Quoted, row_quotes, silent, rest_quotes, host_quotes, part_joined}
 use Rattle.syslog_loose.proofs.Names.{Quotes3164, rows_split, IsAscii, chars_nonempty, tag_word_det, to_ascii_lowercase}
 use Rattle.syslog_loose.proofs.Names.{no_some_run, stamp_text-year, optional_rfc3164_list_quotes, message_of_parts}
-use Rattle.syslog_pieces.proofs.PieceLemmas.Class.{texted_det, spaced_det, Fails, all_append}
+use Rattle.syslog_pieces.proofs.PieceLemmas.Class.{texted_det, after_det, Fails, all_append}
 use Rattle.syslog_pieces.proofs.PieceLemmas.Lists.{first_kind, each_begins, texted_quotes, tag_word_quotes}
 use Rattle.syslog_pieces.proofs.PieceLemmas.Lists.{optional_quotes, optional_texts, spaced_quotes, part_left}
 use Rattle.syslog_pieces.proofs.PieceLemmas.Lists.{part_right}
@@ -183,8 +183,8 @@ to_colon = optional (spaced host) ∷ optional (spaced tag_word) ∷ run is_blan
 
 pub to_colon_det : AllDeterministic to_colon
 to_colon_det =
-    optional_det (spaced host) (spaced_det host host_det)
-    also optional_det (spaced tag_word) (spaced_det tag_word tag_word_det) also run_det is_blank
+    optional_det (spaced host) (after_det host host_det)
+    also optional_det (spaced tag_word) (after_det tag_word tag_word_det) also run_det is_blank
     also optional_det (exactly colon) (exactly_det colon) also tt
 
 -- the blanks after the list, and the message

@@ -20,7 +20,8 @@ use Rattle.syslog_loose.proofs.Names.{spaced_parts, stamp_text-canonical, own_ye
 use Rattle.syslog_pieces.proofs.PieceLemmas.Class.{row_nil, row_none_here, row_none_later, texted_front, no_front_no}
 use Rattle.syslog_pieces.proofs.PieceLemmas.Class.{Meets, meets_here, meets_none}
 use Rattle.syslog_pieces.proofs.PieceLemmas.Lists.{no_more, no_more_behind}
-use Rattle.syslog_pieces.proofs.StructuredDataLemmas.Closing.{start_det, no_closing, closing_goes, quoted_goes}
+use Rattle.syslog_pieces.proofs.StructuredDataLemmas.Elements.{start_det}
+use Rattle.syslog_pieces.proofs.StructuredDataLemmas.Closing.{no_closing, closing_goes, quoted_goes}
 use Rattle.syslog_pieces.proofs.StructuredDataLemmas.Closing.{no_opening, no_quoted_short, passes_here, value_ends}
 use Rattle.syslog_pieces.proofs.StructuredDataLemmas.Closing.{value_breaks, value_goes}
 use Rattle.syslog_pieces.proofs.StructuredDataLemmas.Walk.{full_goes}

@@ -263,9 +263,6 @@ after_det {c} C d p q p' q' v v' e (t, f, h) (t', f', h') =
     let r = d t q t' q' v v' same h h' in
     (f ∙ ap (λ (x : Text). c ∷ x) r.0 ∙ sym f', r.1)
 
-pub spaced_det : (C : Class) → IsDeterministic C → IsDeterministic (spaced C)
-spaced_det C d = after_det C d
-
 -- such a piece, from the character and the piece after it
 pub spaced_front : (C : Class) {c : ℕ} {t q r : Text} {v : C.Value} → Front (exactly (c ∷ [])) t q tt → Front C q r v
     → Front (after c C) t r v

@@ -19,6 +19,8 @@ use Rattle.std.specs.Char.{encode_utf8}
 use Rattle.syslog_pieces.proofs.PieceLemmas.Class.{row_cons, row_none_later, meets_none_on, rows_go, each_right}
 use Rattle.syslog_pieces.proofs.StructuredDataLemmas.Elements.{unit_goes, value_here, space_is_no_close, value_det}
 use Rattle.syslog_pieces.proofs.TextLemmas.Runs.{one_ascii, rest_shorter, front_chars, front_cut}
+use Rattle.syslog_pieces.proofs.StructuredDataLemmas.Elements.{quoted_det, start_det, opening_det, quoted_text, no_unit_at_end, no_quote_unit}
+use Rattle.syslog_pieces.proofs.StructuredDataLemmas.Units.{unit_same}
 
 -- ---- bytes, and where a bracket is in two joined texts
 pub byte_count_slice : (bs : Text) → IsUtf8 bs → byte_count (chars bs) ≡ length bs
@@ -51,6 +53,9 @@ dead_suffix t p x d e h a b f l = h (p ++ a) b (e ∙ ap (λ (y : Text). p ++ y)
 pub dead_whole : (t : Text) (d : ℕ) → d ≡ byte_count t → IsDead t d
 dead_whole t d e a b f l = absurd (let k = behind_bracket a b in let m = ap byte_count f in omega (arith, k, m))
 
+pub dead_bytes : (bs : Text) → IsUtf8 bs → IsDead (chars bs) (length bs)
+dead_bytes bs u = dead_whole (chars bs) (length bs) (sym (byte_count_slice bs u))
+
 pub dead_least : (t : Text) (a b : ℕ) → IsDead t a → IsDead t b → IsDead t (min a b)
 dead_least t a b i j p q e l x y v w h =
     let na : a ≤ byte_count q → ⊥ = λ k. i p q e k x y v w h in
@@ -58,18 +63,6 @@ dead_least t a b i j p q e l x y v w h =
     omega (arith, na, nb, l)
 
 -- ---- the steps of an element
-pub start_det : AllDeterministic start_row
-start_det =
-    exactly_det (91 ∷ []) also texted_det (some_run is_id_char) (some_run_det is_id_char) also run_det is_blank also tt
-
-pub opening_det : AllDeterministic opening_row
-opening_det =
-    texted_det (some_run is_name_char) (some_run_det is_name_char) also exactly_det (61 ∷ []) also run_det is_blank
-    also exactly_det (34 ∷ []) also tt
-
-pub quoted_det : IsDeterministic quoted
-quoted_det = row_det quoted_row (value_det also exactly_det (34 ∷ []) also tt)
-
 pub element_starts : {t u : Text} {vs : Values start_row} → Front start t u vs → Meets element t inside u
 element_starts {t = t} {u = u} {vs = vs} f =
     meets_on (mapped_meets (Row element_row) ElementValue element_of t)
@@ -347,62 +340,57 @@ module _ {C : Class} {text x y : Text} {vs : Values quoted_row} (p : Passes C te
 -- ---- a quoted value, cut from its text by bytes
 module _ (t r : List ℕ) (u : IsUtf8 t) (z : IsUtf8 r) (v : Values quoted_row)
     (f : Front quoted (chars t) (chars r) v) where
-  first : (w : Text) × Front value (chars t) w v.0 × Front (Row (exactly (34 ∷ []) ∷ [])) w (chars r) v.1
-  first = row_head value (exactly (34 ∷ []) ∷ []) f
-
   behind_utf8 : IsUtf8 (34 ∷ r)
   behind_utf8 = IsUtf8-append (34 ∷ []) r (IsUtf8-from_ascii (34 ∷ []) (one_ascii 34 (omega arith))) z
 
-  whole : chars t ≡ first.1.piece ++ chars (34 ∷ r)
+  whole : chars t ≡ v.0 ++ chars (34 ∷ r)
   unfolding encode_utf8
-  whole =
-      let (s, quote, end) = row_pieces (exactly (34 ∷ []) ∷ []) first.2 in
-      first.1.whole ∙ ap (λ (x : Text). first.1.piece ++ x) (begins 34 first.0 s quote ∙ ap (λ (x : Text). 34 ∷ x) end
-      ∙ sym (chars_past_char (34 ∷ r) r 34 behind_utf8 refl))
+  whole = quoted_text f ∙ ap (λ (x : Text). v.0 ++ x) (sym (chars_past_char (34 ∷ r) r 34 behind_utf8 refl))
 
   pub quoted_longer : length r + 1 ≤ length t
-  quoted_longer = omega (arith, rest_shorter t (34 ∷ r) u behind_utf8 first.1.piece whole)
+  quoted_longer = omega (arith, rest_shorter t (34 ∷ r) u behind_utf8 v.0 whole)
 
   place : length t - length (34 ∷ r) ≡ length t - length r - 1
   place = omega arith
 
   -- the text may be cut before the closing quote
   pub quoted_cut : IsCharBoundary t (length t - length r - 1)
-  quoted_cut = rw place at (front_cut t (34 ∷ r) u behind_utf8 first.1.piece whole)
+  quoted_cut = rw place at (front_cut t (34 ∷ r) u behind_utf8 v.0 whole)
 
   -- and the value is what is before it
   pub quoted_value : (xs : List ℕ) → xs ≡ take (length t - length r - 1) t
       → Front quoted (chars t) (chars r) (chars xs, (tt, tt))
   quoted_value xs e =
-      let split = front_chars t (34 ∷ r) u behind_utf8 first.1.piece whole xs
-      (e ∙ ap (λ (n : ℕ). take n t) (sym place)) in
-      let piece = append_cancel_right first.1.piece (chars xs) (chars (34 ∷ r)) (sym whole ∙ split) in
-      row_cons value (exactly (34 ∷ []) ∷ [])
-      (subst (λ (y : Text). Front value (chars t) first.0 y) (first.1.is.2 ∙ piece) first.1) first.2
+      let split = front_chars t (34 ∷ r) u behind_utf8 v.0 whole xs (e ∙ ap (λ (n : ℕ). take n t) (sym place)) in
+      subst (λ (y : Text). Front quoted (chars t) (chars r) (y, (tt, tt)))
+      (append_cancel_right v.0 (chars xs) (chars (34 ∷ r)) (sym whole ∙ split)) f
 
 -- ---- what the tests of canonical values return
-abbrev quote : Text
-quote = 34 ∷ []
 
--- the one text is a value before a quote where the other is
-abbrev pub ExtendsValue : Text → Text → Type 0
-ExtendsValue t u = Meets value (t ++ quote) value (u ++ quote)
+-- the one text is a value where the other is
+pub record ExtendsValue (t u : Text) : Type 0 where
+  pub to : IsValue t → IsValue u
+  pub from : IsValue u → IsValue t
 
-closed : (t : Text) → IsValue t → Front value (t ++ quote) quote t
-closed t h = record { piece = t; whole = refl; is = (h, ([], refl), refl) }
+value_behind : (u : TextUnit) (t : Text) → IsValueUnit u → IsValue (unit_text u ++ t) → IsValue t
+value_behind u t h ([], e, k) = absurd (no_unit_at_end u t h e)
+value_behind u t h (w ∷ us, e, k) = (us, (unit_same IsValueUnit (λ c i. i.0) u w t _ h k.0 e).1, k.1)
 
-opened : (t v : Text) → Front value (t ++ quote) quote v → IsValue t
-opened t v f = subst (λ (x : Text). IsValue x) (append_cancel_right f.piece t quote (sym f.whole)) f.is.0
+extends_unit : (u : TextUnit) (text t : Text) → IsValueUnit u → ExtendsValue text (unit_text u ++ t)
+    → ExtendsValue text t
+extends_unit u text t h m = record {
+  to = λ v. value_behind u t h (m.to v);
+  from = λ (us, e, k). m.from (u ∷ us, ap (λ (x : Text). unit_text u ++ x) e, (h, k));
+}
 
-pub value_same : (t u : Text) → ExtendsValue t u → IsValue t ↔ IsValue u
-value_same t u m = (
-  (λ h. let (v, f) = m.back quote t (closed t h) in opened u v f),
-  (λ h. let (v, f) = m.forth quote u (closed u h) in opened t v f),
-)
+extends_run : (text xs t : Text) → Each is_unescaped_char xs → ExtendsValue text (xs ++ t) → ExtendsValue text t
+extends_run text [] t h m = m
+extends_run text (c ∷ xs) t h m =
+    extends_run text xs t h.1 (extends_unit (single c) text (xs ++ t) (unescaped_plain c h.0) m)
 
 no_quote_value : (q : Text) → IsValue (34 ∷ q) → ⊥
-no_quote_value q h =
-    let empty = front_same value value_det (closed (34 ∷ q) h) (value_here ((34 ∷ q) ++ quote) (q ++ quote) refl) in cc
+no_quote_value q (u ∷ us, e, h) = no_quote_unit u _ h.0 (q, sym e)
+no_quote_value q ([], e, h) = cc
 
 no_lone_value : IsValue (92 ∷ []) → ⊥
 no_lone_value ([], e, h) = cc
@@ -412,15 +400,14 @@ no_lone_value (single c ∷ us, e, h) = h.0.0 (cc)
 module _ (text bs xs ys : List ℕ) (s : SplitsRun is_unescaped_char bs xs ys)
     (m : ExtendsValue (chars text) (chars bs)) where
   to_end : ExtendsValue (chars text) (chars ys)
-  to_end = run_on is_unescaped_char unescaped_plain _ _ (chars xs) (chars ys ++ quote)
-      (ap (λ (x : Text). x ++ quote) s.characters ∙ append_assoc (chars xs) (chars ys) quote) s.each m
+  to_end = extends_run (chars text) (chars xs) (chars ys) s.each (rw s.characters at m)
 
   pub value_at_end : chars ys ≡ [] → IsTrue true ↔ IsValue (chars text)
-  value_at_end e = ((λ h. (value_same (chars text) (chars ys) to_end).1 (rw e ([], refl, tt))), (λ h. refl))
+  value_at_end e = ((λ h. to_end.from (rw e ([], refl, tt))), (λ h. refl))
 
   module _ (c : ℕ) (q : Text) (e : chars ys ≡ c ∷ q) where
     fails : (IsValue (c ∷ q) → ⊥) → IsTrue false ↔ IsValue (chars text)
-    fails n = false_is (λ h. n (rw e at ((value_same (chars text) (chars ys) to_end).0 h)))
+    fails n = false_is (λ h. n (rw e at (to_end.to h)))
 
     pub value_at_quote : c ≡ 34 → IsTrue false ↔ IsValue (chars text)
     value_at_quote z = fails (λ h. no_quote_value q (rw z at h))
@@ -433,10 +420,7 @@ module _ (text bs xs ys : List ℕ) (s : SplitsRun is_unescaped_char bs xs ys)
       value_lone z = fails (λ h. no_lone_value (rw (z, is_backslash) at h))
 
       pub value_further : (d : ℕ) (r : Text) → q ≡ d ∷ r → ExtendsValue (chars text) r
-      value_further d r z =
-          let whole : chars ys ++ quote ≡ 92 ∷ d ∷ (r ++ quote) = (let b = is_backslash in
-          ap (λ (x : Text). x ++ quote) (let w : chars ys ≡ 92 ∷ d ∷ r = cc in w)) in
-          meets_on to_end (unit_goes (pair d) (chars ys ++ quote) (r ++ quote) tt whole)
+      value_further d r z = extends_unit (pair d) (chars text) r tt (rw (e, is_backslash, z) at to_end)
 
 -- how the test of a value ends
 pub ruleset value_steps = (value_at_end, value_at_quote, value_lone)

@@ -18,14 +18,16 @@ use Rattle.syslog_pieces.proofs.Names.{list_before, IsValueUnit, element_row, so
 use Rattle.syslog_pieces.specs.declared.structured_data.recognised.ElementList.{ElementList}
 use Rattle.syslog_pieces.proofs.PieceLemmas.Lists.{list_before_det}
 use Rattle.syslog_pieces.proofs.StructuredDataLemmas.Units.{unit_same, units_same}
+use Rattle.syslog_pieces.proofs.Names.{start_row, opening_row, inside_row}
+use Rattle.syslog_pieces.proofs.PieceLemmas.Class.{all_joined}
 
 -- ---- values
 
 -- the text begins with a quote
-abbrev BeginsQuote : Text → Type 0
+abbrev pub BeginsQuote : Text → Type 0
 BeginsQuote t = (r : Text) × (t ≡ 34 ∷ r)
 
-no_quote_unit : (u : TextUnit) (t : Text) → IsValueUnit u → BeginsQuote (unit_text u ++ t) → ⊥
+pub no_quote_unit : (u : TextUnit) (t : Text) → IsValueUnit u → BeginsQuote (unit_text u ++ t) → ⊥
 no_quote_unit (pair c) t h (r, e) = let i : ◌≡◌ {A = ℕ} 92 34 = cc in omega arith
 no_quote_unit (single c) t h (r, e) = h.1 (cc)
 
@@ -63,13 +65,24 @@ pub value_here : (t r : Text) → t ≡ 34 ∷ r → Front value t t []
 value_here t r e = record { piece = []; whole = refl; is = (([], refl, tt), (r, e), refl) }
 
 -- ---- parameters and elements
-pub param_row_det : AllDeterministic param_row
-param_row_det =
+pub start_det : AllDeterministic start_row
+start_det =
+    exactly_det (91 ∷ []) also texted_det (some_run is_id_char) (some_run_det is_id_char) also run_det is_blank also tt
+
+pub opening_det : AllDeterministic opening_row
+opening_det =
     texted_det (some_run is_name_char) (some_run_det is_name_char) also exactly_det (61 ∷ []) also run_det is_blank
-    also exactly_det (34 ∷ []) also value_det also exactly_det (34 ∷ []) also tt
+    also exactly_det (34 ∷ []) also tt
+
+quoted_row_det : AllDeterministic quoted_row
+quoted_row_det = value_det also exactly_det (34 ∷ []) also tt
+
+pub quoted_det : IsDeterministic quoted
+quoted_det = row_det quoted_row quoted_row_det
 
 pub param_det : IsDeterministic param
-param_det = mapped_det (Row param_row) (Text × Text) param_of (row_det param_row param_row_det)
+param_det = mapped_det (Row param_row) (Text × Text) param_of
+    (row_det param_row (all_joined opening_row quoted_row opening_det quoted_row_det))
 
 name_no_close : (c : ℕ) → is_name_char c ≡ true → c ≢ 93
 name_no_close c h = grind (arith, nat_tests)
@@ -91,13 +104,15 @@ space_is_no_close e = omega arith
 pub params_det : IsDeterministic (list_before param 32 93)
 params_det = list_before_det param 32 93 space_is_no_close param_det param_apart
 
-pub element_row_det : AllDeterministic element_row
-element_row_det =
-    exactly_det (91 ∷ []) also texted_det (some_run is_id_char) (some_run_det is_id_char) also run_det is_blank
-    also params_det also exactly_det (93 ∷ []) also tt
+inside_row_det : AllDeterministic inside_row
+inside_row_det = params_det also exactly_det (93 ∷ []) also tt
+
+pub inside_det : IsDeterministic inside
+inside_det = row_det inside_row inside_row_det
 
 pub element_det : IsDeterministic element
-element_det = mapped_det (Row element_row) ElementValue element_of (row_det element_row element_row_det)
+element_det = mapped_det (Row element_row) ElementValue element_of
+    (row_det element_row (all_joined start_row inside_row start_det inside_row_det))
 
 -- ---- forgiving lists
 abbrev pub bracketed_row : List Class
@@ -394,7 +409,7 @@ unit_prop : (u : TextUnit) → IsProp (IsValueUnit u)
 unit_prop (pair c) = Prim.hlevel props
 unit_prop (single c) = Prim.hlevel props
 
-no_unit_at_end : (u : TextUnit) (t : Text) → IsValueUnit u → unit_text u ++ t ≡ [] → ⊥
+pub no_unit_at_end : (u : TextUnit) (t : Text) → IsValueUnit u → unit_text u ++ t ≡ [] → ⊥
 no_unit_at_end (pair c) t h e = cc
 no_unit_at_end (single c) t h e = cc
 
@@ -402,10 +417,9 @@ value_prop : (t : Text) → IsProp (IsValue t)
 value_prop t v w =
     let same : v.0 ≡ w.0 = (units_same IsValueUnit (λ c h. h.0) (λ x. x ≡ []) no_unit_at_end v.0 w.0 [] [] v.2 w.2 refl refl
     (ap (λ (x : Text). x ++ []) (sym v.1 ∙ w.1))).0 in
-    let whole = is_prop→PathP (λ i. t ≡ flat_map unit_text (same i)) (λ i. Prim.hlevel props) v.1 w.1 in
-    let each = is_prop→PathP (λ i. AllByRecursion IsValueUnit (same i))
-    (λ i. AllByRecursion-prop IsValueUnit unit_prop (same i)) v.2 w.2 in
-    λ i. (same i, whole i, each i)
+    let all = is_prop→PathP (λ i. (t ≡ flat_map unit_text (same i)) × AllByRecursion IsValueUnit (same i))
+    (λ i. Prim.hlevel (props, AllByRecursion-prop IsValueUnit unit_prop (same i))) (v.1, v.2) (w.1, w.2) in
+    λ i. (let (whole, each) = all i in (same i, whole, each))
 
 each_prop : (test : ℕ → Bool) (t : Text) → IsProp (Each test t)
 each_prop test [] = Prim.hlevel props

@@ -100,20 +100,20 @@ not_backslash c e = grind (arith, nat_tests)
 escaped_pair : (c : ℕ) → is_escaped c ≡ true → pair_meaning c ≡ c ∷ []
 escaped_pair c e = grind (arith, nat_tests)
 
-escaped_on : (u : TextUnit) (c : ℕ) (t : Text) → IsUnit u → escaped_char c ≡ unit_text u → unit_meaning u ≡ c ∷ []
-    → IsUnescaped (escaped t) t → IsUnescaped (escaped (c ∷ t)) (c ∷ t)
-escaped_on u c t h e f i = record {
+unescaped_on : (u : TextUnit) {t w : Text} → IsUnit u → IsUnescaped t w
+    → IsUnescaped (unit_text u ++ t) (unit_meaning u ++ w)
+unescaped_on u {t = t} h i = record {
   units = u ∷ i.units;
   lone = i.lone;
-  split = split_cons u (escaped t) _ i.units i.lone h (ap (λ (x : Text). x ++ escaped t) e) i.split;
-  means = ap (λ (x : Text). c ∷ x) i.means ∙ ap (λ (x : Text). x ++ flat_map unit_meaning i.units) (sym f);
+  split = split_cons u t _ i.units i.lone h refl i.split;
+  means = ap (λ (x : Text). unit_meaning u ++ x) i.means;
 }
 
 pub escaped_there : (t : Text) → IsUnescaped (escaped t) t
 escaped_there [] = record { units = []; lone = false; split = record { whole = refl; each = tt }; means = refl }
 escaped_there (c ∷ t) = elim (cases_Bool (is_escaped c)) [
-  | inl e ↦ escaped_on (pair c) c t tt (rw e refl) (escaped_pair c e) (escaped_there t)
-  | inr e ↦ escaped_on (single c) c t (not_backslash c e) (rw e refl) refl (escaped_there t)
+  | inl e ↦ (let i = rw (escaped_pair c e) at (unescaped_on (pair c) tt (escaped_there t)) in rw e i)
+  | inr e ↦ rw e (unescaped_on (single c) (not_backslash c e) (escaped_there t))
 ]
 
 pub unescaped_one : (t v w : Text) → IsUnescaped t v → IsUnescaped t w → v ≡ w
@@ -147,37 +147,12 @@ value_split text = (
   λ s. (s.0, s.1.whole ∙ append-nil (flat_map unit_text s.0), each_unit s.0 s.1.each s.2),
 )
 
--- ---- reading units one after the other
+-- ---- reading units one after the other: with what the rest means, what was read means that of the text
 pub record Removes (text out rest : Text) : Type 0 where
-  pub units : List TextUnit
-  pub whole : text ≡ flat_map unit_text units ++ rest
-  pub each : AllByRecursion IsUnit units
-  pub means : out ≡ flat_map unit_meaning units
+  pub on : (w : Text) → IsUnescaped rest w → IsUnescaped text (out ++ w)
 
 pub removes_here : (t : Text) (out : Text) → out ≡ [] → Removes t out t
-removes_here t out e = record { units = []; whole = refl; each = tt; means = e }
-
-pub removes_on : (t out rest rest' out' more : Text) (us : List TextUnit) → Removes t out rest
-    → rest ≡ flat_map unit_text us ++ rest' → AllByRecursion IsUnit us → out' ≡ out ++ more
-    → more ≡ flat_map unit_meaning us → Removes t out' rest'
-removes_on t out rest rest' out' more us r e h f g = record {
-  units = r.units ++ us;
-  whole = r.whole ∙ ap (λ (x : Text). flat_map unit_text r.units ++ x) e
-      ∙ sym (append_assoc (flat_map unit_text r.units) (flat_map unit_text us) rest')
-      ∙ ap (λ (x : Text). x ++ rest') (sym (flat_map-append unit_text r.units us));
-  each = all_append IsUnit r.units us r.each h;
-  means = f ∙ ap (λ (x : Text). out ++ x) g ∙ ap (λ (x : Text). x ++ flat_map unit_meaning us) r.means
-      ∙ sym (flat_map-append unit_meaning r.units us);
-}
-
-abbrev singles : Text → List TextUnit
-singles [] = []
-singles (c ∷ w) = single c ∷ singles w
-
--- a character alone is its text, and means itself
-each_single : (f : TextUnit → Text) → ((c : ℕ) → f (single c) ≡ c ∷ []) → (w : Text) → w ≡ flat_map f (singles w)
-each_single f h [] = refl
-each_single f h (c ∷ w) = let e = each_single f h w in let g = h c in rw g (cc)
+removes_here t out e = record { on = λ w i. rw e i }
 
 bare_is : (c : ℕ) → is_bare_char c ≡ true → c ≢ 92
 bare_is c e = grind (arith, nat_tests)
@@ -185,37 +160,36 @@ bare_is c e = grind (arith, nat_tests)
 bare_not : (c : ℕ) → is_bare_char c ≡ false → c ≡ 92
 bare_not c e = grind (arith, nat_tests)
 
-singles_each : (w : Text) → Each is_bare_char w → AllByRecursion IsUnit (singles w)
-singles_each [] h = tt
-singles_each (c ∷ w) h = (bare_is c h.0, singles_each w h.1)
+unescaped_run : (xs t w : Text) → Each is_bare_char xs → IsUnescaped t w → IsUnescaped (xs ++ t) (xs ++ w)
+unescaped_run [] t w h i = i
+unescaped_run (c ∷ xs) t w h i = unescaped_on (single c) (bare_is c h.0) (unescaped_run xs t w h.1 i)
 
 module _ {t bs xs ys out out' : Text} (s : SplitsRun is_bare_char bs xs ys) (r : Removes t out (chars bs))
     (f : out' ≡ out ++ chars xs) where
   pub removes_run : Removes t out' (chars ys)
-  removes_run = removes_on t out (chars bs) (chars ys) out' (chars xs) (singles (chars xs)) r
-      (s.characters ∙ ap (λ (x : Text). x ++ chars ys) (each_single unit_text (λ c. refl) (chars xs)))
-      (singles_each (chars xs) s.each) f (each_single unit_meaning (λ c. refl) (chars xs))
+  removes_run = record {
+    on = λ w i. rw (f, append_assoc) (r.on (chars xs ++ w)
+        (rw s.characters (unescaped_run (chars xs) (chars ys) w s.each i)));
+  }
 
   -- what is after the run begins with a backslash
   pub backslash : (c : ℕ) (q w : Text) → chars ys ≡ c ∷ q → q ≡ w → chars ys ≡ 92 ∷ w
   backslash c q w e g = let b = bare_not c (subst (λ (x : Text). Ends is_bare_char x) e s.ends) in cc
 
   pub removes_end : (lone : Bool) → chars ys ≡ lone_backslash lone → IsUnescaped t out'
-  removes_end lone e = record {
-    units = removes_run.units;
+  removes_end lone e = rw append-nil at (removes_run.on [] (record {
+    units = [];
     lone = lone;
-    split = record {
-      whole = removes_run.whole ∙ ap (λ (x : Text). flat_map unit_text removes_run.units ++ x) e;
-      each = removes_run.each;
-    };
-    means = removes_run.means;
-  }
+    split = record { whole = e; each = tt };
+    means = refl;
+  }))
 
   pub removes_pair : (c d : ℕ) (q q' out'' : Text) → chars ys ≡ c ∷ q → q ≡ d ∷ q' → out'' ≡ out' ++ pair_meaning d
       → Removes t out'' q'
-  removes_pair c d q q' out'' e g h =
-      removes_on t out' (chars ys) q' out'' (pair_meaning d) (pair d ∷ []) removes_run
-      (backslash c q (d ∷ q') e g) (tt, tt) h (sym (append-nil (pair_meaning d)))
+  removes_pair c d q q' out'' e g h = record {
+    on = λ w i. rw (h, append_assoc) (removes_run.on (pair_meaning d ++ w)
+        (rw (backslash c q (d ∷ q') e g) (unescaped_on (pair d) tt i)));
+  }
 
 -- ---- what an iterator over parameters gives in all
 pub AreParamItems-Drains : {S : Type 0} (bytes : S → List ℕ) (params : List (S × S)) (items : List (Result (Bor S ×

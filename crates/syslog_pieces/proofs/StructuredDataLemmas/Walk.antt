@@ -20,8 +20,8 @@ use mathlib.Core.HLevel.{Σ_prop, ⊥_prop}
 use Rattle.syslog_pieces.specs.StructuredData.Recognised.{OneInside-prop, OneItems-prop, params_set, items_set}
 use Rattle.syslog_pieces.specs.StructuredData.Visited.{IsTallied, AreItems}
 use Rattle.syslog_pieces.specs.declared.structured_data.line_list.Tally.{Tally}
-use Rattle.syslog_pieces.proofs.StructuredDataLemmas.Closing.{start_det, element_enters, passes_opening, element_starts}
-use Rattle.syslog_pieces.proofs.StructuredDataLemmas.Closing.{no_start, start_shut, param_read, dead_whole, quoted_det}
+use Rattle.syslog_pieces.proofs.StructuredDataLemmas.Closing.{element_enters, passes_opening, element_starts}
+use Rattle.syslog_pieces.proofs.StructuredDataLemmas.Closing.{no_start, start_shut, param_read, dead_whole}
 use Rattle.syslog_pieces.proofs.StructuredDataLemmas.Closing.{no_opening, Passes, passes_here, passes_row, param_opens}
 use Rattle.syslog_pieces.proofs.StructuredDataLemmas.Closing.{passes_space, passes_quoted, element_read, value_breaks}
 use Rattle.syslog_pieces.proofs.StructuredDataLemmas.Elements.{element_det, element_shorter, item_begins, run_no_close}
@@ -35,6 +35,7 @@ use Rattle.syslog_pieces.proofs.PieceLemmas.Class.{texted_steady, mapped_alone, 
 use Rattle.syslog_pieces.proofs.PieceLemmas.Class.{list_before_steady, front_longer, row_cons}
 use Rattle.syslog_pieces.proofs.Names.{flat_map-append}
 use Rattle.syslog_pieces.proofs.Names.{HasRead, has_read_none, has_read_all, has_read_more}
+use Rattle.syslog_pieces.proofs.StructuredDataLemmas.Elements.{quoted_det, inside_det, start_det}
 
 -- ---- elements with a parameter
 pub full_is_element : {t q : Text} {v : ElementValue} → Front full_element t q v → Front element t q v
@@ -160,9 +161,6 @@ flat_map_more f xs x y = simp (flat_map-append, append_assoc, append-nil)
 -- ---- one meaning
 abbrev pub one_meaning : (C : Class) → IsDeterministic C → {t q : Text} {v : C.Value} → Front C t q v → OneMeaning C t
 one_meaning C d {q = q} {v = v} f = (v, (∣ (q, f) ∣₁, λ r w g. (front_same C d g f).1))
-
-pub inside_det : IsDeterministic inside
-inside_det = row_det inside_row (params_det also exactly_det (93 ∷ []) also tt)
 
 -- ---- the opening of a parameter
 module _ {t a b : Text} {name : Text} (f : Front (texted (some_run is_name_char)) t a name)

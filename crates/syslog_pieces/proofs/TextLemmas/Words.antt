@@ -26,6 +26,7 @@ use Rattle.syslog_pieces.proofs.TextLemmas.Runs.{ascii_front, chars_nonempty, ch
 use Rattle.syslog_pieces.proofs.TextLemmas.Runs.{text_is, text_is_not, nonempty_is, run_is, digits_ascii, behind_cut}
 use Rattle.syslog_pieces.proofs.TextLemmas.Runs.{behind_is, behind_chars, ends_digits}
 use Rattle.syslog_pieces.proofs.PieceLemmas.Class.{each_front}
+pub use Rattle.std.proofs.lemmas.Fmt.{decimal_digit as one_digit, decimal_step as last_of_more}
 pub use Rattle.std.proofs.lemmas.List.Folds.{flat_map-map}
 pub use Rattle.syslog_pieces.proofs.PieceLemmas.Class.{no_truth, false_is, last_is}
 
@@ -372,19 +373,12 @@ digit_is d h = (
 )
 
 -- ---- the decimal text of a number, digit by digit
-last_digit : (n : ℕ) (ds : List ℕ) → 10 ≤ n → n < 2 ^ 64 → decimal (n / 10) ≡ ds
-    → decimal n ≡ ds ++ ((48 + n % 10) ∷ [])
-last_digit n ds l h e = decimal_step n l h ∙ ap (λ (x : List ℕ). x ++ ((48 + n % 10) ∷ [])) e
-
-pub one_digit : (n : ℕ) → n < 10 → decimal n ≡ (48 + n) ∷ []
-one_digit = decimal_digit
-
 pub two_digits : (n : ℕ) → 10 ≤ n → n < 100 → decimal n ≡ pad2 n
-two_digits n l h = last_digit n _ l (omega arith) (one_digit (n / 10) (omega arith))
+two_digits n l h = rw (decimal_step n l (omega arith), decimal_digit (n / 10) (omega arith))
 
 pub three_digits : (n : ℕ) → 100 ≤ n → n < 1_000 → decimal n ≡ pad3 n
 three_digits n l h =
-    let e = last_digit n _ (omega arith) (omega arith) (two_digits (n / 10) (omega arith) (omega arith)) in grind arith
+    let e = rw (two_digits (n / 10) (omega arith) (omega arith)) at (decimal_step n (omega arith) (omega arith)) in grind arith
 
 -- the table of pairs is held against the digits at each number below 100, by computing
 pub pairs_at : (n : ℕ) → n < 100 → (get_or PAIRS (2 * n) 0 ≡ 48 + n / 10) × (get_or PAIRS (2 * n + 1) 0 ≡ 48 + n % 10)
@@ -392,10 +386,6 @@ pairs_at n l = (
   eqb-true _ _ (agree_below_at (λ k. nat_eq (get_or PAIRS (2 * k) 0) (48 + k / 10)) (λ _. true) 100 n refl l),
   eqb-true _ _ (agree_below_at (λ k. nat_eq (get_or PAIRS (2 * k + 1) 0) (48 + k % 10)) (λ _. true) 100 n refl l),
 )
-
--- the decimal text of a number, from that of a tenth of it
-pub last_of_more : (n : ℕ) → 10 ≤ n → n < 2 ^ 64 → decimal n ≡ decimal (n / 10) ++ ((48 + n % 10) ∷ [])
-last_of_more n l h = decimal_step n l h
 
 pub ruleset decimal_steps = (one_digit, last_of_more)
 
@@ -463,17 +453,18 @@ module _ {t : Text} (l limit : ℕ) where
 pub encodes_shown : (bytes source : List ℕ) → IsUtf8 bytes → bytes ≡ source → encode_utf8_all (chars source) ≡ bytes
 encodes_shown bytes source u e = ap (λ (x : List ℕ). encode_utf8_all (chars x)) (sym e) ∙ encodes-chars bytes u
 
--- one more item of a list whose texts are printed one after the other
+-- one more of the items whose texts are printed one after the other
+encodes_on : {Y : Type 0} (f : Y → Text) (head : Text) (ys : List Y) (y : Y) (bytes : List ℕ)
+    → encode_utf8_all (f y) ≡ bytes → encode_utf8_all (head ++ flat_map f ys) ++ bytes
+    ≡ encode_utf8_all (head ++ flat_map f (ys ++ (y ∷ [])))
+encodes_on f head ys y bytes e = rw (← e, ← encodes-append (head ++ flat_map f ys) (f y))
+    (ap encode_utf8_all (simp (flat_map-append, append_assoc, append-nil)))
+
+-- of a list
 pub encodes_step : {X : Type 0} (f : X → Text) (head : Text) (xs : List X) (i : ℕ) (x : X) (bytes : List ℕ)
     → i < length xs → x ≡ get_or xs i x → encode_utf8_all (f x) ≡ bytes
     → encode_utf8_all (head ++ flat_map f (take i xs)) ++ bytes ≡ encode_utf8_all (head ++ flat_map f (take (i + 1) xs))
-encodes_step f head xs i x bytes h at e =
-    let before = flat_map f (take i xs) in
-    let more : flat_map f (take (i + 1) xs) ≡ before ++ f x =
-    ap (flat_map f) (take_more xs i x h) ∙ flat_map-append f (take i xs) (get_or xs i x ∷ [])
-    ∙ ap (λ (z : Text). before ++ z) (append-nil (f (get_or xs i x)) ∙ ap f (sym at)) in
-    ap (λ (b : List ℕ). encode_utf8_all (head ++ before) ++ b) (sym e) ∙ sym (encodes-append (head ++ before) (f x))
-    ∙ ap encode_utf8_all (append_assoc head before (f x) ∙ ap (λ (z : Text). head ++ z) (sym more))
+encodes_step f head xs i x bytes h at e = rw (take_more xs i x h, ← at) (encodes_on f head (take i xs) x bytes e)
 
 -- the bytes of ` name="value"`
 pub encodes_param : (name value : Text) (n v : List ℕ) → encode_utf8_all name ≡ n → encode_utf8_all value ≡ v
@@ -493,15 +484,8 @@ pub encodes_closed : (text : Text) (all : Text) → all ≡ text ++ (93 ∷ [])
 unfolding encode_utf8
 encodes_closed text all e = sym (encodes-append text (93 ∷ [])) ∙ ap encode_utf8_all (sym e)
 
--- one more of the items that an iterator gives
+-- that an iterator gives
 pub encodes_more : {X Y : Type 0} (f : Y → Text) (view : X → Y) (head : Text) (xs : List X) (x : X) (bytes : List ℕ)
     → encode_utf8_all (f (view x)) ≡ bytes → encode_utf8_all (head ++ flat_map f (map view xs)) ++ bytes
     ≡ encode_utf8_all (head ++ flat_map f (map view (xs ++ (x ∷ []))))
-encodes_more f view head xs x bytes e =
-    let before = flat_map f (map view xs) in
-    let more : flat_map f (map view (xs ++ (x ∷ []))) ≡ before ++ f (view x) =
-    ap (flat_map f) (map-append view xs (x ∷ [])) ∙ flat_map-append f (map view xs) (view x ∷ [])
-    ∙ ap (λ (z : Text). before ++ z) (append-nil (f (view x))) in
-    ap (λ (b : List ℕ). encode_utf8_all (head ++ before) ++ b) (sym e)
-    ∙ sym (encodes-append (head ++ before) (f (view x)))
-    ∙ ap encode_utf8_all (append_assoc head before (f (view x)) ∙ ap (λ (z : Text). head ++ z) (sym more))
+encodes_more f view head xs x bytes e = rw (map-append view xs (x ∷ [])) (encodes_on f head (map view xs) (view x) bytes e)

@@ -1,6 +1,6 @@
 use Rattle.syslog_pieces.proofs.Names.{rules, refl, sym, ap, subst, ◌+◌, ℕ, [], ◌∷◌, Some, None, chars, item, strict}
 use Rattle.syslog_pieces.proofs.Names.{IsDead, append-nil}
-use Rattle.syslog_pieces.proofs.StructuredDataLemmas.Closing.{byte_count_slice, dead_whole, dead_suffix, dead_least}
+use Rattle.syslog_pieces.proofs.StructuredDataLemmas.Closing.{dead_bytes, dead_suffix, dead_least}
 use Rattle.syslog_pieces.proofs.StructuredDataLemmas.Elements.{no_item, bracketed_item, strict_append}
 use Rattle.syslog_pieces.proofs.StructuredDataLemmas.Walk.{are_items, gone_none, gone_all, gone_within, gone_on}
 use Rattle.syslog_pieces.proofs.StructuredDataLemmas.Walk.{gone_past, gone_tallied, gone_visits}
@@ -9,7 +9,7 @@ use Rattle.syslog_pieces.proofs.structured_data.line_list.visit_items.Goals as g
 pub items-init : goal.items-init
 items-init g c = (
   search rules,
-  dead_whole _ _ (sym (byte_count_slice c.args.text.now c.utf8.text)),
+  dead_bytes c.args.text.now c.utf8.text,
   gone_none item (λ vs. strict vs) g.V.ElementVisitor.was_given _ _ _ refl (search rules) refl refl refl,
 )
 

@@ -1,5 +1,5 @@
 use Rattle.syslog_pieces.proofs.Names.{inl, refl, rules, opening_row, row_of, no_row, ◌then◌, ◌past◌}
-use Rattle.syslog_pieces.proofs.StructuredDataLemmas.Closing.{opening_det}
+use Rattle.syslog_pieces.proofs.StructuredDataLemmas.Elements.{opening_det}
 use Rattle.syslog_pieces.proofs.structured_data.recognise.opening.Goals as goal
 
 pub returns-in_err-rest : goal.returns-in_err-rest

@@ -1,10 +1,11 @@
 use Rattle.syslog_pieces.proofs.Names.{rules, arith, sym, subst, ◌≡◌, ◌+◌, ◌≤◌, ℕ, [], length, Result, Ok, Err, refl}
 use Rattle.syslog_pieces.proofs.Names.{MatchResult, IsErrAnd, inl, NoFront, start_row, no_row, IsDead, element, eqb-true}
 use Rattle.syslog_pieces.proofs.Names.{ElementValue}
-use Rattle.syslog_pieces.proofs.StructuredDataLemmas.Closing.{byte_count_slice, dead_suffix, start_det, no_start}
+use Rattle.syslog_pieces.proofs.StructuredDataLemmas.Closing.{byte_count_slice, dead_suffix, no_start}
 use Rattle.syslog_pieces.proofs.StructuredDataLemmas.Walk.{bare_inside, bare_walked, at_first, not_opened, value_passes}
 use Rattle.syslog_pieces.proofs.StructuredDataLemmas.Walk.{not_closed, not_separated, ends, ends_walked, goes_on}
 use Rattle.syslog_pieces.proofs.StructuredDataLemmas.Walk.{more_room, chars_length}
+use Rattle.syslog_pieces.proofs.StructuredDataLemmas.Elements.{start_det}
 use Rattle.syslog_pieces.proofs.structured_data.walk.walk_element.Goals as goal
 
 pub returns-in_default-clause-walked : goal.returns-in_default-clause-walked

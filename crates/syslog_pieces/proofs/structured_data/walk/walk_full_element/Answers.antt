@@ -1,12 +1,11 @@
-use Rattle.syslog_pieces.proofs.Names.{sym, ◌∙◌, rules, chars, length, IsDead}
-use Rattle.syslog_pieces.proofs.StructuredDataLemmas.Closing.{byte_count_slice, dead_whole}
+use Rattle.syslog_pieces.proofs.Names.{sym, ◌∙◌, rules}
+use Rattle.syslog_pieces.proofs.StructuredDataLemmas.Closing.{dead_bytes}
 use Rattle.syslog_pieces.proofs.StructuredDataLemmas.Walk.{bare_is_not_full}
 use Rattle.syslog_pieces.proofs.structured_data.walk.walk_full_element.Goals as goal
 
 pub walk_element-requires : goal.walk_element-requires
 walk_element-requires g c =
-    let dead : IsDead (chars c.args.text.now) (length c.args.text.now) =
-    dead_whole _ _ (sym (byte_count_slice c.args.text.now c.utf8.text)) in search rules
+    let dead = dead_bytes c.args.text.now c.utf8.text in search rules
 
 pub returns-in_default-clause-walked : goal.returns-in_default-clause-walked
 returns-in_default-clause-walked g c p q v w h = (rw c.in_default.is at c.walk_element.ensures.walked).0 p q v w h.0

@@ -1,6 +1,6 @@
 use Rattle.syslog_pieces.proofs.Names.{rules, inside, ap, length, ◌∙◌, sym, one_value-is}
-use Rattle.syslog_pieces.proofs.StructuredDataLemmas.Elements.{seen_is}
-use Rattle.syslog_pieces.proofs.StructuredDataLemmas.Walk.{one_meaning, inside_det}
+use Rattle.syslog_pieces.proofs.StructuredDataLemmas.Elements.{inside_det, seen_is}
+use Rattle.syslog_pieces.proofs.StructuredDataLemmas.Walk.{one_meaning}
 use Rattle.syslog_pieces.proofs.structured_data.recognised.Element.new.Goals as goal
 
 pub invariant_of-result : goal.invariant_of-result

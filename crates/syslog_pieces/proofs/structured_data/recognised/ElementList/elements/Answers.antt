@@ -1,5 +1,5 @@
-use Rattle.syslog_pieces.proofs.Names.{ap, sym, strict}
-use Rattle.syslog_pieces.proofs.StructuredDataLemmas.Closing.{byte_count_slice, dead_whole}
+use Rattle.syslog_pieces.proofs.Names.{ap, strict}
+use Rattle.syslog_pieces.proofs.StructuredDataLemmas.Closing.{dead_bytes}
 use Rattle.syslog_pieces.proofs.StructuredDataLemmas.Walk.{items_same}
 use Rattle.syslog_pieces.proofs.structured_data.recognised.ElementList.elements.Goals as goal
 
@@ -8,7 +8,7 @@ invariant_of-result c =
     let list = c.args.self.now in
     record {
       utf8 = list.utf8;
-      is_dead = dead_whole _ _ (sym (byte_count_slice list.text.now list.utf8));
+      is_dead = dead_bytes list.text.now list.utf8;
       meaning = list.meaning;
     }
 
