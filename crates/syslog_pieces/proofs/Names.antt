@@ -115,7 +115,7 @@ pub use Rattle.syslog_pieces.proofs.PieceLemmas.Class.{run_det, mapped_front, sp
 pub use Rattle.syslog_pieces.proofs.PieceLemmas.Class.{row_det, nil_front, no_mapped, rest_same, meets_none, row_pieces}
 pub use Rattle.syslog_pieces.proofs.PieceLemmas.Class.{run_same, row_head, rows_join, match_map, row_first, rows_step}
 pub use Rattle.syslog_pieces.proofs.PieceLemmas.Lists.{many_here, many_cons, begins, list_here, more_here, no_list}
-pub use Rattle.syslog_pieces.proofs.PieceLemmas.Lists.{no_more, many_det, no_many_no, has_read_none, has_read_more}
-pub use Rattle.syslog_pieces.proofs.PieceLemmas.Lists.{has_read_all, Leaves, list_goes, many_none, more_goes, Apart}
+pub use Rattle.syslog_pieces.proofs.PieceLemmas.Lists.{no_more, many_det, no_many_no, has_read_more}
+pub use Rattle.syslog_pieces.proofs.PieceLemmas.Lists.{Leaves, list_goes, many_none, more_goes, Apart}
 pub use Rattle.syslog_pieces.proofs.PieceLemmas.Lists.{Begins, begins_apart, begins_more, begins_with, either_det}
 pub use Rattle.syslog_pieces.proofs.PieceLemmas.Lists.{first_kind, no_either, second_kind}

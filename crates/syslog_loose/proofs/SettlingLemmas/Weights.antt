@@ -123,7 +123,7 @@ find_behind t y e next =
       | inl (q, _, g) ↦ (let (v, whole) = value_ends here same f q g in inl (q, v, whole))
       | inr m ↦ elim (find_char 32 y) [
         | inl (z, _, g) ↦ elim (find_opening z) [
-          | inl (r, ws, o) ↦ find_moved closing t closing r (value_goes here same f z r ws g o).1
+          | inl (r, ws, o) ↦ find_moved closing t closing r (value_goes here same f z r ws g o)
               (next r (omega (arith, front_longer _ g, front_longer _ o)))
           | inr k ↦ inr (value_breaks here same f
               (no_more_behind param 32 93 y z m (begins 32 y z g) (no_opening k)) _ refl).0

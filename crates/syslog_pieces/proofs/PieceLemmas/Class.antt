@@ -84,9 +84,6 @@ pub all_joined : (As Bs : List Class) → AllDeterministic As → AllDeterminist
 all_joined [] Bs d e = e
 all_joined (C ∷ As) Bs d e = (d.0, all_joined As Bs d.1 e)
 
-pair_same : {A B : Type 0} (x y : A × B) → x.0 ≡ y.0 → x.1 ≡ y.1 → x ≡ y
-pair_same (a, b) (c, d) e f = cc
-
 -- two divisions of one text into a row are the same pieces, with the same meanings
 pub divides_same : (Cs : List Class) → AllDeterministic Cs
     → (ps : List Text) (q : Text) (ps' : List Text) (q' : Text) (vs vs' : Values Cs)
@@ -103,7 +100,7 @@ divides_same (C ∷ Cs) d (p ∷ ps) q (p' ∷ ps') q' vs vs' e h h' =
     let others =
     divides_same Cs d.1 ps q ps' q' vs.1 vs'.1
     (rest_same p (join ps ++ q) p' (join ps' ++ q') whole first.0) h.1 h'.1 in
-    (let a = first.0 in let b = others.0 in cc, pair_same vs vs' first.1 others.1)
+    (let a = first.0 in let b = others.0 in cc, λ i. (first.1 i, others.1 i))
 
 pub row_det : (Cs : List Class) → AllDeterministic Cs → IsDeterministic (Row Cs)
 row_det Cs d p q p' q' vs vs' e (ps, w, h) (ps', w', h') =
@@ -184,11 +181,17 @@ pub row_none_here : (C : Class) (Cs : List Class) → {text : Text} → NoFront 
 row_none_here C Cs n p q vs w h =
     let r = row_head C Cs (record { piece = p; whole = w; is = h }) in no_front_no C n r.1
 
+-- after a known front of the first class, the row goes on with its other classes
+pub step : (C : Class) (Cs : List Class) → IsDeterministic C → {t q r : Text} {v : C.Value} {vs : Values (C ∷ Cs)}
+    → Front C t q v → Front (Row (C ∷ Cs)) t r vs → Front (Row Cs) q r vs.1
+step C Cs d {r = r} {vs = vs} g f =
+    let h = row_head C Cs f in
+    let e = (front_same C d h.1 g).0 in subst (λ (x : Text). Front (Row Cs) x r vs.1) e h.2
+
 pub row_none_later : (C : Class) (Cs : List Class) → IsDeterministic C → {text q : Text} {v : C.Value}
     → Front C text q v → NoFront (Row Cs) q → NoFront (Row (C ∷ Cs)) text
-row_none_later C Cs d {text = text} {q = q} f n p r vs w h =
-    let g = row_head C Cs (record { piece = p; whole = w; is = h }) in
-    no_front_no (Row Cs) n (subst (λ (x : Text). Front (Row Cs) x r vs.1) (front_same C d g.1 f).0 g.2)
+row_none_later C Cs d f n p r vs w h =
+    no_front_no (Row Cs) n (step C Cs d f (record { piece = p; whole = w; is = h }))
 
 -- ---- divisions of a whole text
 pub division_front : (Cs : List Class) → {text : Text} {vs : Values Cs} → Division Cs text vs
@@ -217,12 +220,8 @@ abbrev pub both_values : (As Bs : List Class) → Values As → Values Bs → Va
 both_values [] Bs vs ws = ws
 both_values (C ∷ As) Bs vs ws = (vs.0, both_values As Bs vs.1 ws)
 
-nil_piece : (p : Text) (ps : List Text) (q : Text) → p ≡ join ps → Divides [] ps q tt → p ≡ []
-nil_piece p [] q e d = e
-nil_piece p (x ∷ ps) q e d = absurd d
-
 pub nil_front : {t u : Text} → Front (Row []) t u tt → t ≡ u
-nil_front {t = t} {u = u} f = f.whole ∙ ap (λ (x : Text). x ++ u) (nil_piece f.piece f.is.0 u f.is.1 f.is.2)
+nil_front f = (front_same (Row []) (row_det [] tt) (row_nil _) f).0
 
 pub rows_join : (As Bs : List Class) → {t u r : Text} {vs : Values As} {ws : Values Bs} → Front (Row As) t u vs
     → Front (Row Bs) u r ws → Front (Row (As ++ Bs)) t r (both_values As Bs vs ws)
@@ -379,8 +378,7 @@ pub row_goes : (C : Class) (Cs : List Class) → IsDeterministic C → {t u : Te
     → Meets (Row (C ∷ Cs)) t (Row Cs) u
 row_goes C Cs d {v = v} f = record {
   forth = λ q vs g. ((v, vs), row_cons C Cs f g);
-  back = λ q vs g. (let r = row_head C Cs g in let s = front_same C d r.1 f in
-      (vs.1, subst (λ (x : Text). Front (Row Cs) x q vs.1) s.0 r.2));
+  back = λ q vs g. (vs.1, step C Cs d f g);
 }
 
 -- another first piece of a row
@@ -447,13 +445,6 @@ abbrev pub ◌past◌ : {C : Class} {t u : Text} {v : C.Value} {P : Text → Typ
 -- a text that is a piece and what follows it
 pub piece_front : (C : Class) (p q : Text) (v : C.Value) → C.Is p q v → Front C (p ++ q) q v
 piece_front C p q v h = record { piece = p; whole = refl; is = h }
-
--- after a known front of the first class, the row goes on with its other classes
-pub step : (C : Class) (Cs : List Class) → IsDeterministic C → {t q r : Text} {v : C.Value} {vs : Values (C ∷ Cs)}
-    → Front C t q v → Front (Row (C ∷ Cs)) t r vs → Front (Row Cs) q r vs.1
-step C Cs d {r = r} {vs = vs} g f =
-    let h = row_head C Cs f in
-    let e = (front_same C d h.1 g).0 in subst (λ (x : Text). Front (Row Cs) x r vs.1) e h.2
 
 -- and the first meaning is that of the known front
 pub step_value : (C : Class) (Cs : List Class) → IsDeterministic C → {t q r : Text} {v : C.Value} {vs : Values (C ∷ Cs)}

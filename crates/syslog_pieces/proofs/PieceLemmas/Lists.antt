@@ -101,17 +101,10 @@ many_parts C {q = q} f = let (a, b, i, k, more) = f.is in (
   record { piece = b; whole = refl; is = more },
 )
 
-pub has_read_none : (C : Class) (t : Text) → HasRead C t [] t
-has_read_none C t q ws f = f
-
 pub has_read_more : (C : Class) (t s s' : Text) (vs : List C.Value) (v : C.Value) → HasRead C t vs s → Front C s s' v
     → HasRead C t (vs ++ (v ∷ [])) s'
 has_read_more C t s s' vs v r f q ws g = subst (λ (x : List C.Value). Front (many C) t q x)
     (sym (append_assoc vs (v ∷ []) ws)) (r q (v ∷ ws) (many_cons C f g))
-
-pub has_read_all : (C : Class) (t s : Text) (vs : List C.Value) → HasRead C t vs s → NoFront C s → Front (many C) t s vs
-has_read_all C t s vs r n =
-    subst (λ (x : List C.Value). Front (many C) t s x) (append-nil vs) (r s [] (many_here C s n))
 
 -- it can't be that no row of as many pieces as there are begins a text, where each piece has a character
 pub no_many_no : (C : Class) → ((t u : Text) (v : C.Value) → Front C t u v → length u < length t) → (n : ℕ) (t : Text)
@@ -280,13 +273,6 @@ abbrev pub Leaves : (C : Class) (separator close : ℕ) → Text → List C.Valu
 Leaves C separator close t vs t' =
     (q u : Text) (v : C.Value) (ws : List C.Value) → Front C t' u v → Front (more_before C separator close) u q ws
     → Front (list_before C separator close) t q (vs ++ (v ∷ ws))
-
-module _ (C : Class) (separator close : ℕ) where
-  pub leaves_less : (t s u s' : Text) (vs : List C.Value) (v : C.Value) → Leaves C separator close t vs s
-      → Front C s u v → u ≡ separator ∷ s' → Leaves C separator close t (vs ++ (v ∷ [])) s'
-  leaves_less t s u s' vs v c f e q u' v' ws f' g =
-      subst (λ (x : List C.Value). Front (list_before C separator close) t q x) (sym (append_assoc vs (v ∷ []) (v' ∷
-      ws))) (c q u v (v' ∷ ws) f (more_cons C separator close e f' g))
 
 -- ---- parts of parts
 pub part_same : (p t : Text) → t ≡ p → IsPart p t

@@ -87,18 +87,6 @@ param_read f g = mapped_front (Row param_row) (Text × Text) param_of (rows_join
 pub no_opening : {t : Text} → NoFront opening t → NoFront param t
 no_opening n = no_mapped (Row param_row) (Text × Text) param_of (rows_none_here opening_row quoted_row n)
 
--- into the first value
-pub list_enters : (t u : Text) (vs : Values opening_row) → NoFront (exactly (93 ∷ [])) t → Front opening t u vs
-    → Meets inside t closing u
-list_enters t u vs n f =
-    meets_on (list_goes param 32 93 (exactly (93 ∷ []) ∷ []) t n) (row_first param quoted tail_row (param_opens f))
-
--- into a further value
-pub tail_enters : (t s u : Text) (vs : Values opening_row) → t ≡ 32 ∷ s → Front opening s u vs
-    → Meets (Row tail_row) t closing u
-tail_enters t s u vs e f = meets_on (more_goes param 32 93 space_is_no_close (exactly (93 ∷ []) ∷ []) t s e)
-    (row_first param quoted tail_row (param_opens f))
-
 -- ---- values
 pub quoted_goes : {t u : Text} → Meets value t value u → Meets quoted t quoted u
 quoted_goes m = row_first value value (exactly (34 ∷ []) ∷ []) m
@@ -167,18 +155,13 @@ blank_open c e = grind (arith, nat_tests)
 name_open : (c : ℕ) → is_name_char c ≡ true → is_open_char c ≡ true
 name_open c e = (and_parts (is_open_char c) _ e).0
 
-one_shut : (c : ℕ) → is_open_char c ≡ true → IsShut (exactly (c ∷ []))
+pub one_shut : (c : ℕ) → is_open_char c ≡ true → IsShut (exactly (c ∷ []))
 one_shut c h p q v e = subst (λ (x : Text). Each is_open_char x) (sym e) (h, tt)
 
 pub start_shut : AllShut start_row
 start_shut =
     one_shut 91 refl also (λ p q v i. each_map is_name_char is_open_char name_open p (each_right is_not_whitespace
     is_name_char p i.1.1)) also (λ p q v i. each_map is_blank is_open_char blank_open p i.0) also tt
-
-opening_shut : AllShut opening_row
-opening_shut =
-    (λ p q v i. each_map is_name_char is_open_char name_open p i.1.1) also one_shut 61 refl
-    also (λ p q v i. each_map is_blank is_open_char blank_open p i.0) also one_shut 34 refl also tt
 
 no_bracket : (w a b : Text) → Each is_open_char w → w ≡ a ++ (93 ∷ b) → ⊥
 no_bracket w a b h e =
@@ -191,14 +174,6 @@ pub record Passes (C : Class) (t x : Text) : Type 0 where
   pub whole : t ≡ piece ++ x
   pub dead : (d : ℕ) → NoFront C t → IsDead x d → IsDead t d
 
--- no element closes after a bracket of the front
-dead_front : (x w y : Text) (d : ℕ) → x ≡ w ++ y
-    → ((a b : Text) → w ≡ a ++ (93 ∷ b) → NoFront closing (b ++ y)) → IsDead y d → IsDead x d
-dead_front x w y d e h i a b f l = elim (split_bracket w y a b (sym e ∙ f)) [
-  | inl (c, j, k) ↦ subst (λ (z : Text). NoFront closing z) (sym k) (h a c j)
-  | inr (c, j) ↦ i c b j l
-]
-
 module _ (C : Class) where
   pub passes_here : (t : Text) → Passes C t t
   passes_here t = record { piece = []; whole = refl; dead = λ d n i. i }
@@ -208,29 +183,25 @@ module _ (C : Class) where
   passes_on t x w y s e h = record {
     piece = s.piece ++ w;
     whole = s.whole ∙ ap (λ (z : Text). s.piece ++ z) e ∙ sym (append_assoc s.piece w y);
-    dead = λ d n i. s.dead d n (dead_front x w y d e (λ a b f. h a b f n) i);
+    dead = λ d n i. s.dead d n (λ a b f l. elim (split_bracket w y a b (sym e ∙ f)) [
+      | inl (c, j, k) ↦ subst (λ (z : Text). NoFront closing z) (sym k) (h a c j n)
+      | inr (c, j) ↦ i c b j l
+    ]);
   }
 
-  passes_shut : (D : Class) → IsShut D → (t x y : Text) (v : D.Value) → Passes C t x → Front D x y v → Passes C t y
-  passes_shut D s t x y v p f =
+  pub passes_shut : (D : Class) → IsShut D → {t x y : Text} {v : D.Value} → Passes C t x → Front D x y v → Passes C t y
+  passes_shut D s {t = t} {x = x} {y = y} {v = v} p f =
       passes_on t x f.piece y p f.whole (λ a b e n. absurd (no_bracket f.piece a b (s f.piece y v f.is) e))
 
   pub passes_row : (Ds : List Class) → AllShut Ds → {t x y : Text} {vs : Values Ds} → Passes C t x → Front (Row Ds) x y vs
       → Passes C t y
   passes_row [] s {t = t} p f = subst (λ (z : Text). Passes C t z) (nil_front f) p
-  passes_row (D ∷ Ds) s {t = t} {x = x} {vs = vs} p f =
-      let r = row_head D Ds f in passes_row Ds s.1 (passes_shut D s.0 t x r.0 vs.0 p r.1) r.2
+  passes_row (D ∷ Ds) s p f = let r = row_head D Ds f in passes_row Ds s.1 (passes_shut D s.0 p r.1) r.2
 
   pub passes_opening : {t x y : Text} {vs : Values opening_row} → Passes C t x → Front opening x y vs → Passes C t y
-  passes_opening = passes_row opening_row opening_shut
-
-  -- up to the first value of an element
-  pub passes_start : {t u x : Text} {vs : Values start_row} {ws : Values opening_row} → Front start t u vs
-      → Front opening u x ws → Passes C t x
-  passes_start {t = t} f g = passes_opening (passes_row start_row start_shut (passes_here t) f) g
-
-  pub passes_space : (t x y : Text) → Passes C t x → x ≡ 32 ∷ y → Passes C t y
-  passes_space t x y p e = passes_on t x (32 ∷ []) y p e (λ a b f n. absurd (no_bracket (32 ∷ []) a b (refl, tt) f))
+  passes_opening = passes_row opening_row ((λ p q v i. each_map is_name_char is_open_char name_open p i.1.1)
+      also one_shut 61 refl also (λ p q v i. each_map is_blank is_open_char blank_open p i.0) also one_shut 34 refl
+      also tt)
 
   -- a value, between the quotes
   pub passes_quoted : (t x y : Text) (vs : Values quoted_row) → Passes C t x → Meets C t closing x → Front quoted x y vs
@@ -274,16 +245,11 @@ unit_ends : (u : TextUnit) → last_char u ≡ 93 → (a : Text) × (unit_text u
 unit_ends (pair c) e = (92 ∷ [], ap (λ (x : ℕ). 92 ∷ x ∷ []) e)
 unit_ends (single c) e = ([], ap (λ (x : ℕ). x ∷ []) e)
 
--- past a run of such characters
-pub run_on : (test : ℕ → Bool) → AllPlain test → (text t w u : Text) → t ≡ w ++ u → Each test w
-    → Meets value text value t → Meets value text value u
-run_on test a text t w u e h m =
-    meets_on m (subst (λ (x : Text). Meets value x value u) (sym e) (run_goes test a w u h))
-
 module _ {test : ℕ → Bool} (a : AllPlain test) {text bs xs ys : Text} (s : SplitsRun test bs xs ys)
     (m : Meets quoted text quoted (chars bs)) where
   pub past_run : Meets quoted text quoted (chars ys)
-  past_run = meets_on m (quoted_goes (run_on test a _ _ _ _ s.characters s.each (meets_here value (chars bs))))
+  past_run = meets_on m (quoted_goes (subst (λ (x : Text). Meets value x value (chars ys)) (sym s.characters)
+      (run_goes test a (chars xs) (chars ys) s.each)))
 
   pub value_quoted : (q : Text) → Front (exactly (34 ∷ [])) (chars ys) q tt → (v : Values quoted_row)
       × Front quoted text q v
@@ -311,12 +277,6 @@ pub value_missing : (text t : Text) → Meets quoted text quoted t → NoFront q
     → NoFront closing text × IsDead text 0
 value_missing text t m n = let k = meets_none _ _ _ _ m n in (no_closing text k, dead_unquoted text k)
 
--- ---- an element
-module _ {text params : Text} {vs : Values start_row} (f : Front start text params vs) where
-  pub element_enters : (x : Text) (ws : Values opening_row) → NoFront (exactly (93 ∷ [])) params
-      → Front opening params x ws → Passes element text x × Meets element text closing x
-  element_enters x ws n g = (passes_start element f g, meets_on (element_starts f) (list_enters params x ws n g))
-
 -- from inside a value, in a class whose pieces go on from there
 module _ {C : Class} {text x y : Text} {vs : Values quoted_row} (p : Passes C text x) (m : Meets C text closing x)
     (f : Front quoted x y vs) where
@@ -331,11 +291,10 @@ module _ {C : Class} {text x y : Text} {vs : Values quoted_row} (p : Passes C te
       (k, (passes_quoted C text x y vs p m f).dead d k (dead_whole y d e))
 
   pub value_goes : (z r : Text) (ws : Values opening_row) → Front (exactly (32 ∷ [])) y z tt → Front opening z r ws
-      → Passes C text r × Meets C text closing r
-  value_goes z r ws g o = (
-    passes_opening C (passes_space C text y z (passes_quoted C text x y vs p m f) (begins 32 y z g)) o,
-    meets_on m (meets_on (row_goes quoted tail_row quoted_det f) (tail_enters y z r ws (begins 32 y z g) o)),
-  )
+      → Meets C text closing r
+  value_goes z r ws g o = meets_on m (meets_on (row_goes quoted tail_row quoted_det f) (meets_on
+      (more_goes param 32 93 space_is_no_close (exactly (93 ∷ []) ∷ []) y z (begins 32 y z g))
+      (row_first param quoted tail_row (param_opens o))))
 
 -- ---- a quoted value, cut from its text by bytes
 module _ (t r : List ℕ) (u : IsUtf8 t) (z : IsUtf8 r) (v : Values quoted_row)

@@ -273,14 +273,11 @@ full_parts p q (v ∷ es) (a, b, e, h, more) =
     two_parts element element_texts element_quotes 32 p a b (element_texts v) (flat_map element_texts es) e
     (element_quotes a (b ++ q) v h.0) (full_parts b q es more)
 
-pub rfc3164_list_quotes : (rule : DashRule) → Quotes (rfc3164_list rule) (λ es. flat_map element_texts es)
-rfc3164_list_quotes rule p q es (inl (d, a, e)) = rw e tt
-rfc3164_list_quotes rule p q es (inr (l, m)) = full_parts p q es m
-
 pub optional_rfc3164_list_quotes : (rule : DashRule)
     → Quotes (optional (rfc3164_list rule)) (λ es. flat_map element_texts (elements_or es))
 optional_rfc3164_list_quotes rule p q None h = tt
-optional_rfc3164_list_quotes rule p q (Some es) h = rfc3164_list_quotes rule p q es h
+optional_rfc3164_list_quotes rule p q (Some es) (inl (d, a, e)) = rw e tt
+optional_rfc3164_list_quotes rule p q (Some es) (inr (l, m)) = full_parts p q es m
 
 -- ---- counting parameters of any type of texts is counting them over texts, and where counting may begin
 
@@ -321,20 +318,17 @@ same_params-behind zs ps qs =
     (same_params-decides (zs ++ ps) (zs ++ qs))
 
 -- so counting may begin where the two lists first differ
-counted_behind : (ps qs : List Param) (i : ℕ) → length ps ≡ length qs → take i ps ≡ take i qs
-    → counts_agree (drop i ps) (drop i ps) (drop i qs) ≡ same_params ps qs
-counted_behind ps qs i long front =
-    counted_once (drop i ps) (drop i qs) (length-drop i ps ∙ ap (λ (n : ℕ). n - i) long ∙ sym (length-drop i qs)) ∙
-    same_params-behind (take i ps) (drop i ps) (drop i qs) ∙ rw (take-append-drop i ps, front, take-append-drop i qs)
-
 pub counted_from : {S : Type 0} (text : S → Text) (xs ys : List (S × S)) (i : ℕ) → length xs ≡ length ys → map
     (param_value text) (take i xs) ≡ map (param_value text) (take i ys) → counts_agree (map (param_value text) (drop i
     xs)) (map (param_value text) (drop i xs)) (map (param_value text) (drop i ys)) ≡ same_params (map (param_value text)
     xs) (map (param_value text) ys)
 counted_from text xs ys i long front =
-    let view = param_value text in
-    rw (← drop-map view i xs, ← drop-map view i ys) (counted_behind (map view xs) (map view ys) i
-    (length-map xs view ∙ long ∙ sym (length-map ys view)) (take-map view i xs ∙ front ∙ sym (take-map view i ys)))
+    let v = param_value text in
+    let e : same_params (map v (take i xs) ++ map v (drop i xs)) (map v (take i xs) ++ map v (drop i ys))
+    ≡ same_params (map v xs) (map v ys) = rw (← map-append v (take i xs) (drop i xs), take-append-drop, front,
+      ← map-append v (take i ys) (drop i ys), take-append-drop) in
+    counted_once (map v (drop i xs)) (map v (drop i ys)) (simp (length-map, length-drop, long))
+    ∙ same_params-behind (map v (take i xs)) (map v (drop i xs)) (map v (drop i ys)) ∙ e
 
 -- a slice to its end
 pub slice_to_end : {X : Type 0} (xs : List X) (i : ℕ) → take (length xs - i) (drop i xs) ≡ drop i xs

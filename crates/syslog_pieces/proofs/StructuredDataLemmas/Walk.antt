@@ -20,22 +20,23 @@ use mathlib.Core.HLevel.{Σ_prop, ⊥_prop}
 use Rattle.syslog_pieces.specs.StructuredData.Recognised.{OneInside-prop, OneItems-prop, params_set, items_set}
 use Rattle.syslog_pieces.specs.StructuredData.Visited.{IsTallied, AreItems}
 use Rattle.syslog_pieces.specs.declared.structured_data.line_list.Tally.{Tally}
-use Rattle.syslog_pieces.proofs.StructuredDataLemmas.Closing.{element_enters, passes_opening, element_starts}
+use Rattle.syslog_pieces.proofs.StructuredDataLemmas.Closing.{passes_opening, element_starts}
 use Rattle.syslog_pieces.proofs.StructuredDataLemmas.Closing.{no_start, start_shut, param_read, dead_whole}
 use Rattle.syslog_pieces.proofs.StructuredDataLemmas.Closing.{no_opening, Passes, passes_here, passes_row, param_opens}
-use Rattle.syslog_pieces.proofs.StructuredDataLemmas.Closing.{passes_space, passes_quoted, element_read, value_breaks}
+use Rattle.syslog_pieces.proofs.StructuredDataLemmas.Closing.{passes_shut, one_shut, passes_quoted, element_read, value_breaks}
 use Rattle.syslog_pieces.proofs.StructuredDataLemmas.Elements.{element_det, element_shorter, item_begins, run_no_close}
 use Rattle.syslog_pieces.proofs.StructuredDataLemmas.Elements.{dash_apart, params_det, space_is_no_close, no_blanks}
 use Rattle.syslog_pieces.proofs.StructuredDataLemmas.Elements.{quoted_text, param_det, item_det, strict_append}
 use Rattle.syslog_pieces.proofs.StructuredDataLemmas.Elements.{item_shorter, no_item_nil, no_forgiving_list}
-use Rattle.syslog_pieces.proofs.PieceLemmas.Lists.{leaves_less, list_cons, list_parts, many_parts, more_parts, some_parts}
+use Rattle.syslog_pieces.proofs.PieceLemmas.Lists.{list_cons, more_cons, list_parts, many_parts, more_parts, some_parts}
 use Rattle.syslog_pieces.proofs.TextLemmas.Runs.{bytes}
 use Rattle.syslog_pieces.proofs.PieceLemmas.Class.{IsSteady, alone_steady, exactly_alone, run_steady, some_run_steady}
 use Rattle.syslog_pieces.proofs.PieceLemmas.Class.{texted_steady, mapped_alone, row_alone, closed_steady}
 use Rattle.syslog_pieces.proofs.PieceLemmas.Class.{list_before_steady, front_longer, row_cons}
 use Rattle.syslog_pieces.proofs.Names.{flat_map-append}
-use Rattle.syslog_pieces.proofs.Names.{HasRead, has_read_none, has_read_all, has_read_more}
+use Rattle.syslog_pieces.proofs.Names.{HasRead, has_read_more}
 use Rattle.syslog_pieces.proofs.StructuredDataLemmas.Elements.{quoted_det, inside_det, start_det}
+use Rattle.syslog_pieces.proofs.TextLemmas.Runs.{chars_empty}
 
 -- ---- elements with a parameter
 pub full_is_element : {t q : Text} {v : ElementValue} → Front full_element t q v → Front element t q v
@@ -83,28 +84,22 @@ no_rfc3164_list rule t (n, m) p q es e (inl (f, u, g)) = n q (e ∙ ap (λ (x : 
 no_rfc3164_list rule t (n, m) p q [] e (inr (l, h)) = omega arith
 no_rfc3164_list rule t (n, m) p q (v ∷ vs) e (inr (l, (a, b, i, k, more))) = m a (b ++ q) v (e ∙ behind p a b q i) k
 
--- and the other way: an element that begins it begins a list
-pub full_rfc3164_list : (rule : DashRule) (t q : Text) (v : ElementValue) → Front full_element t q v
-    → ((r : Text) (es : List ElementValue) → 0 < length es → Front (rfc3164_list rule) t r es → ⊥) → ⊥
-full_rfc3164_list rule t q v f k = no_many_no full_element full_shorter (length q) q (omega arith) (λ r vs g.
-    let all = many_cons full_element f g in
-    k r (v ∷ vs) (omega arith) (record { piece = all.piece; whole = all.whole; is = inr (omega arith, all.is) }))
-
 pub begins_no_list : (rule : DashRule) (t : Text) → NoFront (rfc3164_list rule) t → BeginsNoList rule t
 begins_no_list rule t n = (
   λ q e a. n dash q [] e (inl (refl, a, refl)),
-  λ p q v e h. full_rfc3164_list rule t q v (record { piece = p; whole = e; is = h })
-      (λ r es l f. n f.piece r es f.whole f.is),
+  λ p q v e h. no_many_no full_element full_shorter (length q) q (omega arith) (λ r vs g.
+      let all = many_cons full_element (record { piece = p; whole = e; is = h }) g in
+      n all.piece r (v ∷ vs) all.whole (inr (omega arith, all.is))),
 )
 
 pub no_list_is : (rule : DashRule) (t : Text) → NoFront (rfc3164_list rule) t ↔ BeginsNoList rule t
 no_list_is rule t = (begins_no_list rule t, no_rfc3164_list rule t)
 
 -- no dash begins the text, and no element does
-pub list_absent : (rule : DashRule) (t q : Text) (es : List ElementValue) → ((r : Text) → t ≡ 45 ∷ r → IsDashBefore rule
-    r → ⊥) → Front (many full_element) t q es → es ≡ [] → Front (optional (rfc3164_list rule)) t t None
-list_absent rule t q es n f z =
-    optional_none (rfc3164_list rule) (no_rfc3164_list rule t (n, many_none full_element t q (rw z at f)))
+pub list_absent : (rule : DashRule) (t q : Text) → ((r : Text) → t ≡ 45 ∷ r → IsDashBefore rule r → ⊥)
+    → Front (many full_element) t q [] → Front (optional (rfc3164_list rule)) t t None
+list_absent rule t q n f =
+    optional_none (rfc3164_list rule) (no_rfc3164_list rule t (n, many_none full_element t q f))
 
 -- ---- recognising an element with a parameter
 
@@ -144,7 +139,8 @@ module _ (t u : Text) (vs : Values start_row) (f : Front start t u vs) where
   pub full_goes : (x : Text) (ws : Values opening_row) → Front opening u x ws → Meets full_element t closing x
   full_goes x ws g =
       let n = opening_open u x ws g in
-      let m = (element_enters f x ws n g).1 in
+      let m = meets_on (element_starts f) (meets_on (list_goes param 32 93 (exactly (93 ∷ []) ∷ []) u n)
+      (row_first param quoted tail_row (param_opens g))) in
       record {
         forth = λ q v h. (
             let k = m.forth q v h in
@@ -309,11 +305,13 @@ module _ {text inner at id : Text} {ps : List (Text × Text)} {count : ℕ} {mar
             let space = begins 32 y z g in
             record {
               starts = w.starts;
-              passes = passes_space element text y z (passes_quoted element text value y _ value_passes value_meets f)
-                  space;
+              passes = passes_shut element (exactly (32 ∷ [])) (one_shut 32 refl)
+                  (passes_quoted element text value y _ value_passes value_meets f) g;
               meets = meets_on value_meets (meets_on (row_goes quoted tail_row quoted_det f)
                   (more_goes param 32 93 space_is_no_close (exactly (93 ∷ []) ∷ []) y z space));
-              leaves = leaves_less param 32 93 _ _ _ _ _ _ w.leaves (param_read o f) space;
+              leaves = λ q r x ws h k. subst (λ (xs : List (Text × Text)). Front (list_before param 32 93) inner q xs)
+                  (sym (append_assoc ps ((name, v) ∷ []) (x ∷ ws)))
+                  (w.leaves q y (name, v) (x ∷ ws) (param_read o f) (more_cons param 32 93 space h k));
               prints = λ both. rw space at (printed_param both);
               counted = more_counted;
               room = omega (arith, more_room, front_longer (exactly (32 ∷ [])) g);
@@ -388,44 +386,29 @@ pub no_elements : {t : Text} (m : OneMeaning (many item) t) → NoFront item t �
 no_elements {t = t} m n = one_value-is m (many_here item t n)
 
 -- ---- items, whatever follows the list
-value_steady : IsSteady value
-value_steady p c q r v (h, z, e) = (h, closed_steady 34 c q r z, e)
-
-param_alone : IsAlone param
-param_alone = mapped_alone _ (Text × Text) param_of (row_alone 34 (texted (some_run is_name_char) ∷ exactly (61 ∷ []) ∷
-    run is_blank ∷ exactly (34 ∷ []) ∷ value ∷ []) (texted_steady (some_run is_name_char) (some_run_steady is_name_char)
-    also alone_steady (exactly (61 ∷ [])) (exactly_alone (61 ∷ [])) also run_steady is_blank also alone_steady (exactly
-    (34 ∷ [])) (exactly_alone (34 ∷ [])) also value_steady also tt))
-
 element_alone : IsAlone element
 element_alone = mapped_alone _ ElementValue element_of (row_alone 93 (exactly (91 ∷ []) ∷ texted (some_run is_id_char)
     ∷ run is_blank ∷ list_before param 32 93 ∷ []) (alone_steady (exactly (91 ∷ [])) (exactly_alone (91 ∷ []))
     also texted_steady (some_run is_id_char) (some_run_steady is_id_char) also run_steady is_blank
-    also list_before_steady param 32 93 param_alone also tt))
+    also list_before_steady param 32 93 (mapped_alone _ (Text × Text) param_of (row_alone 34
+    (texted (some_run is_name_char) ∷ exactly (61 ∷ []) ∷ run is_blank ∷ exactly (34 ∷ []) ∷ value ∷ [])
+    (texted_steady (some_run is_name_char) (some_run_steady is_name_char)
+    also alone_steady (exactly (61 ∷ [])) (exactly_alone (61 ∷ [])) also run_steady is_blank
+    also alone_steady (exactly (34 ∷ [])) (exactly_alone (34 ∷ []))
+    also (λ p c q r v (h, z, e). (h, closed_steady 34 c q r z, e)) also tt))) also tt))
 
 bracketed_alone : IsAlone bracketed
 bracketed_alone = row_alone 93 (exactly (91 ∷ []) ∷ run is_open_char ∷ [])
     (alone_steady (exactly (91 ∷ [])) (exactly_alone (91 ∷ [])) also run_steady is_open_char also tt)
 
--- where none begins a longer text, none begins this one
-no_element_shorter : (t q : Text) → NoFront element (t ++ q) → NoFront element t
-no_element_shorter t q n p r e w h = n p (r ++ q) e (behind t p r q w) (element_alone p r (r ++ q) e h)
-
 items_alone : (p q : Text) (vs : List (Option ElementValue)) → IsMany item p q vs → IsMany item p [] vs
 items_alone p q [] h = (h.0, no_item_nil)
 items_alone p q (Some e ∷ vs) (a, b, w, h, more) =
     (a, b, w, element_alone a (b ++ q) (b ++ []) e h, items_alone b q vs more)
-items_alone p q (None ∷ vs) (a, b, w, h, more) = (
-  a,
-  b,
-  w,
-  (
-    subst (λ (x : Text). NoFront element (a ++ x)) (sym (append-nil b)) (no_element_shorter (a ++ b) q
-        (subst (λ (x : Text). NoFront element x) (sym (append_assoc a b q)) h.0)),
-    bracketed_alone a (b ++ q) (b ++ []) (tt, (tt, (tt, tt))) h.1,
-  ),
-  items_alone b q vs more,
-)
+items_alone p q (None ∷ vs) (a, b, w, h, more) =
+    let none : NoFront element (a ++ (b ++ [])) = λ p' r e w k. h.0 p' (r ++ q) e
+    (sym (append_assoc a b q) ∙ behind (a ++ b) p' r q (rw append-nil at w)) (element_alone p' r (r ++ q) e k) in
+    (a, b, w, (none, bracketed_alone a (b ++ q) (b ++ []) (tt, (tt, (tt, tt))) h.1), items_alone b q vs more)
 
 full_alone : (p q : Text) (es : List ElementValue) → IsMany full_element p q es → IsMany item p [] (map Some es)
 full_alone p q [] h = (h.0, no_item_nil)
@@ -496,7 +479,7 @@ module _ (C : Class) (view : List C.Value → List ElementValue) {V : Type 0}
     vs = [];
     es = [];
     same = z;
-    read = has_read_none C text;
+    read = λ q ws f. f;
     tallied = record {
       utf8 = u;
       elements = e;
@@ -514,7 +497,8 @@ module _ (C : Class) (view : List C.Value → List ElementValue) {V : Type 0}
       (s : Gone C view given text rest old mid tally strict) where
     -- the pieces in all, where none is left
     pub gone_all : NoFront C rest → Front (many C) text rest s.vs
-    gone_all n = has_read_all C text rest s.vs s.read n
+    gone_all n = subst (λ (x : List C.Value). Front (many C) text rest x) (append-nil s.vs)
+        (s.read rest [] (many_here C rest n))
 
     module _ {w : Walked} (k : IsWalked rest w) where
       shorter : length (shown w.rest) < length rest
@@ -604,18 +588,13 @@ module _ {C : Class} {view : List C.Value → List ElementValue} {V : Type 0} {g
   gone_visits = visits_along given old new s.es ds (s.same ∙ e) s.visits
 
 -- ---- whether there is a list
-pub items_none : {t q : Text} (own : Text) (vs : List (Option ElementValue)) → Front (many item) t q vs → t ≡ own ++ q
-    → length own ≡ 0 → vs ≡ []
+pub items_none : {t q : Text} (own : List ℕ) (vs : List (Option ElementValue)) → Front (many item) t q vs
+    → t ≡ chars own ++ q → length own ≡ 0 → vs ≡ []
 items_none own [] f e l = refl
 items_none {t = t} {q = q} own (v ∷ vs) f e l =
     let (u, first, rest) = many_parts item f in
-    absurd (omega (
-      arith,
-      item_shorter t u v first,
-      front_longer (many item) rest,
-      ap length e,
-      length-append own q,
-    ))
+    absurd (omega (arith, item_shorter t u v first, front_longer (many item) rest, chars_empty own l, ap length e,
+    length-append (chars own) q))
 
 -- a list with a character
 pub some_forgiving : {t q : Text} (own : Text) (vs : List (Option ElementValue)) → Front (many item) t q vs → t ≡ own ++ q
@@ -632,7 +611,7 @@ pub optional_full : (rule : DashRule) {t q : Text} (es : List ElementValue)
 optional_full rule {t = t} {q = q} [] n f =
     let same = f.whole ∙ ap (λ (x : Text). x ++ q) f.is.0 in (
       None,
-      subst (λ (x : Text). Front (optional (rfc3164_list rule)) t x None) same (list_absent rule t q [] n f refl),
+      subst (λ (x : Text). Front (optional (rfc3164_list rule)) t x None) same (list_absent rule t q n f),
       refl,
     )
 optional_full rule (e ∷ es) n f = (

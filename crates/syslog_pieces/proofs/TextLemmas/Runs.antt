@@ -390,15 +390,12 @@ gap_some bs u g ys f = record {
 pub ruleset gap = (gap_cut, gap_space, gap_some)
 
 -- ---- no digit
-past_digits : (c : ℕ) → 128 ≤ c → is_ascii_digit c ≡ false
-past_digits c h = grind (arith, nat_tests)
-
 -- no digit is at the front
 pub ends_digits : (bs : List ℕ) → IsUtf8 bs → Ends is_ascii_digit bs → Ends is_ascii_digit (chars bs)
 ends_digits [] u h = rw chars-nil tt
 ends_digits (b ∷ bs) u h = ends_by_byte is_ascii_digit (b ∷ bs) u (λ l c byte char. elim (cases_lt c 128) [
   | inl low ↦ rw (sym (byte low)) h
-  | inr high ↦ past_digits c high
+  | inr high ↦ grind (arith, nat_tests)
 ])
 
 pub no_number : (limit : ℕ) (bs : List ℕ) → IsUtf8 bs → Ends is_ascii_digit bs → NoFront (number limit) (chars bs)

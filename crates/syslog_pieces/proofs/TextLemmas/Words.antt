@@ -26,6 +26,7 @@ use Rattle.syslog_pieces.proofs.TextLemmas.Runs.{ascii_front, chars_nonempty, ch
 use Rattle.syslog_pieces.proofs.TextLemmas.Runs.{text_is, text_is_not, nonempty_is, run_is, digits_ascii, behind_cut}
 use Rattle.syslog_pieces.proofs.TextLemmas.Runs.{behind_is, behind_chars, ends_digits}
 use Rattle.syslog_pieces.proofs.PieceLemmas.Class.{each_front}
+use Rattle.syslog_pieces.proofs.TextLemmas.Runs.{bytes}
 pub use Rattle.std.proofs.lemmas.Fmt.{decimal_digit as one_digit, decimal_step as last_of_more}
 pub use Rattle.std.proofs.lemmas.List.Folds.{flat_map-map}
 pub use Rattle.syslog_pieces.proofs.PieceLemmas.Class.{no_truth, false_is, last_is}
@@ -137,9 +138,8 @@ host_front bs xs ys s v l n m =
     }
   where
     no_end : EndsInColon (chars xs) → ⊥
-    no_end (front, e) = n (encode_utf8_all front)
-        (sym (encodes-chars xs s.front_utf8) ∙ ap encode_utf8_all e ∙ encodes-append front colon
-        ∙ ap (λ (x : List ℕ). encode_utf8_all front ++ x) (encodes-IsAscii colon colon_ascii))
+    no_end (front, e) = n (encode_utf8_all front) (bytes xs colon s.front_utf8 (IsUtf8-from_ascii colon colon_ascii) front
+        (rw (chars-IsAscii colon colon_ascii) e))
 
 -- a run that ends in one
 module _ (bs xs ys front : List ℕ) (s : SplitsRun is_not_whitespace bs xs ys) (e : xs ≡ front ++ colon) where
@@ -311,15 +311,12 @@ module _ (Is : Text → Text → Option Text → Type 0) (d : IsDeterministic (r
   whole_front : (t : Text) → P t → Front C t [] (Some t)
   whole_front t h = record { piece = t; whole = sym (append-nil t); is = from t h }
 
-  taken : (t q v : Text) → q ≡ [] → Front C t q (Some v) → P t
-  taken t q v z f = let g = rw z at f in rw (g.whole, append-nil) (to g.piece v g.is)
-
   whole_told : Tells Is P
   whole_told t None b n k = ((λ h. absurd (k.0 h)), (λ h. absurd (no_front_no C n (whole_front t h))))
   whole_told t (Some (None, q)) b f k =
       ((λ h. absurd (k.0 h)), (λ h. absurd (let e = (front_same C d f (whole_front t h)).1 in cc)))
   whole_told t (Some (Some v, q)) b f k =
-      ((λ h. taken t (shown q) (shown v) (k.0 h) f), (λ h. k.1 (front_same C d f (whole_front t h)).0))
+      ((λ h. let g = rw (k.0 h) at f in rw (g.whole, append-nil) (to g.piece (shown v) g.is)), (λ h. k.1 (front_same C d f (whole_front t h)).0))
 
 host_whole : (p v : Text) → IsHost p [] (Some v) → IsCanonicalHost p
 host_whole p v (long, visible, inl (no_end, e, (same, no_dash))) = ((long, visible), no_dash, no_end)
@@ -332,11 +329,9 @@ pub word_told : Tells word.Is IsCanonicalWord
 word_told = whole_told word.Is word_det IsCanonicalWord (λ p v h. ((h.0, h.1), h.4.1, h.3))
     (λ t h. word_back (Some t) [] h tt)
 
-pub tag_back : (t : Text) → IsCanonicalTag t → tag_word.Is t [] (Some t)
-tag_back t (long, each, no_dash) = (long, each, tt, (refl, no_dash))
-
 pub tag_told : Tells tag_word.Is IsCanonicalTag
-tag_told = whole_told tag_word.Is tag_word_det IsCanonicalTag (λ p v h. (h.0, h.1, h.3.1)) tag_back
+tag_told = whole_told tag_word.Is tag_word_det IsCanonicalTag (λ p v h. (h.0, h.1, h.3.1))
+    (λ t h. (h.0, h.1, tt, (refl, h.2)))
 
 -- ---- the decimal text of a number is ASCII, so its bytes are its characters
 digits_onto_ascii : (k n : ℕ) (acc : List ℕ) → IsAscii acc → IsAscii (digits_onto k 10 false n acc)

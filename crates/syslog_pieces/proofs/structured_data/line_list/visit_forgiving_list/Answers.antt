@@ -1,5 +1,5 @@
 use Rattle.syslog_pieces.proofs.Names.{rules, ◌≡◌, ◌<◌, ◌∙◌, sym, ap, length, strict}
-use Rattle.syslog_pieces.proofs.TextLemmas.Runs.{chars_empty, chars_nonempty}
+use Rattle.syslog_pieces.proofs.TextLemmas.Runs.{chars_nonempty}
 use Rattle.syslog_pieces.proofs.StructuredDataLemmas.Walk.{items_none, some_forgiving, visits_along}
 use Rattle.syslog_pieces.proofs.StructuredDataLemmas.Elements.{no_forgiving_list}
 use Rattle.syslog_pieces.proofs.structured_data.line_list.visit_forgiving_list.Goals as goal
@@ -9,7 +9,7 @@ returns-then-is_empty-clause-list g c =
     let none : length c.text.result.now ≡ 0 = search rules in
     let (vs, f, e) = c.visit_items.ensures.list in
     no_forgiving_list _ _ vs c.in_default.ensures f
-    (items_none _ vs f c.visit_items.ensures.text (ap length (sym c.text.ensures) ∙ chars_empty _ none))
+    (items_none _ vs f (rw (← c.text.ensures) at c.visit_items.ensures.text) none)
 
 pub returns-else-is_empty-clause-list : goal.returns-else-is_empty-clause-list
 returns-else-is_empty-clause-list g c =
@@ -20,6 +20,6 @@ returns-else-is_empty-clause-list g c =
 pub returns-then-is_empty-clause-visited : goal.returns-then-is_empty-clause-visited
 returns-then-is_empty-clause-visited g c =
     let (vs, f, e) = c.visit_items.ensures.list in
-    let no_text = ap length (sym c.text.ensures) ∙ chars_empty _ (search rules) in
+    let no_items = items_none _ vs f (rw (← c.text.ensures) at c.visit_items.ensures.text) none in
     visits_along g.V.ElementVisitor.was_given c.args.visitor.now c.visit_items.new.visitor _ _
-    (e ∙ ap strict (items_none _ vs f c.visit_items.ensures.text no_text)) c.visit_items.ensures.visited
+    (e ∙ ap strict no_items) c.visit_items.ensures.visited

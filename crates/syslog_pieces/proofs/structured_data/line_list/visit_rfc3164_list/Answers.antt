@@ -13,8 +13,8 @@ returns-in-Some-clause-list g c = (
 pub returns-in_default-literal-clause-list : goal.returns-in_default-literal-clause-list
 returns-in_default-literal-clause-list g c = (
   None,
-  list_absent c.args.rule _ _ [] c.in_default.ensures
-      (many_here full_element _ (no_full_unopened _ c.in_default-literal.ensures)) refl,
+  list_absent c.args.rule _ _ c.in_default.ensures
+      (many_here full_element _ (no_full_unopened _ c.in_default-literal.ensures)),
   c.none.ensures.elements,
 )
 
