@@ -109,6 +109,8 @@ row_det Cs d p q p' q' vs vs' e (ps, w, h) (ps', w', h') =
     (w ∙ ap join same.0 ∙ sym w', same.1)
 
 -- ---- fronts
+abbrev pub front_of : {C : Class} {t q : Text} {v : C.Value} (p : Text) → t ≡ p ++ q → C.Is p q v → Front C t q v
+front_of p e h = record { piece = p; whole = e; is = h }
 
 -- two fronts of one text are one
 pub front_same : (C : Class) → IsDeterministic C → {text q q' : Text} {v v' : C.Value} → Front C text q v
@@ -156,21 +158,17 @@ pub row_cons : (C : Class) (Cs : List Class) → {text q r : Text} {v : C.Value}
 row_cons C Cs {text = text} {q = q} {r = r} {v = v} {vs = vs} f g =
     let ps = g.is.0 in
     let e : q ≡ join ps ++ r = g.whole ∙ ap (λ (x : Text). x ++ r) g.is.1 in
-    record {
-      piece = f.piece ++ join ps;
-      whole = f.whole ∙ ap (λ (x : Text). f.piece ++ x) e ∙ sym (append_assoc f.piece (join ps) r);
-      is = (f.piece ∷ ps, refl, (subst (λ (x : Text). C.Is f.piece x v) e f.is, g.is.2));
-    }
+    front_of (f.piece ++ join ps)
+    (f.whole ∙ ap (λ (x : Text). f.piece ++ x) e ∙ sym (append_assoc f.piece (join ps) r))
+    (f.piece ∷ ps, refl, (subst (λ (x : Text). C.Is f.piece x v) e f.is, g.is.2))
 
 front_parts : (C : Class) (Cs : List Class) (text r : Text) (vs : Values (C ∷ Cs)) (piece : Text) (ps : List Text)
     → text ≡ piece ++ r → piece ≡ join ps → Divides (C ∷ Cs) ps r vs
     → (q : Text) × Front C text q vs.0 × Front (Row Cs) q r vs.1
 front_parts C Cs text r vs piece [] w e h = absurd h
-front_parts C Cs text r vs piece (p ∷ ps) w e h = (
-  join ps ++ r,
-  record { piece = p; whole = w ∙ ap (λ (x : Text). x ++ r) e ∙ append_assoc p (join ps) r; is = h.0 },
-  record { piece = join ps; whole = refl; is = (ps, refl, h.1) },
-)
+front_parts C Cs text r vs piece (p ∷ ps) w e h =
+    let whole = w ∙ ap (λ (x : Text). x ++ r) e ∙ append_assoc p (join ps) r in
+    (join ps ++ r, front_of p whole h.0, front_of (join ps) refl (ps, refl, h.1))
 
 -- the first piece of a row, and the others
 pub row_head : (C : Class) (Cs : List Class) → {text r : Text} {vs : Values (C ∷ Cs)} → Front (Row (C ∷ Cs)) text r vs
@@ -265,11 +263,8 @@ after_det {c} C d p q p' q' v v' e (t, f, h) (t', f', h') =
 -- such a piece, from the character and the piece after it
 pub spaced_front : (C : Class) {c : ℕ} {t q r : Text} {v : C.Value} → Front (exactly (c ∷ [])) t q tt → Front C q r v
     → Front (after c C) t r v
-spaced_front C {c} f g = record {
-  piece = c ∷ g.piece;
-  whole = f.whole ∙ (rw (f.is) (ap (λ (x : Text). c ∷ x) g.whole));
-  is = (g.piece, refl, g.is);
-}
+spaced_front C {c} f g =
+    front_of (c ∷ g.piece) (f.whole ∙ (rw (f.is) (ap (λ (x : Text). c ∷ x) g.whole))) (g.piece, refl, g.is)
 
 -- and back
 pub spaced_parts : (C : Class) {c : ℕ} {t r : Text} {v : C.Value} → Front (after c C) t r v

@@ -10,7 +10,7 @@ use Rattle.syslog_pieces.specs.ProcId.{process_word}
 use Rattle.syslog_pieces.specs.Text.{Names, host, tag_word, word}
 use Rattle.syslog_pieces.specs.declared.procid.ProcId.TheVariants.{PID, Name}
 use Rattle.syslog_pieces.specs.Pieces.Format.{Format, IsSound, classes, printed_row, RowReadsBack}
-use Rattle.syslog_pieces.proofs.PieceLemmas.Class.{rest_same, after_nil, behind, heads, no_front_no, row_cons, row_head}
+use Rattle.syslog_pieces.proofs.PieceLemmas.Class.{front_of, rest_same, after_nil, behind, heads, no_front_no, row_cons, row_head}
 use Rattle.syslog_pieces.proofs.PieceLemmas.Class.{Meets, all_map, all_append, row_nil, piece_front}
 
 -- ---- what a text begins with, and classes whose pieces are of one of two kinds
@@ -86,20 +86,15 @@ many_here C t n = record { piece = []; whole = refl; is = (refl, n) }
 
 pub many_cons : (C : Class) {t t' q : Text} {v : C.Value} {vs : List C.Value} → Front C t t' v → Front (many C) t' q vs
     → Front (many C) t q (v ∷ vs)
-many_cons C {q = q} {v = v} f g = record {
-  piece = f.piece ++ g.piece;
-  whole = f.whole ∙ ap (λ (x : Text). f.piece ++ x) g.whole ∙ sym (append_assoc f.piece g.piece q);
-  is = (f.piece, g.piece, refl, subst (λ (x : Text). C.Is f.piece x v) g.whole f.is, g.is);
-}
+many_cons C {q = q} {v = v} f g = front_of (f.piece ++ g.piece)
+    (f.whole ∙ ap (λ (x : Text). f.piece ++ x) g.whole ∙ sym (append_assoc f.piece g.piece q))
+    (f.piece, g.piece, refl, subst (λ (x : Text). C.Is f.piece x v) g.whole f.is, g.is)
 
 -- the first of them, and the others
 pub many_parts : (C : Class) {t q : Text} {v : C.Value} {vs : List C.Value} → Front (many C) t q (v ∷ vs)
     → (u : Text) × Front C t u v × Front (many C) u q vs
-many_parts C {q = q} f = let (a, b, i, k, more) = f.is in (
-  b ++ q,
-  record { piece = a; whole = f.whole ∙ behind f.piece a b q i; is = k },
-  record { piece = b; whole = refl; is = more },
-)
+many_parts C {q = q} f =
+    let (a, b, i, k, more) = f.is in (b ++ q, front_of a (f.whole ∙ behind f.piece a b q i) k, front_of b refl more)
 
 pub has_read_more : (C : Class) (t s s' : Text) (vs : List C.Value) (v : C.Value) → HasRead C t vs s → Front C s s' v
     → HasRead C t (vs ++ (v ∷ [])) s'
@@ -128,20 +123,16 @@ module _ (C : Class) (separator close : ℕ) where
 
   pub list_cons : {t t' q : Text} {v : C.Value} {vs : List C.Value} → Front C t t' v → Front more t' q vs
       → Front list t q (v ∷ vs)
-  list_cons {q = q} {v = v} f g = record {
-    piece = f.piece ++ g.piece;
-    whole = f.whole ∙ ap (λ (x : Text). f.piece ++ x) g.whole ∙ sym (append_assoc f.piece g.piece q);
-    is = ((f.piece, g.piece, refl, subst (λ (x : Text). C.Is f.piece x v) g.whole f.is, g.is.0), g.is.1);
-  }
+  list_cons {q = q} {v = v} f g = front_of (f.piece ++ g.piece)
+      (f.whole ∙ ap (λ (x : Text). f.piece ++ x) g.whole ∙ sym (append_assoc f.piece g.piece q))
+      ((f.piece, g.piece, refl, subst (λ (x : Text). C.Is f.piece x v) g.whole f.is, g.is.0), g.is.1)
 
   pub more_cons : {t u t' q : Text} {v : C.Value} {vs : List C.Value} → t ≡ separator ∷ u → Front C u t' v
       → Front more t' q vs → Front more t q (v ∷ vs)
-  more_cons {q = q} {v = v} e f g = record {
-    piece = separator ∷ (f.piece ++ g.piece);
-    whole = e ∙ ap (λ (x : Text). separator ∷ x) (f.whole ∙ ap (λ (x : Text). f.piece ++ x) g.whole
-        ∙ sym (append_assoc f.piece g.piece q));
-    is = ((f.piece, g.piece, refl, subst (λ (x : Text). C.Is f.piece x v) g.whole f.is, g.is.0), g.is.1);
-  }
+  more_cons {q = q} {v = v} e f g = front_of (separator ∷ (f.piece ++ g.piece))
+      (e ∙ ap (λ (x : Text). separator ∷ x) (f.whole ∙ ap (λ (x : Text). f.piece ++ x) g.whole
+      ∙ sym (append_assoc f.piece g.piece q)))
+      ((f.piece, g.piece, refl, subst (λ (x : Text). C.Is f.piece x v) g.whole f.is, g.is.0), g.is.1)
 
   pub list_here : (t r : Text) → t ≡ close ∷ r → Front list t t []
   list_here t r e = record { piece = []; whole = refl; is = (refl, (r, e)) }
@@ -152,22 +143,17 @@ module _ (C : Class) (separator close : ℕ) where
   -- the first piece of a list, and the further ones
   pub list_parts : {t q : Text} {v : C.Value} {vs : List C.Value} → Front list t q (v ∷ vs)
       → (u : Text) × Front C t u v × Front more u q vs
-  list_parts {q = q} f = let (a, b, i, k, others) = f.is.0 in (
-    b ++ q,
-    record { piece = a; whole = f.whole ∙ behind f.piece a b q i; is = k },
-    record { piece = b; whole = refl; is = (others, f.is.1) },
-  )
+  list_parts {q = q} f =
+      let (a, b, i, k, others) = f.is.0 in
+      (b ++ q, front_of a (f.whole ∙ behind f.piece a b q i) k, front_of b refl (others, f.is.1))
 
   -- the piece after a separator
   pub more_parts : {t u q : Text} {v : C.Value} {vs : List C.Value} → t ≡ separator ∷ u → Front more t q (v ∷ vs)
       → (r : Text) × Front C u r v × Front more r q vs
   more_parts {u = u} {q = q} e f =
       let (a, b, i, k, others) = f.is.0 in
-      let w : u ≡ a ++ (b ++ q) = cc (e, f.whole, behind f.piece (separator ∷ a) b q i) in (
-        b ++ q,
-        record { piece = a; whole = w; is = k },
-        record { piece = b; whole = refl; is = (others, f.is.1) },
-      )
+      let w : u ≡ a ++ (b ++ q) = cc (e, f.whole, behind f.piece (separator ∷ a) b q i) in
+      (b ++ q, front_of a w k, front_of b refl (others, f.is.1))
 
   -- a list without pieces is closed at once
   not_empty : {t : Text} (p q : Text) → NoFront (exactly (close ∷ [])) t → t ≡ p ++ q → list.Is p q [] → ⊥

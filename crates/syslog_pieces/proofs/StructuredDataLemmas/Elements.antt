@@ -15,11 +15,14 @@ use Rattle.syslog_pieces.proofs.Names.{is_id_char, IsDeterministic, IsCanonicalP
 use Rattle.syslog_pieces.proofs.Names.{exactly, element_of, exactly_det, texted_det, front_same, mapped_det, param_text}
 use Rattle.syslog_pieces.proofs.Names.{unit_text, param_row, bracketed, row_pieces, quoted_row, append-nil, OneMeaning}
 use Rattle.syslog_pieces.proofs.Names.{list_before, IsValueUnit, element_row, some_run_det, element_text, one_value-is}
+use Rattle.std.proofs.lemmas.List.Elements.{filter_map-append}
 use Rattle.syslog_pieces.specs.declared.structured_data.recognised.ElementList.{ElementList}
 use Rattle.syslog_pieces.proofs.PieceLemmas.Lists.{list_before_det}
 use Rattle.syslog_pieces.proofs.StructuredDataLemmas.Units.{unit_same, units_same}
 use Rattle.syslog_pieces.proofs.Names.{start_row, opening_row, inside_row}
 use Rattle.syslog_pieces.proofs.PieceLemmas.Class.{all_joined}
+use Rattle.syslog_pieces.proofs.PieceLemmas.Class.{front_of}
+use Rattle.syslog_pieces.proofs.Names.{Divides}
 
 -- ---- values
 
@@ -47,17 +50,10 @@ value_behind u t q (w ∷ us) h a z e =
 pub unit_goes : (u : TextUnit) (t t' : Text) → IsValueUnit u → t ≡ unit_text u ++ t' → Meets value t value t'
 unit_goes u t t' h e = record {
   forth = λ q v f. (
-    unit_text u ++ v,
-    record {
-      piece = unit_text u ++ f.piece;
-      whole = e ∙ ap (λ (x : Text). unit_text u ++ x) f.whole ∙ sym (append_assoc (unit_text u) f.piece q);
-      is = (
-        (u ∷ f.is.0.0, ap (λ (x : Text). unit_text u ++ x) f.is.0.1, (h, f.is.0.2)),
-        f.is.1,
-        ap (λ (x : Text). unit_text u ++ x) f.is.2,
-      );
-    },
-  );
+      let (us, w, all) = f.is.0 in
+      let on = λ (x : Text). unit_text u ++ x in
+      let whole = e ∙ ap on f.whole ∙ sym (append_assoc (unit_text u) f.piece q) in
+      (on v, front_of (on f.piece) whole ((u ∷ us, ap on w, (h, all)), f.is.1, ap on f.is.2)));
   back = λ q v f. value_behind u t' q f.is.0.0 h f.is.0.2 f.is.1 (sym e ∙ f.whole ∙ ap (λ (x : Text). x ++ q) f.is.0.1);
 }
 
@@ -178,9 +174,7 @@ bracketed_item t q n f =
 
 -- ---- the strict elements among items
 pub strict_append : (vs ws : List (Option ElementValue)) → strict (vs ++ ws) ≡ strict vs ++ strict ws
-strict_append [] ws = refl
-strict_append (None ∷ vs) ws = strict_append vs ws
-strict_append (Some e ∷ vs) ws = ap (λ (x : List ElementValue). e ∷ x) (strict_append vs ws)
+strict_append = filter_map-append (λ item. item)
 
 -- strict elements, as items
 pub strict_some : (es : List ElementValue) → es ≡ strict (map Some es)
@@ -208,27 +202,18 @@ param_values name v = (name, (tt, (tt, (tt, (v, (tt, tt))))))
 
 -- a canonical parameter is read back, whatever follows it
 param_back : (name v q : Text) → IsCanonicalParam (name, v) → param.Is (bare_param_text (name, v)) q (name, v)
-param_back name v q (long, each, units) = (
-  param_values name v,
-  (
-    name ∷ (61 ∷ []) ∷ [] ∷ (34 ∷ []) ∷ v ∷ (34 ∷ []) ∷ [],
-    refl,
-    (tt, (long, each, refl), refl) also refl also (tt, refl) also refl also (units, (_, refl), refl) also refl also tt,
-  ),
-  refl,
-)
+param_back name v q (long, each, units) =
+    let is : Divides param_row (name ∷ (61 ∷ []) ∷ [] ∷ (34 ∷ []) ∷ v ∷ (34 ∷ []) ∷ []) q (param_values name v) =
+    (tt, (long, each, refl), refl) also refl also (tt, refl) also refl also (units, (_, refl), refl) also refl also tt in
+    (param_values name v, (name ∷ (61 ∷ []) ∷ [] ∷ (34 ∷ []) ∷ v ∷ (34 ∷ []) ∷ [], refl, is), refl)
 
 -- further parameters, each after its space
 more_back : (ps : List (Text × Text)) (q : Text) → AllByRecursion IsCanonicalParam ps
     → IsMore param 32 (flat_map param_text ps) q ps
 more_back [] q h = refl
-more_back ((name, v) ∷ ps) q (canonical, canonicals) = (
-  bare_param_text (name, v),
-  flat_map param_text ps,
-  refl,
-  param_back name v (flat_map param_text ps ++ q) canonical,
-  more_back ps q canonicals,
-)
+more_back ((name, v) ∷ ps) q (canonical, canonicals) =
+    let param = param_back name v (flat_map param_text ps ++ q) canonical in
+    (bare_param_text (name, v), flat_map param_text ps, refl, param, more_back ps q canonicals)
 
 -- what is read as a parameter is canonical
 param_canonical : (p q : Text) (v : Text × Text) → param.Is p q v → IsCanonicalParam v
@@ -256,36 +241,21 @@ element_of_parts : (id : Text) (ps : List (Text × Text)) (q : Text) → IsCanon
   id = id;
   params = ps;
 }) → element.Is (element_text (record { id = id; params = ps })) q (record { id = id; params = ps })
-element_of_parts id [] q (long, each, canonical, first) = (
-  element_values id [],
-  (
-    (91 ∷ []) ∷ id ∷ [] ∷ [] ∷ (93 ∷ []) ∷ [],
-    refl,
-    refl also (tt, (long, each, refl), refl) also (tt, refl) also (refl, (_, refl)) also refl also tt,
-  ),
-  refl,
-)
+element_of_parts id [] q (long, each, canonical, first) =
+    let is : Divides element_row ((91 ∷ []) ∷ id ∷ [] ∷ [] ∷ (93 ∷ []) ∷ []) q (element_values id []) =
+    refl also (tt, (long, each, refl), refl) also (tt, refl) also (refl, (_, refl)) also refl also tt in
+    (element_values id [], ((91 ∷ []) ∷ id ∷ [] ∷ [] ∷ (93 ∷ []) ∷ [], refl, is), refl)
 element_of_parts id ((name, v) ∷ ps) q (long, each, (canonical, canonicals), first) =
+    let head : Text = bare_param_text (name, v) in
     let more : Text = flat_map param_text ps in
     let gap = begins_more name (61 ∷ 34 ∷ (v ++ (34 ∷ []))) more (93 ∷ []) q canonical.0 first in
-    let param = param_back name v (more ++ (93 ∷ q)) canonical in (
-      element_values id ((name, v) ∷ ps),
-      (
-        (91 ∷ []) ∷ id ∷ (32 ∷ []) ∷ (bare_param_text (name, v) ++ more) ∷ (93 ∷ []) ∷ [],
-        refl,
-        refl also (tt, (long, each, refl), refl) also ((refl, tt), gap) also (
-          (
-            bare_param_text (name, v),
-            more,
-            refl,
-            param,
-            more_back ps (93 ∷ q) canonicals,
-          ),
-          (q, refl),
-        ) also refl also tt,
-      ),
-      refl,
-    )
+    let first_is = param_back name v (more ++ (93 ∷ q)) canonical in
+    let list : IsList param 32 (head ++ more) (93 ∷ q) ((name, v) ∷ ps) =
+    (head, more, refl, first_is, more_back ps (93 ∷ q) canonicals) in
+    let is : Divides element_row ((91 ∷ []) ∷ id ∷ (32 ∷ []) ∷ (head ++ more) ∷ (93 ∷ []) ∷ []) q
+    (element_values id ((name, v) ∷ ps)) = refl also (tt, (long, each, refl), refl) also ((refl, tt), gap)
+    also (list, (q, refl)) also refl also tt in
+    (element_values id ((name, v) ∷ ps), ((91 ∷ []) ∷ id ∷ (32 ∷ []) ∷ (head ++ more) ∷ (93 ∷ []) ∷ [], refl, is), refl)
   where
     begins_more : (name a b c d : Text) → 0 < length name → Ends is_blank name
         → Ends is_blank ((((name ++ a) ++ b) ++ c) ++ d)
@@ -313,14 +283,10 @@ element_canonical p q e (vs, row, same) =
     let (_, _, (_, named, (_, gap, (after, list, _)))) = row_pieces element_row
     (record { piece = p; whole = refl; is = row }) in
     let (_, id, id_is) = named.is in
-    let params = list.is.0 in
-    rw (same, id_is) (
-      id.0,
-      id.1,
-      list_canonical list.piece after (element_of vs).params params,
-      first_canonical list.piece after (element_of vs).params params
-          (subst (λ (x : Text). Ends is_blank x) list.whole gap.is.1),
-    )
+    let gap_ends = subst (λ (x : Text). Ends is_blank x) list.whole gap.is.1 in
+    let params = list_canonical list.piece after (element_of vs).params list.is.0 in
+    rw (same, id_is)
+    (id.0, id.1, params, first_canonical list.piece after (element_of vs).params list.is.0 gap_ends)
 
 -- no item begins at the end, nor with another character than `[`
 pub no_item_nil : NoFront item []
@@ -332,13 +298,9 @@ no_item_before c t n p q v e h = let (r, w) = item_begins p q v h in n (heads c 
 items_back : (es : List ElementValue) (q : Text) → AllByRecursion IsCanonicalElement es → NoFront item q
     → IsMany item (joined_elements es) q (map Some es)
 items_back [] q h n = (refl, n)
-items_back (e ∷ es) q (canonical, canonicals) n = (
-  element_text e,
-  joined_elements es,
-  refl,
-  element_back e (joined_elements es ++ q) canonical,
-  items_back es q canonicals n,
-)
+items_back (e ∷ es) q (canonical, canonicals) n =
+    let first = element_back e (joined_elements es ++ q) canonical in
+    (element_text e, joined_elements es, refl, first, items_back es q canonicals n)
 
 -- canonical elements, or none, are read back where no item follows
 pub forgiving_back : (es : List ElementValue) (q : Text) → AllByRecursion IsCanonicalElement es → NoFront item q

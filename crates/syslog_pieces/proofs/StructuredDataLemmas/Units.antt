@@ -141,11 +141,9 @@ each_unit (single c ∷ us) h k = ((h.0, k.0), each_unit us h.1 k.1)
 
 pub value_split : (text : Text) → IsValue text
     ↔ ((us : List TextUnit) × SplitsUnits text us false × AllByRecursion IsUnquoted us)
-value_split text = (
-  λ v. (let t = each_piece v.0 v.2 in
-      (v.0, record { whole = v.1 ∙ sym (append-nil (flat_map unit_text v.0)); each = t.0 }, t.1)),
-  λ s. (s.0, s.1.whole ∙ append-nil (flat_map unit_text s.0), each_unit s.0 s.1.each s.2),
-)
+value_split text = (λ v. let t = each_piece v.0 v.2 in
+    (v.0, record { whole = v.1 ∙ sym (append-nil (flat_map unit_text v.0)); each = t.0 }, t.1))
+    also (λ s. (s.0, s.1.whole ∙ append-nil (flat_map unit_text s.0), each_unit s.0 s.1.each s.2))
 
 -- ---- reading units one after the other: with what the rest means, what was read means that of the text
 pub record Removes (text out rest : Text) : Type 0 where
@@ -325,8 +323,13 @@ pub counted_from : {S : Type 0} (text : S → Text) (xs ys : List (S × S)) (i :
 counted_from text xs ys i long front =
     let v = param_value text in
     let e : same_params (map v (take i xs) ++ map v (drop i xs)) (map v (take i xs) ++ map v (drop i ys))
-    ≡ same_params (map v xs) (map v ys) = rw (← map-append v (take i xs) (drop i xs), take-append-drop, front,
-      ← map-append v (take i ys) (drop i ys), take-append-drop) in
+    ≡ same_params (map v xs) (map v ys) = rw (
+      ← map-append v (take i xs) (drop i xs),
+      take-append-drop,
+      front,
+      ← map-append v (take i ys) (drop i ys),
+      take-append-drop,
+    ) in
     counted_once (map v (drop i xs)) (map v (drop i ys)) (simp (length-map, length-drop, long))
     ∙ same_params-behind (map v (take i xs)) (map v (drop i xs)) (map v (drop i ys)) ∙ e
 

@@ -37,6 +37,8 @@ use Rattle.syslog_pieces.proofs.Names.{flat_map-append}
 use Rattle.syslog_pieces.proofs.Names.{HasRead, has_read_more}
 use Rattle.syslog_pieces.proofs.StructuredDataLemmas.Elements.{quoted_det, inside_det, start_det}
 use Rattle.syslog_pieces.proofs.TextLemmas.Runs.{chars_empty}
+use Rattle.syslog_pieces.proofs.PieceLemmas.Class.{front_of}
+use Rattle.syslog_pieces.proofs.Names.{sum_by}
 
 -- ---- elements with a parameter
 pub full_is_element : {t q : Text} {v : ElementValue} → Front full_element t q v → Front element t q v
@@ -266,22 +268,15 @@ module _ {text inner at id : Text} {ps : List (Text × Text)} {count : ℕ} {mar
 
       -- a parameter more is counted
       pub more_room : count + 1 + length y ≤ length text
-      more_room = omega (
-        arith,
-        w.room,
-        front_longer opening o,
-        ap length (quoted_text f),
-        length-append v (34 ∷ y),
-      )
+      more_room =
+          omega (arith, w.room, front_longer opening o, ap length (quoted_text f), length-append v (34 ∷ y))
 
       -- where a bracket follows the value, the element ends
       pub ends : {q : Text} → Front (exactly (93 ∷ [])) y q tt
           → Front inside inner q (ps ++ ((name, v) ∷ []), (tt, tt)) × (count + 1 ≡ length (ps ++ ((name, v) ∷ [])))
-      ends {q = q} g = (
-        row_of inside_row (w.leaves _ _ _ [] (param_read o f) (more_here param 32 93 _ _ (begins 93 y q g)) then g
-            then refl),
-        more_counted,
-      )
+      ends {q = q} g =
+          let list = w.leaves _ _ _ [] (param_read o f) (more_here param 32 93 _ _ (begins 93 y q g)) in
+          (row_of inside_row (list then g then refl), more_counted)
 
       module _ {opens : Bool} (stands : IsTrue opens → at ≡ name ++ (61 ∷ 34 ∷ value)) where
         printed_param : IsTrue (mark && opens) → text ≡ 91 ∷ (id ++ (flat_map param_text (ps ++ ((name, v) ∷ [])) ++ y))
@@ -416,11 +411,8 @@ full_alone p q (e ∷ es) (a, b, w, h, more) = (a, b, w, element_alone a (b ++ q
 
 are_of : {C : Class} {t q : Text} {v : C.Value} {vs : List (Option ElementValue)} (f : Front C t q v)
     → IsMany item f.piece [] vs → AreItems t q vs
-are_of f h = record {
-  piece = f.piece;
-  whole = f.whole;
-  items = record { piece = f.piece; whole = sym (append-nil f.piece); is = h };
-}
+are_of f h =
+    record { piece = f.piece; whole = f.whole; items = front_of f.piece (sym (append-nil f.piece)) h }
 
 pub are_items : {t q : Text} {vs : List (Option ElementValue)} → Front (many item) t q vs → AreItems t q vs
 are_items {q = q} {vs = vs} f = are_of f (items_alone f.piece q vs f.is)
@@ -436,14 +428,11 @@ module _ {t rest own : Text} (cut : t ≡ own ++ rest) where
 
   pub own_printed : {end printed joined : Text} → (between : Text) × (end ≡ between ++ rest) → t ≡ joined ++ end
       → t ≡ printed ++ end → (printed ≡ joined) × ((left : Text) × (own ≡ printed ++ left))
-  own_printed {end = end} {printed = printed} {joined = joined} (between, e) f g = (
-    append_cancel_right printed joined end (sym g ∙ f),
-    (
-      between,
-      append_cancel_right own (printed ++ between) rest (sym cut ∙ g
-          ∙ ap (λ (x : Text). printed ++ x) e ∙ sym (append_assoc printed between rest)),
-    ),
-  )
+  own_printed {end = end} {printed = printed} {joined = joined} (between, e) f g =
+      let same = sym cut ∙ g ∙ ap (λ (x : Text). printed ++ x) e ∙ sym (append_assoc printed between rest) in (
+        append_cancel_right printed joined end (sym g ∙ f),
+        (between, append_cancel_right own (printed ++ between) rest same),
+      )
 
 pub some_joined : (es : List ElementValue) → 0 < length es → joined_elements es ≡ elements_text es
 some_joined [] l = absurd (omega arith)
@@ -480,13 +469,7 @@ module _ (C : Class) (view : List C.Value → List ElementValue) {V : Type 0}
     es = [];
     same = z;
     read = λ q ws f. f;
-    tallied = record {
-      utf8 = u;
-      elements = e;
-      params = p;
-      after = ([], s);
-      prints = λ t. sym s;
-    };
+    tallied = record { utf8 = u; elements = e; params = p; after = ([], s); prints = λ t. sym s };
     level = λ t. s;
     elements = omega (arith, e);
     params = omega (arith, p);
@@ -522,6 +505,12 @@ module _ (C : Class) (view : List C.Value → List ElementValue) {V : Type 0}
           let t = s.tallied in
           let x = element_seen w.element in
           let same : shown tally'.end ≡ shown w.rest = ap (λ r. shown r) e in
+          let sum : tally'.params ≡ sum_by (λ d. length d.params) (s.es ++ (x ∷ [])) = m ∙ omega (
+            arith,
+            t.params,
+            sum_by-append (λ d. length d.params) s.es (x ∷ []),
+            sum_by-cons (λ d. length d.params) x [],
+          ) in
           record {
             vs = s.vs ++ (v ∷ []);
             es = s.es ++ (x ∷ []);
@@ -531,12 +520,7 @@ module _ (C : Class) (view : List C.Value → List ElementValue) {V : Type 0}
             tallied = record {
               utf8 = subst (λ r. IsUtf8 r.now) (sym e) k.utf8;
               elements = omega (arith, n, t.elements, length-append s.es (x ∷ []));
-              params = m ∙ omega (
-                arith,
-                t.params,
-                sum_by-append (λ d. length d.params) s.es (x ∷ []),
-                sum_by-cons (λ d. length d.params) x [],
-              );
+              params = sum;
               after = ([], same);
               prints = λ all. (
                   let (both, d) = and_parts _ _ (p all) in
@@ -564,11 +548,8 @@ module _ (C : Class) (view : List C.Value → List ElementValue) {V : Type 0}
         utf8 = s.tallied.utf8;
         elements = s.tallied.elements;
         params = s.tallied.params;
-        after = (
-          s.tallied.after.0 ++ f.piece,
-          s.tallied.after.1 ∙ ap (λ (y : Text). s.tallied.after.0 ++ y) f.whole
-              ∙ sym (append_assoc s.tallied.after.0 f.piece next),
-        );
+        after = let (a, e) = s.tallied.after in
+            (a ++ f.piece, e ∙ ap (λ (y : Text). a ++ y) f.whole ∙ sym (append_assoc a f.piece next));
         prints = s.tallied.prints;
       };
       level = λ t. cc;
@@ -593,8 +574,14 @@ pub items_none : {t q : Text} (own : List ℕ) (vs : List (Option ElementValue))
 items_none own [] f e l = refl
 items_none {t = t} {q = q} own (v ∷ vs) f e l =
     let (u, first, rest) = many_parts item f in
-    absurd (omega (arith, item_shorter t u v first, front_longer (many item) rest, chars_empty own l, ap length e,
-    length-append (chars own) q))
+    absurd (omega (
+      arith,
+      item_shorter t u v first,
+      front_longer (many item) rest,
+      chars_empty own l,
+      ap length e,
+      length-append (chars own) q,
+    ))
 
 -- a list with a character
 pub some_forgiving : {t q : Text} (own : Text) (vs : List (Option ElementValue)) → Front (many item) t q vs → t ≡ own ++ q
@@ -609,13 +596,7 @@ pub optional_full : (rule : DashRule) {t q : Text} (es : List ElementValue)
     → ((r : Text) → t ≡ 45 ∷ r → IsDashBefore rule r → ⊥) → Front (many full_element) t q es
     → (os : Option (List ElementValue)) × Front (optional (rfc3164_list rule)) t q os × (es ≡ elements_or os)
 optional_full rule {t = t} {q = q} [] n f =
-    let same = f.whole ∙ ap (λ (x : Text). x ++ q) f.is.0 in (
-      None,
-      subst (λ (x : Text). Front (optional (rfc3164_list rule)) t x None) same (list_absent rule t q n f),
-      refl,
-    )
-optional_full rule (e ∷ es) n f = (
-  Some (e ∷ es),
-  optional_some (rfc3164_list rule) (record { piece = f.piece; whole = f.whole; is = inr (omega arith, f.is) }),
-  refl,
-)
+    let same = f.whole ∙ ap (λ (x : Text). x ++ q) f.is.0 in
+    let absent = list_absent rule t q n f in
+    (None, subst (λ (x : Text). Front (optional (rfc3164_list rule)) t x None) same absent, refl)
+optional_full rule (e ∷ es) n f = (Some (e ∷ es), front_of f.piece f.whole (inr (omega arith, f.is)), refl)

@@ -19,7 +19,7 @@ use Rattle.std.proofs.Common.{get_or-take}
 use Rattle.std.proofs.lemmas.List.{get_or-append-add}
 use Rattle.std.proofs.lemmas.Str.{IsCharBoundary-before_ascii}
 use Rattle.std.proofs.lemmas.Slice.Eq.{bytes_eq-Decides}
-use Rattle.std.proofs.lemmas.Bool.{le-ltb, not_from_true}
+use Rattle.std.proofs.lemmas.Bool.{le-ltb, not_from_true, and_right}
 use Rattle.std.specs.Int.RustNames.{bit_xor}
 use Rattle.std.proofs.lemmas.Simd.{first_set_mask_l, run_in_chunk_fails, run_in_chunk_le, run_in_chunk_stops, map-map}
 use Rattle.std.proofs.lemmas.Simd.{mask_l-mod, length-chunk, zip2_of_maps, zip2_splat, splat_is_map}
@@ -28,6 +28,7 @@ use mir.Val.{bool_byte}
 use lib.Lanes.{chunk, zip2, mask_l, top}
 use lib.Utf8.{scalar, encode}
 use Rattle.syslog_pieces.specs.Bodies.Scan.{first_set, visible_byte}
+use Rattle.syslog_pieces.proofs.PieceLemmas.Class.{front_of}
 pub use Rattle.std.proofs.lemmas.Bool.{not-true as from_not_true}
 
 -- ---- texts and their bytes
@@ -100,6 +101,11 @@ pub ascii_ahead : (p q bs : List ℕ) → IsUtf8 bs → IsAscii p → chars bs �
 ascii_ahead p q bs u a e = sym (encodes-chars bs u) ∙ ap encode_utf8_all e ∙ encodes-append p q
     ∙ ap (λ (x : List ℕ). x ++ encode_utf8_all q) (encodes-IsAscii p a)
 
+-- what is before text is text
+pub before_utf8 : (bs front back : List ℕ) → IsUtf8 bs → IsUtf8 back → bs ≡ front ++ back → IsUtf8 front
+before_utf8 bs front back u z e =
+    rw (e, take-append_seam) at (IsUtf8-take bs (length front) u (IsCharBoundary-at_seam bs front back e z))
+
 pub chars_cut : (bs xs ys : List ℕ) → bs ≡ xs ++ ys → IsUtf8 xs → chars bs ≡ chars xs ++ chars ys
 chars_cut bs xs ys e u = rw e (chars-append xs ys u)
 
@@ -114,14 +120,6 @@ module _ (t r : List ℕ) (u : IsUtf8 t) (z : IsUtf8 r) (p : Text) (whole : char
 
   front_length : length (encode_utf8_all p) ≡ length t - length r
   front_length = omega (arith, ap length bytes, length-append (encode_utf8_all p) r)
-
-  -- after the first byte is the rest, where the text has one byte more
-  pub behind_one : length t ≡ suc (length r) → drop 1 t ≡ r
-  behind_one l =
-      let n : length (encode_utf8_all p) ≡ 1 = omega (arith, front_length) in
-      let d : drop (length (encode_utf8_all p)) t ≡ r =
-      ap (drop (length (encode_utf8_all p))) bytes ∙ drop-append_seam (encode_utf8_all p) r in
-      rw n at d
 
   -- the text may be cut there
   pub front_cut : IsCharBoundary t (length t - length r)
@@ -158,8 +156,10 @@ host_stands text follows v f = f.whole ∙ ap (λ (x : Text). x ++ follows) (hos
 -- a space, and then as many bytes as the rest has
 pub space_stands : (t r : List ℕ) → IsUtf8 t → IsUtf8 r → (gap : Text) → chars t ≡ gap ++ chars r → t ≡ 32 ∷ drop 1 t
     → length t ≡ suc (length r) → chars t ≡ 32 ∷ chars r
-space_stands t r u z gap e f l = ascii_front (32 ∷ []) r t (one_ascii 32 (omega arith))
-    (f ∙ ap (λ (x : List ℕ). 32 ∷ x) (behind_one t r u z gap e l))
+space_stands t r u z gap e f l =
+    let n : length t - length r ≡ 1 = omega arith in
+    rw (chars-IsAscii (32 ∷ []) (one_ascii 32 (omega arith))) at
+    (front_chars t r u z gap e (32 ∷ []) (rw n (sym (ap (take 1) f))))
 
 -- ---- where a run ends
 
@@ -167,16 +167,11 @@ pub ends_run : (test : ℕ → Bool) (bs : List ℕ) (n : ℕ) → IsUtf8 bs →
     → Ends test (chars (drop n bs)) → EndsRun test bs n
 ends_run test bs n u b each ends =
     let w = sym (take-append-drop n bs) in
-    let front = IsUtf8-take bs n u b in (
+    let front = IsUtf8-take bs n u b in
+    let chars = chars_cut bs (take n bs) (drop n bs) w front in
+    let back = IsUtf8-drop bs n u b in (
       b,
-      record {
-        whole = w;
-        characters = chars_cut bs (take n bs) (drop n bs) w front;
-        each = each;
-        ends = ends;
-        front_utf8 = front;
-        back_utf8 = IsUtf8-drop bs n u b;
-      },
+      record { whole = w; characters = chars; each = each; ends = ends; front_utf8 = front; back_utf8 = back },
     )
 
 -- a split there
@@ -332,11 +327,6 @@ module _ (p bs rest : List ℕ) (a : IsAscii p) (u : IsUtf8 bs) (e : bs ≡ p ++
   behind_chars = ascii_front p rest bs a e
 
 -- ---- one byte
-pub behind_first : (bs ys : List ℕ) → 0 < length bs → get_or bs 0 0 < 128 → ys ≡ drop 1 bs
-    → chars bs ≡ get_or bs 0 0 ∷ chars ys
-behind_first bs ys l low f =
-    ascii_front (get_or bs 0 0 ∷ []) ys bs (one_ascii (get_or bs 0 0) low) (rw f (drop_more bs 0 0 l))
-
 module _ (b : ℕ) (bs : List ℕ) (low : b < 128) (u : IsUtf8 bs) where
   pub one_cut : bs ≡ b ∷ drop 1 bs → IsCharBoundary bs 1
   one_cut e = IsCharBoundary-after_ascii bs 0 u (omega (arith, ap length e))
@@ -344,11 +334,8 @@ module _ (b : ℕ) (bs : List ℕ) (low : b < 128) (u : IsUtf8 bs) where
 
   pub one_front : bs ≡ b ∷ drop 1 bs → (ys : List ℕ) → ys ≡ drop 1 bs
       → Front (exactly (b ∷ [])) (chars bs) (chars ys) tt
-  one_front e ys f = record {
-    piece = b ∷ [];
-    whole = ascii_front (b ∷ []) ys bs (one_ascii b low) (e ∙ ap (λ (x : List ℕ). b ∷ x) (sym f));
-    is = refl;
-  }
+  one_front e ys f = front_of (b ∷ [])
+      (ascii_front (b ∷ []) ys bs (one_ascii b low) (e ∙ ap (λ (x : List ℕ). b ∷ x) (sym f))) refl
 
   pub no_one_front : ((more : List ℕ) → bs ≢ b ∷ more) → NoFront (exactly (b ∷ [])) (chars bs)
   no_one_front n p q v e h =
@@ -361,30 +348,22 @@ no_blank c byte e h = grind (arith, nat_tests)
 
 -- a text that begins past white space begins with no blank
 pub no_blanks : (bs : List ℕ) → IsUtf8 bs → BeginsVisibly bs → Front (run is_blank) (chars bs) (chars bs) tt
-no_blanks bs u g = record {
-  piece = [];
-  whole = refl;
-  is = (tt, ends_by_byte is_blank bs u (λ l c byte char. no_blank c (get_or bs 0 0) byte g.1));
-}
+no_blanks bs u g =
+    front_of [] refl (tt, ends_by_byte is_blank bs u (λ l c byte char. no_blank c (get_or bs 0 0) byte g.1))
 
 pub gap_cut : (bs : List ℕ) → IsUtf8 bs → BeginsWithGap bs → IsCharBoundary bs 1
 gap_cut bs u g = IsCharBoundary-after_ascii bs 0 u (omega (arith, g.0)) (omega (arith, g.1))
 
 pub gap_space : (bs : List ℕ) → BeginsWithGap bs → (ys : List ℕ) → ys ≡ drop 1 bs → chars bs ≡ 32 ∷ chars ys
-gap_space bs g ys f = rw g.1 at (behind_first bs ys (omega (arith, g.0)) (omega (arith, g.1)) f)
+gap_space bs g ys f =
+    ascii_front (32 ∷ []) ys bs (one_ascii 32 (omega arith)) (rw (f, ← g.1) (drop_more bs 0 0 (omega (arith, g.0))))
 
 pub gap_some : (bs : List ℕ) → IsUtf8 bs → BeginsWithGap bs → (ys : List ℕ) → ys ≡ drop 1 bs
     → Front (some_run is_blank) (chars bs) (chars ys) tt
-gap_some bs u g ys f = record {
-  piece = 32 ∷ [];
-  whole = gap_space bs g ys f;
-  is = (
-    omega arith,
-    (refl, tt),
-    rw f (ends_by_byte is_blank (drop 1 bs) (IsUtf8-drop bs 1 u (gap_cut bs u g))
-        (λ l c byte char. no_blank c (get_or (drop 1 bs) 0 0) byte (omega (arith, first_left 1 bs, g.2)))),
-  );
-}
+gap_some bs u g ys f =
+    let ends = ends_by_byte is_blank (drop 1 bs) (IsUtf8-drop bs 1 u (gap_cut bs u g))
+    (λ l c byte char. no_blank c (get_or (drop 1 bs) 0 0) byte (omega (arith, first_left 1 bs, g.2))) in
+    front_of (32 ∷ []) (gap_space bs g ys f) (omega arith, (refl, tt), rw f ends)
 
 -- what the reader of such a gap rests on
 pub ruleset gap = (gap_cut, gap_space, gap_some)
@@ -480,17 +459,11 @@ end_trimmed_chars bs u =
     chars-encodes (drop_trailing_whitespace (chars bs)) (drop_scalars (chars bs) (scalars-chars bs u))
 
 -- ---- texts with no white space at either end
-stays : (b t : Bool) (x : ℕ) (xs : Text) → t ≡ false → cond (b && t) [] (x ∷ xs) ≡ x ∷ xs
-stays true t x xs h = rw h refl
-stays false t x xs h = refl
-
-nonempty : (cs : Text) (c : ℕ) → nat_eq (length (cs ++ (c ∷ []))) 0 ≡ false
-nonempty cs c = grind (arith, nat_tests, length-append cs (c ∷ []))
-
 end_stays : (cs : Text) (c : ℕ) → is_whitespace c ≡ false → drop_trailing_whitespace (cs ++ (c ∷ [])) ≡ cs ++ (c ∷ [])
 end_stays [] c h = rw h refl
-end_stays (d ∷ cs) c h = rw (end_stays cs c h)
-    (stays (is_whitespace d) (nat_eq (length (cs ++ (c ∷ []))) 0) d (cs ++ (c ∷ [])) (nonempty cs c))
+end_stays (d ∷ cs) c h =
+    let some : nat_eq (length (cs ++ (c ∷ []))) 0 ≡ false = grind (arith, nat_tests, length-append cs (c ∷ [])) in
+    rw (end_stays cs c h, and_right (is_whitespace d) _ some) refl
 
 start_stays : (c : ℕ) (cs : Text) → is_whitespace c ≡ false → skip_leading_whitespace (c ∷ cs) ≡ c ∷ cs
 start_stays c cs h = rw h refl
@@ -507,12 +480,8 @@ module _ (bs : List ℕ) (u : IsUtf8 bs) (h : IsBare bs) where
   last = visible h.last h.last_in
 
   front_utf8 : IsUtf8 (h.first ∷ h.middle)
-  front_utf8 =
-      let front = h.first ∷ h.middle in
-      let cut = IsCharBoundary-at_seam bs front (h.last ∷ []) h.whole
-      (IsUtf8-from_ascii (h.last ∷ []) (one_ascii h.last last.0)) in
-      subst IsUtf8 (ap (take (length front)) h.whole ∙ take-append_seam front (h.last ∷ []))
-      (IsUtf8-take bs (length front) u cut)
+  front_utf8 = before_utf8 bs (h.first ∷ h.middle) (h.last ∷ []) u
+      (IsUtf8-from_ascii (h.last ∷ []) (one_ascii h.last last.0)) h.whole
 
   text_split : chars bs ≡ (h.first ∷ chars h.middle) ++ (h.last ∷ [])
   text_split =

@@ -27,6 +27,8 @@ use Rattle.syslog_pieces.proofs.TextLemmas.Runs.{text_is, text_is_not, nonempty_
 use Rattle.syslog_pieces.proofs.TextLemmas.Runs.{behind_is, behind_chars, ends_digits}
 use Rattle.syslog_pieces.proofs.PieceLemmas.Class.{each_front}
 use Rattle.syslog_pieces.proofs.TextLemmas.Runs.{bytes}
+use Rattle.syslog_pieces.proofs.PieceLemmas.Class.{front_of, ◌also◌}
+use Rattle.syslog_pieces.proofs.TextLemmas.Runs.{before_utf8}
 pub use Rattle.std.proofs.lemmas.Fmt.{decimal_digit as one_digit, decimal_step as last_of_more}
 pub use Rattle.std.proofs.lemmas.List.Folds.{flat_map-map}
 pub use Rattle.syslog_pieces.proofs.PieceLemmas.Class.{no_truth, false_is, last_is}
@@ -60,14 +62,9 @@ IsRunOf w p v = ((w ≡ p) × (EndsInColon p → ⊥) × Names p v) ⊎ ((w ≡ 
 host_run : (p q : Text) (v : Option Text) → IsHost p q v → (w : Text) × (r : Text) × (p ++ q ≡ w ++ r)
     × Each is_not_whitespace w × Ends is_not_whitespace r × IsRunOf w p v
 host_run p q v (_, a, inl (n, b, m)) = (p, q, refl, a, b, inl (refl, n, m))
-host_run p q v (_, a, inr (r, f, b, m)) = (
-  p ++ colon,
-  r,
-  rw f (sym (append_assoc p colon r)),
-  each_append is_not_whitespace p colon a (refl, tt),
-  b,
-  inr (refl, m),
-)
+host_run p q v (_, a, inr (r, f, b, m)) =
+    let each = each_append is_not_whitespace p colon a (refl, tt) in
+    (p ++ colon, r, rw f (sym (append_assoc p colon r)), each, b, inr (refl, m))
 
 same_host : (w p w' p' : Text) (v v' : Option Text) → w ≡ w' → IsRunOf w p v → IsRunOf w' p' v' → (p ≡ p') × (v ≡ v')
 same_host w p w' p' v v' e (inl (i, n, m)) (inl (j, n', m')) =
@@ -104,11 +101,8 @@ module _ (bs xs ys : List ℕ) (s : SplitsRun is_ascii_digit bs xs ys) where
   pub number_read : (v limit : ℕ) → ((0 < length xs) × (digits_value 10 xs < 2 ^ 32)) × (v ≡ digits_value 10 xs)
       → v ≤ limit → Front (number limit) (chars bs) (chars ys) v
   number_read v limit h l =
-      record {
-        piece = chars xs;
-        whole = s.characters;
-        is = (chars_nonempty xs s.front_utf8 h.0.0, s.each, s.ends, h.1 ∙ ap (digits_value 10) (sym canonical), l);
-      }
+      front_of (chars xs) s.characters
+      (chars_nonempty xs s.front_utf8 h.0.0, s.each, s.ends, h.1 ∙ ap (digits_value 10) (sym canonical), l)
 
   pub number_stuck : (limit : ℕ) → (0 < length xs → digits_value 10 xs ≤ limit → ⊥) → NoFront (number limit) (chars bs)
   number_stuck limit stuck p q v e (l, a, b, f, m) =
@@ -131,11 +125,7 @@ pub ruleset dash_told = (text_is, text_is_not, dash_ascii)
 pub host_front : (bs xs ys : List ℕ) → SplitsRun is_not_whitespace bs xs ys → (v : Option (List ℕ)) → 0 < length xs
     → ((front : List ℕ) → xs ≢ front ++ colon) → Names (chars xs) v → Front host (chars bs) (chars ys) v
 host_front bs xs ys s v l n m =
-    record {
-      piece = chars xs;
-      whole = s.characters;
-      is = (chars_nonempty xs s.front_utf8 l, s.each, inl (no_end, s.ends, m));
-    }
+    front_of (chars xs) s.characters (chars_nonempty xs s.front_utf8 l, s.each, inl (no_end, s.ends, m))
   where
     no_end : EndsInColon (chars xs) → ⊥
     no_end (front, e) = n (encode_utf8_all front) (bytes xs colon s.front_utf8 (IsUtf8-from_ascii colon colon_ascii) front
@@ -147,8 +137,7 @@ module _ (bs xs ys front : List ℕ) (s : SplitsRun is_not_whitespace bs xs ys) 
   at_colon = rw e at s.whole ∙ append_assoc front colon ys
 
   front_utf8 : IsUtf8 front
-  front_utf8 = rw (e, take-append_seam) at (IsUtf8-take xs (length front) s.front_utf8
-      (IsCharBoundary-at_seam xs front colon e (IsUtf8-from_ascii colon colon_ascii)))
+  front_utf8 = before_utf8 xs front colon s.front_utf8 (IsUtf8-from_ascii colon colon_ascii) e
 
   run_chars : chars xs ≡ chars front ++ colon
   run_chars = rw (e, chars-append front colon front_utf8, chars-IsAscii colon colon_ascii) refl
@@ -164,15 +153,11 @@ module _ (bs xs ys front : List ℕ) (s : SplitsRun is_not_whitespace bs xs ys) 
         → Front host (chars bs) (chars after) (Some (chars before))
     host_colon_read after g l =
         let behind : after ≡ 58 ∷ ys = g ∙ rw (place, at_colon) (drop-append_seam front (58 ∷ ys)) in
-        rw (same, behind) (record {
-          piece = chars front;
-          whole = ap chars at_colon ∙ chars-append front (58 ∷ ys) front_utf8;
-          is = (
-            chars_nonempty front front_utf8 (rw same at l),
-            each_front is_not_whitespace (chars front) colon (rw run_chars at s.each),
-            inr (chars ys, ascii_front colon ys (58 ∷ ys) colon_ascii refl, s.ends, refl),
-          );
-        })
+        let long = chars_nonempty front front_utf8 (rw same at l) in
+        let each = each_front is_not_whitespace (chars front) colon (rw run_chars at s.each) in
+        let colon_next = ascii_front colon ys (58 ∷ ys) colon_ascii refl in
+        rw (same, behind) (front_of (chars front) (ap chars at_colon ∙ chars-append front (58 ∷ ys) front_utf8)
+        (long, each, inr (chars ys, colon_next, s.ends, refl)))
 
     pub no_host_colon : length before ≡ 0 → NoFront host (chars bs)
     no_host_colon z p q v g h =
@@ -272,27 +257,21 @@ pub ruleset both_told = (false_is, last_is, some_char)
 
 pub end_told : (bs : List ℕ) (b : Bool) → IsUtf8 bs → b ≡ nat_eq (length bs) 0 → IsTrue b ↔ (chars bs ≡ [])
 end_told [] b u e = ((λ h. chars-nil), (λ h. e))
-end_told (x ∷ bs) b u e = (
-  (λ h. absurd (let z = eqb-true (length (x ∷ bs)) 0 (sym e ∙ h) in omega arith)),
-  (λ h. absurd (let l = chars_nonempty (x ∷ bs) u (omega arith) in omega (arith, ap length h))),
-)
+end_told (x ∷ bs) b u e =
+    (λ h. absurd (let z = eqb-true (length (x ∷ bs)) 0 (sym e ∙ h) in omega arith)) also
+    (λ h. absurd (let l = chars_nonempty (x ∷ bs) u (omega arith) in omega (arith, ap length h)))
 
 module _ (test : ℕ → Bool) (bs xs ys : List ℕ) (s : SplitsRun test bs xs ys) (b : Bool) where
   -- nothing is left after the run
   pub only_told : IsTrue b ↔ (chars ys ≡ []) → IsTrue b ↔ Each test (chars bs)
-  only_told e = (
-    (λ h. rw (s.characters, e.0 h, append-nil) s.each),
-    (λ h. e.1 (let whole = sym (append-nil (chars bs)) in
-        rest_same (chars xs) (chars ys) (chars bs) [] (sym s.characters ∙ whole)
-        (sym (run_is test bs xs ys s (chars bs) [] whole h tt)))),
-  )
+  only_told e = (λ h. rw (s.characters, e.0 h, append-nil) s.each) also (λ h. e.1 (
+      let whole = sym (append-nil (chars bs)) in rest_same (chars xs) (chars ys) (chars bs) []
+      (sym s.characters ∙ whole) (sym (run_is test bs xs ys s (chars bs) [] whole h tt))))
 
   -- and the run itself is empty
   pub none_told : IsTrue b ↔ (chars xs ≡ []) → IsTrue b ↔ Ends test (chars bs)
-  none_told e = (
-    (λ h. rw (s.characters, e.0 h) s.ends),
-    (λ h. e.1 (sym (run_is test bs xs ys s [] (chars bs) refl tt h))),
-  )
+  none_told e = (λ h. rw (s.characters, e.0 h) s.ends) also
+      (λ h. e.1 (sym (run_is test bs xs ys s [] (chars bs) refl tt h)))
 
 -- ---- readers that take the whole of a text
 
@@ -377,10 +356,9 @@ three_digits n l h =
 
 -- the table of pairs is held against the digits at each number below 100, by computing
 pub pairs_at : (n : ℕ) → n < 100 → (get_or PAIRS (2 * n) 0 ≡ 48 + n / 10) × (get_or PAIRS (2 * n + 1) 0 ≡ 48 + n % 10)
-pairs_at n l = (
-  eqb-true _ _ (agree_below_at (λ k. nat_eq (get_or PAIRS (2 * k) 0) (48 + k / 10)) (λ _. true) 100 n refl l),
-  eqb-true _ _ (agree_below_at (λ k. nat_eq (get_or PAIRS (2 * k + 1) 0) (48 + k % 10)) (λ _. true) 100 n refl l),
-)
+pairs_at n l =
+    eqb-true _ _ (agree_below_at (λ k. nat_eq (get_or PAIRS (2 * k) 0) (48 + k / 10)) (λ _. true) 100 n refl l) also
+    eqb-true _ _ (agree_below_at (λ k. nat_eq (get_or PAIRS (2 * k + 1) 0) (48 + k % 10)) (λ _. true) 100 n refl l)
 
 pub ruleset decimal_steps = (one_digit, last_of_more)
 
@@ -427,11 +405,9 @@ module _ (bs : List ℕ) (n : ℕ) (rest : List ℕ) (u : IsUtf8 bs) (b : IsSmal
 
   pub small_read : (ys : List ℕ) → ys ≡ drop (length bs - length rest) bs
       → Front (number 4294967295) (chars bs) (chars ys) n
-  small_read ys f = rw (behind_is its.0 bs rest its_ascii u its.5 ys f) (record {
-    piece = its.0;
-    whole = behind_chars its.0 bs rest its_ascii u its.5;
-    is = (its.1, its.2, ends_digits rest rest_utf8 b.0, its.3, let small = its.4 in omega arith);
-  })
+  small_read ys f = rw (behind_is its.0 bs rest its_ascii u its.5 ys f) (front_of its.0
+      (behind_chars its.0 bs rest its_ascii u its.5)
+      (its.1, its.2, ends_digits rest rest_utf8 b.0, its.3, let small = its.4 in omega arith))
 
 -- ---- a number up to a limit, from one up to another
 
