@@ -7,7 +7,7 @@ use Rattle.std.specs.List.{AllByRecursion}
 use Rattle.std.specs.Prelude.{◌↔◌, IsTrue}
 use Rattle.syslog_pieces.specs.Pieces.Class.{Text, Class, Front, NoFront, IsDeterministic, join, Values, Divides, Row}
 use Rattle.syslog_pieces.specs.Pieces.Class.{Division, NoDivision, Each, Ends, run, some_run, exactly, rest, optional}
-use Rattle.syslog_pieces.specs.Pieces.Class.{after, mapped, texted, spaced}
+use Rattle.syslog_pieces.specs.Pieces.Class.{after, mapped, texted}
 use Rattle.syslog_pieces.specs.Pieces.Lists.{IsList, IsMore, list_before}
 
 -- ---- texts

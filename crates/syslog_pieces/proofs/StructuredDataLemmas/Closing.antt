@@ -1,23 +1,23 @@
 -- The walk over an element: its steps, why a bracket inside a value decides it, and a value cut by bytes.
 use Rattle.syslog_pieces.proofs.Names.{◌≡◌, param_row, nil_front, SplitsRun, more_here, rows_join, no_mapped, row_first}
-use Rattle.syslog_pieces.proofs.Names.{last_char, unit_text, byte_count, element_of, texted_det, meets_none, meets_here}
+use Rattle.syslog_pieces.proofs.Names.{last_char, unit_text, byte_count, element_of, meets_none, meets_here}
 use Rattle.syslog_pieces.proofs.Names.{◌≢◌, ◌++◌, refl, take, Text, Each, pair, zero, Bool, start, value, param, Meets}
 use Rattle.syslog_pieces.proofs.Names.{◌<◌, ◌⊎◌, inl, inr, [], ◌∷◌, sym, ◌∙◌, ◌≤◌, ◌+◌, ◌-◌, Row, min, suc, map, ◌↔◌}
-use Rattle.syslog_pieces.proofs.Names.{true, id_alone, list_goes, more_goes, and_parts, eqb_tells, nat_tests, start_row}
+use Rattle.syslog_pieces.proofs.Names.{true, id_alone, more_goes, and_parts, eqb_tells, nat_tests, start_row}
 use Rattle.syslog_pieces.proofs.Names.{List, arith, chars, Class, Front, single, ◌also◌, row_of, ◌then◌, begins, get_or}
 use Rattle.syslog_pieces.proofs.Names.{ℕ, length-append, encodes-append, AllByRecursion, IsCharBoundary, rows_none_here}
-use Rattle.syslog_pieces.proofs.Names.{is_id_char, is_name_char, is_open_char, ElementValue, some_run_det, mapped_front}
-use Rattle.syslog_pieces.proofs.Names.{inside_row, row_pieces, name_alone, front_same, exactly, quoted_row, element_row}
-use Rattle.syslog_pieces.proofs.Names.{exactly_det, chars_past_char, encode_utf8_all, IsDeterministic, AllDeterministic}
+use Rattle.syslog_pieces.proofs.Names.{is_name_char, is_open_char, ElementValue, mapped_front}
+use Rattle.syslog_pieces.proofs.Names.{inside_row, name_alone, exactly, quoted_row, element_row}
+use Rattle.syslog_pieces.proofs.Names.{chars_past_char, encode_utf8_all}
 use Rattle.syslog_pieces.proofs.Names.{no_front_no, more_before, each_behind, opening_row, IsValueUnit, mapped_meets}
-use Rattle.syslog_pieces.proofs.Names.{false, opening, closing, escaped, IsValue, element, row_goes, false_is, some_run}
+use Rattle.syslog_pieces.proofs.Names.{false, opening, closing, escaped, IsValue, element, row_goes, false_is}
 use Rattle.syslog_pieces.proofs.Names.{ap, append_cancel_right, IsUtf8-from_ascii, is_unescaped_char, is_not_whitespace}
-use Rattle.syslog_pieces.proofs.Names.{subst, length, IsUtf8, run_det, row_det, NoFront, Values, inside, quoted, IsDead}
+use Rattle.syslog_pieces.proofs.Names.{subst, length, IsUtf8, NoFront, Values, inside, quoted, IsDead}
 use Rattle.syslog_pieces.proofs.Names.{IsTrue, append_assoc, encodes-chars, row_none_here, IsUtf8-append, is_inert_char}
 use Rattle.syslog_pieces.proofs.Names.{TextUnit, param_of, flat_map, is_blank, meets_on, each_map, tail_row, row_head}
 use Rattle.std.specs.Char.{encode_utf8}
 use Rattle.syslog_pieces.proofs.PieceLemmas.Class.{row_cons, row_none_later, meets_none_on, rows_go, each_right}
-use Rattle.syslog_pieces.proofs.StructuredDataLemmas.Elements.{unit_goes, value_here, space_is_no_close, value_det}
+use Rattle.syslog_pieces.proofs.StructuredDataLemmas.Elements.{unit_goes, value_here, space_is_no_close}
 use Rattle.syslog_pieces.proofs.TextLemmas.Runs.{one_ascii, rest_shorter, front_chars, front_cut}
 use Rattle.syslog_pieces.proofs.StructuredDataLemmas.Elements.{quoted_det, start_det, opening_det, quoted_text, no_unit_at_end, no_quote_unit}
 use Rattle.syslog_pieces.proofs.StructuredDataLemmas.Units.{unit_same}

@@ -5,9 +5,9 @@ use Rattle.syslog_pieces.proofs.Names.{ℕ, Some, None, refl, Text, join, Class,
 use Rattle.syslog_pieces.proofs.Names.{true, BeginsUnblank, elements_text, encodes-chars, encodes-append, is_prop→PathP}
 use Rattle.syslog_pieces.proofs.Names.{false, ◌++◌, arith, subst, Front, IsMany, IsList, IsMore, quoted, inside, IsUtf8}
 use Rattle.syslog_pieces.proofs.Names.{List, param_of, element, is_blank, run_det, row_det, many_det, is_none, ∥∥₁_elim}
-use Rattle.syslog_pieces.proofs.Names.{[], AllDeterministic, IsCanonicalElement, length-le-encodes, AllByRecursion-prop}
-use Rattle.syslog_pieces.proofs.Names.{length, Option, single, strict, behind, ◌also◌, begins, Values, texted, IsValue}
-use Rattle.syslog_pieces.proofs.Names.{sym, ◌∙◌, map, Row, run, ◌+◌}
+use Rattle.syslog_pieces.proofs.Names.{[], AllDeterministic, IsCanonicalElement, AllByRecursion-prop}
+use Rattle.syslog_pieces.proofs.Names.{length, Option, single, strict, behind, ◌also◌, begins, Values, IsValue}
+use Rattle.syslog_pieces.proofs.Names.{sym, ◌∙◌, map, Row, run}
 use Rattle.syslog_pieces.proofs.Names.{append_assoc, nat_tests, is_name_char, is_open_char, ElementValue, list_elements}
 use Rattle.syslog_pieces.proofs.Names.{length-append, AllByRecursion, encode_utf8_all, nil_from_length, bare_param_text}
 use Rattle.syslog_pieces.proofs.Names.{flat_map, list_any, some_run, NoFront, TextUnit, forgiving, many_here, one_value}

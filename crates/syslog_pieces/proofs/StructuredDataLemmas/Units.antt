@@ -8,15 +8,15 @@ use Rattle.syslog_pieces.proofs.Names.{ap, ◌∙◌, Err, Ok, ◌↔◌, Bor, R
 use Rattle.syslog_pieces.proofs.Names.{subst, mapped, IsMany, IsMore, IsList, strict, ◌also◌, length, get_or, nat_eq}
 use Rattle.syslog_pieces.proofs.Names.{append_assoc, append-nil, chars-append, is_name_char, ElementValue, full_element}
 use Rattle.syslog_pieces.proofs.Names.{flat_map, TextUnit, some_run, optional, forgiving, param_of, is_blank, take_more}
-use Rattle.syslog_pieces.proofs.Names.{AllByRecursion, flat_map-append, take-append-drop, sum_by-append, element_texts}
+use Rattle.syslog_pieces.proofs.Names.{AllByRecursion, take-append-drop, sum_by-append, element_texts}
 use Rattle.syslog_pieces.proofs.Names.{escaped, all_append, cases_Bool, is_id_char, element_of, length-map, sum_by-cons}
 use Rattle.syslog_pieces.proofs.Names.{IsUnescaped, IsValueUnit, rfc3164_list, counts_agree, list_all-map, is_bare_char}
-use Rattle.syslog_pieces.proofs.Names.{IsValue, DashRule, count_by, take_all, drop-map, list_all, param_eq, take-map}
+use Rattle.syslog_pieces.proofs.Names.{IsValue, DashRule, count_by, take_all, list_all, param_eq}
 use Rattle.std.specs.Global.{Global}
 use Rattle.std.specs.Iterator.{Drains}
 use Rattle.std.specs.declared.alloc.AllocError.{AllocError}
 use Rattle.syslog_pieces.specs.StructuredData.Escapes.{IsUnit, IsUnquoted, lone_backslash, SplitsUnits, is_escaped}
-use Rattle.syslog_pieces.specs.StructuredData.Escapes.{pair_meaning, unit_meaning, escaped_char}
+use Rattle.syslog_pieces.specs.StructuredData.Escapes.{pair_meaning, unit_meaning}
 use Rattle.syslog_pieces.specs.StructuredData.Params.{NextParam, AreParamItems}
 use Rattle.syslog_pieces.specs.Pieces.Parts.{IsPart}
 use Rattle.syslog_pieces.specs.StructuredData.EqualLaws.{Param, param_eq-same, counts_agree-at, counts_agree-from}

@@ -25,9 +25,9 @@ use Rattle.syslog_pieces.proofs.StructuredDataLemmas.Closing.{no_start, start_sh
 use Rattle.syslog_pieces.proofs.StructuredDataLemmas.Closing.{no_opening, Passes, passes_here, passes_row, param_opens}
 use Rattle.syslog_pieces.proofs.StructuredDataLemmas.Closing.{passes_shut, one_shut, passes_quoted, element_read, value_breaks}
 use Rattle.syslog_pieces.proofs.StructuredDataLemmas.Elements.{element_det, element_shorter, item_begins, run_no_close}
-use Rattle.syslog_pieces.proofs.StructuredDataLemmas.Elements.{dash_apart, params_det, space_is_no_close, no_blanks}
-use Rattle.syslog_pieces.proofs.StructuredDataLemmas.Elements.{quoted_text, param_det, item_det, strict_append}
-use Rattle.syslog_pieces.proofs.StructuredDataLemmas.Elements.{item_shorter, no_item_nil, no_forgiving_list}
+use Rattle.syslog_pieces.proofs.StructuredDataLemmas.Elements.{dash_apart, space_is_no_close, no_blanks}
+use Rattle.syslog_pieces.proofs.StructuredDataLemmas.Elements.{quoted_text, param_det, item_det}
+use Rattle.syslog_pieces.proofs.StructuredDataLemmas.Elements.{item_shorter, no_item_nil}
 use Rattle.syslog_pieces.proofs.PieceLemmas.Lists.{list_cons, more_cons, list_parts, many_parts, more_parts, some_parts}
 use Rattle.syslog_pieces.proofs.TextLemmas.Runs.{bytes}
 use Rattle.syslog_pieces.proofs.PieceLemmas.Class.{IsSteady, alone_steady, exactly_alone, run_steady, some_run_steady}

@@ -8,7 +8,7 @@ use Rattle.syslog_pieces.proofs.Names.{arith, chars, Front, Names, Class, IsRun,
 use Rattle.syslog_pieces.proofs.Names.{Option, IsCharBoundary-at_seam, IsCharBoundary-after_ascii, IsCharBoundary-start}
 use Rattle.syslog_pieces.proofs.Names.{IsHost, length-take, nat_tests, cases_Bool, agree_below, length-map, get_or-drop}
 use Rattle.syslog_pieces.proofs.Names.{nat_lt, lt-ltb, number, IsBare, byte_in, past_in, exactly, IsRunIn, trimmed, ◌∷◌}
-use Rattle.syslog_pieces.proofs.Names.{ℕ, true, List, ◌++◌, Text, Each, Ends, subst, take, drop, Some, None, word, host}
+use Rattle.syslog_pieces.proofs.Names.{ℕ, true, List, ◌++◌, Text, Each, Ends, take, drop, Some, None, word, host}
 use Rattle.syslog_pieces.proofs.Names.{IsAscii-nil, IsAscii-cons, IsUtf8-take, length-drop, IsUtf8-drop, chars-append}
 use Rattle.syslog_pieces.proofs.Names.{◌<◌, chars-nil, name_text, and_parts, SplitsRun, CharClass, replicate, drop_more}
 use Rattle.syslog_pieces.proofs.Names.{[], ap, has, ◌+◌, ◌%◌, ◌^◌, map, eqb, w8, beq, ◌/◌}

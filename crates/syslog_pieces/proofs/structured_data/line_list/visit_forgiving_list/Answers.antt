@@ -1,4 +1,4 @@
-use Rattle.syslog_pieces.proofs.Names.{rules, ◌≡◌, ◌<◌, ◌∙◌, sym, ap, length, strict}
+use Rattle.syslog_pieces.proofs.Names.{rules, ◌≡◌, ◌<◌, ◌∙◌, ap, length, strict}
 use Rattle.syslog_pieces.proofs.TextLemmas.Runs.{chars_nonempty}
 use Rattle.syslog_pieces.proofs.StructuredDataLemmas.Walk.{items_none, some_forgiving, visits_along}
 use Rattle.syslog_pieces.proofs.StructuredDataLemmas.Elements.{no_forgiving_list}

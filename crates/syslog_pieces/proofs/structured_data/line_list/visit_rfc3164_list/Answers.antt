@@ -1,4 +1,4 @@
-use Rattle.syslog_pieces.proofs.Names.{refl, [], None, Some, many_here, full_element, optional_some, rfc3164_list}
+use Rattle.syslog_pieces.proofs.Names.{[], None, Some, many_here, full_element, optional_some, rfc3164_list}
 use Rattle.syslog_pieces.proofs.StructuredDataLemmas.Walk.{optional_full, no_full_unopened, list_absent}
 use Rattle.syslog_pieces.proofs.StructuredDataLemmas.Walk.{dash_rfc3164_list}
 use Rattle.syslog_pieces.proofs.structured_data.line_list.visit_rfc3164_list.Goals as goal
