@@ -28,12 +28,7 @@ byte_count_slice bs u = ap length (encodes-chars bs u)
 
 behind_bracket : (a b : Text) → byte_count b < byte_count (a ++ (93 ∷ b))
 unfolding encode_utf8
-behind_bracket a b = omega (
-  arith,
-  ap length (encodes-append a (93 ∷ b)),
-  length-append (encode_utf8_all a) (encode_utf8_all (93 ∷ b)),
-  length-append (93 ∷ []) (encode_utf8_all b),
-)
+behind_bracket a b = simp (encodes-append, length-append) (omega arith)
 
 pub split_bracket : (p w a b : Text) → p ++ w ≡ a ++ (93 ∷ b) → ((c : Text) × (p ≡ a ++ (93 ∷ c)) × (b ≡ c ++ w))
     ⊎ ((c : Text) × (w ≡ c ++ (93 ∷ b)))

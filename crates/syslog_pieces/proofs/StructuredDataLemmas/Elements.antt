@@ -23,6 +23,7 @@ use Rattle.syslog_pieces.proofs.Names.{start_row, opening_row, inside_row}
 use Rattle.syslog_pieces.proofs.PieceLemmas.Class.{all_joined}
 use Rattle.syslog_pieces.proofs.PieceLemmas.Class.{front_of}
 use Rattle.syslog_pieces.proofs.Names.{Divides}
+use Rattle.syslog_pieces.proofs.Names.{inside_row}
 
 -- ---- values
 
@@ -236,11 +237,12 @@ list_canonical p q (v ∷ vs) (a, b, e, h, more) = (param_canonical a (b ++ q) v
 abbrev element_values : Text → List (Text × Text) → Values element_row
 element_values id ps = (tt, (id, (tt, (ps, (tt, tt)))))
 
+abbrev pub element_with : Text → List (Text × Text) → ElementValue
+element_with id ps = record { id = id; params = ps }
+
 -- a canonical element is read back, whatever follows it
-element_of_parts : (id : Text) (ps : List (Text × Text)) (q : Text) → IsCanonicalElement (record {
-  id = id;
-  params = ps;
-}) → element.Is (element_text (record { id = id; params = ps })) q (record { id = id; params = ps })
+element_of_parts : (id : Text) (ps : List (Text × Text)) (q : Text) → IsCanonicalElement (element_with id ps)
+    → element.Is (element_text (element_with id ps)) q (element_with id ps)
 element_of_parts id [] q (long, each, canonical, first) =
     let is : Divides element_row ((91 ∷ []) ∷ id ∷ [] ∷ [] ∷ (93 ∷ []) ∷ []) q (element_values id []) =
     refl also (tt, (long, each, refl), refl) also (tt, refl) also (refl, (_, refl)) also refl also tt in
@@ -332,12 +334,9 @@ no_blanks c h e = record { piece = []; whole = refl; is = (tt, subst (λ (x : Te
 -- ---- what recognised elements and lists mean is what is in their texts
 
 -- an element that was recognised, by its parameters
-pub seen_is : {id inner q : Text} {ps : List (Text × Text)} (m : OneMeaning inside inner) → Front inside inner q (
-  ps,
-  (tt, tt),
-) → ◌≡◌ {A = ElementValue} (record { id = id; params = (one_value m).0 }) (record { id = id; params = ps })
-seen_is {id = id} m f =
-    ap (λ (v : List (Text × Text)). record { id = id; params = v }) (ap (λ v. v.0) (one_value-is m f))
+pub seen_is : {id inner q : Text} {ps : List (Text × Text)} (m : OneMeaning inside inner)
+    → Front inside inner q (ps, (tt, tt)) → element_with id (one_value m).0 ≡ element_with id ps
+seen_is {id = id} m f = ap (λ (v : Values inside_row). element_with id v.0) (one_value-is m f)
 
 -- a list that was recognised, by its items
 pub items_are : {t q : Text} {vs : List (Option ElementValue)} (m : OneMeaning (many item) t) → Front (many item) t q vs
@@ -396,12 +395,10 @@ unblank_prop [] = Prim.hlevel props
 unblank_prop (p ∷ ps) = ends_prop is_blank p.0
 
 element_prop : (e : ElementValue) → IsProp (IsCanonicalElement e)
-element_prop e = Prim.hlevel (
-  props,
-  each_prop is_id_char e.id,
-  AllByRecursion-prop IsCanonicalParam (λ p. Prim.hlevel (props, each_prop is_name_char p.0, value_prop p.1)) e.params,
-  unblank_prop e.params,
-)
+element_prop e =
+    let params = AllByRecursion-prop IsCanonicalParam
+    (λ p. Prim.hlevel (props, each_prop is_name_char p.0, value_prop p.1)) e.params in
+    Prim.hlevel (props, each_prop is_id_char e.id, params, unblank_prop e.params)
 
 pub are_canonical : (l : ElementList) → AllByRecursion IsCanonicalElement (list_elements l)
 are_canonical l = ∥∥₁_elim l.meaning.1.0 (AllByRecursion-prop IsCanonicalElement element_prop (list_elements l)) (λ f.

@@ -322,16 +322,10 @@ pub counted_from : {S : Type 0} (text : S → Text) (xs ys : List (S × S)) (i :
     xs) (map (param_value text) ys)
 counted_from text xs ys i long front =
     let v = param_value text in
-    let e : same_params (map v (take i xs) ++ map v (drop i xs)) (map v (take i xs) ++ map v (drop i ys))
-    ≡ same_params (map v xs) (map v ys) = rw (
-      ← map-append v (take i xs) (drop i xs),
-      take-append-drop,
-      front,
-      ← map-append v (take i ys) (drop i ys),
-      take-append-drop,
-    ) in
     counted_once (map v (drop i xs)) (map v (drop i ys)) (simp (length-map, length-drop, long))
-    ∙ same_params-behind (map v (take i xs)) (map v (drop i xs)) (map v (drop i ys)) ∙ e
+    ∙ same_params-behind (map v (take i xs)) (map v (drop i xs)) (map v (drop i ys))
+    ∙ rw (← map-append v (take i xs) (drop i xs), take-append-drop, front)
+    (rw (← map-append v (take i ys) (drop i ys), take-append-drop) refl)
 
 -- a slice to its end
 pub slice_to_end : {X : Type 0} (xs : List X) (i : ℕ) → take (length xs - i) (drop i xs) ≡ drop i xs

@@ -17,6 +17,7 @@ use Rattle.syslog_pieces.proofs.Names.{front_same, is_name_char, element_text, e
 use Rattle.syslog_pieces.proofs.Names.{optional_some, optional_none, ℕ, encodes-chars, encode_utf8_all, joined_elements}
 use Rattle.syslog_pieces.proofs.Names.{inside, quoted, IsDead, Leaves, row_of, ◌then◌, ◌also◌, begins, Walked, Option}
 use mathlib.Core.HLevel.{Σ_prop, ⊥_prop}
+use Rattle.std.proofs.lemmas.List.Sums.{sum_by_push}
 use Rattle.syslog_pieces.specs.StructuredData.Recognised.{OneInside-prop, OneItems-prop, params_set, items_set}
 use Rattle.syslog_pieces.specs.StructuredData.Visited.{IsTallied, AreItems}
 use Rattle.syslog_pieces.specs.declared.structured_data.line_list.Tally.{Tally}
@@ -87,12 +88,9 @@ no_rfc3164_list rule t (n, m) p q [] e (inr (l, h)) = omega arith
 no_rfc3164_list rule t (n, m) p q (v ∷ vs) e (inr (l, (a, b, i, k, more))) = m a (b ++ q) v (e ∙ behind p a b q i) k
 
 pub begins_no_list : (rule : DashRule) (t : Text) → NoFront (rfc3164_list rule) t → BeginsNoList rule t
-begins_no_list rule t n = (
-  λ q e a. n dash q [] e (inl (refl, a, refl)),
-  λ p q v e h. no_many_no full_element full_shorter (length q) q (omega arith) (λ r vs g.
-      let all = many_cons full_element (record { piece = p; whole = e; is = h }) g in
-      n all.piece r (v ∷ vs) all.whole (inr (omega arith, all.is))),
-)
+begins_no_list rule t n = (λ q e a. n dash q [] e (inl (refl, a, refl))) also (λ p q v e h.
+    no_many_no full_element full_shorter (length q) q (omega arith) (λ r vs g.
+    let all = many_cons full_element (front_of p e h) g in n all.piece r (v ∷ vs) all.whole (inr (omega arith, all.is))))
 
 pub no_list_is : (rule : DashRule) (t : Text) → NoFront (rfc3164_list rule) t ↔ BeginsNoList rule t
 no_list_is rule t = (begins_no_list rule t, no_rfc3164_list rule t)
@@ -166,10 +164,9 @@ module _ {t a b : Text} {name : Text} (f : Front (texted (some_run is_name_char)
   pub opens_at_once : {c : Text} → Front (exactly (34 ∷ [])) b c tt
       → Front opening t c (name_alone name) × (t ≡ name ++ (61 ∷ 34 ∷ c))
   opens_at_once {c = c} h =
-      let quote : b ≡ 34 ∷ c = begins 34 b c h in (
-        row_of opening_row (f then g then no_blanks 34 refl quote then h then refl),
-        cc (f.whole, f.is.2, begins 61 a b g, quote),
-      )
+      let quote : b ≡ 34 ∷ c = begins 34 b c h in
+      row_of opening_row (f then g then no_blanks 34 refl quote then h then refl)
+      also cc (f.whole, f.is.2, begins 61 a b g, quote)
 
 -- a rest of as many bytes is the text
 same_rest : (t r : List ℕ) → IsUtf8 t → IsUtf8 r → (p : Text) → chars t ≡ p ++ chars r → length r ≡ length t
@@ -352,11 +349,9 @@ params_less {t = t} {u = u} {z = z} {v = v} m n f e = ∥∥₁_elim m.1.0
     let (w, ws, (r, g, more)) = some_parts param 32 93 _ n list in
     let there = subst (λ (y : Text). Front (more_before param 32 93) y s ws) (front_same param param_det g f).0 more in
     let rest = row_cons (list_before param 32 93) end (next_list ws e there) close in
-    let k = one_meaning inside inside_det rest in (
-      k,
-      ap (λ y. y.0) (one_value-is m (row_cons (list_before param 32 93) end (list_cons param 32 93 f there) close))
-          ∙ ap (λ (y : List (Text × Text)). v ∷ y) (sym (ap (λ y. y.0) (one_value-is k rest))),
-    ))
+    let all = one_value-is m (row_cons (list_before param 32 93) end (list_cons param 32 93 f there) close) in
+    let k = one_meaning inside inside_det rest in
+    (k, ap (λ y. y.0) all ∙ ap (λ (y : Values inside_row). v ∷ y.0) (sym (one_value-is k rest))))
 
 -- ---- items
 first_item : {t u : Text} {v : Option ElementValue} (m : OneMeaning (many item) t) → Front item t u v → (q : Text)
@@ -366,11 +361,9 @@ first_item m f q [] g = absurd (no_front_no item (many_none item _ q g) f)
 first_item {v = v} m f q (w ∷ ws) g =
     let (r, one, rest) = many_parts item g in
     let there = subst (λ (y : Text). Front (many item) y q ws) (front_same item item_det one f).0 rest in
-    let k = one_meaning (many item) (many_det item item_det) there in (
-      k,
-      one_value-is m (many_cons item f there)
-          ∙ ap (λ (y : List (Option ElementValue)). v ∷ y) (sym (one_value-is k there)),
-    )
+    let k = one_meaning (many item) (many_det item item_det) there in
+    let all = one_value-is m (many_cons item f there) in
+    (k, all ∙ ap (λ (y : List (Option ElementValue)). v ∷ y) (sym (one_value-is k there)))
 
 pub items_less : {t u : Text} {v : Option ElementValue} (m : OneMeaning (many item) t) → Front item t u v
     → (k : OneMeaning (many item) u) × (one_value m ≡ v ∷ one_value k)
@@ -429,17 +422,16 @@ module _ {t rest own : Text} (cut : t ≡ own ++ rest) where
   pub own_printed : {end printed joined : Text} → (between : Text) × (end ≡ between ++ rest) → t ≡ joined ++ end
       → t ≡ printed ++ end → (printed ≡ joined) × ((left : Text) × (own ≡ printed ++ left))
   own_printed {end = end} {printed = printed} {joined = joined} (between, e) f g =
-      let same = sym cut ∙ g ∙ ap (λ (x : Text). printed ++ x) e ∙ sym (append_assoc printed between rest) in (
-        append_cancel_right printed joined end (sym g ∙ f),
-        (between, append_cancel_right own (printed ++ between) rest same),
-      )
+      let same = sym cut ∙ g ∙ ap (λ (x : Text). printed ++ x) e ∙ sym (append_assoc printed between rest) in
+      append_cancel_right printed joined end (sym g ∙ f)
+      also (between, append_cancel_right own (printed ++ between) rest same)
 
 pub some_joined : (es : List ElementValue) → 0 < length es → joined_elements es ≡ elements_text es
 some_joined [] l = absurd (omega arith)
 some_joined (e ∷ es) l = refl
 
--- ---- a list as far as it was walked: its pieces, which are these elements, their counts, and what a visitor was given;
--- where the second mark says so, nothing was left out
+-- ---- a list as far as it was walked: its pieces, their elements and counts, and what a visitor was given of them.
+-- Where the second mark says so, nothing was left out.
 pub record Gone (C : Class) (view : List C.Value → List ElementValue) {V : Type 0}
     (given : V → V → List ElementValue → Type 0) (text rest : Text) (old new : V) (tally : Tally) (strict : Bool)
     : Type 0 where
@@ -505,22 +497,15 @@ module _ (C : Class) (view : List C.Value → List ElementValue) {V : Type 0}
           let t = s.tallied in
           let x = element_seen w.element in
           let same : shown tally'.end ≡ shown w.rest = ap (λ r. shown r) e in
-          let sum : tally'.params ≡ sum_by (λ d. length d.params) (s.es ++ (x ∷ [])) = m ∙ omega (
-            arith,
-            t.params,
-            sum_by-append (λ d. length d.params) s.es (x ∷ []),
-            sum_by-cons (λ d. length d.params) x [],
-          ) in
           record {
             vs = s.vs ++ (v ∷ []);
             es = s.es ++ (x ∷ []);
             same = ap (λ (es : List ElementValue). es ++ (x ∷ [])) s.same ∙ sym z;
-            read = has_read_more C text rest (shown w.rest) s.vs v s.read
-                (record { piece = k.front.piece; whole = k.front.whole; is = is });
+            read = has_read_more C text rest (shown w.rest) s.vs v s.read (front_of k.front.piece k.front.whole is);
             tallied = record {
               utf8 = subst (λ r. IsUtf8 r.now) (sym e) k.utf8;
               elements = omega (arith, n, t.elements, length-append s.es (x ∷ []));
-              params = sum;
+              params = m ∙ omega (arith, t.params, sum_by_push (λ d. length d.params) s.es x);
               after = ([], same);
               prints = λ all. (
                   let (both, d) = and_parts _ _ (p all) in
@@ -574,14 +559,9 @@ pub items_none : {t q : Text} (own : List ℕ) (vs : List (Option ElementValue))
 items_none own [] f e l = refl
 items_none {t = t} {q = q} own (v ∷ vs) f e l =
     let (u, first, rest) = many_parts item f in
-    absurd (omega (
-      arith,
-      item_shorter t u v first,
-      front_longer (many item) rest,
-      chars_empty own l,
-      ap length e,
-      length-append (chars own) q,
-    ))
+    let k = chars_empty own l in
+    let m = ap length e in
+    absurd (omega (arith, item_shorter t u v first, front_longer (many item) rest, length-append (chars own) q))
 
 -- a list with a character
 pub some_forgiving : {t q : Text} (own : Text) (vs : List (Option ElementValue)) → Front (many item) t q vs → t ≡ own ++ q

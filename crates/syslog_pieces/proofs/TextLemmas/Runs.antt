@@ -449,9 +449,8 @@ pub trimmed_chars : (bs : List ℕ) → IsUtf8 bs → chars (trim bs) ≡ trimme
 unfolding trim_start trim_end
 trimmed_chars bs u =
     let s = skip_scalars (chars bs) (scalars-chars bs u) in
-    ap (λ (x : Text). chars (encode_utf8_all (drop_trailing_whitespace x)))
-    (chars-encodes (skip_leading_whitespace (chars bs)) s)
-    ∙ chars-encodes (trimmed (chars bs)) (drop_scalars (skip_leading_whitespace (chars bs)) s)
+    rw (chars-encodes (skip_leading_whitespace (chars bs)) s)
+    (chars-encodes (trimmed (chars bs)) (drop_scalars (skip_leading_whitespace (chars bs)) s))
 
 pub end_trimmed_chars : (bs : List ℕ) → IsUtf8 bs → chars (trim_end bs) ≡ drop_trailing_whitespace (chars bs)
 unfolding trim_end

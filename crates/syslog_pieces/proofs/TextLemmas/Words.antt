@@ -264,8 +264,9 @@ end_told (x ∷ bs) b u e =
 module _ (test : ℕ → Bool) (bs xs ys : List ℕ) (s : SplitsRun test bs xs ys) (b : Bool) where
   -- nothing is left after the run
   pub only_told : IsTrue b ↔ (chars ys ≡ []) → IsTrue b ↔ Each test (chars bs)
-  only_told e = (λ h. rw (s.characters, e.0 h, append-nil) s.each) also (λ h. e.1 (
-      let whole = sym (append-nil (chars bs)) in rest_same (chars xs) (chars ys) (chars bs) []
+  only_told e =
+      let whole = sym (append-nil (chars bs)) in
+      (λ h. rw (s.characters, e.0 h, append-nil) s.each) also (λ h. e.1 (rest_same (chars xs) (chars ys) (chars bs) []
       (sym s.characters ∙ whole) (sym (run_is test bs xs ys s (chars bs) [] whole h tt))))
 
   -- and the run itself is empty

@@ -5,16 +5,9 @@ use Rattle.syslog_pieces.proofs.structured_data.line_list.item_list.Goals as goa
 pub new-requires : goal.new-requires
 new-requires c =
     let (vs, items, t) = c.requires in
-    let p = own_printed c.before-own.ensures t.after (t.prints c.if-tally.true) c.before-printed.ensures in (
-      _,
-      (
-        vs,
-        own_items c.before-own.ensures items,
-        t.elements,
-        t.params,
-        (search rules, p.0 ∙ some_joined (strict vs) (omega (arith, t.elements, c.if-tally-gt0.true)), p.1),
-      ),
-    )
+    let p = own_printed c.before-own.ensures t.after (t.prints c.if-tally.true) c.before-printed.ensures in
+    let whole = p.0 ∙ some_joined (strict vs) (omega (arith, t.elements, c.if-tally-gt0.true)) in
+    (_, (vs, own_items c.before-own.ensures items, t.elements, t.params, (search rules, whole, p.1)))
 
 pub new-requires-else-tally : goal.new-requires-else-tally
 new-requires-else-tally c =

@@ -6,10 +6,9 @@ use Rattle.syslog_pieces.proofs.structured_data.line_list.visit_forgiving_list.G
 
 pub returns-then-is_empty-clause-list : goal.returns-then-is_empty-clause-list
 returns-then-is_empty-clause-list g c =
-    let none : length c.text.result.now ≡ 0 = search rules in
     let (vs, f, e) = c.visit_items.ensures.list in
     no_forgiving_list _ _ vs c.in_default.ensures f
-    (items_none _ vs f (rw (← c.text.ensures) at c.visit_items.ensures.text) none)
+    (items_none _ vs f (rw (← c.text.ensures) at c.visit_items.ensures.text) (search rules))
 
 pub returns-else-is_empty-clause-list : goal.returns-else-is_empty-clause-list
 returns-else-is_empty-clause-list g c =
@@ -20,6 +19,6 @@ returns-else-is_empty-clause-list g c =
 pub returns-then-is_empty-clause-visited : goal.returns-then-is_empty-clause-visited
 returns-then-is_empty-clause-visited g c =
     let (vs, f, e) = c.visit_items.ensures.list in
-    let no_items = items_none _ vs f (rw (← c.text.ensures) at c.visit_items.ensures.text) none in
+    let no_items = items_none _ vs f (rw (← c.text.ensures) at c.visit_items.ensures.text) (search rules) in
     visits_along g.V.ElementVisitor.was_given c.args.visitor.now c.visit_items.new.visitor _ _
     (e ∙ ap strict no_items) c.visit_items.ensures.visited

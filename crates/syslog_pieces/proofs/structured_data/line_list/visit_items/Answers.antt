@@ -7,11 +7,9 @@ use Rattle.syslog_pieces.proofs.StructuredDataLemmas.Walk.{gone_past, gone_talli
 use Rattle.syslog_pieces.proofs.structured_data.line_list.visit_items.Goals as goal
 
 pub items-init : goal.items-init
-items-init g c = (
-  search rules,
-  dead_bytes c.args.text.now c.utf8.text,
-  gone_none item (λ vs. strict vs) g.V.ElementVisitor.was_given _ _ _ refl (search rules) refl refl refl,
-)
+items-init g c =
+    let none = gone_none item (λ vs. strict vs) g.V.ElementVisitor.was_given _ _ _ refl (search rules) refl refl refl in
+    (search rules, dead_bytes c.args.text.now c.utf8.text, none)
 
 pub overflow_add-tally : goal.overflow_add-tally
 overflow_add-tally g c =

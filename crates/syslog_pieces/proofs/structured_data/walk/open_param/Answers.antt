@@ -17,8 +17,7 @@ returns-in_err-value c =
     c.blanks.ensures past inl c.in_err-value.ensures) in search rules
 
 pub returns : goal.returns
-returns c = (
-  row_of opening_row (c.in_ok-name.ensures then c.in_ok-after_equals.ensures then c.blanks.ensures then
-      c.in_ok-value.ensures then refl),
-  λ t. cc,
-)
+returns c =
+    let row = c.in_ok-name.ensures then c.in_ok-after_equals.ensures then c.blanks.ensures then c.in_ok-value.ensures
+    then refl in
+    (row_of opening_row row, λ t. cc)

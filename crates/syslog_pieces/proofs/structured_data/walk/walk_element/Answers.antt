@@ -6,6 +6,7 @@ use Rattle.syslog_pieces.proofs.StructuredDataLemmas.Walk.{bare_inside, bare_wal
 use Rattle.syslog_pieces.proofs.StructuredDataLemmas.Walk.{not_closed, not_separated, ends, ends_walked, goes_on}
 use Rattle.syslog_pieces.proofs.StructuredDataLemmas.Walk.{more_room, chars_length}
 use Rattle.syslog_pieces.proofs.StructuredDataLemmas.Elements.{start_det}
+use Rattle.std.proofs.lemmas.Result.{err_from_is_err_and}
 use Rattle.syslog_pieces.proofs.structured_data.walk.walk_element.Goals as goal
 
 pub returns-in_default-clause-walked : goal.returns-in_default-clause-walked
@@ -26,15 +27,10 @@ returns-in-Some-literal-clause-noted g c =
     (sym (c.new.ensures _ [] (bare_inside c.in-Some-literal.ensures))) c.clear.ensures
 
 pub params-init : goal.params-init
-params-init g c = (
-  search rules,
-  (
-    [],
-    at_first _ _ c.in-Some.ensures c.in-Some-nonempty_run.ensures c.gap-stands.ensures.blanks c.in_default-literal.ensures
-        c.gap-stands.ensures.space,
-    c.clear.ensures,
-  ),
-)
+params-init g c =
+    let first = at_first _ _ c.in-Some.ensures c.in-Some-nonempty_run.ensures c.gap-stands.ensures.blanks
+    c.in_default-literal.ensures c.gap-stands.ensures.space in
+    (search rules, ([], first, c.clear.ensures))
 
 pub returns-in_default-open_param-clause-walked : goal.returns-in_default-open_param-clause-walked
 returns-in_default-open_param-clause-walked g c =
@@ -46,17 +42,11 @@ live_value-requires g c =
     let p = value_passes c.params.invariant.1.1 c.in-Some-open_param.ensures.0 in
     dead_suffix _ p.piece _ c.args.dead p.whole c.requires
 
--- the refusal that `?` hands on
-refused : {A : Type 0} (S : A → Type 0) (T : ℕ → Type 0) (r : Result A ℕ) (d : ℕ) → IsErrAnd r (λ x. x ≡ d) → T d
-    → MatchResult r S T
-refused S T (Ok a) d h t = absurd h
-refused S T (Err x) d h t = subst T (sym h) t
-
 pub returns-in_err-after-clause-walked : goal.returns-in_err-after-clause-walked
 returns-in_err-after-clause-walked g c =
-    let r = not_closed c.params.invariant.1.1 c.in-Some-open_param.ensures.0 _ c.in_err-after.ensures.0
-    c.in_err-after.ensures.1 in
-    refused _ (λ d. NoFront element _ × IsDead _ d) c.from_residual.result _ c.from_residual.ensures.1 r
+    let (d, e, same) = err_from_is_err_and c.from_residual.result c.from_residual.ensures.1 in
+    rw (e, same) (not_closed c.params.invariant.1.1 c.in-Some-open_param.ensures.0 _ c.in_err-after.ensures.0
+    c.in_err-after.ensures.1)
 
 pub overflow_add-count : goal.overflow_add-count
 overflow_add-count g c =
