@@ -363,10 +363,8 @@ meets_none_on C t D u m n p q v e h =
     let g = m.forth q v (record { piece = p; whole = e; is = h }) in no_front_no C n g.1
 
 pub mapped_meets : (C : Class) (B : Type 0) (f : C.Value → B) (t : Text) → Meets (mapped C B f) t C t
-mapped_meets C B f t = record {
-  forth = λ q v g. (f v, mapped_front C B f g);
-  back = λ q w g. (g.is.0, record { piece = g.piece; whole = g.whole; is = g.is.1 });
-}
+mapped_meets C B f t =
+    record { forth = λ q v g. (f v, mapped_front C B f g); back = λ q w g. (g.is.0, front_of g.piece g.whole g.is.1) }
 
 -- after the first piece of a row
 pub row_goes : (C : Class) (Cs : List Class) → IsDeterministic C → {t u : Text} {v : C.Value} → Front C t u v
@@ -478,18 +476,6 @@ IsAlone C = (p q r : Text) (v : C.Value) → C.Is p q v → C.Is p r v
 abbrev pub IsSteady : Class → Type 0
 IsSteady C = (p : Text) (c : ℕ) (q r : Text) (v : C.Value) → C.Is p (c ∷ q) v → C.Is p (c ∷ r) v
 
-pub alone_steady : (C : Class) → IsAlone C → IsSteady C
-alone_steady C h p c q r v = h p (c ∷ q) (c ∷ r) v
-
-pub exactly_alone : (t : Text) → IsAlone (exactly t)
-exactly_alone t p q r v h = h
-
-pub run_steady : (test : ℕ → Bool) → IsSteady (run test)
-run_steady test p c q r v h = h
-
-pub some_run_steady : (test : ℕ → Bool) → IsSteady (some_run test)
-some_run_steady test p c q r v h = h
-
 pub texted_steady : (C : Class) → IsSteady C → IsSteady (texted C)
 texted_steady C s p c q r t (v, h, e) = (v, s p c q r v h, e)
 
@@ -524,10 +510,8 @@ module _ (L : Class) (alone : IsAlone L) (filled : IsFilled L) where
   divides_alone (C ∷ Cs) s [] q r vs h = h
   divides_alone (C ∷ Cs) s (p ∷ ps) q r vs h =
       let (d, t, e) = row_begins Cs ps q vs.1 h.1 in
-      let more : C.Is p (d ∷ (t ++ q)) vs.0 = subst (λ (x : Text). C.Is p (x ++ q) vs.0) e h.0 in (
-        subst (λ (x : Text). C.Is p (x ++ r) vs.0) (sym e) (s.0 p d (t ++ q) (t ++ r) vs.0 more),
-        divides_alone Cs s.1 ps q r vs.1 h.1,
-      )
+      subst (λ (x : Text). C.Is p (x ++ q) vs.0 → C.Is p (x ++ r) vs.0) (sym e) (s.0 p d (t ++ q) (t ++ r) vs.0) h.0
+      also divides_alone Cs s.1 ps q r vs.1 h.1
 
   pub closed_alone : (Cs : List Class) → AllSteady Cs → IsAlone (Row (Cs ++ (L ∷ [])))
   closed_alone Cs s p q r vs (ps, e, h) = (ps, e, divides_alone Cs s ps q r vs h)
@@ -537,20 +521,17 @@ module _ (L : Class) (alone : IsAlone L) (filled : IsFilled L) where
 
 -- a row that one character closes
 pub row_alone : (c : ℕ) (Cs : List Class) → AllSteady Cs → IsAlone (Row (Cs ++ (exactly (c ∷ []) ∷ [])))
-row_alone c = closed_alone (exactly (c ∷ [])) (exactly_alone (c ∷ [])) (λ p q v h. (c, [], h))
+row_alone c = closed_alone (exactly (c ∷ [])) (λ p q r v h. h) (λ p q v h. (c, [], h))
 
 -- ---- lists
-more_alone : (C : Class) (separator : ℕ) → IsAlone C → (p q r : Text) (vs : List C.Value) → IsMore C separator p q vs
-    → IsMore C separator p r vs
-more_alone C separator s p q r [] h = h
-more_alone C separator s p q r (v ∷ vs) (a, b, e, h, more) =
-    (a, b, e, s a (b ++ q) (b ++ r) v h, more_alone C separator s b q r vs more)
+module _ (C : Class) (separator : ℕ) (s : IsAlone C) where
+  more_alone : (p q r : Text) (vs : List C.Value) → IsMore C separator p q vs → IsMore C separator p r vs
+  more_alone p q r [] h = h
+  more_alone p q r (v ∷ vs) (a, b, e, h, more) = (a, b, e, s a (b ++ q) (b ++ r) v h, more_alone b q r vs more)
 
-list_alone : (C : Class) (separator : ℕ) → IsAlone C → (p q r : Text) (vs : List C.Value) → IsList C separator p q vs
-    → IsList C separator p r vs
-list_alone C separator s p q r [] h = h
-list_alone C separator s p q r (v ∷ vs) (a, b, e, h, more) =
-    (a, b, e, s a (b ++ q) (b ++ r) v h, more_alone C separator s b q r vs more)
+  list_alone : (p q r : Text) (vs : List C.Value) → IsList C separator p q vs → IsList C separator p r vs
+  list_alone p q r [] h = h
+  list_alone p q r (v ∷ vs) (a, b, e, h, more) = (a, b, e, s a (b ++ q) (b ++ r) v h, more_alone b q r vs more)
 
 pub closed_steady : (c d : ℕ) (q r : Text) → ((t : Text) × (d ∷ q ≡ c ∷ t)) → (t : Text) × (d ∷ r ≡ c ∷ t)
 closed_steady c d q r (t, e) = (r, ap (λ (x : ℕ). x ∷ r) (heads d c q t e))

@@ -21,6 +21,7 @@ use Rattle.syslog_pieces.proofs.StructuredDataLemmas.Elements.{unit_goes, value_
 use Rattle.syslog_pieces.proofs.TextLemmas.Runs.{one_ascii, rest_shorter, front_chars, front_cut}
 use Rattle.syslog_pieces.proofs.StructuredDataLemmas.Elements.{quoted_det, start_det, opening_det, quoted_text, no_unit_at_end, no_quote_unit}
 use Rattle.syslog_pieces.proofs.StructuredDataLemmas.Units.{unit_same}
+use Rattle.syslog_pieces.proofs.PieceLemmas.Class.{front_of}
 
 -- ---- bytes, and where a bracket is in two joined texts
 pub byte_count_slice : (bs : Text) → IsUtf8 bs → byte_count (chars bs) ≡ length bs
@@ -33,8 +34,7 @@ behind_bracket a b = simp (encodes-append, length-append) (omega arith)
 pub split_bracket : (p w a b : Text) → p ++ w ≡ a ++ (93 ∷ b) → ((c : Text) × (p ≡ a ++ (93 ∷ c)) × (b ≡ c ++ w))
     ⊎ ((c : Text) × (w ≡ c ++ (93 ∷ b)))
 split_bracket [] w a b e = inr (a, e)
-split_bracket (x ∷ p) w [] b e =
-    inl (p, (let t : x ≡ 93 = cc in ap (λ (y : ℕ). y ∷ p) t), (let t : b ≡ p ++ w = cc in t))
+split_bracket (x ∷ p) w [] b e = inl (p, cc, cc)
 split_bracket (x ∷ p) w (y ∷ a) b e =
     elim (split_bracket p w a b cc) [
       | inl (c, i, j) ↦ inl (c, (let k = i in cc), j)
@@ -112,20 +112,14 @@ quoted_before : (a b : Text) → HasQuoted b → HasQuoted (a ++ (93 ∷ b)) × 
 quoted_before [] b h =
     (quoted_behind (single 93) b ((λ e. omega arith), (λ e. omega arith)) h, quoted_behind (pair 93) b tt h)
 quoted_before (c ∷ a) b h =
-    let (plain, escaped) = quoted_before a b h in (
-      elim (eqb_tells c 34) [
-        | inl r ↦ rw r.1 (
-          _,
-          _,
-          row_of quoted_row (value_here _ _ refl then record { piece = 34 ∷ []; whole = refl; is = refl } then refl),
-        )
-        | inr r ↦ elim (eqb_tells c 92) [
-          | inl s ↦ rw s.1 escaped
-          | inr s ↦ quoted_behind (single c) _ (s.1, r.1) plain
-        ]
-      ],
-      quoted_behind (pair c) _ tt plain,
-    )
+    let (plain, escaped) = quoted_before a b h in
+    elim (eqb_tells c 34) [
+      | inl r ↦ rw r.1 (_, _, row_of quoted_row (value_here _ _ refl then front_of (34 ∷ []) refl refl then refl))
+      | inr r ↦ elim (eqb_tells c 92) [
+        | inl s ↦ rw s.1 escaped
+        | inr s ↦ quoted_behind (single c) _ (s.1, r.1) plain
+      ]
+    ] also quoted_behind (pair c) _ tt plain
 
 pub no_closing : (t : Text) → NoFront quoted t → NoFront closing t
 no_closing t n = row_none_here quoted tail_row n

@@ -68,10 +68,10 @@ split_one text us vs k l s t =
     (sym s.whole ∙ t.whole) in
     (units, lone_same k l rest)
 
-split_cons : (u : TextUnit) (text whole : Text) (us : List TextUnit) (k : Bool) → IsUnit u → whole ≡ unit_text u ++ text
-    → SplitsUnits text us k → SplitsUnits whole (u ∷ us) k
-split_cons u text whole us k h e s = record {
-  whole = e ∙ ap (λ (x : Text). unit_text u ++ x) s.whole
+split_cons : (u : TextUnit) {text : Text} (us : List TextUnit) (k : Bool) → IsUnit u → SplitsUnits text us k
+    → SplitsUnits (unit_text u ++ text) (u ∷ us) k
+split_cons u us k h s = record {
+  whole = ap (λ (x : Text). unit_text u ++ x) s.whole
       ∙ sym (append_assoc (unit_text u) (flat_map unit_text us) (lone_backslash k));
   each = (h, s.each);
 }
@@ -79,18 +79,18 @@ split_cons u text whole us k h e s = record {
 abbrev HasSplit : Text → Type 0
 HasSplit text = (us : List TextUnit) × (lone : Bool) × SplitsUnits text us lone
 
-split_on : (u : TextUnit) (text whole : Text) → IsUnit u → whole ≡ unit_text u ++ text → HasSplit text → HasSplit whole
-split_on u text whole h e (us, k, s) = (u ∷ us, k, split_cons u text whole us k h e s)
+split_on : (u : TextUnit) (text : Text) → IsUnit u → HasSplit text → HasSplit (unit_text u ++ text)
+split_on u text h (us, k, s) = (u ∷ us, k, split_cons u us k h s)
 
 pub split_there : (text : Text) → HasSplit text
 split_there [] = ([], false, record { whole = refl; each = tt })
 split_there (c ∷ []) = elim (eqb_tells c 92) [
-  | inl r ↦ ([], true, record { whole = ap (λ (x : ℕ). x ∷ []) r.1; each = tt })
-  | inr r ↦ (single c ∷ [], false, record { whole = refl; each = (r.1, tt) })
+  | inl r ↦ rw r.1 ([], true, record { whole = refl; each = tt })
+  | inr r ↦ split_on (single c) [] r.1 ([], false, record { whole = refl; each = tt })
 ]
 split_there (c ∷ d ∷ text) = elim (eqb_tells c 92) [
-  | inl r ↦ split_on (pair d) text (c ∷ d ∷ text) tt (ap (λ (x : ℕ). x ∷ d ∷ text) r.1) (split_there text)
-  | inr r ↦ split_on (single c) (d ∷ text) (c ∷ d ∷ text) r.1 refl (split_there (d ∷ text))
+  | inl r ↦ rw r.1 (split_on (pair d) text tt (split_there text))
+  | inr r ↦ split_on (single c) (d ∷ text) r.1 (split_there (d ∷ text))
 ]
 
 -- ---- escaped texts
@@ -102,10 +102,10 @@ escaped_pair c e = grind (arith, nat_tests)
 
 unescaped_on : (u : TextUnit) {t w : Text} → IsUnit u → IsUnescaped t w
     → IsUnescaped (unit_text u ++ t) (unit_meaning u ++ w)
-unescaped_on u {t = t} h i = record {
+unescaped_on u h i = record {
   units = u ∷ i.units;
   lone = i.lone;
-  split = split_cons u t _ i.units i.lone h refl i.split;
+  split = split_cons u i.units i.lone h i.split;
   means = ap (λ (x : Text). unit_meaning u ++ x) i.means;
 }
 
@@ -299,20 +299,15 @@ counts_agree-map text these ps qs = simp (list_all-map, param_count-map text)
 
 pub counted_once : (ps qs : List Param) → length ps ≡ length qs → counts_agree ps ps qs ≡ same_params ps qs
 counted_once ps qs long =
-    one_answer _ _ (
-      λ e. counts_of_permutation ps qs (permuted ps qs long (λ p some. counts_agree-at ps ps qs p e some)),
-      λ same. counts_agree-from ps ps qs same,
-    )
-    (same_params-decides ps qs)
+    one_answer _ _ ((λ e. counts_of_permutation ps qs (permuted ps qs long (λ p some. counts_agree-at ps ps qs p e some)))
+    also counts_agree-from ps ps qs) (same_params-decides ps qs)
 
 -- what is in front of both lists in one order changes nothing
 pub same_params-behind : (zs ps qs : List Param) → same_params ps qs ≡ same_params (zs ++ ps) (zs ++ qs)
 same_params-behind zs ps qs =
     let more = λ (ls : List Param) (p : Param). sum_by-append (λ q. cond (param_eq p q) 1 0) zs ls in
-    one_answer _ _ (
-      λ e p. let same = same_params-counts ps qs e p in omega (arith, same, more ps p, more qs p),
-      λ same. same_params-from ps qs (λ p. omega (arith, same p, more ps p, more qs p)),
-    )
+    one_answer _ _ ((λ e p. omega (arith, same_params-counts ps qs e p, more ps p, more qs p))
+    also (λ same. same_params-from ps qs (λ p. omega (arith, same p, more ps p, more qs p))))
     (same_params-decides (zs ++ ps) (zs ++ qs))
 
 -- so counting may begin where the two lists first differ

@@ -31,7 +31,7 @@ use Rattle.syslog_pieces.proofs.StructuredDataLemmas.Elements.{quoted_text, para
 use Rattle.syslog_pieces.proofs.StructuredDataLemmas.Elements.{item_shorter, no_item_nil}
 use Rattle.syslog_pieces.proofs.PieceLemmas.Lists.{list_cons, more_cons, list_parts, many_parts, more_parts, some_parts}
 use Rattle.syslog_pieces.proofs.TextLemmas.Runs.{bytes}
-use Rattle.syslog_pieces.proofs.PieceLemmas.Class.{IsSteady, alone_steady, exactly_alone, run_steady, some_run_steady}
+use Rattle.syslog_pieces.proofs.PieceLemmas.Class.{IsSteady}
 use Rattle.syslog_pieces.proofs.PieceLemmas.Class.{texted_steady, mapped_alone, row_alone, closed_steady}
 use Rattle.syslog_pieces.proofs.PieceLemmas.Class.{list_before_steady, front_longer, row_cons}
 use Rattle.syslog_pieces.proofs.Names.{flat_map-append}
@@ -376,18 +376,15 @@ no_elements {t = t} m n = one_value-is m (many_here item t n)
 -- ---- items, whatever follows the list
 element_alone : IsAlone element
 element_alone = mapped_alone _ ElementValue element_of (row_alone 93 (exactly (91 ∷ []) ∷ texted (some_run is_id_char)
-    ∷ run is_blank ∷ list_before param 32 93 ∷ []) (alone_steady (exactly (91 ∷ [])) (exactly_alone (91 ∷ []))
-    also texted_steady (some_run is_id_char) (some_run_steady is_id_char) also run_steady is_blank
-    also list_before_steady param 32 93 (mapped_alone _ (Text × Text) param_of (row_alone 34
-    (texted (some_run is_name_char) ∷ exactly (61 ∷ []) ∷ run is_blank ∷ exactly (34 ∷ []) ∷ value ∷ [])
-    (texted_steady (some_run is_name_char) (some_run_steady is_name_char)
-    also alone_steady (exactly (61 ∷ [])) (exactly_alone (61 ∷ [])) also run_steady is_blank
-    also alone_steady (exactly (34 ∷ [])) (exactly_alone (34 ∷ []))
-    also (λ p c q r v (h, z, e). (h, closed_steady 34 c q r z, e)) also tt))) also tt))
+    ∷ run is_blank ∷ list_before param 32 93 ∷ []) ((λ p c q r v h. h) also texted_steady (some_run is_id_char)
+    (λ p c q r v h. h) also (λ p c q r v h. h) also list_before_steady param 32 93 (mapped_alone _ (Text × Text) param_of
+    (row_alone 34 (texted (some_run is_name_char) ∷ exactly (61 ∷ []) ∷ run is_blank ∷ exactly (34 ∷ []) ∷ value ∷ [])
+    (texted_steady (some_run is_name_char) (λ p c q r v h. h) also (λ p c q r v h. h) also (λ p c q r v h. h)
+    also (λ p c q r v h. h) also (λ p c q r v (h, z, e). (h, closed_steady 34 c q r z, e)) also tt))) also tt))
 
 bracketed_alone : IsAlone bracketed
 bracketed_alone = row_alone 93 (exactly (91 ∷ []) ∷ run is_open_char ∷ [])
-    (alone_steady (exactly (91 ∷ [])) (exactly_alone (91 ∷ [])) also run_steady is_open_char also tt)
+    ((λ p c q r v h. h) also (λ p c q r v h. h) also tt)
 
 items_alone : (p q : Text) (vs : List (Option ElementValue)) → IsMany item p q vs → IsMany item p [] vs
 items_alone p q [] h = (h.0, no_item_nil)

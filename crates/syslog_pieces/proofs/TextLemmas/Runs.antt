@@ -29,6 +29,7 @@ use lib.Lanes.{chunk, zip2, mask_l, top}
 use lib.Utf8.{scalar, encode}
 use Rattle.syslog_pieces.specs.Bodies.Scan.{first_set, visible_byte}
 use Rattle.syslog_pieces.proofs.PieceLemmas.Class.{front_of}
+use Rattle.syslog_pieces.proofs.Names.{◌also◌}
 pub use Rattle.std.proofs.lemmas.Bool.{not-true as from_not_true}
 
 -- ---- texts and their bytes
@@ -169,10 +170,8 @@ ends_run test bs n u b each ends =
     let w = sym (take-append-drop n bs) in
     let front = IsUtf8-take bs n u b in
     let chars = chars_cut bs (take n bs) (drop n bs) w front in
-    let back = IsUtf8-drop bs n u b in (
-      b,
-      record { whole = w; characters = chars; each = each; ends = ends; front_utf8 = front; back_utf8 = back },
-    )
+    let back = IsUtf8-drop bs n u b in
+    b also record { whole = w; characters = chars; each = each; ends = ends; front_utf8 = front; back_utf8 = back }
 
 -- a split there
 pub split_at_end : (h : ℕ → Bool) (bs xs ys : List ℕ) (n : ℕ) → EndsRun h bs n → xs ≡ take n bs → ys ≡ drop n bs
@@ -247,11 +246,10 @@ visible_char c more h = visible_lead c (get_or (encode c ++ more) 0 0) h (λ l. 
 each_visible : (cs : Text) → ((k : ℕ) → k < length (encode_utf8_all cs)
     → visible_byte (get_or (encode_utf8_all cs) k 0) ≡ true) → Each is_not_whitespace cs
 each_visible [] h = tt
-each_visible (c ∷ cs) h = (
-  visible_char c (encode_utf8_all cs) (h 0 (omega (arith, length-le-encodes (c ∷ cs)))),
-  each_visible cs (λ k l. rw get_or-append-add at (h (length (encode c) + k)
-      (omega (arith, l, length-append (encode c) (encode_utf8_all cs))))),
-)
+each_visible (c ∷ cs) h =
+    visible_char c (encode_utf8_all cs) (h 0 (omega (arith, length-le-encodes (c ∷ cs))))
+    also each_visible cs (λ k l. rw get_or-append-add at (h (length (encode c) + k)
+    (omega (arith, l, length-append (encode c) (encode_utf8_all cs)))))
 
 -- before an ASCII byte it is the run of those characters
 pub visible_run : (bs : List ℕ) (n : ℕ) → IsUtf8 bs → IsRun visible_byte bs n → n < length bs → get_or bs n 0 < 128
