@@ -3,15 +3,15 @@ use Rattle.syslog_pieces.proofs.Names.{◌≡◌, ℤ, suc, pos, ◌+◌, ◌-�
 use Rattle.syslog_pieces.proofs.Names.{ℕ, arith, AreCivil, neg_ℤ, DateTime, Offset, fields_of, Option, TimeZone, int_lt}
 use Rattle.syslog_pieces.proofs.Names.{zero, signed_arith, same_datetime, if◌then◌else◌, int_div_euclid, int_rem_euclid}
 use Rattle.syslog_pieces.proofs.Names.{negsuc, nat_tests, civil_nanos, instant_of, fields_text, Unambiguous, IsDateTime}
-use Rattle.syslog_pieces.proofs.Names.{◌+ℤ◌, ◌-ℤ◌, ◌≤ℤ◌, refl, ◌<ℤ◌, subst, Bool, true, false, Some, None, Fold, ◌*ℤ◌}
+use Rattle.syslog_pieces.proofs.Names.{rules, ◌+ℤ◌, ◌-ℤ◌, ◌≤ℤ◌, refl, ◌<ℤ◌, subst, Bool, true, false, Some, None, Fold, ◌*ℤ◌}
 use Rattle.syslog_pieces.proofs.Names.{unsigned_abs, nanos_of_seconds, days_from_civil-day_count, day_count-day_of_year}
 use Rattle.syslog_pieces.proofs.Names.{IsTimestampNanos, IsOffsetSeconds, CivilFields, nanos_of_fields, AmbiguousOffset}
 use Rattle.jiff.specs.Words.{IsCivilNanos, IsEpochDay, IsYear, ambiguous_at}
 use Rattle.jiff_core.specs.Calendar.{days_of_months, days_of_years, days_from_civil, days_in_month, days_in_year}
 use Rattle.jiff_core.specs.Calendar.{day_count, IsCivilDate}
 use Rattle.jiff_core.proofs.CalendarLemmas.{days_of_months_more, days_of_months_all, days_of_months-zero}
-use Rattle.jiff_core.proofs.CalendarLemmas.{day_count-later_year, day_count-lt_year, day_count-min, day_count-end}
-use Rattle.jiff_core.proofs.CalendarLemmas.{day_count-next_year, days_in_year_bounds}
+use Rattle.jiff_core.proofs.CalendarLemmas.{day_count-later_year, day_count-lt_year, day_count-min}
+use Rattle.jiff_core.proofs.CalendarLemmas.{day_count-year_bounds, days_in_year_bounds}
 use Rattle.jiff_core.proofs.MarchLemmas.{days_of_years-march_days}
 use Rattle.jiff_core.proofs.SignedLemmas.{int_rem_euclid-parts, int_div_euclid-parts}
 use Rattle.jiff_tz.specs.Year.{year_of_day, years_within}
@@ -66,10 +66,10 @@ pub from_start : (z : ℤ) → pos 0 ≤ℤ z → pos (unsigned_abs z) ≡ z
 from_start (pos n) h = refl
 from_start (negsuc n) h = absurd (omega (arith, signed_arith))
 
-year_placed : (day : ℤ) (count k : ℕ) → IsEpochDay day → pos count ≡ day +ℤ pos 4_371_953 → days_of_years k ≤ count → k
-    ≤ 20000 → (count < days_of_years (suc 20000) → count < days_of_years (suc k)) → IsPlaced day (pos k -ℤ pos 10000)
-    (count - days_of_years k)
-year_placed day count k range e low most next =
+year_placed : (day : ℤ) (count k : ℕ) → IsEpochDay day → pos count ≡ day +ℤ pos 4_371_953
+    → (days_of_years k ≤ count) × (k ≤ 20000) × (count < days_of_years (suc 20000) → count < days_of_years (suc k))
+    → IsPlaced day (pos k -ℤ pos 10000) (unsigned_abs (day -ℤ days_from_civil (pos k -ℤ pos 10000) 1 1))
+year_placed day count k range e (low, most, next) =
     let high : count < days_of_years (suc k) =
     next (omega (arith, signed_arith, range.1, days_of_years-march_days 20000, days_of_years-next 20000)) in
     let below : k ≢ 20000 = λ s. let f = ap days_of_years s in
@@ -79,64 +79,44 @@ year_placed day count k range e low most next =
     let first = day_count-first (pos k -ℤ pos 10000) k (omega (arith, signed_arith)) in
     let number = days_from_civil-day_count (pos k -ℤ pos 10000) 1 1 in
     let step = days_of_years-next k in
-    record {
-      year_in = omega (arith, signed_arith, below, above);
-      place_in = omega arith;
-      same = omega (arith, signed_arith);
-    }
-
-day_placed : (day : ℤ) → IsEpochDay day → IsPlaced day (year_of_day day)
-    (unsigned_abs (day -ℤ days_from_civil (year_of_day day) 1 1))
-day_placed day range =
-    let count = unsigned_abs (day +ℤ pos 4_371_953) in
-    let e = from_start (day +ℤ pos 4_371_953) (omega (arith, signed_arith, range.0)) in
-    let fit = years_fit 20000 count in
-    let p = year_placed day count (years_within 20000 count) range e fit.0 fit.1 fit.2 in
-    let place : unsigned_abs (day -ℤ days_from_civil (year_of_day day) 1 1) ≡ count - days_of_years (years_within 20000 count) =
-    abs-diff day _ _ p.same in
-    rw place p
+    let same : day ≡ days_from_civil (pos k -ℤ pos 10000) 1 1 +ℤ pos (count - days_of_years k) =
+    omega (arith, signed_arith) in
+    rw (abs-diff day _ _ same)
+    (record { year_in = omega (arith, signed_arith, below, above); place_in = omega arith; same = same })
 
 -- the month and the day at a place in a year
-month_placed : (y : ℤ) (place j : ℕ) → place < days_in_year y → days_of_months y j ≤ place → j ≤ 11 → (place <
-    days_of_months y 12 → place < days_of_months y (suc j)) → (place - days_of_months y j + 1 ≤ days_in_month y (j + 1))
-    × (days_of_months y (j + 1 - 1) + (place - days_of_months y j + 1) ≡ place + 1)
-month_placed y place j h low most next =
-    let all = days_of_months_all y in
-    let high = next (omega arith) in
-    let more = days_of_months_more y (suc j) (omega arith) in
-    let back : suc j - 1 ≡ j = omega arith in
-    let step = rw back at more in
-    let same : j + 1 ≡ suc j = omega arith in
-    rw (same, back) (omega arith, omega arith)
-
--- the fields at a place in a year, on plain numbers
-place_exists : (y day : ℤ) (place j n : ℕ) → IsPlaced day y place → days_of_months y j ≤ place → j ≤ 11 → (place <
-    days_of_months y 12 → place < days_of_months y (suc j)) → n < 86_400_000_000_000 → IsCivilDate y (j + 1) (place -
-    days_of_months y j + 1) × (days_from_civil y (j + 1) (place - days_of_months y j + 1) ≡ day)
-place_exists y day place j n p low most next small =
-    let m = month_placed y place j p.place_in low most next in
+date_placed : (y day : ℤ) (place j : ℕ) → IsPlaced day y place → days_of_months y j ≤ place → j ≤ 11
+    → (place < days_of_months y 12 → place < days_of_months y (suc j))
+    → IsCivilDate y (j + 1) (place - days_of_months y j + 1)
+    × (days_from_civil y (j + 1) (place - days_of_months y j + 1) ≡ day)
+date_placed y day place j p low most next =
     let d = place - days_of_months y j + 1 in
-    let ordinal = day_count-day_of_year y (j + 1) d (omega arith) in
+    let back : j + 1 - 1 ≡ j = omega arith in
+    let same : suc j ≡ j + 1 = omega arith in
+    let all = days_of_months_all y in
+    let inside = p.place_in in
+    let is_day = p.same in
+    let high = rw same at (next (omega arith)) in
+    let more = rw back at (days_of_months_more y (j + 1) (omega arith)) in
+    let ordinal = rw back at (day_count-day_of_year y (j + 1) d (omega arith)) in
     let number = days_from_civil-day_count y (j + 1) d in
     let first = days_from_civil-day_count y 1 1 in
-    let year_in = p.year_in in
-    let same = p.same in
-    ((year_in, (omega arith, omega arith), (omega arith, m.0)), omega (arith, signed_arith, m.1))
-
-clock_parts : (n : ℕ) → n < 86_400_000_000_000 → (n / 3_600_000_000_000 < 24) × (n / 60_000_000_000 % 60 < 60) × (n /
-    1_000_000_000 % 60 < 60) × (n % 1_000_000_000 < 1_000_000_000) × ((n / 3_600_000_000_000 * 3600 + n / 60_000_000_000
-    % 60 * 60 + n / 1_000_000_000 % 60) * 1_000_000_000 + n % 1_000_000_000 ≡ n)
-clock_parts n h = (omega arith, omega arith, omega arith, omega arith, omega arith)
+    ((p.year_in, (omega arith, omega arith), (omega arith, omega arith)), omega (arith, signed_arith))
 
 fields_exist-place : (y day : ℤ) (place n : ℕ) → IsPlaced day y place → n < 86_400_000_000_000 → AreCivil (place_fields
     y place n) × (nanos_of_fields (place_fields y place n) ≡ day *ℤ pos 86_400_000_000_000 +ℤ pos n)
 unfolding place_fields
 fields_exist-place y day place n p small =
-    let fit = months_fit y 11 place in
-    let there = place_exists y day place (months_within y 11 place) n p fit.0 fit.1 fit.2 small in
-    let clock = clock_parts n small in (
-      record { date = there.0; hour_in = clock.0; minute_in = clock.1; second_in = clock.2; nanosecond_in = clock.3 },
-      rw (there.1, clock.4),
+    let (low, most, next) = months_fit y 11 place in
+    let (date, count) = date_placed y day place (months_within y 11 place) p low most next in (
+      record {
+        date = date;
+        hour_in = omega arith;
+        minute_in = omega arith;
+        second_in = omega arith;
+        nanosecond_in = omega arith;
+      },
+      rw count (ap (λ (k : ℕ). day *ℤ pos 86_400_000_000_000 +ℤ pos k) (omega arith)),
     )
 
 -- the fields of a count in range exist, and have that count
@@ -148,9 +128,11 @@ civil_fields_exist n h =
     let quot = int_div_euclid-parts n 86_400_000_000_000 (omega arith) in
     let rem = int_rem_euclid-parts n 86_400_000_000_000 (omega arith) in
     let range : IsEpochDay day = omega (arith, signed_arith, h.0, h.1) in
+    let count = from_start (day +ℤ pos 4_371_953) (omega (arith, signed_arith)) in
+    let placed = year_placed day _ _ range count (years_fit 20000 (unsigned_abs (day +ℤ pos 4_371_953))) in
     let whole : pos (unsigned_abs left) ≡ left = from_start left (omega (arith, signed_arith)) in
     let small : unsigned_abs left < 86_400_000_000_000 = omega (arith, signed_arith) in
-    let there = fields_exist-place (year_of_day day) day _ (unsigned_abs left) (day_placed day range) small in
+    let there = fields_exist-place (year_of_day day) day _ (unsigned_abs left) placed small in
     (there.0, there.1 ∙ omega (arith, signed_arith))
 
 -- the instant of fields by the days and seconds that they count
@@ -163,44 +145,23 @@ instant_by_count f count off sec nan counted second nanos =
 
 -- ---- the fields of a datetime, of a count of nanoseconds, and on a clock
 pub civil-fields_of : (dt : DateTime) → AreCivil (fields_of dt)
-civil-fields_of dt = record {
-  date = (dt.date.year_in, dt.date.month_in, dt.date.day_in);
-  hour_in = dt.time.hour_in;
-  minute_in = dt.time.minute_in;
-  second_in = dt.time.second_in;
-  nanosecond_in = dt.time.subsec_in;
-}
+civil-fields_of dt = search rules
 
 pub civil_nanos-fields : (dt : DateTime) (f : CivilFields) → fields_of dt ≡ f → civil_nanos dt ≡ nanos_of_fields f
 civil_nanos-fields dt f e = civil_nanos-parts dt ∙ ap nanos_of_fields e
 
 pub civil-fields : (dt : DateTime) (f : CivilFields) → fields_of dt ≡ f → AreCivil f
-civil-fields dt f e = let P : CivilFields → Type 0 = AreCivil in subst P e (civil-fields_of dt)
+civil-fields dt f e = rw (← e) (civil-fields_of dt)
 
 -- a datetime has the fields exactly if it has each of them
 pub has_fields : (dt : DateTime) (f : CivilFields)
     → IsDateTime dt f.year f.month f.day f.hour f.minute f.second f.nanosecond → fields_of dt ≡ f
-has_fields dt f h = λ i. record {
-  year = h.year_is i;
-  month = h.month_is i;
-  day = h.day_is i;
-  hour = h.hour_is i;
-  minute = h.minute_is i;
-  second = h.second_is i;
-  nanosecond = h.nanosecond_is i;
-}
+has_fields dt f h =
+    rw (h.year_is, h.month_is, h.day_is, h.hour_is, h.minute_is, h.second_is, h.nanosecond_is) refl
 
 pub is_datetime : (dt : DateTime) (f : CivilFields) → fields_of dt ≡ f
     → IsDateTime dt f.year f.month f.day f.hour f.minute f.second f.nanosecond
-is_datetime dt f e = record {
-  year_is = ap (λ (x : CivilFields). x.year) e;
-  month_is = ap (λ (x : CivilFields). x.month) e;
-  day_is = ap (λ (x : CivilFields). x.day) e;
-  hour_is = ap (λ (x : CivilFields). x.hour) e;
-  minute_is = ap (λ (x : CivilFields). x.minute) e;
-  second_is = ap (λ (x : CivilFields). x.second) e;
-  nanosecond_is = ap (λ (x : CivilFields). x.nanosecond) e;
-}
+is_datetime dt f e = rw (← e) (search rules)
 
 -- the datetime of fields that there are
 abbrev pub datetime_of : (f : CivilFields) → AreCivil f → (dt : DateTime) × (fields_of dt ≡ f)
@@ -262,23 +223,19 @@ in_range-years : (dt : DateTime) (offset : Offset) → pos 0 ≤ℤ dt.date.year
     → IsTimestampNanos (instant_of dt offset)
 in_range-years dt offset from to =
     let d = dt.date in
-    let there = civil d in
     let first = day_count-day_of_year d.year d.month d.day d.day_in.0 in
     let low =
     day_count-later_year (neg_ℤ (pos 9999)) d.year (omega (arith, signed_arith)) (omega (arith, signed_arith, from)) in
     let least = day_count-min in
     let days = days_in_year_bounds (neg_ℤ (pos 9999)) in
-    let high = day_count-lt_year d.year d.month d.day (pos 9999) 1 1 there (omega arith) to in
-    let most = day_count-next_year (pos 9999) (pos 10000) (omega (arith, signed_arith)) refl in
-    let end = day_count-end in
+    let high = day_count-lt_year d.year d.month d.day (pos 9999) 1 1 (civil d) (omega arith) to in
+    let most = day_count-year_bounds (pos 9999) (omega (arith, signed_arith), omega (arith, signed_arith)) in
     let last = days_in_year_bounds (pos 9999) in
     let number = days_from_civil-day_count d.year d.month d.day in
     let parts = civil_nanos-parts dt in
     let clock = time_nanos_bound dt.time in
-    let shift = offset.in_range in (
-      omega (arith, signed_arith, shift.0, shift.1, d.day_in.0),
-      omega (arith, signed_arith, shift.0, shift.1, d.day_in.0),
-    )
+    let shift = offset.in_range in
+    (omega (arith, signed_arith, d.day_in.0), omega (arith, signed_arith, d.day_in.0))
 
 pub early_in_range : (f : CivilFields) (offset : Offset) → AreCivil f → (pos 0 ≤ℤ f.year) × (f.year <ℤ pos 9999)
     → IsTimestampNanos (nanos_of_fields f -ℤ nanos_of_seconds offset.seconds)
@@ -294,13 +251,6 @@ FoldsBack (Unambiguous offset) = ⊤
 FoldsBack (Gap before after) = ⊤
 FoldsBack (Fold before after) = after.seconds ≤ℤ before.seconds
 
-either : (b : Bool) (x y : AmbiguousOffset) → (b ≡ true → FoldsBack x) → (b ≡ false → FoldsBack y)
-    → FoldsBack (if b then x else y)
-either b x y h k = grind arith
-
-less : (a b : ℤ) → int_lt a b ≡ true → a ≤ℤ b
-less a b e = grind arith
-
 behind : (std dst : Offset) (w : ℤ × ℤ) (at : ℤ) → dst.seconds ≤ℤ std.seconds
     → FoldsBack (Posix.ambiguous_behind std dst w at)
 behind std dst w at h = grind arith
@@ -313,6 +263,13 @@ by_rule : (std dst : Offset) (w : ℤ × ℤ) (at : ℤ) → FoldsBack (Posix.am
 by_rule std dst w at =
     either (int_lt dst.seconds std.seconds) _ _ (λ e. behind std dst w at (less _ _ e))
     (λ e. either (int_lt std.seconds dst.seconds) _ _ (λ e. ahead std dst w at (less _ _ e)) (λ e. tt))
+  where
+    either : (b : Bool) (x y : AmbiguousOffset) → (b ≡ true → FoldsBack x) → (b ≡ false → FoldsBack y)
+        → FoldsBack (if b then x else y)
+    either b x y h k = grind arith
+
+    less : (a b : ℤ) → int_lt a b ≡ true → a ≤ℤ b
+    less a b e = grind arith
 
 of_rule : (std : Offset) (dst : Option Dst) (dt : DateTime) → FoldsBack (Posix.ambiguous_at_by std dst dt)
 of_rule std None dt = tt
@@ -335,11 +292,7 @@ of_table z dt = grind (arith, of_transition, after_table)
 -- a zone's fold goes back
 pub zone_folds_back : (tz : TimeZone) (dt : DateTime) → FoldsBack (ambiguous_at tz dt)
 unfolding ambiguous_at
-zone_folds_back UTC dt = tt
-zone_folds_back Unknown dt = tt
-zone_folds_back (Fixed offset) dt = tt
-zone_folds_back (InPosix tz) dt = of_rule tz.std_offset tz.dst dt
-zone_folds_back (InTable z) dt = of_table z.now dt
+zone_folds_back tz dt = grind (arith, of_rule, of_table)
 
 -- the instant before a fold is the earlier of its two
 pub earlier_in_fold : (tz : TimeZone) (dt : DateTime) (before after : Offset) → ambiguous_at tz dt ≡ Fold before after

@@ -195,32 +195,24 @@ module _ (ds : Text) (i n d place v k j : ℕ) (within : i < length ds) (digit :
       rw (past, (rw none at worth)) (refl, omega arith, omega arith)
 
 -- ---- three, six or nine digits
-pad3-digits : (n : ℕ) → n < 1_000 → Each is_ascii_digit (pad3 n)
-pad3-digits n h = grind (arith, nat_tests)
-
 pad3-value : (n : ℕ) → n < 1_000 → (48 + n / 100 - 48) * 100 + (48 + n / 10 % 10 - 48) * 10 + (48 + n % 10 - 48) ≡ n
 pad3-value n h = omega arith
 
 module _ {n : ℕ} (a : ℕ) (a_in : a < 1_000) where
   pub three : n ≡ a * 1_000_000 → AreDecimals (pad3 a) n
   unfolding fraction_value
-  three e = record { some = omega arith; each = pad3-digits a a_in; value = omega (arith, pad3-value a a_in) }
+  three e = record { some = omega arith; each = grind (arith, nat_tests); value = omega arith }
 
   module _ (b : ℕ) (b_in : b < 1_000) where
     pub six : n ≡ a * 1_000_000 + b * 1_000 → AreDecimals (pad3 a ++ pad3 b) n
     unfolding fraction_value
-    six e = record {
-      some = omega arith;
-      each = each_append is_ascii_digit (pad3 a) (pad3 b) (pad3-digits a a_in) (pad3-digits b b_in);
-      value = omega (arith, pad3-value a a_in, pad3-value b b_in);
-    }
+    six e = record { some = omega arith; each = grind (arith, nat_tests); value = omega arith }
 
     pub nine : (c : ℕ) → c < 1_000 → n ≡ a * 1_000_000 + b * 1_000 + c → AreDecimals (pad3 a ++ (pad3 b ++ pad3 c)) n
     unfolding fraction_value
     nine c c_in e = record {
       some = omega arith;
-      each = each_append is_ascii_digit (pad3 a) (pad3 b ++ pad3 c) (pad3-digits a a_in)
-          (each_append is_ascii_digit (pad3 b) (pad3 c) (pad3-digits b b_in) (pad3-digits c c_in));
+      each = grind (arith, nat_tests);
       value = omega (arith, pad3-value a a_in, pad3-value b b_in, pad3-value c c_in);
     }
 

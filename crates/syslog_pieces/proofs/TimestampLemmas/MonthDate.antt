@@ -14,11 +14,12 @@ use Rattle.syslog_pieces.proofs.Names.{rows_none_here, IsStampOfClock, IsCharBou
 use Rattle.syslog_pieces.proofs.Names.{chars, Front, month, Class, colon, Apart, ◌also◌, Offset, Dating, mapped}
 use Rattle.syslog_pieces.proofs.Names.{Unambiguous, CivilFields, no_front_no, IsMonthStamp, header_stamp, lowercase_is}
 use Rattle.std.specs.Char.{to_ascii_lowercase}
+use Rattle.syslog_pieces.proofs.Names.{IsAlone, take}
 use Rattle.std.proofs.lemmas.Option.{slice_get_within}
 use Rattle.jiff.specs.Types.{UTC, Unknown, Fixed as FixedZone}
 use Rattle.jiff.specs.Words.{offset_at, ambiguous_at, IsFixed}
 use Rattle.jiff_tz.specs.Zone.{utc_offset}
-use Rattle.syslog_pieces.specs.Bodies.MonthReading.{IsNamed, IsMonthBytes, NamesNoMonth, small_month, showing_row}
+use Rattle.syslog_pieces.specs.Bodies.MonthReading.{IsNamed, small_month, showing_row}
 use Rattle.syslog_pieces.specs.Timestamp.MonthDate.{month_names, IsMonthName, short_number, yearless_row, yearless_of}
 use Rattle.syslog_pieces.specs.Timestamp.MonthDate.{yearless_date, dated_row, dated_of}
 use Rattle.syslog_pieces.specs.Timestamp.Rfc3164.{ShowsYearless}
@@ -35,13 +36,6 @@ use Rattle.syslog_pieces.proofs.TimestampLemmas.Civil.{civil_nanos-fields, civil
 use Rattle.syslog_pieces.proofs.TimestampLemmas.Civil.{is_datetime}
 
 -- ---- the names of the months, letter by letter
-
--- the name of a month, by its number
-pub month_named : {a b c n : ℕ} → IsNamed a b c n
-    → (before : ℕ) × (n ≡ before + 1) × (slice_get month_names before ≡ Some (a ∷ b ∷ c ∷ []))
-month_named {n = n} h = let l = h.from in (n - 1, omega arith, h.name)
-
--- ---- from the name to the number
 
 -- the number of a month in small letters
 abbrev told : Option Text → Option ℕ
@@ -81,23 +75,9 @@ month_det p q p' q' n n' e h h' =
     let ha : a ≡ a' = cc in let hb : b ≡ b' = cc in let hc : c ≡ c' = cc in
     (cc, let s : Some n ≡ Some n' = sym m ∙ (rw (ha, hb, hc) refl) ∙ m' in cc)
 
-first_small : (a b c n : ℕ) → small_month a b c ≡ Some n → 97 ≤ a
+small_letters : (a b c n : ℕ) → small_month a b c ≡ Some n → (97 ≤ a) × (a < 128) × (b < 128) × (c < 128)
 unfolding small_month
-first_small a b c n m = grind (arith, nat_tests)
-
--- three bytes of which the first is before the letters, or fewer than three bytes
-pub no_month_letters : (bs : List ℕ) → (3 ≤ length bs → get_or bs 0 0 < 65) → NamesNoMonth bs
-no_month_letters bs low a b c rest e =
-    let first = low (rw e (omega arith)) in
-    none (small_month (to_ascii_lowercase a) (to_ascii_lowercase b) (to_ascii_lowercase c)) (λ n m.
-    let large = first_small _ _ _ n m in
-    let before : a < 65 = rw e at first in
-    let same = (lowercase_is a).1 before in
-    absurd (omega (arith, same)))
-  where
-    none : (o : Option ℕ) → ((n : ℕ) → o ≡ Some n → ⊥) → o ≡ None
-    none None f = refl
-    none (Some n) f = absurd (f n refl)
+small_letters a b c n m = (grind (arith, nat_tests), grind (arith, nat_tests), grind (arith, nat_tests), grind (arith, nat_tests))
 
 -- a letter, or a character past the letters
 abbrev pub IsLetter : ℕ → Type 0
@@ -106,56 +86,51 @@ IsLetter c = 65 ≤ c
 pub month_begins : (p q : Text) (n : ℕ) → month.Is p q n → Begins IsLetter p
 month_begins p q n h =
     let (a, b, c, w, m) = month_letters p n h in
-    let small = first_small _ _ _ n m in
+    let (small, _, _, _) = small_letters _ _ _ n m in
     begins_with IsLetter a p (b ∷ c ∷ []) w (grind (arith, lowercase_is a))
 
--- ---- by bytes
-abbrev are_low : Option Text → Bool
-are_low (Some (a ∷ b ∷ c ∷ [])) = nat_lt a 128 && (nat_lt b 128 && nat_lt c 128)
-are_low _ = false
-
-letter_low : (c : ℕ) → nat_lt (to_ascii_lowercase c) 128 ≡ true → c < 128
-letter_low c h = grind (arith, nat_tests, lowercase_is c)
+-- ---- what the readers of a month return
 
 -- letters that name a month are ASCII
-letters_ascii : (a b c k : ℕ) → slice_get month_names k ≡ Some (map to_ascii_lowercase (a ∷ b ∷ c ∷ []))
-    → IsAscii (a ∷ b ∷ c ∷ [])
-letters_ascii a b c k name =
-    let within = slice_get_within month_names k _ name in
-    let low = rw name at
-    (agree_below_at (λ i. are_low (slice_get month_names i)) (λ _. true) 12 k refl (omega arith)) in
-    let (x, yz) = and_parts (nat_lt (to_ascii_lowercase a) 128)
-    (nat_lt (to_ascii_lowercase b) 128 && nat_lt (to_ascii_lowercase c) 128) low in
-    let (y, z) = and_parts (nat_lt (to_ascii_lowercase b) 128) (nat_lt (to_ascii_lowercase c) 128) yz in
-    IsAscii-cons a (b ∷ c ∷ []) (letter_low a x)
-    (IsAscii-cons b (c ∷ []) (letter_low b y) (one_ascii c (letter_low c z)))
+pub month_ascii : (p q : Text) (n : ℕ) → month.Is p q n → IsAscii p
+month_ascii p q n h =
+    let (a, b, c, w, m) = month_letters p n h in
+    let (_, x, y, z) = small_letters _ _ _ n m in
+    rw w (IsAscii-cons a (b ∷ c ∷ []) (letter_low a x) (IsAscii-cons b (c ∷ []) (letter_low b y) (one_ascii c (letter_low c z))))
+  where
+    letter_low : (c : ℕ) → to_ascii_lowercase c < 128 → c < 128
+    letter_low c h = grind (arith, lowercase_is c)
 
-module _ (bs : List ℕ) (n : ℕ) (rest : List ℕ) (u : IsUtf8 bs) (m : IsMonthBytes bs n rest) where
-  abbrev its : Text
-  its = m.a ∷ m.b ∷ m.c ∷ []
+pub month_alone : IsAlone month
+month_alone p q r n h = h
 
-  its_named : IsMonthName its n
-  its_named = month_named m.named
+-- three bytes and the rest
+module _ (bs : List ℕ) (long : 3 ≤ length bs) where
+  three_first : bs ≡ get_or bs 0 0 ∷ get_or bs 1 0 ∷ get_or bs 2 0 ∷ take (length bs - 3) (drop 3 bs)
+  three_first = grind (arith, common_steps)
 
-  its_ascii : IsAscii its
-  its_ascii = let (k, e, name) = its_named in letters_ascii m.a m.b m.c k name
+  pub month_here : (n : ℕ) → IsNamed (to_ascii_lowercase (get_or bs 0 0)) (to_ascii_lowercase (get_or bs 1 0))
+      (to_ascii_lowercase (get_or bs 2 0)) n → Front month bs (take (length bs - 3) (drop 3 bs)) n
+  month_here n h =
+      let l = h.from in
+      record { piece = get_or bs 0 0 ∷ get_or bs 1 0 ∷ get_or bs 2 0 ∷ []; whole = three_first; is = (n - 1, omega arith, h.name) }
 
-  pub month_cut : IsCharBoundary bs (length bs - length rest)
-  month_cut = behind_cut its bs rest its_ascii u m.whole
+  pub no_month_here : small_month (to_ascii_lowercase (get_or bs 0 0)) (to_ascii_lowercase (get_or bs 1 0))
+      (to_ascii_lowercase (get_or bs 2 0)) ≡ None → NoFront month bs
+  no_month_here e p q n f h =
+      let (x, y, z, v, m) = month_letters p n h in
+      let t = sym three_first ∙ f ∙ ap (λ (x : Text). x ++ q) v in
+      let ha : x ≡ get_or bs 0 0 = cc in let hb : y ≡ get_or bs 1 0 = cc in let hc : z ≡ get_or bs 2 0 = cc in
+      let s : None ≡ Some n = sym e ∙ (rw (ha, hb, hc) at m) in cc
 
-  pub month_read : (ys : List ℕ) → ys ≡ drop (length bs - length rest) bs → Front month (chars bs) (chars ys) n
-  month_read ys f = rw (behind_is its bs rest its_ascii u m.whole ys f) (record {
-    piece = its;
-    whole = behind_chars its bs rest its_ascii u m.whole;
-    is = its_named;
-  })
-
-pub no_month : (bs : List ℕ) → IsUtf8 bs → NamesNoMonth bs → NoFront month (chars bs)
-no_month bs u none p q n w (k, f, name) =
-    let (a, b, c, w', m) = month_letters p n (k, f, name) in
-    let low = letters_ascii a b c k (rw w' at name) in
-    let e = ascii_ahead (a ∷ b ∷ c ∷ []) q bs u low (w ∙ ap (λ (x : Text). x ++ q) w') in
-    let r : None ≡ Some n = sym (none a b c _ e) ∙ m in cc
+-- three bytes of which the first is before the letters, or fewer than three bytes
+pub no_month_letters : (bs : List ℕ) → (3 ≤ length bs → get_or bs 0 0 < 65) → NoFront month bs
+no_month_letters bs low p q n f h =
+    let (a, b, c, w, m) = month_letters p n h in
+    let whole : bs ≡ a ∷ b ∷ c ∷ q = f ∙ ap (λ (x : Text). x ++ q) w in
+    let first : a < 65 = rw whole at (low (rw whole (omega arith))) in
+    let (large, _, _, _) = small_letters _ _ _ n m in
+    omega (arith, (lowercase_is a).1 first, large)
 
 -- ---- a text has one month date at its front, and shows one; and what the readers of month dates return
 pub clock_det : AllDeterministic clock_row
@@ -244,31 +219,25 @@ shown_once text d d' (p, more, h) (p', more', h') = ap (λ (x : Values (showing_
 
 -- ---- the date of its parts
 module _ {t : Text} where
-  pub yearless_is : {q : Text} {d : MonthDate} → Front yearless_date t q d → Front month_date t q d
-  yearless_is f = first_kind MonthDate yearless_date.Is dated_date.Is f
-
-  yearless_none_here : NoFront (Row day_row) t → NoFront yearless_date t
-  yearless_none_here n = no_mapped (Row yearless_row) MonthDate yearless_of (rows_none_here day_row clock_row n)
-
   pub no_day : NoFront (Row day_row) t → NoFront month_date t
   no_day n =
-      no_either MonthDate yearless_date.Is dated_date.Is (yearless_none_here n)
+      no_either MonthDate yearless_date.Is dated_date.Is
+      (no_mapped (Row yearless_row) MonthDate yearless_of (rows_none_here day_row clock_row n))
       (no_mapped (Row dated_row) MonthDate dated_of (rows_none_here day_row from_year n))
 
   module _ {u : Text} {m d : ℕ} (f : Front (Row day_row) t u (m, (tt, (d, (tt, tt))))) where
     pub yearless_front : {q : Text} {h n s : ℕ} {more : Option (Unit {0})}
         → Front (Row clock_row) u q (h, (tt, (n, (tt, (s, (more, tt))))))
-        → Front yearless_date t q (record { year = None; month = m; day = d; hour = h; minute = n; second = s })
-    yearless_front g = mapped_front (Row yearless_row) MonthDate yearless_of (rows_join day_row clock_row f g)
-
-    yearless_none_later : NoFront (Row clock_row) u → NoFront yearless_date t
-    yearless_none_later n =
-        no_mapped (Row yearless_row) MonthDate yearless_of (rows_none_later day_row clock_row day_det f n)
+        → Front month_date t q (record { year = None; month = m; day = d; hour = h; minute = n; second = s })
+    yearless_front g =
+        first_kind MonthDate yearless_date.Is dated_date.Is
+        (mapped_front (Row yearless_row) MonthDate yearless_of (rows_join day_row clock_row f g))
 
     -- neither a clock nor a year and a clock is after the day
     pub no_clock : NoFront (Row clock_row) u → NoFront (Row from_year) u → NoFront month_date t
     no_clock n m =
-        no_either MonthDate yearless_date.Is dated_date.Is (yearless_none_later n)
+        no_either MonthDate yearless_date.Is dated_date.Is
+        (no_mapped (Row yearless_row) MonthDate yearless_of (rows_none_later day_row clock_row day_det f n))
         (no_mapped (Row dated_row) MonthDate dated_of (rows_none_later day_row from_year day_det f m))
 
     pub dated_front : {w q : Text} {y h n s : ℕ} {more : Option (Unit {0})} → Front (Row year_row) u w (y, (tt, tt))
@@ -288,15 +257,11 @@ at_once : (dt : DateTime) (offset : Offset) (s t : OffsetTimestamp) → IsStampA
     → s ≡ t
 at_once dt offset s t h k = same_timestamp s t (cc) (cc)
 
-in_gap_once : (tz : TimeZone) (dt : DateTime) (s t : OffsetTimestamp) → IsStampInGap tz dt s → IsStampInGap tz dt t
-    → s ≡ t
-in_gap_once tz dt s t h k = same_timestamp s t (cc) (cc)
-
 once_of : (a : AmbiguousOffset) (tz : TimeZone) (dt : DateTime) (s t : OffsetTimestamp)
     → (IsStampOf a dt (λ _. ⊥) s → IsStampOf a dt (λ _. ⊥) t → s ≡ t)
     × (IsStampOf a dt (IsStampInGap tz dt) s → IsStampOf a dt (IsStampInGap tz dt) t → s ≡ t)
 once_of (Unambiguous offset) tz dt s t = (at_once dt offset s t, at_once dt offset s t)
-once_of (Gap before after) tz dt s t = (λ h k. absurd h, in_gap_once tz dt s t)
+once_of (Gap before after) tz dt s t = (λ h k. absurd h, λ h k. same_timestamp s t (cc) (cc))
 once_of (Fold before after) tz dt s t = (at_once dt before s t, at_once dt before s t)
 
 in_any_once : (tz : Option TimeZone) (local : TimeZone) (dt : DateTime) (s t : OffsetTimestamp)

@@ -10,7 +10,7 @@ use Rattle.syslog_pieces.proofs.Names.{◌++◌, HasStamp, decimals, fraction, I
 use Rattle.syslog_pieces.proofs.Names.{Bool, true, Some, None, refl, pad2, pad4, Text, Ends, join, sign, year, neg_ℤ}
 use Rattle.syslog_pieces.proofs.Names.{false, subst, arith, props, Front, after, heads, Apart, Class, length, negsuc}
 use Rattle.syslog_pieces.proofs.Names.{Option, Offset, Values, texted, mapped, is_dot, letter, offset, ◌also◌, Begins}
-use Rattle.syslog_pieces.proofs.Names.{ap, Row, pos, suc, ◌*◌, min}
+use Rattle.syslog_pieces.proofs.Names.{ap, Row, pos, suc, ◌*◌, min, rules}
 use Rattle.syslog_pieces.proofs.Names.{IsOffsetSeconds, IsStampOfRfc3339, stamp_row, AllDeterministic, nanos_of_seconds}
 use Rattle.syslog_pieces.proofs.Names.{NoFront, some_run_det, begins_apart, length-append, fraction_text, if◌then◌else◌}
 use Rattle.syslog_pieces.proofs.Names.{IsDeterministic, OffsetTimestamp, mapped_front, nanos_of_fields, encodes-IsAscii}
@@ -21,7 +21,7 @@ use Rattle.syslog_pieces.specs.Timestamp.Rfc3339.{pair, HasRfc3339Stamp}
 use Rattle.syslog_pieces.specs.Timestamp.Printed.{printed_stamp, date_time_text, offset_text, offset_sign}
 use Rattle.syslog_pieces.specs.Bodies.Clock.{unsigned_date_time}
 use Rattle.syslog_pieces.specs.Timestamp.Canonical.{IsCanonicalStamp, BeginsWithYear, own_year}
-use Rattle.syslog_pieces.proofs.PieceLemmas.Class.{IsFilled, closed_alone, closed_filled, after_det, spaced_parts}
+use Rattle.syslog_pieces.proofs.PieceLemmas.Class.{IsFilled, closed_alone, closed_filled, after_det, spaced_parts, AllSteady, Fails, no_row}
 use Rattle.syslog_pieces.proofs.TimestampLemmas.Civil.{civil-fields, civil_nanos-fields, datetime_of, has_fields}
 use Rattle.syslog_pieces.proofs.TimestampLemmas.Civil.{is_datetime, civil_fields_exist, in_range-at_offset}
 use Rattle.syslog_pieces.proofs.TimestampLemmas.Civil.{shows_fields, from_start}
@@ -30,39 +30,14 @@ use Rattle.syslog_pieces.proofs.TimestampLemmas.Digits.{fraction_characters, pai
 
 -- ---- a text has one front of each piece
 
-digits_same : (n n' : ℕ) (q q' : Text) → n < 100 → n' < 100 → pad2 n ++ q ≡ pad2 n' ++ q' → (n ≡ n') × (q ≡ q')
-digits_same n n' q q' h h' e =
-    let tens : 48 + n / 10 ≡ 48 + n' / 10 = cc in
-    let ones : 48 + n % 10 ≡ 48 + n' % 10 = cc in
-    (omega arith, cc)
-
 pub pair_det : (limit : ℕ) → limit ≤ 100 → IsDeterministic (pair limit)
-pair_det limit small p q p' q' n n' e h h' =
-    let whole = sym (ap (λ (x : Text). x ++ q) h.0) ∙ e ∙ ap (λ (x : Text). x ++ q') h'.0 in
-    let same = digits_same n n' q q' (omega (arith, h.1)) (omega (arith, h'.1)) whole in
-    (h.0 ∙ ap pad2 same.0 ∙ sym h'.0, same.0)
+pair_det limit small p q p' q' n n' e h h' = grind arith
 
 year_det : IsDeterministic year
-year_det p q p' q' n n' e h h' =
-    let whole = sym (ap (λ (x : Text). x ++ q) h.0) ∙ e ∙ ap (λ (x : Text). x ++ q') h'.0 in
-    let fits = h.1 in let fits' = h'.1 in
-    let front = digits_same (n / 100) (n' / 100) (pad2 (n % 100) ++ q) (pad2 (n' % 100) ++ q') (omega arith)
-    (omega arith) whole in
-    let back = digits_same (n % 100) (n' % 100) q q' (omega arith) (omega arith) front.1 in
-    let same : n ≡ n' = omega (arith, front.0, back.0) in
-    (h.0 ∙ ap pad4 same ∙ sym h'.0, same)
-
-one_letter : (upper : ℕ) (p q p' q' : Text) → p ++ q ≡ p' ++ q' → p ≡ upper ∷ [] → p' ≡ (upper + 32) ∷ [] → ⊥
-one_letter upper p q p' q' e f f' =
-    let same = heads upper (upper + 32) q q'
-    (sym (ap (λ (x : Text). x ++ q) f) ∙ e ∙ ap (λ (x : Text). x ++ q') f') in
-    omega arith
+year_det p q p' q' n n' e h h' = grind arith
 
 letter_det : (upper : ℕ) → IsDeterministic (letter upper)
-letter_det upper p q p' q' v v' e (inl f) (inl f') = (f ∙ sym f', refl)
-letter_det upper p q p' q' v v' e (inl f) (inr f') = absurd (one_letter upper p q p' q' e f f')
-letter_det upper p q p' q' v v' e (inr f) (inl f') = absurd (one_letter upper p' q' p q (sym e) f' f)
-letter_det upper p q p' q' v v' e (inr f) (inr f') = (f ∙ sym f', refl)
+letter_det upper p q p' q' v v' e h h' = grind arith
 
 pub decimals_det : IsDeterministic decimals
 decimals_det = mapped_det (texted (some_run is_ascii_digit)) ℕ _ (texted_det _ (some_run_det is_ascii_digit))
@@ -81,12 +56,7 @@ fraction_det = either_det ℕ (λ p q n. (p ≡ []) × Ends is_dot q × (n ≡ 0
     (after_det decimals decimals_det) dot_apart
 
 sign_det : IsDeterministic sign
-sign_det p q p' q' true true e h h' = (h ∙ sym h', refl)
-sign_det p q p' q' false false e h h' = (h ∙ sym h', refl)
-sign_det p q p' q' true false e h h' =
-    absurd (omega (arith, heads 45 43 q q' (sym (ap (λ (x : Text). x ++ q) h) ∙ e ∙ ap (λ (x : Text). x ++ q') h')))
-sign_det p q p' q' false true e h h' =
-    absurd (omega (arith, heads 43 45 q q' (sym (ap (λ (x : Text). x ++ q) h) ∙ e ∙ ap (λ (x : Text). x ++ q') h')))
+sign_det p q p' q' b c e h h' = grind arith
 
 pub numeric_det : AllDeterministic numeric_row
 numeric_det = sign_det also pair_det 24 (omega arith) also after_det (pair 60) (pair_det 60 (omega arith)) also tt
@@ -118,9 +88,9 @@ offset_det = either_det ℤ zulu.Is (mapped (Row numeric_row) ℤ seconds_of).Is
     (mapped_det (Row numeric_row) ℤ seconds_of (row_det numeric_row numeric_det)) offset_apart
 
 module _ {t : Text} where
-  pub no_offset : NoFront (letter 90) t → NoFront (Row numeric_row) t → NoFront offset t
+  pub no_offset : NoFront (letter 90) t → Fails numeric_row t → NoFront offset t
   no_offset n m = no_either ℤ zulu.Is (mapped (Row numeric_row) ℤ seconds_of).Is (no_mapped (letter 90) ℤ _ n)
-      (no_mapped (Row numeric_row) ℤ seconds_of m)
+      (no_mapped (Row numeric_row) ℤ seconds_of (no_row numeric_row numeric_det m))
 
   pub numeric_front : {q : Text} {vs : Values numeric_row} → Front (Row numeric_row) t q vs
       → Front offset t q (seconds_of vs)
@@ -137,8 +107,8 @@ stamp_pieces_det =
 pub stamp_text_det : IsDeterministic stamp_text
 stamp_text_det = mapped_det (Row stamp_row) Rfc3339Fields written_of (row_det stamp_row stamp_pieces_det)
 
-pub no_stamp_text : {t : Text} → NoFront (Row stamp_row) t → NoFront stamp_text t
-no_stamp_text n = no_mapped (Row stamp_row) Rfc3339Fields written_of n
+pub no_stamp_text : {t : Text} → Fails stamp_row t → NoFront stamp_text t
+no_stamp_text h = no_mapped (Row stamp_row) Rfc3339Fields written_of (no_row stamp_row stamp_pieces_det h)
 
 pub stamp_text_front : {t q : Text} {vs : Values stamp_row} → Front (Row stamp_row) t q vs
     → Front stamp_text t q (written_of vs)
@@ -147,13 +117,10 @@ stamp_text_front f = mapped_front (Row stamp_row) Rfc3339Fields written_of f
 -- ---- a piece whatever follows it
 offset_alone : IsAlone offset
 offset_alone p q r s (inl h) = inl h
-offset_alone p q r s (inr (vs, h, e)) =
-    inr (
-      vs,
-      closed_alone (after 58 (pair 60)) (λ p q r v h. h) (λ p q v h. (58, h.0, h.1)) (sign ∷ pair 24 ∷ [])
-          ((λ p c q r v h. h), ((λ p c q r v h. h), tt)) p q r vs h,
-      e,
-    )
+offset_alone p q r s (inr (vs, h, e)) = inr (vs, minutes_close (search rules) p q r vs h, e)
+  where
+    minutes_close : AllSteady (sign ∷ pair 24 ∷ []) → IsAlone (Row numeric_row)
+    minutes_close = closed_alone (after 58 (pair 60)) (λ p q r v h. h) (λ p q v h. (58, h.0, h.1)) (sign ∷ pair 24 ∷ [])
 
 pub offset_filled : IsFilled offset
 offset_filled p q s (inl (u, inl e, z)) = (90, [], e)
@@ -161,16 +128,14 @@ offset_filled p q s (inl (u, inr e, z)) = (122, [], e)
 offset_filled p q s (inr (vs, h, e)) =
     closed_filled (after 58 (pair 60)) (λ p q r v h. h) (λ p q v h. (58, h.0, h.1)) (sign ∷ pair 24 ∷ []) p q vs h
 
+-- the pieces before the offset
+abbrev shown_row : List Class
+shown_row =
+    year ∷ after 45 (pair 100) ∷ after 45 (pair 100) ∷ letter 84 ∷ pair 100 ∷ after 58 (pair 100) ∷ after 58 (pair 61)
+    ∷ fraction ∷ []
+
 pub stamp_alone : IsAlone stamp_text
-stamp_alone p q r w (vs, h, e) = (
-  vs,
-  closed_alone offset offset_alone offset_filled (year ∷ after 45 (pair 100) ∷ after 45 (pair 100)
-      ∷ letter 84 ∷ pair 100 ∷ after 58 (pair 100) ∷ after 58 (pair 61) ∷ fraction ∷ []) (
-      (λ p c q r v h. h) also (λ p c q r v h. h) also (λ p c q r v h. h) also (λ p c q r v h. h)
-      also (λ p c q r v h. h) also (λ p c q r v h. h) also (λ p c q r v h. h) also (λ p c q r v h. h) also tt
-      ) p q r vs h,
-  e,
-)
+stamp_alone p q r w (vs, h, e) = (vs, closed_alone offset offset_alone offset_filled shown_row (search rules) p q r vs h, e)
 
 -- ---- from what a text wrote to the result
 
@@ -263,34 +228,29 @@ letter_long p q v (inr e) = ap length e
 front_length : (C : Class) {t u : Text} {v : C.Value} → (f : Front C t u v) → length t ≡ length f.piece + length u
 front_length C {u = u} f = ap length f.whole ∙ length-append f.piece u
 
+pair_length : (c limit : ℕ) {t u : Text} {n : ℕ} → Front (after c (pair limit)) t u n → length t ≡ 3 + length u
+pair_length c limit f = omega (arith, front_length _ f, ap length f.is.1, ap length f.is.2.0)
+
 pub text_long : {t q : Text} {w : Rfc3339Fields} → Front stamp_text t q w → 20 ≤ length t
 text_long {t} {q} f =
     let (vs, h, _) = f.is in
     let (_, f1, (_, f2, (_, f3, (_, f4, (_, f5, (_, f6, (_, f7, (_, f8, (_, f9, _))))))))) =
     row_pieces stamp_row {vs = vs} (record { piece = f.piece; whole = f.whole; is = h }) in
     let (_, _, e) = offset_filled f9.piece _ _ f9.is in
+    let first = front_length year f1 in
+    let t_long = front_length (letter 84) f4 in
+    let hour = front_length (pair 100) f5 in
+    let decimal = front_length fraction f8 in
+    let last = front_length offset f9 in
     omega (
       arith,
-      front_length year f1,
       ap length f1.is.0,
-      front_length (after 45 (pair 100)) f2,
-      ap length f2.is.1,
-      ap length f2.is.2.0,
-      front_length (after 45 (pair 100)) f3,
-      ap length f3.is.1,
-      ap length f3.is.2.0,
-      front_length (letter 84) f4,
+      pair_length 45 100 f2,
+      pair_length 45 100 f3,
       letter_long f4.piece [] _ f4.is,
-      front_length (pair 100) f5,
       ap length f5.is.0,
-      front_length (after 58 (pair 100)) f6,
-      ap length f6.is.1,
-      ap length f6.is.2.0,
-      front_length (after 58 (pair 61)) f7,
-      ap length f7.is.1,
-      ap length f7.is.2.0,
-      front_length fraction f8,
-      front_length offset f9,
+      pair_length 58 100 f6,
+      pair_length 58 61 f7,
       ap length e,
     )
 

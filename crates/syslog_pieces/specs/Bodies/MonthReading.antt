@@ -31,19 +31,6 @@ pub record IsNamed (a b c month : ℕ) : Type 0 where
   pub from : 1 ≤ month
   pub name : slice_get month_names (month - 1) ≡ Some (a ∷ b ∷ c ∷ [])
 
--- three letters of either case at the front of bytes that name the month, and the rest
-pub record IsMonthBytes (bytes : List ℕ) (month : ℕ) (rest : List ℕ) : Type 0 where
-  pub a : ℕ
-  pub b : ℕ
-  pub c : ℕ
-  pub whole : bytes ≡ a ∷ b ∷ c ∷ rest
-  pub named : IsNamed (to_ascii_lowercase a) (to_ascii_lowercase b) (to_ascii_lowercase c) month
-
--- no such letters
-abbrev pub NamesNoMonth : List ℕ → Type 0
-NamesNoMonth bytes = (a b c : ℕ) (rest : List ℕ) → bytes ≡ a ∷ b ∷ c ∷ rest
-    → small_month (to_ascii_lowercase a) (to_ascii_lowercase b) (to_ascii_lowercase c) ≡ None
-
 -- the month and the day, each before blanks
 abbrev pub day_row : List Class
 day_row = month ∷ some_run is_blank ∷ short_number ∷ some_run is_blank ∷ []

@@ -2,7 +2,7 @@
 //!
 //! A date is recognised by its letters and digits alone, before anybody asks for its year. Nothing here takes memory.
 ghost use Rattle.std.specs.Prelude.{◌≡◌, IfSome, Option, MatchOption, chars};
-ghost use Rattle.syslog_pieces.specs.Words.{Front, NoFront, Row, Text, shown, Reads, MonthDate};
+ghost use Rattle.syslog_pieces.specs.Words.{Front, NoFront, Row, Text, shown, Reads, ReadsBytes, MonthDate};
 ghost use Rattle.syslog_pieces.specs.Bodies.MonthReading as parts;
 ghost use Rattle.syslog_pieces.specs.Timestamp.MonthDate as spec;
 
@@ -120,7 +120,7 @@ fn read_month(text: &str) -> Option<(u32, &str)>
 // Reads a month of bytes.
 #[inline(always)]
 fn month(bytes: &[u8]) -> Option<(u32, &[u8])>
-    ensures { MatchOption result (parts.NamesNoMonth bytes.now) (λ x. parts.IsMonthBytes bytes.now x.0 x.1.now) }
+    ensures { ReadsBytes spec.month (λ n. n) bytes.now result }
 {
     match bytes {
         // Most texts that have no month begin with a digit.

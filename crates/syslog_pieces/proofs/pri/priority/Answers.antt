@@ -1,13 +1,12 @@
-use Rattle.syslog_pieces.proofs.Names.{inl, refl, rules, priority_row, row_of, ◌then◌, ◌past◌}
+use Rattle.syslog_pieces.proofs.Names.{inl, ◌past◌, rules, priority_row, row_of, NoFront, priority, chars}
 use Rattle.syslog_pieces.proofs.PriLemmas.{as_priority, no_priority}
 use Rattle.syslog_pieces.proofs.pri.priority.Goals as goal
 
 pub returns-in_err-rest : goal.returns-in_err-rest
-returns-in_err-rest c = let n = no_priority (inl c.in_err-rest.ensures) in search rules
+returns-in_err-rest c = let n : NoFront priority (chars c.args.text.now) = no_priority (search rules) in search rules
 
 pub returns-in_err-value : goal.returns-in_err-value
-returns-in_err-value c =
-    let n = no_priority (c.in_ok-rest.ensures past inl c.in_err-value.ensures) in search rules
+returns-in_err-value c = let n : NoFront priority (chars c.args.text.now) = no_priority (search rules) in search rules
 
 pub returns-in_err-rest-2 : goal.returns-in_err-rest-2
 returns-in_err-rest-2 c =
@@ -15,6 +14,4 @@ returns-in_err-rest-2 c =
     search rules
 
 pub returns : goal.returns
-returns c =
-    as_priority (row_of priority_row (c.in_ok-rest.ensures then c.in_ok-value.ensures then c.in_ok-rest-2.ensures
-    then refl))
+returns c = as_priority (row_of priority_row (search rules))

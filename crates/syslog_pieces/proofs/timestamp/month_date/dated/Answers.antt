@@ -5,13 +5,13 @@ use Rattle.syslog_pieces.proofs.timestamp.month_date.dated.Goals as goal
 
 pub returns-in_err-year : goal.returns-in_err-year
 returns-in_err-year c whole day none =
-    let n = no_clock day none (rows_none_here year_row clock_row (no_row year_row year_det (inl c.in_err-year.ensures))) in
+    let n = no_clock day none (rows_none_here year_row clock_row (no_row year_row year_det (search rules))) in
     search rules
 
 pub returns-in_err-rest : goal.returns-in_err-rest
 returns-in_err-rest c whole day none =
     let n = no_clock day none (rows_none_here year_row clock_row
-    (no_row year_row year_det (c.in_ok-year.ensures past inl c.in_err-rest.ensures))) in search rules
+    (no_row year_row year_det (search rules))) in search rules
 
 pub returns-in_err-clock : goal.returns-in_err-clock
 returns-in_err-clock c whole day none =
@@ -20,4 +20,4 @@ returns-in_err-clock c whole day none =
 
 pub returns : goal.returns
 returns c whole day none = rw c.date_of.ensures (dated_front day
-    (row_of year_row (c.in_ok-year.ensures then c.in_ok-rest.ensures then refl)) c.in_ok-clock.ensures.1)
+    (row_of year_row (search rules)) c.in_ok-clock.ensures.1)

@@ -1,41 +1,52 @@
-use Rattle.syslog_pieces.proofs.Names.{inl, refl, FitsSigned, w32, rules, to_z-of_z, stamp_row, row_of, no_row, ◌then◌}
-use Rattle.syslog_pieces.proofs.Names.{◌past◌}
-use Rattle.syslog_pieces.proofs.TimestampLemmas.Rfc3339.{no_stamp_text, stamp_text_front, stamp_pieces_det}
+use Rattle.syslog_pieces.proofs.Names.{inl, ◌past◌, refl, FitsSigned, w32, rules, to_z-of_z, stamp_row, row_of, NoFront, stamp_text}
+use Rattle.syslog_pieces.proofs.Names.{◌then◌}
+use Rattle.syslog_pieces.proofs.TimestampLemmas.Rfc3339.{no_stamp_text, stamp_text_front}
 use Rattle.syslog_pieces.proofs.timestamp.rfc3339_text.numbers.Goals as goal
 
 pub returns-in_err-month : goal.returns-in_err-month
-returns-in_err-month c =
-    let n = no_stamp_text (no_row stamp_row stamp_pieces_det (c.in_ok-year.ensures past inl c.in_err-month.ensures)) in search rules
+returns-in_err-month c = let n : NoFront stamp_text c.args.text.now = no_stamp_text (search rules) in search rules
 
 pub returns-in_err-day : goal.returns-in_err-day
 returns-in_err-day c =
-    let n = no_stamp_text (no_row stamp_row stamp_pieces_det (c.in_ok-year.ensures past c.in_ok-month.ensures past inl c.in_err-day.ensures)) in search rules
+    let n = no_stamp_text (c.in_ok-year.ensures past c.in_ok-month.ensures past inl c.in_err-day.ensures)
+    in search rules
 
 pub returns-in_err-rest : goal.returns-in_err-rest
 returns-in_err-rest c =
-    let n = no_stamp_text (no_row stamp_row stamp_pieces_det (c.in_ok-year.ensures past c.in_ok-month.ensures past c.in_ok-day.ensures past inl c.in_err-rest.ensures)) in search rules
+    let n = no_stamp_text (c.in_ok-year.ensures past c.in_ok-month.ensures past c.in_ok-day.ensures
+    past inl c.in_err-rest.ensures) in search rules
 
 pub returns-in_err-hour : goal.returns-in_err-hour
 returns-in_err-hour c =
-    let n = no_stamp_text (no_row stamp_row stamp_pieces_det (c.in_ok-year.ensures past c.in_ok-month.ensures past c.in_ok-day.ensures past c.in_ok-rest.ensures past inl c.in_err-hour.ensures)) in search rules
+    let n = no_stamp_text (c.in_ok-year.ensures past c.in_ok-month.ensures past c.in_ok-day.ensures
+    past c.in_ok-rest.ensures past inl c.in_err-hour.ensures) in search rules
 
 pub returns-in_err-minute : goal.returns-in_err-minute
 returns-in_err-minute c =
-    let n = no_stamp_text (no_row stamp_row stamp_pieces_det (c.in_ok-year.ensures past c.in_ok-month.ensures past c.in_ok-day.ensures past c.in_ok-rest.ensures past c.in_ok-hour.ensures past inl c.in_err-minute.ensures)) in search rules
+    let n = no_stamp_text (c.in_ok-year.ensures past c.in_ok-month.ensures past c.in_ok-day.ensures
+    past c.in_ok-rest.ensures past c.in_ok-hour.ensures past inl c.in_err-minute.ensures) in search rules
 
 pub returns-in_err-second : goal.returns-in_err-second
 returns-in_err-second c =
-    let n = no_stamp_text (no_row stamp_row stamp_pieces_det (c.in_ok-year.ensures past c.in_ok-month.ensures past c.in_ok-day.ensures past c.in_ok-rest.ensures past c.in_ok-hour.ensures past c.in_ok-minute.ensures past inl c.in_err-second.ensures)) in search rules
+    let n = no_stamp_text (c.in_ok-year.ensures past c.in_ok-month.ensures past c.in_ok-day.ensures
+    past c.in_ok-rest.ensures past c.in_ok-hour.ensures past c.in_ok-minute.ensures past inl c.in_err-second.ensures)
+    in search rules
 
 pub returns-in_err-nanosecond : goal.returns-in_err-nanosecond
 returns-in_err-nanosecond c =
-    let n = no_stamp_text (no_row stamp_row stamp_pieces_det (c.in_ok-year.ensures past c.in_ok-month.ensures past c.in_ok-day.ensures past c.in_ok-rest.ensures past c.in_ok-hour.ensures past c.in_ok-minute.ensures past c.in_ok-second.ensures past inl c.in_err-nanosecond.ensures)) in search rules
+    let n = no_stamp_text (c.in_ok-year.ensures past c.in_ok-month.ensures past c.in_ok-day.ensures
+    past c.in_ok-rest.ensures past c.in_ok-hour.ensures past c.in_ok-minute.ensures past c.in_ok-second.ensures
+    past inl c.in_err-nanosecond.ensures) in search rules
 
 pub returns-in_err-offset : goal.returns-in_err-offset
 returns-in_err-offset c =
-    let n = no_stamp_text (no_row stamp_row stamp_pieces_det (c.in_ok-year.ensures past c.in_ok-month.ensures past c.in_ok-day.ensures past c.in_ok-rest.ensures past c.in_ok-hour.ensures past c.in_ok-minute.ensures past c.in_ok-second.ensures past c.in_ok-nanosecond.ensures past inl c.in_err-offset.ensures)) in search rules
+    let n = no_stamp_text (c.in_ok-year.ensures past c.in_ok-month.ensures past c.in_ok-day.ensures
+    past c.in_ok-rest.ensures past c.in_ok-hour.ensures past c.in_ok-minute.ensures past c.in_ok-second.ensures
+    past c.in_ok-nanosecond.ensures past inl c.in_err-offset.ensures) in search rules
 
 pub returns : goal.returns
 returns c =
     let fits : FitsSigned w32 c.in_ok-offset.offset = search rules in
-    rw to_z-of_z (stamp_text_front (row_of stamp_row (c.in_ok-year.ensures then c.in_ok-month.ensures then c.in_ok-day.ensures then c.in_ok-rest.ensures then c.in_ok-hour.ensures then c.in_ok-minute.ensures then c.in_ok-second.ensures then c.in_ok-nanosecond.ensures then c.in_ok-offset.ensures then refl)))
+    rw to_z-of_z (stamp_text_front (row_of stamp_row (c.in_ok-year.ensures then c.in_ok-month.ensures
+    then c.in_ok-day.ensures then c.in_ok-rest.ensures then c.in_ok-hour.ensures then c.in_ok-minute.ensures
+    then c.in_ok-second.ensures then c.in_ok-nanosecond.ensures then c.in_ok-offset.ensures then refl)))
