@@ -1,6 +1,6 @@
 -- What a pass of `settle` writes, and the rank of a message, which falls with each pass. (All of it is this project's
 -- own.)
-use Rattle.std.specs.Prelude.{◌≡◌, ◌↔◌, ◌++◌}
+use Rattle.std.specs.Prelude.{◌≡◌, ◌++◌}
 use Rattle.syslog_loose.specs.Words.{⊤, ℕ, zero, suc, List, [], Bool, MatchBool, Option, Some, None, IfSome, Result, Ok}
 use Rattle.syslog_loose.specs.Words.{Err, MatchResult, chars, AllocError, Text, colon, EndsInColon, IsCanonicalStamp}
 use Rattle.syslog_loose.specs.Words.{ShowsMonthDate, Dating, MonthDate}
@@ -9,8 +9,8 @@ use Rattle.syslog_loose.specs.Bodies.Jumps.{IsDashed}
 use Rattle.syslog_loose.specs.Line.{line_value}
 use Rattle.syslog_loose.specs.Message.{MessageValue}
 use Rattle.syslog_loose.specs.Printed.{printed}
-use Rattle.syslog_loose.specs.Reading.{dash_rule, IsRead, IsUnreadable}
-use Rattle.syslog_loose.specs.Settling.{IsNext, IsSettled, Reaches}
+use Rattle.syslog_loose.specs.Reading.{dash_rule, IsRead}
+use Rattle.syslog_loose.specs.Settling.{IsNext, IsSettled, IsSettlingFault, Reaches, SettlesAs}
 use Rattle.syslog_loose.specs.declared.fault.ParseFault.{ParseFault}
 use Rattle.syslog_loose.specs.declared.fault.ParseFault.TheVariants.{Invalid, Memory}
 use Rattle.syslog_loose.specs.declared.line.Line.{Line}
@@ -52,7 +52,7 @@ pub record Prints (m later : MessageValue) : Type 0 where
 -- this is a later round of the input, which was read as the message, and none before it is settled
 pub record IsLater (variant : Variant) (dating : Dating) (input : Text) (m : MessageValue) (later : Text) : Type 0 where
   pub before : ℕ
-  pub reaches : Reaches variant dating input before later
+  pub reaches : Reaches variant dating input (suc before) later
   pub text : Text
   pub message : MessageValue
   pub read : IsRead variant dating text message
@@ -67,11 +67,11 @@ abbrev pub IsAtRest : Protocol → MessageValue → Type 0
 IsAtRest RFC3164 m = HasNoException dash_rule m
 IsAtRest (RFC5424 version) m = ⊤
 
--- the text is not settled, none of its rounds before this one is, and what is read of this one has a lower rank
+-- this is a later round of a text that is not settled, none before it is, and what is read of it has a lower rank
 pub record IsUnsettled (variant : Variant) (dating : Dating) (text later : Text) : Type 0 where
   pub never : IsSettled variant dating text → ⊥
   pub before : ℕ
-  pub reaches : Reaches variant dating text before later
+  pub reaches : Reaches variant dating text (suc before) later
   pub message : MessageValue
   pub read : IsRead variant dating text message
   pub odd : HasRank 0 message → ⊥
@@ -81,12 +81,6 @@ pub record IsUnsettled (variant : Variant) (dating : Dating) (text later : Text)
 abbrev pub IsToldRound : Variant → Dating → Text → Text → Bool → Type 0
 IsToldRound variant dating text later settled = MatchBool settled
     (IsNext variant dating text later × IsSettled variant dating later) (IsUnsettled variant dating text later)
-
--- a round as the flag says, or a fault that says whether the text is unreadable
-abbrev pub AnswersRound : Variant → Dating → Text → List ℕ → Result Bool ParseFault → Type 0
-AnswersRound variant dating text bytes result = MatchResult result
-    (λ settled. IsToldRound variant dating text (chars bytes) settled)
-    (λ fault. (fault ≡ Invalid) ↔ IsUnreadable variant dating text)
 
 -- What is written of a line: a round as the flag says, of each text that is read as the line.
 abbrev pub WritesRound : Line → Result Bool AllocError → List ℕ → Type 0
@@ -105,8 +99,16 @@ round_answer (Some (Err _)) = Err Memory
 abbrev pub ShowsNoDate : Text → Type 0
 ShowsNoDate text = (date : MonthDate) → ShowsMonthDate text date → ⊥
 
--- this is a round of the text, before which none is settled, and what is read of it has this rank
+-- this is a round of the text from round 1 on, before which none is settled, and what is read of it has this rank
 pub record ReachesRank (variant : Variant) (dating : Dating) (text : Text) (rank : ℕ) (u : Text) : Type 0 where
   pub before : ℕ
-  pub reaches : Reaches variant dating text before u
+  pub reaches : Reaches variant dating text (suc before) u
   pub ranked : (m : MessageValue) → IsRead variant dating u m → HasRank rank m
+
+-- What a pass answers at a round of the text that has this rank: the first settled round where the flag is true, a later
+-- one of a lower rank where it is false, or a fault.
+abbrev pub AnswersPass : Variant → Dating → Text → ℕ → List ℕ → Result Bool ParseFault → Type 0
+AnswersPass variant dating text rank bytes result = MatchResult result
+    (λ settled. MatchBool settled (SettlesAs variant dating text (chars bytes))
+    ((lower : ℕ) × (rank ≡ suc lower) × ReachesRank variant dating text lower (chars bytes)))
+    (λ fault. IsSettlingFault variant dating text fault)

@@ -39,10 +39,10 @@ abbrev pub NoneSettled : Variant → Dating → Text → ℕ → Type 0
 NoneSettled variant dating text n = (k : ℕ) (u : Text) → k < n → IsRound variant dating text (suc k) u
     → IsNext variant dating u u → ⊥
 
--- this is round n + 1 of the text, and none of the rounds 1 to n is settled
+-- this is round n of the text, and of the rounds 1 to n - 1 none is settled
 pub record Reaches (variant : Variant) (dating : Dating) (text : Text) (n : ℕ) (u : Text) : Type 0 where
-  pub round : IsRound variant dating text (suc n) u
-  pub none : NoneSettled variant dating text n
+  pub round : IsRound variant dating text n u
+  pub none : (k : ℕ) (x : Text) → suc k < n → IsRound variant dating text (suc k) x → IsNext variant dating x x → ⊥
 
 -- this is the first settled round of the text, from round 1 on
 pub record IsFirstSettled (variant : Variant) (dating : Dating) (text u : Text) : Type 0 where

@@ -5,11 +5,11 @@
 //! alone.
 ghost use Rattle.std.specs.Prelude.{◌≡◌, ◌↔◌};
 ghost use Rattle.syslog_loose.specs.Words.{MatchBool, MatchResult, None, string_bytes, chars, encode_utf8_all};
-ghost use Rattle.syslog_loose.specs.Words.{dating_of};
+ghost use Rattle.syslog_loose.specs.Words.{dating_of, Text, ℕ};
 ghost use Rattle.syslog_pieces.specs.Timestamp.Zone.{Dating as AnyDating};
 ghost use Rattle.syslog_loose.specs.Clauses.{KnowsForm, line_value, MessageValue, printed, AnswersAgain};
-ghost use Rattle.syslog_loose.specs.Clauses.{AnswersEachMonth, InYear, IsOnlyRead, IsUnreadable, AnswersRound};
-ghost use Rattle.syslog_loose.specs.Clauses.{IsAtRest, ShowsNoDate, WritesRound, round_answer, Invalid};
+ghost use Rattle.syslog_loose.specs.Clauses.{AnswersEachMonth, InYear, IsOnlyRead, IsUnreadable, AnswersPass};
+ghost use Rattle.syslog_loose.specs.Clauses.{IsAtRest, ReachesRank, WritesRound, round_answer, Invalid};
 
 use crate::fault::ParseFault;
 use crate::jumps::write_round;
@@ -61,22 +61,23 @@ pub(crate) fn next_round<F: FnOnce(IncompleteDate) -> i32>(
     local: &TimeZone<'_>,
 ) -> Result<bool, ParseFault>
     requires { AnswersEachMonth (F.pre get_year) }
-    ensures { InYear (F.post get_year) variant (chars input.entry.now) (λ year. AnswersRound variant
-        (dating_of year tz.entry local.entry) (chars input.entry.now) (string_bytes text.new) result) }
+    ensures { InYear (F.post get_year) variant (chars input.entry.now) (λ year. AnswersPass variant
+        (dating_of year tz.entry local.entry) (chars input.entry.now) 5 (string_bytes text.new) result) }
 {
     let made = visit_line(input, get_year, tz, variant, local, &mut NoElements, text);
     answer(made)
 }
 
-/// Writes the next round of a printed text, or a later one, as `next_round` does. It shows no month date.
+/// Writes the next round of a round, or a later one, as `next_round` does. It shows no month date.
 #[inline(always)]
 pub(crate) fn later_round(
     text: &mut String,
     input: &str,
     variant: Variant,
 ) -> Result<bool, ParseFault>
-    ensures { ShowsNoDate (chars input.entry.now) → (dating : AnyDating)
-        → AnswersRound variant dating (chars input.entry.now) (string_bytes text.new) result }
+    ensures { (dating : AnyDating) (first : Text) (rank : ℕ)
+        → ReachesRank variant dating first rank (chars input.entry.now)
+        → AnswersPass variant dating first rank (string_bytes text.new) result }
 {
     let (priority, rest) = optional_priority(trimmed(input));
     let made = visit_undated(priority, rest, variant, &mut NoElements, text);

@@ -77,14 +77,12 @@ fn settle_on(alloc: Global, text: &mut String, variant: Variant) -> Result<(), P
         → Settles variant dating input (answer_in result text.new) }
 {
     let mut last = String::new(alloc);
-    for done in 0..4_usize {
+    for done in 0..5_usize {
         swap(&mut last, text);
         let settled = later_round(text, last.as_str(), variant)?;
         if settled {
             return Ok(());
         }
     }
-    swap(&mut last, text);
-    let _settled = later_round(text, last.as_str(), variant)?;
     Ok(())
 }

@@ -143,7 +143,7 @@ module _ (variant : Variant) (dating : Dating) (input : Text) (m : MessageValue)
     (r : IsRead variant dating input m) (e : m.protocol ≡ RFC3164) where
   -- the text before it is read as the message, which is printed n rounds after round 1
   abbrev Known : ℕ → MessageValue → Type 0
-  Known n y = (text : Text) × IsRead variant dating text y × Reaches variant dating input n (printed y)
+  Known n y = (text : Text) × IsRead variant dating text y × Reaches variant dating input (suc n) (printed y)
 
   known : Known 0 m
   known = (
@@ -159,13 +159,13 @@ module _ (variant : Variant) (dating : Dating) (input : Text) (m : MessageValue)
       let never = odd_unsettled variant dating (printed y) z read p odd in
       let next : IsNext variant dating (printed y) (printed z) =
       record { message = z; read = read; is_printed = refl } in
-      (printed y, read, reached_next variant dating input n (printed y) (printed z) reaches never next)
+      (printed y, read, reached_next variant dating input (suc n) (printed y) (printed z) reaches (λ l. never) next)
 
   known_later : (n : ℕ) (y : MessageValue) (later : Text) → Known n y → y.protocol ≡ RFC3164 → later ≡ printed y
       → Prints m y → IsLater variant dating input m later
   known_later n y later (text, read, reaches) p is prints = record {
     before = n;
-    reaches = subst (λ (u : Text). Reaches variant dating input n u) (sym is) reaches;
+    reaches = subst (λ (u : Text). Reaches variant dating input (suc n) u) (sym is) reaches;
     text = text;
     message = y;
     read = read;

@@ -24,7 +24,7 @@ use Rattle.syslog_loose.proofs.Rfc3164Lemmas.{printed_apart, rfc3164_bounded, sh
 use Rattle.syslog_loose.proofs.Rfc3164Lemmas.ReadBack.{stamp_low}
 use Rattle.syslog_loose.proofs.Rfc3164Lemmas.Near.{read_near}
 use Rattle.syslog_loose.specs.Settling.{SettlesAs, IsSettlingFault, Settles}
-use Rattle.syslog_loose.specs.Passes.{IsAtRest, AnswersRound, ShowsNoDate, WritesRound, round_answer}
+use Rattle.syslog_loose.specs.Passes.{IsAtRest, AnswersPass, WritesRound, round_answer}
 use Rattle.syslog_loose.proofs.ReadBackLemmas.{read_as, read_bounded, printed_exact, fixed_again}
 use Rattle.syslog_loose.proofs.CanonicalLemmas.{canonical_near}
 use Rattle.syslog_loose.proofs.SettlingLemmas.Falls.{falls, same_text, rank_falls}
@@ -48,7 +48,7 @@ module _ (variant : Variant) (dating : Dating) where
   one_round t (suc n) u x (y, r, h) (z, s, k) = one_next z u x (rw (one_round t n y z r s) at h) k
 
   -- after a round that is not read there is none
-  pub none_behind : (t : Text) (j : ℕ) (u : Text) → IsRound variant dating t j u → IsUnreadable variant dating u
+  none_behind : (t : Text) (j : ℕ) (u : Text) → IsRound variant dating t j u → IsUnreadable variant dating u
       → (n : ℕ) (x : Text) → j < n → IsRound variant dating t n x → ⊥
   none_behind t j u r never zero x l s = omega arith
   none_behind t j u r never (suc n) x l (before, s, h) = elim (last_or_before j n l) [
@@ -57,7 +57,7 @@ module _ (variant : Variant) (dating : Dating) where
   ]
 
   -- a text whose next round is another one is not settled
-  pub moves_on : (u x : Text) → IsNext variant dating u x → (u ≡ x → ⊥) → IsSettled variant dating u → ⊥
+  moves_on : (u x : Text) → IsNext variant dating u x → (u ≡ x → ⊥) → IsSettled variant dating u → ⊥
   moves_on u x n k s = k (one_next u u x s n)
 
   pub one_first_settled : (t u x : Text) → IsFirstSettled variant dating t u → IsFirstSettled variant dating t x → u ≡ x
@@ -71,37 +71,38 @@ module _ (variant : Variant) (dating : Dating) where
   ]
 
   -- ---- what is known after so many rounds that are not settled
-  pub reached_first : (t u : Text) → IsNext variant dating t u → Reaches variant dating t 0 u
-  reached_first t u h = record { round = (t, refl, h); none = λ k x l. absurd (omega arith) }
-
-  pub reached_next : (t : Text) (n : ℕ) (u x : Text) → Reaches variant dating t n u → (IsSettled variant dating u → ⊥)
-      → IsNext variant dating u x → Reaches variant dating t (suc n) x
+  pub reached_next : (t : Text) (n : ℕ) (u x : Text) → Reaches variant dating t n u
+      → (0 < n → IsSettled variant dating u → ⊥) → IsNext variant dating u x → Reaches variant dating t (suc n) x
   reached_next t n u x r never h = record {
     round = (u, r.round, h);
-    none = λ k y l round settled. elim (last_or_before k n l) [
-      | inl e ↦ never (rw (one_round t (suc n) y u (rw e at round) r.round) at settled)
+    none = λ k y l round settled. elim (last_or_before (suc k) n l) [
+      | inl e ↦ never (omega arith) (rw (one_round t n y u (subst (λ (i : ℕ). IsRound variant dating t i y) e round)
+          r.round) at settled)
       | inr a ↦ r.none k y a round settled
     ];
   }
 
+  pub reached_first : (t u : Text) → IsNext variant dating t u → Reaches variant dating t 1 u
+  reached_first t u h =
+      reached_next t 0 t u (record { round = refl; none = λ k x l. absurd (omega arith) }) (λ l. absurd (omega arith)) h
+
   -- what is reached from a round that is not settled
-  pub reached_further : (t : Text) (n : ℕ) (u : Text) (k : ℕ) (x : Text) → Reaches variant dating t n u
-      → (IsSettled variant dating u → ⊥) → Reaches variant dating u k x
-      → (j : ℕ) × (n < j) × Reaches variant dating t j x
+  reached_further : (t : Text) (n : ℕ) (u : Text) (k : ℕ) (x : Text) → Reaches variant dating t n u
+      → (IsSettled variant dating u → ⊥) → Reaches variant dating u (suc k) x
+      → (j : ℕ) × Reaches variant dating t (suc j) x
   reached_further t n u zero x r never s =
-      let (b, e, h) = s.round in
-      (suc n, omega arith, reached_next t n u x r never (rw e at h))
+      let (b, e, h) = s.round in (n, reached_next t n u x r (λ l. never) (rw e at h))
   reached_further t n u (suc k) x r never s =
       let (b, round, h) = s.round in
-      let (j, l, more) = reached_further t n u k b r never
+      let (j, more) = reached_further t n u k b r never
       (record { round = round; none = λ i y a. s.none i y (omega arith) }) in
-      (suc j, omega arith, reached_next t j b x more (s.none k b (omega arith) round) h)
+      (suc j, reached_next t (suc j) b x more (λ l. s.none k b (omega arith) round) h)
 
   -- where it is read as no message, none is settled
-  pub reached_last : (t : Text) (n : ℕ) (u y : Text) → Reaches variant dating t n u → IsUnreadable variant dating u
+  reached_last : (t : Text) (n : ℕ) (u y : Text) → Reaches variant dating t n u → IsUnreadable variant dating u
       → IsFirstSettled variant dating t y → ⊥
-  reached_last t n u y r never s = elim (leb_tells n s.before) [
-    | inl a ↦ none_behind t (suc n) u r.round never (suc (suc s.before)) y (omega (arith, a.1)) (y, s.round, s.settled)
+  reached_last t n u y r never s = elim (leb_tells n (suc s.before)) [
+    | inl a ↦ none_behind t n u r.round never (suc (suc s.before)) y (omega (arith, a.1)) (y, s.round, s.settled)
     | inr a ↦ r.none s.before y a.1 s.round s.settled
   ]
 
@@ -292,55 +293,55 @@ module _ (variant : Variant) (dating : Dating) where
       ]
 
   -- So many rounds can't be unsettled.
-  ends : (t : Text) (n : ℕ) (u : Text) → length t < n → Reaches variant dating t n u → ⊥
+  ends : (t : Text) (n : ℕ) (u : Text) → length t < n → Reaches variant dating t (suc n) u → ⊥
   ends t zero u l r = omega arith
   ends t (suc n) u l r =
       let (before, (earlier, round, h), k) = r.round in
-      let first = unsettled_rfc3164 earlier before h (λ s. r.none n before (omega arith) (earlier, round, h) s) in
+      let none : NoneSettled variant dating t (suc n) = λ i x a. r.none i x (omega arith) in
+      let first = unsettled_rfc3164 earlier before h (none n before (omega arith) (earlier, round, h)) in
       let e = (read_near dash_rule dating earlier h.message first).protocol in
       let rfc3164 = rw (← h.is_printed) at
       (stays_rfc3164 variant dating h.message k.message e (rw h.is_printed at k.read)) in
       let (w, x) = weight dash_rule k.message in
-      omega (arith, weighs_less t (suc n) before k.message w (earlier, round, h) r.none k.read rfc3164 x)
+      omega (arith, weighs_less t (suc n) before k.message w (earlier, round, h) none k.read rfc3164 x)
 
   pub rests : (t u : Text) → NoneSettled variant dating t (length t + 1) → IsRound variant dating t (length t + 2) u → ⊥
   rests t u none round =
       let e : length t + 2 ≡ suc (length t + 1) = omega arith in
-      ends t (length t + 1) u (omega arith) (record { round = rw e at round; none = none })
+      ends t (length t + 1) u (omega arith) (record { round = rw e at round; none = λ k x l. none k x (omega arith) })
 
   -- ---- what is answered
 
-  -- so a first settled round is one of the rounds 1 to n + 1
-  pub settles_as : (t u : Text) → IsFirstSettled variant dating t u → SettlesAs variant dating t u
-  settles_as t u s = elim (leb_tells s.before (length t)) [
-    | inl l ↦ record { first = s; soon = l.1 }
-    | inr l ↦ absurd (ends t s.before u l.1 (record { round = s.round; none = s.none_before }))
-  ]
-
-  -- and where there is none, one of the rounds 1 to n + 2 is missing
-  pub settles_not : (t : Text) → ((u : Text) → IsFirstSettled variant dating t u → ⊥)
+  -- where there is no first settled round, one of the rounds 1 to n + 2 is missing
+  settles_not : (t : Text) → ((u : Text) → IsFirstSettled variant dating t u → ⊥)
       → IsSettlingFault variant dating t Invalid
   settles_not t never = (λ u round. rests t u (none_settled variant dating t never (length t + 1)) round, never)
 
-  -- where round 1 was refused
-  pub first_fault : (t : Text) (fault : ParseFault) → (fault ≡ Invalid) ↔ IsUnreadable variant dating t
-      → IsSettlingFault variant dating t fault
-  first_fault t Invalid h = settles_not t
-      (λ x s. none_behind variant dating t 0 t refl (h.0 refl) (suc s.before) x (omega arith) s.round)
-  first_fault t Memory h = λ never. invalid_or_memory (h.1 never)
-
-  -- and where a later one was
-  pub round_fault : (t : Text) (n : ℕ) (u : Text) (fault : ParseFault) → ReachesRank variant dating t n u
-      → (fault ≡ Invalid) ↔ IsUnreadable variant dating u → IsSettlingFault variant dating t fault
-  round_fault t n u Invalid r h =
-      settles_not t (λ y s. reached_last variant dating t r.before u y r.reaches (h.0 refl) s)
-  round_fault t n u Memory r h =
-      λ never. none_behind variant dating t 0 t refl never (suc r.before) u (omega arith) r.reaches.round
-
-  -- where a round is stable after n that are not, it is the result
-  settled_here : (t : Text) (n : ℕ) (u : Text) → Reaches variant dating t n u → IsSettled variant dating u
+  -- a round that is settled after n that are not is the result
+  settles_as : (t : Text) (n : ℕ) (u : Text) → Reaches variant dating t (suc n) u → IsSettled variant dating u
       → SettlesAs variant dating t u
-  settled_here t n u r s = settles_as t u (record { before = n; round = r.round; settled = s; none_before = r.none })
+  settles_as t n u r s = record {
+    first = record { before = n; round = r.round; settled = s; none_before = λ k y l. r.none k y (omega arith) };
+    soon = elim (leb_tells n (length t)) [ inl l ↦ l.1 | inr l ↦ absurd (ends t n u l.1 r) ];
+  }
+
+  -- so is the round before it, where it is the same text
+  settles_after : (t : Text) (n : ℕ) (u x : Text) → Reaches variant dating t n u → IsNext variant dating u x
+      → IsSettled variant dating x → SettlesAs variant dating t x
+  settles_after t zero u x r next s =
+      settles_as t 0 x (reached_next variant dating t 0 u x r (λ l. absurd (omega arith)) next) s
+  settles_after t (suc n) u x r next s = elim (same_text u x) [
+    | inl same ↦ settles_as t n x (rw same at r) s
+    | inr other ↦ settles_as t (suc n) x
+        (reached_next variant dating t (suc n) u x r (λ l. moves_on variant dating u x next other) next) s
+  ]
+
+  -- a round that is not read
+  refused : (t : Text) (n : ℕ) (u : Text) (fault : ParseFault) → Reaches variant dating t n u
+      → (fault ≡ Invalid) ↔ IsUnreadable variant dating u → IsSettlingFault variant dating t fault
+  refused t n u Invalid r h = settles_not t (λ y s. reached_last variant dating t n u y r (h.0 refl) s)
+  refused t n u Memory r h = λ never. invalid_or_memory (h.1 (λ m s. none_behind variant dating t 0 t refl never (suc n)
+      (printed m) (omega arith) (u, r.round, record { message = m; read = s; is_printed = refl })))
 
   -- ---- what is known of a round
   module _ (text : Text) (m : MessageValue) (r : IsRead variant dating text m) where
@@ -375,75 +376,46 @@ module _ (variant : Variant) (dating : Dating) where
       lower = later_falls later l;
     }
 
-  -- ---- what the loop does
-  -- the round after one that is not stable
-  pub round_more : (t : Text) (n : ℕ) (u x : Text) (settled : Bool) → ReachesRank variant dating t (suc n) u
-      → settled ≡ false → IsToldRound variant dating u x settled → ReachesRank variant dating t n x
-  round_more t n u x settled r e h =
-      let told = rw e at h in
-      let (j, l, more) = reached_further variant dating t r.before u told.before x r.reaches told.never told.reaches in
-      record { before = j; reaches = more; ranked = λ m s. told.lower n m s (r.ranked told.message told.read) }
+  -- ---- what a pass answers
 
-  -- and the result where it is stable: that, or the one before, which is the same text
-  pub round_settled : (t : Text) (n : ℕ) (u x : Text) (settled : Bool) → ReachesRank variant dating t n u
-      → settled ≡ true → IsToldRound variant dating u x settled → SettlesAs variant dating t x
-  round_settled t n u x settled r e h =
-      let (next, s) = rw e at h in
-      elim (same_text u x) [
-        | inl same ↦ settled_here t r.before x (rw same at r.reaches) s
-        | inr other ↦ settled_here t (suc r.before) x
-            (reached_next variant dating t r.before u x r.reaches (moves_on variant dating u x next other) next) s
-      ]
+  -- at a round of this rank, by way of the line of its text
+  pub made_answer : {E : Type 0} (given : E → E → List ElementValue → Type 0) (before after : E) (t : Text) (n rank : ℕ)
+      (u : Text) (old new : String Global) (made : Option (Result Bool AllocError)) → Reaches variant dating t n u
+      → ((m : MessageValue) → IsRead variant dating u m → HasRank rank m) → Made (λ (_ : String Global) line written
+      last. WritesRound line written (string_bytes last)) given variant dating u old before made new after
+      → AnswersPass variant dating t rank (string_bytes new) (round_answer made)
+  made_answer given before after t n rank u old new None r ranked (none, _, _) =
+      refused t n u Invalid r ((λ e. none), (λ i. refl))
+  made_answer given before after t n rank u old new (Some (Err _)) r ranked (line, of, writes, _) = refused t n u Memory
+      r ((λ e. absurd (invalid_or_memory e)), (λ i. absurd (i (line_value line) of.only.read)))
+  made_answer given before after t n rank u old new (Some (Ok true)) r ranked (line, of, writes, _) =
+      let (next, s) = writes variant dating u of.only.read in settles_after t n u _ r next s
+  made_answer given before after t n zero u old new (Some (Ok false)) r ranked (line, of, writes, _) =
+      let told = writes variant dating u of.only.read in absurd (told.odd (ranked told.message told.read))
+  made_answer given before after t n (suc k) u old new (Some (Ok false)) r ranked (line, of, writes, _) =
+      let told = writes variant dating u of.only.read in
+      let (j, more) = reached_further variant dating t n u told.before _ r told.never told.reaches in
+      (k, refl, record { before = j; reaches = more; ranked = λ m s. told.lower k m s (ranked told.message told.read) })
 
-  -- round 1, where it is settled
-  pub first_answer : (t x : Text) (settled : Bool) → settled ≡ true → IsToldRound variant dating t x settled
-      → SettlesAs variant dating t x
-  first_answer t x settled e h =
-      let (next, s) = rw e at h in settled_here t 0 x (reached_first variant dating t x next) s
-
-  -- of the lowest rank it is settled
-  pub last_answer : (t u x : Text) (settled : Bool) → ReachesRank variant dating t 0 u
-      → IsToldRound variant dating u x settled → SettlesAs variant dating t x
-  last_answer t u x true r h = round_settled t 0 u x true r refl h
-  last_answer t u x false r h = absurd (h.odd (r.ranked h.message h.read))
-
--- ---- a round, by way of the line
-
-module _ (variant : Variant) (dating : Dating) where
-  -- what was written of the line of a text is known to be a round of the text
-  pub made_told : {E : Type 0} (given : E → E → List ElementValue → Type 0) (before after : E) (text : Text)
+  -- at the text itself
+  pub made_first : {E : Type 0} (given : E → E → List ElementValue → Type 0) (before after : E) (t : Text)
       (old new : String Global) (made : Option (Result Bool AllocError)) → Made (λ (_ : String Global) line written
-      last. WritesRound line written (string_bytes last)) given variant dating text old before made new after
-      → AnswersRound variant dating text (string_bytes new) (round_answer made)
-  made_told given before after text old new None (none, _, _) = ((λ e. none), (λ u. refl))
-  made_told given before after text old new (Some (Ok settled)) (line, of, writes, _) =
-      writes variant dating text of.only.read
-  made_told given before after text old new (Some (Err _)) (line, of, writes, _) =
-      ((λ e. absurd (invalid_or_memory e)), (λ u. absurd (u (line_value line) of.only.read)))
+      last. WritesRound line written (string_bytes last)) given variant dating t old before made new after
+      → AnswersPass variant dating t 5 (string_bytes new) (round_answer made)
+  made_first given before after t old new made h = made_answer given before after t 0 5 t old new made
+      (record { round = refl; none = λ k x l. absurd (omega arith) }) (λ m s. tt) h
 
-  -- a round that is not settled is one from which to go on
-  pub told_reaches : (text later : Text) (settled : Bool) → settled ≡ false
-      → IsToldRound variant dating text later settled → ReachesRank variant dating text 4 later
-  told_reaches text later true e told = cc
-  told_reaches text later false e told =
-      record { before = told.before; reaches = told.reaches; ranked = λ m s. told.lower 4 m s tt }
-
-  -- what is printed of a text shows no month date
-  pub reached_shows_none : (text : Text) (n : ℕ) (u : Text) → ReachesRank variant dating text n u → ShowsNoDate u
-  reached_shows_none text n u r date shown =
-      let (before, round, h) = r.reaches.round in
-      read_shows_none variant dating before h.message h.read date
-      (subst (λ (x : Text). ShowsMonthDate x date) h.is_printed shown)
+  -- what is printed of a text shows no month date, so that none is after its priority
+  pub without_date : (t : Text) (n : ℕ) (u : Text) {follows : Text} {p : Option ℕ} → Reaches variant dating t (suc n) u
+      → IsBehindPriority (trimmed u) p follows → BeginsWithout month_date variant follows
+  without_date t n u r f reads start gap = λ p q date whole is.
+      let (before, round, h) = r.round in
+      read_shows_none variant dating before h.message h.read date (subst (λ (x : Text). ShowsMonthDate x date)
+      h.is_printed (shows month_date f gap (record { piece = p; whole = whole; is = is })))
 
   -- the message of a settled text is canonical
   pub answer_canonical : (text : Text) (result : Result (String Global) ParseFault)
       → Settles variant dating text result → IfOk result
       (λ u. (m : MessageValue) → IsRead variant dating (chars (string_bytes u)) m → IsCanonical dash_rule m)
-  answer_canonical text (Ok u) s = λ m r. settled_canonical variant dating (chars (string_bytes u)) m s.first.settled r
+  answer_canonical text (Ok u) s = λ m r. settled_canonical (chars (string_bytes u)) m s.first.settled r
   answer_canonical text (Err fault) s = tt
-
--- a text that shows no month date has none after its priority
-pub without_date : (variant : Variant) (text : Text) {follows : Text} {p : Option ℕ} → ShowsNoDate text
-    → IsBehindPriority (trimmed text) p follows → BeginsWithout month_date variant follows
-without_date variant text never f reads start gap =
-    λ p q date whole is. never date (shows month_date f gap (record { piece = p; whole = whole; is = is }))

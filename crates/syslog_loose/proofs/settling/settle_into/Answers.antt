@@ -1,13 +1,12 @@
-use Rattle.syslog_loose.proofs.Names.{Ok, err_from_is_err_and, chars, dating_of, answer_in}
+use Rattle.syslog_loose.proofs.Names.{◌≡◌, arith, Ok, err_from_is_err_and, chars, dating_of, answer_in}
 use Rattle.syslog_loose.proofs.ReadingLemmas.{in_year_map}
-use Rattle.syslog_loose.proofs.SettlingLemmas.Settles.{answer_canonical, told_reaches, first_answer, first_fault}
+use Rattle.syslog_loose.proofs.SettlingLemmas.Settles.{answer_canonical}
 use Rattle.syslog_loose.proofs.settling.settle_into.Goals as goal
 
 pub returns-in_err-settled-clause-settles : goal.returns-in_err-settled-clause-settles
 returns-in_err-settled-clause-settles g c =
     let (_, e, same) = err_from_is_err_and c.from_residual.result c.from_residual.ensures.1 in
-    rw (e, same) (in_year_map (λ year h. first_fault c.args.variant (dating_of year c.args.tz c.args.local) _ _ h)
-    c.in_err-settled.ensures)
+    rw (e, same) c.in_err-settled.ensures
 
 pub returns-in_err-settled-clause-canonical : goal.returns-in_err-settled-clause-canonical
 returns-in_err-settled-clause-canonical g c =
@@ -15,9 +14,7 @@ returns-in_err-settled-clause-canonical g c =
     (chars c.args.input.now) _ h) (returns-in_err-settled-clause-settles g c)
 
 pub returns-then-settled-clause-settles : goal.returns-then-settled-clause-settles
-returns-then-settled-clause-settles g c =
-    in_year_map (λ year h. first_answer c.args.variant (dating_of year c.args.tz c.args.local) _ _
-    c.in_ok-settled.settled c.if-settled.true h) c.in_ok-settled.ensures
+returns-then-settled-clause-settles g c = rw c.if-settled.true at c.in_ok-settled.ensures
 
 pub returns-then-settled-clause-canonical : goal.returns-then-settled-clause-canonical
 returns-then-settled-clause-canonical g c =
@@ -26,9 +23,9 @@ returns-then-settled-clause-canonical g c =
 
 pub returns-clause-settles : goal.returns-clause-settles
 returns-clause-settles g c =
-    in_year_map (λ year h. let dating = dating_of year c.args.tz c.args.local in
-    c.settle_on.ensures dating (chars c.args.input.now) (told_reaches c.args.variant dating _ _ c.in_ok-settled.settled c.if-settled.false h))
-    c.in_ok-settled.ensures
+    in_year_map (λ year told. let h = rw c.if-settled.false at told in
+    let (lower, e, more) = h in
+    c.settle_on.ensures _ (chars c.args.input.now) (let same : lower ≡ 4 = omega (arith, e) in rw same at more)) c.in_ok-settled.ensures
 
 pub returns-clause-canonical : goal.returns-clause-canonical
 returns-clause-canonical g c =
