@@ -10,6 +10,7 @@ use Rattle.syslog_loose.specs.Line.{line_value}
 use Rattle.syslog_loose.specs.Message.{MessageValue}
 use Rattle.syslog_loose.specs.Printed.{printed}
 use Rattle.syslog_loose.specs.Reading.{dash_rule, IsRead}
+use Rattle.syslog_loose.specs.Rfc3164.{IsRead3164}
 use Rattle.syslog_loose.specs.Settling.{IsNext, IsSettled, IsSettlingFault, Reaches, SettlesAs}
 use Rattle.syslog_loose.specs.declared.fault.ParseFault.{ParseFault}
 use Rattle.syslog_loose.specs.declared.fault.ParseFault.TheVariants.{Invalid, Memory}
@@ -55,8 +56,7 @@ pub record IsLater (variant : Variant) (dating : Dating) (input : Text) (m : Mes
   pub reaches : Reaches variant dating input (suc before) later
   pub text : Text
   pub message : MessageValue
-  pub read : IsRead variant dating text message
-  pub is_rfc3164 : message.protocol ≡ RFC3164
+  pub read : IsRead3164 dash_rule dating text message
   pub is_printed : later ≡ printed message
   pub passes : Prints m message
 

@@ -3,7 +3,8 @@
 //! A host of RFC 3164 that ends in colons is read with one fewer each time, and the colon is in the message part after
 //! it; of a message part of dashes each reading takes one for an empty list. Each of these rounds is known from the one
 //! before it, so the last of them is written at once.
-ghost use Rattle.std.specs.Prelude.{◌≡◌, ◌+◌, ◌*◌, ◌++◌, ◌<◌, ◌≤◌, ◌∷◌, ◌-◌};
+ghost use Rattle.std.specs.Prelude.{◌≡◌, ◌+◌, ◌++◌, ◌<◌, ◌≤◌, ◌∷◌, ◌-◌};
+ghost use Rattle.std.specs.List.{repeat};
 ghost use Rattle.syslog_loose.specs.Words.{ℕ, [], IfSome, MatchOption, None, OnOk, Some, length, string_bytes, chars};
 ghost use Rattle.syslog_loose.specs.Words.{encode_utf8_all, Text, shown, list_elements, EndsInColon, IsCanonicalStamp};
 ghost use Rattle.syslog_loose.specs.Words.{Dating};
@@ -150,11 +151,11 @@ fn push_colons(text: &mut String, count: usize) -> Result<(), AllocError>
     push_runs(text, " :", count % 16)
 }
 
-// Appends so many times this text, of spaces and colons.
+// Appends so many times this text.
 #[inline(always)]
+#[tactic(auto, using(crate::proofs::SettlingLemmas::Jumps::pushed))]
 fn push_runs(text: &mut String, run: &str, count: usize) -> Result<(), AllocError>
-    ensures { (each : ℕ) → run.now ≡ colons_before each []
-        → OnOk result (string_bytes text.new ≡ string_bytes text.old ++ colons_before (count * each) []) }
+    ensures { OnOk result (string_bytes text.new ≡ string_bytes text.old ++ repeat count run.now) }
 {
     for done in 0..count {
         text.push_str(run)?;

@@ -568,7 +568,7 @@ module _ (dating : Dating) (m : MessageValue) (near : HasExceptionsAlone m) (bou
       ]
 
   -- the rank of what a pass prints of a message falls
-  pub rank_falls : (x : MessageValue) (k : ℕ) → Prints x m → HasRank (suc k) x → HasRank k n
+  rank_falls : (x : MessageValue) (k : ℕ) → Prints x m → HasRank (suc k) x → HasRank k n
   rank_falls x zero p (quiet, bare) =
       let q = p.quiet quiet in
       let z = quiet_falls q.timestamp q.names.no_last_colon in

@@ -14,8 +14,9 @@ use Rattle.syslog_loose.proofs.Names.{chars, encode_utf8_all, IsUtf8, chars_from
 use Rattle.syslog_loose.proofs.Names.{NoFront, exactly, some_run, shown, name_text, CutsColons, tag_text, ElementValue}
 use Rattle.syslog_loose.proofs.Names.{joined_elements, elements_text, MatchOption, begins, front_same, run_det}
 use Rattle.syslog_loose.proofs.Names.{zero-add, suc-add, add-zero, add-suc, encode_utf8, append_cancel_right, Skips}
-use Rattle.syslog_loose.proofs.Names.{chars_empty, true, false, Ends, is_some}
+use Rattle.syslog_loose.proofs.Names.{chars_empty, true, false, Ends, is_some, ◌*◌, ReadsProtocol}
 use Rattle.syslog_loose.specs.Bodies.Jumps.{message_end}
+use Rattle.std.specs.List.{repeat}
 use Rattle.syslog_loose.proofs.PrintedLemmas.{priority_small}
 use Rattle.syslog_loose.proofs.Rfc3164Lemmas.{rfc3164_bounded, printed_3164_is, printed_apart, from_blanks, from_stamp}
 use Rattle.syslog_loose.proofs.Rfc3164Lemmas.{to_colon, to_stamp, told}
@@ -26,7 +27,7 @@ use Rattle.syslog_loose.proofs.Rfc3164Lemmas.ReadBack.{to_stamp_back, trimmed_wh
 use Rattle.syslog_loose.proofs.SettlingLemmas.Falls.{behind_space, priority_again, printed_same, host_left}
 use Rattle.syslog_loose.proofs.SettlingLemmas.Falls.{no_form_open}
 use Rattle.syslog_loose.proofs.SettlingLemmas.Weights.{dash_before, no_list_by}
-use Rattle.syslog_loose.proofs.SettlingLemmas.Settles.{reached_first, reached_next, no_protocol, as_rfc3164}
+use Rattle.syslog_loose.proofs.SettlingLemmas.Settles.{reached_first, reached_next, read_protocol, as_rfc3164}
 use Rattle.syslog_loose.proofs.SettlingLemmas.Settles.{odd_unsettled}
 use Rattle.std.specs.Str.Pattern.{FindsTextPrefix, FindsTextSuffix, StripsPrefix, StripsSuffix}
 use Rattle.syslog_loose.specs.Printed.{printed_3164}
@@ -59,51 +60,71 @@ abbrev names_of : MessageValue → Names3164
 names_of m = names m.hostname m.appname m.procid
 
 -- a printed message of RFC 3164 is read by the variant as by RFC 3164
-as_variant : (variant : Variant) (dating : Dating) (text : Text) (m n : MessageValue) → IsRead variant dating text m
-    → m.protocol ≡ RFC3164 → IsRead3164 BeforeBlank dating (printed_3164 m) n → IsRead variant dating (printed m) n
-as_variant variants.RFC5424 dating text m n r e s =
-    absurd (no_protocol r.values.1.0 (sym e ∙ ap (λ (x : MessageValue). x.protocol) r.means))
-as_variant variants.RFC3164 dating text m n r e s = rw (printed_3164_is m e) s
-as_variant variants.Either dating text m n r e s = rw (printed_3164_is m e) (inr (printed_apart m, s))
+as_variant : (variant : Variant) (dating : Dating) (m n : MessageValue) → ReadsProtocol variant RFC3164
+    → IsRead3164 BeforeBlank dating (printed_3164 m) n → IsRead variant dating (printed_3164 m) n
+as_variant variants.RFC5424 dating m n h s = absurd h
+as_variant variants.RFC3164 dating m n h s = s
+as_variant variants.Either dating m n h s = inr (printed_apart m, s)
 
-colons_last : (n : ℕ) → colons (suc n) ≡ colons n ++ colon
-colons_last zero = refl
-colons_last (suc n) = ap (λ (x : Text). 58 ∷ x) (colons_last n)
+-- ---- a text, several times
+
+repeat_sum : (xs : List ℕ) (m n k : ℕ) → m + n ≡ k → repeat m xs ++ repeat n xs ≡ repeat k xs
+repeat_sum xs zero n k e = ap (λ (i : ℕ). repeat i xs) (let same : n ≡ k = omega (arith, e) in same)
+repeat_sum xs (suc m) n zero e = absurd (omega (arith, e))
+repeat_sum xs (suc m) n (suc k) e = rw (append_assoc, repeat_sum xs m n k (omega (arith, e))) refl
+
+repeat_times : (xs : List ℕ) (m n : ℕ) → repeat m (repeat n xs) ≡ repeat (m * n) xs
+repeat_times xs zero n = ap (λ (i : ℕ). repeat i xs) (let same : 0 ≡ 0 * n = omega arith in same)
+repeat_times xs (suc m) n =
+    rw (repeat_times xs m n) (repeat_sum xs n (m * n) (suc m * n) (let same : n + m * n ≡ suc m * n = grind arith in same))
+
+repeat_alone : (xs : List ℕ) (n : ℕ) → encode_utf8_all xs ≡ xs → encode_utf8_all (repeat n xs) ≡ repeat n xs
+unfolding encode_utf8
+repeat_alone xs zero e = refl
+repeat_alone xs (suc n) e = rw (encodes-append xs (repeat n xs), e, repeat_alone xs n e) refl
+
+repeat_more : (xs : List ℕ) (n : ℕ) → repeat n xs ++ xs ≡ repeat (n + 1) xs
+repeat_more xs n = ap (λ (x : List ℕ). repeat n xs ++ x) (sym (append-nil xs)) ∙ repeat_sum xs n 1 (n + 1) refl
+
+-- what was pushed n times and once more, and what was pushed m times k at once and then n times
+pub pushed : (old mid new run : List ℕ) (n : ℕ) → mid ≡ old ++ repeat n run → new ≡ mid ++ run
+    → new ≡ old ++ repeat (n + 1) run
+pushed old mid new run n e f = rw (f, e, append_assoc) (ap (λ (x : List ℕ). old ++ x) (repeat_more run n))
+
+pub pushed_twice : (xs old mid new : List ℕ) (m k n all : ℕ) → m * k + n ≡ all → mid ≡ old ++ repeat m (repeat k xs)
+    → new ≡ mid ++ repeat n xs → new ≡ old ++ (repeat all xs ++ [])
+pushed_twice xs old mid new m k n all same e f =
+    rw (f, e, repeat_times xs m k, append_assoc, append-nil, repeat_sum xs (m * k) n all same) refl
 
 colons_end : (h : Text) (n : ℕ) → EndsInColon (h ++ colons (suc n))
-colons_end h n = (h ++ colons n, ap (λ (x : Text). h ++ x) (colons_last n) ∙ sym (append_assoc h (colons n) colon))
+colons_end h n = (h ++ colons n, rw (append_assoc, repeat_sum colon n 1 (suc n) (omega arith)) refl)
 
 passes_dashed : (n : ℕ) (t u : Text) → PassesDashes (suc n) t u → (next : Text) × IsDashed t next
 passes_dashed zero t u (before, is, d, next, f) = (u, rw is at d)
 passes_dashed (suc n) t u (before, p, d, next, f) = passes_dashed n t before p
 
-module _ (variant : Variant) (dating : Dating) (text : Text) (m : MessageValue) (r : IsRead variant dating text m)
-    (e : m.protocol ≡ RFC3164) where
-  first : IsRead3164 BeforeBlank dating text m
-  first = as_rfc3164 variant dating text m r e
-
+module _ (dating : Dating) (text : Text) (m : MessageValue) (r : IsRead3164 BeforeBlank dating text m) where
   near : HasExceptionsAlone m
-  near = read_near BeforeBlank dating text m first
+  near = read_near BeforeBlank dating text m r
 
   abbrev tail : Text
   tail = tail_text m.structured_data m.msg
 
   -- what is read after the printed timestamp
   behind_stamp : (vs : Values (body_row BeforeBlank)) (n : Names3164) → IfSome m.timestamp IsCanonicalStamp
-      → Front (Row (body_row BeforeBlank)) (32 ∷ behind_space m) [] vs → Resolves vs.0 vs.1.0 n
-      → IsRead variant dating (printed m) (told BeforeBlank dating (Some (priority_of m), (tt, (m.timestamp, vs))) n)
-  behind_stamp vs n k f means =
-      as_variant variant dating text m _ r e (record {
-        values = (Some (priority_of m), (tt, (m.timestamp, vs)));
-        division = front_division (rfc3164_row BeforeBlank dating) (rw (trimmed_whole m near.msg_end) (rows_join
-            to_stamp (from_stamp BeforeBlank dating) (to_stamp_back m (behind_space m)) (row_cons (rfc3164_stamp dating)
-            (body_row BeforeBlank) (stamp_back dating m.timestamp (behind_space m) k) f)));
-        means = (n, means, refl);
-      })
+      → Front (Row (body_row BeforeBlank)) (32 ∷ behind_space m) [] vs → Resolves vs.0 vs.1.0 n → IsRead3164 BeforeBlank
+      dating (printed_3164 m) (told BeforeBlank dating (Some (priority_of m), (tt, (m.timestamp, vs))) n)
+  behind_stamp vs n k f means = record {
+    values = (Some (priority_of m), (tt, (m.timestamp, vs)));
+    division = front_division (rfc3164_row BeforeBlank dating) (rw (trimmed_whole m near.msg_end) (rows_join to_stamp
+        (from_stamp BeforeBlank dating) (to_stamp_back m (behind_space m)) (row_cons (rfc3164_stamp dating)
+        (body_row BeforeBlank) (stamp_back dating m.timestamp (behind_space m) k) f)));
+    means = (n, means, refl);
+  }
 
   -- a host that ends in two colons or more loses one
   colon_read : (h : Text) → IfSome m.timestamp IsCanonicalStamp → m.hostname ≡ Some (h ++ colon) → EndsInColon h
-      → IsRead variant dating (printed m) (read_with m (names (Some h) None None) (58 ∷ tail))
+      → IsRead3164 BeforeBlank dating (printed_3164 m) (read_with m (names (Some h) None None) (58 ∷ tail))
   unfolding message_end
   colon_read h k is (front, o) =
       let alone : m.appname ≡ None = (rw is at near.odd_host) (inr (h, refl)) in
@@ -119,11 +140,11 @@ module _ (variant : Variant) (dating : Dating) (text : Text) (m : MessageValue) 
 
   -- a message part of dashes loses one, which is taken for an empty list
   dash_read : (rest : Text) → HasNoNameException m → m.structured_data ≡ [] → IsDashed m.msg rest
-      → IsRead variant dating (printed m) (read_with m (names_of m) rest)
+      → IsRead3164 BeforeBlank dating (printed_3164 m) (read_with m (names_of m) rest)
   unfolding message_end
   dash_read rest none es d =
       let canonical = canonical_names m.hostname m.appname m.procid near.names none.names.no_colon in
-      let bounded : IfSome m.procid IsBoundedProcess = (rfc3164_bounded BeforeBlank dating text m first).procid in
+      let bounded : IfSome m.procid IsBoundedProcess = (rfc3164_bounded BeforeBlank dating text m r).procid in
       let behind : Text = d.blanks ++ rest in
       let list : Front (Row (from_blanks BeforeBlank)) (32 ∷ 45 ∷ behind) [] (tt, (Some [], (tt, (rest, tt)))) =
       row_of (from_blanks BeforeBlank)
@@ -143,60 +164,64 @@ module _ (variant : Variant) (dating : Dating) (input : Text) (m : MessageValue)
     (r : IsRead variant dating input m) (e : m.protocol ≡ RFC3164) where
   -- the text before it is read as the message, which is printed n rounds after round 1
   abbrev Known : ℕ → MessageValue → Type 0
-  Known n y = (text : Text) × IsRead variant dating text y × Reaches variant dating input (suc n) (printed y)
+  Known n y = (text : Text) × IsRead3164 BeforeBlank dating text y × Reaches variant dating input (suc n) (printed y)
 
   known : Known 0 m
   known = (
     input,
-    r,
+    as_rfc3164 variant dating input m r e,
     reached_first variant dating input (printed m) (record { message = m; read = r; is_printed = refl }),
   )
 
   -- the next round, which has an exception itself
-  next_known : (n : ℕ) (y z : MessageValue) → Known n y → z.protocol ≡ RFC3164 → IsRead variant dating (printed y) z
+  next_known : (n : ℕ) (y z : MessageValue) → Known n y → IsRead3164 BeforeBlank dating (printed_3164 y) z
       → (HasNoException dash_rule z → ⊥) → Known (suc n) z
-  next_known n y z (text, before, reaches) p read odd =
-      let never = odd_unsettled variant dating (printed y) z read p odd in
-      let next : IsNext variant dating (printed y) (printed z) =
-      record { message = z; read = read; is_printed = refl } in
-      (printed y, read, reached_next variant dating input (suc n) (printed y) (printed z) reaches (λ l. never) next)
+  next_known n y z (text, before, reaches) again odd =
+      let same = printed_3164_is y (read_near BeforeBlank dating text y before).protocol in
+      let read : IsRead variant dating (printed y) z = rw same (as_variant variant dating y z (rw e at (read_protocol variant dating input m r)) again) in (
+        printed y,
+        rw same again,
+        reached_next variant dating input (suc n) (printed y) (printed z) reaches
+            (λ l. odd_unsettled variant dating (printed y) z read
+            (read_near BeforeBlank dating (printed_3164 y) z again).protocol odd)
+            (record { message = z; read = read; is_printed = refl }),
+      )
 
-  known_later : (n : ℕ) (y : MessageValue) (later : Text) → Known n y → y.protocol ≡ RFC3164 → later ≡ printed y
-      → Prints m y → IsLater variant dating input m later
-  known_later n y later (text, read, reaches) p is prints = record {
+  known_later : (n : ℕ) (y : MessageValue) (later : Text) → Known n y → later ≡ printed y → Prints m y
+      → IsLater variant dating input m later
+  known_later n y later (text, read, reaches) is prints = record {
     before = n;
-    reaches = subst (λ (u : Text). Reaches variant dating input (suc n) u) (sym is) reaches;
+    reaches = rw is reaches;
     text = text;
     message = y;
     read = read;
-    is_rfc3164 = p;
     is_printed = is;
     passes = prints;
   }
 
   -- ---- rounds in which a host loses its colons
   module _ (stamp : IfSome m.timestamp IsCanonicalStamp) where
-    next_colons : (n : ℕ) (y : MessageValue) (h : Text) → Known n y → y.protocol ≡ RFC3164
-        → IfSome y.timestamp IsCanonicalStamp → y.hostname ≡ Some (h ++ colon) → EndsInColon h
+    next_colons : (n : ℕ) (y : MessageValue) (h : Text) → Known n y → IfSome y.timestamp IsCanonicalStamp
+        → y.hostname ≡ Some (h ++ colon) → EndsInColon h
         → Known (suc n) (read_with y (names (Some h) None None) (58 ∷ tail_text y.structured_data y.msg))
-    next_colons n y h k p s is o =
-        next_known n y _ k refl (colon_read variant dating k.0 y k.1 p h s is o) (λ none. none.names.no_last_colon o)
+    next_colons n y h k s is o =
+        next_known n y _ k (colon_read dating k.0 y k.1 h s is o) (λ none. none.names.no_last_colon o)
 
     all_colons : (h : Text) (n : ℕ) → m.hostname ≡ Some (h ++ colons (suc n)) → EndsInColon h
         → Known (suc n) (past_colons m h n)
     unfolding message_end
-    all_colons h zero is o = next_colons 0 m h known e stamp is o
+    all_colons h zero is o = next_colons 0 m h known stamp is o
     all_colons h (suc n) is o =
         let before = all_colons (h ++ colon) n (is ∙ ap Some (sym (append_assoc h colon (colons (suc n))))) (h, refl) in
         rw (read_twice m (names (Some h) None None) (58 ∷ colons_before (suc n) (tail_text m.structured_data m.msg))) at
-        (next_colons (suc n) (past_colons m (h ++ colon) n) h before refl stamp refl o)
+        (next_colons (suc n) (past_colons m (h ++ colon) n) h before stamp refl o)
 
     -- the host ends in n + 1 colons more than the given one, which ends in just one itself
     pub colons_later : (h : Text) (n : ℕ) → EndsColons m h (suc n) → EndsOnce h
         → IsLater variant dating input m (printed (past_colons m h n))
     colons_later h n k once =
         let odd : IfSome m.hostname (λ x. EndsInColon x → ⊥) → ⊥ = λ none. (rw k.hostname at none) (colons_end h n) in
-        known_later (suc n) (past_colons m h n) _ (all_colons h n k.hostname k.keeps) refl refl (record {
+        known_later (suc n) (past_colons m h n) _ (all_colons h n k.hostname k.keeps) refl (record {
           timestamp = refl;
           one_colon = λ canonical. once;
           host = λ none. absurd (odd none);
@@ -206,10 +231,9 @@ module _ (variant : Variant) (dating : Dating) (input : Text) (m : MessageValue)
         })
 
   -- ---- rounds in which a message part loses its dashes
-  next_dash : (n : ℕ) (y : MessageValue) (u next : Text) → Known n y → y.protocol ≡ RFC3164 → HasNoNameException y
-      → y.structured_data ≡ [] → IsDashed y.msg u → IsDashed u next → Known (suc n) (read_with y (names_of y) u)
-  next_dash n y u next k p none es d f =
-      next_known n y _ k refl (dash_read variant dating k.0 y k.1 p u none es d)
+  next_dash : (n : ℕ) (y : MessageValue) (u next : Text) → Known n y → HasNoNameException y → y.structured_data ≡ []
+      → IsDashed y.msg u → IsDashed u next → Known (suc n) (read_with y (names_of y) u)
+  next_dash n y u next k none es d f = next_known n y _ k (dash_read dating k.0 y k.1 u none es d)
       (λ none. (none.no_list refl).0 (f.blanks ++ next) f.whole (dash_before f.blanks next f.some f.each))
 
   module _ (none : HasNoNameException m) (es : m.structured_data ≡ []) where
@@ -217,49 +241,40 @@ module _ (variant : Variant) (dating : Dating) (input : Text) (m : MessageValue)
         → IsDashed u next → Known (suc (suc n)) (read_with m (names_of m) u)
     more_dashes n before u next k d f =
         rw (read_twice m (names_of m) u) at
-        (next_dash (suc n) (read_with m (names_of m) before) u next k refl (record { timestamp = none.timestamp; names = none.names }) refl d f)
+        (next_dash (suc n) (read_with m (names_of m) before) u next k (record { timestamp = none.timestamp; names = none.names }) refl d f)
 
     all_dashes : (n : ℕ) (u : Text) → PassesDashes (suc n) m.msg u → Known (suc n) (read_with m (names_of m) u)
-    all_dashes zero u (before, is, d, next, f) = next_dash 0 m u next known e none es (rw is at d) f
+    all_dashes zero u (before, is, d, next, f) = next_dash 0 m u next known none es (rw is at d) f
     all_dashes (suc n) u (before, p, d, next, f) = more_dashes n before u next (all_dashes n before p) d f
 
-    -- the last of these dashes is the last that has blanks after it
-    pub dashes_later : (n : ℕ) (u : Text) → PassesDashes n m.msg u
-        → ((p q : Text) → IsDashed u p → IsDashed p q → ⊥) → (IfSome m.timestamp IsCanonicalStamp
-        → IfSome m.hostname EndsOnce) → IsLater variant dating input m (printed (with_msg m u))
-    dashes_later zero u is last once =
-        known_later 0 m _ known e (ap (λ (x : Text). printed (with_msg m x)) is) (record {
-          timestamp = refl;
-          one_colon = once;
-          host = λ none. refl;
-          quiet = λ q. q;
-          last_dash = λ q es p next d. last p next (rw is d);
-          no_dashes = λ q bare. bare;
-        })
-    dashes_later (suc n) u p last once =
-        let same : printed (with_msg m u) ≡ printed (read_with m (names_of m) u) = printed_3164_is (with_msg m u) e
-        ∙ sym (printed_same (with_msg m u) (read_with m (names_of m) u)
-        (priority_again (priority_of m) (priority_small m)) refl refl refl (sym es) refl) in
-        known_later (suc n) (read_with m (names_of m) u) _ (all_dashes n u p) refl same (record {
-          timestamp = refl;
-          one_colon = once;
-          host = λ none. refl;
-          quiet = λ q. record { timestamp = q.timestamp; names = q.names };
-          last_dash = λ q es. last;
-          no_dashes = λ q bare. absurd (let (next, d) = passes_dashed n m.msg u p in bare es next d);
-        })
-
-  -- where no dash is passed over
-  pub itself : (HasNoNameException m → m.structured_data ≡ [] → ⊥) → (IfSome m.timestamp IsCanonicalStamp
-      → IfSome m.hostname EndsOnce) → IsLater variant dating input m (printed m)
-  itself never once = known_later 0 m _ known e refl (record {
-    timestamp = refl;
-    one_colon = once;
-    host = λ none. refl;
-    quiet = λ q. q;
-    last_dash = λ q es. absurd (never q es);
-    no_dashes = λ q bare. bare;
-  })
+  -- the last of these dashes is the last that has blanks after it; where none is passed, no more need be known
+  pub dashes_later : (n : ℕ) (u : Text) → PassesDashes n m.msg u
+      → (0 < n → HasNoNameException m × (m.structured_data ≡ []))
+      → (HasNoNameException m → m.structured_data ≡ [] → (p q : Text) → IsDashed u p → IsDashed p q → ⊥)
+      → (IfSome m.timestamp IsCanonicalStamp → IfSome m.hostname EndsOnce)
+      → IsLater variant dating input m (printed (with_msg m u))
+  dashes_later zero u is some last once =
+      known_later 0 m _ known (ap (λ (x : Text). printed (with_msg m x)) is) (record {
+        timestamp = refl;
+        one_colon = once;
+        host = λ none. refl;
+        quiet = λ q. q;
+        last_dash = λ q es p next d. last q es p next (rw is d);
+        no_dashes = λ q bare. bare;
+      })
+  dashes_later (suc n) u p some last once =
+      let (none, es) = some (omega arith) in
+      let same : printed (with_msg m u) ≡ printed (read_with m (names_of m) u) = printed_3164_is (with_msg m u) e
+      ∙ sym (printed_same (with_msg m u) (read_with m (names_of m) u)
+      (priority_again (priority_of m) (priority_small m)) refl refl refl (sym es) refl) in
+      known_later (suc n) (read_with m (names_of m) u) _ (all_dashes none es n u p) same (record {
+        timestamp = refl;
+        one_colon = once;
+        host = λ none. refl;
+        quiet = λ q. record { timestamp = q.timestamp; names = q.names };
+        last_dash = λ q _. last q es;
+        no_dashes = λ q bare. absurd (let (next, d) = passes_dashed n m.msg u p in bare es next d);
+      })
 
 -- ---- what the code finds and writes
 
@@ -275,12 +290,7 @@ dash_told t q f (Some x) g =
 
 -- n dashes, each with a space after it
 abbrev pub spaced_dashes : ℕ → Text
-spaced_dashes zero = []
-spaced_dashes (suc n) = 45 ∷ 32 ∷ spaced_dashes n
-
-dashes_more : (n : ℕ) (t : Text) → spaced_dashes (suc n) ++ t ≡ spaced_dashes n ++ (45 ∷ 32 ∷ t)
-dashes_more zero t = refl
-dashes_more (suc n) t = ap (λ (x : Text). 45 ∷ 32 ∷ x) (dashes_more n t)
+spaced_dashes n = repeat n (45 ∷ 32 ∷ [])
 
 one_dashed : (t next : Text) → IsDashed t next → IsDashed (45 ∷ 32 ∷ t) t
 one_dashed t next d = record {
@@ -295,24 +305,22 @@ pub passes_spaced : (n : ℕ) (t next : Text) → IsDashed t next → PassesDash
 passes_spaced zero t next d = refl
 passes_spaced (suc n) t next d =
     let one = one_dashed t next d in
-    (45 ∷ 32 ∷ t, rw (dashes_more n t) (passes_spaced n (45 ∷ 32 ∷ t) t one), one, next, d)
+    let more : spaced_dashes (suc n) ++ t ≡ spaced_dashes n ++ (45 ∷ 32 ∷ t) =
+    ap (λ (x : Text). x ++ t) (sym (repeat_sum (45 ∷ 32 ∷ []) n 1 (suc n) (omega arith))) ∙ append_assoc (spaced_dashes n) (45 ∷ 32 ∷ []) t in
+    (45 ∷ 32 ∷ t, rw more (passes_spaced n (45 ∷ 32 ∷ t) t one), one, next, d)
 
 pub passes_both : (m n : ℕ) (a b t : Text) → PassesDashes m a b → PassesDashes n b t → (k : ℕ) × PassesDashes k a t
 passes_both m zero a b t p q = (m, subst (λ (x : Text). PassesDashes m a x) (sym q) p)
 passes_both m (suc n) a b t p (before, q, d, next, f) =
     let (k, r) = passes_both m n a b before p q in (suc k, (before, r, d, next, f))
 
-dashes_alone : (n : ℕ) → encode_utf8_all (spaced_dashes n) ≡ spaced_dashes n
-unfolding encode_utf8
-dashes_alone zero = refl
-dashes_alone (suc n) = ap (λ (x : Text). 45 ∷ 32 ∷ x) (dashes_alone n)
-
 -- what `strip_prefix` of dashes gives
 pub dashes_front : (bytes rest : List ℕ) (n : ℕ) → IsUtf8 bytes → IsUtf8 rest
     → StripsPrefix (FindsTextPrefix (spaced_dashes n)) bytes rest → chars bytes ≡ spaced_dashes n ++ chars rest
+unfolding encode_utf8
 dashes_front bytes rest n u v (k, (long, whole, cut), behind_is, fits) =
     sym (chars_from_encodes (spaced_dashes n ++ chars rest) bytes u
-    (rw (encodes-append, dashes_alone n, encodes-chars rest v, behind_is) (sym whole)))
+    (rw (encodes-append, repeat_alone (45 ∷ 32 ∷ []) n refl, encodes-chars rest v, behind_is) (sym whole)))
 
 pub some_next : (t : Text) (A : Type 0) (r : Option (Bor (List ℕ))) → is_some r ≡ true
     → MatchOption r A (λ x. IsDashed t (shown x)) → (next : Text) × IsDashed t next
@@ -342,34 +350,6 @@ unfolding encode_utf8
 tail_pushed old mid new [] msg n e f = absurd (n refl)
 tail_pushed old mid new (x ∷ es) msg n e f = rw (f, e, encodes-append (joined_elements (x ∷ es)) (message_end msg), append_assoc) refl
 
--- ---- colons
-colons_both : (m n : ℕ) → colons_before (m + n) [] ≡ colons_before m [] ++ colons_before n []
-colons_both zero n = simp zero-add refl
-colons_both (suc m) n = simp (suc-add, colons_both m n) refl
-
--- what was pushed m times and then n times more
-pub colons_pushed : (old mid new : List ℕ) (m n k : ℕ) → mid ≡ old ++ colons_before m []
-    → new ≡ mid ++ colons_before n [] → m + n ≡ k → new ≡ old ++ colons_before k []
-colons_pushed old mid new m n k e f same = rw (f, e, ← same, colons_both m n, append_assoc)
-
-pub colons_apart : (n : ℕ) (t : Text) → colons_before n t ≡ colons_before n [] ++ t
-colons_apart zero t = refl
-colons_apart (suc n) t = ap (λ (x : Text). 32 ∷ 58 ∷ x) (colons_apart n t)
-
-pub colons_encode : (n : ℕ) → encode_utf8_all (colons_before n []) ≡ colons_before n []
-unfolding encode_utf8
-colons_encode zero = refl
-colons_encode (suc n) = ap (λ (x : Text). 32 ∷ 58 ∷ x) (colons_encode n)
-
-colons_sum : (n c : ℕ) → colons n ++ colons c ≡ colons (c + n)
-colons_sum zero c = simp add-zero refl
-colons_sum (suc n) c = simp (add-suc, colons_sum n c) refl
-
-colons_alone : (n : ℕ) → encode_utf8_all (colons n) ≡ colons n
-unfolding encode_utf8
-colons_alone zero = refl
-colons_alone (suc n) = ap (λ (x : Text). 58 ∷ x) (colons_alone n)
-
 -- what `strip_suffix` of a text gives
 pub suffix_bytes : (run bytes short : List ℕ) → StripsSuffix (FindsTextSuffix run) bytes short → bytes ≡ short ++ run
 suffix_bytes run bytes short (n, (long, whole, cut), front_is, fits) =
@@ -378,13 +358,14 @@ suffix_bytes run bytes short (n, (long, whole, cut), front_is, fits) =
 -- the same by characters, of colons
 pub suffix_some : (bytes short : List ℕ) (n : ℕ) → IsUtf8 bytes → IsUtf8 short → bytes ≡ short ++ colons n
     → chars bytes ≡ chars short ++ colons n
+unfolding encode_utf8
 suffix_some bytes short n u v e =
     sym (chars_from_encodes (chars short ++ colons n) bytes u
-    (rw (encodes-append, encodes-chars short v, colons_alone n) (sym e)))
+    (rw (encodes-append, encodes-chars short v, repeat_alone colon n refl) (sym e)))
 
 pub cut_on : (name host shorter : List ℕ) (c n : ℕ) → CutsColons name host c → chars host ≡ chars shorter ++ colons n
     → (0 < c + n → EndsInColon (chars shorter)) → CutsColons name shorter (c + n)
-cut_on name host shorter c n k e o = record { whole = rw (k.whole, e, append_assoc, colons_sum n c) refl; keeps = o }
+cut_on name host shorter c n k e o = record { whole = rw (k.whole, e, append_assoc, repeat_sum colon n c (c + n) (omega arith)) refl; keeps = o }
 
 pub cut_twice : (name host shorter : List ℕ) (c n : ℕ) → CutsColons name host c → CutsColons host shorter n
     → CutsColons name shorter (c + n)
@@ -428,27 +409,32 @@ module _ (variant : Variant) (dating : Dating) (input : Text) (m : MessageValue)
       later_printed (printed (past_colons m h (cut - 1))) bytes u w
       (colons_later variant dating input m r e k.timestamp h (cut - 1) (rw same at k) once)
 
--- what the front, which is printed with a colon as its message part, prints with what is written after it
-front_more : (m : MessageValue) (t : Text) → printed_3164 (with_msg m (m.msg ++ t)) ≡ printed_3164 m ++ t
-unfolding printed_3164
-front_more m t = simp append_assoc refl
+-- the message with this host and a colon as its message part, without other names and without elements
+abbrev pub colon_alone : MessageValue → Text → MessageValue
+colon_alone m h = record m {
+  protocol = RFC3164;
+  hostname = Some h;
+  appname = None;
+  procid = None;
+  msgid = None;
+  structured_data = [];
+  msg = colon;
+}
 
-pub past_written : (m front : MessageValue) (h : Text) (n : ℕ) (start mid bytes : List ℕ) → start ≡ encode_utf8_all
-    (printed_3164 front) → mid ≡ start ++ colons_before n [] → priority_of front ≡ priority_of m → front.timestamp
-    ≡ m.timestamp → name_text front.hostname ≡ h → tag_text front.appname front.procid ≡ tag_text None None
-    → front.structured_data ≡ [] → front.msg ≡ 58 ∷ [] → bytes ≡ mid ++ encode_utf8_all
-    (tail_text m.structured_data m.msg) → bytes ≡ encode_utf8_all (printed_3164 (past_colons m h n))
-past_written m front h n start mid bytes first more p stamp host tag es msg e =
-    let q : Text = colons_before n (tail_text m.structured_data m.msg) in
-    let same : printed_3164 (past_colons m h n) ≡ printed_3164 (with_msg front (front.msg ++ q)) =
-    printed_same (with_msg front (front.msg ++ q)) (past_colons m h n)
-    (priority_again (priority_of m) (priority_small m) ∙ sym p) (sym stamp) (sym host) (sym tag) (sym es)
-    (sym (ap (λ (x : Text). x ++ q) msg)) in
-    rw (
-      same,
-      front_more front q,
-      colons_apart n (tail_text m.structured_data m.msg),
-      encodes-append,
-      encodes-append,
-      colons_encode n,
-    ) (rw (more, first, append_assoc) at e)
+-- it prints as the later message begins
+colon_first : (m : MessageValue) (h : Text) (n : ℕ) → printed_3164 (past_colons m h n)
+    ≡ printed_3164 (colon_alone m h) ++ colons_before n (tail_text m.structured_data m.msg)
+unfolding printed_3164
+colon_first m h n = rw (priority_again (priority_of m) (priority_small m)) (simp append_assoc refl)
+
+pub past_written : (m : MessageValue) (h : Text) (n : ℕ) (start mid bytes : List ℕ)
+    → start ≡ encode_utf8_all (printed_3164 (colon_alone m h)) → mid ≡ start ++ colons_before n []
+    → bytes ≡ mid ++ encode_utf8_all (tail_text m.structured_data m.msg)
+    → bytes ≡ encode_utf8_all (printed_3164 (past_colons m h n))
+unfolding encode_utf8
+past_written m h n start mid bytes first more e = rw (
+  colon_first m h n,
+  encodes-append,
+  encodes-append,
+  repeat_alone (32 ∷ 58 ∷ []) n refl,
+) (rw (more, first, append-nil, append_assoc) at e)

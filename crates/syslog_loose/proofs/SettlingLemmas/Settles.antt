@@ -27,7 +27,7 @@ use Rattle.syslog_loose.specs.Settling.{SettlesAs, IsSettlingFault, Settles}
 use Rattle.syslog_loose.specs.Passes.{IsAtRest, AnswersPass, WritesRound, round_answer}
 use Rattle.syslog_loose.proofs.ReadBackLemmas.{read_as, read_bounded, printed_exact, fixed_again}
 use Rattle.syslog_loose.proofs.CanonicalLemmas.{canonical_near}
-use Rattle.syslog_loose.proofs.SettlingLemmas.Falls.{falls, same_text, rank_falls}
+use Rattle.syslog_loose.proofs.SettlingLemmas.Falls.{falls, same_text, rank_law}
 use Rattle.syslog_loose.proofs.SettlingLemmas.Weights.{light, weight}
 use Rattle.std.specs.declared.alloc.AllocError.{AllocError}
 use Rattle.syslog_loose.specs.declared.message.Protocol.TheVariants as protocol
@@ -205,21 +205,15 @@ printed_quiet variant dating text m r date asks =
     read_shows_none variant dating text m r date (asks_shown variant (printed m) date asks)
 
 -- ---- by which protocol a text was read
-pub no_protocol : (version : ℕ) → protocol.RFC3164 ≡ protocol.RFC5424 version → ⊥
+no_protocol : (version : ℕ) → protocol.RFC3164 ≡ protocol.RFC5424 version → ⊥
 no_protocol version e = cc
 
-module _ (variant : Variant) (dating : Dating) (text : Text) (m : MessageValue) (r : IsRead variant dating text m) where
-  as_rfc5424 : (version : ℕ) → m.protocol ≡ protocol.RFC5424 version → IsRead5424 text m
-  as_rfc5424 version e = elim (read_as variant dating text m r) [
-    | inl s ↦ s
-    | inr s ↦ absurd (no_protocol version (sym (read_near dash_rule dating text m s).protocol ∙ e))
-  ]
-
-  pub as_rfc3164 : m.protocol ≡ protocol.RFC3164 → IsRead3164 dash_rule dating text m
-  as_rfc3164 e = elim (read_as variant dating text m r) [
-    | inl s ↦ absurd (no_protocol s.values.1.0 (sym e ∙ ap (λ (x : MessageValue). x.protocol) s.means))
-    | inr s ↦ s
-  ]
+pub as_rfc3164 : (variant : Variant) (dating : Dating) (text : Text) (m : MessageValue) → IsRead variant dating text m
+    → m.protocol ≡ protocol.RFC3164 → IsRead3164 dash_rule dating text m
+as_rfc3164 variant dating text m r e = elim (read_as variant dating text m r) [
+  | inl s ↦ absurd (no_protocol s.values.1.0 (sym e ∙ ap (λ (x : MessageValue). x.protocol) s.means))
+  | inr s ↦ s
+]
 
 -- a message without exceptions is at rest
 pub rests_so : (p : Protocol) (m : MessageValue) → HasNoException dash_rule m → IsAtRest p m
@@ -243,12 +237,14 @@ module _ (variant : Variant) (dating : Dating) where
       record { message = n; read = again; is_printed = sym same }
 
   -- what was read prints as one, unless it was read as RFC 3164 and has an exception
-  rest_settled : (text : Text) (m : MessageValue) → IsRead variant dating text m → (p : Protocol) → m.protocol ≡ p
-      → IsAtRest p m → IsSettled variant dating (printed m)
-  rest_settled text m r (protocol.RFC5424 version) e h =
-      fixed_settled text m r (inr (inl (text, as_rfc5424 variant dating text m r version e)))
-  rest_settled text m r protocol.RFC3164 e h =
-      fixed_settled text m r (inr (inr (text, dating, as_rfc3164 variant dating text m r e, h)))
+  rest_settled : (text : Text) (m : MessageValue) → IsRead variant dating text m → IsAtRest m.protocol m
+      → IsSettled variant dating (printed m)
+  rest_settled text m r rest = elim (read_as variant dating text m r) [
+    | inl s ↦ fixed_settled text m r (inr (inl (text, s)))
+    | inr s ↦
+        let own = subst (λ (p : Protocol). IsAtRest p m) (read_near dash_rule dating text m s).protocol rest in
+        fixed_settled text m r (inr (inr (text, dating, s, own)))
+  ]
 
   -- and the message of a settled text is canonical
   pub settled_canonical : (text : Text) (m : MessageValue) → IsSettled variant dating text
@@ -351,17 +347,15 @@ module _ (variant : Variant) (dating : Dating) where
     told_settled bytes u w rest =
         let next : IsNext variant dating text (chars bytes) =
         record { message = m; read = r; is_printed = sym (chars_from_encodes (printed m) bytes u (sym w)) } in
-        (next, rw next.is_printed (rest_settled text m r m.protocol refl rest))
+        (next, rw next.is_printed (rest_settled text m r rest))
 
     -- what is read of a later one has a lower rank
     later_falls : (later : Text) → IsLater variant dating text m later → (n : ℕ) (x : MessageValue)
         → IsRead variant dating later x → HasRank (suc n) m → HasRank n x
     later_falls later l n x s rank =
-        let first = as_rfc3164 variant dating l.text l.message l.read l.is_rfc3164 in
-        rank_falls dating l.message (read_near dash_rule dating l.text l.message first)
-        (rfc3164_bounded dash_rule dating l.text l.message first).procid x
-        (stays_rfc3164 variant dating l.message x l.is_rfc3164
-        (subst (λ (u : Text). IsRead variant dating u x) l.is_printed s)) m n l.passes rank
+        let e = (read_near dash_rule dating l.text l.message l.read).protocol in
+        rank_law dating dating l.text m l.message x n l.passes l.read
+        (stays_rfc3164 variant dating l.message x e (rw l.is_printed at s)) rank
 
     -- and where it has a quirk, a later one may take its place
     pub told_later : (later : Text) → m.protocol ≡ protocol.RFC3164 → (HasNoException dash_rule m → ⊥)

@@ -3,6 +3,8 @@
 use Rattle.std.specs.Prelude.{◌≡◌, ◌<◌, ◌∷◌, ◌++◌}
 use Rattle.syslog_loose.specs.Words.{ℕ, zero, suc, List, [], length, Some, None, IfSome, chars, Text, Each, Ends}
 use Rattle.syslog_loose.specs.Words.{facility_of, severity_of, ElementValue, is_blank, EndsInColon, IsCanonicalStamp}
+use Rattle.syslog_loose.specs.Words.{colon}
+use Rattle.std.specs.List.{repeat}
 use Rattle.syslog_pieces.specs.StructuredData.Element.{joined_elements}
 use Rattle.syslog_loose.specs.Message.{MessageValue}
 use Rattle.syslog_loose.specs.Printed.{priority_of}
@@ -11,13 +13,11 @@ use Rattle.syslog_loose.specs.declared.message.Protocol.TheVariants.{RFC3164}
 -- ---- a host that ends in colons
 
 abbrev pub colons : ℕ → Text
-colons zero = []
-colons (suc n) = 58 ∷ colons n
+colons n = repeat n colon
 
 -- n times ` :`, and then the text
 abbrev pub colons_before : ℕ → Text → Text
-colons_before zero t = t
-colons_before (suc n) t = 32 ∷ 58 ∷ colons_before n t
+colons_before n t = repeat n (32 ∷ 58 ∷ []) ++ t
 
 -- a space and the message part, or nothing where that is empty
 unfoldable pub message_end : Text → Text

@@ -1,4 +1,4 @@
-use Rattle.syslog_loose.proofs.Names.{◌-◌, refl, chars-IsAscii, chars, colon, line_value, colon_ascii, on_ok_weaker}
+use Rattle.syslog_loose.proofs.Names.{◌-◌, chars-IsAscii, chars, colon, line_value, colon_ascii, on_ok_weaker}
 use Rattle.syslog_loose.proofs.SettlingLemmas.Jumps.{past_written}
 use Rattle.syslog_loose.proofs.jumps.write_past_colons.Goals as goal
 
@@ -7,6 +7,6 @@ print_line-requires c = record { utf8 = search; prints = λ h. cc; quiet = λ h.
 
 pub returns : goal.returns
 returns c =
-    on_ok_weaker c.push_tail.result (past_written (line_value c.args.line.now) _ (chars c.args.host.now)
-    (c.args.cut - 1) _ _ _ c.in_ok-print_line.ensures c.in_ok-push_colons.ensures refl refl refl refl
-    c.none.ensures.elements (chars-IsAscii colon colon_ascii)) c.push_tail.ensures
+    on_ok_weaker c.push_tail.result (past_written (line_value c.args.line.now) (chars c.args.host.now) (c.args.cut - 1) _ _ _
+    (rw (c.none.ensures.elements, chars-IsAscii colon colon_ascii) at c.in_ok-print_line.ensures)
+    c.in_ok-push_colons.ensures) c.push_tail.ensures
