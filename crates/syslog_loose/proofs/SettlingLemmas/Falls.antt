@@ -25,10 +25,11 @@ use Rattle.std.proofs.lemmas.List.{take-append-drop}
 use Rattle.std.proofs.lemmas.List.Prefix.{end_rest}
 use Rattle.syslog_loose.proofs.SettlingLemmas.Weights.{Decided, decided, find_run, no_char, no_list_by, no_list_inner}
 use Rattle.syslog_loose.proofs.SettlingLemmas.Weights.{left_free, colon_weight, fields_light, lone_light, free, paid}
-use Rattle.syslog_loose.proofs.SettlingLemmas.Weights.{at_most, list_read, dash_before, TakesNone, none_read}
+use Rattle.syslog_loose.proofs.SettlingLemmas.Weights.{at_most, list_read, dash_before}
 use Rattle.syslog_loose.proofs.Rfc3164Lemmas.{resolves_once, from_blanks, to_colon, to_colon_det, IsDigit, digit_range}
 use Rattle.syslog_loose.proofs.Rfc3164Lemmas.{rfc3164_bounded, printed_3164_is, to_stamp, to_stamp_det, from_stamp}
 use Rattle.syslog_loose.proofs.Rfc3164Lemmas.{body_det, told}
+use Rattle.syslog_pieces.proofs.PieceLemmas.Class.{firsts}
 use Rattle.syslog_loose.proofs.CanonicalLemmas.{canonical_names}
 use Rattle.syslog_loose.proofs.Rfc3164Lemmas.ReadBack.{program_field, resolved, no_tag_colon, names_back, tagged}
 use Rattle.syslog_loose.proofs.Rfc3164Lemmas.ReadBack.{host_field_back, program_text, stamp_low, body_back, stamp_back}
@@ -277,74 +278,37 @@ module _ (rule : DashRule) (t : Text) (n : Names3164) (vs : Values (body_row rul
     ]
   ]
 
--- ---- elements and the message after the colon: read as the same, or as a lighter message
-end_step : (rule : DashRule) (es : List ElementValue) (msg : Text) → AllByRecursion IsCanonicalElement es
-    → AllByRecursion (λ e. 0 < length e.params) es → Ends is_blank msg → (vs : Values (from_blanks rule)) (w v : ℕ)
-    → ListWeighs rule es msg w → ListWeighs rule (elements_or vs.1.0) vs.1.1.1.0 v → Front (Row (from_blanks rule))
-    (tail_text es msg) [] vs → (v < w) ⊎ ((v ≤ w) × (elements_or vs.1.0 ≡ es) × (vs.1.1.1.0 ≡ msg))
-end_step rule [] msg h k b vs w v x y d =
-    elim (list_read rule _ msg vs (message_blanks msg b) d) [
-      | inl (began, short) ↦ inl (omega (arith, paid x (λ n. began (n refl)), at_most y, short))
-      | inr (none, absent, same) ↦
-          inr (omega (arith, free y (λ e. rw same none)), ap elements_or absent, same)
-    ]
-end_step rule (e ∷ es) msg h k b vs w v x y d =
+-- ---- elements and the message after the colon
+
+-- they are read as they were printed, or a list begins the message, and less of it is left
+abbrev pub Ended : (rule : DashRule) → List ElementValue → Text → Values (from_blanks rule) → Type 0
+Ended rule es msg vs =
+    ((elements_or vs.1.0 ≡ es) × (vs.1.1.1.0 ≡ msg) × (es ≡ [] → BeginsNoList rule msg))
+    ⊎ ((es ≡ []) × (BeginsNoList rule msg → ⊥) × (length vs.1.1.1.0 < length msg) × (elements_or vs.1.0 ≡ [] → (rest : Text)
+    × (msg ≡ 45 ∷ rest) × IsDashBefore rule rest × Front (run is_blank) rest vs.1.1.1.0 tt))
+
+end_read : (rule : DashRule) (es : List ElementValue) (msg : Text) → AllByRecursion IsCanonicalElement es → AllByRecursion
+    (λ e. 0 < length e.params) es → Ends is_blank msg → (vs : Values (from_blanks rule)) → Front (Row (from_blanks rule))
+    (tail_text es msg) [] vs → Ended rule es msg vs
+end_read rule [] msg h k b vs d = elim (list_read rule _ msg vs (message_blanks msg b) d) [
+  | inl (none, absent, same) ↦ inl (ap elements_or absent, same, λ e. none)
+  | inr (began, short, dashed) ↦ inr (refl, began, short, dashed)
+]
+end_read rule (e ∷ es) msg h k b vs d =
+    let some : e ∷ es ≡ [] → BeginsNoList rule msg = λ z. absurd (cc) in
     let means = (front_same (Row (from_blanks rule)) (row_det (from_blanks rule) (body_det rule).1.1.1.1) d
-    (body_back rule (e ∷ es) msg h k b (λ z. absurd (let t : e ∷ es ≡ [] = z in cc)))).1 in
-    let same = ap (λ (u : Values (from_blanks rule)). elements_or u.1.0) means in
-    let zero = free y (λ z. absurd (let t : e ∷ es ≡ [] = sym same ∙ z in cc)) in
-    inr (omega (arith, zero), same, ap (λ (u : Values (from_blanks rule)). u.1.1.1.0) means)
+    (body_back rule (e ∷ es) msg h k b some)).1 in
+    inl (
+      ap (λ (u : Values (from_blanks rule)). elements_or u.1.0) means,
+      ap (λ (u : Values (from_blanks rule)). u.1.1.1.0) means,
+      some,
+    )
 
 -- ---- what is after the timestamp
 
 abbrev pub behind_space : MessageValue → Text
 behind_space m =
     name_text m.hostname ++ (32 ∷ (program_text m.appname m.procid ++ (58 ∷ tail_text m.structured_data m.msg)))
-
-module _ (rule : DashRule) (vs : Values (body_row rule)) (n : Names3164) (r : Resolves vs.0 vs.1.0 n) (v : ℕ)
-    (y : ListWeighs rule (elements_or vs.1.1.1.1.1.0) vs.1.1.1.1.1.1.1.0 v) where
-  -- it prints as the message did
-  abbrev Same : MessageValue → Type 0
-  Same m = (name_text n.hostname ≡ name_text m.hostname) × (tag_text n.appname n.procid ≡ tag_text m.appname m.procid)
-      × (elements_or vs.1.1.1.1.1.0 ≡ m.structured_data) × (vs.1.1.1.1.1.1.1.0 ≡ m.msg)
-
-  -- it weighs less than the message, or no more, and then it prints the same
-  abbrev Fallen : MessageValue → ℕ → Type 0
-  Fallen m w = (names_weight n.hostname n.procid + v < names_weight m.hostname m.procid + w)
-      ⊎ ((names_weight n.hostname n.procid + v ≤ names_weight m.hostname m.procid + w) × Same m)
-
-  tail_step : (m : MessageValue) (w : ℕ) → ListWeighs rule m.structured_data m.msg w → HasExceptionsAlone m
-      → IfSome m.procid IsBoundedProcess → (rule ≡ BeforeBlank) ⊎ IfSome m.procid HasNoColon
-      → Front (Row (body_row rule)) (32 ∷ behind_space m) [] vs → Fallen m w
-  tail_step m w x near bounded dashes d =
-      elim (names_step rule (tail_text m.structured_data m.msg) n vs r m.hostname m.appname m.procid near.hostname
-      near.odd_host near.names near.colon_process dashes bounded d) [
-        | inl k ↦ elim (end_step rule m.structured_data m.msg near.elements near.parameters near.msg_front vs.1.1.1.1
-            w v x y k.behind) [
-              | inl l ↦ inl (omega (arith, k.light))
-              | inr (l, e, f) ↦ inr (omega (arith, k.light), (k.host_is, k.tag_is, e, f))
-            ]
-        | inr (lighter, free, _) ↦ inl (omega (arith, lighter, free v y))
-      ]
-
-  -- where it begins with a digit, all of it is the message, without names
-  digit_tail : (t : Text) → Begins IsDigit t → Front (Row (body_row rule)) t [] vs
-      → names_weight n.hostname n.procid + v ≡ 0
-  digit_tail [] b d = absurd b
-  digit_tail (c ∷ t) b d =
-      let u = digit_range c b in
-      let no_space = no_char 32 c t (λ e. omega arith) in
-      let gap = no_blanks (c ∷ t) (grind (arith, nat_tests)) in
-      let (means, behind) = known rule t n vs r
-      (row_of to_colon (optional_none (spaced host) (no_spaced_space host no_space)
-      then optional_none (spaced tag_word) (no_spaced_space tag_word no_space) then gap
-      then optional_none (exactly colon) (no_char 58 c t (λ e. omega arith)) then refl)) d in
-      let none = no_list_by rule c t (λ e. omega arith) (λ e. omega arith) in
-      omega (
-        arith,
-        fields_light None None n means,
-        left_free rule (c ∷ t) (c ∷ t) vs.1.1.1.1 gap behind v none y,
-      )
 
 -- ---- the timestamp
 
@@ -384,70 +348,6 @@ pub printed_same : (m n : MessageValue) → priority_of n ≡ priority_of m → 
 unfolding printed_3164
 printed_same m n a b c d e f = rw (a, b, c, d, e, f) refl
 
-module _ (rule : DashRule) (dating : Dating) (m : MessageValue) (near : HasExceptionsAlone m)
-    (bounded : IfSome m.procid IsBoundedProcess) (dashes : (rule ≡ BeforeBlank) ⊎ IfSome m.procid HasNoColon)
-    (vs : Values (rfc3164_row rule dating)) (n : Names3164) (r : Resolves vs.1.1.1.0 vs.1.1.1.1.0 n) (w v : ℕ)
-    (x : Weighs rule m w) (y : Weighs rule (told rule dating vs n) v) where
-  abbrev Tail : Text → Type 0
-  Tail t = Front (Row (body_row rule)) t [] vs.1.1.1
-
-  abbrev Stamped : Option OffsetTimestamp → Type 0
-  Stamped s = Front (Row (from_stamp rule dating)) (timestamp_text s ++ (32 ∷ behind_space m)) [] vs.1.1
-
-  tail : Tail (32 ∷ behind_space m) → Fallen rule vs.1.1.1 n r y.taken y.taken_is m x.taken
-  tail d = tail_step rule vs.1.1.1 n r y.taken y.taken_is m x.taken x.taken_is near bounded dashes d
-
-  -- a timestamp that is read as another, or as none
-  odd_stamp : (s : Option OffsetTimestamp) → (IfSome s IsCanonicalStamp → ⊥) → x.stamp ≡ 1 → Stamped s → v < w
-  odd_stamp None k o d = absurd (k tt)
-  odd_stamp (Some s) k o d =
-      let (u, stamp, more) = row_head (rfc3164_stamp dating) (body_row rule) d in
-      let (canonical, next) = stamp_step dating s (behind_space m) stamp.piece u vs.1.1.0 stamp.whole stamp.is in
-      let z = free y.stamp_is canonical in
-      elim next [
-        | inl a ↦ elim (tail (subst Tail a more)) [
-          | inl l ↦ omega (arith, x.total, y.total)
-          | inr (l, k) ↦ omega (arith, x.total, y.total)
-        ]
-        | inr b ↦ omega (arith, x.total, y.total, digit_tail rule vs.1.1.1 n r y.taken y.taken_is u b more)
-      ]
-
-  lighter : Costs (IfSome m.timestamp IsCanonicalStamp) 1 x.stamp → vs.0 ≡ Some (priority_of m) → Stamped m.timestamp
-      → (v < w) ⊎ (printed_3164 (told rule dating vs n) ≡ printed_3164 m)
-  lighter (inr (k, o)) p d = inl (odd_stamp m.timestamp k o d)
-  lighter (inl (k, o)) p d =
-      let front = stamp_back dating m.timestamp (behind_space m) k in
-      let e = step_value (rfc3164_stamp dating) (body_row rule) (rfc3164_stamp_det dating) front d in
-      let z = free y.stamp_is (rw e k) in
-      let same : priority_of (told rule dating vs n) ≡ priority_of m =
-      rw p (priority_again (priority_of m) (priority_small m)) in
-      elim (tail (step (rfc3164_stamp dating) (body_row rule) (rfc3164_stamp_det dating) front d)) [
-        | inl l ↦ inl (omega (arith, x.total, y.total))
-        | inr (l, (host, tag, es, msg)) ↦ inr (printed_same m (told rule dating vs n) same e host tag es msg)
-      ]
-
--- The printed text of a message that was read is read as one that prints the same, or as a lighter one.
-pub falls : (rule : DashRule) (first second : Dating) (text : Text) (m n : MessageValue) (w v : ℕ)
-    → (rule ≡ BeforeBlank) ⊎ IfSome m.procid HasNoColon → IsRead3164 rule first text m
-    → IsRead3164 rule second (printed m) n → Weighs rule m w → Weighs rule n v → (v < w) ⊎ (printed n ≡ printed m)
-falls rule first second text m n w v dashes r s x y =
-    let near = read_near rule first text m r in
-    let bounded = (rfc3164_bounded rule first text m r).procid in
-    let (other, resolves, means) = s.means in
-    let print = printed_3164_is m near.protocol in
-    let vs = s.values in
-    let d = rw (print, trimmed_whole m near.msg_end) at (division_front (rfc3164_row rule second) s.division) in
-    let (first, more) = rows_step to_stamp (from_stamp rule second) to_stamp_det {vs = vs}
-    (to_stamp_back m (behind_space m)) d in
-    let z = subst (λ (u : MessageValue). Weighs rule u v) means y in
-    elim (lighter rule second m near bounded dashes vs other resolves w v x z x.stamp_is
-    (ap (λ (u : Values to_stamp). u.0) first) more) [
-      | inl l ↦ inl l
-      | inr e ↦ inr (ap printed means ∙ e ∙ sym print)
-    ]
-
--- ---- ranks
-
 -- what stands after a dash that was taken is nothing, or stands after blanks
 end_or_dashed : (t rest left : Text) → t ≡ 45 ∷ rest → IsDashBefore BeforeBlank rest → Front (run is_blank) rest left tt
     → (left ≡ []) ⊎ IsDashed t left
@@ -475,37 +375,123 @@ no_end t e = (
   λ p q v f h. no_full_nil p q v (sym e ∙ f) h,
 )
 
-module _ (dating : Dating) (m : MessageValue) (near : HasExceptionsAlone m) (bounded : IfSome m.procid IsBoundedProcess)
-    (n : MessageValue) (s : IsRead3164 BeforeBlank dating (printed m) n) where
-  abbrev IsStamped : Option OffsetTimestamp → Type 0
-  IsStamped v = Front (Row (from_stamp BeforeBlank dating)) (timestamp_text v ++ (32 ∷ behind_space m)) [] s.values.1.1
+module _ (rule : DashRule) (first second : Dating) (text : Text) (m n : MessageValue) (r : IsRead3164 rule first text m)
+    (s : IsRead3164 rule second (printed m) n) (dashes : (rule ≡ BeforeBlank) ⊎ IfSome m.procid HasNoColon) where
+  near : HasExceptionsAlone m
+  near = read_near rule first text m r
 
-  stamped : IsStamped m.timestamp
-  stamped =
-      let d = rw (printed_3164_is m near.protocol, trimmed_whole m near.msg_end) at
-      (division_front (rfc3164_row BeforeBlank dating) s.division) in
-      (rows_step to_stamp (from_stamp BeforeBlank dating) to_stamp_det {vs = s.values} (to_stamp_back m (behind_space m))
-      d).1
+  abbrev Tail : Text → Type 0
+  Tail t = Front (Row (body_row rule)) t [] s.values.1.1.1
 
-  stamp_after : (v : Option OffsetTimestamp) → IsStamped v → IfSome s.values.1.1.0 IsCanonicalStamp
-  stamp_after None d = rw (step_value (rfc3164_stamp dating) (body_row BeforeBlank) (rfc3164_stamp_det dating)
-      (stamp_back dating None (behind_space m) tt) d) tt
-  stamp_after (Some z) d =
-      let (u, stamp, more) = row_head (rfc3164_stamp dating) (body_row BeforeBlank) d in
-      (stamp_step dating z (behind_space m) stamp.piece u _ stamp.whole stamp.is).0
+  abbrev Stamped : Option OffsetTimestamp → Type 0
+  Stamped v = Front (Row (from_stamp rule second)) (timestamp_text v ++ (32 ∷ behind_space m)) [] s.values.1.1
+
+  stamped : (firsts to_stamp (from_stamp rule second) s.values ≡ (Some (priority_of m), (tt, tt))) × Stamped m.timestamp
+  stamped = rows_step to_stamp (from_stamp rule second) to_stamp_det {vs = s.values} (to_stamp_back m (behind_space m))
+      (rw (printed_3164_is m near.protocol, trimmed_whole m near.msg_end) at
+      (division_front (rfc3164_row rule second) s.division))
+
+  -- a canonical timestamp is read as it was printed
+  kept : (v : Option OffsetTimestamp) → IfSome v IsCanonicalStamp → Stamped v
+      → (s.values.1.1.0 ≡ v) × Tail (32 ∷ behind_space m)
+  kept v k d = let front = stamp_back second v (behind_space m) k in (
+    step_value (rfc3164_stamp second) (body_row rule) (rfc3164_stamp_det second) front d,
+    step (rfc3164_stamp second) (body_row rule) (rfc3164_stamp_det second) front d,
+  )
+
+  -- any is read as a canonical one or none, and what follows is what was printed after it, or begins with a digit
+  other : (v : Option OffsetTimestamp) → Stamped v → IfSome s.values.1.1.0 IsCanonicalStamp
+      × (t : Text) × Tail t × ((t ≡ 32 ∷ behind_space m) ⊎ Begins IsDigit t)
+  other None d = let (e, tail) = kept None tt d in (rw e tt, 32 ∷ behind_space m, tail, inl refl)
+  other (Some z) d =
+      let (u, stamp, more) = row_head (rfc3164_stamp second) (body_row rule) d in
+      let (canonical, next) = stamp_step second z (behind_space m) stamp.piece u _ stamp.whole stamp.is in
+      (canonical, u, more, next)
+
+  abbrev Named : Type 0
+  Named = Step rule (tail_text m.structured_data m.msg) s.means.0 s.values.1.1.1 s.means.1 m.hostname m.appname m.procid
+
+  named_as : Tail (32 ∷ behind_space m) → Named
+  named_as = names_step rule (tail_text m.structured_data m.msg) s.means.0 s.values.1.1.1 s.means.1 m.hostname m.appname
+      m.procid near.hostname near.odd_host near.names near.colon_process dashes (rfc3164_bounded rule first text m r).procid
+
+  named : IfSome m.timestamp IsCanonicalStamp → Named
+  named k = named_as (kept m.timestamp k stamped.1).1
+
+  ended : Stays rule (tail_text m.structured_data m.msg) s.means.0 s.values.1.1.1 s.means.1 m.hostname m.appname m.procid
+      → Ended rule m.structured_data m.msg s.values.1.1.1.1.1.1.1
+  ended k = end_read rule m.structured_data m.msg near.elements near.parameters near.msg_front _ k.behind
+
+  -- ---- weights
+  module _ (w v : ℕ) (x : Weighs rule m w) (y : Weighs rule n v) where
+    z : Weighs rule (told rule second s.values s.means.0) v
+    z = subst (λ (u : MessageValue). Weighs rule u v) s.means.2 y
+
+    -- the weight without the timestamp's
+    abbrev old : ℕ
+    old = names_weight m.hostname m.procid + x.taken
+
+    abbrev new : ℕ
+    new = names_weight s.means.0.hostname s.means.0.procid + z.taken
+
+    tail_falls : Tail (32 ∷ behind_space m)
+        → (new < old) ⊎ ((new ≤ old) × (s.values.1.1.0 ≡ m.timestamp → printed n ≡ printed m))
+    tail_falls d = elim (named_as d) [
+      | inr (lighter, nothing, _) ↦ inl (omega (arith, lighter, nothing z.taken z.taken_is))
+      | inl k ↦ elim (ended k) [
+        | inl (es, msg, none) ↦ inr (
+          omega (arith, k.light, free z.taken_is (λ e. rw msg (none (sym es ∙ e)))),
+          λ e. ap printed s.means.2 ∙ printed_same m (told rule second s.values s.means.0)
+              (rw (ap (λ (u : Values to_stamp). u.0) stamped.0) (priority_again (priority_of m) (priority_small m))) e
+              k.host_is k.tag_is es msg ∙ sym (printed_3164_is m near.protocol),
+        )
+        | inr (es, began, short, _) ↦
+            inl (omega (arith, k.light, paid x.taken_is (λ f. began (f es)), at_most z.taken_is, short))
+      ]
+    ]
+
+    -- where it begins with a digit, all of it is the message, without names
+    digit_falls : (t : Text) → Begins IsDigit t → Tail t → new ≡ 0
+    digit_falls [] b d = absurd b
+    digit_falls (c ∷ t) b d =
+        let u = digit_range c b in
+        let no_space = no_char 32 c t (λ e. omega arith) in
+        let gap = no_blanks (c ∷ t) (grind (arith, nat_tests)) in
+        let (means, behind) = known rule t s.means.0 s.values.1.1.1 s.means.1
+        (row_of to_colon (optional_none (spaced host) (no_spaced_space host no_space)
+        then optional_none (spaced tag_word) (no_spaced_space tag_word no_space) then gap
+        then optional_none (exactly colon) (no_char 58 c t (λ e. omega arith)) then refl)) d in
+        let none = no_list_by rule c t (λ e. omega arith) (λ e. omega arith) in
+        omega (
+          arith,
+          fields_light None None s.means.0 means,
+          left_free rule (c ∷ t) (c ∷ t) s.values.1.1.1.1.1.1.1 gap behind z.taken none z.taken_is,
+        )
+
+    -- The printed text of a message that was read is read as one that prints the same, or as a lighter one.
+    pub falls : (v < w) ⊎ (printed n ≡ printed m)
+    falls = elim x.stamp_is [
+      | inl (k, o) ↦
+          let (e, d) = kept m.timestamp k stamped.1 in
+          let nothing = free z.stamp_is (rw e k) in
+          elim (tail_falls d) [ inl l ↦ inl (omega (arith, x.total, z.total)) | inr (_, same) ↦ inr (same e) ]
+      | inr (k, o) ↦
+          let (canonical, t, d, next) = other m.timestamp stamped.1 in
+          let nothing = free z.stamp_is canonical in
+          let less : new ≤ old = elim next [
+            | inl e ↦ elim (tail_falls (subst Tail e d)) [ inl l ↦ omega arith | inr (l, _) ↦ l ]
+            | inr b ↦ omega (arith, digit_falls t b d)
+          ] in
+          inl (omega (arith, x.total, z.total))
+    ]
+
+  -- ---- ranks
 
   canonical : IfSome n.timestamp IsCanonicalStamp
-  canonical = rw s.means.2 (stamp_after m.timestamp stamped)
-
-  named : IfSome m.timestamp IsCanonicalStamp → Step BeforeBlank (tail_text m.structured_data m.msg) s.means.0
-      s.values.1.1.1 s.means.1 m.hostname m.appname m.procid
-  named k = names_step BeforeBlank (tail_text m.structured_data m.msg) s.means.0 s.values.1.1.1 s.means.1 m.hostname
-      m.appname m.procid near.hostname near.odd_host near.names near.colon_process (inl refl) bounded
-      (step (rfc3164_stamp dating) (body_row BeforeBlank) (rfc3164_stamp_det dating)
-      (stamp_back dating m.timestamp (behind_space m) k) stamped)
+  canonical = rw s.means.2 (other m.timestamp stamped.1).0
 
   quiet_so : HasQuietNames s.means.0.hostname s.means.0.procid → HasNoNameException n
-  quiet_so q = rw s.means.2 (record { timestamp = stamp_after m.timestamp stamped; names = q })
+  quiet_so q = rw s.means.2 (record { timestamp = (other m.timestamp stamped.1).0; names = q })
 
   host_falls : IfSome m.timestamp IsCanonicalStamp → IfSome m.hostname EndsOnce
       → IfSome n.hostname (λ h. EndsInColon h → ⊥)
@@ -522,67 +508,57 @@ module _ (dating : Dating) (m : MessageValue) (near : HasExceptionsAlone m) (bou
     | inr (_, _, inr (x, is, host)) ↦ absurd ((rw is at none) (x, refl))
   ]
 
-  -- ---- the message part
-  abbrev Part : Type 0
-  Part = n.structured_data ≡ [] → (m.structured_data ≡ []) × TakesNone BeforeBlank m.msg n.msg
-
-  part_of : (es : List ElementValue) → m.structured_data ≡ es → Front (Row (from_blanks BeforeBlank))
-      (tail_text es m.msg) [] s.values.1.1.1.1.1.1.1 → elements_or s.values.1.1.1.1.1.1.1.1.0 ≡ []
-      → (m.structured_data ≡ []) × TakesNone BeforeBlank m.msg s.values.1.1.1.1.1.1.1.1.1.1.0
-  part_of [] e d none = (e, none_read BeforeBlank _ m.msg _ (message_blanks m.msg near.msg_front) d none)
-  part_of (x ∷ es) e d none =
-      let means = (front_same (Row (from_blanks BeforeBlank)) (row_det (from_blanks BeforeBlank)
-      (body_det BeforeBlank).1.1.1.1) d (body_back BeforeBlank (x ∷ es) m.msg (rw e at near.elements)
-      (rw e at near.parameters) near.msg_front (λ z. absurd (let t : x ∷ es ≡ [] = z in cc)))).1 in
-      let same = ap (λ (u : Values (from_blanks BeforeBlank)). elements_or u.1.0) means in
-      absurd (let z : x ∷ es ≡ [] = sym same ∙ none in cc)
-
-  part : HasNoNameException m → Part
-  part q = elim (named q.timestamp) [
-    | inl stays ↦ rw s.means.2 (part_of m.structured_data refl stays.behind)
+  quiet_ended : HasNoNameException m → Ended rule m.structured_data m.msg s.values.1.1.1.1.1.1.1
+  quiet_ended q = elim (named q.timestamp) [
+    | inl stays ↦ ended stays
     | inr (_, _, inl (cut, _)) ↦ absurd (cut q.names.no_colon)
     | inr (_, _, inr (x, is, _)) ↦ absurd ((rw is at q.names.no_last_colon) (x, refl))
   ]
 
-  no_list : HasNoNameException m → BeginsNoDashes m → n.structured_data ≡ [] → BeginsNoList dash_rule n.msg
-  no_list q bare es =
-      let (none, taken) = part q es in
-      elim taken [
-        | inl n ↦ n
-        | inr (rest, is, before, gap) ↦ elim (end_or_dashed m.msg rest n.msg is before gap) [
-          | inl e ↦ no_end n.msg e
-          | inr d ↦ absurd (bare none n.msg d)
-        ]
-      ]
+module _ (first second : Dating) (text : Text) (m n : MessageValue) (r : IsRead3164 BeforeBlank first text m)
+    (s : IsRead3164 BeforeBlank second (printed m) n) where
+  abbrev EndedSo : Type 0
+  EndedSo = Ended BeforeBlank m.structured_data m.msg s.values.1.1.1.1.1.1.1
 
-  no_dashes : HasNoNameException m → (m.structured_data ≡ [] → (p q : Text) → IsDashed m.msg p → IsDashed p q → ⊥)
+  no_list : EndedSo → BeginsNoDashes m → n.structured_data ≡ [] → BeginsNoList dash_rule n.msg
+  no_list end bare = rw s.means.2 (λ e. elim end [
+    | inl (es, msg, none) ↦ rw msg (none (sym es ∙ e))
+    | inr (es, _, _, dashed) ↦
+        let (rest, is, before, gap) = dashed e in
+        elim (end_or_dashed m.msg rest _ is before gap) [ inl z ↦ no_end _ z | inr d ↦ absurd (bare es _ d) ]
+  ])
+
+  no_dashes : EndedSo → (m.structured_data ≡ [] → (p q : Text) → IsDashed m.msg p → IsDashed p q → ⊥)
       → BeginsNoDashes n
-  no_dashes q last es next d =
-      let (none, taken) = part q es in
-      elim taken [
-        | inl n ↦ n.0 (d.blanks ++ next) d.whole (dash_before d.blanks next d.some d.each)
-        | inr (rest, is, before, gap) ↦ elim (end_or_dashed m.msg rest n.msg is before gap) [
-          | inl e ↦ let z = sym e ∙ d.whole in cc
-          | inr f ↦ last none n.msg next f d
+  no_dashes end last = rw s.means.2 (λ e next d. elim end [
+    | inl (es, msg, none) ↦
+        (none (sym es ∙ e)).0 (d.blanks ++ next) (sym msg ∙ d.whole) (dash_before d.blanks next d.some d.each)
+    | inr (es, _, _, dashed) ↦
+        let (rest, is, before, gap) = dashed e in
+        elim (end_or_dashed m.msg rest _ is before gap) [
+          | inl z ↦ let k = sym z ∙ d.whole in cc
+          | inr f ↦ last es _ next f d
         ]
-      ]
+  ])
+
+  abbrev quiet : IfSome m.timestamp IsCanonicalStamp → IfSome m.hostname (λ h. EndsInColon h → ⊥) → HasNoNameException n
+  quiet = quiet_falls BeforeBlank first second text m n r s (inl refl)
+
+  abbrev end : HasNoNameException m → EndedSo
+  end = quiet_ended BeforeBlank first second text m n r s (inl refl)
 
   -- the rank of what a pass prints of a message falls
-  rank_falls : (x : MessageValue) (k : ℕ) → Prints x m → HasRank (suc k) x → HasRank k n
-  rank_falls x zero p (quiet, bare) =
-      let q = p.quiet quiet in
-      let z = quiet_falls q.timestamp q.names.no_last_colon in
-      record { timestamp = z.timestamp; names = z.names; no_list = no_list q (p.no_dashes quiet bare) }
-  rank_falls x (suc zero) p quiet =
-      let q = p.quiet quiet in (quiet_falls q.timestamp q.names.no_last_colon, no_dashes q (p.last_dash quiet))
-  rank_falls x (suc (suc zero)) p (stamp, host) = quiet_falls (rw p.timestamp stamp) (rw (p.host host) host)
-  rank_falls x (suc (suc (suc zero))) p stamp = (canonical, host_falls (rw p.timestamp stamp) (p.one_colon stamp))
-  rank_falls x (suc (suc (suc (suc zero)))) p h = canonical
+  pub rank_falls : (x : MessageValue) (k : ℕ) → Prints x m → HasRank (suc k) x → HasRank k n
+  rank_falls x zero p (still, bare) =
+      let q = p.quiet still in
+      let z = quiet q.timestamp q.names.no_last_colon in
+      record { timestamp = z.timestamp; names = z.names; no_list = no_list (end q) (p.no_dashes still bare) }
+  rank_falls x (suc zero) p still =
+      let q = p.quiet still in (quiet q.timestamp q.names.no_last_colon, no_dashes (end q) (p.last_dash still))
+  rank_falls x (suc (suc zero)) p (stamp, host) = quiet (rw p.timestamp stamp) (rw (p.host host) host)
+  rank_falls x (suc (suc (suc zero))) p stamp = (
+    canonical BeforeBlank first second text m n r s (inl refl),
+    host_falls BeforeBlank first second text m n r s (inl refl) (rw p.timestamp stamp) (p.one_colon stamp),
+  )
+  rank_falls x (suc (suc (suc (suc zero)))) p h = canonical BeforeBlank first second text m n r s (inl refl)
   rank_falls x (suc (suc (suc (suc (suc k))))) p h = tt
-
-pub rank_law : (first second : Dating) (text : Text) (m later n : MessageValue) (rank : ℕ) → Prints m later
-    → IsRead3164 BeforeBlank first text later → IsRead3164 BeforeBlank second (printed later) n → HasRank (suc rank) m
-    → HasRank rank n
-rank_law first second text m later n rank p r s h =
-    rank_falls second later (read_near BeforeBlank first text later r)
-    (rfc3164_bounded BeforeBlank first text later r).procid n s m rank p h

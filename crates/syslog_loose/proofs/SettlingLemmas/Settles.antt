@@ -27,7 +27,7 @@ use Rattle.syslog_loose.specs.Settling.{SettlesAs, IsSettlingFault, Settles}
 use Rattle.syslog_loose.specs.Passes.{IsAtRest, AnswersPass, WritesRound, round_answer}
 use Rattle.syslog_loose.proofs.ReadBackLemmas.{read_as, read_bounded, printed_exact, fixed_again}
 use Rattle.syslog_loose.proofs.CanonicalLemmas.{canonical_near}
-use Rattle.syslog_loose.proofs.SettlingLemmas.Falls.{falls, same_text, rank_law}
+use Rattle.syslog_loose.proofs.SettlingLemmas.Falls.{falls, same_text, rank_falls}
 use Rattle.syslog_loose.proofs.SettlingLemmas.Weights.{light, weight}
 use Rattle.std.specs.declared.alloc.AllocError.{AllocError}
 use Rattle.syslog_loose.specs.declared.message.Protocol.TheVariants as protocol
@@ -279,7 +279,7 @@ module _ (variant : Variant) (dating : Dating) where
       let unsettled : IsSettled variant dating u → ⊥ = λ s. none n u (omega arith) (before, round, h) s in
       let first = unsettled_rfc3164 before u h unsettled in
       let (v, y) = weight dash_rule h.message in
-      elim (falls dash_rule dating dating before h.message m v w (inl refl) first (rw h.is_printed at r) y x) [
+      elim (falls dash_rule dating dating before h.message m first second (inl refl) v w y x) [
         | inl less ↦ omega (
           arith,
           less,
@@ -354,8 +354,8 @@ module _ (variant : Variant) (dating : Dating) where
         → IsRead variant dating later x → HasRank (suc n) m → HasRank n x
     later_falls later l n x s rank =
         let e = (read_near dash_rule dating l.text l.message l.read).protocol in
-        rank_law dating dating l.text m l.message x n l.passes l.read
-        (stays_rfc3164 variant dating l.message x e (rw l.is_printed at s)) rank
+        rank_falls dating dating l.text l.message x l.read
+        (stays_rfc3164 variant dating l.message x e (rw l.is_printed at s)) m n l.passes rank
 
     -- and where it has a quirk, a later one may take its place
     pub told_later : (later : Text) → m.protocol ≡ protocol.RFC3164 → (HasNoException dash_rule m → ⊥)

@@ -372,20 +372,22 @@ module _ (rule : DashRule) where
     ap length i,
   )
 
-  -- what is left of a text from which a list may be taken: less, where one begins it, and otherwise all of it
-  abbrev Leaves : Text → Option (List ElementValue) → Text → Type 0
-  Leaves t v left = ((BeginsNoList rule t → ⊥) × (length left < length t))
-      ⊎ (BeginsNoList rule t × (v ≡ None) × (left ≡ t))
+  -- what is left of a text from which a list may be taken: all of it, where none begins it, and otherwise less; where no
+  -- element was taken then, it stands after a dash
+  abbrev pub Leaves : Text → Option (List ElementValue) → Text → Type 0
+  Leaves t v left = (BeginsNoList rule t × (v ≡ None) × (left ≡ t))
+      ⊎ ((BeginsNoList rule t → ⊥) × (length left < length t) × (elements_or v ≡ [] → (rest : Text) × (t ≡ 45 ∷ rest)
+      × IsDashBefore rule rest × Front (run is_blank) rest left tt))
 
   leaves : {t q : Text} (v : Option (List ElementValue)) (left : Text) → Ends is_blank t
       → Front (optional (rfc3164_list rule)) t q v → Front (run is_blank) q left tt → Leaves t v left
-  leaves {t = t} None left b g gap = inr (
+  leaves {t = t} None left b g gap = inl (
     begins_no_list rule t (absent_none (rfc3164_list rule) g),
     refl,
     (front_same (run is_blank) (run_det is_blank) (rw (← absent_stays (rfc3164_list rule) g) at gap)
         (piece_front (run is_blank) [] t tt (tt, b))).0,
   )
-  leaves {t = t} {q = q} (Some es) left b g gap = inl (
+  leaves {t = t} {q = q} (Some es) left b g gap = inr (
     λ n. no_front_no (rfc3164_list rule) (no_rfc3164_list rule t n) (present_front (rfc3164_list rule) g),
     omega (
       arith,
@@ -394,51 +396,33 @@ module _ (rule : DashRule) where
       ap length g.whole,
       length-append g.piece q,
     ),
+    λ e. elim g.is [
+      | inl (d, before, _) ↦ (q, g.whole ∙ ap (λ (x : Text). x ++ q) d, before, gap)
+      | inr (l, _) ↦ absurd (omega (arith, l, ap length e))
+    ],
   )
-
-  -- where no element is taken, no list begins what is left, or it stands after a dash that was taken
-  abbrev pub TakesNone : Text → Text → Type 0
-  TakesNone t left = BeginsNoList rule left
-      ⊎ ((rest : Text) × (t ≡ 45 ∷ rest) × IsDashBefore rule rest × Front (run is_blank) rest left tt)
-
-  takes_none : {t q : Text} (v : Option (List ElementValue)) (left : Text) → Ends is_blank t → Front
-      (optional (rfc3164_list rule)) t q v → Front (run is_blank) q left tt → elements_or v ≡ [] → TakesNone t left
-  takes_none None left b g gap e = elim (leaves None left b g gap) [
-    | inl (began, l) ↦ absurd (began (begins_no_list rule _ (absent_none (rfc3164_list rule) g)))
-    | inr (n, _, same) ↦ inl (rw same n)
-  ]
-  takes_none {q = q} (Some es) left b g gap e = elim g.is [
-    | inl (d, before, _) ↦ inr (q, g.whole ∙ ap (λ (x : Text). x ++ q) d, before, gap)
-    | inr (l, _) ↦ absurd (omega (arith, l, ap length e))
-  ]
 
   module _ (t u : Text) (vs : Values (from_blanks rule)) (gap : Front (run is_blank) t u tt)
       (d : Front (Row (from_blanks rule)) t [] vs) where
-    list_front : (q : Text) × Front (optional (rfc3164_list rule)) u q vs.1.0 × Front (run is_blank) q vs.1.1.1.0 tt
-    list_front =
-        let (q, list, (_, more, (_, end, _))) =
-        row_pieces (from_list rule) (step (run is_blank) (from_list rule) (run_det is_blank) gap d) in
-        (q, list, subst (λ (x : Text). Front (run is_blank) q x tt) (rest_whole end) more)
-
     -- what is read after blanks
     pub list_read : Leaves u vs.1.0 vs.1.1.1.0
-    list_read = let (q, list, more) = list_front in leaves vs.1.0 vs.1.1.1.0 gap.is.1 list more
-
-    pub none_read : elements_or vs.1.0 ≡ [] → TakesNone u vs.1.1.1.0
-    none_read e = let (q, list, more) = list_front in takes_none vs.1.0 vs.1.1.1.0 gap.is.1 list more e
+    list_read =
+        let (q, list, (_, more, (_, end, _))) =
+        row_pieces (from_list rule) (step (run is_blank) (from_list rule) (run_det is_blank) gap d) in
+        leaves vs.1.0 vs.1.1.1.0 gap.is.1 list (subst (λ (x : Text). Front (run is_blank) q x tt) (rest_whole end) more)
 
     -- a message that begins with no list weighs nothing
     pub left_free : (w : ℕ) → BeginsNoList rule u → ListWeighs rule (elements_or vs.1.0) vs.1.1.1.0 w → w ≡ 0
     left_free w n y =
-        elim list_read [ inl (began, short) ↦ absurd (began n) | inr (_, none, same) ↦ free y (λ e. rw same n) ]
+        elim list_read [ inl (_, none, same) ↦ free y (λ e. rw same n) | inr (began, _, _) ↦ absurd (began n) ]
 
   pub message_short : (t : Text) (vs : Values (from_blanks rule)) → Front (Row (from_blanks rule)) t [] vs
       → length vs.1.1.1.0 ≤ length t
   message_short t vs d =
       let (u, gap, _) = row_head (run is_blank) (from_list rule) d in
       elim (list_read t u vs gap d) [
-        | inl (_, l) ↦ omega (arith, l, front_longer _ gap)
-        | inr (_, _, e) ↦ omega (arith, ap length e, front_longer _ gap)
+        | inl (_, _, e) ↦ omega (arith, ap length e, front_longer _ gap)
+        | inr (_, l, _) ↦ omega (arith, l, front_longer _ gap)
       ]
 
 -- ---- the trimmed text
