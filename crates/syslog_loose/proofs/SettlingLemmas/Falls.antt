@@ -24,7 +24,7 @@ use Rattle.syslog_loose.proofs.Names.{dash_rule, no_full_nil, EndsOnce, HasRank,
 use Rattle.std.proofs.lemmas.List.{take-append-drop}
 use Rattle.std.proofs.lemmas.List.Prefix.{end_rest}
 use Rattle.syslog_loose.proofs.SettlingLemmas.Weights.{Decided, decided, find_run, no_char, no_list_by, no_list_inner}
-use Rattle.syslog_loose.proofs.SettlingLemmas.Weights.{left_free, colon_weight, fields_light, lone_light, free, paid}
+use Rattle.syslog_loose.proofs.SettlingLemmas.Weights.{left_free, colon_weight, fields_light, host_light, process_light, free, paid}
 use Rattle.syslog_loose.proofs.SettlingLemmas.Weights.{at_most, list_read, dash_before}
 use Rattle.syslog_loose.proofs.Rfc3164Lemmas.{resolves_once, from_blanks, to_colon, to_colon_det, IsDigit, digit_range}
 use Rattle.syslog_loose.proofs.Rfc3164Lemmas.{rfc3164_bounded, printed_3164_is, to_stamp, to_stamp_det, from_stamp}
@@ -48,12 +48,6 @@ ends_in : (h : Text) → Decided (EndsInColon h)
 ends_in h = elim (same_text (drop (length h - 1) h) colon) [
   | inl e ↦ inl (take (length h - 1) h, sym (rw e at (take-append-drop (length h - 1) h)))
   | inr n ↦ inr (λ k. n (end_rest h colon k.0 k.1))
-]
-
-canonical_or_odd : (h : Text) → IsVisible h → IsCanonicalHost h ⊎ IsOddHost h
-canonical_or_odd h k = elim (ends_in h) [
-  | inl o ↦ inr (inr o)
-  | inr e ↦ elim (same_text h dash) [ inl o ↦ inr (inl o) | inr m ↦ inl (k, m, e) ]
 ]
 
 -- a text that ends otherwise than in `]` is not of the form of a program's name
@@ -234,36 +228,36 @@ module _ (rule : DashRule) (t : Text) (n : Names3164) (vs : Values (body_row rul
       colon_moved colon behind (omega (arith, fields_light None None n means)) ([], refl, rw means tt)
   colons_moved (c ∷ h) k d =
       let (means, behind) = known (host_left (c ∷ h) t (omega arith, each_front is_not_whitespace (c ∷ h) colon k)) d in
-      let rest : IfSome n.hostname (λ y. y ≡ c ∷ h) = elim means [
-        | inl (tag, id, p, f, g, e) ↦ rw e tt
-        | inr (none, e) ↦ rw e refl
-      ] in
-      colon_moved (c ∷ h ++ colon) behind (omega (arith, lone_light (c ∷ h) n means, colon_weight (c ∷ h)))
-      (c ∷ h, refl, rest)
+      let heavy = colon_weight (c ∷ h) in
+      elim means [
+        | inl (tag, id, p, f, g, e) ↦ colon_moved (c ∷ h ++ colon) behind (rw e (omega (arith, process_light p, heavy)))
+            (c ∷ h, refl, rw e tt)
+        | inr (none, e) ↦ colon_moved (c ∷ h ++ colon) behind (rw e (omega (arith, host_light (c ∷ h), heavy)))
+            (c ∷ h, refl, rw e refl)
+      ]
 
   -- a host that is a dash is read as none
-  odd_step : (h : Text) (a : Option Text) (p : Option (ProcId Text)) → Each is_not_whitespace h → IsOddHost h
-      → a ≡ None → AreCanonicalNames (Some h) a p → Reads (names_text (Some h) a p t) → Step (Some h) a p
-  odd_step h (Some a) p b o e c d = cc
-  odd_step h None (Some p) b o e c d = absurd c
-  odd_step h None None b (inl e) f c d =
-      let k = canonical_stays None None None tt tt tt tt (rw e at d) in
-      inl (record {
-        light = (let l = k.light in omega arith);
-        host_is = k.host_is ∙ sym e;
-        tag_is = k.tag_is;
-        quiet = k.quiet;
-        behind = k.behind;
-      })
-  odd_step h None None b (inr (front, e)) f c d = inr (rw e (colons_moved front (rw e at b) (rw e at d)))
-
   whole_step : (h a : Option Text) (p : Option (ProcId Text)) → IfSome h IsVisible
       → IfSome h (λ x. IsOddHost x → a ≡ None) → AreCanonicalNames h a p → IfSome p HasNoColon
       → IfSome p IsBoundedProcess → Reads (names_text h a p t) → Step h a p
   whole_step None a p k o c q b d = inl (canonical_stays None a p tt c q b d)
-  whole_step (Some h) a p k o c q b d = elim (canonical_or_odd h k) [
-    | inl f ↦ inl (canonical_stays (Some h) a p f c q b d)
-    | inr f ↦ odd_step h a p k.1 f (o f) c d
+  whole_step (Some h) (Some a) p k o c q b d = inl (canonical_stays (Some h) (Some a) p
+      (k, (λ e. let x = o (inl e) in cc), (λ e. let x = o (inr e) in cc)) c q b d)
+  whole_step (Some h) None (Some p) k o c q b d = absurd c
+  whole_step (Some h) None None k o c q b d = elim (ends_in h) [
+    | inl (front, e) ↦ inr (rw e (colons_moved front (rw e at k.1) (rw e at d)))
+    | inr e ↦ elim (same_text h dash) [
+      | inr m ↦ inl (canonical_stays (Some h) None None (k, m, e) c q b d)
+      | inl z ↦
+          let k = canonical_stays None None None tt tt tt tt (rw z at d) in
+          inl (record {
+            light = (let l = k.light in omega arith);
+            host_is = k.host_is ∙ sym z;
+            tag_is = k.tag_is;
+            quiet = k.quiet;
+            behind = k.behind;
+          })
+    ]
   ]
 
   pub names_step : (h a : Option Text) (p : Option (ProcId Text)) → IfSome h IsVisible

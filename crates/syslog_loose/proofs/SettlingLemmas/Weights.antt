@@ -16,7 +16,7 @@ use Rattle.syslog_loose.proofs.Names.{names_weight, ListWeighs, Weighs, rest_who
 use Rattle.syslog_loose.proofs.Names.{full_shorter, no_rfc3164_list, drop_trailing_whitespace, skip_leading_whitespace}
 use Rattle.syslog_loose.proofs.Names.{spaced, join, host, tag_word, IsHost, rfc3164_stamp, Dating, MonthDate}
 use Rattle.syslog_loose.proofs.Names.{rfc3164_row, IsRead3164, body_row, priority, month, month_date, division_front}
-use Rattle.syslog_loose.proofs.Names.{spaced_parts, stamp_text-canonical, own_year, prefix_len, unsigned_abs, NamesHost}
+use Rattle.syslog_loose.proofs.Names.{spaced_parts, stamp_text-canonical, own_year, prefix_len, unsigned_abs, unwrap_or}
 use Rattle.syslog_pieces.proofs.PieceLemmas.Class.{row_nil, row_none_here, row_none_later, texted_front, no_front_no}
 use Rattle.syslog_pieces.proofs.PieceLemmas.Class.{Meets, meets_here, meets_none}
 use Rattle.syslog_pieces.proofs.PieceLemmas.Lists.{no_more, no_more_behind}
@@ -38,7 +38,7 @@ use Rattle.std.proofs.lemmas.Int.{ints, by_lt_z}
 use Rattle.std.proofs.lemmas.List.Sums.{suffix_len-le-length}
 use Rattle.syslog_loose.specs.Settling.{end_colons, colons_weight, host_weight, process_weight}
 use Rattle.syslog_loose.proofs.Rfc3164Lemmas.{from_list, from_blanks, from_colon, from_tag_end, from_tag, from_stamp}
-use Rattle.syslog_loose.proofs.Rfc3164Lemmas.{from_priority_end}
+use Rattle.syslog_loose.proofs.Rfc3164Lemmas.{from_priority_end, of_names}
 
 -- ---- whether a list begins a text can be decided, piece by piece
 
@@ -315,7 +315,7 @@ colons_light zero = omega arith
 colons_light (suc n) = omega arith
 
 -- a dash does not end in a colon
-host_light : (h : Text) → host_weight h ≤ end_colons h + 1
+pub host_light : (h : Text) → host_weight h ≤ end_colons h + 1
 host_light h = elim (decide (bytes_eq h dash)) [
   | inl e ↦ rw ((bytes_eq-Decides h dash).0 e) (omega arith)
   | inr e ↦ rw e (omega (arith, colons_light (end_colons h)))
@@ -326,7 +326,7 @@ colon_weight h =
     let e : end_colons (h ++ colon) ≡ 1 + end_colons h = ap (prefix_len (λ c. nat_eq c 58)) (reverse-append h colon) in
     let more : end_colons (h ++ colon) ≡ suc (end_colons h) = omega arith in omega (arith, ap colons_weight more)
 
-process_light : (p : ProcId Text) → process_weight p ≤ 1
+pub process_light : (p : ProcId Text) → process_weight p ≤ 1
 process_light (PID n) = omega arith
 process_light (Name t) = grind arith
 
@@ -336,28 +336,21 @@ field_length None = 0
 field_length (Some None) = 0
 field_length (Some (Some t)) = suc (length t)
 
-host_short : (h : Option Text) → option_map_or host_weight h 0 ≤ field_length (Some h)
-host_short None = omega arith
-host_short (Some h) = omega (arith, host_light h, suffix_len-le-length (λ c. nat_eq c 58) h)
-
-program_light : (host : Option Text) (text : Text) (n : Names3164) → NamesProgram host text n
-    → names_weight n.hostname n.procid ≤ field_length (Some host) + suc (length text)
-program_light host text n (inl (tag, id, p, f, h, e)) = rw e (omega (arith, host_short host, process_light p))
-program_light host text n (inr (none, e)) = rw e (omega (arith, host_short host))
-
-pub lone_light : (h : Text) (n : Names3164) → NamesHost h n → names_weight n.hostname n.procid ≤ end_colons h + 1
-lone_light h n (inl (tag, id, p, f, k, e)) = rw e (omega (arith, process_light p))
-lone_light h n (inr (none, e)) = rw e (omega (arith, host_light h))
+field_light : (v : Option (Option Text)) → option_map_or host_weight (unwrap_or v None) 0 ≤ field_length v
+field_light None = omega arith
+field_light (Some None) = omega arith
+field_light (Some (Some h)) = omega (arith, host_light h, suffix_len-le-length (λ c. nat_eq c 58) h)
 
 pub fields_light : (v t : Option (Option Text)) (n : Names3164) → Resolves v t n
     → names_weight n.hostname n.procid ≤ field_length v + field_length t
-fields_light None None n e = rw e (omega arith)
-fields_light (Some None) None n e = rw e (omega arith)
-fields_light (Some (Some h)) None n k = omega (arith, lone_light h n k, suffix_len-le-length (λ c. nat_eq c 58) h)
-fields_light None (Some None) n e = rw e (omega arith)
-fields_light (Some h) (Some None) n e = rw e (omega arith)
-fields_light None (Some (Some t)) n h = program_light None t n h
-fields_light (Some origin) (Some (Some t)) n h = program_light origin t n h
+fields_light =
+    of_names (λ v t n. names_weight n.hostname n.procid ≤ field_length v + field_length t) (record {
+      nobody = λ v t. omega arith;
+      host = λ h none. omega (arith, field_light (Some (Some h)));
+      lone = λ h tag id p f g. omega (arith, process_light p);
+      app = λ v t none. omega (arith, field_light v);
+      process = λ v t tag id p f g. omega (arith, field_light v, process_light p);
+    })
 
 -- ---- the message part
 module _ (rule : DashRule) where
@@ -460,11 +453,11 @@ tag_length : (p q : Text) (v : Option Text) → tag_word.Is p q v → field_leng
 tag_length p q None h = omega arith
 tag_length p q (Some x) (l, a, b, (w, d)) = omega (arith, ap length w)
 
-field_light : (Is : Text → Text → Option Text → Type 0) → ((p q : Text) (v : Option Text) → Is p q v → field_length
+field_short : (Is : Text → Text → Option Text → Type 0) → ((p q : Text) (v : Option Text) → Is p q v → field_length
     (Some v) ≤ suc (length p)) → {t q : Text} (v : Option (Option Text)) → Front (optional
     (spaced (record { Value = Option Text; Is = Is }))) t q v → field_length v + length q ≤ length t
-field_light Is short None f = omega (arith, front_longer _ f)
-field_light Is short {q = q} (Some v) f =
+field_short Is short None f = omega (arith, front_longer _ f)
+field_short Is short {q = q} (Some v) f =
     let (r, e, g) = spaced_parts (record { Value = Option Text; Is = Is }) (present_front _ f) in
     omega (arith, short g.piece q v g.is, ap length e, ap length g.whole, length-append g.piece q)
 
@@ -479,8 +472,8 @@ body_light rule t vs n f means =
     omega (
       arith,
       fields_light vs.0 vs.1.0 n means,
-      field_light IsHost host_length vs.0 origin,
-      field_light tag_word.Is tag_length vs.1.0 program,
+      field_short IsHost host_length vs.0 origin,
+      field_short tag_word.Is tag_length vs.1.0 program,
       front_longer _ blanks,
       front_longer _ mark,
       message_short rule u vs.1.1.1.1 f4,
