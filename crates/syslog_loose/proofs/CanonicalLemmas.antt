@@ -53,12 +53,15 @@ dash_bytes bs u e = sym (encodes-chars bs u) ∙ ap encode_utf8_all e ∙ encode
 
 -- ---- what the test of a host returns
 
-pub odd_told : (bs : List ℕ) → IsUtf8 bs → (front : List ℕ) × (bs ≡ front ++ colon)
-    → IsTrue false ↔ ((chars bs ≢ dash) × (EndsInColon (chars bs) → ⊥))
-odd_told bs u (front, e) =
+pub colon_end : (bs : List ℕ) → IsUtf8 bs → EndsInColon bs → EndsInColon (chars bs)
+colon_end bs u (front, e) =
     let whole = rw (e, take-append_seam) at (IsUtf8-take bs (length front) u
     (IsCharBoundary-at_seam bs front colon e (IsUtf8-from_ascii colon colon_ascii))) in
-    false_is (λ h. h.1 (chars front, rw (e, chars-append front colon whole, chars-IsAscii colon colon_ascii) refl))
+    (chars front, rw (e, chars-append front colon whole, chars-IsAscii colon colon_ascii) refl)
+
+pub odd_told : (bs : List ℕ) → IsUtf8 bs → (front : List ℕ) × (bs ≡ front ++ colon)
+    → IsTrue false ↔ ((chars bs ≢ dash) × (EndsInColon (chars bs) → ⊥))
+odd_told bs u ends = false_is (λ h. h.1 (colon_end bs u ends))
 
 -- bytes that do not end in a colon are of no text that does
 pub no_colon_end : (bs : List ℕ) → IsUtf8 bs → ((front : List ℕ) → bs ≢ front ++ colon) → EndsInColon (chars bs) → ⊥

@@ -73,7 +73,7 @@ fn last_colons<'a>(line: &Line<'a>) -> Option<(&'a str, usize)>
 
 // The name without all but one of the colons that it ends in, and how many were cut: by thirty-two, then one by one.
 fn cut_colons(name: &str) -> (&str, usize)
-    ensures cuts { CutsColons name.now result.0.now result.1 }
+    ensures cuts { CutsColons (chars name.now) (chars result.0.now) result.1 }
     ensures once { EndsOnce (chars result.0.now) }
 {
     let (shorter, many) = cut_runs(name, COLONS);
@@ -87,7 +87,7 @@ fn cut_runs<'a>(name: &'a str, run: &str) -> (&'a str, usize)
     requires some { 0 < length run.now }
     requires colons { run.now ≡ colons (length run.now) }
     ensures cuts { CutsColons name.now result.0.now result.1 }
-    ensures once { run.now ≡ 58 ∷ [] → EndsOnce (chars result.0.now) }
+    ensures once { run.now ≡ 58 ∷ [] → EndsOnce result.0.now }
     ensures within { result.1 + length result.0.now ≤ length name.now }
 {
     let mut host = name;
@@ -102,8 +102,8 @@ fn cut_runs<'a>(name: &'a str, run: &str) -> (&'a str, usize)
 // The text before the run at its end, if that ends in a colon too.
 #[inline(always)]
 fn before_run<'a>(text: &'a str, run: &str) -> Option<&'a str>
-    ensures { MatchOption result (run.now ≡ 58 ∷ [] → EndsOnce (chars text.now))
-        (λ x. (text.now ≡ x.now ++ run.now) × EndsInColon (chars x.now)) }
+    ensures { MatchOption result (run.now ≡ 58 ∷ [] → EndsOnce text.now)
+        (λ x. (text.now ≡ x.now ++ run.now) × EndsInColon x.now) }
 {
     let Some(shorter) = text.strip_suffix(run) else {
         return None;

@@ -175,16 +175,18 @@ module _ (rule : DashRule) (t : Text) (n : Names3164) (vs : Values (body_row rul
   known f d = let (same, behind) = rows_step to_colon (from_blanks rule) to_colon_det {vs = vs} f d in
       (subst (λ (x : Values to_colon). Resolves x.0 x.1.0 n) same r, behind)
 
-  canonical_stays : (h a : Option Text) (p : Option (ProcId Text)) → IfSome h IsCanonicalHost → AreCanonicalNames h a p
+  -- a host that prints as a canonical one is read as that one
+  canonical_stays : (g h a : Option Text) (p : Option (ProcId Text)) → name_text g ≡ name_text h
+      → names_weight g p ≤ names_weight h p → IfSome g IsCanonicalHost → AreCanonicalNames g a p
       → IfSome p HasNoColon → IfSome p IsBoundedProcess → Reads (names_text h a p t) → Stays h a p
-  canonical_stays h a p k c q b d =
-      let (means, behind) = known (names_back h a p t k c b) d in
-      let e : n ≡ names h a p = resolves_once (Some h) (program_field a p) n (names h a p) means (resolved h a p c b) in
+  canonical_stays g h a p same less k c q b d =
+      let (means, behind) = known (names_back g a p t k c b) (rw (← same) at d) in
+      let e : n ≡ names g a p = resolves_once (Some g) (program_field a p) n (names g a p) means (resolved g a p c b) in
       record {
-        light = rw e (omega arith);
-        host_is = ap (λ (x : Names3164). name_text x.hostname) e;
+        light = rw e less;
+        host_is = ap (λ (x : Names3164). name_text x.hostname) e ∙ same;
         tag_is = ap (λ (x : Names3164). tag_text x.appname x.procid) e;
-        quiet = rw e (quiet_names h p k q);
+        quiet = rw e (quiet_names g p k q);
         behind = behind;
       }
 
@@ -240,23 +242,15 @@ module _ (rule : DashRule) (t : Text) (n : Names3164) (vs : Values (body_row rul
   whole_step : (h a : Option Text) (p : Option (ProcId Text)) → IfSome h IsVisible
       → IfSome h (λ x. IsOddHost x → a ≡ None) → AreCanonicalNames h a p → IfSome p HasNoColon
       → IfSome p IsBoundedProcess → Reads (names_text h a p t) → Step h a p
-  whole_step None a p k o c q b d = inl (canonical_stays None a p tt c q b d)
-  whole_step (Some h) (Some a) p k o c q b d = inl (canonical_stays (Some h) (Some a) p
+  whole_step None a p k o c q b d = inl (canonical_stays None None a p refl (omega arith) tt c q b d)
+  whole_step (Some h) (Some a) p k o c q b d = inl (canonical_stays (Some h) (Some h) (Some a) p refl (omega arith)
       (k, (λ e. let x = o (inl e) in cc), (λ e. let x = o (inr e) in cc)) c q b d)
   whole_step (Some h) None (Some p) k o c q b d = absurd c
   whole_step (Some h) None None k o c q b d = elim (ends_in h) [
     | inl (front, e) ↦ inr (rw e (colons_moved front (rw e at k.1) (rw e at d)))
     | inr e ↦ elim (same_text h dash) [
-      | inr m ↦ inl (canonical_stays (Some h) None None (k, m, e) c q b d)
-      | inl z ↦
-          let k = canonical_stays None None None tt tt tt tt (rw z at d) in
-          inl (record {
-            light = (let l = k.light in omega arith);
-            host_is = k.host_is ∙ sym z;
-            tag_is = k.tag_is;
-            quiet = k.quiet;
-            behind = k.behind;
-          })
+      | inr m ↦ inl (canonical_stays (Some h) (Some h) None None refl (omega arith) (k, m, e) c q b d)
+      | inl z ↦ inl (canonical_stays None (Some h) None None (sym z) (omega arith) tt tt tt tt d)
     ]
   ]
 

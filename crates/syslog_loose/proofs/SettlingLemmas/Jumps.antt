@@ -20,7 +20,10 @@ use Rattle.std.specs.List.{repeat}
 use Rattle.syslog_loose.proofs.PrintedLemmas.{priority_small}
 use Rattle.syslog_loose.proofs.Rfc3164Lemmas.{rfc3164_bounded, printed_3164_is, printed_apart, from_blanks, from_stamp}
 use Rattle.syslog_loose.proofs.Rfc3164Lemmas.{to_colon, to_stamp, told}
-use Rattle.syslog_loose.proofs.CanonicalLemmas.{canonical_host, canonical_names, no_colon_end}
+use Rattle.syslog_loose.proofs.CanonicalLemmas.{canonical_host, canonical_names, colon_end}
+use Rattle.syslog_loose.proofs.Names.{IsAscii, chars-IsAscii, colon_ascii}
+use Rattle.std.proofs.lemmas.Str.{IsAscii-append, chars-append, encodes-IsAscii}
+use Rattle.std.proofs.lemmas.Str.Ascii.{IsAscii-nil}
 use Rattle.syslog_loose.proofs.Rfc3164Lemmas.Near.{read_near}
 use Rattle.syslog_loose.proofs.Rfc3164Lemmas.ReadBack.{body_back, names_back, program_field, resolved, stamp_back}
 use Rattle.syslog_loose.proofs.Rfc3164Lemmas.ReadBack.{to_stamp_back, trimmed_whole}
@@ -355,34 +358,37 @@ pub suffix_bytes : (run bytes short : List ℕ) → StripsSuffix (FindsTextSuffi
 suffix_bytes run bytes short (n, (long, whole, cut), front_is, fits) =
     whole ∙ ap (λ (x : List ℕ). x ++ run) (sym front_is)
 
--- the same by characters, of colons
-pub suffix_some : (bytes short : List ℕ) (n : ℕ) → IsUtf8 bytes → IsUtf8 short → bytes ≡ short ++ colons n
-    → chars bytes ≡ chars short ++ colons n
-unfolding encode_utf8
-suffix_some bytes short n u v e =
-    sym (chars_from_encodes (chars short ++ colons n) bytes u
-    (rw (encodes-append, encodes-chars short v, repeat_alone colon n refl) (sym e)))
+pub cut_on : (name host shorter : List ℕ) (c n : ℕ) → CutsColons name host c → host ≡ shorter ++ colons n
+    → (0 < c + n → EndsInColon shorter) → CutsColons name shorter (c + n)
+cut_on name host shorter c n k e o =
+    record { whole = rw (k.whole, e, append_assoc, repeat_sum colon n c (c + n) (omega arith)) refl; keeps = o }
 
-pub cut_on : (name host shorter : List ℕ) (c n : ℕ) → CutsColons name host c → chars host ≡ chars shorter ++ colons n
-    → (0 < c + n → EndsInColon (chars shorter)) → CutsColons name shorter (c + n)
-cut_on name host shorter c n k e o = record { whole = rw (k.whole, e, append_assoc, repeat_sum colon n c (c + n) (omega arith)) refl; keeps = o }
-
-pub cut_twice : (name host shorter : List ℕ) (c n : ℕ) → CutsColons name host c → CutsColons host shorter n
+cut_twice : (name host shorter : List ℕ) (c n : ℕ) → CutsColons name host c → CutsColons host shorter n
     → CutsColons name shorter (c + n)
-cut_twice name host shorter c zero k l =
-    cut_on name host shorter c zero k l.whole
-    (λ p. subst EndsInColon (l.whole ∙ append-nil (chars shorter)) (k.keeps (omega (arith, p))))
+cut_twice name host shorter c zero k l = cut_on name host shorter c zero k l.whole
+    (λ p. subst EndsInColon (l.whole ∙ append-nil shorter) (k.keeps (omega (arith, p))))
 cut_twice name host shorter c (suc n) k l = cut_on name host shorter c (suc n) k l.whole (λ p. l.keeps (omega arith))
 
--- a text that ends in no colon, or in just one
-pub ends_once : (bs : List ℕ) → IsUtf8 bs → ((front : List ℕ) → bs ≢ front ++ colon) → EndsOnce (chars bs)
-ends_once bs u n front e ends = no_colon_end bs u n (front, e)
+repeat_ascii : (n : ℕ) → IsAscii (colons n)
+repeat_ascii zero = IsAscii-nil
+repeat_ascii (suc n) = IsAscii-append colon (colons n) colon_ascii (repeat_ascii n)
 
-pub ends_once_in : (bs short : List ℕ) → IsUtf8 bs → IsUtf8 short → bs ≡ short ++ colon
-    → ((front : List ℕ) → short ≢ front ++ colon) → EndsOnce (chars bs)
-ends_once_in bs short u v e n front f ends =
-    let same = append_cancel_right front (chars short) colon (sym f ∙ suffix_some bs short 1 u v e) in
-    no_colon_end short v n (subst EndsInColon same ends)
+-- the same by characters
+pub cut_chars : (name host shorter : List ℕ) (c n : ℕ) → IsUtf8 shorter → CutsColons name host c
+    → CutsColons host shorter n → CutsColons (chars name) (chars shorter) (c + n)
+cut_chars name host shorter c n u k l =
+    let both = cut_twice name host shorter c n k l in
+    record {
+      whole = ap chars both.whole ∙ chars-append shorter (colons (c + n)) u
+          ∙ ap (λ (x : Text). chars shorter ++ x) (chars-IsAscii (colons (c + n)) (repeat_ascii (c + n)));
+      keeps = λ p. colon_end shorter u (both.keeps p);
+    }
+
+pub once_chars : (bs : List ℕ) → IsUtf8 bs → EndsOnce bs → EndsOnce (chars bs)
+once_chars bs u n front e (g, f) =
+    let bytes = λ (t : Text). encodes-append t colon ∙ ap (λ (x : List ℕ). encode_utf8_all t ++ x) (encodes-IsAscii colon colon_ascii) in
+    n (encode_utf8_all front) (sym (encodes-chars bs u) ∙ ap encode_utf8_all e ∙ bytes front)
+    (encode_utf8_all g, ap encode_utf8_all f ∙ bytes g)
 
 -- dashes are followed by one text
 one_rest : {t p q : Text} → IsDashed t p → IsDashed t q → p ≡ q

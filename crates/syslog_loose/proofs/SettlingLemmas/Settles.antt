@@ -14,12 +14,13 @@ use Rattle.syslog_loose.proofs.Names.{encode_utf8_all, IsCanonical, HasNoExcepti
 use Rattle.syslog_loose.proofs.Names.{Invalid, Memory, IsFixed, IsRead5424, HasRank, IsLater, IsToldRound, ReachesRank}
 use Rattle.syslog_loose.proofs.Names.{Result, Ok, Err, string_bytes, Global, IfOk, String, ElementValue, line_value}
 use Rattle.syslog_loose.proofs.Names.{BeginsWithout, IsBehindPriority, Made, digits_visible}
+use Rattle.syslog_loose.proofs.Names.{Row, row_of, ◌then◌, piece_front, row_head, rest, rows_step, division_front, run}
 use Rattle.syslog_loose.proofs.ReadingLemmas.{read_once, invalid_or_memory}
 use Rattle.syslog_loose.specs.Printed.{printed_3164, printed_5424}
 use Rattle.syslog_loose.specs.declared.variant.Variant.TheVariants.{RFC3164}
 use Rattle.syslog_loose.proofs.PrintedLemmas.{priority_front, priority_low, priority_trimmed, visible_no_blank}
 use Rattle.syslog_loose.proofs.PrintedLemmas.{last_append, drop_after}
-use Rattle.syslog_loose.proofs.Rfc3164Lemmas.{digit_range, printed_3164_is, shown_parts, shows_month_date}
+use Rattle.syslog_loose.proofs.Rfc3164Lemmas.{digit_range, printed_3164_is, shows_month_date, to_stamp, to_stamp_det}
 use Rattle.syslog_loose.proofs.Rfc3164Lemmas.{printed_apart, rfc3164_bounded, shows}
 use Rattle.syslog_loose.proofs.Rfc3164Lemmas.ReadBack.{stamp_low}
 use Rattle.syslog_loose.proofs.Rfc3164Lemmas.Near.{read_near}
@@ -61,14 +62,11 @@ module _ (variant : Variant) (dating : Dating) where
   moves_on u x n k s = k (one_next u u x s n)
 
   pub one_first_settled : (t u x : Text) → IsFirstSettled variant dating t u → IsFirstSettled variant dating t x → u ≡ x
-  one_first_settled t u x a b = elim (leb_tells b.before a.before) [
-    | inl l ↦ elim (leb_tells a.before b.before) [
-      | inl k ↦ one_round t (suc b.before) u x
-          (subst (λ (n : ℕ). IsRound variant dating t (suc n) u) (omega (arith, l.1, k.1)) a.round) b.round
-      | inr k ↦ absurd (a.none_before b.before x k.1 b.round b.settled)
-    ]
-    | inr l ↦ absurd (b.none_before a.before u l.1 a.round a.settled)
-  ]
+  one_first_settled t u x a b =
+      let later : a.before < b.before → ⊥ = λ l. b.none_before a.before u l a.round a.settled in
+      let earlier : b.before < a.before → ⊥ = λ l. a.none_before b.before x l b.round b.settled in
+      let same : a.before ≡ b.before = omega arith in
+      one_round t (suc b.before) u x (subst (λ (n : ℕ). IsRound variant dating t (suc n) u) same a.round) b.round
 
   -- ---- what is known after so many rounds that are not settled
   pub reached_next : (t : Text) (n : ℕ) (u x : Text) → Reaches variant dating t n u
@@ -110,15 +108,12 @@ module _ (variant : Variant) (dating : Dating) where
   pub none_settled : (t : Text) → ((u : Text) → IsFirstSettled variant dating t u → ⊥) → (n : ℕ)
       → NoneSettled variant dating t n
   none_settled t never zero k u l round settled = omega arith
-  none_settled t never (suc n) k u l round settled = elim (last_or_before k n l) [
-    | inl e ↦ never u (record {
-      before = n;
-      round = rw e at round;
-      settled = settled;
-      none_before = none_settled t never n;
-    })
-    | inr a ↦ none_settled t never n k u a round settled
-  ]
+  none_settled t never (suc n) k u l round settled = never u (record {
+    before = k;
+    round = round;
+    settled = settled;
+    none_before = λ i y a. none_settled t never n i y (omega arith);
+  })
 
 -- ---- the protocol of a message that was read is one that the variant reads
 pub read_protocol : (variant : Variant) (dating : Dating) (text : Text) (m : MessageValue)
@@ -153,25 +148,21 @@ version_begins version q l =
 -- no letter follows a priority and such blanks, once the text is trimmed
 low_shows_none : (n : ℕ) (gap t : Text) → n ≤ 255 → Each is_blank gap → BeginsLow t → (date : MonthDate)
     → ShowsMonthDate (60 ∷ (decimal n ++ (62 ∷ (gap ++ t)))) date → ⊥
-low_shows_none n gap t l blank (c, more, e, low, visible) date shown =
-    let text : Text = 60 ∷ (decimal n ++ (62 ∷ (gap ++ t))) in
-    let (p, behind, u, q, pri, run, f) = shown_parts month_date (trimmed text) date shown in
-    let left : Text = drop_trailing_whitespace (gap ++ t) in
-    let known : Front (optional priority) (trimmed text) left (Some n) =
-    rw (priority_trimmed n (gap ++ t)) (optional_some priority (priority_front n left l)) in
-    let at = (front_same (optional priority) (optional_det priority priority_det) pri known).0 in
-    let kept : left ≡ gap ++ (c ∷ drop_trailing_whitespace more) =
+low_shows_none n gap t l blank (c, more, e, low, visible) date (p, q, division) =
+    let left : Text = c ∷ drop_trailing_whitespace more in
+    let kept : drop_trailing_whitespace (gap ++ t) ≡ gap ++ left =
     ap (λ (x : Text). drop_trailing_whitespace (gap ++ x)) e
     ∙ ap drop_trailing_whitespace (sym (append_assoc gap (c ∷ []) more))
     ∙ drop_after (gap ++ (c ∷ [])) more (last_append gap (c ∷ []) visible)
     ∙ append_assoc gap (c ∷ []) (drop_trailing_whitespace more) in
-    let whole : run.piece ++ u ≡ gap ++ (c ∷ drop_trailing_whitespace more) = sym run.whole ∙ at ∙ kept in
-    let same = run_same is_blank run.piece u gap (c ∷ drop_trailing_whitespace more) whole run.is.0 run.is.1 blank
-    (visible_no_blank c visible) in
-    begins_apart u (λ x a b. omega arith)
-    (begins_with IsLow c u (drop_trailing_whitespace more)
-    (rest_same run.piece u gap (c ∷ drop_trailing_whitespace more) whole same) low)
-    (subst (Begins IsLetter) (sym f.whole) (month_date_begins f.piece q date f.is))
+    let start : Front (Row to_stamp) _ left (Some n, (tt, tt)) =
+    row_of to_stamp (optional_some priority (priority_front n (gap ++ left) l)
+    then piece_front (run is_blank) gap left tt (blank, visible_no_blank c visible) then refl) in
+    let (_, f, _) = row_head month_date (rest ∷ []) (rows_step to_stamp (month_date ∷ rest ∷ []) to_stamp_det
+    {vs = (p, (tt, (date, (q, tt))))} start
+    (rw (priority_trimmed n (gap ++ t), kept) at (division_front (to_stamp ++ (month_date ∷ rest ∷ [])) division))).1 in
+    begins_apart {H = IsLow} {K = IsLetter} left (λ x a b. omega arith) low (subst (Begins IsLetter) (sym f.whole)
+    (month_date_begins f.piece _ date f.is))
 
 shows_none_as : (p : Protocol) (m : MessageValue) → m.protocol ≡ p → IsBoundedProtocol p → (date : MonthDate)
     → ShowsMonthDate (printed m) date → ⊥

@@ -1,24 +1,24 @@
-use Rattle.syslog_loose.proofs.Names.{Some, None, arith, rules, chars, IsUtf8}
+use Rattle.syslog_loose.proofs.Names.{Some, None, sym, ◌∙◌, colon, arith, append_cancel_right}
 use Rattle.std.proofs.lemmas.Str.Pattern.{strip_suffix_char}
-use Rattle.syslog_loose.proofs.SettlingLemmas.Jumps.{ends_once, ends_once_in, suffix_bytes, suffix_some}
+use Rattle.syslog_loose.proofs.SettlingLemmas.Jumps.{suffix_bytes}
 use Rattle.syslog_loose.proofs.jumps.before_run.Goals as goal
 
 pub returns-in_default : goal.returns-in_default
-returns-in_default c = λ one. ends_once _ c.utf8.text (rw one at c.in_default.ensures.cases)
+returns-in_default c = λ one front e ends. (rw one at c.in_default.ensures.cases) front e
 
 pub returns-in-Some-strip_suffix : goal.returns-in-Some-strip_suffix
-returns-in-Some-strip_suffix c =
-    let short = c.in-Some.shorter.now in
-    let front = c.in-Some-strip_suffix._front.now in
-    let v : IsUtf8 short = search rules in
-    let w : IsUtf8 front = search rules in
-    let z = strip_suffix_char 58 short (Some c.in-Some-strip_suffix._front) c.in-Some-strip_suffix.ensures.cases
-    (omega arith) in
-    (suffix_bytes c.args.run.now c.args.text.now short c.in-Some.ensures.cases, (chars front, suffix_some short front 1 v w z))
+returns-in-Some-strip_suffix c = (
+  suffix_bytes c.args.run.now c.args.text.now _ c.in-Some.ensures.cases,
+  (
+    c.in-Some-strip_suffix._front.now,
+    strip_suffix_char 58 c.in-Some.shorter.now (Some c.in-Some-strip_suffix._front) c.in-Some-strip_suffix.ensures.cases
+        (omega arith),
+  ),
+)
 
 pub returns-in-None : goal.returns-in-None
-returns-in-None c = λ one.
+returns-in-None c = λ one front e ends.
     let short = c.in-Some.shorter.now in
-    let z = strip_suffix_char 58 short None c.in-None.ensures.cases (omega arith) in
-    ends_once_in c.args.text.now short c.utf8.text (search rules)
-    (rw one at (suffix_bytes c.args.run.now c.args.text.now short c.in-Some.ensures.cases)) z
+    let whole = rw one at (suffix_bytes c.args.run.now c.args.text.now short c.in-Some.ensures.cases) in
+    strip_suffix_char 58 short None c.in-None.ensures.cases (omega arith) ends.0
+    (append_cancel_right short front colon (sym whole ∙ e) ∙ ends.1)

@@ -1,9 +1,12 @@
-use Rattle.syslog_loose.proofs.Names.{refl}
-use Rattle.syslog_loose.proofs.SettlingLemmas.Jumps.{cut_twice}
+use Rattle.syslog_loose.proofs.Names.{refl, IsUtf8, rules}
+use Rattle.syslog_loose.proofs.SettlingLemmas.Jumps.{cut_chars, once_chars}
 use Rattle.syslog_loose.proofs.jumps.cut_colons.Goals as goal
 
 pub returns-clause-cuts : goal.returns-clause-cuts
-returns-clause-cuts c = cut_twice _ _ _ _ _ c.cut_runs-many.ensures.cuts c.cut_runs-few.ensures.cuts
+returns-clause-cuts c =
+    let u : IsUtf8 c.cut_runs-few.result.0.now = search rules in
+    cut_chars _ _ _ _ _ u c.cut_runs-many.ensures.cuts c.cut_runs-few.ensures.cuts
 
 pub returns-clause-once : goal.returns-clause-once
-returns-clause-once c = c.cut_runs-few.ensures.once refl
+returns-clause-once c =
+    let u : IsUtf8 c.cut_runs-few.result.0.now = search rules in once_chars _ u (c.cut_runs-few.ensures.once refl)
