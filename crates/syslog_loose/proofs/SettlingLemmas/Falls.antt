@@ -14,7 +14,7 @@ use Rattle.syslog_loose.proofs.Names.{division_front, optional_some, optional_no
 use Rattle.syslog_loose.proofs.Names.{no_spaced_piece, form_row, IsNoForm, ◌+◌, ◌*◌, List, option_map_or, ElementValue}
 use Rattle.syslog_loose.proofs.Names.{rfc3164_stamp, IsCanonicalStamp, Dating, OffsetTimestamp, step, step_value}
 use Rattle.syslog_loose.proofs.Names.{IsCanonicalElement, HasExceptionsAlone, MessageValue, timestamp_text, priority_of}
-use Rattle.syslog_loose.proofs.Names.{printed, rfc3164_row, IsRead3164, Costs, Weighs, tail_text, AllByRecursion}
+use Rattle.syslog_loose.proofs.Names.{printed, rfc3164_row, IsRead3164, Weighs, tail_text, AllByRecursion}
 use Rattle.syslog_loose.proofs.Names.{facility_number, severity_number, facility_of, severity_of, rest_same, row_head}
 use Rattle.syslog_loose.proofs.Names.{front_same, row_det, Begins, begins_apart, begins_more, begins_with}
 use Rattle.syslog_loose.proofs.Names.{priority_composed, IsLow, rfc3164_stamp_det, stamped_date_begins}

@@ -7,13 +7,13 @@ use Rattle.syslog_loose.proofs.Names.{piece_front, IsBoundedProcess, HasExceptio
 use Rattle.syslog_loose.proofs.Names.{HasNoNameException, dash_rule, IsRead, colons, colons_before, past_colons}
 use Rattle.syslog_loose.proofs.Names.{EndsColons, IsDashed, PassesDashes, with_msg, tail_text, MessageValue}
 use Rattle.syslog_loose.proofs.Names.{priority_of, printed, Names3164, names, Resolves, rfc3164_row, IsRead3164}
-use Rattle.syslog_loose.proofs.Names.{body_row, IsNext, Reaches, Variant, facility_of, severity_of, row_cons, rows_join}
+use Rattle.syslog_loose.proofs.Names.{body_row, Reaches, Variant, facility_of, severity_of, row_cons, rows_join}
 use Rattle.syslog_loose.proofs.Names.{rest_front, front_division, optional_some, dash_rfc3164_list, EndsOnce, IsLater}
-use Rattle.syslog_loose.proofs.Names.{Prints, RFC3164, ◌+◌, ◌-◌, ◌≢◌, List, Option, append-nil, nil_from_length, Bor}
+use Rattle.syslog_loose.proofs.Names.{Prints, RFC3164, ◌+◌, ◌-◌, List, Option, append-nil, nil_from_length, Bor}
 use Rattle.syslog_loose.proofs.Names.{chars, encode_utf8_all, IsUtf8, chars_from_encodes, encodes-append, encodes-chars}
-use Rattle.syslog_loose.proofs.Names.{NoFront, exactly, some_run, shown, name_text, CutsColons, tag_text, ElementValue}
+use Rattle.syslog_loose.proofs.Names.{NoFront, exactly, some_run, shown, CutsColons, ElementValue}
 use Rattle.syslog_loose.proofs.Names.{joined_elements, elements_text, MatchOption, begins, front_same, run_det}
-use Rattle.syslog_loose.proofs.Names.{zero-add, suc-add, add-zero, add-suc, encode_utf8, append_cancel_right, Skips}
+use Rattle.syslog_loose.proofs.Names.{encode_utf8, Skips}
 use Rattle.syslog_loose.proofs.Names.{chars_empty, true, false, Ends, is_some, ◌*◌, ReadsProtocol}
 use Rattle.syslog_loose.specs.Bodies.Jumps.{message_end}
 use Rattle.std.specs.List.{repeat}

@@ -3,15 +3,15 @@ use Rattle.syslog_loose.proofs.Names.{◌≡◌, ◌<◌, ◌⊎◌, ◌∙◌, 
 use Rattle.syslog_loose.proofs.Names.{leb_tells, Text, Dating, printed, IsUnreadable, IsNext, IsRound, IsSettled}
 use Rattle.syslog_loose.proofs.Names.{NoneSettled, Reaches, IsFirstSettled, Variant, ◌≤◌, ◌∷◌, ◌++◌, ◌^◌, [], length}
 use Rattle.syslog_loose.proofs.Names.{true, Option, None, Some, append_assoc, is_not_whitespace, is_ascii_digit}
-use Rattle.syslog_loose.proofs.Names.{drop_trailing_whitespace, Front, Each, optional, is_blank, trimmed}
+use Rattle.syslog_loose.proofs.Names.{drop_trailing_whitespace, Front, Each, is_blank, trimmed}
 use Rattle.syslog_loose.proofs.Names.{OffsetTimestamp, MonthDate, MessageValue, timestamp_text, priority_of, dash_rule}
-use Rattle.syslog_loose.proofs.Names.{IsRead, AsksYear, decimal, priority, ShowsMonthDate, month_date, run_same}
-use Rattle.syslog_loose.proofs.Names.{rest_same, front_same, optional_det, optional_some, Begins, begins_apart}
-use Rattle.syslog_loose.proofs.Names.{begins_with, priority_det, number_back, IsLow, month_date_begins, IsLetter}
+use Rattle.syslog_loose.proofs.Names.{IsRead, AsksYear, decimal, priority, ShowsMonthDate, month_date}
+use Rattle.syslog_loose.proofs.Names.{optional_some, Begins, begins_apart}
+use Rattle.syslog_loose.proofs.Names.{number_back, IsLow, month_date_begins, IsLetter}
 use Rattle.syslog_loose.proofs.Names.{printed_stamp-visible, IsBounded, IsBoundedProtocol, ReadsProtocol, Protocol}
 use Rattle.syslog_loose.proofs.Names.{Either, RFC5424, ◌+◌, ◌↔◌, Bool, false, List, chars_from_encodes, chars, IsUtf8}
 use Rattle.syslog_loose.proofs.Names.{encode_utf8_all, IsCanonical, HasNoException, IsRead3164, Weighs, ParseFault}
-use Rattle.syslog_loose.proofs.Names.{Invalid, Memory, IsFixed, IsRead5424, HasRank, IsLater, IsToldRound, ReachesRank}
+use Rattle.syslog_loose.proofs.Names.{Invalid, Memory, IsFixed, HasRank, IsLater, IsToldRound}
 use Rattle.syslog_loose.proofs.Names.{Result, Ok, Err, string_bytes, Global, IfOk, String, ElementValue, line_value}
 use Rattle.syslog_loose.proofs.Names.{BeginsWithout, IsBehindPriority, Made, digits_visible}
 use Rattle.syslog_loose.proofs.Names.{Row, row_of, ◌then◌, piece_front, row_head, rest, rows_step, division_front, run}
@@ -21,7 +21,7 @@ use Rattle.syslog_loose.specs.declared.variant.Variant.TheVariants.{RFC3164}
 use Rattle.syslog_loose.proofs.PrintedLemmas.{priority_front, priority_low, priority_trimmed, visible_no_blank}
 use Rattle.syslog_loose.proofs.PrintedLemmas.{last_append, drop_after}
 use Rattle.syslog_loose.proofs.Rfc3164Lemmas.{digit_range, printed_3164_is, shows_month_date, to_stamp, to_stamp_det}
-use Rattle.syslog_loose.proofs.Rfc3164Lemmas.{printed_apart, rfc3164_bounded, shows}
+use Rattle.syslog_loose.proofs.Rfc3164Lemmas.{printed_apart, shows}
 use Rattle.syslog_loose.proofs.Rfc3164Lemmas.ReadBack.{stamp_low}
 use Rattle.syslog_loose.proofs.Rfc3164Lemmas.Near.{read_near}
 use Rattle.syslog_loose.specs.Settling.{SettlesAs, IsSettlingFault, Settles}

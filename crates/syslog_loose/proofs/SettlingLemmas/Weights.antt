@@ -11,7 +11,7 @@ use Rattle.syslog_loose.proofs.Names.{is_open_char, front_same, run_det, full_be
 use Rattle.syslog_loose.proofs.Names.{Some, length-append, pos, leb_tells, bytes_eq-Decides, option_map_or, bytes_eq}
 use Rattle.syslog_loose.proofs.Names.{Values, optional, ElementValue, rfc3164_list, elements_or, IsRfc3164List, dash}
 use Rattle.syslog_loose.proofs.Names.{colon, IsCanonicalStamp, ProcId, PID, Name, OffsetTimestamp, present_front, step}
-use Rattle.syslog_loose.proofs.Names.{absent_none, absent_stays, MessageValue, Names3164, Resolves, NamesProgram, Costs}
+use Rattle.syslog_loose.proofs.Names.{absent_none, absent_stays, MessageValue, Names3164, Resolves, Costs}
 use Rattle.syslog_loose.proofs.Names.{names_weight, ListWeighs, Weighs, rest_whole, row_head, begins_no_list}
 use Rattle.syslog_loose.proofs.Names.{full_shorter, no_rfc3164_list, drop_trailing_whitespace, skip_leading_whitespace}
 use Rattle.syslog_loose.proofs.Names.{spaced, join, host, tag_word, IsHost, rfc3164_stamp, Dating, MonthDate}

@@ -1,7 +1,7 @@
 -- Rounds whose texts are known before they are read: those in which a host loses a colon each time, and those in which
 -- a message part loses a dash. (All of it is this project's own.)
 use Rattle.std.specs.Prelude.{◌≡◌, ◌<◌, ◌∷◌, ◌++◌}
-use Rattle.syslog_loose.specs.Words.{ℕ, zero, suc, List, [], length, Some, None, IfSome, chars, Text, Each, Ends}
+use Rattle.syslog_loose.specs.Words.{ℕ, zero, suc, List, [], length, Some, None, IfSome, Text, Each, Ends}
 use Rattle.syslog_loose.specs.Words.{facility_of, severity_of, ElementValue, is_blank, EndsInColon, IsCanonicalStamp}
 use Rattle.syslog_loose.specs.Words.{colon}
 use Rattle.std.specs.List.{repeat}
