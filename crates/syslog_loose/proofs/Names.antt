@@ -12,8 +12,8 @@ pub use Rattle.std.proofs.Common.{◌⊎◌, inl, inr, ◌≡◌, ◌<◌, ◌�
 pub use Rattle.std.proofs.Common.{refl, sym, ap, subst, arith, IsTrue, MatchBool, ◌∷◌, ◌++◌, ◌≢◌, Option, Some, None}
 pub use Rattle.std.proofs.Common.{append_assoc, append-nil, nat_eq, ◌≤◌, IfSome, ◌+◌, ◌-◌, zero, suc, ◌^◌, ◌&&◌, pos}
 pub use Rattle.std.proofs.Common.{negsuc, ℤ, Result, Ok, Err, string_bytes, w32, to_z, of_z, IsSome, length-append}
-pub use Rattle.std.proofs.Common.{cond, ◌*◌, take, ◌%◌, rules, nat_le, nat_lt, SFits, ap₂, drop, zero-add, suc-add}
-pub use Rattle.std.proofs.Common.{add-zero, add-suc, ◌/◌, OnOk}
+pub use Rattle.std.proofs.Common.{cond, ◌*◌, take, ◌%◌, rules, nat_le, nat_lt, SFits, ap₂, drop}
+pub use Rattle.std.proofs.Common.{◌/◌, OnOk}
 pub use Rattle.std.proofs.lemmas.List.{length-map, nil_from_length, take_all, append_cancel_right}
 pub use Rattle.std.proofs.lemmas.Slice.Eq.{bytes_eq-Decides}
 pub use Rattle.std.proofs.lemmas.Bool.Decides.{eqb_tells, nat_tests, leb_tells}
@@ -21,7 +21,7 @@ pub use Rattle.std.proofs.lemmas.Str.{chars_from_encodes, chars-IsAscii, encodes
 pub use Rattle.std.proofs.lemmas.Str.{IsUtf8-string_bytes}
 pub use Rattle.std.proofs.lemmas.Option.{IfSome_then}
 pub use Rattle.std.proofs.lemmas.Result.{on_ok_weaker, err_from_is_err_and}
-pub use Rattle.std.proofs.lemmas.Grind.{put_two, put_five, put_three, put_four, put_six}
+pub use Rattle.std.proofs.lemmas.Grind.{put_two, put_five, put_four, put_six}
 pub use Rattle.std.proofs.Output.{has_written_of_eq}
 pub use denote.Shadow.{shadow}
 pub use denote.Text.{Utf8}
@@ -109,7 +109,7 @@ pub use Rattle.syslog_loose.specs.declared.variant.Variant.{Variant}
 pub use Rattle.syslog_loose.specs.declared.variant.Variant.TheVariants.{Either, RFC5424}
 pub use Rattle.syslog_loose.specs.declared.message.Protocol.TheVariants.{RFC3164}
 pub use Rattle.syslog_loose.specs.Line.{line_value, protocol_of}
-pub use Rattle.syslog_loose.specs.Bodies.View3164.{names_value, NamesProgram, fields_before, NamesHost}
+pub use Rattle.syslog_loose.specs.Bodies.View3164.{names_value, NamesProgram, fields_before}
 pub use Rattle.syslog_loose.specs.Visit.{IsLineOf, Made}
 pub use Rattle.syslog_loose.specs.declared.line.Line.{Line}
 pub use Rattle.syslog_loose.specs.declared.message.Protocol.{Protocol}
@@ -117,10 +117,10 @@ pub use Rattle.syslog_loose.specs.Bodies.Rows.{stamped_row, fields_row, body_row
 pub use Rattle.syslog_loose.specs.Exceptions.{is_no_colon, HasNoException, HasNoColon, is_inner_char, IsOddHost}
 pub use Rattle.syslog_loose.specs.Exceptions.{IsInnerProcess, AreNamesButExceptions, HasExceptionsAlone}
 pub use Rattle.syslog_loose.specs.Exceptions.{IsNearlyCanonical, HasQuietNames, HasNoNameException, IsOfMonthDate}
-pub use Rattle.syslog_loose.specs.Printed.{timestamp_text, tag_text, priority_of, printed, printed_3164}
+pub use Rattle.syslog_loose.specs.Printed.{timestamp_text, tag_text, priority_of, printed}
 pub use Rattle.syslog_loose.specs.Printed.{spaced_elements, printed_5424, rest_text}
 pub use Rattle.syslog_loose.specs.Bodies.Jumps.{colons, colons_before, past_colons, CutsColons, EndsColons, IsDashed}
-pub use Rattle.syslog_loose.specs.Bodies.Jumps.{PassesDashes, with_msg, tail_text, message_end}
+pub use Rattle.syslog_loose.specs.Bodies.Jumps.{PassesDashes, with_msg, tail_text}
 pub use Rattle.syslog_loose.specs.Passes.{EndsOnce, IsLater, Prints, HasRank, IsToldRound, ReachesRank, BeginsNoDashes}
 pub use Rattle.syslog_loose.specs.Bodies.Cases.{IsBoundedProtocol, incomplete, HasMonth}
 pub use Rattle.syslog_loose.specs.ReadBack.{ReadsProtocol, IsFixed}

@@ -1,4 +1,5 @@
--- The printed text of a message, read under `Either` or the message's own variant; and its characters.
+-- The printed text of a message, read under `Either` or the message's own variant; that it shows no month date; and its
+-- characters.
 use Rattle.syslog_loose.proofs.Names.{◌⊎◌, inl, inr, Text, Dating, IsBounded, MessageValue, dash_rule, IsRead}
 use Rattle.syslog_loose.proofs.Names.{IsRead3164, IsRead5424, Variant, Either, RFC5424, ◌≡◌, ◌∙◌, Some, refl, sym}
 use Rattle.syslog_loose.proofs.Names.{unwrap_or, LOG_SYSLOG, SEV_DEBUG, DashRule, IsCanonical, HasNoException, printed}
@@ -14,21 +15,27 @@ use Rattle.syslog_loose.proofs.Names.{joined_elements, elements_text, element_te
 use Rattle.syslog_loose.proofs.Names.{Name, OffsetTimestamp, each_map, each_front, each_behind, all_left, all_right}
 use Rattle.syslog_loose.proofs.Names.{each_append, part_joined, decimal_digits, IsBoundedProcess, IsBoundedProtocol}
 use Rattle.syslog_loose.proofs.Names.{message_texts, timestamp_text, spaced_elements, tag_text, priority_of}
-use Rattle.syslog_loose.proofs.Names.{MatchResult, nat_le, nat_lt, all_map, printed_stamp-characters}
+use Rattle.syslog_loose.proofs.Names.{MatchResult, nat_le, nat_lt, all_map, printed_stamp-characters, append_assoc}
+use Rattle.syslog_loose.proofs.Names.{is_not_whitespace, Front, is_blank, MonthDate, AsksYear, priority, ShowsMonthDate}
+use Rattle.syslog_loose.proofs.Names.{month_date, optional_some, Begins, begins_apart, number_back, IsLow}
+use Rattle.syslog_loose.proofs.Names.{month_date_begins, IsLetter, printed_stamp-visible, digits_visible, Row, row_of}
+use Rattle.syslog_loose.proofs.Names.{◌then◌, piece_front, row_head, rest, rows_step, division_front, run, shown}
 use Rattle.syslog_loose.specs.declared.variant.Variant.TheVariants.{RFC3164}
 use Rattle.syslog_loose.proofs.Rfc5424Lemmas.{read_completed, completed, priority_same, printed_is}
 use Rattle.syslog_loose.proofs.Rfc3164Lemmas.{rfc3164_bounded, printed_3164_is, printed_apart, digit_range, quotes}
+use Rattle.syslog_loose.proofs.Rfc3164Lemmas.{shows_month_date, to_stamp, to_stamp_det, told}
 use Rattle.syslog_loose.specs.Printed.{printed_3164, process_text, printed_5424}
 use Rattle.syslog_loose.proofs.CanonicalLemmas.{near_completed}
 use Rattle.syslog_loose.proofs.Rfc3164Lemmas.Near.{read_near, read_nearly, stamp_read}
 use Rattle.syslog_loose.specs.ReadBack.{AnswersItself, FieldsAsRead, AnswersAgain}
 use Rattle.syslog_loose.proofs.ReadingLemmas.{Found, value, in_year_map, quoted}
-use Rattle.syslog_loose.proofs.Rfc3164Lemmas.ReadBack.{rfc3164_exact}
+use Rattle.syslog_loose.proofs.Rfc3164Lemmas.ReadBack.{rfc3164_exact, stamp_low}
 use Rattle.std.proofs.Math.Utf8.{scalar, scalars, low_scalar}
 use Rattle.std.proofs.lemmas.Bool.{and_from, and_parts, cond_both}
 use Rattle.syslog_pieces.proofs.TimestampLemmas.Digits.{is_stamp_character, stamp_range}
 use Rattle.syslog_loose.specs.OneLine.{is_no_feed, IsOneLine}
-use Rattle.syslog_loose.proofs.PrintedLemmas.{priority_small}
+use Rattle.syslog_loose.proofs.PrintedLemmas.{priority_small, priority_front, priority_low, priority_trimmed}
+use Rattle.syslog_loose.proofs.PrintedLemmas.{visible_no_blank, last_append, drop_after}
 use Rattle.syslog_loose.specs.declared.message.Protocol.TheVariants as protocol
 use Rattle.syslog_loose.proofs.Rfc5424Lemmas as rfc5424
 use Rattle.syslog_loose.proofs.Rfc3164Lemmas as rfc3164
@@ -99,6 +106,79 @@ module _ (dating : Dating) (m : MessageValue) (b : IsBounded m) where
       → IsOnlyRead variant dating (printed m) n → (n ≡ m) ↔ IsCanonical dash_rule m
   only_read_exact variant n h r =
       let exact = printed_exact variant h in ((λ e. exact.0 (rw e at r.read)), (λ c. sym (r.only m (exact.1 c))))
+
+-- ---- no month date
+
+-- what a text begins with that has a visible first character below all letters
+abbrev pub BeginsLow : Text → Type 0
+BeginsLow t = (c : ℕ) × (more : Text) × (t ≡ c ∷ more) × IsLow c × (is_not_whitespace c ≡ true)
+
+low_more : (t q : Text) → Begins IsLow t → Each is_not_whitespace t → BeginsLow (t ++ q)
+low_more [] q h visible = absurd h
+low_more (c ∷ t) q h visible = (c, t ++ q, refl, h, visible.0)
+
+digits_low : (t : Text) → 0 < length t → Each is_ascii_digit t → Begins IsLow t
+digits_low [] long digits = absurd (omega arith)
+digits_low (c ∷ t) long digits = (digit_range c digits.0).1
+
+stamp_begins : (v : Option OffsetTimestamp) (q : Text) → BeginsLow (timestamp_text v ++ q)
+stamp_begins None q = (45, q, refl, omega arith, refl)
+stamp_begins (Some s) q = low_more (timestamp_text (Some s)) q (stamp_low s) (printed_stamp-visible s)
+
+version_begins : (version : ℕ) (q : Text) → version < 2 ^ 32 → BeginsLow (decimal version ++ q)
+version_begins version q l =
+    let (long, digits, _, _, _) = number_back version 4294967295 [] (omega (arith, l)) (omega arith) tt in
+    low_more (decimal version) q (digits_low (decimal version) long digits) (digits_visible (decimal version) digits)
+
+-- no letter follows a priority and such blanks, once the text is trimmed
+low_shows_none : (n : ℕ) (gap t : Text) → n ≤ 255 → Each is_blank gap → BeginsLow t → (date : MonthDate)
+    → ShowsMonthDate (60 ∷ (decimal n ++ (62 ∷ (gap ++ t)))) date → ⊥
+low_shows_none n gap t l blank (c, more, e, low, visible) date (p, q, division) =
+    let left : Text = c ∷ drop_trailing_whitespace more in
+    let kept : drop_trailing_whitespace (gap ++ t) ≡ gap ++ left =
+    ap (λ (x : Text). drop_trailing_whitespace (gap ++ x)) e
+    ∙ ap drop_trailing_whitespace (sym (append_assoc gap (c ∷ []) more))
+    ∙ drop_after (gap ++ (c ∷ [])) more (last_append gap (c ∷ []) visible)
+    ∙ append_assoc gap (c ∷ []) (drop_trailing_whitespace more) in
+    let start : Front (Row to_stamp) _ left (Some n, (tt, tt)) =
+    row_of to_stamp (optional_some priority (priority_front n (gap ++ left) l)
+    then piece_front (run is_blank) gap left tt (blank, visible_no_blank c visible) then refl) in
+    let (_, f, _) = row_head month_date (rest ∷ []) (rows_step to_stamp (month_date ∷ rest ∷ []) to_stamp_det
+    {vs = (p, (tt, (date, (q, tt))))} start
+    (rw (priority_trimmed n (gap ++ t), kept) at (division_front (to_stamp ++ (month_date ∷ rest ∷ [])) division))).1 in
+    begins_apart {H = IsLow} {K = IsLetter} left (λ x a b. omega arith) low (subst (Begins IsLetter) (sym f.whole)
+    (month_date_begins f.piece _ date f.is))
+
+shows_none_as : (p : Protocol) (m : MessageValue) → m.protocol ≡ p → IsBoundedProtocol p → (date : MonthDate)
+    → ShowsMonthDate (printed m) date → ⊥
+unfolding printed_3164 printed_5424
+shows_none_as protocol.RFC3164 m e l date shown =
+    low_shows_none (priority_of m) (32 ∷ []) _ (priority_low m) (refl, tt) (stamp_begins m.timestamp _) date
+    (rw (printed_3164_is m e) at shown)
+shows_none_as (protocol.RFC5424 version) m e l date shown =
+    low_shows_none (priority_of m) [] _ (priority_low m) tt (version_begins version _ l) date
+    (rw (rfc5424.printed_is version m e) at shown)
+
+-- the printed text of a message shows none, whether the message was read or not
+pub printed_shows_none : (m : MessageValue) → IsBounded m → (date : MonthDate) → ShowsMonthDate (printed m) date → ⊥
+printed_shows_none m b = shows_none_as m.protocol m refl b.protocol
+
+-- so neither does that of a message that was read
+pub read_shows_none : (variant : Variant) (dating : Dating) (text : Text) (m : MessageValue)
+    → IsRead variant dating text m → (date : MonthDate) → ShowsMonthDate (printed m) date → ⊥
+read_shows_none variant dating text m r = shows_none_as m.protocol m refl (read_bounded variant dating text m r).protocol
+
+-- and it asks for no year
+asks_shown : (variant : Variant) (text : Text) (date : MonthDate) → AsksYear variant text date
+    → ShowsMonthDate text date
+asks_shown RFC5424 text date asks = absurd asks
+asks_shown RFC3164 text date asks = shows_month_date text date asks
+asks_shown Either text date asks = shows_month_date text date asks
+
+pub printed_quiet : (variant : Variant) (dating : Dating) (text : Text) (m : MessageValue)
+    → IsRead variant dating text m → (date : MonthDate) → AsksYear variant (printed m) date → ⊥
+printed_quiet variant dating text m r date asks =
+    read_shows_none variant dating text m r date (asks_shown variant (printed m) date asks)
 
 -- ---- what the calls return
 

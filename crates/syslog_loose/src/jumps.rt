@@ -153,7 +153,7 @@ fn push_colons(text: &mut String, count: usize) -> Result<(), AllocError>
 
 // Appends so many times this text.
 #[inline(always)]
-#[tactic(auto, using(crate::proofs::SettlingLemmas::Jumps::pushed))]
+#[tactic(auto, using(crate::proofs::SettlingLemmas::Settles::pushed))]
 fn push_runs(text: &mut String, run: &str, count: usize) -> Result<(), AllocError>
     ensures { OnOk result (string_bytes text.new ≡ string_bytes text.old ++ repeat count run.now) }
 {
@@ -176,7 +176,7 @@ fn push_tail(text: &mut String, list: &ElementList<'_>, msg: &str) -> Result<(),
 }
 
 // Appends a space and the message part, or nothing where that is empty.
-#[tactic(auto, using(crate::proofs::SettlingLemmas::Jumps::ends_empty, crate::proofs::SettlingLemmas::Jumps::ends_some))]
+#[tactic(auto, using(crate::proofs::SettlingLemmas::Settles::ends_empty, crate::proofs::SettlingLemmas::Settles::ends_some))]
 fn push_end(text: &mut String, msg: &str) -> Result<(), AllocError>
     ensures { OnOk result (string_bytes text.new ≡ string_bytes text.old
         ++ encode_utf8_all (message_end (chars msg.now))) }

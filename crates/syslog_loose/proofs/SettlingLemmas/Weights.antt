@@ -103,9 +103,6 @@ find_row (C ∷ Cs) d k t = elim (k.0 t) [
   | inr n ↦ inr (row_none_here C Cs n)
 ]
 
-find_start : (t : Text) → Finds start t
-find_start t = find_row start_row start_det (find_char 91 also find_text is_id_char also find_blanks also tt) t
-
 find_opening : (t : Text) → Finds opening t
 find_opening t = find_row opening_row opening_det
     (find_text is_name_char also find_char 61 also find_blanks also find_char 34 also tt) t
@@ -155,7 +152,7 @@ find_closing (suc n) (c ∷ t) l =
     ]
 
 find_full : (t : Text) → Finds full_element t
-find_full t = elim (find_start t) [
+find_full t = elim (find_row start_row start_det (find_char 91 also find_text is_id_char also find_blanks also tt) t) [
   | inl (u, vs, f) ↦ elim (find_opening u) [
     | inl (x, ws, g) ↦ find_moved full_element t closing x (full_goes t u vs f x ws g)
         (find_closing (length x) x (omega arith))
@@ -462,23 +459,6 @@ field_short Is short {q = q} (Some v) f =
     omega (arith, short g.piece q v g.is, ap length e, ap length g.whole, length-append g.piece q)
 
 -- ---- the message
-body_light : (rule : DashRule) (t : Text) (vs : Values (body_row rule)) (n : Names3164) → Front (Row (body_row rule)) t
-    [] vs → Resolves vs.0 vs.1.0 n → names_weight n.hostname n.procid + length vs.1.1.1.1.1.1.1.0 ≤ length t
-body_light rule t vs n f means =
-    let (_, origin, f1) = row_head (optional (spaced host)) (from_tag rule) f in
-    let (_, program, f2) = row_head (optional (spaced tag_word)) (from_tag_end rule) f1 in
-    let (_, blanks, f3) = row_head (run is_blank) (from_colon rule) f2 in
-    let (u, mark, f4) = row_head (optional (exactly colon)) (from_blanks rule) f3 in
-    omega (
-      arith,
-      fields_light vs.0 vs.1.0 n means,
-      field_short IsHost host_length vs.0 origin,
-      field_short tag_word.Is tag_length vs.1.0 program,
-      front_longer _ blanks,
-      front_longer _ mark,
-      message_short rule u vs.1.1.1.1 f4,
-    )
-
 pub light : (rule : DashRule) (dating : Dating) (text : Text) (m : MessageValue) (w : ℕ) → IsRead3164 rule dating text m
     → Weighs rule m w → w ≤ length text
 light rule dating text m w r x =
@@ -487,15 +467,24 @@ light rule dating text m w r x =
     let (_, pri, f1) = row_head (optional priority) (from_priority_end rule dating)
     (division_front (rfc3164_row rule dating) r.division) in
     let (_, blanks, f2) = row_head (run is_blank) (from_stamp rule dating) f1 in
-    let (u, stamp, f3) = row_head (rfc3164_stamp dating) (body_row rule) f2 in
+    let (v, stamp, f3) = row_head (rfc3164_stamp dating) (body_row rule) f2 in
+    let (_, origin, f4) = row_head (optional (spaced host)) (from_tag rule) f3 in
+    let (_, program, f5) = row_head (optional (spaced tag_word)) (from_tag_end rule) f4 in
+    let (_, gap, f6) = row_head (run is_blank) (from_colon rule) f5 in
+    let (u, mark, f7) = row_head (optional (exactly colon)) (from_blanks rule) f6 in
     omega (
       arith,
       y.total,
-      stamp_light dating stamp.piece u r.values.1.1.0 y.stamp stamp.is y.stamp_is,
-      body_light rule u r.values.1.1.1 n f3 resolves,
+      stamp_light dating stamp.piece v r.values.1.1.0 y.stamp stamp.is y.stamp_is,
+      fields_light r.values.1.1.1.0 r.values.1.1.1.1.0 n resolves,
+      field_short IsHost host_length r.values.1.1.1.0 origin,
+      field_short tag_word.Is tag_length r.values.1.1.1.1.0 program,
+      front_longer _ gap,
+      front_longer _ mark,
+      message_short rule u r.values.1.1.1.1.1.1.1 f7,
       at_most y.taken_is,
       ap length stamp.whole,
-      length-append stamp.piece u,
+      length-append stamp.piece v,
       front_longer _ blanks,
       front_longer _ pri,
       drop_shorter (skip_leading_whitespace text),

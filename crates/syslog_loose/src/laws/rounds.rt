@@ -17,7 +17,7 @@ pub fn printed_text_shows_no_month_date()
 {}
 
 /// So that of a message that was read asks for no year, and the year counts in round 1 alone.
-#[tactic(auto, using(crate::proofs::SettlingLemmas::Settles::printed_quiet))]
+#[tactic(auto, using(crate::proofs::ReadBackLemmas::printed_quiet))]
 pub fn printed_text_asks_for_no_year()
     ensures { (variant : Variant) (dating : Dating) (text : Text) (m : MessageValue) → IsRead variant dating text m
         → (date : MonthDate) → AsksYear variant (printed m) date → ⊥ }

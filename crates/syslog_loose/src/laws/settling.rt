@@ -1,7 +1,6 @@
 //! Lines that settle: what is read of a text and printed again and again comes to rest.
 ghost use Rattle.std.specs.Prelude.{◌≡◌, ◌≢◌, ◌⊎◌, ◌<◌, ◌≤◌};
-ghost use Rattle.syslog_loose.specs.Words.{ℕ, suc, length, IfSome, Text, Dating, DashRule};
-ghost use Rattle.syslog_loose.specs.Words.{BeforeBlank};
+ghost use Rattle.syslog_loose.specs.Words.{ℕ, suc, length, IfSome, Text, Dating, DashRule, BeforeBlank};
 ghost use Rattle.syslog_loose.specs.Clauses.{HasNoColon, MessageValue, HasRank, Prints, printed, IsRead3164, Weighs};
 
 /// Where the printed text of a message that was read as RFC 3164 is read as one that prints otherwise, the new one

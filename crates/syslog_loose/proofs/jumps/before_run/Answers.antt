@@ -1,6 +1,6 @@
 use Rattle.syslog_loose.proofs.Names.{Some, None, sym, ◌∙◌, colon, arith, append_cancel_right}
 use Rattle.std.proofs.lemmas.Str.Pattern.{strip_suffix_char}
-use Rattle.syslog_loose.proofs.SettlingLemmas.Jumps.{suffix_bytes}
+use Rattle.syslog_loose.proofs.SettlingLemmas.Settles.{suffix_bytes}
 use Rattle.syslog_loose.proofs.jumps.before_run.Goals as goal
 
 pub returns-in_default : goal.returns-in_default

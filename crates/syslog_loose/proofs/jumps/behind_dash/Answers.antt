@@ -1,5 +1,5 @@
 use Rattle.syslog_loose.proofs.Names.{chars}
-use Rattle.syslog_loose.proofs.SettlingLemmas.Jumps.{no_dash, dash_told}
+use Rattle.syslog_loose.proofs.SettlingLemmas.Settles.{no_dash, dash_told}
 use Rattle.syslog_loose.proofs.jumps.behind_dash.Goals as goal
 
 pub returns-in_err-literal : goal.returns-in_err-literal

@@ -1,5 +1,5 @@
 use Rattle.syslog_loose.proofs.Names.{refl, IsUtf8, rules}
-use Rattle.syslog_loose.proofs.SettlingLemmas.Jumps.{cut_chars, once_chars}
+use Rattle.syslog_loose.proofs.SettlingLemmas.Settles.{cut_chars, once_chars}
 use Rattle.syslog_loose.proofs.jumps.cut_colons.Goals as goal
 
 pub returns-clause-cuts : goal.returns-clause-cuts

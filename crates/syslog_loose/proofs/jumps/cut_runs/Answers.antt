@@ -1,5 +1,5 @@
 use Rattle.syslog_loose.proofs.Names.{◌++◌, ◌∙◌, ap, length, List, ℕ, rules, arith, length-append}
-use Rattle.syslog_loose.proofs.SettlingLemmas.Jumps.{cut_on}
+use Rattle.syslog_loose.proofs.SettlingLemmas.Settles.{cut_on}
 use Rattle.syslog_loose.proofs.jumps.cut_runs.Goals as goal
 
 pub cuts-preserved : goal.cuts-preserved

@@ -1,5 +1,5 @@
 use Rattle.syslog_loose.proofs.Names.{ap, refl, arith, shown, no_truth, line_value, protocol_of}
-use Rattle.syslog_loose.proofs.SettlingLemmas.Jumps.{dashes_later}
+use Rattle.syslog_loose.proofs.SettlingLemmas.Settles.{dashes_later}
 use Rattle.syslog_loose.proofs.jumps.msg_past_dashes.Goals as goal
 
 pub returns-then-not-has_quiet_names : goal.returns-then-not-has_quiet_names

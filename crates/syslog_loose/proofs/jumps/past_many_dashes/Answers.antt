@@ -1,5 +1,5 @@
 use Rattle.syslog_loose.proofs.Names.{rules, subst, sym, chars, IsUtf8, Text, PassesDashes}
-use Rattle.syslog_loose.proofs.SettlingLemmas.Jumps.{some_next, dashes_front, passes_spaced, passes_both}
+use Rattle.syslog_loose.proofs.SettlingLemmas.Settles.{some_next, dashes_front, passes_spaced, passes_both}
 use Rattle.syslog_loose.proofs.jumps.past_many_dashes.Goals as goal
 
 pub many-preserved : goal.many-preserved

@@ -1,5 +1,5 @@
 use Rattle.syslog_loose.proofs.Names.{◌≡◌, ◌+◌, ◌*◌, ◌%◌, ◌∷◌, [], arith, on_ok_weaker, ◌/◌}
-use Rattle.syslog_loose.proofs.SettlingLemmas.Jumps.{pushed_twice}
+use Rattle.syslog_loose.proofs.SettlingLemmas.Settles.{pushed_twice}
 use Rattle.syslog_loose.proofs.jumps.push_colons.Goals as goal
 
 pub returns : goal.returns

@@ -1,5 +1,5 @@
 use Rattle.syslog_loose.proofs.Names.{chars, on_ok_weaker, list_elements}
-use Rattle.syslog_loose.proofs.SettlingLemmas.Jumps.{tail_pushed}
+use Rattle.syslog_loose.proofs.SettlingLemmas.Settles.{tail_pushed}
 use Rattle.syslog_loose.proofs.jumps.push_tail.Goals as goal
 
 pub returns : goal.returns

@@ -1,5 +1,5 @@
 use Rattle.syslog_loose.proofs.Names.{◌-◌, chars-IsAscii, chars, colon, line_value, colon_ascii, on_ok_weaker}
-use Rattle.syslog_loose.proofs.SettlingLemmas.Jumps.{past_written}
+use Rattle.syslog_loose.proofs.SettlingLemmas.Settles.{past_written}
 use Rattle.syslog_loose.proofs.jumps.write_past_colons.Goals as goal
 
 pub print_line-requires : goal.print_line-requires

@@ -1,5 +1,5 @@
 use Rattle.syslog_loose.proofs.Names.{IsUtf8-string_bytes, shown, printed, with_msg, on_ok_weaker, line_value}
-use Rattle.syslog_loose.proofs.SettlingLemmas.Jumps.{later_printed}
+use Rattle.syslog_loose.proofs.SettlingLemmas.Settles.{later_printed}
 use Rattle.syslog_loose.proofs.jumps.write_past_dashes.Goals as goal
 
 pub print_line-requires : goal.print_line-requires

@@ -1,5 +1,5 @@
 use Rattle.syslog_loose.proofs.Names.{IsUtf8-string_bytes, ap, chars, on_ok_weaker, line_value, protocol_of}
-use Rattle.syslog_loose.proofs.SettlingLemmas.Jumps.{later_written}
+use Rattle.syslog_loose.proofs.SettlingLemmas.Settles.{later_written}
 use Rattle.syslog_loose.proofs.jumps.write_round.Goals as goal
 
 pub returns-in-Some : goal.returns-in-Some

@@ -1,8 +1,11 @@
 use Rattle.syslog_loose.proofs.Names.{⊤, chars, dating_of}
 use Rattle.syslog_loose.proofs.ReadingLemmas.{in_year_map}
-use Rattle.syslog_loose.proofs.SettlingLemmas.Settles.{made_first}
+use Rattle.syslog_loose.proofs.SettlingLemmas.Settles.{made_answer, reached_none}
 use Rattle.syslog_loose.proofs.rounds.next_round.Goals as goal
 
 pub returns : goal.returns
-returns g c = rw c.answer.ensures (in_year_map (λ year h. made_first c.args.variant (dating_of year c.args.tz c.args.local)
-    (λ first visitor es. ⊤) _ _ (chars c.args.input.now) _ _ c.visit_line-made.result h) c.visit_line-made.ensures)
+returns g c =
+    let whole = chars c.args.input.now in
+    rw c.answer.ensures (in_year_map (λ year h. let dating = dating_of year c.args.tz c.args.local in
+    made_answer c.args.variant dating (λ first visitor es. ⊤) _ _ whole 0 5 whole _ _ c.visit_line-made.result
+    (reached_none c.args.variant dating whole) (λ m s. tt) h) c.visit_line-made.ensures)

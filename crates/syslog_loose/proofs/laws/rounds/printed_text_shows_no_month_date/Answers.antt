@@ -1,4 +1,4 @@
-use Rattle.syslog_loose.proofs.SettlingLemmas.Settles.{printed_shows_none}
+use Rattle.syslog_loose.proofs.ReadBackLemmas.{printed_shows_none}
 use Rattle.syslog_loose.proofs.laws.rounds.printed_text_shows_no_month_date.Goals as goal
 
 pub returns : goal.returns
