@@ -24,8 +24,8 @@ use Rattle.syslog_loose.proofs.Names.{dash_rule, no_full_nil, EndsOnce, HasRank,
 use Rattle.std.proofs.lemmas.List.{take-append-drop}
 use Rattle.std.proofs.lemmas.List.Prefix.{end_rest}
 use Rattle.syslog_loose.proofs.SettlingLemmas.Weights.{Decided, decided, find_run, no_char, no_list_by, no_list_inner}
-use Rattle.syslog_loose.proofs.SettlingLemmas.Weights.{left_free, colon_weight, fields_light, host_light, process_light, free, paid}
-use Rattle.syslog_loose.proofs.SettlingLemmas.Weights.{at_most, list_read, dash_before}
+use Rattle.syslog_loose.proofs.SettlingLemmas.Weights.{left_free, colon_weight, fields_light, host_light, process_light}
+use Rattle.syslog_loose.proofs.SettlingLemmas.Weights.{free, paid, at_most, list_read, dash_before}
 use Rattle.syslog_loose.proofs.Rfc3164Lemmas.{resolves_once, from_blanks, to_colon, to_colon_det, IsDigit, digit_range}
 use Rattle.syslog_loose.proofs.Rfc3164Lemmas.{rfc3164_bounded, printed_3164_is, to_stamp, to_stamp_det, from_stamp}
 use Rattle.syslog_loose.proofs.Rfc3164Lemmas.{body_det, told}

@@ -36,7 +36,7 @@ use Rattle.syslog_loose.proofs.SettlingLemmas.Falls.{falls, same_text, rank_fall
 use Rattle.syslog_loose.proofs.SettlingLemmas.Falls.{printed_same, host_left, no_form_open}
 use Rattle.syslog_loose.proofs.SettlingLemmas.Weights.{light, weight, dash_before, no_list_by}
 use Rattle.std.specs.declared.alloc.AllocError.{AllocError}
-use Rattle.syslog_loose.specs.Bodies.Jumps.{message_end}
+use Rattle.syslog_loose.specs.Bodies.Jumps.{message_end, read_with}
 use Rattle.std.specs.List.{repeat}
 use Rattle.std.proofs.lemmas.Str.{IsAscii-append, chars-append, encodes-IsAscii}
 use Rattle.std.proofs.lemmas.Str.Ascii.{IsAscii-nil}
@@ -198,7 +198,7 @@ module _ (variant : Variant) (dating : Dating) where
       let unsettled : IsSettled variant dating u → ⊥ = λ s. none n u (omega arith) (before, round, h) s in
       let first = unsettled_rfc3164 before u h unsettled in
       let (v, y) = weight dash_rule h.message in
-      elim (falls dash_rule dating dating before h.message m first second (inl refl) v w y x) [
+      elim (falls dash_rule dating dating before h.message m first (rw h.is_printed at r) (inl refl) v w y x) [
         | inl less ↦ omega (
           arith,
           less,
@@ -318,22 +318,7 @@ module _ (variant : Variant) (dating : Dating) where
 
 -- ---- rounds that are skipped
 
--- the message with these names and this message part, as it is read back: without elements
-abbrev read_with : MessageValue → Names3164 → Text → MessageValue
-read_with m n t = record {
-  protocol = protocol.RFC3164;
-  facility = facility_of (priority_of m);
-  severity = severity_of (priority_of m);
-  timestamp = m.timestamp;
-  hostname = n.hostname;
-  appname = n.appname;
-  procid = n.procid;
-  msgid = None;
-  structured_data = [];
-  msg = t;
-}
-
--- its priority is that of the message, so that what is read of its print is read with that
+-- what is read back has the priority of the message, so that what is read of its print is read with that
 read_twice : (m : MessageValue) (n : Names3164) (t : Text) → read_with (read_with m n t) n t ≡ read_with m n t
 read_twice m n t =
     ap (λ (p : ℕ). record (read_with m n t) { facility = facility_of p; severity = severity_of p })

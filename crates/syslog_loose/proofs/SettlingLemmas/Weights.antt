@@ -11,12 +11,12 @@ use Rattle.syslog_loose.proofs.Names.{is_open_char, front_same, run_det, full_be
 use Rattle.syslog_loose.proofs.Names.{Some, length-append, pos, leb_tells, bytes_eq-Decides, option_map_or, bytes_eq}
 use Rattle.syslog_loose.proofs.Names.{Values, optional, ElementValue, rfc3164_list, elements_or, IsRfc3164List, dash}
 use Rattle.syslog_loose.proofs.Names.{colon, IsCanonicalStamp, ProcId, PID, Name, OffsetTimestamp, present_front, step}
-use Rattle.syslog_loose.proofs.Names.{absent_none, absent_stays, MessageValue, Names3164, Resolves, Costs}
-use Rattle.syslog_loose.proofs.Names.{names_weight, ListWeighs, Weighs, rest_whole, row_head, begins_no_list}
-use Rattle.syslog_loose.proofs.Names.{full_shorter, no_rfc3164_list, drop_trailing_whitespace, skip_leading_whitespace}
-use Rattle.syslog_loose.proofs.Names.{spaced, join, host, tag_word, IsHost, rfc3164_stamp, Dating, MonthDate}
-use Rattle.syslog_loose.proofs.Names.{rfc3164_row, IsRead3164, body_row, priority, month, month_date, division_front}
-use Rattle.syslog_loose.proofs.Names.{spaced_parts, stamp_text-canonical, own_year, prefix_len, unsigned_abs, unwrap_or}
+use Rattle.syslog_loose.proofs.Names.{absent_none, absent_stays, MessageValue, Names3164, Resolves, Costs, names_weight}
+use Rattle.syslog_loose.proofs.Names.{ListWeighs, Weighs, rest_whole, row_head, begins_no_list, full_shorter}
+use Rattle.syslog_loose.proofs.Names.{no_rfc3164_list, drop_trailing_whitespace, skip_leading_whitespace, spaced, join}
+use Rattle.syslog_loose.proofs.Names.{host, tag_word, IsHost, rfc3164_stamp, Dating, MonthDate, rfc3164_row, IsRead3164}
+use Rattle.syslog_loose.proofs.Names.{body_row, priority, month, month_date, division_front, spaced_parts}
+use Rattle.syslog_loose.proofs.Names.{stamp_text-canonical, own_year, prefix_len, unsigned_abs, unwrap_or}
 use Rattle.syslog_pieces.proofs.PieceLemmas.Class.{row_nil, row_none_here, row_none_later, texted_front, no_front_no}
 use Rattle.syslog_pieces.proofs.PieceLemmas.Class.{Meets, meets_here, meets_none}
 use Rattle.syslog_pieces.proofs.PieceLemmas.Lists.{no_more, no_more_behind}

@@ -8,6 +8,7 @@ use Rattle.std.specs.List.{repeat}
 use Rattle.syslog_pieces.specs.StructuredData.Element.{joined_elements}
 use Rattle.syslog_loose.specs.Message.{MessageValue}
 use Rattle.syslog_loose.specs.Printed.{priority_of}
+use Rattle.syslog_loose.specs.Rfc3164.{Names3164, names}
 use Rattle.syslog_loose.specs.declared.message.Protocol.TheVariants.{RFC3164}
 
 -- ---- a host that ends in colons
@@ -29,21 +30,26 @@ abbrev pub tail_text : List ElementValue → Text → Text
 tail_text [] msg = message_end msg
 tail_text (e ∷ es) msg = 32 ∷ (joined_elements (e ∷ es) ++ message_end msg)
 
--- the message that the n-th reading makes of one whose host ends in colons: n + 1 colons fewer, which are in the
--- message part before what was printed there
-abbrev pub past_colons : MessageValue → Text → ℕ → MessageValue
-past_colons m host n = record {
+-- the message with these names and this message part, as it is read back: without elements
+abbrev pub read_with : MessageValue → Names3164 → Text → MessageValue
+read_with m n text = record {
   protocol = RFC3164;
   facility = facility_of (priority_of m);
   severity = severity_of (priority_of m);
   timestamp = m.timestamp;
-  hostname = Some host;
-  appname = None;
-  procid = None;
+  hostname = n.hostname;
+  appname = n.appname;
+  procid = n.procid;
   msgid = None;
   structured_data = [];
-  msg = 58 ∷ colons_before n (tail_text m.structured_data m.msg);
+  msg = text;
 }
+
+-- the message that the n-th reading makes of one whose host ends in colons: n + 1 colons fewer, which are in the
+-- message part before what was printed there
+abbrev pub past_colons : MessageValue → Text → ℕ → MessageValue
+past_colons m host n =
+    read_with m (names (Some host) None None) (58 ∷ colons_before n (tail_text m.structured_data m.msg))
 
 -- The message has a timestamp that its print has too, and this is its host, less n colons at its end, of which it keeps
 -- one.
