@@ -106,14 +106,14 @@ rows_cut : (As : List Class) (C : Class) (Bs : List Class) (vs : Values (As ++ (
     → t ≡ join ps ++ q → Divides (As ++ (C ∷ Bs)) ps q vs
     → (before : List Text) × (p : Text) × (behind : List Text) × (ps ≡ before ++ (p ∷ behind))
     × (length before ≡ length As) × Front (Row As) t (join (p ∷ behind) ++ q) (firsts As (C ∷ Bs) vs)
-    × C.Is p (join behind ++ q) (lasts As (C ∷ Bs) vs).0 × Divides Bs behind q (lasts As (C ∷ Bs) vs).1
+    × C.Is p (join behind ++ q) (lasts As (C ∷ Bs) vs).0
 rows_cut [] C Bs vs (p ∷ ps) e d =
-    ([], p, ps, refl, refl, record { piece = []; whole = e; is = ([], refl, tt) }, d.0, d.1)
+    ([], p, ps, refl, refl, record { piece = []; whole = e; is = ([], refl, tt) }, d.0)
 rows_cut (A ∷ As) C Bs vs (a ∷ ps) {q = q} e d =
-    let (before, p, behind, is, l, f, g, h) = rows_cut As C Bs vs.1 ps {t = join ps ++ q} refl d.1 in
+    let (before, p, behind, is, l, f, g) = rows_cut As C Bs vs.1 ps {t = join ps ++ q} refl d.1 in
     let first : Front A _ (join ps ++ q) vs.0 =
     record { piece = a; whole = e ∙ append_assoc a (join ps) q; is = d.0 } in
-    (a ∷ before, p, behind, ap (λ (x : List Text). a ∷ x) is, omega (arith, l), row_cons A As first f, g, h)
+    (a ∷ before, p, behind, ap (λ (x : List Text). a ∷ x) is, omega (arith, l), row_cons A As first f, g)
 rows_cut As C Bs vs ps e d = absurd d
 
 module _ (dating : Dating) (text : Text) where
@@ -136,7 +136,7 @@ module _ (dating : Dating) (text : Text) where
       (Row (before_list dating)) (trimmed text) u (firsts (before_list dating) (from_list BeforeAnything) r.values)
       → BeginsDashChange u → HasDashChange3164 dating text
   is_dropped m r u a k =
-      let (before, p, ps, e, l, f, list, gap) = rows_cut (before_list dating) (optional (rfc3164_list BeforeAnything))
+      let (before, p, ps, e, l, f, list) = rows_cut (before_list dating) (optional (rfc3164_list BeforeAnything))
       from_gap r.values r.division.pieces (r.division.whole ∙ sym (append-nil _)) r.division.each in
       let same = (front_same (Row (before_list dating)) (row_det (before_list dating) (before_det dating)) f a).0 in
       let is_dash = (optional_det (rfc3164_list BeforeAnything) (rfc3164_list_det BeforeAnything) p (join ps ++ []) dash
@@ -163,7 +163,7 @@ module _ (dating : Dating) (text : Text) where
       (45 ∷ (d.next ∷ d.more)) (firsts (before_list dating) (from_list BeforeAnything) d.read.values)
   dropped_at d =
       let r = d.read.division in
-      let (before, p, ps, e, l, f, _, _) = rows_cut (before_list dating) (optional (rfc3164_list BeforeAnything))
+      let (before, p, ps, e, l, f, _) = rows_cut (before_list dating) (optional (rfc3164_list BeforeAnything))
       from_gap d.read.values r.pieces (r.whole ∙ sym (append-nil _)) r.each in
       let a = drop-append_seam before (p ∷ ps) in
       let place = d.place in

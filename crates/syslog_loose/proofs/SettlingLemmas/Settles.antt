@@ -100,14 +100,6 @@ module _ (variant : Variant) (dating : Dating) where
       (record { round = round; none = λ i y a. s.none i y (omega arith) }) in
       (suc j, reached_next t (suc j) b x more (λ l. s.none k b (omega arith) round) h)
 
-  -- where it is read as no message, none is settled
-  reached_last : (t : Text) (n : ℕ) (u y : Text) → Reaches variant dating t n u → IsUnreadable variant dating u
-      → IsFirstSettled variant dating t y → ⊥
-  reached_last t n u y r never s = elim (leb_tells n (suc s.before)) [
-    | inl a ↦ none_behind t n u r.round never (suc (suc s.before)) y (omega (arith, a.1)) (y, s.round, s.settled)
-    | inr a ↦ r.none s.before y a.1 s.round s.settled
-  ]
-
   -- ---- where no round is settled first, none is settled
   pub none_settled : (t : Text) → ((u : Text) → IsFirstSettled variant dating t u → ⊥) → (n : ℕ)
       → NoneSettled variant dating t n
@@ -127,13 +119,6 @@ read_protocol RFC3164 dating text m r = rw (read_near dash_rule dating text m r)
 read_protocol Either dating text m r = tt
 
 -- ---- by which protocol a text was read
-pub as_rfc3164 : (variant : Variant) (dating : Dating) (text : Text) (m : MessageValue) → IsRead variant dating text m
-    → m.protocol ≡ protocol.RFC3164 → IsRead3164 dash_rule dating text m
-as_rfc3164 variant dating text m r e = elim (read_as variant dating text m r) [
-  | inl s ↦ absurd (let other = sym e ∙ ap (λ (x : MessageValue). x.protocol) s.means in cc)
-  | inr s ↦ s
-]
-
 -- a message without exceptions is at rest
 pub rests_so : (p : Protocol) (m : MessageValue) → HasNoException dash_rule m → IsAtRest p m
 rests_so protocol.RFC3164 m h = h
@@ -155,17 +140,7 @@ module _ (variant : Variant) (dating : Dating) where
       let (n, again, same) = fixed_again variant dating m fixed (read_protocol variant dating text m r) in
       record { message = n; read = again; is_printed = sym same }
 
-  -- what was read prints as one, unless it was read as RFC 3164 and has an exception
-  rest_settled : (text : Text) (m : MessageValue) → IsRead variant dating text m → IsAtRest m.protocol m
-      → IsSettled variant dating (printed m)
-  rest_settled text m r rest = elim (read_as variant dating text m r) [
-    | inl s ↦ fixed_settled text m r (inr (inl (text, s)))
-    | inr s ↦
-        let own = subst (λ (p : Protocol). IsAtRest p m) (read_near dash_rule dating text m s).protocol rest in
-        fixed_settled text m r (inr (inr (text, dating, s, own)))
-  ]
-
-  -- and the message of a settled text is canonical
+  -- the message of a settled text is canonical
   pub settled_canonical : (text : Text) (m : MessageValue) → IsSettled variant dating text
       → IsRead variant dating text m → IsCanonical dash_rule m
   settled_canonical text m s r =
@@ -191,34 +166,31 @@ module _ (variant : Variant) (dating : Dating) where
 
   -- the message of round n weighs n less than the text has characters
   weighs_less : (t : Text) (n : ℕ) (u : Text) (m : MessageValue) (w : ℕ) → IsRound variant dating t n u
-      → NoneSettled variant dating t n → IsRead variant dating u m → IsRead3164 dash_rule dating u m
+      → NoneSettled variant dating t n → IsRead variant dating u m → (n ≡ 0 → IsRead3164 dash_rule dating u m)
       → Weighs dash_rule m w → w + n ≤ length t
-  weighs_less t zero u m w e none k r x = omega (arith, light dash_rule dating t m w (rw e at r) x)
+  weighs_less t zero u m w e none k r x = omega (arith, light dash_rule dating t m w (rw e at (r refl)) x)
   weighs_less t (suc n) u m w (before, round, h) none k r x =
       let unsettled : IsSettled variant dating u → ⊥ = λ s. none n u (omega arith) (before, round, h) s in
       let first = unsettled_rfc3164 before u h unsettled in
+      let second = stays_rfc3164 variant dating h.message m
+      (read_near dash_rule dating before h.message first).protocol (rw h.is_printed at k) in
       let (v, y) = weight dash_rule h.message in
-      elim (falls dash_rule dating dating before h.message m first (rw h.is_printed at r) (inl refl) v w y x) [
+      elim (falls dash_rule dating dating before h.message m first second (inl refl) v w y x) [
         | inl less ↦ omega (
           arith,
           less,
-          weighs_less t n before h.message v round (λ i z l. none i z (omega arith)) h.read first y,
+          weighs_less t n before h.message v round (λ i z l. none i z (omega arith)) h.read (λ z. first) y,
         )
         | inr same ↦ absurd (unsettled (record { message = m; read = k; is_printed = h.is_printed ∙ sym same }))
       ]
 
   -- So many rounds can't be unsettled.
   ends : (t : Text) (n : ℕ) (u : Text) → length t < n → Reaches variant dating t (suc n) u → ⊥
-  ends t zero u l r = omega arith
-  ends t (suc n) u l r =
-      let (before, (earlier, round, h), k) = r.round in
-      let none : NoneSettled variant dating t (suc n) = λ i x a. r.none i x (omega arith) in
-      let first = unsettled_rfc3164 earlier before h (none n before (omega arith) (earlier, round, h)) in
-      let e = (read_near dash_rule dating earlier h.message first).protocol in
-      let rfc3164 = rw (← h.is_printed) at
-      (stays_rfc3164 variant dating h.message k.message e (rw h.is_printed at k.read)) in
+  ends t n u l r =
+      let (before, round, k) = r.round in
       let (w, x) = weight dash_rule k.message in
-      omega (arith, weighs_less t (suc n) before k.message w (earlier, round, h) none k.read rfc3164 x)
+      let none : NoneSettled variant dating t n = λ i y a. r.none i y (omega arith) in
+      omega (arith, weighs_less t n before k.message w round none k.read (λ z. absurd (omega arith)) x)
 
   pub rests : (t u : Text) → NoneSettled variant dating t (length t + 1) → IsRound variant dating t (length t + 2) u → ⊥
   rests t u none round =
@@ -250,8 +222,11 @@ module _ (variant : Variant) (dating : Dating) where
   refused : (t : Text) (n : ℕ) (u : Text) (fault : ParseFault) → Reaches variant dating t n u
       → (fault ≡ Invalid) ↔ IsUnreadable variant dating u → IsSettlingFault variant dating t fault
   refused t n u Invalid r h =
-      let never : (y : Text) → IsFirstSettled variant dating t y → ⊥ =
-      λ y s. reached_last variant dating t n u y r (h.0 refl) s in
+      let never : (y : Text) → IsFirstSettled variant dating t y → ⊥ = λ y s. elim (leb_tells n (suc s.before)) [
+        | inl a ↦ none_behind variant dating t n u r.round (h.0 refl) (suc (suc s.before)) y (omega (arith, a.1))
+            (y, s.round, s.settled)
+        | inr a ↦ r.none s.before y a.1 s.round s.settled
+      ] in
       (λ y round. rests t y (none_settled variant dating t never (length t + 1)) round, never)
   refused t n u Memory r h = λ never. invalid_or_memory (h.1 (λ m s. none_behind variant dating t 0 t refl never (suc n)
       (printed m) (omega arith) (u, r.round, record { message = m; read = s; is_printed = refl })))
@@ -263,8 +238,19 @@ module _ (variant : Variant) (dating : Dating) where
         → IsToldRound variant dating text (chars bytes) true
     told_settled bytes u w rest =
         let next : IsNext variant dating text (chars bytes) =
-        record { message = m; read = r; is_printed = sym (chars_from_encodes (printed m) bytes u (sym w)) } in
-        (next, rw next.is_printed (rest_settled text m r rest))
+        record { message = m; read = r; is_printed = sym (chars_from_encodes (printed m) bytes u (sym w)) } in (
+          next,
+          rw next.is_printed (fixed_settled text m r (inr (elim (read_as variant dating text m r) [
+            | inl s ↦ inl (text, s)
+            | inr s ↦ inr (
+              text,
+              dating,
+              s,
+              subst (λ (p : Protocol). IsAtRest p m)
+                  (read_near dash_rule dating text m s).protocol rest,
+            )
+          ]))),
+        )
 
     -- where it has a quirk, a later one may take its place, and what is read of that has a lower rank
     pub told_later : (later : Text) → m.protocol ≡ protocol.RFC3164 → (HasNoException dash_rule m → ⊥)
@@ -433,7 +419,10 @@ module _ (variant : Variant) (dating : Dating) (input : Text) (m : MessageValue)
   known : Known 0 m
   known = (
     input,
-    as_rfc3164 variant dating input m r e,
+    elim (read_as variant dating input m r) [
+      | inl s ↦ absurd (let other = sym e ∙ ap (λ (x : MessageValue). x.protocol) s.means in cc)
+      | inr s ↦ s
+    ],
     reached_next variant dating input 0 input (printed m) (reached_none variant dating input) (λ l. absurd (omega arith))
         (record { message = m; read = r; is_printed = refl }),
   )
