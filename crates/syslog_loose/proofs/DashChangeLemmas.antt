@@ -26,13 +26,10 @@ use Rattle.syslog_loose.proofs.Rfc5424Lemmas as strict
 
 -- ---- two readings
 
--- as RFC 3164 the text was read as one message, and is read as another
+-- as RFC 3164 the text is read under each rule, and is read as another message than it was
 record ReadsApart (dating : Dating) (text : Text) : Type 0 where
-  pub before : MessageValue
-  pub now : MessageValue
-  pub was_read : IsRead3164 BeforeAnything dating text before
-  pub is_read : IsRead3164 dash_rule dating text now
-  pub differ : before ≢ now
+  pub read : (rule : DashRule) → (m : MessageValue) × IsRead3164 rule dating text m
+  pub differ : (read BeforeAnything).0 ≢ (read dash_rule).0
 
 differs_by : (variant : Variant) (dating : Dating) (text : Text) (m n : MessageValue) → IsReadUnder BeforeAnything
     variant dating text m → IsReadUnder dash_rule variant dating text n → m ≢ n → ReadsDifferently variant dating text
@@ -208,12 +205,18 @@ module _ (dating : Dating) (text : Text) where
     differ_of_dash_change c q f b =
         let t : Text = 45 ∷ (c ∷ q) in
         record {
-          before = _;
-          now = _;
-          was_read = read_with BeforeAnything t (c ∷ q) (Some []) f (optional_some (rfc3164_list BeforeAnything)
-              (dash_rfc3164_list BeforeAnything t (c ∷ q) refl tt)) b;
-          is_read = read_with BeforeBlank t t None f (optional_none (rfc3164_list BeforeBlank)
-              (no_rfc3164_list BeforeBlank t (dash_no_list c q b))) refl;
+          read = λ rule. elim rule as (λ k. (m : MessageValue) × IsRead3164 k dating text m) [
+            | BeforeAnything ↦ (
+              _,
+              read_with BeforeAnything t (c ∷ q) (Some []) f
+                  (optional_some (rfc3164_list BeforeAnything) (dash_rfc3164_list BeforeAnything t (c ∷ q) refl tt)) b,
+            )
+            | BeforeBlank ↦ (
+              _,
+              read_with BeforeBlank t t None f (optional_none (rfc3164_list BeforeBlank)
+                  (no_rfc3164_list BeforeBlank t (dash_no_list c q b))) refl,
+            )
+          ];
           differ = λ same. let l : length (c ∷ q) ≡ length t = ap (λ (x : MessageValue). length x.msg) same in
               omega (arith, l);
         }
@@ -238,21 +241,17 @@ module _ (dating : Dating) (text : Text) where
   back : (variant : Variant) → HasDashChange variant dating text → ReadsDifferently variant dating text
   back RFC5424 d = absurd d
   back RFC3164 d = let r = differs_by_dash_change dating text d in
-      differs_by RFC3164 dating text r.before r.now r.was_read r.is_read r.differ
+      differs_by RFC3164 dating text _ _ (r.read BeforeAnything).1 (r.read BeforeBlank).1 r.differ
   back Either (none, d) = let r = differs_by_dash_change dating text d in
-      differs_by Either dating text r.before r.now (inr (none, r.was_read)) (inr (none, r.is_read)) r.differ
+      differs_by Either dating text _ _ (inr (none, (r.read BeforeAnything).1)) (inr (none, (r.read BeforeBlank).1)) r.differ
 
   -- ---- a text was read exactly where it is
-
-  reading_of : (rule : DashRule) → ReadsApart dating text → (n : MessageValue) × IsRead3164 rule dating text n
-  reading_of BeforeAnything r = (r.before, r.was_read)
-  reading_of BeforeBlank r = (r.now, r.is_read)
 
   other_too : (rule other : DashRule) (m : MessageValue) → IsRead3164 rule dating text m
       → (n : MessageValue) × IsRead3164 other dating text n
   other_too rule other m r = elim (turn dating text rule other m r) [
     | inl (u, a, d) ↦ let (n, means, is) = r.means in
-        reading_of other (differ_of_dash_change dating text _ n means d.next d.behind (rw d.is at a) d.no_blank)
+        (differ_of_dash_change dating text _ n means d.next d.behind (rw d.is at a) d.no_blank).read other
     | inr t ↦ (m, t)
   ]
 
@@ -303,7 +302,7 @@ told_by_list : (dating : Dating) (text list : Text) (vs : Values (before_list da
     → Front (Row (before_list dating)) (trimmed text) list vs → Resolves vs.1.1.1.0 vs.1.1.1.1.0 n
     → MatchBool b (BeginsDashChange list) (BeginsDashChange list → ⊥) → IsTrue b ↔ HasDashChange3164 dating text
 told_by_list dating text list vs n true f means h = (
-  λ t. dash_change_of_differ dating text _ _ a.was_read a.is_read a.differ,
+  λ t. dash_change_of_differ dating text _ _ (a.read BeforeAnything).1 (a.read BeforeBlank).1 a.differ,
   λ d. refl,
 )
   where

@@ -24,7 +24,7 @@ use Rattle.syslog_loose.proofs.Names.{dash_rule, no_full_nil, EndsOnce, HasRank,
 use Rattle.std.proofs.lemmas.List.{take-append-drop}
 use Rattle.std.proofs.lemmas.List.Prefix.{end_rest}
 use Rattle.syslog_loose.proofs.SettlingLemmas.Weights.{Decided, decided, find_run, no_char, no_list_by, no_list_inner}
-use Rattle.syslog_loose.proofs.SettlingLemmas.Weights.{left_free, colon_weight, fields_light, host_light, process_light}
+use Rattle.syslog_loose.proofs.SettlingLemmas.Weights.{left_none, colon_weight, fields_light, host_light, process_light}
 use Rattle.syslog_loose.proofs.SettlingLemmas.Weights.{free, paid, at_most, list_read, dash_before}
 use Rattle.syslog_loose.proofs.Rfc3164Lemmas.{resolves_once, from_blanks, to_colon, to_colon_det, IsDigit, digit_range}
 use Rattle.syslog_loose.proofs.Rfc3164Lemmas.{rfc3164_bounded, printed_3164_is, to_stamp, to_stamp_det, from_stamp}
@@ -160,7 +160,7 @@ module _ (rule : DashRule) (t : Text) (n : Names3164) (vs : Values (body_row rul
   -- lighter names, and a message part that costs nothing: a process name was cut at a colon, or a host lost one
   abbrev pub Moved : Option Text → Option (ProcId Text) → Type 0
   Moved h p = (names_weight n.hostname n.procid < names_weight h p)
-      × ((v : ℕ) → ListWeighs rule (elements_or vs.1.1.1.1.1.0) vs.1.1.1.1.1.1.1.0 v → v ≡ 0)
+      × (elements_or vs.1.1.1.1.1.0 ≡ [] → BeginsNoList rule vs.1.1.1.1.1.1.1.0)
       × (((IfSome p HasNoColon → ⊥) × HasQuietNames n.hostname n.procid) ⊎ LosesColon h)
 
   abbrev pub Step : Option Text → Option Text → Option (ProcId Text) → Type 0
@@ -213,7 +213,7 @@ module _ (rule : DashRule) (t : Text) (n : Names3164) (vs : Values (body_row rul
         | inr (form, e) ↦ e
       ] in (
         rw (is, tag_alone, has_colon x z) (omega arith),
-        λ v. left_free rule q q vs.1.1.1.1 (no_blanks q no_blank) behind v (rw blank no_list),
+        left_none rule q q vs.1.1.1.1 (no_blanks q no_blank) behind (rw blank no_list),
         inl (cut_colon p (x, z, is, free), rw tag_alone (quiet_names None None tt tt)),
       )
 
@@ -222,7 +222,7 @@ module _ (rule : DashRule) (t : Text) (n : Names3164) (vs : Values (body_row rul
       → names_weight n.hostname n.procid < names_weight (Some h) None → LosesColon (Some h) → Moved (Some h) None
   colon_moved h d l how =
       let gap = piece_front (run is_blank) (32 ∷ []) (58 ∷ t) tt ((refl, tt), refl) in
-      (l, λ v. left_free rule _ _ vs.1.1.1.1 gap d v (no_list_by rule 58 t (λ e. omega arith) (λ e. omega arith)), inr how)
+      (l, left_none rule _ _ vs.1.1.1.1 gap d (no_list_by rule 58 t (λ e. omega arith) (λ e. omega arith)), inr how)
 
   colons_moved : (h : Text) → Each is_not_whitespace (h ++ colon) → Reads (names_text (Some (h ++ colon)) None None t)
       → Moved (Some (h ++ colon)) None
@@ -425,7 +425,7 @@ module _ (rule : DashRule) (first second : Dating) (text : Text) (m n : MessageV
     tail_falls : Tail (32 ∷ behind_space m)
         → (new < old) ⊎ ((new ≤ old) × (s.values.1.1.0 ≡ m.timestamp → printed n ≡ printed m))
     tail_falls d = elim (named_as d) [
-      | inr (lighter, nothing, _) ↦ inl (omega (arith, lighter, nothing z.taken z.taken_is))
+      | inr (lighter, none, _) ↦ inl (omega (arith, lighter, free z.taken_is none))
       | inl k ↦ elim (ended k) [
         | inl (es, msg, none) ↦ inr (
           omega (arith, k.light, free z.taken_is (λ e. rw msg (none (sym es ∙ e)))),
@@ -449,12 +449,9 @@ module _ (rule : DashRule) (first second : Dating) (text : Text) (m n : MessageV
         (row_of to_colon (optional_none (spaced host) (no_spaced_space host no_space)
         then optional_none (spaced tag_word) (no_spaced_space tag_word no_space) then gap
         then optional_none (exactly colon) (no_char 58 c t (λ e. omega arith)) then refl)) d in
-        let none = no_list_by rule c t (λ e. omega arith) (λ e. omega arith) in
-        omega (
-          arith,
-          fields_light None None s.means.0 means,
-          left_free rule (c ∷ t) (c ∷ t) s.values.1.1.1.1.1.1.1 gap behind z.taken none z.taken_is,
-        )
+        let none = left_none rule (c ∷ t) (c ∷ t) s.values.1.1.1.1.1.1.1 gap behind
+        (no_list_by rule c t (λ e. omega arith) (λ e. omega arith)) in
+        omega (arith, fields_light None None s.means.0 means, free z.taken_is none)
 
     -- The printed text of a message that was read is read as one that prints the same, or as a lighter one.
     pub falls : (v < w) ⊎ (printed n ≡ printed m)

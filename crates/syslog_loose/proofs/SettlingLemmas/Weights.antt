@@ -401,10 +401,9 @@ module _ (rule : DashRule) where
         row_pieces (from_list rule) (step (run is_blank) (from_list rule) (run_det is_blank) gap d) in
         leaves vs.1.0 vs.1.1.1.0 gap.is.1 list (subst (λ (x : Text). Front (run is_blank) q x tt) (rest_whole end) more)
 
-    -- a message that begins with no list weighs nothing
-    pub left_free : (w : ℕ) → BeginsNoList rule u → ListWeighs rule (elements_or vs.1.0) vs.1.1.1.0 w → w ≡ 0
-    left_free w n y =
-        elim list_read [ inl (_, none, same) ↦ free y (λ e. rw same n) | inr (began, _, _) ↦ absurd (began n) ]
+    -- where it begins with no list, neither does what is left
+    pub left_none : BeginsNoList rule u → elements_or vs.1.0 ≡ [] → BeginsNoList rule vs.1.1.1.0
+    left_none n e = elim list_read [ inl (_, _, same) ↦ rw same n | inr (began, _, _) ↦ absurd (began n) ]
 
   pub message_short : (t : Text) (vs : Values (from_blanks rule)) → Front (Row (from_blanks rule)) t [] vs
       → length vs.1.1.1.0 ≤ length t
