@@ -533,16 +533,11 @@ module _ (variant : Variant) (dating : Dating) (input : Text) (m : MessageValue)
 
 -- ---- what the code finds and writes
 
-pub no_dash : (t : Text) → NoFront (exactly (45 ∷ [])) t → (rest : Text) → IsDashed t rest → ⊥
-no_dash t n rest d = n (45 ∷ []) (d.blanks ++ rest) tt d.whole refl
-
 pub dash_told : (t q : Text) (f : Front (exactly (45 ∷ [])) t q tt) (r : Option (Bor (List ℕ))) → Skips
     (some_run is_blank) tt q r → MatchOption r ((rest : Text) → IsDashed t rest → ⊥) (λ x. IsDashed t (shown x))
-dash_told t q f None n = λ rest d.
-    let b = begins 45 t q f in n d.blanks rest tt (cc) (d.some, d.each, d.no_more)
+dash_told t q f None n = λ rest d. n d.blanks rest tt (cc (begins 45 t q f)) (d.some, d.each, d.no_more)
 dash_told t q f (Some x) g =
-    let b = begins 45 t q f in
-    record { blanks = g.piece; whole = cc; some = g.is.0; each = g.is.1; no_more = g.is.2 }
+    record { blanks = g.piece; whole = cc (begins 45 t q f); some = g.is.0; each = g.is.1; no_more = g.is.2 }
 
 -- n dashes, each with a space after it
 abbrev pub spaced_dashes : ℕ → Text
@@ -632,8 +627,11 @@ pub cut_chars : (name host shorter : List ℕ) (c n : ℕ) → IsUtf8 shorter �
 cut_chars name host shorter c n u k l =
     let both = cut_twice name host shorter c n k l in
     record {
-      whole = ap chars both.whole ∙ chars-append shorter (colons (c + n)) u
-          ∙ ap (λ (x : Text). chars shorter ++ x) (chars-IsAscii (colons (c + n)) (repeat_ascii (c + n)));
+      whole = rw (
+        both.whole,
+        chars-append shorter (colons (c + n)) u,
+        chars-IsAscii (colons (c + n)) (repeat_ascii (c + n)),
+      ) refl;
       keeps = λ p. colon_end shorter u (both.keeps p);
     }
 
