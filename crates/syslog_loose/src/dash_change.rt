@@ -60,8 +60,5 @@ fn begins_dash_change(text: &str) -> bool
     let Some(rest) = literal(text, '-') else {
         return false;
     };
-    match first(rest) {
-        Some((c, _)) => !CharClass::Blank.has(c),
-        None => false,
-    }
+    first(rest).is_some_and(|(c, _)| !CharClass::Blank.has(c))
 }

@@ -185,8 +185,7 @@ fn push_end(text: &mut String, msg: &str) -> Result<(), AllocError>
         return Ok(());
     }
     text.push_str(" ")?;
-    text.push_str(msg)?;
-    Ok(())
+    text.push_str(msg)
 }
 
 // The message part without the dashes that the next readings take from it, one in each round, up to the last one that has

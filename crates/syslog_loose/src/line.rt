@@ -64,8 +64,7 @@ impl<'a> Line<'a> {
     pub fn facility(&self) -> Option<SyslogFacility>
         ensures { result ≡ (line_value self.now).facility }
     {
-        let (facility, _) = parts(self.priority);
-        facility
+        parts(self.priority).0
     }
 
     /// Returns the severity, absent where there is no priority.
@@ -73,8 +72,7 @@ impl<'a> Line<'a> {
     pub fn severity(&self) -> Option<SyslogSeverity>
         ensures { result ≡ (line_value self.now).severity }
     {
-        let (_, severity) = parts(self.priority);
-        severity
+        parts(self.priority).1
     }
 
     /// Returns the process id: the number that its text writes, or else the text.

@@ -67,14 +67,8 @@ pub struct Message<S> {
 pub(crate) fn priority(facility: Option<SyslogFacility>, severity: Option<SyslogSeverity>) -> u32
     ensures { result ≡ option_map_or facility_number facility 5 * 8 + option_map_or severity_number severity 7 }
 {
-    let facility = match facility {
-        Some(facility) => facility as u32,
-        None => 5,
-    };
-    let severity = match severity {
-        Some(severity) => severity as u32,
-        None => 7,
-    };
+    let facility = facility.map_or(5, |facility| facility as u32);
+    let severity = severity.map_or(7, |severity| severity as u32);
     facility * 8 + severity
 }
 

@@ -20,32 +20,18 @@ use syslog_pieces::text::verbatim::before;
 use syslog_pieces::text::{blanks, host_field, past_colon, tag_field};
 use syslog_pieces::timestamp::ClockStamp;
 
-/// The names of a line.
-#[derive(Clone, Copy)]
-pub(crate) struct Names<'a> {
-    pub(crate) hostname: Option<&'a str>,
-    pub(crate) appname: Option<&'a str>,
-    /// The text that names the process.
-    pub(crate) process: Option<&'a str>,
-}
+/// The names of a line: the host, the app name, and the text that names the process.
+pub(crate) type Names<'a> = (Option<&'a str>, Option<&'a str>, Option<&'a str>);
 
 // A program's name beside this host.
 #[inline(always)]
 fn program<'a>(hostname: Option<&'a str>, name: &'a str) -> Names<'a>
     ensures names { NamesProgram (seen hostname.entry) (chars name.entry.now) (names_value result) }
-    ensures form { IsProcessOf (chars name.entry.now) result }
+    ensures form { IsProcessOf (chars name.entry.now) result.2 }
 {
     match tag_form(name) {
-        Some((tag, id)) => Names {
-            hostname,
-            appname: Some(tag),
-            process: Some(id),
-        },
-        None => Names {
-            hostname,
-            appname: Some(name),
-            process: None,
-        },
+        Some((tag, id)) => (hostname, Some(tag), Some(id)),
+        None => (hostname, Some(name), None),
     }
 }
 
@@ -55,28 +41,8 @@ fn lone<'a>(name: &'a str) -> Names<'a>
     ensures { NamesHost (chars name.entry.now) (names_value result) }
 {
     match tag_form(name) {
-        Some((tag, id)) => Names {
-            hostname: None,
-            appname: Some(tag),
-            process: Some(id),
-        },
-        None => Names {
-            hostname: Some(name),
-            appname: None,
-            process: None,
-        },
-    }
-}
-
-// No names.
-#[inline(always)]
-fn nobody() -> Names<'static>
-    ensures { names_value result ≡ spec.names None None None }
-{
-    Names {
-        hostname: None,
-        appname: None,
-        process: None,
+        Some((tag, id)) => (None, Some(tag), Some(id)),
+        None => (Some(name), None, None),
     }
 }
 
@@ -87,14 +53,14 @@ pub(crate) fn resolve<'a, C>(
     tag: Option<Option<&'a str>>,
 ) -> Names<'a>
     ensures names { spec.Resolves (field_seen host.entry) (field_seen tag.entry) (names_value result) }
-    ensures form { (name : Text) → field_seen tag.entry ≡ Some (Some name) → IsProcessOf name result }
+    ensures form { (name : Text) → field_seen tag.entry ≡ Some (Some name) → IsProcessOf name result.2 }
 {
     match tag {
         None => match host {
             Some(Some(name)) => lone(name),
-            _ => nobody(),
+            _ => (None, None, None),
         },
-        Some(None) => nobody(),
+        Some(None) => (None, None, None),
         Some(Some(name)) => program(host.flatten(), name),
     }
 }
@@ -109,21 +75,6 @@ pub(crate) struct Fields<'a> {
     pub(crate) rest: &'a str,
 }
 
-// Whether there are a host field and a tag field that is not empty.
-#[inline(always)]
-fn are_there(host: Option<Option<&str>>, tag: Option<Option<&str>>) -> bool
-    ensures { IsTrue result → (origin : Option Text) × (name : Text) × (field_seen host.entry ≡ Some origin)
-        × (field_seen tag.entry ≡ Some (Some name)) }
-{
-    let Some(_) = host else {
-        return false;
-    };
-    let Some(Some(_)) = tag else {
-        return false;
-    };
-    true
-}
-
 /// The names after the timestamp, up to the blanks after their colon. Each visitor `C` has its own copy, as of
 /// `resolve`, and both are compiled in.
 #[inline(always)]
@@ -135,10 +86,10 @@ pub(crate) fn read_fields<'a, C>(text: &'a str) -> Fields<'a>
     let rest = blanks(past_colon(blanks(after_tag)));
     let names = resolve::<C>(host, tag);
     let are_printed = are_all([
-        are_there(host, tag),
-        is_bare(names.process),
+        host.is_some(),
+        tag.flatten().is_some(),
+        is_bare(names.2),
         before(after_tag, rest) == ": ",
-        true,
         true,
     ]);
     Fields {
@@ -163,15 +114,16 @@ pub(crate) fn read_3164<'a, C, E: ElementVisitor<'a>>(
     ensures visited { Visits E.was_given elements.old (list_elements result.list) elements.new }
 {
     let fields = read_fields::<C>(text);
+    let (hostname, appname, process) = fields.names;
     let (list, after_list) = visit_rfc3164_list(fields.rest, DASH_RULE, elements);
     let is_printed = fields.are_printed && list.text().is_empty();
     Line {
         version: None,
         priority,
         timestamp,
-        hostname: fields.names.hostname,
-        appname: fields.names.appname,
-        process: fields.names.process,
+        hostname,
+        appname,
+        process,
         msgid: None,
         list,
         msg: blanks(after_list),

@@ -30,10 +30,7 @@ pub(crate) fn are_all(tests: [bool; 5]) -> bool
 pub(crate) fn is_bare(process: Option<&str>) -> bool
     ensures { IsTrue result → IfSome (seen process.entry) IsBareWord }
 {
-    match process {
-        Some(word) => is_bare_word(word),
-        None => true,
-    }
+    process.is_none_or(is_bare_word)
 }
 
 // The fields before the structured data, as a line with no list and no message part yet, and the rest. Each visitor `C`

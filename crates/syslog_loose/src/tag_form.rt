@@ -6,17 +6,6 @@ ghost use Rattle.syslog_loose.specs.TagForm.{IsForm, IsNoForm};
 
 use syslog_pieces::text::{CharClass, literal, split_run};
 
-// Whether the text is `]` alone.
-#[inline(always)]
-fn is_closing(text: &str) -> bool
-    ensures { result ≡ bytes_eq text.now (93 ∷ []) }
-{
-    match text.as_bytes() {
-        [only] => *only == b']',
-        _ => false,
-    }
-}
-
 /// The tag and the id of a text of the form `tag[id]`.
 #[inline(always)]
 pub(crate) fn tag_form(text: &str) -> Option<(&str, &str)>
@@ -28,9 +17,5 @@ pub(crate) fn tag_form(text: &str) -> Option<(&str, &str)>
     if id.is_empty() {
         return None;
     }
-    if is_closing(rest) {
-        Some((tag, id))
-    } else {
-        None
-    }
+    if rest == "]" { Some((tag, id)) } else { None }
 }

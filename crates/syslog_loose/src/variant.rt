@@ -22,11 +22,7 @@ impl Variant {
     pub(crate) fn reads_rfc5424(self) -> bool
         ensures { MatchBool result (self ≢ variants.RFC3164) (self ≡ variants.RFC3164) }
     {
-        match self {
-            Variant::Either => true,
-            Variant::RFC3164 => false,
-            Variant::RFC5424 => true,
-        }
+        !matches!(self, Variant::RFC3164)
     }
 
     /// Whether it reads texts by RFC 3164.
@@ -34,11 +30,7 @@ impl Variant {
     pub(crate) fn reads_rfc3164(self) -> bool
         ensures { MatchBool result (ReadsProtocol self protocol.RFC3164) (ReadsProtocol self protocol.RFC3164 → ⊥) }
     {
-        match self {
-            Variant::Either => true,
-            Variant::RFC3164 => true,
-            Variant::RFC5424 => false,
-        }
+        !matches!(self, Variant::RFC5424)
     }
 }
 

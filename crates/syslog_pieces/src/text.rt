@@ -213,11 +213,7 @@ pub fn number(text: &str, limit: u32) -> Option<(u32, &str)>
     ensures { Reads (spec.number limit) (λ n. n) (chars text.now) result }
 {
     let (value, rest) = any_number(text)?;
-    if value > limit {
-        None
-    } else {
-        Some((value, rest))
-    }
+    (value <= limit).then_some((value, rest))
 }
 
 // The number of 32 bits at the front, and the text after it. One of one to three digits, as most are, needs no scan.

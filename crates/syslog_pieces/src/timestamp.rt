@@ -63,10 +63,7 @@ pub fn header_stamp(text: &str) -> Option<(Option<ClockStamp>, &str)>
             let stamp = rfc3339_text::stamp(written)?;
             Some((Some(stamp), rest))
         }
-        None => {
-            let rest = literal(text, '-')?;
-            Some((None, rest))
-        }
+        None => Some((None, literal(text, '-')?)),
     }
 }
 

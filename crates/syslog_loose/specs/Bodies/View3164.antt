@@ -1,6 +1,6 @@
 -- What the reader of the header holds, as names over texts and as the meanings of its pieces.
 use Rattle.std.specs.Prelude.{◌≡◌, ◌∷◌, ◌++◌}
-use Rattle.syslog_loose.specs.Words.{ℕ, IsTrue, IfSome, Option, option_map, named_process, Text, Ends, Front, Row, seen}
+use Rattle.syslog_loose.specs.Words.{ℕ, List, IsTrue, IfSome, Option, option_map, named_process, Text, Ends, Front, Row, seen}
 use Rattle.syslog_loose.specs.Words.{shown, stamp_seen, Dating, OffsetTimestamp, is_blank, Some, None}
 use Rattle.syslog_pieces.specs.declared.timestamp.clock.ClockStamp.{ClockStamp}
 use Rattle.syslog_loose.specs.Exceptions.{HasQuietNames}
@@ -8,11 +8,11 @@ use Rattle.syslog_loose.specs.Printed.{name_text, tag_text}
 use Rattle.syslog_loose.specs.Rfc3164.{Names3164, names, NamesByForm}
 use Rattle.syslog_loose.specs.TagForm.{IsForm}
 use Rattle.syslog_loose.specs.declared.rfc3164.Fields.{Fields}
-use Rattle.syslog_loose.specs.declared.rfc3164.Names.{Names}
+use Rattle.std.specs.Borrow.{Bor}
 use Rattle.syslog_loose.specs.Bodies.Rows.{ReadsNames, stamped_row}
 
-abbrev pub names_value : Names → Names3164
-names_value n = names (seen n.hostname) (seen n.appname) (option_map named_process (seen n.process))
+abbrev pub names_value : Option (Bor (List ℕ)) × Option (Bor (List ℕ)) × Option (Bor (List ℕ)) → Names3164
+names_value n = names (seen n.0) (seen n.1) (option_map named_process (seen n.2))
 
 abbrev pub stamped_values : Option ℕ → Option ClockStamp → Option ℕ × (Unit {0} × (Option OffsetTimestamp × Unit {0}))
 stamped_values priority timestamp = (priority, (tt, (stamp_seen timestamp, tt)))
@@ -26,8 +26,8 @@ abbrev pub NamesHost : Text → Names3164 → Type 0
 NamesHost text n = NamesByForm None text (names (Some text) None None) n
 
 -- where there is a process, its text is the id of this name, which is of the form of a tag and an id
-abbrev pub IsProcessOf : Text → Names → Type 0
-IsProcessOf name n = IfSome (seen n.process) (λ id. (tag : Text) × IsForm name tag id)
+abbrev pub IsProcessOf : Text → Option (Bor (List ℕ)) → Type 0
+IsProcessOf name process = IfSome (seen process) (λ id. (tag : Text) × IsForm name tag id)
 
 -- a priority, blanks and a timestamp begin the text, and this follows
 abbrev pub IsBehindStamp : Dating → Text → Option ℕ → Option ClockStamp → Text → Type 0

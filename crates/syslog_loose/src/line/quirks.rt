@@ -63,7 +63,6 @@ fn is_uncut_process(process: Option<ProcId<&str>>) -> bool
 {
     match process {
         Some(ProcId::Name(name)) => !name.contains(':'),
-        Some(ProcId::PID(_)) => true,
-        None => true,
+        _ => true,
     }
 }

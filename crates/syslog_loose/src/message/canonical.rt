@@ -93,19 +93,14 @@ fn are_canonical_in_both<S: AsStr>(fields: &Fields<'_, S>) -> bool
 pub(crate) fn is_canonical_time(timestamp: Option<OffsetTimestamp>) -> bool
     ensures { IsTrue result ↔ IfSome timestamp spec.IsCanonicalStamp }
 {
-    match timestamp {
-        Some(stamp) => is_canonical_stamp(stamp),
-        None => true,
-    }
+    timestamp.is_none_or(is_canonical_stamp)
 }
 
 fn is_canonical_name<S: AsStr>(host: &Option<S>) -> bool
     ensures { IsTrue result ↔ IfSome (option_map (text_of S.text) host.now) spec.IsCanonicalHost }
 {
-    match host {
-        Some(name) => is_canonical_host(name.as_str()),
-        None => true,
-    }
+    host.as_ref()
+        .is_none_or(|name| is_canonical_host(name.as_str()))
 }
 
 fn is_canonical_msg(msg: &str) -> bool
@@ -131,19 +126,14 @@ fn are_canonical_rfc5424<S: AsStr>(fields: &Fields<'_, S>) -> bool
 fn is_word<S: AsStr>(word: &Option<S>) -> bool
     ensures { IsTrue result ↔ IfSome (option_map (text_of S.text) word.now) spec.IsCanonicalWord }
 {
-    match word {
-        Some(word) => is_canonical_word(word.as_str()),
-        None => true,
-    }
+    word.as_ref()
+        .is_none_or(|word| is_canonical_word(word.as_str()))
 }
 
 fn is_process<S: AsStr>(process: &Option<ProcId<S>>) -> bool
     ensures { IsTrue result ↔ IfSome (option_map (procid_value (text_of S.text)) process.now) spec.IsCanonicalProcess }
 {
-    match process {
-        Some(process) => is_canonical_process(process),
-        None => true,
-    }
+    process.as_ref().is_none_or(is_canonical_process)
 }
 
 // What RFC 3164 asks beyond that.

@@ -5,8 +5,6 @@ use Rattle.syslog_pieces.specs.Pieces.Class.{Class, Division, Text, Values, opti
 use Rattle.syslog_pieces.specs.Pri.{priority}
 use Rattle.syslog_pieces.specs.Text.{is_blank, number}
 use Rattle.syslog_pieces.specs.Timestamp.MonthDate.{month, month_names, short_number, clock_row}
-use Rattle.syslog_pieces.specs.declared.timestamp.month_date.Clock.{Clock}
-use Rattle.syslog_pieces.specs.declared.timestamp.month_date.Day.{Day}
 use Rattle.syslog_pieces.specs.declared.timestamp.month_date.MonthDate.{MonthDate}
 
 -- which month three small letters name
@@ -35,21 +33,21 @@ pub record IsNamed (a b c month : ℕ) : Type 0 where
 abbrev pub day_row : List Class
 day_row = month ∷ some_run is_blank ∷ short_number ∷ some_run is_blank ∷ []
 
-abbrev pub day_values : Day → Values day_row
-day_values d = (d.month, (tt, (d.day, (tt, tt))))
+abbrev pub day_values : ℕ × ℕ → Values day_row
+day_values d = (d.0, (tt, (d.1, (tt, tt))))
 
 -- the year before blanks
 abbrev pub year_row : List Class
 year_row = number 2147483647 ∷ some_run is_blank ∷ []
 
 -- the clock, with one more colon after it or not
-abbrev pub clock_values : Clock → Option (Unit {0}) → Values clock_row
-clock_values c more = (c.hour, (tt, (c.minute, (tt, (c.second, (more, tt))))))
+abbrev pub clock_values : ℕ × ℕ × ℕ → Option (Unit {0}) → Values clock_row
+clock_values c more = (c.0, (tt, (c.1, (tt, (c.2, (more, tt))))))
 
 -- the month date of these parts
-abbrev pub date_of : Option ℕ → Day → Clock → MonthDate
+abbrev pub date_of : Option ℕ → ℕ × ℕ → ℕ × ℕ × ℕ → MonthDate
 date_of year d c =
-    record { year = year; month = d.month; day = d.day; hour = c.hour; minute = c.minute; second = c.second }
+    record { year = year; month = d.0; day = d.1; hour = c.0; minute = c.1; second = c.2 }
 
 -- ---- what a text shows
 

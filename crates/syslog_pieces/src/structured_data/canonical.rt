@@ -51,10 +51,9 @@ fn are_canonical_params<S: AsStr>(params: &[(S, S)]) -> bool
 fn begins_unblank_params<S: AsStr>(params: &[(S, S)]) -> bool
     ensures { IsTrue result ↔ spec.BeginsUnblank (map (param_value (text_of S.text)) params.now) }
 {
-    match params {
-        [first, ..] => begins_unblank(first.0.as_str()),
-        [] => true,
-    }
+    params
+        .first()
+        .is_none_or(|first| begins_unblank(first.0.as_str()))
 }
 
 /// Returns whether the element is read back from its printed text, in which each value is as it is.

@@ -71,13 +71,10 @@ fn count_param<S: AsStr>(param: &(S, S), params: &[(S, S)]) -> usize
     ensures { result ≡ count_by (λ q. param_eq (param_value (text_of S.text) param.now)
         (param_value (text_of S.text) q)) params.now }
 {
-    let mut count = 0;
-    for other in params {
-        if is_same_param(param, other) {
-            count += 1;
-        }
-    }
-    count
+    params
+        .iter()
+        .filter(|other| is_same_param(param, *other))
+        .count()
 }
 
 fn is_same_param<S: AsStr>(a: &(S, S), b: &(S, S)) -> bool

@@ -44,9 +44,6 @@ impl<'a, S: AsStr> Iterator for ParamsIter<'a, S> {
     fn next(&mut self) -> Option<Result<(&'a S, String), AllocError>> {
         let (first, rest) = self.rest.split_first()?;
         self.rest = rest;
-        match unescape(self.alloc, first.1.as_str()) {
-            Ok(value) => Some(Ok((&first.0, value))),
-            Err(refused) => Some(Err(refused)),
-        }
+        Some(unescape(self.alloc, first.1.as_str()).map(|value| (&first.0, value)))
     }
 }

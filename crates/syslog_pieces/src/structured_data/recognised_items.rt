@@ -17,10 +17,7 @@ fn past_separator(text: &str) -> &str
     ensures { (chars text.now ≡ 32 ∷ chars result.now)
         ⊎ (NoFront (exactly (32 ∷ [])) (chars text.now) × (chars text.now ≡ chars result.now)) }
 {
-    match literal(text, ' ') {
-        Some(rest) => rest,
-        None => text,
-    }
+    literal(text, ' ').unwrap_or(text)
 }
 
 /// The names and the raw values of an element's parameters, in order.

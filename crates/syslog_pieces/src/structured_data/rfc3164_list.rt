@@ -25,10 +25,7 @@ impl DashRule {
     {
         match self {
             DashRule::BeforeAnything => true,
-            DashRule::BeforeBlank => match first(rest) {
-                Some((c, _)) => CharClass::Blank.has(c),
-                None => true,
-            },
+            DashRule::BeforeBlank => first(rest).is_none_or(|(c, _)| CharClass::Blank.has(c)),
         }
     }
 }

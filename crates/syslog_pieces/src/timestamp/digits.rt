@@ -15,11 +15,7 @@ pub fn pair(text: &[u8], limit: u32) -> Option<(u32, &[u8])>
     match text {
         [tens @ b'0'..=b'9', ones @ b'0'..=b'9', rest @ ..] => {
             let number = u32::from(*tens - b'0') * 10 + u32::from(*ones - b'0');
-            if number < limit {
-                Some((number, rest))
-            } else {
-                None
-            }
+            (number < limit).then_some((number, rest))
         }
         _ => None,
     }

@@ -25,18 +25,11 @@ pub struct MonthDate {
     pub second: u32,
 }
 
-#[derive(Clone, Copy)]
-pub(super) struct Day {
-    pub(super) month: u32,
-    pub(super) day: u32,
-}
+// The month and the day.
+type Day = (u32, u32);
 
-#[derive(Clone, Copy)]
-pub(super) struct Clock {
-    pub(super) hour: u32,
-    pub(super) minute: u32,
-    pub(super) second: u32,
-}
+// The hour, the minute and the second.
+type Clock = (u32, u32, u32);
 
 /// The month date at the front, with a year or without one, and the rest of the text.
 #[inline(always)]
@@ -62,16 +55,16 @@ fn dated(day: Day, text: &str) -> Option<(MonthDate, &str)>
     Some((date_of(Some(year), day, clock), rest))
 }
 
-pub(super) fn date_of(year: Option<u32>, day: Day, clock: Clock) -> MonthDate
+fn date_of(year: Option<u32>, day: Day, clock: Clock) -> MonthDate
     ensures { result ≡ parts.date_of year day clock }
 {
     MonthDate {
         year,
-        month: day.month,
-        day: day.day,
-        hour: clock.hour,
-        minute: clock.minute,
-        second: clock.second,
+        month: day.0,
+        day: day.1,
+        hour: clock.0,
+        minute: clock.1,
+        second: clock.2,
     }
 }
 
@@ -84,7 +77,7 @@ fn read_day(text: &str) -> Option<(Day, &str)>
     let rest = some_blanks(behind)?;
     let (day, rest) = number(rest, u32::MAX)?;
     let rest = some_blanks(rest)?;
-    Some((Day { month, day }, rest))
+    Some(((month, day), rest))
 }
 
 // Reads hour, minute and second, and the colon after them if there is one.
@@ -100,12 +93,7 @@ fn read_clock(text: &str) -> Option<(Clock, &str)>
     let (minute, rest) = number(rest, u32::MAX)?;
     let rest = literal(rest, ':')?;
     let (second, rest) = number(rest, u32::MAX)?;
-    let clock = Clock {
-        hour,
-        minute,
-        second,
-    };
-    Some((clock, past_colon(rest)))
+    Some(((hour, minute, second), past_colon(rest)))
 }
 
 // The number of the month that the text begins with the name of, which has three letters.

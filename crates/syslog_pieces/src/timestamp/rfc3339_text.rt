@@ -30,7 +30,7 @@ pub struct Rfc3339Fields {
 pub fn stamp(written: Rfc3339Fields) -> Option<ClockStamp>
     ensures { IsAnswer (IsStampOfRfc3339 written) result }
 {
-    let offset = offset_of(written.offset)?;
+    let offset = Offset::from_seconds(written.offset).ok()?;
     clock_stamp(fields_of(written), offset)
 }
 
@@ -47,13 +47,6 @@ fn fields_of(written: Rfc3339Fields) -> CivilFields
         second: written.second.min(59),
         nanosecond: written.nanosecond,
     }
-}
-
-fn offset_of(seconds: i32) -> Option<Offset>
-    ensures value { IfSome result (λ offset. offset.seconds ≡ seconds) }
-    ensures none { IsNone result → ¬ (IsOffsetSeconds seconds) }
-{
-    Offset::from_seconds(seconds).ok()
 }
 
 // The length of `YYYY-MM-DDTHH:MM:SSZ`: no text is shorter.

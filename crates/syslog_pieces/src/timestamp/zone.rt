@@ -49,10 +49,7 @@ fn zone_of<'a, 'z>(dating: &Dating<'a, 'z>) -> &'a TimeZone<'z>
     ensures { plain_zone result.now
         ≡ one_zone (spec.dating_value dating.entry.now).zone (spec.dating_value dating.entry.now).local }
 {
-    match dating.tz {
-        Some(tz) => tz,
-        None => dating.local,
-    }
+    dating.tz.unwrap_or(dating.local)
 }
 
 // The civil fields of the month date in a year.

@@ -1,6 +1,8 @@
 use Rattle.syslog_loose.proofs.Names.{◌≡◌, ◌∷◌, ◌++◌, ◌∙◌, ◌then◌, [], List, ℕ, refl, sym, ap, arith, true, row_of}
-use Rattle.syslog_loose.proofs.Names.{chars, run, optional, exactly, seen, shown, is_blank, colon, one_ascii, text_is}
-use Rattle.syslog_loose.proofs.Names.{HasQuietNames, fields_row, fields_before, names_value}
+use Rattle.syslog_loose.proofs.Names.{chars, run, optional, exactly, seen, shown, is_blank, colon, one_ascii, text_is, field_seen}
+use Rattle.syslog_loose.proofs.Names.{HasQuietNames, fields_row, fields_before, names_value, Option, Some, None, Text}
+use Rattle.std.specs.Borrow.{Bor}
+use Rattle.std.specs.Option.{is_some, option_flatten}
 use Rattle.std.proofs.lemmas.Str.Ascii.{IsAscii-cons}
 use Rattle.syslog_loose.proofs.Rfc3164Lemmas.Near.{fields_known}
 use Rattle.syslog_loose.proofs.rfc3164.read_fields.Goals as goal
@@ -9,6 +11,14 @@ pub before-requires : goal.before-requires
 before-requires g c =
     let k = row_of (run is_blank ∷ optional (exactly colon) ∷ run is_blank ∷ [])
     (c.blanks.ensures then c.past_colon.ensures.1 then c.blanks-rest.ensures then refl) in (k.piece, k.whole)
+
+-- the fields that are there
+there : (host tag : Option (Option (Bor (List ℕ)))) → is_some host ≡ true → is_some (option_flatten tag) ≡ true
+    → (origin : Option Text) × (name : Text) × (field_seen host ≡ Some origin) × (field_seen tag ≡ Some (Some name))
+there None tag e f = cc
+there (Some host) None e f = cc
+there (Some host) (Some None) e f = cc
+there (Some host) (Some (Some tag)) e f = (seen host, shown tag, refl, refl)
 
 -- the fields, where they are in printed form
 pub returns : goal.returns
@@ -19,12 +29,13 @@ returns g c =
     let rest = shown c.blanks-rest.result in
     let known : c.are_all-are_printed.result ≡ true → (chars c.args.text.now ≡ fields_before (names_value names) rest)
     × HasQuietNames (names_value names).hostname (names_value names).procid = λ e.
-    (let (there, (bare, (gap, _))) = c.are_all-are_printed.ensures e in
-    let (origin, name, is_origin, is_name) = c.are_there.ensures there in
+    (let (is_host, (is_tag, (bare, (gap, _)))) = c.are_all-are_printed.ensures e in
+    let (origin, name, is_origin, is_name) = there _ _ (sym c.is_some.ensures ∙ is_host)
+    (sym (c.is_some-2.ensures ∙ ap is_some c.flatten.ensures) ∙ is_tag) in
     let ascii = IsAscii-cons 58 (32 ∷ []) (omega arith) (one_ascii 32 (omega arith)) in
     let end = ap (λ (x : List ℕ). x ++ rest) (text_is _ (58 ∷ 32 ∷ []) ascii (sym gap ∙ c.eq.ensures)) in
     fields_known (rw is_origin at c.host_field.ensures) (rw is_name at c.tag_field.ensures) rest
-    (seen names.hostname) (seen names.appname) (seen names.process) (c.before-2.ensures ∙ end)
+    (seen names.0) (seen names.1) (seen names.2) (c.before-2.ensures ∙ end)
     (rw (is_origin, is_name) at c.resolve-names.ensures.names) (c.resolve-names.ensures.form name is_name)
     (c.is_bare.ensures bare)) in
     record {

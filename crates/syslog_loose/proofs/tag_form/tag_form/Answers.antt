@@ -14,15 +14,15 @@ returns-then-is_empty c =
     no_form (label_front c.split_run.ensures past c.in_ok-rest.ensures
     past inl (no_id c.split_run-2.ensures (empty_is _ c.if-is_empty.ensures)))
 
-pub returns-then-is_closing : goal.returns-then-is_closing
-returns-then-is_closing c =
+pub returns-then-eq : goal.returns-then-eq
+returns-then-eq c =
     let id = id_front c.split_run-2.ensures (nonempty_is _ c.if-is_empty.ensures) in
-    let end = closing_front (text_is _ (93 ∷ []) closing_ascii c.if-is_closing.ensures) in
+    let end = closing_front (text_is _ (93 ∷ []) closing_ascii c.if-eq.ensures) in
     front_division form_row
     (row_of form_row (label_front c.split_run.ensures then c.in_ok-rest.ensures then id then end then refl))
 
-pub returns-else-is_closing : goal.returns-else-is_closing
-returns-else-is_closing c =
+pub returns-else-eq : goal.returns-else-eq
+returns-else-eq c =
     let id = id_front c.split_run-2.ensures (nonempty_is _ c.if-is_empty.ensures) in
     no_closing (row_of to_closing (label_front c.split_run.ensures then c.in_ok-rest.ensures then id then refl))
-    (text_is_not _ (93 ∷ []) c.split_run-2.ensures.back_utf8 closing_ascii c.if-is_closing.ensures)
+    (text_is_not _ (93 ∷ []) c.split_run-2.ensures.back_utf8 closing_ascii c.if-eq.ensures)

@@ -11,5 +11,6 @@ pub returns-in_err-stamp-in-Some : goal.returns-in_err-stamp-in-Some
 returns-in_err-stamp-in-Some c =
     let n = no_header c.in-Some.ensures (λ v r e h. c.in_err-stamp-in-Some.ensures v h) in search rules
 
-pub returns-in_err-rest-in-None : goal.returns-in_err-rest-in-None
-returns-in_err-rest-in-None c = let n = no_stamp_front c.in-None.ensures c.in_err-rest-in-None.ensures in search rules
+pub returns-in_err-literal-in-None : goal.returns-in_err-literal-in-None
+returns-in_err-literal-in-None c =
+    let n = no_stamp_front c.in-None.ensures c.in_err-literal-in-None.ensures in search rules
