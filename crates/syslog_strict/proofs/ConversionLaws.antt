@@ -13,7 +13,7 @@ use Rattle.syslog_strict.proofs.Words.{converted_host, converted_name, converted
 use Rattle.syslog_strict.proofs.Words.{converted_word, escaped_from, is_among, joined_past, named, or_mark, params_of}
 use Rattle.syslog_strict.proofs.Words.{without_last_colon, without_lone_colon, AreDistinct, IsParamValue, IsSdName}
 use Rattle.syslog_strict.proofs.Words.{IsSyslogMsg, IsValuePiece, is_escaped, is_printusascii, is_sd_char}
-use Rattle.syslog_strict.proofs.Words.{BeginsDistinct}
+use Rattle.syslog_strict.specs.Bodies.Reader.{AreElements}
 use Rattle.std.proofs.Common.{◌&&◌, nat_lt}
 use Rattle.std.proofs.lemmas.List.{length-map}
 use Rattle.std.specs.Bool.{◌==◌}
@@ -33,10 +33,12 @@ use Rattle.syslog_loose.proofs.ReadBackLemmas.{read_as, read_bounded, printed_ex
 use Rattle.syslog_loose.proofs.PrintedLemmas.{priority_small}
 use Rattle.syslog_loose.proofs.Rfc5424Lemmas.{read_completed}
 use Rattle.syslog_loose.proofs.Rfc3164Lemmas.Near.{read_near}
+use Rattle.syslog_strict.proofs.BodyLemmas.{Many, elements_found, no_more, one_more}
+use Rattle.syslog_strict.proofs.Words.{IsSdElement, element_text, joined_elements}
 use Rattle.syslog_strict.specs.Call.{IsConvertedText}
 use Rattle.syslog_strict.specs.Conversion.{converted_value}
 use Rattle.syslog_strict.proofs.NameLaws.{IsStrictElement, IsStrictParam, converted_are, converted_distinct}
-use Rattle.syslog_strict.proofs.NameLaws.{element_back, elements_in, colonless_end, colonless_length, colonless_passes}
+use Rattle.syslog_strict.proofs.NameLaws.{element_back, no_text, params_in, colonless_end, colonless_length, colonless_passes}
 use Rattle.syslog_strict.proofs.NameLaws.{lone_other, lone_passes, lone_short, elements_back, elements_is}
 use Rattle.syslog_strict.proofs.ElementLemmas.{elements_some}
 use Rattle.syslog_strict.proofs.TextLemmas.{cleaned_passes, cleaned_same, cleaned_short, colonless_same, text_eq_true}
@@ -44,9 +46,6 @@ use Rattle.syslog_strict.proofs.StampLemmas.{stamp_back, stamp_is, one}
 use Rattle.syslog_strict.proofs.NameLaws as names
 
 -- ---- what was converted is converted to the same text again
-no_text : (t u : Text) → t ≢ u → text_eq t u ≡ false
-no_text t u other = elim (cases_Bool (text_eq t u)) [ inl e ↦ absurd (other (text_eq_true t u e)) | inr e ↦ e ]
-
 -- ---- names
 
 -- a text that the cleaning f leaves as it is, named, is left as it is
@@ -218,17 +217,31 @@ distinct_again es are apart = ap (joined_past []) (elements_same es are) ∙ joi
 pub elements_again : (es : List ElementValue) → converted_elements (converted_elements es) ≡ converted_elements es
 elements_again es = distinct_again (converted_elements es) (converted_are es) (converted_distinct es)
 
+-- elements that have these ids and texts
+elements_in : {t r : Text} {ids : List Text} → Many IsSdElement t ids r → (es : List ElementValue) × AllByRecursion IsStrictElement es
+    × (map (λ (e : ElementValue). e.id) es ≡ ids) × (t ≡ joined_elements es ++ r)
+elements_in no_more = ([], tt, refl, refl)
+elements_in {r = r} (one_more {a = id} (params, is, are, e) f m) =
+    let (ps, strict, inner) = params_in params are in
+    let (es, others, ids, text) = elements_in m in (
+      record { id = id; params = ps } ∷ es,
+      ((is, strict), others),
+      ap (λ (x : List Text). id ∷ x) ids,
+      f ∙ ap₂ (λ (x y : Text). x ++ y) (e ∙ ap (λ (x : Text). 91 ∷ (id ++ (x ++ (93 ∷ [])))) inner) text
+          ∙ sym (append_assoc (element_text (record { id = id; params = ps })) (joined_elements es) r),
+    )
+
 -- canonical elements, if their text is such elements: then they are these
-pub strict_stay : (es : List ElementValue) → AllByRecursion IsCanonicalElement es → BeginsDistinct (elements_text es) []
+pub strict_stay : (es : List ElementValue) → AllByRecursion IsCanonicalElement es → AreElements (elements_text es)
     → elements_text (converted_elements es) ≡ elements_text es
-strict_stay es canonical (ids, some, begins, apart) =
-    let (ds, are, same, texts) = elements_in begins.elements begins.each in
-    let ids_are = same ∙ begins.have in
-    let long : 0 < length ds = omega (arith, ap length ids_are, length-map {A = ElementValue} {B = Text}) in
-    let text : elements_text es ≡ elements_text ds = begins.whole ∙ append-nil _ ∙ texts ∙ sym (elements_some ds (λ e. (let k = ap length e in omega arith))) in
-    let here : es ≡ ds = (forgiving_det _ [] _ [] es ds (ap (λ (t : Text). t ++ []) text)
+strict_stay es canonical strict =
+    let (ds, are, ids, text) = elements_in (elements_found (elements_text es)).0 in
+    let long : 0 < length ds = (let some = strict.some in omega (arith, ap length ids, length-map {A = ElementValue} {B = Text})) in
+    let same : elements_text es ≡ elements_text ds = text ∙ ap (λ (r : Text). joined_elements ds ++ r) strict.all ∙ append-nil _
+    ∙ sym (elements_some ds (λ e. (let k = ap length e in omega arith))) in
+    let here : es ≡ ds = (forgiving_det _ [] _ [] es ds (ap (λ (t : Text). t ++ []) same)
     (forgiving_back es [] canonical no_item_nil) (forgiving_back ds [] (all_map element_back ds are) no_item_nil)).1 in
-    rw here (ap elements_text (distinct_again ds are (subst AreDistinct (sym ids_are) apart)))
+    rw here (ap elements_text (distinct_again ds are (subst AreDistinct (sym ids) strict.distinct)))
 
 -- ---- timestamps
 

@@ -152,7 +152,7 @@ either true b h = cc
 either false true h = cc
 either false false h = (refl, refl)
 
-not_last : (t id : Text) (ids : List Text) → is_among t (ids ++ id ∷ []) ≡ false → (is_among t ids ≡ false) × (text_eq id t ≡ false)
+pub not_last : (t id : Text) (ids : List Text) → is_among t (ids ++ id ∷ []) ≡ false → (is_among t ids ≡ false) × (text_eq id t ≡ false)
 not_last t id ids h = either _ _ (sym (list_any-append (λ u. text_eq u t) ids (id ∷ [])) ∙ h)
 
 firsts_new : (ids : List Text) (es : List ElementValue) → AllByRecursion (λ t. is_among t ids ≡ false) (firsts ids es)

@@ -1,8 +1,9 @@
+pub mod BodyLemmas
 pub mod ConversionLaws
 pub mod ElementLemmas
+pub mod GrammarLemmas
 pub mod NameLaws
 pub mod Words
-pub mod OnlyLemmas
 pub mod StampLemmas
 pub mod TextLemmas
 pub mod ValidLemmas

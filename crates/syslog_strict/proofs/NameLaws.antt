@@ -24,7 +24,7 @@ use Rattle.syslog_pieces.specs.StructuredData.Canonical.{IsCanonicalParam, Begin
 use Rattle.syslog_pieces.specs.StructuredData.Escapes.{TextUnit, pair, single, unit_text}
 use Rattle.syslog_pieces.specs.Text.CharClass.{is_id_char, is_name_char}
 use Rattle.syslog_strict.specs.Grammar.{IsSomeOf}
-use Rattle.syslog_strict.proofs.TextLemmas.{cleaned_passes, cleaned_short, kept_as, lost_as, cleaned_some}
+use Rattle.syslog_strict.proofs.TextLemmas.{cleaned_passes, cleaned_short, kept_as, lost_as, cleaned_some, text_eq_true}
 
 -- ---- converted names are in the grammar, and are read back from their printed text
 
@@ -126,6 +126,9 @@ prints_visible t each = each_map is_printusascii is_not_whitespace print_visible
 
 pub no_text_eq : (t u : Text) → text_eq t u ≡ false → t ≢ u
 no_text_eq t u e same = let yes = (bytes_decides t u).1 same in absurd (let no : true ≡ false = sym yes ∙ e in cc)
+
+pub no_text : (t u : Text) → t ≢ u → text_eq t u ≡ false
+no_text t u other = elim (cases_Bool (text_eq t u)) [ inl e ↦ absurd (other (text_eq_true t u e)) | inr e ↦ e ]
 
 -- a name that is there is such a text, and not `-`
 named_there : (t : Text) (P : Text → Type 0) → (t ≢ [] → t ≢ dash → P t) → IfSome (named t) P
@@ -413,27 +416,12 @@ elements_is es = data_is (converted_elements es) (joined_are [] (map converted_e
 -- ---- elements of the grammar, by their texts
 
 -- parameters that have these texts
-params_in : (ts : List Text) → AllByRecursion IsSdParam ts
+pub params_in : (ts : List Text) → AllByRecursion IsSdParam ts
     → (ps : List (Text × Text)) × AllByRecursion IsStrictParam ps × (join ts ≡ flat_map param_text ps)
 params_in [] each = ([], tt, refl)
 params_in (t ∷ ts) ((name, value, is, valued, e), each) =
     let (ps, are, same) = params_in ts each in
     ((name, value) ∷ ps, ((is, valued), are), ap₂ (λ (x y : Text). x ++ y) e same)
-
--- elements that have these ids and texts
-pub elements_in : (ts : List (Text × Text)) → AllByRecursion (λ (t : Text × Text). IsSdElement t.0 t.1) ts
-    → (es : List ElementValue) × AllByRecursion IsStrictElement es
-    × (map (λ (e : ElementValue). e.id) es ≡ map (λ (t : Text × Text). t.0) ts)
-    × (join (map (λ (t : Text × Text). t.1) ts) ≡ joined_elements es)
-elements_in [] each = ([], tt, refl, refl)
-elements_in (t ∷ ts) ((params, is, are, e), each) =
-    let (ps, strict, inner) = params_in params are in
-    let (es, more, ids, texts) = elements_in ts each in (
-      record { id = t.0; params = ps } ∷ es,
-      ((is, strict), more),
-      ap (λ (x : List Text). t.0 ∷ x) ids,
-      ap₂ (λ (x y : Text). x ++ y) (e ∙ ap (λ (x : Text). 91 ∷ (t.0 ++ (x ++ (93 ∷ [])))) inner) texts,
-    )
 
 -- ---- read back
 

@@ -46,9 +46,6 @@ pub use Rattle.syslog_pieces.specs.Timestamp.Printed.{civil_fields, printed_stam
 pub use Rattle.syslog_pieces.specs.declared.procid.ProcId.{ProcId}
 pub use Rattle.syslog_pieces.specs.declared.procid.ProcId.TheVariants.{PID, Name}
 pub use Rattle.syslog_pieces.specs.declared.timestamp.OffsetTimestamp.{OffsetTimestamp}
-pub use Rattle.syslog_strict.specs.Beginnings.{BeginsDistinct, Begins, BeginsName, BeginsParams, BeginsValue}
-pub use Rattle.syslog_strict.specs.Beginnings.{BeginsElement, IsHeader, IsMarkedDigits, IsShort, IsTwoDigits, Only}
-pub use Rattle.syslog_strict.specs.Beginnings.{both, IsBody}
 pub use Rattle.syslog_strict.specs.Conversion.{converted, converted_stamp, cut_stamp, has_text, in_utc, is_four_digits}
 pub use Rattle.syslog_strict.specs.Conversion.{micros, cleaned, converted_element, converted_elements, converted_host}
 pub use Rattle.syslog_strict.specs.Conversion.{converted_name, converted_param, converted_process, converted_word}

@@ -1,4 +1,4 @@
-pub mod Beginnings
+pub mod Bodies
 pub mod Call
 pub mod Conversion
 pub mod Grammar

@@ -1,19 +1,14 @@
 //! Whether a text is in the grammar of RFC 5424 already.
 //!
-//! A reader has two clauses: `found` says what it finds, and `only` that nothing else is so.
-ghost use Rattle.std.specs.Prelude.{◌≡◌, ◌≢◌, ◌⊎◌, ◌↔◌, ◌<◌, ◌∷◌, [], ℕ, ⊤, true, IfOk, IsSomeAnd, IsTrue, List, MatchOption, length, pos};
+//! A reader returns what a function over texts does, which follows the code. That they are the grammar, the proofs say.
+ghost use Rattle.std.specs.Prelude.{◌≡◌, ◌≢◌, ◌⊎◌, ◌↔◌, ◌<◌, ◌∷◌, ℕ, false, length, true, IfOk, IfSome, IsTrue, option_map};
 ghost use Rattle.std.specs.Str.{chars, IsUtf8};
-ghost use Rattle.jiff_core.specs.Calendar.{IsCivilDate};
 ghost use Rattle.syslog_pieces.specs.Pieces.Class.{Text};
-ghost use Rattle.syslog_pieces.specs.Pieces.View.{shown};
+ghost use Rattle.syslog_pieces.specs.Pieces.View.{seen, shown};
 ghost use Rattle.syslog_pieces.specs.Text.CharClass.{has};
-ghost use Rattle.syslog_strict.specs.Beginnings.{Begins, BeginsDistinct, BeginsElement, BeginsElements, BeginsName, BeginsParams, BeginsSecfrac};
-ghost use Rattle.syslog_strict.specs.Beginnings.{BeginsTime, BeginsValue, Follows, IsBody, IsDistinctAndMsg, IsElementsAndMsg, IsHeader};
-ghost use Rattle.syslog_strict.specs.Beginnings.{IsMarkedDigits, IsShort, IsTwoDigits, Only, both, numbered};
+ghost use Rattle.syslog_strict.specs.Bodies.Reader as spec;
 ghost use Rattle.syslog_strict.specs.Conversion.{is_among};
-ghost use Rattle.syslog_strict.specs.Grammar.{AreDistinct, IsFullDate, IsPartialTime, IsPri, IsSdParam};
-ghost use Rattle.syslog_strict.specs.Grammar.{IsSecfrac, IsSpacedMsg, IsSyslogMsg, IsTimeOffset, IsTimestamp};
-ghost use Rattle.syslog_strict.specs.Grammar as spec;
+ghost use Rattle.syslog_strict.specs.Grammar as grammar;
 
 use crate::ids::Ids;
 use jiff::civil::Date;
@@ -25,8 +20,7 @@ use syslog_pieces::text::{CharClass, first, literal, number, split_run};
 #[inline(always)]
 fn after_char(text: &str, c: char) -> Option<&str>
     requires { c < 128 }
-    ensures found { MatchOption result ((rest : Text) → chars text.now ≢ c ∷ rest) (λ rest. chars text.now ≡ c ∷ shown rest) }
-    ensures only { Only (Follows c (chars text.now)) (λ rest. shown rest) result }
+    ensures { seen result ≡ spec.past c (chars text.now) }
 {
     literal(text, c)
 }
@@ -35,8 +29,7 @@ fn after_char(text: &str, c: char) -> Option<&str>
 #[inline(always)]
 fn short_run(text: &str, class: CharClass, most: usize) -> Option<(&str, &str)>
     requires { (c : ℕ) → has class c ≡ true → c < 128 }
-    ensures found { MatchOption result ⊤ (λ x. IsShort (has class) most (chars text.now) (both x)) }
-    ensures only { Only (IsShort (has class) most (chars text.now)) (λ x. both x) result }
+    ensures { option_map spec.both result ≡ spec.read_short (has class) most (chars text.now) }
 {
     let (run, rest) = split_run(text, class);
     if run.len() > most {
@@ -49,10 +42,10 @@ fn short_run(text: &str, class: CharClass, most: usize) -> Option<(&str, &str)>
 }
 
 // The text after PRI.
+#[tactic(auto, unfolding(crate::specs::Bodies::Reader::past_pri))]
 #[inline(always)]
 fn after_pri(text: &str) -> Option<&str>
-    ensures found { MatchOption result ⊤ (λ rest. Begins IsPri (chars text.now) (shown rest)) }
-    ensures only { Only (Begins IsPri (chars text.now)) (λ rest. shown rest) result }
+    ensures { seen result ≡ spec.past_pri (chars text.now) }
 {
     let digits = after_char(text, '<')?;
     match after_char(digits, '0') {
@@ -67,8 +60,8 @@ fn after_pri(text: &str) -> Option<&str>
 // A number of two digits, and the text after them.
 #[inline(always)]
 fn two_digits(text: &str) -> Option<(u32, &str)>
-    ensures found { MatchOption result ⊤ (λ x. IsTwoDigits (chars text.now) (numbered x)) }
-    ensures only { Only (IsTwoDigits (chars text.now)) (λ x. numbered x) result }
+    ensures same { option_map spec.numbered result ≡ spec.read_two (chars text.now) }
+    ensures small { IfSome result (λ x. x.0 < 100) }
 {
     let (tens, rest) = first(text)?;
     let (ones, rest) = first(rest)?;
@@ -85,8 +78,8 @@ fn two_digits(text: &str) -> Option<(u32, &str)>
 #[inline(always)]
 fn digits_after(text: &str, mark: char) -> Option<(u32, &str)>
     requires { mark < 128 }
-    ensures found { MatchOption result ⊤ (λ x. IsMarkedDigits mark (chars text.now) (numbered x)) }
-    ensures only { Only (IsMarkedDigits mark (chars text.now)) (λ x. numbered x) result }
+    ensures same { option_map spec.numbered result ≡ spec.read_marked mark (chars text.now) }
+    ensures small { IfSome result (λ x. x.0 < 100) }
 {
     let rest = after_char(text, mark)?;
     two_digits(rest)
@@ -98,7 +91,7 @@ fn is_date(year: u32, month: u32, day: u32) -> bool
     requires year { year < 10_000 }
     requires month { month < 100 }
     requires day { day < 100 }
-    ensures { IsTrue result ↔ IsCivilDate (pos year) month day }
+    ensures { result ≡ spec.is_civil year month day }
 {
     if month >= 1 && month <= 12 && day >= 1 && day <= 28 {
         return true;
@@ -107,10 +100,10 @@ fn is_date(year: u32, month: u32, day: u32) -> bool
 }
 
 // The text after FULL-DATE.
+#[tactic(auto, unfolding(crate::specs::Bodies::Reader::past_date))]
 #[inline(always)]
 fn after_date(text: &str) -> Option<&str>
-    ensures found { MatchOption result ⊤ (λ rest. Begins IsFullDate (chars text.now) (shown rest)) }
-    ensures only { Only (Begins IsFullDate (chars text.now)) (λ rest. shown rest) result }
+    ensures { seen result ≡ spec.past_date (chars text.now) }
 {
     let (century, rest) = two_digits(text)?;
     let (year, rest) = two_digits(rest)?;
@@ -124,10 +117,10 @@ fn after_date(text: &str) -> Option<&str>
 }
 
 // The text after TIME-SECFRAC, or the whole where there is none.
+#[tactic(auto, unfolding(crate::specs::Bodies::Reader::past_secfrac))]
 #[inline(always)]
 fn after_secfrac(text: &str) -> Option<&str>
-    ensures found { MatchOption result ⊤ (λ rest. Begins IsSecfrac (chars text.now) (shown rest)) }
-    ensures only { Only (BeginsSecfrac (chars text.now)) (λ rest. shown rest) result }
+    ensures { seen result ≡ spec.past_secfrac (chars text.now) }
 {
     let Some(digits) = after_char(text, '.') else {
         return Some(text);
@@ -139,16 +132,16 @@ fn after_secfrac(text: &str) -> Option<&str>
 // Whether a clock of RFC 5424 shows that.
 #[inline(always)]
 fn is_clock(hour: u32, minute: u32, second: u32) -> bool
-    ensures { IsTrue result ↔ ((hour < 24) × (minute < 60) × (second < 60)) }
+    ensures { result ≡ spec.is_clock hour minute second }
 {
     hour < 24 && minute < 60 && second < 60
 }
 
 // The text after PARTIAL-TIME.
+#[tactic(auto, unfolding(crate::specs::Bodies::Reader::past_time))]
 #[inline(always)]
 fn after_time(text: &str) -> Option<&str>
-    ensures found { MatchOption result ⊤ (λ rest. Begins IsPartialTime (chars text.now) (shown rest)) }
-    ensures only { Only (BeginsTime (chars text.now)) (λ rest. shown rest) result }
+    ensures { seen result ≡ spec.past_time (chars text.now) }
 {
     let (hour, rest) = two_digits(text)?;
     let (minute, rest) = digits_after(rest, ':')?;
@@ -171,10 +164,10 @@ fn is_sign(c: char) -> bool
 }
 
 // The text after TIME-OFFSET.
+#[tactic(auto, unfolding(crate::specs::Bodies::Reader::past_offset, crate::specs::Bodies::Reader::past_zone))]
 #[inline(always)]
 fn after_offset(text: &str) -> Option<&str>
-    ensures found { MatchOption result ⊤ (λ rest. Begins IsTimeOffset (chars text.now) (shown rest)) }
-    ensures only { Only (Begins IsTimeOffset (chars text.now)) (λ rest. shown rest) result }
+    ensures { seen result ≡ spec.past_offset (chars text.now) }
 {
     let (sign, rest) = first(text)?;
     if sign == 'Z' {
@@ -193,10 +186,10 @@ fn after_offset(text: &str) -> Option<&str>
 }
 
 // The text after TIMESTAMP.
+#[tactic(auto, unfolding(crate::specs::Bodies::Reader::past_stamp))]
 #[inline(always)]
 fn after_stamp(text: &str) -> Option<&str>
-    ensures found { MatchOption result ⊤ (λ rest. Begins IsTimestamp (chars text.now) (shown rest)) }
-    ensures only { Only (Begins IsTimestamp (chars text.now)) (λ rest. shown rest) result }
+    ensures { seen result ≡ spec.past_stamp (chars text.now) }
 {
     if let Some(rest) = after_char(text, '-') {
         return Some(rest);
@@ -208,10 +201,10 @@ fn after_stamp(text: &str) -> Option<&str>
 }
 
 // The text after a space, and a name of at most that many characters.
+#[tactic(auto, unfolding(crate::specs::Bodies::Reader::past_name))]
 #[inline(always)]
 fn after_name(text: &str, most: usize) -> Option<&str>
-    ensures found { MatchOption result ⊤ (λ rest. BeginsName most (chars text.now) (shown rest)) }
-    ensures only { Only (BeginsName most (chars text.now)) (λ rest. shown rest) result }
+    ensures { seen result ≡ spec.past_name most (chars text.now) }
 {
     let start = after_char(text, ' ')?;
     let (_, rest) = short_run(start, CharClass::Printable, most)?;
@@ -221,8 +214,7 @@ fn after_name(text: &str, most: usize) -> Option<&str>
 // An SD-NAME, and the text after it.
 #[inline(always)]
 fn sd_name(text: &str) -> Option<(&str, &str)>
-    ensures found { MatchOption result ⊤ (λ x. IsShort spec.is_sd_char 32 (chars text.now) (both x)) }
-    ensures only { Only (IsShort spec.is_sd_char 32 (chars text.now)) (λ x. both x) result }
+    ensures { option_map spec.both result ≡ spec.read_short grammar.is_sd_char 32 (chars text.now) }
 {
     short_run(text, CharClass::SdName, 32)
 }
@@ -230,7 +222,7 @@ fn sd_name(text: &str) -> Option<(&str, &str)>
 // Whether the character is escaped in a value.
 #[inline(always)]
 fn is_escaped(c: char) -> bool
-    ensures { result ≡ spec.is_escaped c }
+    ensures { result ≡ grammar.is_escaped c }
 {
     c == '\\' || (c == '"' || c == ']')
 }
@@ -238,8 +230,8 @@ fn is_escaped(c: char) -> bool
 // The text after PARAM-VALUE and the quote that closes it.
 #[inline(always)]
 fn after_value(text: &str) -> Option<&str>
-    ensures found { MatchOption result ⊤ (λ rest. BeginsValue (chars text.now) (shown rest) × IsUtf8 rest.now) }
-    ensures only { Only (BeginsValue (chars text.now)) (λ rest. shown rest) result }
+    ensures same { seen result ≡ spec.past_value false (chars text.now) }
+    ensures utf8 { IfSome result (λ rest. IsUtf8 rest.now) }
 {
     let mut rest = text;
     'stretches: loop {
@@ -260,10 +252,11 @@ fn after_value(text: &str) -> Option<&str>
 }
 
 // The text after SD-PARAM and the space before it.
+#[tactic(auto, unfolding(crate::specs::Bodies::Reader::read_param))]
 #[inline(always)]
 fn after_param(text: &str) -> Option<&str>
-    ensures found { MatchOption result ⊤ (λ rest. Begins IsSdParam (chars text.now) (shown rest) × IsUtf8 rest.now) }
-    ensures only { Only (Begins IsSdParam (chars text.now)) (λ rest. shown rest) result }
+    ensures same { option_map spec.alone result ≡ spec.read_param (chars text.now) }
+    ensures more { IfSome result (λ rest. IsUtf8 rest.now × (length (shown rest) < length (chars text.now))) }
 {
     let start = after_char(text, ' ')?;
     let (_, rest) = sd_name(start)?;
@@ -273,10 +266,11 @@ fn after_param(text: &str) -> Option<&str>
 }
 
 // The text after all SD-PARAMs and the bracket that closes their element.
+#[tactic(auto, using(crate::proofs::ValidLemmas::params_step), unfolding(crate::specs::Bodies::Reader::read_param))]
 #[inline(always)]
 fn after_params(text: &str) -> Option<&str>
-    ensures found { MatchOption result ⊤ (λ rest. BeginsParams (chars text.now) (shown rest) × IsUtf8 rest.now) }
-    ensures only { Only (BeginsParams (chars text.now)) (λ rest. shown rest) result }
+    ensures same { seen result ≡ spec.past_params (chars text.now) }
+    ensures utf8 { IfSome result (λ rest. IsUtf8 rest.now) }
 {
     let mut rest = text;
     'params: loop {
@@ -289,10 +283,11 @@ fn after_params(text: &str) -> Option<&str>
 }
 
 // An SD-ELEMENT's SD-ID, and the text after the element.
+#[tactic(auto, unfolding(crate::specs::Bodies::Reader::read_element))]
 #[inline(always)]
 fn sd_element(text: &str) -> Option<(&str, &str)>
-    ensures found { MatchOption result ⊤ (λ x. BeginsElement (chars text.now) (both x) × IsUtf8 x.1.now) }
-    ensures only { Only (BeginsElement (chars text.now)) (λ x. both x) result }
+    ensures same { option_map spec.both result ≡ spec.read_element (chars text.now) }
+    ensures more { IfSome result (λ x. IsUtf8 x.1.now × (length (shown x.1) < length (chars text.now))) }
 {
     let start = after_char(text, '[')?;
     let (id, rest) = sd_name(start)?;
@@ -301,11 +296,10 @@ fn sd_element(text: &str) -> Option<(&str, &str)>
 }
 
 // The text after the elements at the front, of which there is at least one.
+#[tactic(auto, using(crate::proofs::ValidLemmas::elements_step), unfolding(crate::specs::Bodies::Reader::past_elements))]
 #[inline(always)]
 fn after_elements(text: &str) -> Option<&str>
-    ensures found { MatchOption result ⊤ (λ rest. (ids : List Text) × (0 < length ids)
-        × BeginsElements (chars text.now) ids (shown rest)) }
-    ensures only { Only (λ rest. (ids : List Text) × IsElementsAndMsg (chars text.now) ids rest) (λ rest. shown rest) result }
+    ensures { seen result ≡ spec.past_elements (chars text.now) }
 {
     let (_, after) = sd_element(text)?;
     let mut rest = after;
@@ -316,9 +310,9 @@ fn after_elements(text: &str) -> Option<&str>
 }
 
 // Whether one of the elements at the front has this id.
+#[tactic(auto, using(crate::proofs::ValidLemmas::elements_step))]
 fn has_id(text: &str, id: &str) -> bool
-    ensures { (ids : List Text) (rest : Text) → BeginsElements (chars text.now) ids rest → IsSpacedMsg rest
-        → result ≡ is_among (chars id.now) ids }
+    ensures { result ≡ is_among (chars id.now) (spec.elements_of (chars text.now)).0 }
 {
     let mut rest = text;
     'elements: while let Some((other, after)) = sd_element(rest) {
@@ -331,11 +325,11 @@ fn has_id(text: &str, id: &str) -> bool
 }
 
 // Whether no id comes twice, by a look at all pairs of them. It takes no memory.
+#[tactic(auto, using(crate::proofs::ValidLemmas::elements_step))]
 #[cold]
 #[inline(never)]
 fn are_distinct_pairs(text: &str) -> bool
-    ensures { (ids : List Text) (rest : Text) → BeginsElements (chars text.now) ids rest → IsSpacedMsg rest
-        → (IsTrue result ↔ AreDistinct ids) }
+    ensures { result ≡ spec.are_distinct (spec.elements_of (chars text.now)).0 }
 {
     let mut rest = text;
     'elements: while let Some((id, after)) = sd_element(rest) {
@@ -348,10 +342,10 @@ fn are_distinct_pairs(text: &str) -> bool
 }
 
 // The text after the elements at the front, where there is at least one and no id comes twice.
+#[tactic(auto, using(crate::proofs::ValidLemmas::elements_step), unfolding(crate::specs::Bodies::Reader::past_distinct))]
 #[inline(always)]
 fn after_distinct(alloc: Global, text: &str) -> Result<Option<&str>, AllocError>
-    ensures found { IfOk result (λ after. MatchOption after ⊤ (λ rest. BeginsDistinct (chars text.now) (shown rest))) }
-    ensures only { IfOk result (λ after. Only (IsDistinctAndMsg (chars text.now)) (λ rest. shown rest) after) }
+    ensures { IfOk result (λ after. seen after ≡ spec.past_distinct (chars text.now)) }
 {
     let Some((id, after)) = sd_element(text) else {
         return Ok(None);
@@ -370,7 +364,7 @@ fn after_distinct(alloc: Global, text: &str) -> Result<Option<&str>, AllocError>
 
 /// Whether the text is elements of which no id comes twice. It may be `false` though it is, if an allocation fails.
 pub(crate) fn are_elements(alloc: Global, text: &str) -> bool
-    ensures { IsTrue result → BeginsDistinct (chars text.now) [] }
+    ensures { IsTrue result → spec.AreElements (chars text.now) }
 {
     match after_distinct(alloc, text) {
         Ok(Some(rest)) => rest.is_empty(),
@@ -381,7 +375,7 @@ pub(crate) fn are_elements(alloc: Global, text: &str) -> bool
 // Whether the text is `SP MSG`, or nothing.
 #[inline(always)]
 fn is_spaced_msg(text: &str) -> bool
-    ensures { IsTrue result ↔ IsSpacedMsg (chars text.now) }
+    ensures { result ≡ spec.is_spaced (chars text.now) }
 {
     match first(text) {
         Some((c, _)) => c == ' ',
@@ -392,7 +386,7 @@ fn is_spaced_msg(text: &str) -> bool
 // Whether there is a text, which is `SP MSG`, or nothing.
 #[inline(always)]
 fn is_msg_after(rest: Option<&str>) -> bool
-    ensures { IsTrue result ↔ IsSomeAnd rest.entry (λ text. IsSpacedMsg (shown text)) }
+    ensures { result ≡ spec.is_spaced_after (seen rest.entry) }
 {
     match rest {
         Some(text) => is_spaced_msg(text),
@@ -401,11 +395,12 @@ fn is_msg_after(rest: Option<&str>) -> bool
 }
 
 // Whether the text, which does not begin with `-`, is STRUCTURED-DATA [SP MSG], without memory.
+#[tactic(auto, using(crate::proofs::BodyLemmas::distinct_new), unfolding(crate::specs::Bodies::Reader::is_body, crate::specs::Bodies::Reader::past_elements, crate::specs::Bodies::Reader::past_distinct))]
 #[cold]
 #[inline(never)]
 fn is_body_by_pairs(text: &str) -> bool
     requires { (rest : Text) → chars text.now ≢ 45 ∷ rest }
-    ensures { IsTrue result ↔ IsBody (chars text.now) }
+    ensures { result ≡ spec.is_body (chars text.now) }
 {
     let Some(rest) = after_elements(text) else {
         return false;
@@ -417,9 +412,10 @@ fn is_body_by_pairs(text: &str) -> bool
 }
 
 // Whether the text is STRUCTURED-DATA [SP MSG]. Where there is no memory for ids, they are compared by pairs.
+#[tactic(auto, unfolding(crate::specs::Bodies::Reader::is_body))]
 #[inline(always)]
 fn is_body(alloc: Global, text: &str) -> bool
-    ensures { IsTrue result ↔ IsBody (chars text.now) }
+    ensures { result ≡ spec.is_body (chars text.now) }
 {
     if let Some(rest) = after_char(text, '-') {
         return is_spaced_msg(rest);
@@ -431,10 +427,10 @@ fn is_body(alloc: Global, text: &str) -> bool
 }
 
 // The text after the header.
+#[tactic(auto, unfolding(crate::specs::Bodies::Reader::past_header))]
 #[inline(always)]
 fn after_header(text: &str) -> Option<&str>
-    ensures found { MatchOption result ⊤ (λ rest. IsHeader (chars text.now) (shown rest)) }
-    ensures only { Only (IsHeader (chars text.now)) (λ rest. shown rest) result }
+    ensures { seen result ≡ spec.past_header (chars text.now) }
 {
     let rest = after_pri(text)?;
     let rest = after_char(rest, '1')?;
@@ -450,7 +446,7 @@ fn after_header(text: &str) -> Option<&str>
 /// Whether the text is in the grammar of RFC 5424, of version 1.
 #[inline(always)]
 pub fn is_syslog_msg(alloc: Global, text: &str) -> bool
-    ensures { IsTrue result ↔ IsSyslogMsg (chars text.now) }
+    ensures { IsTrue result ↔ grammar.IsSyslogMsg (chars text.now) }
 {
     match after_header(text) {
         Some(rest) => is_body(alloc, rest),

@@ -1,4 +1,4 @@
-use Rattle.syslog_strict.proofs.OnlyLemmas.{sd_low}
+use Rattle.syslog_strict.proofs.ValidLemmas.{sd_low}
 use Rattle.syslog_strict.proofs.valid.sd_name.Goals as goal
 
 pub short_run-requires : goal.short_run-requires

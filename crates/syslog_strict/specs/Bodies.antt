@@ -1,0 +1,2 @@
+-- Words that only the proofs of bodies speak of.
+pub mod Reader
