@@ -15,7 +15,9 @@ use Rattle.syslog_strict.proofs.Words.{without_last_colon, without_lone_colon, A
 use Rattle.syslog_strict.proofs.Words.{IsSyslogMsg, IsValuePiece, is_escaped, is_printusascii, is_sd_char}
 use Rattle.syslog_strict.specs.Bodies.Reader.{AreElements}
 use Rattle.std.proofs.Common.{◌&&◌, nat_lt}
+use Rattle.std.proofs.lemmas.Bool.{or_from}
 use Rattle.std.proofs.lemmas.List.{length-map}
+use Rattle.syslog_strict.proofs.Words.{list_any-append}
 use Rattle.std.specs.Bool.{◌==◌}
 use Rattle.std.specs.Prelude.{◌↔◌}
 use Rattle.syslog_pieces.specs.Bodies.Verbatim.{IsBareWord}
@@ -40,7 +42,7 @@ use Rattle.syslog_strict.specs.Conversion.{converted_value}
 use Rattle.syslog_strict.proofs.NameLaws.{IsStrictElement, IsStrictParam, converted_are, converted_distinct}
 use Rattle.syslog_strict.proofs.NameLaws.{element_back, no_text, params_in, colonless_end, colonless_length, colonless_passes}
 use Rattle.syslog_strict.proofs.NameLaws.{lone_other, lone_passes, lone_short, elements_back, elements_is}
-use Rattle.syslog_strict.proofs.ElementLemmas.{elements_some}
+use Rattle.syslog_strict.proofs.ElementLemmas.{elements_some, other_if, same_if}
 use Rattle.syslog_strict.proofs.TextLemmas.{cleaned_passes, cleaned_same, cleaned_short, colonless_same, text_eq_true}
 use Rattle.syslog_strict.proofs.StampLemmas.{stamp_back, stamp_is, one}
 use Rattle.syslog_strict.proofs.NameLaws as names
@@ -128,12 +130,6 @@ mark_same (c ∷ t) h = refl
 name_same : (t : Text) → IsSdName t → converted_name t ≡ t
 name_same t is = ap (cleaned is_sd_char 32) (mark_same t is.0) ∙ cleaned_same is_sd_char 32 t is.2 is.1
 
-taken : (b : Bool) (x y : Text) → b ≡ true → (if b then x else y) ≡ x
-taken b x y e = rw e refl
-
-left : (b : Bool) (x y : Text) → b ≡ false → (if b then x else y) ≡ y
-left b x y e = rw e refl
-
 plain_char : (c : ℕ) → is_escaped c ≡ false → nat_eq c 92 ≡ false
 plain_char c h = grind (arith, nat_tests)
 
@@ -141,11 +137,11 @@ pieces_same : (pieces : List Text) → AllByRecursion IsValuePiece pieces → es
 pieces_same [] each = refl
 pieces_same (piece ∷ pieces) (inl (c, escapes, e), each) =
     ap (λ (x : Text). escaped_from false (x ++ join pieces)) e
-    ∙ taken (is_escaped c) _ _ escapes ∙ ap (λ (x : Text). 92 ∷ c ∷ x) (pieces_same pieces each)
+    ∙ same_if (is_escaped c) _ _ escapes ∙ ap (λ (x : Text). 92 ∷ c ∷ x) (pieces_same pieces each)
     ∙ ap (λ (x : Text). x ++ join pieces) (sym e)
 pieces_same (piece ∷ pieces) (inr (c, plain, e), each) =
     ap (λ (x : Text). escaped_from false (x ++ join pieces)) e
-    ∙ left (nat_eq c 92) _ _ (plain_char c plain) ∙ left (is_escaped c) _ _ plain
+    ∙ other_if (nat_eq c 92) _ _ (plain_char c plain) ∙ other_if (is_escaped c) _ _ plain
     ∙ ap (λ (x : Text). c ∷ x) (pieces_same pieces each) ∙ ap (λ (x : Text). x ++ join pieces) (sym e)
 
 value_same : (t : Text) → IsParamValue t → converted_value t ≡ t
@@ -167,21 +163,15 @@ elements_same [] each = refl
 elements_same (e ∷ es) each =
     ap₂ (λ (x : ElementValue) (y : List ElementValue). x ∷ y) (element_same e each.0) (elements_same es each.1)
 
-pick_false : (b : Bool) (xs ys : List (Text × Text)) → b ≡ false → (if b then xs else ys) ≡ ys
-pick_false b xs ys e = rw e refl
-
 -- no parameters of an id that none of the elements has
 no_params : (id : Text) (es : List ElementValue) → AllByRecursion (λ u. u ≢ id) (map (λ (e : ElementValue). e.id) es)
     → params_of id es ≡ []
 no_params id [] others = refl
-no_params id (e ∷ es) others = pick_false (text_eq e.id id) _ _ (no_text e.id id others.0) ∙ no_params id es others.1
+no_params id (e ∷ es) others = other_if (text_eq e.id id) _ _ (no_text e.id id others.0) ∙ no_params id es others.1
 
 among_more : (u t : Text) (ts : List Text) → is_among u ts ≡ false → t ≢ u → is_among u (ts ++ t ∷ []) ≡ false
-among_more u t [] none other = rw (no_text t u other) refl
-among_more u t (s ∷ ts) none other = elim (cases_Bool (text_eq s u)) [
-  | inl e ↦ absurd (let off = rw e at none in let no : true ≡ false = off in cc)
-  | inr e ↦ rw e (among_more u t ts (rw e at none) other)
-]
+among_more u t ts new other =
+    list_any-append (λ v. text_eq v u) ts (t ∷ []) ∙ or_from _ _ new (or_from _ _ (no_text t u other) refl)
 
 all_more : (ids : List Text) (id : Text) (es : List ElementValue)
     → AllByRecursion (λ (e : ElementValue). is_among e.id ids ≡ false) es
@@ -191,15 +181,12 @@ all_more ids id [] new others = tt
 all_more ids id (e ∷ es) new others =
     (among_more e.id id ids new.0 (λ same. others.0 (sym same)), all_more ids id es new.1 others.1)
 
-pick_elements_false : (b : Bool) (xs ys : List ElementValue) → b ≡ false → (if b then xs else ys) ≡ ys
-pick_elements_false b xs ys e = rw e refl
-
 joined_same : (ids : List Text) (es : List ElementValue)
     → AllByRecursion (λ (e : ElementValue). is_among e.id ids ≡ false) es
     → AreDistinct (map (λ (e : ElementValue). e.id) es) → joined_past ids es ≡ es
 joined_same ids [] new apart = refl
 joined_same ids (e ∷ es) new apart =
-    pick_elements_false (is_among e.id ids) _ _ new.0
+    other_if (is_among e.id ids) _ _ new.0
     ∙ ap₂ (λ (x : ElementValue) (y : List ElementValue). x ∷ y)
     (ap (λ (x : List (Text × Text)). record e { params = e.params ++ x }) (no_params e.id es apart.0)
     ∙ ap (λ (x : List (Text × Text)). record e { params = x }) (append-nil e.params))
@@ -256,15 +243,12 @@ abbrev text_at : ℤ → ℤ → Bool
 text_at n o = is_four_digits (civil_fields (n +ℤ nanos_of_seconds o)).year && (unsigned_abs o % 60 == 0)
     && nat_lt (unsigned_abs o) 86_400
 
-pick_stamp : (b : Bool) (x y : Option OffsetTimestamp) → b ≡ true → (if b then x else y) ≡ x
-pick_stamp b x y e = rw e refl
-
 -- a timestamp of whole microseconds that has a text
 stamp_same : (t : OffsetTimestamp) → micros t.instant.nanosecond ≡ t.instant.nanosecond → has_text t ≡ true
     → timestamp_text (converted_stamp t) ≡ timestamp_text (Some t)
 stamp_same t whole h =
     let own : has_text (cut_stamp t) ≡ true = ap (λ (n : ℤ). text_at n t.offset.seconds) whole ∙ h in
-    ap timestamp_text (pick_stamp (has_text (cut_stamp t)) _ _ own)
+    ap timestamp_text (same_if (has_text (cut_stamp t)) _ _ own)
     ∙ ap (λ (n : ℤ). printed_stamp n t.offset.seconds) whole
 
 chosen_again : (s : OffsetTimestamp) (own utc : Bool) → has_text (cut_stamp s) ≡ own → has_text (in_utc (cut_stamp s)) ≡ utc

@@ -8,6 +8,7 @@ use Rattle.syslog_strict.proofs.Words.{bytes_decides, Text, Each, Ends, is_inert
 use Rattle.syslog_strict.proofs.Words.{elements_text, joined_elements, element_text, param_text, text_eq, all_map}
 use Rattle.syslog_strict.proofs.Words.{converted_elements, escaped_from, is_among, joined_past, params_of, is_escaped}
 use Rattle.syslog_strict.proofs.Words.{HasJoined, joined_text, text_or_none, text_in}
+use Rattle.std.proofs.lemmas.Bool.{or_parts}
 use Rattle.std.proofs.lemmas.Grind.{flat_map-append}
 use Rattle.std.specs.Global.{Global}
 use Rattle.std.specs.Prelude.{String, is_some}
@@ -27,17 +28,10 @@ inert_no_backslash c h = grind (arith, nat_tests)
 pub inert_plain : (c : ℕ) → is_inert_char c ≡ true → is_escaped c ≡ false
 inert_plain c h = grind (arith, nat_tests)
 
-third : (a b : Bool) (x y z : Text) → a ≡ false → b ≡ false → (if a then x else (if b then y else z)) ≡ z
-third a b x y z e f = rw (e, f) refl
-
-second : (a b : Bool) (x y z : Text) → a ≡ false → b ≡ true → (if a then x else (if b then y else z)) ≡ y
-second a b x y z e f = rw (e, f) refl
-
 pub value_run : (w t : Text) → Each is_inert_char w → escaped_from false (w ++ t) ≡ w ++ escaped_from false t
 value_run [] t each = refl
 value_run (c ∷ w) t each =
-    third (nat_eq c 92) (is_escaped c) _ _ _ (inert_no_backslash c each.0) (inert_plain c each.0)
-    ∙ ap (λ (x : Text). c ∷ x) (value_run w t each.1)
+    rw (inert_plain c each.0, inert_no_backslash c each.0) (ap (λ (x : Text). c ∷ x) (value_run w t each.1))
 
 no_backslash : (c : ℕ) → is_inert_char c ≡ false → c ≢ 92 → nat_eq c 92 ≡ false
 no_backslash c h other = grind (arith, nat_tests)
@@ -48,7 +42,7 @@ inert_not c h = grind (arith, nat_tests)
 -- a quote or a closing bracket
 pub value_other : (c : ℕ) (t : Text) → is_inert_char c ≡ false → c ≢ 92
     → escaped_from false (c ∷ t) ≡ 92 ∷ c ∷ escaped_from false t
-value_other c t h other = second (nat_eq c 92) (is_escaped c) _ _ _ (no_backslash c h other) (inert_not c h)
+value_other c t h other = rw (inert_not c h, no_backslash c h other) refl
 
 -- a backslash and another character
 abbrev pub pair_text : ℕ → Text
@@ -147,15 +141,11 @@ params_last id (x ∷ xs) e = elim (cases_Bool (text_eq x.id id)) [
 ]
 
 -- ---- joined elements are one of each id
-either : (a b : Bool) → (a || (b || false)) ≡ false → (a ≡ false) × (b ≡ false)
-either true b h = cc
-either false true h = cc
-either false false h = (refl, refl)
-
 pub not_last : (t id : Text) (ids : List Text) → is_among t (ids ++ id ∷ []) ≡ false → (is_among t ids ≡ false) × (text_eq id t ≡ false)
-not_last t id ids h = either _ _ (sym (list_any-append (λ u. text_eq u t) ids (id ∷ [])) ∙ h)
+not_last t id ids h =
+    let (new, other) = or_parts _ _ (sym (list_any-append (λ u. text_eq u t) ids (id ∷ [])) ∙ h) in (new, (or_parts _ _ other).0)
 
-firsts_new : (ids : List Text) (es : List ElementValue) → AllByRecursion (λ t. is_among t ids ≡ false) (firsts ids es)
+pub firsts_new : (ids : List Text) (es : List ElementValue) → AllByRecursion (λ t. is_among t ids ≡ false) (firsts ids es)
 firsts_new ids [] = tt
 firsts_new ids (e ∷ es) = elim (cases_Bool (is_among e.id ids)) [
   | inl old ↦ rw old (firsts_new ids es)
@@ -169,13 +159,11 @@ map_same f g (x ∷ xs) h = ap₂ (λ y ys. y ∷ ys) h.0 (map_same f g xs h.1)
 abbrev pub of_id : List ElementValue → Text → ElementValue
 of_id es id = record { id = id; params = params_of id es }
 
-same_if : (b : Bool) (x y : List (Text × Text)) → b ≡ true → (if b then x else y) ≡ x
-same_if true x y e = refl
-same_if false x y e = cc
+pub same_if : {A : Type 0} (b : Bool) (x y : A) → b ≡ true → (if b then x else y) ≡ x
+same_if b x y e = rw e refl
 
-other_if : (b : Bool) (x y : List (Text × Text)) → b ≡ false → (if b then x else y) ≡ y
-other_if false x y e = refl
-other_if true x y e = cc
+pub other_if : {A : Type 0} (b : Bool) (x y : A) → b ≡ false → (if b then x else y) ≡ y
+other_if b x y e = rw e refl
 
 -- an element whose id came before adds nothing new
 old_skips : (ids : List Text) (e : ElementValue) (es : List ElementValue) (t : Text) → is_among e.id ids ≡ true

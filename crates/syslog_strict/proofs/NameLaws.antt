@@ -24,6 +24,8 @@ use Rattle.syslog_pieces.specs.StructuredData.Canonical.{IsCanonicalParam, Begin
 use Rattle.syslog_pieces.specs.StructuredData.Escapes.{TextUnit, pair, single, unit_text}
 use Rattle.syslog_pieces.specs.Text.CharClass.{is_id_char, is_name_char}
 use Rattle.syslog_strict.specs.Grammar.{IsSomeOf}
+use Rattle.syslog_strict.specs.Joined.{firsts}
+use Rattle.syslog_strict.proofs.ElementLemmas.{firsts_new, not_last}
 use Rattle.syslog_strict.proofs.TextLemmas.{cleaned_passes, cleaned_short, kept_as, lost_as, cleaned_some, text_eq_true}
 
 -- ---- converted names are in the grammar, and are read back from their printed text
@@ -232,7 +234,7 @@ name_is t = (
 -- ---- values
 
 -- what holds of both holds of the one that is taken
-pick : (b : Bool) (x y : Text) (P : Text → Type 0) → (b ≡ true → P x) → (b ≡ false → P y) → P (if b then x else y)
+pick : {A : Type 0} (b : Bool) (x y : A) (P : A → Type 0) → (b ≡ true → P x) → (b ≡ false → P y) → P (if b then x else y)
 pick true x y P f g = f refl
 pick false x y P f g = g refl
 
@@ -290,28 +292,18 @@ elements_are : (es : List ElementValue) → AllByRecursion IsStrictElement (map 
 elements_are [] = tt
 elements_are (e ∷ es) = ((name_is e.id, params_are e.params), elements_are es)
 
-pick_params : (b : Bool) (xs ys : List (Text × Text)) → AllByRecursion IsStrictParam xs → AllByRecursion IsStrictParam ys
-    → AllByRecursion IsStrictParam (if b then xs else ys)
-pick_params true xs ys each other = each
-pick_params false xs ys each other = other
-
 params_of_are : (id : Text) (es : List ElementValue) → AllByRecursion IsStrictElement es
     → AllByRecursion IsStrictParam (params_of id es)
 params_of_are id [] each = tt
 params_of_are id (e ∷ es) each =
     let rest = params_of_are id es each.1 in
-    pick_params (text_eq e.id id) _ _ (all_append IsStrictParam e.params (params_of id es) each.0.1 rest) rest
-
-pick_elements : (b : Bool) (P : List ElementValue → Type 0) (xs ys : List ElementValue) → (b ≡ true → P xs) → (b ≡ false → P ys)
-    → P (if b then xs else ys)
-pick_elements true P xs ys f g = f refl
-pick_elements false P xs ys f g = g refl
+    pick (text_eq e.id id) _ _ (AllByRecursion IsStrictParam) (λ h. all_append IsStrictParam e.params (params_of id es) each.0.1 rest) (λ h. rest)
 
 joined_are : (ids : List Text) (es : List ElementValue) → AllByRecursion IsStrictElement es
     → AllByRecursion IsStrictElement (joined_past ids es)
 joined_are ids [] each = tt
 joined_are ids (e ∷ es) each =
-    pick_elements (is_among e.id ids) (AllByRecursion IsStrictElement) _ _ (λ h. joined_are ids es each.1)
+    pick (is_among e.id ids) _ _ (AllByRecursion IsStrictElement) (λ h. joined_are ids es each.1)
     (λ h. (
       (each.0.0, all_append IsStrictParam e.params (params_of e.id es) each.0.1 (params_of_are e.id es each.1)),
       joined_are (ids ++ e.id ∷ []) es each.1,
@@ -319,49 +311,28 @@ joined_are ids (e ∷ es) each =
 
 -- ---- no id comes twice
 
-or_false : (a b : Bool) → (a || b) ≡ false → (a ≡ false) × (b ≡ false)
-or_false true b h = cc
-or_false false b h = (refl, h)
+ids_joined : (ids : List Text) (es : List ElementValue) → map (λ (e : ElementValue). e.id) (joined_past ids es) ≡ firsts ids es
+ids_joined ids [] = refl
+ids_joined ids (e ∷ es) = elim (cases_Bool (is_among e.id ids)) [
+  | inl old ↦ rw old (ids_joined ids es)
+  | inr new ↦ rw new (ap (λ (t : List Text). e.id ∷ t) (ids_joined (ids ++ e.id ∷ []) es))
+]
 
-apart : (u t : Text) (ts : List Text) → is_among u (ts ++ t ∷ []) ≡ false → (is_among u ts ≡ false) × (text_eq t u ≡ false)
-apart u t [] h = (refl, (or_false (text_eq t u) false h).0)
-apart u t (s ∷ ts) h =
-    let (first, more) = or_false (text_eq s u) (is_among u (ts ++ t ∷ [])) h in
-    let (none, last) = apart u t ts more in
-    (rw first none, last)
-
-new_ids : (ids : List Text) (es : List ElementValue)
-    → AllByRecursion (λ (e : ElementValue). is_among e.id ids ≡ false) (joined_past ids es)
-new_ids ids [] = tt
-new_ids ids (e ∷ es) =
-    pick_elements (is_among e.id ids) (AllByRecursion (λ (d : ElementValue). is_among d.id ids ≡ false)) _ _
-    (λ h. new_ids ids es)
-    (λ h. (h, all_map (λ d k. (apart d.id e.id ids k).0) (joined_past (ids ++ e.id ∷ []) es) (new_ids (ids ++ e.id ∷ []) es)))
-
-all_ids : (P : Text → Type 0) (es : List ElementValue) → AllByRecursion (λ (e : ElementValue). P e.id) es
-    → AllByRecursion P (map (λ (e : ElementValue). e.id) es)
-all_ids P [] each = tt
-all_ids P (e ∷ es) each = (each.0, all_ids P es each.1)
-
-other_text : (t u : Text) → text_eq t u ≡ false → u ≢ t
-other_text t u h e = no_text_eq t u h (sym e)
-
-distinct : (ids : List Text) (es : List ElementValue) → AreDistinct (map (λ (e : ElementValue). e.id) (joined_past ids es))
+distinct : (ids : List Text) (es : List ElementValue) → AreDistinct (firsts ids es)
 distinct ids [] = tt
-distinct ids (e ∷ es) =
-    pick_elements (is_among e.id ids) (λ xs. AreDistinct (map (λ (d : ElementValue). d.id) xs)) _ _
-    (λ h. distinct ids es)
-    (λ h. (
-      all_ids (λ u. u ≢ e.id) (joined_past (ids ++ e.id ∷ []) es)
-          (all_map (λ (d : ElementValue) k. other_text e.id d.id (apart d.id e.id ids k).1) (joined_past (ids ++ e.id ∷ []) es) (new_ids (ids ++ e.id ∷ []) es)),
-      distinct (ids ++ e.id ∷ []) es,
-    ))
+distinct ids (e ∷ es) = elim (cases_Bool (is_among e.id ids)) [
+  | inl old ↦ rw old (distinct ids es)
+  | inr new ↦ rw new (
+    all_map (λ u h same. no_text_eq e.id u (not_last u e.id ids h).1 (sym same)) _ (firsts_new (ids ++ e.id ∷ []) es),
+    distinct (ids ++ e.id ∷ []) es,
+  )
+]
 
 pub converted_are : (es : List ElementValue) → AllByRecursion IsStrictElement (converted_elements es)
 converted_are es = joined_are [] (map converted_element es) (elements_are es)
 
 pub converted_distinct : (es : List ElementValue) → AreDistinct (map (λ (e : ElementValue). e.id) (converted_elements es))
-converted_distinct es = distinct [] (map converted_element es)
+converted_distinct es = rw (ids_joined [] (map converted_element es)) (distinct [] (map converted_element es))
 
 -- ---- the text of elements
 
@@ -410,8 +381,7 @@ data_is (e ∷ es) each apart_ids = inr (
 )
 
 pub elements_is : (es : List ElementValue) → IsStructuredData (elements_text (converted_elements es))
-elements_is es = data_is (converted_elements es) (joined_are [] (map converted_element es) (elements_are es))
-    (distinct [] (map converted_element es))
+elements_is es = data_is (converted_elements es) (converted_are es) (converted_distinct es)
 
 -- ---- elements of the grammar, by their texts
 
@@ -454,4 +424,4 @@ element_back e is = (
 )
 
 pub elements_back : (es : List ElementValue) → AllByRecursion IsCanonicalElement (converted_elements es)
-elements_back es = all_map element_back (converted_elements es) (joined_are [] (map converted_element es) (elements_are es))
+elements_back es = all_map element_back (converted_elements es) (converted_are es)

@@ -9,7 +9,7 @@ use Rattle.syslog_strict.proofs.Words.{MessageValue, priority_of, timestamp_text
 use Rattle.syslog_strict.proofs.Words.{without_last_colon, without_lone_colon, converted_host, converted_word}
 use Rattle.syslog_strict.proofs.Words.{is_printusascii, keeps, front_text}
 use Rattle.std.proofs.Common.{zero, take, Result, Ok, Err, OnOk, MatchBool}
-use Rattle.std.proofs.lemmas.List.{take_all, drop_all}
+use Rattle.std.proofs.lemmas.List.{take_all, drop_all, length-map, length-take}
 use Rattle.std.proofs.lemmas.Str.{chars_past_char, IsUtf8-encode}
 use Rattle.std.specs.Char.{IsScalar}
 use Rattle.std.specs.Result.{is_ok}
@@ -113,22 +113,9 @@ host_stays t bytes some clean ascii none =
     host_prints t some ∙ ap without_last_colon clean
     ∙ colonless_same t (λ front e. none front (sym ascii ∙ e))
 
--- the last character, and then nothing
-host_last : (c : ℕ) (t : Text) (m : ℕ) → (m ≡ 0) ⊎ (t ≡ [])
-    → without_last_colon (cleaned is_printusascii (suc m) (c ∷ t))
-    ≡ (kept_char no_colon (kept_char is_printusascii c) ∷ []) ++ without_last_colon (cleaned is_printusascii m t)
-host_last c t zero last = refl
-host_last c [] (suc m) last = refl
-host_last c (d ∷ t) (suc m) (inl e) = absurd (omega arith)
-host_last c (d ∷ t) (suc m) (inr e) = absurd (let no : ⊥ = cc in no)
-
--- another character, and more
-host_more : (c : ℕ) (t : Text) (m : ℕ) → m ≢ 0 → t ≢ []
-    → without_last_colon (cleaned is_printusascii (suc m) (c ∷ t))
-    ≡ (kept_char is_printusascii c ∷ []) ++ without_last_colon (cleaned is_printusascii m t)
-host_more c t zero more some = absurd (more refl)
-host_more c [] (suc m) more some = absurd (some refl)
-host_more c (d ∷ t) (suc m) more some = refl
+-- what is left of a host
+abbrev pub host_left : ℕ → Text → Text
+host_left n t = without_last_colon (cleaned is_printusascii n t)
 
 -- the character that is pushed, as the last or not
 abbrev pub host_char : ℕ → Bool → ℕ
@@ -138,33 +125,34 @@ host_char c last = if last then kept_char no_colon (kept_char is_printusascii c)
 abbrev pub IsLast : ℕ → Text → Bool → Type 0
 IsLast n more last = MatchBool last ((n ≡ 1) ⊎ (more ≡ [])) ((n ≢ 1) × (more ≢ []))
 
-host_next : (c : ℕ) (t : Text) (m : ℕ) (last : Bool) → IsLast (suc m) t last
-    → without_last_colon (cleaned is_printusascii (suc m) (c ∷ t))
-    ≡ (host_char c last ∷ []) ++ without_last_colon (cleaned is_printusascii m t)
-host_next c t m true (inl e) = host_last c t m (inl (omega arith))
-host_next c t m true (inr e) = host_last c t m (inr e)
-host_next c t m false (n, some) = host_more c t m (λ e. n (omega arith)) some
-
-host_on : (c : ℕ) (m : ℕ) (old now t more whole : Text) (last : Bool) → t ≡ c ∷ more
-    → IsLast (suc m) more last → now ≡ old ++ (host_char c last ∷ [])
-    → old ++ without_last_colon (cleaned is_printusascii (suc m) t) ≡ whole
-    → now ++ without_last_colon (cleaned is_printusascii m more) ≡ whole
-host_on c m old now t more whole last e is p i =
-    ap (λ (x : Text). x ++ without_last_colon (cleaned is_printusascii m more)) p
-    ∙ append_assoc old (host_char c last ∷ []) _
-    ∙ ap (λ (x : Text). old ++ x)
-    (sym (ap (λ (x : Text). without_last_colon (cleaned is_printusascii (suc m) x)) e ∙ host_next c more m last is)) ∙ i
+host_cons : (c m : ℕ) (t : Text) (last : Bool) → IsLast (suc m) t last → host_left (suc m) (c ∷ t) ≡ host_char c last ∷ host_left m t
+host_cons c zero t true is = refl
+host_cons c zero t false is = absurd (is.0 refl)
+host_cons c (suc m) [] true is = refl
+host_cons c (suc m) [] false is = absurd (is.1 refl)
+host_cons c (suc m) (d ∷ t) true (inl e) = absurd (omega arith)
+host_cons c (suc m) (d ∷ t) true (inr e) = absurd (let no : ⊥ = cc in no)
+host_cons c (suc m) (d ∷ t) false is = refl
 
 -- a step of the copy
-pub host_step : (c n : ℕ) (old now t more whole : Text) (last : Bool) → 0 < n → t ≡ c ∷ more
-    → IsLast n more last → now ≡ old ++ (host_char c last ∷ [])
-    → old ++ without_last_colon (cleaned is_printusascii n t) ≡ whole
-    → now ++ without_last_colon (cleaned is_printusascii (n - 1) more) ≡ whole
+pub host_step : (c n : ℕ) (old now t more whole : Text) (last : Bool) → 0 < n → t ≡ c ∷ more → IsLast n more last
+    → now ≡ old ++ (host_char c last ∷ []) → old ++ host_left n t ≡ whole → now ++ host_left (n - 1) more ≡ whole
 host_step c zero old now t more whole last h e is p i = absurd (omega arith)
 host_step c (suc m) old now t more whole last h e is p i =
-    let one : m ≡ suc m - 1 = omega arith in
-    ap (λ (k : ℕ). now ++ without_last_colon (cleaned is_printusascii k more)) (sym one)
-    ∙ host_on c m old now t more whole last e is p i
+    let one : suc m - 1 ≡ m = omega arith in
+    rw (p, one, append_assoc) (ap (λ (x : Text). old ++ x) (sym (ap (host_left (suc m)) e ∙ host_cons c m more last is)) ∙ i)
+
+nothing_left : (n : ℕ) (t : Text) → (n ≤ 0) ⊎ (t ≡ []) → host_left n t ≡ []
+nothing_left zero t e = refl
+nothing_left (suc n) t (inl e) = absurd (omega arith)
+nothing_left (suc n) t (inr e) = rw e refl
+
+-- no more may be copied, or nothing is left
+pub host_end : (host old now rest : Text) (n : ℕ) → host ≢ [] → (n ≤ 0) ⊎ (rest ≡ []) → now ++ host_left n rest ≡ old ++ host_left 255 host
+    → now ≡ old ++ name_text (converted_host host)
+host_end host old now rest n some ends i =
+    sym (append-nil now) ∙ ap (λ (x : Text). now ++ x) (sym (nothing_left n rest ends)) ∙ i
+    ∙ ap (λ (x : Text). old ++ x) (sym (host_prints host some))
 
 pub chars_colon : chars (58 ∷ []) ≡ 58 ∷ []
 chars_colon = chars-IsAscii (58 ∷ []) (IsAscii-cons 58 [] (omega arith) IsAscii-nil)
@@ -206,18 +194,6 @@ word_prints most t h some other =
     ap (λ (x : Text). name_text (named x)) same
     ∙ named_prints _ (cleaned_some is_printusascii most t (omega arith) some)
 
-take_none : (n : ℕ) → (t : Text) → t ≡ [] → take n t ≡ []
-take_none zero t e = refl
-take_none (suc n) t e = rw e refl
-
--- the copy comes to an end
-pub host_stop : (host old now rest : Text) (n : ℕ) → host ≢ [] → rest ≡ []
-    → now ++ without_last_colon (cleaned is_printusascii n rest) ≡ old ++ without_last_colon (cleaned is_printusascii 255 host)
-    → now ≡ old ++ name_text (converted_host host)
-host_stop host old now rest n some e i =
-    sym (append-nil now) ∙ ap (λ (x : Text). now ++ x) (sym (ap (λ (x : Text). without_last_colon (map (kept_char is_printusascii) x)) (take_none n rest e)))
-    ∙ i ∙ ap (λ (x : Text). old ++ x) (sym (host_prints host some))
-
 -- what was appended to no text
 pub started : (old new a : Text) → new ≡ old ++ a → old ≡ chars [] → new ≡ a
 started old new a e none = e ∙ ap (λ (x : Text). x ++ a) (none ∙ chars-nil)
@@ -231,14 +207,6 @@ pub process_prints : (t : Text) → process_text (option_map named_process (conv
     ≡ procid_text (named_process (name_text (converted_word 128 t)))
 process_prints t = printed_of (converted_word 128 t)
 
--- no more may be copied
-pub host_end : (host old now rest : Text) (n : ℕ) → host ≢ [] → n ≤ 0
-    → now ++ without_last_colon (cleaned is_printusascii n rest) ≡ old ++ without_last_colon (cleaned is_printusascii 255 host)
-    → now ≡ old ++ name_text (converted_host host)
-host_end host old now rest zero some e i =
-    sym (append-nil now) ∙ i ∙ ap (λ (x : Text). old ++ x) (sym (host_prints host some))
-host_end host old now rest (suc n) some e i = absurd (omega arith)
-
 kept_passes : (test : ℕ → Bool) (c : ℕ) → test 63 ≡ true → test (kept_char test c) ≡ true
 kept_passes test c mark = elim (cases_Bool (test c)) [ inl e ↦ rw e e | inr e ↦ rw e mark ]
 
@@ -249,17 +217,8 @@ map_passes test (c ∷ t) mark = (kept_passes test c mark, map_passes test t mar
 pub cleaned_passes : (test : ℕ → Bool) (most : ℕ) (t : Text) → test 63 ≡ true → Each test (cleaned test most t)
 cleaned_passes test most t mark = map_passes test (take most t) mark
 
-length_mapped : (f : ℕ → ℕ) (t : Text) → length (map f t) ≡ length t
-length_mapped f [] = refl
-length_mapped f (c ∷ t) = ap suc (length_mapped f t)
-
-length_taken : (most : ℕ) (t : Text) → length (take most t) ≤ most
-length_taken zero t = omega arith
-length_taken (suc n) [] = omega arith
-length_taken (suc n) (c ∷ t) = let short = length_taken n t in omega (arith, short)
-
 pub cleaned_short : (test : ℕ → Bool) (most : ℕ) (t : Text) → length (cleaned test most t) ≤ most
-cleaned_short test most t = rw (length_mapped (kept_char test) (take most t)) (length_taken most t)
+cleaned_short test most t = rw (length-map, length-take) (omega arith)
 
 -- ---- the pieces of a converted line, one after the other
 abbrev space : Text

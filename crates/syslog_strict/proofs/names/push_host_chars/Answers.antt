@@ -1,5 +1,5 @@
-use Rattle.syslog_strict.proofs.Words.{◌∷◌, ◌++◌, [], ap, ◌∙◌, arith, text_in}
-use Rattle.syslog_strict.proofs.TextLemmas.{host_end, host_step, host_stop}
+use Rattle.syslog_strict.proofs.Words.{◌∷◌, ◌++◌, [], ap, inl, inr, ◌∙◌, arith, text_in}
+use Rattle.syslog_strict.proofs.TextLemmas.{host_end, host_step}
 use Rattle.syslog_strict.proofs.names.push_host_chars.Goals as goal
 
 pub chars-preserved : goal.chars-preserved
@@ -11,7 +11,7 @@ chars-preserved c = (
 )
 
 pub returns-in_default : goal.returns-in_default
-returns-in_default c = host_stop _ _ _ _ c.chars.left c.requires c.in_default.ensures c.chars.invariant.1
+returns-in_default c = host_end _ _ _ _ c.chars.left c.requires (inr c.in_default.ensures) c.chars.invariant.1
 
 pub returns : goal.returns
-returns c = host_end _ _ _ _ c.chars.left c.requires (omega arith) c.chars.invariant.1
+returns c = host_end _ _ _ _ c.chars.left c.requires (inl (omega arith)) c.chars.invariant.1
