@@ -247,11 +247,17 @@ pub rows_none_here : (As Bs : List Class) → {t : Text} → NoFront (Row As) t 
 rows_none_here As Bs n p q vs e h =
     let (u, f, g) = rows_split As Bs (record { piece = p; whole = e; is = h }) in no_front_no (Row As) n f
 
+-- after several known fronts, the row goes on with its other classes
+pub rows_step : (As Bs : List Class) → AllDeterministic As → {t q r : Text} {us : Values As} {vs : Values (As ++ Bs)} →
+    Front (Row As) t q us → Front (Row (As ++ Bs)) t r vs → (firsts As Bs vs ≡ us) × Front (Row Bs) q r (lasts As Bs vs)
+rows_step As Bs d {r = r} {vs = vs} g f =
+    let (u, a, b) = rows_split As Bs f in
+    let (e, same) = front_same (Row As) (row_det As d) a g in
+    (same, subst (λ (x : Text). Front (Row Bs) x r (lasts As Bs vs)) e b)
+
 pub rows_none_later : (As Bs : List Class) → AllDeterministic As → {t u : Text} {vs : Values As} → Front (Row As) t u vs
     → NoFront (Row Bs) u → NoFront (Row (As ++ Bs)) t
-rows_none_later [] Bs d f n = subst (λ (x : Text). NoFront (Row Bs) x) (sym (nil_front f)) n
-rows_none_later (C ∷ As) Bs d f n =
-    let h = row_head C As f in row_none_later C (As ++ Bs) d.0 h.1 (rows_none_later As Bs d.1 h.2 n)
+rows_none_later As Bs d f n p q vs e h = no_front_no (Row Bs) n (rows_step As Bs d f (front_of p e h)).1
 
 -- ---- pieces after a character
 pub after_det : {c : ℕ} (C : Class) → IsDeterministic C → IsDeterministic (after c C)
@@ -384,10 +390,10 @@ row_first C D Cs m = record {
 -- after the first pieces of a row
 pub rows_go : (As Bs : List Class) → AllDeterministic As → (t u : Text) (vs : Values As) → Front (Row As) t u vs
     → Meets (Row (As ++ Bs)) t (Row Bs) u
-rows_go [] Bs d t u vs f = subst (λ (x : Text). Meets (Row Bs) t (Row Bs) x) (nil_front f) (meets_here (Row Bs) t)
-rows_go (C ∷ As) Bs d t u vs f =
-    let r = row_head C As f in
-    meets_on (row_goes C (As ++ Bs) d.0 r.1) (rows_go As Bs d.1 r.0 u vs.1 r.2)
+rows_go As Bs d t u vs f = record {
+  forth = λ q ws g. (both_values As Bs vs ws, rows_join As Bs f g);
+  back = λ q ws g. (lasts As Bs ws, (rows_step As Bs d f g).1);
+}
 
 -- ---- a result with another meaning
 pub match_map : {X : Type 0} (r : Option X) {N M : Type 0} {S T : X → Type 0} → (N → M) → ((x : X) → S x → T x)
@@ -443,14 +449,6 @@ piece_front C p q v h = record { piece = p; whole = refl; is = h }
 pub step_value : (C : Class) (Cs : List Class) → IsDeterministic C → {t q r : Text} {v : C.Value} {vs : Values (C ∷ Cs)}
     → Front C t q v → Front (Row (C ∷ Cs)) t r vs → vs.0 ≡ v
 step_value C Cs d g f = let h = row_head C Cs f in (front_same C d h.1 g).1
-
--- after several known fronts, the row goes on with its other classes
-pub rows_step : (As Bs : List Class) → AllDeterministic As → {t q r : Text} {us : Values As} {vs : Values (As ++ Bs)} →
-    Front (Row As) t q us → Front (Row (As ++ Bs)) t r vs → (firsts As Bs vs ≡ us) × Front (Row Bs) q r (lasts As Bs vs)
-rows_step As Bs d {r = r} {vs = vs} g f =
-    let (u, a, b) = rows_split As Bs f in
-    let (e, same) = front_same (Row As) (row_det As d) a g in
-    (same, subst (λ (x : Text). Front (Row Bs) x r (lasts As Bs vs)) e b)
 
 -- what follows a front is no longer than the text
 pub front_longer : (C : Class) {t q : Text} {v : C.Value} → Front C t q v → length q ≤ length t

@@ -10,8 +10,8 @@ use Rattle.syslog_pieces.specs.ProcId.{process_word}
 use Rattle.syslog_pieces.specs.Text.{Names, host, tag_word, word}
 use Rattle.syslog_pieces.specs.declared.procid.ProcId.TheVariants.{PID, Name}
 use Rattle.syslog_pieces.specs.Pieces.Format.{Format, IsSound, classes, printed_row, RowReadsBack}
-use Rattle.syslog_pieces.proofs.PieceLemmas.Class.{front_of, rest_same, after_nil, behind, heads, no_front_no, row_cons, row_head}
-use Rattle.syslog_pieces.proofs.PieceLemmas.Class.{Meets, all_map, all_append, row_nil, piece_front}
+use Rattle.syslog_pieces.proofs.PieceLemmas.Class.{no_front_no, piece_front, all_append, rest_same, after_nil, front_of}
+use Rattle.syslog_pieces.proofs.PieceLemmas.Class.{row_cons, row_head, all_map, row_nil, behind, heads, Meets}
 
 -- ---- what a text begins with, and classes whose pieces are of one of two kinds
 

@@ -1,25 +1,25 @@
 -- The walk over an element: its steps, why a bracket inside a value decides it, and a value cut by bytes.
-use Rattle.syslog_pieces.proofs.Names.{◌≡◌, param_row, nil_front, SplitsRun, more_here, rows_join, no_mapped, row_first}
-use Rattle.syslog_pieces.proofs.Names.{last_char, unit_text, byte_count, element_of, meets_none, meets_here}
-use Rattle.syslog_pieces.proofs.Names.{◌≢◌, ◌++◌, refl, take, Text, Each, pair, zero, Bool, start, value, param, Meets}
-use Rattle.syslog_pieces.proofs.Names.{◌<◌, ◌⊎◌, inl, inr, [], ◌∷◌, sym, ◌∙◌, ◌≤◌, ◌+◌, ◌-◌, Row, min, suc, map, ◌↔◌}
-use Rattle.syslog_pieces.proofs.Names.{true, id_alone, more_goes, and_parts, eqb_tells, nat_tests, start_row}
-use Rattle.syslog_pieces.proofs.Names.{List, arith, chars, Class, Front, single, ◌also◌, row_of, ◌then◌, begins, get_or}
-use Rattle.syslog_pieces.proofs.Names.{ℕ, length-append, encodes-append, AllByRecursion, IsCharBoundary, rows_none_here}
-use Rattle.syslog_pieces.proofs.Names.{is_name_char, is_open_char, ElementValue, mapped_front}
-use Rattle.syslog_pieces.proofs.Names.{inside_row, name_alone, exactly, quoted_row, element_row}
-use Rattle.syslog_pieces.proofs.Names.{chars_past_char, encode_utf8_all}
-use Rattle.syslog_pieces.proofs.Names.{no_front_no, more_before, each_behind, opening_row, IsValueUnit, mapped_meets}
-use Rattle.syslog_pieces.proofs.Names.{false, opening, closing, escaped, IsValue, element, row_goes, false_is}
-use Rattle.syslog_pieces.proofs.Names.{ap, append_cancel_right, IsUtf8-from_ascii, is_unescaped_char, is_not_whitespace}
-use Rattle.syslog_pieces.proofs.Names.{subst, length, IsUtf8, NoFront, Values, inside, quoted, IsDead}
-use Rattle.syslog_pieces.proofs.Names.{IsTrue, append_assoc, encodes-chars, row_none_here, IsUtf8-append, is_inert_char}
-use Rattle.syslog_pieces.proofs.Names.{TextUnit, param_of, flat_map, is_blank, meets_on, each_map, tail_row, row_head}
+use Rattle.syslog_pieces.proofs.Names.{append_cancel_right, IsUtf8-from_ascii, is_unescaped_char, is_not_whitespace, []}
+use Rattle.syslog_pieces.proofs.Names.{chars_past_char, encode_utf8_all, encodes-append, AllByRecursion, IsCharBoundary}
+use Rattle.syslog_pieces.proofs.Names.{rows_none_here, length-append, encodes-chars, row_none_here, IsUtf8-append, ◌++◌}
+use Rattle.syslog_pieces.proofs.Names.{is_inert_char, is_name_char, is_open_char, ElementValue, mapped_front, param_row}
+use Rattle.syslog_pieces.proofs.Names.{mapped_meets, append_assoc, element_row, no_front_no, more_before, each_behind}
+use Rattle.syslog_pieces.proofs.Names.{opening_row, IsValueUnit, byte_count, element_of, meets_none, meets_here, single}
+use Rattle.syslog_pieces.proofs.Names.{inside_row, name_alone, quoted_row, nil_front, SplitsRun, more_here, rows_join}
+use Rattle.syslog_pieces.proofs.Names.{no_mapped, row_first, last_char, unit_text, more_goes, and_parts, eqb_tells, ◌≡◌}
+use Rattle.syslog_pieces.proofs.Names.{nat_tests, start_row, id_alone, row_goes, false_is, TextUnit, param_of, flat_map}
+use Rattle.syslog_pieces.proofs.Names.{is_blank, meets_on, each_map, tail_row, row_head, exactly, opening, closing, ◌≢◌}
+use Rattle.syslog_pieces.proofs.Names.{escaped, IsValue, element, NoFront, ◌also◌, row_of, ◌then◌, begins, get_or, refl}
+use Rattle.syslog_pieces.proofs.Names.{length, IsUtf8, Values, inside, quoted, IsDead, IsTrue, start, value, param, ◌<◌}
+use Rattle.syslog_pieces.proofs.Names.{Meets, arith, chars, Class, Front, false, subst, take, Text, Each, pair, zero, ℕ}
+use Rattle.syslog_pieces.proofs.Names.{Bool, true, List, ◌⊎◌, inl, inr, ◌∷◌, sym, ◌∙◌, ◌≤◌, ◌+◌, ◌-◌, Row, min, suc, ap}
+use Rattle.syslog_pieces.proofs.Names.{map, ◌↔◌}
 use Rattle.std.specs.Char.{encode_utf8}
 use Rattle.syslog_pieces.proofs.PieceLemmas.Class.{row_cons, row_none_later, meets_none_on, rows_go, each_right}
-use Rattle.syslog_pieces.proofs.StructuredDataLemmas.Elements.{unit_goes, value_here, space_is_no_close}
+use Rattle.syslog_pieces.proofs.StructuredDataLemmas.Elements.{space_is_no_close, no_unit_at_end, no_quote_unit}
+use Rattle.syslog_pieces.proofs.StructuredDataLemmas.Elements.{opening_det, quoted_text, value_here, quoted_det}
+use Rattle.syslog_pieces.proofs.StructuredDataLemmas.Elements.{unit_goes, start_det}
 use Rattle.syslog_pieces.proofs.TextLemmas.Runs.{one_ascii, rest_shorter, front_chars, front_cut}
-use Rattle.syslog_pieces.proofs.StructuredDataLemmas.Elements.{quoted_det, start_det, opening_det, quoted_text, no_unit_at_end, no_quote_unit}
 use Rattle.syslog_pieces.proofs.StructuredDataLemmas.Units.{unit_same}
 use Rattle.syslog_pieces.proofs.PieceLemmas.Class.{front_of}
 
@@ -182,8 +182,8 @@ module _ (C : Class) where
   passes_shut D s {t = t} {x = x} {y = y} {v = v} p f =
       passes_on t x f.piece y p f.whole (λ a b e n. absurd (no_bracket f.piece a b (s f.piece y v f.is) e))
 
-  pub passes_row : (Ds : List Class) → AllShut Ds → {t x y : Text} {vs : Values Ds} → Passes C t x → Front (Row Ds) x y vs
-      → Passes C t y
+  pub passes_row : (Ds : List Class) → AllShut Ds → {t x y : Text} {vs : Values Ds} → Passes C t x
+      → Front (Row Ds) x y vs → Passes C t y
   passes_row [] s {t = t} p f = subst (λ (z : Text). Passes C t z) (nil_front f) p
   passes_row (D ∷ Ds) s p f = let r = row_head D Ds f in passes_row Ds s.1 (passes_shut D s.0 p r.1) r.2
 

@@ -1,29 +1,25 @@
 -- Values, parameters, elements and items: a text has one of each at its front.
 -- Canonical elements are read back from their print, and what is read is canonical.
-use Rattle.syslog_pieces.proofs.Names.{◌≡◌, ◌≢◌, ◌<◌, inl, inr, ◌∷◌, ap, Each, pair, many, item, dash, Ends, Bool, drop}
-use Rattle.syslog_pieces.proofs.Names.{ℕ, Some, None, refl, Text, join, Class, value, param, heads, Meets, props, chars}
-use Rattle.syslog_pieces.proofs.Names.{true, BeginsUnblank, elements_text, encodes-chars, encodes-append, is_prop→PathP}
-use Rattle.syslog_pieces.proofs.Names.{false, ◌++◌, arith, subst, Front, IsMany, IsList, IsMore, quoted, inside, IsUtf8}
-use Rattle.syslog_pieces.proofs.Names.{List, param_of, element, is_blank, run_det, row_det, many_det, is_none, ∥∥₁_elim}
-use Rattle.syslog_pieces.proofs.Names.{[], AllDeterministic, IsCanonicalElement, AllByRecursion-prop}
-use Rattle.syslog_pieces.proofs.Names.{length, Option, single, strict, behind, ◌also◌, begins, Values, IsValue}
-use Rattle.syslog_pieces.proofs.Names.{sym, ◌∙◌, map, Row, run}
-use Rattle.syslog_pieces.proofs.Names.{append_assoc, nat_tests, is_name_char, is_open_char, ElementValue, list_elements}
-use Rattle.syslog_pieces.proofs.Names.{length-append, AllByRecursion, encode_utf8_all, nil_from_length, bare_param_text}
-use Rattle.syslog_pieces.proofs.Names.{flat_map, list_any, some_run, NoFront, TextUnit, forgiving, many_here, one_value}
-use Rattle.syslog_pieces.proofs.Names.{is_id_char, IsDeterministic, IsCanonicalParam, joined_elements, drop-append_seam}
-use Rattle.syslog_pieces.proofs.Names.{exactly, element_of, exactly_det, texted_det, front_same, mapped_det, param_text}
-use Rattle.syslog_pieces.proofs.Names.{unit_text, param_row, bracketed, row_pieces, quoted_row, append-nil, OneMeaning}
-use Rattle.syslog_pieces.proofs.Names.{list_before, IsValueUnit, element_row, some_run_det, element_text, one_value-is}
+use Rattle.syslog_pieces.proofs.Names.{AllByRecursion-prop, IsCanonicalElement, AllDeterministic, IsCanonicalParam, ◌≡◌}
+use Rattle.syslog_pieces.proofs.Names.{drop-append_seam, encode_utf8_all, nil_from_length, bare_param_text, exactly_det}
+use Rattle.syslog_pieces.proofs.Names.{IsDeterministic, joined_elements, encodes-append, AllByRecursion, BeginsUnblank}
+use Rattle.syslog_pieces.proofs.Names.{elements_text, encodes-chars, is_prop→PathP, list_elements, length-append, Class}
+use Rattle.syslog_pieces.proofs.Names.{append_assoc, is_name_char, is_open_char, ElementValue, some_run_det, is_id_char}
+use Rattle.syslog_pieces.proofs.Names.{element_text, one_value-is, list_before, IsValueUnit, element_row, opening_row}
+use Rattle.syslog_pieces.proofs.Names.{element_of, texted_det, front_same, mapped_det, param_text, row_pieces, param_of}
+use Rattle.syslog_pieces.proofs.Names.{quoted_row, append-nil, OneMeaning, inside_row, nat_tests, forgiving, many_here}
+use Rattle.syslog_pieces.proofs.Names.{one_value, unit_text, param_row, bracketed, start_row, is_blank, many_det, value}
+use Rattle.syslog_pieces.proofs.Names.{∥∥₁_elim, flat_map, list_any, some_run, TextUnit, element, run_det, row_det, ◌≢◌}
+use Rattle.syslog_pieces.proofs.Names.{is_none, IsValue, NoFront, exactly, Divides, IsMany, IsList, IsMore, quoted, ◌<◌}
+use Rattle.syslog_pieces.proofs.Names.{inside, IsUtf8, length, Option, single, strict, behind, ◌also◌, begins, Values}
+use Rattle.syslog_pieces.proofs.Names.{param, heads, Meets, props, chars, false, arith, subst, Front, Each, pair, many}
+use Rattle.syslog_pieces.proofs.Names.{item, dash, Ends, Bool, drop, Some, None, refl, Text, join, true, ◌++◌, List, ap}
+use Rattle.syslog_pieces.proofs.Names.{inl, inr, ◌∷◌, sym, ◌∙◌, map, Row, run, [], ℕ}
 use Rattle.std.proofs.lemmas.List.Elements.{filter_map-append}
 use Rattle.syslog_pieces.specs.declared.structured_data.recognised.ElementList.{ElementList}
 use Rattle.syslog_pieces.proofs.PieceLemmas.Lists.{list_before_det}
 use Rattle.syslog_pieces.proofs.StructuredDataLemmas.Units.{unit_same, units_same}
-use Rattle.syslog_pieces.proofs.Names.{start_row, opening_row, inside_row}
-use Rattle.syslog_pieces.proofs.PieceLemmas.Class.{all_joined}
-use Rattle.syslog_pieces.proofs.PieceLemmas.Class.{front_of}
-use Rattle.syslog_pieces.proofs.Names.{Divides}
-use Rattle.syslog_pieces.proofs.Names.{inside_row}
+use Rattle.syslog_pieces.proofs.PieceLemmas.Class.{all_joined, front_of}
 
 -- ---- values
 
@@ -205,7 +201,8 @@ param_values name v = (name, (tt, (tt, (tt, (v, (tt, tt))))))
 param_back : (name v q : Text) → IsCanonicalParam (name, v) → param.Is (bare_param_text (name, v)) q (name, v)
 param_back name v q (long, each, units) =
     let is : Divides param_row (name ∷ (61 ∷ []) ∷ [] ∷ (34 ∷ []) ∷ v ∷ (34 ∷ []) ∷ []) q (param_values name v) =
-    (tt, (long, each, refl), refl) also refl also (tt, refl) also refl also (units, (_, refl), refl) also refl also tt in
+    (tt, (long, each, refl), refl) also refl also (tt, refl) also refl also (units, (_, refl), refl) also refl
+    also tt in
     (param_values name v, (name ∷ (61 ∷ []) ∷ [] ∷ (34 ∷ []) ∷ v ∷ (34 ∷ []) ∷ [], refl, is), refl)
 
 -- further parameters, each after its space

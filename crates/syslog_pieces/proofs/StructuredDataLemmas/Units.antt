@@ -299,8 +299,8 @@ counts_agree-map text these ps qs = simp (list_all-map, param_count-map text)
 
 pub counted_once : (ps qs : List Param) → length ps ≡ length qs → counts_agree ps ps qs ≡ same_params ps qs
 counted_once ps qs long =
-    one_answer _ _ ((λ e. counts_of_permutation ps qs (permuted ps qs long (λ p some. counts_agree-at ps ps qs p e some)))
-    also counts_agree-from ps ps qs) (same_params-decides ps qs)
+    one_answer _ _ ((λ e. counts_of_permutation ps qs (permuted ps qs long
+    (λ p some. counts_agree-at ps ps qs p e some))) also counts_agree-from ps ps qs) (same_params-decides ps qs)
 
 -- what is in front of both lists in one order changes nothing
 pub same_params-behind : (zs ps qs : List Param) → same_params ps qs ≡ same_params (zs ++ ps) (zs ++ qs)

@@ -1,45 +1,39 @@
 -- The walk over lists: where an element ends, what is left, and the counts; and the list of RFC 3164.
-use Rattle.syslog_pieces.proofs.Names.{◌≡◌, start_row, many_cons, many_none, rows_step, and_parts, list_here, list_goes}
-use Rattle.syslog_pieces.proofs.Names.{◌<◌, more_goes, row_first, more_here, many_here, one_value, forgiving, bracketed}
-use Rattle.syslog_pieces.proofs.Names.{Some, None, List, ◌++◌, refl, Text, many, dash, Bool, Class, heads, false, value}
-use Rattle.syslog_pieces.proofs.Names.{inl, opening, closing, NoFront, row_goes, ∥∥₁_elim, row_head, param_of, is_blank}
-use Rattle.syslog_pieces.proofs.Names.{inr, ◌∷◌, sym, ◌∙◌, Row, ◌↔◌, ◌+◌, ◌≤◌, ◌&&◌, ◌⊎◌, item, true, map, run, []}
-use Rattle.syslog_pieces.proofs.Names.{opening_row, list_before, element_row, exactly_det, more_before, no_front_no}
-use Rattle.syslog_pieces.proofs.Names.{length, IsDeterministic, nil_from_length, length-le-encodes, append_cancel_right}
-use Rattle.syslog_pieces.proofs.Names.{ap, exactly, element, IsUtf8, IsTrue, texted, row_det, no_more, no_list, IsAlone}
-use Rattle.syslog_pieces.proofs.Names.{subst, arith, start, Front, param, Meets, shown, chars, IsMany, strict, Visits}
-use Rattle.syslog_pieces.proofs.Names.{inside_row, full_element, IsDashBefore, rfc3164_list, BeginsNoList, append_assoc}
-use Rattle.syslog_pieces.proofs.Names.{optional, param_text, meets_none, name_alone, OneMeaning, element_of, is_id_char}
-use Rattle.syslog_pieces.proofs.Names.{Values, ElementValue, length-append, row_none_here, sum_by-append, elements_text}
-use Rattle.syslog_pieces.proofs.Names.{DashRule, many_det, flat_map, some_run, id_alone, meets_on, tail_row, IsWalked}
-use Rattle.syslog_pieces.proofs.Names.{behind, no_many_no, row_pieces, append-nil, byte_count, sum_by-cons, elements_or}
-use Rattle.syslog_pieces.proofs.Names.{front_same, is_name_char, element_text, element_seen, one_value-is, is_open_char}
-use Rattle.syslog_pieces.proofs.Names.{optional_some, optional_none, ℕ, encodes-chars, encode_utf8_all, joined_elements}
-use Rattle.syslog_pieces.proofs.Names.{inside, quoted, IsDead, Leaves, row_of, ◌then◌, ◌also◌, begins, Walked, Option}
+use Rattle.syslog_pieces.proofs.Names.{append_cancel_right, length-le-encodes, IsDeterministic, nil_from_length, length}
+use Rattle.syslog_pieces.proofs.Names.{encode_utf8_all, joined_elements, flat_map-append, length-append, row_none_here}
+use Rattle.syslog_pieces.proofs.Names.{sum_by-append, elements_text, optional_some, optional_none, encodes-chars, Class}
+use Rattle.syslog_pieces.proofs.Names.{has_read_more, full_element, IsDashBefore, rfc3164_list, BeginsNoList, start_row}
+use Rattle.syslog_pieces.proofs.Names.{append_assoc, ElementValue, is_name_char, element_text, element_seen, inside_row}
+use Rattle.syslog_pieces.proofs.Names.{one_value-is, is_open_char, opening_row, list_before, element_row, exactly_det}
+use Rattle.syslog_pieces.proofs.Names.{more_before, no_front_no, sum_by-cons, elements_or, param_text, meets_none, Some}
+use Rattle.syslog_pieces.proofs.Names.{name_alone, OneMeaning, element_of, is_id_char, no_many_no, row_pieces, row_goes}
+use Rattle.syslog_pieces.proofs.Names.{append-nil, byte_count, front_same, many_cons, many_none, rows_step, and_parts}
+use Rattle.syslog_pieces.proofs.Names.{list_here, list_goes, more_goes, row_first, more_here, many_here, one_value, ◌≡◌}
+use Rattle.syslog_pieces.proofs.Names.{forgiving, bracketed, ∥∥₁_elim, row_head, param_of, is_blank, optional, DashRule}
+use Rattle.syslog_pieces.proofs.Names.{many_det, flat_map, some_run, id_alone, meets_on, tail_row, IsWalked, opening, ℕ}
+use Rattle.syslog_pieces.proofs.Names.{closing, NoFront, exactly, element, row_det, no_more, no_list, IsAlone, HasRead}
+use Rattle.syslog_pieces.proofs.Names.{IsUtf8, IsTrue, texted, IsMany, strict, Visits, Values, behind, inside, quoted}
+use Rattle.syslog_pieces.proofs.Names.{IsDead, Leaves, row_of, ◌then◌, ◌also◌, begins, Walked, Option, sum_by, heads}
+use Rattle.syslog_pieces.proofs.Names.{false, value, subst, arith, start, Front, param, Meets, shown, chars, None, List}
+use Rattle.syslog_pieces.proofs.Names.{◌++◌, refl, Text, many, dash, Bool, ◌&&◌, item, true, ◌<◌, inl, inr, ◌∷◌, sym}
+use Rattle.syslog_pieces.proofs.Names.{◌∙◌, Row, ◌↔◌, ◌+◌, ◌≤◌, ◌⊎◌, map, run, [], ap}
 use mathlib.Core.HLevel.{Σ_prop, ⊥_prop}
 use Rattle.std.proofs.lemmas.List.Sums.{sum_by_push}
 use Rattle.syslog_pieces.specs.StructuredData.Recognised.{OneInside-prop, OneItems-prop, params_set, items_set}
 use Rattle.syslog_pieces.specs.StructuredData.Visited.{IsTallied, AreItems}
 use Rattle.syslog_pieces.specs.declared.structured_data.line_list.Tally.{Tally}
-use Rattle.syslog_pieces.proofs.StructuredDataLemmas.Closing.{passes_opening, element_starts}
-use Rattle.syslog_pieces.proofs.StructuredDataLemmas.Closing.{no_start, start_shut, param_read, dead_whole}
-use Rattle.syslog_pieces.proofs.StructuredDataLemmas.Closing.{no_opening, Passes, passes_here, passes_row, param_opens}
-use Rattle.syslog_pieces.proofs.StructuredDataLemmas.Closing.{passes_shut, one_shut, passes_quoted, element_read, value_breaks}
-use Rattle.syslog_pieces.proofs.StructuredDataLemmas.Elements.{element_det, element_shorter, item_begins, run_no_close}
-use Rattle.syslog_pieces.proofs.StructuredDataLemmas.Elements.{dash_apart, space_is_no_close, no_blanks}
-use Rattle.syslog_pieces.proofs.StructuredDataLemmas.Elements.{quoted_text, param_det, item_det}
-use Rattle.syslog_pieces.proofs.StructuredDataLemmas.Elements.{item_shorter, no_item_nil}
+use Rattle.syslog_pieces.proofs.StructuredDataLemmas.Closing.{passes_opening, element_starts, passes_quoted, start_shut}
+use Rattle.syslog_pieces.proofs.StructuredDataLemmas.Closing.{element_read, value_breaks, passes_here, param_opens}
+use Rattle.syslog_pieces.proofs.StructuredDataLemmas.Closing.{passes_shut, param_read, dead_whole, no_opening, no_start}
+use Rattle.syslog_pieces.proofs.StructuredDataLemmas.Closing.{passes_row, one_shut, Passes}
+use Rattle.syslog_pieces.proofs.StructuredDataLemmas.Elements.{space_is_no_close, element_shorter, run_no_close}
+use Rattle.syslog_pieces.proofs.StructuredDataLemmas.Elements.{item_shorter, element_det, item_begins, quoted_text}
+use Rattle.syslog_pieces.proofs.StructuredDataLemmas.Elements.{no_item_nil, dash_apart, quoted_det, inside_det}
+use Rattle.syslog_pieces.proofs.StructuredDataLemmas.Elements.{no_blanks, param_det, start_det, item_det}
 use Rattle.syslog_pieces.proofs.PieceLemmas.Lists.{list_cons, more_cons, list_parts, many_parts, more_parts, some_parts}
-use Rattle.syslog_pieces.proofs.TextLemmas.Runs.{bytes}
-use Rattle.syslog_pieces.proofs.PieceLemmas.Class.{IsSteady}
-use Rattle.syslog_pieces.proofs.PieceLemmas.Class.{texted_steady, mapped_alone, row_alone, closed_steady}
-use Rattle.syslog_pieces.proofs.PieceLemmas.Class.{list_before_steady, front_longer, row_cons}
-use Rattle.syslog_pieces.proofs.Names.{flat_map-append}
-use Rattle.syslog_pieces.proofs.Names.{HasRead, has_read_more}
-use Rattle.syslog_pieces.proofs.StructuredDataLemmas.Elements.{quoted_det, inside_det, start_det}
-use Rattle.syslog_pieces.proofs.TextLemmas.Runs.{chars_empty}
-use Rattle.syslog_pieces.proofs.PieceLemmas.Class.{front_of}
-use Rattle.syslog_pieces.proofs.Names.{sum_by}
+use Rattle.syslog_pieces.proofs.TextLemmas.Runs.{chars_empty, bytes}
+use Rattle.syslog_pieces.proofs.PieceLemmas.Class.{list_before_steady, texted_steady, closed_steady, mapped_alone}
+use Rattle.syslog_pieces.proofs.PieceLemmas.Class.{front_longer, row_alone, IsSteady, row_cons, front_of}
 
 -- ---- elements with a parameter
 pub full_is_element : {t q : Text} {v : ElementValue} → Front full_element t q v → Front element t q v
@@ -90,7 +84,8 @@ no_rfc3164_list rule t (n, m) p q (v ∷ vs) e (inr (l, (a, b, i, k, more))) = m
 pub begins_no_list : (rule : DashRule) (t : Text) → NoFront (rfc3164_list rule) t → BeginsNoList rule t
 begins_no_list rule t n = (λ q e a. n dash q [] e (inl (refl, a, refl))) also (λ p q v e h.
     no_many_no full_element full_shorter (length q) q (omega arith) (λ r vs g.
-    let all = many_cons full_element (front_of p e h) g in n all.piece r (v ∷ vs) all.whole (inr (omega arith, all.is))))
+    let all = many_cons full_element (front_of p e h) g in
+    n all.piece r (v ∷ vs) all.whole (inr (omega arith, all.is))))
 
 pub no_list_is : (rule : DashRule) (t : Text) → NoFront (rfc3164_list rule) t ↔ BeginsNoList rule t
 no_list_is rule t = (begins_no_list rule t, no_rfc3164_list rule t)
@@ -145,7 +140,7 @@ module _ (t u : Text) (vs : Values start_row) (f : Front start t u vs) where
         forth = λ q v h. (
             let k = m.forth q v h in
             let (r, l) = element_params f k.1 in
-            (k.0, record { piece = k.1.piece; whole = k.1.whole; is = (k.1.is, some_params u r k.0.params n l) }));
+            (k.0, front_of k.1.piece k.1.whole (k.1.is, some_params u r k.0.params n l)));
         back = λ q w h. m.back q w (full_is_element h);
       }
 
@@ -203,7 +198,7 @@ pub record AtParam (text inner at id : Text) (ps : List (Text × Text)) (count :
 
 -- ---- an element up to its parameters
 pub bare_inside : {inner q : Text} → Front (exactly (93 ∷ [])) inner q tt → Front inside inner q ([], (tt, tt))
-bare_inside {inner = inner} {q = q} g = row_of inside_row (list_here param 32 93 inner q (begins 93 inner q g) then g then refl)
+bare_inside g = row_of inside_row (list_here param 32 93 _ _ (begins 93 _ _ g) then g then refl)
 
 module _ {text opened id : Text} (after inner : List ℕ) (f : Front (exactly (91 ∷ [])) text opened tt)
     (g : Front (texted (some_run is_id_char)) opened (chars after) id)
@@ -220,7 +215,7 @@ module _ {text opened id : Text} (after inner : List ℕ) (f : Front (exactly (9
       → (IsTrue w.prints → length inner ≡ length after) → IsWalked text w
   bare_walked {w = w} close u z v s p =
       walked _ v s (element_read started (bare_inside close)) (λ same. simp append_assoc (
-      rw (same_rest after inner u z b.piece b.whole (p same), begins 93 (chars inner) (shown w.rest) close) at start_text))
+      rw (same_rest after inner u z b.piece b.whole (p same), begins 93 (chars inner) _ close) at start_text))
       (omega (arith, front_longer start started, front_longer (exactly (93 ∷ [])) close))
 
   pub at_first : {stands : Bool} → NoFront (exactly (93 ∷ [])) (chars inner)
@@ -377,7 +372,7 @@ no_elements {t = t} m n = one_value-is m (many_here item t n)
 element_alone : IsAlone element
 element_alone = mapped_alone _ ElementValue element_of (row_alone 93 (exactly (91 ∷ []) ∷ texted (some_run is_id_char)
     ∷ run is_blank ∷ list_before param 32 93 ∷ []) ((λ p c q r v h. h) also texted_steady (some_run is_id_char)
-    (λ p c q r v h. h) also (λ p c q r v h. h) also list_before_steady param 32 93 (mapped_alone _ (Text × Text) param_of
+    (λ p c q r v h. h) also (λ p c q r v h. h) also list_before_steady param 32 93 (mapped_alone _ _ param_of
     (row_alone 34 (texted (some_run is_name_char) ∷ exactly (61 ∷ []) ∷ run is_blank ∷ exactly (34 ∷ []) ∷ value ∷ [])
     (texted_steady (some_run is_name_char) (λ p c q r v h. h) also (λ p c q r v h. h) also (λ p c q r v h. h)
     also (λ p c q r v h. h) also (λ p c q r v (h, z, e). (h, closed_steady 34 c q r z, e)) also tt))) also tt))
@@ -485,11 +480,12 @@ module _ (C : Class) (view : List C.Value → List ElementValue) {V : Type 0}
           (omega (arith, l, m, shorter, s.elements), omega (arith, l, m, s.params, k.few))
 
       -- an element more, whose mark is that of the walk and of the list
-      pub gone_on : {tally' : Tally} {new : V} (v : C.Value) → view (s.vs ++ (v ∷ [])) ≡ view s.vs ++ (element_seen w.element ∷ [])
-          → C.Is k.front.piece (shown w.rest) v → tally'.elements ≡ tally.elements + 1
+      pub gone_on : {tally' : Tally} {new : V} (v : C.Value)
+          → view (s.vs ++ (v ∷ [])) ≡ view s.vs ++ (element_seen w.element ∷ []) → C.Is k.front.piece (shown w.rest) v → tally'.elements ≡ tally.elements + 1
           → tally'.params ≡ tally.params + length (element_seen w.element).params → tally'.end ≡ w.rest
           → (IsTrue tally'.prints → IsTrue ((tally.prints && w.prints) && strict))
-          → Visits given mid (element_seen w.element ∷ []) new → Gone C view given text (shown w.rest) old new tally' strict
+          → Visits given mid (element_seen w.element ∷ []) new
+          → Gone C view given text (shown w.rest) old new tally' strict
       gone_on {tally' = tally'} {new = new} v z is n m e p step =
           let t = s.tallied in
           let x = element_seen w.element in

@@ -1,22 +1,22 @@
 -- From the bytes of a text to its characters: cuts, runs, and what the first bytes say.
-use Rattle.syslog_pieces.proofs.Names.{◌≡◌, IsUtf8-from_ascii, get_or_append_left, is_not_whitespace, length-le-encodes}
-use Rattle.syslog_pieces.proofs.Names.{IsAscii, add-one, NoFront, Bool, EndsRun, cases_lt, and_left, ltb-true, some_run}
-use Rattle.syslog_pieces.proofs.Names.{run_same, each_map, is_blank, not-true, and_from, eqb-true, bytes_eq, add-zero}
-use Rattle.syslog_pieces.proofs.Names.{◌≢◌, encodes-chars, chars-IsAscii, length-append, byte_from_char, char_from_byte}
-use Rattle.syslog_pieces.proofs.Names.{false, is_whitespace, chars-encodes, scalars-chars, BeginsVisibly, BeginsWithGap}
-use Rattle.syslog_pieces.proofs.Names.{arith, chars, Front, Names, Class, IsRun, nat_eq, length, get_or, IsUtf8, bit_or}
-use Rattle.syslog_pieces.proofs.Names.{Option, IsCharBoundary-at_seam, IsCharBoundary-after_ascii, IsCharBoundary-start}
-use Rattle.syslog_pieces.proofs.Names.{IsHost, length-take, nat_tests, cases_Bool, agree_below, length-map, get_or-drop}
-use Rattle.syslog_pieces.proofs.Names.{nat_lt, lt-ltb, number, IsBare, byte_in, past_in, exactly, IsRunIn, trimmed, ◌∷◌}
-use Rattle.syslog_pieces.proofs.Names.{ℕ, true, List, ◌++◌, Text, Each, Ends, take, drop, Some, None, word, host}
-use Rattle.syslog_pieces.proofs.Names.{IsAscii-nil, IsAscii-cons, IsUtf8-take, length-drop, IsUtf8-drop, chars-append}
-use Rattle.syslog_pieces.proofs.Names.{◌<◌, chars-nil, name_text, and_parts, SplitsRun, CharClass, replicate, drop_more}
-use Rattle.syslog_pieces.proofs.Names.{[], ap, has, ◌+◌, ◌%◌, ◌^◌, map, eqb, w8, beq, ◌/◌}
-use Rattle.syslog_pieces.proofs.Names.{sym, ◌∙◌, zero, refl, cond, Fits, ◌&&◌, suc, ◌-◌, ◌≤◌, inl, inr, not, run, ◌||◌}
-use Rattle.syslog_pieces.proofs.Names.{not-false, encodes-IsAscii, drop-append_seam, take-append_seam, take-append-drop}
-use Rattle.syslog_pieces.proofs.Names.{is_ascii_digit, encode_utf8_all, encodes-append, IsCharBoundary, agree_below_at}
+use Rattle.syslog_pieces.proofs.Names.{IsCharBoundary-after_ascii, IsCharBoundary-at_seam, IsCharBoundary-start, nat_eq}
+use Rattle.syslog_pieces.proofs.Names.{get_or_append_left, IsUtf8-from_ascii, is_not_whitespace, length-le-encodes, ◌≡◌}
+use Rattle.syslog_pieces.proofs.Names.{drop-append_seam, take-append_seam, take-append-drop, encodes-IsAscii, nat_tests}
+use Rattle.syslog_pieces.proofs.Names.{encode_utf8_all, byte_from_char, char_from_byte, is_ascii_digit, encodes-append}
+use Rattle.syslog_pieces.proofs.Names.{IsCharBoundary, agree_below_at, encodes-chars, chars-IsAscii, length-append, ◌≢◌}
+use Rattle.syslog_pieces.proofs.Names.{is_whitespace, chars-encodes, scalars-chars, BeginsVisibly, BeginsWithGap, false}
+use Rattle.syslog_pieces.proofs.Names.{IsAscii-cons, chars-append, length-take, agree_below, get_or-drop, IsAscii-nil}
+use Rattle.syslog_pieces.proofs.Names.{IsUtf8-take, length-drop, IsUtf8-drop, cases_Bool, length-map, chars-nil, length}
+use Rattle.syslog_pieces.proofs.Names.{name_text, and_parts, SplitsRun, CharClass, replicate, drop_more, not-false, ◌∷◌}
+use Rattle.syslog_pieces.proofs.Names.{cases_lt, and_left, ltb-true, some_run, run_same, each_map, is_blank, not-true}
+use Rattle.syslog_pieces.proofs.Names.{and_from, eqb-true, bytes_eq, add-zero, IsAscii, add-one, NoFront, EndsRun, Bool}
+use Rattle.syslog_pieces.proofs.Names.{byte_in, past_in, exactly, IsRunIn, trimmed, get_or, IsUtf8, bit_or, Option, ◌<◌}
+use Rattle.syslog_pieces.proofs.Names.{IsHost, nat_lt, lt-ltb, number, IsBare, ◌also◌, arith, chars, Front, Names, true}
+use Rattle.syslog_pieces.proofs.Names.{Class, IsRun, List, ◌++◌, Text, Each, Ends, take, drop, Some, None, word, host}
+use Rattle.syslog_pieces.proofs.Names.{zero, refl, cond, Fits, ◌&&◌, ◌||◌, has, ◌+◌, ◌%◌, ◌^◌, map, eqb, beq, ◌/◌, sym}
+use Rattle.syslog_pieces.proofs.Names.{◌∙◌, suc, ◌-◌, ◌≤◌, inl, inr, not, run, [], ap, w8, ℕ}
 use Rattle.std.proofs.Common.{get_or-take}
-use Rattle.std.proofs.lemmas.List.{get_or-append-add}
+use Rattle.std.proofs.lemmas.List.{get_or-append-add, nil_from_length}
 use Rattle.std.proofs.lemmas.Str.{IsCharBoundary-before_ascii}
 use Rattle.std.proofs.lemmas.Slice.Eq.{bytes_eq-Decides}
 use Rattle.std.proofs.lemmas.Bool.{le-ltb, not_from_true, and_right}
@@ -29,7 +29,6 @@ use lib.Lanes.{chunk, zip2, mask_l, top}
 use lib.Utf8.{scalar, encode}
 use Rattle.syslog_pieces.specs.Bodies.Scan.{first_set, visible_byte}
 use Rattle.syslog_pieces.proofs.PieceLemmas.Class.{front_of}
-use Rattle.syslog_pieces.proofs.Names.{◌also◌}
 pub use Rattle.std.proofs.lemmas.Bool.{not-true as from_not_true}
 
 -- ---- texts and their bytes
@@ -37,8 +36,7 @@ pub same_chars : (bs ds : List ℕ) → IsUtf8 bs → IsUtf8 ds → chars bs ≡
 same_chars bs ds u v e = sym (encodes-chars bs u) ∙ ap encode_utf8_all e ∙ encodes-chars ds v
 
 pub chars_empty : (bs : List ℕ) → length bs ≡ 0 → length (chars bs) ≡ 0
-chars_empty [] e = ap length chars-nil
-chars_empty (b ∷ bs) e = absurd (omega arith)
+chars_empty bs e = rw (nil_from_length bs e, chars-nil) refl
 
 some_encodes : (cs : Text) (bs : List ℕ) → encode_utf8_all cs ≡ bs → 0 < length bs → 0 < length cs
 some_encodes [] bs e l = absurd (omega (arith, ap length e))
@@ -286,11 +284,8 @@ module _ (test : ℕ → Bool) (bs xs ys : List ℕ) (s : SplitsRun test bs xs y
   -- where the run is empty, no piece of such characters is at the front
   pub no_run_front : length xs ≡ 0 → (C : Class)
       → ((p q : Text) (v : C.Value) → C.Is p q v → (0 < length p) × Each test p) → NoFront C (chars bs)
-  no_run_front z = no_run test (chars bs) (empty (chars xs) (chars_empty xs z) s.characters)
-    where
-      empty : (p : Text) → length p ≡ 0 → chars bs ≡ p ++ chars ys → Ends test (chars bs)
-      empty [] l e = rw e s.ends
-      empty (c ∷ p) l e = absurd (omega arith)
+  no_run_front z =
+      no_run test (chars bs) (rw (s.characters, nil_from_length (chars xs) (chars_empty xs z)) s.ends)
 
   pub no_some_run : length xs ≡ 0 → NoFront (some_run test) (chars bs)
   no_some_run z = no_run_front z (some_run test) (λ p q v h. (h.0, h.1))

@@ -22,13 +22,10 @@ use Rattle.std.proofs.lemmas.Fmt.{digits_decimal, decimal_step, length-decimal-l
 use Rattle.std.specs.Fmt.{digits}
 use Rattle.std.specs.Char.{encode_utf8}
 use Rattle.syslog_pieces.specs.declared.text.write_ascii.TheConstants.{PAIRS}
-use Rattle.syslog_pieces.proofs.TextLemmas.Runs.{ascii_front, chars_nonempty, chars_empty, digit_chars, one_ascii}
-use Rattle.syslog_pieces.proofs.TextLemmas.Runs.{text_is, text_is_not, nonempty_is, run_is, digits_ascii, behind_cut}
-use Rattle.syslog_pieces.proofs.TextLemmas.Runs.{behind_is, behind_chars, ends_digits}
-use Rattle.syslog_pieces.proofs.PieceLemmas.Class.{each_front}
-use Rattle.syslog_pieces.proofs.TextLemmas.Runs.{bytes}
-use Rattle.syslog_pieces.proofs.PieceLemmas.Class.{front_of, ◌also◌}
-use Rattle.syslog_pieces.proofs.TextLemmas.Runs.{before_utf8}
+use Rattle.syslog_pieces.proofs.TextLemmas.Runs.{chars_nonempty, digits_ascii, behind_chars, ascii_front, chars_empty}
+use Rattle.syslog_pieces.proofs.TextLemmas.Runs.{digit_chars, text_is_not, nonempty_is, ends_digits, before_utf8, bytes}
+use Rattle.syslog_pieces.proofs.TextLemmas.Runs.{behind_cut, one_ascii, behind_is, text_is, run_is}
+use Rattle.syslog_pieces.proofs.PieceLemmas.Class.{each_front, front_of, ◌also◌}
 pub use Rattle.std.proofs.lemmas.Fmt.{decimal_digit as one_digit, decimal_step as last_of_more}
 pub use Rattle.std.proofs.lemmas.List.Folds.{flat_map-map}
 pub use Rattle.syslog_pieces.proofs.PieceLemmas.Class.{no_truth, false_is, last_is}
@@ -128,7 +125,7 @@ host_front bs xs ys s v l n m =
     front_of (chars xs) s.characters (chars_nonempty xs s.front_utf8 l, s.each, inl (no_end, s.ends, m))
   where
     no_end : EndsInColon (chars xs) → ⊥
-    no_end (front, e) = n (encode_utf8_all front) (bytes xs colon s.front_utf8 (IsUtf8-from_ascii colon colon_ascii) front
+    no_end (front, e) = n _ (bytes xs colon s.front_utf8 (IsUtf8-from_ascii colon colon_ascii) front
         (rw (chars-IsAscii colon colon_ascii) e))
 
 -- a run that ends in one
@@ -296,7 +293,8 @@ module _ (Is : Text → Text → Option Text → Type 0) (d : IsDeterministic (r
   whole_told t (Some (None, q)) b f k =
       ((λ h. absurd (k.0 h)), (λ h. absurd (let e = (front_same C d f (whole_front t h)).1 in cc)))
   whole_told t (Some (Some v, q)) b f k =
-      ((λ h. let g = rw (k.0 h) at f in rw (g.whole, append-nil) (to g.piece (shown v) g.is)), (λ h. k.1 (front_same C d f (whole_front t h)).0))
+      (λ h. let g = rw (k.0 h) at f in rw (g.whole, append-nil) (to g.piece (shown v) g.is))
+      also (λ h. k.1 (front_same C d f (whole_front t h)).0)
 
 host_whole : (p v : Text) → IsHost p [] (Some v) → IsCanonicalHost p
 host_whole p v (long, visible, inl (no_end, e, (same, no_dash))) = ((long, visible), no_dash, no_end)
@@ -353,7 +351,8 @@ two_digits n l h = rw (decimal_step n l (omega arith), decimal_digit (n / 10) (o
 
 pub three_digits : (n : ℕ) → 100 ≤ n → n < 1_000 → decimal n ≡ pad3 n
 three_digits n l h =
-    let e = rw (two_digits (n / 10) (omega arith) (omega arith)) at (decimal_step n (omega arith) (omega arith)) in grind arith
+    let e = rw (two_digits (n / 10) (omega arith) (omega arith)) at (decimal_step n (omega arith) (omega arith)) in
+    grind arith
 
 -- the table of pairs is held against the digits at each number below 100, by computing
 pub pairs_at : (n : ℕ) → n < 100 → (get_or PAIRS (2 * n) 0 ≡ 48 + n / 10) × (get_or PAIRS (2 * n + 1) 0 ≡ 48 + n % 10)
@@ -460,4 +459,5 @@ encodes_closed text all e = sym (encodes-append text (93 ∷ [])) ∙ ap encode_
 pub encodes_more : {X Y : Type 0} (f : Y → Text) (view : X → Y) (head : Text) (xs : List X) (x : X) (bytes : List ℕ)
     → encode_utf8_all (f (view x)) ≡ bytes → encode_utf8_all (head ++ flat_map f (map view xs)) ++ bytes
     ≡ encode_utf8_all (head ++ flat_map f (map view (xs ++ (x ∷ []))))
-encodes_more f view head xs x bytes e = rw (map-append view xs (x ∷ [])) (encodes_on f head (map view xs) (view x) bytes e)
+encodes_more f view head xs x bytes e =
+    rw (map-append view xs (x ∷ [])) (encodes_on f head (map view xs) (view x) bytes e)

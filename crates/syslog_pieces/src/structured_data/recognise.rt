@@ -4,7 +4,7 @@
 //! and each of the items after it would be scanned as far again. But any scan that passes a `]` is inside a value, so
 //! all of them continue alike. A number `dead` keeps how: no element closes from after a `]` that leaves `dead` bytes
 //! or more. A scan that passes such a `]` stops there.
-ghost use Rattle.std.specs.Prelude.{◌≡◌, ◌++◌, [], ◌∷◌, MatchOption, MatchResult, chars, IsUtf8};
+ghost use Rattle.std.specs.Prelude.{◌≡◌, ◌++◌, [], ◌∷◌, IsTrue, MatchOption, MatchResult, chars, IsUtf8};
 ghost use Rattle.syslog_pieces.specs.Words.{has, Front, NoFront, exactly, some_run, texted, shown, Reads, Recognises};
 ghost use Rattle.syslog_pieces.specs.Words.{IsValueUnit, param_value};
 ghost use Rattle.syslog_pieces.specs.Bodies.Closing.{opening as opening_class, quoted as quoted_class, name_alone};
@@ -28,15 +28,21 @@ pub(super) fn nonempty_run(text: &str, class: CharClass) -> Option<(&str, &str)>
     }
 }
 
-// The name of the parameter at the front, and the text after the quote that opens its value.
+// Reads the name of the parameter at the front. Returns it, the text after the quote that opens its value, and whether
+// no blank is after its `=`.
 #[inline(always)]
-pub(super) fn opening(text: &str) -> Option<(&str, &str)>
-    ensures { Reads opening_class (λ name. name_alone (shown name)) (chars text.now) result }
+pub(super) fn open_param(text: &str) -> Option<(&str, &str, bool)>
+    ensures { MatchOption result (NoFront opening_class (chars text.now)) (λ x.
+        Front opening_class (chars text.now) (shown x.1) (name_alone (shown x.0))
+        × (IsTrue x.2 → chars text.now ≡ shown x.0 ++ (61 ∷ 34 ∷ shown x.1))) }
 {
-    let (name, rest) = nonempty_run(text, CharClass::Name)?;
-    let rest = literal(rest, '=')?;
-    let rest = literal(blanks(rest), '"')?;
-    Some((name, rest))
+    let (name, after_name) = nonempty_run(text, CharClass::Name)?;
+    let after_equals = literal(after_name, '=')?;
+    if let Some(value) = literal(after_equals, '"') {
+        return Some((name, value, true));
+    }
+    let value = literal(blanks(after_equals), '"')?;
+    Some((name, value, false))
 }
 
 // The last character of the unit at the front, and the text after the unit.
@@ -94,7 +100,7 @@ fn quoted(text: &str) -> Option<(&str, &str)>
 pub(super) fn param(text: &str) -> Option<((&str, &str), &str)>
     ensures { Reads param_class (param_value (λ s. shown s)) (chars text.now) result }
 {
-    let (name, rest) = opening(text)?;
+    let (name, rest, _) = open_param(text)?;
     let (value, rest) = quoted(rest)?;
     Some(((name, value), rest))
 }

@@ -2,12 +2,12 @@
 //! it prints as it is.
 ghost use Rattle.std.specs.Prelude.{◌≡◌, ◌++◌, ◌<◌, [], ◌∷◌, IfOk, IfSome, IsTrue, MatchOption, MatchResult, chars};
 ghost use Rattle.std.specs.Prelude.{length};
-ghost use Rattle.syslog_pieces.specs.Bodies.Closing.{IsDead, opening as opening_class, name_alone};
+ghost use Rattle.syslog_pieces.specs.Bodies.Closing.{IsDead};
 ghost use Rattle.syslog_pieces.specs.Words.{Front, NoFront, run, shown, full_element, IsWalked, element_seen};
 ghost use Rattle.syslog_pieces.specs.StructuredData.{element as element_class};
 ghost use Rattle.syslog_pieces.specs.Text as spec;
 
-use super::recognise::{live_value, nonempty_run, value_before};
+use super::recognise::{live_value, nonempty_run, open_param, value_before};
 use super::recognised::Element;
 use super::visit::ParamNotes;
 use crate::text::{CharClass, blanks, literal, past_space};
@@ -31,23 +31,6 @@ fn gap(text: &str) -> (&str, bool)
         Some(rest) => (rest, true),
         None => (blanks(text), false),
     }
-}
-
-// Reads the name of the parameter at the front. Returns it, the text after the quote that opens its value, and whether
-// no blank is after its `=`.
-#[inline(always)]
-fn open_param(text: &str) -> Option<(&str, &str, bool)>
-    ensures { MatchOption result (NoFront opening_class (chars text.now)) (λ x.
-        Front opening_class (chars text.now) (shown x.1) (name_alone (shown x.0))
-        × (IsTrue x.2 → chars text.now ≡ shown x.0 ++ (61 ∷ 34 ∷ shown x.1))) }
-{
-    let (name, after_name) = nonempty_run(text, CharClass::Name)?;
-    let after_equals = literal(after_name, '=')?;
-    if let Some(value) = literal(after_equals, '"') {
-        return Some((name, value, true));
-    }
-    let value = literal(blanks(after_equals), '"')?;
-    Some((name, value, false))
 }
 
 /// Walks the strict element at the front, and notes its parameters. A refusal has a number as that of `live_value`.

@@ -6,7 +6,8 @@ use Rattle.syslog_pieces.proofs.structured_data.line_list.visit_full_elements.Go
 
 pub elements-init : goal.elements-init
 elements-init g c =
-    (search rules, gone_none full_element (λ es. es) g.V.ElementVisitor.was_given _ _ _ refl (search rules) refl refl refl)
+    let given = g.V.ElementVisitor.was_given in
+    (search rules, gone_none full_element (λ es. es) given _ _ _ refl (search rules) refl refl refl)
 
 pub item_list-requires : goal.item_list-requires
 item_list-requires g c =

@@ -7,4 +7,4 @@ returns-in_err-name c = let n = no_opening c.in_err-name.ensures in search rules
 
 pub returns-in_err-value : goal.returns-in_err-value
 returns-in_err-value c =
-    let n = meets_none _ _ _ _ (param_opens c.in_ok-name.ensures) c.in_err-value.ensures in search rules
+    let n = meets_none _ _ _ _ (param_opens c.in_ok-name.ensures.0) c.in_err-value.ensures in search rules

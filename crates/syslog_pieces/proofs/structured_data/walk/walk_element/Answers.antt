@@ -1,6 +1,6 @@
-use Rattle.syslog_pieces.proofs.Names.{rules, arith, sym, subst, ◌≡◌, ◌+◌, ◌≤◌, ℕ, [], length, Result, Ok, Err, refl}
-use Rattle.syslog_pieces.proofs.Names.{MatchResult, IsErrAnd, inl, NoFront, start_row, no_row, IsDead, element, eqb-true}
-use Rattle.syslog_pieces.proofs.Names.{ElementValue}
+use Rattle.syslog_pieces.proofs.Names.{ElementValue, MatchResult, start_row, IsErrAnd, eqb-true, NoFront, element, refl}
+use Rattle.syslog_pieces.proofs.Names.{length, Result, no_row, IsDead, rules, arith, subst, sym, ◌≡◌, ◌+◌, ◌≤◌, Err, []}
+use Rattle.syslog_pieces.proofs.Names.{inl, Ok, ℕ}
 use Rattle.syslog_pieces.proofs.StructuredDataLemmas.Closing.{byte_count_slice, dead_suffix, no_start}
 use Rattle.syslog_pieces.proofs.StructuredDataLemmas.Walk.{bare_inside, bare_walked, at_first, not_opened, value_passes}
 use Rattle.syslog_pieces.proofs.StructuredDataLemmas.Walk.{not_closed, not_separated, ends, ends_walked, goes_on}
@@ -17,8 +17,8 @@ new-requires g c = (_, ([], bare_inside c.in-Some-literal.ensures, refl))
 
 pub returns-in-Some-literal-clause-walked : goal.returns-in-Some-literal-clause-walked
 returns-in-Some-literal-clause-walked g c =
-    bare_walked _ _ c.in-Some.ensures c.in-Some-nonempty_run.ensures c.gap-stands.ensures.blanks c.in-Some-literal.ensures
-    (search rules) (search rules) (search rules) (c.new.ensures _ [] (bare_inside c.in-Some-literal.ensures))
+    bare_walked _ _ c.in-Some.ensures c.in-Some-nonempty_run.ensures c.gap-stands.ensures.blanks
+    c.in-Some-literal.ensures (search rules) (search rules) (search rules) (c.new.ensures _ [] (bare_inside c.in-Some-literal.ensures))
     (λ same. eqb-true _ _ same)
 
 pub returns-in-Some-literal-clause-noted : goal.returns-in-Some-literal-clause-noted

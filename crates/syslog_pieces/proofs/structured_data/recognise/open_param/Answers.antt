@@ -1,7 +1,7 @@
 use Rattle.syslog_pieces.proofs.Names.{inl, refl, rules, opening_row, row_of, no_row, ◌then◌, ◌past◌}
 use Rattle.syslog_pieces.proofs.StructuredDataLemmas.Elements.{opening_det}
 use Rattle.syslog_pieces.proofs.StructuredDataLemmas.Walk.{opens_at_once}
-use Rattle.syslog_pieces.proofs.structured_data.walk.open_param.Goals as goal
+use Rattle.syslog_pieces.proofs.structured_data.recognise.open_param.Goals as goal
 
 pub returns-in_err-after_equals : goal.returns-in_err-after_equals
 returns-in_err-after_equals c =
