@@ -440,10 +440,6 @@ pub record Gone (C : Class) (view : List C.Value → List ElementValue) {V : Typ
 pub visits_none : {V : Type 0} (given : V → V → List ElementValue → Type 0) (v : V) → Visits given v [] v
 visits_none given v first ds h = subst (λ (x : List ElementValue). given first v x) (sym (append-nil ds)) h
 
-pub visits_along : {V : Type 0} (given : V → V → List ElementValue → Type 0) (old new : V) (es ds : List ElementValue)
-    → es ≡ ds → Visits given old es new → Visits given old ds new
-visits_along given old new es ds e v = subst (λ (x : List ElementValue). Visits given old x new) e v
-
 module _ (C : Class) (view : List C.Value → List ElementValue) {V : Type 0}
     (given : V → V → List ElementValue → Type 0) where
   pub gone_none : (text : Text) (v : V) (tally : Tally) → [] ≡ view [] → IsUtf8 tally.end.now → tally.elements ≡ 0
@@ -544,7 +540,7 @@ module _ {C : Class} {view : List C.Value → List ElementValue} {V : Type 0} {g
   gone_tallied = subst (λ (x : List ElementValue). IsTallied text rest x tally) (s.same ∙ e) s.tallied
 
   pub gone_visits : Visits given old ds new
-  gone_visits = visits_along given old new s.es ds (s.same ∙ e) s.visits
+  gone_visits = subst (λ (x : List ElementValue). Visits given old x new) (s.same ∙ e) s.visits
 
 -- ---- whether there is a list
 pub items_none : {t q : Text} (own : List ℕ) (vs : List (Option ElementValue)) → Front (many item) t q vs

@@ -411,12 +411,12 @@ module _ (bs : List ℕ) (n : ℕ) (rest : List ℕ) (u : IsUtf8 bs) (b : IsSmal
 
 -- ---- a number up to a limit, from one up to another
 
-module _ {t : Text} (l limit : ℕ) where
-  pub number_past : {q : Text} {n : ℕ} → Front (number l) t q n → limit < n → NoFront (number limit) t
-  number_past {q = q} f great p r m e h =
-      let s = run_same is_ascii_digit f.piece q p r (sym f.whole ∙ e) f.is.1 f.is.2 h.1 h.2 in
-      let same = f.is.3 ∙ ap (digits_value 10) s ∙ sym h.3 in
-      let small = h.4 in absurd (omega arith)
+pub number_past : {t : Text} (l limit : ℕ) {q : Text} {n : ℕ} → Front (number l) t q n → limit < n
+    → NoFront (number limit) t
+number_past l limit {q = q} f great p r m e h =
+    let s = run_same is_ascii_digit f.piece q p r (sym f.whole ∙ e) f.is.1 f.is.2 h.1 h.2 in
+    let same = f.is.3 ∙ ap (digits_value 10) s ∙ sym h.3 in
+    let small = h.4 in absurd (omega arith)
 
 -- ---- printed texts, and the bytes that are written of them
 

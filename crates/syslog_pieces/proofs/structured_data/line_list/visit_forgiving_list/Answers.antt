@@ -1,6 +1,6 @@
-use Rattle.syslog_pieces.proofs.Names.{rules, ◌≡◌, ◌<◌, ◌∙◌, ap, length, strict}
+use Rattle.syslog_pieces.proofs.Names.{subst, List, ElementValue, Visits, rules, ◌≡◌, ◌<◌, ◌∙◌, ap, length, strict}
 use Rattle.syslog_pieces.proofs.TextLemmas.Runs.{chars_nonempty}
-use Rattle.syslog_pieces.proofs.StructuredDataLemmas.Walk.{items_none, some_forgiving, visits_along}
+use Rattle.syslog_pieces.proofs.StructuredDataLemmas.Walk.{items_none, some_forgiving}
 use Rattle.syslog_pieces.proofs.StructuredDataLemmas.Elements.{no_forgiving_list}
 use Rattle.syslog_pieces.proofs.structured_data.line_list.visit_forgiving_list.Goals as goal
 
@@ -20,5 +20,6 @@ pub returns-then-is_empty-clause-visited : goal.returns-then-is_empty-clause-vis
 returns-then-is_empty-clause-visited g c =
     let (vs, f, e) = c.visit_items.ensures.list in
     let no_items = items_none _ vs f (rw (← c.text.ensures) at c.visit_items.ensures.text) (search rules) in
-    visits_along g.V.ElementVisitor.was_given c.args.visitor.now c.visit_items.new.visitor _ _
+    let given = g.V.ElementVisitor.was_given in
+    subst (λ (es : List ElementValue). Visits given c.args.visitor.now es c.visit_items.new.visitor)
     (e ∙ ap strict no_items) c.visit_items.ensures.visited

@@ -1,4 +1,4 @@
-use Rattle.syslog_pieces.proofs.Names.{rules, refl, sym, ap, ◌∙◌, ◌+◌, ℕ, full_element, and_from, map, Some}
+use Rattle.syslog_pieces.proofs.Names.{◌also◌, rules, refl, sym, ap, ◌∙◌, ◌+◌, ℕ, full_element, and_from, map, Some}
 use Rattle.syslog_pieces.proofs.StructuredDataLemmas.Elements.{strict_some}
 use Rattle.syslog_pieces.proofs.StructuredDataLemmas.Walk.{are_full_items, gone_none, gone_all, gone_within, gone_on}
 use Rattle.syslog_pieces.proofs.StructuredDataLemmas.Walk.{gone_tallied, gone_visits}
@@ -40,9 +40,7 @@ overflow_add-tally-in-Some g c =
 
 pub elements-preserved : goal.elements-preserved
 elements-preserved g c =
-    let (w, some) = c.in-Some.ensures.walked in (
-      w.utf8,
-      gone_on _ _ _ c.elements.invariant.1 w _ refl (w.front.is, some) refl
-          (ap (λ (n : ℕ). c.elements.tally.params + n) c.params_len.ensures) refl (λ all. and_from _ _ all refl)
-          c.element.ensures,
-    )
+    let (w, some) = c.in-Some.ensures.walked in
+    let params = ap (λ (n : ℕ). c.elements.tally.params + n) c.params_len.ensures in
+    w.utf8 also gone_on _ _ _ c.elements.invariant.1 w _ refl (w.front.is, some) refl params refl
+    (λ all. and_from _ _ all refl) c.element.ensures

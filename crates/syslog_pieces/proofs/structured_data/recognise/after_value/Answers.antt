@@ -11,8 +11,6 @@ returns-in_err-more c =
     let n = meets_none _ _ _ _ to_end c.in_err-more.ensures in search rules
 
 pub units-preserved : goal.units-preserved
-units-preserved c = (
-  c.in_ok-more.ensures.0,
-  value_on unescaped_plain c.split_run.ensures c.units.invariant.1 _ c.in_ok-more.ensures.1.1 _
-      c.in_ok-more.ensures.1.2,
-)
+units-preserved c =
+    let (utf8, u) = c.in_ok-more.ensures in
+    (utf8, value_on unescaped_plain c.split_run.ensures c.units.invariant.1 _ u.1 _ u.2)

@@ -6,11 +6,7 @@ use Rattle.syslog_pieces.proofs.structured_data.recognised.ElementList.elements.
 pub invariant_of-result : goal.invariant_of-result
 invariant_of-result c =
     let list = c.args.self.now in
-    record {
-      utf8 = list.utf8;
-      is_dead = dead_bytes list.text.now list.utf8;
-      meaning = list.meaning;
-    }
+    record { utf8 = list.utf8; is_dead = dead_bytes list.text.now list.utf8; meaning = list.meaning }
 
 pub returns : goal.returns
 returns c = ap strict (items_same _ _)

@@ -11,11 +11,9 @@ items-init c = (c.args.self.now.utf8, c.args.self.now.is_dead, (c.args.self.now.
 pub invariant_of-self : goal.invariant_of-self
 invariant_of-self c =
     let w = c.in-Ok.ensures.walked in
-    record {
-      utf8 = w.utf8;
-      is_dead = dead_suffix _ w.front.piece _ c.items.dead w.front.whole c.items.invariant.1;
-      meaning = (items_less c.items.invariant.2.0 (element_item _ _ _ w.front)).0;
-    }
+    let dead = dead_suffix _ w.front.piece _ c.items.dead w.front.whole c.items.invariant.1 in
+    let (k, e) = items_less c.items.invariant.2.0 (element_item _ _ _ w.front) in
+    record { utf8 = w.utf8; is_dead = dead; meaning = k }
 
 pub returns-in-Ok-clause-steps : goal.returns-in-Ok-clause-steps
 returns-in-Ok-clause-steps c =

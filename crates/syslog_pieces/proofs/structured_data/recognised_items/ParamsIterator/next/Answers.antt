@@ -11,11 +11,9 @@ returns-in_err-found-clause-steps c =
     absurd (not_inside c.args.self.now.meaning c.in_default.ensures c.in_err-found.ensures)
 
 pub invariant_of-self : goal.invariant_of-self
-invariant_of-self c = record {
-  utf8 = c.past_separator-self.utf8;
-  meaning = (params_less c.args.self.now.meaning c.in_default.ensures c.in_ok-found.ensures
-      c.past_separator-self.ensures).0;
-}
+invariant_of-self c =
+    let m = params_less c.args.self.now.meaning c.in_default.ensures c.in_ok-found.ensures c.past_separator-self.ensures in
+    record { utf8 = c.past_separator-self.utf8; meaning = m.0 }
 
 pub returns-clause-steps : goal.returns-clause-steps
 returns-clause-steps c =
@@ -24,5 +22,4 @@ returns-clause-steps c =
     e ∙ ap (λ (ps : List (Text × Text)). param_value (λ s. shown s) c.in_ok-found.found ∷ ps) (inside_same k _)
 
 pub returns-clause-goes : goal.returns-clause-goes
-returns-clause-goes c =
-    let h = returns-clause-steps c in search rules
+returns-clause-goes c = let h = returns-clause-steps c in search rules
