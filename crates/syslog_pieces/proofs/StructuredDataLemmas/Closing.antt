@@ -1,19 +1,18 @@
 -- The walk over an element: its steps, why a bracket inside a value decides it, and a value cut by bytes.
 use Rattle.syslog_pieces.proofs.Names.{append_cancel_right, IsUtf8-from_ascii, is_unescaped_char, is_not_whitespace, []}
-use Rattle.syslog_pieces.proofs.Names.{chars_past_char, encode_utf8_all, encodes-append, AllByRecursion, IsCharBoundary}
-use Rattle.syslog_pieces.proofs.Names.{rows_none_here, length-append, encodes-chars, row_none_here, IsUtf8-append, ◌++◌}
-use Rattle.syslog_pieces.proofs.Names.{is_inert_char, is_name_char, is_open_char, ElementValue, mapped_front, param_row}
-use Rattle.syslog_pieces.proofs.Names.{mapped_meets, append_assoc, element_row, no_front_no, more_before, each_behind}
-use Rattle.syslog_pieces.proofs.Names.{opening_row, IsValueUnit, byte_count, element_of, meets_none, meets_here, single}
-use Rattle.syslog_pieces.proofs.Names.{inside_row, name_alone, quoted_row, nil_front, SplitsRun, more_here, rows_join}
-use Rattle.syslog_pieces.proofs.Names.{no_mapped, row_first, last_char, unit_text, more_goes, and_parts, eqb_tells, ◌≡◌}
-use Rattle.syslog_pieces.proofs.Names.{nat_tests, start_row, id_alone, row_goes, false_is, TextUnit, param_of, flat_map}
-use Rattle.syslog_pieces.proofs.Names.{is_blank, meets_on, each_map, tail_row, row_head, exactly, opening, closing, ◌≢◌}
-use Rattle.syslog_pieces.proofs.Names.{escaped, IsValue, element, NoFront, ◌also◌, row_of, ◌then◌, begins, get_or, refl}
-use Rattle.syslog_pieces.proofs.Names.{length, IsUtf8, Values, inside, quoted, IsDead, IsTrue, start, value, param, ◌<◌}
-use Rattle.syslog_pieces.proofs.Names.{Meets, arith, chars, Class, Front, false, subst, take, Text, Each, pair, zero, ℕ}
-use Rattle.syslog_pieces.proofs.Names.{Bool, true, List, ◌⊎◌, inl, inr, ◌∷◌, sym, ◌∙◌, ◌≤◌, ◌+◌, ◌-◌, Row, min, suc, ap}
-use Rattle.syslog_pieces.proofs.Names.{map, ◌↔◌}
+use Rattle.syslog_pieces.proofs.Names.{chars_past_char, encodes-append, AllByRecursion, IsCharBoundary, rows_none_here}
+use Rattle.syslog_pieces.proofs.Names.{length-append, encodes-chars, row_none_here, IsUtf8-append, is_inert_char, start}
+use Rattle.syslog_pieces.proofs.Names.{is_name_char, is_open_char, ElementValue, mapped_front, mapped_meets, byte_count}
+use Rattle.syslog_pieces.proofs.Names.{append_assoc, element_row, no_front_no, more_before, each_behind, opening_row, ℕ}
+use Rattle.syslog_pieces.proofs.Names.{IsValueUnit, element_of, meets_none, meets_here, inside_row, name_alone, exactly}
+use Rattle.syslog_pieces.proofs.Names.{quoted_row, param_row, nil_front, SplitsRun, more_here, rows_join, no_mapped, ap}
+use Rattle.syslog_pieces.proofs.Names.{row_first, last_char, unit_text, more_goes, and_parts, eqb_tells, nat_tests, ◌≡◌}
+use Rattle.syslog_pieces.proofs.Names.{start_row, id_alone, row_goes, false_is, TextUnit, param_of, flat_map, is_blank}
+use Rattle.syslog_pieces.proofs.Names.{meets_on, each_map, tail_row, row_head, opening, closing, escaped, IsValue, ◌++◌}
+use Rattle.syslog_pieces.proofs.Names.{element, NoFront, single, ◌also◌, row_of, ◌then◌, begins, get_or, length, IsUtf8}
+use Rattle.syslog_pieces.proofs.Names.{Values, inside, quoted, IsDead, IsTrue, value, param, Meets, arith, chars, Class}
+use Rattle.syslog_pieces.proofs.Names.{Front, false, subst, refl, take, Text, Each, pair, zero, Bool, true, List, ◌≢◌}
+use Rattle.syslog_pieces.proofs.Names.{◌<◌, ◌⊎◌, inl, inr, ◌∷◌, sym, ◌∙◌, ◌≤◌, ◌+◌, ◌-◌, Row, min, suc, map, ◌↔◌}
 use Rattle.std.specs.Char.{encode_utf8}
 use Rattle.syslog_pieces.proofs.PieceLemmas.Class.{row_cons, row_none_later, meets_none_on, rows_go, each_right}
 use Rattle.syslog_pieces.proofs.StructuredDataLemmas.Elements.{space_is_no_close, no_unit_at_end, no_quote_unit}

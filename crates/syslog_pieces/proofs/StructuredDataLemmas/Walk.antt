@@ -1,22 +1,21 @@
 -- The walk over lists: where an element ends, what is left, and the counts; and the list of RFC 3164.
 use Rattle.syslog_pieces.proofs.Names.{append_cancel_right, length-le-encodes, IsDeterministic, nil_from_length, length}
 use Rattle.syslog_pieces.proofs.Names.{encode_utf8_all, joined_elements, flat_map-append, length-append, row_none_here}
-use Rattle.syslog_pieces.proofs.Names.{sum_by-append, elements_text, optional_some, optional_none, encodes-chars, Class}
-use Rattle.syslog_pieces.proofs.Names.{has_read_more, full_element, IsDashBefore, rfc3164_list, BeginsNoList, start_row}
-use Rattle.syslog_pieces.proofs.Names.{append_assoc, ElementValue, is_name_char, element_text, element_seen, inside_row}
-use Rattle.syslog_pieces.proofs.Names.{one_value-is, is_open_char, opening_row, list_before, element_row, exactly_det}
-use Rattle.syslog_pieces.proofs.Names.{more_before, no_front_no, sum_by-cons, elements_or, param_text, meets_none, Some}
-use Rattle.syslog_pieces.proofs.Names.{name_alone, OneMeaning, element_of, is_id_char, no_many_no, row_pieces, row_goes}
-use Rattle.syslog_pieces.proofs.Names.{append-nil, byte_count, front_same, many_cons, many_none, rows_step, and_parts}
-use Rattle.syslog_pieces.proofs.Names.{list_here, list_goes, more_goes, row_first, more_here, many_here, one_value, ◌≡◌}
-use Rattle.syslog_pieces.proofs.Names.{forgiving, bracketed, ∥∥₁_elim, row_head, param_of, is_blank, optional, DashRule}
-use Rattle.syslog_pieces.proofs.Names.{many_det, flat_map, some_run, id_alone, meets_on, tail_row, IsWalked, opening, ℕ}
-use Rattle.syslog_pieces.proofs.Names.{closing, NoFront, exactly, element, row_det, no_more, no_list, IsAlone, HasRead}
-use Rattle.syslog_pieces.proofs.Names.{IsUtf8, IsTrue, texted, IsMany, strict, Visits, Values, behind, inside, quoted}
-use Rattle.syslog_pieces.proofs.Names.{IsDead, Leaves, row_of, ◌then◌, ◌also◌, begins, Walked, Option, sum_by, heads}
-use Rattle.syslog_pieces.proofs.Names.{false, value, subst, arith, start, Front, param, Meets, shown, chars, None, List}
-use Rattle.syslog_pieces.proofs.Names.{◌++◌, refl, Text, many, dash, Bool, ◌&&◌, item, true, ◌<◌, inl, inr, ◌∷◌, sym}
-use Rattle.syslog_pieces.proofs.Names.{◌∙◌, Row, ◌↔◌, ◌+◌, ◌≤◌, ◌⊎◌, map, run, [], ap}
+use Rattle.syslog_pieces.proofs.Names.{elements_text, optional_some, optional_none, encodes-chars, has_read_more, Class}
+use Rattle.syslog_pieces.proofs.Names.{full_element, IsDashBefore, rfc3164_list, BeginsNoList, append_assoc, inside_row}
+use Rattle.syslog_pieces.proofs.Names.{ElementValue, is_name_char, element_text, element_seen, one_value-is, param_text}
+use Rattle.syslog_pieces.proofs.Names.{is_open_char, opening_row, list_before, element_row, more_before, no_front_no, ℕ}
+use Rattle.syslog_pieces.proofs.Names.{elements_or, meets_none, name_alone, OneMeaning, element_of, is_id_char, opening}
+use Rattle.syslog_pieces.proofs.Names.{no_many_no, row_pieces, append-nil, byte_count, front_same, start_row, many_cons}
+use Rattle.syslog_pieces.proofs.Names.{many_none, rows_step, and_parts, list_here, list_goes, more_goes, row_first, ◌≡◌}
+use Rattle.syslog_pieces.proofs.Names.{more_here, many_here, one_value, forgiving, bracketed, row_goes, ∥∥₁_elim, heads}
+use Rattle.syslog_pieces.proofs.Names.{row_head, param_of, is_blank, optional, DashRule, many_det, flat_map, some_run}
+use Rattle.syslog_pieces.proofs.Names.{id_alone, meets_on, tail_row, IsWalked, closing, NoFront, exactly, element, Some}
+use Rattle.syslog_pieces.proofs.Names.{no_more, no_list, IsAlone, HasRead, IsUtf8, IsTrue, texted, IsMany, strict, None}
+use Rattle.syslog_pieces.proofs.Names.{Visits, Values, behind, inside, quoted, IsDead, Leaves, row_of, ◌then◌, ◌also◌}
+use Rattle.syslog_pieces.proofs.Names.{begins, Walked, Option, false, value, subst, arith, start, Front, param, Meets}
+use Rattle.syslog_pieces.proofs.Names.{shown, chars, List, ◌++◌, refl, Text, many, dash, Bool, ◌&&◌, item, true, ◌<◌}
+use Rattle.syslog_pieces.proofs.Names.{inl, inr, ◌∷◌, sym, ◌∙◌, Row, ◌↔◌, ◌+◌, ◌≤◌, ◌⊎◌, map, run, [], ap}
 use mathlib.Core.HLevel.{Σ_prop, ⊥_prop}
 use Rattle.std.proofs.lemmas.List.Sums.{sum_by_push}
 use Rattle.syslog_pieces.specs.StructuredData.Recognised.{OneInside-prop, OneItems-prop, params_set, items_set}
@@ -33,7 +32,7 @@ use Rattle.syslog_pieces.proofs.StructuredDataLemmas.Elements.{no_blanks, param_
 use Rattle.syslog_pieces.proofs.PieceLemmas.Lists.{list_cons, more_cons, list_parts, many_parts, more_parts, some_parts}
 use Rattle.syslog_pieces.proofs.TextLemmas.Runs.{chars_empty, bytes}
 use Rattle.syslog_pieces.proofs.PieceLemmas.Class.{list_before_steady, texted_steady, closed_steady, mapped_alone}
-use Rattle.syslog_pieces.proofs.PieceLemmas.Class.{front_longer, row_alone, IsSteady, row_cons, front_of}
+use Rattle.syslog_pieces.proofs.PieceLemmas.Class.{front_longer, row_alone, row_cons, front_of}
 
 -- ---- elements with a parameter
 pub full_is_element : {t q : Text} {v : ElementValue} → Front full_element t q v → Front element t q v
@@ -477,7 +476,8 @@ module _ (C : Class) (view : List C.Value → List ElementValue) {V : Type 0}
 
       -- an element more, whose mark is that of the walk and of the list
       pub gone_on : {tally' : Tally} {new : V} (v : C.Value)
-          → view (s.vs ++ (v ∷ [])) ≡ view s.vs ++ (element_seen w.element ∷ []) → C.Is k.front.piece (shown w.rest) v → tally'.elements ≡ tally.elements + 1
+          → view (s.vs ++ (v ∷ [])) ≡ view s.vs ++ (element_seen w.element ∷ []) → C.Is k.front.piece (shown w.rest) v
+          → tally'.elements ≡ tally.elements + 1
           → tally'.params ≡ tally.params + length (element_seen w.element).params → tally'.end ≡ w.rest
           → (IsTrue tally'.prints → IsTrue ((tally.prints && w.prints) && strict))
           → Visits given mid (element_seen w.element ∷ []) new

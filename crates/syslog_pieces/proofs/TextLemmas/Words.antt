@@ -10,8 +10,8 @@ use Rattle.syslog_pieces.proofs.Names.{arith, front_same, digit_glyph, digit_val
 use Rattle.syslog_pieces.proofs.Names.{append_assoc, encode_utf8_all, IsDeterministic, IsCanonicalHost, IsCanonicalWord}
 use Rattle.syslog_pieces.proofs.Names.{rules, chars, OkIff, Front, colon, Names, false, IfSome, IsTrue, negsuc, lt-ltb}
 use Rattle.syslog_pieces.proofs.Names.{take-append_seam, drop-append_seam, IsAscii, is_not_whitespace, decimal_nonempty}
-use Rattle.syslog_pieces.proofs.Names.{IsCharBoundary-at_seam, encodes-IsAscii, IsUtf8-from_ascii, digits_value-decimal}
-use Rattle.syslog_pieces.proofs.Names.{chars-append, IsUtf8-take, digits_value, append-nil, decimal_digit, IsAscii-cons}
+use Rattle.syslog_pieces.proofs.Names.{encodes-IsAscii, IsUtf8-from_ascii, digits_value-decimal}
+use Rattle.syslog_pieces.proofs.Names.{chars-append, digits_value, append-nil, decimal_digit, IsAscii-cons}
 use Rattle.syslog_pieces.proofs.Names.{encodes-append, ParsesUnsigned, is_ascii_digit, IsCanonicalTag, flat_map-append}
 use Rattle.syslog_pieces.proofs.Names.{tag_word, run_same, is_blank, each_map, eqb-true, eqb_tells, take_more, flat_map}
 use Rattle.syslog_pieces.proofs.Names.{[], ℤ, same_from_push, result_ok, digit_value_digit, IsSmallNumber}

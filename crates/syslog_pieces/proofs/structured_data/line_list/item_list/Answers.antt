@@ -1,4 +1,4 @@
-use Rattle.syslog_pieces.proofs.Names.{rules, arith, ◌∙◌, ◌<◌, length, strict}
+use Rattle.syslog_pieces.proofs.Names.{rules, arith, ◌∙◌, strict}
 use Rattle.syslog_pieces.proofs.StructuredDataLemmas.Walk.{own_items, own_printed, some_joined}
 use Rattle.syslog_pieces.proofs.structured_data.line_list.item_list.Goals as goal
 

@@ -1,4 +1,4 @@
-use Rattle.syslog_pieces.proofs.Names.{subst, List, ElementValue, Visits, rules, ◌≡◌, ◌<◌, ◌∙◌, ap, length, strict}
+use Rattle.syslog_pieces.proofs.Names.{subst, List, ElementValue, Visits, rules, ◌∙◌, ap, strict}
 use Rattle.syslog_pieces.proofs.TextLemmas.Runs.{chars_nonempty}
 use Rattle.syslog_pieces.proofs.StructuredDataLemmas.Walk.{items_none, some_forgiving}
 use Rattle.syslog_pieces.proofs.StructuredDataLemmas.Elements.{no_forgiving_list}

@@ -1,6 +1,5 @@
-use Rattle.syslog_pieces.proofs.Names.{ElementValue, MatchResult, start_row, IsErrAnd, eqb-true, NoFront, element, refl}
-use Rattle.syslog_pieces.proofs.Names.{length, Result, no_row, IsDead, rules, arith, subst, sym, ◌≡◌, ◌+◌, ◌≤◌, Err, []}
-use Rattle.syslog_pieces.proofs.Names.{inl, Ok, ℕ}
+use Rattle.syslog_pieces.proofs.Names.{ElementValue, start_row, eqb-true, length, no_row, rules, arith, subst, refl, []}
+use Rattle.syslog_pieces.proofs.Names.{sym, ◌+◌, ◌≤◌, inl}
 use Rattle.syslog_pieces.proofs.StructuredDataLemmas.Closing.{byte_count_slice, dead_suffix, no_start}
 use Rattle.syslog_pieces.proofs.StructuredDataLemmas.Walk.{bare_inside, bare_walked, at_first, not_opened, value_passes}
 use Rattle.syslog_pieces.proofs.StructuredDataLemmas.Walk.{not_closed, not_separated, ends, ends_walked, goes_on}
@@ -17,9 +16,9 @@ new-requires g c = (_, ([], bare_inside c.in-Some-literal.ensures, refl))
 
 pub returns-in-Some-literal-clause-walked : goal.returns-in-Some-literal-clause-walked
 returns-in-Some-literal-clause-walked g c =
+    let is = c.new.ensures _ [] (bare_inside c.in-Some-literal.ensures) in
     bare_walked _ _ c.in-Some.ensures c.in-Some-nonempty_run.ensures c.gap-stands.ensures.blanks
-    c.in-Some-literal.ensures (search rules) (search rules) (search rules) (c.new.ensures _ [] (bare_inside c.in-Some-literal.ensures))
-    (λ same. eqb-true _ _ same)
+    c.in-Some-literal.ensures (search rules) (search rules) (search rules) is (λ same. eqb-true _ _ same)
 
 pub returns-in-Some-literal-clause-noted : goal.returns-in-Some-literal-clause-noted
 returns-in-Some-literal-clause-noted g c =

@@ -1,4 +1,4 @@
-use Rattle.syslog_pieces.proofs.Names.{rules, List, Option, Some, None, IfSome, length, ap, sym, ◌∙◌, many, item}
+use Rattle.syslog_pieces.proofs.Names.{rules, List, length, ap, sym, ◌∙◌, many, item}
 use Rattle.syslog_pieces.proofs.Names.{many_det, ElementValue, sum_by, elements_text}
 use Rattle.syslog_pieces.proofs.StructuredDataLemmas.Elements.{item_det, items_are, left_out}
 use Rattle.syslog_pieces.proofs.StructuredDataLemmas.Walk.{one_meaning}

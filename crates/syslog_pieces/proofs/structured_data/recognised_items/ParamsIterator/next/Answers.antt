@@ -12,7 +12,8 @@ returns-in_err-found-clause-steps c =
 
 pub invariant_of-self : goal.invariant_of-self
 invariant_of-self c =
-    let m = params_less c.args.self.now.meaning c.in_default.ensures c.in_ok-found.ensures c.past_separator-self.ensures in
+    let m = params_less c.args.self.now.meaning c.in_default.ensures c.in_ok-found.ensures
+    c.past_separator-self.ensures in
     record { utf8 = c.past_separator-self.utf8; meaning = m.0 }
 
 pub returns-clause-steps : goal.returns-clause-steps
