@@ -1,13 +1,13 @@
 -- Numbers and names as process ids, and what is read back of them.
-use Rattle.syslog_pieces.proofs.Names.{◌≡◌, ◌≢◌, pos, ◌<◌, ◌^◌, ◌⊎◌, inl, inr, w32, ◌∷◌, Err, sym, ◌∙◌, PID, suc, not}
+use Rattle.syslog_pieces.proofs.Names.{◌≡◌, pos, ◌<◌, ◌⊎◌, inl, inr, w32, ◌∷◌, Err, sym, ◌∙◌, PID, suc, not}
 use Rattle.syslog_pieces.proofs.Names.{ℕ, signed_digits_value, length-le-encodes, is_not_whitespace, IsCanonicalProcess}
 use Rattle.syslog_pieces.proofs.Names.{ℤ, get_or, Result, IsUtf8, IsAscii, ne_eqb, NoFront, and_from, list_all, decimal}
-use Rattle.syslog_pieces.proofs.Names.{List, IsNumeral, cases_eq, cases_lt, IsI32Text, FitsSigned, nat_tests, and_parts}
+use Rattle.syslog_pieces.proofs.Names.{List, IsNumeral, cases_eq, cases_lt, IsI32Text, FitsSigned, and_parts}
 use Rattle.syslog_pieces.proofs.Names.{[], Ok, ap, ◌↔◌, length, digits_value, ParsesSigned, chars-IsAscii}
-use Rattle.syslog_pieces.proofs.Names.{if◌then◌else◌, signed_decimal, Some, rules, arith, chars, Front, ProcId, negsuc}
+use Rattle.syslog_pieces.proofs.Names.{if◌then◌else◌, signed_decimal, Some, arith, chars, Front, ProcId, negsuc}
 use Rattle.syslog_pieces.proofs.Names.{lt-ltb, Option, IfSome, IsTrue, None, refl, Text, Each, word, Name, neg_ℤ, true}
-use Rattle.syslog_pieces.proofs.Names.{false, Bool, ◌&&◌, Ends, heads, is_ascii_digit, decimal-digits_value}
-use Rattle.syslog_pieces.proofs.Names.{without_leading_sign, digits_value-decimal, cases_Bool, IsAscii-cons, IsBareWord}
+use Rattle.syslog_pieces.proofs.Names.{false, Bool, ◌&&◌, Ends, is_ascii_digit, decimal-digits_value}
+use Rattle.syslog_pieces.proofs.Names.{without_leading_sign, IsAscii-cons, IsBareWord}
 use Rattle.syslog_pieces.proofs.Names.{process_word, NamesProcess, process_text, IsDeterministic, encode_utf8_all}
 use Rattle.syslog_pieces.proofs.Names.{IsAscii-nil, IsBoundedProcess, IsCanonicalWord, LeadsBare}
 use Rattle.std.proofs.lemmas.Fmt.{decimal_is_IsNumeral}

@@ -1,13 +1,13 @@
 -- Civil fields: which are in range, what they count to, and where a fold is.
-use Rattle.syslog_pieces.proofs.Names.{◌≡◌, ℤ, suc, pos, ◌+◌, ◌-◌, ◌*◌, ◌/◌, ◌%◌, ◌<◌, ◌≤◌, ◌≢◌, ap, ◌∙◌, sym, Gap, ⊤}
+use Rattle.syslog_pieces.proofs.Names.{◌≡◌, ℤ, suc, pos, ◌+◌, ◌-◌, ◌*◌, ◌<◌, ◌≤◌, ◌≢◌, ap, ◌∙◌, sym, Gap, ⊤}
 use Rattle.syslog_pieces.proofs.Names.{ℕ, arith, AreCivil, neg_ℤ, DateTime, Offset, fields_of, Option, TimeZone, int_lt}
 use Rattle.syslog_pieces.proofs.Names.{zero, signed_arith, same_datetime, if◌then◌else◌, int_div_euclid, int_rem_euclid}
 use Rattle.syslog_pieces.proofs.Names.{negsuc, nat_tests, civil_nanos, instant_of, fields_text, Unambiguous, IsDateTime}
-use Rattle.syslog_pieces.proofs.Names.{rules, ◌+ℤ◌, ◌-ℤ◌, ◌≤ℤ◌, refl, ◌<ℤ◌, subst, Bool, true, false, Some, None, Fold, ◌*ℤ◌}
+use Rattle.syslog_pieces.proofs.Names.{rules, ◌+ℤ◌, ◌-ℤ◌, ◌≤ℤ◌, refl, ◌<ℤ◌, Bool, true, false, Some, None, Fold, ◌*ℤ◌}
 use Rattle.syslog_pieces.proofs.Names.{unsigned_abs, nanos_of_seconds, days_from_civil-day_count, day_count-day_of_year}
 use Rattle.syslog_pieces.proofs.Names.{IsTimestampNanos, IsOffsetSeconds, CivilFields, nanos_of_fields, AmbiguousOffset}
 use Rattle.jiff.specs.Words.{IsCivilNanos, IsEpochDay, IsYear, ambiguous_at}
-use Rattle.jiff_core.specs.Calendar.{days_of_months, days_of_years, days_from_civil, days_in_month, days_in_year}
+use Rattle.jiff_core.specs.Calendar.{days_of_months, days_of_years, days_from_civil, days_in_year}
 use Rattle.jiff_core.specs.Calendar.{day_count, IsCivilDate}
 use Rattle.jiff_core.proofs.CalendarLemmas.{days_of_months_more, days_of_months_all, days_of_months-zero}
 use Rattle.jiff_core.proofs.CalendarLemmas.{day_count-later_year, day_count-lt_year, day_count-min}
@@ -20,7 +20,6 @@ use Rattle.jiff_core.proofs.DateTimeLemmas.{civil_nanos-parts, civil_nanos_range
 use Rattle.jiff_tz.specs.PosixReader.{match_some}
 use Rattle.jiff_tz.specs.declared.posix.Dst.{Dst}
 use Rattle.jiff_tz.specs.declared.posix.TimeZone.{TimeZone as PosixZone}
-use Rattle.jiff_tz.specs.declared.timezone.TimeZone.TheVariants.{UTC, Unknown, Fixed, Posix as InPosix, Tzif as InTable}
 use Rattle.jiff_tz.specs.declared.tzif.Tzif.{Tzif}
 use Rattle.jiff_tz.specs.declared.tzif.transition.Transition.{Transition}
 use Rattle.syslog_pieces.specs.Timestamp.Printed.{months_within, place_fields, civil_fields, printed_stamp}

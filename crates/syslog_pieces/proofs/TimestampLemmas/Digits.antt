@@ -1,13 +1,13 @@
 -- The bytes, characters and decimals of a timestamp.
 use Rattle.syslog_pieces.proofs.Names.{◌≡◌, match_map, nat_tests, fraction, stamp_row, eqb_tells, prefix_len, no_either}
-use Rattle.syslog_pieces.proofs.Names.{ℕ, ◌%◌, ◌<◌, Row, suc, ◌+◌, ◌*◌, ◌^◌, ◌∙◌}
+use Rattle.syslog_pieces.proofs.Names.{common_steps, ℕ, ◌%◌, ◌<◌, Row, suc, ◌+◌, ◌*◌, ◌^◌, ◌∙◌}
 use Rattle.syslog_pieces.proofs.Names.{◌-◌, ◌∷◌, ◌≤◌, sym, Bor, inl, inr, ◌/◌, pad2, pad4, Each, join, sign, Ends, pad3}
 use Rattle.syslog_pieces.proofs.Names.{List, take, drop, refl, Text, Front, after, ◌&&◌, Bool, true, false, ◌++◌, subst}
 use Rattle.syslog_pieces.proofs.Names.{[], IsCharBoundary, no_spaced_piece, spaced_front, is_ascii_digit, Rfc3339Fields}
 use Rattle.syslog_pieces.proofs.Names.{length, get_or, IsAscii, NoFront, exactly, IsAlone, Divides, each_map, decimals}
 use Rattle.syslog_pieces.proofs.Names.{Option, ap, chars, IsUtf8, Class, nat_lt, Values, letter, offset, ◌also◌, is_dot}
 use Rattle.syslog_pieces.proofs.Names.{arith, ReadsBytes, numeric_row, stamp_text, each_append, cases_Bool, second_kind}
-use Rattle.syslog_pieces.proofs.Names.{take_all, encode_utf8_all, is_not_whitespace, mul-le-mul_right, take-append-drop}
+use Rattle.syslog_pieces.proofs.Names.{encode_utf8_all, is_not_whitespace, mul-le-mul_right, take-append-drop}
 use Rattle.jiff_fmt.proofs.ReaderLemmas.{fraction_value-drop, tenth}
 use Rattle.jiff_fmt.specs.Reader.{fraction_value}
 use Rattle.syslog_pieces.specs.Timestamp.Rfc3339.{pair}
@@ -36,10 +36,7 @@ module _ (C : Class) (alone : IsAlone C) (ascii : (p q : Text) (v : C.Value) →
 
 -- the first byte, and the others
 pub first_rest : (bs : List ℕ) (b : ℕ) → 1 ≤ length bs → get_or bs 0 0 ≡ b → bs ≡ b ∷ take (length bs - 1) (drop 1 bs)
-first_rest [] b h e = absurd (omega arith)
-first_rest (x ∷ bs) b h e =
-    let same : length (x ∷ bs) - 1 ≡ length bs = omega arith in
-    rw (same, e) (ap (λ (y : List ℕ). b ∷ y) (sym (take_all (length bs) bs (omega arith))))
+first_rest bs b h e = grind (arith, common_steps)
 
 -- a reader of what follows a byte
 module _ {X : Type 0} (c : ℕ) (C : Class) (view : X → C.Value) (bs rest : List ℕ) (r : Option (X × Bor (List ℕ)))
@@ -118,8 +115,7 @@ offset_only p q s (inr (vs, h, e)) =
     arith)) also tt) p q vs h
 
 letter_only : HasOnly (letter 84)
-letter_only p q v (inl e) = rw e (refl, tt)
-letter_only p q v (inr e) = rw e (refl, tt)
+letter_only p q v h = elim h [ inl e ↦ rw e (refl, tt) | inr e ↦ rw e (refl, tt) ]
 
 -- each character of a text is one from `+` to `z`
 pub stamp_characters : (p q : Text) (w : Rfc3339Fields) → stamp_text.Is p q w → Each is_stamp_character p

@@ -1,17 +1,17 @@
 -- Dates with the name of a month, their timestamps in a zone, and the timestamps of RFC 3164.
 use Rattle.syslog_pieces.proofs.Names.{◌≡◌, either_det, begins_with, exactly_det, begins_more, second_kind, MatchOption}
-use Rattle.syslog_pieces.proofs.Names.{nat_eq, nat_lt, get_or, length, row_det, Option, IsUtf8, Begins, Values, number}
+use Rattle.syslog_pieces.proofs.Names.{nat_eq, get_or, length, row_det, Option, Begins, Values}
 use Rattle.syslog_pieces.proofs.Names.{IsAscii, year_row, fields_of, some_run, priority, is_blank, unwrap_or, IsStampAt}
 use Rattle.syslog_pieces.proofs.Names.{NoFront, day_row, run_det, ◌-◌, run_same, row_head, DateTime, TimeZone, IsAnswer}
 use Rattle.syslog_pieces.proofs.Names.{ℕ, ◌<◌, ◌≤◌, ◌∷◌, sym, ◌∙◌, map, inl, drop, Some, [], ap, inr, Row, pos, Gap, ℤ}
-use Rattle.syslog_pieces.proofs.Names.{slice_get, and_parts, nat_tests, first_kind, row_pieces, mapped_det, month_date}
+use Rattle.syslog_pieces.proofs.Names.{slice_get, nat_tests, first_kind, row_pieces, mapped_det, month_date}
 use Rattle.syslog_pieces.proofs.Names.{clock_row, MonthDate, ◌+◌, rest_same, no_mapped, rows_join, no_either, rows_step}
 use Rattle.syslog_pieces.proofs.Names.{ClockStamp, AmbiguousOffset, OffsetTimestamp, AllDeterministic, nanos_of_seconds}
 use Rattle.syslog_pieces.proofs.Names.{front_same, IsAscii-cons, some_run_det, mapped_front, begins_apart}
 use Rattle.syslog_pieces.proofs.Names.{None, common_steps, same_datetime, rfc3164_stamp, agree_below_at, is_ascii_digit}
-use Rattle.syslog_pieces.proofs.Names.{refl, Text, ◌-ℤ◌, Fold, ◌&&◌, Bool, true, List, ◌++◌, subst, false, arith}
-use Rattle.syslog_pieces.proofs.Names.{rows_none_here, IsStampOfClock, IsCharBoundary, IsDeterministic, rows_none_later}
-use Rattle.syslog_pieces.proofs.Names.{chars, Front, month, Class, colon, Apart, ◌also◌, Offset, Dating, mapped}
+use Rattle.syslog_pieces.proofs.Names.{refl, Text, ◌-ℤ◌, Fold, Bool, true, List, ◌++◌, subst, arith}
+use Rattle.syslog_pieces.proofs.Names.{rows_none_here, IsStampOfClock, IsDeterministic, rows_none_later}
+use Rattle.syslog_pieces.proofs.Names.{Front, month, Class, colon, Apart, ◌also◌, Offset, Dating, mapped}
 use Rattle.syslog_pieces.proofs.Names.{Unambiguous, CivilFields, no_front_no, IsMonthStamp, header_stamp, lowercase_is}
 use Rattle.std.specs.Char.{to_ascii_lowercase}
 use Rattle.syslog_pieces.proofs.Names.{IsAlone, take}
@@ -25,13 +25,13 @@ use Rattle.syslog_pieces.specs.Timestamp.MonthDate.{yearless_date, dated_row, da
 use Rattle.syslog_pieces.specs.Timestamp.Rfc3164.{ShowsYearless}
 use Rattle.syslog_pieces.specs.Bodies.Clock.{zone_of, IsStampOfFields, civil_of, year_of}
 use Rattle.syslog_pieces.specs.Timestamp.Zone.{earlier, IsStampOf, IsStampInGap, IsStampInAny}
-use Rattle.syslog_pieces.proofs.TextLemmas.Runs.{ascii_ahead, one_ascii, behind_cut, behind_is, behind_chars}
+use Rattle.syslog_pieces.proofs.TextLemmas.Runs.{one_ascii}
 use Rattle.syslog_pieces.proofs.PieceLemmas.Class.{all_joined, rest_det, optional_det, unique_division, rows_split}
 use Rattle.syslog_pieces.proofs.PieceLemmas.Lists.{each_begins}
 use Rattle.syslog_pieces.proofs.PriLemmas.{priority_det}
 use Rattle.syslog_pieces.proofs.TextLemmas.Words.{number_det}
 use Rattle.syslog_pieces.proofs.TimestampLemmas.Rfc3339.{answer_same, same_timestamp, same_offset, header_stamp_det}
-use Rattle.syslog_pieces.proofs.TimestampLemmas.Rfc3339.{stamp_text-first}
+use Rattle.syslog_pieces.proofs.TimestampLemmas.Rfc3339.{writes-first}
 use Rattle.syslog_pieces.proofs.TimestampLemmas.Civil.{civil_nanos-fields, civil-fields, datetime_of, has_fields}
 use Rattle.syslog_pieces.proofs.TimestampLemmas.Civil.{is_datetime}
 
@@ -77,7 +77,8 @@ month_det p q p' q' n n' e h h' =
 
 small_letters : (a b c n : ℕ) → small_month a b c ≡ Some n → (97 ≤ a) × (a < 128) × (b < 128) × (c < 128)
 unfolding small_month
-small_letters a b c n m = (grind (arith, nat_tests), grind (arith, nat_tests), grind (arith, nat_tests), grind (arith, nat_tests))
+small_letters a b c n m =
+    (grind (arith, nat_tests), grind (arith, nat_tests), grind (arith, nat_tests), grind (arith, nat_tests))
 
 -- a letter, or a character past the letters
 abbrev pub IsLetter : ℕ → Type 0
@@ -96,7 +97,8 @@ pub month_ascii : (p q : Text) (n : ℕ) → month.Is p q n → IsAscii p
 month_ascii p q n h =
     let (a, b, c, w, m) = month_letters p n h in
     let (_, x, y, z) = small_letters _ _ _ n m in
-    rw w (IsAscii-cons a (b ∷ c ∷ []) (letter_low a x) (IsAscii-cons b (c ∷ []) (letter_low b y) (one_ascii c (letter_low c z))))
+    rw w (IsAscii-cons a (b ∷ c ∷ []) (letter_low a x) (IsAscii-cons b (c ∷ []) (letter_low b y)
+    (one_ascii c (letter_low c z))))
   where
     letter_low : (c : ℕ) → to_ascii_lowercase c < 128 → c < 128
     letter_low c h = grind (arith, lowercase_is c)
@@ -163,13 +165,6 @@ dated_det = mapped_det (Row dated_row) MonthDate dated_of
 
 -- ---- it has not both: after the day, the one has a number before a colon, the other a number before a blank
 
--- a number ends in one place, whatever its limit
-number_ends : (l l' : ℕ) (q q' : Text) {t : Text} {n n' : ℕ} → Front (number l) t q n → Front (number l') t q' n'
-    → q ≡ q'
-number_ends l l' q q' f g =
-    let e = sym f.whole ∙ g.whole in
-    rest_same f.piece q g.piece q' e (run_same is_ascii_digit f.piece q g.piece q' e f.is.1 f.is.2 g.is.1 g.is.2)
-
 abbrev pub IsBlank : ℕ → Type 0
 IsBlank c = is_blank c ≡ true
 
@@ -187,9 +182,11 @@ dates_apart p q p' q' v v' e (vs, h, i) (ws, h', i') =
     let (u, day, clock) = rows_split day_row clock_row f in
     let (t, f1, (w, f3, _)) = row_pieces clock_row clock in
     let (t', g1, (_, g3, _)) = row_pieces from_year (rows_step day_row from_year day_det day g).1 in
+    let both = sym f1.whole ∙ g1.whole in
+    let run = run_same is_ascii_digit f1.piece t g1.piece t' both f1.is.1 f1.is.2 g1.is.1 g1.is.2 in
     begins_apart t (λ c h k. let z = blank_low c k in omega arith)
     (begins_with (λ c. c ≡ 58) 58 t w (f3.whole ∙ ap (λ (x : Text). x ++ w) f3.is) refl)
-    (rw (number_ends 4294967295 2147483647 t t' f1 g1) (blanks_begin g3))
+    (rw (rest_same f1.piece t g1.piece t' both run) (blanks_begin g3))
 
 -- a text has one month date at its front
 pub month_date_det : IsDeterministic month_date
@@ -274,10 +271,6 @@ fields_in_year : (dating : Dating) (date : MonthDate) (s : OffsetTimestamp) → 
     (year_of date dating.year ≡ Some year) × IsStampOfFields dating.zone dating.local (civil_of date year) s
 fields_in_year dating date s (year, dt, y, f, h) = (year, y, (dt, has_fields dt (civil_of date year) f, h))
 
-month_in_year : (dating : Dating) (date : MonthDate) (year : ℤ) (s : OffsetTimestamp) → year_of date dating.year ≡ Some
-    year → IsStampOfFields dating.zone dating.local (civil_of date year) s → IsMonthStamp dating date s
-month_in_year dating date year s y (dt, e, h) = (year, dt, y, is_datetime dt (civil_of date year) e, h)
-
 -- a month date has one timestamp
 pub month_stamp_once : (dating : Dating) (date : MonthDate) (s t : OffsetTimestamp) → IsMonthStamp dating date s
     → IsMonthStamp dating date t → s ≡ t
@@ -311,7 +304,7 @@ module _ (dating : Dating) (date : MonthDate) where
       → IsAnswer (IsStampOfFields dating.zone dating.local (civil_of date y)) r → IsAnswer (IsMonthStamp dating date) r
   answer_in_year y r e h =
       answer_same (IsStampOfFields dating.zone dating.local (civil_of date y)) (IsMonthStamp dating date) r
-      (λ s p. month_in_year dating date y s e p)
+      (λ s (dt, same, p). (y, dt, e, is_datetime dt (civil_of date y) same, p))
       (λ s k. (let (y', e', p) = fields_in_year dating date s k in let same : y' ≡ y = cc in rw same at p)) h
 
 -- in the zone that counts
@@ -369,8 +362,8 @@ IsLow c = c ≤ 57
 -- `-`, or an RFC 3339 text
 pub header_stamp_begins : (p q : Text) (v : Option OffsetTimestamp) → header_stamp.Is p q v → Begins IsLow (p ++ q)
 header_stamp_begins p q None h = begins_with IsLow 45 (p ++ q) q (ap (λ (x : Text). x ++ q) h) (omega arith)
-header_stamp_begins p q (Some s) (h, z) =
-    let (c, more, f, digit) = stamp_text-first p s h in
+header_stamp_begins p q (Some s) ((w, h, k), z) =
+    let (c, more, f, digit) = writes-first p w h in
     begins_more IsLow p q (begins_with IsLow c p more f (let d = digit.1 in omega arith))
 
 -- a month date that has this timestamp
@@ -393,14 +386,10 @@ stamped_date_det dating p q p' q' (Some s) (Some t) e (d, h, k) (d', h', k') =
     let r = month_date_det p q p' q' d d' e h h' in
     (r.0, ap Some (month_stamp_once dating d' s t (subst (λ (x : MonthDate). IsMonthStamp dating x s) r.1 k) k'))
 
-kinds_apart : (dating : Dating) → Apart (Option OffsetTimestamp) header_stamp.Is (IsStampedDate dating)
-kinds_apart dating p q p' q' v v' e h h' =
-    begins_apart (p ++ q) (λ c a b. omega arith) (header_stamp_begins p q v h)
-    (subst (λ (x : Text). Begins IsLetter x) (sym e) (stamped_date_begins dating p' q' v' h'))
-
 pub rfc3164_stamp_det : (dating : Dating) → IsDeterministic (rfc3164_stamp dating)
 rfc3164_stamp_det dating = either_det (Option OffsetTimestamp) header_stamp.Is (IsStampedDate dating) header_stamp_det
-    (stamped_date_det dating) (kinds_apart dating)
+    (stamped_date_det dating) (λ p q p' q' v v' e h h'. begins_apart {K = IsLetter} (p ++ q) (λ c a b. omega arith)
+    (header_stamp_begins p q v h) (rw (← e) at (stamped_date_begins dating p' q' v' h')))
 
 -- ---- what the reader returns
 module _ (dating : Dating) {t : Text} where

@@ -3,16 +3,16 @@
 use Rattle.syslog_pieces.proofs.Names.{◌≡◌, IsAnswer, no_mapped, no_either, nat_tests, front_same, year_sign, Timestamp}
 use Rattle.syslog_pieces.proofs.Names.{inl, inr, ◌+◌, ◌/◌, ◌%◌, ◌<◌, ◌≤◌, ◌∷◌, sym, ◌∙◌, Each, dash, ◌+ℤ◌, ◌≤ℤ◌, ◌-ℤ◌}
 use Rattle.syslog_pieces.proofs.Names.{ℕ, is_ascii_digit, is_prop→PathP, IsStampOfClock, Rfc3339Fields, encode_utf8_all}
-use Rattle.syslog_pieces.proofs.Names.{ℤ, IsStampText, clock_value, numeric_row, CivilFields, begins_more, append_assoc}
-use Rattle.syslog_pieces.proofs.Names.{List, stamp_text, written_of, begins_with, second_kind, piece_front, each_append}
+use Rattle.syslog_pieces.proofs.Names.{ℤ, IsStampText, clock_value, numeric_row, CivilFields, append_assoc}
+use Rattle.syslog_pieces.proofs.Names.{List, stamp_text, written_of, second_kind, piece_front, each_append}
 use Rattle.syslog_pieces.proofs.Names.{[], IsTimestampNanos, fields_of_rfc3339, is_not_whitespace, days_in_month_bounds}
 use Rattle.syslog_pieces.proofs.Names.{◌++◌, HasStamp, decimals, fraction, IsAlone, row_det, AreCivil, exactly, Divides}
-use Rattle.syslog_pieces.proofs.Names.{Bool, true, Some, None, refl, pad2, pad4, Text, Ends, join, sign, year, neg_ℤ}
+use Rattle.syslog_pieces.proofs.Names.{Bool, true, Some, None, refl, pad2, pad4, Text, Ends, sign, year, neg_ℤ}
 use Rattle.syslog_pieces.proofs.Names.{false, subst, arith, props, Front, after, heads, Apart, Class, length, negsuc}
-use Rattle.syslog_pieces.proofs.Names.{Option, Offset, Values, texted, mapped, is_dot, letter, offset, ◌also◌, Begins}
+use Rattle.syslog_pieces.proofs.Names.{Option, Offset, Values, texted, mapped, is_dot, letter, offset, ◌also◌}
 use Rattle.syslog_pieces.proofs.Names.{ap, Row, pos, suc, ◌*◌, min, rules}
 use Rattle.syslog_pieces.proofs.Names.{IsOffsetSeconds, IsStampOfRfc3339, stamp_row, AllDeterministic, nanos_of_seconds}
-use Rattle.syslog_pieces.proofs.Names.{NoFront, some_run_det, begins_apart, length-append, fraction_text, if◌then◌else◌}
+use Rattle.syslog_pieces.proofs.Names.{NoFront, some_run_det, length-append, fraction_text, if◌then◌else◌}
 use Rattle.syslog_pieces.proofs.Names.{IsDeterministic, OffsetTimestamp, mapped_front, nanos_of_fields, encodes-IsAscii}
 use Rattle.syslog_pieces.proofs.Names.{some_run, ClockStamp, mapped_det, texted_det, either_det, append-nil, row_pieces}
 use Rattle.syslog_pieces.proofs.Names.{seconds_of, IsAsciiDigit, header_stamp, unsigned_abs, signed_arith, civil_fields}
@@ -47,9 +47,8 @@ no_dot_det p q p' q' n n' e h h' = (h.0 ∙ sym h'.0, h.2 ∙ sym h'.2)
 
 dot_apart : Apart ℕ (λ p q n. (p ≡ []) × Ends is_dot q × (n ≡ 0)) (after 46 decimals).Is
 dot_apart p q p' q' n n' e (f, ends, z) (t, f', h) =
-    let ends' : Ends is_dot (46 ∷ (t ++ q')) = subst (λ (x : Text). Ends is_dot x)
-    (ap (λ (x : Text). x ++ q) (sym f) ∙ e ∙ ap (λ (x : Text). x ++ q') f') ends in
-    cc
+    let same : q ≡ 46 ∷ (t ++ q') = rw (f, f') at e in
+    let ends' = rw same at ends in cc
 
 fraction_det : IsDeterministic fraction
 fraction_det = either_det ℕ (λ p q n. (p ≡ []) × Ends is_dot q × (n ≡ 0)) (after 46 decimals).Is no_dot_det
@@ -65,23 +64,9 @@ numeric_det = sign_det also pair_det 24 (omega arith) also after_det (pair 60) (
 abbrev zulu : Class
 zulu = mapped (letter 90) ℤ (λ _. pos 0)
 
-zulu_begins : (p q : Text) (s : ℤ) → zulu.Is p q s → Begins (λ c. 90 ≤ c) (p ++ q)
-zulu_begins p q s (u, inl e, z) = begins_with (λ c. 90 ≤ c) 90 _ q (ap (λ (x : Text). x ++ q) e) (omega arith)
-zulu_begins p q s (u, inr e, z) = begins_with (λ c. 90 ≤ c) 122 _ q (ap (λ (x : Text). x ++ q) e) (omega arith)
-
-sign_begins : (p q : Text) (b : Bool) → sign.Is p q b → Begins (λ c. c ≤ 45) p
-sign_begins p q true h = begins_with (λ c. c ≤ 45) 45 p [] h (omega arith)
-sign_begins p q false h = begins_with (λ c. c ≤ 45) 43 p [] h (omega arith)
-
-numeric_begins : (p q : Text) (vs : Values numeric_row) → (Row numeric_row).Is p q vs → Begins (λ c. c ≤ 45) (p ++ q)
-numeric_begins p q vs ([], e, h) = absurd h
-numeric_begins p q vs (a ∷ ps, e, h) =
-    begins_more (λ c. c ≤ 45) p q (rw e (begins_more (λ c. c ≤ 45) a (join ps) (sign_begins a (join ps ++ q) vs.0 h.0)))
-
 offset_apart : Apart ℤ zulu.Is (mapped (Row numeric_row) ℤ seconds_of).Is
-offset_apart p q p' q' s s' e h (vs, k, z) =
-    begins_apart {K = λ c. c ≤ 45} (p ++ q) (λ c a b. omega arith) (zulu_begins p q s h)
-    (subst (λ (x : Text). Begins (λ c. c ≤ 45) x) (sym e) (numeric_begins p' q' vs k))
+offset_apart p q p' q' s s' e h (vs, ([], w, k), z) = absurd k
+offset_apart p q p' q' s s' e (u, l, _) (vs, (a ∷ ps, w, k), z) = let first = k.0 in grind arith
 
 pub offset_det : IsDeterministic offset
 offset_det = either_det ℤ zulu.Is (mapped (Row numeric_row) ℤ seconds_of).Is (mapped_det (letter 90) ℤ _ (letter_det 90))
@@ -180,14 +165,10 @@ answer_of_rfc3339 w f offset answer e same h =
 
 -- ---- the stamp of a text
 
--- a text writes the same numbers each time
-written_once : {t : Text} {v w : Rfc3339Fields} → stamp_text.Is t [] v → stamp_text.Is t [] w → v ≡ w
-written_once {t} {v} {w} h k = (stamp_text_det t [] t [] v w refl h k).1
-
 -- a text has at most one stamp
 pub one_stamp : (text : List ℕ) (n o m p : ℤ) → HasStamp text n o → HasStamp text m p → (n ≡ m) × (o ≡ p)
 one_stamp text n o m p (w, h, a) (v, k, b) =
-    let same = written_once h k in
+    let same = (stamp_text_det text [] text [] w v refl h k).1 in
     let e = (stamp_fields w n o a).1 in
     let f = (stamp_fields v m p b).1 in
     (cc, cc)
@@ -221,12 +202,12 @@ one_timestamp text s t h k =
 -- ---- what a header may know of a text that has a stamp
 
 -- a text is no shorter than a date, a clock and an offset of one character
-letter_long : (p q : Text) (v : Unit {0}) → (letter 84).Is p q v → length p ≡ 1
-letter_long p q v (inl e) = ap length e
-letter_long p q v (inr e) = ap length e
-
 front_length : (C : Class) {t u : Text} {v : C.Value} → (f : Front C t u v) → length t ≡ length f.piece + length u
 front_length C {u = u} f = ap length f.whole ∙ length-append f.piece u
+
+letter_length : {t u : Text} {v : Unit {0}} → Front (letter 84) t u v → length t ≡ 1 + length u
+letter_length {u = u} f =
+    front_length (letter 84) f ∙ ap (λ (n : ℕ). n + length u) (elim f.is [ inl e ↦ ap length e | inr e ↦ ap length e ])
 
 pair_length : (c limit : ℕ) {t u : Text} {n : ℕ} → Front (after c (pair limit)) t u n → length t ≡ 3 + length u
 pair_length c limit f = omega (arith, front_length _ f, ap length f.is.1, ap length f.is.2.0)
@@ -237,22 +218,11 @@ text_long {t} {q} f =
     let (_, f1, (_, f2, (_, f3, (_, f4, (_, f5, (_, f6, (_, f7, (_, f8, (_, f9, _))))))))) =
     row_pieces stamp_row {vs = vs} (record { piece = f.piece; whole = f.whole; is = h }) in
     let (_, _, e) = offset_filled f9.piece _ _ f9.is in
-    let first = front_length year f1 in
-    let t_long = front_length (letter 84) f4 in
-    let hour = front_length (pair 100) f5 in
+    let first = front_length year f1 in let four = ap length f1.is.0 in
+    let hour = front_length (pair 100) f5 in let two = ap length f5.is.0 in
     let decimal = front_length fraction f8 in
-    let last = front_length offset f9 in
-    omega (
-      arith,
-      ap length f1.is.0,
-      pair_length 45 100 f2,
-      pair_length 45 100 f3,
-      letter_long f4.piece [] _ f4.is,
-      ap length f5.is.0,
-      pair_length 58 100 f6,
-      pair_length 58 61 f7,
-      ap length e,
-    )
+    let last = front_length offset f9 in let one = ap length e in
+    omega (arith, pair_length 45 100 f2, pair_length 45 100 f3, letter_length f4, pair_length 58 100 f6, pair_length 58 61 f7)
 
 -- the year of the text, which a dash follows
 pub begins_with_year : (text : Text) (w : Rfc3339Fields) → stamp_text.Is text [] w
@@ -270,10 +240,6 @@ pub writes-first : (text : List ℕ) (w : Rfc3339Fields) → stamp_text.Is text 
     → (c : ℕ) × (rest : List ℕ) × (text ≡ c ∷ rest) × IsAsciiDigit c
 writes-first text w h =
     let (y, rest, e, fits) = begins_with_year text w h in (48 + y / 100 / 10, _, e, (omega arith, omega arith))
-
-pub stamp_text-first : (text : List ℕ) (s : OffsetTimestamp) → IsStampText text s
-    → (c : ℕ) × (rest : List ℕ) × (text ≡ c ∷ rest) × IsAsciiDigit c
-stamp_text-first text s (w, h, stamp) = writes-first text w h
 
 -- the year of the text: four digits, which a dash follows
 pub stamp_text-year : (text : List ℕ) (s : OffsetTimestamp) → IsStampText text s

@@ -1,24 +1,14 @@
-use Rattle.syslog_pieces.proofs.Names.{FitsSigned, w32, ◌≡◌, rules, to_z-of_z, fields_of, CivilFields}
+use Rattle.syslog_pieces.proofs.Names.{FitsSigned, w32, rules, to_z-of_z}
 use Rattle.syslog_pieces.proofs.TimestampLemmas.Civil.{civil-fields, civil_nanos-fields}
 use Rattle.syslog_pieces.proofs.timestamp.instant.is_there.Goals as goal
 
 pub returns-in-Some : goal.returns-in-Some
 returns-in-Some c =
-    let a = c.args in
-    let f : CivilFields = record {
-      year = a.year;
-      month = a.month;
-      day = a.day;
-      hour = a.hour;
-      minute = a.minute;
-      second = a.second;
-      nanosecond = a.nanosecond;
-    } in
-    let fits : FitsSigned w32 a.year = search rules in
-    let same : fields_of c.in-Some.dt ≡ f = simp to_z-of_z at c.in-Some.ensures.value in
-    let nanos = civil_nanos-fields c.in-Some.dt f same in (
+    let fits : FitsSigned w32 c.args.year = search rules in
+    let same = simp to_z-of_z at c.in-Some.ensures.value in
+    let nanos = civil_nanos-fields c.in-Some.dt _ same in (
       λ t. (
-        civil-fields c.in-Some.dt f same,
+        civil-fields c.in-Some.dt _ same,
         rw nanos at (c.to_timestamp.ensures.succeeds.0 (rw c.is_ok.ensures.value at t)),
       ),
       λ there. rw c.is_ok.ensures.value (c.to_timestamp.ensures.succeeds.1 (rw nanos there.1)),

@@ -1,4 +1,4 @@
-use Rattle.syslog_pieces.proofs.Names.{inl, row_of, ◌then◌, no_row, ◌past◌, rules, refl, clock_row, year_row, rows_none_here}
+use Rattle.syslog_pieces.proofs.Names.{row_of, ◌then◌, no_row, rules, refl, clock_row, year_row, rows_none_here}
 use Rattle.syslog_pieces.proofs.Names.{rows_none_later}
 use Rattle.syslog_pieces.proofs.TimestampLemmas.MonthDate.{no_clock, year_det, dated_front}
 use Rattle.syslog_pieces.proofs.timestamp.month_date.dated.Goals as goal
