@@ -7,7 +7,15 @@ use Rattle.std.{proofs.lemmas.Bool.ne_eqb, proofs.lemmas.Bool.or_parts, proofs.l
 use Rattle.std.proofs.lemmas.List.{length-take}
 use Rattle.std.specs.Bool.{if◌then◌else◌}
 use Rattle.json.{proofs.Printed.Plain.escape_on_plain, specs.Print.escape_byte, specs.Run.is_stop}
+use Rattle.std.specs.Fmt.{digits}
+use Rattle.std.specs.Prelude.{⊤}
+use lib.Utf8.{encode}
 use Rattle.syslog_pieces.specs.StructuredData.Escapes.{pair_meaning}
+
+-- what the bytes of a literal's members unfold
+unfoldable pub members_on_literals : ⊤
+unfolding escape_byte digits encode
+members_on_literals = tt
 
 -- no byte needs an escape
 abbrev pub Plain : List ℕ → Type 0

@@ -33,6 +33,7 @@ pub(crate) fn push_protocol(out: &mut Vec<u8>, version: Option<u32>) -> Result<(
     }
 }
 
+#[tactic(auto, unfolding(crate::proofs::EscapeLemmas::members_on_literals))]
 fn facility_members(facility: SyslogFacility) -> &'static [u8]
     ensures { result.now ≡ facility_fields (Some facility) }
 {
@@ -64,6 +65,7 @@ fn facility_members(facility: SyslogFacility) -> &'static [u8]
     }
 }
 
+#[tactic(auto, unfolding(crate::proofs::EscapeLemmas::members_on_literals))]
 fn severity_members(severity: SyslogSeverity) -> &'static [u8]
     ensures { result.now ≡ severity_fields (Some severity) }
 {

@@ -9,13 +9,12 @@ returns c es h =
     let old = c.args.self.now in
     let e = element_seen c.args.element.now in
     let same = sym (encodes-chars c.id-id.result.now c.id-id.utf8) ∙ ap encode_utf8_all c.id-id.ensures in
-    let within : old.count < length old.ids = omega (arith, c.if-self-ge8.false, h.sized) in
     record {
       text = text_added es e _ _ _ _ old.count _ h.text h.count c.byte_before-before.ensures.first
           c.byte_before-before.ensures.later same c.requires c.if-not-are_distinct.ensures
           (not_err c.push_element.result (sym c.if-is_err.ensures.value) c.push_element.ensures);
       sized = length-set old.ids old.count c.id-id.result ∙ h.sized;
       count = ap (λ n. n + 1) h.count ∙ sym (length-append es (e ∷ []));
-      ids = ids_added es e old.ids old.count c.id-id.result within h.ids same;
+      ids = ids_added es e old.ids old.count c.id-id.result (omega (arith, c.if-self-ge8.false, h.sized)) h.ids same;
       distinct = keys_distinct es e _ _ h.distinct h.ids same c.if-not-is_new_id.ensures;
     }
