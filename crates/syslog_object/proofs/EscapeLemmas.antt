@@ -53,15 +53,12 @@ escape-append xs ys = flat_map-append escape_byte xs ys
 pub run_written : (out run after rest now all : List ℕ) → rest ≡ run ++ after → Plain run
     → out ++ escape rest ≡ all → now ≡ out ++ run → now ++ escape after ≡ all
 run_written out run after rest now all whole plain before e =
-    ap (λ xs. xs ++ escape after) e ∙ append_assoc out run (escape after)
-    ∙ ap (λ xs. out ++ (xs ++ escape after)) (sym (plain_escape run plain))
-    ∙ ap (λ xs. out ++ xs) (sym (escape-append run after) ∙ ap escape (sym whole)) ∙ before
+    rw (e, ← before, whole, escape-append run after, plain_escape run plain) (simp append_assoc)
 
 -- and then a byte
 pub byte_written : (out next all now : List ℕ) (x : ℕ) → out ++ escape (x ∷ next) ≡ all → now ≡ out ++ escape_byte x
     → now ++ escape next ≡ all
-byte_written out next all now x before e =
-    ap (λ xs. xs ++ escape next) e ∙ append_assoc out (escape_byte x) (escape next) ∙ before
+byte_written out next all now x before e = rw (e, ← before) (simp append_assoc)
 
 pub all_written : (out after all : List ℕ) → after ≡ [] → out ++ escape after ≡ all → out ≡ all
 all_written out after all none e = sym (append-nil out) ∙ ap (λ xs. out ++ escape xs) (sym none) ∙ e
@@ -70,22 +67,17 @@ all_written out after all none e = sym (append-nil out) ∙ ap (λ xs. out ++ es
 pub value_run_written : (out run after rest now all : List ℕ) → rest ≡ run ++ after → Plain run
     → out ++ escape (unescaped rest) ≡ all → now ≡ out ++ run → now ++ escape (unescaped after) ≡ all
 value_run_written out run after rest now all whole plain before e =
-    ap (λ xs. xs ++ escape (unescaped after)) e ∙ append_assoc out run (escape (unescaped after))
-    ∙ ap (λ xs. out ++ (xs ++ escape (unescaped after))) (sym (plain_escape run plain))
-    ∙ ap (λ xs. out ++ xs) (sym (escape-append run (unescaped after))
-    ∙ ap escape (sym (plain_unescaped run after plain) ∙ ap unescaped (sym whole))) ∙ before
+    rw (e, ← before, whole, plain_unescaped run after plain, escape-append run (unescaped after), plain_escape run plain)
+    (simp append_assoc)
 
 pub value_byte_written : (out next all now : List ℕ) (x : ℕ) → nat_eq x 92 ≡ false
     → out ++ escape (unescaped (x ∷ next)) ≡ all → now ≡ out ++ escape_byte x → now ++ escape (unescaped next) ≡ all
-value_byte_written out next all now x other before e =
-    ap (λ xs. xs ++ escape (unescaped next)) e ∙ append_assoc out (escape_byte x) (escape (unescaped next))
-    ∙ rw other at before
+value_byte_written out next all now x other before e = rw (e, ← (rw other at before)) (simp append_assoc)
 
 pub pair_written : (out more all now : List ℕ) (c : ℕ) → out ++ escape (unescaped (92 ∷ c ∷ more)) ≡ all
     → now ≡ out ++ escape (pair_meaning c) → now ++ escape (unescaped more) ≡ all
 pair_written out more all now c before e =
-    ap (λ xs. xs ++ escape (unescaped more)) e ∙ append_assoc out (escape (pair_meaning c)) (escape (unescaped more))
-    ∙ ap (λ xs. out ++ xs) (sym (escape-append (pair_meaning c) (unescaped more))) ∙ before
+    rw (e, ← before, escape-append (pair_meaning c) (unescaped more)) (simp append_assoc)
 
 pub value_all_written : (out after all : List ℕ) → unescaped after ≡ [] → out ++ escape (unescaped after) ≡ all → out ≡ all
 value_all_written out after all none e = sym (append-nil out) ∙ ap (λ xs. out ++ escape xs) (sym none) ∙ e
@@ -110,6 +102,4 @@ other_byte x other = ne_eqb x 92 other
 
 -- three pieces one after the other
 pub three_appended : (old a b c x y z : List ℕ) → a ≡ old ++ x → b ≡ a ++ y → c ≡ b ++ z → c ≡ old ++ (x ++ (y ++ z))
-three_appended old a b c x y z first second third =
-    third ∙ ap (λ xs. xs ++ z) (second ∙ ap (λ xs. xs ++ y) first ∙ append_assoc old x y)
-    ∙ append_assoc old (x ++ y) z ∙ ap (λ xs. old ++ xs) (append_assoc x y z)
+three_appended old a b c x y z first second third = rw (third, second, first) (simp append_assoc)

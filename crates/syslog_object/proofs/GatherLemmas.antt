@@ -9,6 +9,7 @@ use Rattle.std.{proofs.Common.drop_of_length-le, proofs.lemmas.Bool.true≢false
 use Rattle.std.{proofs.lemmas.List.Elements.filter-append, proofs.lemmas.Slice.Eq.bytes_eq-Decides}
 use Rattle.syslog_pieces.{specs.Pieces.View.shown, specs.declared.structured_data.recognised.Element.Element}
 use Rattle.syslog_pieces.specs.StructuredData.Element.{param_value}
+use Rattle.std.proofs.lemmas.Simd.{map-map}
 
 -- ---- the members of objects, one after the other
 
@@ -31,12 +32,7 @@ pub member_written : (out key_out now all key : List ℕ) (before : ℕ) (value 
     → out ++ (before ∷ (quoted key ++ 58 ∷ (compact_text value ++ members_after rest))) ≡ all
     → now ++ members_after rest ≡ all
 member_written out key_out now all key before value rest first second whole =
-    let text = compact_text value in
-    let after = members_after rest in
-    ap (λ xs. xs ++ after) (second ∙ ap (λ xs. xs ++ text) first ∙ append_assoc out (before ∷ (quoted key ++ 58 ∷ [])) text
-    ∙ ap (λ xs. out ++ (before ∷ xs)) (append_assoc (quoted key) (58 ∷ []) text))
-    ∙ append_assoc out (before ∷ (quoted key ++ 58 ∷ text)) after
-    ∙ ap (λ xs. out ++ (before ∷ xs)) (append_assoc (quoted key) (58 ∷ text) after) ∙ whole
+    rw (second, first, ← whole) (simp append_assoc)
 
 -- ---- keys that each come once
 
@@ -183,10 +179,7 @@ module _ {X : Type 0} (json : X → Json) where
       → out ++ items_text true (items_of (map json (drop i rest))) ≡ all
       → now ++ items_text true (items_of (map json (drop (i + 1) rest))) ≡ all
   next_value rest i x out comma now all whole e value before =
-      let after = items_text true (items_of (map json (drop (i + 1) rest))) in
-      ap (λ xs. xs ++ after) (value ∙ ap (λ xs. xs ++ compact_text (json x)) e
-      ∙ append_assoc out (44 ∷ []) (compact_text (json x)))
-      ∙ append_assoc out (44 ∷ compact_text (json x)) after ∙ rw whole at before
+      rw (value, e, ← (rw whole at before)) (simp append_assoc)
 
   pub last_value : (rest : List X) (i : ℕ) (out now all : List ℕ) → drop i rest ≡ [] → now ≡ out ++ 93 ∷ []
       → out ++ items_text true (items_of (map json (drop i rest))) ≡ all → now ≡ all
@@ -203,8 +196,7 @@ module _ {X : Type 0} (json : X → Json) where
 
 one_piece : (out now key text : List ℕ) (before : ℕ) → now ≡ out ++ (before ∷ (quoted key ++ 58 ∷ text))
     → now ≡ (out ++ (before ∷ (quoted key ++ 58 ∷ []))) ++ text
-one_piece out now key text before e = e ∙ sym (append_assoc out (before ∷ (quoted key ++ 58 ∷ [])) text
-    ∙ ap (λ xs. out ++ (before ∷ xs)) (append_assoc (quoted key) (58 ∷ []) text))
+one_piece out now key text before e = rw e (simp append_assoc)
 
 values_of : {X : Type 0} (key : X → List ℕ) (json : X → Json) (name : List ℕ) (xs : List X)
     → values_at name (pairs_of key json xs) ≡ map json (filter (λ x. bytes_eq name (key x)) xs)
@@ -282,8 +274,7 @@ each_alone (p ∷ ps) distinct =
 
 names : {X : Type 0} (key : X → List ℕ) (json : X → Json) (xs : List X)
     → map key xs ≡ map (λ p. p.0) (pairs_of key json xs)
-names key json [] = refl
-names key json (x ∷ xs) = ap (λ ks. key x ∷ ks) (names key json xs)
+names key json xs = sym (map-map (λ p. p.0) (λ x. (key x, json x)) xs)
 
 pub distinct_gathered : {X : Type 0} (key : X → List ℕ) (json : X → Json) (xs : List X) → AreDistinct (map key xs)
     → object_text (pairs_of key json xs) ≡ compact_text (gathered (pairs_of key json xs))
@@ -314,8 +305,7 @@ pub all_seen : {X : Type 0} (seen left all : List X) → seen ++ left ≡ all �
 all_seen seen left all whole none = sym (append-nil seen) ∙ ap (λ xs. seen ++ xs) (sym none) ∙ whole
 
 pub param_pairs : (ps : List Param) → pairs_of param_key param_json ps ≡ map param_pair (map param_seen ps)
-param_pairs [] = refl
-param_pairs (p ∷ ps) = ap (λ qs. param_pair (param_seen p) ∷ qs) (param_pairs ps)
+param_pairs ps = sym (map-map param_pair param_seen ps)
 
 -- the text of an object of such pairs
 abbrev text_of_pairs : List (List ℕ × Json) → List ℕ
@@ -331,8 +321,7 @@ params_json ps slice params same seen =
 element_pairs : (es : List Element)
     → pairs_of (λ e. encode_utf8_all (element_seen e).id) (λ e. element_json (element_seen e)) es
     ≡ map element_pair (map element_seen es)
-element_pairs [] = refl
-element_pairs (e ∷ es) = ap (λ ps. element_pair (element_seen e) ∷ ps) (element_pairs es)
+element_pairs es = sym (map-map element_pair element_seen es)
 
 pub elements_json : (es slice : List Element) (seen : List ElementValue) → slice ≡ es → map element_seen es ≡ seen
     → compact_text (gathered (pairs_of (λ e. encode_utf8_all (element_seen e).id) (λ e. element_json (element_seen e)) slice))

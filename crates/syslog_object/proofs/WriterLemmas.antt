@@ -10,6 +10,8 @@ use proofs.Names.{◌++◌, Some, None, codes, refl, Bool, true, false, cond, ta
 use proofs.Names.{◌≡◌, ℕ, [], ◌∷◌, sym, ap, ◌∙◌, map, ◌≤◌, ◌-◌, ◌+◌, ◌<◌, Ok, Err, Bor, Text, Json}
 use Rattle.std.proofs.Common.{◌≢◌, slice_set}
 use Rattle.std.{proofs.Math.Seq.drop-append_seam, proofs.lemmas.List.take_more_set, specs.Result.is_err}
+use proofs.Names.{nil_from_length}
+use Rattle.std.proofs.lemmas.List.{length-map}
 use Rattle.syslog_pieces.specs.declared.procid.ProcId.{ProcId}
 use Rattle.json.specs.Print.{escape_byte}
 use specs.{Object.object_of, Object.protocol_text, Parts.later_text, Parts.member_text, Parts.open_text}
@@ -23,14 +25,13 @@ use proofs.GatherLemmas.{Param}
 rest_more : (key : List ℕ) (value : Option Json) (fields : List Field)
     → rest_text ((key, value) ∷ fields) ≡ field_text key value ++ rest_text fields
 rest_more key None fields = refl
-rest_more key (Some value) fields = sym (ap (λ xs. 44 ∷ xs) (append_assoc (quoted key) (58 ∷ compact_text value) (rest_text fields)))
+rest_more key (Some value) fields = simp append_assoc
 
 -- a field was written
 pub field_written : (out now all : List ℕ) (key : List ℕ) (value : Option Json) (fields : List Field)
     → now ≡ out ++ field_text key value → out ++ rest_text ((key, value) ∷ fields) ≡ all → now ++ rest_text fields ≡ all
 field_written out now all key value fields e before =
-    ap (λ xs. xs ++ rest_text fields) e ∙ append_assoc out (field_text key value) (rest_text fields)
-    ∙ ap (λ xs. out ++ xs) (sym (rest_more key value fields)) ∙ before
+    rw (e, ← before, rest_more key value fields) (simp append_assoc)
 
 -- two fields were
 pub fields_written : (out now all : List ℕ) (key : List ℕ) (value : Option Json) (other : List ℕ) (more : Option Json)
@@ -58,7 +59,7 @@ opened old now protocol fields e =
 pub named : (key prefix : List ℕ) (text : Option Text) → prefix ≡ 44 ∷ (quoted key ++ 58 ∷ 34 ∷ [])
     → text_field prefix text ≡ field_text key (option_map text_json text)
 named key prefix None is = refl
-named key prefix (Some text) is = rw is (ap (λ xs. 44 ∷ xs) (append_assoc (quoted key) (58 ∷ 34 ∷ []) (escape (encode_utf8_all text) ++ 34 ∷ [])))
+named key prefix (Some text) is = rw is (simp append_assoc)
 
 -- a field was written with the bytes before its text
 pub name_written : (out now all key prefix : List ℕ) (text : Option Text) (fields : List Field)
@@ -90,8 +91,7 @@ list_field [] some = absurd (some refl)
 list_field (e ∷ es) some = refl
 
 pub two_appended : (old a b x y z : List ℕ) → a ≡ old ++ x → b ≡ a ++ y → x ++ y ≡ z → b ≡ old ++ z
-two_appended old a b x y z first second both =
-    second ∙ ap (λ xs. xs ++ y) first ∙ append_assoc old x y ∙ ap (λ xs. old ++ xs) both
+two_appended old a b x y z first second both = rw (second, first, ← both) (simp append_assoc)
 
 -- one more piece was written
 pub more : (old a b x y : List ℕ) → a ≡ old ++ x → b ≡ a ++ y → b ≡ old ++ (x ++ y)
@@ -173,12 +173,10 @@ params_text ps e seen distinct =
     ∙ ap (λ qs. compact_text (gathered qs)) (param_pairs ps ∙ ap (map param_pair) seen)
 
 mapped_none : (es : List ElementValue) → length es ≡ 0 → map element_pair es ≡ []
-mapped_none [] none = refl
-mapped_none (e ∷ es) none = absurd (omega arith)
+mapped_none es none = ap (map element_pair) (nil_from_length es none)
 
 none_mapped : (es : List ElementValue) → map element_pair es ≡ [] → length es ≡ 0
-none_mapped [] none = refl
-none_mapped (e ∷ es) none = absurd cc
+none_mapped es none = sym (length-map es element_pair) ∙ ap length none
 
 pub text_added : (es : List ElementValue) (e : ElementValue) (old now id : List ℕ) (before count : ℕ) (ps : List Param)
     → old ≡ open_text (map element_pair es) → count ≡ length es → (count ≡ 0 → before ≡ 123) → (count ≢ 0 → before ≡ 44)
@@ -186,12 +184,9 @@ pub text_added : (es : List ElementValue) (e : ElementValue) (old now id : List 
     → now ≡ old ++ (before ∷ (quoted id ++ 58 ∷ object_text (pairs_of param_key param_json ps)))
     → now ≡ open_text (map element_pair (es ++ e ∷ []))
 text_added es e old now id before count ps held counted first later same seen distinct is =
-    is ∙ ap (λ xs. xs ++ (before ∷ (quoted id ++ 58 ∷ object_text (pairs_of param_key param_json ps)))) held
-    ∙ ap (λ xs. open_text (map element_pair es) ++ (before ∷ (quoted xs ++ 58 ∷ object_text (pairs_of param_key param_json ps)))) same
-    ∙ ap (λ xs. open_text (map element_pair es) ++ (before ∷ (quoted (encode_utf8_all e.id) ++ 58 ∷ xs))) (params_text ps e seen distinct)
-    ∙ sym (ap open_text (map-append element_pair es (e ∷ []))
-    ∙ open_more (map element_pair es) (element_pair e) before (λ none. first (counted ∙ none_mapped es none))
-    (λ some. later (λ zero. some (mapped_none es (sym counted ∙ zero)))))
+    rw (is, held, same, params_text ps e seen distinct, map-append element_pair es (e ∷ []),
+    open_more (map element_pair es) (element_pair e) before (λ none. first (counted ∙ none_mapped es none))
+    (λ some. later (λ zero. some (mapped_none es (sym counted ∙ zero))))) refl
 
 keys_more : (es : List ElementValue) (e : ElementValue)
     → element_keys (es ++ e ∷ []) ≡ element_keys es ++ encode_utf8_all e.id ∷ []
@@ -201,35 +196,28 @@ pub ids_added : (es : List ElementValue) (e : ElementValue) (ids : List (Bor (Li
     → count < length ids → map (λ s. s.now) (take count ids) ≡ element_keys es → id.now ≡ encode_utf8_all e.id
     → map (λ s. s.now) (take (count + 1) (slice_set ids count id)) ≡ element_keys (es ++ e ∷ [])
 ids_added es e ids count id within held same =
-    ap (map (λ s. s.now)) (take_more_set ids count id within)
-    ∙ map-append (λ (s : Bor (List ℕ)). s.now) (take count ids) (id ∷ [])
-    ∙ ap (λ ks. ks ++ id.now ∷ []) held ∙ ap (λ k. element_keys es ++ k ∷ []) same ∙ sym (keys_more es e)
+    rw (take_more_set ids count id within, map-append (λ (s : Bor (List ℕ)). s.now) (take count ids) (id ∷ []), held, same,
+    keys_more es e) refl
 
 pub keys_distinct : (es : List ElementValue) (e : ElementValue) (id : List ℕ) (keys : List (List ℕ)) → AreDistinct (element_keys es)
     → keys ≡ element_keys es → id ≡ encode_utf8_all e.id → IsNewKey id keys → AreDistinct (element_keys (es ++ e ∷ []))
 keys_distinct es e id keys distinct held same new =
-    subst AreDistinct (sym (keys_more es e)) (distinct_more (element_keys es) (encode_utf8_all e.id) distinct
-    (subst (λ k. IsNewKey k (element_keys es)) same (subst (IsNewKey id) held new)))
+    rw (keys_more es e) (distinct_more (element_keys es) _ distinct (rw (held, same) at new))
 
 -- ---- the whole
 
 later_closed : (ps : List (List ℕ × Json)) → later_text ps ++ 125 ∷ [] ≡ members_after ps
 later_closed [] = refl
 later_closed (p ∷ ps) =
-    append_assoc (member_text p) (later_text ps) (125 ∷ []) ∙ ap (λ xs. member_text p ++ xs) (later_closed ps)
-    ∙ ap (λ xs. 44 ∷ xs) (append_assoc (quoted p.0) (58 ∷ compact_text p.1) (members_after ps))
+    simp append_assoc (ap (λ xs. 44 ∷ 34 ∷ (escape p.0 ++ 34 ∷ 58 ∷ (compact_text p.1 ++ xs))) (later_closed ps))
 
 open_closed : (ps : List (List ℕ × Json)) → ps ≢ [] → open_text ps ++ 125 ∷ [] ≡ object_text ps
 open_closed [] some = absurd (some refl)
 open_closed (p ∷ ps) some =
-    let text = compact_text p.1 in
-    ap (λ xs. 123 ∷ xs) (append_assoc (quoted p.0) (58 ∷ (text ++ later_text ps)) (125 ∷ [])
-    ∙ ap (λ xs. quoted p.0 ++ 58 ∷ xs) (append_assoc text (later_text ps) (125 ∷ [])
-    ∙ ap (λ xs. text ++ xs) (later_closed ps)))
+    simp append_assoc (ap (λ xs. 123 ∷ 34 ∷ (escape p.0 ++ 34 ∷ 58 ∷ (compact_text p.1 ++ xs))) (later_closed ps))
 
 mapped_some : (es : List ElementValue) → es ≢ [] → map element_pair es ≢ []
-mapped_some [] some = absurd (some refl)
-mapped_some (e ∷ es) some = λ none. cc
+mapped_some es some none = some (nil_from_length es (none_mapped es none))
 
 elements_closed : (es : List ElementValue) → es ≢ [] → AreDistinct (element_keys es)
     → open_text (map element_pair es) ++ 125 ∷ [] ≡ compact_text (gathered (map element_pair es))
