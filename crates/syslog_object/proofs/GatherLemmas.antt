@@ -3,7 +3,7 @@ use Rattle.syslog_object.proofs
 use proofs.Names.{append_assoc, append-nil, nil_from_length, encode_utf8_all, ElementValue, element_seen, members_after}
 use proofs.Names.{drop_more, map-append, cases_Bool, AreDistinct, compact_text, object_text, element_json, element_pair}
 use proofs.Names.{[], bytes_eq, list_any, items_of, first_keys, gathered, one_or_all, values_at, items_text, param_pair}
-use proofs.Names.{Bool, true, false, List, ◌++◌, length, take, drop, get_or, ap, subst, arith, filter, quoted, IsNewKey}
+use proofs.Names.{Bool, true, false, List, ◌++◌, length, take, drop, get_or, ap, subst, filter, quoted, IsNewKey}
 use proofs.Names.{◌≡◌, ℕ, ◌+◌, ◌<◌, ◌≤◌, not, ◌∷◌, map, refl, sym, ◌∙◌, cond, inl, inr, ◌||◌, ◌==◌, Bor, Json, Text}
 use Rattle.std.{proofs.Common.drop_of_length-le, proofs.lemmas.Bool.true≢false, proofs.lemmas.List.take_more}
 use Rattle.std.{proofs.lemmas.List.Elements.filter-append, proofs.lemmas.Slice.Eq.bytes_eq-Decides}

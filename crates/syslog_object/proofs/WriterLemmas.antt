@@ -6,8 +6,8 @@ use proofs.Names.{append_assoc, length-append, ElementValue, MessageValue, eleme
 use proofs.Names.{Option, procid_text, message_json, version_json, element_json, back_fields, compact_text, AreDistinct}
 use proofs.Names.{List, append-nil, option_map, map-append, param_pair, field_text, front_text, text_field, object_text}
 use proofs.Names.{length, bytes_eq, Result, OnTrue, Protocol, escape, quoted, gathered, text_json, rest_text, IsNewKey}
-use proofs.Names.{◌++◌, Some, None, codes, refl, Bool, true, false, cond, take, drop, arith, subst, OnOk, string, Field}
-use proofs.Names.{◌≡◌, ℕ, [], ◌∷◌, sym, ap, ◌∙◌, map, ◌≤◌, ◌-◌, ◌+◌, ◌<◌, Ok, Err, Bor, Text, Json}
+use proofs.Names.{◌++◌, Some, None, codes, refl, Bool, true, false, cond, take, drop, arith, OnOk, string, Field}
+use proofs.Names.{◌≡◌, ℕ, [], ◌∷◌, sym, ap, ◌∙◌, map, ◌-◌, ◌+◌, ◌<◌, Ok, Err, Bor, Text, Json}
 use Rattle.std.proofs.Common.{◌≢◌, slice_set}
 use Rattle.std.{proofs.Math.Seq.drop-append_seam, proofs.lemmas.List.take_more_set, specs.Result.is_err}
 use proofs.Names.{nil_from_length}
@@ -184,9 +184,9 @@ pub text_added : (es : List ElementValue) (e : ElementValue) (old now id : List 
     → now ≡ old ++ (before ∷ (quoted id ++ 58 ∷ object_text (pairs_of param_key param_json ps)))
     → now ≡ open_text (map element_pair (es ++ e ∷ []))
 text_added es e old now id before count ps held counted first later same seen distinct is =
-    rw (is, held, same, params_text ps e seen distinct, map-append element_pair es (e ∷ []),
-    open_more (map element_pair es) (element_pair e) before (λ none. first (counted ∙ none_mapped es none))
-    (λ some. later (λ zero. some (mapped_none es (sym counted ∙ zero))))) refl
+    rw (is, held, same, params_text ps e seen distinct, map-append element_pair es (e ∷ []))
+    (sym (open_more (map element_pair es) (element_pair e) before (λ none. first (counted ∙ none_mapped es none))
+    (λ some. later (λ zero. some (mapped_none es (sym counted ∙ zero))))))
 
 keys_more : (es : List ElementValue) (e : ElementValue)
     → element_keys (es ++ e ∷ []) ≡ element_keys es ++ encode_utf8_all e.id ∷ []
@@ -196,8 +196,8 @@ pub ids_added : (es : List ElementValue) (e : ElementValue) (ids : List (Bor (Li
     → count < length ids → map (λ s. s.now) (take count ids) ≡ element_keys es → id.now ≡ encode_utf8_all e.id
     → map (λ s. s.now) (take (count + 1) (slice_set ids count id)) ≡ element_keys (es ++ e ∷ [])
 ids_added es e ids count id within held same =
-    rw (take_more_set ids count id within, map-append (λ (s : Bor (List ℕ)). s.now) (take count ids) (id ∷ []), held, same,
-    keys_more es e) refl
+    rw (take_more_set ids count id within, map-append (λ (s : Bor (List ℕ)). s.now) (take count ids) (id ∷ []))
+    (rw (held, same, keys_more es e) refl)
 
 pub keys_distinct : (es : List ElementValue) (e : ElementValue) (id : List ℕ) (keys : List (List ℕ)) → AreDistinct (element_keys es)
     → keys ≡ element_keys es → id ≡ encode_utf8_all e.id → IsNewKey id keys → AreDistinct (element_keys (es ++ e ∷ []))

@@ -1,5 +1,5 @@
-use Rattle.syslog_object.proofs.Names.{◌∙◌, arith, length, length-append, encodes-chars, encode_utf8_all, element_seen}
-use Rattle.syslog_object.proofs.Names.{◌+◌, ◌<◌, ◌∷◌, [], ap, sym}
+use Rattle.syslog_object.proofs.Names.{◌∙◌, arith, length-append, encodes-chars, encode_utf8_all, element_seen}
+use Rattle.syslog_object.proofs.Names.{◌+◌, ◌∷◌, [], ap, sym}
 use Rattle.std.proofs.lemmas.List.{length-set}
 use Rattle.syslog_object.proofs.WriterLemmas.{ids_added, keys_distinct, not_err, text_added}
 use Rattle.syslog_object.proofs.writer.ObjectWriter.add.Goals as goal
