@@ -3,13 +3,18 @@ use Rattle.syslog_c.proofs.Words.{List, append-nil, append_assoc, IsUtf8-string_
 use Rattle.syslog_c.proofs.Words.{ℕ, ◌∷◌, ◌++◌, Result, Err, refl, arith, length, subst, Text, Dating, Variant, Outcome}
 use Rattle.syslog_c.proofs.Words.{[], Ok, ◌≡◌, ◌≤◌, ◌∙◌, inl, inr, sym, ap}
 use Rattle.std.{proofs.Common.MatchResult, proofs.Common.String, specs.Fmt.WritesInCalls, specs.Prelude.string_bytes}
-use Rattle.std.{specs.Global.Global, specs.Str.chars}
+use Rattle.std.{specs.Global.Global, specs.Str.chars, specs.Prelude.⊤}
 use Rattle.std.{proofs.lemmas.Str.IsUtf8-append, proofs.lemmas.Str.IsUtf8-nil, specs.List.concat, specs.List.FoldsTo}
 use Rattle.syslog_pieces.proofs.Names.{chars-append}
 use Rattle.syslog_loose.specs.Settling.{Settles}
 use Rattle.syslog_loose.specs.declared.fault.ParseFault.TheVariants.{Invalid, Memory}
 use Rattle.syslog_c.specs.Room.{HasTaken, IsLeftFor, Puts, Takes, TellsLength}
 use Rattle.syslog_c.{specs.Texts.Settled, specs.declared.room.Buffer.Buffer}
+
+-- what the characters of a literal unfold
+unfoldable pub chars_of_literals : ⊤
+unfolding chars
+chars_of_literals = tt
 
 pub settled_answer : (variant : Variant) (dating : Dating) (text : Text) (old new : List ℕ) (needed : ℕ) (outcome : Outcome)
     (answer : Result (String Global) ParseFault) → Settles variant dating text answer

@@ -60,6 +60,7 @@ fn severity_at(number: u32) -> Option<SyslogSeverity>
     decompose_pri(number as u8).1
 }
 
+#[tactic(auto, unfolding(crate::proofs::TextLemmas::chars_of_literals))]
 fn outcome_text(outcome: u32) -> Option<&'static str>
     ensures { seen result ≡ slice_get outcome_texts outcome }
 {
