@@ -5,7 +5,7 @@
 //! piece from the readers of `syslog_pieces`, from the left. `resolve` says what the host field and the tag field mean
 //! together.
 ghost use Rattle.std.specs.Prelude.{◌≡◌};
-ghost use Rattle.syslog_loose.specs.Words.{IsTrue, Option, Some, None, chars, Text, seen, list_elements, Visits};
+ghost use Rattle.syslog_loose.specs.Words.{Option, Some, None, chars, Text, seen, list_elements, Visits};
 ghost use Rattle.syslog_loose.specs.Words.{trimmed, Dating, field_seen};
 ghost use Rattle.syslog_loose.specs.Rfc3164 as spec;
 ghost use Rattle.syslog_loose.specs.Clauses.{line_value, KnowsForm, dash_rule, FieldsAreRead, IsBehindStamp};

@@ -1,7 +1,6 @@
 //! The form `tag[id]` of a program's name in RFC 3164 (section 5.3 has it by example; where it ends is the crate's
 //! rule).
-ghost use Rattle.std.specs.Prelude.{◌≡◌, ◌∷◌};
-ghost use Rattle.syslog_loose.specs.Words.{[], MatchOption, bytes_eq, chars, shown};
+ghost use Rattle.syslog_loose.specs.Words.{MatchOption, chars, shown};
 ghost use Rattle.syslog_loose.specs.TagForm.{IsForm, IsNoForm};
 
 use syslog_pieces::text::{CharClass, literal, split_run};

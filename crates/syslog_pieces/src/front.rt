@@ -2,8 +2,7 @@
 //! version and the timestamp.
 //!
 //! What follows the timestamp is mostly copied, so a line is two pieces: this one and the rest.
-ghost use Rattle.std.specs.Prelude.{◌≡◌, ◌<◌, ◌≤◌, ◌+◌, ◌++◌, ◌∷◌, ℕ, [], Some, length, slice_index, take};
-ghost use Rattle.std.specs.Prelude.{unsigned_abs, decimal};
+ghost use Rattle.std.specs.Prelude.{◌≡◌, ◌<◌, ◌≤◌, ◌+◌, ◌++◌, ℕ, [], Some, length, slice_index, unsigned_abs, decimal};
 ghost use Rattle.std.specs.List.{AllByRecursion};
 ghost use Rattle.syslog_pieces.specs.Bodies.Clock.{fields_text, unsigned_date_time};
 ghost use Rattle.syslog_pieces.specs.Pri.{priority_text};

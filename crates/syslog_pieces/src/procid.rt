@@ -2,11 +2,9 @@
 //!
 //! A text is a number exactly where it is an optional sign and ASCII digits of such a number; that is the crate's rule,
 //! RFC 5424 section 6.2.6 leaves the form open.
-ghost use Rattle.std.specs.Bool.{OnFalse};
 ghost use Rattle.std.specs.Cmp.{on_equiv, on_per, partial_equiv_from_equiv};
 ghost use Rattle.syslog_pieces.specs.Words.{on, ProcId, shown, text_of, ClonesKeepText};
 ghost use Rattle.std.specs.Prelude.{◌≡◌, ◌↔◌, IfOk, IsTrue, Some, string_bytes, chars, encode_utf8_all};
-ghost use Rattle.syslog_pieces.specs.Bodies.Looks.{LeadsBare};
 ghost use Rattle.syslog_pieces.specs.Bodies.Verbatim.{IsBareWord};
 ghost use Rattle.syslog_pieces.specs.ProcId.Equal.{procid_eq};
 ghost use Rattle.syslog_pieces.specs.ProcId.EqualLaws.{procid_equivalence};

@@ -7,7 +7,7 @@ ghost use Rattle.std.specs.Prelude.{◌≡◌, ◌<◌, [], ◌∷◌, IfSome, I
 ghost use Rattle.syslog_pieces.specs.Words.{has, Front, exactly, optional, run, some_run, spaced, field_seen, seen};
 ghost use Rattle.syslog_pieces.specs.Words.{shown, Reads, Skips};
 ghost use Rattle.syslog_pieces.specs.declared.text.CharClass.TheVariants.{Blank, Digit};
-ghost use Rattle.syslog_pieces.specs.Bodies.Scan.{EndsRun, IsBare, SplitsRun, byte_in};
+ghost use Rattle.syslog_pieces.specs.Bodies.Scan.{EndsRun, IsBare, SplitsRun};
 ghost use Rattle.syslog_pieces.specs.Text as spec;
 
 pub mod canonical;

@@ -1,5 +1,5 @@
 //! Which elements are read back from print as they are: the scanners that read them are asked, and no memory is taken.
-ghost use Rattle.std.specs.Prelude.{◌↔◌, ◌<◌, IsTrue, map, chars};
+ghost use Rattle.std.specs.Prelude.{◌↔◌, IsTrue, map, chars};
 ghost use Rattle.syslog_pieces.specs.Words.{AllByRecursion, text_of, IsValue, element_value, param_value};
 ghost use Rattle.syslog_pieces.specs.StructuredData.Canonical as spec;
 

@@ -1,5 +1,5 @@
 //! The printed text of elements and lists that were recognised and not collected.
-ghost use Rattle.std.specs.Prelude.{◌≡◌, Some, encode_utf8_all};
+ghost use Rattle.std.specs.Prelude.{Some, encode_utf8_all};
 ghost use Rattle.syslog_pieces.specs.Words.{WritesOnOk, element_text, elements_text, joined_elements, element_seen};
 ghost use Rattle.syslog_pieces.specs.Words.{list_elements};
 

@@ -1,8 +1,7 @@
 //! The list of a line, recognised and not collected. A visitor is given its strict elements on the way.
-ghost use Rattle.std.specs.Prelude.{◌≡◌, ◌++◌, [], ◌∷◌, ◌<◌, List, Option, IfSome, IsTrue, MatchOption, length, sum_by};
-ghost use Rattle.std.specs.Prelude.{chars};
-ghost use Rattle.syslog_pieces.specs.Words.{Text, Front, NoFront, optional, many, shown, forgiving, ElementValue};
-ghost use Rattle.syslog_pieces.specs.Words.{joined_elements, elements_or, full_element, rfc3164_list, list_elements};
+ghost use Rattle.std.specs.Prelude.{◌≡◌, ◌++◌, [], ◌∷◌, List, Option, IfSome, MatchOption, chars};
+ghost use Rattle.syslog_pieces.specs.Words.{Front, NoFront, optional, many, shown, forgiving, ElementValue};
+ghost use Rattle.syslog_pieces.specs.Words.{elements_or, full_element, rfc3164_list, list_elements};
 ghost use Rattle.syslog_pieces.specs.Words.{list_text, AreItems, IsTallied, Visits};
 ghost use Rattle.syslog_pieces.specs.StructuredData.{item as item_class, strict as strict_of};
 

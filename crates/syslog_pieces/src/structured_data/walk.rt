@@ -1,7 +1,6 @@
 //! The walk over an element: recognises the strict element at the front, in time linear over a list, and says whether
 //! it prints as it is.
-ghost use Rattle.std.specs.Prelude.{◌≡◌, ◌++◌, ◌<◌, [], ◌∷◌, IfOk, IfSome, IsTrue, MatchOption, MatchResult, chars};
-ghost use Rattle.std.specs.Prelude.{length};
+ghost use Rattle.std.specs.Prelude.{◌≡◌, ◌++◌, ◌<◌, ◌∷◌, IfOk, IfSome, IsTrue, MatchOption, MatchResult, chars, length};
 ghost use Rattle.syslog_pieces.specs.Bodies.Closing.{IsDead};
 ghost use Rattle.syslog_pieces.specs.Words.{Front, NoFront, run, shown, full_element, IsWalked, element_seen};
 ghost use Rattle.syslog_pieces.specs.StructuredData.{element as element_class};

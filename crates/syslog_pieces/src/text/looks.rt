@@ -1,6 +1,5 @@
 //! What the first bytes of a text, or its last one, say without a scan.
-ghost use Rattle.std.specs.Prelude.{◌≡◌, ◌≢◌, ℕ, List, ◌∷◌, ◌++◌, [], IsTrue, MatchBool, drop, false, length};
-ghost use Rattle.std.specs.Prelude.{slice_index, ◌<◌};
+ghost use Rattle.std.specs.Prelude.{◌≡◌, ◌≢◌, ℕ, List, ◌∷◌, ◌++◌, [], IsTrue, MatchBool, drop};
 ghost use Rattle.std.specs.Bool.{OnFalse};
 ghost use Rattle.syslog_pieces.specs.Bodies.Looks as spec;
 

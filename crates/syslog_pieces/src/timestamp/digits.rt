@@ -1,5 +1,5 @@
 //! The small pieces at the front of bytes: digits as numbers, and letters. Nothing is copied.
-ghost use Rattle.std.specs.Prelude.{◌≡◌, ℕ, ◌<◌, ◌≤◌, ◌++◌, ◌∷◌, length, slice_index, IfSome, MatchOption};
+ghost use Rattle.std.specs.Prelude.{◌≡◌, ℕ, ◌<◌, ◌≤◌, ◌++◌, length, slice_index, IfSome, MatchOption};
 ghost use Rattle.syslog_pieces.specs.Words.{prefix_len, is_ascii_digit, IsAsciiDigit, Front, NoFront, after};
 ghost use Rattle.syslog_pieces.specs.Words.{ReadsBytes, pad3};
 ghost use Rattle.syslog_pieces.specs.Timestamp.Rfc3339 as spec;

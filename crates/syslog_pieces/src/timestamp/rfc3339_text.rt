@@ -1,8 +1,8 @@
 //! What an RFC 3339 text writes, read at the front of a text, and the stamp that it has.
 //!
 //! The text is ASCII, so its bytes are its characters: it is read byte by byte, piece by piece from the left.
-ghost use Rattle.std.specs.Prelude.{◌≡◌, ◌<◌, pos, IfSome, IsNone, option_map, chars};
-ghost use Rattle.syslog_pieces.specs.Words.{IsOffsetSeconds, Reads, ReadsBytes, IsAnswer, IsStampOfRfc3339};
+ghost use Rattle.std.specs.Prelude.{◌≡◌, ◌<◌, chars};
+ghost use Rattle.syslog_pieces.specs.Words.{Reads, ReadsBytes, IsAnswer, IsStampOfRfc3339};
 ghost use Rattle.syslog_pieces.specs.Bodies.Clock.{fields_of_rfc3339};
 ghost use Rattle.syslog_pieces.specs.Timestamp.Rfc3339 as spec;
 
