@@ -44,7 +44,7 @@ use Rattle.syslog_strict.proofs.NameLaws.{element_back, no_text, params_in, colo
 use Rattle.syslog_strict.proofs.NameLaws.{lone_other, lone_passes, lone_short, elements_back, elements_is}
 use Rattle.syslog_strict.proofs.ElementLemmas.{elements_some, other_if, same_if}
 use Rattle.syslog_strict.proofs.TextLemmas.{cleaned_passes, cleaned_same, cleaned_short, colonless_same, text_eq_true}
-use Rattle.syslog_strict.proofs.StampLemmas.{stamp_back, stamp_is, one}
+use Rattle.syslog_strict.proofs.StampLemmas.{by_choice, stamp_back, stamp_is, one}
 use Rattle.syslog_strict.proofs.NameLaws as names
 
 -- ---- what was converted is converted to the same text again
@@ -251,17 +251,12 @@ stamp_same t whole h =
     ap timestamp_text (same_if (has_text (cut_stamp t)) _ _ own)
     ∙ ap (λ (n : ℤ). printed_stamp n t.offset.seconds) whole
 
-chosen_again : (s : OffsetTimestamp) (own utc : Bool) → has_text (cut_stamp s) ≡ own → has_text (in_utc (cut_stamp s)) ≡ utc
-    → timestamp_text (option_and_then converted_stamp (converted_stamp s)) ≡ timestamp_text (converted_stamp s)
-chosen_again s true utc h k = rw h (stamp_same (cut_stamp s) (micros_again s.instant.nanosecond) h)
-chosen_again s false true h k = rw (h, k) (stamp_same (in_utc (cut_stamp s)) (micros_again s.instant.nanosecond) k)
-chosen_again s false false h k = rw (h, k) refl
-
 pub stamp_again : (v : Option OffsetTimestamp)
     → timestamp_text (option_and_then converted_stamp (option_and_then converted_stamp v))
     ≡ timestamp_text (option_and_then converted_stamp v)
 stamp_again None = refl
-stamp_again (Some s) = chosen_again s _ _ refl refl
+stamp_again (Some s) = by_choice (λ v. timestamp_text (option_and_then converted_stamp v) ≡ timestamp_text v) s
+    (stamp_same (cut_stamp s) (micros_again s.instant.nanosecond)) (stamp_same (in_utc (cut_stamp s)) (micros_again s.instant.nanosecond)) refl
 
 -- ---- messages
 

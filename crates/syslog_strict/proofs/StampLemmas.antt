@@ -1,5 +1,5 @@
 -- Timestamps: converted, printed, in the grammar, and read back.
-use Rattle.syslog_strict.proofs.Words.{◌≡◌, ℕ, ℤ, pos, ◌+◌, ◌*◌, ◌%◌, true, false, Option, Some, None, refl, sym, ap}
+use Rattle.syslog_strict.proofs.Words.{cases_Bool, ◌≡◌, ℕ, ℤ, pos, ◌+◌, ◌*◌, ◌%◌, true, false, Option, Some, None, refl, sym, ap}
 use Rattle.syslog_strict.proofs.Words.{◌∙◌, arith, ◌+ℤ◌, nat_eq, IfSome, List, ◌++◌, MatchOption, [], ◌∷◌, append_assoc}
 use Rattle.syslog_strict.proofs.Words.{inl, inr, negsuc, suc, ◌/◌, ◌<◌, ◌≤◌, Bool, subst, unsigned_abs, nat_tests}
 use Rattle.syslog_strict.proofs.Words.{chars-append, chars-IsAscii, IsAscii-cons, IsAscii-nil, decimal, chars, IsAscii}
@@ -237,18 +237,19 @@ cut_text s n is h =
 
 -- ---- converted timestamps
 
-chosen_is : (s : OffsetTimestamp) (own utc : Bool) → has_text (cut_stamp s) ≡ own → has_text (in_utc (cut_stamp s)) ≡ utc
-    → IsTimestamp (timestamp_text (converted_stamp s)) × IfSome (converted_stamp s) IsCanonicalStamp
-chosen_is s true utc h k =
-    rw h (cut_text (cut_stamp s) s.instant.nanosecond refl h, text_canonical (cut_stamp s) h)
-chosen_is s false true h k =
-    rw (h, k) (cut_text (in_utc (cut_stamp s)) s.instant.nanosecond refl k, text_canonical (in_utc (cut_stamp s)) k)
-chosen_is s false false h k = rw (h, k) (inl refl, tt)
+-- what holds of each choice holds of the one that is taken
+pub by_choice : (P : Option OffsetTimestamp → Type 0) (s : OffsetTimestamp) → (has_text (cut_stamp s) ≡ true → P (Some (cut_stamp s)))
+    → (has_text (in_utc (cut_stamp s)) ≡ true → P (Some (in_utc (cut_stamp s)))) → P None → P (converted_stamp s)
+by_choice P s own utc none = elim (cases_Bool (has_text (cut_stamp s))) [
+  | inl h ↦ rw h (own h)
+  | inr h ↦ elim (cases_Bool (has_text (in_utc (cut_stamp s)))) [ inl k ↦ rw (h, k) (utc k) | inr k ↦ rw (h, k) none ]
+]
 
 pub stamp_is : (v : Option OffsetTimestamp) → IsTimestamp (timestamp_text (option_and_then converted_stamp v))
 stamp_is None = inl refl
-stamp_is (Some s) = (chosen_is s _ _ refl refl).0
+stamp_is (Some s) = by_choice (λ v. IsTimestamp (timestamp_text v)) s (cut_text (cut_stamp s) s.instant.nanosecond refl)
+    (cut_text (in_utc (cut_stamp s)) s.instant.nanosecond refl) (inl refl)
 
 pub stamp_back : (v : Option OffsetTimestamp) → IfSome (option_and_then converted_stamp v) IsCanonicalStamp
 stamp_back None = tt
-stamp_back (Some s) = (chosen_is s _ _ refl refl).1
+stamp_back (Some s) = by_choice (λ v. IfSome v IsCanonicalStamp) s (text_canonical (cut_stamp s)) (text_canonical (in_utc (cut_stamp s))) tt

@@ -32,15 +32,6 @@ pub char_past : (text : Text) (c : ℕ) (r : Option (Bor (List ℕ))) → Skips 
 char_past text c None h = sym (none_of (past_reads c text) (λ rest e. h (c ∷ []) rest tt e refl))
 char_past text c (Some rest) h = sym ((past_reads c text).only (shown rest) (h.whole ∙ ap (λ (x : Text). x ++ shown rest) h.is))
 
-pub digit_low : (c : ℕ) → is_ascii_digit c ≡ true → c < 128
-digit_low c h = grind (arith, nat_tests)
-
-pub printable_low : (c : ℕ) → is_printusascii c ≡ true → c < 128
-printable_low c h = grind (arith, nat_tests)
-
-pub sd_low : (c : ℕ) → is_sd_char c ≡ true → c < 128
-sd_low c h = grind (arith, nat_tests)
-
 -- a run that was split off is the one that is read
 pub short_read : (test : ℕ → Bool) (most : ℕ) (bs xs ys : List ℕ) → SplitsRun test bs xs ys → ((c : ℕ) → test c ≡ true → c < 128)
     → read_short test most (chars bs) ≡ (if nat_lt 0 (length xs) && nat_le (length xs) most then Some (chars xs, chars ys) else None)

@@ -117,7 +117,7 @@ fn after_date(text: &str) -> Option<&str>
 }
 
 // The text after TIME-SECFRAC, or the whole where there is none.
-#[tactic(auto, unfolding(crate::specs::Bodies::Reader::past_secfrac))]
+#[tactic(auto, using(std::proofs::lemmas::Bool::Decides::nat_tests), unfolding(crate::specs::Bodies::Reader::past_secfrac))]
 #[inline(always)]
 fn after_secfrac(text: &str) -> Option<&str>
     ensures { seen result ≡ spec.past_secfrac (chars text.now) }
@@ -201,7 +201,7 @@ fn after_stamp(text: &str) -> Option<&str>
 }
 
 // The text after a space, and a name of at most that many characters.
-#[tactic(auto, unfolding(crate::specs::Bodies::Reader::past_name))]
+#[tactic(auto, using(std::proofs::lemmas::Bool::Decides::nat_tests), unfolding(crate::specs::Bodies::Reader::past_name))]
 #[inline(always)]
 fn after_name(text: &str, most: usize) -> Option<&str>
     ensures { seen result ≡ spec.past_name most (chars text.now) }
@@ -212,6 +212,7 @@ fn after_name(text: &str, most: usize) -> Option<&str>
 }
 
 // An SD-NAME, and the text after it.
+#[tactic(auto, using(std::proofs::lemmas::Bool::Decides::nat_tests))]
 #[inline(always)]
 fn sd_name(text: &str) -> Option<(&str, &str)>
     ensures { option_map spec.both result ≡ spec.read_short grammar.is_sd_char 32 (chars text.now) }
