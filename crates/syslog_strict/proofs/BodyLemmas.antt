@@ -1,23 +1,23 @@
 -- What the readers of structured data find is what the rules of the grammar say, and so of the whole message.
-use Rattle.syslog_strict.proofs.Words.{◌≡◌, ◌≢◌, ◌⊎◌, inl, inr, ℕ, suc, ◌<◌, ◌≤◌, Bool, true, false, List, [], ◌∷◌, ◌++◌, length, map}
-use Rattle.syslog_strict.proofs.Words.{Option, Some, None, refl, sym, ap, ap₂, subst, ◌∙◌, arith, append_assoc, append-nil, nat_tests}
-use Rattle.syslog_strict.proofs.Words.{AllByRecursion, cases_Bool, nat_eq, Text, Each, Ends, join, text_eq, if◌then◌else◌, all_map, ◌||◌}
-use Rattle.syslog_strict.proofs.Words.{IsParamValue, IsSdElement, IsSdParam, IsStructuredData, IsSyslogMsg, IsValuePiece, AreDistinct}
-use Rattle.syslog_strict.proofs.Words.{is_escaped, is_sd_char, is_among, IsSpacedMsg, list_any-append, heads}
-use Rattle.std.proofs.Common.{◌&&◌, zero}
-use Rattle.std.proofs.lemmas.Bool.{and_from, and_parts, or_from, or_parts}
+use Rattle.syslog_strict.proofs.Words.{◌≡◌, ◌≢◌, ◌⊎◌, inl, inr, ℕ, suc, ◌<◌, ◌≤◌, Bool, true, false, List, [], ◌∷◌}
+use Rattle.syslog_strict.proofs.Words.{◌++◌, length, map, Option, Some, None, refl, sym, ap, subst, ◌∙◌, arith}
+use Rattle.syslog_strict.proofs.Words.{append_assoc, nat_tests, AllByRecursion, cases_Bool, nat_eq, Text, Ends, join}
+use Rattle.syslog_strict.proofs.Words.{text_eq, if◌then◌else◌, all_map, IsParamValue, IsSdElement, IsSdParam}
+use Rattle.syslog_strict.proofs.Words.{IsStructuredData, IsSyslogMsg, IsValuePiece, AreDistinct, is_escaped, is_sd_char}
+use Rattle.syslog_strict.proofs.Words.{is_among, IsSpacedMsg, list_any-append, heads}
+use Rattle.std.proofs.Common.{zero}
+use Rattle.std.proofs.lemmas.Bool.{and_parts, or_from, or_parts}
 use Rattle.std.proofs.lemmas.Bool.Decides.{eqb_tells}
 use Rattle.std.proofs.lemmas.List.{length-append, length-map}
 use Rattle.std.specs.Bool.{one_answer}
 use Rattle.std.specs.Prelude.{◌↔◌, not, IsSomeAnd}
 use Rattle.syslog_pieces.proofs.Names.{not-true}
-use Rattle.syslog_strict.specs.Bodies.Reader.{AreElements, and_or, and_then, are_distinct, are_new, elements_of, if_some, is_body, is_spaced}
-use Rattle.syslog_strict.specs.Bodies.Reader.{is_spaced_after, items_in, past, past_distinct, past_header, past_params, past_value}
-use Rattle.syslog_strict.specs.Bodies.Reader.{read_element, read_param, read_short}
+use Rattle.syslog_strict.specs.Bodies.Reader.{AreElements, are_distinct, are_new, elements_of, if_some, is_body}
+use Rattle.syslog_strict.specs.Bodies.Reader.{is_spaced, is_spaced_after, items_in, past, past_distinct, past_header}
+use Rattle.syslog_strict.specs.Bodies.Reader.{past_params, past_value, read_element, read_param}
 use Rattle.syslog_strict.specs.Grammar.{IsSomeOf}
 use Rattle.syslog_strict.proofs.ElementLemmas.{not_last}
-use Rattle.syslog_strict.proofs.GrammarLemmas.{Begins, HeaderRow, IsShort, Reads, apart, as_reads, done, header_reads, if_reads, none_reads}
-use Rattle.syslog_strict.proofs.GrammarLemmas.{or_reads, past_reads, short_reads, then_reads}
+use Rattle.syslog_strict.proofs.GrammarLemmas.{Reads, as_reads, done, header_reads, past_reads, short_reads, then_reads}
 use Rattle.syslog_strict.proofs.NameLaws.{no_text, no_text_eq}
 
 -- ---- values

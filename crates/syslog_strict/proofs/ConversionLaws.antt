@@ -1,8 +1,8 @@
 -- What was converted is converted to the same text again; its text is in the grammar, and is read back.
 use Rattle.syslog_strict.proofs.Words.{◌≡◌, ◌≢◌, ◌⊎◌, inl, inr, ℕ, ℤ, ◌<◌, ◌+ℤ◌, Bool, true, false, List, [], ◌∷◌, ◌++◌}
 use Rattle.syslog_strict.proofs.Words.{length, map, nat_eq, Option, Some, None, refl, sym, ap, ap₂, subst, ◌∙◌, arith}
-use Rattle.syslog_strict.proofs.Words.{append-nil, if◌then◌else◌, ◌%◌, unsigned_abs, IfSome, append_assoc, cases_Bool}
-use Rattle.syslog_strict.proofs.Words.{nat_tests, AllByRecursion, option_and_then, option_map, decimal, signed_arith}
+use Rattle.syslog_strict.proofs.Words.{append-nil, ◌%◌, unsigned_abs, IfSome, append_assoc, cases_Bool, nat_tests}
+use Rattle.syslog_strict.proofs.Words.{AllByRecursion, option_and_then, option_map, decimal, signed_arith}
 use Rattle.syslog_strict.proofs.Words.{int_rem_euclid-parts, Text, join, Ends, text_eq, NamesProcess, named_process}
 use Rattle.syslog_strict.proofs.Words.{process_text, IsBoundedProcess, IsCanonicalElement, all_map, named_names}
 use Rattle.syslog_strict.proofs.Words.{nanos_of_seconds, civil_fields, printed_stamp, OffsetTimestamp, MessageValue}
@@ -13,11 +13,11 @@ use Rattle.syslog_strict.proofs.Words.{converted_host, converted_name, converted
 use Rattle.syslog_strict.proofs.Words.{converted_word, escaped_from, is_among, joined_past, named, or_mark, params_of}
 use Rattle.syslog_strict.proofs.Words.{without_last_colon, without_lone_colon, AreDistinct, IsParamValue, IsSdName}
 use Rattle.syslog_strict.proofs.Words.{IsSyslogMsg, IsValuePiece, is_escaped, is_printusascii, is_sd_char}
+use Rattle.syslog_strict.proofs.Words.{list_any-append, IsSdElement, element_text, joined_elements}
 use Rattle.syslog_strict.specs.Bodies.Reader.{AreElements}
 use Rattle.std.proofs.Common.{◌&&◌, nat_lt}
 use Rattle.std.proofs.lemmas.Bool.{or_from}
 use Rattle.std.proofs.lemmas.List.{length-map}
-use Rattle.syslog_strict.proofs.Words.{list_any-append}
 use Rattle.std.specs.Bool.{◌==◌}
 use Rattle.std.specs.Prelude.{◌↔◌}
 use Rattle.syslog_pieces.specs.Bodies.Verbatim.{IsBareWord}
@@ -36,12 +36,12 @@ use Rattle.syslog_loose.proofs.PrintedLemmas.{priority_small}
 use Rattle.syslog_loose.proofs.Rfc5424Lemmas.{read_completed}
 use Rattle.syslog_loose.proofs.Rfc3164Lemmas.Near.{read_near}
 use Rattle.syslog_strict.proofs.BodyLemmas.{Many, elements_found, no_more, one_more}
-use Rattle.syslog_strict.proofs.Words.{IsSdElement, element_text, joined_elements}
 use Rattle.syslog_strict.specs.Call.{IsConvertedText}
 use Rattle.syslog_strict.specs.Conversion.{converted_value}
 use Rattle.syslog_strict.proofs.NameLaws.{IsStrictElement, IsStrictParam, converted_are, converted_distinct}
-use Rattle.syslog_strict.proofs.NameLaws.{element_back, no_text, params_in, colonless_end, colonless_length, colonless_passes}
-use Rattle.syslog_strict.proofs.NameLaws.{lone_other, lone_passes, lone_short, elements_back, elements_is}
+use Rattle.syslog_strict.proofs.NameLaws.{element_back, no_text, params_in, colonless_end, colonless_length}
+use Rattle.syslog_strict.proofs.NameLaws.{colonless_passes, lone_other, lone_passes, lone_short, elements_back}
+use Rattle.syslog_strict.proofs.NameLaws.{elements_is}
 use Rattle.syslog_strict.proofs.ElementLemmas.{elements_some, other_if, same_if}
 use Rattle.syslog_strict.proofs.TextLemmas.{cleaned_passes, cleaned_same, cleaned_short, colonless_same, text_eq_true}
 use Rattle.syslog_strict.proofs.StampLemmas.{by_choice, stamp_back, stamp_is, one}

@@ -1,12 +1,12 @@
 -- What the readers of a header find is what the rules of the grammar say, and nothing else.
-use Rattle.syslog_strict.proofs.Words.{◌≡◌, ◌≢◌, ◌⊎◌, inl, inr, ℕ, pos, ◌+◌, ◌-◌, ◌*◌, ◌/◌, ◌%◌, ◌<◌, ◌≤◌, Bool, true, false}
-use Rattle.syslog_strict.proofs.Words.{[], ◌∷◌, ◌++◌, length, Option, Some, None, refl, sym, ap, ap₂, subst, ◌∙◌, arith}
-use Rattle.syslog_strict.proofs.Words.{append_assoc, nat_tests, is_ascii_digit, decimal, cases_Bool, if◌then◌else◌, nat_eq, ◌||◌}
-use Rattle.syslog_strict.proofs.Words.{signed_arith, IsCivilDate, pad2, pad4, Text, Each, Ends, Front}
-use Rattle.syslog_strict.proofs.Words.{number, heads, one_digit, IsFullDate, IsPri}
-use Rattle.syslog_strict.proofs.Words.{IsSecfrac, IsTimeOffset, IsTimestamp, is_printusascii}
+use Rattle.syslog_strict.proofs.Words.{◌≡◌, ◌≢◌, ◌⊎◌, inl, inr, ℕ, pos, ◌+◌, ◌-◌, ◌*◌, ◌/◌, ◌%◌, ◌<◌, ◌≤◌, Bool, true}
+use Rattle.syslog_strict.proofs.Words.{false, [], ◌∷◌, ◌++◌, length, Option, Some, None, refl, sym, ap, ap₂, subst, ◌∙◌}
+use Rattle.syslog_strict.proofs.Words.{arith, append_assoc, nat_tests, is_ascii_digit, decimal, cases_Bool}
+use Rattle.syslog_strict.proofs.Words.{if◌then◌else◌, nat_eq, ◌||◌, signed_arith, IsCivilDate, pad2, pad4, Text, Each}
+use Rattle.syslog_strict.proofs.Words.{Ends, Front, number, heads, one_digit, IsFullDate, IsPri, IsSecfrac}
+use Rattle.syslog_strict.proofs.Words.{IsTimeOffset, IsTimestamp, is_printusascii}
 use Rattle.std.proofs.Common.{◌&&◌, nat_le, nat_lt, get_or}
-use Rattle.std.proofs.lemmas.Bool.{and_from, and_parts, cases_lt}
+use Rattle.std.proofs.lemmas.Bool.{cases_lt}
 use Rattle.std.proofs.lemmas.Bool.Decides.{eqb_tells}
 use Rattle.std.proofs.lemmas.Fmt.{decimal-digits_value}
 use Rattle.std.specs.Prelude.{◌↔◌}
@@ -14,8 +14,8 @@ use Rattle.std.specs.Str.Parse.{digits_value}
 use Rattle.jiff_core.proofs.CalendarLemmas.{days_in_month_bounds}
 use Rattle.syslog_pieces.proofs.TextLemmas.Words.{own, two_digits, three_digits, number_back}
 use Rattle.syslog_strict.specs.Bodies.Reader.{and_or, and_then, is_civil, is_clock, past, past_date, past_header}
-use Rattle.syslog_strict.specs.Bodies.Reader.{past_name, past_number, past_offset, past_pri, past_secfrac, past_stamp, past_time}
-use Rattle.syslog_strict.specs.Bodies.Reader.{past_zone, read_marked, read_run, read_short, read_two, run_of}
+use Rattle.syslog_strict.specs.Bodies.Reader.{past_name, past_number, past_offset, past_pri, past_secfrac, past_stamp}
+use Rattle.syslog_strict.specs.Bodies.Reader.{past_time, past_zone, read_marked, read_run, read_short, read_two, run_of}
 use Rattle.syslog_strict.specs.Grammar.{IsPartialTime, IsSomeOf}
 
 -- ---- readers, one after the other

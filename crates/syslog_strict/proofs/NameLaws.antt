@@ -2,7 +2,7 @@
 use Rattle.syslog_strict.proofs.Words.{◌≡◌, ◌≢◌, inl, inr, ℕ, ℤ, pos, negsuc, suc, ◌<◌, ◌≤◌, true, false, [], ◌∷◌, ◌++◌}
 use Rattle.syslog_strict.proofs.Words.{length, Option, Some, None, IfSome, refl, sym, ap, ◌∙◌, arith, Bool, List, map}
 use Rattle.syslog_strict.proofs.Words.{ap₂, subst, nat_eq, if◌then◌else◌, cases_Bool, nat_tests, is_ascii_digit}
-use Rattle.syslog_strict.proofs.Words.{bytes_decides, decimal, signed_decimal, option_and_then, option_map, ◌||◌}
+use Rattle.syslog_strict.proofs.Words.{bytes_decides, decimal, signed_decimal, option_and_then, option_map}
 use Rattle.syslog_strict.proofs.Words.{AllByRecursion, flat_map, Text, Each, Ends, join, text_eq, IsBoundedProcess}
 use Rattle.syslog_strict.proofs.Words.{NamesProcess, named_process, procid_text, process_text, colon, dash, name_text}
 use Rattle.syslog_strict.proofs.Words.{is_blank, ProcId, PID, Name, heads, all_append, all_map, named_names}

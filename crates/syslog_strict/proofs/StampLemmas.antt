@@ -1,12 +1,12 @@
 -- Timestamps: converted, printed, in the grammar, and read back.
-use Rattle.syslog_strict.proofs.Words.{cases_Bool, ◌≡◌, ℕ, ℤ, pos, ◌+◌, ◌*◌, ◌%◌, true, false, Option, Some, None, refl, sym, ap}
-use Rattle.syslog_strict.proofs.Words.{◌∙◌, arith, ◌+ℤ◌, nat_eq, IfSome, List, ◌++◌, MatchOption, [], ◌∷◌, append_assoc}
-use Rattle.syslog_strict.proofs.Words.{inl, inr, negsuc, suc, ◌/◌, ◌<◌, ◌≤◌, Bool, subst, unsigned_abs, nat_tests}
-use Rattle.syslog_strict.proofs.Words.{chars-append, chars-IsAscii, IsAscii-cons, IsAscii-nil, decimal, chars, IsAscii}
-use Rattle.syslog_strict.proofs.Words.{IsUtf8, is_ascii_digit, option_and_then, signed_arith, int_rem_euclid-parts}
-use Rattle.syslog_strict.proofs.Words.{Text, Each, timestamp_text, IsCivilDate, OffsetTimestamp, nanos_of_seconds, pad2}
-use Rattle.syslog_strict.proofs.Words.{pad4, front_text, converted_stamp, cut_stamp, has_text, in_utc, micros}
-use Rattle.syslog_strict.proofs.Words.{is_four_digits, IsSecfrac, IsTimeOffset, IsTimestamp}
+use Rattle.syslog_strict.proofs.Words.{cases_Bool, ◌≡◌, ℕ, ℤ, pos, ◌+◌, ◌*◌, ◌%◌, true, false, Option, Some, None, refl}
+use Rattle.syslog_strict.proofs.Words.{sym, ap, ◌∙◌, arith, ◌+ℤ◌, nat_eq, IfSome, List, ◌++◌, MatchOption, [], ◌∷◌}
+use Rattle.syslog_strict.proofs.Words.{append_assoc, inl, inr, negsuc, suc, ◌/◌, ◌<◌, ◌≤◌, subst, unsigned_abs}
+use Rattle.syslog_strict.proofs.Words.{nat_tests, chars-append, chars-IsAscii, IsAscii-cons, IsAscii-nil, decimal}
+use Rattle.syslog_strict.proofs.Words.{chars, IsAscii, IsUtf8, is_ascii_digit, option_and_then, signed_arith}
+use Rattle.syslog_strict.proofs.Words.{int_rem_euclid-parts, Text, Each, timestamp_text, IsCivilDate, OffsetTimestamp}
+use Rattle.syslog_strict.proofs.Words.{nanos_of_seconds, pad2, pad4, front_text, converted_stamp, cut_stamp, has_text}
+use Rattle.syslog_strict.proofs.Words.{in_utc, micros, is_four_digits, IsSecfrac, IsTimeOffset, IsTimestamp}
 use Rattle.std.proofs.Common.{◌-ℤ◌, ◌*ℤ◌}
 use Rattle.std.proofs.lemmas.Bool.Decides.{eqb_tells}
 use Rattle.std.proofs.lemmas.Str.{IsAscii-append}

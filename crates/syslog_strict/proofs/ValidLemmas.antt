@@ -1,11 +1,9 @@
 -- What the code of the readers does, and the ids that were seen.
-use Rattle.syslog_strict.proofs.Words.{◌≡◌, ◌≢◌, ◌⊎◌, inl, inr, ℕ, ◌<◌, ◌≤◌, Bool, true, false, List, [], ◌∷◌, ◌++◌, length, map}
-use Rattle.syslog_strict.proofs.Words.{Option, Some, None, MatchOption, refl, sym, ap, ap₂, ◌∙◌, arith, cond, subst, Bor}
-use Rattle.syslog_strict.proofs.Words.{is_ascii_digit, chars, IsUtf8, list_any-append, ◌||◌, nat_tests, SplitsRun, Text}
-use Rattle.syslog_strict.proofs.Words.{Each, Ends, Front, shown, text_eq, is_inert_char, number, is_printusascii, is_sd_char}
-use Rattle.syslog_strict.proofs.Words.{is_among, HasSeen}
+use Rattle.syslog_strict.proofs.Words.{◌≡◌, inl, inr, ℕ, ◌<◌, ◌≤◌, Bool, true, false, List, [], ◌∷◌, ◌++◌, length, map}
+use Rattle.syslog_strict.proofs.Words.{Option, Some, None, refl, sym, ap, ap₂, ◌∙◌, arith, cond, Bor, chars, IsUtf8}
+use Rattle.syslog_strict.proofs.Words.{list_any-append, ◌||◌, nat_tests, SplitsRun, Text, Each, Front, shown, text_eq}
+use Rattle.syslog_strict.proofs.Words.{is_inert_char, number, is_among, HasSeen, IsSdElement, nat_eq}
 use Rattle.std.proofs.Common.{◌&&◌, is_eq, nat_lt, nat_le, if◌then◌else◌}
-use Rattle.std.specs.Str.Parse.{digits_value}
 use Rattle.std.proofs.lemmas.Map.Text.{is_eq-slice_cmp}
 use Rattle.std.specs.BTreeSet.{contains}
 use Rattle.std.specs.Cmp.Lexicographic.{slice_cmp}
@@ -16,10 +14,11 @@ use Rattle.syslog_pieces.specs.Pieces.Class.{exactly, NoFront}
 use Rattle.syslog_pieces.specs.Pieces.View.{Skips, seen}
 use Rattle.syslog_pieces.proofs.Names.{not-false, not-true}
 use Rattle.syslog_pieces.proofs.TextLemmas.Runs.{ascii_chars, low_ascii}
-use Rattle.syslog_strict.specs.Bodies.Reader.{alone, past, past_number, past_params, past_value, elements_of, read_element, read_param, read_short}
-use Rattle.syslog_strict.proofs.BodyLemmas.{IsParam, cases_Option, element_long, element_reads, item_end, item_on, param_long, param_reads}
+use Rattle.syslog_strict.specs.Bodies.Reader.{alone, past, past_number, past_params, past_value, elements_of}
+use Rattle.syslog_strict.specs.Bodies.Reader.{read_element, read_param, read_short}
+use Rattle.syslog_strict.proofs.BodyLemmas.{IsParam, cases_Option, element_long, element_reads, item_end, item_on}
+use Rattle.syslog_strict.proofs.BodyLemmas.{param_long, param_reads}
 use Rattle.syslog_strict.proofs.GrammarLemmas.{Reads, number_reads, past_reads, run_is}
-use Rattle.syslog_strict.proofs.Words.{IsSdElement, nat_eq}
 use Rattle.syslog_strict.specs.declared.ids.Ids.{Ids}
 use Rattle.syslog_strict.proofs.ElementLemmas.{bytes_text}
 

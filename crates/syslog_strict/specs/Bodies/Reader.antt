@@ -1,16 +1,14 @@
 -- What the readers of the grammar return: functions over texts that follow the code. The text after a piece, or none.
-use Rattle.std.specs.Prelude.{◌≡◌, ◌<◌, ◌+◌, ◌-◌, ◌*◌, ℕ, suc, zero, pos, Bool, true, false, List, [], ◌∷◌, ◌++◌, ◌&&◌, ◌||◌, not}
-use Rattle.std.specs.Prelude.{nat_eq, nat_le, nat_lt, length, Option, Some, None, if◌then◌else◌, option_map}
+use Rattle.std.specs.Prelude.{◌≡◌, ◌<◌, ◌+◌, ◌-◌, ◌*◌, ℕ, suc, zero, pos, Bool, true, false, List, [], ◌∷◌, ◌++◌, ◌&&◌}
+use Rattle.std.specs.Prelude.{not, nat_eq, nat_le, nat_lt, length, Option, Some, None, if◌then◌else◌}
 use Rattle.std.specs.Borrow.{Bor}
 use Rattle.std.specs.Char.{is_ascii_digit}
 use Rattle.std.specs.Str.Parse.{digits_value}
 use Rattle.jiff_core.specs.Calendar.{days_in_month}
-use Rattle.jiff_fmt.specs.Text.{pad2}
-use Rattle.syslog_pieces.specs.Pieces.Class.{Text, Ends}
+use Rattle.syslog_pieces.specs.Pieces.Class.{Text}
 use Rattle.syslog_pieces.specs.Pieces.View.{shown}
 use Rattle.syslog_strict.specs.Conversion.{is_among}
-use Rattle.syslog_strict.specs.Grammar.{AreDistinct, IsPri, IsSdElement, IsSomeOf, IsTimestamp, is_escaped, is_printusascii, is_sd_char}
-use Rattle.syslog_strict.specs.Grammar.{IsAppName, IsHostname, IsMsgid, IsProcid, IsStructuredData, IsSpacedMsg, version}
+use Rattle.syslog_strict.specs.Grammar.{AreDistinct, is_escaped, is_printusascii, is_sd_char}
 
 -- ---- readers, one after the other
 

@@ -1,4 +1,4 @@
-use Rattle.syslog_strict.proofs.Words.{[], refl, sym, subst, ◌∙◌, list_elements}
+use Rattle.syslog_strict.proofs.Words.{refl, sym, subst, ◌∙◌, list_elements}
 use Rattle.syslog_strict.specs.Bodies.Reader.{AreElements}
 use Rattle.syslog_pieces.proofs.StructuredDataLemmas.Elements.{are_canonical}
 use Rattle.syslog_strict.proofs.ConversionLaws.{strict_stay}
