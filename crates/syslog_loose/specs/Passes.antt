@@ -67,7 +67,7 @@ abbrev pub IsAtRest : Protocol → MessageValue → Type 0
 IsAtRest RFC3164 m = HasNoException dash_rule m
 IsAtRest (RFC5424 version) m = ⊤
 
--- this is a later round of a text that is not settled, none before it is, and what is read of it has a lower rank
+-- a later round of a text that is not settled, none before it is, and what is read of it has a lower rank
 pub record IsUnsettled (variant : Variant) (dating : Dating) (text later : Text) : Type 0 where
   pub never : IsSettled variant dating text → ⊥
   pub before : ℕ
@@ -105,8 +105,8 @@ pub record ReachesRank (variant : Variant) (dating : Dating) (text : Text) (rank
   pub reaches : Reaches variant dating text (suc before) u
   pub ranked : (m : MessageValue) → IsRead variant dating u m → HasRank rank m
 
--- What a pass answers at a round of the text that has this rank: the first settled round where the flag is true, a later
--- one of a lower rank where it is false, or a fault.
+-- What a pass answers at a round of the text that has this rank. Where the flag is true, it is the first settled round;
+-- where it is false, a later round of a lower rank. Or it is a fault.
 abbrev pub AnswersPass : Variant → Dating → Text → ℕ → List ℕ → Result Bool ParseFault → Type 0
 AnswersPass variant dating text rank bytes result = MatchResult result
     (λ settled. MatchBool settled (SettlesAs variant dating text (chars bytes))

@@ -362,8 +362,8 @@ module _ (rule : DashRule) where
     ap length i,
   )
 
-  -- what is left of a text from which a list may be taken: all of it, where none begins it, and otherwise less; where no
-  -- element was taken then, it stands after a dash
+  -- What is left of a text from which a list may be taken: all of it, or less where a list begins it. Where that has no
+  -- element, it stands after a dash.
   abbrev pub Leaves : Text → Option (List ElementValue) → Text → Type 0
   Leaves t v left = (BeginsNoList rule t × (v ≡ None) × (left ≡ t))
       ⊎ ((BeginsNoList rule t → ⊥) × (length left < length t) × (elements_or v ≡ [] → (rest : Text) × (t ≡ 45 ∷ rest)

@@ -58,7 +58,7 @@ pub record EndsColons (m : MessageValue) (host : Text) (n : ℕ) : Type 0 where
   pub hostname : m.hostname ≡ Some (host ++ colons n)
   pub keeps : EndsInColon host
 
--- the host is the name, both texts or both bytes, less n colons at its end, of which it keeps one where n is not 0
+-- the host is the name, both texts or bytes, less n colons at its end, of which it keeps one where n is not 0
 pub record CutsColons (name host : List ℕ) (n : ℕ) : Type 0 where
   pub whole : name ≡ host ++ colons n
   pub keeps : 0 < n → EndsInColon host
