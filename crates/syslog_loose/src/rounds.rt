@@ -68,7 +68,7 @@ pub(crate) fn next_round<F: FnOnce(IncompleteDate) -> i32>(
     answer(made)
 }
 
-/// Writes the next round of a text that is a round itself, or a later one, as `next_round` does. It shows no month date.
+/// Writes the next round of a text that is a round, or a later one, as `next_round` does. It shows no month date.
 #[inline(always)]
 pub(crate) fn later_round(
     text: &mut String,
