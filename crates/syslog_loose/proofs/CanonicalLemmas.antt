@@ -1,6 +1,6 @@
 -- The written condition and its quirks: what the tests of both return, and that the condition for RFC 3164 is the
 -- quirks' absence beside all that they leave.
-use Rattle.syslog_loose.proofs.Names.{◌≡◌, ◌<◌, ◌∙◌, ◌↔◌, ℕ, Bool, true, false, not, List, [], length, map, refl, sym}
+use Rattle.syslog_loose.proofs.Names.{◌⊎◌, ◌≡◌, ◌<◌, ◌∙◌, ◌↔◌, ℕ, Bool, true, false, not, List, [], length, map, refl, sym}
 use Rattle.syslog_loose.proofs.Names.{ap, subst, arith, IsTrue, MatchBool, chars, IsUtf8, bytes_eq}
 use Rattle.syslog_loose.proofs.Names.{drop_trailing_whitespace, length-map, nil_from_length, bytes_eq-Decides, Text}
 use Rattle.syslog_loose.proofs.Names.{NoFront, BeginsNoList, rfc3164_list, DashRule, EndsVisibly, ◌≢◌, ◌∷◌, ◌++◌}
@@ -108,14 +108,6 @@ canonical_host None v d c = tt
 canonical_host (Some x) v d c = (v, d, c)
 
 -- ---- the process
-inner_of : (process : ProcId Text) → IsBracketedProcess process → IsInnerProcess process
-inner_of (PID n) h = tt
-inner_of (Name t) (l, a, none) = (l, each_map is_process_char is_inner_char (λ c h. grind (arith, nat_tests)) t a, none)
-
-no_colon_of : (process : ProcId Text) → IsBracketedProcess process → HasNoColon process
-no_colon_of (PID n) h = tt
-no_colon_of (Name t) (l, a, none) = each_map is_process_char is_no_colon (λ c h. grind (arith, nat_tests)) t a
-
 pub bracketed_of : (process : ProcId Text) → IsInnerProcess process → HasNoColon process → IsBracketedProcess process
 bracketed_of (PID n) h k = tt
 bracketed_of (Name t) (l, a, none) k = (
@@ -127,15 +119,15 @@ bracketed_of (Name t) (l, a, none) k = (
 
 -- ---- the names
 near_of : (host app : Option Text) (process : Option (ProcId Text)) → AreCanonicalNames host app process
-    → AreNamesButExceptions host app process
-near_of host (Some a) (Some p) h = (h.0, inner_of p h.1)
-near_of host app process h = h
-
-pub no_colon_names : (host app : Option Text) (process : Option (ProcId Text)) → AreCanonicalNames host app process
-    → IfSome process HasNoColon
-no_colon_names host app None h = tt
-no_colon_names host None (Some p) h = absurd h
-no_colon_names host (Some a) (Some p) h = no_colon_of p h.1
+    → AreNamesButExceptions host app process × IfSome process HasNoColon
+near_of host (Some a) (Some (PID n)) h = (h, tt)
+near_of host (Some a) (Some (Name t)) (label, (some, each, none)) = (
+  (label, (some, each_map is_process_char is_inner_char (λ c h. grind (arith, nat_tests)) t each, none)),
+  each_map is_process_char is_no_colon (λ c h. grind (arith, nat_tests)) t each,
+)
+near_of host None (Some p) h = absurd h
+near_of host None None h = (h, tt)
+near_of host (Some a) None h = (h, tt)
 
 pub canonical_names : (host app : Option Text) (process : Option (ProcId Text)) → AreNamesButExceptions host app process
     → IfSome process HasNoColon → AreCanonicalNames host app process
@@ -146,55 +138,23 @@ canonical_names host app process h k = h
 pub canonical_near : (rule : DashRule) (m : MessageValue) → m.protocol ≡ RFC3164 → IsCanonical rule m
     → IsNearlyCanonical m × HasNoException rule m
 canonical_near rule m e (canonical, other) =
-    let own : IsCanonical3164 rule m = subst (λ (x : Protocol). IsCanonicalFor rule x m) e other in (
-      record {
-        facility = canonical.facility;
-        severity = canonical.severity;
-        rest = record {
-          protocol = e;
-          hostname = IfSome_then m.hostname canonical.hostname (λ x k. k.0);
-          odd_host = no_odd_host m.hostname m.appname canonical.hostname;
-          names = near_of m.hostname m.appname m.procid own.names;
-          colon_process = inl (no_colon_names m.hostname m.appname m.procid own.names);
-          msgid = own.msgid;
-          elements = canonical.elements;
-          parameters = own.elements;
-          msg_front = canonical.msg_front;
-          msg_end = canonical.msg_end;
-        };
-      },
-      record {
-        timestamp = canonical.timestamp;
-        names = record {
-          no_dash = no_dash_host m.hostname canonical.hostname;
-          no_last_colon = no_colon_host m.hostname canonical.hostname;
-          no_colon = no_colon_names m.hostname m.appname m.procid own.names;
-        };
-        no_list = own.no_list;
-      },
-    )
+    let own : IsCanonical3164 rule m = subst (λ (x : Protocol). IsCanonicalFor rule x m) e other in
+    let visible : IfSome m.hostname IsVisible = IfSome_then m.hostname canonical.hostname (λ x k. k.0) in
+    let odd = no_odd_host m.hostname m.appname canonical.hostname in
+    let dash = no_dash_host m.hostname canonical.hostname in
+    let last = no_colon_host m.hostname canonical.hostname in
+    let (near, no_colon) = near_of m.hostname m.appname m.procid own.names in
+    let colon : IfSome m.procid HasNoColon ⊎ (m.hostname ≡ None) = inl no_colon in
+    search parts 3
 
 -- the message with this facility and severity instead of its own
 pub near_completed : (rule : DashRule) (m : MessageValue) (f : Option SyslogFacility) (s : Option SyslogSeverity)
     → IsSome f → IsSome s → HasExceptionsAlone m → HasNoException rule m
     → IsCanonical rule (record m { facility = f; severity = s })
-near_completed rule m f s facility severity near none = (
-  record {
-    facility = facility;
-    severity = severity;
-    timestamp = none.timestamp;
-    hostname = canonical_host m.hostname near.hostname none.names.no_dash none.names.no_last_colon;
-    elements = near.elements;
-    msg_front = near.msg_front;
-    msg_end = near.msg_end;
-  },
-  rw near.protocol (record {
-    msgid = near.msgid;
-    names = canonical_names m.hostname m.appname m.procid near.names none.names.no_colon;
-    elements = near.parameters;
-    no_list = none.no_list;
-  }),
-)
+near_completed rule m f s facility severity near none =
+    let host = canonical_host m.hostname near.hostname none.names.no_dash none.names.no_last_colon in
+    let names = canonical_names m.hostname m.appname m.procid near.names none.names.no_colon in
+    (search parts 2, rw near.protocol (search parts 2))
 
 pub near_canonical : (rule : DashRule) (m : MessageValue) → IsNearlyCanonical m × HasNoException rule m
     → IsCanonical rule m

@@ -1,5 +1,5 @@
 -- What is printed: what trimming leaves of it, the priority that it begins with, and its bytes.
-use Rattle.syslog_loose.proofs.Names.{◌≡◌, ◌<◌, ◌&&◌, ◌∷◌, ◌++◌, ◌∙◌, ℕ, inl, inr, Bool, true, false, cond, not, nat_eq}
+use Rattle.syslog_loose.proofs.Names.{IsSome, ◌*◌, ◌+◌, no_truth, facility_of, severity_of, facility_composed, severity_composed, option_and_then, severity_there, ◌≡◌, ◌<◌, ◌&&◌, ◌∷◌, ◌++◌, ◌∙◌, ℕ, inl, inr, Bool, true, false, cond, not, nat_eq}
 use Rattle.syslog_loose.proofs.Names.{Option, Some, None, List, [], length, refl, sym, ap, subst, arith, append_assoc}
 use Rattle.syslog_loose.proofs.Names.{append-nil, flat_map, nat_tests, is_whitespace, is_not_whitespace}
 use Rattle.syslog_loose.proofs.Names.{drop_trailing_whitespace, Text, Class, Values, Front, Row, Each, Ends, run, rest}
@@ -163,19 +163,30 @@ last_ends (C ∷ Cs) f h = let g = row_head C (Cs ++ (rest ∷ [])) f in last_en
 
 -- ---- the priority that each printed text begins with
 
-facility_or : (f : Option SyslogFacility) → option_map_or facility_number f 5 < 24
-facility_or None = omega arith
-facility_or (Some f) = facility_low f
-
-severity_or : (s : Option SyslogSeverity) → option_map_or severity_number s 7 < 8
-severity_or None = omega arith
-severity_or (Some s) = severity_low s
+or_below : {A : Type 0} (f : A → ℕ) (d n : ℕ) → d < n → ((a : A) → f a < n) → (v : Option A) → option_map_or f v d < n
+or_below f d n h k None = h
+or_below f d n h k (Some a) = k a
 
 pub priority_small : (m : MessageValue) → priority_of m < 192
-priority_small m = let f = facility_or m.facility in let s = severity_or m.severity in omega arith
+priority_small m =
+    let f = or_below facility_number 5 24 (omega arith) facility_low m.facility in
+    let s = or_below severity_number 7 8 (omega arith) severity_low m.severity in omega arith
 
 pub priority_low : (m : MessageValue) → priority_of m ≤ 255
 priority_low m = let h = priority_small m in omega arith
+
+-- a facility and a severity that are there are those of the priority
+pub parts_back : (f : Option SyslogFacility) (s : Option SyslogSeverity) → IsSome f → IsSome s
+    → (f ≡ facility_of (option_map_or facility_number f 5 * 8 + option_map_or severity_number s 7))
+    × (s ≡ severity_of (option_map_or facility_number f 5 * 8 + option_map_or severity_number s 7))
+parts_back None s h k = absurd (no_truth h)
+parts_back (Some f) None h k = absurd (no_truth k)
+parts_back (Some f) (Some s) h k = (sym (facility_composed f s), sym (severity_composed f s))
+
+pub severity_beside : (pri : Option ℕ) → IsSome (option_and_then facility_of pri)
+    → IsSome (option_and_then severity_of pri)
+severity_beside None h = h
+severity_beside (Some pri) h = let (s, e) = severity_there pri in rw e refl
 
 -- a printed priority, before any text
 pub priority_front : (n : ℕ) (q : Text) → n ≤ 255 → Front priority (60 ∷ (decimal n ++ (62 ∷ q))) q n
@@ -191,6 +202,9 @@ priority_trimmed n q =
     simp append_assoc at (drop_after (60 ∷ (decimal n ++ (62 ∷ []))) q (last_append (60 ∷ decimal n) (62 ∷ []) refl))
 
 -- ---- the bytes of printed messages
+
+-- what is written piece by piece is the encoded text
+pub ruleset encoded = (append_assoc, encodes-append, encodes-decimal)
 
 -- writes in writes, joined
 joined : (a b c d e f g : List ℕ)
@@ -210,18 +224,6 @@ written_5424 pri priority version stamp host app process id shown elements msg m
     (32 ∷ encode_utf8_all host) (32 ∷ encode_utf8_all app) (32 ∷ encode_utf8_all process) (32 ∷ encode_utf8_all id)
     ((32 ∷ encode_utf8_all elements) ++ (32 ∷ m)) ∙ append_assoc (60 ∷ decimal priority) (62 ∷ decimal version) _
     ∙ sym (simp (encodes-append, encodes-decimal, h)))
-
--- `app: `
-pub encodes_tag : (app : Text) (a : List ℕ) → encode_utf8_all app ≡ a
-    → encode_utf8_all (app ++ (58 ∷ 32 ∷ [])) ≡ a ++ (58 ∷ 32 ∷ [])
-unfolding encode_utf8
-encodes_tag app a e = encodes-append app (58 ∷ 32 ∷ []) ∙ ap (λ (x : List ℕ). x ++ (58 ∷ 32 ∷ [])) e
-
--- `app[process]: `
-pub encodes_process_tag : (app process : Text) (a : List ℕ) → encode_utf8_all app ≡ a → encode_utf8_all
-    (app ++ (91 ∷ (process ++ (93 ∷ 58 ∷ 32 ∷ [])))) ≡ a ++ (91 ∷ (encode_utf8_all process ++ (93 ∷ 58 ∷ 32 ∷ [])))
-unfolding encode_utf8
-encodes_process_tag app process a e = simp (encodes-append, e)
 
 -- the writes of a message of RFC 3164, joined
 joined_3164 : (pri stamp host tag elements msg : List ℕ)
@@ -246,24 +248,7 @@ unfolding encode_utf8
 encodes_spaced [] h = absurd (omega arith)
 encodes_spaced (e ∷ es) h = encodes-append (joined_elements (e ∷ es)) (32 ∷ [])
 
--- ---- the bytes of printed lines: the front, and the rest
-
--- ---- the rest
-
--- the four names, the elements and the text of a line of RFC 5424
-pub written_rest_5424 : (host app process id elements msg : Text) (m : List ℕ) → encode_utf8_all msg ≡ m
-    → (32 ∷ encode_utf8_all host) ++ ((32 ∷ encode_utf8_all app) ++ ((32 ∷ encode_utf8_all process)
-    ++ ((32 ∷ encode_utf8_all id) ++ ((32 ∷ []) ++ (encode_utf8_all elements ++ (32 ∷ m)))))) ≡ encode_utf8_all (32
-    ∷ (host ++ (32 ∷ (app ++ (32 ∷ (process ++ (32 ∷ (id ++ (32 ∷ (elements ++ (32 ∷ msg)))))))))))
-unfolding encode_utf8
-written_rest_5424 host app process id elements msg m e = sym (simp (encodes-append, e))
-
--- the host, the tag, the elements and the text of one of RFC 3164
-pub written_rest_3164 : (host tag elements msg : Text) (m : List ℕ) → encode_utf8_all msg ≡ m
-    → (32 ∷ encode_utf8_all host) ++ ((32 ∷ encode_utf8_all tag) ++ (encode_utf8_all elements ++ m))
-    ≡ encode_utf8_all (32 ∷ (host ++ (32 ∷ (tag ++ (elements ++ msg)))))
-unfolding encode_utf8
-written_rest_3164 host tag elements msg m e = sym (simp (encodes-append, e))
+-- ---- the bytes of printed lines
 
 -- elements that are there, and a space after them
 pub encodes_spaced_list : (es : List ElementValue) → es ≢ []
@@ -279,38 +264,13 @@ unfolding encode_utf8
 clock_bytes None = refl
 clock_bytes (Some c) = printed_stamp-bytes (clock_value c)
 
-joined_front_5424 : (p v t r : List ℕ) → (60 ∷ (p ++ (62 ∷ []))) ++ (v ++ (32 ∷ t)) ++ r
-    ≡ 60 ∷ (p ++ (62 ∷ (v ++ (32 ∷ (t ++ r)))))
-joined_front_5424 p v t r = simp append_assoc refl
-
-bytes_5424 : (p v : ℕ) (stamp rest : Text) (t : List ℕ) → encode_utf8_all stamp ≡ t
-    → ((60 ∷ (decimal p ++ (62 ∷ []))) ++ (decimal v ++ (32 ∷ t))) ++ encode_utf8_all rest
-    ≡ encode_utf8_all (60 ∷ (decimal p ++ (62 ∷ (decimal v ++ (32 ∷ (stamp ++ rest))))))
-unfolding encode_utf8
-bytes_5424 p v stamp rest t e =
-    joined_front_5424 (decimal p) (decimal v) t (encode_utf8_all rest) ∙ sym (simp (encodes-append, encodes-decimal, e))
-
-joined_front_3164 : (p t r : List ℕ) → ((60 ∷ (p ++ (62 ∷ []))) ++ (32 ∷ t)) ++ r ≡ 60 ∷ (p ++ (62 ∷ 32 ∷ (t ++ r)))
-joined_front_3164 p t r = simp append_assoc refl
-
-bytes_3164 : (p : ℕ) (stamp rest : Text) (t : List ℕ) → encode_utf8_all stamp ≡ t
-    → ((60 ∷ (decimal p ++ (62 ∷ []))) ++ (32 ∷ t)) ++ encode_utf8_all rest
-    ≡ encode_utf8_all (60 ∷ (decimal p ++ (62 ∷ 32 ∷ (stamp ++ rest))))
-unfolding encode_utf8
-bytes_3164 p stamp rest t e =
-    joined_front_3164 (decimal p) t (encode_utf8_all rest) ∙ sym (simp (encodes-append, encodes-decimal, e))
-
 front_bytes : (version : Option ℕ) (m : MessageValue) (c : Option ClockStamp) → m.timestamp ≡ stamp_seen c
     → front_text (priority_of m) version c
     ++ encode_utf8_all (elim (protocol_of version) [ RFC5424 v ↦ rest_5424 m | RFC3164 ↦ rest_3164 m ])
     ≡ encode_utf8_all (elim (protocol_of version) [ RFC5424 v ↦ printed_5424 v m | RFC3164 ↦ printed_3164 m ])
-unfolding printed_5424 printed_3164
-front_bytes (Some v) m c e =
-    bytes_5424 (priority_of m) v (timestamp_text m.timestamp) (rest_5424 m) (clock_text c)
-    (ap (λ t. encode_utf8_all (timestamp_text t)) e ∙ clock_bytes c)
-front_bytes None m c e =
-    bytes_3164 (priority_of m) (timestamp_text m.timestamp) (rest_3164 m) (clock_text c)
-    (ap (λ t. encode_utf8_all (timestamp_text t)) e ∙ clock_bytes c)
+unfolding printed_5424 printed_3164 encode_utf8
+front_bytes (Some v) m c e = simp (e, clock_bytes c, encoded)
+front_bytes None m c e = simp (e, clock_bytes c, encoded)
 
 -- a printed line is its front and the rest
 pub printed_line : (line : Line) → front_text (printed_number line.priority) line.version line.timestamp

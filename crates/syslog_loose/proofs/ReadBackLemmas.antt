@@ -4,9 +4,9 @@ use Rattle.syslog_loose.proofs.Names.{◌⊎◌, inl, inr, Text, Dating, IsBound
 use Rattle.syslog_loose.proofs.Names.{IsRead3164, IsRead5424, Variant, Either, RFC5424, ◌≡◌, ◌∙◌, Some, refl, sym}
 use Rattle.syslog_loose.proofs.Names.{unwrap_or, LOG_SYSLOG, SEV_DEBUG, DashRule, IsCanonical, HasNoException, printed}
 use Rattle.syslog_loose.proofs.Names.{◌↔◌, ℕ, ℤ, List, Option, Result, Ok, Err, ap, subst, string_bytes, encodes-chars}
-use Rattle.syslog_loose.proofs.Names.{IfOk, String, chars, IsUtf8, encode_utf8_all, Global, Bor, TimeZone, dating_of}
+use Rattle.syslog_loose.proofs.Names.{IfOk, String, chars, IsUtf8, encode_utf8_all, Global}
 use Rattle.syslog_loose.proofs.Names.{ReadsProtocol, IsFixed, IsOnlyRead, IsUnreadable, Answers, IncompleteDate, InYear}
-use Rattle.syslog_loose.proofs.Names.{IsQuoted, IsNot5424, ParseFault, Invalid, Memory, Protocol, ◌<◌, ◌≤◌, ◌^◌, ◌&&◌}
+use Rattle.syslog_loose.proofs.Names.{ParseFault, Invalid, Memory, Protocol, ◌<◌, ◌≤◌, ◌^◌, ◌&&◌}
 use Rattle.syslog_loose.proofs.Names.{◌∷◌, ◌++◌, suc, pos, negsuc, Bool, true, nat_eq, [], length, None, IfSome, arith}
 use Rattle.syslog_loose.proofs.Names.{nat_tests, is_ascii_digit, is_whitespace, decimal, flat_map, AllByRecursion}
 use Rattle.syslog_loose.proofs.Names.{skip_leading_whitespace, drop_trailing_whitespace, join, Each, IsPart}
@@ -30,6 +30,7 @@ use Rattle.syslog_loose.proofs.Rfc3164Lemmas.Near.{read_near, read_nearly, stamp
 use Rattle.syslog_loose.specs.ReadBack.{AnswersItself, FieldsAsRead, AnswersAgain}
 use Rattle.syslog_loose.proofs.ReadingLemmas.{Found, value, in_year_map, quoted}
 use Rattle.syslog_loose.proofs.Rfc3164Lemmas.ReadBack.{rfc3164_exact, stamp_low}
+use Rattle.syslog_loose.proofs.Rfc3164Lemmas.{printed_unlike}
 use Rattle.std.proofs.Math.Utf8.{scalar, scalars, low_scalar}
 use Rattle.std.proofs.lemmas.Bool.{and_from, and_parts, cond_both}
 use Rattle.syslog_pieces.proofs.TimestampLemmas.Digits.{is_stamp_character, stamp_range}
@@ -85,12 +86,9 @@ module _ (dating : Dating) (m : MessageValue) (b : IsBounded m) where
     | inr s ↦ (rfc3164_exact dash_rule dating m (read_near dash_rule dating (printed m) m s).protocol b).0 s
   ]
 
-  no_5424 : m.protocol ≡ protocol.RFC3164 → IsNot5424 (printed m)
-  no_5424 e = subst IsNot5424 (sym (printed_3164_is m e)) (printed_apart m)
-
   canonical_is_read : (variant : Variant) (p : Protocol) → m.protocol ≡ p → ReadsProtocol variant p
       → IsCanonical dash_rule m → IsRead variant dating (printed m) m
-  canonical_is_read Either protocol.RFC3164 e h c = inr (no_5424 e, (rfc3164_exact dash_rule dating m e b).1 c)
+  canonical_is_read Either protocol.RFC3164 e h c = inr (printed_unlike m e, (rfc3164_exact dash_rule dating m e b).1 c)
   canonical_is_read Either (protocol.RFC5424 version) e h c = inl (rfc5424.canonical_read dash_rule version m e b c)
   canonical_is_read RFC3164 protocol.RFC3164 e h c = (rfc3164_exact dash_rule dating m e b).1 c
   canonical_is_read RFC3164 (protocol.RFC5424 version) e h c = absurd h
@@ -182,7 +180,7 @@ printed_quiet variant dating text m r date asks =
 
 -- ---- what the calls return
 
-itself : (variant : Variant) (dating : Dating) (text : Text) (r : Result Found ParseFault)
+pub itself : (variant : Variant) (dating : Dating) (text : Text) (r : Result Found ParseFault)
     → Answers variant dating text r → AnswersItself variant text r
 itself variant dating text (Ok found) a m b h e n = only_read_exact dating m b variant (value found) h (rw e at a)
 itself variant dating text (Err Invalid) a m b h e n =
@@ -200,33 +198,11 @@ fields variant dating text m r =
           ((λ f. read_nearly dash_rule dating text m s f), stamp_read dash_rule dating text m s)
     ]
 
-fields_answered : (variant : Variant) (dating : Dating) (text : Text) (r : Result Found ParseFault) → Answers variant
-    dating text r → IfOk r (λ found. FieldsAsRead found.protocol dating text (value found))
-fields_answered variant dating text (Ok found) a = fields variant dating text (value found) a.read
-fields_answered variant dating text (Err fault) a = tt
-
-quotes_answered : (variant : Variant) (dating : Dating) (text : Text) (r : Result Found ParseFault) → Answers variant
-    dating text r → IfOk r (λ found. IsQuoted variant dating text (value found))
-quotes_answered variant dating text (Ok found) a = quoted variant dating text (value found) a.read
-quotes_answered variant dating text (Err fault) a = tt
-
--- a result in the year that the closure returned
-pub answered_in : {post : IncompleteDate → ℤ → Type 0} {variant : Variant} {text : Text} (tz : Option (Bor TimeZone))
-    (local : Bor TimeZone) (r : Result Found ParseFault)
-    → InYear post variant text (λ y. Answers variant (dating_of y tz local) text r)
-    → record {
-      reads : InYear post variant text (λ y. Answers variant (dating_of y tz local) text r);
-      itself : AnswersItself variant text r;
-      fields : InYear post variant text (λ y. IfOk r (λ m.
-          FieldsAsRead m.protocol (dating_of y tz local) text (value m)));
-      quotes : InYear post variant text (λ y. IfOk r (λ m. IsQuoted variant (dating_of y tz local) text (value m)));
-    }
-answered_in {variant = variant} {text = text} tz local r h = record {
-  reads = h;
-  itself = itself variant (dating_of h.answered tz local) text r (h.holds h.answered (λ date asks. refl));
-  fields = in_year_map (λ y b. fields_answered variant (dating_of y tz local) text r b) h;
-  quotes = in_year_map (λ y b. quotes_answered variant (dating_of y tz local) text r b) h;
-}
+pub answered : {P : MessageValue → Type 0} (variant : Variant) (dating : Dating) (text : Text)
+    → ((m : MessageValue) → IsRead variant dating text m → P m) → (r : Result Found ParseFault)
+    → Answers variant dating text r → IfOk r (λ found. P (value found))
+answered variant dating text f (Ok found) a = f (value found) a.read
+answered variant dating text f (Err fault) a = tt
 
 -- a message's printed text, where a canonical message of its protocol prints the same
 read_like : (variant : Variant) (dating : Dating) (m n : MessageValue) → IsBounded n → IsCanonical dash_rule n
@@ -245,10 +221,14 @@ fixed_again variant dating m (inr (inr (text, own, r, none))) h =
     let (c, b, same) = read_again dash_rule own text m r none in
     (rfc5424.completed m, read_like variant dating m (rfc5424.completed m) b c h same, same)
 
-pub again : (variant : Variant) (dating : Dating) (bytes : List ℕ) → IsUtf8 bytes
-    → (r : Result (String Global) ParseFault) → MatchResult r (λ text. (m : MessageValue) × IsOnlyRead variant dating
-    (chars bytes) m × (string_bytes text ≡ encode_utf8_all (printed m))) (λ fault. (fault ≡ Invalid) ↔ IsUnreadable
-    variant dating (chars bytes)) → AnswersAgain variant (chars bytes) bytes r
+-- what `normalise` returns
+abbrev Normalises : Variant → Dating → List ℕ → Result (String Global) ParseFault → Type 0
+Normalises variant dating bytes r = MatchResult r (λ text. (m : MessageValue)
+    × IsOnlyRead variant dating (chars bytes) m × (string_bytes text ≡ encode_utf8_all (printed m)))
+    (λ fault. (fault ≡ Invalid) ↔ IsUnreadable variant dating (chars bytes))
+
+again : (variant : Variant) (dating : Dating) (bytes : List ℕ) → IsUtf8 bytes → (r : Result (String Global) ParseFault)
+    → Normalises variant dating bytes r → AnswersAgain variant (chars bytes) bytes r
 again variant dating bytes u (Ok text) (found, only, written) m k h e n =
     let (other, r, same) = fixed_again variant dating m k h in
     written ∙ ap encode_utf8_all (ap printed (sym (only.only other (rw e r))) ∙ same ∙ sym e) ∙ encodes-chars bytes u
@@ -256,15 +236,10 @@ again variant dating bytes u (Err Invalid) told m k h e n =
     let (other, r, same) = fixed_again variant dating m k h in absurd (told.0 refl other (rw e r))
 again variant dating bytes u (Err Memory) told m k h e n = absurd (n refl)
 
--- what `normalise` returns in the year that the closure returned
-abbrev Normalises : Variant → (Option ℤ → Dating) → List ℕ → Result (String Global) ParseFault → Option ℤ → Type 0
-Normalises variant dated bytes r year = MatchResult r (λ text. (m : MessageValue)
-    × IsOnlyRead variant (dated year) (chars bytes) m × (string_bytes text ≡ encode_utf8_all (printed m)))
-    (λ fault. (fault ≡ Invalid) ↔ IsUnreadable variant (dated year) (chars bytes))
-
+-- and in the year that the closure returned
 pub again_in : (post : IncompleteDate → ℤ → Type 0) (variant : Variant) (dated : Option ℤ → Dating) (bytes : List ℕ)
     → IsUtf8 bytes → (r : Result (String Global) ParseFault)
-    → InYear post variant (chars bytes) (Normalises variant dated bytes r) → AnswersAgain variant (chars bytes) bytes r
+    → InYear post variant (chars bytes) (λ year. Normalises variant (dated year) bytes r) → AnswersAgain variant (chars bytes) bytes r
 again_in post variant dated bytes u r h =
     again variant (dated h.answered) bytes u r (h.holds h.answered (λ date asks. refl))
 
@@ -282,10 +257,6 @@ in_print c l h = grind (arith, nat_tests)
 module _ (test : ℕ → Bool) (ascii : (c : ℕ) → is_ascii_print c ≡ true → test c ≡ true) where
   abbrev Passes : Text → Type 0
   Passes text = Each test text
-
-  stamp_passes : (t : Text) → Each is_stamp_character t → Passes t
-  stamp_passes = each_map is_stamp_character test (λ c h. let r = stamp_range c h in
-      ascii c (in_print c (omega (arith, r.0)) (omega (arith, r.1))))
 
   number_line : (n : ℕ) → n < 2 ^ 64 → Passes (decimal n)
   number_line n h =
@@ -335,7 +306,10 @@ module _ (test : ℕ → Bool) (ascii : (c : ℕ) → is_ascii_print c ≡ true 
   timestamp_line : (stamp : Option OffsetTimestamp) → Passes (timestamp_text stamp)
   timestamp_line None = (ascii 45 refl, tt)
   timestamp_line (Some s) =
-      stamp_passes (timestamp_text (Some s)) (printed_stamp-characters _ _ s.instant.in_range s.offset.in_range)
+      let text = timestamp_text (Some s) in
+      each_map is_stamp_character test (λ c h. let r = stamp_range c h in
+      ascii c (in_print c (omega (arith, r.0)) (omega (arith, r.1)))) text
+      (printed_stamp-characters _ _ s.instant.in_range s.offset.in_range)
 
   params_line : (ps : List (Text × Text)) → AllByRecursion Passes (flat_map (λ p. p.0 ∷ p.1 ∷ []) ps)
       → Passes (flat_map param_text ps)
@@ -380,24 +354,14 @@ module _ (test : ℕ → Bool) (ascii : (c : ℕ) → is_ascii_print c ≡ true 
   rfc3164_line : (m : MessageValue) → IfSome m.procid IsBoundedProcess → AreLines m → Passes (printed_3164 m)
   unfolding printed_3164
   rfc3164_line m b h =
-      let stamp = timestamp_line m.timestamp in
-      let host = name_line m.hostname h.host in
-      let tag = tag_line m.appname m.procid b h.app h.process in
-      let elements = spaced_line m.structured_data h.elements in
-      search (each_append test, ascii, priority_line m) depth 20
+      search (each_append test, ascii, priority_line m, timestamp_line, name_line, tag_line, spaced_line) depth 24
 
   strict_line : (version : ℕ) (m : MessageValue) → version < 2 ^ 32 → IfSome m.procid IsBoundedProcess → AreLines m
       → Passes (printed_5424 version m)
   unfolding printed_5424
   strict_line version m v b h =
       let number = number_line version (omega arith) in
-      let stamp = timestamp_line m.timestamp in
-      let host = name_line m.hostname h.host in
-      let app = name_line m.appname h.app in
-      let process = process_line m.procid b h.process in
-      let id = name_line m.msgid h.id in
-      let elements = elements_line m.structured_data h.elements in
-      search (each_append test, ascii, priority_line m) depth 30
+      search (each_append test, ascii, priority_line m, timestamp_line, name_line, process_line, elements_line) depth 34
 
   -- ---- what is read
   rfc3164_printed : (dating : Dating) (text : Text) (m : MessageValue) → IsRead3164 dash_rule dating text m

@@ -1,5 +1,5 @@
 -- How a text is read: what the pieces at its front say, what is made of it by way of its line, and what the calls return.
-use Rattle.syslog_loose.proofs.Names.{◌≡◌, ◌≢◌, ◌∙◌, inl, inr, ℕ, ℤ, List, Option, Some, None, w32, to_z, of_z, refl}
+use Rattle.syslog_loose.proofs.Names.{◌⊎◌, ◌≡◌, ◌≢◌, ◌∙◌, inl, inr, ℕ, ℤ, List, Option, Some, None, w32, to_z, of_z, refl}
 use Rattle.syslog_loose.proofs.Names.{sym, ap, subst, MatchOption, IsSomeAnd, Bor, TimeZone, Text, shown, Dating}
 use Rattle.syslog_loose.proofs.Names.{dating_of, MonthDate, MessageValue, message_value, dash_rule, IsRead, IsOnlyRead}
 use Rattle.syslog_loose.proofs.Names.{IncompleteDate, AsksYear, IsYearAnswered, InYear, IsQuoted, incomplete}
@@ -9,14 +9,14 @@ use Rattle.syslog_loose.proofs.Names.{priority, trimmed, is_blank, clock_value, 
 use Rattle.syslog_loose.proofs.Names.{ShowsYearless, ShowsMonthDate, yearless_date, month_date, ClockStamp, front_same}
 use Rattle.syslog_loose.proofs.Names.{optional_det, run_det, Begins, begins_apart, priority_det, some_front_run}
 use Rattle.syslog_loose.proofs.Names.{month_date_begins, IsLetter, IsLow, ReadsProtocol, Answers, IsLeftTo3164}
-use Rattle.syslog_loose.proofs.Names.{HasMonth, stamped_row, IsNot3164, IsNot5424, IsBehindPriority, BeginsWithout, []}
+use Rattle.syslog_loose.proofs.Names.{HasMonth, stamped_row, IsNot3164, pos, no_truth, OffsetTimestamp, IsNot5424, IsBehindPriority, BeginsWithout, []}
 use Rattle.syslog_loose.proofs.Names.{Result, Ok, append-nil, ElementValue, list_elements, DashRule, line_value}
-use Rattle.syslog_loose.proofs.Names.{protocol_of, IsUnreadable, IsRead3164, IsLineOf, Made, ParseFault, Line, SFits}
+use Rattle.syslog_loose.proofs.Names.{protocol_of, IsRead3164, IsLineOf, Made, ParseFault, Line, SFits}
 use Rattle.std.proofs.lemmas.Int.{to_z-of_z}
 use Rattle.syslog_loose.specs.declared.variant.Variant.TheVariants.{RFC3164}
 use Rattle.syslog_loose.specs.declared.message.Message.{Message}
 use Rattle.syslog_loose.proofs.Rfc3164Lemmas.{other_read, shown_apart, not_read, date_has_month, shows_month_date}
-use Rattle.syslog_loose.proofs.Rfc3164Lemmas.{shown_once, shown_parts, shows, stamped_det, other_stamped}
+use Rattle.syslog_loose.proofs.Rfc3164Lemmas.{shown_once, shown_parts, shows, stamped_det}
 use Rattle.syslog_pieces.specs.Pieces.View.{Reads}
 use Rattle.syslog_pieces.specs.Timestamp.{IsAnswer}
 use Rattle.syslog_pieces.specs.Timestamp.Zone.{IsMonthStamp}
@@ -28,7 +28,6 @@ use Rattle.syslog_pieces.specs.StructuredData.Visited.{Visits}
 use Rattle.syslog_pieces.specs.StructuredData.Collected.{HasCollected}
 use Rattle.syslog_pieces.specs.declared.structured_data.collect.Collect.{Collect}
 use Rattle.syslog_loose.specs.Message.{with_elements}
-use Rattle.syslog_loose.specs.Reading.{IsFault}
 use Rattle.syslog_loose.specs.Visit.{HasRest, IsCompleted}
 use Rattle.syslog_loose.proofs.Rfc3164Lemmas as rfc3164
 use Rattle.syslog_loose.proofs.Rfc5424Lemmas as strict
@@ -61,27 +60,13 @@ pub only_read : (variant : Variant) (dating : Dating) (text : Text) (m : Message
     → IsOnlyRead variant dating text m
 only_read variant dating text m r = record { read = r; only = λ n s. read_once variant dating text n m s r }
 
--- ---- from the headers
-
--- a reading by RFC 5424 is one by each variant that reads it
-pub strictly : (variant : Variant) (dating : Dating) {text : Text} {m : MessageValue} → variant ≢ RFC3164
-    → IsRead5424 text m → IsRead variant dating text m
-strictly RFC3164 dating n r = absurd (n refl)
-strictly RFC5424 dating n r = r
-strictly Either dating n r = inl r
-
 -- ---- the year
 
--- a reading in which no year is asked for is one in each year
-pub any_year : (variant : Variant) (text : Text) (tz : Option (Bor TimeZone)) (local : Bor TimeZone)
-    (year other : Option ℤ) (m : MessageValue) → ((date : MonthDate) → AsksYear variant text date → ⊥)
-    → IsRead variant (dating_of year tz local) text m → IsRead variant (dating_of other tz local) text m
-any_year RFC5424 text tz local year other m never r = r
-any_year RFC3164 text tz local year other m never r =
-    other_read (dating_of year tz local) (dating_of other tz local) refl refl dash_rule text never m r
-any_year Either text tz local year other m never (inl r) = inl r
-any_year Either text tz local year other m never (inr (none, r)) =
-    inr (none, other_read (dating_of year tz local) (dating_of other tz local) refl refl dash_rule text never m r)
+-- what holds in each year, where no year is asked for
+pub unasked : {post : IncompleteDate → ℤ → Type 0} {variant : Variant} {text : Text} {Holds : Option ℤ → Type 0}
+    → ((date : MonthDate) → AsksYear variant text date → ⊥) → ((year : Option ℤ) → Holds year)
+    → InYear post variant text Holds
+unasked never h = record { answered = None; is_answered = never; holds = λ year agrees. h year }
 
 -- what holds in the year that the closure answered, and in each year where it holds in none that is asked for
 pub in_answered_year : (post : IncompleteDate → ℤ → Type 0) (variant : Variant) (text : Text)
@@ -92,16 +77,6 @@ in_answered_year post variant text Holds None is any h =
     record { answered = None; is_answered = is; holds = λ other agrees. any is other h }
 in_answered_year post variant text Holds (Some year) is any h =
     record { answered = Some year; is_answered = is; holds = λ other agrees. subst Holds (sym (agrees is.0 is.1)) h }
-
--- the year for the date that the text asks a year of
-pub answered_to : (post : IncompleteDate → ℤ → Type 0) (variant : Variant) (text : Text) (asked : Option IncompleteDate)
-    (year : Option ℤ) → MatchOption asked ((date : MonthDate) → AsksYear variant text date → ⊥) (λ d. (date : MonthDate)
-    × AsksYear variant text date × (d ≡ incomplete date)) → MatchOption asked (year ≡ None)
-    (λ d. IsSomeAnd year (λ y. post d y)) → IsYearAnswered post variant text year
-answered_to post variant text None None h k = h
-answered_to post variant text None (Some y) h k = cc
-answered_to post variant text (Some d) None h k = absurd k
-answered_to post variant text (Some d) (Some y) (date, asks, e) k = (date, asks, rw e at k)
 
 -- what holds in each year that agrees holds in that year
 pub in_year_map : {post : IncompleteDate → ℤ → Type 0} {variant : Variant} {text : Text} {Holds More : Option ℤ → Type
@@ -174,7 +149,7 @@ neither Either dating text strict loose = λ m r. elim r [
 unstamped : (text : Text) {follows start : Text} {p : Option ℕ} → IsBehindPriority (trimmed text) p follows
     → Front (run is_blank) follows start tt → (dating : Dating) → NoFront (rfc3164_stamp dating) start
     → IsNot3164 dash_rule dating text
-unstamped text f gap dating none = not_read dash_rule dating text (trimmed text) refl
+unstamped text f gap dating none = not_read dash_rule dating
     (no_row (stamped_row dating) (stamped_det dating) (f past gap past inl none))
 
 -- ---- the year
@@ -198,6 +173,25 @@ asked_month d None x f h is = cc
 asked_month d (Some y) x f (none, e) is =
     let same : y ≡ x = cc in subst HasMonth (sym e ∙ same) (date_has_month d (yearless d f none))
 
+-- a date with a year has the same timestamp in each other year
+same_year : (shown : Option ℕ) (year other : Option ℤ) (y : ℤ) → IsSome shown
+    → elim shown [ Some n ↦ Some (pos n) | None ↦ year ] ≡ Some y
+    → elim shown [ Some n ↦ Some (pos n) | None ↦ other ] ≡ Some y
+same_year (Some n) year other y some e = e
+same_year None year other y some e = absurd (no_truth some)
+
+stamp_in_any : (year other : Option ℤ) (tz : Option (Bor TimeZone)) (local : Bor TimeZone) (d : MonthDate)
+    (s : OffsetTimestamp) → IsSome d.year → IsMonthStamp (dating_of year tz local) d s
+    → IsMonthStamp (dating_of other tz local) d s
+stamp_in_any year other tz local d s some (y, dt, is, of, at) =
+    (y, dt, same_year d.year year other y some is, of, at)
+
+answer_in_any : (year other : Option ℤ) (tz : Option (Bor TimeZone)) (local : Bor TimeZone) (d : MonthDate)
+    (r : Option ClockStamp) → IsSome d.year → IsAnswer (IsMonthStamp (dating_of year tz local) d) r
+    → IsAnswer (IsMonthStamp (dating_of other tz local) d) r
+answer_in_any year other tz local d None some none = λ s k. none s (stamp_in_any other year tz local d s some k)
+answer_in_any year other tz local d (Some c) some k = stamp_in_any year other tz local d (clock_value c) some k
+
 module _ (variant : Variant) (text : Text) {follows : Text} {p : Option ℕ}
     (f : IsBehindPriority (trimmed text) p follows) where
   module _ {q : Text} (d : MonthDate) (b : BeginsWith month_date variant follows d q) where
@@ -217,13 +211,22 @@ module _ (variant : Variant) (text : Text) {follows : Text} {p : Option ℕ}
         let none : d.year ≡ None = ap (λ (x : MonthDate). x.year) (same ∙ date.is.2) in
         let t : false ≡ true = rw none at some in cc
 
-    -- so the year is the one that was answered, if one was asked for
-    pub date_answered : (post : IncompleteDate → ℤ → Type 0) (asked : Option IncompleteDate) (year : Option ℤ)
+    -- so what the date has for a timestamp, it has in the year that was answered, if one was asked for
+    pub dated_in : (post : IncompleteDate → ℤ → Type 0) (tz : Option (Bor TimeZone)) (local : Bor TimeZone)
+        (asked : Option IncompleteDate) (year : Option ℤ) (r : Option ClockStamp)
         → MatchOption asked (IsSome d.year) (λ x. (d.year ≡ None) × (x ≡ incomplete d))
-        → MatchOption asked (year ≡ None) (λ x. IsSomeAnd year (λ y. post x y)) → IsYearAnswered post variant text year
-    date_answered post None year some is = answered_to post variant text None year (asks_no_other some) is
-    date_answered post (Some x) year (none, e) is =
-        answered_to post variant text (Some x) year (d, asks_year none, e) is
+        → MatchOption asked (year ≡ None) (λ x. IsSomeAnd year (λ y. post x y))
+        → IsAnswer (IsMonthStamp (dating_of year tz local) d) r
+        → InYear post variant text (λ y. IsAnswer (IsMonthStamp (dating_of y tz local) d) r)
+    dated_in post tz local None year r some is h =
+        unasked (asks_no_other some) (λ other. answer_in_any year other tz local d r some h)
+    dated_in post tz local (Some x) None r asked is h = absurd is
+    dated_in post tz local (Some x) (Some y) r (none, e) is h = record {
+      answered = Some y;
+      is_answered = (d, asks_year none, rw e at is);
+      holds = λ other agrees. subst (λ (z : Option ℤ). IsAnswer (IsMonthStamp (dating_of z tz local) d) r)
+          (sym (agrees d (asks_year none))) h;
+    }
 
     -- the text is none of RFC 5424
     dated_unread : IsNot5424 text
@@ -273,12 +276,15 @@ module _ (variant : Variant) (text : Text) {follows : Text} {p : Option ℕ}
 
 -- ---- what is made of a text by way of its line
 
--- what RFC 3164 reads, each variant reads that is left to try it
-pub reads_so : (variant : Variant) (dating : Dating) (text : Text) (m : MessageValue) → IsLeftTo3164 variant text
-    → IsRead3164 dash_rule dating text m → IsRead variant dating text m
-reads_so RFC5424 dating text m left r = absurd left
-reads_so RFC3164 dating text m left r = r
-reads_so Either dating text m left r = inr (left, r)
+-- a reading by RFC 5424 is one by each variant that reads it, and one by RFC 3164 by each that is left to try it
+read_by : (variant : Variant) (dating : Dating) (text : Text) (m : MessageValue) → (variant ≢ RFC3164
+    × IsRead5424 text m) ⊎ (IsLeftTo3164 variant text × IsRead3164 dash_rule dating text m) → IsRead variant dating text m
+read_by RFC5424 dating text m (inl (n, r)) = r
+read_by RFC5424 dating text m (inr (left, r)) = absurd left
+read_by RFC3164 dating text m (inl (n, r)) = absurd (n refl)
+read_by RFC3164 dating text m (inr (left, r)) = r
+read_by Either dating text m (inl (n, r)) = inl r
+read_by Either dating text m (inr both) = inr both
 
 -- a line of RFC 5424 has a version
 pub versioned : {text : Text} (line : Line) → IsRead5424 text (line_value line) → line.version ≡ None → ⊥
@@ -296,55 +302,20 @@ unversioned line r =
     no_version None e = refl
     no_version (Some n) e = cc
 
--- a reading that asks for no year is one of the line in each year
-line_in_any : (variant : Variant) (text : Text) (tz : Option (Bor TimeZone)) (local : Bor TimeZone) (line : Line)
-    (year other : Option ℤ) → ((date : MonthDate) → AsksYear variant text date → ⊥)
-    → IsLineOf variant (dating_of year tz local) text line → IsLineOf variant (dating_of other tz local) text line
-line_in_any variant text tz local line year other never of = record {
-  only = only_read variant (dating_of other tz local) text (line_value line)
-      (any_year variant text tz local year other (line_value line) never of.only.read);
-  rest = rest_in_any variant never of.only.read of.rest;
+-- the line of what was read
+pub line_5424 : (variant : Variant) (dating : Dating) {text : Text} (line : Line)
+    → variant ≢ RFC3164 × IsRead5424 text (line_value line) → IsLineOf variant dating text line
+line_5424 variant dating {text} line r = record {
+  only = only_read variant dating text (line_value line) (read_by variant dating text (line_value line) (inl r));
+  rest = λ none. absurd (versioned line r.1 none);
 }
-  where
-    rest_in_any : (variant : Variant) → ((date : MonthDate) → AsksYear variant text date → ⊥) → IsRead variant
-        (dating_of year tz local) text (line_value line) → (line.version ≡ None → HasRest (dating_of year tz local) text
-        line) → line.version ≡ None → HasRest (dating_of other tz local) text line
-    rest_in_any RFC5424 never r rest none = absurd (versioned line r none)
-    rest_in_any variant never r rest none =
-        other_stamped (dating_of year tz local) (dating_of other tz local) refl refl text never (rest none)
 
-module _ {V A E : Type 0} (makes : V → Line → A → V → Type 0) (given : E → E → List ElementValue → Type 0)
-    (variant : Variant) (text : Text) (old new : V) (before after : E) where
-  pub made_5424 : (dating : Dating) → variant ≢ RFC3164 → (line : Line) (made : A) → IsRead5424 text (line_value line)
-      → makes old line made new → Visits given before (list_elements line.list) after
-      → Made makes given variant dating text old before (Some made) new after
-  made_5424 dating reads line made r m v =
-      let only = only_read variant dating text (line_value line) (strictly variant dating reads r) in
-      (line, record { only = only; rest = λ none. absurd (versioned line r none) }, m, v)
-
-  pub made_3164 : (dating : Dating) → IsLeftTo3164 variant text → (line : Line) (made : A) → IsRead3164 dash_rule dating
-      text (line_value line) × HasRest dating text line → makes old line made new → Visits given before
-      (list_elements line.list) after → Made makes given variant dating text old before (Some made) new after
-  made_3164 dating left line made (r, rest) m v =
-      let only = only_read variant dating text (line_value line) (reads_so variant dating text (line_value line) left r) in
-      (line, record { only = only; rest = λ none. rest }, m, v)
-
-  module _ (tz : Option (Bor TimeZone)) (local : Bor TimeZone) where
-    any_made : (result : Option A) (year other : Option ℤ) → ((date : MonthDate) → AsksYear variant text date → ⊥)
-        → Made makes given variant (dating_of year tz local) text old before result new after
-        → Made makes given variant (dating_of other tz local) text old before result new after
-    any_made None year other never (none, same, v) =
-        ((λ m r. none m (any_year variant text tz local other year m never r)), same, v)
-    any_made (Some made) year other never (line, of, m, v) =
-        (line, line_in_any variant text tz local line year other never of, m, v)
-
-    -- what is made in the year that the closure answered
-    pub made_in : (post : IncompleteDate → ℤ → Type 0) (result : Option A) (year : Option ℤ) → IsYearAnswered post
-        variant text year → Made makes given variant (dating_of year tz local) text old before result new after → InYear
-        post variant text (λ y. Made makes given variant (dating_of y tz local) text old before result new after)
-    made_in post result year is h = in_answered_year post variant text
-        (λ y. Made makes given variant (dating_of y tz local) text old before result new after) year is
-        (λ never other made. any_made result None other never made) h
+pub line_3164 : (variant : Variant) (dating : Dating) {text : Text} (line : Line) → IsLeftTo3164 variant text
+    → IsRead3164 dash_rule dating text (line_value line) × HasRest dating text line → IsLineOf variant dating text line
+line_3164 variant dating {text} line left (r, rest) = record {
+  only = only_read variant dating text (line_value line) (read_by variant dating text (line_value line) (inr (left, r)));
+  rest = λ none. rest;
+}
 
 -- what is given after nothing was
 pub visits_after : {E : Type 0} (given : E → E → List ElementValue → Type 0) (old mid new : E) (es : List ElementValue)
@@ -354,27 +325,16 @@ visits_after given old mid new es none v first ds h =
 
 -- ---- what the reading calls make
 
--- the message that was made with the elements that were collected
-completed : (variant : Variant) (dating : Dating) (text : Text) (line : Line) (m : Found) → IsOnlyRead variant dating
-    text (line_value line) → message_value (λ s. shown s) m ≡ with_elements (line_value line) []
-    → (r : Result Found ParseFault) → IsCompleted (Some m) (list_elements line.list) r → Answers variant dating text r
-completed variant dating text line m only e (Ok n) same =
-    subst (λ (x : MessageValue). IsOnlyRead variant dating text x)
-    (sym (same ∙ ap (λ (x : MessageValue). with_elements x (list_elements line.list)) e)) only
-completed variant dating text line m only e (Err fault) (is, some) =
-    subst (λ (x : ParseFault). IsFault variant dating text x) (sym is)
-    (λ needless. some (needless (line_value line) only.read))
-
-not_made : (variant : Variant) (dating : Dating) (text : Text) → IsUnreadable variant dating text
-    → (r : Result Found ParseFault) → IsCompleted None [] r → Answers variant dating text r
-not_made variant dating text none (Ok m) h = absurd h
-not_made variant dating text none (Err fault) h = subst (λ (y : ParseFault). IsFault variant dating text y) (sym h) none
-
 module _ {V : Type 0} (variant : Variant) (dating : Dating) (text : Text) (old new : V) (before after : Collect) where
   pub message_answers : (made : Option Found) (r : Result Found ParseFault) → Made (λ (_ : V) line m _. message_value
       (λ s. shown s) m ≡ with_elements (line_value line) []) (λ _ c es. HasCollected c es) variant dating text old
       before made new after → HasCollected before [] → ((es : List ElementValue) → HasCollected after es → IsCompleted
       made es r) → Answers variant dating text r
-  message_answers None r (none, same, v) empty h = not_made variant dating text none r (h [] (v before [] empty))
-  message_answers (Some m) r (line, of, e, v) empty h =
-      completed variant dating text line m of.only e r (h (list_elements line.list) (v before [] empty))
+  message_answers None (Ok n) (none, same, v) empty h = absurd (h [] (v before [] empty))
+  message_answers None (Err fault) (none, same, v) empty h = rw (h [] (v before [] empty)) none
+  message_answers (Some m) (Ok n) (line, of, e, v) empty h =
+      let same = h (list_elements line.list) (v before [] empty) in
+      rw (same ∙ ap (λ (x : MessageValue). with_elements x (list_elements line.list)) e) of.only
+  message_answers (Some m) (Err fault) (line, of, e, v) empty h =
+      let (is, some) = h (list_elements line.list) (v before [] empty) in
+      rw is (λ needless. some (needless (line_value line) of.only.read))

@@ -24,14 +24,16 @@ use Rattle.syslog_loose.proofs.Names.{flat_map, IsPart, AreInPieces, text_list, 
 use Rattle.syslog_loose.proofs.Names.{all_right, Quoted, row_quotes, silent, rest_quotes, host_quotes, part_joined}
 use Rattle.syslog_loose.proofs.Names.{Quotes3164, rows_split, IsAscii, chars_nonempty, tag_word_det, to_ascii_lowercase}
 use Rattle.syslog_loose.proofs.Names.{no_some_run, stamp_text-year, optional_rfc3164_list_quotes, message_of_parts}
-use Rattle.syslog_pieces.proofs.PieceLemmas.Class.{texted_det, after_det, Fails, all_append}
+use Rattle.syslog_pieces.proofs.PieceLemmas.Class.{texted_det, after_det, Fails, all_append, behind}
+use Rattle.syslog_loose.specs.Rfc3164.{NamesByForm}
+use Rattle.syslog_loose.proofs.Names.{length-append, full_element, full_shorter, absent_none, IsMany, ElementValue}
 use Rattle.syslog_pieces.proofs.PieceLemmas.Lists.{first_kind, each_begins, texted_quotes, tag_word_quotes}
 use Rattle.syslog_pieces.proofs.PieceLemmas.Lists.{optional_quotes, optional_texts, spaced_quotes, part_left}
 use Rattle.syslog_pieces.proofs.PieceLemmas.Lists.{part_right}
 use Rattle.syslog_pieces.proofs.TimestampLemmas.MonthDate.{month_date_det, dated_date, IsBlank, blanks_begin, blank_low}
 use Rattle.syslog_pieces.specs.Bodies.Scan.{SplitsRun}
 use Rattle.syslog_pieces.specs.Pieces.Class.{NoDivision}
-use Rattle.syslog_pieces.specs.Timestamp.MonthDate.{month_names, short_number, clock_row, yearless_row, yearless_of}
+use Rattle.syslog_pieces.specs.Timestamp.MonthDate.{month_names, short_number, clock_row, yearless_row}
 use Rattle.std.proofs.lemmas.Option.{slice_get_within}
 use Rattle.syslog_pieces.specs.Bodies.MonthReading.{BeginsWithDate, showing_row}
 use Rattle.syslog_loose.specs.Printed.{printed_3164}
@@ -69,9 +71,6 @@ one_form text tag id tag' id' f g =
 
 -- ---- what the reader finds
 
-pub closing_ascii : IsAscii (93 ∷ [])
-closing_ascii = one_ascii 93 (omega arith)
-
 pub label_front : {bs xs ys : List ℕ} → SplitsRun is_label_char bs xs ys → Front label (chars bs) (chars ys) (chars xs)
 label_front s = record { piece = _; whole = s.characters; is = (tt, (s.each, s.ends), refl) }
 
@@ -86,9 +85,6 @@ id_front {xs = xs} s l = record {
 pub no_id : {bs xs ys : List ℕ} → SplitsRun is_open_char bs xs ys → length xs ≡ 0 → NoFront id_text (chars bs)
 no_id {bs = bs} {xs = xs} {ys = ys} s z = no_texted (some_run is_open_char) (no_some_run is_open_char bs xs ys s z)
 
-pub closing_front : {t : Text} → t ≡ 93 ∷ [] → Front closing t [] tt
-closing_front e = record { piece = 93 ∷ []; whole = e; is = refl }
-
 -- a piece of the form is not there
 pub no_form : {t : Text} → Fails form_row t → IsNoForm t
 no_form f = no_row_division form_row (no_row form_row form_det f)
@@ -102,27 +98,21 @@ no_closing f n vs d =
 
 -- ---- what the two fields of names mean
 
--- the text is of the form `tag[id]` and names that program beside this host, or it names these
-abbrev Names : Option Text → Names3164 → Text → Names3164 → Type 0
-Names host other text n =
-    ((tag : Text) × (id : Text) × (process : ProcId Text) × IsForm text tag id × NamesProcess id process
-    × (n ≡ names host (Some tag) (Some process))) ⊎ (IsNoForm text × (n ≡ other))
-
-names_once : (host : Option Text) (other : Names3164) (text : Text) (r s : Names3164) → Names host other text r
-    → Names host other text s → r ≡ s
-names_once host other text r s (inl (t, i, p, f, n, e)) (inl (t', i', p', f', n', e')) =
+names_once : (host : Option Text) (text : Text) (other r s : Names3164) → NamesByForm host text other r
+    → NamesByForm host text other s → r ≡ s
+names_once host text other r s (inl (t, i, p, f, n, e)) (inl (t', i', p', f', n', e')) =
     let (tag, id) = one_form text t i t' i' f f' in
     let same = process_same i' p p' (rw id at n) n' in cc
-names_once host other text r s (inl (t, i, p, f, n, e)) (inr (none, e')) = absurd (none _ f)
-names_once host other text r s (inr (none, e)) (inl (t, i, p, f, n, e')) = absurd (none _ f)
-names_once host other text r s (inr (none, e)) (inr (none', e')) = e ∙ sym e'
+names_once host text other r s (inl (t, i, p, f, n, e)) (inr (none, e')) = absurd (none _ f)
+names_once host text other r s (inr (none, e)) (inl (t, i, p, f, n, e')) = absurd (none _ f)
+names_once host text other r s (inr (none, e)) (inr (none', e')) = e ∙ sym e'
 
 -- the two fields mean one thing
 pub resolves_once : (host tag : Option (Option Text)) (r s : Names3164) → Resolves host tag r → Resolves host tag s
     → r ≡ s
-resolves_once (Some (Some h)) None r s x y = names_once None (names (Some h) None None) h r s x y
-resolves_once None (Some (Some t)) r s x y = names_once None (names None (Some t) None) t r s x y
-resolves_once (Some h) (Some (Some t)) r s x y = names_once h (names h (Some t) None) t r s x y
+resolves_once (Some (Some h)) None r s x y = names_once None h (names (Some h) None None) r s x y
+resolves_once None (Some (Some t)) r s x y = names_once None t (names None (Some t) None) r s x y
+resolves_once (Some h) (Some (Some t)) r s x y = names_once h t (names h (Some t) None) r s x y
 resolves_once v t r s x y = x ∙ sym y
 
 -- What holds of the names that a host field and a tag field mean, case by case: of no names, of a lone text (a host, or
@@ -250,10 +240,10 @@ one_message rule dating text m n r s =
     e ∙ ap (told rule dating s.values) (resolves_once s.values.1.1.1.0 s.values.1.1.1.1.0 x y h k) ∙ sym f
 
 -- ---- from the row of the trimmed text
-pub not_read : (rule : DashRule) (dating : Dating) (text t : Text) → t ≡ trimmed text
-    → NoFront (Row (stamped_row dating)) t → IsNot3164 rule dating text
-not_read rule dating text t e n =
-    no_row_division (rfc3164_row rule dating) (rows_none_here (stamped_row dating) (body_row rule) (rw e at n))
+pub not_read : (rule : DashRule) (dating : Dating) {text : Text} → NoFront (Row (stamped_row dating)) text
+    → NoDivision (rfc3164_row rule dating) text
+not_read rule dating n =
+    no_row_division (rfc3164_row rule dating) (rows_none_here (stamped_row dating) (body_row rule) n)
 
 pub is_read : (rule : DashRule) (dating : Dating) (text t : Text) (vs : Values (rfc3164_row rule dating))
     (m : MessageValue) → t ≡ trimmed text → Means3164 rule dating vs m
@@ -263,6 +253,22 @@ is_read rule dating text t vs m e means f = record {
   division = front_division (rfc3164_row rule dating) (rw e at f);
   means = means;
 }
+
+-- ---- a list that is there is no empty text
+many_shorter : (p q : Text) (es : List ElementValue) → 0 < length es → IsMany full_element p q es
+    → length q < length (p ++ q)
+many_shorter p q [] l h = absurd (omega arith)
+many_shorter p q (e ∷ es) l (a, b, whole, is, more) =
+    let f : Front full_element (p ++ q) (b ++ q) e = record { piece = a; whole = behind p a b q whole; is = is } in
+    omega (arith, full_shorter (p ++ q) (b ++ q) e f, length-append b q)
+
+pub list_none : (rule : DashRule) {t q : Text} (v : Option (List ElementValue)) → Front (optional (rfc3164_list rule)) t q v
+    → length t ≤ length q → (elements_or v ≡ []) × NoFront (rfc3164_list rule) t
+list_none rule None f l = (refl, absent_none (rfc3164_list rule) f)
+list_none rule {q = q} (Some es) f l = elim f.is [
+  | inl (d, a, z) ↦ absurd (omega (arith, ap length (f.whole ∙ ap (λ (x : Text). x ++ q) d)))
+  | inr (some, many) ↦ absurd (omega (arith, ap length f.whole, many_shorter f.piece q es some many))
+]
 
 -- ---- nothing after the timestamp can fail
 
@@ -279,14 +285,12 @@ optional_stands C Cs s t n =
     s t (λ vs g. n (None, vs) (row_cons (optional C) Cs (optional_none C (λ p q v e h.
     s q (λ ws k. n (Some v, ws) (row_cons (optional C) Cs (record { piece = p; whole = e; is = h }) k)))) g))
 
-rest_stands : Stands (rest ∷ [])
-rest_stands t n = n (t, tt) (row_of (rest ∷ []) (rest_front t then refl))
-
 pub body_stands : (rule : DashRule) → Stands (body_row rule)
 body_stands rule =
     optional_stands (spaced host) (from_tag rule) (optional_stands (spaced tag_word) (from_tag_end rule)
     (run_stands (from_colon rule) (optional_stands (exactly colon) (from_blanks rule)
-    (run_stands (from_list rule) (optional_stands (rfc3164_list rule) from_gap (run_stands (rest ∷ []) rest_stands))))))
+    (run_stands (from_list rule) (optional_stands (rfc3164_list rule) from_gap (run_stands (rest ∷ [])
+    (λ t n. n (t, tt) (row_of (rest ∷ []) (rest_front t then refl)))))))))
 
 -- a text has no division exactly where no priority, blanks and timestamp begin it
 pub division_is_stamped : (rule : DashRule) (dating : Dating) (text : Text) → NoDivision (rfc3164_row rule dating) text
@@ -294,18 +298,20 @@ pub division_is_stamped : (rule : DashRule) (dating : Dating) (text : Text) → 
 division_is_stamped rule dating text = (
   (λ n p q vs e h. body_stands rule q (λ ws g. n _ (front_division (rfc3164_row rule dating) (rows_join
       (stamped_row dating) (body_row rule) (record { piece = p; whole = e; is = h }) g)))),
-  (λ n. no_row_division (rfc3164_row rule dating) (rows_none_here (stamped_row dating) (body_row rule) n)),
+  not_read rule dating,
 )
 
 -- ---- a date has one of twelve months, and numbers of 32 bits
 
-row_has_month : {t q : Text} (vs : Values yearless_row) → Front (Row yearless_row) t q vs
-    → HasMonth (incomplete (yearless_of vs))
-row_has_month vs f =
-    let (_, f1, more) = row_pieces (month ∷ some_run is_blank ∷ short_number ∷ some_run is_blank ∷ clock_row) f in
-    let (_, _, (_, f3, (_, _, (_, f5, (_, _, (_, f7, (_, _, (_, f9, _)))))))) = more in
-    let (before, e, at) = f1.is in
-    let within : before < 12 = slice_get_within month_names before (map to_ascii_lowercase f1.piece) at in (
+pub date_has_month : {t q : Text} (d : MonthDate) → Front yearless_date t q d → HasMonth (incomplete d)
+date_has_month {t} {q} d f =
+    let (vs, h, e) = f.is in
+    let row : Front (Row yearless_row) t q vs = record { piece = f.piece; whole = f.whole; is = h } in
+    let (_, f1, (_, _, (_, f3, (_, _, (_, f5, (_, _, (_, f7, (_, _, (_, f9, _))))))))) =
+    row_pieces (month ∷ some_run is_blank ∷ short_number ∷ some_run is_blank ∷ clock_row) row in
+    let (before, named, at) = f1.is in
+    let within : before < 12 = slice_get_within month_names before (map to_ascii_lowercase f1.piece) at in
+    rw e (
       omega arith,
       omega arith,
       omega (arith, f3.is.4),
@@ -313,12 +319,6 @@ row_has_month vs f =
       omega (arith, f7.is.4),
       omega (arith, f9.is.4),
     )
-
-pub date_has_month : {t q : Text} (d : MonthDate) → Front yearless_date t q d → HasMonth (incomplete d)
-date_has_month {t} {q} d f =
-    let (vs, h, e) = f.is in
-    let row : Front (Row yearless_row) t q vs = record { piece = f.piece; whole = f.whole; is = h } in
-    rw e (row_has_month vs row)
 
 -- ---- what a text shows
 
@@ -383,20 +383,12 @@ pub record Versioned (t : Text) : Type 0 where
   pub blank : Begins IsBlank after
 
 -- digits and a dash are no version
-dated_apart : (y r q : Text) → Each is_ascii_digit y → Versioned ((y ++ (45 ∷ r)) ++ q) → ⊥
-dated_apart y r q h v =
-    let w = sym (append_assoc y (45 ∷ r) q) ∙ v.number.whole in
-    let same = run_same is_ascii_digit y (45 ∷ (r ++ q)) v.number.piece v.after w h refl v.number.is.1 v.number.is.2 in
-    let a : 45 ∷ (r ++ q) ≡ v.after = rest_same y (45 ∷ (r ++ q)) v.number.piece v.after w same in
-    begins_apart v.after (λ c d k. let t = blank_low c k in omega arith)
-    (begins_with IsDash 45 v.after (r ++ q) (sym a) refl) v.blank
-
-stamp_apart : (p q : Text) (v : Option OffsetTimestamp) → header_stamp.Is p q v → Versioned (p ++ q) → ⊥
-stamp_apart p q None e v =
-    begins_apart (p ++ q) (λ c h k. let t = digit_range c k in omega arith)
-    (begins_with IsDash 45 (p ++ q) q (ap (λ (x : Text). x ++ q) e) refl) (number_begins 4294967295 v.number)
-stamp_apart p q (Some s) (h, z) v =
-    let (y, r, e, digits) = stamp_text-year p s h in dated_apart y r q digits (rw e at v)
+dash_apart : (y r t : Text) → t ≡ y ++ (45 ∷ r) → Each is_ascii_digit y → Versioned t → ⊥
+dash_apart y r t e h v =
+    let w : y ++ (45 ∷ r) ≡ v.number.piece ++ v.after = sym e ∙ v.number.whole in
+    let same = run_same is_ascii_digit y (45 ∷ r) v.number.piece v.after w h refl v.number.is.1 v.number.is.2 in
+    let a : 45 ∷ r ≡ v.after = rest_same y (45 ∷ r) v.number.piece v.after w same in
+    let b : false ≡ true = rw (sym a) at v.blank in cc
 
 date_apart : (p q : Text) (d : MonthDate) → month_date.Is p q d → Versioned (p ++ q) → ⊥
 date_apart p q d h v =
@@ -405,7 +397,9 @@ date_apart p q d h v =
 
 rfc3164_apart : (dating : Dating) (p q : Text) (v : Option OffsetTimestamp) → (rfc3164_stamp dating).Is p q v
     → Versioned (p ++ q) → ⊥
-rfc3164_apart dating p q v (inl h) n = stamp_apart p q v h n
+rfc3164_apart dating p q None (inl h) n = dash_apart [] q (p ++ q) (ap (λ (x : Text). x ++ q) h) tt n
+rfc3164_apart dating p q (Some s) (inl h) n =
+    let (y, r, e, digits) = stamp_text-year p s h.0 in dash_apart y (r ++ q) (p ++ q) (behind p y (45 ∷ r) q e) digits n
 rfc3164_apart dating p q None (inr h) n = absurd h
 rfc3164_apart dating p q (Some s) (inr (d, h, stamp)) n = date_apart p q d h n
 
@@ -458,6 +452,9 @@ unfolding printed_3164
 printed_apart m vs d =
     no_digit _ _ (number_begins 4294967295 (versioned _ _ _ vs (rw priority_trimmed at d)
     (optional_some priority (priority_front (priority_of m) _ (priority_low m)))).number)
+
+pub printed_unlike : (m : MessageValue) → m.protocol ≡ RFC3164 → IsNot5424 (printed m)
+printed_unlike m e = rw (printed_3164_is m e) (printed_apart m)
 
 -- ---- parts of texts in pieces
 part_on : (p t u : Text) → IsPart p t → IsPart t u → IsPart p u
@@ -559,29 +556,19 @@ module _ (dating other : Dating) (zone : dating.zone ≡ other.zone) (local : da
       let (year, dt, is, f, stamp) = rw e at k in
       inr (d, inr (vs, h, e), rw e (year, dt, is, f, rw (zone, local) at stamp))
 
-  module _ (text : Text) (none : (d : MonthDate) → ShowsYearless text d → ⊥) where
-    -- so the pieces up to the timestamp are the same, with the same meanings
-    pub other_stamped : {q : Text} {vs : Values (stamped_row dating)} → Front (Row (stamped_row dating)) (trimmed text) q vs
-        → Front (Row (stamped_row other)) (trimmed text) q vs
-    other_stamped {vs = vs} f =
-        let (_, pri, (u, gap, (q, stamp, end))) = row_pieces (stamped_row dating) f in
-        let undated : (d : MonthDate) → yearless_date.Is stamp.piece q d → ⊥ = λ d k.
-        none d (shows yearless_date pri gap (record { piece = stamp.piece; whole = stamp.whole; is = k })) in
-        let same : Front (rfc3164_stamp other) u q vs.1.1.0 = record {
-          piece = stamp.piece;
-          whole = stamp.whole;
-          is = other_stamp stamp.piece q vs.1.1.0 undated stamp.is;
-        } in
-        row_of (stamped_row other) (pri then gap then same then end)
-
   module _ (rule : DashRule) (text : Text) (none : (d : MonthDate) → ShowsYearless text d → ⊥) where
-    -- and so are all
+    -- so all pieces are the same, with the same meanings
     pub other_read : (m : MessageValue) → IsRead3164 rule dating text m → IsRead3164 rule other text m
     other_read m r =
-        let (_, stamped, body) = rows_split (stamped_row dating) (body_row rule)
+        let (_, pri, (u, gap, (q, stamp, body))) = row_pieces (rfc3164_row rule dating)
         (division_front (rfc3164_row rule dating) r.division) in
+        let v = r.values.1.1.0 in
+        let undated : (d : MonthDate) → yearless_date.Is stamp.piece q d → ⊥ = λ d k.
+        none d (shows yearless_date pri gap (record { piece = stamp.piece; whole = stamp.whole; is = k })) in
+        let is = other_stamp stamp.piece q v undated stamp.is in
+        let same : Front (rfc3164_stamp other) u q v = record { piece = stamp.piece; whole = stamp.whole; is = is } in
         is_read rule other text (trimmed text) r.values m refl r.means
-        (rows_join (stamped_row other) (body_row rule) (other_stamped text none stamped) body)
+        (row_of (rfc3164_row rule other) (pri then gap then same then body))
 
     pub other_quotes : (m : MessageValue) → Quotes3164 rule dating text m → Quotes3164 rule other text m
     other_quotes m k = quotes rule other text m (other_read m k.read)

@@ -1,25 +1,25 @@
 -- Texts of RFC 5424: one division, and what is read back of a printed text: the message exactly if it is canonical, and
 -- what is read is canonical, up to an absent facility or severity.
-use Rattle.syslog_loose.proofs.Names.{◌≡◌, ◌∷◌, ◌∙◌, ◌also◌, [], sym, ap, subst, AllDeterministic, unique_division}
-use Rattle.syslog_loose.proofs.Names.{front_division, no_row_division, optional_det, some_run_det, run_det, rest_det}
-use Rattle.syslog_loose.proofs.Names.{all_joined, flat_map, Text, Values, Front, NoFront, Row, run, some_run, optional}
+use Rattle.syslog_loose.proofs.Names.{no_truth, ◌≡◌, ◌∷◌, ◌∙◌, ◌also◌, [], sym, ap, subst, AllDeterministic, unique_division}
+use Rattle.syslog_loose.proofs.Names.{front_division, optional_det, some_run_det, run_det, rest_det}
+use Rattle.syslog_loose.proofs.Names.{all_joined, flat_map, Text, Values, Front, NoFront, run, some_run, optional}
 use Rattle.syslog_loose.proofs.Names.{trimmed, is_blank, number, AreInPieces, text_list, process_texts, header_stamp}
 use Rattle.syslog_loose.proofs.Names.{element_texts, priority, Quoted, row_quotes, silent, rest_quotes, host_quotes}
 use Rattle.syslog_loose.proofs.Names.{priority_det, host_det, MessageValue, message_texts, header_row, data_row}
-use Rattle.syslog_loose.proofs.Names.{rfc5424_row, message_of, IsRead5424, IsNot5424, ◌≤◌, List, IfSome, is_ascii_digit}
+use Rattle.syslog_loose.proofs.Names.{rfc5424_row, message_of, IsRead5424, ◌≤◌, List, IfSome, is_ascii_digit}
 use Rattle.syslog_loose.proofs.Names.{is_not_whitespace, decimal, Class, Ends, Format, process_word, process_text, host}
 use Rattle.syslog_loose.proofs.Names.{word, name_text, IsCanonicalWord, IsCanonicalStamp, timestamp_text, ◌<◌, ◌^◌, ◌+◌}
-use Rattle.syslog_loose.proofs.Names.{◌*◌, ◌++◌, ◌then◌, ℕ, true, false, Option, Some, None, IsSome, refl, arith}
+use Rattle.syslog_loose.proofs.Names.{◌*◌, ◌++◌, ◌then◌, ℕ, Option, Some, None, IsSome, refl, arith}
 use Rattle.syslog_loose.proofs.Names.{row_cons, row_head, rows_join, both_values, division_front, rest_front}
 use Rattle.syslog_loose.proofs.Names.{rest_whole, optional_some, front_same, row_pieces, row_of, option_map_or}
 use Rattle.syslog_loose.proofs.Names.{option_and_then, unwrap_or, skip_leading_whitespace, drop_trailing_whitespace}
-use Rattle.syslog_loose.proofs.Names.{Division, classes, printed_row, facility_of, severity_of, facility_number}
+use Rattle.syslog_loose.proofs.Names.{Division, classes, printed_row, facility_of, facility_number}
 use Rattle.syslog_loose.proofs.Names.{severity_number, ElementValue, elements_text, EndsVisibly, SyslogFacility}
 use Rattle.syslog_loose.proofs.Names.{LOG_SYSLOG, SyslogSeverity, SEV_DEBUG, ProcId, DashRule, BeforeAnything}
-use Rattle.syslog_loose.proofs.Names.{OffsetTimestamp, piece_front, priority_composed, facility_composed}
-use Rattle.syslog_loose.proofs.Names.{severity_composed, severity_there, number_back, host_back, printed_stamp-back}
+use Rattle.syslog_loose.proofs.Names.{OffsetTimestamp, piece_front, priority_composed}
+use Rattle.syslog_loose.proofs.Names.{number_back, host_back, printed_stamp-back}
 use Rattle.syslog_loose.proofs.Names.{stamp_text-canonical, Protocol, IsBoundedProtocol, IsBounded, IsCanonicalInBoth}
-use Rattle.syslog_loose.proofs.Names.{IsCanonicalFor, IsCanonical, printed, priority_of, Quotes5424, ap₂, composed}
+use Rattle.syslog_loose.proofs.Names.{IsCanonicalFor, IsCanonical, printed, priority_of, Quotes5424, composed}
 use Rattle.syslog_pieces.proofs.PieceLemmas.Lists.{word_quotes, process_quotes, AllSound, row_back}
 use Rattle.syslog_pieces.proofs.TextLemmas.Words.{number_det, word_det, word_back, word_canonical, host_canonical}
 use Rattle.syslog_pieces.proofs.TextLemmas.Words.{NoColonNext, blanks_next}
@@ -35,7 +35,7 @@ use Rattle.syslog_pieces.specs.StructuredData.{forgiving, item}
 use Rattle.syslog_loose.specs.Canonical.{IsCanonical5424}
 use Rattle.syslog_loose.specs.Printed.{printed_5424}
 use Rattle.syslog_loose.specs.declared.message.Protocol.TheVariants.{RFC5424}
-use Rattle.syslog_loose.proofs.PrintedLemmas.{priority_front, priority_trimmed, priority_small, priority_low}
+use Rattle.syslog_loose.proofs.PrintedLemmas.{parts_back, severity_beside, priority_front, priority_trimmed, priority_small, priority_low}
 use Rattle.syslog_loose.proofs.PrintedLemmas.{visible_ends_blanks, stamp_unblank, last_append, elements_last}
 use Rattle.syslog_loose.proofs.PrintedLemmas.{row_trimmed, last_ends, drop_ends, message_end, message_blanks}
 
@@ -55,14 +55,6 @@ rfc5424_det = all_joined header_row data_row header_det data_det
 pub one_message : (text : Text) (m n : MessageValue) → IsRead5424 text m → IsRead5424 text n → m ≡ n
 one_message text m n r s =
     r.means ∙ ap message_of (unique_division rfc5424_row rfc5424_det r.division s.division).1 ∙ sym s.means
-
--- ---- from the row of the trimmed text
-pub not_read : (text t : Text) → t ≡ trimmed text → NoFront (Row rfc5424_row) t → IsNot5424 text
-not_read text t e n = no_row_division rfc5424_row (rw e at n)
-
-pub is_read : (text t : Text) (vs : Values rfc5424_row) (m : MessageValue) → t ≡ trimmed text → m ≡ message_of vs
-    → Front (Row rfc5424_row) t [] vs → IsRead5424 text m
-is_read text t vs m e f g = record { values = vs; division = rw e at (front_division rfc5424_row g); means = f }
 
 -- ---- the texts of a message are in the pieces
 quoted_row : Quoted rfc5424_row
@@ -220,10 +212,6 @@ module _ (version : ℕ) (m : MessageValue) (bounded : version ≤ 4294967295) (
 
 -- ---- messages
 
-pub some_of : {A : Type 0} (v : Option A) → IsSome v → (x : A) × (v ≡ Some x)
-some_of None h = absurd (let t : false ≡ true = h in cc)
-some_of (Some x) h = (x, refl)
-
 pub printed_is : (version : ℕ) (m : MessageValue) → m.protocol ≡ RFC5424 version → printed m ≡ printed_5424 version m
 printed_is version m e = rw e refl
 
@@ -231,21 +219,13 @@ printed_is version m e = rw e refl
 pub canonical_read : (rule : DashRule) (version : ℕ) (m : MessageValue) → m.protocol ≡ RFC5424 version → IsBounded m
     → IsCanonical rule m → IsRead5424 (printed m) m
 canonical_read rule version m e b c =
-    let (f, ef) = some_of m.facility c.0.facility in
-    let (s, es) = some_of m.severity c.0.severity in
     let own : IsCanonical5424 m = subst (λ (x : Protocol). IsCanonicalFor rule x m) e c.1 in
     let bounded : version < 2 ^ 32 = subst IsBoundedProtocol e b.protocol in
-    let same : priority_of m ≡ composed f s =
-    ap₂ (λ (x : Option SyslogFacility)
-    (y : Option SyslogSeverity). option_map_or facility_number x 5 * 8 + option_map_or severity_number y 7) ef es in
+    let parts = parts_back m.facility m.severity c.0.facility c.0.severity in
     subst (λ (x : Text). IsRead5424 x m) (sym (printed_is version m e)) (record {
       values = line_values version m;
       division = line_divided version m (omega arith) b c.0 own;
-      means = λ i. record m {
-        protocol = e i;
-        facility = (ef ∙ sym (facility_composed f s) ∙ sym (ap facility_of same)) i;
-        severity = (es ∙ sym (severity_composed f s) ∙ sym (ap severity_of same)) i;
-      };
+      means = λ i. record m { protocol = e i; facility = parts.0 i; severity = parts.1 i };
     })
 
 -- ---- what is read
@@ -302,25 +282,20 @@ read_completed rule text m r =
 
 -- ---- a message that is read with a facility is canonical
 
-pub completed_same : (m : MessageValue) (f : SyslogFacility) (s : SyslogSeverity) → m.facility ≡ Some f
-    → m.severity ≡ Some s → completed m ≡ m
-completed_same m f s e g = λ i. record m {
-  facility = (ap (λ (x : Option SyslogFacility). Some (unwrap_or x LOG_SYSLOG)) e ∙ sym e) i;
-  severity = (ap (λ (x : Option SyslogSeverity). Some (unwrap_or x SEV_DEBUG)) g ∙ sym g) i;
-}
-
-severity_too : (pri : Option ℕ) (f : SyslogFacility) → option_and_then facility_of pri ≡ Some f
-    → (s : SyslogSeverity) × (option_and_then severity_of pri ≡ Some s)
-severity_too None f e = absurd (let t : None ≡ Some f = e in cc)
-severity_too (Some n) f e = severity_there n
+filled : {A : Type 0} (v : Option A) (d : A) → IsSome v → Some (unwrap_or v d) ≡ v
+filled None d h = absurd (no_truth h)
+filled (Some x) d h = refl
 
 pub read_canonical : (rule : DashRule) (text : Text) (m : MessageValue) → IsRead5424 text m → IsSome m.facility
     → IsCanonical rule m
-read_canonical rule text m r there =
-    let (f, e) = some_of m.facility there in
-    let (s, g) = severity_too r.values.0 f (sym (ap (λ (x : MessageValue). x.facility) r.means) ∙ e) in
-    let severity : m.severity ≡ Some s = ap (λ (x : MessageValue). x.severity) r.means ∙ g in
-    subst (λ (x : MessageValue). IsCanonical rule x) (completed_same m f s e severity) (read_completed rule text m r).0
+read_canonical rule text m r f =
+    let there : IsSome (option_and_then facility_of r.values.0) = subst (λ (x : MessageValue). IsSome x.facility) r.means f in
+    let s : IsSome m.severity = subst (λ (x : MessageValue). IsSome x.severity) (sym r.means) (severity_beside r.values.0 there) in
+    let same : completed m ≡ m = λ i. record m {
+      facility = filled m.facility LOG_SYSLOG f i;
+      severity = filled m.severity SEV_DEBUG s i;
+    } in
+    subst (λ (x : MessageValue). IsCanonical rule x) same (read_completed rule text m r).0
 
 -- ---- a printed message that is read back as itself has a facility
 

@@ -27,7 +27,7 @@ pub use Rattle.syslog_loose.specs.Rfc3164.{IsRead3164, Names3164, Quotes3164, Re
 pub use Rattle.syslog_loose.specs.Rfc5424.{IsNot5424, IsRead5424, rfc5424_row}
 pub use Rattle.syslog_loose.specs.Settling.{IsFirstSettled, IsRound, IsSettled, NoneSettled, Settles, Weighs, answer_in}
 pub use Rattle.syslog_loose.specs.TagForm.{IsForm, IsNoForm}
-pub use Rattle.syslog_loose.specs.Visit.{HasRest, IsCompleted, IsLineOf, Made}
+pub use Rattle.syslog_loose.specs.Visit.{HasRest, IsCompleted, IsLineOf, Made, MadeOf}
 pub use Rattle.syslog_loose.specs.declared.fault.ParseFault.TheVariants.{Invalid}
 pub use Rattle.syslog_loose.specs.declared.line.Line.{Line}
 pub use Rattle.syslog_loose.specs.declared.message.Message.{Message}

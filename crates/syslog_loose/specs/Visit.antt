@@ -21,14 +21,20 @@ pub record IsLineOf (variant : Variant) (dating : Dating) (text : Text) (line : 
   pub only : IsOnlyRead variant dating text (line_value line)
   pub rest : line.version ≡ None → HasRest dating text line
 
--- What a visitor makes of the line of the one message as which the text is read, and that another visitor was given its
--- elements. Where there is none, nothing is made, the first stays as it was, and the other was given no element.
+-- What a visitor makes of a line of this kind, and that another visitor was given its elements. Where there is none,
+-- nothing is made, the first stays as it was, and the other was given no element.
+abbrev pub MadeOf : {V A E : Type 0} → (V → Line → A → V → Type 0) → (E → E → List ElementValue → Type 0)
+    → Type 0 → (Line → Type 0) → V → E → Option A → V → E → Type 0
+MadeOf makes was_given IsNone IsOne old before result new after = MatchOption result
+    (IsNone × (new ≡ old) × Visits was_given before [] after)
+    (λ made. (line : Line) × IsOne line × makes old line made new
+    × Visits was_given before (list_elements line.list) after)
+
+-- what is made of the line of the one message as which the text is read
 abbrev pub Made : {V A E : Type 0} → (V → Line → A → V → Type 0) → (E → E → List ElementValue → Type 0)
     → Variant → Dating → Text → V → E → Option A → V → E → Type 0
-Made makes was_given variant dating text old before result new after = MatchOption result
-    (IsUnreadable variant dating text × (new ≡ old) × Visits was_given before [] after)
-    (λ made. (line : Line) × IsLineOf variant dating text line × makes old line made new
-    × Visits was_given before (list_elements line.list) after)
+Made makes was_given variant dating text =
+    MadeOf makes was_given (IsUnreadable variant dating text) (IsLineOf variant dating text)
 
 -- What a reading call returns where this message was made and these elements were collected: the message with them, or
 -- `Memory`, only where there are some; and `Invalid` where none was made.

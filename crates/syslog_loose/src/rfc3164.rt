@@ -116,7 +116,7 @@ pub(crate) fn read_3164<'a, C, E: ElementVisitor<'a>>(
     let fields = read_fields::<C>(text);
     let (hostname, appname, process) = fields.names;
     let (list, after_list) = visit_rfc3164_list(fields.rest, DASH_RULE, elements);
-    let is_printed = fields.are_printed && list.text().is_empty();
+    let is_printed = fields.are_printed & list.text().is_empty();
     Line {
         version: None,
         priority,

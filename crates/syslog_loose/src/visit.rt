@@ -3,7 +3,7 @@
 //! A text is trimmed once, and its priority and its month date are read once: after a month date RFC 5424 is not tried,
 //! and where the date has no year the closure is asked.
 ghost use Rattle.std.specs.Prelude.{◌≡◌, ◌≢◌};
-ghost use Rattle.syslog_loose.specs.Words.{[], IfSome, IsSome, MatchOption, None, chars, Text, shown, list_elements};
+ghost use Rattle.syslog_loose.specs.Words.{IfSome, IsSome, MatchOption, None, chars, Text, shown, list_elements};
 ghost use Rattle.syslog_loose.specs.Words.{Visits, header_stamp, stamp_seen, dating_of, MonthDate, month_date};
 ghost use Rattle.std.specs.Bool.{OnFalse};
 ghost use Rattle.syslog_pieces.specs.Bodies.Looks.{EndsDigits};
@@ -13,7 +13,7 @@ ghost use Rattle.syslog_loose.specs.declared.variant.Variant.TheVariants.{RFC316
 ghost use Rattle.syslog_loose.specs.Clauses.{line_value, KnowsForm, AnswersEachMonth, InYear, IsUnreadable, dash_rule};
 ghost use Rattle.syslog_loose.specs.Clauses.{IsRead3164, IsNot5424, IsRead5424, BeginsWith, BeginsWithout};
 ghost use Rattle.syslog_loose.specs.Clauses.{IsBehindPriority, IsBehindStamp, HasRest, IsLineOf, Made, Line, Variant};
-ghost use Rattle.syslog_loose.specs.Clauses.{incomplete};
+ghost use Rattle.syslog_loose.specs.Clauses.{incomplete, MadeOf};
 
 use crate::line::Line;
 use crate::rfc3164::read_3164;
@@ -62,11 +62,8 @@ fn visit_5424<'a, E: ElementVisitor<'a>, V: LineVisitor<'a>>(
     visitor: &mut V,
 ) -> Option<V::Answer>
     ensures { (whole : Text) → IsBehindPriority (trimmed_text whole) priority (chars text.entry.now)
-        → MatchOption result ((variant ≢ RFC3164 → IsNot5424 whole) × (visitor.new ≡ visitor.old)
-        × Visits E.was_given elements.old [] elements.new)
-        (λ made. variant ≢ RFC3164 × ((line : Line) × IsRead5424 whole (line_value line)
-        × V.makes visitor.old line made visitor.new
-        × Visits E.was_given elements.old (list_elements line.list) elements.new)) }
+        → MadeOf V.makes E.was_given (variant ≢ RFC3164 → IsNot5424 whole) (λ line. variant ≢ RFC3164
+        × IsRead5424 whole (line_value line)) visitor.old elements.old result visitor.new elements.new }
 {
     if !variant.reads_rfc5424() {
         return None;
@@ -85,10 +82,8 @@ fn visit_versioned<'a, E: ElementVisitor<'a>, V: LineVisitor<'a>>(
     visitor: &mut V,
 ) -> Option<V::Answer>
     ensures { (whole : Text) → IsBehindPriority (trimmed_text whole) priority (chars text.entry.now)
-        → MatchOption result
-        (IsNot5424 whole × (visitor.new ≡ visitor.old) × Visits E.was_given elements.old [] elements.new)
-        (λ made. (line : Line) × IsRead5424 whole (line_value line) × V.makes visitor.old line made visitor.new
-        × Visits E.was_given elements.old (list_elements line.list) elements.new) }
+        → MadeOf V.makes E.was_given (IsNot5424 whole) (λ line. IsRead5424 whole (line_value line))
+        visitor.old elements.old result visitor.new elements.new }
 {
     let Some(line) = read_5424::<V, E>(priority, text, elements) else {
         return None;

@@ -1,14 +1,14 @@
 -- What is read as RFC 3164 meets the condition, but for its exceptions.
 use Rattle.syslog_loose.proofs.Names.{◌≡◌, ◌≢◌, ◌<◌, ◌⊎◌, ◌∷◌, ◌++◌, ◌∙◌, ℕ, inl, inr, Bool, List, [], length, Option}
 use Rattle.syslog_loose.proofs.Names.{Some, None, IfSome, IsSome, refl, sym, ap, subst, append_assoc, arith}
-use Rattle.syslog_loose.proofs.Names.{IfSome_then, is_not_whitespace, AllByRecursion, option_and_then, option_map}
+use Rattle.syslog_loose.proofs.Names.{IfSome_then, is_not_whitespace, AllByRecursion, option_map}
 use Rattle.syslog_loose.proofs.Names.{unwrap_or, skip_leading_whitespace, Text, Front, Each, Ends, run, optional}
-use Rattle.syslog_loose.proofs.Names.{spaced, IsBareWord, IsMany, priority, facility_of, severity_of, NamesProcess}
+use Rattle.syslog_loose.proofs.Names.{spaced, IsBareWord, IsMany, priority, NamesProcess}
 use Rattle.syslog_loose.proofs.Names.{named_process, ElementValue, full_element, rfc3164_list, elements_or, trimmed}
 use Rattle.syslog_loose.proofs.Names.{is_blank, is_tag_char, dash, IsHost, host, tag_word, is_label_char, is_open_char}
 use Rattle.syslog_loose.proofs.Names.{rfc3164_stamp, month_date, IsCanonicalStamp, Dating, ProcId, PID, Name, DashRule}
 use Rattle.syslog_loose.proofs.Names.{OffsetTimestamp, division_front, heads, rest_whole, spaced_parts, present_front}
-use Rattle.syslog_loose.proofs.Names.{severity_there, bare_prints, stamp_text-canonical, IsVisible, IsCanonicalElement}
+use Rattle.syslog_loose.proofs.Names.{bare_prints, stamp_text-canonical, IsVisible, IsCanonicalElement}
 use Rattle.syslog_loose.proofs.Names.{HasQuietNames, is_no_colon, HasNoColon, IsOddHost, IsInnerProcess}
 use Rattle.syslog_loose.proofs.Names.{AreNamesButExceptions, HasExceptionsAlone, IsNearlyCanonical, MessageValue}
 use Rattle.syslog_loose.proofs.Names.{tag_text, Names3164, Resolves, names, rfc3164_row, IsRead3164, stamped_row}
@@ -16,7 +16,7 @@ use Rattle.syslog_loose.proofs.Names.{fields_row, NamesProgram, fields_before, f
 use Rattle.syslog_loose.proofs.Names.{each_left, each_front, each_right, begins, row_pieces, IsOfMonthDate}
 use Rattle.syslog_pieces.proofs.StructuredDataLemmas.Elements.{element_canonical}
 use Rattle.syslog_loose.proofs.Rfc3164Lemmas.{of_names, shows, one_form}
-use Rattle.syslog_loose.proofs.PrintedLemmas.{drop_ends, last_ends}
+use Rattle.syslog_loose.proofs.PrintedLemmas.{drop_ends, last_ends, severity_beside}
 use Rattle.syslog_pieces.proofs.TextLemmas.Runs as verbatim
 
 -- ---- elements
@@ -68,7 +68,6 @@ pub record FormParts (text tag id : Text) : Type 0 where
   pub label : Each is_label_char tag
   pub some : 0 < length id
   pub unclosed : Each is_open_char id
-  pub within : (f : ℕ → Bool) → Each f text → Each f id
 
 pub form_parts : (text tag id : Text) → IsForm text tag id → FormParts text tag id
 form_parts text tag id d =
@@ -79,11 +78,13 @@ form_parts text tag id d =
       label = rw g1.is.2 g1.is.1.0;
       some = rw e g3.is.1.0;
       unclosed = rw e g3.is.1.1;
-      within = λ f h.
-          let h1 = each_behind f g1.piece t1 (rw g1.whole at h) in
-          let h2 = each_behind f g2.piece t2 (subst (λ (x : Text). Each f x) g2.whole h1) in
-          rw e (each_front f g3.piece t3 (subst (λ (x : Text). Each f x) g3.whole h2));
     }
+
+-- and what holds of each character of the text, of those of the id
+within_form : {text tag id : Text} (f : ℕ → Bool) → FormParts text tag id → Each f text → Each f id
+within_form {tag = tag} {id = id} f parts h =
+    let behind = each_behind f tag (91 ∷ (id ++ (93 ∷ []))) (rw parts.whole at h) in
+    each_front f id (93 ∷ []) behind.1
 
 -- what an id names
 inner_process : (id : Text) (process : ProcId Text) → NamesProcess id process → 0 < length id
@@ -126,42 +127,22 @@ near_names q = of_names (λ v t n. HostField q v → TagField q t → NearNames 
   nobody = λ v t a b. record { visible = tt; odd_host = tt; names = tt; colon = inl tt; host_is = tt };
   host = λ h none a b. record { visible = a.0; odd_host = λ o. refl; names = none; colon = inl tt; host_is = refl };
   lone = λ h tag id p f g a b. let parts = form_parts h tag id f in
-      record {
-        visible = tt;
-        odd_host = tt;
-        names = (parts.label, inner_process id p g parts.some (parts.within is_not_whitespace a.0.1) parts.unclosed);
-        colon = inr (h, refl, refl);
-        host_is = tt;
-      };
-  app = λ v t none a b. let first = before_space q v (Some t) a b.1 in
-      record {
-        visible = first.0;
-        odd_host = first.1;
-        names = (b.0.0, b.0.1, b.0.2, none);
-        colon = inl tt;
-        host_is = first.2;
-      };
+      let visible = within_form is_not_whitespace parts a.0.1 in
+      let inner = inner_process id p g parts.some visible parts.unclosed in
+      record { visible = tt; odd_host = tt; names = (parts.label, inner); colon = inr (h, refl, refl); host_is = tt };
+  app = λ v t none a b. let o = before_space q v (Some t) a b.1 in
+      record { visible = o.0; odd_host = o.1; names = (b.0.0, b.0.1, b.0.2, none); colon = inl tt; host_is = o.2 };
   process = λ v t tag id p f g a b.
       let parts = form_parts t tag id f in
-      let inside = parts.within is_tag_char b.0.1 in
+      let inside = within_form is_tag_char parts b.0.1 in
       let visible = each_left is_not_whitespace is_no_colon id inside in
-      let first = before_space q v (Some tag) a b.1 in
-      record {
-        visible = first.0;
-        odd_host = first.1;
-        names = (parts.label, inner_process id p g parts.some visible parts.unclosed);
-        colon = inl (no_colon_process id p g (each_right is_not_whitespace is_no_colon id inside));
-        host_is = first.2;
-      };
+      let o = before_space q v (Some tag) a b.1 in
+      let inner = inner_process id p g parts.some visible parts.unclosed in
+      let colon = no_colon_process id p g (each_right is_not_whitespace is_no_colon id inside) in
+      record { visible = o.0; odd_host = o.1; names = (parts.label, inner); colon = inl colon; host_is = o.2 };
 })
 
 -- ---- the message
-pub severity_beside : (pri : Option ℕ) → IsSome (option_and_then facility_of pri)
-    → IsSome (option_and_then severity_of pri)
-severity_beside None h = h
-severity_beside (Some pri) h =
-    let (s, e) = severity_there pri in rw e refl
-
 module _ (rule : DashRule) (dating : Dating) (text : Text) where
   pub read_near : (m : MessageValue) → IsRead3164 rule dating text m → HasExceptionsAlone m
   read_near m r =
@@ -173,20 +154,11 @@ module _ (rule : DashRule) (dating : Dating) (text : Text) where
       let near = near_names t4 v.1.1.1.0 v.1.1.1.1.0 n resolves (host_field t3 t4 v.1.1.1.0 g4)
       (tag_field t4 t5 v.1.1.1.1.0 g5) in
       let canonical = field_canonical rule g9.piece t9 v.1.1.1.1.1.1.1.1.0 g9.is in
-      rw means (record {
-        protocol = refl;
-        hostname = near.visible;
-        odd_host = near.odd_host;
-        names = near.names;
-        colon_process = elim near.colon [ inl k ↦ inl k | inr (h, e, none) ↦ inr none ];
-        msgid = refl;
-        elements = canonical.0;
-        parameters = canonical.1;
-        msg_front = subst (λ (x : Text). Ends is_blank x) (rest_whole g11) g10.is.1;
-        msg_end =
-            last_ends (stamped_row dating ++ (fields_row ++ (optional (rfc3164_list rule) ∷ run is_blank ∷ []))) row
-            (drop_ends (skip_leading_whitespace text));
-      })
+      let colon : IfSome n.procid HasNoColon ⊎ (n.hostname ≡ None) =
+      elim near.colon [ inl k ↦ inl k | inr (h, e, none) ↦ inr none ] in
+      let front = subst (λ (x : Text). Ends is_blank x) (rest_whole g11) g10.is.1 in
+      let end = last_ends (stamped_row dating ++ (fields_row ++ (optional (rfc3164_list rule) ∷ run is_blank ∷ []))) row
+      (drop_ends (skip_leading_whitespace text)) in rw means (search (canonical.0, canonical.1) parts 1)
 
   -- a timestamp that was read is canonical, or that of a month date that the text shows
   abbrev IsOfKind : OffsetTimestamp → Type 0

@@ -3,25 +3,25 @@
 use Rattle.syslog_loose.proofs.Names.{◌≡◌, ◌∷◌, ◌++◌, ◌∙◌, List, [], Option, Some, None, refl, sym, ap, append_assoc}
 use Rattle.syslog_loose.proofs.Names.{decimal, drop_trailing_whitespace, Text, ElementValue, joined_elements}
 use Rattle.syslog_loose.proofs.Names.{procid_text, trimmed, ProcId, MessageValue, timestamp_text, tag_text}
-use Rattle.syslog_loose.proofs.Names.{spaced_elements, priority_of, ◌≢◌, ◌+◌, ◌*◌, ◌<◌, ◌then◌, ℕ, suc, pos, inl, inr}
+use Rattle.syslog_loose.proofs.Names.{spaced_elements, priority_of, ◌≢◌, ◌<◌, ◌then◌, ℕ, suc, pos, inl, inr}
 use Rattle.syslog_loose.proofs.Names.{not, negsuc, true, false, nat_eq, length, IfSome, IsSome, subst, arith}
-use Rattle.syslog_loose.proofs.Names.{length-append, row_of, nat_tests, is_ascii_digit, AllByRecursion, option_map_or}
+use Rattle.syslog_loose.proofs.Names.{length-append, row_of, nat_tests, is_ascii_digit, AllByRecursion}
 use Rattle.syslog_loose.proofs.Names.{Values, Front, NoFront, Row, Each, Ends, run, exactly, optional, spaced, IsMany}
-use Rattle.syslog_loose.proofs.Names.{priority, facility_number, severity_number, facility_of, severity_of}
+use Rattle.syslog_loose.proofs.Names.{priority}
 use Rattle.syslog_loose.proofs.Names.{NamesProcess, element_text, full_element, BeginsNoList, rfc3164_list, elements_or}
 use Rattle.syslog_loose.proofs.Names.{is_blank, is_tag_char, dash, colon, name_text, host, tag_word, is_label_char}
-use Rattle.syslog_loose.proofs.Names.{is_open_char, rfc3164_stamp, IsCanonicalStamp, Dating, SyslogFacility}
-use Rattle.syslog_loose.proofs.Names.{SyslogSeverity, PID, Name, DashRule, OffsetTimestamp, both_values, heads}
+use Rattle.syslog_loose.proofs.Names.{is_open_char, rfc3164_stamp, IsCanonicalStamp, Dating}
+use Rattle.syslog_loose.proofs.Names.{PID, Name, DashRule, OffsetTimestamp, both_values, heads}
 use Rattle.syslog_loose.proofs.Names.{front_division, optional_some, row_cons, rows_join, optional_none, rest_front}
-use Rattle.syslog_loose.proofs.Names.{spaced_front, no_spaced_piece, piece_front, facility_composed, severity_composed}
+use Rattle.syslog_loose.proofs.Names.{spaced_front, no_spaced_piece, piece_front}
 use Rattle.syslog_loose.proofs.Names.{host_back, decimal_digits, full_begins, no_full_nil, no_rfc3164_list}
 use Rattle.syslog_loose.proofs.Names.{printed_stamp-back, IsBoundedProcess, IsBounded, IsCanonicalHost}
 use Rattle.syslog_loose.proofs.Names.{IsCanonicalElement, is_process_char, IsBracketedProcess, AreCanonicalNames}
 use Rattle.syslog_loose.proofs.Names.{IsCanonical3164, IsCanonicalFor, IsCanonical, names, Resolves, rfc3164_row}
 use Rattle.syslog_loose.proofs.Names.{IsRead3164, body_row, IsForm, Protocol, RFC3164, each_map, each_left, each_right}
-use Rattle.syslog_loose.proofs.Names.{each_append, ◌↔◌, ◌⊎◌, ◌≤◌, is_not_whitespace, IsHost, run_same, row_head}
+use Rattle.syslog_loose.proofs.Names.{each_append, ◌↔◌, ◌⊎◌, is_not_whitespace, IsHost, run_same, row_head}
 use Rattle.syslog_loose.proofs.Names.{division_front, run_det, spaced_parts, rest_whole, Begins, begins_apart}
-use Rattle.syslog_loose.proofs.Names.{begins_more, begins_with, step, rows_step, front_longer, absent_none}
+use Rattle.syslog_loose.proofs.Names.{begins_more, begins_with, step, rows_step, front_longer}
 use Rattle.syslog_loose.proofs.Names.{present_front, priority_composed, begins_no_list, IsLow, rfc3164_stamp_det}
 use Rattle.syslog_loose.proofs.Names.{stamped_date_begins, stamp_text-canonical, printed_stamp-begins, IsVisible}
 use Rattle.syslog_loose.proofs.Names.{HasNoColon, printed, Names3164, row_pieces, signed_writes}
@@ -29,15 +29,15 @@ use Rattle.syslog_loose.specs.Printed.{printed_3164}
 use Rattle.syslog_loose.specs.Canonical.{EndsVisibly}
 use Rattle.syslog_loose.proofs.PrintedLemmas.{joined_last, LastVisible, last_append, drop_after, message_end_is}
 use Rattle.syslog_loose.proofs.PrintedLemmas.{priority_low, priority_front, stamp_unblank, message_end, message_blanks}
-use Rattle.syslog_loose.proofs.PrintedLemmas.{priority_small}
+use Rattle.syslog_loose.proofs.PrintedLemmas.{priority_small, parts_back, severity_beside}
 pub use Rattle.syslog_loose.specs.Bodies.Jumps.{tail_text}
 use Rattle.syslog_pieces.proofs.StructuredDataLemmas.Elements.{element_back}
-use Rattle.syslog_loose.proofs.Rfc3164Lemmas.{from_blanks, to_stamp, to_colon, from_stamp, told, digit_range}
+use Rattle.syslog_loose.proofs.Rfc3164Lemmas.{list_none, from_blanks, to_stamp, to_colon, from_stamp, told, digit_range}
 use Rattle.syslog_loose.proofs.Rfc3164Lemmas.{printed_3164_is, from_list, from_tag_end, from_tag, to_stamp_det}
 use Rattle.syslog_loose.proofs.Rfc3164Lemmas.{to_colon_det}
 use Rattle.syslog_pieces.specs.Timestamp.Printed.{printed_stamp}
 use Rattle.syslog_loose.proofs.CanonicalLemmas.{canonical_names, near_canonical, no_dash_host, no_colon_host}
-use Rattle.syslog_loose.proofs.Rfc3164Lemmas.Near.{host_field, tag_field, near_names, severity_beside, read_near}
+use Rattle.syslog_loose.proofs.Rfc3164Lemmas.Near.{host_field, tag_field, near_names, read_near}
 
 -- ---- the printed text, cut at the colon after the names
 
@@ -78,9 +78,6 @@ printed_whole m =
     rw (tag_is m.appname m.procid (spaced_elements m.structured_data ++ m.msg), body_is m.structured_data m.msg)
 
 -- ---- trimming
-whole_is : (m : MessageValue) (q : Text) → whole m [] ++ q ≡ whole m q
-whole_is m q = simp append_assoc refl
-
 whole_last : (m : MessageValue) → LastVisible (whole m [])
 whole_last m =
     last_append (60 ∷ decimal (priority_of m)) _ (last_append (62 ∷ 32 ∷ timestamp_text m.timestamp) _ (last_append
@@ -97,10 +94,9 @@ pub trimmed_whole : (m : MessageValue) → EndsVisibly m.msg
     → trimmed (printed_3164 m) ≡ whole m (tail_text m.structured_data m.msg)
 trimmed_whole m h =
     let tail : Text = 32 ∷ body_text m.structured_data m.msg in
-    ap trimmed (printed_whole m) ∙ ap drop_trailing_whitespace (sym (whole_is m tail))
-    ∙ drop_after (whole m []) tail (whole_last m)
-    ∙ ap (λ (x : Text). whole m [] ++ x) (tail_is m.structured_data m.msg h)
-    ∙ whole_is m (tail_text m.structured_data m.msg)
+    let cut : trimmed (whole m tail) ≡ whole m (drop_trailing_whitespace tail) =
+    simp append_assoc at (drop_after (whole m []) tail (whole_last m)) in
+    ap trimmed (printed_whole m) ∙ cut ∙ ap (whole m) (tail_is m.structured_data m.msg h)
 
 -- ---- elements and the message
 many_back : (es : List ElementValue) (q : Text) → AllByRecursion IsCanonicalElement es → AllByRecursion
@@ -260,13 +256,6 @@ pub to_stamp_back : (m : MessageValue) (y : Text)
 to_stamp_back m y = row_of to_stamp (optional_some priority (priority_front (priority_of m) _ (priority_low m))
     then piece_front (run is_blank) (32 ∷ []) _ tt ((refl, tt), stamp_unblank m.timestamp (32 ∷ y)) then refl)
 
-pub parts_back : (f : Option SyslogFacility) (s : Option SyslogSeverity) → IsSome f → IsSome s
-    → (f ≡ facility_of (option_map_or facility_number f 5 * 8 + option_map_or severity_number s 7))
-    × (s ≡ severity_of (option_map_or facility_number f 5 * 8 + option_map_or severity_number s 7))
-parts_back None s h k = absurd (let t : false ≡ true = h in cc)
-parts_back (Some f) None h k = absurd (let t : false ≡ true = k in cc)
-parts_back (Some f) (Some s) h k = (sym (facility_composed f s), sym (severity_composed f s))
-
 -- ---- the message
 module _ (rule : DashRule) (dating : Dating) (m : MessageValue) (e : m.protocol ≡ RFC3164) (b : IsBounded m)
     (c : IsCanonical rule m) where
@@ -373,14 +362,6 @@ stamp_canonical dating (Some s) q u f = elim f.is [
 ]
 
 -- ---- the list
-list_none : (rule : DashRule) (msg q : Text) (v : Option (List ElementValue)) → Front (optional (rfc3164_list rule)) msg
-    q v → elements_or v ≡ [] → length msg ≤ length q → NoFront (rfc3164_list rule) msg
-list_none rule msg q None f e l = absent_none (rfc3164_list rule) f
-list_none rule msg q (Some es) f e l = elim f.is [
-  | inl (d, a, z) ↦ absurd (let y = ap length (f.whole ∙ ap (λ x. x ++ q) d) in omega arith)
-  | inr (m, z) ↦ absurd (let y = ap length e in omega arith)
-]
-
 -- a message after the colon that is read as it was printed, without elements, is no list
 end_list : (rule : DashRule) (vs : Values (from_blanks rule)) → elements_or vs.1.0 ≡ [] → Ends is_blank vs.1.1.1.0
     → Front (Row (from_blanks rule)) (tail_text (elements_or vs.1.0) vs.1.1.1.0) [] vs → BeginsNoList rule vs.1.1.1.0
@@ -388,8 +369,8 @@ end_list rule vs n b d =
     let msg : Text = vs.1.1.1.0 in
     let (t9, g9, (t10, g10, (_, g11, _))) = row_pieces (from_list rule)
     (step (run is_blank) (from_list rule) (run_det is_blank) (message_blanks msg b) (rw n at d)) in
-    begins_no_list rule msg (list_none rule msg t9 vs.1.0 g9 n
-    (omega (arith, ap length (rest_whole g11), front_longer (run is_blank) g10)))
+    begins_no_list rule msg
+    (list_none rule vs.1.0 g9 (omega (arith, ap length (rest_whole g11), front_longer (run is_blank) g10))).1
 
 -- ---- the message
 
@@ -430,18 +411,12 @@ module _ (rule : DashRule) (dating : Dating) (v : Values (rfc3164_row rule datin
       (names_back n.hostname n.appname n.procid t stays names b.procid) d4 in
       let (_, _, there, _, _) = priority_composed (priority_of m) (priority_small m) in
       let facility : IsSome m.facility = rw (ap (λ (x : Values to_stamp). x.0) first, there) refl in
-      near_canonical rule m (
-        record { facility = facility; severity = severity_beside v.0 facility; rest = near },
-        record {
-          timestamp = canonical;
-          names = record {
-            no_dash = no_dash_host n.hostname stays;
-            no_last_colon = no_colon_host n.hostname stays;
-            no_colon = no_colon;
-          };
-          no_list = λ e. end_list rule v.1.1.1.1.1.1.1 e near.msg_front d8;
-        },
-      )
+      let severity : IsSome m.severity = severity_beside v.0 facility in
+      let no_dash = no_dash_host n.hostname stays in
+      let last = no_colon_host n.hostname stays in
+      let no_list : elements_or v.1.1.1.1.1.1.1.1.0 ≡ [] → BeginsNoList rule m.msg =
+      λ e. end_list rule v.1.1.1.1.1.1.1 e near.msg_front d8 in
+      near_canonical rule m (search parts 3)
 
 read_is_canonical : (rule : DashRule) (dating : Dating) (m : MessageValue) → IsBounded m
     → IsRead3164 rule dating (printed_3164 m) m → IsCanonical rule m

@@ -1,28 +1,31 @@
 use Rattle.syslog_loose.proofs.Names.{◌∷◌, ◌++◌, ◌∙◌, ◌past◌, ◌then◌, inl, refl, sym, ap, no_row, row_of, trimmed}
 use Rattle.syslog_loose.proofs.Names.{rest_front, rows_join, rows_none_here, Text, shown, elements_text, list_elements}
-use Rattle.syslog_loose.proofs.Names.{header_row, data_row}
+use Rattle.syslog_loose.proofs.Names.{header_row, data_row, rfc5424_row, no_row_division, front_division}
 use Rattle.syslog_pieces.proofs.PieceLemmas.Class.{rows_none_later}
 use Rattle.syslog_loose.specs.Bodies.View5424.{names_before}
-use Rattle.syslog_loose.proofs.Rfc5424Lemmas.{data_det, header_det, not_read, is_read}
+use Rattle.syslog_loose.proofs.Rfc5424Lemmas.{data_det, header_det}
 use Rattle.syslog_loose.proofs.rfc5424.read_5424.Goals as goal
 
 pub returns-in_default-clause-reads : goal.returns-in_default-clause-reads
 returns-in_default-clause-reads g c whole f =
-    not_read whole _ refl (rows_none_here header_row data_row (c.in_default.ensures.reads (trimmed whole) f))
+    no_row_division rfc5424_row (rows_none_here header_row data_row (c.in_default.ensures.reads (trimmed whole) f))
 
 pub returns-in_default-visit_forgiving_list-clause-reads : goal.returns-in_default-visit_forgiving_list-clause-reads
 returns-in_default-visit_forgiving_list-clause-reads g c whole f =
     let (version, is, header) = c.in-Some.ensures.reads (trimmed whole) f in
-    not_read whole _ refl (rows_none_later header_row data_row header_det header
+    no_row_division rfc5424_row (rows_none_later header_row data_row header_det header
     (no_row data_row data_det (c.blanks-at_list.ensures past inl c.in_default-visit_forgiving_list.ensures.list)))
 
 pub returns-clause-reads : goal.returns-clause-reads
 returns-clause-reads g c whole f =
     let (version, is, header) = c.in-Some.ensures.reads (trimmed whole) f in
-    is_read whole _ _ _ refl (rw is refl)
-    (rows_join header_row data_row header
-    (row_of data_row (c.blanks-at_list.ensures then c.in-Some-visit_forgiving_list.ensures.list then c.blanks-msg.ensures
-    then rest_front _ then refl)))
+    let body = row_of data_row (c.blanks-at_list.ensures then c.in-Some-visit_forgiving_list.ensures.list
+    then c.blanks-msg.ensures then rest_front _ then refl) in
+    record {
+      values = _;
+      division = front_division rfc5424_row (rows_join header_row data_row header body);
+      means = rw is refl;
+    }
 
 pub returns-clause-form : goal.returns-clause-form
 returns-clause-form g c =

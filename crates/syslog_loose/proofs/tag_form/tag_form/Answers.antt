@@ -1,7 +1,8 @@
 use Rattle.syslog_loose.proofs.Names.{◌∷◌, ◌then◌, ◌past◌, rules, [], inl, refl, row_of, chars, front_division}
 use Rattle.syslog_loose.proofs.Names.{nonempty_is, text_is, form_row, IsNoForm, empty_is, text_is_not}
 use Rattle.syslog_loose.proofs.Rfc3164Lemmas.{label_front, id_front, no_id, no_form, no_closing, to_closing}
-use Rattle.syslog_loose.proofs.Rfc3164Lemmas.{closing_front, closing_ascii}
+use Rattle.syslog_loose.proofs.Names.{one_ascii, arith, Front}
+use Rattle.syslog_loose.proofs.Rfc3164Lemmas.{closing}
 use Rattle.syslog_loose.proofs.tag_form.tag_form.Goals as goal
 
 pub returns-in_err-rest : goal.returns-in_err-rest
@@ -17,7 +18,8 @@ returns-then-is_empty c =
 pub returns-then-eq : goal.returns-then-eq
 returns-then-eq c =
     let id = id_front c.split_run-2.ensures (nonempty_is _ c.if-is_empty.ensures) in
-    let end = closing_front (text_is _ (93 ∷ []) closing_ascii c.if-eq.ensures) in
+    let whole = text_is _ (93 ∷ []) (one_ascii 93 (omega arith)) c.if-eq.ensures in
+    let end : Front closing (chars c.split_run-2.result.1.now) [] tt = record { piece = 93 ∷ []; whole = whole; is = refl } in
     front_division form_row
     (row_of form_row (label_front c.split_run.ensures then c.in_ok-rest.ensures then id then end then refl))
 
@@ -25,4 +27,4 @@ pub returns-else-eq : goal.returns-else-eq
 returns-else-eq c =
     let id = id_front c.split_run-2.ensures (nonempty_is _ c.if-is_empty.ensures) in
     no_closing (row_of to_closing (label_front c.split_run.ensures then c.in_ok-rest.ensures then id then refl))
-    (text_is_not _ (93 ∷ []) c.split_run-2.ensures.back_utf8 closing_ascii c.if-eq.ensures)
+    (text_is_not _ (93 ∷ []) c.split_run-2.ensures.back_utf8 (one_ascii 93 (omega arith)) c.if-eq.ensures)

@@ -1,14 +1,12 @@
 use Rattle.syslog_loose.proofs.Names.{sym}
-use Rattle.syslog_loose.proofs.ReadingLemmas.{left_to_try, other_front, undated_invalid, made_3164, made_5424}
+use Rattle.syslog_loose.proofs.ReadingLemmas.{left_to_try, other_front, undated_invalid, line_3164, line_5424}
 use Rattle.syslog_loose.proofs.ReadingLemmas.{visits_after}
 use Rattle.syslog_loose.proofs.visit.visit_undated.Goals as goal
 
 pub returns-in-Some : goal.returns-in-Some
 returns-in-Some g c whole f without dating =
-    let (reads, (line, read, makes, given)) = c.in-Some.ensures whole f in
-    made_5424 g.V.LineVisitor.makes g.E.ElementVisitor.was_given c.args.variant whole c.args.visitor.now
-    c.visit_5424.new.visitor c.args.elements.now c.visit_5424.new.elements dating
-    reads line c.in-Some.made read makes given
+    let (line, read, makes, given) = c.in-Some.ensures whole f in
+    (line, line_5424 c.args.variant dating line read, makes, given)
 
 pub returns-in_default-front_stamp : goal.returns-in_default-front_stamp
 returns-in_default-front_stamp g c whole f without dating =
@@ -20,8 +18,9 @@ returns g c whole f without dating =
     let (line, read, makes, given) = c.visit_3164.ensures in
     let front = c.in-Some-front_stamp.ensures in
     let stamp = other_front c.args.variant whole f without dating c.in-Some-front_stamp.timestamp front in
-    let (strict, same, nothing) = c.in_default.ensures whole f in
-    made_3164 g.V.LineVisitor.makes g.E.ElementVisitor.was_given c.args.variant whole c.args.visitor.now
-    c.visit_3164.new.visitor c.args.elements.now c.visit_3164.new.elements dating
-    (left_to_try c.args.variant whole front.reads strict) line c.visit_3164.result (read dating whole stamp)
-    (rw (sym same) makes) (visits_after g.E.ElementVisitor.was_given _ _ _ _ nothing given)
+    let (strict, same, nothing) = c.in_default.ensures whole f in (
+      line,
+      line_3164 c.args.variant dating line (left_to_try c.args.variant whole front.reads strict) (read dating whole stamp),
+      rw (sym same) makes,
+      visits_after g.E.ElementVisitor.was_given _ _ _ _ nothing given,
+    )
