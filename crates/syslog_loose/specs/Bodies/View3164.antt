@@ -1,7 +1,7 @@
 -- What the reader of the header holds, as names over texts and as the meanings of its pieces.
 use Rattle.std.specs.Prelude.{◌≡◌, ◌∷◌, ◌++◌}
-use Rattle.syslog_loose.specs.Words.{ℕ, List, IsTrue, IfSome, Option, option_map, named_process, Text, Ends, Front, Row, seen}
-use Rattle.syslog_loose.specs.Words.{shown, stamp_seen, Dating, OffsetTimestamp, is_blank, Some, None}
+use Rattle.syslog_loose.specs.Words.{ℕ, List, IsTrue, IfSome, Option, option_map, named_process, Text, Ends, Front}
+use Rattle.syslog_loose.specs.Words.{Row, seen, shown, stamp_seen, Dating, OffsetTimestamp, is_blank, Some, None}
 use Rattle.syslog_pieces.specs.declared.timestamp.clock.ClockStamp.{ClockStamp}
 use Rattle.syslog_loose.specs.Exceptions.{HasQuietNames}
 use Rattle.syslog_loose.specs.Printed.{name_text, tag_text}

@@ -54,7 +54,8 @@ read_short test most = read_run test (λ t. nat_lt 0 (length t) && nat_le (lengt
 
 -- the text after a number up to 191
 unfoldable pub past_number : Text → Option Text
-past_number text = and_then (read_run is_ascii_digit (λ t. nat_lt 0 (length t) && nat_le (digits_value 10 t) 191) text) (λ x. Some x.1)
+past_number text =
+    and_then (read_run is_ascii_digit (λ t. nat_lt 0 (length t) && nat_le (digits_value 10 t) 191) text) (λ x. Some x.1)
 
 -- two digits; and so after a character
 abbrev pub read_two : Text → Option (ℕ × Text)
@@ -71,7 +72,8 @@ past_pri text = and_then (past 60 text) (λ t. and_or (past 48 t) (past 62) (and
 
 -- the calendar has the date, and the clock the time
 abbrev pub is_civil : ℕ → ℕ → ℕ → Bool
-is_civil year month day = nat_le year 9999 && (nat_le 1 month && (nat_le month 12 && (nat_le 1 day && nat_le day (days_in_month (pos year) month))))
+is_civil year month day = nat_le year 9999 && (nat_le 1 month && (nat_le month 12 && (nat_le 1 day
+    && nat_le day (days_in_month (pos year) month))))
 
 abbrev pub is_clock : ℕ → ℕ → ℕ → Bool
 is_clock hour minute second = nat_lt hour 24 && (nat_lt minute 60 && nat_lt second 60)
@@ -89,10 +91,12 @@ past_time text = and_then (read_two text) (λ h. and_then (read_marked 58 h.1) (
 
 -- hours and minutes
 unfoldable pub past_zone : Text → Option Text
-past_zone text = and_then (read_two text) (λ h. and_then (read_marked 58 h.1) (λ m. if is_clock h.0 m.0 0 then Some m.1 else None))
+past_zone text = and_then (read_two text) (λ h. and_then (read_marked 58 h.1) (λ m.
+    if is_clock h.0 m.0 0 then Some m.1 else None))
 
 unfoldable pub past_offset : Text → Option Text
-past_offset text = and_or (past 90 text) (λ t. Some t) (and_or (past 43 text) past_zone (and_then (past 45 text) past_zone))
+past_offset text = and_or (past 90 text) (λ t. Some t)
+    (and_or (past 43 text) past_zone (and_then (past 45 text) past_zone))
 
 unfoldable pub past_stamp : Text → Option Text
 past_stamp text = and_or (past 45 text) (λ t. Some t) (and_then (past_date text) (λ t. and_then (past 84 t) (λ t.
@@ -132,8 +136,8 @@ unfoldable pub past_params : Text → Option Text
 past_params text = past 93 (items_in read_param (length text) text).1
 
 unfoldable pub read_element : Text → Option (Text × Text)
-read_element text = and_then (past 91 text) (λ t. and_then (read_short is_sd_char 32 t) (λ x. and_then (past_params x.1) (λ t.
-    Some (x.0, t))))
+read_element text = and_then (past 91 text) (λ t. and_then (read_short is_sd_char 32 t) (λ x.
+    and_then (past_params x.1) (λ t. Some (x.0, t))))
 
 -- the ids of the elements at the front, and what follows them
 unfoldable pub elements_of : Text → List Text × Text
@@ -159,7 +163,8 @@ unfoldable pub past_elements : Text → Option Text
 past_elements text = if_some (elements_of text).0 (Some (elements_of text).1)
 
 unfoldable pub past_distinct : Text → Option Text
-past_distinct text = if_some (elements_of text).0 (if are_new [] (elements_of text).0 then Some (elements_of text).1 else None)
+past_distinct text = if_some (elements_of text).0
+    (if are_new [] (elements_of text).0 then Some (elements_of text).1 else None)
 
 abbrev pub is_spaced : Text → Bool
 is_spaced [] = true
