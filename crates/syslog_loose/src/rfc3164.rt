@@ -85,10 +85,11 @@ pub(crate) fn read_fields<'a, C>(text: &'a str) -> Fields<'a>
     let (tag, after_tag) = tag_field(after_host);
     let rest = blanks(past_colon(blanks(after_tag)));
     let names = resolve::<C>(host, tag);
+    let (_, _, process) = names;
     let are_printed = are_all([
         host.is_some(),
         tag.flatten().is_some(),
-        is_bare(names.2),
+        is_bare(process),
         before(after_tag, rest) == ": ",
         true,
     ]);

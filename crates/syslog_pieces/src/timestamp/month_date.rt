@@ -58,13 +58,15 @@ fn dated(day: Day, text: &str) -> Option<(MonthDate, &str)>
 fn date_of(year: Option<u32>, day: Day, clock: Clock) -> MonthDate
     ensures { result ≡ parts.date_of year day clock }
 {
+    let (month, day) = day;
+    let (hour, minute, second) = clock;
     MonthDate {
         year,
-        month: day.0,
-        day: day.1,
-        hour: clock.0,
-        minute: clock.1,
-        second: clock.2,
+        month,
+        day,
+        hour,
+        minute,
+        second,
     }
 }
 
