@@ -6,7 +6,7 @@ returns-in_err-century c =
     let n : NoFront year c.args.text.now = λ p q v e h. c.in_err-century.ensures (pad2 (v / 100)) (pad2 (v % 100) ++ q)
     (v / 100) (e ∙ ap (λ (x : Text). x ++ q) h.0) (refl, (let fits = h.1 in omega arith)) in search rules
 
--- the second pair, behind the first
+-- the second pair, after the first
 pub returns-in_err-year : goal.returns-in_err-year
 returns-in_err-year c =
     let g = c.in_ok-century.ensures in
