@@ -1,10 +1,19 @@
 //! The small pieces at the front of bytes: digits as numbers, and letters. Nothing is copied.
-ghost use Rattle.std.specs.Prelude.{◌≡◌, ℕ, ◌<◌, ◌≤◌, ◌++◌, length, slice_index, IfSome, MatchOption};
+ghost use Rattle.std.specs.Prelude.{◌≡◌, ℕ, ◌+◌, ◌<◌, ◌≤◌, ◌++◌, length, slice_index, IfSome, MatchOption};
 ghost use Rattle.syslog_pieces.specs.Words.{prefix_len, is_ascii_digit, IsAsciiDigit, Front, NoFront, after};
 ghost use Rattle.syslog_pieces.specs.Words.{ReadsBytes, pad3};
 ghost use Rattle.syslog_pieces.specs.Timestamp.Rfc3339 as spec;
 
 use crate::text::begins_with_digit;
+
+// The number of a digit, by 32 bits: by 8 each sum would be widened once more.
+#[inline(always)]
+fn digit(byte: u8) -> u32
+    requires { IsAsciiDigit byte }
+    ensures { result + 48 ≡ byte }
+{
+    u32::from(byte) - 48
+}
 
 /// Two digits, as a number below a limit.
 #[inline(always)]
@@ -14,7 +23,7 @@ pub fn pair(text: &[u8], limit: u32) -> Option<(u32, &[u8])>
 {
     match text {
         [tens @ b'0'..=b'9', ones @ b'0'..=b'9', rest @ ..] => {
-            let number = u32::from(*tens - b'0') * 10 + u32::from(*ones - b'0');
+            let number = digit(*tens) * 10 + digit(*ones);
             (number < limit).then_some((number, rest))
         }
         _ => None,
@@ -98,9 +107,7 @@ fn three_digits(text: &[u8]) -> Option<(u32, &[u8])>
 {
     match text {
         [a @ b'0'..=b'9', b @ b'0'..=b'9', c @ b'0'..=b'9', rest @ ..] => {
-            let hundreds = u32::from(*a - b'0') * 100;
-            let tens = u32::from(*b - b'0') * 10;
-            Some((hundreds + tens + u32::from(*c - b'0'), rest))
+            Some((digit(*a) * 100 + digit(*b) * 10 + digit(*c), rest))
         }
         _ => None,
     }
@@ -117,8 +124,8 @@ fn many_decimals(text: &[u8]) -> Option<(u32, &[u8])>
     let (digits, rest) = text.split_at(len);
     let mut nanosecond = 0;
     let mut place = 100_000_000;
-    'digits: for digit in digits {
-        nanosecond += u32::from(digit - b'0') * place;
+    'digits: for byte in digits {
+        nanosecond += digit(*byte) * place;
         place /= 10;
     }
     Some((nanosecond, rest))

@@ -17,20 +17,21 @@ small_digit text front len i e h digits =
 
 pub digits-preserved : goal.digits-preserved
 digits-preserved c =
-    let (worth, bound, value) = c.digits.invariant in
+    let (worth, bound, so_far) = c.digits.invariant in
+    let ds = c.split_at.result.0.now in
+    let i = c.digits.byte-index in
     let small = small_digit _ _ _ _ c.split_at.ensures.front c.digits-test.true c.digits_len-len.ensures.digits in
-    let small' : c.from.result ≤ 9 = rw c.from.ensures small in
-    let i = c.digits.digit-index in
+    let value : c.digit.result ≡ get_or ds i 0 - 48 = omega (arith, c.digit.ensures) in
     elim (cases_lt i 9) [
-      | inl lt ↦ step_on c.split_at.result.0.now i c.digits.nanosecond c.from.result c.digits.place _ (9 - i) _
-          c.digits-test.true c.from.ensures small' worth bound value (omega arith)
-      | inr past ↦ step_past c.split_at.result.0.now i c.digits.nanosecond c.from.result c.digits.place _ (9 - i) _
-          c.digits-test.true c.from.ensures small' worth bound value (omega arith) (omega arith)
+      | inl lt ↦ step_on ds i c.digits.nanosecond c.digit.result c.digits.place _ (9 - i) _ c.digits-test.true value
+          (rw value small) worth bound so_far (omega arith)
+      | inr past ↦ step_past ds i c.digits.nanosecond c.digit.result c.digits.place _ (9 - i) _ c.digits-test.true value
+          (rw value small) worth bound so_far (omega arith) (omega arith)
     ]
 
 pub returns : goal.returns
 returns c =
-    let none = at_drop_all (fraction_value (9 - c.digits.digit-index)) _ _ c.digits-test.false ∙ fraction_value-nil _ in
+    let none = at_drop_all (fraction_value (9 - c.digits.byte-index)) _ _ c.digits-test.false ∙ fraction_value-nil _ in
     let value : c.digits.nanosecond ≡ fraction_value 9 c.split_at.result.0.now =
     omega (arith, none, c.digits.invariant.2) in
     all_decimals _ _ _ _ _ c.digits_len-len.ensures.len (omega (arith, c.split_at.ensures.front_len)) c.split_at.ensures.front

@@ -3,5 +3,5 @@ use Rattle.syslog_pieces.proofs.timestamp.digits.many_decimals.Given as goal
 
 abbrev pub invariant-digits : goal.invariant-digits
 invariant-digits l =
-    (l.place ≡ 10 ^ (9 - l.digit-index) / 10) × (l.nanosecond + 10 ^ (9 - l.digit-index) ≤ 1_000_000_000) ×
-    (l.nanosecond + fraction_value (9 - l.digit-index) (drop l.digit-index l.digits) ≡ fraction_value 9 l.digits)
+    (l.place ≡ 10 ^ (9 - l.byte-index) / 10) × (l.nanosecond + 10 ^ (9 - l.byte-index) ≤ 1_000_000_000) ×
+    (l.nanosecond + fraction_value (9 - l.byte-index) (drop l.byte-index l.digits) ≡ fraction_value 9 l.digits)
