@@ -1,7 +1,7 @@
 # Proves, builds and installs, over the toolchain's rt.
 #
 #     make              proves the library and the programs with all below them, and builds them
-#     make check        proves all from nothing, and runs every test (tests/all)
+#     make check        proves the crates from nothing, and runs every test (tests/all)
 #     make install      installs what make built, and proves nothing: PREFIX=/usr/local DESTDIR=
 #     make uninstall    removes what it installed
 #     make dist         a tarball and a Debian package of the same files, in out/
