@@ -17,6 +17,9 @@ pub(super) const ELEMENT: &str = "[id a=\"b\" c=\"\" d=\"\\]\"]";
 /// The line of that element.
 pub(super) const LINE: &str = "id|a|b|c||d|\\]";
 
+/// Its values without escapes, each after its name.
+const PLAIN: &str = "a|b|c||d|]";
+
 /// The row of that element.
 const ROW: &str = "[id a=\"b\" c=\"\" d=\"\\]\"]¦id|a|b|c||d|\\]¦";
 
@@ -46,37 +49,43 @@ const LISTS: [&str; 2] = [
 ];
 
 // How many values were refused, if each other one is right, with its name, and in its place.
-fn refused_values(alloc: Global, element: &StructuredElement<&str>) -> Option<usize> {
-    let mut wanted = "a|b|c||d|]".split('|');
+fn refused_values(alloc: Global, element: &StructuredElement<&str>, values: &str) -> Option<usize> {
+    let mut wanted = values.split('|');
     let mut refused = 0usize;
+    let mut right = true;
     for item in element.params(alloc) {
-        let name = wanted.next();
-        let plain = wanted.next();
-        if item.is_err() {
-            refused = refused.saturating_add(1);
-        } else if !is_item(&item, name, plain) {
-            return None;
+        let (name, plain) = (wanted.next(), wanted.next());
+        match item.is_err() {
+            true => refused = refused.saturating_add(1),
+            false => right = right && is_item(&item, name, plain),
         }
     }
-    if wanted.next().is_some() {
-        return None;
+    if right && wanted.next().is_none() {
+        return Some(refused);
     }
-    Some(refused)
+    None
 }
 
-// All values are right, at once or at the second time.
-fn check_values(rt: &impl Abort, alloc: Global, element: &StructuredElement<&str>, tries: Tries) {
-    let refused = match refused_values(alloc, element) {
-        Some(1..) if tries == Tries::Twice => refused_values(alloc, element),
+/// All values are right, at once or at the second time. They are given without escapes, each after its name, with bars
+/// between.
+pub(super) fn check_values(
+    rt: &impl Abort,
+    alloc: Global,
+    element: &StructuredElement<&str>,
+    values: &str,
+    tries: Tries,
+) {
+    let refused = match refused_values(alloc, element, values) {
+        Some(1) if tries == Tries::Twice => refused_values(alloc, element, values),
         other => other,
     };
-    check(rt, matches!(refused, Some(0)), ELEMENT);
+    check(rt, matches!(refused, Some(0)), values);
 }
 
 fn check_element(rt: &impl Abort, alloc: Global, tries: Tries) {
     let read = list_of(alloc, ELEMENT, tries);
     match only(&read) {
-        Some(element) => check_values(rt, alloc, element, tries),
+        Some(element) => check_values(rt, alloc, element, PLAIN, tries),
         None => check(rt, false, "no element"),
     }
     check_read_list(rt, ROW, read);
