@@ -75,11 +75,10 @@ fn check_owned_clone(
         other => other,
     };
     match copy {
-        Ok(copy) => check(
-            rt,
-            copy == *owned && prints(&copy, want),
-            "a copy of the copy",
-        ),
+        Ok(copy) => {
+            check(rt, copy == *owned, "a copy of the copy");
+            check(rt, prints(&copy, want), "a copy of the copy");
+        }
         Err(_) => check(rt, false, "no copy of the copy"),
     }
     check(rt, prints(owned, want), "the copy that was copied");
