@@ -13,8 +13,8 @@ returns-in-Some c =
 
 pub returns-in_err-value : goal.returns-in_err-value
 returns-in_err-value c =
-    let n = no_row opening_row opening_det (c.in_ok-name.ensures past c.in_ok-after_equals.ensures past
-    c.blanks.ensures past inl c.in_err-value.ensures) in search rules
+    rw c.from_residual-in_err-value.ensures (no_row opening_row opening_det (c.in_ok-name.ensures past
+    c.in_ok-after_equals.ensures past c.blanks.ensures past inl c.in_err-value.ensures))
 
 pub returns : goal.returns
 returns c =

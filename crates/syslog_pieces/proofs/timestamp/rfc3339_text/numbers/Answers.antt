@@ -1,48 +1,48 @@
-use Rattle.syslog_pieces.proofs.Names.{inl, ◌past◌, refl, FitsSigned, w32, rules, to_z-of_z, stamp_row, row_of, NoFront, stamp_text}
-use Rattle.syslog_pieces.proofs.Names.{◌then◌}
+use Rattle.syslog_pieces.proofs.Names.{inl, ◌past◌, ◌then◌, refl, FitsSigned, w32, rules, to_z-of_z, stamp_row, row_of}
 use Rattle.syslog_pieces.proofs.TimestampLemmas.Rfc3339.{no_stamp_text, stamp_text_front}
 use Rattle.syslog_pieces.proofs.timestamp.rfc3339_text.numbers.Goals as goal
 
 pub returns-in_err-month : goal.returns-in_err-month
-returns-in_err-month c = let n : NoFront stamp_text c.args.text.now = no_stamp_text (search rules) in search rules
+returns-in_err-month c =
+    rw c.from_residual-in_err-month.ensures (no_stamp_text (c.in_ok-year.ensures past inl c.in_err-month.ensures))
 
 pub returns-in_err-day : goal.returns-in_err-day
 returns-in_err-day c =
-    let n = no_stamp_text (c.in_ok-year.ensures past c.in_ok-month.ensures past inl c.in_err-day.ensures)
-    in search rules
+    rw c.from_residual-in_err-day.ensures (no_stamp_text (c.in_ok-year.ensures past c.in_ok-month.ensures past inl
+    c.in_err-day.ensures))
 
 pub returns-in_err-rest : goal.returns-in_err-rest
 returns-in_err-rest c =
-    let n = no_stamp_text (c.in_ok-year.ensures past c.in_ok-month.ensures past c.in_ok-day.ensures
-    past inl c.in_err-rest.ensures) in search rules
+    rw c.from_residual-in_err-rest.ensures (no_stamp_text (c.in_ok-year.ensures past c.in_ok-month.ensures past
+    c.in_ok-day.ensures past inl c.in_err-rest.ensures))
 
 pub returns-in_err-hour : goal.returns-in_err-hour
 returns-in_err-hour c =
-    let n = no_stamp_text (c.in_ok-year.ensures past c.in_ok-month.ensures past c.in_ok-day.ensures
-    past c.in_ok-rest.ensures past inl c.in_err-hour.ensures) in search rules
+    rw c.from_residual-in_err-hour.ensures (no_stamp_text (c.in_ok-year.ensures past c.in_ok-month.ensures past
+    c.in_ok-day.ensures past c.in_ok-rest.ensures past inl c.in_err-hour.ensures))
 
 pub returns-in_err-minute : goal.returns-in_err-minute
 returns-in_err-minute c =
-    let n = no_stamp_text (c.in_ok-year.ensures past c.in_ok-month.ensures past c.in_ok-day.ensures
-    past c.in_ok-rest.ensures past c.in_ok-hour.ensures past inl c.in_err-minute.ensures) in search rules
+    rw c.from_residual-in_err-minute.ensures (no_stamp_text (c.in_ok-year.ensures past c.in_ok-month.ensures past
+    c.in_ok-day.ensures past c.in_ok-rest.ensures past c.in_ok-hour.ensures past inl c.in_err-minute.ensures))
 
 pub returns-in_err-second : goal.returns-in_err-second
 returns-in_err-second c =
-    let n = no_stamp_text (c.in_ok-year.ensures past c.in_ok-month.ensures past c.in_ok-day.ensures
-    past c.in_ok-rest.ensures past c.in_ok-hour.ensures past c.in_ok-minute.ensures past inl c.in_err-second.ensures)
-    in search rules
+    rw c.from_residual-in_err-second.ensures (no_stamp_text (c.in_ok-year.ensures past c.in_ok-month.ensures past
+    c.in_ok-day.ensures past c.in_ok-rest.ensures past c.in_ok-hour.ensures past c.in_ok-minute.ensures past inl
+    c.in_err-second.ensures))
 
 pub returns-in_err-nanosecond : goal.returns-in_err-nanosecond
 returns-in_err-nanosecond c =
-    let n = no_stamp_text (c.in_ok-year.ensures past c.in_ok-month.ensures past c.in_ok-day.ensures
-    past c.in_ok-rest.ensures past c.in_ok-hour.ensures past c.in_ok-minute.ensures past c.in_ok-second.ensures
-    past inl c.in_err-nanosecond.ensures) in search rules
+    rw c.from_residual-in_err-nanosecond.ensures (no_stamp_text (c.in_ok-year.ensures past c.in_ok-month.ensures past
+    c.in_ok-day.ensures past c.in_ok-rest.ensures past c.in_ok-hour.ensures past c.in_ok-minute.ensures past
+    c.in_ok-second.ensures past inl c.in_err-nanosecond.ensures))
 
 pub returns-in_err-offset : goal.returns-in_err-offset
 returns-in_err-offset c =
-    let n = no_stamp_text (c.in_ok-year.ensures past c.in_ok-month.ensures past c.in_ok-day.ensures
-    past c.in_ok-rest.ensures past c.in_ok-hour.ensures past c.in_ok-minute.ensures past c.in_ok-second.ensures
-    past c.in_ok-nanosecond.ensures past inl c.in_err-offset.ensures) in search rules
+    rw c.from_residual-in_err-offset.ensures (no_stamp_text (c.in_ok-year.ensures past c.in_ok-month.ensures past
+    c.in_ok-day.ensures past c.in_ok-rest.ensures past c.in_ok-hour.ensures past c.in_ok-minute.ensures past
+    c.in_ok-second.ensures past c.in_ok-nanosecond.ensures past inl c.in_err-offset.ensures))
 
 pub returns : goal.returns
 returns c =
