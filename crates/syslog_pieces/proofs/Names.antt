@@ -114,8 +114,7 @@ pub use Rattle.syslog_pieces.proofs.PieceLemmas.Class.{AllDeterministic, some_ru
 pub use Rattle.syslog_pieces.proofs.PieceLemmas.Class.{run_det, mapped_front, spaced_front, optional_none, mapped_meets}
 pub use Rattle.syslog_pieces.proofs.PieceLemmas.Class.{row_det, nil_front, no_mapped, rest_same, meets_none, row_pieces}
 pub use Rattle.syslog_pieces.proofs.PieceLemmas.Class.{run_same, row_head, rows_join, match_map, row_first, rows_step}
-pub use Rattle.syslog_pieces.proofs.PieceLemmas.Lists.{many_here, many_cons, begins, list_here, more_here, no_list}
-pub use Rattle.syslog_pieces.proofs.PieceLemmas.Lists.{no_more, many_det, no_many_no, has_read_more}
-pub use Rattle.syslog_pieces.proofs.PieceLemmas.Lists.{Leaves, list_goes, many_none, more_goes, Apart}
-pub use Rattle.syslog_pieces.proofs.PieceLemmas.Lists.{Begins, begins_apart, begins_more, begins_with, either_det}
-pub use Rattle.syslog_pieces.proofs.PieceLemmas.Lists.{first_kind, no_either, second_kind}
+pub use Rattle.syslog_pieces.proofs.PieceLemmas.Lists.{has_read_more, begins_apart, begins_more, begins_with, many_here}
+pub use Rattle.syslog_pieces.proofs.PieceLemmas.Lists.{second_kind, no_many_no, either_det, first_kind, many_cons}
+pub use Rattle.syslog_pieces.proofs.PieceLemmas.Lists.{list_here, more_here, list_goes, many_none, more_goes, no_either}
+pub use Rattle.syslog_pieces.proofs.PieceLemmas.Lists.{many_det, no_list, no_more, begins, Leaves, Begins, Apart}

@@ -1,18 +1,16 @@
 -- Numbers and names as process ids, and what is read back of them.
-use Rattle.syslog_pieces.proofs.Names.{◌≡◌, pos, ◌<◌, ◌⊎◌, inl, inr, w32, ◌∷◌, Err, sym, ◌∙◌, PID, suc, not}
-use Rattle.syslog_pieces.proofs.Names.{ℕ, signed_digits_value, length-le-encodes, is_not_whitespace, IsCanonicalProcess}
-use Rattle.syslog_pieces.proofs.Names.{ℤ, get_or, Result, IsUtf8, IsAscii, ne_eqb, NoFront, and_from, list_all, decimal}
-use Rattle.syslog_pieces.proofs.Names.{List, IsNumeral, cases_eq, cases_lt, IsI32Text, FitsSigned, and_parts}
-use Rattle.syslog_pieces.proofs.Names.{[], Ok, ap, ◌↔◌, length, digits_value, ParsesSigned, chars-IsAscii}
-use Rattle.syslog_pieces.proofs.Names.{if◌then◌else◌, signed_decimal, Some, arith, chars, Front, ProcId, negsuc}
-use Rattle.syslog_pieces.proofs.Names.{lt-ltb, Option, IfSome, IsTrue, None, refl, Text, Each, word, Name, neg_ℤ, true}
-use Rattle.syslog_pieces.proofs.Names.{false, Bool, ◌&&◌, Ends, is_ascii_digit, decimal-digits_value}
-use Rattle.syslog_pieces.proofs.Names.{without_leading_sign, IsAscii-cons, IsBareWord}
-use Rattle.syslog_pieces.proofs.Names.{process_word, NamesProcess, process_text, IsDeterministic, encode_utf8_all}
-use Rattle.syslog_pieces.proofs.Names.{IsAscii-nil, IsBoundedProcess, IsCanonicalWord, LeadsBare}
+use Rattle.syslog_pieces.proofs.Names.{decimal-digits_value, without_leading_sign, signed_digits_value, IsDeterministic}
+use Rattle.syslog_pieces.proofs.Names.{IsCanonicalProcess, length-le-encodes, is_not_whitespace, IsBoundedProcess, List}
+use Rattle.syslog_pieces.proofs.Names.{encode_utf8_all, IsCanonicalWord, signed_decimal, is_ascii_digit, chars-IsAscii}
+use Rattle.syslog_pieces.proofs.Names.{if◌then◌else◌, digits_value, ParsesSigned, IsAscii-cons, process_word, IsNumeral}
+use Rattle.syslog_pieces.proofs.Names.{NamesProcess, process_text, common_steps, IsAscii-nil, FitsSigned, IsBareWord, ℕ}
+use Rattle.syslog_pieces.proofs.Names.{IsI32Text, and_parts, LeadsBare, and_from, list_all, cases_eq, cases_lt, IsAscii}
+use Rattle.syslog_pieces.proofs.Names.{ltb-true, NoFront, decimal, get_or, Result, IsUtf8, ne_eqb, length, ProcId, Some}
+use Rattle.syslog_pieces.proofs.Names.{negsuc, lt-ltb, Option, IfSome, IsTrue, arith, chars, Front, neg_ℤ, false, None}
+use Rattle.syslog_pieces.proofs.Names.{refl, Text, Each, word, Name, true, Bool, ◌&&◌, Ends, ◌≡◌, pos, ◌<◌, ◌⊎◌, inl, ℤ}
+use Rattle.syslog_pieces.proofs.Names.{inr, w32, ◌∷◌, Err, sym, ◌∙◌, PID, suc, not, ◌↔◌, [], Ok, ap}
 use Rattle.std.proofs.lemmas.Fmt.{decimal_is_IsNumeral}
 use Rattle.std.proofs.lemmas.Str.Parse.{IsNumeralModel, numerals_by_value}
-use Rattle.syslog_pieces.proofs.Names.{ltb-true, common_steps}
 use Rattle.syslog_pieces.specs.ProcId.{procid_text, has_32_bits, is_signed_text, named_process, IsNoI32Text}
 use Rattle.syslog_pieces.proofs.TextLemmas.Runs.{digits_ascii, ascii_ahead, ascii_chars}
 use Rattle.syslog_pieces.proofs.TextLemmas.Words.{own, word_det, false_is, last_is, decimal_digits, digits_visible}

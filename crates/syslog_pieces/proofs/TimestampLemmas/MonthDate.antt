@@ -1,20 +1,18 @@
 -- Dates with the name of a month, their timestamps in a zone, and the timestamps of RFC 3164.
-use Rattle.syslog_pieces.proofs.Names.{◌≡◌, either_det, begins_with, exactly_det, begins_more, second_kind, MatchOption}
-use Rattle.syslog_pieces.proofs.Names.{nat_eq, get_or, length, row_det, Option, Begins, Values}
-use Rattle.syslog_pieces.proofs.Names.{IsAscii, year_row, fields_of, some_run, priority, is_blank, unwrap_or, IsStampAt}
-use Rattle.syslog_pieces.proofs.Names.{NoFront, day_row, run_det, ◌-◌, run_same, row_head, DateTime, TimeZone, IsAnswer}
-use Rattle.syslog_pieces.proofs.Names.{ℕ, ◌<◌, ◌≤◌, ◌∷◌, sym, ◌∙◌, map, inl, drop, Some, [], ap, inr, Row, pos, Gap, ℤ}
-use Rattle.syslog_pieces.proofs.Names.{slice_get, nat_tests, first_kind, row_pieces, mapped_det, month_date}
-use Rattle.syslog_pieces.proofs.Names.{clock_row, MonthDate, ◌+◌, rest_same, no_mapped, rows_join, no_either, rows_step}
-use Rattle.syslog_pieces.proofs.Names.{ClockStamp, AmbiguousOffset, OffsetTimestamp, AllDeterministic, nanos_of_seconds}
-use Rattle.syslog_pieces.proofs.Names.{front_same, IsAscii-cons, some_run_det, mapped_front, begins_apart}
-use Rattle.syslog_pieces.proofs.Names.{None, common_steps, same_datetime, rfc3164_stamp, agree_below_at, is_ascii_digit}
-use Rattle.syslog_pieces.proofs.Names.{refl, Text, ◌-ℤ◌, Fold, Bool, true, List, ◌++◌, subst, arith}
-use Rattle.syslog_pieces.proofs.Names.{rows_none_here, IsStampOfClock, IsDeterministic, rows_none_later}
-use Rattle.syslog_pieces.proofs.Names.{Front, month, Class, colon, Apart, ◌also◌, Offset, Dating, mapped}
-use Rattle.syslog_pieces.proofs.Names.{Unambiguous, CivilFields, no_front_no, IsMonthStamp, header_stamp, lowercase_is}
+use Rattle.syslog_pieces.proofs.Names.{AllDeterministic, nanos_of_seconds, AmbiguousOffset, OffsetTimestamp, either_det}
+use Rattle.syslog_pieces.proofs.Names.{IsDeterministic, rows_none_later, agree_below_at, is_ascii_digit, rows_none_here}
+use Rattle.syslog_pieces.proofs.Names.{IsStampOfClock, same_datetime, rfc3164_stamp, IsAscii-cons, some_run_det, nat_eq}
+use Rattle.syslog_pieces.proofs.Names.{mapped_front, begins_apart, common_steps, IsMonthStamp, header_stamp, first_kind}
+use Rattle.syslog_pieces.proofs.Names.{lowercase_is, begins_with, exactly_det, begins_more, second_kind, MatchOption, ℕ}
+use Rattle.syslog_pieces.proofs.Names.{Unambiguous, CivilFields, no_front_no, row_pieces, mapped_det, month_date, subst}
+use Rattle.syslog_pieces.proofs.Names.{ClockStamp, front_same, fields_of, unwrap_or, IsStampAt, slice_get, nat_tests, ℤ}
+use Rattle.syslog_pieces.proofs.Names.{clock_row, MonthDate, rest_same, no_mapped, rows_join, no_either, rows_step, ◌≡◌}
+use Rattle.syslog_pieces.proofs.Names.{year_row, some_run, priority, is_blank, run_same, row_head, DateTime, TimeZone}
+use Rattle.syslog_pieces.proofs.Names.{IsAnswer, row_det, IsAscii, NoFront, day_row, run_det, IsAlone, get_or, length}
+use Rattle.syslog_pieces.proofs.Names.{Option, Begins, Values, ◌also◌, Offset, Dating, mapped, arith, Front, month, ◌-◌}
+use Rattle.syslog_pieces.proofs.Names.{Class, colon, Apart, drop, Some, None, refl, Text, ◌-ℤ◌, Fold, Bool, true, List}
+use Rattle.syslog_pieces.proofs.Names.{◌++◌, take, ◌<◌, ◌≤◌, ◌∷◌, sym, ◌∙◌, map, inl, inr, Row, pos, Gap, ◌+◌, [], ap}
 use Rattle.std.specs.Char.{to_ascii_lowercase}
-use Rattle.syslog_pieces.proofs.Names.{IsAlone, take}
 use Rattle.std.proofs.lemmas.Option.{slice_get_within}
 use Rattle.jiff.specs.Types.{UTC, Unknown, Fixed as FixedZone}
 use Rattle.jiff.specs.Words.{offset_at, ambiguous_at, IsFixed}
