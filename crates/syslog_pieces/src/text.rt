@@ -217,7 +217,6 @@ pub fn number(text: &str, limit: u32) -> Option<(u32, &str)>
 }
 
 // The number of 32 bits at the front, and the text after it. One of one to three digits, as most are, needs no scan.
-#[tactic(auto, using(crate::proofs::TextLemmas::Words::number_read, crate::proofs::TextLemmas::Runs::split_at_end))]
 #[inline(always)]
 fn any_number(text: &str) -> Option<(u32, &str)>
     ensures { Reads (spec.number 4294967295) (λ n. n) (chars text.now) result }

@@ -52,7 +52,6 @@ pub struct OffsetTimestamp {
 
 /// Reads the timestamp at the front of a header's text, absent for `-`. Returns it and the rest. A text that begins
 /// with `-` is never more than that.
-#[tactic(auto, using(crate::proofs::TimestampLemmas::Rfc3339::header_fronts))]
 #[inline(always)]
 pub fn header_stamp(text: &str) -> Option<(Option<ClockStamp>, &str)>
     ensures { Reads spec.header_stamp stamp_seen (chars text.now) result }

@@ -1,21 +1,20 @@
 -- A text has one RFC 3339 text at its front, and at most one timestamp, which is read back from its print.
 -- What is printed of a canonical timestamp has it, and no other timestamp has a text.
-use Rattle.syslog_pieces.proofs.Names.{◌≡◌, IsAnswer, no_mapped, no_either, nat_tests, front_same, year_sign, Timestamp}
-use Rattle.syslog_pieces.proofs.Names.{inl, inr, ◌+◌, ◌/◌, ◌%◌, ◌<◌, ◌≤◌, ◌∷◌, sym, ◌∙◌, Each, dash, ◌+ℤ◌, ◌≤ℤ◌, ◌-ℤ◌}
-use Rattle.syslog_pieces.proofs.Names.{ℕ, is_ascii_digit, is_prop→PathP, IsStampOfClock, Rfc3339Fields, encode_utf8_all}
-use Rattle.syslog_pieces.proofs.Names.{ℤ, IsStampText, clock_value, numeric_row, CivilFields, append_assoc}
-use Rattle.syslog_pieces.proofs.Names.{List, stamp_text, written_of, second_kind, piece_front, each_append}
-use Rattle.syslog_pieces.proofs.Names.{[], IsTimestampNanos, fields_of_rfc3339, is_not_whitespace, days_in_month_bounds}
-use Rattle.syslog_pieces.proofs.Names.{◌++◌, HasStamp, decimals, fraction, IsAlone, row_det, AreCivil, exactly, Divides}
-use Rattle.syslog_pieces.proofs.Names.{Bool, true, Some, None, refl, pad2, pad4, Text, Ends, sign, year, neg_ℤ}
-use Rattle.syslog_pieces.proofs.Names.{false, subst, arith, props, Front, after, heads, Apart, Class, length, negsuc}
-use Rattle.syslog_pieces.proofs.Names.{Option, Offset, Values, texted, mapped, is_dot, letter, offset, ◌also◌}
-use Rattle.syslog_pieces.proofs.Names.{ap, Row, pos, suc, ◌*◌, min, rules}
-use Rattle.syslog_pieces.proofs.Names.{IsOffsetSeconds, IsStampOfRfc3339, stamp_row, AllDeterministic, nanos_of_seconds}
-use Rattle.syslog_pieces.proofs.Names.{NoFront, some_run_det, length-append, fraction_text, if◌then◌else◌}
-use Rattle.syslog_pieces.proofs.Names.{IsDeterministic, OffsetTimestamp, mapped_front, nanos_of_fields, encodes-IsAscii}
-use Rattle.syslog_pieces.proofs.Names.{some_run, ClockStamp, mapped_det, texted_det, either_det, append-nil, row_pieces}
-use Rattle.syslog_pieces.proofs.Names.{seconds_of, IsAsciiDigit, header_stamp, unsigned_abs, signed_arith, civil_fields}
+use Rattle.syslog_pieces.proofs.Names.{days_in_month_bounds, fields_of_rfc3339, is_not_whitespace, IsTimestampNanos, []}
+use Rattle.syslog_pieces.proofs.Names.{IsStampOfRfc3339, AllDeterministic, nanos_of_seconds, encode_utf8_all, no_mapped}
+use Rattle.syslog_pieces.proofs.Names.{IsOffsetSeconds, IsDeterministic, OffsetTimestamp, nanos_of_fields, append_assoc}
+use Rattle.syslog_pieces.proofs.Names.{encodes-IsAscii, is_ascii_digit, IsStampOfClock, is_prop→PathP, Rfc3339Fields, ℕ}
+use Rattle.syslog_pieces.proofs.Names.{length-append, fraction_text, if◌then◌else◌, some_run_det, mapped_front, IsAlone}
+use Rattle.syslog_pieces.proofs.Names.{IsAsciiDigit, header_stamp, unsigned_abs, signed_arith, civil_fields, front_same}
+use Rattle.syslog_pieces.proofs.Names.{IsStampText, clock_value, numeric_row, CivilFields, second_kind, piece_front, ap}
+use Rattle.syslog_pieces.proofs.Names.{each_append, stamp_text, written_of, ClockStamp, mapped_det, texted_det, row_det}
+use Rattle.syslog_pieces.proofs.Names.{either_det, append-nil, row_pieces, seconds_of, no_either, nat_tests, year_sign}
+use Rattle.syslog_pieces.proofs.Names.{Timestamp, stamp_row, IsAnswer, HasStamp, decimals, fraction, AreCivil, some_run}
+use Rattle.syslog_pieces.proofs.Names.{exactly, Divides, NoFront, length, negsuc, Option, Offset, Values, texted, neg_ℤ}
+use Rattle.syslog_pieces.proofs.Names.{mapped, is_dot, letter, offset, ◌also◌, false, subst, arith, props, Front, after}
+use Rattle.syslog_pieces.proofs.Names.{heads, Apart, Class, rules, Each, dash, ◌+ℤ◌, ◌≤ℤ◌, ◌-ℤ◌, List, ◌++◌, Bool, true}
+use Rattle.syslog_pieces.proofs.Names.{Some, None, refl, pad2, pad4, Text, Ends, sign, year, ◌≡◌, inl, inr, ◌+◌, ◌/◌, ℤ}
+use Rattle.syslog_pieces.proofs.Names.{◌%◌, ◌<◌, ◌≤◌, ◌∷◌, sym, ◌∙◌, Row, pos, suc, ◌*◌, min}
 use Rattle.jiff_core.specs.Calendar.{IsWithin}
 use Rattle.syslog_pieces.specs.Timestamp.Rfc3339.{pair, HasRfc3339Stamp}
 use Rattle.syslog_pieces.specs.Timestamp.Printed.{printed_stamp, date_time_text, offset_text, offset_sign}
@@ -274,9 +273,6 @@ header_stamp_det p q p' q' (Some s) (Some t) e ((w, h, a), z) ((w', k, b), z') =
     (same, ap Some (one_timestamp p' s t (subst (λ (x : Text). IsStampText x s) same (w, h, a)) (w', k, b)))
 
 -- ---- what the reader returns
-pub dash_front : {t q : Text} → Front (exactly dash) t q tt → Front header_stamp t q None
-dash_front f = record { piece = f.piece; whole = f.whole; is = f.is }
-
 -- neither an RFC 3339 text nor a dash
 pub no_stamp_front : {t : Text} → NoFront stamp_text t → NoFront (exactly dash) t → NoFront header_stamp t
 no_stamp_front n m p q None e h = m p q tt e h
@@ -299,9 +295,6 @@ module _ {t q : Text} {w : Rfc3339Fields} (f : Front stamp_text t q w) where
       let g : Front stamp_text t q' w' = record { piece = p; whole = e; is = stamp_alone p [] q' w' h } in
       let (rest, same) = front_same stamp_text stamp_text_det g f in
       n v r (sym rest ∙ z) (subst (λ (x : Rfc3339Fields). IsStampOfRfc3339 x v) same k)
-
--- what the reader of such timestamps rests on
-pub ruleset header_fronts = (stamp_front, dash_front)
 
 -- ---- a printed stamp is ASCII, so that its characters are its bytes
 

@@ -9,7 +9,6 @@ use crate::text::canonical::{begins_unblank, is_some_of};
 use crate::text::{CharClass, first, split_run};
 
 // Whether the text is a list of units, as the value of a parameter is.
-#[tactic(auto, using(crate::proofs::StructuredDataLemmas::Closing::value_steps))]
 fn is_value(text: &str) -> bool
     ensures { IsTrue result ↔ IsValue (chars text.now) }
 {

@@ -1,6 +1,6 @@
 use Rattle.syslog_pieces.proofs.Names.{arith, rules}
 use Rattle.syslog_pieces.proofs.TextLemmas.Runs.{no_number, split_at_end}
-use Rattle.syslog_pieces.proofs.TextLemmas.Words.{small_cut, small_read, number_stuck}
+use Rattle.syslog_pieces.proofs.TextLemmas.Words.{small_cut, small_read, number_read, number_stuck}
 use Rattle.syslog_pieces.proofs.text.any_number.Goals as goal
 
 pub returns-then-not-begins_with_digit : goal.returns-then-not-begins_with_digit
@@ -22,3 +22,9 @@ pub returns-in_err-value : goal.returns-in_err-value
 returns-in_err-value c =
     let n = number_stuck _ _ _ (split_at_end _ _ _ _ _ c.digits_end.ensures c.split_at-2.ensures.front c.split_at-2.ensures.back) 4294967295
     (λ some low. c.in_err-value.ensures (some, omega (arith, low))) in search rules
+
+pub returns : goal.returns
+returns c =
+    let h = c.in_ok-value.ensures in
+    number_read _ _ _ (split_at_end _ _ _ _ _ c.digits_end.ensures c.split_at-2.ensures.front c.split_at-2.ensures.back)
+    _ 4294967295 h (omega (arith, h.0.1, h.1))

@@ -1,5 +1,5 @@
 use Rattle.syslog_pieces.proofs.Names.{ElementValue, start_row, eqb-true, length, no_row, rules, arith, subst, refl, []}
-use Rattle.syslog_pieces.proofs.Names.{sym, ◌+◌, ◌≤◌, inl}
+use Rattle.syslog_pieces.proofs.Names.{sym, ◌+◌, ◌≤◌, ◌past◌, inl}
 use Rattle.syslog_pieces.proofs.StructuredDataLemmas.Closing.{byte_count_slice, dead_suffix, no_start}
 use Rattle.syslog_pieces.proofs.StructuredDataLemmas.Walk.{bare_inside, bare_walked, at_first, not_opened, value_passes}
 use Rattle.syslog_pieces.proofs.StructuredDataLemmas.Walk.{not_closed, not_separated, ends, ends_walked, goes_on}
@@ -87,3 +87,7 @@ params-preserved g c =
     let o = c.in-Some-open_param.ensures in
     let on = goes_on at o.0 c.value_before.ensures o.1 c.in-Some-literal-3.ensures in
     (search rules, (_, on, c.push.ensures ps noted))
+
+pub returns-in_default-nonempty_run-clause-walked : goal.returns-in_default-nonempty_run-clause-walked
+returns-in_default-nonempty_run-clause-walked g c =
+    (no_start (no_row start_row start_det (c.in-Some.ensures past inl c.in_default-nonempty_run.ensures)), c.requires)
