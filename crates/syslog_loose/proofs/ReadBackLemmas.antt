@@ -23,14 +23,13 @@ use Rattle.syslog_loose.proofs.Names.{◌then◌, piece_front, row_head, rest, r
 use Rattle.syslog_loose.specs.declared.variant.Variant.TheVariants.{RFC3164}
 use Rattle.syslog_loose.proofs.Rfc5424Lemmas.{read_completed, completed, priority_same, printed_is}
 use Rattle.syslog_loose.proofs.Rfc3164Lemmas.{rfc3164_bounded, printed_3164_is, printed_apart, digit_range, quotes}
-use Rattle.syslog_loose.proofs.Rfc3164Lemmas.{shows_month_date, to_stamp, to_stamp_det, told}
+use Rattle.syslog_loose.proofs.Rfc3164Lemmas.{shows_month_date, to_stamp, to_stamp_det, told, printed_unlike}
 use Rattle.syslog_loose.specs.Printed.{printed_3164, process_text, printed_5424}
 use Rattle.syslog_loose.proofs.CanonicalLemmas.{near_completed}
 use Rattle.syslog_loose.proofs.Rfc3164Lemmas.Near.{read_near, read_nearly, stamp_read}
 use Rattle.syslog_loose.specs.ReadBack.{AnswersItself, FieldsAsRead, AnswersAgain}
 use Rattle.syslog_loose.proofs.ReadingLemmas.{Found, value, in_year_map, quoted}
 use Rattle.syslog_loose.proofs.Rfc3164Lemmas.ReadBack.{rfc3164_exact, stamp_low}
-use Rattle.syslog_loose.proofs.Rfc3164Lemmas.{printed_unlike}
 use Rattle.std.proofs.Math.Utf8.{scalar, scalars, low_scalar}
 use Rattle.std.proofs.lemmas.Bool.{and_from, and_parts, cond_both}
 use Rattle.syslog_pieces.proofs.TimestampLemmas.Digits.{is_stamp_character, stamp_range}

@@ -355,9 +355,6 @@ shown_once text d e (_, _, x) (_, _, y) =
 abbrev pub IsDigit : ℕ → Type 0
 IsDigit c = is_ascii_digit c ≡ true
 
-abbrev pub IsDash : ℕ → Type 0
-IsDash c = c ≡ 45
-
 pub digit_range : (c : ℕ) → is_ascii_digit c ≡ true → (48 ≤ c) × (c ≤ 57)
 digit_range c h = grind (arith, nat_tests)
 

@@ -125,16 +125,3 @@ module _ (old new : Ids) (seen : List Text) (id : Bor (List ℕ)) (u : IsUtf8 id
       → MatchBool is_new ((is_among (shown id) seen ≡ false) × HasSeen new (seen ++ shown id ∷ [])) (is_among (shown id) seen ≡ true)
   seen_put true e other full kept updated = (sym (seen_other other) ∙ not-true _ (sym e), seen_many full kept updated)
   seen_put false e other full kept updated = sym (seen_other other) ∙ not-false _ (sym e)
-
--- the first id is new
-pub first_seen : (is_new : Bool) (id : Text) (P : Type 0) → MatchBool is_new ((is_among id [] ≡ false) × P) (is_among id [] ≡ true) → P
-first_seen true id P h = h.1
-first_seen false id P h = cc
-
-pub was_new : (is_new : Bool) (P Q : Type 0) → is_new ≡ true → MatchBool is_new P Q → P
-was_new true P Q e h = h
-was_new false P Q e h = cc
-
-pub was_old : (is_new : Bool) (P Q : Type 0) → is_new ≡ false → MatchBool is_new P Q → Q
-was_old false P Q e h = h
-was_old true P Q e h = cc

@@ -20,12 +20,11 @@ use Rattle.syslog_loose.proofs.Names.{stamp_text-canonical, own_year, prefix_len
 use Rattle.syslog_pieces.proofs.PieceLemmas.Class.{row_nil, row_none_here, row_none_later, texted_front, no_front_no}
 use Rattle.syslog_pieces.proofs.PieceLemmas.Class.{Meets, meets_here, meets_none}
 use Rattle.syslog_pieces.proofs.PieceLemmas.Lists.{no_more, no_more_behind}
-use Rattle.syslog_pieces.proofs.StructuredDataLemmas.Elements.{start_det}
+use Rattle.syslog_pieces.proofs.StructuredDataLemmas.Elements.{start_det, value_here, unit_goes}
 use Rattle.syslog_pieces.proofs.StructuredDataLemmas.Closing.{no_closing, closing_goes, quoted_goes}
 use Rattle.syslog_pieces.proofs.StructuredDataLemmas.Closing.{no_opening, no_quoted_short, passes_here, value_ends}
 use Rattle.syslog_pieces.proofs.StructuredDataLemmas.Closing.{value_breaks, value_goes}
 use Rattle.syslog_pieces.proofs.StructuredDataLemmas.Walk.{full_goes}
-use Rattle.syslog_pieces.proofs.StructuredDataLemmas.Elements.{value_here, unit_goes}
 use Rattle.syslog_pieces.proofs.TimestampLemmas.MonthDate.{month_begins}
 use Rattle.std.proofs.lemmas.Bool.Decides.{not_from_Decides}
 use Rattle.syslog_pieces.specs.Bodies.Closing.{opening, quoted_row, quoted, closing}

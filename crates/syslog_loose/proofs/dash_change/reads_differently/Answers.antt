@@ -9,6 +9,8 @@ returns-in-None-clause-drops g c =
 pub returns-in-None-clause-reads : goal.returns-in-None-clause-reads
 returns-in-None-clause-reads g c = in_year_map (λ year h. differs_so _ _ _ _ h) (returns-in-None-clause-drops g c)
 
+pub returns-in-Some-clause-drops : goal.returns-in-Some-clause-drops
+returns-in-Some-clause-drops g c = in_year_map (λ year of. c.has_dash_change.ensures _ _ _ of) c.in-Some.ensures.reads
+
 pub returns-in-Some-clause-reads : goal.returns-in-Some-clause-reads
-returns-in-Some-clause-reads g c =
-    in_year_map (λ year of. differs_so _ _ _ _ (c.has_dash_change.ensures _ _ _ of)) c.in-Some.ensures.reads
+returns-in-Some-clause-reads g c = in_year_map (λ year h. differs_so _ _ _ _ h) (returns-in-Some-clause-drops g c)

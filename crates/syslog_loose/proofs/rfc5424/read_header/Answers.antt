@@ -1,5 +1,5 @@
 use Rattle.syslog_loose.proofs.Names.{◌≡◌, ◌<◌, ◌∷◌, ◌++◌, ◌∙◌, ◌then◌, ◌past◌, length, Option, Some, None, IfSome, sym}
-use Rattle.syslog_loose.proofs.Names.{ap, arith, inl, refl, rules, option_map, IsBareWord, Text, Front, named_process}
+use Rattle.syslog_loose.proofs.Names.{ap, arith, inl, refl, option_map, IsBareWord, Text, Front, named_process}
 use Rattle.syslog_loose.proofs.Names.{process_text, process_word, bare_prints, named_names, word, name_text, row_of}
 use Rattle.syslog_loose.proofs.Names.{no_row, seen, shown, header_row, Bor, List, ℕ, Line, word_stands, host_stands}
 use Rattle.syslog_pieces.proofs.PieceLemmas.Class.{Fails}
@@ -33,11 +33,11 @@ unread : {text : Text} (r : Option (Line × Bor (List ℕ))) → r ≡ None → 
 unread r e fails = rw e (no_row header_row header_det fails)
 
 pub returns-in_err-version-clause-reads : goal.returns-in_err-version-clause-reads
-returns-in_err-version-clause-reads g c whole f = unread _ (search rules) (f past inl c.in_err-version.ensures)
+returns-in_err-version-clause-reads g c whole f = unread _ c.from_residual.ensures (f past inl c.in_err-version.ensures)
 
 pub returns-in_err-start-clause-reads : goal.returns-in_err-start-clause-reads
 returns-in_err-start-clause-reads g c whole f =
-    unread _ (search rules) (f past c.in_ok-version.ensures past inl c.in_err-start.ensures)
+    unread _ c.from_residual-in_err-start.ensures (f past c.in_ok-version.ensures past inl c.in_err-start.ensures)
 
 pub returns-in_default-clause-reads : goal.returns-in_default-clause-reads
 returns-in_default-clause-reads g c whole f =
@@ -45,48 +45,50 @@ returns-in_default-clause-reads g c whole f =
 
 pub returns-in_err-at_host-clause-reads : goal.returns-in_err-at_host-clause-reads
 returns-in_err-at_host-clause-reads g c whole f =
-    unread _ (search rules) (f past c.in_ok-version.ensures past c.in_ok-start.ensures past c.in-Some.ensures past inl
-    c.in_err-at_host.ensures)
+    unread _ c.from_residual-in_err-at_host.ensures (f past c.in_ok-version.ensures past c.in_ok-start.ensures past
+    c.in-Some.ensures past inl c.in_err-at_host.ensures)
 
 pub returns-in_err-hostname-clause-reads : goal.returns-in_err-hostname-clause-reads
 returns-in_err-hostname-clause-reads g c whole f =
-    unread _ (search rules) (f past c.in_ok-version.ensures past c.in_ok-start.ensures past c.in-Some.ensures past
-    c.in_ok-at_host.ensures past inl c.in_err-hostname.ensures)
+    unread _ c.from_residual-in_err-hostname.ensures (f past c.in_ok-version.ensures past c.in_ok-start.ensures past
+    c.in-Some.ensures past c.in_ok-at_host.ensures past inl c.in_err-hostname.ensures)
 
 pub returns-in_err-at_app-clause-reads : goal.returns-in_err-at_app-clause-reads
 returns-in_err-at_app-clause-reads g c whole f =
-    unread _ (search rules) (f past c.in_ok-version.ensures past c.in_ok-start.ensures past c.in-Some.ensures past
-    c.in_ok-at_host.ensures past c.in_ok-hostname.ensures past inl c.in_err-at_app.ensures)
+    unread _ c.from_residual-in_err-at_app.ensures (f past c.in_ok-version.ensures past c.in_ok-start.ensures past
+    c.in-Some.ensures past c.in_ok-at_host.ensures past c.in_ok-hostname.ensures past inl c.in_err-at_app.ensures)
 
 pub returns-in_err-appname-clause-reads : goal.returns-in_err-appname-clause-reads
 returns-in_err-appname-clause-reads g c whole f =
-    unread _ (search rules) (f past c.in_ok-version.ensures past c.in_ok-start.ensures past c.in-Some.ensures past
-    c.in_ok-at_host.ensures past c.in_ok-hostname.ensures past c.in_ok-at_app.ensures past inl c.in_err-appname.ensures)
+    unread _ c.from_residual-in_err-appname.ensures (f past c.in_ok-version.ensures past c.in_ok-start.ensures past
+    c.in-Some.ensures past c.in_ok-at_host.ensures past c.in_ok-hostname.ensures past c.in_ok-at_app.ensures past inl
+    c.in_err-appname.ensures)
 
 pub returns-in_err-at_process-clause-reads : goal.returns-in_err-at_process-clause-reads
 returns-in_err-at_process-clause-reads g c whole f =
-    unread _ (search rules) (f past c.in_ok-version.ensures past c.in_ok-start.ensures past c.in-Some.ensures past
-    c.in_ok-at_host.ensures past c.in_ok-hostname.ensures past c.in_ok-at_app.ensures past c.in_ok-appname.ensures past
-    inl c.in_err-at_process.ensures)
+    unread _ c.from_residual-in_err-at_process.ensures (f past c.in_ok-version.ensures past c.in_ok-start.ensures past
+    c.in-Some.ensures past c.in_ok-at_host.ensures past c.in_ok-hostname.ensures past c.in_ok-at_app.ensures past
+    c.in_ok-appname.ensures past inl c.in_err-at_process.ensures)
 
 pub returns-in_err-process-clause-reads : goal.returns-in_err-process-clause-reads
 returns-in_err-process-clause-reads g c whole f =
-    unread _ (search rules) (f past c.in_ok-version.ensures past c.in_ok-start.ensures past c.in-Some.ensures past
-    c.in_ok-at_host.ensures past c.in_ok-hostname.ensures past c.in_ok-at_app.ensures past c.in_ok-appname.ensures past
-    c.in_ok-at_process.ensures past inl (no_process c.in_err-process.ensures))
+    unread _ c.from_residual-in_err-process.ensures (f past c.in_ok-version.ensures past c.in_ok-start.ensures past
+    c.in-Some.ensures past c.in_ok-at_host.ensures past c.in_ok-hostname.ensures past c.in_ok-at_app.ensures past
+    c.in_ok-appname.ensures past c.in_ok-at_process.ensures past inl (no_process c.in_err-process.ensures))
 
 pub returns-in_err-at_id-clause-reads : goal.returns-in_err-at_id-clause-reads
 returns-in_err-at_id-clause-reads g c whole f =
-    unread _ (search rules) (f past c.in_ok-version.ensures past c.in_ok-start.ensures past c.in-Some.ensures past
-    c.in_ok-at_host.ensures past c.in_ok-hostname.ensures past c.in_ok-at_app.ensures past c.in_ok-appname.ensures past
-    c.in_ok-at_process.ensures past (process_named c.in_ok-process.ensures) past inl c.in_err-at_id.ensures)
+    unread _ c.from_residual-in_err-at_id.ensures (f past c.in_ok-version.ensures past c.in_ok-start.ensures past
+    c.in-Some.ensures past c.in_ok-at_host.ensures past c.in_ok-hostname.ensures past c.in_ok-at_app.ensures past
+    c.in_ok-appname.ensures past c.in_ok-at_process.ensures past (process_named c.in_ok-process.ensures) past inl
+    c.in_err-at_id.ensures)
 
 pub returns-in_err-msgid-clause-reads : goal.returns-in_err-msgid-clause-reads
 returns-in_err-msgid-clause-reads g c whole f =
-    unread _ (search rules) (f past c.in_ok-version.ensures past c.in_ok-start.ensures past c.in-Some.ensures past
-    c.in_ok-at_host.ensures past c.in_ok-hostname.ensures past c.in_ok-at_app.ensures past c.in_ok-appname.ensures past
-    c.in_ok-at_process.ensures past (process_named c.in_ok-process.ensures) past c.in_ok-at_id.ensures past inl
-    c.in_err-msgid.ensures)
+    unread _ c.from_residual-in_err-msgid.ensures (f past c.in_ok-version.ensures past c.in_ok-start.ensures past
+    c.in-Some.ensures past c.in_ok-at_host.ensures past c.in_ok-hostname.ensures past c.in_ok-at_app.ensures past
+    c.in_ok-appname.ensures past c.in_ok-at_process.ensures past (process_named c.in_ok-process.ensures) past
+    c.in_ok-at_id.ensures past inl c.in_err-msgid.ensures)
 
 pub returns-clause-reads : goal.returns-clause-reads
 returns-clause-reads g c whole f = (

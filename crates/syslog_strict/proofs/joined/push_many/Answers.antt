@@ -1,4 +1,5 @@
-use Rattle.syslog_strict.proofs.Words.{[], ap, ◌∙◌, joined_elements, converted_element, joined_past}
+use Rattle.syslog_strict.proofs.Words.{[], ap, ◌∙◌, joined_elements, converted_element, joined_past, arith}
+use Rattle.std.proofs.lemmas.Grind.{common_steps}
 use Rattle.syslog_strict.proofs.ElementLemmas.{all_of, joined_is}
 use Rattle.syslog_strict.proofs.TextLemmas.{appended}
 use Rattle.syslog_strict.proofs.joined.push_many.Goals as goal
@@ -9,3 +10,6 @@ returns c =
     appended c.push_to.result _ _ _ _
     (joined_is _ seen has ∙ ap (λ es. joined_elements (joined_past [] es)) (all_of converted_element seen _ _ e c.in-None.ensures.steps.0))
     c.push_to.ensures
+
+pub loop-element-preserved : goal.loop-element-preserved
+loop-element-preserved c = grind (arith, common_steps)
