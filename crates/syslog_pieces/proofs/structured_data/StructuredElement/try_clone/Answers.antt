@@ -1,0 +1,12 @@
+use Rattle.syslog_pieces.proofs.Names.{ap, ◌∙◌, ℕ, List, Text, ElementValue, chars, map, take_all, text_of, param_value}
+use Rattle.syslog_pieces.proofs.structured_data.StructuredElement.try_clone.Goals as goal
+
+pub returns : goal.returns
+returns g c =
+    let text = text_of g.S.AsStr.text in
+    let params = map (param_value text) c.loop-name.params.items in
+    let all = take_all _ _ c.loop-name-test.false in
+    let same = rw (all, c.deref-name-items.ensures.value) at c.loop-name.invariant in
+    let of : Text → List (Text × Text) → ElementValue = λ id ps. record { id = id; params = ps } in
+    ap (λ (id : List ℕ). of (chars id) params) (c.requires _ _ c.in_ok-id.ensures.cases)
+    ∙ ap (λ (ps : List (Text × Text)). of (text c.args.self.now.id) ps) same
