@@ -3,6 +3,7 @@ mod calls;
 mod dash_change;
 mod lines;
 mod old_dash;
+mod printed_form;
 mod pump;
 mod rounds;
 mod sizes;

@@ -1,31 +1,29 @@
 //! Which lines are in printed form after their timestamp, so that this is copied, and how these and others print.
-use super::{Line, print_line};
-use crate::variant::{IncompleteDate, Variant};
-use crate::visit::parse_line;
+use crate::tests::checks::{check, check_answer, prints};
+use crate::tests::reading::{normalised, read};
 use jiff::tz::TimeZone;
 use std::alloc::Global;
 use std::process::Abort;
-use std::test::Fail;
+use syslog_loose::{IncompleteDate, Line, ProcId, Variant, parse_line};
 
-// The line of RFC 5424 that the text is parsed as.
-fn line_of(text: &str) -> Option<Line<'_>> {
-    let year = |_: IncompleteDate| -> i32 { 2019 };
-    parse_line(text, year, None, Variant::RFC5424, &TimeZone::UTC)
+// The line of the text, with UTC as both zones, in 2019 where a date shows no year.
+fn line_of(text: &str, variant: Variant) -> Option<Line<'_>> {
+    let utc = TimeZone::UTC;
+    parse_line(text, |_: IncompleteDate| 2019, Some(&utc), variant, &utc)
 }
 
-// Whether all after the timestamp of the line is copied.
-fn is_copied(text: &str) -> Option<bool> {
-    Some(line_of(text)?.is_printed)
-}
-
-// The line is copied after its timestamp or not, and prints so, instead of what was there.
-fn check(rt: &impl Abort, written: &mut String, text: &str, copied: bool, printed: &str) -> Result<(), Fail> {
-    assert_eq!(rt; is_copied(text), Some(copied), "{text}");
-    if let Some(line) = line_of(text) {
-        print_line(written, &line)?;
+// Whether all after the timestamp of the line is in printed form; nothing where the text is no such line.
+fn is_printed(text: &str, variant: Variant) -> Option<bool> {
+    match line_of(text, variant) {
+        Some(line) => Some(line.is_printed),
+        None => None,
     }
-    assert_eq!(rt; written.as_str(), printed);
-    Ok(())
+}
+
+// The line of RFC 5424 is copied after its timestamp or not, and prints so.
+fn check_line(rt: &impl Abort, alloc: Global, text: &str, copied: bool, want: &str) {
+    check(rt, is_printed(text, Variant::RFC5424) == Some(copied), text);
+    check_answer(rt, normalised(alloc, text, 2019, None), Ok(want), text);
 }
 
 const COPIED: [(&str, &str); 14] = [
@@ -110,21 +108,17 @@ const PRINTED: [(&str, &str); 15] = [
 ];
 
 #[test]
-fn copies_lines_that_print_as_written(rt: HostRuntime) -> Result<(), Fail> {
-    let mut written = String::from_str(rt.alloc(), "what was there")?;
-    for (text, printed) in COPIED {
-        check(&rt, &mut written, text, true, printed)?;
+fn copies_lines_that_print_as_written(rt: HostRuntime) {
+    for (text, want) in &COPIED {
+        check_line(&rt, rt.alloc(), text, true, want);
     }
-    Ok(())
 }
 
 #[test]
-fn prints_lines_that_are_written_otherwise(rt: HostRuntime) -> Result<(), Fail> {
-    let mut written = String::from_str(rt.alloc(), "what was there")?;
-    for (text, printed) in PRINTED {
-        check(&rt, &mut written, text, false, printed)?;
+fn prints_lines_that_are_written_otherwise(rt: HostRuntime) {
+    for (text, want) in &PRINTED {
+        check_line(&rt, rt.alloc(), text, false, want);
     }
-    Ok(())
 }
 
 // A tab first, two wide gaps, a broken element after a wide gap, and process ids that print otherwise; then blanks in
@@ -147,37 +141,18 @@ const OTHERS_PRINTED: [&str; 15] = [
     "<34>1 - - - - - [a][b c=\"d\" x",
 ];
 
-// What the message of the line prints as.
-fn message_printed(alloc: Global, text: &str) -> Result<String, Fail> {
-    let mut printed = String::new(alloc);
-    if let Some(line) = line_of(text) {
-        let message = line.message(alloc)?;
-        write!(printed, "{message}")?;
-    }
-    Ok(printed)
+// The line is not copied, and prints as the message that is read of it.
+fn check_message(rt: &impl Abort, alloc: Global, text: &str) {
+    let message = read(alloc, text, Variant::RFC5424).expect(rt, text);
+    let printed = normalised(alloc, text, 2019, None).expect(rt, text);
+    check(rt, prints(&message, printed.as_str()), text);
+    check(rt, is_printed(text, Variant::RFC5424) == Some(false), text);
 }
 
-// They print as the message that is read of them.
 #[test]
-fn prints_other_lines(rt: HostRuntime) -> Result<(), Fail> {
-    let mut written = String::new(rt.alloc());
-    for text in OTHERS_PRINTED {
-        let printed = message_printed(rt.alloc(), text)?;
-        check(&rt, &mut written, text, false, printed.as_str())?;
-    }
-    Ok(())
-}
-
-// A day that there isn't, and no line.
-const NO_LINES: [&str; 2] = [
-    "<34>1 2020-02-30T00:00:00Z - - - - - x",
-    "gobbledegook",
-];
-
-#[test]
-fn reads_no_other_lines(rt: HostRuntime) {
-    for text in NO_LINES {
-        assert_eq!(rt; is_copied(text), None);
+fn prints_other_lines(rt: HostRuntime) {
+    for text in &OTHERS_PRINTED {
+        check_message(&rt, rt.alloc(), text);
     }
 }
 
@@ -188,36 +163,101 @@ const STAMPS: [(&str, &str); 9] = [
     ("2020-01-01T00:00:00z", "2020-01-01T00:00:00+00:00"),
     ("2020-01-01T00:00:00.5Z", "2020-01-01T00:00:00.500+00:00"),
     ("2020-01-01T00:00:00.000Z", "2020-01-01T00:00:00+00:00"),
-    ("2020-01-01T00:00:00.100000Z", "2020-01-01T00:00:00.100+00:00"),
-    ("2020-01-01T00:00:00.100100000Z", "2020-01-01T00:00:00.100100+00:00"),
-    ("2020-01-01T00:00:00.1234567891Z", "2020-01-01T00:00:00.123456789+00:00"),
+    (
+        "2020-01-01T00:00:00.100000Z",
+        "2020-01-01T00:00:00.100+00:00",
+    ),
+    (
+        "2020-01-01T00:00:00.100100000Z",
+        "2020-01-01T00:00:00.100100+00:00",
+    ),
+    (
+        "2020-01-01T00:00:00.1234567891Z",
+        "2020-01-01T00:00:00.123456789+00:00",
+    ),
     ("2020-01-01T00:00:00-00:00", "2020-01-01T00:00:00+00:00"),
 ];
 
 #[test]
-fn prints_other_timestamps(rt: HostRuntime) -> Result<(), Fail> {
+fn prints_other_timestamps(rt: HostRuntime) {
     let alloc = rt.alloc();
-    let mut written = String::new(alloc);
-    for (stamp, printed) in STAMPS {
-        let line = format!(in alloc; "<34>1 {stamp} - - - - - x")?;
-        let wanted = format!(in alloc; "<34>1 {printed} - - - - - x")?;
-        check(&rt, &mut written, line.as_str(), true, wanted.as_str())?;
+    for (stamp, printed) in &STAMPS {
+        let line = format!(in alloc; "<34>1 {stamp} - - - - - x").expect(&rt, stamp);
+        let want = format!(in alloc; "<34>1 {printed} - - - - - x").expect(&rt, stamp);
+        check_line(&rt, alloc, line.as_str(), true, want.as_str());
     }
-    Ok(())
 }
 
-const NO_STAMPS: [&str; 4] = [
-    "2021-02-29T00:00:00Z",
-    "2020-01-01T00:00:00+24:00",
-    "2020-01-01T00:00:00ZZ",
-    "2020-01-01T00:00:00",
+/// A day that there isn't, timestamps in another form, and no line.
+#[test]
+fn reads_no_other_lines(rt: HostRuntime) {
+    for text in &[
+        "gobbledegook",
+        "<34>1 2020-02-30T00:00:00Z - - - - - x",
+        "<34>1 2021-02-29T00:00:00Z - - - - - x",
+        "<34>1 2020-01-01T00:00:00+24:00 - - - - - x",
+        "<34>1 2020-01-01T00:00:00ZZ - - - - - x",
+        "<34>1 2020-01-01T00:00:00 - - - - - x",
+    ] {
+        check(&rt, is_printed(text, Variant::RFC5424).is_none(), text);
+    }
+}
+
+// Lines of RFC 3164 without a timestamp: all after the dash is copied.
+const LOOSE_COPIED: [&str; 9] = [
+    "- mymachine su: 'su root' failed for lonvick on /dev/pts/8",
+    "- 10.0.0.99 app[5]: Use the BFG!",
+    "- - a[0]: -x",
+    "- h [7]: y",
+    "- h a: \u{fc}",
+    "- h a[99999999999]: x",
+    "- h a[b]: x",
+    "- h a[]: x",
+    "- h a[5]b: -x",
+];
+
+// Others: wide gaps, a host or a tag in another form, a process id that prints otherwise, lists, and names that are missing.
+const LOOSE_OTHERS: [&str; 17] = [
+    "-  h a: x",
+    "- h  a: x",
+    "-\th a: x",
+    "- h: a: x",
+    "- h a:x",
+    "- h a:  x",
+    "- h a:\tx",
+    "- h a : x",
+    "- h a x",
+    "- h a[05]: x",
+    "- h a[+5]: x",
+    "- h -: x",
+    "- h : x",
+    "- h a: - x",
+    "- h a: [x y=\"z\"] m",
+    "- h",
+    "-",
 ];
 
 #[test]
-fn reads_no_other_timestamps(rt: HostRuntime) -> Result<(), Fail> {
-    for stamp in NO_STAMPS {
-        let line = format!(in rt.alloc(); "<34>1 {stamp} - - - - - x")?;
-        assert_eq!(rt; is_copied(line.as_str()), None);
+fn copies_lines_of_rfc3164_after_their_timestamp(rt: HostRuntime) {
+    for text in &LOOSE_COPIED {
+        check(&rt, is_printed(text, Variant::RFC3164) == Some(true), text);
     }
-    Ok(())
+    for text in &LOOSE_OTHERS {
+        check(&rt, is_printed(text, Variant::RFC3164) == Some(false), text);
+    }
+}
+
+/// A tag of the form of a tag and an id, and one that is not.
+#[test]
+fn tells_a_tag_and_an_id(rt: HostRuntime) {
+    let alloc = rt.alloc();
+    let both = read(alloc, "- h app[23] :", Variant::RFC3164).expect(&rt, "app[23]");
+    let is_both = both.appname == Some("app") && matches!(both.procid, Some(ProcId::PID(23)));
+    check(&rt, is_both, "app[23]");
+    let alone = read(alloc, "- h app :", Variant::RFC3164).expect(&rt, "app");
+    check(
+        &rt,
+        alone.appname == Some("app") && alone.procid.is_none(),
+        "app",
+    );
 }
