@@ -23,20 +23,25 @@ static void fault(const char *what)
     exit(3);
 }
 
-/* So many bytes before a page that can't be touched. */
-static void *room_of(size_t size)
-{
-    size_t page = (size_t)sysconf(_SC_PAGESIZE), whole = (size + page - 1) / page * page;
-    char *room = mmap(NULL, whole + page, PROT_READ | PROT_WRITE, MAP_PRIVATE | MAP_ANONYMOUS, -1, 0);
-    if (room == MAP_FAILED || mprotect(room + whole, page, PROT_NONE))
-        fault("no memory");
-    return room + whole - size;
-}
+/* What there are rooms for at a time. */
+enum room { LINE, ELEMENTS, PARAMS, WRITTEN, ROOMS };
 
-static void give_back(void *room, size_t size)
+/* So many bytes, all zero, before a page that can't be touched. Each line gets the same pages while they suffice: mapping
+ * them anew took most of the time. */
+static void *room_of(enum room which, size_t size)
 {
-    size_t page = (size_t)sysconf(_SC_PAGESIZE), whole = (size + page - 1) / page * page;
-    munmap((char *)room + size - whole, whole + page);
+    static struct { char *end; size_t size; } rooms[ROOMS];
+    size_t page = (size_t)sysconf(_SC_PAGESIZE), whole = (size / page + 1) * page;
+    if (rooms[which].size <= size) {
+        char *room = mmap(NULL, whole + page, PROT_READ | PROT_WRITE, MAP_PRIVATE | MAP_ANONYMOUS, -1, 0);
+        if (room == MAP_FAILED || mprotect(room + whole, page, PROT_NONE))
+            fault("no memory");
+        if (rooms[which].end)
+            munmap(rooms[which].end - rooms[which].size, rooms[which].size + page);
+        rooms[which].end = room + whole;
+        rooms[which].size = whole;
+    }
+    return memset(rooms[which].end - size, 0, size);
 }
 
 static void print_bytes(const char *bytes, size_t length)
@@ -83,25 +88,23 @@ static void print_written(const char *key, writer *write, const struct syslog_op
         printf("null");
         return;
     }
-    char *room = room_of(needed);
+    char *room = room_of(WRITTEN, needed);
     if (outcome != (needed ? SYSLOG_NO_ROOM : SYSLOG_DONE) || none != 'x')
         fault("no length is told");
     if (write(begin, (size_t)(end - begin), options, room, needed, &again) != SYSLOG_DONE || again != needed)
         fault("the room that was asked for is not enough");
     print_bytes(room, needed);
-    give_back(room, needed);
 }
 
 static void print_value(const struct syslog_text *value)
 {
     size_t needed = 77;
-    char *room = room_of(value->length);
+    char *room = room_of(WRITTEN, value->length);
     uint32_t outcome = syslog_unescape(value->start, value->length, room, value->length, &needed);
     if (outcome != SYSLOG_DONE || needed > value->length)
         fault("a value is longer without its escapes");
     printf(",\"plain\":");
     print_bytes(room, needed);
-    give_back(room, value->length);
 }
 
 static void print_elements(const struct syslog_message *message, const struct syslog_element *elements,
@@ -165,8 +168,8 @@ static void print_line(const struct syslog_options *options)
     size_t length = (size_t)(end - begin);
     uint32_t outcome = syslog_read(begin, length, options, &message, elements, 0, params, 0);
     if (outcome == SYSLOG_NO_ROOM) {
-        elements = room_of(message.elements * sizeof *elements);
-        params = room_of(message.params * sizeof *params);
+        elements = room_of(ELEMENTS, message.elements * sizeof *elements);
+        params = room_of(PARAMS, message.params * sizeof *params);
         for (size_t i = 0; i < message.elements; i++)
             elements[i] = element;
         for (size_t i = 0; i < message.params; i++)
@@ -184,10 +187,6 @@ static void print_line(const struct syslog_options *options)
     print_written("printed", syslog_normalise, options);
     print_written("settled", syslog_settle, options);
     printf("}\n");
-    if (elements != &element) {
-        give_back(elements, message.elements * sizeof *elements);
-        give_back(params, message.params * sizeof *params);
-    }
 }
 
 int main(int count, char **words)
@@ -201,11 +200,10 @@ int main(int count, char **words)
     int closing = count > 5 ? 0 : '\n';
     for (ssize_t read; (read = getdelim(&text, &size, closing, stdin)) >= 0;) {
         size_t length = (size_t)read - (read > 0 && text[read - 1] == closing);
-        char *line = room_of(length);
+        char *line = room_of(LINE, length);
         memcpy(line, text, length);
         begin = line, end = line + length;
         print_line(&options);
-        give_back(line, length);
     }
     free(text);
     return fflush(stdout) || ferror(stdin) ? 1 : 0;

@@ -1,5 +1,5 @@
-"""The JSON that syslog_json writes of a line, for tests/json and tests/by_hand/json_fields: as Python's json reads it, and
-as the fields of the line's message say."""
+"""The JSON that syslog_json writes of a line, for tests/json, tests/c_library and tests/by_hand/json_fields: as Python's json
+reads it, and as the fields of the line's message say."""
 import json
 
 KEYS = (
