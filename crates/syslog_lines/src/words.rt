@@ -1,10 +1,11 @@
 //! The words that a filter with dates is called with.
-ghost use Rattle.std.specs.Prelude.{◌≡◌, ◌↔◌, ◌++◌, ◌∷◌, [], Bool, IfOk, IsTrue, List, MatchOption, MatchResult, Option, ℕ, ℤ, drop};
+ghost use Rattle.std.specs.Prelude.{◌≡◌, ◌↔◌, ◌++◌, ◌∷◌, [], Bool, IfErr, IfOk, IsTrue, List, MatchOption, MatchResult, Option, ℕ, ℤ, drop};
 ghost use Rattle.std.specs.Vec.Iter.{into_iter_items};
 ghost use Rattle.syslog_lines.specs.Arguments.{NamesDate, NamesOffset};
 ghost use Rattle.syslog_lines.specs.Words.{AreDateWords, AskForLines, AsksFor, IsAmong, IsOffsetFlag, offset_word, raw_flag, raw_word, texts};
 ghost use Rattle.syslog_lines.specs.declared.dates.Dates.{Dates};
 ghost use Rattle.syslog_lines.specs.declared.words.Task.{Task};
+ghost use Rattle.syslog_lines.specs.declared.words.Wrong.TheVariants.{Unreadable};
 
 use crate::dates::{Dates, read_date, read_offset};
 use crate::report::refuse;
@@ -165,7 +166,9 @@ fn read_last_word(words: &[String]) -> Result<(i32, Option<u32>), Wrong<'_>>
 
 /// Returns the words that the program was called with, after its name; `Wrong::Unreadable` if one is not UTF-8, or an
 /// allocation fails. No clause says which words these are, since the host has none for them.
-pub fn program_words(rt: &HostRuntime) -> Result<Vec<String>, Wrong<'static>> {
+pub fn program_words(rt: &HostRuntime) -> Result<Vec<String>, Wrong<'static>>
+    ensures { IfErr result (λ wrong. wrong ≡ Unreadable) }
+{
     let Ok(words) = env::args(rt) else {
         return Err(Wrong::Unreadable);
     };

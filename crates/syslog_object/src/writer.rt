@@ -129,9 +129,11 @@ impl<'a> ObjectWriter<'a> {
         push_ordered(output, text.as_slice(), start, middle)
     }
 
-    /// Returns the memory that it used. What that holds doesn't count.
+    /// Returns the vector that it was given or grew, for another writer. What that holds doesn't count.
     #[inline(always)]
-    pub fn into_memory(self) -> Vec<u8> {
+    pub fn into_memory(self) -> Vec<u8>
+        ensures { result ≡ self.entry.text }
+    {
         let ObjectWriter { text, .. } = self;
         text
     }

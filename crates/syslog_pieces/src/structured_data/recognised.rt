@@ -139,7 +139,7 @@ impl<'a> ElementList<'a> {
     pub fn is_empty(&self) -> bool
         ensures { MatchBool result (list_elements self.now ≡ []) (list_elements self.now ≢ []) }
     {
-        self.elements == 0
+        self.len() == 0
     }
 
     /// How many parameters its strict elements have together.

@@ -98,69 +98,75 @@ fn cuts_at_each_place(rt: HostRuntime) {
     }
 }
 
+const HOSTS: [&str; 18] = [
+    "zork ¦zork¦ ",
+    "zork: ¦zork¦: ",
+    "192.168.0.1 ¦192.168.0.1¦ ",
+    "::13.1.68.3 ¦::13.1.68.3¦ ",
+    "2001:0db8:85a3:0000:0000:8a2e:0370:7334 ¦2001:0db8:85a3:0000:0000:8a2e:0370:7334¦ ",
+    "-:¦-¦:",
+    "zork::¦zork:¦:",
+    "::¦:¦:",
+    "--\n¦--¦\n",
+    "größe\u{a0}x¦größe¦\u{a0}x",
+    "a\u{1c}b\u{1d}c\u{1e}d\u{1f} x¦a\u{1c}b\u{1d}c\u{1e}d\u{1f}¦ x",
+    "- x¦¦ x",
+    "",
+    " zork",
+    ":",
+    ": zork",
+    "\u{b}zork",
+    "\u{3000}zork",
+];
+
+const WORDS: [&str; 13] = [
+    "OX-XXX-CONTEUDO:rpd¦OX-XXX-CONTEUDO:rpd¦",
+    "!!!¦!!!¦",
+    "zork: ¦zork:¦ ",
+    ":: x¦::¦ x",
+    "-- x¦--¦ x",
+    "-:¦-:¦",
+    "ID47\u{85}¦ID47¦\u{85}",
+    "-\t¦¦\t",
+    "",
+    " x",
+    ":",
+    ":\tx",
+    "\u{2003}x",
+];
+
+const TAG_WORDS: [&str; 17] = [
+    "su: 'su root'¦su¦: 'su root'",
+    "app[323]: a message¦app[323]¦: a message",
+    "[323]: hi¦[323]¦: hi",
+    "app[x:y]: hi¦app[x¦:y]: hi",
+    "%ASA-6-302013: Built¦%ASA-6-302013¦: Built",
+    "zork:: hi¦zork¦:: hi",
+    "-- x¦--¦ x",
+    "cron¦cron¦",
+    "außerplanmäßig\u{a0}x¦außerplanmäßig¦\u{a0}x",
+    "-: hi¦¦: hi",
+    "-¦¦",
+    "",
+    ":",
+    ": a message",
+    " su:",
+    "\tsu",
+    "\u{3000}su",
+];
+
 #[test]
 fn reads_a_host_a_word_and_a_tag_word(rt: HostRuntime) {
     // hosts
-    for row in &[
-        "zork ¦zork¦ ",
-        "zork: ¦zork¦: ",
-        "192.168.0.1 ¦192.168.0.1¦ ",
-        "::13.1.68.3 ¦::13.1.68.3¦ ",
-        "2001:0db8:85a3:0000:0000:8a2e:0370:7334 ¦2001:0db8:85a3:0000:0000:8a2e:0370:7334¦ ",
-        "-:¦-¦:",
-        "zork::¦zork:¦:",
-        "::¦:¦:",
-        "--\n¦--¦\n",
-        "größe\u{a0}x¦größe¦\u{a0}x",
-        "a\u{1c}b\u{1d}c\u{1e}d\u{1f} x¦a\u{1c}b\u{1d}c\u{1e}d\u{1f}¦ x",
-        "- x¦¦ x",
-        "",
-        " zork",
-        ":",
-        ": zork",
-        "\u{b}zork",
-        "\u{3000}zork",
-    ] {
+    for row in &HOSTS {
         check_word(&rt, row, host(text_of(row)));
     }
     // words
-    for row in &[
-        "OX-XXX-CONTEUDO:rpd¦OX-XXX-CONTEUDO:rpd¦",
-        "!!!¦!!!¦",
-        "zork: ¦zork:¦ ",
-        ":: x¦::¦ x",
-        "-- x¦--¦ x",
-        "-:¦-:¦",
-        "ID47\u{85}¦ID47¦\u{85}",
-        "-\t¦¦\t",
-        "",
-        " x",
-        ":",
-        ":\tx",
-        "\u{2003}x",
-    ] {
+    for row in &WORDS {
         check_word(&rt, row, word(text_of(row)));
     }
     // words of a tag
-    for row in &[
-        "su: 'su root'¦su¦: 'su root'",
-        "app[323]: a message¦app[323]¦: a message",
-        "[323]: hi¦[323]¦: hi",
-        "app[x:y]: hi¦app[x¦:y]: hi",
-        "%ASA-6-302013: Built¦%ASA-6-302013¦: Built",
-        "zork:: hi¦zork¦:: hi",
-        "-- x¦--¦ x",
-        "cron¦cron¦",
-        "außerplanmäßig\u{a0}x¦außerplanmäßig¦\u{a0}x",
-        "-: hi¦¦: hi",
-        "-¦¦",
-        "",
-        ":",
-        ": a message",
-        " su:",
-        "\tsu",
-        "\u{3000}su",
-    ] {
+    for row in &TAG_WORDS {
         check_word(&rt, row, tag_word(text_of(row)));
     }
 }
