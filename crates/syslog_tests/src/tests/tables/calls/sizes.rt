@@ -107,11 +107,11 @@ fn removes_many_escapes(rt: HostRuntime) {
     check_long(&rt, alloc, text.as_str(), &want, text.as_str());
 }
 
-/// A million blanks at each end, and characters that are white space past ASCII among them.
+/// Two hundred thousand blanks at each end, and characters that are white space past ASCII among them.
 #[test]
-fn trims_a_million_blanks(rt: HostRuntime) {
+fn trims_many_blanks(rt: HostRuntime) {
     let alloc = rt.alloc();
-    let blanks = repeated(&rt, alloc, " ", 1_000_000);
+    let blanks = repeated(&rt, alloc, " ", 200_000);
     let want = Long {
         elements: 1,
         params: 1,

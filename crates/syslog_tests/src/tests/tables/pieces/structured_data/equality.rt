@@ -68,7 +68,7 @@ fn check_lines(rt: &impl Abort, alloc: Global, one: &Line, other: &Line, equal: 
 
 #[test]
 fn many_parameters(rt: HostRuntime) {
-    let line = many(rt.alloc(), 100_000, "b", "c");
+    let line = many(rt.alloc(), 20_000, "b", "c");
     check_lines(&rt, rt.alloc(), &line, &line, true);
     let line = many(rt.alloc(), 1_000, "b", "c");
     let other = many(rt.alloc(), 1_000, "c", "b");

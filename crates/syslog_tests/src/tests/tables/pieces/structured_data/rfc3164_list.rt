@@ -82,11 +82,11 @@ fn check_no_list(rt: &impl Abort, alloc: Global, part: &str, count: usize, end: 
 fn hostile_texts(rt: HostRuntime) {
     check_no_list(&rt, rt.alloc(), "[", 10_000, "");
     check_no_list(&rt, rt.alloc(), "[", 10_000, "]");
-    check_no_list(&rt, rt.alloc(), "[a\" b=\"]", 100_000, "");
-    check_no_list(&rt, rt.alloc(), "[a b=\"", 100_000, "");
-    check_no_list(&rt, rt.alloc(), "x", 100_000, "[a b=\"c\"]");
-    // a thousand elements before a hundred thousand broken ones
-    let broken = repeated(rt.alloc(), "[a\" b=\"]", 100_000, "").expect(&rt, "no memory");
+    check_no_list(&rt, rt.alloc(), "[a\" b=\"]", 20_000, "");
+    check_no_list(&rt, rt.alloc(), "[a b=\"", 20_000, "");
+    check_no_list(&rt, rt.alloc(), "x", 20_000, "[a b=\"c\"]");
+    // a thousand elements before twenty thousand broken ones
+    let broken = repeated(rt.alloc(), "[a\" b=\"]", 20_000, "").expect(&rt, "no memory");
     let row = elements(rt.alloc(), 1_000, broken.as_str()).expect(&rt, "no memory");
     check_list(&rt, rt.alloc(), row.as_str(), DashRule::BeforeBlank);
 }
