@@ -1,6 +1,6 @@
 -- The written condition and its quirks: what the tests of both return, and that the condition for RFC 3164 is the
 -- quirks' absence beside all that they leave.
-use Rattle.syslog_loose.proofs.Names.{◌⊎◌, ◌≡◌, ◌<◌, ◌∙◌, ◌↔◌, ℕ, Bool, true, false, not, List, [], length, map, refl, sym}
+use Rattle.syslog_loose.proofs.Names.{◌≡◌, ◌<◌, ◌∙◌, ◌↔◌, ℕ, Bool, true, false, not, List, [], length, map, refl, sym}
 use Rattle.syslog_loose.proofs.Names.{ap, subst, arith, IsTrue, MatchBool, chars, IsUtf8, bytes_eq}
 use Rattle.syslog_loose.proofs.Names.{drop_trailing_whitespace, length-map, nil_from_length, bytes_eq-Decides, Text}
 use Rattle.syslog_loose.proofs.Names.{NoFront, BeginsNoList, rfc3164_list, DashRule, EndsVisibly, ◌≢◌, ◌∷◌, ◌++◌}
@@ -11,9 +11,11 @@ use Rattle.syslog_loose.proofs.Names.{Protocol, RFC3164, IsVisible, IsCanonicalH
 use Rattle.syslog_loose.proofs.Names.{is_process_char, AreCanonicalNames, IsCanonical3164, IsCanonicalFor, IsCanonical}
 use Rattle.syslog_loose.proofs.Names.{is_inner_char, HasNoColon, HasNoException, IsOddHost, IsInnerProcess}
 use Rattle.syslog_loose.proofs.Names.{AreNamesButExceptions, HasExceptionsAlone, IsNearlyCanonical, MessageValue}
-use Rattle.syslog_loose.proofs.Names.{each_both, each_map, nat_tests, IfSome_then, SyslogFacility, SyslogSeverity}
+use Rattle.syslog_loose.proofs.Names.{each_both, each_left, each_right, each_map, is_not_whitespace, IfSome_then}
+use Rattle.syslog_loose.proofs.Names.{SyslogFacility, SyslogSeverity}
 use Rattle.syslog_loose.proofs.Names.{trim_end, NonePass, same_chars, end_trimmed_chars, no_list_is, dash_ascii}
 use Rattle.syslog_pieces.proofs.TextLemmas.Runs.{from_not_true}
+use Rattle.std.proofs.lemmas.Bool.{and_from, and_parts}
 use Rattle.syslog_loose.proofs.PrintedLemmas.{drop_none, drop_ends}
 use Rattle.std.proofs.lemmas.Str.{chars-append, encodes-IsAscii, IsCharBoundary-at_seam, IsUtf8-from_ascii, IsUtf8-take}
 use Rattle.std.proofs.Math.Seq.{take-append_seam}
@@ -108,11 +110,24 @@ canonical_host None v d c = tt
 canonical_host (Some x) v d c = (v, d, c)
 
 -- ---- the process
+
+-- two of three tests, the other way round
+swapped : (a b c : Bool) → (a && b) && c ≡ true → (a && c) && b ≡ true
+swapped a b c h =
+    let (front, last) = and_parts (a && b) c h in
+    let (first, second) = and_parts a b front in and_from (a && c) b (and_from a c first last) second
+
+inner_of : (c : ℕ) → is_inner_char c && is_no_colon c ≡ true → is_process_char c ≡ true
+inner_of c = swapped (is_not_whitespace c) (not (nat_eq c 93)) (is_no_colon c)
+
+process_of : (c : ℕ) → is_process_char c ≡ true → is_inner_char c && is_no_colon c ≡ true
+process_of c = swapped (is_not_whitespace c) (is_no_colon c) (not (nat_eq c 93))
+
 pub bracketed_of : (process : ProcId Text) → IsInnerProcess process → HasNoColon process → IsBracketedProcess process
 bracketed_of (PID n) h k = tt
 bracketed_of (Name t) (l, a, none) k = (
   l,
-  each_map (λ c. is_inner_char c && is_no_colon c) is_process_char (λ c h. grind (arith, nat_tests)) t
+  each_map (λ c. is_inner_char c && is_no_colon c) is_process_char inner_of t
       (each_both is_inner_char is_no_colon t a k),
   none,
 )
@@ -121,10 +136,9 @@ bracketed_of (Name t) (l, a, none) k = (
 near_of : (host app : Option Text) (process : Option (ProcId Text)) → AreCanonicalNames host app process
     → AreNamesButExceptions host app process × IfSome process HasNoColon
 near_of host (Some a) (Some (PID n)) h = (h, tt)
-near_of host (Some a) (Some (Name t)) (label, (some, each, none)) = (
-  (label, (some, each_map is_process_char is_inner_char (λ c h. grind (arith, nat_tests)) t each, none)),
-  each_map is_process_char is_no_colon (λ c h. grind (arith, nat_tests)) t each,
-)
+near_of host (Some a) (Some (Name t)) (label, (some, each, none)) =
+    let both = each_map is_process_char (λ c. is_inner_char c && is_no_colon c) process_of t each in
+    ((label, (some, each_left is_inner_char is_no_colon t both, none)), each_right is_inner_char is_no_colon t both)
 near_of host None (Some p) h = absurd h
 near_of host None None h = (h, tt)
 near_of host (Some a) None h = (h, tt)
@@ -139,22 +153,56 @@ pub canonical_near : (rule : DashRule) (m : MessageValue) → m.protocol ≡ RFC
     → IsNearlyCanonical m × HasNoException rule m
 canonical_near rule m e (canonical, other) =
     let own : IsCanonical3164 rule m = subst (λ (x : Protocol). IsCanonicalFor rule x m) e other in
-    let visible : IfSome m.hostname IsVisible = IfSome_then m.hostname canonical.hostname (λ x k. k.0) in
-    let odd = no_odd_host m.hostname m.appname canonical.hostname in
-    let dash = no_dash_host m.hostname canonical.hostname in
-    let last = no_colon_host m.hostname canonical.hostname in
-    let (near, no_colon) = near_of m.hostname m.appname m.procid own.names in
-    let colon : IfSome m.procid HasNoColon ⊎ (m.hostname ≡ None) = inl no_colon in
-    search parts 3
+    let (names, no_colon) = near_of m.hostname m.appname m.procid own.names in (
+      record {
+        facility = canonical.facility;
+        severity = canonical.severity;
+        rest = record {
+          protocol = e;
+          hostname = IfSome_then m.hostname canonical.hostname (λ x k. k.0);
+          odd_host = no_odd_host m.hostname m.appname canonical.hostname;
+          names = names;
+          colon_process = inl no_colon;
+          msgid = own.msgid;
+          elements = canonical.elements;
+          parameters = own.elements;
+          msg_front = canonical.msg_front;
+          msg_end = canonical.msg_end;
+        };
+      },
+      record {
+        timestamp = canonical.timestamp;
+        names = record {
+          no_dash = no_dash_host m.hostname canonical.hostname;
+          no_last_colon = no_colon_host m.hostname canonical.hostname;
+          no_colon = no_colon;
+        };
+        no_list = own.no_list;
+      },
+    )
 
 -- the message with this facility and severity instead of its own
 pub near_completed : (rule : DashRule) (m : MessageValue) (f : Option SyslogFacility) (s : Option SyslogSeverity)
     → IsSome f → IsSome s → HasExceptionsAlone m → HasNoException rule m
     → IsCanonical rule (record m { facility = f; severity = s })
 near_completed rule m f s facility severity near none =
-    let host = canonical_host m.hostname near.hostname none.names.no_dash none.names.no_last_colon in
-    let names = canonical_names m.hostname m.appname m.procid near.names none.names.no_colon in
-    (search parts 2, rw near.protocol (search parts 2))
+    let quiet = none.names in (
+      record {
+        facility = facility;
+        severity = severity;
+        timestamp = none.timestamp;
+        hostname = canonical_host m.hostname near.hostname quiet.no_dash quiet.no_last_colon;
+        elements = near.elements;
+        msg_front = near.msg_front;
+        msg_end = near.msg_end;
+      },
+      rw near.protocol (record {
+        msgid = near.msgid;
+        names = canonical_names m.hostname m.appname m.procid near.names quiet.no_colon;
+        elements = near.parameters;
+        no_list = none.no_list;
+      }),
+    )
 
 pub near_canonical : (rule : DashRule) (m : MessageValue) → IsNearlyCanonical m × HasNoException rule m
     → IsCanonical rule m
