@@ -113,7 +113,7 @@ pub use Rattle.syslog_loose.specs.Bodies.View3164.{names_value, NamesProgram, fi
 pub use Rattle.syslog_loose.specs.Visit.{IsLineOf, Made}
 pub use Rattle.syslog_loose.specs.declared.line.Line.{Line}
 pub use Rattle.syslog_loose.specs.declared.message.Protocol.{Protocol}
-pub use Rattle.syslog_loose.specs.Bodies.Rows.{stamped_row, fields_row, body_row, header_row, data_row}
+pub use Rattle.syslog_loose.specs.Bodies.Rows.{stamped_row, fields_row, body_row, front_row, names_row, header_row, data_row}
 pub use Rattle.syslog_loose.specs.Exceptions.{is_no_colon, HasNoException, HasNoColon, is_inner_char, IsOddHost}
 pub use Rattle.syslog_loose.specs.Exceptions.{IsInnerProcess, AreNamesButExceptions, HasExceptionsAlone}
 pub use Rattle.syslog_loose.specs.Exceptions.{IsNearlyCanonical, HasQuietNames, HasNoNameException, IsOfMonthDate}

@@ -6,6 +6,7 @@ use Rattle.syslog_loose.proofs.Names.{all_joined, flat_map, Text, Values, Front,
 use Rattle.syslog_loose.proofs.Names.{trimmed, is_blank, number, AreInPieces, text_list, process_texts, header_stamp}
 use Rattle.syslog_loose.proofs.Names.{element_texts, priority, Quoted, row_quotes, silent, rest_quotes, host_quotes}
 use Rattle.syslog_loose.proofs.Names.{priority_det, host_det, MessageValue, message_texts, header_row, data_row}
+use Rattle.syslog_loose.proofs.Names.{front_row, names_row}
 use Rattle.syslog_loose.proofs.Names.{rfc5424_row, message_of, IsRead5424, ◌≤◌, List, IfSome, is_ascii_digit}
 use Rattle.syslog_loose.proofs.Names.{is_not_whitespace, decimal, Class, Ends, Format, process_word, process_text, host}
 use Rattle.syslog_loose.proofs.Names.{word, name_text, IsCanonicalWord, IsCanonicalStamp, timestamp_text, ◌<◌, ◌^◌, ◌+◌}
@@ -39,11 +40,18 @@ use Rattle.syslog_loose.proofs.PrintedLemmas.{parts_back, severity_beside, prior
 use Rattle.syslog_loose.proofs.PrintedLemmas.{visible_ends_blanks, stamp_unblank, last_append, elements_last}
 use Rattle.syslog_loose.proofs.PrintedLemmas.{row_trimmed, last_ends, drop_ends, message_end, message_blanks}
 
-pub header_det : AllDeterministic header_row
-header_det =
+pub front_det : AllDeterministic front_row
+front_det =
     optional_det priority priority_det also number_det 4294967295 also some_run_det is_blank also header_stamp_det
-    also some_run_det is_blank also host_det also some_run_det is_blank also word_det also some_run_det is_blank
+    also tt
+
+pub names_det : AllDeterministic names_row
+names_det =
+    some_run_det is_blank also host_det also some_run_det is_blank also word_det also some_run_det is_blank
     also process_word_det also some_run_det is_blank also word_det also tt
+
+pub header_det : AllDeterministic header_row
+header_det = all_joined front_row names_row front_det names_det
 
 pub data_det : AllDeterministic data_row
 data_det = run_det is_blank also forgiving_det also run_det is_blank also rest_det also tt
@@ -238,8 +246,8 @@ completed m = record m {
 }
 
 -- the pieces before the message part
-abbrev front_row : List Class
-front_row = header_row ++ (run is_blank ∷ forgiving ∷ run is_blank ∷ [])
+abbrev row_before : List Class
+row_before = header_row ++ (run is_blank ∷ forgiving ∷ run is_blank ∷ [])
 
 -- the completed message that the pieces of a text mean is canonical
 values_canonical : (rule : DashRule) (text : Text) (v : Values rfc5424_row) → Division rfc5424_row (trimmed text) v
@@ -260,7 +268,7 @@ values_canonical rule text v d =
           hostname = host_canonical name.piece t6 m.hostname no_colon name.is;
           elements = forgiving_canonical list.piece t14 m.structured_data list.is;
           msg_front = subst (Ends is_blank) (rest_whole msg) s7.is.1;
-          msg_end = last_ends front_row row (drop_ends (skip_leading_whitespace text));
+          msg_end = last_ends row_before row (drop_ends (skip_leading_whitespace text));
         },
         record {
           appname = word_canonical app.piece t8 m.appname app.is;

@@ -6,7 +6,7 @@ pub use Rattle.syslog_loose.specs.Bodies.Rows.{stamped_row}
 pub use Rattle.syslog_loose.specs.Bodies.Start.{BeginsWith, BeginsWithout, IsBehindPriority}
 pub use Rattle.syslog_loose.specs.Bodies.View3164.{FieldsAreRead, IsBehindStamp, IsProcessOf, NamesHost, NamesProgram}
 pub use Rattle.syslog_loose.specs.Bodies.View3164.{names_value}
-pub use Rattle.syslog_loose.specs.Bodies.View5424.{ReadsHeader, names_before}
+pub use Rattle.syslog_loose.specs.Bodies.View5424.{FitsSpaced, ReadsHeader, ReadsNames5424, ReadsSpaced, names_before}
 pub use Rattle.syslog_loose.specs.Canonical.{AreElements, IsBounded, IsCanonical, fields_value}
 pub use Rattle.syslog_loose.specs.DashChange.{BeginsDashChange, HasDashChange, ReadsDifferently, WasCanonical}
 pub use Rattle.syslog_loose.specs.DashChange.{WasUnreadable}

@@ -7,14 +7,15 @@ ghost use Rattle.syslog_loose.specs.Words.{[], ℕ, IfSome, IsTrue, MatchOption,
 ghost use Rattle.syslog_loose.specs.Words.{Text, seen, shown, list_elements, Visits, trimmed};
 ghost use Rattle.syslog_pieces.specs.Bodies.Verbatim.{IsBareWord};
 ghost use Rattle.syslog_loose.specs.Clauses.{line_value, KnowsForm, IsNot5424, IsRead5424, IsBehindPriority};
-ghost use Rattle.syslog_loose.specs.Clauses.{ReadsHeader, names_before};
+ghost use Rattle.syslog_loose.specs.Clauses.{FitsSpaced, ReadsHeader, ReadsNames5424, ReadsSpaced, names_before};
+ghost use Rattle.syslog_pieces.specs.Text as spec;
 
 use crate::line::Line;
 use syslog_pieces::procid::is_bare_word;
 use syslog_pieces::structured_data::{ElementList, ElementVisitor, visit_forgiving_list};
 use syslog_pieces::text::verbatim::is_one_space;
 use syslog_pieces::text::{blanks, host, number, some_blanks, word};
-use syslog_pieces::timestamp::header_stamp;
+use syslog_pieces::timestamp::{ClockStamp, header_stamp};
 
 /// Whether all of them are true, by one look.
 #[inline(always)]
@@ -33,8 +34,64 @@ pub(crate) fn is_bare(process: Option<&str>) -> bool
     process.is_none_or(is_bare_word)
 }
 
-// The fields before the structured data, as a line with no list and no message part yet, and the rest. Each visitor `C`
-// has its own copy, which is compiled in: shared, it would be a call, and the line would go through memory.
+// A host after a gap, the rest, and whether the gap is one space.
+#[inline(always)]
+fn spaced_host(text: &str) -> Option<(Option<&str>, &str, bool)>
+    ensures reads { ReadsSpaced spec.host seen (chars text.now) result }
+    ensures fits { FitsSpaced (chars text.now) result }
+{
+    let start = some_blanks(text)?;
+    let (name, rest) = host(start)?;
+    Some((name, rest, is_one_space(text, start)))
+}
+
+// A word after a gap, in the same way.
+#[inline(always)]
+fn spaced_word(text: &str) -> Option<(Option<&str>, &str, bool)>
+    ensures reads { ReadsSpaced spec.word seen (chars text.now) result }
+    ensures fits { FitsSpaced (chars text.now) result }
+{
+    let start = some_blanks(text)?;
+    let (name, rest) = word(start)?;
+    Some((name, rest, is_one_space(text, start)))
+}
+
+// The names behind the timestamp, as a line with no list and no message part yet, and the rest. Each visitor `C` has
+// its own copy, which is compiled in: shared, it would be a call, and the line would go through memory.
+#[inline(always)]
+fn read_names<'a, C>(
+    version: Option<u32>,
+    priority: Option<u8>,
+    timestamp: Option<ClockStamp>,
+    rest: &'a str,
+) -> Option<(Line<'a>, &'a str)>
+    ensures reads { ReadsNames5424 version priority timestamp rest.entry result }
+    ensures prints { IfSome result (λ x. IsTrue x.0.is_printed → chars rest.entry.now ≡ names_before x.0 (shown x.1)) }
+{
+    let (hostname, after_host, host_fits) = spaced_host(rest)?;
+    let (appname, after_app, app_fits) = spaced_word(after_host)?;
+    let (process, after_process, process_fits) = spaced_word(after_app)?;
+    let (msgid, after_id, id_fits) = spaced_word(after_process)?;
+    let is_printed = are_all([host_fits, app_fits, process_fits, is_bare(process), id_fits]);
+    Some((
+        Line {
+            version,
+            priority,
+            timestamp,
+            hostname,
+            appname,
+            process,
+            msgid,
+            list: ElementList::none(),
+            msg: "",
+            rest,
+            is_printed,
+        },
+        after_id,
+    ))
+}
+
+// All fields before the structured data, in the same way.
 #[inline(always)]
 fn read_header<'a, C>(priority: Option<u8>, text: &'a str) -> Option<(Line<'a>, &'a str)>
     ensures reads { (whole : Text) → IsBehindPriority whole priority (chars text.entry.now)
@@ -49,37 +106,7 @@ fn read_header<'a, C>(priority: Option<u8>, text: &'a str) -> Option<(Line<'a>, 
     let Some((timestamp, rest)) = header_stamp(start) else {
         return None;
     };
-    let at_host = some_blanks(rest)?;
-    let (hostname, after_host) = host(at_host)?;
-    let at_app = some_blanks(after_host)?;
-    let (appname, after_app) = word(at_app)?;
-    let at_process = some_blanks(after_app)?;
-    let (process, after_process) = word(at_process)?;
-    let at_id = some_blanks(after_process)?;
-    let (msgid, after_id) = word(at_id)?;
-    let is_printed = are_all([
-        is_one_space(rest, at_host),
-        is_one_space(after_host, at_app),
-        is_one_space(after_app, at_process),
-        is_bare(process),
-        is_one_space(after_process, at_id),
-    ]);
-    Some((
-        Line {
-            version: Some(version),
-            priority,
-            timestamp,
-            hostname,
-            appname,
-            process,
-            msgid,
-            list: ElementList::none(),
-            msg: "",
-            rest,
-            is_printed,
-        },
-        after_id,
-    ))
+    read_names::<C>(Some(version), priority, timestamp, rest)
 }
 
 /// The line of the one division of a trimmed text, from after its priority on, and none where there is no division.

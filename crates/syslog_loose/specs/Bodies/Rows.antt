@@ -7,14 +7,18 @@ use Rattle.syslog_loose.specs.Rfc3164.{Names3164, Resolves}
 
 -- ---- of RFC 5424
 
--- host, app name, process id and message id, with blanks between two
-abbrev pub names_row : List Class
-names_row = host ∷ some_run is_blank ∷ word ∷ some_run is_blank ∷ process_word ∷ some_run is_blank ∷ word ∷ []
+-- priority, version and timestamp, with blanks between the last two
+abbrev pub front_row : List Class
+front_row = optional priority ∷ number 4294967295 ∷ some_run is_blank ∷ header_stamp ∷ []
 
--- priority, version, timestamp and names, with blanks between two
+-- host, app name, process id and message id, with blanks before each
+abbrev pub names_row : List Class
+names_row =
+    some_run is_blank ∷ host ∷ some_run is_blank ∷ word ∷ some_run is_blank ∷ process_word ∷ some_run is_blank ∷ word
+    ∷ []
+
 abbrev pub header_row : List Class
-header_row =
-    optional priority ∷ number 4294967295 ∷ some_run is_blank ∷ header_stamp ∷ some_run is_blank ∷ names_row
+header_row = front_row ++ names_row
 
 -- the elements and the message, with blanks or none before each
 abbrev pub data_row : List Class
