@@ -21,7 +21,7 @@ pub use Rattle.std.proofs.lemmas.Str.{chars_from_encodes, chars-IsAscii, encodes
 pub use Rattle.std.proofs.lemmas.Str.{IsUtf8-string_bytes}
 pub use Rattle.std.proofs.lemmas.Option.{IfSome_then}
 pub use Rattle.std.proofs.lemmas.Result.{on_ok_weaker, err_from_is_err_and}
-pub use Rattle.std.proofs.lemmas.Grind.{put_two, put_five, put_four, put_six}
+pub use Rattle.std.proofs.lemmas.Grind.{put_two, put_five, put_four}
 pub use Rattle.std.proofs.Output.{has_written_of_eq}
 pub use denote.Shadow.{shadow}
 pub use denote.Text.{Utf8}

@@ -211,6 +211,15 @@ joined : (a b c d e f g : List ℕ)
     → a ++ ((b ++ c) ++ ((d ++ (e ++ f)) ++ g)) ≡ a ++ (b ++ (c ++ (d ++ (e ++ (f ++ g)))))
 joined a b c d e f g = simp append_assoc
 
+-- what is written behind the timestamp, field by field, is the encoded rest
+pub written_rest : (host app process id elements msg : Text) (m : List ℕ) → encode_utf8_all msg ≡ m
+    → (32 ∷ encode_utf8_all host) ++ (((32 ∷ encode_utf8_all app) ++ ((32 ∷ encode_utf8_all process)
+    ++ (32 ∷ encode_utf8_all id))) ++ ((32 ∷ []) ++ (encode_utf8_all elements ++ (32 ∷ m))))
+    ≡ encode_utf8_all
+    (32 ∷ (host ++ (32 ∷ (app ++ (32 ∷ (process ++ (32 ∷ (id ++ (32 ∷ (elements ++ (32 ∷ msg)))))))))))
+unfolding encode_utf8
+written_rest host app process id elements msg m e = simp (encoded, e)
+
 -- what is written, field by field, is the encoded text
 pub written_5424 : (pri priority version : ℕ) (stamp host app process id shown elements msg : Text) (m : List ℕ) → pri
     ≡ priority → shown ≡ elements → encode_utf8_all msg ≡ m → (60 ∷ (decimal pri ++ (62 ∷ decimal version)))

@@ -28,7 +28,7 @@ use Rattle.syslog_loose.specs.Printed.{printed_3164, process_text, printed_5424}
 use Rattle.syslog_loose.proofs.CanonicalLemmas.{near_completed}
 use Rattle.syslog_loose.proofs.Rfc3164Lemmas.Near.{read_near, read_nearly, stamp_read}
 use Rattle.syslog_loose.specs.ReadBack.{AnswersItself, FieldsAsRead, AnswersAgain}
-use Rattle.syslog_loose.proofs.ReadingLemmas.{Found, value, in_year_map, quoted}
+use Rattle.syslog_loose.proofs.ReadingLemmas.{Found, value}
 use Rattle.syslog_loose.proofs.Rfc3164Lemmas.ReadBack.{rfc3164_exact, stamp_low}
 use Rattle.std.proofs.Math.Utf8.{scalar, scalars, low_scalar}
 use Rattle.std.proofs.lemmas.Bool.{and_from, and_parts, cond_both}

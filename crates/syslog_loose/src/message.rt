@@ -95,7 +95,7 @@ fn write_rfc5424<S: AsStr, W: fmt::Write>(
     let msg = message.msg.as_str();
     write!(f, "<{priority}>{version}")?;
     write_origin(f, message)?;
-    write_program(f, message)?;
+    write_program(f, &message.appname, &message.procid, &message.msgid)?;
     write_elements(f, &message.structured_data)?;
     write_spaced(f, msg)
 }
@@ -114,19 +114,21 @@ fn write_origin<S: AsStr, W: fmt::Write>(
     write_name(f, &message.hostname)
 }
 
-// Writes the app name, the process id and the message id, each after a space.
-fn write_program<S: AsStr, W: fmt::Write>(
+/// Writes the app name, the process id and the message id, each after a space.
+pub(crate) fn write_program<S: AsStr, W: fmt::Write>(
     f: &mut fmt::Formatter<W>,
-    message: &Message<S>,
+    app: &Option<S>,
+    process: &Option<ProcId<S>>,
+    id: &Option<S>,
 ) -> fmt::Result
     ensures { WritesOnOk W.write_str_gives f.old result
-        ((32 ∷ encode_utf8_all (spec.name_text (option_map (text_of S.text) message.now.appname)))
-        ++ ((32 ∷ encode_utf8_all (spec.process_text (option_map (procid_value (text_of S.text)) message.now.procid)))
-        ++ (32 ∷ encode_utf8_all (spec.name_text (option_map (text_of S.text) message.now.msgid))))) f.new }
+        ((32 ∷ encode_utf8_all (spec.name_text (option_map (text_of S.text) app.now)))
+        ++ ((32 ∷ encode_utf8_all (spec.process_text (option_map (procid_value (text_of S.text)) process.now)))
+        ++ (32 ∷ encode_utf8_all (spec.name_text (option_map (text_of S.text) id.now))))) f.new }
 {
-    write_name(f, &message.appname)?;
-    write_process(f, &message.procid)?;
-    write_name(f, &message.msgid)
+    write_name(f, app)?;
+    write_process(f, process)?;
+    write_name(f, id)
 }
 
 // Writes a space and a text.

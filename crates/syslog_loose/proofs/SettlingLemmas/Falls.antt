@@ -9,7 +9,7 @@ use Rattle.syslog_loose.proofs.Names.{BeforeBlank, each_both, each_left, each_ri
 use Rattle.syslog_loose.proofs.Names.{each_append, piece_front, rows_step, IsBoundedProcess, IsVisible, IsCanonicalHost}
 use Rattle.syslog_loose.proofs.Names.{AreCanonicalNames, is_no_colon, HasNoColon, is_inner_char, IsOddHost}
 use Rattle.syslog_loose.proofs.Names.{AreNamesButExceptions, HasQuietNames, tag_text, Names3164, names, Resolves}
-use Rattle.syslog_loose.proofs.Names.{body_row, names_weight, ListWeighs, elements_or, is_open_char, run_same, heads}
+use Rattle.syslog_loose.proofs.Names.{body_row, names_weight, elements_or, is_open_char, run_same, heads}
 use Rattle.syslog_loose.proofs.Names.{division_front, optional_some, optional_none, spaced_front, no_spaced_space}
 use Rattle.syslog_loose.proofs.Names.{no_spaced_piece, form_row, IsNoForm, ◌+◌, ◌*◌, List, option_map_or, ElementValue}
 use Rattle.syslog_loose.proofs.Names.{rfc3164_stamp, IsCanonicalStamp, Dating, OffsetTimestamp, step, step_value}

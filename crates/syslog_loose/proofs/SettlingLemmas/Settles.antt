@@ -15,7 +15,7 @@ use Rattle.syslog_loose.proofs.Names.{IsBoundedProcess, HasExceptionsAlone, HasN
 use Rattle.syslog_loose.proofs.Names.{past_colons, EndsColons, IsDashed, PassesDashes, with_msg, tail_text, Names3164}
 use Rattle.syslog_loose.proofs.Names.{names, Resolves, rfc3164_row, body_row, facility_of, severity_of, row_cons}
 use Rattle.syslog_loose.proofs.Names.{rows_join, rest_front, front_division, dash_rfc3164_list, EndsOnce, Prints, ◌-◌}
-use Rattle.syslog_loose.proofs.Names.{append-nil, nil_from_length, Bor, encodes-append, encodes-chars, NoFront, exactly}
+use Rattle.syslog_loose.proofs.Names.{append-nil, nil_from_length, Bor, encodes-append, encodes-chars, exactly}
 use Rattle.syslog_loose.proofs.Names.{some_run, shown, CutsColons, joined_elements, elements_text, MatchOption, begins}
 use Rattle.syslog_loose.proofs.Names.{front_same, run_det, encode_utf8, Skips, chars_empty, Ends, is_some, ◌*◌, IsAscii}
 use Rattle.syslog_loose.proofs.Names.{chars-IsAscii, colon_ascii}

@@ -12,7 +12,7 @@ use Rattle.syslog_loose.proofs.Names.{Some, length-append, pos, leb_tells, bytes
 use Rattle.syslog_loose.proofs.Names.{Values, optional, ElementValue, rfc3164_list, elements_or, IsRfc3164List, dash}
 use Rattle.syslog_loose.proofs.Names.{colon, IsCanonicalStamp, ProcId, PID, Name, OffsetTimestamp, present_front, step}
 use Rattle.syslog_loose.proofs.Names.{absent_none, absent_stays, MessageValue, Names3164, Resolves, Costs, names_weight}
-use Rattle.syslog_loose.proofs.Names.{ListWeighs, Weighs, rest_whole, row_head, begins_no_list, full_shorter}
+use Rattle.syslog_loose.proofs.Names.{Weighs, rest_whole, row_head, begins_no_list, full_shorter}
 use Rattle.syslog_loose.proofs.Names.{no_rfc3164_list, drop_trailing_whitespace, skip_leading_whitespace, spaced, join}
 use Rattle.syslog_loose.proofs.Names.{host, tag_word, IsHost, rfc3164_stamp, Dating, MonthDate, rfc3164_row, IsRead3164}
 use Rattle.syslog_loose.proofs.Names.{body_row, priority, month, month_date, division_front, spaced_parts}

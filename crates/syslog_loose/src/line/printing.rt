@@ -8,7 +8,7 @@ ghost use Rattle.syslog_loose.specs.Clauses.{printed_number, line_value, KnowsFo
 ghost use Rattle.syslog_loose.specs.Clauses.{rest_5424, rest_text, spaced_elements};
 
 use super::Line;
-use crate::message::{read_priority, write_name, write_process, write_spaced, write_tag};
+use crate::message::{read_priority, write_name, write_program, write_spaced, write_tag};
 use std::alloc::AllocError;
 use std::fmt;
 use std::fmt::{Display, Write};
@@ -54,9 +54,7 @@ fn write_rest_5424<W: fmt::Write>(f: &mut fmt::Formatter<W>, line: &Line<'_>) ->
     let process = line.process();
     let msg = line.msg.as_str();
     write_name(f, &line.hostname)?;
-    write_name(f, &line.appname)?;
-    write_process(f, &process)?;
-    write_name(f, &line.msgid)?;
+    write_program(f, &line.appname, &process, &line.msgid)?;
     f.write_str(" ")?;
     write_list(f, &line.list)?;
     write_spaced(f, msg)
