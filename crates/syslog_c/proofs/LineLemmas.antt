@@ -5,7 +5,7 @@ use Rattle.syslog_c.proofs.Words.{ℤ, List, inl, inr, subst, Text, InYear, OnLi
 use Rattle.std.specs.Str.{chars}
 use Rattle.syslog_c.specs.Line.{IsTried}
 
--- what holds of the text that the line's bytes are, in the year that the options' rules answer
+-- what holds of the text that the line's bytes are, in the year that the options' rules give
 pub tried_line : {post : IncompleteDate → ℤ → Type 0} (Holds : Variant → Dating → Text → Type 0) (options : Options)
     (line bytes : List ℕ) (variant : Variant) (zone : TimeZone)
     → (options.variant ≡ variant_number variant) × AreInRange options × IsZoneAt options.offset zone

@@ -1,4 +1,4 @@
--- What `settle` answers, once it is put into the room; and texts that are put piece by piece.
+-- What `settle` returns, once it is put into the room; and texts that are put piece by piece.
 use Rattle.syslog_c.proofs.Words.{List, append-nil, append_assoc, IsUtf8-string_bytes, chars-nil, ParseFault, TakesText}
 use Rattle.syslog_c.proofs.Words.{ℕ, ◌∷◌, ◌++◌, Result, Err, refl, arith, length, subst, Text, Dating, Variant, Outcome}
 use Rattle.syslog_c.proofs.Words.{[], Ok, ◌≡◌, ◌≤◌, ◌∙◌, inl, inr, sym, ap}

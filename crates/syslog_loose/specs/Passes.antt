@@ -105,7 +105,7 @@ pub record ReachesRank (variant : Variant) (dating : Dating) (text : Text) (rank
   pub reaches : Reaches variant dating text (suc before) u
   pub ranked : (m : MessageValue) → IsRead variant dating u m → HasRank rank m
 
--- What a pass answers at a round of the text that has this rank. Where the flag is true, it is the first settled round;
+-- What a pass returns at a round of the text that has this rank. Where the flag is true, it is the first settled round;
 -- where it is false, a later round of a lower rank. Or it is a fault.
 abbrev pub AnswersPass : Variant → Dating → Text → ℕ → List ℕ → Result Bool ParseFault → Type 0
 AnswersPass variant dating text rank bytes result = MatchResult result

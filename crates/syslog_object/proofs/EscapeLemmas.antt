@@ -88,7 +88,7 @@ pub appended : {T E : Type 0} (r : Result T E) (new old bytes all : List ℕ)
 appended (Ok x) new old bytes all e h = e ∙ ap (λ xs. old ++ xs) h
 appended (Err x) new old bytes all e h = tt
 
--- a last backslash stands for nothing
+-- a last backslash alone is nothing
 pub lone_backslash : (after next : List ℕ) (x : ℕ) → after ≡ x ∷ next → x ≡ 92 → length next ≡ 0 → unescaped after ≡ []
 lone_backslash after next x whole is none = rw (whole, is, nil_from_length next none) refl
 

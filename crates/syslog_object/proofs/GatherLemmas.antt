@@ -257,7 +257,7 @@ module _ {X : Type 0} (key : X → List ℕ) (json : X → Json) (xs : List X) w
 
 -- ---- keys that each come once have no other value
 
--- each key with what stands at it
+-- each key with its value, or all its values
 abbrev valued : List (List ℕ × Json) → List (List ℕ) → List (List ℕ × Json)
 valued ps ks = map (λ k. (k, one_or_all (values_at k ps))) ks
 

@@ -23,7 +23,7 @@ number_json n = number (decimal n)
 
 -- ---- elements
 
--- bytes without the escapes of a value: a backslash and the byte after it are what the pair stands for, and a last
+-- bytes without the escapes of a value: a backslash and the byte after it are what the pair means, and a last
 -- backslash alone is nothing
 abbrev mutual
   pub unescaped : List ℕ → List ℕ

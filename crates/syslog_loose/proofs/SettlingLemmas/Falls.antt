@@ -336,7 +336,7 @@ pub printed_same : (m n : MessageValue) → priority_of n ≡ priority_of m → 
 unfolding printed_3164
 printed_same m n a b c d e f = rw (a, b, c, d, e, f) refl
 
--- what stands after a dash that was taken is nothing, or stands after blanks
+-- after a dash that was taken there is nothing, or a text after blanks
 end_or_dashed : (t rest left : Text) → t ≡ 45 ∷ rest → IsDashBefore BeforeBlank rest → Front (run is_blank) rest left tt
     → (left ≡ []) ⊎ IsDashed t left
 end_or_dashed t [] left e before f =

@@ -266,7 +266,7 @@ module _ (variant : Variant) (dating : Dating) where
           (read_near dash_rule dating l.text l.message l.read).protocol (rw l.is_printed at s)) m n l.passes;
     }
 
-  -- ---- what a pass answers
+  -- ---- what a pass returns
 
   -- at a round of this rank, by way of the line of its text
   pub made_answer : {E : Type 0} (given : E → E → List ElementValue → Type 0) (before after : E) (t : Text) (n rank : ℕ)

@@ -362,7 +362,7 @@ module _ (rule : DashRule) where
   )
 
   -- What is left of a text from which a list may be taken: all of it, or less where a list begins it. Where that has no
-  -- element, it stands after a dash.
+  -- element, it follows a dash.
   abbrev pub Leaves : Text → Option (List ElementValue) → Text → Type 0
   Leaves t v left = (BeginsNoList rule t × (v ≡ None) × (left ≡ t))
       ⊎ ((BeginsNoList rule t → ⊥) × (length left < length t) × (elements_or v ≡ [] → (rest : Text) × (t ≡ 45 ∷ rest)

@@ -532,7 +532,7 @@ module _ (C : Class) (view : List C.Value → List ElementValue) {V : Type 0}
       visits = s.visits;
     }
 
--- what is told of the elements of the pieces
+-- what holds of the elements of the pieces
 module _ {C : Class} {view : List C.Value → List ElementValue} {V : Type 0} {given : V → V → List ElementValue → Type 0}
     {text rest : Text} {old new : V} {tally : Tally} {strict : Bool}
     (s : Gone C view given text rest old new tally strict) {ds : List ElementValue} (e : view s.vs ≡ ds) where

@@ -5,7 +5,7 @@ use Rattle.syslog_lines.specs.Words.{AsksFor}
 use Rattle.syslog_lines.specs.declared.words.Task.TheVariants.{Help, Version, Lines}
 use Rattle.syslog_lines.proofs.words.read_task.Goals as goal
 
--- where neither word stands alone and no lines are asked for, nothing is
+-- where neither word is alone and no lines are asked for, nothing is
 no_task : (has_raw : Bool) (words : List (List ℕ)) → ¬ (words ≡ help_word ∷ []) → ¬ (words ≡ version_word ∷ [])
     → ((raw : Bool) (dates : Dates) → (IsTrue raw → IsTrue has_raw) → ¬ (AskForLines words raw dates))
     → (task : Task) → ¬ (AsksFor has_raw words task)
