@@ -183,7 +183,6 @@ pub fn some_blanks(text: &str) -> Option<&str>
 }
 
 // The text after a space before no blank, which most gaps are: it needs no scan.
-#[tactic(auto, using(crate::proofs::TextLemmas::Runs::gap))]
 #[inline(always)]
 pub(crate) fn past_space(text: &str) -> Option<&str>
     ensures { IfSome result (λ rest. Front (some_run spec.is_blank) (chars text.now) (shown rest) tt

@@ -16,7 +16,7 @@ use Rattle.syslog_pieces.proofs.Names.{Class, IsRun, List, ◌++◌, Text, Each,
 use Rattle.syslog_pieces.proofs.Names.{zero, refl, cond, Fits, ◌&&◌, ◌||◌, has, ◌+◌, ◌%◌, ◌^◌, map, eqb, beq, ◌/◌, sym}
 use Rattle.syslog_pieces.proofs.Names.{◌∙◌, suc, ◌-◌, ◌≤◌, inl, inr, not, run, [], ap, w8, ℕ}
 use Rattle.std.proofs.Common.{get_or-take}
-use Rattle.std.proofs.lemmas.List.{get_or-append-add, nil_from_length}
+use Rattle.std.proofs.lemmas.List.{get_or-append-add, nil_from_length, take_all, take_more}
 use Rattle.std.proofs.lemmas.Str.{IsCharBoundary-before_ascii}
 use Rattle.std.proofs.lemmas.Slice.Eq.{bytes_eq-Decides}
 use Rattle.std.proofs.lemmas.Bool.{le-ltb, not_from_true, and_right}
@@ -28,6 +28,7 @@ use mir.Val.{bool_byte}
 use lib.Lanes.{chunk, zip2, mask_l, top}
 use lib.Utf8.{scalar, encode}
 use Rattle.syslog_pieces.specs.Bodies.Scan.{first_set, visible_byte}
+use Rattle.syslog_pieces.specs.declared.text.CharClass.TheVariants.{Visible}
 use Rattle.syslog_pieces.proofs.PieceLemmas.Class.{front_of}
 pub use Rattle.std.proofs.lemmas.Bool.{not-true as from_not_true}
 
@@ -131,9 +132,6 @@ module _ (t r : List ℕ) (u : IsUtf8 t) (z : IsUtf8 r) (p : Text) (whole : char
       let same = e ∙ rw (← front_length) (ap (take n) bytes ∙ take-append_seam (encode_utf8_all p) r) in
       chars_cut t xs r (rw same bytes) (rw e (IsUtf8-take t (length t - length r) u front_cut))
 
--- what the reader of that front rests on
-pub ruleset cuts = (rest_shorter, front_cut, front_chars)
-
 -- ---- words, hosts and gaps that are in printed form
 names_text : (p : Text) (v : Option Text) → Names p v → p ≡ name_text v
 names_text p None m = m
@@ -175,6 +173,12 @@ ends_run test bs n u b each ends =
 pub split_at_end : (h : ℕ → Bool) (bs xs ys : List ℕ) (n : ℕ) → EndsRun h bs n → xs ≡ take n bs → ys ≡ drop n bs
     → SplitsRun h bs xs ys
 split_at_end h bs xs ys n e f g = rw (f, g) e.1
+
+-- what is behind two characters after a run is shorter than the text
+pub behind_two : {test : ℕ → Bool} {bs xs ys : List ℕ} {c d : ℕ} {q r : Text} → SplitsRun test bs xs ys → chars ys ≡ c ∷ q
+    → q ≡ d ∷ r → length r < length (chars bs)
+behind_two {xs = xs} {ys = ys} s e f =
+    omega (arith, ap length s.characters, length-append (chars xs) (chars ys), ap length e, ap length f)
 
 -- ---- a run of ASCII bytes
 
@@ -358,9 +362,6 @@ gap_some bs u g ys f =
     (λ l c byte char. no_blank c (get_or (drop 1 bs) 0 0) byte (omega (arith, first_left 1 bs, g.2))) in
     front_of (32 ∷ []) (gap_space bs g ys f) (omega arith, (refl, tt), rw f ends)
 
--- what the reader of such a gap rests on
-pub ruleset gap = (gap_cut, gap_space, gap_some)
-
 -- ---- no digit
 -- no digit is at the front
 pub ends_digits : (bs : List ℕ) → IsUtf8 bs → Ends is_ascii_digit bs → Ends is_ascii_digit (chars bs)
@@ -463,6 +464,23 @@ start_stays c cs h = rw h refl
 visible : (b : ℕ) → (nat_lt b 128 && not (is_whitespace b)) ≡ true → (b < 128) × (is_whitespace b ≡ false)
 visible b h = let p = and_parts (nat_lt b 128) (not (is_whitespace b)) h in
     (ltb-true b 128 p.0, not-true (is_whitespace b) p.1)
+
+-- the first and the last byte of two or more
+pub bare_ends : (bs : List ℕ) → 2 ≤ length bs → byte_in Visible (get_or bs 0 0) ≡ true
+    → byte_in Visible (get_or bs (length bs - 1) 0) ≡ true → IsBare bs
+bare_ends [] l f g = absurd (omega arith)
+bare_ends (b ∷ []) l f g = absurd (omega arith)
+bare_ends (b ∷ d ∷ bs) l f g =
+    let place : length (b ∷ d ∷ bs) - 1 ≡ suc (length bs) = omega arith in
+    record {
+      first = b;
+      middle = take (length bs) (d ∷ bs);
+      last = get_or (d ∷ bs) (length bs) 0;
+      whole = ap (λ (x : List ℕ). b ∷ x)
+          (sym (take_all (length bs + 1) (d ∷ bs) (omega arith)) ∙ take_more (d ∷ bs) (length bs) 0 (omega arith));
+      first_in = f;
+      last_in = rw place at g;
+    }
 
 module _ (bs : List ℕ) (u : IsUtf8 bs) (h : IsBare bs) where
   head : (h.first < 128) × (is_whitespace h.first ≡ false)

@@ -16,7 +16,6 @@ pub fn is_one_space(text: &str, rest: &str) -> bool
 }
 
 /// The text before a rest of it.
-#[tactic(auto, using(crate::proofs::TextLemmas::Runs::cuts))]
 #[inline(always)]
 pub fn before<'a>(text: &'a str, rest: &str) -> &'a str
     requires { (front : Text) × (chars text.now ≡ front ++ chars rest.now) }
