@@ -77,7 +77,6 @@ pub(super) fn after_value(text: &str) -> Option<&str>
 }
 
 // The value whose closing quote is before the rest.
-#[tactic(auto, using(crate::proofs::StructuredDataLemmas::Closing::quoted_value))]
 pub(super) fn value_before<'a>(text: &'a str, rest: &str) -> &'a str
     requires { (v : quoted_class.Value) × Front quoted_class (chars text.now) (chars rest.now) v }
     ensures { Front quoted_class (chars text.now) (chars rest.now) (shown result, (tt, tt)) }
@@ -95,7 +94,6 @@ fn quoted(text: &str) -> Option<(&str, &str)>
 }
 
 // The name and the value of the parameter at the front, and the text after it.
-#[tactic(auto, using(crate::proofs::StructuredDataLemmas::Closing::param_read))]
 #[inline(always)]
 pub(super) fn param(text: &str) -> Option<((&str, &str), &str)>
     ensures { Reads param_class (param_value (λ s. shown s)) (chars text.now) result }

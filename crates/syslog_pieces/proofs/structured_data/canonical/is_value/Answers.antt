@@ -1,3 +1,4 @@
+use Rattle.syslog_pieces.proofs.TextLemmas.Runs.{behind_two}
 use Rattle.syslog_pieces.proofs.StructuredDataLemmas.Closing.{value_at_end, value_at_quote, value_lone, value_further}
 use Rattle.syslog_pieces.proofs.structured_data.canonical.is_value.Goals as goal
 
@@ -18,3 +19,6 @@ pub returns-in_default-first : goal.returns-in_default-first
 returns-in_default-first c =
     value_lone _ _ _ _ c.split_run.ensures c.units.invariant.1 _ _ c.in-Some.ensures.0 c.if-c-eq34.false
     c.in_default-first.ensures
+
+pub units-smaller : goal.units-smaller
+units-smaller c = behind_two c.split_run.ensures c.in-Some.ensures.0 c.in-Some-first.ensures.0

@@ -1,5 +1,5 @@
 use Rattle.syslog_pieces.proofs.Names.{◌also◌, rules, refl, sym, ap, ◌∙◌, ◌+◌, ℕ, full_element, and_from, map, Some}
-use Rattle.syslog_pieces.proofs.StructuredDataLemmas.Elements.{strict_some}
+use Rattle.syslog_pieces.proofs.StructuredDataLemmas.Elements.{strict_some, element_shorter}
 use Rattle.syslog_pieces.proofs.StructuredDataLemmas.Walk.{are_full_items, gone_none, gone_all, gone_within, gone_on}
 use Rattle.syslog_pieces.proofs.StructuredDataLemmas.Walk.{gone_tallied, gone_visits}
 use Rattle.syslog_pieces.proofs.structured_data.line_list.visit_full_elements.Goals as goal
@@ -44,3 +44,6 @@ elements-preserved g c =
     let params = ap (λ (n : ℕ). c.elements.tally.params + n) c.params_len.ensures in
     w.utf8 also gone_on _ _ _ c.elements.invariant.1 w _ refl (w.front.is, some) refl params refl
     (λ all. and_from _ _ all refl) c.element.ensures
+
+pub elements-smaller : goal.elements-smaller
+elements-smaller g c = let (w, some) = c.in-Some.ensures.walked in element_shorter _ _ _ w.front

@@ -1,7 +1,7 @@
 use Rattle.syslog_pieces.proofs.Names.{rules, refl, sym, ap, subst, ◌+◌, ℕ, [], ◌∷◌, Some, None, chars, item, strict}
 use Rattle.syslog_pieces.proofs.Names.{IsDead, append-nil}
 use Rattle.syslog_pieces.proofs.StructuredDataLemmas.Closing.{dead_bytes, dead_suffix, dead_least}
-use Rattle.syslog_pieces.proofs.StructuredDataLemmas.Elements.{no_item, bracketed_item, strict_append}
+use Rattle.syslog_pieces.proofs.StructuredDataLemmas.Elements.{no_item, bracketed_item, strict_append, item_shorter}
 use Rattle.syslog_pieces.proofs.StructuredDataLemmas.Walk.{are_items, gone_none, gone_all, gone_within, gone_on}
 use Rattle.syslog_pieces.proofs.StructuredDataLemmas.Walk.{gone_past, gone_tallied, gone_visits}
 use Rattle.syslog_pieces.proofs.structured_data.line_list.visit_items.Goals as goal
@@ -58,3 +58,6 @@ items-preserved g c =
       gone_past _ _ _ s None (rw append-nil at (strict_append s.vs (None ∷ [])))
           (bracketed_item _ _ c.in-Err.ensures.walked.0 f),
     )
+
+pub items-smaller : goal.items-smaller
+items-smaller g c = item_shorter _ _ None (bracketed_item _ _ c.in-Err.ensures.walked.0 c.in-Some.ensures.1)

@@ -1,10 +1,11 @@
-use Rattle.syslog_pieces.proofs.Names.{inl, refl, rules, is_open_char, match_map, row_of, no_row, ◌then◌, ◌past◌}
+use Rattle.syslog_pieces.proofs.Names.{inl, refl, is_open_char, match_map, row_of, no_row, ◌then◌, ◌past◌}
 use Rattle.syslog_pieces.proofs.StructuredDataLemmas.Elements.{bracketed_row, bracketed_row_det}
 use Rattle.syslog_pieces.proofs.TextLemmas.Runs.{run_front}
 use Rattle.syslog_pieces.proofs.structured_data.recognise.after_bracketed.Goals as goal
 
 pub returns-in_err-rest : goal.returns-in_err-rest
-returns-in_err-rest c = let n = no_row bracketed_row bracketed_row_det (inl c.in_err-rest.ensures) in search rules
+returns-in_err-rest c =
+    rw c.from_residual.ensures (no_row bracketed_row bracketed_row_det (inl c.in_err-rest.ensures))
 
 pub returns : goal.returns
 returns c =

@@ -1,5 +1,5 @@
-use Rattle.syslog_pieces.proofs.Names.{rules, meets_none}
-use Rattle.syslog_pieces.proofs.StructuredDataLemmas.Closing.{unescaped_plain, past_run, value_quoted, value_on}
+use Rattle.syslog_pieces.proofs.Names.{meets_none}
+use Rattle.syslog_pieces.proofs.StructuredDataLemmas.Closing.{unescaped_plain, past_run, value_quoted, value_on, unit_behind}
 use Rattle.syslog_pieces.proofs.structured_data.recognise.after_value.Goals as goal
 
 pub returns-in-Some : goal.returns-in-Some
@@ -8,9 +8,12 @@ returns-in-Some c = value_quoted unescaped_plain c.split_run.ensures c.units.inv
 pub returns-in_err-more : goal.returns-in_err-more
 returns-in_err-more c =
     let to_end = past_run unescaped_plain c.split_run.ensures c.units.invariant.1 in
-    let n = meets_none _ _ _ _ to_end c.in_err-more.ensures in search rules
+    rw c.from_residual.ensures (meets_none _ _ _ _ to_end c.in_err-more.ensures)
 
 pub units-preserved : goal.units-preserved
 units-preserved c =
     let (utf8, u) = c.in_ok-more.ensures in
     (utf8, value_on unescaped_plain c.split_run.ensures c.units.invariant.1 _ u.1 _ u.2)
+
+pub units-smaller : goal.units-smaller
+units-smaller c = let u = c.in_ok-more.ensures.1 in unit_behind _ c.split_run.ensures u.0 u.2

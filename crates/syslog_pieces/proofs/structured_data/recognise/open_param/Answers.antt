@@ -1,11 +1,12 @@
-use Rattle.syslog_pieces.proofs.Names.{inl, refl, rules, opening_row, row_of, no_row, ◌then◌, ◌past◌}
+use Rattle.syslog_pieces.proofs.Names.{inl, refl, opening_row, row_of, no_row, ◌then◌, ◌past◌}
 use Rattle.syslog_pieces.proofs.StructuredDataLemmas.Elements.{opening_det}
 use Rattle.syslog_pieces.proofs.StructuredDataLemmas.Walk.{opens_at_once}
 use Rattle.syslog_pieces.proofs.structured_data.recognise.open_param.Goals as goal
 
 pub returns-in_err-after_equals : goal.returns-in_err-after_equals
 returns-in_err-after_equals c =
-    let n = no_row opening_row opening_det (c.in_ok-name.ensures past inl c.in_err-after_equals.ensures) in search rules
+    rw c.from_residual-in_err-after_equals.ensures
+    (no_row opening_row opening_det (c.in_ok-name.ensures past inl c.in_err-after_equals.ensures))
 
 pub returns-in-Some : goal.returns-in-Some
 returns-in-Some c =
@@ -21,3 +22,6 @@ returns c =
     let row = c.in_ok-name.ensures then c.in_ok-after_equals.ensures then c.blanks.ensures then c.in_ok-value.ensures
     then refl in
     (row_of opening_row row, λ t. cc)
+
+pub returns-in_err-name : goal.returns-in_err-name
+returns-in_err-name c = rw c.from_residual.ensures (no_row opening_row opening_det (inl c.in_err-name.ensures))

@@ -3,7 +3,7 @@ use Rattle.syslog_pieces.proofs.Names.{sym, ◌+◌, ◌≤◌, ◌past◌, inl}
 use Rattle.syslog_pieces.proofs.StructuredDataLemmas.Closing.{byte_count_slice, dead_suffix, no_start}
 use Rattle.syslog_pieces.proofs.StructuredDataLemmas.Walk.{bare_inside, bare_walked, at_first, not_opened, value_passes}
 use Rattle.syslog_pieces.proofs.StructuredDataLemmas.Walk.{not_closed, not_separated, ends, ends_walked, goes_on}
-use Rattle.syslog_pieces.proofs.StructuredDataLemmas.Walk.{more_room, chars_length}
+use Rattle.syslog_pieces.proofs.StructuredDataLemmas.Walk.{more_room, chars_length, next_shorter}
 use Rattle.syslog_pieces.proofs.StructuredDataLemmas.Elements.{start_det}
 use Rattle.std.proofs.lemmas.Result.{err_from_is_err_and}
 use Rattle.syslog_pieces.proofs.structured_data.walk.walk_element.Goals as goal
@@ -91,3 +91,7 @@ params-preserved g c =
 pub returns-in_default-nonempty_run-clause-walked : goal.returns-in_default-nonempty_run-clause-walked
 returns-in_default-nonempty_run-clause-walked g c =
     (no_start (no_row start_row start_det (c.in-Some.ensures past inl c.in_default-nonempty_run.ensures)), c.requires)
+
+pub params-smaller : goal.params-smaller
+params-smaller g c =
+    next_shorter c.params.invariant.1.1 c.in-Some-open_param.ensures.0 c.value_before.ensures c.in-Some-literal-3.ensures
