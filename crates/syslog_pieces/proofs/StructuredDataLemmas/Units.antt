@@ -337,12 +337,6 @@ unlike_lists text xs ys differ =
       | inr unlike ↦ sym unlike
     ]
 
--- one copy more, of the item that an iterator gives
-pub copies_left : {X V : Type 0} (f : X → V) (xs : List X) {x : X} {new : List X} {left left' all : List V}
-    → map f xs ++ left ≡ all → left ≡ f x ∷ left' → new ≡ xs ++ (x ∷ []) → map f new ++ left' ≡ all
-copies_left f xs {x} {left' = left'} so_far given e =
-    ap (λ ys. map f ys ++ left') e ∙ rw (map-append f xs (x ∷ []), append_assoc) (rw given at so_far)
-
 -- one copy more, of the next item
 pub copies_more : {X Y V : Type 0} (f : X → V) (h : Y → V) (xs : List X) {x : X} (ys : List Y) {new : List Y}
     {y : Y} → map h ys ≡ map f xs → new ≡ ys ++ (y ∷ []) → h y ≡ f x → map h new ≡ map f (xs ++ (x ∷ []))

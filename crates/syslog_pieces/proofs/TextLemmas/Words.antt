@@ -16,7 +16,6 @@ use Rattle.syslog_pieces.proofs.Names.{encodes-append, ParsesUnsigned, is_ascii_
 use Rattle.syslog_pieces.proofs.Names.{tag_word, run_same, is_blank, each_map, eqb-true, eqb_tells, take_more, flat_map}
 use Rattle.syslog_pieces.proofs.Names.{[], ℤ, same_from_push, result_ok, digit_value_digit, IsSmallNumber}
 use Rattle.std.proofs.Common.{length-append}
-use Rattle.std.proofs.lemmas.List.{take_all}
 use Rattle.std.specs.Option.{SomeIff}
 use Rattle.std.proofs.lemmas.Str.Parse.{IsNumeralModel, numerals_by_value, parse_digits}
 use Rattle.std.proofs.lemmas.Fmt.{digits_decimal, decimal_step, length-decimal-le}
@@ -371,16 +370,6 @@ pub ruleset ten_digits = (one_digit, ten_long)
 
 pub one_longer : (n : ℕ) → 10 ≤ n → n < 2 ^ 64 → length (decimal n) ≡ length (decimal (n / 10)) + 1
 one_longer n l h = rw (last_of_more n l h) (length-append (decimal (n / 10)) ((48 + n % 10) ∷ []))
-
--- ---- a number of three digits at the front of bytes, by each byte
-pub three_front : (bs : List ℕ) (n : ℕ) → 2 < length bs → get_or bs 0 0 ≡ 48 + n / 100
-    → get_or bs 1 0 ≡ 48 + n / 10 % 10 → get_or bs 2 0 ≡ 48 + n % 10 → bs ≡ pad3 n ++ take (length bs - 3) (drop 3 bs)
-three_front [] n l e f g = absurd (omega arith)
-three_front (a ∷ []) n l e f g = absurd (omega arith)
-three_front (a ∷ b ∷ []) n l e f g = absurd (omega arith)
-three_front (a ∷ b ∷ d ∷ bs) n l e f g =
-    let left : length (a ∷ b ∷ d ∷ bs) - 3 ≡ length bs = omega arith in
-    rw (left, take_all (length bs) bs (omega arith)) (cc)
 
 -- ---- a number of one to three digits, by bytes
 -- the digits of the number, and then the rest

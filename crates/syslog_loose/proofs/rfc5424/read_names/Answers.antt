@@ -1,7 +1,7 @@
 use Rattle.syslog_loose.proofs.Names.{◌≡◌, ◌⊎◌, ◌<◌, ◌∷◌, ◌++◌, ◌then◌, ◌past◌, length, Option, Some, None, IfSome}
-use Rattle.syslog_loose.proofs.Names.{sym, ap, arith, inl, inr, refl, option_map, IsBareWord, Text, Class, Front}
-use Rattle.syslog_loose.proofs.Names.{NoFront, named_process, process_text, process_word, bare_prints, named_names}
-use Rattle.syslog_loose.proofs.Names.{word, name_text, row_of, no_row, names_row, seen, shown, some_run, is_blank}
+use Rattle.syslog_loose.proofs.Names.{sym, ap, arith, inl, inr, refl, option_map, IsBareWord, Text, Class, Front, NoFront}
+use Rattle.syslog_loose.proofs.Names.{named_process, process_text, process_word, bare_prints, named_names, word, name_text}
+use Rattle.syslog_loose.proofs.Names.{row_of, no_row, names_row, seen, shown, some_run, is_blank}
 use Rattle.syslog_pieces.proofs.ProcIdLemmas.{absent_front, process_front, no_process}
 use Rattle.syslog_loose.proofs.Rfc5424Lemmas.{names_det}
 use Rattle.syslog_loose.proofs.rfc5424.read_names.Goals as goal

@@ -1,4 +1,4 @@
-use Rattle.syslog_pieces.proofs.Names.{inl, refl, ◌past◌, ◌then◌, priority_row, row_of}
+use Rattle.syslog_pieces.proofs.Names.{inl, ◌past◌, rules, priority_row, row_of}
 use Rattle.syslog_pieces.proofs.PriLemmas.{as_priority, no_priority}
 use Rattle.syslog_pieces.proofs.pri.priority.Goals as goal
 
@@ -15,6 +15,4 @@ returns-in_err-rest-2 c =
     c.in_err-rest-2.ensures))
 
 pub returns : goal.returns
-returns c =
-    as_priority (row_of priority_row (c.in_ok-rest.ensures then c.in_ok-value.ensures then c.in_ok-rest-2.ensures
-    then refl))
+returns c = as_priority (row_of priority_row (search rules))

@@ -1,4 +1,4 @@
-use Rattle.syslog_pieces.proofs.Names.{inl, ◌past◌, row_of, ◌then◌, no_row, refl, clock_row, year_row}
+use Rattle.syslog_pieces.proofs.Names.{inl, ◌past◌, row_of, ◌then◌, no_row, rules, refl, clock_row, year_row}
 use Rattle.syslog_pieces.proofs.Names.{rows_none_here, rows_none_later}
 use Rattle.syslog_pieces.proofs.TimestampLemmas.MonthDate.{no_clock, year_det, dated_front}
 use Rattle.syslog_pieces.proofs.timestamp.month_date.dated.Goals as goal
@@ -20,4 +20,4 @@ returns-in_err-clock c whole day none =
 
 pub returns : goal.returns
 returns c whole day none = rw c.date_of.ensures (dated_front day
-    (row_of year_row (c.in_ok-year.ensures then c.in_ok-rest.ensures then refl)) c.in_ok-clock.ensures.1)
+    (row_of year_row (search rules)) c.in_ok-clock.ensures.1)

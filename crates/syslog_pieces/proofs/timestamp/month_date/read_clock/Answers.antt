@@ -1,4 +1,4 @@
-use Rattle.syslog_pieces.proofs.Names.{inl, refl, ◌past◌, ◌then◌, clock_row, row_of, no_row}
+use Rattle.syslog_pieces.proofs.Names.{inl, ◌past◌, rules, clock_row, row_of, no_row}
 use Rattle.syslog_pieces.proofs.TimestampLemmas.MonthDate.{clock_det}
 use Rattle.syslog_pieces.proofs.timestamp.month_date.read_clock.Goals as goal
 
@@ -26,7 +26,4 @@ returns-in_err-second c =
     past c.in_ok-minute.ensures past c.in_ok-rest-2.ensures past inl c.in_err-second.ensures))
 
 pub returns : goal.returns
-returns c =
-    let row = c.in_ok-hour.ensures then c.in_ok-rest.ensures then c.in_ok-minute.ensures then c.in_ok-rest-2.ensures
-    then c.in_ok-second.ensures then c.past_colon.ensures.1 then refl in
-    (c.past_colon.ensures.0, row_of clock_row row)
+returns c = (c.past_colon.ensures.0, row_of clock_row (search rules))

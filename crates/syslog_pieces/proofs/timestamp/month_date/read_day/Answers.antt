@@ -1,4 +1,4 @@
-use Rattle.syslog_pieces.proofs.Names.{inl, refl, ◌past◌, ◌then◌, day_row, row_of, no_row}
+use Rattle.syslog_pieces.proofs.Names.{inl, ◌past◌, rules, day_row, row_of, no_row}
 use Rattle.syslog_pieces.proofs.TimestampLemmas.MonthDate.{day_det}
 use Rattle.syslog_pieces.proofs.timestamp.month_date.read_day.Goals as goal
 
@@ -21,6 +21,4 @@ returns-in_err-rest-2 c =
     past c.in_ok-day.ensures past inl c.in_err-rest-2.ensures))
 
 pub returns : goal.returns
-returns c =
-    row_of day_row (c.in_ok-month.ensures then c.in_ok-rest.ensures then c.in_ok-day.ensures then c.in_ok-rest-2.ensures
-    then refl)
+returns c = row_of day_row (search rules)

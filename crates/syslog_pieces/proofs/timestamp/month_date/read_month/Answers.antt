@@ -1,4 +1,4 @@
-use Rattle.syslog_pieces.proofs.Names.{month}
+use Rattle.syslog_pieces.proofs.Names.{rules, month}
 use Rattle.syslog_pieces.proofs.TimestampLemmas.Digits.{bytes_cut, bytes_front, no_bytes_front}
 use Rattle.syslog_pieces.proofs.TimestampLemmas.MonthDate.{month_alone, month_ascii}
 use Rattle.syslog_pieces.proofs.timestamp.month_date.read_month.Goals as goal
@@ -9,8 +9,8 @@ split_at-requires c =
 
 pub returns-in_err-number : goal.returns-in_err-number
 returns-in_err-number c =
-    rw c.from_residual.ensures (no_bytes_front month month_alone month_ascii _ c.utf8.text
-    (rw c.as_bytes.ensures.value at c.in_err-number.ensures))
+    let n = no_bytes_front month month_alone month_ascii _ c.utf8.text
+    (rw c.as_bytes.ensures.value at c.in_err-number.ensures) in search rules
 
 pub returns : goal.returns
 returns c =

@@ -1,20 +1,15 @@
-use Rattle.syslog_pieces.proofs.Names.{inl, ◌past◌, refl, FitsSigned, w32, rules, to_z-of_z, numeric_row, row_of, ◌then◌}
+use Rattle.syslog_pieces.proofs.Names.{inl, ◌past◌, refl, FitsSigned, w32, rules, to_z-of_z, numeric_row, row_of, ◌then◌, offset, NoFront}
 use Rattle.syslog_pieces.proofs.TimestampLemmas.Rfc3339.{no_offset, numeric_front}
 use Rattle.syslog_pieces.proofs.timestamp.rfc3339_text.offset.Goals as goal
 
 pub returns-in_err-is_behind : goal.returns-in_err-is_behind
 returns-in_err-is_behind c =
-    rw c.from_residual.ensures (no_offset c.in_default.ensures (inl c.in_err-is_behind.ensures))
+    let n : NoFront offset c.args.text.now = no_offset c.in_default.ensures (search rules) in search rules
 
 pub returns-in_err-minutes : goal.returns-in_err-minutes
 returns-in_err-minutes c =
-    rw c.from_residual-in_err-minutes.ensures (no_offset c.in_default.ensures (c.in_ok-is_behind.ensures past
-    c.in_ok-hours.ensures past inl c.in_err-minutes.ensures))
-
-pub returns-in_err-hours : goal.returns-in_err-hours
-returns-in_err-hours c =
-    rw c.from_residual-in_err-hours.ensures (no_offset c.in_default.ensures (c.in_ok-is_behind.ensures past inl
-    c.in_err-hours.ensures))
+    let n = no_offset c.in_default.ensures (c.in_ok-is_behind.ensures past c.in_ok-hours.ensures
+    past inl c.in_err-minutes.ensures) in search rules
 
 pub returns : goal.returns
 returns c =

@@ -1,4 +1,4 @@
-use Rattle.syslog_pieces.proofs.Names.{arith, stamp_text}
+use Rattle.syslog_pieces.proofs.Names.{◌<◌, length, arith, rules, stamp_text}
 use Rattle.syslog_pieces.proofs.TimestampLemmas.Digits.{bytes_cut, bytes_front, no_bytes_front, stamp_ascii}
 use Rattle.syslog_pieces.proofs.TimestampLemmas.Rfc3339.{stamp_alone, text_long}
 use Rattle.syslog_pieces.proofs.timestamp.rfc3339_text.read.Goals as goal
@@ -16,8 +16,8 @@ split_at-requires c =
 
 pub returns-in_err-written : goal.returns-in_err-written
 returns-in_err-written c =
-    rw c.from_residual.ensures (no_bytes_front stamp_text stamp_alone stamp_ascii _ c.utf8.text
-    (rw c.as_bytes-bytes.ensures.value at c.in_err-written.ensures))
+    let n = no_bytes_front stamp_text stamp_alone stamp_ascii _ c.utf8.text
+    (rw c.as_bytes-bytes.ensures.value at c.in_err-written.ensures) in search rules
 
 pub returns : goal.returns
 returns c =
