@@ -56,7 +56,7 @@ fn spaced_word(text: &str) -> Option<(Option<&str>, &str, bool)>
     Some((name, rest, is_one_space(text, start)))
 }
 
-// The names behind the timestamp, as a line with no list and no message part yet, and the rest. Each visitor `C` has
+// The names after the timestamp, as a line with no list and no message part yet, and the rest. Each visitor `C` has
 // its own copy, which is compiled in: shared, it would be a call, and the line would go through memory.
 #[inline(always)]
 fn read_names<'a, C>(

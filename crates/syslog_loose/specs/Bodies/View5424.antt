@@ -8,7 +8,7 @@ use Rattle.syslog_pieces.specs.declared.timestamp.clock.ClockStamp.{ClockStamp}
 use Rattle.syslog_loose.specs.Bodies.Rows.{header_row, names_row}
 use Rattle.syslog_loose.specs.declared.line.Line.{Line}
 
--- blanks and such a name at the front, and what is behind them; or one of the two is not there
+-- blanks and such a name are at the front, before the rest; or one of the two is missing
 abbrev pub ReadsSpaced : (C : Class) → (Option (Bor (List ℕ)) → C.Value) → Text
     → Option (Option (Bor (List ℕ)) × Bor (List ℕ) × Bool) → Type 0
 ReadsSpaced C view text r =
