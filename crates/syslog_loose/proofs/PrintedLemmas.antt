@@ -211,7 +211,7 @@ joined : (a b c d e f g : List ℕ)
     → a ++ ((b ++ c) ++ ((d ++ (e ++ f)) ++ g)) ≡ a ++ (b ++ (c ++ (d ++ (e ++ (f ++ g)))))
 joined a b c d e f g = simp append_assoc
 
--- what is written behind the timestamp, field by field, is the encoded rest
+-- what is written after the timestamp, field by field, is the encoded rest
 pub written_rest : (host app process id elements msg : Text) (m : List ℕ) → encode_utf8_all msg ≡ m
     → (32 ∷ encode_utf8_all host) ++ (((32 ∷ encode_utf8_all app) ++ ((32 ∷ encode_utf8_all process)
     ++ (32 ∷ encode_utf8_all id))) ++ ((32 ∷ []) ++ (encode_utf8_all elements ++ (32 ∷ m))))

@@ -260,7 +260,7 @@ module _ {test : ℕ → Bool} (a : AllPlain test) {text bs xs ys : Text} (s : S
         cc (s.characters, e, f, append_assoc a (93 ∷ []) q, append_assoc (chars xs) a (93 ∷ q)) in
         meets_none _ _ _ _ (closing_goes value_on) (i (chars xs ++ a) q before k)
 
--- what is behind a unit after a run is shorter than the text
+-- what follows a unit after a run is shorter than the text
 pub unit_behind : {test : ℕ → Bool} {bs xs ys : List ℕ} (q : Text) → SplitsRun test bs xs ys → (u : TextUnit)
     → chars ys ≡ unit_text u ++ q → length q < length (chars bs)
 unit_behind {xs = xs} {ys = ys} q s (pair c) e =

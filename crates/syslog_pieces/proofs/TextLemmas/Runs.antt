@@ -174,7 +174,7 @@ pub split_at_end : (h : ℕ → Bool) (bs xs ys : List ℕ) (n : ℕ) → EndsRu
     → SplitsRun h bs xs ys
 split_at_end h bs xs ys n e f g = rw (f, g) e.1
 
--- what is behind two characters after a run is shorter than the text
+-- what follows two characters after a run is shorter than the text
 pub behind_two : {test : ℕ → Bool} {bs xs ys : List ℕ} {c d : ℕ} {q r : Text} → SplitsRun test bs xs ys → chars ys ≡ c ∷ q
     → q ≡ d ∷ r → length r < length (chars bs)
 behind_two {xs = xs} {ys = ys} s e f =
