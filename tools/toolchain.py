@@ -18,7 +18,7 @@ def toolchain():
     return module
 
 
-def linked(folder, to, skipped=None):
+def linked(folder, to):
     """Copies built or kept work, by links where that can be: it is large, and rattle never writes into a file again."""
 
     def link(source, place):
@@ -27,4 +27,4 @@ def linked(folder, to, skipped=None):
         except OSError:
             shutil.copy2(source, place)
 
-    shutil.copytree(folder, to, copy_function=link, ignore=skipped)
+    shutil.copytree(folder, to, copy_function=link)
