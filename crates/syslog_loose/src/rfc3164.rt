@@ -17,21 +17,44 @@ use crate::tag_form::tag_form;
 use syslog_pieces::structured_data::rfc3164_list::DASH_RULE;
 use syslog_pieces::structured_data::{ElementVisitor, visit_rfc3164_list};
 use syslog_pieces::text::verbatim::before;
-use syslog_pieces::text::{blanks, host_field, past_colon, tag_field};
+use syslog_pieces::text::{Field, blanks, host_field, past_colon, tag_field};
 use syslog_pieces::timestamp::ClockStamp;
 
-/// The names of a line: the host, the app name, and the text that names the process.
-pub(crate) type Names<'a> = (Option<&'a str>, Option<&'a str>, Option<&'a str>);
+/// The names of a line.
+#[derive(Clone, Copy)]
+pub(crate) struct Names<'a> {
+    pub(crate) hostname: Option<&'a str>,
+    pub(crate) appname: Option<&'a str>,
+    /// The text that names the process.
+    pub(crate) process: Option<&'a str>,
+}
+
+impl Names<'_> {
+    // All of them absent.
+    const NONE: Names<'static> = Names {
+        hostname: None,
+        appname: None,
+        process: None,
+    };
+}
 
 // A program's name beside this host.
 #[inline(always)]
 fn program<'a>(hostname: Option<&'a str>, name: &'a str) -> Names<'a>
     ensures names { NamesProgram (seen hostname.entry) (chars name.entry.now) (names_value result) }
-    ensures form { IsProcessOf (chars name.entry.now) result.2 }
+    ensures form { IsProcessOf (chars name.entry.now) result.process }
 {
     match tag_form(name) {
-        Some((tag, id)) => (hostname, Some(tag), Some(id)),
-        None => (hostname, Some(name), None),
+        Some((tag, id)) => Names {
+            hostname,
+            appname: Some(tag),
+            process: Some(id),
+        },
+        None => Names {
+            hostname,
+            appname: Some(name),
+            process: None,
+        },
     }
 }
 
@@ -41,27 +64,32 @@ fn lone<'a>(name: &'a str) -> Names<'a>
     ensures { NamesHost (chars name.entry.now) (names_value result) }
 {
     match tag_form(name) {
-        Some((tag, id)) => (None, Some(tag), Some(id)),
-        None => (Some(name), None, None),
+        Some((tag, id)) => Names {
+            hostname: None,
+            appname: Some(tag),
+            process: Some(id),
+        },
+        None => Names {
+            hostname: Some(name),
+            appname: None,
+            process: None,
+        },
     }
 }
 
-/// What the host field and the tag field mean together: each is not there, or there and empty, or a text.
+/// What the host field and the tag field mean together.
 #[inline(always)]
-pub(crate) fn resolve<'a, C>(
-    host: Option<Option<&'a str>>,
-    tag: Option<Option<&'a str>>,
-) -> Names<'a>
+pub(crate) fn resolve<'a, C>(host: Field<'a>, tag: Field<'a>) -> Names<'a>
     ensures names { spec.Resolves (field_seen host.entry) (field_seen tag.entry) (names_value result) }
-    ensures form { (name : Text) → field_seen tag.entry ≡ Some (Some name) → IsProcessOf name result.2 }
+    ensures form { (name : Text) → field_seen tag.entry ≡ Some (Some name) → IsProcessOf name result.process }
 {
     match tag {
-        None => match host {
-            Some(Some(name)) => lone(name),
-            _ => (None, None, None),
+        Field::Missing => match host {
+            Field::Name(name) => lone(name),
+            _ => Names::NONE,
         },
-        Some(None) => (None, None, None),
-        Some(Some(name)) => program(host.flatten(), name),
+        Field::Dash => Names::NONE,
+        Field::Name(name) => program(host.name(), name),
     }
 }
 
@@ -85,11 +113,10 @@ pub(crate) fn read_fields<'a, C>(text: &'a str) -> Fields<'a>
     let (tag, after_tag) = tag_field(after_host);
     let rest = blanks(past_colon(blanks(after_tag)));
     let names = resolve::<C>(host, tag);
-    let (_, _, process) = names;
     let are_printed = are_all([
-        host.is_some(),
-        tag.flatten().is_some(),
-        is_bare(process),
+        host.is_there(),
+        tag.name().is_some(),
+        is_bare(names.process),
         before(after_tag, rest) == ": ",
         true,
     ]);
@@ -115,7 +142,11 @@ pub(crate) fn read_3164<'a, C, E: ElementVisitor<'a>>(
     ensures visited { Visits E.was_given elements.old (list_elements result.list) elements.new }
 {
     let fields = read_fields::<C>(text);
-    let (hostname, appname, process) = fields.names;
+    let Names {
+        hostname,
+        appname,
+        process,
+    } = fields.names;
     let (list, after_list) = visit_rfc3164_list(fields.rest, DASH_RULE, elements);
     let is_printed = fields.are_printed & list.text().is_empty();
     Line {

@@ -305,33 +305,78 @@ pub fn tag_word(text: &str) -> Option<(Option<&str>, &str)>
     Some((named(run), rest))
 }
 
-/// The host field of RFC 3164, where a space and a host begin the text, and the text after it. The field is there and
-/// empty for `-`.
-#[inline(always)]
-pub fn host_field(text: &str) -> (Option<Option<&str>>, &str)
-    ensures { Front (optional (spaced spec.host)) (chars text.now) (shown result.1) (field_seen result.0) }
-{
-    let Some(after_space) = literal(text, ' ') else {
-        return (None, text);
-    };
-    match host(after_space) {
-        Some((name, rest)) => (Some(name), rest),
-        None => (None, text),
+/// A field of RFC 3164, which a space begins.
+#[derive(Clone, Copy)]
+pub enum Field<'a> {
+    /// There is no such field.
+    Missing,
+    /// The field is `-`, which names nothing.
+    Dash,
+    /// The field is this name.
+    Name(&'a str),
+}
+
+impl<'a> Field<'a> {
+    ghost use Rattle.std.specs.Prelude.{◌≡◌, Some};
+    ghost use Rattle.std.specs.Option.{is_some, option_flatten};
+    ghost use Rattle.syslog_pieces.specs.Words.{field_seen, seen};
+
+    // The field of a name, which is absent for `-`.
+    #[inline(always)]
+    fn of(name: Option<&'a str>) -> Field<'a>
+        ensures { field_seen result ≡ Some (seen name.entry) }
+    {
+        match name {
+            Some(name) => Field::Name(name),
+            None => Field::Dash,
+        }
+    }
+
+    /// Returns whether there is such a field.
+    #[inline(always)]
+    pub fn is_there(self) -> bool
+        ensures { result ≡ is_some (field_seen self.entry) }
+    {
+        !matches!(self, Field::Missing)
+    }
+
+    /// Returns the name, absent for `-` and where there is no field.
+    #[inline(always)]
+    pub fn name(self) -> Option<&'a str>
+        ensures { seen result ≡ option_flatten (field_seen self.entry) }
+    {
+        match self {
+            Field::Name(name) => Some(name),
+            _ => None,
+        }
     }
 }
 
-/// The tag field of RFC 3164, where a space and a tag word begin the text, and the text after it. The field is there
-/// and empty for `-`.
+/// Returns the host field of RFC 3164, where a space and a host begin the text, and the text after it.
 #[inline(always)]
-pub fn tag_field(text: &str) -> (Option<Option<&str>>, &str)
+pub fn host_field(text: &str) -> (Field<'_>, &str)
+    ensures { Front (optional (spaced spec.host)) (chars text.now) (shown result.1) (field_seen result.0) }
+{
+    let Some(after_space) = literal(text, ' ') else {
+        return (Field::Missing, text);
+    };
+    match host(after_space) {
+        Some((name, rest)) => (Field::of(name), rest),
+        None => (Field::Missing, text),
+    }
+}
+
+/// Returns the tag field of RFC 3164, where a space and a tag word begin the text, and the text after it.
+#[inline(always)]
+pub fn tag_field(text: &str) -> (Field<'_>, &str)
     ensures { Front (optional (spaced spec.tag_word)) (chars text.now) (shown result.1) (field_seen result.0) }
 {
     let Some(after_space) = literal(text, ' ') else {
-        return (None, text);
+        return (Field::Missing, text);
     };
     match tag_word(after_space) {
-        Some((tag, rest)) => (Some(tag), rest),
-        None => (None, text),
+        Some((tag, rest)) => (Field::of(tag), rest),
+        None => (Field::Missing, text),
     }
 }
 

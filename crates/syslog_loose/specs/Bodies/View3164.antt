@@ -8,11 +8,12 @@ use Rattle.syslog_loose.specs.Printed.{name_text, tag_text}
 use Rattle.syslog_loose.specs.Rfc3164.{Names3164, names, NamesByForm}
 use Rattle.syslog_loose.specs.TagForm.{IsForm}
 use Rattle.syslog_loose.specs.declared.rfc3164.Fields.{Fields}
+use Rattle.syslog_loose.specs.declared.rfc3164.Names.{Names}
 use Rattle.std.specs.Borrow.{Bor}
 use Rattle.syslog_loose.specs.Bodies.Rows.{ReadsNames, stamped_row}
 
-abbrev pub names_value : Option (Bor (List ℕ)) × Option (Bor (List ℕ)) × Option (Bor (List ℕ)) → Names3164
-names_value n = names (seen n.0) (seen n.1) (option_map named_process (seen n.2))
+abbrev pub names_value : Names → Names3164
+names_value n = names (seen n.hostname) (seen n.appname) (option_map named_process (seen n.process))
 
 abbrev pub stamped_values : Option ℕ → Option ClockStamp → Option ℕ × (Unit {0} × (Option OffsetTimestamp × Unit {0}))
 stamped_values priority timestamp = (priority, (tt, (stamp_seen timestamp, tt)))

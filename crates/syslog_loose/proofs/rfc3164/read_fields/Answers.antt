@@ -12,13 +12,19 @@ before-requires g c =
     let k = row_of (run is_blank ∷ optional (exactly colon) ∷ run is_blank ∷ [])
     (c.blanks.ensures then c.past_colon.ensures.1 then c.blanks-rest.ensures then refl) in (k.piece, k.whole)
 
--- the fields that are there
-there : (host tag : Option (Option (Bor (List ℕ)))) → is_some host ≡ true → is_some (option_flatten tag) ≡ true
-    → (origin : Option Text) × (name : Text) × (field_seen host ≡ Some origin) × (field_seen tag ≡ Some (Some name))
-there None tag e f = cc
-there (Some host) None e f = cc
-there (Some host) (Some None) e f = cc
-there (Some host) (Some (Some tag)) e f = (seen host, shown tag, refl, refl)
+-- a field that is there
+there : (field : Option (Option Text)) → is_some field ≡ true → (origin : Option Text) × (field ≡ Some origin)
+there (Some origin) e = (origin, refl)
+there None e = cc
+
+-- a field whose name is there
+named : (field : Option (Option Text)) (name : Option (Bor (List ℕ))) → seen name ≡ option_flatten field
+    → is_some name ≡ true → (text : Text) × (field ≡ Some (Some text))
+named (Some (Some text)) name e i = (text, refl)
+named (Some None) (Some s) e i = cc
+named (Some None) None e i = cc
+named None (Some s) e i = cc
+named None None e i = cc
 
 -- the fields, where they are in printed form
 pub returns : goal.returns
@@ -30,12 +36,12 @@ returns g c =
     let known : c.are_all-are_printed.result ≡ true → (chars c.args.text.now ≡ fields_before (names_value names) rest)
     × HasQuietNames (names_value names).hostname (names_value names).procid = λ e.
     (let (is_host, (is_tag, (bare, (gap, _)))) = c.are_all-are_printed.ensures e in
-    let (origin, name, is_origin, is_name) = there _ _ (sym c.is_some.ensures ∙ is_host)
-    (sym (c.is_some-2.ensures ∙ ap is_some c.flatten.ensures) ∙ is_tag) in
+    let (origin, is_origin) = there (field_seen c.host_field.result.0) (sym c.is_there.ensures ∙ is_host) in
+    let (name, is_name) = named (field_seen c.tag_field.result.0) c.name.result c.name.ensures (sym c.is_some.ensures ∙ is_tag) in
     let ascii = IsAscii-cons 58 (32 ∷ []) (omega arith) (one_ascii 32 (omega arith)) in
     let end = ap (λ (x : List ℕ). x ++ rest) (text_is _ (58 ∷ 32 ∷ []) ascii (sym gap ∙ c.eq.ensures)) in
     fields_known (rw is_origin at c.host_field.ensures) (rw is_name at c.tag_field.ensures) rest
-    (seen names.0) (seen names.1) (seen names.2) (c.before-2.ensures ∙ end)
+    (seen names.hostname) (seen names.appname) (seen names.process) (c.before-2.ensures ∙ end)
     (rw (is_origin, is_name) at c.resolve-names.ensures.names) (c.resolve-names.ensures.form name is_name)
     (c.is_bare.ensures bare)) in
     record {

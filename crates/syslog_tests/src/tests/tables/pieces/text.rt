@@ -4,8 +4,8 @@ use crate::tests::rows::{answer_of, is_text, text_of};
 use std::alloc::{AllocError, Global};
 use std::process::Abort;
 use syslog_pieces::text::{
-    CharClass, blanks, first, host, host_field, literal, number, run_end, some_blanks, split_run,
-    tag_field, tag_word, trimmed, word,
+    CharClass, Field, blanks, first, host, host_field, literal, number, run_end, some_blanks,
+    split_run, tag_field, tag_word, trimmed, word,
 };
 
 /// The longest text that is cut.
@@ -172,10 +172,11 @@ fn reads_a_host_a_word_and_a_tag_word(rt: HostRuntime) {
 }
 
 // The text of a row without a field stays whole.
-fn check_field(rt: &impl Abort, row: &str, read: (Option<Option<&str>>, &str)) {
+fn check_field(rt: &impl Abort, row: &str, read: (Field<'_>, &str)) {
     match read {
-        (Some(field), left) => check_word(rt, row, Some((field, left))),
-        (None, left) => check(rt, left == row, row),
+        (Field::Name(name), left) => check_word(rt, row, Some((Some(name), left))),
+        (Field::Dash, left) => check_word(rt, row, Some((None, left))),
+        (Field::Missing, left) => check(rt, left == row, row),
     }
 }
 
