@@ -1,11 +1,12 @@
 -- In which parts a month date is read.
 use Rattle.std.specs.Prelude.{◌≡◌, ℕ, ◌-◌, ◌≤◌, ◌==◌, ◌&&◌, if◌then◌else◌, List, [], ◌∷◌, Option, Some, None, slice_get}
-use Rattle.std.specs.Char.{to_ascii_lowercase}
 use Rattle.syslog_pieces.specs.Pieces.Class.{Class, Division, Text, Values, optional, rest, run, some_run}
 use Rattle.syslog_pieces.specs.Pri.{priority}
 use Rattle.syslog_pieces.specs.Text.{is_blank, number}
 use Rattle.syslog_pieces.specs.Timestamp.MonthDate.{month, month_names, short_number, clock_row}
 use Rattle.syslog_pieces.specs.declared.timestamp.month_date.MonthDate.{MonthDate}
+use Rattle.syslog_pieces.specs.declared.timestamp.month_date.MonthDay.{MonthDay}
+use Rattle.syslog_pieces.specs.declared.timestamp.month_date.TimeOfDay.{TimeOfDay}
 
 -- which month three small letters name
 unfoldable pub small_month : ℕ → ℕ → ℕ → Option ℕ
@@ -33,21 +34,21 @@ pub record IsNamed (a b c month : ℕ) : Type 0 where
 abbrev pub day_row : List Class
 day_row = month ∷ some_run is_blank ∷ short_number ∷ some_run is_blank ∷ []
 
-abbrev pub day_values : ℕ × ℕ → Values day_row
-day_values d = (d.0, (tt, (d.1, (tt, tt))))
+abbrev pub day_values : MonthDay → Values day_row
+day_values d = (d.month, (tt, (d.day, (tt, tt))))
 
 -- the year before blanks
 abbrev pub year_row : List Class
 year_row = number 2147483647 ∷ some_run is_blank ∷ []
 
 -- the clock, with one more colon after it or not
-abbrev pub clock_values : ℕ × ℕ × ℕ → Option (Unit {0}) → Values clock_row
-clock_values c more = (c.0, (tt, (c.1, (tt, (c.2, (more, tt))))))
+abbrev pub clock_values : TimeOfDay → Option (Unit {0}) → Values clock_row
+clock_values t more = (t.hour, (tt, (t.minute, (tt, (t.second, (more, tt))))))
 
 -- the month date of these parts
-abbrev pub date_of : Option ℕ → ℕ × ℕ → ℕ × ℕ × ℕ → MonthDate
-date_of year d c =
-    record { year = year; month = d.0; day = d.1; hour = c.0; minute = c.1; second = c.2 }
+abbrev pub date_of : Option ℕ → MonthDay → TimeOfDay → MonthDate
+date_of year d t =
+    record { year = year; month = d.month; day = d.day; hour = t.hour; minute = t.minute; second = t.second }
 
 -- ---- what a text shows
 

@@ -25,11 +25,20 @@ pub struct MonthDate {
     pub second: u32,
 }
 
-// The month and the day.
-type Day = (u32, u32);
+/// The month and the day of it.
+#[derive(Clone, Copy)]
+struct MonthDay {
+    month: u32,
+    day: u32,
+}
 
-// The hour, the minute and the second.
-type Clock = (u32, u32, u32);
+/// The hour, the minute and the second.
+#[derive(Clone, Copy)]
+struct TimeOfDay {
+    hour: u32,
+    minute: u32,
+    second: u32,
+}
 
 /// The month date at the front, with a year or without one, and the rest of the text.
 #[inline(always)]
@@ -45,7 +54,7 @@ pub fn month_date(text: &str) -> Option<(MonthDate, &str)>
 
 // Reads the rest of a month date with a year, whose day is before the text.
 #[inline(never)]
-fn dated(day: Day, text: &str) -> Option<(MonthDate, &str)>
+fn dated(day: MonthDay, text: &str) -> Option<(MonthDate, &str)>
     ensures { (whole : Text) → Front (Row parts.day_row) whole (chars text.now) (parts.day_values day)
         → NoFront (Row spec.clock_row) (chars text.now) → Reads spec.month_date (λ d. d) whole result }
 {
@@ -55,36 +64,34 @@ fn dated(day: Day, text: &str) -> Option<(MonthDate, &str)>
     Some((date_of(Some(year), day, clock), rest))
 }
 
-fn date_of(year: Option<u32>, day: Day, clock: Clock) -> MonthDate
+fn date_of(year: Option<u32>, day: MonthDay, clock: TimeOfDay) -> MonthDate
     ensures { result ≡ parts.date_of year day clock }
 {
-    let (month, day) = day;
-    let (hour, minute, second) = clock;
     MonthDate {
         year,
-        month,
-        day,
-        hour,
-        minute,
-        second,
+        month: day.month,
+        day: day.day,
+        hour: clock.hour,
+        minute: clock.minute,
+        second: clock.second,
     }
 }
 
 // Reads the month and the day, and the blanks after each.
 #[inline(always)]
-fn read_day(text: &str) -> Option<(Day, &str)>
+fn read_day(text: &str) -> Option<(MonthDay, &str)>
     ensures { Reads (Row parts.day_row) parts.day_values (chars text.now) result }
 {
     let (month, behind) = read_month(text)?;
     let rest = some_blanks(behind)?;
     let (day, rest) = number(rest, u32::MAX)?;
     let rest = some_blanks(rest)?;
-    Some(((month, day), rest))
+    Some((MonthDay { month, day }, rest))
 }
 
 // Reads hour, minute and second, and the colon after them if there is one.
 #[inline(always)]
-fn read_clock(text: &str) -> Option<(Clock, &str)>
+fn read_clock(text: &str) -> Option<(TimeOfDay, &str)>
     ensures { MatchOption result
         (NoFront (Row spec.clock_row) (chars text.now))
         (λ x. (more : Option (Unit {0}))
@@ -95,7 +102,12 @@ fn read_clock(text: &str) -> Option<(Clock, &str)>
     let (minute, rest) = number(rest, u32::MAX)?;
     let rest = literal(rest, ':')?;
     let (second, rest) = number(rest, u32::MAX)?;
-    Some(((hour, minute, second), past_colon(rest)))
+    let clock = TimeOfDay {
+        hour,
+        minute,
+        second,
+    };
+    Some((clock, past_colon(rest)))
 }
 
 // The number of the month that the text begins with the name of, which has three letters.
