@@ -1,5 +1,5 @@
 -- The words of std, jiff and this crate that several clauses cite, passed on from one place. Declares nothing.
-pub use Rattle.jiff.specs.Words.{IsCivilNanos, IsDate, IsHms, IsOffsetSeconds, IsTime, IsTimestampNanos, IsYmd}
+pub use Rattle.jiff.specs.Words.{IsCivilNanos, IsOffsetSeconds, IsTimestampNanos}
 pub use Rattle.jiff.specs.Words.{ambiguous_at, nanos_of_seconds, plain_zone}
 pub use Rattle.std.specs.Char.{IsAsciiDigit, is_ascii_digit, is_not_whitespace}
 pub use Rattle.std.specs.Fmt.{WritesOnOk}

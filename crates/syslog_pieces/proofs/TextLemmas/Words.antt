@@ -247,28 +247,28 @@ pub some_char : (t : Text) → (t ≡ [] → ⊥) → 0 < length t
 some_char [] n = absurd (n refl)
 some_char (c ∷ t) n = omega arith
 
--- what the test rests on whether a text has a character and each is of a class
-pub ruleset both_told = (false_is, last_is, some_char)
-
--- ---- ends and runs
-
 pub end_told : (bs : List ℕ) (b : Bool) → IsUtf8 bs → b ≡ nat_eq (length bs) 0 → IsTrue b ↔ (chars bs ≡ [])
 end_told [] b u e = ((λ h. chars-nil), (λ h. e))
 end_told (x ∷ bs) b u e =
     (λ h. absurd (let z = eqb-true (length (x ∷ bs)) 0 (sym e ∙ h) in omega arith)) also
     (λ h. absurd (let l = chars_nonempty (x ∷ bs) u (omega arith) in omega (arith, ap length h)))
 
+-- what the test rests on whether a text has a character and each is of a class
+pub ruleset both_told = (false_is, last_is, some_char, end_told)
+
 module _ (test : ℕ → Bool) (bs xs ys : List ℕ) (s : SplitsRun test bs xs ys) (b : Bool) where
   -- nothing is left after the run
-  pub only_told : IsTrue b ↔ (chars ys ≡ []) → IsTrue b ↔ Each test (chars bs)
-  only_told e =
+  pub only_told : b ≡ nat_eq (length ys) 0 → IsTrue b ↔ Each test (chars bs)
+  only_told empty =
+      let e = end_told ys b s.back_utf8 empty in
       let whole = sym (append-nil (chars bs)) in
       (λ h. rw (s.characters, e.0 h, append-nil) s.each) also (λ h. e.1 (rest_same (chars xs) (chars ys) (chars bs) []
       (sym s.characters ∙ whole) (sym (run_is test bs xs ys s (chars bs) [] whole h tt))))
 
   -- and the run itself is empty
-  pub none_told : IsTrue b ↔ (chars xs ≡ []) → IsTrue b ↔ Ends test (chars bs)
-  none_told e = (λ h. rw (s.characters, e.0 h) s.ends) also
+  pub none_told : b ≡ nat_eq (length xs) 0 → IsTrue b ↔ Ends test (chars bs)
+  none_told empty =
+      let e = end_told xs b s.front_utf8 empty in (λ h. rw (s.characters, e.0 h) s.ends) also
       (λ h. e.1 (sym (run_is test bs xs ys s [] (chars bs) refl tt h)))
 
 -- ---- readers that take the whole of a text

@@ -5,6 +5,7 @@ ghost use Rattle.syslog_pieces.specs.StructuredData.Escapes.{pair_meaning, IsUne
 use crate::text::{CharClass, first, split_run};
 use std::alloc::{AllocError, Global};
 
+// Two functions of their own, so that their clauses speak of characters where `push` and `push_str` speak of bytes.
 fn push_char(out: &mut String, c: char) -> Result<(), AllocError>
     ensures { IfOk result (λ _. chars (string_bytes out.new) ≡ chars (string_bytes out.old) ++ (c ∷ [])) }
 {

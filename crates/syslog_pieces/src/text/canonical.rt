@@ -7,20 +7,12 @@ ghost use Rattle.syslog_pieces.specs.Text.Canonical.{IsCanonicalHost, IsCanonica
 
 use super::{CharClass, host, split_run, tag_word, word};
 
-/// Whether no character is left.
-#[tactic(auto, using(crate::proofs::TextLemmas::Words::end_told))]
-pub(crate) fn is_end(text: &str) -> bool
-    ensures { IsTrue result ↔ (chars text.now ≡ []) }
-{
-    text.is_empty()
-}
-
 /// Whether each character of the text is of the class.
 pub fn is_only(text: &str, class: CharClass) -> bool
     ensures { IsTrue result ↔ Each (has class) (chars text.now) }
 {
     let (_, rest) = split_run(text, class);
-    is_end(rest)
+    rest.is_empty()
 }
 
 /// Whether the text has a character, and each is of the class.
@@ -28,14 +20,15 @@ pub fn is_only(text: &str, class: CharClass) -> bool
 pub fn is_some_of(text: &str, class: CharClass) -> bool
     ensures { IsTrue result ↔ ((0 < length (chars text.now)) × Each (has class) (chars text.now)) }
 {
-    !is_end(text) && is_only(text, class)
+    !text.is_empty() && is_only(text, class)
 }
 
 // Whether a reader has taken the whole text for a name.
+#[tactic(auto, using(crate::proofs::TextLemmas::Words::end_told))]
 fn is_whole(read: Option<(Option<&str>, &str)>) -> bool
     ensures { IsTrue result ↔ IsSomeAnd read.entry (λ x. IsSomeAnd x.0 (λ _. shown x.1 ≡ [])) }
 {
-    matches!(read, Some((Some(_), rest)) if is_end(rest))
+    matches!(read, Some((Some(_), rest)) if rest.is_empty())
 }
 
 /// Whether the reader of hosts takes the whole text for a host.
@@ -57,7 +50,7 @@ pub fn begins_unblank(text: &str) -> bool
     ensures { IsTrue result ↔ Ends is_blank (chars text.now) }
 {
     let (blanks, _) = split_run(text, CharClass::Blank);
-    is_end(blanks)
+    blanks.is_empty()
 }
 
 /// Whether the reader of tag words takes the whole text for a tag.

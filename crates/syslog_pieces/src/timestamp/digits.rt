@@ -131,7 +131,7 @@ fn many_decimals(text: &[u8]) -> Option<(u32, &[u8])>
     Some((nanosecond, rest))
 }
 
-// How many digits the text begins with.
+// How many digits the text begins with. A function of its own, so that its clauses speak of bytes, and not of items.
 fn digits_len(text: &[u8]) -> usize
     ensures len { result ≡ prefix_len is_ascii_digit text.now }
     ensures within { result ≤ length text.now }

@@ -1,6 +1,6 @@
 //! Civil fields as numbers, and the datetime that they name.
 ghost use Rattle.std.specs.Prelude.{◌≡◌, ◌<◌, ◌^◌, pos, IsNone, IfSome, SomeIff, FitsSigned};
-ghost use Rattle.syslog_pieces.specs.Words.{w16, IsDate, IsYmd, IsTime, IsHms, AreCivil, fields_of};
+ghost use Rattle.syslog_pieces.specs.Words.{w16, AreCivil, fields_of};
 
 use jiff::civil::DateTime;
 
@@ -29,7 +29,7 @@ impl CivilFields {
         let minute = small(self.minute)?;
         let second = small(self.second)?;
         let nanosecond = nanosecond_number(self.nanosecond)?;
-        datetime_of(year, month, day, hour, minute, second, nanosecond)
+        DateTime::new(year, month, day, hour, minute, second, nanosecond).ok()
     }
 }
 
@@ -48,23 +48,7 @@ pub(crate) fn datetime_fields(dt: DateTime) -> CivilFields
     }
 }
 
-fn datetime_of(
-    year: i16,
-    month: i8,
-    day: i8,
-    hour: i8,
-    minute: i8,
-    second: i8,
-    nanosecond: i32,
-) -> Option<DateTime>
-    ensures value { IfSome result
-        (λ dt. IsYmd year month day dt.date × IsHms hour minute second nanosecond dt.time) }
-    ensures none { IsNone result
-        → ¬ (IsDate year month day × IsTime hour minute second nanosecond) }
-{
-    DateTime::new(year, month, day, hour, minute, second, nanosecond).ok()
-}
-
+// A function of its own, as the two below: beside seven `Result`s the prover would not find that there is no datetime.
 fn year_number(n: i32) -> Option<i16>
     ensures { SomeIff result (FitsSigned w16 n) n }
 {

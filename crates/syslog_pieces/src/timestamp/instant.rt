@@ -95,8 +95,11 @@ impl ClockStamp {
     pub fn stamp(self) -> OffsetTimestamp
         ensures { result ≡ clock_value self }
     {
+        let Ok(instant) = Timestamp::from_nanosecond(nanosecond(self.fields, self.offset)) else {
+            unreachable!()
+        };
         OffsetTimestamp {
-            instant: instant_of(nanosecond(self.fields, self.offset)),
+            instant,
             offset: self.offset,
         }
     }
@@ -152,16 +155,6 @@ fn second_at(days: u32, clock: u32, offset: i32) -> i64
     shown as i64 - EPOCH - i64::from(offset)
 }
 
-fn instant_of(nanosecond: i128) -> Timestamp
-    requires { IsTimestampNanos nanosecond }
-    ensures { result.nanosecond ≡ nanosecond }
-{
-    match Timestamp::from_nanosecond(nanosecond) {
-        Ok(instant) => instant,
-        Err(_) => unreachable!(),
-    }
-}
-
 // The days since 1 January of the year -10000.
 fn days(year: i32, month: u32, day: u32) -> u32
     requires from { neg_ℤ (pos 9999) ≤ℤ year }
@@ -179,7 +172,7 @@ fn days(year: i32, month: u32, day: u32) -> u32
     }
 }
 
-// The years since the year -10000.
+// The years since the year -10000. A function of its own, so that its clause speaks of a number where a cast has bits.
 fn years(year: i32) -> u32
     requires from { neg_ℤ (pos 9999) ≤ℤ year }
     requires to { year ≤ℤ pos 9999 }

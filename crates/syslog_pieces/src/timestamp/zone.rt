@@ -5,8 +5,7 @@
 //! choice, as the crate's documents have it.) No conversion here takes memory.
 ghost use Rattle.std.specs.Prelude.{◌≡◌, Some, pos, ◌<ℤ◌, IfSome, IsNone, option_map};
 ghost use Rattle.syslog_pieces.specs.Words.{plain_zone, ambiguous_at, IsAnswer, clock_value, fields_of};
-ghost use Rattle.syslog_pieces.specs.Bodies.Clock.{zone_of as one_zone, IsStampOfFields, civil_of};
-ghost use Rattle.syslog_pieces.specs.Bodies.Clock.{year_of as shown_year};
+ghost use Rattle.syslog_pieces.specs.Bodies.Clock.{year_of as shown_year, IsStampOfFields};
 ghost use Rattle.syslog_pieces.specs.Timestamp.Zone as spec;
 
 use super::ClockStamp;
@@ -36,27 +35,7 @@ pub fn month_stamp(date: MonthDate, dating: &Dating<'_, '_>) -> Option<ClockStam
     ensures { IsAnswer (spec.IsMonthStamp (spec.dating_value dating.entry.now) date) result }
 {
     let year = year_of(date, dating.year)?;
-    let fields = fields_in(date, year);
-    // Most zones that a filter is given have one offset.
-    match zone_of(dating).to_fixed_offset() {
-        Ok(offset) => clock_stamp(fields, offset),
-        Err(_) => of_fields(fields, dating.tz, dating.local),
-    }
-}
-
-// The zone that is given, or else the local one.
-fn zone_of<'a, 'z>(dating: &Dating<'a, 'z>) -> &'a TimeZone<'z>
-    ensures { plain_zone result.now
-        ≡ one_zone (spec.dating_value dating.entry.now).zone (spec.dating_value dating.entry.now).local }
-{
-    dating.tz.unwrap_or(dating.local)
-}
-
-// The civil fields of the month date in a year.
-fn fields_in(date: MonthDate, year: i32) -> CivilFields
-    ensures { result ≡ civil_of date year }
-{
-    CivilFields {
+    let fields = CivilFields {
         year,
         month: date.month,
         day: date.day,
@@ -64,6 +43,11 @@ fn fields_in(date: MonthDate, year: i32) -> CivilFields
         minute: date.minute,
         second: date.second,
         nanosecond: 0,
+    };
+    // Most zones that a filter is given have one offset.
+    match dating.tz.unwrap_or(dating.local).to_fixed_offset() {
+        Ok(offset) => clock_stamp(fields, offset),
+        Err(_) => of_fields(fields, dating.tz, dating.local),
     }
 }
 

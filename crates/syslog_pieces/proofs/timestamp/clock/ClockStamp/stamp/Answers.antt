@@ -5,4 +5,4 @@ use Rattle.syslog_pieces.proofs.timestamp.clock.ClockStamp.stamp.Goals as goal
 pub returns : goal.returns
 returns c =
     let fits : FitsSigned w128 c.nanosecond.result = search rules in
-    same_timestamp _ _ ((simp to_z-of_z at c.instant_of.ensures) ∙ c.nanosecond.ensures) refl
+    same_timestamp _ _ ((simp to_z-of_z at c.in-Ok.ensures.value) ∙ c.nanosecond.ensures) refl
