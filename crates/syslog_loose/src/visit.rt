@@ -5,8 +5,6 @@
 ghost use Rattle.std.specs.Prelude.{◌≡◌, ◌≢◌};
 ghost use Rattle.syslog_loose.specs.Words.{IfSome, IsSome, MatchOption, None, chars, Text, shown, list_elements};
 ghost use Rattle.syslog_loose.specs.Words.{Visits, header_stamp, stamp_seen, dating_of, MonthDate, month_date};
-ghost use Rattle.std.specs.Bool.{OnFalse};
-ghost use Rattle.syslog_pieces.specs.Bodies.Looks.{EndsDigits};
 ghost use Rattle.syslog_pieces.specs.Text.{trimmed as trimmed_text};
 ghost use Rattle.syslog_pieces.specs.Timestamp.Zone.{Dating as AnyDating};
 ghost use Rattle.syslog_loose.specs.declared.variant.Variant.TheVariants.{RFC3164};
@@ -23,7 +21,7 @@ use jiff::tz::TimeZone;
 use std::mem::drop;
 use syslog_pieces::pri::optional_priority;
 use syslog_pieces::structured_data::{ElementVisitor, NoElements};
-use syslog_pieces::text::{blanks, trimmed};
+use syslog_pieces::text::{begins_with_digit, blanks, trimmed};
 use syslog_pieces::timestamp::month_date::{MonthDate, month_date};
 use syslog_pieces::timestamp::zone::{Dating, month_stamp};
 use syslog_pieces::timestamp::{ClockStamp, header_stamp};
@@ -43,14 +41,6 @@ pub trait LineVisitor<'a> {
         ensures { makes self.old line.now result self.new };
 }
 
-// Whether a digit begins the text, as a version does.
-#[inline(always)]
-fn begins_version(text: &str) -> bool
-    ensures { OnFalse result (EndsDigits text.now) }
-{
-    matches!(text.as_bytes(), [b'0'..=b'9', ..])
-}
-
 // What is made of a line of RFC 5424, from after its priority on; none where the variant reads no such lines, or the text
 // is none. Where no version begins it, that is found before the call.
 #[inline(always)]
@@ -68,7 +58,7 @@ fn visit_5424<'a, E: ElementVisitor<'a>, V: LineVisitor<'a>>(
     if !variant.reads_rfc5424() {
         return None;
     }
-    if !begins_version(text) {
+    if !begins_with_digit(text.as_bytes()) {
         return None;
     }
     visit_versioned(priority, text, elements, visitor)

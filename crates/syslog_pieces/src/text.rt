@@ -19,8 +19,8 @@ pub mod verbatim;
 pub mod write_ascii;
 
 use lanes::visible_front;
-pub(crate) use looks::begins_with_digit;
-use looks::{begins_visibly, begins_with, begins_with_gap, ends_in_colon};
+pub use looks::{begins_with_digit, ends_in_colon};
+use looks::{begins_visibly, begins_with, begins_with_gap};
 use numerals::{number_of_digits, small_digits};
 use scan::{ascii_run, is_cut, is_in};
 

@@ -1,5 +1,5 @@
 //! Host, app name, process id and message id, as RFC 5424 has them.
-ghost use Rattle.std.specs.Prelude.{◌≡◌, ◌≢◌, ◌⊎◌, ◌<◌, [], ◌∷◌, ◌++◌, ℕ, List, MatchBool, OnOk, if◌then◌else◌};
+ghost use Rattle.std.specs.Prelude.{◌≡◌, ◌≢◌, ◌⊎◌, ◌<◌, [], MatchBool, OnOk, if◌then◌else◌};
 ghost use Rattle.std.specs.Option.{option_and_then, option_map};
 ghost use Rattle.std.specs.Fmt.{signed_decimal};
 ghost use Rattle.std.specs.Str.{chars};
@@ -15,7 +15,7 @@ use crate::text::{Kept, is_kept, push_char, push_cleaned, push_text};
 use std::alloc::{AllocError, Global};
 use syslog_pieces::as_str::is_same_text;
 use syslog_pieces::procid::{ProcId, is_bare_word};
-use syslog_pieces::text::first;
+use syslog_pieces::text::{ends_in_colon, first};
 
 // How many characters a host has at most, and a process id.
 const HOST: usize = 255;
@@ -55,14 +55,6 @@ fn is_no_text(text: &str) -> bool
         Some(_) => false,
         None => true,
     }
-}
-
-#[inline(always)]
-fn ends_in_colon(bytes: &[u8]) -> bool
-    ensures { MatchBool result ((front : List ℕ) × (bytes.now ≡ front ++ (58 ∷ [])))
-        ((front : List ℕ) → bytes.now ≢ front ++ (58 ∷ [])) }
-{
-    matches!(bytes, [.., b':'])
 }
 
 // Appends the text of a host character by character.

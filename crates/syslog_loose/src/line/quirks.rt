@@ -1,7 +1,7 @@
 //! The quirks, tested on the fields of a line. What was read as RFC 3164 meets all else of the written condition but for
 //! an absent facility and severity, so without a quirk its printed text is settled. The tests look at a few bytes.
-ghost use Rattle.std.specs.Prelude.{◌≡◌, ◌≢◌, ◌↔◌, ◌++◌, ◌∷◌};
-ghost use Rattle.syslog_loose.specs.Words.{[], ℕ, List, IfSome, IsTrue, MatchBool, option_map, seen, shown};
+ghost use Rattle.std.specs.Prelude.{◌≡◌, ◌≢◌, ◌↔◌};
+ghost use Rattle.syslog_loose.specs.Words.{IfSome, IsTrue, MatchBool, option_map, seen, shown};
 ghost use Rattle.syslog_loose.specs.Words.{procid_value, EndsInColon, dash};
 ghost use Rattle.syslog_loose.specs.Exceptions as spec;
 ghost use Rattle.syslog_loose.specs.Clauses.{line_value, dash_rule};
@@ -9,6 +9,7 @@ ghost use Rattle.syslog_loose.specs.Clauses.{line_value, dash_rule};
 use super::Line;
 use crate::message::begins_no_list;
 use syslog_pieces::procid::ProcId;
+use syslog_pieces::text::ends_in_colon;
 use syslog_pieces::timestamp::canonical::is_canonical_clock;
 
 /// Whether the line has no quirk.
@@ -34,21 +35,13 @@ fn has_no_odd_host(host: Option<&str>) -> bool
         × IfSome (seen host.entry) (λ h. EndsInColon h → ⊥)) }
 {
     match host {
-        Some(name) => !ends_in_colon(name) && is_no_dash(name),
+        Some(name) => !ends_in_colon(name.as_bytes()) && is_no_dash(name),
         None => true,
     }
 }
 
-// Whether the last byte is that of a colon.
-#[inline(always)]
-fn ends_in_colon(name: &str) -> bool
-    ensures { MatchBool result ((front : List ℕ) × (name.now ≡ front ++ (58 ∷ [])))
-        ((front : List ℕ) → name.now ≢ front ++ (58 ∷ [])) }
-{
-    matches!(name.as_bytes(), [.., b':'])
-}
-
-// Whether the bytes are not those of `-`.
+// Whether the bytes are not those of `-`. A function of its own, so that its caller rests on one fact about the text,
+// not on each arm of `matches!`.
 #[inline(always)]
 fn is_no_dash(name: &str) -> bool
     ensures { MatchBool result (name.now ≢ dash) (name.now ≡ dash) }

@@ -28,16 +28,17 @@ pub(crate) fn begins_with_gap(bytes: &[u8]) -> bool
 }
 
 /// Whether the last byte is that of a colon.
-pub(crate) fn ends_in_colon(bytes: &[u8]) -> bool
+#[inline(always)]
+pub fn ends_in_colon(bytes: &[u8]) -> bool
     ensures { MatchBool result ((front : List ℕ) × (bytes.now ≡ front ++ (58 ∷ [])))
         ((front : List ℕ) → bytes.now ≢ front ++ (58 ∷ [])) }
 {
     matches!(bytes, [.., b':'])
 }
 
-/// Whether a digit begins the bytes.
+/// Whether an ASCII digit begins the bytes. The clause says what `false` means: none does.
 #[inline(always)]
-pub(crate) fn begins_with_digit(bytes: &[u8]) -> bool
+pub fn begins_with_digit(bytes: &[u8]) -> bool
     ensures { OnFalse result (spec.EndsDigits bytes.now) }
 {
     matches!(bytes, [b'0'..=b'9', ..])
