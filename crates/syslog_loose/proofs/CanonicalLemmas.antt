@@ -14,6 +14,7 @@ use Rattle.syslog_loose.proofs.Names.{AreNamesButExceptions, HasExceptionsAlone,
 use Rattle.syslog_loose.proofs.Names.{each_both, each_left, each_right, each_map, is_not_whitespace, IfSome_then}
 use Rattle.syslog_loose.proofs.Names.{SyslogFacility, SyslogSeverity}
 use Rattle.syslog_loose.proofs.Names.{trim_end, NonePass, same_chars, end_trimmed_chars, no_list_is, dash_ascii}
+use Rattle.syslog_pieces.proofs.Names.{common_steps}
 use Rattle.syslog_pieces.proofs.TextLemmas.Runs.{from_not_true}
 use Rattle.std.proofs.lemmas.Bool.{and_from, and_parts}
 use Rattle.syslog_loose.proofs.PrintedLemmas.{drop_none, drop_ends}
@@ -41,6 +42,8 @@ no_items f xs n = ap (map f) (nil_from_length xs (omega (arith, n)))
 
 pub some_items : {X Y : Type 0} (f : X → Y) (xs : List X) → 0 < length xs → map f xs ≡ [] → ⊥
 some_items f xs h e = omega (arith, length-map xs f, ap length e)
+
+pub ruleset emptiness = (no_items, some_items, common_steps)
 
 -- a message that begins no list
 pub no_list_told : (rule : DashRule) (t : Text) (b : Bool) → MatchBool b (NoFront (rfc3164_list rule) t → ⊥)

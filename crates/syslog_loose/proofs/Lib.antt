@@ -1,4 +1,5 @@
 pub mod CanonicalLemmas
+pub mod EqualityLemmas
 pub mod DashChangeLemmas
 pub mod Names
 pub mod PrintedLemmas

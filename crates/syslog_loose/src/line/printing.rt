@@ -4,7 +4,7 @@
 ghost use Rattle.std.specs.Prelude.{◌≡◌, ◌++◌};
 ghost use Rattle.syslog_loose.specs.Words.{OnOk, Some, string_bytes, WritesOnOk, encode_utf8_all, list_elements};
 ghost use Rattle.syslog_pieces.specs.Front.{ascii_bytes, front_text};
-ghost use Rattle.syslog_loose.specs.Clauses.{printed_number, line_value, KnowsForm, elements_text, printed, rest_3164};
+ghost use Rattle.syslog_loose.specs.Clauses.{printed_number, line_value, KnowsForm, printed, rest_3164};
 ghost use Rattle.syslog_loose.specs.Clauses.{rest_5424, rest_text, spaced_elements};
 
 use super::Line;
@@ -56,7 +56,7 @@ fn write_rest_5424<W: fmt::Write>(f: &mut fmt::Formatter<W>, line: &Line<'_>) ->
     write_name(f, &line.hostname)?;
     write_program(f, &line.appname, &process, &line.msgid)?;
     f.write_str(" ")?;
-    write_list(f, &line.list)?;
+    line.list.fmt(f)?;
     write_spaced(f, msg)
 }
 
@@ -83,17 +83,8 @@ fn write_list_before<W: fmt::Write>(
     if list.is_empty() {
         return Ok(());
     }
-    write_list(f, list)?;
+    list.fmt(f)?;
     f.write_str(" ")
-}
-
-// Writes the elements as they print, or `-` where there are none.
-#[inline(always)]
-fn write_list<W: fmt::Write>(f: &mut fmt::Formatter<W>, list: &ElementList<'_>) -> fmt::Result
-    ensures { WritesOnOk W.write_str_gives f.old result
-        (encode_utf8_all (elements_text (list_elements list.now))) f.new }
-{
-    list.fmt(f)
 }
 
 /// Prints the line into `text`, instead of what was there. It allocates only if the text has too little capacity.

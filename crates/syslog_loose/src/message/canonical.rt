@@ -42,10 +42,12 @@ pub(crate) struct Fields<'a, S> {
 impl<S: AsStr> Message<S> {
     /// Whether the message is read back unchanged from its printed text, by its own protocol. It looks at the fields
     /// alone: it prints nothing and takes no memory, and its time is linear in the message.
+    #[tactic(auto, using(crate::proofs::CanonicalLemmas::emptiness))]
     pub fn is_canonical(&self) -> bool
         ensures { IsTrue result ↔ spec.IsCanonical dash_rule (message_value (text_of S.text) self.now) }
     {
-        if !are_canonical_elements(&self.structured_data) {
+        let elements = self.structured_data.as_slice();
+        if !are_canonical_elements(elements) {
             return false;
         }
         are_canonical_fields(&Fields {
@@ -58,8 +60,8 @@ impl<S: AsStr> Message<S> {
             procid: &self.procid,
             msgid: &self.msgid,
             msg: &self.msg,
-            no_elements: has_none(&self.structured_data),
-            have_params: have_params(&self.structured_data),
+            no_elements: elements.is_empty(),
+            have_params: have_params(elements),
         })
     }
 }
@@ -85,15 +87,9 @@ fn are_canonical_in_both<S: AsStr>(fields: &Fields<'_, S>) -> bool
 {
     fields.facility.is_some()
         && fields.severity.is_some()
-        && is_canonical_time(fields.timestamp)
+        && fields.timestamp.is_none_or(is_canonical_stamp)
         && is_canonical_name(fields.hostname)
         && is_canonical_msg(fields.msg.as_str())
-}
-
-pub(crate) fn is_canonical_time(timestamp: Option<OffsetTimestamp>) -> bool
-    ensures { IsTrue result ↔ IfSome timestamp spec.IsCanonicalStamp }
-{
-    timestamp.is_none_or(is_canonical_stamp)
 }
 
 fn is_canonical_name<S: AsStr>(host: &Option<S>) -> bool
@@ -106,13 +102,7 @@ fn is_canonical_name<S: AsStr>(host: &Option<S>) -> bool
 fn is_canonical_msg(msg: &str) -> bool
     ensures { IsTrue result ↔ (Ends is_blank (chars msg.now) × spec.EndsVisibly (chars msg.now)) }
 {
-    begins_unblank(msg) && ends_visibly(msg)
-}
-
-fn ends_visibly(text: &str) -> bool
-    ensures { IsTrue result ↔ spec.EndsVisibly (chars text.now) }
-{
-    text.trim_end() == text
+    begins_unblank(msg) && msg.trim_end() == msg
 }
 
 // What RFC 5424 asks beyond that.
@@ -120,7 +110,9 @@ fn are_canonical_rfc5424<S: AsStr>(fields: &Fields<'_, S>) -> bool
     ensures { (es : List ElementValue) → IsTrue result
         ↔ spec.IsCanonical5424 (fields_value (text_of S.text) fields.now es) }
 {
-    is_word(fields.appname) && is_process(fields.procid) && is_word(fields.msgid)
+    is_word(fields.appname)
+        && fields.procid.as_ref().is_none_or(is_canonical_process)
+        && is_word(fields.msgid)
 }
 
 fn is_word<S: AsStr>(word: &Option<S>) -> bool
@@ -128,12 +120,6 @@ fn is_word<S: AsStr>(word: &Option<S>) -> bool
 {
     word.as_ref()
         .is_none_or(|word| is_canonical_word(word.as_str()))
-}
-
-fn is_process<S: AsStr>(process: &Option<ProcId<S>>) -> bool
-    ensures { IsTrue result ↔ IfSome (option_map (procid_value (text_of S.text)) process.now) spec.IsCanonicalProcess }
-{
-    process.as_ref().is_none_or(is_canonical_process)
 }
 
 // What RFC 3164 asks beyond that.
@@ -235,14 +221,6 @@ fn have_params<S: AsStr>(elements: &[StructuredElement<S>]) -> bool
         }
     }
     true
-}
-
-#[tactic(auto, using(crate::proofs::CanonicalLemmas::no_items, crate::proofs::CanonicalLemmas::some_items))]
-fn has_none<S: AsStr>(elements: &[StructuredElement<S>]) -> bool
-    ensures { MatchBool result (map (element_value (text_of S.text)) elements.now ≡ [])
-        (map (element_value (text_of S.text)) elements.now ≢ []) }
-{
-    elements.is_empty()
 }
 
 /// Whether the message part is not taken for a list, where there is no element before it.

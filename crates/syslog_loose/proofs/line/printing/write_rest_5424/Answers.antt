@@ -10,7 +10,7 @@ returns g c canonical ok =
     let host = c.in_ok-write_name.ensures canonical refl in
     let program = rw c.process-process.ensures at c.in_ok-write_program.ensures host.plain refl in
     let space = c.in_ok-write_str.ensures.writes program.plain refl in
-    let list = c.in_ok-write_list.ensures space.plain refl in
+    let list = c.in_ok-fmt.ensures.writes space.plain refl in
     let rest = put_two _ _ _ _ _ _ _ list (c.write_spaced.ensures list.plain ok) refl in
     put_four _ _ _ _ _ _ _ _ _ _ _ host program space rest
     (written_rest (name_text (seen line.hostname)) (name_text (seen line.appname))
