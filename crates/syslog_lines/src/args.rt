@@ -8,16 +8,10 @@ pub fn read_year(text: &str) -> Option<i32>
     ensures { MatchOption result (¬ (IsYear text.now))
         (λ year. IsYear text.now × (year ≡ pos (digits_value 10 text.now))) }
 {
-    if !is_year(text) {
+    if !(1..=4).contains(&text.len()) || !text.bytes().all(|byte| byte.is_ascii_digit()) {
         return None;
     }
     text.parse::<i32>().ok()
-}
-
-fn is_year(text: &str) -> bool
-    ensures { IsTrue result ↔ IsYear text.now }
-{
-    (1..=4).contains(&text.len()) && text.bytes().all(|byte| byte.is_ascii_digit())
 }
 
 /// Returns the year that these words name: the one word, or the word after `--`. None for all other words.

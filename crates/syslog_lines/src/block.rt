@@ -156,21 +156,5 @@ fn read_into<R: Read>(reader: &mut Watched<R>, bytes: &mut Vec<u8>, at: usize) -
     ensures err { OnErr result (reader.new.failed ≡ true) }
     ensures unchanged { OnErr result (Keeps (R.remaining reader.old.inner) (R.remaining reader.new.inner)) }
 {
-    read_at(reader, bytes.as_mut_slice(), at)
-}
-
-// Reads once into the buffer, from a place on.
-fn read_at<R: Read>(reader: &mut Watched<R>, buffer: &mut [u8], at: usize) -> io::Result<usize>
-    requires { at < length buffer.old }
-    ensures front { take at buffer.new ≡ take at buffer.old }
-    ensures fits { IfOk result (λ count. at + count ≤ length buffer.new) }
-    ensures ok { IfOk result (λ count. Consumes (R.remaining reader.old.inner) (R.remaining reader.new.inner)
-        (take count (drop at buffer.new))) }
-    ensures end { IfOk result (λ count. count ≡ 0 → IsAtEnd (R.remaining reader.new.inner)) }
-    ensures well { OnOk result (reader.new.failed ≡ reader.old.failed) }
-    ensures counted { OnOk result ((reader.old.calls < u64.MAX) × (reader.new.calls ≡ reader.old.calls + 1)) }
-    ensures err { OnErr result (reader.new.failed ≡ true) }
-    ensures unchanged { OnErr result (Keeps (R.remaining reader.old.inner) (R.remaining reader.new.inner)) }
-{
-    reader.read(&mut buffer[at..])
+    reader.read(&mut bytes[at..])
 }

@@ -1,12 +1,12 @@
 use Rattle.syslog_lines.proofs.Names.{length, get_or, digits_value_short, numerals_by_value, tells_by_index, IsInRange}
-use Rattle.syslog_lines.proofs.Names.{ℕ, ◌<◌, arith, refl, w32, IsYear}
+use Rattle.syslog_lines.proofs.Names.{ℕ, ◌<◌, arith, rules, refl, w32, IsYear}
 use Rattle.std.{proofs.lemmas.Result.Ok-from_Ok_iff, proofs.lemmas.Str.Parse.parse_signed_digits}
 use Rattle.syslog_lines.proofs.args.read_year.Goals as goal
 
 pub returns : goal.returns
 returns c =
     let text = c.args.text.now in
-    let is_year : IsYear text = c.is_year.ensures.0 c.if-not-is_year.false in
+    let is_year : IsYear text = search rules in
     let digits : (i : ℕ) → i < length text → IsInRange 48 57 (get_or text i 0) = λ i within. is_year.2 i 0 within in
     let by_index = numerals_by_value (λ ds. (i : ℕ) → i < length ds → IsInRange 48 57 (get_or ds i 0)) tells_by_index in
     let small = digits_value_short by_index text 4 digits (omega (arith, is_year.1)) in
