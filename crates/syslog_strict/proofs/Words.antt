@@ -2,7 +2,7 @@
 pub use Rattle.std.proofs.Common.{◌≡◌, ◌≢◌, ◌⊎◌, inl, inr, ℕ, ℤ, ◌<◌, ◌+ℤ◌, Bool, true, false, List, [], ◌∷◌, ◌++◌}
 pub use Rattle.std.proofs.Common.{length, map, nat_eq, Option, Some, None, refl, sym, ap, ap₂, subst, ◌∙◌, arith}
 pub use Rattle.std.proofs.Common.{append-nil, if◌then◌else◌, ◌%◌, unsigned_abs, IfSome, append_assoc, cond, pos, negsuc}
-pub use Rattle.std.proofs.Common.{suc, ◌≤◌, ◌+◌, ◌-◌, ◌*◌, ◌/◌, MatchOption, drop}
+pub use Rattle.std.proofs.Common.{suc, ◌≤◌, ◌+◌, ◌-◌, ◌*◌, ◌/◌, MatchOption, drop, rules}
 pub use Rattle.std.proofs.lemmas.Bool.{cases_Bool}
 pub use Rattle.std.proofs.lemmas.Bool.Decides.{nat_tests}
 pub use Rattle.std.proofs.lemmas.Int.{to_z-of_z}

@@ -48,15 +48,6 @@ fn has_micros(clock: &Option<ClockStamp>) -> bool
     }
 }
 
-// Whether the timestamp, where there is one, prints as RFC 5424 has it.
-#[inline(always)]
-fn is_strict_clock(clock: Option<ClockStamp>) -> bool
-    ensures { IsTrue result
-        → timestamp_text (option_and_then converted_stamp (stamp_seen clock)) ≡ timestamp_text (stamp_seen clock) }
-{
-    has_micros(&clock) && is_canonical_clock(clock)
-}
-
 // The instant without what is finer than microseconds.
 fn cut_instant(instant: Timestamp) -> Timestamp
     ensures { result.nanosecond ≡ micros instant.nanosecond }
@@ -148,7 +139,7 @@ pub(crate) fn push_front(out: &mut String, line: &Line<'_>) -> Result<(), AllocE
         (timestamp_text (converted (line_value line.now)).timestamp)) out.new) }
 {
     let priority = strict_priority(line.facility(), line.severity());
-    if is_strict_clock(line.timestamp) {
+    if has_micros(&line.timestamp) && is_canonical_clock(line.timestamp) {
         let front = Ascii::front(priority, Some(1), line.timestamp);
         return push_text(out, front.as_str());
     }

@@ -48,14 +48,14 @@ impl Kept {
     }
 }
 
-/// Appends a character.
+/// Appends a character. A function of its own, so that its clause speaks of characters where `push` speaks of bytes.
 pub(crate) fn push_char(out: &mut String, c: char) -> Result<(), AllocError>
     ensures { OnOk result (Appends out.old (c ∷ []) out.new) }
 {
     out.push(c)
 }
 
-/// Appends a text as it is.
+/// Appends a text as it is. It is apart, so that its clause speaks of characters where `push_str` speaks of bytes.
 #[inline(always)]
 pub(crate) fn push_text(out: &mut String, text: &str) -> Result<(), AllocError>
     ensures { OnOk result (Appends out.old (chars text.now) out.new) }

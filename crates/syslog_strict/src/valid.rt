@@ -18,6 +18,7 @@ use syslog_pieces::as_str::is_same_text;
 use syslog_pieces::text::{CharClass, first, literal, number, split_run};
 
 // The text after this ASCII character, or none where it isn't there.
+// A function of its own, so that its clause is an equation that callers chain, where `literal` tells what it skips.
 #[inline(always)]
 fn after_char(text: &str, c: char) -> Option<&str>
     requires { c < 128 }
@@ -212,23 +213,6 @@ fn after_name(text: &str, most: usize) -> Option<&str>
     Some(rest)
 }
 
-// An SD-NAME, and the text after it.
-#[tactic(auto, using(std::proofs::lemmas::Bool::Decides::nat_tests))]
-#[inline(always)]
-fn sd_name(text: &str) -> Option<(&str, &str)>
-    ensures { option_map spec.both result ≡ spec.read_short grammar.is_sd_char 32 (chars text.now) }
-{
-    short_run(text, CharClass::SdName, 32)
-}
-
-// Whether the character is escaped in a value.
-#[inline(always)]
-fn is_escaped(c: char) -> bool
-    ensures { result ≡ grammar.is_escaped c }
-{
-    c == '\\' || (c == '"' || c == ']')
-}
-
 // The text after PARAM-VALUE and the quote that closes it.
 #[inline(always)]
 fn after_value(text: &str) -> Option<&str>
@@ -246,7 +230,7 @@ fn after_value(text: &str) -> Option<&str>
             return None;
         }
         let (escaped, next) = first(more)?;
-        if !is_escaped(escaped) {
+        if !(escaped == '\\' || escaped == '"' || escaped == ']') {
             return None;
         }
         rest = next;
@@ -261,7 +245,7 @@ fn after_param(text: &str) -> Option<&str>
     ensures more { IfSome result (λ rest. IsUtf8 rest.now × (length (shown rest) < length (chars text.now))) }
 {
     let start = after_char(text, ' ')?;
-    let (_, rest) = sd_name(start)?;
+    let (_, rest) = short_run(start, CharClass::SdName, 32)?;
     let rest = after_char(rest, '=')?;
     let rest = after_char(rest, '"')?;
     after_value(rest)
@@ -292,7 +276,7 @@ fn sd_element(text: &str) -> Option<(&str, &str)>
     ensures more { IfSome result (λ x. IsUtf8 x.1.now × (length (shown x.1) < length (chars text.now))) }
 {
     let start = after_char(text, '[')?;
-    let (id, rest) = sd_name(start)?;
+    let (id, rest) = short_run(start, CharClass::SdName, 32)?;
     let rest = after_params(rest)?;
     Some((id, rest))
 }

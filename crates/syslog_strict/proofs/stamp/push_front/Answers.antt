@@ -1,4 +1,4 @@
-use Rattle.syslog_strict.proofs.Words.{ap, ap₂, refl, sym, ◌∙◌, ◌+◌, ◌*◌, line_value, timestamp_text, converted}
+use Rattle.syslog_strict.proofs.Words.{ap, ap₂, rules, sym, ◌∙◌, ◌+◌, ◌*◌, line_value, timestamp_text, converted}
 use Rattle.syslog_strict.proofs.Words.{front_text}
 use Rattle.std.specs.Prelude.{unwrap_or}
 use Rattle.syslog_pieces.specs.Pri.{facility_number, severity_number}
@@ -8,12 +8,12 @@ use Rattle.syslog_strict.proofs.StampLemmas.{front_chars}
 use Rattle.syslog_strict.proofs.TextLemmas.{appended}
 use Rattle.syslog_strict.proofs.stamp.push_front.Goals as goal
 
-pub returns-then-is_strict_clock : goal.returns-then-is_strict_clock
-returns-then-is_strict_clock c =
+pub returns-then-is_canonical_clock : goal.returns-then-is_canonical_clock
+returns-then-is_canonical_clock c =
     let line = c.args.line.now in
     appended c.push_text.result _ _ _ _
     (front_chars _ c.strict_priority-priority.result line.timestamp _ (c.as_str.ensures ∙ c.front-front.ensures)
-    (sym (c.if-is_strict_clock.ensures refl))
+    (sym (search rules))
     ∙ ap (λ n. front_text n (timestamp_text (converted (line_value line)).timestamp))
     (c.strict_priority-priority.ensures.number
     ∙ ap₂ (λ f s. facility_number (unwrap_or f LOG_USER) * 8 + severity_number (unwrap_or s SEV_NOTICE))

@@ -14,8 +14,8 @@ returns-then-c-ne92-clause-same c = let e = value_run _ _ _ c.split_run.ensures 
 pub returns-in_err-escaped-clause-same : goal.returns-in_err-escaped-clause-same
 returns-in_err-escaped-clause-same c = let e = value_run _ _ _ c.split_run.ensures in grind (arith, nat_tests)
 
-pub returns-then-not-is_escaped-clause-same : goal.returns-then-not-is_escaped-clause-same
-returns-then-not-is_escaped-clause-same c = let e = value_run _ _ _ c.split_run.ensures in grind (arith, nat_tests)
+pub returns-then-not-escaped-clause-same : goal.returns-then-not-escaped-clause-same
+returns-then-not-escaped-clause-same c = let e = value_run _ _ _ c.split_run.ensures in grind (arith, nat_tests)
 
 pub stretches-preserved : goal.stretches-preserved
 stretches-preserved c = let e = value_run _ _ _ c.split_run.ensures in (c.in_ok-escaped.ensures.1, grind (arith, nat_tests))
