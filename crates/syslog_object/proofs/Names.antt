@@ -2,8 +2,7 @@
 pub use Rattle.std.proofs.Common.{get_or, append-nil, arith, append_assoc, nat_lt, Result, length, Option, bytes_eq, []}
 pub use Rattle.std.proofs.Common.{refl, Bool, subst, OnOk, ◌++◌, false, drop, cond, List, ◌==◌, take, Some, None, codes}
 pub use Rattle.std.proofs.Common.{◌∙◌, ◌≤◌, ◌∷◌, not, map, ◌<◌, ◌-◌, inr, ◌≡◌, true, Err, suc, inl, ◌||◌, Ok, ◌+◌, sym}
-pub use Rattle.std.proofs.Common.{ℕ, ap}
-pub use Rattle.std.proofs.Math.Seq.{take-append_seam}
+pub use Rattle.std.proofs.Common.{ℕ, ap, rules}
 pub use Rattle.std.proofs.lemmas.Bool.{cases_Bool}
 pub use Rattle.std.proofs.lemmas.List.{map-append, drop_more, nil_from_length, length-append}
 pub use Rattle.std.proofs.lemmas.Result.{on_ok_weaker}

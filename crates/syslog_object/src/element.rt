@@ -10,7 +10,7 @@ use crate::gather::{FEW, Member, push_members};
 use std::alloc::{AllocError, Global};
 use syslog_loose::{Element, ElementList};
 
-// The name of a parameter. What a call returns is known to be UTF-8.
+// The name of a parameter. A function of its own, since what a call returns is known to be UTF-8, and a field is not.
 #[inline(always)]
 fn name<'a>(param: &(&'a str, &'a str)) -> &'a str
     ensures { result.now ≡ param.now.0.now }
@@ -18,7 +18,7 @@ fn name<'a>(param: &(&'a str, &'a str)) -> &'a str
     param.0
 }
 
-// The raw value, in the same way.
+// The raw value, by a function for the same reason.
 #[inline(always)]
 fn value<'a>(param: &(&'a str, &'a str)) -> &'a str
     ensures { result.now ≡ param.now.1.now }

@@ -33,14 +33,6 @@ fn plain_run(text: &[u8], at: usize) -> usize
 }
 
 #[inline(always)]
-fn is_plain_16(text: &[u8], at: usize) -> bool
-    requires { at + 16 ≤ length text.now }
-    ensures { OnTrue result (PlainBetween text.now at (at + 16)) }
-{
-    plain_run(text, at) == 16
-}
-
-#[inline(always)]
 fn is_plain_8(text: &[u8], at: usize) -> bool
     requires { at + 8 ≤ length text.now }
     ensures { OnTrue result (PlainBetween text.now at (at + 8)) }
@@ -84,12 +76,12 @@ fn is_plain_long(text: &[u8]) -> bool
 {
     let mut at = 0;
     'blocks: while text.len() - at > 16 {
-        if !is_plain_16(text, at) {
+        if plain_run(text, at) < 16 {
             return false;
         }
         at += 16;
     }
-    is_plain_16(text, text.len() - 16)
+    plain_run(text, text.len() - 16) == 16
 }
 
 /// Whether no byte needs an escape. It may be `false` though none does.
@@ -133,15 +125,6 @@ fn plain_length(text: &[u8]) -> usize
     end
 }
 
-// The bytes at the front that need no escape, and the rest.
-#[inline(always)]
-fn split_plain(text: &[u8]) -> (&[u8], &[u8])
-    ensures whole { text.now ≡ result.0.now ++ result.1.now }
-    ensures plain { PlainBetween result.0.now 0 (length result.0.now) }
-{
-    text.split_at(plain_length(text))
-}
-
 // Appends so many bytes of the front. Of few, sixteen are copied and the others cut off again: a copy of a length that
 // is not known is a call.
 #[inline(always)]
@@ -164,7 +147,7 @@ pub(crate) fn push_plain<'a>(out: &mut Vec<u8>, text: &'a [u8]) -> Result<&'a [u
     ensures { IfOk result (λ after. (run : List ℕ) × (text.entry.now ≡ run ++ after.now)
         × PlainBetween run 0 (length run) × (out.new.items ≡ out.old.items ++ run)) }
 {
-    let (run, after) = split_plain(text);
-    push_some(out, text, run.len())?;
-    Ok(after)
+    let count = plain_length(text);
+    push_some(out, text, count)?;
+    Ok(&text[count..])
 }

@@ -67,7 +67,7 @@ impl<'a> ObjectWriter<'a> {
         {
             return false;
         }
-        let before = byte_before(self.count);
+        let before = if self.count == 0 { b'{' } else { b',' };
         if push_element(self.alloc, &mut self.text, before, id, params).is_err() {
             self.is_refused = true;
             return false;
@@ -90,15 +90,6 @@ impl<'a> ObjectWriter<'a> {
         }
     }
 
-    // Whether it was given elements, and has written them.
-    #[inline(always)]
-    fn has_elements(&self) -> bool
-        ensures { OnTrue result ((es : List ElementValue) → HasWritten self.now es
-            → (es ≢ []) × AreWritten self.now es) }
-    {
-        self.is_whole && self.count > 0
-    }
-
     /// Appends the object of the line whose elements it was given, as `push_object` does, or nothing where memory is
     /// refused, or was for an element. It is for one line.
     ///
@@ -116,7 +107,7 @@ impl<'a> ObjectWriter<'a> {
             × (output.new.items ≡ output.old.items ++ bytes)) }
         ensures err { OnErr result (output.new.items ≡ output.old.items) }
     {
-        let has_elements = self.has_elements();
+        let has_elements = self.is_whole && self.count > 0;
         let is_refused = self.is_refused;
         let alloc = self.alloc;
         let text = &mut self.text;
@@ -150,15 +141,6 @@ fn is_new_id(id: &str, ids: &[&str]) -> bool
         }
     }
     true
-}
-
-// The byte before an element that comes after so many.
-#[inline(always)]
-fn byte_before(count: usize) -> u8
-    ensures first { count ≡ 0 → result ≡ 123 }
-    ensures later { count ≢ 0 → result ≡ 44 }
-{
-    if count == 0 { b'{' } else { b',' }
 }
 
 // Appends an element: the byte before it, its id, and the object of its parameters, whose names each come once.

@@ -1,13 +1,11 @@
-use Rattle.syslog_object.proofs.Names.{◌++◌, ◌∙◌, ap, length, take, take-append_seam}
+use Rattle.std.proofs.lemmas.List.{take-append-drop, take_rest}
+use Rattle.syslog_object.proofs.Names.{sym, take}
+use Rattle.syslog_object.proofs.EscapeLemmas.{plain_front}
 use Rattle.syslog_object.proofs.plain.push_plain.Goals as goal
 
 pub returns : goal.returns
 returns c =
-    let run = c.split_plain.result.0.now in
-    let after = c.split_plain.result.1.now in (
-      run,
-      c.split_plain.ensures.whole,
-      c.split_plain.ensures.plain,
-      c.in_ok-push_some.ensures ∙ ap (λ xs. c.args.out.now.items ++ xs)
-          (ap (λ xs. take (length run) xs) c.split_plain.ensures.whole ∙ take-append_seam run after),
-    )
+    let text = c.args.text.now in
+    let count = c.plain_length-count.result in
+    let plain = plain_front text count c.plain_length-count.ensures.within c.plain_length-count.ensures.plain in
+    (take count text, rw (take_rest text count) (sym (take-append-drop count text)), plain, c.in_ok-push_some.ensures)

@@ -1,5 +1,5 @@
 use Rattle.syslog_object.proofs
-use proofs.Names.{◌++◌, ◌∙◌, ap, arith, on_ok_weaker, seen, line_value, back_fields, front_text, rest_text}
+use proofs.Names.{◌++◌, ◌∙◌, ap, arith, on_ok_weaker, rules, seen, line_value, back_fields, front_text, rest_text}
 use proofs.{WriterLemmas.object_of_parts, WriterLemmas.ordered, WrittenLemmas.text_of_message}
 use Rattle.syslog_object.proofs.writer.ObjectWriter.write.Goals as goal
 
@@ -11,7 +11,7 @@ returns-clause-ok c =
     c.in_ok-push_front.ensures.text c.in_ok-push_key_or_list.ensures (c.as_slice.ensures.value ∙ c.in_ok-push_back.ensures)
     (omega (arith, c.len-start.ensures, c.close_elements.new.text.ok.0))
     (omega (arith, c.len-middle.ensures, c.push_key_or_list.new.text.ok.0)) in
-    let whole = object_of_parts c.args.self.now c.has_elements-has_elements.result m raw _ c.has_elements-has_elements.ensures
+    let whole = object_of_parts c.args.self.now c.if-self.has_elements m raw _ (search rules)
     c.requires c.in_ok-close_elements.ensures in
     on_ok_weaker c.push_ordered.result
     (λ e. (
