@@ -1,14 +1,12 @@
 //! Whether the message of a line is read back from its printed text.
 ghost use Rattle.std.specs.Prelude.{◌≡◌};
-ghost use Rattle.syslog_loose.specs.Line.{line_value};
 ghost use Rattle.syslog_c.specs.Line.{OnLine};
 ghost use Rattle.syslog_c.specs.Outcome.{IsCodeOf};
-ghost use Rattle.syslog_c.specs.Told.{TellsCanonical, TellsOwnCanonical};
+ghost use Rattle.syslog_c.specs.Told.{TellsOwnCanonical};
 
 use crate::options::Options;
 use crate::outcome::Outcome;
 use crate::read_line::read_line;
-use syslog_loose::Line;
 
 /// Sets `canonical` to 1 if the line's message is read back from its printed text as that very message, and otherwise
 /// to 0. No memory is taken.
@@ -26,7 +24,7 @@ fn tell_canonical(line: &[u8], options: &Options, canonical: &mut u32) -> Outcom
 {
     match read_line(line, options) {
         Ok(line) => {
-            *canonical = canonical_number(&line);
+            *canonical = u32::from(line.is_canonical());
             Outcome::Done
         }
         Err(outcome) => {
@@ -34,10 +32,4 @@ fn tell_canonical(line: &[u8], options: &Options, canonical: &mut u32) -> Outcom
             outcome
         }
     }
-}
-
-fn canonical_number(line: &Line<'_>) -> u32
-    ensures { TellsCanonical (line_value line.now) result }
-{
-    if line.is_canonical() { 1 } else { 0 }
 }

@@ -1,6 +1,5 @@
 //! The JSON object of a line, in a buffer of the caller's.
 ghost use Rattle.std.specs.Prelude.{◌≡◌};
-ghost use Rattle.std.specs.Str.{chars};
 ghost use Rattle.jiff_core.specs.Calendar.{IsYear};
 ghost use Rattle.syslog_pieces.specs.Pieces.View.{seen};
 ghost use Rattle.syslog_loose.specs.Line.{line_value};
@@ -8,7 +7,7 @@ ghost use Rattle.syslog_c.specs.Line.{OnLine};
 ghost use Rattle.syslog_c.specs.Options.{IsReckoned};
 ghost use Rattle.syslog_c.specs.Outcome.{IsCodeOf};
 ghost use Rattle.syslog_c.specs.Room.{IsLeft};
-ghost use Rattle.syslog_c.specs.Texts.{PutsObject, WritesObject, raw_text};
+ghost use Rattle.syslog_c.specs.Texts.{PutsObject, WritesObject};
 
 use crate::options::Options;
 use crate::outcome::Outcome;
@@ -62,16 +61,9 @@ fn write_object(
         ensures { IsYear options.entry.now.year → IsReckoned options.entry.now date result }
     { year_of(options, date) };
     match parse_line(text, get_year, None, rules.variant, &rules.zone) {
-        Some(parsed) => put_object(alloc, &parsed, wanted(raw, text), room, needed),
+        Some(parsed) => put_object(alloc, &parsed, (raw != 0).then_some(text), room, needed),
         None => Outcome::NoReading,
     }
-}
-
-// The line as it came, where it is asked for.
-fn wanted(raw: u32, text: &str) -> Option<&str>
-    ensures { seen result ≡ raw_text raw (chars text.entry.now) }
-{
-    if raw == 0 { None } else { Some(text) }
 }
 
 // Puts the object of the line into `room`.

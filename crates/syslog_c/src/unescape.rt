@@ -65,6 +65,7 @@ fn push_pair(buffer: &mut Buffer<'_>, c: char)
     push_char(buffer, c)
 }
 
+// A function of its own, since what the buffer takes is a text: the character is encoded first.
 fn push_char(buffer: &mut Buffer<'_>, c: char)
     ensures { TakesText buffer.old (c ∷ []) buffer.new }
 {
