@@ -2,13 +2,12 @@
 ghost use Rattle.std.specs.Prelude.{◌≡◌, ◌++◌, [], List, ℕ, false, IfErr, IfOk, OnErr};
 ghost use Rattle.std.specs.Str.{chars};
 ghost use Rattle.jiff.specs.Words.{IsYear};
-ghost use Rattle.syslog_pieces.specs.Pieces.View.{seen};
 ghost use Rattle.syslog_loose.specs.Reckoning.{reckoned_year};
 ghost use Rattle.syslog_lines.specs.Pump.{EndsEarly, FailedAs};
 ghost use Rattle.syslog_object.specs.Object.{refused_json};
 ghost use Rattle.syslog_object.specs.Writer.{HasWritten};
 ghost use Rattle.syslog_object.specs.Written.{IsTextOf};
-ghost use Rattle.syslog_json.specs.Objects.{IsLineRead, IsObject, WritesObjects, answer_of, objects, raw_text};
+ghost use Rattle.syslog_json.specs.Objects.{IsLineRead, IsObject, WritesObjects, answer_of, objects};
 
 use crate::options::Options;
 use std::alloc::{AllocError, Global};
@@ -80,14 +79,6 @@ impl Objects {
         )
     }
 
-    // The line as it came, where it is asked for.
-    #[inline(always)]
-    fn raw<'a>(&self, line: &'a str) -> Option<&'a str>
-        ensures { seen result ≡ raw_text self.now.options.raw (chars line.entry.now) }
-    {
-        if self.options.raw { Some(line) } else { None }
-    }
-
     // Adds the object of the line, or nothing where memory is refused. Returns the memory that was used, and whether
     // the line is a message.
     #[inline(always)]
@@ -103,7 +94,7 @@ impl Objects {
         ensures err { OnErr result (output.new.items ≡ output.old.items) }
     {
         let mut writer = ObjectWriter::new(alloc, memory);
-        let raw = self.raw(line);
+        let raw = self.options.raw.then_some(line);
         match self.read(line, &mut writer) {
             Some(found) => {
                 writer.write(&found, raw, output)?;

@@ -1,4 +1,4 @@
-use Rattle.syslog_json.proofs.Names.{Option, inl, refl, subst, Text, line_value, message_json, IsTextOf}
+use Rattle.syslog_json.proofs.Names.{Option, inl, refl, rules, subst, Text, line_value, message_json, IsTextOf}
 use Rattle.syslog_json.{proofs.ReadLemmas.read_as, proofs.UniqueLemmas.only_read, proofs.UniqueLemmas.only_refused}
 use Rattle.syslog_json.proofs.filter.Objects.write_line.Goals as goal
 
@@ -10,7 +10,7 @@ returns-in_ok-write-in-Some-clause-ok c =
       (
         _,
         only_read c.args.self.now.options _ _ (c.utf8.line, (m, c.in-Some.ensures.0, refl)),
-        read_as _ _ (subst (λ (o : Option Text). IsTextOf (message_json m o) bytes) c.raw-raw.ensures text),
+        read_as _ _ (subst (λ (o : Option Text). IsTextOf (message_json m o) bytes) (search rules) text),
       ),
       added,
     )
