@@ -1,6 +1,5 @@
 //! What the first bytes of a text, or its last one, say without a scan.
 ghost use Rattle.std.specs.Prelude.{◌≡◌, ◌≢◌, ℕ, List, ◌∷◌, ◌++◌, [], IsTrue, MatchBool, drop};
-ghost use Rattle.std.specs.Bool.{OnFalse};
 ghost use Rattle.syslog_pieces.specs.Bodies.Looks as spec;
 
 /// Whether this byte begins the bytes.
@@ -36,10 +35,10 @@ pub fn ends_in_colon(bytes: &[u8]) -> bool
     matches!(bytes, [.., b':'])
 }
 
-/// Whether an ASCII digit begins the bytes. The clause says what `false` means: none does.
+/// Whether an ASCII digit begins the bytes.
 #[inline(always)]
 pub fn begins_with_digit(bytes: &[u8]) -> bool
-    ensures { OnFalse result (spec.EndsDigits bytes.now) }
+    ensures { MatchBool result (¬ (spec.EndsDigits bytes.now)) (spec.EndsDigits bytes.now) }
 {
     matches!(bytes, [b'0'..=b'9', ..])
 }
