@@ -7,7 +7,8 @@ use Rattle.syslog_pieces.specs.declared.timestamp.month_date.MonthDate.{MonthDat
 use Rattle.syslog_loose.{proofs.Rfc3164Lemmas.other_read, specs.Message.MessageValue, specs.declared.line.Line.Line}
 use Rattle.syslog_loose.specs.Reading.{AsksYear, IncompleteDate, InYear, IsOnlyRead, IsRead, dash_rule}
 use Rattle.syslog_loose.{proofs.ReckoningLemmas.one_dating, specs.Reckoning.dating_in, specs.Reckoning.reckoned_year}
-use Rattle.syslog_loose.{specs.Visit.IsLineOf, specs.Visit.Made, specs.declared.variant.Variant.TheVariants.Either}
+use Rattle.syslog_loose.{specs.Clauses.KnowsForm, specs.Visit.IsLineOf, specs.Visit.Made}
+use Rattle.syslog_loose.specs.declared.variant.Variant.TheVariants.{Either}
 use Rattle.syslog_pieces.specs.StructuredData.Visited.{list_elements}
 use Rattle.syslog_lines.specs.Output.{answer_bytes, is_answered}
 use Rattle.syslog_object.{specs.Writer.HasWritten, specs.declared.writer.ObjectWriter.ObjectWriter}
@@ -66,17 +67,18 @@ one_line {post = post} {text = text} zone Makes h =
 -- and the line was returned, and its elements were given to the other visitor
 pub line_read : {post : IncompleteDate → ℤ → Type 0} {V : Type 0} (v w : V) (old new : ObjectWriter) (options : Options)
     (text : Text) (result : Option Line) → InYear post Either text (λ year.
-    Made (λ (before : V) (line made : Line) (after : V). made ≡ line) (λ (first it : ObjectWriter) es. HasWritten it es)
+    Made (λ (before : V) (line made : Line) (after : V). (made ≡ line) × KnowsForm line)
+    (λ (first it : ObjectWriter) es. HasWritten it es)
     Either (dating_in (plain_zone options.zone) year) text v old result w new)
     → ((date : IncompleteDate) (y : ℤ) → post date y → y ≡ reckoned_year options.year options.month date)
     → HasWritten old [] → IsLineRead options text result new
 line_read v w old new options text None h tells none = reading.in_year_told (reading.in_year_map (λ year n. n.0) h) tells
 line_read {post = post} v w old new options text (Some made) h tells none =
     let zone = plain_zone options.zone in
-    let (line, dated, same, given) = one_line zone (λ (line : Line). made ≡ line) h in (
+    let (line, dated, same, given) = one_line zone (λ (line : Line). (made ≡ line) × KnowsForm line) h in (
       reading.in_year_told (subst (λ (l : Line). InYear post Either text (λ year.
-          IsOnlyRead Either (dating_in zone year) text (line_value l))) (sym same) dated) tells,
-      subst (λ (l : Line). HasWritten new (list_elements l.list)) (sym same) (given old [] none),
+          IsOnlyRead Either (dating_in zone year) text (line_value l))) (sym same.0) dated) tells,
+      subst (λ (l : Line). HasWritten new (list_elements l.list)) (sym same.0) (given old [] none),
     )
 
 -- what was written after nothing is the text

@@ -15,7 +15,7 @@ use std::io::{Read, Write};
 use std::mem;
 use syslog_lines::pump::pump;
 use syslog_lines::{LineFilter, RunFault, Summary, Watched, push_line};
-use syslog_loose::{IncompleteDate, Line, LineVisitor, Variant, reckon_year, visit_line};
+use syslog_loose::{IncompleteDate, Itself, Line, Variant, reckon_year, visit_line};
 use syslog_object::{ObjectWriter, push_invalid, push_refused};
 
 /// Reads lines to the end of the input, and writes each as one JSON object on one line: that of its message, read by
@@ -150,28 +150,6 @@ impl LineFilter for Objects {
         push_invalid(&mut object, text.as_str())?;
         push_line(output, object.as_slice())?;
         Ok(false)
-    }
-}
-
-// Returns the line itself.
-#[derive(Clone, Copy)]
-struct Itself;
-
-impl<'a> LineVisitor<'a> for Itself {
-    ghost use Rattle.std.specs.Prelude.{◌≡◌};
-
-    type Answer = Line<'a>;
-
-    ghost makes = { λ old line made new. made ≡ line };
-
-    #[inline(always)]
-    fn line(&mut self, line: &Line<'a>) -> Line<'a>
-        ensures { result ≡ line.now }
-    {
-        Line {
-            rest: line.rest,
-            ..*line
-        }
     }
 }
 

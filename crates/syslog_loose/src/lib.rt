@@ -51,4 +51,4 @@ pub use syslog_pieces::structured_data::{
 };
 pub use syslog_pieces::timestamp::{ClockStamp, OffsetTimestamp};
 pub use variant::{IncompleteDate, Variant};
-pub use visit::{LineVisitor, parse_line, visit_line};
+pub use visit::{Itself, LineVisitor, parse_line, visit_line};

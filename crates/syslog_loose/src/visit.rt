@@ -205,9 +205,9 @@ pub fn visit_line<'a, F: FnOnce(IncompleteDate) -> i32, E: ElementVisitor<'a>, V
     Some(visit_3164(priority, timestamp, rest, elements, visitor))
 }
 
-// Returns the line itself.
+/// The visitor that returns the line itself.
 #[derive(Clone, Copy)]
-struct Itself;
+pub struct Itself;
 
 impl<'a> LineVisitor<'a> for Itself {
     type Answer = Line<'a>;
