@@ -1,19 +1,18 @@
 -- The written condition and its quirks: what the tests of both return, and that the condition for RFC 3164 is the
 -- quirks' absence beside all that they leave.
 use Rattle.syslog_loose.proofs.Names.{◌≡◌, ◌<◌, ◌∙◌, ◌↔◌, ℕ, Bool, true, false, not, List, [], length, map, refl, sym}
-use Rattle.syslog_loose.proofs.Names.{ap, subst, arith, IsTrue, MatchBool, chars, IsUtf8, bytes_eq}
-use Rattle.syslog_loose.proofs.Names.{drop_trailing_whitespace, length-map, nil_from_length, bytes_eq-Decides, Text}
-use Rattle.syslog_loose.proofs.Names.{NoFront, BeginsNoList, rfc3164_list, DashRule, EndsVisibly, ◌≢◌, ◌∷◌, ◌++◌}
-use Rattle.syslog_loose.proofs.Names.{nat_eq, None, chars_from_encodes, chars-IsAscii, encodes-append, encodes-chars}
-use Rattle.syslog_loose.proofs.Names.{encode_utf8_all, Each, colon, dash, EndsInColon, is_no_colon, false_is}
-use Rattle.syslog_loose.proofs.Names.{colon_ascii, ◌&&◌, inl, inr, Option, Some, IfSome, IsSome, ProcId, PID, Name}
-use Rattle.syslog_loose.proofs.Names.{Protocol, RFC3164, IsVisible, IsCanonicalHost, IsBracketedProcess}
-use Rattle.syslog_loose.proofs.Names.{is_process_char, AreCanonicalNames, IsCanonical3164, IsCanonicalFor, IsCanonical}
-use Rattle.syslog_loose.proofs.Names.{is_inner_char, HasNoColon, HasNoException, IsOddHost, IsInnerProcess}
-use Rattle.syslog_loose.proofs.Names.{AreNamesButExceptions, HasExceptionsAlone, IsNearlyCanonical, MessageValue}
-use Rattle.syslog_loose.proofs.Names.{each_both, each_left, each_right, each_map, is_not_whitespace, IfSome_then}
-use Rattle.syslog_loose.proofs.Names.{SyslogFacility, SyslogSeverity}
-use Rattle.syslog_loose.proofs.Names.{trim_end, NonePass, same_chars, end_trimmed_chars, no_list_is, dash_ascii}
+use Rattle.syslog_loose.proofs.Names.{ap, subst, arith, IsTrue, MatchBool, chars, IsUtf8, bytes_eq, length-map, Text}
+use Rattle.syslog_loose.proofs.Names.{drop_trailing_whitespace, nil_from_length, bytes_eq-Decides, NoFront, DashRule}
+use Rattle.syslog_loose.proofs.Names.{BeginsNoList, rfc3164_list, EndsVisibly, ◌≢◌, ◌∷◌, ◌++◌, nat_eq, None, Each, dash}
+use Rattle.syslog_loose.proofs.Names.{chars_from_encodes, chars-IsAscii, encodes-append, encodes-chars, encode_utf8_all}
+use Rattle.syslog_loose.proofs.Names.{colon, EndsInColon, is_no_colon, false_is, colon_ascii, ◌&&◌, inl, inr, Option}
+use Rattle.syslog_loose.proofs.Names.{Some, IfSome, IsSome, ProcId, PID, Name, Protocol, RFC3164, IsVisible, HasNoColon}
+use Rattle.syslog_loose.proofs.Names.{IsCanonicalHost, IsBracketedProcess, is_process_char, AreCanonicalNames, each_map}
+use Rattle.syslog_loose.proofs.Names.{IsCanonical3164, IsCanonicalFor, IsCanonical, is_inner_char, HasNoException}
+use Rattle.syslog_loose.proofs.Names.{IsOddHost, IsInnerProcess, AreNamesButExceptions, HasExceptionsAlone, each_both}
+use Rattle.syslog_loose.proofs.Names.{IsNearlyCanonical, MessageValue, each_left, each_right, is_not_whitespace}
+use Rattle.syslog_loose.proofs.Names.{IfSome_then, SyslogFacility, SyslogSeverity, trim_end, NonePass, same_chars}
+use Rattle.syslog_loose.proofs.Names.{end_trimmed_chars, no_list_is, dash_ascii}
 use Rattle.syslog_pieces.proofs.Names.{common_steps}
 use Rattle.syslog_pieces.proofs.TextLemmas.Runs.{from_not_true}
 use Rattle.std.proofs.lemmas.Bool.{and_from, and_parts}

@@ -1,25 +1,24 @@
 -- The printed text of a message, read under `Either` or the message's own variant; that it shows no month date; and its
 -- characters.
-use Rattle.syslog_loose.proofs.Names.{◌⊎◌, inl, inr, Text, Dating, IsBounded, MessageValue, dash_rule, IsRead}
-use Rattle.syslog_loose.proofs.Names.{IsRead3164, IsRead5424, Variant, Either, RFC5424, ◌≡◌, ◌∙◌, Some, refl, sym}
-use Rattle.syslog_loose.proofs.Names.{unwrap_or, LOG_SYSLOG, SEV_DEBUG, DashRule, IsCanonical, HasNoException, printed}
-use Rattle.syslog_loose.proofs.Names.{◌↔◌, ℕ, ℤ, List, Option, Result, Ok, Err, ap, subst, string_bytes, encodes-chars}
-use Rattle.syslog_loose.proofs.Names.{IfOk, String, chars, IsUtf8, encode_utf8_all, Global}
-use Rattle.syslog_loose.proofs.Names.{ReadsProtocol, IsFixed, IsOnlyRead, IsUnreadable, Answers, IncompleteDate, InYear}
-use Rattle.syslog_loose.proofs.Names.{ParseFault, Invalid, Memory, Protocol, ◌<◌, ◌≤◌, ◌^◌, ◌&&◌}
-use Rattle.syslog_loose.proofs.Names.{◌∷◌, ◌++◌, suc, pos, negsuc, Bool, true, nat_eq, [], length, None, IfSome, arith}
-use Rattle.syslog_loose.proofs.Names.{nat_tests, is_ascii_digit, is_whitespace, decimal, flat_map, AllByRecursion}
-use Rattle.syslog_loose.proofs.Names.{skip_leading_whitespace, drop_trailing_whitespace, join, Each, IsPart}
-use Rattle.syslog_loose.proofs.Names.{AreInPieces, text_list, process_texts, ElementValue, param_text, element_text}
-use Rattle.syslog_loose.proofs.Names.{joined_elements, elements_text, element_texts, trimmed, name_text, ProcId, PID}
-use Rattle.syslog_loose.proofs.Names.{Name, OffsetTimestamp, each_map, each_front, each_behind, all_left, all_right}
-use Rattle.syslog_loose.proofs.Names.{each_append, part_joined, decimal_digits, IsBoundedProcess, IsBoundedProtocol}
-use Rattle.syslog_loose.proofs.Names.{message_texts, timestamp_text, spaced_elements, tag_text, priority_of}
-use Rattle.syslog_loose.proofs.Names.{MatchResult, nat_le, nat_lt, all_map, printed_stamp-characters, append_assoc}
-use Rattle.syslog_loose.proofs.Names.{is_not_whitespace, Front, is_blank, MonthDate, AsksYear, priority, ShowsMonthDate}
-use Rattle.syslog_loose.proofs.Names.{month_date, optional_some, Begins, begins_apart, number_back, IsLow}
-use Rattle.syslog_loose.proofs.Names.{month_date_begins, IsLetter, printed_stamp-visible, digits_visible, Row, row_of}
-use Rattle.syslog_loose.proofs.Names.{◌then◌, piece_front, row_head, rest, rows_step, division_front, run, shown}
+use Rattle.syslog_loose.proofs.Names.{◌⊎◌, inl, inr, Text, Dating, IsBounded, MessageValue, dash_rule, IsRead, Variant}
+use Rattle.syslog_loose.proofs.Names.{IsRead3164, IsRead5424, Either, RFC5424, ◌≡◌, ◌∙◌, Some, refl, sym, unwrap_or, ℕ}
+use Rattle.syslog_loose.proofs.Names.{LOG_SYSLOG, SEV_DEBUG, DashRule, IsCanonical, HasNoException, printed, ◌↔◌, ℤ, Ok}
+use Rattle.syslog_loose.proofs.Names.{List, Option, Result, Err, ap, subst, string_bytes, encodes-chars, IfOk, String}
+use Rattle.syslog_loose.proofs.Names.{chars, IsUtf8, encode_utf8_all, Global, ReadsProtocol, IsFixed, IsOnlyRead, ◌<◌}
+use Rattle.syslog_loose.proofs.Names.{IsUnreadable, Answers, IncompleteDate, InYear, ParseFault, Invalid, Memory, ◌≤◌}
+use Rattle.syslog_loose.proofs.Names.{Protocol, ◌^◌, ◌&&◌, ◌∷◌, ◌++◌, suc, pos, negsuc, Bool, true, nat_eq, [], length}
+use Rattle.syslog_loose.proofs.Names.{None, IfSome, arith, nat_tests, is_ascii_digit, is_whitespace, decimal, flat_map}
+use Rattle.syslog_loose.proofs.Names.{AllByRecursion, skip_leading_whitespace, drop_trailing_whitespace, join, Each}
+use Rattle.syslog_loose.proofs.Names.{IsPart, AreInPieces, text_list, process_texts, ElementValue, param_text, trimmed}
+use Rattle.syslog_loose.proofs.Names.{element_text, joined_elements, elements_text, element_texts, name_text, ProcId}
+use Rattle.syslog_loose.proofs.Names.{PID, Name, OffsetTimestamp, each_map, each_front, each_behind, all_left, tag_text}
+use Rattle.syslog_loose.proofs.Names.{all_right, each_append, part_joined, decimal_digits, IsBoundedProcess, nat_le}
+use Rattle.syslog_loose.proofs.Names.{IsBoundedProtocol, message_texts, timestamp_text, spaced_elements, priority_of}
+use Rattle.syslog_loose.proofs.Names.{MatchResult, nat_lt, all_map, printed_stamp-characters, append_assoc, Front, Row}
+use Rattle.syslog_loose.proofs.Names.{is_not_whitespace, is_blank, MonthDate, AsksYear, priority, ShowsMonthDate, IsLow}
+use Rattle.syslog_loose.proofs.Names.{month_date, optional_some, Begins, begins_apart, number_back, month_date_begins}
+use Rattle.syslog_loose.proofs.Names.{IsLetter, printed_stamp-visible, digits_visible, row_of, ◌then◌, piece_front, run}
+use Rattle.syslog_loose.proofs.Names.{row_head, rest, rows_step, division_front, shown}
 use Rattle.syslog_loose.specs.declared.variant.Variant.TheVariants.{RFC3164}
 use Rattle.syslog_loose.proofs.Rfc5424Lemmas.{read_completed, completed, priority_same, printed_is}
 use Rattle.syslog_loose.proofs.Rfc3164Lemmas.{rfc3164_bounded, printed_3164_is, printed_apart, digit_range, quotes}

@@ -2,34 +2,32 @@
 -- 5424.
 pub mod Near
 pub mod ReadBack
-use Rattle.syslog_loose.proofs.Names.{◌≡◌, ◌≢◌, ◌<◌, ◌∷◌, ◌++◌, ◌∙◌, ◌also◌, ℕ, List, [], length, refl, ap, arith}
-use Rattle.syslog_loose.proofs.Names.{AllDeterministic, unique_division, division_front, exactly_det, run_det}
-use Rattle.syslog_loose.proofs.Names.{some_run_det, no_texted, no_row_division, all_joined, chars, Text, Class, Values}
-use Rattle.syslog_loose.proofs.Names.{Front, NoFront, Row, run, some_run, exactly, texted, is_label_char, is_open_char}
-use Rattle.syslog_loose.proofs.Names.{rows_step, one_ascii, form_row, IsForm, IsNoForm, row_pieces, no_row, ◌⊎◌, inl}
-use Rattle.syslog_loose.proofs.Names.{inr, Option, Some, None, sym, unwrap_or, NamesProcess, ProcId, process_same}
-use Rattle.syslog_loose.proofs.Names.{Names3164, names, Resolves, IfSome, Dating, PID, Name, DashRule, IsBoundedProcess}
-use Rattle.syslog_loose.proofs.Names.{IsBounded, MessageValue, IsRead3164, ◌then◌, rest_front, optional_det, row_of}
-use Rattle.syslog_loose.proofs.Names.{rest, optional, spaced, rfc3164_list, is_blank, colon, host, tag_word, priority}
-use Rattle.syslog_loose.proofs.Names.{rfc3164_stamp, priority_det, host_det, body_row, subst, rest_det, elements_or}
-use Rattle.syslog_loose.proofs.Names.{rfc3164_list_det, rfc3164_stamp_det, RFC3164, rfc3164_row, Means3164, fields_row}
-use Rattle.syslog_loose.proofs.Names.{stamped_row, trimmed, front_division, rows_none_here, IsNot3164, ◌↔◌}
-use Rattle.syslog_loose.proofs.Names.{optional_none, row_cons, rows_join, some_front_run, map, ShowsYearless}
-use Rattle.syslog_loose.proofs.Names.{ShowsMonthDate, month, yearless_date, month_date, MonthDate, incomplete, HasMonth}
-use Rattle.syslog_loose.proofs.Names.{◌≤◌, true, append_assoc, nat_tests, is_ascii_digit, Division, Each, number}
-use Rattle.syslog_loose.proofs.Names.{header_stamp, OffsetTimestamp, run_same, rest_same, front_same, Begins}
-use Rattle.syslog_loose.proofs.Names.{begins_apart, begins_more, begins_with, month_date_begins, rfc5424_row, IsNot5424}
-use Rattle.syslog_loose.proofs.Names.{Bool, false, cond, optional_some, priority_of, printed_5424, printed, Protocol}
-use Rattle.syslog_loose.proofs.Names.{flat_map, IsPart, AreInPieces, text_list, process_texts, element_texts, all_left}
-use Rattle.syslog_loose.proofs.Names.{all_right, Quoted, row_quotes, silent, rest_quotes, host_quotes, part_joined}
-use Rattle.syslog_loose.proofs.Names.{Quotes3164, rows_split, IsAscii, chars_nonempty, tag_word_det, to_ascii_lowercase}
-use Rattle.syslog_loose.proofs.Names.{no_some_run, stamp_text-year, optional_rfc3164_list_quotes, message_of_parts}
+use Rattle.syslog_loose.proofs.Names.{optional_rfc3164_list_quotes, to_ascii_lowercase, rfc3164_stamp_det, some_run_det}
+use Rattle.syslog_loose.proofs.Names.{month_date_begins, AllDeterministic, IsBoundedProcess, rfc3164_list_det, some_run}
+use Rattle.syslog_loose.proofs.Names.{message_of_parts, unique_division, no_row_division, OffsetTimestamp, is_open_char}
+use Rattle.syslog_loose.proofs.Names.{stamp_text-year, division_front, front_division, rows_none_here, some_front_run}
+use Rattle.syslog_loose.proofs.Names.{ShowsMonthDate, is_ascii_digit, chars_nonempty, is_label_char, rfc3164_stamp, ◌≡◌}
+use Rattle.syslog_loose.proofs.Names.{optional_none, ShowsYearless, yearless_date, optional_some, process_texts, ◌also◌}
+use Rattle.syslog_loose.proofs.Names.{element_texts, length-append, NamesProcess, process_same, MessageValue, no_texted}
+use Rattle.syslog_loose.proofs.Names.{optional_det, rfc3164_list, priority_det, append_assoc, header_stamp, exactly_det}
+use Rattle.syslog_loose.proofs.Names.{begins_apart, printed_5424, tag_word_det, full_element, full_shorter, elements_or}
+use Rattle.syslog_loose.proofs.Names.{ElementValue, rfc3164_row, stamped_row, begins_more, begins_with, rfc5424_row, []}
+use Rattle.syslog_loose.proofs.Names.{priority_of, AreInPieces, rest_quotes, host_quotes, part_joined, no_some_run, ◌≢◌}
+use Rattle.syslog_loose.proofs.Names.{absent_none, all_joined, row_pieces, IsRead3164, rest_front, fields_row, form_row}
+use Rattle.syslog_loose.proofs.Names.{month_date, incomplete, front_same, row_quotes, Quotes3164, rows_split, rows_step}
+use Rattle.syslog_loose.proofs.Names.{one_ascii, unwrap_or, Names3164, IsBounded, Means3164, IsNot3164, rows_join, ◌++◌}
+use Rattle.syslog_loose.proofs.Names.{MonthDate, nat_tests, rest_same, IsNot5424, text_list, all_right, IsNoForm, arith}
+use Rattle.syslog_loose.proofs.Names.{Resolves, DashRule, optional, is_blank, tag_word, priority, host_det, body_row, ℕ}
+use Rattle.syslog_loose.proofs.Names.{rest_det, row_cons, HasMonth, Division, run_same, Protocol, flat_map, all_left}
+use Rattle.syslog_loose.proofs.Names.{run_det, NoFront, exactly, RFC3164, trimmed, printed, IsAscii, length, Values, ap}
+use Rattle.syslog_loose.proofs.Names.{texted, IsForm, no_row, Option, ProcId, IfSome, Dating, ◌then◌, row_of, spaced}
+use Rattle.syslog_loose.proofs.Names.{number, Begins, IsPart, Quoted, silent, IsMany, chars, Class, Front, names, colon}
+use Rattle.syslog_loose.proofs.Names.{subst, month, false, List, refl, Text, Some, None, Name, rest, host, true, Each}
+use Rattle.syslog_loose.proofs.Names.{Bool, cond, ◌<◌, ◌∷◌, ◌∙◌, Row, run, ◌⊎◌, inl, inr, sym, PID, ◌↔◌, map, ◌≤◌}
 use Rattle.syslog_pieces.proofs.PieceLemmas.Class.{texted_det, after_det, Fails, all_append, behind}
 use Rattle.syslog_loose.specs.Rfc3164.{NamesByForm}
-use Rattle.syslog_loose.proofs.Names.{length-append, full_element, full_shorter, absent_none, IsMany, ElementValue}
-use Rattle.syslog_pieces.proofs.PieceLemmas.Lists.{first_kind, each_begins, texted_quotes, tag_word_quotes}
-use Rattle.syslog_pieces.proofs.PieceLemmas.Lists.{optional_quotes, optional_texts, spaced_quotes, part_left}
-use Rattle.syslog_pieces.proofs.PieceLemmas.Lists.{part_right}
+use Rattle.syslog_pieces.proofs.PieceLemmas.Lists.{first_kind, each_begins, texted_quotes, tag_word_quotes, part_left}
+use Rattle.syslog_pieces.proofs.PieceLemmas.Lists.{optional_quotes, optional_texts, spaced_quotes, part_right}
 use Rattle.syslog_pieces.proofs.TimestampLemmas.MonthDate.{month_date_det, dated_date, IsBlank, blanks_begin, blank_low}
 use Rattle.syslog_pieces.specs.Bodies.Scan.{SplitsRun}
 use Rattle.syslog_pieces.specs.Pieces.Class.{NoDivision}

@@ -1,26 +1,23 @@
 -- Texts of RFC 5424: one division, and what is read back of a printed text: the message exactly if it is canonical, and
 -- what is read is canonical, up to an absent facility or severity.
-use Rattle.syslog_loose.proofs.Names.{no_truth, ◌≡◌, ◌∷◌, ◌∙◌, ◌also◌, [], sym, ap, subst, AllDeterministic, unique_division}
-use Rattle.syslog_loose.proofs.Names.{front_division, optional_det, some_run_det, run_det, rest_det}
-use Rattle.syslog_loose.proofs.Names.{all_joined, flat_map, Text, Values, Front, NoFront, run, some_run, optional}
-use Rattle.syslog_loose.proofs.Names.{trimmed, is_blank, number, AreInPieces, text_list, process_texts, header_stamp}
-use Rattle.syslog_loose.proofs.Names.{element_texts, priority, Quoted, row_quotes, silent, rest_quotes, host_quotes}
-use Rattle.syslog_loose.proofs.Names.{priority_det, host_det, MessageValue, message_texts, header_row, data_row}
-use Rattle.syslog_loose.proofs.Names.{front_row, names_row}
-use Rattle.syslog_loose.proofs.Names.{rfc5424_row, message_of, IsRead5424, ◌≤◌, List, IfSome, is_ascii_digit}
-use Rattle.syslog_loose.proofs.Names.{is_not_whitespace, decimal, Class, Ends, Format, process_word, process_text, host}
-use Rattle.syslog_loose.proofs.Names.{word, name_text, IsCanonicalWord, IsCanonicalStamp, timestamp_text, ◌<◌, ◌^◌, ◌+◌}
-use Rattle.syslog_loose.proofs.Names.{◌*◌, ◌++◌, ◌then◌, ℕ, Option, Some, None, IsSome, refl, arith}
-use Rattle.syslog_loose.proofs.Names.{row_cons, row_head, rows_join, both_values, division_front, rest_front}
-use Rattle.syslog_loose.proofs.Names.{rest_whole, optional_some, front_same, row_pieces, row_of, option_map_or}
-use Rattle.syslog_loose.proofs.Names.{option_and_then, unwrap_or, skip_leading_whitespace, drop_trailing_whitespace}
-use Rattle.syslog_loose.proofs.Names.{Division, classes, printed_row, facility_of, facility_number}
-use Rattle.syslog_loose.proofs.Names.{severity_number, ElementValue, elements_text, EndsVisibly, SyslogFacility}
-use Rattle.syslog_loose.proofs.Names.{LOG_SYSLOG, SyslogSeverity, SEV_DEBUG, ProcId, DashRule, BeforeAnything}
-use Rattle.syslog_loose.proofs.Names.{OffsetTimestamp, piece_front, priority_composed}
-use Rattle.syslog_loose.proofs.Names.{number_back, host_back, printed_stamp-back}
-use Rattle.syslog_loose.proofs.Names.{stamp_text-canonical, Protocol, IsBoundedProtocol, IsBounded, IsCanonicalInBoth}
-use Rattle.syslog_loose.proofs.Names.{IsCanonicalFor, IsCanonical, printed, priority_of, Quotes5424, composed}
+use Rattle.syslog_loose.proofs.Names.{no_truth, ◌≡◌, ◌∷◌, ◌∙◌, ◌also◌, [], sym, ap, subst, AllDeterministic, run_det, ℕ}
+use Rattle.syslog_loose.proofs.Names.{unique_division, front_division, optional_det, some_run_det, rest_det, all_joined}
+use Rattle.syslog_loose.proofs.Names.{flat_map, Text, Values, Front, NoFront, run, some_run, optional, trimmed, number}
+use Rattle.syslog_loose.proofs.Names.{is_blank, AreInPieces, text_list, process_texts, header_stamp, element_texts, ◌≤◌}
+use Rattle.syslog_loose.proofs.Names.{priority, Quoted, row_quotes, silent, rest_quotes, host_quotes, priority_det, ◌<◌}
+use Rattle.syslog_loose.proofs.Names.{host_det, MessageValue, message_texts, header_row, data_row, front_row, names_row}
+use Rattle.syslog_loose.proofs.Names.{rfc5424_row, message_of, IsRead5424, List, IfSome, is_ascii_digit, decimal, Class}
+use Rattle.syslog_loose.proofs.Names.{is_not_whitespace, Ends, Format, process_word, process_text, host, word, ◌^◌, ◌+◌}
+use Rattle.syslog_loose.proofs.Names.{name_text, IsCanonicalWord, IsCanonicalStamp, timestamp_text, ◌*◌, ◌++◌, ◌then◌}
+use Rattle.syslog_loose.proofs.Names.{Option, Some, None, IsSome, refl, arith, row_cons, row_head, rows_join, row_of}
+use Rattle.syslog_loose.proofs.Names.{both_values, division_front, rest_front, rest_whole, optional_some, front_same}
+use Rattle.syslog_loose.proofs.Names.{row_pieces, option_map_or, option_and_then, unwrap_or, skip_leading_whitespace}
+use Rattle.syslog_loose.proofs.Names.{drop_trailing_whitespace, Division, classes, printed_row, facility_of, LOG_SYSLOG}
+use Rattle.syslog_loose.proofs.Names.{facility_number, severity_number, ElementValue, elements_text, EndsVisibly}
+use Rattle.syslog_loose.proofs.Names.{SyslogFacility, SyslogSeverity, SEV_DEBUG, ProcId, DashRule, BeforeAnything}
+use Rattle.syslog_loose.proofs.Names.{OffsetTimestamp, piece_front, priority_composed, number_back, host_back, Protocol}
+use Rattle.syslog_loose.proofs.Names.{printed_stamp-back, stamp_text-canonical, IsBoundedProtocol, IsBounded, printed}
+use Rattle.syslog_loose.proofs.Names.{IsCanonicalInBoth, IsCanonicalFor, IsCanonical, priority_of, Quotes5424, composed}
 use Rattle.syslog_pieces.proofs.PieceLemmas.Lists.{word_quotes, process_quotes, AllSound, row_back}
 use Rattle.syslog_pieces.proofs.TextLemmas.Words.{number_det, word_det, word_back, word_canonical, host_canonical}
 use Rattle.syslog_pieces.proofs.TextLemmas.Words.{NoColonNext, blanks_next}

@@ -164,6 +164,7 @@ fn push_runs(text: &mut String, run: &str, count: usize) -> Result<(), AllocErro
 }
 
 // Appends what comes after the colon of the names: elements and the message part, each after a space.
+#[tactic(auto, using(crate::proofs::Names::on_ok_weaker, crate::proofs::SettlingLemmas::Settles::tail_pushed))]
 fn push_tail(text: &mut String, list: &ElementList<'_>, msg: &str) -> Result<(), AllocError>
     ensures { OnOk result (string_bytes text.new ≡ string_bytes text.old
         ++ encode_utf8_all (tail_text (list_elements list.now) (chars msg.now))) }

@@ -77,6 +77,7 @@ impl<'a> Line<'a> {
 
     /// Returns the process id: the number that its text writes, or else the text.
     #[inline(always)]
+    #[tactic(auto, using(crate::proofs::Names::process_same, crate::proofs::Names::named_names))]
     pub fn process(&self) -> Option<ProcId<&'a str>>
         ensures { option_map (procid_value (λ s. shown s)) result ≡ (line_value self.now).procid }
     {

@@ -40,6 +40,7 @@ impl Names<'_> {
 
 // A program's name beside this host.
 #[inline(always)]
+#[tactic(auto, using(syslog_pieces::proofs::ProcIdLemmas::named_names))]
 fn program<'a>(hostname: Option<&'a str>, name: &'a str) -> Names<'a>
     ensures names { NamesProgram (seen hostname.entry) (chars name.entry.now) (names_value result) }
     ensures form { IsProcessOf (chars name.entry.now) result.process }
@@ -60,6 +61,7 @@ fn program<'a>(hostname: Option<&'a str>, name: &'a str) -> Names<'a>
 
 // A lone name: a program's if it is of the form `tag[id]`, otherwise a host. By a call, since such lines are few.
 #[inline(never)]
+#[tactic(auto, using(syslog_pieces::proofs::ProcIdLemmas::named_names))]
 fn lone<'a>(name: &'a str) -> Names<'a>
     ensures { NamesHost (chars name.entry.now) (names_value result) }
 {

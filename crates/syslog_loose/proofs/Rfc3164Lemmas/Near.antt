@@ -1,19 +1,18 @@
 -- What is read as RFC 3164 meets the condition, but for its exceptions.
 use Rattle.syslog_loose.proofs.Names.{◌≡◌, ◌≢◌, ◌<◌, ◌⊎◌, ◌∷◌, ◌++◌, ◌∙◌, ℕ, inl, inr, Bool, List, [], length, Option}
-use Rattle.syslog_loose.proofs.Names.{Some, None, IfSome, IsSome, refl, sym, ap, subst, append_assoc, arith}
-use Rattle.syslog_loose.proofs.Names.{IfSome_then, is_not_whitespace, AllByRecursion, option_map}
-use Rattle.syslog_loose.proofs.Names.{unwrap_or, skip_leading_whitespace, Text, Front, Each, Ends, run, optional}
-use Rattle.syslog_loose.proofs.Names.{spaced, IsBareWord, IsMany, priority, NamesProcess}
-use Rattle.syslog_loose.proofs.Names.{named_process, ElementValue, full_element, rfc3164_list, elements_or, trimmed}
-use Rattle.syslog_loose.proofs.Names.{is_blank, is_tag_char, dash, IsHost, host, tag_word, is_label_char, is_open_char}
-use Rattle.syslog_loose.proofs.Names.{rfc3164_stamp, month_date, IsCanonicalStamp, Dating, ProcId, PID, Name, DashRule}
-use Rattle.syslog_loose.proofs.Names.{OffsetTimestamp, division_front, heads, rest_whole, spaced_parts, present_front}
-use Rattle.syslog_loose.proofs.Names.{bare_prints, stamp_text-canonical, IsVisible, IsCanonicalElement}
-use Rattle.syslog_loose.proofs.Names.{HasQuietNames, is_no_colon, HasNoColon, IsOddHost, IsInnerProcess}
-use Rattle.syslog_loose.proofs.Names.{AreNamesButExceptions, HasExceptionsAlone, IsNearlyCanonical, MessageValue}
-use Rattle.syslog_loose.proofs.Names.{tag_text, Names3164, Resolves, names, rfc3164_row, IsRead3164, stamped_row}
-use Rattle.syslog_loose.proofs.Names.{fields_row, NamesProgram, fields_before, form_row, IsForm, each_behind, each_both}
-use Rattle.syslog_loose.proofs.Names.{each_left, each_front, each_right, begins, row_pieces, IsOfMonthDate}
+use Rattle.syslog_loose.proofs.Names.{Some, None, IfSome, IsSome, refl, sym, ap, subst, append_assoc, arith, option_map}
+use Rattle.syslog_loose.proofs.Names.{IfSome_then, is_not_whitespace, AllByRecursion, unwrap_or, Text, Front, Each, run}
+use Rattle.syslog_loose.proofs.Names.{skip_leading_whitespace, Ends, optional, spaced, IsBareWord, IsMany, priority}
+use Rattle.syslog_loose.proofs.Names.{NamesProcess, named_process, ElementValue, full_element, rfc3164_list, trimmed}
+use Rattle.syslog_loose.proofs.Names.{elements_or, is_blank, is_tag_char, dash, IsHost, host, tag_word, is_label_char}
+use Rattle.syslog_loose.proofs.Names.{is_open_char, rfc3164_stamp, month_date, IsCanonicalStamp, Dating, ProcId, PID}
+use Rattle.syslog_loose.proofs.Names.{Name, DashRule, OffsetTimestamp, division_front, heads, rest_whole, spaced_parts}
+use Rattle.syslog_loose.proofs.Names.{present_front, bare_prints, stamp_text-canonical, IsVisible, IsCanonicalElement}
+use Rattle.syslog_loose.proofs.Names.{HasQuietNames, is_no_colon, HasNoColon, IsOddHost, IsInnerProcess, MessageValue}
+use Rattle.syslog_loose.proofs.Names.{AreNamesButExceptions, HasExceptionsAlone, IsNearlyCanonical, tag_text, Names3164}
+use Rattle.syslog_loose.proofs.Names.{Resolves, names, rfc3164_row, IsRead3164, stamped_row, fields_row, NamesProgram}
+use Rattle.syslog_loose.proofs.Names.{fields_before, form_row, IsForm, each_behind, each_both, each_left, each_front}
+use Rattle.syslog_loose.proofs.Names.{each_right, begins, row_pieces, IsOfMonthDate}
 use Rattle.syslog_pieces.proofs.StructuredDataLemmas.Elements.{element_canonical}
 use Rattle.syslog_loose.proofs.Rfc3164Lemmas.{of_names, shows, one_form}
 use Rattle.syslog_loose.proofs.PrintedLemmas.{drop_ends, last_ends, severity_beside}

@@ -1,30 +1,26 @@
 -- The printed text of a message of RFC 3164 is read as the message exactly if that is canonical: its division, piece by
 -- piece.
-use Rattle.syslog_loose.proofs.Names.{◌≡◌, ◌∷◌, ◌++◌, ◌∙◌, List, [], Option, Some, None, refl, sym, ap, append_assoc}
-use Rattle.syslog_loose.proofs.Names.{decimal, drop_trailing_whitespace, Text, ElementValue, joined_elements}
-use Rattle.syslog_loose.proofs.Names.{procid_text, trimmed, ProcId, MessageValue, timestamp_text, tag_text}
-use Rattle.syslog_loose.proofs.Names.{spaced_elements, priority_of, ◌≢◌, ◌<◌, ◌then◌, ℕ, suc, pos, inl, inr}
-use Rattle.syslog_loose.proofs.Names.{not, negsuc, true, false, nat_eq, length, IfSome, IsSome, subst, arith}
-use Rattle.syslog_loose.proofs.Names.{length-append, row_of, nat_tests, is_ascii_digit, AllByRecursion}
-use Rattle.syslog_loose.proofs.Names.{Values, Front, NoFront, Row, Each, Ends, run, exactly, optional, spaced, IsMany}
-use Rattle.syslog_loose.proofs.Names.{priority}
-use Rattle.syslog_loose.proofs.Names.{NamesProcess, element_text, full_element, BeginsNoList, rfc3164_list, elements_or}
-use Rattle.syslog_loose.proofs.Names.{is_blank, is_tag_char, dash, colon, name_text, host, tag_word, is_label_char}
-use Rattle.syslog_loose.proofs.Names.{is_open_char, rfc3164_stamp, IsCanonicalStamp, Dating}
-use Rattle.syslog_loose.proofs.Names.{PID, Name, DashRule, OffsetTimestamp, both_values, heads}
-use Rattle.syslog_loose.proofs.Names.{front_division, optional_some, row_cons, rows_join, optional_none, rest_front}
-use Rattle.syslog_loose.proofs.Names.{spaced_front, no_spaced_piece, piece_front}
-use Rattle.syslog_loose.proofs.Names.{host_back, decimal_digits, full_begins, no_full_nil, no_rfc3164_list}
-use Rattle.syslog_loose.proofs.Names.{printed_stamp-back, IsBoundedProcess, IsBounded, IsCanonicalHost}
-use Rattle.syslog_loose.proofs.Names.{IsCanonicalElement, is_process_char, IsBracketedProcess, AreCanonicalNames}
-use Rattle.syslog_loose.proofs.Names.{IsCanonical3164, IsCanonicalFor, IsCanonical, names, Resolves, rfc3164_row}
-use Rattle.syslog_loose.proofs.Names.{IsRead3164, body_row, IsForm, Protocol, RFC3164, each_map, each_left, each_right}
-use Rattle.syslog_loose.proofs.Names.{each_append, ◌↔◌, ◌⊎◌, is_not_whitespace, IsHost, run_same, row_head}
-use Rattle.syslog_loose.proofs.Names.{division_front, run_det, spaced_parts, rest_whole, Begins, begins_apart}
-use Rattle.syslog_loose.proofs.Names.{begins_more, begins_with, step, rows_step, front_longer}
-use Rattle.syslog_loose.proofs.Names.{present_front, priority_composed, begins_no_list, IsLow, rfc3164_stamp_det}
-use Rattle.syslog_loose.proofs.Names.{stamped_date_begins, stamp_text-canonical, printed_stamp-begins, IsVisible}
-use Rattle.syslog_loose.proofs.Names.{HasNoColon, printed, Names3164, row_pieces, signed_writes}
+use Rattle.syslog_loose.proofs.Names.{◌≡◌, ◌∷◌, ◌++◌, ◌∙◌, List, [], Option, Some, None, refl, sym, ap, append_assoc, ℕ}
+use Rattle.syslog_loose.proofs.Names.{decimal, drop_trailing_whitespace, Text, ElementValue, joined_elements, trimmed}
+use Rattle.syslog_loose.proofs.Names.{procid_text, ProcId, MessageValue, timestamp_text, tag_text, spaced_elements, ◌≢◌}
+use Rattle.syslog_loose.proofs.Names.{priority_of, ◌<◌, ◌then◌, suc, pos, inl, inr, not, negsuc, true, false, nat_eq}
+use Rattle.syslog_loose.proofs.Names.{length, IfSome, IsSome, subst, arith, length-append, row_of, nat_tests, Values}
+use Rattle.syslog_loose.proofs.Names.{is_ascii_digit, AllByRecursion, Front, NoFront, Row, Each, Ends, run, exactly}
+use Rattle.syslog_loose.proofs.Names.{optional, spaced, IsMany, priority, NamesProcess, element_text, full_element, PID}
+use Rattle.syslog_loose.proofs.Names.{BeginsNoList, rfc3164_list, elements_or, is_blank, is_tag_char, dash, colon, host}
+use Rattle.syslog_loose.proofs.Names.{name_text, tag_word, is_label_char, is_open_char, rfc3164_stamp, IsCanonicalStamp}
+use Rattle.syslog_loose.proofs.Names.{Dating, Name, DashRule, OffsetTimestamp, both_values, heads, front_division, ◌↔◌}
+use Rattle.syslog_loose.proofs.Names.{optional_some, row_cons, rows_join, optional_none, rest_front, spaced_front, ◌⊎◌}
+use Rattle.syslog_loose.proofs.Names.{no_spaced_piece, piece_front, host_back, decimal_digits, full_begins, no_full_nil}
+use Rattle.syslog_loose.proofs.Names.{no_rfc3164_list, printed_stamp-back, IsBoundedProcess, IsBounded, IsCanonicalHost}
+use Rattle.syslog_loose.proofs.Names.{IsCanonicalElement, is_process_char, IsBracketedProcess, AreCanonicalNames, names}
+use Rattle.syslog_loose.proofs.Names.{IsCanonical3164, IsCanonicalFor, IsCanonical, Resolves, rfc3164_row, IsRead3164}
+use Rattle.syslog_loose.proofs.Names.{body_row, IsForm, Protocol, RFC3164, each_map, each_left, each_right, each_append}
+use Rattle.syslog_loose.proofs.Names.{is_not_whitespace, IsHost, run_same, row_head, division_front, run_det, Begins}
+use Rattle.syslog_loose.proofs.Names.{spaced_parts, rest_whole, begins_apart, begins_more, begins_with, step, rows_step}
+use Rattle.syslog_loose.proofs.Names.{front_longer, present_front, priority_composed, begins_no_list, IsLow, IsVisible}
+use Rattle.syslog_loose.proofs.Names.{rfc3164_stamp_det, stamped_date_begins, stamp_text-canonical, HasNoColon, printed}
+use Rattle.syslog_loose.proofs.Names.{printed_stamp-begins, Names3164, row_pieces, signed_writes}
 use Rattle.syslog_loose.specs.Printed.{printed_3164}
 use Rattle.syslog_loose.specs.Canonical.{EndsVisibly}
 use Rattle.syslog_loose.proofs.PrintedLemmas.{joined_last, LastVisible, last_append, drop_after, message_end_is}

@@ -1,26 +1,25 @@
 -- What the printed text of a message is read as: one that prints the same, or a lighter one; and its rank falls.
 use Rattle.syslog_loose.proofs.Names.{◌≡◌, ◌≢◌, ◌<◌, ◌≤◌, ◌⊎◌, ◌∷◌, ◌++◌, ◌∙◌, ◌-◌, ◌then◌, ℕ, inl, inr, true, false}
-use Rattle.syslog_loose.proofs.Names.{not, nat_eq, [], length, Option, None, IfSome, refl, sym, ap, subst, arith}
-use Rattle.syslog_loose.proofs.Names.{append_assoc, append-nil, Some, take, length-append, row_pieces, row_of}
-use Rattle.syslog_loose.proofs.Names.{nat_tests, bytes_eq-Decides, is_not_whitespace, bytes_eq, Text, Values, Front}
-use Rattle.syslog_loose.proofs.Names.{NoFront, Row, Each, Ends, run, exactly, optional, spaced, is_blank, dash, colon}
-use Rattle.syslog_loose.proofs.Names.{EndsInColon, name_text, host, tag_word, is_tag_char, ProcId, PID, Name, DashRule}
-use Rattle.syslog_loose.proofs.Names.{BeforeBlank, each_both, each_left, each_right, each_front, each_behind}
-use Rattle.syslog_loose.proofs.Names.{each_append, piece_front, rows_step, IsBoundedProcess, IsVisible, IsCanonicalHost}
-use Rattle.syslog_loose.proofs.Names.{AreCanonicalNames, is_no_colon, HasNoColon, is_inner_char, IsOddHost}
-use Rattle.syslog_loose.proofs.Names.{AreNamesButExceptions, HasQuietNames, tag_text, Names3164, names, Resolves}
-use Rattle.syslog_loose.proofs.Names.{body_row, names_weight, elements_or, is_open_char, run_same, heads}
-use Rattle.syslog_loose.proofs.Names.{division_front, optional_some, optional_none, spaced_front, no_spaced_space}
-use Rattle.syslog_loose.proofs.Names.{no_spaced_piece, form_row, IsNoForm, ◌+◌, ◌*◌, List, option_map_or, ElementValue}
-use Rattle.syslog_loose.proofs.Names.{rfc3164_stamp, IsCanonicalStamp, Dating, OffsetTimestamp, step, step_value}
-use Rattle.syslog_loose.proofs.Names.{IsCanonicalElement, HasExceptionsAlone, MessageValue, timestamp_text, priority_of}
-use Rattle.syslog_loose.proofs.Names.{printed, rfc3164_row, IsRead3164, Weighs, tail_text, AllByRecursion}
+use Rattle.syslog_loose.proofs.Names.{not, nat_eq, [], length, Option, None, IfSome, refl, sym, ap, subst, arith, Some}
+use Rattle.syslog_loose.proofs.Names.{append_assoc, append-nil, take, length-append, row_pieces, row_of, nat_tests, Row}
+use Rattle.syslog_loose.proofs.Names.{bytes_eq-Decides, is_not_whitespace, bytes_eq, Text, Values, Front, NoFront, Each}
+use Rattle.syslog_loose.proofs.Names.{Ends, run, exactly, optional, spaced, is_blank, dash, colon, EndsInColon, host}
+use Rattle.syslog_loose.proofs.Names.{name_text, tag_word, is_tag_char, ProcId, PID, Name, DashRule, BeforeBlank, names}
+use Rattle.syslog_loose.proofs.Names.{each_both, each_left, each_right, each_front, each_behind, each_append, rows_step}
+use Rattle.syslog_loose.proofs.Names.{piece_front, IsBoundedProcess, IsVisible, IsCanonicalHost, AreCanonicalNames, ◌+◌}
+use Rattle.syslog_loose.proofs.Names.{is_no_colon, HasNoColon, is_inner_char, IsOddHost, AreNamesButExceptions, heads}
+use Rattle.syslog_loose.proofs.Names.{HasQuietNames, tag_text, Names3164, Resolves, body_row, names_weight, elements_or}
+use Rattle.syslog_loose.proofs.Names.{is_open_char, run_same, division_front, optional_some, optional_none, form_row}
+use Rattle.syslog_loose.proofs.Names.{spaced_front, no_spaced_space, no_spaced_piece, IsNoForm, ◌*◌, List, ElementValue}
+use Rattle.syslog_loose.proofs.Names.{option_map_or, rfc3164_stamp, IsCanonicalStamp, Dating, OffsetTimestamp, step}
+use Rattle.syslog_loose.proofs.Names.{step_value, IsCanonicalElement, HasExceptionsAlone, MessageValue, timestamp_text}
+use Rattle.syslog_loose.proofs.Names.{priority_of, printed, rfc3164_row, IsRead3164, Weighs, tail_text, AllByRecursion}
 use Rattle.syslog_loose.proofs.Names.{facility_number, severity_number, facility_of, severity_of, rest_same, row_head}
-use Rattle.syslog_loose.proofs.Names.{front_same, row_det, Begins, begins_apart, begins_more, begins_with}
-use Rattle.syslog_loose.proofs.Names.{priority_composed, IsLow, rfc3164_stamp_det, stamped_date_begins}
-use Rattle.syslog_loose.proofs.Names.{stamp_text-canonical, printed_stamp-visible, printed_stamp-begins, zero, suc}
-use Rattle.syslog_loose.proofs.Names.{nil_from_length, BeginsNoList, IsDashBefore, IsDashed, HasNoNameException}
-use Rattle.syslog_loose.proofs.Names.{dash_rule, no_full_nil, EndsOnce, HasRank, Prints, drop, list_any, BeginsNoDashes}
+use Rattle.syslog_loose.proofs.Names.{front_same, row_det, Begins, begins_apart, begins_more, begins_with, IsLow, zero}
+use Rattle.syslog_loose.proofs.Names.{priority_composed, rfc3164_stamp_det, stamped_date_begins, stamp_text-canonical}
+use Rattle.syslog_loose.proofs.Names.{printed_stamp-visible, printed_stamp-begins, suc, nil_from_length, BeginsNoList}
+use Rattle.syslog_loose.proofs.Names.{IsDashBefore, IsDashed, HasNoNameException, dash_rule, no_full_nil, EndsOnce}
+use Rattle.syslog_loose.proofs.Names.{HasRank, Prints, drop, list_any, BeginsNoDashes}
 use Rattle.std.proofs.lemmas.List.{take-append-drop}
 use Rattle.std.proofs.lemmas.List.Prefix.{end_rest}
 use Rattle.syslog_loose.proofs.SettlingLemmas.Weights.{Decided, decided, find_run, no_char, no_list_by, no_list_inner}

@@ -1,21 +1,20 @@
 -- Rounds of a text: one is stable first, or one is missing; and the rounds that are skipped, with what is written of them.
-use Rattle.syslog_loose.proofs.Names.{◌≡◌, ◌<◌, ◌⊎◌, ◌∙◌, ℕ, zero, suc, inl, inr, refl, sym, ap, subst, arith}
-use Rattle.syslog_loose.proofs.Names.{leb_tells, Text, Dating, printed, IsUnreadable, IsNext, IsRound, IsSettled}
-use Rattle.syslog_loose.proofs.Names.{NoneSettled, Reaches, IsFirstSettled, Variant, ◌≤◌, ◌∷◌, ◌++◌, [], length, true}
-use Rattle.syslog_loose.proofs.Names.{Option, None, Some, append_assoc, is_not_whitespace, Front, is_blank, trimmed}
-use Rattle.syslog_loose.proofs.Names.{MessageValue, priority_of, dash_rule, IsRead, ShowsMonthDate, month_date}
-use Rattle.syslog_loose.proofs.Names.{optional_some, ReadsProtocol, Protocol, Either, RFC5424, ◌+◌, ◌↔◌, Bool, false}
-use Rattle.syslog_loose.proofs.Names.{List, chars_from_encodes, chars, IsUtf8, encode_utf8_all, IsCanonical}
-use Rattle.syslog_loose.proofs.Names.{HasNoException, IsRead3164, Weighs, ParseFault, Invalid, Memory, IsFixed, HasRank}
-use Rattle.syslog_loose.proofs.Names.{IsLater, IsToldRound, Result, Ok, Err, string_bytes, Global, IfOk, String}
-use Rattle.syslog_loose.proofs.Names.{ElementValue, line_value, BeginsWithout, IsBehindPriority, Made, Row, row_of}
-use Rattle.syslog_loose.proofs.Names.{◌then◌, piece_front, rest, run, IfSome, length-append, Values, rfc3164_list}
-use Rattle.syslog_loose.proofs.Names.{colon, EndsInColon, rfc3164_stamp, IsCanonicalStamp, BeforeBlank, each_front}
-use Rattle.syslog_loose.proofs.Names.{IsBoundedProcess, HasExceptionsAlone, HasNoNameException, colons, colons_before}
-use Rattle.syslog_loose.proofs.Names.{past_colons, EndsColons, IsDashed, PassesDashes, with_msg, tail_text, Names3164}
-use Rattle.syslog_loose.proofs.Names.{names, Resolves, rfc3164_row, body_row, facility_of, severity_of, row_cons}
-use Rattle.syslog_loose.proofs.Names.{rows_join, rest_front, front_division, dash_rfc3164_list, EndsOnce, Prints, ◌-◌}
-use Rattle.syslog_loose.proofs.Names.{append-nil, nil_from_length, Bor, encodes-append, encodes-chars, exactly}
+use Rattle.syslog_loose.proofs.Names.{◌≡◌, ◌<◌, ◌⊎◌, ◌∙◌, ℕ, zero, suc, inl, inr, refl, sym, ap, subst, arith, Text, []}
+use Rattle.syslog_loose.proofs.Names.{leb_tells, Dating, printed, IsUnreadable, IsNext, IsRound, IsSettled, NoneSettled}
+use Rattle.syslog_loose.proofs.Names.{Reaches, IsFirstSettled, Variant, ◌≤◌, ◌∷◌, ◌++◌, length, true, Option, None, ◌+◌}
+use Rattle.syslog_loose.proofs.Names.{Some, append_assoc, is_not_whitespace, Front, is_blank, trimmed, MessageValue, Ok}
+use Rattle.syslog_loose.proofs.Names.{priority_of, dash_rule, IsRead, ShowsMonthDate, month_date, optional_some, Either}
+use Rattle.syslog_loose.proofs.Names.{ReadsProtocol, Protocol, RFC5424, ◌↔◌, Bool, false, List, chars_from_encodes, Err}
+use Rattle.syslog_loose.proofs.Names.{chars, IsUtf8, encode_utf8_all, IsCanonical, HasNoException, IsRead3164, Weighs}
+use Rattle.syslog_loose.proofs.Names.{ParseFault, Invalid, Memory, IsFixed, HasRank, IsLater, IsToldRound, Result, IfOk}
+use Rattle.syslog_loose.proofs.Names.{string_bytes, Global, String, ElementValue, line_value, BeginsWithout, Made, Row}
+use Rattle.syslog_loose.proofs.Names.{IsBehindPriority, row_of, ◌then◌, piece_front, rest, run, IfSome, length-append}
+use Rattle.syslog_loose.proofs.Names.{Values, rfc3164_list, colon, EndsInColon, rfc3164_stamp, IsCanonicalStamp, colons}
+use Rattle.syslog_loose.proofs.Names.{BeforeBlank, each_front, IsBoundedProcess, HasExceptionsAlone, HasNoNameException}
+use Rattle.syslog_loose.proofs.Names.{colons_before, past_colons, EndsColons, IsDashed, PassesDashes, with_msg, names}
+use Rattle.syslog_loose.proofs.Names.{tail_text, Names3164, Resolves, rfc3164_row, body_row, facility_of, severity_of}
+use Rattle.syslog_loose.proofs.Names.{row_cons, rows_join, rest_front, front_division, dash_rfc3164_list, EndsOnce, ◌-◌}
+use Rattle.syslog_loose.proofs.Names.{Prints, append-nil, nil_from_length, Bor, encodes-append, encodes-chars, exactly}
 use Rattle.syslog_loose.proofs.Names.{some_run, shown, CutsColons, joined_elements, elements_text, MatchOption, begins}
 use Rattle.syslog_loose.proofs.Names.{front_same, run_det, encode_utf8, Skips, chars_empty, Ends, is_some, ◌*◌, IsAscii}
 use Rattle.syslog_loose.proofs.Names.{chars-IsAscii, colon_ascii}

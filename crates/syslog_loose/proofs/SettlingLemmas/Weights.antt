@@ -1,22 +1,21 @@
 -- What a message weighs: one weight, no more than its text has characters; and which texts begin with a list.
-use Rattle.syslog_loose.proofs.Names.{◌≡◌, ◌≤◌, ◌⊎◌, ◌∷◌, ◌++◌, ◌∙◌, ◌then◌, ◌also◌, ℕ, zero, suc, inl, inr, Bool, true}
-use Rattle.syslog_loose.proofs.Names.{false, List, [], length, refl, sym, ap, subst, arith, row_of, AllDeterministic}
-use Rattle.syslog_loose.proofs.Names.{heads, run_same, row_cons, no_texted, eqb_tells, Text, Class, Front, NoFront, Row}
-use Rattle.syslog_loose.proofs.Names.{Each, Ends, run, some_run, exactly, texted, full_element, IsDashBefore}
-use Rattle.syslog_loose.proofs.Names.{BeginsNoList, is_blank, DashRule, BeforeBlank, BeforeAnything, front_longer}
-use Rattle.syslog_loose.proofs.Names.{decide, start_row, start, opening_row, is_id_char, is_name_char, begins}
-use Rattle.syslog_loose.proofs.Names.{opening_det, no_full_start, no_full_opening, ◌<◌, not, nat_eq, is_not_whitespace}
-use Rattle.syslog_loose.proofs.Names.{each_both, each_left, each_right, row_pieces, no_row, piece_front, is_inner_char}
-use Rattle.syslog_loose.proofs.Names.{is_open_char, front_same, run_det, full_begins, ◌+◌, ◌%◌, Option, None, IfSome}
-use Rattle.syslog_loose.proofs.Names.{Some, length-append, pos, leb_tells, bytes_eq-Decides, option_map_or, bytes_eq}
-use Rattle.syslog_loose.proofs.Names.{Values, optional, ElementValue, rfc3164_list, elements_or, IsRfc3164List, dash}
-use Rattle.syslog_loose.proofs.Names.{colon, IsCanonicalStamp, ProcId, PID, Name, OffsetTimestamp, present_front, step}
-use Rattle.syslog_loose.proofs.Names.{absent_none, absent_stays, MessageValue, Names3164, Resolves, Costs, names_weight}
-use Rattle.syslog_loose.proofs.Names.{Weighs, rest_whole, row_head, begins_no_list, full_shorter}
-use Rattle.syslog_loose.proofs.Names.{no_rfc3164_list, drop_trailing_whitespace, skip_leading_whitespace, spaced, join}
-use Rattle.syslog_loose.proofs.Names.{host, tag_word, IsHost, rfc3164_stamp, Dating, MonthDate, rfc3164_row, IsRead3164}
-use Rattle.syslog_loose.proofs.Names.{body_row, priority, month, month_date, division_front, spaced_parts}
-use Rattle.syslog_loose.proofs.Names.{stamp_text-canonical, own_year, prefix_len, unsigned_abs, unwrap_or}
+use Rattle.syslog_loose.proofs.Names.{drop_trailing_whitespace, skip_leading_whitespace, stamp_text-canonical, run_same}
+use Rattle.syslog_loose.proofs.Names.{is_not_whitespace, AllDeterministic, bytes_eq-Decides, IsCanonicalStamp, row_cons}
+use Rattle.syslog_loose.proofs.Names.{no_full_opening, OffsetTimestamp, no_rfc3164_list, BeforeAnything, begins_no_list}
+use Rattle.syslog_loose.proofs.Names.{division_front, no_full_start, is_inner_char, length-append, option_map_or, false}
+use Rattle.syslog_loose.proofs.Names.{IsRfc3164List, present_front, rfc3164_stamp, full_element, IsDashBefore, some_run}
+use Rattle.syslog_loose.proofs.Names.{BeginsNoList, front_longer, is_name_char, is_open_char, ElementValue, BeforeBlank}
+use Rattle.syslog_loose.proofs.Names.{rfc3164_list, absent_stays, MessageValue, names_weight, full_shorter, opening_row}
+use Rattle.syslog_loose.proofs.Names.{spaced_parts, unsigned_abs, opening_det, piece_front, full_begins, elements_or, ℕ}
+use Rattle.syslog_loose.proofs.Names.{absent_none, rfc3164_row, is_id_char, each_right, row_pieces, front_same, NoFront}
+use Rattle.syslog_loose.proofs.Names.{rest_whole, IsRead3164, month_date, prefix_len, no_texted, eqb_tells, start_row}
+use Rattle.syslog_loose.proofs.Names.{each_both, each_left, leb_tells, Names3164, MonthDate, unwrap_or, is_blank, subst}
+use Rattle.syslog_loose.proofs.Names.{DashRule, bytes_eq, optional, Resolves, row_head, tag_word, body_row, priority}
+use Rattle.syslog_loose.proofs.Names.{own_year, exactly, run_det, ◌then◌, ◌also◌, length, row_of, texted, decide, arith}
+use Rattle.syslog_loose.proofs.Names.{begins, nat_eq, no_row, Option, IfSome, Values, ProcId, Weighs, spaced, IsHost}
+use Rattle.syslog_loose.proofs.Names.{Dating, heads, Class, Front, start, colon, Costs, month, ◌++◌, zero, Bool, true}
+use Rattle.syslog_loose.proofs.Names.{List, refl, Text, Each, Ends, None, Some, dash, Name, step, join, host, ◌≡◌, ◌≤◌}
+use Rattle.syslog_loose.proofs.Names.{◌⊎◌, ◌∷◌, ◌∙◌, suc, inl, inr, sym, Row, run, ◌<◌, not, ◌+◌, ◌%◌, pos, PID, [], ap}
 use Rattle.syslog_pieces.proofs.PieceLemmas.Class.{row_nil, row_none_here, row_none_later, texted_front, no_front_no}
 use Rattle.syslog_pieces.proofs.PieceLemmas.Class.{Meets, meets_here, meets_none}
 use Rattle.syslog_pieces.proofs.PieceLemmas.Lists.{no_more, no_more_behind}

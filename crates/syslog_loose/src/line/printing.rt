@@ -22,6 +22,7 @@ const MORE_PRINTED: usize = 80;
 impl fmt::Display for Line<'_> {
     ghost output = { λ line. Some (encode_utf8_all (printed (line_value line))) };
 
+    #[tactic(auto, using(crate::proofs::Names::put_two, crate::proofs::PrintedLemmas::printed_line))]
     fn fmt<W: fmt::Write>(&self, f: &mut fmt::Formatter<W>) -> fmt::Result {
         let front = front_of(self);
         f.write_str(front.as_str())?;
@@ -73,6 +74,7 @@ fn write_rest_3164<W: fmt::Write>(f: &mut fmt::Formatter<W>, line: &Line<'_>) ->
 }
 
 // Writes the elements and a space, or nothing where there are none.
+#[tactic(auto, using(crate::proofs::Names::put_two, crate::proofs::PrintedLemmas::encodes_spaced_list))]
 fn write_list_before<W: fmt::Write>(
     f: &mut fmt::Formatter<W>,
     list: &ElementList<'_>,

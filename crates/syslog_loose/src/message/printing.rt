@@ -25,6 +25,7 @@ pub(crate) fn read_priority(number: Option<u8>) -> u32
 
 /// Writes a space and a name.
 #[inline(always)]
+#[tactic(auto, using(crate::proofs::Names::put_two, crate::proofs::Names::encodes_shown))]
 pub(crate) fn write_name<S: AsStr, W: fmt::Write>(
     f: &mut fmt::Formatter<W>,
     name: &Option<S>,
@@ -61,6 +62,7 @@ pub(crate) fn write_timestamp<W: fmt::Write>(
 
 /// Writes a space and a process id.
 #[inline]
+#[tactic(auto, using(std::proofs::lemmas::Grind::common_steps))]
 pub(crate) fn write_process<S: AsStr, W: fmt::Write>(
     f: &mut fmt::Formatter<W>,
     process: &Option<ProcId<S>>,
@@ -79,6 +81,7 @@ pub(crate) fn write_process<S: AsStr, W: fmt::Write>(
 
 /// Writes a space and the elements one after the other.
 #[inline]
+#[tactic(auto, using(std::proofs::lemmas::Grind::common_steps))]
 pub(crate) fn write_elements<S: AsStr, W: fmt::Write>(
     f: &mut fmt::Formatter<W>,
     elements: &[StructuredElement<S>],

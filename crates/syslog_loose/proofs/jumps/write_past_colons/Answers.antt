@@ -2,9 +2,6 @@ use Rattle.syslog_loose.proofs.Names.{◌-◌, chars-IsAscii, chars, colon, line
 use Rattle.syslog_loose.proofs.SettlingLemmas.Settles.{past_written}
 use Rattle.syslog_loose.proofs.jumps.write_past_colons.Goals as goal
 
-pub print_line-requires : goal.print_line-requires
-print_line-requires c = record { utf8 = search; prints = λ h. cc; quiet = λ h. cc }
-
 pub returns : goal.returns
 returns c =
     on_ok_weaker c.push_tail.result (past_written (line_value c.args.line.now) (chars c.args.host.now) (c.args.cut - 1) _ _ _

@@ -2,9 +2,6 @@ use Rattle.syslog_loose.proofs.Names.{IsUtf8-string_bytes, shown, printed, with_
 use Rattle.syslog_loose.proofs.SettlingLemmas.Settles.{later_printed}
 use Rattle.syslog_loose.proofs.jumps.write_past_dashes.Goals as goal
 
-pub print_line-requires : goal.print_line-requires
-print_line-requires c = record { utf8 = search; prints = λ h. cc; quiet = λ h. cc }
-
 pub returns : goal.returns
 returns c = λ variant dating input r e.
     let m = with_msg (line_value c.args.line.now) (shown c.msg_past_dashes.result) in

@@ -1,7 +1,6 @@
-use Rattle.syslog_loose.proofs.Names.{◌∷◌, ◌then◌, ◌past◌, rules, [], inl, refl, row_of, chars, front_division}
-use Rattle.syslog_loose.proofs.Names.{nonempty_is, text_is, form_row, IsNoForm, empty_is, text_is_not}
+use Rattle.syslog_loose.proofs.Names.{◌∷◌, ◌then◌, ◌past◌, rules, [], inl, refl, row_of, chars, front_division, text_is}
+use Rattle.syslog_loose.proofs.Names.{nonempty_is, form_row, IsNoForm, empty_is, text_is_not, one_ascii, arith, Front}
 use Rattle.syslog_loose.proofs.Rfc3164Lemmas.{label_front, id_front, no_id, no_form, no_closing, to_closing, closing}
-use Rattle.syslog_loose.proofs.Names.{one_ascii, arith, Front}
 use Rattle.syslog_loose.proofs.tag_form.tag_form.Goals as goal
 
 pub returns-in_err-rest : goal.returns-in_err-rest

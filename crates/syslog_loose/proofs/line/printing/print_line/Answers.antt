@@ -1,5 +1,5 @@
 use Rattle.syslog_loose.proofs.Names.{◌≡◌, ◌++◌, ◌∙◌, [], ℕ, List, Result, Ok, Err, string_bytes, sym, ap, on_ok_weaker}
-use Rattle.syslog_loose.proofs.Names.{encodes-chars, encode_utf8_all, line_value, printed, OnOk, refl}
+use Rattle.syslog_loose.proofs.Names.{encodes-chars, encode_utf8_all, line_value, printed, OnOk, refl, ap₂}
 use Rattle.std.specs.Bool.{if◌then◌else◌}
 use Rattle.std.specs.Result.{is_ok}
 use Rattle.syslog_loose.proofs.PrintedLemmas.{printed_line}
@@ -8,9 +8,6 @@ use Rattle.syslog_loose.proofs.line.printing.print_line.Goals as goal
 -- a text that was empty
 started : (text before piece front : List ℕ) → before ≡ [] → piece ≡ front → text ≡ before ++ piece → text ≡ front
 started text before piece front h k e = e ∙ ap (λ (x : List ℕ). x ++ piece) h ∙ k
-
-both : (a b x y : List ℕ) → a ≡ b → x ≡ y → a ++ x ≡ b ++ y
-both a b x y e f = cc
 
 -- what was appended, where there was memory
 pushed : {T E : Type 0} (r : Result T E) (new old piece all : List ℕ)
@@ -32,4 +29,4 @@ returns c =
     ∙ ap encode_utf8_all (c.requires.prints c.if-not-line.false) in
     pushed c.push_str-2.result (string_bytes c.push_str-2.new.self) (string_bytes c.push_str.new.self)
     line.rest.now (encode_utf8_all (printed (line_value line))) c.push_str-2.ensures.bytes
-    (both _ _ _ _ front rest ∙ printed_line line)
+    (ap₂ (λ (a b : List ℕ). a ++ b) front rest ∙ printed_line line)
