@@ -116,6 +116,7 @@ impl<'a> Line<'a> {
     /// Returns whether the line's message, printed, is parsed as the same message by its own protocol.
     ///
     /// It looks at the fields alone, takes no memory, and its time is linear in the line.
+    #[tactic(auto, using(syslog_pieces::proofs::StructuredDataLemmas::Elements::are_canonical))]
     pub fn is_canonical(&self) -> bool
         ensures { IsTrue result ↔ IsCanonical dash_rule (line_value self.now) }
     {

@@ -67,6 +67,7 @@ impl<S: AsStr> Message<S> {
 }
 
 /// Whether a message of these fields is canonical, where its elements are.
+#[tactic(auto, using(crate::proofs::Names::last_is))]
 pub(crate) fn are_canonical_fields<S: AsStr>(fields: &Fields<'_, S>) -> bool
     ensures { (es : List ElementValue) → AreElements fields.now.no_elements fields.now.have_params es
         → AllByRecursion spec.IsCanonicalElement es → IsTrue result ↔ spec.IsCanonical dash_rule (fields_value (text_of S.text) fields.now es) }

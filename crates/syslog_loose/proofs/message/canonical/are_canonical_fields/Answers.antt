@@ -8,10 +8,3 @@ returns-in-RFC5424 g c es are canonical =
     let r = c.are_canonical_rfc5424.result in
     subst (λ p. IsTrue r ↔ (IsCanonicalInBoth m × IsCanonicalFor dash_rule p m)) (sym c.in-RFC5424.is)
     (last_is r ((c.if-not-are_canonical_in_both.ensures es canonical).0 refl) (c.are_canonical_rfc5424.ensures es))
-
-pub returns-in-RFC3164 : goal.returns-in-RFC3164
-returns-in-RFC3164 g c es are canonical =
-    let m = fields_value (text_of g.S.AsStr.text) c.args.fields.now es in
-    let r = c.are_canonical_rfc3164.result in
-    subst (λ p. IsTrue r ↔ (IsCanonicalInBoth m × IsCanonicalFor dash_rule p m)) (sym c.in-RFC3164.is)
-    (last_is r ((c.if-not-are_canonical_in_both.ensures es canonical).0 refl) (c.are_canonical_rfc3164.ensures es are))
