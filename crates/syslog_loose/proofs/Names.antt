@@ -85,8 +85,8 @@ pub use Rattle.syslog_pieces.proofs.TextLemmas.Words.{dash_ascii}
 pub use Rattle.syslog_pieces.proofs.PieceLemmas.Lists.{begins, part_joined, Quoted, row_quotes, silent, rest_quotes}
 pub use Rattle.syslog_pieces.proofs.PieceLemmas.Lists.{host_quotes, Begins, begins_apart, begins_more, begins_with}
 pub use Rattle.syslog_pieces.proofs.TimestampLemmas.Rfc3339.{printed_stamp-bytes, printed_stamp-characters}
-pub use Rattle.syslog_pieces.proofs.TimestampLemmas.Rfc3339.{stamp_text-canonical, printed_stamp-begins}
-pub use Rattle.syslog_pieces.proofs.TimestampLemmas.Rfc3339.{printed_stamp-back, printed_stamp-visible, stamp_text-year}
+pub use Rattle.syslog_pieces.proofs.TimestampLemmas.Rfc3339.{stamp_text_canonical, printed_stamp-begins}
+pub use Rattle.syslog_pieces.proofs.TimestampLemmas.Rfc3339.{printed_stamp_back, printed_stamp-visible, stamp_text-year}
 pub use Rattle.syslog_pieces.proofs.ProcIdLemmas.{process_same, bare_prints, named_names, signed_writes, no_number_told}
 pub use Rattle.syslog_pieces.proofs.PriLemmas.{priority_det, priority_composed, severity_there, facility_composed}
 pub use Rattle.syslog_pieces.proofs.PriLemmas.{severity_composed}

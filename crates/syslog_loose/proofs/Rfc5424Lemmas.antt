@@ -16,7 +16,7 @@ use Rattle.syslog_loose.proofs.Names.{drop_trailing_whitespace, Division, classe
 use Rattle.syslog_loose.proofs.Names.{facility_number, severity_number, ElementValue, elements_text, EndsVisibly}
 use Rattle.syslog_loose.proofs.Names.{SyslogFacility, SyslogSeverity, SEV_DEBUG, ProcId, DashRule, BeforeAnything}
 use Rattle.syslog_loose.proofs.Names.{OffsetTimestamp, piece_front, priority_composed, number_back, host_back, Protocol}
-use Rattle.syslog_loose.proofs.Names.{printed_stamp-back, stamp_text-canonical, IsBoundedProtocol, IsBounded, printed}
+use Rattle.syslog_loose.proofs.Names.{printed_stamp_back, stamp_text_canonical, IsBoundedProtocol, IsBounded, printed}
 use Rattle.syslog_loose.proofs.Names.{IsCanonicalInBoth, IsCanonicalFor, IsCanonical, priority_of, Quotes5424, composed}
 use Rattle.syslog_pieces.proofs.PieceLemmas.Lists.{word_quotes, process_quotes, AllSound, row_back}
 use Rattle.syslog_pieces.proofs.TextLemmas.Words.{number_det, word_det, word_back, word_canonical, host_canonical}
@@ -130,11 +130,11 @@ fields =
 -- what is read of a timestamp is canonical
 pub stamp_canonical : (p q : Text) (v : Option OffsetTimestamp) → header_stamp.Is p q v → IfSome v IsCanonicalStamp
 stamp_canonical p q None h = tt
-stamp_canonical p q (Some s) h = stamp_text-canonical p s h.0
+stamp_canonical p q (Some s) h = stamp_text_canonical p s h.0
 
 stamp_sound : IsSound stamp_field
 stamp_sound None q h b = refl
-stamp_sound (Some s) q h b = (printed_stamp-back s h, b)
+stamp_sound (Some s) q h b = (printed_stamp_back s h, b)
 
 space_sound : IsSound space
 space_sound v q h b = (omega arith, (refl, tt), b)

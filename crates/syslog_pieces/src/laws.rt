@@ -130,6 +130,7 @@ pub fn text_is_unescaped_once()
 {}
 
 /// An iterator over parameters, called until it gives nothing, has given one item in the place of each, in order.
+#[tactic(auto, using(crate::proofs::StructuredDataLemmas::Units::param_items_drained))]
 pub fn params_are_given_in_order<S: AsStr>()
     ensures { (params : List (S × S)) (items : List (Result (Bor S × String Global) AllocError))
         → Drains (NextParam S.text) params items → AreParamItems S.text params items }

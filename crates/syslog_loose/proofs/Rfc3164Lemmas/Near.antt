@@ -7,7 +7,7 @@ use Rattle.syslog_loose.proofs.Names.{NamesProcess, named_process, ElementValue,
 use Rattle.syslog_loose.proofs.Names.{elements_or, is_blank, is_tag_char, dash, IsHost, host, tag_word, is_label_char}
 use Rattle.syslog_loose.proofs.Names.{is_open_char, rfc3164_stamp, month_date, IsCanonicalStamp, Dating, ProcId, PID}
 use Rattle.syslog_loose.proofs.Names.{Name, DashRule, OffsetTimestamp, division_front, heads, rest_whole, spaced_parts}
-use Rattle.syslog_loose.proofs.Names.{present_front, bare_prints, stamp_text-canonical, IsVisible, IsCanonicalElement}
+use Rattle.syslog_loose.proofs.Names.{present_front, bare_prints, stamp_text_canonical, IsVisible, IsCanonicalElement}
 use Rattle.syslog_loose.proofs.Names.{HasQuietNames, is_no_colon, HasNoColon, IsOddHost, IsInnerProcess, MessageValue}
 use Rattle.syslog_loose.proofs.Names.{AreNamesButExceptions, HasExceptionsAlone, IsNearlyCanonical, tag_text, Names3164}
 use Rattle.syslog_loose.proofs.Names.{Resolves, names, rfc3164_row, IsRead3164, stamped_row, fields_row, NamesProgram}
@@ -167,7 +167,7 @@ module _ (rule : DashRule) (dating : Dating) (text : Text) where
       → Front (run is_blank) t u tt → Front (rfc3164_stamp dating) u q v → IfSome v IsOfKind
   stamp_kind p t u q None f g h = tt
   stamp_kind p t u q (Some s) f g h = elim h.is [
-    | inl k ↦ inl (stamp_text-canonical h.piece s k.0)
+    | inl k ↦ inl (stamp_text_canonical h.piece s k.0)
     | inr (date, k, stamp) ↦
         let d : Front month_date u q date = record { piece = h.piece; whole = h.whole; is = k } in
         inr (date, shows month_date f g d, stamp)

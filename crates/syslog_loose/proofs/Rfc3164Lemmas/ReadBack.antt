@@ -12,14 +12,14 @@ use Rattle.syslog_loose.proofs.Names.{name_text, tag_word, is_label_char, is_ope
 use Rattle.syslog_loose.proofs.Names.{Dating, Name, DashRule, OffsetTimestamp, both_values, heads, front_division, ◌↔◌}
 use Rattle.syslog_loose.proofs.Names.{optional_some, row_cons, rows_join, optional_none, rest_front, spaced_front, ◌⊎◌}
 use Rattle.syslog_loose.proofs.Names.{no_spaced_piece, piece_front, host_back, decimal_digits, full_begins, no_full_nil}
-use Rattle.syslog_loose.proofs.Names.{no_rfc3164_list, printed_stamp-back, IsBoundedProcess, IsBounded, IsCanonicalHost}
+use Rattle.syslog_loose.proofs.Names.{no_rfc3164_list, printed_stamp_back, IsBoundedProcess, IsBounded, IsCanonicalHost}
 use Rattle.syslog_loose.proofs.Names.{IsCanonicalElement, is_process_char, IsBracketedProcess, AreCanonicalNames, names}
 use Rattle.syslog_loose.proofs.Names.{IsCanonical3164, IsCanonicalFor, IsCanonical, Resolves, rfc3164_row, IsRead3164}
 use Rattle.syslog_loose.proofs.Names.{body_row, IsForm, Protocol, RFC3164, each_map, each_left, each_right, each_append}
 use Rattle.syslog_loose.proofs.Names.{is_not_whitespace, IsHost, run_same, row_head, division_front, run_det, Begins}
 use Rattle.syslog_loose.proofs.Names.{spaced_parts, rest_whole, begins_apart, begins_more, begins_with, step, rows_step}
 use Rattle.syslog_loose.proofs.Names.{front_longer, present_front, priority_composed, begins_no_list, IsLow, IsVisible}
-use Rattle.syslog_loose.proofs.Names.{rfc3164_stamp_det, stamped_date_begins, stamp_text-canonical, HasNoColon, printed}
+use Rattle.syslog_loose.proofs.Names.{rfc3164_stamp_det, stamped_date_begins, stamp_text_canonical, HasNoColon, printed}
 use Rattle.syslog_loose.proofs.Names.{printed_stamp-begins, Names3164, row_pieces, signed_writes}
 use Rattle.syslog_loose.specs.Printed.{printed_3164}
 use Rattle.syslog_loose.specs.Canonical.{EndsVisibly}
@@ -232,7 +232,7 @@ pub stamp_back : (dating : Dating) (v : Option OffsetTimestamp) (q : Text) → I
 stamp_back dating None q h = piece_front (rfc3164_stamp dating) dash (32 ∷ q) None (inl refl)
 stamp_back dating (Some s) q h =
     piece_front (rfc3164_stamp dating) (timestamp_text (Some s)) (32 ∷ q) (Some s)
-    (inl (printed_stamp-back s h, (q, refl)))
+    (inl (printed_stamp_back s h, (q, refl)))
 
 -- the names up to the colon, as they are printed
 pub names_back : (h a : Option Text) (p : Option (ProcId Text)) (t : Text) → IfSome h IsCanonicalHost
@@ -351,7 +351,7 @@ stamp_canonical : (dating : Dating) (v : Option OffsetTimestamp) (q u : Text)
     → Front (rfc3164_stamp dating) (timestamp_text v ++ (32 ∷ u)) q v → IfSome v IsCanonicalStamp
 stamp_canonical dating None q u f = tt
 stamp_canonical dating (Some s) q u f = elim f.is [
-  | inl h ↦ stamp_text-canonical f.piece s h.0
+  | inl h ↦ stamp_text_canonical f.piece s h.0
   | inr h ↦ absurd (begins_apart (f.piece ++ q) (λ c l k. omega arith) (subst (λ (y : Text). Begins IsLow y) f.whole
       (begins_more IsLow (timestamp_text (Some s)) (32 ∷ u) (stamp_low s)))
       (stamped_date_begins dating f.piece q (Some s) h))

@@ -16,7 +16,7 @@ use Rattle.syslog_loose.proofs.Names.{step_value, IsCanonicalElement, HasExcepti
 use Rattle.syslog_loose.proofs.Names.{priority_of, printed, rfc3164_row, IsRead3164, Weighs, tail_text, AllByRecursion}
 use Rattle.syslog_loose.proofs.Names.{facility_number, severity_number, facility_of, severity_of, rest_same, row_head}
 use Rattle.syslog_loose.proofs.Names.{front_same, row_det, Begins, begins_apart, begins_more, begins_with, IsLow, zero}
-use Rattle.syslog_loose.proofs.Names.{priority_composed, rfc3164_stamp_det, stamped_date_begins, stamp_text-canonical}
+use Rattle.syslog_loose.proofs.Names.{priority_composed, rfc3164_stamp_det, stamped_date_begins, stamp_text_canonical}
 use Rattle.syslog_loose.proofs.Names.{printed_stamp-visible, printed_stamp-begins, suc, nil_from_length, BeginsNoList}
 use Rattle.syslog_loose.proofs.Names.{IsDashBefore, IsDashed, HasNoNameException, dash_rule, no_full_nil, EndsOnce}
 use Rattle.syslog_loose.proofs.Names.{HasRank, Prints, drop, list_any, BeginsNoDashes}
@@ -318,7 +318,7 @@ stamp_step dating s q p r None e (inl h) = (tt, inr (behind_dash s (32 ∷ q) r 
 stamp_step dating s q p r (Some z) e (inl (h, (more, f))) =
     let same = run_same is_not_whitespace (timestamp_text (Some s)) (32 ∷ q) p r e (printed_stamp-visible s) refl
     (stamp_each p z h) (space_ends r more f) in
-    (stamp_text-canonical p z h, inl (sym (rest_same (timestamp_text (Some s)) (32 ∷ q) p r e same)))
+    (stamp_text_canonical p z h, inl (sym (rest_same (timestamp_text (Some s)) (32 ∷ q) p r e same)))
 stamp_step dating s q p r v e (inr h) =
     absurd (begins_apart (p ++ r) (λ c l k. omega arith) (subst (λ (y : Text). Begins IsLow y) e (begins_more IsLow
     (timestamp_text (Some s)) (32 ∷ q) (stamp_low s))) (stamped_date_begins dating p r v h))

@@ -1,5 +1,5 @@
 -- What a message weighs: one weight, no more than its text has characters; and which texts begin with a list.
-use Rattle.syslog_loose.proofs.Names.{drop_trailing_whitespace, skip_leading_whitespace, stamp_text-canonical, run_same}
+use Rattle.syslog_loose.proofs.Names.{drop_trailing_whitespace, skip_leading_whitespace, stamp_text_canonical, run_same}
 use Rattle.syslog_loose.proofs.Names.{is_not_whitespace, AllDeterministic, bytes_eq-Decides, IsCanonicalStamp, row_cons}
 use Rattle.syslog_loose.proofs.Names.{no_full_opening, OffsetTimestamp, no_rfc3164_list, BeforeAnything, begins_no_list}
 use Rattle.syslog_loose.proofs.Names.{division_front, no_full_start, is_inner_char, length-append, option_map_or, false}
@@ -434,7 +434,7 @@ date_some p q d (inr (vs, k, i)) = search row_some
 stamp_light : (dating : Dating) (p q : Text) (s : Option OffsetTimestamp) (w : ℕ) → (rfc3164_stamp dating).Is p q s
     → Costs (IfSome s IsCanonicalStamp) 1 w → w ≤ length p
 stamp_light dating p q None w h c = omega (arith, free c tt)
-stamp_light dating p q (Some s) w (inl (text, space)) c = omega (arith, free c (stamp_text-canonical p s text))
+stamp_light dating p q (Some s) w (inl (text, space)) c = omega (arith, free c (stamp_text_canonical p s text))
 stamp_light dating p q (Some s) w (inr (d, h, k)) c = omega (arith, at_most c, date_some p q d h)
 
 -- ---- the names

@@ -190,14 +190,14 @@ module _ {t bs xs ys out out' : Text} (s : SplitsRun is_bare_char bs xs ys) (r :
   }
 
 -- ---- what an iterator over parameters gives in all
-pub AreParamItems-Drains : {S : Type 0} (bytes : S → List ℕ) (params : List (S × S)) (items : List (Result (Bor S ×
+pub param_items_drained : {S : Type 0} (bytes : S → List ℕ) (params : List (S × S)) (items : List (Result (Bor S ×
     String Global) AllocError)) → Drains (NextParam bytes) params items → AreParamItems bytes params items
-AreParamItems-Drains bytes [] [] d = tt
-AreParamItems-Drains bytes [] (item ∷ items) d = let step = d.1.1.1.0 in absurd (cc)
-AreParamItems-Drains bytes (p ∷ ps) [] d = absurd (rw (← d.1.1) at d.1.2).0
-AreParamItems-Drains bytes (p ∷ ps) (item ∷ items) d =
+param_items_drained bytes [] [] d = tt
+param_items_drained bytes [] (item ∷ items) d = let step = d.1.1.1.0 in absurd (cc)
+param_items_drained bytes (p ∷ ps) [] d = absurd (rw (← d.1.1) at d.1.2).0
+param_items_drained bytes (p ∷ ps) (item ∷ items) d =
     let step = d.1.1.1 in
-    (step.0, AreParamItems-Drains bytes ps items (d.0, (d.1.0, rw step.1 at d.1.1.2, d.1.2)))
+    (step.0, param_items_drained bytes ps items (d.0, (d.1.0, rw step.1 at d.1.1.2, d.1.2)))
 
 -- ---- the texts of elements are parts of their list
 

@@ -5,19 +5,18 @@ use Rattle.syslog_pieces.proofs.Names.{elements_text, optional_some, optional_no
 use Rattle.syslog_pieces.proofs.Names.{full_element, IsDashBefore, rfc3164_list, BeginsNoList, append_assoc, inside_row}
 use Rattle.syslog_pieces.proofs.Names.{ElementValue, is_name_char, element_text, element_seen, one_value-is, param_text}
 use Rattle.syslog_pieces.proofs.Names.{is_open_char, opening_row, list_before, element_row, more_before, no_front_no, ℕ}
-use Rattle.syslog_pieces.proofs.Names.{elements_or, meets_none, name_alone, OneMeaning, element_of, is_id_char, opening}
-use Rattle.syslog_pieces.proofs.Names.{no_many_no, row_pieces, append-nil, byte_count, front_same, start_row, many_cons}
-use Rattle.syslog_pieces.proofs.Names.{many_none, rows_step, and_parts, list_here, list_goes, more_goes, row_first, ◌≡◌}
-use Rattle.syslog_pieces.proofs.Names.{more_here, many_here, one_value, forgiving, bracketed, row_goes, ∥∥₁_elim, heads}
-use Rattle.syslog_pieces.proofs.Names.{row_head, param_of, is_blank, optional, DashRule, many_det, flat_map, some_run}
-use Rattle.syslog_pieces.proofs.Names.{id_alone, meets_on, tail_row, IsWalked, closing, NoFront, exactly, element, Some}
-use Rattle.syslog_pieces.proofs.Names.{no_more, no_list, IsAlone, HasRead, IsUtf8, IsTrue, texted, IsMany, strict, None}
-use Rattle.syslog_pieces.proofs.Names.{Visits, Values, behind, inside, quoted, IsDead, Leaves, row_of, ◌then◌, ◌also◌}
-use Rattle.syslog_pieces.proofs.Names.{begins, Walked, Option, false, value, subst, arith, start, Front, param, Meets}
-use Rattle.syslog_pieces.proofs.Names.{shown, chars, List, ◌++◌, refl, Text, many, dash, Bool, ◌&&◌, item, true, ◌<◌}
-use Rattle.syslog_pieces.proofs.Names.{inl, inr, ◌∷◌, sym, ◌∙◌, Row, ◌↔◌, ◌+◌, ◌≤◌, ◌⊎◌, map, run, [], ap}
-use mathlib.Core.HLevel.{Σ_prop, ⊥_prop}
-use Rattle.std.proofs.lemmas.List.Sums.{sum_by_push}
+use Rattle.syslog_pieces.proofs.Names.{elements_or, sum_by_push, meets_none, name_alone, OneMeaning, element_of, IsUtf8}
+use Rattle.syslog_pieces.proofs.Names.{is_id_char, no_many_no, row_pieces, append-nil, byte_count, front_same, row_goes}
+use Rattle.syslog_pieces.proofs.Names.{start_row, many_cons, many_none, rows_step, and_parts, list_here, list_goes, ◌≡◌}
+use Rattle.syslog_pieces.proofs.Names.{more_goes, row_first, more_here, many_here, one_value, forgiving, bracketed, ◌<◌}
+use Rattle.syslog_pieces.proofs.Names.{∥∥₁_elim, row_head, param_of, is_blank, optional, DashRule, many_det, flat_map}
+use Rattle.syslog_pieces.proofs.Names.{some_run, id_alone, meets_on, tail_row, IsWalked, opening, closing, NoFront, inl}
+use Rattle.syslog_pieces.proofs.Names.{exactly, element, no_more, no_list, IsAlone, HasRead, IsTrue, texted, IsMany, []}
+use Rattle.syslog_pieces.proofs.Names.{strict, Visits, Values, behind, inside, quoted, IsDead, Leaves, row_of, ◌then◌}
+use Rattle.syslog_pieces.proofs.Names.{◌also◌, begins, Walked, Option, Σ_prop, ⊥_prop, heads, false, value, subst, Some}
+use Rattle.syslog_pieces.proofs.Names.{arith, start, Front, param, Meets, shown, chars, None, List, ◌++◌, refl, Text}
+use Rattle.syslog_pieces.proofs.Names.{many, dash, Bool, ◌&&◌, item, true, inr, ◌∷◌, sym, ◌∙◌, Row, ◌↔◌, ◌+◌, ◌≤◌, ◌⊎◌}
+use Rattle.syslog_pieces.proofs.Names.{map, run, ap}
 use Rattle.syslog_pieces.specs.StructuredData.Recognised.{OneInside-prop, OneItems-prop, params_set, items_set}
 use Rattle.syslog_pieces.specs.StructuredData.Visited.{IsTallied, AreItems}
 use Rattle.syslog_pieces.specs.declared.structured_data.line_list.Tally.{Tally}

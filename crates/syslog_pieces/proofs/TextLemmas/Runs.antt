@@ -1,23 +1,22 @@
 -- From the bytes of a text to its characters: cuts, runs, and what the first bytes say.
-use Rattle.syslog_pieces.proofs.Names.{IsCharBoundary-after_ascii, IsCharBoundary-at_seam, IsCharBoundary-start, nat_eq}
-use Rattle.syslog_pieces.proofs.Names.{get_or_append_left, IsUtf8-from_ascii, is_not_whitespace, length-le-encodes, ◌≡◌}
-use Rattle.syslog_pieces.proofs.Names.{drop-append_seam, take-append_seam, take-append-drop, encodes-IsAscii, nat_tests}
-use Rattle.syslog_pieces.proofs.Names.{encode_utf8_all, byte_from_char, char_from_byte, is_ascii_digit, encodes-append}
-use Rattle.syslog_pieces.proofs.Names.{IsCharBoundary, agree_below_at, encodes-chars, chars-IsAscii, length-append, ◌≢◌}
-use Rattle.syslog_pieces.proofs.Names.{is_whitespace, chars-encodes, scalars-chars, BeginsVisibly, BeginsWithGap, false}
-use Rattle.syslog_pieces.proofs.Names.{IsAscii-cons, chars-append, length-take, agree_below, get_or-drop, IsAscii-nil}
-use Rattle.syslog_pieces.proofs.Names.{IsUtf8-take, length-drop, IsUtf8-drop, cases_Bool, length-map, chars-nil, length}
-use Rattle.syslog_pieces.proofs.Names.{name_text, and_parts, SplitsRun, CharClass, replicate, drop_more, not-false, ◌∷◌}
-use Rattle.syslog_pieces.proofs.Names.{cases_lt, and_left, ltb-true, some_run, run_same, each_map, is_blank, not-true}
-use Rattle.syslog_pieces.proofs.Names.{and_from, eqb-true, bytes_eq, add-zero, IsAscii, add-one, NoFront, EndsRun, Bool}
-use Rattle.syslog_pieces.proofs.Names.{byte_in, past_in, exactly, IsRunIn, trimmed, get_or, IsUtf8, bit_or, Option, ◌<◌}
-use Rattle.syslog_pieces.proofs.Names.{IsHost, nat_lt, lt-ltb, number, IsBare, ◌also◌, arith, chars, Front, Names, true}
-use Rattle.syslog_pieces.proofs.Names.{Class, IsRun, List, ◌++◌, Text, Each, Ends, take, drop, Some, None, word, host}
-use Rattle.syslog_pieces.proofs.Names.{zero, refl, cond, Fits, ◌&&◌, ◌||◌, has, ◌+◌, ◌%◌, ◌^◌, map, eqb, beq, ◌/◌, sym}
-use Rattle.syslog_pieces.proofs.Names.{◌∙◌, suc, ◌-◌, ◌≤◌, inl, inr, not, run, [], ap, w8, ℕ}
-use Rattle.std.proofs.Common.{get_or-take}
+use Rattle.syslog_pieces.proofs.Names.{IsCharBoundary-before_ascii, IsCharBoundary-after_ascii, IsCharBoundary-at_seam}
+use Rattle.syslog_pieces.proofs.Names.{IsCharBoundary-start, get_or_append_left, IsUtf8-from_ascii, is_not_whitespace}
+use Rattle.syslog_pieces.proofs.Names.{length-le-encodes, drop-append_seam, take-append_seam, take-append-drop, IsAscii}
+use Rattle.syslog_pieces.proofs.Names.{encodes-IsAscii, encode_utf8_all, byte_from_char, char_from_byte, is_ascii_digit}
+use Rattle.syslog_pieces.proofs.Names.{encodes-append, IsCharBoundary, agree_below_at, encodes-chars, chars-IsAscii, []}
+use Rattle.syslog_pieces.proofs.Names.{length-append, is_whitespace, chars-encodes, scalars-chars, BeginsVisibly, false}
+use Rattle.syslog_pieces.proofs.Names.{BeginsWithGap, IsAscii-cons, chars-append, length-take, agree_below, get_or-drop}
+use Rattle.syslog_pieces.proofs.Names.{IsAscii-nil, IsUtf8-take, length-drop, IsUtf8-drop, get_or-take, cases_Bool, ◌≡◌}
+use Rattle.syslog_pieces.proofs.Names.{length-map, nat_tests, chars-nil, name_text, and_parts, SplitsRun, CharClass, ap}
+use Rattle.syslog_pieces.proofs.Names.{replicate, drop_more, not-false, cases_lt, and_left, ltb-true, some_run, add-one}
+use Rattle.syslog_pieces.proofs.Names.{run_same, each_map, is_blank, not-true, and_from, eqb-true, bytes_eq, add-zero}
+use Rattle.syslog_pieces.proofs.Names.{NoFront, EndsRun, byte_in, past_in, exactly, IsRunIn, trimmed, Visible, nat_eq}
+use Rattle.syslog_pieces.proofs.Names.{length, get_or, IsUtf8, bit_or, Option, IsHost, nat_lt, lt-ltb, number, IsBare}
+use Rattle.syslog_pieces.proofs.Names.{◌also◌, arith, chars, Front, Names, Class, IsRun, Bool, true, List, ◌++◌, Text}
+use Rattle.syslog_pieces.proofs.Names.{Each, Ends, take, drop, Some, None, word, host, zero, refl, cond, Fits, ◌&&◌, w8}
+use Rattle.syslog_pieces.proofs.Names.{◌||◌, ◌≢◌, ◌∷◌, ◌<◌, has, ◌+◌, ◌%◌, ◌^◌, map, eqb, beq, ◌/◌, sym, ◌∙◌, suc, ◌-◌}
+use Rattle.syslog_pieces.proofs.Names.{◌≤◌, inl, inr, not, run, ℕ, first_set, visible_byte}
 use Rattle.std.proofs.lemmas.List.{get_or-append-add, nil_from_length, take_all, take_more}
-use Rattle.std.proofs.lemmas.Str.{IsCharBoundary-before_ascii}
 use Rattle.std.proofs.lemmas.Slice.Eq.{bytes_eq-Decides}
 use Rattle.std.proofs.lemmas.Bool.{le-ltb, not_from_true, and_right}
 use Rattle.std.specs.Int.RustNames.{bit_xor}
@@ -27,8 +26,6 @@ use Rattle.std.specs.Str.{all_scalars, trim, trim_start, trim_end, skip_leading_
 use mir.Val.{bool_byte}
 use lib.Lanes.{chunk, zip2, mask_l, top}
 use lib.Utf8.{scalar, encode}
-use Rattle.syslog_pieces.specs.Bodies.Scan.{first_set, visible_byte}
-use Rattle.syslog_pieces.specs.declared.text.CharClass.TheVariants.{Visible}
 use Rattle.syslog_pieces.proofs.PieceLemmas.Class.{front_of}
 pub use Rattle.std.proofs.lemmas.Bool.{not-true as from_not_true}
 

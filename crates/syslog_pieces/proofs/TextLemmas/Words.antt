@@ -10,12 +10,11 @@ use Rattle.syslog_pieces.proofs.Names.{arith, front_same, digit_glyph, digit_val
 use Rattle.syslog_pieces.proofs.Names.{append_assoc, encode_utf8_all, IsDeterministic, IsCanonicalHost, IsCanonicalWord}
 use Rattle.syslog_pieces.proofs.Names.{rules, chars, OkIff, Front, colon, Names, false, IfSome, IsTrue, negsuc, lt-ltb}
 use Rattle.syslog_pieces.proofs.Names.{take-append_seam, drop-append_seam, IsAscii, is_not_whitespace, decimal_nonempty}
-use Rattle.syslog_pieces.proofs.Names.{encodes-IsAscii, IsUtf8-from_ascii, digits_value-decimal}
+use Rattle.syslog_pieces.proofs.Names.{encodes-IsAscii, IsUtf8-from_ascii, digits_value-decimal, length-append}
 use Rattle.syslog_pieces.proofs.Names.{chars-append, digits_value, append-nil, decimal_digit, IsAscii-cons}
 use Rattle.syslog_pieces.proofs.Names.{encodes-append, ParsesUnsigned, is_ascii_digit, IsCanonicalTag, flat_map-append}
 use Rattle.syslog_pieces.proofs.Names.{tag_word, run_same, is_blank, each_map, eqb-true, eqb_tells, take_more, flat_map}
 use Rattle.syslog_pieces.proofs.Names.{[], ℤ, same_from_push, result_ok, digit_value_digit, IsSmallNumber}
-use Rattle.std.proofs.Common.{length-append}
 use Rattle.std.specs.Option.{SomeIff}
 use Rattle.std.proofs.lemmas.Str.Parse.{IsNumeralModel, numerals_by_value, parse_digits}
 use Rattle.std.proofs.lemmas.Fmt.{digits_decimal, decimal_step, length-decimal-le}
@@ -360,8 +359,6 @@ pairs_at n l =
     eqb-true _ _ (agree_below_at (λ k. nat_eq (get_or PAIRS (2 * k) 0) (48 + k / 10)) (λ _. true) 100 n refl l) also
     eqb-true _ _ (agree_below_at (λ k. nat_eq (get_or PAIRS (2 * k + 1) 0) (48 + k % 10)) (λ _. true) 100 n refl l)
 
-pub ruleset decimal_steps = (one_digit, last_of_more)
-
 -- a number of 32 bits has at most ten digits
 pub ten_long : (n : ℕ) → n < 2 ^ 32 → length (decimal n) ≤ 10
 ten_long n h = length-decimal-le 10 n (omega arith) (omega arith) (omega arith)
@@ -370,6 +367,8 @@ pub ruleset ten_digits = (one_digit, ten_long)
 
 pub one_longer : (n : ℕ) → 10 ≤ n → n < 2 ^ 64 → length (decimal n) ≡ length (decimal (n / 10)) + 1
 one_longer n l h = rw (last_of_more n l h) (length-append (decimal (n / 10)) ((48 + n % 10) ∷ []))
+
+pub ruleset decimal_steps = (one_digit, last_of_more, one_longer)
 
 -- ---- a number of one to three digits, by bytes
 -- the digits of the number, and then the rest

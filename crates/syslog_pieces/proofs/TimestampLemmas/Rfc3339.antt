@@ -14,11 +14,10 @@ use Rattle.syslog_pieces.proofs.Names.{exactly, Divides, NoFront, length, negsuc
 use Rattle.syslog_pieces.proofs.Names.{mapped, is_dot, letter, offset, ◌also◌, false, subst, arith, props, Front, after}
 use Rattle.syslog_pieces.proofs.Names.{heads, Apart, Class, rules, Each, dash, ◌+ℤ◌, ◌≤ℤ◌, ◌-ℤ◌, List, ◌++◌, Bool, true}
 use Rattle.syslog_pieces.proofs.Names.{Some, None, refl, pad2, pad4, Text, Ends, sign, year, ◌≡◌, inl, inr, ◌+◌, ◌/◌, ℤ}
-use Rattle.syslog_pieces.proofs.Names.{◌%◌, ◌<◌, ◌≤◌, ◌∷◌, sym, ◌∙◌, Row, pos, suc, ◌*◌, min}
+use Rattle.syslog_pieces.proofs.Names.{◌%◌, ◌<◌, ◌≤◌, ◌∷◌, sym, ◌∙◌, Row, pos, suc, ◌*◌, min, unsigned_date_time}
 use Rattle.jiff_core.specs.Calendar.{IsWithin}
 use Rattle.syslog_pieces.specs.Timestamp.Rfc3339.{pair, HasRfc3339Stamp}
 use Rattle.syslog_pieces.specs.Timestamp.Printed.{printed_stamp, date_time_text, offset_text, offset_sign}
-use Rattle.syslog_pieces.specs.Bodies.Clock.{unsigned_date_time}
 use Rattle.syslog_pieces.specs.Timestamp.Canonical.{IsCanonicalStamp, BeginsWithYear, own_year}
 use Rattle.syslog_pieces.proofs.PieceLemmas.Class.{IsFilled, closed_alone, closed_filled, after_det, spaced_parts, AllSteady, Fails, no_row}
 use Rattle.syslog_pieces.proofs.TimestampLemmas.Civil.{civil-fields, civil_nanos-fields, datetime_of, has_fields}
@@ -416,10 +415,10 @@ fields-read f n o from there range nanos zone =
       fields_stamp (written_of vs) n o (rw same there) (omega (arith, signed_arith, count)) refl range,
     )
 
-pub printed_stamp-back : (s : OffsetTimestamp) → IsCanonicalStamp s
+pub printed_stamp_back : (s : OffsetTimestamp) → IsCanonicalStamp s
     → IsStampText (printed_stamp s.instant.nanosecond s.offset.seconds) s
 unfolding printed_stamp
-printed_stamp-back s p =
+printed_stamp_back s p =
     let n = s.instant.nanosecond in
     let o = s.offset.seconds in
     let fields = civil_fields_exist _ (in_range-at_offset n o s.instant.in_range s.offset.in_range) in
@@ -452,8 +451,8 @@ shows_written w n o h =
     shows_fields (fields_of_rfc3339 w) n o there
     (omega (arith, signed_arith, instant, ap nanos_of_seconds h.at_offset))
 
-pub stamp_text-canonical : (text : List ℕ) (s : OffsetTimestamp) → IsStampText text s → IsCanonicalStamp s
-stamp_text-canonical text s (w, (vs, h, e), stamp) =
+pub stamp_text_canonical : (text : List ℕ) (s : OffsetTimestamp) → IsStampText text s → IsCanonicalStamp s
+stamp_text_canonical text s (w, (vs, h, e), stamp) =
     let (_, y, (_, _, (_, _, (_, _, (_, _, (_, _, (_, _, (_, _, (_, zone, _))))))))) =
     row_pieces stamp_row (piece_front (Row stamp_row) text [] vs h) in
     let offset = offset-canonical zone.piece _ _ zone.is in

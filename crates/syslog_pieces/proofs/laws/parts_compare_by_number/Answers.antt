@@ -1,5 +1,4 @@
-use Rattle.syslog_pieces.proofs.Names.{◌≡◌, ℕ, pos, get_or, map, arith, nat_tests}
-use denote.Enum.Declared.{tag_of}
+use Rattle.syslog_pieces.proofs.Names.{◌≡◌, ℕ, pos, get_or, map, arith, nat_tests, tag_of}
 use Rattle.syslog_pieces.specs.Words.{int_cmp, nat_cmp}
 use Rattle.syslog_pieces.specs.Pri.{facilities, facility_number as number}
 use Rattle.syslog_pieces.specs.contracts.pri.SyslogFacility.{the_type}

@@ -1,5 +1,4 @@
-use Rattle.syslog_pieces.proofs.Names.{ap, text_of}
-use Rattle.syslog_pieces.specs.ProcId.{procid_value}
+use Rattle.syslog_pieces.proofs.Names.{ap, text_of, procid_value}
 use Rattle.syslog_pieces.proofs.ProcIdLemmas.{name_told}
 use Rattle.syslog_pieces.proofs.procid.is_canonical_process.Goals as goal
 

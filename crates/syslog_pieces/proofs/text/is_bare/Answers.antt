@@ -1,6 +1,5 @@
 use Rattle.syslog_pieces.proofs.TextLemmas.Runs.{bare_ends}
-use Rattle.syslog_pieces.specs.declared.text.CharClass.TheVariants.{Visible}
-use Rattle.syslog_pieces.proofs.Names.{◌≡◌, ◌-◌, ◌∙◌, sym, true, length, get_or, byte_in}
+use Rattle.syslog_pieces.proofs.Names.{◌≡◌, ◌-◌, ◌∙◌, sym, true, length, get_or, byte_in, Visible}
 use Rattle.syslog_pieces.proofs.text.is_bare.Goals as goal
 
 pub returns-in-len2-up : goal.returns-in-len2-up

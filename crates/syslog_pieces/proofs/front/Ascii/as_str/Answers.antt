@@ -1,5 +1,4 @@
-use Rattle.syslog_pieces.proofs.Names.{take, arith, IsUtf8-from_ascii, IsAscii-from_reads}
-use Rattle.std.proofs.lemmas.List.{get_or-take}
+use Rattle.syslog_pieces.proofs.Names.{take, arith, IsUtf8-from_ascii, IsAscii-from_reads, get_or-take}
 use Rattle.syslog_pieces.proofs.front.Ascii.as_str.Goals as goal
 
 pub from_utf8_unchecked-requires : goal.from_utf8_unchecked-requires

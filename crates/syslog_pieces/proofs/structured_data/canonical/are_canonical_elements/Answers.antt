@@ -1,5 +1,4 @@
-use Rattle.syslog_pieces.proofs.Names.{arith, common_steps, false_is, no_truth}
-use Rattle.syslog_pieces.proofs.Names.{text_of, element_value, IsCanonicalElement}
+use Rattle.syslog_pieces.proofs.Names.{IsCanonicalElement, element_value, false_is, no_truth, text_of}
 use Rattle.syslog_pieces.proofs.StructuredDataLemmas.Closing.{all_at}
 use Rattle.syslog_pieces.proofs.structured_data.canonical.are_canonical_elements.Goals as goal
 
@@ -8,9 +7,3 @@ returns-then-not-is_canonical_element g c =
     let at = all_at (element_value (text_of g.S.AsStr.text)) IsCanonicalElement c.args.elements.now
     c.loop-element.element-index c.element-item.result c.loop-element-test.true c.element-item.is in
     false_is (λ h. no_truth (c.if-not-is_canonical_element.ensures.1 (at h)))
-
-pub loop-element-preserved : goal.loop-element-preserved
-loop-element-preserved g c = grind (arith, common_steps)
-
-pub returns : goal.returns
-returns g c = grind (arith, common_steps)

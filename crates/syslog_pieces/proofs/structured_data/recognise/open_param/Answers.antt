@@ -1,12 +1,11 @@
-use Rattle.syslog_pieces.proofs.Names.{inl, refl, opening_row, row_of, no_row, ◌then◌, ◌past◌}
+use Rattle.syslog_pieces.proofs.Names.{refl, opening_row, row_of, no_row, ◌then◌, ◌past◌, rules}
 use Rattle.syslog_pieces.proofs.StructuredDataLemmas.Elements.{opening_det}
 use Rattle.syslog_pieces.proofs.StructuredDataLemmas.Walk.{opens_at_once}
 use Rattle.syslog_pieces.proofs.structured_data.recognise.open_param.Goals as goal
 
 pub returns-in_err-after_equals : goal.returns-in_err-after_equals
 returns-in_err-after_equals c =
-    rw c.from_residual-in_err-after_equals.ensures
-    (no_row opening_row opening_det (c.in_ok-name.ensures past inl c.in_err-after_equals.ensures))
+    rw c.from_residual-in_err-after_equals.ensures (no_row opening_row opening_det (search rules))
 
 pub returns-in-Some : goal.returns-in-Some
 returns-in-Some c =
@@ -14,8 +13,7 @@ returns-in-Some c =
 
 pub returns-in_err-value : goal.returns-in_err-value
 returns-in_err-value c =
-    rw c.from_residual-in_err-value.ensures (no_row opening_row opening_det (c.in_ok-name.ensures past
-    c.in_ok-after_equals.ensures past c.blanks.ensures past inl c.in_err-value.ensures))
+    rw c.from_residual-in_err-value.ensures (no_row opening_row opening_det (c.in_ok-name.ensures past (search rules)))
 
 pub returns : goal.returns
 returns c =
@@ -24,4 +22,4 @@ returns c =
     (row_of opening_row row, λ t. cc)
 
 pub returns-in_err-name : goal.returns-in_err-name
-returns-in_err-name c = rw c.from_residual.ensures (no_row opening_row opening_det (inl c.in_err-name.ensures))
+returns-in_err-name c = rw c.from_residual.ensures (no_row opening_row opening_det (search rules))

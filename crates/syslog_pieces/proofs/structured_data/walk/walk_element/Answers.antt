@@ -1,11 +1,10 @@
 use Rattle.syslog_pieces.proofs.Names.{ElementValue, start_row, eqb-true, length, no_row, rules, arith, subst, refl, []}
-use Rattle.syslog_pieces.proofs.Names.{sym, ◌+◌, ◌≤◌, ◌past◌, inl}
+use Rattle.syslog_pieces.proofs.Names.{sym, ◌+◌, ◌≤◌, ◌past◌, inl, err_from_is_err_and}
 use Rattle.syslog_pieces.proofs.StructuredDataLemmas.Closing.{byte_count_slice, dead_suffix, no_start}
 use Rattle.syslog_pieces.proofs.StructuredDataLemmas.Walk.{bare_inside, bare_walked, at_first, not_opened, value_passes}
 use Rattle.syslog_pieces.proofs.StructuredDataLemmas.Walk.{not_closed, not_separated, ends, ends_walked, goes_on}
 use Rattle.syslog_pieces.proofs.StructuredDataLemmas.Walk.{more_room, chars_length, next_shorter}
 use Rattle.syslog_pieces.proofs.StructuredDataLemmas.Elements.{start_det}
-use Rattle.std.proofs.lemmas.Result.{err_from_is_err_and}
 use Rattle.syslog_pieces.proofs.structured_data.walk.walk_element.Goals as goal
 
 pub returns-in_default-clause-walked : goal.returns-in_default-clause-walked

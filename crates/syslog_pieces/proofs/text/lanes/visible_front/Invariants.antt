@@ -1,5 +1,4 @@
-use Rattle.syslog_pieces.proofs.Names.{◌-◌, ◌≤◌, ◌<◌, ◌≡◌, ℕ, true, length, slice_index}
-use Rattle.syslog_pieces.specs.Bodies.Scan.{visible_byte}
+use Rattle.syslog_pieces.proofs.Names.{◌-◌, ◌≤◌, ◌<◌, ◌≡◌, ℕ, true, length, slice_index, visible_byte}
 use Rattle.syslog_pieces.proofs.text.lanes.visible_front.Given as goal
 
 abbrev pub invariant-blocks-2 : goal.invariant-blocks-2

@@ -1,10 +1,8 @@
 -- The table is held against the classes at each of the 256 bytes, by computing.
 use Rattle.syslog_pieces.proofs.Names.{◌≡◌, ℕ, Bool, true, not, nat_eq, get_or, refl, arith, agree_below, ◌*◌, ◌^◌, ◌%◌}
-use Rattle.syslog_pieces.proofs.Names.{agree_below_at, CharClass, byte_in, bit_and}
-use denote.Enum.Declared.{tag_of}
+use Rattle.syslog_pieces.proofs.Names.{agree_below_at, CharClass, byte_in, bit_and, Digit, tag_of}
 use Rattle.syslog_pieces.specs.contracts.text.CharClass.{the_type}
 use Rattle.syslog_pieces.specs.declared.text.scan.TheConstants.{CLASSES}
-use Rattle.syslog_pieces.specs.declared.text.CharClass.TheVariants.{Digit}
 use Rattle.syslog_pieces.proofs.text.scan.is_in.Goals as goal
 
 abbrev reads : CharClass → ℕ → Bool

@@ -1,5 +1,4 @@
-use Rattle.syslog_pieces.proofs.Names.{ap, arith, CivilFields}
-use Rattle.std.proofs.lemmas.Int.{ints}
+use Rattle.syslog_pieces.proofs.Names.{ap, arith, CivilFields, ints}
 use Rattle.syslog_pieces.proofs.TimestampLemmas.Civil.{civil_fields-is}
 use Rattle.syslog_pieces.proofs.TimestampLemmas.Rfc3339.{own_year-to}
 use Rattle.syslog_pieces.proofs.timestamp.canonical.is_canonical_stamp.Goals as goal

@@ -1,6 +1,5 @@
 use Rattle.syslog_pieces.proofs.Names.{inl, inr, ℕ, ◌≡◌, ◌-◌, ◌<◌, ◌≤◌, List, length, get_or, take, sym, ap, ◌∙◌, arith}
-use Rattle.syslog_pieces.proofs.Names.{length-take, cases_lt, IsAsciiDigit, fraction_value, at_drop_all}
-use Rattle.std.proofs.Common.{get_or-take}
+use Rattle.syslog_pieces.proofs.Names.{length-take, cases_lt, IsAsciiDigit, fraction_value, at_drop_all, get_or-take}
 use Rattle.jiff_fmt.proofs.ReaderLemmas.{fraction_value-nil}
 use Rattle.syslog_pieces.proofs.TimestampLemmas.Digits.{all_decimals, no_decimals, step_on, step_past}
 use Rattle.syslog_pieces.proofs.timestamp.digits.many_decimals.Goals as goal

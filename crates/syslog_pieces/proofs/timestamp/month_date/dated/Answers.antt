@@ -1,17 +1,17 @@
-use Rattle.syslog_pieces.proofs.Names.{inl, ◌past◌, row_of, ◌then◌, no_row, rules, refl, clock_row, year_row}
+use Rattle.syslog_pieces.proofs.Names.{row_of, ◌then◌, no_row, rules, refl, clock_row, year_row}
 use Rattle.syslog_pieces.proofs.Names.{rows_none_here, rows_none_later}
 use Rattle.syslog_pieces.proofs.TimestampLemmas.MonthDate.{no_clock, year_det, dated_front}
 use Rattle.syslog_pieces.proofs.timestamp.month_date.dated.Goals as goal
 
 pub returns-in_err-year : goal.returns-in_err-year
 returns-in_err-year c whole day none =
-    rw c.from_residual.ensures (no_clock day none (rows_none_here year_row clock_row (no_row year_row year_det (inl
-    c.in_err-year.ensures))))
+    rw c.from_residual.ensures (no_clock day none (rows_none_here year_row clock_row (no_row
+    year_row year_det (search rules))))
 
 pub returns-in_err-rest : goal.returns-in_err-rest
 returns-in_err-rest c whole day none =
-    rw c.from_residual-in_err-rest.ensures (no_clock day none (rows_none_here year_row clock_row (no_row year_row
-    year_det (c.in_ok-year.ensures past inl c.in_err-rest.ensures))))
+    rw c.from_residual-in_err-rest.ensures (no_clock day none (rows_none_here year_row clock_row (no_row
+    year_row year_det (search rules))))
 
 pub returns-in_err-clock : goal.returns-in_err-clock
 returns-in_err-clock c whole day none =

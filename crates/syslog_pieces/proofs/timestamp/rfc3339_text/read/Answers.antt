@@ -1,4 +1,4 @@
-use Rattle.syslog_pieces.proofs.Names.{◌<◌, length, arith, rules, stamp_text}
+use Rattle.syslog_pieces.proofs.Names.{arith, rules, stamp_text}
 use Rattle.syslog_pieces.proofs.TimestampLemmas.Digits.{bytes_cut, bytes_front, no_bytes_front, stamp_ascii}
 use Rattle.syslog_pieces.proofs.TimestampLemmas.Rfc3339.{stamp_alone, text_long}
 use Rattle.syslog_pieces.proofs.timestamp.rfc3339_text.read.Goals as goal

@@ -1,6 +1,4 @@
-use Rattle.syslog_pieces.proofs.Names.{FitsSigned, w32, refl, rules, to_z-of_z, plain_zone, ◌≡◌}
-use Rattle.syslog_pieces.specs.Bodies.Clock.{zone_of}
-use Rattle.syslog_pieces.specs.Timestamp.Zone.{dating_value}
+use Rattle.syslog_pieces.proofs.Names.{FitsSigned, w32, refl, rules, to_z-of_z, plain_zone, ◌≡◌, zone_of, dating_value}
 use Rattle.syslog_pieces.proofs.TimestampLemmas.MonthDate.{answer_in_year, fixed_answer}
 use Rattle.syslog_pieces.proofs.timestamp.zone.month_stamp.Goals as goal
 
