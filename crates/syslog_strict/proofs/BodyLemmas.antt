@@ -5,10 +5,8 @@ use Rattle.syslog_strict.proofs.Words.{append_assoc, nat_tests, AllByRecursion, 
 use Rattle.syslog_strict.proofs.Words.{text_eq, if◌then◌else◌, all_map, IsParamValue, IsSdElement, IsSdParam}
 use Rattle.syslog_strict.proofs.Words.{IsStructuredData, IsSyslogMsg, IsValuePiece, AreDistinct, is_escaped, is_sd_char}
 use Rattle.syslog_strict.proofs.Words.{is_among, IsSpacedMsg, list_any-append, heads}
-use Rattle.std.proofs.Common.{zero}
-use Rattle.std.proofs.lemmas.Bool.{and_parts, or_from, or_parts}
-use Rattle.std.proofs.lemmas.Bool.Decides.{eqb_tells}
-use Rattle.std.proofs.lemmas.List.{length-append, length-map}
+use Rattle.std.proofs.{Common.zero, lemmas.Bool.and_parts, lemmas.Bool.or_from, lemmas.Bool.or_parts}
+use Rattle.std.proofs.lemmas.{Bool.Decides.eqb_tells, List.length-append, List.length-map}
 use Rattle.std.specs.Bool.{one_answer}
 use Rattle.std.specs.Prelude.{◌↔◌, not, IsSomeAnd}
 use Rattle.syslog_pieces.proofs.Names.{not-true}
@@ -16,9 +14,8 @@ use Rattle.syslog_strict.specs.Bodies.Reader.{AreElements, are_distinct, are_new
 use Rattle.syslog_strict.specs.Bodies.Reader.{is_spaced, is_spaced_after, items_in, past, past_distinct, past_header}
 use Rattle.syslog_strict.specs.Bodies.Reader.{past_params, past_value, read_element, read_param}
 use Rattle.syslog_strict.specs.Grammar.{IsSomeOf}
-use Rattle.syslog_strict.proofs.ElementLemmas.{not_last}
+use Rattle.syslog_strict.proofs.{ElementLemmas.not_last, NameLaws.no_text, NameLaws.no_text_eq}
 use Rattle.syslog_strict.proofs.GrammarLemmas.{Reads, as_reads, done, header_reads, past_reads, short_reads, then_reads}
-use Rattle.syslog_strict.proofs.NameLaws.{no_text, no_text_eq}
 
 -- ---- values
 

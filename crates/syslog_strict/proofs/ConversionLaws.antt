@@ -14,35 +14,28 @@ use Rattle.syslog_strict.proofs.Words.{converted_word, escaped_from, is_among, j
 use Rattle.syslog_strict.proofs.Words.{without_last_colon, without_lone_colon, AreDistinct, IsParamValue, IsSdName}
 use Rattle.syslog_strict.proofs.Words.{IsSyslogMsg, IsValuePiece, is_escaped, is_printusascii, is_sd_char}
 use Rattle.syslog_strict.proofs.Words.{list_any-append, IsSdElement, element_text, joined_elements}
-use Rattle.syslog_strict.specs.Bodies.Reader.{AreElements}
+use Rattle.syslog_strict.specs.{Bodies.Reader.AreElements, Call.IsConvertedText, Conversion.converted_value}
+use Rattle.syslog_strict.proofs.ElementLemmas.{elements_some, other_if, same_if}
 use Rattle.std.proofs.Common.{◌&&◌, nat_lt}
-use Rattle.std.proofs.lemmas.Bool.{or_from}
-use Rattle.std.proofs.lemmas.List.{length-map}
+use Rattle.std.proofs.lemmas.{Bool.or_from, List.length-map}
 use Rattle.std.specs.Bool.{◌==◌}
 use Rattle.std.specs.Prelude.{◌↔◌}
-use Rattle.syslog_pieces.specs.Bodies.Verbatim.{IsBareWord}
-use Rattle.syslog_pieces.proofs.ProcIdLemmas.{bare_prints}
-use Rattle.syslog_pieces.proofs.StructuredDataLemmas.Elements.{forgiving_back, forgiving_det, no_item_nil}
-use Rattle.syslog_pieces.specs.Timestamp.Zone.{Dating}
-use Rattle.syslog_loose.specs.Printed.{printed, printed_5424}
-use Rattle.syslog_loose.specs.declared.variant.Variant.{Variant}
-use Rattle.syslog_loose.specs.declared.variant.Variant.TheVariants.{Either}
-use Rattle.syslog_pieces.specs.Text.Canonical.{EndsVisibly}
-use Rattle.syslog_loose.specs.Canonical.{IsBounded, IsCanonical}
-use Rattle.syslog_loose.specs.Reading.{IsOnlyRead, IsRead, IsUnreadable, dash_rule}
-use Rattle.syslog_loose.specs.declared.fault.ParseFault.TheVariants.{Invalid, Memory}
+use Rattle.syslog_pieces.specs.{Bodies.Verbatim.IsBareWord, Timestamp.Zone.Dating, Text.Canonical.EndsVisibly}
+use Rattle.syslog_pieces.proofs.{ProcIdLemmas.bare_prints, StructuredDataLemmas.Elements.forgiving_back}
+use Rattle.syslog_pieces.proofs.StructuredDataLemmas.Elements.{forgiving_det, no_item_nil}
+use Rattle.syslog_loose.specs.{Printed.printed, Printed.printed_5424, declared.variant.Variant.Variant}
+use Rattle.syslog_loose.specs.{declared.variant.Variant.TheVariants.Either, Canonical.IsBounded, Canonical.IsCanonical}
+use Rattle.syslog_loose.specs.declared.fault.ParseFault.TheVariants.{Invalid}
+use Rattle.syslog_loose.specs.declared.fault.ParseFault.TheVariants.{Memory}
 use Rattle.syslog_loose.proofs.ReadBackLemmas.{read_as, read_bounded, printed_exact}
-use Rattle.syslog_loose.proofs.PrintedLemmas.{priority_small}
-use Rattle.syslog_loose.proofs.Rfc5424Lemmas.{read_completed}
+use Rattle.syslog_loose.proofs.{PrintedLemmas.priority_small, Rfc5424Lemmas.read_completed}
 use Rattle.syslog_loose.proofs.Rfc3164Lemmas.Near.{read_near}
+use Rattle.syslog_loose.specs.Reading.{IsOnlyRead, IsRead, IsUnreadable, dash_rule}
 use Rattle.syslog_strict.proofs.BodyLemmas.{Many, elements_found, no_more, one_more}
-use Rattle.syslog_strict.specs.Call.{IsConvertedText}
-use Rattle.syslog_strict.specs.Conversion.{converted_value}
 use Rattle.syslog_strict.proofs.NameLaws.{IsStrictElement, IsStrictParam, converted_are, converted_distinct}
 use Rattle.syslog_strict.proofs.NameLaws.{element_back, no_text, params_in, colonless_end, colonless_length}
 use Rattle.syslog_strict.proofs.NameLaws.{colonless_passes, lone_other, lone_passes, lone_short, elements_back}
 use Rattle.syslog_strict.proofs.NameLaws.{elements_is}
-use Rattle.syslog_strict.proofs.ElementLemmas.{elements_some, other_if, same_if}
 use Rattle.syslog_strict.proofs.TextLemmas.{cleaned_passes, cleaned_same, cleaned_short, colonless_same, text_eq_true}
 use Rattle.syslog_strict.proofs.StampLemmas.{by_choice, stamp_back, stamp_is, one}
 use Rattle.syslog_strict.proofs.NameLaws as names

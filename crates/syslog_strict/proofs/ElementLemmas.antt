@@ -8,15 +8,10 @@ use Rattle.syslog_strict.proofs.Words.{bytes_decides, Text, Each, Ends, is_inert
 use Rattle.syslog_strict.proofs.Words.{elements_text, joined_elements, element_text, param_text, text_eq, all_map}
 use Rattle.syslog_strict.proofs.Words.{converted_elements, escaped_from, is_among, joined_past, params_of, is_escaped}
 use Rattle.syslog_strict.proofs.Words.{HasJoined, joined_text, text_or_none, text_in}
-use Rattle.std.proofs.lemmas.Bool.{or_parts}
-use Rattle.std.proofs.lemmas.Grind.{flat_map-append}
-use Rattle.std.specs.Global.{Global}
-use Rattle.std.specs.Prelude.{String, is_some}
-use Rattle.syslog_strict.specs.Joined.{firsts}
-use Rattle.syslog_strict.specs.declared.joined.Joined.{Joined}
-use Rattle.syslog_strict.proofs.TextLemmas.{text_eq_true}
-use Rattle.syslog_pieces.proofs.Names.{one_answer}
-use Rattle.syslog_pieces.proofs.TextLemmas.Runs.{same_chars}
+use Rattle.std.proofs.lemmas.{Bool.or_parts, Grind.flat_map-append}
+use Rattle.std.specs.{Global.Global, Prelude.String, Prelude.is_some}
+use Rattle.syslog_strict.{specs.Joined.firsts, specs.declared.joined.Joined.Joined, proofs.TextLemmas.text_eq_true}
+use Rattle.syslog_pieces.proofs.{Names.one_answer, TextLemmas.Runs.same_chars}
 
 -- ---- values that are escaped, and elements that are joined
 pub chars_mark : chars (63 ∷ []) ≡ 63 ∷ []

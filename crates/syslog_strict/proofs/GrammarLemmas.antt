@@ -6,11 +6,9 @@ use Rattle.syslog_strict.proofs.Words.{if◌then◌else◌, nat_eq, ◌||◌, si
 use Rattle.syslog_strict.proofs.Words.{Ends, Front, number, heads, one_digit, IsFullDate, IsPri, IsSecfrac}
 use Rattle.syslog_strict.proofs.Words.{IsTimeOffset, IsTimestamp, is_printusascii}
 use Rattle.std.proofs.Common.{◌&&◌, nat_le, nat_lt, get_or}
-use Rattle.std.proofs.lemmas.Bool.{cases_lt}
-use Rattle.std.proofs.lemmas.Bool.Decides.{eqb_tells}
-use Rattle.std.proofs.lemmas.Fmt.{decimal-digits_value}
-use Rattle.std.specs.Prelude.{◌↔◌}
+use Rattle.std.proofs.lemmas.{Bool.cases_lt, Bool.Decides.eqb_tells, Fmt.decimal-digits_value}
 use Rattle.std.specs.Str.Parse.{digits_value}
+use Rattle.std.specs.Prelude.{◌↔◌}
 use Rattle.jiff_core.proofs.CalendarLemmas.{days_in_month_bounds}
 use Rattle.syslog_pieces.proofs.TextLemmas.Words.{own, two_digits, three_digits, number_back}
 use Rattle.syslog_strict.specs.Bodies.Reader.{and_or, and_then, is_civil, is_clock, past, past_date, past_header}

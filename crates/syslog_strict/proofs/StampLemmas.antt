@@ -8,25 +8,20 @@ use Rattle.syslog_strict.proofs.Words.{int_rem_euclid-parts, Text, Each, timesta
 use Rattle.syslog_strict.proofs.Words.{nanos_of_seconds, pad2, pad4, front_text, converted_stamp, cut_stamp, has_text}
 use Rattle.syslog_strict.proofs.Words.{in_utc, micros, is_four_digits, IsSecfrac, IsTimeOffset, IsTimestamp}
 use Rattle.std.proofs.Common.{◌-ℤ◌, ◌*ℤ◌}
-use Rattle.std.proofs.lemmas.Bool.Decides.{eqb_tells}
-use Rattle.std.proofs.lemmas.Str.{IsAscii-append}
+use Rattle.std.proofs.lemmas.{Bool.Decides.eqb_tells, Str.IsAscii-append, Bool.and_parts}
 use Rattle.std.specs.Fmt.{digits}
-use Rattle.std.proofs.lemmas.Bool.{and_parts}
 use Rattle.syslog_pieces.specs.Front.{clock_text, front_text as printed_front}
-use Rattle.syslog_pieces.specs.Pri.{priority_text}
-use Rattle.syslog_pieces.proofs.TextLemmas.Words.{decimal_ascii}
-use Rattle.syslog_pieces.specs.Timestamp.Printed.{printed_stamp, civil_fields, date_time_text, fraction_text}
-use Rattle.syslog_pieces.specs.Timestamp.Printed.{offset_text, pad3, place_fields}
-use Rattle.syslog_pieces.proofs.TimestampLemmas.Digits.{each_ascii}
-use Rattle.syslog_pieces.proofs.TimestampLemmas.Rfc3339.{printed_stamp-characters}
-use Rattle.jiff_core.specs.Calendar.{days_from_civil}
-use Rattle.syslog_pieces.specs.Timestamp.{clock_value, stamp_seen}
-use Rattle.syslog_pieces.specs.declared.timestamp.clock.ClockStamp.{ClockStamp}
-use Rattle.syslog_pieces.specs.Timestamp.Canonical.{IsCanonicalStamp, own_year}
-use Rattle.syslog_pieces.specs.Timestamp.Fields.{AreCivil}
+use Rattle.syslog_pieces.specs.{Pri.priority_text, Timestamp.clock_value, Timestamp.stamp_seen}
+use Rattle.syslog_pieces.specs.{declared.timestamp.clock.ClockStamp.ClockStamp, Timestamp.Canonical.IsCanonicalStamp}
+use Rattle.syslog_pieces.specs.Timestamp.{Canonical.own_year, Fields.AreCivil}
 use Rattle.syslog_pieces.specs.declared.timestamp.fields.CivilFields.{CivilFields}
+use Rattle.syslog_pieces.proofs.{TextLemmas.Words.decimal_ascii, TimestampLemmas.Digits.each_ascii}
+use Rattle.syslog_pieces.proofs.TimestampLemmas.Rfc3339.{printed_stamp-characters}
 use Rattle.syslog_pieces.proofs.TimestampLemmas.Civil.{civil_fields_exist, in_range-at_offset}
 use Rattle.syslog_pieces.proofs.PieceLemmas.Class.{each_append}
+use Rattle.syslog_pieces.specs.Timestamp.Printed.{printed_stamp, civil_fields, date_time_text, fraction_text}
+use Rattle.syslog_pieces.specs.Timestamp.Printed.{offset_text, pad3, place_fields}
+use Rattle.jiff_core.specs.Calendar.{days_from_civil}
 
 -- ---- timestamps that are cut, and their texts
 

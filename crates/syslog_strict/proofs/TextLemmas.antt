@@ -11,11 +11,9 @@ use Rattle.syslog_strict.proofs.Words.{is_printusascii, keeps, front_text}
 use Rattle.std.proofs.Common.{zero, take, Result, Ok, Err, OnOk, MatchBool}
 use Rattle.std.proofs.lemmas.List.{take_all, drop_all, length-map, length-take}
 use Rattle.std.proofs.lemmas.Str.{chars_past_char, IsUtf8-encode}
-use Rattle.std.specs.Char.{IsScalar}
-use Rattle.std.specs.Result.{is_ok}
+use Rattle.std.specs.{Char.IsScalar, Result.is_ok}
 use Rattle.syslog_loose.specs.Printed.{elements_text, printed_5424}
-use Rattle.syslog_strict.specs.declared.text.Kept.{Kept}
-use Rattle.syslog_strict.specs.declared.text.Kept.TheVariants.{Printable, SdName}
+use Rattle.syslog_strict.specs.declared.text.Kept.{Kept, TheVariants.Printable, TheVariants.SdName}
 
 -- ---- texts that grow
 

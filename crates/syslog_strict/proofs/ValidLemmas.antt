@@ -5,13 +5,9 @@ use Rattle.syslog_strict.proofs.Words.{list_any-append, ◌||◌, nat_tests, Spl
 use Rattle.syslog_strict.proofs.Words.{is_inert_char, number, is_among, HasSeen, IsSdElement, nat_eq}
 use Rattle.std.proofs.Common.{◌&&◌, is_eq, nat_lt, nat_le, if◌then◌else◌}
 use Rattle.std.proofs.lemmas.Map.Text.{is_eq-slice_cmp}
-use Rattle.std.specs.BTreeSet.{contains}
-use Rattle.std.specs.Cmp.Lexicographic.{slice_cmp}
-use Rattle.std.specs.Option.{option_map}
-use Rattle.std.specs.Ordering.{nat_cmp}
-use Rattle.std.specs.Prelude.{not, IfSome, MatchBool}
-use Rattle.syslog_pieces.specs.Pieces.Class.{exactly, NoFront}
-use Rattle.syslog_pieces.specs.Pieces.View.{Skips, seen}
+use Rattle.std.specs.{BTreeSet.contains, Cmp.Lexicographic.slice_cmp, Option.option_map, Ordering.nat_cmp, Prelude.not}
+use Rattle.std.specs.Prelude.{IfSome, MatchBool}
+use Rattle.syslog_pieces.specs.Pieces.{Class.exactly, Class.NoFront, View.Skips, View.seen}
 use Rattle.syslog_pieces.proofs.Names.{not-false, not-true}
 use Rattle.syslog_pieces.proofs.TextLemmas.Runs.{ascii_chars, low_ascii}
 use Rattle.syslog_strict.specs.Bodies.Reader.{alone, past, past_number, past_params, past_value, elements_of}
@@ -19,8 +15,7 @@ use Rattle.syslog_strict.specs.Bodies.Reader.{read_element, read_param, read_sho
 use Rattle.syslog_strict.proofs.BodyLemmas.{IsParam, cases_Option, element_long, element_reads, item_end, item_on}
 use Rattle.syslog_strict.proofs.BodyLemmas.{param_long, param_reads}
 use Rattle.syslog_strict.proofs.GrammarLemmas.{Reads, number_reads, past_reads, run_is}
-use Rattle.syslog_strict.specs.declared.ids.Ids.{Ids}
-use Rattle.syslog_strict.proofs.ElementLemmas.{bytes_text}
+use Rattle.syslog_strict.{specs.declared.ids.Ids.Ids, proofs.ElementLemmas.bytes_text}
 
 -- ---- characters, runs and numbers
 none_of : {Y : Type 0} {P : Y → Type 0} {r : Option Y} → Reads r P → ((y : Y) → P y → ⊥) → r ≡ None

@@ -3,49 +3,37 @@ pub use Rattle.std.proofs.Common.{◌≡◌, ◌≢◌, ◌⊎◌, inl, inr, ℕ
 pub use Rattle.std.proofs.Common.{length, map, nat_eq, Option, Some, None, refl, sym, ap, ap₂, subst, ◌∙◌, arith}
 pub use Rattle.std.proofs.Common.{append-nil, if◌then◌else◌, ◌%◌, unsigned_abs, IfSome, append_assoc, cond, pos, negsuc}
 pub use Rattle.std.proofs.Common.{suc, ◌≤◌, ◌+◌, ◌-◌, ◌*◌, ◌/◌, MatchOption, drop, rules}
-pub use Rattle.std.proofs.lemmas.Bool.{cases_Bool}
-pub use Rattle.std.proofs.lemmas.Bool.Decides.{nat_tests}
-pub use Rattle.std.proofs.lemmas.Int.{to_z-of_z}
-pub use Rattle.std.proofs.lemmas.List.Folds.{list_any-append}
-pub use Rattle.std.proofs.lemmas.Map.Text.{btree_map_updates_text}
-pub use Rattle.std.proofs.lemmas.Result.{on_ok_weaker}
-pub use Rattle.std.proofs.lemmas.Slice.Eq.{bytes_eq-Decides}
+pub use Rattle.std.proofs.lemmas.{Bool.cases_Bool, Bool.Decides.nat_tests, Int.to_z-of_z}
+pub use Rattle.std.proofs.lemmas.{List.Folds.list_any-append, Map.Text.btree_map_updates_text}
+pub use Rattle.std.proofs.lemmas.{Result.on_ok_weaker, Slice.Eq.bytes_eq-Decides, Str.Ascii.IsAscii-cons}
+pub use Rattle.std.proofs.lemmas.Str.Ascii.{IsAscii-nil}
+pub use Rattle.std.specs.{BTreeMap.get_by_text, Borrow.Bor, Char.is_ascii_digit, Char.encode_utf8}
+pub use Rattle.std.specs.{Cmp.Lexicographic.bytes_decides, Fmt.decimal, Fmt.signed_decimal, List.AllByRecursion}
+pub use Rattle.std.specs.{List.flat_map, Option.option_and_then, Option.option_map}
 pub use Rattle.std.proofs.lemmas.Str.{chars-IsAscii, IsUtf8-string_bytes, chars-append, chars-nil}
-pub use Rattle.std.proofs.lemmas.Str.Ascii.{IsAscii-cons, IsAscii-nil}
-pub use Rattle.std.specs.BTreeMap.{get_by_text}
-pub use Rattle.std.specs.Borrow.{Bor}
-pub use Rattle.std.specs.Char.{is_ascii_digit, encode_utf8}
-pub use Rattle.std.specs.Cmp.Lexicographic.{bytes_decides}
-pub use Rattle.std.specs.Fmt.{decimal, signed_decimal}
-pub use Rattle.std.specs.List.{AllByRecursion, flat_map}
-pub use Rattle.std.specs.Option.{option_and_then, option_map}
 pub use Rattle.std.specs.Prelude.{string_bytes, ◌||◌}
 pub use Rattle.std.specs.Str.{chars, bytes_eq, IsUtf8, IsAscii}
 pub use Rattle.jiff.specs.Words.{nanos_of_seconds}
 pub use Rattle.jiff_core.proofs.SignedLemmas.{signed_arith, int_rem_euclid-parts}
 pub use Rattle.jiff_core.specs.Calendar.{IsCivilDate}
 pub use Rattle.jiff_fmt.specs.Text.{pad2, pad4}
-pub use Rattle.syslog_loose.specs.Line.{line_value}
-pub use Rattle.syslog_loose.specs.Message.{MessageValue}
-pub use Rattle.syslog_loose.specs.Printed.{printed_5424, timestamp_text, priority_of}
+pub use Rattle.syslog_loose.specs.{Line.line_value, Message.MessageValue, Printed.printed_5424, Printed.timestamp_text}
+pub use Rattle.syslog_loose.specs.Printed.{priority_of}
 pub use Rattle.syslog_pieces.proofs.PieceLemmas.Class.{all_map, heads, all_append}
-pub use Rattle.syslog_pieces.proofs.ProcIdLemmas.{named_names, process_same}
-pub use Rattle.syslog_pieces.proofs.TextLemmas.Runs.{empty_is}
+pub use Rattle.syslog_pieces.proofs.{ProcIdLemmas.named_names, ProcIdLemmas.process_same, TextLemmas.Runs.empty_is}
 pub use Rattle.syslog_pieces.proofs.TextLemmas.Words.{one_digit}
-pub use Rattle.syslog_pieces.specs.Bodies.Scan.{SplitsRun}
+pub use Rattle.syslog_pieces.specs.{Bodies.Scan.SplitsRun, Pieces.View.text_eq, Pieces.View.shown}
+pub use Rattle.syslog_pieces.specs.StructuredData.{Canonical.IsCanonicalElement, Visited.element_seen}
+pub use Rattle.syslog_pieces.specs.{StructuredData.Visited.list_elements, Text.CharClass.is_inert_char}
+pub use Rattle.syslog_pieces.specs.Timestamp.Printed.{civil_fields, printed_stamp}
+pub use Rattle.syslog_pieces.specs.declared.procid.ProcId.{ProcId, TheVariants.PID}
+pub use Rattle.syslog_pieces.specs.declared.procid.ProcId.TheVariants.{Name}
+pub use Rattle.syslog_pieces.specs.declared.timestamp.OffsetTimestamp.{OffsetTimestamp}
 pub use Rattle.syslog_pieces.specs.Pieces.Class.{Text, join, Ends, Each, Front}
-pub use Rattle.syslog_pieces.specs.Pieces.View.{text_eq, shown}
 pub use Rattle.syslog_pieces.specs.ProcId.{NamesProcess, named_process, process_text, IsBoundedProcess, procid_text}
-pub use Rattle.syslog_pieces.specs.StructuredData.Canonical.{IsCanonicalElement}
 pub use Rattle.syslog_pieces.specs.StructuredData.Element.{ElementValue, elements_text, joined_elements, element_text}
 pub use Rattle.syslog_pieces.specs.StructuredData.Element.{param_text}
-pub use Rattle.syslog_pieces.specs.StructuredData.Visited.{element_seen, list_elements}
 pub use Rattle.syslog_pieces.specs.Text.{colon, dash, is_blank, name_text, number}
-pub use Rattle.syslog_pieces.specs.Text.CharClass.{is_inert_char}
-pub use Rattle.syslog_pieces.specs.Timestamp.Printed.{civil_fields, printed_stamp}
-pub use Rattle.syslog_pieces.specs.declared.procid.ProcId.{ProcId}
-pub use Rattle.syslog_pieces.specs.declared.procid.ProcId.TheVariants.{PID, Name}
-pub use Rattle.syslog_pieces.specs.declared.timestamp.OffsetTimestamp.{OffsetTimestamp}
 pub use Rattle.syslog_strict.specs.Conversion.{converted, converted_stamp, cut_stamp, has_text, in_utc, is_four_digits}
 pub use Rattle.syslog_strict.specs.Conversion.{micros, cleaned, converted_element, converted_elements, converted_host}
 pub use Rattle.syslog_strict.specs.Conversion.{converted_name, converted_param, converted_process, converted_word}
@@ -54,6 +42,5 @@ pub use Rattle.syslog_strict.specs.Conversion.{without_last_colon, without_lone_
 pub use Rattle.syslog_strict.specs.Grammar.{AreDistinct, IsParamValue, IsSdName, IsSyslogMsg, IsValuePiece, is_escaped}
 pub use Rattle.syslog_strict.specs.Grammar.{is_printusascii, is_sd_char, IsSdElement, IsSdParam, IsStructuredData}
 pub use Rattle.syslog_strict.specs.Grammar.{IsFullDate, IsPri, IsTimeOffset, IsTimestamp, IsSecfrac, IsSpacedMsg}
-pub use Rattle.syslog_strict.specs.Ids.{HasSeen}
-pub use Rattle.syslog_strict.specs.Joined.{HasJoined, joined_text, text_or_none}
+pub use Rattle.syslog_strict.specs.{Ids.HasSeen, Joined.HasJoined, Joined.joined_text, Joined.text_or_none}
 pub use Rattle.syslog_strict.specs.Pushing.{text_in, front_text, keeps}

@@ -18,6 +18,7 @@ use syslog_pieces::text::{CharClass, first, split_run};
 const NAME: usize = 32;
 
 // The text, or `?` where it is empty.
+#[tactic(auto, using(crate::proofs::ElementLemmas::chars_mark))]
 #[inline(always)]
 fn or_mark(text: &str) -> &str
     ensures { chars result.now ≡ or_mark (chars text.now) }

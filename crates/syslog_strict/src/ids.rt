@@ -20,6 +20,7 @@ pub(crate) struct Ids<'a> {
 
 impl<'a> Ids<'a> {
     /// No ids.
+    #[tactic(auto, using(crate::proofs::ValidLemmas::seen_none))]
     #[inline(always)]
     pub(crate) fn new(alloc: Global) -> Ids<'a>
         ensures { HasSeen result [] }

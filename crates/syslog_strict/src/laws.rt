@@ -15,6 +15,7 @@ ghost use Rattle.syslog_strict.specs.Grammar.{IsSyslogMsg};
 
 /// The printed text of each converted message is in the grammar of RFC 5424, whether the message was read or not. A
 /// number that is a process id has 32 bits, as in the program.
+#[tactic(auto, using(crate::proofs::ConversionLaws::converted_strict))]
 pub fn converted_text_is_in_the_grammar()
     ensures { (m : MessageValue) → IfSome m.procid IsBoundedProcess → IsSyslogMsg (printed (converted m)) }
 {}
@@ -30,6 +31,7 @@ pub fn converted_text_is_read_back()
 
 /// What was converted stays: whatever the call may write of a converted text, whatever the year and zones, is that text.
 /// And a converted message prints as its own conversion does.
+#[tactic(auto, using(crate::proofs::ConversionLaws::printed_again))]
 pub fn converted_text_stays()
     ensures text { (variant : Variant) (dating receiver : Dating) (input text again : Text)
         → IsConvertedText variant dating input text

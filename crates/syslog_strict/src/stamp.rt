@@ -38,6 +38,7 @@ fn strict_priority(facility: Option<SyslogFacility>, severity: Option<SyslogSeve
 }
 
 // Whether the timestamp, where there is one, has no more than microseconds.
+#[tactic(auto, using(crate::proofs::StampLemmas::has_micros))]
 #[inline(always)]
 fn has_micros(clock: &Option<ClockStamp>) -> bool
     ensures { IsTrue result → IfSome (stamp_seen clock.now) (λ s. micros s.instant.nanosecond ≡ s.instant.nanosecond) }

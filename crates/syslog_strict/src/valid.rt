@@ -19,6 +19,7 @@ use syslog_pieces::text::{CharClass, first, literal, number, split_run};
 
 // The text after this ASCII character, or none where it isn't there.
 // A function of its own, so that its clause is an equation that callers chain, where `literal` tells what it skips.
+#[tactic(auto, using(crate::proofs::ValidLemmas::char_past))]
 #[inline(always)]
 fn after_char(text: &str, c: char) -> Option<&str>
     requires { c < 128 }
@@ -238,7 +239,7 @@ fn after_value(text: &str) -> Option<&str>
 }
 
 // The text after SD-PARAM and the space before it.
-#[tactic(auto, unfolding(crate::specs::Bodies::Reader::read_param))]
+#[tactic(auto, using(crate::proofs::ValidLemmas::param_less), unfolding(crate::specs::Bodies::Reader::read_param))]
 #[inline(always)]
 fn after_param(text: &str) -> Option<&str>
     ensures same { option_map spec.alone result ≡ spec.read_param (chars text.now) }

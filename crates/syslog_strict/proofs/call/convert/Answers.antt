@@ -1,6 +1,5 @@
-use Rattle.syslog_strict.proofs.Words.{refl}
+use Rattle.syslog_strict.proofs.{Words.refl, ConversionLaws.no_memory, ConversionLaws.text_converts}
 use Rattle.syslog_loose.proofs.ReadingLemmas.{in_year_map}
-use Rattle.syslog_strict.proofs.ConversionLaws.{no_memory, text_converts}
 use Rattle.syslog_strict.proofs.call.convert.Goals as goal
 
 pub returns-in_default : goal.returns-in_default

@@ -1,5 +1,4 @@
-use Rattle.syslog_strict.proofs.Words.{ap, chars}
-use Rattle.syslog_strict.proofs.TextLemmas.{started}
+use Rattle.syslog_strict.proofs.{Words.ap, Words.chars, TextLemmas.started}
 use Rattle.syslog_strict.proofs.call.copy.Goals as goal
 
 pub returns-in-Ok : goal.returns-in-Ok

@@ -1,7 +1,6 @@
 use Rattle.syslog_strict.proofs.Words.{[], ap, ◌∙◌, joined_elements, converted_element, joined_past, arith}
 use Rattle.std.proofs.lemmas.Grind.{common_steps}
-use Rattle.syslog_strict.proofs.ElementLemmas.{all_of, joined_is}
-use Rattle.syslog_strict.proofs.TextLemmas.{appended}
+use Rattle.syslog_strict.proofs.{ElementLemmas.all_of, ElementLemmas.joined_is, TextLemmas.appended}
 use Rattle.syslog_strict.proofs.joined.push_many.Goals as goal
 
 pub returns : goal.returns

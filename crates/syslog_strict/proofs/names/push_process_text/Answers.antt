@@ -1,7 +1,6 @@
 use Rattle.syslog_strict.proofs.Words.{◌<◌, ap, arith, length, refl, sym, ◌∙◌, to_z-of_z, signed_decimal, chars}
 use Rattle.syslog_strict.proofs.Words.{process_text, PID, Name, named_names, process_same, converted_process}
-use Rattle.syslog_strict.proofs.ConversionLaws.{bare_stays}
-use Rattle.syslog_strict.proofs.TextLemmas.{appended}
+use Rattle.syslog_strict.proofs.{ConversionLaws.bare_stays, TextLemmas.appended}
 use Rattle.syslog_strict.proofs.names.push_process_text.Goals as goal
 
 pub returns-then-is_kept : goal.returns-then-is_kept

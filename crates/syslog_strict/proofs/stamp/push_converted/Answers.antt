@@ -1,7 +1,6 @@
 use Rattle.syslog_strict.proofs.Words.{ap, sym, ◌∙◌, on_ok_weaker, option_and_then, timestamp_text, converted_stamp}
 use Rattle.syslog_strict.proofs.Words.{text_in}
-use Rattle.syslog_strict.proofs.StampLemmas.{front_parts}
-use Rattle.syslog_strict.proofs.TextLemmas.{appended}
+use Rattle.syslog_strict.proofs.{StampLemmas.front_parts, TextLemmas.appended}
 use Rattle.syslog_strict.proofs.stamp.push_converted.Goals as goal
 
 pub returns-in-Some : goal.returns-in-Some

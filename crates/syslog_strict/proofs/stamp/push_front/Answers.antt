@@ -4,8 +4,7 @@ use Rattle.std.specs.Prelude.{unwrap_or}
 use Rattle.syslog_pieces.specs.Pri.{facility_number, severity_number}
 use Rattle.syslog_pieces.specs.declared.pri.SyslogFacility.TheVariants.{LOG_USER}
 use Rattle.syslog_pieces.specs.declared.pri.SyslogSeverity.TheVariants.{SEV_NOTICE}
-use Rattle.syslog_strict.proofs.StampLemmas.{front_chars}
-use Rattle.syslog_strict.proofs.TextLemmas.{appended}
+use Rattle.syslog_strict.proofs.{StampLemmas.front_chars, TextLemmas.appended}
 use Rattle.syslog_strict.proofs.stamp.push_front.Goals as goal
 
 pub returns-then-is_canonical_clock : goal.returns-then-is_canonical_clock

@@ -1,5 +1,4 @@
-use Rattle.syslog_strict.proofs.Words.{IsUtf8-string_bytes}
-use Rattle.syslog_strict.proofs.TextLemmas.{pushed}
+use Rattle.syslog_strict.proofs.{Words.IsUtf8-string_bytes, TextLemmas.pushed}
 use Rattle.syslog_strict.proofs.text.push_text.Goals as goal
 
 pub returns : goal.returns

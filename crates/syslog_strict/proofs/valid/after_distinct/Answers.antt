@@ -1,6 +1,4 @@
-use Rattle.syslog_strict.proofs.Words.{arith}
-use Rattle.syslog_strict.proofs.ValidLemmas.{elements_step}
-use Rattle.syslog_strict.specs.Bodies.Reader.{past_distinct}
+use Rattle.syslog_strict.{proofs.Words.arith, proofs.ValidLemmas.elements_step, specs.Bodies.Reader.past_distinct}
 use Rattle.syslog_strict.proofs.valid.after_distinct.Goals as goal
 
 pub elements-init : goal.elements-init

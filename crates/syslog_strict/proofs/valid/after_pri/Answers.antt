@@ -1,5 +1,4 @@
-use Rattle.syslog_strict.proofs.Words.{arith}
-use Rattle.syslog_strict.proofs.ValidLemmas.{a_number, no_number}
+use Rattle.syslog_strict.proofs.{Words.arith, ValidLemmas.a_number, ValidLemmas.no_number}
 use Rattle.syslog_strict.specs.Bodies.Reader.{past_pri}
 use Rattle.syslog_strict.proofs.valid.after_pri.Goals as goal
 

@@ -1,5 +1,4 @@
-use Rattle.syslog_strict.proofs.Words.{arith, nat_tests}
-use Rattle.syslog_strict.proofs.ValidLemmas.{value_run}
+use Rattle.syslog_strict.proofs.{Words.arith, Words.nat_tests, ValidLemmas.value_run}
 use Rattle.syslog_strict.proofs.valid.after_value.Goals as goal
 
 pub returns-in_err-c-clause-same : goal.returns-in_err-c-clause-same

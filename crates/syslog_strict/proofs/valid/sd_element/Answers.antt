@@ -1,6 +1,5 @@
 use Rattle.syslog_strict.proofs.Words.{◌≡◌, Some, arith, chars}
-use Rattle.syslog_strict.proofs.ValidLemmas.{element_less}
-use Rattle.syslog_strict.specs.Bodies.Reader.{both, read_element}
+use Rattle.syslog_strict.{proofs.ValidLemmas.element_less, specs.Bodies.Reader.both, specs.Bodies.Reader.read_element}
 use Rattle.syslog_strict.proofs.valid.sd_element.Goals as goal
 
 pub returns : goal.returns

@@ -1,5 +1,4 @@
-use Rattle.syslog_strict.proofs.Words.{arith, nat_tests}
-use Rattle.syslog_strict.proofs.ValidLemmas.{short_read}
+use Rattle.syslog_strict.proofs.{Words.arith, Words.nat_tests, ValidLemmas.short_read}
 use Rattle.syslog_strict.proofs.valid.short_run.Goals as goal
 
 pub returns-then-run-most : goal.returns-then-run-most

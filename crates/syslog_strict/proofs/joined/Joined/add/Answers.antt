@@ -1,8 +1,7 @@
 use Rattle.syslog_strict.proofs.Words.{ap, ◌∙◌, ◌++◌, btree_map_updates_text, get_by_text, flat_map, chars, Text}
 use Rattle.syslog_strict.proofs.Words.{param_text, element_seen, converted_element, converted_name}
 use Rattle.std.proofs.Common.{string_bytes}
-use Rattle.syslog_strict.proofs.ElementLemmas.{joined_more}
-use Rattle.syslog_strict.proofs.TextLemmas.{started}
+use Rattle.syslog_strict.proofs.{ElementLemmas.joined_more, TextLemmas.started}
 use Rattle.syslog_strict.proofs.joined.Joined.add.Goals as goal
 
 pub returns-in-Ok : goal.returns-in-Ok
