@@ -27,6 +27,7 @@ pub fn read_year_words(args: &[&str]) -> Option<i32>
 }
 
 /// Returns whether the words are this one alone.
+#[tactic(auto, using(crate::proofs::ArgumentLemmas::word_alone))]
 pub fn is_alone(args: &[&str], wanted: &str) -> bool
     ensures { IsTrue result ↔ (map (λ arg. arg.now) args.now ≡ wanted.now ∷ []) }
 {

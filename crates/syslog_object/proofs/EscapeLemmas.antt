@@ -2,13 +2,11 @@
 use Rattle.syslog_object.proofs.Names.{[], append_assoc, append-nil, nil_from_length, is_plain, PlainBetween, unescaped}
 use Rattle.syslog_object.proofs.Names.{◌==◌, true, false, List, ◌++◌, length, take, refl, arith, Result, OnOk, escape}
 use Rattle.syslog_object.proofs.Names.{◌≡◌, ℕ, suc, ◌<◌, ◌≤◌, ◌∷◌, sym, ap, ◌∙◌, Ok, Err}
-use Rattle.std.{proofs.Common.nat_eq, proofs.Common.get_or-take, proofs.lemmas.Grind.flat_map-append}
+use Rattle.std.proofs.{Common.nat_eq, Common.get_or-take, lemmas.Grind.flat_map-append}
 use Rattle.std.{proofs.lemmas.Bool.ne_eqb, proofs.lemmas.Bool.or_parts, proofs.lemmas.Bool.not-true, specs.Result.is_ok}
-use Rattle.std.proofs.lemmas.List.{length-take}
+use Rattle.std.{proofs.lemmas.List.length-take, specs.Fmt.digits, specs.Prelude.⊤}
 use Rattle.std.specs.Bool.{if◌then◌else◌}
 use Rattle.json.{proofs.Printed.Plain.escape_on_plain, specs.Print.escape_byte, specs.Run.is_stop}
-use Rattle.std.specs.Fmt.{digits}
-use Rattle.std.specs.Prelude.{⊤}
 use lib.Utf8.{encode}
 use Rattle.syslog_pieces.specs.StructuredData.Escapes.{pair_meaning}
 

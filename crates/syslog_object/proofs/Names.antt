@@ -3,29 +3,16 @@ pub use Rattle.std.proofs.Common.{get_or, append-nil, arith, append_assoc, nat_l
 pub use Rattle.std.proofs.Common.{refl, Bool, subst, OnOk, ◌++◌, false, drop, cond, List, ◌==◌, take, Some, None, codes}
 pub use Rattle.std.proofs.Common.{◌∙◌, ◌≤◌, ◌∷◌, not, map, ◌<◌, ◌-◌, inr, ◌≡◌, true, Err, suc, inl, ◌||◌, Ok, ◌+◌, sym}
 pub use Rattle.std.proofs.Common.{ℕ, ap, rules}
-pub use Rattle.std.proofs.lemmas.Bool.{cases_Bool}
-pub use Rattle.std.proofs.lemmas.List.{map-append, drop_more, nil_from_length, length-append}
-pub use Rattle.std.proofs.lemmas.Result.{on_ok_weaker}
-pub use Rattle.std.proofs.lemmas.Str.{encodes-chars}
-pub use Rattle.std.specs.Bool.{OnTrue}
-pub use Rattle.std.specs.Borrow.{Bor}
-pub use Rattle.std.specs.List.{list_any, filter}
-pub use Rattle.std.specs.Option.{option_map}
+pub use Rattle.std.proofs.lemmas.{Bool.cases_Bool, Result.on_ok_weaker, Str.encodes-chars}
+pub use Rattle.std.specs.{Bool.OnTrue, Borrow.Bor, List.list_any, List.filter, Option.option_map}
 pub use Rattle.std.specs.Prelude.{encode_utf8_all}
-pub use Rattle.json.proofs.Printed.Plain.{plain_from_lanes}
-pub use Rattle.json.specs.Json.{Json, string}
-pub use Rattle.json.specs.Print.{quoted, escape}
-pub use Rattle.json.specs.Run.{is_plain}
-pub use Rattle.json.specs.Value.{items_of}
-pub use Rattle.json.specs.Written.{PlainBetween}
-pub use Rattle.syslog_loose.specs.Line.{line_value}
-pub use Rattle.syslog_loose.specs.Message.{MessageValue}
-pub use Rattle.syslog_loose.specs.declared.message.Protocol.{Protocol}
-pub use Rattle.syslog_pieces.specs.Pieces.Class.{Text}
-pub use Rattle.syslog_pieces.specs.Pieces.View.{seen}
-pub use Rattle.syslog_pieces.specs.ProcId.{procid_text}
-pub use Rattle.syslog_pieces.specs.StructuredData.Element.{ElementValue}
-pub use Rattle.syslog_pieces.specs.StructuredData.Visited.{list_elements, params_left, element_seen}
+pub use Rattle.std.proofs.lemmas.List.{map-append, drop_more, nil_from_length, length-append}
+pub use Rattle.json.{proofs.Printed.Plain.plain_from_lanes, specs.Json.Json, specs.Json.string, specs.Print.quoted}
+pub use Rattle.json.specs.{Print.escape, Run.is_plain, Value.items_of, Written.PlainBetween}
+pub use Rattle.syslog_loose.specs.{Line.line_value, Message.MessageValue, declared.message.Protocol.Protocol}
+pub use Rattle.syslog_pieces.specs.{Pieces.Class.Text, Pieces.View.seen, ProcId.procid_text}
+pub use Rattle.syslog_pieces.specs.StructuredData.{Element.ElementValue, Visited.list_elements}
+pub use Rattle.syslog_pieces.specs.StructuredData.Visited.{params_left, element_seen}
 pub use Rattle.syslog_object.specs.Gathered.{values_at, first_keys, one_or_all, gathered}
 pub use Rattle.syslog_object.specs.Object.{element_pair, message_json, structured_json, version_json, timestamp_json}
 pub use Rattle.syslog_object.specs.Object.{text_json, unescaped, Field, element_json, param_pair}

@@ -1,18 +1,16 @@
 -- The fields of an object, and the object of the elements that a writer was given.
 use Rattle.syslog_object.proofs
 use Rattle.syslog_object.specs
-use proofs.Names.{encode_utf8_all, structured_json, facility_fields, protocol_fields, severity_fields}
-use proofs.Names.{append_assoc, length-append, ElementValue, MessageValue, element_pair, timestamp_json, members_after}
-use proofs.Names.{Option, procid_text, message_json, version_json, element_json, back_fields, compact_text, AreDistinct}
-use proofs.Names.{List, append-nil, option_map, map-append, param_pair, field_text, front_text, text_field, object_text}
+use proofs.Names.{encode_utf8_all, structured_json, facility_fields, protocol_fields, severity_fields, append_assoc}
+use proofs.Names.{length-append, ElementValue, MessageValue, element_pair, timestamp_json, members_after, Option}
+use proofs.Names.{procid_text, message_json, version_json, element_json, back_fields, compact_text, AreDistinct, List}
+use proofs.Names.{append-nil, option_map, map-append, param_pair, field_text, front_text, text_field, object_text}
 use proofs.Names.{length, bytes_eq, Result, OnTrue, Protocol, escape, quoted, gathered, text_json, rest_text, IsNewKey}
-use proofs.Names.{◌++◌, Some, None, codes, refl, Bool, true, false, cond, take, drop, arith, OnOk, string, Field}
-use proofs.Names.{◌≡◌, ℕ, [], ◌∷◌, sym, ap, ◌∙◌, map, ◌-◌, ◌+◌, ◌<◌, Ok, Err, Bor, Text, Json}
+use proofs.Names.{◌++◌, Some, None, codes, refl, Bool, true, false, cond, take, drop, arith, OnOk, string, Field, ◌≡◌}
+use proofs.Names.{ℕ, [], ◌∷◌, sym, ap, ◌∙◌, map, ◌-◌, ◌+◌, ◌<◌, Ok, Err, Bor, Text, Json, nil_from_length}
 use Rattle.std.proofs.Common.{◌≢◌, slice_set}
 use Rattle.std.{proofs.Math.Seq.drop-append_seam, proofs.lemmas.List.take_more_set, specs.Result.is_err}
-use proofs.Names.{nil_from_length}
-use Rattle.std.proofs.lemmas.List.{length-map}
-use Rattle.std.proofs.Math.Seq.{take-append_seam}
+use Rattle.std.proofs.{lemmas.List.length-map, Math.Seq.take-append_seam}
 use Rattle.syslog_pieces.specs.declared.procid.ProcId.{ProcId}
 use Rattle.json.specs.Print.{escape_byte}
 use specs.{Object.object_of, Object.protocol_text, Parts.later_text, Parts.member_text, Parts.open_text}

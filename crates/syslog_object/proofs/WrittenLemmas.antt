@@ -6,8 +6,8 @@ use Rattle.syslog_object.proofs.Names.{Bool, false, subst, Option, string, quote
 use Rattle.syslog_object.proofs.Names.{◌≡◌, true, List, [], ◌∷◌, ◌++◌, refl, ◌==◌, arith, Some, None, Json, Text, Field}
 use Rattle.syslog_object.proofs.Names.{ℕ, sym, ap, ◌∙◌, suc, ◌<◌, ◌≤◌, map, inl, inr}
 use Rattle.std.proofs.Common.{zero, ◌/◌, ◌%◌, decimal}
-use Rattle.std.{proofs.DigitsParse.digits_onto-nil, proofs.lemmas.Bool.cond_both, proofs.lemmas.Grind.common_steps}
-use Rattle.std.{specs.Char.digit_char, specs.List.AllByRecursion, specs.Prelude.⊤}
+use Rattle.std.proofs.{DigitsParse.digits_onto-nil, lemmas.Bool.cond_both, lemmas.Grind.common_steps}
+use Rattle.std.specs.{Char.digit_char, List.AllByRecursion, Prelude.⊤}
 use Rattle.std.{proofs.lemmas.List.Elements.All-from_recursion, specs.Fmt.digit_glyph, specs.Fmt.digits_onto}
 use Rattle.json.specs.Json.{boolean, number, array, object, Items, no_items, Members, no_members, member, document}
 use Rattle.json.specs.Json.{null, item}
@@ -17,9 +17,8 @@ use Rattle.json.specs.Tree.{HasNumbers, ItemsHaveNumbers, MembersHaveNumbers, js
 use Rattle.json.specs.Tree.{depth}
 use Rattle.syslog_pieces.proofs.PriLemmas.{facility_low, severity_low}
 use Rattle.syslog_loose.specs.declared.message.Protocol.TheVariants.{RFC3164, RFC5424}
-use Rattle.syslog_object.specs.Parts.{comma_if, members_text, IsSmallVersion}
+use Rattle.syslog_object.specs.{Parts.comma_if, Parts.members_text, Parts.IsSmallVersion, Gathered.members_of}
 use Rattle.syslog_object.specs.Written.{HasSmallNumbers, ItemsHaveSmallNumbers, MembersHaveSmallNumbers, IsTextOf}
-use Rattle.syslog_object.specs.Gathered.{members_of}
 use Rattle.syslog_object.specs.Object.{fields_of, present, invalid_json, refused_json}
 
 -- ---- the numbers are numbers of JSON

@@ -1,8 +1,7 @@
 use Rattle.syslog_lines.proofs.Names.{arith, length, refl, true, Appends-kept, take_all, Memory, Write}
-use Rattle.syslog_lines.proofs.AnswerLemmas.{IfErr-passed}
+use Rattle.syslog_lines.proofs.{AnswerLemmas.IfErr-passed, WriteLemmas.AnswersAll-begun, WriteLemmas.AnswersAll-moved}
 use Rattle.syslog_lines.proofs.PumpLemmas.{EndsEarly-stopped, EndsEarly-unbegun, PumpedSoFar-more, PumpedSoFar-start}
 use Rattle.syslog_lines.proofs.PumpLemmas.{EndsEarly-last, EndsEarly-more, PumpsAll-last}
-use Rattle.syslog_lines.proofs.WriteLemmas.{AnswersAll-begun, AnswersAll-moved}
 use Rattle.syslog_lines.proofs.pump.pump.Goals as goal
 
 pub returns-in_err-block-clause-err : goal.returns-in_err-block-clause-err

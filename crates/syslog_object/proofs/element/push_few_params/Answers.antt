@@ -1,5 +1,4 @@
-use Rattle.syslog_object.proofs.Names.{refl, take}
-use Rattle.syslog_object.proofs.GatherLemmas.{all_seen, params_json}
+use Rattle.syslog_object.proofs.{Names.refl, Names.take, GatherLemmas.all_seen, GatherLemmas.params_json}
 use Rattle.syslog_object.proofs.element.push_few_params.Goals as goal
 
 pub returns : goal.returns

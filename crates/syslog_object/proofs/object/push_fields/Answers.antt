@@ -1,5 +1,4 @@
-use Rattle.syslog_object.proofs.Names.{on_ok_weaker, seen, line_value}
-use Rattle.syslog_object.proofs.WriterLemmas.{whole_written}
+use Rattle.syslog_object.proofs.{Names.on_ok_weaker, Names.seen, Names.line_value, WriterLemmas.whole_written}
 use Rattle.syslog_object.proofs.object.push_fields.Goals as goal
 
 pub returns-clause-text : goal.returns-clause-text

@@ -1,5 +1,4 @@
-use Rattle.syslog_object.proofs.Names.{on_ok_weaker, line_value, seen}
-use Rattle.syslog_object.proofs.WrittenLemmas.{text_of_message}
+use Rattle.syslog_object.proofs.{Names.on_ok_weaker, Names.line_value, Names.seen, WrittenLemmas.text_of_message}
 use Rattle.syslog_object.proofs.object.push_object.Goals as goal
 
 pub returns : goal.returns

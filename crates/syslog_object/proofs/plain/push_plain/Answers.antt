@@ -1,6 +1,5 @@
 use Rattle.std.proofs.lemmas.List.{take-append-drop, take_rest}
-use Rattle.syslog_object.proofs.Names.{sym, take}
-use Rattle.syslog_object.proofs.EscapeLemmas.{plain_front}
+use Rattle.syslog_object.proofs.{Names.sym, Names.take, EscapeLemmas.plain_front}
 use Rattle.syslog_object.proofs.plain.push_plain.Goals as goal
 
 pub returns : goal.returns
