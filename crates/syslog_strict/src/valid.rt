@@ -18,7 +18,7 @@ use syslog_pieces::as_str::is_same_text;
 use syslog_pieces::text::{CharClass, first, literal, number, split_run};
 
 // The text after this ASCII character, or none where it isn't there.
-// A function of its own, so that its clause is an equation that callers chain, where `literal` tells what it skips.
+// A function of its own, so that its clause is an equation, where `literal` says what it skips.
 #[tactic(auto, using(crate::proofs::ValidLemmas::char_past))]
 #[inline(always)]
 fn after_char(text: &str, c: char) -> Option<&str>

@@ -13,7 +13,7 @@ use super::walk::walk_element;
 use crate::text::literal;
 
 // The text after the space at the front, where there is one, or else the whole.
-// A function of its own, so that its clause tells the two cases apart for the proof of `next`.
+// A function of its own, so that its clause separates the two cases for `next`.
 fn past_separator(text: &str) -> &str
     ensures { (chars text.now ≡ 32 ∷ chars result.now)
         ⊎ (NoFront (exactly (32 ∷ [])) (chars text.now) × (chars text.now ≡ chars result.now)) }
