@@ -115,7 +115,6 @@ fn write_origin<S: AsStr, W: fmt::Write>(
 }
 
 /// Writes the app name, the process id and the message id, each after a space.
-#[tactic(auto, using(std::proofs::lemmas::Grind::common_steps))]
 pub(crate) fn write_program<S: AsStr, W: fmt::Write>(
     f: &mut fmt::Formatter<W>,
     app: &Option<S>,

@@ -54,7 +54,6 @@ pub fn canonical_rfc3164_has_no_exception()
 
 /// The printed text of a message, read under `Either` or the message's own variant, is read as the message itself
 /// exactly where it meets the written condition, for every year and zone. So is the one message as which it is read.
-#[tactic(auto, using(crate::proofs::ReadBackLemmas::printed_exact, crate::proofs::ReadBackLemmas::only_read_exact))]
 pub fn printed_is_read_back_exactly()
     ensures read { (variant : Variant) (dating : Dating) (m : MessageValue) → ReadsProtocol variant m.protocol
         → IsBounded m
@@ -66,7 +65,6 @@ pub fn printed_is_read_back_exactly()
 
 /// What is read of one line is printed as one line: where the text has no line feed, the printed text of its message
 /// has none.
-#[tactic(auto, using(crate::proofs::ReadBackLemmas::printed_line))]
 pub fn message_of_one_line_prints_as_one()
     ensures { (variant : Variant) (dating : Dating) (text : Text) (m : MessageValue) → IsRead variant dating text m
         → IsOneLine text

@@ -32,7 +32,6 @@ pub fn settled_text_is_of_a_canonical_message()
 
 /// Of the rounds 1 to n + 1 of a text of n characters one is settled, or the text has no round n + 2: so rounds come to
 /// rest, or one is missing.
-#[tactic(auto, using(crate::proofs::SettlingLemmas::Settles::rests))]
 pub fn rounds_come_to_rest()
     ensures { (variant : Variant) (dating : Dating) (text u : Text) → NoneSettled variant dating text (length text + 1)
         → IsRound variant dating text (length text + 2) u → ⊥ }

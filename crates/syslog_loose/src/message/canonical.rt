@@ -225,7 +225,6 @@ fn have_params<S: AsStr>(elements: &[StructuredElement<S>]) -> bool
 }
 
 /// Whether the message part is not taken for a list, where there is no element before it.
-#[tactic(auto, using(crate::proofs::CanonicalLemmas::no_list_told))]
 pub(crate) fn begins_no_list(no_elements: bool, msg: &str) -> bool
     ensures { (es : List ElementValue) → MatchBool no_elements (es ≡ []) (es ≢ [])
         → IsTrue result ↔ (es ≡ [] → BeginsNoList dash_rule (chars msg.now)) }

@@ -13,7 +13,6 @@ use syslog_pieces::structured_data::StructuredElement;
 impl<S: AsStr + Clone> Message<S> {
     /// A copy, the same in each field, with elements and parameters in the same order. An `Err` is only for memory, and
     /// nothing has changed then.
-    #[tactic(auto, using(std::proofs::lemmas::Grind::common_steps))]
     pub fn try_clone(&self, alloc: Global) -> Result<Message<S>, AllocError>
         requires { ClonesKeepText S.is_clone S.text }
         ensures { IfOk result (λ copy. message_value (text_of S.text) copy ≡ message_value (text_of S.text) self.now) }
@@ -57,7 +56,6 @@ fn clone_process<S: AsStr + Clone>(
     }
 }
 
-#[tactic(auto, using(std::proofs::lemmas::Grind::common_steps))]
 fn clone_elements<S: AsStr + Clone>(
     alloc: Global,
     elements: &[StructuredElement<S>],

@@ -62,7 +62,6 @@ pub(crate) fn write_timestamp<W: fmt::Write>(
 
 /// Writes a space and a process id.
 #[inline]
-#[tactic(auto, using(std::proofs::lemmas::Grind::common_steps))]
 pub(crate) fn write_process<S: AsStr, W: fmt::Write>(
     f: &mut fmt::Formatter<W>,
     process: &Option<ProcId<S>>,
@@ -81,7 +80,6 @@ pub(crate) fn write_process<S: AsStr, W: fmt::Write>(
 
 /// Writes a space and the elements one after the other.
 #[inline]
-#[tactic(auto, using(std::proofs::lemmas::Grind::common_steps))]
 pub(crate) fn write_elements<S: AsStr, W: fmt::Write>(
     f: &mut fmt::Formatter<W>,
     elements: &[StructuredElement<S>],

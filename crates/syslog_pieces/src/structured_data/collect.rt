@@ -71,7 +71,6 @@ impl<'a> Element<'a> {
 
 impl<'a> ElementList<'a> {
     /// Collects its strict elements, and asks for no memory where it has none. An `Err` is only for memory.
-    #[tactic(auto, using(crate::proofs::StructuredDataLemmas::Units::copies_more))]
     pub fn collect(&self, alloc: Global) -> Result<Vec<StructuredElement<&'a str>>, AllocError>
         ensures { MatchResult result (λ v. map (element_value (λ s. shown s)) v.items ≡ list_elements self.now)
             (λ _. list_elements self.now ≢ []) }
