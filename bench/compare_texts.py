@@ -189,7 +189,7 @@ def date(chance):
 HEADERS = ["-", "-", "Oct 11 22:14:15", "Oct 11 2019 22:14:15", "oct  1 02:03:04:", "2019-10-11T22:14:15Z", "2019-10-11T22:14:15.5+02:00"]
 NAMES = ["", " h", " mymachine", " -", " h:", " h[1]", " ü.example", " 10.0.0.1"]
 TAGS = ["", " app", " app", " app[323]", " -", " a/b", " [5]", " 局"]
-BEHIND = ["", " ", "\t", "  ", "-", "--", "5", "5 degrees", "x", "x y", "ü", "🔋", ":", "[", "[e k=\"v\"] x", "[e] x", "]", "\"", ">", "- x", "-\tx"]
+AFTER = ["", " ", "\t", "  ", "-", "--", "5", "5 degrees", "x", "x y", "ü", "🔋", ":", "[", "[e k=\"v\"] x", "[e] x", "]", "\"", ">", "- x", "-\tx"]
 
 
 def dashed(chance):
@@ -200,8 +200,8 @@ def dashed(chance):
     else:
         front += chance.choice(HEADERS) + chance.choice(NAMES) + chance.choice(TAGS)
         front += chance.choice([":", ":", ":", " :", ""]) + chance.choice([" ", " ", "", "\t", "  "]) + "-"
-    behind = chance.choice(BEHIND) if chance.random() < 0.7 else chance.choice(WHITE + NON_ASCII)
-    return (front + behind + run_of(chance, ["x", "7", " ", "-", "é", "[a b=\"c\"]", ": "], 0, 6)).rstrip("\r")
+    after = chance.choice(AFTER) if chance.random() < 0.7 else chance.choice(WHITE + NON_ASCII)
+    return (front + after + run_of(chance, ["x", "7", " ", "-", "é", "[a b=\"c\"]", ": "], 0, 6)).rstrip("\r")
 
 
 def distinct(count, make):

@@ -242,7 +242,7 @@ def numbered(piece, size):
     return "".join(piece % it for it in range(100_000, 100_000 + max(1, size // length)))
 
 
-def behind(header, maker):
+def after(header, maker):
     return lambda size: header + maker(size)
 
 
@@ -288,19 +288,19 @@ HOSTILE_LINES = [
 # Lines that need as many rounds as they have colons or dashes, which settling skips: one kind each, and then two in one
 # line, or after a piece that changes first.
 SETTLING_LINES = [
-    ("dashes_3164", behind(HEADER_3164, dict(HOSTILE_LISTS)["dashes"])),
+    ("dashes_3164", after(HEADER_3164, dict(HOSTILE_LISTS)["dashes"])),
     ("last_colons_3164", lambda size: "- host" + filled(":", size) + " text"),
     ("colons_and_dashes_3164", lambda size: "- host" + filled(":", size // 2) + " " + filled("- ", size // 2) + "x"),
-    ("colons_behind_a_date_3164", lambda size: "0000-01-01T00:00:00+01:00 host" + filled(":", size) + " text"),
-    ("dashes_behind_a_process_3164", lambda size: "- host app[x:y]: " + filled("- ", size) + "x"),
+    ("colons_after_a_date_3164", lambda size: "0000-01-01T00:00:00+01:00 host" + filled(":", size) + " text"),
+    ("dashes_after_a_process_3164", lambda size: "- host app[x:y]: " + filled("- ", size) + "x"),
     ("colons_of_a_dash_3164", lambda size: "- -" + filled(":", size) + " text"),
     ("colons_of_a_form_3164", lambda size: "- h[1]" + filled(":", size) + " text"),
     ("colons_and_a_list_3164", lambda size: "- host" + filled(":", size // 2) + " " + filled('[a b="c"]', size // 2) + " - x"),
 ]
 
 HOSTILE = [
-    *((name, behind(HEADER, maker)) for name, maker in HOSTILE_LISTS),
-    *((name + "_3164", behind(HEADER_3164, maker)) for name, maker in HOSTILE_LISTS if name != "dashes"),
+    *((name, after(HEADER, maker)) for name, maker in HOSTILE_LISTS),
+    *((name + "_3164", after(HEADER_3164, maker)) for name, maker in HOSTILE_LISTS if name != "dashes"),
     *HOSTILE_LINES,
     *SETTLING_LINES,
 ]
@@ -308,7 +308,7 @@ HOSTILE = [
 
 # What may cost a writer of JSON more than its length: what is gathered, and what is escaped.
 HOSTILE_JSON = [
-    (name, behind(HEADER, maker))
+    (name, after(HEADER, maker))
     for name, maker in [
         ("values_of_one_name", lambda size: "[a" + filled(' b="c"', size) + "]"),
         ("values_of_two_names", lambda size: "[a" + filled(' b="c" d="e"', size) + "]"),

@@ -67,8 +67,8 @@ class Maker:
         stamp = self.one(self.month_date(), self.month_date(), self.month_date(), self.stamp())
         tag = self.random.choice(TAGS) + self.one("[%s]" % self.number(70000, 9, 2**33), "[-%s]" % self.number(9), "[0%s]" % self.number(9), "", "[x]")
         names = self.random.choice(GAPS) + self.random.choice(HOSTS) + self.random.choice(GAPS) + tag
-        behind = self.one(":", ":", ":", " :", "") + self.random.choice(GAPS) + self.one("", "", "", self.element()) + self.random.choice(MESSAGES)
-        return self.priority() + self.one("", "", "", " ") + stamp + names + behind
+        after = self.one(":", ":", ":", " :", "") + self.random.choice(GAPS) + self.one("", "", "", self.element()) + self.random.choice(MESSAGES)
+        return self.priority() + self.one("", "", "", " ") + stamp + names + after
 
     def changed(self, line):
         characters = list(line)

@@ -37,7 +37,7 @@ static int same_text(const struct syslog_text *one, const struct syslog_text *ot
     return one->start == other->start && one->length == other->length && one->present == other->present;
 }
 
-/* The arrays with one thing behind their last one, and the message. */
+/* The arrays with one thing after their last one, and the message. */
 struct place {
     struct syslog_message message;
     struct syslog_element elements[MOST + 2];

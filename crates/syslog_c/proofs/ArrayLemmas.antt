@@ -56,7 +56,7 @@ begun_part R vs us old xs sub at long fits b s same =
     let n = length us in
     let longer : length (vs ++ us) ≡ at + n = length-append vs us ∙ ap (λ (k : ℕ). k + n) long in
     let long_p : length p ≡ at = length-take-le at xs (omega arith) in
-    let long_behind = length-drop at xs in
+    let long_after = length-drop at xs in
     let mid : mid_of at (length xs - at) xs ≡ drop at xs = take_all _ _ (omega arith) in
     let none : post_of at (length xs - at) xs ≡ [] =
     drop_of_length-le (drop at xs) {i = length xs - at} (omega arith) in
@@ -74,7 +74,7 @@ begun_part R vs us old xs sub at long fits b s same =
 pub put_length : {A : Type 0} (at : ℕ) (xs sub : List A) → at ≤ length xs
     → length sub ≡ length (mid_of at (length xs - at) xs) → length (put_mid at (length xs - at) xs sub) ≡ length xs
 put_length at xs sub l same =
-    let long_behind = length-drop at xs in
+    let long_after = length-drop at xs in
     let long_p = length-take-le at xs l in
     let mid : mid_of at (length xs - at) xs ≡ drop at xs = take_all _ _ (omega arith) in
     let none : post_of at (length xs - at) xs ≡ [] =

@@ -15,18 +15,18 @@ word_alone (x ∷ []) d wanted one = (
 word_alone args d wanted one = absurd (omega (arith, one))
 
 -- two words, of which the first is `--`, name the year that the second names
-pub year_behind : (args : List (Bor (List ℕ))) (d e : Bor (List ℕ)) (year : Option ℤ) → length args ≡ 2
+pub year_after : (args : List (Bor (List ℕ))) (d e : Bor (List ℕ)) (year : Option ℤ) → length args ≡ 2
     → pointwise nat_eq (get_or args 0 d).now end_word ≡ true
     → MatchOption year (¬ (IsYear (get_or args 1 e).now))
     (λ (y : ℤ). IsYear (get_or args 1 e).now × (y ≡ pos (digits_value 10 (get_or args 1 e).now)))
     → MatchOption year ((y : ℤ) → ¬ (AreYearWords (map (λ (arg : Bor (List ℕ)). arg.now) args) y))
     (λ (y : ℤ). AreYearWords (map (λ (arg : Bor (List ℕ)). arg.now) args) y)
-year_behind (x ∷ (y ∷ [])) d e (Some year) two same named =
+year_after (x ∷ (y ∷ [])) d e (Some year) two same named =
     (y.now, inr (ap (λ (word : List ℕ). word ∷ (y.now ∷ [])) ((bytes_decides x.now end_word).0 same)), named)
-year_behind (x ∷ (y ∷ [])) d e None two same named = λ year words.
+year_after (x ∷ (y ∷ [])) d e None two same named = λ year words.
     elim words.1 [
       | inl alone ↦ absurd (let more = ap length alone in omega (arith, more))
-      | inr behind ↦
-          named (subst IsYear (sym (ap (λ (ws : List (List ℕ)). get_or ws 1 []) behind)) words.2.0)
+      | inr after ↦
+          named (subst IsYear (sym (ap (λ (ws : List (List ℕ)). get_or ws 1 []) after)) words.2.0)
     ]
-year_behind args d e year two same named = absurd (omega (arith, two))
+year_after args d e year two same named = absurd (omega (arith, two))

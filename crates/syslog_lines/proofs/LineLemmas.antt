@@ -44,8 +44,8 @@ NoFeed-between start end bytes free = All-from_get_or IsOther (drop start (take 
 pub all_front : {X : Type 0} (P : X → Type 0) (xs ys : List X) → All P (xs ++ ys) → All P xs
 all_front P xs ys all = subst (All P) (take-append_seam xs ys) (All-take P (length xs) (xs ++ ys) all)
 
-pub all_behind : {X : Type 0} (P : X → Type 0) (xs ys : List X) → All P (xs ++ ys) → All P ys
-all_behind P xs ys all = subst (All P) (drop-append_seam xs ys) (All-drop P (length xs) (xs ++ ys) all)
+pub all_after : {X : Type 0} (P : X → Type 0) (xs ys : List X) → All P (xs ++ ys) → All P ys
+all_after P xs ys all = subst (All P) (drop-append_seam xs ys) (All-drop P (length xs) (xs ++ ys) all)
 
 -- ---- lists of lines
 
@@ -108,27 +108,27 @@ pub closed_lines : (bytes : List ℕ) (lines : List (List ℕ)) → EndsInFeed b
     → All NoFeed lines × (bytes ≡ with_feeds lines)
 closed_lines bytes lines closed (free, inl joined) = (free, joined)
 closed_lines bytes lines closed (free, inr lacks) =
-    let last = all_behind NoFeed lacks.before (lacks.last ∷ []) (rw lacks.listed at free) in
+    let last = all_after NoFeed lacks.before (lacks.last ∷ []) (rw lacks.listed at free) in
     absurd (ends_free (with_feeds lacks.before) lacks.last lacks.some (All-head NoFeed lacks.last [] last)
     (rw lacks.joined at closed))
 
 -- ---- all bytes have lines
 
 -- the lines of bytes after some of their first line
-lines_behind : (front bytes : List ℕ) → NoFeed front → (lines : List (List ℕ)) × IsLines (front ++ bytes) lines
-lines_behind [] [] free = ([], IsLines-nil)
-lines_behind (byte ∷ front) [] free =
+lines_from_front : (front bytes : List ℕ) → NoFeed front → (lines : List (List ℕ)) × IsLines (front ++ bytes) lines
+lines_from_front [] [] free = ([], IsLines-nil)
+lines_from_front (byte ∷ front) [] free =
     ((byte ∷ front) ∷ [], rw append-nil (one_line (byte ∷ front) free (omega arith)))
-lines_behind front (byte ∷ bytes) free = elim (cases_eq byte 10) [
+lines_from_front front (byte ∷ bytes) free = elim (cases_eq byte 10) [
   | inl feed ↦
-      let (lines, cut) = lines_behind [] bytes (All-nil IsOther) in (
+      let (lines, cut) = lines_from_front [] bytes (All-nil IsOther) in (
         front ∷ lines,
         IsLines-cons _ front bytes lines (simp length-append (omega arith))
             (free, inl (ap (λ b. front ++ b ∷ bytes) feed)) cut,
       )
   | inr other ↦ rw (← append_assoc front (byte ∷ []) bytes)
-      (lines_behind (front ++ byte ∷ []) bytes (All-push IsOther front byte free other))
+      (lines_from_front (front ++ byte ∷ []) bytes (All-push IsOther front byte free other))
 ]
 
 pub some_lines : (bytes : List ℕ) → (lines : List (List ℕ)) × IsLines bytes lines
-some_lines bytes = lines_behind [] bytes (All-nil IsOther)
+some_lines bytes = lines_from_front [] bytes (All-nil IsOther)

@@ -1,8 +1,10 @@
 //! The words that a filter with dates is called with.
-ghost use Rattle.std.specs.Prelude.{◌≡◌, ◌↔◌, ◌++◌, ◌∷◌, [], Bool, IfErr, IfOk, IsTrue, List, MatchOption, MatchResult, Option, ℕ, ℤ, drop};
+ghost use Rattle.std.specs.Prelude.{◌≡◌, ◌↔◌, ◌++◌, ◌∷◌, [], Bool, IfErr, IfOk, IsTrue, List, MatchOption, MatchResult};
+ghost use Rattle.std.specs.Prelude.{Option, ℕ, ℤ, drop};
 ghost use Rattle.std.specs.Vec.Iter.{into_iter_items};
 ghost use Rattle.syslog_lines.specs.Arguments.{NamesDate, NamesOffset};
-ghost use Rattle.syslog_lines.specs.Words.{AreDateWords, AskForLines, AsksFor, IsAmong, IsOffsetFlag, offset_word, raw_flag, raw_word, texts};
+ghost use Rattle.syslog_lines.specs.Words.{AreDateWords, AskForLines, AsksFor, IsAmong, IsOffsetFlag, offset_word};
+ghost use Rattle.syslog_lines.specs.Words.{raw_flag, raw_word, texts};
 ghost use Rattle.syslog_lines.specs.declared.dates.Dates.{Dates};
 ghost use Rattle.syslog_lines.specs.declared.words.Task.{Task};
 ghost use Rattle.syslog_lines.specs.declared.words.Wrong.TheVariants.{Unreadable};

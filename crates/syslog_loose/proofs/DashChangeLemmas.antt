@@ -68,7 +68,7 @@ dash_change_or_not : (t : Text) → BeginsDashChange t ⊎ (BeginsDashChange t �
 dash_change_or_not (c ∷ d ∷ q) = elim (eqb_tells c 45) [
   | inl (_, e) ↦ elim (decide (is_blank d)) [
     | inl b ↦ inr (λ h. cc)
-    | inr b ↦ inl (record { next = d; behind = q; is = ap (λ (x : ℕ). x ∷ d ∷ q) e; no_blank = b })
+    | inr b ↦ inl (record { next = d; after = q; is = ap (λ (x : ℕ). x ∷ d ∷ q) e; no_blank = b })
   ]
   | inr (_, n) ↦ inr (λ h. n cc)
 ]
@@ -78,7 +78,7 @@ dash_change_or_not t = inr (λ h. cc)
 dash_before : (rule : DashRule) (q : Text) → (BeginsDashChange (45 ∷ q) → ⊥) → IsDashBefore rule q
 dash_before BeforeBlank (c ∷ q) n = elim (decide (is_blank c)) [
   | inl b ↦ b
-  | inr b ↦ absurd (n (record { next = c; behind = q; is = refl; no_blank = b }))
+  | inr b ↦ absurd (n (record { next = c; after = q; is = refl; no_blank = b }))
 ]
 dash_before rule q n = tt
 
@@ -101,16 +101,16 @@ field_stays rule other t q (Some es) n f =
 -- the pieces of two rows, with the first of the second row, and the text from that one on
 rows_cut : (As : List Class) (C : Class) (Bs : List Class) (vs : Values (As ++ (C ∷ Bs))) (ps : List Text) {t q : Text}
     → t ≡ join ps ++ q → Divides (As ++ (C ∷ Bs)) ps q vs
-    → (before : List Text) × (p : Text) × (behind : List Text) × (ps ≡ before ++ (p ∷ behind))
-    × (length before ≡ length As) × Front (Row As) t (join (p ∷ behind) ++ q) (firsts As (C ∷ Bs) vs)
-    × C.Is p (join behind ++ q) (lasts As (C ∷ Bs) vs).0
+    → (before : List Text) × (p : Text) × (after : List Text) × (ps ≡ before ++ (p ∷ after))
+    × (length before ≡ length As) × Front (Row As) t (join (p ∷ after) ++ q) (firsts As (C ∷ Bs) vs)
+    × C.Is p (join after ++ q) (lasts As (C ∷ Bs) vs).0
 rows_cut [] C Bs vs (p ∷ ps) e d =
     ([], p, ps, refl, refl, record { piece = []; whole = e; is = ([], refl, tt) }, d.0)
 rows_cut (A ∷ As) C Bs vs (a ∷ ps) {q = q} e d =
-    let (before, p, behind, is, l, f, g) = rows_cut As C Bs vs.1 ps {t = join ps ++ q} refl d.1 in
+    let (before, p, after, is, l, f, g) = rows_cut As C Bs vs.1 ps {t = join ps ++ q} refl d.1 in
     let first : Front A _ (join ps ++ q) vs.0 =
     record { piece = a; whole = e ∙ append_assoc a (join ps) q; is = d.0 } in
-    (a ∷ before, p, behind, ap (λ (x : List Text). a ∷ x) is, omega (arith, l), row_cons A As first f, g)
+    (a ∷ before, p, after, ap (λ (x : List Text). a ∷ x) is, omega (arith, l), row_cons A As first f, g)
 rows_cut As C Bs vs ps e d = absurd d
 
 module _ (dating : Dating) (text : Text) where
@@ -137,20 +137,20 @@ module _ (dating : Dating) (text : Text) where
       from_gap r.values r.division.pieces (r.division.whole ∙ sym (append-nil _)) r.division.each in
       let same = (front_same (Row (before_list dating)) (row_det (before_list dating) (before_det dating)) f a).0 in
       let is_dash = (optional_det (rfc3164_list BeforeAnything) (rfc3164_list_det BeforeAnything) p (join ps ++ []) dash
-      (k.next ∷ k.behind) _ (Some []) (sym (append_assoc p (join ps) []) ∙ same ∙ k.is) list (inl (refl, tt, refl))).0
+      (k.next ∷ k.after) _ (Some []) (sym (append_assoc p (join ps) []) ∙ same ∙ k.is) list (inl (refl, tt, refl))).0
       in
       record {
         message = m;
         read = r;
         before = before;
         list = p;
-        behind = ps;
+        after = ps;
         pieces = e;
         place = l;
         is_list = inl (is_dash, tt, refl);
         is_dash = is_dash;
         next = k.next;
-        more = k.behind;
+        more = k.after;
         follows = let w = append-nil (join ps) in let v = rw is_dash at same in let z = k.is in cc;
         no_blank = k.no_blank;
       }
@@ -164,11 +164,11 @@ module _ (dating : Dating) (text : Text) where
       from_gap d.read.values r.pieces (r.whole ∙ sym (append-nil _)) r.each in
       let a = drop-append_seam before (p ∷ ps) in
       let place = d.place in
-      let b = drop-append_seam d.before (d.list ∷ d.behind) in
+      let b = drop-append_seam d.before (d.list ∷ d.after) in
       let list : p ≡ d.list = cc in
-      let same : p ∷ ps ≡ d.list ∷ d.behind = cc d.pieces in
-      let behind : ps ≡ d.behind = cc in
-      rw (list, behind, append-nil, d.is_dash, d.follows) at f
+      let same : p ∷ ps ≡ d.list ∷ d.after = cc d.pieces in
+      let after : ps ≡ d.after = cc in
+      rw (list, after, append-nil, d.is_dash, d.follows) at f
 
   dash_change_of_differ : (m n : MessageValue) → IsRead3164 BeforeAnything dating text m
       → IsRead3164 BeforeBlank dating text n → (m ≡ n → ⊥) → HasDashChange3164 dating text
@@ -251,7 +251,7 @@ module _ (dating : Dating) (text : Text) where
       → (n : MessageValue) × IsRead3164 other dating text n
   other_too rule other m r = elim (turn dating text rule other m r) [
     | inl (u, a, d) ↦ let (n, means, is) = r.means in
-        (differ_of_dash_change dating text _ n means d.next d.behind (rw d.is at a) d.no_blank).read other
+        (differ_of_dash_change dating text _ n means d.next d.after (rw d.is at a) d.no_blank).read other
     | inr t ↦ (m, t)
   ]
 
@@ -307,12 +307,12 @@ told_by_list dating text list vs n true f means h = (
 )
   where
     a : ReadsApart dating text
-    a = differ_of_dash_change dating text vs n means h.next h.behind (rw h.is at f) h.no_blank
+    a = differ_of_dash_change dating text vs n means h.next h.after (rw h.is at f) h.no_blank
 told_by_list dating text list vs n false f means h = (
   λ t. cc,
   λ d. let same = (front_same (Row (before_list dating)) (row_det (before_list dating) (before_det dating)) f
       (dropped_at dating text d)).0 in
-      absurd (h (record { next = d.next; behind = d.more; is = same; no_blank = d.no_blank })),
+      absurd (h (record { next = d.next; after = d.more; is = same; no_blank = d.no_blank })),
 )
 
 pub told_by_line : (variant : Variant) (dating : Dating) (text : Text) (line : Line) (fields : Fields) (b : Bool)

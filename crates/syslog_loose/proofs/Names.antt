@@ -61,7 +61,7 @@ pub use Rattle.syslog_pieces.specs.Bodies.Verbatim.{IsBareWord}
 pub use Rattle.syslog_pieces.specs.Pieces.Lists.{IsMany}
 pub use Rattle.syslog_pieces.specs.Text.CharClass.{is_label_char, is_open_char, is_id_char, is_name_char}
 pub use Rattle.syslog_pieces.specs.Bodies.Closing.{start_row, start, opening_row}
-pub use Rattle.syslog_pieces.specs.StructuredData.Visited.{list_elements, elements_left, list_text}
+pub use Rattle.syslog_pieces.specs.StructuredData.Visited.{list_elements, elements_left}
 pub use Rattle.syslog_pieces.proofs.PieceLemmas.Class.{AllDeterministic, heads, front_same, row_det, optional_none}
 pub use Rattle.syslog_pieces.proofs.PieceLemmas.Class.{optional_some, row_cons, row_head, rows_join, division_front}
 pub use Rattle.syslog_pieces.proofs.PieceLemmas.Class.{optional_det, both_values, all_joined, rows_split, run_det}
@@ -70,7 +70,7 @@ pub use Rattle.syslog_pieces.proofs.PieceLemmas.Class.{◌also◌, rest_front, s
 pub use Rattle.syslog_pieces.proofs.PieceLemmas.Class.{no_row_division, rows_none_here, exactly_det, unique_division}
 pub use Rattle.syslog_pieces.proofs.PieceLemmas.Class.{rest_det, some_run_det, no_texted, no_spaced_space, absent_stays}
 pub use Rattle.syslog_pieces.proofs.PieceLemmas.Class.{piece_front, step, rows_step, front_longer, absent_none}
-pub use Rattle.syslog_pieces.proofs.PieceLemmas.Class.{present_front, step_value, each_map, each_front, each_behind}
+pub use Rattle.syslog_pieces.proofs.PieceLemmas.Class.{present_front, step_value, each_map, each_front, each_after}
 pub use Rattle.syslog_pieces.proofs.PieceLemmas.Class.{all_left, all_right, each_append, each_both, each_left}
 pub use Rattle.syslog_pieces.proofs.PieceLemmas.Class.{each_right, all_map, ◌then◌, row_of, row_pieces, no_row, ◌past◌}
 pub use Rattle.syslog_pieces.proofs.StructuredDataLemmas.Units.{decide, optional_rfc3164_list_quotes}
@@ -94,7 +94,7 @@ pub use Rattle.syslog_pieces.proofs.TimestampLemmas.MonthDate.{month_date_begins
 pub use Rattle.syslog_pieces.proofs.TimestampLemmas.MonthDate.{stamped_date_begins, IsLetter}
 pub use Rattle.syslog_pieces.proofs.TextLemmas.Runs.{some_front_run, one_ascii, nonempty_is, text_is, chars_nonempty}
 pub use Rattle.syslog_pieces.proofs.TextLemmas.Runs.{same_chars, end_trimmed_chars, no_some_run, chars_empty}
-pub use Rattle.syslog_pieces.proofs.TextLemmas.Runs.{word_stands, host_stands, empty_is, text_is_not, no_number}
+pub use Rattle.syslog_pieces.proofs.TextLemmas.Runs.{empty_is, text_is_not, no_number}
 pub use Rattle.syslog_pieces.proofs.StructuredDataLemmas.Elements.{opening_det}
 pub use Rattle.syslog_loose.specs.Canonical.{IsBounded, IsCanonicalFor, IsCanonical, IsBoundedProcess, IsCanonicalHost}
 pub use Rattle.syslog_loose.specs.Canonical.{IsVisible, IsBracketedProcess, is_process_char, AreCanonicalNames}
@@ -127,7 +127,7 @@ pub use Rattle.syslog_loose.specs.ReadBack.{ReadsProtocol, IsFixed}
 pub use Rattle.syslog_loose.specs.declared.fault.ParseFault.{ParseFault}
 pub use Rattle.syslog_loose.specs.declared.fault.ParseFault.TheVariants.{Invalid, Memory}
 pub use Rattle.syslog_loose.specs.TagForm.{IsForm, IsNoForm, form_row}
-pub use Rattle.syslog_loose.specs.Settling.{Costs, names_weight, ListWeighs, Weighs, IsNext, Reaches, IsRound}
+pub use Rattle.syslog_loose.specs.Settling.{Costs, names_weight, Weighs, IsNext, Reaches, IsRound}
 pub use Rattle.syslog_loose.specs.Settling.{IsSettled, NoneSettled, IsFirstSettled, answer_in}
-pub use Rattle.syslog_loose.specs.Bodies.Start.{BeginsWithout, IsBehindPriority}
+pub use Rattle.syslog_loose.specs.Bodies.Start.{BeginsWithout, IsAfterPriority}
 unfoldable pub use Rattle.std.specs.Char.{encode_utf8}

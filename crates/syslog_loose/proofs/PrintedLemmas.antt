@@ -1,5 +1,7 @@
 -- What is printed: what trimming leaves of it, the priority that it begins with, and its bytes.
-use Rattle.syslog_loose.proofs.Names.{IsSome, ◌*◌, ◌+◌, no_truth, facility_of, severity_of, facility_composed, severity_composed, option_and_then, severity_there, ◌≡◌, ◌<◌, ◌&&◌, ◌∷◌, ◌++◌, ◌∙◌, ℕ, inl, inr, Bool, true, false, cond, not, nat_eq}
+use Rattle.syslog_loose.proofs.Names.{IsSome, ◌*◌, ◌+◌, no_truth, facility_of, severity_of, facility_composed}
+use Rattle.syslog_loose.proofs.Names.{severity_composed, option_and_then, severity_there, ◌≡◌, ◌<◌, ◌&&◌, ◌∷◌, ◌++◌}
+use Rattle.syslog_loose.proofs.Names.{◌∙◌, ℕ, inl, inr, Bool, true, false, cond, not, nat_eq}
 use Rattle.syslog_loose.proofs.Names.{Option, Some, None, List, [], length, refl, sym, ap, subst, arith, append_assoc}
 use Rattle.syslog_loose.proofs.Names.{append-nil, flat_map, nat_tests, is_whitespace, is_not_whitespace}
 use Rattle.syslog_loose.proofs.Names.{drop_trailing_whitespace, Text, Class, Values, Front, Row, Each, Ends, run, rest}
@@ -90,8 +92,8 @@ drop_ends (d ∷ cs) =
     (drop_trailing_whitespace cs) refl refl (drop_ends cs)
 
 -- and what follows a piece of it does too
-pub ends_behind : (C : Class) {t q : Text} {v : C.Value} → Front C t q v → EndsVisibly t → EndsVisibly q
-ends_behind C {q = q} f h front c e =
+pub ends_after : (C : Class) {t q : Text} {v : C.Value} → Front C t q v → EndsVisibly t → EndsVisibly q
+ends_after C {q = q} f h front c e =
     h (f.piece ++ front) c (f.whole ∙ ap (λ (x : Text). f.piece ++ x) e ∙ sym (append_assoc f.piece front (c ∷ [])))
 
 -- ---- a space and the message at the end of a text
@@ -159,7 +161,7 @@ last_text (C ∷ Cs) vs = last_text Cs vs.1
 pub last_ends : (Cs : List Class) {t : Text} {vs : Values (Cs ++ (rest ∷ []))} → Front (Row (Cs ++ (rest ∷ []))) t [] vs
     → EndsVisibly t → EndsVisibly (last_text Cs vs)
 last_ends [] f h = let (u, g, e) = row_pieces (rest ∷ []) f in subst EndsVisibly (rest_whole g) h
-last_ends (C ∷ Cs) f h = let g = row_head C (Cs ++ (rest ∷ [])) f in last_ends Cs g.2 (ends_behind C g.1 h)
+last_ends (C ∷ Cs) f h = let g = row_head C (Cs ++ (rest ∷ [])) f in last_ends Cs g.2 (ends_after C g.1 h)
 
 -- ---- the priority that each printed text begins with
 

@@ -11,7 +11,7 @@ use Rattle.syslog_loose.proofs.Names.{None, IfSome, arith, nat_tests, is_ascii_d
 use Rattle.syslog_loose.proofs.Names.{AllByRecursion, skip_leading_whitespace, drop_trailing_whitespace, join, Each}
 use Rattle.syslog_loose.proofs.Names.{IsPart, AreInPieces, text_list, process_texts, ElementValue, param_text, trimmed}
 use Rattle.syslog_loose.proofs.Names.{element_text, joined_elements, elements_text, element_texts, name_text, ProcId}
-use Rattle.syslog_loose.proofs.Names.{PID, Name, OffsetTimestamp, each_map, each_front, each_behind, all_left, tag_text}
+use Rattle.syslog_loose.proofs.Names.{PID, Name, OffsetTimestamp, each_map, each_front, each_after, all_left, tag_text}
 use Rattle.syslog_loose.proofs.Names.{all_right, each_append, part_joined, decimal_digits, IsBoundedProcess, nat_le}
 use Rattle.syslog_loose.proofs.Names.{IsBoundedProtocol, message_texts, timestamp_text, spaced_elements, priority_of}
 use Rattle.syslog_loose.proofs.Names.{MatchResult, nat_lt, all_map, printed_stamp-characters, append_assoc, Front, Row}
@@ -273,7 +273,7 @@ module _ (test : ℕ → Bool) (ascii : (c : ℕ) → is_ascii_print c ≡ true 
       (c ∷ drop_trailing_whitespace t) Passes (λ _. tt) (λ _. (h.0, drop_line t h.1))
 
   part_line : (p t : Text) → Passes p → IsPart p t → Passes t
-  part_line p t h (before, after, e) = each_front test t after (each_behind test before (t ++ after) (subst Passes e h))
+  part_line p t h (before, after, e) = each_front test t after (each_after test before (t ++ after) (subst Passes e h))
 
   -- what is in the pieces of a trimmed line is one line
   pieces_line : (text : Text) (ps ts : List Text) → Passes text → trimmed text ≡ join ps → AreInPieces ps ts

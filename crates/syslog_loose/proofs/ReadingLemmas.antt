@@ -9,7 +9,8 @@ use Rattle.syslog_loose.proofs.Names.{priority, trimmed, is_blank, clock_value, 
 use Rattle.syslog_loose.proofs.Names.{ShowsYearless, ShowsMonthDate, yearless_date, month_date, ClockStamp, front_same}
 use Rattle.syslog_loose.proofs.Names.{optional_det, run_det, Begins, begins_apart, priority_det, some_front_run}
 use Rattle.syslog_loose.proofs.Names.{month_date_begins, IsLetter, IsLow, ReadsProtocol, Answers, IsLeftTo3164}
-use Rattle.syslog_loose.proofs.Names.{HasMonth, stamped_row, IsNot3164, pos, no_truth, OffsetTimestamp, IsNot5424, IsBehindPriority, BeginsWithout, []}
+use Rattle.syslog_loose.proofs.Names.{HasMonth, stamped_row, IsNot3164, pos, no_truth, OffsetTimestamp, IsNot5424}
+use Rattle.syslog_loose.proofs.Names.{IsAfterPriority, BeginsWithout, []}
 use Rattle.syslog_loose.proofs.Names.{Result, Ok, append-nil, ElementValue, list_elements, DashRule, line_value}
 use Rattle.syslog_loose.proofs.Names.{protocol_of, IsRead3164, IsLineOf, Made, ParseFault, Line, SFits}
 use Rattle.std.proofs.lemmas.Int.{to_z-of_z}
@@ -23,7 +24,7 @@ use Rattle.syslog_pieces.specs.Timestamp.Zone.{IsMonthStamp}
 use Rattle.syslog_pieces.proofs.TimestampLemmas.MonthDate.{date_front, header_front, header_stamp_begins, no_date}
 use Rattle.syslog_pieces.proofs.TimestampLemmas.MonthDate.{no_stamp_of_date}
 use Rattle.syslog_loose.specs.Bodies.Start.{BeginsWith}
-use Rattle.syslog_loose.specs.Bodies.View3164.{IsBehindStamp}
+use Rattle.syslog_loose.specs.Bodies.View3164.{IsAfterStamp}
 use Rattle.syslog_pieces.specs.StructuredData.Visited.{Visits}
 use Rattle.syslog_pieces.specs.StructuredData.Collected.{HasCollected}
 use Rattle.syslog_pieces.specs.declared.structured_data.collect.Collect.{Collect}
@@ -146,7 +147,7 @@ neither Either dating text strict loose = λ m r. elim r [
 ]
 
 -- where no timestamp of RFC 3164 is after the blanks, the text has no division
-unstamped : (text : Text) {follows start : Text} {p : Option ℕ} → IsBehindPriority (trimmed text) p follows
+unstamped : (text : Text) {follows start : Text} {p : Option ℕ} → IsAfterPriority (trimmed text) p follows
     → Front (run is_blank) follows start tt → (dating : Dating) → NoFront (rfc3164_stamp dating) start
     → IsNot3164 dash_rule dating text
 unstamped text f gap dating none = not_read dash_rule dating
@@ -193,7 +194,7 @@ answer_in_any year other tz local d None some none = λ s k. none s (stamp_in_an
 answer_in_any year other tz local d (Some c) some k = stamp_in_any year other tz local d (clock_value c) some k
 
 module _ (variant : Variant) (text : Text) {follows : Text} {p : Option ℕ}
-    (f : IsBehindPriority (trimmed text) p follows) where
+    (f : IsAfterPriority (trimmed text) p follows) where
   module _ {q : Text} (d : MonthDate) (b : BeginsWith month_date variant follows d q) where
     shows_date : ShowsMonthDate text d
     shows_date = shows month_date f b.gap b.front
@@ -249,7 +250,7 @@ module _ (variant : Variant) (text : Text) {follows : Text} {p : Option ℕ}
     dated_left = left_to_try variant text b.reads (λ n. dated_unread)
 
     pub dated_front : (dating : Dating) (c : ClockStamp) → IsMonthStamp dating d (clock_value c)
-        → IsBehindStamp dating (trimmed text) p (Some c) q
+        → IsAfterStamp dating (trimmed text) p (Some c) q
     dated_front dating c h =
         row_of (stamped_row dating) (f then b.gap then date_front dating (clock_value c) b.front h then refl)
 
@@ -271,7 +272,7 @@ module _ (variant : Variant) (text : Text) {follows : Text} {p : Option ℕ}
 
     -- or another one
     pub other_front : (dating : Dating) {q : Text} (v : Option ClockStamp) → BeginsWith header_stamp variant follows
-        (stamp_seen v) q → IsBehindStamp dating (trimmed text) p v q
+        (stamp_seen v) q → IsAfterStamp dating (trimmed text) p v q
     other_front dating v b = row_of (stamped_row dating) (f then b.gap then header_front dating b.front then refl)
 
 -- ---- what is made of a text by way of its line

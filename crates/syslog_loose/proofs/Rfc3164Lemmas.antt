@@ -24,7 +24,7 @@ use Rattle.syslog_loose.proofs.Names.{texted, IsForm, no_row, Option, ProcId, If
 use Rattle.syslog_loose.proofs.Names.{number, Begins, IsPart, Quoted, silent, IsMany, chars, Class, Front, names, colon}
 use Rattle.syslog_loose.proofs.Names.{subst, month, false, List, refl, Text, Some, None, Name, rest, host, true, Each}
 use Rattle.syslog_loose.proofs.Names.{Bool, cond, ◌<◌, ◌∷◌, ◌∙◌, Row, run, ◌⊎◌, inl, inr, sym, PID, ◌↔◌, map, ◌≤◌}
-use Rattle.syslog_pieces.proofs.PieceLemmas.Class.{texted_det, after_det, Fails, all_append, behind}
+use Rattle.syslog_pieces.proofs.PieceLemmas.Class.{texted_det, after_det, Fails, all_append, append_more}
 use Rattle.syslog_loose.specs.Rfc3164.{NamesByForm}
 use Rattle.syslog_pieces.proofs.PieceLemmas.Lists.{first_kind, each_begins, texted_quotes, tag_word_quotes, part_left}
 use Rattle.syslog_pieces.proofs.PieceLemmas.Lists.{optional_quotes, optional_texts, spaced_quotes, part_right}
@@ -257,7 +257,7 @@ many_shorter : (p q : Text) (es : List ElementValue) → 0 < length es → IsMan
     → length q < length (p ++ q)
 many_shorter p q [] l h = absurd (omega arith)
 many_shorter p q (e ∷ es) l (a, b, whole, is, more) =
-    let f : Front full_element (p ++ q) (b ++ q) e = record { piece = a; whole = behind p a b q whole; is = is } in
+    let f : Front full_element (p ++ q) (b ++ q) e = record { piece = a; whole = append_more p a b q whole; is = is } in
     omega (arith, full_shorter (p ++ q) (b ++ q) e f, length-append b q)
 
 pub list_none : (rule : DashRule) {t q : Text} (v : Option (List ElementValue)) → Front (optional (rfc3164_list rule)) t q v
@@ -394,7 +394,7 @@ rfc3164_apart : (dating : Dating) (p q : Text) (v : Option OffsetTimestamp) → 
     → Versioned (p ++ q) → ⊥
 rfc3164_apart dating p q None (inl h) n = dash_apart [] q (p ++ q) (ap (λ (x : Text). x ++ q) h) tt n
 rfc3164_apart dating p q (Some s) (inl h) n =
-    let (y, r, e, digits) = stamp_text-year p s h.0 in dash_apart y (r ++ q) (p ++ q) (behind p y (45 ∷ r) q e) digits n
+    let (y, r, e, digits) = stamp_text-year p s h.0 in dash_apart y (r ++ q) (p ++ q) (append_more p y (45 ∷ r) q e) digits n
 rfc3164_apart dating p q None (inr h) n = absurd h
 rfc3164_apart dating p q (Some s) (inr (d, h, stamp)) n = date_apart p q d h n
 
@@ -530,12 +530,12 @@ quotes rule dating text m r =
     let body = flat_map element_texts (elements_or vs.1.1.1.1.1.1.1.1.0) ++ (vs.1.1.1.1.1.1.1.1.1.1.0 ∷ []) in
     let all : AreInPieces ps (origin ++ (program ++ body)) =
     row_quotes (rfc3164_row rule dating) (quoted_row rule dating) ps [] vs r.division.each in
-    let behind = all_right P origin (program ++ body) all in
+    let after = all_right P origin (program ++ body) all in
     let (n, h, e) = r.means in
     let (a, b, c) = resolved_in ps vs.1.1.1.0 vs.1.1.1.1.0 n h (all_left P origin (program ++ body) all)
-    (all_left P program body behind) in
+    (all_left P program body after) in
     let inner = all_append P (text_list n.hostname) _ a (all_append P (text_list n.appname) _ b
-    (all_append P (process_texts n.procid) _ c (all_right P program body behind))) in
+    (all_append P (process_texts n.procid) _ c (all_right P program body after))) in
     record { read = r; each = rw e inner }
 
 -- ---- the year, where a text shows no date without one

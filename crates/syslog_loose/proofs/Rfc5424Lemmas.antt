@@ -33,7 +33,8 @@ use Rattle.syslog_pieces.specs.StructuredData.{forgiving, item}
 use Rattle.syslog_loose.specs.Canonical.{IsCanonical5424}
 use Rattle.syslog_loose.specs.Printed.{printed_5424}
 use Rattle.syslog_loose.specs.declared.message.Protocol.TheVariants.{RFC5424}
-use Rattle.syslog_loose.proofs.PrintedLemmas.{parts_back, severity_beside, priority_front, priority_trimmed, priority_small, priority_low}
+use Rattle.syslog_loose.proofs.PrintedLemmas.{parts_back, severity_beside, priority_front, priority_trimmed}
+use Rattle.syslog_loose.proofs.PrintedLemmas.{priority_small, priority_low}
 use Rattle.syslog_loose.proofs.PrintedLemmas.{visible_ends_blanks, stamp_unblank, last_append, elements_last}
 use Rattle.syslog_loose.proofs.PrintedLemmas.{row_trimmed, last_ends, drop_ends, message_end, message_blanks}
 
@@ -253,8 +254,8 @@ values_canonical rule text v d =
     let row = division_front rfc5424_row d in
     let (t1, pri, (t2, number, (t3, s1, (t4, stamp, (t5, s2, (t6, name, (t7, s3, more))))))) =
     row_pieces rfc5424_row row in
-    let (t8, app, (t9, s4, (t10, process, (t11, s5, behind)))) = more in
-    let (t12, id, (t13, s6, (t14, list, (t15, s7, (t16, msg, _))))) = behind in
+    let (t8, app, (t9, s4, (t10, process, (t11, s5, after)))) = more in
+    let (t12, id, (t13, s6, (t14, list, (t15, s7, (t16, msg, _))))) = after in
     let m = message_of v in
     let no_colon : NoColonNext t6 = rw s3.whole (blanks_next s3.piece t7 s3.is.0 s3.is.1) in (
       (

@@ -3,8 +3,8 @@ pub use Rattle.syslog_loose.specs.Bodies.Cases.{incomplete, printed_number}
 pub use Rattle.syslog_loose.specs.Bodies.Jumps.{CutsColons, EndsColons, IsDashed, PassesDashes, colons, colons_before}
 pub use Rattle.syslog_loose.specs.Bodies.Jumps.{message_end, past_colons, tail_text, with_msg}
 pub use Rattle.syslog_loose.specs.Bodies.Rows.{stamped_row}
-pub use Rattle.syslog_loose.specs.Bodies.Start.{BeginsWith, BeginsWithout, IsBehindPriority}
-pub use Rattle.syslog_loose.specs.Bodies.View3164.{FieldsAreRead, IsBehindStamp, IsProcessOf, NamesHost, NamesProgram}
+pub use Rattle.syslog_loose.specs.Bodies.Start.{BeginsWith, BeginsWithout, IsAfterPriority}
+pub use Rattle.syslog_loose.specs.Bodies.View3164.{FieldsAreRead, IsAfterStamp, IsProcessOf, NamesHost, NamesProgram}
 pub use Rattle.syslog_loose.specs.Bodies.View3164.{names_value}
 pub use Rattle.syslog_loose.specs.Bodies.View5424.{FitsSpaced, ReadsHeader, ReadsNames5424, ReadsSpaced, names_before}
 pub use Rattle.syslog_loose.specs.Canonical.{AreElements, IsBounded, IsCanonical, fields_value}

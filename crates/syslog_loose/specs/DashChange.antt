@@ -52,8 +52,8 @@ pub record ReadsDifferently (variant : Variant) (dating : Dating) (text : Text) 
 -- a dash before a character that is no blank
 pub record BeginsDashChange (text : Text) : Type 0 where
   pub next : ℕ
-  pub behind : Text
-  pub is : text ≡ 45 ∷ (next ∷ behind)
+  pub after : Text
+  pub is : text ≡ 45 ∷ (next ∷ after)
   pub no_blank : is_blank next ≡ false
 
 -- The text was read as RFC 3164 with the old list: the ninth of its eleven pieces is the list's, and was `-`, and what
@@ -63,14 +63,14 @@ pub record HasDashChange3164 (dating : Dating) (text : Text) : Type 0 where
   pub read : WasRead3164 dating text message
   pub before : List Text
   pub list : Text
-  pub behind : List Text
-  pub pieces : read.division.pieces ≡ before ++ (list ∷ behind)
+  pub after : List Text
+  pub pieces : read.division.pieces ≡ before ++ (list ∷ after)
   pub place : length before ≡ 8
-  pub is_list : old_list.Is list (join behind) []
+  pub is_list : old_list.Is list (join after) []
   pub is_dash : list ≡ dash
   pub next : ℕ
   pub more : Text
-  pub follows : join behind ≡ next ∷ more
+  pub follows : join after ≡ next ∷ more
   pub no_blank : is_blank next ≡ false
 
 -- the same for a text that the variant reads as RFC 3164

@@ -1,5 +1,5 @@
 -- The header of RFC 3164 (section 4, read loosely), as eleven pieces of the trimmed text, and the message that they
--- mean. Behind the timestamp nothing can fail.
+-- mean. After the timestamp nothing can fail.
 use Rattle.std.specs.Prelude.{◌≡◌, ◌⊎◌, ◌∷◌, unwrap_or}
 use Rattle.syslog_loose.specs.Words.{List, [], Option, Some, None, Text, Class, Values, Division, run, rest, exactly}
 use Rattle.syslog_loose.specs.Words.{optional, AreInPieces, priority, rfc3164_list, trimmed, is_blank, colon, host}

@@ -8,13 +8,13 @@ use Rattle.syslog_loose.specs.declared.fault.ParseFault.{ParseFault}
 use Rattle.syslog_loose.specs.declared.fault.ParseFault.TheVariants.{Invalid, Memory}
 use Rattle.syslog_loose.specs.declared.message.Message.{Message}
 use Rattle.syslog_loose.specs.Reading.{IsOnlyRead, IsUnreadable}
-use Rattle.syslog_loose.specs.Bodies.View3164.{IsBehindStamp}
+use Rattle.syslog_loose.specs.Bodies.View3164.{IsAfterStamp}
 use Rattle.syslog_loose.specs.declared.line.Line.{Line}
 use Rattle.syslog_loose.specs.declared.variant.Variant.{Variant}
 
 -- a priority or none, blanks and the line's timestamp begin the trimmed text, and the line's rest follows
 abbrev pub HasRest : Dating → Text → Line → Type 0
-HasRest dating text line = IsBehindStamp dating (trimmed text) line.priority line.timestamp (shown line.rest)
+HasRest dating text line = IsAfterStamp dating (trimmed text) line.priority line.timestamp (shown line.rest)
 
 -- The line means the one message as which the text is read. Where it is of RFC 3164, its rest follows the timestamp.
 pub record IsLineOf (variant : Variant) (dating : Dating) (text : Text) (line : Line) : Type 0 where

@@ -213,11 +213,11 @@ fn last_dash(text: &str) -> &str
     ensures last { (p q : Text) → IsDashed (shown result) p → IsDashed p q → ⊥ }
 {
     let mut from = past_many_dashes(text);
-    let Some(behind) = behind_dash(from) else {
+    let Some(after) = after_dash(from) else {
         return from;
     };
-    let mut rest = behind;
-    'dashes: while let Some(next) = behind_dash(rest) {
+    let mut rest = after;
+    'dashes: while let Some(next) = after_dash(rest) {
         from = rest;
         rest = next;
     }
@@ -230,7 +230,7 @@ fn past_many_dashes(text: &str) -> &str
 {
     let mut from = text;
     'many: while let Some(rest) = from.strip_prefix(SPACED_DASHES) {
-        if behind_dash(rest).is_none() {
+        if after_dash(rest).is_none() {
             break 'many;
         }
         from = rest;
@@ -239,7 +239,7 @@ fn past_many_dashes(text: &str) -> &str
 }
 
 // The text after a dash and one or more blanks.
-fn behind_dash(text: &str) -> Option<&str>
+fn after_dash(text: &str) -> Option<&str>
     ensures { MatchOption result ((rest : Text) → IsDashed (chars text.now) rest → ⊥)
         (λ rest. IsDashed (chars text.now) (shown rest)) }
 {

@@ -54,7 +54,7 @@ pub fn one_rfc3164_message()
         → IsRead3164 rule dating text m → IsRead3164 rule dating text n → m ≡ n }
 {}
 
-/// Behind the timestamp of RFC 3164 nothing can fail: a text has no division exactly where no priority or none, blanks
+/// After the timestamp of RFC 3164 nothing can fail: a text has no division exactly where no priority or none, blanks
 /// or none and a timestamp begin it. The rule of the dash has no part in that.
 pub fn rfc3164_fails_before_its_timestamp_alone()
     ensures { (rule : DashRule) (dating : Dating) (text : Text)

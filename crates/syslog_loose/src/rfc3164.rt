@@ -8,7 +8,7 @@ ghost use Rattle.std.specs.Prelude.{◌≡◌};
 ghost use Rattle.syslog_loose.specs.Words.{Option, Some, None, chars, Text, seen, list_elements, Visits};
 ghost use Rattle.syslog_loose.specs.Words.{trimmed, Dating, field_seen};
 ghost use Rattle.syslog_loose.specs.Rfc3164 as spec;
-ghost use Rattle.syslog_loose.specs.Clauses.{line_value, KnowsForm, dash_rule, FieldsAreRead, IsBehindStamp};
+ghost use Rattle.syslog_loose.specs.Clauses.{line_value, KnowsForm, dash_rule, FieldsAreRead, IsAfterStamp};
 ghost use Rattle.syslog_loose.specs.Clauses.{IsProcessOf, names_value, NamesHost, NamesProgram, HasRest};
 
 use crate::line::Line;
@@ -138,7 +138,7 @@ pub(crate) fn read_3164<'a, C, E: ElementVisitor<'a>>(
     elements: &mut E,
 ) -> Line<'a>
     ensures reads { (dating : Dating) (whole : Text)
-        → IsBehindStamp dating (trimmed whole) priority timestamp (chars text.entry.now)
+        → IsAfterStamp dating (trimmed whole) priority timestamp (chars text.entry.now)
         → spec.IsRead3164 dash_rule dating whole (line_value result) × HasRest dating whole result }
     ensures form { KnowsForm result }
     ensures visited { Visits E.was_given elements.old (list_elements result.list) elements.new }

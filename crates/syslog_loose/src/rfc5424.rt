@@ -6,7 +6,7 @@ ghost use Rattle.std.specs.Prelude.{◌≡◌};
 ghost use Rattle.syslog_loose.specs.Words.{[], ℕ, IfSome, IsTrue, MatchOption, Some, AllByRecursion, chars, IsUtf8};
 ghost use Rattle.syslog_loose.specs.Words.{Text, seen, shown, list_elements, Visits, trimmed};
 ghost use Rattle.syslog_pieces.specs.Bodies.Verbatim.{IsBareWord};
-ghost use Rattle.syslog_loose.specs.Clauses.{line_value, KnowsForm, IsNot5424, IsRead5424, IsBehindPriority};
+ghost use Rattle.syslog_loose.specs.Clauses.{line_value, KnowsForm, IsNot5424, IsRead5424, IsAfterPriority};
 ghost use Rattle.syslog_loose.specs.Clauses.{FitsSpaced, ReadsHeader, ReadsNames5424, ReadsSpaced, names_before};
 ghost use Rattle.syslog_pieces.specs.Text as spec;
 
@@ -94,7 +94,7 @@ fn read_names<'a, C>(
 // All fields before the structured data, in the same way.
 #[inline(always)]
 fn read_header<'a, C>(priority: Option<u8>, text: &'a str) -> Option<(Line<'a>, &'a str)>
-    ensures reads { (whole : Text) → IsBehindPriority whole priority (chars text.entry.now)
+    ensures reads { (whole : Text) → IsAfterPriority whole priority (chars text.entry.now)
         → ReadsHeader whole result }
     ensures prints { IfSome result (λ x. IsTrue x.0.is_printed
         → shown x.0.rest ≡ names_before x.0 (shown x.1)) }
@@ -116,7 +116,7 @@ pub(crate) fn read_5424<'a, C, E: ElementVisitor<'a>>(
     text: &'a str,
     elements: &mut E,
 ) -> Option<Line<'a>>
-    ensures reads { (whole : Text) → IsBehindPriority (trimmed whole) priority (chars text.entry.now)
+    ensures reads { (whole : Text) → IsAfterPriority (trimmed whole) priority (chars text.entry.now)
         → MatchOption result (IsNot5424 whole) (λ line. IsRead5424 whole (line_value line)) }
     ensures form { IfSome result KnowsForm }
     ensures visited { MatchOption result (Visits E.was_given elements.old [] elements.new)

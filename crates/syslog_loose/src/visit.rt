@@ -10,7 +10,7 @@ ghost use Rattle.syslog_pieces.specs.Timestamp.Zone.{Dating as AnyDating};
 ghost use Rattle.syslog_loose.specs.declared.variant.Variant.TheVariants.{RFC3164};
 ghost use Rattle.syslog_loose.specs.Clauses.{line_value, KnowsForm, AnswersEachMonth, InYear, IsUnreadable, dash_rule};
 ghost use Rattle.syslog_loose.specs.Clauses.{IsRead3164, IsNot5424, IsRead5424, BeginsWith, BeginsWithout};
-ghost use Rattle.syslog_loose.specs.Clauses.{IsBehindPriority, IsBehindStamp, HasRest, IsLineOf, Made, Line, Variant};
+ghost use Rattle.syslog_loose.specs.Clauses.{IsAfterPriority, IsAfterStamp, HasRest, IsLineOf, Made, Line, Variant};
 ghost use Rattle.syslog_loose.specs.Clauses.{incomplete, MadeOf};
 
 use crate::line::Line;
@@ -51,7 +51,7 @@ fn visit_5424<'a, E: ElementVisitor<'a>, V: LineVisitor<'a>>(
     elements: &mut E,
     visitor: &mut V,
 ) -> Option<V::Answer>
-    ensures { (whole : Text) → IsBehindPriority (trimmed_text whole) priority (chars text.entry.now)
+    ensures { (whole : Text) → IsAfterPriority (trimmed_text whole) priority (chars text.entry.now)
         → MadeOf V.makes E.was_given (variant ≢ RFC3164 → IsNot5424 whole) (λ line. variant ≢ RFC3164
         × IsRead5424 whole (line_value line)) visitor.old elements.old result visitor.new elements.new }
 {
@@ -71,7 +71,7 @@ fn visit_versioned<'a, E: ElementVisitor<'a>, V: LineVisitor<'a>>(
     elements: &mut E,
     visitor: &mut V,
 ) -> Option<V::Answer>
-    ensures { (whole : Text) → IsBehindPriority (trimmed_text whole) priority (chars text.entry.now)
+    ensures { (whole : Text) → IsAfterPriority (trimmed_text whole) priority (chars text.entry.now)
         → MadeOf V.makes E.was_given (IsNot5424 whole) (λ line. IsRead5424 whole (line_value line))
         visitor.old elements.old result visitor.new elements.new }
 {
@@ -90,7 +90,7 @@ fn visit_3164<'a, E: ElementVisitor<'a>, V: LineVisitor<'a>>(
     visitor: &mut V,
 ) -> V::Answer
     ensures { (line : Line) × ((dating : AnyDating) (whole : Text)
-        → IsBehindStamp dating (trimmed_text whole) priority timestamp (chars text.entry.now)
+        → IsAfterStamp dating (trimmed_text whole) priority timestamp (chars text.entry.now)
         → IsRead3164 dash_rule dating whole (line_value line) × HasRest dating whole line)
         × V.makes visitor.old line result visitor.new
         × Visits E.was_given elements.old (list_elements line.list) elements.new }
@@ -145,7 +145,7 @@ pub(crate) fn visit_undated<'a, E: ElementVisitor<'a>, V: LineVisitor<'a>>(
     elements: &mut E,
     visitor: &mut V,
 ) -> Option<V::Answer>
-    ensures { (whole : Text) → IsBehindPriority (trimmed_text whole) priority (chars text.entry.now)
+    ensures { (whole : Text) → IsAfterPriority (trimmed_text whole) priority (chars text.entry.now)
         → BeginsWithout month_date variant (chars text.entry.now) → (dating : AnyDating)
         → Made V.makes E.was_given variant dating whole visitor.old elements.old result visitor.new elements.new }
 {

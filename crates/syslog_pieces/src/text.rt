@@ -223,8 +223,8 @@ fn any_number(text: &str) -> Option<(u32, &str)>
     if !begins_with_digit(text.as_bytes()) {
         return None;
     }
-    if let Some((value, behind)) = small_digits(text.as_bytes()) {
-        let (_, rest) = text.split_at(text.len() - behind.len());
+    if let Some((value, after)) = small_digits(text.as_bytes()) {
+        let (_, rest) = text.split_at(text.len() - after.len());
         return Some((value, rest));
     }
     let (digits, rest) = text.split_at(digits_end(text));

@@ -1,5 +1,6 @@
 //! The elements of a line, those with one id joined: the parameters of each id are gathered in one pass.
-ghost use Rattle.std.specs.Prelude.{◌≡◌, ◌++◌, ◌∷◌, [], ℕ, cond, if◌then◌else◌, is_some, IfOk, List, None, OnOk, map, string_bytes};
+ghost use Rattle.std.specs.Prelude.{◌≡◌, ◌++◌, ◌∷◌, [], ℕ, cond, if◌then◌else◌, is_some, IfOk, List, None, OnOk, map};
+ghost use Rattle.std.specs.Prelude.{string_bytes};
 ghost use Rattle.std.specs.BTreeMap.{get_by_text};
 ghost use Rattle.std.specs.Str.{bytes_eq};
 ghost use Rattle.syslog_pieces.specs.StructuredData.Element.{ElementValue, elements_text, joined_elements};

@@ -14,7 +14,7 @@ use Rattle.syslog_loose.{proofs.SettlingLemmas.Settles.one_first_settled, specs.
 use Rattle.syslog_loose.proofs.ReadBackLemmas.{printed_line, printed_scalars}
 use Rattle.syslog_lines.{specs.Output.Marked, specs.Output.output_of, specs.declared.summary.Summary.Summary}
 use Rattle.syslog_lines.{specs.Count.held_count, specs.Lines.NoFeed, specs.Lines.with_feeds, specs.Lines.IsLines}
-use Rattle.syslog_lines.proofs.LineLemmas.{IsOther, all_behind, all_front}
+use Rattle.syslog_lines.proofs.LineLemmas.{IsOther, all_after, all_front}
 use Rattle.syslog_tidy.specs.Filters.{TidiesAll, WritesAgain}
 
 -- ---- line feeds in bytes and in characters
@@ -39,7 +39,7 @@ line_of_free (c ∷ cs) h =
       | inl r ↦
           absurd (All-head IsOther 10 (encode_utf8_all cs)
           (subst (λ (x : List ℕ). NoFeed (x ++ encode_utf8_all cs)) (ap encode_utf8 r.1) h) refl)
-      | inr r ↦ (ap not r.0, line_of_free cs (all_behind IsOther (encode_utf8 c) (encode_utf8_all cs) h))
+      | inr r ↦ (ap not r.0, line_of_free cs (all_after IsOther (encode_utf8 c) (encode_utf8_all cs) h))
     ]
 
 -- what each printed text keeps, each round keeps
@@ -66,7 +66,7 @@ same_lines : (ts lines : List (List ℕ)) (last : List ℕ) → All NoFeed ts �
 same_lines [] [] last a b c e = (refl, ap length (sym e))
 same_lines [] (x ∷ lines) last a b c e = absurd (omega (arith, simp length-append at (ap length e)))
 same_lines (t ∷ ts) [] last a b c e = absurd
-    (All-head IsOther 10 (with_feeds ts) (all_behind IsOther t (10 ∷ with_feeds ts) (subst NoFeed (sym e) c)) refl)
+    (All-head IsOther 10 (with_feeds ts) (all_after IsOther t (10 ∷ with_feeds ts) (subst NoFeed (sym e) c)) refl)
 same_lines (t ∷ ts) (x ∷ lines) last a b c e =
     let (f, g) = same_first t x (with_feeds ts) (with_feeds lines ++ last) (All-head NoFeed t ts a)
     (All-head NoFeed x lines b) (e ∙ append_assoc x (10 ∷ with_feeds lines) last) in
@@ -77,7 +77,7 @@ fed_lines ts lines a (free, inl joined) =
     (same_lines ts lines [] a free (All-nil IsOther) (joined ∙ sym (append-nil (with_feeds lines)))).0
 fed_lines ts lines a (free, inr lacks) =
     let all = subst (λ (l : List (List ℕ)). All NoFeed l) lacks.listed free in
-    let last = all_behind NoFeed lacks.before (lacks.last ∷ []) all in
+    let last = all_after NoFeed lacks.before (lacks.last ∷ []) all in
     let none = (same_lines ts lacks.before lacks.last a (all_front NoFeed lacks.before (lacks.last ∷ []) all)
     (All-head NoFeed lacks.last [] last) lacks.joined).1 in
     absurd (omega (arith, lacks.some, none))

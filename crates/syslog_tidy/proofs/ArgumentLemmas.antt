@@ -10,35 +10,35 @@ use Rattle.syslog_tidy.specs.declared.args.Output.TheVariants.{Settled, Changed,
 use Rattle.syslog_tidy.specs.declared.args.Task.TheVariants.{Help, Version, Lines}
 
 -- a flag is longer than a year and `--`
-no_year : (flag : List ℕ) (behind : List (List ℕ)) (year : ℤ) → 4 < length flag → AreYearWords (flag ∷ behind) year → ⊥
-no_year flag behind year long (word, inl alone, named) =
+no_year : (flag : List ℕ) (after : List (List ℕ)) (year : ℤ) → 4 < length flag → AreYearWords (flag ∷ after) year → ⊥
+no_year flag after year long (word, inl alone, named) =
     let same = ap (λ (words : List (List ℕ)). length (get_or words 0 [])) alone in omega (arith, same, named.0.1)
-no_year flag behind year long (word, inr dashed, named) =
+no_year flag after year long (word, inr dashed, named) =
     let same = ap (λ (words : List (List ℕ)). length (get_or words 0 [])) dashed in omega (arith, same)
 
-behind_flag : (output : Output) (behind more : List (List ℕ)) → flags_of output ++ behind ≡ flags_of output ++ more
-    → behind ≡ more
-behind_flag Settled behind more same = same
-behind_flag Changed behind more same = cc
-behind_flag Refused behind more same = cc
+after_flag : (output : Output) (after more : List (List ℕ)) → flags_of output ++ after ≡ flags_of output ++ more
+    → after ≡ more
+after_flag Settled after more same = same
+after_flag Changed after more same = cc
+after_flag Refused after more same = cc
 
 -- so words that begin with one name no year
-no_settled : (words behind : List (List ℕ)) (output : Output) → words ≡ flags_of output ++ behind
-    → ((year : ℤ) → ¬ (AreYearWords behind year)) → (year : ℤ) → ¬ (AreYearWords words year)
-no_settled words behind Settled split none year named = none year (rw split at named)
-no_settled words behind Changed split none year named =
-    no_year changed_word behind year (omega arith) (rw split at named)
-no_settled words behind Refused split none year named =
-    no_year refused_word behind year (omega arith) (rw split at named)
+no_settled : (words after : List (List ℕ)) (output : Output) → words ≡ flags_of output ++ after
+    → ((year : ℤ) → ¬ (AreYearWords after year)) → (year : ℤ) → ¬ (AreYearWords words year)
+no_settled words after Settled split none year named = none year (rw split at named)
+no_settled words after Changed split none year named =
+    no_year changed_word after year (omega arith) (rw split at named)
+no_settled words after Refused split none year named =
+    no_year refused_word after year (omega arith) (rw split at named)
 
 -- words whose flag was read, and that name no year after it, are no arguments
-pub no_arguments : (words behind : List (List ℕ)) (output : Output) → words ≡ flags_of output ++ behind
-    → OnlyFlag words output → ((year : ℤ) → ¬ (AreYearWords behind year))
+pub no_arguments : (words after : List (List ℕ)) (output : Output) → words ≡ flags_of output ++ after
+    → OnlyFlag words output → ((year : ℤ) → ¬ (AreYearWords after year))
     → (other : Output) (year : ℤ) → ¬ (AskForLines words other year)
-no_arguments words behind output split only none other year (more, same, named) =
+no_arguments words after output split only none other year (more, same, named) =
     elim (only other more same) [
-      | inl here ↦ none year (rw (behind_flag output more behind (sym (rw here at same) ∙ split)) at named)
-      | inr settled ↦ no_settled words behind output split none year (rw (← (rw settled at same)) at named)
+      | inl here ↦ none year (rw (after_flag output more after (sym (rw here at same) ∙ split)) at named)
+      | inr settled ↦ no_settled words after output split none year (rw (← (rw settled at same)) at named)
     ]
 
 -- the words after a first one

@@ -31,7 +31,7 @@ flags_of Refused = refused_word ∷ []
 
 -- no other output's flag begins the words
 abbrev pub OnlyFlag : List (List ℕ) → Output → Type 0
-OnlyFlag words output = (other : Output) (behind : List (List ℕ)) → words ≡ flags_of other ++ behind
+OnlyFlag words output = (other : Output) (after : List (List ℕ)) → words ≡ flags_of other ++ after
     → (other ≡ output) ⊎ (other ≡ Settled)
 
 -- the words are a flag, if any, and those that name a year, perhaps after `--`

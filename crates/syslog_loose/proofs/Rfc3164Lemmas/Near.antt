@@ -11,7 +11,7 @@ use Rattle.syslog_loose.proofs.Names.{present_front, bare_prints, stamp_text_can
 use Rattle.syslog_loose.proofs.Names.{HasQuietNames, is_no_colon, HasNoColon, IsOddHost, IsInnerProcess, MessageValue}
 use Rattle.syslog_loose.proofs.Names.{AreNamesButExceptions, HasExceptionsAlone, IsNearlyCanonical, tag_text, Names3164}
 use Rattle.syslog_loose.proofs.Names.{Resolves, names, rfc3164_row, IsRead3164, stamped_row, fields_row, NamesProgram}
-use Rattle.syslog_loose.proofs.Names.{fields_before, form_row, IsForm, each_behind, each_both, each_left, each_front}
+use Rattle.syslog_loose.proofs.Names.{fields_before, form_row, IsForm, each_after, each_both, each_left, each_front}
 use Rattle.syslog_loose.proofs.Names.{each_right, begins, row_pieces, IsOfMonthDate}
 use Rattle.syslog_pieces.proofs.StructuredDataLemmas.Elements.{element_canonical}
 use Rattle.syslog_loose.proofs.Rfc3164Lemmas.{of_names, shows, one_form}
@@ -82,8 +82,8 @@ form_parts text tag id d =
 -- and what holds of each character of the text, of those of the id
 within_form : {text tag id : Text} (f : ℕ → Bool) → FormParts text tag id → Each f text → Each f id
 within_form {tag = tag} {id = id} f parts h =
-    let behind = each_behind f tag (91 ∷ (id ++ (93 ∷ []))) (rw parts.whole at h) in
-    each_front f id (93 ∷ []) behind.1
+    let after = each_after f tag (91 ∷ (id ++ (93 ∷ []))) (rw parts.whole at h) in
+    each_front f id (93 ∷ []) after.1
 
 -- what an id names
 inner_process : (id : Text) (process : ProcId Text) → NamesProcess id process → 0 < length id

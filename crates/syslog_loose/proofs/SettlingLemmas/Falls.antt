@@ -5,7 +5,7 @@ use Rattle.syslog_loose.proofs.Names.{append_assoc, append-nil, take, length-app
 use Rattle.syslog_loose.proofs.Names.{bytes_eq-Decides, is_not_whitespace, bytes_eq, Text, Values, Front, NoFront, Each}
 use Rattle.syslog_loose.proofs.Names.{Ends, run, exactly, optional, spaced, is_blank, dash, colon, EndsInColon, host}
 use Rattle.syslog_loose.proofs.Names.{name_text, tag_word, is_tag_char, ProcId, PID, Name, DashRule, BeforeBlank, names}
-use Rattle.syslog_loose.proofs.Names.{each_both, each_left, each_right, each_front, each_behind, each_append, rows_step}
+use Rattle.syslog_loose.proofs.Names.{each_both, each_left, each_right, each_front, each_after, each_append, rows_step}
 use Rattle.syslog_loose.proofs.Names.{piece_front, IsBoundedProcess, IsVisible, IsCanonicalHost, AreCanonicalNames, ◌+◌}
 use Rattle.syslog_loose.proofs.Names.{is_no_colon, HasNoColon, is_inner_char, IsOddHost, AreNamesButExceptions, heads}
 use Rattle.syslog_loose.proofs.Names.{HasQuietNames, tag_text, Names3164, Resolves, body_row, names_weight, elements_or}
@@ -57,7 +57,7 @@ no_form_open a c x h vs d =
     (f1.whole ∙ simp (f2.whole, f3.whole, f4.whole, f4.is, e, append_assoc))
   where
     by : (a front : Text) → a ++ (c ∷ x) ≡ front ++ (93 ∷ []) → ⊥
-    by [] front e = let k = each_behind is_open_char front (93 ∷ []) (subst (λ (y : Text). Each is_open_char y) e h) in
+    by [] front e = let k = each_after is_open_char front (93 ∷ []) (subst (λ (y : Text). Each is_open_char y) e h) in
         let t : false ≡ true = k.0 in cc
     by (b ∷ a) [] e = let l = ap length e in omega (arith, l, length-append a (c ∷ x))
     by (b ∷ a) (d ∷ front) e = by a front cc
@@ -79,12 +79,12 @@ space_front t = piece_front (exactly (32 ∷ [])) (32 ∷ []) t tt refl
 pub host_left : (h t : Text) → IsVisible h → Front (Row to_colon) (32 ∷ ((h ++ colon) ++ (32 ∷ 58 ∷ t))) (32 ∷ 58 ∷ t)
     (Some (Some h), (None, (tt, (Some tt, tt))))
 host_left h t (l, a) =
-    let behind : Text = 58 ∷ 32 ∷ 58 ∷ t in
+    let after : Text = 58 ∷ 32 ∷ 58 ∷ t in
     rw (append_assoc h colon (32 ∷ 58 ∷ t)) (row_of to_colon
-    (optional_some (spaced host) (spaced_front host (space_front (h ++ behind))
-    (piece_front host h behind (Some h) (l, a, inr (32 ∷ 58 ∷ t, refl, refl, refl))))
+    (optional_some (spaced host) (spaced_front host (space_front (h ++ after))
+    (piece_front host h after (Some h) (l, a, inr (32 ∷ 58 ∷ t, refl, refl, refl))))
     then optional_none (spaced tag_word) (no_spaced_space tag_word (no_char 32 58 _ (λ e. omega arith)))
-    then no_blanks behind refl then colon_front (32 ∷ 58 ∷ t) then refl))
+    then no_blanks after refl then colon_front (32 ∷ 58 ∷ t) then refl))
 
 -- a host that is no more than its colon
 no_host_alone : (t : Text) → NoFront host (58 ∷ 32 ∷ t)
@@ -97,11 +97,11 @@ no_host_alone t p q v e (l, a, inr (r, w, b, z)) =
 
 host_alone : (t : Text) → Front (Row to_colon) (32 ∷ 58 ∷ 32 ∷ t) (32 ∷ t) (None, (None, (tt, (Some tt, tt))))
 host_alone t =
-    let behind : Text = 58 ∷ 32 ∷ t in
+    let after : Text = 58 ∷ 32 ∷ t in
     row_of to_colon
-    (optional_none (spaced host) (no_spaced_piece host (space_front behind) (no_host_alone t))
-    then optional_none (spaced tag_word) (no_spaced_piece tag_word (space_front behind) (no_tag_colon (32 ∷ t)))
-    then piece_front (run is_blank) (32 ∷ []) behind tt ((refl, tt), refl) then colon_front (32 ∷ t) then refl)
+    (optional_none (spaced host) (no_spaced_piece host (space_front after) (no_host_alone t))
+    then optional_none (spaced tag_word) (no_spaced_piece tag_word (space_front after) (no_tag_colon (32 ∷ t)))
+    then piece_front (run is_blank) (32 ∷ []) after tt ((refl, tt), refl) then colon_front (32 ∷ t) then refl)
 
 -- ---- a process name with a colon: its tag word ends there
 
@@ -129,7 +129,7 @@ whole_or_cut (Some (Name i)) = let (before, q, e, k, ends) = find_run is_no_colo
         let is : c ≡ 58 = grind (arith, nat_tests) in inr (before, after, rw (e, is) refl, k)
 
 cut_colon : (p : Option (ProcId Text)) → Cut p → IfSome p HasNoColon → ⊥
-cut_colon p (x, z, is, none) h = let k = each_behind is_no_colon x (58 ∷ z) (rw is at h) in
+cut_colon p (x, z, is, none) h = let k = each_after is_no_colon x (58 ∷ z) (rw is at h) in
     let t : false ≡ true = k.0 in cc
 
 has_colon : (x z : Text) → list_any (λ c. nat_eq c 58) (x ++ (58 ∷ z)) ≡ true
@@ -150,7 +150,7 @@ module _ (rule : DashRule) (t : Text) (n : Names3164) (vs : Values (body_row rul
     pub host_is : name_text n.hostname ≡ name_text h
     pub tag_is : tag_text n.appname n.procid ≡ tag_text a p
     pub quiet : HasQuietNames n.hostname n.procid
-    pub behind : Front (Row (from_blanks rule)) t [] vs.1.1.1.1
+    pub after : Front (Row (from_blanks rule)) t [] vs.1.1.1.1
 
   -- the host without the colon that it ended in, or none
   abbrev pub LosesColon : Option Text → Type 0
@@ -171,22 +171,22 @@ module _ (rule : DashRule) (t : Text) (n : Names3164) (vs : Values (body_row rul
   -- from names that are known
   pub known : {x q : Text} {us : Values to_colon} → Front (Row to_colon) x q us → Reads x
       → Resolves us.0 us.1.0 n × Front (Row (from_blanks rule)) q [] vs.1.1.1.1
-  known f d = let (same, behind) = rows_step to_colon (from_blanks rule) to_colon_det {vs = vs} f d in
-      (subst (λ (x : Values to_colon). Resolves x.0 x.1.0 n) same r, behind)
+  known f d = let (same, after) = rows_step to_colon (from_blanks rule) to_colon_det {vs = vs} f d in
+      (subst (λ (x : Values to_colon). Resolves x.0 x.1.0 n) same r, after)
 
   -- a host that prints as a canonical one is read as that one
   canonical_stays : (g h a : Option Text) (p : Option (ProcId Text)) → name_text g ≡ name_text h
       → names_weight g p ≤ names_weight h p → IfSome g IsCanonicalHost → AreCanonicalNames g a p
       → IfSome p HasNoColon → IfSome p IsBoundedProcess → Reads (names_text h a p t) → Stays h a p
   canonical_stays g h a p same less k c q b d =
-      let (means, behind) = known (names_back g a p t k c b) (rw (← same) at d) in
+      let (means, after) = known (names_back g a p t k c b) (rw (← same) at d) in
       let e : n ≡ names g a p = resolves_once (Some g) (program_field a p) n (names g a p) means (resolved g a p c b) in
       record {
         light = rw e less;
         host_is = ap (λ (x : Names3164). name_text x.hostname) e ∙ same;
         tag_is = ap (λ (x : Names3164). tag_text x.appname x.procid) e;
         quiet = rw e (quiet_names g p k q);
-        behind = behind;
+        after = after;
       }
 
   cut_moved : (h a : Option Text) (p : Option (ProcId Text)) → Cut p → rule ≡ BeforeBlank → h ≡ None
@@ -201,18 +201,18 @@ module _ (rule : DashRule) (t : Text) (n : Names3164) (vs : Values (body_row rul
       let tag : Each is_tag_char w = each_append is_tag_char a (91 ∷ x)
       (each_left is_tag_char (λ c. not (nat_eq c 91)) a label)
       (refl, each_both is_not_whitespace is_no_colon x (each_left is_not_whitespace is_open_char x inner_x) free) in
-      let (means, behind) = known
+      let (means, after) = known
       (row_of to_colon (host_field_back None (w ++ (58 ∷ q)) tt
       then tagged w q (omega (arith, length-append a (91 ∷ x))) tag (open_no_dash a x) then no_blanks (58 ∷ q) refl
       then colon_front q then refl)) (rw (is, cut_text a x z t) at d) in
-      let (no_blank, no_list) = no_list_inner z (58 ∷ t) (each_behind is_inner_char x (58 ∷ z) inner).1 in
+      let (no_blank, no_list) = no_list_inner z (58 ∷ t) (each_after is_inner_char x (58 ∷ z) inner).1 in
       let tag_alone : n ≡ names None (Some w) None = elim means [
         | inl (tag, id, p, f, g, e) ↦
             absurd (no_form_open a 91 x (refl, each_right is_not_whitespace is_open_char x inner_x) _ f)
         | inr (form, e) ↦ e
       ] in (
         rw (is, tag_alone, has_colon x z) (omega arith),
-        left_none rule q q vs.1.1.1.1 (no_blanks q no_blank) behind (rw blank no_list),
+        left_none rule q q vs.1.1.1.1 (no_blanks q no_blank) after (rw blank no_list),
         inl (cut_colon p (x, z, is, free), rw tag_alone (quiet_names None None tt tt)),
       )
 
@@ -225,15 +225,15 @@ module _ (rule : DashRule) (t : Text) (n : Names3164) (vs : Values (body_row rul
 
   colons_moved : (h : Text) → Each is_not_whitespace (h ++ colon) → Reads (names_text (Some (h ++ colon)) None None t)
       → Moved (Some (h ++ colon)) None
-  colons_moved [] k d = let (means, behind) = known (host_alone (58 ∷ t)) d in
-      colon_moved colon behind (omega (arith, fields_light None None n means)) ([], refl, rw means tt)
+  colons_moved [] k d = let (means, after) = known (host_alone (58 ∷ t)) d in
+      colon_moved colon after (omega (arith, fields_light None None n means)) ([], refl, rw means tt)
   colons_moved (c ∷ h) k d =
-      let (means, behind) = known (host_left (c ∷ h) t (omega arith, each_front is_not_whitespace (c ∷ h) colon k)) d in
+      let (means, after) = known (host_left (c ∷ h) t (omega arith, each_front is_not_whitespace (c ∷ h) colon k)) d in
       let heavy = colon_weight (c ∷ h) in
       elim means [
-        | inl (tag, id, p, f, g, e) ↦ colon_moved (c ∷ h ++ colon) behind (rw e (omega (arith, process_light p, heavy)))
+        | inl (tag, id, p, f, g, e) ↦ colon_moved (c ∷ h ++ colon) after (rw e (omega (arith, process_light p, heavy)))
             (c ∷ h, refl, rw e tt)
-        | inr (none, e) ↦ colon_moved (c ∷ h ++ colon) behind (rw e (omega (arith, host_light (c ∷ h), heavy)))
+        | inr (none, e) ↦ colon_moved (c ∷ h ++ colon) after (rw e (omega (arith, host_light (c ∷ h), heavy)))
             (c ∷ h, refl, rw e refl)
       ]
 
@@ -293,15 +293,15 @@ end_read rule (e ∷ es) msg h k b vs d =
 
 -- ---- what is after the timestamp
 
-abbrev pub behind_space : MessageValue → Text
-behind_space m =
+abbrev pub after_space : MessageValue → Text
+after_space m =
     name_text m.hostname ++ (32 ∷ (program_text m.appname m.procid ++ (58 ∷ tail_text m.structured_data m.msg)))
 
 -- ---- the timestamp
 
 -- after a dash that begins a printed timestamp
-behind_dash : (s : OffsetTimestamp) (q r : Text) → timestamp_text (Some s) ++ q ≡ 45 ∷ r → Begins IsDigit r
-behind_dash s q r e =
+after_dash : (s : OffsetTimestamp) (q r : Text) → timestamp_text (Some s) ++ q ≡ 45 ∷ r → Begins IsDigit r
+after_dash s q r e =
     let (c, more, digit, first) = printed_stamp-begins s in
     elim first [
       | inl f ↦ absurd (let u = heads c 45 (more ++ q) r (rw f at e) in
@@ -314,7 +314,7 @@ behind_dash s q r e =
 pub stamp_step : (dating : Dating) (s : OffsetTimestamp) (q p r : Text) (v : Option OffsetTimestamp)
     → timestamp_text (Some s) ++ (32 ∷ q) ≡ p ++ r → (rfc3164_stamp dating).Is p r v
     → IfSome v IsCanonicalStamp × ((r ≡ 32 ∷ q) ⊎ Begins IsDigit r)
-stamp_step dating s q p r None e (inl h) = (tt, inr (behind_dash s (32 ∷ q) r (e ∙ ap (λ (x : Text). x ++ r) h)))
+stamp_step dating s q p r None e (inl h) = (tt, inr (after_dash s (32 ∷ q) r (e ∙ ap (λ (x : Text). x ++ r) h)))
 stamp_step dating s q p r (Some z) e (inl (h, (more, f))) =
     let same = run_same is_not_whitespace (timestamp_text (Some s)) (32 ∷ q) p r e (printed_stamp-visible s) refl
     (stamp_each p z h) (space_ends r more f) in
@@ -371,34 +371,34 @@ module _ (rule : DashRule) (first second : Dating) (text : Text) (m n : MessageV
   Tail t = Front (Row (body_row rule)) t [] s.values.1.1.1
 
   abbrev Stamped : Option OffsetTimestamp → Type 0
-  Stamped v = Front (Row (from_stamp rule second)) (timestamp_text v ++ (32 ∷ behind_space m)) [] s.values.1.1
+  Stamped v = Front (Row (from_stamp rule second)) (timestamp_text v ++ (32 ∷ after_space m)) [] s.values.1.1
 
   stamped : (firsts to_stamp (from_stamp rule second) s.values ≡ (Some (priority_of m), (tt, tt))) × Stamped m.timestamp
-  stamped = rows_step to_stamp (from_stamp rule second) to_stamp_det {vs = s.values} (to_stamp_back m (behind_space m))
+  stamped = rows_step to_stamp (from_stamp rule second) to_stamp_det {vs = s.values} (to_stamp_back m (after_space m))
       (rw (printed_3164_is m near.protocol, trimmed_whole m near.msg_end) at
       (division_front (rfc3164_row rule second) s.division))
 
   -- a canonical timestamp is read as it was printed
   kept : (v : Option OffsetTimestamp) → IfSome v IsCanonicalStamp → Stamped v
-      → (s.values.1.1.0 ≡ v) × Tail (32 ∷ behind_space m)
-  kept v k d = let front = stamp_back second v (behind_space m) k in (
+      → (s.values.1.1.0 ≡ v) × Tail (32 ∷ after_space m)
+  kept v k d = let front = stamp_back second v (after_space m) k in (
     step_value (rfc3164_stamp second) (body_row rule) (rfc3164_stamp_det second) front d,
     step (rfc3164_stamp second) (body_row rule) (rfc3164_stamp_det second) front d,
   )
 
   -- any is read as a canonical one or none, and what follows is what was printed after it, or begins with a digit
   other : (v : Option OffsetTimestamp) → Stamped v → IfSome s.values.1.1.0 IsCanonicalStamp
-      × (t : Text) × Tail t × ((t ≡ 32 ∷ behind_space m) ⊎ Begins IsDigit t)
-  other None d = let (e, tail) = kept None tt d in (rw e tt, 32 ∷ behind_space m, tail, inl refl)
+      × (t : Text) × Tail t × ((t ≡ 32 ∷ after_space m) ⊎ Begins IsDigit t)
+  other None d = let (e, tail) = kept None tt d in (rw e tt, 32 ∷ after_space m, tail, inl refl)
   other (Some z) d =
       let (u, stamp, more) = row_head (rfc3164_stamp second) (body_row rule) d in
-      let (canonical, next) = stamp_step second z (behind_space m) stamp.piece u _ stamp.whole stamp.is in
+      let (canonical, next) = stamp_step second z (after_space m) stamp.piece u _ stamp.whole stamp.is in
       (canonical, u, more, next)
 
   abbrev Named : Type 0
   Named = Step rule (tail_text m.structured_data m.msg) s.means.0 s.values.1.1.1 s.means.1 m.hostname m.appname m.procid
 
-  named_as : Tail (32 ∷ behind_space m) → Named
+  named_as : Tail (32 ∷ after_space m) → Named
   named_as = names_step rule (tail_text m.structured_data m.msg) s.means.0 s.values.1.1.1 s.means.1 m.hostname m.appname
       m.procid near.hostname near.odd_host near.names near.colon_process dashes (rfc3164_bounded rule first text m r).procid
 
@@ -407,7 +407,7 @@ module _ (rule : DashRule) (first second : Dating) (text : Text) (m n : MessageV
 
   ended : Stays rule (tail_text m.structured_data m.msg) s.means.0 s.values.1.1.1 s.means.1 m.hostname m.appname m.procid
       → Ended rule m.structured_data m.msg s.values.1.1.1.1.1.1.1
-  ended k = end_read rule m.structured_data m.msg near.elements near.parameters near.msg_front _ k.behind
+  ended k = end_read rule m.structured_data m.msg near.elements near.parameters near.msg_front _ k.after
 
   -- ---- weights
   module _ (w v : ℕ) (x : Weighs rule m w) (y : Weighs rule n v) where
@@ -421,7 +421,7 @@ module _ (rule : DashRule) (first second : Dating) (text : Text) (m n : MessageV
     abbrev new : ℕ
     new = names_weight s.means.0.hostname s.means.0.procid + z.taken
 
-    tail_falls : Tail (32 ∷ behind_space m)
+    tail_falls : Tail (32 ∷ after_space m)
         → (new < old) ⊎ ((new ≤ old) × (s.values.1.1.0 ≡ m.timestamp → printed n ≡ printed m))
     tail_falls d = elim (named_as d) [
       | inr (lighter, none, _) ↦ inl (omega (arith, lighter, free z.taken_is none))
@@ -444,11 +444,11 @@ module _ (rule : DashRule) (first second : Dating) (text : Text) (m n : MessageV
         let u = digit_range c b in
         let no_space = no_char 32 c t (λ e. omega arith) in
         let gap = no_blanks (c ∷ t) (grind (arith, nat_tests)) in
-        let (means, behind) = known rule t s.means.0 s.values.1.1.1 s.means.1
+        let (means, after) = known rule t s.means.0 s.values.1.1.1 s.means.1
         (row_of to_colon (optional_none (spaced host) (no_spaced_space host no_space)
         then optional_none (spaced tag_word) (no_spaced_space tag_word no_space) then gap
         then optional_none (exactly colon) (no_char 58 c t (λ e. omega arith)) then refl)) d in
-        let none = left_none rule (c ∷ t) (c ∷ t) s.values.1.1.1.1.1.1.1 gap behind
+        let none = left_none rule (c ∷ t) (c ∷ t) s.values.1.1.1.1.1.1.1 gap after
         (no_list_by rule c t (λ e. omega arith) (λ e. omega arith)) in
         omega (arith, fields_light None None s.means.0 means, free z.taken_is none)
 

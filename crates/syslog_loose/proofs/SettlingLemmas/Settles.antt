@@ -8,7 +8,7 @@ use Rattle.syslog_loose.proofs.Names.{ReadsProtocol, Protocol, RFC5424, ◌↔�
 use Rattle.syslog_loose.proofs.Names.{chars, IsUtf8, encode_utf8_all, IsCanonical, HasNoException, IsRead3164, Weighs}
 use Rattle.syslog_loose.proofs.Names.{ParseFault, Invalid, Memory, IsFixed, HasRank, IsLater, IsToldRound, Result, IfOk}
 use Rattle.syslog_loose.proofs.Names.{string_bytes, Global, String, ElementValue, line_value, BeginsWithout, Made, Row}
-use Rattle.syslog_loose.proofs.Names.{IsBehindPriority, row_of, ◌then◌, piece_front, rest, run, IfSome, length-append}
+use Rattle.syslog_loose.proofs.Names.{IsAfterPriority, row_of, ◌then◌, piece_front, rest, run, IfSome, length-append}
 use Rattle.syslog_loose.proofs.Names.{Values, rfc3164_list, colon, EndsInColon, rfc3164_stamp, IsCanonicalStamp, colons}
 use Rattle.syslog_loose.proofs.Names.{BeforeBlank, each_front, IsBoundedProcess, HasExceptionsAlone, HasNoNameException}
 use Rattle.syslog_loose.proofs.Names.{colons_before, past_colons, EndsColons, IsDashed, PassesDashes, with_msg, names}
@@ -31,7 +31,7 @@ use Rattle.syslog_loose.specs.Settling.{SettlesAs, IsSettlingFault, Settles}
 use Rattle.syslog_loose.specs.Passes.{IsAtRest, AnswersPass, WritesRound, round_answer}
 use Rattle.syslog_loose.proofs.ReadBackLemmas.{read_as, read_bounded, printed_exact, fixed_again, read_shows_none}
 use Rattle.syslog_loose.proofs.CanonicalLemmas.{canonical_near, canonical_host, canonical_names, colon_end}
-use Rattle.syslog_loose.proofs.SettlingLemmas.Falls.{falls, same_text, rank_falls, behind_space, priority_again}
+use Rattle.syslog_loose.proofs.SettlingLemmas.Falls.{falls, same_text, rank_falls, after_space, priority_again}
 use Rattle.syslog_loose.proofs.SettlingLemmas.Falls.{printed_same, host_left, no_form_open}
 use Rattle.syslog_loose.proofs.SettlingLemmas.Weights.{light, weight, dash_before, no_list_by}
 use Rattle.std.specs.declared.alloc.AllocError.{AllocError}
@@ -57,12 +57,12 @@ module _ (variant : Variant) (dating : Dating) where
   one_round t (suc n) u x (y, r, h) (z, s, k) = one_next z u x (rw (one_round t n y z r s) at h) k
 
   -- after a round that is not read there is none
-  none_behind : (t : Text) (j : ℕ) (u : Text) → IsRound variant dating t j u → IsUnreadable variant dating u
+  none_after : (t : Text) (j : ℕ) (u : Text) → IsRound variant dating t j u → IsUnreadable variant dating u
       → (n : ℕ) (x : Text) → j < n → IsRound variant dating t n x → ⊥
-  none_behind t j u r never zero x l s = omega arith
-  none_behind t j u r never (suc n) x l (before, s, h) = elim (last_or_before j n l) [
+  none_after t j u r never zero x l s = omega arith
+  none_after t j u r never (suc n) x l (before, s, h) = elim (last_or_before j n l) [
     | inl e ↦ never h.message (rw (one_round t n before u s (rw e at r)) at h.read)
-    | inr a ↦ none_behind t j u r never n before a s
+    | inr a ↦ none_after t j u r never n before a s
   ]
 
   pub one_first_settled : (t u x : Text) → IsFirstSettled variant dating t u → IsFirstSettled variant dating t x → u ≡ x
@@ -222,12 +222,12 @@ module _ (variant : Variant) (dating : Dating) where
       → (fault ≡ Invalid) ↔ IsUnreadable variant dating u → IsSettlingFault variant dating t fault
   refused t n u Invalid r h =
       let never : (y : Text) → IsFirstSettled variant dating t y → ⊥ = λ y s. elim (leb_tells n (suc s.before)) [
-        | inl a ↦ none_behind variant dating t n u r.round (h.0 refl) (suc (suc s.before)) y (omega (arith, a.1))
+        | inl a ↦ none_after variant dating t n u r.round (h.0 refl) (suc (suc s.before)) y (omega (arith, a.1))
             (y, s.round, s.settled)
         | inr a ↦ r.none s.before y a.1 s.round s.settled
       ] in
       (λ y round. rests t y (none_settled variant dating t never (length t + 1)) round, never)
-  refused t n u Memory r h = λ never. invalid_or_memory (h.1 (λ m s. none_behind variant dating t 0 t refl never (suc n)
+  refused t n u Memory r h = λ never. invalid_or_memory (h.1 (λ m s. none_after variant dating t 0 t refl never (suc n)
       (printed m) (omega arith) (u, r.round, record { message = m; read = s; is_printed = refl })))
 
   -- ---- what is known of a round
@@ -288,7 +288,7 @@ module _ (variant : Variant) (dating : Dating) where
 
   -- what is printed of a text shows no month date, so that none is after its priority
   pub without_date : (t : Text) (n : ℕ) (u : Text) {follows : Text} {p : Option ℕ} → Reaches variant dating t (suc n) u
-      → IsBehindPriority (trimmed u) p follows → BeginsWithout month_date variant follows
+      → IsAfterPriority (trimmed u) p follows → BeginsWithout month_date variant follows
   without_date t n u r f reads start gap = λ p q date whole is.
       let (before, round, h) = r.round in
       read_shows_none variant dating before h.message h.read date (subst (λ (x : Text). ShowsMonthDate x date)
@@ -360,14 +360,14 @@ module _ (dating : Dating) (text : Text) (m : MessageValue) (r : IsRead3164 Befo
   tail = tail_text m.structured_data m.msg
 
   -- what is read after the printed timestamp
-  behind_stamp : (vs : Values (body_row BeforeBlank)) (n : Names3164) → IfSome m.timestamp IsCanonicalStamp
-      → Front (Row (body_row BeforeBlank)) (32 ∷ behind_space m) [] vs → Resolves vs.0 vs.1.0 n → IsRead3164 BeforeBlank
+  after_stamp : (vs : Values (body_row BeforeBlank)) (n : Names3164) → IfSome m.timestamp IsCanonicalStamp
+      → Front (Row (body_row BeforeBlank)) (32 ∷ after_space m) [] vs → Resolves vs.0 vs.1.0 n → IsRead3164 BeforeBlank
       dating (printed_3164 m) (told BeforeBlank dating (Some (priority_of m), (tt, (m.timestamp, vs))) n)
-  behind_stamp vs n k f means = record {
+  after_stamp vs n k f means = record {
     values = (Some (priority_of m), (tt, (m.timestamp, vs)));
     division = front_division (rfc3164_row BeforeBlank dating) (rw (trimmed_whole m near.msg_end) (rows_join to_stamp
-        (from_stamp BeforeBlank dating) (to_stamp_back m (behind_space m)) (row_cons (rfc3164_stamp dating)
-        (body_row BeforeBlank) (stamp_back dating m.timestamp (behind_space m) k) f)));
+        (from_stamp BeforeBlank dating) (to_stamp_back m (after_space m)) (row_cons (rfc3164_stamp dating)
+        (body_row BeforeBlank) (stamp_back dating m.timestamp (after_space m) k) f)));
     means = (n, means, refl);
   }
 
@@ -381,7 +381,7 @@ module _ (dating : Dating) (text : Text) (m : MessageValue) (r : IsRead3164 Befo
       let each = each_front is_not_whitespace h colon (rw is at near.hostname).1 in
       let vs : Values (body_row BeforeBlank) =
       (Some (Some h), (None, (tt, (Some tt, (tt, (None, (tt, (58 ∷ tail, tt)))))))) in
-      behind_stamp vs (names (Some h) None None) k
+      after_stamp vs (names (Some h) None None) k
       (rw (is, alone) (rows_join to_colon (from_blanks BeforeBlank) (host_left h tail (some, each))
       (body_back BeforeBlank [] (58 ∷ tail) tt tt refl
       (λ _. no_list_by BeforeBlank 58 tail (λ e. omega arith) (λ e. omega arith)))))
@@ -394,15 +394,15 @@ module _ (dating : Dating) (text : Text) (m : MessageValue) (r : IsRead3164 Befo
   dash_read rest none es d =
       let canonical = canonical_names m.hostname m.appname m.procid near.names none.names.no_colon in
       let bounded : IfSome m.procid IsBoundedProcess = (rfc3164_bounded BeforeBlank dating text m r).procid in
-      let behind : Text = d.blanks ++ rest in
-      let list : Front (Row (from_blanks BeforeBlank)) (32 ∷ 45 ∷ behind) [] (tt, (Some [], (tt, (rest, tt)))) =
+      let after : Text = d.blanks ++ rest in
+      let list : Front (Row (from_blanks BeforeBlank)) (32 ∷ 45 ∷ after) [] (tt, (Some [], (tt, (rest, tt)))) =
       row_of (from_blanks BeforeBlank)
-      (piece_front (run is_blank) (32 ∷ []) (45 ∷ behind) tt ((refl, tt), refl)
+      (piece_front (run is_blank) (32 ∷ []) (45 ∷ after) tt ((refl, tt), refl)
       then optional_some (rfc3164_list BeforeBlank)
-      (dash_rfc3164_list BeforeBlank (45 ∷ behind) behind refl (dash_before d.blanks rest d.some d.each))
+      (dash_rfc3164_list BeforeBlank (45 ∷ after) after refl (dash_before d.blanks rest d.some d.each))
       then piece_front (run is_blank) d.blanks rest tt (d.each, d.no_more) then rest_front rest then refl) in
       let from : Values (from_blanks BeforeBlank) = (tt, (Some [], (tt, (rest, tt)))) in
-      behind_stamp (Some m.hostname, (program_field m.appname m.procid, (tt, (Some tt, from)))) (names_of m)
+      after_stamp (Some m.hostname, (program_field m.appname m.procid, (tt, (Some tt, from)))) (names_of m)
       none.timestamp
       (rows_join to_colon (from_blanks BeforeBlank) (names_back m.hostname m.appname m.procid tail
       (canonical_host m.hostname near.hostname none.names.no_dash none.names.no_last_colon) canonical bounded)
@@ -568,9 +568,9 @@ passes_both m (suc n) a b t p (before, q, d, next, f) =
 pub dashes_front : (bytes rest : List ℕ) (n : ℕ) → IsUtf8 bytes → IsUtf8 rest
     → StripsPrefix (FindsTextPrefix (spaced_dashes n)) bytes rest → chars bytes ≡ spaced_dashes n ++ chars rest
 unfolding encode_utf8
-dashes_front bytes rest n u v (k, (long, whole, cut), behind_is, fits) =
+dashes_front bytes rest n u v (k, (long, whole, cut), after_is, fits) =
     sym (chars_from_encodes (spaced_dashes n ++ chars rest) bytes u
-    (rw (encodes-append, repeat_alone (45 ∷ 32 ∷ []) n refl, encodes-chars rest v, behind_is) (sym whole)))
+    (rw (encodes-append, repeat_alone (45 ∷ 32 ∷ []) n refl, encodes-chars rest v, after_is) (sym whole)))
 
 pub some_next : (t : Text) (A : Type 0) (r : Option (Bor (List ℕ))) → is_some r ≡ true
     → MatchOption r A (λ x. IsDashed t (shown x)) → (next : Text) × IsDashed t next

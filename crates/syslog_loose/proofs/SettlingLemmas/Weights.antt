@@ -18,7 +18,7 @@ use Rattle.syslog_loose.proofs.Names.{List, refl, Text, Each, Ends, None, Some, 
 use Rattle.syslog_loose.proofs.Names.{◌⊎◌, ◌∷◌, ◌∙◌, suc, inl, inr, sym, Row, run, ◌<◌, not, ◌+◌, ◌%◌, pos, PID, [], ap}
 use Rattle.syslog_pieces.proofs.PieceLemmas.Class.{row_nil, row_none_here, row_none_later, texted_front, no_front_no}
 use Rattle.syslog_pieces.proofs.PieceLemmas.Class.{Meets, meets_here, meets_none}
-use Rattle.syslog_pieces.proofs.PieceLemmas.Lists.{no_more, no_more_behind}
+use Rattle.syslog_pieces.proofs.PieceLemmas.Lists.{no_more, no_more_after}
 use Rattle.syslog_pieces.proofs.StructuredDataLemmas.Elements.{start_det, value_here, unit_goes}
 use Rattle.syslog_pieces.proofs.StructuredDataLemmas.Closing.{no_closing, closing_goes, quoted_goes}
 use Rattle.syslog_pieces.proofs.StructuredDataLemmas.Closing.{no_opening, no_quoted_short, passes_here, value_ends}
@@ -108,8 +108,8 @@ find_opening t = find_row opening_row opening_det
 -- ---- from inside a value to the end of its element
 
 -- from a quote that closes the value
-find_behind : (t y : Text) → t ≡ 34 ∷ y → ((s : Text) → length s ≤ length y → Finds closing s) → Finds closing t
-find_behind t y e next =
+find_after : (t y : Text) → t ≡ 34 ∷ y → ((s : Text) → length s ≤ length y → Finds closing s) → Finds closing t
+find_after t y e next =
     let here = passes_here closing t in
     let same = meets_here closing t in
     let quote : Front (exactly (34 ∷ [])) t y tt = record { piece = 34 ∷ []; whole = e; is = refl } in
@@ -121,7 +121,7 @@ find_behind t y e next =
           | inl (r, ws, o) ↦ find_moved closing t closing r (value_goes here same f z r ws g o)
               (next r (omega (arith, front_longer _ g, front_longer _ o)))
           | inr k ↦ inr (value_breaks here same f
-              (no_more_behind param 32 93 y z m (begins 32 y z g) (no_opening k)) _ refl).0
+              (no_more_after param 32 93 y z m (begins 32 y z g) (no_opening k)) _ refl).0
         ]
         | inr k ↦ inr (value_breaks here same f (no_more param 32 93 y m k) _ refl).0
       ]
@@ -141,7 +141,7 @@ find_closing zero (c ∷ t) l = absurd (omega arith)
 find_closing (suc n) (c ∷ t) l =
     let next : (s : Text) → length s ≤ length t → Finds closing s = λ s k. find_closing n s (omega arith) in
     elim (eqb_tells c 34) [
-      | inl a ↦ find_behind (c ∷ t) t (ap (λ (x : ℕ). x ∷ t) a.1) next
+      | inl a ↦ find_after (c ∷ t) t (ap (λ (x : ℕ). x ∷ t) a.1) next
       | inr a ↦ elim (eqb_tells c 92) [
         | inl b ↦ find_escaped c t b.1 next
         | inr b ↦ find_moved closing _ closing t
@@ -226,10 +226,10 @@ no_full t i p q v e h =
     no_full_start t (λ a u vs w s.
     let f : Front start t u vs = record { piece = a; whole = w; is = s } in
     let (_, bracket, (t2, id, (_, blanks, end))) = row_pieces start_row f in
-    let behind = (inner_on bracket.piece _ bracket.whole (rw bracket.is (refl, tt)) i).1 in
+    let after = (inner_on bracket.piece _ bracket.whole (rw bracket.is (refl, tt)) i).1 in
     let named = each_right is_not_whitespace is_name_char id.piece id.is.1.1 in
     let inner =
-    (inner_on id.piece _ id.whole (each_left is_open_char (λ c. not (nat_eq c 61)) id.piece named) behind).1 in
+    (inner_on id.piece _ id.whole (each_left is_open_char (λ c. not (nat_eq c 61)) id.piece named) after).1 in
     let same = (front_same (run is_blank) (run_det is_blank) blanks
     (piece_front (run is_blank) [] t2 tt (tt, ends_blank t2 inner))).0 in
     no_full_opening t u vs f (no_row opening_row opening_det (inl (λ n r x g k.

@@ -66,18 +66,18 @@ pub record CutsColons (name host : List ℕ) (n : ℕ) : Type 0 where
 -- ---- a message part of dashes
 
 -- the text is a dash, blanks and then this, which begins with no blank
-pub record IsDashed (text behind : Text) : Type 0 where
+pub record IsDashed (text after : Text) : Type 0 where
   pub blanks : Text
-  pub whole : text ≡ 45 ∷ (blanks ++ behind)
+  pub whole : text ≡ 45 ∷ (blanks ++ after)
   pub some : 0 < length blanks
   pub each : Each is_blank blanks
-  pub no_more : Ends is_blank behind
+  pub no_more : Ends is_blank after
 
 -- n dashes, each with the blanks after it, are passed over, and a further one with blanks after it follows
 abbrev pub PassesDashes : ℕ → Text → Text → Type 0
-PassesDashes zero text behind = behind ≡ text
-PassesDashes (suc n) text behind = (before : Text) × PassesDashes n text before × IsDashed before behind × (next : Text)
-    × IsDashed behind next
+PassesDashes zero text after = after ≡ text
+PassesDashes (suc n) text after = (before : Text) × PassesDashes n text before × IsDashed before after × (next : Text)
+    × IsDashed after next
 
 -- the message with this message part
 abbrev pub with_msg : MessageValue → Text → MessageValue

@@ -40,7 +40,7 @@ abbrev pub body_row : DashRule → List Class
 body_row rule = fields_row ++ (optional (rfc3164_list rule) ∷ run is_blank ∷ rest ∷ [])
 
 -- such fields begin the text, and mean these names
-pub record ReadsNames (text behind : Text) (n : Names3164) : Type 0 where
+pub record ReadsNames (text after : Text) (n : Names3164) : Type 0 where
   pub values : Values fields_row
-  pub front : Front (Row fields_row) text behind values
+  pub front : Front (Row fields_row) text after values
   pub means : Resolves values.0 values.1.0 n

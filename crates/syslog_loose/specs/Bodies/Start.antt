@@ -5,8 +5,8 @@ use Rattle.syslog_loose.specs.declared.message.Protocol.TheVariants.{RFC3164}
 use Rattle.syslog_loose.specs.declared.variant.Variant.{Variant}
 
 -- a priority or none, and what follows
-abbrev pub IsBehindPriority : Text → Option ℕ → Text → Type 0
-IsBehindPriority text number follows = Front (optional priority) text follows number
+abbrev pub IsAfterPriority : Text → Option ℕ → Text → Type 0
+IsAfterPriority text number follows = Front (optional priority) text follows number
 
 -- The variant reads RFC 3164, and the text is blanks or none, a piece of this class, and what follows.
 pub record BeginsWith (C : Class) (variant : Variant) (text : Text) (value : C.Value) (follows : Text) : Type 0 where

@@ -31,8 +31,8 @@ abbrev pub IsProcessOf : Text → Option (Bor (List ℕ)) → Type 0
 IsProcessOf name process = IfSome (seen process) (λ id. (tag : Text) × IsForm name tag id)
 
 -- a priority, blanks and a timestamp begin the text, and this follows
-abbrev pub IsBehindStamp : Dating → Text → Option ℕ → Option ClockStamp → Text → Type 0
-IsBehindStamp dating text priority timestamp follows =
+abbrev pub IsAfterStamp : Dating → Text → Option ℕ → Option ClockStamp → Text → Type 0
+IsAfterStamp dating text priority timestamp follows =
     Front (Row (stamped_row dating)) text follows (stamped_values priority timestamp)
 
 -- the names as they print, each after a space, and more

@@ -22,8 +22,8 @@ after_nil [] q t z e = e
 after_nil (c ∷ p) q t z e = cc
 
 -- a piece that is two pieces
-pub behind : (a b c q : Text) → a ≡ b ++ c → a ++ q ≡ b ++ (c ++ q)
-behind a b c q e = ap (λ (x : Text). x ++ q) e ∙ append_assoc b c q
+pub append_more : (a b c q : Text) → a ≡ b ++ c → a ++ q ≡ b ++ (c ++ q)
+append_more a b c q e = ap (λ (x : Text). x ++ q) e ∙ append_assoc b c q
 
 pub heads : (x y : ℕ) (xs ys : Text) → x ∷ xs ≡ y ∷ ys → x ≡ y
 heads x y xs ys e = cc
@@ -300,9 +300,9 @@ pub each_front : (f : ℕ → Bool) (p q : Text) → Each f (p ++ q) → Each f 
 each_front f [] q h = tt
 each_front f (c ∷ p) q h = (h.0, each_front f p q h.1)
 
-pub each_behind : (f : ℕ → Bool) (p q : Text) → Each f (p ++ q) → Each f q
-each_behind f [] q h = h
-each_behind f (c ∷ p) q h = each_behind f p q h.1
+pub each_after : (f : ℕ → Bool) (p q : Text) → Each f (p ++ q) → Each f q
+each_after f [] q h = h
+each_after f (c ∷ p) q h = each_after f p q h.1
 
 pub each_both : (f g : ℕ → Bool) (t : Text) → Each f t → Each g t → Each (λ c. f c && g c) t
 each_both f g [] h k = tt

@@ -11,7 +11,7 @@ use Rattle.syslog_pieces.specs.Text.{Names, host, tag_word, word}
 use Rattle.syslog_pieces.specs.declared.procid.ProcId.TheVariants.{PID, Name}
 use Rattle.syslog_pieces.specs.Pieces.Format.{Format, IsSound, classes, printed_row, RowReadsBack}
 use Rattle.syslog_pieces.proofs.PieceLemmas.Class.{no_front_no, piece_front, all_append, rest_same, after_nil, front_of}
-use Rattle.syslog_pieces.proofs.PieceLemmas.Class.{row_cons, row_head, all_map, row_nil, behind, heads, Meets}
+use Rattle.syslog_pieces.proofs.PieceLemmas.Class.{row_cons, row_head, all_map, row_nil, append_more, heads, Meets}
 
 -- ---- what a text begins with, and classes whose pieces are of one of two kinds
 
@@ -72,11 +72,11 @@ begins c t q f = f.whole ∙ ap (λ (x : Text). x ++ q) f.is
 pub many_det : (C : Class) → IsDeterministic C → IsDeterministic (many C)
 many_det C d p q p' q' [] [] e h h' = (h.0 ∙ sym h'.0, refl)
 many_det C d p q p' q' [] (w ∷ ws) e h (a, b, i, k, more) =
-    absurd (h.1 a (b ++ q') w (after_nil p q (p' ++ q') h.0 e ∙ behind p' a b q' i) k)
+    absurd (h.1 a (b ++ q') w (after_nil p q (p' ++ q') h.0 e ∙ append_more p' a b q' i) k)
 many_det C d p q p' q' (v ∷ vs) [] e (a, b, i, k, more) h' =
-    absurd (h'.1 a (b ++ q) v (after_nil p' q' (p ++ q) h'.0 (sym e) ∙ behind p a b q i) k)
+    absurd (h'.1 a (b ++ q) v (after_nil p' q' (p ++ q) h'.0 (sym e) ∙ append_more p a b q i) k)
 many_det C d p q p' q' (v ∷ vs) (w ∷ ws) e (a, b, i, k, more) (a', b', i', k', more') =
-    let e1 : a ++ (b ++ q) ≡ a' ++ (b' ++ q') = sym (behind p a b q i) ∙ e ∙ behind p' a' b' q' i' in
+    let e1 : a ++ (b ++ q) ≡ a' ++ (b' ++ q') = sym (append_more p a b q i) ∙ e ∙ append_more p' a' b' q' i' in
     let r = d a (b ++ q) a' (b' ++ q') v w e1 k k' in
     let s = many_det C d b q b' q' vs ws (rest_same a (b ++ q) a' (b' ++ q') e1 r.0) more more' in
     (let t0 = r.0 in let t1 = s.0 in cc, let t0 = r.1 in let t1 = s.1 in cc)
@@ -94,7 +94,7 @@ many_cons C {q = q} {v = v} f g = front_of (f.piece ++ g.piece)
 pub many_parts : (C : Class) {t q : Text} {v : C.Value} {vs : List C.Value} → Front (many C) t q (v ∷ vs)
     → (u : Text) × Front C t u v × Front (many C) u q vs
 many_parts C {q = q} f =
-    let (a, b, i, k, more) = f.is in (b ++ q, front_of a (f.whole ∙ behind f.piece a b q i) k, front_of b refl more)
+    let (a, b, i, k, more) = f.is in (b ++ q, front_of a (f.whole ∙ append_more f.piece a b q i) k, front_of b refl more)
 
 pub has_read_more : (C : Class) (t s s' : Text) (vs : List C.Value) (v : C.Value) → HasRead C t vs s → Front C s s' v
     → HasRead C t (vs ++ (v ∷ [])) s'
@@ -145,14 +145,14 @@ module _ (C : Class) (separator close : ℕ) where
       → (u : Text) × Front C t u v × Front more u q vs
   list_parts {q = q} f =
       let (a, b, i, k, others) = f.is.0 in
-      (b ++ q, front_of a (f.whole ∙ behind f.piece a b q i) k, front_of b refl (others, f.is.1))
+      (b ++ q, front_of a (f.whole ∙ append_more f.piece a b q i) k, front_of b refl (others, f.is.1))
 
   -- the piece after a separator
   pub more_parts : {t u q : Text} {v : C.Value} {vs : List C.Value} → t ≡ separator ∷ u → Front more t q (v ∷ vs)
       → (r : Text) × Front C u r v × Front more r q vs
   more_parts {u = u} {q = q} e f =
       let (a, b, i, k, others) = f.is.0 in
-      let w : u ≡ a ++ (b ++ q) = cc (e, f.whole, behind f.piece (separator ∷ a) b q i) in
+      let w : u ≡ a ++ (b ++ q) = cc (e, f.whole, append_more f.piece (separator ∷ a) b q i) in
       (b ++ q, front_of a w k, front_of b refl (others, f.is.1))
 
   -- a list without pieces is closed at once
@@ -180,9 +180,9 @@ module _ (C : Class) (separator close : ℕ) where
   no_more t m n p q (v ∷ vs) e ((a, b, i, k, others), z) =
       n (separator ∷ []) (a ++ b ++ q) tt (e ∙ ap (λ (x : Text). x ++ q) i) refl
 
-  pub no_more_behind : (t u : Text) → NoFront (exactly (close ∷ [])) t → t ≡ separator ∷ u → NoFront C u
+  pub no_more_after : (t u : Text) → NoFront (exactly (close ∷ [])) t → t ≡ separator ∷ u → NoFront C u
       → NoFront more t
-  no_more_behind t u m f n p q vs e h =
+  no_more_after t u m f n p q vs e h =
       no_front_no C n (further_parts vs m f (record { piece = p; whole = e; is = h })).2.1
 
   -- the first parameter of a list that isn't closed at once
@@ -238,14 +238,14 @@ module _ (C : Class) (separator close : ℕ) where
             → IsList C separator p (close ∷ r) vs → IsList C separator p' (close ∷ r') vs' → (p ≡ p') × (vs ≡ vs')
         list_same p r p' r' [] [] e h h' = (h ∙ sym h', refl)
         list_same p r p' r' [] (w ∷ ws) e h (a, b, i, k, others) = absurd (apart a (b ++ (close ∷ r')) w r k (sym
-            (behind p' a b (close ∷ r') i) ∙ sym (after_nil p (close ∷ r) _ h e)))
+            (append_more p' a b (close ∷ r') i) ∙ sym (after_nil p (close ∷ r) _ h e)))
         list_same p r p' r' (v ∷ vs) [] e (a, b, i, k, others) h' = absurd (apart a (b ++ (close ∷ r)) v r' k (sym
-            (behind p a b (close ∷ r) i) ∙ sym (after_nil p' (close ∷ r') _ h' (sym e))))
+            (append_more p a b (close ∷ r) i) ∙ sym (after_nil p' (close ∷ r') _ h' (sym e))))
         list_same p r p' r' (v ∷ vs) (w ∷ ws) e (a, b, i, k, others) (a', b', i', k', others') =
-            let behind = λ (x : Text). separator ∷ x in
+            let separated = λ (x : Text). separator ∷ x in
             let s = many_det further further_det (separator ∷ p) (close ∷ r) (separator ∷ p') (close ∷ r') (v ∷ vs)
-            (w ∷ ws) (ap behind e) (separator ∷ a, b, ap behind i, (a, refl, k), all_further b r vs others)
-            (separator ∷ a', b', ap behind i', (a', refl, k'), all_further b' r' ws others') in
+            (w ∷ ws) (ap separated e) (separator ∷ a, b, ap separated i, (a, refl, k), all_further b r vs others)
+            (separator ∷ a', b', ap separated i', (a', refl, k'), all_further b' r' ws others') in
             (let t = s.0 in cc, s.1)
 
         pub list_before_det : IsDeterministic list
@@ -353,8 +353,8 @@ pub row_back : (Fs : List Format) → AllSound Fs → (vs : Values (classes Fs))
     → Front (Row (classes Fs)) (printed_row Fs vs q) q vs
 row_back [] s vs q h = row_nil q
 row_back (F ∷ Fs) s vs q h =
-    let behind : Text = printed_row Fs vs.1 q in
-    row_cons F.reads (classes Fs) (piece_front F.reads (F.print vs.0) behind vs.0 (s.0 vs.0 behind h.0.0 h.0.1))
+    let more : Text = printed_row Fs vs.1 q in
+    row_cons F.reads (classes Fs) (piece_front F.reads (F.print vs.0) more vs.0 (s.0 vs.0 more h.0.0 h.0.1))
     (row_back Fs s.1 vs.1 q h.1)
 
 -- ---- what is printed

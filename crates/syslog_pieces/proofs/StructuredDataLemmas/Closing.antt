@@ -3,7 +3,7 @@ use Rattle.syslog_pieces.proofs.Names.{append_cancel_right, IsUtf8-from_ascii, i
 use Rattle.syslog_pieces.proofs.Names.{chars_past_char, encodes-append, AllByRecursion, IsCharBoundary, rows_none_here}
 use Rattle.syslog_pieces.proofs.Names.{length-append, encodes-chars, row_none_here, IsUtf8-append, is_inert_char, start}
 use Rattle.syslog_pieces.proofs.Names.{is_name_char, is_open_char, ElementValue, mapped_front, mapped_meets, byte_count}
-use Rattle.syslog_pieces.proofs.Names.{append_assoc, element_row, no_front_no, more_before, each_behind, opening_row, ℕ}
+use Rattle.syslog_pieces.proofs.Names.{append_assoc, element_row, no_front_no, more_before, each_after, opening_row, ℕ}
 use Rattle.syslog_pieces.proofs.Names.{IsValueUnit, element_of, meets_none, meets_here, inside_row, name_alone, exactly}
 use Rattle.syslog_pieces.proofs.Names.{quoted_row, param_row, nil_front, SplitsRun, more_here, rows_join, no_mapped, ap}
 use Rattle.syslog_pieces.proofs.Names.{row_first, last_char, unit_text, more_goes, and_parts, eqb_tells, nat_tests, ◌≡◌}
@@ -26,9 +26,9 @@ use Rattle.syslog_pieces.proofs.PieceLemmas.Class.{front_of}
 pub byte_count_slice : (bs : Text) → IsUtf8 bs → byte_count (chars bs) ≡ length bs
 byte_count_slice bs u = ap length (encodes-chars bs u)
 
-behind_bracket : (a b : Text) → byte_count b < byte_count (a ++ (93 ∷ b))
+after_bracket : (a b : Text) → byte_count b < byte_count (a ++ (93 ∷ b))
 unfolding encode_utf8
-behind_bracket a b = simp (encodes-append, length-append) (omega arith)
+after_bracket a b = simp (encodes-append, length-append) (omega arith)
 
 pub split_bracket : (p w a b : Text) → p ++ w ≡ a ++ (93 ∷ b) → ((c : Text) × (p ≡ a ++ (93 ∷ c)) × (b ≡ c ++ w))
     ⊎ ((c : Text) × (w ≡ c ++ (93 ∷ b)))
@@ -45,7 +45,7 @@ pub dead_suffix : (t p x : Text) (d : ℕ) → t ≡ p ++ x → IsDead t d → I
 dead_suffix t p x d e h a b f l = h (p ++ a) b (e ∙ ap (λ (y : Text). p ++ y) f ∙ sym (append_assoc p a (93 ∷ b))) l
 
 pub dead_whole : (t : Text) (d : ℕ) → d ≡ byte_count t → IsDead t d
-dead_whole t d e a b f l = absurd (let k = behind_bracket a b in let m = ap byte_count f in omega (arith, k, m))
+dead_whole t d e a b f l = absurd (let k = after_bracket a b in let m = ap byte_count f in omega (arith, k, m))
 
 pub dead_bytes : (bs : Text) → IsUtf8 bs → IsDead (chars bs) (length bs)
 dead_bytes bs u = dead_whole (chars bs) (length bs) (sym (byte_count_slice bs u))
@@ -102,23 +102,23 @@ value_end (single c ∷ us) (x ∷ a) b h e = value_end us a b h.1 (cc)
 abbrev HasQuoted : Text → Type 0
 HasQuoted t = (q : Text) × (v : Values quoted_row) × Front quoted t q v
 
-quoted_behind : (u : TextUnit) (t : Text) → IsValueUnit u → HasQuoted t → HasQuoted (unit_text u ++ t)
-quoted_behind u t h (q, v, f) =
+quoted_after : (u : TextUnit) (t : Text) → IsValueUnit u → HasQuoted t → HasQuoted (unit_text u ++ t)
+quoted_after u t h (q, v, f) =
     let g = (quoted_goes (unit_goes u (unit_text u ++ t) t h refl)).forth q v f in (q, g.0, g.1)
 
 -- where they are after a bracket, they are before it, whether or not a backslash is before that text
 quoted_before : (a b : Text) → HasQuoted b → HasQuoted (a ++ (93 ∷ b)) × HasQuoted (92 ∷ a ++ (93 ∷ b))
 quoted_before [] b h =
-    (quoted_behind (single 93) b ((λ e. omega arith), (λ e. omega arith)) h, quoted_behind (pair 93) b tt h)
+    (quoted_after (single 93) b ((λ e. omega arith), (λ e. omega arith)) h, quoted_after (pair 93) b tt h)
 quoted_before (c ∷ a) b h =
     let (plain, escaped) = quoted_before a b h in
     elim (eqb_tells c 34) [
       | inl r ↦ rw r.1 (_, _, row_of quoted_row (value_here _ _ refl then front_of (34 ∷ []) refl refl then refl))
       | inr r ↦ elim (eqb_tells c 92) [
         | inl s ↦ rw s.1 escaped
-        | inr s ↦ quoted_behind (single c) _ (s.1, r.1) plain
+        | inr s ↦ quoted_after (single c) _ (s.1, r.1) plain
       ]
-    ] also quoted_behind (pair c) _ tt plain
+    ] also quoted_after (pair c) _ tt plain
 
 pub no_closing : (t : Text) → NoFront quoted t → NoFront closing t
 no_closing t n = row_none_here quoted tail_row n
@@ -153,7 +153,7 @@ start_shut =
 
 no_bracket : (w a b : Text) → Each is_open_char w → w ≡ a ++ (93 ∷ b) → ⊥
 no_bracket w a b h e =
-    let closed = each_behind is_open_char a (93 ∷ b) (subst (λ (x : Text). Each is_open_char x) e h) in
+    let closed = each_after is_open_char a (93 ∷ b) (subst (λ (x : Text). Each is_open_char x) e h) in
     let f : false ≡ true = closed.0 in cc
 
 -- ---- what a scan from t to x has passed: where no piece of the class begins t, what is dead at x is dead at t
@@ -261,11 +261,11 @@ module _ {test : ℕ → Bool} (a : AllPlain test) {text bs xs ys : Text} (s : S
         meets_none _ _ _ _ (closing_goes value_on) (i (chars xs ++ a) q before k)
 
 -- what follows a unit after a run is shorter than the text
-pub unit_behind : {test : ℕ → Bool} {bs xs ys : List ℕ} (q : Text) → SplitsRun test bs xs ys → (u : TextUnit)
+pub unit_after : {test : ℕ → Bool} {bs xs ys : List ℕ} (q : Text) → SplitsRun test bs xs ys → (u : TextUnit)
     → chars ys ≡ unit_text u ++ q → length q < length (chars bs)
-unit_behind {xs = xs} {ys = ys} q s (pair c) e =
+unit_after {xs = xs} {ys = ys} q s (pair c) e =
     omega (arith, ap length s.characters, length-append (chars xs) (chars ys), ap length e)
-unit_behind {xs = xs} {ys = ys} q s (single c) e =
+unit_after {xs = xs} {ys = ys} q s (single c) e =
     omega (arith, ap length s.characters, length-append (chars xs) (chars ys), ap length e)
 
 -- where no quote ends the value
@@ -295,28 +295,28 @@ module _ {C : Class} {text x y : Text} {vs : Values quoted_row} (p : Passes C te
 -- ---- a quoted value, cut from its text by bytes
 module _ (t r : List ℕ) (u : IsUtf8 t) (z : IsUtf8 r) (v : Values quoted_row)
     (f : Front quoted (chars t) (chars r) v) where
-  behind_utf8 : IsUtf8 (34 ∷ r)
-  behind_utf8 = IsUtf8-append (34 ∷ []) r (IsUtf8-from_ascii (34 ∷ []) (one_ascii 34 (omega arith))) z
+  after_utf8 : IsUtf8 (34 ∷ r)
+  after_utf8 = IsUtf8-append (34 ∷ []) r (IsUtf8-from_ascii (34 ∷ []) (one_ascii 34 (omega arith))) z
 
   whole : chars t ≡ v.0 ++ chars (34 ∷ r)
   unfolding encode_utf8
-  whole = quoted_text f ∙ ap (λ (x : Text). v.0 ++ x) (sym (chars_past_char (34 ∷ r) r 34 behind_utf8 refl))
+  whole = quoted_text f ∙ ap (λ (x : Text). v.0 ++ x) (sym (chars_past_char (34 ∷ r) r 34 after_utf8 refl))
 
   pub quoted_longer : length r + 1 ≤ length t
-  quoted_longer = omega (arith, rest_shorter t (34 ∷ r) u behind_utf8 v.0 whole)
+  quoted_longer = omega (arith, rest_shorter t (34 ∷ r) u after_utf8 v.0 whole)
 
   place : length t - length (34 ∷ r) ≡ length t - length r - 1
   place = omega arith
 
   -- the text may be cut before the closing quote
   pub quoted_cut : IsCharBoundary t (length t - length r - 1)
-  quoted_cut = rw place at (front_cut t (34 ∷ r) u behind_utf8 v.0 whole)
+  quoted_cut = rw place at (front_cut t (34 ∷ r) u after_utf8 v.0 whole)
 
   -- and the value is what is before it
   pub quoted_value : (xs : List ℕ) → xs ≡ take (length t - length r - 1) t
       → Front quoted (chars t) (chars r) (chars xs, (tt, tt))
   quoted_value xs e =
-      let split = front_chars t (34 ∷ r) u behind_utf8 v.0 whole xs (e ∙ ap (λ (n : ℕ). take n t) (sym place)) in
+      let split = front_chars t (34 ∷ r) u after_utf8 v.0 whole xs (e ∙ ap (λ (n : ℕ). take n t) (sym place)) in
       subst (λ (y : Text). Front quoted (chars t) (chars r) (y, (tt, tt)))
       (append_cancel_right v.0 (chars xs) (chars (34 ∷ r)) (sym whole ∙ split)) f
 
@@ -327,14 +327,14 @@ pub record ExtendsValue (t u : Text) : Type 0 where
   pub to : IsValue t → IsValue u
   pub from : IsValue u → IsValue t
 
-value_behind : (u : TextUnit) (t : Text) → IsValueUnit u → IsValue (unit_text u ++ t) → IsValue t
-value_behind u t h ([], e, k) = absurd (no_unit_at_end u t h e)
-value_behind u t h (w ∷ us, e, k) = (us, (unit_same IsValueUnit (λ c i. i.0) u w t _ h k.0 e).1, k.1)
+value_after : (u : TextUnit) (t : Text) → IsValueUnit u → IsValue (unit_text u ++ t) → IsValue t
+value_after u t h ([], e, k) = absurd (no_unit_at_end u t h e)
+value_after u t h (w ∷ us, e, k) = (us, (unit_same IsValueUnit (λ c i. i.0) u w t _ h k.0 e).1, k.1)
 
 extends_unit : (u : TextUnit) (text t : Text) → IsValueUnit u → ExtendsValue text (unit_text u ++ t)
     → ExtendsValue text t
 extends_unit u text t h m = record {
-  to = λ v. value_behind u t h (m.to v);
+  to = λ v. value_after u t h (m.to v);
   from = λ (us, e, k). m.from (u ∷ us, ap (λ (x : Text). unit_text u ++ x) e, (h, k));
 }
 

@@ -11,7 +11,7 @@ use Rattle.syslog_pieces.proofs.Names.{quoted_row, append-nil, OneMeaning, insid
 use Rattle.syslog_pieces.proofs.Names.{one_value, unit_text, param_row, bracketed, start_row, is_blank, many_det, value}
 use Rattle.syslog_pieces.proofs.Names.{∥∥₁_elim, flat_map, list_any, some_run, TextUnit, element, run_det, row_det, ◌≢◌}
 use Rattle.syslog_pieces.proofs.Names.{is_none, IsValue, NoFront, exactly, Divides, IsMany, IsList, IsMore, quoted, ◌<◌}
-use Rattle.syslog_pieces.proofs.Names.{inside, IsUtf8, length, Option, single, strict, behind, ◌also◌, begins, Values}
+use Rattle.syslog_pieces.proofs.Names.{inside, IsUtf8, length, Option, single, strict, append_more, ◌also◌, begins, Values}
 use Rattle.syslog_pieces.proofs.Names.{param, heads, Meets, props, chars, false, arith, subst, Front, Each, pair, many}
 use Rattle.syslog_pieces.proofs.Names.{item, dash, Ends, Bool, drop, Some, None, refl, Text, join, true, ◌++◌, List, ap}
 use Rattle.syslog_pieces.proofs.Names.{inl, inr, ◌∷◌, sym, ◌∙◌, map, Row, run, [], ℕ}
@@ -37,10 +37,10 @@ value_det p q p' q' v v' e ((us, f, h), z, w) ((us', f', h'), z', w') =
     let t = f ∙ ap (flat_map unit_text) same.0 ∙ sym f' in (t, w ∙ t ∙ sym w')
 
 -- the value after a unit
-value_behind : (u : TextUnit) (t q : Text) (us : List TextUnit) → IsValueUnit u → AllByRecursion IsValueUnit us
+value_after : (u : TextUnit) (t q : Text) (us : List TextUnit) → IsValueUnit u → AllByRecursion IsValueUnit us
     → BeginsQuote q → unit_text u ++ t ≡ flat_map unit_text us ++ q → (v : Text) × Front value t q v
-value_behind u t q [] h a z e = absurd (no_quote_unit u t h (z.0, e ∙ z.1))
-value_behind u t q (w ∷ us) h a z e =
+value_after u t q [] h a z e = absurd (no_quote_unit u t h (z.0, e ∙ z.1))
+value_after u t q (w ∷ us) h a z e =
     let rest = unit_same IsValueUnit (λ c i. i.0) u w t _ h a.0 (e ∙ append_assoc (unit_text w) _ q) in
     (flat_map unit_text us, record { piece = flat_map unit_text us; whole = rest.1; is = ((us, refl, a.1), z, refl) })
 
@@ -51,7 +51,7 @@ unit_goes u t t' h e = record {
       let on = λ (x : Text). unit_text u ++ x in
       let whole = e ∙ ap on f.whole ∙ sym (append_assoc (unit_text u) f.piece q) in
       (on v, front_of (on f.piece) whole ((u ∷ us, ap on w, (h, all)), f.is.1, ap on f.is.2)));
-  back = λ q v f. value_behind u t' q f.is.0.0 h f.is.0.2 f.is.1 (sym e ∙ f.whole ∙ ap (λ (x : Text). x ++ q) f.is.0.1);
+  back = λ q v f. value_after u t' q f.is.0.0 h f.is.0.2 f.is.1 (sym e ∙ f.whole ∙ ap (λ (x : Text). x ++ q) f.is.0.1);
 }
 
 pub value_here : (t r : Text) → t ≡ 34 ∷ r → Front value t t []
@@ -137,7 +137,7 @@ pub dash_apart : (C : Class) → ((p q : Text) (v : C.Value) → C.Is p q v → 
 dash_apart C begins p q p' q' [] f l m e = omega arith
 dash_apart C begins p q p' q' (v ∷ vs) f l (a, b, i, k, more) e =
     let (r, s) = begins a (b ++ q') v k in
-    let t = heads 45 91 q r (sym (ap (λ (x : Text). x ++ q) f) ∙ e ∙ behind p' a b q' i ∙ s) in omega arith
+    let t = heads 45 91 q r (sym (ap (λ (x : Text). x ++ q) f) ∙ e ∙ append_more p' a b q' i ∙ s) in omega arith
 
 pub forgiving_det : IsDeterministic forgiving
 forgiving_det p q p' q' es es' e (inl (f, g)) (inl (f', g')) = (f ∙ sym f', g ∙ sym g')
@@ -270,7 +270,7 @@ first_canonical p q [] h e = tt
 first_canonical p q (v ∷ vs) (a, b, w, (ws, row, same), more) e =
     let g = row_pieces param_row {t = a ++ (b ++ q)} {q = b ++ q} (record { piece = a; whole = refl; is = row }) in
     let (_, name, name_is) = g.1.is in
-    rw (same, name_is) (front_ends g.1.piece g.0 name.0 (rw (behind p a b q w ∙ g.1.whole) at e))
+    rw (same, name_is) (front_ends g.1.piece g.0 name.0 (rw (append_more p a b q w ∙ g.1.whole) at e))
   where
     front_ends : (x y : Text) → 0 < length x → Ends is_blank (x ++ y) → Ends is_blank x
     front_ends [] y l h = tt

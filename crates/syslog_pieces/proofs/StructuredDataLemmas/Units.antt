@@ -303,8 +303,8 @@ counted_once ps qs long =
     (λ p some. counts_agree-at ps ps qs p e some))) also counts_agree-from ps ps qs) (same_params-decides ps qs)
 
 -- what is in front of both lists in one order changes nothing
-pub same_params-behind : (zs ps qs : List Param) → same_params ps qs ≡ same_params (zs ++ ps) (zs ++ qs)
-same_params-behind zs ps qs =
+pub same_params-after : (zs ps qs : List Param) → same_params ps qs ≡ same_params (zs ++ ps) (zs ++ qs)
+same_params-after zs ps qs =
     let more = λ (ls : List Param) (p : Param). sum_by-append (λ q. cond (param_eq p q) 1 0) zs ls in
     one_answer _ _ ((λ e p. omega (arith, same_params-counts ps qs e p, more ps p, more qs p))
     also (λ same. same_params-from ps qs (λ p. omega (arith, same p, more ps p, more qs p))))
@@ -318,7 +318,7 @@ pub counted_from : {S : Type 0} (text : S → Text) (xs ys : List (S × S)) (i :
 counted_from text xs ys i long front =
     let v = param_value text in
     counted_once (map v (drop i xs)) (map v (drop i ys)) (simp (length-map, length-drop, long))
-    ∙ same_params-behind (map v (take i xs)) (map v (drop i xs)) (map v (drop i ys))
+    ∙ same_params-after (map v (take i xs)) (map v (drop i xs)) (map v (drop i ys))
     ∙ rw (← map-append v (take i xs) (drop i xs), take-append-drop, front)
     (rw (← map-append v (take i ys) (drop i ys), take-append-drop) refl)
 

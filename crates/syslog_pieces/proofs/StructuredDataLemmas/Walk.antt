@@ -12,7 +12,7 @@ use Rattle.syslog_pieces.proofs.Names.{more_goes, row_first, more_here, many_her
 use Rattle.syslog_pieces.proofs.Names.{∥∥₁_elim, row_head, param_of, is_blank, optional, DashRule, many_det, flat_map}
 use Rattle.syslog_pieces.proofs.Names.{some_run, id_alone, meets_on, tail_row, IsWalked, opening, closing, NoFront, inl}
 use Rattle.syslog_pieces.proofs.Names.{exactly, element, no_more, no_list, IsAlone, HasRead, IsTrue, texted, IsMany, []}
-use Rattle.syslog_pieces.proofs.Names.{strict, Visits, Values, behind, inside, quoted, IsDead, Leaves, row_of, ◌then◌}
+use Rattle.syslog_pieces.proofs.Names.{strict, Visits, Values, append_more, inside, quoted, IsDead, Leaves, row_of, ◌then◌}
 use Rattle.syslog_pieces.proofs.Names.{◌also◌, begins, Walked, Option, Σ_prop, ⊥_prop, heads, false, value, subst, Some}
 use Rattle.syslog_pieces.proofs.Names.{arith, start, Front, param, Meets, shown, chars, None, List, ◌++◌, refl, Text}
 use Rattle.syslog_pieces.proofs.Names.{many, dash, Bool, ◌&&◌, item, true, inr, ◌∷◌, sym, ◌∙◌, Row, ◌↔◌, ◌+◌, ◌≤◌, ◌⊎◌}
@@ -77,7 +77,7 @@ pub ruleset dash_list = (dash_rfc3164_list, optional_some)
 pub no_rfc3164_list : (rule : DashRule) (t : Text) → BeginsNoList rule t → NoFront (rfc3164_list rule) t
 no_rfc3164_list rule t (n, m) p q es e (inl (f, u, g)) = n q (e ∙ ap (λ (x : Text). x ++ q) f) u
 no_rfc3164_list rule t (n, m) p q [] e (inr (l, h)) = omega arith
-no_rfc3164_list rule t (n, m) p q (v ∷ vs) e (inr (l, (a, b, i, k, more))) = m a (b ++ q) v (e ∙ behind p a b q i) k
+no_rfc3164_list rule t (n, m) p q (v ∷ vs) e (inr (l, (a, b, i, k, more))) = m a (b ++ q) v (e ∙ append_more p a b q i) k
 
 pub begins_no_list : (rule : DashRule) (t : Text) → NoFront (rfc3164_list rule) t → BeginsNoList rule t
 begins_no_list rule t n = (λ q e a. n dash q [] e (inl (refl, a, refl))) also (λ p q v e h.
@@ -391,7 +391,7 @@ items_alone p q (Some e ∷ vs) (a, b, w, h, more) =
     (a, b, w, element_alone a (b ++ q) (b ++ []) e h, items_alone b q vs more)
 items_alone p q (None ∷ vs) (a, b, w, h, more) =
     let none : NoFront element (a ++ (b ++ [])) = λ p' r e w k. h.0 p' (r ++ q) e
-    (sym (append_assoc a b q) ∙ behind (a ++ b) p' r q (rw append-nil at w)) (element_alone p' r (r ++ q) e k) in
+    (sym (append_assoc a b q) ∙ append_more (a ++ b) p' r q (rw append-nil at w)) (element_alone p' r (r ++ q) e k) in
     (a, b, w, (none, bracketed_alone a (b ++ q) (b ++ []) (tt, (tt, (tt, tt))) h.1), items_alone b q vs more)
 
 full_alone : (p q : Text) (es : List ElementValue) → IsMany full_element p q es → IsMany item p [] (map Some es)

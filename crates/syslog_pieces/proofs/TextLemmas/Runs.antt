@@ -172,9 +172,9 @@ pub split_at_end : (h : ℕ → Bool) (bs xs ys : List ℕ) (n : ℕ) → EndsRu
 split_at_end h bs xs ys n e f g = rw (f, g) e.1
 
 -- what follows two characters after a run is shorter than the text
-pub behind_two : {test : ℕ → Bool} {bs xs ys : List ℕ} {c d : ℕ} {q r : Text} → SplitsRun test bs xs ys → chars ys ≡ c ∷ q
+pub after_two : {test : ℕ → Bool} {bs xs ys : List ℕ} {c d : ℕ} {q r : Text} → SplitsRun test bs xs ys → chars ys ≡ c ∷ q
     → q ≡ d ∷ r → length r < length (chars bs)
-behind_two {xs = xs} {ys = ys} s e f =
+after_two {xs = xs} {ys = ys} s e f =
     omega (arith, ap length s.characters, length-append (chars xs) (chars ys), ap length e, ap length f)
 
 -- ---- a run of ASCII bytes
@@ -309,16 +309,16 @@ module _ (p bs rest : List ℕ) (a : IsAscii p) (u : IsUtf8 bs) (e : bs ≡ p ++
   place = omega (arith, ap length e, length-append p rest)
 
   -- it may be cut there
-  pub behind_cut : IsCharBoundary bs (length bs - length rest)
-  behind_cut = rw (← place) (ascii_cut bs (length p) u (omega (arith, ap length e, length-append p rest))
+  pub after_cut : IsCharBoundary bs (length bs - length rest)
+  after_cut = rw (← place) (ascii_cut bs (length p) u (omega (arith, ap length e, length-append p rest))
       (λ k l. rw (e, get_or_append_left) (a k)))
 
   -- and what is cut off is the rest
-  pub behind_is : (ys : List ℕ) → ys ≡ drop (length bs - length rest) bs → ys ≡ rest
-  behind_is ys f = f ∙ rw (← place) (ap (drop (length p)) e ∙ drop-append_seam p rest)
+  pub after_is : (ys : List ℕ) → ys ≡ drop (length bs - length rest) bs → ys ≡ rest
+  after_is ys f = f ∙ rw (← place) (ap (drop (length p)) e ∙ drop-append_seam p rest)
 
-  pub behind_chars : chars bs ≡ p ++ chars rest
-  behind_chars = ascii_front p rest bs a e
+  pub after_chars : chars bs ≡ p ++ chars rest
+  after_chars = ascii_front p rest bs a e
 
 -- ---- one byte
 module _ (b : ℕ) (bs : List ℕ) (low : b < 128) (u : IsUtf8 bs) where

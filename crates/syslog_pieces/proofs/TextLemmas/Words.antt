@@ -21,9 +21,9 @@ use Rattle.std.proofs.lemmas.Fmt.{digits_decimal, decimal_step, length-decimal-l
 use Rattle.std.specs.Fmt.{digits}
 use Rattle.std.specs.Char.{encode_utf8}
 use Rattle.syslog_pieces.specs.declared.text.write_ascii.TheConstants.{PAIRS}
-use Rattle.syslog_pieces.proofs.TextLemmas.Runs.{chars_nonempty, digits_ascii, behind_chars, ascii_front, chars_empty}
+use Rattle.syslog_pieces.proofs.TextLemmas.Runs.{chars_nonempty, digits_ascii, after_chars, ascii_front, chars_empty}
 use Rattle.syslog_pieces.proofs.TextLemmas.Runs.{digit_chars, text_is_not, nonempty_is, ends_digits, before_utf8, bytes}
-use Rattle.syslog_pieces.proofs.TextLemmas.Runs.{behind_cut, one_ascii, behind_is, text_is, run_is}
+use Rattle.syslog_pieces.proofs.TextLemmas.Runs.{after_cut, one_ascii, after_is, text_is, run_is}
 use Rattle.syslog_pieces.proofs.PieceLemmas.Class.{each_front, front_of, ◌also◌}
 pub use Rattle.std.proofs.lemmas.Fmt.{decimal_digit as one_digit, decimal_step as last_of_more}
 pub use Rattle.std.proofs.lemmas.List.Folds.{flat_map-map}
@@ -148,11 +148,11 @@ module _ (bs xs ys front : List ℕ) (s : SplitsRun is_not_whitespace bs xs ys) 
     pub host_colon_read : (after : List ℕ) → after ≡ drop (length xs - 1) bs → 0 < length before
         → Front host (chars bs) (chars after) (Some (chars before))
     host_colon_read after g l =
-        let behind : after ≡ 58 ∷ ys = g ∙ rw (place, at_colon) (drop-append_seam front (58 ∷ ys)) in
+        let after_is : after ≡ 58 ∷ ys = g ∙ rw (place, at_colon) (drop-append_seam front (58 ∷ ys)) in
         let long = chars_nonempty front front_utf8 (rw same at l) in
         let each = each_front is_not_whitespace (chars front) colon (rw run_chars at s.each) in
         let colon_next = ascii_front colon ys (58 ∷ ys) colon_ascii refl in
-        rw (same, behind) (front_of (chars front) (ap chars at_colon ∙ chars-append front (58 ∷ ys) front_utf8)
+        rw (same, after_is) (front_of (chars front) (ap chars at_colon ∙ chars-append front (58 ∷ ys) front_utf8)
         (long, each, inr (chars ys, colon_next, s.ends, refl)))
 
     pub no_host_colon : length before ≡ 0 → NoFront host (chars bs)
@@ -396,16 +396,16 @@ module _ (bs : List ℕ) (n : ℕ) (rest : List ℕ) (u : IsUtf8 bs) (b : IsSmal
   its_ascii = digits_ascii its.0 its.2
 
   pub small_cut : IsCharBoundary bs (length bs - length rest)
-  small_cut = behind_cut its.0 bs rest its_ascii u its.5
+  small_cut = after_cut its.0 bs rest its_ascii u its.5
 
   rest_utf8 : IsUtf8 rest
-  rest_utf8 = rw (behind_is its.0 bs rest its_ascii u its.5 _ refl) at
+  rest_utf8 = rw (after_is its.0 bs rest its_ascii u its.5 _ refl) at
       (IsUtf8-drop bs (length bs - length rest) u small_cut)
 
   pub small_read : (ys : List ℕ) → ys ≡ drop (length bs - length rest) bs
       → Front (number 4294967295) (chars bs) (chars ys) n
-  small_read ys f = rw (behind_is its.0 bs rest its_ascii u its.5 ys f) (front_of its.0
-      (behind_chars its.0 bs rest its_ascii u its.5)
+  small_read ys f = rw (after_is its.0 bs rest its_ascii u its.5 ys f) (front_of its.0
+      (after_chars its.0 bs rest its_ascii u its.5)
       (its.1, its.2, ends_digits rest rest_utf8 b.0, its.3, let small = its.4 in omega arith))
 
 -- ---- a number up to a limit, from one up to another

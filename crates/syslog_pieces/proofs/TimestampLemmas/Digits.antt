@@ -12,21 +12,21 @@ use Rattle.jiff_fmt.proofs.ReaderLemmas.{fraction_value-drop, tenth}
 use Rattle.jiff_fmt.specs.Reader.{fraction_value}
 use Rattle.syslog_pieces.specs.Timestamp.Rfc3339.{pair}
 use Rattle.syslog_pieces.specs.Timestamp.Printed.{fraction_text}
-use Rattle.syslog_pieces.proofs.TextLemmas.Runs.{ascii_ahead, behind_chars, behind_cut, behind_is, low_ascii, no_run}
+use Rattle.syslog_pieces.proofs.TextLemmas.Runs.{ascii_ahead, after_chars, after_cut, after_is, low_ascii, no_run}
 
 -- ---- classes of ASCII pieces, at the front of bytes
 module _ (C : Class) (alone : IsAlone C) (ascii : (p q : Text) (v : C.Value) → C.Is p q v → IsAscii p) (bs : List ℕ)
     (u : IsUtf8 bs) where
   module _ {rest : List ℕ} {v : C.Value} (f : Front C bs rest v) where
     pub bytes_cut : IsCharBoundary bs (length bs - length rest)
-    bytes_cut = behind_cut f.piece bs rest (ascii f.piece rest v f.is) u f.whole
+    bytes_cut = after_cut f.piece bs rest (ascii f.piece rest v f.is) u f.whole
 
     pub bytes_front : (ys : List ℕ) → ys ≡ drop (length bs - length rest) bs → Front C (chars bs) (chars ys) v
     bytes_front ys e =
         let low = ascii f.piece rest v f.is in
-        rw (behind_is f.piece bs rest low u f.whole ys e) (record {
+        rw (after_is f.piece bs rest low u f.whole ys e) (record {
           piece = f.piece;
-          whole = behind_chars f.piece bs rest low u f.whole;
+          whole = after_chars f.piece bs rest low u f.whole;
           is = alone f.piece rest (chars rest) v f.is;
         })
 

@@ -197,12 +197,12 @@ row_begins Cs p q vs h =
     let f = row_head month Cs {text = p ++ q} (record { piece = p; whole = refl; is = h }) in
     rw f.1.whole (begins_more IsLetter f.1.piece f.0 (month_begins f.1.piece f.0 vs.0 f.1.is))
 
-abbrev behind_month : List Class
-behind_month = some_run is_blank ∷ short_number ∷ some_run is_blank ∷ []
+abbrev after_month : List Class
+after_month = some_run is_blank ∷ short_number ∷ some_run is_blank ∷ []
 
 pub month_date_begins : (p q : Text) (v : MonthDate) → month_date.Is p q v → Begins IsLetter (p ++ q)
-month_date_begins p q v (inl (vs, h, i)) = row_begins (behind_month ++ clock_row) p q vs h
-month_date_begins p q v (inr (vs, h, i)) = row_begins (behind_month ++ from_year) p q vs h
+month_date_begins p q v (inl (vs, h, i)) = row_begins (after_month ++ clock_row) p q vs h
+month_date_begins p q v (inr (vs, h, i)) = row_begins (after_month ++ from_year) p q vs h
 
 -- ---- a text shows one date without a year
 showing_det : AllDeterministic (showing_row yearless_date)

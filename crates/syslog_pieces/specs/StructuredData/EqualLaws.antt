@@ -92,17 +92,17 @@ first_counted : (x : Param) (ps : List Param) → 0 < param_count x (x ∷ ps)
 first_counted x ps = let one = param_count-cons x x ps in let same = param_eq-refl x in rw (one, same) (omega arith)
 
 -- taking the first parameter out of both lists leaves their counts in agreement
-agree_behind : (x : Param) (ps qs : List Param) (t : IsTakenOut x qs) → CountsAgree (x ∷ ps) qs
+agree_after : (x : Param) (ps qs : List Param) (t : IsTakenOut x qs) → CountsAgree (x ∷ ps) qs
     → CountsAgree ps (rest_of t)
-agree_behind x ps qs t agree p some =
+agree_after x ps qs t agree p some =
     let one = param_count-cons p x ps in
     let other = param_count-cons p x (rest_of t) in
     let moved = counts_of_permutation _ _ (in_front x qs t) p in
     let whole = agree p (omega (arith, one, some)) in
     omega (arith, one, other, moved, whole)
 
-length_behind : (x : Param) (qs : List Param) (t : IsTakenOut x qs) → length qs ≡ length (x ∷ rest_of t)
-length_behind x qs t = length_permutation _ _ (in_front x qs t)
+length_after : (x : Param) (qs : List Param) (t : IsTakenOut x qs) → length qs ≡ length (x ∷ rest_of t)
+length_after x qs t = length_permutation _ _ (in_front x qs t)
 
 put_in_front : (x : Param) (ps qs : List Param) (t : IsTakenOut x qs) → IsPermutation ps (rest_of t)
     → IsPermutation (x ∷ ps) qs
@@ -115,8 +115,8 @@ permuted [] (q ∷ qs) long agree = absurd (omega (arith, long))
 permuted (x ∷ ps) qs long agree =
     let first = first_counted x ps in
     let t = taken_out x qs (rw (← agree x first) first) in
-    let shorter = length_behind x qs t in
-    put_in_front x ps qs t (permuted ps (rest_of t) (omega (arith, long, shorter)) (agree_behind x ps qs t agree))
+    let shorter = length_after x qs t in
+    put_in_front x ps qs t (permuted ps (rest_of t) (omega (arith, long, shorter)) (agree_after x ps qs t agree))
 
 -- lists with the same counts have one length
 pub length_of_counts : (ps qs : List Param) → SameCounts ps qs → length ps ≡ length qs
@@ -125,7 +125,7 @@ length_of_counts [] (q ∷ qs) same = let first = first_counted q qs in let e = 
 length_of_counts (x ∷ ps) qs same =
     let first = first_counted x ps in
     let t = taken_out x qs (rw (← same x) first) in
-    let shorter = length_behind x qs t in
+    let shorter = length_after x qs t in
     let rest = length_of_counts ps (rest_of t) (λ p.
     let one = param_count-cons p x ps in
     let other = param_count-cons p x (rest_of t) in

@@ -21,10 +21,10 @@ fn is_value(text: &str) -> bool
         if c == '"' {
             return false;
         }
-        let Some((_, behind)) = first(more) else {
+        let Some((_, past_escape)) = first(more) else {
             return false;
         };
-        rest = behind;
+        rest = past_escape;
     }
 }
 

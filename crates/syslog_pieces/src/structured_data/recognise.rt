@@ -68,8 +68,8 @@ pub(super) fn after_value(text: &str) -> Option<&str>
     let mut rest = text;
     'units: loop {
         let (_, after) = split_run(rest, CharClass::Unescaped);
-        if let Some(behind) = literal(after, '"') {
-            return Some(behind);
+        if let Some(past_quote) = literal(after, '"') {
+            return Some(past_quote);
         }
         let (_, more) = unit(after)?;
         rest = more;
@@ -89,8 +89,8 @@ pub(super) fn value_before<'a>(text: &'a str, rest: &str) -> &'a str
 fn quoted(text: &str) -> Option<(&str, &str)>
     ensures { Reads quoted_class (λ v. (shown v, (tt, tt))) (chars text.now) result }
 {
-    let behind = after_value(text)?;
-    Some((value_before(text, behind), behind))
+    let rest = after_value(text)?;
+    Some((value_before(text, rest), rest))
 }
 
 // The name and the value of the parameter at the front, and the text after it.
@@ -109,14 +109,14 @@ pub(super) fn param(text: &str) -> Option<((&str, &str), &str)>
 pub(super) fn live_value(text: &str, dead: usize) -> Result<&str, usize>
     requires { IsDead (chars text.now) dead }
     ensures { MatchResult result
-        (λ behind. (v : quoted_class.Value) × Front quoted_class (chars text.now) (shown behind) v)
+        (λ rest. (v : quoted_class.Value) × Front quoted_class (chars text.now) (shown rest) v)
         (λ d. NoFront closing (chars text.now) × IsDead (chars text.now) d) }
 {
     let mut rest = text;
     'units: while rest.len() > dead {
         let (_, after) = split_run(rest, CharClass::Inert);
-        if let Some(behind) = literal(after, '"') {
-            return Ok(behind);
+        if let Some(past_quote) = literal(after, '"') {
+            return Ok(past_quote);
         }
         let Some((last, more)) = unit(after) else {
             return Err(0);
@@ -128,7 +128,7 @@ pub(super) fn live_value(text: &str, dead: usize) -> Result<&str, usize>
     }
     // (From here on no `]` leaves that many bytes.)
     match after_value(rest) {
-        Some(behind) => Ok(behind),
+        Some(past_quote) => Ok(past_quote),
         None => Err(0),
     }
 }

@@ -82,8 +82,8 @@ fn date_of(year: Option<u32>, day: MonthDay, clock: TimeOfDay) -> MonthDate
 fn read_day(text: &str) -> Option<(MonthDay, &str)>
     ensures { Reads (Row parts.day_row) parts.day_values (chars text.now) result }
 {
-    let (month, behind) = read_month(text)?;
-    let rest = some_blanks(behind)?;
+    let (month, after_month) = read_month(text)?;
+    let rest = some_blanks(after_month)?;
     let (day, rest) = number(rest, u32::MAX)?;
     let rest = some_blanks(rest)?;
     Some((MonthDay { month, day }, rest))
@@ -115,8 +115,8 @@ fn read_clock(text: &str) -> Option<(TimeOfDay, &str)>
 fn read_month(text: &str) -> Option<(u32, &str)>
     ensures { Reads spec.month (λ n. n) (chars text.now) result }
 {
-    let (number, behind) = month(text.as_bytes())?;
-    Some((number, text.split_at(text.len() - behind.len()).1))
+    let (number, after) = month(text.as_bytes())?;
+    Some((number, text.split_at(text.len() - after.len()).1))
 }
 
 // Reads a month of bytes.

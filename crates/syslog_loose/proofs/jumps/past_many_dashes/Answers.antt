@@ -8,7 +8,7 @@ many-preserved c =
     let from = c.many.from.now in
     let rest = c.in-Some.rest.now in
     let v : IsUtf8 rest = search rules in
-    let (next, f) = some_next (chars rest) _ c.behind_dash.result c.if-is_none.ensures c.behind_dash.ensures in
+    let (next, f) = some_next (chars rest) _ c.after_dash.result c.if-is_none.ensures c.after_dash.ensures in
     let same = dashes_front from rest 16 c.many.invariant.0 v c.in-Some.ensures.cases in (
       v,
       passes_both n 16 (chars c.args.text.now) (chars from) (chars rest) p

@@ -1,4 +1,4 @@
-use Rattle.syslog_pieces.proofs.TextLemmas.Runs.{behind_two}
+use Rattle.syslog_pieces.proofs.TextLemmas.Runs.{after_two}
 use Rattle.syslog_pieces.proofs.StructuredDataLemmas.Closing.{value_at_end, value_at_quote, value_lone, value_further}
 use Rattle.syslog_pieces.proofs.structured_data.canonical.is_value.Goals as goal
 
@@ -21,4 +21,4 @@ returns-in_default-first c =
     c.in_default-first.ensures
 
 pub units-smaller : goal.units-smaller
-units-smaller c = behind_two c.split_run.ensures c.in-Some.ensures.0 c.in-Some-first.ensures.0
+units-smaller c = after_two c.split_run.ensures c.in-Some.ensures.0 c.in-Some-first.ensures.0

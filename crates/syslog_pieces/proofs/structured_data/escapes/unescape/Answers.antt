@@ -1,4 +1,4 @@
-use Rattle.syslog_pieces.proofs.TextLemmas.Runs.{behind_two}
+use Rattle.syslog_pieces.proofs.TextLemmas.Runs.{after_two}
 use Rattle.syslog_pieces.proofs.Names.{rules, true, false, ap, ◌∙◌, chars-nil, chars}
 use Rattle.syslog_pieces.proofs.StructuredDataLemmas.Units.{removes_here, removes_end, removes_pair, backslash}
 use Rattle.syslog_pieces.proofs.structured_data.escapes.unescape.Goals as goal
@@ -21,4 +21,4 @@ units-preserved c =
     (c.in-Some-first.ensures.1, on _ _ _ _ _ c.in-Some.ensures.0 c.in-Some-first.ensures.0 c.in_ok-push_pair.ensures)
 
 pub units-smaller : goal.units-smaller
-units-smaller c = behind_two c.split_run.ensures c.in-Some.ensures.0 c.in-Some-first.ensures.0
+units-smaller c = after_two c.split_run.ensures c.in-Some.ensures.0 c.in-Some-first.ensures.0

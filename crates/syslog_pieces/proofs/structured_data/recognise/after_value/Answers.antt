@@ -1,5 +1,5 @@
 use Rattle.syslog_pieces.proofs.Names.{meets_none}
-use Rattle.syslog_pieces.proofs.StructuredDataLemmas.Closing.{unescaped_plain, past_run, value_quoted, value_on, unit_behind}
+use Rattle.syslog_pieces.proofs.StructuredDataLemmas.Closing.{unescaped_plain, past_run, value_quoted, value_on, unit_after}
 use Rattle.syslog_pieces.proofs.structured_data.recognise.after_value.Goals as goal
 
 pub returns-in-Some : goal.returns-in-Some
@@ -16,4 +16,4 @@ units-preserved c =
     (utf8, value_on unescaped_plain c.split_run.ensures c.units.invariant.1 _ u.1 _ u.2)
 
 pub units-smaller : goal.units-smaller
-units-smaller c = let u = c.in_ok-more.ensures.1 in unit_behind _ c.split_run.ensures u.0 u.2
+units-smaller c = let u = c.in_ok-more.ensures.1 in unit_after _ c.split_run.ensures u.0 u.2

@@ -1,6 +1,6 @@
 use Rattle.syslog_pieces.proofs.Names.{arith, ◌≤◌, ◌∙◌, chars, byte_count}
 use Rattle.syslog_pieces.proofs.StructuredDataLemmas.Closing.{byte_count_slice, inert_plain, past_run, value_quoted}
-use Rattle.syslog_pieces.proofs.StructuredDataLemmas.Closing.{value_missing, value_on, value_dead, dead_on, unit_behind}
+use Rattle.syslog_pieces.proofs.StructuredDataLemmas.Closing.{value_missing, value_on, value_dead, dead_on, unit_after}
 use Rattle.syslog_pieces.proofs.structured_data.recognise.live_value.Goals as goal
 
 pub returns-in-Some : goal.returns-in-Some
@@ -36,4 +36,4 @@ pub returns-in-None : goal.returns-in-None
 returns-in-None c = value_missing _ _ c.units.invariant.1 c.in-None.ensures
 
 pub units-smaller : goal.units-smaller
-units-smaller c = let u = c.in-Some-unit.ensures.1 in unit_behind _ c.split_run.ensures u.0 u.2
+units-smaller c = let u = c.in-Some-unit.ensures.1 in unit_after _ c.split_run.ensures u.0 u.2

@@ -1,4 +1,5 @@
-use Rattle.syslog_pieces.proofs.Names.{inl, ◌past◌, refl, FitsSigned, w32, rules, to_z-of_z, numeric_row, row_of, ◌then◌, offset, NoFront}
+use Rattle.syslog_pieces.proofs.Names.{inl, ◌past◌, refl, FitsSigned, w32, rules, to_z-of_z, numeric_row, row_of}
+use Rattle.syslog_pieces.proofs.Names.{◌then◌, offset, NoFront}
 use Rattle.syslog_pieces.proofs.TimestampLemmas.Rfc3339.{no_offset, numeric_front}
 use Rattle.syslog_pieces.proofs.timestamp.rfc3339_text.offset.Goals as goal
 

@@ -61,7 +61,7 @@ fn repeated(rt: &impl Abort, alloc: Global, text: &str, times: usize) -> String 
     text.repeat(alloc, times).expect(rt, text)
 }
 
-/// Behind both fronts five thousand elements, an element of two thousand parameters, and a message of two megabytes:
+/// After both fronts five thousand elements, an element of two thousand parameters, and a message of two megabytes:
 /// printing them changes nothing.
 #[test]
 fn reads_long_lists_and_messages(rt: HostRuntime) {

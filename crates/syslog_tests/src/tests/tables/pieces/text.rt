@@ -59,8 +59,8 @@ fn part<'a>(rt: &impl Abort, text: &'a str, start: usize, end: usize) -> &'a str
 }
 
 fn is_cut(text: &str, class: CharClass, run: &str, rest: &str) -> bool {
-    let (front, behind) = split_run(text, class);
-    front == run && behind == rest && run_end(text, class) == run.len()
+    let (front, after) = split_run(text, class);
+    front == run && after == rest && run_end(text, class) == run.len()
 }
 
 // Cuts each text of up to the longest length with the stop at each of its places, and each that has none.
@@ -181,7 +181,7 @@ fn check_field(rt: &impl Abort, row: &str, read: (Field<'_>, &str)) {
 }
 
 #[test]
-fn reads_the_host_or_the_tag_behind_a_space(rt: HostRuntime) {
+fn reads_the_host_or_the_tag_after_a_space(rt: HostRuntime) {
     // the host
     for row in &[
         " mymachine app[323]: x¦mymachine¦ app[323]: x",
@@ -225,7 +225,7 @@ fn reads_number(row: &str, limit: u32) -> bool {
 }
 
 // A row comes after its limit.
-fn reads_behind_limit(row: &str) -> bool {
+fn reads_after_limit(row: &str) -> bool {
     match row.split_once(' ') {
         Some((limit, row)) => match limit.parse::<u32>() {
             Ok(limit) => reads_number(row, limit),
@@ -259,7 +259,7 @@ fn reads_a_number_up_to_its_limit(rt: HostRuntime) {
         "9  1",
         "9 \u{663}",
     ] {
-        check(&rt, reads_behind_limit(row), row);
+        check(&rt, reads_after_limit(row), row);
     }
     // a thousand leading zeros, and as many nines
     let row = repeated(rt.alloc(), "0", 1_000, "34>¦34¦>").expect(&rt, "no memory");

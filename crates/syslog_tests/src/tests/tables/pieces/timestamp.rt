@@ -200,8 +200,8 @@ fn compares_by_the_instant(rt: HostRuntime) {
     );
     check(&rt, stamp(&rt, 5, 0) != stamp(&rt, 6, 0), "at two instants");
     check(&rt, stamp(&rt, 4, 3600) < stamp(&rt, 5, 0), "before");
-    check(&rt, stamp(&rt, 5, -3600) <= stamp(&rt, 5, 0), "not behind");
-    check(&rt, stamp(&rt, 5, 0) > stamp(&rt, -5, 0), "behind");
+    check(&rt, stamp(&rt, 5, -3600) <= stamp(&rt, 5, 0), "not after");
+    check(&rt, stamp(&rt, 5, 0) > stamp(&rt, -5, 0), "after");
 }
 
 // A row is a text, the printed form of the timestamp at its front, which is empty for a dash, and the rest; or a text

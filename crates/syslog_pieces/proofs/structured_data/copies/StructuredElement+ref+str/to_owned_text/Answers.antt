@@ -1,5 +1,6 @@
 use Rattle.syslog_pieces.proofs.StructuredDataLemmas.Units.{copies_step}
-use Rattle.syslog_pieces.proofs.Names.{chars, shown, text_of, param_value, string_bytes, Text, List, ElementValue, ℕ, ap, ◌∙◌, map, take_all}
+use Rattle.syslog_pieces.proofs.Names.{chars, shown, text_of, param_value, string_bytes, Text, List, ElementValue, ℕ}
+use Rattle.syslog_pieces.proofs.Names.{ap, ◌∙◌, map, take_all}
 use Rattle.syslog_pieces.proofs.structured_data.copies.StructuredElement+ref+str.to_owned_text.Goals as goal
 
 pub loop-name-preserved : goal.loop-name-preserved

@@ -169,7 +169,7 @@ fn reads_front(alloc: Global, tz: Option<&TimeZone<'_>>, row: &str) -> bool {
 
 // In the local zone, and in a zone that is given.
 #[test]
-fn leaves_the_text_behind_the_date(rt: HostRuntime) {
+fn leaves_the_text_after_the_date(rt: HostRuntime) {
     for row in &[
         "Dec 28 2008 16:49:07 ¦2008-12-28T16:49:07+00:00¦ ",
         "Aug 4 16:49:07 ¦2019-08-04T16:49:07+00:00¦ ",

@@ -1,6 +1,6 @@
 use Rattle.syslog_loose.proofs.Names.{◌∷◌, ◌++◌, [], refl, chars}
 use Rattle.syslog_loose.proofs.SettlingLemmas.Settles.{dash_told}
-use Rattle.syslog_loose.proofs.jumps.behind_dash.Goals as goal
+use Rattle.syslog_loose.proofs.jumps.after_dash.Goals as goal
 
 pub returns-in_err-literal : goal.returns-in_err-literal
 returns-in_err-literal c =
