@@ -18,13 +18,14 @@ pub struct FewParams<'a> {
 }
 
 impl<'a> FewParams<'a> {
-    ghost use Rattle.std.specs.Prelude.{IfSome, map};
+    ghost use Rattle.std.specs.Prelude.{◌<◌, MatchOption, map};
     ghost use Rattle.syslog_pieces.specs.Words.{shown, HasNoted, param_value, element_seen};
 
-    /// Returns the parameters of the element, where all of them were noted.
+    /// Returns the parameters of the element, or none where it has more than eight, which were not all noted.
     pub fn all_of(&self, element: &Element<'a>) -> Option<&[(&'a str, &'a str)]>
         requires { HasNoted self.now (element_seen element.now).params }
-        ensures { IfSome result (λ ps. map (param_value (λ s. shown s)) ps.now ≡ (element_seen element.now).params) }
+        ensures { MatchOption result (8 < length (element_seen element.now).params)
+            (λ ps. map (param_value (λ s. shown s)) ps.now ≡ (element_seen element.now).params) }
     {
         if self.count < element.params_len() {
             return None;
