@@ -1,7 +1,7 @@
 # Proves, builds and installs, over the toolchain's rt.
 #
 #     make              proves the library and the programs with all below them, and builds them
-#     make check        proves the crates from nothing, and runs every test (tests/all)
+#     make check        is the gate: proves the crates from nothing, and runs every test
 #     make install      installs what make built, and proves nothing: PREFIX=/usr/local DESTDIR=
 #     make uninstall    removes what it installed
 #     make dist         a tarball and a Debian package of the same files, in out/
@@ -40,7 +40,7 @@ all:
 	$(MAKE) $(OUT)/libsyslog_loose.a $(OUT)/$(SHARED)
 
 check:
-	tests/all
+	.ci/run
 
 $(TIDY) $(JSON) $(STRICT) $(LIBRARY):
 	@echo '$@ is not there: make builds it' >&2; exit 1

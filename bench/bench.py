@@ -6,7 +6,7 @@
   bench.py --peer PATH                times that one too, on the same files, the runs of the two in turn
   bench.py --check --peer PATH        compares what the two write, and times nothing
   bench.py --instructions             counts instructions by valgrind, which other work does not change
-  bench.py --reading                  measures the program of bench/totals/ instead, which reads and prints sums alone
+  bench.py --reading                  measures syslog_totals instead, which reads and prints sums alone
   bench.py --library                  measures bench/c_totals.c, the same over the library for C; needs cc
   bench.py --json                     measures syslog_json, and with --check compares its objects by their values
   bench.py --cores                    times ways to filter one file on all cores
@@ -140,21 +140,11 @@ def built_over_library():
     return compiled_over(os.path.join(crate, "out", "libsyslog_c.a"), program)
 
 
-def built_reader():
-    """Proves and builds the program of bench/totals/, and returns its path."""
-    folder = os.path.join(tempfile.gettempdir(), "syslog-bench-totals")
-    print("building bench/totals in %s" % folder, file=sys.stderr)
-    words = [os.path.join(TOP, "bench", "build_reader"), folder, "totals"]
-    return subprocess.check_output(words, text=True).split()[-1]
-
-
 def built(chosen):
     """Proves and builds the program, and returns its path."""
     if chosen.library:
         return built_over_library()
-    if chosen.reading:
-        return built_reader()
-    name = "syslog_json" if chosen.json else "syslog_tidy"
+    name = "syslog_totals" if chosen.reading else "syslog_json" if chosen.json else "syslog_tidy"
     crate = os.path.join(CRATES, name)
     print("building %s" % crate, file=sys.stderr)
     ran = subprocess.run(["rt", "run", "--", str(chosen.year)], cwd=crate, stdin=subprocess.DEVNULL, stdout=sys.stderr)
@@ -442,7 +432,7 @@ def arguments():
     reader.add_argument("--peer", help="another program with the same argument")
     reader.add_argument("--check", action="store_true", help="compare the outputs")
     reader.add_argument("--instructions", action="store_true", help="count instructions by valgrind, and time nothing")
-    told = "measure the reading calls, by the program of bench/totals/, on the corpora alone"
+    told = "measure the reading calls, by syslog_totals, on the corpora alone"
     reader.add_argument("--reading", action="store_true", help=told)
     told = "measure the library for C, by the program bench/c_totals.c, on the corpora alone"
     reader.add_argument("--library", action="store_true", help=told)
