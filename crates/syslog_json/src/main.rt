@@ -15,8 +15,9 @@ use filter::write_objects;
 use options::Options;
 use report::{HELP, USAGE};
 use std::process::ExitCode;
-use syslog_lines::report::{report, say, say_version};
-use syslog_lines::{Task, Watched, Wrong, program_words, read_task, refuse_words};
+use syslog_command_line::report::{report, say, say_version};
+use syslog_command_line::{Task, Wrong, program_words, read_task, refuse_words};
+use syslog_lines::Watched;
 use syslog_loose::VERSION;
 
 // Writes the lines of standard input as JSON, and then returns the exit status.

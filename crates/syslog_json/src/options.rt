@@ -3,7 +3,7 @@ ghost use Rattle.std.specs.Prelude.{◌≡◌};
 ghost use Rattle.jiff.specs.Words.{IsYear, plain_zone};
 ghost use Rattle.syslog_loose.specs.Reckoning.{IsZoneAt};
 
-use syslog_lines::Dates;
+use syslog_command_line::Dates;
 use syslog_loose::{TimeZone, zone_ahead};
 
 /// How lines are read and written.

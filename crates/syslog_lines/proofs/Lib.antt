@@ -7,7 +7,3 @@ pub mod AnswerLemmas
 pub mod BlockLemmas
 pub mod WriteLemmas
 pub mod PumpLemmas
-pub mod ArgumentLemmas
-pub mod DateLemmas
-pub mod WordLemmas
-pub mod ReportLemmas

@@ -6,6 +6,3 @@ pub mod Count
 pub mod Output
 pub mod Write
 pub mod Pump
-pub mod Arguments
-pub mod Words
-pub mod Report

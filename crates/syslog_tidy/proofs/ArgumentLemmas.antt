@@ -3,7 +3,7 @@ use Rattle.syslog_tidy.proofs.Names.{◌≡◌, List, ◌∷◌, ◌++◌, lengt
 use Rattle.syslog_tidy.proofs.Names.{ℕ, ℤ, [], ap, inr, sym, ◌∙◌}
 use Rattle.std.proofs.Common.{◌-◌, ◌<◌, ◌≤◌, Bor, map, take, drop, get_or, nat_eq}
 use Rattle.std.{proofs.lemmas.List.take_all, specs.Cmp.Lexicographic.bytes_decides, specs.Cmp.Lexicographic.pointwise}
-use Rattle.syslog_lines.specs.Arguments.{AreYearWords, help_word, version_word}
+use Rattle.syslog_command_line.specs.Arguments.{AreYearWords, help_word, version_word}
 use Rattle.syslog_tidy.specs.Arguments.{AskForLines, AsksFor, OnlyFlag, flags_of}
 use Rattle.syslog_tidy.{specs.declared.args.Output.Output, specs.declared.args.Task.Task}
 use Rattle.syslog_tidy.specs.declared.args.Output.TheVariants.{Settled, Changed, Refused}

@@ -1,6 +1,6 @@
 -- The program's arguments: this project's own choice.
 use Rattle.std.specs.Prelude.{◌≡◌, ◌⊎◌, ℕ, ℤ, Bool, true, false, List, [], ◌∷◌, ◌++◌, codes}
-use Rattle.syslog_lines.specs.Arguments.{AreYearWords, NamesYear, help_word, version_word}
+use Rattle.syslog_command_line.specs.Arguments.{AreYearWords, NamesYear, help_word, version_word}
 use Rattle.syslog_tidy.specs.declared.args.Output.{Output}
 use Rattle.syslog_tidy.specs.declared.args.Output.TheVariants.{Settled, Changed, Refused}
 use Rattle.syslog_tidy.specs.declared.args.Task.{Task}

@@ -7,7 +7,7 @@ ghost use Rattle.syslog_tidy.specs.declared.args.Task.{Task};
 
 use std::env;
 use std::env::Args;
-use syslog_lines::{is_alone, read_year, read_year_words};
+use syslog_command_line::{is_alone, read_year, read_year_words};
 
 /// Which lines are wanted.
 #[derive(Clone, Copy, PartialEq, Eq)]

@@ -17,9 +17,10 @@ pub use filters::{changed, refused, run};
 use report::HELP;
 pub use report::{report_changed, usage};
 use std::process::ExitCode;
-pub use syslog_lines::report::report;
-use syslog_lines::report::{say, say_version};
-pub use syslog_lines::{RunFault, Summary, Watched, read_year};
+pub use syslog_command_line::read_year;
+pub use syslog_command_line::report::report;
+use syslog_command_line::report::{say, say_version};
+pub use syslog_lines::{RunFault, Summary, Watched};
 use syslog_loose::VERSION;
 
 // Writes the output that is asked for, and returns the exit status.

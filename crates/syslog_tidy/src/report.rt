@@ -1,12 +1,12 @@
 //! What the program writes at its end, and about itself.
 ghost use Rattle.std.specs.Prelude.{◌≡◌, codes};
-ghost use Rattle.syslog_lines.specs.Report.{WritesFront, said_of, status_of};
+ghost use Rattle.syslog_command_line.specs.Report.{WritesFront, said_of, status_of};
 ghost use Rattle.syslog_tidy.specs.Arguments.{usage_line};
 
 use crate::counts::Changed;
 use std::io::Write;
+use syslog_command_line::report::{refuse, report_count, report_fault};
 use syslog_lines::RunFault;
-use syslog_lines::report::{refuse, report_count, report_fault};
 
 /// How the program is called, and what it does.
 pub const HELP: &str =

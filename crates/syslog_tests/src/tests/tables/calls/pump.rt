@@ -7,8 +7,8 @@ use std::alloc::{AllocError, Global};
 use std::io;
 use std::io::{Error, ErrorKind, Write};
 use std::test::Fail;
+use syslog_command_line::report::report;
 use syslog_lines::pump::pump;
-use syslog_lines::report::report;
 use syslog_lines::{LineFilter, RunFault, Summary, Watched, push_line};
 
 /// Writes each line as it came, or none.

@@ -1,0 +1,5 @@
+pub mod Names
+pub mod ArgumentLemmas
+pub mod DateLemmas
+pub mod WordLemmas
+pub mod ReportLemmas

@@ -1,0 +1,16 @@
+//! The command line of the programs: the words that they are called with, and what they say.
+//!
+//! `read_task` reads the words after a program's name, `report` writes at the end what became of the lines, and `say`
+//! writes a text that was asked for. Which words there are, and the texts, are this project's own choice.
+//!
+//! `read_year("2019")` is `Some(2019)`, and `read_offset("-07:00")` is `Some(-25200)`.
+#![tactic(auto)]
+
+mod args;
+mod dates;
+pub mod report;
+mod words;
+
+pub use args::{is_alone, read_year, read_year_words};
+pub use dates::{Dates, read_date, read_offset};
+pub use words::{Task, Wrong, program_words, read_task, refuse_words};
