@@ -23,6 +23,7 @@ use Rattle.syslog_loose.proofs.ReadingLemmas.{unversioned, versioned}
 use Rattle.syslog_loose.proofs.Rfc3164Lemmas as rfc3164
 use Rattle.syslog_loose.specs.declared.message.Protocol.TheVariants as protocol
 use Rattle.syslog_loose.proofs.Rfc5424Lemmas as strict
+use Rattle.syslog_loose.proofs.LineLemmas.{line_rest}
 
 -- ---- two readings
 
@@ -321,7 +322,7 @@ pub told_by_line : (variant : Variant) (dating : Dating) (text : Text) (line : L
     → IsTrue b ↔ HasDashChange variant dating text
 told_by_line variant dating text line fields b of none are h =
     in_variant variant of.only.read (told_by_list dating text (shown fields.rest) _ (names_value fields.names) b
-    (rows_join (stamped_row dating) fields_row (of.rest none) are.read.front) are.read.means h)
+    (rows_join (stamped_row dating) fields_row (line_rest line of none) are.read.front) are.read.means h)
   where
     in_variant : (variant : Variant) → IsRead variant dating text (line_value line)
         → IsTrue b ↔ HasDashChange3164 dating text → IsTrue b ↔ HasDashChange variant dating text

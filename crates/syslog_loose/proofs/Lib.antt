@@ -1,6 +1,7 @@
 pub mod CanonicalLemmas
 pub mod EqualityLemmas
 pub mod DashChangeLemmas
+pub mod LineLemmas
 pub mod Names
 pub mod PrintedLemmas
 pub mod ReadBackLemmas

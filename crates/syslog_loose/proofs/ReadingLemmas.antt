@@ -29,7 +29,8 @@ use Rattle.syslog_pieces.specs.StructuredData.Visited.{Visits}
 use Rattle.syslog_pieces.specs.StructuredData.Collected.{HasCollected}
 use Rattle.syslog_pieces.specs.declared.structured_data.collect.Collect.{Collect}
 use Rattle.syslog_loose.specs.Message.{with_elements}
-use Rattle.syslog_loose.specs.Visit.{HasRest, IsCompleted}
+use Rattle.syslog_loose.specs.LineTexts.{IsLine3164, IsLine5424}
+use Rattle.syslog_loose.specs.Visit.{IsCompleted}
 use Rattle.syslog_loose.proofs.Rfc3164Lemmas as rfc3164
 use Rattle.syslog_loose.proofs.Rfc5424Lemmas as strict
 use Rattle.syslog_loose.specs.declared.message.Protocol.TheVariants as protocol
@@ -305,17 +306,17 @@ unversioned line r =
 
 -- the line of what was read
 pub line_5424 : (variant : Variant) (dating : Dating) {text : Text} (line : Line)
-    → variant ≢ RFC3164 × IsRead5424 text (line_value line) → IsLineOf variant dating text line
+    → variant ≢ RFC3164 × IsLine5424 text line → IsLineOf variant dating text line
 line_5424 variant dating {text} line r = record {
-  only = only_read variant dating text (line_value line) (read_by variant dating text (line_value line) (inl r));
-  rest = λ none. absurd (versioned line r.1 none);
+  only = only_read variant dating text (line_value line) (read_by variant dating text (line_value line) (inl (r.0, r.1.read)));
+  shows = inl r.1;
 }
 
 pub line_3164 : (variant : Variant) (dating : Dating) {text : Text} (line : Line) → IsLeftTo3164 variant text
-    → IsRead3164 dash_rule dating text (line_value line) × HasRest dating text line → IsLineOf variant dating text line
-line_3164 variant dating {text} line left (r, rest) = record {
-  only = only_read variant dating text (line_value line) (read_by variant dating text (line_value line) (inr (left, r)));
-  rest = λ none. rest;
+    → IsLine3164 dating text line → IsLineOf variant dating text line
+line_3164 variant dating {text} line left r = record {
+  only = only_read variant dating text (line_value line) (read_by variant dating text (line_value line) (inr (left, r.read)));
+  shows = inr r;
 }
 
 -- what is given after nothing was

@@ -4,7 +4,7 @@ pub use Rattle.syslog_loose.specs.Bodies.Jumps.{CutsColons, EndsColons, IsDashed
 pub use Rattle.syslog_loose.specs.Bodies.Jumps.{message_end, past_colons, tail_text, with_msg}
 pub use Rattle.syslog_loose.specs.Bodies.Rows.{stamped_row}
 pub use Rattle.syslog_loose.specs.Bodies.Start.{BeginsWith, BeginsWithout, IsAfterPriority}
-pub use Rattle.syslog_loose.specs.Bodies.View3164.{FieldsAreRead, IsAfterStamp, IsProcessOf, NamesHost, NamesProgram}
+pub use Rattle.syslog_loose.specs.Bodies.View3164.{FieldsAreRead, IsAfterStamp, NamesHost, NamesProgram}
 pub use Rattle.syslog_loose.specs.Bodies.View3164.{names_value}
 pub use Rattle.syslog_loose.specs.Bodies.View5424.{FitsSpaced, ReadsHeader, ReadsNames5424, ReadsSpaced, names_before}
 pub use Rattle.syslog_loose.specs.Canonical.{AreElements, IsBounded, IsCanonical, fields_value}
@@ -15,6 +15,7 @@ pub use Rattle.syslog_loose.specs.EqualLaws.{message_equivalence}
 pub use Rattle.syslog_loose.specs.Exceptions.{HasExceptionsAlone, HasNoColon, HasNoException, IsNearlyCanonical}
 pub use Rattle.syslog_loose.specs.Exceptions.{IsOfMonthDate}
 pub use Rattle.syslog_loose.specs.Line.{KnowsForm, line_value}
+pub use Rattle.syslog_loose.specs.LineTexts.{IsLine3164, IsLine5424}
 pub use Rattle.syslog_loose.specs.Message.{MessageValue, message_value, with_elements}
 pub use Rattle.syslog_loose.specs.OneLine.{IsOneLine}
 pub use Rattle.syslog_loose.specs.Passes.{AnswersPass, EndsOnce, HasRank, IsAtRest, IsLater, Prints, ReachesRank}
@@ -26,8 +27,8 @@ pub use Rattle.syslog_loose.specs.Reading.{IsQuoted, IsRead, IsUnreadable, dash_
 pub use Rattle.syslog_loose.specs.Rfc3164.{IsRead3164, Names3164, Quotes3164, Resolves, rfc3164_row}
 pub use Rattle.syslog_loose.specs.Rfc5424.{IsNot5424, IsRead5424, rfc5424_row}
 pub use Rattle.syslog_loose.specs.Settling.{IsFirstSettled, IsRound, IsSettled, NoneSettled, Settles, Weighs, answer_in}
-pub use Rattle.syslog_loose.specs.TagForm.{IsForm, IsNoForm}
-pub use Rattle.syslog_loose.specs.Visit.{HasRest, IsCompleted, IsLineOf, Made, MadeOf}
+pub use Rattle.syslog_loose.specs.TagForm.{IsForm, IsIdOf, IsNoForm}
+pub use Rattle.syslog_loose.specs.Visit.{IsCompleted, IsLineOf, Made, MadeOf}
 pub use Rattle.syslog_loose.specs.declared.fault.ParseFault.TheVariants.{Invalid}
 pub use Rattle.syslog_loose.specs.declared.line.Line.{Line}
 pub use Rattle.syslog_loose.specs.declared.message.Message.{Message}

@@ -4,6 +4,7 @@ pub mod DashChange
 pub mod Equal
 pub mod EqualLaws
 pub mod Line
+pub mod LineTexts
 pub mod Exceptions
 pub mod Message
 pub mod Passes

@@ -6,7 +6,7 @@ use Rattle.syslog_loose.specs.Words.{optional, AreInPieces, priority, rfc3164_li
 use Rattle.syslog_loose.specs.Words.{tag_word, rfc3164_stamp, Dating, ProcId, DashRule, after, NamesProcess}
 use Rattle.syslog_loose.specs.declared.message.Protocol.TheVariants.{RFC3164}
 use Rattle.syslog_loose.specs.Message.{MessageValue, message_of_parts, message_texts}
-use Rattle.syslog_loose.specs.TagForm.{IsNoForm, form_row}
+use Rattle.syslog_loose.specs.TagForm.{IsIdOf, IsNoForm, form_row}
 
 -- ---- the names: host, app name, process id
 
@@ -33,6 +33,12 @@ Resolves (Some (Some lone)) None n = NamesByForm None lone (names (Some lone) No
 Resolves None (Some (Some program)) n = NamesByForm None program (names None (Some program) None) n
 Resolves (Some origin) (Some (Some program)) n = NamesByForm origin program (names origin (Some program) None) n
 Resolves field (Some None) n = n ≡ names None None None
+
+-- the text that names the process: the id of the tag field's name, or of a lone name
+abbrev pub HasProcess : Option (Option Text) → Option (Option Text) → Option Text → Type 0
+HasProcess field (Some (Some program)) process = IsIdOf program process
+HasProcess (Some (Some lone)) None process = IsIdOf lone process
+HasProcess field tag process = process ≡ None
 
 -- ---- the pieces
 

@@ -1,25 +1,21 @@
 -- What is made of a text by way of its line.
-use Rattle.std.specs.Prelude.{◌≡◌, ◌≢◌}
-use Rattle.syslog_loose.specs.Words.{ℕ, List, [], Option, None, MatchOption, Result, MatchResult, Bor, Text, shown}
-use Rattle.syslog_loose.specs.Words.{ElementValue, list_elements, Visits, trimmed, Dating}
+use Rattle.std.specs.Prelude.{◌≡◌, ◌≢◌, ◌⊎◌}
+use Rattle.syslog_loose.specs.Words.{ℕ, List, [], Option, MatchOption, Result, MatchResult, Bor, Text, shown}
+use Rattle.syslog_loose.specs.Words.{ElementValue, list_elements, Visits, Dating}
 use Rattle.syslog_loose.specs.Line.{line_value}
 use Rattle.syslog_loose.specs.Message.{message_value, with_elements}
 use Rattle.syslog_loose.specs.declared.fault.ParseFault.{ParseFault}
 use Rattle.syslog_loose.specs.declared.fault.ParseFault.TheVariants.{Invalid, Memory}
 use Rattle.syslog_loose.specs.declared.message.Message.{Message}
 use Rattle.syslog_loose.specs.Reading.{IsOnlyRead, IsUnreadable}
-use Rattle.syslog_loose.specs.Bodies.View3164.{IsAfterStamp}
+use Rattle.syslog_loose.specs.LineTexts.{IsLine3164, IsLine5424}
 use Rattle.syslog_loose.specs.declared.line.Line.{Line}
 use Rattle.syslog_loose.specs.declared.variant.Variant.{Variant}
 
--- a priority or none, blanks and the line's timestamp begin the trimmed text, and the line's rest follows
-abbrev pub HasRest : Dating → Text → Line → Type 0
-HasRest dating text line = IsAfterStamp dating (trimmed text) line.priority line.timestamp (shown line.rest)
-
--- The line means the one message as which the text is read. Where it is of RFC 3164, its rest follows the timestamp.
+-- The line means the one message as which the text is read, and each of its texts is a piece of the text.
 pub record IsLineOf (variant : Variant) (dating : Dating) (text : Text) (line : Line) : Type 0 where
   pub only : IsOnlyRead variant dating text (line_value line)
-  pub rest : line.version ≡ None → HasRest dating text line
+  pub shows : IsLine5424 text line ⊎ IsLine3164 dating text line
 
 -- What a visitor makes of a line of this kind, and that another visitor was given its elements. Where there is none,
 -- nothing is made, the first stays as it was, and the other was given no element.

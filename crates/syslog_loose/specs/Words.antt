@@ -25,7 +25,7 @@ pub use Rattle.syslog_pieces.specs.StructuredData.{forgiving}
 pub use Rattle.syslog_pieces.specs.StructuredData.Element.{element_value, ElementValue, element_texts, element_text}
 pub use Rattle.syslog_pieces.specs.StructuredData.Equal.{element_eq}
 pub use Rattle.syslog_pieces.specs.StructuredData.Rfc3164List.{BeginsNoList, rfc3164_list}
-pub use Rattle.syslog_pieces.specs.StructuredData.Visited.{list_elements, Visits, elements_left}
+pub use Rattle.syslog_pieces.specs.StructuredData.Visited.{list_elements, list_text, Visits, elements_left}
 pub use Rattle.syslog_pieces.specs.Text.{EndsInColon, dash, is_blank, trimmed, number, colon, host, word, tag_word}
 pub use Rattle.syslog_pieces.specs.Text.{is_tag_char}
 pub use Rattle.syslog_pieces.specs.Text.CharClass.{is_label_char, is_open_char}

@@ -5,11 +5,11 @@
 //! piece from the readers of `syslog_pieces`, from the left. `resolve` says what the host field and the tag field mean
 //! together.
 ghost use Rattle.std.specs.Prelude.{◌≡◌};
-ghost use Rattle.syslog_loose.specs.Words.{Option, Some, None, chars, Text, seen, list_elements, Visits};
+ghost use Rattle.syslog_loose.specs.Words.{chars, Text, seen, list_elements, Visits};
 ghost use Rattle.syslog_loose.specs.Words.{trimmed, Dating, field_seen};
 ghost use Rattle.syslog_loose.specs.Rfc3164 as spec;
-ghost use Rattle.syslog_loose.specs.Clauses.{line_value, KnowsForm, dash_rule, FieldsAreRead, IsAfterStamp};
-ghost use Rattle.syslog_loose.specs.Clauses.{IsProcessOf, names_value, NamesHost, NamesProgram, HasRest};
+ghost use Rattle.syslog_loose.specs.Clauses.{KnowsForm, FieldsAreRead, IsAfterStamp, IsIdOf, IsLine3164};
+ghost use Rattle.syslog_loose.specs.Clauses.{names_value, NamesHost, NamesProgram};
 
 use crate::line::Line;
 use crate::rfc5424::{are_all, is_bare};
@@ -43,7 +43,7 @@ impl Names<'_> {
 #[tactic(auto, using(syslog_pieces::proofs::ProcIdLemmas::named_names))]
 fn program<'a>(hostname: Option<&'a str>, name: &'a str) -> Names<'a>
     ensures names { NamesProgram (seen hostname.entry) (chars name.entry.now) (names_value result) }
-    ensures form { IsProcessOf (chars name.entry.now) result.process }
+    ensures process { IsIdOf (chars name.entry.now) (seen result.process) }
 {
     match tag_form(name) {
         Some((tag, id)) => Names {
@@ -63,7 +63,8 @@ fn program<'a>(hostname: Option<&'a str>, name: &'a str) -> Names<'a>
 #[inline(never)]
 #[tactic(auto, using(syslog_pieces::proofs::ProcIdLemmas::named_names))]
 fn lone<'a>(name: &'a str) -> Names<'a>
-    ensures { NamesHost (chars name.entry.now) (names_value result) }
+    ensures names { NamesHost (chars name.entry.now) (names_value result) }
+    ensures process { IsIdOf (chars name.entry.now) (seen result.process) }
 {
     match tag_form(name) {
         Some((tag, id)) => Names {
@@ -83,7 +84,7 @@ fn lone<'a>(name: &'a str) -> Names<'a>
 #[inline(always)]
 pub(crate) fn resolve<'a, C>(host: Field<'a>, tag: Field<'a>) -> Names<'a>
     ensures names { spec.Resolves (field_seen host.entry) (field_seen tag.entry) (names_value result) }
-    ensures form { (name : Text) → field_seen tag.entry ≡ Some (Some name) → IsProcessOf name result.process }
+    ensures process { spec.HasProcess (field_seen host.entry) (field_seen tag.entry) (seen result.process) }
 {
     match tag {
         Field::Missing => match host {
@@ -139,7 +140,7 @@ pub(crate) fn read_3164<'a, C, E: ElementVisitor<'a>>(
 ) -> Line<'a>
     ensures reads { (dating : Dating) (whole : Text)
         → IsAfterStamp dating (trimmed whole) priority timestamp (chars text.entry.now)
-        → spec.IsRead3164 dash_rule dating whole (line_value result) × HasRest dating whole result }
+        → IsLine3164 dating whole result }
     ensures form { KnowsForm result }
     ensures visited { Visits E.was_given elements.old (list_elements result.list) elements.new }
 {

@@ -6,7 +6,7 @@ ghost use Rattle.std.specs.Prelude.{◌≡◌};
 ghost use Rattle.syslog_loose.specs.Words.{[], ℕ, IfSome, IsTrue, MatchOption, Some, AllByRecursion, chars, IsUtf8};
 ghost use Rattle.syslog_loose.specs.Words.{Text, seen, shown, list_elements, Visits, trimmed};
 ghost use Rattle.syslog_pieces.specs.Bodies.Verbatim.{IsBareWord};
-ghost use Rattle.syslog_loose.specs.Clauses.{line_value, KnowsForm, IsNot5424, IsRead5424, IsAfterPriority};
+ghost use Rattle.syslog_loose.specs.Clauses.{KnowsForm, IsNot5424, IsLine5424, IsAfterPriority};
 ghost use Rattle.syslog_loose.specs.Clauses.{FitsSpaced, ReadsHeader, ReadsNames5424, ReadsSpaced, names_before};
 ghost use Rattle.syslog_pieces.specs.Text as spec;
 
@@ -117,7 +117,7 @@ pub(crate) fn read_5424<'a, C, E: ElementVisitor<'a>>(
     elements: &mut E,
 ) -> Option<Line<'a>>
     ensures reads { (whole : Text) → IsAfterPriority (trimmed whole) priority (chars text.entry.now)
-        → MatchOption result (IsNot5424 whole) (λ line. IsRead5424 whole (line_value line)) }
+        → MatchOption result (IsNot5424 whole) (IsLine5424 whole) }
     ensures form { IfSome result KnowsForm }
     ensures visited { MatchOption result (Visits E.was_given elements.old [] elements.new)
         (λ line. Visits E.was_given elements.old (list_elements line.list) elements.new) }

@@ -8,9 +8,9 @@ ghost use Rattle.syslog_loose.specs.Words.{Visits, header_stamp, stamp_seen, dat
 ghost use Rattle.syslog_pieces.specs.Text.{trimmed as trimmed_text};
 ghost use Rattle.syslog_pieces.specs.Timestamp.Zone.{Dating as AnyDating};
 ghost use Rattle.syslog_loose.specs.declared.variant.Variant.TheVariants.{RFC3164};
-ghost use Rattle.syslog_loose.specs.Clauses.{line_value, KnowsForm, AnswersEachMonth, InYear, IsUnreadable, dash_rule};
-ghost use Rattle.syslog_loose.specs.Clauses.{IsRead3164, IsNot5424, IsRead5424, BeginsWith, BeginsWithout};
-ghost use Rattle.syslog_loose.specs.Clauses.{IsAfterPriority, IsAfterStamp, HasRest, IsLineOf, Made, Line, Variant};
+ghost use Rattle.syslog_loose.specs.Clauses.{KnowsForm, AnswersEachMonth, InYear, IsUnreadable};
+ghost use Rattle.syslog_loose.specs.Clauses.{IsLine3164, IsLine5424, IsNot5424, BeginsWith, BeginsWithout};
+ghost use Rattle.syslog_loose.specs.Clauses.{IsAfterPriority, IsAfterStamp, IsLineOf, Made, Line, Variant};
 ghost use Rattle.syslog_loose.specs.Clauses.{incomplete, MadeOf};
 
 use crate::line::Line;
@@ -53,7 +53,7 @@ fn visit_5424<'a, E: ElementVisitor<'a>, V: LineVisitor<'a>>(
 ) -> Option<V::Answer>
     ensures { (whole : Text) → IsAfterPriority (trimmed_text whole) priority (chars text.entry.now)
         → MadeOf V.makes E.was_given (variant ≢ RFC3164 → IsNot5424 whole) (λ line. variant ≢ RFC3164
-        × IsRead5424 whole (line_value line)) visitor.old elements.old result visitor.new elements.new }
+        × IsLine5424 whole line) visitor.old elements.old result visitor.new elements.new }
 {
     if !variant.reads_rfc5424() {
         return None;
@@ -72,7 +72,7 @@ fn visit_versioned<'a, E: ElementVisitor<'a>, V: LineVisitor<'a>>(
     visitor: &mut V,
 ) -> Option<V::Answer>
     ensures { (whole : Text) → IsAfterPriority (trimmed_text whole) priority (chars text.entry.now)
-        → MadeOf V.makes E.was_given (IsNot5424 whole) (λ line. IsRead5424 whole (line_value line))
+        → MadeOf V.makes E.was_given (IsNot5424 whole) (IsLine5424 whole)
         visitor.old elements.old result visitor.new elements.new }
 {
     let Some(line) = read_5424::<V, E>(priority, text, elements) else {
@@ -91,7 +91,7 @@ fn visit_3164<'a, E: ElementVisitor<'a>, V: LineVisitor<'a>>(
 ) -> V::Answer
     ensures { (line : Line) × ((dating : AnyDating) (whole : Text)
         → IsAfterStamp dating (trimmed_text whole) priority timestamp (chars text.entry.now)
-        → IsRead3164 dash_rule dating whole (line_value line) × HasRest dating whole line)
+        → IsLine3164 dating whole line)
         × V.makes visitor.old line result visitor.new
         × Visits E.was_given elements.old (list_elements line.list) elements.new }
 {
@@ -228,7 +228,7 @@ impl<'a> LineVisitor<'a> for Itself {
 
 /// Returns the line that the text is parsed as, and none where it does not parse. It takes no memory.
 ///
-/// After its timestamp, a line of RFC 3164 has all that follows as its `rest`.
+/// Each of its texts is a piece of the text as it came.
 ///
 /// The arguments are those of `visit_line`.
 #[inline(always)]

@@ -16,6 +16,7 @@ use Rattle.syslog_loose.proofs.Names.{each_right, begins, row_pieces, IsOfMonthD
 use Rattle.syslog_pieces.proofs.StructuredDataLemmas.Elements.{element_canonical}
 use Rattle.syslog_loose.proofs.Rfc3164Lemmas.{of_names, shows, one_form}
 use Rattle.syslog_loose.proofs.PrintedLemmas.{drop_ends, last_ends, severity_beside}
+use Rattle.syslog_loose.specs.TagForm.{IsIdOf}
 use Rattle.syslog_pieces.proofs.TextLemmas.Runs as verbatim
 
 -- ---- elements
@@ -224,7 +225,7 @@ module _ {tail t u name : Text} {origin : Option Text} (f : Front (optional (spa
 
   -- so where the text of a process is bare, all of them are in printed form and quiet
   pub fields_known : (msg : Text) (h a process : Option Text) → u ≡ 58 ∷ 32 ∷ msg → NamesProgram origin name
-      (names h a (option_map named_process process)) → IfSome process (λ id. (tag : Text) × IsForm name tag id) → IfSome
+      (names h a (option_map named_process process)) → IsIdOf name process → IfSome
       process IsBareWord → FieldsKnown msg (names h a (option_map named_process process))
   fields_known msg h a None e (inl (tag, id, p, form, named, same)) of bare =
       absurd (let none = ap (λ (x : Names3164). x.procid) same in cc)

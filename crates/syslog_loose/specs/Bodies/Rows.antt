@@ -17,6 +17,11 @@ names_row =
     some_run is_blank ∷ host ∷ some_run is_blank ∷ word ∷ some_run is_blank ∷ process_word ∷ some_run is_blank ∷ word
     ∷ []
 
+-- the same, the process id as its text
+abbrev pub words_row : List Class
+words_row =
+    some_run is_blank ∷ host ∷ some_run is_blank ∷ word ∷ some_run is_blank ∷ word ∷ some_run is_blank ∷ word ∷ []
+
 abbrev pub header_row : List Class
 header_row = front_row ++ names_row
 

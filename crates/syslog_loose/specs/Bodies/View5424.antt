@@ -5,7 +5,7 @@ use Rattle.syslog_loose.specs.Words.{Class, Front, NoFront, Row, some_run, is_bl
 use Rattle.syslog_loose.specs.Words.{Values, seen, shown, named_process, stamp_seen, process_text}
 use Rattle.syslog_pieces.specs.Text.{name_text}
 use Rattle.syslog_pieces.specs.declared.timestamp.clock.ClockStamp.{ClockStamp}
-use Rattle.syslog_loose.specs.Bodies.Rows.{header_row, names_row}
+use Rattle.syslog_loose.specs.Bodies.Rows.{front_row, header_row, names_row, words_row}
 use Rattle.syslog_loose.specs.declared.line.Line.{Line}
 
 -- blanks and such a name are at the front, before the rest; or one of the two is missing
@@ -29,21 +29,35 @@ names_values line = (
   ),
 )
 
+-- the same, the process id as its text
+abbrev pub word_values : Line → Values words_row
+word_values line = (
+  tt,
+  (seen line.hostname, (tt, (seen line.appname, (tt, (seen line.process, (tt, (seen line.msgid, tt))))))),
+)
+
 -- the names at the front of the text, in a line of these other fields, or nothing where they are not there
 abbrev pub ReadsNames5424 : Option ℕ → Option ℕ → Option ClockStamp → Bor (List ℕ) → Option (Line × Bor (List ℕ))
     → Type 0
 ReadsNames5424 version priority timestamp text r = MatchOption r (NoFront (Row names_row) (shown text))
     (λ x. (x.0.version ≡ version) × (x.0.priority ≡ priority) × (x.0.timestamp ≡ timestamp) × (x.0.rest ≡ text)
-    × Front (Row names_row) (shown text) (shown x.1) (names_values x.0))
+    × Front (Row names_row) (shown text) (shown x.1) (names_values x.0)
+    × Front (Row words_row) (shown text) (shown x.1) (word_values x.0))
 
 -- the meanings of the pieces of a header, of this version
 abbrev pub header_values : Line → ℕ → Values header_row
 header_values line version = (line.priority, (version, (tt, (stamp_seen line.timestamp, names_values line))))
 
--- the header at the front of the text, or nothing where there is none
+-- those of its pieces up to the timestamp
+abbrev pub front_values : Line → ℕ → Values front_row
+front_values line version = (line.priority, (version, (tt, (stamp_seen line.timestamp, tt))))
+
+-- the header at the front of the text, of which the names begin the line's rest; or nothing where there is none
 abbrev pub ReadsHeader : Text → Option (Line × Bor (List ℕ)) → Type 0
 ReadsHeader text r = MatchOption r (NoFront (Row header_row) text) (λ x. (version : ℕ) × (x.0.version ≡ Some version)
-    × Front (Row header_row) text (shown x.1) (header_values x.0 version))
+    × Front (Row header_row) text (shown x.1) (header_values x.0 version)
+    × Front (Row front_row) text (shown x.0.rest) (front_values x.0 version)
+    × Front (Row words_row) (shown x.0.rest) (shown x.1) (word_values x.0))
 
 -- host, app name, process id and message id as they print, each after a space, and more
 abbrev pub names_before : Line → Text → Text

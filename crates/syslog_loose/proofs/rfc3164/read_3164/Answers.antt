@@ -2,10 +2,15 @@ use Rattle.syslog_loose.proofs.Names.{◌≡◌, ◌∙◌, ◌++◌, ◌then◌
 use Rattle.syslog_loose.proofs.Names.{ElementValue, elements_or, rfc3164_list, is_blank, front_same, run_det, rows_join}
 use Rattle.syslog_loose.proofs.Names.{rest_front, begins_no_list, dash_rule, row_of, spaced_elements, optional, run}
 use Rattle.syslog_loose.proofs.Names.{shown, stamped_row, fields_row, body_row, fields_before, names_value}
-use Rattle.syslog_loose.proofs.Names.{BeginsNoList, chars_empty, nil_from_length, empty_is, length, IsTrue, ◌&&◌}
+use Rattle.syslog_loose.proofs.Names.{◌∷◌, Class, rest, texted, front_division, BeginsNoList, chars_empty, nil_from_length, empty_is, length, IsTrue, ◌&&◌}
 use Rattle.std.proofs.lemmas.Bool.{and_parts}
+use Rattle.syslog_loose.proofs.LineLemmas.{texted_as}
 use Rattle.syslog_loose.proofs.Rfc3164Lemmas.{is_read, from_list, list_none}
 use Rattle.syslog_loose.proofs.rfc3164.read_3164.Goals as goal
+
+-- the list, as its text, and the message part
+abbrev list_row : List Class
+list_row = texted (optional (rfc3164_list dash_rule)) ∷ run is_blank ∷ rest ∷ []
 
 -- where the list is empty text, there is none, and what follows is the message part
 bare : {rest after msg : Text} {es : Option (List ElementValue)} → Front (optional (rfc3164_list dash_rule)) rest after es
@@ -19,12 +24,21 @@ bare {rest} {es = es} f same ends gap =
 pub returns-clause-reads : goal.returns-clause-reads
 returns-clause-reads g c dating whole f =
     let fields = c.read_fields-fields.ensures.read in
-    let (es, list, same) = c.visit_rfc3164_list.ensures.list in (
-      is_read dash_rule dating whole _ _ _ refl (names_value c.read_fields-fields.result.names, fields.means, rw same refl)
+    let (es, list, same) = c.visit_rfc3164_list.ensures.list in
+    let own = texted_as (optional (rfc3164_list dash_rule)) list c.visit_rfc3164_list.ensures.text in
+    record {
+      read = is_read dash_rule dating whole _ _ _ refl (names_value c.read_fields-fields.result.names, fields.means, rw same refl)
           (rows_join (stamped_row dating) (body_row dash_rule) f (rows_join fields_row (from_list dash_rule)
-          fields.front (row_of (from_list dash_rule) (list then c.blanks.ensures then rest_front _ then refl)))),
-      f,
-    )
+          fields.front (row_of (from_list dash_rule) (list then c.blanks.ensures then rest_front _ then refl))));
+      front = f;
+      after = _;
+      host = fields.values.0;
+      tag = fields.values.1.0;
+      colon = fields.values.1.1.1.0;
+      names = fields.front;
+      process = c.read_fields-fields.ensures.process;
+      parts = front_division list_row (row_of list_row (own then c.blanks.ensures then rest_front _ then refl));
+    }
 
 pub returns-clause-form : goal.returns-clause-form
 returns-clause-form g c =

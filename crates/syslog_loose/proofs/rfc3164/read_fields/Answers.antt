@@ -42,10 +42,11 @@ returns g c =
     let end = ap (λ (x : List ℕ). x ++ rest) (text_is _ (58 ∷ 32 ∷ []) ascii (sym gap ∙ c.eq.ensures)) in
     fields_known (rw is_origin at c.host_field.ensures) (rw is_name at c.tag_field.ensures) rest
     (seen names.hostname) (seen names.appname) (seen names.process) (c.before-2.ensures ∙ end)
-    (rw (is_origin, is_name) at c.resolve-names.ensures.names) (c.resolve-names.ensures.form name is_name)
+    (rw (is_origin, is_name) at c.resolve-names.ensures.names) (rw (is_origin, is_name) at c.resolve-names.ensures.process)
     (c.is_bare.ensures bare)) in
     record {
       read = record { values = _; front = front; means = c.resolve-names.ensures.names };
+      process = c.resolve-names.ensures.process;
       ends = c.blanks-rest.ensures.is.1;
       prints = λ e. (known e).0;
       quiet = λ e. (known e).1;

@@ -1,10 +1,16 @@
-use Rattle.syslog_loose.proofs.Names.{◌∷◌, ◌++◌, ◌∙◌, ◌past◌, ◌then◌, inl, refl, sym, ap, no_row, row_of, trimmed}
+use Rattle.syslog_loose.proofs.Names.{[], List, Class, run, rest, texted, is_blank, ◌∷◌, ◌++◌, ◌∙◌, ◌past◌, ◌then◌, inl, refl, sym, ap, no_row, row_of, trimmed}
 use Rattle.syslog_loose.proofs.Names.{rest_front, rows_join, rows_none_here, Text, shown, elements_text, list_elements}
 use Rattle.syslog_loose.proofs.Names.{header_row, data_row, rfc5424_row, no_row_division, front_division}
 use Rattle.syslog_pieces.proofs.PieceLemmas.Class.{rows_none_later}
+use Rattle.syslog_pieces.specs.StructuredData.{forgiving}
 use Rattle.syslog_loose.specs.Bodies.View5424.{names_before}
+use Rattle.syslog_loose.proofs.LineLemmas.{texted_as}
 use Rattle.syslog_loose.proofs.Rfc5424Lemmas.{data_det, header_det}
 use Rattle.syslog_loose.proofs.rfc5424.read_5424.Goals as goal
+
+-- the list, as its text, and the message part
+abbrev text_row : List Class
+text_row = run is_blank ∷ texted forgiving ∷ run is_blank ∷ rest ∷ []
 
 pub returns-in_default-clause-reads : goal.returns-in_default-clause-reads
 returns-in_default-clause-reads g c whole f =
@@ -12,19 +18,30 @@ returns-in_default-clause-reads g c whole f =
 
 pub returns-in_default-visit_forgiving_list-clause-reads : goal.returns-in_default-visit_forgiving_list-clause-reads
 returns-in_default-visit_forgiving_list-clause-reads g c whole f =
-    let (version, is, header) = c.in-Some.ensures.reads (trimmed whole) f in
+    let (version, is, header, front, names) = c.in-Some.ensures.reads (trimmed whole) f in
     no_row_division rfc5424_row (rows_none_later header_row data_row header_det header
     (no_row data_row data_det (c.blanks-at_list.ensures past inl c.in_default-visit_forgiving_list.ensures.list)))
 
 pub returns-clause-reads : goal.returns-clause-reads
 returns-clause-reads g c whole f =
-    let (version, is, header) = c.in-Some.ensures.reads (trimmed whole) f in
-    let body = row_of data_row (c.blanks-at_list.ensures then c.in-Some-visit_forgiving_list.ensures.list
+    let (version, is, header, front, names) = c.in-Some.ensures.reads (trimmed whole) f in
+    let list = c.in-Some-visit_forgiving_list.ensures in
+    let body = row_of data_row (c.blanks-at_list.ensures then list.list then c.blanks-msg.ensures then rest_front _
+    then refl) in
+    let own = row_of text_row (c.blanks-at_list.ensures then texted_as forgiving list.list list.text
     then c.blanks-msg.ensures then rest_front _ then refl) in
     record {
-      values = _;
-      division = front_division rfc5424_row (rows_join header_row data_row header body);
-      means = rw is refl;
+      read = record {
+        values = _;
+        division = front_division rfc5424_row (rows_join header_row data_row header body);
+        means = rw is refl;
+      };
+      version = version;
+      has_version = is;
+      front = front;
+      after = _;
+      names = names;
+      parts = front_division text_row own;
     }
 
 pub returns-clause-form : goal.returns-clause-form

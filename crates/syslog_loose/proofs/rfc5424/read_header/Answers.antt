@@ -26,4 +26,5 @@ returns-clause-reads g c whole f =
     let front = row_of front_row (f then c.in_ok-version.ensures then c.in_ok-start.ensures then c.in-Some.ensures
     then refl) in
     match_map c.read_names.result (λ n. rows_none_later front_row names_row front_det front n)
-    (λ x h. (_, h.0, (rw (h.1, h.2) (rows_join front_row names_row front h.4)))) c.read_names.ensures.reads
+    (λ x h. (_, h.0, (rw (h.1, h.2) (rows_join front_row names_row front h.4)), (rw (h.1, h.2, h.3) front), rw h.3 h.5))
+    c.read_names.ensures.reads

@@ -4,6 +4,7 @@ use Rattle.syslog_loose.proofs.Names.{named_process, process_text, process_word,
 use Rattle.syslog_loose.proofs.Names.{row_of, no_row, names_row, seen, shown, some_run, is_blank}
 use Rattle.syslog_pieces.proofs.ProcIdLemmas.{absent_front, process_front, no_process}
 use Rattle.syslog_loose.proofs.Rfc5424Lemmas.{names_det}
+use Rattle.syslog_loose.specs.Bodies.Rows.{words_row}
 use Rattle.syslog_loose.proofs.rfc5424.read_names.Goals as goal
 
 -- ---- a piece after blanks
@@ -75,7 +76,8 @@ pub returns-clause-reads : goal.returns-clause-reads
 returns-clause-reads g c =
     let host = c.in_ok-hostname.ensures.reads in
     let app = c.in_ok-appname.ensures.reads in
-    let process = process_named c.in_ok-process.ensures.reads in
+    let word = c.in_ok-process.ensures.reads in
+    let process = process_named word in
     let id = c.in_ok-msgid.ensures.reads in (
       refl,
       refl,
@@ -83,6 +85,7 @@ returns-clause-reads g c =
       refl,
       row_of names_row (host.1 then host.2 then app.1 then app.2 then process.1 then process.2 then id.1 then id.2
           then refl),
+      row_of words_row (host.1 then host.2 then app.1 then app.2 then word.1 then word.2 then id.1 then id.2 then refl),
     )
 
 pub returns-clause-prints : goal.returns-clause-prints
