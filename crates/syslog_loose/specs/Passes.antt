@@ -1,6 +1,6 @@
 -- What a pass of `settle` writes, and the rank of a message, which falls with each pass. (All of it is this project's
 -- own.)
-use Rattle.std.specs.Prelude.{◌≡◌, ◌++◌}
+use Rattle.std.specs.Prelude.{◌≡◌, ◌⊎◌, ◌++◌}
 use Rattle.syslog_loose.specs.Words.{⊤, ℕ, zero, suc, List, [], Bool, MatchBool, Option, Some, None, IfSome, Result, Ok}
 use Rattle.syslog_loose.specs.Words.{Err, MatchResult, chars, AllocError, Text, colon, EndsInColon, IsCanonicalStamp}
 use Rattle.syslog_loose.specs.Words.{ShowsMonthDate, Dating, MonthDate}
@@ -77,6 +77,13 @@ pub record IsUnsettled (variant : Variant) (dating : Dating) (text later : Text)
   pub odd : HasRank 0 message → ⊥
   pub lower : (n : ℕ) (m : MessageValue) → IsRead variant dating later m → HasRank (suc n) message → HasRank n m
 
+-- At most so many passes lead from the text to u. The last writes the next round of the text before it, which is settled.
+-- Each other writes a later round of the text before it, before which none is settled, and the rank falls.
+unfoldable pub PassesLead : Variant → Dating → ℕ → Text → Text → Type 0
+PassesLead variant dating zero text u = ⊥
+PassesLead variant dating (suc n) text u = (IsNext variant dating text u × IsSettled variant dating u)
+    ⊎ ((later : Text) × IsUnsettled variant dating text later × PassesLead variant dating n later u)
+
 -- where this is true, this is the next round of the text, and settled; or else a round of an unsettled text
 abbrev pub IsToldRound : Variant → Dating → Text → Text → Bool → Type 0
 IsToldRound variant dating text later settled = MatchBool settled
@@ -105,10 +112,11 @@ pub record ReachesRank (variant : Variant) (dating : Dating) (text : Text) (rank
   pub reaches : Reaches variant dating text (suc before) u
   pub ranked : (m : MessageValue) → IsRead variant dating u m → HasRank rank m
 
--- What a pass returns at a round of the text that has this rank. Where the flag is true, it is the first settled round;
--- where it is false, a later round of a lower rank. Or it is a fault.
-abbrev pub AnswersPass : Variant → Dating → Text → ℕ → List ℕ → Result Bool ParseFault → Type 0
-AnswersPass variant dating text rank bytes result = MatchResult result
-    (λ settled. MatchBool settled (SettlesAs variant dating text (chars bytes))
+-- What a pass over u returns, which is a round of the text and has this rank. Where the flag is true, it is the first
+-- settled round; where it is false, a later round of a lower rank. Or it is a fault.
+abbrev pub AnswersPass : Variant → Dating → Text → ℕ → Text → List ℕ → Result Bool ParseFault → Type 0
+AnswersPass variant dating text rank u bytes result = MatchResult result
+    (λ settled. IsToldRound variant dating u (chars bytes) settled
+    × MatchBool settled (SettlesAs variant dating text (chars bytes))
     ((lower : ℕ) × (rank ≡ suc lower) × ReachesRank variant dating text lower (chars bytes)))
     (λ fault. IsSettlingFault variant dating text fault)

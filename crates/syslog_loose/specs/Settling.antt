@@ -58,8 +58,8 @@ pub record SettlesAs (variant : Variant) (dating : Dating) (text u : Text) : Typ
   pub first : IsFirstSettled variant dating text u
   pub soon : first.before ≤ length text
 
--- `Invalid` only where one of the rounds 1 to n + 2 of a text of n characters is missing and none is settled, and
--- `Memory` only to a text that has a round 1
+-- `Invalid` only where one of the rounds 1 to n + 2 of a text of n characters is missing and none is settled. `Memory`
+-- only to a text that has a round 1: each round is printed into memory, so it may come at any of them.
 abbrev pub IsSettlingFault : Variant → Dating → Text → ParseFault → Type 0
 IsSettlingFault variant dating text Invalid = IsMissing variant dating text (length text + 2)
     × ((u : Text) → IsFirstSettled variant dating text u → ⊥)

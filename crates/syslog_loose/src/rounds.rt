@@ -62,7 +62,8 @@ pub(crate) fn next_round<F: FnOnce(IncompleteDate) -> i32>(
 ) -> Result<bool, ParseFault>
     requires { AnswersEachMonth (F.pre get_year) }
     ensures { InYear (F.post get_year) variant (chars input.entry.now) (λ year. AnswersPass variant
-        (dating_of year tz.entry local.entry) (chars input.entry.now) 5 (string_bytes text.new) result) }
+        (dating_of year tz.entry local.entry) (chars input.entry.now) 5 (chars input.entry.now) (string_bytes text.new)
+        result) }
 {
     let made = visit_line(input, get_year, tz, variant, local, &mut NoElements, text);
     answer(made)
@@ -77,7 +78,7 @@ pub(crate) fn later_round(
 ) -> Result<bool, ParseFault>
     ensures { (dating : AnyDating) (first : Text) (rank : ℕ)
         → ReachesRank variant dating first rank (chars input.entry.now)
-        → AnswersPass variant dating first rank (string_bytes text.new) result }
+        → AnswersPass variant dating first rank (chars input.entry.now) (string_bytes text.new) result }
 {
     let (priority, rest) = optional_priority(trimmed(input));
     let made = visit_undated(priority, rest, variant, &mut NoElements, text);

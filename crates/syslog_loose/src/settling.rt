@@ -4,7 +4,7 @@
 //! more than its text has characters at first: so this ends.
 ghost use Rattle.syslog_loose.specs.Words.{IfOk, string_bytes, chars, Text, Dating, dating_of};
 ghost use Rattle.syslog_loose.specs.Clauses.{IsCanonical, MessageValue, AnswersEachMonth, InYear, IsRead, dash_rule};
-ghost use Rattle.syslog_loose.specs.Clauses.{ReachesRank, Settles, answer_in};
+ghost use Rattle.syslog_loose.specs.Clauses.{PassesLead, ReachesRank, Settles, answer_in};
 
 use crate::fault::ParseFault;
 use crate::rounds::{later_round, next_round};
@@ -31,6 +31,10 @@ pub fn settle<F: FnOnce(IncompleteDate) -> i32>(
     requires { AnswersEachMonth (F.pre get_year) }
     ensures settles { InYear (F.post get_year) variant (chars input.entry.now)
         (λ year. Settles variant (dating_of year tz.entry local.entry) (chars input.entry.now) result) }
+    // At most six passes lead to it.
+    ensures passes { InYear (F.post get_year) variant (chars input.entry.now)
+        (λ year. IfOk result (λ text. PassesLead variant (dating_of year tz.entry local.entry) 6
+        (chars input.entry.now) (chars (string_bytes text)))) }
     // The message of the result meets the written condition.
     ensures canonical { InYear (F.post get_year) variant (chars input.entry.now)
         (λ year. IfOk result (λ text. (m : MessageValue)
@@ -57,6 +61,10 @@ pub fn settle_into<F: FnOnce(IncompleteDate) -> i32>(
     ensures settles { InYear (F.post get_year) variant (chars input.entry.now)
         (λ year. Settles variant (dating_of year tz.entry local.entry) (chars input.entry.now)
         (answer_in result text.new)) }
+    // At most six passes lead to it.
+    ensures passes { InYear (F.post get_year) variant (chars input.entry.now)
+        (λ year. IfOk (answer_in result text.new) (λ answer. PassesLead variant (dating_of year tz.entry local.entry) 6
+        (chars input.entry.now) (chars (string_bytes answer)))) }
     // The message of the result meets the written condition.
     ensures canonical { InYear (F.post get_year) variant (chars input.entry.now)
         (λ year. IfOk (answer_in result text.new) (λ answer. (m : MessageValue)
@@ -73,8 +81,11 @@ pub fn settle_into<F: FnOnce(IncompleteDate) -> i32>(
 // Continues from a round that is not known to be settled, by at most five passes. What is printed shows no month date, so
 // none asks for a year. The two texts are swapped before each pass.
 fn settle_on(alloc: Global, text: &mut String, variant: Variant) -> Result<(), ParseFault>
-    ensures { (dating : Dating) (input : Text) → ReachesRank variant dating input 4 (chars (string_bytes text.old))
+    ensures settles { (dating : Dating) (input : Text) → ReachesRank variant dating input 4 (chars (string_bytes text.old))
         → Settles variant dating input (answer_in result text.new) }
+    ensures passes { (dating : Dating) (input : Text) → ReachesRank variant dating input 4 (chars (string_bytes text.old))
+        → IfOk (answer_in result text.new) (λ answer. PassesLead variant dating 5 (chars (string_bytes text.old))
+        (chars (string_bytes answer))) }
 {
     let mut last = String::new(alloc);
     for done in 0..5_usize {

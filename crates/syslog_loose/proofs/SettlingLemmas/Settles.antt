@@ -28,7 +28,7 @@ use Rattle.syslog_loose.proofs.Rfc3164Lemmas.ReadBack.{body_back, names_back, pr
 use Rattle.syslog_loose.proofs.Rfc3164Lemmas.ReadBack.{to_stamp_back, trimmed_whole}
 use Rattle.syslog_loose.proofs.Rfc3164Lemmas.Near.{read_near}
 use Rattle.syslog_loose.specs.Settling.{SettlesAs, IsSettlingFault, Settles}
-use Rattle.syslog_loose.specs.Passes.{IsAtRest, AnswersPass, WritesRound, round_answer}
+use Rattle.syslog_loose.specs.Passes.{IsAtRest, AnswersPass, PassesLead, WritesRound, round_answer}
 use Rattle.syslog_loose.proofs.ReadBackLemmas.{read_as, read_bounded, printed_exact, fixed_again, read_shows_none}
 use Rattle.syslog_loose.proofs.CanonicalLemmas.{canonical_near, canonical_host, canonical_names, colon_end}
 use Rattle.syslog_loose.proofs.SettlingLemmas.Falls.{falls, same_text, rank_falls, after_space, priority_again}
@@ -272,19 +272,23 @@ module _ (variant : Variant) (dating : Dating) where
       (u : Text) (old new : String Global) (made : Option (Result Bool AllocError)) → Reaches variant dating t n u
       → ((m : MessageValue) → IsRead variant dating u m → HasRank rank m) → Made (λ (_ : String Global) line written
       last. WritesRound line written (string_bytes last)) given variant dating u old before made new after
-      → AnswersPass variant dating t rank (string_bytes new) (round_answer made)
+      → AnswersPass variant dating t rank u (string_bytes new) (round_answer made)
   made_answer given before after t n rank u old new None r ranked (none, _, _) =
       refused t n u Invalid r ((λ e. none), (λ i. refl))
   made_answer given before after t n rank u old new (Some (Err _)) r ranked (line, of, writes, _) = refused t n u Memory
       r ((λ e. absurd (invalid_or_memory e)), (λ i. absurd (i (line_value line) of.only.read)))
   made_answer given before after t n rank u old new (Some (Ok true)) r ranked (line, of, writes, _) =
-      let (next, s) = writes variant dating u of.only.read in settles_after t n u _ r next s
+      let told = writes variant dating u of.only.read in (told, settles_after t n u _ r told.0 told.1)
   made_answer given before after t n zero u old new (Some (Ok false)) r ranked (line, of, writes, _) =
       let told = writes variant dating u of.only.read in absurd (told.odd (ranked told.message told.read))
   made_answer given before after t n (suc k) u old new (Some (Ok false)) r ranked (line, of, writes, _) =
       let told = writes variant dating u of.only.read in
       let (j, more) = reached_further variant dating t n u told.before _ r told.never told.reaches in
-      (k, refl, record { before = j; reaches = more; ranked = λ m s. told.lower k m s (ranked told.message told.read) })
+      (told, (k, refl, record {
+        before = j;
+        reaches = more;
+        ranked = λ m s. told.lower k m s (ranked told.message told.read);
+      }))
 
   -- what is printed of a text shows no month date, so that none is after its priority
   pub without_date : (t : Text) (n : ℕ) (u : Text) {follows : Text} {p : Option ℕ} → Reaches variant dating t (suc n) u
@@ -293,6 +297,24 @@ module _ (variant : Variant) (dating : Dating) where
       let (before, round, h) = r.round in
       read_shows_none variant dating before h.message h.read date (subst (λ (x : Text). ShowsMonthDate x date)
       h.is_printed (shows month_date f gap (record { piece = p; whole = whole; is = is })))
+
+  -- the last pass, and one before others
+  pub last_pass : (n : ℕ) (text u : Text) → IsToldRound variant dating text u true
+      → PassesLead variant dating (suc n) text u
+  unfolding PassesLead
+  last_pass n text u told = inl told
+
+  pub pass_before : (n : ℕ) (text later u : Text) → IsToldRound variant dating text later false
+      → PassesLead variant dating n later u → PassesLead variant dating (suc n) text u
+  unfolding PassesLead
+  pass_before n text later u told more = inr (later, told, more)
+
+  pub passes_on : (n : ℕ) (text later : Text) (result : Result (String Global) ParseFault)
+      → IsToldRound variant dating text later false
+      → IfOk result (λ u. PassesLead variant dating n later (chars (string_bytes u)))
+      → IfOk result (λ u. PassesLead variant dating (suc n) text (chars (string_bytes u)))
+  passes_on n text later (Ok u) told more = pass_before n text later (chars (string_bytes u)) told more
+  passes_on n text later (Err fault) told more = tt
 
   -- the message of a settled text is canonical
   pub answer_canonical : (text : Text) (result : Result (String Global) ParseFault)
