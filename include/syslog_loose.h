@@ -154,13 +154,14 @@ uint32_t syslog_settle(const char *line, size_t length, const struct syslog_opti
                        size_t room_length, size_t *needed);
 
 /* The line as strict RFC 5424: unchanged if it is in the RFC's grammar, and otherwise its message, converted field by
- * field. The text is in the grammar, and its message is the converted one. It may be longer than the line. */
+ * field. The text is in the grammar; of a converted line, it is read back as the converted message. It may be longer than
+ * the line. */
 uint32_t syslog_to_rfc5424(const char *line, size_t length, const struct syslog_options *options, char *room,
                            size_t room_length, size_t *needed);
 
 /* The line's message as one JSON object, as the program syslog_json writes it, without the line feed after it. If raw is
- * not 0, the key "raw" has the line itself. No control character is in an object. A line that is no message has none
- * here, where the program writes one with the key "refused". */
+ * not 0, the key "raw" has the line itself. No byte below 32 is in an object. A line that is no message has none here,
+ * where the program writes one with the key "refused". */
 uint32_t syslog_json(const char *line, size_t length, const struct syslog_options *options, uint32_t raw, char *room,
                      size_t room_length, size_t *needed);
 

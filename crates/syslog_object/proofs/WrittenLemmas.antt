@@ -1,4 +1,4 @@
--- The text of a value is what `json` prints and reads back, with small numbers and no control character.
+-- The text of a value is what `json` prints and reads back, with small numbers and no byte below 32.
 use Rattle.syslog_object.proofs.Names.{append_assoc, nat_lt, ElementValue, MessageValue, compact_text, structured_json}
 use Rattle.syslog_object.proofs.Names.{append-nil, cases_Bool, element_json, element_pair, message_json, version_json}
 use Rattle.syslog_object.proofs.Names.{bytes_eq, option_map, items_text, first_keys, one_or_all, values_at, param_pair}
@@ -84,7 +84,7 @@ pub printed : (j : Json) → compact_text j ≡ print (json_tokens j)
 unfolding print_from
 printed j = sym (ap print (sym (append-nil (json_tokens j))) ∙ print_value false j [] ∙ append-nil (compact_text j))
 
--- ---- the text of a value has no control character
+-- ---- the text of a value has no byte below 32
 abbrev pub Printable : List ℕ → Type 0
 Printable bytes = AllByRecursion (λ byte. 32 ≤ byte) bytes
 
