@@ -1,0 +1,140 @@
+//! The calls, as a row makes them.
+use crate::setting::Setting;
+use std::alloc::{AllocError, Global};
+use std::io;
+use syslog_loose::{
+    IncompleteDate, Message, ParseFault, TimeZone, Variant, normalise, parse_line,
+    parse_message_with_year, parse_message_with_year_exact, parse_message_with_year_exact_tz,
+    parse_message_with_year_tz, settle,
+};
+use syslog_object::{push_object, push_refused};
+use syslog_strict::to_rfc5424;
+
+/// A text and how it is read.
+#[derive(Clone, Copy)]
+pub struct Row<'a> {
+    pub text: &'a str,
+    pub setting: &'a Setting,
+}
+
+/// What is answered, or nothing for `Invalid`.
+pub fn or_none<T: Drop>(answer: Result<T, ParseFault>) -> io::Result<Option<T>> {
+    match answer {
+        Ok(value) => Ok(Some(value)),
+        Err(ParseFault::Invalid) => Ok(None),
+        Err(ParseFault::Memory) => Err(io::Error::from(io::ErrorKind::OutOfMemory)),
+    }
+}
+
+impl<'a> Row<'a> {
+    pub fn tz(&self) -> Option<&'a TimeZone<'static>> {
+        self.setting.tz.as_ref()
+    }
+
+    /// By `parse_message_with_year_exact_tz`.
+    pub fn exact(&self, alloc: Global, variant: Variant) -> Result<Message<&'a str>, ParseFault> {
+        let setting = self.setting;
+        let year = |date: IncompleteDate| setting.year_of(date);
+        parse_message_with_year_exact_tz(alloc, self.text, year, self.tz(), variant, &setting.local)
+    }
+
+    /// By `parse_message_with_year_tz`.
+    pub fn plain(&self, alloc: Global) -> Result<Message<&'a str>, AllocError> {
+        let setting = self.setting;
+        let year = |date: IncompleteDate| setting.year_of(date);
+        parse_message_with_year_tz(
+            alloc,
+            self.text,
+            year,
+            self.tz(),
+            setting.variant,
+            &setting.local,
+        )
+    }
+
+    /// By `parse_message_with_year_exact`, which has no zone.
+    pub fn exact_local(&self, alloc: Global) -> Result<Message<&'a str>, ParseFault> {
+        let setting = self.setting;
+        let year = |date: IncompleteDate| setting.year_of(date);
+        parse_message_with_year_exact(alloc, self.text, year, setting.variant, &setting.local)
+    }
+
+    /// By `parse_message_with_year`, which has none either.
+    pub fn plain_local(&self, alloc: Global) -> Result<Message<&'a str>, AllocError> {
+        let setting = self.setting;
+        let year = |date: IncompleteDate| setting.year_of(date);
+        parse_message_with_year(alloc, self.text, year, setting.variant, &setting.local)
+    }
+
+    /// The date for which the year is asked.
+    pub fn asked(&self, alloc: Global) -> Option<IncompleteDate> {
+        let setting = self.setting;
+        let mut asked = None;
+        let year = |date: IncompleteDate| {
+            asked = Some(date);
+            setting.year_of(date)
+        };
+        let _ = normalise(
+            alloc,
+            self.text,
+            year,
+            self.tz(),
+            setting.variant,
+            &setting.local,
+        );
+        asked
+    }
+
+    /// The text once more, read and printed.
+    pub fn normalised(&self, alloc: Global, text: &str) -> Result<String, ParseFault> {
+        let setting = self.setting;
+        let year = |date: IncompleteDate| setting.year_of(date);
+        normalise(
+            alloc,
+            text,
+            year,
+            self.tz(),
+            setting.variant,
+            &setting.local,
+        )
+    }
+
+    pub fn settled(&self, alloc: Global) -> Result<String, ParseFault> {
+        let setting = self.setting;
+        let year = |date: IncompleteDate| setting.year_of(date);
+        settle(
+            alloc,
+            self.text,
+            year,
+            self.tz(),
+            setting.variant,
+            &setting.local,
+        )
+    }
+
+    pub fn strict(&self, alloc: Global) -> Result<String, ParseFault> {
+        let setting = self.setting;
+        let year = |date: IncompleteDate| setting.year_of(date);
+        to_rfc5424(
+            alloc,
+            self.text,
+            year,
+            self.tz(),
+            setting.variant,
+            &setting.local,
+        )
+    }
+
+    /// The object of the line in JSON.
+    pub fn object(&self, alloc: Global) -> Result<Vec<u8>, AllocError> {
+        let setting = self.setting;
+        let year = |date: IncompleteDate| setting.year_of(date);
+        let line = parse_line(self.text, year, self.tz(), setting.variant, &setting.local);
+        let mut out = Vec::new(alloc);
+        match line {
+            Some(line) => push_object(alloc, &mut out, &line, None)?,
+            None => push_refused(&mut out, self.text)?,
+        }
+        Ok(out)
+    }
+}

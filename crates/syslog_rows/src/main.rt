@@ -1,0 +1,83 @@
+//! Reads blocks of rows from standard input, and writes each with what comes of it to standard output: the fields of the
+//! message, and what the other calls make of the text. README.md beside this says how both are written.
+#![tactic(auto)]
+
+mod block;
+mod built;
+mod calls;
+mod fields;
+mod lists;
+mod piece;
+mod row;
+mod setting;
+mod shown;
+
+use block::{Block, block_of, parts};
+use built::write_built;
+use calls::Row;
+use piece::{Front, write_piece};
+use row::write_row;
+use setting::{Setting, setting_of};
+use std::alloc::Global;
+use std::io;
+use std::io::{BufWriter, Write};
+use std::process::ExitCode;
+
+/// A row that can't be read ends the run.
+pub fn bad_row() -> io::Error {
+    io::Error::from(io::ErrorKind::InvalidInput)
+}
+
+// What comes of the text that a line's value stands for.
+fn write_answer<W: Write>(
+    alloc: Global,
+    out: &mut W,
+    block: &Block<'_>,
+    setting: &Setting,
+    value: &str,
+) -> io::Result<()> {
+    let text = block.text_of(alloc, value)?;
+    let text = text.as_str();
+    let filling = block.filling.as_str();
+    match block.line("piece") {
+        Some(piece) => write_piece(alloc, out, piece, Front { text, filling }, setting),
+        None => write_row(alloc, out, Row { text, setting }, filling),
+    }
+}
+
+// The lines of the block, below each text what comes of it; and below a message what comes of that.
+fn write_block<W: Write>(alloc: Global, out: &mut W, block: &Block<'_>) -> io::Result<()> {
+    let Some(setting) = setting_of(block) else {
+        return Err(bad_row());
+    };
+    for line in block.text.lines() {
+        writeln!(out, "{line}")?;
+        if let ("text", value) = parts(line) {
+            write_answer(alloc, out, block, &setting, value)?;
+        }
+    }
+    if block.line("protocol").is_some() {
+        return write_built(alloc, out, block, &setting);
+    }
+    Ok(())
+}
+
+fn write_blocks(rt: &HostRuntime) -> io::Result<()> {
+    let text = io::read_to_string(rt.alloc(), rt.stdin())?;
+    let mut out = BufWriter::new(rt.alloc(), rt.stdout())?;
+    for (index, text) in text.as_str().split("\n\n").enumerate() {
+        if index > 0 {
+            writeln!(out)?;
+        }
+        let block = block_of(rt.alloc(), text)?;
+        write_block(rt.alloc(), &mut out, &block)?;
+    }
+    out.flush()
+}
+
+fn main(rt: HostRuntime) -> ExitCode {
+    match write_blocks(&rt) {
+        Ok(()) => ExitCode::SUCCESS,
+        Err(_) => ExitCode::FAILURE,
+    }
+}
