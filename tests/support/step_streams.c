@@ -1,6 +1,6 @@
 /* Loaded into a program by LD_PRELOAD, it gives at most READ_STEP bytes of the standard input at a read, and takes at most
-   WRITE_STEP bytes for the standard output at a write. The read whose number is WRONG_READ fails, from 1 on; so does
-   the write whose number is WRONG_WRITE, and with TAKES_NOTHING that takes nothing instead. At the program's end it
+   WRITE_STEP bytes for the standard output or the standard error at a write. The read whose number is WRONG_READ fails, from
+   1 on; so does the write to the standard output whose number is WRONG_WRITE, and with TAKES_NOTHING that takes nothing. At the program's end it
    writes to the file descriptor STREAMS_TELL how many reads and writes there were, and how many writes for the standard error. */
 #include <errno.h>
 #include <stdio.h>
@@ -35,11 +35,11 @@ ssize_t read(int from, void *to, size_t size) {
 
 ssize_t write(int to, const void *from, size_t size) {
     messages += to == STDERR_FILENO;
-    if (to != STDOUT_FILENO)
-        return syscall(SYS_write, to, from, size);
-    if (++writes == number("WRONG_WRITE"))
+    if (to == STDOUT_FILENO && ++writes == number("WRONG_WRITE"))
         return getenv("TAKES_NOTHING") ? 0 : failed();
-    return syscall(SYS_write, to, from, at_most(size, number("WRITE_STEP")));
+    if (to == STDOUT_FILENO || to == STDERR_FILENO)
+        size = at_most(size, number("WRITE_STEP"));
+    return syscall(SYS_write, to, from, size);
 }
 
 /* So libc's own name of it does. */

@@ -1,9 +1,10 @@
 -- What the call wrote for a line, by the dating of the line.
 use Rattle.std.proofs.Common.{◌≡◌, ◌⊎◌, inl, inr, ℤ, Result, Ok, Err, refl, sym, ◌∙◌}
-use Rattle.std.specs.Prelude.{MatchResult}
+use Rattle.std.specs.Prelude.{◌↔◌, MatchResult}
 use Rattle.syslog_pieces.specs.Pieces.Class.{Text}
 use Rattle.jiff.specs.Words.{plain_zone}
-use Rattle.syslog_loose.specs.Reading.{InYear, IncompleteDate}
+use Rattle.syslog_loose.specs.Reading.{InYear, IncompleteDate, IsUnreadable}
+use Rattle.syslog_loose.proofs.ReckoningLemmas.{one_dating}
 use Rattle.syslog_loose.specs.Reckoning.{dating_in, reckoned_year}
 use Rattle.syslog_loose.specs.declared.fault.ParseFault.{ParseFault}
 use Rattle.syslog_loose.specs.declared.fault.ParseFault.TheVariants.{Invalid}
@@ -23,16 +24,34 @@ strict_dated options input text h = (h.holds h.answered (λ date asks. refl)).st
 not_strict : (options : Options) (input : Text) → IsDated options input (λ dating. NoSyslogMsg input) → NoSyslogMsg input
 not_strict options input h = h.holds h.answered (λ date asks. refl)
 
+-- a text that is written is not refused
+pub written_not_refused : (options : Options) (input text : Text) → IsWritten options input text
+    → IsRefused options input → ⊥
+written_not_refused options input text (inl (valid, same)) refused = refused.0 valid
+written_not_refused options input text (inr (other, converted)) refused =
+    let (dating, is, none) =
+    one_dating {Holds = λ d. IsConvertedText Either d input text} {More = λ d. IsUnreadable Either d input} options.year
+    options.month (plain_zone options.zone) Either input converted refused.1 in none is.message is.read.read
+
 pub told : (options : Options) (input text : Text) (r : Result (Unit {0}) ParseFault)
     → Copies input r text ⊎ IsDated options input (λ dating. Converts Either dating input r text)
-    → MatchResult r (λ _. IsSyslogMsg text × IsWritten options input text) (λ fault. fault ≡ Invalid → IsRefused options input)
+    → MatchResult r (λ _. IsSyslogMsg text × IsWritten options input text)
+    (λ fault. (fault ≡ Invalid) ↔ IsRefused options input)
 told options input text (Ok x) (inl (valid, e)) = (rw e valid, inl (valid, e))
 told options input text (Ok x) (inr h) =
     let converted = in_year_map (λ year is. is.1) h in
     (strict_dated options input text converted, inr (not_strict options input (in_year_map (λ year is. is.0) h), converted))
-told options input text (Err fault) (inl (valid, memory)) = λ invalid. absurd (invalid_or_memory (sym memory ∙ invalid))
-told options input text (Err fault) (inr h) =
-    λ e. (not_strict options input (in_year_map (λ year is. is.0) h), in_year_map (λ year is. is.1.0 e) h)
+told options input text (Err fault) (inl (valid, memory)) = (
+  λ invalid. absurd (invalid_or_memory (sym memory ∙ invalid)),
+  λ refused. absurd (refused.0 valid),
+)
+told options input text (Err fault) (inr h) = (
+  λ e. (not_strict options input (in_year_map (λ year is. is.0) h), in_year_map (λ year is. is.1.0 e) h),
+  λ refused.
+      let (dating, is, none) =
+      one_dating {Holds = λ d. Converts Either d input (Err fault) text} {More = λ d. IsUnreadable Either d input}
+      options.year options.month (plain_zone options.zone) Either input h refused.1 in is.1.1 none,
+)
 
 pub told_copied : (post : IncompleteDate → ℤ → Type 0) (options : Options) (input text : Text) (r : Result (Unit {0}) ParseFault)
     → Copies input r text ⊎ InYear post Either input (λ year. Converts Either (dating_in (plain_zone options.zone) year) input r text)

@@ -1,5 +1,5 @@
 -- What is written for each line: this project's own choice.
-use Rattle.std.specs.Prelude.{◌≡◌, ◌⊎◌, ⊤, ℕ, List, Option, length, count_by, IsUtf8, encode_utf8_all}
+use Rattle.std.specs.Prelude.{◌≡◌, ◌⊎◌, ℕ, List, Option, length, count_by, IsUtf8, encode_utf8_all}
 use Rattle.std.specs.Str.{chars}
 use Rattle.jiff.specs.Words.{plain_zone}
 use Rattle.syslog_pieces.specs.Pieces.Class.{Text}
@@ -36,9 +36,12 @@ IsConversion options line (Marked bytes) = ⊥
 IsConversion options line Omitted =
     IsUtf8 line → IsRefused options (chars line)
 
--- memory may be wanted for any line
+-- memory may be wanted for a line that is in the grammar or parses
 abbrev pub conversions : Options → Filter
-conversions options = record { Answers = IsConversion options; Wants = λ line. ⊤ }
+conversions options = record {
+  Answers = IsConversion options;
+  Wants = λ line. IsUtf8 line × (¬ (IsRefused options (chars line)));
+}
 
 -- all was read, each line that is in the grammar or parses was written, and the summary counts the lines and those that
 -- were not

@@ -1,5 +1,5 @@
 //! The filter that writes each line as RFC 5424.
-ghost use Rattle.std.specs.Prelude.{◌≡◌, false, IfErr, IfOk, MatchResult};
+ghost use Rattle.std.specs.Prelude.{◌≡◌, ◌↔◌, false, IfErr, IfOk, MatchResult};
 ghost use Rattle.std.specs.Str.{chars};
 ghost use Rattle.jiff.specs.Words.{IsYear};
 ghost use Rattle.syslog_loose.specs.Reckoning.{reckoned_year};
@@ -62,7 +62,7 @@ impl Conversions {
     fn convert_line(&self, alloc: Global, line: &str, text: &mut String) -> Result<(), ParseFault>
         ensures { MatchResult result
             (λ _. IsSyslogMsg (text_in text.new) × IsWritten self.now.options (chars line.now) (text_in text.new))
-            (λ fault. fault ≡ Invalid → IsRefused self.now.options (chars line.now)) }
+            (λ fault. (fault ≡ Invalid) ↔ IsRefused self.now.options (chars line.now)) }
     {
         let year = self.options.year;
         let month = self.options.month;

@@ -1,9 +1,11 @@
 -- A line that is put together without memory.
 use Rattle.syslog_command_line.proofs.Names.{ℕ, true, List, ◌++◌, append-nil, append_assoc, subst, Option, Result, inline_text}
-use Rattle.syslog_command_line.proofs.Names.{◌≡◌, [], ◌∷◌, ap, sym, ◌∙◌, Ok, Err}
+use Rattle.syslog_command_line.proofs.Names.{◌≡◌, [], ◌∷◌, ◌≤◌, length, rules, arith, ap, sym, ◌∙◌, Ok, Err}
+use Rattle.std.proofs.Common.{◌+◌}
 use Rattle.std.{proofs.Common.OnOk, specs.List.FoldsTo, specs.List.concat, specs.declared.fmt.InlineText.InlineText}
 use Rattle.std.{specs.Fmt.InlineText.AppendsIfIntact, specs.Fmt.InlineText.IsIntact, specs.Fmt.WritesInCalls}
 use Rattle.std.specs.Result.{is_ok}
+use Rattle.std.{proofs.lemmas.List.length-append, specs.Fmt.Cut.cut_to}
 use Rattle.syslog_command_line.specs.Report.{WritesFront}
 
 module _ {n : ℕ} where
@@ -30,3 +32,24 @@ module _ {n : ℕ} where
 pub WritesFront-same : (before after : Option (List ℕ)) (text whole : List ℕ) → text ≡ whole
     → WritesFront before after text → WritesFront before after whole
 WritesFront-same before after text whole same front = rw same at front
+
+-- a text that has room is not cut
+cut_fits : (n : ℕ) (text : List ℕ) → length text ≤ n → cut_to n text ≡ text
+unfolding cut_to
+cut_fits n text fits = search rules
+
+-- four parts that fit together, one after the other
+pub four_parts : (n : ℕ) (a b c d first second third all : List ℕ) → first ≡ cut_to n a
+    → second ≡ cut_to n (first ++ b) → third ≡ cut_to n (second ++ c) → all ≡ cut_to n (third ++ d)
+    → length (a ++ (b ++ (c ++ d))) ≤ n → all ≡ a ++ (b ++ (c ++ d))
+four_parts n a b c d first second third all one two three four fits =
+    let sum : length a + (length b + (length c + length d)) ≤ n =
+    rw (length-append a (b ++ (c ++ d)), length-append b (c ++ d), length-append c d) at fits in
+    let begun : first ≡ a = one ∙ cut_fits n a (omega (arith, sum)) in
+    let more : second ≡ a ++ b =
+    (rw begun at two) ∙ cut_fits n (a ++ b) (rw (length-append a b) (omega (arith, sum))) in
+    let most : third ≡ (a ++ b) ++ c = (rw more at three) ∙ cut_fits n ((a ++ b) ++ c)
+    (rw (length-append (a ++ b) c, length-append a b) (omega (arith, sum))) in
+    let whole : all ≡ ((a ++ b) ++ c) ++ d = (rw most at four) ∙ cut_fits n (((a ++ b) ++ c) ++ d)
+    (rw (length-append ((a ++ b) ++ c) d, length-append (a ++ b) c, length-append a b) (omega (arith, sum))) in
+    whole ∙ append_assoc (a ++ b) c d ∙ append_assoc a b (c ++ d)

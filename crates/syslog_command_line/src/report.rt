@@ -1,12 +1,13 @@
 //! What the programs say: at their end on standard error, and of themselves where they are asked. The first write is
 //! passed the whole of a message, so that those of filters that run side by side don't mix.
-ghost use Rattle.std.specs.Prelude.{◌≡◌, ◌==◌, ◌⊎◌, if◌then◌else◌, [], codes, OnOk};
-ghost use Rattle.std.specs.Io.KnownBytes.{Appends};
-ghost use Rattle.syslog_command_line.specs.Report.{WritesFront, count_line, fault_line, said_of, status_of};
+ghost use Rattle.std.specs.Prelude.{◌≡◌, ◌==◌, ◌≤◌, if◌then◌else◌, false, [], codes, length};
+ghost use Rattle.syslog_command_line.specs.Report.{WritesFront, WritesUnlessFailed, count_line, fault_line, said_of};
+ghost use Rattle.syslog_command_line.specs.Report.{status_of, version_line};
+ghost use Rattle.syslog_lines.specs.declared.summary.RunFault.TheVariants.{Write};
 
 use std::fmt::{InlineText, Write as WriteText};
 use std::io::Write;
-use syslog_lines::{RunFault, Summary};
+use syslog_lines::{RunFault, Summary, Watched};
 
 /// More bytes than a line of counts or of a version has, which is put together without memory.
 const LINE: usize = 128;
@@ -26,27 +27,38 @@ pub fn report<W: Write>(outcome: &Result<Summary, RunFault>, errors: &mut W) -> 
 
 /// Writes a text that was asked for to `out`, and returns the exit status 0. If that failed, writes the fault's text to
 /// `errors`, and returns 2.
-pub fn say<W: Write, E: Write>(text: &str, out: &mut W, errors: &mut E) -> u8
-    ensures status { (result ≡ 0) ⊎ (result ≡ 2) }
-    ensures said { WritesFront (W.contents out.old) (W.contents out.new) text.now }
-    ensures whole { result ≡ 0 → Appends (W.contents out.old) (W.contents out.new) text.now }
+pub fn say<W: Write, E: Write>(text: &str, out: &mut Watched<W>, errors: &mut E) -> u8
+    requires { out.old.failed ≡ false }
+    ensures status { result ≡ (if out.new.failed then 2 else 0) }
+    ensures said { WritesUnlessFailed (W.contents out.old.inner) (W.contents out.new.inner) out.new.failed text.now }
+    ensures fault { WritesFront (E.contents errors.old) (E.contents errors.new)
+        (if out.new.failed then fault_line Write else []) }
 {
-    match write_text(text, out) {
+    match out.write_whole(text.as_bytes()) {
         Ok(()) => 0,
         Err(fault) => report_fault(fault, errors),
     }
 }
 
-/// Writes a program's name and its version as one line to `out`, and returns the exit status as `say` does.
+/// Writes a program's name and its version as one line of up to 128 bytes to `out`, and returns the exit status as
+/// `say` does. A longer line is cut.
 pub fn say_version<W: Write, E: Write>(
     program: &str,
     version: &str,
-    out: &mut W,
+    out: &mut Watched<W>,
     errors: &mut E,
 ) -> u8
-    ensures { (result ≡ 0) ⊎ (result ≡ 2) }
+    requires { out.old.failed ≡ false }
+    ensures status { result ≡ (if out.new.failed then 2 else 0) }
+    ensures said { length (version_line program.now version.now) ≤ LINE
+        → WritesUnlessFailed (W.contents out.old.inner) (W.contents out.new.inner) out.new.failed
+        (version_line program.now version.now) }
 {
-    let line = InlineText::<LINE>::of(format_args!("{program} {version}\n"));
+    let line = InlineText::<LINE>::new()
+        .and_str(program, LINE)
+        .and_str(" ", LINE)
+        .and_str(version, LINE)
+        .and_str("\n", LINE);
     say(line.as_str(), out, errors)
 }
 
@@ -55,7 +67,7 @@ pub fn refuse<W: Write>(usage: &str, errors: &mut W) -> u8
     ensures status { result ≡ 2 }
     ensures said { WritesFront (W.contents errors.old) (W.contents errors.new) usage.now }
 {
-    let _ = write_text(usage, errors);
+    write_text(usage, errors);
     2
 }
 
@@ -71,7 +83,7 @@ pub fn report_count<W: Write>(what: &str, count: u64, lines: u64, errors: &mut W
     }
     let mut line = InlineText::<LINE>::new();
     if writeln!(line, "{what} {count} of {lines} lines").is_ok() {
-        let _ = write_text(line.as_str(), errors);
+        write_text(line.as_str(), errors);
     }
     1
 }
@@ -86,21 +98,19 @@ pub fn report_fault<W: Write>(fault: RunFault, errors: &mut W) -> u8
         RunFault::Write => "write failed\n",
         RunFault::Memory => "out of memory\n",
     };
-    let _ = write_text(line, errors);
+    write_text(line, errors);
     2
 }
 
-// Writes a text, or a front of it if a write fails or takes nothing.
-fn write_text<W: Write>(text: &str, out: &mut W) -> Result<(), RunFault>
-    ensures front { WritesFront (W.contents out.old) (W.contents out.new) text.now }
-    ensures ok { OnOk result (Appends (W.contents out.old) (W.contents out.new) text.now) }
+// Writes a text to the standard error, or a front of it if a write fails or takes nothing: no stream is left to say so.
+fn write_text<W: Write>(text: &str, errors: &mut W)
+    ensures { WritesFront (W.contents errors.old) (W.contents errors.new) text.now }
 {
     let mut rest = text.as_bytes();
     while !rest.is_empty() {
-        match out.write(rest) {
+        match errors.write(rest) {
             Ok(count) if count > 0 => rest = &rest[count..],
-            _ => return Err(RunFault::Write),
+            _ => return,
         }
     }
-    Ok(())
 }

@@ -1,8 +1,9 @@
 //! The words that a filter with dates is called with.
 ghost use Rattle.std.specs.Prelude.{◌≡◌, ◌↔◌, ◌++◌, ◌∷◌, [], Bool, IfErr, IfOk, IsTrue, List, MatchOption, MatchResult};
-ghost use Rattle.std.specs.Prelude.{Option, ℕ, ℤ, drop};
+ghost use Rattle.std.specs.Prelude.{Option, ℕ, ℤ, drop, string_bytes};
 ghost use Rattle.std.specs.Vec.Iter.{into_iter_items};
 ghost use Rattle.syslog_command_line.specs.Arguments.{NamesDate, NamesOffset};
+ghost use Rattle.syslog_command_line.specs.Report.{IsReason, IsRefusal, WritesFront};
 ghost use Rattle.syslog_command_line.specs.Words.{AreDateWords, AskForLines, AsksFor, IsAmong, IsOffsetFlag, offset_word};
 ghost use Rattle.syslog_command_line.specs.Words.{raw_flag, raw_word, texts};
 ghost use Rattle.syslog_command_line.specs.declared.dates.Dates.{Dates};
@@ -189,22 +190,39 @@ fn after_name(alloc: Global, mut words: Args) -> Result<Vec<String>, AllocError>
 }
 
 /// Writes the usage line, and one more that says what is wrong with the words, and returns the exit status 2. A word
-/// that names a file gets a hint, since a filter reads its standard input alone. A failed write is passed over.
+/// that names a file gets a hint, since a filter reads its standard input alone. If an allocation fails, the usage line
+/// is written alone. A failed write is passed over.
 pub fn refuse_words<W: Write>(rt: &HostRuntime, usage: &str, wrong: Wrong<'_>, errors: &mut W) -> u8
-    ensures { result ≡ 2 }
+    ensures status { result ≡ 2 }
+    ensures said { (text : List ℕ) × IsRefusal usage.now wrong.entry text
+        × WritesFront (W.contents errors.old) (W.contents errors.new) text }
+{
+    match refusal(rt, usage, wrong) {
+        Ok(text) => refuse(text.as_str(), errors),
+        Err(_) => refuse(usage, errors),
+    }
+}
+
+// Returns the usage line, and the line that says what is wrong with the words.
+fn refusal(rt: &HostRuntime, usage: &str, wrong: Wrong<'_>) -> Result<String, AllocError>
+    ensures { IfOk result (λ text. IsRefusal usage.now wrong.entry (string_bytes text)) }
+{
+    let reason = describe(rt, wrong)?;
+    format!(in rt.alloc(); "{usage}{reason}")
+}
+
+// Returns the line that says what is wrong with the words.
+fn describe(rt: &HostRuntime, wrong: Wrong<'_>) -> Result<String, AllocError>
+    ensures { IfOk result (λ line. IsReason wrong.entry (string_bytes line)) }
 {
     let alloc = rt.alloc();
-    let line = match wrong {
+    match wrong {
         Wrong::Word(word) if is_file(rt, word) => {
-            format!(in alloc; "{usage}wrong word: {word:?}; to read this file: < {word:?}\n")
+            format!(in alloc; "wrong word: {word:?}; to read this file: < {word:?}\n")
         }
-        Wrong::Word(word) => format!(in alloc; "{usage}wrong word: {word:?}\n"),
-        Wrong::Missing => format!(in alloc; "{usage}YEAR is missing\n"),
-        Wrong::Unreadable => format!(in alloc; "{usage}a word is not UTF-8, or out of memory\n"),
-    };
-    match line {
-        Ok(line) => refuse(line.as_str(), errors),
-        Err(_) => refuse(usage, errors),
+        Wrong::Word(word) => format!(in alloc; "wrong word: {word:?}\n"),
+        Wrong::Missing => format!(in alloc; "YEAR is missing\n"),
+        Wrong::Unreadable => format!(in alloc; "a word is not UTF-8, or out of memory\n"),
     }
 }
 

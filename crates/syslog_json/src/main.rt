@@ -30,7 +30,7 @@ fn answer_input(rt: &HostRuntime, options: Options) -> u8 {
 
 // Does what is asked for, and then returns the exit status.
 fn answer(rt: &HostRuntime, task: Result<Task, Wrong<'_>>) -> u8 {
-    let mut out = rt.stdout();
+    let mut out = Watched::new(rt.stdout());
     let mut errors = rt.stderr();
     match task {
         Ok(Task::Help) => say(HELP, &mut out, &mut errors),

@@ -1,9 +1,7 @@
 //! From a reader to a writer, through a filter.
-ghost use Rattle.std.specs.Prelude.{◌≡◌, ℕ, false, true, IfOk, IfErr, OnOk, OnErr, take};
-ghost use Rattle.std.specs.Io.KnownBytes.{Appends};
+ghost use Rattle.std.specs.Prelude.{◌≡◌, false, IfOk, IfErr, OnOk};
 ghost use Rattle.syslog_lines.specs.Pump.{EndsEarly, FailedAs, PumpsAll};
 ghost use Rattle.syslog_lines.specs.Write.{AnswersAll, WritesFirst};
-ghost use Rattle.syslog_lines.specs.declared.summary.RunFault.TheVariants.{Write};
 
 use crate::answer::answer_lines;
 use crate::block::Block;
@@ -86,26 +84,7 @@ fn write_answers<F: LineFilter, W: Write>(
 {
     output.clear();
     let answered = answer_lines(alloc, filter, lines, text, output, tally);
-    write_whole(writer, output)?;
+    writer.write_whole(output)?;
     answered?;
-    Ok(())
-}
-
-// Writes all of the bytes, or a beginning of them.
-fn write_whole<W: Write>(writer: &mut Watched<W>, bytes: &[u8]) -> Result<(), RunFault>
-    requires { writer.old.failed ≡ false }
-    ensures ok { OnOk result (Appends (W.contents writer.old.inner) (W.contents writer.new.inner) bytes.now) }
-    ensures well { OnOk result (writer.new.failed ≡ false) }
-    ensures fault { IfErr result (λ fault. (fault ≡ Write) × (writer.new.failed ≡ true)) }
-    ensures err { OnErr result ((size : ℕ)
-        × Appends (W.contents writer.old.inner) (W.contents writer.new.inner) (take size bytes.now)) }
-{
-    let mut rest = bytes;
-    while !rest.is_empty() {
-        match writer.write(rest) {
-            Ok(count) => rest = &rest[count..],
-            Err(_) => return Err(RunFault::Write),
-        }
-    }
     Ok(())
 }

@@ -1,8 +1,10 @@
 //! A reader or a writer, how often it was read, and whether a call of it failed.
-ghost use Rattle.std.specs.Prelude.{◌≡◌, ◌+◌, ◌<◌, false, true, IsErr, OnOk, OnErr, IfOk, length};
+ghost use Rattle.std.specs.Prelude.{◌≡◌, ◌+◌, ◌<◌, ℕ, false, true, IsErr, OnOk, OnErr, IfOk, IfErr, length, take};
 ghost use Rattle.std.specs.Io.{ReadsAtMost, WritesAtMost};
-ghost use Rattle.std.specs.Io.KnownBytes.{Keeps, ReadConsumes, WriteAppends};
+ghost use Rattle.std.specs.Io.KnownBytes.{Appends, Keeps, ReadConsumes, WriteAppends};
+ghost use Rattle.syslog_lines.specs.declared.summary.RunFault.TheVariants.{Write};
 
+use crate::summary::RunFault;
 use std::io;
 use std::io::{Error, ErrorKind, Read, Write};
 
@@ -29,6 +31,27 @@ impl<T> Watched<T> {
             calls: 0,
             failed: false,
         }
+    }
+}
+
+impl<W: Write> Watched<W> {
+    /// Writes all of the bytes, or a beginning of them if a write fails.
+    pub fn write_whole(&mut self, bytes: &[u8]) -> Result<(), RunFault>
+        requires { self.old.failed ≡ false }
+        ensures ok { OnOk result (Appends (W.contents self.old.inner) (W.contents self.new.inner) bytes.now) }
+        ensures well { OnOk result (self.new.failed ≡ false) }
+        ensures fault { IfErr result (λ fault. (fault ≡ Write) × (self.new.failed ≡ true)) }
+        ensures err { OnErr result ((size : ℕ)
+            × Appends (W.contents self.old.inner) (W.contents self.new.inner) (take size bytes.now)) }
+    {
+        let mut rest = bytes;
+        while !rest.is_empty() {
+            match self.write(rest) {
+                Ok(count) => rest = &rest[count..],
+                Err(_) => return Err(RunFault::Write),
+            }
+        }
+        Ok(())
     }
 }
 

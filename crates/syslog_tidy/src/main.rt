@@ -44,7 +44,7 @@ fn answer_input(rt: &HostRuntime, output: Output, year: i32) -> u8 {
 }
 
 fn main(rt: HostRuntime) -> ExitCode {
-    let mut out = rt.stdout();
+    let mut out = Watched::new(rt.stdout());
     let mut errors = rt.stderr();
     let status = match arguments(&rt) {
         Some(Task::Lines(output, year)) => answer_input(&rt, output, year),

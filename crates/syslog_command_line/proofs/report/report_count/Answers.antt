@@ -10,4 +10,4 @@ returns-then-is_ok-clause-said g c =
     put_together c.writeln.result _ _ _ c.if-is_ok.ensures.value c.writeln.ensures.writes
     c.new-line.ensures.intact c.new-line.ensures.text in
     let some : (c.args.count == 0) ≡ false = search rules in
-    rw some (WritesFront-same _ _ _ _ (c.as_str.ensures.value ∙ whole) c.write_text.ensures.front)
+    rw some (WritesFront-same _ _ _ _ (c.as_str.ensures.value ∙ whole) c.write_text.ensures)

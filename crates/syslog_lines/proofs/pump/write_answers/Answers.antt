@@ -7,7 +7,7 @@ pub returns-in_err-write_whole-clause-err : goal.returns-in_err-write_whole-clau
 returns-in_err-write_whole-clause-err g c =
     IfErr-passed _ _ _ c.from_residual.ensures.1 (WritesFirst-begun _ _ _ _ _ _
     (begins_collected _ _ (g.W.Write.contents c.args.writer.now.inner)
-    (g.W.Write.contents c.write_whole.new.writer.inner) c.clear.ensures.items
+    (g.W.Write.contents c.write_whole.new.self.inner) c.clear.ensures.items
     (rw c.deref.ensures.value at c.in_err-write_whole.ensures.err)) _ _ _
     c.answer_lines-answered.ensures _ _ c.in_err-write_whole.ensures.fault)
 

@@ -1,6 +1,7 @@
 use Rattle.std.proofs.Common.{refl, sym}
 use Rattle.std.proofs.lemmas.Str.{IsUtf8-string_bytes, encodes-chars}
-use Rattle.syslog_lines.specs.Output.{Written}
+use Rattle.syslog_lines.{proofs.AnswerLemmas.OnErr-any, specs.Output.Written}
+use Rattle.syslog_5424.{proofs.CallLemmas.written_not_refused, specs.Conversions.conversions}
 use Rattle.syslog_5424.proofs.filter.ConversionsLineFilter.answer.Goals as goal
 
 pub returns-in_ok-push_line-in-Ok-clause-ok : goal.returns-in_ok-push_line-in-Ok-clause-ok
@@ -8,3 +9,8 @@ returns-in_ok-push_line-in-Ok-clause-ok c =
     let spelt = sym (encodes-chars _ (IsUtf8-string_bytes c.convert_line.new.text)) in
     let added = rw c.as_bytes.ensures.value at c.in_ok-push_line-in-Ok.ensures.ok in
     (Written _, (c.utf8.line, (_, c.in-Ok.ensures.0, c.in-Ok.ensures.1, spelt)), added, refl)
+
+pub returns-in_err-push_line-in-Ok-clause-refusal : goal.returns-in_err-push_line-in-Ok-clause-refusal
+returns-in_err-push_line-in-Ok-clause-refusal c =
+    OnErr-any _ ((conversions c.args.self.now.options).Wants c.args.line.now)
+    (c.utf8.line, written_not_refused c.args.self.now.options _ _ c.in-Ok.ensures.1)

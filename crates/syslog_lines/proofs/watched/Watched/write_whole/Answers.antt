@@ -1,6 +1,6 @@
 use Rattle.syslog_lines.proofs.Names.{◌∙◌}
 use Rattle.syslog_lines.proofs.WriteLemmas.{WroteSoFar-more, WroteSoFar-front}
-use Rattle.syslog_lines.proofs.pump.write_whole.Goals as goal
+use Rattle.syslog_lines.proofs.watched.Watched.write_whole.Goals as goal
 
 pub loop-rest-preserved : goal.loop-rest-preserved
 loop-rest-preserved g c = record {
