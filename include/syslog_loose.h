@@ -22,7 +22,7 @@
  * What stays, before version 1.0 too: the names of calls, structs, fields and macros, their numbers, and what each
  * promises here. What a minor version may change before 1.0:
  *   - It may add calls and outcomes, so take an outcome that you don't know for a failure.
- *   - It may add fields at the end of a struct, so set fields by their names. The shared library (libsyslog_loose.so.0)
+ *   - It may add fields at the end of a struct, so set fields by their names. The shared library (libsyslog_loose.so.1)
  *     then gets another number: no program runs with structs of another size than it was compiled with.
  *   - It may read a line in another way, and CHANGELOG.md then says so.
  */
@@ -73,10 +73,12 @@ struct syslog_text {
 
 /* All are 0 for an absent one. */
 struct syslog_timestamp {
-    int64_t seconds;     /* since 1970-01-01T00:00:00Z, rounded down, as struct timespec has them */
-    int32_t nanoseconds; /* after these, from 0 to 999,999,999 */
-    int32_t offset;      /* seconds by which the clock that showed it is ahead of UTC */
-    uint32_t present;    /* 1, or 0 for an absent one */
+    int64_t seconds;       /* since 1970-01-01T00:00:00Z, rounded down, as struct timespec has them */
+    int32_t nanoseconds;   /* after these, from 0 to 999,999,999 */
+    int32_t offset;        /* seconds by which the clock that showed it is ahead of UTC */
+    uint32_t present;      /* 1, or 0 for an absent one */
+    uint32_t shows_year;   /* 1 where the line shows the year, 0 where the options gave it */
+    uint32_t shows_offset; /* 1 where the line shows the offset, 0 where the options gave it */
 };
 
 /* A number, a name, or neither. */
@@ -115,7 +117,7 @@ struct syslog_param {
 
 #define SYSLOG_TEXT_INIT { "", 0, 0 }
 #define SYSLOG_MESSAGE_INIT \
-    { 0, 0, 0, 0, { 0, 0, 0, 0 }, SYSLOG_TEXT_INIT, SYSLOG_TEXT_INIT, { SYSLOG_TEXT_INIT, 0, 0 }, SYSLOG_TEXT_INIT, \
+    { 0, 0, 0, 0, { 0, 0, 0, 0, 0, 0 }, SYSLOG_TEXT_INIT, SYSLOG_TEXT_INIT, { SYSLOG_TEXT_INIT, 0, 0 }, SYSLOG_TEXT_INIT, \
       SYSLOG_TEXT_INIT, 0, 0 }
 #define SYSLOG_ELEMENT_INIT { SYSLOG_TEXT_INIT, 0 }
 #define SYSLOG_PARAM_INIT { SYSLOG_TEXT_INIT, SYSLOG_TEXT_INIT }

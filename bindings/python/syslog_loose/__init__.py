@@ -1,4 +1,4 @@
-"""Reads, prints and converts syslog messages of RFC 5424 and the looser RFC 3164, over libsyslog_loose.so.0.
+"""Reads, prints and converts syslog messages of RFC 5424 and the looser RFC 3164, over libsyslog_loose.so.1.
 
     m = parse("<34>Mar  2 06:35:05 gateway dropbear[2310]: Exit (root)", year=2026)
     m.hostname, m.severity, m.timestamp
@@ -87,6 +87,8 @@ class Message:
     timestamp: datetime | None  #: in the zone of the clock that showed it; None too where datetime can't hold it
     nanosecond: int  #: the part of a second, from 0 to 999,999,999
     timestamp_text: str | None  #: the printed timestamp, where datetime has no such year or offset
+    shows_year: bool  #: whether the line shows the year of its timestamp
+    shows_offset: bool  #: whether it shows the offset
     hostname: str | None
     appname: str | None
     procid: int | str | None
@@ -111,7 +113,7 @@ class ParseError(ValueError):
 _DONE, _NO_READING, _NOT_UTF8, _NO_MEMORY, _NO_ROOM = range(5)
 _TEXT = "QQI4x"
 _OPTIONS = struct.Struct("=IiIi")
-_MESSAGE = struct.Struct("=IIii" + "qiiI4x" + _TEXT * 3 + "iI" + _TEXT + "QQ4x4x" + "QQ")
+_MESSAGE = struct.Struct("=IIii" + "qiiIII4x" + _TEXT * 3 + "iI" + _TEXT + "QQ4x4x" + "QQ")
 _ELEMENT = struct.Struct("=QQ4x4xQ")
 _PARAM = struct.Struct("=QQ4x4xQQ4x4x")
 _VARIANTS = {"either": 0, "3164": 3164, "5424": 5424}
@@ -123,7 +125,7 @@ _SEVERITIES = (*Severity, None)
 def _loaded() -> ctypes.PyDLL:
     # (PyDLL keeps Python's lock, since a call takes less time than to give the lock up and to take it again)
     try:
-        library = ctypes.PyDLL(os.environ.get("SYSLOG_LOOSE_LIBRARY", "libsyslog_loose.so.0"))
+        library = ctypes.PyDLL(os.environ.get("SYSLOG_LOOSE_LIBRARY", "libsyslog_loose.so.1"))
     except OSError as error:
         raise ImportError("%s: install libsyslog_loose, or name its file by SYSLOG_LOOSE_LIBRARY" % error) from None
     version = library.syslog_version()
@@ -204,8 +206,8 @@ class _Reader:
             outcome = _read(*self.words)
         if outcome != _DONE:
             raise _fault(outcome, line)
-        (protocol, version, facility, severity, seconds, nanosecond, ahead, dated, host, host_size, has_host,
-         app, app_size, has_app, name, name_size, has_name, number, is_number, msgid, msgid_size, has_msgid,
+        (protocol, version, facility, severity, seconds, nanosecond, ahead, dated, shows_year, shows_offset,
+         host, host_size, has_host, app, app_size, has_app, name, name_size, has_name, number, is_number, msgid, msgid_size, has_msgid,
          msg, msg_size, elements, _) = _MESSAGE.unpack_from(self.message.bytes)  # fmt: skip
         at = self.line.at
         text = line if isinstance(line, str) else given.decode()
@@ -232,6 +234,8 @@ class _Reader:
         fields["timestamp"], fields["nanosecond"], fields["timestamp_text"] = (
             self.timestamp(line, seconds, nanosecond, ahead) if dated else _NO_TIMESTAMP
         )
+        fields["shows_year"] = shows_year == 1
+        fields["shows_offset"] = shows_offset == 1
         fields["hostname"] = hostname
         fields["appname"] = appname
         fields["procid"] = number if is_number else process

@@ -118,6 +118,17 @@ class Dates(unittest.TestCase):
         self.assertIsNone(m.timestamp)
         self.assertTrue(m.timestamp_text.startswith("2026-12-31T23:59:59"))
 
+    def test_what_the_line_shows(self):
+        for line, want in (
+            (self.DECEMBER, (False, False)),
+            ("<34>Dec 31 2019 23:59:59 h a: x", (True, False)),
+            ("<34>2019-12-31T23:59:59Z h a: x", (True, True)),
+            (LINE, (True, True)),
+            ("1 - - - - - -", (False, False)),
+        ):
+            m = parse(line, year=2026)
+            self.assertEqual((m.shows_year, m.shows_offset), want)
+
     def test_variant(self):
         line = "<34>1 2003-10-11T22:14:15Z h a - - - x"
         self.assertEqual(parse(line, year=2026, variant="5424").protocol, 5424)

@@ -24,6 +24,8 @@ pub struct Timestamp {
     pub nanoseconds: i32,
     pub offset: i32,
     pub present: u32,
+    pub shows_year: u32,
+    pub shows_offset: u32,
 }
 
 #[repr(C)]
@@ -81,7 +83,7 @@ impl Message {
         version: 0,
         facility: 0,
         severity: 0,
-        timestamp: Timestamp { seconds: 0, nanoseconds: 0, offset: 0, present: 0 },
+        timestamp: Timestamp { seconds: 0, nanoseconds: 0, offset: 0, present: 0, shows_year: 0, shows_offset: 0 },
         host: Text::NONE,
         app: Text::NONE,
         process: Process { name: Text::NONE, number: 0, is_number: 0 },

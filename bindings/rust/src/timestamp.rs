@@ -13,6 +13,10 @@ pub struct Timestamp {
     pub nanoseconds: u32,
     /// By how many seconds the clock is ahead of UTC.
     pub offset: i32,
+    /// Whether the line shows the year; otherwise the options gave it.
+    pub shows_year: bool,
+    /// Whether the line shows the offset; otherwise the options gave it.
+    pub shows_offset: bool,
 }
 
 impl Timestamp {
@@ -21,6 +25,8 @@ impl Timestamp {
             seconds: told.seconds,
             nanoseconds: told.nanoseconds.unsigned_abs(),
             offset: told.offset,
+            shows_year: told.shows_year == 1,
+            shows_offset: told.shows_offset == 1,
         })
     }
 }

@@ -12,7 +12,8 @@ const DECEMBER: &str = "<34>Dec 31 23:59:59 h a: x";
 fn each_field() {
     let m = parse(LINE, &IN_2026).unwrap();
     assert_eq!((m.protocol, m.facility, m.severity), (Protocol::Rfc5424(1), Some(20), Some(Severity::Notice)));
-    let at = Timestamp { seconds: 1_065_935_655, nanoseconds: 3_004_005, offset: -7 * 3_600 };
+    let (seconds, nanoseconds, offset) = (1_065_935_655, 3_004_005, -7 * 3_600);
+    let at = Timestamp { seconds, nanoseconds, offset, shows_year: true, shows_offset: true };
     assert_eq!(m.timestamp, Some(at));
     assert_eq!(at.to_string(), "2003-10-12T05:14:15.003004005Z");
     assert_eq!((m.hostname, m.appname, m.msgid), (Some("mymachine"), Some("app"), Some("ID47")));
@@ -70,6 +71,21 @@ fn the_texts_outlive_the_message() {
         message.hostname
     }
     assert_eq!(host(LINE), Some("mymachine"));
+}
+
+#[test]
+fn what_the_line_shows_of_its_date() {
+    for (line, year, offset) in [
+        (DECEMBER, false, false),
+        ("<34>Dec 31 2019 23:59:59 h a: x", true, false),
+        ("<34>2019-12-31T23:59:59Z h a: x", true, true),
+        (LINE, true, true),
+    ] {
+        for m in [parse(line, &IN_2026).unwrap(), parse_fields(line, &IN_2026).unwrap()] {
+            let at = m.timestamp.unwrap();
+            assert_eq!((at.shows_year, at.shows_offset), (year, offset), "{line}");
+        }
+    }
 }
 
 #[test]

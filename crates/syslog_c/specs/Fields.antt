@@ -53,6 +53,7 @@ pub record IsSomeStamp (s : Stamp) (at : OffsetTimestamp) : Type 0 where
 
 abbrev pub IsStamp : Stamp → Option OffsetTimestamp → Type 0
 IsStamp s None = (s.present ≡ 0) × (s.seconds ≡ pos 0) × (s.nanoseconds ≡ pos 0) × (s.offset ≡ pos 0)
+    × (s.shows_year ≡ 0) × (s.shows_offset ≡ 0)
 IsStamp s (Some at) = IsSomeStamp s at
 
 -- the number of a facility and of a severity, or -1

@@ -5,6 +5,7 @@ pub mod Names
 pub mod Options
 pub mod Outcome
 pub mod Room
+pub mod Shown
 pub mod Strict
 pub mod Texts
 pub mod Told

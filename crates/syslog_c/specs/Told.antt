@@ -8,6 +8,7 @@ use Rattle.syslog_loose.specs.Reading.{IsOnlyRead, dash_rule}
 use Rattle.syslog_loose.specs.declared.variant.Variant.{Variant}
 use Rattle.syslog_c.specs.Fields.{AreFields, IsBegun, IsElement, IsParam, all_params}
 use Rattle.syslog_c.specs.Line.{Refuses}
+use Rattle.syslog_c.specs.Shown.{IsShown}
 use Rattle.syslog_c.specs.declared.fields.Element.{Element}
 use Rattle.syslog_c.specs.declared.fields.Fields.{Fields}
 use Rattle.syslog_c.specs.declared.fields.Param.{Param}
@@ -27,14 +28,15 @@ IsTold m fields old_elements elements old_params params outcome = ⊥
 abbrev pub ReadsInto : Variant → Dating → Text → Fields → Fields → List Element → List Element
     → List Param → List Param → Outcome → Type 0
 ReadsInto variant dating text old_fields fields old_elements elements old_params params outcome =
-    ((m : MessageValue) × IsOnlyRead variant dating text m
+    ((m : MessageValue) × IsOnlyRead variant dating text m × IsShown text fields.timestamp
     × IsTold m fields old_elements elements old_params params outcome)
     ⊎ (Refuses variant dating text outcome × (fields ≡ old_fields) × (elements ≡ old_elements) × (params ≡ old_params))
 
 -- its fields alone are reported; or there is none, and all is as it was
 abbrev pub TellsFields : Variant → Dating → Text → Fields → Fields → Outcome → Type 0
 TellsFields variant dating text old_fields fields outcome =
-    ((m : MessageValue) × IsOnlyRead variant dating text m × (outcome ≡ Done) × AreFields fields m)
+    ((m : MessageValue) × IsOnlyRead variant dating text m × (outcome ≡ Done) × AreFields fields m
+    × IsShown text fields.timestamp)
     ⊎ (Refuses variant dating text outcome × (fields ≡ old_fields))
 
 -- 1 of a canonical message, 0 of another

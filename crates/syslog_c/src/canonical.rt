@@ -23,7 +23,7 @@ fn tell_canonical(line: &[u8], options: &Options, canonical: &mut u32) -> Outcom
         TellsOwnCanonical variant dating text canonical.new result) }
 {
     match read_line(line, options) {
-        Ok(line) => {
+        Ok((_, line)) => {
             *canonical = u32::from(line.is_canonical());
             Outcome::Done
         }

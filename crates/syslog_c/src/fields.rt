@@ -22,6 +22,10 @@ pub struct Stamp {
     pub offset: i32,
     /// 1, or 0 for an absent one.
     pub present: u32,
+    /// 1 if the line shows a year, otherwise 0.
+    pub shows_year: u32,
+    /// 1 if the line shows an offset, otherwise 0.
+    pub shows_offset: u32,
 }
 
 /// A process id: a number, a name, or neither.

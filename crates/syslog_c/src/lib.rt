@@ -18,6 +18,7 @@ mod read;
 mod read_line;
 mod room;
 mod rules;
+mod shown;
 mod strict;
 mod tell;
 mod unescape;

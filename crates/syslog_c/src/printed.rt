@@ -40,7 +40,7 @@ fn write_normal(line: &[u8], options: &Options, room: &mut [u8], needed: &mut us
 {
     *needed = 0;
     match read_line(line, options) {
-        Ok(line) => print_into(&line, room, needed),
+        Ok((_, line)) => print_into(&line, room, needed),
         Err(outcome) => outcome,
     }
 }

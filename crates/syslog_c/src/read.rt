@@ -15,6 +15,7 @@ use crate::options::Options;
 use crate::outcome::Outcome;
 use crate::read_line::read_line;
 use crate::rules::{Rules, rules_of, year_of};
+use crate::shown::with_shown;
 use crate::tell::fields_of;
 use syslog_loose::{IncompleteDate, visit_line};
 use syslog_utf8::from_utf8;
@@ -96,6 +97,7 @@ fn read_by<'a>(
     ) else {
         return Outcome::NoReading;
     };
+    fields.timestamp = with_shown(text, fields.protocol, fields.timestamp);
     if arrays.have_space(fields.elements, fields.params) {
         Outcome::Done
     } else {
@@ -122,8 +124,9 @@ fn read_fields<'a>(line: &'a [u8], options: &Options, fields: &mut Fields<'a>) -
         (λ variant dating text. TellsFields variant dating text fields.old fields.new result) }
 {
     match read_line(line, options) {
-        Ok(line) => {
+        Ok((text, line)) => {
             *fields = fields_of(&line);
+            fields.timestamp = with_shown(text, fields.protocol, fields.timestamp);
             Outcome::Done
         }
         Err(outcome) => outcome,

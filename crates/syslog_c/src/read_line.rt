@@ -1,6 +1,7 @@
 //! The reading of a line of bytes by the options.
-ghost use Rattle.std.specs.Prelude.{MatchResult, ⊤};
+ghost use Rattle.std.specs.Prelude.{◌≡◌, MatchResult, ⊤};
 ghost use Rattle.jiff_core.specs.Calendar.{IsYear};
+ghost use Rattle.syslog_pieces.specs.Pieces.View.{shown};
 ghost use Rattle.syslog_loose.specs.Line.{line_value};
 ghost use Rattle.syslog_loose.specs.Reading.{IsOnlyRead};
 ghost use Rattle.syslog_c.specs.Line.{IsTried, OnLine, Refuses};
@@ -12,11 +13,14 @@ use crate::rules::{rules_of, year_of};
 use syslog_loose::{IncompleteDate, Line, parse_line};
 use syslog_utf8::from_utf8;
 
-/// What the bytes of the line were parsed as, or why there is nothing.
-pub(crate) fn read_line<'a>(line: &'a [u8], options: &Options) -> Result<Line<'a>, Outcome>
+/// The text of the line and what it was parsed as, or why there is nothing.
+pub(crate) fn read_line<'a>(
+    line: &'a [u8],
+    options: &Options,
+) -> Result<(&'a str, Line<'a>), Outcome>
     ensures { MatchResult result
-        (λ it. IsTried options.now line.entry.now
-        (λ variant dating text. IsOnlyRead variant dating text (line_value it)))
+        (λ it. IsTried options.now line.entry.now (λ variant dating text. (shown it.0 ≡ text)
+        × IsOnlyRead variant dating text (line_value it.1)))
         (λ outcome. OnLine options.now line.entry.now outcome ⊤
         (λ variant dating text. Refuses variant dating text outcome)) }
 {
@@ -30,7 +34,7 @@ pub(crate) fn read_line<'a>(line: &'a [u8], options: &Options) -> Result<Line<'a
         ensures { IsYear options.entry.now.year → IsReckoned options.entry.now date result }
     { year_of(options, date) };
     match parse_line(text, get_year, None, rules.variant, &rules.zone) {
-        Some(line) => Ok(line),
+        Some(line) => Ok((text, line)),
         None => Err(Outcome::NoReading),
     }
 }

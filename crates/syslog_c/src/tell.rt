@@ -60,6 +60,7 @@ fn process_of<'a>(process: &Option<ProcId<&'a str>>) -> Process<'a>
     }
 }
 
+// The timestamp as C gets it, which says nothing yet of what the line shows.
 fn stamp_of(stamp: Option<ClockStamp>) -> Stamp
     ensures { IsStamp result (stamp_seen stamp) }
 {
@@ -72,6 +73,8 @@ fn stamp_of(stamp: Option<ClockStamp>) -> Stamp
                 nanoseconds: nanoseconds as i32,
                 offset: offset.seconds(),
                 present: 1,
+                shows_year: 0,
+                shows_offset: 0,
             }
         }
         None => Stamp {
@@ -79,6 +82,8 @@ fn stamp_of(stamp: Option<ClockStamp>) -> Stamp
             nanoseconds: 0,
             offset: 0,
             present: 0,
+            shows_year: 0,
+            shows_offset: 0,
         },
     }
 }

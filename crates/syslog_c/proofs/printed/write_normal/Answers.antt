@@ -4,7 +4,7 @@ use Rattle.syslog_c.proofs.printed.write_normal.Goals as goal
 
 pub returns-in-Ok : goal.returns-in-Ok
 returns-in-Ok c = inr (inr (tried_map _ _
-    (λ variant dating text read. inl (_, read, c.print_into.ensures)) c.in-Ok.ensures))
+    (λ variant dating text read. inl (_, read.1, c.print_into.ensures)) c.in-Ok.ensures))
 
 pub returns-in-Err : goal.returns-in-Err
 returns-in-Err c = on_line_map _ _ _ (λ left. (refl, refl))

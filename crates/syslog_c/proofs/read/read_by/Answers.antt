@@ -28,7 +28,7 @@ returns-then-have_space c =
       params = held.1;
       reads = λ ok. in_year_map (λ year h. all_read c.args.rules.now.variant (dating_in _ year)
           (chars c.args.text.now) c.args.fields.now c.visit_line.new.visitor c.args.arrays.now c.visit_line.new.elements
-          c.requires.0 c.requires.1 h
+          c.requires.0 c.requires.1 c.with_shown-fields.result c.with_shown-fields.ensures h
           c.if-have_space.ensures.0 c.if-have_space.ensures.1) (in_year_told in_year (λ date year is. is.1 ok));
     }
 
@@ -43,6 +43,6 @@ returns-else-have_space c =
       params = held.1;
       reads = λ ok. in_year_map (λ year h. too_much_read c.args.rules.now.variant (dating_in _ year)
           (chars c.args.text.now) c.args.fields.now c.visit_line.new.visitor c.args.arrays.now c.visit_line.new.elements
-          c.requires.0 c.requires.1 h
+          c.requires.0 c.requires.1 c.with_shown-fields.result c.with_shown-fields.ensures h
           (λ e p. c.if-have_space.ensures e p)) (in_year_told in_year (λ date year is. is.1 ok));
     }

@@ -4,7 +4,7 @@ use Rattle.syslog_c.proofs.read_line.read_line.Goals as goal
 
 pub returns-in-Some-parse_line : goal.returns-in-Some-parse_line
 returns-in-Some-parse_line c = tried_line _ _ _ _ _ _ c.in-Some.ensures c.in-Ok.ensures
-    (λ date y is. is.1) (in_year_map (λ year of. of.only) c.in-Some-parse_line.ensures.reads)
+    (λ date y is. is.1) (in_year_map (λ year of. (refl, of.only)) c.in-Some-parse_line.ensures.reads)
 
 pub returns-in-None : goal.returns-in-None
 returns-in-None c = inr (inr (tried_line (λ variant dating text. Refuses variant dating text NoReading)

@@ -1,0 +1,40 @@
+-- A line of RFC 5424 shows no month date.
+use Rattle.syslog_c.proofs.Words.{◌≡◌, ◌∙◌, sym, ap, ℕ, Text, Dating, Variant, inl, inr, arith, Option, None, Some}
+use Rattle.syslog_loose.specs.Message.{MessageValue}
+use Rattle.syslog_loose.specs.Passes.{ShowsNoDate}
+use Rattle.syslog_loose.specs.Reading.{IsRead, dash_rule}
+use Rattle.syslog_loose.specs.Rfc3164.{IsRead3164}
+use Rattle.syslog_loose.specs.Rfc5424.{IsRead5424}
+use Rattle.syslog_loose.specs.declared.variant.Variant.TheVariants.{Either, RFC3164, RFC5424}
+use Rattle.syslog_loose.proofs.Rfc3164Lemmas.{shown_apart}
+use Rattle.syslog_pieces.specs.declared.timestamp.OffsetTimestamp.{OffsetTimestamp}
+use Rattle.syslog_c.{specs.Fields.IsStamp, specs.Fields.protocol_number, specs.declared.fields.Stamp.Stamp}
+use Rattle.syslog_c.specs.Shown.{AreFlags, IsShown}
+
+shows_none : (text : Text) (m : MessageValue) → IsRead5424 text m → ShowsNoDate text
+shows_none text m r = λ date shown. shown_apart text date shown r.values r.division
+
+-- a message of RFC 3164 has another number
+is_loose : (dating : Dating) (text : Text) (m : MessageValue) → IsRead3164 dash_rule dating text m
+    → protocol_number m.protocol ≡ 3164
+is_loose dating text m r = let (n, names, e) = r.means in ap (λ (x : MessageValue). protocol_number x.protocol) e
+
+not_both : (n : ℕ) → n ≡ 3164 → n ≡ 5424 → ⊥
+not_both n e f = omega arith
+
+pub strict_shows_none : (variant : Variant) (dating : Dating) (text : Text) (m : MessageValue)
+    → IsRead variant dating text m → protocol_number m.protocol ≡ 5424 → ShowsNoDate text
+strict_shows_none RFC5424 dating text m r e = shows_none text m r
+strict_shows_none RFC3164 dating text m r e = absurd (not_both _ (is_loose dating text m r) e)
+strict_shows_none Either dating text m (inl r) e = shows_none text m r
+strict_shows_none Either dating text m (inr (none, r)) e = absurd (not_both _ (is_loose dating text m r) e)
+
+-- a timestamp of the same instant, with the flags of the text
+pub flagged : (text : Text) (s t : Stamp) → (s.present ≡ 0 → ⊥) → t.seconds ≡ s.seconds → t.nanoseconds ≡ s.nanoseconds
+    → t.offset ≡ s.offset → t.present ≡ s.present → AreFlags text t.shows_year t.shows_offset
+    → (at : Option OffsetTimestamp) → IsStamp s at → IsStamp t at × IsShown text t
+flagged text s t there e f g h flags None is = absurd (there is.0)
+flagged text s t there e f g h flags (Some at) is = (
+  record { present = h ∙ is.present; seconds = e ∙ is.seconds; nanoseconds = f ∙ is.nanoseconds; offset = g ∙ is.offset },
+  inr (h ∙ is.present, flags),
+)

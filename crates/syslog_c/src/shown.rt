@@ -1,0 +1,69 @@
+//! What a line shows of its date: whether a year, and whether an offset.
+ghost use Rattle.std.specs.Prelude.{◌≡◌, Option, chars};
+ghost use Rattle.syslog_pieces.specs.declared.timestamp.OffsetTimestamp.{OffsetTimestamp};
+ghost use Rattle.syslog_loose.specs.Passes.{ShowsNoDate};
+ghost use Rattle.syslog_c.specs.Fields.{IsStamp};
+ghost use Rattle.syslog_c.specs.Shown.{AreFlags, IsShown, ShowsDate, offset_flag, year_flag};
+
+use crate::fields::Stamp;
+use syslog_pieces::pri::optional_priority;
+use syslog_pieces::text::{blanks, trimmed};
+use syslog_pieces::timestamp::MonthDate;
+use syslog_pieces::timestamp::month_date::month_date;
+
+/// Returns the timestamp of a line of this protocol with what its text shows of it. No line of RFC 5424 has a month date.
+#[inline(always)]
+pub(crate) fn with_shown(text: &str, protocol: u32, stamp: Stamp) -> Stamp
+    ensures { (at : Option OffsetTimestamp) → IsStamp stamp at → (protocol ≡ 5424 → ShowsNoDate (chars text.entry.now))
+        → IsStamp result at × IsShown (chars text.entry.now) result }
+{
+    if stamp.present == 0 {
+        return stamp;
+    }
+    if protocol == 5424 {
+        return Stamp {
+            shows_year: 1,
+            shows_offset: 1,
+            ..stamp
+        };
+    }
+    let (shows_year, shows_offset) = flags_of(text);
+    Stamp {
+        shows_year,
+        shows_offset,
+        ..stamp
+    }
+}
+
+// Whether the text shows a year, and whether an offset.
+#[inline(never)]
+fn flags_of(text: &str) -> (u32, u32)
+    ensures { AreFlags (chars text.entry.now) result.0 result.1 }
+{
+    flags(shown_date(text))
+}
+
+// The same of the month date that a text shows, or of a text that shows none.
+fn flags(date: Option<MonthDate>) -> (u32, u32)
+    ensures { (result.0 ≡ year_flag date) × (result.1 ≡ offset_flag date) }
+{
+    match date {
+        None => (1, 1),
+        Some(date) => match date.year {
+            Some(_) => (1, 0),
+            None => (0, 0),
+        },
+    }
+}
+
+// Returns the month date that the text shows.
+#[inline(always)]
+fn shown_date(text: &str) -> Option<MonthDate>
+    ensures { ShowsDate (chars text.entry.now) result }
+{
+    let (_, rest) = optional_priority(trimmed(text));
+    match month_date(blanks(rest)) {
+        Some((date, _)) => Some(date),
+        None => None,
+    }
+}
