@@ -15,7 +15,7 @@
  *   - No pointer is null, also where its length is 0.
  *   - A pointer with a length n points to n bytes (or n structs), any other one to one value; n is below 2^63 bytes.
  *   - What a call writes to overlaps nothing else that it is given, and no other thread touches it meanwhile.
- *   - Each syslog_message, syslog_element, syslog_param and syslog_text is set before the first call that writes to it,
+ *   - Each syslog_message, syslog_row, syslog_element, syslog_param and syslog_text is set before the first call that writes to it,
  *     by SYSLOG_MESSAGE_INIT and the like. (No call looks at what it was set to.)
  *   - The texts of a message lie in the line: they last as long as its bytes do, unchanged.
  *
@@ -103,6 +103,14 @@ struct syslog_message {
     size_t params;   /* how many parameters these have together */
 };
 
+/* A line of a block: the line, how its reading ends, and its message, which is blank where the line is none: then its
+ * facility and severity are -1, all else is 0, and its texts are absent. */
+struct syslog_row {
+    struct syslog_text line; /* without its line feed */
+    uint32_t outcome;        /* what syslog_read_fields returns of the line */
+    struct syslog_message message;
+};
+
 /* An element of structured data. Its parameters follow those of the elements before it. */
 struct syslog_element {
     struct syslog_text id;
@@ -119,6 +127,7 @@ struct syslog_param {
 #define SYSLOG_MESSAGE_INIT \
     { 0, 0, 0, 0, { 0, 0, 0, 0, 0, 0 }, SYSLOG_TEXT_INIT, SYSLOG_TEXT_INIT, { SYSLOG_TEXT_INIT, 0, 0 }, SYSLOG_TEXT_INIT, \
       SYSLOG_TEXT_INIT, 0, 0 }
+#define SYSLOG_ROW_INIT { SYSLOG_TEXT_INIT, 0, SYSLOG_MESSAGE_INIT }
 #define SYSLOG_ELEMENT_INIT { SYSLOG_TEXT_INIT, 0 }
 #define SYSLOG_PARAM_INIT { SYSLOG_TEXT_INIT, SYSLOG_TEXT_INIT }
 
@@ -139,6 +148,18 @@ uint32_t syslog_read(const char *line, size_t length, const struct syslog_option
  */
 uint32_t syslog_read_fields(const char *line, size_t length, const struct syslog_options *options,
                             struct syslog_message *message);
+
+/* Reads the lines of a buffer, without structured data: a row for each line, in order, from the first row on, and how many
+ * rows that are to read. A line is what is between line feeds; an empty last one is none, and the last need not end in a line
+ * feed. Each text is a piece of the buffer, so row.line.start - buffer is where the line begins.
+ *
+ * SYSLOG_DONE: each line has a row, and the rows after these are as they were.
+ * SYSLOG_NO_ROOM: there are more lines than rows, and the rows have the first lines. The others begin after the last row's
+ *   line and its line feed.
+ * SYSLOG_BAD_ARGUMENT: read is 0, and the rows are as they were.
+ */
+uint32_t syslog_read_lines(const char *buffer, size_t length, const struct syslog_options *options,
+                           struct syslog_row *rows, size_t room, size_t *read);
 
 /* The five that follow write a text to the beginning of a buffer, which has room_length bytes, and its length to needed.
  *

@@ -3,6 +3,7 @@ pub mod ArrayLemmas
 pub mod LineLemmas
 pub mod NameLemmas
 pub mod ReadLemmas
+pub mod RowLemmas
 pub mod ShownLemmas
 pub mod StrictLemmas
 pub mod TextLemmas

@@ -5,6 +5,7 @@ pub mod Names
 pub mod Options
 pub mod Outcome
 pub mod Room
+pub mod Rows
 pub mod Shown
 pub mod Strict
 pub mod Texts

@@ -70,6 +70,18 @@ pub struct Fields<'a> {
     pub params: usize,
 }
 
+/// What a line of a block says.
+#[repr(C)]
+#[derive(Clone, Copy)]
+pub struct Row<'a> {
+    /// The line, without its line feed.
+    pub line: Text<'a>,
+    /// How the reading of the line ends.
+    pub outcome: u32,
+    /// Blank where the line is no message.
+    pub fields: Fields<'a>,
+}
+
 /// An element of structured data: its id, and how many of the parameters are its own.
 #[repr(C)]
 #[derive(Clone, Copy)]

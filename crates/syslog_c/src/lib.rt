@@ -9,6 +9,7 @@
 mod arrays;
 mod canonical;
 pub mod fields;
+mod lines;
 mod names;
 mod object;
 pub mod options;

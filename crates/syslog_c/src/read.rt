@@ -119,7 +119,7 @@ pub extern "C" fn syslog_read_fields<'a>(
     read_fields(line, options, fields) as u32
 }
 
-fn read_fields<'a>(line: &'a [u8], options: &Options, fields: &mut Fields<'a>) -> Outcome
+pub(crate) fn read_fields<'a>(line: &'a [u8], options: &Options, fields: &mut Fields<'a>) -> Outcome
     ensures { OnLine options.now line.now result (fields.new ≡ fields.old)
         (λ variant dating text. TellsFields variant dating text fields.old fields.new result) }
 {

@@ -6,6 +6,7 @@ ghost use Rattle.syslog_pieces.specs.ProcId.{procid_value};
 ghost use Rattle.syslog_pieces.specs.Timestamp.{stamp_seen};
 ghost use Rattle.syslog_loose.specs.Line.{line_value};
 ghost use Rattle.syslog_c.specs.Fields.{AreFields, IsOptionalText, IsProcess, IsStamp, IsText};
+ghost use Rattle.syslog_c.specs.Rows.{AreBlank};
 ghost use Rattle.syslog_c.specs.Fields.{facility_code, protocol_number, severity_code, version_number};
 
 use crate::fields::{Fields, Process, Stamp, Text};
@@ -135,6 +136,26 @@ pub(crate) fn fields_of<'a>(line: &Line<'a>) -> Fields<'a>
         msg: text_of(line.msg),
         elements: line.list.len(),
         params: line.list.params_len(),
+    }
+}
+
+/// Fields that say nothing: no number, and no text.
+pub(crate) fn blank_fields<'a>() -> Fields<'a>
+    ensures { AreBlank result }
+{
+    Fields {
+        protocol: 0,
+        version: 0,
+        facility: facility_of(None),
+        severity: severity_of(None),
+        timestamp: stamp_of(None),
+        host: optional_text(None),
+        app: optional_text(None),
+        process: process_of(&None),
+        msgid: optional_text(None),
+        msg: optional_text(None),
+        elements: 0,
+        params: 0,
     }
 }
 

@@ -17,5 +17,6 @@ pub mod summary;
 mod watched;
 
 pub use filter::{LineFilter, push_line};
+pub use lines::first_line;
 pub use summary::{RunFault, Summary, Tally};
 pub use watched::Watched;
