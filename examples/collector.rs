@@ -15,7 +15,7 @@ fn route(severity: Option<Severity>) -> &'static str {
 fn write_message(out: &mut impl Write, it: &Message<'_>) -> io::Result<()> {
     let at = it
         .timestamp
-        .map_or("-".to_string(), |at| format!("{at:.0}"));
+        .map_or("-".to_string(), |at| format!("{at:#.0}"));
     let (host, app) = (it.hostname.unwrap_or(""), it.appname.unwrap_or(""));
     writeln!(
         out,

@@ -10,19 +10,26 @@
 //! ```
 #![deny(unsafe_op_in_unsafe_fn, missing_docs)]
 
+mod lines;
 mod message;
+mod names;
+mod owned;
 mod raw;
 mod timestamp;
 
-pub use message::{Element, Elements, Message, Param, Params, ProcId, Protocol, Severity};
+pub use lines::{lines, LineError, Lines};
+pub use message::{Element, Elements, Message, Param, Params, ProcId, Protocol};
+pub use names::{Facility, NoSuchName, Severity};
+pub use owned::{OwnedElement, OwnedMessage, OwnedParam};
 pub use timestamp::Timestamp;
 
 use std::borrow::Cow;
 use std::fmt;
-use std::str::from_utf8;
+use std::str::{from_utf8, FromStr};
+use std::time::SystemTime;
 
 /// By which protocol a line is read.
-#[derive(Clone, Copy, Debug, Default, PartialEq, Eq)]
+#[derive(Clone, Copy, Debug, Default, PartialEq, Eq, Hash)]
 pub enum Variant {
     /// By either one, RFC 5424 first.
     #[default]
@@ -33,8 +40,22 @@ pub enum Variant {
     Rfc5424,
 }
 
-/// How a line is read.
-#[derive(Clone, Copy, Debug, PartialEq, Eq)]
+/// The variant that `either`, `3164` or `5424` names.
+impl FromStr for Variant {
+    type Err = NoSuchName;
+
+    fn from_str(name: &str) -> Result<Variant, NoSuchName> {
+        match name {
+            "either" => Ok(Variant::Either),
+            "3164" => Ok(Variant::Rfc3164),
+            "5424" => Ok(Variant::Rfc5424),
+            _ => Err(NoSuchName),
+        }
+    }
+}
+
+/// How a line is read. The default is either protocol, in UTC, in the month of the year that it is.
+#[derive(Clone, Copy, Debug, PartialEq, Eq, Hash)]
 pub struct Options {
     /// By which protocol.
     pub variant: Variant,
@@ -53,6 +74,16 @@ impl Options {
         Options { variant: Variant::Either, year, month: None, offset: 0 }
     }
 
+    /// Either protocol, in UTC, in the month of the year that it is then.
+    pub fn at(now: SystemTime) -> Options {
+        let seconds = match now.duration_since(SystemTime::UNIX_EPOCH) {
+            Ok(after) => after.as_secs() as i64,
+            Err(before) => -(before.duration().as_secs() as i64),
+        };
+        let (year, month, _) = timestamp::date(seconds.div_euclid(86_400));
+        Options { month: Some(month as u8), ..Options::in_year(year as i32) }
+    }
+
     fn raw(&self) -> raw::Options {
         let variant = match self.variant {
             Variant::Either => 0,
@@ -60,6 +91,12 @@ impl Options {
             Variant::Rfc5424 => 5424,
         };
         raw::Options { variant, year: self.year, month: self.month.map_or(0, u32::from), offset: self.offset }
+    }
+}
+
+impl Default for Options {
+    fn default() -> Options {
+        Options::at(SystemTime::now())
     }
 }
 
@@ -199,8 +236,18 @@ pub fn json<T: AsRef<[u8]> + ?Sized>(line: &T, options: &Options, raw: bool) -> 
     })
 }
 
-/// The value of a parameter without its escapes.
-fn unescape(value: &str) -> Cow<'_, str> {
+/// Whether the message of a line is read back from its printed form as that very message.
+pub fn is_canonical<T: AsRef<[u8]> + ?Sized>(line: &T, options: &Options) -> Result<bool, Error> {
+    let (line, options, mut canonical) = (line.as_ref(), options.raw(), 0);
+    // SAFETY: the pointers and lengths are those of the line and of the number, as in `read`.
+    match unsafe { raw::syslog_is_canonical(line.as_ptr(), line.len(), &options, &mut canonical) } {
+        raw::DONE => Ok(canonical == 1),
+        outcome => Err(Error::of(outcome)),
+    }
+}
+
+/// The value of a parameter, as [`Param::raw`] has it, without its escapes.
+pub fn unescape(value: &str) -> Cow<'_, str> {
     if !value.contains('\\') {
         return Cow::Borrowed(value);
     }

@@ -1,14 +1,14 @@
-use crate::{raw, unescape, Timestamp};
+use crate::{raw, unescape, Facility, OwnedMessage, Severity, Timestamp};
 use std::borrow::Cow;
-use std::{iter, slice};
+use std::{fmt, iter, slice};
 
 /// A message. Its texts are pieces of the line.
-#[derive(Clone, Debug, PartialEq, Eq)]
+#[derive(Clone, Debug, PartialEq, Eq, Hash)]
 pub struct Message<'a> {
     /// By which protocol the line was read.
     pub protocol: Protocol,
-    /// From 0 (the kernel) to 23 (local7).
-    pub facility: Option<u8>,
+    /// Which part of a system it comes from.
+    pub facility: Option<Facility>,
     /// How severe it is.
     pub severity: Option<Severity>,
     /// When it was written.
@@ -18,7 +18,7 @@ pub struct Message<'a> {
     /// The program.
     pub appname: Option<&'a str>,
     /// The process.
-    pub procid: Option<ProcId<'a>>,
+    pub procid: Option<ProcId<&'a str>>,
     /// The kind of message.
     pub msgid: Option<&'a str>,
     /// The rest.
@@ -29,7 +29,8 @@ pub struct Message<'a> {
 }
 
 /// The protocol by which a line was read.
-#[derive(Clone, Copy, Debug, PartialEq, Eq)]
+#[derive(Clone, Copy, Debug, PartialEq, Eq, Hash)]
+#[cfg_attr(feature = "serde", derive(serde::Serialize, serde::Deserialize))]
 pub enum Protocol {
     /// RFC 3164.
     Rfc3164,
@@ -37,31 +38,34 @@ pub enum Protocol {
     Rfc5424(u32),
 }
 
-/// How severe a message is.
-#[allow(missing_docs)]
-#[derive(Clone, Copy, Debug, PartialEq, Eq, PartialOrd, Ord, Hash)]
-pub enum Severity {
-    Emerg = 0,
-    Alert = 1,
-    Crit = 2,
-    Err = 3,
-    Warning = 4,
-    Notice = 5,
-    Info = 6,
-    Debug = 7,
-}
-
 /// A process id.
-#[derive(Clone, Copy, Debug, PartialEq, Eq)]
-pub enum ProcId<'a> {
+#[derive(Clone, Copy, Debug, PartialEq, Eq, PartialOrd, Ord, Hash)]
+#[cfg_attr(feature = "serde", derive(serde::Serialize, serde::Deserialize), serde(untagged))]
+pub enum ProcId<S> {
     /// A number.
     Number(i32),
     /// Any other text.
-    Name(&'a str),
+    Name(S),
+}
+
+/// The number that the text writes, or else the text.
+impl<'a> From<&'a str> for ProcId<&'a str> {
+    fn from(text: &'a str) -> ProcId<&'a str> {
+        text.parse().map_or(ProcId::Name(text), ProcId::Number)
+    }
+}
+
+impl<S: fmt::Display> fmt::Display for ProcId<S> {
+    fn fmt(&self, f: &mut fmt::Formatter<'_>) -> fmt::Result {
+        match self {
+            ProcId::Number(number) => number.fmt(f),
+            ProcId::Name(name) => name.fmt(f),
+        }
+    }
 }
 
 /// An element of structured data.
-#[derive(Clone, Copy, Debug, PartialEq, Eq)]
+#[derive(Clone, Copy, Debug, PartialEq, Eq, Hash)]
 pub struct Element<'m, 'a> {
     /// Its id.
     pub id: &'a str,
@@ -69,7 +73,7 @@ pub struct Element<'m, 'a> {
 }
 
 /// A parameter of an element.
-#[derive(Clone, Copy, Debug, PartialEq, Eq)]
+#[derive(Clone, Copy, Debug, PartialEq, Eq, Hash)]
 pub struct Param<'a> {
     /// Its name.
     pub name: &'a str,
@@ -124,6 +128,11 @@ impl<'a> Message<'a> {
         Elements { elements: self.elements.iter(), params: &self.params }
     }
 
+    /// The message with texts of its own.
+    pub fn to_owned(&self) -> OwnedMessage {
+        OwnedMessage::from(self)
+    }
+
     pub(crate) fn of(
         line: &'a str,
         told: &raw::Message,
@@ -133,8 +142,8 @@ impl<'a> Message<'a> {
         let process = &told.process;
         Message {
             protocol: if told.protocol == 5424 { Protocol::Rfc5424(told.version) } else { Protocol::Rfc3164 },
-            facility: u8::try_from(told.facility).ok(),
-            severity: Severity::of(told.severity),
+            facility: numbered(told.facility),
+            severity: numbered(told.severity),
             timestamp: Timestamp::of(&told.timestamp),
             hostname: optional(line, &told.host),
             appname: optional(line, &told.app),
@@ -153,11 +162,75 @@ impl<'a> Message<'a> {
     }
 }
 
-impl Severity {
-    fn of(number: i32) -> Option<Severity> {
-        use Severity::*;
-        [Emerg, Alert, Crit, Err, Warning, Notice, Info, Debug].get(usize::try_from(number).ok()?).copied()
+/// The message in printed form, as `normalise` writes it of the line.
+impl fmt::Display for Message<'_> {
+    fn fmt(&self, f: &mut fmt::Formatter<'_>) -> fmt::Result {
+        write_message(
+            f,
+            self.protocol,
+            (self.facility, self.severity, self.timestamp),
+            [self.hostname, self.appname, self.msgid],
+            self.procid.as_ref(),
+            self.elements().map(|it| (it.id, it.params().map(|it| (it.name, it.raw)))),
+            self.message,
+        )
     }
+}
+
+#[cfg(feature = "serde")]
+impl serde::Serialize for Message<'_> {
+    fn serialize<S: serde::Serializer>(&self, to: S) -> Result<S::Ok, S::Error> {
+        self.to_owned().serialize(to)
+    }
+}
+
+/// Writes a message in printed form. The names are the host, the app and the message id.
+pub(crate) fn write_message<'s, P: Iterator<Item = (&'s str, &'s str)>>(
+    f: &mut fmt::Formatter<'_>,
+    protocol: Protocol,
+    (facility, severity, timestamp): (Option<Facility>, Option<Severity>, Option<Timestamp>),
+    [host, app, msgid]: [Option<&str>; 3],
+    process: Option<&ProcId<impl fmt::Display>>,
+    elements: impl Iterator<Item = (&'s str, P)>,
+    message: &str,
+) -> fmt::Result {
+    let (facility, severity) = (facility.unwrap_or(Facility::Syslog), severity.unwrap_or(Severity::Debug));
+    write!(f, "<{}>", u8::from(facility) * 8 + u8::from(severity))?;
+    if let Protocol::Rfc5424(version) = protocol {
+        write!(f, "{version}")?;
+    }
+    match timestamp {
+        Some(at) => write!(f, " {at} ")?,
+        None => f.write_str(" - ")?,
+    }
+    f.write_str(host.unwrap_or("-"))?;
+    let is_strict = protocol != Protocol::Rfc3164;
+    match (is_strict, app, process) {
+        (true, _, Some(process)) => write!(f, " {} {process} {} ", app.unwrap_or("-"), msgid.unwrap_or("-"))?,
+        (true, _, None) => write!(f, " {} - {} ", app.unwrap_or("-"), msgid.unwrap_or("-"))?,
+        (false, Some(app), Some(process)) => write!(f, " {app}[{process}]: ")?,
+        (false, _, _) => write!(f, " {}: ", app.unwrap_or(""))?,
+    }
+    let mut count = 0;
+    for (id, params) in elements {
+        write!(f, "[{id}")?;
+        for (name, value) in params {
+            write!(f, " {name}=\"{value}\"")?;
+        }
+        f.write_str("]")?;
+        count += 1;
+    }
+    match count {
+        0 if is_strict => f.write_str("- ")?,
+        0 => {}
+        _ => f.write_str(" ")?,
+    }
+    f.write_str(message)
+}
+
+/// What has this number; -1 is that of an absent one.
+fn numbered<T: TryFrom<u8>>(number: i32) -> Option<T> {
+    T::try_from(u8::try_from(number).ok()?).ok()
 }
 
 /// The piece of the line that the text is.

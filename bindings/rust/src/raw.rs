@@ -116,12 +116,8 @@ extern "C" {
         params: *mut Param,
         param_room: usize,
     ) -> u32;
-    pub fn syslog_read_fields(
-        line: *const u8,
-        length: usize,
-        options: *const Options,
-        message: *mut Message,
-    ) -> u32;
+    pub fn syslog_read_fields(line: *const u8, length: usize, options: *const Options, message: *mut Message) -> u32;
+    pub fn syslog_is_canonical(line: *const u8, length: usize, options: *const Options, canonical: *mut u32) -> u32;
     pub fn syslog_normalise(
         line: *const u8,
         length: usize,

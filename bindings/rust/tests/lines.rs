@@ -1,21 +1,31 @@
 //! The crate over the library that it is linked with.
-use libsyslog_loose::{json, normalise, parse, parse_fields, settle, to_rfc5424, version};
-use libsyslog_loose::{Error, Message, Options, Param, ProcId, Protocol, Severity, Timestamp, Variant};
+use libsyslog_loose::{is_canonical, json, lines, normalise, parse, parse_fields, settle, to_rfc5424, version};
+use libsyslog_loose::{Error, Facility, LineError, Message, NoSuchName, Options, OwnedMessage, Param};
+use libsyslog_loose::{ProcId, Protocol, Severity, Timestamp, Variant};
 use std::borrow::Cow;
 use std::thread;
+use std::time::{Duration, SystemTime};
 
 const IN_2026: Options = Options::in_year(2026);
 const LINE: &str = r#"<165>1 2003-10-11T22:14:15.003004005-07:00 mymachine app 7 ID47 [a b="c" d="\"\]"][e] größe"#;
 const DECEMBER: &str = "<34>Dec 31 23:59:59 h a: x";
 
+// A timestamp of a line that shows its year and its offset.
+fn stamp(seconds: i64, nanoseconds: u32, offset: i32) -> Timestamp {
+    Timestamp { seconds, nanoseconds, offset, shows_year: true, shows_offset: true }
+}
+
 #[test]
 fn each_field() {
     let m = parse(LINE, &IN_2026).unwrap();
-    assert_eq!((m.protocol, m.facility, m.severity), (Protocol::Rfc5424(1), Some(20), Some(Severity::Notice)));
-    let (seconds, nanoseconds, offset) = (1_065_935_655, 3_004_005, -7 * 3_600);
-    let at = Timestamp { seconds, nanoseconds, offset, shows_year: true, shows_offset: true };
+    assert_eq!(
+        (m.protocol, m.facility, m.severity),
+        (Protocol::Rfc5424(1), Some(Facility::Local4), Some(Severity::Notice))
+    );
+    let at = stamp(1_065_935_655, 3_004_005, -7 * 3_600);
     assert_eq!(m.timestamp, Some(at));
-    assert_eq!(at.to_string(), "2003-10-12T05:14:15.003004005Z");
+    assert_eq!(at.to_string(), "2003-10-11T22:14:15.003004005-07:00");
+    assert_eq!(format!("{at:#}"), "2003-10-12T05:14:15.003004005Z");
     assert_eq!((m.hostname, m.appname, m.msgid), (Some("mymachine"), Some("app"), Some("ID47")));
     assert_eq!((m.procid, m.message), (Some(ProcId::Number(7)), "größe"));
 }
@@ -74,6 +84,28 @@ fn the_texts_outlive_the_message() {
 }
 
 #[test]
+fn dates_without_a_year() {
+    let seconds = |options: Options| parse(DECEMBER, &options).unwrap().timestamp.unwrap().seconds;
+    assert_eq!(seconds(Options::in_year(2020)), 1_609_459_199);
+    assert_eq!(seconds(Options { month: Some(1), ..Options::in_year(2020) }), 1_577_836_799);
+    assert_eq!(seconds(Options { month: Some(12), offset: 3_600, ..Options::in_year(2020) }), 1_609_455_599);
+}
+
+#[test]
+fn instants_before_1970_are_rounded_down() {
+    let at = parse("1 1969-12-31T23:59:58.5Z - - - - -", &IN_2026).unwrap().timestamp.unwrap();
+    assert_eq!((at.seconds, at.nanoseconds), (-2, 500_000_000));
+    assert_eq!(at.to_string(), "1969-12-31T23:59:58.500+00:00");
+    assert_eq!(
+        (format!("{at:.0}"), format!("{at:#.1}")),
+        ("1969-12-31T23:59:58+00:00".into(), "1969-12-31T23:59:58.5Z".into())
+    );
+    assert_eq!(SystemTime::from(at), SystemTime::UNIX_EPOCH - Duration::from_millis(1_500));
+    let at = parse("1 0000-02-29T00:00:00Z - - - - -", &IN_2026).unwrap().timestamp.unwrap();
+    assert_eq!(format!("{at:#}"), "0000-02-29T00:00:00Z");
+}
+
+#[test]
 fn what_the_line_shows_of_its_date() {
     for (line, year, offset) in [
         (DECEMBER, false, false),
@@ -89,20 +121,104 @@ fn what_the_line_shows_of_its_date() {
 }
 
 #[test]
-fn dates_without_a_year() {
-    let seconds = |options: Options| parse(DECEMBER, &options).unwrap().timestamp.unwrap().seconds;
-    assert_eq!(seconds(Options::in_year(2020)), 1_609_459_199);
-    assert_eq!(seconds(Options { month: Some(1), ..Options::in_year(2020) }), 1_577_836_799);
-    assert_eq!(seconds(Options { month: Some(12), offset: 3_600, ..Options::in_year(2020) }), 1_609_455_599);
+fn timestamps_are_values() {
+    let (at, later) = (stamp(5, 0, 3_600), stamp(5, 1, 0));
+    assert!(at < later && stamp(5, 0, 0) < at);
+    for text in ["2003-10-11T22:14:15.003004005-07:00", "1969-12-31T23:59:58.500+00:00", "0000-02-29T00:00:00+23:59"] {
+        assert_eq!(text.parse::<Timestamp>().unwrap().to_string(), text);
+    }
+    assert_eq!("2020-01-01T00:00:00Z".parse(), Ok(stamp(1_577_836_800, 0, 0)));
+    for wrong in
+        ["", "-", "2020-01-01", "2020-01-01T00:00:00Z ", "2020-01-01T00:00:00Z x", "2020-01-01T00:00:00Z - - - - - x"]
+    {
+        assert_eq!(wrong.parse::<Timestamp>(), Err(Error::NoMessage), "{wrong:?}");
+    }
 }
 
 #[test]
-fn instants_before_1970_are_rounded_down() {
-    let at = parse("1 1969-12-31T23:59:58.5Z - - - - -", &IN_2026).unwrap().timestamp.unwrap();
-    assert_eq!((at.seconds, at.nanoseconds), (-2, 500_000_000));
-    assert_eq!((at.to_string(), format!("{at:.0}")), ("1969-12-31T23:59:58.5Z".into(), "1969-12-31T23:59:58Z".into()));
-    let at = parse("1 0000-02-29T00:00:00Z - - - - -", &IN_2026).unwrap().timestamp.unwrap();
-    assert_eq!(at.to_string(), "0000-02-29T00:00:00Z");
+fn names_and_numbers() {
+    for (number, facility) in (0..).zip(Facility::ALL) {
+        assert_eq!((u8::from(*facility), Facility::try_from(number)), (number, Ok(*facility)));
+        assert_eq!(facility.to_string().parse(), Ok(*facility));
+    }
+    for (number, severity) in (0..).zip(Severity::ALL) {
+        assert_eq!((u8::from(*severity), Severity::try_from(number)), (number, Ok(*severity)));
+        assert_eq!(severity.to_string().parse(), Ok(*severity));
+    }
+    assert_eq!((Facility::ALL.len(), Severity::ALL.len()), (24, 8));
+    assert_eq!((Facility::Local7.as_str(), Severity::Err.as_str()), ("local7", "err"));
+    assert_eq!((Facility::try_from(24), Severity::try_from(8)), (Err(NoSuchName), Err(NoSuchName)));
+    assert_eq!("AUTH".parse::<Facility>(), Err(NoSuchName));
+    assert_eq!(
+        ["either", "3164", "5424"].map(|it| it.parse()),
+        [Ok(Variant::Either), Ok(Variant::Rfc3164), Ok(Variant::Rfc5424)]
+    );
+    assert_eq!(
+        (ProcId::from("+5"), ProcId::from("-"), ProcId::from("7").to_string()),
+        (ProcId::Number(5), ProcId::Name("-"), "7".into())
+    );
+}
+
+#[test]
+fn messages_print_as_the_library_prints_them() {
+    for line in [
+        LINE,
+        DECEMBER,
+        "1 - - - - - -",
+        "<200>1 - - - - - [id ][a b=\"x]y\"]z",
+        "- h a: [a b=\"c\"] x",
+        "<34>Oct 11 22:14:15 host [323]: hi",
+        "<34>Oct 11 22:14:15 -: hi",
+        "-",
+        "<34>1 2020-01-01T00:00:00.25-00:30 h a name m - x",
+    ] {
+        let m = parse(line, &IN_2026).unwrap();
+        let printed = normalise(line, &IN_2026).unwrap();
+        assert_eq!(m.to_string(), printed);
+        let owned = OwnedMessage::parse(line, &IN_2026).unwrap();
+        assert_eq!((owned.to_string(), &owned), (printed.clone(), &m.into()));
+    }
+    assert_eq!((is_canonical(LINE, &IN_2026), is_canonical("<34>- zork:: hi", &IN_2026)), (Ok(true), Ok(false)));
+    assert_eq!(is_canonical("gobbledegook", &IN_2026), Err(Error::NoMessage));
+}
+
+#[test]
+fn the_lines_of_a_reader() {
+    let given = b"<34>Mar  2 06:35:05 h a: x\n\xff\n<34>Mar  2 06:35:05 h b: y";
+    let read: Vec<_> = lines(&given[..], &IN_2026).collect();
+    assert_eq!(read[0].as_ref().unwrap().message, "x");
+    assert!(matches!(&read[1], Err(LineError::Refused(line, Error::NotUtf8)) if line == b"\xff"));
+    assert_eq!(read[2].as_ref().unwrap().appname.as_deref(), Some("b"));
+    assert_eq!(read.len(), 3);
+}
+
+#[test]
+fn the_default_is_now() {
+    let at = |seconds| Options::at(SystemTime::UNIX_EPOCH + Duration::from_secs(seconds));
+    assert_eq!(at(1_577_836_799), Options { month: Some(12), ..Options::in_year(2019) });
+    assert_eq!(at(1_577_836_800), Options { month: Some(1), ..Options::in_year(2020) });
+    assert!(Options::default().year >= 2025);
+}
+
+#[cfg(feature = "serde")]
+#[test]
+fn by_serde() {
+    for line in [LINE, DECEMBER, "1 - - - - - -"] {
+        let m = parse(line, &IN_2026).unwrap();
+        let text = serde_json::to_string(&m).unwrap();
+        assert_eq!(serde_json::from_str::<OwnedMessage>(&text).unwrap(), m.to_owned());
+    }
+    assert_eq!(serde_json::to_string(&(Facility::Auth, ProcId::Number::<&str>(7))).unwrap(), r#"["auth",7]"#);
+}
+
+#[cfg(feature = "chrono")]
+#[test]
+fn by_chrono() {
+    let at = parse(LINE, &IN_2026).unwrap().timestamp.unwrap();
+    let shown = at.to_chrono().unwrap();
+    assert_eq!((shown.timestamp(), shown.timestamp_subsec_nanos()), (at.seconds, at.nanoseconds));
+    assert_eq!(shown.offset().local_minus_utc(), at.offset);
+    assert_eq!(stamp(0, 0, 93_599).to_chrono(), None);
 }
 
 #[test]

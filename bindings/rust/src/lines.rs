@@ -1,0 +1,61 @@
+use crate::{Error, Options, OwnedMessage};
+use std::io::{self, BufRead};
+use std::{error, fmt};
+
+/// The messages of a reader's lines, in order. [`lines`] makes it.
+#[derive(Debug)]
+pub struct Lines<R> {
+    reader: R,
+    options: Options,
+    line: Vec<u8>,
+}
+
+/// Why a line of a reader has no message.
+#[derive(Debug)]
+pub enum LineError {
+    /// The reader failed.
+    Io(io::Error),
+    /// The line, without its line feed, has none.
+    Refused(Vec<u8>, Error),
+}
+
+impl fmt::Display for LineError {
+    fn fmt(&self, f: &mut fmt::Formatter<'_>) -> fmt::Result {
+        match self {
+            LineError::Io(fault) => fault.fmt(f),
+            LineError::Refused(_, why) => why.fmt(f),
+        }
+    }
+}
+
+impl error::Error for LineError {
+    fn source(&self) -> Option<&(dyn error::Error + 'static)> {
+        match self {
+            LineError::Io(fault) => Some(fault),
+            LineError::Refused(_, why) => Some(why),
+        }
+    }
+}
+
+/// The messages of a reader's lines, each of which ends with a line feed or with the input.
+pub fn lines<R: BufRead>(reader: R, options: &Options) -> Lines<R> {
+    Lines { reader, options: *options, line: Vec::new() }
+}
+
+impl<R: BufRead> Iterator for Lines<R> {
+    type Item = Result<OwnedMessage, LineError>;
+
+    fn next(&mut self) -> Option<Self::Item> {
+        self.line.clear();
+        match self.reader.read_until(b'\n', &mut self.line) {
+            Ok(0) => return None,
+            Ok(_) => {}
+            Err(fault) => return Some(Err(LineError::Io(fault))),
+        }
+        if self.line.last() == Some(&b'\n') {
+            self.line.pop();
+        }
+        let read = OwnedMessage::parse(&self.line, &self.options);
+        Some(read.map_err(|why| LineError::Refused(self.line.clone(), why)))
+    }
+}
