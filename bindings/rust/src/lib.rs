@@ -24,6 +24,7 @@ pub use owned::{OwnedElement, OwnedMessage, OwnedParam};
 pub use timestamp::Timestamp;
 
 use std::borrow::Cow;
+use std::cell::RefCell;
 use std::fmt;
 use std::str::{from_utf8, FromStr};
 use std::time::SystemTime;
@@ -142,17 +143,32 @@ impl fmt::Display for Error {
 
 impl std::error::Error for Error {}
 
-// Most lines have no more, and so need no memory but for what the message keeps of them.
-const ELEMENTS: usize = 8;
-const PARAMS: usize = 32;
+// Where the library puts the elements of a line. Most lines have no more, and so need no memory but for what the message
+// keeps of them. (It is set once for each thread: for each line that would take as long as to read it.)
+struct Rooms {
+    elements: [raw::Element; 8],
+    params: [raw::Param; 32],
+}
+
+thread_local! {
+    static ROOMS: RefCell<Rooms> =
+        const { RefCell::new(Rooms { elements: [raw::Element::NONE; 8], params: [raw::Param::NONE; 32] }) };
+}
 
 /// The message of a line, whose texts are pieces of it.
 pub fn parse<'a, T: AsRef<[u8]> + ?Sized>(line: &'a T, options: &Options) -> Result<Message<'a>, Error> {
-    let line = from_utf8(line.as_ref()).map_err(|_| Error::NotUtf8)?;
+    parse_text(from_utf8(line.as_ref()).map_err(|_| Error::NotUtf8)?, options)
+}
+
+/// The message of a line, as [`parse`] has it, which doesn't check anew that it is UTF-8.
+pub fn parse_text<'a>(line: &'a str, options: &Options) -> Result<Message<'a>, Error> {
+    ROOMS.with(|rooms| parse_in(line, options, &mut rooms.borrow_mut()))
+}
+
+fn parse_in<'a>(line: &'a str, options: &Options, rooms: &mut Rooms) -> Result<Message<'a>, Error> {
     let mut message = raw::Message::NONE;
-    let (mut elements, mut params) = ([raw::Element::NONE; ELEMENTS], [raw::Param::NONE; PARAMS]);
-    match read(line, options, &mut message, &mut elements, &mut params) {
-        raw::DONE => Ok(Message::of(line, &message, &elements, &params)),
+    match read(line, options, &mut message, &mut rooms.elements, &mut rooms.params) {
+        raw::DONE => Ok(Message::of(line, &message, &rooms.elements, &rooms.params)),
         raw::NO_ROOM => {
             let mut elements = vec![raw::Element::NONE; message.elements];
             let mut params = vec![raw::Param::NONE; message.params];

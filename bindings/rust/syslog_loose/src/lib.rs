@@ -1,0 +1,102 @@
+//! The interface of the crate `syslog_loose` 0.23 over the C library `libsyslog_loose`.
+//!
+//! ```
+//! use syslog_loose::{parse_message_with_year, ProcId, Variant};
+//!
+//! let line = "<34>Mar  2 06:35:05 gateway dropbear[2310]: Exit (root)";
+//! let message = parse_message_with_year(line, |_| 2026, Variant::Either);
+//! assert_eq!(message.procid, Some(ProcId::PID(2310)));
+//! ```
+#![forbid(unsafe_code)]
+#![deny(missing_docs)]
+
+mod message;
+mod pri;
+mod procid;
+mod structured_data;
+mod timestamp;
+
+pub use message::{Message, Protocol};
+pub use pri::{decompose_pri, SyslogFacility, SyslogSeverity};
+pub use procid::ProcId;
+pub use structured_data::{ParamsIter, StructuredElement};
+pub use timestamp::IncompleteDate;
+
+use chrono::{Datelike, Local, TimeZone};
+
+/// By which protocol a line is read.
+#[derive(Clone, Copy, Debug)]
+pub enum Variant {
+    /// RFC 5424, and RFC 3164 where the line is none of RFC 5424.
+    Either,
+    /// RFC 3164 alone.
+    RFC3164,
+    /// RFC 5424 alone.
+    RFC5424,
+}
+
+/// The message of a line. A date that shows no year is of this year, and one that shows no offset in the local zone.
+///
+/// A line that is no message is a message of RFC 3164 whose `msg` is the whole line.
+pub fn parse_message(input: &str, variant: Variant) -> Message<&str> {
+    parse_message_with_year(input, |_| Local::now().year(), variant)
+}
+
+/// The message of a line, in the year that the closure gives for a date that shows none.
+pub fn parse_message_with_year<F>(input: &str, get_year: F, variant: Variant) -> Message<&str>
+where
+    F: FnOnce(IncompleteDate) -> i32,
+{
+    parse_message_with_year_tz::<F, Local>(input, get_year, None, variant)
+}
+
+/// The message of a line, in that year. Dates that show no offset are in `tz`, or without it in the local zone.
+pub fn parse_message_with_year_tz<F, Tz>(input: &str, get_year: F, tz: Option<Tz>, variant: Variant) -> Message<&str>
+where
+    F: FnOnce(IncompleteDate) -> i32,
+    Tz: TimeZone,
+{
+    parse_message_with_year_exact_tz(input, get_year, tz, variant).unwrap_or_else(|_| Message::whole(input))
+}
+
+/// The message of a line, as [`parse_message_with_year`] has it, but an error where the line is no message.
+pub fn parse_message_with_year_exact<F>(input: &str, get_year: F, variant: Variant) -> Result<Message<&str>, String>
+where
+    F: FnOnce(IncompleteDate) -> i32,
+{
+    parse_message_with_year_exact_tz::<F, Local>(input, get_year, None, variant)
+}
+
+/// The message of a line, as [`parse_message_with_year_tz`] has it, but an error where the line is no message.
+pub fn parse_message_with_year_exact_tz<F, Tz>(
+    input: &str,
+    get_year: F,
+    tz: Option<Tz>,
+    variant: Variant,
+) -> Result<Message<&str>, String>
+where
+    F: FnOnce(IncompleteDate) -> i32,
+    Tz: TimeZone,
+{
+    read(input, get_year, tz, variant).ok_or_else(|| "unable to parse input as valid syslog message".to_string())
+}
+
+fn read<F, Tz>(input: &str, get_year: F, tz: Option<Tz>, variant: Variant) -> Option<Message<&str>>
+where
+    F: FnOnce(IncompleteDate) -> i32,
+    Tz: TimeZone,
+{
+    let variant = match variant {
+        Variant::Either => libsyslog_loose::Variant::Either,
+        Variant::RFC3164 => libsyslog_loose::Variant::Rfc3164,
+        Variant::RFC5424 => libsyslog_loose::Variant::Rfc5424,
+    };
+    // (each date that is in some year is in this leap year, on the same clock)
+    let options = libsyslog_loose::Options { variant, ..libsyslog_loose::Options::in_year(2000) };
+    let read = libsyslog_loose::parse_text(input, &options).ok()?;
+    let timestamp = match read.timestamp {
+        Some(shown) => Some(timestamp::dated(shown, get_year, tz)?),
+        None => None,
+    };
+    Some(Message::of(&read, timestamp))
+}

@@ -1,0 +1,73 @@
+use libsyslog_loose::unescape;
+use std::{fmt, slice};
+
+/// An element of structured data: its id, and its parameters as names with their values as in the line.
+#[derive(Clone, Debug)]
+pub struct StructuredElement<S: AsRef<str> + Ord + PartialEq + Clone> {
+    /// Its id.
+    pub id: S,
+    /// Its parameters, in order.
+    pub params: Vec<(S, S)>,
+}
+
+impl<S: AsRef<str> + Ord + PartialEq + Clone> StructuredElement<S> {
+    /// The parameters, with values without their escapes.
+    pub fn params(&self) -> ParamsIter<'_, S> {
+        ParamsIter { params: self.params.iter() }
+    }
+}
+
+/// The parameters of an element, with values without their escapes.
+pub struct ParamsIter<'a, S: AsRef<str>> {
+    params: slice::Iter<'a, (S, S)>,
+}
+
+impl<'a, S: AsRef<str>> Iterator for ParamsIter<'a, S> {
+    type Item = (&'a S, String);
+
+    fn next(&mut self) -> Option<Self::Item> {
+        let (name, value) = self.params.next()?;
+        Some((name, unescape(value.as_ref()).into_owned()))
+    }
+
+    fn size_hint(&self) -> (usize, Option<usize>) {
+        self.params.size_hint()
+    }
+}
+
+/// Elements are equal if their ids are, and their parameters in any order.
+impl<S: AsRef<str> + Ord + PartialEq + Clone> PartialEq for StructuredElement<S> {
+    fn eq(&self, other: &Self) -> bool {
+        let sorted = |it: &Self| {
+            let mut params = it.params.clone();
+            params.sort();
+            params
+        };
+        self.id == other.id && (self.params == other.params || sorted(self) == sorted(other))
+    }
+}
+
+impl<S: AsRef<str> + Ord + PartialEq + Clone> Eq for StructuredElement<S> {}
+
+impl<'a> From<libsyslog_loose::Element<'_, 'a>> for StructuredElement<&'a str> {
+    fn from(it: libsyslog_loose::Element<'_, 'a>) -> Self {
+        StructuredElement { id: it.id, params: it.params().map(|it| (it.name, it.raw)).collect() }
+    }
+}
+
+impl From<StructuredElement<&str>> for StructuredElement<String> {
+    fn from(it: StructuredElement<&str>) -> Self {
+        let params = it.params.iter().map(|(name, value)| (name.to_string(), value.to_string()));
+        StructuredElement { id: it.id.to_string(), params: params.collect() }
+    }
+}
+
+impl<S: AsRef<str> + Ord + PartialEq + Clone> fmt::Display for StructuredElement<S> {
+    fn fmt(&self, f: &mut fmt::Formatter<'_>) -> fmt::Result {
+        write!(f, "[{}", self.id.as_ref())?;
+        for (name, value) in &self.params {
+            write!(f, " {}=\"{}\"", name.as_ref(), value.as_ref())?;
+        }
+        f.write_str("]")
+    }
+}
