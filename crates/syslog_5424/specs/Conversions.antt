@@ -8,7 +8,7 @@ use Rattle.syslog_loose.specs.Reading.{IsUnreadable}
 use Rattle.syslog_loose.specs.Reckoning.{InDating}
 use Rattle.syslog_loose.specs.declared.variant.Variant.TheVariants.{Either}
 use Rattle.syslog_lines.specs.Count.{held_count}
-use Rattle.syslog_lines.specs.Output.{Answer, Filter, Written, Marked, Omitted, is_passed_over}
+use Rattle.syslog_lines.specs.Output.{Answer, Filter, Written, Marked, Omitted, is_skipped}
 use Rattle.syslog_lines.specs.Pump.{FiltersAll}
 use Rattle.syslog_lines.specs.declared.summary.Summary.{Summary}
 use Rattle.syslog_strict.specs.Call.{IsConvertedText, NoSyslogMsg}
@@ -48,4 +48,4 @@ conversions options = record {
 abbrev pub ConvertsAll : Options → Option (List ℕ) → Option (List ℕ) → Option (List ℕ) → Option (List ℕ) → Summary → Type 0
 ConvertsAll options in_before in_after out_before out_after summary = (answers : List Answer)
     × (all : FiltersAll (conversions options) in_before in_after out_before out_after answers)
-    × (summary.lines ≡ held_count (length all.lines)) × (summary.refused ≡ held_count (count_by is_passed_over answers))
+    × (summary.lines ≡ held_count (length all.lines)) × (summary.refused ≡ held_count (count_by is_skipped answers))

@@ -46,7 +46,7 @@ pub fn write_converted<R: Read, W: Write>(
     let tally = pump(alloc, &Conversions { options }, reader, writer)?;
     Ok(Summary {
         lines: tally.lines(),
-        refused: tally.passed_over,
+        refused: tally.skipped,
     })
 }
 
@@ -85,7 +85,7 @@ impl LineFilter for Conversions {
     ghost answers = { λ filter. conversions filter.options };
 
     #[inline(always)]
-    fn answer(
+    fn filter_line(
         &self,
         alloc: Global,
         line: &str,
@@ -102,7 +102,7 @@ impl LineFilter for Conversions {
         }
     }
 
-    fn answer_other(&self, _: Global, _: &[u8], _: &mut Vec<u8>) -> Result<bool, AllocError> {
+    fn filter_bytes(&self, _: Global, _: &[u8], _: &mut Vec<u8>) -> Result<bool, AllocError> {
         Ok(false)
     }
 }

@@ -18,7 +18,7 @@ use syslog_lines::Watched;
 use syslog_loose::VERSION;
 
 // Writes the lines of standard input as RFC 5424, and then returns the exit status.
-fn answer_input(rt: &HostRuntime, options: Options) -> u8 {
+fn filter_input(rt: &HostRuntime, options: Options) -> u8 {
     let mut reader = Watched::new(rt.stdin());
     let mut writer = Watched::new(rt.stdout());
     let outcome = write_converted(rt.alloc(), &mut reader, &mut writer, options);
@@ -26,21 +26,21 @@ fn answer_input(rt: &HostRuntime, options: Options) -> u8 {
 }
 
 // Does what is asked for, and then returns the exit status.
-fn answer(rt: &HostRuntime, task: Result<Task, Wrong<'_>>) -> u8 {
+fn run_task(rt: &HostRuntime, task: Result<Task, Wrong<'_>>) -> u8 {
     let mut out = Watched::new(rt.stdout());
     let mut errors = rt.stderr();
     match task {
         Ok(Task::Help) => say(HELP, &mut out, &mut errors),
         Ok(Task::Version) => say_version("syslog_5424", VERSION, &mut out, &mut errors),
-        Ok(Task::Lines { dates, .. }) => answer_input(rt, Options::new(dates)),
+        Ok(Task::Lines { dates, .. }) => filter_input(rt, Options::new(dates)),
         Err(wrong) => refuse_words(rt, USAGE, wrong, &mut errors),
     }
 }
 
 fn main(rt: HostRuntime) -> ExitCode {
     let status = match program_words(&rt) {
-        Ok(words) => answer(&rt, read_task(&words, false)),
-        Err(wrong) => answer(&rt, Err(wrong)),
+        Ok(words) => run_task(&rt, read_task(&words, false)),
+        Err(wrong) => run_task(&rt, Err(wrong)),
     };
     ExitCode::from(status)
 }

@@ -17,7 +17,7 @@ use Rattle.json.specs.Json.{Json}
 use Rattle.serde_json.specs.Data.{Data}
 use Rattle.serde_json.specs.Read.{of_json, read}
 use Rattle.syslog_lines.specs.Count.{held_count}
-use Rattle.syslog_lines.specs.Output.{Answer, Filter, Written, Marked, Omitted, is_passed_over}
+use Rattle.syslog_lines.specs.Output.{Answer, Filter, Written, Marked, Omitted, is_skipped}
 use Rattle.syslog_lines.specs.Pump.{FiltersAll}
 use Rattle.syslog_lines.specs.declared.summary.Summary.{Summary}
 use Rattle.syslog_object.specs.Object.{invalid_json, message_json, refused_json}
@@ -59,7 +59,7 @@ pub record IsReadAs (value : Json) (bytes : List ℕ) : Type 0 where
   pub made : of_json value ≡ Some own
   pub read_back : read bytes ≡ Some own
 
--- the answer to a line: the text of its only value; a line that is no message counts as passed over
+-- the answer to a line: the text of its only value; a line that is no message counts as skipped
 abbrev pub IsObject : Options → List ℕ → Answer → Type 0
 IsObject options line (Written bytes) = (value : Json) × IsOnly (IsReadJson options line) value × IsReadAs value bytes
 IsObject options line (Marked bytes) = (value : Json) × IsOnly (IsRefusedJson options line) value × IsReadAs value bytes
@@ -75,7 +75,7 @@ abbrev pub WritesObjects : Options → Option (List ℕ) → Option (List ℕ) �
     → Summary → Type 0
 WritesObjects options in_before in_after out_before out_after summary = (answers : List Answer)
     × (all : FiltersAll (objects options) in_before in_after out_before out_after answers)
-    × (summary.lines ≡ held_count (length all.lines)) × (summary.refused ≡ held_count (count_by is_passed_over answers))
+    × (summary.lines ≡ held_count (length all.lines)) × (summary.refused ≡ held_count (count_by is_skipped answers))
 
 -- the line as which the text is read was returned, and the writer was given its elements; or the text is no message
 abbrev pub IsLineRead : Options → Text → Option Line → ObjectWriter → Type 0

@@ -46,7 +46,7 @@ pub fn write_objects<R: Read, W: Write>(
     let tally = pump(alloc, &Objects { options }, reader, writer)?;
     Ok(Summary {
         lines: tally.lines(),
-        refused: tally.passed_over,
+        refused: tally.skipped,
     })
 }
 
@@ -121,7 +121,7 @@ fn write_refused(memory: Vec<u8>, line: &str, output: &mut Vec<u8>) -> Result<Ve
 impl LineFilter for Objects {
     ghost answers = { λ filter. objects filter.options };
 
-    fn answer(
+    fn filter_line(
         &self,
         alloc: Global,
         line: &str,
@@ -139,7 +139,7 @@ impl LineFilter for Objects {
         Ok(is_message)
     }
 
-    fn answer_other(
+    fn filter_bytes(
         &self,
         alloc: Global,
         line: &[u8],

@@ -21,7 +21,7 @@ use syslog_lines::Watched;
 use syslog_loose::VERSION;
 
 // Writes the lines of standard input as JSON, and then returns the exit status.
-fn answer_input(rt: &HostRuntime, options: Options) -> u8 {
+fn filter_input(rt: &HostRuntime, options: Options) -> u8 {
     let mut reader = Watched::new(rt.stdin());
     let mut writer = Watched::new(rt.stdout());
     let outcome = write_objects(rt.alloc(), &mut reader, &mut writer, options);
@@ -29,21 +29,21 @@ fn answer_input(rt: &HostRuntime, options: Options) -> u8 {
 }
 
 // Does what is asked for, and then returns the exit status.
-fn answer(rt: &HostRuntime, task: Result<Task, Wrong<'_>>) -> u8 {
+fn run_task(rt: &HostRuntime, task: Result<Task, Wrong<'_>>) -> u8 {
     let mut out = Watched::new(rt.stdout());
     let mut errors = rt.stderr();
     match task {
         Ok(Task::Help) => say(HELP, &mut out, &mut errors),
         Ok(Task::Version) => say_version("syslog_json", VERSION, &mut out, &mut errors),
-        Ok(Task::Lines { raw, dates }) => answer_input(rt, Options::new(raw, dates)),
+        Ok(Task::Lines { raw, dates }) => filter_input(rt, Options::new(raw, dates)),
         Err(wrong) => refuse_words(rt, USAGE, wrong, &mut errors),
     }
 }
 
 fn main(rt: HostRuntime) -> ExitCode {
     let status = match program_words(&rt) {
-        Ok(words) => answer(&rt, read_task(&words, true)),
-        Err(wrong) => answer(&rt, Err(wrong)),
+        Ok(words) => run_task(&rt, read_task(&words, true)),
+        Err(wrong) => run_task(&rt, Err(wrong)),
     };
     ExitCode::from(status)
 }

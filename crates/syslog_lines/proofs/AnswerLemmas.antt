@@ -82,7 +82,7 @@ Answered-none filter old new tally same =
 pub Answered-one : (filter : Filter) (line old new : List ℕ) (was is : Tally) (answered : Bool)
     → AddsAnswer filter line old new answered
     → is.answered ≡ held_count (was.answered + cond answered 1 0)
-    → is.passed_over ≡ held_count (was.passed_over + cond answered 0 1)
+    → is.skipped ≡ held_count (was.skipped + cond answered 0 1)
     → Answered filter (line ∷ []) (Some old) (Some new) was is
 Answered-one filter line old new was is answered (answer, given, added, same) more less = record {
   wrote = record { answers = answer ∷ []; answered = (given, tt); written = rw append-nil added };

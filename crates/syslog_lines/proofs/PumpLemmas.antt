@@ -1,6 +1,6 @@
 -- How a filter is pumped over its input, block by block.
 use Rattle.syslog_lines.proofs
-use proofs.Names.{append_assoc, append-nil, All-append, RunFault, EndsInFeed, is_answered, is_passed_over, WritesFirst}
+use proofs.Names.{append_assoc, append-nil, All-append, RunFault, EndsInFeed, is_answered, is_skipped, WritesFirst}
 use proofs.Names.{Option, subst, All-nil, Memory, IsLines, NoFeed, count_by, Filter, HasCounted, Answered, AnswersAll}
 use proofs.Names.{◌≡◌, ◌≢◌, ℕ, Bool, List, [], ◌++◌, inl, inr, refl, sym, arith, Keeps, Tally, Write}
 use Rattle.std.specs.Io.KnownBytes.{Consumes, IsAtEnd}
@@ -11,7 +11,7 @@ use Rattle.syslog_lines.specs.Pump.{CanAnswer, EndsEarly, ReadAll, ReadLines, Pu
 use proofs.AnswerLemmas.{Answered-after, Answered-none, Wrote-none, WroteBefore-after, WroteCut-after}
 
 abbrev none_counted : Tally
-none_counted = record { answered = 0; passed_over = 0 }
+none_counted = record { answered = 0; skipped = 0 }
 
 -- the complete lines of what was read so far were answered, and their output written
 pub record PumpedSoFar (filter : Filter) (in_before in_after out_before out_after : Option (List ℕ)) (cut : List ℕ)
@@ -125,7 +125,7 @@ module _ {filter : Filter} {in_before in_mid out_before out_mid : Option (List �
           let whole = Answered-after so_far.answered answered in
           let zero = whole.counted 0 0 (refl, refl) in
           let counted : HasCounted is (count_by is_answered whole.wrote.answers)
-          (count_by is_passed_over whole.wrote.answers) = (omega (arith, zero.0), omega (arith, zero.1)) in (
+          (count_by is_skipped whole.wrote.answers) = (omega (arith, zero.0), omega (arith, zero.1)) in (
             whole.wrote.answers,
             record {
               lines = so_far.lines ++ part;

@@ -4,7 +4,7 @@ use Rattle.std.specs.List.{AllZip, flat_map}
 use Rattle.syslog_lines.specs.declared.summary.Tally.{Tally}
 use Rattle.syslog_lines.specs.Count.{held_count}
 
--- what a line gives: these bytes are written for it; or they are, and the line counts as passed over; or nothing is
+-- what a line gives: these bytes are written for it; or they are, and the line counts as skipped; or nothing is
 pub data Answer : Type 0 where
   Written : List ℕ → Answer
   Marked : List ℕ → Answer
@@ -15,8 +15,8 @@ is_answered (Written bytes) = true
 is_answered (Marked bytes) = false
 is_answered Omitted = false
 
-abbrev pub is_passed_over : Answer → Bool
-is_passed_over answer = not (is_answered answer)
+abbrev pub is_skipped : Answer → Bool
+is_skipped answer = not (is_answered answer)
 
 -- what a filter does: what it gives for a line, and for which lines it may take memory
 pub record Filter : Type 1 where
@@ -37,15 +37,15 @@ answer_bytes Omitted = []
 abbrev pub output_of : List Answer → List ℕ
 output_of answers = flat_map answer_bytes answers
 
--- the tally counts this many lines as answered, and this many as passed over
+-- the tally counts this many lines as answered, and this many as skipped
 abbrev pub HasCounted : Tally → ℕ → ℕ → Type 0
-HasCounted tally answered passed_over = (tally.answered ≡ held_count answered)
-    × (tally.passed_over ≡ held_count passed_over)
+HasCounted tally answered skipped = (tally.answered ≡ held_count answered)
+    × (tally.skipped ≡ held_count skipped)
 
 -- the tally grew by what the lines gave
 abbrev pub Counts : Tally → Tally → List Answer → Type 0
-Counts was is answers = (answered passed_over : ℕ) → HasCounted was answered passed_over
-    → HasCounted is (answered + count_by is_answered answers) (passed_over + count_by is_passed_over answers)
+Counts was is answers = (answered skipped : ℕ) → HasCounted was answered skipped
+    → HasCounted is (answered + count_by is_answered answers) (skipped + count_by is_skipped answers)
 
 -- what a line gives was added, and this says whether it counts as answered
 abbrev pub AddsAnswer : Filter → List ℕ → List ℕ → List ℕ → Bool → Type 0

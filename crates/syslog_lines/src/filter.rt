@@ -14,7 +14,7 @@ pub trait LineFilter {
     ///
     /// If an allocation fails, nothing is added, and the line is one for which memory may be taken. `text` is for a
     /// text in between: what it holds doesn't count, and its memory is used again for the next line.
-    fn answer(
+    fn filter_line(
         &self,
         alloc: Global,
         line: &str,
@@ -28,7 +28,7 @@ pub trait LineFilter {
 
     /// Adds what a line that is not UTF-8 gives, with a line feed, to `output`, or nothing. Returns whether the line
     /// counts as answered. If an allocation fails, nothing is added.
-    fn answer_other(
+    fn filter_bytes(
         &self,
         alloc: Global,
         line: &[u8],

@@ -4,10 +4,10 @@
 //! it reads the next. `docs/PROMISES.md` says what was read and written if it ends early. The programs are built on it.
 //!
 //! If `reader` holds the lines `a` and `b`, and `filter` gives each its text, `pump(alloc, &filter, &mut reader, &mut
-//! writer)` writes `a` and `b`, each with a line feed. It returns a `Tally` with `answered` 2 and `passed_over` 0.
+//! writer)` writes `a` and `b`, each with a line feed. It returns a `Tally` with `answered` 2 and `skipped` 0.
 #![tactic(auto)]
 
-mod answer;
+mod apply;
 mod block;
 pub mod filter;
 mod lines;

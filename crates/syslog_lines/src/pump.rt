@@ -3,7 +3,7 @@ ghost use Rattle.std.specs.Prelude.{◌≡◌, false, IfOk, IfErr, OnOk};
 ghost use Rattle.syslog_lines.specs.Pump.{EndsEarly, FailedAs, PumpsAll};
 ghost use Rattle.syslog_lines.specs.Write.{AnswersAll, WritesFirst};
 
-use crate::answer::answer_lines;
+use crate::apply::filter_lines;
 use crate::block::Block;
 use crate::filter::LineFilter;
 use crate::summary::{RunFault, Tally};
@@ -34,7 +34,7 @@ pub fn pump<F: LineFilter, R: Read, W: Write>(
 {
     let mut tally = Tally {
         answered: 0,
-        passed_over: 0,
+        skipped: 0,
     };
     let mut text = String::new(alloc);
     let mut output = Vec::new(alloc);
@@ -83,7 +83,7 @@ fn write_answers<F: LineFilter, W: Write>(
         (W.contents writer.new.inner) writer.new.failed) }
 {
     output.clear();
-    let answered = answer_lines(alloc, filter, lines, text, output, tally);
+    let answered = filter_lines(alloc, filter, lines, text, output, tally);
     writer.write_whole(output)?;
     answered?;
     Ok(())

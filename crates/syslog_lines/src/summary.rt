@@ -11,13 +11,13 @@ pub struct Summary {
     pub refused: u64,
 }
 
-/// How many lines a filter answered, and how many it passed over. A count that is at its last value stays so.
+/// How many lines a filter answered, and how many it skipped. A count that is at its last value stays so.
 #[derive(Clone, Copy)]
 pub struct Tally {
     /// The number of lines for which the filter returned `true`.
     pub answered: u64,
     /// The number of lines for which the filter returned `false`.
-    pub passed_over: u64,
+    pub skipped: u64,
 }
 
 impl Tally {
@@ -28,18 +28,18 @@ impl Tally {
     #[inline]
     pub fn count(&mut self, is_answered: bool)
         ensures answered { self.new.answered ≡ held_count (self.old.answered + (if is_answered then 1 else 0)) }
-        ensures passed_over { self.new.passed_over
-            ≡ held_count (self.old.passed_over + (if is_answered then 0 else 1)) }
+        ensures skipped { self.new.skipped
+            ≡ held_count (self.old.skipped + (if is_answered then 0 else 1)) }
     {
         self.answered = self.answered.saturating_add(u64::from(is_answered));
-        self.passed_over = self.passed_over.saturating_add(u64::from(!is_answered));
+        self.skipped = self.skipped.saturating_add(u64::from(!is_answered));
     }
 
     /// Returns how many lines were counted.
     pub fn lines(&self) -> u64
-        ensures { result ≡ held_count (self.now.answered + self.now.passed_over) }
+        ensures { result ≡ held_count (self.now.answered + self.now.skipped) }
     {
-        self.answered.saturating_add(self.passed_over)
+        self.answered.saturating_add(self.skipped)
     }
 }
 

@@ -1,5 +1,5 @@
 -- What a run wrote is written again by a run in the same year: each of its lines is stable, and gives itself alone.
-use Rattle.syslog_tidy.proofs.Names.{[], append-nil, encodes-chars, IsRound, IsFirstSettled, AreAnswers, is_passed_over}
+use Rattle.syslog_tidy.proofs.Names.{[], append-nil, encodes-chars, IsRound, IsFirstSettled, AreAnswers, is_skipped}
 use Rattle.syslog_tidy.proofs.Names.{ℕ, length, subst, arith, IsRead, in_utc, Either, Answer, Omitted, Written, tidying}
 use Rattle.syslog_tidy.proofs.Names.{◌≡◌, zero, suc, ℤ, true, List, ◌∷◌, ◌++◌, inl, inr, refl, sym, ap, ◌∙◌, chars}
 use Rattle.std.proofs.Common.{◌≢◌, nat_lt, length-append, Option, append_assoc}
@@ -144,7 +144,7 @@ all_at_rest year lines answers free h = absurd h
 
 -- each of them gives itself
 answered_again : (year : ℤ) (ts : List (List ℕ)) (answers : List Answer) → AllByRecursion (IsAtRest year) ts
-    → AreAnswers (tidying year) ts answers → (output_of answers ≡ with_feeds ts) × (count_by is_passed_over answers ≡ 0)
+    → AreAnswers (tidying year) ts answers → (output_of answers ≡ with_feeds ts) × (count_by is_skipped answers ≡ 0)
 answered_again year [] [] h k = (refl, refl)
 answered_again year (t ∷ ts) (a ∷ answers) h k =
     let (same, none) = answered_again year ts answers h.1 k.1 in

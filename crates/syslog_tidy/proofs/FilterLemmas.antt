@@ -1,5 +1,5 @@
 -- What the filters give.
-use Rattle.syslog_tidy.proofs.Names.{[], IsRound, IsFirstSettled, tidying, AreAnswers, Omitted, Written, is_passed_over}
+use Rattle.syslog_tidy.proofs.Names.{[], IsRound, IsFirstSettled, tidying, AreAnswers, Omitted, Written, is_skipped}
 use Rattle.syslog_tidy.proofs.Names.{◌≡◌, ℕ, zero, suc, List, ◌∷◌, refl, subst, chars, IsRead, in_utc, Either, Answer}
 use Rattle.syslog_tidy.proofs.Names.{ℤ}
 use Rattle.std.proofs.Common.{Some, None, Result, Ok, Err, MatchResult}
@@ -12,7 +12,7 @@ use Rattle.syslog_lines.specs.Output.{is_answered}
 
 -- exactly one of two filters writes something for a line
 one_written : (year : ℤ) (line : List ℕ) (settled refused : Answer) → (tidying year).Answers line settled
-    → (refusing year).Answers line refused → is_answered refused ≡ is_passed_over settled
+    → (refusing year).Answers line refused → is_answered refused ≡ is_skipped settled
 one_written year line (Written bytes) (Written other) (valid, (text, given, same)) (none, whole) =
     absurd (none valid text given)
 one_written year line (Written bytes) Omitted s r = refl

@@ -5,7 +5,7 @@ pub use Rattle.std.proofs.lemmas.Int.{to_z-of_z}
 pub use Rattle.std.proofs.lemmas.Str.{encodes-chars}
 pub use Rattle.std.specs.Str.{chars}
 pub use Rattle.syslog_lines.proofs.AnswerLemmas.{IfErr-passed}
-pub use Rattle.syslog_lines.specs.Output.{is_passed_over, Written, Omitted, Answer, AreAnswers}
+pub use Rattle.syslog_lines.specs.Output.{is_skipped, Written, Omitted, Answer, AreAnswers}
 pub use Rattle.syslog_loose.proofs.ReadingLemmas.{in_this_year}
 pub use Rattle.syslog_loose.specs.Reading.{IsRead, in_utc}
 pub use Rattle.syslog_loose.specs.Settling.{IsFirstSettled, IsRound}

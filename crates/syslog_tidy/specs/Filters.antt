@@ -10,7 +10,7 @@ use Rattle.syslog_loose.specs.declared.variant.Variant.TheVariants.{Either}
 use Rattle.syslog_lines.specs.Count.{held_count}
 use Rattle.syslog_lines.specs.Lines.{IsLines}
 use Rattle.syslog_lines.specs.Output.{Answer, AreAnswers, Filter, Marked, Omitted}
-use Rattle.syslog_lines.specs.Output.{Written, is_answered, is_passed_over, output_of}
+use Rattle.syslog_lines.specs.Output.{Written, is_answered, is_skipped, output_of}
 use Rattle.syslog_lines.specs.Pump.{FiltersAll}
 use Rattle.syslog_tidy.specs.declared.counts.Changed.{Changed}
 use Rattle.syslog_lines.specs.declared.summary.Summary.{Summary}
@@ -61,7 +61,7 @@ refusing year = record { Answers = IsRefused year; Wants = λ line. ⊤ }
 abbrev pub TidiesAll : ℤ → Option (List ℕ) → Option (List ℕ) → Option (List ℕ) → Option (List ℕ) → Summary → Type 0
 TidiesAll year in_before in_after out_before out_after summary = (answers : List Answer)
     × (all : FiltersAll (tidying year) in_before in_after out_before out_after answers)
-    × (summary.lines ≡ held_count (length all.lines)) × (summary.refused ≡ held_count (count_by is_passed_over answers))
+    × (summary.lines ≡ held_count (length all.lines)) × (summary.refused ≡ held_count (count_by is_skipped answers))
 
 -- these bytes are what is written in the year for the lines of some bytes
 abbrev pub IsOutput : ℤ → List ℕ → Type 0
@@ -84,7 +84,7 @@ FindsChanged year in_before in_after out_before out_after counts = (answers : Li
 abbrev pub SharesOut : ℤ → List (List ℕ) → List Answer → Type 0
 SharesOut year lines refused =
     (settled : List Answer) → AreAnswers (tidying year) lines settled
-    → AllZip (λ s r. is_answered r ≡ is_passed_over s) settled refused
+    → AllZip (λ s r. is_answered r ≡ is_skipped s) settled refused
 
 -- all was read and written, the lines are shared out with those that `tidying` writes, and the summary counts the lines
 -- and those that were written

@@ -48,7 +48,7 @@ pub fn run<R: Read, W: Write>(
     let tally = pump(alloc, &Tidy { year }, reader, writer)?;
     Ok(Summary {
         lines: tally.lines(),
-        refused: tally.passed_over,
+        refused: tally.skipped,
     })
 }
 
@@ -92,7 +92,7 @@ impl LineFilter for Tidy {
     ghost answers = { λ tidy. tidying tidy.year };
 
     #[inline(always)]
-    fn answer(
+    fn filter_line(
         &self,
         alloc: Global,
         line: &str,
@@ -109,7 +109,7 @@ impl LineFilter for Tidy {
         }
     }
 
-    fn answer_other(&self, _: Global, _: &[u8], _: &mut Vec<u8>) -> Result<bool, AllocError> {
+    fn filter_bytes(&self, _: Global, _: &[u8], _: &mut Vec<u8>) -> Result<bool, AllocError> {
         Ok(false)
     }
 }
@@ -153,7 +153,7 @@ struct Refusals {
 impl LineFilter for Refusals {
     ghost answers = { λ refusals. refusing refusals.tidy.year };
 
-    fn answer(
+    fn filter_line(
         &self,
         alloc: Global,
         line: &str,
@@ -170,7 +170,7 @@ impl LineFilter for Refusals {
         }
     }
 
-    fn answer_other(
+    fn filter_bytes(
         &self,
         _: Global,
         line: &[u8],
@@ -239,7 +239,7 @@ impl ChangedLines {
 impl LineFilter for ChangedLines {
     ghost answers = { λ filter. finding_changed filter.year };
 
-    fn answer(
+    fn filter_line(
         &self,
         alloc: Global,
         line: &str,
@@ -253,7 +253,7 @@ impl LineFilter for ChangedLines {
         Ok(is_changed)
     }
 
-    fn answer_other(&self, _: Global, _: &[u8], _: &mut Vec<u8>) -> Result<bool, AllocError> {
+    fn filter_bytes(&self, _: Global, _: &[u8], _: &mut Vec<u8>) -> Result<bool, AllocError> {
         Ok(false)
     }
 }

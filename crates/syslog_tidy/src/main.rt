@@ -24,7 +24,7 @@ pub use syslog_lines::{RunFault, Summary, Watched};
 use syslog_loose::VERSION;
 
 // Writes the output that is asked for, and returns the exit status.
-fn answer_input(rt: &HostRuntime, output: Output, year: i32) -> u8 {
+fn filter_input(rt: &HostRuntime, output: Output, year: i32) -> u8 {
     let mut reader = Watched::new(rt.stdin());
     let mut writer = Watched::new(rt.stdout());
     match output {
@@ -47,7 +47,7 @@ fn main(rt: HostRuntime) -> ExitCode {
     let mut out = Watched::new(rt.stdout());
     let mut errors = rt.stderr();
     let status = match arguments(&rt) {
-        Some(Task::Lines(output, year)) => answer_input(&rt, output, year),
+        Some(Task::Lines(output, year)) => filter_input(&rt, output, year),
         Some(Task::Help) => say(HELP, &mut out, &mut errors),
         Some(Task::Version) => say_version("syslog_tidy", VERSION, &mut out, &mut errors),
         None => usage(&mut errors),

@@ -9,7 +9,7 @@ returns-in_err-write_whole-clause-err g c =
     (begins_collected _ _ (g.W.Write.contents c.args.writer.now.inner)
     (g.W.Write.contents c.write_whole.new.self.inner) c.clear.ensures.items
     (rw c.deref.ensures.value at c.in_err-write_whole.ensures.err)) _ _ _
-    c.answer_lines-answered.ensures _ _ c.in_err-write_whole.ensures.fault)
+    c.filter_lines-answered.ensures _ _ c.in_err-write_whole.ensures.fault)
 
 pub returns-in_err-answered-clause-err : goal.returns-in_err-answered-clause-err
 returns-in_err-answered-clause-err g c =

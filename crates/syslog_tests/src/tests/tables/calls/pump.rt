@@ -20,7 +20,7 @@ struct Echo {
 impl LineFilter for Echo {
     ghost answers = { λ _. record { Answers = λ line answer. ⊤; Wants = λ line. ⊤ } };
 
-    fn answer(
+    fn filter_line(
         &self,
         _: Global,
         line: &str,
@@ -34,7 +34,7 @@ impl LineFilter for Echo {
         Ok(true)
     }
 
-    fn answer_other(
+    fn filter_bytes(
         &self,
         _: Global,
         line: &[u8],

@@ -1,5 +1,5 @@
 use Rattle.syslog_lines.{proofs.AnswerLemmas.GoesOn, proofs.Names.length}
-use Rattle.syslog_lines.proofs.answer.answer_byte_lines.Given as goal
+use Rattle.syslog_lines.proofs.apply.filter_byte_lines.Given as goal
 
 abbrev pub invariant-loop-rest : goal.invariant-loop-rest
 invariant-loop-rest g l =

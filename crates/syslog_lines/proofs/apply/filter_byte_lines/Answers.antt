@@ -1,6 +1,6 @@
 use Rattle.syslog_lines.proofs.AnswerLemmas.{AddsAnswers-stopped, Answered-one, AnswersAll-end, AnswersBefore-here}
 use Rattle.syslog_lines.proofs.AnswerLemmas.{GoesOn-more, some_left}
-use Rattle.syslog_lines.proofs.answer.answer_byte_lines.Goals as goal
+use Rattle.syslog_lines.proofs.apply.filter_byte_lines.Goals as goal
 
 pub loop-rest-init : goal.loop-rest-init
 loop-rest-init g c = record { all = λ new is all. all; before = λ new before. before }
@@ -15,7 +15,7 @@ pub loop-rest-preserved : goal.loop-rest-preserved
 loop-rest-preserved g c =
     GoesOn-more _ _ _ _ _ _ _ _ _ _ _ (some_left _ _ c.is_empty.ensures c.loop-rest-test.true)
     c.first_line.ensures c.loop-rest.invariant
-    (Answered-one _ _ _ _ _ _ _ c.in_ok-is_answered.ensures.ok c.count.ensures.answered c.count.ensures.passed_over)
+    (Answered-one _ _ _ _ _ _ _ c.in_ok-is_answered.ensures.ok c.count.ensures.answered c.count.ensures.skipped)
 
 pub returns : goal.returns
 returns g c = AnswersAll-end _ _ _ _ _ _ _ _ c.is_empty.ensures c.loop-rest-test.false c.loop-rest.invariant

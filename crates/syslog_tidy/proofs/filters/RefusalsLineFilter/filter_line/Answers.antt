@@ -1,5 +1,5 @@
 use Rattle.syslog_tidy.proofs.Names.{append-nil, refl, sym, Omitted, Written}
-use Rattle.syslog_tidy.proofs.filters.RefusalsLineFilter.answer.Goals as goal
+use Rattle.syslog_tidy.proofs.filters.RefusalsLineFilter.filter_line.Goals as goal
 
 pub returns-in-Ok-clause-ok : goal.returns-in-Ok-clause-ok
 returns-in-Ok-clause-ok c =

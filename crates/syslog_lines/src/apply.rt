@@ -1,4 +1,4 @@
-//! Runs a filter over lines.
+//! Applies a filter to each of some lines.
 ghost use Rattle.std.specs.Prelude.{◌≡◌, IfOk, OnErr};
 ghost use Rattle.syslog_lines.specs.Output.{AddsAnswer};
 ghost use Rattle.syslog_lines.specs.Write.{AddsAnswers};
@@ -12,7 +12,7 @@ use syslog_utf8::from_utf8;
 /// Adds the output of all lines to `output`, and counts them. If an allocation for a line fails, that of the lines
 /// before is added, and the line is one for which the filter may take memory. `text` is the filter's, for its texts in
 /// between.
-pub fn answer_lines<F: LineFilter>(
+pub fn filter_lines<F: LineFilter>(
     alloc: Global,
     filter: &F,
     lines: &[u8],
@@ -24,12 +24,12 @@ pub fn answer_lines<F: LineFilter>(
         tally.old tally.new result }
 {
     let Ok(valid) = from_utf8(lines) else {
-        return answer_byte_lines(alloc, filter, lines, text, output, tally);
+        return filter_byte_lines(alloc, filter, lines, text, output, tally);
     };
     let mut rest = valid;
     while !rest.is_empty() {
         let (line, after) = first_text_line(rest);
-        let is_answered = filter.answer(alloc, line, text, output)?;
+        let is_answered = filter.filter_line(alloc, line, text, output)?;
         tally.count(is_answered);
         rest = after;
     }
@@ -37,7 +37,7 @@ pub fn answer_lines<F: LineFilter>(
 }
 
 // Adds what lines give, some of which are not UTF-8.
-fn answer_byte_lines<F: LineFilter>(
+fn filter_byte_lines<F: LineFilter>(
     alloc: Global,
     filter: &F,
     lines: &[u8],
@@ -51,7 +51,7 @@ fn answer_byte_lines<F: LineFilter>(
     let mut rest = lines;
     while !rest.is_empty() {
         let (line, after) = first_line(rest);
-        let is_answered = answer_bytes(alloc, filter, line, text, output)?;
+        let is_answered = filter_any_line(alloc, filter, line, text, output)?;
         tally.count(is_answered);
         rest = after;
     }
@@ -59,7 +59,7 @@ fn answer_byte_lines<F: LineFilter>(
 }
 
 // Adds what a line gives, and returns whether it counts as answered, as the filter does.
-fn answer_bytes<F: LineFilter>(
+fn filter_any_line<F: LineFilter>(
     alloc: Global,
     filter: &F,
     line: &[u8],
@@ -72,7 +72,7 @@ fn answer_bytes<F: LineFilter>(
     ensures refusal { OnErr result ((F.answers filter.now).Wants line.now) }
 {
     match from_utf8(line) {
-        Ok(valid) => filter.answer(alloc, valid, text, output),
-        Err(_) => filter.answer_other(alloc, line, output),
+        Ok(valid) => filter.filter_line(alloc, valid, text, output),
+        Err(_) => filter.filter_bytes(alloc, line, output),
     }
 }

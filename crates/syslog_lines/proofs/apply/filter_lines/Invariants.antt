@@ -1,7 +1,7 @@
 use Rattle.syslog_lines.{proofs.AnswerLemmas.GoesOn, proofs.Names.length}
 use denote.Shadow.{shadow}
 use denote.Text.{Utf8}
-use Rattle.syslog_lines.proofs.answer.answer_lines.Given as goal
+use Rattle.syslog_lines.proofs.apply.filter_lines.Given as goal
 
 abbrev pub invariant-loop-rest : goal.invariant-loop-rest
 invariant-loop-rest g l = record {

@@ -2,7 +2,7 @@ use Rattle.syslog_json.proofs.Names.{inr, refl, ◌∙◌}
 use Rattle.syslog_lines.specs.Output.{Marked}
 use Rattle.syslog_json.proofs.ReadLemmas.{read_as}
 use Rattle.syslog_json.proofs.UniqueLemmas.{only_refused, text_after_nothing}
-use Rattle.syslog_json.proofs.filter.ObjectsLineFilter.answer_other.Goals as goal
+use Rattle.syslog_json.proofs.filter.ObjectsLineFilter.filter_bytes.Goals as goal
 
 pub returns-clause-ok : goal.returns-clause-ok
 returns-clause-ok c =

@@ -1,5 +1,5 @@
 use Rattle.syslog_tidy.proofs.Names.{refl, sym, encodes-chars, Written}
-use Rattle.syslog_tidy.proofs.filters.ChangedLinesLineFilter.answer.Goals as goal
+use Rattle.syslog_tidy.proofs.filters.ChangedLinesLineFilter.filter_line.Goals as goal
 
 pub returns-in_ok-push_line-clause-ok : goal.returns-in_ok-push_line-clause-ok
 returns-in_ok-push_line-clause-ok c =

@@ -2,7 +2,7 @@ use Rattle.std.proofs.Common.{refl, sym}
 use Rattle.std.proofs.lemmas.Str.{IsUtf8-string_bytes, encodes-chars}
 use Rattle.syslog_lines.{proofs.AnswerLemmas.OnErr-any, specs.Output.Written}
 use Rattle.syslog_5424.{proofs.CallLemmas.written_not_refused, specs.Conversions.conversions}
-use Rattle.syslog_5424.proofs.filter.ConversionsLineFilter.answer.Goals as goal
+use Rattle.syslog_5424.proofs.filter.ConversionsLineFilter.filter_line.Goals as goal
 
 pub returns-in_ok-push_line-in-Ok-clause-ok : goal.returns-in_ok-push_line-in-Ok-clause-ok
 returns-in_ok-push_line-in-Ok-clause-ok c =

@@ -1,5 +1,5 @@
 use Rattle.syslog_tidy.proofs.Names.{refl, Written}
-use Rattle.syslog_tidy.proofs.filters.RefusalsLineFilter.answer_other.Goals as goal
+use Rattle.syslog_tidy.proofs.filters.RefusalsLineFilter.filter_bytes.Goals as goal
 
 pub returns-clause-ok : goal.returns-clause-ok
 returns-clause-ok c =

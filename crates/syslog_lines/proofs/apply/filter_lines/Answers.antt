@@ -1,7 +1,7 @@
 use Rattle.syslog_lines.proofs.Names.{rules}
 use Rattle.syslog_lines.proofs.AnswerLemmas.{AddsAnswers-stopped, Answered-one, AnswersAll-end, AnswersBefore-here}
 use Rattle.syslog_lines.proofs.AnswerLemmas.{GoesOn-more, some_left}
-use Rattle.syslog_lines.proofs.answer.answer_lines.Goals as goal
+use Rattle.syslog_lines.proofs.apply.filter_lines.Goals as goal
 
 pub loop-rest-init : goal.loop-rest-init
 loop-rest-init g c = record {
@@ -20,7 +20,7 @@ loop-rest-preserved g c = record {
   text = search rules;
   so_far = GoesOn-more _ _ _ _ _ _ _ _ _ _ _ (some_left _ _ c.is_empty.ensures c.loop-rest-test.true)
       c.first_text_line.ensures c.loop-rest.invariant.so_far
-      (Answered-one _ _ _ _ _ _ _ c.in_ok-is_answered.ensures.ok c.count.ensures.answered c.count.ensures.passed_over);
+      (Answered-one _ _ _ _ _ _ _ c.in_ok-is_answered.ensures.ok c.count.ensures.answered c.count.ensures.skipped);
 }
 
 pub returns : goal.returns

@@ -2,7 +2,7 @@ use Rattle.syslog_tidy.proofs.Names.{append-nil, refl, sym, encodes-chars, Omitt
 use Rattle.std.proofs.lemmas.Str.{IsUtf8-string_bytes}
 use Rattle.syslog_lines.proofs.AnswerLemmas.{OnErr-any}
 use Rattle.syslog_tidy.proofs.FilterLemmas.{settled_is_readable}
-use Rattle.syslog_tidy.proofs.filters.TidyLineFilter.answer.Goals as goal
+use Rattle.syslog_tidy.proofs.filters.TidyLineFilter.filter_line.Goals as goal
 
 pub returns-in_err-push_line-in-Ok-clause-refusal : goal.returns-in_err-push_line-in-Ok-clause-refusal
 returns-in_err-push_line-in-Ok-clause-refusal c =
