@@ -1,5 +1,5 @@
 /* Tries the library for C at its edges, on each line of standard input: arrays and rooms of each size from 0 to one
- * more than is needed, wrong arguments, bytes that are no UTF-8, and four threads at once.
+ * more than is needed, wrong arguments, bytes that are no UTF-8, large and odd lines, and four threads at once.
  *
  *   c_edges            all of these
  *   c_edges LINE       each call once, on this line: a refusal of memory leaves all as it was. Status 4 where one was
@@ -153,7 +153,7 @@ static void each_array(const char *line, size_t length)
         }
 }
 
-/* The same answer where nothing was set before. (syslog_loose.h asks for it; valgrind sees that it isn't looked at.) */
+/* The same answer where nothing was set before, which syslog_loose.h asks for. */
 static void unset(const char *line, size_t length)
 {
     static struct place whole;
@@ -372,6 +372,66 @@ static void long_line(void)
     free(room);
 }
 
+/* A line of many pieces. In a piece, # is its number. */
+struct shape {
+    const char *head, *piece, *tail;
+};
+
+/* The line of so many pieces, in memory of its own. */
+static char *made(const struct shape *shape, size_t pieces, size_t *length)
+{
+    size_t most = strlen(shape->head) + pieces * (strlen(shape->piece) + 20) + strlen(shape->tail) + 1;
+    char *line = malloc(most), *end = line;
+    CHECK(line);
+    end += sprintf(end, "%s", shape->head);
+    for (size_t i = 0; i < pieces; i++)
+        for (const char *it = shape->piece; *it; it++)
+            end += *it == '#' ? sprintf(end, "%zu", i) : sprintf(end, "%c", *it);
+    end += sprintf(end, "%s", shape->tail);
+    *length = (size_t)(end - line);
+    return line;
+}
+
+/* With memory at hand each call that writes a text does so, also of lines of many pieces. */
+static void large_and_odd(void)
+{
+    static const struct shape shapes[] = {
+        { "1 - - - - - [i]", "[e# p=\"v\"]", " x" },
+        { "1 - - - - - [i]", "[e p=\"v\"]", " x" },
+        { "1 - - - - - [i]", "[e]", " x" },
+        { "1 - - - - - [i", " p#=\"v\"", "] x" },
+        { "1 - - - - - [i", " p=\"\\n\\]\"", "] x" },
+        { "1 - - - - - [i", " \xc3\xa9#=\"\x01\xc3\xa9\"", "] x" },
+        { "1 - - - - - [i p=\"", "\\\\", "\"] x" },
+        { "1 - - - - - [i]", "[a\" b=\"]", " x" },
+        { "1 - - - - - [i]", "[]", " x" },
+        { "1 - - - - - - x", "\"\\\x01", "" },
+        { "1 - h", "\xc3\xa9", " a - - - x" },
+        { "1 - - - ", "7", "0 - - x" },
+        { "Mar  2 06:35:05 h a: ", "[e# p=\"v\"]", " x" },
+        { "Mar  2 06:35:05 h a: ", "- ", "x" },
+        { "Mar  2 06:35:05 h", ":", " x" },
+        { "Mar  2 06:35:05 a", "\xc3\xa9", "[7]: x" },
+        { "Mar  2 06:35:05 h a: ", " ", "x" },
+    };
+    static const size_t counts[] = { 0, 1, 2, 7, 8, 9, 15, 16, 17, 31, 32, 33, 34, 63, 64, 65, 127, 128, 129, 255, 256, 257, 4096 };
+    writer *calls[] = { normalise, settle, strict, object, object_with_line };
+    for (size_t i = 0; i < sizeof shapes / sizeof *shapes; i++)
+        for (size_t k = 0; k < sizeof counts / sizeof *counts; k++) {
+            size_t length, needed, again;
+            char *line = made(&shapes[i], counts[k], &length);
+            for (size_t n = 0; n < sizeof calls / sizeof *calls; n++) {
+                size_t most = 16 * length + ROOM;
+                char *room = malloc(most);
+                CHECK(room && calls[n](line, length, room, most, &needed) == SYSLOG_DONE && needed > 0);
+                CHECK(calls[n](line, length, room, needed, &again) == SYSLOG_DONE && again == needed);
+                CHECK(calls[n](line, length, room, needed - 1, &again) == SYSLOG_NO_ROOM && again == needed);
+                free(room);
+            }
+            free(line);
+        }
+}
+
 static char *lines[LINES];
 static size_t lines_read;
 
@@ -458,6 +518,7 @@ int main(int count, char **words)
     converted();
     names();
     long_line();
+    large_and_odd();
     threads();
     for (size_t i = 0; i < lines_read; i++)
         free(lines[i]);
