@@ -5,6 +5,7 @@ mod element;
 mod escapes;
 mod field;
 mod gather;
+pub mod laws;
 mod object;
 mod plain;
 mod writer;

@@ -7,3 +7,4 @@ pub mod Words
 pub mod StampLemmas
 pub mod TextLemmas
 pub mod ValidLemmas
+pub mod ValueLemmas

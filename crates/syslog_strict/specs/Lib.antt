@@ -5,3 +5,4 @@ pub mod Grammar
 pub mod Ids
 pub mod Joined
 pub mod Pushing
+pub mod Value

@@ -2,6 +2,7 @@
 ghost use Rattle.std.specs.Prelude.{◌≡◌, ◌⊎◌, IfSome};
 ghost use Rattle.syslog_pieces.specs.Pieces.Class.{Text};
 ghost use Rattle.syslog_pieces.specs.ProcId.{IsBoundedProcess};
+ghost use Rattle.syslog_pieces.specs.StructuredData.Escapes.{IsUnescaped};
 ghost use Rattle.syslog_pieces.specs.Timestamp.Zone.{Dating};
 ghost use Rattle.syslog_loose.specs.Canonical.{IsCanonical};
 ghost use Rattle.syslog_loose.specs.Message.{MessageValue};
@@ -10,8 +11,9 @@ ghost use Rattle.syslog_loose.specs.Reading.{IsRead, dash_rule};
 ghost use Rattle.syslog_loose.specs.declared.variant.Variant.{Variant};
 ghost use Rattle.syslog_loose.specs.declared.variant.Variant.TheVariants.{Either};
 ghost use Rattle.syslog_strict.specs.Call.{IsConvertedText};
-ghost use Rattle.syslog_strict.specs.Conversion.{converted};
+ghost use Rattle.syslog_strict.specs.Conversion.{converted, converted_value};
 ghost use Rattle.syslog_strict.specs.Grammar.{IsSyslogMsg};
+ghost use Rattle.syslog_strict.specs.Value.{meaning};
 
 /// The printed text of each converted message is in the grammar of RFC 5424, whether the message was read or not. A
 /// number that is a process id has 32 bits, as in the program.
@@ -37,4 +39,12 @@ pub fn converted_text_stays()
         → IsConvertedText variant dating input text
         → (IsSyslogMsg text × (again ≡ text)) ⊎ IsConvertedText Either receiver text again → again ≡ text }
     ensures message { (m : MessageValue) → printed (converted (converted m)) ≡ printed (converted m) }
+{}
+
+/// A converted value means what the value meant, as the RFC reads both: so `\n` is a backslash and an `n` before and
+/// after. And without its escapes, as this project removes them, it is what the RFC reads.
+#[tactic(auto, using(crate::proofs::ValueLemmas::value_keeps_its_meaning, crate::proofs::ValueLemmas::converted_is_unescaped))]
+pub fn converted_value_keeps_its_meaning()
+    ensures same { (value : Text) → meaning (converted_value value) ≡ meaning value }
+    ensures unescaped { (value : Text) → IsUnescaped (converted_value value) (meaning value) }
 {}
