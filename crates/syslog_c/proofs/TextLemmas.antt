@@ -2,9 +2,11 @@
 use Rattle.syslog_c.proofs.Words.{List, append-nil, append_assoc, IsUtf8-string_bytes, chars-nil, ParseFault, TakesText}
 use Rattle.syslog_c.proofs.Words.{ℕ, ◌∷◌, ◌++◌, Result, Err, refl, arith, length, subst, Text, Dating, Variant, Outcome}
 use Rattle.syslog_c.proofs.Words.{[], Ok, ◌≡◌, ◌≤◌, ◌∙◌, inl, inr, sym, ap}
-use Rattle.std.{proofs.Common.MatchResult, proofs.Common.String, specs.Fmt.WritesInCalls, specs.Prelude.string_bytes}
+use Rattle.std.{proofs.Common.MatchResult, proofs.Common.String, specs.Prelude.string_bytes}
 use Rattle.std.{specs.Global.Global, specs.Str.chars, specs.Prelude.⊤}
-use Rattle.std.{proofs.lemmas.Str.IsUtf8-append, proofs.lemmas.Str.IsUtf8-nil, specs.List.concat, specs.List.FoldsTo}
+use Rattle.std.{proofs.lemmas.Str.IsUtf8-append, proofs.lemmas.Str.IsUtf8-nil}
+use Rattle.std.{proofs.lemmas.Grind.flat_map-append, proofs.lemmas.List.map-append, specs.List.flat_map}
+use Rattle.std.proofs.Common.{map}
 use Rattle.syslog_pieces.proofs.Names.{chars-append}
 use Rattle.syslog_loose.specs.Settling.{Settles}
 use Rattle.syslog_loose.specs.declared.fault.ParseFault.TheVariants.{Invalid, Memory}
@@ -41,13 +43,6 @@ takes_after old mid new a b first then_more start taken h =
 pub takes_none : (b : Buffer) → Takes b [] b
 takes_none b start taken h = subst (λ (bs : List ℕ). HasTaken start b bs) (sym (append-nil taken)) h
 
-takes_all : (old new : Buffer) (parts : List (List ℕ)) → FoldsTo Takes old parts new → Takes old (concat parts) new
-takes_all old new [] same = subst (λ (b : Buffer). Takes old [] b) same (takes_none old)
-takes_all old new (p ∷ ps) (mid, one, more) = takes_after old mid new p (concat ps) one (takes_all mid new ps more)
-
-pub takes_calls : (old new : Buffer) (bytes : List ℕ) → WritesInCalls Takes old bytes new → Takes old bytes new
-takes_calls old new bytes w = subst (λ (bs : List ℕ). Takes old bs new) w.whole (takes_all old new w.parts w.calls)
-
 -- texts that are put one after the other
 pub text_none : (b : Buffer) → TakesText b [] b
 text_none b = ([], IsUtf8-nil, chars-nil, takes_none b)
@@ -72,3 +67,9 @@ told first now bytes old needed outcome same h (e, short, inl (done, fits)) =
     rw (done, ← same) (omega (arith, e, h.needed, whole, short), whole, h.put whole)
 told first now bytes old needed outcome same h (e, short, inr (more, past)) =
     rw more (e ∙ h.needed, omega (arith, h.needed, past))
+
+-- one more of the items whose texts are put one after the other
+pub more_text : {X Y : Type 0} (f : Y → Text) (view : X → Y) (head : Text) (xs : List X) (x : X)
+    → (head ++ flat_map f (map view xs)) ++ f (view x) ≡ head ++ flat_map f (map view (xs ++ (x ∷ [])))
+more_text f view head xs x =
+    rw (map-append view xs (x ∷ []), flat_map-append) (simp (append_assoc, append-nil))

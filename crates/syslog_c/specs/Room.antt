@@ -20,10 +20,6 @@ Puts bytes old new needed Done = (needed ≡ length bytes) × (length bytes ≤ 
 Puts bytes old new needed NoRoom = (needed ≡ told_length bytes) × (length new < length bytes)
 Puts bytes old new needed outcome = ⊥
 
--- the bytes are put; or a write was refused, which no write into the room is
-abbrev pub PutsUnlessRefused : List ℕ → List ℕ → List ℕ → ℕ → Outcome → Type 0
-PutsUnlessRefused bytes old new needed outcome = Puts bytes old new needed outcome ⊎ (outcome ≡ NoMemory)
-
 -- this text was put since the first, as far as there is space
 pub record HasTaken (first now : Buffer) (bytes : List ℕ) : Type 0 where
   pub same : now.room.ghost_name ≡ first.room.ghost_name

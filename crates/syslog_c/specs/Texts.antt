@@ -13,7 +13,7 @@ use Rattle.syslog_loose.specs.declared.variant.Variant.{Variant}
 use Rattle.syslog_object.specs.Object.{message_json}
 use Rattle.syslog_object.specs.Written.{IsTextOf}
 use Rattle.syslog_c.specs.Line.{Refuses}
-use Rattle.syslog_c.specs.Room.{IsLeft, Puts, PutsUnlessRefused}
+use Rattle.syslog_c.specs.Room.{IsLeft, Puts}
 use Rattle.syslog_c.specs.declared.outcome.Outcome.{Outcome}
 use Rattle.syslog_c.specs.declared.outcome.Outcome.TheVariants.{NoReading, NotUtf8, NoMemory}
 
@@ -39,7 +39,7 @@ Settled variant dating text old new needed outcome =
 abbrev pub Normalised : Variant → Dating → Text → List ℕ → List ℕ → ℕ → Outcome → Type 0
 Normalised variant dating text old new needed outcome =
     ((m : MessageValue) × IsOnlyRead variant dating text m
-    × PutsUnlessRefused (encode_utf8_all (printed m)) old new needed outcome)
+    × Puts (encode_utf8_all (printed m)) old new needed outcome)
     ⊎ (Refuses variant dating text outcome × IsLeft old new needed)
 
 -- the line as it came, where a number that is not 0 asks for it

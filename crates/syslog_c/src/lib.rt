@@ -15,6 +15,7 @@ mod object;
 pub mod options;
 pub mod outcome;
 mod printed;
+mod put_line;
 mod read;
 mod read_line;
 mod room;

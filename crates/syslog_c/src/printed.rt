@@ -6,16 +6,16 @@ ghost use Rattle.syslog_loose.specs.Printed.{printed};
 ghost use Rattle.syslog_c.specs.Line.{OnLine};
 ghost use Rattle.syslog_c.specs.Options.{IsReckoned};
 ghost use Rattle.syslog_c.specs.Outcome.{IsCodeOf};
-ghost use Rattle.syslog_c.specs.Room.{IsLeft, PutsUnlessRefused};
+ghost use Rattle.syslog_c.specs.Room.{IsLeft, Puts};
 ghost use Rattle.syslog_c.specs.Texts.{Normalised, Settled};
 
 use crate::options::Options;
 use crate::outcome::Outcome;
+use crate::put_line::put_line;
 use crate::read_line::read_line;
 use crate::room::{Buffer, put_answer};
 use crate::rules::{rules_of, year_of};
 use std::alloc::Global;
-use std::fmt::Write;
 use syslog_loose::{IncompleteDate, Line, settle};
 use syslog_utf8::from_utf8;
 
@@ -47,14 +47,11 @@ fn write_normal(line: &[u8], options: &Options, room: &mut [u8], needed: &mut us
 
 // Prints the line into `room`.
 fn print_into(line: &Line<'_>, room: &mut [u8], needed: &mut usize) -> Outcome
-    ensures { PutsUnlessRefused (encode_utf8_all (printed (line_value line.now))) room.old room.new needed.new result }
+    ensures { Puts (encode_utf8_all (printed (line_value line.now))) room.old room.new needed.new result }
 {
     let mut buffer = Buffer::new(room);
-    match write!(buffer, "{line}") {
-        Ok(()) => buffer.tell(needed),
-        // (the buffer refuses nothing)
-        Err(_) => Outcome::NoMemory,
-    }
+    put_line(&mut buffer, line);
+    buffer.tell(needed)
 }
 
 /// Writes the stable text of the line, which prints as itself, to the front of `room`, and its length in bytes to

@@ -3,7 +3,6 @@ ghost use Rattle.std.specs.Prelude.{◌≡◌, ◌++◌, ◌≤◌, MatchResult,
 ghost use Rattle.syslog_c.specs.Room.{IsLeftFor, Puts, Takes, TellsLength, fault_outcome};
 
 use crate::outcome::Outcome;
-use std::fmt;
 use syslog_loose::ParseFault;
 
 /// A buffer of the caller's, into which a text is put piece by piece. What has no space there is only counted.
@@ -43,15 +42,6 @@ impl<'r> Buffer<'r> {
             return Outcome::NoRoom;
         }
         Outcome::Done
-    }
-}
-
-impl fmt::Write for Buffer<'_> {
-    ghost write_str_gives = { λ old bytes new. Takes old bytes new };
-
-    fn write_str(&mut self, text: &str) -> fmt::Result {
-        self.push(text);
-        Ok(())
     }
 }
 

@@ -30,6 +30,17 @@ impl fmt::Display for Line<'_> {
     }
 }
 
+impl Line<'_> {
+    /// Returns the printed text up to the timestamp: the priority, the version of RFC 5424 and the timestamp.
+    #[tactic(auto, using(crate::proofs::PrintedLemmas::printed_line))]
+    pub fn front(&self) -> Ascii
+        ensures { ascii_bytes result ++ encode_utf8_all (rest_text (line_value self.now))
+            ≡ encode_utf8_all (printed (line_value self.now)) }
+    {
+        front_of(self)
+    }
+}
+
 // All up to the timestamp, as it prints.
 #[inline(always)]
 fn front_of(line: &Line<'_>) -> Ascii

@@ -1,16 +1,16 @@
-use Rattle.syslog_c.proofs.Words.{◌∙◌, [], inl, rules, encode_utf8_all, line_value}
+use Rattle.syslog_c.proofs.Words.{◌∙◌, [], rules, encode_utf8_all, line_value}
 use Rattle.syslog_loose.specs.Printed.{printed}
-use Rattle.syslog_c.specs.Room.{PutsUnlessRefused}
-use Rattle.syslog_c.proofs.TextLemmas.{taken_none, takes_calls, told, with_room}
+use Rattle.syslog_c.specs.Room.{Puts}
+use Rattle.syslog_c.proofs.TextLemmas.{taken_none, told, with_room}
 use Rattle.syslog_c.proofs.printed.print_into.Goals as goal
 
-pub returns-in-Ok : goal.returns-in-Ok
-returns-in-Ok c =
+pub returns : goal.returns
+returns c =
     let bytes = encode_utf8_all (printed (line_value c.args.line.now)) in
     let first = c.new-buffer.result in
-    let now = c.write.new.self in
-    let h = takes_calls first now bytes c.in-Ok.ensures.writes first [] (taken_none first c.new-buffer.ensures.none.1) in
+    let now = c.put_line.new.buffer in
+    let h = c.put_line.ensures first [] (taken_none first c.new-buffer.ensures.none.1) in
     let same = h.same ∙ c.new-buffer.ensures.same in
-    with_room (λ room. PutsUnlessRefused bytes c.args.room.now room c.tell.new.needed c.tell.result) now.room.now _
+    with_room (λ room. Puts bytes c.args.room.now room c.tell.new.needed c.tell.result) now.room.now _
     (search (rules, same))
-    (inl (told first now bytes c.args.room.now c.tell.new.needed c.tell.result c.new-buffer.ensures.none.0 h c.tell.ensures))
+    (told first now bytes c.args.room.now c.tell.new.needed c.tell.result c.new-buffer.ensures.none.0 h c.tell.ensures)
