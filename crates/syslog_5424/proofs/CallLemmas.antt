@@ -12,50 +12,51 @@ use Rattle.syslog_loose.specs.declared.variant.Variant.TheVariants.{Either}
 use Rattle.syslog_loose.proofs.ReadingLemmas.{in_year_map, in_year_told, invalid_or_memory}
 use Rattle.syslog_strict.specs.Call.{Converts, Copies, IsConvertedText, NoSyslogMsg}
 use Rattle.syslog_strict.specs.Grammar.{IsSyslogMsg}
-use Rattle.syslog_5424.specs.Conversions.{IsDated, IsRefused, IsWritten}
-use Rattle.syslog_5424.specs.declared.options.Options.{Options}
+use Rattle.syslog_5424.specs.Conversions.{IsRefused, IsWritten}
+use Rattle.syslog_command_line.specs.Dates.{IsDated}
+use Rattle.syslog_command_line.specs.declared.dates.Dates.{Dates}
 
 -- the text of a conversion is in the grammar
-strict_dated : (options : Options) (input text : Text) → IsDated options input (λ dating. IsConvertedText Either dating input text)
+strict_dated : (dates : Dates) (input text : Text) → IsDated dates input (λ dating. IsConvertedText Either dating input text)
     → IsSyslogMsg text
-strict_dated options input text h = (h.holds h.answered (λ date asks. refl)).strict
+strict_dated dates input text h = (h.holds h.answered (λ date asks. refl)).strict
 
 -- no year decides whether the text is in the grammar
-not_strict : (options : Options) (input : Text) → IsDated options input (λ dating. NoSyslogMsg input) → NoSyslogMsg input
-not_strict options input h = h.holds h.answered (λ date asks. refl)
+not_strict : (dates : Dates) (input : Text) → IsDated dates input (λ dating. NoSyslogMsg input) → NoSyslogMsg input
+not_strict dates input h = h.holds h.answered (λ date asks. refl)
 
 -- a text that is written is not refused
-pub written_not_refused : (options : Options) (input text : Text) → IsWritten options input text
-    → IsRefused options input → ⊥
-written_not_refused options input text (inl (valid, same)) refused = refused.0 valid
-written_not_refused options input text (inr (other, converted)) refused =
+pub written_not_refused : (dates : Dates) (input text : Text) → IsWritten dates input text
+    → IsRefused dates input → ⊥
+written_not_refused dates input text (inl (valid, same)) refused = refused.0 valid
+written_not_refused dates input text (inr (other, converted)) refused =
     let (dating, is, none) =
-    one_dating {Holds = λ d. IsConvertedText Either d input text} {More = λ d. IsUnreadable Either d input} options.year
-    options.month (plain_zone options.zone) Either input converted refused.1 in none is.message is.read.read
+    one_dating {Holds = λ d. IsConvertedText Either d input text} {More = λ d. IsUnreadable Either d input} dates.year
+    dates.month (plain_zone dates.zone) Either input converted refused.1 in none is.message is.read.read
 
-pub told : (options : Options) (input text : Text) (r : Result (Unit {0}) ParseFault)
-    → Copies input r text ⊎ IsDated options input (λ dating. Converts Either dating input r text)
-    → MatchResult r (λ _. IsSyslogMsg text × IsWritten options input text)
-    (λ fault. (fault ≡ Invalid) ↔ IsRefused options input)
-told options input text (Ok x) (inl (valid, e)) = (rw e valid, inl (valid, e))
-told options input text (Ok x) (inr h) =
+pub told : (dates : Dates) (input text : Text) (r : Result (Unit {0}) ParseFault)
+    → Copies input r text ⊎ IsDated dates input (λ dating. Converts Either dating input r text)
+    → MatchResult r (λ _. IsSyslogMsg text × IsWritten dates input text)
+    (λ fault. (fault ≡ Invalid) ↔ IsRefused dates input)
+told dates input text (Ok x) (inl (valid, e)) = (rw e valid, inl (valid, e))
+told dates input text (Ok x) (inr h) =
     let converted = in_year_map (λ year is. is.1) h in
-    (strict_dated options input text converted, inr (not_strict options input (in_year_map (λ year is. is.0) h), converted))
-told options input text (Err fault) (inl (valid, memory)) = (
+    (strict_dated dates input text converted, inr (not_strict dates input (in_year_map (λ year is. is.0) h), converted))
+told dates input text (Err fault) (inl (valid, memory)) = (
   λ invalid. absurd (invalid_or_memory (sym memory ∙ invalid)),
   λ refused. absurd (refused.0 valid),
 )
-told options input text (Err fault) (inr h) = (
-  λ e. (not_strict options input (in_year_map (λ year is. is.0) h), in_year_map (λ year is. is.1.0 e) h),
+told dates input text (Err fault) (inr h) = (
+  λ e. (not_strict dates input (in_year_map (λ year is. is.0) h), in_year_map (λ year is. is.1.0 e) h),
   λ refused.
       let (dating, is, none) =
       one_dating {Holds = λ d. Converts Either d input (Err fault) text} {More = λ d. IsUnreadable Either d input}
-      options.year options.month (plain_zone options.zone) Either input h refused.1 in is.1.1 none,
+      dates.year dates.month (plain_zone dates.zone) Either input h refused.1 in is.1.1 none,
 )
 
-pub told_copied : (post : IncompleteDate → ℤ → Type 0) (options : Options) (input text : Text) (r : Result (Unit {0}) ParseFault)
-    → Copies input r text ⊎ InYear post Either input (λ year. Converts Either (dating_in (plain_zone options.zone) year) input r text)
-    → ((date : IncompleteDate) (year : ℤ) → post date year → year ≡ reckoned_year options.year options.month date)
-    → Copies input r text ⊎ IsDated options input (λ dating. Converts Either dating input r text)
-told_copied post options input text r (inl copied) tells = inl copied
-told_copied post options input text r (inr h) tells = inr (in_year_told h tells)
+pub told_copied : (post : IncompleteDate → ℤ → Type 0) (dates : Dates) (input text : Text) (r : Result (Unit {0}) ParseFault)
+    → Copies input r text ⊎ InYear post Either input (λ year. Converts Either (dating_in (plain_zone dates.zone) year) input r text)
+    → ((date : IncompleteDate) (year : ℤ) → post date year → year ≡ reckoned_year dates.year dates.month date)
+    → Copies input r text ⊎ IsDated dates input (λ dating. Converts Either dating input r text)
+told_copied post dates input text r (inl copied) tells = inl copied
+told_copied post dates input text r (inr h) tells = inr (in_year_told h tells)

@@ -9,15 +9,15 @@ ghost use Rattle.syslog_strict.specs.Grammar.{IsSyslogMsg};
 ghost use Rattle.syslog_strict.specs.Pushing.{text_in};
 ghost use Rattle.syslog_5424.specs.Conversions.{ConvertsAll, IsRefused, IsWritten, conversions};
 
-use crate::options::Options;
 use std::alloc::{AllocError, Global};
 use std::io::{Read, Write};
+use syslog_command_line::Dates;
 use syslog_lines::pump::pump;
 use syslog_lines::{LineFilter, RunFault, Summary, Watched, push_line};
 use syslog_loose::{IncompleteDate, ParseFault, Variant, reckon_year};
 use syslog_strict::to_rfc5424_into;
 
-/// Reads lines to the end of the input, and writes each as RFC 5424, read by the options: a line that is in the grammar
+/// Reads lines to the end of the input, and writes each as RFC 5424, read by the dates: a line that is in the grammar
 /// as it came, and otherwise its message, converted. A line that is neither in the grammar nor parses, or is no UTF-8, is
 /// left out and counted as refused.
 ///
@@ -31,29 +31,29 @@ pub fn write_converted<R: Read, W: Write>(
     alloc: Global,
     reader: &mut Watched<R>,
     writer: &mut Watched<W>,
-    options: Options,
+    dates: Dates,
 ) -> Result<Summary, RunFault>
     requires reader { reader.old.failed ≡ false }
     requires writer { writer.old.failed ≡ false }
-    ensures ok { IfOk result (λ summary. ConvertsAll options (R.remaining reader.old.inner)
+    ensures ok { IfOk result (λ summary. ConvertsAll dates (R.remaining reader.old.inner)
         (R.remaining reader.new.inner)
         (W.contents writer.old.inner) (W.contents writer.new.inner) summary) }
-    ensures err { IfErr result (λ fault. EndsEarly (conversions options) (R.remaining reader.old.inner)
+    ensures err { IfErr result (λ fault. EndsEarly (conversions dates) (R.remaining reader.old.inner)
         (R.remaining reader.new.inner)
         (W.contents writer.old.inner) (W.contents writer.new.inner) fault) }
     ensures failed { FailedAs result reader.new.failed writer.new.failed }
 {
-    let tally = pump(alloc, &Conversions { options }, reader, writer)?;
+    let tally = pump(alloc, &Conversions { dates }, reader, writer)?;
     Ok(Summary {
         lines: tally.lines(),
         refused: tally.skipped,
     })
 }
 
-/// Writes each line as RFC 5424, read by these options.
+/// Writes each line as RFC 5424, read by these dates.
 #[derive(Drop)]
 struct Conversions {
-    options: Options,
+    dates: Dates,
 }
 
 impl Conversions {
@@ -61,11 +61,11 @@ impl Conversions {
     #[inline(always)]
     fn convert_line(&self, alloc: Global, line: &str, text: &mut String) -> Result<(), ParseFault>
         ensures { MatchResult result
-            (λ _. IsSyslogMsg (text_in text.new) × IsWritten self.now.options (chars line.now) (text_in text.new))
-            (λ fault. (fault ≡ Invalid) ↔ IsRefused self.now.options (chars line.now)) }
+            (λ _. IsSyslogMsg (text_in text.new) × IsWritten self.now.dates (chars line.now) (text_in text.new))
+            (λ fault. (fault ≡ Invalid) ↔ IsRefused self.now.dates (chars line.now)) }
     {
-        let year = self.options.year;
-        let month = self.options.month;
+        let year = self.dates.year;
+        let month = self.dates.month;
         let get_year = move |date: IncompleteDate| -> i32
             ensures { IsYear year → result ≡ reckoned_year year month date }
         { reckon_year(year, month, date) };
@@ -76,13 +76,13 @@ impl Conversions {
             get_year,
             None,
             Variant::Either,
-            &self.options.zone,
+            &self.dates.zone,
         )
     }
 }
 
 impl LineFilter for Conversions {
-    ghost answers = { λ filter. conversions filter.options };
+    ghost answers = { λ filter. conversions filter.dates };
 
     #[inline(always)]
     fn filter_line(

@@ -5,23 +5,21 @@
 #![tactic(auto)]
 
 mod filter;
-mod options;
 mod report;
 
 use filter::write_converted;
-use options::Options;
 use report::{HELP, USAGE};
 use std::process::ExitCode;
 use syslog_command_line::report::{report, say, say_version};
-use syslog_command_line::{Task, Wrong, program_words, read_task, refuse_words};
+use syslog_command_line::{Dates, Task, Wrong, program_words, read_task, refuse_words};
 use syslog_lines::Watched;
 use syslog_loose::VERSION;
 
 // Writes the lines of standard input as RFC 5424, and then returns the exit status.
-fn filter_input(rt: &HostRuntime, options: Options) -> u8 {
+fn filter_input(rt: &HostRuntime, dates: Dates) -> u8 {
     let mut reader = Watched::new(rt.stdin());
     let mut writer = Watched::new(rt.stdout());
-    let outcome = write_converted(rt.alloc(), &mut reader, &mut writer, options);
+    let outcome = write_converted(rt.alloc(), &mut reader, &mut writer, dates);
     report(&outcome, &mut rt.stderr())
 }
 
@@ -32,7 +30,7 @@ fn run_task(rt: &HostRuntime, task: Result<Task, Wrong<'_>>) -> u8 {
     match task {
         Ok(Task::Help) => say(HELP, &mut out, &mut errors),
         Ok(Task::Version) => say_version("syslog_5424", VERSION, &mut out, &mut errors),
-        Ok(Task::Lines { dates, .. }) => filter_input(rt, Options::new(dates)),
+        Ok(Task::Lines { dates, .. }) => filter_input(rt, dates),
         Err(wrong) => refuse_words(rt, USAGE, wrong, &mut errors),
     }
 }

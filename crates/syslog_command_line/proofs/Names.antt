@@ -9,4 +9,4 @@ pub use Rattle.std.specs.Fmt.InlineText.{inline_text}
 pub use Rattle.std.specs.Int.{IsInRange}
 pub use Rattle.syslog_command_line.specs.Arguments.{end_word, NamesDate, IsYear, NamesOffset}
 pub use Rattle.syslog_command_line.specs.Words.{AskForLines, raw_flag, offset_word}
-pub use Rattle.syslog_command_line.specs.declared.dates.Dates.{Dates}
+pub use Rattle.syslog_command_line.specs.Words.{NamedDates}

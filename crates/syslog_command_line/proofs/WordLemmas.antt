@@ -1,9 +1,9 @@
 -- The words that a filter with dates is called with.
 use Rattle.syslog_command_line.proofs.Names.{digits_value_short, numerals_by_value, tells_by_index, NamesOffset, AskForLines}
 use Rattle.syslog_command_line.proofs.Names.{IsTrue, [], length, get_or, IsInRange, NamesDate, end_word, offset_word, raw_flag}
-use Rattle.syslog_command_line.proofs.Names.{◌≡◌, Bool, true, false, List, ◌++◌, Option, Some, None, arith, refl, subst, Dates}
+use Rattle.syslog_command_line.proofs.Names.{◌≡◌, Bool, true, false, List, ◌++◌, Option, Some, None, arith, refl, subst, NamedDates}
 use Rattle.syslog_command_line.proofs.Names.{ℕ, ℤ, ◌<◌, ◌≤◌, ◌∷◌, pos, ap, inl, inr, sym, ◌∙◌}
-use Rattle.std.proofs.Common.{◌≤ℤ◌, ◌&&◌, ◌||◌, negsuc}
+use Rattle.std.proofs.Common.{◌≤ℤ◌, ◌&&◌, ◌||◌, negsuc, not}
 use Rattle.std.{proofs.lemmas.Int.ints, proofs.lemmas.List.Elements.Contains-append_right}
 use Rattle.syslog_command_line.{specs.Arguments.NamesYear, specs.declared.words.Wrong.Wrong}
 use Rattle.syslog_command_line.specs.declared.words.Wrong.TheVariants.{Word, Missing, Unreadable}
@@ -73,12 +73,12 @@ date_after_dash words rest year month first none (word, inr dashed, named) =
 -- ---- what is left
 
 -- a flag, if it is allowed, and a date
-abbrev pub LeftAfterZone : Bool → List (List ℕ) → Dates → Type 0
+abbrev pub LeftAfterZone : Bool → List (List ℕ) → NamedDates → Type 0
 LeftAfterZone allowed words dates = (after : Bool) × (rest : List (List ℕ)) × (words ≡ raw_flag after ++ rest)
     × (IsTrue after → IsTrue allowed) × AreDateWords rest dates.year dates.month
 
 -- a zone or none, and that
-abbrev pub LeftAfterRaw : Bool → List (List ℕ) → Dates → Type 0
+abbrev pub LeftAfterRaw : Bool → List (List ℕ) → NamedDates → Type 0
 LeftAfterRaw allowed words dates = (zone : List (List ℕ)) × (left : List (List ℕ)) × (words ≡ zone ++ left)
     × IsOffsetFlag zone dates.offset × LeftAfterZone allowed left dates
 
@@ -97,7 +97,7 @@ raw_left words rest true year month split dated = cc
 raw_left words rest false year month split dated =
     absurd (no_flag rest words raw_word year month refl (omega arith) (sym split) dated)
 
-module _ (words left : List (List ℕ)) (has_raw allowed raw : Bool) (dates : Dates) where
+module _ (words left : List (List ℕ)) (has_raw allowed raw : Bool) (dates : NamedDates) where
   after_raw : (found before after : Bool) (zone rest : List (List ℕ)) → words ≡ raw_flag found ++ left
       → ((more : List (List ℕ)) → IsTrue has_raw → words ≡ raw_word ∷ more → IsTrue found)
       → (IsTrue has_raw → found ≡ false → IsTrue allowed) → (IsTrue raw → IsTrue has_raw)
@@ -121,7 +121,7 @@ module _ (words left : List (List ℕ)) (has_raw allowed raw : Bool) (dates : Da
     (after, rest, refl, λ is. allows (has (flagged ∙ is)) refl, dated),
   )
 
-pub left_after_raw : (words left : List (List ℕ)) (has_raw allowed found raw : Bool) (dates : Dates)
+pub left_after_raw : (words left : List (List ℕ)) (has_raw allowed found raw : Bool) (dates : NamedDates)
     → words ≡ raw_flag found ++ left
     → ((rest : List (List ℕ)) → IsTrue has_raw → words ≡ raw_word ∷ rest → IsTrue found)
     → (IsTrue has_raw → found ≡ false → IsTrue allowed) → (IsTrue raw → IsTrue has_raw)
@@ -137,7 +137,7 @@ no_offset words more rest true year month first split dated = apart rest more (s
 no_offset words more rest false year month first split dated =
     no_flag rest more offset_word year month refl (omega arith) (sym split ∙ first) dated
 
-pub left_after_zone : (words left flag : List (List ℕ)) (offset : ℤ) (allowed : Bool) (dates : Dates)
+pub left_after_zone : (words left flag : List (List ℕ)) (offset : ℤ) (allowed : Bool) (dates : NamedDates)
     → words ≡ flag ++ left → IsOffsetFlag flag offset
     → (flag ≡ [] → (rest : List (List ℕ)) → words ≡ offset_word ∷ rest → ⊥)
     → LeftAfterRaw allowed words dates → LeftAfterZone allowed left dates
@@ -150,7 +150,7 @@ left_after_zone words left flag offset allowed dates split (inr (word, two, name
 left_after_zone words left flag offset allowed dates split (inr (word, two, named)) begins (zone, more, listed, inr (other, also, names), asks) =
     let same : more ≡ left = cc in subst (λ ws. LeftAfterZone allowed ws dates) same asks
 
-pub no_zone : (words after : List (List ℕ)) (allowed : Bool) (dates : Dates) → words ≡ offset_word ∷ after
+pub no_zone : (words after : List (List ℕ)) (allowed : Bool) (dates : NamedDates) → words ≡ offset_word ∷ after
     → ((word : List ℕ) (rest : List (List ℕ)) (seconds : ℤ) → after ≡ word ∷ rest → NamesOffset word seconds → ⊥)
     → LeftAfterRaw allowed words dates → ⊥
 no_zone words after allowed dates split none (zone, more, listed, inl empty, asks) =
@@ -158,7 +158,7 @@ no_zone words after allowed dates split none (zone, more, listed, inl empty, ask
 no_zone words after allowed dates split none (zone, more, listed, inr (word, two, named), asks) =
     none word more dates.offset (cc) named
 
-pub left_last : (words left : List (List ℕ)) (allowed found : Bool) (dates : Dates) → words ≡ raw_flag found ++ left
+pub left_last : (words left : List (List ℕ)) (allowed found : Bool) (dates : NamedDates) → words ≡ raw_flag found ++ left
     → ((rest : List (List ℕ)) → IsTrue allowed → words ≡ raw_word ∷ rest → IsTrue found)
     → LeftAfterZone allowed words dates → AreDateWords left dates.year dates.month
 left_last words left allowed true dates split first (after, rest, listed, allows, dated) =
@@ -167,6 +167,45 @@ left_last words left allowed false dates split first (true, rest, listed, allows
     absurd (let found = first rest (allows refl) listed in cc)
 left_last words left allowed false dates split first (false, rest, listed, allows, dated) =
     rw (sym split ∙ listed) dated
+
+-- ---- what was asked for
+
+not_both : (before after : Bool) → (IsTrue after → before ≡ false) → before && after ≡ false
+not_both true true alone = alone refl
+not_both true false alone = refl
+not_both false after alone = refl
+
+either_allowed : (before after has_raw : Bool) → (IsTrue before → IsTrue has_raw) → (IsTrue after → IsTrue has_raw)
+    → IsTrue (before || after) → IsTrue has_raw
+either_allowed true after has_raw first second is = first refl
+either_allowed false after has_raw first second is = second is
+
+pub not_before : (before allowed : Bool) → allowed ≡ not before → IsTrue allowed → before ≡ false
+not_before true allowed same is = absurd (let no : true ≡ false = sym is ∙ same in cc)
+not_before false allowed same is = refl
+
+-- the words that were read, one part after the other, ask for these lines
+pub asked_lines : (words left right rest flag : List (List ℕ)) (has_raw before after allowed raw : Bool) (dates : NamedDates)
+    → words ≡ raw_flag before ++ left → left ≡ flag ++ right → right ≡ raw_flag after ++ rest
+    → (IsTrue before → IsTrue has_raw) → (IsTrue after → IsTrue allowed) → (IsTrue allowed → IsTrue has_raw)
+    → (IsTrue allowed → before ≡ false) → raw ≡ before || after → IsOffsetFlag flag dates.offset
+    → AreDateWords rest dates.year dates.month → (IsTrue raw → IsTrue has_raw) × AskForLines words raw dates
+asked_lines words left right rest flag has_raw before after allowed raw dates one two three first second has alone flagged
+    zoned dated = (
+      λ is. either_allowed before after has_raw first (λ asked. has (second asked)) (sym flagged ∙ is),
+      record {
+        before = before;
+        zone = flag;
+        after = after;
+        rest = rest;
+        listed = one ∙ ap (λ (ws : List (List ℕ)). raw_flag before ++ ws) (two
+            ∙ ap (λ (ws : List (List ℕ)). flag ++ ws) three);
+        once = not_both before after (λ asked. alone (second asked));
+        flagged = flagged;
+        zoned = zoned;
+        dated = dated;
+      },
+    )
 
 -- ---- a wrong word
 

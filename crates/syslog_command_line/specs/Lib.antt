@@ -1,3 +1,4 @@
 pub mod Arguments
 pub mod Words
 pub mod Report
+pub mod Dates

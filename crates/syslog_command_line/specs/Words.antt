@@ -3,6 +3,8 @@ use Rattle.std.specs.Global.{Global}
 use Rattle.std.specs.Prelude.{◌≡◌, ◌⊎◌, ◌&&◌, ◌||◌, ℕ, ℤ, Bool, true, false, IsTrue, List, [], ◌∷◌, ◌++◌, Option, pos}
 use Rattle.std.specs.Prelude.{String, ⊤, codes, map, string_bytes}
 use Rattle.std.specs.List.{Contains}
+use Rattle.jiff.specs.Words.{plain_zone}
+use Rattle.syslog_loose.specs.Reckoning.{IsZoneAt}
 use Rattle.syslog_command_line.specs.Arguments.{NamesDate, NamesOffset, end_word, help_word, version_word}
 use Rattle.syslog_command_line.specs.declared.dates.Dates.{Dates}
 use Rattle.syslog_command_line.specs.declared.words.Task.{Task}
@@ -37,8 +39,20 @@ abbrev pub IsOffsetFlag : List (List ℕ) → ℤ → Type 0
 IsOffsetFlag words seconds = ((words ≡ []) × (seconds ≡ pos 0))
     ⊎ ((word : List ℕ) × (words ≡ offset_word ∷ word ∷ []) × NamesOffset word seconds)
 
+-- what words name: a year, a month if there is one, and the seconds that a zone is ahead of UTC
+pub record NamedDates : Type 0 where
+  pub year : ℤ
+  pub month : Option ℕ
+  pub offset : ℤ
+
+-- the dates are those that are named
+pub record AreNamed (named : NamedDates) (dates : Dates) : Type 0 where
+  pub year : dates.year ≡ named.year
+  pub month : dates.month ≡ named.month
+  pub zone : IsZoneAt named.offset (plain_zone dates.zone)
+
 -- the words are these flags, each at most once and in either order, and a date
-pub record AskForLines (words : List (List ℕ)) (raw : Bool) (dates : Dates) : Type 0 where
+pub record AskForLines (words : List (List ℕ)) (raw : Bool) (dates : NamedDates) : Type 0 where
   pub before : Bool
   pub zone : List (List ℕ)
   pub after : Bool
@@ -59,4 +73,5 @@ IsAmong words Unreadable = ⊥
 abbrev pub AsksFor : Bool → List (List ℕ) → Task → Type 0
 AsksFor has_raw words Help = words ≡ help_word ∷ []
 AsksFor has_raw words Version = words ≡ version_word ∷ []
-AsksFor has_raw words (Lines raw dates) = (IsTrue raw → IsTrue has_raw) × AskForLines words raw dates
+AsksFor has_raw words (Lines raw dates) = (IsTrue raw → IsTrue has_raw)
+    × ((named : NamedDates) × AskForLines words raw named × AreNamed named dates)

@@ -4,9 +4,8 @@ ghost use Rattle.std.specs.Prelude.{Option, ℕ, ℤ, drop, string_bytes};
 ghost use Rattle.std.specs.Vec.Iter.{into_iter_items};
 ghost use Rattle.syslog_command_line.specs.Arguments.{NamesDate, NamesOffset};
 ghost use Rattle.syslog_command_line.specs.Report.{IsReason, IsRefusal, WritesFront};
-ghost use Rattle.syslog_command_line.specs.Words.{AreDateWords, AskForLines, AsksFor, IsAmong, IsOffsetFlag, offset_word};
-ghost use Rattle.syslog_command_line.specs.Words.{raw_flag, raw_word, texts};
-ghost use Rattle.syslog_command_line.specs.declared.dates.Dates.{Dates};
+ghost use Rattle.syslog_command_line.specs.Words.{AreDateWords, AskForLines, AsksFor, IsAmong, IsOffsetFlag, NamedDates};
+ghost use Rattle.syslog_command_line.specs.Words.{offset_word, raw_flag, raw_word, texts};
 ghost use Rattle.syslog_command_line.specs.declared.words.Task.{Task};
 ghost use Rattle.syslog_command_line.specs.declared.words.Wrong.TheVariants.{Unreadable};
 
@@ -18,7 +17,7 @@ use std::io::Write;
 use std::{env, fs};
 
 /// What a program is asked for.
-#[derive(Clone, Copy)]
+#[derive(Drop)]
 pub enum Task {
     /// How it is called.
     Help,
@@ -86,21 +85,16 @@ fn after_word<'a>(words: &'a [String], wanted: &str) -> Option<&'a [String]>
 // The flags and the date that the words are.
 fn read_lines(words: &[String], has_raw: bool) -> Result<Task, Wrong<'_>>
     ensures { MatchResult result (λ task. AsksFor has_raw (texts words.now) task)
-        (λ wrong. IsAmong (texts words.now) wrong × ((raw : Bool) (dates : Dates) → (IsTrue raw → IsTrue has_raw)
+        (λ wrong. IsAmong (texts words.now) wrong × ((raw : Bool) (dates : NamedDates) → (IsTrue raw → IsTrue has_raw)
         → ¬ (AskForLines (texts words.now) raw dates))) }
 {
     let (before, words) = read_raw(words, has_raw);
     let (offset, words) = read_zone(words)?;
     let (after, words) = read_raw(words, has_raw && !before);
     let (year, month) = read_date_words(words)?;
-    let dates = Dates {
-        year,
-        month,
-        offset,
-    };
     Ok(Task::Lines {
         raw: before || after,
-        dates,
+        dates: Dates::new(year, month, offset),
     })
 }
 

@@ -13,32 +13,32 @@ use Rattle.syslog_pieces.specs.StructuredData.Visited.{list_elements}
 use Rattle.syslog_lines.specs.Output.{answer_bytes, is_answered}
 use Rattle.syslog_object.{specs.Writer.HasWritten, specs.declared.writer.ObjectWriter.ObjectWriter}
 use Rattle.syslog_json.specs.Objects.{IsLineRead, IsOnly, IsReadJson, IsRefusedJson, answer_of, raw_text}
-use Rattle.syslog_json.specs.declared.options.Options.{Options}
+use Rattle.syslog_json.specs.declared.filter.Objects.{Objects}
 use Rattle.syslog_loose.proofs.ReadingLemmas as reading
 
-read_twice : (options : Options) (line : List ℕ) (value other : Json) → IsReadJson options line value
-    → IsReadJson options line other → other ≡ value
-read_twice options line value other (utf8, (m, read, is)) (also, (n, more, same)) =
+read_twice : (filter : Objects) (line : List ℕ) (value other : Json) → IsReadJson filter line value
+    → IsReadJson filter line other → other ≡ value
+read_twice filter line value other (utf8, (m, read, is)) (also, (n, more, same)) =
     let (dating, this, that) =
     one_dating {Holds = λ d. IsOnlyRead Either d (chars line) m} {More = λ d. IsOnlyRead Either d (chars line) n}
-    options.year options.month (plain_zone options.zone) Either (chars line) read more in
-    same ∙ ap (λ (k : MessageValue). message_json k (raw_text options.raw (chars line))) (this.only n (that.read))
+    filter.dates.year filter.dates.month (plain_zone filter.dates.zone) Either (chars line) read more in
+    same ∙ ap (λ (k : MessageValue). message_json k (raw_text filter.raw (chars line))) (this.only n (that.read))
     ∙ sym is
 
-pub only_read : (options : Options) (line : List ℕ) (value : Json) → IsReadJson options line value
-    → IsOnly (IsReadJson options line) value
-only_read options line value is = (is, λ other also. read_twice options line value other is also)
+pub only_read : (filter : Objects) (line : List ℕ) (value : Json) → IsReadJson filter line value
+    → IsOnly (IsReadJson filter line) value
+only_read filter line value is = (is, λ other also. read_twice filter line value other is also)
 
-other_refused : (options : Options) (line : List ℕ) (value other : Json) → IsRefusedJson options line value
-    → IsRefusedJson options line other → other ≡ value
-other_refused options line value other (inl (u, none, e)) (inl (v, never, f)) = f ∙ sym e
-other_refused options line value other (inl (u, none, e)) (inr (v, f)) = absurd (v u)
-other_refused options line value other (inr (u, e)) (inl (v, never, f)) = absurd (u v)
-other_refused options line value other (inr (u, e)) (inr (v, f)) = f ∙ sym e
+other_refused : (filter : Objects) (line : List ℕ) (value other : Json) → IsRefusedJson filter line value
+    → IsRefusedJson filter line other → other ≡ value
+other_refused filter line value other (inl (u, none, e)) (inl (v, never, f)) = f ∙ sym e
+other_refused filter line value other (inl (u, none, e)) (inr (v, f)) = absurd (v u)
+other_refused filter line value other (inr (u, e)) (inl (v, never, f)) = absurd (u v)
+other_refused filter line value other (inr (u, e)) (inr (v, f)) = f ∙ sym e
 
-pub only_refused : (options : Options) (line : List ℕ) (value : Json) → IsRefusedJson options line value
-    → IsOnly (IsRefusedJson options line) value
-only_refused options line value is = (is, λ other also. other_refused options line value other is also)
+pub only_refused : (filter : Objects) (line : List ℕ) (value : Json) → IsRefusedJson filter line value
+    → IsOnly (IsRefusedJson filter line) value
+only_refused filter line value is = (is, λ other also. other_refused filter line value other is also)
 
 -- what is read in one year is read in each, where none is asked for
 any_year : (zone : TimeZone) (text : Text) (year other : Option ℤ) (m : MessageValue)
@@ -65,16 +65,16 @@ one_line {post = post} {text = text} zone Makes h =
     )
 
 -- and the line was returned, and its elements were given to the other visitor
-pub line_read : {post : IncompleteDate → ℤ → Type 0} {V : Type 0} (v w : V) (old new : ObjectWriter) (options : Options)
+pub line_read : {post : IncompleteDate → ℤ → Type 0} {V : Type 0} (v w : V) (old new : ObjectWriter) (filter : Objects)
     (text : Text) (result : Option Line) → InYear post Either text (λ year.
     Made (λ (before : V) (line made : Line) (after : V). (made ≡ line) × KnowsForm line)
     (λ (first it : ObjectWriter) es. HasWritten it es)
-    Either (dating_in (plain_zone options.zone) year) text v old result w new)
-    → ((date : IncompleteDate) (y : ℤ) → post date y → y ≡ reckoned_year options.year options.month date)
-    → HasWritten old [] → IsLineRead options text result new
-line_read v w old new options text None h tells none = reading.in_year_told (reading.in_year_map (λ year n. n.0) h) tells
-line_read {post = post} v w old new options text (Some made) h tells none =
-    let zone = plain_zone options.zone in
+    Either (dating_in (plain_zone filter.dates.zone) year) text v old result w new)
+    → ((date : IncompleteDate) (y : ℤ) → post date y → y ≡ reckoned_year filter.dates.year filter.dates.month date)
+    → HasWritten old [] → IsLineRead filter text result new
+line_read v w old new filter text None h tells none = reading.in_year_told (reading.in_year_map (λ year n. n.0) h) tells
+line_read {post = post} v w old new filter text (Some made) h tells none =
+    let zone = plain_zone filter.dates.zone in
     let (line, dated, same, given) = one_line zone (λ (line : Line). (made ≡ line) × KnowsForm line) h in (
       reading.in_year_told (subst (λ (l : Line). InYear post Either text (λ year.
           IsOnlyRead Either (dating_in zone year) text (line_value l))) (sym same.0) dated) tells,

@@ -3,19 +3,17 @@ use Rattle.std.specs.Prelude.{◌≡◌, ◌⊎◌, ⊤, ℕ, Bool, true, false,
 use Rattle.std.specs.Prelude.{IsUtf8, count_by, length}
 use Rattle.std.specs.Str.{chars}
 use Rattle.std.specs.Str.Lossy.{utf8_lossy}
-use Rattle.jiff.specs.Words.{plain_zone}
 use Rattle.syslog_pieces.specs.Pieces.Class.{Text}
 use Rattle.syslog_pieces.specs.StructuredData.Visited.{list_elements}
-use Rattle.syslog_pieces.specs.Timestamp.Zone.{Dating}
 use Rattle.syslog_loose.specs.Line.{line_value}
 use Rattle.syslog_loose.specs.Message.{MessageValue}
 use Rattle.syslog_loose.specs.Reading.{IsOnlyRead, IsUnreadable}
-use Rattle.syslog_loose.specs.Reckoning.{InDating}
 use Rattle.syslog_loose.specs.declared.line.Line.{Line}
 use Rattle.syslog_loose.specs.declared.variant.Variant.TheVariants.{Either}
 use Rattle.json.specs.Json.{Json}
 use Rattle.serde_json.specs.Data.{Data}
 use Rattle.serde_json.specs.Read.{of_json, read}
+use Rattle.syslog_command_line.specs.Dates.{IsDated}
 use Rattle.syslog_lines.specs.Count.{held_count}
 use Rattle.syslog_lines.specs.Output.{Answer, Filter, Written, Marked, Omitted, is_skipped}
 use Rattle.syslog_lines.specs.Pump.{FiltersAll}
@@ -24,11 +22,7 @@ use Rattle.syslog_object.specs.Object.{invalid_json, message_json, refused_json}
 use Rattle.syslog_object.specs.Written.{IsTextOf}
 use Rattle.syslog_object.specs.Writer.{HasWritten}
 use Rattle.syslog_object.specs.declared.writer.ObjectWriter.{ObjectWriter}
-use Rattle.syslog_json.specs.declared.options.Options.{Options}
-
--- this holds of the dating of the text by the options
-abbrev pub IsDated : Options → Text → (Dating → Type 0) → Type 0
-IsDated options text Holds = InDating options.year options.month (plain_zone options.zone) Either text Holds
+use Rattle.syslog_json.specs.declared.filter.Objects.{Objects}
 
 -- the line as it came, where it is asked for
 abbrev pub raw_text : Bool → Text → Option Text
@@ -36,15 +30,15 @@ raw_text true text = Some text
 raw_text false text = None
 
 -- the value of the message as which the line is read
-abbrev pub IsReadJson : Options → List ℕ → Json → Type 0
-IsReadJson options line value = IsUtf8 line × ((m : MessageValue)
-    × IsDated options (chars line) (λ dating. IsOnlyRead Either dating (chars line) m)
-    × (value ≡ message_json m (raw_text options.raw (chars line))))
+abbrev pub IsReadJson : Objects → List ℕ → Json → Type 0
+IsReadJson filter line value = IsUtf8 line × ((m : MessageValue)
+    × IsDated filter.dates (chars line) (λ dating. IsOnlyRead Either dating (chars line) m)
+    × (value ≡ message_json m (raw_text filter.raw (chars line))))
 
 -- the value of a line that is no message; of one that is no UTF-8, what is none of it is replaced
-abbrev pub IsRefusedJson : Options → List ℕ → Json → Type 0
-IsRefusedJson options line value =
-    (IsUtf8 line × IsDated options (chars line) (λ dating. IsUnreadable Either dating (chars line))
+abbrev pub IsRefusedJson : Objects → List ℕ → Json → Type 0
+IsRefusedJson filter line value =
+    (IsUtf8 line × IsDated filter.dates (chars line) (λ dating. IsUnreadable Either dating (chars line))
     × (value ≡ refused_json line))
     ⊎ ((¬ (IsUtf8 line)) × (value ≡ invalid_json (utf8_lossy line)))
 
@@ -60,28 +54,28 @@ pub record IsReadAs (value : Json) (bytes : List ℕ) : Type 0 where
   pub read_back : read bytes ≡ Some own
 
 -- the answer to a line: the text of its only value; a line that is no message counts as skipped
-abbrev pub IsObject : Options → List ℕ → Answer → Type 0
-IsObject options line (Written bytes) = (value : Json) × IsOnly (IsReadJson options line) value × IsReadAs value bytes
-IsObject options line (Marked bytes) = (value : Json) × IsOnly (IsRefusedJson options line) value × IsReadAs value bytes
-IsObject options line Omitted = ⊥
+abbrev pub IsObject : Objects → List ℕ → Answer → Type 0
+IsObject filter line (Written bytes) = (value : Json) × IsOnly (IsReadJson filter line) value × IsReadAs value bytes
+IsObject filter line (Marked bytes) = (value : Json) × IsOnly (IsRefusedJson filter line) value × IsReadAs value bytes
+IsObject filter line Omitted = ⊥
 
 -- memory may be wanted for any line
-abbrev pub objects : Options → Filter
-objects options = record { Answers = IsObject options; Wants = λ line. ⊤ }
+abbrev pub objects : Objects → Filter
+objects filter = record { Answers = IsObject filter; Wants = λ line. ⊤ }
 
 -- all was read, the text of each line's value was written, and the summary counts the lines and those that are no
 -- message
-abbrev pub WritesObjects : Options → Option (List ℕ) → Option (List ℕ) → Option (List ℕ) → Option (List ℕ)
+abbrev pub WritesObjects : Objects → Option (List ℕ) → Option (List ℕ) → Option (List ℕ) → Option (List ℕ)
     → Summary → Type 0
-WritesObjects options in_before in_after out_before out_after summary = (answers : List Answer)
-    × (all : FiltersAll (objects options) in_before in_after out_before out_after answers)
+WritesObjects filter in_before in_after out_before out_after summary = (answers : List Answer)
+    × (all : FiltersAll (objects filter) in_before in_after out_before out_after answers)
     × (summary.lines ≡ held_count (length all.lines)) × (summary.refused ≡ held_count (count_by is_skipped answers))
 
 -- the line as which the text is read was returned, and the writer was given its elements; or the text is no message
-abbrev pub IsLineRead : Options → Text → Option Line → ObjectWriter → Type 0
-IsLineRead options text result writer = MatchOption result
-    (IsDated options text (λ dating. IsUnreadable Either dating text))
-    (λ line. IsDated options text (λ dating. IsOnlyRead Either dating text (line_value line))
+abbrev pub IsLineRead : Objects → Text → Option Line → ObjectWriter → Type 0
+IsLineRead filter text result writer = MatchOption result
+    (IsDated filter.dates text (λ dating. IsUnreadable Either dating text))
+    (λ line. IsDated filter.dates text (λ dating. IsOnlyRead Either dating text (line_value line))
     × HasWritten writer (list_elements line.list))
 
 -- the answer of an object that was written, as what the line counts

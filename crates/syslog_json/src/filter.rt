@@ -9,17 +9,17 @@ ghost use Rattle.syslog_object.specs.Writer.{HasWritten};
 ghost use Rattle.syslog_object.specs.Written.{IsTextOf};
 ghost use Rattle.syslog_json.specs.Objects.{IsLineRead, IsObject, WritesObjects, answer_of, objects};
 
-use crate::options::Options;
 use std::alloc::{AllocError, Global};
 use std::io::{Read, Write};
 use std::mem;
+use syslog_command_line::Dates;
 use syslog_lines::pump::pump;
 use syslog_lines::{LineFilter, RunFault, Summary, Watched, push_line};
 use syslog_loose::{IncompleteDate, Itself, Line, Variant, reckon_year, visit_line};
 use syslog_object::{ObjectWriter, push_invalid, push_refused};
 
 /// Reads lines to the end of the input, and writes each as one JSON object on one line: that of its message, read by
-/// the options, or one that has the line and `"refused":true`. No line is lost, and no object has a byte below 32.
+/// the dates, or one that has the line and `"refused":true`. No line is lost, and no object has a byte below 32.
 ///
 /// The output of each block of input is written before more is read, and the writer is flushed at the end. Nothing is
 /// tried again. After `RunFault::Read` the output of each complete line that was read was written. After
@@ -31,29 +31,32 @@ pub fn write_objects<R: Read, W: Write>(
     alloc: Global,
     reader: &mut Watched<R>,
     writer: &mut Watched<W>,
-    options: Options,
+    filter: Objects,
 ) -> Result<Summary, RunFault>
     requires reader { reader.old.failed ≡ false }
     requires writer { writer.old.failed ≡ false }
-    ensures ok { IfOk result (λ summary. WritesObjects options (R.remaining reader.old.inner)
+    ensures ok { IfOk result (λ summary. WritesObjects filter (R.remaining reader.old.inner)
         (R.remaining reader.new.inner)
         (W.contents writer.old.inner) (W.contents writer.new.inner) summary) }
-    ensures err { IfErr result (λ fault. EndsEarly (objects options) (R.remaining reader.old.inner)
+    ensures err { IfErr result (λ fault. EndsEarly (objects filter) (R.remaining reader.old.inner)
         (R.remaining reader.new.inner)
         (W.contents writer.old.inner) (W.contents writer.new.inner) fault) }
     ensures failed { FailedAs result reader.new.failed writer.new.failed }
 {
-    let tally = pump(alloc, &Objects { options }, reader, writer)?;
+    let tally = pump(alloc, &filter, reader, writer)?;
     Ok(Summary {
         lines: tally.lines(),
         refused: tally.skipped,
     })
 }
 
-/// Writes the JSON of each line, read by these options.
+/// Writes the JSON of each line.
 #[derive(Drop)]
-struct Objects {
-    options: Options,
+pub struct Objects {
+    /// Whether the object of a message has the line as it came, too.
+    pub raw: bool,
+    /// How dates that show no year or no zone are taken.
+    pub dates: Dates,
 }
 
 impl Objects {
@@ -61,10 +64,10 @@ impl Objects {
     #[inline(always)]
     fn read<'a>(&self, line: &'a str, writer: &mut ObjectWriter<'a>) -> Option<Line<'a>>
         requires { HasWritten writer.old [] }
-        ensures { IsLineRead self.now.options (chars line.now) result writer.new }
+        ensures { IsLineRead self.now (chars line.now) result writer.new }
     {
-        let year = self.options.year;
-        let month = self.options.month;
+        let year = self.dates.year;
+        let month = self.dates.month;
         let get_year = move |date: IncompleteDate| -> i32
             ensures { IsYear year → result ≡ reckoned_year year month date }
         { reckon_year(year, month, date) };
@@ -73,7 +76,7 @@ impl Objects {
             get_year,
             None,
             Variant::Either,
-            &self.options.zone,
+            &self.dates.zone,
             writer,
             &mut Itself,
         )
@@ -89,12 +92,12 @@ impl Objects {
         memory: Vec<u8>,
         output: &mut Vec<u8>,
     ) -> Result<(Vec<u8>, bool), AllocError>
-        ensures ok { IfOk result (λ x. (bytes : List ℕ) × IsObject self.now.options line.now (answer_of x.1 bytes)
+        ensures ok { IfOk result (λ x. (bytes : List ℕ) × IsObject self.now line.now (answer_of x.1 bytes)
             × (output.new.items ≡ output.old.items ++ bytes)) }
         ensures err { OnErr result (output.new.items ≡ output.old.items) }
     {
         let mut writer = ObjectWriter::new(alloc, memory);
-        let raw = self.options.raw.then_some(line);
+        let raw = self.raw.then_some(line);
         match self.read(line, &mut writer) {
             Some(found) => {
                 writer.write(&found, raw, output)?;
@@ -119,7 +122,7 @@ fn write_refused(memory: Vec<u8>, line: &str, output: &mut Vec<u8>) -> Result<Ve
 }
 
 impl LineFilter for Objects {
-    ghost answers = { λ filter. objects filter.options };
+    ghost answers = { λ filter. objects filter };
 
     fn filter_line(
         &self,

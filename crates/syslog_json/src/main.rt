@@ -8,11 +8,9 @@
 #![tactic(auto)]
 
 mod filter;
-mod options;
 mod report;
 
-use filter::write_objects;
-use options::Options;
+use filter::{Objects, write_objects};
 use report::{HELP, USAGE};
 use std::process::ExitCode;
 use syslog_command_line::report::{report, say, say_version};
@@ -21,10 +19,10 @@ use syslog_lines::Watched;
 use syslog_loose::VERSION;
 
 // Writes the lines of standard input as JSON, and then returns the exit status.
-fn filter_input(rt: &HostRuntime, options: Options) -> u8 {
+fn filter_input(rt: &HostRuntime, filter: Objects) -> u8 {
     let mut reader = Watched::new(rt.stdin());
     let mut writer = Watched::new(rt.stdout());
-    let outcome = write_objects(rt.alloc(), &mut reader, &mut writer, options);
+    let outcome = write_objects(rt.alloc(), &mut reader, &mut writer, filter);
     report(&outcome, &mut rt.stderr())
 }
 
@@ -35,7 +33,7 @@ fn run_task(rt: &HostRuntime, task: Result<Task, Wrong<'_>>) -> u8 {
     match task {
         Ok(Task::Help) => say(HELP, &mut out, &mut errors),
         Ok(Task::Version) => say_version("syslog_json", VERSION, &mut out, &mut errors),
-        Ok(Task::Lines { raw, dates }) => filter_input(rt, Options::new(raw, dates)),
+        Ok(Task::Lines { raw, dates }) => filter_input(rt, Objects { raw, dates }),
         Err(wrong) => refuse_words(rt, USAGE, wrong, &mut errors),
     }
 }

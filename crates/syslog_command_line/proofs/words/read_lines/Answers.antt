@@ -1,8 +1,12 @@
 use Rattle.syslog_command_line.proofs.Names.{◌≡◌, ◌∙◌, ap, not, rules, to_z, of_z, w32, raw_flag}
 use Rattle.std.proofs.lemmas.Result.{err_from_is_err_and}
-use Rattle.syslog_command_line.proofs.WordLemmas.{among_later, date_in_range, left_after_raw, left_after_zone, offset_in_range}
+use Rattle.syslog_command_line.proofs.WordLemmas.{among_later, date_in_range, left_after_raw, left_after_zone}
 use Rattle.syslog_command_line.proofs.WordLemmas.{left_last, no_zone}
-use Rattle.syslog_command_line.proofs.words.read_lines.Goals.{then-has_raw, else-has_raw}
+use Rattle.syslog_command_line.specs.Words.{NamedDates}
+use Rattle.std.proofs.Common.{arith}
+use Rattle.std.proofs.lemmas.Int.{ints}
+use Rattle.syslog_command_line.proofs.WordLemmas.{asked_lines, not_before}
+use Rattle.syslog_command_line.proofs.words.read_lines.Goals.{then-has_raw, else-has_raw, then-before, else-before}
 use Rattle.syslog_command_line.proofs.words.read_lines.Goals as goal
 
 pub returns-in_err-offset : goal.returns-in_err-offset
@@ -33,12 +37,35 @@ returns-in_err-year c =
           c.read_raw-before.ensures.first (λ is none. elim c.if-has_raw.branch [ then-has_raw w ↦ w.read_raw-is ∙ ap not none | else-has_raw w ↦ absurd cc ]) has asks))),
     )
 
-pub invariant_of-dates : goal.invariant_of-dates
-invariant_of-dates c =
+pub new-requires-clause-year : goal.new-requires-clause-year
+new-requires-clause-year c =
+    let year : to_z w32 (of_z w32 c.in_ok-year.year) ≡ c.in_ok-year.year = search rules in
+    let (low, high) = date_in_range _ _ _ c.in_ok-year.ensures in rw year (omega (arith, ints, low), high)
+
+pub returns : goal.returns
+returns c =
     let year : to_z w32 (of_z w32 c.in_ok-year.year) ≡ c.in_ok-year.year = search rules in
     let offset : to_z w32 (of_z w32 c.in_ok-offset.offset) ≡ c.in_ok-offset.offset = search rules in
     let (flag, is, split, none) = c.in_ok-offset.ensures in
-    record {
-      year_in_range = rw year (date_in_range _ _ _ c.in_ok-year.ensures);
-      offset_in_range = rw offset (offset_in_range flag _ is);
-    }
+    let named : NamedDates = record {
+      year = c.in_ok-year.year;
+      month = c.in_ok-year.month;
+      offset = c.in_ok-offset.offset;
+    } in
+    let (has, asks) = asked_lines _ _ _ _ flag c.args.has_raw c.read_raw-before.result.0 c.read_raw-after.result.0
+    c.if-has_raw.read_raw c.if-before.result named c.read_raw-before.ensures.split split c.read_raw-after.ensures.split
+    c.read_raw-before.ensures.is_allowed c.read_raw-after.ensures.is_allowed
+    (λ allowed. elim c.if-has_raw.branch [ then-has_raw w ↦ (let yes = w.if-has_raw.true in cc) | else-has_raw w ↦ absurd cc ])
+    (λ allowed. elim c.if-has_raw.branch [ then-has_raw w ↦ not_before _ _ w.read_raw-is allowed | else-has_raw w ↦ absurd cc ])
+    (elim c.if-before.branch [ then-before w ↦ (let yes = w.if-before.true in rw yes (w.result-is ∙ yes)) | else-before w ↦ (let no = w.if-before.false in rw no w.result-is) ]) is c.in_ok-year.ensures in (
+      has,
+      (
+        named,
+        asks,
+        record {
+          year = c.new.ensures.year ∙ year;
+          month = c.new.ensures.month;
+          zone = rw offset at c.new.ensures.zone;
+        },
+      ),
+    )

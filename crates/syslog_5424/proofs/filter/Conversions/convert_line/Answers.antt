@@ -6,8 +6,8 @@ use Rattle.syslog_5424.proofs.filter.Conversions.convert_line.Goals as goal
 
 pub returns : goal.returns
 returns c =
-    let options = c.args.self.now.options in
-    let same : to_z w32 (of_z w32 options.year) ≡ options.year = search rules in
-    told options (chars c.args.line.now) (text_in c.to_rfc5424_into.new.text) c.to_rfc5424_into.result
-    (told_copied _ options (chars c.args.line.now) (text_in c.to_rfc5424_into.new.text) c.to_rfc5424_into.result
-    c.to_rfc5424_into.ensures (λ date y is. (rw same at is.1) options.year_in_range))
+    let dates = c.args.self.now.dates in
+    let same : to_z w32 (of_z w32 dates.year) ≡ dates.year = search rules in
+    told dates (chars c.args.line.now) (text_in c.to_rfc5424_into.new.text) c.to_rfc5424_into.result
+    (told_copied _ dates (chars c.args.line.now) (text_in c.to_rfc5424_into.new.text) c.to_rfc5424_into.result
+    c.to_rfc5424_into.ensures (λ date y is. (rw same at is.1) dates.year_in_range))

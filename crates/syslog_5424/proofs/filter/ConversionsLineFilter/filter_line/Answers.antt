@@ -12,5 +12,5 @@ returns-in_ok-push_line-in-Ok-clause-ok c =
 
 pub returns-in_err-push_line-in-Ok-clause-refusal : goal.returns-in_err-push_line-in-Ok-clause-refusal
 returns-in_err-push_line-in-Ok-clause-refusal c =
-    OnErr-any _ ((conversions c.args.self.now.options).Wants c.args.line.now)
-    (c.utf8.line, written_not_refused c.args.self.now.options _ _ c.in-Ok.ensures.1)
+    OnErr-any _ ((conversions c.args.self.now.dates).Wants c.args.line.now)
+    (c.utf8.line, written_not_refused c.args.self.now.dates _ _ c.in-Ok.ensures.1)

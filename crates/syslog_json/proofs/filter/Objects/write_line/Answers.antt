@@ -9,7 +9,7 @@ returns-in_ok-write-in-Some-clause-ok c =
       bytes,
       (
         _,
-        only_read c.args.self.now.options _ _ (c.utf8.line, (m, c.in-Some.ensures.0, refl)),
+        only_read c.args.self.now _ _ (c.utf8.line, (m, c.in-Some.ensures.0, refl)),
         read_as _ _ (subst (λ (o : Option Text). IsTextOf (message_json m o) bytes) (search rules) text),
       ),
       added,
@@ -19,6 +19,6 @@ pub returns-in_ok-write_refused-in-None-clause-ok : goal.returns-in_ok-write_ref
 returns-in_ok-write_refused-in-None-clause-ok c =
     let (bytes, text, added) = c.in_ok-write_refused-in-None.ensures.ok in (
       bytes,
-      (_, only_refused c.args.self.now.options _ _ (inl (c.utf8.line, c.in-None.ensures, refl)), read_as _ _ text),
+      (_, only_refused c.args.self.now _ _ (inl (c.utf8.line, c.in-None.ensures, refl)), read_as _ _ text),
       added,
     )

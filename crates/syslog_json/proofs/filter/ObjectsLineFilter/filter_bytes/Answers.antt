@@ -11,7 +11,7 @@ returns-clause-ok c =
       Marked c.push_invalid.new.out.items,
       (
         _,
-        only_refused c.args.self.now.options _ _ (inr (c.requires, refl)),
+        only_refused c.args.self.now _ _ (inr (c.requires, refl)),
         read_as _ _ (text_after_nothing _ _ bytes _ c.new-object.ensures.items added (rw lossy at text)),
       ),
       rw (c.as_slice.ensures.value) at c.in_ok-push_line.ensures.ok,
