@@ -14,16 +14,16 @@ import sys
 sys.dont_write_bytecode = True
 import corpora  # noqa: E402
 
-SIGNS = "abcS <>[]=\"\\:-1059T.\t+Zü\u2003\u0085\u000b;/"
+SIGNS = "abcS <>[]=\"\\:-1059T.\t+Zü\u2003\u0085\u000b;/" + "\"\"\\\\\x01\x08\x0c\x1f"
 HOSTS = ["mymachine.example.com", "192.168.0.17", "2001:db8::7334", "db3", "-", "h:", "z[1]", "ü", "a]b", "x:::", "[q]"]
 TAGS = ["nginx", "sshd", "postfix/smtpd", "-", "a[b", "tag[", "é", "k]", "x"]
 MESSAGES = [
     "Accepted publickey for deploy", "GET / \"-\"", "- dashed", "-5 degrees", "[a b=\"c\"] listed", "[open", "größe 局域网", "",
-    " two", ":colon", "x [a b=\"c\"]",
+    " two", ":colon", "x [a b=\"c\"]", '{"level":"info","path":"C:\\\\tmp"}', "C:\\Windows\\System32\t\"x\"", "\"" * 17, "\\" * 16,
 ]
 MONTHS = "Jan Feb Mar Apr May Jun Jul Aug Sep Oct Nov Dec jan DEC Mai Se".split()
 GAPS = [" "] * 12 + ["  ", "\t", "", "\u2003"]
-VALUES = ["v", "\\\"", "]", "\\]", "", "\\\\", "x\\y"]
+VALUES = ["v", "\\\"", "]", "\\]", "", "\\\\", "x\\y", "fifteen bytes..\\n", "fifteen bytes..\\]", "fifteen bytes..\\y", "\\\"" * 9, "\\]" * 17]
 
 
 class Maker:

@@ -15,7 +15,7 @@ use crate::room::put;
 use crate::rules::{rules_of, year_of};
 use std::alloc::Global;
 use syslog_loose::{IncompleteDate, Line, parse_line};
-use syslog_object::push_object;
+use syslog_object::line_object;
 use syslog_utf8::from_utf8;
 
 // What the keys, the braces and the quotes of an object take, beside the texts of the line.
@@ -77,11 +77,11 @@ fn put_object(
     requires { needed.old ≡ 0 }
     ensures { PutsObject (line_value line.now) (seen raw.entry) room.old room.new needed.new result }
 {
-    let Ok(mut object) = Vec::with_capacity(alloc, line.rest.len().saturating_add(MORE)) else {
+    let Ok(memory) = Vec::with_capacity(alloc, line.rest.len().saturating_add(MORE)) else {
         return Outcome::NoMemory;
     };
-    match push_object(alloc, &mut object, line, raw) {
-        Ok(()) => put(object.as_slice(), room, needed),
+    match line_object(alloc, memory, line, raw) {
+        Ok(object) => put(object.as_slice(), room, needed),
         Err(_) => Outcome::NoMemory,
     }
 }

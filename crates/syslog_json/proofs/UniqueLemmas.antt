@@ -81,11 +81,6 @@ line_read {post = post} v w old new filter text (Some made) h tells none =
       subst (λ (l : Line). HasWritten new (list_elements l.list)) (sym same.0) (given old [] none),
     )
 
--- what was written after nothing is the text
-pub text_after_nothing : (value : Json) (old bytes new : List ℕ) → old ≡ [] → new ≡ old ++ bytes → IsTextOf value bytes
-    → IsTextOf value new
-text_after_nothing value old bytes new none added text = rw (added, none) text
-
 -- either answer's bytes, and what it counts as
 pub answered : (is_message : Bool) (bytes : List ℕ) → (answer_bytes (answer_of is_message bytes) ≡ bytes ++ 10 ∷ [])
     × (is_message ≡ is_answered (answer_of is_message bytes))

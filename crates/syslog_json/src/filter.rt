@@ -16,7 +16,7 @@ use syslog_command_line::Dates;
 use syslog_lines::pump::pump;
 use syslog_lines::{LineFilter, RunFault, Summary, Watched, push_line};
 use syslog_loose::{IncompleteDate, Itself, Line, Variant, reckon_year, visit_line};
-use syslog_object::{ObjectWriter, push_invalid, push_refused};
+use syslog_object::{ObjectWriter, invalid_object, refused_object};
 
 /// Reads lines to the end of the input, and writes each as one JSON object on one line: that of its message, read by
 /// the dates, or one that has the line and `"refused":true`. No line is lost, and no object has a byte below 32.
@@ -114,9 +114,7 @@ fn write_refused(memory: Vec<u8>, line: &str, output: &mut Vec<u8>) -> Result<Ve
         × (output.new.items ≡ output.old.items ++ bytes)) }
     ensures err { OnErr result (output.new.items ≡ output.old.items) }
 {
-    let mut object = memory;
-    object.clear();
-    push_refused(&mut object, line)?;
+    let object = refused_object(memory, line)?;
     output.extend_from_slice(object.as_slice())?;
     Ok(object)
 }
@@ -149,8 +147,7 @@ impl LineFilter for Objects {
         output: &mut Vec<u8>,
     ) -> Result<bool, AllocError> {
         let text = String::from_utf8_lossy(alloc, line)?;
-        let mut object = Vec::new(alloc);
-        push_invalid(&mut object, text.as_str())?;
+        let object = invalid_object(Vec::new(alloc), text.as_str())?;
         push_line(output, object.as_slice())?;
         Ok(false)
     }

@@ -1,4 +1,5 @@
 pub mod Names
+mod BlockLemmas
 mod EscapeLemmas
 mod GatherLemmas
 mod WriterLemmas

@@ -19,3 +19,5 @@ pub use Rattle.syslog_object.specs.Object.{text_json, unescaped, Field, element_
 pub use Rattle.syslog_object.specs.Parts.{facility_fields, protocol_fields, severity_fields, members_after, AreDistinct}
 pub use Rattle.syslog_object.specs.Parts.{compact_text, items_text, front_text, text_field, back_fields, object_text}
 pub use Rattle.syslog_object.specs.Parts.{IsNewKey, rest_text, field_text}
+pub use Rattle.std.proofs.Common.{zero, ◌%◌, ◌^◌, ◌*◌, w64, ◌⊎◌}
+pub use Rattle.std.specs.Int.{bit_at}

@@ -251,7 +251,7 @@ elements_key = 44 ∷ (quoted (codes "structured_data") ++ 58 ∷ [])
 -- so the object of the elements, where it was written, comes to its place
 pub object_of_parts : (w : ObjectWriter) (has : Bool) (m : MessageValue) (raw : Option Text) (elements : List ℕ)
     → OnTrue has ((es : List ElementValue) → HasWritten w es → (es ≢ []) × AreWritten w es)
-    → HasWritten w m.structured_data → elements ≡ cond has (w.text.items ++ 125 ∷ []) []
+    → HasWritten w m.structured_data → elements ≡ cond has (w.text ++ 125 ∷ []) []
     → (front_text m ++ cond has elements_key (field_text (codes "structured_data") (structured_json m.structured_data)))
     ++ (elements ++ rest_text (back_fields m raw)) ≡ compact_text (message_json m raw)
 object_of_parts w false m raw elements given written is =

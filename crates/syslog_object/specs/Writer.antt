@@ -11,7 +11,7 @@ element_keys es = map (λ e. (element_pair e).0) es
 
 -- these elements were written, each under its own id
 pub record AreWritten (w : ObjectWriter) (es : List ElementValue) : Type 0 where
-  pub text : w.text.items ≡ open_text (map element_pair es)
+  pub text : w.text ≡ open_text (map element_pair es)
   pub sized : length w.ids ≡ 8
   pub count : w.count ≡ length es
   pub ids : map (λ s. s.now) (take w.count w.ids) ≡ element_keys es

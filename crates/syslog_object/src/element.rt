@@ -5,8 +5,8 @@ ghost use Rattle.syslog_object.specs.Gathered.{gathered};
 ghost use Rattle.syslog_object.specs.Object.{element_json, element_pair};
 ghost use Rattle.syslog_object.specs.Parts.{compact_text};
 
-use crate::escapes::push_value;
 use crate::gather::{FEW, Member, push_members};
+use crate::output::Output;
 use std::alloc::{AllocError, Global};
 use syslog_loose::{Element, ElementList};
 
@@ -42,11 +42,8 @@ impl<'a> Member<'a> for (&'a str, &'a str) {
     }
 
     #[inline(always)]
-    fn push_json(&self, _: Global, out: &mut Vec<u8>) -> Result<(), AllocError> {
-        out.push(b'"')?;
-        push_value(out, value(self))?;
-        out.push(b'"')?;
-        Ok(())
+    fn push_json(&self, _: Global, out: &mut Output) -> Result<(), AllocError> {
+        out.push_value(b"\"", value(self), b"\"")
     }
 }
 
@@ -65,7 +62,7 @@ impl<'a> Member<'a> for Element<'a> {
     }
 
     #[inline(always)]
-    fn push_json(&self, alloc: Global, out: &mut Vec<u8>) -> Result<(), AllocError> {
+    fn push_json(&self, alloc: Global, out: &mut Output) -> Result<(), AllocError> {
         if self.params_len() <= FEW {
             return push_few_params(alloc, out, self);
         }
@@ -74,13 +71,9 @@ impl<'a> Member<'a> for Element<'a> {
 }
 
 // Appends the object of an element that has few parameters.
-fn push_few_params(
-    alloc: Global,
-    out: &mut Vec<u8>,
-    element: &Element<'_>,
-) -> Result<(), AllocError>
-    requires { length (element_seen element.now).params ≤ 8 }
-    ensures { OnOk result (out.new.items ≡ out.old.items ++ compact_text (element_json (element_seen element.now))) }
+fn push_few_params(alloc: Global, out: &mut Output, element: &Element<'_>) -> Result<(), AllocError>
+    requires { length (element_seen element.now).params ≤ 16 }
+    ensures { OnOk result (out.new ≡ out.old ++ compact_text (element_json (element_seen element.now))) }
 {
     let mut params = [("", ""); FEW];
     let mut count = 0;
@@ -95,10 +88,10 @@ fn push_few_params(
 #[inline(never)]
 fn push_many_params(
     alloc: Global,
-    out: &mut Vec<u8>,
+    out: &mut Output,
     element: &Element<'_>,
 ) -> Result<(), AllocError>
-    ensures { OnOk result (out.new.items ≡ out.old.items ++ compact_text (element_json (element_seen element.now))) }
+    ensures { OnOk result (out.new ≡ out.old ++ compact_text (element_json (element_seen element.now))) }
 {
     let mut params = Vec::new(alloc);
     for param in element.params() {
@@ -111,11 +104,11 @@ fn push_many_params(
 #[inline(never)]
 pub(crate) fn push_elements(
     alloc: Global,
-    out: &mut Vec<u8>,
+    out: &mut Output,
     list: &ElementList<'_>,
 ) -> Result<(), AllocError>
-    ensures { OnOk result (out.new.items
-        ≡ out.old.items ++ compact_text (gathered (map element_pair (list_elements list.now)))) }
+    ensures { OnOk result (out.new
+        ≡ out.old ++ compact_text (gathered (map element_pair (list_elements list.now)))) }
 {
     let mut left = list.elements();
     if list.len() == 1
@@ -129,11 +122,11 @@ pub(crate) fn push_elements(
 // Appends the object of more than one element, for which it takes memory.
 fn push_many_elements(
     alloc: Global,
-    out: &mut Vec<u8>,
+    out: &mut Output,
     list: &ElementList<'_>,
 ) -> Result<(), AllocError>
-    ensures { OnOk result (out.new.items
-        ≡ out.old.items ++ compact_text (gathered (map element_pair (list_elements list.now)))) }
+    ensures { OnOk result (out.new
+        ≡ out.old ++ compact_text (gathered (map element_pair (list_elements list.now)))) }
 {
     let mut elements = Vec::new(alloc);
     for element in list.elements() {

@@ -1,8 +1,7 @@
 //! The fields that are no elements: each is appended with the comma before it.
-ghost use Rattle.std.specs.Prelude.{◌≡◌, ◌++◌, ◌∷◌, [], OnOk, Some, IsUtf8, codes};
+ghost use Rattle.std.specs.Prelude.{◌≡◌, ◌++◌, ◌≤◌, OnOk, Some, codes};
 ghost use Rattle.std.specs.Fmt.{signed_decimal};
 ghost use Rattle.std.specs.Option.{option_map};
-ghost use Rattle.json.specs.Print.{escape};
 ghost use Rattle.syslog_pieces.specs.Pieces.View.{seen, shown};
 ghost use Rattle.syslog_pieces.specs.ProcId.{procid_text, procid_value};
 ghost use Rattle.syslog_pieces.specs.Timestamp.{stamp_seen};
@@ -11,24 +10,24 @@ ghost use Rattle.syslog_object.specs.Object.{timestamp_json};
 ghost use Rattle.syslog_object.specs.Parts.{IsSmallVersion, facility_fields, field_text};
 ghost use Rattle.syslog_object.specs.Parts.{protocol_fields, severity_fields, text_field};
 
-use crate::escapes::push_text;
+use crate::output::Output;
 use std::alloc::AllocError;
 use syslog_loose::{ClockStamp, ProcId, SyslogFacility, SyslogSeverity};
 use syslog_pieces::front::Ascii;
 
 /// Appends the brace, the protocol, and the version of RFC 5424.
 #[tactic(auto, unfolding(json::specs::Print::escape_byte))]
-pub(crate) fn push_protocol(out: &mut Vec<u8>, version: Option<u32>) -> Result<(), AllocError>
-    ensures text { OnOk result (out.new.items ≡ out.old.items ++ protocol_fields (protocol_of version)) }
+pub(crate) fn push_protocol(out: &mut Output, version: Option<u32>) -> Result<(), AllocError>
+    ensures text { OnOk result (out.new ≡ out.old ++ protocol_fields (protocol_of version)) }
     ensures small { IsSmallVersion (protocol_of version) }
 {
     match version {
-        None => out.extend_from_slice(b"{\"protocol\":\"RFC3164\""),
+        None => out.push(b"{\"protocol\":\"RFC3164\""),
         Some(version) => {
             let mut buffer = itoa::Buffer::new();
             let digits = buffer.format(version);
-            out.extend_from_slice(b"{\"protocol\":\"RFC5424\",\"version\":")?;
-            out.extend_from_slice(digits.as_bytes())
+            out.push(b"{\"protocol\":\"RFC5424\",\"version\":")?;
+            out.push_slice(digits.as_bytes())
         }
     }
 }
@@ -84,13 +83,13 @@ fn severity_members(severity: SyslogSeverity) -> &'static [u8]
 /// Appends the name and the number of the facility, where there is one.
 #[inline(always)]
 pub(crate) fn push_facility(
-    out: &mut Vec<u8>,
+    out: &mut Output,
     facility: Option<SyslogFacility>,
 ) -> Result<(), AllocError>
-    ensures { OnOk result (out.new.items ≡ out.old.items ++ facility_fields facility) }
+    ensures { OnOk result (out.new ≡ out.old ++ facility_fields facility) }
 {
     match facility {
-        Some(facility) => out.extend_from_slice(facility_members(facility)),
+        Some(facility) => out.push_slice(facility_members(facility)),
         None => Ok(()),
     }
 }
@@ -98,40 +97,30 @@ pub(crate) fn push_facility(
 /// Appends the name and the number of the severity, where there is one.
 #[inline(always)]
 pub(crate) fn push_severity(
-    out: &mut Vec<u8>,
+    out: &mut Output,
     severity: Option<SyslogSeverity>,
 ) -> Result<(), AllocError>
-    ensures { OnOk result (out.new.items ≡ out.old.items ++ severity_fields severity) }
+    ensures { OnOk result (out.new ≡ out.old ++ severity_fields severity) }
 {
     match severity {
-        Some(severity) => out.extend_from_slice(severity_members(severity)),
+        Some(severity) => out.push_slice(severity_members(severity)),
         None => Ok(()),
     }
 }
 
-// Appends the text of a field and the quote after it. `key` is all before it: a comma, the key, a colon and a quote.
+/// Appends the text of a field and the quote after it, or nothing if it is absent. `key` is all before it: a comma, the
+/// key, a colon and a quote.
 #[inline(always)]
-fn push_member(out: &mut Vec<u8>, key: &[u8], text: &str) -> Result<(), AllocError>
-    ensures text { OnOk result (out.new.items ≡ out.old.items ++ (key.now ++ (escape text.now ++ 34 ∷ []))) }
-    ensures utf8 { IsUtf8 text.now }
-{
-    out.extend_from_slice(key)?;
-    push_text(out, text)?;
-    out.push(b'"')?;
-    Ok(())
-}
-
-/// Appends the text of a field as `push_member` does, or nothing if it is absent.
-#[inline(always)]
-pub(crate) fn push_field(
-    out: &mut Vec<u8>,
-    key: &[u8],
+pub(crate) fn push_field<const N: usize>(
+    out: &mut Output,
+    key: &[u8; N],
     text: Option<&str>,
 ) -> Result<(), AllocError>
-    ensures { OnOk result (out.new.items ≡ out.old.items ++ text_field key.now (seen text.entry)) }
+    requires { N ≤ 64 }
+    ensures { OnOk result (out.new ≡ out.old ++ text_field key.now (seen text.entry)) }
 {
     match text {
-        Some(text) => push_member(out, key, text),
+        Some(text) => out.push_text(key, text, b"\""),
         None => Ok(()),
     }
 }
@@ -139,16 +128,16 @@ pub(crate) fn push_field(
 /// Appends the timestamp as it is printed, where there is one.
 #[inline(always)]
 pub(crate) fn push_timestamp(
-    out: &mut Vec<u8>,
+    out: &mut Output,
     timestamp: Option<ClockStamp>,
 ) -> Result<(), AllocError>
-    ensures { OnOk result (out.new.items
-        ≡ out.old.items ++ field_text (codes "timestamp") (option_map timestamp_json (stamp_seen timestamp))) }
+    ensures { OnOk result (out.new
+        ≡ out.old ++ field_text (codes "timestamp") (option_map timestamp_json (stamp_seen timestamp))) }
 {
     match timestamp {
         Some(stamp) => {
             let text = Ascii::timestamp(stamp);
-            push_member(out, b",\"timestamp\":\"", text.as_str())
+            out.push_text(b",\"timestamp\":\"", text.as_str(), b"\"")
         }
         None => Ok(()),
     }
@@ -157,26 +146,26 @@ pub(crate) fn push_timestamp(
 /// Appends the process id as a text, a number in decimal, where there is one.
 #[inline(always)]
 pub(crate) fn push_process(
-    out: &mut Vec<u8>,
+    out: &mut Output,
     process: Option<ProcId<&str>>,
 ) -> Result<(), AllocError>
-    ensures { OnOk result (out.new.items ≡ out.old.items ++ text_field (codes ",\"procid\":\"")
+    ensures { OnOk result (out.new ≡ out.old ++ text_field (codes ",\"procid\":\"")
         (option_map procid_text (option_map (procid_value (λ s. shown s)) process.entry))) }
 {
     match process {
         Some(ProcId::PID(number)) => push_process_number(out, number),
-        Some(ProcId::Name(name)) => push_member(out, b",\"procid\":\"", name),
+        Some(ProcId::Name(name)) => out.push_text(b",\"procid\":\"", name, b"\""),
         None => Ok(()),
     }
 }
 
 // Appends a process id that is a number.
 #[inline(always)]
-fn push_process_number(out: &mut Vec<u8>, number: i32) -> Result<(), AllocError>
-    ensures { OnOk result (out.new.items
-        ≡ out.old.items ++ text_field (codes ",\"procid\":\"") (Some (signed_decimal number))) }
+fn push_process_number(out: &mut Output, number: i32) -> Result<(), AllocError>
+    ensures { OnOk result (out.new
+        ≡ out.old ++ text_field (codes ",\"procid\":\"") (Some (signed_decimal number))) }
 {
     let mut buffer = itoa::Buffer::new();
     let digits = buffer.format(number);
-    push_member(out, b",\"procid\":\"", digits)
+    out.push_text(b",\"procid\":\"", digits, b"\"")
 }

@@ -13,12 +13,12 @@ ghost use Rattle.std.specs.Ordering.{nat_cmp};
 ghost use Rattle.std.specs.Str.{bytes_eq};
 ghost use Rattle.syslog_object.specs.Gathered.{first_keys};
 
-use crate::escapes::push_text;
+use crate::output::Output;
 use std::alloc::{AllocError, Global};
 use std::collections::BTreeMap;
 
 /// How many keys are compared with each other; where there are more, they are sorted.
-pub(crate) const FEW: usize = 8;
+pub(crate) const FEW: usize = 16;
 
 /// A key and a value.
 pub(crate) trait Member<'a>: Copy {
@@ -31,8 +31,8 @@ pub(crate) trait Member<'a>: Copy {
         ensures { result.now ≡ key_of self.now };
 
     /// Appends the text of the value.
-    fn push_json(&self, alloc: Global, out: &mut Vec<u8>) -> Result<(), AllocError>
-        ensures { OnOk result (out.new.items ≡ out.old.items ++ compact_text (json self.now)) };
+    fn push_json(&self, alloc: Global, out: &mut Output) -> Result<(), AllocError>
+        ensures { OnOk result (out.new ≡ out.old ++ compact_text (json self.now)) };
 }
 
 // Whether none of the members has this key.
@@ -70,26 +70,24 @@ pub(crate) fn are_distinct<'a, M: Member<'a>>(members: &[M]) -> bool
 
 /// Appends a member: the byte before it, the key and the colon.
 #[inline(always)]
-pub(crate) fn push_key(out: &mut Vec<u8>, before: u8, key: &str) -> Result<(), AllocError>
-    ensures { OnOk result (out.new.items ≡ out.old.items ++ (before ∷ (quoted key.now ++ 58 ∷ []))) }
+pub(crate) fn push_key(out: &mut Output, before: u8, key: &str) -> Result<(), AllocError>
+    ensures { OnOk result (out.new ≡ out.old ++ (before ∷ (quoted key.now ++ 58 ∷ []))) }
 {
-    out.extend_from_slice(&[before, b'"'])?;
-    push_text(out, key)?;
-    out.extend_from_slice(b"\":")
+    out.push_text(&[before, b'"'], key, b"\":")
 }
 
 /// Appends the members, each key with its value.
 #[inline(always)]
 pub(crate) fn push_each<'a, M: Member<'a>>(
     alloc: Global,
-    out: &mut Vec<u8>,
+    out: &mut Output,
     members: &[M],
 ) -> Result<(), AllocError>
-    ensures { OnOk result (out.new.items
-        ≡ out.old.items ++ object_text (map (λ m. (M.key_of m, M.json m)) members.now)) }
+    ensures { OnOk result (out.new
+        ≡ out.old ++ object_text (map (λ m. (M.key_of m, M.json m)) members.now)) }
 {
     let Some((first, rest)) = members.split_first() else {
-        return out.extend_from_slice(b"{}");
+        return out.push(b"{}");
     };
     push_key(out, b'{', first.key())?;
     first.push_json(alloc, out)?;
@@ -97,7 +95,7 @@ pub(crate) fn push_each<'a, M: Member<'a>>(
         push_key(out, b',', member.key())?;
         member.push_json(alloc, out)?;
     }
-    out.push(b'}')?;
+    out.push(b"}")?;
     Ok(())
 }
 
@@ -134,43 +132,43 @@ fn gather<'a, M: Member<'a>>(alloc: Global, members: &[M]) -> Result<Groups<'a, 
 // Appends values: one that is alone as it is, and more in an array.
 fn push_values<'a, M: Member<'a>>(
     alloc: Global,
-    out: &mut Vec<u8>,
+    out: &mut Output,
     members: &[M],
 ) -> Result<(), AllocError>
-    ensures { OnOk result (out.new.items ≡ out.old.items ++ compact_text (one_or_all (map M.json members.now))) }
+    ensures { OnOk result (out.new ≡ out.old ++ compact_text (one_or_all (map M.json members.now))) }
 {
     let Some((first, rest)) = members.split_first() else {
-        return out.extend_from_slice(b"[]");
+        return out.push(b"[]");
     };
     if rest.is_empty() {
         return first.push_json(alloc, out);
     }
-    out.push(b'[')?;
+    out.push(b"[")?;
     first.push_json(alloc, out)?;
     for member in rest {
-        out.push(b',')?;
+        out.push(b",")?;
         member.push_json(alloc, out)?;
     }
-    out.push(b']')?;
+    out.push(b"]")?;
     Ok(())
 }
 
 // Appends a key and all its values.
 fn push_group<'a, M: Member<'a>>(
     alloc: Global,
-    out: &mut Vec<u8>,
+    out: &mut Output,
     before: u8,
     key: &str,
     groups: &BTreeMap<&'a str, Vec<M>>,
 ) -> Result<(), AllocError>
-    ensures { OnOk result (out.new.items ≡ out.old.items ++ (before ∷ (quoted key.now ++ 58
+    ensures { OnOk result (out.new ≡ out.old ++ (before ∷ (quoted key.now ++ 58
         ∷ compact_text (one_or_all (map M.json (option_map_or (λ g. g.items)
         (get_by (λ k. slice_cmp nat_cmp key.now k.now) groups.now) [])))))) }
 {
     push_key(out, before, key)?;
     match groups.get(key) {
         Some(group) => push_values(alloc, out, group.as_slice()),
-        None => out.extend_from_slice(b"[]"),
+        None => out.push(b"[]"),
     }
 }
 
@@ -178,21 +176,21 @@ fn push_group<'a, M: Member<'a>>(
 #[inline(never)]
 fn push_gathered<'a, M: Member<'a>>(
     alloc: Global,
-    out: &mut Vec<u8>,
+    out: &mut Output,
     members: &[M],
 ) -> Result<(), AllocError>
-    ensures { OnOk result (out.new.items
-        ≡ out.old.items ++ compact_text (gathered (map (λ m. (M.key_of m, M.json m)) members.now))) }
+    ensures { OnOk result (out.new
+        ≡ out.old ++ compact_text (gathered (map (λ m. (M.key_of m, M.json m)) members.now))) }
 {
     let groups = gather(alloc, members)?;
     let Some((first, rest)) = groups.keys.as_slice().split_first() else {
-        return out.extend_from_slice(b"{}");
+        return out.push(b"{}");
     };
     push_group(alloc, out, b'{', *first, &groups.members)?;
     for key in rest {
         push_group(alloc, out, b',', *key, &groups.members)?;
     }
-    out.push(b'}')?;
+    out.push(b"}")?;
     Ok(())
 }
 
@@ -201,11 +199,11 @@ fn push_gathered<'a, M: Member<'a>>(
 #[inline(always)]
 pub(crate) fn push_members<'a, M: Member<'a>>(
     alloc: Global,
-    out: &mut Vec<u8>,
+    out: &mut Output,
     members: &[M],
 ) -> Result<(), AllocError>
-    ensures { OnOk result (out.new.items
-        ≡ out.old.items ++ compact_text (gathered (map (λ m. (M.key_of m, M.json m)) members.now))) }
+    ensures { OnOk result (out.new
+        ≡ out.old ++ compact_text (gathered (map (λ m. (M.key_of m, M.json m)) members.now))) }
 {
     if are_distinct(members) {
         push_each(alloc, out, members)

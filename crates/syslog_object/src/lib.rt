@@ -1,14 +1,14 @@
 //! The JSON object of a parsed syslog line.
 #![tactic(auto)]
 
+mod blocks;
 mod element;
-mod escapes;
 mod field;
 mod gather;
 pub mod laws;
 mod object;
-mod plain;
+mod output;
 mod writer;
 
-pub use object::{push_invalid, push_object, push_refused};
+pub use object::{invalid_object, line_object, refused_object};
 pub use writer::ObjectWriter;

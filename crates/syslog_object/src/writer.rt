@@ -13,11 +13,15 @@ ghost use Rattle.syslog_object.specs.Parts.{IsNewKey, field_text, object_text};
 ghost use Rattle.syslog_object.specs.Written.{IsTextOf};
 ghost use Rattle.syslog_object.specs.Writer.{AreWritten, HasWritten};
 
-use crate::gather::{FEW, are_distinct, push_each, push_key};
+use crate::gather::{are_distinct, push_each, push_key};
 use crate::object::{push_back, push_front, push_list};
+use crate::output::Output;
 use std::alloc::{AllocError, Global};
 use syslog_loose::{ElementList, Line};
 use syslog_pieces::structured_data::{Element, ElementVisitor, FewParams};
+
+/// How many elements are written while the line is read.
+const IDS: usize = 8;
 
 /// Writes the object of a line. As a visitor it is given the elements while the line is read, and writes them at once,
 /// so that they are not walked again.
@@ -25,7 +29,7 @@ use syslog_pieces::structured_data::{Element, ElementVisitor, FewParams};
 pub struct ObjectWriter<'a> {
     alloc: Global,
     // the object of the elements that it was given, without its last brace
-    text: Vec<u8>,
+    text: Output,
     // their ids
     ids: [&'a str; 8],
     count: usize,
@@ -41,12 +45,10 @@ impl<'a> ObjectWriter<'a> {
     pub fn new(alloc: Global, memory: Vec<u8>) -> ObjectWriter<'a>
         ensures { HasWritten result [] }
     {
-        let mut text = memory;
-        text.clear();
         ObjectWriter {
             alloc,
-            text,
-            ids: [""; FEW],
+            text: Output::over(memory),
+            ids: [""; IDS],
             count: 0,
             is_whole: true,
             is_refused: false,
@@ -90,10 +92,10 @@ impl<'a> ObjectWriter<'a> {
         }
     }
 
-    /// Appends the object of the line whose elements it was given, as `push_object` does, or nothing where memory is
+    /// Appends the object of the line whose elements it was given, as `line_object` gives it, or nothing where memory is
     /// refused, or was for an element. It is for one line.
     ///
-    /// Memory is asked for more of its own and of `output`. It is also asked for as by `push_object`, where an id or a
+    /// Memory is asked for more of its own and of `output`. It is also asked for as by `line_object`, where an id or a
     /// name comes again, or there are more than eight elements or an element has more than eight parameters.
     pub fn write(
         &mut self,
@@ -122,11 +124,9 @@ impl<'a> ObjectWriter<'a> {
 
     /// Returns the vector that it was given or grew, for another writer. What that holds doesn't count.
     #[inline(always)]
-    pub fn into_memory(self) -> Vec<u8>
-        ensures { result ≡ self.entry.text }
-    {
+    pub fn into_memory(self) -> Vec<u8> {
         let ObjectWriter { text, .. } = self;
-        text
+        text.into_bytes()
     }
 }
 
@@ -146,12 +146,12 @@ fn is_new_id(id: &str, ids: &[&str]) -> bool
 // Appends an element: the byte before it, its id, and the object of its parameters, whose names each come once.
 fn push_element(
     alloc: Global,
-    out: &mut Vec<u8>,
+    out: &mut Output,
     before: u8,
     id: &str,
     params: &[(&str, &str)],
 ) -> Result<(), AllocError>
-    ensures { OnOk result (out.new.items ≡ out.old.items ++ (before ∷ (quoted id.now ++ 58
+    ensures { OnOk result (out.new ≡ out.old ++ (before ∷ (quoted id.now ++ 58
         ∷ object_text (map (λ p. param_pair (param_value (λ s. shown s) p)) params.now)))) }
 {
     push_key(out, before, id)?;
@@ -161,15 +161,11 @@ fn push_element(
 // Closes the object of the elements where it was written. Otherwise clears the text, or says that memory was refused.
 // (Asked at the front of `write` this costs 100 instructions a line.)
 #[inline(always)]
-fn close_elements(
-    text: &mut Vec<u8>,
-    has_elements: bool,
-    is_refused: bool,
-) -> Result<(), AllocError>
-    ensures { OnOk result (text.new.items ≡ cond has_elements (text.old.items ++ 125 ∷ []) []) }
+fn close_elements(text: &mut Output, has_elements: bool, is_refused: bool) -> Result<(), AllocError>
+    ensures { OnOk result (text.new ≡ cond has_elements (text.old ++ 125 ∷ []) []) }
 {
     if has_elements {
-        text.push(b'}')?;
+        text.push(b"}")?;
     } else if is_refused {
         return Err(AllocError);
     } else {
@@ -182,16 +178,16 @@ fn close_elements(
 #[inline(always)]
 fn push_key_or_list(
     alloc: Global,
-    text: &mut Vec<u8>,
+    text: &mut Output,
     list: &ElementList<'_>,
     has_elements: bool,
 ) -> Result<(), AllocError>
-    ensures { OnOk result (text.new.items ≡ text.old.items
+    ensures { OnOk result (text.new ≡ text.old
         ++ cond has_elements (44 ∷ (quoted (codes "structured_data") ++ 58 ∷ []))
         (field_text (codes "structured_data") (structured_json (list_elements list.now)))) }
 {
     if has_elements {
-        text.extend_from_slice(b",\"structured_data\":")
+        text.push(b",\"structured_data\":")
     } else {
         push_list(alloc, text, list)
     }

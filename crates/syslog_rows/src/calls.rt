@@ -7,7 +7,7 @@ use syslog_loose::{
     parse_message_with_year, parse_message_with_year_exact, parse_message_with_year_exact_tz,
     parse_message_with_year_tz, settle,
 };
-use syslog_object::{push_object, push_refused};
+use syslog_object::{line_object, refused_object};
 use syslog_strict::to_rfc5424;
 
 /// A text and how it is read.
@@ -130,11 +130,9 @@ impl<'a> Row<'a> {
         let setting = self.setting;
         let year = |date: IncompleteDate| setting.year_of(date);
         let line = parse_line(self.text, year, self.tz(), setting.variant, &setting.local);
-        let mut out = Vec::new(alloc);
         match line {
-            Some(line) => push_object(alloc, &mut out, &line, None)?,
-            None => push_refused(&mut out, self.text)?,
+            Some(line) => line_object(alloc, Vec::new(alloc), &line, None),
+            None => refused_object(Vec::new(alloc), self.text),
         }
-        Ok(out)
     }
 }

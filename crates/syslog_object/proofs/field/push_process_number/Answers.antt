@@ -8,4 +8,4 @@ returns c =
     let same : c.format-digits.result.now ≡ signed_decimal c.args.number =
     c.format-digits.ensures.text ∙ ap signed_decimal (to_z-of_z _ _ c.ranges.number) in
     rw (encodes-IsAscii (signed_decimal c.args.number) (subst IsAscii same c.format-digits.ensures.ascii))
-    (rw same at c.push_member.ensures.text)
+    (rw same at c.push_text.ensures.text)

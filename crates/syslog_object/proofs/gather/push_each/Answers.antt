@@ -1,10 +1,10 @@
-use Rattle.syslog_object.{proofs.EscapeLemmas.appended, proofs.Names.nil_from_length}
+use Rattle.syslog_object.{proofs.EscapeLemmas.pushed, proofs.Names.nil_from_length}
 use Rattle.syslog_object.proofs.GatherLemmas.{first_written, last_written, next_written, none_written, nothing_after}
 use Rattle.syslog_object.proofs.GatherLemmas.{at_place}
 use Rattle.syslog_object.proofs.gather.push_each.Goals as goal
 
 pub returns-in_default : goal.returns-in_default
-returns-in_default g c = appended c.extend_from_slice.result _ _ _ _ c.extend_from_slice.ensures.items
+returns-in_default g c = pushed c.push.result _ _ _ _ c.push.ensures
     (none_written g.M.Member.key_of g.M.Member.json c.args.members.now
     (nil_from_length c.args.members.now c.in_default.ensures.cases))
 
@@ -22,5 +22,5 @@ loop-member-preserved g c = next_written g.M.Member.key_of g.M.Member.json c.in-
 
 pub returns : goal.returns
 returns g c = last_written g.M.Member.key_of g.M.Member.json c.in-Some.rest.now c.loop-member.member-index _ _ _
-    (nothing_after c.in-Some.rest.now c.loop-member.member-index c.loop-member-test.false) c.in_ok-push.ensures.items
+    (nothing_after c.in-Some.rest.now c.loop-member.member-index c.loop-member-test.false) c.in_ok-push.ensures
     c.loop-member.invariant

@@ -1,10 +1,10 @@
 use Rattle.syslog_object.proofs.Names.{◌∙◌, sym, get_or, List, ℕ, [], drop_more, nil_from_length, Bor}
-use Rattle.syslog_object.proofs.EscapeLemmas.{appended}
+use Rattle.syslog_object.proofs.EscapeLemmas.{pushed}
 use Rattle.syslog_object.proofs.GatherLemmas.{first_group, last_written, next_group, no_group, nothing_after, value_of}
 use Rattle.syslog_object.proofs.gather.push_gathered.Goals as goal
 
 pub returns-in_default : goal.returns-in_default
-returns-in_default g c = appended c.extend_from_slice.result _ _ _ _ c.extend_from_slice.ensures.items
+returns-in_default g c = pushed c.push.result _ _ _ _ c.push.ensures
     (no_group g.M.Member.key_of g.M.Member.json c.args.members.now _ c.in_ok-groups.ensures.keys
     (sym c.as_slice.ensures.value ∙ nil_from_length c.as_slice.result.now c.in_default.ensures.cases))
 
@@ -26,5 +26,5 @@ loop-key-preserved g c =
 pub returns : goal.returns
 returns g c = last_written (λ k. k.now) (value_of g.M.Member.key_of g.M.Member.json c.args.members.now)
     c.in-Some.rest.now c.loop-key.key-index _ _ _
-    (nothing_after c.in-Some.rest.now c.loop-key.key-index c.loop-key-test.false) c.in_ok-push.ensures.items
+    (nothing_after c.in-Some.rest.now c.loop-key.key-index c.loop-key-test.false) c.in_ok-push.ensures
     c.loop-key.invariant

@@ -1,4 +1,4 @@
-use Rattle.syslog_object.proofs.Names.{[], ◌∷◌, Some, codes, refl, option_map, seen, line_value, text_json}
+use Rattle.syslog_object.proofs.Names.{on_ok_weaker, [], ◌∷◌, Some, codes, refl, option_map, seen, line_value, text_json}
 use Rattle.json.specs.Print.{escape_byte}
 use Rattle.syslog_object.proofs.WriterLemmas.{closed, name_written}
 use Rattle.syslog_object.proofs.object.push_back.Goals as goal
@@ -7,6 +7,6 @@ pub returns : goal.returns
 unfolding escape_byte
 returns c =
     let raw = (codes "raw", option_map text_json (seen c.args.raw)) ∷ [] in
-    closed _ _ _ c.in_ok-push.ensures.items
+    on_ok_weaker c.push.result (λ e. closed _ _ _ e
     (name_written _ _ _ (codes "raw") _ (seen c.args.raw) [] refl c.in_ok-push_field-2.ensures
-    (name_written _ _ _ (codes "message") _ (Some (line_value c.args.line.now).msg) raw refl c.in_ok-push_field.ensures refl))
+    (name_written _ _ _ (codes "message") _ (Some (line_value c.args.line.now).msg) raw refl c.in_ok-push_field.ensures refl))) c.push.ensures

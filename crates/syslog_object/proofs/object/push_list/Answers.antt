@@ -7,4 +7,4 @@ pub returns : goal.returns
 unfolding escape_byte
 returns c = rw (list_field (list_elements c.args.list.now) c.if-is_empty.ensures)
     (on_ok_weaker c.push_elements.result
-    (λ e. two_appended _ _ _ _ _ _ c.in_ok-extend_from_slice.ensures.items e refl) c.push_elements.ensures)
+    (λ e. two_appended _ _ _ _ _ _ c.in_ok-push.ensures e refl) c.push_elements.ensures)

@@ -5,7 +5,7 @@ use jiff::tz::TimeZone;
 use std::alloc::{AllocError, Global};
 use std::process::Abort;
 use syslog_loose::{IncompleteDate, Line, Variant, parse_line};
-use syslog_object::push_object;
+use syslog_object::line_object;
 
 /// Lines with their objects: without elements and with one, with more, with many, and with ids and names that come again.
 const OBJECTS: [&str; 7] = [
@@ -23,18 +23,18 @@ const OBJECTS: [&str; 7] = [
     "1 - - - - - [a b=\"c\"][d][a] m\
      ¦{\"protocol\":\"RFC5424\",\"version\":1,\
      \"structured_data\":{\"a\":[{\"b\":\"c\"},{}],\"d\":{}},\"message\":\"m\"}",
-    "1 - - - - - [a 1=\"\" 2=\"\" 3=\"\" 4=\"\" 5=\"\" 6=\"\" 7=\"\" 8=\"\" 9=\"\"] m\
-     ¦{\"protocol\":\"RFC5424\",\"version\":1,\"structured_data\":{\"a\":{\"1\":\"\",\"2\":\"\",\"3\":\"\",\"4\":\"\",\
-     \"5\":\"\",\"6\":\"\",\"7\":\"\",\"8\":\"\",\"9\":\"\"}},\"message\":\"m\"}",
+    "1 - - - - - [a 1=\"\" 2=\"\" 3=\"\" 4=\"\" 5=\"\" 6=\"\" 7=\"\" 8=\"\" 9=\"\" 10=\"\" 11=\"\" \
+     12=\"\" 13=\"\" 14=\"\" 15=\"\" 16=\"\" 17=\"\"] m\
+     ¦{\"protocol\":\"RFC5424\",\"version\":1,\"structured_data\":{\"a\":{\"1\":\"\",\"2\":\"\",\"3\":\"\",\"4\":\"\",\"5\":\"\",\
+     \"6\":\"\",\"7\":\"\",\"8\":\"\",\"9\":\"\",\"10\":\"\",\"11\":\"\",\"12\":\"\",\
+     \"13\":\"\",\"14\":\"\",\"15\":\"\",\"16\":\"\",\"17\":\"\"}},\"message\":\"m\"}",
     "1 - - - - - [1][2][3][4][5][6][7][8][9] m\
      ¦{\"protocol\":\"RFC5424\",\"version\":1,\"structured_data\":{\"1\":{},\"2\":{},\"3\":{},\"4\":{},\"5\":{},\
      \"6\":{},\"7\":{},\"8\":{},\"9\":{}},\"message\":\"m\"}",
 ];
 
 fn object(alloc: Global, line: &Line<'_>) -> Result<Vec<u8>, AllocError> {
-    let mut out = Vec::new(alloc);
-    push_object(alloc, &mut out, line, None)?;
-    Ok(out)
+    line_object(alloc, Vec::new(alloc), line, None)
 }
 
 fn check_object(rt: &impl Abort, alloc: Global, row: &str, tries: Tries) {

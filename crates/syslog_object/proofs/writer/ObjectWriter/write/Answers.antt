@@ -1,5 +1,5 @@
 use Rattle.syslog_object.proofs
-use proofs.Names.{◌++◌, ◌∙◌, ap, arith, on_ok_weaker, rules, seen, line_value, back_fields, front_text, rest_text}
+use proofs.Names.{◌++◌, ◌∙◌, ap, on_ok_weaker, rules, seen, line_value, back_fields, front_text, rest_text}
 use proofs.{WriterLemmas.object_of_parts, WriterLemmas.ordered, WrittenLemmas.text_of_message}
 use Rattle.syslog_object.proofs.writer.ObjectWriter.write.Goals as goal
 
@@ -8,9 +8,9 @@ returns-clause-ok c =
     let m = line_value c.args.line.now in
     let raw = seen c.args.raw in
     let placed = ordered _ _ _ _ (front_text m) _ (rest_text (back_fields m raw)) c.len-start.result c.len-middle.result
-    c.in_ok-push_front.ensures.text c.in_ok-push_key_or_list.ensures (c.as_slice.ensures.value ∙ c.in_ok-push_back.ensures)
-    (omega (arith, c.len-start.ensures, c.close_elements.new.text.ok.0))
-    (omega (arith, c.len-middle.ensures, c.push_key_or_list.new.text.ok.0)) in
+    c.in_ok-push_front.ensures.text c.in_ok-push_key_or_list.ensures (c.as_slice.ensures ∙ c.in_ok-push_back.ensures)
+    c.len-start.ensures
+    c.len-middle.ensures in
     let whole = object_of_parts c.args.self.now c.if-self.has_elements m raw _ (search rules)
     c.requires c.in_ok-close_elements.ensures in
     on_ok_weaker c.push_ordered.result

@@ -1,0 +1,598 @@
+-- Texts in JSON by blocks of sixteen bytes.
+use Rattle.syslog_object.proofs.Names.{[], append_assoc, append-nil, is_plain, PlainBetween, unescaped, cond, bit_at, w64}
+use Rattle.syslog_object.proofs.Names.{true, false, List, ◌++◌, length, take, drop, refl, arith, escape, get_or}
+use Rattle.syslog_object.proofs.Names.{◌≡◌, ℕ, suc, zero, ◌<◌, ◌≤◌, ◌∷◌, sym, ap, ◌∙◌, ◌+◌, ◌-◌, ◌%◌, ◌^◌, ◌*◌, Bool, not, map, inl, inr, subst, OnTrue, ◌⊎◌, Result, Ok, Err}
+use Rattle.std.specs.Prelude.{IfOk}
+use Rattle.std.proofs.lemmas.Simd.{length-put_chunk, length-chunk, take_more_put_chunk, bit_mask_l, get_or-chunk, mask_l-lt, mask_l-mod, map-map}
+use Rattle.std.proofs.lemmas.Nat.Bits.{bit_at-trailing_zeros, bit_at_clear_same, bit_at_clear_other, bit_at_above, bit_at-zero}
+use Rattle.std.proofs.lemmas.List.{get_or-map, length-map}
+use Rattle.std.proofs.lemmas.Nat.{and_le_l}
+use Rattle.std.proofs.lemmas.Bool.{cases_lt, cases_eq, ne_eqb, false≢true, le-ltb}
+use Rattle.std.specs.Int.{trailing_zeros, bit_not}
+use lib.Bits.{bit_and}
+use lib.Lanes.{chunk, mask_l, put_chunk, top}
+use Rattle.json.specs.Run.{is_stop}
+use Rattle.syslog_pieces.proofs.TextLemmas.Runs.{IsLanes}
+use Rattle.syslog_object.specs.Blocks.{AreStops, in_json}
+use Rattle.syslog_object.proofs.EscapeLemmas.{Plain, plain_escape, plain_front, plain_unescaped, escape-append}
+use Rattle.std.proofs.lemmas.List.{take-append-drop, length-take, length-drop, length-append, take-take, drop-drop, length-take-le, take_all}
+use Rattle.std.proofs.Math.Seq.{take-append-add, take-append_seam, take-add, drop-cons, drop-append-add}
+use Rattle.std.proofs.lemmas.Simd.{length-replicate}
+use Rattle.std.proofs.lemmas.List.{take-append-le, drop_all, drop-replicate}
+use Rattle.std.specs.Prelude.{replicate}
+use Rattle.syslog_object.specs.Object.{after_backslash}
+use Rattle.syslog_pieces.specs.StructuredData.Escapes.{pair_meaning}
+use Rattle.std.proofs.lemmas.Bool.{cases_Bool}
+use Rattle.std.proofs.Common.{add-one}
+use Rattle.json.specs.Print.{escape_byte}
+use Rattle.std.proofs.Common.{get_or-take, get_or-drop, nat_eq}
+
+-- sixteen bytes of a text were stored
+pub stored : (at : ℕ) (room : List ℕ) (first : ℕ) (text : List ℕ) → at + 16 ≤ length room → first + 16 ≤ length text
+    → take (at + 16) (put_chunk at room (chunk first 16 text)) ≡ take at room ++ take 16 (drop first text)
+stored at room first text fits more =
+    take_more_put_chunk at room (chunk first 16 text) (at + 16) (omega (arith, length-chunk first 16 text more)) fits
+
+shorter : (at n : ℕ) (room : List ℕ) (m : ℕ) (text : List ℕ) → n ≤ m → at ≤ length room
+    → take (at + n) (take at room ++ take m text) ≡ take at room ++ take n text
+shorter at n room m text less within =
+    let long : at + n ≡ length (take at room) + n = omega (arith, length-take-le at room within) in
+    ap (λ (k : ℕ). take k (take at room ++ take m text)) long ∙ take-append-add (take at room) (take m text) n
+    ∙ ap (λ xs. take at room ++ xs) (take-take n m text less)
+
+-- a text of eight to sixteen bytes was, by two stores
+pub stored_twice : (at : ℕ) (room text : List ℕ) → at + length text ≤ length room → 8 ≤ length text → length text ≤ 16
+    → take (at + length text) (put_chunk (at + length text - 8) (put_chunk at room (chunk 0 8 text)) (chunk (length text - 8) 8 text))
+    ≡ take at room ++ text
+stored_twice at room text fits long short =
+    let n = length text - 8 in
+    let first = chunk 0 8 text in
+    let held = put_chunk at room first in
+    let eight : length first ≡ 8 = length-chunk 0 8 text long in
+    let last : length (chunk n 8 text) ≡ 8 = length-chunk n 8 text (omega arith) in
+    let same : length held ≡ length room = length-put_chunk at room first in
+    let place : at + length text - 8 ≡ at + n = omega arith in
+    let front : take (at + n) held ≡ take at room ++ take n text =
+    sym (take-take (at + n) (at + 8) held (omega arith))
+    ∙ ap (take (at + n)) (take_more_put_chunk at room first (at + 8) (omega (arith, eight)) (omega arith))
+    ∙ shorter at n room 8 text (omega arith) (omega arith) in
+    take_more_put_chunk (at + length text - 8) held (chunk n 8 text) (at + length text) (omega (arith, last)) (omega (arith, same))
+    ∙ ap (λ (k : ℕ). take k held ++ chunk n 8 text) place ∙ ap (λ xs. xs ++ chunk n 8 text) front
+    ∙ append_assoc (take at room) (take n text) (chunk n 8 text)
+    ∙ ap (λ xs. take at room ++ (take n text ++ xs)) (take_all 8 (drop n text) (omega (arith, length-drop n text)))
+    ∙ ap (λ xs. take at room ++ xs) (take-append-drop n text)
+
+-- sixteen more bytes of a text were stored
+pub stored_more : (at seen : ℕ) (old room now text : List ℕ) → take (at + seen) room ≡ take at old ++ take seen text
+    → take (at + seen + 16) now ≡ take (at + seen) room ++ take 16 (drop seen text)
+    → take (at + (seen + 16)) now ≡ take at old ++ take (seen + 16) text
+stored_more at seen old room now text before added =
+    let place : at + (seen + 16) ≡ at + seen + 16 = omega arith in
+    ap (λ (k : ℕ). take k now) place ∙ added ∙ ap (λ xs. xs ++ take 16 (drop seen text)) before
+    ∙ append_assoc (take at old) (take seen text) (take 16 (drop seen text))
+    ∙ ap (λ xs. take at old ++ xs) (sym (take-add seen 16 text))
+
+-- and so were fewer
+pub stored_less : (at n m : ℕ) (old now text : List ℕ) → take (at + m) now ≡ take at old ++ take m text → n ≤ m
+    → at ≤ length old → take (at + n) now ≡ take at old ++ take n text
+stored_less at n m old now text held less within =
+    sym (take-take (at + n) (at + m) now (omega arith)) ∙ ap (take (at + n)) held ∙ shorter at n old m text less within
+
+-- no byte up to there needs an escape
+pub plain_to : (text : List ℕ) (seen n : ℕ) → PlainBetween text 0 seen
+    → ((i : ℕ) → 0 ≤ i → i < n → is_stop (get_or text (seen + i) 0) ≡ false) → PlainBetween text 0 (seen + n)
+plain_to text seen n before none k low high = elim (cases_lt k seen) [
+  | inl less ↦ before k low less
+  | inr more ↦
+      let place : seen + (k - seen) ≡ k = omega arith in
+      ap (λ (j : ℕ). not (is_stop (get_or text j 0))) (sym place) ∙ ap not (none (k - seen) (omega arith) (omega arith))
+]
+
+-- ---- the bytes that need an escape
+
+-- the mask of a load, where a lane stops just where a byte needs an escape
+pub stops_found : {d : List ℕ} {i r : ℕ} {z : List ℕ} {f : ℕ → ℕ} → i + 16 ≤ length d
+    → r ≡ mask_l (map (top 7) z) % 2 ^ 64 → IsLanes (chunk i 16 d) z f → ((x : ℕ) → top 7 (f x) ≡ is_stop x)
+    → AreStops d i 0 r
+stops_found {d = d} {i = i} {r = r} {z = z} {f = f} room found by_lanes all =
+    let v = chunk i 16 d in
+    let stops : ℕ → Bool = λ x. top 7 (f x) in
+    let long = length-chunk i 16 d room in
+    let mask = found ∙ ap (λ l. mask_l l % 2 ^ 64) (ap (map (top 7)) (by_lanes.same long) ∙ map-map (top 7) f v)
+    ∙ mask_l-mod (map stops v) 64 (omega (arith, length-map v stops, long)) in
+    let few : mask_l (map stops v) < 2 ^ 16 = rw (length-map v stops, long) at (mask_l-lt (map stops v)) in record {
+      few = rw mask few;
+      before = λ k low. absurd (omega arith);
+      each = λ k low high. let within : k < length v = omega (arith, long, high) in rw mask (bit_mask_l (map stops v) k
+          ∙ ap (λ (b : Bool). cond b 1 0) (get_or-map stops v k 0 false within ∙ all _ ∙ ap is_stop (get_or-chunk i 16 d k 0 high)));
+    }
+
+-- the first byte that needs an escape, of those that are not passed
+pub record IsStopAt (text : List ℕ) (first passed at : ℕ) : Type 0 where
+  pub after : passed ≤ at
+  pub within : at < 16
+  pub here : is_stop (get_or text (first + at) 0) ≡ true
+  pub plain : (i : ℕ) → passed ≤ i → i < at → is_stop (get_or text (first + i) 0) ≡ false
+
+bit_on : (b : Bool) → ◌≡◌ {A = ℕ} (cond b 1 0) 1 → b ≡ true
+bit_on true e = refl
+bit_on false e = absurd (omega arith)
+
+bit_off : (b : Bool) → ◌≡◌ {A = ℕ} (cond b 1 0) 0 → b ≡ false
+bit_off true e = absurd (omega arith)
+bit_off false e = refl
+
+pub no_stop : {text : List ℕ} {first passed left : ℕ} → AreStops text first passed left → left ≡ 0
+    → (i : ℕ) → passed ≤ i → i < 16 → is_stop (get_or text (first + i) 0) ≡ false
+no_stop {left = left} stops none i low high = bit_off _ (sym (stops.each i low high) ∙ rw none (bit_at-zero i))
+
+pub first_stop : {text : List ℕ} {first passed left : ℕ} → AreStops text first passed left → 0 < left
+    → IsStopAt text first passed (trailing_zeros w64 left)
+first_stop {text = text} {first = first} {passed = passed} {left = left} stops some =
+    let few : left < 2 ^ 16 = stops.few in
+    let (fits, on, below) = bit_at-trailing_zeros w64 left some (omega (arith, few)) in
+    let at = trailing_zeros w64 left in
+    let after : passed ≤ at = elim (cases_lt at passed) [
+      | inl low ↦ absurd (omega (arith, sym on ∙ stops.before at low))
+      | inr high ↦ high
+    ] in
+    let within : at < 16 = elim (cases_lt at 16) [
+      | inl low ↦ low
+      | inr high ↦ absurd (omega (arith, sym on ∙ bit_at_above left 16 at few high))
+    ] in record {
+      after = after;
+      within = within;
+      here = bit_on _ (sym (stops.each at after within) ∙ on);
+      plain = λ i low high. bit_off _ (sym (stops.each i low (omega arith)) ∙ below i high);
+    }
+
+bit_below : {text : List ℕ} {first passed left : ℕ} (at : ℕ) → AreStops text first passed left
+    → IsStopAt text first passed at → (i : ℕ) → i < at → bit_at left i ≡ 0
+bit_below {passed = passed} at stops stop i less = elim (cases_lt i passed) [
+  | inl low ↦ stops.before i low
+  | inr high ↦ let none = stop.plain i high less in
+      let within : i < 16 = omega (arith, stop.within, less) in
+      stops.each i high within ∙ rw none refl
+]
+
+-- the bit of a byte is cleared, where none before it is set
+pub cleared : {text : List ℕ} {first passed left : ℕ} (at : ℕ) → AreStops text first passed left → passed ≤ at → at < 16
+    → ((i : ℕ) → i < at → bit_at left i ≡ 0)
+    → AreStops text first (at + 1) (bit_and left (bit_not w64 (1 * 2 ^ at % 2 ^ 64)))
+cleared {left = left} at stops after within below =
+    let wide : at < 64 = omega arith in record {
+      few = omega (arith, stops.few, and_le_l left (bit_not w64 (1 * 2 ^ at % 2 ^ 64)));
+      before = λ i low. elim (cases_lt i at) [
+        | inl less ↦ bit_at_clear_other w64 left at wide i (omega arith) (λ same. omega (arith, same)) ∙ below i less
+        | inr more ↦ let same : i ≡ at = omega arith in rw same (bit_at_clear_same w64 left at wide)
+      ];
+      each = λ i low high. bit_at_clear_other w64 left at wide i (omega arith) (λ same. omega (arith, same))
+          ∙ stops.each i (omega arith) high;
+    }
+
+pub stop_cleared : {text : List ℕ} {first passed left : ℕ} (at : ℕ) → AreStops text first passed left
+    → IsStopAt text first passed at → AreStops text first (at + 1) (bit_and left (bit_not w64 (1 * 2 ^ at % 2 ^ 64)))
+stop_cleared at stops stop = cleared at stops stop.after stop.within (bit_below at stops stop)
+
+-- ---- a block, a byte that needs an escape after the other
+
+-- the bytes from one place up to another need no escape
+plain_part : (text : List ℕ) (first n : ℕ) → ((i : ℕ) → i < n → is_stop (get_or text (first + i) 0) ≡ false)
+    → Plain (take n (drop first text))
+plain_part text first n plain k low high =
+    let less : k < n = omega (arith, high, length-take n (drop first text)) in
+    ap is_plain (get_or-take n (drop first text) k 0 less ∙ get_or-drop first text k 0) ∙ ap not (plain k less)
+
+-- bytes that need no escape stay as they are
+pub in_json_plain : (raw : Bool) (xs ys : List ℕ) → Plain xs → in_json raw (xs ++ ys) ≡ xs ++ in_json raw ys
+in_json_plain false xs ys plain =
+    escape-append xs ys ∙ ap (λ zs. zs ++ escape ys) (plain_escape xs plain)
+in_json_plain true xs ys plain =
+    ap escape (plain_unescaped xs ys plain) ∙ escape-append xs (unescaped ys)
+    ∙ ap (λ zs. zs ++ escape (unescaped ys)) (plain_escape xs plain)
+
+-- of the block's sixteen bytes so many are passed, and what they are in JSON is written; the others stand after that
+pub record InBlock (raw : Bool) (base text : List ℕ) (at first : ℕ) (room : List ℕ) (end passed : ℕ) : Type 0 where
+  pub done : List ℕ
+  pub few : passed ≤ 16
+  pub copied : take end room ≡ done ++ take (16 - passed) (drop (first + passed) text)
+  pub placed : end ≡ length done + (16 - passed)
+  pub same : done ++ in_json raw (drop (first + passed) text) ≡ base ++ in_json raw (drop first text)
+  pub bound : end ≤ at + 16 + 5 * passed
+
+-- so many more bytes stay as they are
+pub stay : {raw : Bool} {base text : List ℕ} {at first : ℕ} {room : List ℕ} {end passed : ℕ} (n : ℕ)
+    → InBlock raw base text at first room end passed → passed + n ≤ 16 → first + 16 ≤ length text
+    → in_json raw (drop (first + passed) text)
+    ≡ take n (drop (first + passed) text) ++ in_json raw (drop (first + (passed + n)) text)
+    → InBlock raw base text at first room end (passed + n)
+stay {text = text} {first = first} {passed = passed} n b few more kept =
+    let rest = drop (first + passed) text in
+    let next : drop n rest ≡ drop (first + (passed + n)) text =
+    drop-drop n (first + passed) text ∙ ap (λ (k : ℕ). drop k text) (omega arith) in
+    let left : 16 - passed ≡ n + (16 - (passed + n)) = omega arith in
+    let long : length (take n rest) ≡ n =
+    length-take-le n rest (omega (arith, more, length-drop (first + passed) text)) in
+    let split : take (16 - passed) rest ≡ take n rest ++ take (16 - (passed + n)) (drop (first + (passed + n)) text) =
+    ap (λ (k : ℕ). take k rest) left ∙ take-add n (16 - (passed + n)) rest
+    ∙ ap (λ xs. take n rest ++ take (16 - (passed + n)) xs) next in
+    record {
+      done = b.done ++ take n rest;
+      few = few;
+      copied = b.copied ∙ ap (λ xs. b.done ++ xs) split ∙ sym (append_assoc b.done (take n rest) _);
+      placed = omega (arith, b.placed, length-append b.done (take n rest), long);
+      same = append_assoc b.done (take n rest) _ ∙ ap (λ xs. b.done ++ xs) (sym kept) ∙ b.same;
+      bound = omega (arith, b.bound);
+    }
+
+-- those up to a place do, where none needs an escape
+pub stay_plain : {raw : Bool} {base text : List ℕ} {at first : ℕ} {room : List ℕ} {end passed : ℕ} (stop : ℕ)
+    → InBlock raw base text at first room end passed → passed ≤ stop → stop ≤ 16 → first + 16 ≤ length text
+    → ((i : ℕ) → passed ≤ i → i < stop → is_stop (get_or text (first + i) 0) ≡ false)
+    → InBlock raw base text at first room end stop
+stay_plain {raw = raw} {base = base} {text = text} {at = at} {first = first} {room = room} {end = end} {passed = passed} stop b after few more plain =
+    let n = stop - passed in
+    let rest = drop (first + passed) text in
+    let run = plain_part text (first + passed) n (λ i less.
+    let same : first + passed + i ≡ first + (passed + i) = omega arith in
+    rw same (plain (passed + i) (omega arith) (omega arith))) in
+    let next : drop n rest ≡ drop (first + (passed + n)) text =
+    drop-drop n (first + passed) text ∙ ap (λ (k : ℕ). drop k text) (omega arith) in
+    let kept = ap (in_json raw) (sym (take-append-drop n rest)) ∙ in_json_plain raw (take n rest) (drop n rest) run
+    ∙ ap (λ xs. take n rest ++ in_json raw xs) next in
+    let there : passed + n ≡ stop = omega arith in
+    subst (λ (k : ℕ). InBlock raw base text at first room end k) there (stay n b (omega arith) more kept)
+
+-- what stands before the next byte
+pub before_next : {raw : Bool} {base text : List ℕ} {at first : ℕ} {room : List ℕ} {end passed : ℕ}
+    (b : InBlock raw base text at first room end passed) → take (end + passed - 16) room ≡ b.done
+before_next {room = room} {end = end} {passed = passed} b =
+    let place : end + passed - 16 ≡ length b.done = omega (arith, b.placed, b.few) in
+    ap (λ (k : ℕ). take k room) place ∙ sym (take-take (length b.done) end room (omega (arith, b.placed)))
+    ∙ ap (take (length b.done)) b.copied ∙ take-append_seam b.done _
+
+-- the next byte was written as these, and at least the rest of the block copied after them
+pub byte_written : {raw : Bool} {base text : List ℕ} {at first : ℕ} {room : List ℕ} {end stop : ℕ}
+    (w now : List ℕ) (place k later : ℕ) → (b : InBlock raw base text at first room end stop) → stop < 16
+    → take place now ≡ take (end + stop - 16) room ++ (w ++ take k (drop (first + stop + 1) text))
+    → place ≡ end + stop - 16 + length w + k → 15 - stop ≤ k → later + 1 ≡ end + length w → length w ≤ 6
+    → in_json raw (drop (first + stop) text) ≡ w ++ in_json raw (drop (first + stop + 1) text)
+    → InBlock raw base text at first now later (stop + 1)
+byte_written {raw = raw} {text = text} {first = first} {room = room} {end = end} {stop = stop} w now place k later b within written placed enough moved short is =
+    let there : first + stop + 1 ≡ first + (stop + 1) = omega arith in
+    let rest = drop (first + (stop + 1)) text in
+    let left = 16 - (stop + 1) in
+    let front = b.done ++ w in
+    let all : take place now ≡ front ++ take k rest =
+    written ∙ ap (λ (n : ℕ). take (end + stop - 16) room ++ (w ++ take k (drop n text))) there
+    ∙ ap (λ xs. xs ++ (w ++ take k rest)) (before_next b) ∙ sym (append_assoc b.done w (take k rest)) in
+    let ends : later ≡ length front + left = omega (arith, b.placed, length-append b.done w) in
+    record {
+      done = front;
+      few = omega arith;
+      copied = sym (take-take later place now (omega (arith, b.placed, b.few))) ∙ ap (take later) all ∙ ap (λ (n : ℕ). take n (front ++ take k rest)) ends
+          ∙ take-append-add front (take k rest) left ∙ ap (λ xs. front ++ xs) (take-take left k rest (omega arith));
+      placed = ends;
+      same = append_assoc b.done w _ ∙ ap (λ xs. b.done ++ xs)
+          (sym (is ∙ ap (λ (n : ℕ). w ++ in_json raw (drop n text)) there)) ∙ b.same;
+      bound = omega (arith, b.bound);
+    }
+
+-- ---- a byte in JSON
+
+pub json_byte : (raw : Bool) (b : ℕ) (rest : List ℕ) → OnTrue raw (nat_eq b 92 ≡ false)
+    → in_json raw (b ∷ rest) ≡ escape_byte b ++ in_json raw rest
+json_byte false b rest other = refl
+json_byte true b rest other = rw other refl
+
+pub on_other : (raw : Bool) (b : ℕ) → (b ≡ 92 → ⊥) → OnTrue raw (nat_eq b 92 ≡ false)
+on_other false b other = tt
+on_other true b other = ne_eqb b 92 other
+
+pub on_no_raw : (raw : Bool) (b : ℕ) → raw ≡ false → OnTrue raw (nat_eq b 92 ≡ false)
+on_no_raw raw b is = rw is tt
+
+-- a pair that is a bracket is the bracket
+pub json_bracket : (rest : List ℕ) → in_json true (92 ∷ 93 ∷ rest) ≡ in_json true (93 ∷ rest)
+json_bracket rest = refl
+
+-- JSON has the same escapes as some pairs
+pub json_kept : (c : ℕ) (rest : List ℕ) → (c ≡ 110) ⊎ ((c ≡ 34) ⊎ (c ≡ 92))
+    → in_json true (92 ∷ c ∷ rest) ≡ 92 ∷ c ∷ in_json true rest
+unfolding escape_byte
+json_kept c rest (inl e) = rw e refl
+json_kept c rest (inr (inl e)) = rw e refl
+json_kept c rest (inr (inr e)) = rw e refl
+
+-- of another pair both bytes stay
+pub json_other : (c : ℕ) (rest : List ℕ) → nat_eq c 93 ≡ false → nat_eq c 110 ≡ false → nat_eq c 34 ≡ false
+    → nat_eq c 92 ≡ false → in_json true (92 ∷ c ∷ rest) ≡ 92 ∷ 92 ∷ in_json true (c ∷ rest)
+unfolding escape_byte
+json_other c rest bracket letter quote backslash = rw (bracket, letter, quote, backslash) refl
+
+pub next_byte : (text : List ℕ) (n : ℕ) → n < length text → drop n text ≡ get_or text n 0 ∷ drop (n + 1) text
+next_byte text n within = drop-cons text n 0 within ∙ ap (λ (k : ℕ). get_or text n 0 ∷ drop k text) (sym (add-one n))
+
+stop_is : (b : ℕ) → is_stop b ≡ true → 32 ≤ b → (b ≡ 34) ⊎ (b ≡ 92)
+stop_is b stop high = elim (cases_eq b 34) [
+  | inl e ↦ inl e
+  | inr n ↦ elim (cases_eq b 92) [
+    | inl e ↦ inr e
+    | inr m ↦ absurd (false≢true (rw (ne_eqb b 34 n, ne_eqb b 92 m, le-ltb b 32 high) at stop))
+  ]
+]
+
+escaped : (b : ℕ) → (b ≡ 34) ⊎ (b ≡ 92) → escape_byte b ≡ 92 ∷ b ∷ []
+unfolding escape_byte
+escaped b (inl e) = rw e refl
+escaped b (inr e) = rw e refl
+
+-- a quote or a backslash has one before it, but for a backslash that begins a pair
+pub backslash_at : (raw : Bool) (text : List ℕ) (at : ℕ) → at < length text → is_stop (get_or text at 0) ≡ true
+    → 32 ≤ get_or text at 0 → OnTrue raw (nat_eq (get_or text at 0) 92 ≡ false)
+    → in_json raw (drop at text) ≡ 92 ∷ get_or text at 0 ∷ in_json raw (drop (at + 1) text)
+backslash_at raw text at within stop high other =
+    let b = get_or text at 0 in
+    ap (in_json raw) (next_byte text at within) ∙ json_byte raw b (drop (at + 1) text) other
+    ∙ ap (λ xs. xs ++ in_json raw (drop (at + 1) text)) (escaped b (stop_is b stop high))
+
+-- a pair, by its second byte
+pair_text : (text : List ℕ) (at : ℕ) → at + 1 < length text → get_or text at 0 ≡ 92
+    → drop at text ≡ 92 ∷ get_or text (at + 1) 0 ∷ drop (at + 2) text
+pair_text text at within first =
+    let two : at + 1 + 1 ≡ at + 2 = omega arith in
+    next_byte text at (omega arith) ∙ ap (λ (b : ℕ). b ∷ drop (at + 1) text) first
+    ∙ ap (λ xs. 92 ∷ xs) (next_byte text (at + 1) within)
+    ∙ ap (λ (k : ℕ). 92 ∷ get_or text (at + 1) 0 ∷ drop k text) two
+
+pub nothing_at : (raw : Bool) (text : List ℕ) (at : ℕ) → raw ≡ true → at + 1 < length text → get_or text at 0 ≡ 92
+    → get_or text (at + 1) 0 ≡ 93 → in_json raw (drop at text) ≡ in_json raw (drop (at + 1) text)
+nothing_at raw text at is within first second =
+    let one = next_byte text (at + 1) within in
+    let both = next_byte text at (omega arith) ∙ ap (λ (b : ℕ). b ∷ drop (at + 1) text) first in
+    let rest = drop (at + 1 + 1) text in
+    let bracket = one ∙ ap (λ (b : ℕ). b ∷ rest) second in
+    rw is (ap (in_json true) (both ∙ ap (λ xs. 92 ∷ xs) bracket) ∙ json_bracket rest ∙ ap (in_json true) (sym bracket))
+
+pub pair_at : (raw : Bool) (text : List ℕ) (at : ℕ) → raw ≡ true → at + 1 < length text → get_or text at 0 ≡ 92
+    → (get_or text (at + 1) 0 ≡ 110) ⊎ ((get_or text (at + 1) 0 ≡ 34) ⊎ (get_or text (at + 1) 0 ≡ 92))
+    → in_json raw (drop at text) ≡ take 2 (drop at text) ++ in_json raw (drop (at + 2) text)
+pair_at raw text at is within first second =
+    let c = get_or text (at + 1) 0 in
+    let whole = pair_text text at within first in
+    let rest = drop (at + 2) text in
+    rw is (ap (in_json true) whole ∙ json_kept c rest second
+    ∙ ap (λ xs. take 2 xs ++ in_json true rest) (sym whole))
+
+pub other_at : (raw : Bool) (text : List ℕ) (at : ℕ) → raw ≡ true → at + 1 < length text → get_or text at 0 ≡ 92
+    → (get_or text (at + 1) 0 ≡ 93 → ⊥) → (get_or text (at + 1) 0 ≡ 110 → ⊥) → (get_or text (at + 1) 0 ≡ 34 → ⊥)
+    → (get_or text (at + 1) 0 ≡ 92 → ⊥)
+    → in_json raw (drop at text) ≡ 92 ∷ get_or text at 0 ∷ in_json raw (drop (at + 1) text)
+other_at raw text at is within first bracket letter quote backslash =
+    let c = get_or text (at + 1) 0 in
+    let rest = drop (at + 2) text in
+    let two : at + 1 + 1 ≡ at + 2 = omega arith in
+    let one : drop (at + 1) text ≡ c ∷ rest =
+    next_byte text (at + 1) within ∙ ap (λ (k : ℕ). c ∷ drop k text) two in
+    rw is (ap (in_json true) (pair_text text at within first)
+    ∙ json_other c rest (ne_eqb c 93 bracket) (ne_eqb c 110 letter) (ne_eqb c 34 quote) (ne_eqb c 92 backslash)
+    ∙ ap (λ (b : ℕ). 92 ∷ b ∷ in_json true (c ∷ rest)) (sym first) ∙ ap (λ xs. 92 ∷ get_or text at 0 ∷ in_json true xs) (sym one))
+
+-- an escape was written, and sixteen bytes after it
+pub control_written : (at n m : ℕ) (old room now piece escape text : List ℕ) → take (at + 8) room ≡ take at old ++ piece
+    → take n piece ≡ escape → n ≤ 8 → length piece ≡ 8 → at ≤ length old
+    → take (at + n + 16) now ≡ take (at + n) room ++ text → take (at + n + 16) now ≡ take at old ++ (escape ++ text)
+control_written at n m old room now piece escape text held is few long within written =
+    let place : at + n ≡ length (take at old) + n = omega (arith, length-take-le at old within) in
+    let front : take (at + n) room ≡ take at old ++ escape =
+    sym (take-take (at + n) (at + 8) room (omega arith)) ∙ ap (take (at + n)) held
+    ∙ ap (λ (k : ℕ). take k (take at old ++ piece)) place ∙ take-append-add (take at old) piece n
+    ∙ ap (λ xs. take at old ++ xs) is in
+    written ∙ ap (λ xs. xs ++ text) front ∙ append_assoc (take at old) escape text
+
+-- ---- a loop over the bytes of a block that need an escape
+
+pub record AtStop (raw : Bool) (base text : List ℕ) (at first : ℕ) (room : List ℕ) (end left stop : ℕ) : Type 0 where
+  pub within : stop < 16
+  pub block : InBlock raw base text at first room end stop
+  pub here : is_stop (get_or text (first + stop) 0) ≡ true
+  pub rest : AreStops text first (stop + 1) (bit_and left (bit_not w64 (1 * 2 ^ stop % 2 ^ 64)))
+  pub falls : bit_and left (bit_not w64 (1 * 2 ^ stop % 2 ^ 64)) < left
+
+other_bit : (a b k : ℕ) → bit_at a k ≡ 0 → bit_at b k ≡ 1 → a ≡ b → ⊥
+other_bit a b k off on same = omega (arith, sym off ∙ ap (λ (n : ℕ). bit_at n k) same ∙ on)
+
+pub at_stop : {raw : Bool} {base text : List ℕ} {at first : ℕ} {room : List ℕ} {end left : ℕ}
+    → ((passed : ℕ) × AreStops text first passed left × InBlock raw base text at first room end passed) → 0 < left
+    → first + 32 ≤ length text → AtStop raw base text at first room end left (trailing_zeros w64 left)
+at_stop {left = left} (passed, stops, block) some more =
+    let stop = first_stop stops some in
+    let at = trailing_zeros w64 left in
+    let rest = stop_cleared at stops stop in
+    let on : bit_at left at ≡ 1 = (stops.each at stop.after stop.within) ∙ rw (stop.here) refl in
+    let below : at < at + 1 = omega arith in
+    let less = and_le_l left (bit_not w64 (1 * 2 ^ at % 2 ^ 64)) in
+    let differs = other_bit _ _ at (rest.before at below) on in record {
+      within = stop.within;
+      block = stay_plain at block stop.after (omega (arith, stop.within)) (omega arith) stop.plain;
+      here = stop.here;
+      rest = rest;
+      falls = omega (arith, less, differs);
+    }
+
+-- none is left
+pub block_ends : {raw : Bool} {base text : List ℕ} {at first : ℕ} {room : List ℕ} {end left : ℕ}
+    → ((passed : ℕ) × AreStops text first passed left × InBlock raw base text at first room end passed) → left ≡ 0
+    → first + 32 ≤ length text
+    → take end room ++ in_json raw (drop (first + 16) text) ≡ base ++ in_json raw (drop first text)
+block_ends {raw = raw} {text = text} {first = first} (passed, stops, block) none more =
+    let b = stay_plain 16 block block.few (omega arith) (omega arith) (no_stop stops none) in
+    ap (λ xs. xs ++ in_json raw (drop (first + 16) text)) (b.copied ∙ append-nil b.done) ∙ b.same
+
+-- a pair stands across its end
+pub pair_ends : {raw : Bool} {base text : List ℕ} {at first : ℕ} {room : List ℕ} {end : ℕ} (stop : ℕ) (now : List ℕ)
+    → (b : InBlock raw base text at first room end stop) → stop ≡ 15 → first + 32 ≤ length text
+    → in_json raw (drop (first + stop) text) ≡ take 2 (drop (first + stop) text) ++ in_json raw (drop (first + stop + 2) text)
+    → take (end + 1) now ≡ take end room ++ get_or text (first + stop + 1) 0 ∷ []
+    → take (end + 1) now ++ in_json raw (drop (first + 17) text) ≡ base ++ in_json raw (drop first text)
+pair_ends {raw = raw} {text = text} {first = first} {room = room} {end = end} stop now b last more kept written =
+    let rest = drop (first + stop) text in
+    let one = next_byte text (first + stop) (omega arith) in
+    let two = next_byte text (first + stop + 1) (omega arith) in
+    let x = get_or text (first + stop) 0 in
+    let y = get_or text (first + stop + 1) 0 in
+    let left : 16 - stop ≡ 1 = omega arith in
+    let end_of : first + stop + 2 ≡ first + 17 = omega arith in
+    let both : take 2 rest ≡ x ∷ y ∷ [] = ap (take 2) (one ∙ ap (λ xs. x ∷ xs) two) in
+    let held : take end room ≡ b.done ++ x ∷ [] =
+    b.copied ∙ ap (λ (k : ℕ). b.done ++ take k rest) left ∙ ap (λ xs. b.done ++ take 1 xs) one in
+    let all : take (end + 1) now ≡ b.done ++ x ∷ y ∷ [] =
+    written ∙ ap (λ xs. xs ++ y ∷ []) held ∙ append_assoc b.done (x ∷ []) (y ∷ []) in
+    ap (λ xs. xs ++ in_json raw (drop (first + 17) text)) all ∙ append_assoc b.done (x ∷ y ∷ []) _
+    ∙ ap (λ xs. b.done ++ (xs ++ in_json raw (drop (first + 17) text))) (sym both)
+    ∙ ap (λ (k : ℕ). b.done ++ (take 2 rest ++ in_json raw (drop k text))) (sym end_of)
+    ∙ ap (λ xs. b.done ++ xs) (sym kept) ∙ b.same
+
+-- and a pair within it is passed
+pub pair_passed : {raw : Bool} {base text : List ℕ} {at first : ℕ} {room : List ℕ} {end left stop : ℕ}
+    → AtStop raw base text at first room end left stop → (stop ≡ 15 → ⊥)
+    → AreStops text first (stop + 2) (bit_and (bit_and left (bit_not w64 (1 * 2 ^ stop % 2 ^ 64))) (bit_not w64 (1 * 2 ^ (stop + 1) % 2 ^ 64)))
+    × (bit_and (bit_and left (bit_not w64 (1 * 2 ^ stop % 2 ^ 64))) (bit_not w64 (1 * 2 ^ (stop + 1) % 2 ^ 64)) < left)
+pair_passed {text = text} {first = first} {left = left} {stop = stop} a other =
+    let next = bit_and left (bit_not w64 (1 * 2 ^ stop % 2 ^ 64)) in
+    let last = bit_and next (bit_not w64 (1 * 2 ^ (stop + 1) % 2 ^ 64)) in
+    let two : stop + 1 + 1 ≡ stop + 2 = omega arith in
+    let within : stop < 16 = a.within in
+    let less = and_le_l next (bit_not w64 (1 * 2 ^ (stop + 1) % 2 ^ 64)) in
+    let fewer : next < left = a.falls in
+    let rest : AreStops text first (stop + 1 + 1) last = cleared (stop + 1) a.rest (omega arith) (omega (arith, other)) a.rest.before in
+    (subst (λ (n : ℕ). AreStops text first n last) two rest, omega (arith, less, fewer))
+
+pub pair_stays : {raw : Bool} {base text : List ℕ} {at first : ℕ} {room : List ℕ} {end left stop : ℕ}
+    → AtStop raw base text at first room end left stop → (stop ≡ 15 → ⊥) → first + 32 ≤ length text
+    → in_json raw (drop (first + stop) text) ≡ take 2 (drop (first + stop) text) ++ in_json raw (drop (first + stop + 2) text)
+    → InBlock raw base text at first room end (stop + 2)
+pair_stays {raw = raw} {text = text} {first = first} {stop = stop} a other more kept =
+    let there : first + stop + 2 ≡ first + (stop + 2) = omega arith in
+    stay 2 a.block (omega (arith, other, a.within)) (omega arith)
+    (kept ∙ ap (λ (k : ℕ). take 2 (drop (first + stop) text) ++ in_json raw (drop k text)) there)
+
+-- a backslash was written, and sixteen bytes from the byte on
+pub backslash_written : {raw : Bool} {base text : List ℕ} {at first : ℕ} {room : List ℕ} {end left stop : ℕ} (now : List ℕ)
+    → AtStop raw base text at first room end left stop → first + 32 ≤ length text
+    → take (end + stop - 16 + 17) now ≡ take (end + stop - 16) room ++ (92 ∷ take 16 (drop (first + stop) text))
+    → in_json raw (drop (first + stop) text) ≡ 92 ∷ get_or text (first + stop) 0 ∷ in_json raw (drop (first + stop + 1) text)
+    → InBlock raw base text at first now (end + 1) (stop + 1)
+backslash_written {text = text} {first = first} {room = room} {end = end} {stop = stop} now a more written is =
+    let here = next_byte text (first + stop) (omega (arith, a.within)) in
+    byte_written (92 ∷ get_or text (first + stop) 0 ∷ []) now (end + stop - 16 + 17) 15 (end + 1) a.block a.within
+    (written ∙ ap (λ xs. take (end + stop - 16) room ++ (92 ∷ take 16 xs)) here)
+    (omega arith) (omega arith) (omega arith) (omega arith) is
+
+-- ---- the last blocks of a text, from a copy with brackets after it
+
+escape_brackets : (k : ℕ) → escape (replicate k 93) ≡ replicate k 93
+unfolding escape_byte
+escape_brackets zero = refl
+escape_brackets (suc k) = ap (λ xs. 93 ∷ xs) (escape_brackets k)
+
+unescape_brackets : (k : ℕ) → unescaped (replicate k 93) ≡ replicate k 93
+unescape_brackets zero = refl
+unescape_brackets (suc k) = ap (λ xs. 93 ∷ xs) (unescape_brackets k)
+
+before_brackets : (xs : List ℕ) (k : ℕ) → (unescaped (xs ++ replicate (suc k) 93) ≡ unescaped xs ++ replicate (suc k) 93)
+    × (after_backslash (xs ++ replicate (suc k) 93) ≡ after_backslash xs ++ replicate (suc k) 93)
+before_brackets [] k = (unescape_brackets (suc k), ap (λ xs. 93 ∷ xs) (unescape_brackets k))
+before_brackets (c ∷ xs) k =
+    let (one, two) = before_brackets xs k in (
+      elim (cases_Bool (nat_eq c 92)) [
+        | inl is ↦ rw is two
+        | inr other ↦ rw other (ap (λ ys. c ∷ ys) one)
+      ],
+      ap (λ ys. pair_meaning c ++ ys) one ∙ sym (append_assoc (pair_meaning c) (unescaped xs) (replicate (suc k) 93)),
+    )
+
+in_json_brackets : (raw : Bool) (xs : List ℕ) (k : ℕ)
+    → in_json raw (xs ++ replicate (suc k) 93) ≡ in_json raw xs ++ replicate (suc k) 93
+in_json_brackets false xs k =
+    escape-append xs (replicate (suc k) 93) ∙ ap (λ ys. escape xs ++ ys) (escape_brackets (suc k))
+in_json_brackets true xs k =
+    ap escape ((before_brackets xs k).0) ∙ escape-append (unescaped xs) (replicate (suc k) 93)
+    ∙ ap (λ ys. escape (unescaped xs) ++ ys) (escape_brackets (suc k))
+
+only_brackets : (raw : Bool) (k : ℕ) → in_json raw (replicate k 93) ≡ replicate k 93
+only_brackets false k = escape_brackets k
+only_brackets true k = ap escape (unescape_brackets k) ∙ escape_brackets k
+
+-- they are taken off
+pub brackets_off : (raw : Bool) (text out base padded : List ℕ) (at next : ℕ)
+    → padded ≡ text ++ replicate (64 - length text) 93 → length text ≤ 32 → length text ≤ next → next ≤ 64
+    → at ≤ length out → take at out ++ in_json raw (drop next padded) ≡ base ++ in_json raw padded
+    → (next - length text ≤ at) × (take (at - (next - length text)) out ≡ base ++ in_json raw text)
+brackets_off raw text out base padded at next is few after most within held =
+    let n = length text in
+    let more = 63 - n in
+    let count : 64 - n ≡ suc more = omega arith in
+    let whole : in_json raw padded ≡ in_json raw text ++ replicate (64 - n) 93 =
+    ap (in_json raw) (is ∙ ap (λ (k : ℕ). text ++ replicate k 93) count) ∙ in_json_brackets raw text more
+    ∙ ap (λ (k : ℕ). in_json raw text ++ replicate k 93) (sym count) in
+    let place : next ≡ n + (next - n) = omega arith in
+    let fewer : 64 - n - (next - n) ≡ 64 - next = omega arith in
+    let left : in_json raw (drop next padded) ≡ replicate (64 - next) 93 =
+    ap (λ xs. in_json raw (drop next xs)) is ∙ ap (λ (k : ℕ). in_json raw (drop k (text ++ replicate (64 - n) 93))) place
+    ∙ ap (in_json raw) (drop-append-add text (replicate (64 - n) 93) (next - n) ∙ drop-replicate (next - n) (64 - n) 93
+    ∙ ap (λ (k : ℕ). replicate k 93) fewer) ∙ only_brackets raw (64 - next) in
+    let wanted = base ++ in_json raw text in
+    let both : take at out ++ replicate (64 - next) 93 ≡ wanted ++ replicate (64 - n) 93 =
+    ap (λ xs. take at out ++ xs) (sym left) ∙ held ∙ ap (λ xs. base ++ xs) whole
+    ∙ sym (append_assoc base (in_json raw text) (replicate (64 - n) 93)) in
+    let front : length (take at out) ≡ at = length-take-le at out within in
+    let long : at + (64 - next) ≡ length wanted + (64 - n) =
+    omega (
+      arith,
+      front,
+      ap length both,
+      length-append (take at out) (replicate (64 - next) 93),
+      length-append wanted (replicate (64 - n) 93),
+      length-replicate {A = ℕ} (64 - next) 93,
+      length-replicate {A = ℕ} (64 - n) 93,
+    ) in
+    let size : at - (next - n) ≡ length wanted = omega arith in
+    let shorter : length wanted ≤ length (take at out) = omega arith in (
+      omega arith,
+      ap (λ (k : ℕ). take k out) size ∙ sym (take-take (length wanted) at out (omega arith))
+          ∙ sym (take-append-le (length wanted) (take at out) (replicate (64 - next) 93) shorter)
+          ∙ ap (take (length wanted)) both ∙ take-append_seam wanted (replicate (64 - n) 93),
+    )
+
+-- ---- a text, whose first bytes need no escape
+
+pub plain_written : (raw : Bool) (text : List ℕ) (n : ℕ) → n ≤ length text → PlainBetween text 0 n
+    → in_json raw text ≡ take n text ++ in_json raw (drop n text)
+plain_written raw text n within plain =
+    ap (in_json raw) (sym (take-append-drop n text))
+    ∙ in_json_plain raw (take n text) (drop n text) (plain_front text n within plain)
+
+in_json_nothing : (raw : Bool) → in_json raw [] ≡ []
+in_json_nothing false = refl
+in_json_nothing true = refl
+
+pub all_plain : (raw : Bool) (text : List ℕ) (n : ℕ) → n ≡ length text → PlainBetween text 0 n → take n text ≡ in_json raw text
+all_plain raw text n all plain =
+    let none = ap (in_json raw) (drop_all n text (omega arith)) ∙ in_json_nothing raw in
+    sym (plain_written raw text n (omega arith) plain ∙ ap (λ xs. take n text ++ xs) none ∙ append-nil (take n text))
+
+pub text_written : (raw : Bool) (text old mid now rest : List ℕ) (at n end : ℕ) → n ≤ length text → PlainBetween text 0 n
+    → rest ≡ drop n text → take (at + n) mid ≡ take at old ++ take n text
+    → take end now ≡ take (at + n) mid ++ in_json raw rest → take end now ≡ take at old ++ in_json raw text
+text_written raw text old mid now rest at n end within plain is first second =
+    second ∙ ap (λ xs. take (at + n) mid ++ in_json raw xs) is ∙ ap (λ xs. xs ++ in_json raw (drop n text)) first
+    ∙ append_assoc (take at old) (take n text) (in_json raw (drop n text))
+    ∙ ap (λ xs. take at old ++ xs) (sym (plain_written raw text n within plain))
+
+pub on_ok : {T E : Type 0} {P Q : T → Type 0} (r : Result T E) → ((x : T) → P x → Q x) → IfOk r P → IfOk r Q
+on_ok (Ok x) f p = f x p
+on_ok (Err e) f p = p
+
+pub kept_less : (n at : ℕ) (old now : List ℕ) → take at now ≡ take at old → n ≤ at → take n now ≡ take n old
+kept_less n at old now kept less = sym (take-take n at now less) ∙ ap (take n) kept ∙ take-take n at old less

@@ -1,0 +1,5 @@
+use Rattle.syslog_object.proofs.BlockLemmas.{stored}
+use Rattle.syslog_object.proofs.blocks.put_lanes.Goals as goal
+
+pub returns : goal.returns
+returns c = stored c.args.at c.args.room.now c.args.first c.args.text.now c.requires.room c.requires.more

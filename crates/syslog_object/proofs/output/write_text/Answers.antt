@@ -1,0 +1,13 @@
+use Rattle.syslog_object.proofs.Names.{ap, arith, take, ◌∙◌, ◌++◌}
+use Rattle.std.proofs.lemmas.List.{take_rest}
+use Rattle.syslog_object.proofs.BlockLemmas.{all_plain, text_written, on_ok}
+use Rattle.syslog_object.proofs.output.write_text.Goals as goal
+
+pub returns-then-plain-text-clause-text : goal.returns-then-plain-text-clause-text
+returns-then-plain-text-clause-text c =
+    c.write_plain-plain.ensures.text ∙ ap (λ xs. take c.args.at c.args.bytes.now.items ++ xs)
+    (all_plain c.args.is_raw c.args.text.now _ (omega arith) c.write_plain-plain.ensures.plain)
+
+pub returns-clause-text : goal.returns-clause-text
+returns-clause-text c = on_ok c.put_escaped.result (λ end e. text_written c.args.is_raw c.args.text.now c.args.bytes.now.items _ _ _ c.args.at
+    _ end c.write_plain-plain.ensures.within c.write_plain-plain.ensures.plain (take_rest c.args.text.now _) c.write_plain-plain.ensures.text e) c.put_escaped.ensures.text

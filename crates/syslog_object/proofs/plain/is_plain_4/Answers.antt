@@ -1,5 +1,0 @@
-use Rattle.syslog_object.proofs.Names.{arith, plain_from_lanes}
-use Rattle.syslog_object.proofs.plain.is_plain_4.Goals as goal
-
-pub returns : goal.returns
-returns c = plain_from_lanes c.args.text.now c.args.at 4 c.requires (omega arith) c.type_inv.text

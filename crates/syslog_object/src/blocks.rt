@@ -1,0 +1,314 @@
+//! Texts with JSON's escapes, by blocks of sixteen bytes: each is copied whole, and what comes after a byte that needs an
+//! escape is copied again at its new place.
+
+ghost use Rattle.std.specs.Prelude.{◌≡◌, ◌+◌, ◌++◌, ◌∷◌, ◌≤◌, ◌<◌, true, length, slice_index, take, drop};
+ghost use Rattle.std.specs.Bool.{OnTrue};
+ghost use Rattle.json.specs.Print.{escape_byte};
+ghost use Rattle.json.specs.Run.{is_stop};
+ghost use Rattle.json.specs.Written.{PlainBetween};
+ghost use Rattle.syslog_object.specs.Blocks.{AreStops, IsEscapeAt, in_json};
+
+use std::simd::prelude::*;
+
+/// How many bytes from the first of its places on a block may write: six for each of sixteen bytes, a byte more where a
+/// pair ends after them, and sixteen that are copied again.
+pub(crate) const BLOCK_ROOM: usize = 128;
+
+// Writes the bytes to the front. (An array is stored as a whole, where `copy_from_slice` asks first whether the two
+// overlap.)
+#[inline(always)]
+fn store<const N: usize>(room: &mut [u8], piece: &[u8; N])
+    requires { N ≤ length room.old }
+    ensures { room.new ≡ piece.now ++ drop N room.old }
+{
+    if let Some(front) = room.first_chunk_mut::<N>() {
+        *front = *piece;
+    }
+}
+
+/// Writes the bytes at the place, for which there is room, and returns the place after them.
+#[inline(always)]
+pub(crate) fn put<const N: usize>(room: &mut [u8], at: usize, piece: &[u8; N]) -> usize
+    requires { at + N ≤ length room.old }
+    ensures text { take (at + N) room.new ≡ take at room.old ++ piece.now }
+    ensures end { result ≡ at + N }
+{
+    store(&mut room[at..], piece);
+    at + N
+}
+
+// Writes sixteen bytes of the text at the place.
+#[inline(always)]
+fn put_lanes(room: &mut [u8], at: usize, text: &[u8], first: usize)
+    requires room { at + 16 ≤ length room.old }
+    requires more { first + 16 ≤ length text.now }
+    ensures { take (at + 16) room.new ≡ take at room.old ++ take 16 (drop first text.now) }
+{
+    u8x16::from_slice(&text[first..]).copy_to_slice(&mut room[at..]);
+}
+
+// Returns which of sixteen bytes need an escape.
+#[inline(always)]
+fn stops(text: &[u8], first: usize) -> u64
+    requires { first + 16 ≤ length text.now }
+    ensures { AreStops text.now first 0 result }
+{
+    let v = u8x16::from_slice(&text[first..]);
+    (v.simd_eq(u8x16::splat(b'"'))
+        | v.simd_eq(u8x16::splat(b'\\'))
+        | v.simd_lt(u8x16::splat(0x20))).to_bitmask()
+}
+
+#[inline(always)]
+fn is_stop(byte: u8) -> bool
+    ensures { result ≡ is_stop byte }
+{
+    byte == b'"' || byte == b'\\' || byte < 0x20
+}
+
+#[inline(always)]
+fn is_plain_8(text: &[u8], first: usize) -> bool
+    requires { first + 8 ≤ length text.now }
+    ensures { OnTrue result (PlainBetween text.now first (first + 8)) }
+{
+    let v = u8x8::from_slice(&text[first..]);
+    (v.simd_eq(u8x8::splat(b'"'))
+        | v.simd_eq(u8x8::splat(b'\\'))
+        | v.simd_lt(u8x8::splat(0x20))).to_bitmask()
+        == 0
+}
+
+// Writes a text of eight to sixteen bytes, by two stores that overlap.
+#[inline(always)]
+fn put_by_8(room: &mut [u8], at: usize, text: &[u8])
+    requires room { at + length text.now ≤ length room.old }
+    requires sized { (8 ≤ length text.now) × (length text.now ≤ 16) }
+    ensures { take (at + length text.now) room.new ≡ take at room.old ++ text.now }
+{
+    u8x8::from_slice(text).copy_to_slice(&mut room[at..]);
+    u8x8::from_slice(&text[text.len() - 8..]).copy_to_slice(&mut room[at + text.len() - 8..]);
+}
+
+/// Writes bytes from the front of the text, of which none needs an escape, and returns how many.
+#[inline(always)]
+pub(crate) fn put_plain(room: &mut [u8], at: usize, text: &[u8]) -> usize
+    requires { at + length text.now ≤ length room.old }
+    ensures within { result ≤ length text.now }
+    ensures plain { PlainBetween text.now 0 result }
+    ensures text { take (at + result) room.new ≡ take at room.old ++ take result text.now }
+{
+    let length = text.len();
+    if length >= 16 {
+        return put_plain_blocks(room, at, text);
+    }
+    if length >= 8 {
+        put_by_8(room, at, text);
+        let is_plain = is_plain_8(text, 0) && is_plain_8(text, length - 8);
+        return if is_plain { length } else { 0 };
+    }
+    put_plain_bytes(room, at, text)
+}
+
+#[inline(always)]
+fn put_plain_bytes(room: &mut [u8], at: usize, text: &[u8]) -> usize
+    requires { at + length text.now ≤ length room.old }
+    ensures within { result ≤ length text.now }
+    ensures plain { PlainBetween text.now 0 result }
+    ensures text { take (at + result) room.new ≡ take at room.old ++ take result text.now }
+{
+    let mut seen = 0;
+    'bytes: while seen < text.len() {
+        let byte = text[seen];
+        if is_stop(byte) {
+            return seen;
+        }
+        room[at + seen] = byte;
+        seen += 1;
+    }
+    seen
+}
+
+// (They are looked at in the text: bytes that were just copied are slow to load by sixteen.)
+#[inline(always)]
+fn put_plain_blocks(room: &mut [u8], at: usize, text: &[u8]) -> usize
+    requires room { at + length text.now ≤ length room.old }
+    requires long { 16 ≤ length text.now }
+    ensures within { result ≤ length text.now }
+    ensures plain { PlainBetween text.now 0 result }
+    ensures text { take (at + result) room.new ≡ take at room.old ++ take result text.now }
+{
+    let length = text.len();
+    let mut seen = 0;
+    'blocks: loop {
+        put_lanes(room, at + seen, text, seen);
+        let stops = stops(text, seen);
+        if stops != 0 {
+            return seen + stops.trailing_zeros() as usize;
+        }
+        if seen + 16 == length {
+            return length;
+        }
+        seen = (seen + 16).min(length - 16);
+    }
+}
+
+// What JSON has for a byte that needs an escape.
+enum Escape {
+    // a control character's own escape
+    Control,
+    // nothing, for the backslash of a pair that means its second byte
+    Nothing,
+    // a pair as it is, which means the same in JSON
+    Pair,
+    // a backslash and the byte
+    Backslash,
+}
+
+// Returns what JSON has for the byte at this place. A raw text has the escapes of a parameter's value.
+#[inline(always)]
+fn escape_at(text: &[u8], at: usize, is_raw: bool) -> Escape
+    requires more { at + 1 < length text.now }
+    requires stop { is_stop (slice_index text.now at) ≡ true }
+    ensures { IsEscapeAt is_raw text.now at result }
+{
+    let byte = text[at];
+    if byte < 0x20 {
+        return Escape::Control;
+    }
+    if byte != b'\\' || !is_raw {
+        return Escape::Backslash;
+    }
+    let second = text[at + 1];
+    if second == b']' {
+        return Escape::Nothing;
+    }
+    if second == b'n' || second == b'"' || second == b'\\' {
+        return Escape::Pair;
+    }
+    Escape::Backslash
+}
+
+// Writes the escape of a control character at the place, and after it sixteen bytes of the text. Returns how long the
+// escape is.
+#[inline(always)]
+fn put_control(room: &mut [u8], at: usize, byte: u8, text: &[u8], next: usize) -> usize
+    requires byte { byte < 32 }
+    requires room { at + 24 ≤ length room.old }
+    requires more { next + 16 ≤ length text.now }
+    ensures text { take (at + result + 16) room.new
+        ≡ take at room.old ++ (escape_byte byte ++ take 16 (drop next text.now)) }
+    ensures length { result ≡ length (escape_byte byte) }
+    ensures few { (2 ≤ result) × (result ≤ 6) }
+{
+    let escape = control(byte);
+    let length = escape[7] as usize;
+    put(room, at, escape);
+    put_lanes(room, at + length, text, next);
+    length
+}
+
+// Writes a backslash at the place, and after it sixteen bytes of the text.
+#[inline(always)]
+fn put_backslash(room: &mut [u8], at: usize, text: &[u8], next: usize)
+    requires room { at + 17 ≤ length room.old }
+    requires more { next + 16 ≤ length text.now }
+    ensures { take (at + 17) room.new ≡ take at room.old ++ (92 ∷ take 16 (drop next text.now)) }
+{
+    put(room, at, b"\\");
+    put_lanes(room, at + 1, text, next);
+}
+
+/// Writes the next sixteen bytes of the text, or seventeen where a pair stands across their end. Returns the places after
+/// what was written, and after what was read.
+#[inline(always)]
+pub(crate) fn put_block(
+    room: &mut [u8],
+    at: usize,
+    text: &[u8],
+    first: usize,
+    is_raw: bool,
+) -> (usize, usize)
+    requires room { at + 128 ≤ length room.old }
+    requires more { first + 32 ≤ length text.now }
+    ensures text { take result.0 room.new ++ in_json is_raw (drop result.1 text.now)
+        ≡ take at room.old ++ in_json is_raw (drop first text.now) }
+    ensures end { result.0 ≤ at + 97 }
+    ensures next { (first < result.1) × (result.1 ≤ first + 17) }
+{
+    put_lanes(room, at, text, first);
+    let mut end = at + 16;
+    let mut left = stops(text, first);
+    'stops: while left != 0 {
+        let stop = left.trailing_zeros() as usize;
+        left &= !(1 << stop as u32);
+        let place = end + stop - 16;
+        let from = first + stop;
+        match escape_at(text, from, is_raw) {
+            Escape::Control => {
+                end += put_control(room, place, text[from], text, from + 1) - 1;
+            }
+            Escape::Nothing => {
+                put_lanes(room, place, text, from + 1);
+                end -= 1;
+            }
+            Escape::Pair => {
+                if stop == 15 {
+                    room[end] = text[from + 1];
+                    return (end + 1, first + 17);
+                }
+                left &= !(1 << (stop + 1) as u32);
+            }
+            Escape::Backslash => {
+                put_backslash(room, place, text, from);
+                end += 1;
+            }
+        }
+    }
+    (end, first + 16)
+}
+
+// Returns the escape of a control character: so many bytes as the last one says.
+#[inline(always)]
+fn control(byte: u8) -> &'static [u8; 8]
+    requires { byte < 32 }
+    ensures text { take (slice_index result.now 7) result.now ≡ escape_byte byte }
+    ensures few { (2 ≤ slice_index result.now 7) × (slice_index result.now 7 ≤ 6) }
+{
+    &CONTROLS[byte as usize]
+}
+
+// The escape of each control character, and at the end its length.
+static CONTROLS: [[u8; 8]; 32] = [
+    *b"\\u0000\0\x06",
+    *b"\\u0001\0\x06",
+    *b"\\u0002\0\x06",
+    *b"\\u0003\0\x06",
+    *b"\\u0004\0\x06",
+    *b"\\u0005\0\x06",
+    *b"\\u0006\0\x06",
+    *b"\\u0007\0\x06",
+    *b"\\b\0\0\0\0\0\x02",
+    *b"\\t\0\0\0\0\0\x02",
+    *b"\\n\0\0\0\0\0\x02",
+    *b"\\u000b\0\x06",
+    *b"\\f\0\0\0\0\0\x02",
+    *b"\\r\0\0\0\0\0\x02",
+    *b"\\u000e\0\x06",
+    *b"\\u000f\0\x06",
+    *b"\\u0010\0\x06",
+    *b"\\u0011\0\x06",
+    *b"\\u0012\0\x06",
+    *b"\\u0013\0\x06",
+    *b"\\u0014\0\x06",
+    *b"\\u0015\0\x06",
+    *b"\\u0016\0\x06",
+    *b"\\u0017\0\x06",
+    *b"\\u0018\0\x06",
+    *b"\\u0019\0\x06",
+    *b"\\u001a\0\x06",
+    *b"\\u001b\0\x06",
+    *b"\\u001c\0\x06",
+    *b"\\u001d\0\x06",
+    *b"\\u001e\0\x06",
+    *b"\\u001f\0\x06",
+];

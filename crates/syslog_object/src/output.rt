@@ -1,0 +1,278 @@
+//! What is written of an object.
+
+ghost use Rattle.std.specs.Prelude.{◌≡◌, ◌+◌, ◌-◌, ◌++◌, ◌≤◌, [], List, ℕ, IfOk, IsUtf8, OnOk, drop, length, replicate, take, vec_len};
+ghost use Rattle.json.specs.Print.{escape};
+ghost use Rattle.json.specs.Written.{PlainBetween};
+ghost use Rattle.syslog_object.specs.Blocks.{in_json};
+ghost use Rattle.syslog_object.specs.Object.{unescaped};
+
+use crate::blocks::{BLOCK_ROOM, put, put_block, put_plain};
+use std::alloc::AllocError;
+use std::marker::Model;
+
+/// How much room each text leaves after it.
+const ROOM: usize = 64;
+
+/// Bytes that are written one after the other into the elements of a vector, of which those from a place on are room.
+#[derive(Drop)]
+pub(crate) struct Output {
+    bytes: Vec<u8>,
+    at: usize,
+}
+
+impl Model for Output {
+    ghost Value = { List ℕ };
+
+    ghost view = { λ out. take out.at out.bytes.items };
+
+    ghost invariant = { λ out. out.at ≤ vec_len out.bytes };
+}
+
+impl Output {
+    /// Returns an output of no byte, which uses the vector's memory.
+    #[inline(always)]
+    pub(crate) fn over(memory: Vec<u8>) -> Output
+        ensures { result ≡ [] }
+    {
+        Output {
+            bytes: memory,
+            at: 0,
+        }
+    }
+
+    /// Returns what was written.
+    #[inline(always)]
+    pub(crate) fn as_slice(&self) -> &[u8]
+        ensures { result.now ≡ self.now }
+    {
+        &self.bytes[..self.at]
+    }
+
+    /// Returns the vector, with what was written.
+    #[inline(always)]
+    pub(crate) fn into_bytes(self) -> Vec<u8>
+        ensures { result.items ≡ self }
+    {
+        let Output { mut bytes, at } = self;
+        bytes.truncate(at);
+        bytes
+    }
+
+    #[inline(always)]
+    pub(crate) fn len(&self) -> usize
+        ensures { result ≡ length self.now }
+    {
+        self.at
+    }
+
+    #[inline(always)]
+    pub(crate) fn clear(&mut self)
+        ensures { self.new ≡ [] }
+    {
+        self.at = 0;
+    }
+
+    /// Appends bytes.
+    #[inline(always)]
+    pub(crate) fn push<const N: usize>(&mut self, piece: &[u8; N]) -> Result<(), AllocError>
+        ensures { OnOk result (self.new ≡ self.old ++ piece.now) }
+    {
+        let at = self.at;
+        reserve(&mut self.bytes, at, N)?;
+        self.at = put(self.bytes.as_mut_slice(), at, piece);
+        Ok(())
+    }
+
+    /// Appends bytes.
+    #[inline(always)]
+    pub(crate) fn push_slice(&mut self, piece: &[u8]) -> Result<(), AllocError>
+        ensures { OnOk result (self.new ≡ self.old ++ piece.now) }
+    {
+        let at = self.at;
+        reserve(&mut self.bytes, at, piece.len())?;
+        self.bytes[at..at + piece.len()].copy_from_slice(piece);
+        self.at = at + piece.len();
+        Ok(())
+    }
+
+    /// Appends the text with JSON's escapes, between two pieces.
+    #[inline(always)]
+    pub(crate) fn push_text<const N: usize, const M: usize>(
+        &mut self,
+        before: &[u8; N],
+        text: &str,
+        after: &[u8; M],
+    ) -> Result<(), AllocError>
+        requires { (N ≤ 64) × (M ≤ 64) }
+        ensures text { OnOk result (self.new ≡ self.old ++ (before.now ++ (escape text.now ++ after.now))) }
+        ensures utf8 { IsUtf8 text.now }
+    {
+        self.push_between(before, text.as_bytes(), after, false)
+    }
+
+    /// Appends a parameter's raw value without its escapes, with JSON's, between two pieces.
+    #[inline(always)]
+    pub(crate) fn push_value<const N: usize, const M: usize>(
+        &mut self,
+        before: &[u8; N],
+        raw: &str,
+        after: &[u8; M],
+    ) -> Result<(), AllocError>
+        requires { (N ≤ 64) × (M ≤ 64) }
+        ensures { OnOk result (self.new ≡ self.old ++ (before.now ++ (escape (unescaped raw.now) ++ after.now))) }
+    {
+        self.push_between(before, raw.as_bytes(), after, true)
+    }
+
+    #[inline(always)]
+    fn push_between<const N: usize, const M: usize>(
+        &mut self,
+        before: &[u8; N],
+        text: &[u8],
+        after: &[u8; M],
+        is_raw: bool,
+    ) -> Result<(), AllocError>
+        requires { (N ≤ 64) × (M ≤ 64) }
+        ensures { OnOk result (self.new ≡ self.old ++ (before.now ++ (in_json is_raw text.now ++ after.now))) }
+    {
+        let start = self.at;
+        reserve(&mut self.bytes, start, text.len() + 2 * ROOM)?;
+        let at = write(&mut self.bytes, start, before);
+        let end = write_text(&mut self.bytes, at, text, is_raw)?;
+        self.at = write(&mut self.bytes, end, after);
+        Ok(())
+    }
+}
+
+// Makes room for so many bytes after the place, and for some more where there was less.
+#[inline(always)]
+fn reserve(bytes: &mut Vec<u8>, at: usize, count: usize) -> Result<(), AllocError>
+    requires { at ≤ vec_len bytes.old }
+    ensures room { OnOk result (at + count ≤ vec_len bytes.new) }
+    ensures kept { take at bytes.new.items ≡ take at bytes.old.items }
+    ensures longer { vec_len bytes.old ≤ vec_len bytes.new }
+{
+    if bytes.len() - at < count {
+        return grow(bytes, at, count);
+    }
+    Ok(())
+}
+
+#[inline(never)]
+fn grow(bytes: &mut Vec<u8>, at: usize, count: usize) -> Result<(), AllocError>
+    requires { (at ≤ vec_len bytes.old) × (vec_len bytes.old ≤ at + count) }
+    ensures room { OnOk result (at + count ≤ vec_len bytes.new) }
+    ensures kept { take at bytes.new.items ≡ take at bytes.old.items }
+    ensures longer { vec_len bytes.old ≤ vec_len bytes.new }
+{
+    bytes.resize(at.saturating_add(count).saturating_add(1024), 0)
+}
+
+// Writes the bytes, for which there is room, and returns the place after them.
+#[inline(always)]
+fn write<const N: usize>(bytes: &mut Vec<u8>, at: usize, piece: &[u8; N]) -> usize
+    requires { at + N ≤ vec_len bytes.old }
+    ensures text { take (at + N) bytes.new.items ≡ take at bytes.old.items ++ piece.now }
+    ensures end { result ≡ at + N }
+    ensures len { vec_len bytes.new ≡ vec_len bytes.old }
+{
+    put(bytes.as_mut_slice(), at, piece)
+}
+
+// Writes bytes from the front of the text, of which none needs an escape, and returns how many.
+#[inline(always)]
+fn write_plain(bytes: &mut Vec<u8>, at: usize, text: &[u8]) -> usize
+    requires { at + length text.now ≤ vec_len bytes.old }
+    ensures within { result ≤ length text.now }
+    ensures plain { PlainBetween text.now 0 result }
+    ensures text { take (at + result) bytes.new.items ≡ take at bytes.old.items ++ take result text.now }
+    ensures len { vec_len bytes.new ≡ vec_len bytes.old }
+{
+    put_plain(bytes.as_mut_slice(), at, text)
+}
+
+// Writes the text, for which there is room if none of it needs an escape, and returns the place after it.
+#[inline(always)]
+fn write_text(
+    bytes: &mut Vec<u8>,
+    at: usize,
+    text: &[u8],
+    is_raw: bool,
+) -> Result<usize, AllocError>
+    requires { at + length text.now + 64 ≤ vec_len bytes.old }
+    ensures text { IfOk result (λ end. take end bytes.new.items ≡ take at bytes.old.items ++ in_json is_raw text.now) }
+    ensures room { IfOk result (λ end. end + 64 ≤ vec_len bytes.new) }
+    ensures longer { vec_len bytes.old ≤ vec_len bytes.new }
+{
+    let plain = write_plain(bytes, at, text);
+    if plain == text.len() {
+        return Ok(at + plain);
+    }
+    put_escaped(bytes, at + plain, &text[plain..], is_raw)
+}
+
+// Writes the text by blocks, the last ones from a copy that has brackets after it, which are taken off again. Returns the
+// place after it.
+#[inline(never)]
+fn put_escaped(
+    bytes: &mut Vec<u8>,
+    start: usize,
+    text: &[u8],
+    is_raw: bool,
+) -> Result<usize, AllocError>
+    requires { start ≤ vec_len bytes.old }
+    ensures text { IfOk result (λ end. take end bytes.new.items ≡ take start bytes.old.items ++ in_json is_raw text.now) }
+    ensures room { IfOk result (λ end. end + 64 ≤ vec_len bytes.new) }
+    ensures longer { vec_len bytes.old ≤ vec_len bytes.new }
+{
+    let mut at = start;
+    let mut next = 0;
+    'blocks: while text.len() - next > 32 {
+        reserve(bytes, at, BLOCK_ROOM)?;
+        (at, next) = put_block(bytes.as_mut_slice(), at, text, next, is_raw);
+    }
+    put_last(bytes, at, &text[next..], is_raw)
+}
+
+// Writes the last bytes of a text.
+fn put_last(
+    bytes: &mut Vec<u8>,
+    start: usize,
+    text: &[u8],
+    is_raw: bool,
+) -> Result<usize, AllocError>
+    requires place { start ≤ vec_len bytes.old }
+    requires few { length text.now ≤ 32 }
+    ensures text { IfOk result (λ end. take end bytes.new.items ≡ take start bytes.old.items ++ in_json is_raw text.now) }
+    ensures room { IfOk result (λ end. end + 64 ≤ vec_len bytes.new) }
+    ensures longer { vec_len bytes.old ≤ vec_len bytes.new }
+{
+    let padded = padded(text);
+    let mut at = start;
+    let mut next = 0;
+    'blocks: while next < text.len() {
+        reserve(bytes, at, BLOCK_ROOM)?;
+        (at, next) = put_block(bytes.as_mut_slice(), at, &padded, next, is_raw);
+    }
+    reserve(bytes, at, ROOM)?;
+    Ok(at - (next - text.len()))
+}
+
+// Returns the text, and brackets after it.
+#[inline(always)]
+fn padded(text: &[u8]) -> [u8; 64]
+    requires { length text.now ≤ 32 }
+    ensures { result ≡ text.now ++ replicate (64 - length text.now) 93 }
+{
+    let mut padded = [b']'; 64];
+    copy_to_front(&mut padded, text);
+    padded
+}
+
+#[inline(always)]
+fn copy_to_front(room: &mut [u8], text: &[u8])
+    requires { length text.now ≤ length room.old }
+    ensures { room.new ≡ text.now ++ drop (length text.now) room.old }
+{
+    room[..text.len()].copy_from_slice(text);
+}
