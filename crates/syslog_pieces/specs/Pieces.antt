@@ -4,6 +4,7 @@ pub mod Class
 pub mod Format
 pub mod Lists
 pub mod Parts
+pub mod Rules
 pub mod View
 pub use Class.*
 pub use Lists.*

@@ -1,4 +1,5 @@
 -- White space, blanks, numbers and words: the pieces that both headers are made of.
+pub mod Bounded
 pub mod CharClass
 pub mod Canonical
 use Rattle.std.specs.Prelude.{◌≡◌, ◌≢◌, ℕ, ◌<◌, ◌≤◌, ◌⊎◌, nat_eq, ◌||◌, ◌&&◌, not, Bool}

@@ -10,6 +10,7 @@ ghost use Rattle.syslog_pieces.specs.declared.text.CharClass.TheVariants.{Blank,
 ghost use Rattle.syslog_pieces.specs.Bodies.Scan.{EndsRun, IsBare, SplitsRun};
 ghost use Rattle.syslog_pieces.specs.Text as spec;
 
+pub mod bounded;
 pub mod canonical;
 mod lanes;
 mod looks;

@@ -22,6 +22,7 @@ mod digits;
 pub(crate) mod fields;
 mod instant;
 pub mod month_date;
+pub mod pairs;
 mod rfc3339_text;
 pub mod zone;
 

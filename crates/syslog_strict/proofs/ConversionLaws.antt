@@ -1,9 +1,9 @@
 -- What was converted is converted to the same text again; its text is in the grammar, and is read back.
 use Rattle.syslog_strict.proofs.Words.{◌≡◌, ◌≢◌, ◌⊎◌, inl, inr, ℕ, ℤ, ◌<◌, ◌+ℤ◌, Bool, true, false, List, [], ◌∷◌, ◌++◌}
-use Rattle.syslog_strict.proofs.Words.{length, map, nat_eq, Option, Some, None, refl, sym, ap, ap₂, subst, ◌∙◌, arith}
-use Rattle.syslog_strict.proofs.Words.{append-nil, ◌%◌, unsigned_abs, IfSome, append_assoc, cases_Bool, nat_tests}
+use Rattle.syslog_strict.proofs.Words.{length, map, nat_eq, Option, Some, None, refl, sym, ap, ap₂, ◌∙◌, arith}
+use Rattle.syslog_strict.proofs.Words.{append-nil, ◌%◌, unsigned_abs, IfSome, cases_Bool, nat_tests}
 use Rattle.syslog_strict.proofs.Words.{AllByRecursion, option_and_then, option_map, decimal, signed_arith}
-use Rattle.syslog_strict.proofs.Words.{int_rem_euclid-parts, Text, join, Ends, text_eq, NamesProcess, named_process}
+use Rattle.syslog_strict.proofs.Words.{int_rem_euclid-parts, Text, Ends, text_eq, NamesProcess, named_process}
 use Rattle.syslog_strict.proofs.Words.{process_text, IsBoundedProcess, IsCanonicalElement, all_map, named_names}
 use Rattle.syslog_strict.proofs.Words.{nanos_of_seconds, civil_fields, printed_stamp, OffsetTimestamp, MessageValue}
 use Rattle.syslog_strict.proofs.Words.{timestamp_text, priority_of, ElementValue, elements_text, colon, dash, is_blank}
@@ -11,13 +11,21 @@ use Rattle.syslog_strict.proofs.Words.{ProcId, PID, Name, converted, converted_s
 use Rattle.syslog_strict.proofs.Words.{is_four_digits, micros, cleaned, converted_element, converted_elements}
 use Rattle.syslog_strict.proofs.Words.{converted_host, converted_name, converted_param, converted_process}
 use Rattle.syslog_strict.proofs.Words.{converted_word, escaped_from, is_among, joined_past, named, or_mark, params_of}
-use Rattle.syslog_strict.proofs.Words.{without_last_colon, without_lone_colon, AreDistinct, IsParamValue, IsSdName}
-use Rattle.syslog_strict.proofs.Words.{IsSyslogMsg, IsValuePiece, is_escaped, is_printusascii, is_sd_char}
-use Rattle.syslog_strict.proofs.Words.{list_any-append, IsSdElement, element_text, joined_elements}
-use Rattle.syslog_strict.specs.{Bodies.Reader.AreElements, Call.IsConvertedText, Conversion.converted_value}
+use Rattle.syslog_strict.proofs.Words.{without_last_colon, without_lone_colon, AreDistinct, Front}
+use Rattle.syslog_strict.proofs.Words.{IsSyslogMsg, is_escaped, is_printusascii, is_sd_char}
+use Rattle.syslog_strict.proofs.Words.{list_any-append, flat_map, ◌≤◌}
+use Rattle.syslog_strict.specs.{Call.IsConvertedText, Conversion.converted_value}
+use Rattle.syslog_strict.proofs.GrammarLemmas.{IsParamValue, IsSdName, IsSomeOf, IsStrictElement, IsStrictParam}
+use Rattle.syslog_strict.proofs.GrammarLemmas.{elements_prints, no_element}
+use Rattle.syslog_strict.specs.Grammar.{IsAll, IsValueUnit, body, header, pri, prival, sd_elements, sp, version}
+use Rattle.syslog_pieces.specs.Pieces.{Class.Row, Class.exactly, Class.rest, Class.spaced, Rules.short_run}
+use Rattle.syslog_pieces.specs.StructuredData.Escapes.{TextUnit, pair, single, unit_text}
+use Rattle.syslog_pieces.proofs.PieceLemmas.Class.{◌then◌, front_division, optional_some, piece_front, rest_front, row_of}
+use Rattle.syslog_pieces.proofs.PieceLemmas.Class.{rows_join, spaced_front}
+use Rattle.syslog_pieces.proofs.TextLemmas.Bounded.{numeral_back}
 use Rattle.syslog_strict.proofs.ElementLemmas.{elements_some, other_if, same_if}
 use Rattle.std.proofs.Common.{◌&&◌, nat_lt}
-use Rattle.std.proofs.lemmas.{Bool.or_from, List.length-map}
+use Rattle.std.proofs.lemmas.{Bool.or_from}
 use Rattle.std.specs.Bool.{◌==◌}
 use Rattle.std.specs.Prelude.{◌↔◌}
 use Rattle.syslog_pieces.specs.{Bodies.Verbatim.IsBareWord, Timestamp.Zone.Dating, Text.Canonical.EndsVisibly}
@@ -31,13 +39,12 @@ use Rattle.syslog_loose.proofs.ReadBackLemmas.{read_as, read_bounded, printed_ex
 use Rattle.syslog_loose.proofs.{PrintedLemmas.priority_small, Rfc5424Lemmas.read_completed}
 use Rattle.syslog_loose.proofs.Rfc3164Lemmas.Near.{read_near}
 use Rattle.syslog_loose.specs.Reading.{IsOnlyRead, IsRead, IsUnreadable, dash_rule}
-use Rattle.syslog_strict.proofs.BodyLemmas.{Many, elements_found, no_more, one_more}
-use Rattle.syslog_strict.proofs.NameLaws.{IsStrictElement, IsStrictParam, converted_are, converted_distinct}
-use Rattle.syslog_strict.proofs.NameLaws.{element_back, no_text, params_in, colonless_end, colonless_length}
+use Rattle.syslog_strict.proofs.NameLaws.{converted_are, converted_distinct, elements_is}
+use Rattle.syslog_strict.proofs.NameLaws.{element_back, no_text, colonless_end, colonless_length}
 use Rattle.syslog_strict.proofs.NameLaws.{colonless_passes, lone_other, lone_passes, lone_short, elements_back}
 use Rattle.syslog_strict.proofs.NameLaws.{elements_is}
 use Rattle.syslog_strict.proofs.TextLemmas.{cleaned_passes, cleaned_same, cleaned_short, colonless_same, text_eq_true}
-use Rattle.syslog_strict.proofs.StampLemmas.{by_choice, stamp_back, stamp_is, one}
+use Rattle.syslog_strict.proofs.StampLemmas.{by_choice, stamp_back, stamp_is}
 use Rattle.syslog_strict.proofs.NameLaws as names
 
 -- ---- what was converted is converted to the same text again
@@ -126,19 +133,16 @@ name_same t is = ap (cleaned is_sd_char 32) (mark_same t is.0) ∙ cleaned_same 
 plain_char : (c : ℕ) → is_escaped c ≡ false → nat_eq c 92 ≡ false
 plain_char c h = grind (arith, nat_tests)
 
-pieces_same : (pieces : List Text) → AllByRecursion IsValuePiece pieces → escaped_from false (join pieces) ≡ join pieces
-pieces_same [] each = refl
-pieces_same (piece ∷ pieces) (inl (c, escapes, e), each) =
-    ap (λ (x : Text). escaped_from false (x ++ join pieces)) e
-    ∙ same_if (is_escaped c) _ _ escapes ∙ ap (λ (x : Text). 92 ∷ c ∷ x) (pieces_same pieces each)
-    ∙ ap (λ (x : Text). x ++ join pieces) (sym e)
-pieces_same (piece ∷ pieces) (inr (c, plain, e), each) =
-    ap (λ (x : Text). escaped_from false (x ++ join pieces)) e
-    ∙ other_if (nat_eq c 92) _ _ (plain_char c plain) ∙ other_if (is_escaped c) _ _ plain
-    ∙ ap (λ (x : Text). c ∷ x) (pieces_same pieces each) ∙ ap (λ (x : Text). x ++ join pieces) (sym e)
+units_same : (units : List TextUnit) → AllByRecursion IsValueUnit units
+    → escaped_from false (flat_map unit_text units) ≡ flat_map unit_text units
+units_same [] each = refl
+units_same (pair c ∷ units) each =
+    same_if (is_escaped c) _ _ each.0 ∙ ap (λ (x : Text). 92 ∷ c ∷ x) (units_same units each.1)
+units_same (single c ∷ units) each = other_if (nat_eq c 92) _ _ (plain_char c each.0)
+    ∙ other_if (is_escaped c) _ _ each.0 ∙ ap (λ (x : Text). c ∷ x) (units_same units each.1)
 
 value_same : (t : Text) → IsParamValue t → converted_value t ≡ t
-value_same t (pieces, each, e) = ap (escaped_from false) e ∙ pieces_same pieces each ∙ sym e
+value_same t (units, e, each) = ap (escaped_from false) e ∙ units_same units each ∙ sym e
 
 pair_same : {A B : Type 0} (x y : A × B) → x.0 ≡ y.0 → x.1 ≡ y.1 → x ≡ y
 pair_same (a, b) (c, d) e f = cc
@@ -197,31 +201,15 @@ distinct_again es are apart = ap (joined_past []) (elements_same es are) ∙ joi
 pub elements_again : (es : List ElementValue) → converted_elements (converted_elements es) ≡ converted_elements es
 elements_again es = distinct_again (converted_elements es) (converted_are es) (converted_distinct es)
 
--- elements that have these ids and texts
-elements_in : {t r : Text} {ids : List Text} → Many IsSdElement t ids r → (es : List ElementValue) × AllByRecursion IsStrictElement es
-    × (map (λ (e : ElementValue). e.id) es ≡ ids) × (t ≡ joined_elements es ++ r)
-elements_in no_more = ([], tt, refl, refl)
-elements_in {r = r} (one_more {a = id} (params, is, are, e) f m) =
-    let (ps, strict, inner) = params_in params are in
-    let (es, others, ids, text) = elements_in m in (
-      record { id = id; params = ps } ∷ es,
-      ((is, strict), others),
-      ap (λ (x : List Text). id ∷ x) ids,
-      f ∙ ap₂ (λ (x y : Text). x ++ y) (e ∙ ap (λ (x : Text). 91 ∷ (id ++ (x ++ (93 ∷ [])))) inner) text
-          ∙ sym (append_assoc (element_text (record { id = id; params = ps })) (joined_elements es) r),
-    )
-
--- canonical elements, if their text is such elements: then they are these
-pub strict_stay : (es : List ElementValue) → AllByRecursion IsCanonicalElement es → AreElements (elements_text es)
+-- canonical elements, if their text is elements of the grammar: then they are these
+pub strict_stay : (es : List ElementValue) → AllByRecursion IsCanonicalElement es → IsAll sd_elements (elements_text es)
     → elements_text (converted_elements es) ≡ elements_text es
-strict_stay es canonical strict =
-    let (ds, are, ids, text) = elements_in (elements_found (elements_text es)).0 in
-    let long : 0 < length ds = (let some = strict.some in omega (arith, ap length ids, length-map {A = ElementValue} {B = Text})) in
-    let same : elements_text es ≡ elements_text ds = text ∙ ap (λ (r : Text). joined_elements ds ++ r) strict.all ∙ append-nil _
-    ∙ sym (elements_some ds (λ e. (let k = ap length e in omega arith))) in
+strict_stay es canonical (ds, (is, (some, apart))) =
+    let (text, are, _) = (elements_prints (elements_text es) [] ds).0 is in
+    let same : elements_text es ≡ elements_text ds = text ∙ sym (elements_some ds (λ e. (let k = ap length e in omega arith))) in
     let here : es ≡ ds = (forgiving_det _ [] _ [] es ds (ap (λ (t : Text). t ++ []) same)
     (forgiving_back es [] canonical no_item_nil) (forgiving_back ds [] (all_map element_back ds are) no_item_nil)).1 in
-    rw here (ap elements_text (distinct_again ds are (subst AreDistinct (sym ids) strict.distinct)))
+    rw here (ap elements_text (distinct_again ds are apart))
 
 -- ---- timestamps
 
@@ -275,30 +263,37 @@ text_stays variant dating receiver input text again first (inr second) =
 
 -- ---- in the grammar
 
-pri_before : (p more : Text) → 60 ∷ (p ++ (62 ∷ (decimal 1 ++ more))) ≡ (60 ∷ (p ++ (62 ∷ []))) ++ ((49 ∷ []) ++ more)
-pri_before p more = rw one (sym (simp append_assoc refl))
+-- a name of the grammar, before a space
+name_front : (most : ℕ) (t u : Text) → IsSomeOf is_printusascii most t
+    → Front (short_run is_printusascii most) (t ++ (32 ∷ u)) (32 ∷ u) tt
+name_front most t u is = piece_front (short_run is_printusascii most) t (32 ∷ u) tt (is.0, is.1, is.2, refl)
+
+version_front : (u : Text) → Front version (decimal 1 ++ (32 ∷ u)) (32 ∷ u) 1
+version_front u = piece_front version (decimal 1) (32 ∷ u) 1
+    (numeral_back 1 1 999 (32 ∷ u) (omega arith) (omega arith) (omega arith) refl)
+
+sp_front : (u : Text) → Front sp (32 ∷ u) u tt
+sp_front u = piece_front sp (32 ∷ []) u tt refl
+
+pri_front : (n : ℕ) (u : Text) → n ≤ 191 → Front (Row pri) (60 ∷ (decimal n ++ (62 ∷ u))) u (tt, (n, (tt, tt)))
+pri_front n u small = row_of pri (piece_front (exactly (60 ∷ [])) (60 ∷ []) _ tt refl
+    then piece_front prival (decimal n) (62 ∷ u) n (numeral_back n 0 191 (62 ∷ u) (omega arith) small (omega arith) refl)
+    then piece_front (exactly (62 ∷ [])) (62 ∷ []) u tt refl then refl)
 
 pub converted_strict : (m : MessageValue) → IfSome m.procid IsBoundedProcess → IsSyslogMsg (printed (converted m))
 unfolding printed_5424
-converted_strict m b = record {
-  pri = 60 ∷ (decimal (priority_of (converted m)) ++ (62 ∷ []));
-  timestamp = _;
-  hostname = _;
-  app_name = _;
-  procid = _;
-  msgid = _;
-  structured_data = _;
-  spaced_msg = 32 ∷ m.msg;
-  is_pri = (let small = priority_small (converted m) in (priority_of (converted m), omega arith, refl));
-  is_timestamp = stamp_is m.timestamp;
-  is_hostname = names.host_is m.hostname;
-  is_app_name = names.word_is 48 m.appname (omega arith);
-  is_procid = names.process_is m.procid b;
-  is_msgid = names.word_is 32 m.msgid (omega arith);
-  is_structured_data = elements_is m.structured_data;
-  is_spaced_msg = inr (m.msg, refl);
-  whole = pri_before (decimal (priority_of (converted m))) _;
-}
+converted_strict m b =
+    let small = priority_small (converted m) in
+    let (elements, is_data) = elements_is m.structured_data (32 ∷ m.msg) (no_element 32 m.msg (omega arith)) in
+    let front = row_of header (pri_front (priority_of (converted m)) _ (omega arith)
+    then version_front _ then sp_front _ then (stamp_is m.timestamp _).1
+    then sp_front _ then name_front 255 _ _ (names.host_is m.hostname)
+    then sp_front _ then name_front 48 _ _ (names.word_is 48 m.appname (omega arith))
+    then sp_front _ then name_front 128 _ _ (names.process_is m.procid b)
+    then sp_front _ then name_front 32 _ _ (names.word_is 32 m.msgid (omega arith)) then sp_front _ then refl) in
+    let end = row_of body (is_data
+    then optional_some (spaced rest) (spaced_front rest (sp_front m.msg) (rest_front m.msg)) then refl) in
+    record { values = _; division = front_division (header ++ body) (rows_join header body front end) }
 
 -- ---- read back
 

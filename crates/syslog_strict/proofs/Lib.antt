@@ -1,4 +1,3 @@
-pub mod BodyLemmas
 pub mod ConversionLaws
 pub mod ElementLemmas
 pub mod GrammarLemmas

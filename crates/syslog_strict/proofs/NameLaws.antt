@@ -1,18 +1,20 @@
 -- Converted names and elements are in the grammar, and are read back from their printed text.
 use Rattle.syslog_strict.proofs.Words.{◌≡◌, ◌≢◌, inl, inr, ℕ, ℤ, pos, negsuc, suc, ◌<◌, ◌≤◌, true, false, [], ◌∷◌, ◌++◌}
 use Rattle.syslog_strict.proofs.Words.{length, Option, Some, None, IfSome, refl, sym, ap, ◌∙◌, arith, Bool, List, map}
-use Rattle.syslog_strict.proofs.Words.{ap₂, subst, nat_eq, if◌then◌else◌, cases_Bool, nat_tests, is_ascii_digit}
+use Rattle.syslog_strict.proofs.Words.{nat_eq, if◌then◌else◌, cases_Bool, nat_tests, is_ascii_digit}
 use Rattle.syslog_strict.proofs.Words.{bytes_decides, decimal, signed_decimal, option_and_then, option_map}
-use Rattle.syslog_strict.proofs.Words.{AllByRecursion, flat_map, Text, Each, Ends, join, text_eq, IsBoundedProcess}
+use Rattle.syslog_strict.proofs.Words.{AllByRecursion, Text, Each, Ends, text_eq, IsBoundedProcess}
 use Rattle.syslog_strict.proofs.Words.{NamesProcess, named_process, procid_text, process_text, colon, dash, name_text}
 use Rattle.syslog_strict.proofs.Words.{is_blank, ProcId, PID, Name, heads, all_append, all_map, named_names}
-use Rattle.syslog_strict.proofs.Words.{IsCanonicalElement, ElementValue, element_text, elements_text, joined_elements}
-use Rattle.syslog_strict.proofs.Words.{param_text, cleaned, converted_host, converted_process, converted_word}
+use Rattle.syslog_strict.proofs.Words.{IsCanonicalElement, ElementValue, elements_text}
+use Rattle.syslog_strict.proofs.Words.{cleaned, converted_host, converted_process, converted_word}
 use Rattle.syslog_strict.proofs.Words.{kept_char, named, no_colon, without_last_colon, without_lone_colon}
 use Rattle.syslog_strict.proofs.Words.{converted_element, converted_elements, converted_name, converted_param}
 use Rattle.syslog_strict.proofs.Words.{escaped_from, is_among, joined_past, or_mark, params_of, is_printusascii}
-use Rattle.syslog_strict.proofs.Words.{AreDistinct, IsParamValue, IsSdElement, IsSdName, IsSdParam, IsStructuredData}
-use Rattle.syslog_strict.proofs.Words.{IsValuePiece, is_escaped, is_sd_char}
+use Rattle.syslog_strict.proofs.Words.{AreDistinct, is_escaped, is_sd_char, Front}
+use Rattle.syslog_strict.proofs.GrammarLemmas.{IsParamValue, IsSdName, IsSomeOf, IsStrictElement, IsStrictParam, data_front}
+use Rattle.syslog_strict.specs.Grammar.{IsValueUnit as IsStrictUnit, sd_element, structured_data}
+use Rattle.syslog_pieces.specs.Pieces.Class.{NoFront}
 use Rattle.std.proofs.Common.{◌^◌, FitsSigned, w32}
 use Rattle.std.specs.Char.{is_not_whitespace}
 use Rattle.syslog_pieces.specs.{ProcId.IsCanonicalProcess, Text.Canonical.IsCanonicalHost}
@@ -21,7 +23,7 @@ use Rattle.syslog_pieces.specs.StructuredData.Canonical.{IsCanonicalParam, Begin
 use Rattle.syslog_pieces.specs.Text.CharClass.{is_id_char, is_name_char}
 use Rattle.syslog_pieces.proofs.{PieceLemmas.Class.each_map, TextLemmas.Words.ten_long, TextLemmas.Words.decimal_digits}
 use Rattle.syslog_pieces.specs.StructuredData.Escapes.{TextUnit, pair, single, unit_text}
-use Rattle.syslog_strict.specs.{Grammar.IsSomeOf, Joined.firsts}
+use Rattle.syslog_strict.specs.{Joined.firsts}
 use Rattle.syslog_strict.proofs.ElementLemmas.{firsts_new, not_last}
 use Rattle.syslog_strict.proofs.TextLemmas.{cleaned_passes, cleaned_short, kept_as, lost_as, cleaned_some, text_eq_true}
 
@@ -235,51 +237,34 @@ pick : {A : Type 0} (b : Bool) (x y : A) (P : A → Type 0) → (b ≡ true → 
 pick true x y P f g = f refl
 pick false x y P f g = g refl
 
-value_on : (piece t : Text) → IsValuePiece piece → IsParamValue t → IsParamValue (piece ++ t)
-value_on piece t is (pieces, each, e) = (piece ∷ pieces, (is, each), ap (λ (x : Text). piece ++ x) e)
-
-backslash : IsValuePiece (92 ∷ 92 ∷ [])
-backslash = inl (92, refl, refl)
+value_on : (u : TextUnit) (t : Text) → IsStrictUnit u → IsParamValue t → IsParamValue (unit_text u ++ t)
+value_on u t is (units, e, each) = (u ∷ units, ap (λ (x : Text). unit_text u ++ x) e, (is, each))
 
 after_backslash : (c : ℕ) (t : Text) → IsParamValue t
     → IsParamValue (if is_escaped c then 92 ∷ c ∷ t else 92 ∷ 92 ∷ c ∷ t)
-after_backslash c t is = pick (is_escaped c) _ _ IsParamValue (λ e. value_on (92 ∷ c ∷ []) t (inl (c, e, refl)) is)
-    (λ e. value_on (92 ∷ 92 ∷ []) (c ∷ t) backslash (value_on (c ∷ []) t (inr (c, e, refl)) is))
+after_backslash c t is = pick (is_escaped c) _ _ IsParamValue (λ e. value_on (pair c) t e is)
+    (λ e. value_on (pair 92) (c ∷ t) refl (value_on (single c) t e is))
 
 pub escaped_is : (after : Bool) (t : Text) → IsParamValue (escaped_from after t)
-escaped_is false [] = ([], tt, refl)
-escaped_is true [] = ((92 ∷ 92 ∷ []) ∷ [], (backslash, tt), refl)
+escaped_is false [] = ([], refl, tt)
+escaped_is true [] = (pair 92 ∷ [], refl, (refl, tt))
 escaped_is false (c ∷ t) = pick (nat_eq c 92) _ _ IsParamValue (λ e. escaped_is true t)
-    (λ e. pick (is_escaped c) _ _ IsParamValue
-    (λ f. value_on (92 ∷ c ∷ []) _ (inl (c, f, refl)) (escaped_is false t))
-    (λ f. value_on (c ∷ []) _ (inr (c, f, refl)) (escaped_is false t)))
+    (λ e. pick (is_escaped c) _ _ IsParamValue (λ f. value_on (pair c) _ f (escaped_is false t))
+    (λ f. value_on (single c) _ f (escaped_is false t)))
 escaped_is true (c ∷ t) = after_backslash c (escaped_from false t) (escaped_is false t)
 
--- the units of such a value
-plain_unit : (c : ℕ) → is_escaped c ≡ false → (c ≢ 92) × (c ≢ 34)
-plain_unit c h = (grind (arith, nat_tests), grind (arith, nat_tests))
-
-value_units : (pieces : List Text) → AllByRecursion IsValuePiece pieces
-    → (units : List TextUnit) × (join pieces ≡ flat_map unit_text units) × AllByRecursion IsValueUnit units
-value_units [] each = ([], refl, tt)
-value_units (piece ∷ pieces) (inl (c, escapes, e), each) =
-    let (units, same, are) = value_units pieces each in
-    (pair c ∷ units, ap₂ (λ (x y : Text). x ++ y) e same, (tt, are))
-value_units (piece ∷ pieces) (inr (c, plain, e), each) =
-    let (units, same, are) = value_units pieces each in
-    (single c ∷ units, ap₂ (λ (x y : Text). x ++ y) e same, (plain_unit c plain, are))
+-- a unit of the grammar is one of a value that is read
+strict_unit : (u : TextUnit) → IsStrictUnit u → IsValueUnit u
+strict_unit (pair c) h = tt
+strict_unit (single c) h = (plain c h)
+  where
+    plain : (c : ℕ) → is_escaped c ≡ false → (c ≢ 92) × (c ≢ 34)
+    plain c h = (grind (arith, nat_tests), grind (arith, nat_tests))
 
 value_back : (t : Text) → IsParamValue t → IsValue t
-value_back t (pieces, each, e) = let (units, same, are) = value_units pieces each in (units, e ∙ same, are)
+value_back t (units, e, each) = (units, e, all_map strict_unit units each)
 
 -- ---- elements
-
--- a name and a value of the grammar
-abbrev pub IsStrictParam : Text × Text → Type 0
-IsStrictParam p = IsSdName p.0 × IsParamValue p.1
-
-abbrev pub IsStrictElement : ElementValue → Type 0
-IsStrictElement e = IsSdName e.id × AllByRecursion IsStrictParam e.params
 
 params_are : (ps : List (Text × Text)) → AllByRecursion IsStrictParam (map converted_param ps)
 params_are [] = tt
@@ -331,64 +316,10 @@ converted_are es = joined_are [] (map converted_element es) (elements_are es)
 pub converted_distinct : (es : List ElementValue) → AreDistinct (map (λ (e : ElementValue). e.id) (converted_elements es))
 converted_distinct es = rw (ids_joined [] (map converted_element es)) (distinct [] (map converted_element es))
 
--- ---- the text of elements
-
-joined_texts : {A : Type 0} (f : A → Text) (xs : List A) → flat_map f xs ≡ join (map f xs)
-joined_texts f [] = refl
-joined_texts f (x ∷ xs) = ap (λ (t : Text). f x ++ t) (joined_texts f xs)
-
-param_texts : (ps : List (Text × Text)) → AllByRecursion IsStrictParam ps → AllByRecursion IsSdParam (map param_text ps)
-param_texts [] each = tt
-param_texts (p ∷ ps) each = ((p.0, p.1, each.0.0, each.0.1, refl), param_texts ps each.1)
-
-element_is : (e : ElementValue) → IsStrictElement e → IsSdElement e.id (element_text e)
-element_is e is = (
-  map param_text e.params,
-  is.0,
-  param_texts e.params is.1,
-  ap (λ (t : Text). 91 ∷ (e.id ++ (t ++ (93 ∷ [])))) (joined_texts param_text e.params),
-)
-
--- an element's id and its text
-abbrev id_text : ElementValue → Text × Text
-id_text e = (e.id, element_text e)
-
-texts_are : (es : List ElementValue) → AllByRecursion IsStrictElement es
-    → AllByRecursion (λ (p : Text × Text). IsSdElement p.0 p.1) (map id_text es)
-texts_are [] each = tt
-texts_are (e ∷ es) each = (element_is e each.0, texts_are es each.1)
-
-ids_same : (es : List ElementValue) → map (λ (e : ElementValue). e.id) es ≡ map (λ (p : Text × Text). p.0) (map id_text es)
-ids_same [] = refl
-ids_same (e ∷ es) = ap (λ (ts : List Text). e.id ∷ ts) (ids_same es)
-
-texts_same : (es : List ElementValue) → joined_elements es ≡ join (map (λ (p : Text × Text). p.1) (map id_text es))
-texts_same [] = refl
-texts_same (e ∷ es) = ap (λ (t : Text). element_text e ++ t) (texts_same es)
-
-data_is : (es : List ElementValue) → AllByRecursion IsStrictElement es → AreDistinct (map (λ (e : ElementValue). e.id) es)
-    → IsStructuredData (elements_text es)
-data_is [] each apart_ids = inl refl
-data_is (e ∷ es) each apart_ids = inr (
-  map id_text (e ∷ es),
-  omega arith,
-  texts_are (e ∷ es) each,
-  subst AreDistinct (ids_same (e ∷ es)) apart_ids,
-  texts_same (e ∷ es),
-)
-
-pub elements_is : (es : List ElementValue) → IsStructuredData (elements_text (converted_elements es))
-elements_is es = data_is (converted_elements es) (converted_are es) (converted_distinct es)
-
--- ---- elements of the grammar, by their texts
-
--- parameters that have these texts
-pub params_in : (ts : List Text) → AllByRecursion IsSdParam ts
-    → (ps : List (Text × Text)) × AllByRecursion IsStrictParam ps × (join ts ≡ flat_map param_text ps)
-params_in [] each = ([], tt, refl)
-params_in (t ∷ ts) ((name, value, is, valued, e), each) =
-    let (ps, are, same) = params_in ts each in
-    ((name, value) ∷ ps, ((is, valued), are), ap₂ (λ (x y : Text). x ++ y) e same)
+-- their text, before what begins no element
+pub elements_is : (es : List ElementValue) (q : Text) → NoFront sd_element q
+    → (v : structured_data.Value) × Front structured_data (elements_text (converted_elements es) ++ q) q v
+elements_is es q n = data_front (converted_elements es) q (converted_are es) (converted_distinct es) n
 
 -- ---- read back
 

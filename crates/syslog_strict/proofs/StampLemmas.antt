@@ -6,7 +6,16 @@ use Rattle.syslog_strict.proofs.Words.{nat_tests, chars-append, chars-IsAscii, I
 use Rattle.syslog_strict.proofs.Words.{chars, IsAscii, IsUtf8, is_ascii_digit, option_and_then, signed_arith}
 use Rattle.syslog_strict.proofs.Words.{int_rem_euclid-parts, Text, Each, timestamp_text, IsCivilDate, OffsetTimestamp}
 use Rattle.syslog_strict.proofs.Words.{nanos_of_seconds, pad2, pad4, front_text, converted_stamp, cut_stamp, has_text}
-use Rattle.syslog_strict.proofs.Words.{in_utc, micros, is_four_digits, IsSecfrac, IsTimeOffset, IsTimestamp}
+use Rattle.syslog_strict.proofs.Words.{in_utc, micros, is_four_digits, Ends}
+use Rattle.syslog_strict.specs.Grammar.{IsDate, date_row, date_time, partial_time, sign, time_hour, time_minute}
+use Rattle.syslog_strict.specs.Grammar.{time_numoffset, time_offset, time_secfrac, timestamp}
+use Rattle.syslog_pieces.specs.{Bodies.Looks.is_dot, Timestamp.Rfc3339.pair, Timestamp.Rfc3339.year as year_class}
+use Rattle.syslog_pieces.specs.Pieces.{Class.Class, Class.Front, Class.Row, Class.after, Class.exactly, Class.optional}
+use Rattle.syslog_pieces.specs.Pieces.Rules.{short_run}
+use Rattle.syslog_pieces.proofs.PieceLemmas.Class.{◌then◌, front_of, no_spaced_space, optional_none, piece_front, row_of}
+use Rattle.syslog_pieces.proofs.PieceLemmas.Rules.{second_front, such_front}
+use Rattle.std.proofs.Common.{length}
+use Rattle.jiff_core.proofs.CalendarLemmas.{days_in_month_bounds}
 use Rattle.std.proofs.Common.{◌-ℤ◌, ◌*ℤ◌}
 use Rattle.std.proofs.lemmas.{Bool.Decides.eqb_tells, Str.IsAscii-append, Bool.and_parts}
 use Rattle.std.specs.Fmt.{digits}
@@ -145,67 +154,85 @@ text_canonical s h =
 three_digits : (n : ℕ) → n < 1_000 → Each is_ascii_digit (pad3 n)
 three_digits n h = (grind (arith, nat_tests), (grind (arith, nat_tests), (grind (arith, nat_tests), tt)))
 
-secfrac : (n : ℕ) → n < 1_000_000_000 → n % 1_000 ≡ 0 → IsSecfrac (fraction_text n)
+-- a fraction, before what is neither a digit nor a dot
+secfrac : (n : ℕ) (q : Text) → n < 1_000_000_000 → n % 1_000 ≡ 0 → Ends is_ascii_digit q → Ends is_dot q
+    → (v : Option (Unit {0})) × Front (optional time_secfrac) (fraction_text n ++ q) q v
 unfolding fraction_text
-secfrac n small whole = elim (eqb_tells n 0) [
-  | inl none ↦ rw none.0 (inl refl)
+secfrac n q small whole ends other = elim (eqb_tells n 0) [
+  | inl none ↦ rw none.0 (
+    None,
+    optional_none time_secfrac (no_spaced_space (short_run is_ascii_digit 6) (λ p r v e h.
+        no_dot r q (rw h at e) other)),
+  )
   | inr some ↦ elim (eqb_tells (n % 1_000_000) 0) [
-    | inl three ↦ rw (some.0, three.0) (inr (_, refl, (omega arith, omega arith, three_digits (n / 1_000_000) (omega arith))))
-    | inr more ↦ rw (some.0, more.0, whole) (inr (
-      _,
-      refl,
-      (
-        omega arith,
-        omega arith,
-        each_append is_ascii_digit (pad3 (n / 1_000_000)) (pad3 (n / 1_000 % 1_000))
-            (three_digits (n / 1_000_000) (omega arith)) (three_digits (n / 1_000 % 1_000) (omega arith)),
-      ),
-    ))
+    | inl three ↦ rw (some.0, three.0) (decimals (pad3 (n / 1_000_000)) (omega arith) (omega arith)
+        (three_digits (n / 1_000_000) (omega arith)))
+    | inr more ↦ rw (some.0, more.0, whole) (decimals (pad3 (n / 1_000_000) ++ pad3 (n / 1_000 % 1_000)) (omega arith)
+        (omega arith) (each_append is_ascii_digit (pad3 (n / 1_000_000)) (pad3 (n / 1_000 % 1_000))
+        (three_digits (n / 1_000_000) (omega arith)) (three_digits (n / 1_000 % 1_000) (omega arith))))
   ]
 ]
+  where
+    no_dot : (t q : Text) → q ≡ 46 ∷ t → Ends is_dot q → ⊥
+    no_dot t q e h = let k = rw e at h in cc
 
-time_offset : (o : ℤ) → unsigned_abs o % 60 ≡ 0 → unsigned_abs o < 86_400 → IsTimeOffset (offset_text o)
+    decimals : (ds : Text) → 0 < length ds → length ds ≤ 6 → Each is_ascii_digit ds
+        → (v : Option (Unit {0})) × Front (optional time_secfrac) (46 ∷ (ds ++ q)) q v
+    decimals ds some few each = (Some tt, front_of (46 ∷ ds) refl (ds, refl, (some, few, each, ends)))
+
+-- a text is such a piece, before a space
+abbrev IsPiece : Class → Text → Type 0
+IsPiece C t = (q : Text) → (v : C.Value) × Front C (t ++ (32 ∷ q)) (32 ∷ q) v
+
+minute_front : (n : ℕ) (q : Text) → n < 60 → Front (after 58 time_minute) (58 ∷ pad2 n ++ q) q n
+minute_front n q small = piece_front (after 58 time_minute) (58 ∷ pad2 n) q n (pad2 n, refl, (refl, small))
+
+signed : (s : sign.Value) (c m : ℕ) → ((q : Text) → Front sign (c ∷ q) q s) → m < 1_440
+    → IsPiece time_offset (c ∷ pad2 (m / 60) ++ 58 ∷ pad2 (m % 60))
+signed s c m is small q =
+    let f = row_of time_numoffset (is _ then piece_front time_hour (pad2 (m / 60)) _ (m / 60) (refl, omega arith)
+    then minute_front (m % 60) (32 ∷ q) (omega arith) then refl) in
+    (_, second_front f)
+
+time_zone : (o : ℤ) → unsigned_abs o % 60 ≡ 0 → unsigned_abs o < 86_400 → IsPiece time_offset (offset_text o)
 unfolding offset_text
-time_offset (pos n) whole small =
-    inr (43, (n + 30) / 60 / 60, (n + 30) / 60 % 60, inl refl, omega arith, omega arith, refl)
-time_offset (negsuc n) whole small =
-    inr (45, (suc n + 30) / 60 / 60, (suc n + 30) / 60 % 60, inr refl, omega arith, omega arith, refl)
+time_zone (pos n) whole small =
+    signed (inl tt) 43 ((n + 30) / 60) (λ q. piece_front sign (43 ∷ []) q (inl tt) refl) (omega arith)
+time_zone (negsuc n) whole small =
+    signed (inr tt) 45 ((suc n + 30) / 60) (λ q. piece_front sign (45 ∷ []) q (inr tt) refl) (omega arith)
 
-shape : (y m d h mi s fraction zone : Text) → y ++ (45 ∷ m ++ (45 ∷ d ++ (84 ∷ h ++ (58 ∷ mi ++ (58 ∷ s ++ (fraction ++ zone))))))
-    ≡ (y ++ (45 ∷ m ++ (45 ∷ d))) ++ (84 ∷ ((h ++ (58 ∷ mi ++ (58 ∷ s ++ fraction))) ++ zone))
-shape y m d h mi s fraction zone = sym (simp append_assoc refl)
+zone_ends : (o : ℤ) (q : Text) → Ends is_ascii_digit (offset_text o ++ q) × Ends is_dot (offset_text o ++ q)
+unfolding offset_text
+zone_ends (pos n) q = (refl, refl)
+zone_ends (negsuc n) q = (refl, refl)
 
 -- date and time in a year from 0 on, and more
-text-shape : (f : CivilFields) (y : ℕ) (more : List ℕ) → f.year ≡ pos y
-    → date_time_text f ++ more ≡ pad4 y ++ (45 ∷ pad2 f.month ++ (45 ∷ pad2 f.day ++ (84 ∷ pad2 f.hour
-    ++ (58 ∷ pad2 f.minute ++ (58 ∷ pad2 f.second ++ more)))))
+text-shape : (f : CivilFields) (y : ℕ) (fraction zone q : Text) → f.year ≡ pos y
+    → (date_time_text f ++ (fraction ++ zone)) ++ q ≡ pad4 y ++ (45 ∷ pad2 f.month ++ (45 ∷ pad2 f.day ++ (84 ∷ pad2 f.hour
+    ++ (58 ∷ pad2 f.minute ++ (58 ∷ pad2 f.second ++ (fraction ++ (zone ++ q)))))))
 unfolding date_time_text
-text-shape f y more e = rw e (simp append_assoc)
+text-shape f y fraction zone q e = rw e (simp append_assoc)
 
 -- fields as they print
-fields_is : (f : CivilFields) (zone : Text) (y : ℕ) → f.year ≡ pos y → AreCivil f → f.nanosecond % 1_000 ≡ 0
-    → IsTimeOffset zone → IsTimestamp (date_time_text f ++ (fraction_text f.nanosecond ++ zone))
-fields_is f zone y year civil whole is_zone =
-    let fraction = fraction_text f.nanosecond in
-    inr (
-      pad4 y ++ (45 ∷ pad2 f.month ++ (45 ∷ pad2 f.day)),
-      pad2 f.hour ++ (58 ∷ pad2 f.minute ++ (58 ∷ pad2 f.second ++ fraction)),
-      zone,
-      (y, f.month, f.day, subst (λ (x : ℤ). IsCivilDate x f.month f.day) year civil.date, refl),
-      (
-        f.hour,
-        f.minute,
-        f.second,
-        fraction,
-        civil.hour_in,
-        civil.minute_in,
-        civil.second_in,
-        secfrac f.nanosecond civil.nanosecond_in whole,
-        refl,
-      ),
-      is_zone,
-      text-shape f y (fraction ++ zone) year ∙ shape (pad4 y) (pad2 f.month) (pad2 f.day) (pad2 f.hour) (pad2 f.minute) (pad2 f.second) fraction zone,
-    )
+fields_is : (f : CivilFields) (o : ℤ) (y : ℕ) → f.year ≡ pos y → AreCivil f → f.nanosecond % 1_000 ≡ 0
+    → unsigned_abs o % 60 ≡ 0 → unsigned_abs o < 86_400
+    → IsPiece timestamp (date_time_text f ++ (fraction_text f.nanosecond ++ offset_text o))
+fields_is f o y year civil whole minutes day q =
+    let date = subst (λ (x : ℤ). IsCivilDate x f.month f.day) year civil.date in
+    let days = days_in_month_bounds (pos y) f.month in
+    let ends = zone_ends o (32 ∷ q) in
+    let dated = such_front (Row date_row) IsDate (row_of date_row (
+    piece_front year_class (pad4 y) _ y (refl, omega (arith, signed_arith, date.0))
+    then piece_front (after 45 (pair 100)) (45 ∷ pad2 f.month) _ f.month (pad2 f.month, refl, (refl, omega (arith, date.1)))
+    then piece_front (after 45 (pair 100)) (45 ∷ pad2 f.day) _ f.day (pad2 f.day, refl, (refl, omega (arith, date.2, days)))
+    then refl)) date in
+    let timed = row_of partial_time (piece_front time_hour (pad2 f.hour) _ f.hour (refl, civil.hour_in)
+    then minute_front f.minute _ civil.minute_in then minute_front f.second _ civil.second_in
+    then (secfrac f.nanosecond (offset_text o ++ (32 ∷ q)) civil.nanosecond_in whole ends.0 ends.1).1 then refl) in
+    let letter = piece_front (exactly (84 ∷ [])) (84 ∷ []) _ tt refl in
+    subst (λ (x : Text). (v : timestamp.Value) × Front timestamp x (32 ∷ q) v)
+    (sym (text-shape f y (fraction_text f.nanosecond) (offset_text o) (32 ∷ q) year))
+    (_, second_front (row_of date_time (dated then letter then timed then (time_zone o minutes day q).1 then refl)))
 
 -- ---- whole microseconds
 
@@ -218,7 +245,7 @@ whole_fields n o =
     omega (arith, signed_arith, cut, shown)
 
 pub cut_text : (s : OffsetTimestamp) (n : ℤ) → s.instant.nanosecond ≡ micros n → has_text s ≡ true
-    → IsTimestamp (printed_stamp s.instant.nanosecond s.offset.seconds)
+    → IsPiece timestamp (printed_stamp s.instant.nanosecond s.offset.seconds)
 unfolding printed_stamp
 cut_text s n is h =
     let canonical = text_canonical s h in
@@ -227,8 +254,8 @@ cut_text s n is h =
     let (both, day) = and_parts _ _ h in
     let (year, minutes) = and_parts _ _ both in
     let (y, shows, small) = four_digits (own_year s) year in
-    fields_is _ (offset_text o) y shows fields.0 (subst (λ (x : ℤ). (civil_fields (x +ℤ nanos_of_seconds o)).nanosecond % 1_000 ≡ 0) (sym is) (whole_fields n o))
-    (time_offset o canonical.minutes canonical.day)
+    fields_is _ o y shows fields.0 (subst (λ (x : ℤ). (civil_fields (x +ℤ nanos_of_seconds o)).nanosecond % 1_000 ≡ 0) (sym is) (whole_fields n o))
+    canonical.minutes canonical.day
 
 -- ---- converted timestamps
 
@@ -240,10 +267,10 @@ by_choice P s own utc none = elim (cases_Bool (has_text (cut_stamp s))) [
   | inr h ↦ elim (cases_Bool (has_text (in_utc (cut_stamp s)))) [ inl k ↦ rw (h, k) (utc k) | inr k ↦ rw (h, k) none ]
 ]
 
-pub stamp_is : (v : Option OffsetTimestamp) → IsTimestamp (timestamp_text (option_and_then converted_stamp v))
-stamp_is None = inl refl
-stamp_is (Some s) = by_choice (λ v. IsTimestamp (timestamp_text v)) s (cut_text (cut_stamp s) s.instant.nanosecond refl)
-    (cut_text (in_utc (cut_stamp s)) s.instant.nanosecond refl) (inl refl)
+pub stamp_is : (v : Option OffsetTimestamp) → IsPiece timestamp (timestamp_text (option_and_then converted_stamp v))
+stamp_is None = λ q. (inl tt, piece_front timestamp (45 ∷ []) (32 ∷ q) (inl tt) refl)
+stamp_is (Some s) = by_choice (λ v. IsPiece timestamp (timestamp_text v)) s (cut_text (cut_stamp s) s.instant.nanosecond refl)
+    (cut_text (in_utc (cut_stamp s)) s.instant.nanosecond refl) (λ q. (inl tt, piece_front timestamp (45 ∷ []) (32 ∷ q) (inl tt) refl))
 
 pub stamp_back : (v : Option OffsetTimestamp) → IfSome (option_and_then converted_stamp v) IsCanonicalStamp
 stamp_back None = tt

@@ -1,79 +1,127 @@
--- What the code of the readers does, and the ids that were seen.
-use Rattle.syslog_strict.proofs.Words.{◌≡◌, inl, inr, ℕ, ◌<◌, ◌≤◌, Bool, true, false, List, [], ◌∷◌, ◌++◌, length, map}
-use Rattle.syslog_strict.proofs.Words.{Option, Some, None, refl, sym, ap, ap₂, ◌∙◌, arith, cond, Bor, chars, IsUtf8}
-use Rattle.syslog_strict.proofs.Words.{list_any-append, ◌||◌, nat_tests, SplitsRun, Text, Each, Front, shown, text_eq}
-use Rattle.syslog_strict.proofs.Words.{is_inert_char, number, is_among, HasSeen, IsSdElement, nat_eq}
-use Rattle.std.proofs.Common.{◌&&◌, is_eq, nat_lt, nat_le, if◌then◌else◌}
-use Rattle.std.proofs.lemmas.Map.Text.{is_eq-slice_cmp}
-use Rattle.std.specs.{BTreeSet.contains, Cmp.Lexicographic.slice_cmp, Option.option_map, Ordering.nat_cmp, Prelude.not}
-use Rattle.std.specs.Prelude.{IfSome, MatchBool}
-use Rattle.syslog_pieces.specs.Pieces.{Class.exactly, Class.NoFront, View.Skips, View.seen}
+-- Values, ids of elements, and the ids that were seen.
+use Rattle.syslog_strict.proofs.Words.{◌≡◌, ◌≢◌, inl, inr, ℕ, ◌<◌, ◌≤◌, Bool, true, false, List, [], ◌∷◌, ◌++◌, length, map}
+use Rattle.syslog_strict.proofs.Words.{refl, sym, ap, ap₂, subst, ◌∙◌, arith, cond, Bor, IsUtf8, AllByRecursion, AreDistinct}
+use Rattle.syslog_strict.proofs.Words.{list_any-append, ◌||◌, nat_tests, Text, Each, Ends, shown, text_eq, ElementValue}
+use Rattle.syslog_strict.proofs.Words.{chars, SplitsRun, is_inert_char, is_among, HasSeen, is_escaped, cases_Bool}
+use Rattle.std.proofs.Common.{is_eq}
+use Rattle.std.proofs.lemmas.{Bool.or_from, Bool.or_parts, Map.Text.is_eq-slice_cmp}
+use Rattle.std.specs.{BTreeSet.contains, Cmp.Lexicographic.slice_cmp, Ordering.nat_cmp, Prelude.not, Prelude.MatchBool}
+use Rattle.std.specs.Prelude.{◌↔◌}
+use Rattle.syslog_pieces.specs.Pieces.Class.{Front, NoFront}
+use Rattle.syslog_pieces.specs.Pieces.Lists.{many}
+use Rattle.syslog_pieces.specs.StructuredData.Escapes.{TextUnit, pair, single}
 use Rattle.syslog_pieces.proofs.Names.{not-false, not-true}
-use Rattle.syslog_pieces.proofs.TextLemmas.Runs.{ascii_chars, low_ascii}
-use Rattle.syslog_strict.specs.Bodies.Reader.{alone, past, past_number, past_params, past_value, elements_of}
-use Rattle.syslog_strict.specs.Bodies.Reader.{read_element, read_param, read_short}
-use Rattle.syslog_strict.proofs.BodyLemmas.{IsParam, cases_Option, element_long, element_reads, item_end, item_on}
-use Rattle.syslog_strict.proofs.BodyLemmas.{param_long, param_reads}
-use Rattle.syslog_strict.proofs.GrammarLemmas.{Reads, number_reads, past_reads, run_is}
-use Rattle.syslog_strict.{specs.declared.ids.Ids.Ids, proofs.ElementLemmas.bytes_text}
+use Rattle.syslog_pieces.proofs.PieceLemmas.Class.{front_of, piece_front}
+use Rattle.syslog_pieces.proofs.PieceLemmas.Rules.{Runs, many_left, no_run, one_run, runs_left}
+use Rattle.syslog_strict.specs.Grammar.{escape, sd_element, sd_elements, value_unit}
+use Rattle.syslog_strict.proofs.GrammarLemmas.{element_det}
+use Rattle.syslog_strict.proofs.{ElementLemmas.bytes_text, NameLaws.no_text, NameLaws.no_text_eq, TextLemmas.text_eq_true}
+use Rattle.syslog_strict.specs.declared.ids.Ids.{Ids}
 
--- ---- characters, runs and numbers
-none_of : {Y : Type 0} {P : Y → Type 0} {r : Option Y} → Reads r P → ((y : Y) → P y → ⊥) → r ≡ None
-none_of {r = None} h f = refl
-none_of {r = Some y} h f = absurd (f y (h.finds y refl))
+-- ---- values
 
-pub char_past : (text : Text) (c : ℕ) (r : Option (Bor (List ℕ))) → Skips (exactly (c ∷ [])) tt text r → seen r ≡ past c text
-char_past text c None h = sym (none_of (past_reads c text) (λ rest e. h (c ∷ []) rest tt e refl))
-char_past text c (Some rest) h = sym ((past_reads c text).only (shown rest) (h.whole ∙ ap (λ (x : Text). x ++ shown rest) h.is))
+plain_runs : (w t : Text) → Each is_inert_char w → (units : List TextUnit) × Runs value_unit (w ++ t) units t
+plain_runs [] t each = ([], no_run)
+plain_runs (c ∷ w) t each =
+    let (units, r) = plain_runs w t each.1 in
+    (single c ∷ units, one_run (piece_front value_unit (c ∷ []) (w ++ t) (single c) (refl, plain c each.0)) r)
+  where
+    plain : (c : ℕ) → is_inert_char c ≡ true → is_escaped c ≡ false
+    plain c h = grind (arith, nat_tests)
 
--- a run that was split off is the one that is read
-pub short_read : (test : ℕ → Bool) (most : ℕ) (bs xs ys : List ℕ) → SplitsRun test bs xs ys → ((c : ℕ) → test c ≡ true → c < 128)
-    → read_short test most (chars bs) ≡ (if nat_lt 0 (length xs) && nat_le (length xs) most then Some (chars xs, chars ys) else None)
-unfolding read_short
-short_read test most bs xs ys s low =
-    let long : length (chars xs) ≡ length xs = ap length (ascii_chars xs s.front_utf8 (low_ascii test (chars xs) low s.each)) in
-    rw (s.characters, run_is test (chars xs) (chars ys) s.each s.ends, long) refl
+pub split_runs : {bs xs ys : List ℕ} → SplitsRun is_inert_char bs xs ys
+    → (units : List TextUnit) × Runs value_unit (chars bs) units (chars ys)
+split_runs {xs = xs} {ys = ys} s = let (units, r) = plain_runs (chars xs) (chars ys) s.each in
+    (units, subst (λ (x : Text). Runs value_unit x units (chars ys)) (sym s.characters) r)
 
-pub no_number : (text : Text) → NoFront (number 191) text → past_number text ≡ None
-no_number text h = none_of (number_reads text) (λ rest (n, f). h f.piece rest n f.whole f.is)
+pub no_unit_after : (t : Text) → Ends is_inert_char t → NoFront escape t → NoFront value_unit t
+no_unit_after t ends n p q (pair d) e h = n p q d e h
+no_unit_after t ends n p q (single d) e (f, is) = other d is (subst (Ends is_inert_char) (e ∙ ap (λ (x : Text). x ++ q) f) ends)
+  where
+    other : (c : ℕ) → is_escaped c ≡ false → is_inert_char c ≡ false → ⊥
+    other c h k = grind (arith, nat_tests)
 
-pub a_number : (text rest : Text) (n : ℕ) → Front (number 191) text rest n → past_number text ≡ Some rest
-a_number text rest n h = (number_reads text).only rest (n, h)
+-- ---- ids
 
--- ---- values and items
-inert_not : (c : ℕ) → is_inert_char c ≡ true → (nat_eq c 34 ≡ false) × (nat_eq c 92 ≡ false) × (nat_eq c 93 ≡ false)
-inert_not c h = (grind (arith, nat_tests), grind (arith, nat_tests), grind (arith, nat_tests))
+abbrev pub ids_of : List ElementValue → List Text
+ids_of es = map (λ (e : ElementValue). e.id) es
 
-inert_past : (w t : Text) → Each is_inert_char w → past_value false (w ++ t) ≡ past_value false t
-inert_past [] t each = refl
-inert_past (c ∷ w) t each = let (a, b, d) = inert_not c each.0 in rw (a, b, d) (inert_past w t each.1)
+pub none_tells : (id : Text) (ids : List Text) → is_among id ids ≡ false ↔ AllByRecursion (λ u. u ≢ id) ids
+none_tells id [] = (λ h. tt, λ h. refl)
+none_tells id (t ∷ ts) = let (to, from) = none_tells id ts in (
+  (λ h. let (other, more) = or_parts (text_eq t id) (is_among id ts) h in (no_text_eq t id other, to more)),
+  (λ (other, more). or_from (text_eq t id) (is_among id ts) (no_text t id other) (from more)),
+)
 
-pub value_run : (bs xs ys : List ℕ) → SplitsRun is_inert_char bs xs ys → past_value false (chars bs) ≡ past_value false (chars ys)
-value_run bs xs ys s = ap (λ (t : Text). past_value false t) s.characters ∙ inert_past (chars xs) (chars ys) s.each
+-- the later ids are distinct, and the first one of them comes once
+pub later : (es us : List ElementValue) → AreDistinct (ids_of (es ++ us)) → AreDistinct (ids_of us)
+later [] us apart = apart
+later (e ∷ es) us apart = later es us apart.1
 
--- items from the left: the first, and those after it
-pub params_step : (text : Text) → past_params text ≡ (elim (read_param text) [ None ↦ past 93 text | Some x ↦ past_params x.1 ])
-unfolding past_params
-params_step text = elim (cases_Option (read_param text)) [
-  | inl e ↦ rw (e, item_end IsParam read_param param_reads param_long text e) refl
-  | inr (x, e) ↦ rw (e, (item_on IsParam read_param param_reads param_long text x e).1) refl
+-- an id that came before comes twice
+pub repeated : (es us : List ElementValue) (e : ElementValue) → is_among e.id (ids_of es) ≡ true
+    → AreDistinct (ids_of (es ++ e ∷ us)) → ⊥
+repeated [] us e h apart = let no : false ≡ true = h in absurd cc
+repeated (d ∷ es) us e h apart = elim (cases_Bool (text_eq d.id e.id)) [
+  | inl same ↦ there es apart.0 (sym (text_eq_true d.id e.id same))
+  | inr other ↦ repeated es us e (rw other at h) apart.1
 ]
+  where
+    there : (xs : List ElementValue) → AllByRecursion (λ u. u ≢ d.id) (ids_of (xs ++ e ∷ us)) → e.id ≢ d.id
+    there [] each = each.0
+    there (x ∷ xs) each = there xs each.1
 
-pub elements_step : (text : Text) → elements_of text
-    ≡ (elim (read_element text) [ None ↦ ([], text) | Some x ↦ (x.0 ∷ (elements_of x.1).0, (elements_of x.1).1) ])
-unfolding elements_of
-elements_step text = elim (cases_Option (read_element text)) [
-  | inl e ↦ rw (e, item_end IsSdElement read_element element_reads element_long text e) refl
-  | inr (x, e) ↦ rw (e, (item_on IsSdElement read_element element_reads element_long text x e).1) refl
-]
+-- a new one doesn't
+pub distinct_more : (es : List ElementValue) (e : ElementValue) → AreDistinct (ids_of es) → is_among e.id (ids_of es) ≡ false
+    → AreDistinct (ids_of (es ++ e ∷ []))
+distinct_more [] e apart h = (tt, tt)
+distinct_more (d ∷ es) e apart h =
+    let (other, more) = or_parts (text_eq d.id e.id) (is_among e.id (ids_of es)) h in
+    (last es apart.0 (λ same. no_text_eq d.id e.id other (sym same)), distinct_more es e apart.1 more)
+  where
+    last : (xs : List ElementValue) → AllByRecursion (λ u. u ≢ d.id) (ids_of xs) → e.id ≢ d.id
+        → AllByRecursion (λ u. u ≢ d.id) (ids_of (xs ++ e ∷ []))
+    last [] each n = (n, tt)
+    last (x ∷ xs) each n = (each.0, last xs each.1 n)
 
-pub param_less : (text : Text) (r : Option (Bor (List ℕ))) → option_map alone r ≡ read_param text → IfSome r (λ s. IsUtf8 s.now)
-    → IfSome r (λ s. IsUtf8 s.now × (length (shown s) < length text))
-param_less text None e u = tt
-param_less text (Some s) e u = (u, (item_on IsParam read_param param_reads param_long text (tt, shown s) (sym e)).0)
+-- an element whose id comes again among those after it: then those at the front are not distinct
+pub repeats : {t s u : Text} {e : ElementValue} {id : Text} (es : List ElementValue) → Runs sd_element t es s → e.id ≡ id
+    → Front sd_element s u e → ((q : Text) (us : List ElementValue) → Front (many sd_element) u q us → is_among id (ids_of us) ≡ true)
+    → NoFront sd_elements t
+repeats es r same f again p q ws e (h, (some, apart)) =
+    let (us, first, others) = runs_left element_det ws r (front_of p e h) in
+    let (vs, second, more) = many_left element_det us f others in
+    let (each, _) = later es _ (subst (λ (x : List ElementValue). AreDistinct (ids_of x)) (first ∙ ap (λ (x : List ElementValue). es ++ x) second) apart) in
+    let none = (none_tells _ (ids_of vs)).1 (subst (λ (x : Text). AllByRecursion (λ u. u ≢ x) (ids_of vs)) same each) in
+    let some = again q vs more in cc
 
-pub element_less : (text : Text) (x : Text × Text) → Some x ≡ read_element text → length x.1 < length text
-element_less text x e = (item_on IsSdElement read_element element_reads element_long text x (sym e)).0
+-- one whose id came before
+pub came : {t s u : Text} {e : ElementValue} {id : Text} (es : List ElementValue) → Runs sd_element t es s → e.id ≡ id
+    → Front sd_element s u e → is_among id (ids_of es) ≡ true → NoFront sd_elements t
+came {e = d} es r same f old p q ws e (h, (some, apart)) =
+    let (us, first, others) = runs_left element_det ws r (front_of p e h) in
+    let (vs, second, more) = many_left element_det us f others in
+    repeated es vs d (ap (λ (x : Text). is_among x (ids_of es)) same ∙ old)
+    (subst (λ (x : List ElementValue). AreDistinct (ids_of x)) (first ∙ ap (λ (x : List ElementValue). es ++ x) second) apart)
+
+-- one whose id doesn't come again
+pub fresh : (e : ElementValue) {id : Text} → e.id ≡ id → (us : List ElementValue) → is_among id (ids_of us) ≡ false
+    → AreDistinct (ids_of us) → AreDistinct (ids_of (e ∷ us))
+fresh e same us new apart =
+    (subst (λ (x : Text). AllByRecursion (λ u. u ≢ x) (ids_of us)) (sym same) ((none_tells _ (ids_of us)).0 new), apart)
+
+pub still_some : (es us : List ElementValue) → 0 < length es → 0 < length (es ++ us)
+still_some [] us h = absurd (omega arith)
+still_some (e ∷ es) us h = omega arith
+
+-- the first id of all is new
+pub first_seen : (is_new : Bool) {P : Type 0} → MatchBool is_new ((false ≡ false) × P) (false ≡ true) → P
+first_seen true h = h.1
+first_seen false h = absurd cc
+
+pub ids_more : (es : List ElementValue) (e : ElementValue) → ids_of (es ++ e ∷ []) ≡ ids_of es ++ e.id ∷ []
+ids_more [] e = refl
+ids_more (d ∷ es) e = ap (λ (x : List Text). d.id ∷ x) (ids_more es e)
 
 -- ---- a set of ids, as the texts that came before
 

@@ -39,8 +39,6 @@ pub use Rattle.syslog_strict.specs.Conversion.{micros, cleaned, converted_elemen
 pub use Rattle.syslog_strict.specs.Conversion.{converted_name, converted_param, converted_process, converted_word}
 pub use Rattle.syslog_strict.specs.Conversion.{escaped_from, is_among, joined_past, named, or_mark, params_of}
 pub use Rattle.syslog_strict.specs.Conversion.{without_last_colon, without_lone_colon, kept_char, no_colon}
-pub use Rattle.syslog_strict.specs.Grammar.{AreDistinct, IsParamValue, IsSdName, IsSyslogMsg, IsValuePiece, is_escaped}
-pub use Rattle.syslog_strict.specs.Grammar.{is_printusascii, is_sd_char, IsSdElement, IsSdParam, IsStructuredData}
-pub use Rattle.syslog_strict.specs.Grammar.{IsFullDate, IsPri, IsTimeOffset, IsTimestamp, IsSecfrac, IsSpacedMsg}
+pub use Rattle.syslog_strict.specs.Grammar.{AreDistinct, IsSyslogMsg, is_escaped, is_printusascii, is_sd_char}
 pub use Rattle.syslog_strict.specs.{Ids.HasSeen, Joined.HasJoined, Joined.joined_text, Joined.text_or_none}
 pub use Rattle.syslog_strict.specs.Pushing.{text_in, front_text, keeps}

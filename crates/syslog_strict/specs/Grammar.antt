@@ -1,76 +1,99 @@
--- The grammar of RFC 5424, section 6, by its letter: each rule under the RFC's name, as the texts that it takes. A text
--- is a list of characters, so that what the RFC calls UTF-8-STRING is any text here. 45 is `-`, 58 `:`, 84 `T`.
-use Rattle.std.specs.Prelude.{◌≡◌, ◌⊎◌, ⊤, ℕ, pos, ◌<◌, ◌≤◌, ◌&&◌, ◌||◌, nat_eq, nat_le, not, Bool, true, false}
-use Rattle.std.specs.Prelude.{◌≢◌, List, [], ◌∷◌, ◌++◌, length, map}
+-- The grammar of RFC 5424, section 6, rule by rule under the RFC's names, as classes of the theory of pieces. A text is a
+-- list of characters, so that what the RFC calls UTF-8-STRING is any text here. A run is maximal, which excludes nothing:
+-- what follows one in the grammar is never a character of it. 34 is `"`, 43 `+`, 45 `-`, 58 `:`, 84 `T`, 90 `Z`.
+use Rattle.std.specs.Prelude.{◌≡◌, ◌≢◌, ⊤, ℕ, pos, ◌<◌, ◌&&◌, ◌||◌, nat_eq, nat_le, not, Bool, true, false}
+use Rattle.std.specs.Prelude.{List, [], ◌∷◌, ◌++◌, length, map}
 use Rattle.std.specs.Char.{is_ascii_digit}
-use Rattle.std.specs.Fmt.{decimal}
 use Rattle.std.specs.List.{AllByRecursion}
 use Rattle.jiff_core.specs.Calendar.{IsCivilDate}
-use Rattle.jiff_fmt.specs.Text.{pad2, pad4}
-use Rattle.syslog_pieces.specs.Pieces.Class.{Text, Each, join}
+use Rattle.syslog_pieces.specs.Pieces.Class.{Text, Class, Values, Division, Row, exactly, optional, rest, mapped, texted}
+use Rattle.syslog_pieces.specs.Pieces.Class.{after, spaced}
+use Rattle.syslog_pieces.specs.Pieces.Lists.{many}
+use Rattle.syslog_pieces.specs.Pieces.Rules.{short_run, ◌or◌, such_that}
+use Rattle.syslog_pieces.specs.StructuredData.Element.{ElementValue}
+use Rattle.syslog_pieces.specs.StructuredData.Escapes.{TextUnit, pair, single, unit_text}
+use Rattle.syslog_pieces.specs.Text.Bounded.{numeral}
+use Rattle.syslog_pieces.specs.Timestamp.Rfc3339.{year, pair as two_digits}
 
 -- ---- characters and names
 
-abbrev pub nilvalue : Text
-nilvalue = 45 ∷ []
+abbrev pub nilvalue : Class
+nilvalue = exactly (45 ∷ [])
+
+abbrev pub sp : Class
+sp = exactly (32 ∷ [])
 
 -- PRINTUSASCII: %d33-126
 abbrev pub is_printusascii : ℕ → Bool
 is_printusascii c = nat_le 33 c && nat_le c 126
 
--- one to `most` characters that pass the test
-abbrev pub IsSomeOf : (ℕ → Bool) → ℕ → Text → Type 0
-IsSomeOf test most t = (0 < length t) × (length t ≤ most) × Each test t
-
 -- HOSTNAME, APP-NAME, PROCID and MSGID. NILVALUE is such a text, since `-` is one character of PRINTUSASCII.
-abbrev pub IsHostname : Text → Type 0
-IsHostname t = IsSomeOf is_printusascii 255 t
+abbrev pub hostname : Class
+hostname = short_run is_printusascii 255
 
-abbrev pub IsAppName : Text → Type 0
-IsAppName t = IsSomeOf is_printusascii 48 t
+abbrev pub app_name : Class
+app_name = short_run is_printusascii 48
 
-abbrev pub IsProcid : Text → Type 0
-IsProcid t = IsSomeOf is_printusascii 128 t
+abbrev pub procid : Class
+procid = short_run is_printusascii 128
 
-abbrev pub IsMsgid : Text → Type 0
-IsMsgid t = IsSomeOf is_printusascii 32 t
+abbrev pub msgid : Class
+msgid = short_run is_printusascii 32
 
 -- ---- PRI and VERSION
 
--- `<`, a number from 0 to 191 without leading zeros, `>`
-abbrev pub IsPri : Text → Type 0
-IsPri t = (prival : ℕ) × (prival ≤ 191) × (t ≡ 60 ∷ (decimal prival ++ (62 ∷ [])))
+-- PRIVAL, without leading zeros
+abbrev pub prival : Class
+prival = numeral 0 191
 
--- the version that the RFC describes
-abbrev pub version : Text
-version = 49 ∷ []
+abbrev pub pri : List Class
+pri = exactly (60 ∷ []) ∷ prival ∷ exactly (62 ∷ []) ∷ []
+
+-- NONZERO-DIGIT 0*2DIGIT
+abbrev pub version : Class
+version = numeral 1 999
 
 -- ---- TIMESTAMP
 
--- FULL-DATE: a date of the calendar, in a year from 0 to 9999
-abbrev pub IsFullDate : Text → Type 0
-IsFullDate t = (year : ℕ) × (month : ℕ) × (day : ℕ) × IsCivilDate (pos year) month day
-    × (t ≡ pad4 year ++ (45 ∷ pad2 month ++ (45 ∷ pad2 day)))
+-- FULL-DATE: a date of the calendar
+abbrev pub date_row : List Class
+date_row = year ∷ after 45 (two_digits 100) ∷ after 45 (two_digits 100) ∷ []
 
--- TIME-SECFRAC, or nothing: a dot and one to six digits
-abbrev pub IsSecfrac : Text → Type 0
-IsSecfrac t = (t ≡ []) ⊎ ((digits : Text) × (t ≡ 46 ∷ digits) × IsSomeOf is_ascii_digit 6 digits)
+abbrev pub IsDate : Values date_row → Type 0
+IsDate (y, (month, (day, _))) = IsCivilDate (pos y) month day
 
--- PARTIAL-TIME, without a leap second
-abbrev pub IsPartialTime : Text → Type 0
-IsPartialTime t = (hour : ℕ) × (minute : ℕ) × (second : ℕ) × (secfrac : Text) × (hour < 24) × (minute < 60)
-    × (second < 60) × IsSecfrac secfrac × (t ≡ pad2 hour ++ (58 ∷ pad2 minute ++ (58 ∷ pad2 second ++ secfrac)))
+abbrev pub full_date : Class
+full_date = such_that (Row date_row) IsDate
 
--- TIME-OFFSET: `Z`, or a sign, hours and minutes
-abbrev pub IsTimeOffset : Text → Type 0
-IsTimeOffset t = (t ≡ 90 ∷ [])
-    ⊎ ((sign : ℕ) × (hour : ℕ) × (minute : ℕ) × ((sign ≡ 43) ⊎ (sign ≡ 45)) × (hour < 24) × (minute < 60)
-    × (t ≡ sign ∷ pad2 hour ++ 58 ∷ pad2 minute))
+abbrev pub time_hour : Class
+time_hour = two_digits 24
 
-abbrev pub IsTimestamp : Text → Type 0
-IsTimestamp t = (t ≡ nilvalue)
-    ⊎ ((date : Text) × (time : Text) × (offset : Text) × IsFullDate date × IsPartialTime time × IsTimeOffset offset
-    × (t ≡ date ++ (84 ∷ (time ++ offset))))
+-- TIME-MINUTE, and so TIME-SECOND without a leap second
+abbrev pub time_minute : Class
+time_minute = two_digits 60
+
+-- TIME-SECFRAC: a dot and one to six digits
+abbrev pub time_secfrac : Class
+time_secfrac = after 46 (short_run is_ascii_digit 6)
+
+abbrev pub partial_time : List Class
+partial_time = time_hour ∷ after 58 time_minute ∷ after 58 time_minute ∷ optional time_secfrac ∷ []
+
+abbrev pub sign : Class
+sign = exactly (43 ∷ []) or exactly (45 ∷ [])
+
+abbrev pub time_numoffset : List Class
+time_numoffset = sign ∷ time_hour ∷ after 58 time_minute ∷ []
+
+abbrev pub time_offset : Class
+time_offset = exactly (90 ∷ []) or Row time_numoffset
+
+-- FULL-DATE "T" FULL-TIME
+abbrev pub date_time : List Class
+date_time = full_date ∷ exactly (84 ∷ []) ∷ Row partial_time ∷ time_offset ∷ []
+
+abbrev pub timestamp : Class
+timestamp = nilvalue or Row date_time
 
 -- ---- STRUCTURED-DATA
 
@@ -79,66 +102,78 @@ abbrev pub is_sd_char : ℕ → Bool
 is_sd_char c = is_printusascii c && not (nat_eq c 61 || (nat_eq c 93 || nat_eq c 34))
 
 -- SD-NAME, and so SD-ID and PARAM-NAME
-abbrev pub IsSdName : Text → Type 0
-IsSdName t = IsSomeOf is_sd_char 32 t
+abbrev pub sd_name : Class
+sd_name = short_run is_sd_char 32
 
 -- a character that is escaped in a value: `\`, `"` or `]`
 abbrev pub is_escaped : ℕ → Bool
 is_escaped c = nat_eq c 92 || (nat_eq c 34 || nat_eq c 93)
 
--- one of these after a backslash, or another character
-abbrev pub IsValuePiece : Text → Type 0
-IsValuePiece t = ((c : ℕ) × (is_escaped c ≡ true) × (t ≡ 92 ∷ c ∷ []))
-    ⊎ ((c : ℕ) × (is_escaped c ≡ false) × (t ≡ c ∷ []))
+-- one of these after a backslash
+abbrev pub escape : Class
+escape = record { Value = ℕ; Is = λ p q c. (p ≡ 92 ∷ c ∷ []) × (is_escaped c ≡ true) }
 
-abbrev pub IsParamValue : Text → Type 0
-IsParamValue t = (pieces : List Text) × AllByRecursion IsValuePiece pieces × (t ≡ join pieces)
+-- such an escape, or another character
+abbrev pub IsValueUnit : TextUnit → Type 0
+IsValueUnit (pair c) = is_escaped c ≡ true
+IsValueUnit (single c) = is_escaped c ≡ false
 
--- SD-PARAM, with the space before it
-abbrev pub IsSdParam : Text → Type 0
-IsSdParam t = (name : Text) × (value : Text) × IsSdName name × IsParamValue value
-    × (t ≡ 32 ∷ (name ++ (61 ∷ 34 ∷ (value ++ (34 ∷ [])))))
+abbrev pub value_unit : Class
+value_unit = record { Value = TextUnit; Is = λ p q u. (p ≡ unit_text u) × IsValueUnit u }
 
--- SD-ELEMENT, with this SD-ID
-abbrev pub IsSdElement : Text → Text → Type 0
-IsSdElement id t = (params : List Text) × IsSdName id × AllByRecursion IsSdParam params
-    × (t ≡ 91 ∷ (id ++ (join params ++ (93 ∷ []))))
+abbrev pub param_value : Class
+param_value = many value_unit
+
+-- PARAM-NAME, `=`, `"`, PARAM-VALUE, `"`
+abbrev pub param_row : List Class
+param_row = texted sd_name ∷ exactly (61 ∷ []) ∷ exactly (34 ∷ []) ∷ texted param_value ∷ exactly (34 ∷ []) ∷ []
+
+abbrev pub param_of : Values param_row → Text × Text
+param_of (name, (_, (_, (value, (_, _))))) = (name, value)
+
+abbrev pub sd_param : Class
+sd_param = mapped (Row param_row) (Text × Text) param_of
+
+-- `[`, SD-ID, any number of SD-PARAM after a space each, `]`
+abbrev pub element_row : List Class
+element_row = exactly (91 ∷ []) ∷ texted sd_name ∷ many (spaced sd_param) ∷ exactly (93 ∷ []) ∷ []
+
+abbrev pub element_of : Values element_row → ElementValue
+element_of (_, (id, (params, (_, _)))) = record { id = id; params = params }
+
+abbrev pub sd_element : Class
+sd_element = mapped (Row element_row) ElementValue element_of
 
 -- no text comes twice
 abbrev pub AreDistinct : List Text → Type 0
 AreDistinct [] = ⊤
 AreDistinct (t ∷ ts) = AllByRecursion (λ u. u ≢ t) ts × AreDistinct ts
 
--- `-`, or one or more elements, each with its SD-ID, of which none comes twice
-abbrev pub IsStructuredData : Text → Type 0
-IsStructuredData t = (t ≡ nilvalue)
-    ⊎ ((elements : List (Text × Text)) × (0 < length elements)
-    × AllByRecursion (λ (e : Text × Text). IsSdElement e.0 e.1) elements × AreDistinct (map (λ (e : Text × Text). e.0) elements)
-    × (t ≡ join (map (λ (e : Text × Text). e.1) elements)))
+-- there is an element, and no SD-ID comes twice
+abbrev pub AreElements : List ElementValue → Type 0
+AreElements es = (0 < length es) × AreDistinct (map (λ (e : ElementValue). e.id) es)
+
+abbrev pub sd_elements : Class
+sd_elements = such_that (many sd_element) AreElements
+
+abbrev pub structured_data : Class
+structured_data = nilvalue or sd_elements
 
 -- ---- SYSLOG-MSG
 
--- `SP MSG`, or nothing. MSG is any text.
-abbrev pub IsSpacedMsg : Text → Type 0
-IsSpacedMsg t = (t ≡ []) ⊎ ((msg : Text) × (t ≡ 32 ∷ msg))
+-- HEADER, and the space after it
+abbrev pub header : List Class
+header = Row pri ∷ version ∷ sp ∷ timestamp ∷ sp ∷ hostname ∷ sp ∷ app_name ∷ sp ∷ procid ∷ sp ∷ msgid ∷ sp ∷ []
 
--- HEADER SP STRUCTURED-DATA [SP MSG]
-pub record IsSyslogMsg (t : Text) : Type 0 where
-  pub pri : Text
-  pub timestamp : Text
-  pub hostname : Text
-  pub app_name : Text
-  pub procid : Text
-  pub msgid : Text
-  pub structured_data : Text
-  pub spaced_msg : Text
-  pub is_pri : IsPri pri
-  pub is_timestamp : IsTimestamp timestamp
-  pub is_hostname : IsHostname hostname
-  pub is_app_name : IsAppName app_name
-  pub is_procid : IsProcid procid
-  pub is_msgid : IsMsgid msgid
-  pub is_structured_data : IsStructuredData structured_data
-  pub is_spaced_msg : IsSpacedMsg spaced_msg
-  pub whole : t ≡ pri ++ (version ++ (32 ∷ (timestamp ++ (32 ∷ (hostname ++ (32 ∷ (app_name ++ (32 ∷ (procid
-      ++ (32 ∷ (msgid ++ (32 ∷ (structured_data ++ spaced_msg)))))))))))))
+-- STRUCTURED-DATA [SP MSG], where MSG is any text
+abbrev pub body : List Class
+body = structured_data ∷ optional (spaced rest) ∷ []
+
+-- the whole text is a piece of the class
+abbrev pub IsAll : Class → Text → Type 0
+IsAll C text = (v : C.Value) × C.Is text [] v
+
+-- the whole text is in the grammar
+pub record IsSyslogMsg (text : Text) : Type 0 where
+  pub values : Values (header ++ body)
+  pub division : Division (header ++ body) text values

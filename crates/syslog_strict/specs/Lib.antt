@@ -1,4 +1,3 @@
-pub mod Bodies
 pub mod Call
 pub mod Conversion
 pub mod Grammar

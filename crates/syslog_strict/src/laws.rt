@@ -17,7 +17,6 @@ ghost use Rattle.syslog_strict.specs.Value.{meaning};
 
 /// The printed text of each converted message is in the grammar of RFC 5424, whether the message was read or not. A
 /// number that is a process id has 32 bits, as in the program.
-#[tactic(auto, using(crate::proofs::ConversionLaws::converted_strict))]
 pub fn converted_text_is_in_the_grammar()
     ensures { (m : MessageValue) → IfSome m.procid IsBoundedProcess → IsSyslogMsg (printed (converted m)) }
 {}

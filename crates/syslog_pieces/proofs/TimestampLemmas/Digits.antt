@@ -10,7 +10,7 @@ use Rattle.syslog_pieces.proofs.Names.{arith, ReadsBytes, numeric_row, stamp_tex
 use Rattle.syslog_pieces.proofs.Names.{encode_utf8_all, is_not_whitespace, mul-le-mul_right, take-append-drop}
 use Rattle.jiff_fmt.proofs.ReaderLemmas.{fraction_value-drop, tenth}
 use Rattle.jiff_fmt.specs.Reader.{fraction_value}
-use Rattle.syslog_pieces.specs.Timestamp.Rfc3339.{pair}
+use Rattle.syslog_pieces.specs.Timestamp.Rfc3339.{pair, year}
 use Rattle.syslog_pieces.specs.Timestamp.Printed.{fraction_text}
 use Rattle.syslog_pieces.proofs.TextLemmas.Runs.{ascii_ahead, after_chars, after_cut, after_is, low_ascii, no_run}
 
@@ -116,6 +116,12 @@ offset_only p q s (inr (vs, h, e)) =
 
 letter_only : HasOnly (letter 84)
 letter_only p q v h = elim h [ inl e ↦ rw e (refl, tt) | inr e ↦ rw e (refl, tt) ]
+
+pub pair_ascii : (limit : ℕ) → limit ≤ 100 → (p q : Text) (n : ℕ) → (pair limit).Is p q n → IsAscii p
+pair_ascii limit small p q n h = each_ascii p (pair_only limit small p q n h)
+
+pub year_ascii : (p q : Text) (n : ℕ) → year.Is p q n → IsAscii p
+year_ascii p q n h = each_ascii p (rw h.0 (year_characters n h.1))
 
 -- each character of a text is one from `+` to `z`
 pub stamp_characters : (p q : Text) (w : Rfc3339Fields) → stamp_text.Is p q w → Each is_stamp_character p

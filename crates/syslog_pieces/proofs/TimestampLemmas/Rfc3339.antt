@@ -32,7 +32,7 @@ use Rattle.syslog_pieces.proofs.TimestampLemmas.Digits.{fraction_characters, pai
 pub pair_det : (limit : ℕ) → limit ≤ 100 → IsDeterministic (pair limit)
 pair_det limit small p q p' q' n n' e h h' = grind arith
 
-year_det : IsDeterministic year
+pub year_det : IsDeterministic year
 year_det p q p' q' n n' e h h' = grind arith
 
 letter_det : (upper : ℕ) → IsDeterministic (letter upper)

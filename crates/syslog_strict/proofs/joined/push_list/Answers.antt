@@ -1,5 +1,5 @@
 use Rattle.syslog_strict.proofs.Words.{refl, sym, subst, ◌∙◌, list_elements}
-use Rattle.syslog_strict.specs.Bodies.Reader.{AreElements}
+use Rattle.syslog_strict.specs.Grammar.{IsAll, sd_elements}
 use Rattle.syslog_strict.proofs.{ConversionLaws.strict_stay, ElementLemmas.converted_some, ElementLemmas.elements_some}
 use Rattle.syslog_strict.proofs.TextLemmas.{appended}
 use Rattle.syslog_pieces.proofs.StructuredDataLemmas.Elements.{are_canonical}
@@ -8,7 +8,7 @@ use Rattle.syslog_strict.proofs.joined.push_list.Goals as goal
 pub returns-then-are_elements : goal.returns-then-are_elements
 returns-then-are_elements c =
     let prints = c.in-Some.ensures.prints in
-    let begins = subst (λ t. AreElements t) prints (c.if-are_elements.ensures refl) in
+    let begins = subst (IsAll sd_elements) prints (c.if-are_elements.ensures refl) in
     appended c.push_text.result _ _ _ _
     (prints ∙ sym (strict_stay (list_elements c.args.list) (are_canonical c.args.list) begins)) c.push_text.ensures
 

@@ -1,0 +1,8 @@
+use Rattle.syslog_strict.proofs.Words.{[], ◌∷◌}
+use Rattle.syslog_pieces.proofs.PieceLemmas.{Class.◌also◌, Rules.row_reads}
+use Rattle.syslog_strict.{proofs.GrammarLemmas.pri_det, specs.Grammar.pri}
+use Rattle.syslog_strict.proofs.valid.pri.Goals as goal
+
+pub returns : goal.returns
+returns c = row_reads pri pri_det c.args.text (c.less_than.result ∷ c.and_then.result ∷ c.and_then-2.result ∷ [])
+    (c.less_than.ensures also c.and_then.ensures also c.and_then-2.ensures also tt)

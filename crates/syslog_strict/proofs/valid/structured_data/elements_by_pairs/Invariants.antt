@@ -1,0 +1,16 @@
+use denote.Text.{Utf8}
+use denote.Shadow.{shadow}
+use Rattle.syslog_strict.proofs.Words.{List, length, ◌<◌, ◌++◌, chars, Text, ElementValue, Front, AreDistinct}
+use Rattle.syslog_pieces.proofs.PieceLemmas.Rules.{Runs}
+use Rattle.syslog_pieces.specs.Pieces.Lists.{many}
+use Rattle.syslog_strict.{proofs.ValidLemmas.ids_of, specs.Grammar.sd_element}
+use Rattle.syslog_strict.proofs.valid.structured_data.elements_by_pairs.Given as goal
+
+abbrev pub invariant-elements : goal.invariant-elements
+invariant-elements l = shadow (Utf8 l.rest) × ((es : List ElementValue) × (0 < length es)
+    × Runs sd_element (chars l.text) es (chars l.rest)
+    × ((q : Text) (us : List ElementValue) → Front (many sd_element) (chars l.rest) q us → AreDistinct (ids_of us)
+    → AreDistinct (ids_of (es ++ us))))
+
+abbrev pub decreases-elements : goal.decreases-elements
+decreases-elements l = length (chars l.rest)

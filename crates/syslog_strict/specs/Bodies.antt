@@ -1,2 +1,0 @@
--- Words that only the proofs of bodies speak of.
-pub mod Reader
