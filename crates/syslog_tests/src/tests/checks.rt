@@ -76,3 +76,8 @@ pub(super) fn check_dash_change(
     );
     check(rt, changed == want, text);
 }
+
+/// Whether the one comes before the other, and is not equal to it.
+pub(super) fn comes_before<T: Ord>(one: &T, other: &T) -> bool {
+    *one < *other && *one != *other
+}
