@@ -9,6 +9,8 @@ mod args;
 mod counts;
 mod filters;
 mod report;
+#[cfg(test)]
+mod tests;
 
 pub use args::read_args;
 use args::{Output, Task, arguments};
