@@ -6,14 +6,15 @@
 
 use jiff::tz::TimeZone;
 use memchr::{memchr, memrchr};
-use syslog_utf8::from_utf8;
 use std::alloc::Global;
+use std::io;
 use std::io::{Read, Write};
 use std::process::ExitCode;
-use std::io;
 use syslog_loose::{
-    IncompleteDate, Message, ParseFault, ProcId, Protocol, Variant, parse_message_with_year_exact_tz,
+    IncompleteDate, Message, ParseFault, ProcId, Protocol, Variant,
+    parse_message_with_year_exact_tz,
 };
+use syslog_utf8::from_utf8;
 
 #[derive(Clone, Copy)]
 struct Totals {

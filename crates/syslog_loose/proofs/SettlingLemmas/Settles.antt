@@ -283,12 +283,18 @@ module _ (variant : Variant) (dating : Dating) where
       let told = writes variant dating u of.only.read in absurd (told.odd (ranked told.message told.read))
   made_answer given before after t n (suc k) u old new (Some (Ok false)) r ranked (line, of, writes, _) =
       let told = writes variant dating u of.only.read in
-      let (j, more) = reached_further variant dating t n u told.before _ r told.never told.reaches in
-      (told, (k, refl, record {
-        before = j;
-        reaches = more;
-        ranked = λ m s. told.lower k m s (ranked told.message told.read);
-      }))
+      let (j, more) = reached_further variant dating t n u told.before _ r told.never told.reaches in (
+        told,
+        (
+          k,
+          refl,
+          record {
+            before = j;
+            reaches = more;
+            ranked = λ m s. told.lower k m s (ranked told.message told.read);
+          },
+        ),
+      )
 
   -- what is printed of a text shows no month date, so that none is after its priority
   pub without_date : (t : Text) (n : ℕ) (u : Text) {follows : Text} {p : Option ℕ} → Reaches variant dating t (suc n) u
