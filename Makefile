@@ -4,13 +4,16 @@
 #     make check        is the gate: proves the crates from nothing, and runs every test
 #     make install      installs what make built, and proves nothing: PREFIX=/usr/local DESTDIR=
 #     make uninstall    removes what it installed
-#     make dist         a tarball and a Debian package of the same files, in out/
+#     make dist         a tarball and Debian packages of the same files, in out/
 
 PREFIX = /usr/local
 DESTDIR =
+# The folder of the libraries below PREFIX.
+LIB = lib
 DOCDIR = $(PREFIX)/share/doc/syslog_loose
-# Where syslog_loose.pc says that all of it lies.
+# Where syslog_loose.pc says that all of it lies, and where the examples for daemons say it.
 PC_PREFIX = $(PREFIX)
+CONF_PREFIX = $(PREFIX)
 
 OUT = out
 TIDY = crates/syslog_tidy/out/syslog_tidy
@@ -27,9 +30,17 @@ SHARED = libsyslog_loose.so.$(VERSION)
 BUILT = $(TIDY) $(JSON) $(STRICT) $(OUT)/libsyslog_loose.a $(OUT)/$(SHARED)
 
 TOP = $(DESTDIR)$(PREFIX)
-PAGES = share/man/man1/syslog_tidy.1 share/man/man1/syslog_json.1 share/man/man1/syslog_5424.1 share/man/man3/syslog_loose.3
-INSTALLED = bin/syslog_tidy bin/syslog_json bin/syslog_5424 include/syslog_loose.h lib/libsyslog_loose.a lib/$(SHARED) \
-	lib/$(SONAME) lib/libsyslog_loose.so lib/pkgconfig/syslog_loose.pc $(PAGES)
+# Each call of the library has its name as a page, which is the one of the library.
+CALLS := $(shell sed -n 's/^\.Nm \(syslog_[a-z_0-9]*\).*/\1/p' man/syslog_loose.3)
+PAGES = $(addprefix share/man/man1/,syslog_tidy.1 syslog_json.1 syslog_5424.1) \
+	$(addprefix share/man/man3/,syslog_loose.3 $(addsuffix .3,$(CALLS)))
+HELPERS = filter_to mapper
+DOCUMENTS = LICENSE README.md CHANGELOG.md $(wildcard docs/*.md)
+EXAMPLES = $(wildcard examples/*.c examples/*.rs examples/*.py)
+CONFIGURATIONS = $(wildcard examples/daemons/*.conf)
+INSTALLED = bin/syslog_tidy bin/syslog_json bin/syslog_5424 include/syslog_loose.h $(PAGES) \
+	$(addprefix $(LIB)/,libsyslog_loose.a $(SHARED) $(SONAME) libsyslog_loose.so pkgconfig/syslog_loose.pc) \
+	$(addprefix libexec/syslog_loose/,$(HELPERS))
 
 .PHONY: all check install uninstall dist
 all:
@@ -58,21 +69,28 @@ $(OUT)/$(SHARED): $(OUT)/libsyslog_loose.a packaging/exports.map
 		-Wl,--whole-archive $< -Wl,--no-whole-archive
 
 install: $(BUILT)
-	install -d $(addprefix $(TOP)/,bin include lib/pkgconfig share/man/man1 share/man/man3) $(DESTDIR)$(DOCDIR)
+	install -d $(addprefix $(TOP)/,bin include $(LIB)/pkgconfig libexec/syslog_loose share/man/man1 share/man/man3)
 	install -m 755 $(TIDY) $(JSON) $(STRICT) $(TOP)/bin
 	install -m 644 include/syslog_loose.h $(TOP)/include
-	install -m 644 $(OUT)/libsyslog_loose.a $(OUT)/$(SHARED) $(TOP)/lib
-	ln -sf $(SHARED) $(TOP)/lib/$(SONAME)
-	ln -sf $(SONAME) $(TOP)/lib/libsyslog_loose.so
-	sed 's|@prefix@|$(PC_PREFIX)|; s|@version@|$(VERSION)|' packaging/syslog_loose.pc.in >$(TOP)/lib/pkgconfig/syslog_loose.pc
+	install -m 644 $(OUT)/libsyslog_loose.a $(OUT)/$(SHARED) $(TOP)/$(LIB)
+	ln -sf $(SHARED) $(TOP)/$(LIB)/$(SONAME)
+	ln -sf $(SONAME) $(TOP)/$(LIB)/libsyslog_loose.so
+	sed 's|@prefix@|$(PC_PREFIX)|; s|@lib@|$(LIB)|; s|@version@|$(VERSION)|' packaging/syslog_loose.pc.in \
+		>$(TOP)/$(LIB)/pkgconfig/syslog_loose.pc
 	install -m 644 man/*.1 $(TOP)/share/man/man1
 	install -m 644 man/*.3 $(TOP)/share/man/man3
-	install -m 644 LICENSE $(DESTDIR)$(DOCDIR)
+	for call in $(CALLS); do echo '.so man3/syslog_loose.3' >$(TOP)/share/man/man3/$$call.3; done
+	install -m 755 $(addprefix examples/daemons/,$(HELPERS)) $(TOP)/libexec/syslog_loose
+	install -d $(DESTDIR)$(DOCDIR)/docs $(DESTDIR)$(DOCDIR)/examples/daemons
+	install -m 644 LICENSE README.md CHANGELOG.md $(DESTDIR)$(DOCDIR)
+	install -m 644 $(wildcard docs/*.md) $(DESTDIR)$(DOCDIR)/docs
+	install -m 644 $(EXAMPLES) $(DESTDIR)$(DOCDIR)/examples
+	for file in $(CONFIGURATIONS); do sed 's|@prefix@|$(CONF_PREFIX)|g' $$file >$(DESTDIR)$(DOCDIR)/$$file; done
 	[ '$(DESTDIR)' ] || PATH=$$PATH:/sbin ldconfig 2>/dev/null || true
 
 uninstall:
-	rm -f $(addprefix $(TOP)/,$(INSTALLED)) $(DESTDIR)$(DOCDIR)/LICENSE
-	-rmdir $(DESTDIR)$(DOCDIR)
+	rm -f $(addprefix $(TOP)/,$(INSTALLED)) $(addprefix $(DESTDIR)$(DOCDIR)/,$(DOCUMENTS) $(EXAMPLES) $(CONFIGURATIONS))
+	-rmdir $(addprefix $(DESTDIR)$(DOCDIR)/,docs examples/daemons examples .) $(TOP)/libexec/syslog_loose
 
 dist: $(BUILT)
-	packaging/dist $(OUT) $(VERSION)
+	packaging/dist $(OUT) $(VERSION) $(SONAME)

@@ -8,6 +8,7 @@
   bench.py --instructions             counts instructions by valgrind, which other work does not change
   bench.py --reading                  measures syslog_totals instead, which reads and prints sums alone
   bench.py --library                  measures bench/c_totals.c, the same over the library for C; needs cc
+  bench.py --rust                     measures bench/rust_totals, the same by bindings/rust/syslog_loose; needs cargo
   bench.py --json                     measures syslog_json, and with --check compares its objects by their values
   bench.py --cores                    times ways to filter one file on all cores
   bench.py --write                    puts the tables of the run into docs/BENCHMARKS.md as well
@@ -37,6 +38,7 @@ import corpora  # noqa: E402
 TOP = os.path.dirname(os.path.dirname(os.path.abspath(__file__)))
 CRATES = os.path.join(TOP, "crates")
 DOCUMENT = os.path.join(TOP, "docs", "BENCHMARKS.md")
+CRATES_OF_DEBIAN = "/usr/share/cargo/registry"
 # Ways to filter the file $F by $P, each to files whose names begin with "out". `split` sets FILE, and would end at the
 # first part in which lines are refused.
 WAYS = [
@@ -131,19 +133,36 @@ def compiled_over(library, program):
     return program
 
 
-def built_over_library():
-    """Proves and builds the library for C, and the program over it, and returns that one's path."""
-    crate = os.path.join(TOP, "crates", "syslog_c")
+def library_for_c():
+    """Proves and builds the library for C, and returns its path."""
+    crate = os.path.join(CRATES, "syslog_c")
     print("building %s" % crate, file=sys.stderr)
     subprocess.run(["rt", "lib"], cwd=crate, stdout=sys.stderr, check=True)
-    program = os.path.join(tempfile.gettempdir(), "syslog-bench-c-totals")
-    return compiled_over(os.path.join(crate, "out", "libsyslog_c.a"), program)
+    return os.path.join(crate, "out", "libsyslog_c.a")
+
+
+def built_in_rust(library):
+    """Builds bench/rust_totals over the library for C, statically, and returns its path. The crates that it needs come from
+    Debian's packages (librust-chrono-dev) where these are, and otherwise from cargo's own cache."""
+    scratch = os.path.join(tempfile.gettempdir(), "syslog-bench-rust")
+    subprocess.run(["make", "-s", "OUT=" + scratch, "LIBRARY=" + library, scratch + "/libsyslog_loose.a"], cwd=TOP, check=True)
+    words = ["cargo", "build", "--release", "--offline"]
+    if os.path.isdir(CRATES_OF_DEBIAN):
+        words += ["--config", 'source.crates-io.replace-with="debian"']
+        words += ["--config", 'source.debian.directory="%s"' % CRATES_OF_DEBIAN]
+    target = os.path.join(scratch, "target")
+    environment = {"SYSLOG_LOOSE_LIB": scratch, "SYSLOG_LOOSE_STATIC": "1", "CARGO_TARGET_DIR": target}
+    folder = os.path.join(TOP, "bench", "rust_totals")
+    subprocess.run(words, cwd=folder, env={**os.environ, **environment}, stdout=sys.stderr, check=True)
+    return os.path.join(target, "release", "rust_totals")
 
 
 def built(chosen):
     """Proves and builds the program, and returns its path."""
     if chosen.library:
-        return built_over_library()
+        return compiled_over(library_for_c(), os.path.join(tempfile.gettempdir(), "syslog-bench-c-totals"))
+    if chosen.rust:
+        return built_in_rust(library_for_c())
     name = "syslog_totals" if chosen.reading else "syslog_json" if chosen.json else "syslog_tidy"
     crate = os.path.join(CRATES, name)
     print("building %s" % crate, file=sys.stderr)
@@ -436,6 +455,8 @@ def arguments():
     reader.add_argument("--reading", action="store_true", help=told)
     told = "measure the library for C, by the program bench/c_totals.c, on the corpora alone"
     reader.add_argument("--library", action="store_true", help=told)
+    told = "measure the interface of the Rust crate, by the program bench/rust_totals, on the corpora alone"
+    reader.add_argument("--rust", action="store_true", help=told)
     told = "measure syslog_json, or with --check compare its objects with the peer's by their values"
     reader.add_argument("--json", action="store_true", help=told)
     reader.add_argument("--cores", action="store_true", help="time ways to filter one file on all cores")
@@ -450,13 +471,13 @@ def arguments():
     told = "put the tables into this document too (docs/BENCHMARKS.md), as of the commit that is checked out"
     reader.add_argument("--write", metavar="DOCUMENT", nargs="?", const=DOCUMENT, help=told)
     chosen = reader.parse_args()
-    chosen.sums = chosen.reading or chosen.library
+    chosen.sums = chosen.reading or chosen.library or chosen.rust
     if chosen.check and not chosen.peer:
         reader.error("--check compares with a --peer")
     if chosen.write and (chosen.only or chosen.check):
         reader.error("--write replaces whole tables: --only makes parts of them, and --check none")
     if chosen.write and chosen.sums and not chosen.instructions:
-        reader.error("the document has --reading and --library by --instructions alone")
+        reader.error("the document has --reading, --library and --rust by --instructions alone")
     return chosen
 
 
@@ -466,7 +487,7 @@ def table_names(chosen):
         return ["all cores"]
     subjects = ["ordinary lines"] + ["hostile lines"] * chosen.instructions
     if chosen.sums:
-        subjects = ["library for C" if chosen.library else "reading calls"]
+        subjects = ["library for C" if chosen.library else "from Rust" if chosen.rust else "reading calls"]
     if chosen.json:
         subjects = ["JSON of %s" % it for it in subjects]
     return ["%s, by %s" % (it, "instructions" if chosen.instructions else "time") for it in subjects]

@@ -8,15 +8,15 @@
  * free: syslog_settle, syslog_to_rfc5424 and syslog_json make the text in memory of their own, copy it to the caller's
  * buffer, and free that memory before they return. No other call asks for any.
  *
- * The library has no state: no call keeps or frees anything of the caller's, and threads may call it at once. Don't call
- * it from a signal handler, nor in the forked child of a process with threads.
+ * The library has no state: no call keeps or frees anything of the caller's, and threads may call it at once. Don't
+ * call it from a signal handler, nor in the forked child of a process with threads.
  *
  * What each call owes its caller is proved from its code, but not what the caller owes the call:
  *   - No pointer is null, also where its length is 0.
  *   - A pointer with a length n points to n bytes (or n structs), any other one to one value; n is below 2^63 bytes.
  *   - What a call writes to overlaps nothing else that it is given, and no other thread touches it meanwhile.
- *   - Each syslog_message, syslog_row, syslog_element, syslog_param and syslog_text is set before the first call that writes to it,
- *     by SYSLOG_MESSAGE_INIT and the like. (No call looks at what it was set to.)
+ *   - Each syslog_message, syslog_row, syslog_element, syslog_param and syslog_text is set before the first call that
+ *     writes to it, by SYSLOG_MESSAGE_INIT and the like. (No call looks at what it was set to.)
  *   - The texts of a message lie in the line: they last as long as its bytes do, unchanged.
  *
  * What stays, before version 1.0 too: the names of calls, structs, fields and macros, their numbers, and what each
@@ -125,8 +125,8 @@ struct syslog_param {
 
 #define SYSLOG_TEXT_INIT { "", 0, 0 }
 #define SYSLOG_MESSAGE_INIT \
-    { 0, 0, 0, 0, { 0, 0, 0, 0, 0, 0 }, SYSLOG_TEXT_INIT, SYSLOG_TEXT_INIT, { SYSLOG_TEXT_INIT, 0, 0 }, SYSLOG_TEXT_INIT, \
-      SYSLOG_TEXT_INIT, 0, 0 }
+    { 0, 0, 0, 0, { 0, 0, 0, 0, 0, 0 }, SYSLOG_TEXT_INIT, SYSLOG_TEXT_INIT, { SYSLOG_TEXT_INIT, 0, 0 }, \
+      SYSLOG_TEXT_INIT, SYSLOG_TEXT_INIT, 0, 0 }
 #define SYSLOG_ROW_INIT { SYSLOG_TEXT_INIT, 0, SYSLOG_MESSAGE_INIT }
 #define SYSLOG_ELEMENT_INIT { SYSLOG_TEXT_INIT, 0 }
 #define SYSLOG_PARAM_INIT { SYSLOG_TEXT_INIT, SYSLOG_TEXT_INIT }
@@ -149,19 +149,21 @@ uint32_t syslog_read(const char *line, size_t length, const struct syslog_option
 uint32_t syslog_read_fields(const char *line, size_t length, const struct syslog_options *options,
                             struct syslog_message *message);
 
-/* Reads the lines of a buffer, without structured data: a row for each line, in order, from the first row on, and how many
- * rows that are to read. A line is what is between line feeds; an empty last one is none, and the last need not end in a line
- * feed. Each text is a piece of the buffer, so row.line.start - buffer is where the line begins.
+/* Reads the lines of a buffer, without structured data: a row for each line, in order, from the first row on. The
+ * number of these rows is written to read. A line is what is between line feeds; an empty last one is none, and the
+ * last need not end in a line feed. Each text is a piece of the buffer, so row.line.start - buffer is where the line
+ * begins.
  *
  * SYSLOG_DONE: each line has a row, and the rows after these are as they were.
- * SYSLOG_NO_ROOM: there are more lines than rows, and the rows have the first lines. The others begin after the last row's
- *   line and its line feed.
+ * SYSLOG_NO_ROOM: there are more lines than rows, and the rows have the first lines. The others begin after the last
+ *   row's line and its line feed.
  * SYSLOG_BAD_ARGUMENT: read is 0, and the rows are as they were.
  */
 uint32_t syslog_read_lines(const char *buffer, size_t length, const struct syslog_options *options,
                            struct syslog_row *rows, size_t room, size_t *read);
 
-/* The five that follow write a text to the beginning of a buffer, which has room_length bytes, and its length to needed.
+/* The five that follow write a text to the beginning of a buffer, which has room_length bytes, and the length of the
+ * text to needed.
  *
  * SYSLOG_DONE: it is there, with no zero byte after it, and the rest of the buffer is as it was.
  * SYSLOG_NO_ROOM: needed has its length, and the buffer, which is shorter, may hold anything.
@@ -177,14 +179,14 @@ uint32_t syslog_settle(const char *line, size_t length, const struct syslog_opti
                        size_t room_length, size_t *needed);
 
 /* The line as strict RFC 5424: unchanged if it is in the RFC's grammar, and otherwise its message, converted field by
- * field. The text is in the grammar; of a converted line, it is read back as the converted message. It may be longer than
- * the line. */
+ * field. The text is in the grammar; of a converted line, it is read back as the converted message. It may be longer
+ * than the line. */
 uint32_t syslog_to_rfc5424(const char *line, size_t length, const struct syslog_options *options, char *room,
                            size_t room_length, size_t *needed);
 
-/* The line's message as one JSON object, as the program syslog_json writes it, without the line feed after it. If raw is
- * not 0, the key "raw" has the line itself. No byte below 32 is in an object. A line that is no message has none here,
- * where the program writes one with the key "refused". */
+/* The line's message as one JSON object, as the program syslog_json writes it, without the line feed after it. If raw
+ * is not 0, the key "raw" has the line itself. No byte below 32 is in an object. A line that is no message has none
+ * here, where the program writes one with the key "refused". */
 uint32_t syslog_json(const char *line, size_t length, const struct syslog_options *options, uint32_t raw, char *room,
                      size_t room_length, size_t *needed);
 

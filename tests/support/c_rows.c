@@ -1,5 +1,6 @@
-/* Reads standard input by syslog_read_lines, with room for so many rows at a time, and compares each row with what
- * syslog_read_fields tells of the line, for each room from 1 to 300 rows that is a power of three, and for the whole at once.
+/* Reads standard input by syslog_read_lines, with room for so many rows at a time, and compares each row with what syslog_read
+ * tells of the line: for each room from 1 to 300 rows that is a power of three, for the whole at once, and for blocks that are
+ * cut anywhere, within lines and characters too.
  *
  *   c_rows YEAR      prints how many lines there are, and how many of them are messages
  *
@@ -39,14 +40,16 @@ static int same_message(const struct syslog_message *one, const struct syslog_me
 static const char *compare(const struct syslog_row *row, const char *at, const char *end,
                            const struct syslog_options *options, size_t number)
 {
-    struct syslog_message blank = SYSLOG_MESSAGE_INIT, m;
-    blank.facility = blank.severity = -1;
-    m = blank;
+    static struct syslog_element elements[64];
+    static struct syslog_param params[512];
+    struct syslog_message m = SYSLOG_MESSAGE_INIT;
+    m.facility = m.severity = -1;
     const char *feed = memchr(at, '\n', (size_t)(end - at));
     size_t length = (size_t)((feed ? feed : end) - at);
     if (row->line.length != length || (length && row->line.start != at) || row->line.present != 1)
         fault("the row has another line", number);
-    if (row->outcome != syslog_read_fields(at, length, options, &m))
+    uint32_t outcome = syslog_read(at, length, options, &m, elements, 64, params, 512);
+    if (row->outcome != (outcome == SYSLOG_NO_ROOM ? SYSLOG_DONE : outcome))
         fault("the row has another outcome", number);
     if (!same_message(&row->message, &m))
         fault("the row has another message", number);
@@ -82,6 +85,26 @@ static size_t read_all(const char *begin, const char *end, const struct syslog_o
     return messages;
 }
 
+/* Reads all in blocks of any size up to 700 bytes, each in memory of its own. */
+static void read_blocks(const char *begin, const char *end, const struct syslog_options *options)
+{
+    uint64_t chance = 17;
+    size_t lines;
+    while (begin < end) {
+        chance = chance * 6364136223846793005u + 1442695040888963407u;
+        size_t size = 1 + (size_t)(chance >> 33) % 700;
+        if (size > (size_t)(end - begin))
+            size = (size_t)(end - begin);
+        char *block = malloc(size);
+        if (!block)
+            fault("no memory", 0);
+        memcpy(block, begin, size);
+        read_all(block, block + size, options, 5, &lines);
+        free(block);
+        begin += size;
+    }
+}
+
 int main(int count, char **words)
 {
     struct syslog_options options = { .year = count > 1 ? atoi(words[1]) : 0 };
@@ -103,6 +126,7 @@ int main(int count, char **words)
     for (size_t at = 1; at < 300; at *= 3)
         if (read_all(text, text + size, &options, at, &again) != messages || again != lines)
             fault("another room gives other rows", lines);
+    read_blocks(text, text + size, &options);
     options.month = 13;
     struct syslog_row row = SYSLOG_ROW_INIT;
     if (syslog_read_lines(text, size, &options, &row, 1, &read) != SYSLOG_BAD_ARGUMENT || read || row.line.present)

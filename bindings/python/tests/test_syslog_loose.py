@@ -1,7 +1,14 @@
 """Tests of the package as it is installed, in the folder that PYTHONPATH names: python3 -m unittest discover bindings/python/tests"""
+import csv
+import gc
 import importlib.util
+import inspect
+import io
 import json
 import os
+import pickle
+import subprocess
+import sys
 import tempfile
 import threading
 import unittest
@@ -216,6 +223,27 @@ class Reading(unittest.TestCase):
                 self.assertEqual(parse(self.GIVEN[:19], year=1999).message, "x")
                 self.assertIn(one.hostname + other.hostname, ("aa", "ab", "ba", "bb"))
 
+    def test_lines_while_a_line_is_read(self):
+        """Garbage is collected while a message is made, and code that then runs reads other lines."""
+        lines = ["1 - - - - - " + "".join('[%s%d a="%d"]' % (name, i, i) for i in range(8)) for name in "ab"]
+        wanted = [parse(line, year=2026) for line in lines]
+        found = []
+        old = gc.get_threshold()
+
+        def read_another(phase, told):
+            found.append(parse(lines[1], year=2026))
+
+        gc.callbacks.append(read_another)
+        gc.set_threshold(1)
+        try:
+            read = [parse(lines[0], year=2026) for _ in range(50)]
+        finally:
+            gc.set_threshold(*old)
+            gc.callbacks.remove(read_another)
+        self.assertGreater(len(found), 50)
+        self.assertEqual(set(read), {wanted[0]})
+        self.assertEqual(set(found), {wanted[1]})
+
     def test_threads(self):
         wrong = []
 
@@ -238,6 +266,7 @@ class Reading(unittest.TestCase):
 class Columns(unittest.TestCase):
     LINES = [LINE.encode(), b"<34>Mar  2 06:35:05 gateway dropbear[2310]: Exit", b"no message", b"1 - - - - - - gr\xfc\xdf", b""]
     LINES += ["<200>2019-12-31T23:59:59.5+01:00 ü a[name]: größe".encode(), b"<0>1 9998-12-31T23:59:59Z - - - - -"]
+    LINES += [b"<34>Dec 31 2019 23:59:59 h a: a year and no offset"]
 
     def sources(self):
         whole = b"\n".join(self.LINES)
@@ -274,12 +303,13 @@ class Columns(unittest.TestCase):
             process = int(columns["process"][i]) if columns["has_number"][i] else text("process", i)
             self.assertEqual((process, columns["shows_year"][i], columns["shows_offset"][i]), (m.procid, m.shows_year, m.shows_offset))
             if m.timestamp is None or m.timestamp.year > 2261:
-                self.assertEqual(str(columns["time"][i]), "NaT")
+                self.assertEqual((str(columns["time"][i]), columns["nanosecond"][i]), ("NaT", m.nanosecond))
             else:
                 since = m.timestamp - datetime(1970, 1, 1, tzinfo=timezone.utc)
                 seconds = since // timedelta(seconds=1)
                 self.assertEqual(int(columns["time"][i].astype("i8")), seconds * 10**9 + m.nanosecond)
-                self.assertEqual(int(columns["offset"][i]), m.timestamp.utcoffset() // timedelta(seconds=1))
+                told = int(columns["nanosecond"][i]), int(columns["offset"][i])
+                self.assertEqual(told, (m.nanosecond, m.timestamp.utcoffset() // timedelta(seconds=1)))
 
     def test_each_row_is_its_line(self):
         for source in self.sources():
@@ -299,15 +329,77 @@ class Columns(unittest.TestCase):
         for source in self.sources():
             frame = syslog_loose.to_frame(source, year=2026)
             self.assertEqual(str(frame.dtypes["time"]), "datetime64[ns, UTC]")
-            self.assertEqual(list(frame["refused"]), [False, False, True, True, True, False, False])
-            self.assertEqual(list(frame["hostname"].cat.categories), ["mymachine", "gateway", "ü"])
+            self.assertEqual(list(frame["refused"]), [False, False, True, True, True, False, False, False])
+            self.assertEqual(list(frame["hostname"].cat.categories), ["mymachine", "gateway", "ü", "h"])
             self.assertEqual([frame[it][0] for it in ("facility", "severity", "appname", "procid")], ["local4", "notice", "app", "7"])
             self.assertEqual([frame["procid"][i] for i in (1, 2, 5)], ["2310", None, "name"])
             self.assertEqual([frame["message"][i] for i in (0, 2, 3, 5)], ["größe", "no message", "1 - - - - - - gr\ufffd\ufffd", "größe"])
             self.assertEqual(frame["time"][1].isoformat(), "2026-03-02T06:35:05+00:00")
 
 
+class Program(unittest.TestCase):
+    GIVEN = b'<34>Mar  2 06:35:05 gw app[2310]: a, "b"\nnone\xff\n<34>1 - - - - - [a b="c\\"d"] x\ty\r1\n'
+
+    def ran(self, *words, given=GIVEN):
+        ran = subprocess.run([sys.executable, "-m", "syslog_loose", *words], input=given, capture_output=True)
+        return ran.returncode, ran.stdout.decode(), ran.stderr.decode()
+
+    def test_table(self):
+        status, out, errors = self.ran("--year", "2026", "--csv")
+        self.assertEqual((status, errors), (1, "refused 1 of 3 lines\n"))
+        self.assertEqual(
+            out.split("\r\n"),
+            [
+                "protocol,version,facility,facility_code,severity,severity_code,timestamp,hostname,appname,procid,msgid,"
+                "structured_data,message,raw,refused,invalid_utf8",
+                'RFC3164,,auth,4,crit,2,2026-03-02T06:35:05+00:00,gw,app,2310,,,"a, ""b""",,,',
+                ",,,,,,,,,,,,none\ufffd,,true,true",
+                'RFC5424,1,auth,4,crit,2,,,,,,"{""a"":{""b"":""c\\""d""}}","x\ty\r1",,,',
+                "",
+            ],
+        )
+        rows = list(csv.reader(io.StringIO(self.ran("--raw", "--csv", given=b"1 - - - - - -\n")[1], newline="")))
+        self.assertEqual(rows[1][-4:], ["", "1 - - - - - -", "", ""])
+
+    def test_the_header_has_the_documented_keys(self):
+        with open(os.path.join(HERE, "..", "..", "..", "docs", "JSON.md"), encoding="utf-8") as text:
+            table = text.read().partition("\n    key ")[2].partition("\n\n")[0].split("\n")[1:]
+        keys = [key for row in table for key in row[4:].partition("  ")[0].split(", ")]
+        self.assertIn("hostname", keys)
+        header = self.ran("--csv", given=b"")[1].rstrip("\r\n").split(",")
+        self.assertEqual(header, keys)
+        for name in ("first", "machines"):
+            with open(os.path.join(SAMPLES, name + ".log"), "rb") as lines:
+                for line in lines:
+                    try:
+                        made = json.loads(syslog_loose.json(line.rstrip(b"\n"), year=2026, raw=True))
+                    except ParseError:
+                        continue
+                    self.assertLessEqual(set(made), set(header))
+
+    def test_faults(self):
+        for words, said in (
+            (["--year", "2026", "no such file"], "syslog_loose: no such file: No such file or directory\n"),
+            (["--year", "99999"], "syslog_loose: there is no such year, month or offset\n"),
+        ):
+            self.assertEqual(self.ran(*words), (2, "", said))
+        self.assertEqual(self.ran("--year", "2026", given=b"")[:2], (0, ""))
+
+
 class Package(unittest.TestCase):
+    def test_messages_are_pickled(self):
+        for line in (LINE, "<34>Mar  2 06:35:05 h a: x"):
+            self.assertEqual(pickle.loads(pickle.dumps(parse(line, year=2026))), parse(line, year=2026))
+
+    def test_arguments(self):
+        for words in ([], [LINE, LINE], [1], [None]):
+            with self.assertRaises(TypeError):
+                parse(*words, year=2026)
+        for options in ({}, {"month": 1}, {"year": 2026, "raw": True}, {"year": None}):
+            with self.assertRaises(TypeError):
+                parse(LINE, **options)
+        self.assertEqual(str(inspect.signature(parse)), "(line, /, *, year, month=None, offset=0, variant='either')")
+
     def test_version(self):
         with open(os.path.join(HERE, "..", "pyproject.toml"), encoding="utf-8") as project:
             self.assertIn('version = "%s"' % syslog_loose.__version__, project.read())

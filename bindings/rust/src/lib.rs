@@ -1,4 +1,5 @@
-//! Reads, prints and converts syslog messages of RFC 5424 and the looser RFC 3164, over the C library `libsyslog_loose`.
+//! Reads, prints and converts syslog messages of RFC 5424 and the looser RFC 3164, over the C library
+//! `libsyslog_loose`.
 //!
 //! ```
 //! use libsyslog_loose::{parse, Options};
@@ -14,6 +15,7 @@ mod lines;
 mod message;
 mod names;
 mod owned;
+mod parts;
 mod raw;
 mod timestamp;
 
@@ -21,6 +23,7 @@ pub use lines::{lines, LineError, Lines};
 pub use message::{Element, Elements, Message, Param, Params, ProcId, Protocol};
 pub use names::{Facility, NoSuchName, Severity};
 pub use owned::{OwnedElement, OwnedMessage, OwnedParam};
+pub use parts::Parts;
 pub use timestamp::Timestamp;
 
 use std::borrow::Cow;
@@ -29,7 +32,7 @@ use std::fmt;
 use std::str::{from_utf8, FromStr};
 use std::time::SystemTime;
 
-/// By which protocol a line is read.
+/// The protocols by which a line may be read.
 #[derive(Clone, Copy, Debug, Default, PartialEq, Eq, Hash)]
 pub enum Variant {
     /// By either one, RFC 5424 first.
@@ -58,12 +61,12 @@ impl FromStr for Variant {
 /// How a line is read. The default is either protocol, in UTC, in the month of the year that it is.
 #[derive(Clone, Copy, Debug, PartialEq, Eq, Hash)]
 pub struct Options {
-    /// By which protocol.
+    /// The protocols by which the line is read.
     pub variant: Variant,
     /// The year of dates that show none, from -9999 to 9999.
     pub year: i32,
-    /// Without it all such dates are of that year. With it, it is this month of that year, from 1 to 12: in January a date
-    /// of December is of the year before.
+    /// Without it all such dates are of that year. With it, it is this month of that year, from 1 to 12: in January a
+    /// date of December is of the year before.
     pub month: Option<u8>,
     /// By how many seconds dates that show no offset are ahead of UTC, from -93599 to 93599.
     pub offset: i32,
@@ -101,7 +104,7 @@ impl Default for Options {
     }
 }
 
-/// Why there is no answer.
+/// Why a call returns nothing.
 #[derive(Clone, Copy, Debug, PartialEq, Eq)]
 #[non_exhaustive]
 pub enum Error {
@@ -109,7 +112,7 @@ pub enum Error {
     NoMessage,
     /// The line is no UTF-8.
     NotUtf8,
-    /// A request for memory was refused.
+    /// An allocation failed.
     NoMemory,
     /// The year, the month or the offset is out of its range.
     BadArgument,
@@ -134,7 +137,7 @@ impl fmt::Display for Error {
         match self {
             Error::NoMessage => f.write_str("the line is no message"),
             Error::NotUtf8 => f.write_str("the line is no UTF-8"),
-            Error::NoMemory => f.write_str("a request for memory was refused"),
+            Error::NoMemory => f.write_str("an allocation failed"),
             Error::BadArgument => f.write_str("there is no such year, month or offset"),
             Error::Unknown(outcome) => write!(f, "the library returned {outcome}"),
         }
@@ -143,16 +146,21 @@ impl fmt::Display for Error {
 
 impl std::error::Error for Error {}
 
-// Where the library puts the elements of a line. Most lines have no more, and so need no memory but for what the message
-// keeps of them. (It is set once for each thread: for each line that would take as long as to read it.)
+// Where the library puts what it reads of a line. Few lines have more elements, so no memory is needed but for what is
+// made of them. (It is set once for each thread: for each line that would take as long as to read it.)
 struct Rooms {
+    message: raw::Message,
     elements: [raw::Element; 8],
     params: [raw::Param; 32],
 }
 
+impl Rooms {
+    const EMPTY: Rooms =
+        Rooms { message: raw::Message::NONE, elements: [raw::Element::NONE; 8], params: [raw::Param::NONE; 32] };
+}
+
 thread_local! {
-    static ROOMS: RefCell<Rooms> =
-        const { RefCell::new(Rooms { elements: [raw::Element::NONE; 8], params: [raw::Param::NONE; 32] }) };
+    static ROOMS: RefCell<Rooms> = const { RefCell::new(Rooms::EMPTY) };
 }
 
 /// The message of a line, whose texts are pieces of it.
@@ -162,18 +170,34 @@ pub fn parse<'a, T: AsRef<[u8]> + ?Sized>(line: &'a T, options: &Options) -> Res
 
 /// The message of a line, as [`parse`] has it, which doesn't check anew that it is UTF-8.
 pub fn parse_text<'a>(line: &'a str, options: &Options) -> Result<Message<'a>, Error> {
-    ROOMS.with(|rooms| parse_in(line, options, &mut rooms.borrow_mut()))
+    parse_into(line, options, |parts| Message::of(&parts))
 }
 
-fn parse_in<'a>(line: &'a str, options: &Options, rooms: &mut Rooms) -> Result<Message<'a>, Error> {
-    let mut message = raw::Message::NONE;
-    match read(line, options, &mut message, &mut rooms.elements, &mut rooms.params) {
-        raw::DONE => Ok(Message::of(line, &message, &rooms.elements, &rooms.params)),
+/// What `make` makes of a line: an object of the caller's own, without a [`Message`] between. No memory is taken but by
+/// `make`, and for a line of more than 8 elements or 32 parameters.
+pub fn parse_into<'a, R>(line: &'a str, options: &Options, make: impl FnOnce(Parts<'a, '_>) -> R) -> Result<R, Error> {
+    ROOMS.with(|rooms| match rooms.try_borrow_mut() {
+        Ok(mut rooms) => parse_in(line, options, &mut rooms, make),
+        // (`make` of another line parses this one)
+        Err(_) => parse_in(line, options, &mut Box::new(Rooms::EMPTY), make),
+    })
+}
+
+fn parse_in<'a, R>(
+    line: &'a str,
+    options: &Options,
+    rooms: &mut Rooms,
+    make: impl FnOnce(Parts<'a, '_>) -> R,
+) -> Result<R, Error> {
+    match read(line, options, &mut rooms.message, &mut rooms.elements, &mut rooms.params) {
+        // SAFETY: the library has read these of the line, and all of them fitted.
+        raw::DONE => Ok(make(unsafe { Parts::of(line, &rooms.message, &rooms.elements, &rooms.params) })),
         raw::NO_ROOM => {
-            let mut elements = vec![raw::Element::NONE; message.elements];
-            let mut params = vec![raw::Param::NONE; message.params];
-            match read(line, options, &mut message, &mut elements, &mut params) {
-                raw::DONE => Ok(Message::of(line, &message, &elements, &params)),
+            let mut elements = vec![raw::Element::NONE; rooms.message.elements];
+            let mut params = vec![raw::Param::NONE; rooms.message.params];
+            match read(line, options, &mut rooms.message, &mut elements, &mut params) {
+                // SAFETY: as above.
+                raw::DONE => Ok(make(unsafe { Parts::of(line, &rooms.message, &elements, &params) })),
                 outcome => Err(Error::of(outcome)),
             }
         }
@@ -189,7 +213,8 @@ pub fn parse_fields<'a, T: AsRef<[u8]> + ?Sized>(line: &'a T, options: &Options)
     match unsafe { raw::syslog_read_fields(line.as_ptr(), line.len(), &options, &mut message) } {
         raw::DONE => {
             (message.elements, message.params) = (0, 0);
-            Ok(Message::of(line, &message, &[], &[]))
+            // SAFETY: the library has read these of the line.
+            Ok(Message::of(&unsafe { Parts::of(line, &message, &[], &[]) }))
         }
         outcome => Err(Error::of(outcome)),
     }

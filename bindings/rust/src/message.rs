@@ -1,27 +1,27 @@
-use crate::{raw, unescape, Facility, OwnedMessage, Severity, Timestamp};
+use crate::{unescape, Facility, OwnedMessage, Parts, Severity, Timestamp};
 use std::borrow::Cow;
 use std::{fmt, iter, slice};
 
 /// A message. Its texts are pieces of the line.
 #[derive(Clone, Debug, PartialEq, Eq, Hash)]
 pub struct Message<'a> {
-    /// By which protocol the line was read.
+    /// The protocol by which the line was read.
     pub protocol: Protocol,
-    /// Which part of a system it comes from.
+    /// The facility: which part of a system the message comes from.
     pub facility: Option<Facility>,
-    /// How severe it is.
+    /// The severity: how urgent the message is.
     pub severity: Option<Severity>,
-    /// When it was written.
+    /// When the message was written, as the line shows it.
     pub timestamp: Option<Timestamp>,
-    /// The host that it comes from.
+    /// The host that the message comes from.
     pub hostname: Option<&'a str>,
-    /// The program.
+    /// The program that wrote the message.
     pub appname: Option<&'a str>,
-    /// The process.
+    /// The process id of that program: a number, or any other text.
     pub procid: Option<ProcId<&'a str>>,
-    /// The kind of message.
+    /// The id that its sender gives to messages of one kind. Only RFC 5424 has it.
     pub msgid: Option<&'a str>,
-    /// The rest.
+    /// The text of the message: what follows the header and the structured data.
     pub message: &'a str,
     // the id of each element, and how many parameters it has
     elements: Vec<(&'a str, usize)>,
@@ -67,7 +67,7 @@ impl<S: fmt::Display> fmt::Display for ProcId<S> {
 /// An element of structured data.
 #[derive(Clone, Copy, Debug, PartialEq, Eq, Hash)]
 pub struct Element<'m, 'a> {
-    /// Its id.
+    /// The id of the element.
     pub id: &'a str,
     params: &'m [Param<'a>],
 }
@@ -75,9 +75,9 @@ pub struct Element<'m, 'a> {
 /// A parameter of an element.
 #[derive(Clone, Copy, Debug, PartialEq, Eq, Hash)]
 pub struct Param<'a> {
-    /// Its name.
+    /// The name of the parameter.
     pub name: &'a str,
-    /// Its value as in the line, with its escapes.
+    /// The value of the parameter as in the line, with its escapes.
     pub raw: &'a str,
 }
 
@@ -89,7 +89,7 @@ impl<'a> Param<'a> {
 }
 
 impl<'m, 'a> Element<'m, 'a> {
-    /// Its parameters, in order.
+    /// The parameters of the element, in order.
     pub fn params(&self) -> Params<'m, 'a> {
         self.params.iter().copied()
     }
@@ -133,31 +133,19 @@ impl<'a> Message<'a> {
         OwnedMessage::from(self)
     }
 
-    pub(crate) fn of(
-        line: &'a str,
-        told: &raw::Message,
-        elements: &[raw::Element],
-        params: &[raw::Param],
-    ) -> Message<'a> {
-        let process = &told.process;
+    pub(crate) fn of(parts: &Parts<'a, '_>) -> Message<'a> {
         Message {
-            protocol: if told.protocol == 5424 { Protocol::Rfc5424(told.version) } else { Protocol::Rfc3164 },
-            facility: numbered(told.facility),
-            severity: numbered(told.severity),
-            timestamp: Timestamp::of(&told.timestamp),
-            hostname: optional(line, &told.host),
-            appname: optional(line, &told.app),
-            procid: match process.is_number {
-                1 => Some(ProcId::Number(process.number)),
-                _ => optional(line, &process.name).map(ProcId::Name),
-            },
-            msgid: optional(line, &told.msgid),
-            message: piece(line, &told.msg),
-            elements: elements[..told.elements].iter().map(|it| (piece(line, &it.id), it.params)).collect(),
-            params: params[..told.params]
-                .iter()
-                .map(|it| Param { name: piece(line, &it.name), raw: piece(line, &it.value) })
-                .collect(),
+            protocol: parts.protocol(),
+            facility: parts.facility(),
+            severity: parts.severity(),
+            timestamp: parts.timestamp(),
+            hostname: parts.hostname(),
+            appname: parts.appname(),
+            procid: parts.procid(),
+            msgid: parts.msgid(),
+            message: parts.message(),
+            elements: parts.elements().map(|(id, params)| (id, params.len())).collect(),
+            params: parts.params().collect(),
         }
     }
 }
@@ -226,19 +214,4 @@ pub(crate) fn write_message<'s, P: Iterator<Item = (&'s str, &'s str)>>(
         _ => f.write_str(" ")?,
     }
     f.write_str(message)
-}
-
-/// What has this number; -1 is that of an absent one.
-fn numbered<T: TryFrom<u8>>(number: i32) -> Option<T> {
-    T::try_from(u8::try_from(number).ok()?).ok()
-}
-
-/// The piece of the line that the text is.
-fn piece<'a>(line: &'a str, text: &raw::Text) -> &'a str {
-    let begin = text.start as usize - line.as_ptr() as usize;
-    &line[begin..begin + text.length]
-}
-
-fn optional<'a>(line: &'a str, text: &raw::Text) -> Option<&'a str> {
-    (text.present == 1).then(|| piece(line, text))
 }

@@ -7,25 +7,25 @@ use std::fmt;
 #[derive(Clone, Debug, PartialEq, Eq, Hash)]
 #[cfg_attr(feature = "serde", derive(serde::Serialize, serde::Deserialize))]
 pub struct OwnedMessage {
-    /// By which protocol the line was read.
+    /// The protocol by which the line was read.
     pub protocol: Protocol,
-    /// Which part of a system it comes from.
+    /// The facility: which part of a system the message comes from.
     pub facility: Option<Facility>,
-    /// How severe it is.
+    /// The severity: how urgent the message is.
     pub severity: Option<Severity>,
-    /// When it was written.
+    /// When the message was written, as the line shows it.
     pub timestamp: Option<Timestamp>,
-    /// The host that it comes from.
+    /// The host that the message comes from.
     pub hostname: Option<String>,
-    /// The program.
+    /// The program that wrote the message.
     pub appname: Option<String>,
-    /// The process.
+    /// The process id of that program: a number, or any other text.
     pub procid: Option<ProcId<String>>,
-    /// The kind of message.
+    /// The id that its sender gives to messages of one kind. Only RFC 5424 has it.
     pub msgid: Option<String>,
-    /// The structured data.
+    /// The elements of structured data, in order.
     pub structured_data: Vec<OwnedElement>,
-    /// The rest.
+    /// The text of the message: what follows the header and the structured data.
     pub message: String,
 }
 
@@ -33,9 +33,9 @@ pub struct OwnedMessage {
 #[derive(Clone, Debug, PartialEq, Eq, Hash)]
 #[cfg_attr(feature = "serde", derive(serde::Serialize, serde::Deserialize))]
 pub struct OwnedElement {
-    /// Its id.
+    /// The id of the element.
     pub id: String,
-    /// Its parameters, in order.
+    /// The parameters of the element, in order.
     pub params: Vec<OwnedParam>,
 }
 
@@ -43,9 +43,9 @@ pub struct OwnedElement {
 #[derive(Clone, Debug, PartialEq, Eq, Hash)]
 #[cfg_attr(feature = "serde", derive(serde::Serialize, serde::Deserialize))]
 pub struct OwnedParam {
-    /// Its name.
+    /// The name of the parameter.
     pub name: String,
-    /// Its value as in the line, with its escapes.
+    /// The value of the parameter as in the line, with its escapes.
     pub raw: String,
 }
 

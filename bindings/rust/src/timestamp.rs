@@ -7,8 +7,8 @@ const DAY: i64 = 86_400;
 
 /// An instant, and the offset of the clock that showed it. They are ordered by the instant, and then by the offset.
 ///
-/// It is displayed as what that clock showed, in RFC 3339: with 0, 3, 6 or 9 decimals as it needs, or with as many as the
-/// format asks for (`{:.0}`: none). `{:#}` displays it in UTC, which ends in `Z`.
+/// It is displayed as what that clock showed, in RFC 3339: with 0, 3, 6 or 9 decimals as it needs, or with as many as
+/// the format asks for (`{:.0}`: none). `{:#}` displays it in UTC, which ends in `Z`.
 #[derive(Clone, Copy, Debug, PartialEq, Eq, PartialOrd, Ord, Hash)]
 #[cfg_attr(feature = "serde", derive(serde::Serialize, serde::Deserialize))]
 pub struct Timestamp {

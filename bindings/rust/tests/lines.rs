@@ -1,5 +1,7 @@
 //! The crate over the library that it is linked with.
-use libsyslog_loose::{is_canonical, json, lines, normalise, parse, parse_fields, settle, to_rfc5424, version};
+use libsyslog_loose::{
+    is_canonical, json, lines, normalise, parse, parse_fields, parse_into, settle, to_rfc5424, version,
+};
 use libsyslog_loose::{Error, Facility, LineError, Message, NoSuchName, Options, OwnedMessage, Param};
 use libsyslog_loose::{ProcId, Protocol, Severity, Timestamp, Variant};
 use std::borrow::Cow;
@@ -40,6 +42,24 @@ fn elements_and_parameters() {
     assert_eq!(params, [Param { name: "b", raw: "c" }, Param { name: "d", raw: r#"\"\]"# }]);
     assert!(matches!(params[0].value(), Cow::Borrowed("c")));
     assert_eq!(params[1].value(), "\"]");
+}
+
+#[test]
+fn an_object_of_ones_own() {
+    // (the closure parses another line, and that line's closure a third, with more elements than there is room for)
+    let many = format!("1 - - - - - {}", "[a b=\"c\"]".repeat(40));
+    let made = parse_into(LINE, &IN_2026, |parts| {
+        let inner = parse_into(DECEMBER, &IN_2026, |inner| {
+            (parse(&many, &IN_2026).unwrap().elements().len(), inner.hostname())
+        });
+        let elements: Vec<_> = parts.elements().map(|(id, params)| (id, params.collect())).collect();
+        (parts.hostname(), parts.procid(), elements, parts.message(), inner)
+    });
+    let params = vec![Param { name: "b", raw: "c" }, Param { name: "d", raw: r#"\"\]"# }];
+    let elements = vec![("a", params), ("e", vec![])];
+    let inner = Ok((40, Some("h")));
+    assert_eq!(made, Ok((Some("mymachine"), Some(ProcId::Number(7)), elements, "größe", inner)));
+    assert_eq!(parse_into("gobbledegook", &IN_2026, |_| ()), Err(Error::NoMessage));
 }
 
 #[test]

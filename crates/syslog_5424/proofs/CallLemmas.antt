@@ -5,7 +5,7 @@ use Rattle.syslog_pieces.specs.Pieces.Class.{Text}
 use Rattle.jiff.specs.Words.{plain_zone}
 use Rattle.syslog_loose.specs.Reading.{InYear, IncompleteDate, IsUnreadable}
 use Rattle.syslog_loose.proofs.ReckoningLemmas.{one_dating}
-use Rattle.syslog_loose.specs.Reckoning.{dating_in, reckoned_year}
+use Rattle.syslog_loose.specs.Reckoning.{dating_in}
 use Rattle.syslog_loose.specs.declared.fault.ParseFault.{ParseFault}
 use Rattle.syslog_loose.specs.declared.fault.ParseFault.TheVariants.{Invalid}
 use Rattle.syslog_loose.specs.declared.variant.Variant.TheVariants.{Either}
@@ -13,16 +13,16 @@ use Rattle.syslog_loose.proofs.ReadingLemmas.{in_year_map, in_year_told, invalid
 use Rattle.syslog_strict.specs.Call.{Converts, Copies, IsConvertedText, NoSyslogMsg}
 use Rattle.syslog_strict.specs.Grammar.{IsSyslogMsg}
 use Rattle.syslog_5424.specs.Conversions.{IsRefused, IsWritten}
-use Rattle.syslog_command_line.specs.Dates.{IsDated}
-use Rattle.syslog_command_line.specs.declared.dates.Dates.{Dates}
+use Rattle.syslog_loose.specs.Dates.{IsDated, year_in}
+use Rattle.syslog_loose.specs.declared.dates.Dates.{Dates}
 
 -- the text of a conversion is in the grammar
-strict_dated : (dates : Dates) (input text : Text) → IsDated dates input (λ dating. IsConvertedText Either dating input text)
+strict_dated : (dates : Dates) (input text : Text) → IsDated dates Either input (λ dating. IsConvertedText Either dating input text)
     → IsSyslogMsg text
 strict_dated dates input text h = (h.holds h.answered (λ date asks. refl)).strict
 
 -- no year decides whether the text is in the grammar
-not_strict : (dates : Dates) (input : Text) → IsDated dates input (λ dating. NoSyslogMsg input) → NoSyslogMsg input
+not_strict : (dates : Dates) (input : Text) → IsDated dates Either input (λ dating. NoSyslogMsg input) → NoSyslogMsg input
 not_strict dates input h = h.holds h.answered (λ date asks. refl)
 
 -- a text that is written is not refused
@@ -31,11 +31,11 @@ pub written_not_refused : (dates : Dates) (input text : Text) → IsWritten date
 written_not_refused dates input text (inl (valid, same)) refused = refused.0 valid
 written_not_refused dates input text (inr (other, converted)) refused =
     let (dating, is, none) =
-    one_dating {Holds = λ d. IsConvertedText Either d input text} {More = λ d. IsUnreadable Either d input} dates.year
-    dates.month (plain_zone dates.zone) Either input converted refused.1 in none is.message is.read.read
+    one_dating {Holds = λ d. IsConvertedText Either d input text} {More = λ d. IsUnreadable Either d input} dates Either
+    input converted refused.1 in none is.message is.read.read
 
 pub told : (dates : Dates) (input text : Text) (r : Result (Unit {0}) ParseFault)
-    → Copies input r text ⊎ IsDated dates input (λ dating. Converts Either dating input r text)
+    → Copies input r text ⊎ IsDated dates Either input (λ dating. Converts Either dating input r text)
     → MatchResult r (λ _. IsSyslogMsg text × IsWritten dates input text)
     (λ fault. (fault ≡ Invalid) ↔ IsRefused dates input)
 told dates input text (Ok x) (inl (valid, e)) = (rw e valid, inl (valid, e))
@@ -51,12 +51,12 @@ told dates input text (Err fault) (inr h) = (
   λ refused.
       let (dating, is, none) =
       one_dating {Holds = λ d. Converts Either d input (Err fault) text} {More = λ d. IsUnreadable Either d input}
-      dates.year dates.month (plain_zone dates.zone) Either input h refused.1 in is.1.1 none,
+      dates Either input h refused.1 in is.1.1 none,
 )
 
 pub told_copied : (post : IncompleteDate → ℤ → Type 0) (dates : Dates) (input text : Text) (r : Result (Unit {0}) ParseFault)
     → Copies input r text ⊎ InYear post Either input (λ year. Converts Either (dating_in (plain_zone dates.zone) year) input r text)
-    → ((date : IncompleteDate) (year : ℤ) → post date year → year ≡ reckoned_year dates.year dates.month date)
-    → Copies input r text ⊎ IsDated dates input (λ dating. Converts Either dating input r text)
+    → ((date : IncompleteDate) (year : ℤ) → post date year → year ≡ year_in dates date)
+    → Copies input r text ⊎ IsDated dates Either input (λ dating. Converts Either dating input r text)
 told_copied post dates input text r (inl copied) tells = inl copied
 told_copied post dates input text r (inr h) tells = inr (in_year_told h tells)

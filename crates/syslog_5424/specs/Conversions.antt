@@ -2,10 +2,10 @@
 use Rattle.std.specs.Prelude.{◌≡◌, ◌⊎◌, ℕ, List, Option, length, count_by, IsUtf8, encode_utf8_all}
 use Rattle.std.specs.Str.{chars}
 use Rattle.syslog_pieces.specs.Pieces.Class.{Text}
+use Rattle.syslog_loose.specs.Dates.{IsDated}
 use Rattle.syslog_loose.specs.Reading.{IsUnreadable}
+use Rattle.syslog_loose.specs.declared.dates.Dates.{Dates}
 use Rattle.syslog_loose.specs.declared.variant.Variant.TheVariants.{Either}
-use Rattle.syslog_command_line.specs.Dates.{IsDated}
-use Rattle.syslog_command_line.specs.declared.dates.Dates.{Dates}
 use Rattle.syslog_lines.specs.Count.{held_count}
 use Rattle.syslog_lines.specs.Output.{Answer, Filter, Written, Marked, Omitted, is_skipped}
 use Rattle.syslog_lines.specs.Pump.{FiltersAll}
@@ -16,11 +16,11 @@ use Rattle.syslog_strict.specs.Grammar.{IsSyslogMsg}
 -- the text that is written for a text: itself, where it is in the grammar, and otherwise its conversion
 abbrev pub IsWritten : Dates → Text → Text → Type 0
 IsWritten dates input text = (IsSyslogMsg input × (text ≡ input))
-    ⊎ (NoSyslogMsg input × IsDated dates input (λ dating. IsConvertedText Either dating input text))
+    ⊎ (NoSyslogMsg input × IsDated dates Either input (λ dating. IsConvertedText Either dating input text))
 
 -- the text is neither in the grammar nor does it parse
 abbrev pub IsRefused : Dates → Text → Type 0
-IsRefused dates input = NoSyslogMsg input × IsDated dates input (λ dating. IsUnreadable Either dating input)
+IsRefused dates input = NoSyslogMsg input × IsDated dates Either input (λ dating. IsUnreadable Either dating input)
 
 -- the answer to a line: that text, encoded, or nothing where the line does not parse or is no UTF-8
 abbrev pub IsConversion : Dates → List ℕ → Answer → Type 0

@@ -1,8 +1,7 @@
 //! The filter that writes each line as RFC 5424.
 ghost use Rattle.std.specs.Prelude.{◌≡◌, ◌↔◌, false, IfErr, IfOk, MatchResult};
 ghost use Rattle.std.specs.Str.{chars};
-ghost use Rattle.jiff.specs.Words.{IsYear};
-ghost use Rattle.syslog_loose.specs.Reckoning.{reckoned_year};
+ghost use Rattle.syslog_loose.specs.Dates.{year_in};
 ghost use Rattle.syslog_loose.specs.declared.fault.ParseFault.TheVariants.{Invalid};
 ghost use Rattle.syslog_lines.specs.Pump.{EndsEarly, FailedAs};
 ghost use Rattle.syslog_strict.specs.Grammar.{IsSyslogMsg};
@@ -11,10 +10,9 @@ ghost use Rattle.syslog_5424.specs.Conversions.{ConvertsAll, IsRefused, IsWritte
 
 use std::alloc::{AllocError, Global};
 use std::io::{Read, Write};
-use syslog_command_line::Dates;
 use syslog_lines::pump::pump;
 use syslog_lines::{LineFilter, RunFault, Summary, Watched, push_line};
-use syslog_loose::{IncompleteDate, ParseFault, Variant, reckon_year};
+use syslog_loose::{Dates, IncompleteDate, ParseFault, Variant};
 use syslog_strict::to_rfc5424_into;
 
 /// Reads lines to the end of the input, and writes each as RFC 5424, read by the dates: a line that is in the grammar
@@ -64,11 +62,10 @@ impl Conversions {
             (λ _. IsSyslogMsg (text_in text.new) × IsWritten self.now.dates (chars line.now) (text_in text.new))
             (λ fault. (fault ≡ Invalid) ↔ IsRefused self.now.dates (chars line.now)) }
     {
-        let year = self.dates.year;
-        let month = self.dates.month;
-        let get_year = move |date: IncompleteDate| -> i32
-            ensures { IsYear year → result ≡ reckoned_year year month date }
-        { reckon_year(year, month, date) };
+        let dates = &self.dates;
+        let get_year = |date: IncompleteDate| -> i32
+            ensures { result ≡ year_in dates.entry.now date }
+        { dates.year_of(date) };
         to_rfc5424_into(
             alloc,
             text,
@@ -76,7 +73,7 @@ impl Conversions {
             get_year,
             None,
             Variant::Either,
-            &self.dates.zone,
+            &dates.zone,
         )
     }
 }

@@ -11,9 +11,9 @@ use filter::write_converted;
 use report::{HELP, USAGE};
 use std::process::ExitCode;
 use syslog_command_line::report::{report, say, say_version};
-use syslog_command_line::{Dates, Task, Wrong, program_words, read_task, refuse_words};
+use syslog_command_line::{Task, Wrong, program_words, read_task, refuse_words};
 use syslog_lines::Watched;
-use syslog_loose::VERSION;
+use syslog_loose::{Dates, VERSION};
 
 // Writes the lines of standard input as RFC 5424, and then returns the exit status.
 fn filter_input(rt: &HostRuntime, dates: Dates) -> u8 {

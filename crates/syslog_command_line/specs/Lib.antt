@@ -1,4 +1,3 @@
 pub mod Arguments
 pub mod Words
 pub mod Report
-pub mod Dates

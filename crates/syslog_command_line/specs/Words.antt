@@ -5,8 +5,8 @@ use Rattle.std.specs.Prelude.{String, ⊤, codes, map, string_bytes}
 use Rattle.std.specs.List.{Contains}
 use Rattle.jiff.specs.Words.{plain_zone}
 use Rattle.syslog_loose.specs.Reckoning.{IsZoneAt}
+use Rattle.syslog_loose.specs.declared.dates.Dates.{Dates}
 use Rattle.syslog_command_line.specs.Arguments.{NamesDate, NamesOffset, end_word, help_word, version_word}
-use Rattle.syslog_command_line.specs.declared.dates.Dates.{Dates}
 use Rattle.syslog_command_line.specs.declared.words.Task.{Task}
 use Rattle.syslog_command_line.specs.declared.words.Task.TheVariants.{Help, Version, Lines}
 use Rattle.syslog_command_line.specs.declared.words.Wrong.{Wrong}

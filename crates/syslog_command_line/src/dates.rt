@@ -1,43 +1,8 @@
-//! How dates that show no year or no zone are taken, and the words that say it.
+//! The words that say how dates that show no year or no zone are taken.
 ghost use Rattle.std.specs.Prelude.{◌≡◌, ◌∷◌, ◌<◌, ◌≤◌, [], MatchOption, Option, ℕ, ℤ};
-ghost use Rattle.jiff.specs.Words.{IsYear};
 ghost use Rattle.syslog_command_line.specs.Arguments.{NamesDate, NamesOffset, two_digits};
 
 use crate::args::read_year;
-use syslog_loose::{TimeZone, zone_ahead};
-
-/// How dates that show no year or no zone are taken.
-#[derive(Drop)]
-pub struct Dates {
-    /// The year of dates that show none, from -9999 to 9999.
-    pub year: i32,
-    /// The month that it is now, from 1 to 12: in January a date of December is of the year before. If it is absent,
-    /// each date is of `year`.
-    pub month: Option<u32>,
-    /// The zone of dates that show none.
-    pub zone: TimeZone<'static>,
-    pub ghost year_in_range: { IsYear year },
-}
-
-impl Dates {
-    ghost use Rattle.std.specs.Prelude.{◌≡◌};
-    ghost use Rattle.jiff.specs.Words.{IsOffsetSeconds, IsYear, plain_zone};
-    ghost use Rattle.syslog_loose.specs.Reckoning.{IsZoneAt};
-
-    /// Returns the dates of a year, and of a month if it is known, in the zone that is so many seconds ahead of UTC.
-    pub fn new(year: i32, month: Option<u32>, offset: i32) -> Dates
-        requires year { IsYear year }
-        requires offset { IsOffsetSeconds offset }
-        ensures year { result.year ≡ year }
-        ensures month { result.month ≡ month }
-        ensures zone { IsZoneAt offset (plain_zone result.zone) }
-    {
-        let Some(zone) = zone_ahead(offset) else {
-            unreachable!()
-        };
-        Dates { year, month, zone }
-    }
-}
 
 /// Returns the year, from 0 to 9999, and the month, from 1 to 12 if there is one, that a text of the form `YEAR` or
 /// `YEAR-MONTH` names; none for any other text.

@@ -12,5 +12,5 @@ pub mod report;
 mod words;
 
 pub use args::{is_alone, read_year, read_year_words};
-pub use dates::{Dates, read_date, read_offset};
+pub use dates::{read_date, read_offset};
 pub use words::{Task, Wrong, program_words, read_task, refuse_words};

@@ -9,12 +9,13 @@ ghost use Rattle.syslog_command_line.specs.Words.{offset_word, raw_flag, raw_wor
 ghost use Rattle.syslog_command_line.specs.declared.words.Task.{Task};
 ghost use Rattle.syslog_command_line.specs.declared.words.Wrong.TheVariants.{Unreadable};
 
-use crate::dates::{Dates, read_date, read_offset};
+use crate::dates::{read_date, read_offset};
 use crate::report::refuse;
 use std::alloc::{AllocError, Global};
 use std::env::Args;
 use std::io::Write;
 use std::{env, fs};
+use syslog_loose::Dates;
 
 /// What a program is asked for.
 #[derive(Drop)]

@@ -5,9 +5,15 @@ use Rattle.std.proofs.Common.{◌++◌, ◌∷◌, ℤ, Bool, true, false, None}
 use Rattle.jiff.{specs.Types.TimeZone, specs.Words.plain_zone}
 use Rattle.syslog_pieces.specs.declared.timestamp.month_date.MonthDate.{MonthDate}
 use Rattle.syslog_loose.{proofs.Rfc3164Lemmas.other_read, specs.Message.MessageValue, specs.declared.line.Line.Line}
-use Rattle.syslog_loose.specs.Reading.{AsksYear, IncompleteDate, InYear, IsOnlyRead, IsRead, dash_rule}
-use Rattle.syslog_loose.{proofs.ReckoningLemmas.one_dating, specs.Reckoning.dating_in, specs.Reckoning.reckoned_year}
+use Rattle.syslog_loose.specs.Reading.{IncompleteDate, InYear, IsUnreadable}
+use Rattle.syslog_loose.{proofs.ReckoningLemmas.one_dating, specs.Dates.year_in, specs.Reckoning.dating_in}
 use Rattle.syslog_loose.{specs.Clauses.KnowsForm, specs.Visit.IsLineOf, specs.Visit.Made}
+use Rattle.syslog_loose.specs.declared.visit.Itself.{Itself}
+use Rattle.syslog_pieces.specs.Timestamp.Zone.{Dating}
+use Rattle.syslog_dialects.proofs.SentReadingLemmas.{read_once}
+use Rattle.syslog_dialects.specs.SentReading.{IsReadSent, IsSentAnswer}
+use Rattle.syslog_dialects.specs.declared.visit.SentLine.{SentLine}
+use Rattle.std.specs.Prelude.{IfSome}
 use Rattle.syslog_loose.specs.declared.variant.Variant.TheVariants.{Either}
 use Rattle.syslog_pieces.specs.StructuredData.Visited.{list_elements}
 use Rattle.syslog_lines.specs.Output.{answer_bytes, is_answered}
@@ -18,12 +24,13 @@ use Rattle.syslog_loose.proofs.ReadingLemmas as reading
 
 read_twice : (filter : Objects) (line : List ℕ) (value other : Json) → IsReadJson filter line value
     → IsReadJson filter line other → other ≡ value
-read_twice filter line value other (utf8, (m, read, is)) (also, (n, more, same)) =
+read_twice filter line value other (utf8, (d, m, read, is)) (also, (e, n, more, same)) =
     let (dating, this, that) =
-    one_dating {Holds = λ d. IsOnlyRead Either d (chars line) m} {More = λ d. IsOnlyRead Either d (chars line) n}
-    filter.dates.year filter.dates.month (plain_zone filter.dates.zone) Either (chars line) read more in
-    same ∙ ap (λ (k : MessageValue). message_json k (raw_text filter.raw (chars line))) (this.only n (that.read))
-    ∙ sym is
+    one_dating {Holds = λ it. IsReadSent filter.dates it filter.dialects Either (chars line) d m}
+    {More = λ it. IsReadSent filter.dates it filter.dialects Either (chars line) e n}
+    filter.dates Either (chars line) read more in
+    let once = read_once filter.dates dating filter.dialects Either (chars line) d e m n this that in
+    same ∙ ap (λ (k : MessageValue). message_json k (raw_text filter.raw (chars line))) once.1 ∙ sym is
 
 pub only_read : (filter : Objects) (line : List ℕ) (value : Json) → IsReadJson filter line value
     → IsOnly (IsReadJson filter line) value
@@ -40,46 +47,52 @@ pub only_refused : (filter : Objects) (line : List ℕ) (value : Json) → IsRef
     → IsOnly (IsRefusedJson filter line) value
 only_refused filter line value is = (is, λ other also. other_refused filter line value other is also)
 
--- what is read in one year is read in each, where none is asked for
-any_year : (zone : TimeZone) (text : Text) (year other : Option ℤ) (m : MessageValue)
-    → ((date : MonthDate) → AsksYear Either text date → ⊥) → IsRead Either (dating_in zone year) text m
-    → IsRead Either (dating_in zone other) text m
-any_year zone text year other m never (inl read) = inl read
-any_year zone text year other m never (inr (none, read)) =
-    inr (none, other_read (dating_in zone year) (dating_in zone other) refl refl dash_rule text never m read)
+-- ---- what the port's line and the writer are
 
--- so a visitor was given one line, whatever the year
-pub one_line : {post : IncompleteDate → ℤ → Type 0} {text : Text} {Given : Line → Type 0} (zone : TimeZone)
-    (Makes : Line → Type 0) → InYear post Either text (λ year. (line : Line)
-    × IsLineOf Either (dating_in zone year) text line × Makes line × Given line)
-    → (line : Line) × InYear post Either text (λ year.
-    IsOnlyRead Either (dating_in zone year) text (line_value line)) × Makes line × Given line
-one_line {post = post} {text = text} zone Makes h =
-    let (line, of, makes, given) = h.holds h.answered (λ date asks. refl) in (
-      line,
-      reading.in_answered_year post Either text (λ year. IsOnlyRead Either (dating_in zone year) text (line_value line))
-          h.answered h.is_answered (λ never other r. reading.only_read Either (dating_in zone other) text
-          (line_value line) (any_year zone text None other (line_value line) never r.read)) of.only,
-      makes,
-      given,
-    )
+-- what is made of the port's line, as it is returned itself
+abbrev pub IsMade : TimeZone → Text → ObjectWriter → Option Line → ObjectWriter → Option ℤ → Type 0
+IsMade zone text old found new year =
+    (v : Itself) × (w : Itself) × Made (λ (before : Itself) (line made : Line) (after : Itself). (made ≡ line) × KnowsForm line)
+    (λ (first it : ObjectWriter) es. HasWritten it es) Either (dating_in zone year) text v old found w new
 
--- and the line was returned, and its elements were given to the other visitor
-pub line_read : {post : IncompleteDate → ℤ → Type 0} {V : Type 0} (v w : V) (old new : ObjectWriter) (filter : Objects)
-    (text : Text) (result : Option Line) → InYear post Either text (λ year.
-    Made (λ (before : V) (line made : Line) (after : V). (made ≡ line) × KnowsForm line)
-    (λ (first it : ObjectWriter) es. HasWritten it es)
-    Either (dating_in (plain_zone filter.dates.zone) year) text v old result w new)
-    → ((date : IncompleteDate) (y : ℤ) → post date y → y ≡ reckoned_year filter.dates.year filter.dates.month date)
-    → HasWritten old [] → IsLineRead filter text result new
-line_read v w old new filter text None h tells none = reading.in_year_told (reading.in_year_map (λ year n. n.0) h) tells
-line_read {post = post} v w old new filter text (Some made) h tells none =
-    let zone = plain_zone filter.dates.zone in
-    let (line, dated, same, given) = one_line zone (λ (line : Line). (made ≡ line) × KnowsForm line) h in (
-      reading.in_year_told (subst (λ (l : Line). InYear post Either text (λ year.
-          IsOnlyRead Either (dating_in zone year) text (line_value l))) (sym same.0) dated) tells,
-      subst (λ (l : Line). HasWritten new (list_elements l.list)) (sym same.0) (given old [] none),
-    )
+line_made : (zone : TimeZone) (text : Text) (old new : ObjectWriter) (made : Line) (year : Option ℤ)
+    → IsMade zone text old (Some made) new year → IsLineOf Either (dating_in zone year) text made
+line_made zone text old new made year (v, w, (line, of, same, given)) =
+    subst (IsLineOf Either (dating_in zone year) text) (sym same.0) of
+
+module _ {post : IncompleteDate → ℤ → Type 0} (filter : Objects) (text : Text) (old new : ObjectWriter) where
+  pub made_form : (made : Line) → InYear post Either text (IsMade (plain_zone filter.dates.zone) text old (Some made) new) → KnowsForm made
+  made_form made h = let (v, w, (line, of, same, given)) = h.holds h.answered (λ date asks. refl) in
+      subst KnowsForm (sym same.0) same.1
+
+  -- the line that was made of the port's was returned, and the writer was given its elements
+  pub line_read : (made : Line) → InYear post Either text (IsMade (plain_zone filter.dates.zone) text old (Some made) new)
+      → ((date : IncompleteDate) (y : ℤ) → post date y → y ≡ year_in filter.dates date) → HasWritten old []
+      → (it : SentLine) → ((dating : Dating) → IsLineOf Either dating text made
+      → IsReadSent filter.dates dating filter.dialects Either text it.dialect (line_value it.line))
+      → list_elements it.line.list ≡ list_elements made.list → IsLineRead filter text (Some it) new
+  line_read made h tells empty it reads elements = (
+    reading.in_year_told (reading.in_year_map (λ year is.
+        reads (dating_in (plain_zone filter.dates.zone) year) (line_made (plain_zone filter.dates.zone) text old new made year is)) h) tells,
+    let (v, w, (line, of, same, given)) = h.holds h.answered (λ date asks. refl) in
+        subst (HasWritten new) (ap (λ (l : Line). list_elements l.list) (sym same.0) ∙ sym elements) (given old [] empty),
+  )
+
+  none_written : InYear post Either text (IsMade (plain_zone filter.dates.zone) text old None new) → HasWritten old [] → HasWritten new []
+  none_written h empty = let (v, w, none) = h.holds h.answered (λ date asks. refl) in none.2 old [] empty
+
+  -- or one that the port does not read
+  pub line_unread : InYear post Either text (IsMade (plain_zone filter.dates.zone) text old None new)
+      → ((date : IncompleteDate) (y : ℤ) → post date y → y ≡ year_in filter.dates date) → HasWritten old []
+      → (result : Option SentLine) → ((dating : Dating) → IsUnreadable Either dating text
+      → IsSentAnswer filter.dates dating filter.dialects Either text result)
+      → IfSome result (λ it. list_elements it.line.list ≡ []) → IsLineRead filter text result new
+  line_unread h tells empty None reads elements =
+      reading.in_year_told (reading.in_year_map (λ year is. reads (dating_in (plain_zone filter.dates.zone) year) is.2.0) h) tells
+  line_unread h tells empty (Some it) reads elements = (
+    reading.in_year_told (reading.in_year_map (λ year is. reads (dating_in (plain_zone filter.dates.zone) year) is.2.0) h) tells,
+    subst (HasWritten new) (sym elements) (none_written h empty),
+  )
 
 -- either answer's bytes, and what it counts as
 pub answered : (is_message : Bool) (bytes : List ℕ) → (answer_bytes (answer_of is_message bytes) ≡ bytes ++ 10 ∷ [])

@@ -5,15 +5,16 @@ use Rattle.std.specs.Str.{chars}
 use Rattle.std.specs.Str.Lossy.{utf8_lossy}
 use Rattle.syslog_pieces.specs.Pieces.Class.{Text}
 use Rattle.syslog_pieces.specs.StructuredData.Visited.{list_elements}
+use Rattle.syslog_loose.specs.Dates.{IsDated}
 use Rattle.syslog_loose.specs.Line.{line_value}
 use Rattle.syslog_loose.specs.Message.{MessageValue}
-use Rattle.syslog_loose.specs.Reading.{IsOnlyRead, IsUnreadable}
-use Rattle.syslog_loose.specs.declared.line.Line.{Line}
 use Rattle.syslog_loose.specs.declared.variant.Variant.TheVariants.{Either}
+use Rattle.syslog_dialects.specs.SentReading.{IsReadSent, IsUnsent}
+use Rattle.syslog_dialects.specs.declared.dialect.Dialect.{Dialect}
+use Rattle.syslog_dialects.specs.declared.visit.SentLine.{SentLine}
 use Rattle.json.specs.Json.{Json}
 use Rattle.serde_json.specs.Data.{Data}
 use Rattle.serde_json.specs.Read.{of_json, read}
-use Rattle.syslog_command_line.specs.Dates.{IsDated}
 use Rattle.syslog_lines.specs.Count.{held_count}
 use Rattle.syslog_lines.specs.Output.{Answer, Filter, Written, Marked, Omitted, is_skipped}
 use Rattle.syslog_lines.specs.Pump.{FiltersAll}
@@ -31,15 +32,16 @@ raw_text false text = None
 
 -- the value of the message as which the line is read
 abbrev pub IsReadJson : Objects → List ℕ → Json → Type 0
-IsReadJson filter line value = IsUtf8 line × ((m : MessageValue)
-    × IsDated filter.dates (chars line) (λ dating. IsOnlyRead Either dating (chars line) m)
+IsReadJson filter line value = IsUtf8 line × ((dialect : Option Dialect) × (m : MessageValue)
+    × IsDated filter.dates Either (chars line)
+    (λ dating. IsReadSent filter.dates dating filter.dialects Either (chars line) dialect m)
     × (value ≡ message_json m (raw_text filter.raw (chars line))))
 
 -- the value of a line that is no message; of one that is no UTF-8, what is none of it is replaced
 abbrev pub IsRefusedJson : Objects → List ℕ → Json → Type 0
 IsRefusedJson filter line value =
-    (IsUtf8 line × IsDated filter.dates (chars line) (λ dating. IsUnreadable Either dating (chars line))
-    × (value ≡ refused_json line))
+    (IsUtf8 line × IsDated filter.dates Either (chars line)
+    (λ dating. IsUnsent filter.dates dating filter.dialects Either (chars line)) × (value ≡ refused_json line))
     ⊎ ((¬ (IsUtf8 line)) × (value ≡ invalid_json (utf8_lossy line)))
 
 -- the value is such, and there is no other
@@ -72,11 +74,12 @@ WritesObjects filter in_before in_after out_before out_after summary = (answers 
     × (summary.lines ≡ held_count (length all.lines)) × (summary.refused ≡ held_count (count_by is_skipped answers))
 
 -- the line as which the text is read was returned, and the writer was given its elements; or the text is no message
-abbrev pub IsLineRead : Objects → Text → Option Line → ObjectWriter → Type 0
+abbrev pub IsLineRead : Objects → Text → Option SentLine → ObjectWriter → Type 0
 IsLineRead filter text result writer = MatchOption result
-    (IsDated filter.dates text (λ dating. IsUnreadable Either dating text))
-    (λ line. IsDated filter.dates text (λ dating. IsOnlyRead Either dating text (line_value line))
-    × HasWritten writer (list_elements line.list))
+    (IsDated filter.dates Either text (λ dating. IsUnsent filter.dates dating filter.dialects Either text))
+    (λ it. IsDated filter.dates Either text
+    (λ dating. IsReadSent filter.dates dating filter.dialects Either text it.dialect (line_value it.line))
+    × HasWritten writer (list_elements it.line.list))
 
 -- the answer of an object that was written, as what the line counts
 abbrev pub answer_of : Bool → List ℕ → Answer

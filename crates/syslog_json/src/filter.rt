@@ -1,8 +1,7 @@
 //! The filter that writes each line as JSON.
 ghost use Rattle.std.specs.Prelude.{◌≡◌, ◌++◌, [], List, ℕ, false, IfErr, IfOk, OnErr};
 ghost use Rattle.std.specs.Str.{chars};
-ghost use Rattle.jiff.specs.Words.{IsYear};
-ghost use Rattle.syslog_loose.specs.Reckoning.{reckoned_year};
+ghost use Rattle.syslog_loose.specs.Dates.{year_in};
 ghost use Rattle.syslog_lines.specs.Pump.{EndsEarly, FailedAs};
 ghost use Rattle.syslog_object.specs.Object.{refused_json};
 ghost use Rattle.syslog_object.specs.Writer.{HasWritten};
@@ -12,14 +11,14 @@ ghost use Rattle.syslog_json.specs.Objects.{IsLineRead, IsObject, WritesObjects,
 use std::alloc::{AllocError, Global};
 use std::io::{Read, Write};
 use std::mem;
-use syslog_command_line::Dates;
+use syslog_dialects::{SentLine, sent_line, unread_line};
 use syslog_lines::pump::pump;
 use syslog_lines::{LineFilter, RunFault, Summary, Watched, push_line};
-use syslog_loose::{IncompleteDate, Itself, Line, Variant, reckon_year, visit_line};
+use syslog_loose::{Dates, IncompleteDate, Itself, Variant, visit_line};
 use syslog_object::{ObjectWriter, invalid_object, refused_object};
 
 /// Reads lines to the end of the input, and writes each as one JSON object on one line: that of its message, read by
-/// the dates, or one that has the line and `"refused":true`. No line is lost, and no object has a byte below 32.
+/// the dates and in its dialect, or one that has the line and `"refused":true`. No line is lost, and no object has a byte below 32.
 ///
 /// The output of each block of input is written before more is read, and the writer is flushed at the end. Nothing is
 /// tried again. After `RunFault::Read` the output of each complete line that was read was written. After
@@ -55,6 +54,8 @@ pub fn write_objects<R: Read, W: Write>(
 pub struct Objects {
     /// Whether the object of a message has the line as it came, too.
     pub raw: bool,
+    /// Whether a line is read in a dialect that it is in.
+    pub dialects: bool,
     /// How dates that show no year or no zone are taken.
     pub dates: Dates,
 }
@@ -62,24 +63,26 @@ pub struct Objects {
 impl Objects {
     // Reads the line, gives the writer its elements, and returns the line, where it is a message.
     #[inline(always)]
-    fn read<'a>(&self, line: &'a str, writer: &mut ObjectWriter<'a>) -> Option<Line<'a>>
+    fn read<'a>(&self, line: &'a str, writer: &mut ObjectWriter<'a>) -> Option<SentLine<'a>>
         requires { HasWritten writer.old [] }
         ensures { IsLineRead self.now (chars line.now) result writer.new }
     {
-        let year = self.dates.year;
-        let month = self.dates.month;
-        let get_year = move |date: IncompleteDate| -> i32
-            ensures { IsYear year → result ≡ reckoned_year year month date }
-        { reckon_year(year, month, date) };
-        visit_line(
+        let dates = &self.dates;
+        let get_year = |date: IncompleteDate| -> i32
+            ensures { result ≡ year_in dates.entry.now date }
+        { dates.year_of(date) };
+        match visit_line(
             line,
             get_year,
             None,
             Variant::Either,
-            &self.dates.zone,
+            &dates.zone,
             writer,
             &mut Itself,
-        )
+        ) {
+            Some(found) => Some(sent_line(&found, line, dates, Variant::Either, self.dialects)),
+            None => unread_line(line, dates, Variant::Either, self.dialects),
+        }
     }
 
     // Adds the object of the line, or nothing where memory is refused. Returns the memory that was used, and whether
@@ -100,7 +103,7 @@ impl Objects {
         let raw = self.raw.then_some(line);
         match self.read(line, &mut writer) {
             Some(found) => {
-                writer.write(&found, raw, output)?;
+                writer.write(&found.line, raw, output)?;
                 Ok((writer.into_memory(), true))
             }
             None => Ok((write_refused(writer.into_memory(), line, output)?, false)),

@@ -16,7 +16,7 @@ use std::process::ExitCode;
 use syslog_command_line::report::{report, say, say_version};
 use syslog_command_line::{Task, Wrong, program_words, read_task, refuse_words};
 use syslog_lines::Watched;
-use syslog_loose::VERSION;
+use syslog_loose::{Dates, VERSION};
 
 // Writes the lines of standard input as JSON, and then returns the exit status.
 fn filter_input(rt: &HostRuntime, filter: Objects) -> u8 {
@@ -26,6 +26,15 @@ fn filter_input(rt: &HostRuntime, filter: Objects) -> u8 {
     report(&outcome, &mut rt.stderr())
 }
 
+// The filter that was asked for: each line is read in the dialect that it is in.
+fn objects_of(raw: bool, dates: Dates) -> Objects {
+    Objects {
+        raw,
+        dialects: true,
+        dates,
+    }
+}
+
 // Does what is asked for, and then returns the exit status.
 fn run_task(rt: &HostRuntime, task: Result<Task, Wrong<'_>>) -> u8 {
     let mut out = Watched::new(rt.stdout());
@@ -33,7 +42,7 @@ fn run_task(rt: &HostRuntime, task: Result<Task, Wrong<'_>>) -> u8 {
     match task {
         Ok(Task::Help) => say(HELP, &mut out, &mut errors),
         Ok(Task::Version) => say_version("syslog_json", VERSION, &mut out, &mut errors),
-        Ok(Task::Lines { raw, dates }) => filter_input(rt, Objects { raw, dates }),
+        Ok(Task::Lines { raw, dates }) => filter_input(rt, objects_of(raw, dates)),
         Err(wrong) => refuse_words(rt, USAGE, wrong, &mut errors),
     }
 }

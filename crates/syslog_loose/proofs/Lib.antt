@@ -10,3 +10,4 @@ pub mod ReckoningLemmas
 pub mod Rfc3164Lemmas
 pub mod Rfc5424Lemmas
 pub mod SettlingLemmas
+pub mod UnparsedLemmas

@@ -1,10 +1,12 @@
 -- A text has one dating.
 use Rattle.syslog_loose.proofs.Names.{◌≡◌, ◌∙◌, ℕ, ℤ, Option, Some, None, ap, refl, sym, Text, Dating, MonthDate}
 use Rattle.syslog_loose.proofs.Names.{AsksYear, IncompleteDate, IsYearAnswered, incomplete, Variant, Either, RFC5424}
-use Rattle.jiff.specs.Types.{TimeZone}
+use Rattle.jiff.specs.Words.{plain_zone}
 use Rattle.syslog_pieces.proofs.TimestampLemmas.MonthDate.{shown_once}
 use Rattle.syslog_loose.specs.declared.variant.Variant.TheVariants.{RFC3164}
-use Rattle.syslog_loose.specs.Reckoning.{InDating, dating_in, reckoned_year}
+use Rattle.syslog_loose.specs.Dates.{IsDated, year_in}
+use Rattle.syslog_loose.specs.Reckoning.{dating_in}
+use Rattle.syslog_loose.specs.declared.dates.Dates.{Dates}
 
 asked_once : (variant : Variant) (text : Text) (d e : MonthDate) → AsksYear variant text d → AsksYear variant text e
     → d ≡ e
@@ -21,12 +23,10 @@ answered_once answer variant text (Some y) (Some z) (d, shown, is) (e, also, sam
     ap Some (is ∙ ap (λ (m : MonthDate). answer (incomplete m)) (asked_once variant text d e shown also) ∙ sym same)
 
 -- what holds of the dating, and what else does, holds of one
-pub one_dating : {Holds More : Dating → Type 0} (year : ℤ) (month : Option ℕ) (zone : TimeZone) (variant : Variant)
-    (text : Text) → InDating year month zone variant text Holds → InDating year month zone variant text More
-    → (dating : Dating) × Holds dating × More dating
-one_dating year month zone variant text g h = (
-  dating_in zone g.answered,
+pub one_dating : {Holds More : Dating → Type 0} (dates : Dates) (variant : Variant) (text : Text)
+    → IsDated dates variant text Holds → IsDated dates variant text More → (dating : Dating) × Holds dating × More dating
+one_dating dates variant text g h = (
+  dating_in (plain_zone dates.zone) g.answered,
   g.holds g.answered (λ date asks. refl),
-  h.holds g.answered (answered_once (reckoned_year year month) variant text g.answered h.answered
-      g.is_answered h.is_answered),
+  h.holds g.answered (answered_once (year_in dates) variant text g.answered h.answered g.is_answered h.is_answered),
 )

@@ -6,7 +6,7 @@ use Rattle.syslog_loose.proofs.Names.{flat_map, Text, Values, Front, NoFront, ru
 use Rattle.syslog_loose.proofs.Names.{is_blank, AreInPieces, text_list, process_texts, header_stamp, element_texts, ◌≤◌}
 use Rattle.syslog_loose.proofs.Names.{priority, Quoted, row_quotes, silent, rest_quotes, host_quotes, priority_det, ◌<◌}
 use Rattle.syslog_loose.proofs.Names.{host_det, MessageValue, message_texts, header_row, data_row, front_row, names_row}
-use Rattle.syslog_loose.proofs.Names.{rfc5424_row, message_of, IsRead5424, List, IfSome, is_ascii_digit, decimal, Class}
+use Rattle.syslog_loose.proofs.Names.{rest, rfc5424_row, message_of, IsRead5424, List, IfSome, is_ascii_digit, decimal, Class}
 use Rattle.syslog_loose.proofs.Names.{is_not_whitespace, Ends, Format, process_word, process_text, host, word, ◌^◌, ◌+◌}
 use Rattle.syslog_loose.proofs.Names.{name_text, IsCanonicalWord, IsCanonicalStamp, timestamp_text, ◌*◌, ◌++◌, ◌then◌}
 use Rattle.syslog_loose.proofs.Names.{Option, Some, None, IsSome, refl, arith, row_cons, row_head, rows_join, row_of}
@@ -30,7 +30,10 @@ use Rattle.syslog_pieces.specs.ProcId.{IsCanonicalProcess, IsBoundedProcess}
 use Rattle.syslog_pieces.specs.Text.Canonical.{IsCanonicalHost, IsVisible}
 use Rattle.syslog_pieces.specs.Pieces.Format.{IsSound, RowReadsBack}
 use Rattle.syslog_pieces.specs.StructuredData.{forgiving, item}
+use Rattle.syslog_pieces.specs.StructuredData.Unparsed.{leaving}
+use Rattle.syslog_pieces.proofs.StructuredDataLemmas.Unparsed.{leaving_back}
 use Rattle.syslog_loose.specs.Canonical.{IsCanonical5424}
+use Rattle.syslog_loose.specs.Unparsed.{Leaves5424, leaving_row}
 use Rattle.syslog_loose.specs.Printed.{printed_5424}
 use Rattle.syslog_loose.specs.declared.message.Protocol.TheVariants.{RFC5424}
 use Rattle.syslog_loose.proofs.PrintedLemmas.{parts_back, severity_beside, priority_front, priority_trimmed}
@@ -47,6 +50,10 @@ pub names_det : AllDeterministic names_row
 names_det =
     some_run_det is_blank also host_det also some_run_det is_blank also word_det also some_run_det is_blank
     also process_word_det also some_run_det is_blank also word_det also tt
+
+-- the structured data as what is left unparsed of it, and the message part
+abbrev pub tail_row : List Class
+tail_row = run is_blank ∷ leaving ∷ run is_blank ∷ rest ∷ []
 
 pub header_det : AllDeterministic header_row
 header_det = all_joined front_row names_row front_det names_det
@@ -216,6 +223,25 @@ module _ (version : ℕ) (m : MessageValue) (bounded : version ≤ 4294967295) (
       (optional_some priority (priority_front (priority_of m) _ (priority_low m)))
       (rows_join (classes fields) data_row header body)))
 
+  -- and nothing of its structured data is left unparsed
+  leaves_nothing : Leaves5424 (printed_5424 version m) []
+  leaves_nothing =
+      let es = m.structured_data in
+      let end : Text = message_end m.msg in
+      let is = forgiving_back es end p.elements (no_item_end m.msg) in
+      let body = row_of tail_row (piece_front (run is_blank) (32 ∷ []) _ tt ((refl, tt), elements_unblank es end)
+      then piece_front leaving (elements_text es) end [] (leaving_back es end p.elements is)
+      then message_blanks m.msg p.msg_front then rest_front m.msg then refl) in
+      let header = row_back fields fields_sound (values_of version m) _ (fields_back (elements_text es ++ end)) in
+      record {
+        values = (Some (priority_of m), both_values (classes fields) tail_row (values_of version m) (tt, ([], (tt, (m.msg, tt)))));
+        division = front_division leaving_row (rw (trimmed_5424 version m p.msg_end)
+            (row_cons (optional priority) (classes fields ++ tail_row)
+            (optional_some priority (priority_front (priority_of m) _ (priority_low m)))
+            (rows_join (classes fields) tail_row header body)));
+        means = refl;
+      }
+
 -- ---- messages
 
 pub printed_is : (version : ℕ) (m : MessageValue) → m.protocol ≡ RFC5424 version → printed m ≡ printed_5424 version m
@@ -233,6 +259,14 @@ canonical_read rule version m e b c =
       division = line_divided version m (omega arith) b c.0 own;
       means = λ i. record m { protocol = e i; facility = parts.0 i; severity = parts.1 i };
     })
+
+pub canonical_leaves : (rule : DashRule) (version : ℕ) (m : MessageValue) → m.protocol ≡ RFC5424 version → IsBounded m
+    → IsCanonical rule m → Leaves5424 (printed m) []
+canonical_leaves rule version m e b c =
+    let own : IsCanonical5424 m = subst (λ (x : Protocol). IsCanonicalFor rule x m) e c.1 in
+    let bounded : version < 2 ^ 32 = subst IsBoundedProtocol e b.protocol in
+    subst (λ (x : Text). Leaves5424 x []) (sym (printed_is version m e))
+    (leaves_nothing version m (omega arith) b c.0 own)
 
 -- ---- what is read
 

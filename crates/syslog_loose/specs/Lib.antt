@@ -1,6 +1,7 @@
 pub mod Bodies
 pub mod Canonical
 pub mod DashChange
+pub mod Dates
 pub mod Equal
 pub mod EqualLaws
 pub mod Line
@@ -17,6 +18,7 @@ pub mod Rfc3164
 pub mod Rfc5424
 pub mod Settling
 pub mod TagForm
+pub mod Unparsed
 pub mod Visit
 pub mod Words
 pub mod Clauses

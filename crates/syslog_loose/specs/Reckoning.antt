@@ -1,9 +1,8 @@
 -- The year and the zone of dates that show none: this project's own choice.
 use Rattle.std.specs.Prelude.{◌≡◌, if◌then◌else◌, ◌-ℤ◌, pos}
-use Rattle.syslog_loose.specs.Words.{ℕ, ℤ, nat_eq, Option, Some, None, Text, Dating, Offset, TimeZone}
+use Rattle.syslog_loose.specs.Words.{ℕ, ℤ, nat_eq, Option, Some, None, Dating, Offset, TimeZone}
 use Rattle.jiff.specs.Placed.{fixed_zone}
-use Rattle.syslog_loose.specs.Reading.{IncompleteDate, InYear}
-use Rattle.syslog_loose.specs.declared.variant.Variant.{Variant}
+use Rattle.syslog_loose.specs.Reading.{IncompleteDate}
 
 -- the year of a date of December: in January, if the month is known, the one before
 abbrev pub december_year : ℤ → Option ℕ → ℤ
@@ -21,10 +20,3 @@ IsZoneAt seconds zone = (offset : Offset) × (offset.seconds ≡ seconds) × (zo
 -- dates without a year are of this one, and those without an offset in this zone
 abbrev pub dating_in : TimeZone → Option ℤ → Dating
 dating_in zone year = record { year = year; zone = None; local = zone }
-
--- This holds of the dating of the text: a date without an offset is in the zone, and one without a year is of the year
--- that is reckoned.
-abbrev pub InDating : ℤ → Option ℕ → TimeZone → Variant → Text → (Dating → Type 0) → Type 0
-InDating year month zone variant text Holds =
-    InYear (λ date answered. answered ≡ reckoned_year year month date) variant text
-    (λ answered. Holds (dating_in zone answered))

@@ -13,6 +13,7 @@
 #![tactic(auto)]
 
 mod dash_change;
+mod dates;
 mod fault;
 mod jumps;
 pub mod laws;
@@ -29,6 +30,7 @@ mod variant;
 mod visit;
 
 pub use dash_change::reads_differently;
+pub use dates::Dates;
 pub use fault::ParseFault;
 pub use jiff::Timestamp;
 pub use jiff::tz::{Offset, TimeZone};

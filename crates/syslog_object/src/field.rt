@@ -2,8 +2,9 @@
 ghost use Rattle.std.specs.Prelude.{◌≡◌, ◌++◌, ◌≤◌, OnOk, Some, codes};
 ghost use Rattle.std.specs.Fmt.{signed_decimal};
 ghost use Rattle.std.specs.Option.{option_map};
-ghost use Rattle.syslog_pieces.specs.Pieces.View.{seen, shown};
-ghost use Rattle.syslog_pieces.specs.ProcId.{procid_text, procid_value};
+ghost use Rattle.std.specs.Str.{chars};
+ghost use Rattle.syslog_pieces.specs.Pieces.View.{seen};
+ghost use Rattle.syslog_pieces.specs.ProcId.{named_process, procid_text};
 ghost use Rattle.syslog_pieces.specs.Timestamp.{stamp_seen};
 ghost use Rattle.syslog_loose.specs.Line.{protocol_of};
 ghost use Rattle.syslog_object.specs.Object.{timestamp_json};
@@ -14,6 +15,7 @@ use crate::output::Output;
 use std::alloc::AllocError;
 use syslog_loose::{ClockStamp, ProcId, SyslogFacility, SyslogSeverity};
 use syslog_pieces::front::Ascii;
+use syslog_pieces::procid::is_bare_word;
 
 /// Appends the brace, the protocol, and the version of RFC 5424.
 #[tactic(auto, unfolding(json::specs::Print::escape_byte))]
@@ -143,24 +145,44 @@ pub(crate) fn push_timestamp(
     }
 }
 
-/// Appends the process id as a text, a number in decimal, where there is one.
+/// Appends the process id that a text names, as a text, a number in decimal; nothing if it is absent.
 #[inline(always)]
-pub(crate) fn push_process(
-    out: &mut Output,
-    process: Option<ProcId<&str>>,
-) -> Result<(), AllocError>
+pub(crate) fn push_process(out: &mut Output, process: Option<&str>) -> Result<(), AllocError>
     ensures { OnOk result (out.new ≡ out.old ++ text_field (codes ",\"procid\":\"")
-        (option_map procid_text (option_map (procid_value (λ s. shown s)) process.entry))) }
+        (option_map procid_text (option_map named_process (seen process.entry)))) }
 {
     match process {
-        Some(ProcId::PID(number)) => push_process_number(out, number),
-        Some(ProcId::Name(name)) => out.push_text(b",\"procid\":\"", name, b"\""),
+        Some(word) => push_process_text(out, word),
         None => Ok(()),
     }
 }
 
-// Appends a process id that is a number.
+// Appends the process id that this text names: the text itself if it is printed as it is, so that few numbers are
+// computed and printed again.
 #[inline(always)]
+fn push_process_text(out: &mut Output, word: &str) -> Result<(), AllocError>
+    ensures { OnOk result (out.new ≡ out.old ++ text_field (codes ",\"procid\":\"")
+        (Some (procid_text (named_process (chars word.now))))) }
+{
+    if is_bare_word(word) {
+        return out.push_text(b",\"procid\":\"", word, b"\"");
+    }
+    push_named(out, word)
+}
+
+// Appends the process id that any text names, by a call.
+#[inline(never)]
+fn push_named(out: &mut Output, word: &str) -> Result<(), AllocError>
+    ensures { OnOk result (out.new ≡ out.old ++ text_field (codes ",\"procid\":\"")
+        (Some (procid_text (named_process (chars word.now))))) }
+{
+    match ProcId::from(word) {
+        ProcId::PID(number) => push_process_number(out, number),
+        ProcId::Name(name) => out.push_text(b",\"procid\":\"", name, b"\""),
+    }
+}
+
+// Appends a process id that is a number.
 fn push_process_number(out: &mut Output, number: i32) -> Result<(), AllocError>
     ensures { OnOk result (out.new
         ≡ out.old ++ text_field (codes ",\"procid\":\"") (Some (signed_decimal number))) }

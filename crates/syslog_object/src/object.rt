@@ -45,7 +45,7 @@ pub(crate) fn push_front(out: &mut Output, line: &Line<'_>) -> Result<(), AllocE
     push_timestamp(out, line.timestamp)?;
     push_field(out, b",\"hostname\":\"", line.hostname)?;
     push_field(out, b",\"appname\":\"", line.appname)?;
-    push_process(out, line.process())?;
+    push_process(out, line.process)?;
     push_field(out, b",\"msgid\":\"", line.msgid)
 }
 

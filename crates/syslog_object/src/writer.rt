@@ -96,7 +96,7 @@ impl<'a> ObjectWriter<'a> {
     /// refused, or was for an element. It is for one line.
     ///
     /// Memory is asked for more of its own and of `output`. It is also asked for as by `line_object`, where an id or a
-    /// name comes again, or there are more than eight elements or an element has more than eight parameters.
+    /// name comes again, or there are more than eight elements or an element has more than sixteen parameters.
     pub fn write(
         &mut self,
         line: &Line<'_>,

@@ -87,7 +87,8 @@ pub use Rattle.syslog_pieces.specs.declared.procid.ProcId.{ProcId}
 pub use Rattle.syslog_pieces.specs.declared.procid.ProcId.TheVariants.{PID, Name}
 pub use Rattle.syslog_pieces.specs.declared.structured_data.rfc3164_list.DashRule.{DashRule}
 pub use Rattle.syslog_pieces.specs.declared.text.CharClass.{CharClass}
-pub use Rattle.syslog_pieces.specs.Bodies.Clock.{unsigned_date_time, fields_of_rfc3339, IsStampOfClock, fields_text}
+pub use Rattle.syslog_pieces.specs.Bodies.Clock.{unsigned_date_time, fields_of_rfc3339, fields_text}
+pub use Rattle.syslog_pieces.specs.Timestamp.Fields.{IsStampOfClock}
 pub use Rattle.syslog_pieces.specs.Bodies.Clock.{zone_of}
 pub use Rattle.syslog_pieces.specs.Bodies.MonthReading.{day_row, year_row}
 pub use Rattle.syslog_pieces.specs.Pri.{priority, priority_row}

@@ -2,4 +2,5 @@
 pub mod Closing
 pub mod Elements
 pub mod Units
+pub mod Unparsed
 pub mod Walk

@@ -9,6 +9,7 @@ pub mod Rfc3164List
 pub mod Params
 pub mod Canonical
 pub mod Collected
+pub mod Unparsed
 pub mod Visited
 use Rattle.std.specs.Prelude.{◌≡◌, ◌≢◌, ◌<◌, ◌⊎◌, List, [], ◌∷◌, ◌++◌, filter_map, length, Option, Some, None}
 use Rattle.std.specs.List.{flat_map, AllByRecursion}

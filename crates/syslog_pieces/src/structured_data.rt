@@ -18,6 +18,7 @@ mod recognise;
 mod recognised;
 mod recognised_items;
 pub mod rfc3164_list;
+mod unparsed;
 mod visit;
 mod walk;
 

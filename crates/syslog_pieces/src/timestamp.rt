@@ -28,7 +28,8 @@ pub mod zone;
 
 use crate::text::literal;
 pub use clock::ClockStamp;
-pub use instant::stamp_of;
+pub use fields::CivilFields;
+pub use instant::{clock_stamp, stamp_of};
 use jiff::Timestamp;
 use jiff::tz::Offset;
 pub use month_date::MonthDate;

@@ -1,6 +1,6 @@
 -- What was converted is converted to the same text again; its text is in the grammar, and is read back.
 use Rattle.syslog_strict.proofs.Words.{◌≡◌, ◌≢◌, ◌⊎◌, inl, inr, ℕ, ℤ, ◌<◌, ◌+ℤ◌, Bool, true, false, List, [], ◌∷◌, ◌++◌}
-use Rattle.syslog_strict.proofs.Words.{length, map, nat_eq, Option, Some, None, refl, sym, ap, ap₂, ◌∙◌, arith}
+use Rattle.syslog_strict.proofs.Words.{length, map, nat_eq, Option, Some, None, refl, sym, subst, ap, ap₂, ◌∙◌, arith}
 use Rattle.syslog_strict.proofs.Words.{append-nil, ◌%◌, unsigned_abs, IfSome, cases_Bool, nat_tests}
 use Rattle.syslog_strict.proofs.Words.{AllByRecursion, option_and_then, option_map, decimal, signed_arith}
 use Rattle.syslog_strict.proofs.Words.{int_rem_euclid-parts, Text, Ends, text_eq, NamesProcess, named_process}
@@ -37,6 +37,7 @@ use Rattle.syslog_loose.specs.declared.fault.ParseFault.TheVariants.{Invalid}
 use Rattle.syslog_loose.specs.declared.fault.ParseFault.TheVariants.{Memory}
 use Rattle.syslog_loose.proofs.ReadBackLemmas.{read_as, read_bounded, printed_exact}
 use Rattle.syslog_loose.proofs.{PrintedLemmas.priority_small, Rfc5424Lemmas.read_completed}
+use Rattle.std.specs.Char.{is_not_whitespace}
 use Rattle.syslog_loose.proofs.Rfc3164Lemmas.Near.{read_near}
 use Rattle.syslog_loose.specs.Reading.{IsOnlyRead, IsRead, IsUnreadable, dash_rule}
 use Rattle.syslog_strict.proofs.NameLaws.{converted_are, converted_distinct, elements_is}
@@ -45,6 +46,11 @@ use Rattle.syslog_strict.proofs.NameLaws.{colonless_passes, lone_other, lone_pas
 use Rattle.syslog_strict.proofs.NameLaws.{elements_is}
 use Rattle.syslog_strict.proofs.TextLemmas.{cleaned_passes, cleaned_same, cleaned_short, colonless_same, text_eq_true}
 use Rattle.syslog_strict.proofs.StampLemmas.{by_choice, stamp_back, stamp_is}
+use Rattle.syslog_pieces.proofs.StructuredDataLemmas.Unparsed.{EndsIn, IsBracketed}
+use Rattle.syslog_loose.specs.Unparsed.{Leaves}
+use Rattle.syslog_loose.proofs.UnparsedLemmas.{leaves_same, leaves_shape}
+use Rattle.syslog_loose.proofs.Rfc5424Lemmas.{canonical_leaves}
+use Rattle.syslog_strict.specs.Conversion.{spaced_before, whole}
 use Rattle.syslog_strict.proofs.NameLaws as names
 
 -- ---- what was converted is converted to the same text again
@@ -258,8 +264,11 @@ pub text_stays : (variant : Variant) (dating receiver : Dating) (input text agai
     → (IsSyslogMsg text × (again ≡ text)) ⊎ IsConvertedText Either receiver text again → again ≡ text
 text_stays variant dating receiver input text again first (inl (valid, e)) = e
 text_stays variant dating receiver input text again first (inr second) =
-    let same = second.read.only (converted first.message) (first.again receiver) in
-    second.prints ∙ ap (λ (x : MessageValue). printed (converted x)) (sym same) ∙ printed_again first.message ∙ sym first.prints
+    let m = whole first.message first.unparsed in
+    let same = second.read.only (converted m) (first.again receiver) in
+    let none = leaves_same Either text second.unparsed [] second.leaves first.parsed in
+    second.prints ∙ ap (λ (x : Text). printed (converted (whole second.message x))) none
+    ∙ ap (λ (x : MessageValue). printed (converted x)) (sym same) ∙ printed_again m ∙ sym first.prints
 
 -- ---- in the grammar
 
@@ -297,6 +306,19 @@ converted_strict m b =
 
 -- ---- read back
 
+-- a text without its first character
+abbrev tail_of : Text → Text
+tail_of [] = []
+tail_of (c ∷ t) = t
+
+no_lone : (p : Text) (c : ℕ) (t : Text) → p ++ (c ∷ t) ≡ [] → ⊥
+no_lone [] c t e = cc
+no_lone (d ∷ p) c t e = cc
+
+one_visible : EndsVisibly (93 ∷ [])
+one_visible [] c e = let same : 93 ≡ c = cc in subst (λ (x : ℕ). is_not_whitespace x ≡ true) same refl
+one_visible (d ∷ front) c e = absurd (no_lone front c [] (sym (ap tail_of e)))
+
 -- the message part is that of a message that was read
 pub record HasReadMsg (m : MessageValue) : Type 0 where
   pub front : Ends is_blank m.msg
@@ -311,6 +333,41 @@ read_msg variant dating text m r = elim (read_as variant dating text m r) [
   | inr s ↦ (let near = read_near dash_rule dating text m s in
       record { front = near.msg_front; end = near.msg_end; bounded = read_bounded variant dating text m r })
 ]
+
+-- with what was left unparsed before it, it is such a message part still
+begins_unblank : (u msg : Text) → (r : Text) × (u ≡ 91 ∷ r) → Ends is_blank (spaced_before u msg)
+begins_unblank u msg (r, e) = subst (λ (x : Text). Ends is_blank (spaced_before x msg)) (sym e) refl
+
+ends_more : (p : Text) (c : ℕ) (t : Text) → EndsVisibly (c ∷ t) → EndsVisibly (p ++ (c ∷ t))
+ends_more [] c t h front x e = h front x e
+ends_more (d ∷ p) c t h [] x e = absurd (no_lone p c t (ap tail_of e))
+ends_more (d ∷ p) c t h (y ∷ front) x e = ends_more p c t h front x (ap tail_of e)
+
+bracket_visible : (u : Text) → EndsIn 93 u → EndsVisibly u
+bracket_visible u (s, e) = subst EndsVisibly (sym e) (ends_more s 93 [] one_visible)
+
+ends_visibly : (u msg : Text) → EndsIn 93 u → EndsVisibly msg → EndsVisibly (spaced_before u msg)
+ends_visibly [] msg in_bracket visible = visible
+ends_visibly (c ∷ u) [] in_bracket visible =
+    subst EndsVisibly (sym (append-nil (c ∷ u))) (bracket_visible (c ∷ u) in_bracket)
+ends_visibly (c ∷ u) (d ∷ msg) in_bracket visible = ends_more (c ∷ u) 32 (d ∷ msg) (ends_more (32 ∷ []) d msg visible)
+
+pub whole_msg : (m : MessageValue) (u : Text) → HasReadMsg m → (u ≡ []) ⊎ IsBracketed u → HasReadMsg (whole m u)
+whole_msg m u has (inl e) = subst (λ (x : Text). HasReadMsg (whole m x)) (sym e) (record {
+  front = has.front;
+  end = has.end;
+  bounded = record { protocol = has.bounded.protocol; procid = has.bounded.procid };
+})
+whole_msg m u has (inr b) = record {
+  front = begins_unblank u m.msg b.begins;
+  end = ends_visibly u m.msg b.ends has.end;
+  bounded = record { protocol = has.bounded.protocol; procid = has.bounded.procid };
+}
+
+pub read_whole : (variant : Variant) (dating : Dating) (text : Text) (m : MessageValue) (u : Text)
+    → IsRead variant dating text m → Leaves variant text u → HasReadMsg (whole m u)
+read_whole variant dating text m u r leaves =
+    whole_msg m u (read_msg variant dating text m r) (leaves_shape variant text u leaves)
 
 pub converted_canonical : (m : MessageValue) → HasReadMsg m → IsCanonical dash_rule (converted m)
 converted_canonical m has = (
@@ -338,18 +395,26 @@ pub converted_again : (m : MessageValue) (receiver : Dating) → HasReadMsg m
 converted_again m receiver has =
     (printed_exact receiver (converted m) (converted_bounded m has) Either tt).1 (converted_canonical m has)
 
+pub converted_parsed : (m : MessageValue) → HasReadMsg m → Leaves Either (printed (converted m)) []
+converted_parsed m has =
+    inl (canonical_leaves dash_rule 1 (converted m) refl (converted_bounded m has) (converted_canonical m has))
+
 -- ---- what the call writes
 
-pub text_converts : (variant : Variant) (dating : Dating) (input text : Text) (m : MessageValue)
-    → IsOnlyRead variant dating input m → text ≡ printed (converted m) → IsConvertedText variant dating input text
-text_converts variant dating input text m only e =
-    let has = read_msg variant dating input m only.read in
+pub text_converts : (variant : Variant) (dating : Dating) (input text : Text) (m : MessageValue) (u : Text)
+    → IsOnlyRead variant dating input m → Leaves variant input u → text ≡ printed (converted (whole m u))
+    → IsConvertedText variant dating input text
+text_converts variant dating input text m u only leaves e =
+    let has = read_whole variant dating input m u only.read leaves in
     record {
       message = m;
       read = only;
+      unparsed = u;
+      leaves = leaves;
       prints = e;
-      strict = rw e (converted_strict m has.bounded.procid);
-      again = λ receiver. rw e (converted_again m receiver has);
+      strict = rw e (converted_strict (whole m u) has.bounded.procid);
+      again = λ receiver. rw e (converted_again (whole m u) receiver has);
+      parsed = rw e (converted_parsed (whole m u) has);
     }
 
 pub no_memory : (variant : Variant) (dating : Dating) (input : Text) (m : MessageValue) → IsOnlyRead variant dating input m

@@ -1,25 +1,30 @@
 -- What the call writes for a text.
-use Rattle.std.specs.Prelude.{◌≡◌, ◌↔◌, Result, MatchResult}
+use Rattle.std.specs.Prelude.{◌≡◌, ◌↔◌, [], Result, MatchResult}
 use Rattle.syslog_pieces.specs.Pieces.Class.{Text}
 use Rattle.syslog_pieces.specs.Timestamp.Zone.{Dating}
 use Rattle.syslog_loose.specs.Message.{MessageValue}
 use Rattle.syslog_loose.specs.Printed.{printed}
 use Rattle.syslog_loose.specs.Reading.{IsOnlyRead, IsRead, IsUnreadable}
+use Rattle.syslog_loose.specs.Unparsed.{Leaves}
 use Rattle.syslog_loose.specs.declared.fault.ParseFault.{ParseFault}
 use Rattle.syslog_loose.specs.declared.fault.ParseFault.TheVariants.{Invalid, Memory}
 use Rattle.syslog_loose.specs.declared.variant.Variant.{Variant}
 use Rattle.syslog_loose.specs.declared.variant.Variant.TheVariants.{Either}
-use Rattle.syslog_strict.specs.Conversion.{converted}
+use Rattle.syslog_strict.specs.Conversion.{converted, whole}
 use Rattle.syslog_strict.specs.Grammar.{IsSyslogMsg}
 
--- The text is that of the one message as which the input is read, converted: it is in the grammar, and whoever reads it
--- again, whatever the year and zones, reads the converted message.
+-- The text is that of the one message as which the input is read, with what is left unparsed of its structured data
+-- before the message part, converted. It is in the grammar, and whoever reads it again, whatever the year and zones, reads
+-- the converted message, and leaves nothing unparsed.
 pub record IsConvertedText (variant : Variant) (dating : Dating) (input text : Text) : Type 0 where
   pub message : MessageValue
   pub read : IsOnlyRead variant dating input message
-  pub prints : text ≡ printed (converted message)
+  pub unparsed : Text
+  pub leaves : Leaves variant input unparsed
+  pub prints : text ≡ printed (converted (whole message unparsed))
   pub strict : IsSyslogMsg text
-  pub again : (receiver : Dating) → IsRead Either receiver text (converted message)
+  pub again : (receiver : Dating) → IsRead Either receiver text (converted (whole message unparsed))
+  pub parsed : Leaves Either text []
 
 -- the text is not in the grammar
 abbrev pub NoSyslogMsg : Text → Type 0

@@ -152,6 +152,22 @@ joined_past ids (e ∷ es) = if is_among e.id ids then joined_past ids es
 abbrev pub converted_elements : List ElementValue → List ElementValue
 converted_elements es = joined_past [] (map converted_element es)
 
+-- ---- the message part
+
+-- a space between two texts, where both are there
+abbrev pub gap_between : Text → Text → Text
+gap_between [] u = []
+gap_between (c ∷ t) [] = []
+gap_between (c ∷ t) (d ∷ u) = 32 ∷ []
+
+-- what was left unparsed of the structured data, and then the message part
+abbrev pub spaced_before : Text → Text → Text
+spaced_before unparsed msg = unparsed ++ (gap_between unparsed msg ++ msg)
+
+-- the message with that as its message part
+abbrev pub whole : MessageValue → Text → MessageValue
+whole m unparsed = record m { msg = spaced_before unparsed m.msg }
+
 -- ---- messages
 
 -- The message as RFC 5424 of version 1. Without a priority it has 13, `user` and `notice` (RFC 3164, section 4.3.3); with

@@ -15,7 +15,7 @@ use std::alloc::Global;
 use syslog_loose::{IncompleteDate, ParseFault, TimeZone, Variant, parse_line};
 
 /// Replaces `text` by the input as strict RFC 5424: the input itself if it is in the grammar of section 6, and
-/// otherwise its message, converted.
+/// otherwise its message, converted. What was left unparsed of the structured data comes before the message part.
 ///
 /// `get_year` gives the year of a date that has none: it is called at most once, and only where the text shows such a
 /// date and the variant reads it. `tz` is the zone of a date without an offset, and `local` is taken where that is

@@ -1,9 +1,14 @@
 //! A line as RFC 5424.
-ghost use Rattle.std.specs.Prelude.{◌≡◌, OnOk};
+ghost use Rattle.std.specs.Prelude.{◌≡◌, ◌∷◌, OnOk, ℕ};
+ghost use Rattle.std.specs.Str.{chars};
+ghost use Rattle.syslog_pieces.specs.Pieces.Class.{Text};
+ghost use Rattle.syslog_pieces.specs.Pieces.View.{seen};
+ghost use Rattle.syslog_pieces.specs.StructuredData.Unparsed.{if_any};
 ghost use Rattle.syslog_loose.specs.Line.{line_value};
 ghost use Rattle.syslog_loose.specs.Printed.{printed};
-ghost use Rattle.syslog_strict.specs.Conversion.{converted};
-ghost use Rattle.syslog_strict.specs.Pushing.{text_in};
+ghost use Rattle.syslog_loose.specs.Unparsed.{IsLeftUnparsed};
+ghost use Rattle.syslog_strict.specs.Conversion.{converted, gap_between, spaced_before, whole};
+ghost use Rattle.syslog_strict.specs.Pushing.{Appends, text_in};
 
 use crate::joined::push_list;
 use crate::names::{push_host, push_process, push_word};
@@ -11,9 +16,53 @@ use crate::stamp::push_front;
 use crate::text::{push_char, push_text};
 use std::alloc::{AllocError, Global};
 use syslog_loose::Line;
+use syslog_pieces::text::first;
 
 // What a converted line may have beyond the rest of the line.
 const MORE: usize = 96;
+
+// Appends a space, where both texts are there.
+fn push_gap(out: &mut String, before: &str, after: &str) -> Result<(), AllocError>
+    ensures { OnOk result (Appends out.old (gap_between (chars before.now) (chars after.now)) out.new) }
+{
+    match first(before) {
+        Some(_) => push_space_before(out, after),
+        None => Ok(()),
+    }
+}
+
+// Appends a space, where the text is there.
+fn push_space_before(out: &mut String, after: &str) -> Result<(), AllocError>
+    ensures { (c : ℕ) (t : Text) → OnOk result (Appends out.old (gap_between (c ∷ t) (chars after.now)) out.new) }
+{
+    match first(after) {
+        Some(_) => push_char(out, ' '),
+        None => Ok(()),
+    }
+}
+
+// Appends what was left unparsed of structured data, and then the message part.
+#[cold]
+#[inline(never)]
+fn push_unparsed(out: &mut String, unparsed: &str, msg: &str) -> Result<(), AllocError>
+    ensures { OnOk result (Appends out.old (spaced_before (chars unparsed.now) (chars msg.now)) out.new) }
+{
+    push_text(out, unparsed)?;
+    push_gap(out, unparsed, msg)?;
+    push_text(out, msg)
+}
+
+// Appends what was left unparsed of structured data, where something was, and then the message part.
+#[inline(always)]
+fn push_msg(out: &mut String, unparsed: Option<&str>, msg: &str) -> Result<(), AllocError>
+    ensures { (left : Text) → seen unparsed.entry ≡ if_any left
+        → OnOk result (Appends out.old (spaced_before left (chars msg.now)) out.new) }
+{
+    match unparsed {
+        Some(unparsed) => push_unparsed(out, unparsed, msg),
+        None => push_text(out, msg),
+    }
+}
 
 /// Replaces `text` by the converted message of the line.
 pub(crate) fn write_line(
@@ -21,7 +70,8 @@ pub(crate) fn write_line(
     text: &mut String,
     line: &Line<'_>,
 ) -> Result<(), AllocError>
-    ensures { OnOk result (text_in text.new ≡ printed (converted (line_value line.now))) }
+    ensures { OnOk result ((unparsed : Text) × IsLeftUnparsed line.now unparsed
+        × (text_in text.new ≡ printed (converted (whole (line_value line.now) unparsed)))) }
 {
     text.clear();
     text.reserve(line.rest.len().saturating_add(MORE))?;
@@ -35,7 +85,8 @@ pub(crate) fn write_line(
     push_char(text, ' ')?;
     push_word(text, line.msgid, 32)?;
     push_char(text, ' ')?;
+    let unparsed = line.list.unparsed();
     push_list(alloc, text, line.list)?;
     push_char(text, ' ')?;
-    push_text(text, line.msg)
+    push_msg(text, unparsed, line.msg)
 }

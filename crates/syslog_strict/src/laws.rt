@@ -1,5 +1,5 @@
 //! Laws of the grammar and of the conversion, over their definitions alone.
-ghost use Rattle.std.specs.Prelude.{◌≡◌, ◌⊎◌, IfSome};
+ghost use Rattle.std.specs.Prelude.{◌≡◌, ◌⊎◌, [], IfSome};
 ghost use Rattle.syslog_pieces.specs.Pieces.Class.{Text};
 ghost use Rattle.syslog_pieces.specs.ProcId.{IsBoundedProcess};
 ghost use Rattle.syslog_pieces.specs.StructuredData.Escapes.{IsUnescaped};
@@ -8,10 +8,11 @@ ghost use Rattle.syslog_loose.specs.Canonical.{IsCanonical};
 ghost use Rattle.syslog_loose.specs.Message.{MessageValue};
 ghost use Rattle.syslog_loose.specs.Printed.{printed};
 ghost use Rattle.syslog_loose.specs.Reading.{IsRead, dash_rule};
+ghost use Rattle.syslog_loose.specs.Unparsed.{Leaves};
 ghost use Rattle.syslog_loose.specs.declared.variant.Variant.{Variant};
 ghost use Rattle.syslog_loose.specs.declared.variant.Variant.TheVariants.{Either};
 ghost use Rattle.syslog_strict.specs.Call.{IsConvertedText};
-ghost use Rattle.syslog_strict.specs.Conversion.{converted, converted_value};
+ghost use Rattle.syslog_strict.specs.Conversion.{converted, converted_value, whole};
 ghost use Rattle.syslog_strict.specs.Grammar.{IsSyslogMsg};
 ghost use Rattle.syslog_strict.specs.Value.{meaning};
 
@@ -21,13 +22,18 @@ pub fn converted_text_is_in_the_grammar()
     ensures { (m : MessageValue) → IfSome m.procid IsBoundedProcess → IsSyslogMsg (printed (converted m)) }
 {}
 
-/// The conversion of a message that was read is canonical, so its printed text is read as that message, whatever the
-/// year and zones of the receiver.
+/// The conversion of a message that was read is canonical, with what was left unparsed of its structured data. So its
+/// printed text is read as that message, whatever the year and zones of the receiver, and nothing of it is left unparsed.
 pub fn converted_text_is_read_back()
-    ensures canonical { (variant : Variant) (dating : Dating) (text : Text) (m : MessageValue)
-        → IsRead variant dating text m → IsCanonical dash_rule (converted m) }
-    ensures again { (variant : Variant) (dating receiver : Dating) (text : Text) (m : MessageValue)
-        → IsRead variant dating text m → IsRead Either receiver (printed (converted m)) (converted m) }
+    ensures canonical { (variant : Variant) (dating : Dating) (text : Text) (m : MessageValue) (unparsed : Text)
+        → IsRead variant dating text m → Leaves variant text unparsed
+        → IsCanonical dash_rule (converted (whole m unparsed)) }
+    ensures again { (variant : Variant) (dating receiver : Dating) (text : Text) (m : MessageValue) (unparsed : Text)
+        → IsRead variant dating text m → Leaves variant text unparsed
+        → IsRead Either receiver (printed (converted (whole m unparsed))) (converted (whole m unparsed)) }
+    ensures parsed { (variant : Variant) (dating : Dating) (text : Text) (m : MessageValue) (unparsed : Text)
+        → IsRead variant dating text m → Leaves variant text unparsed
+        → Leaves Either (printed (converted (whole m unparsed))) [] }
 {}
 
 /// What was converted stays: whatever the call may write of a converted text, whatever the year and zones, is that text.

@@ -16,7 +16,7 @@ from __future__ import annotations
 import os
 from datetime import datetime, timedelta, timezone
 from enum import IntEnum
-from typing import TYPE_CHECKING, Any, BinaryIO, Callable, Iterable, Iterator, Literal, Mapping, NamedTuple, Tuple, Union
+from typing import Any, BinaryIO, Callable, Iterable, Iterator, Literal, Mapping, NamedTuple, Optional, Tuple, Union
 
 from . import _native
 
@@ -90,87 +90,34 @@ class ParseError(ValueError):
         return "%s: %.200r" % self.args
 
 
-_VARIANTS = {"either": 0, "3164": 3164, "5424": 5424}
-_NORMALISE, _SETTLE, _TO_RFC5424, _JSON, _RAW_JSON = range(5)
-_made = _native.set_up(
-    ParseError, Element, tuple(Facility), tuple(Severity), lambda ahead: timezone(timedelta(seconds=ahead))
+class Message(NamedTuple):
+    """A message. What it lacks is None."""
+
+    protocol: int  #: 3164 or 5424
+    version: Optional[int]  #: of RFC 5424 alone
+    facility: Optional[Facility]
+    severity: Optional[Severity]
+    timestamp: Optional[datetime]  #: in the zone of the clock that showed it; None too where datetime can't hold it
+    nanosecond: int  #: the part of a second, from 0 to 999,999,999
+    timestamp_text: Optional[str]  #: the printed timestamp, where datetime has no such year or offset
+    shows_year: bool  #: whether the line shows the year
+    shows_offset: bool  #: whether the line shows the offset
+    hostname: Optional[str]
+    appname: Optional[str]
+    procid: Union[int, str, None]
+    msgid: Optional[str]
+    structured_data: Tuple[Element, ...]
+    message: str
+    raw: str  #: the line
+
+
+_native.set_up(
+    ParseError, Message, Element, tuple(Facility), tuple(Severity), lambda ahead: timezone(timedelta(seconds=ahead))
 )
-if TYPE_CHECKING:
-
-    class Message(NamedTuple):
-        """A message. What it lacks is None."""
-
-        protocol: int  #: 3164 or 5424
-        version: int | None  #: of RFC 5424 alone
-        facility: Facility | None
-        severity: Severity | None
-        timestamp: datetime | None  #: in the zone of the clock that showed it; None too where datetime can't hold it
-        nanosecond: int  #: the part of a second, from 0 to 999,999,999
-        timestamp_text: str | None  #: the printed timestamp, where datetime has no such year or offset
-        shows_year: bool  #: whether the line shows the year
-        shows_offset: bool  #: whether the line shows the offset
-        hostname: str | None
-        appname: str | None
-        procid: int | str | None
-        msgid: str | None
-        structured_data: Tuple[Element, ...]
-        message: str
-        raw: str  #: the line
-
-else:
-    Message = _made
-_parse, _write = _native.parse, _native.write
-
-
-def _wrong(variant: str) -> ValueError:
-    if variant in _VARIANTS:
-        return ValueError("there is no such year, month or offset")
-    return ValueError("there is no such variant: %r" % (variant,))
-
-
-def parse(line: Line, *, year: int, month: int | None = None, offset: int = 0, variant: Variant = "either") -> Message:
-    """The message of a line. ParseError where it is none."""
-    try:
-        return _parse(line, _VARIANTS[variant], year, month or 0, offset)
-    except (KeyError, OverflowError):
-        raise _wrong(variant) from None
-
-
-def _written(which: int, line: Line, year: int, month: int | None, offset: int, variant: Variant) -> str:
-    try:
-        return _write(which, line, _VARIANTS[variant], year, month or 0, offset)
-    except (KeyError, OverflowError):
-        raise _wrong(variant) from None
-
-
-def normalise(line: Line, *, year: int, month: int | None = None, offset: int = 0, variant: Variant = "either") -> str:
-    """The line in printed form. ParseError where it is no message."""
-    return _written(_NORMALISE, line, year, month, offset, variant)
-
-
-def settle(line: Line, *, year: int, month: int | None = None, offset: int = 0, variant: Variant = "either") -> str:
-    """The line printed again and again until it no longer changes. ParseError where it, or such a text, is no message."""
-    return _written(_SETTLE, line, year, month, offset, variant)
-
-
-def to_rfc5424(line: Line, *, year: int, month: int | None = None, offset: int = 0, variant: Variant = "either") -> str:
-    """The line as strict RFC 5424: unchanged if it is in the RFC's grammar, and otherwise its message, converted.
-    ParseError where it is neither."""
-    return _written(_TO_RFC5424, line, year, month, offset, variant)
-
-
-def json(
-    line: Line,
-    *,
-    year: int,
-    month: int | None = None,
-    offset: int = 0,
-    variant: Variant = "either",
-    raw: bool = False,
-) -> str:
-    """The message of a line as the text of one JSON object, as syslog_json writes it; with `raw` it has the line too.
-    ParseError where the line is no message."""
-    return _written(_RAW_JSON if raw else _JSON, line, year, month, offset, variant)
+_VARIANTS = {"either": 0, "3164": 3164, "5424": 5424}
+# The calls for one line are the extension's own.
+parse, normalise, settle = _native.parse, _native.normalise, _native.settle
+to_rfc5424, json = _native.to_rfc5424, _native.json
 
 
 def read(
@@ -208,8 +155,8 @@ def read_columns(
 
     buffer: the bytes, which the offsets below are in.
     outcome: 0 of a message, 1 of a line that is none, 2 of one that is no UTF-8. These two have no fields.
-    time: datetime64[ns] in UTC; NaT where the line has none, and outside of the years 1678 to 2261. offset: the seconds by
-    which its clock is ahead. shows_year, shows_offset: whether the line shows them.
+    time: datetime64[ns] in UTC; NaT where the line has none, and outside of the years 1678 to 2261. nanosecond: its part of a
+    second. offset: the seconds by which its clock is ahead. shows_year, shows_offset: whether the line shows them.
     protocol: 3164 or 5424. facility, severity: their numbers, or -1. elements: how many there are.
     process: the number of the process id, 0 where has_number is not 1.
     line_at, host_at, app_at, process_at, msgid_at, message_at: where the text begins, or -1 of an absent one; and line_size,

@@ -1,21 +1,28 @@
 """Writes each line of files, or of standard input, as the JSON object that syslog_json writes of it.
 
-    python3 -m syslog_loose [--year YEAR] [--month MONTH] [--offset OFFSET] [--raw] [FILE..]
+    python3 -m syslog_loose [--year YEAR] [--month MONTH] [--offset OFFSET] [--raw] [--csv] [FILE..]
 
-The status is 1 if lines were refused, and 2 after a fault.
+With --csv it writes a table by RFC 4180: a header, and a record for each line. The status is 1 if lines were refused, and
+2 after a fault.
 """
 
 from __future__ import annotations
 
 import argparse
+import csv
 import datetime
+import io
 import json
 import os
 import re
 import sys
-from typing import Any, BinaryIO
+from typing import Any, BinaryIO, Callable, Mapping
 
 import syslog_loose
+
+# The keys of an object, in its order: docs/JSON.md says what they mean.
+KEYS = ["protocol", "version", "facility", "facility_code", "severity", "severity_code", "timestamp", "hostname", "appname"]
+KEYS += ["procid", "msgid", "structured_data", "message", "raw", "refused", "invalid_utf8"]
 
 
 def offset(text: str) -> int:
@@ -27,25 +34,64 @@ def offset(text: str) -> int:
     return -seconds if found[1] == "-" else seconds
 
 
-def refused_object(line: bytes) -> bytes:
+def json_text(value: object) -> str:
+    return json.dumps(value, ensure_ascii=False, separators=(",", ":"))
+
+
+def refused_object(line: bytes) -> str:
     text = line.decode(errors="replace")
     broken = {"invalid_utf8": True} if text.encode() != line else {}
-    made = json.dumps({"message": text, "refused": True, **broken}, ensure_ascii=False, separators=(",", ":"))
-    return made.encode()
+    return json_text({"message": text, "refused": True, **broken})
 
 
-def write_objects(lines: BinaryIO, out: BinaryIO, options: dict[str, Any]) -> tuple[int, int]:
-    """Writes the object of each line. Returns how many lines there are, and how many of them were refused."""
+def cell(value: object) -> str:
+    """A value of an object as a cell of a table: texts as they are, and all else as JSON has it."""
+    if value is None:
+        return ""
+    return value if isinstance(value, str) else json_text(value)
+
+
+def record(cells: list[str]) -> bytes:
+    """The cells as a record: one that has a comma, a quote or the end of a line is quoted."""
+    made = io.StringIO(newline="")
+    csv.writer(made).writerow(cells)
+    return made.getvalue().encode()
+
+
+def as_object(text: str) -> bytes:
+    return text.encode() + b"\n"
+
+
+def as_record(text: str) -> bytes:
+    made: Mapping[str, object] = json.loads(text)
+    return record([cell(made.get(key)) for key in KEYS])
+
+
+def write_lines(lines: BinaryIO, out: BinaryIO, form: Callable[[str], bytes], options: dict[str, Any]) -> tuple[int, int]:
+    """Writes each line in this form. Returns how many lines there are, and how many of them were refused."""
     count = refused = 0
     for line in lines:
         count += 1
         line = line[:-1] if line.endswith(b"\n") else line
         try:
-            made = syslog_loose.json(line, **options).encode()
+            made = syslog_loose.json(line, **options)
         except syslog_loose.ParseError:
             refused += 1
             made = refused_object(line)
-        out.write(made + b"\n")
+        out.write(form(made))
+    return count, refused
+
+
+def write_files(names: list[str], out: BinaryIO, table: bool, options: dict[str, Any]) -> tuple[int, int]:
+    """The same of files, one after the other, as objects or as a table."""
+    count = refused = 0
+    if table:
+        out.write(record(KEYS))
+    for name in names:
+        with sys.stdin.buffer if name == "-" else open(name, "rb") as lines:
+            told = write_lines(lines, out, as_record if table else as_object, options)
+        count, refused = count + told[0], refused + told[1]
+    out.flush()
     return count, refused
 
 
@@ -55,6 +101,7 @@ def arguments() -> argparse.Namespace:
     words.add_argument("--month", type=int, help="that it is: in January a date of December is then of the year before")
     words.add_argument("--offset", type=offset, default=0, help="of dates that show none, as +01:00 (UTC without it)")
     words.add_argument("--raw", action="store_true", help="with the line itself in each object")
+    words.add_argument("--csv", action="store_true", help="a table with a header, by RFC 4180, instead of objects")
     words.add_argument("--version", action="version", version=syslog_loose.__version__)
     words.add_argument("file", nargs="*", help="none or -: standard input")
     return words.parse_args()
@@ -63,18 +110,19 @@ def arguments() -> argparse.Namespace:
 def main() -> int:
     chosen = arguments()
     options = {"year": chosen.year, "month": chosen.month, "offset": chosen.offset, "raw": chosen.raw}
-    count = refused = 0
     try:
-        for name in chosen.file or ["-"]:
-            with sys.stdin.buffer if name == "-" else open(name, "rb") as lines:
-                told = write_objects(lines, sys.stdout.buffer, options)
-            count, refused = count + told[0], refused + told[1]
-        sys.stdout.buffer.flush()
+        # (wrong options are found before anything is written)
+        syslog_loose.json(b"1 - - - - - -", **options)
+        count, refused = write_files(chosen.file or ["-"], sys.stdout.buffer, chosen.csv, options)
     except BrokenPipeError:
         # (nothing is written to the closed pipe at the end either)
         os.dup2(os.open(os.devnull, os.O_WRONLY), sys.stdout.fileno())
         return 1
-    except (OSError, ValueError) as fault:
+    except OSError as fault:
+        about = "%s: %s" % (fault.filename, fault.strerror) if fault.filename else fault.strerror
+        print("syslog_loose: %s" % about, file=sys.stderr)
+        return 2
+    except ValueError as fault:
         print("syslog_loose: %s" % fault, file=sys.stderr)
         return 2
     if refused:

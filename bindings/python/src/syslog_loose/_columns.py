@@ -9,8 +9,8 @@ from typing import Any, Mapping
 from . import Facility, Severity, Source, _native
 
 # The columns as the extension gives them, and how numpy calls the type of each.
-_COLUMNS = [("outcome", "u1"), ("time", "M8[ns]"), ("offset", "i4"), ("shown", "u1"), ("protocol", "u2"), ("facility", "i1")]
-_COLUMNS += [("severity", "i1"), ("process", "i4"), ("has_number", "u1"), ("elements", "u4")]
+_COLUMNS = [("outcome", "u1"), ("time", "M8[ns]"), ("nanosecond", "i4"), ("offset", "i4"), ("shown", "u1")]
+_COLUMNS += [("protocol", "u2"), ("facility", "i1"), ("severity", "i1"), ("process", "i4"), ("has_number", "u1"), ("elements", "u4")]
 for _name in ("line", "host", "app", "process", "msgid", "message"):
     _COLUMNS += [(_name + "_at", "i8"), (_name + "_size", "i8")]
 _FACILITIES = [it.name.lower() for it in Facility]

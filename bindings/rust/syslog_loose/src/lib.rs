@@ -91,12 +91,13 @@ where
         Variant::RFC3164 => libsyslog_loose::Variant::Rfc3164,
         Variant::RFC5424 => libsyslog_loose::Variant::Rfc5424,
     };
-    // (each date that is in some year is in this leap year, on the same clock)
-    let options = libsyslog_loose::Options { variant, ..libsyslog_loose::Options::in_year(2000) };
-    let read = libsyslog_loose::parse_text(input, &options).ok()?;
-    let timestamp = match read.timestamp {
-        Some(shown) => Some(timestamp::dated(shown, get_year, tz)?),
-        None => None,
-    };
-    Some(Message::of(&read, timestamp))
+    let options = libsyslog_loose::Options { variant, ..libsyslog_loose::Options::in_year(timestamp::LEAP_YEAR) };
+    let made = libsyslog_loose::parse_into(input, &options, |parts| {
+        let timestamp = match parts.timestamp() {
+            Some(shown) => Some(timestamp::dated(shown, get_year, tz)?),
+            None => None,
+        };
+        Some(Message::of(&parts, timestamp))
+    });
+    made.ok().flatten()
 }

@@ -14,45 +14,45 @@ pub enum Protocol {
 /// A message.
 #[derive(Clone, Debug)]
 pub struct Message<S: AsRef<str> + Ord + PartialEq + Clone> {
-    /// By which protocol the line was read.
+    /// The protocol by which the line was read.
     pub protocol: Protocol,
-    /// Which part of a system it comes from.
+    /// The facility: which part of a system the message comes from.
     pub facility: Option<SyslogFacility>,
-    /// How severe it is.
+    /// The severity: how urgent the message is.
     pub severity: Option<SyslogSeverity>,
-    /// When it was written.
+    /// When the message was written, as the line shows it.
     pub timestamp: Option<DateTime<FixedOffset>>,
-    /// The host that it comes from.
+    /// The host that the message comes from.
     pub hostname: Option<S>,
-    /// The program.
+    /// The program that wrote the message.
     pub appname: Option<S>,
-    /// The process.
+    /// The process id of that program: a number, or any other text.
     pub procid: Option<ProcId<S>>,
-    /// The kind of message.
+    /// The id that its sender gives to messages of one kind. Only RFC 5424 has it.
     pub msgid: Option<S>,
-    /// The structured data.
+    /// The elements of structured data, in order.
     pub structured_data: Vec<StructuredElement<S>>,
-    /// The rest.
+    /// The text of the message: what follows the header and the structured data.
     pub msg: S,
 }
 
 impl<'a> Message<&'a str> {
-    // What was read, with this timestamp.
-    pub(crate) fn of(read: &libsyslog_loose::Message<'a>, timestamp: Option<DateTime<FixedOffset>>) -> Self {
+    // What was read of a line, with this timestamp.
+    pub(crate) fn of(parts: &libsyslog_loose::Parts<'a, '_>, timestamp: Option<DateTime<FixedOffset>>) -> Self {
         Message {
-            protocol: match read.protocol {
+            protocol: match parts.protocol() {
                 libsyslog_loose::Protocol::Rfc3164 => Protocol::RFC3164,
                 libsyslog_loose::Protocol::Rfc5424(version) => Protocol::RFC5424(version),
             },
-            facility: read.facility.map(SyslogFacility::from),
-            severity: read.severity.map(SyslogSeverity::from),
+            facility: parts.facility().map(SyslogFacility::from),
+            severity: parts.severity().map(SyslogSeverity::from),
             timestamp,
-            hostname: read.hostname,
-            appname: read.appname,
-            procid: read.procid.map(ProcId::from),
-            msgid: read.msgid,
-            structured_data: read.elements().map(StructuredElement::from).collect(),
-            msg: read.message,
+            hostname: parts.hostname(),
+            appname: parts.appname(),
+            procid: parts.procid().map(ProcId::from),
+            msgid: parts.msgid(),
+            structured_data: parts.elements().map(StructuredElement::from).collect(),
+            msg: parts.message(),
         }
     }
 

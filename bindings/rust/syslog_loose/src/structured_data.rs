@@ -1,4 +1,4 @@
-use libsyslog_loose::unescape;
+use libsyslog_loose::{unescape, Param};
 use std::{fmt, slice};
 
 /// An element of structured data: its id, and its parameters as names with their values as in the line.
@@ -49,9 +49,9 @@ impl<S: AsRef<str> + Ord + PartialEq + Clone> PartialEq for StructuredElement<S>
 
 impl<S: AsRef<str> + Ord + PartialEq + Clone> Eq for StructuredElement<S> {}
 
-impl<'a> From<libsyslog_loose::Element<'_, 'a>> for StructuredElement<&'a str> {
-    fn from(it: libsyslog_loose::Element<'_, 'a>) -> Self {
-        StructuredElement { id: it.id, params: it.params().map(|it| (it.name, it.raw)).collect() }
+impl<'a, P: Iterator<Item = Param<'a>>> From<(&'a str, P)> for StructuredElement<&'a str> {
+    fn from((id, params): (&'a str, P)) -> Self {
+        StructuredElement { id, params: params.map(|it| (it.name, it.raw)).collect() }
     }
 }
 

@@ -218,3 +218,11 @@ fn facilities_and_severities() {
     assert_eq!((decompose_pri(192), decompose_pri(255)), ((None, Some(SEV_EMERG)), (None, Some(SEV_DEBUG))));
     assert_eq!((LOG_CRON as i32, LOG_CLOCKD.as_str(), SEV_ERR.as_str()), (9, "clockd", "err"));
 }
+
+#[test]
+fn a_closure_may_parse_another_line() {
+    let other = "<34>1 2003-10-11T22:14:15.003Z mymachine su - ID47 - message";
+    let year = |_| utc(other).timestamp.unwrap().year();
+    let m = parse_message_with_year_tz("<34>Oct 11 22:14:15 h a: x", year, Some(Utc), Variant::Either);
+    assert_eq!((m.timestamp, m.hostname), (at("2003-10-11T22:14:15Z"), Some("h")));
+}

@@ -373,7 +373,7 @@ pub no_elements : {t : Text} (m : OneMeaning (many item) t) → NoFront item t �
 no_elements {t = t} m n = one_value-is m (many_here item t n)
 
 -- ---- items, whatever follows the list
-element_alone : IsAlone element
+pub element_alone : IsAlone element
 element_alone = mapped_alone _ ElementValue element_of (row_alone 93 (exactly (91 ∷ []) ∷ texted (some_run is_id_char)
     ∷ run is_blank ∷ list_before param 32 93 ∷ []) ((λ p c q r v h. h) also texted_steady (some_run is_id_char)
     (λ p c q r v h. h) also (λ p c q r v h. h) also list_before_steady param 32 93 (mapped_alone _ _ param_of
@@ -385,7 +385,7 @@ bracketed_alone : IsAlone bracketed
 bracketed_alone = row_alone 93 (exactly (91 ∷ []) ∷ run is_open_char ∷ [])
     ((λ p c q r v h. h) also (λ p c q r v h. h) also tt)
 
-items_alone : (p q : Text) (vs : List (Option ElementValue)) → IsMany item p q vs → IsMany item p [] vs
+pub items_alone : (p q : Text) (vs : List (Option ElementValue)) → IsMany item p q vs → IsMany item p [] vs
 items_alone p q [] h = (h.0, no_item_nil)
 items_alone p q (Some e ∷ vs) (a, b, w, h, more) =
     (a, b, w, element_alone a (b ++ q) (b ++ []) e h, items_alone b q vs more)

@@ -21,7 +21,8 @@ use Rattle.syslog_pieces.specs.Bodies.MonthReading.{IsNamed, small_month, showin
 use Rattle.syslog_pieces.specs.Timestamp.MonthDate.{month_names, IsMonthName, short_number, yearless_row, yearless_of}
 use Rattle.syslog_pieces.specs.Timestamp.MonthDate.{yearless_date, dated_row, dated_of}
 use Rattle.syslog_pieces.specs.Timestamp.Rfc3164.{ShowsYearless}
-use Rattle.syslog_pieces.specs.Bodies.Clock.{zone_of, IsStampOfFields, civil_of, year_of}
+use Rattle.syslog_pieces.specs.Bodies.Clock.{zone_of, civil_of, year_of}
+use Rattle.syslog_pieces.specs.Timestamp.Zone.{IsStampOfFields}
 use Rattle.syslog_pieces.specs.Timestamp.Zone.{earlier, IsStampOf, IsStampInGap, IsStampInAny}
 use Rattle.syslog_pieces.proofs.TextLemmas.Runs.{one_ascii}
 use Rattle.syslog_pieces.proofs.PieceLemmas.Class.{all_joined, rest_det, optional_det, unique_division, rows_split}
@@ -259,7 +260,7 @@ once_of (Unambiguous offset) tz dt s t = (at_once dt offset s t, at_once dt offs
 once_of (Gap before after) tz dt s t = (λ h k. absurd h, λ h k. same_timestamp s t (cc) (cc))
 once_of (Fold before after) tz dt s t = (at_once dt before s t, at_once dt before s t)
 
-in_any_once : (tz : Option TimeZone) (local : TimeZone) (dt : DateTime) (s t : OffsetTimestamp)
+pub in_any_once : (tz : Option TimeZone) (local : TimeZone) (dt : DateTime) (s t : OffsetTimestamp)
     → IsStampInAny tz local dt s → IsStampInAny tz local dt t → s ≡ t
 in_any_once (Some tz) local dt s t = (once_of (ambiguous_at tz dt) tz dt s t).0
 in_any_once None local dt s t = (once_of (ambiguous_at local dt) local dt s t).1

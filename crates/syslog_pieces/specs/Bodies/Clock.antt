@@ -1,21 +1,11 @@
 -- Timestamps by what a clock shows.
-use Rattle.std.specs.Prelude.{◌≡◌, ◌-ℤ◌, ℕ, ℤ, pos, min, List, ◌∷◌, ◌++◌, Option, Some, None}
-use Rattle.jiff.specs.Types.{DateTime, Offset, TimeZone}
-use Rattle.jiff.specs.Words.{nanos_of_seconds}
+use Rattle.std.specs.Prelude.{ℕ, ℤ, pos, min, List, ◌∷◌, ◌++◌, Option, Some, None}
+use Rattle.jiff.specs.Types.{TimeZone}
 use Rattle.jiff_fmt.specs.Text.{pad2, pad4}
-use Rattle.syslog_pieces.specs.Timestamp.Fields.{AreCivil, fields_of, nanos_of_fields}
 use Rattle.syslog_pieces.specs.Timestamp.Printed.{date_time_text, fraction_text, offset_text}
-use Rattle.syslog_pieces.specs.Timestamp.Zone.{IsStampInAny}
-use Rattle.syslog_pieces.specs.declared.timestamp.OffsetTimestamp.{OffsetTimestamp}
 use Rattle.syslog_pieces.specs.declared.timestamp.fields.CivilFields.{CivilFields}
 use Rattle.syslog_pieces.specs.declared.timestamp.month_date.MonthDate.{MonthDate}
 use Rattle.syslog_pieces.specs.declared.timestamp.rfc3339_text.Rfc3339Fields.{Rfc3339Fields}
-
--- a clock at the offset shows the fields at the timestamp's instant
-pub record IsStampOfClock (f : CivilFields) (offset : Offset) (s : OffsetTimestamp) : Type 0 where
-  pub civil : AreCivil f
-  pub instant : s.instant.nanosecond ≡ nanos_of_fields f -ℤ nanos_of_seconds offset.seconds
-  pub at_offset : s.offset.seconds ≡ offset.seconds
 
 -- the civil fields of an RFC 3339 text, where second 60 is taken as 59
 abbrev pub fields_of_rfc3339 : Rfc3339Fields → CivilFields
@@ -44,10 +34,6 @@ civil_of date year = record {
   second = date.second;
   nanosecond = 0;
 }
-
--- the calendar has the date and the clock the time of the fields, and this is their timestamp
-abbrev pub IsStampOfFields : Option TimeZone → TimeZone → CivilFields → OffsetTimestamp → Type 0
-IsStampOfFields tz local f s = (dt : DateTime) × (fields_of dt ≡ f) × IsStampInAny tz local dt s
 
 -- `YYYY-MM-DDTHH:MM:SS` in a year that is not negative
 abbrev pub unsigned_date_time : ℕ → ℕ → ℕ → ℕ → ℕ → ℕ → List ℕ

@@ -11,7 +11,7 @@ use Rattle.syslog_pieces.specs.declared.structured_data.few_params.FewParams.{Fe
 pub record HasNoted (notes : FewParams) (ps : List (Text × Text)) : Type 0 where
   pub within : notes.count ≤ length ps
   pub first : map (param_value (λ s. shown s)) (take notes.count notes.params) ≡ take notes.count ps
-  pub all : notes.count < 8 → notes.count ≡ length ps
+  pub all : notes.count < 16 → notes.count ≡ length ps
 
 -- these elements were collected, or memory for one of them was refused
 abbrev pub HasCollected : Collect → List ElementValue → Type 0

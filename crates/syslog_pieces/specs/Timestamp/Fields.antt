@@ -1,7 +1,7 @@
 -- Civil fields as numbers, the datetime that they name, and its stamp at an offset.
-use Rattle.std.specs.Prelude.{◌≡◌, ℕ, ℤ, pos, ◌+◌, ◌*◌, ◌<◌, ◌+ℤ◌, ◌*ℤ◌}
+use Rattle.std.specs.Prelude.{◌≡◌, ℕ, ℤ, pos, ◌+◌, ◌*◌, ◌<◌, ◌+ℤ◌, ◌-ℤ◌, ◌*ℤ◌}
 use Rattle.jiff.specs.Types.{DateTime, Offset}
-use Rattle.jiff.specs.Words.{instant_of}
+use Rattle.jiff.specs.Words.{instant_of, nanos_of_seconds}
 use Rattle.jiff_core.specs.Calendar.{IsCivilDate, days_from_civil}
 use Rattle.syslog_pieces.specs.declared.timestamp.OffsetTimestamp.{OffsetTimestamp}
 use Rattle.syslog_pieces.specs.declared.timestamp.fields.CivilFields.{CivilFields}
@@ -45,4 +45,10 @@ pub record IsDateTime (dt : DateTime) (year : ℤ) (month day hour minute second
 -- the instant at which a clock at the offset shows the datetime
 pub record IsStampAt (dt : DateTime) (offset : Offset) (s : OffsetTimestamp) : Type 0 where
   pub instant : s.instant.nanosecond ≡ instant_of dt offset
+  pub at_offset : s.offset.seconds ≡ offset.seconds
+
+-- a clock at the offset shows the fields at the timestamp's instant
+pub record IsStampOfClock (f : CivilFields) (offset : Offset) (s : OffsetTimestamp) : Type 0 where
+  pub civil : AreCivil f
+  pub instant : s.instant.nanosecond ≡ nanos_of_fields f -ℤ nanos_of_seconds offset.seconds
   pub at_offset : s.offset.seconds ≡ offset.seconds

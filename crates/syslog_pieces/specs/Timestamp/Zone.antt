@@ -6,9 +6,10 @@ use Rattle.jiff.specs.Types.{DateTime, Offset, TimeZone, AmbiguousOffset, Unambi
 use Rattle.jiff.specs.declared.tz.timezone.TimeZone.{TimeZone as ZoneHandle}
 use Rattle.jiff.specs.Words.{plain_zone, civil_nanos, nanos_of_seconds, offset_at, ambiguous_at}
 use Rattle.syslog_pieces.specs.declared.timestamp.OffsetTimestamp.{OffsetTimestamp}
+use Rattle.syslog_pieces.specs.declared.timestamp.fields.CivilFields.{CivilFields}
 use Rattle.syslog_pieces.specs.declared.timestamp.month_date.MonthDate.{MonthDate}
 use Rattle.syslog_pieces.specs.declared.timestamp.zone.Dating.{Dating as DatingHandle}
-use Rattle.syslog_pieces.specs.Timestamp.Fields.{IsDateTime, IsStampAt}
+use Rattle.syslog_pieces.specs.Timestamp.Fields.{IsDateTime, IsStampAt, fields_of}
 
 -- How a date without an offset gets a timestamp: the year of a date that has none (where that is absent too, such a
 -- date has no timestamp), the zone that is given, and the local zone, which is used where none is.
@@ -47,6 +48,10 @@ IsStampOf (Fold before after) dt InGap s = IsStampAt dt before s
 abbrev pub IsStampInAny : Option TimeZone → TimeZone → DateTime → OffsetTimestamp → Type 0
 IsStampInAny (Some tz) local dt s = IsStampOf (ambiguous_at tz dt) dt (λ _. ⊥) s
 IsStampInAny None local dt s = IsStampOf (ambiguous_at local dt) dt (IsStampInGap local dt) s
+
+-- the calendar has the date and the clock the time of the fields, and this is their timestamp
+abbrev pub IsStampOfFields : Option TimeZone → TimeZone → CivilFields → OffsetTimestamp → Type 0
+IsStampOfFields tz local f s = (dt : DateTime) × (fields_of dt ≡ f) × IsStampInAny tz local dt s
 
 -- the month date shows a year, or is taken in that of the dating; there is such a date and time, and this is its stamp
 abbrev pub IsMonthStamp : Dating → MonthDate → OffsetTimestamp → Type 0

@@ -6,25 +6,25 @@ use super::visit::ParamNotes;
 
 /// How many parameters of an element are noted, so that they need no second walk. Space for them is cleared once for
 /// each list, at four instructions a parameter.
-const NOTED: usize = 8;
+const NOTED: usize = 16;
 
 /// The first parameters of an element.
 #[derive(Drop)]
 pub struct FewParams<'a> {
-    params: [(&'a str, &'a str); 8],
+    params: [(&'a str, &'a str); 16],
     count: usize,
-    ghost within: { count ≤ 8 },
-    ghost sized: { length params ≡ 8 },
+    ghost within: { count ≤ 16 },
+    ghost sized: { length params ≡ 16 },
 }
 
 impl<'a> FewParams<'a> {
     ghost use Rattle.std.specs.Prelude.{◌<◌, MatchOption, map};
     ghost use Rattle.syslog_pieces.specs.Words.{shown, HasNoted, param_value, element_seen};
 
-    /// Returns the parameters of the element, or none where it has more than eight, which were not all noted.
+    /// Returns the parameters of the element, or none where it has more than sixteen, which were not all noted.
     pub fn all_of(&self, element: &Element<'a>) -> Option<&[(&'a str, &'a str)]>
         requires { HasNoted self.now (element_seen element.now).params }
-        ensures { MatchOption result (8 < length (element_seen element.now).params)
+        ensures { MatchOption result (16 < length (element_seen element.now).params)
             (λ ps. map (param_value (λ s. shown s)) ps.now ≡ (element_seen element.now).params) }
     {
         if self.count < element.params_len() {

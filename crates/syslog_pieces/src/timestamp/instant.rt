@@ -5,7 +5,7 @@ ghost use Rattle.syslog_pieces.specs.Words.{IsInRange, IsOffsetSeconds, IsTimest
 ghost use Rattle.syslog_pieces.specs.Words.{clock_value, stamp_seen, AreCivil, nanos_of_fields};
 ghost use Rattle.jiff_core.specs.Calendar.{day_count};
 ghost use Rattle.jiff_core.specs.March.{march_days as days_of_march_years, march_months};
-ghost use Rattle.syslog_pieces.specs.Bodies.Clock.{IsStampOfClock};
+ghost use Rattle.syslog_pieces.specs.Timestamp.Fields.{IsStampOfClock};
 ghost use Rattle.syslog_pieces.specs.declared.timestamp.fields.CivilFields.{CivilFields};
 
 use super::fields::CivilFields;

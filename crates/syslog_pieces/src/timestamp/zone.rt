@@ -5,7 +5,7 @@
 //! choice, as the crate's documents have it.) No conversion here takes memory.
 ghost use Rattle.std.specs.Prelude.{◌≡◌, Some, pos, ◌<ℤ◌, IfSome, IsNone, option_map};
 ghost use Rattle.syslog_pieces.specs.Words.{plain_zone, ambiguous_at, IsAnswer, clock_value, fields_of};
-ghost use Rattle.syslog_pieces.specs.Bodies.Clock.{year_of as shown_year, IsStampOfFields};
+ghost use Rattle.syslog_pieces.specs.Bodies.Clock.{year_of as shown_year};
 ghost use Rattle.syslog_pieces.specs.Timestamp.Zone as spec;
 
 use super::ClockStamp;
@@ -44,10 +44,23 @@ pub fn month_stamp(date: MonthDate, dating: &Dating<'_, '_>) -> Option<ClockStam
         second: date.second,
         nanosecond: 0,
     };
+    civil_stamp(fields, dating.tz, dating.local)
+}
+
+/// The timestamp of civil fields: in the zone that is given, or else in the local one.
+#[inline(always)]
+pub fn civil_stamp(
+    fields: CivilFields,
+    tz: Option<&TimeZone<'_>>,
+    local: &TimeZone<'_>,
+) -> Option<ClockStamp>
+    ensures { IsAnswer (spec.IsStampOfFields (option_map (λ z. plain_zone z.now) tz.entry) (plain_zone local.entry.now)
+        fields) result }
+{
     // Most zones that a filter is given have one offset.
-    match dating.tz.unwrap_or(dating.local).to_fixed_offset() {
+    match tz.unwrap_or(local).to_fixed_offset() {
         Ok(offset) => clock_stamp(fields, offset),
-        Err(_) => of_fields(fields, dating.tz, dating.local),
+        Err(_) => of_fields(fields, tz, local),
     }
 }
 
@@ -75,7 +88,7 @@ fn of_fields(
     tz: Option<&TimeZone<'_>>,
     local: &TimeZone<'_>,
 ) -> Option<ClockStamp>
-    ensures { IsAnswer (IsStampOfFields (option_map (λ z. plain_zone z.now) tz.entry) (plain_zone local.now) fields)
+    ensures { IsAnswer (spec.IsStampOfFields (option_map (λ z. plain_zone z.now) tz.entry) (plain_zone local.now) fields)
         result }
 {
     let dt = fields.datetime()?;

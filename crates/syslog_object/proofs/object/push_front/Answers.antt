@@ -21,9 +21,8 @@ returns-clause-text c =
     let p5 = p4 ++ q5 in
     let facility = rw (c.facility.ensures) at c.in_ok-push_facility.ensures in
     let severity = rw (c.severity.ensures) at c.in_ok-push_severity.ensures in
-    let process = rw (c.process.ensures) at c.in_ok-push_process.ensures in
     let s1 = more _ _ _ p0 q1 c.in_ok-push_protocol.ensures.text facility in
     let s3 = more _ _ _ p2 q3 (more _ _ _ p1 q2 s1 severity) c.in_ok-push_timestamp.ensures in
     let s5 = more _ _ _ p4 q5 (more _ _ _ p3 q4 s3 c.in_ok-push_field.ensures) c.in_ok-push_field-2.ensures in
-    let s6 = more _ _ _ p5 q6 s5 process in
+    let s6 = more _ _ _ p5 q6 s5 c.in_ok-push_process.ensures in
     on_ok_weaker c.push_field-3.result (λ e. more _ _ _ (p5 ++ q6) q7 s6 e) c.push_field-3.ensures

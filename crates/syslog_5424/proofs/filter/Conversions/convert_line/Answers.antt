@@ -1,4 +1,3 @@
-use Rattle.std.proofs.Common.{◌≡◌, of_z, rules, to_z, w32}
 use Rattle.std.specs.Str.{chars}
 use Rattle.syslog_strict.specs.Pushing.{text_in}
 use Rattle.syslog_5424.proofs.CallLemmas.{told, told_copied}
@@ -7,7 +6,6 @@ use Rattle.syslog_5424.proofs.filter.Conversions.convert_line.Goals as goal
 pub returns : goal.returns
 returns c =
     let dates = c.args.self.now.dates in
-    let same : to_z w32 (of_z w32 dates.year) ≡ dates.year = search rules in
     told dates (chars c.args.line.now) (text_in c.to_rfc5424_into.new.text) c.to_rfc5424_into.result
     (told_copied _ dates (chars c.args.line.now) (text_in c.to_rfc5424_into.new.text) c.to_rfc5424_into.result
-    c.to_rfc5424_into.ensures (λ date y is. (rw same at is.1) dates.year_in_range))
+    c.to_rfc5424_into.ensures (λ date y is. is.1))

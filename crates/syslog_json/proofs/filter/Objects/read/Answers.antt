@@ -1,10 +1,21 @@
-use Rattle.syslog_json.proofs.Names.{◌≡◌, of_z, rules, to_z, w32, chars}
-use Rattle.syslog_json.proofs.UniqueLemmas.{line_read}
+use Rattle.syslog_json.proofs.Names.{chars}
+use Rattle.syslog_json.proofs.UniqueLemmas.{line_read, line_unread, made_form}
+use Rattle.syslog_loose.proofs.ReadingLemmas.{in_year_map}
 use Rattle.syslog_json.proofs.filter.Objects.read.Goals as goal
 
-pub returns : goal.returns
-returns c =
-    let filter = c.args.self.now in
-    let same : to_z w32 (of_z w32 filter.dates.year) ≡ filter.dates.year = search rules in
-    line_read _ _ c.args.writer.now c.visit_line.new.elements filter (chars c.args.line.now) c.visit_line.result c.visit_line.ensures
-    (λ date y is. (rw same at is.1) filter.dates.year_in_range) c.requires
+pub sent_line-requires : goal.sent_line-requires
+sent_line-requires c =
+    made_form c.args.self.now (chars c.args.line.now) c.args.writer.now c.visit_line.new.elements c.in-Some.found
+    (in_year_map (λ year made. (_, _, made)) c.in-Some.ensures)
+
+pub returns-in-Some : goal.returns-in-Some
+returns-in-Some c =
+    line_read c.args.self.now (chars c.args.line.now) c.args.writer.now c.visit_line.new.elements c.in-Some.found
+    (in_year_map (λ year made. (_, _, made)) c.in-Some.ensures) (λ date y is. is.1) c.requires c.sent_line.result
+    c.sent_line.ensures.reads c.sent_line.ensures.elements
+
+pub returns-in-None : goal.returns-in-None
+returns-in-None c =
+    line_unread c.args.self.now (chars c.args.line.now) c.args.writer.now c.visit_line.new.elements
+    (in_year_map (λ year made. (_, _, made)) c.in-None.ensures) (λ date y is. is.1) c.requires c.unread_line.result
+    c.unread_line.ensures.reads c.unread_line.ensures.elements

@@ -4,12 +4,12 @@ use Rattle.syslog_json.proofs.filter.Objects.write_line.Goals as goal
 
 pub returns-in_ok-write-in-Some-clause-ok : goal.returns-in_ok-write-in-Some-clause-ok
 returns-in_ok-write-in-Some-clause-ok c =
-    let m = line_value c.in-Some.found in
+    let m = line_value c.in-Some.found.line in
     let (bytes, text, added) = c.in_ok-write-in-Some.ensures.ok in (
       bytes,
       (
         _,
-        only_read c.args.self.now _ _ (c.utf8.line, (m, c.in-Some.ensures.0, refl)),
+        only_read c.args.self.now _ _ (c.utf8.line, (_, m, c.in-Some.ensures.0, refl)),
         read_as _ _ (subst (λ (o : Option Text). IsTextOf (message_json m o) bytes) (search rules) text),
       ),
       added,

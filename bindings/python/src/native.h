@@ -1,0 +1,61 @@
+/* What the parts of the extension share. It keeps to the limited interface of Python 3.9. */
+#ifndef SYSLOG_LOOSE_NATIVE_H
+#define SYSLOG_LOOSE_NATIVE_H
+
+#define PY_SSIZE_T_CLEAN
+#define Py_LIMITED_API 0x03090000
+#include <Python.h>
+#include <string.h>
+#include <syslog_loose.h>
+
+/* Python has these since 3.7 and 3.3. Its limited interface lists them from 3.10 on, as they were. */
+#ifndef METH_FASTCALL
+#define METH_FASTCALL 0x0080
+#endif
+extern const char *PyUnicode_AsUTF8AndSize(PyObject *text, Py_ssize_t *size);
+
+#define COUNT_OF(array) (sizeof(array) / sizeof *(array))
+
+/* What the package hands over once: its classes, the members of two of them, and how a zone is made; and the zones that
+ * were made so far. */
+extern struct given {
+    PyObject *error, *message, *element, *facilities, *severities, *zone, *zones;
+} given;
+
+/* A line as it was given, its bytes, and whether it is a text of ASCII alone. */
+struct line {
+    PyObject *given;
+    const char *start;
+    Py_ssize_t length;
+    int is_ascii;
+};
+
+/* The arguments of a call for one line. */
+struct call {
+    struct line line;
+    struct syslog_options options;
+    uint32_t raw;
+};
+
+typedef uint32_t writer(const char *, size_t, const struct syslog_options *, char *, size_t, size_t *);
+
+/* call.c: the arguments, and what the caller is told of a line that gives nothing (NULL). */
+int set_keys(void);
+int take_call(PyObject *const *words, Py_ssize_t count, PyObject *names, int keys, struct call *call);
+void *refuse(uint32_t outcome, PyObject *line);
+
+/* message.c and written.c: the calls for one line. */
+int set_message(void);
+PyObject *parse(PyObject *self, PyObject *const *words, Py_ssize_t count, PyObject *names);
+PyObject *normalise(PyObject *self, PyObject *const *words, Py_ssize_t count, PyObject *names);
+PyObject *settle(PyObject *self, PyObject *const *words, Py_ssize_t count, PyObject *names);
+PyObject *to_rfc5424(PyObject *self, PyObject *const *words, Py_ssize_t count, PyObject *names);
+PyObject *json(PyObject *self, PyObject *const *words, Py_ssize_t count, PyObject *names);
+PyObject *written(writer *call, const struct line *line, const struct syslog_options *options);
+
+/* columns.c: those for many lines. */
+PyObject *columns(PyObject *self, PyObject *words);
+PyObject *texts(PyObject *self, PyObject *words);
+PyObject *categories(PyObject *self, PyObject *words);
+
+#endif

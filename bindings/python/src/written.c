@@ -1,0 +1,62 @@
+/* The calls that write a text of one line. */
+#include "native.h"
+
+/* The object of a line, and with the line itself in it, as writers. */
+static uint32_t object_of(const char *line, size_t length, const struct syslog_options *options, char *room, size_t size, size_t *needed)
+{
+    return syslog_json(line, length, options, 0, room, size, needed);
+}
+
+static uint32_t raw_object_of(const char *line, size_t length, const struct syslog_options *options, char *room, size_t size, size_t *needed)
+{
+    return syslog_json(line, length, options, 1, room, size, needed);
+}
+
+/* The text that a call writes of a line. */
+PyObject *written(writer *call, const struct line *line, const struct syslog_options *options)
+{
+    char most[4096], *room = most;
+    size_t size = sizeof most, needed;
+    uint32_t outcome = call(line->start, (size_t)line->length, options, room, size, &needed);
+    if (outcome == SYSLOG_NO_ROOM) {
+        size = needed;
+        room = PyMem_Malloc(size);
+        if (!room)
+            return PyErr_NoMemory();
+        outcome = call(line->start, (size_t)line->length, options, room, size, &needed);
+    }
+    PyObject *text =
+        outcome == SYSLOG_DONE ? PyUnicode_FromStringAndSize(room, (Py_ssize_t)needed) : refuse(outcome, line->given);
+    if (room != most)
+        PyMem_Free(room);
+    return text;
+}
+
+static PyObject *write_by(writer *writes, PyObject *const *words, Py_ssize_t count, PyObject *names)
+{
+    struct call call;
+    return take_call(words, count, names, 4, &call) ? NULL : written(writes, &call.line, &call.options);
+}
+
+PyObject *normalise(PyObject *self, PyObject *const *words, Py_ssize_t count, PyObject *names)
+{
+    return write_by(syslog_normalise, words, count, names);
+}
+
+PyObject *settle(PyObject *self, PyObject *const *words, Py_ssize_t count, PyObject *names)
+{
+    return write_by(syslog_settle, words, count, names);
+}
+
+PyObject *to_rfc5424(PyObject *self, PyObject *const *words, Py_ssize_t count, PyObject *names)
+{
+    return write_by(syslog_to_rfc5424, words, count, names);
+}
+
+PyObject *json(PyObject *self, PyObject *const *words, Py_ssize_t count, PyObject *names)
+{
+    struct call call;
+    if (take_call(words, count, names, 5, &call))
+        return NULL;
+    return written(call.raw ? raw_object_of : object_of, &call.line, &call.options);
+}

@@ -1,0 +1,115 @@
+use crate::{raw, Facility, Param, ProcId, Protocol, Severity, Timestamp};
+use std::marker::PhantomData;
+use std::{slice, str};
+
+/// What was read of a line, in no object yet: [`parse_into`](crate::parse_into) hands it to what makes one. Its texts
+/// are pieces of the line.
+#[derive(Clone, Copy)]
+pub struct Parts<'a, 'r> {
+    read: &'r raw::Message,
+    elements: &'r [raw::Element],
+    params: &'r [raw::Param],
+    line: PhantomData<&'a str>,
+}
+
+impl<'a: 'r, 'r> Parts<'a, 'r> {
+    /// The parts of a line.
+    ///
+    /// # Safety
+    ///
+    /// The library has just read these of that line, with as many elements and parameters as the message says.
+    pub(crate) unsafe fn of(
+        _line: &'a str,
+        read: &'r raw::Message,
+        elements: &'r [raw::Element],
+        params: &'r [raw::Param],
+    ) -> Parts<'a, 'r> {
+        Parts { read, elements: &elements[..read.elements], params: &params[..read.params], line: PhantomData }
+    }
+
+    /// The protocol by which the line was read.
+    pub fn protocol(&self) -> Protocol {
+        match self.read.protocol {
+            5424 => Protocol::Rfc5424(self.read.version),
+            _ => Protocol::Rfc3164,
+        }
+    }
+
+    /// The facility: which part of a system the message comes from.
+    pub fn facility(&self) -> Option<Facility> {
+        numbered(self.read.facility)
+    }
+
+    /// The severity: how urgent the message is.
+    pub fn severity(&self) -> Option<Severity> {
+        numbered(self.read.severity)
+    }
+
+    /// When the message was written, as the line shows it.
+    pub fn timestamp(&self) -> Option<Timestamp> {
+        Timestamp::of(&self.read.timestamp)
+    }
+
+    /// The host that the message comes from.
+    pub fn hostname(&self) -> Option<&'a str> {
+        self.optional(&self.read.host)
+    }
+
+    /// The program that wrote the message.
+    pub fn appname(&self) -> Option<&'a str> {
+        self.optional(&self.read.app)
+    }
+
+    /// The process id of that program: a number, or any other text.
+    pub fn procid(&self) -> Option<ProcId<&'a str>> {
+        match &self.read.process {
+            it if it.is_number == 1 => Some(ProcId::Number(it.number)),
+            it => self.optional(&it.name).map(ProcId::Name),
+        }
+    }
+
+    /// The id that its sender gives to messages of one kind. Only RFC 5424 has it.
+    pub fn msgid(&self) -> Option<&'a str> {
+        self.optional(&self.read.msgid)
+    }
+
+    /// The text of the message: what follows the header and the structured data.
+    pub fn message(&self) -> &'a str {
+        self.piece(&self.read.msg)
+    }
+
+    /// The elements of its structured data, in order: the id of each, and its parameters.
+    pub fn elements(&self) -> impl Iterator<Item = (&'a str, impl ExactSizeIterator<Item = Param<'a>> + 'r)> + 'r {
+        let parts = *self;
+        self.elements.iter().scan(self.params, move |rest, element| {
+            let (own, later) = rest.split_at(element.params);
+            *rest = later;
+            Some((parts.piece(&element.id), own.iter().map(move |it| parts.param(it))))
+        })
+    }
+
+    /// The parameters of all elements, in order.
+    pub(crate) fn params(&self) -> impl ExactSizeIterator<Item = Param<'a>> + 'r {
+        let parts = *self;
+        self.params.iter().map(move |it| parts.param(it))
+    }
+
+    fn param(&self, it: &raw::Param) -> Param<'a> {
+        Param { name: self.piece(&it.name), raw: self.piece(&it.value) }
+    }
+
+    fn optional(&self, text: &raw::Text) -> Option<&'a str> {
+        (text.present == 1).then(|| self.piece(text))
+    }
+
+    fn piece(&self, text: &raw::Text) -> &'a str {
+        // SAFETY: each text that the library reads is a piece of the line, in UTF-8 (its clause AreFields). By `of`
+        // these are of the line that is borrowed for 'a. An absent text is empty, and its start is not null.
+        unsafe { str::from_utf8_unchecked(slice::from_raw_parts(text.start, text.length)) }
+    }
+}
+
+/// What has this number; -1 is that of an absent one.
+fn numbered<T: TryFrom<u8>>(number: i32) -> Option<T> {
+    T::try_from(u8::try_from(number).ok()?).ok()
+}

@@ -1,0 +1,124 @@
+-- What is found in a list of forms, and what forms after a date say.
+use Rattle.std.proofs.Common.{◌≡◌, inl, List, [], ◌∷◌, ◌++◌, Option, Some, None, refl, sym, ap, ◌∙◌}
+use Rattle.syslog_pieces.specs.Pieces.Class.{Text, Class, Values, Front, NoFront, IsDeterministic, Division, NoDivision, Row}
+use Rattle.syslog_pieces.specs.Pieces.Class.{run, mapped}
+use Rattle.syslog_pieces.specs.Text.{is_blank}
+use Rattle.syslog_pieces.proofs.PieceLemmas.Class.{AllDeterministic, ◌also◌, all_joined, front_division, mapped_det, row_cons}
+use Rattle.syslog_pieces.proofs.PieceLemmas.Class.{row_nil, rows_join, rows_none_here, rows_none_later, row_none_here, row_of, no_row, ◌past◌, ◌then◌}
+use Rattle.syslog_pieces.proofs.PieceLemmas.Class.{no_row_division, run_det, some_run_det, unique_division}
+use Rattle.syslog_dialects.proofs.DateLemmas.{any_date_det}
+use Rattle.syslog_dialects.proofs.DialectLemmas.{here, later}
+use Rattle.syslog_dialects.specs.Dialects.{Finds, IsOfNone, IsOnlyOf}
+use Rattle.syslog_dialects.specs.Named.{NamedTexts}
+use Rattle.syslog_dialects.proofs.NamedLemmas.{beginning_det, beginning_front, no_beginning}
+use Rattle.syslog_dialects.specs.NamedForms.{Tail, dated_form, dated_row, front_row, says, tail_forms, undated_form, undated_row}
+use Rattle.syslog_dialects.specs.Sent.{Form, IsOnlySent, SentValue, loose, sent_value}
+use Rattle.syslog_dialects.specs.declared.dialect.Dialect.{Dialect}
+use Rattle.syslog_dialects.specs.declared.sent.Sent.{Sent}
+use Rattle.syslog_dialects.specs.declared.sent.SentDate.{SentDate}
+use Rattle.syslog_dialects.specs.declared.untagged.Mark.{Mark}
+use Rattle.syslog_dialects.specs.Untagged.{mark_class}
+use Rattle.syslog_dialects.specs.Named.{beginning, hosted}
+use Rattle.syslog_dialects.specs.Programs.{hostless_row, passed_on, severity_row, worded_row}
+use Rattle.syslog_dialects.proofs.NamedLemmas.{hosted_det, hostless_det, passed_on_det, severity_det, worded_det}
+use Rattle.syslog_pieces.proofs.PieceLemmas.Class.{row_det}
+
+-- ---- lists of forms
+
+pub found_later : (F : Form) (Fs : List Form) (text : Text) (r : Option (Dialect × Sent)) → NoDivision F.row text
+    → Finds Fs text r → Finds (F ∷ Fs) text r
+found_later F Fs text None n h = (n, h)
+found_later F Fs text (Some x) n h = later F Fs text x.0 (sent_value x.1) n h
+
+-- where none of the first forms divides the text, what is found in the others is found
+pub found_after : (Fs Gs : List Form) (text : Text) (r : Option (Dialect × Sent)) → IsOfNone Fs text
+    → Finds Gs text r → Finds (Fs ++ Gs) text r
+found_after [] Gs text r n h = h
+found_after (F ∷ Fs) Gs text r n h = found_later F (Fs ++ Gs) text r n.0 (found_after Fs Gs text r n.1 h)
+
+-- ---- forms after a date
+
+pub front_det : AllDeterministic front_row
+front_det = run_det is_blank also any_date_det also some_run_det is_blank also tt
+
+module _ (dialect : Dialect) (C : Class) (names : C.Value → NamedTexts) (det : IsDeterministic C) {text rest : Text} {d : SentDate}
+    (f : Front (Row front_row) text rest (tt, (d, (tt, tt)))) where
+  pub none_after : NoFront (mapped C NamedTexts names) rest → NoDivision (dated_row C names) text
+  none_after n = no_row_division (dated_row C names)
+      (rows_none_later front_row (mapped C NamedTexts names ∷ []) front_det f (row_none_here (mapped C NamedTexts names) [] n))
+
+  divided : {v : NamedTexts} → Front (mapped C NamedTexts names) rest [] v
+      → Division (dated_row C names) text (tt, (d, (tt, (v, tt))))
+  divided g = front_division (dated_row C names)
+      (rows_join front_row (mapped C NamedTexts names ∷ []) f (row_cons (mapped C NamedTexts names) [] g (row_nil [])))
+
+  pub said_after : {v : NamedTexts} {s : SentValue} → Front (mapped C NamedTexts names) rest [] v → s ≡ says d v
+      → IsOnlySent (dated_form dialect C names) text s
+  said_after {v} {s} g e = record {
+    says = record { values = (tt, (d, (tt, (v, tt)))); division = divided g; means = e };
+    only = λ other k.
+        (let same = (unique_division (dated_row C names) (all_joined front_row (mapped C NamedTexts names ∷ []) front_det
+        (mapped_det C NamedTexts names det also tt)) k.division (divided g)).1 in
+        k.means ∙ ap (λ (vs : Values (dated_row C names)). says vs.1.0 vs.1.1.1.0) same ∙ sym e);
+  }
+
+-- where there is no such date, no form of the list divides the text
+pub none_undated : (Ts : List Tail) {text : Text} → NoFront (Row front_row) text → IsOfNone (tail_forms Ts) text
+none_undated [] n = tt
+none_undated (T ∷ Ts) n = (
+  no_row_division (dated_row T.after T.names) (rows_none_here front_row (mapped T.after NamedTexts T.names ∷ []) n),
+  none_undated Ts n,
+)
+
+module _ (T : Tail) (Fs : List Form) (det : IsDeterministic T.after) {text rest : Text} {d : SentDate}
+    (f : Front (Row front_row) text rest (tt, (d, (tt, tt)))) where
+  -- the first form of a list
+  pub tail_here : {v : NamedTexts} {s : SentValue} → Front (mapped T.after NamedTexts T.names) rest [] v → s ≡ says d v
+      → IsOnlyOf (dated_form T.dialect T.after T.names ∷ Fs) text T.dialect s
+  tail_here {s = s} g e = here (dated_form T.dialect T.after T.names) Fs text s
+      (said_after T.dialect T.after T.names det f g e)
+
+  -- one after it
+  pub tail_later : (r : Option (Dialect × Sent)) → NoFront (mapped T.after NamedTexts T.names) rest → Finds Fs text r
+      → Finds (dated_form T.dialect T.after T.names ∷ Fs) text r
+  tail_later r n h = found_later (dated_form T.dialect T.after T.names) Fs text r
+      (none_after T.dialect T.after T.names det f n) h
+
+-- ---- a message without a date
+
+pub undated_det : (m : Mark) → AllDeterministic (undated_row m)
+undated_det m = run_det is_blank also beginning_det (mark_class m) also tt
+
+module _ (dialect : Dialect) (m : Mark) (Fs : List Form) {text msg : Text} (gap : Front (run is_blank) text msg tt) where
+  pub undated_later : (r : Option (Dialect × Sent)) → NoFront (mark_class m) msg → Finds Fs text r
+      → Finds (undated_form dialect m ∷ Fs) text r
+  undated_later r n h = found_later (undated_form dialect m) Fs text r
+      (no_row_division (undated_row m) (no_row (undated_row m) (undated_det m) (gap past inl (no_beginning n)))) h
+
+  pub undated_here : {r : Text} {v : (mark_class m).Value} {s : SentValue} → Front (mark_class m) msg r v
+      → s ≡ loose None None None None msg → IsOnlyOf (undated_form dialect m ∷ Fs) text dialect s
+  undated_here {s = s} f e =
+      let d : Division (undated_row m) text (tt, (msg, tt)) = front_division (undated_row m)
+      (row_of (undated_row m) (gap then beginning_front f then refl)) in
+      here (undated_form dialect m) Fs text s (record {
+        says = record { values = (tt, (msg, tt)); division = d; means = e };
+        only = λ other k. (let same = (unique_division (undated_row m) (undated_det m) k.division d).1 in
+            k.means ∙ ap (λ (vs : Values (undated_row m)). loose None None None None vs.1.0) same ∙ sym e);
+      })
+
+-- ---- one front of each
+
+pub marked_det : (m : Mark) → IsDeterministic (hosted (beginning (mark_class m)))
+marked_det m = hosted_det (beginning (mark_class m)) (beginning_det (mark_class m))
+
+pub forwarded_tail_det : IsDeterministic (hosted passed_on)
+forwarded_tail_det = hosted_det passed_on passed_on_det
+
+pub severity_tail_det : IsDeterministic (Row severity_row)
+severity_tail_det = row_det severity_row severity_det
+
+pub worded_tail_det : IsDeterministic (Row worded_row)
+worded_tail_det = row_det worded_row worded_det
+
+pub hostless_tail_det : IsDeterministic (Row hostless_row)
+hostless_tail_det = row_det hostless_row hostless_det

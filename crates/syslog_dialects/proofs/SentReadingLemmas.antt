@@ -1,0 +1,144 @@
+-- A text has one dialect and one message, and what the readers of lines return.
+use Rattle.std.proofs.Common.{◌≡◌, ◌≢◌, inl, inr, ℕ, Bool, true, false, List, [], ◌∷◌, Option, Some, None}
+use Rattle.std.proofs.Common.{refl, sym, ap, subst, ◌∙◌}
+use Rattle.std.specs.Prelude.{◌↔◌, IsTrue, MatchOption}
+use Rattle.syslog_pieces.specs.Pieces.Class.{Text, optional}
+use Rattle.syslog_pieces.specs.Pri.{priority}
+use Rattle.syslog_pieces.specs.StructuredData.Visited.{list_elements}
+use Rattle.syslog_pieces.specs.Text.{trimmed}
+use Rattle.syslog_pieces.specs.Timestamp.Zone.{Dating}
+use Rattle.syslog_pieces.proofs.PieceLemmas.Class.{front_same, optional_det}
+use Rattle.syslog_pieces.proofs.PriLemmas.{priority_det}
+use Rattle.syslog_loose.specs.Bodies.Start.{IsAfterPriority}
+use Rattle.syslog_loose.specs.Line.{KnowsForm, line_value}
+use Rattle.syslog_loose.specs.Message.{MessageValue}
+use Rattle.syslog_loose.specs.Reading.{IsOnlyRead, IsUnreadable}
+use Rattle.syslog_loose.specs.Visit.{IsLineOf}
+use Rattle.syslog_loose.specs.declared.dates.Dates.{Dates}
+use Rattle.syslog_loose.specs.declared.line.Line.{Line}
+use Rattle.syslog_loose.specs.declared.variant.Variant.{Variant}
+use Rattle.syslog_dialects.specs.Dialects.{IsOfFirst, IsOfNone, IsOnlyOf, forms_of}
+use Rattle.syslog_dialects.specs.Ordinary.{IsOrdinary}
+use Rattle.syslog_dialects.specs.Sent.{SentValue}
+use Rattle.syslog_dialects.specs.SentLine.{HasNoStamp, HasStamp, sent_message}
+use Rattle.syslog_dialects.specs.SentReading.{AreAsked, IsDialectLine, IsInNone, IsLeft}
+use Rattle.syslog_dialects.specs.SentReading.{IsReadSent, IsSentAnswer, IsSentIn, MayBegin, Stands}
+use Rattle.syslog_dialects.specs.declared.dialect.Dialect.{Dialect}
+use Rattle.syslog_dialects.specs.declared.visit.SentLine.{SentLine}
+use Rattle.syslog_dialects.proofs.DialectLemmas.{none_first}
+use Rattle.syslog_dialects.proofs.OrdinaryLemmas.{ordinary_too}
+use Rattle.syslog_dialects.proofs.SentLemmas.{stamp_once}
+
+-- ---- the dialect of a text
+module _ (dates : Dates) (is_read : Bool) (text : Text) where
+  -- a text of a dialect, from after this priority on
+  moved : (number : Option ℕ) (follows : Text) → IsAfterPriority (trimmed text) number follows → (dialect : Dialect)
+      (m : MessageValue) → (is : IsSentIn dates is_read text dialect m)
+      → IsOfFirst (forms_of is_read number) follows dialect is.sent × (is.priority ≡ number)
+  moved number follows front dialect m is =
+      let same = front_same (optional priority) (optional_det priority priority_det) is.front front in (
+        rw same.1 at (rw same.0 at is.form.first),
+        same.1,
+      )
+
+  pub undated : (number : Option ℕ) (follows : Text) (dialect : Dialect) (sent : SentValue)
+      → IsAfterPriority (trimmed text) number follows → IsOnlyOf (forms_of is_read number) follows dialect sent
+      → HasNoStamp dates sent.date → IsInNone dates is_read text
+  undated number follows dialect sent front only none other m is =
+      let (first, e) = moved number follows front other m is in
+      let same = (only.only other is.sent first).1 in
+      none is.says.0 (subst (λ (v : SentValue). HasStamp dates v.date is.says.0) same is.says.1)
+
+  pub unformed : (number : Option ℕ) (follows : Text) → IsAfterPriority (trimmed text) number follows
+      → IsOfNone (forms_of is_read number) follows → IsInNone dates is_read text
+  unformed number follows front none other m is =
+      none_first (forms_of is_read number) follows other is.sent none (moved number follows front other m is).0
+
+  -- a text has one dialect, and one message there
+  pub sent_once : (dialect other : Dialect) (m n : MessageValue) → IsSentIn dates is_read text dialect m
+      → IsSentIn dates is_read text other n → (other ≡ dialect) × (n ≡ m)
+  sent_once dialect other m n is too =
+      let (first, e) = moved is.priority is.follows is.front other n too in
+      let same = is.form.only other too.sent first in
+      let has = subst (λ (v : SentValue). HasStamp dates v.date too.says.0) same.1 too.says.1 in
+      let stamps : too.says.0 ≡ is.says.0 = stamp_once dates is.sent.date too.says.0 is.says.0 has is.says.1 in
+      let message : sent_message too.priority too.says.0 too.sent ≡ sent_message is.priority is.says.0 is.sent =
+      rw (e, stamps, same.1) refl in
+      (same.0, too.says.2 ∙ message ∙ sym is.says.2)
+
+-- ---- what the readers return
+
+no_list : {A : Type 0} (es : List A) → (es ≢ [] → ⊥) → es ≡ []
+no_list [] none = refl
+no_list (e ∷ es) none = absurd (none (λ same. cc))
+
+module _ (dates : Dates) (dating : Dating) (dialects : Bool) (variant : Variant) (text : Text) where
+  -- no text is left in two ways
+  left_unread : IsUnreadable variant dating text → (MayBegin text → IsInNone dates false text)
+      → Stands dates dating dialects variant text
+  left_unread none never asked true (line, of, odd) = absurd (none (line_value line) of.only.read)
+  left_unread none never asked false left = never left.1
+
+  left_read : (line : Line) → IsLineOf variant dating text line → ((IsOrdinary line → ⊥) → IsInNone dates true text)
+      → Stands dates dating dialects variant text
+  left_read line of never asked true (other, too, odd) =
+      never (λ is. odd (ordinary_too variant dating text line other of too is))
+  left_read line of never asked false left = absurd (left.0 (line_value line) of.only.read)
+
+  in_dialect : AreAsked dialects variant → (is_read : Bool) (it : SentLine) → IsLeft variant dating text is_read
+      → IsDialectLine dates is_read text it → IsSentAnswer dates dating dialects variant text (Some it)
+  in_dialect asked is_read it left is =
+      subst (λ (d : Option Dialect). IsReadSent dates dating dialects variant text d (line_value it.line)) (sym is.named)
+      (asked, (is_read, left, is.sent))
+
+  -- the port's line stands
+  pub port_stands : (asked : Bool) → IsTrue asked ↔ AreAsked dialects variant → (line : Line) (it : SentLine)
+      → it.line ≡ line → it.dialect ≡ None
+      → (IsTrue asked → (IsOrdinary line → ⊥) → IsInNone dates true text) → IsLineOf variant dating text line
+      → IsReadSent dates dating dialects variant text it.dialect (line_value it.line)
+  port_stands asked is line it same plain never of =
+      subst (λ (d : Option Dialect). IsReadSent dates dating dialects variant text d (line_value it.line)) (sym plain) (
+        subst (λ (l : Line). IsOnlyRead variant dating text (line_value l)) (sym same) of.only,
+        λ asks. left_read line of (never (is.1 asks)) asks,
+      )
+
+  -- a dialect's line comes before it
+  pub dialect_before : (asked : Bool) → IsTrue asked ↔ AreAsked dialects variant → IsTrue asked → (line : Line)
+      (it : SentLine) → (IsOrdinary line → ⊥) → IsDialectLine dates true text it → IsLineOf variant dating text line
+      → IsReadSent dates dating dialects variant text it.dialect (line_value it.line)
+  dialect_before asked is asks line it odd says of = in_dialect (is.0 asks) true it (line, of, odd) says
+
+  -- where the port reads none
+  pub unread : (asked : Bool) → IsTrue asked ↔ AreAsked dialects variant → (result : Option SentLine)
+      → MatchOption result (IsTrue asked → MayBegin text → IsInNone dates false text)
+      (λ it. IsTrue asked × MayBegin text × IsDialectLine dates false text it) → IsUnreadable variant dating text
+      → IsSentAnswer dates dating dialects variant text result
+  unread asked is None never none = (none, λ asks. left_unread none (never (is.1 asks)) asks)
+  unread asked is (Some it) says none = in_dialect (is.0 says.0) false it (none, says.1) says.2
+
+  left_once : (is_read other : Bool) → IsLeft variant dating text is_read → IsLeft variant dating text other
+      → other ≡ is_read
+  left_once true true is too = refl
+  left_once false false is too = refl
+  left_once true false (line, of, odd) too = absurd (too.0 (line_value line) of.only.read)
+  left_once false true is (line, of, odd) = absurd (is.0 (line_value line) of.only.read)
+
+  -- a text is read in one dialect or none, as one message
+  pub read_once : (dialect other : Option Dialect) (m n : MessageValue)
+      → IsReadSent dates dating dialects variant text dialect m → IsReadSent dates dating dialects variant text other n
+      → (other ≡ dialect) × (n ≡ m)
+  read_once None None m n is too = (refl, is.0.only n too.0.read)
+  read_once None (Some e) m n is (asked, (is_read, left, sent)) = absurd (is.1 asked is_read left e n sent)
+  read_once (Some d) None m n (asked, (is_read, left, sent)) too = absurd (too.1 asked is_read left d m sent)
+  read_once (Some d) (Some e) m n (asked, (is_read, left, sent)) (again, (other, more, too)) =
+      let same = sent_once dates is_read text d e m n sent
+      (subst (λ (b : Bool). IsSentIn dates b text e n) (left_once is_read other left more) too) in
+      (ap Some same.0, same.1)
+
+-- ---- the elements of the line
+
+-- an odd line has no elements, as a dialect's
+pub same_elements : (dates : Dates) (text : Text) (line : Line) (it : SentLine) → (IsOrdinary line → ⊥)
+    → IsDialectLine dates true text it → list_elements it.line.list ≡ list_elements line.list
+same_elements dates text line it odd says =
+    says.no_elements ∙ sym (no_list (list_elements line.list) (λ some. odd (inr (inl some))))

@@ -1,0 +1,14 @@
+use Rattle.syslog_pieces.proofs.PieceLemmas.Rules.{no_such_front, no_such_meaning, such_front}
+use Rattle.syslog_dialects.specs.Dated.{IsDay}
+use Rattle.syslog_dialects.specs.Zone.{bare_word}
+use Rattle.syslog_dialects.proofs.ZoneLemmas.{bare_word_det}
+use Rattle.syslog_dialects.proofs.dated.weekday.Goals as goal
+
+pub returns-in_err-day : goal.returns-in_err-day
+returns-in_err-day c = rw c.from_residual.ensures (no_such_front bare_word IsDay c.in_err-day.ensures)
+
+pub returns-then-not-is_day : goal.returns-then-not-is_day
+returns-then-not-is_day c = no_such_meaning bare_word IsDay bare_word_det c.in_ok-day.ensures c.if-not-is_day.ensures
+
+pub returns : goal.returns
+returns c = (_, such_front bare_word IsDay c.in_ok-day.ensures c.if-not-is_day.ensures)

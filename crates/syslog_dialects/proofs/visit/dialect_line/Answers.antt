@@ -1,0 +1,41 @@
+use Rattle.std.proofs.Common.{sym, ap, subst, ◌∙◌}
+use Rattle.std.specs.Str.{chars}
+use Rattle.syslog_pieces.specs.StructuredData.Visited.{list_elements}
+use Rattle.syslog_loose.specs.{Line.KnowsForm, Line.line_value, Message.MessageValue, declared.line.Line.Line}
+use Rattle.syslog_dialects.proofs.SentReadingLemmas.{undated, unformed}
+use Rattle.syslog_dialects.specs.{Sent.sent_value, SentLine.IsMessageSent}
+use Rattle.syslog_dialects.proofs.visit.dialect_line.Goals as goal
+
+pub returns-in_err-dialect : goal.returns-in_err-dialect
+returns-in_err-dialect c =
+    let front = rw c.trimmed.ensures at c.optional_priority-priority.ensures in
+    rw c.from_residual.ensures (unformed c.args.dates.now c.args.is_read (chars c.args.input.now) _ _ front
+    c.in_err-dialect.ensures)
+
+pub returns-in_default : goal.returns-in_default
+returns-in_default c =
+    let front = rw c.trimmed.ensures at c.optional_priority-priority.ensures in
+    undated c.args.dates.now c.args.is_read (chars c.args.input.now) _ _ c.in_ok-dialect.dialect
+    (sent_value c.in_ok-dialect.sent) front c.in_ok-dialect.ensures c.in_default.ensures.line
+
+pub returns : goal.returns
+returns c =
+    let front = rw c.trimmed.ensures at c.optional_priority-priority.ensures in
+    let is = c.in-Some.ensures.line in
+    let same = c.of.ensures.0 in
+    let sent = sent_value c.in_ok-dialect.sent in
+    let number = c.optional_priority-priority.result.0 in
+    record {
+      dialect = c.in_ok-dialect.dialect;
+      named = c.of.ensures.1;
+      sent = record {
+        priority = number;
+        follows = _;
+        sent = sent;
+        front = front;
+        form = c.in_ok-dialect.ensures;
+        says = subst (λ (l : Line). IsMessageSent c.args.dates.now number sent (line_value l)) (sym same) is.means;
+      };
+      no_elements = ap (λ (l : Line). list_elements l.list) same ∙ ap (λ (m : MessageValue). m.structured_data) is.means.2;
+      form = subst (λ (l : Line). KnowsForm l) (sym same) c.in-Some.ensures.form;
+    }

@@ -1,0 +1,7 @@
+use Rattle.syslog_pieces.proofs.PieceLemmas.Class.{match_map}
+use Rattle.syslog_dialects.proofs.visit.other_line.Goals as goal
+
+pub returns : goal.returns
+returns c =
+    match_map c.dialect_line.result (λ none asked odd. none)
+    (λ it is. (c.if-not-are_asked.false, c.if-is_ordinary.ensures, is)) c.dialect_line.ensures

@@ -1,0 +1,8 @@
+use Rattle.std.specs.Str.{chars}
+use Rattle.syslog_dialects.proofs.SentReadingLemmas.{unread}
+use Rattle.syslog_dialects.proofs.visit.unread_line.Goals as goal
+
+pub returns-clause-reads : goal.returns-clause-reads
+returns-clause-reads c dating none =
+    unread c.args.dates.now dating c.args.dialects c.args.variant (chars c.args.input.now) c.asks_dialects.result
+    c.asks_dialects.ensures c.last_line.result c.last_line.ensures none

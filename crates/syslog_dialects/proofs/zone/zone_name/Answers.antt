@@ -1,0 +1,13 @@
+use Rattle.syslog_pieces.proofs.PieceLemmas.Rules.{no_such_front, no_such_meaning, such_front}
+use Rattle.syslog_dialects.specs.Zone.{IsZoneName, bare_word}
+use Rattle.syslog_dialects.proofs.ZoneLemmas.{bare_word_det}
+use Rattle.syslog_dialects.proofs.zone.zone_name.Goals as goal
+
+pub returns-in_err-name : goal.returns-in_err-name
+returns-in_err-name c = rw c.from_residual.ensures (no_such_front bare_word IsZoneName c.in_err-name.ensures)
+
+pub returns-then-not-is_zone_name : goal.returns-then-not-is_zone_name
+returns-then-not-is_zone_name c = no_such_meaning bare_word IsZoneName bare_word_det c.in_ok-name.ensures c.if-not-is_zone_name.ensures
+
+pub returns : goal.returns
+returns c = such_front bare_word IsZoneName c.in_ok-name.ensures c.if-not-is_zone_name.ensures

@@ -1,0 +1,88 @@
+-- What a program's line says in the forms that are told by what stands between the date and the program's name.
+use Rattle.std.specs.Prelude.{◌⊎◌, Bool, IsTrue, ◌||◌, List, [], ◌∷◌, Option, Some, None, codes}
+use Rattle.std.specs.Char.{is_not_whitespace}
+use Rattle.syslog_pieces.specs.Pieces.Class.{Text, Class, Values, Row, run, some_run, exactly, rest, mapped, texted, spaced}
+use Rattle.syslog_pieces.specs.Pieces.Lists.{many}
+use Rattle.syslog_pieces.specs.Pieces.Rules.{such_that}
+use Rattle.syslog_pieces.specs.Pieces.View.{text_eq}
+use Rattle.syslog_pieces.specs.Text.{colon, host, is_blank}
+use Rattle.syslog_pieces.specs.Text.{is_tag_char}
+use Rattle.syslog_dialects.specs.Named.{NamedTexts, BeginsWith, hosted, is_letter, process_id, program, tagged}
+use Rattle.syslog_dialects.specs.Runs.{is_word_char}
+use Rattle.std.proofs.Common.{inl, inr}
+
+-- ---- no host: `filterlog[52211]: text`
+
+abbrev pub hostless_row : List Class
+hostless_row = program ∷ some_run is_blank ∷ rest ∷ []
+
+abbrev pub hostless_of : Values hostless_row → NamedTexts
+hostless_of (p, (_, (m, _))) = tagged None p m
+
+abbrev pub hostless : Class
+hostless = mapped (Row hostless_row) NamedTexts hostless_of
+
+-- ---- the severity before the program: `bigip1 notice mcpd[5555]: text`
+
+abbrev pub is_grave : Text → Bool
+is_grave t = text_eq t (codes "emerg") || (text_eq t (codes "alert") || (text_eq t (codes "crit")
+    || (text_eq t (codes "err") || text_eq t (codes "error"))))
+
+abbrev pub is_mild : Text → Bool
+is_mild t = text_eq t (codes "warning") || (text_eq t (codes "warn") || (text_eq t (codes "notice")
+    || (text_eq t (codes "info") || text_eq t (codes "debug"))))
+
+abbrev pub is_severity : Text → Bool
+is_severity t = is_grave t || is_mild t
+
+-- a severity, as a word of its own
+abbrev pub severity : Class
+severity = such_that (texted (some_run is_not_whitespace)) (λ t. IsTrue (is_severity t))
+
+abbrev pub severity_row : List Class
+severity_row = host ∷ some_run is_blank ∷ severity ∷ some_run is_blank ∷ program ∷ run is_blank ∷ rest ∷ []
+
+abbrev pub severity_of : Values severity_row → NamedTexts
+severity_of (h, (_, (_, (_, (p, (_, (m, _))))))) = tagged h p m
+
+abbrev pub severity_first : Class
+severity_first = mapped (Row severity_row) NamedTexts severity_of
+
+-- ---- a name of several words: `nas1 Plex Media Server[811]: text`
+
+-- words with one space between two
+abbrev pub words_row : List Class
+words_row = some_run is_word_char ∷ many (spaced (some_run is_word_char)) ∷ []
+
+abbrev pub words : Class
+words = such_that (texted (Row words_row)) (BeginsWith is_letter)
+
+abbrev pub worded_row : List Class
+worded_row = host ∷ some_run is_blank ∷ words ∷ process_id ∷ exactly colon ∷ run is_blank ∷ rest ∷ []
+
+abbrev pub worded_of : Values worded_row → NamedTexts
+worded_of (h, (_, (name, (id, (_, (_, (m, _))))))) = tagged h (record { name = name; process = Some id }) m
+
+abbrev pub worded : Class
+worded = mapped (Row worded_row) NamedTexts worded_of
+
+-- ---- forwarded: `Message forwarded from aix01: sshd[123]: text`
+
+abbrev pub forwarded_row : List Class
+forwarded_row =
+    exactly (codes "Message forwarded from ") ∷ texted (some_run is_tag_char) ∷ exactly colon ∷ run is_blank
+    ∷ program ∷ run is_blank ∷ rest ∷ []
+
+abbrev pub forwarded_of : Values forwarded_row → NamedTexts
+forwarded_of (_, (h, (_, (_, (p, (_, (m, _))))))) = tagged (Some h) p m
+
+abbrev pub passed_on : Class
+passed_on = mapped (Row forwarded_row) NamedTexts forwarded_of
+
+-- perhaps behind the host that passes it on, which is left out
+abbrev pub relayed_of : NamedTexts ⊎ (Option Text × (Unit {0} × (NamedTexts × Unit {0}))) → NamedTexts
+relayed_of (inl n) = n
+relayed_of (inr (_, (_, (n, _)))) = n
+
+abbrev pub forwarded : Class
+forwarded = mapped (hosted passed_on) NamedTexts relayed_of

@@ -1,0 +1,24 @@
+-- What follows a date as the port reads it: a host field, a tag field, a colon, and the message.
+use Rattle.std.specs.Prelude.{◌≡◌, List, [], ◌∷◌, ◌++◌, Option}
+use Rattle.syslog_pieces.specs.Pieces.Class.{Text, Class, Row, rest}
+use Rattle.syslog_loose.specs.Bodies.Rows.{fields_row}
+use Rattle.syslog_loose.specs.Rfc3164.{Names3164, Resolves, HasProcess}
+
+pub record TailValue : Type 0 where
+  pub hostname : Option Text
+  pub appname : Option Text
+  pub process : Option Text
+  pub msg : Text
+
+abbrev pub tail_row : List Class
+tail_row = fields_row ++ (rest ∷ [])
+
+-- the pieces of the port after a date, and what the fields mean together
+abbrev pub IsTail : Text → Text → TailValue → Type 0
+IsTail p q v = (origin : Option (Option Text)) × (program : Option (Option Text)) × (more : Option (Unit {0}))
+    × (n : Names3164) × (Row tail_row).Is p q (origin, (program, (tt, (more, (tt, (v.msg, tt))))))
+    × Resolves origin program n × (v.hostname ≡ n.hostname) × (v.appname ≡ n.appname)
+    × HasProcess origin program v.process
+
+abbrev pub tail : Class
+tail = record { Value = TailValue; Is = IsTail }

@@ -1,0 +1,69 @@
+-- Messages that no program's name is before: they are told by what they begin with. 32 is a space, 44 `,`, 46 `.`,
+-- 47 `/`, 58 `:`, 61 `=`, 123 `{`, 124 `|`.
+use Rattle.std.proofs.Common.{inl, inr}
+use Rattle.std.specs.Prelude.{◌⊎◌, ◌||◌, Option, Bool, IsTrue, List, [], ◌∷◌, None, codes}
+use Rattle.std.specs.Char.{is_ascii_digit, is_not_whitespace}
+use Rattle.syslog_pieces.specs.Pieces.Class.{Text, Class, Row, run, some_run, exactly, optional, after, mapped, texted}
+use Rattle.syslog_pieces.specs.Pieces.Rules.{such_that}
+use Rattle.syslog_pieces.specs.Pieces.View.{text_eq}
+use Rattle.syslog_pieces.specs.Text.{is_blank}
+use Rattle.syslog_pieces.specs.Timestamp.Rfc3339.{pair, year}
+use Rattle.syslog_dialects.specs.Named.{NamedTexts, beginning, hosted, untagged}
+use Rattle.syslog_dialects.specs.Runs.{is_word_char}
+use Rattle.syslog_dialects.specs.declared.untagged.Mark.{Mark}
+use Rattle.syslog_dialects.specs.declared.untagged.Mark.TheVariants.{Cef, Leef, Repeated, PaloAlto, Pair, Json, Idrac, Level}
+
+abbrev pub some_digits : Class
+some_digits = some_run is_ascii_digit
+
+-- `CEF:0|`
+abbrev pub cef_row : List Class
+cef_row = exactly (codes "CEF:") ∷ run is_blank ∷ some_digits ∷ exactly (124 ∷ []) ∷ []
+
+-- `LEEF:1.0|`
+abbrev pub leef_row : List Class
+leef_row =
+    exactly (codes "LEEF:") ∷ run is_blank ∷ some_digits ∷ exactly (46 ∷ []) ∷ some_digits ∷ exactly (124 ∷ []) ∷ []
+
+-- `last message repeated 3 times`, `message repeated 2 times: [ .. ]`
+abbrev pub repeated_tail : List Class
+repeated_tail = exactly (codes "message repeated ") ∷ some_digits ∷ exactly (codes " time") ∷ []
+
+abbrev pub repeated_row : List Class
+repeated_row = optional (exactly (codes "last ")) ∷ repeated_tail
+
+-- `1,2026/03/02 06:33:04,`
+abbrev pub palo_alto_row : List Class
+palo_alto_row =
+    some_digits ∷ exactly (44 ∷ []) ∷ year ∷ after 47 (pair 100) ∷ after 47 (pair 100) ∷ exactly (32 ∷ []) ∷ pair 100
+    ∷ after 58 (pair 100) ∷ after 58 (pair 100) ∷ exactly (44 ∷ []) ∷ []
+
+-- `key=`
+abbrev pub pair_row : List Class
+pair_row = some_run is_word_char ∷ exactly (61 ∷ []) ∷ []
+
+abbrev pub is_level : Text → Bool
+is_level t = text_eq t (codes "TRACE") || (text_eq t (codes "DEBUG") || (text_eq t (codes "INFO")
+    || (text_eq t (codes "WARN") || (text_eq t (codes "ERROR") || text_eq t (codes "FATAL")))))
+
+-- what begins such a message
+abbrev pub mark_class : Mark → Class
+mark_class Cef = Row cef_row
+mark_class Leef = Row leef_row
+mark_class Repeated = Row repeated_row
+mark_class PaloAlto = Row palo_alto_row
+mark_class Pair = Row pair_row
+mark_class Json = exactly (codes "{\"")
+mark_class Idrac = exactly (codes "Severity: ")
+mark_class Level = such_that (texted (some_run is_not_whitespace)) (λ t. IsTrue (is_level t))
+
+-- such a message, or a host before it
+abbrev pub marked : Mark → Class
+marked m = hosted (beginning (mark_class m))
+
+abbrev pub marked_of : Text ⊎ (Option Text × (Unit {0} × (Text × Unit {0}))) → NamedTexts
+marked_of (inl t) = untagged None t
+marked_of (inr (h, (_, (t, _)))) = untagged h t
+
+abbrev pub message : Mark → Class
+message m = mapped (marked m) NamedTexts marked_of

@@ -1,0 +1,403 @@
+//! Lines of Cisco's systems: IOS, IOS-XE, NX-OS, ASA, FTD and WLC.
+//!
+//! **Rule.** The app name is `%FACILITY-SEVERITY-MNEMONIC`, the message what follows its colon. Counters, sequence
+//! numbers, tasks and the mark of a clock that is not right are left out. The host is the name before the date, or else
+//! that after it; a line that has neither has no host. (Cisco, "System Message Format": IOS System Messages Guide; NX-OS
+//! System Messages Reference; ASA Syslog Messages.)
+//!
+//! `<189>29: *Mar  1 18:48:50.483: %SYS-5-CONFIG_I: text`, `<187>4211: core-sw1: Mar  1 18:48:50 CET: %LINK-3-UPDOWN: text`,
+//! `<189>: 2026 Mar  1 18:48:50 CET: %ETHPORT-5-IF_DOWN: text`, `<166>Mar 01 2026 18:48:50 asa1 : %ASA-6-302013: text`.
+ghost use Rattle.std.specs.Prelude.{◌≡◌, ◌∷◌, [], chars, IsTrue, MatchBool, MatchOption, Option, ℕ};
+ghost use Rattle.std.specs.Char.{is_ascii_digit};
+ghost use Rattle.syslog_pieces.specs.Pieces.Class.{Front, NoFront, Row, exactly, optional, some_run};
+ghost use Rattle.syslog_pieces.specs.Pieces.View.{Reads, Recognises, Skips, seen, shown};
+ghost use Rattle.syslog_pieces.specs.Text.{colon as any_colon, is_blank};
+ghost use Rattle.syslog_dialects.specs.DateViews.{cisco_values, message_values};
+ghost use Rattle.syslog_dialects.specs.Sent.{Sends, sent_value};
+ghost use Rattle.syslog_dialects.specs.Zone.{bare_word as any_word};
+ghost use Rattle.syslog_dialects.specs.Cisco as spec;
+
+use crate::date::any_date;
+use crate::sent::{Sent, SentDate};
+use crate::zone::bare_word;
+use syslog_pieces::text::{CharClass, blanks, first, literal, past_colon, some_blanks, split_run};
+use syslog_pieces::timestamp::MonthDate;
+use syslog_pieces::timestamp::pairs::year;
+
+fn is_letter(c: char) -> bool
+    ensures { result ≡ spec.is_letter c }
+{
+    ('A' <= c && c <= 'Z') || ('a' <= c && c <= 'z')
+}
+
+// A letter or a digit.
+fn begins_host(c: char) -> bool
+    ensures { result ≡ spec.begins_host c }
+{
+    c.is_ascii_digit() || is_letter(c)
+}
+
+fn is_host(word: &str) -> bool
+    ensures { MatchBool result (spec.BeginsBy spec.begins_host (chars word.now))
+        (spec.BeginsBy spec.begins_host (chars word.now) → ⊥) }
+{
+    match first(word) {
+        Some((c, _)) => begins_host(c),
+        None => false,
+    }
+}
+
+// Whether it is `%` or `#`, and then a letter.
+fn is_mnemonic(word: &str) -> bool
+    ensures { MatchBool result (spec.IsMnemonic (chars word.now)) (spec.IsMnemonic (chars word.now) → ⊥) }
+{
+    let Some((mark, more)) = first(word) else {
+        return false;
+    };
+    match first(more) {
+        Some((letter, _)) => (mark == '%' || mark == '#') && is_letter(letter),
+        None => false,
+    }
+}
+
+// The text after these ASCII words, where they begin it.
+fn past<'a>(text: &'a str, words: &str) -> Option<&'a str>
+    requires { IsTrue (spec.are_ascii words.now) }
+    ensures { Skips (exactly words.now) tt (chars text.entry.now) result }
+{
+    text.strip_prefix(words)
+}
+
+// Whether the text begins with these ASCII words.
+pub(crate) fn starts(text: &str, words: &str) -> bool
+    requires { IsTrue (spec.are_ascii words.now) }
+    ensures { MatchBool result (spec.Starts words.now (chars text.now)) (spec.Starts words.now (chars text.now) → ⊥) }
+{
+    match past(text, words) {
+        Some(_) => true,
+        None => false,
+    }
+}
+
+fn is_asa_tag(tag: &str) -> bool
+    ensures { MatchBool result (spec.IsAsaTag (chars tag.now)) (spec.IsAsaTag (chars tag.now) → ⊥) }
+{
+    starts(tag, "%ASA-") || starts(tag, "%FTD-")
+}
+
+// A host's name at the front.
+pub(crate) fn origin(text: &str) -> Option<(&str, &str)>
+    ensures { Reads spec.origin (λ word. shown word) (chars text.now) result }
+{
+    let (word, rest) = bare_word(text)?;
+    if !is_host(word) {
+        return None;
+    }
+    Some((word, rest))
+}
+
+fn optional_origin(text: &str) -> (Option<&str>, &str)
+    ensures { Front (optional spec.origin) (chars text.now) (shown result.1) (seen result.0) }
+{
+    match origin(text) {
+        Some((host, rest)) => (Some(host), rest),
+        None => (None, text),
+    }
+}
+
+// `%FACILITY-SEVERITY-MNEMONIC` at the front.
+fn mnemonic(text: &str) -> Option<(&str, &str)>
+    ensures { Reads spec.mnemonic (λ word. shown word) (chars text.now) result }
+{
+    let (word, rest) = bare_word(text)?;
+    if !is_mnemonic(word) {
+        return None;
+    }
+    Some((word, rest))
+}
+
+pub(crate) fn digits(text: &str) -> Option<&str>
+    ensures { Recognises (some_run is_ascii_digit) (chars text.now) result }
+{
+    let (run, rest) = split_run(text, CharClass::Digit);
+    if run.is_empty() {
+        return None;
+    }
+    Some(rest)
+}
+
+pub(crate) fn colon(text: &str) -> Option<&str>
+    ensures { Recognises (exactly any_colon) (chars text.now) result }
+{
+    literal(text, ':')
+}
+
+pub(crate) fn gap(text: &str) -> Option<&str>
+    ensures { Recognises (some_run is_blank) (chars text.now) result }
+{
+    some_blanks(text)
+}
+
+fn counter(text: &str) -> Option<&str>
+    ensures { Recognises (Row spec.counter_row) (chars text.now) result }
+{
+    digits(text).and_then(colon).and_then(gap)
+}
+
+// The text after a counter, or all of it where there is none.
+pub(crate) fn past_counter(text: &str) -> &str
+    ensures { (v : (optional (Row spec.counter_row)).Value)
+        × Front (optional (Row spec.counter_row)) (chars text.now) (shown result) v }
+{
+    match counter(text) {
+        Some(rest) => rest,
+        None => text,
+    }
+}
+
+// A host's name before a colon and blanks.
+fn label(text: &str) -> Option<(&str, &str)>
+    ensures { Reads spec.label (λ word. shown word) (chars text.now) result }
+{
+    let (host, rest) = origin(text)?;
+    let rest = colon(rest)?;
+    let rest = gap(rest)?;
+    Some((host, rest))
+}
+
+fn optional_label(text: &str) -> (Option<&str>, &str)
+    ensures { Front (optional spec.label) (chars text.now) (shown result.1) (seen result.0) }
+{
+    match label(text) {
+        Some((host, rest)) => (Some(host), rest),
+        None => (None, text),
+    }
+}
+
+fn star(text: &str) -> Option<&str>
+    ensures { Recognises (exactly (42 ∷ [])) (chars text.now) result }
+{
+    literal(text, '*')
+}
+
+fn task_name(text: &str) -> Option<&str>
+    ensures { Recognises any_word (chars text.now) result }
+{
+    let (_, rest) = bare_word(text)?;
+    Some(rest)
+}
+
+fn task(text: &str) -> Option<&str>
+    ensures { Recognises (Row spec.task_row) (chars text.now) result }
+{
+    star(text).and_then(task_name).and_then(colon).and_then(gap)
+}
+
+// The text after a task, or all of it where there is none.
+fn past_task(text: &str) -> &str
+    ensures { (v : (optional (Row spec.task_row)).Value)
+        × Front (optional (Row spec.task_row)) (chars text.now) (shown result) v }
+{
+    match task(text) {
+        Some(rest) => rest,
+        None => text,
+    }
+}
+
+fn mark(text: &str) -> Option<&str>
+    ensures { Recognises spec.mark (chars text.now) result }
+{
+    match literal(text, '*') {
+        Some(rest) => Some(rest),
+        None => literal(text, '.'),
+    }
+}
+
+// The text after a mark, or all of it where there is none.
+fn past_mark(text: &str) -> &str
+    ensures { (v : (optional spec.mark).Value) × Front (optional spec.mark) (chars text.now) (shown result) v }
+{
+    match mark(text) {
+        Some(rest) => rest,
+        None => text,
+    }
+}
+
+// What comes before the date: the host, where it does.
+fn start(text: &str) -> (Option<&str>, &str)
+    ensures { Front spec.start (chars text.now) (shown result.1) (seen result.0) }
+{
+    let after_gap = blanks(text);
+    let after_colon = past_colon(after_gap);
+    let begun = blanks(after_colon);
+    let after_counter = past_counter(begun);
+    let after_number = past_counter(after_counter);
+    let (host, after_host) = optional_label(after_number);
+    let numbered = past_counter(after_host);
+    let after_task = past_task(numbered);
+    let rest = past_mark(after_task);
+    (host, rest)
+}
+
+// A year before blanks.
+fn front_year(text: &str) -> Option<(u16, &str)>
+    ensures { Reads spec.front_year (λ y. y) (chars text.now) result }
+{
+    let (year, rest) = year(text)?;
+    let rest = gap(rest)?;
+    Some((year, rest))
+}
+
+pub(crate) fn optional_front_year(text: &str) -> (Option<u16>, &str)
+    ensures { Front (optional spec.front_year) (chars text.now) (shown result.1) result.0 }
+{
+    match front_year(text) {
+        Some((year, rest)) => (Some(year), rest),
+        None => (None, text),
+    }
+}
+
+// What comes after the date: the host, where it does.
+fn place(text: &str) -> (Option<&str>, &str)
+    ensures { Front spec.place (chars text.now) (shown result.1) (seen result.0) }
+{
+    let (host, rest) = optional_origin(blanks(text));
+    (host, blanks(past_colon(blanks(rest))))
+}
+
+// A mnemonic, a colon and the message.
+fn message(text: &str) -> Option<(&str, &str)>
+    ensures { MatchOption result (NoFront (Row spec.message_row) (chars text.now))
+        (λ x. Front (Row spec.message_row) (chars text.now) [] (message_values (shown x.0) (shown x.1))) }
+{
+    let (tag, rest) = mnemonic(text)?;
+    let rest = colon(blanks(rest))?;
+    Some((tag, blanks(rest)))
+}
+
+/// Returns the date in the year that is shown before it, where one is.
+pub(crate) fn dated_in(year: Option<u16>, shown: SentDate) -> SentDate
+    ensures { result ≡ spec.dated_in year shown }
+{
+    match year {
+        Some(year) => SentDate {
+            date: MonthDate {
+                year: Some(u32::from(year)),
+                ..shown.date
+            },
+            ..shown
+        },
+        None => shown,
+    }
+}
+
+// What a line of Cisco's systems shows.
+#[derive(Clone, Copy)]
+struct Cisco<'a> {
+    first_host: Option<&'a str>,
+    year: Option<u16>,
+    date: SentDate,
+    second_host: Option<&'a str>,
+    tag: &'a str,
+    msg: &'a str,
+}
+
+fn shown_line(text: &str) -> Option<Cisco<'_>>
+    ensures { MatchOption result (NoFront (Row spec.cisco_row) (chars text.now))
+        (λ x. Front (Row spec.cisco_row) (chars text.now) [] (cisco_values x)) }
+{
+    let (first_host, rest) = start(text);
+    let (year, rest) = optional_front_year(rest);
+    let (date, rest) = any_date(rest)?;
+    let (second_host, rest) = place(rest);
+    let (tag, msg) = message(rest)?;
+    Some(Cisco {
+        first_host,
+        year,
+        date,
+        second_host,
+        tag,
+        msg,
+    })
+}
+
+impl<'a> Cisco<'a> {
+    fn sent(&self) -> Sent<'a>
+        ensures { sent_value result ≡ spec.cisco_sent (cisco_values self.now) }
+    {
+        Sent {
+            version: None,
+            date: Some(dated_in(self.year, self.date)),
+            hostname: match self.first_host {
+                Some(host) => Some(host),
+                None => self.second_host,
+            },
+            appname: Some(self.tag),
+            process: None,
+            msgid: None,
+            msg: self.msg,
+        }
+    }
+
+    fn is_nx_os(&self) -> bool
+        ensures { MatchBool result (spec.IsNxOs (cisco_values self.now)) (spec.IsNxOs (cisco_values self.now) → ⊥) }
+    {
+        self.year.is_some()
+    }
+
+    fn is_asa(&self) -> bool
+        ensures { MatchBool result (spec.IsAsa (cisco_values self.now)) (spec.IsAsa (cisco_values self.now) → ⊥) }
+    {
+        is_asa_tag(self.tag)
+    }
+}
+
+/// Returns what a line of ASA or FTD says.
+pub(crate) fn read_asa(text: &str) -> Option<Sent<'_>>
+    ensures { Sends spec.asa_form (chars text.now) result }
+{
+    let line = shown_line(text)?;
+    if !line.is_asa() {
+        return None;
+    }
+    Some(line.sent())
+}
+
+/// Returns what a line of NX-OS says, which has the year before the month.
+pub(crate) fn read_nx_os(text: &str) -> Option<Sent<'_>>
+    ensures { Sends spec.nx_os_form (chars text.now) result }
+{
+    let line = shown_line(text)?;
+    if !line.is_nx_os() {
+        return None;
+    }
+    Some(line.sent())
+}
+
+/// Returns what a line of Cisco's other systems says.
+pub(crate) fn read_ios(text: &str) -> Option<Sent<'_>>
+    ensures { Sends spec.ios_form (chars text.now) result }
+{
+    let line = shown_line(text)?;
+    Some(line.sent())
+}
+
+/// Returns what a line of Cisco's systems says that shows no date.
+pub(crate) fn read_undated(text: &str) -> Option<Sent<'_>>
+    ensures { Sends spec.undated_form (chars text.now) result }
+{
+    let after_gap = blanks(text);
+    let after_colon = past_colon(after_gap);
+    let begun = blanks(after_colon);
+    let rest = past_counter(begun);
+    let (tag, msg) = message(rest)?;
+    Some(Sent {
+        version: None,
+        date: None,
+        hostname: None,
+        appname: Some(tag),
+        process: None,
+        msgid: None,
+        msg,
+    })
+}

@@ -1,0 +1,286 @@
+//! The dates that senders show.
+//!
+//! **Rule.** A month date may have a fraction after the seconds (`.123`, `,123`, or `:123` as H3C writes), a zone
+//! (`zone`) and a year. A date of RFC 3339 may have a space for its `T`, a comma for its dot, months and days of one
+//! digit, an offset without its colon or its minutes, the name of a zone, or no zone at all. Second 60 counts as 59 there,
+//! as the port has it.
+ghost use Rattle.std.specs.Prelude.{◌≡◌, ◌<◌, chars, ℕ, Option, false, MatchBool, option_map};
+ghost use Rattle.syslog_pieces.specs.Pieces.Class.{Front, Row, after, optional};
+ghost use Rattle.syslog_pieces.specs.Pieces.View.{Reads, Recognises, Skips, shown};
+ghost use Rattle.syslog_pieces.specs.Text.{number as any_number};
+ghost use Rattle.syslog_pieces.specs.Timestamp.Rfc3339.{year as any_year};
+ghost use Rattle.syslog_dialects.specs.DateViews.{bsd_values, iso_values};
+ghost use Rattle.syslog_dialects.specs.Zone.{ended, zone as any_zone};
+ghost use Rattle.syslog_dialects.specs.Date as spec;
+
+use crate::decimals::decimals;
+use crate::sent::SentDate;
+use crate::zone::{ends_word, zone};
+use syslog_pieces::text::{literal, number};
+use syslog_pieces::timestamp::month_date::month_date;
+use syslog_pieces::timestamp::pairs::{pair, pair_after, year};
+use syslog_pieces::timestamp::{MonthDate, header_stamp};
+
+/// A month date, and what follows it: a fraction in nanoseconds, a zone with the offset that it is known to be, a year.
+#[derive(Clone, Copy)]
+struct BsdDate {
+    date: MonthDate,
+    nanosecond: Option<u32>,
+    zone: Option<Option<i32>>,
+    year: Option<u16>,
+}
+
+/// The numbers of a date of RFC 3339, nearly.
+#[derive(Clone, Copy)]
+struct IsoDate {
+    year: u16,
+    month: u32,
+    day: u32,
+    hour: u32,
+    minute: u32,
+    second: u32,
+    nanosecond: Option<u32>,
+    zone: Option<Option<i32>>,
+}
+
+// The text after a dot or a comma.
+fn point(text: &str) -> Option<&str>
+    ensures { Recognises spec.point (chars text.now) result }
+{
+    match literal(text, '.') {
+        Some(rest) => Some(rest),
+        None => literal(text, ','),
+    }
+}
+
+// The text after a dot or a comma, or all of it where there is none.
+fn past_point(text: &str) -> &str
+    ensures { (v : (optional spec.point).Value) × Front (optional spec.point) (chars text.now) (shown result) v }
+{
+    match point(text) {
+        Some(rest) => rest,
+        None => text,
+    }
+}
+
+// A dot or a comma, and decimals, in nanoseconds.
+fn fraction(text: &str) -> Option<(u32, &str)>
+    ensures { Reads spec.fraction (λ n. n) (chars text.now) result }
+{
+    let rest = point(text)?;
+    decimals(rest)
+}
+
+fn optional_fraction(text: &str) -> (Option<u32>, &str)
+    ensures { Front (optional spec.fraction) (chars text.now) (shown result.1) result.0 }
+{
+    match fraction(text) {
+        Some((nanosecond, rest)) => (Some(nanosecond), rest),
+        None => (None, text),
+    }
+}
+
+// Decimals after a month date, in nanoseconds. No digit follows the seconds but after the date's last colon.
+fn late_fraction(text: &str) -> Option<(u32, &str)>
+    ensures { Reads spec.late_fraction (λ n. n) (chars text.now) result }
+{
+    decimals(past_point(text))
+}
+
+fn optional_late_fraction(text: &str) -> (Option<u32>, &str)
+    ensures { Front (optional spec.late_fraction) (chars text.now) (shown result.1) result.0 }
+{
+    match late_fraction(text) {
+        Some((nanosecond, rest)) => (Some(nanosecond), rest),
+        None => (None, text),
+    }
+}
+
+/// Returns the zone at the front, where there is one, and the text after it.
+pub(crate) fn optional_zone(text: &str) -> (Option<Option<i32>>, &str)
+    ensures { Front (optional any_zone) (chars text.now) (shown result.1) result.0 }
+{
+    match zone(text) {
+        Some((offset, rest)) => (Some(offset), rest),
+        None => (None, text),
+    }
+}
+
+// A year that is a word.
+fn ended_year(text: &str) -> Option<(u16, &str)>
+    ensures { Reads (ended any_year) (λ y. y) (chars text.now) result }
+{
+    let (year, rest) = year(text)?;
+    ends_word(rest).then_some((year, rest))
+}
+
+// A year after a space.
+fn year_after(text: &str) -> Option<(u16, &str)>
+    ensures { Reads spec.year_after (λ y. y) (chars text.now) result }
+{
+    let rest = literal(text, ' ')?;
+    ended_year(rest)
+}
+
+fn optional_year(text: &str) -> (Option<u16>, &str)
+    ensures { Front (optional spec.year_after) (chars text.now) (shown result.1) result.0 }
+{
+    match year_after(text) {
+        Some((year, rest)) => (Some(year), rest),
+        None => (None, text),
+    }
+}
+
+impl BsdDate {
+    // Whether nothing follows the month date.
+    fn is_plain(&self) -> bool
+        ensures { result ≡ spec.is_plain (bsd_values self.now) }
+    {
+        self.nanosecond.is_none() && self.zone.is_none() && self.year.is_none()
+    }
+
+    fn sent(self) -> SentDate
+        ensures { result ≡ spec.bsd_of (bsd_values self) }
+    {
+        let date = match self.year {
+            Some(year) => MonthDate {
+                year: Some(u32::from(year)),
+                ..self.date
+            },
+            None => self.date,
+        };
+        SentDate {
+            date,
+            nanosecond: self.nanosecond.unwrap_or(0),
+            offset: self.zone.flatten(),
+        }
+    }
+}
+
+// The month date at the front, and what follows it.
+fn bsd(text: &str) -> Option<(BsdDate, &str)>
+    ensures { Reads (Row spec.bsd_row) bsd_values (chars text.now) result }
+{
+    let (date, rest) = month_date(text)?;
+    let (nanosecond, rest) = optional_late_fraction(rest);
+    let (zone, rest) = optional_zone(rest);
+    let (year, rest) = optional_year(rest);
+    let shown = BsdDate {
+        date,
+        nanosecond,
+        zone,
+        year,
+    };
+    Some((shown, rest))
+}
+
+/// Returns the month date at the front, and the text after it.
+pub(crate) fn bsd_date(text: &str) -> Option<(SentDate, &str)>
+    ensures { Reads spec.bsd_date (λ d. d) (chars text.now) result }
+{
+    let (date, rest) = bsd(text)?;
+    Some((date.sent(), rest))
+}
+
+/// Returns the month date at the front, if a fraction, a zone or a year follows it, and the text after these.
+pub(crate) fn odd_bsd_date(text: &str) -> Option<(SentDate, &str)>
+    ensures { Reads spec.odd_bsd_date (λ d. d) (chars text.now) result }
+{
+    let (date, rest) = bsd(text)?;
+    if date.is_plain() {
+        return None;
+    }
+    Some((date.sent(), rest))
+}
+
+// The text after a `T` or a space.
+fn middle(text: &str) -> Option<&str>
+    ensures { Skips spec.middle tt (chars text.now) result }
+{
+    match literal(text, 'T') {
+        Some(rest) => Some(rest),
+        None => literal(text, ' '),
+    }
+}
+
+// A month or a day after a dash.
+fn number_after(text: &str) -> Option<(u32, &str)>
+    ensures { Reads (after 45 (any_number 99)) (λ n. n) (chars text.now) result }
+{
+    let rest = literal(text, '-')?;
+    number(rest, 99)
+}
+
+impl IsoDate {
+    fn sent(self) -> SentDate
+        ensures { result ≡ spec.iso_of (iso_values self) }
+    {
+        let date = MonthDate {
+            year: Some(u32::from(self.year)),
+            month: self.month,
+            day: self.day,
+            hour: self.hour,
+            minute: self.minute,
+            second: self.second.min(59),
+        };
+        SentDate {
+            date,
+            nanosecond: self.nanosecond.unwrap_or(0),
+            offset: self.zone.flatten(),
+        }
+    }
+}
+
+// The date of RFC 3339, nearly, at the front.
+fn iso(text: &str) -> Option<(IsoDate, &str)>
+    ensures { Reads (Row spec.iso_row) iso_values (chars text.now) result }
+{
+    let (year, rest) = year(text)?;
+    let (month, rest) = number_after(rest)?;
+    let (day, rest) = number_after(rest)?;
+    let rest = middle(rest)?;
+    let (hour, rest) = pair(rest, 100)?;
+    let (minute, rest) = pair_after(rest, ':', 100)?;
+    let (second, rest) = pair_after(rest, ':', 61)?;
+    let (nanosecond, rest) = optional_fraction(rest);
+    let (zone, rest) = optional_zone(rest);
+    let shown = IsoDate {
+        year,
+        month,
+        day,
+        hour,
+        minute,
+        second,
+        nanosecond,
+        zone,
+    };
+    Some((shown, rest))
+}
+
+/// Returns the date of RFC 3339, nearly, at the front, and the text after it.
+pub(crate) fn iso_date(text: &str) -> Option<(SentDate, &str)>
+    ensures { Reads spec.iso_date (λ d. d) (chars text.now) result }
+{
+    let (date, rest) = iso(text)?;
+    Some((date.sent(), rest))
+}
+
+/// Returns such a date, if the text begins with no timestamp of RFC 3339, and the text after it.
+pub(crate) fn odd_iso_date(text: &str) -> Option<(SentDate, &str)>
+    ensures { Reads spec.odd_iso_date (λ d. d) (chars text.now) result }
+{
+    match header_stamp(text) {
+        Some(_) => None,
+        None => iso_date(text),
+    }
+}
+
+/// Returns the date at the front in any of the forms, and the text after it.
+pub(crate) fn any_date(text: &str) -> Option<(SentDate, &str)>
+    ensures { Reads spec.any_date (λ d. d) (chars text.now) result }
+{
+    match bsd_date(text) {
+        Some(read) => Some(read),
+        None => iso_date(text),
+    }
+}

@@ -1,0 +1,81 @@
+//! The dialects whose date alone differs from what the port reads.
+//!
+//! | Sender | Line |
+//! |---|---|
+//! | Junos, Huawei, `journalctl -o short-precise` | `Mar  2 06:33:04.123 mx1 rpd[123]: text`, `Mar  2 2026 06:33:04+08:00 h ..` |
+//! | H3C, ArubaOS | `Mar  2 06:33:04 2026 h app: text` |
+//! | `journalctl -o short-iso`, Huawei, log4j | `2026-03-02T06:33:04+0100 h app[1]: text`, `2026-03-02 06:33:04,123 h ..` |
+//! | `journalctl -o short-full` | `Mon 2026-03-02 06:33:04 CET h app[1]: text` |
+//!
+//! What follows the date is read as the port reads it.
+ghost use Rattle.std.specs.Prelude.{◌≡◌, chars, true, MatchBool};
+ghost use Rattle.syslog_pieces.specs.Pieces.View.{Recognises};
+ghost use Rattle.syslog_dialects.specs.Sent.{Sends, sent_value};
+ghost use Rattle.syslog_dialects.specs.TailViews.{tail_value};
+ghost use Rattle.syslog_dialects.specs.Dated as spec;
+
+use crate::date::{iso_date, odd_bsd_date, odd_iso_date};
+use crate::sent::{Sent, SentDate};
+use crate::tail::{Tail, read_tail};
+use crate::zone::{bare_word, is_one_of};
+use syslog_pieces::text::{blanks, some_blanks};
+
+const DAYS: [&str; 7] = ["Mon", "Tue", "Wed", "Thu", "Fri", "Sat", "Sun"];
+
+/// Returns what a date and all after it say.
+pub(crate) fn says<'a>(date: SentDate, tail: Tail<'a>) -> Sent<'a>
+    ensures { sent_value result ≡ spec.dated_sent date (tail_value tail.entry) }
+{
+    Sent {
+        version: None,
+        date: Some(date),
+        hostname: tail.hostname,
+        appname: tail.appname,
+        process: tail.process,
+        msgid: None,
+        msg: tail.msg,
+    }
+}
+
+/// Returns what a line says whose month date has a fraction, a zone or a year after it.
+pub(crate) fn read_bsd(text: &str) -> Option<Sent<'_>>
+    ensures { Sends spec.bsd_form (chars text.now) result }
+{
+    let (date, rest) = odd_bsd_date(blanks(text))?;
+    Some(says(date, read_tail(rest)))
+}
+
+/// Returns what a line says whose date is nearly one of RFC 3339.
+pub(crate) fn read_iso(text: &str) -> Option<Sent<'_>>
+    ensures { Sends spec.iso_form (chars text.now) result }
+{
+    let (date, rest) = odd_iso_date(blanks(text))?;
+    Some(says(date, read_tail(rest)))
+}
+
+fn is_day(word: &str) -> bool
+    ensures { MatchBool result (spec.IsDay (chars word.now)) (spec.IsDay (chars word.now) → ⊥) }
+{
+    is_one_of(&DAYS, word)
+}
+
+// The text after the day of the week.
+fn weekday(text: &str) -> Option<&str>
+    ensures { Recognises spec.weekday (chars text.now) result }
+{
+    let (day, rest) = bare_word(text)?;
+    if !is_day(day) {
+        return None;
+    }
+    Some(rest)
+}
+
+/// Returns what a line says whose date follows the day of the week.
+pub(crate) fn read_journal(text: &str) -> Option<Sent<'_>>
+    ensures { Sends spec.journal_form (chars text.now) result }
+{
+    let after_day = weekday(blanks(text))?;
+    let after_gap = some_blanks(after_day)?;
+    let (date, rest) = iso_date(after_gap)?;
+    Some(says(date, read_tail(rest)))
+}

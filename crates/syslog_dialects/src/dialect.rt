@@ -1,0 +1,126 @@
+//! The dialects, by their names.
+ghost use Rattle.std.specs.Prelude.{◌≡◌};
+ghost use Rattle.syslog_dialects.specs.Dialect.{dialect_name, dialect_number};
+
+/// A form in which senders write, other than the two of the port.
+#[derive(Clone, Copy, Debug)]
+pub enum Dialect {
+    /// A priority and a text that shows no date, as MikroTik's routers write.
+    PriorityAlone,
+    /// A month date that a fraction, a zone or a year follows.
+    BsdDate,
+    /// A date that is nearly one of RFC 3339.
+    NearlyRfc3339,
+    /// The day of the week before such a date, as `journalctl -o short-full` writes.
+    Journal,
+    /// Cisco's IOS, IOS-XE and WLC.
+    CiscoIos,
+    /// Cisco's NX-OS.
+    CiscoNxOs,
+    /// Cisco's ASA and FTD.
+    CiscoAsa,
+    /// Cisco's systems without a date.
+    CiscoUndated,
+    /// Container log files of Kubernetes.
+    Container,
+    /// Cisco's IOS-XR.
+    CiscoIosXr,
+    /// Citrix NetScaler.
+    NetScaler,
+    /// HP's ProCurve and ArubaOS-Switch.
+    ProCurve,
+    /// The last message, repeated.
+    Repeated,
+    /// The Common Event Format of ArcSight.
+    Cef,
+    /// The Log Event Extended Format of QRadar.
+    Leef,
+    /// Palo Alto's PAN-OS: values with commas between them.
+    PaloAlto,
+    /// Pairs of a key and a value, as FortiGate, SonicWall and Sophos write.
+    KeyValue,
+    /// An object of JSON behind the host.
+    Json,
+    /// Dell's iDRAC.
+    Idrac,
+    /// A level of log4j behind the host.
+    Log4j,
+    /// A line that AIX passed on.
+    Forwarded,
+    /// The severity before the program's name, as F5's BIG-IP writes.
+    SeverityFirst,
+    /// A program's name of several words.
+    SpacedName,
+    /// A program's line without a host.
+    NoHost,
+    /// A header of RFC 5424 without structured data, as Heroku writes.
+    Heroku,
+}
+
+impl Dialect {
+    /// Returns the name, as `priority-alone`, in ASCII.
+    pub fn name(self) -> &'static str
+        ensures { result.now ≡ dialect_name self }
+    {
+        match self {
+            Dialect::PriorityAlone => "priority-alone",
+            Dialect::BsdDate => "bsd-date",
+            Dialect::NearlyRfc3339 => "nearly-rfc3339",
+            Dialect::Journal => "journalctl-full",
+            Dialect::CiscoIos => "cisco-ios",
+            Dialect::CiscoNxOs => "cisco-nx-os",
+            Dialect::CiscoAsa => "cisco-asa",
+            Dialect::CiscoUndated => "cisco-undated",
+            Dialect::Container => "container",
+            Dialect::CiscoIosXr => "cisco-ios-xr",
+            Dialect::NetScaler => "netscaler",
+            Dialect::ProCurve => "procurve",
+            Dialect::Repeated => "repeated",
+            Dialect::Cef => "cef",
+            Dialect::Leef => "leef",
+            Dialect::PaloAlto => "palo-alto",
+            Dialect::KeyValue => "key-value",
+            Dialect::Json => "json",
+            Dialect::Idrac => "idrac",
+            Dialect::Log4j => "log4j",
+            Dialect::Forwarded => "forwarded",
+            Dialect::SeverityFirst => "severity-first",
+            Dialect::SpacedName => "spaced-name",
+            Dialect::NoHost => "no-host",
+            Dialect::Heroku => "heroku",
+        }
+    }
+
+    /// Returns the number, from 1 on, which stays the same from one version to the next.
+    pub fn number(self) -> u32
+        ensures { result ≡ dialect_number self }
+    {
+        match self {
+            Dialect::PriorityAlone => 1,
+            Dialect::BsdDate => 20,
+            Dialect::NearlyRfc3339 => 21,
+            Dialect::Journal => 22,
+            Dialect::CiscoIos => 23,
+            Dialect::CiscoNxOs => 24,
+            Dialect::CiscoAsa => 25,
+            Dialect::CiscoUndated => 26,
+            Dialect::Container => 27,
+            Dialect::CiscoIosXr => 28,
+            Dialect::NetScaler => 29,
+            Dialect::ProCurve => 30,
+            Dialect::Repeated => 40,
+            Dialect::Cef => 41,
+            Dialect::Leef => 42,
+            Dialect::PaloAlto => 43,
+            Dialect::KeyValue => 44,
+            Dialect::Json => 45,
+            Dialect::Idrac => 46,
+            Dialect::Log4j => 47,
+            Dialect::Forwarded => 48,
+            Dialect::SeverityFirst => 49,
+            Dialect::SpacedName => 50,
+            Dialect::NoHost => 51,
+            Dialect::Heroku => 52,
+        }
+    }
+}

@@ -1,0 +1,69 @@
+//! The dialects in the order in which they are tried. A text is of the first one that divides it.
+//!
+//! Few lines come here. No reader scans the text more than a few times, and each leaves it at its first missing piece.
+ghost use Rattle.std.specs.Prelude.{chars, ◌++◌};
+ghost use Rattle.syslog_dialects.specs.Dialects.{Finds, dated_forms, forms_of, last_forms, late_forms, named_forms};
+
+use crate::dialect::Dialect;
+use crate::priority_alone::read_alone;
+use crate::sent::Sent;
+use crate::{dated_forms, named_forms};
+
+// The dialect of the text after a priority, by its date, and what it says.
+fn read_dated(text: &str) -> Option<(Dialect, Sent<'_>)>
+    ensures { Finds dated_forms (chars text.now) result }
+{
+    dated_forms::read(text)
+}
+
+// The same by what follows the date.
+fn read_named(text: &str) -> Option<(Dialect, Sent<'_>)>
+    ensures { Finds named_forms (chars text.now) result }
+{
+    named_forms::read(text)
+}
+
+// The same of a text that has a priority, and that the port does not parse.
+fn read_last(text: &str) -> Option<(Dialect, Sent<'_>)>
+    ensures { Finds last_forms (chars text.now) result }
+{
+    let sent = read_alone(text)?;
+    Some((Dialect::PriorityAlone, sent))
+}
+
+// The same by either.
+fn read_early(text: &str) -> Option<(Dialect, Sent<'_>)>
+    ensures { Finds (dated_forms ++ named_forms) (chars text.now) result }
+{
+    match read_dated(text) {
+        Some(found) => Some(found),
+        None => read_named(text),
+    }
+}
+
+// The same of a text after this priority, which the port parses, or not, by the forms that are tried last.
+fn read_late(is_read: bool, priority: Option<u8>, text: &str) -> Option<(Dialect, Sent<'_>)>
+    ensures { Finds (late_forms is_read priority) (chars text.now) result }
+{
+    if is_read {
+        return None;
+    }
+    match priority {
+        Some(_) => read_last(text),
+        None => None,
+    }
+}
+
+/// The dialect of the text after this priority, which the port parses, or not, and what it says.
+pub(crate) fn read_dialect(
+    is_read: bool,
+    priority: Option<u8>,
+    text: &str,
+) -> Option<(Dialect, Sent<'_>)>
+    ensures { Finds (forms_of is_read priority) (chars text.now) result }
+{
+    match read_early(text) {
+        Some(found) => Some(found),
+        None => read_late(is_read, priority, text),
+    }
+}

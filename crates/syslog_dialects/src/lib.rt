@@ -1,0 +1,39 @@
+//! Lines of syslog as their senders meant them: the forms in which switches, firewalls, daemons and journals write, each
+//! as a row of pieces and what they say.
+//!
+//! A line that the port reads rightly keeps its reading (`ordinary`). Any other text is of the first dialect whose row
+//! divides it, and otherwise as the port reads it. The line is the same `Line`, so whatever is made of a line is made of
+//! a dialect's too.
+#![tactic(auto)]
+
+mod cisco;
+mod container;
+mod date;
+mod dated;
+mod dated_forms;
+mod decimals;
+mod dialect;
+mod dialects;
+mod header;
+mod ios_xr;
+mod named;
+mod named_forms;
+#[cfg(test)]
+mod named_tests;
+mod netscaler;
+mod ordinary;
+mod pairs;
+mod priority_alone;
+mod procurve;
+mod programs;
+mod runs;
+mod sent;
+mod tail;
+#[cfg(test)]
+mod tests;
+mod untagged;
+mod visit;
+mod zone;
+
+pub use dialect::Dialect;
+pub use visit::{SentLine, parse_sent_line, sent_line, unread_line};

@@ -1,0 +1,140 @@
+//! What stands after a date: a host, a program's name and the message.
+ghost use Rattle.std.specs.Prelude.{◌≡◌, ◌∷◌, [], IsTrue, MatchBool, Option, chars};
+ghost use Rattle.syslog_pieces.specs.Pieces.Class.{Front, exactly, optional};
+ghost use Rattle.syslog_pieces.specs.Pieces.View.{Reads, Skips, seen, shown, text_eq};
+ghost use Rattle.syslog_dialects.specs.Runs.{are_ascii};
+ghost use Rattle.syslog_dialects.specs.Views.{named_value, program_seen};
+ghost use Rattle.syslog_dialects.specs.Named as spec;
+
+use syslog_pieces::as_str::is_same_text;
+use syslog_pieces::text::{CharClass, first, literal, split_run};
+
+/// A program's name, and the id of its process where one is shown.
+#[derive(Clone, Copy)]
+pub(crate) struct Program<'a> {
+    pub(crate) name: &'a str,
+    pub(crate) process: Option<&'a str>,
+}
+
+/// What follows a date: names and a message.
+#[derive(Clone, Copy)]
+pub(crate) struct Named<'a> {
+    pub(crate) hostname: Option<&'a str>,
+    pub(crate) appname: Option<&'a str>,
+    pub(crate) process: Option<&'a str>,
+    pub(crate) msg: &'a str,
+}
+
+/// The message of a program beside this host.
+pub(crate) fn tagged<'a>(hostname: Option<&'a str>, program: Program<'a>, msg: &'a str) -> Named<'a>
+    ensures { named_value result ≡ spec.tagged (seen hostname.entry) (program_seen program.entry) (shown msg.entry) }
+{
+    Named {
+        hostname,
+        appname: Some(program.name),
+        process: program.process,
+        msg,
+    }
+}
+
+/// A message without a program, beside this host or none.
+pub(crate) fn untagged<'a>(hostname: Option<&'a str>, msg: &'a str) -> Named<'a>
+    ensures { named_value result ≡ spec.untagged (seen hostname.entry) (shown msg.entry) }
+{
+    Named {
+        hostname,
+        appname: None,
+        process: None,
+        msg,
+    }
+}
+
+/// Returns the text after these ASCII words, where they begin the text.
+pub(crate) fn past<'a>(text: &'a str, words: &str) -> Option<&'a str>
+    requires { IsTrue (are_ascii words.now) }
+    ensures { Skips (exactly words.now) tt (chars text.entry.now) result }
+{
+    text.strip_prefix(words)
+}
+
+/// Returns whether the text is this ASCII word.
+pub(crate) fn is_word(text: &str, word: &str) -> bool
+    requires { IsTrue (are_ascii word.now) }
+    ensures { result ≡ text_eq (chars text.now) word.now }
+{
+    is_same_text(&text, &word)
+}
+
+// Whether the name of a program may begin with this character.
+fn begins_name(c: char) -> bool
+    ensures { result ≡ spec.begins_name c }
+{
+    c.is_ascii_alphabetic() || (c == '%' || (c == '(' || (c == '/' || c == '_')))
+}
+
+/// Whether a letter begins the text.
+pub(crate) fn is_letter(text: &str) -> bool
+    ensures { MatchBool result (spec.BeginsWith spec.is_letter (chars text.now))
+        (spec.BeginsWith spec.is_letter (chars text.now) → ⊥) }
+{
+    match first(text) {
+        Some((c, _)) => c.is_ascii_alphabetic(),
+        None => false,
+    }
+}
+
+// Whether the text begins as a program's name does.
+fn is_name(text: &str) -> bool
+    ensures { MatchBool result (spec.BeginsWith spec.begins_name (chars text.now))
+        (spec.BeginsWith spec.begins_name (chars text.now) → ⊥) }
+{
+    match first(text) {
+        Some((c, _)) => begins_name(c),
+        None => false,
+    }
+}
+
+// The name of a program at the front, and the text after it.
+fn name(text: &str) -> Option<(&str, &str)>
+    ensures { Reads spec.name (λ t. shown t) (chars text.now) result }
+{
+    let (run, rest) = split_run(text, CharClass::Label);
+    if is_name(run) {
+        Some((run, rest))
+    } else {
+        None
+    }
+}
+
+/// An id in brackets.
+pub(crate) fn process_id(text: &str) -> Option<(&str, &str)>
+    ensures { Reads spec.process_id (λ t. shown t) (chars text.now) result }
+{
+    let rest = literal(text, '[')?;
+    let (id, rest) = split_run(rest, CharClass::Id);
+    if id.is_empty() {
+        return None;
+    }
+    let rest = literal(rest, ']')?;
+    Some((id, rest))
+}
+
+// An id in brackets, where there is one.
+fn optional_id(text: &str) -> (Option<&str>, &str)
+    ensures { Front (optional spec.process_id) (chars text.now) (shown result.1) (seen result.0) }
+{
+    match process_id(text) {
+        Some((id, rest)) => (Some(id), rest),
+        None => (None, text),
+    }
+}
+
+/// Returns the program at the front, up to its colon, and the text after that.
+pub(crate) fn read_program(text: &str) -> Option<(Program<'_>, &str)>
+    ensures { Reads spec.program program_seen (chars text.now) result }
+{
+    let (name, rest) = name(text)?;
+    let (process, rest) = optional_id(rest);
+    let rest = literal(rest, ':')?;
+    Some((Program { name, process }, rest))
+}

@@ -1,0 +1,138 @@
+//! The dialects that are told by what follows the date, in the order in which they are tried. The date is read once.
+ghost use Rattle.std.specs.Prelude.{◌≡◌, None, chars};
+ghost use Rattle.syslog_pieces.specs.Pieces.Class.{Front, Row, Text};
+ghost use Rattle.syslog_pieces.specs.Pieces.View.{Reads};
+ghost use Rattle.syslog_dialects.specs.Dialects.{Finds};
+ghost use Rattle.syslog_dialects.specs.NamedFinds.{FindsAfter};
+ghost use Rattle.syslog_dialects.specs.NamedForms as spec;
+ghost use Rattle.syslog_dialects.specs.Sent.{loose, sent_value};
+ghost use Rattle.syslog_dialects.specs.Views.{named_value};
+
+use crate::date::any_date;
+use crate::dialect::Dialect;
+use crate::header::read_header;
+use crate::named::Named;
+use crate::pairs::read_pairs;
+use crate::programs::{forwarded, hostless, severity_first, worded};
+use crate::sent::{Sent, SentDate};
+use crate::untagged::{Mark, mark_end, message};
+use syslog_pieces::text::{blanks, some_blanks};
+
+// A date, blanks or none before it, and blanks after it.
+fn front(text: &str) -> Option<(SentDate, &str)>
+    ensures { Reads (Row spec.front_row) (λ d. (tt, (d, (tt, tt)))) (chars text.now) result }
+{
+    let (date, rest) = any_date(blanks(text))?;
+    let rest = some_blanks(rest)?;
+    Some((date, rest))
+}
+
+// What names and a message after a date say.
+fn sent<'a>(date: SentDate, named: Named<'a>) -> Sent<'a>
+    ensures { sent_value result ≡ spec.says date (named_value named.entry) }
+{
+    Sent {
+        version: None,
+        date: Some(date),
+        hostname: named.hostname,
+        appname: named.appname,
+        process: named.process,
+        msgid: None,
+        msg: named.msg,
+    }
+}
+
+// What a message alone says.
+fn bare(msg: &str) -> Sent<'_>
+    ensures { sent_value result ≡ loose None None None None (chars msg.now) }
+{
+    Sent {
+        version: None,
+        date: None,
+        hostname: None,
+        appname: None,
+        process: None,
+        msgid: None,
+        msg,
+    }
+}
+
+// A message without a date before it.
+fn undated(text: &str) -> Option<(Dialect, Sent<'_>)>
+    ensures { Finds spec.undated_forms (chars text.now) result }
+{
+    let msg = blanks(text);
+    if let Some(_) = mark_end(msg, Mark::Cef) {
+        return Some((Dialect::Cef, bare(msg)));
+    }
+    if let Some(_) = mark_end(msg, Mark::Leef) {
+        return Some((Dialect::Leef, bare(msg)));
+    }
+    if let Some(sent) = read_pairs(text) {
+        return Some((Dialect::KeyValue, sent));
+    }
+    if let Some(sent) = read_header(text) {
+        return Some((Dialect::Heroku, sent));
+    }
+    None
+}
+
+// A program's line after its date.
+fn of_program<'a>(date: SentDate, rest: &'a str, text: &'a str) -> Option<(Dialect, Sent<'a>)>
+    ensures { FindsAfter spec.program_forms date (chars rest.entry.now) (chars text.entry.now) result }
+{
+    if let Some(named) = forwarded(rest) {
+        return Some((Dialect::Forwarded, sent(date, named)));
+    }
+    if let Some(named) = severity_first(rest) {
+        return Some((Dialect::SeverityFirst, sent(date, named)));
+    }
+    if let Some(named) = worded(rest) {
+        return Some((Dialect::SpacedName, sent(date, named)));
+    }
+    if let Some(named) = hostless(rest) {
+        return Some((Dialect::NoHost, sent(date, named)));
+    }
+    undated(text)
+}
+
+// A message without a program, after its date.
+fn of_message<'a>(date: SentDate, rest: &'a str, text: &'a str) -> Option<(Dialect, Sent<'a>)>
+    ensures { FindsAfter spec.all_named date (chars rest.entry.now) (chars text.entry.now) result }
+{
+    if let Some(named) = message(rest, Mark::Repeated) {
+        return Some((Dialect::Repeated, sent(date, named)));
+    }
+    if let Some(named) = message(rest, Mark::Cef) {
+        return Some((Dialect::Cef, sent(date, named)));
+    }
+    if let Some(named) = message(rest, Mark::Leef) {
+        return Some((Dialect::Leef, sent(date, named)));
+    }
+    if let Some(named) = message(rest, Mark::PaloAlto) {
+        return Some((Dialect::PaloAlto, sent(date, named)));
+    }
+    if let Some(named) = message(rest, Mark::Pair) {
+        return Some((Dialect::KeyValue, sent(date, named)));
+    }
+    if let Some(named) = message(rest, Mark::Json) {
+        return Some((Dialect::Json, sent(date, named)));
+    }
+    if let Some(named) = message(rest, Mark::Idrac) {
+        return Some((Dialect::Idrac, sent(date, named)));
+    }
+    if let Some(named) = message(rest, Mark::Level) {
+        return Some((Dialect::Log4j, sent(date, named)));
+    }
+    of_program(date, rest, text)
+}
+
+/// The dialect of the text after a priority, by what follows the date, and what it says.
+pub(crate) fn read(text: &str) -> Option<(Dialect, Sent<'_>)>
+    ensures { Finds spec.all_named (chars text.now) result }
+{
+    match front(text) {
+        Some((date, rest)) => of_message(date, rest, text),
+        None => undated(text),
+    }
+}

@@ -1,0 +1,51 @@
+//! A priority, and a text of no other form, as MikroTik's routers write (RouterOS, Log: `remote` without `bsd-syslog`).
+//!
+//! A text that begins with a month date or with a version is of another form that failed: it stays refused.
+ghost use Rattle.std.specs.Prelude.{◌∷◌, MatchBool, chars};
+ghost use Rattle.syslog_pieces.specs.Pieces.Class.{Row};
+ghost use Rattle.syslog_pieces.specs.Pieces.View.{Recognises};
+ghost use Rattle.syslog_dialects.specs.PriorityAlone as spec;
+ghost use Rattle.syslog_dialects.specs.Sent.{Sends};
+
+use crate::sent::Sent;
+use syslog_pieces::text::{blanks, number, some_blanks};
+use syslog_pieces::timestamp::month_date::month_date;
+
+// The text after a number and blanks.
+fn past_version(text: &str) -> Option<&str>
+    ensures { Recognises (Row spec.version_row) (chars text.now) result }
+{
+    let (_, rest) = number(text, u32::MAX)?;
+    some_blanks(rest)
+}
+
+fn is_alone(text: &str) -> bool
+    ensures { MatchBool result (spec.IsAlone (chars text.now)) (spec.IsAlone (chars text.now) → ⊥) }
+{
+    if let Some(_) = month_date(text) {
+        return false;
+    }
+    if let Some(_) = past_version(text) {
+        return false;
+    }
+    !text.is_empty()
+}
+
+/// What a text of no other form says.
+pub(crate) fn read_alone(text: &str) -> Option<Sent<'_>>
+    ensures { Sends spec.alone_form (chars text.now) result }
+{
+    let msg = blanks(text);
+    if !is_alone(msg) {
+        return None;
+    }
+    Some(Sent {
+        version: None,
+        date: None,
+        hostname: None,
+        appname: None,
+        process: None,
+        msgid: None,
+        msg,
+    })
+}

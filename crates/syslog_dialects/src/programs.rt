@@ -1,0 +1,171 @@
+//! Lines of programs that are told by what stands between the date and the program's name.
+ghost use Rattle.std.specs.Prelude.{◌≡◌, ◌∷◌, ◌||◌, [], IfSome, IsUtf8, List, chars, codes};
+ghost use Rattle.syslog_pieces.specs.Pieces.Class.{Front, Row, exactly, some_run, spaced, texted};
+ghost use Rattle.syslog_pieces.specs.Pieces.Lists.{many};
+ghost use Rattle.syslog_pieces.specs.Pieces.View.{Reads, Recognises, shown};
+ghost use Rattle.syslog_pieces.specs.Text.{is_tag_char};
+ghost use Rattle.syslog_dialects.specs.Runs.{is_word_char};
+ghost use Rattle.syslog_dialects.specs.Programs as spec;
+ghost use Rattle.syslog_dialects.specs.Views.{Names, named_value};
+
+use crate::named::{Named, Program, is_letter, is_word, past, process_id, read_program, tagged};
+use crate::runs::{Run, split};
+use syslog_pieces::text::verbatim::before;
+use syslog_pieces::text::{CharClass, blanks, host, literal, some_blanks, split_run};
+
+/// A line without a host.
+pub(crate) fn hostless(text: &str) -> Option<Named<'_>>
+    ensures { Names spec.hostless named_value (chars text.now) result }
+{
+    let (program, rest) = read_program(text)?;
+    let msg = some_blanks(rest)?;
+    Some(tagged(None, program, msg))
+}
+
+fn is_grave(word: &str) -> bool
+    ensures { result ≡ spec.is_grave (chars word.now) }
+{
+    is_word(word, "emerg")
+        || (is_word(word, "alert")
+            || (is_word(word, "crit") || (is_word(word, "err") || is_word(word, "error"))))
+}
+
+fn is_mild(word: &str) -> bool
+    ensures { result ≡ spec.is_mild (chars word.now) }
+{
+    is_word(word, "warning")
+        || (is_word(word, "warn")
+            || (is_word(word, "notice") || (is_word(word, "info") || is_word(word, "debug"))))
+}
+
+fn is_severity(word: &str) -> bool
+    ensures { result ≡ spec.is_severity (chars word.now) }
+{
+    is_grave(word) || is_mild(word)
+}
+
+// A severity at the front.
+fn severity(text: &str) -> Option<(&str, &str)>
+    ensures { Reads spec.severity (λ t. shown t) (chars text.now) result }
+{
+    let (word, rest) = split_run(text, CharClass::Visible);
+    is_severity(word).then_some((word, rest))
+}
+
+/// A line with the severity before the program.
+pub(crate) fn severity_first(text: &str) -> Option<Named<'_>>
+    ensures { Names spec.severity_first named_value (chars text.now) result }
+{
+    let (hostname, rest) = host(text)?;
+    let rest = some_blanks(rest)?;
+    let (_, rest) = severity(rest)?;
+    let rest = some_blanks(rest)?;
+    let (program, rest) = read_program(rest)?;
+    Some(tagged(hostname, program, blanks(rest)))
+}
+
+// The text after a word.
+fn word(text: &str) -> Option<&str>
+    ensures reads { Recognises (some_run is_word_char) (chars text.now) result }
+    ensures utf8 { IfSome result (λ rest. IsUtf8 rest.now) }
+{
+    let (run, rest) = split(text, Run::Word);
+    if run.is_empty() { None } else { Some(rest) }
+}
+
+// The text after a space and a word.
+fn spaced_word(text: &str) -> Option<&str>
+    ensures reads { Recognises (spaced (some_run is_word_char)) (chars text.now) result }
+    ensures utf8 { IfSome result (λ rest. IsUtf8 rest.now) }
+{
+    let rest = literal(text, ' ')?;
+    word(rest)
+}
+
+// The text after more words, each after a space.
+fn more_words(text: &str) -> &str
+    ensures { (vs : List (Unit {0})) × Front (many (spaced (some_run is_word_char))) (chars text.now) (shown result) vs }
+{
+    let mut rest = text;
+    'words: while let Some(more) = spaced_word(rest) {
+        rest = more;
+    }
+    rest
+}
+
+// The text after words with one space between two.
+fn words_end(text: &str) -> Option<&str>
+    ensures { Recognises (Row spec.words_row) (chars text.now) result }
+{
+    word(text).map(more_words)
+}
+
+// A name of words at the front.
+fn words(text: &str) -> Option<(&str, &str)>
+    ensures { Reads spec.words (λ t. shown t) (chars text.now) result }
+{
+    let rest = words_end(text)?;
+    let name = before(text, rest);
+    if is_letter(name) {
+        Some((name, rest))
+    } else {
+        None
+    }
+}
+
+/// A line whose program has a name of several words.
+pub(crate) fn worded(text: &str) -> Option<Named<'_>>
+    ensures { Names spec.worded named_value (chars text.now) result }
+{
+    let (hostname, rest) = host(text)?;
+    let rest = some_blanks(rest)?;
+    let (name, rest) = words(rest)?;
+    let (id, rest) = process_id(rest)?;
+    let rest = literal(rest, ':')?;
+    let program = Program {
+        name,
+        process: Some(id),
+    };
+    Some(tagged(hostname, program, blanks(rest)))
+}
+
+// A host before a colon.
+fn origin(text: &str) -> Option<(&str, &str)>
+    ensures { Reads (texted (some_run is_tag_char)) (λ t. shown t) (chars text.now) result }
+{
+    let (run, rest) = split_run(text, CharClass::Tag);
+    if run.is_empty() {
+        None
+    } else {
+        Some((run, rest))
+    }
+}
+
+fn forwarded_words(text: &str) -> Option<&str>
+    ensures { Recognises (exactly (codes "Message forwarded from ")) (chars text.now) result }
+{
+    past(text, "Message forwarded from ")
+}
+
+// A line that was passed on.
+fn passed_on(text: &str) -> Option<Named<'_>>
+    ensures { Names spec.passed_on named_value (chars text.now) result }
+{
+    let rest = forwarded_words(text)?;
+    let (hostname, rest) = origin(rest)?;
+    let rest = literal(rest, ':')?;
+    let (program, rest) = read_program(blanks(rest))?;
+    Some(tagged(Some(hostname), program, blanks(rest)))
+}
+
+/// A line that was passed on, perhaps with the host that did so.
+pub(crate) fn forwarded(text: &str) -> Option<Named<'_>>
+    ensures { Names spec.forwarded named_value (chars text.now) result }
+{
+    if let Some(named) = passed_on(text) {
+        return Some(named);
+    }
+    let (_, rest) = host(text)?;
+    let rest = some_blanks(rest)?;
+    passed_on(rest)
+}

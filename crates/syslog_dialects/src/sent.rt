@@ -1,0 +1,104 @@
+//! What a sender said in a line, as the pieces of its dialect say it: before any year or zone is asked for, so that no
+//! reader of a dialect looks at a calendar. `line_of` makes the line of it.
+ghost use Rattle.std.specs.Prelude.{◌≡◌, ◌<ℤ◌, pos, IfSome, MatchOption};
+ghost use Rattle.syslog_pieces.specs.Timestamp.{IsAnswer, stamp_seen};
+ghost use Rattle.syslog_loose.specs.Line.{KnowsForm};
+ghost use Rattle.syslog_dialects.specs.Sent.{sent_value};
+ghost use Rattle.syslog_dialects.specs.SentLine.{HasNoStamp, HasStamp, IsLineSent, IsSentStamp, sent_year};
+
+use jiff::tz::Offset;
+use syslog_loose::{ClockStamp, Dates, ElementList, Line};
+use syslog_pieces::timestamp::zone::civil_stamp;
+use syslog_pieces::timestamp::{CivilFields, MonthDate, clock_stamp};
+
+/// The numbers of a date that a line shows, of which there may be no such date. One of RFC 3339 has its year.
+#[derive(Clone, Copy)]
+pub(crate) struct SentDate {
+    /// The date, and the time of day to the second.
+    pub(crate) date: MonthDate,
+    /// The fraction of the second, in nanoseconds.
+    pub(crate) nanosecond: u32,
+    /// How many seconds the clock is ahead of UTC, where the line shows it.
+    pub(crate) offset: Option<i32>,
+}
+
+/// What a line says, but for its priority.
+#[derive(Clone, Copy)]
+pub(crate) struct Sent<'a> {
+    /// The version of RFC 5424, where the line shows one.
+    pub(crate) version: Option<u32>,
+    /// The date.
+    pub(crate) date: Option<SentDate>,
+    /// The host.
+    pub(crate) hostname: Option<&'a str>,
+    /// The app name.
+    pub(crate) appname: Option<&'a str>,
+    /// The text that names the process.
+    pub(crate) process: Option<&'a str>,
+    /// The message id.
+    pub(crate) msgid: Option<&'a str>,
+    /// The message part.
+    pub(crate) msg: &'a str,
+}
+
+// The year that the date shows, or else that of the dates; none where no calendar has it.
+fn year_of(date: MonthDate, dates: &Dates) -> Option<i32>
+    ensures { MatchOption result (pos 9999 <ℤ sent_year dates.now date) (λ year. year ≡ sent_year dates.now date) }
+{
+    match date.year {
+        Some(shown) => i32::try_from(shown).ok(),
+        None => Some(dates.year_of((date.month, date.day, date.hour, date.minute, date.second))),
+    }
+}
+
+// The timestamp of the date: on a clock at its own offset, or in the zone of the dates.
+fn stamp_of(sent: SentDate, dates: &Dates) -> Option<ClockStamp>
+    ensures { IsAnswer (IsSentStamp dates.now sent) result }
+{
+    let date = sent.date;
+    let fields = CivilFields {
+        year: year_of(date, dates)?,
+        month: date.month,
+        day: date.day,
+        hour: date.hour,
+        minute: date.minute,
+        second: date.second,
+        nanosecond: sent.nanosecond,
+    };
+    match sent.offset {
+        Some(seconds) => clock_stamp(fields, Offset::from_seconds(seconds).ok()?),
+        None => civil_stamp(fields, None, &dates.zone),
+    }
+}
+
+// The timestamp of a date that may be absent; none where it does not exist.
+fn optional_stamp(date: Option<SentDate>, dates: &Dates) -> Option<Option<ClockStamp>>
+    ensures { MatchOption result (HasNoStamp dates.now date) (λ stamp. HasStamp dates.now date (stamp_seen stamp)) }
+{
+    match date {
+        Some(date) => Some(Some(stamp_of(date, dates)?)),
+        None => Some(None),
+    }
+}
+
+/// Returns the line that says this, after a priority or none; none where its date does not exist.
+pub(crate) fn line_of<'a>(priority: Option<u8>, sent: &Sent<'a>, dates: &Dates) -> Option<Line<'a>>
+    ensures line { MatchOption result (HasNoStamp dates.now (sent_value sent.now).date)
+        (λ line. IsLineSent dates.now priority (sent_value sent.now) line) }
+    ensures form { IfSome result KnowsForm }
+{
+    let timestamp = optional_stamp(sent.date, dates)?;
+    Some(Line {
+        version: sent.version,
+        priority,
+        timestamp,
+        hostname: sent.hostname,
+        appname: sent.appname,
+        process: sent.process,
+        msgid: sent.msgid,
+        list: ElementList::none(),
+        msg: sent.msg,
+        rest: sent.msg,
+        is_printed: false,
+    })
+}

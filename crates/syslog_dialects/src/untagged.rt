@@ -1,0 +1,255 @@
+//! Messages that no program's name is before: they are told by what they begin with.
+ghost use Rattle.std.specs.Prelude.{◌≡◌, ◌∷◌, [], ◌||◌, Option, chars, codes};
+ghost use Rattle.syslog_pieces.specs.Pieces.Class.{Front, Row, after, exactly, optional, run, some_run};
+ghost use Rattle.syslog_pieces.specs.Pieces.View.{Recognises, shown};
+ghost use Rattle.syslog_pieces.specs.Timestamp.Rfc3339.{pair as pair_class, year as year_class};
+ghost use Rattle.syslog_pieces.specs.Text.{is_blank};
+ghost use Rattle.syslog_dialects.specs.Runs.{is_word_char};
+ghost use Rattle.syslog_dialects.specs.declared.untagged.Mark.TheVariants.{Level};
+ghost use Rattle.syslog_dialects.specs.Untagged as spec;
+ghost use Rattle.syslog_dialects.specs.Views.{Names, named_value};
+
+use crate::named::{Named, is_word, past, untagged};
+use crate::runs::{Run, split};
+use syslog_pieces::text::{CharClass, blanks, host, literal, some_blanks, split_run};
+use syslog_pieces::timestamp::pairs::{pair, pair_after, year};
+
+/// What such a message begins with.
+#[derive(Clone, Copy)]
+pub(crate) enum Mark {
+    /// `CEF:0|`.
+    Cef,
+    /// `LEEF:1.0|`.
+    Leef,
+    /// `last message repeated 3 times`.
+    Repeated,
+    /// `1,2026/03/02 06:33:04,`.
+    PaloAlto,
+    /// `key=`.
+    Pair,
+    /// `{"`.
+    Json,
+    /// `Severity: `.
+    Idrac,
+    /// `INFO`.
+    Level,
+}
+
+fn digits(text: &str) -> Option<&str>
+    ensures { Recognises spec.some_digits (chars text.now) result }
+{
+    let (run, rest) = split_run(text, CharClass::Digit);
+    if run.is_empty() { None } else { Some(rest) }
+}
+
+// The text after blanks or none.
+fn past_blanks(text: &str) -> &str
+    ensures { (v : Unit {0}) × Front (run is_blank) (chars text.now) (shown result) v }
+{
+    blanks(text)
+}
+
+fn bar(text: &str) -> Option<&str>
+    ensures { Recognises (exactly (124 ∷ [])) (chars text.now) result }
+{
+    literal(text, '|')
+}
+
+fn dot(text: &str) -> Option<&str>
+    ensures { Recognises (exactly (46 ∷ [])) (chars text.now) result }
+{
+    literal(text, '.')
+}
+
+fn comma(text: &str) -> Option<&str>
+    ensures { Recognises (exactly (44 ∷ [])) (chars text.now) result }
+{
+    literal(text, ',')
+}
+
+fn space(text: &str) -> Option<&str>
+    ensures { Recognises (exactly (32 ∷ [])) (chars text.now) result }
+{
+    literal(text, ' ')
+}
+
+fn cef_word(text: &str) -> Option<&str>
+    ensures { Recognises (exactly (codes "CEF:")) (chars text.now) result }
+{
+    past(text, "CEF:")
+}
+
+fn leef_word(text: &str) -> Option<&str>
+    ensures { Recognises (exactly (codes "LEEF:")) (chars text.now) result }
+{
+    past(text, "LEEF:")
+}
+
+fn repeated_words(text: &str) -> Option<&str>
+    ensures { Recognises (exactly (codes "message repeated ")) (chars text.now) result }
+{
+    past(text, "message repeated ")
+}
+
+fn times(text: &str) -> Option<&str>
+    ensures { Recognises (exactly (codes " time")) (chars text.now) result }
+{
+    past(text, " time")
+}
+
+// The text after `last `, or all of it.
+fn past_last(text: &str) -> &str
+    ensures { (v : Option (Unit {0})) × Front (optional (exactly (codes "last "))) (chars text.now) (shown result) v }
+{
+    match past(text, "last ") {
+        Some(rest) => rest,
+        None => text,
+    }
+}
+
+fn cef(text: &str) -> Option<&str>
+    ensures { Recognises (Row spec.cef_row) (chars text.now) result }
+{
+    cef_word(text)
+        .map(past_blanks)
+        .and_then(digits)
+        .and_then(bar)
+}
+
+fn leef(text: &str) -> Option<&str>
+    ensures { Recognises (Row spec.leef_row) (chars text.now) result }
+{
+    leef_word(text)
+        .map(past_blanks)
+        .and_then(digits)
+        .and_then(dot)
+        .and_then(digits)
+        .and_then(bar)
+}
+
+fn repeated(text: &str) -> Option<&str>
+    ensures { Recognises (Row spec.repeated_row) (chars text.now) result }
+{
+    repeated_words(past_last(text))
+        .and_then(digits)
+        .and_then(times)
+}
+
+fn four_digits(text: &str) -> Option<&str>
+    ensures { Recognises year_class (chars text.now) result }
+{
+    let (_, rest) = year(text)?;
+    Some(rest)
+}
+
+fn two_digits(text: &str) -> Option<&str>
+    ensures { Recognises (pair_class 100) (chars text.now) result }
+{
+    let (_, rest) = pair(text, 100)?;
+    Some(rest)
+}
+
+fn after_slash(text: &str) -> Option<&str>
+    ensures { Recognises (after 47 (pair_class 100)) (chars text.now) result }
+{
+    let (_, rest) = pair_after(text, '/', 100)?;
+    Some(rest)
+}
+
+fn after_colon(text: &str) -> Option<&str>
+    ensures { Recognises (after 58 (pair_class 100)) (chars text.now) result }
+{
+    let (_, rest) = pair_after(text, ':', 100)?;
+    Some(rest)
+}
+
+fn palo_alto(text: &str) -> Option<&str>
+    ensures { Recognises (Row spec.palo_alto_row) (chars text.now) result }
+{
+    digits(text)
+        .and_then(comma)
+        .and_then(four_digits)
+        .and_then(after_slash)
+        .and_then(after_slash)
+        .and_then(space)
+        .and_then(two_digits)
+        .and_then(after_colon)
+        .and_then(after_colon)
+        .and_then(comma)
+}
+
+fn key(text: &str) -> Option<&str>
+    ensures { Recognises (some_run is_word_char) (chars text.now) result }
+{
+    let (run, rest) = split(text, Run::Word);
+    if run.is_empty() { None } else { Some(rest) }
+}
+
+fn equals(text: &str) -> Option<&str>
+    ensures { Recognises (exactly (61 ∷ [])) (chars text.now) result }
+{
+    literal(text, '=')
+}
+
+fn pair_start(text: &str) -> Option<&str>
+    ensures { Recognises (Row spec.pair_row) (chars text.now) result }
+{
+    key(text).and_then(equals)
+}
+
+fn json(text: &str) -> Option<&str>
+    ensures { Recognises (exactly (codes "{\"")) (chars text.now) result }
+{
+    past(text, "{\"")
+}
+
+fn idrac(text: &str) -> Option<&str>
+    ensures { Recognises (exactly (codes "Severity: ")) (chars text.now) result }
+{
+    past(text, "Severity: ")
+}
+
+fn is_level(word: &str) -> bool
+    ensures { result ≡ spec.is_level (chars word.now) }
+{
+    is_word(word, "TRACE")
+        || (is_word(word, "DEBUG")
+            || (is_word(word, "INFO")
+                || (is_word(word, "WARN") || (is_word(word, "ERROR") || is_word(word, "FATAL")))))
+}
+
+fn level(text: &str) -> Option<&str>
+    ensures { Recognises (spec.mark_class Level) (chars text.now) result }
+{
+    let (word, rest) = split_run(text, CharClass::Visible);
+    is_level(word).then_some(rest)
+}
+
+/// Returns the text after the mark, where it begins the text.
+pub(crate) fn mark_end(text: &str, mark: Mark) -> Option<&str>
+    ensures { Recognises (spec.mark_class mark) (chars text.now) result }
+{
+    match mark {
+        Mark::Cef => cef(text),
+        Mark::Leef => leef(text),
+        Mark::Repeated => repeated(text),
+        Mark::PaloAlto => palo_alto(text),
+        Mark::Pair => pair_start(text),
+        Mark::Json => json(text),
+        Mark::Idrac => idrac(text),
+        Mark::Level => level(text),
+    }
+}
+
+/// A message that the mark begins, or a host and such a message.
+pub(crate) fn message(text: &str, mark: Mark) -> Option<Named<'_>>
+    ensures { Names (spec.message mark) named_value (chars text.now) result }
+{
+    if let Some(_) = mark_end(text, mark) {
+        return Some(untagged(None, text));
+    }
+    let (hostname, rest) = host(text)?;
+    let rest = some_blanks(rest)?;
+    let _ = mark_end(rest, mark)?;
+    Some(untagged(hostname, rest))
+}

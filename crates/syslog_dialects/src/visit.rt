@@ -1,0 +1,196 @@
+//! The way from a text to a line, in a dialect or as the port reads it.
+//!
+//! The port reads the text once. Its line stands where it is ordinary. Otherwise, and where it reads none, the dialects
+//! are tried, by a call: so an ordinary line pays a look at a few of its fields.
+ghost use Rattle.std.specs.Prelude.{◌≡◌, ◌↔◌, [], false, true, IfSome, IsTrue, MatchOption, chars};
+ghost use Rattle.syslog_pieces.specs.StructuredData.Visited.{list_elements};
+ghost use Rattle.syslog_pieces.specs.Timestamp.Zone.{Dating};
+ghost use Rattle.syslog_loose.specs.Dates.{IsDated, year_in};
+ghost use Rattle.syslog_loose.specs.Line.{KnowsForm, line_value};
+ghost use Rattle.syslog_loose.specs.Reading.{IsUnreadable};
+ghost use Rattle.syslog_loose.specs.Visit.{IsLineOf};
+ghost use Rattle.syslog_dialects.specs.Ordinary.{IsOrdinary};
+ghost use Rattle.syslog_dialects.specs.SentReading as spec;
+
+use crate::dialect::Dialect;
+use crate::dialects::read_dialect;
+use crate::ordinary::is_ordinary;
+use crate::sent::line_of;
+use syslog_loose::{Dates, IncompleteDate, Line, Variant, parse_line};
+use syslog_pieces::pri::optional_priority;
+use syslog_pieces::text::{first, trimmed};
+
+/// A line as its sender meant it.
+#[derive(Clone, Copy)]
+pub struct SentLine<'a> {
+    /// The line.
+    pub line: Line<'a>,
+    /// The dialect of the text; none where the line is the port's.
+    pub dialect: Option<Dialect>,
+}
+
+impl<'a> SentLine<'a> {
+    ghost use Rattle.std.specs.Prelude.{◌≡◌};
+
+    // The line, of this dialect or none.
+    #[inline(always)]
+    fn of(line: &Line<'a>, dialect: Option<Dialect>) -> SentLine<'a>
+        ensures { (result.line ≡ line.now) × (result.dialect ≡ dialect) }
+    {
+        SentLine {
+            line: Line {
+                rest: line.rest,
+                ..*line
+            },
+            dialect,
+        }
+    }
+}
+
+// Whether a text of a dialect may begin with this character.
+fn may_begin(c: char) -> bool
+    ensures { result ≡ spec.may_begin c }
+{
+    (c <= ' ' || ('0' <= c && c <= '<'))
+        || ((('A' <= c && c <= '[') || (c == '%' || c == '*'))
+            || ((c == '.' || c == 'd') || (c == 'i' || '\u{7f}' <= c)))
+}
+
+// Whether a dialect may begin the text. Few texts that the port does not parse are looked at further.
+#[inline(always)]
+fn may_be_sent(text: &str) -> bool
+    ensures { IsTrue result ↔ spec.MayBegin (chars text.now) }
+{
+    match first(text) {
+        Some((c, _)) => may_begin(c),
+        None => false,
+    }
+}
+
+// The line of the dialect that the text is in, which the port reads, or not; none where its date does not exist.
+#[cold]
+#[inline(never)]
+fn dialect_line<'a>(is_read: bool, input: &'a str, dates: &Dates) -> Option<SentLine<'a>>
+    ensures { MatchOption result (spec.IsInNone dates.now is_read (chars input.entry.now))
+        (spec.IsDialectLine dates.now is_read (chars input.entry.now)) }
+{
+    let (priority, text) = optional_priority(trimmed(input));
+    let (dialect, sent) = read_dialect(is_read, priority, text)?;
+    let Some(line) = line_of(priority, &sent, dates) else {
+        return None;
+    };
+    Some(SentLine::of(&line, Some(dialect)))
+}
+
+// The line of a dialect instead of the port's, which is not ordinary, where the dialects are asked.
+#[inline(always)]
+fn other_line<'a>(
+    line: &Line<'a>,
+    input: &'a str,
+    dates: &Dates,
+    are_asked: bool,
+) -> Option<SentLine<'a>>
+    requires { KnowsForm line.now }
+    ensures { MatchOption result
+        (IsTrue are_asked → (IsOrdinary line.now → ⊥) → spec.IsInNone dates.now true (chars input.entry.now))
+        (λ it. IsTrue are_asked × (IsOrdinary line.now → ⊥)
+        × spec.IsDialectLine dates.now true (chars input.entry.now) it) }
+{
+    if !are_asked {
+        return None;
+    }
+    if is_ordinary(line) {
+        return None;
+    }
+    dialect_line(true, input, dates)
+}
+
+// The line of a dialect where the port reads none, where the dialects are asked.
+#[inline(always)]
+fn last_line<'a>(input: &'a str, dates: &Dates, are_asked: bool) -> Option<SentLine<'a>>
+    ensures { MatchOption result (IsTrue are_asked → spec.MayBegin (chars input.entry.now)
+        → spec.IsInNone dates.now false (chars input.entry.now))
+        (λ it. IsTrue are_asked × spec.MayBegin (chars input.entry.now)
+        × spec.IsDialectLine dates.now false (chars input.entry.now) it) }
+{
+    if !are_asked {
+        return None;
+    }
+    if !may_be_sent(input) {
+        return None;
+    }
+    dialect_line(false, input, dates)
+}
+
+/// Returns the line of the text as its sender meant it, where this is the port's line. It takes no memory.
+///
+/// Where `dialects` is true and the variant is `Either`, the line of a dialect that the text is in comes before the
+/// port's, unless that is ordinary. Otherwise the line is the port's. A dialect's line has no elements, and instead of
+/// one that has some there is none: so what a visitor was given of the elements holds of this line.
+#[inline(always)]
+pub fn sent_line<'a>(
+    line: &Line<'a>,
+    input: &'a str,
+    dates: &Dates,
+    variant: Variant,
+    dialects: bool,
+) -> SentLine<'a>
+    requires { KnowsForm line.now }
+    ensures reads { (dating : Dating) → IsLineOf variant dating (chars input.entry.now) line.now
+        → spec.IsReadSent dates.now dating dialects variant (chars input.entry.now) result.dialect (line_value result.line) }
+    ensures elements { list_elements result.line.list ≡ list_elements line.now.list }
+    ensures form { KnowsForm result.line }
+{
+    match other_line(line, input, dates, asks_dialects(variant, dialects)) {
+        Some(sent) => sent,
+        None => SentLine::of(line, None),
+    }
+}
+
+/// Returns the line of the text as its sender meant it, where the port reads none, and none where the text is no message.
+/// It takes no memory, and the line has no elements.
+#[inline(always)]
+pub fn unread_line<'a>(
+    input: &'a str,
+    dates: &Dates,
+    variant: Variant,
+    dialects: bool,
+) -> Option<SentLine<'a>>
+    ensures reads { (dating : Dating) → IsUnreadable variant dating (chars input.entry.now)
+        → spec.IsSentAnswer dates.now dating dialects variant (chars input.entry.now) result }
+    ensures elements { IfSome result (λ it. list_elements it.line.list ≡ []) }
+    ensures form { IfSome result (λ it. KnowsForm it.line) }
+{
+    last_line(input, dates, asks_dialects(variant, dialects))
+}
+
+// Whether the dialects are asked.
+#[inline(always)]
+fn asks_dialects(variant: Variant, dialects: bool) -> bool
+    ensures { IsTrue result ↔ spec.AreAsked dialects variant }
+{
+    dialects && matches!(variant, Variant::Either)
+}
+
+/// Returns the line of the text as its sender meant it, and none where it is no message. It takes no memory.
+///
+/// The arguments are those of `sent_line` and `unread_line`; `dates` has the year and the zone of dates that show none.
+#[inline(always)]
+pub fn parse_sent_line<'a>(
+    input: &'a str,
+    dates: &Dates,
+    variant: Variant,
+    dialects: bool,
+) -> Option<SentLine<'a>>
+    ensures reads { IsDated dates.now variant (chars input.entry.now) (λ dating.
+        spec.IsSentAnswer dates.now dating dialects variant (chars input.entry.now) result) }
+    ensures form { IfSome result (λ it. KnowsForm it.line) }
+{
+    let get_year = |date: IncompleteDate| -> i32
+        ensures { result ≡ year_in dates.entry.now date }
+    { dates.year_of(date) };
+    match parse_line(input, get_year, None, variant, &dates.zone) {
+        Some(line) => Some(sent_line(&line, input, dates, variant, dialects)),
+        None => unread_line(input, dates, variant, dialects),
+    }
+}

@@ -1,0 +1,156 @@
+//! The zone that a sender shows after the time: an offset in digits, as `+01:00`, `+0100` or `+01`, or a name.
+//!
+//! **Rule.** `UTC`, `GMT` and `Z` are offset 0. Any other name of the IANA time zone database is passed over, since most
+//! names mean several zones: the date then is in the zone of dates that show none.
+ghost use Rattle.std.specs.Prelude.{◌≡◌, ◌<◌, ◌∷◌, [], chars, ℕ, List, Option, true, MatchBool, map, unwrap_or};
+ghost use Rattle.syslog_pieces.specs.Pieces.Class.{Ends, Front};
+ghost use Rattle.syslog_pieces.specs.Pieces.View.{Reads, shown};
+ghost use Rattle.syslog_pieces.specs.Text.{is_tag_char};
+ghost use Rattle.syslog_pieces.specs.Timestamp.Rfc3339 as rfc3339;
+ghost use Rattle.syslog_dialects.specs.Zone as spec;
+
+use syslog_pieces::as_str::is_same_text;
+use syslog_pieces::text::{CharClass, blanks, first, literal, past_colon, split_run};
+use syslog_pieces::timestamp::pairs::pair;
+
+/// The names of zones that are passed over, and those of offset 0 before them.
+const ZONE_NAMES: [&str; 51] = [
+    "UTC", "GMT", "Z", "CET", "CEST", "EST", "EDT", "CST", "CDT", "MST", "MDT", "PST", "PDT",
+    "AKST", "AKDT", "HST", "HDT", "AST", "ADT", "NST", "NDT", "WET", "WEST", "BST", "IST", "MET",
+    "MEST", "EET", "EEST", "MSK", "SAST", "WAT", "CAT", "EAT", "IDT", "PKT", "WIB", "WITA", "WIT",
+    "HKT", "KST", "JST", "AWST", "ACST", "ACDT", "AEST", "AEDT", "NZST", "NZDT", "ChST", "SST",
+];
+
+const UNIVERSAL_NAMES: [&str; 3] = ["UTC", "GMT", "Z"];
+
+/// Returns the maximal run without white space and colons at the front, if it is not empty, and the text after it.
+pub(crate) fn bare_word(text: &str) -> Option<(&str, &str)>
+    ensures { Reads spec.bare_word (λ word. shown word) (chars text.now) result }
+{
+    let (word, rest) = split_run(text, CharClass::Tag);
+    if word.is_empty() {
+        return None;
+    }
+    Some((word, rest))
+}
+
+/// Returns whether a word without white space and colons has ended before the text.
+pub(crate) fn ends_word(text: &str) -> bool
+    ensures { MatchBool result (Ends is_tag_char (chars text.now)) (Ends is_tag_char (chars text.now) → ⊥) }
+{
+    match first(text) {
+        Some((c, _)) => !CharClass::Tag.has(c),
+        None => true,
+    }
+}
+
+/// Returns whether the word is one of these.
+pub(crate) fn is_one_of(words: &[&str], word: &str) -> bool
+    ensures { result ≡ spec.is_among (chars word.now) (map (λ s. shown s) words.now) }
+{
+    for other in words {
+        if is_same_text(other, &word) {
+            return true;
+        }
+    }
+    false
+}
+
+// `+` or `-`: whether it is `-`.
+fn sign(text: &str) -> Option<(bool, &str)>
+    ensures { Reads rfc3339.sign (λ behind. behind) (chars text.now) result }
+{
+    if let Some(rest) = literal(text, '-') {
+        return Some((true, rest));
+    }
+    let rest = literal(text, '+')?;
+    Some((false, rest))
+}
+
+fn minutes(text: &str) -> Option<(u32, &str)>
+    ensures { Reads spec.minutes (λ minutes. minutes) (chars text.now) result }
+{
+    pair(past_colon(text), 60)
+}
+
+fn some_minutes(text: &str) -> (u32, &str)
+    ensures reads { Front spec.some_minutes (chars text.now) (shown result.1) result.0 }
+    ensures small { result.0 < 60 }
+{
+    match minutes(text) {
+        Some((minutes, rest)) => (minutes, rest),
+        None => (0, text),
+    }
+}
+
+// Hours and minutes in seconds, negative where the clock is behind UTC.
+fn seconds(is_behind: bool, hours: u32, minutes: u32) -> i32
+    requires hours { hours < 24 }
+    requires minutes { minutes < 60 }
+    ensures { result ≡ rfc3339.seconds_of (is_behind, (hours, (minutes, tt))) }
+{
+    let seconds = ((hours * 60 + minutes) * 60) as i32;
+    if is_behind { -seconds } else { seconds }
+}
+
+// The offset in digits at the front, in seconds.
+fn numeric_offset(text: &str) -> Option<(i32, &str)>
+    ensures { Reads spec.numeric_offset (λ seconds. seconds) (chars text.now) result }
+{
+    let (is_behind, rest) = sign(text)?;
+    let (hours, rest) = pair(rest, 24)?;
+    let (minutes, rest) = some_minutes(rest);
+    if !ends_word(rest) {
+        return None;
+    }
+    Some((seconds(is_behind, hours, minutes), rest))
+}
+
+fn is_zone_name(name: &str) -> bool
+    ensures { MatchBool result (spec.IsZoneName (chars name.now)) (spec.IsZoneName (chars name.now) → ⊥) }
+{
+    is_one_of(&ZONE_NAMES, name)
+}
+
+fn is_universal(name: &str) -> bool
+    ensures { result ≡ spec.is_among (chars name.now) spec.universal_names }
+{
+    is_one_of(&UNIVERSAL_NAMES, name)
+}
+
+// The name of a zone at the front.
+fn zone_name(text: &str) -> Option<(&str, &str)>
+    ensures { Reads spec.zone_name (λ name. shown name) (chars text.now) result }
+{
+    let (name, rest) = bare_word(text)?;
+    if !is_zone_name(name) {
+        return None;
+    }
+    Some((name, rest))
+}
+
+// The offset of a name, where it is known.
+fn name_offset(name: &str) -> Option<i32>
+    ensures { result ≡ spec.name_offset (chars name.now) }
+{
+    if is_universal(name) { Some(0) } else { None }
+}
+
+// The offset or the name of a zone at the front.
+fn zone_mark(text: &str) -> Option<(Option<i32>, &str)>
+    ensures { Reads spec.zone_mark (λ offset. offset) (chars text.now) result }
+{
+    if let Some((seconds, rest)) = numeric_offset(text) {
+        return Some((Some(seconds), rest));
+    }
+    let (name, rest) = zone_name(text)?;
+    Some((name_offset(name), rest))
+}
+
+/// Returns the zone at the front, after blanks or none: the offset that it is known to be, in seconds. Returns the text
+/// after it too.
+pub(crate) fn zone(text: &str) -> Option<(Option<i32>, &str)>
+    ensures { Reads spec.zone (λ offset. offset) (chars text.now) result }
+{
+    zone_mark(blanks(text))
+}

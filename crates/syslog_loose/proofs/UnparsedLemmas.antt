@@ -1,0 +1,149 @@
+-- What is left unparsed of a text: one text, which is that of its line, and nothing of a printed message.
+use Rattle.syslog_loose.proofs.Names.{◌≡◌, ◌⊎◌, inl, inr, ◌∷◌, ◌++◌, ◌∙◌, ◌also◌, ◌then◌, [], refl, sym, ap, subst}
+use Rattle.syslog_loose.proofs.Names.{List, Option, Some, None, option_map, Text, Class, Values, Front, Row, Division}
+use Rattle.syslog_loose.proofs.Names.{AllDeterministic, all_joined, run_det, rest_det, run, rest, texted}
+use Rattle.syslog_loose.proofs.Names.{optional, trimmed, number, is_blank, word, process_word}
+use Rattle.syslog_loose.proofs.Names.{unique_division, front_division, division_front, row_pieces, row_of, rows_join}
+use Rattle.syslog_loose.proofs.Names.{MessageValue, rfc5424_row, IsRead5424, IsRead3164, DashRule, Dating, Line}
+use Rattle.syslog_loose.proofs.Names.{IsLineOf, named_process, named_names, rfc3164_list}
+use Rattle.syslog_loose.specs.Words.{forgiving, list_text}
+use Rattle.syslog_loose.proofs.Names.{ElementValue, names_row, front_row, header_row}
+use Rattle.syslog_pieces.proofs.ProcIdLemmas.{absent_front, process_front}
+use Rattle.syslog_pieces.proofs.StructuredDataLemmas.Unparsed.{IsBracketed, full_leaves, leaving_det}
+use Rattle.syslog_pieces.proofs.StructuredDataLemmas.Unparsed.{left_bracketed, nothing_leaves, unparsed_same}
+use Rattle.syslog_pieces.specs.StructuredData.Unparsed.{IsUnparsed, leaving}
+use Rattle.syslog_loose.specs.Bodies.Rows.{words_row}
+use Rattle.syslog_loose.specs.LineTexts.{IsLine3164, IsLine5424}
+use Rattle.syslog_loose.specs.Reading.{dash_rule}
+use Rattle.syslog_loose.specs.Unparsed.{Leaves, Leaves5424, left_of, leaving_row}
+use Rattle.syslog_loose.specs.declared.variant.Variant.{Variant}
+use Rattle.syslog_loose.specs.declared.variant.Variant.TheVariants.{Either, RFC3164, RFC5424}
+use Rattle.syslog_loose.proofs.Rfc5424Lemmas.{header_det, tail_row}
+
+leaving_row_det : AllDeterministic leaving_row
+leaving_row_det = all_joined header_row tail_row header_det
+    (run_det is_blank also leaving_det also run_det is_blank also rest_det also tt)
+
+pub leaves_5424_same : (text u w : Text) → Leaves5424 text u → Leaves5424 text w → u ≡ w
+leaves_5424_same text u w a b =
+    a.means ∙ ap left_of (unique_division leaving_row leaving_row_det a.division b.division).1 ∙ sym b.means
+
+leaving_front : {t q u : Text} → Front leaving t q u → (es : List ElementValue) × Front forgiving t q es
+leaving_front f = let ((es, is), left) = f.is in (es, record { piece = f.piece; whole = f.whole; is = is })
+
+-- what leaves something is read
+leaving_read : (t : Text) (vs : Values leaving_row) → Division leaving_row t vs
+    → (ws : Values rfc5424_row) × Division rfc5424_row t ws
+leaving_read t vs d =
+    let (t1, pri, (t2, number, (t3, s1, (t4, stamp, (t5, s2, (t6, name, (t7, s3, more))))))) =
+    row_pieces leaving_row (division_front leaving_row d) in
+    let (t8, app, (t9, s4, (t10, process, (t11, s5, after)))) = more in
+    let (t12, id, (t13, s6, (t14, list, (t15, s7, (t16, msg, end))))) = after in
+    let (es, forgiven) = leaving_front list in (
+      _,
+      front_division rfc5424_row (row_of rfc5424_row (pri then number then s1 then stamp then s2 then name then s3
+          then app then s4 then process then s5 then id then s6 then forgiven then s7 then msg then end)),
+    )
+
+pub leaves_same : (variant : Variant) (text u w : Text) → Leaves variant text u → Leaves variant text w → u ≡ w
+leaves_same RFC5424 text u w a b = leaves_5424_same text u w a b
+leaves_same RFC3164 text u w a b = a ∙ sym b
+leaves_same Either text u w (inl a) (inl b) = leaves_5424_same text u w a b
+leaves_same Either text u w (inl a) (inr (n, b)) =
+    absurd (let (ws, d) = leaving_read (trimmed text) a.values a.division in n ws d)
+leaves_same Either text u w (inr (n, a)) (inl b) =
+    absurd (let (ws, d) = leaving_read (trimmed text) b.values b.division in n ws d)
+leaves_same Either text u w (inr (n, a)) (inr (m, b)) = a ∙ sym b
+
+-- ---- what is left begins and ends in brackets
+
+left_shape : (text u : Text) → Leaves5424 text u → (u ≡ []) ⊎ IsBracketed u
+left_shape text u a =
+    let (t1, pri, (t2, number, (t3, s1, (t4, stamp, (t5, s2, (t6, name, (t7, s3, more))))))) =
+    row_pieces leaving_row (division_front leaving_row a.division) in
+    let (t8, app, (t9, s4, (t10, process, (t11, s5, after)))) = more in
+    let (t12, id, (t13, s6, (t14, list, (t15, s7, (t16, msg, end))))) = after in
+    subst (λ (x : Text). (x ≡ []) ⊎ IsBracketed x) (sym a.means) (left_bracketed list.piece t14 _ list.is)
+
+pub leaves_shape : (variant : Variant) (text u : Text) → Leaves variant text u → (u ≡ []) ⊎ IsBracketed u
+leaves_shape RFC5424 text u a = left_shape text u a
+leaves_shape RFC3164 text u a = inl a
+leaves_shape Either text u (inl a) = left_shape text u a
+leaves_shape Either text u (inr (n, a)) = inl a
+
+-- ---- of a line
+
+named_front : {t q : Text} {v : Option Text} → Front word t q v → Front process_word t q (option_map named_process v)
+named_front {v = None} f = absent_front f
+named_front {v = Some t} f = process_front (named_process t) f (named_names t)
+
+names_front : {t q : Text} {vs : Values words_row} → Front (Row words_row) t q vs
+    → (ws : Values names_row) × Front (Row names_row) t q ws
+names_front f =
+    let (t1, s1, (t2, name, (t3, s2, (t4, app, (t5, s3, (t6, process, (t7, s4, (t8, id, end)))))))) =
+    row_pieces words_row f in
+    (_, row_of names_row (s1 then name then s2 then app then s3 then named_front process then s4 then id then end))
+
+-- the list, as its text, and the message part
+abbrev text_row : List Class
+text_row = run is_blank ∷ texted forgiving ∷ run is_blank ∷ rest ∷ []
+
+strict_leaves : (text : Text) (line : Line) (u : Text) → IsLine5424 text line → IsUnparsed (list_text line.list) u
+    → Leaves5424 text u
+strict_leaves text line u is left =
+    let (ws, names) = names_front is.names in
+    let (t1, s1, (t2, list, (t3, s2, (t4, msg, end)))) = row_pieces text_row (division_front text_row is.parts) in
+    let (es, forgiven, own) = list.is in
+    let what : Front leaving t1 t2 u = record {
+      piece = list.piece;
+      whole = list.whole;
+      is = ((es, forgiven), subst (λ (x : Text). IsUnparsed x u) own left);
+    } in
+    let tail = row_of tail_row (s1 then what then s2 then msg then end) in
+    record {
+      values = _;
+      division = front_division leaving_row (rows_join front_row (names_row ++ tail_row) is.front
+          (rows_join names_row tail_row names tail));
+      means = refl;
+    }
+
+-- no message is read by both protocols
+apart : {rule : DashRule} {dating : Dating} {text : Text} {m : MessageValue} → IsRead5424 text m
+    → IsRead3164 rule dating text m → ⊥
+apart {m = m} r s =
+    let e = sym (ap (λ (x : MessageValue). x.protocol) r.means)
+    ∙ ap (λ (x : MessageValue). x.protocol) s.means.2 in absurd cc
+
+loose_list : (rule : DashRule) (p q : Text) (v : Option (List ElementValue)) → (optional (rfc3164_list rule)).Is p q v
+    → IsUnparsed p []
+loose_list rule p q None h = nothing_leaves p h.0
+loose_list rule p q (Some es) (inl (d, before, none)) = inl (d, refl)
+loose_list rule p q (Some es) (inr (some, h)) = full_leaves p q es some h
+
+-- a list of RFC 3164 is strict
+loose_leaves : (dating : Dating) (text : Text) (line : Line) (u : Text) → IsLine3164 dating text line
+    → IsUnparsed (list_text line.list) u → u ≡ []
+loose_leaves dating text line u is left =
+    let (t1, list, _) =
+    row_pieces (texted (optional (rfc3164_list dash_rule)) ∷ run is_blank ∷ rest ∷ []) (division_front _ is.parts) in
+    let (es, forgiven, own) = list.is in
+    unparsed_same (list_text line.list) u [] left
+    (subst (λ (x : Text). IsUnparsed x []) (sym own) (loose_list dash_rule list.piece t1 es forgiven))
+
+pub leaves_of : (variant : Variant) (dating : Dating) (text : Text) (line : Line) (u : Text)
+    → IsLineOf variant dating text line → IsUnparsed (list_text line.list) u → Leaves variant text u
+leaves_of RFC5424 dating text line u of left = elim of.shows [
+  | inl strict ↦ strict_leaves text line u strict left
+  | inr loose ↦ absurd (apart of.only.read loose.read)
+]
+leaves_of RFC3164 dating text line u of left = elim of.shows [
+  | inl strict ↦ absurd (apart strict.read of.only.read)
+  | inr loose ↦ loose_leaves dating text line u loose left
+]
+leaves_of Either dating text line u of left = elim of.shows [
+  | inl strict ↦ inl (strict_leaves text line u strict left)
+  | inr loose ↦ elim of.only.read [
+    | inl read ↦ absurd (apart read loose.read)
+    | inr read ↦ inr (read.0, loose_leaves dating text line u loose left)
+  ]
+]
