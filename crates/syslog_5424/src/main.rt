@@ -30,7 +30,7 @@ fn run_task(rt: &HostRuntime, task: Result<Task, Wrong<'_>>) -> u8 {
     match task {
         Ok(Task::Help) => say(HELP, &mut out, &mut errors),
         Ok(Task::Version) => say_version("syslog_5424", VERSION, &mut out, &mut errors),
-        Ok(Task::Lines { dates, .. }) => filter_input(rt, dates),
+        Ok(Task::Lines(options)) => filter_input(rt, options.dates),
         Err(wrong) => refuse_words(rt, USAGE, wrong, &mut errors),
     }
 }

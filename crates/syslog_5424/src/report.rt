@@ -2,11 +2,10 @@
 
 /// How the program is called, in one line.
 pub const USAGE: &str =
-    "usage: syslog_5424 [--offset OFFSET] [--] YEAR[-MONTH], or --help, or --version\n";
+    "usage: syslog_5424 [OPTION].. [--] YEAR[-MONTH], or --help, or --version\n";
 
 /// How the program is called, and what it does.
-pub const HELP: &str =
-    "usage: syslog_5424 [--offset OFFSET] [--] YEAR[-MONTH], or --help, or --version
+pub const HELP: &str = "usage: syslog_5424 [OPTION].. [--] YEAR[-MONTH], or --help, or --version
 
 Reads lines of syslog from standard input, and writes each that parses to
 standard output as RFC 5424, by the letter of its grammar. What the grammar
@@ -15,10 +14,11 @@ that does not parse is left out.
   YEAR             the year of dates that show none: one to four digits
   YEAR-MONTH       the same, and the month that it is now, two digits: in
                    January a date of December is of the year before
+Options, in any order, each at most once:
   --offset OFFSET  the zone of dates that show none, +HH:MM or -HH:MM; it is
                    UTC where this is left out
   --               may come before YEAR
-  --help           this text
+  -h, --help       this text
   --version        the name and the version of this program
 
 How many lines were left out is written to standard error at the end.

@@ -1,5 +1,6 @@
 -- The word of a date.
-use Rattle.syslog_command_line.proofs.Names.{length, get_or, MatchOption, Option, arith, subst, IsInRange, IsYear, NamesDate}
+use Rattle.syslog_command_line.proofs.Names.{length, get_or, MatchOption, Option, arith, subst, IsInRange, IsYear}
+use Rattle.syslog_command_line.proofs.Names.{NamesDate}
 use Rattle.syslog_command_line.proofs.Names.{◌≡◌, ◌≢◌, ℕ, ℤ, ◌<◌, ◌≤◌, Bor, List, [], ◌∷◌, ◌++◌, Some, None, refl, sym}
 use Rattle.std.proofs.Common.{suc}
 use Rattle.std.proofs.lemmas.Str.Pattern.{IsSplitOnceResult, split_after, split_parts}

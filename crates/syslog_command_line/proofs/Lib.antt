@@ -2,4 +2,5 @@ pub mod Names
 pub mod ArgumentLemmas
 pub mod DateLemmas
 pub mod WordLemmas
+pub mod OptionLemmas
 pub mod ReportLemmas

@@ -8,5 +8,3 @@ pub use Rattle.std.proofs.lemmas.Str.Parse.{numerals_by_value, tells_by_index, d
 pub use Rattle.std.specs.Fmt.InlineText.{inline_text}
 pub use Rattle.std.specs.Int.{IsInRange}
 pub use Rattle.syslog_command_line.specs.Arguments.{end_word, NamesDate, IsYear, NamesOffset}
-pub use Rattle.syslog_command_line.specs.Words.{AskForLines, raw_flag, offset_word}
-pub use Rattle.syslog_command_line.specs.Words.{NamedDates}

@@ -45,6 +45,10 @@ AreYearWords words year = (word : List ℕ) × ((words ≡ word ∷ []) ⊎ (wor
 abbrev pub help_word : List ℕ
 help_word = 45 ∷ 45 ∷ 104 ∷ 101 ∷ 108 ∷ 112 ∷ []
 
+-- the word `-h`
+abbrev pub short_help_word : List ℕ
+short_help_word = 45 ∷ 104 ∷ []
+
 -- the word `--version`
 abbrev pub version_word : List ℕ
 version_word = 45 ∷ 45 ∷ 118 ∷ 101 ∷ 114 ∷ 115 ∷ 105 ∷ 111 ∷ 110 ∷ []

@@ -1,3 +1,5 @@
 pub mod Arguments
 pub mod Words
+pub mod Options
+pub mod Tasks
 pub mod Report

@@ -8,9 +8,11 @@
 
 mod args;
 mod dates;
+mod options;
 pub mod report;
 mod words;
 
 pub use args::{is_alone, read_year, read_year_words};
 pub use dates::{read_date, read_offset};
+pub use options::Options;
 pub use words::{Task, Wrong, program_words, read_task, refuse_words};

@@ -1,21 +1,21 @@
 //! The words that a filter with dates is called with.
-ghost use Rattle.std.specs.Prelude.{◌≡◌, ◌↔◌, ◌++◌, ◌∷◌, [], Bool, IfErr, IfOk, IsTrue, List, MatchOption, MatchResult};
+ghost use Rattle.std.specs.Prelude.{◌≡◌, ◌↔◌, ◌⊎◌, ◌∷◌, [], IfErr, IfOk, IsTrue, List, MatchOption, MatchResult};
 ghost use Rattle.std.specs.Prelude.{Option, ℕ, ℤ, drop, string_bytes};
 ghost use Rattle.std.specs.Vec.Iter.{into_iter_items};
-ghost use Rattle.syslog_command_line.specs.Arguments.{NamesDate, NamesOffset};
+ghost use Rattle.syslog_command_line.specs.Arguments.{NamesDate, help_word, short_help_word};
 ghost use Rattle.syslog_command_line.specs.Report.{IsReason, IsRefusal, WritesFront};
-ghost use Rattle.syslog_command_line.specs.Words.{AreDateWords, AskForLines, AsksFor, IsAmong, IsOffsetFlag, NamedDates};
-ghost use Rattle.syslog_command_line.specs.Words.{offset_word, raw_flag, raw_word, texts};
+ghost use Rattle.syslog_command_line.specs.Tasks.{AsksFor};
+ghost use Rattle.syslog_command_line.specs.Words.{AreDateWords, IsAmong, texts};
 ghost use Rattle.syslog_command_line.specs.declared.words.Task.{Task};
 ghost use Rattle.syslog_command_line.specs.declared.words.Wrong.TheVariants.{Unreadable};
 
-use crate::dates::{read_date, read_offset};
+use crate::dates::read_date;
+use crate::options::{Options, read_options};
 use crate::report::refuse;
 use std::alloc::{AllocError, Global};
 use std::env::Args;
 use std::io::Write;
 use std::{env, fs};
-use syslog_loose::Dates;
 
 /// What a program is asked for.
 #[derive(Drop)]
@@ -24,13 +24,8 @@ pub enum Task {
     Help,
     /// Its version.
     Version,
-    /// The lines of its input.
-    Lines {
-        /// Whether each is written as it came, too.
-        raw: bool,
-        /// How their dates are taken.
-        dates: Dates,
-    },
+    /// The lines of its input, by these options.
+    Lines(Options),
 }
 
 /// Why a program's words ask for nothing.
@@ -44,20 +39,28 @@ pub enum Wrong<'a> {
     Unreadable,
 }
 
-/// What the words after the program's name ask for: `[--raw] [--offset OFFSET] [--] YEAR[-MONTH]`, where `--raw` may
-/// also follow the offset, or `--help` or `--version` alone. `has_raw` says whether the program has the flag `--raw`.
-/// For all other words it is the first one that can't be at its place, or that a year is missing.
+/// What the words after the program's name ask for: flags in any order, each at most once, and `[--] YEAR[-MONTH]`; or
+/// `--help`, `-h` or `--version` alone. The flags are `--raw`, which a program has only if `has_raw` says so,
+/// `--no-dialects`, `--latin1` and `--offset OFFSET`. For all other words it is the first one that can't be at its
+/// place, or that a year is missing.
 pub fn read_task(words: &[String], has_raw: bool) -> Result<Task, Wrong<'_>>
     ensures { MatchResult result (λ task. AsksFor has_raw (texts words.now) task)
         (λ wrong. IsAmong (texts words.now) wrong × ((task : Task) → ¬ (AsksFor has_raw (texts words.now) task))) }
 {
-    if is_only(words, "--help") {
+    if asks_for_help(words) {
         return Ok(Task::Help);
     }
     if is_only(words, "--version") {
         return Ok(Task::Version);
     }
-    read_lines(words, has_raw)
+    Ok(Task::Lines(read_options(words, has_raw)?))
+}
+
+// Whether the only word is `--help` or `-h`.
+fn asks_for_help(words: &[String]) -> bool
+    ensures { IsTrue result ↔ ((texts words.now ≡ help_word ∷ []) ⊎ (texts words.now ≡ short_help_word ∷ [])) }
+{
+    is_only(words, "--help") || is_only(words, "-h")
 }
 
 // Whether this is the only word.
@@ -70,8 +73,8 @@ fn is_only(words: &[String], wanted: &str) -> bool
     }
 }
 
-// The words after the first, where that is this one.
-fn after_word<'a>(words: &'a [String], wanted: &str) -> Option<&'a [String]>
+/// The words after the first, where that is this one.
+pub(crate) fn after_word<'a>(words: &'a [String], wanted: &str) -> Option<&'a [String]>
     ensures { MatchOption result ((rest : List (List ℕ)) → ¬ (texts words.now ≡ wanted.now ∷ rest))
         (λ rest. texts words.now ≡ wanted.now ∷ texts rest.now) }
 {
@@ -83,57 +86,8 @@ fn after_word<'a>(words: &'a [String], wanted: &str) -> Option<&'a [String]>
     }
 }
 
-// The flags and the date that the words are.
-fn read_lines(words: &[String], has_raw: bool) -> Result<Task, Wrong<'_>>
-    ensures { MatchResult result (λ task. AsksFor has_raw (texts words.now) task)
-        (λ wrong. IsAmong (texts words.now) wrong × ((raw : Bool) (dates : NamedDates) → (IsTrue raw → IsTrue has_raw)
-        → ¬ (AskForLines (texts words.now) raw dates))) }
-{
-    let (before, words) = read_raw(words, has_raw);
-    let (offset, words) = read_zone(words)?;
-    let (after, words) = read_raw(words, has_raw && !before);
-    let (year, month) = read_date_words(words)?;
-    Ok(Task::Lines {
-        raw: before || after,
-        dates: Dates::new(year, month, offset),
-    })
-}
-
-// Whether the first word is `--raw`, where that is allowed, and the words after it.
-fn read_raw(words: &[String], allowed: bool) -> (bool, &[String])
-    ensures split { texts words.now ≡ raw_flag result.0 ++ texts result.1.now }
-    ensures is_allowed { IsTrue result.0 → IsTrue allowed }
-    ensures first { (rest : List (List ℕ)) → IsTrue allowed → texts words.now ≡ raw_word ∷ rest → IsTrue result.0 }
-{
-    match after_word(words, "--raw") {
-        Some(rest) if allowed => (true, rest),
-        _ => (false, words),
-    }
-}
-
-// The offset that the first words name, which is 0 where they begin with no flag, and the words after it.
-fn read_zone(words: &[String]) -> Result<(i32, &[String]), Wrong<'_>>
-    ensures { MatchResult result
-        (λ found. (flag : List (List ℕ)) × IsOffsetFlag flag found.0 × (texts words.now ≡ flag ++ texts found.1.now)
-        × (flag ≡ [] → (rest : List (List ℕ)) → ¬ (texts words.now ≡ offset_word ∷ rest)))
-        (λ wrong. IsAmong (texts words.now) wrong
-        × ((after : List (List ℕ)) × (texts words.now ≡ offset_word ∷ after)
-        × ((word : List ℕ) (rest : List (List ℕ)) (seconds : ℤ) → after ≡ word ∷ rest → ¬ (NamesOffset word seconds)))) }
-{
-    let Some(rest) = after_word(words, "--offset") else {
-        return Ok((0, words));
-    };
-    let Some((word, rest)) = rest.split_first() else {
-        return Err(Wrong::Missing);
-    };
-    match read_offset(word.as_str()) {
-        Some(offset) => Ok((offset, rest)),
-        None => Err(Wrong::Word(word.as_str())),
-    }
-}
-
-// The year, and the month if there is one, that the words name: one word, or the word after `--`.
-fn read_date_words(words: &[String]) -> Result<(i32, Option<u32>), Wrong<'_>>
+/// The year, and the month if there is one, that the words name: one word, or the word after `--`.
+pub(crate) fn read_date_words(words: &[String]) -> Result<(i32, Option<u32>), Wrong<'_>>
     ensures { MatchResult result (λ date. AreDateWords (texts words.now) date.0 date.1)
         (λ wrong. IsAmong (texts words.now) wrong
         × ((year : ℤ) (month : Option ℕ) → ¬ (AreDateWords (texts words.now) year month))) }
@@ -146,7 +100,8 @@ fn read_date_words(words: &[String]) -> Result<(i32, Option<u32>), Wrong<'_>>
 
 // The year, and the month if there is one, that the only word names.
 fn read_last_word(words: &[String]) -> Result<(i32, Option<u32>), Wrong<'_>>
-    ensures { MatchResult result (λ date. (word : List ℕ) × (texts words.now ≡ word ∷ []) × NamesDate word date.0 date.1)
+    ensures { MatchResult result
+        (λ date. (word : List ℕ) × (texts words.now ≡ word ∷ []) × NamesDate word date.0 date.1)
         (λ wrong. IsAmong (texts words.now) wrong × ((word : List ℕ) (year : ℤ) (month : Option ℕ)
         → texts words.now ≡ word ∷ [] → ¬ (NamesDate word year month))) }
 {

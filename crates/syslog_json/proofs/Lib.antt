@@ -1,3 +1,4 @@
 pub mod Names
 pub mod ReadLemmas
+pub mod MarkLemmas
 pub mod UniqueLemmas

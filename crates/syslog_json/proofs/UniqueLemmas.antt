@@ -1,10 +1,9 @@
 -- A line has one value.
-use Rattle.syslog_json.proofs.Names.{List, Option, Some, refl, subst, chars, Json, line_value, message_json, IsTextOf}
-use Rattle.syslog_json.proofs.Names.{◌≡◌, [], ℕ, ap, inl, inr, sym, ◌∙◌, Text}
-use Rattle.std.proofs.Common.{◌++◌, ◌∷◌, ℤ, Bool, true, false, None}
+use Rattle.syslog_json.proofs.Names.{List, Option, Some, refl, subst, chars, Json, line_value, message_json}
+use Rattle.syslog_json.proofs.Names.{◌≡◌, [], ℕ, ap, sym, ◌∙◌, Text}
+use Rattle.std.proofs.Common.{◌++◌, ◌∷◌, ℤ, Bool, true, false, not, None}
 use Rattle.jiff.{specs.Types.TimeZone, specs.Words.plain_zone}
-use Rattle.syslog_pieces.specs.declared.timestamp.month_date.MonthDate.{MonthDate}
-use Rattle.syslog_loose.{proofs.Rfc3164Lemmas.other_read, specs.Message.MessageValue, specs.declared.line.Line.Line}
+use Rattle.syslog_loose.{specs.Message.MessageValue, specs.declared.line.Line.Line}
 use Rattle.syslog_loose.specs.Reading.{IncompleteDate, InYear, IsUnreadable}
 use Rattle.syslog_loose.{proofs.ReckoningLemmas.one_dating, specs.Dates.year_in, specs.Reckoning.dating_in}
 use Rattle.syslog_loose.{specs.Clauses.KnowsForm, specs.Visit.IsLineOf, specs.Visit.Made}
@@ -18,7 +17,9 @@ use Rattle.syslog_loose.specs.declared.variant.Variant.TheVariants.{Either}
 use Rattle.syslog_pieces.specs.StructuredData.Visited.{list_elements}
 use Rattle.syslog_lines.specs.Output.{answer_bytes, is_answered}
 use Rattle.syslog_object.{specs.Writer.HasWritten, specs.declared.writer.ObjectWriter.ObjectWriter}
-use Rattle.syslog_json.specs.Objects.{IsLineRead, IsOnly, IsReadJson, IsRefusedJson, answer_of, raw_text}
+use Rattle.syslog_json.proofs.MarkLemmas.{marked_read}
+use Rattle.syslog_json.specs.Marked.{HasMember, marked_text}
+use Rattle.syslog_json.specs.Objects.{IsLineRead, IsObject, IsOnly, IsReadJson, IsRefusedJson, answer_of, raw_text}
 use Rattle.syslog_json.specs.declared.filter.Objects.{Objects}
 use Rattle.syslog_loose.proofs.ReadingLemmas as reading
 
@@ -38,10 +39,7 @@ only_read filter line value is = (is, λ other also. read_twice filter line valu
 
 other_refused : (filter : Objects) (line : List ℕ) (value other : Json) → IsRefusedJson filter line value
     → IsRefusedJson filter line other → other ≡ value
-other_refused filter line value other (inl (u, none, e)) (inl (v, never, f)) = f ∙ sym e
-other_refused filter line value other (inl (u, none, e)) (inr (v, f)) = absurd (v u)
-other_refused filter line value other (inr (u, e)) (inl (v, never, f)) = absurd (u v)
-other_refused filter line value other (inr (u, e)) (inr (v, f)) = f ∙ sym e
+other_refused filter line value other (u, none, e) (v, never, f) = f ∙ sym e
 
 pub only_refused : (filter : Objects) (line : List ℕ) (value : Json) → IsRefusedJson filter line value
     → IsOnly (IsRefusedJson filter line) value
@@ -99,3 +97,31 @@ pub answered : (is_message : Bool) (bytes : List ℕ) → (answer_bytes (answer_
     × (is_message ≡ is_answered (answer_of is_message bytes))
 answered true bytes = (refl, refl)
 answered false bytes = (refl, refl)
+
+-- ---- the object of a line that is not UTF-8
+
+message_has_member : (filter : Objects) (line : List ℕ) (value : Json) → IsReadJson filter line value → HasMember value
+message_has_member filter line value (utf8, (d, m, read, is)) = (_, _, _, is)
+
+refused_has_member : (filter : Objects) (line : List ℕ) (value : Json) → IsRefusedJson filter line value
+    → HasMember value
+refused_has_member filter line value (utf8, none, is) = (_, _, _, is)
+
+-- its text is marked where bytes were replaced
+abbrev pub marked_text_if : Bool → List ℕ → List ℕ
+marked_text_if false bytes = bytes
+marked_text_if true bytes = marked_text bytes
+
+pub object_marked : (filter : Objects) (is_marked is_message : Bool) (line bytes : List ℕ)
+    → IsObject filter false line (answer_of is_message bytes)
+    → IsObject filter is_marked line (answer_of is_message (marked_text_if is_marked bytes))
+object_marked filter false is_message line bytes object = object
+object_marked filter true true line bytes (value, only, read) =
+    (value, only, marked_read value bytes (message_has_member filter line value only.0) read)
+object_marked filter true false line bytes (value, only, read) =
+    (value, only, marked_read value bytes (refused_has_member filter line value only.0) read)
+
+pub marked_unless : (is_latin1 : Bool) (object old : List ℕ) → (is_latin1 ≡ false → object ≡ marked_text old)
+    → (is_latin1 ≡ true → object ≡ old) → object ≡ marked_text_if (not is_latin1) old
+marked_unless true object old replaced whole = whole refl
+marked_unless false object old replaced whole = replaced refl

@@ -1,8 +1,7 @@
 -- What is written for each line: this project's own choice.
-use Rattle.std.specs.Prelude.{◌≡◌, ◌⊎◌, ⊤, ℕ, Bool, true, false, List, Option, Some, None, MatchOption}
+use Rattle.std.specs.Prelude.{◌≡◌, ◌⊎◌, ⊤, ℕ, Bool, true, false, not, List, Option, Some, None, MatchOption}
 use Rattle.std.specs.Prelude.{IsUtf8, count_by, length}
 use Rattle.std.specs.Str.{chars}
-use Rattle.std.specs.Str.Lossy.{utf8_lossy}
 use Rattle.syslog_pieces.specs.Pieces.Class.{Text}
 use Rattle.syslog_pieces.specs.StructuredData.Visited.{list_elements}
 use Rattle.syslog_loose.specs.Dates.{IsDated}
@@ -19,10 +18,12 @@ use Rattle.syslog_lines.specs.Count.{held_count}
 use Rattle.syslog_lines.specs.Output.{Answer, Filter, Written, Marked, Omitted, is_skipped}
 use Rattle.syslog_lines.specs.Pump.{FiltersAll}
 use Rattle.syslog_lines.specs.declared.summary.Summary.{Summary}
-use Rattle.syslog_object.specs.Object.{invalid_json, message_json, refused_json}
+use Rattle.syslog_object.specs.Object.{message_json, refused_json}
 use Rattle.syslog_object.specs.Written.{IsTextOf}
 use Rattle.syslog_object.specs.Writer.{HasWritten}
 use Rattle.syslog_object.specs.declared.writer.ObjectWriter.{ObjectWriter}
+use Rattle.syslog_utf8.specs.Decoded.{decoded}
+use Rattle.syslog_json.specs.Marked.{marked_if}
 use Rattle.syslog_json.specs.declared.filter.Objects.{Objects}
 
 -- the line as it came, where it is asked for
@@ -37,12 +38,10 @@ IsReadJson filter line value = IsUtf8 line × ((dialect : Option Dialect) × (m 
     (λ dating. IsReadSent filter.dates dating filter.dialects Either (chars line) dialect m)
     × (value ≡ message_json m (raw_text filter.raw (chars line))))
 
--- the value of a line that is no message; of one that is no UTF-8, what is none of it is replaced
+-- the value of a line that is no message
 abbrev pub IsRefusedJson : Objects → List ℕ → Json → Type 0
-IsRefusedJson filter line value =
-    (IsUtf8 line × IsDated filter.dates Either (chars line)
-    (λ dating. IsUnsent filter.dates dating filter.dialects Either (chars line)) × (value ≡ refused_json line))
-    ⊎ ((¬ (IsUtf8 line)) × (value ≡ invalid_json (utf8_lossy line)))
+IsRefusedJson filter line value = IsUtf8 line × IsDated filter.dates Either (chars line)
+    (λ dating. IsUnsent filter.dates dating filter.dialects Either (chars line)) × (value ≡ refused_json line)
 
 -- the value is such, and there is no other
 abbrev pub IsOnly : (Json → Type 0) → Json → Type 0
@@ -55,15 +54,23 @@ pub record IsReadAs (value : Json) (bytes : List ℕ) : Type 0 where
   pub made : of_json value ≡ Some own
   pub read_back : read bytes ≡ Some own
 
--- the answer to a line: the text of its only value; a line that is no message counts as skipped
-abbrev pub IsObject : Objects → List ℕ → Answer → Type 0
-IsObject filter line (Written bytes) = (value : Json) × IsOnly (IsReadJson filter line) value × IsReadAs value bytes
-IsObject filter line (Marked bytes) = (value : Json) × IsOnly (IsRefusedJson filter line) value × IsReadAs value bytes
-IsObject filter line Omitted = ⊥
+-- the answer to a text: the text of its only value, which may be marked; one that is no message counts as skipped
+abbrev pub IsObject : Objects → Bool → List ℕ → Answer → Type 0
+IsObject filter is_marked line (Written bytes) = (value : Json) × IsOnly (IsReadJson filter line) value
+    × IsReadAs (marked_if is_marked value) bytes
+IsObject filter is_marked line (Marked bytes) = (value : Json) × IsOnly (IsRefusedJson filter line) value
+    × IsReadAs (marked_if is_marked value) bytes
+IsObject filter is_marked line Omitted = ⊥
+
+-- The answer to a line. One that is not UTF-8 is taken for a text, and its object is marked, unless each of its bytes
+-- is a character of ISO 8859-1.
+abbrev pub IsLineObject : Objects → List ℕ → Answer → Type 0
+IsLineObject filter line answer = (IsUtf8 line × IsObject filter false line answer)
+    ⊎ ((¬ (IsUtf8 line)) × IsObject filter (not filter.latin1) (decoded filter.latin1 line) answer)
 
 -- memory may be wanted for any line
 abbrev pub objects : Objects → Filter
-objects filter = record { Answers = IsObject filter; Wants = λ line. ⊤ }
+objects filter = record { Answers = IsLineObject filter; Wants = λ line. ⊤ }
 
 -- all was read, the text of each line's value was written, and the summary counts the lines and those that are no
 -- message

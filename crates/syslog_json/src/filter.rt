@@ -1,11 +1,12 @@
 //! The filter that writes each line as JSON.
-ghost use Rattle.std.specs.Prelude.{◌≡◌, ◌++◌, [], List, ℕ, false, IfErr, IfOk, OnErr};
+ghost use Rattle.std.specs.Prelude.{◌≡◌, ◌++◌, [], List, ℕ, false, IfErr, IfOk, OnErr, OnOk};
 ghost use Rattle.std.specs.Str.{chars};
 ghost use Rattle.syslog_loose.specs.Dates.{year_in};
 ghost use Rattle.syslog_lines.specs.Pump.{EndsEarly, FailedAs};
 ghost use Rattle.syslog_object.specs.Object.{refused_json};
 ghost use Rattle.syslog_object.specs.Writer.{HasWritten};
 ghost use Rattle.syslog_object.specs.Written.{IsTextOf};
+ghost use Rattle.syslog_json.specs.Marked.{marked_text};
 ghost use Rattle.syslog_json.specs.Objects.{IsLineRead, IsObject, WritesObjects, answer_of, objects};
 
 use std::alloc::{AllocError, Global};
@@ -15,7 +16,8 @@ use syslog_dialects::{SentLine, sent_line, unread_line};
 use syslog_lines::pump::pump;
 use syslog_lines::{LineFilter, RunFault, Summary, Watched, push_line};
 use syslog_loose::{Dates, IncompleteDate, Itself, Variant, visit_line};
-use syslog_object::{ObjectWriter, invalid_object, refused_object};
+use syslog_object::{ObjectWriter, refused_object};
+use syslog_utf8::decode;
 
 /// Reads lines to the end of the input, and writes each as one JSON object on one line: that of its message, read by
 /// the dates and in its dialect, or one that has the line and `"refused":true`. No line is lost, and no object has a byte below 32.
@@ -56,6 +58,8 @@ pub struct Objects {
     pub raw: bool,
     /// Whether a line is read in a dialect that it is in.
     pub dialects: bool,
+    /// Whether a line that is not UTF-8 is read as ISO 8859-1.
+    pub latin1: bool,
     /// How dates that show no year or no zone are taken.
     pub dates: Dates,
 }
@@ -95,7 +99,7 @@ impl Objects {
         memory: Vec<u8>,
         output: &mut Vec<u8>,
     ) -> Result<(Vec<u8>, bool), AllocError>
-        ensures ok { IfOk result (λ x. (bytes : List ℕ) × IsObject self.now line.now (answer_of x.1 bytes)
+        ensures ok { IfOk result (λ x. (bytes : List ℕ) × IsObject self.now false line.now (answer_of x.1 bytes)
             × (output.new.items ≡ output.old.items ++ bytes)) }
         ensures err { OnErr result (output.new.items ≡ output.old.items) }
     {
@@ -149,11 +153,23 @@ impl LineFilter for Objects {
         line: &[u8],
         output: &mut Vec<u8>,
     ) -> Result<bool, AllocError> {
-        let text = String::from_utf8_lossy(alloc, line)?;
-        let object = invalid_object(Vec::new(alloc), text.as_str())?;
+        let text = decode(alloc, line, self.latin1)?;
+        let mut object = Vec::new(alloc);
+        let (_, is_message) = self.write_line(alloc, text.as_str(), Vec::new(alloc), &mut object)?;
+        if !self.latin1 {
+            mark(&mut object)?;
+        }
         push_line(output, object.as_slice())?;
-        Ok(false)
+        Ok(is_message)
     }
+}
+
+// Adds `"invalid_utf8":true` at the end of an object that has a member.
+fn mark(object: &mut Vec<u8>) -> Result<(), AllocError>
+    ensures { OnOk result (object.new.items ≡ marked_text object.old.items) }
+{
+    object.truncate(object.len().saturating_sub(1));
+    object.extend_from_slice(b",\"invalid_utf8\":true}")
 }
 
 // Gives the memory of a text back.

@@ -14,9 +14,9 @@ use filter::{Objects, write_objects};
 use report::{HELP, USAGE};
 use std::process::ExitCode;
 use syslog_command_line::report::{report, say, say_version};
-use syslog_command_line::{Task, Wrong, program_words, read_task, refuse_words};
+use syslog_command_line::{Options, Task, Wrong, program_words, read_task, refuse_words};
 use syslog_lines::Watched;
-use syslog_loose::{Dates, VERSION};
+use syslog_loose::VERSION;
 
 // Writes the lines of standard input as JSON, and then returns the exit status.
 fn filter_input(rt: &HostRuntime, filter: Objects) -> u8 {
@@ -26,12 +26,13 @@ fn filter_input(rt: &HostRuntime, filter: Objects) -> u8 {
     report(&outcome, &mut rt.stderr())
 }
 
-// The filter that was asked for: each line is read in the dialect that it is in.
-fn objects_of(raw: bool, dates: Dates) -> Objects {
+// The filter that was asked for.
+fn objects_of(options: Options) -> Objects {
     Objects {
-        raw,
-        dialects: true,
-        dates,
+        raw: options.raw,
+        dialects: options.dialects,
+        latin1: options.latin1,
+        dates: options.dates,
     }
 }
 
@@ -42,7 +43,7 @@ fn run_task(rt: &HostRuntime, task: Result<Task, Wrong<'_>>) -> u8 {
     match task {
         Ok(Task::Help) => say(HELP, &mut out, &mut errors),
         Ok(Task::Version) => say_version("syslog_json", VERSION, &mut out, &mut errors),
-        Ok(Task::Lines { raw, dates }) => filter_input(rt, objects_of(raw, dates)),
+        Ok(Task::Lines(options)) => filter_input(rt, objects_of(options)),
         Err(wrong) => refuse_words(rt, USAGE, wrong, &mut errors),
     }
 }

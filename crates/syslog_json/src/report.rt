@@ -2,26 +2,30 @@
 
 /// How the program is called, in one line.
 pub const USAGE: &str =
-    "usage: syslog_json [--raw] [--offset OFFSET] [--] YEAR[-MONTH], or --help, or --version\n";
+    "usage: syslog_json [OPTION].. [--] YEAR[-MONTH], or --help, or --version\n";
 
 /// How the program is called, and what it does.
-pub const HELP: &str =
-    "usage: syslog_json [--raw] [--offset OFFSET] [--] YEAR[-MONTH], or --help, or --version
+pub const HELP: &str = "usage: syslog_json [OPTION].. [--] YEAR[-MONTH], or --help, or --version
 
 Reads lines of syslog from standard input, and writes each as one JSON object
 on one line to standard output. What a message lacks has no key:
   protocol, version, facility, facility_code, severity, severity_code,
   timestamp, hostname, appname, procid, msgid, structured_data, message
-A line that is no message is its \"message\", with \"refused\": true, and with
-\"invalid_utf8\": true where bytes of it were replaced by U+FFFD.
+A line that is no message is its \"message\", with \"refused\": true. A line that
+is not UTF-8 is read with U+FFFD for what is not, and has \"invalid_utf8\": true.
   YEAR             the year of dates that show none: one to four digits
   YEAR-MONTH       the same, and the month that it is now, two digits: in
                    January a date of December is of the year before
+Options, in any order, each at most once:
   --offset OFFSET  the zone of dates that show none, +HH:MM or -HH:MM; it is
                    UTC where this is left out
   --raw            adds each message's line, as it came, as \"raw\"
+  --latin1         reads a line that is not UTF-8 as ISO 8859-1; it has no
+                   \"invalid_utf8\"
+  --no-dialects    reads no line in the form of a sender that follows neither
+                   RFC 5424 nor RFC 3164
   --               may come before YEAR
-  --help           this text
+  -h, --help       this text
   --version        the name and the version of this program
 
 How many lines were no message is written to standard error at the end.

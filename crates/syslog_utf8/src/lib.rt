@@ -1,12 +1,16 @@
 //! The check of UTF-8 for the programs and the library for C: `simdutf8`, but for texts of ASCII alone, on which it
 //! takes more instructions than std.
 //!
-//! `from_utf8(b"caf\xc3\xa9")` is `Ok("café")`, and `from_utf8(b"caf\xe9")` an error.
+//! `from_utf8(b"caf\xc3\xa9")` is `Ok("café")`, and `from_utf8(b"caf\xe9")` an error. `decode` takes the latter for
+//! `café` in ISO 8859-1, or for a text with U+FFFD.
 #![tactic(auto)]
+
+mod decoding;
 
 ghost use Rattle.std.specs.Prelude.{◌≡◌, ◌+◌, ◌<◌, ◌≤◌, ℕ, length, slice_index, IsTrue, IsUtf8, MatchResult};
 ghost use Rattle.std.specs.Str.{IsAscii};
 
+pub use decoding::decode;
 use simdutf8::basic;
 pub use simdutf8::basic::Utf8Error;
 use std::simd::prelude::*;

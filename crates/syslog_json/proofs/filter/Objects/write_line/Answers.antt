@@ -1,4 +1,4 @@
-use Rattle.syslog_json.proofs.Names.{Option, inl, refl, rules, subst, Text, line_value, message_json, IsTextOf}
+use Rattle.syslog_json.proofs.Names.{Option, refl, rules, subst, Text, line_value, message_json, IsTextOf}
 use Rattle.syslog_json.{proofs.ReadLemmas.read_as, proofs.UniqueLemmas.only_read, proofs.UniqueLemmas.only_refused}
 use Rattle.syslog_json.proofs.filter.Objects.write_line.Goals as goal
 
@@ -19,6 +19,6 @@ pub returns-in_ok-write_refused-in-None-clause-ok : goal.returns-in_ok-write_ref
 returns-in_ok-write_refused-in-None-clause-ok c =
     let (bytes, text, added) = c.in_ok-write_refused-in-None.ensures.ok in (
       bytes,
-      (_, only_refused c.args.self.now _ _ (inl (c.utf8.line, c.in-None.ensures, refl)), read_as _ _ text),
+      (_, only_refused c.args.self.now _ _ (c.utf8.line, c.in-None.ensures, refl), read_as _ _ text),
       added,
     )

@@ -1,0 +1,12 @@
+-- What a filter with dates is asked for: this project's own choice.
+use Rattle.std.specs.Prelude.{◌≡◌, ◌⊎◌, ℕ, Bool, List, [], ◌∷◌}
+use Rattle.syslog_command_line.specs.Arguments.{help_word, short_help_word, version_word}
+use Rattle.syslog_command_line.specs.Options.{AsksForOptions}
+use Rattle.syslog_command_line.specs.declared.words.Task.{Task}
+use Rattle.syslog_command_line.specs.declared.words.Task.TheVariants.{Help, Version, Lines}
+
+-- the words ask for this; a program may have the flag `--raw`, or not
+abbrev pub AsksFor : Bool → List (List ℕ) → Task → Type 0
+AsksFor has_raw words Help = (words ≡ help_word ∷ []) ⊎ (words ≡ short_help_word ∷ [])
+AsksFor has_raw words Version = words ≡ version_word ∷ []
+AsksFor has_raw words (Lines options) = AsksForOptions has_raw words options
