@@ -1,7 +1,7 @@
 -- Texts with JSON's escapes, a piece after the other.
 use Rattle.syslog_object.proofs.Names.{[], is_plain, PlainBetween, unescaped}
-use Rattle.syslog_object.proofs.Names.{◌==◌, true, false, List, ◌++◌, length, take, refl, arith, Result, OnOk, escape}
-use Rattle.syslog_object.proofs.Names.{◌≡◌, ℕ, suc, ◌<◌, ◌≤◌, ◌∷◌, ap, ◌∙◌, Ok, Err}
+use Rattle.syslog_object.proofs.Names.{◌==◌, true, false, List, ◌++◌, length, take, refl, arith, escape}
+use Rattle.syslog_object.proofs.Names.{◌≡◌, ℕ, suc, ◌<◌, ◌≤◌, ◌∷◌, ap, ◌∙◌}
 use Rattle.std.proofs.{Common.nat_eq, Common.get_or-take, lemmas.Grind.flat_map-append}
 use Rattle.std.{proofs.lemmas.Bool.or_parts, proofs.lemmas.Bool.not-true}
 use Rattle.std.{proofs.lemmas.List.length-take, specs.Fmt.digits, specs.Prelude.⊤}
@@ -40,9 +40,3 @@ plain_unescaped (x ∷ xs) rest plain =
 
 pub escape-append : (xs ys : List ℕ) → escape (xs ++ ys) ≡ escape xs ++ escape ys
 escape-append xs ys = flat_map-append escape_byte xs ys
-
--- bytes were appended, where there was memory
-pub pushed : {T E : Type 0} (r : Result T E) (new old bytes all : List ℕ) → OnOk r (new ≡ old ++ bytes) → bytes ≡ all
-    → OnOk r (new ≡ old ++ all)
-pushed (Ok x) new old bytes all e h = e ∙ ap (λ xs. old ++ xs) h
-pushed (Err x) new old bytes all e h = tt

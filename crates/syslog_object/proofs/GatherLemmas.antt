@@ -1,17 +1,32 @@
 -- The members of objects, one after the other, and parameters and elements as members.
 use Rattle.syslog_object.proofs
-use proofs.Names.{append_assoc, append-nil, nil_from_length, encode_utf8_all, ElementValue, element_seen, members_after}
-use proofs.Names.{drop_more, map-append, cases_Bool, AreDistinct, compact_text, object_text, element_json, element_pair}
+use proofs.Names.{append_assoc, append-nil, members_after}
+use proofs.Names.{drop_more, map-append, cases_Bool, AreDistinct, compact_text, object_text}
 use proofs.Names.{[], bytes_eq, list_any, items_of, first_keys, gathered, one_or_all, values_at, items_text, param_pair}
 use proofs.Names.{Bool, true, false, List, ◌++◌, length, take, drop, get_or, ap, subst, filter, quoted, IsNewKey}
-use proofs.Names.{◌≡◌, ℕ, ◌+◌, ◌<◌, ◌≤◌, not, ◌∷◌, map, refl, sym, ◌∙◌, cond, inl, inr, ◌||◌, ◌==◌, Bor, Json, Text}
-use Rattle.std.{proofs.Common.drop_of_length-le, proofs.lemmas.Bool.true≢false, proofs.lemmas.List.take_more}
-use Rattle.std.{proofs.lemmas.List.Elements.filter-append, proofs.lemmas.Slice.Eq.bytes_eq-Decides}
-use Rattle.syslog_pieces.{specs.Pieces.View.shown, specs.declared.structured_data.recognised.Element.Element}
-use Rattle.syslog_pieces.specs.StructuredData.Element.{param_value}
+use proofs.Names.{escape}
+use proofs.Names.{◌≡◌, ℕ, zero, suc, ◌+◌, ◌<◌, ◌≤◌, not, ◌∷◌, map, refl, sym, ◌∙◌, cond, inl, inr, ◌||◌, ◌==◌, Bor}
+use proofs.Names.{Json}
+use proofs.Names.{Text, Option, Some, arith}
+use Rattle.std.proofs.Common.{◌≢◌, nat_cmp, slice_set, drop_of_length-le}
+use Rattle.std.proofs.lemmas.Bool.{cases_eq, ne_eqb, true≢false}
+use Rattle.std.proofs.lemmas.List.{drop-drop, drop_all, get_or-drop, get_or-map, get_or-set_other, get_or-set_same}
+use Rattle.std.proofs.lemmas.List.{get_or_default, length-drop, length-map, length-set, length-take, take_all}
+use Rattle.std.proofs.lemmas.List.{take_more}
+use Rattle.std.proofs.lemmas.{List.Elements.filter-append, Map.Text.btree_map_updates_str, Slice.Eq.bytes_eq-Decides}
 use Rattle.std.proofs.lemmas.Simd.{map-map}
+use Rattle.std.specs.BTreeMap.{BTreeMap, UpdatesBy, get_by}
+use Rattle.std.specs.{Cmp.Lexicographic.slice_cmp, Option.unwrap_or}
+use Rattle.syslog_pieces.specs.Pieces.View.{shown}
+use Rattle.syslog_pieces.specs.StructuredData.Element.{param_value}
+use Rattle.syslog_object.specs.Parts.{later_text, member_text, open_text}
+use Rattle.syslog_object.specs.Places.{ArePlaces, before_member, begun, place}
 
--- ---- the members of objects, one after the other
+-- a key and its value
+abbrev pub Pair : Type 0
+Pair = List ℕ × Json
+
+-- ---- lists
 
 -- the item at a place, and those after it
 pub at_place : {X : Type 0} (xs : List X) (i : ℕ) (x : X) → i < length xs → x ≡ get_or xs i x
@@ -21,18 +36,14 @@ at_place xs i x inside is = drop_more xs i x inside ∙ ap (λ y. y ∷ drop (i 
 pub nothing_after : {X : Type 0} (xs : List X) (i : ℕ) → length xs ≤ i → drop i xs ≡ []
 nothing_after xs i past = drop_of_length-le xs past
 
+pub taken_more : {X : Type 0} (xs : List X) (i : ℕ) (x : X) → i < length xs → x ≡ get_or xs i x
+    → take (i + 1) xs ≡ take i xs ++ x ∷ []
+taken_more xs i x inside is = take_more xs i x inside ∙ ap (λ y. take i xs ++ y ∷ []) (sym is)
+
 -- what holds of the keys of a list holds of those of one that is the same
 pub of_keys : {X : Type 0} (P : List (List ℕ) → Type 0) (key : X → List ℕ) (xs ys : List X) → xs ≡ ys
     → P (map key ys) → P (map key xs)
 of_keys P key xs ys same h = rw same h
-
--- a key and its value were written
-pub member_written : (out key_out now all key : List ℕ) (before : ℕ) (value : Json) (rest : List (List ℕ × Json))
-    → key_out ≡ out ++ (before ∷ (quoted key ++ 58 ∷ [])) → now ≡ key_out ++ compact_text value
-    → out ++ (before ∷ (quoted key ++ 58 ∷ (compact_text value ++ members_after rest))) ≡ all
-    → now ++ members_after rest ≡ all
-member_written out key_out now all key before value rest first second whole =
-    rw (second, first, ← whole) (simp append_assoc)
 
 -- ---- keys that each come once
 
@@ -51,31 +62,84 @@ distinct_keys [] distinct = refl
 distinct_keys (p ∷ ps) distinct =
     rw (distinct_keys ps distinct.1) (ap (λ ks. p.0 ∷ ks) (new_filtered p.0 _ distinct.0))
 
--- ---- members that are written one after the other
+-- ---- items with their keys and values
 module _ {X : Type 0} (key : X → List ℕ) (json : X → Json) where
-  abbrev pub pairs_of : List X → List (List ℕ × Json)
+  abbrev pub pairs_of : List X → List Pair
   pairs_of xs = map (λ x. (key x, json x)) xs
 
-  pub first_written : (members rest : List X) (first : X) (out key_out now name : List ℕ) → members ≡ first ∷ rest
-      → name ≡ key first → key_out ≡ out ++ (123 ∷ (quoted name ++ 58 ∷ [])) → now ≡ key_out ++ compact_text (json first)
-      → now ++ members_after (pairs_of rest) ≡ out ++ object_text (pairs_of members)
-  first_written members rest first out key_out now name whole same opened value =
-      member_written out key_out now _ name 123 (json first) (pairs_of rest) opened value (rw (whole, same) refl)
+  pub pairs_long : (xs : List X) → length (pairs_of xs) ≡ length xs
+  pairs_long xs = length-map xs (λ x. (key x, json x))
 
-  pub next_written : (rest : List X) (i : ℕ) (x : X) (out key_out now name all : List ℕ)
-      → drop i rest ≡ x ∷ drop (i + 1) rest → name ≡ key x → key_out ≡ out ++ (44 ∷ (quoted name ++ 58 ∷ []))
-      → now ≡ key_out ++ compact_text (json x) → out ++ members_after (pairs_of (drop i rest)) ≡ all
-      → now ++ members_after (pairs_of (drop (i + 1) rest)) ≡ all
-  next_written rest i x out key_out now name all whole same opened value before =
-      member_written out key_out now all name 44 (json x) (pairs_of (drop (i + 1) rest)) opened value
-      (rw same (rw whole at before))
+  pub pair_at : (xs : List X) (i : ℕ) (x : X) → i < length xs → x ≡ get_or xs i x
+      → (key x, json x) ≡ get_or (pairs_of xs) i (key x, json x)
+  pair_at xs i x within is =
+      ap (λ y. (key y, json y)) is ∙ sym (get_or-map (λ y. (key y, json y)) xs i x (key x, json x) within)
 
-  pub last_written : (rest : List X) (i : ℕ) (out now all : List ℕ) → drop i rest ≡ [] → now ≡ out ++ 125 ∷ []
-      → out ++ members_after (pairs_of (drop i rest)) ≡ all → now ≡ all
-  last_written rest i out now all none closed before = closed ∙ rw none at before
+-- ---- the text of an object, a member after the other
 
-  pub none_written : (members : List X) → members ≡ [] → 123 ∷ 125 ∷ [] ≡ object_text (pairs_of members)
-  none_written members none = rw none refl
+later_more : (ps : List Pair) (p : Pair) → later_text (ps ++ p ∷ []) ≡ later_text ps ++ member_text p
+later_more [] p = append-nil (member_text p)
+later_more (q ∷ qs) p =
+    ap (λ xs. member_text q ++ xs) (later_more qs p)
+    ∙ sym (append_assoc (member_text q) (later_text qs) (member_text p))
+
+-- one member more, where so many come before it
+pub open_more : (ps : List Pair) (p : Pair) (n : ℕ) → (n ≡ 0 → length ps ≡ 0) → (length ps ≡ 0 → n ≡ 0)
+    → open_text (ps ++ p ∷ []) ≡ open_text ps ++ (before_member n ∷ (quoted p.0 ++ 58 ∷ compact_text p.1))
+open_more [] p n first later = rw (later refl, append-nil (compact_text p.1)) refl
+open_more (q ∷ qs) p n first later =
+    let text = compact_text q.1 in
+    let m = member_text p in
+    rw (ne_eqb n 0 (λ none. absurd (omega (arith, first none))))
+    (ap (λ xs. 123 ∷ (quoted q.0 ++ 58 ∷ (text ++ xs))) (later_more qs p)
+    ∙ sym (ap (λ xs. 123 ∷ xs) (append_assoc (quoted q.0) (58 ∷ (text ++ later_text qs)) m
+    ∙ ap (λ xs. quoted q.0 ++ 58 ∷ xs) (append_assoc text (later_text qs) m))))
+
+later_closed : (ps : List Pair) → later_text ps ++ 125 ∷ [] ≡ members_after ps
+later_closed [] = refl
+later_closed (p ∷ ps) =
+    simp append_assoc (ap (λ xs. 44 ∷ 34 ∷ (escape p.0 ++ 34 ∷ 58 ∷ (compact_text p.1 ++ xs))) (later_closed ps))
+
+pub open_closed : (ps : List Pair) → ps ≢ [] → open_text ps ++ 125 ∷ [] ≡ object_text ps
+open_closed [] some = absurd (some refl)
+open_closed (p ∷ ps) some =
+    simp append_assoc (ap (λ xs. 123 ∷ 34 ∷ (escape p.0 ++ 34 ∷ 58 ∷ (compact_text p.1 ++ xs))) (later_closed ps))
+
+-- the brace after members, or both where there are none
+pub ended : (ps : List Pair) (n : ℕ) (base out now : List ℕ) → (n ≡ 0 → length ps ≡ 0) → (length ps ≡ 0 → n ≡ 0)
+    → out ≡ base ++ open_text ps → now ≡ out ++ cond (n == 0) (123 ∷ 125 ∷ []) (125 ∷ []) → now ≡ base ++ object_text ps
+ended ps n base out now first later held is =
+    rw (is, held) (append_assoc base (open_text ps) _ ∙ ap (λ xs. base ++ xs) (whole ps first later))
+  where
+    whole : (qs : List Pair) → (n ≡ 0 → length qs ≡ 0) → (length qs ≡ 0 → n ≡ 0)
+        → open_text qs ++ cond (n == 0) (123 ∷ 125 ∷ []) (125 ∷ []) ≡ object_text qs
+    whole [] empty back = rw (back refl) refl
+    whole (q ∷ qs) empty back =
+        rw (ne_eqb n 0 (λ e. absurd (omega (arith, empty e)))) (open_closed (q ∷ qs) (λ e. cc))
+
+regroup : (a b k v : List ℕ) (x : ℕ) → ((a ++ b) ++ (x ∷ (k ++ 58 ∷ []))) ++ v ≡ a ++ (b ++ (x ∷ (k ++ 58 ∷ v)))
+regroup a b k v x =
+    append_assoc (a ++ b) (x ∷ (k ++ 58 ∷ [])) v ∙ append_assoc a b _
+    ∙ ap (λ xs. a ++ (b ++ (x ∷ xs))) (append_assoc k (58 ∷ []) v)
+
+-- a member was written after those before it
+pub member_added : (ps : List Pair) (i : ℕ) (p : Pair) (base out key_out now name : List ℕ) → i < length ps
+    → p ≡ get_or ps i p → name ≡ p.0 → out ≡ base ++ open_text (take i ps)
+    → key_out ≡ out ++ (before_member i ∷ (quoted name ++ 58 ∷ [])) → now ≡ key_out ++ compact_text p.1
+    → now ≡ base ++ open_text (take (i + 1) ps)
+member_added ps i p base out key_out now name within is same held named valued =
+    let none : i ≡ 0 → length (take i ps) ≡ 0 = λ zero. omega (arith, length-take i ps) in
+    let first : length (take i ps) ≡ 0 → i ≡ 0 = λ zero. omega (arith, length-take i ps) in
+    rw (valued, named, same, held, taken_more ps i p within is, open_more (take i ps) p i none first)
+    (regroup base (open_text (take i ps)) (quoted p.0) (compact_text p.1) (before_member i))
+
+pub all_added : (ps : List Pair) (n : ℕ) (base out now : List ℕ) → length ps ≡ n
+    → out ≡ base ++ open_text (take n ps) → now ≡ out ++ cond (n == 0) (123 ∷ 125 ∷ []) (125 ∷ [])
+    → now ≡ base ++ object_text ps
+all_added ps n base out now long held is =
+    let all : take n ps ≡ ps = take_all n ps (omega arith) in
+    ended ps n base out now (λ zero. omega arith) (λ zero. omega arith)
+    (held ∙ ap (λ qs. base ++ open_text qs) all) is
 
 -- ---- keys that may come again
 
@@ -115,158 +179,234 @@ keys_push (r ∷ rs) p =
               append-nil (filter differs (first_keys rs)),
             ) refl
         | inr other ↦
-            rw (keys_push rs p, absent, other, filter-append differs (first_keys rs) (p.0 ∷ []), differs_back p.0 r.0 other) refl
+            rw (
+              keys_push rs p,
+              absent,
+              other,
+              filter-append differs (first_keys rs) (p.0 ∷ []),
+              differs_back p.0 r.0 other,
+            ) refl
       ]
     ]
 
--- an item under its key
-abbrev pub keyed : {X : Type 0} → (X → List ℕ) → List X → List (List ℕ × X)
-keyed key xs = map (λ x. (key x, x)) xs
+-- ---- the places of keys
 
-present_keyed : {X : Type 0} (key : X → List ℕ) (name : List ℕ) (xs : List X)
-    → is_present name (keyed key xs) ≡ list_any (λ x. bytes_eq name (key x)) xs
-present_keyed key name [] = refl
-present_keyed key name (x ∷ xs) = rw (present_keyed key name xs) refl
-
-pub taken_more : {X : Type 0} (xs : List X) (i : ℕ) (x : X) → i < length xs → x ≡ get_or xs i x
-    → take (i + 1) xs ≡ take i xs ++ x ∷ []
-taken_more xs i x inside is = take_more xs i x inside ∙ ap (λ y. take i xs ++ y ∷ []) (sym is)
-
-keys_next : {X : Type 0} (key : X → List ℕ) (done : List X) (x : X) → first_keys (keyed key (done ++ x ∷ []))
-    ≡ cond (list_any (λ y. bytes_eq (key x) (key y)) done) (first_keys (keyed key done))
-    (first_keys (keyed key done) ++ key x ∷ [])
-keys_next key done x =
-    ap first_keys (map-append (λ y. (key y, y)) done (x ∷ [])) ∙ keys_push (keyed key done) (key x, x)
-    ∙ ap (λ b. cond b (first_keys (keyed key done)) (first_keys (keyed key done) ++ key x ∷ []))
-    (present_keyed key (key x) done)
-
-module _ {X : Type 0} (key : X → List ℕ) (xs : List X) (i : ℕ) (x : X) (next : take (i + 1) xs ≡ take i xs ++ x ∷ [])
-    (name : List ℕ) (same : name ≡ key x) (held now : List (Bor (List ℕ)))
-    (before : map (λ k. k.now) held ≡ first_keys (keyed key (take i xs))) where
-  pub key_is_new : (k : Bor (List ℕ)) → k.now ≡ name → list_any (λ y. bytes_eq name (key y)) (take i xs) ≡ false
-      → now ≡ held ++ k ∷ [] → map (λ k. k.now) now ≡ first_keys (keyed key (take (i + 1) xs))
-  key_is_new k is absent pushed = rw (
-    next,
-    pushed,
-    keys_next key (take i xs) x,
-    rw same at absent,
-    map-append (λ (b : Bor (List ℕ)). b.now) held (k ∷ []),
-    before,
-    is,
-    same,
-  ) refl
-
-  pub key_is_old : list_any (λ y. bytes_eq name (key y)) (take i xs) ≡ true → now ≡ held
-      → map (λ k. k.now) now ≡ first_keys (keyed key (take (i + 1) xs))
-  key_is_old there stays = rw (next, stays, keys_next key (take i xs) x, rw same at there) before
-
--- ---- values that are written one after the other
-module _ {X : Type 0} (json : X → Json) where
-  pub first_value : (members rest : List X) (first : X) (out opened now : List ℕ) → members ≡ first ∷ rest
-      → (length rest == 0) ≡ false → opened ≡ out ++ 91 ∷ [] → now ≡ opened ++ compact_text (json first)
-      → now ++ items_text true (items_of (map json rest)) ≡ out ++ compact_text (one_or_all (map json members))
-  first_value members [] first out opened now whole some e value = absurd (true≢false some)
-  first_value members (x ∷ rest) first out opened now whole some e value = rw (
-    whole,
-    value,
-    e,
-    append_assoc out (91 ∷ []) (compact_text (json first)),
-    append_assoc out (91 ∷ compact_text (json first)) (items_text true (items_of (map json (x ∷ rest)))),
-  ) refl
-
-  pub next_value : (rest : List X) (i : ℕ) (x : X) (out comma now all : List ℕ) → drop i rest ≡ x ∷ drop (i + 1) rest
-      → comma ≡ out ++ 44 ∷ [] → now ≡ comma ++ compact_text (json x)
-      → out ++ items_text true (items_of (map json (drop i rest))) ≡ all
-      → now ++ items_text true (items_of (map json (drop (i + 1) rest))) ≡ all
-  next_value rest i x out comma now all whole e value before =
-      rw (value, e, ← (rw whole at before)) (simp append_assoc)
-
-  pub last_value : (rest : List X) (i : ℕ) (out now all : List ℕ) → drop i rest ≡ [] → now ≡ out ++ 93 ∷ []
-      → out ++ items_text true (items_of (map json (drop i rest))) ≡ all → now ≡ all
-  last_value rest i out now all none closed before = closed ∙ rw none at before
-
-  pub no_value : (members : List X) → members ≡ [] → 91 ∷ 93 ∷ [] ≡ compact_text (one_or_all (map json members))
-  no_value members none = rw none refl
-
-  pub alone : (members rest : List X) (first : X) → members ≡ first ∷ rest → length rest ≡ 0
-      → json first ≡ one_or_all (map json members)
-  alone members rest first whole none = rw (whole, nil_from_length rest none) refl
-
--- ---- groups
-
-one_piece : (out now key text : List ℕ) (before : ℕ) → now ≡ out ++ (before ∷ (quoted key ++ 58 ∷ text))
-    → now ≡ (out ++ (before ∷ (quoted key ++ 58 ∷ []))) ++ text
-one_piece out now key text before e = rw e (simp append_assoc)
-
-values_of : {X : Type 0} (key : X → List ℕ) (json : X → Json) (name : List ℕ) (xs : List X)
-    → values_at name (pairs_of key json xs) ≡ map json (filter (λ x. bytes_eq name (key x)) xs)
-values_of key json name [] = refl
-values_of key json name (x ∷ xs) = elim (cases_Bool (bytes_eq name (key x))) [
-  | inl same ↦ rw same (ap (λ ds. json x ∷ ds) (values_of key json name xs))
-  | inr other ↦ rw other (values_of key json name xs)
+-- no key comes before its first place
+before_place : (key : List ℕ) (ps : List Pair) (i : ℕ) → i ≤ place key ps → is_present key (take i ps) ≡ false
+before_place key ps zero low = refl
+before_place key [] (suc i) low = refl
+before_place key (p ∷ ps) (suc i) low = elim (cases_Bool (bytes_eq key p.0)) [
+  | inl same ↦ absurd (omega (arith, rw same at low))
+  | inr other ↦ rw other (before_place key ps i (omega (arith, rw other at low)))
 ]
 
-keys_of_pairs : {X : Type 0} (key : X → List ℕ) (json : X → Json) (xs : List X)
-    → first_keys (pairs_of key json xs) ≡ first_keys (keyed key xs)
-keys_of_pairs key json [] = refl
-keys_of_pairs key json (x ∷ xs) = rw (keys_of_pairs key json xs) refl
+after_place : (key : List ℕ) (ps : List Pair) (i : ℕ) → place key ps < i → i ≤ length ps
+    → is_present key (take i ps) ≡ true
+after_place key ps zero low within = absurd (omega arith)
+after_place key [] (suc i) low within = absurd (omega arith)
+after_place key (p ∷ ps) (suc i) low within = elim (cases_Bool (bytes_eq key p.0)) [
+  | inl same ↦ rw same refl
+  | inr other ↦ rw other (after_place key ps i (omega (arith, rw other at low)) (omega arith))
+]
 
-module _ {X : Type 0} (key : X → List ℕ) (json : X → Json) (xs : List X) where
-  -- the value of a key
-  abbrev pub value_of : Bor (List ℕ) → Json
-  value_of k = one_or_all (values_at k.now (pairs_of key json xs))
+-- and has no value there
+passed_values : (key : List ℕ) (ps : List Pair) (i : ℕ) → i ≤ place key ps
+    → values_at key (drop i ps) ≡ values_at key ps
+passed_values key ps zero low = refl
+passed_values key [] (suc i) low = refl
+passed_values key (p ∷ ps) (suc i) low = elim (cases_Bool (bytes_eq key p.0)) [
+  | inl same ↦ absurd (omega (arith, rw same at low))
+  | inr other ↦ rw other (passed_values key ps i (omega (arith, rw other at low)))
+]
 
-  pub group_value : (k : Bor (List ℕ)) (held : List X) → held ≡ filter (λ x. bytes_eq k.now (key x)) xs
-      → one_or_all (map json held) ≡ value_of k
-  group_value k held is = rw (is, values_of key json k.now xs) refl
+key_at_place : (key : List ℕ) (ps : List Pair) (q : Pair) → place key ps < length ps
+    → q ≡ get_or ps (place key ps) q → q.0 ≡ key
+key_at_place key [] q within is = absurd (omega arith)
+key_at_place key (p ∷ ps) q within is = elim (cases_Bool (bytes_eq key p.0)) [
+  | inl same ↦ ap (λ x. x.0) (rw same at is) ∙ sym ((bytes_eq-Decides key p.0).0 same)
+  | inr other ↦ key_at_place key ps q (omega (arith, rw other at within)) (rw other at is)
+]
 
-  gathered_text : (keys : List (Bor (List ℕ))) → map (λ k. k.now) keys ≡ first_keys (keyed key xs)
-      → object_text (pairs_of (λ k. k.now) value_of keys) ≡ compact_text (gathered (pairs_of key json xs))
-  gathered_text keys same =
-      ap (λ ps. object_text ps) (fused keys)
-      ∙ ap (λ ks. object_text (map (λ k. (k, one_or_all (values_at k (pairs_of key json xs)))) ks))
-      (same ∙ sym (keys_of_pairs key json xs))
-    where
-      fused : (ks : List (Bor (List ℕ))) → pairs_of (λ k. k.now) value_of ks
-          ≡ map (λ k. (k, one_or_all (values_at k (pairs_of key json xs)))) (map (λ k. k.now) ks)
-      fused [] = refl
-      fused (k ∷ ks) = ap (λ ps. (k.now, value_of k) ∷ ps) (fused ks)
+-- the next place of a key has the key, and its values from there on come after this one
+pub next_key : (ps : List Pair) (i n : ℕ) (p q : Pair) → n ≡ i + 1 + place p.0 (drop (i + 1) ps)
+    → n < length ps → q ≡ get_or ps n q → q.0 ≡ p.0
+next_key ps i n p q next within is =
+    let rest = drop (i + 1) ps in
+    key_at_place p.0 rest q (omega (arith, length-drop (i + 1) ps))
+    (is ∙ ap (λ (k : ℕ). get_or ps k q) next ∙ sym (get_or-drop (i + 1) ps (place p.0 rest) q))
 
-  pub first_group : (keys rest : List (Bor (List ℕ))) (first : Bor (List ℕ)) (held : List X) (out now : List ℕ)
-      → map (λ k. k.now) keys ≡ first_keys (keyed key xs) → keys ≡ first ∷ rest
-      → held ≡ filter (λ x. bytes_eq first.now (key x)) xs
-      → now ≡ out ++ (123 ∷ (quoted first.now ++ 58 ∷ compact_text (one_or_all (map json held))))
-      → now ++ members_after (pairs_of (λ k. k.now) value_of rest) ≡ out ++ compact_text (gathered (pairs_of key json xs))
-  first_group keys rest first held out now all whole is e =
-      first_written (λ k. k.now) value_of keys rest first out _ now first.now whole refl refl
-      (one_piece out now first.now (compact_text (value_of first)) 123 (rw (group_value first held is) at e))
-      ∙ ap (λ ys. out ++ ys) (gathered_text keys all)
+pub next_values : (ps : List Pair) (i n : ℕ) (p : Pair) → i < length ps → p ≡ get_or ps i p
+    → n ≡ i + 1 + place p.0 (drop (i + 1) ps) → values_at p.0 (drop i ps) ≡ p.1 ∷ values_at p.0 (drop n ps)
+next_values ps i n p within is next =
+    let rest = drop (i + 1) ps in
+    let same : bytes_eq p.0 p.0 ≡ true = (bytes_eq-Decides p.0 p.0).1 refl in
+    let far : drop (place p.0 rest) rest ≡ drop n ps =
+    drop-drop (place p.0 rest) (i + 1) ps ∙ ap (λ (k : ℕ). drop k ps) (sym next) in
+    rw (at_place ps i p within is, same)
+    (ap (λ ds. p.1 ∷ ds) (sym (passed_values p.0 rest (place p.0 rest) (omega arith)) ∙ ap (values_at p.0) far))
 
-  pub next_group : (rest : List (Bor (List ℕ))) (i : ℕ) (k : Bor (List ℕ)) (held : List X) (out now all : List ℕ)
-      → drop i rest ≡ k ∷ drop (i + 1) rest → held ≡ filter (λ x. bytes_eq k.now (key x)) xs
-      → now ≡ out ++ (44 ∷ (quoted k.now ++ 58 ∷ compact_text (one_or_all (map json held))))
-      → out ++ members_after (pairs_of (λ k. k.now) value_of (drop i rest)) ≡ all
-      → now ++ members_after (pairs_of (λ k. k.now) value_of (drop (i + 1) rest)) ≡ all
-  next_group rest i k held out now all whole is e before =
-      next_written (λ k. k.now) value_of rest i k out _ now k.now all whole refl refl
-      (one_piece out now k.now (compact_text (value_of k)) 44 (rw (group_value k held is) at e)) before
+-- ---- the places are found from the last member to the first
 
-  pub no_group : (keys : List (Bor (List ℕ))) → map (λ k. k.now) keys ≡ first_keys (keyed key xs) → keys ≡ []
-      → 123 ∷ 125 ∷ [] ≡ compact_text (gathered (pairs_of key json xs))
-  no_group keys all none = none_written (λ k. k.now) value_of keys none ∙ gathered_text keys all
+pub no_places : (ps : List Pair) (at : ℕ) (firsts : BTreeMap (Bor (List ℕ)) ℕ) (nexts : List ℕ) → at ≡ length ps
+    → firsts.entries ≡ [] → length nexts ≡ length ps → ArePlaces ps at firsts nexts
+no_places ps at firsts nexts end empty sized = record {
+  within = omega arith;
+  first = λ key. let none : place key (drop at ps) ≡ 0 = ap (place key) (drop_all at ps (omega arith)) in
+      rw empty (omega (arith, none));
+  next = record { sized = sized; each = λ i p low high is. absurd (omega arith) };
+}
+
+pub one_place : (ps : List Pair) (at : ℕ) (p : Pair) (k : Bor (List ℕ)) (firsts now : BTreeMap (Bor (List ℕ)) ℕ)
+    (nexts : List ℕ) (old : Option ℕ) (next : ℕ) → ArePlaces ps (at + 1) firsts nexts → p ≡ get_or ps at p → k.now ≡ p.0
+    → old ≡ get_by (λ y. slice_cmp nat_cmp k.now y.now) firsts
+    → UpdatesBy (λ x y. slice_cmp nat_cmp x.now y.now) (λ y. slice_cmp nat_cmp k.now y.now) firsts now (Some at)
+    → next ≡ unwrap_or old (length ps) → ArePlaces ps at now (slice_set nexts at next)
+one_place ps at p k firsts now nexts old next places is same was updates set =
+    let within : at + 1 ≤ length ps = places.within in
+    let found : next ≡ at + 1 + place p.0 (drop (at + 1) ps) =
+    set ∙ ap (λ o. unwrap_or o (length ps)) was ∙ places.first k.now
+    ∙ ap (λ key. at + 1 + place key (drop (at + 1) ps)) same in
+    record {
+      within = omega arith;
+      first = λ key. let held = btree_map_updates_str k.now firsts now (Some at) updates key in
+          let whole : place key (drop at ps) ≡ place key (p ∷ drop (at + 1) ps) =
+          ap (place key) (at_place ps at p (omega arith) is) in
+          elim (cases_Bool (bytes_eq key p.0)) [
+            | inl e ↦ let here : bytes_eq k.now key ≡ true = rw same (equal_back key p.0 e) in
+                rw (held, here, whole, e) (omega arith)
+            | inr e ↦ let other : bytes_eq k.now key ≡ false = rw same (differs_back key p.0 e) in
+                rw (held, other, whole, e) (omega (arith, places.first key))
+          ];
+      next = record {
+        sized = length-set nexts at next ∙ places.next.sized;
+        each = λ i q low high at_i. elim (cases_eq i at) [
+          | inl e ↦ let one : q ≡ p =
+              at_i ∙ ap (λ (j : ℕ). get_or ps j q) e ∙ get_or_default ps at q p (omega arith) ∙ sym is in
+              rw (e, one) (get_or-set_same nexts at next 0 (omega (arith, places.next.sized)) ∙ found)
+          | inr n ↦ get_or-set_other nexts at i next 0 n ∙ places.next.each i q (omega (arith, n)) high at_i
+        ];
+      };
+    }
+
+-- ---- the values of a key, and then the next key
+
+pub place_found : (ps : List Pair) (firsts : BTreeMap (Bor (List ℕ)) ℕ) (nexts key : List ℕ)
+    (old : Option ℕ) (end first : ℕ)
+    → ArePlaces ps 0 firsts nexts → old ≡ get_by (λ y. slice_cmp nat_cmp key y.now) firsts → end ≡ length ps
+    → first ≡ unwrap_or old end → first ≡ place key ps
+place_found ps firsts nexts key old end first places was all is =
+    let found = is ∙ ap (λ o. unwrap_or o end) was
+    ∙ ap (λ (n : ℕ). unwrap_or (get_by (λ y. slice_cmp nat_cmp key y.now) firsts) n) all
+    ∙ places.first key in
+    omega arith
+
+keys_taken : (ps : List Pair) (i : ℕ) (p : Pair) (present : Bool) → i < length ps → p ≡ get_or ps i p
+    → is_present p.0 (take i ps) ≡ present
+    → first_keys (take (i + 1) ps) ≡ cond present (first_keys (take i ps)) (first_keys (take i ps) ++ p.0 ∷ [])
+keys_taken ps i p present within is there =
+    ap first_keys (taken_more ps i p within is) ∙ keys_push (take i ps) p
+    ∙ ap (λ b. cond b (first_keys (take i ps)) (first_keys (take i ps) ++ p.0 ∷ [])) there
+
+pub group_came : (ps : List Pair) (i : ℕ) (p : Pair) → i < length ps → p ≡ get_or ps i p → place p.0 ps < i
+    → begun ps (i + 1) ≡ begun ps i
+group_came ps i p within is low =
+    ap (map (λ k. (k, one_or_all (values_at k ps))))
+    (keys_taken ps i p true within is (after_place p.0 ps i low (omega arith)))
+
+none_begun : (ps : List Pair) (i : ℕ) → i ≤ length ps → length (begun ps i) ≡ 0 → i ≡ 0
+none_begun ps zero within none = refl
+none_begun [] (suc i) within none = absurd (omega arith)
+none_begun (p ∷ ps) (suc i) within none = absurd (omega (arith, none))
+
+pub group_added : (ps : List Pair) (i : ℕ) (p : Pair) (base out key_out now name : List ℕ) → i < length ps
+    → p ≡ get_or ps i p → name ≡ p.0 → i ≤ place p.0 ps → out ≡ base ++ open_text (begun ps i)
+    → key_out ≡ out ++ (before_member i ∷ (quoted name ++ 58 ∷ []))
+    → now ≡ key_out ++ compact_text (one_or_all (values_at p.0 (drop i ps)))
+    → now ≡ base ++ open_text (begun ps (i + 1))
+group_added ps i p base out key_out now name within is same first held named valued =
+    let value = one_or_all (values_at p.0 ps) in
+    let more : begun ps (i + 1) ≡ begun ps i ++ (p.0, value) ∷ [] =
+    ap (map (λ k. (k, one_or_all (values_at k ps))))
+    (keys_taken ps i p false within is (before_place p.0 ps i first))
+    ∙ map-append (λ k. (k, one_or_all (values_at k ps))) (first_keys (take i ps)) (p.0 ∷ []) in
+    rw (
+      valued,
+      named,
+      same,
+      held,
+      passed_values p.0 ps i first,
+      more,
+      open_more (begun ps i) (p.0, value) i (λ zero. rw zero refl) (none_begun ps i (omega arith)),
+    ) (regroup base (open_text (begun ps i)) (quoted p.0) (compact_text value) (before_member i))
+
+pub all_begun : (ps : List Pair) (n : ℕ) (base out now : List ℕ) → length ps ≡ n → out ≡ base ++ open_text (begun ps n)
+    → now ≡ out ++ cond (n == 0) (123 ∷ 125 ∷ []) (125 ∷ []) → now ≡ base ++ compact_text (gathered ps)
+all_begun ps n base out now long held is =
+    ended (begun ps n) n base out now (λ zero. rw zero refl) (none_begun ps n (omega arith)) held is
+    ∙ ap (λ qs. base ++ object_text (map (λ k. (k, one_or_all (values_at k ps))) (first_keys qs)))
+    (take_all n ps (omega arith))
+
+-- ---- the values of one key
+
+-- what is still to be written from a place on, where the key's values begin at the other
+abbrev pub Values : List Pair → ℕ → ℕ → List ℕ → List ℕ → Type 0
+Values ps first at base out = (p : Pair) → p ≡ get_or ps first p
+    → ((q : Pair) → at < length ps → q ≡ get_or ps at q → q.0 ≡ p.0)
+    × (out ++ items_text true (items_of (values_at p.0 (drop at ps)))
+    ≡ base ++ compact_text (one_or_all (values_at p.0 (drop first ps))))
+
+same_pair : (ps : List Pair) (i : ℕ) (p q : Pair) → i < length ps → p ≡ get_or ps i p → q ≡ get_or ps i q → p ≡ q
+same_pair ps i p q within is here = is ∙ get_or_default ps i p q within ∙ sym here
+
+pub value_alone : (ps : List Pair) (first at : ℕ) (x : Pair) (out now : List ℕ) → first < length ps → length ps ≤ at
+    → x ≡ get_or ps first x → at ≡ first + 1 + place x.0 (drop (first + 1) ps) → now ≡ out ++ compact_text x.1
+    → (p : Pair) → p ≡ get_or ps first p → now ≡ out ++ compact_text (one_or_all (values_at p.0 (drop first ps)))
+value_alone ps first at x out now within past here next e p is =
+    rw (same_pair ps first p x within is here, next_values ps first at x within here next, drop_all at ps past) e
+
+pub value_first : (ps : List Pair) (first at : ℕ) (x : Pair) (base opened now : List ℕ) → first < length ps
+    → at < length ps → x ≡ get_or ps first x → at ≡ first + 1 + place x.0 (drop (first + 1) ps)
+    → opened ≡ base ++ 91 ∷ []
+    → now ≡ opened ++ compact_text x.1 → Values ps first at base now
+value_first ps first at x base opened now within more here next e value p is =
+    let one = same_pair ps first p x within is here in
+    let q = get_or ps at p in
+    let there : q ≡ get_or ps at q = get_or_default ps at p q more in
+    let key : (r : Pair) → at < length ps → r ≡ get_or ps at r → r.0 ≡ x.0 =
+    λ r low at_r. next_key ps first at x r next low at_r in
+    let rest = next_values ps first at x within here next in
+    let again = next_values ps at _ q more there refl in
+    let same : q.0 ≡ x.0 = key q more there in
+    rw one (key, rw (value, e, rest, rw same at again) (simp append_assoc))
+
+pub value_next : (ps : List Pair) (first at next : ℕ) (x : Pair) (base out comma now : List ℕ) → at < length ps
+    → x ≡ get_or ps at x → next ≡ at + 1 + place x.0 (drop (at + 1) ps) → comma ≡ out ++ 44 ∷ []
+    → now ≡ comma ++ compact_text x.1 → Values ps first at base out → Values ps first next base now
+value_next ps first at next x base out comma now within here next_is e value before p is =
+    let (key, held) = before p is in
+    let same : x.0 ≡ p.0 = key x within here in
+    let rest = next_values ps at next x within here next_is in (
+      λ r low at_r. next_key ps at next x r next_is low at_r ∙ same,
+      rw (value, e) (simp append_assoc (rw (rw same at rest) at held)),
+    )
+
+pub values_end : (ps : List Pair) (first at : ℕ) (base out now : List ℕ) → length ps ≤ at → Values ps first at base out
+    → now ≡ out ++ 93 ∷ [] → (p : Pair) → p ≡ get_or ps first p
+    → now ≡ base ++ compact_text (one_or_all (values_at p.0 (drop first ps)))
+values_end ps first at base out now past held e p is = e ∙ rw (drop_all at ps past) at (held p is).1
 
 -- ---- keys that each come once have no other value
 
 -- each key with its value, or all its values
-abbrev valued : List (List ℕ × Json) → List (List ℕ) → List (List ℕ × Json)
+abbrev valued : List Pair → List (List ℕ) → List Pair
 valued ps ks = map (λ k. (k, one_or_all (values_at k ps))) ks
 
-skipped : (p : List ℕ × Json) (ps : List (List ℕ × Json)) (ks : List (List ℕ)) → IsNewKey p.0 ks
+skipped : (p : Pair) (ps : List Pair) (ks : List (List ℕ)) → IsNewKey p.0 ks
     → valued (p ∷ ps) ks ≡ valued ps ks
 skipped p ps [] new = refl
 skipped p ps (k ∷ ks) new = rw (differs_back p.0 k new.0, skipped p ps ks new.1) refl
 
-each_alone : (ps : List (List ℕ × Json)) → AreDistinct (map (λ p. p.0) ps) → valued ps (map (λ p. p.0) ps) ≡ ps
+each_alone : (ps : List Pair) → AreDistinct (map (λ p. p.0) ps) → valued ps (map (λ p. p.0) ps) ≡ ps
 each_alone [] distinct = refl
 each_alone (p ∷ ps) distinct =
     let same : bytes_eq p.0 p.0 ≡ true = (bytes_eq-Decides p.0 p.0).1 refl in
@@ -304,28 +444,11 @@ param_json p = (param_pair (param_seen p)).1
 pub all_seen : {X : Type 0} (seen left all : List X) → seen ++ left ≡ all → left ≡ [] → seen ≡ all
 all_seen seen left all whole none = sym (append-nil seen) ∙ ap (λ xs. seen ++ xs) (sym none) ∙ whole
 
-pub param_pairs : (ps : List Param) → pairs_of param_key param_json ps ≡ map param_pair (map param_seen ps)
-param_pairs ps = sym (map-map param_pair param_seen ps)
-
--- the text of an object of such pairs
-abbrev text_of_pairs : List (List ℕ × Json) → List ℕ
-text_of_pairs pairs = compact_text (gathered pairs)
-
-pub params_json : (ps slice : List Param) (params : List (Text × Text)) → slice ≡ ps
-    → map param_seen ps ≡ params
-    → compact_text (gathered (pairs_of param_key param_json slice)) ≡ compact_text (gathered (map param_pair params))
-params_json ps slice params same seen =
-    ap (λ xs. text_of_pairs (pairs_of param_key param_json xs)) same
-    ∙ ap text_of_pairs (param_pairs ps ∙ ap (map param_pair) seen)
-
-element_pairs : (es : List Element)
-    → pairs_of (λ e. encode_utf8_all (element_seen e).id) (λ e. element_json (element_seen e)) es
-    ≡ map element_pair (map element_seen es)
-element_pairs es = sym (map-map element_pair element_seen es)
-
-pub elements_json : (es slice : List Element) (seen : List ElementValue) → slice ≡ es → map element_seen es ≡ seen
-    → compact_text (gathered (pairs_of (λ e. encode_utf8_all (element_seen e).id) (λ e. element_json (element_seen e)) slice))
-    ≡ compact_text (gathered (map element_pair seen))
-elements_json es slice seen same is =
-    ap (λ xs. text_of_pairs (pairs_of (λ e. encode_utf8_all (element_seen e).id) (λ e. element_json (element_seen e)) xs))
-    same ∙ ap text_of_pairs (element_pairs es ∙ ap (map element_pair) is)
+-- items that show these values have the text of their pairs
+pub seen_text : {X Y : Type 0} (see : X → Y) (pair : Y → List ℕ × Json) (xs slice : List X) (ys : List Y)
+    → slice ≡ xs → map see xs ≡ ys
+    → compact_text (gathered (pairs_of (λ x. (pair (see x)).0) (λ x. (pair (see x)).1) slice))
+    ≡ compact_text (gathered (map pair ys))
+seen_text see pair xs slice ys same seen =
+    ap (λ ps. compact_text (gathered ps))
+    (sym (map-map pair see slice) ∙ ap (λ zs. map pair (map see zs)) same ∙ ap (map pair) seen)

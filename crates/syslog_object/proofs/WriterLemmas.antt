@@ -2,21 +2,21 @@
 use Rattle.syslog_object.proofs
 use Rattle.syslog_object.specs
 use proofs.Names.{encode_utf8_all, structured_json, facility_fields, protocol_fields, severity_fields, append_assoc}
-use proofs.Names.{length-append, ElementValue, MessageValue, element_pair, timestamp_json, members_after, Option}
+use proofs.Names.{length-append, ElementValue, MessageValue, element_pair, timestamp_json, Option}
 use proofs.Names.{procid_text, message_json, version_json, element_json, back_fields, compact_text, AreDistinct, List}
-use proofs.Names.{append-nil, option_map, map-append, param_pair, field_text, front_text, text_field, object_text}
-use proofs.Names.{length, bytes_eq, Result, OnTrue, Protocol, escape, quoted, gathered, text_json, rest_text, IsNewKey}
+use proofs.Names.{option_map, map-append, param_pair, field_text, front_text, text_field, object_text}
+use proofs.Names.{length, bytes_eq, Result, OnTrue, Protocol, quoted, gathered, text_json, rest_text, IsNewKey}
 use proofs.Names.{◌++◌, Some, None, codes, refl, Bool, true, false, cond, take, drop, arith, OnOk, string, Field, ◌≡◌}
-use proofs.Names.{ℕ, [], ◌∷◌, sym, ap, ◌∙◌, map, ◌-◌, ◌+◌, ◌<◌, Ok, Err, Bor, Text, Json, nil_from_length}
+use proofs.Names.{ℕ, [], ◌∷◌, sym, ap, ◌∙◌, map, ◌-◌, ◌+◌, ◌<◌, Ok, Err, Bor, Text, Json}
 use Rattle.std.proofs.Common.{◌≢◌, slice_set}
 use Rattle.std.{proofs.Math.Seq.drop-append_seam, proofs.lemmas.List.take_more_set, specs.Result.is_err}
 use Rattle.std.proofs.{lemmas.List.length-map, Math.Seq.take-append_seam}
 use Rattle.syslog_pieces.specs.declared.procid.ProcId.{ProcId}
 use Rattle.json.specs.Print.{escape_byte}
-use specs.{Object.object_of, Object.protocol_text, Parts.later_text, Parts.member_text, Parts.open_text}
+use specs.{Object.object_of, Object.protocol_text, Parts.open_text, Places.before_member}
 use specs.{Writer.AreWritten, Writer.HasWritten, Writer.element_keys, declared.writer.ObjectWriter.ObjectWriter}
-use proofs.GatherLemmas.{param_json, param_key, param_pairs, param_seen, differs_back, distinct_gathered, pairs_of}
-use proofs.GatherLemmas.{Param}
+use proofs.GatherLemmas.{Param, differs_back, distinct_gathered, open_closed, open_more, pairs_of, param_json, param_key}
+use proofs.GatherLemmas.{param_seen, seen_text}
 
 -- ---- the fields of an object, one after the other
 
@@ -131,25 +131,6 @@ whole_written m raw old front list now first second third =
 
 -- ---- one element more
 
-later_more : (ps : List (List ℕ × Json)) (p : List ℕ × Json) → later_text (ps ++ p ∷ []) ≡ later_text ps ++ member_text p
-later_more [] p = append-nil (member_text p)
-later_more (q ∷ qs) p =
-    ap (λ xs. member_text q ++ xs) (later_more qs p) ∙ sym (append_assoc (member_text q) (later_text qs) (member_text p))
-
-pub open_more : (ps : List (List ℕ × Json)) (p : List ℕ × Json) (before : ℕ) → (ps ≡ [] → before ≡ 123)
-    → (ps ≢ [] → before ≡ 44)
-    → open_text (ps ++ p ∷ []) ≡ open_text ps ++ (before ∷ (quoted p.0 ++ 58 ∷ compact_text p.1))
-open_more [] p before first later =
-    ap (λ xs. 123 ∷ (quoted p.0 ++ 58 ∷ xs)) (append-nil (compact_text p.1))
-    ∙ ap (λ (b : ℕ). b ∷ (quoted p.0 ++ 58 ∷ compact_text p.1)) (sym (first refl))
-open_more (q ∷ qs) p before first later =
-    let text = compact_text q.1 in
-    let m = member_text p in
-    ap (λ xs. 123 ∷ (quoted q.0 ++ 58 ∷ (text ++ xs))) (later_more qs p)
-    ∙ sym (ap (λ xs. 123 ∷ xs) (append_assoc (quoted q.0) (58 ∷ (text ++ later_text qs)) m
-    ∙ ap (λ xs. quoted q.0 ++ 58 ∷ xs) (append_assoc text (later_text qs) m)))
-    ∙ ap (λ (b : ℕ). open_text (q ∷ qs) ++ (b ∷ (quoted p.0 ++ 58 ∷ compact_text p.1))) (sym (later (λ e. cc)))
-
 new_more : (k : List ℕ) (ks : List (List ℕ)) (l : List ℕ) → IsNewKey k ks → bytes_eq k l ≡ false
     → IsNewKey k (ks ++ l ∷ [])
 new_more k [] l new differs = (differs, tt)
@@ -169,23 +150,17 @@ params_text : (ps : List Param) (e : ElementValue) → map param_seen ps ≡ e.p
     → object_text (pairs_of param_key param_json ps) ≡ compact_text (element_json e)
 params_text ps e seen distinct =
     distinct_gathered param_key param_json ps distinct
-    ∙ ap (λ qs. compact_text (gathered qs)) (param_pairs ps ∙ ap (map param_pair) seen)
+    ∙ seen_text param_seen param_pair ps ps e.params refl seen
 
-mapped_none : (es : List ElementValue) → length es ≡ 0 → map element_pair es ≡ []
-mapped_none es none = ap (map element_pair) (nil_from_length es none)
-
-none_mapped : (es : List ElementValue) → map element_pair es ≡ [] → length es ≡ 0
-none_mapped es none = sym (length-map es element_pair) ∙ ap length none
-
-pub text_added : (es : List ElementValue) (e : ElementValue) (old now id : List ℕ) (before count : ℕ) (ps : List Param)
-    → old ≡ open_text (map element_pair es) → count ≡ length es → (count ≡ 0 → before ≡ 123) → (count ≢ 0 → before ≡ 44)
-    → id ≡ encode_utf8_all e.id → map param_seen ps ≡ e.params → AreDistinct (map param_key ps)
-    → now ≡ old ++ (before ∷ (quoted id ++ 58 ∷ object_text (pairs_of param_key param_json ps)))
+pub text_added : (es : List ElementValue) (e : ElementValue) (old now id : List ℕ) (count : ℕ) (ps : List Param)
+    → old ≡ open_text (map element_pair es) → count ≡ length es → id ≡ encode_utf8_all e.id → map param_seen ps ≡ e.params
+    → AreDistinct (map param_key ps)
+    → now ≡ old ++ (before_member count ∷ (quoted id ++ 58 ∷ object_text (pairs_of param_key param_json ps)))
     → now ≡ open_text (map element_pair (es ++ e ∷ []))
-text_added es e old now id before count ps held counted first later same seen distinct is =
+text_added es e old now id count ps held counted same seen distinct is =
+    let long = length-map es element_pair in
     rw (is, held, same, params_text ps e seen distinct, map-append element_pair es (e ∷ []))
-    (sym (open_more (map element_pair es) (element_pair e) before (λ none. first (counted ∙ none_mapped es none))
-    (λ some. later (λ zero. some (mapped_none es (sym counted ∙ zero))))))
+    (sym (open_more (map element_pair es) (element_pair e) count (λ zero. omega arith) (λ zero. omega arith)))
 
 keys_more : (es : List ElementValue) (e : ElementValue)
     → element_keys (es ++ e ∷ []) ≡ element_keys es ++ encode_utf8_all e.id ∷ []
@@ -205,24 +180,12 @@ keys_distinct es e id keys distinct held same new =
 
 -- ---- the whole
 
-later_closed : (ps : List (List ℕ × Json)) → later_text ps ++ 125 ∷ [] ≡ members_after ps
-later_closed [] = refl
-later_closed (p ∷ ps) =
-    simp append_assoc (ap (λ xs. 44 ∷ 34 ∷ (escape p.0 ++ 34 ∷ 58 ∷ (compact_text p.1 ++ xs))) (later_closed ps))
-
-open_closed : (ps : List (List ℕ × Json)) → ps ≢ [] → open_text ps ++ 125 ∷ [] ≡ object_text ps
-open_closed [] some = absurd (some refl)
-open_closed (p ∷ ps) some =
-    simp append_assoc (ap (λ xs. 123 ∷ 34 ∷ (escape p.0 ++ 34 ∷ 58 ∷ (compact_text p.1 ++ xs))) (later_closed ps))
-
-mapped_some : (es : List ElementValue) → es ≢ [] → map element_pair es ≢ []
-mapped_some es some none = some (nil_from_length es (none_mapped es none))
-
 elements_closed : (es : List ElementValue) → es ≢ [] → AreDistinct (element_keys es)
     → open_text (map element_pair es) ++ 125 ∷ [] ≡ compact_text (gathered (map element_pair es))
-elements_closed es some distinct =
-    open_closed (map element_pair es) (mapped_some es some)
-    ∙ distinct_gathered (λ e. (element_pair e).0) (λ e. (element_pair e).1) es distinct
+elements_closed [] some distinct = absurd (some refl)
+elements_closed (e ∷ es) some distinct =
+    open_closed (map element_pair (e ∷ es)) (λ none. cc)
+    ∙ distinct_gathered (λ e. (element_pair e).0) (λ e. (element_pair e).1) (e ∷ es) distinct
 
 -- pieces that were written one after the other, the first of them put between the others
 pub ordered : (elements front list now f m b : List ℕ) (start middle : ℕ) → front ≡ elements ++ f → list ≡ front ++ m

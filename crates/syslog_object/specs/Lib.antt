@@ -3,4 +3,5 @@ pub mod Gathered
 pub mod Object
 pub mod Written
 pub mod Parts
+pub mod Places
 pub mod Writer

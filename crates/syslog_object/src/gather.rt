@@ -1,17 +1,11 @@
 //! Objects whose keys may come again: then the value is an array of all their values, at the first place of the key.
-ghost use Rattle.std.specs.Prelude.{◌≡◌, ◌++◌, ◌∷◌, [], List, ℕ, OnOk, IfOk, map};
+ghost use Rattle.std.specs.Prelude.{◌≡◌, ◌<◌, ◌+◌, ◌==◌, ◌++◌, ◌∷◌, [], List, ℕ, OnOk, IfOk, cond, drop, get_or, length, map};
 ghost use Rattle.std.specs.Bool.{OnTrue};
-ghost use Rattle.json.specs.Print.{quoted};
 ghost use Rattle.json.specs.Json.{Json};
-ghost use Rattle.syslog_object.specs.Gathered.{gathered, one_or_all};
-ghost use Rattle.syslog_object.specs.Parts.{AreDistinct, IsNewKey, compact_text, object_text};
-ghost use Rattle.std.specs.BTreeMap.{get_by};
-ghost use Rattle.std.specs.Cmp.Lexicographic.{slice_cmp};
-ghost use Rattle.std.specs.List.{filter};
-ghost use Rattle.std.specs.Option.{option_map_or};
-ghost use Rattle.std.specs.Ordering.{nat_cmp};
-ghost use Rattle.std.specs.Str.{bytes_eq};
-ghost use Rattle.syslog_object.specs.Gathered.{first_keys};
+ghost use Rattle.json.specs.Print.{quoted};
+ghost use Rattle.syslog_object.specs.Gathered.{gathered, one_or_all, values_at};
+ghost use Rattle.syslog_object.specs.Parts.{AreDistinct, IsNewKey, compact_text, object_text, open_text};
+ghost use Rattle.syslog_object.specs.Places.{AreNext, ArePlaces, before_member, begun};
 
 use crate::output::Output;
 use std::alloc::{AllocError, Global};
@@ -68,12 +62,24 @@ pub(crate) fn are_distinct<'a, M: Member<'a>>(members: &[M]) -> bool
     }
 }
 
-/// Appends a member: the byte before it, the key and the colon.
+/// Appends a key and a colon, after a brace, or after a comma where members come before it.
 #[inline(always)]
-pub(crate) fn push_key(out: &mut Output, before: u8, key: &str) -> Result<(), AllocError>
-    ensures { OnOk result (out.new ≡ out.old ++ (before ∷ (quoted key.now ++ 58 ∷ []))) }
+pub(crate) fn push_key(out: &mut Output, count: usize, key: &str) -> Result<(), AllocError>
+    ensures { OnOk result (out.new ≡ out.old ++ (before_member count ∷ (quoted key.now ++ 58 ∷ []))) }
 {
+    let before = if count == 0 { b'{' } else { b',' };
     out.push_text(&[before, b'"'], key, b"\":")
+}
+
+// Appends the brace after so many members, or both braces where there are none.
+#[inline(always)]
+fn push_end(out: &mut Output, count: usize) -> Result<(), AllocError>
+    ensures { OnOk result (out.new ≡ out.old ++ cond (count == 0) (123 ∷ 125 ∷ []) (125 ∷ [])) }
+{
+    if count == 0 {
+        return out.push(b"{}");
+    }
+    out.push(b"}")
 }
 
 /// Appends the members, each key with its value.
@@ -86,90 +92,87 @@ pub(crate) fn push_each<'a, M: Member<'a>>(
     ensures { OnOk result (out.new
         ≡ out.old ++ object_text (map (λ m. (M.key_of m, M.json m)) members.now)) }
 {
-    let Some((first, rest)) = members.split_first() else {
-        return out.push(b"{}");
-    };
-    push_key(out, b'{', first.key())?;
-    first.push_json(alloc, out)?;
-    for member in rest {
-        push_key(out, b',', member.key())?;
+    for at in 0..members.len() {
+        let member = members[at];
+        push_key(out, at, member.key())?;
         member.push_json(alloc, out)?;
     }
-    out.push(b"}")?;
-    Ok(())
+    push_end(out, members.len())
 }
 
-/// The members at each key, and the keys in the order of their first places.
+/// The places of keys among members.
 #[derive(Drop)]
-struct Groups<'a, M> {
-    keys: Vec<&'a str>,
-    members: BTreeMap<&'a str, Vec<M>>,
+struct Places<'a> {
+    // the first place of each key
+    first: BTreeMap<&'a str, usize>,
+    // for each place the next one of its key, or the end
+    next: Vec<usize>,
 }
 
-// Gathers the members, in n log n steps.
-fn gather<'a, M: Member<'a>>(alloc: Global, members: &[M]) -> Result<Groups<'a, M>, AllocError>
-    ensures keys { IfOk result (λ groups. map (λ k. k.now) groups.keys.items
-        ≡ first_keys (map (λ m. (M.key_of m, m)) members.now)) }
-    ensures each { IfOk result (λ groups. (q : List ℕ)
-        → option_map_or (λ g. g.items) (get_by (λ k. slice_cmp nat_cmp q k.now) groups.members) []
-        ≡ filter (λ m. bytes_eq q (M.key_of m)) members.now) }
+// Finds the places from the last member to the first, in n log n steps.
+fn find_places<'a, M: Member<'a>>(alloc: Global, members: &[M]) -> Result<Places<'a>, AllocError>
+    ensures { IfOk result (λ places. ArePlaces (map (λ m. (M.key_of m, M.json m)) members.now) 0 places.first places.next.items) }
 {
-    let mut keys = Vec::new(alloc);
-    let mut groups: BTreeMap<&'a str, Vec<M>> = BTreeMap::new(alloc);
-    for member in members {
-        let key = member.key();
-        if !groups.contains_key(key) {
-            keys.push(key)?;
-        }
-        groups.entry(key)?.or_default().push(*member)?;
+    let end = members.len();
+    let mut first = BTreeMap::new(alloc);
+    let mut next = vec![in alloc; end; end]?;
+    let mut at = end;
+    'members: while at > 0 {
+        at -= 1;
+        let later = first.insert(members[at].key(), at)?;
+        next[at] = later.unwrap_or(end);
     }
-    Ok(Groups {
-        keys,
-        members: groups,
-    })
+    Ok(Places { first, next })
 }
 
-// Appends values: one that is alone as it is, and more in an array.
+// Appends the values of a key from its first place on: one that is alone as it is, and more in an array.
 fn push_values<'a, M: Member<'a>>(
     alloc: Global,
     out: &mut Output,
     members: &[M],
+    next: &[usize],
+    first: usize,
 ) -> Result<(), AllocError>
-    ensures { OnOk result (out.new ≡ out.old ++ compact_text (one_or_all (map M.json members.now))) }
+    requires within { first < length members.now }
+    requires next { AreNext (map (λ m. (M.key_of m, M.json m)) members.now) 0 next.now }
+    ensures { OnOk result ((p : List ℕ × Json) → p ≡ get_or (map (λ m. (M.key_of m, M.json m)) members.now) first p
+        → out.new ≡ out.old ++ compact_text (one_or_all (values_at p.0 (drop first (map (λ m. (M.key_of m, M.json m)) members.now))))) }
 {
-    let Some((first, rest)) = members.split_first() else {
-        return out.push(b"[]");
-    };
-    if rest.is_empty() {
-        return first.push_json(alloc, out);
+    let mut at = next[first];
+    if at >= members.len() {
+        return members[first].push_json(alloc, out);
     }
     out.push(b"[")?;
-    first.push_json(alloc, out)?;
-    for member in rest {
+    members[first].push_json(alloc, out)?;
+    'values: while at < members.len() {
         out.push(b",")?;
-        member.push_json(alloc, out)?;
+        members[at].push_json(alloc, out)?;
+        at = next[at];
     }
-    out.push(b"]")?;
-    Ok(())
+    out.push(b"]")
 }
 
-// Appends a key and all its values.
+// Appends the key of a place and all its values, if the key begins there.
 fn push_group<'a, M: Member<'a>>(
     alloc: Global,
     out: &mut Output,
-    before: u8,
-    key: &str,
-    groups: &BTreeMap<&'a str, Vec<M>>,
+    members: &[M],
+    places: &Places<'a>,
+    at: usize,
 ) -> Result<(), AllocError>
-    ensures { OnOk result (out.new ≡ out.old ++ (before ∷ (quoted key.now ++ 58
-        ∷ compact_text (one_or_all (map M.json (option_map_or (λ g. g.items)
-        (get_by (λ k. slice_cmp nat_cmp key.now k.now) groups.now) [])))))) }
+    requires within { at < length members.now }
+    requires places { ArePlaces (map (λ m. (M.key_of m, M.json m)) members.now) 0 places.now.first places.now.next.items }
+    ensures { OnOk result ((before : List ℕ)
+        → out.old ≡ before ++ open_text (begun (map (λ m. (M.key_of m, M.json m)) members.now) at)
+        → out.new ≡ before ++ open_text (begun (map (λ m. (M.key_of m, M.json m)) members.now) (at + 1))) }
 {
-    push_key(out, before, key)?;
-    match groups.get(key) {
-        Some(group) => push_values(alloc, out, group.as_slice()),
-        None => out.push(b"[]"),
+    let key = members[at].key();
+    let first = places.first.get(key).copied().unwrap_or(members.len());
+    if first < at {
+        return Ok(());
     }
+    push_key(out, at, key)?;
+    push_values(alloc, out, members, places.next.as_slice(), at)
 }
 
 // Appends the object of members whose keys may come again.
@@ -182,16 +185,11 @@ fn push_gathered<'a, M: Member<'a>>(
     ensures { OnOk result (out.new
         ≡ out.old ++ compact_text (gathered (map (λ m. (M.key_of m, M.json m)) members.now))) }
 {
-    let groups = gather(alloc, members)?;
-    let Some((first, rest)) = groups.keys.as_slice().split_first() else {
-        return out.push(b"{}");
-    };
-    push_group(alloc, out, b'{', *first, &groups.members)?;
-    for key in rest {
-        push_group(alloc, out, b',', *key, &groups.members)?;
+    let places = find_places(alloc, members)?;
+    for at in 0..members.len() {
+        push_group(alloc, out, members, &places, at)?;
     }
-    out.push(b"}")?;
-    Ok(())
+    push_end(out, members.len())
 }
 
 /// Appends the object of members: a key that comes again has an array of all its values, at its first place. It takes

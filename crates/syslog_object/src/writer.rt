@@ -10,6 +10,7 @@ ghost use Rattle.syslog_pieces.specs.StructuredData.Visited.{element_seen, list_
 ghost use Rattle.syslog_loose.specs.Line.{line_value};
 ghost use Rattle.syslog_object.specs.Object.{message_json, param_pair, structured_json};
 ghost use Rattle.syslog_object.specs.Parts.{IsNewKey, field_text, object_text};
+ghost use Rattle.syslog_object.specs.Places.{before_member};
 ghost use Rattle.syslog_object.specs.Written.{IsTextOf};
 ghost use Rattle.syslog_object.specs.Writer.{AreWritten, HasWritten};
 
@@ -69,8 +70,8 @@ impl<'a> ObjectWriter<'a> {
         {
             return false;
         }
-        let before = if self.count == 0 { b'{' } else { b',' };
-        if push_element(self.alloc, &mut self.text, before, id, params).is_err() {
+        let count = self.count;
+        if push_element(self.alloc, &mut self.text, count, id, params).is_err() {
             self.is_refused = true;
             return false;
         }
@@ -143,18 +144,18 @@ fn is_new_id(id: &str, ids: &[&str]) -> bool
     true
 }
 
-// Appends an element: the byte before it, its id, and the object of its parameters, whose names each come once.
+// Appends an element after so many: its id, and the object of its parameters, whose names each come once.
 fn push_element(
     alloc: Global,
     out: &mut Output,
-    before: u8,
+    count: usize,
     id: &str,
     params: &[(&str, &str)],
 ) -> Result<(), AllocError>
-    ensures { OnOk result (out.new ≡ out.old ++ (before ∷ (quoted id.now ++ 58
+    ensures { OnOk result (out.new ≡ out.old ++ (before_member count ∷ (quoted id.now ++ 58
         ∷ object_text (map (λ p. param_pair (param_value (λ s. shown s) p)) params.now)))) }
 {
-    push_key(out, before, id)?;
+    push_key(out, count, id)?;
     push_each(alloc, out, params)
 }
 

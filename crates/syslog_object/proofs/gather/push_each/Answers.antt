@@ -1,26 +1,26 @@
-use Rattle.syslog_object.{proofs.EscapeLemmas.pushed, proofs.Names.nil_from_length}
-use Rattle.syslog_object.proofs.GatherLemmas.{first_written, last_written, next_written, none_written, nothing_after}
-use Rattle.syslog_object.proofs.GatherLemmas.{at_place}
+use Rattle.syslog_object.proofs.Names.{◌≡◌, ◌++◌, ℕ, append-nil, arith, length, on_ok_weaker, subst, sym, take}
+use Rattle.syslog_object.specs.Parts.{open_text}
+use Rattle.syslog_object.proofs.GatherLemmas.{all_added, member_added, pair_at, pairs_long, pairs_of}
 use Rattle.syslog_object.proofs.gather.push_each.Goals as goal
 
-pub returns-in_default : goal.returns-in_default
-returns-in_default g c = pushed c.push.result _ _ _ _ c.push.ensures
-    (none_written g.M.Member.key_of g.M.Member.json c.args.members.now
-    (nil_from_length c.args.members.now c.in_default.ensures.cases))
+pub loop-at-init : goal.loop-at-init
+loop-at-init g c = sym (append-nil c.args.out.now)
 
-pub loop-member-init : goal.loop-member-init
-loop-member-init g c = first_written g.M.Member.key_of g.M.Member.json c.args.members.now c.in-Some.rest.now
-    c.in-Some.first.now _ _ _ c.key.result.now c.in-Some.ensures.cases.0 c.key.ensures c.in_ok-push_key.ensures
-    c.in_ok-push_json.ensures
-
-pub loop-member-preserved : goal.loop-member-preserved
-loop-member-preserved g c = next_written g.M.Member.key_of g.M.Member.json c.in-Some.rest.now
-    c.loop-member.member-index c.member-item.result _ _ _ c.key-in-loop-member.result.now _
-    (at_place c.in-Some.rest.now c.loop-member.member-index c.member-item.result c.loop-member-test.true
-    c.member-item.is) c.key-in-loop-member.ensures c.in_ok-push_key-2.ensures c.in_ok-push_json-2.ensures
-    c.loop-member.invariant
+pub loop-at-preserved : goal.loop-at-preserved
+loop-at-preserved g c =
+    let members = c.args.members.now in
+    let pairs = pairs_of g.M.Member.key_of g.M.Member.json members in
+    let long = pairs_long g.M.Member.key_of g.M.Member.json members in
+    let at = c.loop-at.at in
+    let here = pair_at g.M.Member.key_of g.M.Member.json members at _ c.loop-at-test.true c.index-members-at.is in
+    member_added pairs at _ c.args.out.now _ _ _ _ (omega (arith, long, c.loop-at-test.true)) here c.key.ensures
+    c.loop-at.invariant c.in_ok-push_key.ensures c.in_ok-push_json.ensures
 
 pub returns : goal.returns
-returns g c = last_written g.M.Member.key_of g.M.Member.json c.in-Some.rest.now c.loop-member.member-index _ _ _
-    (nothing_after c.in-Some.rest.now c.loop-member.member-index c.loop-member-test.false) c.in_ok-push.ensures
-    c.loop-member.invariant
+returns g c =
+    let members = c.args.members.now in
+    let pairs = pairs_of g.M.Member.key_of g.M.Member.json members in
+    let end : c.loop-at.at ≡ length members = omega arith in
+    let held = subst (λ (k : ℕ). c.loop-at.out ≡ c.args.out.now ++ open_text (take k pairs)) end c.loop-at.invariant in
+    on_ok_weaker c.push_end.result
+    (λ e. all_added pairs _ c.args.out.now _ _ (pairs_long g.M.Member.key_of g.M.Member.json members) held e) c.push_end.ensures

@@ -1,29 +1,56 @@
-use Rattle.syslog_object.proofs.Names.{sym, ◌∙◌, nil_from_length}
-use Rattle.std.proofs.Common.{rules}
-use Rattle.syslog_object.proofs.EscapeLemmas.{pushed}
-use Rattle.syslog_object.proofs.GatherLemmas.{at_place, first_value, last_value, next_value, no_value, nothing_after}
-use Rattle.syslog_object.proofs.GatherLemmas.{alone}
+use Rattle.syslog_object.proofs.Names.{arith, on_ok_weaker}
+use Rattle.syslog_object.proofs.GatherLemmas.{pair_at, pairs_long, pairs_of, value_alone, value_first, value_next}
+use Rattle.syslog_object.proofs.GatherLemmas.{values_end}
 use Rattle.syslog_object.proofs.gather.push_values.Goals as goal
 
-pub returns-in_default : goal.returns-in_default
-returns-in_default g c = pushed c.push.result _ _ _ _ c.push.ensures
-    (no_value g.M.Member.json c.args.members.now (nil_from_length c.args.members.now c.in_default.ensures.cases))
+pub returns-then-at-members : goal.returns-then-at-members
+returns-then-at-members g c =
+    let members = c.args.members.now in
+    let pairs = pairs_of g.M.Member.key_of g.M.Member.json members in
+    let long = pairs_long g.M.Member.key_of g.M.Member.json members in
+    let first = c.args.first in
+    let here = pair_at g.M.Member.key_of g.M.Member.json members first _ c.requires.within c.index-members-first.is in
+    let next = c.requires.next.each first _ (omega arith) (omega (arith, long)) here in
+    on_ok_weaker c.push_json.result
+    (λ e. value_alone pairs first _ _ c.args.out.now _ (omega (arith, long)) (omega (arith, long)) here next e)
+    c.push_json.ensures
 
-pub returns-then-is_empty : goal.returns-then-is_empty
-returns-then-is_empty g c = rw (sym (alone g.M.Member.json c.args.members.now c.in-Some.rest.now c.in-Some.first.now
-    c.in-Some.ensures.cases.0 (search rules))) c.push_json.ensures
+pub values-init : goal.values-init
+values-init g c =
+    let members = c.args.members.now in
+    let pairs = pairs_of g.M.Member.key_of g.M.Member.json members in
+    let long = pairs_long g.M.Member.key_of g.M.Member.json members in
+    let first = c.args.first in
+    let here = pair_at g.M.Member.key_of g.M.Member.json members first _ c.requires.within c.index-members-first-2.is in
+    let next = c.requires.next.each first _ (omega arith) (omega (arith, long)) here in
+    value_first pairs first _ _ c.args.out.now _ _ (omega (arith, long)) (omega (arith, long)) here next
+    c.in_ok-push.ensures c.in_ok-push_json.ensures
 
-pub loop-member-init : goal.loop-member-init
-loop-member-init g c = first_value g.M.Member.json c.args.members.now c.in-Some.rest.now c.in-Some.first.now _ _ _
-    c.in-Some.ensures.cases.0 (sym c.is_empty.ensures ∙ c.if-is_empty.false) c.in_ok-push.ensures c.in_ok-push_json.ensures
+pub values-smaller : goal.values-smaller
+values-smaller g c =
+    let members = c.args.members.now in
+    let long = pairs_long g.M.Member.key_of g.M.Member.json members in
+    let at = c.values.at in
+    let here = pair_at g.M.Member.key_of g.M.Member.json members at _ c.values-test.true c.index-members-at.is in
+    let next = c.requires.next.each at _ (omega arith) (omega (arith, long, c.values-test.true)) here in
+    omega (arith, next, c.values-test.true)
 
-pub loop-member-preserved : goal.loop-member-preserved
-loop-member-preserved g c = next_value g.M.Member.json c.in-Some.rest.now
-    c.loop-member.member-index c.member-item.result _ _ _ _
-    (at_place c.in-Some.rest.now c.loop-member.member-index c.member-item.result c.loop-member-test.true
-    c.member-item.is) c.in_ok-push-2.ensures c.in_ok-push_json-2.ensures c.loop-member.invariant
+pub values-preserved : goal.values-preserved
+values-preserved g c =
+    let members = c.args.members.now in
+    let pairs = pairs_of g.M.Member.key_of g.M.Member.json members in
+    let long = pairs_long g.M.Member.key_of g.M.Member.json members in
+    let at = c.values.at in
+    let here = pair_at g.M.Member.key_of g.M.Member.json members at _ c.values-test.true c.index-members-at.is in
+    let next = c.requires.next.each at _ (omega arith) (omega (arith, long, c.values-test.true)) here in
+    value_next pairs c.args.first at _ _ c.args.out.now c.values.out _ _ (omega (arith, long, c.values-test.true)) here next
+    c.in_ok-push-2.ensures c.in_ok-push_json-2.ensures c.values.invariant
 
 pub returns : goal.returns
-returns g c = last_value g.M.Member.json c.in-Some.rest.now c.loop-member.member-index _ _ _
-    (nothing_after c.in-Some.rest.now c.loop-member.member-index c.loop-member-test.false) c.in_ok-push-3.ensures
-    c.loop-member.invariant
+returns g c =
+    let members = c.args.members.now in
+    let pairs = pairs_of g.M.Member.key_of g.M.Member.json members in
+    let long = pairs_long g.M.Member.key_of g.M.Member.json members in
+    on_ok_weaker c.push-2.result
+    (λ e p is. values_end pairs c.args.first c.values.at c.args.out.now c.values.out _
+    (omega (arith, long, c.values-test.false)) c.values.invariant e p is) c.push-2.ensures

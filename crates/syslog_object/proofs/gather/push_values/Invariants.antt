@@ -1,7 +1,9 @@
-use Rattle.syslog_object.proofs.Names.{◌≡◌, ◌++◌, true, drop, map, items_of, one_or_all, compact_text, items_text}
+use Rattle.syslog_object.proofs.Names.{length, map, ◌-◌}
+use Rattle.syslog_object.proofs.GatherLemmas.{Values}
 use Rattle.syslog_object.proofs.gather.push_values.Given as goal
 
-abbrev pub invariant-loop-member : goal.invariant-loop-member
-invariant-loop-member g l =
-    l.out ++ items_text true (items_of (map g.M.Member.json (drop l.member-index l.rest)))
-    ≡ l.fn.out ++ compact_text (one_or_all (map g.M.Member.json l.members))
+abbrev pub invariant-values : goal.invariant-values
+invariant-values g l = Values (map (λ m. (g.M.Member.key_of m, g.M.Member.json m)) l.members) l.first l.at l.fn.out l.out
+
+abbrev pub decreases-values : goal.decreases-values
+decreases-values g l = length l.members - l.at

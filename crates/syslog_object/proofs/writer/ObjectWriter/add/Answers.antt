@@ -1,5 +1,5 @@
 use Rattle.syslog_object.proofs.Names.{◌∙◌, arith, length-append, encodes-chars, encode_utf8_all, element_seen}
-use Rattle.syslog_object.proofs.Names.{◌+◌, ◌∷◌, [], ap, rules, sym}
+use Rattle.syslog_object.proofs.Names.{◌+◌, ◌∷◌, [], ap, sym}
 use Rattle.std.proofs.lemmas.List.{length-set}
 use Rattle.syslog_object.proofs.WriterLemmas.{ids_added, keys_distinct, not_err, text_added}
 use Rattle.syslog_object.proofs.writer.ObjectWriter.add.Goals as goal
@@ -10,8 +10,7 @@ returns c es h =
     let e = element_seen c.args.element.now in
     let same = sym (encodes-chars c.id-id.result.now c.id-id.utf8) ∙ ap encode_utf8_all c.id-id.ensures in
     record {
-      text = text_added es e _ _ _ _ old.count _ h.text h.count (search rules) (search rules) same
-          c.requires c.if-not-are_distinct.ensures
+      text = text_added es e _ _ _ old.count _ h.text h.count same c.requires c.if-not-are_distinct.ensures
           (not_err c.push_element.result (sym c.if-is_err.ensures.value) c.push_element.ensures);
       sized = length-set old.ids old.count c.id-id.result ∙ h.sized;
       count = ap (λ n. n + 1) h.count ∙ sym (length-append es (e ∷ []));
