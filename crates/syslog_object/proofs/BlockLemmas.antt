@@ -1,10 +1,14 @@
 -- Texts in JSON by blocks of sixteen bytes.
-use Rattle.syslog_object.proofs.Names.{[], append_assoc, append-nil, is_plain, PlainBetween, unescaped, cond, bit_at, w64}
+use Rattle.syslog_object.proofs.Names.{[], append_assoc, append-nil, is_plain, PlainBetween, unescaped, cond, bit_at}
+use Rattle.syslog_object.proofs.Names.{w64}
 use Rattle.syslog_object.proofs.Names.{true, false, List, ◌++◌, length, take, drop, refl, arith, escape, get_or}
-use Rattle.syslog_object.proofs.Names.{◌≡◌, ℕ, suc, zero, ◌<◌, ◌≤◌, ◌∷◌, sym, ap, ◌∙◌, ◌+◌, ◌-◌, ◌%◌, ◌^◌, ◌*◌, Bool, not, map, inl, inr, subst, OnTrue, ◌⊎◌, Result, Ok, Err}
+use Rattle.syslog_object.proofs.Names.{◌≡◌, ℕ, suc, zero, ◌<◌, ◌≤◌, ◌∷◌, sym, ap, ◌∙◌, ◌+◌, ◌-◌, ◌%◌, ◌^◌, ◌*◌, Bool}
+use Rattle.syslog_object.proofs.Names.{not, map, inl, inr, subst, OnTrue, ◌⊎◌, Result, Ok, Err}
 use Rattle.std.specs.Prelude.{IfOk}
-use Rattle.std.proofs.lemmas.Simd.{length-put_chunk, length-chunk, take_more_put_chunk, bit_mask_l, get_or-chunk, mask_l-lt, mask_l-mod, map-map}
-use Rattle.std.proofs.lemmas.Nat.Bits.{bit_at-trailing_zeros, bit_at_clear_same, bit_at_clear_other, bit_at_above, bit_at-zero}
+use Rattle.std.proofs.lemmas.Simd.{length-put_chunk, length-chunk, take_more_put_chunk, bit_mask_l, get_or-chunk}
+use Rattle.std.proofs.lemmas.Simd.{mask_l-lt, mask_l-mod, map-map}
+use Rattle.std.proofs.lemmas.Nat.Bits.{bit_at-trailing_zeros, bit_at_clear_same, bit_at_clear_other, bit_at_above}
+use Rattle.std.proofs.lemmas.Nat.Bits.{bit_at-zero}
 use Rattle.std.proofs.lemmas.List.{get_or-map, length-map}
 use Rattle.std.proofs.lemmas.Nat.{and_le_l}
 use Rattle.std.proofs.lemmas.Bool.{cases_lt, cases_eq, ne_eqb, false≢true, le-ltb}
@@ -15,7 +19,8 @@ use Rattle.json.specs.Run.{is_stop}
 use Rattle.syslog_pieces.proofs.TextLemmas.Runs.{IsLanes}
 use Rattle.syslog_object.specs.Blocks.{AreStops, in_json}
 use Rattle.syslog_object.proofs.EscapeLemmas.{Plain, plain_escape, plain_front, plain_unescaped, escape-append}
-use Rattle.std.proofs.lemmas.List.{take-append-drop, length-take, length-drop, length-append, take-take, drop-drop, length-take-le, take_all}
+use Rattle.std.proofs.lemmas.List.{take-append-drop, length-take, length-drop, length-append, take-take, drop-drop}
+use Rattle.std.proofs.lemmas.List.{length-take-le, take_all}
 use Rattle.std.proofs.Math.Seq.{take-append-add, take-append_seam, take-add, drop-cons, drop-append-add}
 use Rattle.std.proofs.lemmas.Simd.{length-replicate}
 use Rattle.std.proofs.lemmas.List.{take-append-le, drop_all, drop-replicate}
@@ -104,7 +109,8 @@ stops_found {d = d} {i = i} {r = r} {z = z} {f = f} room found by_lanes all =
       few = rw mask few;
       before = λ k low. absurd (omega arith);
       each = λ k low high. let within : k < length v = omega (arith, long, high) in rw mask (bit_mask_l (map stops v) k
-          ∙ ap (λ (b : Bool). cond b 1 0) (get_or-map stops v k 0 false within ∙ all _ ∙ ap is_stop (get_or-chunk i 16 d k 0 high)));
+          ∙ ap (λ (b : Bool). cond b 1 0) (get_or-map stops v k 0 false within ∙ all _
+          ∙ ap is_stop (get_or-chunk i 16 d k 0 high)));
     }
 
 -- the first byte that needs an escape, of those that are not passed
@@ -200,8 +206,22 @@ pub record InBlock (raw : Bool) (base text : List ℕ) (at first : ℕ) (room : 
   pub same : done ++ in_json raw (drop (first + passed) text) ≡ base ++ in_json raw (drop first text)
   pub bound : end ≤ at + 16 + 5 * passed
 
+-- none are at the beginning
+pub block_begins : (raw : Bool) (at first : ℕ) (old room text : List ℕ) → at ≤ length old
+    → take (at + 16) room ≡ take at old ++ take 16 (drop first text)
+    → InBlock raw (take at old) text at first room (at + 16) 0
+block_begins raw at first old room text within stored =
+    let none : first + 0 ≡ first = omega arith in record {
+      done = take at old;
+      few = omega arith;
+      copied = rw none stored;
+      placed = omega (arith, length-take-le at old within);
+      same = rw none refl;
+      bound = omega arith;
+    }
+
 -- so many more bytes stay as they are
-pub stay : {raw : Bool} {base text : List ℕ} {at first : ℕ} {room : List ℕ} {end passed : ℕ} (n : ℕ)
+stay : {raw : Bool} {base text : List ℕ} {at first : ℕ} {room : List ℕ} {end passed : ℕ} (n : ℕ)
     → InBlock raw base text at first room end passed → passed + n ≤ 16 → first + 16 ≤ length text
     → in_json raw (drop (first + passed) text)
     ≡ take n (drop (first + passed) text) ++ in_json raw (drop (first + (passed + n)) text)
@@ -226,7 +246,7 @@ stay {text = text} {first = first} {passed = passed} n b few more kept =
     }
 
 -- those up to a place do, where none needs an escape
-pub stay_plain : {raw : Bool} {base text : List ℕ} {at first : ℕ} {room : List ℕ} {end passed : ℕ} (stop : ℕ)
+stay_plain : {raw : Bool} {base text : List ℕ} {at first : ℕ} {room : List ℕ} {end passed : ℕ} (stop : ℕ)
     → InBlock raw base text at first room end passed → passed ≤ stop → stop ≤ 16 → first + 16 ≤ length text
     → ((i : ℕ) → passed ≤ i → i < stop → is_stop (get_or text (first + i) 0) ≡ false)
     → InBlock raw base text at first room end stop
@@ -270,7 +290,8 @@ byte_written {raw = raw} {text = text} {first = first} {room = room} {end = end}
     record {
       done = front;
       few = omega arith;
-      copied = sym (take-take later place now (omega (arith, b.placed, b.few))) ∙ ap (take later) all ∙ ap (λ (n : ℕ). take n (front ++ take k rest)) ends
+      copied = sym (take-take later place now (omega (arith, b.placed, b.few))) ∙ ap (take later) all
+          ∙ ap (λ (n : ℕ). take n (front ++ take k rest)) ends
           ∙ take-append-add front (take k rest) left ∙ ap (λ xs. front ++ xs) (take-take left k rest (omega arith));
       placed = ends;
       same = append_assoc b.done w _ ∙ ap (λ xs. b.done ++ xs)
@@ -376,13 +397,14 @@ other_at raw text at is within first bracket letter quote backslash =
     next_byte text (at + 1) within ∙ ap (λ (k : ℕ). c ∷ drop k text) two in
     rw is (ap (in_json true) (pair_text text at within first)
     ∙ json_other c rest (ne_eqb c 93 bracket) (ne_eqb c 110 letter) (ne_eqb c 34 quote) (ne_eqb c 92 backslash)
-    ∙ ap (λ (b : ℕ). 92 ∷ b ∷ in_json true (c ∷ rest)) (sym first) ∙ ap (λ xs. 92 ∷ get_or text at 0 ∷ in_json true xs) (sym one))
+    ∙ ap (λ (b : ℕ). 92 ∷ b ∷ in_json true (c ∷ rest)) (sym first)
+    ∙ ap (λ xs. 92 ∷ get_or text at 0 ∷ in_json true xs) (sym one))
 
 -- an escape was written, and sixteen bytes after it
-pub control_written : (at n m : ℕ) (old room now piece escape text : List ℕ) → take (at + 8) room ≡ take at old ++ piece
-    → take n piece ≡ escape → n ≤ 8 → length piece ≡ 8 → at ≤ length old
+pub control_written : (at n : ℕ) (old room now piece escape text : List ℕ)
+    → take (at + 8) room ≡ take at old ++ piece → take n piece ≡ escape → n ≤ 8 → at ≤ length old
     → take (at + n + 16) now ≡ take (at + n) room ++ text → take (at + n + 16) now ≡ take at old ++ (escape ++ text)
-control_written at n m old room now piece escape text held is few long within written =
+control_written at n old room now piece escape text held is few within written =
     let place : at + n ≡ length (take at old) + n = omega (arith, length-take-le at old within) in
     let front : take (at + n) room ≡ take at old ++ escape =
     sym (take-take (at + n) (at + 8) room (omega arith)) ∙ ap (take (at + n)) held
@@ -402,37 +424,52 @@ pub record AtStop (raw : Bool) (base text : List ℕ) (at first : ℕ) (room : L
 other_bit : (a b k : ℕ) → bit_at a k ≡ 0 → bit_at b k ≡ 1 → a ≡ b → ⊥
 other_bit a b k off on same = omega (arith, sym off ∙ ap (λ (n : ℕ). bit_at n k) same ∙ on)
 
-pub at_stop : {raw : Bool} {base text : List ℕ} {at first : ℕ} {room : List ℕ} {end left : ℕ}
-    → ((passed : ℕ) × AreStops text first passed left × InBlock raw base text at first room end passed) → 0 < left
-    → first + 32 ≤ length text → AtStop raw base text at first room end left (trailing_zeros w64 left)
-at_stop {left = left} (passed, stops, block) some more =
-    let stop = first_stop stops some in
-    let at = trailing_zeros w64 left in
-    let rest = stop_cleared at stops stop in
-    let on : bit_at left at ≡ 1 = (stops.each at stop.after stop.within) ∙ rw (stop.here) refl in
-    let below : at < at + 1 = omega arith in
-    let less = and_le_l left (bit_not w64 (1 * 2 ^ at % 2 ^ 64)) in
-    let differs = other_bit _ _ at (rest.before at below) on in record {
-      within = stop.within;
-      block = stay_plain at block stop.after (omega (arith, stop.within)) (omega arith) stop.plain;
-      here = stop.here;
-      rest = rest;
-      falls = omega (arith, less, differs);
-    }
+-- what is known of the stops that are left of a block: where the next one is, or that none is
+pub record AreLeft (raw : Bool) (base text : List ℕ) (at first : ℕ) (room : List ℕ) (end left : ℕ) : Type 0 where
+  pub within : 0 < left → trailing_zeros w64 left < 16
+  pub placed : 0 < left → 16 ≤ end + trailing_zeros w64 left
+  pub bound : 0 < left → end ≤ at + 16 + 5 * trailing_zeros w64 left
+  pub most : end ≤ at + 96
+  pub falls : 0 < left → bit_and left (bit_not w64 (1 * 2 ^ trailing_zeros w64 left % 2 ^ 64)) < left
+  pub next : 0 < left → AtStop raw base text at first room end left (trailing_zeros w64 left)
+  pub ends : left ≡ 0 → take end room ++ in_json raw (drop (first + 16) text) ≡ base ++ in_json raw (drop first text)
 
--- none is left
-pub block_ends : {raw : Bool} {base text : List ℕ} {at first : ℕ} {room : List ℕ} {end left : ℕ}
-    → ((passed : ℕ) × AreStops text first passed left × InBlock raw base text at first room end passed) → left ≡ 0
-    → first + 32 ≤ length text
-    → take end room ++ in_json raw (drop (first + 16) text) ≡ base ++ in_json raw (drop first text)
-block_ends {raw = raw} {text = text} {first = first} (passed, stops, block) none more =
-    let b = stay_plain 16 block block.few (omega arith) (omega arith) (no_stop stops none) in
-    ap (λ xs. xs ++ in_json raw (drop (first + 16) text)) (b.copied ∙ append-nil b.done) ∙ b.same
+pub are_left : {raw : Bool} {base text : List ℕ} {at first : ℕ} {room : List ℕ} {end left : ℕ} (passed : ℕ)
+    → AreStops text first passed left → InBlock raw base text at first room end passed → first + 32 ≤ length text
+    → AreLeft raw base text at first room end left
+are_left {raw = raw} {base = base} {text = text} {at = begin} {first = first} {room = room} {end = end} {left = left}
+    passed stops block more = record {
+      within = λ some. (next some).within;
+      placed = λ some. let a = next some in omega (arith, a.within, a.block.placed);
+      bound = λ some. (next some).block.bound;
+      most = omega (arith, block.bound, block.few);
+      falls = λ some. (next some).falls;
+      next = next;
+      ends = λ none. let b = stay_plain 16 block block.few (omega arith) (omega arith) (no_stop stops none) in
+          ap (λ xs. xs ++ in_json raw (drop (first + 16) text)) (b.copied ∙ append-nil b.done) ∙ b.same;
+    }
+  where
+    next : 0 < left → AtStop raw base text begin first room end left (trailing_zeros w64 left)
+    next some =
+        let stop = first_stop stops some in
+        let at = trailing_zeros w64 left in
+        let rest = stop_cleared at stops stop in
+        let on : bit_at left at ≡ 1 = (stops.each at stop.after stop.within) ∙ rw (stop.here) refl in
+        let below : at < at + 1 = omega arith in
+        let less = and_le_l left (bit_not w64 (1 * 2 ^ at % 2 ^ 64)) in
+        let differs = other_bit _ _ at (rest.before at below) on in record {
+          within = stop.within;
+          block = stay_plain at block stop.after (omega (arith, stop.within)) (omega arith) stop.plain;
+          here = stop.here;
+          rest = rest;
+          falls = omega (arith, less, differs);
+        }
 
 -- a pair stands across its end
 pub pair_ends : {raw : Bool} {base text : List ℕ} {at first : ℕ} {room : List ℕ} {end : ℕ} (stop : ℕ) (now : List ℕ)
     → (b : InBlock raw base text at first room end stop) → stop ≡ 15 → first + 32 ≤ length text
-    → in_json raw (drop (first + stop) text) ≡ take 2 (drop (first + stop) text) ++ in_json raw (drop (first + stop + 2) text)
+    → in_json raw (drop (first + stop) text)
+    ≡ take 2 (drop (first + stop) text) ++ in_json raw (drop (first + stop + 2) text)
     → take (end + 1) now ≡ take end room ++ get_or text (first + stop + 1) 0 ∷ []
     → take (end + 1) now ++ in_json raw (drop (first + 17) text) ≡ base ++ in_json raw (drop first text)
 pair_ends {raw = raw} {text = text} {first = first} {room = room} {end = end} stop now b last more kept written =
@@ -470,7 +507,8 @@ pair_passed {text = text} {first = first} {left = left} {stop = stop} a other =
 
 pub pair_stays : {raw : Bool} {base text : List ℕ} {at first : ℕ} {room : List ℕ} {end left stop : ℕ}
     → AtStop raw base text at first room end left stop → (stop ≡ 15 → ⊥) → first + 32 ≤ length text
-    → in_json raw (drop (first + stop) text) ≡ take 2 (drop (first + stop) text) ++ in_json raw (drop (first + stop + 2) text)
+    → in_json raw (drop (first + stop) text)
+    ≡ take 2 (drop (first + stop) text) ++ in_json raw (drop (first + stop + 2) text)
     → InBlock raw base text at first room end (stop + 2)
 pair_stays {raw = raw} {text = text} {first = first} {stop = stop} a other more kept =
     let there : first + stop + 2 ≡ first + (stop + 2) = omega arith in
@@ -481,7 +519,8 @@ pair_stays {raw = raw} {text = text} {first = first} {stop = stop} a other more 
 pub backslash_written : {raw : Bool} {base text : List ℕ} {at first : ℕ} {room : List ℕ} {end left stop : ℕ} (now : List ℕ)
     → AtStop raw base text at first room end left stop → first + 32 ≤ length text
     → take (end + stop - 16 + 17) now ≡ take (end + stop - 16) room ++ (92 ∷ take 16 (drop (first + stop) text))
-    → in_json raw (drop (first + stop) text) ≡ 92 ∷ get_or text (first + stop) 0 ∷ in_json raw (drop (first + stop + 1) text)
+    → in_json raw (drop (first + stop) text)
+    ≡ 92 ∷ get_or text (first + stop) 0 ∷ in_json raw (drop (first + stop + 1) text)
     → InBlock raw base text at first now (end + 1) (stop + 1)
 backslash_written {text = text} {first = first} {room = room} {end = end} {stop = stop} now a more written is =
     let here = next_byte text (first + stop) (omega (arith, a.within)) in
@@ -500,7 +539,8 @@ unescape_brackets : (k : ℕ) → unescaped (replicate k 93) ≡ replicate k 93
 unescape_brackets zero = refl
 unescape_brackets (suc k) = ap (λ xs. 93 ∷ xs) (unescape_brackets k)
 
-before_brackets : (xs : List ℕ) (k : ℕ) → (unescaped (xs ++ replicate (suc k) 93) ≡ unescaped xs ++ replicate (suc k) 93)
+before_brackets : (xs : List ℕ) (k : ℕ) → (unescaped (xs ++ replicate (suc k) 93)
+    ≡ unescaped xs ++ replicate (suc k) 93)
     × (after_backslash (xs ++ replicate (suc k) 93) ≡ after_backslash xs ++ replicate (suc k) 93)
 before_brackets [] k = (unescape_brackets (suc k), ap (λ xs. 93 ∷ xs) (unescape_brackets k))
 before_brackets (c ∷ xs) k =
@@ -539,7 +579,8 @@ brackets_off raw text out base padded at next is few after most within held =
     let place : next ≡ n + (next - n) = omega arith in
     let fewer : 64 - n - (next - n) ≡ 64 - next = omega arith in
     let left : in_json raw (drop next padded) ≡ replicate (64 - next) 93 =
-    ap (λ xs. in_json raw (drop next xs)) is ∙ ap (λ (k : ℕ). in_json raw (drop k (text ++ replicate (64 - n) 93))) place
+    ap (λ xs. in_json raw (drop next xs)) is
+    ∙ ap (λ (k : ℕ). in_json raw (drop k (text ++ replicate (64 - n) 93))) place
     ∙ ap (in_json raw) (drop-append-add text (replicate (64 - n) 93) (next - n) ∙ drop-replicate (next - n) (64 - n) 93
     ∙ ap (λ (k : ℕ). replicate k 93) fewer) ∙ only_brackets raw (64 - next) in
     let wanted = base ++ in_json raw text in
@@ -577,12 +618,14 @@ in_json_nothing : (raw : Bool) → in_json raw [] ≡ []
 in_json_nothing false = refl
 in_json_nothing true = refl
 
-pub all_plain : (raw : Bool) (text : List ℕ) (n : ℕ) → n ≡ length text → PlainBetween text 0 n → take n text ≡ in_json raw text
+pub all_plain : (raw : Bool) (text : List ℕ) (n : ℕ) → n ≡ length text → PlainBetween text 0 n
+    → take n text ≡ in_json raw text
 all_plain raw text n all plain =
     let none = ap (in_json raw) (drop_all n text (omega arith)) ∙ in_json_nothing raw in
     sym (plain_written raw text n (omega arith) plain ∙ ap (λ xs. take n text ++ xs) none ∙ append-nil (take n text))
 
-pub text_written : (raw : Bool) (text old mid now rest : List ℕ) (at n end : ℕ) → n ≤ length text → PlainBetween text 0 n
+pub text_written : (raw : Bool) (text old mid now rest : List ℕ) (at n end : ℕ) → n ≤ length text
+    → PlainBetween text 0 n
     → rest ≡ drop n text → take (at + n) mid ≡ take at old ++ take n text
     → take end now ≡ take (at + n) mid ++ in_json raw rest → take end now ≡ take at old ++ in_json raw text
 text_written raw text old mid now rest at n end within plain is first second =

@@ -1,5 +1,6 @@
 -- Texts in JSON, by blocks of sixteen bytes: what private clauses cite.
-use Rattle.std.specs.Prelude.{◌≡◌, ◌≤◌, ◌<◌, ◌+◌, ◌^◌, Bool, false, true, ℕ, List, ◌∷◌, ◌++◌, cond, drop, slice_index, take}
+use Rattle.std.specs.Prelude.{◌≡◌, ◌≤◌, ◌<◌, ◌+◌, ◌^◌, Bool, false, true, ℕ, List, ◌∷◌, ◌++◌, cond, drop, slice_index}
+use Rattle.std.specs.Prelude.{take}
 use Rattle.std.specs.Int.{bit_at}
 use Rattle.json.specs.Print.{escape, escape_byte}
 use Rattle.json.specs.Run.{is_stop}

@@ -43,7 +43,7 @@ impl<'a> Member<'a> for (&'a str, &'a str) {
 
     #[inline(always)]
     fn push_json(&self, _: Global, out: &mut Output) -> Result<(), AllocError> {
-        out.push_value(b"\"", value(self), b"\"")
+        out.push_between(b"\"", value(self), b"\"", true)
     }
 }
 

@@ -1,6 +1,5 @@
 //! The fields that are no elements: each is appended with the comma before it.
 ghost use Rattle.std.specs.Prelude.{◌≡◌, ◌++◌, ◌≤◌, OnOk, Some, codes};
-ghost use Rattle.std.specs.Fmt.{signed_decimal};
 ghost use Rattle.std.specs.Option.{option_map};
 ghost use Rattle.std.specs.Str.{chars};
 ghost use Rattle.syslog_pieces.specs.Pieces.View.{seen};
@@ -34,10 +33,14 @@ pub(crate) fn push_protocol(out: &mut Output, version: Option<u32>) -> Result<()
     }
 }
 
+/// Returns the name and the number of the facility, as members; nothing if there is none.
 #[tactic(auto, unfolding(crate::proofs::EscapeLemmas::members_on_literals))]
-fn facility_members(facility: SyslogFacility) -> &'static [u8]
-    ensures { result.now ≡ facility_fields (Some facility) }
+pub(crate) fn facility_members(facility: Option<SyslogFacility>) -> &'static [u8]
+    ensures { result.now ≡ facility_fields facility }
 {
+    let Some(facility) = facility else {
+        return b"";
+    };
     match facility {
         SyslogFacility::LOG_KERN => b",\"facility\":\"kern\",\"facility_code\":0",
         SyslogFacility::LOG_USER => b",\"facility\":\"user\",\"facility_code\":1",
@@ -66,10 +69,14 @@ fn facility_members(facility: SyslogFacility) -> &'static [u8]
     }
 }
 
+/// Returns the name and the number of the severity, as members; nothing if there is none.
 #[tactic(auto, unfolding(crate::proofs::EscapeLemmas::members_on_literals))]
-fn severity_members(severity: SyslogSeverity) -> &'static [u8]
-    ensures { result.now ≡ severity_fields (Some severity) }
+pub(crate) fn severity_members(severity: Option<SyslogSeverity>) -> &'static [u8]
+    ensures { result.now ≡ severity_fields severity }
 {
+    let Some(severity) = severity else {
+        return b"";
+    };
     match severity {
         SyslogSeverity::SEV_EMERG => b",\"severity\":\"emerg\",\"severity_code\":0",
         SyslogSeverity::SEV_ALERT => b",\"severity\":\"alert\",\"severity_code\":1",
@@ -79,34 +86,6 @@ fn severity_members(severity: SyslogSeverity) -> &'static [u8]
         SyslogSeverity::SEV_NOTICE => b",\"severity\":\"notice\",\"severity_code\":5",
         SyslogSeverity::SEV_INFO => b",\"severity\":\"info\",\"severity_code\":6",
         SyslogSeverity::SEV_DEBUG => b",\"severity\":\"debug\",\"severity_code\":7",
-    }
-}
-
-/// Appends the name and the number of the facility, where there is one.
-#[inline(always)]
-pub(crate) fn push_facility(
-    out: &mut Output,
-    facility: Option<SyslogFacility>,
-) -> Result<(), AllocError>
-    ensures { OnOk result (out.new ≡ out.old ++ facility_fields facility) }
-{
-    match facility {
-        Some(facility) => out.push_slice(facility_members(facility)),
-        None => Ok(()),
-    }
-}
-
-/// Appends the name and the number of the severity, where there is one.
-#[inline(always)]
-pub(crate) fn push_severity(
-    out: &mut Output,
-    severity: Option<SyslogSeverity>,
-) -> Result<(), AllocError>
-    ensures { OnOk result (out.new ≡ out.old ++ severity_fields severity) }
-{
-    match severity {
-        Some(severity) => out.push_slice(severity_members(severity)),
-        None => Ok(()),
     }
 }
 
@@ -145,29 +124,18 @@ pub(crate) fn push_timestamp(
     }
 }
 
-/// Appends the process id that a text names, as a text, a number in decimal; nothing if it is absent.
+/// Appends the process id that a text names, as a text, a number in decimal; nothing if it is absent. A word that is
+/// printed as it is is written as it is, so that few numbers are computed and printed again.
 #[inline(always)]
 pub(crate) fn push_process(out: &mut Output, process: Option<&str>) -> Result<(), AllocError>
     ensures { OnOk result (out.new ≡ out.old ++ text_field (codes ",\"procid\":\"")
         (option_map procid_text (option_map named_process (seen process.entry)))) }
 {
     match process {
-        Some(word) => push_process_text(out, word),
         None => Ok(()),
+        Some(word) if is_bare_word(word) => out.push_text(b",\"procid\":\"", word, b"\""),
+        Some(word) => push_named(out, word),
     }
-}
-
-// Appends the process id that this text names: the text itself if it is printed as it is, so that few numbers are
-// computed and printed again.
-#[inline(always)]
-fn push_process_text(out: &mut Output, word: &str) -> Result<(), AllocError>
-    ensures { OnOk result (out.new ≡ out.old ++ text_field (codes ",\"procid\":\"")
-        (Some (procid_text (named_process (chars word.now))))) }
-{
-    if is_bare_word(word) {
-        return out.push_text(b",\"procid\":\"", word, b"\"");
-    }
-    push_named(out, word)
 }
 
 // Appends the process id that any text names, by a call.
@@ -177,17 +145,11 @@ fn push_named(out: &mut Output, word: &str) -> Result<(), AllocError>
         (Some (procid_text (named_process (chars word.now))))) }
 {
     match ProcId::from(word) {
-        ProcId::PID(number) => push_process_number(out, number),
+        ProcId::PID(number) => {
+            let mut buffer = itoa::Buffer::new();
+            let digits = buffer.format(number);
+            out.push_text(b",\"procid\":\"", digits, b"\"")
+        }
         ProcId::Name(name) => out.push_text(b",\"procid\":\"", name, b"\""),
     }
-}
-
-// Appends a process id that is a number.
-fn push_process_number(out: &mut Output, number: i32) -> Result<(), AllocError>
-    ensures { OnOk result (out.new
-        ≡ out.old ++ text_field (codes ",\"procid\":\"") (Some (signed_decimal number))) }
-{
-    let mut buffer = itoa::Buffer::new();
-    let digits = buffer.format(number);
-    out.push_text(b",\"procid\":\"", digits, b"\"")
 }

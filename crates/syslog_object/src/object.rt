@@ -10,7 +10,7 @@ ghost use Rattle.syslog_object.specs.Written.{IsTextOf};
 
 use crate::element::push_elements;
 use crate::field::{
-    push_facility, push_field, push_process, push_protocol, push_severity, push_timestamp,
+    facility_members, push_field, push_process, push_protocol, push_timestamp, severity_members,
 };
 use crate::output::Output;
 use std::alloc::{AllocError, Global};
@@ -40,8 +40,8 @@ pub(crate) fn push_front(out: &mut Output, line: &Line<'_>) -> Result<(), AllocE
     ensures small { IsSmallVersion (line_value line.now).protocol }
 {
     push_protocol(out, line.version)?;
-    push_facility(out, line.facility())?;
-    push_severity(out, line.severity())?;
+    out.push_slice(facility_members(line.facility()))?;
+    out.push_slice(severity_members(line.severity()))?;
     push_timestamp(out, line.timestamp)?;
     push_field(out, b",\"hostname\":\"", line.hostname)?;
     push_field(out, b",\"appname\":\"", line.appname)?;

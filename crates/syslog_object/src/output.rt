@@ -1,10 +1,10 @@
 //! What is written of an object.
 
-ghost use Rattle.std.specs.Prelude.{◌≡◌, ◌+◌, ◌-◌, ◌++◌, ◌≤◌, [], List, ℕ, IfOk, IsUtf8, OnOk, drop, length, replicate, take, vec_len};
+ghost use Rattle.std.specs.Prelude.{◌≡◌, ◌+◌, ◌-◌, ◌++◌, ◌≤◌, [], List, ℕ, IfOk, IsUtf8, OnOk, drop, length, replicate};
+ghost use Rattle.std.specs.Prelude.{take, vec_len};
 ghost use Rattle.json.specs.Print.{escape};
 ghost use Rattle.json.specs.Written.{PlainBetween};
 ghost use Rattle.syslog_object.specs.Blocks.{in_json};
-ghost use Rattle.syslog_object.specs.Object.{unescaped};
 
 use crate::blocks::{BLOCK_ROOM, put, put_block, put_plain};
 use std::alloc::AllocError;
@@ -107,39 +107,27 @@ impl Output {
         ensures text { OnOk result (self.new ≡ self.old ++ (before.now ++ (escape text.now ++ after.now))) }
         ensures utf8 { IsUtf8 text.now }
     {
-        self.push_between(before, text.as_bytes(), after, false)
+        self.push_between(before, text, after, false)
     }
 
-    /// Appends a parameter's raw value without its escapes, with JSON's, between two pieces.
+    /// Appends the text with JSON's escapes, between two pieces. Where it is raw it loses those of a parameter's value.
     #[inline(always)]
-    pub(crate) fn push_value<const N: usize, const M: usize>(
+    pub(crate) fn push_between<const N: usize, const M: usize>(
         &mut self,
         before: &[u8; N],
-        raw: &str,
-        after: &[u8; M],
-    ) -> Result<(), AllocError>
-        requires { (N ≤ 64) × (M ≤ 64) }
-        ensures { OnOk result (self.new ≡ self.old ++ (before.now ++ (escape (unescaped raw.now) ++ after.now))) }
-    {
-        self.push_between(before, raw.as_bytes(), after, true)
-    }
-
-    #[inline(always)]
-    fn push_between<const N: usize, const M: usize>(
-        &mut self,
-        before: &[u8; N],
-        text: &[u8],
+        text: &str,
         after: &[u8; M],
         is_raw: bool,
     ) -> Result<(), AllocError>
         requires { (N ≤ 64) × (M ≤ 64) }
-        ensures { OnOk result (self.new ≡ self.old ++ (before.now ++ (in_json is_raw text.now ++ after.now))) }
+        ensures text { OnOk result (self.new ≡ self.old ++ (before.now ++ (in_json is_raw text.now ++ after.now))) }
+        ensures utf8 { IsUtf8 text.now }
     {
         let start = self.at;
         reserve(&mut self.bytes, start, text.len() + 2 * ROOM)?;
-        let at = write(&mut self.bytes, start, before);
-        let end = write_text(&mut self.bytes, at, text, is_raw)?;
-        self.at = write(&mut self.bytes, end, after);
+        let at = put(self.bytes.as_mut_slice(), start, before);
+        let end = write_text(&mut self.bytes, at, text.as_bytes(), is_raw)?;
+        self.at = put(self.bytes.as_mut_slice(), end, after);
         Ok(())
     }
 }
@@ -166,17 +154,6 @@ fn grow(bytes: &mut Vec<u8>, at: usize, count: usize) -> Result<(), AllocError>
     ensures longer { vec_len bytes.old ≤ vec_len bytes.new }
 {
     bytes.resize(at.saturating_add(count).saturating_add(1024), 0)
-}
-
-// Writes the bytes, for which there is room, and returns the place after them.
-#[inline(always)]
-fn write<const N: usize>(bytes: &mut Vec<u8>, at: usize, piece: &[u8; N]) -> usize
-    requires { at + N ≤ vec_len bytes.old }
-    ensures text { take (at + N) bytes.new.items ≡ take at bytes.old.items ++ piece.now }
-    ensures end { result ≡ at + N }
-    ensures len { vec_len bytes.new ≡ vec_len bytes.old }
-{
-    put(bytes.as_mut_slice(), at, piece)
 }
 
 // Writes bytes from the front of the text, of which none needs an escape, and returns how many.

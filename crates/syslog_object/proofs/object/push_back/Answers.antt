@@ -1,4 +1,5 @@
-use Rattle.syslog_object.proofs.Names.{on_ok_weaker, [], ◌∷◌, Some, codes, refl, option_map, seen, line_value, text_json}
+use Rattle.syslog_object.proofs.Names.{on_ok_weaker, [], ◌∷◌, Some, codes, refl, option_map, seen, line_value}
+use Rattle.syslog_object.proofs.Names.{text_json}
 use Rattle.json.specs.Print.{escape_byte}
 use Rattle.syslog_object.proofs.WriterLemmas.{closed, name_written}
 use Rattle.syslog_object.proofs.object.push_back.Goals as goal

@@ -5,9 +5,13 @@ use Rattle.syslog_object.proofs.output.write_text.Goals as goal
 
 pub returns-then-plain-text-clause-text : goal.returns-then-plain-text-clause-text
 returns-then-plain-text-clause-text c =
-    c.write_plain-plain.ensures.text ∙ ap (λ xs. take c.args.at c.args.bytes.now.items ++ xs)
-    (all_plain c.args.is_raw c.args.text.now _ (omega arith) c.write_plain-plain.ensures.plain)
+    let plain = c.write_plain-plain.ensures in
+    plain.text ∙ ap (λ xs. take c.args.at c.args.bytes.now.items ++ xs)
+    (all_plain c.args.is_raw c.args.text.now _ (omega arith) plain.plain)
 
 pub returns-clause-text : goal.returns-clause-text
-returns-clause-text c = on_ok c.put_escaped.result (λ end e. text_written c.args.is_raw c.args.text.now c.args.bytes.now.items _ _ _ c.args.at
-    _ end c.write_plain-plain.ensures.within c.write_plain-plain.ensures.plain (take_rest c.args.text.now _) c.write_plain-plain.ensures.text e) c.put_escaped.ensures.text
+returns-clause-text c =
+    let plain = c.write_plain-plain.ensures in
+    on_ok c.put_escaped.result
+    (λ end e. text_written c.args.is_raw c.args.text.now c.args.bytes.now.items _ _ _ c.args.at _ end plain.within
+    plain.plain (take_rest c.args.text.now _) plain.text e) c.put_escaped.ensures.text
