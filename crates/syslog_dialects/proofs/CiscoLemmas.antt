@@ -1,26 +1,25 @@
 -- A text has one front of each class of a line of Cisco's.
-use Rattle.std.proofs.Common.{◌≡◌, ◌≢◌, ℕ, List, [], ◌∷◌, ◌++◌, ◌∙◌, Bool, true, false, Option, Some, None, refl, sym, ap, arith}
-use Rattle.std.specs.Prelude.{IsTrue, nat_lt, MatchOption}
-use Rattle.std.specs.Borrow.{Bor}
-use Rattle.std.specs.Str.{chars, IsAscii, IsUtf8, encode_utf8_all}
-use Rattle.std.specs.Str.Pattern.{FindsTextPrefix, StripsPrefix}
-use Rattle.std.proofs.lemmas.Bool.{and_parts, ltb-true}
-use Rattle.std.proofs.lemmas.Str.Ascii.{IsAscii-cons, IsAscii-nil}
+use Rattle.std.proofs.Common.{◌≡◌, ℕ, [], ◌∷◌, Option, refl, arith}
 use Rattle.std.specs.Char.{is_ascii_digit}
-use Rattle.syslog_pieces.specs.Pieces.Class.{Text, Class, IsDeterministic, Row, exactly, optional, run, some_run}
+use Rattle.syslog_pieces.specs.Pieces.Class.{Text, Values, Front, NoFront, NoDivision, IsDeterministic, Row, exactly, optional, run, some_run}
 use Rattle.syslog_pieces.specs.Pieces.Rules.{such_that}
 use Rattle.syslog_pieces.specs.Text.{is_blank, colon}
 use Rattle.syslog_pieces.proofs.PieceLemmas.Class.{AllDeterministic, ◌also◌, exactly_det, optional_det, mapped_det, row_det}
-use Rattle.syslog_pieces.proofs.PieceLemmas.Class.{run_det, some_run_det, rest_det, front_of}
-use Rattle.syslog_pieces.specs.Pieces.View.{Skips}
-use Rattle.syslog_pieces.proofs.TextLemmas.Runs.{ascii_ahead, ascii_front}
-use Rattle.syslog_pieces.proofs.PieceLemmas.Rules.{exactly_apart, or_det, such_det}
+use Rattle.syslog_pieces.proofs.PieceLemmas.Class.{run_det, some_run_det, rest_det, ◌then◌, no_row_division, row_none_here, row_of}
+use Rattle.syslog_pieces.proofs.PieceLemmas.Rules.{exactly_apart, or_det, such_det, no_such_front, no_such_meaning, such_front}
 use Rattle.syslog_pieces.proofs.TimestampLemmas.Rfc3339.{year_det}
-use Rattle.syslog_dialects.specs.Cisco.{BeginsBy, begins_host, IsMnemonic, origin, mnemonic, counter_row, label_row, label}
-use Rattle.syslog_dialects.specs.Cisco.{task_row, mark, start_row, labelled, start, front_year_row, front_year, date_row, are_ascii}
+use Rattle.syslog_dialects.specs.Cisco.{begins_host, IsMnemonic, origin, mnemonic, counter_row, label_row, label}
+use Rattle.syslog_dialects.specs.Cisco.{task_row, mark, start_row, labelled, start, front_year_row, front_year, date_row}
 use Rattle.syslog_dialects.specs.Cisco.{place_row, place, message_row, cisco_row, IsAsa, IsNxOs, undated_row}
+use Rattle.syslog_dialects.specs.Cisco.{asa_form, cisco_forms, cisco_sent, ios_form, nx_os_form}
+use Rattle.syslog_dialects.specs.Dialects.{IsOfNone, IsOnlyOf}
+use Rattle.syslog_dialects.specs.Sent.{SentValue}
+use Rattle.syslog_dialects.specs.declared.dialect.Dialect.TheVariants.{CiscoAsa, CiscoIos, CiscoNxOs}
+use Rattle.syslog_dialects.specs.Named.{BeginsWith}
 use Rattle.syslog_dialects.specs.Zone.{bare_word}
 use Rattle.syslog_dialects.proofs.DateLemmas.{any_date_det}
+use Rattle.syslog_dialects.proofs.DialectLemmas.{here, later}
+use Rattle.syslog_dialects.proofs.FormLemmas.{says_once}
 use Rattle.syslog_dialects.proofs.ZoneLemmas.{bare_word_det}
 
 colon_det : IsDeterministic (exactly colon)
@@ -33,7 +32,7 @@ blanks_det : IsDeterministic (run is_blank)
 blanks_det = run_det is_blank
 
 pub origin_det : IsDeterministic origin
-origin_det = such_det bare_word (BeginsBy begins_host) bare_word_det
+origin_det = such_det bare_word (BeginsWith begins_host) bare_word_det
 
 mnemonic_det : IsDeterministic mnemonic
 mnemonic_det = such_det bare_word IsMnemonic bare_word_det
@@ -93,16 +92,37 @@ pub undated_row_det : AllDeterministic undated_row
 undated_row_det = blanks_det also optional_det (exactly colon) colon_det also blanks_det
     also optional_det (Row counter_row) (row_det counter_row counter_row_det) also row_det message_row message_row_det also tt
 
--- ---- what `strip_prefix` gives
-pub ascii_told : (t : List ℕ) → IsTrue (are_ascii t) → IsAscii t
-ascii_told [] h = IsAscii-nil
-ascii_told (c ∷ t) h =
-    let (first, more) = and_parts (nat_lt c 128) (are_ascii t) h in IsAscii-cons c t (ltb-true c 128 first) (ascii_told t more)
+-- ---- the forms of lines with a date: by whether such a line is there, and of which system it is
 
-pub prefix_told : (words bytes : List ℕ) → IsAscii words → IsUtf8 bytes → (r : Option (Bor (List ℕ)))
-    → MatchOption r (FindsTextPrefix words bytes None) (λ x. StripsPrefix (FindsTextPrefix words) bytes x.now)
-    → Skips (exactly words) tt (chars bytes) r
-prefix_told words bytes w u None n = λ p q v e h.
-    n (encode_utf8_all q) (ascii_ahead words q bytes u w (e ∙ ap (λ (x : Text). x ++ q) h))
-prefix_told words bytes w u (Some x) (k, (long, whole, cut), is, fits) = front_of words
-    (ascii_front words x.now bytes w (whole ∙ ap (λ (y : List ℕ). words ++ y) (sym is))) refl
+module _ {t : Text} (none : NoFront (Row cisco_row) t) where
+  pub none_cisco : IsOfNone cisco_forms t
+  none_cisco = (
+    no_row_division (such_that (Row cisco_row) IsAsa ∷ [])
+        (row_none_here (such_that (Row cisco_row) IsAsa) [] (no_such_front (Row cisco_row) IsAsa none)),
+    (
+      no_row_division (such_that (Row cisco_row) IsNxOs ∷ [])
+          (row_none_here (such_that (Row cisco_row) IsNxOs) [] (no_such_front (Row cisco_row) IsNxOs none)),
+      (no_row_division cisco_row none, tt),
+    ),
+  )
+
+module _ {t : Text} {vs : Values cisco_row} (f : Front (Row cisco_row) t [] vs) (sent : SentValue) (e : sent ≡ cisco_sent vs) where
+  not_such : (P : Values cisco_row → Type 0) → (P vs → ⊥) → NoDivision (such_that (Row cisco_row) P ∷ []) t
+  not_such P n = no_row_division (such_that (Row cisco_row) P ∷ []) (row_none_here (such_that (Row cisco_row) P) []
+      (no_such_meaning (Row cisco_row) P (row_det cisco_row cisco_row_det) f n))
+
+  pub in_asa : IsAsa vs → IsOnlyOf cisco_forms t CiscoAsa sent
+  in_asa is = here asa_form (nx_os_form ∷ ios_form ∷ []) t sent
+      (says_once CiscoAsa (such_that (Row cisco_row) IsAsa ∷ []) (λ v. cisco_sent v.0) asa_row_det
+      (row_of (such_that (Row cisco_row) IsAsa ∷ []) (such_front (Row cisco_row) IsAsa f is then refl)) e)
+
+  pub in_nx_os : (IsAsa vs → ⊥) → IsNxOs vs → IsOnlyOf cisco_forms t CiscoNxOs sent
+  in_nx_os no_asa is = later asa_form (nx_os_form ∷ ios_form ∷ []) t CiscoNxOs sent (not_such IsAsa no_asa)
+      (here nx_os_form (ios_form ∷ []) t sent
+      (says_once CiscoNxOs (such_that (Row cisco_row) IsNxOs ∷ []) (λ v. cisco_sent v.0) nx_os_row_det
+      (row_of (such_that (Row cisco_row) IsNxOs ∷ []) (such_front (Row cisco_row) IsNxOs f is then refl)) e))
+
+  pub in_ios : (IsAsa vs → ⊥) → (IsNxOs vs → ⊥) → IsOnlyOf cisco_forms t CiscoIos sent
+  in_ios no_asa no_nx_os = later asa_form (nx_os_form ∷ ios_form ∷ []) t CiscoIos sent (not_such IsAsa no_asa)
+      (later nx_os_form (ios_form ∷ []) t CiscoIos sent (not_such IsNxOs no_nx_os)
+      (here ios_form [] t sent (says_once CiscoIos cisco_row cisco_sent cisco_row_det f e)))

@@ -14,9 +14,9 @@ use Rattle.syslog_pieces.proofs.TimestampLemmas.Rfc3339.{pair_det, year_det, dec
 use Rattle.syslog_dialects.specs.Date.{point, fraction_row, fraction, late_fraction_row, late_fraction, year_after, bsd_row, bsd_of}
 use Rattle.syslog_dialects.specs.Date.{bsd_date, IsOdd, odd_bsd_date, middle, iso_row, iso_of, iso_date, unless, odd_iso_date}
 use Rattle.syslog_dialects.specs.Date.{any_date, one_of_dates}
-use Rattle.syslog_dialects.specs.Zone.{ended, zone, ◌orelse◌}
+use Rattle.syslog_dialects.specs.{Named.◌otherwise◌, Zone.ended, Zone.zone}
 use Rattle.syslog_dialects.specs.declared.sent.SentDate.{SentDate}
-use Rattle.syslog_dialects.proofs.ZoneLemmas.{ended_det, orelse_det, zone_det}
+use Rattle.syslog_dialects.proofs.{NamedLemmas.otherwise_det, ZoneLemmas.ended_det, ZoneLemmas.zone_det}
 
 point_det : IsDeterministic point
 point_det = or_det (exactly_det _) (exactly_det _) (exactly_apart 46 (exactly (44 ∷ [])) (λ p q v h. (44, [], h, omega arith)))
@@ -72,7 +72,7 @@ pub odd_iso_date_det : IsDeterministic odd_iso_date
 odd_iso_date_det = unless_det header_stamp iso_date iso_date_det
 
 pub any_date_det : IsDeterministic any_date
-any_date_det = mapped_det (bsd_date orelse iso_date) SentDate one_of_dates (orelse_det bsd_date_det iso_date_det)
+any_date_det = mapped_det (bsd_date otherwise iso_date) SentDate one_of_dates (otherwise_det bsd_date_det iso_date_det)
 
 -- ---- what follows a month date, as a test
 pub not_plain : (b : Bool) → true ≡ b → b ≡ false → ⊥

@@ -1,10 +1,10 @@
 -- A text has one dialect and one message, and what the readers of lines return.
 use Rattle.std.proofs.Common.{◌≡◌, ◌≢◌, inl, inr, ℕ, Bool, true, false, List, [], ◌∷◌, Option, Some, None}
 use Rattle.std.proofs.Common.{refl, sym, ap, subst, ◌∙◌}
-use Rattle.std.specs.Prelude.{◌↔◌, IsTrue, MatchOption}
+use Rattle.std.specs.Prelude.{◌↔◌, IfSome, IsTrue, MatchOption}
 use Rattle.syslog_pieces.specs.Pieces.Class.{Text, optional}
 use Rattle.syslog_pieces.specs.Pri.{priority}
-use Rattle.syslog_pieces.specs.StructuredData.Visited.{list_elements}
+use Rattle.syslog_pieces.specs.StructuredData.Visited.{list_elements, list_text}
 use Rattle.syslog_pieces.specs.Text.{trimmed}
 use Rattle.syslog_pieces.specs.Timestamp.Zone.{Dating}
 use Rattle.syslog_pieces.proofs.PieceLemmas.Class.{front_same, optional_det}
@@ -13,7 +13,10 @@ use Rattle.syslog_loose.specs.Bodies.Start.{IsAfterPriority}
 use Rattle.syslog_loose.specs.Line.{KnowsForm, line_value}
 use Rattle.syslog_loose.specs.Message.{MessageValue}
 use Rattle.syslog_loose.specs.Reading.{IsOnlyRead, IsUnreadable}
+use Rattle.syslog_loose.specs.Unparsed.{IsLeftUnparsed}
 use Rattle.syslog_loose.specs.Visit.{IsLineOf}
+use Rattle.syslog_loose.proofs.UnparsedLemmas.{leaves_of, leaves_same}
+use Rattle.syslog_pieces.proofs.StructuredDataLemmas.Unparsed.{nothing_leaves, unparsed_same}
 use Rattle.syslog_loose.specs.declared.dates.Dates.{Dates}
 use Rattle.syslog_loose.specs.declared.line.Line.{Line}
 use Rattle.syslog_loose.specs.declared.variant.Variant.{Variant}
@@ -22,7 +25,7 @@ use Rattle.syslog_dialects.specs.Ordinary.{IsOrdinary}
 use Rattle.syslog_dialects.specs.Sent.{SentValue}
 use Rattle.syslog_dialects.specs.SentLine.{HasNoStamp, HasStamp, sent_message}
 use Rattle.syslog_dialects.specs.SentReading.{AreAsked, IsDialectLine, IsInNone, IsLeft}
-use Rattle.syslog_dialects.specs.SentReading.{IsReadSent, IsSentAnswer, IsSentIn, MayBegin, Stands}
+use Rattle.syslog_dialects.specs.SentReading.{IsReadSent, IsSentAnswer, IsSentIn, LeavesSent, MayBegin, Stands}
 use Rattle.syslog_dialects.specs.declared.dialect.Dialect.{Dialect}
 use Rattle.syslog_dialects.specs.declared.visit.SentLine.{SentLine}
 use Rattle.syslog_dialects.proofs.DialectLemmas.{none_first}
@@ -76,13 +79,13 @@ module _ (dates : Dates) (dating : Dating) (dialects : Bool) (variant : Variant)
   -- no text is left in two ways
   left_unread : IsUnreadable variant dating text → (MayBegin text → IsInNone dates false text)
       → Stands dates dating dialects variant text
-  left_unread none never asked true (line, of, odd) = absurd (none (line_value line) of.only.read)
+  left_unread none never asked true ((line, of, odd), may) = absurd (none (line_value line) of.only.read)
   left_unread none never asked false left = never left.1
 
-  left_read : (line : Line) → IsLineOf variant dating text line → ((IsOrdinary line → ⊥) → IsInNone dates true text)
-      → Stands dates dating dialects variant text
-  left_read line of never asked true (other, too, odd) =
-      never (λ is. odd (ordinary_too variant dating text line other of too is))
+  left_read : (line : Line) → IsLineOf variant dating text line
+      → ((IsOrdinary line → ⊥) → MayBegin text → IsInNone dates true text) → Stands dates dating dialects variant text
+  left_read line of never asked true ((other, too, odd), may) =
+      never (λ is. odd (ordinary_too variant dating text line other of too is)) may
   left_read line of never asked false left = absurd (left.0 (line_value line) of.only.read)
 
   in_dialect : AreAsked dialects variant → (is_read : Bool) (it : SentLine) → IsLeft variant dating text is_read
@@ -94,7 +97,8 @@ module _ (dates : Dates) (dating : Dating) (dialects : Bool) (variant : Variant)
   -- the port's line stands
   pub port_stands : (asked : Bool) → IsTrue asked ↔ AreAsked dialects variant → (line : Line) (it : SentLine)
       → it.line ≡ line → it.dialect ≡ None
-      → (IsTrue asked → (IsOrdinary line → ⊥) → IsInNone dates true text) → IsLineOf variant dating text line
+      → (IsTrue asked → (IsOrdinary line → ⊥) → MayBegin text → IsInNone dates true text)
+      → IsLineOf variant dating text line
       → IsReadSent dates dating dialects variant text it.dialect (line_value it.line)
   port_stands asked is line it same plain never of =
       subst (λ (d : Option Dialect). IsReadSent dates dating dialects variant text d (line_value it.line)) (sym plain) (
@@ -104,9 +108,9 @@ module _ (dates : Dates) (dating : Dating) (dialects : Bool) (variant : Variant)
 
   -- a dialect's line comes before it
   pub dialect_before : (asked : Bool) → IsTrue asked ↔ AreAsked dialects variant → IsTrue asked → (line : Line)
-      (it : SentLine) → (IsOrdinary line → ⊥) → IsDialectLine dates true text it → IsLineOf variant dating text line
-      → IsReadSent dates dating dialects variant text it.dialect (line_value it.line)
-  dialect_before asked is asks line it odd says of = in_dialect (is.0 asks) true it (line, of, odd) says
+      (it : SentLine) → (IsOrdinary line → ⊥) → MayBegin text → IsDialectLine dates true text it
+      → IsLineOf variant dating text line → IsReadSent dates dating dialects variant text it.dialect (line_value it.line)
+  dialect_before asked is asks line it odd may says of = in_dialect (is.0 asks) true it ((line, of, odd), may) says
 
   -- where the port reads none
   pub unread : (asked : Bool) → IsTrue asked ↔ AreAsked dialects variant → (result : Option SentLine)
@@ -120,8 +124,8 @@ module _ (dates : Dates) (dating : Dating) (dialects : Bool) (variant : Variant)
       → other ≡ is_read
   left_once true true is too = refl
   left_once false false is too = refl
-  left_once true false (line, of, odd) too = absurd (too.0 (line_value line) of.only.read)
-  left_once false true is (line, of, odd) = absurd (is.0 (line_value line) of.only.read)
+  left_once true false ((line, of, odd), may) too = absurd (too.0 (line_value line) of.only.read)
+  left_once false true is ((line, of, odd), may) = absurd (is.0 (line_value line) of.only.read)
 
   -- a text is read in one dialect or none, as one message
   pub read_once : (dialect other : Option Dialect) (m n : MessageValue)
@@ -142,3 +146,49 @@ pub same_elements : (dates : Dates) (text : Text) (line : Line) (it : SentLine) 
     → IsDialectLine dates true text it → list_elements it.line.list ≡ list_elements line.list
 same_elements dates text line it odd says =
     says.no_elements ∙ sym (no_list (list_elements line.list) (λ some. odd (inr (inl some))))
+
+-- ---- what is left unparsed
+
+pub dialect_leaves : (dates : Dates) (is_read : Bool) (variant : Variant) (text : Text) (it : SentLine) (unparsed : Text)
+    → IsDialectLine dates is_read text it → IsLeftUnparsed it.line unparsed → LeavesSent it.dialect variant text unparsed
+dialect_leaves dates is_read variant text it unparsed is left =
+    subst (λ (d : Option Dialect). LeavesSent d variant text unparsed) (sym is.named)
+    (unparsed_same (list_text it.line.list) unparsed [] left (nothing_leaves (list_text it.line.list) is.no_list))
+
+-- of the port's line what the port leaves
+pub port_leaves : (variant : Variant) (dating : Dating) (text : Text) (line : Line) (it : SentLine) (unparsed : Text)
+    → it.line ≡ line → it.dialect ≡ None → IsLineOf variant dating text line → IsLeftUnparsed it.line unparsed
+    → LeavesSent it.dialect variant text unparsed
+port_leaves variant dating text line it unparsed same plain of left =
+    subst (λ (d : Option Dialect). LeavesSent d variant text unparsed) (sym plain)
+    (leaves_of variant dating text line unparsed of (subst (λ (l : Line). IsLeftUnparsed l unparsed) same left))
+
+pub found_leaves : (dates : Dates) (variant : Variant) (text : Text) (asked : Bool) (never : Type 0)
+    (result : Option SentLine) → MatchOption result never (λ it. IsTrue asked × MayBegin text × IsDialectLine dates false text it)
+    → IfSome result (λ it. (unparsed : Text) → IsLeftUnparsed it.line unparsed → LeavesSent it.dialect variant text unparsed)
+found_leaves dates variant text asked never None h = tt
+found_leaves dates variant text asked never (Some it) h = λ unparsed left. dialect_leaves dates false variant text it unparsed h.2 left
+
+-- a text leaves one text
+pub leaves_once : (dialect : Option Dialect) (variant : Variant) (text u w : Text) → LeavesSent dialect variant text u
+    → LeavesSent dialect variant text w → w ≡ u
+leaves_once None variant text u w a b = leaves_same variant text w u b a
+leaves_once (Some d) variant text u w a b = b ∙ sym a
+
+-- ---- an ordinary line keeps its reading
+
+pub kept_reading : (dates : Dates) (dating : Dating) (dialects : Bool) (variant : Variant) (text : Text) (line : Line)
+    → IsLineOf variant dating text line → IsOrdinary line
+    → IsReadSent dates dating dialects variant text None (line_value line)
+kept_reading dates dating dialects variant text line of is = (
+  of.only,
+  λ asked. left_read dates dating dialects variant text line of (λ odd may. absurd (odd is)) asked,
+)
+
+pub no_dialect : (dates : Dates) (dating : Dating) (dialects : Bool) (variant : Variant) (text : Text) (line : Line)
+    → IsLineOf variant dating text line → IsOrdinary line → (dialect : Dialect) (m : MessageValue)
+    → IsReadSent dates dating dialects variant text (Some dialect) m → ⊥
+no_dialect dates dating dialects variant text line of is dialect m (asked, (true, ((other, too, odd), may), sent)) =
+    odd (ordinary_too variant dating text line other of too is)
+no_dialect dates dating dialects variant text line of is dialect m (asked, (false, left, sent)) =
+    left.0 (line_value line) of.only.read

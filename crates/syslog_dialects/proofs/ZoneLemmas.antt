@@ -7,9 +7,11 @@ use Rattle.syslog_pieces.proofs.PieceLemmas.Class.{AllDeterministic, ◌also◌,
 use Rattle.syslog_pieces.proofs.PieceLemmas.Class.{some_run_det, run_det, front_of, front_same, no_front_no, Fails, no_row, no_mapped}
 use Rattle.syslog_pieces.proofs.PieceLemmas.Rules.{such_det}
 use Rattle.syslog_pieces.proofs.TimestampLemmas.Rfc3339.{pair_det, numeric_det}
-use Rattle.syslog_dialects.specs.Zone.{bare_word, ended, ◌orelse◌, minutes_row, minutes, some_minutes, offset_row}
+use Rattle.syslog_dialects.specs.Zone.{bare_word, ended, minutes_row, minutes, some_minutes, offset_row}
+use Rattle.syslog_dialects.specs.Named.{◌otherwise◌}
 use Rattle.syslog_dialects.specs.Zone.{mapped_offset, numeric_offset}
 use Rattle.syslog_dialects.specs.Zone.{IsZoneName, zone_name, offset_of, zone_mark, zone_row, zone}
+use Rattle.syslog_dialects.proofs.NamedLemmas.{otherwise_det}
 
 -- ---- a piece that ends a word
 pub ended_det : (C : Class) → IsDeterministic C → IsDeterministic (ended C)
@@ -24,23 +26,6 @@ no_ended C n p q v e h = n p q v e h.0
 pub not_ended : (C : Class) → IsDeterministic C → {t q : Text} {v : C.Value} → Front C t q v → (Ends is_tag_char q → ⊥)
     → NoFront (ended C) t
 not_ended C d f n p q v e h = n (subst (λ (x : Text). Ends is_tag_char x) (front_same C d (front_of p e h.0) f).0 h.1)
-
--- ---- a piece of the first class, or otherwise of the second
-pub orelse_det : {C D : Class} → IsDeterministic C → IsDeterministic D → IsDeterministic (C orelse D)
-orelse_det c d p q p' q' (inl v) (inl w) e h h' = let r = c p q p' q' v w e h h' in (r.0, ap inl r.1)
-orelse_det c d p q p' q' (inl v) (inr w) e h h' = absurd (h'.0 p q v (sym e) h)
-orelse_det c d p q p' q' (inr v) (inl w) e h h' = absurd (h.0 p' q' w e h')
-orelse_det c d p q p' q' (inr v) (inr w) e h h' = let r = d p q p' q' v w e h.1 h'.1 in (r.0, ap inr r.1)
-
-pub first_piece : {C D : Class} {t q : Text} {v : C.Value} → Front C t q v → Front (C orelse D) t q (inl v)
-first_piece f = front_of f.piece f.whole f.is
-
-pub second_piece : {C D : Class} {t q : Text} {w : D.Value} → NoFront C t → Front D t q w → Front (C orelse D) t q (inr w)
-second_piece {C} n f = front_of f.piece f.whole (subst (λ (x : Text). NoFront C x) f.whole n, f.is)
-
-pub no_piece : {C D : Class} {t : Text} → NoFront C t → NoFront D t → NoFront (C orelse D) t
-no_piece n m p q (inl v) e h = n p q v e h
-no_piece n m p q (inr w) e h = m p q w e h.1
 
 -- ---- the classes
 pub bare_word_det : IsDeterministic bare_word
@@ -63,8 +48,8 @@ numeric_offset_det : IsDeterministic numeric_offset
 numeric_offset_det = ended_det mapped_offset seconds_det
 
 zone_mark_det : IsDeterministic zone_mark
-zone_mark_det = mapped_det (numeric_offset orelse zone_name) (Option ℤ) offset_of
-    (orelse_det numeric_offset_det (such_det bare_word IsZoneName bare_word_det))
+zone_mark_det = mapped_det (numeric_offset otherwise zone_name) (Option ℤ) offset_of
+    (otherwise_det numeric_offset_det (such_det bare_word IsZoneName bare_word_det))
 
 pub zone_row_det : AllDeterministic zone_row
 zone_row_det = run_det is_blank also zone_mark_det also tt

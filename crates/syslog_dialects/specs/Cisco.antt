@@ -4,7 +4,7 @@
 -- it come, each where the system is so configured: a counter, a sequence number, the host, the task (WLC), `*` or `.` for
 -- a clock that was never set or has lost its server, the date, and the host (ASA, FTD). NX-OS has the year before the
 -- month.
-use Rattle.std.specs.Prelude.{◌≡◌, ◌⊎◌, ◌||◌, ◌&&◌, ℕ, nat_eq, nat_le, nat_lt, Bool, true, false, List, [], ◌∷◌, ◌++◌, Option, Some, None}
+use Rattle.std.specs.Prelude.{◌≡◌, ◌⊎◌, ◌||◌, ◌&&◌, ℕ, nat_eq, Bool, true, List, [], ◌∷◌, ◌++◌, Option, Some, None}
 use Rattle.std.specs.Prelude.{codes}
 use Rattle.std.specs.Option.{is_some}
 use Rattle.std.specs.Char.{is_ascii_digit}
@@ -13,6 +13,7 @@ use Rattle.syslog_pieces.specs.Pieces.Rules.{◌or◌, such_that}
 use Rattle.syslog_pieces.specs.Text.{is_blank, colon}
 use Rattle.syslog_pieces.specs.Timestamp.Rfc3339.{year}
 use Rattle.syslog_dialects.specs.Date.{any_date, in_year}
+use Rattle.syslog_dialects.specs.Named.{BeginsWith, is_letter}
 use Rattle.syslog_dialects.specs.Sent.{Form, SentValue, loose}
 use Rattle.syslog_dialects.specs.Zone.{bare_word}
 use Rattle.syslog_dialects.specs.declared.dialect.Dialect.{Dialect}
@@ -21,20 +22,12 @@ use Rattle.syslog_dialects.specs.declared.sent.SentDate.{SentDate}
 
 -- ---- words
 
-abbrev pub is_letter : ℕ → Bool
-is_letter c = (nat_le 65 c && nat_le c 90) || (nat_le 97 c && nat_le c 122)
-
 -- a letter or a digit
 abbrev pub begins_host : ℕ → Bool
 begins_host c = is_ascii_digit c || is_letter c
 
--- the first character passes the test
-abbrev pub BeginsBy : (ℕ → Bool) → Text → Type 0
-BeginsBy test [] = ⊥
-BeginsBy test (c ∷ more) = test c ≡ true
-
 abbrev pub origin : Class
-origin = such_that bare_word (BeginsBy begins_host)
+origin = such_that bare_word (BeginsWith begins_host)
 
 -- `%`, or `#` (WLC of before 8.0), and then a letter
 abbrev pub IsMnemonic : Text → Type 0
@@ -120,11 +113,6 @@ cisco_sent (host, ((y, (date, _)), (other, ((tag, (_, (_, (_, (msg, _))))), _)))
 
 -- ---- the forms
 
--- whether each is ASCII
-abbrev pub are_ascii : List ℕ → Bool
-are_ascii [] = true
-are_ascii (c ∷ t) = nat_lt c 128 && are_ascii t
-
 -- the text begins with these words
 abbrev pub Starts : Text → Text → Type 0
 Starts words t = (q : Text) × Front (exactly words) t q tt
@@ -156,6 +144,10 @@ nx_os_form = record {
 
 abbrev pub ios_form : Form
 ios_form = record { dialect = CiscoIos; row = cisco_row; Means = λ v sent. sent ≡ cisco_sent v }
+
+-- those of lines with a date
+abbrev pub cisco_forms : List Form
+cisco_forms = asa_form ∷ nx_os_form ∷ ios_form ∷ []
 
 -- a line without a date: a counter or none, and the message
 abbrev pub undated_row : List Class

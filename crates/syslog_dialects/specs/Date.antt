@@ -11,7 +11,8 @@ use Rattle.syslog_pieces.specs.Timestamp.{header_stamp}
 use Rattle.syslog_pieces.specs.Timestamp.MonthDate.{month_date}
 use Rattle.syslog_pieces.specs.Timestamp.Rfc3339.{pair, year, decimals}
 use Rattle.syslog_pieces.specs.declared.timestamp.month_date.MonthDate.{MonthDate}
-use Rattle.syslog_dialects.specs.Zone.{ended, zone, ◌orelse◌}
+use Rattle.syslog_dialects.specs.Named.{◌otherwise◌}
+use Rattle.syslog_dialects.specs.Zone.{ended, zone}
 use Rattle.syslog_dialects.specs.declared.sent.SentDate.{SentDate}
 
 -- ---- fractions
@@ -112,4 +113,4 @@ one_of_dates (inl d) = d
 one_of_dates (inr d) = d
 
 abbrev pub any_date : Class
-any_date = mapped (bsd_date orelse iso_date) SentDate one_of_dates
+any_date = mapped (bsd_date otherwise iso_date) SentDate one_of_dates

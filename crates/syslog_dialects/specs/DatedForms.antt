@@ -1,6 +1,6 @@
 -- The forms that are told by their date, in the order in which they are tried.
-use Rattle.std.specs.Prelude.{List, [], ◌∷◌}
-use Rattle.syslog_dialects.specs.Cisco.{asa_form, ios_form, nx_os_form, undated_form}
+use Rattle.std.specs.Prelude.{List, [], ◌∷◌, ◌++◌}
+use Rattle.syslog_dialects.specs.Cisco.{cisco_forms, undated_form}
 use Rattle.syslog_dialects.specs.Container.{container_form}
 use Rattle.syslog_dialects.specs.Dated.{bsd_form, iso_form, journal_form}
 use Rattle.syslog_dialects.specs.IosXr.{xr_form}
@@ -32,11 +32,5 @@ container_forms = container_form ∷ procurve_forms
 abbrev pub xr_forms : List Form
 xr_forms = xr_form ∷ container_forms
 
-abbrev pub ios_forms : List Form
-ios_forms = ios_form ∷ xr_forms
-
-abbrev pub nx_os_forms : List Form
-nx_os_forms = nx_os_form ∷ ios_forms
-
 abbrev pub all_dated : List Form
-all_dated = asa_form ∷ nx_os_forms
+all_dated = cisco_forms ++ xr_forms

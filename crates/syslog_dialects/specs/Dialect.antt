@@ -1,5 +1,6 @@
 -- The names and the numbers of the dialects: this project's own choice.
-use Rattle.std.specs.Prelude.{ℕ, List, codes}
+use Rattle.std.specs.Prelude.{ℕ, List, Option, chars, codes, option_map}
+use Rattle.syslog_pieces.specs.Pieces.Class.{Text}
 use Rattle.syslog_dialects.specs.declared.dialect.Dialect.{Dialect}
 use Rattle.syslog_dialects.specs.declared.dialect.Dialect.TheVariants.{PriorityAlone, BsdDate, NearlyRfc3339, Journal}
 use Rattle.syslog_dialects.specs.declared.dialect.Dialect.TheVariants.{CiscoIos, CiscoNxOs, CiscoAsa, CiscoUndated}
@@ -34,6 +35,10 @@ dialect_name SeverityFirst = codes "severity-first"
 dialect_name SpacedName = codes "spaced-name"
 dialect_name NoHost = codes "no-host"
 dialect_name Heroku = codes "heroku"
+
+-- the name of the dialect, where there is one
+abbrev pub dialect_text : Option Dialect → Option Text
+dialect_text dialect = option_map (λ d. chars (dialect_name d)) dialect
 
 -- its number, which stays the same from one version to the next
 abbrev pub dialect_number : Dialect → ℕ

@@ -1,21 +1,24 @@
 -- How a text is read as its sender meant it: in a dialect, or as the port reads it.
 use Rattle.std.specs.Prelude.{◌≡◌, ◌||◌, ◌&&◌, ℕ, Bool, true, false, nat_eq, nat_le, IsTrue, List, [], ◌∷◌, Option, Some, None}
 use Rattle.std.specs.Prelude.{MatchOption}
+use Rattle.std.specs.Char.{is_ascii_digit}
 use Rattle.syslog_pieces.specs.Pieces.Class.{Text}
 use Rattle.syslog_pieces.specs.StructuredData.Element.{ElementValue}
-use Rattle.syslog_pieces.specs.StructuredData.Visited.{list_elements}
+use Rattle.syslog_pieces.specs.StructuredData.Visited.{list_elements, list_text}
 use Rattle.syslog_pieces.specs.Text.{trimmed}
 use Rattle.syslog_pieces.specs.Timestamp.Zone.{Dating}
 use Rattle.syslog_loose.specs.Bodies.Start.{IsAfterPriority}
 use Rattle.syslog_loose.specs.Line.{KnowsForm, line_value}
 use Rattle.syslog_loose.specs.Message.{MessageValue}
 use Rattle.syslog_loose.specs.Reading.{IsOnlyRead, IsUnreadable}
+use Rattle.syslog_loose.specs.Unparsed.{Leaves}
 use Rattle.syslog_loose.specs.Visit.{IsLineOf}
 use Rattle.syslog_loose.specs.declared.dates.Dates.{Dates}
 use Rattle.syslog_loose.specs.declared.line.Line.{Line}
 use Rattle.syslog_loose.specs.declared.variant.Variant.{Variant}
 use Rattle.syslog_loose.specs.declared.variant.Variant.TheVariants.{Either}
 use Rattle.syslog_dialects.specs.Dialects.{IsOnlyOf, forms_of}
+use Rattle.syslog_dialects.specs.Named.{is_letter}
 use Rattle.syslog_dialects.specs.Ordinary.{IsOrdinary}
 use Rattle.syslog_dialects.specs.Sent.{SentValue}
 use Rattle.syslog_dialects.specs.SentLine.{IsMessageSent}
@@ -26,20 +29,69 @@ use Rattle.syslog_dialects.specs.declared.visit.SentLine.{SentLine}
 abbrev pub AreAsked : Bool → Variant → Type 0
 AreAsked dialects variant = IsTrue dialects × (variant ≡ Either)
 
--- a character that a text of a dialect may begin with: white space, `0` to `<`, `A` to `[`, `%`, `*`, `.`, `d`, `i`, or one
--- past ASCII
-abbrev pub may_begin : ℕ → Bool
-may_begin c =
-    (nat_le c 32 || (nat_le 48 c && nat_le c 60))
-    || (((nat_le 65 c && nat_le c 91) || (nat_eq c 37 || nat_eq c 42))
-    || ((nat_eq c 46 || nat_eq c 100) || (nat_eq c 105 || nat_le 127 c)))
+-- ---- how a text of a dialect may begin
 
+abbrev pub is_capital : ℕ → Bool
+is_capital c = nat_le 65 c && nat_le c 90
+
+-- `%`, `*`, `.`, `:` or `[`
+abbrev pub is_mark : ℕ → Bool
+is_mark c = nat_eq c 37 || (nat_eq c 42 || (nat_eq c 46 || (nat_eq c 58 || nat_eq c 91)))
+
+-- a mark, a digit, `<`, a capital letter, `d`, `i` or `t`
+abbrev pub begins : ℕ → Bool
+begins c = (is_mark c || (is_ascii_digit c || nat_eq c 60)) || (is_capital c || (nat_eq c 100 || (nat_eq c 105 || nat_eq c 116)))
+
+-- white space or a digit
+abbrev pub is_gap_or_digit : ℕ → Bool
+is_gap_or_digit c = nat_le c 32 || is_ascii_digit c
+
+-- after a digit: a digit and another, `/` or `:`; white space and more of it or a digit; `:` and white space; `/` and a
+-- digit or a capital letter
+abbrev pub follows_digit : ℕ → ℕ → Bool
+follows_digit d e =
+    ((is_ascii_digit d && (is_ascii_digit e || (nat_eq e 47 || nat_eq e 58))) || (nat_le d 32 && is_gap_or_digit e))
+    || ((nat_eq d 58 && nat_le e 32) || (nat_eq d 47 && (is_ascii_digit e || is_capital e)))
+
+-- after a mark: white space and more of it, a digit, a capital letter or a mark; a digit and another, `.` or `:`; a capital
+-- letter and a letter
+abbrev pub follows_mark : ℕ → ℕ → Bool
+follows_mark d e =
+    (nat_le d 32 && (is_gap_or_digit e || (is_capital e || is_mark e)))
+    || ((is_ascii_digit d && (is_ascii_digit e || (nat_eq e 46 || nat_eq e 58))) || (is_capital d && is_letter e))
+
+-- `<` and a digit, and another or `>`; or a capital letter and a letter, and another or `/`
+abbrev pub begins_otherwise : ℕ → ℕ → ℕ → Bool
+begins_otherwise c d e =
+    (nat_eq c 60 && (is_ascii_digit d && (is_ascii_digit e || nat_eq e 62)))
+    || (is_capital c && (is_letter d && (is_letter e || nat_eq e 47)))
+
+-- `dat`, `dev`, `id=` or `tim`, as in the names of pairs
+abbrev pub begins_key : ℕ → ℕ → ℕ → Bool
+begins_key c d e =
+    (nat_eq c 100 && ((nat_eq d 97 && nat_eq e 116) || (nat_eq d 101 && nat_eq e 118)))
+    || ((nat_eq c 105 && (nat_eq d 100 && nat_eq e 61)) || (nat_eq c 116 && (nat_eq d 105 && nat_eq e 109)))
+
+abbrev pub begin_so : ℕ → ℕ → ℕ → Bool
+begin_so c d e =
+    ((is_ascii_digit c && follows_digit d e) || (is_mark c && follows_mark d e))
+    || (begins_otherwise c d e || begins_key c d e)
+
+-- what follows the first character
+abbrev pub GoesOn : ℕ → Text → Type 0
+GoesOn c (d ∷ e ∷ more) = IsTrue (begin_so c d e)
+GoesOn c more = ⊥
+
+-- the text, without the white space at its ends, begins with a priority, a date, a counter, a mark or a name of theirs
 abbrev pub MayBegin : Text → Type 0
-MayBegin text = (c : ℕ) × (more : Text) × (text ≡ c ∷ more) × IsTrue (may_begin c)
+MayBegin text = (c : ℕ) × (more : Text) × (trimmed text ≡ c ∷ more) × (IsTrue (begins c) × GoesOn c more)
 
--- The text is left to the dialects: the port reads a line that is not ordinary, or none, and then a dialect may begin it.
+-- ---- the reading
+
+-- The text is left to the dialects: one may begin it, and the port reads a line that is not ordinary, or none.
 abbrev pub IsLeft : Variant → Dating → Text → Bool → Type 0
-IsLeft variant dating text true = (line : Line) × IsLineOf variant dating text line × (IsOrdinary line → ⊥)
+IsLeft variant dating text true =
+    ((line : Line) × IsLineOf variant dating text line × (IsOrdinary line → ⊥)) × MayBegin text
 IsLeft variant dating text false = IsUnreadable variant dating text × MayBegin text
 
 -- The trimmed text is a priority or none, and a text of this dialect alone, and this is its message. Whether the port
@@ -73,6 +125,11 @@ abbrev pub IsUnsent : Dates → Dating → Bool → Variant → Text → Type 0
 IsUnsent dates dating dialects variant text =
     IsUnreadable variant dating text × Stands dates dating dialects variant text
 
+-- this is left unparsed of the text's structured data: nothing in a dialect
+abbrev pub LeavesSent : Option Dialect → Variant → Text → Text → Type 0
+LeavesSent None variant text unparsed = Leaves variant text unparsed
+LeavesSent (Some dialect) variant text unparsed = unparsed ≡ []
+
 -- what the reading of a text gives
 abbrev pub IsSentAnswer : Dates → Dating → Bool → Variant → Text → Option SentLine → Type 0
 IsSentAnswer dates dating dialects variant text result = MatchOption result
@@ -85,4 +142,5 @@ pub record IsDialectLine (dates : Dates) (is_read : Bool) (text : Text) (it : Se
   pub named : it.dialect ≡ Some dialect
   pub sent : IsSentIn dates is_read text dialect (line_value it.line)
   pub no_elements : list_elements it.line.list ≡ []
+  pub no_list : list_text it.line.list ≡ []
   pub form : KnowsForm it.line

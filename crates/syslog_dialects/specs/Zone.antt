@@ -3,13 +3,14 @@
 -- The names are the alphabetic abbreviations that the IANA time zone database (2024b) has for a zone today, and `Z`.
 -- UTC, GMT and Z are offset 0. The others are not: IST is the time of India, of Israel and of Ireland.
 use Rattle.std.proofs.Common.{inl, inr}
-use Rattle.std.specs.Prelude.{◌≡◌, ◌⊎◌, ◌||◌, ℕ, ℤ, pos, Bool, true, false, if◌then◌else◌, List, [], ◌∷◌, ◌++◌, Option, Some, None}
+use Rattle.std.specs.Prelude.{◌≡◌, ◌⊎◌, ◌||◌, ℕ, ℤ, pos, Bool, true, false, if◌then◌else◌, List, [], ◌∷◌, Option, Some, None}
 use Rattle.std.specs.Prelude.{codes, unwrap_or, map, chars}
-use Rattle.syslog_pieces.specs.Pieces.Class.{Text, Class, Values, Row, Ends, NoFront, run, some_run, exactly, optional, mapped, texted}
+use Rattle.syslog_pieces.specs.Pieces.Class.{Text, Class, Values, Row, Ends, run, some_run, exactly, optional, mapped, texted}
 use Rattle.syslog_pieces.specs.Pieces.Rules.{such_that}
 use Rattle.syslog_pieces.specs.Pieces.View.{text_eq}
 use Rattle.syslog_pieces.specs.Text.{is_blank, is_tag_char, colon}
 use Rattle.syslog_pieces.specs.Timestamp.Rfc3339.{pair, sign, seconds_of}
+use Rattle.syslog_dialects.specs.Named.{◌otherwise◌}
 
 -- ---- words
 
@@ -25,14 +26,6 @@ ended C = record { Value = C.Value; Is = λ p q v. C.Is p q v × Ends is_tag_cha
 abbrev pub is_among : Text → List Text → Bool
 is_among t [] = false
 is_among t (u ∷ us) = text_eq u t || is_among t us
-
--- a piece of the first class, or where there is none, of the second
-infixr 20 ◌orelse◌
-abbrev pub ◌orelse◌ : (C D : Class) → Class
-◌orelse◌ C D = record {
-  Value = C.Value ⊎ D.Value;
-  Is = λ p q v. elim v [ inl x ↦ C.Is p q x | inr y ↦ NoFront C (p ++ q) × D.Is p q y ];
-}
 
 -- ---- an offset
 
@@ -91,7 +84,7 @@ offset_of (inl seconds) = Some seconds
 offset_of (inr name) = name_offset name
 
 abbrev pub zone_mark : Class
-zone_mark = mapped (numeric_offset orelse zone_name) (Option ℤ) offset_of
+zone_mark = mapped (numeric_offset otherwise zone_name) (Option ℤ) offset_of
 
 -- blanks or none before it
 abbrev pub zone_row : List Class

@@ -10,36 +10,35 @@
 ghost use Rattle.std.specs.Prelude.{◌≡◌, ◌∷◌, [], chars, IsTrue, MatchBool, MatchOption, Option, ℕ};
 ghost use Rattle.std.specs.Char.{is_ascii_digit};
 ghost use Rattle.syslog_pieces.specs.Pieces.Class.{Front, NoFront, Row, exactly, optional, some_run};
-ghost use Rattle.syslog_pieces.specs.Pieces.View.{Reads, Recognises, Skips, seen, shown};
+ghost use Rattle.syslog_pieces.specs.Pieces.View.{Reads, Recognises, seen, shown};
 ghost use Rattle.syslog_pieces.specs.Text.{colon as any_colon, is_blank};
 ghost use Rattle.syslog_dialects.specs.DateViews.{cisco_values, message_values};
+ghost use Rattle.syslog_dialects.specs.Dialects.{Finds};
+ghost use Rattle.syslog_dialects.specs.Named.{BeginsWith};
+ghost use Rattle.syslog_dialects.specs.Runs.{are_ascii};
 ghost use Rattle.syslog_dialects.specs.Sent.{Sends, sent_value};
 ghost use Rattle.syslog_dialects.specs.Zone.{bare_word as any_word};
 ghost use Rattle.syslog_dialects.specs.Cisco as spec;
 
 use crate::date::any_date;
+use crate::dialect::Dialect;
+use crate::named::past;
 use crate::sent::{Sent, SentDate};
 use crate::zone::bare_word;
 use syslog_pieces::text::{CharClass, blanks, first, literal, past_colon, some_blanks, split_run};
 use syslog_pieces::timestamp::MonthDate;
 use syslog_pieces::timestamp::pairs::year;
 
-fn is_letter(c: char) -> bool
-    ensures { result ≡ spec.is_letter c }
-{
-    ('A' <= c && c <= 'Z') || ('a' <= c && c <= 'z')
-}
-
 // A letter or a digit.
 fn begins_host(c: char) -> bool
     ensures { result ≡ spec.begins_host c }
 {
-    c.is_ascii_digit() || is_letter(c)
+    c.is_ascii_digit() || c.is_ascii_alphabetic()
 }
 
 fn is_host(word: &str) -> bool
-    ensures { MatchBool result (spec.BeginsBy spec.begins_host (chars word.now))
-        (spec.BeginsBy spec.begins_host (chars word.now) → ⊥) }
+    ensures { MatchBool result (BeginsWith spec.begins_host (chars word.now))
+        (BeginsWith spec.begins_host (chars word.now) → ⊥) }
 {
     match first(word) {
         Some((c, _)) => begins_host(c),
@@ -55,22 +54,14 @@ fn is_mnemonic(word: &str) -> bool
         return false;
     };
     match first(more) {
-        Some((letter, _)) => (mark == '%' || mark == '#') && is_letter(letter),
+        Some((letter, _)) => (mark == '%' || mark == '#') && letter.is_ascii_alphabetic(),
         None => false,
     }
 }
 
-// The text after these ASCII words, where they begin it.
-fn past<'a>(text: &'a str, words: &str) -> Option<&'a str>
-    requires { IsTrue (spec.are_ascii words.now) }
-    ensures { Skips (exactly words.now) tt (chars text.entry.now) result }
-{
-    text.strip_prefix(words)
-}
-
 // Whether the text begins with these ASCII words.
 pub(crate) fn starts(text: &str, words: &str) -> bool
-    requires { IsTrue (spec.are_ascii words.now) }
+    requires { IsTrue (are_ascii words.now) }
     ensures { MatchBool result (spec.Starts words.now (chars text.now)) (spec.Starts words.now (chars text.now) → ⊥) }
 {
     match past(text, words) {
@@ -352,34 +343,20 @@ impl<'a> Cisco<'a> {
     }
 }
 
-/// Returns what a line of ASA or FTD says.
-pub(crate) fn read_asa(text: &str) -> Option<Sent<'_>>
-    ensures { Sends spec.asa_form (chars text.now) result }
+/// Returns the system of a line with a date, and what the line says: ASA or FTD by its facility, NX-OS by a year before
+/// the month, and otherwise IOS.
+pub(crate) fn read_cisco(text: &str) -> Option<(Dialect, Sent<'_>)>
+    ensures { Finds spec.cisco_forms (chars text.now) result }
 {
     let line = shown_line(text)?;
-    if !line.is_asa() {
-        return None;
+    let sent = line.sent();
+    if line.is_asa() {
+        return Some((Dialect::CiscoAsa, sent));
     }
-    Some(line.sent())
-}
-
-/// Returns what a line of NX-OS says, which has the year before the month.
-pub(crate) fn read_nx_os(text: &str) -> Option<Sent<'_>>
-    ensures { Sends spec.nx_os_form (chars text.now) result }
-{
-    let line = shown_line(text)?;
-    if !line.is_nx_os() {
-        return None;
+    if line.is_nx_os() {
+        return Some((Dialect::CiscoNxOs, sent));
     }
-    Some(line.sent())
-}
-
-/// Returns what a line of Cisco's other systems says.
-pub(crate) fn read_ios(text: &str) -> Option<Sent<'_>>
-    ensures { Sends spec.ios_form (chars text.now) result }
-{
-    let line = shown_line(text)?;
-    Some(line.sent())
+    Some((Dialect::CiscoIos, sent))
 }
 
 /// Returns what a line of Cisco's systems says that shows no date.

@@ -3,7 +3,7 @@ ghost use Rattle.std.specs.Prelude.{chars};
 ghost use Rattle.syslog_dialects.specs.Dialects.{Finds};
 ghost use Rattle.syslog_dialects.specs.DatedForms as spec;
 
-use crate::cisco::{read_asa, read_ios, read_nx_os, read_undated};
+use crate::cisco::{read_cisco, read_undated};
 use crate::container::read_container;
 use crate::dated::{read_bsd, read_iso, read_journal};
 use crate::dialect::Dialect;
@@ -84,30 +84,12 @@ fn from_xr(text: &str) -> Option<(Dialect, Sent<'_>)>
     }
 }
 
-fn from_ios(text: &str) -> Option<(Dialect, Sent<'_>)>
-    ensures { Finds spec.ios_forms (chars text.now) result }
-{
-    match read_ios(text) {
-        Some(sent) => Some((Dialect::CiscoIos, sent)),
-        None => from_xr(text),
-    }
-}
-
-fn from_nx_os(text: &str) -> Option<(Dialect, Sent<'_>)>
-    ensures { Finds spec.nx_os_forms (chars text.now) result }
-{
-    match read_nx_os(text) {
-        Some(sent) => Some((Dialect::CiscoNxOs, sent)),
-        None => from_ios(text),
-    }
-}
-
 /// Returns the dialect of the text after a priority, by its date, and what it says.
 pub(crate) fn read(text: &str) -> Option<(Dialect, Sent<'_>)>
     ensures { Finds spec.all_dated (chars text.now) result }
 {
-    match read_asa(text) {
-        Some(sent) => Some((Dialect::CiscoAsa, sent)),
-        None => from_nx_os(text),
+    match read_cisco(text) {
+        Some(found) => Some(found),
+        None => from_xr(text),
     }
 }

@@ -6,6 +6,7 @@
 //! a dialect's too.
 #![tactic(auto)]
 
+mod beginning;
 mod cisco;
 mod container;
 mod date;
@@ -16,6 +17,7 @@ mod dialect;
 mod dialects;
 mod header;
 mod ios_xr;
+pub mod laws;
 mod named;
 mod named_forms;
 #[cfg(test)]

@@ -3,22 +3,25 @@
 //! The port reads the text once. Its line stands where it is ordinary. Otherwise, and where it reads none, the dialects
 //! are tried, by a call: so an ordinary line pays a look at a few of its fields.
 ghost use Rattle.std.specs.Prelude.{◌≡◌, ◌↔◌, [], false, true, IfSome, IsTrue, MatchOption, chars};
+ghost use Rattle.syslog_pieces.specs.Pieces.Class.{Text};
 ghost use Rattle.syslog_pieces.specs.StructuredData.Visited.{list_elements};
 ghost use Rattle.syslog_pieces.specs.Timestamp.Zone.{Dating};
 ghost use Rattle.syslog_loose.specs.Dates.{IsDated, year_in};
 ghost use Rattle.syslog_loose.specs.Line.{KnowsForm, line_value};
 ghost use Rattle.syslog_loose.specs.Reading.{IsUnreadable};
+ghost use Rattle.syslog_loose.specs.Unparsed.{IsLeftUnparsed};
 ghost use Rattle.syslog_loose.specs.Visit.{IsLineOf};
 ghost use Rattle.syslog_dialects.specs.Ordinary.{IsOrdinary};
 ghost use Rattle.syslog_dialects.specs.SentReading as spec;
 
+use crate::beginning::may_be_sent;
 use crate::dialect::Dialect;
 use crate::dialects::read_dialect;
 use crate::ordinary::is_ordinary;
 use crate::sent::line_of;
 use syslog_loose::{Dates, IncompleteDate, Line, Variant, parse_line};
 use syslog_pieces::pri::optional_priority;
-use syslog_pieces::text::{first, trimmed};
+use syslog_pieces::text::trimmed;
 
 /// A line as its sender meant it.
 #[derive(Clone, Copy)]
@@ -31,6 +34,8 @@ pub struct SentLine<'a> {
 
 impl<'a> SentLine<'a> {
     ghost use Rattle.std.specs.Prelude.{◌≡◌};
+    ghost use Rattle.syslog_pieces.specs.Pieces.View.{seen};
+    ghost use Rattle.syslog_dialects.specs.Dialect.{dialect_text};
 
     // The line, of this dialect or none.
     #[inline(always)]
@@ -45,25 +50,16 @@ impl<'a> SentLine<'a> {
             dialect,
         }
     }
-}
 
-// Whether a text of a dialect may begin with this character.
-fn may_begin(c: char) -> bool
-    ensures { result ≡ spec.may_begin c }
-{
-    (c <= ' ' || ('0' <= c && c <= '<'))
-        || ((('A' <= c && c <= '[') || (c == '%' || c == '*'))
-            || ((c == '.' || c == 'd') || (c == 'i' || '\u{7f}' <= c)))
-}
-
-// Whether a dialect may begin the text. Few texts that the port does not parse are looked at further.
-#[inline(always)]
-fn may_be_sent(text: &str) -> bool
-    ensures { IsTrue result ↔ spec.MayBegin (chars text.now) }
-{
-    match first(text) {
-        Some((c, _)) => may_begin(c),
-        None => false,
+    /// Returns the name of the dialect, where it is one.
+    #[inline(always)]
+    pub fn dialect_name(&self) -> Option<&'static str>
+        ensures { seen result ≡ dialect_text self.now.dialect }
+    {
+        match self.dialect {
+            Some(dialect) => Some(dialect.name()),
+            None => None,
+        }
     }
 }
 
@@ -92,14 +88,18 @@ fn other_line<'a>(
 ) -> Option<SentLine<'a>>
     requires { KnowsForm line.now }
     ensures { MatchOption result
-        (IsTrue are_asked → (IsOrdinary line.now → ⊥) → spec.IsInNone dates.now true (chars input.entry.now))
-        (λ it. IsTrue are_asked × (IsOrdinary line.now → ⊥)
+        (IsTrue are_asked → (IsOrdinary line.now → ⊥) → spec.MayBegin (chars input.entry.now)
+        → spec.IsInNone dates.now true (chars input.entry.now))
+        (λ it. IsTrue are_asked × ((IsOrdinary line.now → ⊥) × spec.MayBegin (chars input.entry.now))
         × spec.IsDialectLine dates.now true (chars input.entry.now) it) }
 {
     if !are_asked {
         return None;
     }
     if is_ordinary(line) {
+        return None;
+    }
+    if !may_be_sent(input) {
         return None;
     }
     dialect_line(true, input, dates)
@@ -126,7 +126,8 @@ fn last_line<'a>(input: &'a str, dates: &Dates, are_asked: bool) -> Option<SentL
 ///
 /// Where `dialects` is true and the variant is `Either`, the line of a dialect that the text is in comes before the
 /// port's, unless that is ordinary. Otherwise the line is the port's. A dialect's line has no elements, and instead of
-/// one that has some there is none: so what a visitor was given of the elements holds of this line.
+/// one that has some there is none: so what a visitor was given of the elements holds of this line. Nothing of a dialect's
+/// line is left unparsed as structured data.
 #[inline(always)]
 pub fn sent_line<'a>(
     line: &Line<'a>,
@@ -139,6 +140,9 @@ pub fn sent_line<'a>(
     ensures reads { (dating : Dating) → IsLineOf variant dating (chars input.entry.now) line.now
         → spec.IsReadSent dates.now dating dialects variant (chars input.entry.now) result.dialect (line_value result.line) }
     ensures elements { list_elements result.line.list ≡ list_elements line.now.list }
+    ensures leaves { (dating : Dating) (unparsed : Text) → IsLineOf variant dating (chars input.entry.now) line.now
+        → IsLeftUnparsed result.line unparsed
+        → spec.LeavesSent result.dialect variant (chars input.entry.now) unparsed }
     ensures form { KnowsForm result.line }
 {
     match other_line(line, input, dates, asks_dialects(variant, dialects)) {
@@ -159,6 +163,8 @@ pub fn unread_line<'a>(
     ensures reads { (dating : Dating) → IsUnreadable variant dating (chars input.entry.now)
         → spec.IsSentAnswer dates.now dating dialects variant (chars input.entry.now) result }
     ensures elements { IfSome result (λ it. list_elements it.line.list ≡ []) }
+    ensures leaves { IfSome result (λ it. (unparsed : Text) → IsLeftUnparsed it.line unparsed
+        → spec.LeavesSent it.dialect variant (chars input.entry.now) unparsed) }
     ensures form { IfSome result (λ it. KnowsForm it.line) }
 {
     last_line(input, dates, asks_dialects(variant, dialects))
@@ -184,6 +190,8 @@ pub fn parse_sent_line<'a>(
 ) -> Option<SentLine<'a>>
     ensures reads { IsDated dates.now variant (chars input.entry.now) (λ dating.
         spec.IsSentAnswer dates.now dating dialects variant (chars input.entry.now) result) }
+    ensures leaves { IfSome result (λ it. (unparsed : Text) → IsLeftUnparsed it.line unparsed
+        → spec.LeavesSent it.dialect variant (chars input.entry.now) unparsed) }
     ensures form { IfSome result (λ it. KnowsForm it.line) }
 {
     let get_year = |date: IncompleteDate| -> i32

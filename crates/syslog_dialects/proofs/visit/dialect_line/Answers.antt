@@ -1,6 +1,6 @@
 use Rattle.std.proofs.Common.{sym, ap, subst, ◌∙◌}
 use Rattle.std.specs.Str.{chars}
-use Rattle.syslog_pieces.specs.StructuredData.Visited.{list_elements}
+use Rattle.syslog_pieces.specs.StructuredData.Visited.{list_elements, list_text}
 use Rattle.syslog_loose.specs.{Line.KnowsForm, Line.line_value, Message.MessageValue, declared.line.Line.Line}
 use Rattle.syslog_dialects.proofs.SentReadingLemmas.{undated, unformed}
 use Rattle.syslog_dialects.specs.{Sent.sent_value, SentLine.IsMessageSent}
@@ -37,5 +37,6 @@ returns c =
         says = subst (λ (l : Line). IsMessageSent c.args.dates.now number sent (line_value l)) (sym same) is.means;
       };
       no_elements = ap (λ (l : Line). list_elements l.list) same ∙ ap (λ (m : MessageValue). m.structured_data) is.means.2;
+      no_list = ap (λ (l : Line). list_text l.list) same ∙ is.list;
       form = subst (λ (l : Line). KnowsForm l) (sym same) c.in-Some.ensures.form;
     }

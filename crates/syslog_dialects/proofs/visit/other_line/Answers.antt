@@ -3,5 +3,5 @@ use Rattle.syslog_dialects.proofs.visit.other_line.Goals as goal
 
 pub returns : goal.returns
 returns c =
-    match_map c.dialect_line.result (λ none asked odd. none)
-    (λ it is. (c.if-not-are_asked.false, c.if-is_ordinary.ensures, is)) c.dialect_line.ensures
+    match_map c.dialect_line.result (λ none asked odd may. none)
+    (λ it is. (c.if-not-are_asked.false, (c.if-is_ordinary.ensures, c.may_be_sent.ensures.0 c.if-not-may_be_sent.false), is)) c.dialect_line.ensures

@@ -1,0 +1,34 @@
+//! Which of the port's readings stay, over the definitions alone.
+ghost use Rattle.std.specs.Prelude.{Bool, None, Some};
+ghost use Rattle.syslog_pieces.specs.Pieces.Class.{Text};
+ghost use Rattle.syslog_pieces.specs.Timestamp.Zone.{Dating};
+ghost use Rattle.syslog_loose.specs.Line.{line_value};
+ghost use Rattle.syslog_loose.specs.Message.{MessageValue};
+ghost use Rattle.syslog_loose.specs.Reading.{IsOnlyRead, IsUnreadable};
+ghost use Rattle.syslog_loose.specs.Visit.{IsLineOf};
+ghost use Rattle.syslog_loose.specs.declared.dates.Dates.{Dates as AllDates};
+ghost use Rattle.syslog_loose.specs.declared.line.Line.{Line};
+ghost use Rattle.syslog_loose.specs.declared.variant.Variant.{Variant};
+ghost use Rattle.syslog_dialects.specs.Ordinary.{IsOrdinary};
+ghost use Rattle.syslog_dialects.specs.SentReading.{AreAsked, IsReadSent, IsUnsent};
+ghost use Rattle.syslog_dialects.specs.declared.dialect.Dialect.{Dialect};
+
+/// A line of the port that is ordinary is read as the port reads it, and in no dialect, whatever it says.
+pub fn ordinary_lines_keep_their_reading()
+    ensures kept { (dates : AllDates) (dating : Dating) (dialects : Bool) (variant : Variant) (text : Text) (line : Line)
+        → IsLineOf variant dating text line → IsOrdinary line
+        → IsReadSent dates dating dialects variant text None (line_value line) }
+    ensures only { (dates : AllDates) (dating : Dating) (dialects : Bool) (variant : Variant) (text : Text) (line : Line)
+        → IsLineOf variant dating text line → IsOrdinary line → (dialect : Dialect) (m : MessageValue)
+        → IsReadSent dates dating dialects variant text (Some dialect) m → ⊥ }
+{}
+
+/// Where no dialects are asked for, or one protocol alone, each text is read as the port reads it, or is no message.
+pub fn texts_are_the_ports_without_dialects()
+    ensures read { (dates : AllDates) (dating : Dating) (dialects : Bool) (variant : Variant) (text : Text)
+        (m : MessageValue) → (AreAsked dialects variant → ⊥) → IsOnlyRead variant dating text m
+        → IsReadSent dates dating dialects variant text None m }
+    ensures unread { (dates : AllDates) (dating : Dating) (dialects : Bool) (variant : Variant) (text : Text)
+        → (AreAsked dialects variant → ⊥) → IsUnreadable variant dating text
+        → IsUnsent dates dating dialects variant text }
+{}
