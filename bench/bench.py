@@ -410,7 +410,7 @@ def check(filters, chosen):
 
 
 # What the peer's objects of the same lines lack.
-NEW_KEYS = ("facility_code", "severity_code", "raw")
+NEW_KEYS = ("facility_code", "severity_code", "dialect", "unparsed_structured_data", "raw")
 
 
 def is_same_object(own, peer):

@@ -185,8 +185,9 @@ uint32_t syslog_to_rfc5424(const char *line, size_t length, const struct syslog_
                            size_t room_length, size_t *needed);
 
 /* The line's message as one JSON object, as the program syslog_json writes it, without the line feed after it. If raw
- * is not 0, the key "raw" has the line itself. No byte below 32 is in an object. A line that is no message has none
- * here, where the program writes one with the key "refused". */
+ * is not 0, the key "raw" has the line itself. The key "unparsed_structured_data" has structured data that is not strict.
+ * No byte below 32 is in an object. A line that is no message has none here, where the program writes one with the key
+ * "refused". */
 uint32_t syslog_json(const char *line, size_t length, const struct syslog_options *options, uint32_t raw, char *room,
                      size_t room_length, size_t *needed);
 

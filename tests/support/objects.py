@@ -3,8 +3,8 @@ reads it, and as the fields of the line's message say."""
 import json
 
 KEYS = (
-    "protocol version facility facility_code severity severity_code timestamp hostname appname procid msgid structured_data message raw"
-    " refused invalid_utf8"
+    "protocol version dialect facility facility_code severity severity_code timestamp hostname appname procid msgid"
+    " structured_data unparsed_structured_data message raw refused invalid_utf8"
 ).split()
 # The names of RFC 5424's tables 1 and 2 in the order of their numbers, as syslog.h has them.
 FACILITIES = (
@@ -62,6 +62,11 @@ def coded(value):
     if "severity" in value:
         codes["severity_code"] = SEVERITIES.index(value["severity"])
     return in_order({**value, **codes})
+
+
+def of_fields(value):
+    """The object, but for the structured data that was left unparsed: no field of the message has it."""
+    return {key: value[key] for key in value if key != "unparsed_structured_data"} if isinstance(value, dict) else value
 
 
 def refused_line(line):

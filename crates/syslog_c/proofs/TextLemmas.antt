@@ -11,7 +11,9 @@ use Rattle.syslog_pieces.proofs.Names.{chars-append}
 use Rattle.syslog_loose.specs.Settling.{Settles}
 use Rattle.syslog_loose.specs.declared.fault.ParseFault.TheVariants.{Invalid, Memory}
 use Rattle.syslog_c.specs.Room.{HasTaken, IsLeftFor, Puts, Takes, TellsLength}
-use Rattle.syslog_c.{specs.Texts.Settled, specs.declared.room.Buffer.Buffer}
+use Rattle.syslog_c.{specs.Texts.PutsObject, specs.Texts.Settled, specs.declared.room.Buffer.Buffer}
+use Rattle.std.proofs.Common.{Option}
+use Rattle.syslog_loose.specs.Message.{MessageValue}
 
 -- what the characters of a literal unfold
 unfoldable pub chars_of_literals : ⊤
@@ -26,6 +28,13 @@ settled_answer variant dating text old new needed outcome (Ok u) s puts =
     inl (string_bytes u, record { utf8 = IsUtf8-string_bytes u; settles = s }, puts)
 settled_answer variant dating text old new needed outcome (Err Invalid) s left = inr (rw left.0 s, left.1)
 settled_answer variant dating text old new needed outcome (Err Memory) s left = inr (rw left.0 s, left.1)
+
+-- what is said of the line's unparsed text, said of the text that is read
+pub puts_more : (m : MessageValue) (raw : Option Text) (A B : Text → Type 0) (old new : List ℕ) (needed : ℕ)
+    (outcome : Outcome) → ((u : Text) → A u → B u) → PutsObject m A raw old new needed outcome
+    → PutsObject m B raw old new needed outcome
+puts_more m raw A B old new needed outcome more (inl (u, left, written)) = inl (u, more u left, written)
+puts_more m raw A B old new needed outcome more (inr refused) = inr refused
 
 -- what holds of the room that comes back holds of the caller's
 pub with_room : (P : List ℕ → Type 0) (now room : List ℕ) → room ≡ now → P now → P room

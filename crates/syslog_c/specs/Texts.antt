@@ -7,10 +7,11 @@ use Rattle.syslog_pieces.specs.Timestamp.Zone.{Dating}
 use Rattle.syslog_loose.specs.Message.{MessageValue}
 use Rattle.syslog_loose.specs.Printed.{printed}
 use Rattle.syslog_loose.specs.Reading.{IsOnlyRead}
+use Rattle.syslog_loose.specs.Unparsed.{Leaves}
 use Rattle.syslog_loose.specs.Settling.{IsSettlingFault, SettlesAs}
 use Rattle.syslog_loose.specs.declared.fault.ParseFault.TheVariants.{Invalid, Memory}
 use Rattle.syslog_loose.specs.declared.variant.Variant.{Variant}
-use Rattle.syslog_object.specs.Object.{message_json}
+use Rattle.syslog_object.specs.Object.{beside_line, message_json}
 use Rattle.syslog_object.specs.Written.{IsTextOf}
 use Rattle.syslog_c.specs.Line.{Refuses}
 use Rattle.syslog_c.specs.Room.{IsLeft, Puts}
@@ -46,17 +47,19 @@ Normalised variant dating text old new needed outcome =
 abbrev pub raw_text : ℕ → Text → Option Text
 raw_text raw text = if nat_eq raw 0 then None else Some text
 
--- the text of the message's object, in the buffer or with its length alone; or no memory, and all is as it was
-abbrev pub PutsObject : MessageValue → Option Text → List ℕ → List ℕ → ℕ → Outcome → Type 0
-PutsObject m raw old new needed outcome =
-    ((bytes : List ℕ) × IsTextOf (message_json m raw) bytes × Puts bytes old new needed outcome)
+-- the text of the message's object, with what is left unparsed of structured data, in the buffer or with its length
+-- alone; or no memory, and all is as it was
+abbrev pub PutsObject : MessageValue → (Text → Type 0) → Option Text → List ℕ → List ℕ → ℕ → Outcome → Type 0
+PutsObject m Unparsed raw old new needed outcome =
+    ((unparsed : Text) × Unparsed unparsed × ((bytes : List ℕ)
+    × IsTextOf (message_json m (beside_line None unparsed raw)) bytes × Puts bytes old new needed outcome))
     ⊎ ((outcome ≡ NoMemory) × IsLeft old new needed)
 
 -- so it is for the one message as which the text is read; or there is no message, and all is as it was
 abbrev pub WritesObject : ℕ → Variant → Dating → Text → List ℕ → List ℕ → ℕ → Outcome → Type 0
 WritesObject raw variant dating text old new needed outcome =
     ((m : MessageValue) × IsOnlyRead variant dating text m
-    × PutsObject m (raw_text raw text) old new needed outcome)
+    × PutsObject m (Leaves variant text) (raw_text raw text) old new needed outcome)
     ⊎ (Refuses variant dating text outcome × IsLeft old new needed)
 
 -- these bytes spell the value without its escapes

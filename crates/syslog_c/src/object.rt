@@ -3,6 +3,7 @@ ghost use Rattle.std.specs.Prelude.{◌≡◌};
 ghost use Rattle.jiff_core.specs.Calendar.{IsYear};
 ghost use Rattle.syslog_pieces.specs.Pieces.View.{seen};
 ghost use Rattle.syslog_loose.specs.Line.{line_value};
+ghost use Rattle.syslog_loose.specs.Unparsed.{IsLeftUnparsed};
 ghost use Rattle.syslog_c.specs.Line.{OnLine};
 ghost use Rattle.syslog_c.specs.Options.{IsReckoned};
 ghost use Rattle.syslog_c.specs.Outcome.{IsCodeOf};
@@ -75,12 +76,12 @@ fn put_object(
     needed: &mut usize,
 ) -> Outcome
     requires { needed.old ≡ 0 }
-    ensures { PutsObject (line_value line.now) (seen raw.entry) room.old room.new needed.new result }
+    ensures { PutsObject (line_value line.now) (IsLeftUnparsed line.now) (seen raw.entry) room.old room.new needed.new result }
 {
     let Ok(memory) = Vec::with_capacity(alloc, line.rest.len().saturating_add(MORE)) else {
         return Outcome::NoMemory;
     };
-    match line_object(alloc, memory, line, raw) {
+    match line_object(alloc, memory, line, None, raw) {
         Ok(object) => put(object.as_slice(), room, needed),
         Err(_) => Outcome::NoMemory,
     }

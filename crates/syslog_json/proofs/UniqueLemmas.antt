@@ -9,8 +9,10 @@ use Rattle.syslog_loose.{proofs.ReckoningLemmas.one_dating, specs.Dates.year_in,
 use Rattle.syslog_loose.{specs.Clauses.KnowsForm, specs.Visit.IsLineOf, specs.Visit.Made}
 use Rattle.syslog_loose.specs.declared.visit.Itself.{Itself}
 use Rattle.syslog_pieces.specs.Timestamp.Zone.{Dating}
-use Rattle.syslog_dialects.proofs.SentReadingLemmas.{read_once}
-use Rattle.syslog_dialects.specs.SentReading.{IsReadSent, IsSentAnswer}
+use Rattle.syslog_dialects.proofs.SentReadingLemmas.{leaves_once, read_once}
+use Rattle.syslog_dialects.specs.SentReading.{IsReadSent, IsSentAnswer, LeavesSent}
+use Rattle.syslog_dialects.specs.declared.dialect.Dialect.{Dialect}
+use Rattle.syslog_loose.specs.Unparsed.{IsLeftUnparsed}
 use Rattle.syslog_dialects.specs.declared.visit.SentLine.{SentLine}
 use Rattle.std.specs.Prelude.{IfSome}
 use Rattle.syslog_loose.specs.declared.variant.Variant.TheVariants.{Either}
@@ -25,13 +27,15 @@ use Rattle.syslog_loose.proofs.ReadingLemmas as reading
 
 read_twice : (filter : Objects) (line : List ℕ) (value other : Json) → IsReadJson filter line value
     → IsReadJson filter line other → other ≡ value
-read_twice filter line value other (utf8, (d, m, read, is)) (also, (e, n, more, same)) =
+read_twice filter line value other (utf8, (d, m, u, read, leaves, is)) (also, (e, n, w, more, left, same)) =
     let (dating, this, that) =
     one_dating {Holds = λ it. IsReadSent filter.dates it filter.dialects Either (chars line) d m}
     {More = λ it. IsReadSent filter.dates it filter.dialects Either (chars line) e n}
     filter.dates Either (chars line) read more in
     let once = read_once filter.dates dating filter.dialects Either (chars line) d e m n this that in
-    same ∙ ap (λ (k : MessageValue). message_json k (raw_text filter.raw (chars line))) once.1 ∙ sym is
+    let whole = leaves_once d Either (chars line) u w leaves
+    (subst (λ (k : Option Dialect). LeavesSent k Either (chars line) w) once.0 left) in
+    same ∙ rw (once.0, once.1, whole) refl ∙ sym is
 
 pub only_read : (filter : Objects) (line : List ℕ) (value : Json) → IsReadJson filter line value
     → IsOnly (IsReadJson filter line) value
@@ -68,12 +72,15 @@ module _ {post : IncompleteDate → ℤ → Type 0} (filter : Objects) (text : T
       → ((date : IncompleteDate) (y : ℤ) → post date y → y ≡ year_in filter.dates date) → HasWritten old []
       → (it : SentLine) → ((dating : Dating) → IsLineOf Either dating text made
       → IsReadSent filter.dates dating filter.dialects Either text it.dialect (line_value it.line))
-      → list_elements it.line.list ≡ list_elements made.list → IsLineRead filter text (Some it) new
-  line_read made h tells empty it reads elements = (
+      → list_elements it.line.list ≡ list_elements made.list → ((dating : Dating) (u : Text) → IsLineOf Either dating text made
+      → IsLeftUnparsed it.line u → LeavesSent it.dialect Either text u) → IsLineRead filter text (Some it) new
+  line_read made h tells empty it reads elements leaves = (
     reading.in_year_told (reading.in_year_map (λ year is.
         reads (dating_in (plain_zone filter.dates.zone) year) (line_made (plain_zone filter.dates.zone) text old new made year is)) h) tells,
     let (v, w, (line, of, same, given)) = h.holds h.answered (λ date asks. refl) in
         subst (HasWritten new) (ap (λ (l : Line). list_elements l.list) (sym same.0) ∙ sym elements) (given old [] empty),
+    λ u left. leaves (dating_in (plain_zone filter.dates.zone) h.answered) u
+        (line_made (plain_zone filter.dates.zone) text old new made h.answered (h.holds h.answered (λ date asks. refl))) left,
   )
 
   none_written : InYear post Either text (IsMade (plain_zone filter.dates.zone) text old None new) → HasWritten old [] → HasWritten new []
@@ -84,12 +91,15 @@ module _ {post : IncompleteDate → ℤ → Type 0} (filter : Objects) (text : T
       → ((date : IncompleteDate) (y : ℤ) → post date y → y ≡ year_in filter.dates date) → HasWritten old []
       → (result : Option SentLine) → ((dating : Dating) → IsUnreadable Either dating text
       → IsSentAnswer filter.dates dating filter.dialects Either text result)
-      → IfSome result (λ it. list_elements it.line.list ≡ []) → IsLineRead filter text result new
-  line_unread h tells empty None reads elements =
+      → IfSome result (λ it. list_elements it.line.list ≡ [])
+      → IfSome result (λ it. (u : Text) → IsLeftUnparsed it.line u → LeavesSent it.dialect Either text u)
+      → IsLineRead filter text result new
+  line_unread h tells empty None reads elements leaves =
       reading.in_year_told (reading.in_year_map (λ year is. reads (dating_in (plain_zone filter.dates.zone) year) is.2.0) h) tells
-  line_unread h tells empty (Some it) reads elements = (
+  line_unread h tells empty (Some it) reads elements leaves = (
     reading.in_year_told (reading.in_year_map (λ year is. reads (dating_in (plain_zone filter.dates.zone) year) is.2.0) h) tells,
     subst (HasWritten new) (sym elements) (none_written h empty),
+    leaves,
   )
 
 -- either answer's bytes, and what it counts as
@@ -101,7 +111,7 @@ answered false bytes = (refl, refl)
 -- ---- the object of a line that is not UTF-8
 
 message_has_member : (filter : Objects) (line : List ℕ) (value : Json) → IsReadJson filter line value → HasMember value
-message_has_member filter line value (utf8, (d, m, read, is)) = (_, _, _, is)
+message_has_member filter line value (utf8, (d, m, u, read, leaves, is)) = (_, _, _, is)
 
 refused_has_member : (filter : Objects) (line : List ℕ) (value : Json) → IsRefusedJson filter line value
     → HasMember value

@@ -7,8 +7,10 @@ use Rattle.syslog_pieces.specs.StructuredData.Visited.{list_elements}
 use Rattle.syslog_loose.specs.Dates.{IsDated}
 use Rattle.syslog_loose.specs.Line.{line_value}
 use Rattle.syslog_loose.specs.Message.{MessageValue}
+use Rattle.syslog_loose.specs.Unparsed.{IsLeftUnparsed}
 use Rattle.syslog_loose.specs.declared.variant.Variant.TheVariants.{Either}
-use Rattle.syslog_dialects.specs.SentReading.{IsReadSent, IsUnsent}
+use Rattle.syslog_dialects.specs.SentReading.{IsReadSent, IsUnsent, LeavesSent}
+use Rattle.syslog_dialects.specs.Dialect.{dialect_text}
 use Rattle.syslog_dialects.specs.declared.dialect.Dialect.{Dialect}
 use Rattle.syslog_dialects.specs.declared.visit.SentLine.{SentLine}
 use Rattle.json.specs.Json.{Json}
@@ -18,7 +20,7 @@ use Rattle.syslog_lines.specs.Count.{held_count}
 use Rattle.syslog_lines.specs.Output.{Answer, Filter, Written, Marked, Omitted, is_skipped}
 use Rattle.syslog_lines.specs.Pump.{FiltersAll}
 use Rattle.syslog_lines.specs.declared.summary.Summary.{Summary}
-use Rattle.syslog_object.specs.Object.{message_json, refused_json}
+use Rattle.syslog_object.specs.Object.{beside_line, message_json, refused_json}
 use Rattle.syslog_object.specs.Written.{IsTextOf}
 use Rattle.syslog_object.specs.Writer.{HasWritten}
 use Rattle.syslog_object.specs.declared.writer.ObjectWriter.{ObjectWriter}
@@ -31,12 +33,13 @@ abbrev pub raw_text : Bool → Text → Option Text
 raw_text true text = Some text
 raw_text false text = None
 
--- the value of the message as which the line is read
+-- the value of the message as which the line is read, with its dialect and what it leaves unparsed of structured data
 abbrev pub IsReadJson : Objects → List ℕ → Json → Type 0
-IsReadJson filter line value = IsUtf8 line × ((dialect : Option Dialect) × (m : MessageValue)
+IsReadJson filter line value = IsUtf8 line × ((dialect : Option Dialect) × (m : MessageValue) × (unparsed : Text)
     × IsDated filter.dates Either (chars line)
     (λ dating. IsReadSent filter.dates dating filter.dialects Either (chars line) dialect m)
-    × (value ≡ message_json m (raw_text filter.raw (chars line))))
+    × LeavesSent dialect Either (chars line) unparsed
+    × (value ≡ message_json m (beside_line (dialect_text dialect) unparsed (raw_text filter.raw (chars line)))))
 
 -- the value of a line that is no message
 abbrev pub IsRefusedJson : Objects → List ℕ → Json → Type 0
@@ -80,13 +83,15 @@ WritesObjects filter in_before in_after out_before out_after summary = (answers 
     × (all : FiltersAll (objects filter) in_before in_after out_before out_after answers)
     × (summary.lines ≡ held_count (length all.lines)) × (summary.refused ≡ held_count (count_by is_skipped answers))
 
--- the line as which the text is read was returned, and the writer was given its elements; or the text is no message
+-- the line as which the text is read was returned, the writer was given its elements, and the line leaves what the text
+-- does; or the text is no message
 abbrev pub IsLineRead : Objects → Text → Option SentLine → ObjectWriter → Type 0
 IsLineRead filter text result writer = MatchOption result
     (IsDated filter.dates Either text (λ dating. IsUnsent filter.dates dating filter.dialects Either text))
     (λ it. IsDated filter.dates Either text
     (λ dating. IsReadSent filter.dates dating filter.dialects Either text it.dialect (line_value it.line))
-    × HasWritten writer (list_elements it.line.list))
+    × HasWritten writer (list_elements it.line.list)
+    × ((unparsed : Text) → IsLeftUnparsed it.line unparsed → LeavesSent it.dialect Either text unparsed))
 
 -- the answer of an object that was written, as what the line counts
 abbrev pub answer_of : Bool → List ℕ → Answer

@@ -90,8 +90,8 @@ impl Objects {
     }
 
     // Adds the object of the line, or nothing where memory is refused. Returns the memory that was used, and whether
-    // the line is a message.
-    #[inline(always)]
+    // the line is a message. Not inlined, since it has two callers: each part of it is in it once, and inlined there.
+    #[inline(never)]
     fn write_line(
         &self,
         alloc: Global,
@@ -107,7 +107,8 @@ impl Objects {
         let raw = self.raw.then_some(line);
         match self.read(line, &mut writer) {
             Some(found) => {
-                writer.write(&found.line, raw, output)?;
+                let dialect = found.dialect_name();
+                writer.write(&found.line, dialect, raw, output)?;
                 Ok((writer.into_memory(), true))
             }
             None => Ok((write_refused(writer.into_memory(), line, output)?, false)),

@@ -9,8 +9,9 @@ pub const HELP: &str = "usage: syslog_json [OPTION].. [--] YEAR[-MONTH], or --he
 
 Reads lines of syslog from standard input, and writes each as one JSON object
 on one line to standard output. What a message lacks has no key:
-  protocol, version, facility, facility_code, severity, severity_code,
-  timestamp, hostname, appname, procid, msgid, structured_data, message
+  protocol, version, dialect, facility, facility_code, severity,
+  severity_code, timestamp, hostname, appname, procid, msgid,
+  structured_data, unparsed_structured_data, message
 A line that is no message is its \"message\", with \"refused\": true. A line that
 is not UTF-8 is read with U+FFFD for what is not, and has \"invalid_utf8\": true.
   YEAR             the year of dates that show none: one to four digits

@@ -13,7 +13,7 @@ use Rattle.std.{proofs.Math.Seq.drop-append_seam, proofs.lemmas.List.take_more_s
 use Rattle.std.proofs.{lemmas.List.length-map, Math.Seq.take-append_seam}
 use Rattle.syslog_pieces.specs.declared.procid.ProcId.{ProcId}
 use Rattle.json.specs.Print.{escape_byte}
-use specs.{Object.object_of, Object.protocol_text, Parts.open_text, Places.before_member}
+use specs.{Object.Beside, Object.object_of, Object.protocol_text, Parts.open_text, Places.before_member}
 use specs.{Writer.AreWritten, Writer.HasWritten, Writer.element_keys, declared.writer.ObjectWriter.ObjectWriter}
 use proofs.GatherLemmas.{Param, differs_back, distinct_gathered, open_closed, open_more, pairs_of, param_json, param_key}
 use proofs.GatherLemmas.{param_seen, seen_text}
@@ -97,12 +97,13 @@ pub more : (old a b x y : List ℕ) → a ≡ old ++ x → b ≡ a ++ y → b �
 more old a b x y first second = two_appended old a b x y (x ++ y) first second refl
 
 -- the fields before the elements, those of the elements and those after them are the whole
-pub message_whole : (m : MessageValue) (raw : Option Text)
-    → (front_text m ++ field_text (codes "structured_data") (structured_json m.structured_data)) ++ rest_text (back_fields m raw)
-    ≡ compact_text (message_json m raw)
+pub message_whole : (m : MessageValue) (b : Beside)
+    → (front_text m b.dialect ++ field_text (codes "structured_data") (structured_json m.structured_data))
+    ++ rest_text (back_fields m b.unparsed b.raw) ≡ compact_text (message_json m b)
 unfolding escape_byte
-message_whole m raw =
-    let p1 = protocol_fields m.protocol in
+message_whole m b =
+    let p0 = protocol_fields m.protocol in
+    let p1 = p0 ++ text_field (codes ",\"dialect\":\"") b.dialect in
     let p2 = p1 ++ facility_fields m.facility in
     let p3 = p2 ++ severity_fields m.severity in
     let p4 = p3 ++ field_text (codes "timestamp") (option_map timestamp_json m.timestamp) in
@@ -110,7 +111,7 @@ message_whole m raw =
     let p6 = p5 ++ text_field (codes ",\"appname\":\"") m.appname in
     let p7 = p6 ++ text_field (codes ",\"procid\":\"") (option_map procid_text m.procid) in
     let p8 = p7 ++ text_field (codes ",\"msgid\":\"") m.msgid in
-    field_written p8 _ _ (codes "structured_data") (structured_json m.structured_data) (back_fields m raw) refl
+    field_written p8 _ _ (codes "structured_data") (structured_json m.structured_data) (back_fields m b.unparsed b.raw) refl
     (name_written p7 p8 _ (codes "msgid") _ m.msgid _ refl refl
     (process_written p6 p7 _ (codes "procid") _ m.procid _ refl refl
     (name_written p5 p6 _ (codes "appname") _ m.appname _ refl refl
@@ -118,16 +119,17 @@ message_whole m raw =
     (field_written p3 p4 _ (codes "timestamp") (option_map timestamp_json m.timestamp) _ refl
     (fields_written p2 p3 _ (codes "severity") _ (codes "severity_code") _ _ refl
     (fields_written p1 p2 _ (codes "facility") _ (codes "facility_code") _ _ refl
-    (opened [] p1 m.protocol _ refl))))))))
+    (name_written p0 p1 _ (codes "dialect") _ b.dialect _ refl refl
+    (opened [] p0 m.protocol _ refl)))))))))
 
 -- so they are the object, where they were written one after the other
-pub whole_written : (m : MessageValue) (raw : Option Text) (old front list now : List ℕ) → front ≡ old ++ front_text m
+pub whole_written : (m : MessageValue) (b : Beside) (old front list now : List ℕ) → front ≡ old ++ front_text m b.dialect
     → list ≡ front ++ field_text (codes "structured_data") (structured_json m.structured_data)
-    → now ≡ list ++ rest_text (back_fields m raw) → now ≡ old ++ compact_text (message_json m raw)
-whole_written m raw old front list now first second third =
+    → now ≡ list ++ rest_text (back_fields m b.unparsed b.raw) → now ≡ old ++ compact_text (message_json m b)
+whole_written m b old front list now first second third =
     let more_text = field_text (codes "structured_data") (structured_json m.structured_data) in
-    two_appended old list now (front_text m ++ more_text) (rest_text (back_fields m raw)) _
-    (more old front list (front_text m) more_text first second) third (message_whole m raw)
+    two_appended old list now (front_text m b.dialect ++ more_text) (rest_text (back_fields m b.unparsed b.raw)) _
+    (more old front list (front_text m b.dialect) more_text first second) third (message_whole m b)
 
 -- ---- one element more
 
@@ -212,25 +214,25 @@ abbrev pub elements_key : List ℕ
 elements_key = 44 ∷ (quoted (codes "structured_data") ++ 58 ∷ [])
 
 -- so the object of the elements, where it was written, comes to its place
-pub object_of_parts : (w : ObjectWriter) (has : Bool) (m : MessageValue) (raw : Option Text) (elements : List ℕ)
+pub object_of_parts : (w : ObjectWriter) (has : Bool) (m : MessageValue) (b : Beside) (elements : List ℕ)
     → OnTrue has ((es : List ElementValue) → HasWritten w es → (es ≢ []) × AreWritten w es)
     → HasWritten w m.structured_data → elements ≡ cond has (w.text ++ 125 ∷ []) []
-    → (front_text m ++ cond has elements_key (field_text (codes "structured_data") (structured_json m.structured_data)))
-    ++ (elements ++ rest_text (back_fields m raw)) ≡ compact_text (message_json m raw)
-object_of_parts w false m raw elements given written is =
-    ap (λ xs. (front_text m ++ field_text (codes "structured_data") (structured_json m.structured_data))
-    ++ (xs ++ rest_text (back_fields m raw))) is ∙ message_whole m raw
-object_of_parts w true m raw elements given written is =
+    → (front_text m b.dialect ++ cond has elements_key (field_text (codes "structured_data") (structured_json m.structured_data)))
+    ++ (elements ++ rest_text (back_fields m b.unparsed b.raw)) ≡ compact_text (message_json m b)
+object_of_parts w false m b elements given written is =
+    ap (λ xs. (front_text m b.dialect ++ field_text (codes "structured_data") (structured_json m.structured_data))
+    ++ (xs ++ rest_text (back_fields m b.unparsed b.raw))) is ∙ message_whole m b
+object_of_parts w true m b elements given written is =
     let es = m.structured_data in
     let (some, held) = given es written in
     let closed : elements ≡ compact_text (gathered (map element_pair es)) =
     is ∙ ap (λ xs. xs ++ 125 ∷ []) held.text ∙ elements_closed es some held.distinct in
-    let f = front_text m in
-    let b = rest_text (back_fields m raw) in
+    let f = front_text m b.dialect in
+    let back = rest_text (back_fields m b.unparsed b.raw) in
     let field : elements_key ++ elements ≡ field_text (codes "structured_data") (structured_json es) =
     ap (λ xs. elements_key ++ xs) closed
     ∙ ap (λ xs. 44 ∷ xs) (append_assoc (quoted (codes "structured_data")) (58 ∷ []) (compact_text (gathered (map element_pair es))))
     ∙ sym (list_field es some) in
-    append_assoc f elements_key (elements ++ b) ∙ ap (λ xs. f ++ xs) (sym (append_assoc elements_key elements b))
-    ∙ ap (λ xs. f ++ (xs ++ b)) field
-    ∙ sym (append_assoc f (field_text (codes "structured_data") (structured_json es)) b) ∙ message_whole m raw
+    append_assoc f elements_key (elements ++ back) ∙ ap (λ xs. f ++ xs) (sym (append_assoc elements_key elements back))
+    ∙ ap (λ xs. f ++ (xs ++ back)) field
+    ∙ sym (append_assoc f (field_text (codes "structured_data") (structured_json es)) back) ∙ message_whole m b

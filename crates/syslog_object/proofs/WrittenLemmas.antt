@@ -19,7 +19,7 @@ use Rattle.syslog_pieces.proofs.PriLemmas.{facility_low, severity_low}
 use Rattle.syslog_loose.specs.declared.message.Protocol.TheVariants.{RFC3164, RFC5424}
 use Rattle.syslog_object.specs.{Parts.comma_if, Parts.members_text, Parts.IsSmallVersion, Gathered.members_of}
 use Rattle.syslog_object.specs.Written.{HasSmallNumbers, ItemsHaveSmallNumbers, MembersHaveSmallNumbers, IsTextOf}
-use Rattle.syslog_object.specs.Object.{fields_of, present, invalid_json, refused_json}
+use Rattle.syslog_object.specs.Object.{Beside, fields_of, present, invalid_json, refused_json}
 
 -- ---- the numbers are numbers of JSON
 mutual
@@ -225,32 +225,38 @@ flat_fields [] each = tt
 flat_fields ((key, None) ∷ fields) each = flat_fields fields each.1
 flat_fields ((key, Some value) ∷ fields) each = (each.0, flat_fields fields each.1)
 
-pub flat_message : (m : MessageValue) (raw : Option Text) → IsSmallVersion m.protocol → IsFlat 5 (message_json m raw)
-flat_message m raw small = flat_object 4 (present (fields_of m raw)) (flat_fields (fields_of m raw) (
+pub flat_message : (m : MessageValue) (b : Beside) → IsSmallVersion m.protocol → IsFlat 5 (message_json m b)
+flat_message m b small = flat_object 4 (present (fields_of m b)) (flat_fields (fields_of m b) (
   (tt, omega arith),
   (
     flat_version m.protocol small,
     (
-      flat_optional _ (λ f. (tt, omega arith)) m.facility,
+      flat_optional _ (λ t. (tt, omega arith)) b.dialect,
       (
-        flat_optional _ (λ f. ((_, omega (arith, facility_low f), refl), omega arith)) m.facility,
+        flat_optional _ (λ f. (tt, omega arith)) m.facility,
         (
-          flat_optional _ (λ s. (tt, omega arith)) m.severity,
+          flat_optional _ (λ f. ((_, omega (arith, facility_low f), refl), omega arith)) m.facility,
           (
-            flat_optional _ (λ s. ((_, omega (arith, severity_low s), refl), omega arith)) m.severity,
+            flat_optional _ (λ s. (tt, omega arith)) m.severity,
             (
-              flat_optional _ (λ t. (tt, omega arith)) m.timestamp,
+              flat_optional _ (λ s. ((_, omega (arith, severity_low s), refl), omega arith)) m.severity,
               (
-                flat_optional _ (λ t. (tt, omega arith)) m.hostname,
+                flat_optional _ (λ t. (tt, omega arith)) m.timestamp,
                 (
-                  flat_optional _ (λ t. (tt, omega arith)) m.appname,
+                  flat_optional _ (λ t. (tt, omega arith)) m.hostname,
                   (
-                    flat_optional _ (λ t. (tt, omega arith)) m.procid,
+                    flat_optional _ (λ t. (tt, omega arith)) m.appname,
                     (
-                      flat_optional _ (λ t. (tt, omega arith)) m.msgid,
+                      flat_optional _ (λ t. (tt, omega arith)) m.procid,
                       (
-                        flat_structured m.structured_data,
-                        ((tt, omega arith), (flat_optional _ (λ t. (tt, omega arith)) raw, tt)),
+                        flat_optional _ (λ t. (tt, omega arith)) m.msgid,
+                        (
+                          flat_structured m.structured_data,
+                          (
+                            flat_optional _ (λ t. (tt, omega arith)) b.unparsed,
+                            ((tt, omega arith), (flat_optional _ (λ t. (tt, omega arith)) b.raw, tt)),
+                          ),
+                        ),
                       ),
                     ),
                   ),
@@ -274,10 +280,10 @@ text_of_small j small shallow = record {
   nesting = shallow;
 }
 
-pub text_of_message : (m : MessageValue) (raw : Option Text) → IsSmallVersion m.protocol
-    → IsTextOf (message_json m raw) (compact_text (message_json m raw))
-text_of_message m raw small =
-    let flat = flat_message m raw small in text_of_small (message_json m raw) flat.0 flat.1
+pub text_of_message : (m : MessageValue) (b : Beside) → IsSmallVersion m.protocol
+    → IsTextOf (message_json m b) (compact_text (message_json m b))
+text_of_message m b small =
+    let flat = flat_message m b small in text_of_small (message_json m b) flat.0 flat.1
 
 pub text_of_refused : (line : List ℕ) → IsTextOf (refused_json line) (compact_text (refused_json line))
 text_of_refused line = text_of_small (refused_json line) (tt, (tt, tt)) (omega arith)

@@ -7,6 +7,7 @@ use Rattle.syslog_pieces.specs.Pri.{facility_name, facility_number, severity_nam
 use Rattle.syslog_pieces.specs.ProcId.{procid_text}
 use Rattle.syslog_pieces.specs.StructuredData.Element.{ElementValue}
 use Rattle.syslog_pieces.specs.StructuredData.Escapes.{pair_meaning}
+use Rattle.syslog_pieces.specs.StructuredData.Unparsed.{if_any}
 use Rattle.syslog_pieces.specs.Timestamp.Printed.{printed_stamp}
 use Rattle.syslog_pieces.specs.declared.timestamp.OffsetTimestamp.{OffsetTimestamp}
 use Rattle.syslog_loose.specs.declared.message.Protocol.{Protocol}
@@ -77,11 +78,19 @@ present ((key, Some value) ∷ fields) = (key, value) ∷ present fields
 abbrev pub object_of : List Field → Json
 object_of fields = object (members_of (present fields))
 
--- the fields of a message; where it is given, the line as it came is the last
-abbrev pub fields_of : MessageValue → Option Text → List Field
-fields_of m raw =
+-- what the object has beside the message, each where it is given: the name of the dialect in which the line was read, the
+-- structured data that was left unparsed, and the line as it came
+pub record Beside : Type 0 where
+  pub dialect : Option Text
+  pub unparsed : Option Text
+  pub raw : Option Text
+
+-- the fields of a message
+abbrev pub fields_of : MessageValue → Beside → List Field
+fields_of m beside =
     (codes "protocol", Some (string (protocol_text m.protocol)))
     ∷ (codes "version", version_json m.protocol)
+    ∷ (codes "dialect", option_map text_json beside.dialect)
     ∷ (codes "facility", option_map (λ f. text_json (facility_name f)) m.facility)
     ∷ (codes "facility_code", option_map (λ f. number_json (facility_number f)) m.facility)
     ∷ (codes "severity", option_map (λ s. text_json (severity_name s)) m.severity)
@@ -92,13 +101,18 @@ fields_of m raw =
     ∷ (codes "procid", option_map (λ p. text_json (procid_text p)) m.procid)
     ∷ (codes "msgid", option_map text_json m.msgid)
     ∷ (codes "structured_data", structured_json m.structured_data)
+    ∷ (codes "unparsed_structured_data", option_map text_json beside.unparsed)
     ∷ (codes "message", Some (text_json m.msg))
-    ∷ (codes "raw", option_map text_json raw)
+    ∷ (codes "raw", option_map text_json beside.raw)
     ∷ []
 
 -- the value of a message
-abbrev pub message_json : MessageValue → Option Text → Json
-message_json m raw = object_of (fields_of m raw)
+abbrev pub message_json : MessageValue → Beside → Json
+message_json m beside = object_of (fields_of m beside)
+
+-- what a line has beside its message: of its structured data this is left unparsed
+abbrev pub beside_line : Option Text → Text → Option Text → Beside
+beside_line dialect unparsed raw = record { dialect = dialect; unparsed = if_any unparsed; raw = raw }
 
 -- the value of a line that is no message
 abbrev pub refused_json : List ℕ → Json

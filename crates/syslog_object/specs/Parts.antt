@@ -73,17 +73,20 @@ severity_fields severity =
     ++ field_text (codes "severity_code") (option_map (λ s. number_json (severity_number s)) severity)
 
 -- the fields before the elements, with the brace before them
-abbrev pub front_text : MessageValue → List ℕ
-front_text m =
-    ((((((protocol_fields m.protocol ++ facility_fields m.facility) ++ severity_fields m.severity)
+abbrev pub front_text : MessageValue → Option Text → List ℕ
+front_text m dialect =
+    (((((((protocol_fields m.protocol ++ text_field (codes ",\"dialect\":\"") dialect)
+    ++ facility_fields m.facility) ++ severity_fields m.severity)
     ++ field_text (codes "timestamp") (option_map timestamp_json m.timestamp))
     ++ text_field (codes ",\"hostname\":\"") m.hostname) ++ text_field (codes ",\"appname\":\"") m.appname)
     ++ text_field (codes ",\"procid\":\"") (option_map procid_text m.procid))
     ++ text_field (codes ",\"msgid\":\"") m.msgid
 
 -- the fields after them
-abbrev pub back_fields : MessageValue → Option Text → List Field
-back_fields m raw = (codes "message", Some (text_json m.msg)) ∷ (codes "raw", option_map text_json raw) ∷ []
+abbrev pub back_fields : MessageValue → Option Text → Option Text → List Field
+back_fields m unparsed raw =
+    (codes "unparsed_structured_data", option_map text_json unparsed) ∷ (codes "message", Some (text_json m.msg))
+    ∷ (codes "raw", option_map text_json raw) ∷ []
 
 -- ---- objects
 

@@ -3,7 +3,9 @@ ghost use Rattle.std.specs.Prelude.{◌≡◌, ◌++◌, IfOk, OnOk, codes};
 ghost use Rattle.syslog_pieces.specs.Pieces.View.{seen};
 ghost use Rattle.syslog_loose.specs.Line.{line_value};
 ghost use Rattle.syslog_pieces.specs.StructuredData.Visited.{list_elements};
-ghost use Rattle.syslog_object.specs.Object.{invalid_json, message_json, refused_json, structured_json};
+ghost use Rattle.syslog_pieces.specs.Pieces.Class.{Text};
+ghost use Rattle.syslog_loose.specs.Unparsed.{IsLeftUnparsed};
+ghost use Rattle.syslog_object.specs.Object.{beside_line, invalid_json, message_json, refused_json, structured_json};
 ghost use Rattle.syslog_object.specs.Parts.{IsSmallVersion, back_fields, compact_text};
 ghost use Rattle.syslog_object.specs.Parts.{field_text, front_text, rest_text};
 ghost use Rattle.syslog_object.specs.Written.{IsTextOf};
@@ -33,13 +35,18 @@ pub(crate) fn push_list(
     push_elements(alloc, out, list)
 }
 
-/// Appends the fields before the elements, with the brace before them.
+/// Appends the fields before the elements, with the brace before them. The line was read in this dialect, or none.
 #[inline(always)]
-pub(crate) fn push_front(out: &mut Output, line: &Line<'_>) -> Result<(), AllocError>
-    ensures text { OnOk result (out.new ≡ out.old ++ front_text (line_value line.now)) }
+pub(crate) fn push_front(
+    out: &mut Output,
+    line: &Line<'_>,
+    dialect: Option<&str>,
+) -> Result<(), AllocError>
+    ensures text { OnOk result (out.new ≡ out.old ++ front_text (line_value line.now) (seen dialect.entry)) }
     ensures small { IsSmallVersion (line_value line.now).protocol }
 {
     push_protocol(out, line.version)?;
+    push_field(out, b",\"dialect\":\"", dialect)?;
     out.push_slice(facility_members(line.facility()))?;
     out.push_slice(severity_members(line.severity()))?;
     push_timestamp(out, line.timestamp)?;
@@ -49,16 +56,18 @@ pub(crate) fn push_front(out: &mut Output, line: &Line<'_>) -> Result<(), AllocE
     push_field(out, b",\"msgid\":\"", line.msgid)
 }
 
-/// Appends the fields after them, and the last brace.
+/// Appends the fields after them, and the last brace. This is left unparsed of the structured data.
 #[inline(always)]
 pub(crate) fn push_back(
     out: &mut Output,
     line: &Line<'_>,
+    unparsed: Option<&str>,
     raw: Option<&str>,
 ) -> Result<(), AllocError>
     ensures { OnOk result (out.new
-        ≡ out.old ++ rest_text (back_fields (line_value line.now) (seen raw.entry))) }
+        ≡ out.old ++ rest_text (back_fields (line_value line.now) (seen unparsed.entry) (seen raw.entry))) }
 {
+    push_field(out, b",\"unparsed_structured_data\":\"", unparsed)?;
     push_field(out, b",\"message\":\"", Some(line.msg))?;
     push_field(out, b",\"raw\":\"", raw)?;
     out.push(b"}")
@@ -70,19 +79,23 @@ fn push_fields(
     alloc: Global,
     out: &mut Output,
     line: &Line<'_>,
+    dialect: Option<&str>,
     raw: Option<&str>,
 ) -> Result<(), AllocError>
-    ensures text { OnOk result (out.new
-        ≡ out.old ++ compact_text (message_json (line_value line.now) (seen raw.entry))) }
+    ensures text { OnOk result ((unparsed : Text) × IsLeftUnparsed line.now unparsed × (out.new ≡ out.old
+        ++ compact_text (message_json (line_value line.now) (beside_line (seen dialect.entry) unparsed (seen raw.entry))))) }
     ensures small { IsSmallVersion (line_value line.now).protocol }
 {
-    push_front(out, line)?;
+    let unparsed = line.list.unparsed();
+    push_front(out, line, dialect)?;
     push_list(alloc, out, &line.list)?;
-    push_back(out, line, raw)
+    push_back(out, line, unparsed, raw)
 }
 
-/// Returns the object of a line, as `{"protocol":"RFC3164","facility":"auth",..}`, written into the vector's memory. Where
-/// `raw` is given it is the last member: the line as it came.
+/// Returns the object of a line, as `{"protocol":"RFC3164","facility":"auth",..}`, written into the vector's memory.
+///
+/// `dialect` is the name of the dialect in which the line was read, where it was one. Where `raw` is given it is the last
+/// member: the line as it came. The structured data that was left unparsed has a member too.
 ///
 /// What the message lacks has no key. An id or a name that comes again has an array of all its values, at its first
 /// place. Memory is taken where the vector's is too little, and if a line has more than one element, an element more than
@@ -91,12 +104,15 @@ pub fn line_object(
     alloc: Global,
     memory: Vec<u8>,
     line: &Line<'_>,
+    dialect: Option<&str>,
     raw: Option<&str>,
 ) -> Result<Vec<u8>, AllocError>
-    ensures { IfOk result (λ object. IsTextOf (message_json (line_value line.now) (seen raw.entry)) object.items) }
+    ensures { IfOk result (λ object. (unparsed : Text) × IsLeftUnparsed line.now unparsed
+        × IsTextOf (message_json (line_value line.now) (beside_line (seen dialect.entry) unparsed (seen raw.entry)))
+        object.items) }
 {
     let mut text = Output::over(memory);
-    push_fields(alloc, &mut text, line, raw)?;
+    push_fields(alloc, &mut text, line, dialect, raw)?;
     Ok(text.into_bytes())
 }
 

@@ -8,7 +8,9 @@ ghost use Rattle.syslog_pieces.specs.StructuredData.Collected.{HasNoted};
 ghost use Rattle.syslog_pieces.specs.StructuredData.Element.{ElementValue, param_value};
 ghost use Rattle.syslog_pieces.specs.StructuredData.Visited.{element_seen, list_elements};
 ghost use Rattle.syslog_loose.specs.Line.{line_value};
-ghost use Rattle.syslog_object.specs.Object.{message_json, param_pair, structured_json};
+ghost use Rattle.syslog_pieces.specs.Pieces.Class.{Text};
+ghost use Rattle.syslog_loose.specs.Unparsed.{IsLeftUnparsed};
+ghost use Rattle.syslog_object.specs.Object.{beside_line, message_json, param_pair, structured_json};
 ghost use Rattle.syslog_object.specs.Parts.{IsNewKey, field_text, object_text};
 ghost use Rattle.syslog_object.specs.Places.{before_member};
 ghost use Rattle.syslog_object.specs.Written.{IsTextOf};
@@ -101,25 +103,27 @@ impl<'a> ObjectWriter<'a> {
     pub fn write(
         &mut self,
         line: &Line<'_>,
+        dialect: Option<&str>,
         raw: Option<&str>,
         output: &mut Vec<u8>,
     ) -> Result<(), AllocError>
         requires { HasWritten self.old (list_elements line.now.list) }
-        ensures ok { OnOk result ((bytes : List ℕ)
-            × IsTextOf (message_json (line_value line.now) (seen raw.entry)) bytes
-            × (output.new.items ≡ output.old.items ++ bytes)) }
+        ensures ok { OnOk result ((unparsed : Text) × IsLeftUnparsed line.now unparsed × ((bytes : List ℕ)
+            × IsTextOf (message_json (line_value line.now) (beside_line (seen dialect.entry) unparsed (seen raw.entry))) bytes
+            × (output.new.items ≡ output.old.items ++ bytes))) }
         ensures err { OnErr result (output.new.items ≡ output.old.items) }
     {
         let has_elements = self.is_whole && self.count > 0;
         let is_refused = self.is_refused;
         let alloc = self.alloc;
+        let unparsed = line.list.unparsed();
         let text = &mut self.text;
         close_elements(text, has_elements, is_refused)?;
         let start = text.len();
-        push_front(text, line)?;
+        push_front(text, line, dialect)?;
         push_key_or_list(alloc, text, &line.list, has_elements)?;
         let middle = text.len();
-        push_back(text, line, raw)?;
+        push_back(text, line, unparsed, raw)?;
         push_ordered(output, text.as_slice(), start, middle)
     }
 

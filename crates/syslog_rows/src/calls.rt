@@ -131,7 +131,7 @@ impl<'a> Row<'a> {
         let year = |date: IncompleteDate| setting.year_of(date);
         let line = parse_line(self.text, year, self.tz(), setting.variant, &setting.local);
         match line {
-            Some(line) => line_object(alloc, Vec::new(alloc), &line, None),
+            Some(line) => line_object(alloc, Vec::new(alloc), &line, None, None),
             None => refused_object(Vec::new(alloc), self.text),
         }
     }

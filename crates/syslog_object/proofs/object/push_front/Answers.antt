@@ -1,5 +1,5 @@
 use Rattle.syslog_object.proofs.Names.{on_ok_weaker, timestamp_json, facility_fields, protocol_fields, severity_fields}
-use Rattle.syslog_object.proofs.Names.{codes, ◌++◌, option_map, procid_text, line_value, field_text, text_field}
+use Rattle.syslog_object.proofs.Names.{codes, ◌++◌, option_map, procid_text, line_value, field_text, text_field, seen}
 use Rattle.syslog_object.proofs.WriterLemmas.{more}
 use Rattle.syslog_object.proofs.object.push_front.Goals as goal
 
@@ -13,7 +13,8 @@ returns-clause-text c =
     let q5 = text_field (codes ",\"appname\":\"") m.appname in
     let q6 = text_field (codes ",\"procid\":\"") (option_map procid_text m.procid) in
     let q7 = text_field (codes ",\"msgid\":\"") m.msgid in
-    let p0 = protocol_fields m.protocol in
+    let dialect = text_field (codes ",\"dialect\":\"") (seen c.args.dialect) in
+    let p0 = protocol_fields m.protocol ++ dialect in
     let p1 = p0 ++ q1 in
     let p2 = p1 ++ q2 in
     let p3 = p2 ++ q3 in
@@ -21,8 +22,10 @@ returns-clause-text c =
     let p5 = p4 ++ q5 in
     let facility = rw (c.facility_members.ensures, c.facility.ensures) at c.in_ok-push_slice.ensures in
     let severity = rw (c.severity_members.ensures, c.severity.ensures) at c.in_ok-push_slice-2.ensures in
-    let s1 = more _ _ _ p0 q1 c.in_ok-push_protocol.ensures.text facility in
+    let s0 = more _ _ _ (protocol_fields m.protocol) dialect c.in_ok-push_protocol.ensures.text
+    c.in_ok-push_field.ensures in
+    let s1 = more _ _ _ p0 q1 s0 facility in
     let s3 = more _ _ _ p2 q3 (more _ _ _ p1 q2 s1 severity) c.in_ok-push_timestamp.ensures in
-    let s5 = more _ _ _ p4 q5 (more _ _ _ p3 q4 s3 c.in_ok-push_field.ensures) c.in_ok-push_field-2.ensures in
+    let s5 = more _ _ _ p4 q5 (more _ _ _ p3 q4 s3 c.in_ok-push_field-2.ensures) c.in_ok-push_field-3.ensures in
     let s6 = more _ _ _ p5 q6 s5 c.in_ok-push_process.ensures in
-    on_ok_weaker c.push_field-3.result (λ e. more _ _ _ (p5 ++ q6) q7 s6 e) c.push_field-3.ensures
+    on_ok_weaker c.push_field-4.result (λ e. more _ _ _ (p5 ++ q6) q7 s6 e) c.push_field-4.ensures

@@ -34,7 +34,7 @@ const OBJECTS: [&str; 7] = [
 ];
 
 fn object(alloc: Global, line: &Line<'_>) -> Result<Vec<u8>, AllocError> {
-    line_object(alloc, Vec::new(alloc), line, None)
+    line_object(alloc, Vec::new(alloc), line, None, None)
 }
 
 fn check_object(rt: &impl Abort, alloc: Global, row: &str, tries: Tries) {
