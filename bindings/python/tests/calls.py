@@ -1,12 +1,15 @@
 #!/usr/bin/env python3
-"""Calls the package so many times, with lines of all kinds and with wrong arguments, and sees that memory stays as it was and
-that no value which all messages share is counted up or down.
+"""Calls the package so many times, with lines of all kinds and with wrong arguments, and sees that memory stays as it was
+and that no value which all messages share is counted up or down.
 
     calls.py COUNT
+
+What is allocated is counted by those who give it out, Python and the C library, to the byte. (How much of it the kernel
+has at hand, as ru_maxrss says, differs from machine to machine, and from run to run by as much as a leak.)
 """
+import ctypes
 import gc
 import itertools
-import resource
 import sys
 
 import syslog_loose as it
@@ -45,21 +48,50 @@ def shared():
     numbers = [it.parse(line, year=2026).protocol for line in LINES[:2]]
     zone = it.parse(LINES[1], year=2026).timestamp.tzinfo
     values = [None, True, False, (), *it.Facility, *it.Severity, it.Message, it.Element, it.ParseError, *numbers, zone]
-    gc.collect()
     return [sys.getrefcount(value) for value in values]
+
+
+class Allocated(ctypes.Structure):
+    """The C library's struct mallinfo2, since glibc 2.33."""
+
+    names = "arena ordblks smblks hblks hblkhd usmblks fsmblks uordblks fordblks keepcost".split()
+    _fields_ = [(name, ctypes.c_size_t) for name in names]
+
+
+def allocated():
+    """How many objects Python has, how many bytes malloc has given out, and how many it keeps for that."""
+    call = getattr(ctypes.CDLL(None), "mallinfo2", None)
+    if call is None:
+        return sys.getallocatedblocks(), 0, 0
+    call.restype = Allocated
+    told = call()
+    return sys.getallocatedblocks(), told.uordblks + told.hblkhd, told.arena + told.hblkhd
+
+
+def measured():
+    gc.collect()
+    # (up to Python 3.11 each free place of the cache of attributes refers to None, and which places are taken is chance)
+    if sys.version_info < (3, 12):
+        sys._clear_type_cache()
+    return shared(), allocated()
 
 
 def main():
     most = int(sys.argv[1])
-    done = call_all()
-    counts, room = shared(), resource.getrusage(resource.RUSAGE_SELF).ru_maxrss
+    done = 0
+    # (what is made once, as the compiled form of a loop, is there after the first rounds)
+    while done < most // 10:
+        done += call_all()
+    counts, before = measured()
     while done < most:
         done += call_all()
-    grown = resource.getrusage(resource.RUSAGE_SELF).ru_maxrss - room
+    counts_after, after = measured()
+    objects, given, kept = (now - then for now, then in zip(after, before))
     # (the interpreter itself makes and drops some, but not with each call)
-    moved = [after - before for before, after in zip(counts, shared()) if abs(after - before) > 100]
-    print("%d calls: %d KB more, %d values counted wrongly" % (done, grown, len(moved)))
-    return 1 if moved or grown > 2048 else 0
+    moved = [now - then for now, then in zip(counts_after, counts) if abs(now - then) > 100]
+    more = "%d objects, %d bytes and %d KB of malloc's more" % (objects, given, kept // 1024)
+    print("%d calls: %s, %d values counted wrongly" % (done, more, len(moved)))
+    return 1 if moved or objects > 1000 or given > 65536 or kept > 1 << 21 else 0
 
 
 if __name__ == "__main__":
