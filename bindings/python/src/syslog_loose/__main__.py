@@ -21,8 +21,9 @@ from typing import Any, BinaryIO, Callable, Mapping
 import syslog_loose
 
 # The keys of an object, in its order: docs/JSON.md says what they mean.
-KEYS = ["protocol", "version", "facility", "facility_code", "severity", "severity_code", "timestamp", "hostname", "appname"]
-KEYS += ["procid", "msgid", "structured_data", "message", "raw", "refused", "invalid_utf8"]
+KEYS = ["protocol", "version", "dialect", "facility", "facility_code", "severity", "severity_code", "timestamp"]
+KEYS += ["hostname", "appname", "procid", "msgid", "structured_data", "unparsed_structured_data", "message", "raw"]
+KEYS += ["refused", "invalid_utf8"]
 
 
 def offset(text: str) -> int:
