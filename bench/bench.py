@@ -346,9 +346,10 @@ def count_corpora(filters, chosen):
     more += ["lines whose sums differ"] * (len(filters) > 1 and chosen.sums)
     table = head("corpus", "instructions a line", *more)
     for name, lines in corpora.corpora(4000):
-        if chosen.only not in name or len(lines) < 4000:
+        # The few long lines are left to the tables of times.
+        if chosen.only not in name or len(lines) < 800:
             continue
-        own, *others = [it.instructions_a_line(lines, 1000) for it in filters]
+        own, *others = [it.instructions_a_line(lines, len(lines) // 4) for it in filters]
         more = [cell for it in others for cell in ("{:,.0f}".format(it), "%.2f" % (it / own))]
         if others and chosen.sums:
             more.append(len(differences(filters, lines, len(lines))))
