@@ -16,6 +16,12 @@ use Rattle.syslog_dialects.specs.Date.{bsd_date, IsOdd, odd_bsd_date, middle, is
 use Rattle.syslog_dialects.specs.Date.{any_date, one_of_dates}
 use Rattle.syslog_dialects.specs.{Named.◌otherwise◌, Zone.ended, Zone.zone}
 use Rattle.syslog_dialects.specs.declared.sent.SentDate.{SentDate}
+use Rattle.syslog_pieces.specs.Text.{is_blank}
+use Rattle.syslog_pieces.proofs.PieceLemmas.Class.{rest_det, run_det, some_run_det}
+use Rattle.syslog_pieces.proofs.TextLemmas.Words.{host_det}
+use Rattle.syslog_dialects.specs.Programs.{serial_row}
+use Rattle.syslog_dialects.specs.Runs.{is_plain_char}
+use Rattle.syslog_dialects.proofs.NamedLemmas.{program_det}
 use Rattle.syslog_dialects.proofs.{NamedLemmas.otherwise_det, ZoneLemmas.ended_det, ZoneLemmas.zone_det}
 
 point_det : IsDeterministic point
@@ -80,3 +86,8 @@ not_plain b e h = let f : true ≡ false = e ∙ h in cc
 
 pub odd_told : (b : Bool) → false ≡ b → b ≡ false
 odd_told b e = sym e
+
+-- ---- a row with a date within
+pub serial_det : AllDeterministic serial_row
+serial_det = host_det also some_run_det is_blank also some_run_det is_plain_char also exactly_det _ also exactly_det _
+    also iso_date_det also exactly_det _ also some_run_det is_blank also program_det also run_det is_blank also rest_det also tt

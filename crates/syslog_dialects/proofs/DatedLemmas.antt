@@ -6,15 +6,15 @@ use Rattle.syslog_pieces.proofs.PieceLemmas.Rules.{such_det}
 use Rattle.syslog_dialects.specs.Dated.{IsDay, bsd_row, iso_row, journal_row}
 use Rattle.syslog_dialects.specs.Zone.{bare_word}
 use Rattle.syslog_dialects.proofs.DateLemmas.{iso_date_det, odd_bsd_date_det, odd_iso_date_det}
-use Rattle.syslog_dialects.proofs.TailLemmas.{tail_det}
+use Rattle.syslog_dialects.proofs.TailLemmas.{wide_tail_det}
 use Rattle.syslog_dialects.proofs.ZoneLemmas.{bare_word_det}
 
 pub bsd_line_det : AllDeterministic bsd_row
-bsd_line_det = run_det is_blank also odd_bsd_date_det also tail_det also tt
+bsd_line_det = run_det is_blank also odd_bsd_date_det also wide_tail_det also tt
 
 pub iso_line_det : AllDeterministic iso_row
-iso_line_det = run_det is_blank also odd_iso_date_det also tail_det also tt
+iso_line_det = run_det is_blank also odd_iso_date_det also wide_tail_det also tt
 
 pub journal_line_det : AllDeterministic journal_row
 journal_line_det = run_det is_blank also such_det bare_word IsDay bare_word_det also some_run_det is_blank also iso_date_det
-    also tail_det also tt
+    also wide_tail_det also tt

@@ -4,6 +4,7 @@ pub mod DateLemmas
 pub mod DatedLemmas
 pub mod DecimalLemmas
 pub mod DialectLemmas
+pub mod FiledLemmas
 pub mod FormLemmas
 pub mod HeaderLemmas
 pub mod NamedFormLemmas

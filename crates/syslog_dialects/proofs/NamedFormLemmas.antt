@@ -6,7 +6,7 @@ use Rattle.syslog_pieces.specs.Text.{is_blank}
 use Rattle.syslog_pieces.proofs.PieceLemmas.Class.{AllDeterministic, ◌also◌, all_joined, front_division, mapped_det, row_cons}
 use Rattle.syslog_pieces.proofs.PieceLemmas.Class.{row_nil, rows_join, rows_none_here, rows_none_later, row_none_here, row_of, no_row, ◌past◌, ◌then◌}
 use Rattle.syslog_pieces.proofs.PieceLemmas.Class.{no_row_division, run_det, some_run_det, unique_division}
-use Rattle.syslog_dialects.proofs.DateLemmas.{any_date_det}
+use Rattle.syslog_dialects.proofs.DateLemmas.{any_date_det, serial_det}
 use Rattle.syslog_dialects.proofs.DialectLemmas.{here, later}
 use Rattle.syslog_dialects.specs.Dialects.{Finds, IsOfNone, IsOnlyOf}
 use Rattle.syslog_dialects.specs.Named.{NamedTexts}
@@ -19,7 +19,7 @@ use Rattle.syslog_dialects.specs.declared.sent.SentDate.{SentDate}
 use Rattle.syslog_dialects.specs.declared.untagged.Mark.{Mark}
 use Rattle.syslog_dialects.specs.Untagged.{mark_class}
 use Rattle.syslog_dialects.specs.Named.{beginning, hosted}
-use Rattle.syslog_dialects.specs.Programs.{hostless_row, passed_on, severity_row, worded_row}
+use Rattle.syslog_dialects.specs.Programs.{hostless_row, passed_on, serial_row, severity_row, worded_row}
 use Rattle.syslog_dialects.proofs.NamedLemmas.{hosted_det, hostless_det, passed_on_det, severity_det, worded_det}
 use Rattle.syslog_pieces.proofs.PieceLemmas.Class.{row_det}
 
@@ -122,3 +122,6 @@ worded_tail_det = row_det worded_row worded_det
 
 pub hostless_tail_det : IsDeterministic (Row hostless_row)
 hostless_tail_det = row_det hostless_row hostless_det
+
+pub serial_tail_det : IsDeterministic (Row serial_row)
+serial_tail_det = row_det serial_row serial_det

@@ -28,14 +28,14 @@ use Rattle.syslog_pieces.proofs.TextLemmas.Runs.{ascii_ahead, ascii_front, chars
 use Rattle.syslog_pieces.proofs.TextLemmas.Words.{host_det}
 use Rattle.syslog_dialects.specs.Named.{◌otherwise◌, behind_row, beginning, hosted, BeginsWith, begins_name, name, id_row, id_of, process_id}
 use Rattle.syslog_dialects.specs.Named.{program_row, program_of, program, ProgramText}
-use Rattle.syslog_dialects.specs.Runs.{are_ascii, is_word_char}
+use Rattle.syslog_dialects.specs.Runs.{are_ascii, is_plain_char, is_word_char}
 use Rattle.syslog_dialects.specs.Named.{NamedTexts, is_letter}
 use Rattle.syslog_dialects.specs.Programs.{words, words_row, worded_row, forwarded_row, forwarded_of, passed_on}
 use Rattle.syslog_pieces.proofs.PieceLemmas.Class.{after_det}
 use Rattle.syslog_pieces.proofs.PieceLemmas.Lists.{many_det}
 use Rattle.syslog_pieces.specs.Pieces.Class.{spaced}
 use Rattle.syslog_pieces.specs.Text.{is_tag_char}
-use Rattle.syslog_dialects.specs.Programs.{hostless_row, severity, severity_row, is_severity}
+use Rattle.syslog_dialects.specs.Programs.{facility, grade, hostless_row, is_facility, is_severity, selector_row, severity, severity_row}
 
 -- ---- words of the theory
 
@@ -161,8 +161,18 @@ severity_word_det : IsDeterministic severity
 severity_word_det = such_det (texted (some_run is_not_whitespace)) (λ t. IsTrue (is_severity t))
     (texted_det (some_run is_not_whitespace) (some_run_det is_not_whitespace))
 
+facility_det : IsDeterministic facility
+facility_det = such_det (texted (some_run is_plain_char)) (λ t. IsTrue (is_facility t))
+    (texted_det (some_run is_plain_char) (some_run_det is_plain_char))
+
+pub selector_det : AllDeterministic selector_row
+selector_det = facility_det also exactly_det _ also severity_word_det also tt
+
+grade_det : IsDeterministic grade
+grade_det = otherwise_det severity_word_det (row_det selector_row selector_det)
+
 pub severity_det : AllDeterministic severity_row
-severity_det = host_det also some_run_det is_blank also severity_word_det also some_run_det is_blank also program_det
+severity_det = host_det also some_run_det is_blank also grade_det also some_run_det is_blank also program_det
     also run_det is_blank also rest_det also tt
 
 -- a text that begins with a character is not empty

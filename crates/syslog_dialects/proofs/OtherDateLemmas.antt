@@ -1,4 +1,4 @@
--- A text has one division into each row of IOS-XR, NetScaler and ProCurve.
+-- A text has one division into each row of IOS-XR, NetScaler, ProCurve, Sophos UTM and OpenWrt.
 use Rattle.std.proofs.Common.{List, [], ◌∷◌, Option, arith}
 use Rattle.std.specs.Char.{is_ascii_digit}
 use Rattle.syslog_pieces.specs.Pieces.Class.{Text, Class, IsDeterministic, Row, exactly, optional, some_run, texted, after}
@@ -12,12 +12,17 @@ use Rattle.syslog_pieces.proofs.TimestampLemmas.Rfc3339.{pair_det, year_det}
 use Rattle.syslog_dialects.specs.Cisco.{counter_row, date_row}
 use Rattle.syslog_dialects.specs.IosXr.{IsNode, card_row, card, host, host_in, host_row, process, process_in, process_row, xr_row}
 use Rattle.syslog_dialects.specs.NetScaler.{netscaler_row, slashed_of, slashed_row}
+use Rattle.syslog_dialects.specs.Dated.{IsDay}
+use Rattle.syslog_dialects.specs.OpenWrt.{logread_row}
+use Rattle.syslog_dialects.specs.Programs.{selector_row}
 use Rattle.syslog_dialects.specs.ProCurve.{procurve_row}
+use Rattle.syslog_dialects.specs.SophosUtm.{colon_of, colon_row, utm_row}
+use Rattle.syslog_dialects.proofs.NamedLemmas.{program_det, selector_det}
 use Rattle.syslog_dialects.specs.Zone.{bare_word, zone}
 use Rattle.syslog_dialects.specs.declared.sent.SentDate.{SentDate}
 use Rattle.syslog_dialects.proofs.CiscoLemmas.{counter_row_det, date_row_det, origin_det}
 use Rattle.syslog_dialects.proofs.DateLemmas.{any_date_det}
-use Rattle.syslog_dialects.proofs.TailLemmas.{tail_det}
+use Rattle.syslog_dialects.proofs.TailLemmas.{wide_tail_det}
 use Rattle.syslog_dialects.proofs.ZoneLemmas.{bare_word_det, zone_det}
 
 pub host_row_det : AllDeterministic host_row
@@ -48,9 +53,24 @@ slashed_row_det =
 
 pub netscaler_row_det : AllDeterministic netscaler_row
 netscaler_row_det = run_det is_blank also mapped_det (Row slashed_row) SentDate slashed_of (row_det slashed_row slashed_row_det)
-    also tail_det also tt
+    also wide_tail_det also tt
 
 pub procurve_row_det : AllDeterministic procurve_row
 procurve_row_det = run_det is_blank also any_date_det also some_run_det is_blank also origin_det also some_run_det is_blank
     also some_run_det is_ascii_digit also some_run_det is_blank also bare_word_det also exactly_det _ also run_det is_blank
     also rest_det also tt
+
+pub colon_row_det : AllDeterministic colon_row
+colon_row_det =
+    year_det also after_det (pair 100) (pair_det 100 (omega arith)) also after_det (pair 100) (pair_det 100 (omega arith))
+    also after_det (pair 100) (pair_det 100 (omega arith)) also after_det (pair 100) (pair_det 100 (omega arith))
+    also after_det (pair 100) (pair_det 100 (omega arith)) also tt
+
+pub utm_row_det : AllDeterministic utm_row
+utm_row_det = run_det is_blank also mapped_det (Row colon_row) SentDate colon_of (row_det colon_row colon_row_det)
+    also wide_tail_det also tt
+
+pub logread_row_det : AllDeterministic logread_row
+logread_row_det = run_det is_blank also such_det bare_word IsDay bare_word_det also some_run_det is_blank also any_date_det
+    also some_run_det is_blank also row_det selector_row selector_det also some_run_det is_blank also program_det
+    also run_det is_blank also rest_det also tt

@@ -18,13 +18,17 @@ use Rattle.syslog_pieces.proofs.PieceLemmas.Lists.{many_det}
 use Rattle.syslog_pieces.proofs.TimestampLemmas.Rfc3339.{pair_det as two_det, year_det}
 use Rattle.syslog_dialects.specs.Named.{◌otherwise◌}
 use Rattle.syslog_dialects.specs.Pairs.{pair, pair_row, pair_of, quoted, quoted_row, quoted_of, bare, value, either_text}
-use Rattle.syslog_dialects.specs.Pairs.{first_value, or_value, noted, noted_more, Noted, day_row, clock_row, moment_row, offset_row}
-use Rattle.syslog_dialects.specs.Pairs.{IsMoment, IsOffset, IsShown, date_at, paired, pairs_row, pairs_form, is_date_key, is_time_key}
-use Rattle.syslog_dialects.specs.Pairs.{is_zone_key, is_host_key}
+use Rattle.syslog_dialects.specs.Pairs.{first_value, or_value, noted, noted_more, Noted, day_row, clock_row, offset_row, IsApart, IsTogether}
+use Rattle.syslog_dialects.specs.Pairs.{IsMoment, IsOffset, IsShown, at_offset, date_at, paired, pairs_row, pairs_form, is_date_key, is_time_key}
+use Rattle.syslog_dialects.specs.Pairs.{is_zone_key, is_host_key, is_stamp_key}
 use Rattle.syslog_dialects.specs.Runs.{is_unquoted, is_word_char}
 use Rattle.syslog_dialects.specs.Sent.{IsOnlySent, SentValue, loose}
 use Rattle.syslog_dialects.specs.declared.sent.SentDate.{SentDate}
 use Rattle.syslog_dialects.proofs.NamedLemmas.{otherwise_det}
+use Rattle.syslog_dialects.proofs.DateLemmas.{fraction_row_det, iso_date_det}
+use Rattle.syslog_dialects.specs.Date.{fraction, fraction_row, iso_date}
+use Rattle.syslog_pieces.specs.Pieces.Class.{optional}
+use Rattle.syslog_pieces.proofs.PieceLemmas.Class.{optional_det}
 
 -- ---- runs
 
@@ -56,10 +60,11 @@ day_det = year_det also after_det (two 100) (two_det 100 (omega arith)) also aft
 
 pub clock_det : AllDeterministic clock_row
 clock_det = two_det 100 (omega arith) also after_det (two 100) (two_det 100 (omega arith))
-    also after_det (two 61) (two_det 61 (omega arith)) also tt
+    also after_det (two 61) (two_det 61 (omega arith))
+    also optional_det fraction (mapped_det (Row fraction_row) ℕ _ (row_det fraction_row fraction_row_det)) also tt
 
-pub moment_det : AllDeterministic moment_row
-moment_det = row_det day_row day_det also exactly_det _ also row_det clock_row clock_det also tt
+pub together_det : AllDeterministic (iso_date ∷ [])
+together_det = iso_date_det also tt
 
 signs_differ : (p q p' q' : Text) (a b : ℕ) → (a ≡ b → ⊥) → p ++ q ≡ p' ++ q' → p ≡ a ∷ [] → p' ≡ b ∷ [] → ⊥
 signs_differ p q p' q' a b n e h h' = n (heads a b q q'
@@ -106,7 +111,8 @@ noted_push ps (k, v) =
     let b = first_more is_time_key ps k v in
     let c = first_more is_zone_key ps k v in
     let d = first_more is_host_key ps k v in
-    rw (a, b, c, d) refl
+    let e = first_more is_stamp_key ps k v in
+    rw (a, b, c, d, e) refl
 
 -- ---- whole texts
 
@@ -120,15 +126,22 @@ not_whole Cs det f e ws d =
 
 -- ---- the date that is shown
 
-moment_once : (date time : Option Text) (d d' : Values day_row) (c c' : Values clock_row) → IsMoment date time d c
-    → IsMoment date time d' c' → (d ≡ d') × (c ≡ c')
-moment_once (Some date) (Some time) d d' c c' (a, b) (a', b') =
-    ((unique_division day_row day_det a a').1, (unique_division clock_row clock_det b b').1)
-moment_once None (Some time) d d' c c' a a' =
-    let same = (unique_division moment_row moment_det a a').1 in
-    (ap (λ (vs : Values moment_row). vs.0) same, ap (λ (vs : Values moment_row). vs.1.1.0) same)
-moment_once (Some date) None d d' c c' a a' = absurd a
-moment_once None None d d' c c' a a' = absurd a
+apart_once : (d t : Text) (x y : SentDate) → IsApart d t x → IsApart d t y → x ≡ y
+apart_once d t x y (day, clock, a, b, e) (day', clock', a', b', e') =
+    let same_day : day ≡ day' = (unique_division day_row day_det a a').1 in
+    let same_clock : clock ≡ clock' = (unique_division clock_row clock_det b b').1 in
+    e ∙ rw (same_day, same_clock) refl ∙ sym e'
+
+together_once : (t : Text) (x y : SentDate) → IsTogether t x → IsTogether t y → x ≡ y
+together_once t x y a b =
+    ap (λ (vs : Values (iso_date ∷ [])). vs.0) (unique_division (iso_date ∷ []) together_det a b).1
+
+moment_once : (time date stamp : Option Text) (x y : SentDate) → IsMoment time date stamp x → IsMoment time date stamp y
+    → x ≡ y
+moment_once (Some t) (Some d) stamp x y a b = apart_once d t x y a b
+moment_once (Some t) None stamp x y a b = together_once t x y a b
+moment_once None date (Some s) x y a b = together_once s x y a b
+moment_once None date None x y a b = absurd a
 
 offset_once : (zone : Option Text) (o o' : Option ℤ) → IsOffset zone o → IsOffset zone o' → o ≡ o'
 offset_once None o o' a a' = a ∙ sym a'
@@ -141,14 +154,13 @@ offset_once (Some t) (Some s) (Some s') (vs, d, e) (vs', d', e') =
 
 pub shown_once : (n : Noted) (d d' : SentDate) → IsShown n d → IsShown n d' → d ≡ d'
 shown_once n d d' a b =
-    let (day, clock) = moment_once n.date n.time a.day b.day a.clock b.clock a.moment b.moment in
-    let offset = offset_once n.zone d.offset d'.offset a.offset b.offset in
-    a.is ∙ rw (day, clock, offset) refl ∙ sym b.is
+    let date = moment_once n.time n.date n.stamp a.shown b.shown a.moment b.moment in
+    let offset = offset_once n.zone a.other b.other a.offset b.offset in
+    a.is ∙ rw (date, offset) refl ∙ sym b.is
 
-pub shown_at : (n : Noted) (day : Values day_row) (clock : Values clock_row) (offset : Option ℤ) (d : SentDate)
-    → d ≡ date_at day clock offset → IsMoment n.date n.time day clock → IsOffset n.zone offset → IsShown n d
-shown_at n day clock offset d e m o = subst (λ (x : SentDate). IsShown n x) (sym e)
-    (record { day = day; clock = clock; moment = m; offset = o; is = refl })
+pub shown_at : (n : Noted) (shown : SentDate) (other : Option ℤ) (d : SentDate) → d ≡ at_offset shown other
+    → IsMoment n.time n.date n.stamp shown → IsOffset n.zone other → IsShown n d
+shown_at n shown other d e m o = record { shown = shown; other = other; moment = m; offset = o; is = e }
 
 -- ---- the line
 

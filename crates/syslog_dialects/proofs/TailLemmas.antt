@@ -6,7 +6,10 @@ use Rattle.syslog_loose.specs.Bodies.Rows.{fields_row}
 use Rattle.syslog_loose.specs.Rfc3164.{HasProcess, Names3164, Resolves}
 use Rattle.syslog_loose.specs.TagForm.{IsIdOf}
 use Rattle.syslog_loose.proofs.Rfc3164Lemmas.{fields_det, one_form, resolves_once}
-use Rattle.syslog_dialects.specs.Tail.{TailValue, tail, tail_row}
+use Rattle.syslog_pieces.specs.Pieces.Class.{exactly, optional}
+use Rattle.syslog_pieces.proofs.PieceLemmas.Class.{exactly_det, mapped_det, optional_det}
+use Rattle.syslog_dialects.proofs.ZoneLemmas.{ended_det}
+use Rattle.syslog_dialects.specs.Tail.{TailValue, spare, tail, tail_row, wide_row, wide_tail}
 
 id_once : (t : Text) (x y : Option Text) → IsIdOf t x → IsIdOf t y → x ≡ y
 id_once t (Some i) (Some j) (tag, f) (tag', f') = ap Some (one_form t tag i tag' j f f').1
@@ -38,3 +41,12 @@ tail_det p q p' q' v v' e (o, g, m, n, h, r, eh, ea, pr) (o', g', m', n', h', r'
       same_tail v v' (eh ∙ ap (λ (x : Names3164). x.hostname) sn ∙ sym eh')
           (ea ∙ ap (λ (x : Names3164). x.appname) sn ∙ sym ea') sp sm,
     )
+
+pub spare_det : IsDeterministic spare
+spare_det = ended_det (exactly (32 ∷ [])) (exactly_det _)
+
+pub wide_row_det : AllDeterministic wide_row
+wide_row_det = optional_det spare spare_det also tail_det also tt
+
+pub wide_tail_det : IsDeterministic wide_tail
+wide_tail_det = mapped_det (Row wide_row) TailValue _ (row_det wide_row wide_row_det)

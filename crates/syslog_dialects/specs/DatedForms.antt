@@ -3,16 +3,25 @@ use Rattle.std.specs.Prelude.{List, [], ◌∷◌, ◌++◌}
 use Rattle.syslog_dialects.specs.Cisco.{cisco_forms, undated_form}
 use Rattle.syslog_dialects.specs.Container.{container_form}
 use Rattle.syslog_dialects.specs.Dated.{bsd_form, iso_form, journal_form}
+use Rattle.syslog_dialects.specs.Filed.{filed_forms}
 use Rattle.syslog_dialects.specs.IosXr.{xr_form}
 use Rattle.syslog_dialects.specs.NetScaler.{netscaler_form}
+use Rattle.syslog_dialects.specs.OpenWrt.{logread_form}
 use Rattle.syslog_dialects.specs.ProCurve.{procurve_form}
 use Rattle.syslog_dialects.specs.Sent.{Form}
+use Rattle.syslog_dialects.specs.SophosUtm.{utm_form}
 
 abbrev pub undated_forms : List Form
 undated_forms = undated_form ∷ []
 
+abbrev pub logread_forms : List Form
+logread_forms = logread_form ∷ undated_forms
+
+abbrev pub utm_forms : List Form
+utm_forms = utm_form ∷ logread_forms
+
 abbrev pub netscaler_forms : List Form
-netscaler_forms = netscaler_form ∷ undated_forms
+netscaler_forms = netscaler_form ∷ utm_forms
 
 abbrev pub journal_forms : List Form
 journal_forms = journal_form ∷ netscaler_forms
@@ -32,5 +41,8 @@ container_forms = container_form ∷ procurve_forms
 abbrev pub xr_forms : List Form
 xr_forms = xr_form ∷ container_forms
 
+abbrev pub later_forms : List Form
+later_forms = filed_forms ++ xr_forms
+
 abbrev pub all_dated : List Form
-all_dated = cisco_forms ++ xr_forms
+all_dated = cisco_forms ++ later_forms

@@ -7,6 +7,7 @@ use Rattle.syslog_dialects.specs.declared.dialect.Dialect.TheVariants.{CiscoIos,
 use Rattle.syslog_dialects.specs.declared.dialect.Dialect.TheVariants.{Container, CiscoIosXr, NetScaler, ProCurve}
 use Rattle.syslog_dialects.specs.declared.dialect.Dialect.TheVariants.{Repeated, Cef, Leef, PaloAlto, KeyValue, Json}
 use Rattle.syslog_dialects.specs.declared.dialect.Dialect.TheVariants.{Idrac, Log4j, Forwarded, SeverityFirst, SpacedName, NoHost, Heroku}
+use Rattle.syslog_dialects.specs.declared.dialect.Dialect.TheVariants.{Bracketed, MikroTik, SophosUtm, WatchGuard}
 
 -- the name of a dialect, in ASCII
 abbrev pub dialect_name : Dialect → List ℕ
@@ -30,6 +31,10 @@ dialect_name KeyValue = codes "key-value"
 dialect_name Json = codes "json"
 dialect_name Idrac = codes "idrac"
 dialect_name Log4j = codes "log4j"
+dialect_name MikroTik = codes "mikrotik"
+dialect_name Bracketed = codes "bracketed"
+dialect_name SophosUtm = codes "sophos-utm"
+dialect_name WatchGuard = codes "watchguard"
 dialect_name Forwarded = codes "forwarded"
 dialect_name SeverityFirst = codes "severity-first"
 dialect_name SpacedName = codes "spaced-name"
@@ -62,6 +67,10 @@ dialect_number KeyValue = 44
 dialect_number Json = 45
 dialect_number Idrac = 46
 dialect_number Log4j = 47
+dialect_number MikroTik = 53
+dialect_number Bracketed = 54
+dialect_number SophosUtm = 31
+dialect_number WatchGuard = 55
 dialect_number Forwarded = 48
 dialect_number SeverityFirst = 49
 dialect_number SpacedName = 50

@@ -3,7 +3,7 @@ use Rattle.std.specs.Prelude.{◌≡◌, ◌⊎◌, ℕ, Bool, true, false, List
 use Rattle.syslog_pieces.specs.Pieces.Class.{Text, NoDivision}
 use Rattle.syslog_dialects.specs.DatedForms.{all_dated}
 use Rattle.syslog_dialects.specs.NamedForms.{all_named}
-use Rattle.syslog_dialects.specs.PriorityAlone.{alone_form}
+use Rattle.syslog_dialects.specs.PriorityAlone.{alone_form, program_form}
 use Rattle.syslog_dialects.specs.Sent.{Form, IsSent, SentValue, sent_value}
 use Rattle.syslog_dialects.specs.declared.dialect.Dialect.{Dialect}
 use Rattle.syslog_dialects.specs.declared.sent.Sent.{Sent}
@@ -38,7 +38,7 @@ named_forms = all_named
 
 -- those of texts that the port does not parse, after a priority
 abbrev pub last_forms : List Form
-last_forms = alone_form ∷ []
+last_forms = program_form ∷ alone_form ∷ []
 
 -- those that are tried last of a text after this priority, which the port parses, or not
 abbrev pub late_forms : Bool → Option ℕ → List Form

@@ -6,6 +6,7 @@ pub mod Dated
 pub mod DatedForms
 pub mod Dialect
 pub mod Dialects
+pub mod Filed
 pub mod Header
 pub mod IosXr
 pub mod Named
@@ -13,6 +14,7 @@ pub mod NamedFinds
 pub mod NamedForms
 pub mod NetScaler
 pub mod NetScalerViews
+pub mod OpenWrt
 pub mod Ordinary
 pub mod PairViews
 pub mod Pairs
@@ -23,6 +25,7 @@ pub mod Runs
 pub mod Sent
 pub mod SentLine
 pub mod SentReading
+pub mod SophosUtm
 pub mod Tail
 pub mod TailViews
 pub mod Untagged

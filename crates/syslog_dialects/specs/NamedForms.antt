@@ -53,7 +53,8 @@ abbrev pub message_tails : List Tail
 message_tails =
     marked_tail dialect.Repeated mark.Repeated ∷ marked_tail dialect.Cef mark.Cef ∷ marked_tail dialect.Leef mark.Leef
     ∷ marked_tail dialect.PaloAlto mark.PaloAlto ∷ marked_tail dialect.KeyValue mark.Pair ∷ marked_tail dialect.Json mark.Json
-    ∷ marked_tail dialect.Idrac mark.Idrac ∷ marked_tail dialect.Log4j mark.Level ∷ []
+    ∷ marked_tail dialect.Idrac mark.Idrac ∷ marked_tail dialect.Log4j mark.Level
+    ∷ marked_tail dialect.MikroTik mark.Topics ∷ marked_tail dialect.Bracketed mark.Bracket ∷ []
 
 -- lines of programs
 abbrev pub forwarded_tail : Tail
@@ -70,8 +71,11 @@ worded_tail = record { dialect = dialect.SpacedName; after = Row programs.worded
 abbrev pub hostless_tail : Tail
 hostless_tail = record { dialect = dialect.NoHost; after = Row programs.hostless_row; names = programs.hostless_of }
 
+abbrev pub serial_tail : Tail
+serial_tail = record { dialect = dialect.WatchGuard; after = Row programs.serial_row; names = programs.serial_of }
+
 abbrev pub program_tails : List Tail
-program_tails = forwarded_tail ∷ severity_tail ∷ worded_tail ∷ hostless_tail ∷ []
+program_tails = forwarded_tail ∷ severity_tail ∷ worded_tail ∷ hostless_tail ∷ serial_tail ∷ []
 
 -- ---- a message without a date
 

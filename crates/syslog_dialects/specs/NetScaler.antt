@@ -6,7 +6,7 @@ use Rattle.syslog_pieces.specs.Text.{is_blank}
 use Rattle.syslog_pieces.specs.Timestamp.Rfc3339.{pair, year}
 use Rattle.syslog_dialects.specs.Dated.{dated_sent}
 use Rattle.syslog_dialects.specs.Sent.{Form}
-use Rattle.syslog_dialects.specs.Tail.{tail}
+use Rattle.syslog_dialects.specs.Tail.{wide_tail}
 use Rattle.syslog_dialects.specs.Zone.{zone}
 use Rattle.syslog_dialects.specs.declared.dialect.Dialect.{Dialect}
 use Rattle.syslog_dialects.specs.declared.dialect.Dialect.TheVariants.{NetScaler}
@@ -29,7 +29,7 @@ abbrev pub slashed_date : Class
 slashed_date = mapped (Row slashed_row) SentDate slashed_of
 
 abbrev pub netscaler_row : List Class
-netscaler_row = run is_blank ∷ slashed_date ∷ tail ∷ []
+netscaler_row = run is_blank ∷ slashed_date ∷ wide_tail ∷ []
 
 abbrev pub netscaler_form : Form
 netscaler_form =

@@ -12,10 +12,16 @@ pair_value p = (shown p.key, shown p.value)
 
 abbrev pub notes_value : Notes → Noted
 notes_value n =
-    record { date = seen n.date; time = seen n.time; zone = seen n.zone; hostname = seen n.hostname }
+    record {
+      date = seen n.date;
+      time = seen n.time;
+      stamp = seen n.stamp;
+      zone = seen n.zone;
+      hostname = seen n.hostname;
+    }
 
 abbrev pub day_values : Day → Values day_row
 day_values d = (d.year, (d.month, (d.day, tt)))
 
 abbrev pub clock_values : Clock → Values clock_row
-clock_values c = (c.hour, (c.minute, (c.second, tt)))
+clock_values c = (c.hour, (c.minute, (c.second, (c.nanosecond, tt))))

@@ -1,12 +1,13 @@
 -- Lines that are pairs of a key and a value, time and host among them. 34 is `"`, 45 `-`, 58 `:`, 61 `=`.
 use Rattle.std.proofs.Common.{inl, inr}
-use Rattle.std.specs.Prelude.{◌≡◌, ◌⊎◌, ◌||◌, ℤ, Bool, true, false, if◌then◌else◌, List, [], ◌∷◌, Option, Some, None, MatchOption, codes, min}
+use Rattle.std.specs.Prelude.{◌≡◌, ◌⊎◌, ◌||◌, ℤ, Bool, true, false, if◌then◌else◌, List, [], ◌∷◌, Option, Some, None, MatchOption, codes, min, unwrap_or}
 use Rattle.std.specs.Char.{is_not_whitespace}
-use Rattle.syslog_pieces.specs.Pieces.Class.{Text, Class, Values, Front, Division, NoDivision, Row, run, some_run, exactly, after, mapped, texted}
+use Rattle.syslog_pieces.specs.Pieces.Class.{Text, Class, Values, Front, Division, NoDivision, Row, run, some_run, exactly, after, mapped, optional, texted}
 use Rattle.syslog_pieces.specs.Pieces.Lists.{many}
 use Rattle.syslog_pieces.specs.Pieces.View.{text_eq}
 use Rattle.syslog_pieces.specs.Text.{is_blank}
 use Rattle.syslog_pieces.specs.Timestamp.Rfc3339.{pair as two, seconds_of, sign, year}
+use Rattle.syslog_dialects.specs.Date.{fraction, iso_date}
 use Rattle.syslog_dialects.specs.Named.{◌otherwise◌}
 use Rattle.syslog_dialects.specs.Sent.{Form, SentValue, loose}
 use Rattle.syslog_dialects.specs.declared.dialect.Dialect.TheVariants.{KeyValue}
@@ -65,6 +66,10 @@ is_date_key key = text_eq key (codes "date")
 abbrev pub is_time_key : Text → Bool
 is_time_key key = text_eq key (codes "time")
 
+-- Sophos SFOS from 18 on
+abbrev pub is_stamp_key : Text → Bool
+is_stamp_key key = text_eq key (codes "timestamp")
+
 abbrev pub is_zone_key : Text → Bool
 is_zone_key key = text_eq key (codes "tz")
 
@@ -77,6 +82,7 @@ or_value None false v = None
 pub record Noted : Type 0 where
   pub date : Option Text
   pub time : Option Text
+  pub stamp : Option Text
   pub zone : Option Text
   pub hostname : Option Text
 
@@ -84,6 +90,7 @@ abbrev pub noted : List (Text × Text) → Noted
 noted ps = record {
   date = first_value is_date_key ps;
   time = first_value is_time_key ps;
+  stamp = first_value is_stamp_key ps;
   zone = first_value is_zone_key ps;
   hostname = first_value is_host_key ps;
 }
@@ -93,6 +100,7 @@ abbrev pub noted_more : Noted → Text → Text → Noted
 noted_more n key v = record {
   date = or_value n.date (is_date_key key) v;
   time = or_value n.time (is_time_key key) v;
+  stamp = or_value n.stamp (is_stamp_key key) v;
   zone = or_value n.zone (is_zone_key key) v;
   hostname = or_value n.hostname (is_host_key key) v;
 }
@@ -103,23 +111,44 @@ noted_more n key v = record {
 abbrev pub day_row : List Class
 day_row = year ∷ after 45 (two 100) ∷ after 45 (two 100) ∷ []
 
--- `HH:MM:SS`
+-- `HH:MM:SS`, and perhaps a fraction, as FortiMail writes
 abbrev pub clock_row : List Class
-clock_row = two 100 ∷ after 58 (two 100) ∷ after 58 (two 61) ∷ []
-
--- both, with a space between them
-abbrev pub moment_row : List Class
-moment_row = Row day_row ∷ exactly (32 ∷ []) ∷ Row clock_row ∷ []
+clock_row = two 100 ∷ after 58 (two 100) ∷ after 58 (two 61) ∷ optional fraction ∷ []
 
 -- `+HHMM`
 abbrev pub offset_row : List Class
 offset_row = sign ∷ two 24 ∷ two 60 ∷ []
 
--- the date and the time, each as a value of its own, or the two in one
-abbrev pub IsMoment : Option Text → Option Text → Values day_row → Values clock_row → Type 0
-IsMoment (Some d) (Some t) day clock = Division day_row d day × Division clock_row t clock
-IsMoment None (Some t) day clock = Division moment_row t (day, (tt, (clock, tt)))
-IsMoment date None day clock = ⊥
+-- second 60 is taken as 59
+abbrev pub date_at : Values day_row → Values clock_row → SentDate
+date_at (y, (m, (d, _))) (h, (mi, (s, (f, _)))) = record {
+  date = record { year = Some y; month = m; day = d; hour = h; minute = mi; second = min s 59 };
+  nanosecond = unwrap_or f 0;
+  offset = None;
+}
+
+-- the date and the time, each as a value of its own
+abbrev pub IsApart : Text → Text → SentDate → Type 0
+IsApart d t date = (day : Values day_row) × (clock : Values clock_row) × Division day_row d day × Division clock_row t clock
+    × (date ≡ date_at day clock)
+
+-- the two in one value, with the zone or without it
+abbrev pub IsTogether : Text → SentDate → Type 0
+IsTogether t date = Division (iso_date ∷ []) t (date, tt)
+
+-- by this time, and the date where there is one
+abbrev pub IsTimed : Text → Option Text → SentDate → Type 0
+IsTimed t (Some d) date = IsApart d t date
+IsTimed t None date = IsTogether t date
+
+abbrev pub IsStamped : Option Text → SentDate → Type 0
+IsStamped (Some s) date = IsTogether s date
+IsStamped None date = ⊥
+
+-- by the time, or else by the timestamp
+abbrev pub IsMoment : Option Text → Option Text → Option Text → SentDate → Type 0
+IsMoment (Some t) d stamp date = IsTimed t d date
+IsMoment None d stamp date = IsStamped stamp date
 
 -- the offset, where one is shown in digits
 abbrev pub IsOffset : Option Text → Option ℤ → Type 0
@@ -127,20 +156,20 @@ IsOffset None offset = offset ≡ None
 IsOffset (Some t) offset = MatchOption offset (NoDivision offset_row t)
     (λ seconds. (vs : Values offset_row) × Division offset_row t vs × (seconds ≡ seconds_of vs))
 
--- second 60 is taken as 59
-abbrev pub date_at : Values day_row → Values clock_row → Option ℤ → SentDate
-date_at (y, (m, (d, _))) (h, (mi, (s, _))) offset = record {
-  date = record { year = Some y; month = m; day = d; hour = h; minute = mi; second = min s 59 };
-  nanosecond = 0;
-  offset = offset;
-}
+-- the offset that the date shows, or else the other
+abbrev pub or_offset : Option ℤ → Option ℤ → Option ℤ
+or_offset (Some shown) other = Some shown
+or_offset None other = other
+
+abbrev pub at_offset : SentDate → Option ℤ → SentDate
+at_offset d other = record { date = d.date; nanosecond = d.nanosecond; offset = or_offset d.offset other }
 
 pub record IsShown (n : Noted) (date : SentDate) : Type 0 where
-  pub day : Values day_row
-  pub clock : Values clock_row
-  pub moment : IsMoment n.date n.time day clock
-  pub offset : IsOffset n.zone date.offset
-  pub is : date ≡ date_at day clock date.offset
+  pub shown : SentDate
+  pub other : Option ℤ
+  pub moment : IsMoment n.time n.date n.stamp shown
+  pub offset : IsOffset n.zone other
+  pub is : date ≡ at_offset shown other
 
 -- ---- the line
 

@@ -1,11 +1,14 @@
--- A priority, and a text of no other form, as MikroTik's routers write: the text is the message.
-use Rattle.std.specs.Prelude.{◌≡◌, ◌≢◌, List, [], ◌∷◌, None}
-use Rattle.syslog_pieces.specs.Pieces.Class.{Text, Class, Values, NoFront, Row, run, some_run, rest}
+-- A priority, and a text of no other form: a program's line without a date, or a message alone, as MikroTik's routers
+-- write. 91 is `[`, 93 `]`.
+use Rattle.std.specs.Prelude.{◌≡◌, ◌≢◌, List, [], ◌∷◌, Some, None}
+use Rattle.std.specs.Char.{is_ascii_digit}
+use Rattle.syslog_pieces.specs.Pieces.Class.{Text, Class, Values, NoFront, Row, exactly, run, some_run, rest, texted}
 use Rattle.syslog_pieces.specs.Pieces.Rules.{such_that}
-use Rattle.syslog_pieces.specs.Text.{is_blank, number}
+use Rattle.syslog_pieces.specs.Text.{colon, is_blank, number}
 use Rattle.syslog_pieces.specs.Timestamp.MonthDate.{month_date}
+use Rattle.syslog_dialects.specs.Named.{name}
 use Rattle.syslog_dialects.specs.Sent.{Form, SentValue, loose}
-use Rattle.syslog_dialects.specs.declared.dialect.Dialect.TheVariants.{PriorityAlone}
+use Rattle.syslog_dialects.specs.declared.dialect.Dialect.TheVariants.{NoHost, PriorityAlone}
 
 -- a number and a blank, as a version of RFC 5424
 abbrev pub version_row : List Class
@@ -16,6 +19,17 @@ pub record IsAlone (text : Text) : Type 0 where
   pub some : text ≢ []
   pub undated : NoFront month_date text
   pub unversioned : NoFront (Row version_row) text
+
+-- a program with the number of its process, as Python's SysLogHandler with an ident and older OpenWrt send
+abbrev pub program_row : List Class
+program_row = run is_blank ∷ name ∷ exactly (91 ∷ []) ∷ texted (some_run is_ascii_digit) ∷ exactly (93 ∷ [])
+    ∷ exactly colon ∷ run is_blank ∷ rest ∷ []
+
+abbrev pub program_sent : Values program_row → SentValue
+program_sent (_, (app, (_, (id, (_, (_, (_, (msg, _)))))))) = loose None None (Some app) (Some id) msg
+
+abbrev pub program_form : Form
+program_form = record { dialect = NoHost; row = program_row; Means = λ v sent. sent ≡ program_sent v }
 
 abbrev pub alone_row : List Class
 alone_row = run is_blank ∷ such_that rest IsAlone ∷ []

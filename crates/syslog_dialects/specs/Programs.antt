@@ -1,4 +1,5 @@
--- What a program's line says in the forms that are told by what stands between the date and the program's name.
+-- What a program's line says in the forms that are told by what comes between the date and the program's name. 32 is
+-- a space, 40 `(`, 41 `)`, 46 `.`.
 use Rattle.std.specs.Prelude.{◌⊎◌, Bool, IsTrue, ◌||◌, List, [], ◌∷◌, Option, Some, None, codes}
 use Rattle.std.specs.Char.{is_not_whitespace}
 use Rattle.syslog_pieces.specs.Pieces.Class.{Text, Class, Values, Row, run, some_run, exactly, rest, mapped, texted, spaced}
@@ -7,8 +8,9 @@ use Rattle.syslog_pieces.specs.Pieces.Rules.{such_that}
 use Rattle.syslog_pieces.specs.Pieces.View.{text_eq}
 use Rattle.syslog_pieces.specs.Text.{colon, host, is_blank}
 use Rattle.syslog_pieces.specs.Text.{is_tag_char}
-use Rattle.syslog_dialects.specs.Named.{NamedTexts, BeginsWith, hosted, is_letter, process_id, program, tagged}
-use Rattle.syslog_dialects.specs.Runs.{is_word_char}
+use Rattle.syslog_dialects.specs.Date.{iso_date}
+use Rattle.syslog_dialects.specs.Named.{◌otherwise◌, NamedTexts, BeginsWith, hosted, is_letter, process_id, program, tagged}
+use Rattle.syslog_dialects.specs.Runs.{is_plain_char, is_word_char}
 use Rattle.std.proofs.Common.{inl, inr}
 
 -- ---- no host: `filterlog[52211]: text`
@@ -22,7 +24,7 @@ hostless_of (p, (_, (m, _))) = tagged None p m
 abbrev pub hostless : Class
 hostless = mapped (Row hostless_row) NamedTexts hostless_of
 
--- ---- the severity before the program: `bigip1 notice mcpd[5555]: text`
+-- ---- the severity before the program: `bigip1 notice mcpd[5555]: text`, `alpine1 daemon.info udhcpc[411]: text`
 
 abbrev pub is_grave : Text → Bool
 is_grave t = text_eq t (codes "emerg") || (text_eq t (codes "alert") || (text_eq t (codes "crit")
@@ -39,14 +41,53 @@ is_severity t = is_grave t || is_mild t
 abbrev pub severity : Class
 severity = such_that (texted (some_run is_not_whitespace)) (λ t. IsTrue (is_severity t))
 
+-- the names of facilities (`syslog.h` of the C library; busybox and FreeBSD write the same)
+abbrev pub is_system_facility : Text → Bool
+is_system_facility t = text_eq t (codes "kern") || (text_eq t (codes "user") || (text_eq t (codes "mail")
+    || (text_eq t (codes "daemon") || (text_eq t (codes "auth") || (text_eq t (codes "syslog")
+    || (text_eq t (codes "lpr") || (text_eq t (codes "news") || (text_eq t (codes "uucp") || (text_eq t (codes "cron")
+    || (text_eq t (codes "authpriv") || text_eq t (codes "ftp")))))))))))
+
+abbrev pub is_local_facility : Text → Bool
+is_local_facility t = text_eq t (codes "local0") || (text_eq t (codes "local1") || (text_eq t (codes "local2")
+    || (text_eq t (codes "local3") || (text_eq t (codes "local4") || (text_eq t (codes "local5")
+    || (text_eq t (codes "local6") || text_eq t (codes "local7")))))))
+
+abbrev pub is_facility : Text → Bool
+is_facility t = is_system_facility t || is_local_facility t
+
+abbrev pub facility : Class
+facility = such_that (texted (some_run is_plain_char)) (λ t. IsTrue (is_facility t))
+
+-- `daemon.info`
+abbrev pub selector_row : List Class
+selector_row = facility ∷ exactly (46 ∷ []) ∷ severity ∷ []
+
+-- a severity, or a facility and a severity
+abbrev pub grade : Class
+grade = severity otherwise Row selector_row
+
 abbrev pub severity_row : List Class
-severity_row = host ∷ some_run is_blank ∷ severity ∷ some_run is_blank ∷ program ∷ run is_blank ∷ rest ∷ []
+severity_row = host ∷ some_run is_blank ∷ grade ∷ some_run is_blank ∷ program ∷ run is_blank ∷ rest ∷ []
 
 abbrev pub severity_of : Values severity_row → NamedTexts
 severity_of (h, (_, (_, (_, (p, (_, (m, _))))))) = tagged h p m
 
 abbrev pub severity_first : Class
 severity_first = mapped (Row severity_row) NamedTexts severity_of
+
+-- ---- the serial number and the time before the program: `fb1 80DA02F9E3C1B (2026-03-02T05:33:04) https-proxy[2345]: text`
+
+-- WatchGuard's Fireboxes ("Configure Syslog Server Settings": the serial number and the time stamp are sent)
+abbrev pub serial_row : List Class
+serial_row = host ∷ some_run is_blank ∷ some_run is_plain_char ∷ exactly (32 ∷ []) ∷ exactly (40 ∷ []) ∷ iso_date
+    ∷ exactly (41 ∷ []) ∷ some_run is_blank ∷ program ∷ run is_blank ∷ rest ∷ []
+
+abbrev pub serial_of : Values serial_row → NamedTexts
+serial_of (h, (_, (_, (_, (_, (_, (_, (_, (p, (_, (m, _))))))))))) = tagged h p m
+
+abbrev pub after_serial : Class
+after_serial = mapped (Row serial_row) NamedTexts serial_of
 
 -- ---- a name of several words: `nas1 Plex Media Server[811]: text`
 

@@ -1,8 +1,9 @@
--- What follows a date as the port reads it: a host field, a tag field, a colon, and the message.
+-- What follows a date as the port reads it: a host field, a tag field, a colon, and the message. 32 is a space.
 use Rattle.std.specs.Prelude.{◌≡◌, List, [], ◌∷◌, ◌++◌, Option}
-use Rattle.syslog_pieces.specs.Pieces.Class.{Text, Class, Row, rest}
+use Rattle.syslog_pieces.specs.Pieces.Class.{Text, Class, Row, exactly, mapped, optional, rest}
 use Rattle.syslog_loose.specs.Bodies.Rows.{fields_row}
 use Rattle.syslog_loose.specs.Rfc3164.{Names3164, Resolves, HasProcess}
+use Rattle.syslog_dialects.specs.Zone.{ended}
 
 pub record TailValue : Type 0 where
   pub hostname : Option Text
@@ -22,3 +23,14 @@ IsTail p q v = (origin : Option (Option Text)) × (program : Option (Option Text
 
 abbrev pub tail : Class
 tail = record { Value = TailValue; Is = IsTail }
+
+-- a space before white space or a colon
+abbrev pub spare : Class
+spare = ended (exactly (32 ∷ []))
+
+-- the same after one space more than the port takes (macOS, `log show --style syslog`)
+abbrev pub wide_row : List Class
+wide_row = optional spare ∷ tail ∷ []
+
+abbrev pub wide_tail : Class
+wide_tail = mapped (Row wide_row) TailValue (λ v. v.1.0)

@@ -1,5 +1,5 @@
 -- Messages that no program's name is before: they are told by what they begin with. 32 is a space, 44 `,`, 46 `.`,
--- 47 `/`, 58 `:`, 61 `=`, 123 `{`, 124 `|`.
+-- 47 `/`, 58 `:`, 61 `=`, 91 `[`, 123 `{`, 124 `|`.
 use Rattle.std.proofs.Common.{inl, inr}
 use Rattle.std.specs.Prelude.{◌⊎◌, ◌||◌, Option, Bool, IsTrue, List, [], ◌∷◌, None, codes}
 use Rattle.std.specs.Char.{is_ascii_digit, is_not_whitespace}
@@ -8,10 +8,12 @@ use Rattle.syslog_pieces.specs.Pieces.Rules.{such_that}
 use Rattle.syslog_pieces.specs.Pieces.View.{text_eq}
 use Rattle.syslog_pieces.specs.Text.{is_blank}
 use Rattle.syslog_pieces.specs.Timestamp.Rfc3339.{pair, year}
-use Rattle.syslog_dialects.specs.Named.{NamedTexts, beginning, hosted, untagged}
-use Rattle.syslog_dialects.specs.Runs.{is_word_char}
+use Rattle.syslog_dialects.specs.Date.{unless}
+use Rattle.syslog_dialects.specs.Named.{◌otherwise◌, NamedTexts, beginning, hosted, untagged}
+use Rattle.syslog_dialects.specs.Runs.{is_plain_char, is_word_char}
 use Rattle.syslog_dialects.specs.declared.untagged.Mark.{Mark}
 use Rattle.syslog_dialects.specs.declared.untagged.Mark.TheVariants.{Cef, Leef, Repeated, PaloAlto, Pair, Json, Idrac, Level}
+use Rattle.syslog_dialects.specs.declared.untagged.Mark.TheVariants.{Bracket, Topics}
 
 abbrev pub some_digits : Class
 some_digits = some_run is_ascii_digit
@@ -32,6 +34,17 @@ repeated_tail = exactly (codes "message repeated ") ∷ some_digits ∷ exactly 
 abbrev pub repeated_row : List Class
 repeated_row = optional (exactly (codes "last ")) ∷ repeated_tail
 
+-- `--- last message repeated 3 times ---` (macOS), `above message repeats 2 times` (HP-UX)
+abbrev pub repeats : Class
+repeats = exactly (codes "--- last message repeated ") otherwise exactly (codes "above message repeats ")
+
+abbrev pub repeats_row : List Class
+repeats_row = repeats ∷ some_digits ∷ exactly (codes " time") ∷ []
+
+-- `-- MARK --`, by which a daemon says that it is there (sysklogd's `-m`, the module immark of rsyslog)
+abbrev pub here : Class
+here = exactly (codes "-- MARK --")
+
 -- `1,2026/03/02 06:33:04,`
 abbrev pub palo_alto_row : List Class
 palo_alto_row =
@@ -46,16 +59,41 @@ abbrev pub is_level : Text → Bool
 is_level t = text_eq t (codes "TRACE") || (text_eq t (codes "DEBUG") || (text_eq t (codes "INFO")
     || (text_eq t (codes "WARN") || (text_eq t (codes "ERROR") || text_eq t (codes "FATAL")))))
 
+-- a topic of RouterOS, and a comma
+abbrev pub topic_row : List Class
+topic_row = some_run is_plain_char ∷ exactly (44 ∷ []) ∷ []
+
+-- the topics that each message has one of (RouterOS, Log: topics)
+abbrev pub is_main_topic : Text → Bool
+is_main_topic t = text_eq t (codes "critical") || (text_eq t (codes "error") || (text_eq t (codes "warning")
+    || (text_eq t (codes "info") || (text_eq t (codes "debug") || text_eq t (codes "packet")))))
+
+abbrev pub main_topic : Class
+main_topic = such_that (texted (some_run is_plain_char)) (λ t. IsTrue (is_main_topic t))
+
+abbrev pub later_topic_row : List Class
+later_topic_row = Row topic_row ∷ main_topic ∷ []
+
+-- `system,info`, `pptp,ppp,info`: one of them is the second or the third
+abbrev pub topics_row : List Class
+topics_row = Row topic_row ∷ (main_topic otherwise Row later_topic_row) ∷ []
+
+-- `[12]:`, the process of a program that is not named
+abbrev pub number_row : List Class
+number_row = exactly (91 ∷ []) ∷ some_digits ∷ exactly (codes "]:") ∷ []
+
 -- what begins such a message
 abbrev pub mark_class : Mark → Class
 mark_class Cef = Row cef_row
 mark_class Leef = Row leef_row
-mark_class Repeated = Row repeated_row
+mark_class Repeated = Row repeated_row otherwise (Row repeats_row otherwise here)
 mark_class PaloAlto = Row palo_alto_row
 mark_class Pair = Row pair_row
 mark_class Json = exactly (codes "{\"")
 mark_class Idrac = exactly (codes "Severity: ")
 mark_class Level = such_that (texted (some_run is_not_whitespace)) (λ t. IsTrue (is_level t))
+mark_class Topics = Row topics_row
+mark_class Bracket = unless (Row number_row) (exactly (91 ∷ []))
 
 -- such a message, or a host before it
 abbrev pub marked : Mark → Class

@@ -282,18 +282,19 @@ pub(crate) fn dated_in(year: Option<u16>, shown: SentDate) -> SentDate
     }
 }
 
-// What a line of Cisco's systems shows.
+/// What a line of Cisco's systems shows.
 #[derive(Clone, Copy)]
-struct Cisco<'a> {
-    first_host: Option<&'a str>,
-    year: Option<u16>,
-    date: SentDate,
-    second_host: Option<&'a str>,
-    tag: &'a str,
-    msg: &'a str,
+pub(crate) struct Cisco<'a> {
+    pub(crate) first_host: Option<&'a str>,
+    pub(crate) year: Option<u16>,
+    pub(crate) date: SentDate,
+    pub(crate) second_host: Option<&'a str>,
+    pub(crate) tag: &'a str,
+    pub(crate) msg: &'a str,
 }
 
-fn shown_line(text: &str) -> Option<Cisco<'_>>
+/// Returns what the line shows, if it is one of theirs with a date.
+pub(crate) fn shown_line(text: &str) -> Option<Cisco<'_>>
     ensures { MatchOption result (NoFront (Row spec.cisco_row) (chars text.now))
         (λ x. Front (Row spec.cisco_row) (chars text.now) [] (cisco_values x)) }
 {
@@ -330,13 +331,13 @@ impl<'a> Cisco<'a> {
         }
     }
 
-    fn is_nx_os(&self) -> bool
+    pub(crate) fn is_nx_os(&self) -> bool
         ensures { MatchBool result (spec.IsNxOs (cisco_values self.now)) (spec.IsNxOs (cisco_values self.now) → ⊥) }
     {
         self.year.is_some()
     }
 
-    fn is_asa(&self) -> bool
+    pub(crate) fn is_asa(&self) -> bool
         ensures { MatchBool result (spec.IsAsa (cisco_values self.now)) (spec.IsAsa (cisco_values self.now) → ⊥) }
     {
         is_asa_tag(self.tag)

@@ -71,7 +71,8 @@ fn fraction(text: &str) -> Option<(u32, &str)>
     decimals(rest)
 }
 
-fn optional_fraction(text: &str) -> (Option<u32>, &str)
+/// Returns the fraction at the front, where there is one, in nanoseconds, and the text after it.
+pub(crate) fn optional_fraction(text: &str) -> (Option<u32>, &str)
     ensures { Front (optional spec.fraction) (chars text.now) (shown result.1) result.0 }
 {
     match fraction(text) {

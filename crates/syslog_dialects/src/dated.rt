@@ -16,7 +16,7 @@ ghost use Rattle.syslog_dialects.specs.Dated as spec;
 
 use crate::date::{iso_date, odd_bsd_date, odd_iso_date};
 use crate::sent::{Sent, SentDate};
-use crate::tail::{Tail, read_tail};
+use crate::tail::{Tail, read_wide_tail};
 use crate::zone::{bare_word, is_one_of};
 use syslog_pieces::text::{blanks, some_blanks};
 
@@ -42,7 +42,7 @@ pub(crate) fn read_bsd(text: &str) -> Option<Sent<'_>>
     ensures { Sends spec.bsd_form (chars text.now) result }
 {
     let (date, rest) = odd_bsd_date(blanks(text))?;
-    Some(says(date, read_tail(rest)))
+    Some(says(date, read_wide_tail(rest)))
 }
 
 /// Returns what a line says whose date is nearly one of RFC 3339.
@@ -50,7 +50,7 @@ pub(crate) fn read_iso(text: &str) -> Option<Sent<'_>>
     ensures { Sends spec.iso_form (chars text.now) result }
 {
     let (date, rest) = odd_iso_date(blanks(text))?;
-    Some(says(date, read_tail(rest)))
+    Some(says(date, read_wide_tail(rest)))
 }
 
 fn is_day(word: &str) -> bool
@@ -59,8 +59,8 @@ fn is_day(word: &str) -> bool
     is_one_of(&DAYS, word)
 }
 
-// The text after the day of the week.
-fn weekday(text: &str) -> Option<&str>
+/// Returns the text after the day of the week.
+pub(crate) fn weekday(text: &str) -> Option<&str>
     ensures { Recognises spec.weekday (chars text.now) result }
 {
     let (day, rest) = bare_word(text)?;
@@ -77,5 +77,5 @@ pub(crate) fn read_journal(text: &str) -> Option<Sent<'_>>
     let after_day = weekday(blanks(text))?;
     let after_gap = some_blanks(after_day)?;
     let (date, rest) = iso_date(after_gap)?;
-    Some(says(date, read_tail(rest)))
+    Some(says(date, read_wide_tail(rest)))
 }

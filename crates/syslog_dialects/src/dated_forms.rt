@@ -7,10 +7,13 @@ use crate::cisco::{read_cisco, read_undated};
 use crate::container::read_container;
 use crate::dated::{read_bsd, read_iso, read_journal};
 use crate::dialect::Dialect;
+use crate::filed::read_filed;
 use crate::ios_xr::read_ios_xr;
 use crate::netscaler::read_netscaler;
+use crate::open_wrt::read_logread;
 use crate::procurve::read_procurve;
 use crate::sent::Sent;
+use crate::sophos_utm::read_utm;
 
 fn from_undated(text: &str) -> Option<(Dialect, Sent<'_>)>
     ensures { Finds spec.undated_forms (chars text.now) result }
@@ -21,12 +24,30 @@ fn from_undated(text: &str) -> Option<(Dialect, Sent<'_>)>
     }
 }
 
+fn from_logread(text: &str) -> Option<(Dialect, Sent<'_>)>
+    ensures { Finds spec.logread_forms (chars text.now) result }
+{
+    match read_logread(text) {
+        Some(sent) => Some((Dialect::SeverityFirst, sent)),
+        None => from_undated(text),
+    }
+}
+
+fn from_utm(text: &str) -> Option<(Dialect, Sent<'_>)>
+    ensures { Finds spec.utm_forms (chars text.now) result }
+{
+    match read_utm(text) {
+        Some(sent) => Some((Dialect::SophosUtm, sent)),
+        None => from_logread(text),
+    }
+}
+
 fn from_netscaler(text: &str) -> Option<(Dialect, Sent<'_>)>
     ensures { Finds spec.netscaler_forms (chars text.now) result }
 {
     match read_netscaler(text) {
         Some(sent) => Some((Dialect::NetScaler, sent)),
-        None => from_undated(text),
+        None => from_utm(text),
     }
 }
 
@@ -84,12 +105,21 @@ fn from_xr(text: &str) -> Option<(Dialect, Sent<'_>)>
     }
 }
 
+fn from_filed(text: &str) -> Option<(Dialect, Sent<'_>)>
+    ensures { Finds spec.later_forms (chars text.now) result }
+{
+    match read_filed(text) {
+        Some(found) => Some(found),
+        None => from_xr(text),
+    }
+}
+
 /// Returns the dialect of the text after a priority, by its date, and what it says.
 pub(crate) fn read(text: &str) -> Option<(Dialect, Sent<'_>)>
     ensures { Finds spec.all_dated (chars text.now) result }
 {
     match read_cisco(text) {
         Some(found) => Some(found),
-        None => from_xr(text),
+        None => from_filed(text),
     }
 }

@@ -27,9 +27,11 @@ pub enum Dialect {
     CiscoIosXr,
     /// Citrix NetScaler.
     NetScaler,
+    /// Sophos UTM.
+    SophosUtm,
     /// HP's ProCurve and ArubaOS-Switch.
     ProCurve,
-    /// The last message, repeated.
+    /// What a daemon says of itself: that the last message was repeated, or that it is there.
     Repeated,
     /// The Common Event Format of ArcSight.
     Cef,
@@ -45,10 +47,16 @@ pub enum Dialect {
     Idrac,
     /// A level of log4j behind the host.
     Log4j,
+    /// Topics of RouterOS with commas between them, as MikroTik's routers write.
+    MikroTik,
+    /// A message that begins with a bracket.
+    Bracketed,
     /// A line that AIX passed on.
     Forwarded,
     /// The severity before the program's name, as F5's BIG-IP writes.
     SeverityFirst,
+    /// The serial number and the time before the program's name, as WatchGuard's Fireboxes write.
+    WatchGuard,
     /// A program's name of several words.
     SpacedName,
     /// A program's line without a host.
@@ -83,6 +91,10 @@ impl Dialect {
             Dialect::Json => "json",
             Dialect::Idrac => "idrac",
             Dialect::Log4j => "log4j",
+            Dialect::MikroTik => "mikrotik",
+            Dialect::Bracketed => "bracketed",
+            Dialect::SophosUtm => "sophos-utm",
+            Dialect::WatchGuard => "watchguard",
             Dialect::Forwarded => "forwarded",
             Dialect::SeverityFirst => "severity-first",
             Dialect::SpacedName => "spaced-name",
@@ -116,6 +128,10 @@ impl Dialect {
             Dialect::Json => 45,
             Dialect::Idrac => 46,
             Dialect::Log4j => 47,
+            Dialect::MikroTik => 53,
+            Dialect::Bracketed => 54,
+            Dialect::SophosUtm => 31,
+            Dialect::WatchGuard => 55,
             Dialect::Forwarded => 48,
             Dialect::SeverityFirst => 49,
             Dialect::SpacedName => 50,

@@ -5,7 +5,7 @@ ghost use Rattle.std.specs.Prelude.{chars, ◌++◌};
 ghost use Rattle.syslog_dialects.specs.Dialects.{Finds, dated_forms, forms_of, last_forms, late_forms, named_forms};
 
 use crate::dialect::Dialect;
-use crate::priority_alone::read_alone;
+use crate::priority_alone::{read_alone, read_program_alone};
 use crate::sent::Sent;
 use crate::{dated_forms, named_forms};
 
@@ -27,6 +27,9 @@ fn read_named(text: &str) -> Option<(Dialect, Sent<'_>)>
 fn read_last(text: &str) -> Option<(Dialect, Sent<'_>)>
     ensures { Finds last_forms (chars text.now) result }
 {
+    if let Some(sent) = read_program_alone(text) {
+        return Some((Dialect::NoHost, sent));
+    }
     let sent = read_alone(text)?;
     Some((Dialect::PriorityAlone, sent))
 }

@@ -74,8 +74,8 @@ fn name(text: &str) -> Option<(&str, &str)>
     Some((run, rest))
 }
 
-// The number of a process.
-fn number(text: &str) -> Option<(&str, &str)>
+/// Returns the number of a process at the front, and the text after it.
+pub(crate) fn number(text: &str) -> Option<(&str, &str)>
     ensures { Reads (texted (some_run is_ascii_digit)) (λ run. shown run) (chars text.now) result }
 {
     let (run, rest) = split_run(text, CharClass::Digit);

@@ -15,6 +15,7 @@ mod dated_forms;
 mod decimals;
 mod dialect;
 mod dialects;
+mod filed;
 mod header;
 mod ios_xr;
 pub mod laws;
@@ -23,6 +24,7 @@ mod named_forms;
 #[cfg(test)]
 mod named_tests;
 mod netscaler;
+mod open_wrt;
 mod ordinary;
 mod pairs;
 mod priority_alone;
@@ -30,6 +32,7 @@ mod procurve;
 mod programs;
 mod runs;
 mod sent;
+mod sophos_utm;
 mod tail;
 #[cfg(test)]
 mod tests;

@@ -94,8 +94,8 @@ fn is_name(text: &str) -> bool
     }
 }
 
-// The name of a program at the front, and the text after it.
-fn name(text: &str) -> Option<(&str, &str)>
+/// Returns the name of a program at the front, and the text after it.
+pub(crate) fn name(text: &str) -> Option<(&str, &str)>
     ensures { Reads spec.name (λ t. shown t) (chars text.now) result }
 {
     let (run, rest) = split_run(text, CharClass::Label);

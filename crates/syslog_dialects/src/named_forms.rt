@@ -13,7 +13,7 @@ use crate::dialect::Dialect;
 use crate::header::read_header;
 use crate::named::Named;
 use crate::pairs::read_pairs;
-use crate::programs::{forwarded, hostless, severity_first, worded};
+use crate::programs::{after_serial, forwarded, hostless, severity_first, worded};
 use crate::sent::{Sent, SentDate};
 use crate::untagged::{Mark, mark_end, message};
 use syslog_pieces::text::{blanks, some_blanks};
@@ -93,6 +93,9 @@ fn of_program<'a>(date: SentDate, rest: &'a str, text: &'a str) -> Option<(Diale
     if let Some(named) = hostless(rest) {
         return Some((Dialect::NoHost, sent(date, named)));
     }
+    if let Some(named) = after_serial(rest) {
+        return Some((Dialect::WatchGuard, sent(date, named)));
+    }
     undated(text)
 }
 
@@ -123,6 +126,12 @@ fn of_message<'a>(date: SentDate, rest: &'a str, text: &'a str) -> Option<(Diale
     }
     if let Some(named) = message(rest, Mark::Level) {
         return Some((Dialect::Log4j, sent(date, named)));
+    }
+    if let Some(named) = message(rest, Mark::Topics) {
+        return Some((Dialect::MikroTik, sent(date, named)));
+    }
+    if let Some(named) = message(rest, Mark::Bracket) {
+        return Some((Dialect::Bracketed, sent(date, named)));
     }
     of_program(date, rest, text)
 }

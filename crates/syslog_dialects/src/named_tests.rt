@@ -2,11 +2,164 @@
 //! process and message, where an empty text is an absent one. After two lines of a form comes one that is nearly of it.
 use crate::dialect::Dialect;
 use crate::named_forms::read;
-use crate::priority_alone::read_alone;
+use crate::priority_alone::{read_alone, read_program_alone};
 use crate::sent::Sent;
 use std::process::Abort;
 
-const LINES: [[&str; 6]; 42] = [
+const LINES: [[&str; 6]; 62] = [
+    [
+        "Mar  2 06:33:04 hq-t40 D0F204A1B2C3D (2026-03-02T05:33:04) iked[2811]: up",
+        "watchguard",
+        "hq-t40",
+        "iked",
+        "2811",
+        "up",
+    ],
+    [
+        "Mar  2 06:33:04 hq-t40 D0F204A1B2C3D (2026-03-02T05:33:04) firewall: Deny",
+        "watchguard",
+        "hq-t40",
+        "firewall",
+        "",
+        "Deny",
+    ],
+    [
+        "Mar  2 06:33:04 hq-t40 D0F204A1B2C3D (yesterday) iked[2811]: up",
+        "",
+        "",
+        "",
+        "",
+        "",
+    ],
+    [
+        "device_name=\"XGS87\" timestamp=\"2026-03-02T06:33:04-0530\" x",
+        "key-value",
+        "XGS87",
+        "",
+        "",
+        "device_name=\"XGS87\" timestamp=\"2026-03-02T06:33:04-0530\" x",
+    ],
+    [
+        "id=fw9 time=\"2026-03-02 06:33:04 UTC\" fw=192.0.2.1",
+        "key-value",
+        "192.0.2.1",
+        "",
+        "",
+        "id=fw9 time=\"2026-03-02 06:33:04 UTC\" fw=192.0.2.1",
+    ],
+    [
+        "date=2026-03-02 time=06:33:04.250 device_id=FE400",
+        "key-value",
+        "FE400",
+        "",
+        "",
+        "date=2026-03-02 time=06:33:04.250 device_id=FE400",
+    ],
+    [
+        "device_name=\"XGS87\" timestamp=1772433184 x",
+        "",
+        "",
+        "",
+        "",
+        "",
+    ],
+    [
+        "Mar  2 06:33:04 router9 auth.notice dropbear[733]: Password auth",
+        "severity-first",
+        "router9",
+        "dropbear",
+        "733",
+        "Password auth",
+    ],
+    [
+        "Mar  2 06:33:04 box7 local3.debug root: done",
+        "severity-first",
+        "box7",
+        "root",
+        "",
+        "done",
+    ],
+    [
+        "Mar  2 06:33:04 box7 auths.notice dropbear[733]: text",
+        "spaced-name",
+        "box7",
+        "auths.notice dropbear",
+        "733",
+        "text",
+    ],
+    [
+        "Mar  2 06:33:04 mail3 -- MARK --",
+        "repeated",
+        "mail3",
+        "",
+        "",
+        "-- MARK --",
+    ],
+    [
+        "Mar  2 06:33:04 --- last message repeated 12 times ---",
+        "repeated",
+        "",
+        "",
+        "",
+        "--- last message repeated 12 times ---",
+    ],
+    [
+        "Mar  2 06:33:04 rx28 above message repeats 5 times",
+        "repeated",
+        "rx28",
+        "",
+        "",
+        "above message repeats 5 times",
+    ],
+    ["Mar  2 06:33:04 mail3 -- MARKED --", "", "", "", "", ""],
+    [
+        "Mar  2 06:33:04 ccr1 dhcp,info dhcp1 assigned 192.0.2.77",
+        "mikrotik",
+        "ccr1",
+        "",
+        "",
+        "dhcp,info dhcp1 assigned 192.0.2.77",
+    ],
+    [
+        "Mar  2 06:33:04 ccr1 l2tp,ppp,error authentication failed",
+        "mikrotik",
+        "ccr1",
+        "",
+        "",
+        "l2tp,ppp,error authentication failed",
+    ],
+    [
+        "Mar  2 06:33:04 ccr1 dhcp,lease dhcp1 assigned 192.0.2.77",
+        "",
+        "",
+        "",
+        "",
+        "",
+    ],
+    [
+        "Mar  2 06:33:04 usg4 [LAN_IN-2010-A]IN=eth1 OUT=eth0",
+        "bracketed",
+        "usg4",
+        "",
+        "",
+        "[LAN_IN-2010-A]IN=eth1 OUT=eth0",
+    ],
+    [
+        "Mar  2 06:33:04 [scheduler-1] org.example.Job ran",
+        "bracketed",
+        "",
+        "",
+        "",
+        "[scheduler-1] org.example.Job ran",
+    ],
+    [
+        "Mar  2 06:33:04 1,2026/03/02 06:33:04,0072,SYSTEM",
+        "palo-alto",
+        "",
+        "",
+        "",
+        "1,2026/03/02 06:33:04,0072,SYSTEM",
+    ],
     [
         "Mar  2 06:33:04 filterlog[52211]: 5,,,1000000103",
         "no-host",
@@ -355,5 +508,16 @@ fn texts_alone_are_messages(rt: HostRuntime) {
         "",
     ] {
         assert!(rt; read_alone(text).is_none(), "{text}");
+    }
+}
+
+#[test]
+fn programs_alone_are_programs(rt: HostRuntime) {
+    let alone = read_program_alone("worker-a[4021]: job 7 done").is_some_and(|sent| {
+        sent.appname == Some("worker-a") && sent.process == Some("4021") && sent.msg == "job 7 done"
+    });
+    assert!(rt; alone);
+    for text in &["dnsmasq: started", "worker-a[x]: job 7 done", "[4021]: job"] {
+        assert!(rt; read_program_alone(text).is_none(), "{text}");
     }
 }

@@ -13,7 +13,7 @@ ghost use Rattle.syslog_dialects.specs.NetScaler as spec;
 use crate::date::optional_zone;
 use crate::dated::says;
 use crate::sent::{Sent, SentDate};
-use crate::tail::read_tail;
+use crate::tail::read_wide_tail;
 use syslog_pieces::text::{blanks, literal};
 use syslog_pieces::timestamp::MonthDate;
 use syslog_pieces::timestamp::pairs::{pair, pair_after, year};
@@ -92,5 +92,5 @@ pub(crate) fn read_netscaler(text: &str) -> Option<Sent<'_>>
     ensures { Sends spec.netscaler_form (chars text.now) result }
 {
     let (date, rest) = slashed_date(blanks(text))?;
-    Some(says(date, read_tail(rest)))
+    Some(says(date, read_wide_tail(rest)))
 }

@@ -12,7 +12,7 @@ ghost use Rattle.syslog_dialects.specs.Ordinary as spec;
 
 use crate::named::is_word;
 use syslog_loose::Line;
-use syslog_pieces::text::literal;
+use syslog_pieces::text::{CharClass, literal, split_run};
 
 // The text after this one, where it begins the text.
 fn past<'a>(text: &'a str, front: &str) -> Option<&'a str>
@@ -53,12 +53,21 @@ fn begins_with_tag(text: &str, host: &str, app: &str) -> bool
     past_tag(text, host, app).is_some()
 }
 
-// Whether the app name is a word that begins a message.
+// Whether the text is digits alone, or nothing.
+#[inline(always)]
+fn are_digits(text: &str) -> bool
+    ensures { result ≡ spec.are_digits (chars text.now) }
+{
+    let (_, rest) = split_run(text, CharClass::Digit);
+    rest.is_empty()
+}
+
+// Whether the app name is a number, nothing, or a word that begins a message.
 #[inline(always)]
 fn is_odd_app(app: &str) -> bool
     ensures { result ≡ spec.is_odd_app (chars app.now) }
 {
-    is_word(app, "CEF") || (is_word(app, "LEEF") || is_word(app, "Severity"))
+    are_digits(app) || (is_word(app, "CEF") || (is_word(app, "LEEF") || is_word(app, "Severity")))
 }
 
 // Whether the line of RFC 3164 has a timestamp, a host and a tag.

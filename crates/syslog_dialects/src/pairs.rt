@@ -2,9 +2,10 @@
 //!
 //! **Rule.** FortiGate (FortiOS Log Message Reference) and FortiMail have `date=2026-03-02 time=06:33:04`, FortiGate also an
 //! offset, `tz="+0100"`. Sophos (SFOS syslog guide) has date and time in the same way, and SonicWall (SonicOS Log Events
-//! Reference) both in `time="2026-03-02 06:33:04"`. The first pair of a key counts. A zone that is a name is passed over.
+//! Reference) both in `time="2026-03-02 06:33:04"`, with ` UTC` where it is so configured. SFOS from 18 on has both and the
+//! offset in `timestamp="2026-03-02T06:33:04+0100"`. The first pair of a key counts. A zone that is a name is passed over.
 ghost use Rattle.std.specs.Prelude.{◌≡◌, ◌<◌, ◌∷◌, [], IfSome, IsUtf8, List, MatchOption, Some, chars};
-ghost use Rattle.syslog_pieces.specs.Pieces.Class.{Division, Front, NoDivision, Row, Text, Values, exactly};
+ghost use Rattle.syslog_pieces.specs.Pieces.Class.{Division, Front, NoDivision, Row, Text, exactly};
 ghost use Rattle.syslog_pieces.specs.Pieces.Lists.{many};
 ghost use Rattle.syslog_pieces.specs.Pieces.View.{Reads, Recognises, seen, shown};
 ghost use Rattle.syslog_pieces.specs.Timestamp.Rfc3339.{seconds_of, sign as sign_class};
@@ -13,6 +14,7 @@ ghost use Rattle.syslog_dialects.specs.Pairs as spec;
 ghost use Rattle.syslog_dialects.specs.Sent.{Sends};
 ghost use Rattle.syslog_dialects.specs.declared.sent.SentDate.{SentDate as Date};
 
+use crate::date::{iso_date, optional_fraction};
 use crate::named::is_word;
 use crate::runs::{Run, split};
 use crate::sent::{Sent, SentDate};
@@ -32,6 +34,7 @@ pub(crate) struct Pair<'a> {
 pub(crate) struct Notes<'a> {
     date: Option<&'a str>,
     time: Option<&'a str>,
+    stamp: Option<&'a str>,
     zone: Option<&'a str>,
     hostname: Option<&'a str>,
 }
@@ -50,6 +53,7 @@ pub(crate) struct Clock {
     hour: u32,
     minute: u32,
     second: u32,
+    nanosecond: Option<u32>,
 }
 
 // The text after a quote. It is no `literal`, so that its clauses say that the text is UTF-8.
@@ -122,6 +126,7 @@ fn noted_more<'a>(notes: Notes<'a>, pair: Pair<'a>) -> Notes<'a>
     Notes {
         date: or_value(notes.date, is_word(pair.key, "date"), pair.value),
         time: or_value(notes.time, is_word(pair.key, "time"), pair.value),
+        stamp: or_value(notes.stamp, is_word(pair.key, "timestamp"), pair.value),
         zone: or_value(notes.zone, is_word(pair.key, "tz"), pair.value),
         hostname: or_value(notes.hostname, is_host_key(pair.key), pair.value),
     }
@@ -135,6 +140,7 @@ fn read_notes(text: &str) -> Notes<'_>
     let mut notes = Notes {
         date: None,
         time: None,
+        stamp: None,
         zone: None,
         hostname: None,
     };
@@ -160,11 +166,13 @@ fn read_clock(text: &str) -> Option<(Clock, &str)>
 {
     let (hour, after_hour) = pair(text, 100)?;
     let (minute, after_minute) = pair_after(after_hour, ':', 100)?;
-    let (second, rest) = pair_after(after_minute, ':', 61)?;
+    let (second, after_second) = pair_after(after_minute, ':', 61)?;
+    let (nanosecond, rest) = optional_fraction(after_second);
     let clock = Clock {
         hour,
         minute,
         second,
+        nanosecond,
     };
     Some((clock, rest))
 }
@@ -193,43 +201,75 @@ fn whole_clock(text: &str) -> Option<Clock>
     }
 }
 
-// The day and the time that two values show.
-fn apart(date: &str, time: &str) -> Option<(Day, Clock)>
-    ensures { MatchOption result
-        ((d : Values spec.day_row) (c : Values spec.clock_row) → Division spec.day_row (chars date.now) d
-        → Division spec.clock_row (chars time.now) c → ⊥)
-        (λ x. Division spec.day_row (chars date.now) (day_values x.0)
-        × Division spec.clock_row (chars time.now) (clock_values x.1)) }
+// The date at this day and time.
+fn date_at(day: Day, clock: Clock) -> SentDate
+    ensures { result ≡ spec.date_at (day_values day) (clock_values clock) }
 {
-    let day = whole_day(date)?;
-    let clock = whole_clock(time)?;
-    Some((day, clock))
-}
-
-// The day and the time that one value shows.
-fn together(time: &str) -> Option<(Day, Clock)>
-    ensures { MatchOption result (NoDivision spec.moment_row (chars time.now))
-        (λ x. Division spec.moment_row (chars time.now) (day_values x.0, (tt, (clock_values x.1, tt)))) }
-{
-    let (day, after_day) = read_day(time)?;
-    let at_clock = literal(after_day, ' ')?;
-    let (clock, rest) = read_clock(at_clock)?;
-    match first(rest) {
-        Some(_) => None,
-        None => Some((day, clock)),
+    let date = MonthDate {
+        year: Some(u32::from(day.year)),
+        month: day.month,
+        day: day.day,
+        hour: clock.hour,
+        minute: clock.minute,
+        second: clock.second.min(59),
+    };
+    SentDate {
+        date,
+        nanosecond: clock.nanosecond.unwrap_or(0),
+        offset: None,
     }
 }
 
-// The day and the time that are noted.
-fn moment(date: Option<&str>, time: Option<&str>) -> Option<(Day, Clock)>
-    ensures { MatchOption result
-        ((d : Values spec.day_row) (c : Values spec.clock_row) → spec.IsMoment (seen date.entry) (seen time.entry) d c → ⊥)
-        (λ x. spec.IsMoment (seen date.entry) (seen time.entry) (day_values x.0) (clock_values x.1)) }
+// The date that two values show.
+fn apart(date: &str, time: &str) -> Option<SentDate>
+    ensures { MatchOption result ((d : Date) → spec.IsApart (chars date.now) (chars time.now) d → ⊥)
+        (spec.IsApart (chars date.now) (chars time.now)) }
 {
-    let time = time?;
+    let day = whole_day(date)?;
+    let clock = whole_clock(time)?;
+    Some(date_at(day, clock))
+}
+
+// The date that one value shows.
+fn together(text: &str) -> Option<SentDate>
+    ensures { MatchOption result ((d : Date) → spec.IsTogether (chars text.now) d → ⊥) (spec.IsTogether (chars text.now)) }
+{
+    let (date, rest) = iso_date(text)?;
+    match first(rest) {
+        Some(_) => None,
+        None => Some(date),
+    }
+}
+
+// The date that this time shows, and the date where there is one.
+fn timed(time: &str, date: Option<&str>) -> Option<SentDate>
+    ensures { MatchOption result ((d : Date) → spec.IsTimed (chars time.now) (seen date.entry) d → ⊥)
+        (spec.IsTimed (chars time.now) (seen date.entry)) }
+{
     match date {
         Some(date) => apart(date, time),
         None => together(time),
+    }
+}
+
+fn stamped(stamp: Option<&str>) -> Option<SentDate>
+    ensures { MatchOption result ((d : Date) → spec.IsStamped (seen stamp.entry) d → ⊥) (spec.IsStamped (seen stamp.entry)) }
+{
+    match stamp {
+        Some(stamp) => together(stamp),
+        None => None,
+    }
+}
+
+// The date that is noted, but for an offset of its own.
+fn moment(time: Option<&str>, date: Option<&str>, stamp: Option<&str>) -> Option<SentDate>
+    ensures { MatchOption result
+        ((d : Date) → spec.IsMoment (seen time.entry) (seen date.entry) (seen stamp.entry) d → ⊥)
+        (spec.IsMoment (seen time.entry) (seen date.entry) (seen stamp.entry)) }
+{
+    match time {
+        Some(time) => timed(time, date),
+        None => stamped(stamp),
     }
 }
 
@@ -276,22 +316,16 @@ fn offset(zone: Option<&str>) -> Option<i32>
     }
 }
 
-// The date at this day, time and offset.
-fn date_at(day: Day, clock: Clock, offset: Option<i32>) -> SentDate
-    ensures { result ≡ spec.date_at (day_values day) (clock_values clock) offset }
+// The date, at this offset where it shows none.
+fn at_offset(date: SentDate, offset: Option<i32>) -> SentDate
+    ensures { result ≡ spec.at_offset date offset }
 {
-    let date = MonthDate {
-        year: Some(u32::from(day.year)),
-        month: day.month,
-        day: day.day,
-        hour: clock.hour,
-        minute: clock.minute,
-        second: clock.second.min(59),
-    };
     SentDate {
-        date,
-        nanosecond: 0,
-        offset,
+        offset: match date.offset {
+            Some(shown) => Some(shown),
+            None => offset,
+        },
+        ..date
     }
 }
 
@@ -300,8 +334,8 @@ fn shown_date(notes: Notes<'_>) -> Option<SentDate>
     ensures { MatchOption result ((d : Date) → spec.IsShown (notes_value notes.entry) d → ⊥)
         (λ d. spec.IsShown (notes_value notes.entry) d) }
 {
-    let (day, clock) = moment(notes.date, notes.time)?;
-    Some(date_at(day, clock, offset(notes.zone)))
+    let date = moment(notes.time, notes.date, notes.stamp)?;
+    Some(at_offset(date, offset(notes.zone)))
 }
 
 /// What a line of pairs says.

@@ -1,4 +1,5 @@
-//! A priority, and a text of no other form, as MikroTik's routers write (RouterOS, Log: `remote` without `bsd-syslog`).
+//! A priority, and a text of no other form: a program's line without a date (Python's SysLogHandler with an ident, older
+//! OpenWrt), or a message alone, as MikroTik's routers write (RouterOS, Log: `remote` without `bsd-syslog`).
 //!
 //! A text that begins with a month date or with a version is of another form that failed: it stays refused.
 ghost use Rattle.std.specs.Prelude.{◌∷◌, MatchBool, chars};
@@ -7,8 +8,10 @@ ghost use Rattle.syslog_pieces.specs.Pieces.View.{Recognises};
 ghost use Rattle.syslog_dialects.specs.PriorityAlone as spec;
 ghost use Rattle.syslog_dialects.specs.Sent.{Sends};
 
+use crate::ios_xr::number as number_text;
+use crate::named::name;
 use crate::sent::Sent;
-use syslog_pieces::text::{blanks, number, some_blanks};
+use syslog_pieces::text::{blanks, literal, number, some_blanks};
 use syslog_pieces::timestamp::month_date::month_date;
 
 // The text after a number and blanks.
@@ -29,6 +32,27 @@ fn is_alone(text: &str) -> bool
         return false;
     }
     !text.is_empty()
+}
+
+/// What a program's line without a date says.
+pub(crate) fn read_program_alone(text: &str) -> Option<Sent<'_>>
+    ensures { Sends spec.program_form (chars text.now) result }
+{
+    let begun = blanks(text);
+    let (app, after_name) = name(begun)?;
+    let after_open = literal(after_name, '[')?;
+    let (id, after_id) = number_text(after_open)?;
+    let after_close = literal(after_id, ']')?;
+    let after_tag = literal(after_close, ':')?;
+    Some(Sent {
+        version: None,
+        date: None,
+        hostname: None,
+        appname: Some(app),
+        process: Some(id),
+        msgid: None,
+        msg: blanks(after_tag),
+    })
 }
 
 /// What a text of no other form says.

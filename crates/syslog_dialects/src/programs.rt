@@ -8,8 +8,10 @@ ghost use Rattle.syslog_dialects.specs.Runs.{is_word_char};
 ghost use Rattle.syslog_dialects.specs.Programs as spec;
 ghost use Rattle.syslog_dialects.specs.Views.{Names, named_value};
 
+use crate::date::iso_date;
 use crate::named::{Named, Program, is_letter, is_word, past, process_id, read_program, tagged};
 use crate::runs::{Run, split};
+use crate::untagged::topic_word;
 use syslog_pieces::text::verbatim::before;
 use syslog_pieces::text::{CharClass, blanks, host, literal, some_blanks, split_run};
 
@@ -52,15 +54,94 @@ fn severity(text: &str) -> Option<(&str, &str)>
     is_severity(word).then_some((word, rest))
 }
 
+fn is_system_facility(word: &str) -> bool
+    ensures { result ≡ spec.is_system_facility (chars word.now) }
+{
+    is_word(word, "kern")
+        || (is_word(word, "user")
+            || (is_word(word, "mail")
+                || (is_word(word, "daemon")
+                    || (is_word(word, "auth")
+                        || (is_word(word, "syslog")
+                            || (is_word(word, "lpr")
+                                || (is_word(word, "news")
+                                    || (is_word(word, "uucp")
+                                        || (is_word(word, "cron")
+                                            || (is_word(word, "authpriv")
+                                                || is_word(word, "ftp")))))))))))
+}
+
+fn is_local_facility(word: &str) -> bool
+    ensures { result ≡ spec.is_local_facility (chars word.now) }
+{
+    is_word(word, "local0")
+        || (is_word(word, "local1")
+            || (is_word(word, "local2")
+                || (is_word(word, "local3")
+                    || (is_word(word, "local4")
+                        || (is_word(word, "local5")
+                            || (is_word(word, "local6") || is_word(word, "local7")))))))
+}
+
+fn is_facility(word: &str) -> bool
+    ensures { result ≡ spec.is_facility (chars word.now) }
+{
+    is_system_facility(word) || is_local_facility(word)
+}
+
+// The text after the name of a facility.
+fn facility(text: &str) -> Option<&str>
+    ensures { Recognises spec.facility (chars text.now) result }
+{
+    let (word, rest) = split(text, Run::Plain);
+    is_facility(word).then_some(rest)
+}
+
+/// Returns the text after a facility, a dot and a severity.
+pub(crate) fn selector(text: &str) -> Option<&str>
+    ensures { Recognises (Row spec.selector_row) (chars text.now) result }
+{
+    let after_facility = facility(text)?;
+    let at_severity = literal(after_facility, '.')?;
+    let (_, rest) = severity(at_severity)?;
+    Some(rest)
+}
+
+// The text after a severity, or after a facility and a severity.
+fn grade(text: &str) -> Option<&str>
+    ensures { Recognises spec.grade (chars text.now) result }
+{
+    if let Some((_, rest)) = severity(text) {
+        return Some(rest);
+    }
+    selector(text)
+}
+
 /// A line with the severity before the program.
 pub(crate) fn severity_first(text: &str) -> Option<Named<'_>>
     ensures { Names spec.severity_first named_value (chars text.now) result }
 {
     let (hostname, rest) = host(text)?;
     let rest = some_blanks(rest)?;
-    let (_, rest) = severity(rest)?;
+    let rest = grade(rest)?;
     let rest = some_blanks(rest)?;
     let (program, rest) = read_program(rest)?;
+    Some(tagged(hostname, program, blanks(rest)))
+}
+
+/// A line with the serial number and the time of a Firebox before the program.
+pub(crate) fn after_serial(text: &str) -> Option<Named<'_>>
+    ensures { Names spec.after_serial named_value (chars text.now) result }
+{
+    let (hostname, after_host) = host(text)?;
+    let before_serial = some_blanks(after_host)?;
+    let serial_end = topic_word(before_serial)?;
+    let before_bracket = literal(serial_end, ' ')?;
+    let before_date = literal(before_bracket, '(')?;
+    let (_, date_end) = iso_date(before_date)?;
+    let after_bracket = literal(date_end, ')')?;
+    let before_program = some_blanks(after_bracket)?;
+    let (program, rest) = read_program(before_program)?;
     Some(tagged(hostname, program, blanks(rest)))
 }
 

@@ -8,6 +8,8 @@ ghost use Rattle.syslog_dialects.specs.Runs.{is_of};
 pub(crate) enum Run {
     /// A letter, a digit, `-`, `.`, `/` or `_`.
     Word,
+    /// A letter, a digit, `!` or `-`.
+    Plain,
     /// No quote.
     Unquoted,
 }
@@ -21,6 +23,9 @@ impl Run {
             Run::Word => {
                 c.is_ascii_alphabetic()
                     || (c.is_ascii_digit() || (c == '-' || (c == '.' || (c == '/' || c == '_'))))
+            }
+            Run::Plain => {
+                c.is_ascii_alphabetic() || (c.is_ascii_digit() || (c == '!' || c == '-'))
             }
             Run::Unquoted => c != '"',
         }

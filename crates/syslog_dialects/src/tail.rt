@@ -2,15 +2,16 @@
 //!
 //! **Rule.** It is that of the port (`rfc3164` of `syslog_loose`): a tag of the form `tag[id]` is a program and its
 //! process, and a lone word that is not of it is the host. A list of elements is left in the message.
-ghost use Rattle.std.specs.Prelude.{◌≡◌, MatchOption, chars, []};
-ghost use Rattle.syslog_pieces.specs.Pieces.Class.{Front};
-ghost use Rattle.syslog_pieces.specs.Pieces.View.{field_seen, seen, shown};
+ghost use Rattle.std.specs.Prelude.{◌≡◌, MatchOption, Option, chars, []};
+ghost use Rattle.syslog_pieces.specs.Pieces.Class.{Front, optional};
+ghost use Rattle.syslog_pieces.specs.Pieces.View.{Recognises, field_seen, seen, shown};
 ghost use Rattle.syslog_loose.specs.Bodies.View3164.{NamesHost, NamesProgram};
 ghost use Rattle.syslog_loose.specs.Rfc3164.{HasProcess, Resolves};
 ghost use Rattle.syslog_loose.specs.TagForm.{IsForm, IsIdOf, IsNoForm};
 ghost use Rattle.syslog_dialects.specs.TailViews.{tail_names, tail_value};
 ghost use Rattle.syslog_dialects.specs.Tail as spec;
 
+use crate::zone::ends_word;
 use syslog_pieces::text::{
     CharClass, Field, blanks, host_field, literal, past_colon, split_run, tag_field,
 };
@@ -109,8 +110,8 @@ fn resolve<'a>(host: Field<'a>, tag: Field<'a>) -> TailNames<'a>
     }
 }
 
-/// Returns the names and the message of all that follows a date.
-pub(crate) fn read_tail(text: &str) -> Tail<'_>
+// The names and the message of all that follows a date.
+fn read_tail(text: &str) -> Tail<'_>
     ensures { Front spec.tail (chars text.now) [] (tail_value result) }
 {
     let (host, after_host) = host_field(text);
@@ -123,4 +124,32 @@ pub(crate) fn read_tail(text: &str) -> Tail<'_>
         process: names.process,
         msg,
     }
+}
+
+// The text after a space, where white space or a colon follows it.
+fn past_spare(text: &str) -> Option<&str>
+    ensures { Recognises spec.spare (chars text.now) result }
+{
+    let rest = literal(text, ' ')?;
+    if !ends_word(rest) {
+        return None;
+    }
+    Some(rest)
+}
+
+// The same, or the text where no such space begins it.
+fn narrowed(text: &str) -> &str
+    ensures { (v : Option (Unit {0})) × Front (optional spec.spare) (chars text.now) (shown result) v }
+{
+    match past_spare(text) {
+        Some(rest) => rest,
+        None => text,
+    }
+}
+
+/// Returns the names and the message of all that follows a date, after one space or two.
+pub(crate) fn read_wide_tail(text: &str) -> Tail<'_>
+    ensures { Front spec.wide_tail (chars text.now) [] (tail_value result) }
+{
+    read_tail(narrowed(text))
 }

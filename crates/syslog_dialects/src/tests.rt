@@ -7,7 +7,7 @@ use std::process::Abort;
 
 // A text from after the priority on, and after `¦` its dialect, date, host, app name, process and message. A date is year,
 // month, day, hour, minute, second, nanosecond and offset.
-const ROWS: [&str; 47] = [
+const ROWS: [&str; 56] = [
     "29: *Mar  1 18:48:50.483: %SYS-5-CONFIG_I: Configured from console¦cisco-ios¦- 3 1 18 48 50 483000000 -¦-¦%SYS-5-CONFIG_I¦-¦Configured from console",
     "4211: core-sw1: Mar  1 18:48:50.483 CET: %LINK-3-UPDOWN: changed state¦cisco-ios¦- 3 1 18 48 50 483000000 -¦core-sw1¦%LINK-3-UPDOWN¦-¦changed state",
     "29: edge1: 000031: .Mar  1 2026 18:48:50 UTC: %SYS-5-CONFIG_I: text¦cisco-ios¦2026 3 1 18 48 50 0 0¦edge1¦%SYS-5-CONFIG_I¦-¦text",
@@ -55,6 +55,15 @@ const ROWS: [&str; 47] = [
     "03/02/2026:06:33:04 GMT ns1 0-PPE-0 : default TCP CONN_TERMINATE¦netscaler¦2026 3 2 6 33 4 0 0¦ns1¦0-PPE-0¦-¦default TCP CONN_TERMINATE",
     " 11/28/2026:23:59:59 ns1 0-PPE-1 : default SSLLOG¦netscaler¦2026 11 28 23 59 59 0 -¦ns1¦0-PPE-1¦-¦default SSLLOG",
     "03-02-2026:06:33:04 GMT ns1 0-PPE-0 : default TCP¦none",
+    "Mar  2 06:33:05 10.1.1.1 45: Mar  2 06:33:04.5: %SEC-6-IPACCESSLOGP: text¦cisco-ios¦- 3 2 6 33 4 500000000 -¦10.1.1.1¦%SEC-6-IPACCESSLOGP¦-¦text",
+    "Mar  2 06:33:05 core9 : 2026 Mar  2 06:33:04 UTC: %VPC-6-X: text¦cisco-nx-os¦2026 3 2 6 33 4 0 0¦core9¦%VPC-6-X¦-¦text",
+    "Mar  2 06:33:05 10.1.1.1 45: Mar  2 06:33:04: SEC-6-IPACCESSLOGP: text¦none",
+    "2026:03:02-06:33:04 gw7 sshd[733]: Accepted¦sophos-utm¦2026 3 2 6 33 4 0 -¦gw7¦sshd¦733¦Accepted",
+    "2026:11:28-23:59:59 gw7 ulogd: id=1¦sophos-utm¦2026 11 28 23 59 59 0 -¦gw7¦ulogd¦-¦id=1",
+    "2026:03:02 06:33:04 gw7 sshd[733]: Accepted¦none",
+    "Sat Nov 28 06:33:04 2026 authpriv.warn dropbear[2417]: Login¦severity-first¦2026 11 28 6 33 4 0 -¦-¦dropbear¦2417¦Login",
+    "Sat Nov 28 06:33:04 2026 authprivy.warn dropbear[2417]: Login¦none",
+    "2026-03-02 06:33:04.000250-0800  mini kernel[0]: Wake¦nearly-rfc3339¦2026 3 2 6 33 4 250000 -28800¦mini¦kernel¦0¦Wake",
 ];
 
 fn number(alloc: Global, number: Option<u32>) -> String {

@@ -4,8 +4,9 @@ ghost use Rattle.syslog_pieces.specs.Pieces.Class.{Front, Row, after, exactly, o
 ghost use Rattle.syslog_pieces.specs.Pieces.View.{Recognises, shown};
 ghost use Rattle.syslog_pieces.specs.Timestamp.Rfc3339.{pair as pair_class, year as year_class};
 ghost use Rattle.syslog_pieces.specs.Text.{is_blank};
-ghost use Rattle.syslog_dialects.specs.Runs.{is_word_char};
-ghost use Rattle.syslog_dialects.specs.declared.untagged.Mark.TheVariants.{Level};
+ghost use Rattle.syslog_dialects.specs.Runs.{is_plain_char, is_word_char};
+ghost use Rattle.syslog_dialects.specs.declared.untagged.Mark.TheVariants.{Bracket, Level, Repeated};
+ghost use Rattle.syslog_dialects.specs.Named.{◌otherwise◌};
 ghost use Rattle.syslog_dialects.specs.Untagged as spec;
 ghost use Rattle.syslog_dialects.specs.Views.{Names, named_value};
 
@@ -21,7 +22,7 @@ pub(crate) enum Mark {
     Cef,
     /// `LEEF:1.0|`.
     Leef,
-    /// `last message repeated 3 times`.
+    /// `last message repeated 3 times`, `-- MARK --`.
     Repeated,
     /// `1,2026/03/02 06:33:04,`.
     PaloAlto,
@@ -33,6 +34,10 @@ pub(crate) enum Mark {
     Idrac,
     /// `INFO`.
     Level,
+    /// `system,info`.
+    Topics,
+    /// `[`.
+    Bracket,
 }
 
 fn digits(text: &str) -> Option<&str>
@@ -127,12 +132,58 @@ fn leef(text: &str) -> Option<&str>
         .and_then(bar)
 }
 
-fn repeated(text: &str) -> Option<&str>
+fn last_repeated(text: &str) -> Option<&str>
     ensures { Recognises (Row spec.repeated_row) (chars text.now) result }
 {
     repeated_words(past_last(text))
         .and_then(digits)
         .and_then(times)
+}
+
+fn last_words(text: &str) -> Option<&str>
+    ensures { Recognises (exactly (codes "--- last message repeated ")) (chars text.now) result }
+{
+    past(text, "--- last message repeated ")
+}
+
+fn above_words(text: &str) -> Option<&str>
+    ensures { Recognises (exactly (codes "above message repeats ")) (chars text.now) result }
+{
+    past(text, "above message repeats ")
+}
+
+fn repeats_words(text: &str) -> Option<&str>
+    ensures { Recognises spec.repeats (chars text.now) result }
+{
+    if let Some(rest) = last_words(text) {
+        return Some(rest);
+    }
+    above_words(text)
+}
+
+fn repeats(text: &str) -> Option<&str>
+    ensures { Recognises (Row spec.repeats_row) (chars text.now) result }
+{
+    repeats_words(text).and_then(digits).and_then(times)
+}
+
+fn here(text: &str) -> Option<&str>
+    ensures { Recognises spec.here (chars text.now) result }
+{
+    past(text, "-- MARK --")
+}
+
+// What a daemon says of itself.
+fn repeated(text: &str) -> Option<&str>
+    ensures { Recognises (spec.mark_class Repeated) (chars text.now) result }
+{
+    if let Some(rest) = last_repeated(text) {
+        return Some(rest);
+    }
+    if let Some(rest) = repeats(text) {
+        return Some(rest);
+    }
+    here(text)
 }
 
 fn four_digits(text: &str) -> Option<&str>
@@ -225,6 +276,87 @@ fn level(text: &str) -> Option<&str>
     is_level(word).then_some(rest)
 }
 
+/// Returns the text after letters, digits, `!` and `-`.
+pub(crate) fn topic_word(text: &str) -> Option<&str>
+    ensures { Recognises (some_run is_plain_char) (chars text.now) result }
+{
+    let (run, rest) = split(text, Run::Plain);
+    if run.is_empty() { None } else { Some(rest) }
+}
+
+fn topic(text: &str) -> Option<&str>
+    ensures { Recognises (Row spec.topic_row) (chars text.now) result }
+{
+    topic_word(text).and_then(comma)
+}
+
+fn is_main_topic(word: &str) -> bool
+    ensures { result ≡ spec.is_main_topic (chars word.now) }
+{
+    is_word(word, "critical")
+        || (is_word(word, "error")
+            || (is_word(word, "warning")
+                || (is_word(word, "info") || (is_word(word, "debug") || is_word(word, "packet")))))
+}
+
+fn main_topic(text: &str) -> Option<&str>
+    ensures { Recognises spec.main_topic (chars text.now) result }
+{
+    let (word, rest) = split(text, Run::Plain);
+    is_main_topic(word).then_some(rest)
+}
+
+fn later_topic(text: &str) -> Option<&str>
+    ensures { Recognises (Row spec.later_topic_row) (chars text.now) result }
+{
+    topic(text).and_then(main_topic)
+}
+
+// The text after such a topic, or after a topic and such a one.
+fn either_topic(text: &str) -> Option<&str>
+    ensures { Recognises (spec.main_topic otherwise Row spec.later_topic_row) (chars text.now) result }
+{
+    if let Some(rest) = main_topic(text) {
+        return Some(rest);
+    }
+    later_topic(text)
+}
+
+fn topics(text: &str) -> Option<&str>
+    ensures { Recognises (Row spec.topics_row) (chars text.now) result }
+{
+    topic(text).and_then(either_topic)
+}
+
+fn bracket(text: &str) -> Option<&str>
+    ensures { Recognises (exactly (91 ∷ [])) (chars text.now) result }
+{
+    literal(text, '[')
+}
+
+fn closing(text: &str) -> Option<&str>
+    ensures { Recognises (exactly (codes "]:")) (chars text.now) result }
+{
+    past(text, "]:")
+}
+
+// The text after a number in brackets and a colon.
+fn number(text: &str) -> Option<&str>
+    ensures { Recognises (Row spec.number_row) (chars text.now) result }
+{
+    bracket(text).and_then(digits).and_then(closing)
+}
+
+// The text after a bracket that begins no such number.
+fn open_bracket(text: &str) -> Option<&str>
+    ensures { Recognises (spec.mark_class Bracket) (chars text.now) result }
+{
+    if let Some(_) = number(text) {
+        return None;
+    }
+    bracket(text)
+}
+
 /// Returns the text after the mark, where it begins the text.
 pub(crate) fn mark_end(text: &str, mark: Mark) -> Option<&str>
     ensures { Recognises (spec.mark_class mark) (chars text.now) result }
@@ -238,6 +370,8 @@ pub(crate) fn mark_end(text: &str, mark: Mark) -> Option<&str>
         Mark::Json => json(text),
         Mark::Idrac => idrac(text),
         Mark::Level => level(text),
+        Mark::Topics => topics(text),
+        Mark::Bracket => open_bracket(text),
     }
 }
 

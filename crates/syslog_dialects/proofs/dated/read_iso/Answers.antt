@@ -11,4 +11,4 @@ returns-in_err-date c = rw c.from_residual.ensures (no_row_division iso_row (no_
 
 pub returns : goal.returns
 returns c = says_once NearlyRfc3339 iso_row (λ v. dated_sent v.1.0 v.1.1.0) iso_line_det
-    (row_of iso_row (c.blanks.ensures then c.in_ok-date.ensures then c.read_tail.ensures then refl)) c.says.ensures
+    (row_of iso_row (c.blanks.ensures then c.in_ok-date.ensures then c.read_wide_tail.ensures then refl)) c.says.ensures

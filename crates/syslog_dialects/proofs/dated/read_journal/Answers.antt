@@ -21,4 +21,4 @@ returns-in_err-date c = rw c.from_residual-in_err-date.ensures (no_row_division 
 pub returns : goal.returns
 returns c = says_once Journal journal_row (λ v. dated_sent v.1.1.1.0 v.1.1.1.1.0) journal_line_det
     (row_of journal_row (c.blanks.ensures then c.in_ok-after_day.ensures.1 then c.in_ok-after_gap.ensures
-    then c.in_ok-date.ensures then c.read_tail.ensures then refl)) c.says.ensures
+    then c.in_ok-date.ensures then c.read_wide_tail.ensures then refl)) c.says.ensures

@@ -12,4 +12,4 @@ returns-in_err-date c = rw c.from_residual.ensures (no_row_division netscaler_ro
 
 pub returns : goal.returns
 returns c = says_once NetScaler netscaler_row (λ v. dated_sent v.1.0 v.1.1.0) netscaler_row_det
-    (row_of netscaler_row (c.blanks.ensures then c.in_ok-date.ensures then c.read_tail.ensures then refl)) c.says.ensures
+    (row_of netscaler_row (c.blanks.ensures then c.in_ok-date.ensures then c.read_wide_tail.ensures then refl)) c.says.ensures

@@ -1,6 +1,7 @@
-use Rattle.syslog_pieces.proofs.PieceLemmas.Class.{match_map}
 use Rattle.syslog_dialects.proofs.pairs.moment.Goals as goal
 
 pub returns-in-Some : goal.returns-in-Some
-returns-in-Some c = rw (c.in-Some.is, c.in_ok-time.was)
-    (match_map c.apart.result (λ n d t (a, b). n d t a b) (λ x h. h) c.apart.ensures)
+returns-in-Some c = rw c.in-Some.is c.timed.ensures
+
+pub returns-in-None : goal.returns-in-None
+returns-in-None c = rw c.in-None.is c.stamped.ensures

@@ -13,4 +13,5 @@ pub returns-in_err-second : goal.returns-in_err-second
 returns-in_err-second c = rw c.from_residual-in_err-second.ensures (no_row clock_row clock_det (c.in_ok-hour.ensures past c.in_ok-minute.ensures past inl c.in_err-second.ensures))
 
 pub returns : goal.returns
-returns c = row_of clock_row (c.in_ok-hour.ensures then c.in_ok-minute.ensures then c.in_ok-second.ensures then refl)
+returns c = row_of clock_row (c.in_ok-hour.ensures then c.in_ok-minute.ensures then c.in_ok-second.ensures
+    then c.optional_fraction-nanosecond.ensures then refl)

@@ -23,3 +23,9 @@ returns-in-Idrac c = rw c.in-Idrac.is c.idrac.ensures
 
 pub returns-in-Level : goal.returns-in-Level
 returns-in-Level c = rw c.in-Level.is c.level.ensures
+
+pub returns-in-Topics : goal.returns-in-Topics
+returns-in-Topics c = rw c.in-Topics.is c.topics.ensures
+
+pub returns-in-Bracket : goal.returns-in-Bracket
+returns-in-Bracket c = rw c.in-Bracket.is c.open_bracket.ensures

@@ -1,20 +1,16 @@
-use Rattle.std.proofs.Common.{[], ◌∷◌}
-use Rattle.std.specs.Prelude.{codes}
-use Rattle.syslog_pieces.specs.Pieces.Class.{Class, exactly, optional}
-use Rattle.syslog_pieces.proofs.PieceLemmas.Class.{◌also◌, exactly_det, match_map, optional_det, row_cons, row_none_later}
-use Rattle.syslog_pieces.proofs.PieceLemmas.Rules.{row_reads}
-use Rattle.syslog_dialects.{proofs.UntaggedLemmas.repeated_det, specs.Untagged.repeated_tail}
+use Rattle.std.proofs.Common.{inl, inr}
+use Rattle.syslog_pieces.proofs.PieceLemmas.Class.{match_map}
+use Rattle.syslog_dialects.proofs.NamedLemmas.{first_front, no_otherwise, second_front}
 use Rattle.syslog_dialects.proofs.untagged.repeated.Goals as goal
 
-abbrev last : Class
-last = optional (exactly (codes "last "))
+pub returns-in-Some : goal.returns-in-Some
+returns-in-Some c = let (v, f) = c.in-Some.ensures in (inl v, first_front f)
+
+pub returns-in-Some-repeats : goal.returns-in-Some-repeats
+returns-in-Some-repeats c = let (v, f) = c.in-Some-repeats.ensures in
+    (inr (inl v), second_front c.in_default.ensures (first_front f))
 
 pub returns : goal.returns
-returns c =
-    let (v, f) = c.past_last.ensures in
-    match_map c.and_then-2.result
-    (λ n. row_none_later last repeated_tail (optional_det (exactly (codes "last ")) (exactly_det _)) f n)
-    (λ x (vs, g). ((v, vs), row_cons last repeated_tail f g))
-    (row_reads repeated_tail repeated_det c.past_last.result
-    (c.repeated_words.result ∷ c.and_then.result ∷ c.and_then-2.result ∷ [])
-    (c.repeated_words.ensures also c.and_then.ensures also c.and_then-2.ensures also tt))
+returns c = match_map c.here.result (λ n. no_otherwise c.in_default.ensures (no_otherwise c.in_default-repeats.ensures n))
+    (λ x (v, f). (inr (inr v), second_front c.in_default.ensures (second_front c.in_default-repeats.ensures f)))
+    c.here.ensures

@@ -1,0 +1,74 @@
+//! Lines of Cisco's systems as a collector files them: `Mar  2 06:33:04 10.1.1.1 45: Mar  2 06:33:03: %SEC-6-IPACCESSLOGP: text`.
+//!
+//! **Rule.** The date of the message is the device's own, and the host what the device calls itself, or else what the
+//! collector calls it (rsyslog and syslog-ng write their date and the sender before the message as it came).
+ghost use Rattle.std.specs.Prelude.{◌≡◌, [], MatchOption, chars};
+ghost use Rattle.syslog_pieces.specs.Pieces.Class.{Front, NoFront, Row};
+ghost use Rattle.syslog_pieces.specs.Pieces.View.{shown};
+ghost use Rattle.syslog_dialects.specs.DateViews.{cisco_values};
+ghost use Rattle.syslog_dialects.specs.Dialects.{Finds};
+ghost use Rattle.syslog_dialects.specs.Sent.{sent_value};
+ghost use Rattle.syslog_dialects.specs.Filed as spec;
+
+use crate::cisco::{Cisco, dated_in, gap, origin, shown_line};
+use crate::date::any_date;
+use crate::dialect::Dialect;
+use crate::sent::{Sent, SentDate};
+use syslog_pieces::text::blanks;
+
+// What a collector writes before the line, and the line.
+#[derive(Clone, Copy)]
+struct Filed<'a> {
+    date: SentDate,
+    device: &'a str,
+    line: &'a str,
+}
+
+fn past_front(text: &str) -> Option<Filed<'_>>
+    ensures { MatchOption result (NoFront (Row spec.filed_front) (chars text.now)) (λ x. Front (Row spec.filed_front)
+        (chars text.now) (shown x.line) (tt, (x.date, (tt, (shown x.device, (tt, tt)))))) }
+{
+    let (date, after_date) = any_date(blanks(text))?;
+    let before_device = gap(after_date)?;
+    let (device, after_device) = origin(before_device)?;
+    let line = gap(after_device)?;
+    Some(Filed { date, device, line })
+}
+
+// What the line of a device says.
+fn sent<'a>(line: &Cisco<'a>, device: &'a str) -> Sent<'a>
+    ensures { sent_value result ≡ spec.filed_sent (shown device.entry) (cisco_values line.now) }
+{
+    let host = match line.first_host {
+        Some(host) => Some(host),
+        None => line.second_host,
+    };
+    Sent {
+        version: None,
+        date: Some(dated_in(line.year, line.date)),
+        hostname: match host {
+            Some(host) => Some(host),
+            None => Some(device),
+        },
+        appname: Some(line.tag),
+        process: None,
+        msgid: None,
+        msg: line.msg,
+    }
+}
+
+/// Returns the system of a filed line, and what the line says.
+pub(crate) fn read_filed(text: &str) -> Option<(Dialect, Sent<'_>)>
+    ensures { Finds spec.filed_forms (chars text.now) result }
+{
+    let front = past_front(text)?;
+    let line = shown_line(front.line)?;
+    let sent = sent(&line, front.device);
+    if line.is_asa() {
+        return Some((Dialect::CiscoAsa, sent));
+    }
+    if line.is_nx_os() {
+        return Some((Dialect::CiscoNxOs, sent));
+    }
+    Some((Dialect::CiscoIos, sent))
+}

@@ -1,0 +1,36 @@
+//! Lines of OpenWrt's `logread`: `Mon Mar  2 06:33:04 2026 daemon.info dnsmasq[1234]: text`.
+//!
+//! **Rule.** They have no host. The facility and the severity before the program are passed over (ubox, `log/logread.c`).
+ghost use Rattle.std.specs.Prelude.{chars};
+ghost use Rattle.syslog_dialects.specs.Sent.{Sends};
+ghost use Rattle.syslog_dialects.specs.OpenWrt as spec;
+
+use crate::cisco::gap;
+use crate::date::any_date;
+use crate::dated::weekday;
+use crate::named::read_program;
+use crate::programs::selector;
+use crate::sent::Sent;
+use syslog_pieces::text::blanks;
+
+/// Returns what a line of `logread` says.
+pub(crate) fn read_logread(text: &str) -> Option<Sent<'_>>
+    ensures { Sends spec.logread_form (chars text.now) result }
+{
+    let after_day = weekday(blanks(text))?;
+    let before_date = gap(after_day)?;
+    let (date, after_date) = any_date(before_date)?;
+    let before_selector = gap(after_date)?;
+    let after_selector = selector(before_selector)?;
+    let before_program = gap(after_selector)?;
+    let (program, after_program) = read_program(before_program)?;
+    Some(Sent {
+        version: None,
+        date: Some(date),
+        hostname: None,
+        appname: Some(program.name),
+        process: program.process,
+        msgid: None,
+        msg: blanks(after_program),
+    })
+}
