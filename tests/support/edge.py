@@ -89,6 +89,18 @@ def refused(count, lines):
     return b"refused %d of %d lines\n" % (count, lines)
 
 
+def no_messages(program, count, lines, invalid=0, replaced=0):
+    """What a program says of its lines: how many are no messages, how many of these are not UTF-8, and how many others have
+    U+FFFD for what is not."""
+    said = b""
+    if count:
+        reason = b" (%d not UTF-8)" % invalid if invalid else b""
+        said += b"%s: %d of %d lines are no messages%s\n" % (program, count, lines, reason)
+    if replaced:
+        said += b"%s: %d of %d lines have U+FFFD for what is not UTF-8\n" % (program, replaced, lines)
+    return said
+
+
 def not_text(line):
     """The line with a byte that is in no UTF-8, at each of its places."""
     return [line[:at] + b"\xff" + line[at:] for at in range(len(line) + 1)]

@@ -1,5 +1,6 @@
 -- A line that is put together without memory.
-use Rattle.syslog_command_line.proofs.Names.{ℕ, true, List, ◌++◌, append-nil, append_assoc, subst, Option, Result, inline_text}
+use Rattle.syslog_command_line.proofs.Names.{ℕ, true, List, ◌++◌, append-nil, append_assoc, subst, Option, Result}
+use Rattle.syslog_command_line.proofs.Names.{inline_text}
 use Rattle.syslog_command_line.proofs.Names.{◌≡◌, [], ◌∷◌, ◌≤◌, length, rules, arith, ap, sym, ◌∙◌, Ok, Err}
 use Rattle.std.proofs.Common.{◌+◌}
 use Rattle.std.{proofs.Common.OnOk, specs.List.FoldsTo, specs.List.concat, specs.declared.fmt.InlineText.InlineText}
@@ -27,6 +28,13 @@ module _ {n : ℕ} where
       let all = (after_calls line wrote.parts after wrote.calls intact).1 in
       rw empty at (all ∙ ap (λ l. inline_text line ++ l) wrote.whole)
   put_together (Err fault) line text after well wrote intact empty = cc
+
+  -- what was written whole was appended
+  pub appended : {T E : Type 0} (r : Result T E) (line : InlineText n) (text : List ℕ) (after : InlineText n)
+      → OnOk r (WritesInCalls AppendsIfIntact line text after) → OnOk r (AppendsIfIntact line text after)
+  appended (Ok done) line text after wrote =
+      subst (λ (l : List ℕ). AppendsIfIntact line l after) wrote.whole (after_calls line wrote.parts after wrote.calls)
+  appended (Err fault) line text after wrote = tt
 
 -- a front of a text is one of the same text
 pub WritesFront-same : (before after : Option (List ℕ)) (text whole : List ℕ) → text ≡ whole

@@ -3,3 +3,4 @@ pub mod Words
 pub mod Options
 pub mod Tasks
 pub mod Report
+pub mod Counts

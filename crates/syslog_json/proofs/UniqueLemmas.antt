@@ -1,6 +1,6 @@
 -- A line has one value.
 use Rattle.syslog_json.proofs.Names.{List, Option, Some, refl, subst, chars, Json, line_value, message_json}
-use Rattle.syslog_json.proofs.Names.{◌≡◌, [], ℕ, ap, sym, ◌∙◌, Text}
+use Rattle.syslog_json.proofs.Names.{◌≡◌, [], ℕ, ap, inl, inr, sym, ◌∙◌, Text}
 use Rattle.std.proofs.Common.{◌++◌, ◌∷◌, ℤ, Bool, true, false, not, None}
 use Rattle.jiff.{specs.Types.TimeZone, specs.Words.plain_zone}
 use Rattle.syslog_loose.{specs.Message.MessageValue, specs.declared.line.Line.Line}
@@ -19,9 +19,15 @@ use Rattle.syslog_loose.specs.declared.variant.Variant.TheVariants.{Either}
 use Rattle.syslog_pieces.specs.StructuredData.Visited.{list_elements}
 use Rattle.syslog_lines.specs.Output.{answer_bytes, is_answered}
 use Rattle.syslog_object.{specs.Writer.HasWritten, specs.declared.writer.ObjectWriter.ObjectWriter}
+use Rattle.std.proofs.Common.{◌-◌, arith, append_assoc, codes, length, take}
+use Rattle.std.proofs.lemmas.List.{length-append, take-append-le}
+use Rattle.std.specs.Prelude.{IsUtf8}
+use Rattle.syslog_utf8.specs.Decoded.{decoded}
+use Rattle.syslog_lines.specs.Output.{Answer, Written, Marked, Omitted}
 use Rattle.syslog_json.proofs.MarkLemmas.{marked_read}
-use Rattle.syslog_json.specs.Marked.{HasMember, marked_text}
-use Rattle.syslog_json.specs.Objects.{IsLineRead, IsObject, IsOnly, IsReadJson, IsRefusedJson, answer_of, raw_text}
+use Rattle.syslog_json.specs.Marked.{HasMember, marked_line, marked_text}
+use Rattle.syslog_json.specs.Objects.{IsLineObject, IsLineRead, IsObject, IsOnly, IsReadJson, IsRefusedJson}
+use Rattle.syslog_json.specs.Objects.{answer_of, raw_text}
 use Rattle.syslog_json.specs.declared.filter.Objects.{Objects}
 use Rattle.syslog_loose.proofs.ReadingLemmas as reading
 
@@ -131,7 +137,45 @@ object_marked filter true true line bytes (value, only, read) =
 object_marked filter true false line bytes (value, only, read) =
     (value, only, marked_read value bytes (refused_has_member filter line value only.0) read)
 
-pub marked_unless : (is_latin1 : Bool) (object old : List ℕ) → (is_latin1 ≡ false → object ≡ marked_text old)
-    → (is_latin1 ≡ true → object ≡ old) → object ≡ marked_text_if (not is_latin1) old
+abbrev pub marked_line_if : Bool → List ℕ → List ℕ
+marked_line_if false bytes = bytes
+marked_line_if true bytes = marked_line bytes
+
+line_of_marked : (bytes : List ℕ) → marked_text bytes ++ 10 ∷ [] ≡ marked_line (bytes ++ 10 ∷ [])
+line_of_marked bytes =
+    let size : length (bytes ++ 10 ∷ []) - 2 ≡ length bytes - 1 = omega (arith, length-append bytes (10 ∷ [])) in
+    let front : take (length (bytes ++ 10 ∷ []) - 2) (bytes ++ 10 ∷ []) ≡ take (length bytes - 1) bytes =
+    rw size (take-append-le (length bytes - 1) bytes (10 ∷ []) (omega arith)) in
+    append_assoc (take (length bytes - 1) bytes) (codes ",\"invalid_utf8\":true}") (10 ∷ [])
+    ∙ ap (λ (l : List ℕ). l ++ codes ",\"invalid_utf8\":true}\n") (sym front)
+
+same_line : (is_marked : Bool) (bytes : List ℕ)
+    → marked_text_if is_marked bytes ++ 10 ∷ [] ≡ marked_line_if is_marked (bytes ++ 10 ∷ [])
+same_line false bytes = refl
+same_line true bytes = line_of_marked bytes
+
+-- what a line gives that is not UTF-8, by what the text gives that it is taken for
+pub invalid_answer : (filter : Objects) (line taken : List ℕ) (answer : Answer) → ¬ (IsUtf8 line)
+    → taken ≡ decoded filter.latin1 line → IsUtf8 taken → IsLineObject filter taken answer
+    → (other : Answer) × IsLineObject filter line other
+    × (answer_bytes other ≡ marked_line_if (not filter.latin1) (answer_bytes answer))
+    × (is_answered other ≡ is_answered answer)
+invalid_answer filter line taken (Written bytes) invalid is utf8 (inl (valid, object)) = (
+  Written (marked_text_if (not filter.latin1) bytes),
+  inr (invalid, object_marked filter (not filter.latin1) true (decoded filter.latin1 line) bytes (rw is at object)),
+  same_line (not filter.latin1) bytes,
+  refl,
+)
+invalid_answer filter line taken (Marked bytes) invalid is utf8 (inl (valid, object)) = (
+  Marked (marked_text_if (not filter.latin1) bytes),
+  inr (invalid, object_marked filter (not filter.latin1) false (decoded filter.latin1 line) bytes (rw is at object)),
+  same_line (not filter.latin1) bytes,
+  refl,
+)
+invalid_answer filter line taken Omitted invalid is utf8 (inl (valid, object)) = absurd object
+invalid_answer filter line taken answer invalid is utf8 (inr (other, object)) = absurd (other utf8)
+
+pub marked_unless : (is_latin1 : Bool) (object old : List ℕ) → (is_latin1 ≡ false → object ≡ marked_line old)
+    → (is_latin1 ≡ true → object ≡ old) → object ≡ marked_line_if (not is_latin1) old
 marked_unless true object old replaced whole = whole refl
 marked_unless false object old replaced whole = replaced refl

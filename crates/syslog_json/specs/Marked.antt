@@ -26,6 +26,10 @@ marked_if true value = marked value
 abbrev pub marked_text : List ℕ → List ℕ
 marked_text bytes = take (length bytes - 1) bytes ++ codes ",\"invalid_utf8\":true}"
 
+-- the line of an object that is marked, by the line of the object
+abbrev pub marked_line : List ℕ → List ℕ
+marked_line bytes = take (length bytes - 2) bytes ++ codes ",\"invalid_utf8\":true}\n"
+
 -- the value is an object with members
 abbrev pub HasMember : Json → Type 0
 HasMember value = (key : List ℕ) × (first : Json) × (members : Members) × (value ≡ object (member key first members))

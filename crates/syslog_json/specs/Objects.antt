@@ -1,6 +1,6 @@
 -- What is written for each line: this project's own choice.
 use Rattle.std.specs.Prelude.{◌≡◌, ◌⊎◌, ⊤, ℕ, Bool, true, false, not, List, Option, Some, None, MatchOption}
-use Rattle.std.specs.Prelude.{IsUtf8, count_by, length}
+use Rattle.std.specs.Prelude.{IsUtf8}
 use Rattle.std.specs.Str.{chars}
 use Rattle.syslog_pieces.specs.Pieces.Class.{Text}
 use Rattle.syslog_pieces.specs.StructuredData.Visited.{list_elements}
@@ -16,10 +16,9 @@ use Rattle.syslog_dialects.specs.declared.visit.SentLine.{SentLine}
 use Rattle.json.specs.Json.{Json}
 use Rattle.serde_json.specs.Data.{Data}
 use Rattle.serde_json.specs.Read.{of_json, read}
-use Rattle.syslog_lines.specs.Count.{held_count}
-use Rattle.syslog_lines.specs.Output.{Answer, Filter, Written, Marked, Omitted, is_skipped}
+use Rattle.syslog_lines.specs.Output.{Answer, AreCounts, Filter, Written, Marked, Omitted}
 use Rattle.syslog_lines.specs.Pump.{FiltersAll}
-use Rattle.syslog_lines.specs.declared.summary.Summary.{Summary}
+use Rattle.syslog_lines.specs.declared.summary.LineCounts.{LineCounts}
 use Rattle.syslog_object.specs.Object.{beside_line, message_json, refused_json}
 use Rattle.syslog_object.specs.Written.{IsTextOf}
 use Rattle.syslog_object.specs.Writer.{HasWritten}
@@ -75,13 +74,12 @@ IsLineObject filter line answer = (IsUtf8 line × IsObject filter false line ans
 abbrev pub objects : Objects → Filter
 objects filter = record { Answers = IsLineObject filter; Wants = λ line. ⊤ }
 
--- all was read, the text of each line's value was written, and the summary counts the lines and those that are no
--- message
+-- all was read, the text of each line's value was written, and the lines were counted
 abbrev pub WritesObjects : Objects → Option (List ℕ) → Option (List ℕ) → Option (List ℕ) → Option (List ℕ)
-    → Summary → Type 0
-WritesObjects filter in_before in_after out_before out_after summary = (answers : List Answer)
+    → LineCounts → Type 0
+WritesObjects filter in_before in_after out_before out_after counts = (answers : List Answer)
     × (all : FiltersAll (objects filter) in_before in_after out_before out_after answers)
-    × (summary.lines ≡ held_count (length all.lines)) × (summary.refused ≡ held_count (count_by is_skipped answers))
+    × AreCounts filter.latin1 all.lines answers counts
 
 -- the line as which the text is read was returned, the writer was given its elements, and the line leaves what the text
 -- does; or the text is no message

@@ -6,7 +6,7 @@ ghost use Rattle.syslog_lines.specs.Pump.{EndsEarly, FailedAs};
 ghost use Rattle.syslog_object.specs.Object.{refused_json};
 ghost use Rattle.syslog_object.specs.Writer.{HasWritten};
 ghost use Rattle.syslog_object.specs.Written.{IsTextOf};
-ghost use Rattle.syslog_json.specs.Marked.{marked_text};
+ghost use Rattle.syslog_json.specs.Marked.{marked_line};
 ghost use Rattle.syslog_json.specs.Objects.{IsLineRead, IsObject, WritesObjects, answer_of, objects};
 
 use std::alloc::{AllocError, Global};
@@ -14,7 +14,7 @@ use std::io::{Read, Write};
 use std::mem;
 use syslog_dialects::{SentLine, sent_line, unread_line};
 use syslog_lines::pump::pump;
-use syslog_lines::{LineFilter, RunFault, Summary, Watched, push_line};
+use syslog_lines::{LineCounts, LineFilter, RunFault, Watched};
 use syslog_loose::{Dates, IncompleteDate, Itself, Variant, visit_line};
 use syslog_object::{ObjectWriter, refused_object};
 use syslog_utf8::decode;
@@ -33,22 +33,19 @@ pub fn write_objects<R: Read, W: Write>(
     reader: &mut Watched<R>,
     writer: &mut Watched<W>,
     filter: Objects,
-) -> Result<Summary, RunFault>
+) -> Result<LineCounts, RunFault>
     requires reader { reader.old.failed ≡ false }
     requires writer { writer.old.failed ≡ false }
-    ensures ok { IfOk result (λ summary. WritesObjects filter (R.remaining reader.old.inner)
+    ensures ok { IfOk result (λ counts. WritesObjects filter (R.remaining reader.old.inner)
         (R.remaining reader.new.inner)
-        (W.contents writer.old.inner) (W.contents writer.new.inner) summary) }
+        (W.contents writer.old.inner) (W.contents writer.new.inner) counts) }
     ensures err { IfErr result (λ fault. EndsEarly (objects filter) (R.remaining reader.old.inner)
         (R.remaining reader.new.inner)
         (W.contents writer.old.inner) (W.contents writer.new.inner) fault) }
     ensures failed { FailedAs result reader.new.failed writer.new.failed }
 {
     let tally = pump(alloc, &filter, reader, writer)?;
-    Ok(Summary {
-        lines: tally.lines(),
-        refused: tally.skipped,
-    })
+    Ok(tally.counts(filter.latin1))
 }
 
 /// Writes the JSON of each line.
@@ -155,22 +152,24 @@ impl LineFilter for Objects {
         output: &mut Vec<u8>,
     ) -> Result<bool, AllocError> {
         let text = decode(alloc, line, self.latin1)?;
+        let mut spare = String::new(alloc);
         let mut object = Vec::new(alloc);
-        let (_, is_message) = self.write_line(alloc, text.as_str(), Vec::new(alloc), &mut object)?;
+        // (by a second call of `write_line` each line of UTF-8 would take a tenth more instructions)
+        let is_message = self.filter_line(alloc, text.as_str(), &mut spare, &mut object)?;
         if !self.latin1 {
             mark(&mut object)?;
         }
-        push_line(output, object.as_slice())?;
+        output.extend_from_slice(object.as_slice())?;
         Ok(is_message)
     }
 }
 
-// Adds `"invalid_utf8":true` at the end of an object that has a member.
+// Adds `"invalid_utf8":true` at the end of the line of an object that has a member.
 fn mark(object: &mut Vec<u8>) -> Result<(), AllocError>
-    ensures { OnOk result (object.new.items ≡ marked_text object.old.items) }
+    ensures { OnOk result (object.new.items ≡ marked_line object.old.items) }
 {
-    object.truncate(object.len().saturating_sub(1));
-    object.extend_from_slice(b",\"invalid_utf8\":true}")
+    object.truncate(object.len().saturating_sub(2));
+    object.extend_from_slice(b",\"invalid_utf8\":true}\n")
 }
 
 // Gives the memory of a text back.

@@ -13,7 +13,7 @@ mod report;
 use filter::{Objects, write_objects};
 use report::{HELP, USAGE};
 use std::process::ExitCode;
-use syslog_command_line::report::{report, say, say_version};
+use syslog_command_line::report::{report_lines, say, say_version};
 use syslog_command_line::{Options, Task, Wrong, program_words, read_task, refuse_words};
 use syslog_lines::Watched;
 use syslog_loose::VERSION;
@@ -23,7 +23,7 @@ fn filter_input(rt: &HostRuntime, filter: Objects) -> u8 {
     let mut reader = Watched::new(rt.stdin());
     let mut writer = Watched::new(rt.stdout());
     let outcome = write_objects(rt.alloc(), &mut reader, &mut writer, filter);
-    report(&outcome, &mut rt.stderr())
+    report_lines("syslog_json", &outcome, &mut rt.stderr())
 }
 
 // The filter that was asked for.

@@ -29,10 +29,11 @@ Options, in any order, each at most once:
   -h, --help       this text
   --version        the name and the version of this program
 
-How many lines were no message is written to standard error at the end.
+How many lines are no messages, and how many have U+FFFD, is written to standard
+error at the end.
 
 Status:
-  0  each line is a message
-  1  some lines are no message
+  0  each line is a message, and none has U+FFFD for what is not UTF-8
+  1  some lines are no messages, or have U+FFFD
   2  wrong arguments; or a read or a write failed, or memory ran out
 ";

@@ -8,7 +8,9 @@ use Rattle.std.proofs.Common.{OnErr, IfErr, IsErr, IsErrAnd}
 use Rattle.std.{proofs.lemmas.Bool.Decides.nat_tests, proofs.lemmas.List.Concat.flat_map-append, specs.List.AllZip}
 use Rattle.std.{proofs.KnownBytes.Appends-nil, proofs.Math.Seq.take-append-add}
 use Rattle.syslog_lines.specs.Output.{AddsAnswer, answer_bytes}
-use Rattle.syslog_lines.{proofs.CountLemmas.Counts-append, proofs.CountLemmas.Counts-one, specs.Write.WroteBefore}
+use Rattle.syslog_lines.proofs.CountLemmas.{Counts-append, Counts-invalid, Counts-none, Counts-valid}
+use Rattle.syslog_lines.specs.Write.{WroteBefore}
+use Rattle.std.specs.Prelude.{IsUtf8}
 use Rattle.syslog_lines.proofs.LineLemmas.{IsLines-cons, IsLines-nil, some_lines}
 
 -- ---- some lines, and then those that follow
@@ -64,9 +66,10 @@ pub Answered-after : {filter : Filter} {old mid new : Option (List ℕ)} {lines 
     {was then is : Tally} → Answered filter lines old mid was then → Answered filter more mid new then is
     → Answered filter (lines ++ more) old new was is
 unfolding Wrote-after
-Answered-after {was = was} {then = then} {is = is} first next = record {
+Answered-after {filter = filter} {lines = lines} {more = more} {was = was} {then = then} {is = is} first next = record {
   wrote = Wrote-after first.wrote next.wrote;
-  counted = Counts-append was then is first.wrote.answers next.wrote.answers first.counted next.counted;
+  counted = Counts-append filter.Answers was then is lines more first.wrote.answers next.wrote.answers
+      first.wrote.answered first.counted next.counted;
 }
 
 -- no line, and nothing written
@@ -74,20 +77,32 @@ pub Answered-none : (filter : Filter) (old new : Option (List ℕ)) (tally : Tal
     → Answered filter [] old new tally tally
 unfolding Wrote-none
 Answered-none filter old new tally same =
-    record { wrote = Wrote-none filter old new same; counted = λ n m before. (omega arith, omega arith) }
+    record { wrote = Wrote-none filter old new same; counted = Counts-none tally }
 
 -- ---- the lines of some bytes
 
 -- what the filter gives for a line was added, and the line counted
-pub Answered-one : (filter : Filter) (line old new : List ℕ) (was is : Tally) (answered : Bool)
-    → AddsAnswer filter line old new answered
-    → is.answered ≡ held_count (was.answered + cond answered 1 0)
-    → is.skipped ≡ held_count (was.skipped + cond answered 0 1)
-    → Answered filter (line ∷ []) (Some old) (Some new) was is
-Answered-one filter line old new was is answered (answer, given, added, same) more less = record {
-  wrote = record { answers = answer ∷ []; answered = (given, tt); written = rw append-nil added };
-  counted = Counts-one was is answer answered same more less;
-}
+module _ (filter : Filter) (line old new : List ℕ) (was is : Tally) (answered : Bool)
+    (adds : AddsAnswer filter line old new answered)
+    (more : is.answered ≡ held_count (was.answered + cond answered 1 0))
+    (less : is.skipped ≡ held_count (was.skipped + cond answered 0 1)) where
+  abbrev Wrote-one : Wrote filter (line ∷ []) (Some old) (Some new)
+  Wrote-one = record { answers = adds.0 ∷ []; answered = (adds.1, tt); written = rw append-nil adds.2 }
+
+  pub Answered-valid : IsUtf8 line → is.answered_invalid ≡ was.answered_invalid
+      → is.skipped_invalid ≡ was.skipped_invalid → Answered filter (line ∷ []) (Some old) (Some new) was is
+  Answered-valid valid kept left = record {
+    wrote = Wrote-one;
+    counted = Counts-valid was is line adds.0 answered adds.3 more less valid kept left;
+  }
+
+  pub Answered-invalid : ¬ (IsUtf8 line) → is.answered_invalid ≡ held_count (was.answered_invalid + cond answered 1 0)
+      → is.skipped_invalid ≡ held_count (was.skipped_invalid + cond answered 0 1)
+      → Answered filter (line ∷ []) (Some old) (Some new) was is
+  Answered-invalid invalid first second = record {
+    wrote = Wrote-one;
+    counted = Counts-invalid was is line adds.0 answered adds.3 more less invalid first second;
+  }
 
 -- nothing was added for a first line
 pub AnswersBefore-here : (filter : Filter) (bytes line rest : List ℕ) (old new : Option (List ℕ)) → 0 < length bytes

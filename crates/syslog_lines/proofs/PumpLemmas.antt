@@ -1,17 +1,18 @@
 -- How a filter is pumped over its input, block by block.
 use Rattle.syslog_lines.proofs
-use proofs.Names.{append_assoc, append-nil, All-append, RunFault, EndsInFeed, is_answered, is_skipped, WritesFirst}
-use proofs.Names.{Option, subst, All-nil, Memory, IsLines, NoFeed, count_by, Filter, HasCounted, Answered, AnswersAll}
-use proofs.Names.{◌≡◌, ◌≢◌, ℕ, Bool, List, [], ◌++◌, inl, inr, refl, sym, arith, Keeps, Tally, Write}
+use proofs.Names.{append_assoc, append-nil, All-append, RunFault, EndsInFeed, WritesFirst}
+use proofs.Names.{Option, subst, All-nil, Memory, IsLines, NoFeed, Filter, Answered, AnswersAll}
+use proofs.Names.{◌≡◌, ◌≢◌, ℕ, Bool, List, [], ◌++◌, inl, inr, refl, sym, Keeps, Tally, Write}
 use Rattle.std.specs.Io.KnownBytes.{Consumes, IsAtEnd}
 use Rattle.std.proofs.KnownBytes.{Consumes-kept, Consumes-nil, Consumes-trans, Keeps-refl}
 use Rattle.syslog_lines.{specs.Block.StopsReading, specs.declared.summary.RunFault.TheVariants.Read}
-use proofs.{CountLemmas.lines_counted, LineLemmas.closed_lines, LineLemmas.lines_after, LineLemmas.with_feeds-append}
+use proofs.{CountLemmas.counted_from_zero, CountLemmas.lines_counted, LineLemmas.closed_lines, LineLemmas.lines_after}
+use proofs.{LineLemmas.with_feeds-append}
 use Rattle.syslog_lines.specs.Pump.{CanAnswer, EndsEarly, ReadAll, ReadLines, PumpsAll}
 use proofs.AnswerLemmas.{Answered-after, Answered-none, Wrote-none, WroteBefore-after, WroteCut-after}
 
 abbrev none_counted : Tally
-none_counted = record { answered = 0; skipped = 0 }
+none_counted = record { answered = 0; skipped = 0; answered_invalid = 0; skipped_invalid = 0 }
 
 -- the complete lines of what was read so far were answered, and their output written
 pub record PumpedSoFar (filter : Filter) (in_before in_after out_before out_after : Option (List ℕ)) (cut : List ℕ)
@@ -123,9 +124,8 @@ module _ {filter : Filter} {in_before in_mid out_before out_mid : Option (List �
           → PumpsAll filter in_before in_after out_before out_after is
       PumpsAll-last is (part, found, answered) =
           let whole = Answered-after so_far.answered answered in
-          let zero = whole.counted 0 0 (refl, refl) in
-          let counted : HasCounted is (count_by is_answered whole.wrote.answers)
-          (count_by is_skipped whole.wrote.answers) = (omega (arith, zero.0), omega (arith, zero.1)) in (
+          let counted = counted_from_zero none_counted is (so_far.lines ++ part) whole.wrote.answers refl refl refl refl
+          whole.counted in (
             whole.wrote.answers,
             record {
               lines = so_far.lines ++ part;

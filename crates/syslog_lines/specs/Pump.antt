@@ -1,10 +1,10 @@
 -- What a filter reads and writes, and how it ends: this project's own choice.
 use Rattle.std.specs.Prelude.{◌≡◌, ◌+◌, ◌≤◌, ℕ, Bool, true, false, List, [], ◌++◌, ◌⊎◌}
-use Rattle.std.specs.Prelude.{Option, Result, Ok, Err, length, count_by, All}
+use Rattle.std.specs.Prelude.{Option, Result, Ok, Err, length, All}
 use Rattle.std.specs.Io.KnownBytes.{Appends, Consumes, IsAtEnd}
 use Rattle.syslog_lines.specs.Count.{held_count}
 use Rattle.syslog_lines.specs.Lines.{IsLines, NoFeed, with_feeds}
-use Rattle.syslog_lines.specs.Output.{Answer, AreAnswers, Filter, HasCounted, is_answered, is_skipped, output_of}
+use Rattle.syslog_lines.specs.Output.{Answer, AreAnswers, Filter, HasCounted, output_of}
 use Rattle.syslog_lines.specs.Size.{block_size}
 use Rattle.syslog_lines.specs.Write.{Wrote, WroteBefore, WroteCut}
 use Rattle.syslog_lines.specs.declared.summary.Tally.{Tally}
@@ -43,7 +43,7 @@ pub record FiltersAll (filter : Filter) (in_before in_after out_before out_after
 abbrev pub PumpsAll : Filter → Option (List ℕ) → Option (List ℕ) → Option (List ℕ) → Option (List ℕ) → Tally → Type 0
 PumpsAll filter in_before in_after out_before out_after tally = (answers : List Answer)
     × (all : FiltersAll filter in_before in_after out_before out_after answers)
-    × HasCounted tally (count_by is_answered answers) (count_by is_skipped answers)
+    × HasCounted tally all.lines answers
     × (held_count (tally.answered + tally.skipped) ≡ held_count (length all.lines))
 
 -- the output of all complete lines of what was read was written

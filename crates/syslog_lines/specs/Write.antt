@@ -37,7 +37,7 @@ pub record WroteCut (filter : Filter) (lines : List (List ℕ)) (out_before out_
 pub record Answered (filter : Filter) (lines : List (List ℕ)) (out_before out_after : Option (List ℕ)) (was is : Tally)
     : Type 0 where
   pub wrote : Wrote filter lines out_before out_after
-  pub counted : Counts was is wrote.answers
+  pub counted : Counts was is lines wrote.answers
 
 -- that of all lines of the bytes
 abbrev pub AnswersAll : Filter → List ℕ → Option (List ℕ) → Option (List ℕ) → Tally → Tally → Type 0

@@ -1,7 +1,6 @@
 //! Applies a filter to each of some lines.
-ghost use Rattle.std.specs.Prelude.{◌≡◌, IfOk, OnErr};
-ghost use Rattle.syslog_lines.specs.Output.{AddsAnswer};
-ghost use Rattle.syslog_lines.specs.Write.{AddsAnswers};
+ghost use Rattle.std.specs.Prelude.{◌≡◌, ◌∷◌, [], Some, OnErr, OnOk};
+ghost use Rattle.syslog_lines.specs.Write.{AddsAnswers, Answered};
 
 use crate::filter::LineFilter;
 use crate::lines::{first_line, first_text_line};
@@ -51,28 +50,35 @@ fn filter_byte_lines<F: LineFilter>(
     let mut rest = lines;
     while !rest.is_empty() {
         let (line, after) = first_line(rest);
-        let is_answered = filter_any_line(alloc, filter, line, text, output)?;
-        tally.count(is_answered);
+        filter_any_line(alloc, filter, line, text, output, tally)?;
         rest = after;
     }
     Ok(())
 }
 
-// Adds what a line gives, and returns whether it counts as answered, as the filter does.
+// Adds what a line gives, and counts it.
 fn filter_any_line<F: LineFilter>(
     alloc: Global,
     filter: &F,
     line: &[u8],
     text: &mut String,
     output: &mut Vec<u8>,
-) -> Result<bool, AllocError>
-    ensures ok { IfOk result (λ is_answered. AddsAnswer
-        (F.answers filter.now) line.now output.old.items output.new.items is_answered) }
+    tally: &mut Tally,
+) -> Result<(), AllocError>
+    ensures ok { OnOk result (Answered (F.answers filter.now) (line.now ∷ []) (Some output.old.items)
+        (Some output.new.items) tally.old tally.new) }
     ensures err { OnErr result (output.new.items ≡ output.old.items) }
     ensures refusal { OnErr result ((F.answers filter.now).Wants line.now) }
 {
     match from_utf8(line) {
-        Ok(valid) => filter.filter_line(alloc, valid, text, output),
-        Err(_) => filter.filter_bytes(alloc, line, output),
+        Ok(valid) => {
+            let is_answered = filter.filter_line(alloc, valid, text, output)?;
+            tally.count(is_answered);
+        }
+        Err(_) => {
+            let is_answered = filter.filter_bytes(alloc, line, output)?;
+            tally.count_invalid(is_answered);
+        }
     }
+    Ok(())
 }

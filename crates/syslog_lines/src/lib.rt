@@ -18,5 +18,5 @@ mod watched;
 
 pub use filter::{LineFilter, push_line};
 pub use lines::first_line;
-pub use summary::{RunFault, Summary, Tally};
+pub use summary::{LineCounts, RunFault, Summary, Tally};
 pub use watched::Watched;

@@ -35,6 +35,8 @@ pub fn pump<F: LineFilter, R: Read, W: Write>(
     let mut tally = Tally {
         answered: 0,
         skipped: 0,
+        answered_invalid: 0,
+        skipped_invalid: 0,
     };
     let mut text = String::new(alloc);
     let mut output = Vec::new(alloc);

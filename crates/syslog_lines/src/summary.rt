@@ -11,6 +11,19 @@ pub struct Summary {
     pub refused: u64,
 }
 
+/// What became of the lines of a run. A count that is at its last value stays so.
+#[derive(Clone, Copy, Debug, PartialEq, Eq)]
+pub struct LineCounts {
+    /// The number of lines.
+    pub lines: u64,
+    /// The number of lines that are no message.
+    pub refused: u64,
+    /// How many of these are not UTF-8.
+    pub refused_invalid: u64,
+    /// How many messages have U+FFFD for what is not UTF-8.
+    pub replaced: u64,
+}
+
 /// How many lines a filter answered, and how many it skipped. A count that is at its last value stays so.
 #[derive(Clone, Copy)]
 pub struct Tally {
@@ -18,21 +31,58 @@ pub struct Tally {
     pub answered: u64,
     /// The number of lines for which the filter returned `false`.
     pub skipped: u64,
+    /// How many of the lines that were answered are not UTF-8.
+    pub answered_invalid: u64,
+    /// How many of those that were skipped are not UTF-8.
+    pub skipped_invalid: u64,
 }
 
 impl Tally {
     ghost use Rattle.std.specs.Prelude.{◌≡◌, ◌+◌, ◌-◌, if◌then◌else◌};
     ghost use Rattle.syslog_lines.specs.Count.{held_count};
 
-    /// Counts a line.
+    /// Counts a line that is UTF-8.
     #[inline]
     pub fn count(&mut self, is_answered: bool)
         ensures answered { self.new.answered ≡ held_count (self.old.answered + (if is_answered then 1 else 0)) }
         ensures skipped { self.new.skipped
             ≡ held_count (self.old.skipped + (if is_answered then 0 else 1)) }
+        ensures answered_invalid { self.new.answered_invalid ≡ self.old.answered_invalid }
+        ensures skipped_invalid { self.new.skipped_invalid ≡ self.old.skipped_invalid }
     {
         self.answered = self.answered.saturating_add(u64::from(is_answered));
         self.skipped = self.skipped.saturating_add(u64::from(!is_answered));
+    }
+
+    /// Counts a line that is not UTF-8.
+    pub fn count_invalid(&mut self, is_answered: bool)
+        ensures answered { self.new.answered ≡ held_count (self.old.answered + (if is_answered then 1 else 0)) }
+        ensures skipped { self.new.skipped
+            ≡ held_count (self.old.skipped + (if is_answered then 0 else 1)) }
+        ensures answered_invalid { self.new.answered_invalid
+            ≡ held_count (self.old.answered_invalid + (if is_answered then 1 else 0)) }
+        ensures skipped_invalid { self.new.skipped_invalid
+            ≡ held_count (self.old.skipped_invalid + (if is_answered then 0 else 1)) }
+    {
+        self.count(is_answered);
+        self.answered_invalid = self.answered_invalid.saturating_add(u64::from(is_answered));
+        self.skipped_invalid = self.skipped_invalid.saturating_add(u64::from(!is_answered));
+    }
+
+    /// Returns the counts of lines that are messages if they were answered. If those that are not UTF-8 were read as
+    /// ISO 8859-1, nothing was replaced.
+    pub fn counts(&self, is_latin1: bool) -> LineCounts
+        ensures lines { result.lines ≡ held_count (self.now.answered + self.now.skipped) }
+        ensures refused { result.refused ≡ self.now.skipped }
+        ensures refused_invalid { result.refused_invalid ≡ self.now.skipped_invalid }
+        ensures replaced { result.replaced ≡ (if is_latin1 then 0 else self.now.answered_invalid) }
+    {
+        LineCounts {
+            lines: self.lines(),
+            refused: self.skipped,
+            refused_invalid: self.skipped_invalid,
+            replaced: if is_latin1 { 0 } else { self.answered_invalid },
+        }
     }
 
     /// Returns how many lines were counted.

@@ -8,4 +8,4 @@ returns-in_err-tally-clause-err g c = IfErr-passed _ _ _ c.from_residual.ensures
 pub returns-clause-ok : goal.returns-clause-ok
 returns-clause-ok g c =
     let (answers, all, counted, lines) = c.in_ok-tally.ensures.ok in
-    (answers, all, c.lines.ensures ∙ lines, counted.1)
+    (answers, all, c.lines.ensures ∙ lines, counted.skipped)

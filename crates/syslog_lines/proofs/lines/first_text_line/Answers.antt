@@ -11,11 +11,11 @@ range_from-requires c =
       lead_after_ascii c.args.text.now c.in-Some.end c.utf8.text (omega (arith, eqb-true _ 10 feed)),
     )
 
-pub returns-in-Some : goal.returns-in-Some
-returns-in-Some c =
+pub returns-in-Some-clause-first : goal.returns-in-Some-clause-first
+returns-in-Some-clause-first c =
     let (first, feed) = rw c.as_bytes.ensures.value at c.in-Some.ensures in
     rw (c.range.ensures.value ∙ between_is c.args.text.now 0 c.in-Some.end, c.range_from.ensures.value)
     (IsFirstLine-at_feed c.args.text.now c.in-Some.end first feed)
 
-pub returns-in-None : goal.returns-in-None
-returns-in-None c = IsFirstLine-whole c.args.text.now (rw c.as_bytes.ensures.value at c.in-None.ensures)
+pub returns-in-None-clause-first : goal.returns-in-None-clause-first
+returns-in-None-clause-first c = IsFirstLine-whole c.args.text.now (rw c.as_bytes.ensures.value at c.in-None.ensures)

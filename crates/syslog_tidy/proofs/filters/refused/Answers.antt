@@ -9,4 +9,4 @@ returns-in_err-tally-clause-err g c =
 pub returns-clause-ok : goal.returns-clause-ok
 returns-clause-ok g c =
     let (answers, all, counted, lines) = rw (to_z-of_z _ _ c.ranges.year) at c.in_ok-tally.ensures.ok in
-    (answers, all, shared_out c.args.year all.lines _ all.answered, c.lines.ensures ∙ lines, counted.0)
+    (answers, all, shared_out c.args.year all.lines _ all.answered, c.lines.ensures ∙ lines, counted.answered)

@@ -9,9 +9,9 @@ returns-in_err-tally-clause-err g c =
 pub returns-clause-ok : goal.returns-clause-ok
 returns-clause-ok g c =
     let (answers, all, counted, lines) = rw (to_z-of_z _ _ c.ranges.year) at c.in_ok-tally.ensures.ok in
-    (answers, all, c.lines.ensures ∙ lines, counted.1)
+    (answers, all, c.lines.ensures ∙ lines, counted.skipped)
 
 pub returns-clause-again : goal.returns-clause-again
 returns-clause-again g c =
     let (answers, all, counted, lines) = rw (to_z-of_z _ _ c.ranges.year) at c.in_ok-tally.ensures.ok in
-    TidiesAll-again _ _ _ _ _ _ (answers, all, c.lines.ensures ∙ lines, counted.1)
+    TidiesAll-again _ _ _ _ _ _ (answers, all, c.lines.ensures ∙ lines, counted.skipped)
