@@ -2,13 +2,14 @@
 use Rattle.syslog_object.proofs
 use Rattle.syslog_object.specs
 use proofs.Names.{encode_utf8_all, structured_json, facility_fields, protocol_fields, severity_fields, append_assoc}
-use proofs.Names.{length-append, ElementValue, MessageValue, element_pair, timestamp_json, Option}
+use proofs.Names.{ElementValue, MessageValue, element_pair, timestamp_json, Option}
 use proofs.Names.{procid_text, message_json, version_json, element_json, back_fields, compact_text, AreDistinct, List}
 use proofs.Names.{option_map, map-append, param_pair, field_text, front_text, text_field, object_text}
 use proofs.Names.{length, bytes_eq, Result, OnTrue, Protocol, quoted, gathered, text_json, rest_text, IsNewKey}
 use proofs.Names.{◌++◌, Some, None, codes, refl, Bool, true, false, cond, take, drop, arith, OnOk, string, Field, ◌≡◌}
-use proofs.Names.{ℕ, [], ◌∷◌, sym, ap, ◌∙◌, map, ◌-◌, ◌+◌, ◌<◌, Ok, Err, Bor, Text, Json}
-use Rattle.std.proofs.Common.{◌≢◌, slice_set}
+use proofs.Names.{ℕ, [], ◌∷◌, sym, ap, ◌∙◌, map, ◌+◌, ◌<◌, Ok, Err, Bor, Text, Json}
+use Rattle.std.proofs.Common.{◌≢◌, if◌then◌else◌, slice_set}
+use Rattle.std.specs.Result.{is_ok}
 use Rattle.std.{proofs.Math.Seq.drop-append_seam, proofs.lemmas.List.take_more_set, specs.Result.is_err}
 use Rattle.std.proofs.{lemmas.List.length-map, Math.Seq.take-append_seam}
 use Rattle.syslog_pieces.specs.declared.procid.ProcId.{ProcId}
@@ -189,50 +190,43 @@ elements_closed (e ∷ es) some distinct =
     open_closed (map element_pair (e ∷ es)) (λ none. cc)
     ∙ distinct_gathered (λ e. (element_pair e).0) (λ e. (element_pair e).1) (e ∷ es) distinct
 
--- pieces that were written one after the other, the first of them put between the others
-pub ordered : (elements front list now f m b : List ℕ) (start middle : ℕ) → front ≡ elements ++ f → list ≡ front ++ m
-    → now ≡ list ++ b → start ≡ length elements → middle ≡ length list
-    → take (middle - start) (drop start now) ++ (take start now ++ drop middle now) ≡ (f ++ m) ++ (elements ++ b)
-ordered elements front list now f m b start middle first second third starts ends =
-    let two : list ≡ elements ++ (f ++ m) = two_appended elements front list f m (f ++ m) first second refl in
-    let all : now ≡ elements ++ ((f ++ m) ++ b) = two_appended elements list now (f ++ m) b ((f ++ m) ++ b) two third refl in
-    let long : middle - start ≡ length (f ++ m) =
-    omega (arith, starts, ends, ap length two, length-append elements (f ++ m)) in
-    let after : drop start now ≡ (f ++ m) ++ b =
-    ap (λ k. drop k now) starts ∙ ap (drop (length elements)) all ∙ drop-append_seam elements ((f ++ m) ++ b) in
-    let between : take (middle - start) (drop start now) ≡ f ++ m =
-    ap (λ k. take k (drop start now)) long ∙ ap (take (length (f ++ m))) after ∙ take-append_seam (f ++ m) b in
-    let before : take start now ≡ elements =
-    ap (λ k. take k now) starts ∙ ap (take (length elements)) all ∙ take-append_seam elements ((f ++ m) ++ b) in
-    let last : drop middle now ≡ b =
-    ap (λ k. drop k now) ends ∙ ap (drop (length list)) third ∙ drop-append_seam list b in
-    ap (λ xs. xs ++ (take start now ++ drop middle now)) between
-    ∙ ap (λ xs. (f ++ m) ++ (xs ++ drop middle now)) before ∙ ap (λ xs. (f ++ m) ++ (elements ++ xs)) last
+-- bytes were appended, if there was memory
+pub on_extended : {T E : Type 0} (r : Result T E) (now old more all : List ℕ)
+    → now ≡ (if is_ok r then old ++ more else old) → more ≡ all → OnOk r (now ≡ old ++ all)
+on_extended (Ok x) now old more all e same = e ∙ ap (λ xs. old ++ xs) same
+on_extended (Err x) now old more all e same = tt
 
--- the key of the elements, up to their object
-abbrev pub elements_key : List ℕ
-elements_key = 44 ∷ (quoted (codes "structured_data") ++ 58 ∷ [])
-
--- so the object of the elements, where it was written, comes to its place
-pub object_of_parts : (w : ObjectWriter) (has : Bool) (m : MessageValue) (b : Beside) (elements : List ℕ)
+-- the fields and the elements, where their object was written before and is copied, or is written now
+pub object_of_parts : (w : ObjectWriter) (has : Bool) (m : MessageValue) (b : Beside)
+    (elements front list now : List ℕ)
     → OnTrue has ((es : List ElementValue) → HasWritten w es → (es ≢ []) × AreWritten w es)
     → HasWritten w m.structured_data → elements ≡ cond has (w.text ++ 125 ∷ []) []
-    → (front_text m b.dialect ++ cond has elements_key (field_text (codes "structured_data") (structured_json m.structured_data)))
-    ++ (elements ++ rest_text (back_fields m b.unparsed b.raw)) ≡ compact_text (message_json m b)
-object_of_parts w false m b elements given written is =
-    ap (λ xs. (front_text m b.dialect ++ field_text (codes "structured_data") (structured_json m.structured_data))
-    ++ (xs ++ rest_text (back_fields m b.unparsed b.raw))) is ∙ message_whole m b
-object_of_parts w true m b elements given written is =
-    let es = m.structured_data in
-    let (some, held) = given es written in
-    let closed : elements ≡ compact_text (gathered (map element_pair es)) =
-    is ∙ ap (λ xs. xs ++ 125 ∷ []) held.text ∙ elements_closed es some held.distinct in
+    → front ≡ elements ++ front_text m b.dialect
+    → list ≡ front ++ cond has (44 ∷ (quoted (codes "structured_data") ++ 58 ∷ take (length elements) front))
+    (field_text (codes "structured_data") (structured_json m.structured_data))
+    → now ≡ list ++ rest_text (back_fields m b.unparsed b.raw)
+    → drop (length elements) now ≡ compact_text (message_json m b)
+object_of_parts w has m b elements front list now given written is first second third =
     let f = front_text m b.dialect in
     let back = rest_text (back_fields m b.unparsed b.raw) in
-    let field : elements_key ++ elements ≡ field_text (codes "structured_data") (structured_json es) =
-    ap (λ xs. elements_key ++ xs) closed
-    ∙ ap (λ xs. 44 ∷ xs) (append_assoc (quoted (codes "structured_data")) (58 ∷ []) (compact_text (gathered (map element_pair es))))
-    ∙ sym (list_field es some) in
-    append_assoc f elements_key (elements ++ back) ∙ ap (λ xs. f ++ xs) (sym (append_assoc elements_key elements back))
-    ∙ ap (λ xs. f ++ (xs ++ back)) field
-    ∙ sym (append_assoc f (field_text (codes "structured_data") (structured_json es)) back) ∙ message_whole m b
+    let all : now ≡ elements ++ ((f ++ listed) ++ back) =
+    rw (third, second, middle has given is, first)
+    (ap (λ xs. xs ++ back) (append_assoc elements f listed) ∙ append_assoc elements (f ++ listed) back) in
+    ap (drop (length elements)) all ∙ drop-append_seam elements ((f ++ listed) ++ back) ∙ message_whole m b
+  where
+    listed : List ℕ
+    listed = field_text (codes "structured_data") (structured_json m.structured_data)
+
+    middle : (h : Bool) → OnTrue h ((es : List ElementValue) → HasWritten w es → (es ≢ []) × AreWritten w es)
+        → elements ≡ cond h (w.text ++ 125 ∷ []) []
+        → cond h (44 ∷ (quoted (codes "structured_data") ++ 58 ∷ take (length elements) front))
+        (field_text (codes "structured_data") (structured_json m.structured_data))
+        ≡ field_text (codes "structured_data") (structured_json m.structured_data)
+    middle false g e = refl
+    middle true g e =
+        let es = m.structured_data in
+        let (some, held) = g es written in
+        let copied : take (length elements) front ≡ compact_text (gathered (map element_pair es)) =
+        ap (take (length elements)) first ∙ take-append_seam elements (front_text m b.dialect) ∙ e
+        ∙ ap (λ xs. xs ++ 125 ∷ []) held.text ∙ elements_closed es some held.distinct in
+        rw copied (sym (list_field es some))

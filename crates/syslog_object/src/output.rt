@@ -95,6 +95,20 @@ impl Output {
         Ok(())
     }
 
+    /// Appends the first so many bytes again.
+    #[inline(always)]
+    pub(crate) fn push_again(&mut self, count: usize) -> Result<(), AllocError>
+        requires { count ≤ length self.old }
+        ensures { OnOk result (self.new ≡ self.old ++ take count self.old) }
+    {
+        let at = self.at;
+        reserve(&mut self.bytes, at, count)?;
+        let (before, room) = self.bytes.as_mut_slice().split_at_mut(at);
+        room[..count].copy_from_slice(&before[..count]);
+        self.at = at + count;
+        Ok(())
+    }
+
     /// Appends the text with JSON's escapes, between two pieces.
     #[inline(always)]
     pub(crate) fn push_text<const N: usize, const M: usize>(

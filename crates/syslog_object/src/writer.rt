@@ -1,6 +1,6 @@
 //! The writer of a line's object that is given the elements while the line is read.
-ghost use Rattle.std.specs.Prelude.{◌≡◌, ◌≢◌, ◌≤◌, ◌-◌, ◌++◌, ◌∷◌, [], List, ℕ, IfOk, OnErr, OnOk};
-ghost use Rattle.std.specs.Prelude.{codes, cond, drop, length, map, take};
+ghost use Rattle.std.specs.Prelude.{◌≡◌, ◌≢◌, ◌≤◌, ◌++◌, ◌∷◌, [], List, ℕ, OnErr, OnOk};
+ghost use Rattle.std.specs.Prelude.{codes, cond, length, map, take};
 ghost use Rattle.std.specs.Bool.{OnTrue};
 ghost use Rattle.json.specs.Print.{quoted};
 ghost use Rattle.syslog_pieces.specs.Pieces.View.{seen, shown};
@@ -36,10 +36,8 @@ pub struct ObjectWriter<'a> {
     // their ids
     ids: [&'a str; 8],
     count: usize,
-    // Whether each id and each name came once, and none were too many. Else `text` doesn't count.
+    // Whether all were written: each id and each name came once, and none were too many. Otherwise `text` doesn't count.
     is_whole: bool,
-    // Whether memory was refused for an element.
-    is_refused: bool,
 }
 
 impl<'a> ObjectWriter<'a> {
@@ -54,17 +52,19 @@ impl<'a> ObjectWriter<'a> {
             ids: [""; IDS],
             count: 0,
             is_whole: true,
-            is_refused: false,
         }
     }
 
-    // Writes an element, whose parameters these are. Returns whether that could be done.
+    // Writes an element by its notes, if these have all parameters. Returns whether that could be done.
     #[inline(always)]
-    fn add(&mut self, element: &Element<'a>, params: &[(&'a str, &'a str)]) -> bool
-        requires { map (param_value (λ s. shown s)) params.now ≡ (element_seen element.now).params }
+    fn add(&mut self, element: &Element<'a>, notes: &FewParams<'a>) -> bool
+        requires { HasNoted notes.now (element_seen element.now).params }
         ensures { OnTrue result ((es : List ElementValue) → AreWritten self.old es
             → AreWritten self.new (es ++ (element_seen element.now ∷ []))) }
     {
+        let Some(params) = notes.all_of(element) else {
+            return false;
+        };
         let id = element.id();
         if self.count >= self.ids.len()
             || !is_new_id(id, &self.ids[..self.count])
@@ -74,7 +74,6 @@ impl<'a> ObjectWriter<'a> {
         }
         let count = self.count;
         if push_element(self.alloc, &mut self.text, count, id, params).is_err() {
-            self.is_refused = true;
             return false;
         }
         self.ids[self.count] = id;
@@ -82,21 +81,8 @@ impl<'a> ObjectWriter<'a> {
         true
     }
 
-    // Writes an element by its notes, where these have all parameters. Returns whether that could be done.
-    #[inline(always)]
-    fn add_noted(&mut self, element: &Element<'a>, notes: &FewParams<'a>) -> bool
-        requires { HasNoted notes.now (element_seen element.now).params }
-        ensures { OnTrue result ((es : List ElementValue) → AreWritten self.old es
-            → AreWritten self.new (es ++ (element_seen element.now ∷ []))) }
-    {
-        match notes.all_of(element) {
-            Some(params) => self.add(element, params),
-            None => false,
-        }
-    }
-
-    /// Appends the object of the line whose elements it was given, as `line_object` gives it, or nothing where memory is
-    /// refused, or was for an element. It is for one line.
+    /// Appends the object of the line whose elements it was given, as `line_object` gives it, or nothing if an allocation
+    /// fails. It is for one line.
     ///
     /// Memory is asked for more of its own and of `output`. It is also asked for as by `line_object`, where an id or a
     /// name comes again, or there are more than eight elements or an element has more than sixteen parameters.
@@ -114,17 +100,15 @@ impl<'a> ObjectWriter<'a> {
         ensures err { OnErr result (output.new.items ≡ output.old.items) }
     {
         let has_elements = self.is_whole && self.count > 0;
-        let is_refused = self.is_refused;
         let alloc = self.alloc;
         let unparsed = line.list.unparsed();
         let text = &mut self.text;
-        close_elements(text, has_elements, is_refused)?;
+        close_elements(text, has_elements)?;
         let start = text.len();
         push_front(text, line, dialect)?;
-        push_key_or_list(alloc, text, &line.list, has_elements)?;
-        let middle = text.len();
+        push_again_or_list(alloc, text, &line.list, has_elements, start)?;
         push_back(text, line, unparsed, raw)?;
-        push_ordered(output, text.as_slice(), start, middle)
+        output.extend_from_slice(&text.as_slice()[start..])
     }
 
     /// Returns the vector that it was given or grew, for another writer. What that holds doesn't count.
@@ -163,98 +147,39 @@ fn push_element(
     push_each(alloc, out, params)
 }
 
-// Closes the object of the elements where it was written. Otherwise clears the text, or says that memory was refused.
-// (Asked at the front of `write` this costs 100 instructions a line.)
+// Closes the object of the elements if it was written, and clears the text otherwise.
 #[inline(always)]
-fn close_elements(text: &mut Output, has_elements: bool, is_refused: bool) -> Result<(), AllocError>
+fn close_elements(text: &mut Output, has_elements: bool) -> Result<(), AllocError>
     ensures { OnOk result (text.new ≡ cond has_elements (text.old ++ 125 ∷ []) []) }
 {
     if has_elements {
         text.push(b"}")?;
-    } else if is_refused {
-        return Err(AllocError);
     } else {
         text.clear();
     }
     Ok(())
 }
 
-// Appends the key of the elements where their object was written, and otherwise the key and the object, if any.
+// Appends the key of the elements, and their object: the first bytes again if it was written.
 #[inline(always)]
-fn push_key_or_list(
+fn push_again_or_list(
     alloc: Global,
     text: &mut Output,
     list: &ElementList<'_>,
     has_elements: bool,
+    end: usize,
 ) -> Result<(), AllocError>
-    ensures { OnOk result (text.new ≡ text.old
-        ++ cond has_elements (44 ∷ (quoted (codes "structured_data") ++ 58 ∷ []))
+    requires { end ≤ length text.old }
+    ensures { OnOk result (text.new ≡ text.old ++ cond has_elements
+        (44 ∷ (quoted (codes "structured_data") ++ 58 ∷ take end text.old))
         (field_text (codes "structured_data") (structured_json (list_elements list.now)))) }
 {
     if has_elements {
-        text.push(b",\"structured_data\":")
+        text.push(b",\"structured_data\":")?;
+        text.push_again(end)
     } else {
         push_list(alloc, text, list)
     }
-}
-
-// Appends the text between the two places, then all before them, then all after, or nothing where memory is refused.
-#[inline(always)]
-fn push_ordered(
-    output: &mut Vec<u8>,
-    text: &[u8],
-    start: usize,
-    middle: usize,
-) -> Result<(), AllocError>
-    requires { (start ≤ middle) × (middle ≤ length text.now) }
-    ensures ok { OnOk result (output.new.items ≡ output.old.items
-        ++ (take (middle - start) (drop start text.now) ++ (take start text.now ++ drop middle text.now))) }
-    ensures err { OnErr result (output.new.items ≡ output.old.items) }
-{
-    if start == 0 {
-        return output.extend_from_slice(text);
-    }
-    push_pieces(
-        output,
-        &text[start..middle],
-        &text[..start],
-        &text[middle..],
-    )
-}
-
-// Appends three pieces, or nothing where memory is refused.
-#[inline(always)]
-fn push_pieces(
-    output: &mut Vec<u8>,
-    first: &[u8],
-    second: &[u8],
-    third: &[u8],
-) -> Result<(), AllocError>
-    ensures ok { OnOk result (output.new.items ≡ output.old.items ++ (first.now ++ (second.now ++ third.now))) }
-    ensures err { OnErr result (output.new.items ≡ output.old.items) }
-{
-    let before = output.len();
-    output.extend_from_slice(first)?;
-    if push_pair(output, second, third).is_err() {
-        output.truncate(before);
-        return Err(AllocError);
-    }
-    Ok(())
-}
-
-// Appends two pieces, or nothing where memory is refused.
-#[inline(always)]
-fn push_pair(output: &mut Vec<u8>, first: &[u8], second: &[u8]) -> Result<(), AllocError>
-    ensures ok { OnOk result (output.new.items ≡ output.old.items ++ (first.now ++ second.now)) }
-    ensures err { OnErr result (output.new.items ≡ output.old.items) }
-{
-    let before = output.len();
-    output.extend_from_slice(first)?;
-    if output.extend_from_slice(second).is_err() {
-        output.truncate(before);
-        return Err(AllocError);
-    }
-    Ok(())
 }
 
 impl<'a> ElementVisitor<'a> for ObjectWriter<'a> {
@@ -264,9 +189,8 @@ impl<'a> ElementVisitor<'a> for ObjectWriter<'a> {
 
     #[inline(always)]
     fn element(&mut self, element: Element<'a>, notes: &FewParams<'a>) {
-        if !self.is_whole {
-            return;
+        if self.is_whole {
+            self.is_whole = self.add(&element, notes);
         }
-        self.is_whole = self.add_noted(&element, notes);
     }
 }

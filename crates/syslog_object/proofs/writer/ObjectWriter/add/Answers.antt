@@ -10,7 +10,7 @@ returns c es h =
     let e = element_seen c.args.element.now in
     let same = sym (encodes-chars c.id-id.result.now c.id-id.utf8) ∙ ap encode_utf8_all c.id-id.ensures in
     record {
-      text = text_added es e _ _ _ old.count _ h.text h.count same c.requires c.if-not-are_distinct.ensures
+      text = text_added es e _ _ _ old.count _ h.text h.count same c.in-Some.ensures c.if-not-are_distinct.ensures
           (not_err c.push_element.result (sym c.if-is_err.ensures.value) c.push_element.ensures);
       sized = length-set old.ids old.count c.id-id.result ∙ h.sized;
       count = ap (λ n. n + 1) h.count ∙ sym (length-append es (e ∷ []));
