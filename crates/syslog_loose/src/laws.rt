@@ -21,7 +21,7 @@ pub fn one_rfc5424_division()
         → Division rfc5424_row text ws → vs ≡ ws }
 {}
 
-/// So a text is read as at most one message of RFC 5424.
+/// A text is read as at most one message of RFC 5424.
 pub fn one_rfc5424_message()
     ensures { (text : Text) (m n : MessageValue) → IsRead5424 text m → IsRead5424 text n → m ≡ n }
 {}
@@ -48,7 +48,7 @@ pub fn one_rfc3164_division()
         → Division (rfc3164_row rule dating) text vs → Division (rfc3164_row rule dating) text ws → vs ≡ ws }
 {}
 
-/// So a text is read as at most one message of RFC 3164.
+/// A text is read as at most one message of RFC 3164.
 pub fn one_rfc3164_message()
     ensures { (rule : DashRule) (dating : Dating) (text : Text) (m n : MessageValue)
         → IsRead3164 rule dating text m → IsRead3164 rule dating text n → m ≡ n }

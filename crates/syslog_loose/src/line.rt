@@ -25,9 +25,9 @@ pub struct Line<'a> {
     pub priority: Option<u8>,
     /// What a clock showed when the line was written.
     pub timestamp: Option<ClockStamp>,
-    /// The host.
+    /// The host, absent where the text names none.
     pub hostname: Option<&'a str>,
-    /// The app name.
+    /// The app name, absent where the text names none.
     pub appname: Option<&'a str>,
     /// The text that names the process.
     pub process: Option<&'a str>,
@@ -37,7 +37,7 @@ pub struct Line<'a> {
     pub list: ElementList<'a>,
     /// The message part.
     pub msg: &'a str,
-    /// All after the timestamp.
+    /// The whole text after the timestamp.
     pub rest: &'a str,
     /// Whether all after the timestamp is already in printed form. It may be `false` though it is.
     pub is_printed: bool,

@@ -15,7 +15,7 @@ use crate::timestamp::{ClockStamp, OffsetTimestamp};
 use jiff::tz::Offset;
 use std::{fmt, str};
 
-/// A short text of ASCII.
+/// A text of at most 64 ASCII characters, which takes no memory.
 #[derive(Clone, Copy)]
 pub struct Ascii {
     bytes: [u8; 64],
@@ -39,7 +39,7 @@ impl Ascii {
         }
     }
 
-    /// The text.
+    /// Returns the characters as a text.
     pub fn as_str(&self) -> &str
         ensures { result.now ≡ ascii_bytes self.now }
     {
@@ -205,7 +205,7 @@ impl Ascii {
         front
     }
 
-    /// A timestamp as it prints.
+    /// Returns a timestamp as it prints, as `2026-03-02T06:35:05+00:00`.
     #[inline(always)]
     pub fn timestamp(timestamp: ClockStamp) -> Ascii
         ensures { ascii_bytes result ≡ clock_text (Some timestamp) }

@@ -141,7 +141,8 @@ pub fn decompose_pri(pri: u8) -> (Option<SyslogFacility>, Option<SyslogSeverity>
     (facility_at(pri / 8), Some(severity_at(pri % 8)))
 }
 
-/// The two parts of a priority, both absent where there is none.
+/// Returns the facility and the severity of a priority. Both are absent where there is none, and the facility
+/// also where the priority is past 191.
 pub fn parts(priority: Option<u8>) -> (Option<SyslogFacility>, Option<SyslogSeverity>)
     ensures facility { result.0 ≡ option_and_then spec.facility_of priority }
     ensures severity { result.1 ≡ option_and_then spec.severity_of priority }
@@ -152,7 +153,7 @@ pub fn parts(priority: Option<u8>) -> (Option<SyslogFacility>, Option<SyslogSeve
     }
 }
 
-/// The priority at the front, as `<34>`, and the text after it.
+/// Reads a priority at the front of the text, as `<34>`. Returns its number, 0 to 255, and the text after it.
 #[inline(always)]
 pub fn priority(text: &str) -> Option<(u8, &str)>
     ensures { Reads spec.priority (λ n. n) (chars text.now) result }
@@ -163,7 +164,8 @@ pub fn priority(text: &str) -> Option<(u8, &str)>
     Some((value as u8, rest))
 }
 
-/// The priority where one begins the text, and the text after it.
+/// Reads a priority at the front of the text, where there is one. Returns its number and the text after it, which is
+/// the whole text where there is none.
 #[inline(always)]
 pub fn optional_priority(text: &str) -> (Option<u8>, &str)
     ensures { Front (optional spec.priority) (chars text.now) (shown result.1) result.0 }
@@ -174,7 +176,7 @@ pub fn optional_priority(text: &str) -> (Option<u8>, &str)
     }
 }
 
-/// Writes a priority as it prints.
+/// Writes the number of a priority as it prints, as `<34>`.
 pub fn write_priority<W: fmt::Write>(f: &mut fmt::Formatter<W>, number: u32) -> fmt::Result
     ensures { WritesOnOk W.write_str_gives f.old result (priority_text number) f.new }
 {

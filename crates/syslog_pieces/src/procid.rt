@@ -15,12 +15,12 @@ use crate::text::canonical::is_canonical_word;
 use std::alloc::{AllocError, Global};
 use std::fmt;
 
-/// A process id.
+/// What names the process that a message is from.
 #[derive(Debug, Drop)]
 pub enum ProcId<S> {
     /// A number.
     PID(i32),
-    /// Any other text.
+    /// A text that is not the text of a number.
     Name(S),
 }
 
@@ -107,7 +107,7 @@ pub fn is_bare_word(name: &str) -> bool
     !matches!(name.as_bytes(), [b'+' | b'-' | b'0', _, ..])
 }
 
-/// Whether the text is one of a number of 32 bits.
+/// Returns whether the text is that of a signed number of 32 bits, as `5`, `+5` or `-5`.
 pub fn names_number(text: &str) -> bool
     ensures { IsTrue result ↔ (spec.IsNoI32Text (chars text.now) → ⊥) }
 {

@@ -38,9 +38,9 @@ pub use visit::{ElementVisitor, NoElements, NoNotes, ParamNotes};
 /// each parameter, and values raw, with the escapes that they have and no others.
 #[derive(Debug, Drop)]
 pub struct StructuredElement<S> {
-    /// The id.
+    /// The id of the element, which is `SD-ID` in RFC 5424.
     pub id: S,
-    /// The parameters.
+    /// The names and the values of its parameters, in the order of the text.
     pub params: Vec<(S, S)>,
 }
 

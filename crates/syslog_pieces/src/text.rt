@@ -25,7 +25,7 @@ use looks::{begins_visibly, begins_with, begins_with_gap};
 use numerals::{number_of_digits, small_digits};
 use scan::{ascii_run, is_cut, is_in};
 
-/// A class of characters.
+/// A class of characters, whose runs are read.
 #[derive(Clone, Copy)]
 pub enum CharClass {
     /// ASCII digits.
@@ -80,7 +80,7 @@ impl CharClass {
     }
 }
 
-/// The maximal run of the class at the front, perhaps empty, and the text after it.
+/// Splits the text after the maximal run of the class at its front, which may be empty.
 #[tactic(auto, using(crate::proofs::TextLemmas::Runs::split_at_end))]
 #[inline(always)]
 pub fn split_run(text: &str, class: CharClass) -> (&str, &str)
@@ -89,7 +89,7 @@ pub fn split_run(text: &str, class: CharClass) -> (&str, &str)
     text.split_at(run_end(text, class))
 }
 
-/// The place after that run, in bytes.
+/// Returns the place after the maximal run of the class at the front of the text, in bytes.
 #[inline(always)]
 pub fn run_end(text: &str, class: CharClass) -> usize
     ensures { EndsRun (has class) text.now result }

@@ -5,7 +5,7 @@ ghost use Rattle.syslog_loose.specs.Words.{Text, Dating};
 ghost use Rattle.syslog_loose.specs.Clauses.{IsCanonical, ReadsDifferently, HasDashChange, WasCanonical, WasUnreadable};
 ghost use Rattle.syslog_loose.specs.Clauses.{MessageValue, dash_rule, IsUnreadable, Variant};
 
-/// A message that was canonical is so.
+/// A message that is canonical where a dash is a list before anything is canonical by the rule of today too.
 #[tactic(auto, using(crate::proofs::DashChangeLemmas::condition_grows))]
 pub fn what_was_canonical_is_so()
     ensures { (m : MessageValue) → WasCanonical m → IsCanonical dash_rule m }
@@ -18,7 +18,7 @@ pub fn readings_differ_where_a_dash_is_dropped()
         ↔ HasDashChange variant dating text }
 {}
 
-/// A text that was read is read, and one that was not is not.
+/// A text is read where a dash is a list before anything exactly if it is read by the rule of today.
 pub fn what_was_read_is_read()
     ensures { (variant : Variant) (dating : Dating) (text : Text) → WasUnreadable variant dating text
         ↔ IsUnreadable variant dating text }

@@ -68,7 +68,7 @@ pub fn is_canonical_element<S: AsStr>(element: &StructuredElement<S>) -> bool
     begins_unblank_params(&element.params)
 }
 
-/// Whether each of the elements is.
+/// Returns whether each of the elements is read back from its printed text.
 pub fn are_canonical_elements<S: AsStr>(elements: &[StructuredElement<S>]) -> bool
     ensures { IsTrue result ↔ AllByRecursion spec.IsCanonicalElement
         (map (element_value (text_of S.text)) elements.now) }

@@ -19,7 +19,7 @@ impl<'a> Collect<'a> {
     ghost use Rattle.std.specs.Prelude.{List};
     ghost use Rattle.syslog_pieces.specs.Words.{ElementValue, HasCollected};
 
-    /// Nothing is collected yet, and no memory asked for.
+    /// Returns a collector that has no elements. It takes no memory.
     #[inline(always)]
     pub fn new(alloc: Global) -> Collect<'a>
         ensures { HasCollected result [] }
@@ -30,7 +30,7 @@ impl<'a> Collect<'a> {
         }
     }
 
-    /// The elements, or the refusal, which is kept only where there are elements.
+    /// Returns the elements that were collected, or the refusal of memory, which is kept only where there are elements.
     pub fn finish(self) -> Result<Vec<StructuredElement<&'a str>>, AllocError>
         ensures { (es : List ElementValue) → HasCollected self.entry es → MatchResult result
             (λ v. map (element_value (λ s. shown s)) v.items ≡ es) (λ _. es ≢ []) }

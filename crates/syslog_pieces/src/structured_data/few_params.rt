@@ -8,7 +8,7 @@ use super::visit::ParamNotes;
 /// each list, at four instructions a parameter.
 const NOTED: usize = 16;
 
-/// The first parameters of an element.
+/// The first sixteen parameters of an element, noted while the element is recognised.
 #[derive(Drop)]
 pub struct FewParams<'a> {
     params: [(&'a str, &'a str); 16],

@@ -35,14 +35,14 @@ impl<'a> Element<'a> {
         Element { id, inside, count }
     }
 
-    /// The id.
+    /// Returns the id of the element.
     pub fn id(&self) -> &'a str
         ensures { shown result ≡ (element_seen self.now).id }
     {
         self.id
     }
 
-    /// How many parameters it has.
+    /// Returns how many parameters the element has.
     pub fn params_len(&self) -> usize
         ensures { result ≡ length (element_seen self.now).params }
     {
@@ -95,7 +95,7 @@ impl<'a> ElementList<'a> {
         }
     }
 
-    /// No list.
+    /// Returns the list of a text that has none: its text is empty, and it has no elements.
     pub fn none() -> ElementList<'a>
         ensures elements { list_elements result ≡ [] }
         ensures text { list_text result ≡ [] }
@@ -103,7 +103,7 @@ impl<'a> ElementList<'a> {
         ElementList::new("", None, 0, 0)
     }
 
-    /// Its text.
+    /// Returns the text of the list.
     pub fn text(&self) -> &'a str
         ensures { shown result ≡ list_text self.now }
     {
@@ -128,21 +128,21 @@ impl<'a> ElementList<'a> {
         }
     }
 
-    /// How many strict elements it has.
+    /// Returns how many strict elements the list has.
     pub fn len(&self) -> usize
         ensures { result ≡ length (list_elements self.now) }
     {
         self.elements
     }
 
-    /// Whether it has no strict element.
+    /// Returns whether the list has no strict element.
     pub fn is_empty(&self) -> bool
         ensures { MatchBool result (list_elements self.now ≡ []) (list_elements self.now ≢ []) }
     {
         self.len() == 0
     }
 
-    /// How many parameters its strict elements have together.
+    /// Returns how many parameters the strict elements of the list have together.
     pub fn params_len(&self) -> usize
         ensures { result ≡ sum_by (λ e. length e.params) (list_elements self.now) }
     {

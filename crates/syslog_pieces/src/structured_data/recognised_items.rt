@@ -90,7 +90,7 @@ impl<'a> Iterator for Elements<'a> {
 impl<'a> Element<'a> {
     ghost use Rattle.syslog_pieces.specs.Words.{element_seen, params_left};
 
-    /// The names and the raw values of its parameters.
+    /// Returns the names and the raw values of the element's parameters, one after the other.
     #[tactic(auto, using(crate::proofs::StructuredDataLemmas::Walk::inside_same))]
     pub fn params(&self) -> Params<'a>
         ensures { params_left result ≡ (element_seen self.now).params }
@@ -102,7 +102,7 @@ impl<'a> Element<'a> {
 impl<'a> ElementList<'a> {
     ghost use Rattle.syslog_pieces.specs.Words.{elements_left, list_elements};
 
-    /// Its strict elements.
+    /// Returns the strict elements of the list, one after the other.
     pub fn elements(&self) -> Elements<'a>
         ensures { elements_left result ≡ list_elements self.now }
     {

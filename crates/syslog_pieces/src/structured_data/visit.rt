@@ -40,7 +40,7 @@ pub trait ElementVisitor<'a> {
             → was_given first self.new (es ++ (element_seen element.entry ∷ [])) };
 }
 
-/// Notes nothing.
+/// Notes that keep nothing of an element's parameters.
 #[derive(Drop)]
 pub struct NoNotes;
 
@@ -60,7 +60,7 @@ impl<'a> ParamNotes<'a> for NoNotes {
     fn push(&mut self, _: &'a str, _: &'a str) {}
 }
 
-/// Makes nothing of the elements.
+/// A visitor that makes nothing of the elements.
 #[derive(Clone, Copy)]
 pub struct NoElements;
 

@@ -15,7 +15,7 @@ fn digit(byte: u8) -> u32
     u32::from(byte) - 48
 }
 
-/// Two digits, as a number below a limit.
+/// Reads two digits at the front, as a number below the limit. Returns it and the bytes after them.
 #[inline(always)]
 pub fn pair(text: &[u8], limit: u32) -> Option<(u32, &[u8])>
     requires { limit ≤ 100 }
@@ -30,7 +30,7 @@ pub fn pair(text: &[u8], limit: u32) -> Option<(u32, &[u8])>
     }
 }
 
-/// This byte and two digits.
+/// Reads this byte and two digits, as a number below the limit. Returns it and the bytes after them.
 #[tactic(auto, using(crate::proofs::TimestampLemmas::Digits::after_reads, crate::proofs::TimestampLemmas::Digits::first_rest))]
 #[inline(always)]
 pub fn pair_after(text: &[u8], byte: u8, limit: u32) -> Option<(u32, &[u8])>
@@ -43,7 +43,7 @@ pub fn pair_after(text: &[u8], byte: u8, limit: u32) -> Option<(u32, &[u8])>
     }
 }
 
-/// Four digits, as a number.
+/// Reads four digits at the front, as a number. Returns it and the bytes after them.
 #[inline(always)]
 pub fn four_digits(text: &[u8]) -> Option<(u16, &[u8])>
     ensures { ReadsBytes spec.year (λ n. n) text.now result }
@@ -66,7 +66,8 @@ pub fn after_letter(text: &[u8], upper: u8) -> Option<&[u8]>
     }
 }
 
-/// A dot and one or more digits, in nanoseconds, or nothing, which is 0.
+/// Reads a dot and one or more digits at the front, as nanoseconds, or nothing, which is 0. Returns them and the
+/// bytes after them.
 #[inline(always)]
 pub fn fraction(text: &[u8]) -> Option<(u32, &[u8])>
     ensures { ReadsBytes spec.fraction (λ n. n) text.now result }

@@ -8,7 +8,7 @@ ghost use Rattle.syslog_pieces.specs.Timestamp.MonthDate as spec;
 
 use crate::text::{literal, number, past_colon, some_blanks};
 
-/// The numbers of a month date, of which there may be no such date.
+/// The numbers that a month date shows. There may be no such date, as with `Feb 30`.
 #[derive(Clone, Copy, Debug)]
 pub struct MonthDate {
     /// The year, where the date has one.

@@ -26,7 +26,7 @@ pub struct Rfc3339Fields {
     pub offset: i32,
 }
 
-/// The timestamp of what was written.
+/// Returns the timestamp that these numbers write, if its date and its offset exist.
 pub fn stamp(written: Rfc3339Fields) -> Option<ClockStamp>
     ensures { IsAnswer (IsStampOfRfc3339 written) result }
 {
@@ -52,7 +52,7 @@ fn fields_of(written: Rfc3339Fields) -> CivilFields
 // The length of `YYYY-MM-DDTHH:MM:SSZ`: no text is shorter.
 const LEAST: usize = 20;
 
-/// Reads what the front of the text writes. Returns it and the rest.
+/// Reads the numbers of a timestamp of RFC 3339 at the front of the text. Returns them and the text after them.
 #[inline(always)]
 pub fn read(text: &str) -> Option<(Rfc3339Fields, &str)>
     ensures { Reads spec.stamp_text (λ written. written) (chars text.now) result }
