@@ -47,7 +47,8 @@ shorter at n room m text less within =
 
 -- a text of eight to sixteen bytes was, by two stores
 pub stored_twice : (at : ℕ) (room text : List ℕ) → at + length text ≤ length room → 8 ≤ length text → length text ≤ 16
-    → take (at + length text) (put_chunk (at + length text - 8) (put_chunk at room (chunk 0 8 text)) (chunk (length text - 8) 8 text))
+    → take (at + length text)
+    (put_chunk (at + length text - 8) (put_chunk at room (chunk 0 8 text)) (chunk (length text - 8) 8 text))
     ≡ take at room ++ text
 stored_twice at room text fits long short =
     let n = length text - 8 in
@@ -61,7 +62,8 @@ stored_twice at room text fits long short =
     sym (take-take (at + n) (at + 8) held (omega arith))
     ∙ ap (take (at + n)) (take_more_put_chunk at room first (at + 8) (omega (arith, eight)) (omega arith))
     ∙ shorter at n room 8 text (omega arith) (omega arith) in
-    take_more_put_chunk (at + length text - 8) held (chunk n 8 text) (at + length text) (omega (arith, last)) (omega (arith, same))
+    take_more_put_chunk (at + length text - 8) held (chunk n 8 text) (at + length text) (omega (arith, last))
+    (omega (arith, same))
     ∙ ap (λ (k : ℕ). take k held ++ chunk n 8 text) place ∙ ap (λ xs. xs ++ chunk n 8 text) front
     ∙ append_assoc (take at room) (take n text) (chunk n 8 text)
     ∙ ap (λ xs. take at room ++ (take n text ++ xs)) (take_all 8 (drop n text) (omega (arith, length-drop n text)))
@@ -250,7 +252,8 @@ stay_plain : {raw : Bool} {base text : List ℕ} {at first : ℕ} {room : List �
     → InBlock raw base text at first room end passed → passed ≤ stop → stop ≤ 16 → first + 16 ≤ length text
     → ((i : ℕ) → passed ≤ i → i < stop → is_stop (get_or text (first + i) 0) ≡ false)
     → InBlock raw base text at first room end stop
-stay_plain {raw = raw} {base = base} {text = text} {at = at} {first = first} {room = room} {end = end} {passed = passed} stop b after few more plain =
+stay_plain {raw = raw} {base = base} {text = text} {at = at} {first = first} {room = room} {end = end} {passed = passed}
+    stop b after few more plain =
     let n = stop - passed in
     let rest = drop (first + passed) text in
     let run = plain_part text (first + passed) n (λ i less.
@@ -278,7 +281,8 @@ pub byte_written : {raw : Bool} {base text : List ℕ} {at first : ℕ} {room : 
     → place ≡ end + stop - 16 + length w + k → 15 - stop ≤ k → later + 1 ≡ end + length w → length w ≤ 6
     → in_json raw (drop (first + stop) text) ≡ w ++ in_json raw (drop (first + stop + 1) text)
     → InBlock raw base text at first now later (stop + 1)
-byte_written {raw = raw} {text = text} {first = first} {room = room} {end = end} {stop = stop} w now place k later b within written placed enough moved short is =
+byte_written {raw = raw} {text = text} {first = first} {room = room} {end = end} {stop = stop}
+    w now place k later b within written placed enough moved short is =
     let there : first + stop + 1 ≡ first + (stop + 1) = omega arith in
     let rest = drop (first + (stop + 1)) text in
     let left = 16 - (stop + 1) in
@@ -502,7 +506,8 @@ pair_passed {text = text} {first = first} {left = left} {stop = stop} a other =
     let within : stop < 16 = a.within in
     let less = and_le_l next (bit_not w64 (1 * 2 ^ (stop + 1) % 2 ^ 64)) in
     let fewer : next < left = a.falls in
-    let rest : AreStops text first (stop + 1 + 1) last = cleared (stop + 1) a.rest (omega arith) (omega (arith, other)) a.rest.before in
+    let rest : AreStops text first (stop + 1 + 1) last =
+    cleared (stop + 1) a.rest (omega arith) (omega (arith, other)) a.rest.before in
     (subst (λ (n : ℕ). AreStops text first n last) two rest, omega (arith, less, fewer))
 
 pub pair_stays : {raw : Bool} {base text : List ℕ} {at first : ℕ} {room : List ℕ} {end left stop : ℕ}
@@ -516,8 +521,8 @@ pair_stays {raw = raw} {text = text} {first = first} {stop = stop} a other more 
     (kept ∙ ap (λ (k : ℕ). take 2 (drop (first + stop) text) ++ in_json raw (drop k text)) there)
 
 -- a backslash was written, and sixteen bytes from the byte on
-pub backslash_written : {raw : Bool} {base text : List ℕ} {at first : ℕ} {room : List ℕ} {end left stop : ℕ} (now : List ℕ)
-    → AtStop raw base text at first room end left stop → first + 32 ≤ length text
+pub backslash_written : {raw : Bool} {base text : List ℕ} {at first : ℕ} {room : List ℕ} {end left stop : ℕ}
+    (now : List ℕ) → AtStop raw base text at first room end left stop → first + 32 ≤ length text
     → take (end + stop - 16 + 17) now ≡ take (end + stop - 16) room ++ (92 ∷ take 16 (drop (first + stop) text))
     → in_json raw (drop (first + stop) text)
     ≡ 92 ∷ get_or text (first + stop) 0 ∷ in_json raw (drop (first + stop + 1) text)

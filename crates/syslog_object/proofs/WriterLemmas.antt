@@ -16,7 +16,8 @@ use Rattle.syslog_pieces.specs.declared.procid.ProcId.{ProcId}
 use Rattle.json.specs.Print.{escape_byte}
 use specs.{Object.Beside, Object.object_of, Object.protocol_text, Parts.open_text, Places.before_member}
 use specs.{Writer.AreWritten, Writer.HasWritten, Writer.element_keys, declared.writer.ObjectWriter.ObjectWriter}
-use proofs.GatherLemmas.{Param, differs_back, distinct_gathered, open_closed, open_more, pairs_of, param_json, param_key}
+use proofs.GatherLemmas.{Param, differs_back, distinct_gathered, open_closed, open_more, pairs_of, param_json}
+use proofs.GatherLemmas.{param_key}
 use proofs.GatherLemmas.{param_seen, seen_text}
 
 -- ---- the fields of an object, one after the other
@@ -156,7 +157,8 @@ params_text ps e seen distinct =
     ∙ seen_text param_seen param_pair ps ps e.params refl seen
 
 pub text_added : (es : List ElementValue) (e : ElementValue) (old now id : List ℕ) (count : ℕ) (ps : List Param)
-    → old ≡ open_text (map element_pair es) → count ≡ length es → id ≡ encode_utf8_all e.id → map param_seen ps ≡ e.params
+    → old ≡ open_text (map element_pair es) → count ≡ length es → id ≡ encode_utf8_all e.id
+    → map param_seen ps ≡ e.params
     → AreDistinct (map param_key ps)
     → now ≡ old ++ (before_member count ∷ (quoted id ++ 58 ∷ object_text (pairs_of param_key param_json ps)))
     → now ≡ open_text (map element_pair (es ++ e ∷ []))

@@ -1,5 +1,5 @@
-//! Texts with JSON's escapes, by blocks of sixteen bytes: each is copied whole, and what comes after a byte that needs an
-//! escape is copied again at its new place.
+//! Texts with JSON's escapes, by blocks of sixteen bytes: each is copied whole, and what comes after a byte that needs
+//! an escape is copied again at its new place.
 
 ghost use Rattle.std.specs.Prelude.{◌≡◌, ◌+◌, ◌++◌, ◌∷◌, ◌≤◌, ◌<◌, true, length, slice_index, take, drop};
 ghost use Rattle.std.specs.Bool.{OnTrue};
@@ -218,8 +218,8 @@ fn put_backslash(room: &mut [u8], at: usize, text: &[u8], next: usize)
     put_lanes(room, at + 1, text, next);
 }
 
-/// Writes the next sixteen bytes of the text, or seventeen where a pair stands across their end. Returns the places after
-/// what was written, and after what was read.
+/// Writes the next sixteen bytes of the text, or seventeen if a pair goes past their end. Returns the places after what
+/// was written, and after what was read.
 #[inline(always)]
 pub(crate) fn put_block(
     room: &mut [u8],

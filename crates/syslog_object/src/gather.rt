@@ -1,5 +1,6 @@
 //! Objects whose keys may come again: then the value is an array of all their values, at the first place of the key.
-ghost use Rattle.std.specs.Prelude.{◌≡◌, ◌<◌, ◌+◌, ◌==◌, ◌++◌, ◌∷◌, [], List, ℕ, OnOk, IfOk, cond, drop, get_or, length, map};
+ghost use Rattle.std.specs.Prelude.{◌≡◌, ◌<◌, ◌+◌, ◌==◌, ◌++◌, ◌∷◌, [], List, ℕ, OnOk, IfOk, cond, drop, get_or};
+ghost use Rattle.std.specs.Prelude.{length, map};
 ghost use Rattle.std.specs.Bool.{OnTrue};
 ghost use Rattle.json.specs.Json.{Json};
 ghost use Rattle.json.specs.Print.{quoted};
@@ -111,7 +112,8 @@ struct Places<'a> {
 
 // Finds the places from the last member to the first, in n log n steps.
 fn find_places<'a, M: Member<'a>>(alloc: Global, members: &[M]) -> Result<Places<'a>, AllocError>
-    ensures { IfOk result (λ places. ArePlaces (map (λ m. (M.key_of m, M.json m)) members.now) 0 places.first places.next.items) }
+    ensures { IfOk result (λ places. ArePlaces (map (λ m. (M.key_of m, M.json m)) members.now) 0
+        places.first places.next.items) }
 {
     let end = members.len();
     let mut first = BTreeMap::new(alloc);
@@ -136,7 +138,8 @@ fn push_values<'a, M: Member<'a>>(
     requires within { first < length members.now }
     requires next { AreNext (map (λ m. (M.key_of m, M.json m)) members.now) 0 next.now }
     ensures { OnOk result ((p : List ℕ × Json) → p ≡ get_or (map (λ m. (M.key_of m, M.json m)) members.now) first p
-        → out.new ≡ out.old ++ compact_text (one_or_all (values_at p.0 (drop first (map (λ m. (M.key_of m, M.json m)) members.now))))) }
+        → out.new ≡ out.old ++ compact_text (one_or_all (values_at p.0
+        (drop first (map (λ m. (M.key_of m, M.json m)) members.now))))) }
 {
     let mut at = next[first];
     if at >= members.len() {
@@ -161,7 +164,8 @@ fn push_group<'a, M: Member<'a>>(
     at: usize,
 ) -> Result<(), AllocError>
     requires within { at < length members.now }
-    requires places { ArePlaces (map (λ m. (M.key_of m, M.json m)) members.now) 0 places.now.first places.now.next.items }
+    requires places { ArePlaces (map (λ m. (M.key_of m, M.json m)) members.now) 0
+        places.now.first places.now.next.items }
     ensures { OnOk result ((before : List ℕ)
         → out.old ≡ before ++ open_text (begun (map (λ m. (M.key_of m, M.json m)) members.now) at)
         → out.new ≡ before ++ open_text (begun (map (λ m. (M.key_of m, M.json m)) members.now) (at + 1))) }

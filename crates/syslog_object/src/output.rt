@@ -202,8 +202,8 @@ fn write_text(
     put_escaped(bytes, at + plain, &text[plain..], is_raw)
 }
 
-// Writes the text by blocks, the last ones from a copy that has brackets after it, which are taken off again. Returns the
-// place after it.
+// Writes the text by blocks, the last ones from a copy that has brackets after it, which are taken off again. Returns
+// the place after it.
 #[inline(never)]
 fn put_escaped(
     bytes: &mut Vec<u8>,
@@ -212,7 +212,8 @@ fn put_escaped(
     is_raw: bool,
 ) -> Result<usize, AllocError>
     requires { start ≤ vec_len bytes.old }
-    ensures text { IfOk result (λ end. take end bytes.new.items ≡ take start bytes.old.items ++ in_json is_raw text.now) }
+    ensures text { IfOk result (λ end. take end bytes.new.items
+        ≡ take start bytes.old.items ++ in_json is_raw text.now) }
     ensures room { IfOk result (λ end. end + 64 ≤ vec_len bytes.new) }
     ensures longer { vec_len bytes.old ≤ vec_len bytes.new }
 {
@@ -234,7 +235,8 @@ fn put_last(
 ) -> Result<usize, AllocError>
     requires place { start ≤ vec_len bytes.old }
     requires few { length text.now ≤ 32 }
-    ensures text { IfOk result (λ end. take end bytes.new.items ≡ take start bytes.old.items ++ in_json is_raw text.now) }
+    ensures text { IfOk result (λ end. take end bytes.new.items
+        ≡ take start bytes.old.items ++ in_json is_raw text.now) }
     ensures room { IfOk result (λ end. end + 64 ≤ vec_len bytes.new) }
     ensures longer { vec_len bytes.old ≤ vec_len bytes.new }
 {

@@ -36,7 +36,8 @@ pub struct ObjectWriter<'a> {
     // their ids
     ids: [&'a str; 8],
     count: usize,
-    // Whether all were written: each id and each name came once, and none were too many. Otherwise `text` doesn't count.
+    // Whether all were written: each id and each name came once, and none were too many. Otherwise `text` doesn't
+    // count.
     is_whole: bool,
 }
 
@@ -81,8 +82,8 @@ impl<'a> ObjectWriter<'a> {
         true
     }
 
-    /// Appends the object of the line whose elements it was given, as `line_object` gives it, or nothing if an allocation
-    /// fails. It is for one line.
+    /// Appends the object of the line whose elements it was given, as `line_object` gives it, or nothing if an
+    /// allocation fails. It is for one line.
     ///
     /// Memory is asked for more of its own and of `output`. It is also asked for as by `line_object`, where an id or a
     /// name comes again, or there are more than eight elements or an element has more than sixteen parameters.

@@ -5,7 +5,8 @@ use Rattle.syslog_object.proofs.blocks.escape_at.Goals.{then-second-eq110-via-th
 use Rattle.syslog_object.proofs.blocks.escape_at.Goals as goal
 
 pub returns-then-byte-ne92 : goal.returns-then-byte-ne92
-returns-then-byte-ne92 c = backslash_at c.args.is_raw c.args.text.now c.args.at (omega arith) c.requires.stop (omega arith)
+returns-then-byte-ne92 c = backslash_at c.args.is_raw c.args.text.now c.args.at (omega arith) c.requires.stop
+    (omega arith)
     (elim c.then-byte-ne92.branch [
       | then-byte-ne92-via-then-byte-ne92 w ↦ on_other c.args.is_raw _ w.if-byte-ne92.true
       | then-byte-ne92-via-else-byte-ne92+then-not-is_raw w ↦ on_no_raw c.args.is_raw _ w.if-not-is_raw.true
@@ -13,7 +14,8 @@ returns-then-byte-ne92 c = backslash_at c.args.is_raw c.args.text.now c.args.at 
 
 pub returns-then-second-eq93 : goal.returns-then-second-eq93
 returns-then-second-eq93 c =
-    nothing_at c.args.is_raw c.args.text.now c.args.at (c.if-not-is_raw.false) c.requires.more (omega arith) (omega arith)
+    nothing_at c.args.is_raw c.args.text.now c.args.at (c.if-not-is_raw.false) c.requires.more (omega arith)
+    (omega arith)
 
 pub returns-then-second-eq110 : goal.returns-then-second-eq110
 returns-then-second-eq110 c =

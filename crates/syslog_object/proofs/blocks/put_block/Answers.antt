@@ -9,7 +9,8 @@ escape_at-requires-clause-stop c = (c.stops.invariant.next (omega arith)).here
 
 pub stops-init : goal.stops-init
 stops-init c = are_left 0 c.stops-left.ensures
-    (block_begins c.args.is_raw c.args.at c.args.first c.args.room.now _ c.args.text.now (omega arith) c.put_lanes.ensures)
+    (block_begins c.args.is_raw c.args.at c.args.first c.args.room.now _ c.args.text.now (omega arith)
+    c.put_lanes.ensures)
     c.requires.more
 
 pub stops-preserved-in-Control : goal.stops-preserved-in-Control

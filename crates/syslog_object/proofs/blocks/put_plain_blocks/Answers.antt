@@ -28,8 +28,10 @@ returns-then-seen-length-clause-plain c =
 
 pub returns-then-seen-length-clause-text : goal.returns-then-seen-length-clause-text
 returns-then-seen-length-clause-text c =
-    stored_less c.args.at (length c.args.text.now) (c.blocks-2.seen + 16) c.args.room.now c.put_lanes.new.room c.args.text.now
-    (stored_more c.args.at c.blocks-2.seen _ _ _ _ c.blocks-2.invariant.2 c.put_lanes.ensures) (omega arith) (omega arith)
+    stored_less c.args.at (length c.args.text.now) (c.blocks-2.seen + 16) c.args.room.now c.put_lanes.new.room
+    c.args.text.now
+    (stored_more c.args.at c.blocks-2.seen _ _ _ _ c.blocks-2.invariant.2 c.put_lanes.ensures) (omega arith)
+    (omega arith)
 
 pub blocks-2-preserved : goal.blocks-2-preserved
 blocks-2-preserved c =

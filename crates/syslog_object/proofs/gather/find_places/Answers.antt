@@ -20,8 +20,10 @@ members-preserved g c =
     let item = c.index-members-at.result in
     let before : c.members.at ≡ at + 1 = omega (arith, c.members-test.true) in
     one_place pairs at _ c.key.result c.members.first c.insert.new.self c.members.next.items c.in_ok-later.later
-    c.unwrap_or.result (subst (λ (k : ℕ). ArePlaces pairs k c.members.first c.members.next.items) before c.members.invariant)
-    (pair_at g.M.Member.key_of g.M.Member.json members at item (omega (arith, c.members.invariant.within, long)) c.index-members-at.is)
+    c.unwrap_or.result (subst (λ (k : ℕ). ArePlaces pairs k c.members.first c.members.next.items) before
+    c.members.invariant)
+    (pair_at g.M.Member.key_of g.M.Member.json members at item (omega (arith, c.members.invariant.within, long))
+    c.index-members-at.is)
     c.key.ensures c.in_ok-later.ensures.old c.in_ok-later.ensures.updates
     (c.unwrap_or.ensures ∙ ap (λ (n : ℕ). unwrap_or c.in_ok-later.later n) (sym long))
 

@@ -8,5 +8,6 @@ returns g c = c.loop-member.invariant (of_keys (IsNewKey c.args.key.now) g.M.Mem
 
 pub loop-member-preserved : goal.loop-member-preserved
 loop-member-preserved g c = λ new. c.loop-member.invariant (of_keys (IsNewKey c.args.key.now) g.M.Member.key_of _ _
-    (at_place c.args.members.now c.loop-member.member-index c.member-item.result c.loop-member-test.true c.member-item.is)
+    (at_place c.args.members.now c.loop-member.member-index c.member-item.result c.loop-member-test.true
+    c.member-item.is)
     (sym (rw (c.key.ensures) at c.if-eq.ensures), new))

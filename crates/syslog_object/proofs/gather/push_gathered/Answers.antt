@@ -16,4 +16,5 @@ returns g c =
     let end : c.loop-at.at ≡ length members = omega arith in
     let held = subst (λ (k : ℕ). c.loop-at.out ≡ c.args.out.now ++ open_text (begun pairs k)) end c.loop-at.invariant in
     on_ok_weaker c.push_end.result
-    (λ e. all_begun pairs _ c.args.out.now _ _ (pairs_long g.M.Member.key_of g.M.Member.json members) held e) c.push_end.ensures
+    (λ e. all_begun pairs _ c.args.out.now _ _ (pairs_long g.M.Member.key_of g.M.Member.json members) held e)
+    c.push_end.ensures

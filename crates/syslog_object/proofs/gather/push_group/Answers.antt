@@ -9,7 +9,8 @@ returns-then-first-at g c =
     let pairs = pairs_of g.M.Member.key_of g.M.Member.json members in
     let long = pairs_long g.M.Member.key_of g.M.Member.json members in
     let here = pair_at g.M.Member.key_of g.M.Member.json members c.args.at _ c.requires.within c.index-members-at.is in
-    let found = place_found pairs _ _ c.key-key.result.now _ _ _ c.requires.places (c.copied.ensures ∙ c.get.ensures.value)
+    let found = place_found pairs _ _ c.key-key.result.now _ _ _ c.requires.places (c.copied.ensures ∙
+    c.get.ensures.value)
     (sym long) c.unwrap_or-first.ensures ∙ ap (λ k. place k pairs) c.key-key.ensures in
     λ before held. held ∙ ap (λ bs. before ++ open_text bs)
     (sym (group_came pairs c.args.at _ (omega (arith, long)) here (omega (arith, found, c.if-first-at.true))))
@@ -24,8 +25,10 @@ returns g c =
     let pairs = pairs_of g.M.Member.key_of g.M.Member.json members in
     let long = pairs_long g.M.Member.key_of g.M.Member.json members in
     let here = pair_at g.M.Member.key_of g.M.Member.json members c.args.at _ c.requires.within c.index-members-at.is in
-    let found = place_found pairs _ _ c.key-key.result.now _ _ _ c.requires.places (c.copied.ensures ∙ c.get.ensures.value)
+    let found = place_found pairs _ _ c.key-key.result.now _ _ _ c.requires.places (c.copied.ensures ∙
+    c.get.ensures.value)
     (sym long) c.unwrap_or-first.ensures ∙ ap (λ k. place k pairs) c.key-key.ensures in
     on_ok_weaker c.push_values.result
-    (λ e before held. group_added pairs c.args.at _ before c.args.out.now _ _ _ (omega (arith, long)) here c.key-key.ensures
+    (λ e before held. group_added pairs c.args.at _ before c.args.out.now _ _ _ (omega (arith, long)) here
+    c.key-key.ensures
     (omega (arith, found, c.if-first-at.false)) held c.in_ok-push_key.ensures (e _ here)) c.push_values.ensures

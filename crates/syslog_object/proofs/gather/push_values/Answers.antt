@@ -43,7 +43,8 @@ values-preserved g c =
     let at = c.values.at in
     let here = pair_at g.M.Member.key_of g.M.Member.json members at _ c.values-test.true c.index-members-at.is in
     let next = c.requires.next.each at _ (omega arith) (omega (arith, long, c.values-test.true)) here in
-    value_next pairs c.args.first at _ _ c.args.out.now c.values.out _ _ (omega (arith, long, c.values-test.true)) here next
+    value_next pairs c.args.first at _ _ c.args.out.now c.values.out _ _ (omega (arith, long, c.values-test.true)) here
+    next
     c.in_ok-push-2.ensures c.in_ok-push_json-2.ensures c.values.invariant
 
 pub returns : goal.returns
