@@ -87,8 +87,8 @@ impl Objects {
     }
 
     // Adds the object of the line, or nothing where memory is refused. Returns the memory that was used, and whether
-    // the line is a message. Not inlined, since it has two callers: each part of it is in it once, and inlined there.
-    #[inline(never)]
+    // the line is a message.
+    #[inline(always)]
     fn write_line(
         &self,
         alloc: Global,
