@@ -16,5 +16,6 @@ pub mod PriorityAloneLemmas
 pub mod SentLemmas
 pub mod SentReadingLemmas
 pub mod TailLemmas
+pub mod UnixLemmas
 pub mod UntaggedLemmas
 pub mod ZoneLemmas

@@ -10,12 +10,19 @@ use Rattle.syslog_dialects.specs.OpenWrt.{logread_form}
 use Rattle.syslog_dialects.specs.ProCurve.{procurve_form}
 use Rattle.syslog_dialects.specs.Sent.{Form}
 use Rattle.syslog_dialects.specs.SophosUtm.{utm_form}
+use Rattle.syslog_dialects.specs.UnixSeconds.{meraki_form, short_form}
 
 abbrev pub undated_forms : List Form
 undated_forms = undated_form ∷ []
 
+abbrev pub short_forms : List Form
+short_forms = short_form ∷ undated_forms
+
+abbrev pub meraki_forms : List Form
+meraki_forms = meraki_form ∷ short_forms
+
 abbrev pub logread_forms : List Form
-logread_forms = logread_form ∷ undated_forms
+logread_forms = logread_form ∷ meraki_forms
 
 abbrev pub utm_forms : List Form
 utm_forms = utm_form ∷ logread_forms

@@ -7,7 +7,8 @@ use Rattle.syslog_dialects.specs.declared.dialect.Dialect.TheVariants.{CiscoIos,
 use Rattle.syslog_dialects.specs.declared.dialect.Dialect.TheVariants.{Container, CiscoIosXr, NetScaler, ProCurve}
 use Rattle.syslog_dialects.specs.declared.dialect.Dialect.TheVariants.{Repeated, Cef, Leef, PaloAlto, KeyValue, Json}
 use Rattle.syslog_dialects.specs.declared.dialect.Dialect.TheVariants.{Idrac, Log4j, Forwarded, SeverityFirst, SpacedName, NoHost, Heroku}
-use Rattle.syslog_dialects.specs.declared.dialect.Dialect.TheVariants.{Bracketed, MikroTik, SophosUtm, WatchGuard}
+use Rattle.syslog_dialects.specs.declared.dialect.Dialect.TheVariants.{Bracketed, MikroTik, SophosUtm, UnixSeconds}
+use Rattle.syslog_dialects.specs.declared.dialect.Dialect.TheVariants.{WatchGuard}
 
 -- the name of a dialect, in ASCII
 abbrev pub dialect_name : Dialect → List ℕ
@@ -33,6 +34,7 @@ dialect_name Idrac = codes "idrac"
 dialect_name Log4j = codes "log4j"
 dialect_name MikroTik = codes "mikrotik"
 dialect_name Bracketed = codes "bracketed"
+dialect_name UnixSeconds = codes "unix-seconds"
 dialect_name SophosUtm = codes "sophos-utm"
 dialect_name WatchGuard = codes "watchguard"
 dialect_name Forwarded = codes "forwarded"
@@ -69,6 +71,7 @@ dialect_number Idrac = 46
 dialect_number Log4j = 47
 dialect_number MikroTik = 53
 dialect_number Bracketed = 54
+dialect_number UnixSeconds = 32
 dialect_number SophosUtm = 31
 dialect_number WatchGuard = 55
 dialect_number Forwarded = 48

@@ -28,6 +28,7 @@ pub mod SentReading
 pub mod SophosUtm
 pub mod Tail
 pub mod TailViews
+pub mod UnixSeconds
 pub mod Untagged
 pub mod Views
 pub mod Zone

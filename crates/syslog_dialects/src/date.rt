@@ -64,7 +64,8 @@ fn past_point(text: &str) -> &str
 }
 
 // A dot or a comma, and decimals, in nanoseconds.
-fn fraction(text: &str) -> Option<(u32, &str)>
+/// Returns the fraction at the front, in nanoseconds, and the text after it.
+pub(crate) fn fraction(text: &str) -> Option<(u32, &str)>
     ensures { Reads spec.fraction (λ n. n) (chars text.now) result }
 {
     let rest = point(text)?;

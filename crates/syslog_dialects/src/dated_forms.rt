@@ -14,6 +14,7 @@ use crate::open_wrt::read_logread;
 use crate::procurve::read_procurve;
 use crate::sent::Sent;
 use crate::sophos_utm::read_utm;
+use crate::unix_seconds::{read_meraki, read_short};
 
 fn from_undated(text: &str) -> Option<(Dialect, Sent<'_>)>
     ensures { Finds spec.undated_forms (chars text.now) result }
@@ -24,12 +25,30 @@ fn from_undated(text: &str) -> Option<(Dialect, Sent<'_>)>
     }
 }
 
+fn from_short(text: &str) -> Option<(Dialect, Sent<'_>)>
+    ensures { Finds spec.short_forms (chars text.now) result }
+{
+    match read_short(text) {
+        Some(sent) => Some((Dialect::UnixSeconds, sent)),
+        None => from_undated(text),
+    }
+}
+
+fn from_meraki(text: &str) -> Option<(Dialect, Sent<'_>)>
+    ensures { Finds spec.meraki_forms (chars text.now) result }
+{
+    match read_meraki(text) {
+        Some(sent) => Some((Dialect::UnixSeconds, sent)),
+        None => from_short(text),
+    }
+}
+
 fn from_logread(text: &str) -> Option<(Dialect, Sent<'_>)>
     ensures { Finds spec.logread_forms (chars text.now) result }
 {
     match read_logread(text) {
         Some(sent) => Some((Dialect::SeverityFirst, sent)),
-        None => from_undated(text),
+        None => from_meraki(text),
     }
 }
 

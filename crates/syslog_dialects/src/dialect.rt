@@ -27,6 +27,8 @@ pub enum Dialect {
     CiscoIosXr,
     /// Citrix NetScaler.
     NetScaler,
+    /// Seconds since 1970 in place of a date, as Cisco Meraki and `journalctl -o short-unix` write.
+    UnixSeconds,
     /// Sophos UTM.
     SophosUtm,
     /// HP's ProCurve and ArubaOS-Switch.
@@ -93,6 +95,7 @@ impl Dialect {
             Dialect::Log4j => "log4j",
             Dialect::MikroTik => "mikrotik",
             Dialect::Bracketed => "bracketed",
+            Dialect::UnixSeconds => "unix-seconds",
             Dialect::SophosUtm => "sophos-utm",
             Dialect::WatchGuard => "watchguard",
             Dialect::Forwarded => "forwarded",
@@ -130,6 +133,7 @@ impl Dialect {
             Dialect::Log4j => 47,
             Dialect::MikroTik => 53,
             Dialect::Bracketed => 54,
+            Dialect::UnixSeconds => 32,
             Dialect::SophosUtm => 31,
             Dialect::WatchGuard => 55,
             Dialect::Forwarded => 48,

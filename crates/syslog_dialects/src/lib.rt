@@ -36,6 +36,7 @@ mod sophos_utm;
 mod tail;
 #[cfg(test)]
 mod tests;
+mod unix_seconds;
 mod untagged;
 mod visit;
 mod zone;

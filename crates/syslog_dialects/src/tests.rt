@@ -7,7 +7,7 @@ use std::process::Abort;
 
 // A text from after the priority on, and after `¦` its dialect, date, host, app name, process and message. A date is year,
 // month, day, hour, minute, second, nanosecond and offset.
-const ROWS: [&str; 56] = [
+const ROWS: [&str; 60] = [
     "29: *Mar  1 18:48:50.483: %SYS-5-CONFIG_I: Configured from console¦cisco-ios¦- 3 1 18 48 50 483000000 -¦-¦%SYS-5-CONFIG_I¦-¦Configured from console",
     "4211: core-sw1: Mar  1 18:48:50.483 CET: %LINK-3-UPDOWN: changed state¦cisco-ios¦- 3 1 18 48 50 483000000 -¦core-sw1¦%LINK-3-UPDOWN¦-¦changed state",
     "29: edge1: 000031: .Mar  1 2026 18:48:50 UTC: %SYS-5-CONFIG_I: text¦cisco-ios¦2026 3 1 18 48 50 0 0¦edge1¦%SYS-5-CONFIG_I¦-¦text",
@@ -64,6 +64,10 @@ const ROWS: [&str; 56] = [
     "Sat Nov 28 06:33:04 2026 authpriv.warn dropbear[2417]: Login¦severity-first¦2026 11 28 6 33 4 0 -¦-¦dropbear¦2417¦Login",
     "Sat Nov 28 06:33:04 2026 authprivy.warn dropbear[2417]: Login¦none",
     "2026-03-02 06:33:04.000250-0800  mini kernel[0]: Wake¦nearly-rfc3339¦2026 3 2 6 33 4 250000 -28800¦mini¦kernel¦0¦Wake",
+    "1 1795847584.250000000 MX64_Lab urls src=192.0.2.9¦unix-seconds¦2026 11 28 6 33 4 250000000 0¦MX64_Lab¦-¦-¦urls src=192.0.2.9",
+    "1795847584.000125 pi4 cron[733]: (root) CMD¦unix-seconds¦2026 11 28 6 33 4 125000 0¦pi4¦cron¦733¦(root) CMD",
+    "1795847584.125 45 192.0.2.9 TCP_MISS/200 512 GET¦none",
+    "795847584.000125 pi4 cron[733]: (root) CMD¦none",
 ];
 
 fn number(alloc: Global, number: Option<u32>) -> String {
