@@ -36,7 +36,8 @@ begun_next R vs v old xs i x long l b r =
     }
 
 -- one more is written of values that are seen through a view
-pub begun_more : {A B C : Type 0} (R : A → B → Type 0) (view : C → B) (ps : List C) (d : C) (old xs : List A) (i : ℕ) (x : A)
+pub begun_more : {A B C : Type 0} (R : A → B → Type 0) (view : C → B) (ps : List C) (d : C) (old xs : List A) (i : ℕ)
+    (x : A)
     → i < length ps → i < length xs → IsBegun R (map view (take i ps)) old xs → R x (view (get_or ps i d))
     → IsBegun R (map view (take (i + 1) ps)) old (set xs i x)
 begun_more {A} {B} R view ps d old xs i x few l b r =

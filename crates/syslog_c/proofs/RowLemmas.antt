@@ -1,6 +1,6 @@
 -- The rows of the lines of a block.
-use Rattle.syslog_c.proofs.Words.{◌≡◌, ◌∙◌, ℕ, ◌<◌, ◌+◌, List, [], ◌∷◌, ◌++◌, length, take, arith, sym, ap, inl, inr, refl}
-use Rattle.syslog_c.proofs.Words.{subst, append-nil, length-append, append_assoc, IsBegun, Options}
+use Rattle.syslog_c.proofs.Words.{◌≡◌, ◌∙◌, ℕ, ◌<◌, ◌+◌, List, [], ◌∷◌, ◌++◌, length, take, arith, sym, ap, inl, inr}
+use Rattle.syslog_c.proofs.Words.{refl, subst, append-nil, length-append, append_assoc, IsBegun, Options}
 use Rattle.std.proofs.Common.{Bool, set, true}
 use Rattle.syslog_lines.proofs.Names.{eqb, eqb-true}
 use Rattle.std.proofs.Math.Seq.{take-append_seam}

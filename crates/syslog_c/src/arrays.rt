@@ -40,7 +40,8 @@ impl<'a, 'r> Arrays<'a, 'r> {
     fn have_places(&self, params: usize) -> bool
         ensures { MatchBool result
             ((self.now.count < length self.now.elements.now) × (self.now.filled + params ≤ length self.now.params.now))
-            ((self.now.count < length self.now.elements.now) → self.now.filled + params ≤ length self.now.params.now → ⊥) }
+            ((self.now.count < length self.now.elements.now) → self.now.filled + params ≤ length self.now.params.now
+            → ⊥) }
     {
         if self.count >= self.elements.len() || self.filled > self.params.len() {
             return false;

@@ -3,5 +3,6 @@ use Rattle.syslog_c.proofs.arrays.put_walked.Given as goal
 
 -- the parameters up to here were put
 abbrev pub invariant-loop-param : goal.invariant-loop-param
-invariant-loop-param l = (put : List (Text × Text)) × (put ++ params_left l.param-iterator ≡ (element_seen l.fn.element).params)
+invariant-loop-param l = (put : List (Text × Text))
+    × (put ++ params_left l.param-iterator ≡ (element_seen l.fn.element).params)
     × (length put ≡ l.i) × IsBegun IsParam put l.initial.array l.array

@@ -12,5 +12,7 @@ returns c =
     let rest = sym (encodes-chars bytes valid) ∙ ap encode_utf8_all spelt in
     let front = c.as_str.result.now in
     let more = encode_utf8_all (rest_text (line_value c.args.line.now)) in
-    let whole = ap (λ (x : List ℕ). front ++ x) rest ∙ ap (λ (x : List ℕ). x ++ more) c.as_str.ensures ∙ c.front-front.ensures in
-    subst (λ (x : List ℕ). Takes c.args.buffer.now x c.put_rest.new.buffer) whole (takes_after _ _ _ _ _ c.push.ensures takes)
+    let whole = ap (λ (x : List ℕ). front ++ x) rest ∙ ap (λ (x : List ℕ). x ++ more) c.as_str.ensures
+    ∙ c.front-front.ensures in
+    subst (λ (x : List ℕ). Takes c.args.buffer.now x c.put_rest.new.buffer) whole
+    (takes_after _ _ _ _ _ c.push.ensures takes)

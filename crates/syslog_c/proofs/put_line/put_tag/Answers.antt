@@ -15,4 +15,5 @@ pub returns : goal.returns
 unfolding chars_of_literals
 returns c = rw (c.in-Some.is, c.in-Some-process.is) (text_along _ _ _ _ (simp append_assoc)
     (text_after _ _ _ _ (93 ∷ 58 ∷ 32 ∷ []) (text_after _ _ _ _ _ (text_after _ _ _ _ (91 ∷ [])
-    (text_after _ _ _ (32 ∷ []) _ c.put-2.ensures c.put-3.ensures) c.put-4.ensures) c.put_procid.ensures) c.put-5.ensures))
+    (text_after _ _ _ (32 ∷ []) _ c.put-2.ensures c.put-3.ensures) c.put-4.ensures) c.put_procid.ensures)
+    c.put-5.ensures))
