@@ -1,4 +1,5 @@
-/* syslog_loose.h: syslog messages of RFC 5424 and of the looser RFC 3164, read and printed.
+/* syslog_loose.h: syslog messages of RFC 5424, of the looser RFC 3164, and of senders that follow neither, read and
+ * printed.
  *
  * The library is libsyslog_loose, for Linux on x86-64 (level v2):
  *
@@ -22,7 +23,7 @@
  * What stays, before version 1.0 too: the names of calls, structs, fields and macros, their numbers, and what each
  * promises here. What a minor version may change before 1.0:
  *   - It may add calls and outcomes, so take an outcome that you don't know for a failure.
- *   - It may add fields at the end of a struct, so set fields by their names. The shared library (libsyslog_loose.so.1)
+ *   - It may add fields at the end of a struct, so set fields by their names. The shared library (libsyslog_loose.so.2)
  *     then gets another number: no program runs with structs of another size than it was compiled with.
  *   - It may read a line in another way, and CHANGELOG.md then says so.
  */
@@ -54,15 +55,24 @@ enum syslog_outcome {
     SYSLOG_BAD_ARGUMENT = 5  /* one of the options is out of its range */
 };
 
-/* How a line is read. { .year = 2026 } reads both protocols, in that year and in UTC. { 0 } reads in the year 0, which
- * no call refuses: a date that shows no year then lies two thousand years back. */
+/* How a line is read. { .year = 2026 } reads both protocols and the dialects, in that year and in UTC. { 0 } reads in
+ * the year 0, which no call refuses: a date that shows no year then lies two thousand years back. */
 struct syslog_options {
-    uint32_t variant; /* 0: either protocol, RFC 5424 first; 3164 or 5424: that one */
-    int32_t year;     /* of dates that show none, from -9999 to 9999 */
-    uint32_t month;   /* 0: all of these are of that year; 1 to 12: it is this month of that year, and in January a date
-                         of December is of the year before */
-    int32_t offset;   /* seconds by which dates without an offset are ahead of UTC, from -93599 to 93599 */
+    uint32_t variant;     /* 0: either protocol, RFC 5424 first; 3164 or 5424: that one */
+    int32_t year;         /* of dates that show none, from -9999 to 9999 */
+    uint32_t month;       /* 0: all of these are of that year; 1 to 12: it is this month of that year, and in January a
+                             date of December is of the year before */
+    int32_t offset;       /* seconds by which dates without an offset are ahead of UTC, from -93599 to 93599 */
+    uint32_t no_dialects; /* 0: a line is read in its sender's dialect, where it is in one; otherwise by the protocols
+                             alone, as the Rust crate syslog_loose reads it */
 };
+
+/* A dialect is a form of lines of senders that follow neither protocol, as Cisco's switches and FortiGate's firewalls
+ * write them: docs/SENDERS.md has them all. Where the variant and no_dialects are 0, syslog_read, syslog_read_fields,
+ * syslog_read_lines and syslog_json read a line in its dialect. Its message has no structured data.
+ *
+ * syslog_normalise, syslog_settle, syslog_is_canonical and syslog_to_rfc5424 read each line by the protocols alone: what
+ * they print is what the Rust crate prints. A line of a dialect may be no message for them. */
 
 /* A piece of the line, in UTF-8. No zero byte ends it. An absent one has the length 0. */
 struct syslog_text {
@@ -99,8 +109,9 @@ struct syslog_message {
     struct syslog_process process;
     struct syslog_text msgid;
     struct syslog_text msg;
-    size_t elements; /* how many elements of structured data there are */
-    size_t params;   /* how many parameters these have together */
+    size_t elements;  /* how many elements of structured data there are */
+    size_t params;    /* how many parameters these have together */
+    uint32_t dialect; /* its number where the line was read in a dialect, and otherwise 0 */
 };
 
 /* A line of a block: the line, how its reading ends, and its message, which is blank where the line is none: then its
@@ -126,7 +137,7 @@ struct syslog_param {
 #define SYSLOG_TEXT_INIT { "", 0, 0 }
 #define SYSLOG_MESSAGE_INIT \
     { 0, 0, 0, 0, { 0, 0, 0, 0, 0, 0 }, SYSLOG_TEXT_INIT, SYSLOG_TEXT_INIT, { SYSLOG_TEXT_INIT, 0, 0 }, \
-      SYSLOG_TEXT_INIT, SYSLOG_TEXT_INIT, 0, 0 }
+      SYSLOG_TEXT_INIT, SYSLOG_TEXT_INIT, 0, 0, 0 }
 #define SYSLOG_ROW_INIT { SYSLOG_TEXT_INIT, 0, SYSLOG_MESSAGE_INIT }
 #define SYSLOG_ELEMENT_INIT { SYSLOG_TEXT_INIT, 0 }
 #define SYSLOG_PARAM_INIT { SYSLOG_TEXT_INIT, SYSLOG_TEXT_INIT }
@@ -200,12 +211,15 @@ uint32_t syslog_unescape(const char *value, size_t length, char *room, size_t ro
 uint32_t syslog_is_canonical(const char *line, size_t length, const struct syslog_options *options,
                              uint32_t *canonical);
 
-/* The four that follow set a text of the library's own, which lasts as long as the program. A number that no facility,
- * severity or outcome has, as the -1 of an absent one in a message, has an absent text. */
+/* The five that follow set a text of the library's own, which lasts as long as the program. A number that no facility,
+ * severity, dialect or outcome has, as the -1 of an absent facility in a message, has an absent text. */
 
 /* The name of a facility, as auth, and of a severity, as crit. */
 void syslog_facility_name(uint32_t facility, struct syslog_text *name);
 void syslog_severity_name(uint32_t severity, struct syslog_text *name);
+
+/* The name of a dialect, as cisco-ios. A dialect keeps its number and its name. */
+void syslog_dialect_name(uint32_t dialect, struct syslog_text *name);
 
 /* What an outcome means, as "no message". */
 void syslog_outcome_text(uint32_t outcome, struct syslog_text *text);

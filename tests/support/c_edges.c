@@ -24,7 +24,7 @@
 
 enum { LINES = 200, MOST = 64, ROOM = 4096 };
 
-static const struct syslog_options OPTIONS = { 0, 2026, 0, 0 };
+static const struct syslog_options OPTIONS = { .year = 2026 };
 static const char STOOD[] = "what stood here before";
 
 static struct syslog_text stood(void)
@@ -49,7 +49,7 @@ static void set(struct place *place)
     memset(place, 0, sizeof *place);
     place->message = (struct syslog_message){ .protocol = 7, .host = stood(), .app = stood(), .msgid = stood(),
                                               .process = { .name = stood() }, .msg = stood(), .elements = 77,
-                                              .params = 78 };
+                                              .params = 78, .dialect = 79 };
     for (size_t i = 0; i < MOST + 2; i++) {
         place->elements[i].id = stood();
         place->params[i].name = place->params[i].value = stood();
@@ -60,7 +60,7 @@ static int is_set(const struct place *place)
 {
     const struct syslog_message *it = &place->message;
     struct syslog_text text = stood();
-    return it->protocol == 7 && it->version == 0 && it->facility == 0 && it->severity == 0 && !it->timestamp.present
+    return it->protocol == 7 && it->version == 0 && it->dialect == 79 && it->facility == 0 && it->severity == 0 && !it->timestamp.present
         && same_text(&it->host, &text) && same_text(&it->app, &text) && same_text(&it->process.name, &text)
         && same_text(&it->msgid, &text) && same_text(&it->msg, &text) && it->elements == 77 && it->params == 78;
 }
@@ -116,7 +116,7 @@ static void fields_alone(const char *line, size_t length, const struct syslog_me
     CHECK(same_text(&it->host, &whole->host) && same_text(&it->app, &whole->app));
     CHECK(same_text(&it->process.name, &whole->process.name) && it->process.number == whole->process.number);
     CHECK(same_text(&it->msgid, &whole->msgid) && same_text(&it->msg, &whole->msg));
-    CHECK(it->elements == whole->elements && it->params == whole->params);
+    CHECK(it->elements == whole->elements && it->params == whole->params && it->dialect == whole->dialect);
 }
 
 static void each_array(const char *line, size_t length)
@@ -243,20 +243,21 @@ static void wrong_arguments(void)
 {
     static const char line[] = "1 - - - - - [a b=\"c\"] x", latin[] = "1 - - - - - - gr\xfc\xdf";
     static const struct syslog_options wrong[] = {
-        { 1, 2026, 0, 0 },     { 5425, 2026, 0, 0 },   { 0, -10000, 0, 0 },         { 0, 10000, 0, 0 },
-        { 0, INT32_MIN, 1, 0 }, { 0, INT32_MAX, 0, 0 }, { 0, 2026, 13, 0 },          { 0, 2026, UINT32_MAX, 0 },
-        { 0, 2026, 0, 93600 },  { 0, 2026, 0, -93600 }, { 0, 2026, 0, INT32_MIN }, { 3163, 2026, 0, 0 },
+        { 1, 2026, 0, 0, 0 },     { 5425, 2026, 0, 0, 0 },   { 0, -10000, 0, 0, 0 },       { 0, 10000, 0, 0, 0 },
+        { 0, INT32_MIN, 1, 0, 0 }, { 0, INT32_MAX, 0, 0, 1 }, { 0, 2026, 13, 0, 0 },        { 0, 2026, UINT32_MAX, 0, 0 },
+        { 0, 2026, 0, 93600, 0 },  { 0, 2026, 0, -93600, 1 }, { 0, 2026, 0, INT32_MIN, 0 }, { 3163, 2026, 0, 0, 0 },
     };
     for (size_t i = 0; i < sizeof wrong / sizeof *wrong; i++) {
         refused(line, sizeof line - 1, &wrong[i], SYSLOG_BAD_ARGUMENT);
         refused(latin, sizeof latin - 1, &wrong[i], SYSLOG_BAD_ARGUMENT);
     }
     static const struct syslog_options right[] = {
-        { 0, -9999, 1, -93599 }, { 5424, 9999, 12, 93599 }, { 3164, 0, 0, 0 },
+        { 0, -9999, 1, -93599, 0 }, { 5424, 9999, 12, 93599, 0 }, { 3164, 0, 0, 0, UINT32_MAX },
     };
     for (size_t i = 0; i < sizeof right / sizeof *right; i++)
         refused(latin, sizeof latin - 1, &right[i], SYSLOG_NOT_UTF8);
     refused("gobbledegook", 12, &OPTIONS, SYSLOG_NO_READING);
+    refused("gobbledegook", 12, &right[2], SYSLOG_NO_READING);
     refused("", 0, &OPTIONS, SYSLOG_NO_READING);
     char room[8] = "#######";
     size_t needed = 77;
@@ -296,7 +297,7 @@ static void written(const char *line, const struct syslog_options *options, cons
 
 static void converted(void)
 {
-    static const struct syslog_options january = { 0, 2020, 1, -5400 };
+    static const struct syslog_options january = { .year = 2020, .month = 1, .offset = -5400 };
     written("<34>1 - h a - - [e b=\"\\]\" b=\"2\"][e] x", &OPTIONS, "<34>1 - h a - - [e b=\"\\]\" b=\"2\"] x",
             "{\"protocol\":\"RFC5424\",\"version\":1,\"facility\":\"auth\",\"facility_code\":4,"
             "\"severity\":\"crit\",\"severity_code\":2,\"hostname\":\"h\",\"appname\":\"a\","
@@ -312,6 +313,38 @@ static void says(struct syslog_text text, const char *wanted)
 {
     CHECK(wanted ? text.present == 1 && text.length == strlen(wanted) && !memcmp(text.start, wanted, text.length)
                  : text.present == 0 && text.length == 0);
+}
+
+/* A line of a dialect, as docs/SENDERS.md has it: in the dialect, and by the protocols alone. */
+static void dialects(void)
+{
+    static const char line[] = "<166>Mar 01 2026 18:48:50 asa1 : %ASA-6-302013: Built outbound TCP connection";
+    static const struct syslog_options without = { .year = 2026, .no_dialects = UINT32_MAX };
+    static const struct syslog_options loose = { .variant = 3164, .year = 2026 };
+    struct syslog_message m = SYSLOG_MESSAGE_INIT;
+    struct syslog_element element = SYSLOG_ELEMENT_INIT;
+    struct syslog_param param = SYSLOG_PARAM_INIT;
+    char room[ROOM], other[ROOM];
+    size_t needed, again;
+    CHECK(syslog_read(line, sizeof line - 1, &OPTIONS, &m, &element, 0, &param, 0) == SYSLOG_DONE && m.dialect == 25);
+    says(m.host, "asa1"), says(m.app, "%ASA-6-302013"), says(m.process.name, NULL);
+    says(m.msg, "Built outbound TCP connection");
+    CHECK(m.timestamp.seconds == 1772390930 && m.timestamp.nanoseconds == 0 && m.timestamp.offset == 0);
+    CHECK(m.timestamp.present == 1 && m.timestamp.shows_year == 1 && !m.timestamp.shows_offset);
+    CHECK(!m.elements && !m.params);
+    for (int i = 0; i < 2; i++) {
+        struct syslog_message port = SYSLOG_MESSAGE_INIT;
+        const struct syslog_options *options = i ? &loose : &without;
+        CHECK(syslog_read_fields(line, sizeof line - 1, options, &port) == SYSLOG_DONE && port.dialect == 0);
+        CHECK(port.msg.length > m.msg.length);
+    }
+    CHECK(syslog_json(line, sizeof line - 1, &OPTIONS, 0, room, ROOM, &needed) == SYSLOG_DONE);
+    CHECK(syslog_json(line, sizeof line - 1, &without, 0, other, ROOM, &again) == SYSLOG_DONE);
+    CHECK(needed != again || memcmp(room, other, needed));
+    /* What prints a line has no dialects. */
+    CHECK(syslog_normalise(line, sizeof line - 1, &OPTIONS, room, ROOM, &needed) == SYSLOG_DONE);
+    CHECK(syslog_normalise(line, sizeof line - 1, &without, other, ROOM, &again) == SYSLOG_DONE);
+    CHECK(needed == again && !memcmp(room, other, needed));
 }
 
 /* Each number's name, and none past the last. */
@@ -339,6 +372,12 @@ static void names(void)
         syslog_outcome_text(i, &text), says(text, outcomes[i]);
     syslog_facility_name((uint32_t)-1, &text), says(text, NULL);
     syslog_severity_name((uint32_t)-1, &text), says(text, NULL);
+    syslog_dialect_name(1, &text), says(text, "priority-alone");
+    syslog_dialect_name(23, &text), says(text, "cisco-ios");
+    for (uint32_t i = 2; i < 20; i++)
+        syslog_dialect_name(i, &text), says(text, NULL);
+    syslog_dialect_name(0, &text), says(text, NULL);
+    syslog_dialect_name(UINT32_MAX, &text), says(text, NULL);
     char version[16];
     snprintf(version, sizeof version, "%d.%d.%d", SYSLOG_VERSION_MAJOR, SYSLOG_VERSION_MINOR, SYSLOG_VERSION_PATCH);
     syslog_version_text(&text), says(text, version);
@@ -516,6 +555,7 @@ int main(int count, char **words)
     wrong_arguments();
     values();
     converted();
+    dialects();
     names();
     long_line();
     large_and_odd();

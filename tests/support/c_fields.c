@@ -1,6 +1,8 @@
 /* Prints what the library for C makes of each line of standard input, a JSON object a line.
  *
- *   c_fields VARIANT YEAR MONTH OFFSET [nul]      nul: a zero byte ends a line, and not a line feed
+ *   c_fields VARIANT YEAR MONTH OFFSET [nul] [dialects]
+ *
+ * nul: a zero byte ends a line, and not a line feed. dialects: a line is read in the dialect that it is in.
  *
  * Each line, each array and each room ends where a page begins that can't be read or written, so that a call which goes
  * past one ends the program.
@@ -132,6 +134,19 @@ static void print_elements(const struct syslog_message *message, const struct sy
         fault("fewer parameters than are told");
 }
 
+static void print_dialect(uint32_t dialect)
+{
+    struct syslog_text name = SYSLOG_TEXT_INIT;
+    syslog_dialect_name(dialect, &name);
+    if (name.present != (dialect != 0))
+        fault("a dialect has no name");
+    printf(",\"dialect\":");
+    if (dialect)
+        print_bytes(name.start, name.length);
+    else
+        printf("null");
+}
+
 static void print_head(const struct syslog_message *message)
 {
     printf("\"protocol\":%u,\"version\":%u,\"facility\":%d,\"severity\":%d", message->protocol, message->version,
@@ -157,6 +172,7 @@ static void print_head(const struct syslog_message *message)
         printf(",\"process_number\":null");
     print_text("msgid", &message->msgid);
     print_text("msg", &message->msg);
+    print_dialect(message->dialect);
 }
 
 static void print_line(const struct syslog_options *options)
@@ -176,7 +192,9 @@ static void print_line(const struct syslog_options *options)
             params[i] = param;
         outcome = syslog_read(begin, length, options, &message, elements, message.elements, params, message.params);
     }
-    if (syslog_is_canonical(begin, length, options, &canonical) != outcome || canonical > 1)
+    /* (a call that prints a line reads it by the protocols alone) */
+    uint32_t by_protocols = syslog_is_canonical(begin, length, options, &canonical);
+    if ((options->no_dialects && by_protocols != outcome) || canonical > 1)
         fault("two calls differ on whether the line is read");
     printf("{\"outcome\":%u,\"canonical\":%u", outcome, canonical);
     if (outcome == SYSLOG_DONE) {
@@ -194,10 +212,15 @@ int main(int count, char **words)
     if (count < 5 || syslog_version() != SYSLOG_VERSION)
         return 2;
     struct syslog_options options = { .variant = (uint32_t)atol(words[1]), .year = atoi(words[2]),
-                                      .month = (uint32_t)atol(words[3]), .offset = atoi(words[4]) };
+                                      .month = (uint32_t)atol(words[3]), .offset = atoi(words[4]), .no_dialects = 1 };
     char *text = NULL;
     size_t size = 0;
-    int closing = count > 5 ? 0 : '\n';
+    int closing = '\n';
+    for (int i = 5; i < count; i++)
+        if (!strcmp(words[i], "nul"))
+            closing = 0;
+        else
+            options.no_dialects = strcmp(words[i], "dialects") != 0;
     for (ssize_t read; (read = getdelim(&text, &size, closing, stdin)) >= 0;) {
         size_t length = (size_t)read - (read > 0 && text[read - 1] == closing);
         char *line = room_of(LINE, length);

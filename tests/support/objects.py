@@ -86,6 +86,7 @@ def object_of(line, fields, raw=False):
     found = {
         "protocol": fields["protocol"],
         "version": fields["version"],
+        "dialect": fields.get("dialect"),
         "facility": fields["facility"] and fields["facility"].removeprefix("LOG_").lower(),
         "severity": fields["severity"] and fields["severity"].removeprefix("SEV_").lower(),
         "timestamp": fields["timestamp"] and fields["timestamp"]["text"],

@@ -1,8 +1,8 @@
 /* The arguments of the calls for one line, and their refusals. */
 #include "native.h"
 
-enum key { YEAR, MONTH, OFFSET, VARIANT, RAW, KEYS };
-static const char *const key_names[KEYS] = {"year", "month", "offset", "variant", "raw"};
+enum key { YEAR, MONTH, OFFSET, VARIANT, DIALECTS, RAW, KEYS };
+static const char *const key_names[KEYS] = {"year", "month", "offset", "variant", "dialects", "raw"};
 static PyObject *interned[KEYS];
 
 /* Callers' names of arguments are interned, so most are told by their place. */
@@ -81,6 +81,8 @@ static void take_word(enum key key, PyObject *word, struct call *call)
         call->options.offset = number_of(word);
     else if (key == VARIANT)
         call->options.variant = variant_of(word);
+    else if (key == DIALECTS)
+        call->options.no_dialects = PyObject_IsTrue(word) == 0;
     else
         call->raw = (uint32_t)PyObject_IsTrue(word);
 }

@@ -3,10 +3,10 @@
 
 /* What is told of each line, in a column of so many bytes a line. The first of each text is its offset in the buffer, or -1
  * where it is absent; the second its length. */
-enum column { OUTCOME, TIME, NANOSECOND, OFFSET, SHOWN, COLUMN_PROTOCOL, COLUMN_FACILITY, COLUMN_SEVERITY, NUMBER, IS_NUMBER, ELEMENT_COUNT,
-              LINE_AT, LINE_SIZE, HOST_AT, HOST_SIZE, APP_AT, APP_SIZE, NAME_AT, NAME_SIZE, MSGID_AT, MSGID_SIZE, MSG_AT, MSG_SIZE,
-              COLUMNS };
-static const size_t sizes[COLUMNS] = {1, 8, 4, 4, 1, 2, 1, 1, 4, 1, 4, 8, 8, 8, 8, 8, 8, 8, 8, 8, 8, 8, 8};
+enum column { OUTCOME, TIME, NANOSECOND, OFFSET, SHOWN, COLUMN_PROTOCOL, COLUMN_FACILITY, COLUMN_SEVERITY, NUMBER, IS_NUMBER,
+              ELEMENT_COUNT, COLUMN_DIALECT, LINE_AT, LINE_SIZE, HOST_AT, HOST_SIZE, APP_AT, APP_SIZE, NAME_AT, NAME_SIZE,
+              MSGID_AT, MSGID_SIZE, MSG_AT, MSG_SIZE, COLUMNS };
+static const size_t sizes[COLUMNS] = {1, 8, 4, 4, 1, 2, 1, 1, 4, 1, 4, 2, 8, 8, 8, 8, 8, 8, 8, 8, 8, 8, 8, 8};
 
 #define NO_TIME INT64_MIN
 
@@ -38,6 +38,7 @@ static void put_row(char *const *columns, size_t row, const char *buffer, const 
     ((int32_t *)columns[NUMBER])[row] = m->process.number;
     columns[IS_NUMBER][row] = (char)m->process.is_number;
     ((uint32_t *)columns[ELEMENT_COUNT])[row] = (uint32_t)m->elements;
+    ((uint16_t *)columns[COLUMN_DIALECT])[row] = (uint16_t)m->dialect;
     put_text(columns, LINE_AT, row, buffer, &it->line);
     put_text(columns, HOST_AT, row, buffer, &m->host);
     put_text(columns, APP_AT, row, buffer, &m->app);
@@ -84,7 +85,8 @@ PyObject *columns(PyObject *self, PyObject *words)
     const char *buffer;
     Py_ssize_t length;
     struct syslog_options options;
-    if (!PyArg_ParseTuple(words, "y#IiIi", &buffer, &length, &options.variant, &options.year, &options.month, &options.offset))
+    if (!PyArg_ParseTuple(words, "y#IiIiI", &buffer, &length, &options.variant, &options.year, &options.month,
+                          &options.offset, &options.no_dialects))
         return NULL;
     size_t count = lines_in(buffer, (size_t)length);
     char *places[COLUMNS];

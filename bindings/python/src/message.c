@@ -12,7 +12,7 @@ static const struct {
 
 /* The fields of a Message, in its order. */
 enum field { PROTOCOL, VERSION, FACILITY, SEVERITY, TIMESTAMP, NANOSECOND, TIMESTAMP_TEXT, SHOWS_YEAR, SHOWS_OFFSET, HOSTNAME,
-             APPNAME, PROCID, MSGID, STRUCTURED_DATA, MESSAGE, RAW, FIELDS };
+             APPNAME, PROCID, MSGID, STRUCTURED_DATA, MESSAGE, RAW, DIALECT, FIELDS };
 
 /* Members of Facility and of Severity, by their numbers, and other values that many messages share. */
 static PyObject *facilities[24], *severities[8], *numbers[2], *nothing;
@@ -115,16 +115,40 @@ static PyObject *datetime_of(const struct syslog_timestamp *at)
     return made;
 }
 
-/* The printed timestamp, which is the second word of the printed line. */
+/* The part of a text after a mark or before it, which is there. */
+static PyObject *part_of(PyObject *text, const char *mark, Py_ssize_t part)
+{
+    PyObject *parts = text ? PyObject_CallMethod(text, "partition", "s", mark) : NULL;
+    PyObject *found = parts ? PyTuple_GetItem(parts, part) : NULL;
+    Py_XINCREF(found);
+    Py_XDECREF(parts);
+    return found;
+}
+
+/* The printed timestamp, as the line's object has it. No text of the line comes before it there. */
 static PyObject *stamp_text(const struct line *line, const struct syslog_options *options)
 {
-    PyObject *printed = written(syslog_normalise, line, options);
-    PyObject *words = printed ? PyObject_CallMethod(printed, "split", "si", " ", 2) : NULL;
-    PyObject *text = words ? PyList_GetItem(words, 1) : NULL;
-    Py_XINCREF(text);
-    Py_XDECREF(printed);
-    Py_XDECREF(words);
+    PyObject *object = written(object_of, line, options);
+    PyObject *after = part_of(object, "\"timestamp\":\"", 2), *text = part_of(after, "\"", 0);
+    Py_XDECREF(object);
+    Py_XDECREF(after);
     return text;
+}
+
+/* The name of the dialect that has this number: None where none has. */
+static PyObject *name_of(uint32_t number)
+{
+    struct syslog_text name = SYSLOG_TEXT_INIT;
+    syslog_dialect_name(number, &name);
+    return name.present ? PyUnicode_FromStringAndSize(name.start, (Py_ssize_t)name.length) : counted(Py_None);
+}
+
+PyObject *dialect_name(PyObject *self, PyObject *number)
+{
+    unsigned long value = PyLong_AsUnsignedLong(number);
+    if (value == (unsigned long)-1 && PyErr_Occurred())
+        return NULL;
+    return name_of(value > UINT32_MAX ? 0 : (uint32_t)value);
 }
 
 /* The value of a parameter without its escapes. */
@@ -212,6 +236,7 @@ static PyObject *fields_of(const struct line *line, const struct syslog_options 
     PyTuple_SetItem(made, STRUCTURED_DATA, elements_of(line, elements, m->elements, params));
     PyTuple_SetItem(made, MESSAGE, text_of(line, &m->msg));
     PyTuple_SetItem(made, RAW, counted(line->given));
+    PyTuple_SetItem(made, DIALECT, m->dialect ? name_of(m->dialect) : counted(Py_None));
     /* A field that could not be made is missing, and this says why. */
     if (PyErr_Occurred())
         Py_CLEAR(made);
@@ -256,7 +281,7 @@ PyObject *parse(PyObject *self, PyObject *const *words, Py_ssize_t count, PyObje
 {
     struct call call;
     struct syslog_message m = SYSLOG_MESSAGE_INIT;
-    if (take_call(words, count, names, 4, &call))
+    if (take_call(words, count, names, READING_KEYS, &call))
         return NULL;
     const struct line *line = &call.line;
     size_t element_room = rooms.are_taken ? 0 : COUNT_OF(rooms.elements), param_room = rooms.are_taken ? 0 : COUNT_OF(rooms.params);

@@ -37,6 +37,11 @@ struct call {
     uint32_t raw;
 };
 
+/* How many of the arguments that have names a call takes: year, month, offset, variant; dialects; raw. */
+#define PRINTING_KEYS 4
+#define READING_KEYS 5
+#define OBJECT_KEYS 6
+
 typedef uint32_t writer(const char *, size_t, const struct syslog_options *, char *, size_t, size_t *);
 
 /* call.c: the arguments, and what the caller is told of a line that gives nothing (NULL). */
@@ -51,7 +56,9 @@ PyObject *normalise(PyObject *self, PyObject *const *words, Py_ssize_t count, Py
 PyObject *settle(PyObject *self, PyObject *const *words, Py_ssize_t count, PyObject *names);
 PyObject *to_rfc5424(PyObject *self, PyObject *const *words, Py_ssize_t count, PyObject *names);
 PyObject *json(PyObject *self, PyObject *const *words, Py_ssize_t count, PyObject *names);
+PyObject *dialect_name(PyObject *self, PyObject *number);
 PyObject *written(writer *call, const struct line *line, const struct syslog_options *options);
+writer object_of;
 
 /* columns.c: those for many lines. */
 PyObject *columns(PyObject *self, PyObject *words);

@@ -2,7 +2,7 @@
 #include "native.h"
 
 /* The object of a line, and with the line itself in it, as writers. */
-static uint32_t object_of(const char *line, size_t length, const struct syslog_options *options, char *room, size_t size, size_t *needed)
+uint32_t object_of(const char *line, size_t length, const struct syslog_options *options, char *room, size_t size, size_t *needed)
 {
     return syslog_json(line, length, options, 0, room, size, needed);
 }
@@ -35,7 +35,7 @@ PyObject *written(writer *call, const struct line *line, const struct syslog_opt
 static PyObject *write_by(writer *writes, PyObject *const *words, Py_ssize_t count, PyObject *names)
 {
     struct call call;
-    return take_call(words, count, names, 4, &call) ? NULL : written(writes, &call.line, &call.options);
+    return take_call(words, count, names, PRINTING_KEYS, &call) ? NULL : written(writes, &call.line, &call.options);
 }
 
 PyObject *normalise(PyObject *self, PyObject *const *words, Py_ssize_t count, PyObject *names)
@@ -56,7 +56,7 @@ PyObject *to_rfc5424(PyObject *self, PyObject *const *words, Py_ssize_t count, P
 PyObject *json(PyObject *self, PyObject *const *words, Py_ssize_t count, PyObject *names)
 {
     struct call call;
-    if (take_call(words, count, names, 5, &call))
+    if (take_call(words, count, names, OBJECT_KEYS, &call))
         return NULL;
     return written(call.raw ? raw_object_of : object_of, &call.line, &call.options);
 }

@@ -20,6 +20,8 @@ import syslog_loose  # noqa: E402
 from syslog_loose import Element, Facility, ParseError, Severity, normalise, parse, read, settle, to_rfc5424  # noqa: E402
 
 WRITERS = normalise, settle, to_rfc5424, syslog_loose.json
+# As docs/SENDERS.md has Cisco's form.
+SWITCH = "<187>4211: core-sw1: Mar  1 18:48:50.483 CET: %LINK-3-UPDOWN: Interface GigabitEthernet1/0/3, changed state to down"
 LINE = '<165>1 2003-10-11T22:14:15.003004005-07:00 mymachine app 7 ID47 [a b="c" d="\\"\\]"][e] größe'
 
 
@@ -57,9 +59,9 @@ class Parsing(unittest.TestCase):
     def compare(self, line, want):
         if not want["ok"]:
             with self.assertRaises(ParseError):
-                parse(line, year=2026)
+                parse(line, year=2026, dialects=False)
             return
-        m = parse(line, year=2026)
+        m = parse(line, year=2026, dialects=False)
         at = want["timestamp"]
         self.assertEqual("RFC%d" % m.protocol, want["protocol"])
         self.assertEqual(None if m.facility is None else "LOG_" + m.facility.name, want["facility"])
@@ -132,6 +134,36 @@ class Dates(unittest.TestCase):
         ):
             m = parse(line, year=2026)
             self.assertEqual((m.shows_year, m.shows_offset), want)
+
+    def test_dialects(self):
+        m = parse(SWITCH, year=2026)
+        self.assertEqual((m.dialect, m.hostname, m.appname, m.procid), ("cisco-ios", "core-sw1", "%LINK-3-UPDOWN", None))
+        self.assertEqual(m.message, "Interface GigabitEthernet1/0/3, changed state to down")
+        self.assertEqual((m.facility, m.severity, m.structured_data), (Facility.LOCAL7, Severity.ERR, ()))
+        self.assertEqual(m.timestamp.isoformat(), "2026-03-01T18:48:50.483000+00:00")
+        made = json.loads(syslog_loose.json(SWITCH, year=2026))
+        self.assertEqual((made["hostname"], made["dialect"]), ("core-sw1", "cisco-ios"))
+        for line, want in (
+            (SWITCH, (False, False)),
+            ("<166>Mar 01 2026 18:48:50 asa1 : %ASA-6-302013: Built outbound TCP connection", (True, False)),
+            ("2026-03-02T06:33:04+0100 laptop systemd[1]: Started Session 3 of User ann.", (True, True)),
+            ("<190>000123: .Nov 28 06:33:04.007 UTC: %SEC-6-IPACCESSLOGP: list 101 denied tcp", (False, True)),
+            ("<166>%ASA-6-305011: Built dynamic TCP translation", (False, False)),
+        ):
+            m = parse(line, year=2026)
+            self.assertEqual((m.shows_year, m.shows_offset), want)
+        firewall = "<166>Mar 01 2026 18:48:50 asa1 : %ASA-6-302013: Built outbound TCP connection"
+        self.assertEqual((parse(firewall, year=2026).dialect, parse(firewall, year=2026).hostname), ("cisco-asa", "asa1"))
+        for options in ({"dialects": False}, {"variant": "3164"}):
+            self.assertIsNone(parse(firewall, year=2026, **options).dialect)
+            self.assertNotIn("dialect", json.loads(syslog_loose.json(firewall, year=2026, **options)))
+        self.assertIsNone(parse(LINE, year=2026).dialect)
+        early = parse(SWITCH, year=-5)
+        self.assertEqual((early.timestamp, early.timestamp_text), (None, "-0005-03-01T18:48:50.483+00:00"))
+        self.assertEqual([syslog_loose.dialect_name(it) for it in (23, 0, 19, 1 << 40)], ["cisco-ios", None, None, None])
+        for options in ({"dialects": False}, {"dialects": True}):
+            with self.assertRaises(TypeError):
+                to_rfc5424(LINE, year=2026, **options)
 
     def test_variant(self):
         line = "<34>1 2003-10-11T22:14:15Z h a - - - x"
@@ -266,7 +298,7 @@ class Reading(unittest.TestCase):
 class Columns(unittest.TestCase):
     LINES = [LINE.encode(), b"<34>Mar  2 06:35:05 gateway dropbear[2310]: Exit", b"no message", b"1 - - - - - - gr\xfc\xdf", b""]
     LINES += ["<200>2019-12-31T23:59:59.5+01:00 ü a[name]: größe".encode(), b"<0>1 9998-12-31T23:59:59Z - - - - -"]
-    LINES += [b"<34>Dec 31 2019 23:59:59 h a: a year and no offset"]
+    LINES += [b"<34>Dec 31 2019 23:59:59 h a: a year and no offset", SWITCH.encode()]
 
     def sources(self):
         whole = b"\n".join(self.LINES)
@@ -299,6 +331,7 @@ class Columns(unittest.TestCase):
             told = [int(columns[it][i]) for it in ("outcome", "protocol", "facility", "severity", "elements")]
             numbers = [-1 if it is None else int(it) for it in (m.facility, m.severity)]
             self.assertEqual(told, [0, m.protocol, *numbers, len(m.structured_data)])
+            self.assertEqual(syslog_loose.dialect_name(int(columns["dialect"][i])), m.dialect)
             self.assertEqual([text(it, i) for it in ("host", "app", "msgid", "message")], [m.hostname, m.appname, m.msgid, m.message])
             process = int(columns["process"][i]) if columns["has_number"][i] else text("process", i)
             self.assertEqual((process, columns["shows_year"][i], columns["shows_offset"][i]), (m.procid, m.shows_year, m.shows_offset))
@@ -329,8 +362,9 @@ class Columns(unittest.TestCase):
         for source in self.sources():
             frame = syslog_loose.to_frame(source, year=2026)
             self.assertEqual(str(frame.dtypes["time"]), "datetime64[ns, UTC]")
-            self.assertEqual(list(frame["refused"]), [False, False, True, True, True, False, False, False])
-            self.assertEqual(list(frame["hostname"].cat.categories), ["mymachine", "gateway", "ü", "h"])
+            self.assertEqual(list(frame["refused"]), [False, False, True, True, True, False, False, False, False])
+            self.assertEqual(list(frame["hostname"].cat.categories), ["mymachine", "gateway", "ü", "h", "core-sw1"])
+            self.assertEqual((list(frame["dialect"].cat.categories), list(frame["dialect"].cat.codes)), (["cisco-ios"], [-1] * 8 + [0]))
             self.assertEqual([frame[it][0] for it in ("facility", "severity", "appname", "procid")], ["local4", "notice", "app", "7"])
             self.assertEqual([frame["procid"][i] for i in (1, 2, 5)], ["2310", None, "name"])
             self.assertEqual([frame["message"][i] for i in (0, 2, 3, 5)], ["größe", "no message", "1 - - - - - - gr\ufffd\ufffd", "größe"])
@@ -389,7 +423,7 @@ class Program(unittest.TestCase):
 
 class Package(unittest.TestCase):
     def test_messages_are_pickled(self):
-        for line in (LINE, "<34>Mar  2 06:35:05 h a: x"):
+        for line in (LINE, SWITCH, "<34>Mar  2 06:35:05 h a: x"):
             self.assertEqual(pickle.loads(pickle.dumps(parse(line, year=2026))), parse(line, year=2026))
 
     def test_arguments(self):
@@ -399,7 +433,7 @@ class Package(unittest.TestCase):
         for options in ({}, {"month": 1}, {"year": 2026, "raw": True}, {"year": None}):
             with self.assertRaises(TypeError):
                 parse(LINE, **options)
-        self.assertEqual(str(inspect.signature(parse)), "(line, /, *, year, month=None, offset=0, variant='either')")
+        self.assertEqual(str(inspect.signature(parse)), "(line, /, *, year, month=None, offset=0, variant='either', dialects=True)")
 
     def test_version(self):
         with open(os.path.join(HERE, "..", "pyproject.toml"), encoding="utf-8") as project:

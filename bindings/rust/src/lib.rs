@@ -1,5 +1,5 @@
-//! Reads, prints and converts syslog messages of RFC 5424 and the looser RFC 3164, over the C library
-//! `libsyslog_loose`.
+//! Reads, prints and converts syslog messages of RFC 5424, of the looser RFC 3164, and of senders that follow neither,
+//! over the C library `libsyslog_loose`.
 //!
 //! ```
 //! use libsyslog_loose::{parse, Options};
@@ -11,6 +11,7 @@
 //! ```
 #![deny(unsafe_op_in_unsafe_fn, missing_docs)]
 
+mod dialect;
 mod lines;
 mod message;
 mod names;
@@ -19,6 +20,7 @@ mod parts;
 mod raw;
 mod timestamp;
 
+pub use dialect::Dialect;
 pub use lines::{lines, LineError, Lines};
 pub use message::{Element, Elements, Message, Param, Params, ProcId, Protocol};
 pub use names::{Facility, NoSuchName, Severity};
@@ -58,7 +60,7 @@ impl FromStr for Variant {
     }
 }
 
-/// How a line is read. The default is either protocol, in UTC, in the month of the year that it is.
+/// How a line is read. The default is either protocol or a dialect, in UTC, in the month of the year that it is.
 #[derive(Clone, Copy, Debug, PartialEq, Eq, Hash)]
 pub struct Options {
     /// The protocols by which the line is read.
@@ -70,15 +72,18 @@ pub struct Options {
     pub month: Option<u8>,
     /// By how many seconds dates that show no offset are ahead of UTC, from -93599 to 93599.
     pub offset: i32,
+    /// Whether the calls that parse a line, and `json`, read it in its sender's dialect, where the variant is `Either`.
+    /// `normalise`, `settle`, `to_rfc5424` and `is_canonical` read each line by the protocols alone.
+    pub dialects: bool,
 }
 
 impl Options {
-    /// Either protocol, in that year and in UTC.
+    /// Either protocol or a dialect, in that year and in UTC.
     pub const fn in_year(year: i32) -> Options {
-        Options { variant: Variant::Either, year, month: None, offset: 0 }
+        Options { variant: Variant::Either, year, month: None, offset: 0, dialects: true }
     }
 
-    /// Either protocol, in UTC, in the month of the year that it is then.
+    /// Either protocol or a dialect, in UTC, in the month of the year that it is then.
     pub fn at(now: SystemTime) -> Options {
         let seconds = match now.duration_since(SystemTime::UNIX_EPOCH) {
             Ok(after) => after.as_secs() as i64,
@@ -94,7 +99,13 @@ impl Options {
             Variant::Rfc3164 => 3164,
             Variant::Rfc5424 => 5424,
         };
-        raw::Options { variant, year: self.year, month: self.month.map_or(0, u32::from), offset: self.offset }
+        raw::Options {
+            variant,
+            year: self.year,
+            month: self.month.map_or(0, u32::from),
+            offset: self.offset,
+            no_dialects: u32::from(!self.dialects),
+        }
     }
 }
 

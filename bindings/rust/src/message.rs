@@ -1,4 +1,4 @@
-use crate::{unescape, Facility, OwnedMessage, Parts, Severity, Timestamp};
+use crate::{unescape, Dialect, Facility, OwnedMessage, Parts, Severity, Timestamp};
 use std::borrow::Cow;
 use std::{fmt, iter, slice};
 
@@ -23,6 +23,8 @@ pub struct Message<'a> {
     pub msgid: Option<&'a str>,
     /// The text of the message: what follows the header and the structured data.
     pub message: &'a str,
+    /// The dialect in which the line was read, where it is in one.
+    pub dialect: Option<Dialect>,
     // the id of each element, and how many parameters it has
     elements: Vec<(&'a str, usize)>,
     params: Vec<Param<'a>>,
@@ -144,13 +146,14 @@ impl<'a> Message<'a> {
             procid: parts.procid(),
             msgid: parts.msgid(),
             message: parts.message(),
+            dialect: parts.dialect(),
             elements: parts.elements().map(|(id, params)| (id, params.len())).collect(),
             params: parts.params().collect(),
         }
     }
 }
 
-/// The message in printed form, as `normalise` writes it of the line.
+/// The message in printed form, as `normalise` writes it of a line that it reads so.
 impl fmt::Display for Message<'_> {
     fn fmt(&self, f: &mut fmt::Formatter<'_>) -> fmt::Result {
         write_message(

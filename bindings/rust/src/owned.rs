@@ -1,5 +1,5 @@
 use crate::message::write_message;
-use crate::{parse, unescape, Error, Facility, Message, Options, ProcId, Protocol, Severity, Timestamp};
+use crate::{parse, unescape, Dialect, Error, Facility, Message, Options, ProcId, Protocol, Severity, Timestamp};
 use std::borrow::Cow;
 use std::fmt;
 
@@ -27,6 +27,9 @@ pub struct OwnedMessage {
     pub structured_data: Vec<OwnedElement>,
     /// The text of the message: what follows the header and the structured data.
     pub message: String,
+    /// The dialect in which the line was read, where it is in one.
+    #[cfg_attr(feature = "serde", serde(default))]
+    pub dialect: Option<Dialect>,
 }
 
 /// An element of structured data.
@@ -80,6 +83,7 @@ impl From<&Message<'_>> for OwnedMessage {
             msgid: text(it.msgid),
             structured_data: it.elements().map(OwnedElement::from).collect(),
             message: it.message.to_string(),
+            dialect: it.dialect,
         }
     }
 }

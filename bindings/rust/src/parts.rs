@@ -1,6 +1,5 @@
-use crate::{raw, Facility, Param, ProcId, Protocol, Severity, Timestamp};
+use crate::{raw, Dialect, Facility, Param, ProcId, Protocol, Severity, Timestamp};
 use std::marker::PhantomData;
-use std::{slice, str};
 
 /// What was read of a line, in no object yet: [`parse_into`](crate::parse_into) hands it to what makes one. Its texts
 /// are pieces of the line.
@@ -33,6 +32,11 @@ impl<'a: 'r, 'r> Parts<'a, 'r> {
             5424 => Protocol::Rfc5424(self.read.version),
             _ => Protocol::Rfc3164,
         }
+    }
+
+    /// The dialect in which the line was read, where it is in one.
+    pub fn dialect(&self) -> Option<Dialect> {
+        Dialect::of(self.read.dialect)
     }
 
     /// The facility: which part of a system the message comes from.
@@ -104,8 +108,8 @@ impl<'a: 'r, 'r> Parts<'a, 'r> {
 
     fn piece(&self, text: &raw::Text) -> &'a str {
         // SAFETY: each text that the library reads is a piece of the line, in UTF-8 (its clause AreFields). By `of`
-        // these are of the line that is borrowed for 'a. An absent text is empty, and its start is not null.
-        unsafe { str::from_utf8_unchecked(slice::from_raw_parts(text.start, text.length)) }
+        // these are of the line that is borrowed for 'a.
+        unsafe { text.as_str() }
     }
 }
 

@@ -1,5 +1,6 @@
 //! What `syslog_loose.h` declares, word by word.
 use std::ptr::NonNull;
+use std::{slice, str};
 
 #[repr(C)]
 pub struct Options {
@@ -7,6 +8,7 @@ pub struct Options {
     pub year: i32,
     pub month: u32,
     pub offset: i32,
+    pub no_dialects: u32,
 }
 
 /// A piece of the line, in UTF-8.
@@ -49,6 +51,7 @@ pub struct Message {
     pub msg: Text,
     pub elements: usize,
     pub params: usize,
+    pub dialect: u32,
 }
 
 #[repr(C)]
@@ -67,6 +70,16 @@ pub struct Param {
 
 impl Text {
     pub const NONE: Text = Text { start: NonNull::dangling().as_ptr(), length: 0, present: 0 };
+
+    /// The text itself.
+    ///
+    /// # Safety
+    ///
+    /// The library has set it, or it is `NONE`, and its bytes are unchanged for 'a.
+    pub unsafe fn as_str<'a>(&self) -> &'a str {
+        // SAFETY: the library sets no text but in UTF-8. An absent one is empty, and its start is not null.
+        unsafe { str::from_utf8_unchecked(slice::from_raw_parts(self.start, self.length)) }
+    }
 }
 
 impl Element {
@@ -91,6 +104,7 @@ impl Message {
         msg: Text::NONE,
         elements: 0,
         params: 0,
+        dialect: 0,
     };
 }
 
@@ -158,4 +172,5 @@ extern "C" {
         room_length: usize,
         needed: *mut usize,
     ) -> u32;
+    pub fn syslog_dialect_name(dialect: u32, name: *mut Text);
 }

@@ -2,7 +2,7 @@
 use libsyslog_loose::{
     is_canonical, json, lines, normalise, parse, parse_fields, parse_into, settle, to_rfc5424, version,
 };
-use libsyslog_loose::{Error, Facility, LineError, Message, NoSuchName, Options, OwnedMessage, Param};
+use libsyslog_loose::{Dialect, Error, Facility, LineError, Message, NoSuchName, Options, OwnedMessage, Param};
 use libsyslog_loose::{ProcId, Protocol, Severity, Timestamp, Variant};
 use std::borrow::Cow;
 use std::thread;
@@ -11,6 +11,8 @@ use std::time::{Duration, SystemTime};
 const IN_2026: Options = Options::in_year(2026);
 const LINE: &str = r#"<165>1 2003-10-11T22:14:15.003004005-07:00 mymachine app 7 ID47 [a b="c" d="\"\]"][e] größe"#;
 const DECEMBER: &str = "<34>Dec 31 23:59:59 h a: x";
+// As docs/SENDERS.md has Cisco's form.
+const SWITCH: &str = "<187>4211: core-sw1: Mar  1 18:48:50.483 CET: %LINK-3-UPDOWN: Interface changed state to down";
 
 // A timestamp of a line that shows its year and its offset.
 fn stamp(seconds: i64, nanoseconds: u32, offset: i32) -> Timestamp {
@@ -141,6 +143,36 @@ fn what_the_line_shows_of_its_date() {
 }
 
 #[test]
+fn dialects() {
+    let m = parse(SWITCH, &IN_2026).unwrap();
+    assert_eq!(m.dialect.map(Dialect::as_str), Some("cisco-ios"));
+    assert_eq!((m.hostname, m.appname, m.procid), (Some("core-sw1"), Some("%LINK-3-UPDOWN"), None));
+    assert_eq!((m.message, m.elements().len()), ("Interface changed state to down", 0));
+    let at = m.timestamp.unwrap();
+    assert_eq!((at.to_string(), at.shows_year, at.shows_offset), ("2026-03-01T18:48:50.483+00:00".into(), false, false));
+    assert_eq!(parse_fields(SWITCH, &IN_2026).unwrap().dialect, m.dialect);
+    assert!(json(SWITCH, &IN_2026, false).unwrap().contains(r#""hostname":"core-sw1""#));
+    let firewall = "<166>Mar 01 2026 18:48:50 asa1 : %ASA-6-302013: Built outbound TCP connection";
+    assert_eq!(parse(firewall, &IN_2026).unwrap().dialect.map(Dialect::number), Some(25));
+    for options in [Options { dialects: false, ..IN_2026 }, Options { variant: Variant::Rfc3164, ..IN_2026 }] {
+        assert_eq!(parse(firewall, &options).unwrap().dialect, None);
+    }
+    assert_eq!(parse(LINE, &IN_2026).unwrap().dialect, None);
+    for (line, year, offset) in [
+        ("<166>Mar 01 2026 18:48:50 asa1 : %ASA-6-302013: Built outbound TCP connection", true, false),
+        ("2026-03-02T06:33:04+0100 laptop systemd[1]: Started Session 3 of User ann.", true, true),
+        ("<190>000123: .Nov 28 06:33:04.007 UTC: %SEC-6-IPACCESSLOGP: list 101 denied tcp", false, true),
+    ] {
+        let at = parse(line, &IN_2026).unwrap().timestamp.unwrap();
+        assert_eq!((at.shows_year, at.shows_offset), (year, offset), "{line}");
+    }
+    let dialect: Dialect = "cisco-ios".parse().unwrap();
+    assert_eq!((dialect.number(), dialect.to_string(), Some(dialect)), (23, "cisco-ios".into(), m.dialect));
+    assert_eq!((Dialect::try_from(23), Dialect::try_from(0)), (Ok(dialect), Err(NoSuchName)));
+    assert_eq!("cisco".parse::<Dialect>(), Err(NoSuchName));
+}
+
+#[test]
 fn timestamps_are_values() {
     let (at, later) = (stamp(5, 0, 3_600), stamp(5, 1, 0));
     assert!(at < later && stamp(5, 0, 0) < at);
@@ -181,6 +213,7 @@ fn names_and_numbers() {
 
 #[test]
 fn messages_print_as_the_library_prints_them() {
+    let by_protocols = Options { dialects: false, ..IN_2026 };
     for line in [
         LINE,
         DECEMBER,
@@ -192,10 +225,10 @@ fn messages_print_as_the_library_prints_them() {
         "-",
         "<34>1 2020-01-01T00:00:00.25-00:30 h a name m - x",
     ] {
-        let m = parse(line, &IN_2026).unwrap();
-        let printed = normalise(line, &IN_2026).unwrap();
+        let m = parse(line, &by_protocols).unwrap();
+        let printed = normalise(line, &by_protocols).unwrap();
         assert_eq!(m.to_string(), printed);
-        let owned = OwnedMessage::parse(line, &IN_2026).unwrap();
+        let owned = OwnedMessage::parse(line, &by_protocols).unwrap();
         assert_eq!((owned.to_string(), &owned), (printed.clone(), &m.into()));
     }
     assert_eq!((is_canonical(LINE, &IN_2026), is_canonical("<34>- zork:: hi", &IN_2026)), (Ok(true), Ok(false)));
@@ -223,7 +256,7 @@ fn the_default_is_now() {
 #[cfg(feature = "serde")]
 #[test]
 fn by_serde() {
-    for line in [LINE, DECEMBER, "1 - - - - - -"] {
+    for line in [LINE, DECEMBER, SWITCH, "1 - - - - - -"] {
         let m = parse(line, &IN_2026).unwrap();
         let text = serde_json::to_string(&m).unwrap();
         assert_eq!(serde_json::from_str::<OwnedMessage>(&text).unwrap(), m.to_owned());

@@ -4,6 +4,7 @@ pub mod LineLemmas
 pub mod NameLemmas
 pub mod ReadLemmas
 pub mod RowLemmas
+pub mod SentLemmas
 pub mod ShownLemmas
 pub mod StrictLemmas
 pub mod TextLemmas

@@ -1,47 +1,37 @@
 -- A line that is read.
-use Rattle.syslog_c.proofs.Words.{ℕ, IncompleteDate, in_year_map, in_year_told, AreInRange, IsReckoned, variant_number}
-use Rattle.syslog_c.proofs.Words.{◌≡◌, IsUtf8, TimeZone, IsYear, Dating, Variant, IsZoneAt, dating_in, Options, Outcome}
-use Rattle.syslog_c.proofs.Words.{ℤ, List, inl, inr, subst, Text, InYear, OnLine}
+use Rattle.syslog_c.proofs.Words.{ℕ, List, inl, inr, subst, IsUtf8, Dating, Text, Options, Outcome, OnLine, ◌≡◌}
+use Rattle.syslog_c.proofs.Words.{AreRules, Rules, in_year_map}
 use Rattle.std.specs.Str.{chars}
+use Rattle.syslog_loose.specs.Dates.{IsDated}
 use Rattle.syslog_c.specs.Line.{IsTried}
 
--- what holds of the text that the line's bytes are, in the year that the options' rules give
-pub tried_line : {post : IncompleteDate → ℤ → Type 0} (Holds : Variant → Dating → Text → Type 0) (options : Options)
-    (line bytes : List ℕ) (variant : Variant) (zone : TimeZone)
-    → (options.variant ≡ variant_number variant) × AreInRange options × IsZoneAt options.offset zone
-    → (bytes ≡ line) × IsUtf8 line
-    → ((date : IncompleteDate) (year : ℤ) → post date year → IsYear options.year → IsReckoned options date year)
-    → InYear post variant (chars bytes) (λ year. Holds variant (dating_in zone year) (chars bytes))
+-- what holds of the text that the line's bytes are, as its dates are taken by the rules
+pub tried_line : (Holds : Rules → Dating → Text → Type 0) (options : Options) (line bytes : List ℕ) (rules : Rules)
+    → AreRules options rules → (bytes ≡ line) × IsUtf8 line
+    → IsDated rules.dates rules.variant (chars bytes) (λ dating. Holds rules dating (chars bytes))
     → IsTried options line Holds
-tried_line Holds options line bytes variant zone (named, in_range, ahead) (same, utf8) tells holds = record {
-  variant = variant;
-  zone = zone;
-  named = named;
-  in_range = in_range;
-  ahead = ahead;
+tried_line Holds options line bytes rules are (same, utf8) holds = record {
+  rules = rules;
+  are = are;
   utf8 = utf8;
-  holds = subst (λ (bs : List ℕ). InYear (IsReckoned options) variant (chars bs)
-      (λ year. Holds variant (dating_in zone year) (chars bs))) same
-      (in_year_told holds (λ date year is. tells date year is in_range.year));
+  holds = subst (λ (bs : List ℕ). IsDated rules.dates rules.variant (chars bs)
+      (λ dating. Holds rules dating (chars bs))) same holds;
 }
 
 -- what holds of a line that is read holds of one that is read so
-pub tried_map : {Holds More : Variant → Dating → Text → Type 0} (options : Options) (line : List ℕ)
-    → ((variant : Variant) (dating : Dating) (text : Text) → Holds variant dating text → More variant dating text)
+pub tried_map : {Holds More : Rules → Dating → Text → Type 0} (options : Options) (line : List ℕ)
+    → ((rules : Rules) (dating : Dating) (text : Text) → Holds rules dating text → More rules dating text)
     → IsTried options line Holds → IsTried options line More
 tried_map options line f t = record {
-  variant = t.variant;
-  zone = t.zone;
-  named = t.named;
-  in_range = t.in_range;
-  ahead = t.ahead;
+  rules = t.rules;
+  are = t.are;
   utf8 = t.utf8;
   holds = in_year_map (λ year h. f _ _ _ h) t.holds;
 }
 
-pub on_line_map : {Left Other : Type 0} {Holds More : Variant → Dating → Text → Type 0}
+pub on_line_map : {Left Other : Type 0} {Holds More : Rules → Dating → Text → Type 0}
     (options : Options) (line : List ℕ) (outcome : Outcome) → (Left → Other)
-    → ((variant : Variant) (dating : Dating) (text : Text) → Holds variant dating text → More variant dating text)
+    → ((rules : Rules) (dating : Dating) (text : Text) → Holds rules dating text → More rules dating text)
     → OnLine options line outcome Left Holds → OnLine options line outcome Other More
 on_line_map options line outcome g f (inl a) = inl (a.0, a.1, g a.2)
 on_line_map options line outcome g f (inr (inl a)) = inr (inl (a.0, a.1, a.2, g a.3))

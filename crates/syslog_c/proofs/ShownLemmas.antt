@@ -1,14 +1,14 @@
 -- A line of RFC 5424 shows no month date.
 use Rattle.syslog_c.proofs.Words.{◌≡◌, ◌∙◌, sym, ap, ℕ, Text, Dating, Variant, inl, inr, arith, Option, None, Some}
-use Rattle.syslog_loose.specs.Message.{MessageValue}
-use Rattle.syslog_loose.specs.Passes.{ShowsNoDate}
+use Rattle.syslog_c.proofs.Words.{IsStamp, MessageValue, OffsetTimestamp, ShowsNoDate, Stamp}
 use Rattle.syslog_loose.specs.Reading.{IsRead, dash_rule}
 use Rattle.syslog_loose.specs.Rfc3164.{IsRead3164}
 use Rattle.syslog_loose.specs.Rfc5424.{IsRead5424}
 use Rattle.syslog_loose.specs.declared.variant.Variant.TheVariants.{Either, RFC3164, RFC5424}
 use Rattle.syslog_loose.proofs.Rfc3164Lemmas.{shown_apart}
-use Rattle.syslog_pieces.specs.declared.timestamp.OffsetTimestamp.{OffsetTimestamp}
-use Rattle.syslog_c.{specs.Fields.IsStamp, specs.Fields.protocol_number, specs.declared.fields.Stamp.Stamp}
+use Rattle.syslog_dialects.specs.declared.dialect.Dialect.{Dialect}
+use Rattle.syslog_c.specs.Fields.{AreFields, protocol_number}
+use Rattle.syslog_c.specs.declared.fields.Fields.{Fields}
 use Rattle.syslog_c.specs.Shown.{AreFlags, IsShown}
 
 shows_none : (text : Text) (m : MessageValue) → IsRead5424 text m → ShowsNoDate text
@@ -35,6 +35,30 @@ pub flagged : (text : Text) (s t : Stamp) → (s.present ≡ 0 → ⊥) → t.se
     → (at : Option OffsetTimestamp) → IsStamp s at → IsStamp t at × IsShown text t
 flagged text s t there e f g h flags None is = absurd (there is.0)
 flagged text s t there e f g h flags (Some at) is = (
-  record { present = h ∙ is.present; seconds = e ∙ is.seconds; nanoseconds = f ∙ is.nanoseconds; offset = g ∙ is.offset },
+  record {
+    present = h ∙ is.present;
+    seconds = e ∙ is.seconds;
+    nanoseconds = f ∙ is.nanoseconds;
+    offset = g ∙ is.offset;
+  },
   inr (h ∙ is.present, flags),
 )
+
+-- the fields say what the message is with another timestamp too that does
+pub restamped : (f : Fields) (s : Stamp) (dialect : Option Dialect) (m : MessageValue) → AreFields f dialect m
+    → IsStamp s m.timestamp → AreFields (record f { timestamp = s }) dialect m
+restamped f s dialect m are is = record {
+  protocol = are.protocol;
+  version = are.version;
+  facility = are.facility;
+  severity = are.severity;
+  timestamp = is;
+  host = are.host;
+  app = are.app;
+  process = are.process;
+  msgid = are.msgid;
+  msg = are.msg;
+  elements = are.elements;
+  params = are.params;
+  dialect = are.dialect;
+}

@@ -12,15 +12,16 @@ use Rattle.syslog_loose.specs.Settling.{Settles}
 use Rattle.syslog_loose.specs.declared.fault.ParseFault.TheVariants.{Invalid, Memory}
 use Rattle.syslog_c.specs.Room.{HasTaken, IsLeftFor, Puts, Takes, TellsLength}
 use Rattle.syslog_c.{specs.Texts.PutsObject, specs.Texts.Settled, specs.declared.room.Buffer.Buffer}
-use Rattle.std.proofs.Common.{Option}
-use Rattle.syslog_loose.specs.Message.{MessageValue}
+use Rattle.syslog_c.proofs.Words.{MessageValue, Option}
+use Rattle.syslog_dialects.specs.declared.dialect.Dialect.{Dialect}
 
 -- what the characters of a literal unfold
 unfoldable pub chars_of_literals : ⊤
 unfolding chars
 chars_of_literals = tt
 
-pub settled_answer : (variant : Variant) (dating : Dating) (text : Text) (old new : List ℕ) (needed : ℕ) (outcome : Outcome)
+pub settled_answer : (variant : Variant) (dating : Dating) (text : Text) (old new : List ℕ) (needed : ℕ)
+    (outcome : Outcome)
     (answer : Result (String Global) ParseFault) → Settles variant dating text answer
     → MatchResult answer (λ u. Puts (string_bytes u) old new needed outcome)
     (λ fault. IsLeftFor fault old new needed outcome) → Settled variant dating text old new needed outcome
@@ -30,11 +31,11 @@ settled_answer variant dating text old new needed outcome (Err Invalid) s left =
 settled_answer variant dating text old new needed outcome (Err Memory) s left = inr (rw left.0 s, left.1)
 
 -- what is said of the line's unparsed text, said of the text that is read
-pub puts_more : (m : MessageValue) (raw : Option Text) (A B : Text → Type 0) (old new : List ℕ) (needed : ℕ)
-    (outcome : Outcome) → ((u : Text) → A u → B u) → PutsObject m A raw old new needed outcome
-    → PutsObject m B raw old new needed outcome
-puts_more m raw A B old new needed outcome more (inl (u, left, written)) = inl (u, more u left, written)
-puts_more m raw A B old new needed outcome more (inr refused) = inr refused
+pub puts_more : (dialect : Option Dialect) (m : MessageValue) (A B : Text → Type 0) (raw : Option Text)
+    (old new : List ℕ) (needed : ℕ) (outcome : Outcome) → ((u : Text) → A u → B u)
+    → PutsObject dialect m A raw old new needed outcome → PutsObject dialect m B raw old new needed outcome
+puts_more dialect m A B raw old new needed outcome more (inl (u, left, written)) = inl (u, more u left, written)
+puts_more dialect m A B raw old new needed outcome more (inr refused) = inr refused
 
 -- what holds of the room that comes back holds of the caller's
 pub with_room : (P : List ℕ → Type 0) (now room : List ℕ) → room ≡ now → P now → P room
@@ -47,7 +48,8 @@ taken_none b e = record { same = refl; needed = e; put = λ fits. refl }
 -- pieces that are put one after the other
 pub takes_after : (old mid new : Buffer) (a b : List ℕ) → Takes old a mid → Takes mid b new → Takes old (a ++ b) new
 takes_after old mid new a b first then_more start taken h =
-    subst (λ (bs : List ℕ). HasTaken start new bs) (append_assoc taken a b) (then_more start (taken ++ a) (first start taken h))
+    subst (λ (bs : List ℕ). HasTaken start new bs) (append_assoc taken a b)
+    (then_more start (taken ++ a) (first start taken h))
 
 pub takes_none : (b : Buffer) → Takes b [] b
 takes_none b start taken h = subst (λ (bs : List ℕ). HasTaken start b bs) (sym (append-nil taken)) h

@@ -15,12 +15,14 @@ use Rattle.syslog_pieces.specs.declared.timestamp.OffsetTimestamp.{OffsetTimesta
 use Rattle.syslog_loose.specs.Message.{MessageValue}
 use Rattle.syslog_loose.specs.declared.message.Protocol.{Protocol}
 use Rattle.syslog_loose.specs.declared.message.Protocol.TheVariants.{RFC3164, RFC5424}
+use Rattle.syslog_dialects.specs.declared.dialect.Dialect.{Dialect}
 use Rattle.syslog_c.specs.declared.fields.Element.{Element}
 use Rattle.syslog_c.specs.declared.fields.Fields.{Fields}
 use Rattle.syslog_c.specs.declared.fields.Param.{Param}
 use Rattle.syslog_c.specs.declared.fields.Process.{Process}
 use Rattle.syslog_c.specs.declared.fields.Stamp.{Stamp}
 use Rattle.syslog_c.specs.declared.fields.Text.{Text}
+use Rattle.syslog_c.specs.Sent.{dialect_code}
 
 -- ---- one field
 
@@ -93,8 +95,8 @@ pub record IsBegun {A B : Type 0} (Is : A → B → Type 0) (values : List B) (o
 
 -- ---- the message
 
--- the struct says what the message is
-pub record AreFields (fields : Fields) (m : MessageValue) : Type 0 where
+-- the struct says what the message is, and in which dialect it was read
+pub record AreFields (fields : Fields) (read_in : Option Dialect) (m : MessageValue) : Type 0 where
   pub protocol : fields.protocol ≡ protocol_number m.protocol
   pub version : fields.version ≡ version_number m.protocol
   pub facility : fields.facility ≡ facility_code m.facility
@@ -107,3 +109,4 @@ pub record AreFields (fields : Fields) (m : MessageValue) : Type 0 where
   pub msg : IsText fields.msg m.msg
   pub elements : fields.elements ≡ length m.structured_data
   pub params : fields.params ≡ length (all_params m.structured_data)
+  pub dialect : fields.dialect ≡ dialect_code read_in

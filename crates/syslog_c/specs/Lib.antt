@@ -6,6 +6,7 @@ pub mod Options
 pub mod Outcome
 pub mod Room
 pub mod Rows
+pub mod Sent
 pub mod Shown
 pub mod Strict
 pub mod Texts

@@ -1,19 +1,24 @@
 -- What the options mean.
-use Rattle.std.specs.Prelude.{◌≡◌, ℕ, ℤ, ◌≤◌, Some}
+use Rattle.std.specs.Prelude.{◌≡◌, ℕ, nat_eq, ◌≤◌, if◌then◌else◌, Option, Some, None}
+use Rattle.jiff.specs.Words.{plain_zone}
 use Rattle.jiff_core.specs.Calendar.{IsYear}
 use Rattle.jiff_core.specs.Timestamp.{IsOffsetSeconds}
-use Rattle.syslog_loose.specs.Reading.{IncompleteDate}
-use Rattle.syslog_loose.specs.Reckoning.{reckoned_year}
-pub use Rattle.syslog_loose.specs.Reckoning.{IsZoneAt, dating_in}
+use Rattle.syslog_loose.specs.Reckoning.{IsZoneAt}
+use Rattle.syslog_loose.specs.declared.dates.Dates.{Dates}
 use Rattle.syslog_loose.specs.declared.variant.Variant.{Variant}
 use Rattle.syslog_loose.specs.declared.variant.Variant.TheVariants.{Either, RFC3164, RFC5424}
 use Rattle.syslog_c.specs.declared.options.Options.{Options}
+use Rattle.syslog_c.specs.declared.rules.Rules.{Rules}
 
 -- the number of a variant
 abbrev pub variant_number : Variant → ℕ
 variant_number Either = 0
 variant_number RFC3164 = 3164
 variant_number RFC5424 = 5424
+
+-- the month that it is now, where it is known
+abbrev pub known_month : ℕ → Option ℕ
+known_month month = if nat_eq month 0 then None else Some month
 
 -- the numbers of a year, a month (or none) and an offset are in range
 pub record AreInRange (options : Options) : Type 0 where
@@ -25,6 +30,15 @@ pub record AreInRange (options : Options) : Type 0 where
 abbrev pub IsTaken : Options → Type 0
 IsTaken options = ((variant : Variant) × (options.variant ≡ variant_number variant)) × AreInRange options
 
--- this is the year of a date that shows none
-abbrev pub IsReckoned : Options → IncompleteDate → ℤ → Type 0
-IsReckoned options date year = year ≡ reckoned_year options.year (Some options.month) date
+-- dates that show no year or no zone are taken as the options say
+pub record AreDates (options : Options) (dates : Dates) : Type 0 where
+  pub year : dates.year ≡ options.year
+  pub month : dates.month ≡ known_month options.month
+  pub zone : IsZoneAt options.offset (plain_zone dates.zone)
+
+-- these are the rules that the options say
+pub record AreRules (options : Options) (rules : Rules) : Type 0 where
+  pub named : options.variant ≡ variant_number rules.variant
+  pub in_range : AreInRange options
+  pub dates : AreDates options rules.dates
+  pub dialects : rules.dialects ≡ nat_eq options.no_dialects 0

@@ -26,6 +26,7 @@ pub record AreBlank (fields : Fields) : Type 0 where
   pub msg : IsNoText fields.msg
   pub elements : fields.elements ≡ 0
   pub params : fields.params ≡ 0
+  pub dialect : fields.dialect ≡ 0
 
 -- the row has the line, and what `syslog_read_fields` returns of it and leaves of blank fields
 pub record IsRow (options : Options) (row : Row) (line : List ℕ) : Type 0 where
@@ -34,7 +35,7 @@ pub record IsRow (options : Options) (row : Row) (line : List ℕ) : Type 0 wher
   pub blank : Fields
   pub are_blank : AreBlank blank
   pub read : IsCodeOf row.outcome (λ outcome. OnLine options line outcome (row.fields ≡ blank)
-      (λ variant dating text. TellsFields variant dating text blank row.fields outcome))
+      (λ rules dating text. TellsFields rules dating text blank row.fields outcome))
 
 -- The lines of the buffer have a row each, in order, and the rows after them are as they were; or there are more lines
 -- than rows, and each row has one of the first lines; or the options mean nothing, and all is as it was.

@@ -26,4 +26,4 @@ abbrev pub PutsStrict : Options → List ℕ → List ℕ → List ℕ → ℕ �
 PutsStrict options line old new needed outcome =
     (IsTaken options × IsUtf8 line × PutsSome (Copies (chars line)) old new needed outcome)
     ⊎ OnLine options line outcome (IsLeft old new needed)
-    (λ variant dating input. PutsSome (Converts variant dating input) old new needed outcome)
+    (λ rules dating input. PutsSome (Converts rules.variant dating input) old new needed outcome)

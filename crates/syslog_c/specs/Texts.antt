@@ -7,16 +7,20 @@ use Rattle.syslog_pieces.specs.Timestamp.Zone.{Dating}
 use Rattle.syslog_loose.specs.Message.{MessageValue}
 use Rattle.syslog_loose.specs.Printed.{printed}
 use Rattle.syslog_loose.specs.Reading.{IsOnlyRead}
-use Rattle.syslog_loose.specs.Unparsed.{Leaves}
 use Rattle.syslog_loose.specs.Settling.{IsSettlingFault, SettlesAs}
 use Rattle.syslog_loose.specs.declared.fault.ParseFault.TheVariants.{Invalid, Memory}
 use Rattle.syslog_loose.specs.declared.variant.Variant.{Variant}
+use Rattle.syslog_dialects.specs.Dialect.{dialect_text}
+use Rattle.syslog_dialects.specs.SentReading.{LeavesSent}
+use Rattle.syslog_dialects.specs.declared.dialect.Dialect.{Dialect}
 use Rattle.syslog_object.specs.Object.{beside_line, message_json}
 use Rattle.syslog_object.specs.Written.{IsTextOf}
 use Rattle.syslog_c.specs.Line.{Refuses}
 use Rattle.syslog_c.specs.Room.{IsLeft, Puts}
+use Rattle.syslog_c.specs.Sent.{IsOnlyMeant, RefusesSent}
 use Rattle.syslog_c.specs.declared.outcome.Outcome.{Outcome}
 use Rattle.syslog_c.specs.declared.outcome.Outcome.TheVariants.{NoReading, NotUtf8, NoMemory}
+use Rattle.syslog_c.specs.declared.rules.Rules.{Rules}
 
 -- these bytes spell the first settled round of the text
 pub record IsSettledText (variant : Variant) (dating : Dating) (text : Text) (bytes : List ℕ) : Type 0 where
@@ -49,18 +53,21 @@ raw_text raw text = if nat_eq raw 0 then None else Some text
 
 -- the text of the message's object, with what is left unparsed of structured data, in the buffer or with its length
 -- alone; or no memory, and all is as it was
-abbrev pub PutsObject : MessageValue → (Text → Type 0) → Option Text → List ℕ → List ℕ → ℕ → Outcome → Type 0
-PutsObject m Unparsed raw old new needed outcome =
+abbrev pub PutsObject : Option Dialect → MessageValue → (Text → Type 0) → Option Text → List ℕ → List ℕ → ℕ → Outcome
+    → Type 0
+PutsObject dialect m Unparsed raw old new needed outcome =
     ((unparsed : Text) × Unparsed unparsed × ((bytes : List ℕ)
-    × IsTextOf (message_json m (beside_line None unparsed raw)) bytes × Puts bytes old new needed outcome))
+    × IsTextOf (message_json m (beside_line (dialect_text dialect) unparsed raw)) bytes
+    × Puts bytes old new needed outcome))
     ⊎ ((outcome ≡ NoMemory) × IsLeft old new needed)
 
--- so it is for the one message as which the text is read; or there is no message, and all is as it was
-abbrev pub WritesObject : ℕ → Variant → Dating → Text → List ℕ → List ℕ → ℕ → Outcome → Type 0
-WritesObject raw variant dating text old new needed outcome =
-    ((m : MessageValue) × IsOnlyRead variant dating text m
-    × PutsObject m (Leaves variant text) (raw_text raw text) old new needed outcome)
-    ⊎ (Refuses variant dating text outcome × IsLeft old new needed)
+-- so it is for the one message as which the text is read, in one dialect or none; or there is no message, and all is as
+-- it was
+abbrev pub WritesObject : ℕ → Rules → Dating → Text → List ℕ → List ℕ → ℕ → Outcome → Type 0
+WritesObject raw rules dating text old new needed outcome =
+    ((dialect : Option Dialect) × (m : MessageValue) × IsOnlyMeant rules dating text dialect m
+    × PutsObject dialect m (LeavesSent dialect rules.variant text) (raw_text raw text) old new needed outcome)
+    ⊎ (RefusesSent rules dating text outcome × IsLeft old new needed)
 
 -- these bytes spell the value without its escapes
 pub record IsUnescapedValue (value bytes : List ℕ) : Type 0 where

@@ -68,6 +68,8 @@ pub struct Fields<'a> {
     pub elements: usize,
     /// How many parameters these have together.
     pub params: usize,
+    /// The number of the dialect that the line was read in, or 0.
+    pub dialect: u32,
 }
 
 /// What a line of a block says.

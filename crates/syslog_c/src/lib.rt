@@ -20,6 +20,7 @@ mod read;
 mod read_line;
 mod room;
 mod rules;
+mod sent;
 mod shown;
 mod strict;
 mod tell;

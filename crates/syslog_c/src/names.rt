@@ -1,13 +1,14 @@
-//! The names of facilities and severities, and what outcomes say.
+//! The names of facilities, severities and dialects, and what outcomes say.
 ghost use Rattle.std.specs.Prelude.{◌≡◌, slice_get};
 ghost use Rattle.std.specs.Option.{option_map};
 ghost use Rattle.syslog_pieces.specs.Pieces.View.{seen};
 ghost use Rattle.syslog_pieces.specs.Pri.{facilities, facility_name, severities, severity_name};
 ghost use Rattle.syslog_c.specs.Fields.{IsOptionalText};
-ghost use Rattle.syslog_c.specs.Names.{outcome_texts};
+ghost use Rattle.syslog_c.specs.Names.{IsDialectName, outcome_texts};
 
 use crate::fields::Text;
 use crate::tell::optional_text;
+use syslog_dialects::Dialect;
 use syslog_loose::{SyslogFacility, SyslogSeverity};
 use syslog_pieces::pri::decompose_pri;
 
@@ -29,6 +30,17 @@ pub extern "C" fn syslog_severity_name(severity: u32, name: &mut Text<'static>)
 {
     *name = match severity_at(severity) {
         Some(severity) => optional_text(Some(severity.as_str())),
+        None => optional_text(None),
+    };
+}
+
+/// Sets `name` to the name of the dialect that has this number, as `cisco-ios`; to an absent text if none has.
+#[unsafe(no_mangle)]
+pub extern "C" fn syslog_dialect_name(dialect: u32, name: &mut Text<'static>)
+    ensures { IsDialectName dialect name.new }
+{
+    *name = match Dialect::from_number(dialect) {
+        Some(dialect) => optional_text(Some(dialect.name())),
         None => optional_text(None),
     };
 }

@@ -13,4 +13,6 @@ pub struct Options {
     pub month: u32,
     /// How many seconds the zone of dates without an offset is ahead of UTC, from -93599 to 93599.
     pub offset: i32,
+    /// 0, if a line of a dialect is read in it; any other number, if each line is read by the two protocols alone.
+    pub no_dialects: u32,
 }

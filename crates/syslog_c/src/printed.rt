@@ -1,10 +1,10 @@
 //! The printed text of a line, once or stable, in a buffer of the caller's.
 ghost use Rattle.std.specs.Str.{encode_utf8_all};
-ghost use Rattle.jiff_core.specs.Calendar.{IsYear};
+ghost use Rattle.std.specs.Prelude.{◌≡◌};
+ghost use Rattle.syslog_loose.specs.Dates.{year_in};
 ghost use Rattle.syslog_loose.specs.Line.{line_value};
 ghost use Rattle.syslog_loose.specs.Printed.{printed};
 ghost use Rattle.syslog_c.specs.Line.{OnLine};
-ghost use Rattle.syslog_c.specs.Options.{IsReckoned};
 ghost use Rattle.syslog_c.specs.Outcome.{IsCodeOf};
 ghost use Rattle.syslog_c.specs.Room.{IsLeft, Puts};
 ghost use Rattle.syslog_c.specs.Texts.{Normalised, Settled};
@@ -14,7 +14,7 @@ use crate::outcome::Outcome;
 use crate::put_line::put_line;
 use crate::read_line::read_line;
 use crate::room::{Buffer, put_answer};
-use crate::rules::{rules_of, year_of};
+use crate::rules::rules_of;
 use std::alloc::Global;
 use syslog_loose::{IncompleteDate, Line, settle};
 use syslog_utf8::from_utf8;
@@ -29,14 +29,14 @@ pub extern "C" fn syslog_normalise(
     needed: &mut usize,
 ) -> u32
     ensures { IsCodeOf result (λ outcome. OnLine options.now line.now outcome (IsLeft room.old room.new needed.new)
-        (λ variant dating text. Normalised variant dating text room.old room.new needed.new outcome)) }
+        (λ rules dating text. Normalised rules.variant dating text room.old room.new needed.new outcome)) }
 {
     write_normal(line, options, room, needed) as u32
 }
 
 fn write_normal(line: &[u8], options: &Options, room: &mut [u8], needed: &mut usize) -> Outcome
-    ensures { OnLine options.now line.now result (IsLeft room.old room.new needed.new) (λ variant dating text.
-        Normalised variant dating text room.old room.new needed.new result) }
+    ensures { OnLine options.now line.now result (IsLeft room.old room.new needed.new) (λ rules dating text.
+        Normalised rules.variant dating text room.old room.new needed.new result) }
 {
     *needed = 0;
     match read_line(line, options) {
@@ -65,7 +65,7 @@ pub extern "C" fn syslog_settle(
     needed: &mut usize,
 ) -> u32
     ensures { IsCodeOf result (λ outcome. OnLine options.now line.now outcome (IsLeft room.old room.new needed.new)
-        (λ variant dating text. Settled variant dating text room.old room.new needed.new outcome)) }
+        (λ rules dating text. Settled rules.variant dating text room.old room.new needed.new outcome)) }
 {
     write_settled(alloc, line, options, room, needed) as u32
 }
@@ -77,8 +77,8 @@ fn write_settled(
     room: &mut [u8],
     needed: &mut usize,
 ) -> Outcome
-    ensures { OnLine options.now line.now result (IsLeft room.old room.new needed.new) (λ variant dating text.
-        Settled variant dating text room.old room.new needed.new result) }
+    ensures { OnLine options.now line.now result (IsLeft room.old room.new needed.new) (λ rules dating text.
+        Settled rules.variant dating text room.old room.new needed.new result) }
 {
     *needed = 0;
     let Some(rules) = rules_of(options) else {
@@ -87,9 +87,10 @@ fn write_settled(
     let Ok(text) = from_utf8(line) else {
         return Outcome::NotUtf8;
     };
-    let get_year = move |date: IncompleteDate| -> i32
-        ensures { IsYear options.entry.now.year → IsReckoned options.entry.now date result }
-    { year_of(options, date) };
-    let settled = settle(alloc, text, get_year, None, rules.variant, &rules.zone);
+    let dates = &rules.dates;
+    let get_year = |date: IncompleteDate| -> i32
+        ensures { result ≡ year_in dates.entry.now date }
+    { dates.year_of(date) };
+    let settled = settle(alloc, text, get_year, None, rules.variant, &dates.zone);
     put_answer(settled, room, needed)
 }

@@ -2,38 +2,45 @@
 ghost use Rattle.std.specs.Prelude.{◌≡◌, ◌↔◌, ◌≤◌, IsTrue, MatchOption};
 ghost use Rattle.jiff.specs.Words.{plain_zone};
 ghost use Rattle.jiff_core.specs.Calendar.{IsYear};
+ghost use Rattle.jiff_core.specs.Timestamp.{IsOffsetSeconds};
 ghost use Rattle.syslog_loose.specs.declared.variant.Variant.{Variant};
-ghost use Rattle.syslog_c.specs.Options.{AreInRange, IsReckoned, IsTaken, IsZoneAt, variant_number};
+ghost use Rattle.syslog_c.specs.Options.{AreDates, AreInRange, AreRules, IsTaken, known_month, variant_number};
 
 use crate::options::Options;
-use syslog_loose::{IncompleteDate, TimeZone, Variant, reckon_year, zone_ahead};
+use syslog_loose::{Dates, Variant};
 
-/// By which variant a line is read, and in which zone dates without an offset are.
+/// How a line is read: by which variant, how its dates are taken, and whether in the dialect that it is in.
 #[derive(Drop)]
 pub(crate) struct Rules {
     pub(crate) variant: Variant,
-    pub(crate) zone: TimeZone<'static>,
+    pub(crate) dates: Dates,
+    pub(crate) dialects: bool,
 }
 
 /// Returns what the options mean, if each is in its range.
 pub(crate) fn rules_of(options: &Options) -> Option<Rules>
-    ensures { MatchOption result (IsTaken options.now → ⊥)
-        (λ rules. (options.now.variant ≡ variant_number rules.variant)
-        × AreInRange options.now × IsZoneAt options.now.offset (plain_zone rules.zone)) }
+    ensures { MatchOption result (IsTaken options.now → ⊥) (λ rules. AreRules options.now rules) }
 {
-    if !is_date_in_range(options) {
+    if !are_in_range(options) {
         return None;
     }
     let variant = variant_of(options.variant)?;
-    let zone = zone_ahead(options.offset)?;
-    Some(Rules { variant, zone })
+    let dates = dates_of(options);
+    let dialects = options.no_dialects == 0;
+    Some(Rules {
+        variant,
+        dates,
+        dialects,
+    })
 }
 
-// Whether the year and the month are in range.
-fn is_date_in_range(options: &Options) -> bool
-    ensures { IsTrue result ↔ (IsYear options.now.year × (options.now.month ≤ 12)) }
+// Whether the year, the month and the offset are in range.
+fn are_in_range(options: &Options) -> bool
+    ensures { IsTrue result ↔ (IsYear options.now.year × (options.now.month ≤ 12)
+        × IsOffsetSeconds options.now.offset) }
 {
-    options.year >= -9999 && options.year <= 9999 && options.month <= 12
+    (options.year >= -9999 && options.year <= 9999)
+        && (options.month <= 12 && (options.offset >= -93_599 && options.offset <= 93_599))
 }
 
 // The variant that has this number.
@@ -49,9 +56,20 @@ fn variant_of(number: u32) -> Option<Variant>
     }
 }
 
-/// The year of a date that shows none.
-pub(crate) fn year_of(options: &Options, date: IncompleteDate) -> i32
-    ensures { IsYear options.now.year → IsReckoned options.now date result }
+// The month that it is now, where it is known.
+fn month_of(number: u32) -> Option<u32>
+    ensures { result ≡ known_month number }
 {
-    reckon_year(options.year, Some(options.month), date)
+    if number == 0 {
+        return None;
+    }
+    Some(number)
+}
+
+// How dates that show no year or no zone are taken.
+fn dates_of(options: &Options) -> Dates
+    requires { AreInRange options.now }
+    ensures { AreDates options.now result }
+{
+    Dates::new(options.year, month_of(options.month), options.offset)
 }

@@ -1,9 +1,9 @@
 //! What a line shows of its date: whether a year, and whether an offset.
-ghost use Rattle.std.specs.Prelude.{◌≡◌, Option, chars};
+ghost use Rattle.std.specs.Prelude.{◌≡◌, None, Option, chars, false};
 ghost use Rattle.syslog_pieces.specs.declared.timestamp.OffsetTimestamp.{OffsetTimestamp};
 ghost use Rattle.syslog_loose.specs.Passes.{ShowsNoDate};
 ghost use Rattle.syslog_c.specs.Fields.{IsStamp};
-ghost use Rattle.syslog_c.specs.Shown.{AreFlags, IsShown, ShowsDate, offset_flag, year_flag};
+ghost use Rattle.syslog_c.specs.Shown.{AreFlags, IsShown, ShowsDate, flag_number, offset_flag, year_flag};
 
 use crate::fields::Stamp;
 use syslog_pieces::pri::optional_priority;
@@ -11,7 +11,8 @@ use syslog_pieces::text::{blanks, trimmed};
 use syslog_pieces::timestamp::MonthDate;
 use syslog_pieces::timestamp::month_date::month_date;
 
-/// Returns the timestamp of a line of this protocol with what its text shows of it. No line of RFC 5424 has a month date.
+/// Returns the timestamp of a line of this protocol, which the port reads, with what its text shows of it. No line of
+/// RFC 5424 has a month date.
 #[inline(always)]
 pub(crate) fn with_shown(text: &str, protocol: u32, stamp: Stamp) -> Stamp
     ensures { (at : Option OffsetTimestamp) → IsStamp stamp at → (protocol ≡ 5424 → ShowsNoDate (chars text.entry.now))
@@ -43,7 +44,7 @@ fn flags_of(text: &str) -> (u32, u32)
     flags(shown_date(text))
 }
 
-// The same of the month date that a text shows, or of a text that shows none.
+// The two flags of the month date that a text shows, or of a text that shows none.
 fn flags(date: Option<MonthDate>) -> (u32, u32)
     ensures { (result.0 ≡ year_flag date) × (result.1 ≡ offset_flag date) }
 {
@@ -65,5 +66,19 @@ fn shown_date(text: &str) -> Option<MonthDate>
     match month_date(blanks(rest)) {
         Some((date, _)) => Some(date),
         None => None,
+    }
+}
+
+/// Returns the timestamp of a line with these flags.
+#[inline(always)]
+pub(crate) fn with_flags(stamp: Stamp, shows_year: bool, shows_offset: bool) -> Stamp
+    ensures stamp { (at : Option OffsetTimestamp) → (at ≡ None → (shows_year ≡ false) × (shows_offset ≡ false))
+        → IsStamp stamp at → IsStamp result at }
+    ensures flags { (result.shows_year ≡ flag_number shows_year) × (result.shows_offset ≡ flag_number shows_offset) }
+{
+    Stamp {
+        shows_year: u32::from(shows_year),
+        shows_offset: u32::from(shows_offset),
+        ..stamp
     }
 }

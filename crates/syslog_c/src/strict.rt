@@ -1,13 +1,13 @@
 //! A line as strict RFC 5424, in a buffer of the caller's.
-ghost use Rattle.jiff_core.specs.Calendar.{IsYear};
-ghost use Rattle.syslog_c.specs.Options.{IsReckoned};
+ghost use Rattle.std.specs.Prelude.{◌≡◌};
+ghost use Rattle.syslog_loose.specs.Dates.{year_in};
 ghost use Rattle.syslog_c.specs.Outcome.{IsCodeOf};
 ghost use Rattle.syslog_c.specs.Strict.{PutsStrict};
 
 use crate::options::Options;
 use crate::outcome::Outcome;
 use crate::room::{outcome_of, put};
-use crate::rules::{rules_of, year_of};
+use crate::rules::rules_of;
 use std::alloc::Global;
 use syslog_loose::IncompleteDate;
 use syslog_strict::to_rfc5424_into;
@@ -44,9 +44,10 @@ fn write_strict(
     let Ok(input) = from_utf8(line) else {
         return Outcome::NotUtf8;
     };
-    let get_year = move |date: IncompleteDate| -> i32
-        ensures { IsYear options.entry.now.year → IsReckoned options.entry.now date result }
-    { year_of(options, date) };
+    let dates = &rules.dates;
+    let get_year = |date: IncompleteDate| -> i32
+        ensures { result ≡ year_in dates.entry.now date }
+    { dates.year_of(date) };
     let mut text = String::new(alloc);
     match to_rfc5424_into(
         alloc,
@@ -55,7 +56,7 @@ fn write_strict(
         get_year,
         None,
         rules.variant,
-        &rules.zone,
+        &dates.zone,
     ) {
         Ok(()) => put(text.as_bytes(), room, needed),
         Err(fault) => outcome_of(fault),

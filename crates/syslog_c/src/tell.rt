@@ -1,15 +1,18 @@
 //! The fields of a line, as C gets them.
-ghost use Rattle.std.specs.Prelude.{◌≡◌};
+ghost use Rattle.std.specs.Prelude.{◌≡◌, MatchBool, None};
 ghost use Rattle.std.specs.Option.{option_map};
 ghost use Rattle.syslog_pieces.specs.Pieces.View.{seen, shown};
 ghost use Rattle.syslog_pieces.specs.ProcId.{procid_value};
 ghost use Rattle.syslog_pieces.specs.Timestamp.{stamp_seen};
-ghost use Rattle.syslog_loose.specs.Line.{line_value};
+ghost use Rattle.syslog_loose.specs.Line.{KnowsForm, line_value};
+ghost use Rattle.syslog_dialects.specs.Ordinary.{IsOrdinary};
 ghost use Rattle.syslog_c.specs.Fields.{AreFields, IsOptionalText, IsProcess, IsStamp, IsText};
 ghost use Rattle.syslog_c.specs.Rows.{AreBlank};
 ghost use Rattle.syslog_c.specs.Fields.{facility_code, protocol_number, severity_code, version_number};
+ghost use Rattle.syslog_c.specs.Sent as spec;
 
 use crate::fields::{Fields, Process, Stamp, Text};
+use syslog_dialects::{Dialect, is_ordinary};
 use syslog_loose::{
     ClockStamp, Line, LineVisitor, ProcId, Protocol, SyslogFacility, SyslogSeverity,
 };
@@ -117,10 +120,21 @@ fn protocol_of(protocol: Protocol) -> (u32, u32)
     }
 }
 
-/// The fields of the line.
+// The number of the dialect, or 0.
 #[inline(always)]
-pub(crate) fn fields_of<'a>(line: &Line<'a>) -> Fields<'a>
-    ensures { AreFields result (line_value line.now) }
+fn dialect_code(dialect: Option<Dialect>) -> u32
+    ensures { result ≡ spec.dialect_code dialect }
+{
+    match dialect {
+        Some(dialect) => dialect.number(),
+        None => 0,
+    }
+}
+
+/// The fields of the line, which was read in this dialect or in none.
+#[inline(always)]
+pub(crate) fn fields_of<'a>(line: &Line<'a>, dialect: Option<Dialect>) -> Fields<'a>
+    ensures { AreFields result dialect (line_value line.now) }
 {
     let (protocol, version) = protocol_of(line.protocol());
     Fields {
@@ -136,6 +150,7 @@ pub(crate) fn fields_of<'a>(line: &Line<'a>) -> Fields<'a>
         msg: text_of(line.msg),
         elements: line.list.len(),
         params: line.list.params_len(),
+        dialect: dialect_code(dialect),
     }
 }
 
@@ -156,19 +171,25 @@ pub(crate) fn blank_fields<'a>() -> Fields<'a>
         msg: optional_text(None),
         elements: 0,
         params: 0,
+        dialect: 0,
     }
 }
 
-// Takes the fields of the line.
+// Takes the fields of the port's line, and returns whether that line keeps its reading, whatever dialect may be asked.
 impl<'a> LineVisitor<'a> for Fields<'a> {
-    type Answer = ();
+    type Answer = bool;
 
-    ghost makes = { λ old line made new. AreFields new (line_value line) };
+    ghost makes = { λ old line made new. AreFields new None (line_value line)
+        × MatchBool made (IsOrdinary line) (IsOrdinary line → ⊥) };
 
     #[inline(always)]
-    fn line(&mut self, line: &Line<'a>)
-        ensures { AreFields self.new (line_value line.now) }
+    fn line(&mut self, line: &Line<'a>) -> bool
+        requires form { KnowsForm line.now }
+        ensures { AreFields self.new None (line_value line.now)
+            × MatchBool result (IsOrdinary line.now) (IsOrdinary line.now → ⊥) }
     {
-        *self = fields_of(line);
+        let is_ordinary = is_ordinary(line);
+        *self = fields_of(line, None);
+        is_ordinary
     }
 }

@@ -7,6 +7,7 @@ use Rattle.syslog_pieces.specs.Pri.{priority}
 use Rattle.syslog_pieces.specs.StructuredData.Visited.{list_elements, list_text}
 use Rattle.syslog_pieces.specs.Text.{trimmed}
 use Rattle.syslog_pieces.specs.Timestamp.Zone.{Dating}
+use Rattle.syslog_pieces.specs.declared.timestamp.OffsetTimestamp.{OffsetTimestamp}
 use Rattle.syslog_pieces.proofs.PieceLemmas.Class.{front_same, optional_det}
 use Rattle.syslog_pieces.proofs.PriLemmas.{priority_det}
 use Rattle.syslog_loose.specs.Bodies.Start.{IsAfterPriority}
@@ -25,8 +26,10 @@ use Rattle.syslog_dialects.specs.Ordinary.{IsOrdinary}
 use Rattle.syslog_dialects.specs.Sent.{SentValue}
 use Rattle.syslog_dialects.specs.SentLine.{HasNoStamp, HasStamp, sent_message}
 use Rattle.syslog_dialects.specs.SentReading.{AreAsked, IsDialectLine, IsInNone, IsLeft}
-use Rattle.syslog_dialects.specs.SentReading.{IsReadSent, IsSentAnswer, IsSentIn, LeavesSent, MayBegin, Stands}
+use Rattle.syslog_dialects.specs.SentReading.{HasFlags, IsReadSent, IsSentAnswer, IsSentIn, LeavesSent, MayBegin}
+use Rattle.syslog_dialects.specs.SentReading.{Shows, Stands, shows_offset, shows_year}
 use Rattle.syslog_dialects.specs.declared.dialect.Dialect.{Dialect}
+use Rattle.syslog_dialects.specs.declared.sent.SentDate.{SentDate}
 use Rattle.syslog_dialects.specs.declared.visit.SentLine.{SentLine}
 use Rattle.syslog_dialects.proofs.DialectLemmas.{none_first}
 use Rattle.syslog_dialects.proofs.OrdinaryLemmas.{ordinary_too}
@@ -44,10 +47,10 @@ module _ (dates : Dates) (is_read : Bool) (text : Text) where
         same.1,
       )
 
-  pub undated : (number : Option ℕ) (follows : Text) (dialect : Dialect) (sent : SentValue)
+  pub no_stamp : (number : Option ℕ) (follows : Text) (dialect : Dialect) (sent : SentValue)
       → IsAfterPriority (trimmed text) number follows → IsOnlyOf (forms_of is_read number) follows dialect sent
       → HasNoStamp dates sent.date → IsInNone dates is_read text
-  undated number follows dialect sent front only none other m is =
+  no_stamp number follows dialect sent front only none other m is =
       let (first, e) = moved number follows front other m is in
       let same = (only.only other is.sent first).1 in
       none is.says.0 (subst (λ (v : SentValue). HasStamp dates v.date is.says.0) same is.says.1)
@@ -82,19 +85,19 @@ module _ (dates : Dates) (dating : Dating) (dialects : Bool) (variant : Variant)
   left_unread none never asked true ((line, of, odd), may) = absurd (none (line_value line) of.only.read)
   left_unread none never asked false left = never left.1
 
-  left_read : (line : Line) → IsLineOf variant dating text line
+  pub left_read : (line : Line) → IsLineOf variant dating text line
       → ((IsOrdinary line → ⊥) → MayBegin text → IsInNone dates true text) → Stands dates dating dialects variant text
   left_read line of never asked true ((other, too, odd), may) =
       never (λ is. odd (ordinary_too variant dating text line other of too is)) may
   left_read line of never asked false left = absurd (left.0 (line_value line) of.only.read)
 
-  in_dialect : AreAsked dialects variant → (is_read : Bool) (it : SentLine) → IsLeft variant dating text is_read
+  pub in_dialect : AreAsked dialects variant → (is_read : Bool) (it : SentLine) → IsLeft variant dating text is_read
       → IsDialectLine dates is_read text it → IsSentAnswer dates dating dialects variant text (Some it)
   in_dialect asked is_read it left is =
       subst (λ (d : Option Dialect). IsReadSent dates dating dialects variant text d (line_value it.line)) (sym is.named)
       (asked, (is_read, left, is.sent))
 
-  -- the port's line stands
+  -- the port's line is kept
   pub port_stands : (asked : Bool) → IsTrue asked ↔ AreAsked dialects variant → (line : Line) (it : SentLine)
       → it.line ≡ line → it.dialect ≡ None
       → (IsTrue asked → (IsOrdinary line → ⊥) → MayBegin text → IsInNone dates true text)
@@ -120,6 +123,27 @@ module _ (dates : Dates) (dating : Dating) (dialects : Bool) (variant : Variant)
   unread asked is None never none = (none, λ asks. left_unread none (never (is.1 asks)) asks)
   unread asked is (Some it) says none = in_dialect (is.0 says.0) false it (none, says.1) says.2
 
+  -- and the flags of its date
+  pub flags : (is_read : Bool) (it : SentLine) → IsLeft variant dating text is_read
+      → IsDialectLine dates is_read text it → Shows dates dating variant text it
+  flags is_read it left is =
+      subst (λ (d : Option Dialect). HasFlags dates dating variant text d (line_value it.line) it.shows_year
+      it.shows_offset) (sym is.named) (is_read, left, (is.sent, is.year, is.offset))
+
+  -- none of the port's line is set
+  pub no_flags : (it : SentLine) → it.dialect ≡ None → it.shows_year ≡ false → it.shows_offset ≡ false
+      → Shows dates dating variant text it
+  no_flags it port year offset =
+      subst (λ (d : Option Dialect). HasFlags dates dating variant text d (line_value it.line) it.shows_year
+      it.shows_offset) (sym port) (year, offset)
+
+  pub unread_flags : (asked : Bool) (result : Option SentLine)
+      → MatchOption result (IsTrue asked → MayBegin text → IsInNone dates false text)
+      (λ it. IsTrue asked × MayBegin text × IsDialectLine dates false text it) → IsUnreadable variant dating text
+      → IfSome result (λ it. Shows dates dating variant text it)
+  unread_flags asked None never none = tt
+  unread_flags asked (Some it) says none = flags false it (none, says.1) says.2
+
   left_once : (is_read other : Bool) → IsLeft variant dating text is_read → IsLeft variant dating text other
       → other ≡ is_read
   left_once true true is too = refl
@@ -138,6 +162,25 @@ module _ (dates : Dates) (dating : Dating) (dialects : Bool) (variant : Variant)
       let same = sent_once dates is_read text d e m n sent
       (subst (λ (b : Bool). IsSentIn dates b text e n) (left_once is_read other left more) too) in
       (ap Some same.0, same.1)
+
+-- ---- the flags of an absent date
+
+no_some : {A : Type 0} (x : A) → Some x ≡ None → ⊥
+no_some x e = cc
+
+unset : (dates : Dates) (date : Option SentDate) (stamp : Option OffsetTimestamp) → HasStamp dates date stamp
+    → stamp ≡ None → (year offset : Bool) → year ≡ shows_year date → offset ≡ shows_offset date
+    → (year ≡ false) × (offset ≡ false)
+unset dates None stamp has none year offset y o = (y, o)
+unset dates (Some date) stamp has none year offset y o = absurd (no_some has.0 (sym has.1 ∙ none))
+
+-- none is set where the message has no timestamp
+pub undated : (dates : Dates) (dating : Dating) (variant : Variant) (text : Text) (dialect : Dialect) (m : MessageValue)
+    (year offset : Bool) → HasFlags dates dating variant text (Some dialect) m year offset → m.timestamp ≡ None
+    → (year ≡ false) × (offset ≡ false)
+undated dates dating variant text dialect m year offset (is_read, left, (is, y, o)) none =
+    unset dates is.sent.date is.says.0 is.says.1 (sym (ap (λ (n : MessageValue). n.timestamp) is.says.2) ∙ none)
+    year offset y o
 
 -- ---- the elements of the line
 

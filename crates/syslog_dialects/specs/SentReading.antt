@@ -1,6 +1,6 @@
 -- How a text is read as its sender meant it: in a dialect, or as the port reads it.
 use Rattle.std.specs.Prelude.{◌≡◌, ◌||◌, ◌&&◌, ℕ, Bool, true, false, nat_eq, nat_le, IsTrue, List, [], ◌∷◌, Option, Some, None}
-use Rattle.std.specs.Prelude.{MatchOption}
+use Rattle.std.specs.Prelude.{MatchOption, is_some}
 use Rattle.std.specs.Char.{is_ascii_digit}
 use Rattle.syslog_pieces.specs.Pieces.Class.{Text}
 use Rattle.syslog_pieces.specs.StructuredData.Element.{ElementValue}
@@ -23,6 +23,7 @@ use Rattle.syslog_dialects.specs.Ordinary.{IsOrdinary}
 use Rattle.syslog_dialects.specs.Sent.{SentValue}
 use Rattle.syslog_dialects.specs.SentLine.{IsMessageSent}
 use Rattle.syslog_dialects.specs.declared.dialect.Dialect.{Dialect}
+use Rattle.syslog_dialects.specs.declared.sent.SentDate.{SentDate}
 use Rattle.syslog_dialects.specs.declared.visit.SentLine.{SentLine}
 
 -- the dialects are asked: they are wanted, and either protocol is read
@@ -108,7 +109,7 @@ pub record IsSentIn (dates : Dates) (is_read : Bool) (text : Text) (dialect : Di
 abbrev pub IsInNone : Dates → Bool → Text → Type 0
 IsInNone dates is_read text = (dialect : Dialect) (m : MessageValue) → IsSentIn dates is_read text dialect m → ⊥
 
--- the port's reading stands
+-- the port's reading is kept
 abbrev pub Stands : Dates → Dating → Bool → Variant → Text → Type 0
 Stands dates dating dialects variant text = AreAsked dialects variant → (is_read : Bool)
     → IsLeft variant dating text is_read → IsInNone dates is_read text
@@ -136,11 +137,34 @@ IsSentAnswer dates dating dialects variant text result = MatchOption result
     (IsUnsent dates dating dialects variant text)
     (λ it. IsReadSent dates dating dialects variant text it.dialect (line_value it.line))
 
+-- whether the date shows its year, and its offset
+abbrev pub shows_year : Option SentDate → Bool
+shows_year None = false
+shows_year (Some date) = is_some date.date.year
+
+abbrev pub shows_offset : Option SentDate → Bool
+shows_offset None = false
+shows_offset (Some date) = is_some date.offset
+
+-- The two flags are those of the date that the text shows in this dialect. Of the port's line none is set.
+abbrev pub HasFlags : Dates → Dating → Variant → Text → Option Dialect → MessageValue → Bool → Bool → Type 0
+HasFlags dates dating variant text None m year offset = (year ≡ false) × (offset ≡ false)
+HasFlags dates dating variant text (Some dialect) m year offset = (is_read : Bool)
+    × IsLeft variant dating text is_read × ((is : IsSentIn dates is_read text dialect m)
+    × (year ≡ shows_year is.sent.date) × (offset ≡ shows_offset is.sent.date))
+
+-- the line has the flags of the date that the text shows
+abbrev pub Shows : Dates → Dating → Variant → Text → SentLine → Type 0
+Shows dates dating variant text it =
+    HasFlags dates dating variant text it.dialect (line_value it.line) it.shows_year it.shows_offset
+
 -- the line of a dialect
 pub record IsDialectLine (dates : Dates) (is_read : Bool) (text : Text) (it : SentLine) : Type 0 where
   pub dialect : Dialect
   pub named : it.dialect ≡ Some dialect
   pub sent : IsSentIn dates is_read text dialect (line_value it.line)
+  pub year : it.shows_year ≡ shows_year sent.sent.date
+  pub offset : it.shows_offset ≡ shows_offset sent.sent.date
   pub no_elements : list_elements it.line.list ≡ []
   pub no_list : list_text it.line.list ≡ []
   pub form : KnowsForm it.line

@@ -1,6 +1,7 @@
 //! The dialects, by their names.
-ghost use Rattle.std.specs.Prelude.{◌≡◌};
+ghost use Rattle.std.specs.Prelude.{◌≡◌, MatchOption};
 ghost use Rattle.syslog_dialects.specs.Dialect.{dialect_name, dialect_number};
+ghost use Rattle.syslog_dialects.specs.declared.dialect.Dialect.{Dialect as AnyDialect};
 
 /// A form in which senders write, other than the two of the port.
 #[derive(Clone, Copy, Debug)]
@@ -141,6 +142,45 @@ impl Dialect {
             Dialect::SpacedName => 50,
             Dialect::NoHost => 51,
             Dialect::Heroku => 52,
+        }
+    }
+
+    /// Returns the dialect that has this number.
+    pub fn from_number(number: u32) -> Option<Dialect>
+        ensures { MatchOption result ((dialect : AnyDialect) → number ≡ dialect_number dialect → ⊥)
+            (λ dialect. number ≡ dialect_number dialect) }
+    {
+        match number {
+            1 => Some(Dialect::PriorityAlone),
+            20 => Some(Dialect::BsdDate),
+            21 => Some(Dialect::NearlyRfc3339),
+            22 => Some(Dialect::Journal),
+            23 => Some(Dialect::CiscoIos),
+            24 => Some(Dialect::CiscoNxOs),
+            25 => Some(Dialect::CiscoAsa),
+            26 => Some(Dialect::CiscoUndated),
+            27 => Some(Dialect::Container),
+            28 => Some(Dialect::CiscoIosXr),
+            29 => Some(Dialect::NetScaler),
+            30 => Some(Dialect::ProCurve),
+            40 => Some(Dialect::Repeated),
+            41 => Some(Dialect::Cef),
+            42 => Some(Dialect::Leef),
+            43 => Some(Dialect::PaloAlto),
+            44 => Some(Dialect::KeyValue),
+            45 => Some(Dialect::Json),
+            46 => Some(Dialect::Idrac),
+            47 => Some(Dialect::Log4j),
+            53 => Some(Dialect::MikroTik),
+            54 => Some(Dialect::Bracketed),
+            31 => Some(Dialect::SophosUtm),
+            55 => Some(Dialect::WatchGuard),
+            48 => Some(Dialect::Forwarded),
+            49 => Some(Dialect::SeverityFirst),
+            50 => Some(Dialect::SpacedName),
+            51 => Some(Dialect::NoHost),
+            52 => Some(Dialect::Heroku),
+            _ => None,
         }
     }
 }

@@ -42,4 +42,5 @@ mod visit;
 mod zone;
 
 pub use dialect::Dialect;
-pub use visit::{SentLine, parse_sent_line, sent_line, unread_line};
+pub use ordinary::is_ordinary;
+pub use visit::{SentLine, line_instead, parse_sent_line, sent_line, unread_line};

@@ -94,7 +94,7 @@ fn is_tagged(line: &Line<'_>) -> bool
 
 /// Returns whether a line of the port keeps its reading.
 #[inline(always)]
-pub(crate) fn is_ordinary(line: &Line<'_>) -> bool
+pub fn is_ordinary(line: &Line<'_>) -> bool
     requires { KnowsForm line.now }
     ensures { MatchBool result (IsOrdinary line.now) (IsOrdinary line.now → ⊥) }
 {

@@ -1,7 +1,7 @@
 //! The way from a text to a line, in a dialect or as the port reads it.
 //!
-//! The port reads the text once. Its line stands where it is ordinary. Otherwise, and where it reads none, the dialects
-//! are tried, by a call: so an ordinary line pays a look at a few of its fields.
+//! The port reads the text once. Its line is kept where it is ordinary. Otherwise, and where it reads none, the
+//! dialects are tried, by a call: so an ordinary line pays a look at a few of its fields.
 ghost use Rattle.std.specs.Prelude.{◌≡◌, ◌↔◌, [], false, true, IfSome, IsTrue, MatchOption, chars};
 ghost use Rattle.syslog_pieces.specs.Pieces.Class.{Text};
 ghost use Rattle.syslog_pieces.specs.StructuredData.Visited.{list_elements};
@@ -18,7 +18,7 @@ use crate::beginning::may_be_sent;
 use crate::dialect::Dialect;
 use crate::dialects::read_dialect;
 use crate::ordinary::is_ordinary;
-use crate::sent::line_of;
+use crate::sent::{SentDate, line_of};
 use syslog_loose::{Dates, IncompleteDate, Line, Variant, parse_line};
 use syslog_pieces::pri::optional_priority;
 use syslog_pieces::text::trimmed;
@@ -30,17 +30,23 @@ pub struct SentLine<'a> {
     pub line: Line<'a>,
     /// The dialect of the text; none where the line is the port's.
     pub dialect: Option<Dialect>,
+    /// Whether the date of a dialect's line shows its year. It is false where the line is the port's.
+    pub shows_year: bool,
+    /// Whether the date of a dialect's line shows its offset. It is false where the line is the port's.
+    pub shows_offset: bool,
 }
 
 impl<'a> SentLine<'a> {
     ghost use Rattle.std.specs.Prelude.{◌≡◌};
     ghost use Rattle.syslog_pieces.specs.Pieces.View.{seen};
     ghost use Rattle.syslog_dialects.specs.Dialect.{dialect_text};
+    ghost use Rattle.syslog_dialects.specs.SentReading as spec;
 
-    // The line, of this dialect or none.
+    // The line, of this dialect, in which it has this date; or of none, with no date.
     #[inline(always)]
-    fn of(line: &Line<'a>, dialect: Option<Dialect>) -> SentLine<'a>
-        ensures { (result.line ≡ line.now) × (result.dialect ≡ dialect) }
+    fn of(line: &Line<'a>, dialect: Option<Dialect>, date: Option<SentDate>) -> SentLine<'a>
+        ensures { (result.line ≡ line.now) × (result.dialect ≡ dialect)
+            × (result.shows_year ≡ spec.shows_year date) × (result.shows_offset ≡ spec.shows_offset date) }
     {
         SentLine {
             line: Line {
@@ -48,6 +54,8 @@ impl<'a> SentLine<'a> {
                 ..*line
             },
             dialect,
+            shows_year: shows_year(date),
+            shows_offset: shows_offset(date),
         }
     }
 
@@ -63,6 +71,28 @@ impl<'a> SentLine<'a> {
     }
 }
 
+// Whether the date shows its year.
+#[inline(always)]
+fn shows_year(date: Option<SentDate>) -> bool
+    ensures { result ≡ spec.shows_year date }
+{
+    match date {
+        Some(date) => date.date.year.is_some(),
+        None => false,
+    }
+}
+
+// Whether the date shows its offset.
+#[inline(always)]
+fn shows_offset(date: Option<SentDate>) -> bool
+    ensures { result ≡ spec.shows_offset date }
+{
+    match date {
+        Some(date) => date.offset.is_some(),
+        None => false,
+    }
+}
+
 // The line of the dialect that the text is in, which the port reads, or not; none where its date does not exist.
 #[cold]
 #[inline(never)]
@@ -75,7 +105,7 @@ fn dialect_line<'a>(is_read: bool, input: &'a str, dates: &Dates) -> Option<Sent
     let Some(line) = line_of(priority, &sent, dates) else {
         return None;
     };
-    Some(SentLine::of(&line, Some(dialect)))
+    Some(SentLine::of(&line, Some(dialect), sent.date))
 }
 
 // The line of a dialect instead of the port's, which is not ordinary, where the dialects are asked.
@@ -122,6 +152,32 @@ fn last_line<'a>(input: &'a str, dates: &Dates, are_asked: bool) -> Option<SentL
     dialect_line(false, input, dates)
 }
 
+/// Returns the line of a dialect instead of the port's line of the text, which is not ordinary, and none where the text
+/// is of no dialect. It takes no memory, and the line has no elements.
+///
+/// It is for callers that have made something of the port's line already: `sent_line` returns either line.
+#[inline(always)]
+pub fn line_instead<'a>(
+    input: &'a str,
+    dates: &Dates,
+    variant: Variant,
+    dialects: bool,
+) -> Option<SentLine<'a>>
+    ensures { MatchOption result
+        (spec.AreAsked dialects variant → spec.MayBegin (chars input.entry.now)
+        → spec.IsInNone dates.now true (chars input.entry.now))
+        (λ it. (spec.AreAsked dialects variant × spec.MayBegin (chars input.entry.now))
+        × spec.IsDialectLine dates.now true (chars input.entry.now) it) }
+{
+    if !asks_dialects(variant, dialects) {
+        return None;
+    }
+    if !may_be_sent(input) {
+        return None;
+    }
+    dialect_line(true, input, dates)
+}
+
 /// Returns the line of the text as its sender meant it, where this is the port's line. It takes no memory.
 ///
 /// Where `dialects` is true and the variant is `Either`, the line of a dialect that the text is in comes before the
@@ -138,7 +194,10 @@ pub fn sent_line<'a>(
 ) -> SentLine<'a>
     requires { KnowsForm line.now }
     ensures reads { (dating : Dating) → IsLineOf variant dating (chars input.entry.now) line.now
-        → spec.IsReadSent dates.now dating dialects variant (chars input.entry.now) result.dialect (line_value result.line) }
+        → spec.IsReadSent dates.now dating dialects variant (chars input.entry.now)
+        result.dialect (line_value result.line) }
+    ensures shown { (dating : Dating) → IsLineOf variant dating (chars input.entry.now) line.now
+        → spec.Shows dates.now dating variant (chars input.entry.now) result }
     ensures elements { list_elements result.line.list ≡ list_elements line.now.list }
     ensures leaves { (dating : Dating) (unparsed : Text) → IsLineOf variant dating (chars input.entry.now) line.now
         → IsLeftUnparsed result.line unparsed
@@ -147,7 +206,7 @@ pub fn sent_line<'a>(
 {
     match other_line(line, input, dates, asks_dialects(variant, dialects)) {
         Some(sent) => sent,
-        None => SentLine::of(line, None),
+        None => SentLine::of(line, None, None),
     }
 }
 
@@ -162,6 +221,8 @@ pub fn unread_line<'a>(
 ) -> Option<SentLine<'a>>
     ensures reads { (dating : Dating) → IsUnreadable variant dating (chars input.entry.now)
         → spec.IsSentAnswer dates.now dating dialects variant (chars input.entry.now) result }
+    ensures shown { (dating : Dating) → IsUnreadable variant dating (chars input.entry.now)
+        → IfSome result (λ it. spec.Shows dates.now dating variant (chars input.entry.now) it) }
     ensures elements { IfSome result (λ it. list_elements it.line.list ≡ []) }
     ensures leaves { IfSome result (λ it. (unparsed : Text) → IsLeftUnparsed it.line unparsed
         → spec.LeavesSent it.dialect variant (chars input.entry.now) unparsed) }

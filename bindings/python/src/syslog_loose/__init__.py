@@ -1,4 +1,4 @@
-"""Reads, prints and converts syslog messages of RFC 5424 and the looser RFC 3164.
+"""Reads, prints and converts syslog messages of RFC 5424, of the looser RFC 3164, and of senders that follow neither.
 
     m = parse("<34>Mar  2 06:35:05 gateway dropbear[2310]: Exit (root)", year=2026)
     m.hostname, m.severity, m.timestamp
@@ -6,6 +6,10 @@
 Each call takes these: `year` is that of dates that show none. Without `month` all of these are of that year; with it, it
 is that month of the year now, and in January a date of December is of the year before. `offset` is by how many seconds
 dates that show no offset are ahead of UTC.
+
+`parse`, `json` and what reads many lines read a line in its sender's dialect, if it is in one: docs/SENDERS.md lists them.
+They do so unless `dialects` is false or `variant` names a protocol. `normalise`, `settle` and `to_rfc5424` read each line by
+the protocols alone, and a line of a dialect may be no message for them.
 
 Threads may call all of this at once. A call for one line keeps Python's lock, since it takes less time than to give the
 lock up and to take it again; read_columns and to_frame let it go while they read lines.
@@ -21,7 +25,7 @@ from typing import Any, BinaryIO, Callable, Iterable, Iterator, Literal, Mapping
 from . import _native
 
 __all__ = ["Element", "Facility", "Line", "Message", "ParseError", "Severity", "Source", "Variant"]
-__all__ += ["json", "normalise", "parse", "read", "read_columns", "settle", "to_frame", "to_rfc5424"]
+__all__ += ["dialect_name", "json", "normalise", "parse", "read", "read_columns", "settle", "to_frame", "to_rfc5424"]
 __version__ = "0.1.0"
 
 Variant = Literal["either", "3164", "5424"]
@@ -109,6 +113,7 @@ class Message(NamedTuple):
     structured_data: Tuple[Element, ...]
     message: str
     raw: str  #: the line
+    dialect: Optional[str] = None  #: the name of the dialect that the line was read in, as cisco-ios
 
 
 _native.set_up(
@@ -117,7 +122,7 @@ _native.set_up(
 _VARIANTS = {"either": 0, "3164": 3164, "5424": 5424}
 # The calls for one line are the extension's own.
 parse, normalise, settle = _native.parse, _native.normalise, _native.settle
-to_rfc5424, json = _native.to_rfc5424, _native.json
+to_rfc5424, json, dialect_name = _native.to_rfc5424, _native.json, _native.dialect_name
 
 
 def read(
@@ -127,19 +132,21 @@ def read(
     month: int | None = None,
     offset: int = 0,
     variant: Variant = "either",
+    dialects: bool = True,
     refused: Callable[[Line], object] | None = None,
 ) -> Iterator[Message]:
     """Yields the message of each line of a file, which is a path, or open. A line that is no message goes to `refused`;
     without that, ParseError is raised."""
     if isinstance(file, (str, os.PathLike)):
         with open(file, "rb") as lines:
-            yield from read(lines, year=year, month=month, offset=offset, variant=variant, refused=refused)
+            options: dict[str, Any] = {"year": year, "month": month, "offset": offset, "variant": variant, "dialects": dialects}
+            yield from read(lines, refused=refused, **options)
         return
     for line in file:
         if line[-1:] in (b"\n", "\n"):
             line = line[:-1]
         try:
-            message = parse(line, year=year, month=month, offset=offset, variant=variant)
+            message = parse(line, year=year, month=month, offset=offset, variant=variant, dialects=dialects)
         except ParseError:
             if refused is None:
                 raise
@@ -149,7 +156,13 @@ def read(
 
 
 def read_columns(
-    source: Source, *, year: int, month: int | None = None, offset: int = 0, variant: Variant = "either"
+    source: Source,
+    *,
+    year: int,
+    month: int | None = None,
+    offset: int = 0,
+    variant: Variant = "either",
+    dialects: bool = True,
 ) -> Mapping[str, Any]:
     """What is told of each line, as numpy arrays with a place for each line, in order. It needs numpy.
 
@@ -158,21 +171,28 @@ def read_columns(
     time: datetime64[ns] in UTC; NaT where the line has none, and outside of the years 1678 to 2261. nanosecond: its part of a
     second. offset: the seconds by which its clock is ahead. shows_year, shows_offset: whether the line shows them.
     protocol: 3164 or 5424. facility, severity: their numbers, or -1. elements: how many there are.
-    process: the number of the process id, 0 where has_number is not 1.
+    process: the number of the process id, 0 where has_number is not 1. dialect: the number of the line's dialect, or 0, of
+    which dialect_name gives the name.
     line_at, host_at, app_at, process_at, msgid_at, message_at: where the text begins, or -1 of an absent one; and line_size,
     host_size, .. its length in bytes.
     """
     from . import _columns
 
-    return _columns.read(source, _VARIANTS.get(variant), year, month or 0, offset)
+    return _columns.read(source, _VARIANTS.get(variant), year, month or 0, offset, dialects)
 
 
 def to_frame(
-    source: Source, *, year: int, month: int | None = None, offset: int = 0, variant: Variant = "either"
+    source: Source,
+    *,
+    year: int,
+    month: int | None = None,
+    offset: int = 0,
+    variant: Variant = "either",
+    dialects: bool = True,
 ) -> Any:
     """A pandas DataFrame with a row for each line, in order: time (datetime64[ns, UTC]), facility, severity, hostname and
-    appname (categories), procid, msgid and message (texts), and refused: True for a line that is no message, which is its
-    own message there. It needs pandas."""
+    appname (categories), procid, msgid and message (texts), dialect (a category), and refused: True for a line that is no
+    message, which is its own message there. It needs pandas."""
     from . import _columns
 
-    return _columns.to_frame(source, _VARIANTS.get(variant), year, month or 0, offset)
+    return _columns.to_frame(source, _VARIANTS.get(variant), year, month or 0, offset, dialects)

@@ -1,6 +1,6 @@
 """Writes each line of files, or of standard input, as the JSON object that syslog_json writes of it.
 
-    python3 -m syslog_loose [--year YEAR] [--month MONTH] [--offset OFFSET] [--raw] [--csv] [FILE..]
+    python3 -m syslog_loose [--year YEAR] [--month MONTH] [--offset OFFSET] [--no-dialects] [--raw] [--csv] [FILE..]
 
 With --csv it writes a table by RFC 4180: a header, and a record for each line. The status is 1 if lines were refused, and
 2 after a fault.
@@ -101,6 +101,7 @@ def arguments() -> argparse.Namespace:
     words.add_argument("--year", type=int, default=datetime.date.today().year, help="of dates that show none (now: %(default)s)")
     words.add_argument("--month", type=int, help="that it is: in January a date of December is then of the year before")
     words.add_argument("--offset", type=offset, default=0, help="of dates that show none, as +01:00 (UTC without it)")
+    words.add_argument("--no-dialects", action="store_true", help="reads each line by RFC 5424 or RFC 3164 alone")
     words.add_argument("--raw", action="store_true", help="with the line itself in each object")
     words.add_argument("--csv", action="store_true", help="a table with a header, by RFC 4180, instead of objects")
     words.add_argument("--version", action="version", version=syslog_loose.__version__)
@@ -110,7 +111,8 @@ def arguments() -> argparse.Namespace:
 
 def main() -> int:
     chosen = arguments()
-    options = {"year": chosen.year, "month": chosen.month, "offset": chosen.offset, "raw": chosen.raw}
+    options = {"year": chosen.year, "month": chosen.month, "offset": chosen.offset}
+    options.update(raw=chosen.raw, dialects=not chosen.no_dialects)
     try:
         # (wrong options are found before anything is written)
         syslog_loose.json(b"1 - - - - - -", **options)

@@ -11,6 +11,7 @@ from . import Facility, Severity, Source, _native
 # The columns as the extension gives them, and how numpy calls the type of each.
 _COLUMNS = [("outcome", "u1"), ("time", "M8[ns]"), ("nanosecond", "i4"), ("offset", "i4"), ("shown", "u1")]
 _COLUMNS += [("protocol", "u2"), ("facility", "i1"), ("severity", "i1"), ("process", "i4"), ("has_number", "u1"), ("elements", "u4")]
+_COLUMNS += [("dialect", "u2")]
 for _name in ("line", "host", "app", "process", "msgid", "message"):
     _COLUMNS += [(_name + "_at", "i8"), (_name + "_size", "i8")]
 _FACILITIES = [it.name.lower() for it in Facility]
@@ -33,19 +34,21 @@ def _bytes_of(source: Source) -> bytes:
     return bytes(source.read())
 
 
-def _told(source: Source, variant: int | None, year: int, month: int, offset: int) -> tuple[bytes, tuple[bytearray, ...]]:
+def _told(
+    source: Source, variant: int | None, year: int, month: int, offset: int, dialects: bool
+) -> tuple[bytes, tuple[bytearray, ...]]:
     buffer = _bytes_of(source)
     if variant is None:
         raise ValueError("there is no such variant")
     try:
-        return buffer, _native.columns(buffer, variant, year, month, offset)
+        return buffer, _native.columns(buffer, variant, year, month, offset, int(not dialects))
     except OverflowError:
         raise ValueError("there is no such year, month or offset") from None
 
 
-def read(source: Source, variant: int | None, year: int, month: int, offset: int) -> Mapping[str, Any]:
+def read(source: Source, variant: int | None, year: int, month: int, offset: int, dialects: bool) -> Mapping[str, Any]:
     numpy = _needed("numpy", "read_columns")
-    buffer, told = _told(source, variant, year, month, offset)
+    buffer, told = _told(source, variant, year, month, offset, dialects)
     columns: dict[str, Any] = {"buffer": buffer}
     for (name, kind), column in zip(_COLUMNS, told):
         columns[name] = numpy.frombuffer(column, kind)
@@ -62,15 +65,18 @@ def _frame_texts(columns: Mapping[str, Any], name: str, numpy: Any) -> Any:
     return made
 
 
-def to_frame(source: Source, variant: int | None, year: int, month: int, offset: int) -> Any:
+def to_frame(source: Source, variant: int | None, year: int, month: int, offset: int, dialects: bool) -> Any:
     numpy, pandas = _needed("numpy", "to_frame"), _needed("pandas", "to_frame")
-    columns = read(source, variant, year, month, offset)
+    columns = read(source, variant, year, month, offset, dialects)
 
     def categories(name: str) -> Any:
         places = columns[name + "_at"].tobytes(), columns[name + "_size"].tobytes()
         codes, names = _native.categories(columns["buffer"], *places)
         return pandas.Categorical.from_codes(numpy.frombuffer(codes, "i4"), names)
 
+    # (the 0 of no dialect is the first kind, also where each line has one)
+    kinds, codes = numpy.unique(numpy.append(columns["dialect"], numpy.uint16(0)), return_inverse=True)
+    names = [_native.dialect_name(int(it)) for it in kinds[1:]]
     refused = columns["outcome"] != 0
     # (a line that is no message is its own)
     for end in ("_at", "_size"):
@@ -88,6 +94,7 @@ def to_frame(source: Source, variant: int | None, year: int, month: int, offset:
             "procid": procid,
             "msgid": _frame_texts(columns, "msgid", numpy),
             "message": _frame_texts(columns, "message", numpy),
+            "dialect": pandas.Categorical.from_codes(codes[:-1] - 1, names),
             "refused": refused,
         }
     )

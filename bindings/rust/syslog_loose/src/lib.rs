@@ -91,7 +91,8 @@ where
         Variant::RFC3164 => libsyslog_loose::Variant::Rfc3164,
         Variant::RFC5424 => libsyslog_loose::Variant::Rfc5424,
     };
-    let options = libsyslog_loose::Options { variant, ..libsyslog_loose::Options::in_year(timestamp::LEAP_YEAR) };
+    let in_year = libsyslog_loose::Options::in_year(timestamp::LEAP_YEAR);
+    let options = libsyslog_loose::Options { variant, dialects: false, ..in_year };
     let made = libsyslog_loose::parse_into(input, &options, |parts| {
         let timestamp = match parts.timestamp() {
             Some(shown) => Some(timestamp::dated(shown, get_year, tz)?),

@@ -1,20 +1,28 @@
-use Rattle.syslog_c.proofs.Words.{Option, inl, inr, refl, rules, subst, Text, in_year_map, line_value, NoReading}
-use Rattle.syslog_loose.{proofs.UnparsedLemmas.leaves_of, specs.Unparsed.IsLeftUnparsed}
-use Rattle.syslog_c.{proofs.LineLemmas.tried_line, proofs.TextLemmas.puts_more, specs.Texts.PutsObject}
-use Rattle.syslog_c.specs.Texts.{WritesObject}
+use Rattle.syslog_c.proofs.Words.{Option, inl, inr, refl, rules, subst, Text, line_value}
+use Rattle.std.specs.Str.{chars}
+use Rattle.syslog_loose.specs.Unparsed.{IsLeftUnparsed}
+use Rattle.syslog_c.proofs.LineLemmas.{on_line_map, tried_map}
+use Rattle.syslog_c.proofs.TextLemmas.{puts_more}
+use Rattle.syslog_c.specs.Texts.{PutsObject, raw_text}
 use Rattle.syslog_c.proofs.object.write_object.Goals as goal
 
-pub returns-in-Some-parse_line : goal.returns-in-Some-parse_line
-returns-in-Some-parse_line c =
-    let line = c.in-Some-parse_line.parsed in
-    let puts = subst (λ (raw : Option Text). PutsObject (line_value line) (IsLeftUnparsed line) raw c.args.room.now
+pub returns-in-Ok : goal.returns-in-Ok
+returns-in-Ok c =
+    let it = c.in-Ok.sent in
+    let m = line_value it.line in
+    let puts : PutsObject it.dialect m (IsLeftUnparsed it.line) (raw_text c.args.raw (chars c.in-Ok.text.now))
+    c.args.room.now c.put_object.new.room c.put_object.new.needed c.put_object.result =
+    subst (λ (raw : Option Text). PutsObject it.dialect m (IsLeftUnparsed it.line) raw c.args.room.now
     c.put_object.new.room c.put_object.new.needed c.put_object.result) (search rules) c.put_object.ensures in
-    inr (inr (tried_line _ _ _ _ _ _ c.in-Some.ensures c.in-Ok.ensures (λ date y is. is.1)
-    (in_year_map (λ year of. inl (_, of.only, puts_more _ _ _ _ _ _ _ _ (λ u left. leaves_of _ _ _ line u of left) puts))
-    c.in-Some-parse_line.ensures.reads)))
+    inr (inr (tried_map _ _ (λ rules dating text read. inl (
+      it.dialect,
+      m,
+      read.1,
+      puts_more it.dialect m _ _ _ _ _ _ _ read.2 (subst (λ (t : Text).
+          PutsObject it.dialect m (IsLeftUnparsed it.line) (raw_text c.args.raw t) c.args.room.now
+          c.put_object.new.room c.put_object.new.needed c.put_object.result) read.0 puts),
+    )) c.in-Ok.ensures))
 
-pub returns-in-None : goal.returns-in-None
-returns-in-None c =
-    inr (inr (tried_line (λ variant dating text. WritesObject c.args.raw variant dating text
-    c.args.room.now c.args.room.now 0 NoReading) _ _ _ _ _ c.in-Some.ensures c.in-Ok.ensures (λ date y is. is.1)
-    (in_year_map (λ year none. inr ((refl, none), (refl, refl))) c.in-None.ensures.reads)))
+pub returns-in-Err : goal.returns-in-Err
+returns-in-Err c = on_line_map _ _ _ (λ left. (refl, refl))
+    (λ rules dating text refused. inr (refused, (refl, refl))) c.in-Err.ensures

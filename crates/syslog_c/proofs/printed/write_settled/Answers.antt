@@ -1,9 +1,10 @@
-use Rattle.syslog_c.{proofs.Words.inr, proofs.Words.in_year_map, proofs.TextLemmas.settled_answer}
+use Rattle.syslog_c.proofs.Words.{inr, in_year_map, in_year_told}
 use Rattle.syslog_c.proofs.LineLemmas.{tried_line}
+use Rattle.syslog_c.proofs.TextLemmas.{settled_answer}
 use Rattle.syslog_c.proofs.printed.write_settled.Goals as goal
 
 pub returns : goal.returns
 returns c =
     let holds = in_year_map (λ year s. settled_answer _ _ _ _ _ _ _ _ s c.put_answer.ensures)
     c.settle-settled.ensures.settles in
-    inr (inr (tried_line _ _ _ _ _ _ c.in-Some.ensures c.in-Ok.ensures (λ date y is. is.1) holds))
+    inr (inr (tried_line _ _ _ _ _ c.in-Some.ensures c.in-Ok.ensures (in_year_told holds (λ date y is. is.1))))

@@ -9,8 +9,8 @@ returns c =
     let arrays = c.read_by.new.arrays in
     with_arrays (λ es ps. OnLine a.options.now a.line.now c.read_by.result
     ((fields ≡ a.fields.now) × (es ≡ a.elements.now) × (ps ≡ a.params.now))
-    (λ variant dating text. ReadsInto variant dating text a.fields.now fields a.elements.now es a.params.now ps
+    (λ are dating text. ReadsInto are dating text a.fields.now fields a.elements.now es a.params.now ps
     c.read_by.result)) arrays.elements.now _ arrays.params.now _ (search rules) (search rules)
-    (inr (inr (tried_line (λ variant dating text. ReadsInto variant dating text a.fields.now fields
-    a.elements.now arrays.elements.now a.params.now arrays.params.now c.read_by.result) _ _ _ _ _ c.in-Some.ensures
-    c.in-Ok.ensures (λ date year is ok. is) (c.read_by.ensures.reads c.in-Some.ensures.1.year))))
+    (inr (inr (tried_line (λ are dating text. ReadsInto are dating text a.fields.now fields
+    a.elements.now arrays.elements.now a.params.now arrays.params.now c.read_by.result) _ _ _ _ c.in-Some.ensures
+    c.in-Ok.ensures c.read_by.ensures.reads)))

@@ -5,11 +5,13 @@ use Rattle.syslog_c.proofs.StrictLemmas.{strict_put}
 use Rattle.syslog_c.proofs.strict.write_strict.Goals as goal
 
 pub returns-in-Ok-to_rfc5424_into : goal.returns-in-Ok-to_rfc5424_into
-returns-in-Ok-to_rfc5424_into c = strict_put _ _ _ _ _ (Ok _) (text_in c.to_rfc5424_into.new.text) _ _ _ _
+returns-in-Ok-to_rfc5424_into c =
+    let value = c.as_bytes.ensures.value in
+    strict_put _ _ _ _ (Ok _) (text_in c.to_rfc5424_into.new.text) _ _ _ _
     c.in-Some.ensures c.in-Ok.ensures (λ date y is. is.1) c.in-Ok-to_rfc5424_into.ensures
-    (_, rw c.as_bytes.ensures.value (IsUtf8-string_bytes c.to_rfc5424_into.new.text), ap chars c.as_bytes.ensures.value, c.put.ensures)
+    (_, rw value (IsUtf8-string_bytes c.to_rfc5424_into.new.text), ap chars value, c.put.ensures)
 
 pub returns : goal.returns
-returns c = strict_put _ _ _ _ _ (Err _) (text_in c.to_rfc5424_into.new.text) _ _ _ _
+returns c = strict_put _ _ _ _ (Err _) (text_in c.to_rfc5424_into.new.text) _ _ _ _
     c.in-Some.ensures c.in-Ok.ensures (λ date y is. is.1) c.in-Err.ensures
     (c.outcome_of.ensures, (refl, refl))

@@ -23,4 +23,5 @@ returns c =
       msg = c.text_of.ensures;
       elements = c.len.ensures;
       params = c.params_len.ensures ∙ sym (all_params_length (list_elements line.list));
+      dialect = c.dialect_code.ensures;
     }

@@ -2,7 +2,7 @@ use Rattle.std.proofs.Common.{sym, ap, subst, ◌∙◌}
 use Rattle.std.specs.Str.{chars}
 use Rattle.syslog_pieces.specs.StructuredData.Visited.{list_elements, list_text}
 use Rattle.syslog_loose.specs.{Line.KnowsForm, Line.line_value, Message.MessageValue, declared.line.Line.Line}
-use Rattle.syslog_dialects.proofs.SentReadingLemmas.{undated, unformed}
+use Rattle.syslog_dialects.proofs.SentReadingLemmas.{no_stamp, unformed}
 use Rattle.syslog_dialects.specs.{Sent.sent_value, SentLine.IsMessageSent}
 use Rattle.syslog_dialects.proofs.visit.dialect_line.Goals as goal
 
@@ -15,7 +15,7 @@ returns-in_err-dialect c =
 pub returns-in_default : goal.returns-in_default
 returns-in_default c =
     let front = rw c.trimmed.ensures at c.optional_priority-priority.ensures in
-    undated c.args.dates.now c.args.is_read (chars c.args.input.now) _ _ c.in_ok-dialect.dialect
+    no_stamp c.args.dates.now c.args.is_read (chars c.args.input.now) _ _ c.in_ok-dialect.dialect
     (sent_value c.in_ok-dialect.sent) front c.in_ok-dialect.ensures c.in_default.ensures.line
 
 pub returns : goal.returns
@@ -36,6 +36,8 @@ returns c =
         form = c.in_ok-dialect.ensures;
         says = subst (λ (l : Line). IsMessageSent c.args.dates.now number sent (line_value l)) (sym same) is.means;
       };
+      year = c.of.ensures.2;
+      offset = c.of.ensures.3;
       no_elements = ap (λ (l : Line). list_elements l.list) same ∙ ap (λ (m : MessageValue). m.structured_data) is.means.2;
       no_list = ap (λ (l : Line). list_text l.list) same ∙ is.list;
       form = subst (λ (l : Line). KnowsForm l) (sym same) c.in-Some.ensures.form;

@@ -1,0 +1,184 @@
+-- A line that is read as its sender meant it, and what its timestamp shows.
+use Rattle.syslog_c.proofs.Words.{◌≡◌, ◌∙◌, Option, None, Some, ap, inl, refl, sym, subst, Text, Dating, line_value}
+use Rattle.syslog_c.proofs.Words.{IsStamp, List, [], MessageValue, OffsetTimestamp, Rules, ShowsNoDate, Stamp}
+use Rattle.syslog_c.proofs.Words.{inr, list_elements, NoReading, Outcome}
+use Rattle.std.specs.Prelude.{Bool, true, false}
+use Rattle.std.specs.Int.{from_bool}
+use Rattle.syslog_pieces.specs.StructuredData.Element.{ElementValue}
+use Rattle.syslog_loose.specs.Reading.{IsUnreadable}
+use Rattle.syslog_loose.specs.Visit.{IsLineOf}
+use Rattle.syslog_loose.specs.declared.line.Line.{Line}
+use Rattle.syslog_dialects.proofs.SentReadingLemmas.{flags, in_dialect, left_read, read_once, same_elements}
+use Rattle.syslog_dialects.proofs.SentReadingLemmas.{undated}
+use Rattle.syslog_dialects.specs.Ordinary.{IsOrdinary}
+use Rattle.syslog_dialects.specs.SentReading.{AreAsked, HasFlags, IsDialectLine, IsInNone, IsLeft, MayBegin}
+use Rattle.syslog_dialects.specs.SentReading.{Shows, Stands}
+use Rattle.syslog_dialects.specs.declared.dialect.Dialect.{Dialect}
+use Rattle.syslog_dialects.specs.declared.visit.SentLine.{SentLine}
+use Rattle.syslog_c.specs.Fields.{AreFields}
+use Rattle.syslog_c.specs.Sent.{IsMeant, IsOnlyMeant}
+use Rattle.syslog_c.specs.Shown.{IsShown, IsShownIn, flag_number}
+use Rattle.syslog_c.specs.Told.{AreMeant, MeansOnly, TellsFields}
+use Rattle.syslog_c.specs.declared.fields.Fields.{Fields}
+use Rattle.syslog_c.specs.declared.outcome.Outcome.TheVariants.{Done, NotUtf8, NoMemory, NoRoom, BadArgument}
+use Rattle.syslog_c.proofs.ShownLemmas.{restamped, strict_shows_none}
+
+-- a text is read as one message
+pub only_meant : (rules : Rules) (dating : Dating) (text : Text) (dialect : Option Dialect) (m : MessageValue)
+    → IsMeant rules dating text dialect m → IsOnlyMeant rules dating text dialect m
+only_meant rules dating text dialect m read = record {
+  read = read;
+  only = λ other n is.
+      read_once rules.dates dating rules.dialects rules.variant text dialect other m n read is;
+}
+
+-- ---- the flags of a timestamp
+
+pub flag_of : (flag : Bool) → from_bool flag ≡ flag_number flag
+flag_of true = refl
+flag_of false = refl
+
+-- a timestamp of the same instant, with other flags
+pub reflagged : (s t : Stamp) (year offset : Bool) → t.seconds ≡ s.seconds → t.nanoseconds ≡ s.nanoseconds
+    → t.offset ≡ s.offset → t.present ≡ s.present → t.shows_year ≡ flag_number year
+    → t.shows_offset ≡ flag_number offset → (at : Option OffsetTimestamp)
+    → (at ≡ None → (year ≡ false) × (offset ≡ false)) → IsStamp s at → IsStamp t at
+reflagged s t year offset e f g h y o None absent is = (
+  h ∙ is.0,
+  e ∙ is.1,
+  f ∙ is.2,
+  g ∙ is.3,
+  y ∙ ap flag_number (absent refl).0,
+  o ∙ ap flag_number (absent refl).1,
+)
+reflagged s t year offset e f g h y o (Some at) absent is = record {
+  present = h ∙ is.present;
+  seconds = e ∙ is.seconds;
+  nanoseconds = f ∙ is.nanoseconds;
+  offset = g ∙ is.offset;
+}
+
+-- ---- the fields of a line
+
+-- of a dialect
+pub sent_fields : (rules : Rules) (dating : Dating) (text : Text) (it : SentLine) (dialect : Dialect) (f : Fields)
+    (t : Stamp) → it.dialect ≡ Some dialect → Shows rules.dates dating rules.variant text it
+    → AreFields f it.dialect (line_value it.line)
+    → ((at : Option OffsetTimestamp) → (at ≡ None → (it.shows_year ≡ false) × (it.shows_offset ≡ false))
+    → IsStamp f.timestamp at → IsStamp t at) → t.shows_year ≡ flag_number it.shows_year
+    → t.shows_offset ≡ flag_number it.shows_offset
+    → AreFields (record f { timestamp = t }) it.dialect (line_value it.line)
+    × IsShownIn rules dating text it.dialect (line_value it.line) t
+sent_fields rules dating text it dialect f t named shown are stamps year offset =
+    let m = line_value it.line in
+    let shows = subst (λ (d : Option Dialect). HasFlags rules.dates dating rules.variant text d m it.shows_year
+    it.shows_offset) named shown in (
+      restamped f t it.dialect m are (stamps m.timestamp (λ none. undated rules.dates dating rules.variant text dialect
+          m it.shows_year it.shows_offset shows none) are.timestamp),
+      subst (λ (d : Option Dialect). IsShownIn rules dating text d m t) (sym named) record {
+        year = it.shows_year;
+        offset = it.shows_offset;
+        flags = shows;
+        shows_year = year;
+        shows_offset = offset;
+      },
+    )
+
+-- of the port
+pub port_fields : (rules : Rules) (dating : Dating) (text : Text) (line : Line) (f : Fields) (t : Stamp)
+    → IsLineOf rules.variant dating text line → AreFields f None (line_value line)
+    → ((at : Option OffsetTimestamp) → IsStamp f.timestamp at → (f.protocol ≡ 5424 → ShowsNoDate text)
+    → IsStamp t at × IsShown text t)
+    → AreFields (record f { timestamp = t }) None (line_value line) × IsShown text t
+port_fields rules dating text line f t of are stamps =
+    let m = line_value line in
+    let at = stamps m.timestamp are.timestamp
+    (λ strict. strict_shows_none rules.variant dating text m of.only.read (sym are.protocol ∙ strict)) in
+    (restamped f t None m are at.0, at.1)
+
+module _ (rules : Rules) (dating : Dating) (text : Text) (line : Line) (new : Fields)
+    (of : IsLineOf rules.variant dating text line) where
+  -- the port's line is kept, since it is ordinary, or since the text is of no dialect
+  port_meant : Stands rules.dates dating rules.dialects rules.variant text
+      → AreFields new None (line_value line) × IsShown text new.timestamp
+      → AreMeant rules dating text (list_elements line.list) new
+  port_meant stands are = record {
+    dialect = None;
+    message = line_value line;
+    only = only_meant rules dating text None (line_value line) (of.only, stands);
+    are = are.0;
+    shown = are.1;
+    elements = refl;
+  }
+
+  pub ordinary_meant : IsOrdinary line → AreFields new None (line_value line) × IsShown text new.timestamp
+      → AreMeant rules dating text (list_elements line.list) new
+  ordinary_meant is = port_meant
+      (left_read rules.dates dating rules.dialects rules.variant text line of (λ odd may. absurd (odd is)))
+
+  pub left_meant : (AreAsked rules.dialects rules.variant → MayBegin text → IsInNone rules.dates true text)
+      → AreFields new None (line_value line) × IsShown text new.timestamp
+      → AreMeant rules dating text (list_elements line.list) new
+  left_meant none = port_meant
+      (λ asked. left_read rules.dates dating rules.dialects rules.variant text line of
+      (λ odd may. none asked may) asked)
+
+  -- a dialect's line comes before it
+  pub instead_meant : (it : SentLine) → (IsOrdinary line → ⊥)
+      → (AreAsked rules.dialects rules.variant × MayBegin text) × IsDialectLine rules.dates true text it
+      → ((dialect : Dialect) → it.dialect ≡ Some dialect → Shows rules.dates dating rules.variant text it
+      → AreFields new it.dialect (line_value it.line)
+      × IsShownIn rules dating text it.dialect (line_value it.line) new.timestamp)
+      → AreMeant rules dating text (list_elements line.list) new
+  instead_meant it odd ((asked, may), is) says =
+      let left : IsLeft rules.variant dating text true = ((line, of, odd), may) in
+      let are = says is.dialect is.named
+      (flags rules.dates dating rules.dialects rules.variant text true it left is) in
+      record {
+        dialect = it.dialect;
+        message = line_value it.line;
+        only = only_meant rules dating text it.dialect (line_value it.line)
+            (in_dialect rules.dates dating rules.dialects rules.variant text asked true it left is);
+        are = are.0;
+        shown = are.1;
+        elements = same_elements rules.dates text line it odd is;
+      }
+
+-- where the port reads none, the line is of a dialect
+pub unread_meant : (rules : Rules) (dating : Dating) (text : Text) (it : SentLine) (new : Fields)
+    → IsUnreadable rules.variant dating text → IsMeant rules dating text it.dialect (line_value it.line)
+    → Shows rules.dates dating rules.variant text it → list_elements it.line.list ≡ []
+    → ((dialect : Dialect) → it.dialect ≡ Some dialect → Shows rules.dates dating rules.variant text it
+    → AreFields new it.dialect (line_value it.line)
+    × IsShownIn rules dating text it.dialect (line_value it.line) new.timestamp) → AreMeant rules dating text [] new
+unread_meant rules dating text it new none read shown no_list says =
+    let (dialect, named) = which it.dialect refl in
+    let are = says dialect named shown in
+    record {
+      dialect = it.dialect;
+      message = line_value it.line;
+      only = only_meant rules dating text it.dialect (line_value it.line) read;
+      are = are.0;
+      shown = are.1;
+      elements = no_list;
+    }
+  where
+    which : (d : Option Dialect) → it.dialect ≡ d → (dialect : Dialect) × (it.dialect ≡ Some dialect)
+    which None port = absurd (none (line_value it.line)
+        (subst (λ (d : Option Dialect). IsMeant rules dating text d (line_value it.line)) port read).0.read)
+    which (Some dialect) named = (dialect, named)
+
+-- the fields are reported
+pub reported : (rules : Rules) (dating : Dating) (text : Text) (es : List ElementValue) (old new : Fields)
+    → AreMeant rules dating text es new → TellsFields rules dating text old new Done
+reported rules dating text es old new meant =
+    inl (meant.dialect, meant.message, meant.only, refl, meant.are, meant.shown)
+
+pub unread_reported : (rules : Rules) (dating : Dating) (text : Text) (old mid new : Fields) (outcome : Outcome)
+    → mid ≡ old → MeansOnly rules dating text mid new outcome → TellsFields rules dating text old new outcome
+unread_reported rules dating text old mid new Done same meant = reported rules dating text [] old new meant
+unread_reported rules dating text old mid new NoReading same (unsent, is) = inr ((refl, unsent), is ∙ same)
+unread_reported rules dating text old mid new NotUtf8 same none = absurd none
+unread_reported rules dating text old mid new NoMemory same none = absurd none
+unread_reported rules dating text old mid new NoRoom same none = absurd none
+unread_reported rules dating text old mid new BadArgument same none = absurd none

@@ -1,0 +1,87 @@
+//! The fields of a line that may be of a dialect, where the port has read the text already.
+//!
+//! A visitor takes the fields of the port's line at once, so that an ordinary line costs only a look at whether it is
+//! one. A dialect's line is made afterwards.
+ghost use Rattle.std.specs.Prelude.{◌≡◌, [], None, Some, MatchBool};
+ghost use Rattle.std.specs.Str.{chars};
+ghost use Rattle.syslog_pieces.specs.Pieces.Class.{Text as AnyText};
+ghost use Rattle.syslog_pieces.specs.StructuredData.Visited.{list_elements};
+ghost use Rattle.syslog_pieces.specs.Timestamp.Zone.{Dating};
+ghost use Rattle.syslog_loose.specs.Line.{line_value};
+ghost use Rattle.syslog_loose.specs.Reading.{IsUnreadable};
+ghost use Rattle.syslog_loose.specs.Visit.{IsLineOf};
+ghost use Rattle.syslog_loose.specs.declared.line.Line.{Line as AnyLine};
+ghost use Rattle.syslog_dialects.specs.Ordinary.{IsOrdinary};
+ghost use Rattle.syslog_dialects.specs.SentReading.{IsUnsent, Shows};
+ghost use Rattle.syslog_dialects.specs.declared.dialect.Dialect.{Dialect};
+ghost use Rattle.syslog_c.specs.Fields.{AreFields};
+ghost use Rattle.syslog_c.specs.Shown.{IsShownIn};
+ghost use Rattle.syslog_c.specs.Told.{AreMeant};
+ghost use Rattle.syslog_c.specs.declared.rules.Rules.{Rules as AnyRules};
+
+use crate::fields::Fields;
+use crate::rules::Rules;
+use crate::shown::{with_flags, with_shown};
+use crate::tell::fields_of;
+use syslog_dialects::{SentLine, line_instead, unread_line};
+
+/// Completes the fields of the port's line, which keeps its reading or not: by what the text shows of its date, or by
+/// those of a dialect's line instead.
+#[inline(always)]
+pub(crate) fn take_read<'a>(
+    text: &'a str,
+    rules: &Rules,
+    is_ordinary: bool,
+    fields: &mut Fields<'a>,
+)
+    ensures { (dating : Dating) (line : AnyLine) → IsLineOf rules.now.variant dating (chars text.entry.now) line
+        → AreFields fields.old None (line_value line)
+        → MatchBool is_ordinary (IsOrdinary line) (IsOrdinary line → ⊥)
+        → AreMeant rules.now dating (chars text.entry.now) (list_elements line.list) fields.new }
+{
+    if is_ordinary {
+        return show_port(text, fields);
+    }
+    match line_instead(text, &rules.dates, rules.variant, rules.dialects) {
+        Some(sent) => *fields = fields_sent(&sent),
+        None => show_port(text, fields),
+    }
+}
+
+/// Takes the fields of a dialect's line, where the port reads none. Returns whether there is one.
+#[inline(always)]
+pub(crate) fn take_unread<'a>(text: &'a str, rules: &Rules, fields: &mut Fields<'a>) -> bool
+    ensures { (dating : Dating) → IsUnreadable rules.now.variant dating (chars text.entry.now) → MatchBool result
+        (AreMeant rules.now dating (chars text.entry.now) [] fields.new)
+        (IsUnsent rules.now.dates dating rules.now.dialects rules.now.variant (chars text.entry.now)
+        × (fields.new ≡ fields.old)) }
+{
+    let Some(sent) = unread_line(text, &rules.dates, rules.variant, rules.dialects) else {
+        return false;
+    };
+    *fields = fields_sent(&sent);
+    true
+}
+
+// Completes the fields of the port's line by what the text shows of its date.
+#[inline(always)]
+fn show_port(text: &str, fields: &mut Fields<'_>)
+    ensures { (rules : AnyRules) (dating : Dating) (line : AnyLine)
+        → IsLineOf rules.variant dating (chars text.entry.now) line → AreFields fields.old None (line_value line)
+        → AreFields fields.new None (line_value line)
+        × IsShownIn rules dating (chars text.entry.now) None (line_value line) fields.new.timestamp }
+{
+    fields.timestamp = with_shown(text, fields.protocol, fields.timestamp);
+}
+
+// The fields of a dialect's line, with what it shows of its date.
+fn fields_sent<'a>(sent: &SentLine<'a>) -> Fields<'a>
+    ensures { (rules : AnyRules) (dating : Dating) (text : AnyText) (dialect : Dialect)
+        → sent.now.dialect ≡ Some dialect → Shows rules.dates dating rules.variant text sent.now
+        → AreFields result sent.now.dialect (line_value sent.now.line)
+        × IsShownIn rules dating text sent.now.dialect (line_value sent.now.line) result.timestamp }
+{
+    let mut fields = fields_of(&sent.line, sent.dialect);
+    fields.timestamp = with_flags(fields.timestamp, sent.shows_year, sent.shows_offset);
+    fields
+}
