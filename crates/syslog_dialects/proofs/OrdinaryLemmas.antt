@@ -23,7 +23,7 @@ use Rattle.syslog_pieces.proofs.PieceLemmas.Class.{row_det, row_of}
 use Rattle.syslog_pieces.proofs.TextLemmas.Runs.{chars_cut}
 use Rattle.syslog_loose.proofs.LineLemmas.{line_rest}
 use Rattle.syslog_loose.proofs.Rfc3164Lemmas.{stamped_det}
-use Rattle.syslog_loose.specs.Bodies.Rows.{stamped_row}
+use Rattle.syslog_loose.specs.Rows.{stamped_row}
 use Rattle.syslog_loose.specs.Line.{KnowsForm, line_value, protocol_of}
 use Rattle.syslog_loose.specs.Message.{MessageValue}
 use Rattle.syslog_loose.specs.Printed.{rest_text, spaced_elements, tag_text}

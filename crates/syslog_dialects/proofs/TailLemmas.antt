@@ -2,7 +2,7 @@
 use Rattle.std.proofs.Common.{◌≡◌, inl, inr, ℕ, List, [], ◌∷◌, Option, Some, None, refl, sym, ap, ◌∙◌}
 use Rattle.syslog_pieces.specs.Pieces.Class.{Text, Class, Values, IsDeterministic, Row, rest}
 use Rattle.syslog_pieces.proofs.PieceLemmas.Class.{AllDeterministic, ◌also◌, all_joined, rest_det, row_det}
-use Rattle.syslog_loose.specs.Bodies.Rows.{fields_row}
+use Rattle.syslog_loose.specs.Rows.{fields_row}
 use Rattle.syslog_loose.specs.Rfc3164.{HasProcess, Names3164, Resolves}
 use Rattle.syslog_loose.specs.TagForm.{IsIdOf}
 use Rattle.syslog_loose.proofs.Rfc3164Lemmas.{fields_det, one_form, resolves_once}

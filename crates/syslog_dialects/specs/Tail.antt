@@ -1,7 +1,7 @@
 -- What follows a date as the port reads it: a host field, a tag field, a colon, and the message. 32 is a space.
 use Rattle.std.specs.Prelude.{◌≡◌, List, [], ◌∷◌, ◌++◌, Option}
 use Rattle.syslog_pieces.specs.Pieces.Class.{Text, Class, Row, exactly, mapped, optional, rest}
-use Rattle.syslog_loose.specs.Bodies.Rows.{fields_row}
+use Rattle.syslog_loose.specs.Rows.{fields_row}
 use Rattle.syslog_loose.specs.Rfc3164.{Names3164, Resolves, HasProcess}
 use Rattle.syslog_dialects.specs.Zone.{ended}
 

@@ -2,7 +2,7 @@
 use Rattle.syslog_loose.proofs.Names.{◌≡◌, ◌++◌, ◌∙◌, sym, subst, append_cancel_right, Text, Class, Front, texted}
 use Rattle.syslog_loose.proofs.Names.{None, inl, inr, Dating, Line, IsLineOf, shown, trimmed}
 use Rattle.syslog_pieces.proofs.PieceLemmas.Class.{texted_front}
-use Rattle.syslog_loose.specs.Bodies.View3164.{IsAfterStamp}
+use Rattle.syslog_loose.specs.Rows.{IsAfterStamp}
 use Rattle.syslog_loose.specs.declared.variant.Variant.{Variant}
 
 -- the text of a piece, which is all before what follows

@@ -57,7 +57,7 @@ pub use Rattle.syslog_pieces.specs.declared.pri.SyslogFacility.TheVariants.{LOG_
 pub use Rattle.syslog_pieces.specs.declared.pri.SyslogSeverity.TheVariants.{SEV_DEBUG}
 pub use Rattle.syslog_pieces.specs.Timestamp.Rfc3164.{rfc3164_stamp, ShowsMonthDate, ShowsYearless}
 pub use Rattle.syslog_pieces.specs.Timestamp.MonthDate.{month_date, month, yearless_date}
-pub use Rattle.syslog_pieces.specs.Bodies.Verbatim.{IsBareWord}
+pub use Rattle.syslog_pieces.specs.ProcId.{IsBareWord}
 pub use Rattle.syslog_pieces.specs.Pieces.Lists.{IsMany}
 pub use Rattle.syslog_pieces.specs.Text.CharClass.{is_label_char, is_open_char, is_id_char, is_name_char}
 pub use Rattle.syslog_pieces.specs.Bodies.Closing.{start_row, start, opening_row}
@@ -113,7 +113,8 @@ pub use Rattle.syslog_loose.specs.Bodies.View3164.{names_value, NamesProgram, fi
 pub use Rattle.syslog_loose.specs.Visit.{IsLineOf, Made}
 pub use Rattle.syslog_loose.specs.declared.line.Line.{Line}
 pub use Rattle.syslog_loose.specs.declared.message.Protocol.{Protocol}
-pub use Rattle.syslog_loose.specs.Bodies.Rows.{stamped_row, fields_row, body_row, front_row, names_row, header_row, data_row}
+pub use Rattle.syslog_loose.specs.Bodies.Rows.{body_row, names_row, header_row, data_row}
+pub use Rattle.syslog_loose.specs.Rows.{stamped_row, fields_row, front_row}
 pub use Rattle.syslog_loose.specs.Exceptions.{is_no_colon, HasNoException, HasNoColon, is_inner_char, IsOddHost}
 pub use Rattle.syslog_loose.specs.Exceptions.{IsInnerProcess, AreNamesButExceptions, HasExceptionsAlone}
 pub use Rattle.syslog_loose.specs.Exceptions.{IsNearlyCanonical, HasQuietNames, HasNoNameException, IsOfMonthDate}

@@ -24,7 +24,7 @@ use Rattle.syslog_pieces.specs.Timestamp.Zone.{IsMonthStamp}
 use Rattle.syslog_pieces.proofs.TimestampLemmas.MonthDate.{date_front, header_front, header_stamp_begins, no_date}
 use Rattle.syslog_pieces.proofs.TimestampLemmas.MonthDate.{no_stamp_of_date}
 use Rattle.syslog_loose.specs.Bodies.Start.{BeginsWith}
-use Rattle.syslog_loose.specs.Bodies.View3164.{IsAfterStamp}
+use Rattle.syslog_loose.specs.Rows.{IsAfterStamp}
 use Rattle.syslog_pieces.specs.StructuredData.Visited.{Visits}
 use Rattle.syslog_pieces.specs.StructuredData.Collected.{HasCollected}
 use Rattle.syslog_pieces.specs.declared.structured_data.collect.Collect.{Collect}

@@ -6,7 +6,7 @@ use Rattle.syslog_loose.proofs.Names.{flat_map, Text, Values, Front, NoFront, ru
 use Rattle.syslog_loose.proofs.Names.{is_blank, AreInPieces, text_list, process_texts, header_stamp, element_texts, ◌≤◌}
 use Rattle.syslog_loose.proofs.Names.{priority, Quoted, row_quotes, silent, rest_quotes, host_quotes, priority_det, ◌<◌}
 use Rattle.syslog_loose.proofs.Names.{host_det, MessageValue, message_texts, header_row, data_row, front_row, names_row}
-use Rattle.syslog_loose.proofs.Names.{rest, rfc5424_row, message_of, IsRead5424, List, IfSome, is_ascii_digit, decimal, Class}
+use Rattle.syslog_loose.proofs.Names.{rest, rfc5424_row, message_of, IsRead5424, List, IfSome, is_ascii_digit, decimal}
 use Rattle.syslog_loose.proofs.Names.{is_not_whitespace, Ends, Format, process_word, process_text, host, word, ◌^◌, ◌+◌}
 use Rattle.syslog_loose.proofs.Names.{name_text, IsCanonicalWord, IsCanonicalStamp, timestamp_text, ◌*◌, ◌++◌, ◌then◌}
 use Rattle.syslog_loose.proofs.Names.{Option, Some, None, IsSome, refl, arith, row_cons, row_head, rows_join, row_of}
@@ -18,6 +18,9 @@ use Rattle.syslog_loose.proofs.Names.{SyslogFacility, SyslogSeverity, SEV_DEBUG,
 use Rattle.syslog_loose.proofs.Names.{OffsetTimestamp, piece_front, priority_composed, number_back, host_back, Protocol}
 use Rattle.syslog_loose.proofs.Names.{printed_stamp_back, stamp_text_canonical, IsBoundedProtocol, IsBounded, printed}
 use Rattle.syslog_loose.proofs.Names.{IsCanonicalInBoth, IsCanonicalFor, IsCanonical, priority_of, Quotes5424, composed}
+use Rattle.syslog_loose.proofs.Names.{AllByRecursion, Bool, Class, IsTrue, Line, append_cancel_right, true, ◌↔◌}
+use Rattle.syslog_loose.specs.Bodies.View5424.{FitsNames, names_before}
+use Rattle.syslog_pieces.proofs.PieceLemmas.Class.{front_of}
 use Rattle.syslog_pieces.proofs.PieceLemmas.Lists.{word_quotes, process_quotes, AllSound, row_back}
 use Rattle.syslog_pieces.proofs.TextLemmas.Words.{number_det, word_det, word_back, word_canonical, host_canonical}
 use Rattle.syslog_pieces.proofs.TextLemmas.Words.{NoColonNext, blanks_next}
@@ -159,7 +162,7 @@ name_unblank : (v : Option Text) (q : Text) (P : Text → Type 0) → ((t : Text
 name_unblank None q P f h = refl
 name_unblank (Some t) q P f h = let (long, visible) = f t h in visible_ends_blanks t q long visible
 
-process_unblank : (v : Option (ProcId Text)) (q r : Text) → process_word.Is (process_text v) r v
+pub process_unblank : (v : Option (ProcId Text)) (q r : Text) → process_word.Is (process_text v) r v
     → Ends is_blank (process_text v ++ q)
 process_unblank None q r h = refl
 process_unblank (Some p) q r (t, w, n) = visible_ends_blanks (process_text (Some p)) q w.0 w.1
@@ -167,6 +170,45 @@ process_unblank (Some p) q r (t, w, n) = visible_ends_blanks (process_text (Some
 elements_unblank : (es : List ElementValue) (q : Text) → Ends is_blank (elements_text es ++ q)
 elements_unblank [] q = refl
 elements_unblank (e ∷ es) q = refl
+
+-- ---- a rest that is in printed form
+
+-- its list and its message part, after its names
+pub data_printed : {line : Line} {text after start left own msg : Text} {es : List ElementValue}
+    → FitsNames text line after → Front (run is_blank) after start tt → Front forgiving start left es → start ≡ own ++ left
+    → text ≡ names_before line (32 ∷ (elements_text es ++ (32 ∷ msg)))
+    → IsTrue line.is_printed × (after ≡ 32 ∷ start) × (own ≡ elements_text es) × (left ≡ 32 ∷ msg)
+data_printed {left = left} {own = own} {msg = msg} {es = es} names gap list cut e =
+    let end : Text = 32 ∷ msg in
+    let (starts, more) = names.only (32 ∷ (elements_text es ++ end)) e in
+    let one_space = front_of (32 ∷ []) (sym more) ((refl, tt), elements_unblank es end) in
+    let here = (front_same (run is_blank) (run_det is_blank) gap one_space).0 in
+    let back = forgiving_back es end (forgiving_canonical list.piece left es list.is)
+    (no_item_before 32 msg (λ e. omega arith)) in
+    let rest = (front_same forgiving forgiving_det list (front_of (elements_text es) here back)).0 in
+    let same = sym cut ∙ here ∙ ap (λ (x : Text). elements_text es ++ x) (sym rest) in (
+      starts,
+      sym more ∙ ap (λ (x : Text). 32 ∷ x) (sym here),
+      append_cancel_right own (elements_text es) left same,
+      rest,
+    )
+
+-- all of it, by four tests
+pub rest_fits : {line : Line} {text after start left own msg : Text} {es : List ElementValue}
+    {b gap_fits list_fits space_fits : Bool} → FitsNames text line after → Front (run is_blank) after start tt
+    → Front forgiving start left es → start ≡ own ++ left
+    → IsTrue b ↔ AllByRecursion IsTrue (line.is_printed ∷ gap_fits ∷ list_fits ∷ space_fits ∷ true ∷ [])
+    → IsTrue gap_fits ↔ (after ≡ 32 ∷ start) → IsTrue list_fits ↔ (own ≡ elements_text es)
+    → IsTrue space_fits ↔ (left ≡ 32 ∷ msg)
+    → IsTrue b ↔ (text ≡ names_before line (32 ∷ (elements_text es ++ (32 ∷ msg))))
+rest_fits {line = line} {left = left} {es = es} names gap list cut all one own_is space = (
+  (λ e. (let (starts, (g, (l, (s, _)))) = all.0 e in
+      let body = cut ∙ ap (λ (x : Text). x ++ left) (own_is.0 l)
+      ∙ ap (λ (x : Text). elements_text es ++ x) (space.0 s) in
+      names.prints starts ∙ ap (λ (x : Text). names_before line x) (one.0 g ∙ ap (λ (x : Text). 32 ∷ x) body))),
+  (λ e. (let (starts, g, l, s) = data_printed names gap list cut e in
+      all.1 (starts, (one.1 g, (own_is.1 l, (space.1 s, (refl, tt))))))),
+)
 
 no_item_end : (msg : Text) → NoFront item (message_end msg)
 unfolding message_end

@@ -12,7 +12,7 @@ use Rattle.syslog_pieces.proofs.ProcIdLemmas.{absent_front, process_front}
 use Rattle.syslog_pieces.proofs.StructuredDataLemmas.Unparsed.{IsBracketed, full_leaves, leaving_det}
 use Rattle.syslog_pieces.proofs.StructuredDataLemmas.Unparsed.{left_bracketed, nothing_leaves, unparsed_same}
 use Rattle.syslog_pieces.specs.StructuredData.Unparsed.{IsUnparsed, leaving}
-use Rattle.syslog_loose.specs.Bodies.Rows.{words_row}
+use Rattle.syslog_loose.specs.Rows.{words_row}
 use Rattle.syslog_loose.specs.LineTexts.{IsLine3164, IsLine5424}
 use Rattle.syslog_loose.specs.Reading.{dash_rule}
 use Rattle.syslog_loose.specs.Unparsed.{Leaves, Leaves5424, left_of, leaving_row}

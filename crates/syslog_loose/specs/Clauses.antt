@@ -2,11 +2,10 @@
 pub use Rattle.syslog_loose.specs.Bodies.Cases.{incomplete, printed_number}
 pub use Rattle.syslog_loose.specs.Bodies.Jumps.{CutsColons, EndsColons, IsDashed, PassesDashes, colons, colons_before}
 pub use Rattle.syslog_loose.specs.Bodies.Jumps.{message_end, past_colons, tail_text, with_msg}
-pub use Rattle.syslog_loose.specs.Bodies.Rows.{stamped_row}
 pub use Rattle.syslog_loose.specs.Bodies.Start.{BeginsWith, BeginsWithout, IsAfterPriority}
-pub use Rattle.syslog_loose.specs.Bodies.View3164.{FieldsAreRead, IsAfterStamp, NamesHost, NamesProgram}
+pub use Rattle.syslog_loose.specs.Bodies.View3164.{FieldsAreRead, NamesHost, NamesProgram}
 pub use Rattle.syslog_loose.specs.Bodies.View3164.{names_value}
-pub use Rattle.syslog_loose.specs.Bodies.View5424.{FitsSpaced, ReadsHeader, ReadsNames5424, ReadsSpaced, names_before}
+pub use Rattle.syslog_loose.specs.Bodies.View5424.{FitsNames, FitsSpaced, ReadsHeader, ReadsNames5424, ReadsSpaced}
 pub use Rattle.syslog_loose.specs.Canonical.{AreElements, IsBounded, IsCanonical, fields_value}
 pub use Rattle.syslog_loose.specs.DashChange.{BeginsDashChange, HasDashChange, ReadsDifferently, WasCanonical}
 pub use Rattle.syslog_loose.specs.DashChange.{WasUnreadable}
@@ -26,6 +25,7 @@ pub use Rattle.syslog_loose.specs.Reading.{Answers, AnswersEachMonth, AnswersOrW
 pub use Rattle.syslog_loose.specs.Reading.{IsQuoted, IsRead, IsUnreadable, dash_rule}
 pub use Rattle.syslog_loose.specs.Rfc3164.{IsRead3164, Names3164, Quotes3164, Resolves, rfc3164_row}
 pub use Rattle.syslog_loose.specs.Rfc5424.{IsNot5424, IsRead5424, rfc5424_row}
+pub use Rattle.syslog_loose.specs.Rows.{IsAfterStamp, stamped_row}
 pub use Rattle.syslog_loose.specs.Settling.{IsFirstSettled, IsRound, IsSettled, NoneSettled, Settles, Weighs, answer_in}
 pub use Rattle.syslog_loose.specs.TagForm.{IsForm, IsIdOf, IsNoForm}
 pub use Rattle.syslog_loose.specs.Visit.{IsCompleted, IsLineOf, Made, MadeOf}

@@ -16,6 +16,7 @@ pub mod Reading
 pub mod Reckoning
 pub mod Rfc3164
 pub mod Rfc5424
+pub mod Rows
 pub mod Settling
 pub mod TagForm
 pub mod Unparsed

@@ -39,7 +39,8 @@ pub struct Line<'a> {
     pub msg: &'a str,
     /// The whole text after the timestamp.
     pub rest: &'a str,
-    /// Whether all after the timestamp is already in printed form. It may be `false` though it is.
+    /// Whether all after the timestamp is already in printed form. Of a line of RFC 3164 the field of a host and a tag
+    /// that names a program must be there too, and no list.
     pub is_printed: bool,
 }
 

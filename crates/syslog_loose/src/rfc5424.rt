@@ -2,12 +2,12 @@
 //!
 //! `read_5424` returns the line of the one division of a trimmed text, or that there is none. What it reads it takes
 //! from the readers of `syslog_pieces`, piece by piece from the left.
-ghost use Rattle.std.specs.Prelude.{◌≡◌};
+ghost use Rattle.std.specs.Prelude.{◌≡◌, ◌↔◌};
 ghost use Rattle.syslog_loose.specs.Words.{[], ℕ, IfSome, IsTrue, MatchOption, Some, AllByRecursion, chars, IsUtf8};
 ghost use Rattle.syslog_loose.specs.Words.{Text, seen, shown, list_elements, Visits, trimmed};
-ghost use Rattle.syslog_pieces.specs.Bodies.Verbatim.{IsBareWord};
+ghost use Rattle.syslog_pieces.specs.ProcId.{IsBareWord};
 ghost use Rattle.syslog_loose.specs.Clauses.{KnowsForm, IsNot5424, IsLine5424, IsAfterPriority};
-ghost use Rattle.syslog_loose.specs.Clauses.{FitsSpaced, ReadsHeader, ReadsNames5424, ReadsSpaced, names_before};
+ghost use Rattle.syslog_loose.specs.Clauses.{FitsNames, FitsSpaced, ReadsHeader, ReadsNames5424, ReadsSpaced};
 ghost use Rattle.syslog_pieces.specs.Text as spec;
 
 use crate::line::Line;
@@ -20,7 +20,7 @@ use syslog_pieces::timestamp::{ClockStamp, header_stamp};
 /// Whether all of them are true, by one look.
 #[inline(always)]
 pub(crate) fn are_all(tests: [bool; 5]) -> bool
-    ensures { IsTrue result → AllByRecursion IsTrue tests }
+    ensures { IsTrue result ↔ AllByRecursion IsTrue tests }
 {
     let [a, b, c, d, e] = tests;
     a & b & c & d & e
@@ -29,7 +29,7 @@ pub(crate) fn are_all(tests: [bool; 5]) -> bool
 /// Whether the text that names a process, where there is one, prints as what it names.
 #[inline(always)]
 pub(crate) fn is_bare(process: Option<&str>) -> bool
-    ensures { IsTrue result → IfSome (seen process.entry) IsBareWord }
+    ensures { IsTrue result ↔ IfSome (seen process.entry) IsBareWord }
 {
     process.is_none_or(is_bare_word)
 }
@@ -66,7 +66,7 @@ fn read_names<'a, C>(
     rest: &'a str,
 ) -> Option<(Line<'a>, &'a str)>
     ensures reads { ReadsNames5424 version priority timestamp rest.entry result }
-    ensures prints { IfSome result (λ x. IsTrue x.0.is_printed → chars rest.entry.now ≡ names_before x.0 (shown x.1)) }
+    ensures prints { IfSome result (λ x. FitsNames (chars rest.entry.now) x.0 (shown x.1)) }
 {
     let (hostname, after_host, host_fits) = spaced_host(rest)?;
     let (appname, after_app, app_fits) = spaced_word(after_host)?;
@@ -96,8 +96,7 @@ fn read_names<'a, C>(
 fn read_header<'a, C>(priority: Option<u8>, text: &'a str) -> Option<(Line<'a>, &'a str)>
     ensures reads { (whole : Text) → IsAfterPriority whole priority (chars text.entry.now)
         → ReadsHeader whole result }
-    ensures prints { IfSome result (λ x. IsTrue x.0.is_printed
-        → shown x.0.rest ≡ names_before x.0 (shown x.1)) }
+    ensures prints { IfSome result (λ x. FitsNames (shown x.0.rest) x.0 (shown x.1)) }
     ensures version { IfSome result (λ x. (version : ℕ) × (x.0.version ≡ Some version)) }
     ensures utf8 { IfSome result (λ x. IsUtf8 x.0.rest.now) }
 {

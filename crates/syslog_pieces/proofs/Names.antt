@@ -61,7 +61,7 @@ pub use Rattle.syslog_pieces.specs.Bodies.Closing.{quoted_row, inside, closing, 
 pub use Rattle.syslog_pieces.specs.Bodies.Closing.{name_alone, tail_row}
 pub use Rattle.syslog_pieces.specs.Bodies.Scan.{visible_byte, SplitsRun, EndsRun, IsRunIn, byte_in, past_in, IsBare}
 pub use Rattle.syslog_pieces.specs.Bodies.Scan.{IsRun, first_set}
-pub use Rattle.syslog_pieces.specs.Bodies.Verbatim.{IsBareWord, bare_param_text}
+pub use Rattle.syslog_pieces.specs.Bodies.Verbatim.{bare_param_text}
 pub use Rattle.syslog_pieces.specs.Pieces.Class.{Text, Class, Values, Row, run, some_run, exactly, optional, Each, Ends}
 pub use Rattle.syslog_pieces.specs.Pieces.Class.{Front, NoFront, IsDeterministic, join, mapped, texted, Divides, after}
 pub use Rattle.syslog_pieces.specs.Pieces.Class.{spaced}

@@ -3,15 +3,17 @@ use Rattle.syslog_pieces.proofs.Names.{decimal-digits_value, without_leading_sig
 use Rattle.syslog_pieces.proofs.Names.{IsCanonicalProcess, length-le-encodes, is_not_whitespace, IsBoundedProcess, List}
 use Rattle.syslog_pieces.proofs.Names.{encode_utf8_all, IsCanonicalWord, signed_decimal, is_ascii_digit, chars-IsAscii}
 use Rattle.syslog_pieces.proofs.Names.{if◌then◌else◌, digits_value, ParsesSigned, IsAscii-cons, process_word, IsNumeral}
-use Rattle.syslog_pieces.proofs.Names.{NamesProcess, process_text, common_steps, IsAscii-nil, FitsSigned, IsBareWord, ℕ}
+use Rattle.syslog_pieces.proofs.Names.{NamesProcess, process_text, common_steps, IsAscii-nil, FitsSigned, ℕ, subst, ◌≤◌}
 use Rattle.syslog_pieces.proofs.Names.{IsI32Text, and_parts, LeadsBare, and_from, list_all, cases_eq, cases_lt, IsAscii}
 use Rattle.syslog_pieces.proofs.Names.{ltb-true, NoFront, decimal, get_or, Result, IsUtf8, ne_eqb, length, ProcId, Some}
 use Rattle.syslog_pieces.proofs.Names.{negsuc, lt-ltb, Option, IfSome, IsTrue, arith, chars, Front, neg_ℤ, false, None}
 use Rattle.syslog_pieces.proofs.Names.{refl, Text, Each, word, Name, true, Bool, ◌&&◌, Ends, ◌≡◌, pos, ◌<◌, ◌⊎◌, inl, ℤ}
 use Rattle.syslog_pieces.proofs.Names.{inr, w32, ◌∷◌, Err, sym, ◌∙◌, PID, suc, not, ◌↔◌, [], Ok, ap}
-use Rattle.std.proofs.lemmas.Fmt.{decimal_is_IsNumeral}
+use Rattle.syslog_pieces.proofs.Names.{◌≢◌, ◌^◌, zero, decimal_digit, nat_tests}
+use Rattle.std.proofs.lemmas.Fmt.{decimal_is_IsNumeral, first_decimal}
 use Rattle.std.proofs.lemmas.Str.Parse.{IsNumeralModel, numerals_by_value}
-use Rattle.syslog_pieces.specs.ProcId.{procid_text, has_32_bits, is_signed_text, named_process, IsNoI32Text}
+use Rattle.syslog_pieces.specs.Bodies.Looks.{BeginsNegative}
+use Rattle.syslog_pieces.specs.ProcId.{procid_text, has_32_bits, is_signed_text, named_process, IsNoI32Text, IsBareWord}
 use Rattle.syslog_pieces.proofs.TextLemmas.Runs.{digits_ascii, ascii_ahead, ascii_chars}
 use Rattle.syslog_pieces.proofs.TextLemmas.Words.{own, word_det, false_is, last_is, decimal_digits, digits_visible}
 use Rattle.syslog_pieces.proofs.TextLemmas.Words.{word_back, word_canonical}
@@ -93,20 +95,20 @@ two_bytes k d more bs low u e =
     ascii_ahead (k ∷ []) (d ∷ more) bs u (IsAscii-cons k [] low IsAscii-nil) e in
     rw split (omega (arith, length-le-encodes (d ∷ more)), refl)
 
--- a word is bare where its bytes lead with no mark before another
-pub bare_word : (bs t : Text) → IsUtf8 bs → LeadsBare bs → chars bs ≡ t → IsBareWord t
-bare_word bs [] u h e l = absurd (omega arith)
-bare_word bs (c ∷ []) u h e l = absurd (omega arith)
-bare_word bs (c ∷ d ∷ p) u h e l = (
+-- a text leads with no mark where its bytes do
+bare_lead : (bs t : Text) → IsUtf8 bs → LeadsBare bs → chars bs ≡ t → LeadsBare t
+bare_lead bs [] u h e l = absurd (omega arith)
+bare_lead bs (c ∷ []) u h e l = absurd (omega arith)
+bare_lead bs (c ∷ d ∷ p) u h e l = (
   λ z. (let (long, first) = two_bytes 43 d p bs (omega arith) u (rw z at e) in (h long).0 first),
   λ z. (let (long, first) = two_bytes 45 d p bs (omega arith) u (rw z at e) in (h long).1 first),
   λ z. (let (long, first) = two_bytes 48 d p bs (omega arith) u (rw z at e) in (h long).2 first),
 )
 
--- a process id that a bare word names prints as the word
-pub bare_prints : (t : Text) (i : ProcId Text) → 0 < length t → IsBareWord t → NamesProcess t i → procid_text i ≡ t
-bare_prints t (Name s) l bare n = n.1
-bare_prints t (PID m) l bare ((there, value), fits) = elim (signed_parts t there) [
+-- a process id that such a text names prints as the text
+lead_prints : (t : Text) (i : ProcId Text) → 0 < length t → LeadsBare t → NamesProcess t i → procid_text i ≡ t
+lead_prints t (Name s) l bare n = n.1
+lead_prints t (PID m) l bare ((there, value), fits) = elim (signed_parts t there) [
   | inl d ↦
       let e = value ∙ (plain t d).1 in
       let small = rw e at fits in
@@ -147,6 +149,98 @@ named_as t false h = (no_number t (sym h), refl)
 
 pub named_names : (t : Text) → NamesProcess t (named_process t)
 named_names t = named_as t _ refl
+
+-- ---- texts that are printed as what they name
+
+-- whatever such a text names
+pub bare_prints : (t : Text) (i : ProcId Text) → IsBareWord t → NamesProcess t i → procid_text i ≡ t
+bare_prints t i bare h = ap procid_text (process_same t i (named_process t) h (named_names t)) ∙ bare
+
+lead_bare : (t : Text) → LeadsBare t → IsBareWord t
+lead_bare [] h = refl
+lead_bare (c ∷ t) h = lead_prints (c ∷ t) (named_process (c ∷ t)) (omega arith) h (named_names (c ∷ t))
+
+-- one whose bytes lead with no mark
+pub bytes_bare : (bs : List ℕ) → IsUtf8 bs → LeadsBare bs → IsBareWord (chars bs)
+bytes_bare bs u h = lead_bare (chars bs) (bare_lead bs (chars bs) u h refl)
+
+-- a name
+pub name_bare : (t s : Text) → NamesProcess t (Name s) → IsBareWord t
+name_bare t s h = ap procid_text (process_same t (named_process t) (Name s) (named_names t) h) ∙ h.1
+
+-- the first digit of a number of several is no zero
+first_digit : (n : ℕ) → n < 2 ^ 64 → (decimal n ≡ 48 ∷ []) ⊎ (48 < get_or (decimal n) 0 0)
+first_digit zero h = inl (decimal_digit 0 (omega arith))
+first_digit (suc n) h = inr (first_decimal (suc n) (omega arith) h)
+
+no_mark : (a k : ℕ) → 48 < a → k ≤ 48 → a ≢ k
+no_mark a k l m e = omega (arith, l, m, e)
+
+digit_below : (c : ℕ) → is_ascii_digit c ≡ true → c < 58
+digit_below c h = grind (arith, nat_tests)
+
+digit_first : (t : Text) → 0 < length t → Each is_ascii_digit t → get_or t 0 0 < 58
+digit_first [] l h = absurd (omega arith)
+digit_first (c ∷ t) l h = digit_below c h.0
+
+-- what the printed text of a number begins with
+number_begins : (m : ℤ) → FitsSigned w32 m → LeadsBare (signed_decimal m) ⊎ BeginsNegative (signed_decimal m)
+number_begins (pos n) h = inl (elim (first_digit n (omega (arith, h))) [
+  | inl one ↦ λ long. absurd (let k = ap length one in omega (arith, k, long))
+  | inr more ↦ λ long.
+      (no_mark _ 43 more (omega arith), no_mark _ 45 more (omega arith), no_mark _ 48 more (omega arith))
+])
+number_begins (negsuc n) h =
+    let (long, digits) = decimal_digits (suc n) (omega (arith, h)) in
+    inr (
+      omega (arith, long),
+      refl,
+      first_decimal (suc n) (omega arith) (omega (arith, h)),
+      digit_first (decimal (suc n)) long digits,
+    )
+
+-- a number that is written with a minus before no zero prints so
+negative_low : (n : ℕ) → FitsSigned w32 (neg_ℤ (pos n)) → n < 2 ^ 64
+negative_low zero h = omega arith
+negative_low (suc n) h = omega (arith, h)
+
+negative_text : (n : ℕ) (q : Text) → decimal n ≡ q → 48 < get_or q 0 0 → signed_decimal (neg_ℤ (pos n)) ≡ 45 ∷ q
+negative_text zero q e low =
+    let k = subst (λ (x : Text). 48 < get_or x 0 0) (sym e ∙ decimal_digit 0 (omega arith)) low in
+    absurd (omega (arith, k))
+negative_text (suc n) q e low = ap (λ (x : Text). 45 ∷ x) e
+
+negative_written : (q : Text) (m : ℤ) → IsI32Text (45 ∷ q) m → 48 < get_or q 0 0 → signed_decimal m ≡ 45 ∷ q
+negative_written q m ((there, value), fits) low =
+    let n = digits_value 10 q in
+    let small : n < 2 ^ 64 = negative_low n (subst (λ (z : ℤ). FitsSigned w32 z) value fits) in
+    let same : decimal n ≡ q =
+    decimal-digits_value own q (own.from q there.1) there.0 (λ z. absurd (omega (arith, z, low))) small in
+    ap signed_decimal value ∙ negative_text n q same low
+
+negative_prints : (t : Text) (m : ℤ) → IsI32Text t m → BeginsNegative t → signed_decimal m ≡ t
+negative_prints [] m is (long, minus, low, high) = absurd (omega (arith, long))
+negative_prints (c ∷ q) m is (long, minus, low, high) =
+    subst (λ (x : ℕ). signed_decimal m ≡ x ∷ q) (sym minus)
+    (negative_written q m (subst (λ (x : ℕ). IsI32Text (x ∷ q) m) minus is) low)
+
+long_number : (t : Text) → IsNumeral 10 (without_leading_sign t) → 0 < length t
+long_number [] h = h.0
+long_number (c ∷ t) h = omega arith
+
+-- the text of a number, by its bytes
+pub number_bare : (bs : List ℕ) → IsUtf8 bs → (m : ℤ) → IsI32Text (chars bs) m
+    → IsBareWord (chars bs) ↔ (LeadsBare bs ⊎ BeginsNegative bs)
+number_bare bs u m is =
+    let t = chars bs in
+    let same : t ≡ bs = ascii_chars bs u (writes_ascii t is.0.0) in
+    let named = ap procid_text (process_same t (named_process t) (PID m) (named_names t) is) in (
+      (λ bare. subst (λ (x : Text). LeadsBare x ⊎ BeginsNegative x) (sym named ∙ bare ∙ same) (number_begins m is.1)),
+      (λ begins. elim begins [
+        | inl lead ↦ bytes_bare bs u lead
+        | inr minus ↦ named ∙ negative_prints t m is (subst BeginsNegative (sym same) minus)
+      ]),
+    )
 
 -- ---- the text of a number
 

@@ -47,6 +47,10 @@ abbrev pub procid_text : ProcId Text → Text
 procid_text (PID n) = signed_decimal n
 procid_text (Name t) = t
 
+-- the text is printed as what it names
+abbrev pub IsBareWord : Text → Type 0
+IsBareWord t = procid_text (named_process t) ≡ t
+
 -- that text, or `-` where there is no process id
 abbrev pub process_text : Option (ProcId Text) → Text
 process_text None = dash

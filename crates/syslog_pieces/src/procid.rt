@@ -5,13 +5,13 @@
 ghost use Rattle.std.specs.Cmp.{on_equiv, on_per, partial_equiv_from_equiv};
 ghost use Rattle.syslog_pieces.specs.Words.{on, ProcId, shown, text_of, ClonesKeepText};
 ghost use Rattle.std.specs.Prelude.{◌≡◌, ◌↔◌, IfOk, IsTrue, Some, string_bytes, chars, encode_utf8_all};
-ghost use Rattle.syslog_pieces.specs.Bodies.Verbatim.{IsBareWord};
 ghost use Rattle.syslog_pieces.specs.ProcId.Equal.{procid_eq};
 ghost use Rattle.syslog_pieces.specs.ProcId.EqualLaws.{procid_equivalence};
 ghost use Rattle.syslog_pieces.specs.ProcId as spec;
 
 use crate::as_str::{AsStr, is_same_text};
 use crate::text::canonical::is_canonical_word;
+use crate::text::{begins_negative, leads_bare};
 use std::alloc::{AllocError, Global};
 use std::fmt;
 
@@ -99,12 +99,24 @@ impl<'a> From<&'a str> for ProcId<&'a str> {
     }
 }
 
-/// Whether no sign and no zero is before other characters: then it is printed as what it names.
-#[tactic(auto, using(crate::proofs::ProcIdLemmas::bare_word))]
+/// Whether the word is printed as what it names. One without a sign or a zero before other characters is, so few words
+/// are parsed for it.
 pub fn is_bare_word(name: &str) -> bool
-    ensures { IsTrue result → IsBareWord (chars name.now) }
+    ensures { IsTrue result ↔ spec.IsBareWord (chars name.now) }
 {
-    !matches!(name.as_bytes(), [b'+' | b'-' | b'0', _, ..])
+    leads_bare(name.as_bytes()) || prints_as_named(name)
+}
+
+// The same, by what the word names.
+#[cold]
+#[inline(never)]
+fn prints_as_named(name: &str) -> bool
+    ensures { IsTrue result ↔ spec.IsBareWord (chars name.now) }
+{
+    match ProcId::from(name) {
+        ProcId::PID(_) => leads_bare(name.as_bytes()) || begins_negative(name.as_bytes()),
+        ProcId::Name(_) => true,
+    }
 }
 
 /// Returns whether the text is that of a signed number of 32 bits, as `5`, `+5` or `-5`.

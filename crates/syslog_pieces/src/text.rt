@@ -20,8 +20,9 @@ pub mod verbatim;
 pub mod write_ascii;
 
 use lanes::visible_front;
-pub use looks::{begins_with_digit, ends_in_colon};
+pub(crate) use looks::{begins_negative, leads_bare};
 use looks::{begins_visibly, begins_with, begins_with_gap};
+pub use looks::{begins_with_digit, ends_in_colon};
 use numerals::{number_of_digits, small_digits};
 use scan::{ascii_run, is_cut, is_in};
 

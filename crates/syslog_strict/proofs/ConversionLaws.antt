@@ -28,8 +28,8 @@ use Rattle.std.proofs.Common.{◌&&◌, nat_lt}
 use Rattle.std.proofs.lemmas.{Bool.or_from}
 use Rattle.std.specs.Bool.{◌==◌}
 use Rattle.std.specs.Prelude.{◌↔◌}
-use Rattle.syslog_pieces.specs.{Bodies.Verbatim.IsBareWord, Timestamp.Zone.Dating, Text.Canonical.EndsVisibly}
-use Rattle.syslog_pieces.proofs.{ProcIdLemmas.bare_prints, StructuredDataLemmas.Elements.forgiving_back}
+use Rattle.syslog_pieces.specs.{ProcId.IsBareWord, Timestamp.Zone.Dating, Text.Canonical.EndsVisibly}
+use Rattle.syslog_pieces.proofs.StructuredDataLemmas.Elements.{forgiving_back}
 use Rattle.syslog_pieces.proofs.StructuredDataLemmas.Elements.{forgiving_det, no_item_nil}
 use Rattle.syslog_loose.specs.{Printed.printed, Printed.printed_5424, declared.variant.Variant.Variant}
 use Rattle.syslog_loose.specs.{declared.variant.Variant.TheVariants.Either, Canonical.IsBounded, Canonical.IsCanonical}
@@ -119,7 +119,7 @@ bare_stays (c ∷ d ∷ t) long same bare =
     let kept : converted_word 128 u ≡ Some u = ap (λ (x : Text). named (without_lone_colon x)) same
     ∙ ap named (lone_same u (λ e. cc)) ∙ rw (no_text u dash (λ e. cc)) refl in
     ap process_text (named_process_again u (named_process u) refl (named_names u) kept)
-    ∙ bare_prints u (named_process u) (omega arith) bare (named_names u)
+    ∙ bare
 
 pub process_again : (v : Option (ProcId Text))
     → option_and_then converted_process (option_and_then converted_process v) ≡ option_and_then converted_process v

@@ -17,6 +17,10 @@ use Rattle.syslog_pieces.proofs.StructuredDataLemmas.Elements.{element_canonical
 use Rattle.syslog_loose.proofs.Rfc3164Lemmas.{of_names, shows, one_form}
 use Rattle.syslog_loose.proofs.PrintedLemmas.{drop_ends, last_ends, severity_beside}
 use Rattle.syslog_loose.specs.TagForm.{IsIdOf}
+use Rattle.syslog_loose.proofs.Names.{append_cancel_right, decimal, decimal_digits, each_map, is_ascii_digit, name_text}
+use Rattle.syslog_loose.proofs.Names.{named_names, nat_tests, negsuc, pos, process_same, procid_text, rest_same}
+use Rattle.syslog_loose.proofs.Names.{run_same, suc}
+use Rattle.std.proofs.lemmas.List.{append_cancel_left}
 use Rattle.syslog_pieces.proofs.TextLemmas.Runs as verbatim
 
 -- ---- elements
@@ -195,8 +199,36 @@ formed_prints : (name tag id : Text) (process : ProcId Text) → IsForm name tag
     → NamesProcess id process → (q : Text) → name ++ (58 ∷ 32 ∷ q) ≡ tag_text (Some tag) (Some process) ++ q
 formed_prints name tag id process f bare named q =
     let parts = form_parts name tag id f in
-    let e = bare_prints id process parts.some bare named in
+    let e = bare_prints id process bare named in
     ap (λ (x : Text). x ++ (58 ∷ 32 ∷ q)) parts.whole ∙ simp (e, append_assoc) refl
+
+-- the text of a number has no bracket
+digits_open : (t : Text) → Each is_ascii_digit t → Each is_open_char t
+digits_open = each_map is_ascii_digit is_open_char (λ c h. grind (arith, nat_tests))
+
+process_open : (id : Text) (p : ProcId Text) → NamesProcess id p → Each is_open_char id
+    → Each is_open_char (procid_text p)
+process_open id (PID (pos n)) h each = digits_open (decimal n) (decimal_digits n (omega (arith, h.1))).1
+process_open id (PID (negsuc n)) h each =
+    (refl, digits_open (decimal (suc n)) (decimal_digits (suc n) (omega (arith, h.1))).1)
+process_open id (Name s) h each = subst (λ (x : Text). Each is_open_char x) (sym h.1) each
+
+-- a name of that form that prints as its tag and its process has a bare id, and `: ` after it
+form_bare : (id : Text) (p : ProcId Text) (tag name between : Text) → FormParts name tag id → NamesProcess id p
+    → name ++ between ≡ tag_text (Some tag) (Some p) → IsBareWord id × (between ≡ 58 ∷ 32 ∷ [])
+form_bare id p tag name between parts named e =
+    let own = ap (λ (x : Text). x ++ between) parts.whole ∙ append_assoc tag (91 ∷ (id ++ (93 ∷ []))) between in
+    let text = procid_text p in
+    let close : Text = 93 ∷ 58 ∷ 32 ∷ [] in
+    let after = append_cancel_left tag (91 ∷ ((id ++ (93 ∷ [])) ++ between)) (91 ∷ (text ++ close)) (sym own ∙ e) in
+    let inner = append_cancel_left (91 ∷ []) ((id ++ (93 ∷ [])) ++ between) (text ++ close) after in
+    let whole = sym (append_assoc id (93 ∷ []) between) ∙ inner in
+    let unclosed = process_open id p named parts.unclosed in
+    let same = run_same is_open_char id (93 ∷ between) text close whole parts.unclosed refl unclosed refl in
+    let end = rest_same id (93 ∷ between) text close whole same in (
+      ap procid_text (process_same id (named_process id) p (named_names id) named) ∙ sym same,
+      append_cancel_left (93 ∷ []) between (58 ∷ 32 ∷ []) end,
+    )
 
 module _ {tail t u name : Text} {origin : Option Text} (f : Front (optional (spaced host)) tail t (Some origin))
     (g : Front (optional (spaced tag_word)) t u (Some (Some name))) where
@@ -241,4 +273,36 @@ module _ {tail t u name : Text} {origin : Option Text} (f : Front (optional (spa
         fields_quiet tag (Some p) (inl (tag, id, p, form, named, refl)),
       )
   fields_known msg h a (Some word) e (inr (none, same)) of bare =
+      absurd (let none = ap (λ (x : Names3164). x.procid) same in cc)
+
+  -- where they are in printed form, a name and what is before the message print as the tag
+  names_printed : (between msg : Text) (app : Option Text) (process : Option (ProcId Text)) → u ≡ between ++ msg
+      → tail ≡ fields_before (names origin app process) msg → name ++ between ≡ tag_text app process
+  names_printed between msg app process w e =
+      let (x, before, h) = spaced_parts host (present_front (spaced host) f) in
+      let (y, after, i) = spaced_parts tag_word (present_front (spaced tag_word) g) in
+      let own : tail ≡ 32 ∷ (name_text origin ++ (32 ∷ (name ++ (between ++ msg)))) =
+      cc (before, h.whole, verbatim.host_text h.piece _ origin h.is, after, i.whole, i.is.3.0, w) in
+      let named = append_cancel_left (32 ∷ name_text origin) (32 ∷ (name ++ (between ++ msg)))
+      (32 ∷ (tag_text app process ++ msg)) (sym own ∙ e) in
+      let tagged = append_cancel_left (32 ∷ []) (name ++ (between ++ msg)) (tag_text app process ++ msg) named in
+      append_cancel_right (name ++ between) (tag_text app process) msg (append_assoc name between msg ∙ tagged)
+
+  -- so the text of a process is bare, and `: ` is before the message
+  pub fields_bare : (between msg : Text) (h a process : Option Text) → u ≡ between ++ msg → NamesProgram origin name
+      (names h a (option_map named_process process)) → IsIdOf name process
+      → tail ≡ fields_before (names h a (option_map named_process process)) msg
+      → IfSome process IsBareWord × (between ≡ 58 ∷ 32 ∷ [])
+  fields_bare between msg h a None w (inl (tag, id, p, form, named, same)) of e =
+      absurd (let none = ap (λ (x : Names3164). x.procid) same in cc)
+  fields_bare between msg h a None w (inr (none, same)) of e =
+      let printed = names_printed between msg (Some name) None w
+      (subst (λ (x : Names3164). tail ≡ fields_before x msg) same e) in
+      (tt, append_cancel_left name between (58 ∷ 32 ∷ []) printed)
+  fields_bare between msg h a (Some word) w (inl (tag, id, p, form, named, same)) (tag', form') e =
+      let printed = names_printed between msg (Some tag) (Some p) w
+      (subst (λ (x : Names3164). tail ≡ fields_before x msg) same e) in
+      let (is, end) = form_bare id p tag name between (form_parts name tag id form) named printed in
+      (subst IsBareWord (one_form name tag id tag' word form form').1 is, end)
+  fields_bare between msg h a (Some word) w (inr (none, same)) of e =
       absurd (let none = ap (λ (x : Names3164). x.procid) same in cc)

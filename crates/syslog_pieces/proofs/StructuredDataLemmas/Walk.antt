@@ -12,11 +12,11 @@ use Rattle.syslog_pieces.proofs.Names.{more_goes, row_first, more_here, many_her
 use Rattle.syslog_pieces.proofs.Names.{∥∥₁_elim, row_head, param_of, is_blank, optional, DashRule, many_det, flat_map}
 use Rattle.syslog_pieces.proofs.Names.{some_run, id_alone, meets_on, tail_row, IsWalked, opening, closing, NoFront, inl}
 use Rattle.syslog_pieces.proofs.Names.{exactly, element, no_more, no_list, IsAlone, HasRead, IsTrue, texted, IsMany, []}
-use Rattle.syslog_pieces.proofs.Names.{strict, Visits, Values, append_more, inside, quoted, IsDead, Leaves, row_of, ◌then◌}
+use Rattle.syslog_pieces.proofs.Names.{strict, Visits, Values, append_more, inside, quoted, IsDead, Leaves, row_of}
 use Rattle.syslog_pieces.proofs.Names.{◌also◌, begins, Walked, Option, Σ_prop, ⊥_prop, heads, false, value, subst, Some}
 use Rattle.syslog_pieces.proofs.Names.{arith, start, Front, param, Meets, shown, chars, None, List, ◌++◌, refl, Text}
 use Rattle.syslog_pieces.proofs.Names.{many, dash, Bool, ◌&&◌, item, true, inr, ◌∷◌, sym, ◌∙◌, Row, ◌↔◌, ◌+◌, ◌≤◌, ◌⊎◌}
-use Rattle.syslog_pieces.proofs.Names.{map, run, ap}
+use Rattle.syslog_pieces.proofs.Names.{map, run, ap, ◌then◌}
 use Rattle.syslog_pieces.specs.StructuredData.Recognised.{OneInside-prop, OneItems-prop, params_set, items_set}
 use Rattle.syslog_pieces.specs.StructuredData.Visited.{IsTallied, AreItems}
 use Rattle.syslog_pieces.specs.declared.structured_data.line_list.Tally.{Tally}
@@ -28,6 +28,13 @@ use Rattle.syslog_pieces.proofs.StructuredDataLemmas.Elements.{space_is_no_close
 use Rattle.syslog_pieces.proofs.StructuredDataLemmas.Elements.{item_shorter, element_det, item_begins, quoted_text}
 use Rattle.syslog_pieces.proofs.StructuredDataLemmas.Elements.{no_item_nil, dash_apart, quoted_det, inside_det}
 use Rattle.syslog_pieces.proofs.StructuredDataLemmas.Elements.{no_blanks, param_det, start_det, item_det}
+use Rattle.syslog_pieces.proofs.StructuredDataLemmas.Elements.{element_back, element_canonical, element_with}
+use Rattle.std.proofs.lemmas.List.{append_cancel_left}
+use Rattle.std.specs.List.{AllByRecursion}
+use Rattle.syslog_pieces.specs.Pieces.Class.{Divides, Each, Ends}
+use Rattle.syslog_pieces.specs.StructuredData.Canonical.{BeginsUnblank, IsCanonicalParam}
+use Rattle.syslog_pieces.proofs.Names.{◌≢◌, cases_Bool, and_from, bare_param_text, row_det}
+use Rattle.syslog_pieces.proofs.TextLemmas.Runs.{same_bytes}
 use Rattle.syslog_pieces.proofs.PieceLemmas.Lists.{list_cons, more_cons, list_parts, many_parts, more_parts, some_parts}
 use Rattle.syslog_pieces.proofs.TextLemmas.Runs.{chars_empty, bytes}
 use Rattle.syslog_pieces.proofs.PieceLemmas.Class.{list_before_steady, texted_steady, closed_steady, mapped_alone}
@@ -77,7 +84,8 @@ pub ruleset dash_list = (dash_rfc3164_list, optional_some)
 pub no_rfc3164_list : (rule : DashRule) (t : Text) → BeginsNoList rule t → NoFront (rfc3164_list rule) t
 no_rfc3164_list rule t (n, m) p q es e (inl (f, u, g)) = n q (e ∙ ap (λ (x : Text). x ++ q) f) u
 no_rfc3164_list rule t (n, m) p q [] e (inr (l, h)) = omega arith
-no_rfc3164_list rule t (n, m) p q (v ∷ vs) e (inr (l, (a, b, i, k, more))) = m a (b ++ q) v (e ∙ append_more p a b q i) k
+no_rfc3164_list rule t (n, m) p q (v ∷ vs) e (inr (l, (a, b, i, k, more))) =
+    m a (b ++ q) v (e ∙ append_more p a b q i) k
 
 pub begins_no_list : (rule : DashRule) (t : Text) → NoFront (rfc3164_list rule) t → BeginsNoList rule t
 begins_no_list rule t n = (λ q e a. n dash q [] e (inl (refl, a, refl))) also (λ p q v e h.
@@ -161,6 +169,79 @@ module _ {t a b : Text} {name : Text} (f : Front (texted (some_run is_name_char)
       row_of opening_row (f then g then no_blanks 34 refl quote then h then refl)
       also cc (f.whole, f.is.2, begins 61 a b g, quote)
 
+  -- and not where another character follows the equals sign
+  pub opens_no_sooner : (c : Text) → NoFront (exactly (34 ∷ [])) b → t ≡ name ++ (61 ∷ 34 ∷ c) → ⊥
+  opens_no_sooner c n e =
+      let here = ap (λ (x : Text). x ++ a) f.is.2 ∙ sym f.whole ∙ e in
+      let same = append_cancel_left name a (61 ∷ 34 ∷ c) here in
+      let quote : b ≡ 34 ∷ c = (let equals = begins 61 a b g in cc) in
+      n (34 ∷ []) c tt quote refl
+
+-- the text of an opening, in which blanks may be after the equals sign
+opening_parts : {at after name : Text} → Front opening at after (name_alone name)
+    → (gap : Text) × (at ≡ name ++ (61 ∷ (gap ++ (34 ∷ after))))
+opening_parts o =
+    let (a, n, (b, e, (c, g, (d, q, end)))) = row_pieces opening_row o in
+    (g.piece, cc (n.whole, n.is.2, begins 61 a b e, g.whole, begins 34 c d q, end))
+
+gap_length : {at : Text} (after name gap : Text) → at ≡ name ++ (61 ∷ (gap ++ (34 ∷ after)))
+    → length at ≡ length name + length gap + length after + 2
+gap_length after name gap e =
+    omega (arith, ap length e, length-append name (61 ∷ (gap ++ (34 ∷ after))), length-append gap (34 ∷ after))
+
+-- it is no shorter than its print, and is its print or longer
+opening_least : {at after name : Text} → Front opening at after (name_alone name)
+    → length name + length after + 2 ≤ length at
+opening_least {after = after} {name = name} o =
+    let (gap, e) = opening_parts o in omega (arith, gap_length after name gap e)
+
+opens_or_longer : {at after name : Text} → Front opening at after (name_alone name)
+    → (at ≡ name ++ (61 ∷ 34 ∷ after)) ⊎ (length name + length after + 2 < length at)
+opens_or_longer {at = at} {after = after} {name = name} o = let (gap, e) = opening_parts o in by_gap gap e
+  where
+    by_gap : (gap : Text) → at ≡ name ++ (61 ∷ (gap ++ (34 ∷ after)))
+        → (at ≡ name ++ (61 ∷ 34 ∷ after)) ⊎ (length name + length after + 2 < length at)
+    by_gap [] e = inl e
+    by_gap (c ∷ gap) e = inr (omega (arith, gap_length after name (c ∷ gap) e))
+
+-- the printed parameters, one more at their end
+params_length : (ps : List (Text × Text)) (name v : Text)
+    → length (flat_map param_text (ps ++ ((name, v) ∷ [])))
+    ≡ length (flat_map param_text ps) + length name + length v + 4
+params_length ps name v =
+    let one = length-append name (61 ∷ 34 ∷ (v ++ (34 ∷ []))) in
+    let all = ap length (flat_map_more param_text ps (name, v) []) in
+    omega (
+      arith,
+      all,
+      one,
+      length-append v (34 ∷ []),
+      length-append (flat_map param_text (ps ++ ((name, v) ∷ []))) [],
+      length-append (flat_map param_text ps) (param_text (name, v) ++ []),
+      length-append (param_text (name, v)) [],
+    )
+
+-- printed parameters begin with a space, after which there is no blank
+after_space : (ps : List (Text × Text)) (q : Text) → 0 < length ps → AllByRecursion IsCanonicalParam ps
+    → BeginsUnblank ps → (more : Text) × (flat_map param_text ps ≡ 32 ∷ more) × Ends is_blank (more ++ q)
+after_space [] q l c b = absurd (omega arith)
+after_space ((name, v) ∷ ps) q l c b =
+    let more = flat_map param_text ps in
+    (bare_param_text (name, v) ++ more, refl, begins_on name (61 ∷ 34 ∷ (v ++ (34 ∷ []))) more c.0.0 b)
+  where
+    begins_on : (name a b : Text) → 0 < length name → Ends is_blank name → Ends is_blank (((name ++ a) ++ b) ++ q)
+    begins_on [] a b l h = absurd (omega arith)
+    begins_on (x ∷ name) a b l h = h
+
+-- the printed start of an element
+printed_start : {text rest : Text} (id : Text) → 0 < length id → Each is_id_char id → Ends is_blank rest
+    → text ≡ 91 ∷ (id ++ (32 ∷ rest)) → Front start text rest (id_alone id)
+printed_start {rest = rest} id long each ends e =
+    let is : Divides start_row ((91 ∷ []) ∷ id ∷ (32 ∷ []) ∷ []) rest (id_alone id) =
+    refl also (tt, (long, each, refl), refl) also ((refl, tt), ends) also tt in
+    front_of (91 ∷ (id ++ (32 ∷ []))) (e ∙ ap (λ (x : Text). 91 ∷ x) (sym (append_assoc id (32 ∷ []) rest)))
+    ((91 ∷ []) ∷ id ∷ (32 ∷ []) ∷ [], refl, is)
+
 -- a rest of as many bytes is the text
 same_rest : (t r : List ℕ) → IsUtf8 t → IsUtf8 r → (p : Text) → chars t ≡ p ++ chars r → length r ≡ length t
     → chars t ≡ chars r
@@ -172,25 +253,29 @@ same_rest t r u z p e l =
 
 -- ---- what the walk returns
 walked : {text : Text} {w : Walked} (e : ElementValue) → IsUtf8 w.rest.now → element_seen w.element ≡ e
-    → Front element text (shown w.rest) e → (IsTrue w.prints → text ≡ element_text e ++ shown w.rest)
+    → Front element text (shown w.rest) e → IsTrue w.prints ↔ (text ≡ element_text e ++ shown w.rest)
     → length e.params + length (shown w.rest) ≤ length text → IsWalked text w
 walked {text = text} {w = w} e u s f p l = record {
   utf8 = u;
   front = subst (λ (x : ElementValue). Front element text (shown w.rest) x) (sym s) f;
-  prints = λ t. subst (λ (x : ElementValue). text ≡ element_text x ++ shown w.rest) (sym s) (p t);
+  prints = subst (λ (x : ElementValue). IsTrue w.prints ↔ (text ≡ element_text x ++ shown w.rest)) (sym s) p;
   few = subst (λ (x : ElementValue). length x.params + length (shown w.rest) ≤ length text) (sym s) l;
 }
 
 pub chars_length : (bs : List ℕ) → IsUtf8 bs → length (chars bs) ≤ length bs
 chars_length bs u = omega (arith, length-le-encodes (chars bs), ap length (encodes-chars bs u))
 
--- ---- at a parameter: ps are before it, so many; where the mark says so, what is before it is in printed form
+-- ---- at a parameter: ps are before it, so many; where the mark says so, what is before it is in printed form. Their
+-- print is no longer than they are; where the mark says otherwise, it is shorter, or no one space is before the first.
 pub record AtParam (text inner at id : Text) (ps : List (Text × Text)) (count : ℕ) (mark : Bool) : Type 0 where
   pub starts : Front start text inner (id_alone id)
   pub passes : Passes element text at
   pub meets : Meets element text (Row (param ∷ tail_row)) at
   pub leaves : Leaves param 32 93 inner ps at
   pub prints : IsTrue mark → text ≡ 91 ∷ (id ++ (flat_map param_text ps ++ (32 ∷ at)))
+  pub least : length (flat_map param_text ps) + length at ≤ length inner
+  pub lost : IsTrue mark
+      ⊎ ((text ≢ 91 ∷ (id ++ (32 ∷ inner))) ⊎ (length (flat_map param_text ps) + length at < length inner))
   pub counted : count ≡ length ps
   pub room : count + length at ≤ length text
 
@@ -210,20 +295,34 @@ module _ {text opened id : Text} (after inner : List ℕ) (f : Front (exactly (9
   -- an element without parameters
   pub bare_walked : {w : Walked} → Front (exactly (93 ∷ [])) (chars inner) (shown w.rest) tt → IsUtf8 after
       → IsUtf8 inner → IsUtf8 w.rest.now → element_seen w.element ≡ record { id = id; params = [] }
-      → (IsTrue w.prints → length inner ≡ length after) → IsWalked text w
+      → IsTrue w.prints ↔ (length inner ≡ length after) → IsWalked text w
   bare_walked {w = w} close u z v s p =
-      walked _ v s (element_read started (bare_inside close)) (λ same. simp append_assoc (
-      rw (same_rest after inner u z b.piece b.whole (p same), begins 93 (chars inner) _ close) at start_text))
+      let closes = begins 93 (chars inner) (shown w.rest) close in
+      walked _ v s (element_read started (bare_inside close)) (
+        (λ same. simp append_assoc (rw (same_rest after inner u z b.piece b.whole (p.0 same), closes) at start_text)),
+        (λ printed. (
+            let end = append_assoc id (93 ∷ []) (shown w.rest) in
+            let whole = sym start_text ∙ printed ∙ ap (λ (x : Text). 91 ∷ x) end in
+            let here = append_cancel_left (91 ∷ id) (chars after) (93 ∷ shown w.rest) whole in
+            p.1 (ap length (same_bytes inner after z u (closes ∙ sym here))))),
+      )
       (omega (arith, front_longer start started, front_longer (exactly (93 ∷ [])) close))
 
   pub at_first : {stands : Bool} → NoFront (exactly (93 ∷ [])) (chars inner)
-      → (IsTrue stands → chars after ≡ 32 ∷ chars inner) → AtParam text (chars inner) (chars inner) id [] 0 stands
-  at_first n p = record {
+      → IsTrue stands ↔ (chars after ≡ 32 ∷ chars inner) → AtParam text (chars inner) (chars inner) id [] 0 stands
+  at_first {stands = stands} n p = record {
     starts = started;
     passes = passes_row element start_row start_shut (passes_here element text) started;
     meets = meets_on (element_starts started) (list_goes param 32 93 (exactly (93 ∷ []) ∷ []) (chars inner) n);
     leaves = λ q u v ws g k. list_cons param 32 93 g k;
-    prints = λ stands. rw (p stands) at start_text;
+    prints = λ stands. rw (p.0 stands) at start_text;
+    least = omega arith;
+    lost = elim (cases_Bool stands) [
+      | inl marked ↦ inl marked
+      | inr unmarked ↦ inr (inl (λ e.
+          let here = append_cancel_left (91 ∷ id) (chars after) (32 ∷ chars inner) (sym start_text ∙ e) in
+          let marked = p.1 here in cc))
+    ];
     counted = refl;
     room = omega (arith, front_longer start started);
   }
@@ -274,20 +373,59 @@ module _ {text inner at id : Text} {ps : List (Text × Text)} {count : ℕ} {mar
           let list = w.leaves _ _ _ [] (param_read o f) (more_here param 32 93 _ _ (begins 93 y q g)) in
           (row_of inside_row (list then g then refl), more_counted)
 
-      module _ {opens : Bool} (stands : IsTrue opens → at ≡ name ++ (61 ∷ 34 ∷ value)) where
+      module _ {opens : Bool} (stands : IsTrue opens ↔ (at ≡ name ++ (61 ∷ 34 ∷ value))) where
         printed_param : IsTrue (mark && opens) → text ≡ 91 ∷ (id ++ (flat_map param_text (ps ++ ((name, v) ∷ [])) ++ y))
         printed_param both =
             let (left, right) = and_parts mark opens both in
-            let here : 32 ∷ at ≡ param_text (name, v) ++ y = simp append_assoc (cc (stands right, quoted_text f)) in
+            let here : 32 ∷ at ≡ param_text (name, v) ++ y = simp append_assoc (cc (stands.0 right, quoted_text f)) in
             w.prints left ∙ ap (λ (x : Text). 91 ∷ (id ++ x)) (ap (λ (x : Text). flat_map param_text ps ++ x) here
             ∙ sym (flat_map_more param_text ps (name, v) y))
 
+        value_length : length value ≡ length v + length y + 1
+        value_length = omega (arith, ap length (quoted_text f), length-append v (34 ∷ y))
+
+        -- of a parameter more, and the text after the space that follows it
+        more_length : {z : Text} → y ≡ 32 ∷ z
+            → length (flat_map param_text (ps ++ ((name, v) ∷ []))) + length z
+            ≡ length (flat_map param_text ps) + length name + length value + 2
+        more_length e = omega (arith, value_length, params_length ps name v, ap length e)
+
+        -- an element in printed form is marked so
+        ends_printed : {q : Text} → Front element text q (element_with id (ps ++ ((name, v) ∷ []))) → y ≡ 93 ∷ q
+            → text ≡ element_text (element_with id (ps ++ ((name, v) ∷ []))) ++ q → IsTrue (mark && opens)
+        ends_printed {q = q} here close printed =
+            let all = flat_map param_text (ps ++ ((name, v) ∷ [])) in
+            let (long, each, canonical, first) = element_canonical here.piece q _ here.is in
+            let some : 0 < length (ps ++ ((name, v) ∷ [])) = omega (arith, length-append ps ((name, v) ∷ [])) in
+            let (more, begins, ends) = after_space (ps ++ ((name, v) ∷ [])) y some canonical first in
+            let end : (id ++ (all ++ (93 ∷ []))) ++ q ≡ id ++ (32 ∷ (more ++ y)) =
+            append_assoc id (all ++ (93 ∷ [])) q ∙ ap (λ (x : Text). id ++ x) (append_assoc all (93 ∷ []) q
+            ∙ ap (λ (x : Text). all ++ x) (sym close) ∙ ap (λ (x : Text). x ++ y) begins) in
+            let whole : text ≡ 91 ∷ (id ++ (32 ∷ (more ++ y))) = printed ∙ ap (λ (x : Text). 91 ∷ x) end in
+            let same : inner ≡ more ++ y = (front_same start (row_det start_row start_det) w.starts
+            (printed_start id long each ends whole)).0 in
+            let gap : text ≡ 91 ∷ (id ++ (32 ∷ inner)) = whole ∙ ap (λ (x : Text). 91 ∷ (id ++ (32 ∷ x))) (sym same) in
+            let room : length inner ≡ length (flat_map param_text ps) + length name + length v + length y + 3 =
+            omega (arith, ap length same, length-append more y, ap length begins, params_length ps name v) in
+            elim w.lost [
+              | inl marked ↦ elim (opens_or_longer o) [
+                | inl opened ↦ and_from mark opens marked (stands.1 opened)
+                | inr longer ↦ absurd (omega (arith, longer, w.least, room, value_length))
+              ]
+              | inr (inl n) ↦ absurd (n gap)
+              | inr (inr less) ↦ absurd (omega (arith, less, opening_least o, room, value_length))
+            ]
+
         pub ends_walked : {w : Walked} → Front (exactly (93 ∷ [])) y (shown w.rest) tt → IsUtf8 w.rest.now
             → element_seen w.element ≡ record { id = id; params = ps ++ ((name, v) ∷ []) }
-            → (IsTrue w.prints → IsTrue (mark && opens)) → IsWalked text w
+            → IsTrue w.prints ↔ IsTrue (mark && opens) → IsWalked text w
         ends_walked {w = x} g u s p =
-            walked _ u s (element_read w.starts (ends g).0)
-            (λ all. simp append_assoc (rw (begins 93 y (shown x.rest) g) at (printed_param (p all))))
+            let here = element_read w.starts (ends g).0 in
+            let close = begins 93 y (shown x.rest) g in
+            walked _ u s here (
+              (λ all. simp append_assoc (rw close at (printed_param (p.0 all)))),
+              (λ printed. p.1 (ends_printed here close printed)),
+            )
             (omega (arith, more_room, more_counted, front_longer (exactly (93 ∷ [])) g))
 
         pub goes_on : {z : Text} → Front (exactly (32 ∷ [])) y z tt
@@ -304,6 +442,15 @@ module _ {text inner at id : Text} {ps : List (Text × Text)} {count : ℕ} {mar
                   (sym (append_assoc ps ((name, v) ∷ []) (x ∷ ws)))
                   (w.leaves q y (name, v) (x ∷ ws) (param_read o f) (more_cons param 32 93 space h k));
               prints = λ both. rw space at (printed_param both);
+              least = omega (arith, w.least, opening_least o, more_length space);
+              lost = elim w.lost [
+                | inl marked ↦ elim (opens_or_longer o) [
+                  | inl opened ↦ inl (and_from mark opens marked (stands.1 opened))
+                  | inr longer ↦ inr (inr (omega (arith, w.least, longer, more_length space)))
+                ]
+                | inr (inl n) ↦ inr (inl n)
+                | inr (inr less) ↦ inr (inr (omega (arith, less, opening_least o, more_length space)))
+              ];
               counted = more_counted;
               room = omega (arith, more_room, front_longer (exactly (32 ∷ [])) g);
             }
@@ -406,7 +553,8 @@ are_of f h =
 pub are_items : {t q : Text} {vs : List (Option ElementValue)} → Front (many item) t q vs → AreItems t q vs
 are_items {q = q} {vs = vs} f = are_of f (items_alone f.piece q vs f.is)
 
-pub are_full_items : {t q : Text} {es : List ElementValue} → Front (many full_element) t q es → AreItems t q (map Some es)
+pub are_full_items : {t q : Text} {es : List ElementValue} → Front (many full_element) t q es
+    → AreItems t q (map Some es)
 are_full_items {q = q} {es = es} f = are_of f (full_alone f.piece q es f.is)
 
 -- ---- the own text of a list
@@ -422,12 +570,37 @@ module _ {t rest own : Text} (cut : t ≡ own ++ rest) where
       append_cancel_right printed joined end (sym g ∙ f)
       also (between, append_cancel_right own (printed ++ between) rest same)
 
+-- such a list is no dash
+no_dash_items : {own : Text} (vs : List (Option ElementValue)) → Front (many item) own [] vs → own ≢ dash
+no_dash_items [] f d = let k = ap length (sym d ∙ f.whole ∙ ap (λ (x : Text). x ++ []) f.is.0) in omega (arith, k)
+no_dash_items (v ∷ vs) f d =
+    let (u, first, rest) = many_parts item f in
+    let (r, e) = item_begins first.piece u v first.is in
+    let t = heads 45 91 [] r (sym d ∙ first.whole ∙ e) in omega (arith, t)
+
+-- where the mark says otherwise, or there is no element, it is not in printed form
+pub own_differs : {t rest own : Text} {vs : List (Option ElementValue)} {tally : Tally} → t ≡ own ++ rest
+    → AreItems t rest vs → IsTallied t rest (strict vs) tally
+    → ((tally.prints ≡ true) × (tally.elements ≤ 0)) ⊎ (tally.prints ≡ false) → own ≢ elements_text (strict vs)
+own_differs {t = t} {rest = rest} {own = own} {vs = vs} {tally = tally} cut items tallied unmarked =
+    by_elements (strict vs) tallied
+  where
+    by_elements : (es : List ElementValue) → IsTallied t rest es tally → own ≢ elements_text es
+    by_elements [] k e = no_dash_items vs (own_items cut items) e
+    by_elements (x ∷ es) k e = elim k.lost [
+      | inl marked ↦ elim unmarked [
+        | inl (_, none) ↦ omega (arith, k.elements, none)
+        | inr other ↦ cc
+      ]
+      | inr never ↦ never rest (cut ∙ ap (λ (x : Text). x ++ rest) e)
+    ]
+
 pub some_joined : (es : List ElementValue) → 0 < length es → joined_elements es ≡ elements_text es
 some_joined [] l = absurd (omega arith)
 some_joined (e ∷ es) l = refl
 
 -- ---- a list as far as it was walked: its pieces, their elements and counts, and what a visitor was given of them.
--- Where the second mark says so, nothing was left out.
+-- Where the second mark says so, nothing was left out; elsewhere a broken element follows the last strict one.
 pub record Gone (C : Class) (view : List C.Value → List ElementValue) {V : Type 0}
     (given : V → V → List ElementValue → Type 0) (text rest : Text) (old new : V) (tally : Tally) (strict : Bool)
     : Type 0 where
@@ -437,6 +610,7 @@ pub record Gone (C : Class) (view : List C.Value → List ElementValue) {V : Typ
   pub read : HasRead C text vs rest
   pub tallied : IsTallied text rest es tally
   pub level : IsTrue strict → shown tally.end ≡ rest
+  pub broken : IsTrue tally.prints → IsTrue strict ⊎ NoFront element (shown tally.end)
   pub elements : tally.elements + length rest ≤ length text
   pub params : tally.params + length rest ≤ length text
   pub visits : Visits given old es new
@@ -447,14 +621,15 @@ visits_none given v first ds h = subst (λ (x : List ElementValue). given first 
 module _ (C : Class) (view : List C.Value → List ElementValue) {V : Type 0}
     (given : V → V → List ElementValue → Type 0) where
   pub gone_none : (text : Text) (v : V) (tally : Tally) → [] ≡ view [] → IsUtf8 tally.end.now → tally.elements ≡ 0
-      → tally.params ≡ 0 → shown tally.end ≡ text → Gone C view given text text v v tally true
-  gone_none text v tally z u e p s = record {
+      → tally.params ≡ 0 → shown tally.end ≡ text → IsTrue tally.prints → Gone C view given text text v v tally true
+  gone_none text v tally z u e p s marked = record {
     vs = [];
     es = [];
     same = z;
     read = λ q ws f. f;
-    tallied = record { utf8 = u; elements = e; params = p; after = ([], s); prints = λ t. sym s };
+    tallied = record { utf8 = u; elements = e; params = p; after = ([], s); prints = λ t. sym s; lost = inl marked };
     level = λ t. s;
+    broken = λ t. inl refl;
     elements = omega (arith, e);
     params = omega (arith, p);
     visits = visits_none given v;
@@ -484,13 +659,19 @@ module _ (C : Class) (view : List C.Value → List ElementValue) {V : Type 0}
           → view (s.vs ++ (v ∷ [])) ≡ view s.vs ++ (element_seen w.element ∷ []) → C.Is k.front.piece (shown w.rest) v
           → tally'.elements ≡ tally.elements + 1
           → tally'.params ≡ tally.params + length (element_seen w.element).params → tally'.end ≡ w.rest
-          → (IsTrue tally'.prints → IsTrue ((tally.prints && w.prints) && strict))
+          → IsTrue tally'.prints ↔ IsTrue ((tally.prints && w.prints) && strict)
           → Visits given mid (element_seen w.element ∷ []) new
           → Gone C view given text (shown w.rest) old new tally' strict
       gone_on {tally' = tally'} {new = new} v z is n m e p step =
           let t = s.tallied in
           let x = element_seen w.element in
           let same : shown tally'.end ≡ shown w.rest = ap (λ r. shown r) e in
+          let back : (more : Text) → element.Is (element_text x) more x = λ more.
+          element_back x more (element_canonical k.front.piece (shown w.rest) x k.front.is) in
+          let after : IsTrue tally.prints → (more : Text) → text ≡ joined_elements (s.es ++ (x ∷ [])) ++ more
+          → shown tally.end ≡ element_text x ++ more = λ marked more e.
+          append_cancel_left (joined_elements s.es) (shown tally.end) (element_text x ++ more)
+          (sym (t.prints marked) ∙ e ∙ flat_map_more element_text s.es x more) in
           record {
             vs = s.vs ++ (v ∷ []);
             es = s.es ++ (x ∷ []);
@@ -502,13 +683,29 @@ module _ (C : Class) (view : List C.Value → List ElementValue) {V : Type 0}
               params = m ∙ omega (arith, t.params, sum_by_push (λ d. length d.params) s.es x);
               after = ([], same);
               prints = λ all. (
-                  let (both, d) = and_parts _ _ (p all) in
+                  let (both, d) = and_parts _ _ (p.0 all) in
                   let (a, b) = and_parts _ _ both in
-                  t.prints a ∙ ap (λ (y : Text). joined_elements s.es ++ y) (s.level d ∙ k.prints b)
+                  t.prints a ∙ ap (λ (y : Text). joined_elements s.es ++ y) (s.level d ∙ k.prints.0 b)
                   ∙ sym (flat_map_more element_text s.es x (shown w.rest))
                   ∙ ap (λ (y : Text). joined_elements (s.es ++ (x ∷ [])) ++ y) (sym same));
+              lost = elim t.lost [
+                | inr never ↦ inr (λ more e.
+                    never (element_text x ++ more) (e ∙ flat_map_more element_text s.es x more))
+                | inl marked ↦ elim (s.broken marked) [
+                  | inr none ↦ inr (λ more e. none (element_text x) more x (after marked more e) (back more))
+                  | inl d ↦ elim (cases_Bool w.prints) [
+                    | inl b ↦ inl (p.1 (and_from _ _ (and_from _ _ marked b) d))
+                    | inr unmarked ↦ inr (λ more e.
+                        let here = sym (s.level d) ∙ after marked more e in
+                        let other = front_of (element_text x) here (back more) in
+                        let there = front_same element element_det k.front other in
+                        let marked = k.prints.1 (here ∙ ap (λ (y : Text). element_text x ++ y) (sym there.0)) in cc)
+                  ]
+                ]
+              ];
             };
             level = λ d. same;
+            broken = λ all. inl (and_parts _ _ (p.0 all)).1;
             elements = omega (arith, s.elements, n, shorter);
             params = omega (arith, s.params, m, k.few);
             visits = λ first ds h. subst (λ (y : List ElementValue). given first new y) (append_assoc ds s.es (x ∷ []))
@@ -516,9 +713,9 @@ module _ (C : Class) (view : List C.Value → List ElementValue) {V : Type 0}
           }
 
     -- a piece more that is no element
-    pub gone_past : {next : Text} (v : C.Value) → view (s.vs ++ (v ∷ [])) ≡ view s.vs → Front C rest next v
-        → Gone C view given text next old mid tally false
-    gone_past {next = next} v z f = record {
+    pub gone_past : {next : Text} → NoFront element rest → (v : C.Value) → view (s.vs ++ (v ∷ [])) ≡ view s.vs
+        → Front C rest next v → Gone C view given text next old mid tally false
+    gone_past {next = next} n v z f = record {
       vs = s.vs ++ (v ∷ []);
       es = s.es;
       same = s.same ∙ sym z;
@@ -530,8 +727,13 @@ module _ (C : Class) (view : List C.Value → List ElementValue) {V : Type 0}
         after = let (a, e) = s.tallied.after in
             (a ++ f.piece, e ∙ ap (λ (y : Text). a ++ y) f.whole ∙ sym (append_assoc a f.piece next));
         prints = s.tallied.prints;
+        lost = s.tallied.lost;
       };
       level = λ t. cc;
+      broken = λ marked. elim (s.broken marked) [
+        | inl d ↦ inr (subst (λ (y : Text). NoFront element y) (sym (s.level d)) n)
+        | inr none ↦ inr none
+      ];
       elements = omega (arith, s.elements, front_longer C f);
       params = omega (arith, s.params, front_longer C f);
       visits = s.visits;
@@ -558,8 +760,8 @@ items_none {t = t} {q = q} own (v ∷ vs) f e l =
     absurd (omega (arith, item_shorter t u v first, front_longer (many item) rest, length-append (chars own) q))
 
 -- a list with a character
-pub some_forgiving : {t q : Text} (own : Text) (vs : List (Option ElementValue)) → Front (many item) t q vs → t ≡ own ++ q
-    → 0 < length own → Front forgiving t q (strict vs)
+pub some_forgiving : {t q : Text} (own : Text) (vs : List (Option ElementValue)) → Front (many item) t q vs
+    → t ≡ own ++ q → 0 < length own → Front forgiving t q (strict vs)
 some_forgiving {q = q} own [] f e l =
     absurd (omega (arith, ap length (sym e ∙ f.whole), ap length f.is.0, length-append own q, length-append f.piece q))
 some_forgiving own (v ∷ vs) f e l =

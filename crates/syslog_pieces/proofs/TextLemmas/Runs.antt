@@ -83,6 +83,10 @@ nonempty_is n h = grind (arith, nat_tests)
 pub text_is : (bs : List ℕ) (w : Text) → IsAscii w → true ≡ bytes_eq bs w → chars bs ≡ w
 text_is bs w a h = ap chars ((bytes_eq-Decides bs w).0 (sym h)) ∙ chars-IsAscii w a
 
+pub text_same : (bs : List ℕ) (w : Text) → IsUtf8 bs → IsAscii w → chars bs ≡ w → bytes_eq bs w ≡ true
+text_same bs w u a e =
+    (bytes_eq-Decides bs w).1 (sym (encodes-chars bs u) ∙ ap encode_utf8_all e ∙ encodes-IsAscii w a)
+
 pub text_is_not : (bs : List ℕ) (w : Text) → IsUtf8 bs → IsAscii w → false ≡ bytes_eq bs w → chars bs ≢ w
 text_is_not bs w u a h e =
     let f : bs ≡ w = sym (encodes-chars bs u) ∙ ap encode_utf8_all e ∙ encodes-IsAscii w a in
@@ -130,7 +134,7 @@ module _ (t r : List ℕ) (u : IsUtf8 t) (z : IsUtf8 r) (p : Text) (whole : char
       chars_cut t xs r (rw same bytes) (rw e (IsUtf8-take t (length t - length r) u front_cut))
 
 -- ---- words, hosts and gaps that are in printed form
-names_text : (p : Text) (v : Option Text) → Names p v → p ≡ name_text v
+pub names_text : (p : Text) (v : Option Text) → Names p v → p ≡ name_text v
 names_text p None m = m
 names_text p (Some t) m = sym m.0
 
@@ -154,6 +158,15 @@ space_stands t r u z gap e f l =
     let n : length t - length r ≡ 1 = omega arith in
     rw (chars-IsAscii (32 ∷ []) (one_ascii 32 (omega arith))) at
     (front_chars t r u z gap e (32 ∷ []) (rw n (sym (ap (take 1) f))))
+
+-- equal characters are of equal bytes
+pub same_bytes : (t r : List ℕ) → IsUtf8 t → IsUtf8 r → chars t ≡ chars r → t ≡ r
+same_bytes t r u z e = sym (encodes-chars t u) ∙ ap encode_utf8_all e ∙ encodes-chars r z
+
+-- a space and a rest, in bytes
+pub space_bytes : (t r : List ℕ) → IsUtf8 t → IsUtf8 r → chars t ≡ 32 ∷ chars r → t ≡ 32 ∷ r
+space_bytes t r u z e = bytes t r u z (32 ∷ []) e
+    ∙ ap (λ (x : List ℕ). x ++ r) (encodes-IsAscii (32 ∷ []) (one_ascii 32 (omega arith)))
 
 -- ---- where a run ends
 

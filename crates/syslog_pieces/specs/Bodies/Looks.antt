@@ -21,6 +21,11 @@ abbrev pub LeadsBare : List ℕ → Type 0
 LeadsBare bytes = 1 < length bytes
     → (slice_index bytes 0 ≢ 43) × (slice_index bytes 0 ≢ 45) × (slice_index bytes 0 ≢ 48)
 
+-- a minus, and then a digit other than zero
+abbrev pub BeginsNegative : List ℕ → Type 0
+BeginsNegative bytes =
+    (1 < length bytes) × (slice_index bytes 0 ≡ 45) × (48 < slice_index bytes 1) × (slice_index bytes 1 < 58)
+
 -- no digit is at the front
 abbrev pub EndsDigits : List ℕ → Type 0
 EndsDigits bytes = Ends is_ascii_digit bytes

@@ -1,5 +1,5 @@
 -- What recognised elements and lists mean, and what a visitor was given of them.
-use Rattle.std.specs.Prelude.{◌≡◌, List, [], ◌++◌, ◌+◌, ◌≤◌, Option, IsTrue, length, sum_by}
+use Rattle.std.specs.Prelude.{◌≡◌, ◌≢◌, ◌⊎◌, ◌↔◌, List, [], ◌++◌, ◌+◌, ◌≤◌, Option, IsTrue, length, sum_by}
 use Rattle.std.specs.Str.{IsUtf8}
 use Rattle.syslog_pieces.specs.Pieces.Class.{Text, Front}
 use Rattle.syslog_pieces.specs.Pieces.Lists.{many}
@@ -39,21 +39,22 @@ params_left it = (one_value it.meaning).0
 abbrev pub elements_left : Elements → List ElementValue
 elements_left it = strict (one_value it.meaning)
 
--- the element that was walked begins the text, and the rest follows; where the mark says so, it is in printed form
+-- the element that was walked begins the text, and the rest follows; the mark says whether it is in printed form
 pub record IsWalked (text : Text) (w : Walked) : Type 0 where
   pub utf8 : IsUtf8 w.rest.now
   pub front : Front element text (shown w.rest) (element_seen w.element)
-  pub prints : IsTrue w.prints → text ≡ element_text (element_seen w.element) ++ shown w.rest
+  pub prints : IsTrue w.prints ↔ (text ≡ element_text (element_seen w.element) ++ shown w.rest)
   pub few : length (element_seen w.element).params + length (shown w.rest) ≤ length text
 
--- the elements that are in the text before the rest were counted; where the mark says so, they are in printed form up
--- to the end, and a part of the list may follow
+-- The elements that are in the text before the rest were counted. Where the mark says so, they are in printed form up
+-- to the end, and a part of the list may follow; elsewhere their printed form does not begin the text.
 pub record IsTallied (text rest : Text) (es : List ElementValue) (tally : Tally) : Type 0 where
   pub utf8 : IsUtf8 tally.end.now
   pub elements : tally.elements ≡ length es
   pub params : tally.params ≡ sum_by (λ e. length e.params) es
   pub after : (between : Text) × (shown tally.end ≡ between ++ rest)
   pub prints : IsTrue tally.prints → text ≡ joined_elements es ++ shown tally.end
+  pub lost : IsTrue tally.prints ⊎ ((more : Text) → text ≢ joined_elements es ++ more)
 
 -- the items are all of a piece of the text before the rest
 pub record AreItems (text rest : Text) (vs : List (Option ElementValue)) : Type 0 where

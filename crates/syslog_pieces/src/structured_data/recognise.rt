@@ -4,7 +4,7 @@
 //! and each of the items after it would be scanned as far again. But any scan that passes a `]` is inside a value, so
 //! all of them continue alike. A number `dead` keeps how: no element closes from after a `]` that leaves `dead` bytes
 //! or more. A scan that passes such a `]` stops there.
-ghost use Rattle.std.specs.Prelude.{◌≡◌, ◌++◌, [], ◌∷◌, IsTrue, MatchOption, MatchResult, chars, IsUtf8};
+ghost use Rattle.std.specs.Prelude.{◌≡◌, ◌↔◌, ◌++◌, [], ◌∷◌, IsTrue, MatchOption, MatchResult, chars, IsUtf8};
 ghost use Rattle.syslog_pieces.specs.Words.{has, Front, NoFront, exactly, some_run, texted, shown, Reads, Recognises};
 ghost use Rattle.syslog_pieces.specs.Words.{IsValueUnit, param_value};
 ghost use Rattle.syslog_pieces.specs.Bodies.Closing.{opening as opening_class, quoted as quoted_class, name_alone};
@@ -34,7 +34,7 @@ pub(super) fn nonempty_run(text: &str, class: CharClass) -> Option<(&str, &str)>
 pub(super) fn open_param(text: &str) -> Option<(&str, &str, bool)>
     ensures { MatchOption result (NoFront opening_class (chars text.now)) (λ x.
         Front opening_class (chars text.now) (shown x.1) (name_alone (shown x.0))
-        × (IsTrue x.2 → chars text.now ≡ shown x.0 ++ (61 ∷ 34 ∷ shown x.1))) }
+        × (IsTrue x.2 ↔ (chars text.now ≡ shown x.0 ++ (61 ∷ 34 ∷ shown x.1)))) }
 {
     let (name, after_name) = nonempty_run(text, CharClass::Name)?;
     let after_equals = literal(after_name, '=')?;

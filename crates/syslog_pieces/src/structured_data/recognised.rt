@@ -1,5 +1,5 @@
 //! Elements and lists that were recognised and not collected: they are `Copy`, and hold no memory.
-ghost use Rattle.std.specs.Prelude.{◌≡◌, ◌++◌, IfSome, drop, length, sum_by, chars, IsUtf8};
+ghost use Rattle.std.specs.Prelude.{◌≡◌, ◌≢◌, ◌++◌, IfNone, IfSome, drop, length, sum_by, chars, IsUtf8};
 ghost use Rattle.std.proofs.Props.{props};
 ghost use Rattle.syslog_pieces.specs.Bodies.Closing.{inside as inside_class};
 ghost use Rattle.syslog_pieces.specs.Pieces.{many, shown};
@@ -54,7 +54,7 @@ impl<'a> Element<'a> {
 #[derive(Clone, Copy)]
 pub struct ElementList<'a> {
     pub(super) text: &'a str,
-    // the printed text of the strict elements, where it begins the list's own text
+    // the printed text of the strict elements, where it begins the list's own text; always where it is all of that
     printed: Option<&'a str>,
     elements: usize,
     params: usize,
@@ -65,10 +65,11 @@ pub struct ElementList<'a> {
     ghost printed_utf8: { IfSome printed (λ p. IsUtf8 p.now) } by { Prim.hlevel props },
     ghost prints: { IfSome printed (λ p. shown p ≡ elements_text (strict_of (one_value meaning))) } by { Prim.hlevel props },
     ghost begins: { IfSome printed (λ p. chars text.now ≡ shown p ++ drop (length (shown p)) (chars text.now)) } by { Prim.hlevel props },
+    ghost differs: { IfNone printed (chars text.now ≢ elements_text (strict_of (one_value meaning))) } by { Prim.hlevel props },
 }
 
 impl<'a> ElementList<'a> {
-    ghost use Rattle.std.specs.Prelude.{◌≢◌, List, Option, [], IsTrue, MatchBool};
+    ghost use Rattle.std.specs.Prelude.{◌↔◌, List, Option, [], IsTrue, MatchBool};
     ghost use Rattle.syslog_pieces.specs.Words.{Text, Front, ElementValue, list_elements, list_text};
 
     // The list of this text, of its printed text, and of its numbers of elements and of their parameters.
@@ -82,7 +83,8 @@ impl<'a> ElementList<'a> {
         requires { (q : Text) × ((vs : List (Option ElementValue)) × Front (many item_class) (chars text.now) q vs
             × (elements ≡ length (strict_of vs)) × (params ≡ sum_by (λ e. length e.params) (strict_of vs))
             × IfSome printed (λ p. IsUtf8 p.now × (shown p ≡ elements_text (strict_of vs))
-            × ((left : Text) × (chars text.now ≡ shown p ++ left)))) }
+            × ((left : Text) × (chars text.now ≡ shown p ++ left)))
+            × IfNone printed (chars text.now ≢ elements_text (strict_of vs))) }
         ensures elements { (q : Text) (vs : List (Option ElementValue)) → Front (many item_class) (chars text.now) q vs
             → list_elements result ≡ strict_of vs }
         ensures text { list_text result ≡ chars text.now }
@@ -118,9 +120,9 @@ impl<'a> ElementList<'a> {
         self.printed
     }
 
-    /// Whether its text is the printed text of its elements. It may be `false` though it is.
+    /// Whether its text is the printed text of its elements.
     pub fn is_printed(&self) -> bool
-        ensures { IsTrue result → list_text self.now ≡ elements_text (list_elements self.now) }
+        ensures { IsTrue result ↔ (list_text self.now ≡ elements_text (list_elements self.now)) }
     {
         match self.printed {
             Some(printed) => printed.len() == self.text.len(),

@@ -1,6 +1,7 @@
 //! The walk over an element: recognises the strict element at the front, in time linear over a list, and says whether
 //! it prints as it is.
-ghost use Rattle.std.specs.Prelude.{◌≡◌, ◌++◌, ◌<◌, ◌∷◌, IfOk, IfSome, IsTrue, MatchOption, MatchResult, chars, length};
+ghost use Rattle.std.specs.Prelude.{◌≡◌, ◌↔◌, ◌++◌, ◌<◌, ◌∷◌, IfOk, IfSome, IsTrue, MatchOption, MatchResult, chars};
+ghost use Rattle.std.specs.Prelude.{length};
 ghost use Rattle.syslog_pieces.specs.Bodies.Closing.{IsDead};
 ghost use Rattle.syslog_pieces.specs.Words.{Front, NoFront, run, shown, full_element, IsWalked, element_seen};
 ghost use Rattle.syslog_pieces.specs.StructuredData.{element as element_class};
@@ -9,6 +10,7 @@ ghost use Rattle.syslog_pieces.specs.Text as spec;
 use super::recognise::{live_value, nonempty_run, open_param, value_before};
 use super::recognised::Element;
 use super::visit::ParamNotes;
+use crate::text::verbatim::is_one_space;
 use crate::text::{CharClass, blanks, literal, past_space};
 
 /// A strict element at the front of a text.
@@ -16,7 +18,7 @@ use crate::text::{CharClass, blanks, literal, past_space};
 pub(super) struct Walked<'a> {
     pub(super) element: Element<'a>,
     pub(super) rest: &'a str,
-    /// Whether it prints as it is; it may be `false` though it does.
+    /// Whether it prints as it is.
     pub(super) prints: bool,
 }
 
@@ -24,11 +26,14 @@ pub(super) struct Walked<'a> {
 #[inline(always)]
 fn gap(text: &str) -> (&str, bool)
     ensures blanks { Front (run spec.is_blank) (chars text.now) (shown result.0) tt }
-    ensures space { IsTrue result.1 → chars text.now ≡ 32 ∷ shown result.0 }
+    ensures space { IsTrue result.1 ↔ (chars text.now ≡ 32 ∷ shown result.0) }
 {
     match past_space(text) {
         Some(rest) => (rest, true),
-        None => (blanks(text), false),
+        None => {
+            let rest = blanks(text);
+            (rest, is_one_space(text, rest))
+        }
     }
 }
 

@@ -1,5 +1,5 @@
 //! What the first bytes of a text, or its last one, say without a scan.
-ghost use Rattle.std.specs.Prelude.{◌≡◌, ◌≢◌, ℕ, List, ◌∷◌, ◌++◌, [], IsTrue, MatchBool, drop};
+ghost use Rattle.std.specs.Prelude.{◌≡◌, ◌≢◌, ◌↔◌, ℕ, List, ◌∷◌, ◌++◌, [], IsTrue, MatchBool, drop};
 ghost use Rattle.syslog_pieces.specs.Bodies.Looks as spec;
 
 /// Whether this byte begins the bytes.
@@ -24,6 +24,22 @@ pub(crate) fn begins_with_gap(bytes: &[u8]) -> bool
     ensures { IsTrue result → spec.BeginsWithGap bytes.now }
 {
     matches!(bytes, [b' ', next, ..] if *next > b' ')
+}
+
+/// Whether no sign and no zero is before a further byte.
+#[inline(always)]
+pub(crate) fn leads_bare(bytes: &[u8]) -> bool
+    ensures { IsTrue result ↔ spec.LeadsBare bytes.now }
+{
+    !matches!(bytes, [b'+' | b'-' | b'0', _, ..])
+}
+
+/// Whether a minus and a digit other than zero begin the bytes.
+#[inline(always)]
+pub(crate) fn begins_negative(bytes: &[u8]) -> bool
+    ensures { IsTrue result ↔ spec.BeginsNegative bytes.now }
+{
+    matches!(bytes, [b'-', b'1'..=b'9', ..])
 }
 
 /// Whether the last byte is that of a colon.

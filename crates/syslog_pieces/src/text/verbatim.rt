@@ -1,7 +1,5 @@
-//! Which parts of a text are already in printed form, by a look at a few bytes; and the text before a rest of it.
-//!
-//! Each test may always return false: then the piece is printed instead.
-ghost use Rattle.std.specs.Prelude.{◌≡◌, ◌∷◌, ◌++◌, IsTrue, chars};
+//! Which gaps of a text are already in printed form, by a look at a few bytes; and the text before a rest of it.
+ghost use Rattle.std.specs.Prelude.{◌≡◌, ◌↔◌, ◌∷◌, ◌++◌, IsTrue, chars};
 ghost use Rattle.syslog_pieces.specs.Words.{Text};
 
 use crate::text::looks::begins_with;
@@ -10,7 +8,7 @@ use crate::text::looks::begins_with;
 #[inline(always)]
 pub fn is_one_space(text: &str, rest: &str) -> bool
     requires { (front : Text) × (chars text.now ≡ front ++ chars rest.now) }
-    ensures { IsTrue result → chars text.now ≡ 32 ∷ chars rest.now }
+    ensures { IsTrue result ↔ (chars text.now ≡ 32 ∷ chars rest.now) }
 {
     begins_with(text.as_bytes(), b' ') && text.len() - 1 == rest.len()
 }

@@ -15,7 +15,7 @@ fn is_printed(text: &str, variant: Variant) -> Option<bool> {
 }
 
 /// Lines of RFC 5424 that are copied after their timestamp.
-const COPIED: [&str; 14] = [
+const COPIED: [&str; 17] = [
     "<34>1 2003-10-11T22:14:15.003Z mymachine.example.com su - ID47 - message",
     "<13>1 2019-02-13T19:48:34+00:00 74794bfb6795 root 8449 - [meta sequenceId=\"1\" sysUpTime=\"37\" language=\"EN\"][origin ip=\"192.168.0.1\" software=\"test\"] i am foobar",
     "<0>0 - - - 0 - - x",
@@ -30,10 +30,13 @@ const COPIED: [&str; 14] = [
     "<034>1 - - - - - - x",
     "<34>01 - - - - - - x",
     "<34>1  - - - - - - x",
+    "<34>1 - - - -5 - - x",
+    "<34>1 - - - 0x1f - - x",
+    "<34>1 - - - +a - - x",
 ];
 
 /// Others: no message part, wide gaps, broken elements, and process ids that print otherwise.
-const OTHERS: [&str; 30] = [
+const OTHERS: [&str; 34] = [
     "<75>1 1969-12-03T23:58:58+00:00 - - - - -",
     "1 - - - - - -",
     "<200>1 - - - - - -",
@@ -56,6 +59,10 @@ const OTHERS: [&str; 30] = [
     "<34>1 - - - +5 - -",
     "<34>1 - - - -5 - -",
     "<34>1 - - - 05 - -",
+    "<34>1 - - - +5 - - x",
+    "<34>1 - - - 05 - - x",
+    "<34>1 - - - -05 - - x",
+    "<34>1 - - - -0 - - x",
     "<34>1 - - - - - [a ] x",
     "<34>1 - - - - - [a  b=\"c\"] x",
     "<34>1 - - - - - [a b= \"c\"] x",
@@ -67,7 +74,7 @@ const OTHERS: [&str; 30] = [
 ];
 
 /// Lines of RFC 3164: all after the dash is copied.
-const LOOSE_COPIED: [&str; 9] = [
+const LOOSE_COPIED: [&str; 10] = [
     "- mymachine su: 'su root' failed for lonvick on /dev/pts/8",
     "- 10.0.0.99 app[5]: Use the BFG!",
     "- - a[0]: -x",
@@ -75,6 +82,7 @@ const LOOSE_COPIED: [&str; 9] = [
     "- h a: ü",
     "- h a[99999999999]: x",
     "- h a[b]: x",
+    "- h a[-5]: x",
     "- h a[]: x",
     "- h a[5]b: -x",
 ];

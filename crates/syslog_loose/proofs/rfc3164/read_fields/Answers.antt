@@ -1,10 +1,12 @@
 use Rattle.syslog_loose.proofs.Names.{◌≡◌, ◌∷◌, ◌++◌, ◌∙◌, ◌then◌, [], List, ℕ, refl, sym, ap, arith, true, row_of}
-use Rattle.syslog_loose.proofs.Names.{chars, run, optional, exactly, seen, shown, is_blank, colon, one_ascii, text_is, field_seen}
+use Rattle.syslog_loose.proofs.Names.{chars, run, optional, exactly, seen, shown, is_blank, colon, one_ascii, text_is}
 use Rattle.syslog_loose.proofs.Names.{HasQuietNames, fields_row, fields_before, names_value, Option, Some, None, Text}
 use Rattle.std.specs.Borrow.{Bor}
 use Rattle.std.specs.Option.{is_some, option_flatten}
 use Rattle.std.proofs.lemmas.Str.Ascii.{IsAscii-cons}
-use Rattle.syslog_loose.proofs.Rfc3164Lemmas.Near.{fields_known}
+use Rattle.syslog_pieces.proofs.TextLemmas.Runs.{text_same}
+use Rattle.syslog_loose.proofs.Names.{field_seen, rules}
+use Rattle.syslog_loose.proofs.Rfc3164Lemmas.Near.{fields_known, fields_bare}
 use Rattle.syslog_loose.proofs.rfc3164.read_fields.Goals as goal
 
 pub before-requires : goal.before-requires
@@ -26,28 +28,56 @@ named (Some None) None e i = cc
 named None (Some s) e i = cc
 named None None e i = cc
 
--- the fields, where they are in printed form
+seen_some : (name : Option (Bor (List ℕ))) → is_some (seen name) ≡ is_some name
+seen_some None = refl
+seen_some (Some s) = refl
+
+flat : (field : Option (Option Text)) → is_some (option_flatten field) ≡ true
+    → (text : Text) × (field ≡ Some (Some text))
+flat (Some (Some text)) e = (text, refl)
+flat (Some None) e = cc
+flat None e = cc
+
+-- the fields, and whether they are in printed form
 pub returns : goal.returns
 returns g c =
     let front = row_of fields_row (c.host_field.ensures then c.tag_field.ensures then c.blanks.ensures
     then c.past_colon.ensures.1 then c.blanks-rest.ensures then refl) in
     let names = c.resolve-names.result in
     let rest = shown c.blanks-rest.result in
-    let known : c.are_all-are_printed.result ≡ true → (chars c.args.text.now ≡ fields_before (names_value names) rest)
-    × HasQuietNames (names_value names).hostname (names_value names).procid = λ e.
-    (let (is_host, (is_tag, (bare, (gap, _)))) = c.are_all-are_printed.ensures e in
-    let (origin, is_origin) = there (field_seen c.host_field.result.0) (sym c.is_there.ensures ∙ is_host) in
-    let (name, is_name) = named (field_seen c.tag_field.result.0) c.name.result c.name.ensures (sym c.is_some.ensures ∙ is_tag) in
+    let host = field_seen c.host_field.result.0 in
+    let tag = field_seen c.tag_field.result.0 in
     let ascii = IsAscii-cons 58 (32 ∷ []) (omega arith) (one_ascii 32 (omega arith)) in
+    let known : c.are_all-are_printed.result ≡ true → (is_some host ≡ true) × (is_some (option_flatten tag) ≡ true)
+    × (chars c.args.text.now ≡ fields_before (names_value names) rest)
+    × HasQuietNames (names_value names).hostname (names_value names).procid = λ e.
+    (let (is_host, (is_tag, (bare, (gap, _)))) = c.are_all-are_printed.ensures.0 e in
+    let host_there = sym c.is_there.ensures ∙ is_host in
+    let (origin, is_origin) = there host host_there in
+    let (name, is_name) = named tag c.name.result c.name.ensures (sym c.is_some.ensures ∙ is_tag) in
     let end = ap (λ (x : List ℕ). x ++ rest) (text_is _ (58 ∷ 32 ∷ []) ascii (sym gap ∙ c.eq.ensures)) in
-    fields_known (rw is_origin at c.host_field.ensures) (rw is_name at c.tag_field.ensures) rest
+    let fits = fields_known (rw is_origin at c.host_field.ensures) (rw is_name at c.tag_field.ensures) rest
     (seen names.hostname) (seen names.appname) (seen names.process) (c.before-2.ensures ∙ end)
-    (rw (is_origin, is_name) at c.resolve-names.ensures.names) (rw (is_origin, is_name) at c.resolve-names.ensures.process)
-    (c.is_bare.ensures bare)) in
+    (rw (is_origin, is_name) at c.resolve-names.ensures.names)
+    (rw (is_origin, is_name) at c.resolve-names.ensures.process) (c.is_bare.ensures.0 bare) in (host_there, rw is_name refl, fits.0, fits.1)) in
+    let only : is_some host ≡ true → is_some (option_flatten tag) ≡ true
+    → chars c.args.text.now ≡ fields_before (names_value names) rest → c.are_all-are_printed.result ≡ true =
+    λ is_host is_tag e.
+    (let (origin, is_origin) = there host is_host in
+    let (name, is_name) = flat tag is_tag in
+    let (bare, end) = fields_bare (rw is_origin at c.host_field.ensures) (rw is_name at c.tag_field.ensures)
+    (chars c.before-2.result.now) rest (seen names.hostname) (seen names.appname) (seen names.process)
+    c.before-2.ensures (rw (is_origin, is_name) at c.resolve-names.ensures.names)
+    (rw (is_origin, is_name) at c.resolve-names.ensures.process) e in
+    let tagged = c.is_some.ensures ∙ sym (seen_some c.name.result)
+    ∙ ap (λ (x : Option Text). is_some x) c.name.ensures ∙ is_tag in
+    let gap = c.eq.ensures ∙ text_same _ (58 ∷ 32 ∷ []) (search rules) ascii end in
+    c.are_all-are_printed.ensures.1
+    (c.is_there.ensures ∙ is_host, (tagged, (c.is_bare.ensures.1 bare, (gap, (refl, tt)))))) in
     record {
       read = record { values = _; front = front; means = c.resolve-names.ensures.names };
       process = c.resolve-names.ensures.process;
       ends = c.blanks-rest.ensures.is.1;
-      prints = λ e. (known e).0;
-      quiet = λ e. (known e).1;
+      prints = ((λ e. (let k = known e in (k.0, k.1, k.2))), (λ k. only k.0 k.1 k.2));
+      quiet = λ e. (known e).3;
     }

@@ -1,11 +1,11 @@
-use Rattle.syslog_loose.proofs.Names.{[], List, Class, run, rest, texted, is_blank, ◌∷◌, ◌++◌, ◌∙◌, ◌past◌, ◌then◌, inl, refl, sym, ap, no_row, row_of, trimmed}
+use Rattle.syslog_loose.proofs.Names.{[], List, Class, run, rest, texted, is_blank, ◌∷◌, ◌++◌, ◌∙◌, ◌past◌, ◌then◌}
+use Rattle.syslog_loose.proofs.Names.{inl, refl, sym, no_row, row_of, trimmed}
 use Rattle.syslog_loose.proofs.Names.{rest_front, rows_join, rows_none_here, Text, shown, elements_text, list_elements}
 use Rattle.syslog_loose.proofs.Names.{header_row, data_row, rfc5424_row, no_row_division, front_division}
 use Rattle.syslog_pieces.proofs.PieceLemmas.Class.{rows_none_later}
 use Rattle.syslog_pieces.specs.StructuredData.{forgiving}
-use Rattle.syslog_loose.specs.Bodies.View5424.{names_before}
 use Rattle.syslog_loose.proofs.LineLemmas.{texted_as}
-use Rattle.syslog_loose.proofs.Rfc5424Lemmas.{data_det, header_det}
+use Rattle.syslog_loose.proofs.Rfc5424Lemmas.{data_det, header_det, rest_fits}
 use Rattle.syslog_loose.proofs.rfc5424.read_5424.Goals as goal
 
 -- the list, as its text, and the message part
@@ -42,20 +42,18 @@ returns-clause-reads g c whole f =
       after = _;
       names = names;
       parts = front_division text_row own;
+      is_printed = rw is (rest_fits c.in-Some.ensures.prints c.blanks-at_list.ensures list.list list.text
+          c.are_all-is_printed.ensures c.is_one_space.ensures c.is_printed.ensures c.is_one_space-2.ensures);
     }
 
 pub returns-clause-form : goal.returns-clause-form
 returns-clause-form g c =
     let (version, is) = c.in-Some.ensures.version in
-    let header = c.in-Some.header in
-    let es = list_elements c.in-Some-visit_forgiving_list.list in
+    let list = c.in-Some-visit_forgiving_list.ensures in
+    let fits = rest_fits c.in-Some.ensures.prints c.blanks-at_list.ensures list.list list.text
+    c.are_all-is_printed.ensures c.is_one_space.ensures c.is_printed.ensures c.is_one_space-2.ensures in
     record {
       utf8 = c.in-Some.ensures.utf8;
-      prints = λ e. (let (starts, (gap, (list, (space, _)))) = c.are_all-is_printed.ensures e in
-          let after = c.in-Some-visit_forgiving_list.ensures.text
-          ∙ ap (λ (x : Text). x ++ shown c.in-Some-visit_forgiving_list.after_list) (c.is_printed.ensures list)
-          ∙ ap (λ (x : Text). elements_text es ++ x) (c.is_one_space-2.ensures space) in
-          rw is (c.in-Some.ensures.prints starts
-          ∙ ap (λ (x : Text). names_before header x) (c.is_one_space.ensures gap ∙ ap (λ (x : Text). 32 ∷ x) after)));
+      prints = λ e. rw is (fits.0 e);
       quiet = λ e none. absurd (let f = sym is ∙ none in cc);
     }

@@ -1,10 +1,16 @@
-use Rattle.syslog_loose.proofs.Names.{◌≡◌, ◌⊎◌, ◌<◌, ◌∷◌, ◌++◌, ◌then◌, ◌past◌, length, Option, Some, None, IfSome}
-use Rattle.syslog_loose.proofs.Names.{sym, ap, arith, inl, inr, refl, option_map, IsBareWord, Text, Class, Front, NoFront}
-use Rattle.syslog_loose.proofs.Names.{named_process, process_text, process_word, bare_prints, named_names, word, name_text}
-use Rattle.syslog_loose.proofs.Names.{row_of, no_row, names_row, seen, shown, some_run, is_blank}
+use Rattle.syslog_loose.proofs.Names.{◌≡◌, ◌⊎◌, ◌∙◌, ◌<◌, ◌∷◌, ◌++◌, ◌then◌, ◌past◌, length, Option, Some, None, IfSome}
+use Rattle.syslog_loose.proofs.Names.{sym, ap, arith, inl, inr, refl, option_map, IsBareWord, Text, Class, Front}
+use Rattle.syslog_loose.proofs.Names.{named_process, process_text, process_word, named_names, host, word, name_text}
+use Rattle.syslog_loose.proofs.Names.{row_of, no_row, names_row, seen, shown, some_run, is_blank, is_not_whitespace}
+use Rattle.syslog_loose.proofs.Names.{[], append_cancel_right, front_same, some_run_det, Ends, NoFront}
+use Rattle.std.proofs.lemmas.List.{append_cancel_left}
+use Rattle.syslog_pieces.proofs.PieceLemmas.Class.{front_of}
 use Rattle.syslog_pieces.proofs.ProcIdLemmas.{absent_front, process_front, no_process}
-use Rattle.syslog_loose.proofs.Rfc5424Lemmas.{names_det}
-use Rattle.syslog_loose.specs.Bodies.Rows.{words_row}
+use Rattle.syslog_pieces.proofs.ProcIdLemmas.{process_back, process_bounded, process_canonical, process_word_det}
+use Rattle.syslog_pieces.proofs.TextLemmas.Runs.{host_stands, host_text, names_text, word_stands}
+use Rattle.syslog_loose.proofs.PrintedLemmas.{visible_ends_blanks}
+use Rattle.syslog_loose.proofs.Rfc5424Lemmas.{names_det, process_unblank}
+use Rattle.syslog_loose.specs.Rows.{words_row}
 use Rattle.syslog_loose.proofs.rfc5424.read_names.Goals as goal
 
 -- ---- a piece after blanks
@@ -22,22 +28,68 @@ fails P (inl n) = inl n
 fails P (inr (u, g, n)) = inr (u, tt, g, inl n)
 
 -- ---- the process id that a word names
+named_front : {u q : Text} {v : Option Text} → Front word u q v → Front process_word u q (option_map named_process v)
+named_front {v = None} f = absent_front f
+named_front {v = Some t} f = process_front (named_process t) f (named_names t)
+
 process_named : {t q : Text} {v : Option Text} → IsSpaced word t q v
     → IsSpaced process_word t q (option_map named_process v)
-process_named {v = None} (u, g, f) = (u, g, absent_front f)
-process_named {v = Some t} (u, g, f) = (u, g, process_front (named_process t) f (named_names t))
+process_named (u, g, f) = (u, g, named_front f)
 
 no_spaced_process : {t : Text} → NoneSpaced word t → NoneSpaced process_word t
 no_spaced_process (inl n) = inl n
 no_spaced_process (inr (u, g, n)) = inr (u, g, no_process n)
 
 -- where its word is bare, it is in printed form
-bare_process : {t q : Text} {v : Option Text} → IsSpaced word t q v → IfSome v IsBareWord
-    → name_text v ≡ process_text (option_map named_process v)
-bare_process {v = None} f bare = refl
-bare_process {v = Some t} (u, g, f) bare =
-    let long : 0 < length t = omega (arith, f.is.0, ap length f.is.4.0) in
-    sym (bare_prints t (named_process t) long bare (named_names t))
+bare_process : (v : Option Text) → IfSome v IsBareWord → name_text v ≡ process_text (option_map named_process v)
+bare_process None bare = refl
+bare_process (Some t) bare = sym bare
+
+process_is_bare : (v : Option Text) → name_text v ≡ process_text (option_map named_process v) → IfSome v IsBareWord
+process_is_bare None e = tt
+process_is_bare (Some t) e = sym e
+
+-- ---- a name that is in printed form before more
+
+-- the gap before it is one space
+one_gap : {t u w : Text} → Front (some_run is_blank) t u tt → Ends is_blank w → t ≡ 32 ∷ w → u ≡ w
+one_gap f ends e = (front_same (some_run is_blank) (some_run_det is_blank) f
+    (front_of (32 ∷ []) e (omega arith, (refl, tt), ends))).0
+
+peeled : {t u q : Text} (more name : Text) → Front (some_run is_blank) t u tt → u ≡ name ++ q → Ends is_blank (name ++ more)
+    → t ≡ 32 ∷ (name ++ more) → (t ≡ 32 ∷ (name ++ q)) × (q ≡ more)
+peeled {q = q} more name gap stands ends e =
+    let rest = append_cancel_left name q more (sym stands ∙ one_gap gap ends e) in
+    (e ∙ ap (λ (x : Text). 32 ∷ (name ++ x)) (sym rest), rest)
+
+host_peeled : {t q more : Text} {v : Option Text} → IsSpaced host t q v → t ≡ 32 ∷ (name_text v ++ more)
+    → (t ≡ 32 ∷ (name_text v ++ q)) × (q ≡ more)
+host_peeled {q = q} {more = more} {v = v} (u, gap, f) e =
+    let ends = visible_ends_blanks f.piece more f.is.0 f.is.1 in
+    peeled more (name_text v) gap (host_stands u q v f) (rw (host_text f.piece q v f.is) at ends) e
+
+word_peeled : {t q more : Text} {v : Option Text} → IsSpaced word t q v → t ≡ 32 ∷ (name_text v ++ more)
+    → (t ≡ 32 ∷ (name_text v ++ q)) × (q ≡ more)
+word_peeled {q = q} {more = more} {v = v} (u, gap, f) e =
+    let ends = visible_ends_blanks f.piece more f.is.0 f.is.1 in
+    peeled more (name_text v) gap (word_stands u q v f) (rw (names_text f.piece v f.is.4) at ends) e
+
+-- a process id is so before white space
+process_peeled : {t q more : Text} {v : Option Text} → IsSpaced word t q v → Ends is_not_whitespace more
+    → t ≡ 32 ∷ (process_text (option_map named_process v) ++ more)
+    → (t ≡ 32 ∷ (name_text v ++ q)) × IfSome v IsBareWord × (q ≡ more)
+process_peeled {q = q} {more = more} {v = v} (u, gap, w) white e =
+    let process = option_map named_process v in
+    let f = named_front w in
+    let back = process_back process more (process_canonical f.piece q process f.is)
+    (process_bounded f.piece q process f.is) white in
+    let here = one_gap gap (process_unblank process more more back) e in
+    let rest = (front_same process_word process_word_det f (front_of (process_text process) here back)).0 in
+    let same = sym (word_stands u q v w) ∙ here ∙ ap (λ (x : Text). process_text process ++ x) (sym rest) in (
+      e ∙ ap (λ (x : Text). 32 ∷ x) (sym here ∙ word_stands u q v w),
+      process_is_bare v (append_cancel_right (name_text v) (process_text process) q same),
+      rest,
+    )
 
 -- four names, each after a space
 names_joined : {t a b c word : Text} (host app process id q : Text) → t ≡ 32 ∷ (host ++ a) → a ≡ 32 ∷ (app ++ b)
@@ -89,9 +141,31 @@ returns-clause-reads g c =
     )
 
 pub returns-clause-prints : goal.returns-clause-prints
-returns-clause-prints g c = λ e.
-    let (host, (app, (process, (bare, (id, _))))) = c.are_all-is_printed.ensures e in
-    names_joined _ _ _ (name_text (seen c.in_ok-msgid.msgid)) (shown c.in_ok-msgid.after_id)
-    (c.in_ok-hostname.ensures.fits host) (c.in_ok-appname.ensures.fits app)
-    (c.in_ok-process.ensures.fits process) (bare_process c.in_ok-process.ensures.reads (c.is_bare.ensures bare))
-    (c.in_ok-msgid.ensures.fits id)
+returns-clause-prints g c =
+    let host = c.in_ok-hostname.ensures in
+    let app = c.in_ok-appname.ensures in
+    let word = c.in_ok-process.ensures in
+    let id = c.in_ok-msgid.ensures in
+    record {
+      prints = λ e. (let (starts, (after_host, (after_app, (bare, (ends, _))))) = c.are_all-is_printed.ensures.0 e in
+          names_joined _ _ _ (name_text (seen c.in_ok-msgid.msgid)) (shown c.in_ok-msgid.after_id)
+          (host.fits.0 starts) (app.fits.0 after_host) (word.fits.0 after_app) (bare_process _ (c.is_bare.ensures.0 bare))
+          (id.fits.0 ends));
+      only = λ more e. (
+          let (starts, after_host) = host_peeled host.reads e in
+          let (follows, after_app) = word_peeled app.reads after_host in
+          let (named, bare, after_process) = process_peeled word.reads refl after_app in
+          let (ends, after) = word_peeled id.reads after_process in (
+            c.are_all-is_printed.ensures.1 (
+              host.fits.1 starts,
+              (
+                app.fits.1 follows,
+                (
+                  word.fits.1 named,
+                  (c.is_bare.ensures.1 bare, (id.fits.1 ends, tt)),
+                ),
+              ),
+            ),
+            sym after,
+          ));
+    }

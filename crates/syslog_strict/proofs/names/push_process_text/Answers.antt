@@ -8,7 +8,7 @@ returns-then-is_kept c =
     let word = chars c.args.word.now in
     let long : 1 < length word = rw (c.if-is_kept.ensures.ascii refl) (omega arith) in
     appended c.push_text.result _ _ _ _
-    (sym (bare_stays word long (c.if-is_kept.ensures.same refl) (c.if-is_bare_word.ensures refl))) c.push_text.ensures
+    (sym (bare_stays word long (c.if-is_kept.ensures.same refl) (c.if-is_bare_word.ensures.0 refl))) c.push_text.ensures
 
 pub returns-in-PID : goal.returns-in-PID
 returns-in-PID c = appended c.push_number.result _ _ _ _

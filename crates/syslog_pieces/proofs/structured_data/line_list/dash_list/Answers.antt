@@ -11,7 +11,7 @@ before-dash-requires c = (45 ∷ [], c.requires)
 pub new-requires : goal.new-requires
 new-requires c =
     let e = own_dash _ _ _ c.before-dash.ensures c.requires in
-    (_, ([], dash_items _ e, refl, refl, (search rules, e, ([], sym (append-nil _)))))
+    (_, ([], dash_items _ e, refl, refl, (search rules, e, ([], sym (append-nil _))), tt))
 
 pub returns-clause-elements : goal.returns-clause-elements
 returns-clause-elements c =

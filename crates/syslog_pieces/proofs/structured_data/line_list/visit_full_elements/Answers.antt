@@ -1,4 +1,5 @@
-use Rattle.syslog_pieces.proofs.Names.{◌also◌, rules, refl, sym, ap, ◌∙◌, ◌+◌, ℕ, full_element, and_from, map, Some}
+use Rattle.syslog_pieces.proofs.Names.{◌also◌, rules, refl, sym, ap, ◌∙◌, ◌+◌, ℕ, full_element, and_from, and_parts}
+use Rattle.syslog_pieces.proofs.Names.{map, Some}
 use Rattle.syslog_pieces.proofs.StructuredDataLemmas.Elements.{strict_some, element_shorter}
 use Rattle.syslog_pieces.proofs.StructuredDataLemmas.Walk.{are_full_items, gone_none, gone_all, gone_within, gone_on}
 use Rattle.syslog_pieces.proofs.StructuredDataLemmas.Walk.{gone_tallied, gone_visits}
@@ -7,7 +8,7 @@ use Rattle.syslog_pieces.proofs.structured_data.line_list.visit_full_elements.Go
 pub elements-init : goal.elements-init
 elements-init g c =
     let given = g.V.ElementVisitor.was_given in
-    (search rules, gone_none full_element (λ es. es) given _ _ _ refl (search rules) refl refl refl)
+    (search rules, gone_none full_element (λ es. es) given _ _ _ refl (search rules) refl refl refl refl)
 
 pub item_list-requires : goal.item_list-requires
 item_list-requires g c =
@@ -43,7 +44,7 @@ elements-preserved g c =
     let (w, some) = c.in-Some.ensures.walked in
     let params = ap (λ (n : ℕ). c.elements.tally.params + n) c.params_len.ensures in
     w.utf8 also gone_on _ _ _ c.elements.invariant.1 w _ refl (w.front.is, some) refl params refl
-    (λ all. and_from _ _ all refl) c.element.ensures
+    ((λ all. and_from _ _ all refl), (λ all. (and_parts _ _ all).0)) c.element.ensures
 
 pub elements-smaller : goal.elements-smaller
 elements-smaller g c = let (w, some) = c.in-Some.ensures.walked in element_shorter _ _ _ w.front

@@ -8,7 +8,8 @@ use Rattle.syslog_pieces.proofs.structured_data.line_list.visit_items.Goals as g
 
 pub items-init : goal.items-init
 items-init g c =
-    let none = gone_none item (λ vs. strict vs) g.V.ElementVisitor.was_given _ _ _ refl (search rules) refl refl refl in
+    let none =
+    gone_none item (λ vs. strict vs) g.V.ElementVisitor.was_given _ _ _ refl (search rules) refl refl refl refl in
     (search rules, dead_bytes c.args.text.now c.utf8.text, none)
 
 pub overflow_add-tally : goal.overflow_add-tally
@@ -28,7 +29,8 @@ items-preserved-in-Ok g c =
       w.utf8,
       dead_suffix _ w.front.piece _ c.items.dead w.front.whole c.items.invariant.1,
       gone_on _ _ _ c.items.invariant.2 w (Some _) (strict_append c.items.invariant.2.vs _) w.front.is refl
-          (ap (λ (n : ℕ). c.items.tally.params + n) c.params_len.ensures) refl (λ all. all) c.element.ensures,
+          (ap (λ (n : ℕ). c.items.tally.params + n) c.params_len.ensures) refl
+          ((λ all. all), (λ all. all)) c.element.ensures,
     )
 
 pub item_list-requires : goal.item_list-requires
@@ -55,7 +57,7 @@ items-preserved g c =
       search rules,
       dead_suffix _ f.piece _ _ f.whole (subst (λ (x : ℕ). IsDead (chars c.items.rest.now) x) (sym c.min-dead.ensures)
           (dead_least _ _ _ c.in-Err.ensures.walked.1 c.items.invariant.1)),
-      gone_past _ _ _ s None (rw append-nil at (strict_append s.vs (None ∷ [])))
+      gone_past _ _ _ s c.in-Err.ensures.walked.0 None (rw append-nil at (strict_append s.vs (None ∷ [])))
           (bracketed_item _ _ c.in-Err.ensures.walked.0 f),
     )
 

@@ -1,3 +1,4 @@
+use Rattle.std.proofs.Common.{eq-eqb}
 use Rattle.syslog_pieces.proofs.Names.{ElementValue, start_row, eqb-true, length, no_row, rules, arith, subst, refl, []}
 use Rattle.syslog_pieces.proofs.Names.{sym, ◌+◌, ◌≤◌, ◌past◌, inl, err_from_is_err_and}
 use Rattle.syslog_pieces.proofs.StructuredDataLemmas.Closing.{byte_count_slice, dead_suffix, no_start}
@@ -17,7 +18,8 @@ pub returns-in-Some-literal-clause-walked : goal.returns-in-Some-literal-clause-
 returns-in-Some-literal-clause-walked g c =
     let is = c.new.ensures _ [] (bare_inside c.in-Some-literal.ensures) in
     bare_walked _ _ c.in-Some.ensures c.in-Some-nonempty_run.ensures c.gap-stands.ensures.blanks
-    c.in-Some-literal.ensures (search rules) (search rules) (search rules) is (λ same. eqb-true _ _ same)
+    c.in-Some-literal.ensures (search rules) (search rules) (search rules) is
+    ((λ same. eqb-true _ _ same), (λ same. eq-eqb _ _ same))
 
 pub returns-in-Some-literal-clause-noted : goal.returns-in-Some-literal-clause-noted
 returns-in-Some-literal-clause-noted g c =
@@ -65,7 +67,7 @@ returns-in-Some-literal-2-clause-walked g c =
     let o = c.in-Some-open_param.ensures in
     let close = c.in-Some-literal-2.ensures in
     ends_walked at o.0 c.value_before.ensures o.1 close (search rules)
-    (c.new-in-Some-literal-2.ensures _ _ (ends at o.0 c.value_before.ensures close).0) (λ t. t)
+    (c.new-in-Some-literal-2.ensures _ _ (ends at o.0 c.value_before.ensures close).0) ((λ t. t), (λ t. t))
 
 pub returns-in-Some-literal-2-clause-noted : goal.returns-in-Some-literal-2-clause-noted
 returns-in-Some-literal-2-clause-noted g c =
@@ -93,4 +95,5 @@ returns-in_default-nonempty_run-clause-walked g c =
 
 pub params-smaller : goal.params-smaller
 params-smaller g c =
-    next_shorter c.params.invariant.1.1 c.in-Some-open_param.ensures.0 c.value_before.ensures c.in-Some-literal-3.ensures
+    next_shorter c.params.invariant.1.1 c.in-Some-open_param.ensures.0 c.value_before.ensures
+    c.in-Some-literal-3.ensures

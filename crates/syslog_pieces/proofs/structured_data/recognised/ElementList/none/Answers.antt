@@ -1,9 +1,9 @@
-use Rattle.syslog_pieces.proofs.Names.{refl, chars-nil, [], ◌∙◌}
+use Rattle.syslog_pieces.proofs.Names.{refl, sym, chars-nil, [], ◌∙◌}
 use Rattle.syslog_pieces.proofs.StructuredDataLemmas.Elements.{no_items_here}
 use Rattle.syslog_pieces.proofs.structured_data.recognised.ElementList.none.Goals as goal
 
 pub new-requires : goal.new-requires
-new-requires c = (_, ([], no_items_here _ chars-nil, refl, refl, tt))
+new-requires c = (_, ([], no_items_here _ chars-nil, refl, refl, tt, (λ e. (let k = sym chars-nil ∙ e in cc))))
 
 pub returns-clause-elements : goal.returns-clause-elements
 returns-clause-elements c = c.new.ensures.elements _ [] (no_items_here _ chars-nil)

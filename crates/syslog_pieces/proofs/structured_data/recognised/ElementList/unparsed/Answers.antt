@@ -8,4 +8,4 @@ returns-then-is_empty c = ([], no_bytes_leave _ (search rules), refl)
 
 pub returns-then-is_printed : goal.returns-then-is_printed
 returns-then-is_printed c =
-    ([], printed_leaves _ _ (are_canonical c.args.self.now) (c.if-is_printed.ensures refl), refl)
+    ([], printed_leaves _ _ (are_canonical c.args.self.now) (c.if-is_printed.ensures.0 refl), refl)
