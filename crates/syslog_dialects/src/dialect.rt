@@ -174,6 +174,7 @@ impl Dialect {
             53 => Some(Dialect::MikroTik),
             54 => Some(Dialect::Bracketed),
             31 => Some(Dialect::SophosUtm),
+            32 => Some(Dialect::UnixSeconds),
             55 => Some(Dialect::WatchGuard),
             48 => Some(Dialect::Forwarded),
             49 => Some(Dialect::SeverityFirst),
