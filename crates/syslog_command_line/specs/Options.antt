@@ -29,42 +29,42 @@ no_flags = record { raw = false; no_dialects = false; latin1 = false; offset = N
 
 -- the program has the flag, it was not given before, and with the words of its value, if it takes one, this is given
 abbrev pub Adds : Bool → Flag → List (List ℕ) → Flags → Flags → Type 0
-Adds has_raw Raw values old new =
-    (values ≡ []) × IsTrue has_raw × (old.raw ≡ false) × (new ≡ record old { raw = true })
-Adds has_raw NoDialects values old new =
-    (values ≡ []) × (old.no_dialects ≡ false) × (new ≡ record old { no_dialects = true })
-Adds has_raw Latin1 values old new =
-    (values ≡ []) × (old.latin1 ≡ false) × (new ≡ record old { latin1 = true })
-Adds has_raw Offset values old new = (value : List ℕ) × (seconds : ℤ) × (values ≡ value ∷ [])
+Adds writes_json Raw values old new =
+    (values ≡ []) × IsTrue writes_json × (old.raw ≡ false) × (new ≡ record old { raw = true })
+Adds writes_json NoDialects values old new =
+    (values ≡ []) × IsTrue writes_json × (old.no_dialects ≡ false) × (new ≡ record old { no_dialects = true })
+Adds writes_json Latin1 values old new =
+    (values ≡ []) × IsTrue writes_json × (old.latin1 ≡ false) × (new ≡ record old { latin1 = true })
+Adds writes_json Offset values old new = (value : List ℕ) × (seconds : ℤ) × (values ≡ value ∷ [])
     × NamesOffset value seconds × (old.offset ≡ None) × (new ≡ record old { offset = Some seconds })
 
 -- the words begin with this flag: what is given with it, and the words after it
 abbrev pub TakesFlag : Bool → Flag → Flags → List (List ℕ) → Flags → List (List ℕ) → Type 0
-TakesFlag has_raw flag old words new rest =
-    (values : List (List ℕ)) × (words ≡ flag_word flag ∷ (values ++ rest)) × Adds has_raw flag values old new
+TakesFlag writes_json flag old words new rest =
+    (values : List (List ℕ)) × (words ≡ flag_word flag ∷ (values ++ rest)) × Adds writes_json flag values old new
 
 -- the words begin with no flag that can be given here
 abbrev pub NoFlag : Bool → Flags → List (List ℕ) → Type 0
-NoFlag has_raw old words =
-    (flag : Flag) (new : Flags) (rest : List (List ℕ)) → ¬ (TakesFlag has_raw flag old words new rest)
+NoFlag writes_json old words =
+    (flag : Flag) (new : Flags) (rest : List (List ℕ)) → ¬ (TakesFlag writes_json flag old words new rest)
 
 -- the words begin with these flags, in this order
 abbrev pub TakesFlags : Bool → List Flag → Flags → List (List ℕ) → Flags → List (List ℕ) → Type 0
-TakesFlags has_raw [] old words new rest = (new ≡ old) × (words ≡ rest)
-TakesFlags has_raw (flag ∷ flags) old words new rest = (mid : Flags) × (left : List (List ℕ))
-    × TakesFlag has_raw flag old words mid left × TakesFlags has_raw flags mid left new rest
+TakesFlags writes_json [] old words new rest = (new ≡ old) × (words ≡ rest)
+TakesFlags writes_json (flag ∷ flags) old words new rest = (mid : Flags) × (left : List (List ℕ))
+    × TakesFlag writes_json flag old words mid left × TakesFlags writes_json flags mid left new rest
 
 -- the words are flags, in any order, and a date; some flags may have been given before
-pub record AskAfter (has_raw : Bool) (old : Flags) (words : List (List ℕ)) (given : Flags) (year : ℤ) (month : Option ℕ)
+pub record AskAfter (writes_json : Bool) (old : Flags) (words : List (List ℕ)) (given : Flags) (year : ℤ) (month : Option ℕ)
     : Type 0 where
   pub flags : List Flag
   pub rest : List (List ℕ)
-  pub taken : TakesFlags has_raw flags old words given rest
+  pub taken : TakesFlags writes_json flags old words given rest
   pub dated : AreDateWords rest year month
 
 -- the words are flags, each at most once and in any order, and a date
 abbrev pub AskForLines : Bool → List (List ℕ) → Flags → ℤ → Option ℕ → Type 0
-AskForLines has_raw words given year month = AskAfter has_raw no_flags words given year month
+AskForLines writes_json words given year month = AskAfter writes_json no_flags words given year month
 
 -- the options are what the flags and the date say; without an offset dates are taken in UTC
 pub record AreOptions (given : Flags) (named_year : ℤ) (named_month : Option ℕ) (options : Options) : Type 0 where
@@ -77,5 +77,5 @@ pub record AreOptions (given : Flags) (named_year : ℤ) (named_month : Option �
 
 -- the words ask for these options
 abbrev pub AsksForOptions : Bool → List (List ℕ) → Options → Type 0
-AsksForOptions has_raw words options = (given : Flags) × (year : ℤ) × (month : Option ℕ)
-    × AskForLines has_raw words given year month × AreOptions given year month options
+AsksForOptions writes_json words options = (given : Flags) × (year : ℤ) × (month : Option ℕ)
+    × AskForLines writes_json words given year month × AreOptions given year month options

@@ -7,6 +7,6 @@ use Rattle.syslog_command_line.specs.declared.words.Task.TheVariants.{Help, Vers
 
 -- the words ask for this; a program may have the flag `--raw`, or not
 abbrev pub AsksFor : Bool → List (List ℕ) → Task → Type 0
-AsksFor has_raw words Help = (words ≡ help_word ∷ []) ⊎ (words ≡ short_help_word ∷ [])
-AsksFor has_raw words Version = words ≡ version_word ∷ []
-AsksFor has_raw words (Lines options) = AsksForOptions has_raw words options
+AsksFor writes_json words Help = (words ≡ help_word ∷ []) ⊎ (words ≡ short_help_word ∷ [])
+AsksFor writes_json words Version = words ≡ version_word ∷ []
+AsksFor writes_json words (Lines options) = AsksForOptions writes_json words options

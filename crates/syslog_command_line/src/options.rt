@@ -34,12 +34,12 @@ struct Flags {
 }
 
 /// Returns what the words ask for: flags, each at most once and in any order, and a date.
-pub(crate) fn read_options(words: &[String], has_raw: bool) -> Result<Options, Wrong<'_>>
-    ensures { MatchResult result (λ options. AsksForOptions has_raw (texts words.now) options)
+pub(crate) fn read_options(words: &[String], writes_json: bool) -> Result<Options, Wrong<'_>>
+    ensures { MatchResult result (λ options. AsksForOptions writes_json (texts words.now) options)
         (λ wrong. IsAmong (texts words.now) wrong
-        × ((options : Options) → ¬ (AsksForOptions has_raw (texts words.now) options))) }
+        × ((options : Options) → ¬ (AsksForOptions writes_json (texts words.now) options))) }
 {
-    let (flags, rest) = read_flags(words, has_raw)?;
+    let (flags, rest) = read_flags(words, writes_json)?;
     let (year, month) = read_date_words(rest)?;
     Ok(Options {
         raw: flags.raw,
@@ -50,15 +50,15 @@ pub(crate) fn read_options(words: &[String], has_raw: bool) -> Result<Options, W
 }
 
 // The flags before the date, and the words after them.
-fn read_flags(words: &[String], has_raw: bool) -> Result<(Flags, &[String]), Wrong<'_>>
+fn read_flags(words: &[String], writes_json: bool) -> Result<(Flags, &[String]), Wrong<'_>>
     ensures { MatchResult result
         (λ found. ((given : List Flag)
-        × TakesFlags has_raw given no_flags (texts words.now) found.0 (texts found.1.now))
-        × ((flags : Flags) (year : ℤ) (month : Option ℕ) → AskForLines has_raw (texts words.now) flags year month
+        × TakesFlags writes_json given no_flags (texts words.now) found.0 (texts found.1.now))
+        × ((flags : Flags) (year : ℤ) (month : Option ℕ) → AskForLines writes_json (texts words.now) flags year month
         → (flags ≡ found.0) × AreDateWords (texts found.1.now) year month))
         (λ wrong. IsAmong (texts words.now) wrong
         × ((flags : Flags) (year : ℤ) (month : Option ℕ)
-        → ¬ (AskForLines has_raw (texts words.now) flags year month))) }
+        → ¬ (AskForLines writes_json (texts words.now) flags year month))) }
 {
     let mut flags = Flags {
         raw: false,
@@ -67,7 +67,7 @@ fn read_flags(words: &[String], has_raw: bool) -> Result<(Flags, &[String]), Wro
         offset: None,
     };
     let mut rest = words;
-    'flags: while let Some((more, after)) = read_flag(rest, flags, has_raw)? {
+    'flags: while let Some((more, after)) = read_flag(rest, flags, writes_json)? {
         flags = more;
         rest = after;
     }
@@ -79,19 +79,19 @@ fn read_flags(words: &[String], has_raw: bool) -> Result<(Flags, &[String]), Wro
 fn read_flag(
     words: &[String],
     flags: Flags,
-    has_raw: bool,
+    writes_json: bool,
 ) -> Result<Option<(Flags, &[String])>, Wrong<'_>>
     ensures { MatchResult result
-        (λ found. MatchOption found (NoFlag has_raw flags (texts words.now))
-        (λ it. (flag : Flag) × TakesFlag has_raw flag flags (texts words.now) it.0 (texts it.1.now)))
+        (λ found. MatchOption found (NoFlag writes_json flags (texts words.now))
+        (λ it. (flag : Flag) × TakesFlag writes_json flag flags (texts words.now) it.0 (texts it.1.now)))
         (λ wrong. IsAmong (texts words.now) wrong
         × ((given : Flags) (year : ℤ) (month : Option ℕ)
-        → ¬ (AskAfter has_raw flags (texts words.now) given year month))) }
+        → ¬ (AskAfter writes_json flags (texts words.now) given year month))) }
 {
-    if let Some(rest) = after_flag(words, "--raw", has_raw, flags.raw) {
+    if let Some(rest) = after_flag(words, "--raw", writes_json, flags.raw) {
         return Ok(Some((Flags { raw: true, ..flags }, rest)));
     }
-    if let Some(rest) = after_flag(words, "--no-dialects", true, flags.no_dialects) {
+    if let Some(rest) = after_flag(words, "--no-dialects", writes_json, flags.no_dialects) {
         return Ok(Some((
             Flags {
                 no_dialects: true,
@@ -100,7 +100,7 @@ fn read_flag(
             rest,
         )));
     }
-    if let Some(rest) = after_flag(words, "--latin1", true, flags.latin1) {
+    if let Some(rest) = after_flag(words, "--latin1", writes_json, flags.latin1) {
         return Ok(Some((
             Flags {
                 latin1: true,

@@ -40,12 +40,12 @@ pub enum Wrong<'a> {
 }
 
 /// What the words after the program's name ask for: flags in any order, each at most once, and `[--] YEAR[-MONTH]`; or
-/// `--help`, `-h` or `--version` alone. The flags are `--raw`, which a program has only if `has_raw` says so,
-/// `--no-dialects`, `--latin1` and `--offset OFFSET`. For all other words it is the first one that can't be at its
-/// place, or that a year is missing.
-pub fn read_task(words: &[String], has_raw: bool) -> Result<Task, Wrong<'_>>
-    ensures { MatchResult result (λ task. AsksFor has_raw (texts words.now) task)
-        (λ wrong. IsAmong (texts words.now) wrong × ((task : Task) → ¬ (AsksFor has_raw (texts words.now) task))) }
+/// `--help`, `-h` or `--version` alone. The flags are `--offset OFFSET`, and of a program that writes JSON `--raw`,
+/// `--no-dialects` and `--latin1` too. For all other words it is the first one that can't be at its place, or that a
+/// year is missing.
+pub fn read_task(words: &[String], writes_json: bool) -> Result<Task, Wrong<'_>>
+    ensures { MatchResult result (λ task. AsksFor writes_json (texts words.now) task)
+        (λ wrong. IsAmong (texts words.now) wrong × ((task : Task) → ¬ (AsksFor writes_json (texts words.now) task))) }
 {
     if asks_for_help(words) {
         return Ok(Task::Help);
@@ -53,7 +53,7 @@ pub fn read_task(words: &[String], has_raw: bool) -> Result<Task, Wrong<'_>>
     if is_only(words, "--version") {
         return Ok(Task::Version);
     }
-    Ok(Task::Lines(read_options(words, has_raw)?))
+    Ok(Task::Lines(read_options(words, writes_json)?))
 }
 
 // Whether the only word is `--help` or `-h`.

@@ -7,7 +7,7 @@ use Rattle.syslog_command_line.proofs.options.read_flag.Goals as goal
 
 pub returns-in_default-after_flag-3 : goal.returns-in_default-after_flag-3
 returns-in_default-after_flag-3 c =
-    no_flag_first c.args.has_raw c.args.flags _ c.in_default.ensures c.in_default-after_flag.ensures
+    no_flag_first c.args.writes_json c.args.flags _ c.in_default.ensures c.in_default-after_flag.ensures
     c.in_default-after_flag-2.ensures
     (λ rest offered given. c.in_default-after_flag-3.ensures rest offered (c.is_some.ensures ∙ given))
 
@@ -18,7 +18,7 @@ returns-in_err-offset c =
     let (offered, fresh, first) = c.in-Some-after_flag-3.ensures in
     rw (p.1, p.2) (
       among_later (flag_word Offset ∷ []) _ _ _ first among,
-      asks_nothing c.args.has_raw Offset c.args.flags _ _ first
+      asks_nothing c.args.writes_json Offset c.args.flags _ _ first
           (λ values left new same adds. none adds.0 left adds.1 (rw adds.2 at same) adds.3),
     )
 

@@ -8,7 +8,7 @@ pub returns-in_err-flags : goal.returns-in_err-flags
 returns-in_err-flags c =
     let p = err_from_is_err_and c.from_residual.result c.from_residual.ensures.1 in
     let (among, none) = c.in_err-flags.ensures in
-    rw (p.1, p.2) (among, no_options c.args.has_raw _ none)
+    rw (p.1, p.2) (among, no_options c.args.writes_json _ none)
 
 pub returns-in_err-year : goal.returns-in_err-year
 returns-in_err-year c =
@@ -16,8 +16,8 @@ returns-in_err-year c =
     let ((given, taken), only) = c.in_ok-flags.ensures in
     let (among, none) = c.in_err-year.ensures in
     rw (p.1, p.2) (
-      among_flags c.args.has_raw given _ _ _ _ _ taken among,
-      no_options c.args.has_raw _ (λ flags year month asks. none year month (only flags year month asks).1),
+      among_flags c.args.writes_json given _ _ _ _ _ taken among,
+      no_options c.args.writes_json _ (λ flags year month asks. none year month (only flags year month asks).1),
     )
 
 pub new-requires-clause-year : goal.new-requires-clause-year
@@ -28,7 +28,7 @@ new-requires-clause-year c =
 pub new-requires-clause-offset : goal.new-requires-clause-offset
 new-requires-clause-offset c =
     let ((given, taken), only) = c.in_ok-flags.ensures in
-    let (low, high) = offset_in_range c.args.has_raw given _ _ _ taken in
+    let (low, high) = offset_in_range c.args.writes_json given _ _ _ taken in
     rw c.unwrap_or.ensures (omega (arith, ints, low), omega (arith, ints, high))
 
 pub returns : goal.returns

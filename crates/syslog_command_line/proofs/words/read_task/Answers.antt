@@ -8,18 +8,18 @@ use Rattle.syslog_command_line.specs.declared.words.Task.TheVariants.{Help, Vers
 use Rattle.syslog_command_line.proofs.words.read_task.Goals as goal
 
 -- where no word for itself is alone and no lines are asked for, nothing is
-no_task : (has_raw : Bool) (words : List (List ℕ))
+no_task : (writes_json : Bool) (words : List (List ℕ))
     → ¬ ((words ≡ help_word ∷ []) ⊎ (words ≡ short_help_word ∷ [])) → ¬ (words ≡ version_word ∷ [])
-    → ((options : Options) → ¬ (AsksForOptions has_raw words options)) → (task : Task) → ¬ (AsksFor has_raw words task)
-no_task has_raw words no_help no_version none Help = no_help
-no_task has_raw words no_help no_version none Version = no_version
-no_task has_raw words no_help no_version none (Lines options) = none options
+    → ((options : Options) → ¬ (AsksForOptions writes_json words options)) → (task : Task) → ¬ (AsksFor writes_json words task)
+no_task writes_json words no_help no_version none Help = no_help
+no_task writes_json words no_help no_version none Version = no_version
+no_task writes_json words no_help no_version none (Lines options) = none options
 
 pub returns-in_err-read_options : goal.returns-in_err-read_options
 returns-in_err-read_options c =
     let p = err_from_is_err_and c.from_residual.result c.from_residual.ensures.1 in
     rw (p.1, p.2) (
       c.in_err-read_options.ensures.0,
-      no_task c.args.has_raw _ (iff_false c.asks_for_help.ensures c.if-asks_for_help.false)
+      no_task c.args.writes_json _ (iff_false c.asks_for_help.ensures c.if-asks_for_help.false)
           (iff_false c.is_only.ensures c.if-is_only.false) c.in_err-read_options.ensures.1,
     )
