@@ -30,11 +30,20 @@ fn gap(text: &str) -> (&str, bool)
 {
     match past_space(text) {
         Some(rest) => (rest, true),
-        None => {
-            let rest = blanks(text);
-            (rest, is_one_space(text, rest))
-        }
+        None => odd_gap(text),
     }
+}
+
+// A gap that is no single space before a visible character. It is a call of its own, since callers of the walk would
+// otherwise outgrow what the compiler takes into its caller.
+#[cold]
+#[inline(never)]
+fn odd_gap(text: &str) -> (&str, bool)
+    ensures blanks { Front (run spec.is_blank) (chars text.now) (shown result.0) tt }
+    ensures space { IsTrue result.1 ↔ (chars text.now ≡ 32 ∷ shown result.0) }
+{
+    let rest = blanks(text);
+    (rest, is_one_space(text, rest))
 }
 
 /// Walks the strict element at the front, and notes its parameters. A refusal has a number as that of `live_value`.
