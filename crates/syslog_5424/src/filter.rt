@@ -11,13 +11,15 @@ ghost use Rattle.syslog_5424.specs.Conversions.{ConvertsAll, IsRefused, IsWritte
 use std::alloc::{AllocError, Global};
 use std::io::{Read, Write};
 use syslog_lines::pump::pump;
-use syslog_lines::{LineFilter, RunFault, Summary, Watched, push_line};
+use syslog_lines::{Frames, LineCounts, LineFilter, RunFault, Watched, push_line};
 use syslog_loose::{Dates, IncompleteDate, ParseFault, Variant};
 use syslog_strict::to_rfc5424_into;
+use syslog_utf8::decode;
 
-/// Reads lines to the end of the input, and writes each as RFC 5424, read by the dates: a line that is in the grammar
-/// as it came, and otherwise its message, converted. A line that is neither in the grammar nor parses, or is no UTF-8, is
-/// left out and counted as refused.
+/// Reads lines to the end of the input, and writes each as RFC 5424, read by the dates: a line that is in the grammar as
+/// it came, and otherwise its message, converted. A line that is neither in the grammar nor a message is left out and
+/// counted as refused. A line that is not UTF-8 is taken for a text: as ISO 8859-1, or with U+FFFD for each part that is
+/// no UTF-8.
 ///
 /// Each line written is in the grammar of RFC 5424, and a converted one is parsed as the converted message. The output
 /// of each block of input is written before more is read, and the writer is flushed at the end. Nothing is tried again.
@@ -27,31 +29,32 @@ use syslog_strict::to_rfc5424_into;
 /// output was written. It takes memory for a block of input, its output, and the longest line.
 pub fn write_converted<R: Read, W: Write>(
     alloc: Global,
+    frames: Frames,
     reader: &mut Watched<R>,
     writer: &mut Watched<W>,
-    dates: Dates,
-) -> Result<Summary, RunFault>
+    filter: Conversions,
+) -> Result<LineCounts, RunFault>
     requires reader { reader.old.failed ≡ false }
     requires writer { writer.old.failed ≡ false }
-    ensures ok { IfOk result (λ summary. ConvertsAll dates (R.remaining reader.old.inner)
+    ensures ok { IfOk result (λ counts. ConvertsAll frames filter (R.remaining reader.old.inner)
         (R.remaining reader.new.inner)
-        (W.contents writer.old.inner) (W.contents writer.new.inner) summary) }
-    ensures err { IfErr result (λ fault. EndsEarly (conversions dates) (R.remaining reader.old.inner)
+        (W.contents writer.old.inner) (W.contents writer.new.inner) counts) }
+    ensures err { IfErr result (λ fault. EndsEarly frames (conversions filter) (R.remaining reader.old.inner)
         (R.remaining reader.new.inner)
         (W.contents writer.old.inner) (W.contents writer.new.inner) fault) }
     ensures failed { FailedAs result reader.new.failed writer.new.failed }
 {
-    let tally = pump(alloc, &Conversions { dates }, reader, writer)?;
-    Ok(Summary {
-        lines: tally.lines(),
-        refused: tally.skipped,
-    })
+    let tally = pump(alloc, frames, &filter, reader, writer)?;
+    Ok(tally.counts(filter.latin1))
 }
 
-/// Writes each line as RFC 5424, read by these dates.
+/// Writes each line as RFC 5424.
 #[derive(Drop)]
-struct Conversions {
-    dates: Dates,
+pub struct Conversions {
+    /// Whether a line that is not UTF-8 is read as ISO 8859-1.
+    pub latin1: bool,
+    /// How dates that show no year or no zone are taken.
+    pub dates: Dates,
 }
 
 impl Conversions {
@@ -59,8 +62,8 @@ impl Conversions {
     #[inline(always)]
     fn convert_line(&self, alloc: Global, line: &str, text: &mut String) -> Result<(), ParseFault>
         ensures { MatchResult result
-            (λ _. IsSyslogMsg (text_in text.new) × IsWritten self.now.dates (chars line.now) (text_in text.new))
-            (λ fault. (fault ≡ Invalid) ↔ IsRefused self.now.dates (chars line.now)) }
+            (λ _. IsSyslogMsg (text_in text.new) × IsWritten self.now (chars line.now) (text_in text.new))
+            (λ fault. (fault ≡ Invalid) ↔ IsRefused self.now (chars line.now)) }
     {
         let dates = &self.dates;
         let get_year = |date: IncompleteDate| -> i32
@@ -79,7 +82,7 @@ impl Conversions {
 }
 
 impl LineFilter for Conversions {
-    ghost answers = { λ filter. conversions filter.dates };
+    ghost answers = { λ filter. conversions filter };
 
     #[inline(always)]
     fn filter_line(
@@ -99,7 +102,15 @@ impl LineFilter for Conversions {
         }
     }
 
-    fn filter_bytes(&self, _: Global, _: &[u8], _: &mut Vec<u8>) -> Result<bool, AllocError> {
-        Ok(false)
+    #[inline(never)]
+    fn filter_bytes(
+        &self,
+        alloc: Global,
+        line: &[u8],
+        output: &mut Vec<u8>,
+    ) -> Result<bool, AllocError> {
+        let text = decode(alloc, line, self.latin1)?;
+        let mut converted = String::new(alloc);
+        self.filter_line(alloc, text.as_str(), &mut converted, output)
     }
 }

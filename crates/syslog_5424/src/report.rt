@@ -7,24 +7,29 @@ pub const USAGE: &str =
 /// How the program is called, and what it does.
 pub const HELP: &str = "usage: syslog_5424 [OPTION].. [--] YEAR[-MONTH], or --help, or --version
 
-Reads lines of syslog from standard input, and writes each that parses to
+Reads lines of syslog from standard input, and writes each that is a message to
 standard output as RFC 5424, by the letter of its grammar. What the grammar
 takes stays as it is; a character that it has no place for becomes `?`. A line
-that does not parse is left out.
+that is no message is left out. A line that is not UTF-8 is read with U+FFFD for
+what is not.
   YEAR             the year of dates that show none: one to four digits
   YEAR-MONTH       the same, and the month that it is now, two digits: in
                    January a date of December is of the year before
 Options, in any order, each at most once:
   --offset OFFSET  the zone of dates that show none, +HH:MM or -HH:MM; it is
                    UTC where this is left out
+  --latin1         reads a line that is not UTF-8 as ISO 8859-1, and not with
+                   U+FFFD for what is not
+  --max-line BYTES a longer line is refused, 67108864 where this is left out
   --               may come before YEAR
   -h, --help       this text
   --version        the name and the version of this program
 
-How many lines were left out is written to standard error at the end.
+How many lines are no messages, and how many have U+FFFD, is written to standard
+error at the end.
 
 Status:
-  0  each line was written
-  1  some lines were left out
+  0  each line was written, and none has U+FFFD for what is not UTF-8
+  1  some lines were left out, or have U+FFFD
   2  wrong arguments; or a read or a write failed, or memory ran out
 ";

@@ -1,280 +1,346 @@
 -- Flags in any order before a date.
-use Rattle.syslog_command_line.proofs.Names.{[], length, get_or, NamesOffset, append_assoc, subst, true, false, IsTrue}
-use Rattle.syslog_command_line.proofs.Names.{◌≡◌, Bool, List, ◌++◌, Option, Some, None, arith, refl}
-use Rattle.syslog_command_line.proofs.Names.{ℕ, ℤ, ◌<◌, ◌∷◌, pos, ap, inl, inr, sym, ◌∙◌}
-use Rattle.std.proofs.Common.{◌+◌, ◌/◌, ◌%◌, ◌≤ℤ◌, ◌==◌, if◌then◌else◌, negsuc}
-use Rattle.std.{proofs.lemmas.Int.ints, proofs.lemmas.List.length-append, specs.Option.is_some, specs.Option.unwrap_or}
-use Rattle.syslog_command_line.proofs.WordLemmas.{among_later, no_flag, signed_in_range}
-use Rattle.syslog_command_line.{specs.Arguments.two_digits, specs.declared.words.Wrong.Wrong}
-use Rattle.syslog_command_line.specs.Options.{Adds, AskAfter, AskForLines, AsksForOptions, NoFlag}
-use Rattle.syslog_command_line.specs.Options.{TakesFlag}
-use Rattle.syslog_command_line.specs.Options.{Flag, Raw, NoDialects, Latin1, Offset, TakesFlags, flag_word, no_flags}
+use Rattle.syslog_command_line.proofs.Names.{◌≡◌, ◌≢◌, ◌<◌, ◌∷◌, ◌++◌, ◌∙◌, ℕ, ℤ, [], List, MatchOption, None, Option, Some}
+use Rattle.syslog_command_line.proofs.Names.{append_assoc, ap, arith, get_or, inl, inr, length, pos, refl, subst, sym, true, false}
+use Rattle.std.proofs.Common.{All, Bool, Bor, Contains, IsSomeAnd, flat_map, is_some, replicate, set, unwrap_or, ◌⊎◌}
+use Rattle.std.proofs.lemmas.{Bool.cases_eq, List.flat_map_more, List.length-append, List.length-set}
+use Rattle.std.proofs.lemmas.List.{get_or_append_left, get_or-replicate, get_or-set_other, get_or-set_same, length-replicate}
+use Rattle.std.proofs.lemmas.List.Elements.{All-nil, All-push, Contains-append_left, Contains-push}
+use Rattle.std.proofs.lemmas.List.Quantifiers.{all_pairs_push}
+use Rattle.std.proofs.Math.Seq.{get_or-append_seam}
+use Rattle.syslog_command_line.proofs.FlagLemmas.{flag_no_date, number_within, one_beginning, same_by_number, same_by_word}
+use Rattle.syslog_command_line.proofs.WordLemmas.{among_later}
+use Rattle.jiff.specs.Types.{TimeZone}
+use Rattle.syslog_loose.specs.Reckoning.{IsZoneAt}
+use Rattle.syslog_command_line.specs.Arguments.{NamesOffset}
+use Rattle.syslog_command_line.specs.Flags.{IsValue, flag_number, flag_word, rival}
+use Rattle.syslog_command_line.specs.Given.{AreNoFlagsAndDate, BeginsWith, BeginsWithNone, Holds, SplitsWords, value_at}
+use Rattle.syslog_command_line.specs.Options.{AreFlagsAndDate, AsksForOptions, ByFlag, CanBeGiven, GivenFlag, GoTogether}
+use Rattle.syslog_command_line.specs.Options.{IsGivenAs, IsLeftOut, given_words, value_words}
 use Rattle.syslog_command_line.specs.Words.{AreDateWords, IsAmong}
-use Rattle.syslog_command_line.specs.declared.options.Flags.{Flags}
+use Rattle.syslog_command_line.specs.declared.flags.Flag.{Flag}
+use Rattle.syslog_command_line.specs.declared.flags.Flag.TheVariants.{Offset}
+use Rattle.syslog_command_line.specs.declared.given.Given.{Given}
 use Rattle.syslog_command_line.specs.declared.options.Options.{Options}
+use Rattle.syslog_command_line.specs.declared.words.Wrong.{Wrong}
 
--- ---- a flag and its word
+-- ---- flags that can be given, and one more
 
-abbrev flag_of : List ℕ → Flag
-flag_of word = if length word == 5 then Raw
-    else (if length word == 13 then NoDialects else (if get_or word 2 0 == 108 then Latin1 else Offset))
+can_be_more : (offered : List Flag) (given : List GivenFlag) (one : GivenFlag) → CanBeGiven offered given
+    → Contains offered one.flag → IsValue one.flag one.value → All (λ other. GoTogether other one) given
+    → CanBeGiven offered (given ++ one ∷ [])
+can_be_more offered given one can has is beside = record {
+  known = All-push (λ (it : GivenFlag). Contains offered it.flag) given one can.known has;
+  valued = All-push (λ (it : GivenFlag). IsValue it.flag it.value) given one can.valued is;
+  together = all_pairs_push GoTogether given one can.together beside;
+}
 
-flag_of_word : (flag : Flag) → flag_of (flag_word flag) ≡ flag
-flag_of_word Raw = refl
-flag_of_word NoDialects = refl
-flag_of_word Latin1 = refl
-flag_of_word Offset = refl
+can_be_one : (offered : List Flag) (given more : List GivenFlag) (one : GivenFlag) → CanBeGiven offered (given ++ one ∷ more)
+    → Contains offered one.flag × IsValue one.flag one.value × All (λ other. GoTogether other one) given
+can_be_one offered given more one can =
+    let long : length given < length (given ++ one ∷ more) = omega (arith, length-append given (one ∷ more)) in
+    let here : (d : GivenFlag) → get_or (given ++ one ∷ more) (length given) d ≡ one =
+    λ d. get_or-append_seam given one more d in (
+      subst (λ (it : GivenFlag). Contains offered it.flag) (here one) (can.known (length given) one long),
+      subst (λ (it : GivenFlag). IsValue it.flag it.value) (here one) (can.valued (length given) one long),
+      λ k d within. subst (λ (it : GivenFlag). GoTogether it one) (get_or_append_left given (one ∷ more) d k within)
+          (subst (λ (it : GivenFlag). GoTogether (get_or (given ++ one ∷ more) k d) it) (here d)
+          (can.together k (length given) d within long)),
+    )
 
-same_flag : (flag other : Flag) → flag_word flag ≡ flag_word other → flag ≡ other
-same_flag flag other same = sym (flag_of_word flag) ∙ ap flag_of same ∙ flag_of_word other
+-- ---- what is held
 
-dashed : (flag : Flag) → (get_or (flag_word flag) 0 0 ≡ 45) × (2 < length (flag_word flag))
-dashed Raw = (refl, omega arith)
-dashed NoDialects = (refl, omega arith)
-dashed Latin1 = (refl, omega arith)
-dashed Offset = (refl, omega arith)
+-- a flag with its value
+abbrev pub given_as : Flag → List ℕ → GivenFlag
+given_as flag value = record { flag = flag; value = value }
 
--- the words of a flag and more are no date
-flag_no_date : (flag : Flag) (words rest : List (List ℕ)) (year : ℤ) (month : Option ℕ) → words ≡ flag_word flag ∷ rest
-    → AreDateWords words year month → ⊥
-flag_no_date flag words rest year month first dated =
-    no_flag words rest (flag_word flag) year month (dashed flag).0 (dashed flag).1 first dated
+-- what a flag has
+abbrev Has : List GivenFlag → Flag → Option (Bor (List ℕ)) → Type 0
+Has given flag o = MatchOption o (IsLeftOut given flag) (λ value. IsGivenAs given flag value.now)
 
--- ---- an offset names one number of seconds
+left_out : (given : List GivenFlag) (flag : Flag) (o : Option (Bor (List ℕ))) → Has given flag o → o ≡ None
+    → IsLeftOut given flag
+left_out given flag None held none = held
+left_out given flag (Some value) held none = cc
 
-abbrev clock : ℕ → ℕ → ℕ → List ℕ
-clock sign hours minutes = sign ∷ (two_digits hours ++ (58 ∷ two_digits minutes))
+none_held : (given : List GivenFlag) (flag : Flag) (o : Option (Bor (List ℕ))) → Has given flag o
+    → IsLeftOut given flag → o ≡ None
+none_held given flag None held out = refl
+none_held given flag (Some value) (k, within, is) out =
+    absurd (out k (record { flag = flag; value = value.now }) within (ap (λ (it : GivenFlag). it.flag) is))
 
-same_clock : (sign other h m k n : ℕ) → clock sign h m ≡ clock other k n → (sign ≡ other) × (h ≡ k) × (m ≡ n)
-same_clock sign other h m k n same =
-    let first : sign ≡ other = ap (λ (text : List ℕ). get_or text 0 0) same in
-    let second : 48 + h / 10 ≡ 48 + k / 10 = ap (λ (text : List ℕ). get_or text 1 0) same in
-    let third : 48 + h % 10 ≡ 48 + k % 10 = ap (λ (text : List ℕ). get_or text 2 0) same in
-    let fifth : 48 + m / 10 ≡ 48 + n / 10 = ap (λ (text : List ℕ). get_or text 4 0) same in
-    let sixth : 48 + m % 10 ≡ 48 + n % 10 = ap (λ (text : List ℕ). get_or text 5 0) same in
-    (first, omega arith, omega arith)
+one_more : (given : List GivenFlag) (one : GivenFlag) (flag : Flag) (o : Option (Bor (List ℕ))) → one.flag ≢ flag
+    → Has given flag o → Has (given ++ one ∷ []) flag o
+one_more given one flag None apart out = All-push (λ (it : GivenFlag). it.flag ≢ flag) given one out apart
+one_more given one flag (Some value) apart at =
+    Contains-append_left given (one ∷ []) (record { flag = flag; value = value.now }) at
 
-same_offset : (text : List ℕ) (seconds other : ℤ) → NamesOffset text seconds → NamesOffset text other → seconds ≡ other
-same_offset text seconds other one two = elim (one.signed) [
-  | inl east ↦ elim (two.signed) [
-    | inl also ↦ let clocks = same_clock 43 43 one.hours one.minutes two.hours two.minutes (sym east.0 ∙ also.0) in
-        let hours : one.hours ≡ two.hours = clocks.1 in
-        let minutes : one.minutes ≡ two.minutes = clocks.2 in
-        cc (east.1, also.1)
-    | inr west ↦ let clocks = same_clock 43 45 one.hours one.minutes two.hours two.minutes (sym east.0 ∙ west.0) in
-        absurd (omega (arith, clocks.0))
-  ]
-  | inr west ↦ elim (two.signed) [
-    | inl east ↦ let clocks = same_clock 45 43 one.hours one.minutes two.hours two.minutes (sym west.0 ∙ east.0) in
-        absurd (omega (arith, clocks.0))
-    | inr also ↦ let clocks = same_clock 45 45 one.hours one.minutes two.hours two.minutes (sym west.0 ∙ also.0) in
-        let hours : one.hours ≡ two.hours = clocks.1 in
-        let minutes : one.minutes ≡ two.minutes = clocks.2 in
-        cc (west.1, also.1)
-  ]
-]
+-- one more flag is held
+held_more : (held after : Given) (given : List GivenFlag) (flag : Flag) (value : Bor (List ℕ)) → Holds held given
+    → IsValue flag value.now → after.values ≡ set held.values (flag_number flag) (Some value)
+    → Holds after (given ++ given_as flag value.now ∷ [])
+held_more held after given flag value holds is same = record {
+  size = rw same (length-set held.values (flag_number flag) (Some value) ∙ holds.size);
+  each = λ other. each other (cases_eq (flag_number other) (flag_number flag));
+  valued = All-push (λ (it : GivenFlag). IsValue it.flag it.value) given (given_as flag value.now) holds.valued is;
+}
+  where
+    here : value_at after flag ≡ Some value
+    here = ap (λ (vs : List (Option (Bor (List ℕ)))). get_or vs (flag_number flag) None) same
+        ∙ get_or-set_same held.values (flag_number flag) (Some value) None (rw holds.size (number_within flag))
 
--- ---- words take a flag in one way
+    elsewhere : (other : Flag) → flag_number other ≢ flag_number flag → value_at after other ≡ value_at held other
+    elsewhere other apart = ap (λ (vs : List (Option (Bor (List ℕ)))). get_or vs (flag_number other) None) same
+        ∙ get_or-set_other held.values (flag_number flag) (flag_number other) (Some value) None apart
 
-adds_once : (writes_json : Bool) (flag : Flag) (values more : List (List ℕ)) (old new other : Flags)
-    (rest left : List (List ℕ)) → values ++ rest ≡ more ++ left → Adds writes_json flag values old new → Adds writes_json flag more old other
-    → (other ≡ new) × (left ≡ rest)
-adds_once writes_json Raw values more old new other rest left same (none, has, fresh, is) (empty, also, too, is_other) =
-    (is_other ∙ sym is, sym (rw (none, empty) at same))
-adds_once writes_json NoDialects values more old new other rest left same (none, has, fresh, is) (empty, also, too, is_other) =
-    (is_other ∙ sym is, sym (rw (none, empty) at same))
-adds_once writes_json Latin1 values more old new other rest left same (none, has, fresh, is) (empty, also, too, is_other) =
-    (is_other ∙ sym is, sym (rw (none, empty) at same))
-adds_once writes_json Offset values more old new other rest left same (word, seconds, one, named, fresh, is)
-    (value, number, two, names, too, is_other) =
-    let both : word ∷ rest ≡ value ∷ left = rw (one, two) at same in
-    let first : word ≡ value = ap (λ (ws : List (List ℕ)). get_or ws 0 []) both in
-    let count : seconds ≡ number =
-    same_offset word seconds number named (subst (λ (text : List ℕ). NamesOffset text number) (sym first) names) in
-    (is_other ∙ (rw (← count) (sym is)), (let last : left ≡ rest = cc in last))
+    each : (other : Flag) → (flag_number other ≡ flag_number flag) ⊎ (flag_number other ≢ flag_number flag)
+        → Has (given ++ given_as flag value.now ∷ []) other (value_at after other)
+    each other (inl number) = subst (λ (f : Flag). Has (given ++ given_as flag value.now ∷ []) f (value_at after f))
+        (sym (same_by_number other flag number))
+        (subst (λ (o : Option (Bor (List ℕ))). Has (given ++ given_as flag value.now ∷ []) flag o) (sym here) (Contains-push given (given_as flag value.now)))
+    each other (inr apart) = subst (λ (o : Option (Bor (List ℕ))). Has (given ++ given_as flag value.now ∷ []) other o)
+        (sym (elsewhere other apart))
+        (one_more given (given_as flag value.now) other (value_at held other) (λ same_flag. apart (ap flag_number (sym same_flag)))
+        (holds.each other))
 
-takes_once : (writes_json : Bool) (flag other : Flag) (old new more : Flags) (words rest left : List (List ℕ))
-    → TakesFlag writes_json flag old words new rest → TakesFlag writes_json other old words more left
-    → (more ≡ new) × (left ≡ rest)
-takes_once writes_json flag other old new more words rest left (values, listed, adds) (others, also, too) =
-    let both : flag_word flag ∷ (values ++ rest) ≡ flag_word other ∷ (others ++ left) = sym listed ∙ also in
-    let word : flag_word flag ≡ flag_word other = ap (λ (ws : List (List ℕ)). get_or ws 0 []) both in
-    let tail : values ++ rest ≡ others ++ left = cc in
-    let same : flag ≡ other = same_flag flag other word in
-    adds_once writes_json flag values others old new more rest left tail adds
-    (subst (λ (f : Flag). Adds writes_json f others old more) (sym same) too)
+-- none are held at first
+pub held_none : (held : Given) → held.values ≡ replicate 11 None → Holds held []
+held_none held same = record {
+  size = rw same (length-replicate {A = Option (Bor (List ℕ))} 11 None);
+  each = λ flag. subst (λ (o : Option (Bor (List ℕ))). Has [] flag o) (sym (nothing flag))
+      (All-nil (λ (it : GivenFlag). it.flag ≢ flag));
+  valued = All-nil (λ (it : GivenFlag). IsValue it.flag it.value);
+}
+  where
+    nothing : (flag : Flag) → value_at held flag ≡ None
+    nothing flag = ap (λ (vs : List (Option (Bor (List ℕ)))). get_or vs (flag_number flag) None) same
+        ∙ get_or-replicate 11 (flag_number flag) None None (number_within flag)
 
--- ---- what the words after a flag ask for
+-- ---- the flag that begins the words
 
-after_first : (writes_json : Bool) (flag : Flag) (flags : List Flag) (old new given : Flags)
-    (words rest last : List (List ℕ)) (year : ℤ) (month : Option ℕ) → TakesFlag writes_json flag old words new rest
-    → TakesFlags writes_json flags old words given last → AreDateWords last year month
-    → AskAfter writes_json new rest given year month
-after_first writes_json flag [] old new given words rest last year month (values, listed, adds) (same, left) dated =
-    absurd (flag_no_date flag words (values ++ rest) year month listed
-    (subst (λ (ws : List (List ℕ)). AreDateWords ws year month) (sym left) dated))
-after_first writes_json flag (other ∷ flags) old new given words rest last year month takes (mid, left, first, more) dated =
-    let once = takes_once writes_json flag other old new mid words rest left takes first in
+-- where the first word is a flag's, it is this flag that begins them
+this_flag : (offered : List Flag) (held : Given) (flag : Flag) (words tail : List (List ℕ)) (one : GivenFlag)
+    (rest : List (List ℕ)) → words ≡ flag_word flag ∷ tail → BeginsWith offered held words one rest
+    → (one.flag ≡ flag) × (tail ≡ value_words flag one.value ++ rest)
+this_flag offered held flag words tail one rest first begins =
+    let both : flag_word one.flag ∷ (value_words one.flag one.value ++ rest) ≡ flag_word flag ∷ tail =
+    sym begins.listed ∙ first in
+    let same : one.flag ≡ flag =
+    same_by_word one.flag flag (ap (λ (ws : List (List ℕ)). get_or ws 0 []) both) in
+    let after : value_words one.flag one.value ++ rest ≡ tail = cc in
+    (same, sym (subst (λ (f : Flag). value_words f one.value ++ rest ≡ tail) same after))
+
+pub none_without_words : (offered : List Flag) (held : Given) (words : List (List ℕ)) → words ≡ []
+    → BeginsWithNone offered held words
+none_without_words offered held words none one rest begins =
+    let both : [] ≡ flag_word one.flag ∷ (value_words one.flag one.value ++ rest) = sym none ∙ begins.listed in (cc)
+
+pub none_offered : (offered : List Flag) (held : Given) (words : List (List ℕ)) (word : List ℕ) (tail : List (List ℕ))
+    → words ≡ word ∷ tail → All (λ flag. flag_word flag ≢ word) offered → BeginsWithNone offered held words
+none_offered offered held words word tail first all one rest begins =
+    let (k, within, is) = begins.known in
+    let both : flag_word one.flag ∷ (value_words one.flag one.value ++ rest) ≡ word ∷ tail =
+    sym begins.listed ∙ first in
+    all k one.flag within (ap flag_word is ∙ ap (λ (ws : List (List ℕ)). get_or ws 0 []) both)
+
+pub none_allowed : (offered : List Flag) (held : Given) (flag : Flag) (words tail : List (List ℕ))
+    → words ≡ flag_word flag ∷ tail → ((value_at held flag ≡ None) × (value_at held (rival flag) ≡ None) → ⊥)
+    → BeginsWithNone offered held words
+none_allowed offered held flag words tail first not_so one rest begins =
+    let (same, after) = this_flag offered held flag words tail one rest first begins in
+    not_so (
+      subst (λ (f : Flag). value_at held f ≡ None) same begins.new,
+      subst (λ (f : Flag). value_at held (rival f) ≡ None) same begins.unopposed,
+    )
+
+pub none_valued : (offered : List Flag) (held : Given) (flag : Flag) (words tail : List (List ℕ))
+    → words ≡ flag_word flag ∷ tail
+    → ((value : List ℕ) (rest : List (List ℕ)) → IsValue flag value → tail ≡ value_words flag value ++ rest → ⊥)
+    → BeginsWithNone offered held words
+none_valued offered held flag words tail first none one rest begins =
+    let (same, after) = this_flag offered held flag words tail one rest first begins in
+    none one.value rest (subst (λ (f : Flag). IsValue f one.value) same begins.valued) after
+
+-- ---- the loop over the words
+
+-- these flags were read and are held, and whatever flags and a date the words are, they begin with these
+pub record ReadSoFar (offered : List Flag) (words : List (List ℕ)) (held : Given) (rest : List (List ℕ)) : Type 0 where
+  pub given : List GivenFlag
+  pub listed : words ≡ flat_map given_words given ++ rest
+  pub allowed : CanBeGiven offered given
+  pub holds : Holds held given
+  pub goes_on : (flags : List GivenFlag) (year : ℤ) (month : Option ℕ)
+      → (all : AreFlagsAndDate offered words flags year month)
+      → (more : List GivenFlag) × (flags ≡ given ++ more) × (rest ≡ flat_map given_words more ++ all.rest)
+
+pub ReadSoFar-start : (offered : List Flag) (words : List (List ℕ)) (held : Given) → Holds held []
+    → ReadSoFar offered words held words
+ReadSoFar-start offered words held holds = record {
+  given = [];
+  listed = refl;
+  allowed = record {
+    known = All-nil (λ (it : GivenFlag). Contains offered it.flag);
+    valued = All-nil (λ (it : GivenFlag). IsValue it.flag it.value);
+    together = λ i j d before within. absurd (omega arith);
+  };
+  holds = holds;
+  goes_on = λ flags year month all. (flags, refl, all.listed);
+}
+
+-- after one more flag
+goes_on_more : (offered : List Flag) (given flags : List GivenFlag) (one : GivenFlag) (rest left last : List (List ℕ))
+    (year : ℤ) (month : Option ℕ) → IsValue one.flag one.value → rest ≡ given_words one ++ left
+    → CanBeGiven offered flags → AreDateWords last year month → (more : List GivenFlag) → flags ≡ given ++ more
+    → rest ≡ flat_map given_words more ++ last
+    → (after : List GivenFlag) × (flags ≡ (given ++ one ∷ []) ++ after) × (left ≡ flat_map given_words after ++ last)
+goes_on_more offered given flags one rest left last year month is begins can dated [] same listed =
+    absurd (flag_no_date one.flag last (value_words one.flag one.value ++ left) year month (sym listed ∙ begins) dated)
+goes_on_more offered given flags one rest left last year month is begins can dated (other ∷ more) same listed =
+    let (has, is_other, beside) =
+    can_be_one offered given more other (subst (λ (them : List GivenFlag). CanBeGiven offered them) same can) in
+    let both : given_words one ++ left ≡ given_words other ++ (flat_map given_words more ++ last) =
+    sym begins ∙ listed ∙ append_assoc (given_words other) (flat_map given_words more) last in
+    let (is_it, after) = one_beginning one other left (flat_map given_words more ++ last) is is_other both in (
+      more,
+      same ∙ ap (λ (it : GivenFlag). given ++ it ∷ more) (sym is_it) ∙ sym (append_assoc given (one ∷ []) more),
+      after,
+    )
+
+pub ReadSoFar-more : (offered : List Flag) (words : List (List ℕ)) (held after : Given) (rest left : List (List ℕ))
+    (flag : Flag) (value : Bor (List ℕ)) → ReadSoFar offered words held rest
+    → BeginsWith offered held rest (record { flag = flag; value = value.now }) left
+    → after.values ≡ set held.values (flag_number flag) (Some value) → ReadSoFar offered words after left
+ReadSoFar-more offered words held after rest left flag value so_far begins added =
+    let new : IsLeftOut so_far.given flag =
+    left_out so_far.given flag (value_at held flag) (so_far.holds.each flag) begins.new in
+    let unopposed : IsLeftOut so_far.given (rival flag) =
+    left_out so_far.given (rival flag) (value_at held (rival flag)) (so_far.holds.each (rival flag)) begins.unopposed in
     record {
-      flags = flags;
-      rest = last;
-      taken = rw (once.0, once.1) at more;
-      dated = dated;
+      given = so_far.given ++ record { flag = flag; value = value.now } ∷ [];
+      listed = so_far.listed ∙ ap (λ (ws : List (List ℕ)). flat_map given_words so_far.given ++ ws) begins.listed
+          ∙ sym (append_assoc (flat_map given_words so_far.given) (given_words (record { flag = flag; value = value.now })) left)
+          ∙ ap (λ (ws : List (List ℕ)). ws ++ left)
+          (flat_map_more given_words [] so_far.given (record { flag = flag; value = value.now }));
+      allowed = can_be_more offered so_far.given (record { flag = flag; value = value.now }) so_far.allowed begins.known
+          begins.valued (λ k d within. (new k d within, unopposed k d within));
+      holds = held_more held after so_far.given flag value so_far.holds begins.valued added;
+      goes_on = λ flags year month all.
+          let (more, same, listed) = so_far.goes_on flags year month all in
+          goes_on_more offered so_far.given flags (record { flag = flag; value = value.now }) rest left all.rest year month
+          begins.valued begins.listed all.allowed all.dated more same listed;
     }
 
-pub asks_after : (writes_json : Bool) (flag : Flag) (old new given : Flags) (words rest : List (List ℕ)) (year : ℤ)
-    (month : Option ℕ) → TakesFlag writes_json flag old words new rest → AskAfter writes_json old words given year month
-    → AskAfter writes_json new rest given year month
-asks_after writes_json flag old new given words rest year month takes asks =
-    after_first writes_json flag asks.flags old new given words rest asks.rest year month takes asks.taken asks.dated
+date_left : (offered : List Flag) (words : List (List ℕ)) (held : Given) (rest last : List (List ℕ)) (year : ℤ)
+    (month : Option ℕ) (flags : List GivenFlag) → (so_far : ReadSoFar offered words held rest)
+    → BeginsWithNone offered held rest → CanBeGiven offered flags → AreDateWords last year month
+    → (more : List GivenFlag) → flags ≡ so_far.given ++ more → rest ≡ flat_map given_words more ++ last
+    → AreDateWords rest year month
+date_left offered words held rest last year month flags so_far none can dated [] same listed =
+    subst (λ (ws : List (List ℕ)). AreDateWords ws year month) (sym listed) dated
+date_left offered words held rest last year month flags so_far none can dated (one ∷ more) same listed =
+    let (has, is, beside) =
+    can_be_one offered so_far.given more one (subst (λ (them : List GivenFlag). CanBeGiven offered them) same can) in
+    absurd (none one (flat_map given_words more ++ last) (record {
+      known = has;
+      valued = is;
+      new = none_held so_far.given one.flag (value_at held one.flag) (so_far.holds.each one.flag)
+          (λ k d within. (beside k d within).0);
+      unopposed = none_held so_far.given (rival one.flag) (value_at held (rival one.flag))
+          (so_far.holds.each (rival one.flag)) (λ k d within. (beside k d within).1);
+      listed = listed ∙ append_assoc (given_words one) (flat_map given_words more) last;
+    }))
 
-date_left : (writes_json : Bool) (flags : List Flag) (old given : Flags) (words last : List (List ℕ)) (year : ℤ)
-    (month : Option ℕ) → NoFlag writes_json old words → TakesFlags writes_json flags old words given last
-    → AreDateWords last year month → (given ≡ old) × AreDateWords words year month
-date_left writes_json [] old given words last year month none (same, left) dated =
-    (same, subst (λ (ws : List (List ℕ)). AreDateWords ws year month) (sym left) dated)
-date_left writes_json (flag ∷ flags) old given words last year month none (mid, left, first, more) dated =
-    absurd (none flag mid left first)
-
--- a flag that cannot be given, as without its value
-pub asks_nothing : (writes_json : Bool) (flag : Flag) (old : Flags) (words rest : List (List ℕ))
-    → words ≡ flag_word flag ∷ rest
-    → ((values left : List (List ℕ)) (new : Flags) → rest ≡ values ++ left → Adds writes_json flag values old new → ⊥)
-    → (given : Flags) (year : ℤ) (month : Option ℕ) → AskAfter writes_json old words given year month → ⊥
-asks_nothing writes_json flag old words rest first none given year month asks =
-    nothing asks.flags asks.taken
-  where
-    nothing : (flags : List Flag) → TakesFlags writes_json flags old words given asks.rest → ⊥
-    nothing [] (same, left) = flag_no_date flag words rest year month first
-        (subst (λ (ws : List (List ℕ)). AreDateWords ws year month) (sym left) asks.dated)
-    nothing (other ∷ flags) (mid, left, (values, listed, adds), more) =
-        let both : flag_word flag ∷ rest ≡ flag_word other ∷ (values ++ left) = sym first ∙ listed in
-        let word : flag_word flag ≡ flag_word other = ap (λ (ws : List (List ℕ)). get_or ws 0 []) both in
-        let tail : rest ≡ values ++ left = cc in
-        none values left mid tail (subst (λ (f : Flag). Adds writes_json f values old mid) (sym (same_flag flag other word)) adds)
-
-pub not_given : (offset : Option ℤ) → is_some offset ≡ false → offset ≡ None
-not_given None none = refl
-not_given (Some seconds) none = absurd cc
-
--- none of the flags begins the words
-pub no_flag_first : (writes_json : Bool) (old : Flags) (words : List (List ℕ))
-    → ((rest : List (List ℕ)) → IsTrue writes_json → old.raw ≡ false → words ≡ flag_word Raw ∷ rest → ⊥)
-    → ((rest : List (List ℕ)) → IsTrue writes_json → old.no_dialects ≡ false → words ≡ flag_word NoDialects ∷ rest → ⊥)
-    → ((rest : List (List ℕ)) → IsTrue writes_json → old.latin1 ≡ false → words ≡ flag_word Latin1 ∷ rest → ⊥)
-    → ((rest : List (List ℕ)) → IsTrue true → is_some old.offset ≡ false → words ≡ flag_word Offset ∷ rest → ⊥)
-    → NoFlag writes_json old words
-no_flag_first writes_json old words raw dialects latin1 offset Raw new rest (values, listed, (none, has, fresh, is)) =
-    raw (values ++ rest) has fresh listed
-no_flag_first writes_json old words raw dialects latin1 offset NoDialects new rest (values, listed, (none, has, fresh, is)) =
-    dialects (values ++ rest) has fresh listed
-no_flag_first writes_json old words raw dialects latin1 offset Latin1 new rest (values, listed, (none, has, fresh, is)) =
-    latin1 (values ++ rest) has fresh listed
-no_flag_first writes_json old words raw dialects latin1 offset Offset new rest
-    (values, listed, (value, seconds, one, named, fresh, is)) =
-    offset (values ++ rest) refl (ap is_some fresh) listed
-
--- ---- flag by flag
-
--- The words are flags up to here. What they ask for is what the rest asks for where those flags were given.
-pub record ReadSoFar (writes_json : Bool) (words : List (List ℕ)) (flags : Flags) (rest : List (List ℕ)) : Type 0 where
-  pub front : List (List ℕ)
-  pub listed : words ≡ front ++ rest
-  pub taken : (given : List Flag) (new : Flags) (left : List (List ℕ)) → TakesFlags writes_json given flags rest new left
-      → (more : List Flag) × TakesFlags writes_json more no_flags words new left
-  pub asks : (given : Flags) (year : ℤ) (month : Option ℕ) → AskForLines writes_json words given year month
-      → AskAfter writes_json flags rest given year month
-
-pub ReadSoFar-start : (writes_json : Bool) (words : List (List ℕ)) → ReadSoFar writes_json words no_flags words
-ReadSoFar-start writes_json words = record {
-  front = [];
-  listed = refl;
-  taken = λ given new left takes. (given, takes);
-  asks = λ given year month asks. asks;
+pub ReadSoFar-end : (offered : List Flag) (words : List (List ℕ)) (held : Given) (rest : List (List ℕ))
+    → ReadSoFar offered words held rest → BeginsWithNone offered held rest → SplitsWords offered words held rest
+ReadSoFar-end offered words held rest so_far none = record {
+  given = so_far.given;
+  listed = so_far.listed;
+  allowed = so_far.allowed;
+  holds = so_far.holds;
+  dated = λ flags year month all.
+      let (more, same, listed) = so_far.goes_on flags year month all in
+      date_left offered words held rest all.rest year month flags so_far none all.allowed all.dated more same listed;
 }
 
-pub ReadSoFar-more : (writes_json : Bool) (words : List (List ℕ)) (flags new : Flags) (rest left : List (List ℕ))
-    (flag : Flag) → ReadSoFar writes_json words flags rest → TakesFlag writes_json flag flags rest new left → ReadSoFar writes_json words new left
-ReadSoFar-more writes_json words flags new rest left flag so_far takes = record {
-  front = so_far.front ++ (flag_word flag ∷ takes.0);
-  listed = so_far.listed ∙ ap (λ (ws : List (List ℕ)). so_far.front ++ ws) takes.1
-      ∙ sym (append_assoc so_far.front (flag_word flag ∷ takes.0) left);
-  taken = λ given last end more. so_far.taken (flag ∷ given) last end (new, left, takes, more);
-  asks = λ given year month asks.
-      asks_after writes_json flag flags new given rest left year month takes (so_far.asks given year month asks);
-}
-
-pub ReadSoFar-end : (writes_json : Bool) (words : List (List ℕ)) (flags : Flags) (rest : List (List ℕ))
-    → ReadSoFar writes_json words flags rest → NoFlag writes_json flags rest
-    → ((given : List Flag) × TakesFlags writes_json given no_flags words flags rest)
-    × ((given : Flags) (year : ℤ) (month : Option ℕ) → AskForLines writes_json words given year month
-    → (given ≡ flags) × AreDateWords rest year month)
-ReadSoFar-end writes_json words flags rest so_far none = (
-  so_far.taken [] flags rest (refl, refl),
-  λ given year month asks.
-      let left = so_far.asks given year month asks in
-      date_left writes_json left.flags flags given rest left.rest year month none left.taken left.dated,
-)
-
-pub ReadSoFar-wrong : (writes_json : Bool) (words : List (List ℕ)) (flags : Flags) (rest : List (List ℕ)) (wrong : Wrong)
-    → ReadSoFar writes_json words flags rest → IsAmong rest wrong
-    → ((given : Flags) (year : ℤ) (month : Option ℕ) → AskAfter writes_json flags rest given year month → ⊥)
-    → IsAmong words wrong
-    × ((given : Flags) (year : ℤ) (month : Option ℕ) → AskForLines writes_json words given year month → ⊥)
-ReadSoFar-wrong writes_json words flags rest wrong so_far among none = (
-  among_later so_far.front rest words wrong so_far.listed among,
-  λ given year month asks. none given year month (so_far.asks given year month asks),
+pub ReadSoFar-wrong : (offered : List Flag) (words : List (List ℕ)) (held : Given) (rest : List (List ℕ)) (wrong : Wrong)
+    → ReadSoFar offered words held rest → IsAmong rest wrong
+    → (flag : Flag) × (after : List (List ℕ)) × (rest ≡ flag_word flag ∷ after) → BeginsWithNone offered held rest
+    → IsAmong words wrong × AreNoFlagsAndDate offered words
+ReadSoFar-wrong offered words held rest wrong so_far among (flag, after, first) none = (
+  among_later (flat_map given_words so_far.given) rest words wrong so_far.listed among,
+  λ flags year month all. flag_no_date flag rest after year month first
+      ((ReadSoFar-end offered words held rest so_far none).dated flags year month all),
 )
 
 -- the flag takes at least a word
-pub takes_a_word : (writes_json : Bool) (flag : Flag) (old new : Flags) (words rest : List (List ℕ))
-    → TakesFlag writes_json flag old words new rest → length rest < length words
-takes_a_word writes_json flag old new words rest (values, listed, adds) =
-    rw listed (omega (arith, length-append values rest))
-
--- the words after flags are the end of the words
-flags_before : (writes_json : Bool) (flags : List Flag) (old new : Flags) (words rest : List (List ℕ))
-    → TakesFlags writes_json flags old words new rest → (front : List (List ℕ)) × (words ≡ front ++ rest)
-flags_before writes_json [] old new words rest (same, left) = ([], left)
-flags_before writes_json (flag ∷ flags) old new words rest (mid, left, (values, listed, adds), more) =
-    let (front, is) = flags_before writes_json flags mid new left rest more in (
-      (flag_word flag ∷ values) ++ front,
-      listed ∙ ap (λ (ws : List (List ℕ)). (flag_word flag ∷ values) ++ ws) is
-          ∙ sym (append_assoc (flag_word flag ∷ values) front rest),
-    )
-
-pub among_flags : (writes_json : Bool) (flags : List Flag) (old new : Flags) (words rest : List (List ℕ)) (wrong : Wrong)
-    → TakesFlags writes_json flags old words new rest → IsAmong rest wrong → IsAmong words wrong
-among_flags writes_json flags old new words rest wrong takes among =
-    let (front, is) = flags_before writes_json flags old new words rest takes in
-    among_later front rest words wrong is among
+pub takes_a_word : (offered : List Flag) (held : Given) (words : List (List ℕ)) (one : GivenFlag) (rest : List (List ℕ))
+    → BeginsWith offered held words one rest → length rest < length words
+takes_a_word offered held words one rest begins =
+    rw begins.listed (omega (arith, length-append (value_words one.flag one.value) rest))
 
 -- ---- what was asked for
 
-abbrev pub HasOffset : Flags → Type 0
-HasOffset flags = (negsuc 86_339 ≤ℤ unwrap_or flags.offset (pos 0)) × (unwrap_or flags.offset (pos 0) ≤ℤ pos 86_340)
+-- a value that was given is one of the flag's
+is_valid : (given : List GivenFlag) (flag : Flag) (text : List ℕ) → IsGivenAs given flag text
+    → All (λ one. IsValue one.flag one.value) given → IsValue flag text
+is_valid given flag text (k, within, is) valued =
+    subst (λ (it : GivenFlag). IsValue it.flag it.value) is (valued k (record { flag = flag; value = text }) within)
 
-one_in_range : (writes_json : Bool) (flag : Flag) (values : List (List ℕ)) (old new : Flags)
-    → Adds writes_json flag values old new → HasOffset old → HasOffset new
-one_in_range writes_json Raw values old new (none, has, fresh, is) within = rw is within
-one_in_range writes_json NoDialects values old new (none, has, fresh, is) within = rw is within
-one_in_range writes_json Latin1 values old new (none, has, fresh, is) within = rw is within
-one_in_range writes_json Offset values old new (word, seconds, one, named, fresh, is) within =
-    rw is (signed_in_range word seconds named)
+module _ (given : List GivenFlag) (flag : Flag) where
+  pub by_flag : (held : Given) (With : List ℕ → Type 0) (Without : Type 0) → Holds held given
+      → ((value : Bor (List ℕ)) → value_at held flag ≡ Some value → IsValue flag value.now → With value.now)
+      → (value_at held flag ≡ None → Without) → ByFlag given flag With Without
+  by_flag held With Without holds is out =
+      by_value (value_at held flag) With Without (holds.each flag)
+      (λ value same at. is value same (is_valid given flag value.now at holds.valued)) out
+    where
+      by_value : (o : Option (Bor (List ℕ))) (With : List ℕ → Type 0) (Without : Type 0) → Has given flag o
+          → ((value : Bor (List ℕ)) → o ≡ Some value → IsGivenAs given flag value.now → With value.now)
+          → (o ≡ None → Without) → ByFlag given flag With Without
+      by_value (Some value) With Without at is out = inl (value.now, at, is value refl at)
+      by_value None With Without left is out = inr (left, out refl)
 
-all_in_range : (writes_json : Bool) (flags : List Flag) (old new : Flags) (words rest : List (List ℕ))
-    → TakesFlags writes_json flags old words new rest → HasOffset old → HasOffset new
-all_in_range writes_json [] old new words rest (same, left) within = rw same within
-all_in_range writes_json (flag ∷ flags) old new words rest (mid, left, (values, listed, adds), more) within =
-    all_in_range writes_json flags mid new left rest more (one_in_range writes_json flag values old mid adds within)
+  -- the same where it is asked for
+  pub by_has : (held : Given) (With : List ℕ → Type 0) (Without : Type 0) → Holds held given → (has : Bool)
+      → has ≡ is_some (value_at held flag) → (has ≡ true → (text : List ℕ) → With text) → (has ≡ false → Without)
+      → ByFlag given flag With Without
+  by_has held With Without holds has is given_so left_so = by_flag held With Without holds
+      (λ value same valid. given_so (is ∙ ap (λ (o : Option (Bor (List ℕ))). is_some o) same) value.now)
+      (λ none. left_so (is ∙ ap (λ (o : Option (Bor (List ℕ))). is_some o) none))
 
-pub offset_in_range : (writes_json : Bool) (flags : List Flag) (new : Flags) (words rest : List (List ℕ))
-    → TakesFlags writes_json flags no_flags words new rest → HasOffset new
-offset_in_range writes_json flags new words rest takes =
-    all_in_range writes_json flags no_flags new words rest takes (omega (arith, ints), omega (arith, ints))
+  pub text_given : (o answer : Option (Bor (List ℕ))) → Has given flag o → answer ≡ o
+      → ByFlag given flag (λ text. IsSomeAnd answer (λ it. it.now ≡ text)) (answer ≡ None)
+  text_given (Some value) answer held is =
+      inl (value.now, held, subst (λ (r : Option (Bor (List ℕ))). IsSomeAnd r (λ it. it.now ≡ value.now)) (sym is) refl)
+  text_given None answer held is = inr (held, is)
+
+-- a text that is held is the one that was given
+pub held_text : (o : Option (Bor (List ℕ))) (text value : Bor (List ℕ)) → Some text ≡ o → o ≡ Some value
+    → text.now ≡ value.now
+held_text o text value is same =
+    let both : text ≡ value = cc in ap (λ (t : Bor (List ℕ)). t.now) both
+
+-- what a reader of values returns for one
+pub named_value : {X : Type 0} (Names : List ℕ → X → Type 0) (r : Option X) (text value : List ℕ)
+    → MatchOption r ((x : X) → Names text x → ⊥) (λ x. Names text x) → text ≡ value → (x : X) × Names value x
+    → IsSomeAnd r (λ x. Names value x)
+named_value Names (Some x) text value read same is = subst (λ (t : List ℕ). Names t x) same read
+named_value Names None text value read same (x, is) =
+    absurd (read x (subst (λ (t : List ℕ). Names t x) (sym same) is))
+
+-- and what stays of it where another is taken if it returns none
+pub named_or : {X : Type 0} (Names : List ℕ → X → Type 0) (r : Option X) (usual : X) (value : List ℕ)
+    → IsSomeAnd r (λ x. Names value x) → Names value (unwrap_or r usual)
+named_or Names (Some x) usual value is = is
+named_or Names None usual value is = absurd is
+
+-- the zone, by the offset that was named
+pub zone_by : (given : List GivenFlag) (offset : ℤ) (zone : TimeZone)
+    → ByFlag given Offset (λ text. NamesOffset text offset) (offset ≡ pos 0) → IsZoneAt offset zone
+    → ByFlag given Offset (λ text. (seconds : ℤ) × NamesOffset text seconds × IsZoneAt seconds zone) (IsZoneAt (pos 0) zone)
+zone_by given offset zone (inl (text, at, named)) is = inl (text, at, (offset, named, is))
+zone_by given offset zone (inr (left, none)) is = inr (left, subst (λ (z : ℤ). IsZoneAt z zone) none is)
 
 -- no options, where no flags and date are
-pub no_options : (writes_json : Bool) (words : List (List ℕ))
-    → ((given : Flags) (year : ℤ) (month : Option ℕ) → AskForLines writes_json words given year month → ⊥)
-    → (options : Options) → AsksForOptions writes_json words options → ⊥
-no_options writes_json words none options (given, year, month, asks, are) = none given year month asks
+pub no_options : (offered : List Flag) (words : List (List ℕ)) → AreNoFlagsAndDate offered words → (options : Options)
+    → AsksForOptions offered words options → ⊥
+no_options offered words none options (given, year, month, are, so) = none given year month are

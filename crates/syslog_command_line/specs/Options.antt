@@ -1,81 +1,86 @@
 -- The flags before the date, and what they and the date ask for: this project's own choice.
-use Rattle.std.specs.Prelude.{◌≡◌, ℕ, ℤ, Bool, true, false, not, IsTrue, List, [], ◌∷◌, ◌++◌, Option, Some, None, pos}
-use Rattle.std.specs.Prelude.{codes}
-use Rattle.std.specs.Option.{unwrap_or}
+use Rattle.std.specs.Prelude.{◌≡◌, ◌≢◌, ◌⊎◌, ℕ, ℤ, true, false, if◌then◌else◌, List, [], ◌∷◌, ◌++◌, Option, None, pos}
+use Rattle.std.specs.Prelude.{All, AllPairs, Contains, IsSomeAnd}
+use Rattle.std.specs.List.{flat_map}
 use Rattle.jiff.specs.Words.{plain_zone}
 use Rattle.syslog_loose.specs.Reckoning.{IsZoneAt}
+use Rattle.syslog_lines.specs.declared.framing.Framing.TheVariants.{LineFeeds, Nuls, OctetCounts}
 use Rattle.syslog_command_line.specs.Arguments.{NamesOffset}
+use Rattle.syslog_command_line.specs.Flags.{IsValue, NamesSeverity, NamesSize, flag_word, rival, takes_value}
 use Rattle.syslog_command_line.specs.Words.{AreDateWords}
-use Rattle.syslog_command_line.specs.declared.options.Flags.{Flags}
+use Rattle.syslog_command_line.specs.declared.flags.Flag.{Flag}
+use Rattle.syslog_command_line.specs.declared.flags.Flag.TheVariants.{Raw, NoDialects, Latin1, Offset, Nul, OctetCounted}
+use Rattle.syslog_command_line.specs.declared.flags.Flag.TheVariants.{MaxLine, Severity, Host, App, Csv}
 use Rattle.syslog_command_line.specs.declared.options.Options.{Options}
 
--- a flag
-pub data Flag : Type 0 where
-  Raw : Flag
-  NoDialects : Flag
-  Latin1 : Flag
-  Offset : Flag
+-- a flag that was given, and its value, which is empty if it takes none
+pub record GivenFlag : Type 0 where
+  pub flag : Flag
+  pub value : List ℕ
 
--- its word
-abbrev pub flag_word : Flag → List ℕ
-flag_word Raw = codes "--raw"
-flag_word NoDialects = codes "--no-dialects"
-flag_word Latin1 = codes "--latin1"
-flag_word Offset = codes "--offset"
+-- the words of a flag's value
+abbrev pub value_words : Flag → List ℕ → List (List ℕ)
+value_words flag value = if takes_value flag then value ∷ [] else []
 
--- what is given before the first flag
-abbrev pub no_flags : Flags
-no_flags = record { raw = false; no_dialects = false; latin1 = false; offset = None }
+-- all its words
+abbrev pub given_words : GivenFlag → List (List ℕ)
+given_words one = flag_word one.flag ∷ value_words one.flag one.value
 
--- the program has the flag, it was not given before, and with the words of its value, if it takes one, this is given
-abbrev pub Adds : Bool → Flag → List (List ℕ) → Flags → Flags → Type 0
-Adds writes_json Raw values old new =
-    (values ≡ []) × IsTrue writes_json × (old.raw ≡ false) × (new ≡ record old { raw = true })
-Adds writes_json NoDialects values old new =
-    (values ≡ []) × IsTrue writes_json × (old.no_dialects ≡ false) × (new ≡ record old { no_dialects = true })
-Adds writes_json Latin1 values old new =
-    (values ≡ []) × IsTrue writes_json × (old.latin1 ≡ false) × (new ≡ record old { latin1 = true })
-Adds writes_json Offset values old new = (value : List ℕ) × (seconds : ℤ) × (values ≡ value ∷ [])
-    × NamesOffset value seconds × (old.offset ≡ None) × (new ≡ record old { offset = Some seconds })
+-- both can be given: they are two flags, and do not say otherwise
+abbrev pub GoTogether : GivenFlag → GivenFlag → Type 0
+GoTogether one other = (one.flag ≢ other.flag) × (one.flag ≢ rival other.flag)
 
--- the words begin with this flag: what is given with it, and the words after it
-abbrev pub TakesFlag : Bool → Flag → Flags → List (List ℕ) → Flags → List (List ℕ) → Type 0
-TakesFlag writes_json flag old words new rest =
-    (values : List (List ℕ)) × (words ≡ flag_word flag ∷ (values ++ rest)) × Adds writes_json flag values old new
+-- the program has each of these flags, with such a value, and they can be given together
+pub record CanBeGiven (offered : List Flag) (given : List GivenFlag) : Type 0 where
+  pub known : All (λ one. Contains offered one.flag) given
+  pub valued : All (λ one. IsValue one.flag one.value) given
+  pub together : AllPairs GoTogether given
 
--- the words begin with no flag that can be given here
-abbrev pub NoFlag : Bool → Flags → List (List ℕ) → Type 0
-NoFlag writes_json old words =
-    (flag : Flag) (new : Flags) (rest : List (List ℕ)) → ¬ (TakesFlag writes_json flag old words new rest)
-
--- the words begin with these flags, in this order
-abbrev pub TakesFlags : Bool → List Flag → Flags → List (List ℕ) → Flags → List (List ℕ) → Type 0
-TakesFlags writes_json [] old words new rest = (new ≡ old) × (words ≡ rest)
-TakesFlags writes_json (flag ∷ flags) old words new rest = (mid : Flags) × (left : List (List ℕ))
-    × TakesFlag writes_json flag old words mid left × TakesFlags writes_json flags mid left new rest
-
--- the words are flags, in any order, and a date; some flags may have been given before
-pub record AskAfter (writes_json : Bool) (old : Flags) (words : List (List ℕ)) (given : Flags) (year : ℤ) (month : Option ℕ)
-    : Type 0 where
-  pub flags : List Flag
+-- the words are these flags, in any order, and a date
+pub record AreFlagsAndDate (offered : List Flag) (words : List (List ℕ)) (given : List GivenFlag) (year : ℤ)
+    (month : Option ℕ) : Type 0 where
   pub rest : List (List ℕ)
-  pub taken : TakesFlags writes_json flags old words given rest
+  pub listed : words ≡ flat_map given_words given ++ rest
+  pub allowed : CanBeGiven offered given
   pub dated : AreDateWords rest year month
 
--- the words are flags, each at most once and in any order, and a date
-abbrev pub AskForLines : Bool → List (List ℕ) → Flags → ℤ → Option ℕ → Type 0
-AskForLines writes_json words given year month = AskAfter writes_json no_flags words given year month
+-- the flag was given, with this value
+abbrev pub IsGivenAs : List GivenFlag → Flag → List ℕ → Type 0
+IsGivenAs given flag value = Contains given (record { flag = flag; value = value })
+
+-- the flag was not given
+abbrev pub IsLeftOut : List GivenFlag → Flag → Type 0
+IsLeftOut given flag = All (λ one. one.flag ≢ flag) given
+
+-- where the flag was given, what holds of its value; where it was left out, what holds
+abbrev pub ByFlag : List GivenFlag → Flag → (List ℕ → Type 0) → Type 0 → Type 0
+ByFlag given flag With Without =
+    ((value : List ℕ) × IsGivenAs given flag value × With value) ⊎ (IsLeftOut given flag × Without)
+
+-- the bytes of the longest line, if no flag says otherwise: 64 MiB
+abbrev pub usual_max_line : ℕ
+usual_max_line = 67_108_864
 
 -- the options are what the flags and the date say; without an offset dates are taken in UTC
-pub record AreOptions (given : Flags) (named_year : ℤ) (named_month : Option ℕ) (options : Options) : Type 0 where
-  pub raw : options.raw ≡ given.raw
-  pub dialects : options.dialects ≡ not given.no_dialects
-  pub latin1 : options.latin1 ≡ given.latin1
+pub record AreOptions (given : List GivenFlag) (named_year : ℤ) (named_month : Option ℕ) (options : Options) : Type 0 where
+  pub raw : ByFlag given Raw (λ _. options.raw ≡ true) (options.raw ≡ false)
+  pub dialects : ByFlag given NoDialects (λ _. options.dialects ≡ false) (options.dialects ≡ true)
+  pub latin1 : ByFlag given Latin1 (λ _. options.latin1 ≡ true) (options.latin1 ≡ false)
+  pub csv : ByFlag given Csv (λ _. options.csv ≡ true) (options.csv ≡ false)
+  pub framing : ByFlag given Nul (λ _. options.framing ≡ Nuls)
+      (ByFlag given OctetCounted (λ _. options.framing ≡ OctetCounts) (options.framing ≡ LineFeeds))
+  pub max_line : ByFlag given MaxLine (λ text. NamesSize text options.max_line) (options.max_line ≡ usual_max_line)
+  pub severity : ByFlag given Severity
+      (λ text. IsSomeAnd options.severity (λ severity. NamesSeverity text severity)) (options.severity ≡ None)
+  pub host : ByFlag given Host (λ text. IsSomeAnd options.host (λ host. host.now ≡ text)) (options.host ≡ None)
+  pub app : ByFlag given App (λ text. IsSomeAnd options.app (λ app. app.now ≡ text)) (options.app ≡ None)
   pub year : options.dates.year ≡ named_year
   pub month : options.dates.month ≡ named_month
-  pub zone : IsZoneAt (unwrap_or given.offset (pos 0)) (plain_zone options.dates.zone)
+  pub zone : ByFlag given Offset
+      (λ text. (seconds : ℤ) × NamesOffset text seconds × IsZoneAt seconds (plain_zone options.dates.zone))
+      (IsZoneAt (pos 0) (plain_zone options.dates.zone))
 
 -- the words ask for these options
-abbrev pub AsksForOptions : Bool → List (List ℕ) → Options → Type 0
-AsksForOptions writes_json words options = (given : Flags) × (year : ℤ) × (month : Option ℕ)
-    × AskForLines writes_json words given year month × AreOptions given year month options
+abbrev pub AsksForOptions : List Flag → List (List ℕ) → Options → Type 0
+AsksForOptions offered words options = (given : List GivenFlag) × (year : ℤ) × (month : Option ℕ)
+    × AreFlagsAndDate offered words given year month × AreOptions given year month options

@@ -8,11 +8,20 @@
 
 mod args;
 mod dates;
+mod flags;
+mod given;
 mod options;
+mod refusals;
 pub mod report;
+mod tasks;
+mod values;
 mod words;
 
 pub use args::{is_alone, read_year, read_year_words};
 pub use dates::{read_date, read_offset};
-pub use options::Options;
-pub use words::{Task, Wrong, program_words, read_task, refuse_words};
+pub use flags::Flag;
+pub use options::{MAX_LINE, Options};
+pub use refusals::refuse_words;
+pub use tasks::{Task, read_task};
+pub use values::{read_severity, read_size};
+pub use words::{Wrong, program_words};

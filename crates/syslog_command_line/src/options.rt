@@ -1,157 +1,186 @@
 //! The flags before the date, and what they and the date ask for.
-ghost use Rattle.std.specs.Prelude.{◌≡◌, ◌∷◌, IsTrue, List, MatchOption, MatchResult, Option, false, ℕ, ℤ};
+ghost use Rattle.std.specs.Prelude.{◌≡◌, ◌∷◌, ◌++◌, ◌≤ℤ◌, IsSomeAnd, List, MatchOption, MatchResult, None, negsuc, pos, ℕ};
 ghost use Rattle.syslog_command_line.specs.Arguments.{NamesOffset};
-ghost use Rattle.syslog_command_line.specs.Options.{AsksForOptions, AskAfter, AskForLines, NoFlag, TakesFlag};
-ghost use Rattle.syslog_command_line.specs.Options.{Flag, TakesFlags, no_flags};
-ghost use Rattle.syslog_command_line.specs.Words.{AreDateWords, IsAmong, texts};
-ghost use Rattle.syslog_command_line.specs.declared.options.Flags.{Flags};
+ghost use Rattle.syslog_command_line.specs.Flags.{IsValue, NamesSeverity, NamesSize, flag_word};
+ghost use Rattle.syslog_command_line.specs.Given.{AreNoFlagsAndDate, BeginsWith, BeginsWithNone, Holds, SplitsWords};
+ghost use Rattle.syslog_command_line.specs.Options.{AsksForOptions, ByFlag, GivenFlag, usual_max_line, value_words};
+ghost use Rattle.syslog_command_line.specs.Words.{IsAmong, texts};
+ghost use Rattle.syslog_command_line.specs.declared.flags.Flag.{Flag};
 ghost use Rattle.syslog_command_line.specs.declared.options.Options.{Options};
+ghost use Rattle.syslog_lines.specs.declared.framing.Framing.TheVariants.{LineFeeds, Nuls, OctetCounts};
 
 use crate::dates::read_offset;
-use crate::words::{Wrong, after_word, read_date_words};
-use syslog_loose::Dates;
+use crate::flags::{Flag, find_flag};
+use crate::given::Given;
+use crate::values::{read_severity, read_size};
+use crate::words::{Wrong, read_date_words};
+use syslog_lines::Framing;
+use syslog_loose::{Dates, SyslogSeverity};
 
-/// How lines are read, and what is written of them.
+/// The bytes of the longest line that is read, if `--max-line` is left out.
+pub const MAX_LINE: usize = 67_108_864;
+
+/// How lines are read, and what is written of them. Texts point into the words.
 #[derive(Drop)]
-pub struct Options {
+pub struct Options<'a> {
     /// Whether each line is written as it came, too.
     pub raw: bool,
     /// Whether a line is read in a dialect that it is in.
     pub dialects: bool,
     /// Whether a line that is not UTF-8 is read as ISO 8859-1.
     pub latin1: bool,
+    /// Whether messages are written as CSV.
+    pub csv: bool,
+    /// What ends a line of the input.
+    pub framing: Framing,
+    /// The bytes of the longest line that is read.
+    pub max_line: usize,
+    /// The least severe messages that are written; all, if this is absent.
+    pub severity: Option<SyslogSeverity>,
+    /// The host whose messages are written; all, if this is absent.
+    pub host: Option<&'a str>,
+    /// The application whose messages are written; all, if this is absent.
+    pub app: Option<&'a str>,
     /// How dates that show no year or no zone are taken.
     pub dates: Dates,
 }
 
-/// The flags that were given.
-#[derive(Clone, Copy)]
-struct Flags {
-    raw: bool,
-    no_dialects: bool,
-    latin1: bool,
-    offset: Option<i32>,
-}
-
-/// Returns what the words ask for: flags, each at most once and in any order, and a date.
-pub(crate) fn read_options(words: &[String], writes_json: bool) -> Result<Options, Wrong<'_>>
-    ensures { MatchResult result (λ options. AsksForOptions writes_json (texts words.now) options)
+/// Returns what the words ask for: flags of those offered, each at most once and in any order, and a date.
+pub(crate) fn read_options<'a>(
+    words: &'a [String],
+    offered: &[Flag],
+) -> Result<Options<'a>, Wrong<'a>>
+    ensures { MatchResult result (λ options. AsksForOptions offered.now (texts words.now) options)
         (λ wrong. IsAmong (texts words.now) wrong
-        × ((options : Options) → ¬ (AsksForOptions writes_json (texts words.now) options))) }
+        × ((options : Options) → ¬ (AsksForOptions offered.now (texts words.now) options))) }
 {
-    let (flags, rest) = read_flags(words, writes_json)?;
+    let (given, rest) = read_flags(words, offered)?;
     let (year, month) = read_date_words(rest)?;
     Ok(Options {
-        raw: flags.raw,
-        dialects: !flags.no_dialects,
-        latin1: flags.latin1,
-        dates: Dates::new(year, month, flags.offset.unwrap_or(0)),
+        raw: given.has(Flag::Raw),
+        dialects: !given.has(Flag::NoDialects),
+        latin1: given.has(Flag::Latin1),
+        csv: given.has(Flag::Csv),
+        framing: framing_of(&given),
+        max_line: max_line_of(&given),
+        severity: severity_of(&given),
+        host: given.value(Flag::Host),
+        app: given.value(Flag::App),
+        dates: Dates::new(year, month, offset_of(&given)),
     })
 }
 
-// The flags before the date, and the words after them.
-fn read_flags(words: &[String], writes_json: bool) -> Result<(Flags, &[String]), Wrong<'_>>
-    ensures { MatchResult result
-        (λ found. ((given : List Flag)
-        × TakesFlags writes_json given no_flags (texts words.now) found.0 (texts found.1.now))
-        × ((flags : Flags) (year : ℤ) (month : Option ℕ) → AskForLines writes_json (texts words.now) flags year month
-        → (flags ≡ found.0) × AreDateWords (texts found.1.now) year month))
-        (λ wrong. IsAmong (texts words.now) wrong
-        × ((flags : Flags) (year : ℤ) (month : Option ℕ)
-        → ¬ (AskForLines writes_json (texts words.now) flags year month))) }
+// What ends a line.
+fn framing_of(given: &Given<'_>) -> Framing
+    ensures { (flags : List GivenFlag) → Holds given.now flags
+        → ByFlag flags Flag.Nul (λ _. result ≡ Nuls)
+        (ByFlag flags Flag.OctetCounted (λ _. result ≡ OctetCounts) (result ≡ LineFeeds)) }
 {
-    let mut flags = Flags {
-        raw: false,
-        no_dialects: false,
-        latin1: false,
-        offset: None,
-    };
+    if given.has(Flag::Nul) {
+        return Framing::Nuls;
+    }
+    if given.has(Flag::OctetCounted) {
+        return Framing::OctetCounts;
+    }
+    Framing::LineFeeds
+}
+
+// The bytes of the longest line.
+fn max_line_of(given: &Given<'_>) -> usize
+    ensures { (flags : List GivenFlag) → Holds given.now flags
+        → ByFlag flags Flag.MaxLine (λ text. NamesSize text result) (result ≡ usual_max_line) }
+{
+    match given.value(Flag::MaxLine) {
+        Some(text) => read_size(text).unwrap_or(MAX_LINE),
+        None => MAX_LINE,
+    }
+}
+
+// The least severe messages.
+fn severity_of(given: &Given<'_>) -> Option<SyslogSeverity>
+    ensures { (flags : List GivenFlag) → Holds given.now flags
+        → ByFlag flags Flag.Severity (λ text. IsSomeAnd result (λ severity. NamesSeverity text severity))
+        (result ≡ None) }
+{
+    match given.value(Flag::Severity) {
+        Some(text) => read_severity(text),
+        None => None,
+    }
+}
+
+// The zone, in seconds ahead of UTC.
+fn offset_of(given: &Given<'_>) -> i32
+    ensures value { (flags : List GivenFlag) → Holds given.now flags
+        → ByFlag flags Flag.Offset (λ text. NamesOffset text result) (result ≡ pos 0) }
+    ensures range { (negsuc 86_399 ≤ℤ result) × (result ≤ℤ pos 86_399) }
+{
+    match given.value(Flag::Offset) {
+        Some(text) => read_offset(text).unwrap_or(0),
+        None => 0,
+    }
+}
+
+// The flags before the date, and the words after them.
+fn read_flags<'a>(
+    words: &'a [String],
+    offered: &[Flag],
+) -> Result<(Given<'a>, &'a [String]), Wrong<'a>>
+    ensures { MatchResult result (λ found. SplitsWords offered.now (texts words.now) found.0 (texts found.1.now))
+        (λ wrong. IsAmong (texts words.now) wrong × AreNoFlagsAndDate offered.now (texts words.now)) }
+{
+    let mut given = Given::new();
     let mut rest = words;
-    'flags: while let Some((more, after)) = read_flag(rest, flags, writes_json)? {
-        flags = more;
+    'flags: while let Some((flag, value, after)) = read_flag(rest, offered, &given)? {
+        given.add(flag, value);
         rest = after;
     }
-    Ok((flags, rest))
+    Ok((given, rest))
 }
 
-// What is given with the flag that begins the words, and the words after it. None where they begin with no flag, or
-// with one that was given before.
-fn read_flag(
-    words: &[String],
-    flags: Flags,
-    writes_json: bool,
-) -> Result<Option<(Flags, &[String])>, Wrong<'_>>
+// The flag that begins the words, if it is offered and can be given beside those before it, with its value, and the
+// words after it.
+fn read_flag<'a>(
+    words: &'a [String],
+    offered: &[Flag],
+    given: &Given<'_>,
+) -> Result<Option<(Flag, &'a str, &'a [String])>, Wrong<'a>>
     ensures { MatchResult result
-        (λ found. MatchOption found (NoFlag writes_json flags (texts words.now))
-        (λ it. (flag : Flag) × TakesFlag writes_json flag flags (texts words.now) it.0 (texts it.1.now)))
+        (λ found. MatchOption found (BeginsWithNone offered.now given.now (texts words.now))
+        (λ it. BeginsWith offered.now given.now (texts words.now)
+        (record { flag = it.0; value = it.1.now }) (texts it.2.now)))
         (λ wrong. IsAmong (texts words.now) wrong
-        × ((given : Flags) (year : ℤ) (month : Option ℕ)
-        → ¬ (AskAfter writes_json flags (texts words.now) given year month))) }
+        × ((flag : Flag) × (rest : List (List ℕ)) × (texts words.now ≡ flag_word flag ∷ rest))
+        × BeginsWithNone offered.now given.now (texts words.now)) }
 {
-    if let Some(rest) = after_flag(words, "--raw", writes_json, flags.raw) {
-        return Ok(Some((Flags { raw: true, ..flags }, rest)));
-    }
-    if let Some(rest) = after_flag(words, "--no-dialects", writes_json, flags.no_dialects) {
-        return Ok(Some((
-            Flags {
-                no_dialects: true,
-                ..flags
-            },
-            rest,
-        )));
-    }
-    if let Some(rest) = after_flag(words, "--latin1", writes_json, flags.latin1) {
-        return Ok(Some((
-            Flags {
-                latin1: true,
-                ..flags
-            },
-            rest,
-        )));
-    }
-    let Some(rest) = after_flag(words, "--offset", true, flags.offset.is_some()) else {
+    let Some((word, rest)) = words.split_first() else {
         return Ok(None);
     };
-    let (offset, rest) = read_zone(rest)?;
-    Ok(Some((
-        Flags {
-            offset: Some(offset),
-            ..flags
-        },
-        rest,
-    )))
-}
-
-// The words after the first, where that is this flag, the program has it, and it was not given before.
-fn after_flag<'a>(
-    words: &'a [String],
-    flag: &str,
-    is_offered: bool,
-    is_given: bool,
-) -> Option<&'a [String]>
-    ensures { MatchOption result
-        ((rest : List (List ℕ)) → IsTrue is_offered → is_given ≡ false → ¬ (texts words.now ≡ flag.now ∷ rest))
-        (λ rest. IsTrue is_offered × (is_given ≡ false) × (texts words.now ≡ flag.now ∷ texts rest.now)) }
-{
-    if is_given || !is_offered {
-        return None;
+    let Some(flag) = find_flag(offered, word.as_str()) else {
+        return Ok(None);
+    };
+    if !given.allows(flag) {
+        return Ok(None);
     }
-    after_word(words, flag)
+    let (value, rest) = read_value(flag, rest)?;
+    Ok(Some((flag, value, rest)))
 }
 
-// The offset that the first word names, and the words after it.
-fn read_zone(words: &[String]) -> Result<(i32, &[String]), Wrong<'_>>
+// The value of a flag, which is the first word if it takes one, and the words after it.
+fn read_value(flag: Flag, words: &[String]) -> Result<(&str, &[String]), Wrong<'_>>
     ensures { MatchResult result
-        (λ found. (word : List ℕ) × (texts words.now ≡ word ∷ texts found.1.now) × NamesOffset word found.0)
-        (λ wrong. IsAmong (texts words.now) wrong
-        × ((word : List ℕ) (rest : List (List ℕ)) (seconds : ℤ) → texts words.now ≡ word ∷ rest
-        → ¬ (NamesOffset word seconds))) }
+        (λ found. IsValue flag found.0.now × (texts words.now ≡ value_words flag found.0.now ++ texts found.1.now))
+        (λ wrong. IsAmong (texts words.now) wrong × ((value : List ℕ) (rest : List (List ℕ)) → IsValue flag value
+        → ¬ (texts words.now ≡ value_words flag value ++ rest))) }
 {
+    if !flag.takes_value() {
+        return Ok(("", words));
+    }
     let Some((word, rest)) = words.split_first() else {
         return Err(Wrong::Missing);
     };
-    match read_offset(word.as_str()) {
-        Some(offset) => Ok((offset, rest)),
-        None => Err(Wrong::Word(word.as_str())),
+    let value = word.as_str();
+    if !flag.is_value(value) {
+        return Err(Wrong::Word(value));
     }
+    Ok((value, rest))
 }

@@ -16,8 +16,9 @@ use Rattle.syslog_dialects.specs.declared.visit.SentLine.{SentLine}
 use Rattle.json.specs.Json.{Json}
 use Rattle.serde_json.specs.Data.{Data}
 use Rattle.serde_json.specs.Read.{of_json, read}
-use Rattle.syslog_lines.specs.Output.{Answer, AreCounts, Filter, Written, Marked, Omitted}
+use Rattle.syslog_lines.specs.Output.{Answer, AreCounts, Filter, Written, Marked, Omitted, Unasked}
 use Rattle.syslog_lines.specs.Pump.{FiltersAll}
+use Rattle.syslog_lines.specs.declared.framing.Frames.{Frames}
 use Rattle.syslog_lines.specs.declared.summary.LineCounts.{LineCounts}
 use Rattle.syslog_object.specs.Object.{beside_line, message_json, refused_json}
 use Rattle.syslog_object.specs.Written.{IsTextOf}
@@ -63,6 +64,7 @@ IsObject filter is_marked line (Written bytes) = (value : Json) × IsOnly (IsRea
 IsObject filter is_marked line (Marked bytes) = (value : Json) × IsOnly (IsRefusedJson filter line) value
     × IsReadAs (marked_if is_marked value) bytes
 IsObject filter is_marked line Omitted = ⊥
+IsObject filter is_marked line Unasked = ⊥
 
 -- The answer to a line. One that is not UTF-8 is taken for a text, and its object is marked, unless each of its bytes
 -- is a character of ISO 8859-1.
@@ -75,11 +77,11 @@ abbrev pub objects : Objects → Filter
 objects filter = record { Answers = IsLineObject filter; Wants = λ line. ⊤ }
 
 -- all was read, the text of each line's value was written, and the lines were counted
-abbrev pub WritesObjects : Objects → Option (List ℕ) → Option (List ℕ) → Option (List ℕ) → Option (List ℕ)
+abbrev pub WritesObjects : Frames → Objects → Option (List ℕ) → Option (List ℕ) → Option (List ℕ) → Option (List ℕ)
     → LineCounts → Type 0
-WritesObjects filter in_before in_after out_before out_after counts = (answers : List Answer)
-    × (all : FiltersAll (objects filter) in_before in_after out_before out_after answers)
-    × AreCounts filter.latin1 all.lines answers counts
+WritesObjects frames filter in_before in_after out_before out_after counts = (answers : List Answer)
+    × (all : FiltersAll frames (objects filter) in_before in_after out_before out_after answers)
+    × AreCounts frames filter.latin1 all.lines answers counts
 
 -- the line as which the text is read was returned, the writer was given its elements, and the line leaves what the text
 -- does; or the text is no message

@@ -14,13 +14,14 @@ use std::io::{Read, Write};
 use std::mem;
 use syslog_dialects::{SentLine, sent_line, unread_line};
 use syslog_lines::pump::pump;
-use syslog_lines::{LineCounts, LineFilter, RunFault, Watched};
+use syslog_lines::{Frames, LineCounts, LineFilter, RunFault, Watched};
 use syslog_loose::{Dates, IncompleteDate, Itself, Variant, visit_line};
 use syslog_object::{ObjectWriter, refused_object};
 use syslog_utf8::decode;
 
 /// Reads lines to the end of the input, and writes each as one JSON object on one line: that of its message, read by
-/// the dates and in its dialect, or one that has the line and `"refused":true`. No line is lost, and no object has a byte below 32.
+/// the dates and in its dialect, or one that has the line and `"refused":true`. A line that is longer than `frames`
+/// allows is counted alone. No object has a byte below 32.
 ///
 /// The output of each block of input is written before more is read, and the writer is flushed at the end. Nothing is
 /// tried again. After `RunFault::Read` the output of each complete line that was read was written. After
@@ -30,21 +31,22 @@ use syslog_utf8::decode;
 /// longest line and its object.
 pub fn write_objects<R: Read, W: Write>(
     alloc: Global,
+    frames: Frames,
     reader: &mut Watched<R>,
     writer: &mut Watched<W>,
     filter: Objects,
 ) -> Result<LineCounts, RunFault>
     requires reader { reader.old.failed ≡ false }
     requires writer { writer.old.failed ≡ false }
-    ensures ok { IfOk result (λ counts. WritesObjects filter (R.remaining reader.old.inner)
+    ensures ok { IfOk result (λ counts. WritesObjects frames filter (R.remaining reader.old.inner)
         (R.remaining reader.new.inner)
         (W.contents writer.old.inner) (W.contents writer.new.inner) counts) }
-    ensures err { IfErr result (λ fault. EndsEarly (objects filter) (R.remaining reader.old.inner)
+    ensures err { IfErr result (λ fault. EndsEarly frames (objects filter) (R.remaining reader.old.inner)
         (R.remaining reader.new.inner)
         (W.contents writer.old.inner) (W.contents writer.new.inner) fault) }
     ensures failed { FailedAs result reader.new.failed writer.new.failed }
 {
-    let tally = pump(alloc, &filter, reader, writer)?;
+    let tally = pump(alloc, frames, &filter, reader, writer)?;
     Ok(tally.counts(filter.latin1))
 }
 

@@ -14,20 +14,31 @@ use filter::{Objects, write_objects};
 use report::{HELP, USAGE};
 use std::process::ExitCode;
 use syslog_command_line::report::{report_lines, say, say_version};
-use syslog_command_line::{Options, Task, Wrong, program_words, read_task, refuse_words};
-use syslog_lines::Watched;
+use syslog_command_line::{Flag, Options, Task, Wrong, program_words, read_task, refuse_words};
+use syslog_lines::{Frames, Watched};
 use syslog_loose::VERSION;
 
+// The flags of this program.
+const FLAGS: [Flag; 7] = [
+    Flag::Raw,
+    Flag::NoDialects,
+    Flag::Latin1,
+    Flag::Offset,
+    Flag::Nul,
+    Flag::OctetCounted,
+    Flag::MaxLine,
+];
+
 // Writes the lines of standard input as JSON, and then returns the exit status.
-fn filter_input(rt: &HostRuntime, filter: Objects) -> u8 {
+fn filter_input(rt: &HostRuntime, frames: Frames, filter: Objects) -> u8 {
     let mut reader = Watched::new(rt.stdin());
     let mut writer = Watched::new(rt.stdout());
-    let outcome = write_objects(rt.alloc(), &mut reader, &mut writer, filter);
-    report_lines("syslog_json", &outcome, &mut rt.stderr())
+    let outcome = write_objects(rt.alloc(), frames, &mut reader, &mut writer, filter);
+    report_lines("syslog_json", &outcome, &mut Watched::new(rt.stderr()))
 }
 
 // The filter that was asked for.
-fn objects_of(options: Options) -> Objects {
+fn objects_of(options: Options<'_>) -> Objects {
     Objects {
         raw: options.raw,
         dialects: options.dialects,
@@ -37,20 +48,23 @@ fn objects_of(options: Options) -> Objects {
 }
 
 // Does what is asked for, and then returns the exit status.
-fn run_task(rt: &HostRuntime, task: Result<Task, Wrong<'_>>) -> u8 {
+fn run_task(rt: &HostRuntime, task: Result<Task<'_>, Wrong<'_>>) -> u8 {
     let mut out = Watched::new(rt.stdout());
-    let mut errors = rt.stderr();
+    let mut errors = Watched::new(rt.stderr());
     match task {
         Ok(Task::Help) => say(HELP, &mut out, &mut errors),
         Ok(Task::Version) => say_version("syslog_json", VERSION, &mut out, &mut errors),
-        Ok(Task::Lines(options)) => filter_input(rt, objects_of(options)),
+        Ok(Task::Lines(options)) => {
+            let frames = Frames::messages(options.framing, options.max_line);
+            filter_input(rt, frames, objects_of(options))
+        }
         Err(wrong) => refuse_words(rt, USAGE, wrong, &mut errors),
     }
 }
 
 fn main(rt: HostRuntime) -> ExitCode {
     let status = match program_words(&rt) {
-        Ok(words) => run_task(&rt, read_task(&words, true)),
+        Ok(words) => run_task(&rt, read_task(&words, &FLAGS)),
         Err(wrong) => run_task(&rt, Err(wrong)),
     };
     ExitCode::from(status)

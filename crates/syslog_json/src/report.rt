@@ -25,6 +25,9 @@ Options, in any order, each at most once:
                    \"invalid_utf8\"
   --no-dialects    reads no line in the form of a sender that follows neither
                    RFC 5424 nor RFC 3164
+  --nul            frames end in NUL, and not in a line feed
+  --octet-counted  frames have octet counts (RFC 6587), or end in a line feed
+  --max-line BYTES a longer line is refused, 67108864 where this is left out
   --               may come before YEAR
   -h, --help       this text
   --version        the name and the version of this program

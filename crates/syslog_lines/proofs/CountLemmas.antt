@@ -7,21 +7,28 @@ use Rattle.std.proofs.lemmas.Bool.{cases_Bool}
 use Rattle.std.{proofs.lemmas.List.Sums.sum_by-append, proofs.lemmas.Slice.Zip.AllZip-long, specs.Prelude.not}
 use Rattle.std.proofs.lemmas.Str.{is_utf8-from_IsUtf8, IsUtf8-from_is_utf8}
 use Rattle.std.specs.{List.AllZip, Prelude.IsUtf8, Prelude.if◌then◌else◌, Str.is_utf8}
-use Rattle.syslog_lines.specs.Output.{Answer, AreAnswers, AreCounts, Counts, Grows, invalid_answers}
+use Rattle.syslog_lines.specs.Frames.{is_too_long, line_of}
+use Rattle.syslog_lines.specs.Output.{Answer, AreAnswers, AreCounts, Counts, Grows, Omitted, invalid_answers, is_invalid}
+use Rattle.syslog_lines.specs.Place.{CountsLong}
+use Rattle.syslog_lines.specs.declared.framing.Frames.{Frames}
 use Rattle.syslog_lines.specs.declared.summary.LineCounts.{LineCounts}
 
-count-append : (keep : Answer → Bool) (xs ys : List Answer)
+count-append : {X : Type 0} (keep : X → Bool) (xs ys : List X)
     → count_by keep (xs ++ ys) ≡ count_by keep xs + count_by keep ys
-count-append keep xs ys = sum_by-append (λ (answer : Answer). cond (keep answer) 1 0) xs ys
+count-append {X = X} keep xs ys = sum_by-append (λ (x : X). cond (keep x) 1 0) xs ys
 
-Grows-none : (keep : Answer → Bool) (count : ℕ) → Grows keep [] count count
+Grows-none : {X : Type 0} (keep : X → Bool) (count : ℕ) → Grows keep [] count count
 Grows-none keep count = λ n before. omega (arith, before)
 
-Grows-one : (keep : Answer → Bool) (answer : Answer) (was is : ℕ) → is ≡ held_count (was + cond (keep answer) 1 0)
+-- one that doesn't pass the test
+Grows-other : {X : Type 0} (keep : X → Bool) (x : X) (count : ℕ) → keep x ≡ false → Grows keep (x ∷ []) count count
+Grows-other keep x count other = λ n before. rw other (omega (arith, before))
+
+Grows-one : {X : Type 0} (keep : X → Bool) (answer : X) (was is : ℕ) → is ≡ held_count (was + cond (keep answer) 1 0)
     → Grows keep (answer ∷ []) was is
 Grows-one keep answer was is more = λ n before. omega (arith, more, before)
 
-Grows-append : (keep : Answer → Bool) (first second : List Answer) (was mid is : ℕ) → Grows keep first was mid
+Grows-append : {X : Type 0} (keep : X → Bool) (first second : List X) (was mid is : ℕ) → Grows keep first was mid
     → Grows keep second mid is → Grows keep (first ++ second) was is
 Grows-append keep first second was mid is grown more = λ n before.
     omega (arith, more (n + count_by keep first) (grown n before), count-append keep first second)
@@ -34,34 +41,49 @@ not_utf8 line invalid = elim (cases_Bool (is_utf8 line)) [
   | inr other ↦ other
 ]
 
-invalid-append : (R : List ℕ → Answer → Type 0) (lines more : List (List ℕ)) (first second : List Answer)
-    → AllZip R lines first
-    → invalid_answers (lines ++ more) (first ++ second) ≡ invalid_answers lines first ++ invalid_answers more second
-invalid-append R [] more [] second each = refl
-invalid-append R (line ∷ lines) more (answer ∷ first) second each =
-    let rest = invalid-append R lines more first second each.1 in
-    elim (cases_Bool (is_utf8 line)) [
-      | inl valid ↦ rw valid rest
-      | inr invalid ↦ rw invalid (ap (λ (l : List Answer). answer ∷ l) rest)
+valid_is : (frames : Frames) (message : List ℕ) → is_too_long frames message ≡ false
+    → IsUtf8 (line_of frames.strips message) → is_invalid frames message ≡ false
+valid_is frames message short valid =
+    rw (short, is_utf8-from_IsUtf8 (line_of frames.strips message) valid) refl
+
+invalid_is : (frames : Frames) (message : List ℕ) → is_too_long frames message ≡ false
+    → ¬ (IsUtf8 (line_of frames.strips message)) → is_invalid frames message ≡ true
+invalid_is frames message short invalid = rw (short, not_utf8 (line_of frames.strips message) invalid) refl
+
+long_is : (frames : Frames) (message : List ℕ) → is_too_long frames message ≡ true → is_invalid frames message ≡ false
+long_is frames message long = rw long refl
+
+invalid-append : (frames : Frames) (R : List ℕ → Answer → Type 0) (lines more : List (List ℕ))
+    (first second : List Answer) → AllZip R lines first
+    → invalid_answers frames (lines ++ more) (first ++ second)
+    ≡ invalid_answers frames lines first ++ invalid_answers frames more second
+invalid-append frames R [] more [] second each = refl
+invalid-append frames R (line ∷ lines) more (answer ∷ first) second each =
+    let rest = invalid-append frames R lines more first second each.1 in
+    elim (cases_Bool (is_invalid frames line)) [
+      | inl invalid ↦ rw invalid (ap (λ (l : List Answer). answer ∷ l) rest)
+      | inr valid ↦ rw valid rest
     ]
-invalid-append R lines more first second each = absurd each
+invalid-append frames R lines more first second each = absurd each
 
-pub invalid_one : (line : List ℕ) (answer : Answer) → ¬ (IsUtf8 line)
-    → invalid_answers (line ∷ []) (answer ∷ []) ≡ answer ∷ []
-invalid_one line answer invalid = rw (not_utf8 line invalid) refl
+invalid_one : (frames : Frames) (line : List ℕ) (answer : Answer) → is_invalid frames line ≡ true
+    → invalid_answers frames (line ∷ []) (answer ∷ []) ≡ answer ∷ []
+invalid_one frames line answer invalid = rw invalid refl
 
-pub invalid_none : (line : List ℕ) (answer : Answer) → IsUtf8 line → invalid_answers (line ∷ []) (answer ∷ []) ≡ []
-invalid_none line answer valid = rw (is_utf8-from_IsUtf8 line valid) refl
+invalid_none : (frames : Frames) (line : List ℕ) (answer : Answer) → is_invalid frames line ≡ false
+    → invalid_answers frames (line ∷ []) (answer ∷ []) ≡ []
+invalid_none frames line answer valid = rw valid refl
 
 -- ---- all counts
 
 -- nothing was counted
-pub Counts-none : (tally : Tally) → Counts tally tally [] []
-Counts-none tally = record {
+pub Counts-none : (frames : Frames) (tally : Tally) → Counts frames tally tally [] []
+Counts-none frames tally = record {
   answered = Grows-none is_answered tally.answered;
   skipped = Grows-none is_skipped tally.skipped;
   answered_invalid = Grows-none is_answered tally.answered_invalid;
   skipped_invalid = Grows-none is_skipped tally.skipped_invalid;
+  too_long = Grows-none (is_too_long frames) tally.too_long;
 }
 
 skipped_one : (was is : ℕ) (answer : Answer) (answered : Bool) → answered ≡ is_answered answer
@@ -70,55 +92,85 @@ skipped_one was is answer true same less = rw (← same) less
 skipped_one was is answer false same less = rw (← same) less
 
 -- One line more was counted, by what it gave.
-module _ (was is : Tally) (line : List ℕ) (answer : Answer) (answered : Bool) (same : answered ≡ is_answered answer)
+module _ (frames : Frames) (was is : Tally) (line : List ℕ) (short : is_too_long frames line ≡ false) (answer : Answer)
+    (answered : Bool) (same : answered ≡ is_answered answer)
     (more : is.answered ≡ held_count (was.answered + cond answered 1 0))
-    (less : is.skipped ≡ held_count (was.skipped + cond answered 0 1)) where
-  pub Counts-valid : IsUtf8 line → is.answered_invalid ≡ was.answered_invalid → is.skipped_invalid ≡ was.skipped_invalid
-      → Counts was is (line ∷ []) (answer ∷ [])
+    (less : is.skipped ≡ held_count (was.skipped + cond answered 0 1)) (kept_long : is.too_long ≡ was.too_long) where
+  pub Counts-valid : IsUtf8 (line_of frames.strips line) → is.answered_invalid ≡ was.answered_invalid
+      → is.skipped_invalid ≡ was.skipped_invalid → Counts frames was is (line ∷ []) (answer ∷ [])
   Counts-valid valid kept left = record {
     answered = Grows-one is_answered answer was.answered is.answered (rw (← same) more);
     skipped = Grows-one is_skipped answer was.skipped is.skipped
         (skipped_one was.skipped is.skipped answer answered same less);
-    answered_invalid = rw (invalid_none line answer valid, kept) (Grows-none is_answered was.answered_invalid);
-    skipped_invalid = rw (invalid_none line answer valid, left) (Grows-none is_skipped was.skipped_invalid);
+    answered_invalid = rw (invalid_none frames line answer (valid_is frames line short valid), kept)
+        (Grows-none is_answered was.answered_invalid);
+    skipped_invalid = rw (invalid_none frames line answer (valid_is frames line short valid), left)
+        (Grows-none is_skipped was.skipped_invalid);
+    too_long = rw kept_long (Grows-other (is_too_long frames) line was.too_long short);
   }
 
-  pub Counts-invalid : ¬ (IsUtf8 line) → is.answered_invalid ≡ held_count (was.answered_invalid + cond answered 1 0)
+  pub Counts-invalid : ¬ (IsUtf8 (line_of frames.strips line))
+      → is.answered_invalid ≡ held_count (was.answered_invalid + cond answered 1 0)
       → is.skipped_invalid ≡ held_count (was.skipped_invalid + cond answered 0 1)
-      → Counts was is (line ∷ []) (answer ∷ [])
+      → Counts frames was is (line ∷ []) (answer ∷ [])
   Counts-invalid invalid first second = record {
     answered = Grows-one is_answered answer was.answered is.answered (rw (← same) more);
     skipped = Grows-one is_skipped answer was.skipped is.skipped
         (skipped_one was.skipped is.skipped answer answered same less);
-    answered_invalid = rw (invalid_one line answer invalid)
+    answered_invalid = rw (invalid_one frames line answer (invalid_is frames line short invalid))
         (Grows-one is_answered answer was.answered_invalid is.answered_invalid (rw (← same) first));
-    skipped_invalid = rw (invalid_one line answer invalid) (Grows-one is_skipped answer was.skipped_invalid
-        is.skipped_invalid (skipped_one was.skipped_invalid is.skipped_invalid answer answered same second));
+    skipped_invalid = rw (invalid_one frames line answer (invalid_is frames line short invalid))
+        (Grows-one is_skipped answer was.skipped_invalid is.skipped_invalid
+        (skipped_one was.skipped_invalid is.skipped_invalid answer answered same second));
+    too_long = rw kept_long (Grows-other (is_too_long frames) line was.too_long short);
   }
 
-pub Counts-append : (R : List ℕ → Answer → Type 0) (was mid is : Tally) (lines more : List (List ℕ))
-    (first second : List Answer) → AllZip R lines first → Counts was mid lines first → Counts mid is more second
-    → Counts was is (lines ++ more) (first ++ second)
-Counts-append R was mid is lines more first second each counted next = record {
-  answered = Grows-append is_answered first second was.answered mid.answered is.answered counted.answered next.answered;
-  skipped = Grows-append is_skipped first second was.skipped mid.skipped is.skipped counted.skipped next.skipped;
-  answered_invalid = rw (invalid-append R lines more first second each)
-      (Grows-append is_answered (invalid_answers lines first) (invalid_answers more second) was.answered_invalid
-      mid.answered_invalid is.answered_invalid counted.answered_invalid next.answered_invalid);
-  skipped_invalid = rw (invalid-append R lines more first second each)
-      (Grows-append is_skipped (invalid_answers lines first) (invalid_answers more second) was.skipped_invalid
-      mid.skipped_invalid is.skipped_invalid counted.skipped_invalid next.skipped_invalid);
+-- one that is too long
+pub Counts-long : (frames : Frames) (was is : Tally) (line : List ℕ) → is_too_long frames line ≡ true
+    → CountsLong was is → Counts frames was is (line ∷ []) (Omitted ∷ [])
+Counts-long frames was is line long counted = record {
+  answered = rw counted.answered (Grows-other is_answered Omitted was.answered refl);
+  skipped = Grows-one is_skipped Omitted was.skipped is.skipped counted.skipped;
+  answered_invalid = rw (invalid_none frames line Omitted (long_is frames line long), counted.answered_invalid)
+      (Grows-none is_answered was.answered_invalid);
+  skipped_invalid = rw (invalid_none frames line Omitted (long_is frames line long), counted.skipped_invalid)
+      (Grows-none is_skipped was.skipped_invalid);
+  too_long = Grows-one (is_too_long frames) line was.too_long is.too_long (rw long counted.too_long);
 }
 
+pub Counts-append : (frames : Frames) (R : List ℕ → Answer → Type 0) (was mid is : Tally) (lines more : List (List ℕ))
+    (first second : List Answer) → AllZip R lines first → Counts frames was mid lines first
+    → Counts frames mid is more second → Counts frames was is (lines ++ more) (first ++ second)
+Counts-append frames R was mid is lines more first second each counted next = record {
+  answered = Grows-append is_answered first second was.answered mid.answered is.answered counted.answered next.answered;
+  skipped = Grows-append is_skipped first second was.skipped mid.skipped is.skipped counted.skipped next.skipped;
+  answered_invalid = rw (invalid-append frames R lines more first second each)
+      (Grows-append is_answered (invalid_answers frames lines first) (invalid_answers frames more second)
+      was.answered_invalid mid.answered_invalid is.answered_invalid counted.answered_invalid next.answered_invalid);
+  skipped_invalid = rw (invalid-append frames R lines more first second each)
+      (Grows-append is_skipped (invalid_answers frames lines first) (invalid_answers frames more second)
+      was.skipped_invalid mid.skipped_invalid is.skipped_invalid counted.skipped_invalid next.skipped_invalid);
+  too_long = Grows-append (is_too_long frames) lines more was.too_long mid.too_long is.too_long counted.too_long
+      next.too_long;
+}
+
+-- a tally of no lines
+pub record IsFresh (tally : Tally) : Type 0 where
+  pub answered : tally.answered ≡ 0
+  pub skipped : tally.skipped ≡ 0
+  pub answered_invalid : tally.answered_invalid ≡ 0
+  pub skipped_invalid : tally.skipped_invalid ≡ 0
+  pub too_long : tally.too_long ≡ 0
+
 -- what was counted from the start
-pub counted_from_zero : (was is : Tally) (lines : List (List ℕ)) (answers : List Answer) → was.answered ≡ 0
-    → was.skipped ≡ 0 → was.answered_invalid ≡ 0 → was.skipped_invalid ≡ 0 → Counts was is lines answers
-    → HasCounted is lines answers
-counted_from_zero was is lines answers a b c d counts = record {
-  answered = omega (arith, counts.answered 0 (omega (arith, a)));
-  skipped = omega (arith, counts.skipped 0 (omega (arith, b)));
-  answered_invalid = omega (arith, counts.answered_invalid 0 (omega (arith, c)));
-  skipped_invalid = omega (arith, counts.skipped_invalid 0 (omega (arith, d)));
+pub counted_from_zero : (frames : Frames) (was is : Tally) (lines : List (List ℕ)) (answers : List Answer) → IsFresh was
+    → Counts frames was is lines answers → HasCounted frames is lines answers
+counted_from_zero frames was is lines answers fresh counts = record {
+  answered = omega (arith, counts.answered 0 (omega (arith, fresh.answered)));
+  skipped = omega (arith, counts.skipped 0 (omega (arith, fresh.skipped)));
+  answered_invalid = omega (arith, counts.answered_invalid 0 (omega (arith, fresh.answered_invalid)));
+  skipped_invalid = omega (arith, counts.skipped_invalid 0 (omega (arith, fresh.skipped_invalid)));
+  too_long = omega (arith, counts.too_long 0 (omega (arith, fresh.too_long)));
 }
 
 -- each line counts as answered or as skipped
@@ -137,22 +189,23 @@ counted_all (answer ∷ answers) = omega (
     once false = refl
 
 -- so the tally's lines are those of the input
-pub lines_counted : (filter : Filter) (tally : Tally) (lines : List (List ℕ)) (answers : List Answer)
-    → AreAnswers filter lines answers → HasCounted tally lines answers
+pub lines_counted : (frames : Frames) (filter : Filter) (tally : Tally) (lines : List (List ℕ)) (answers : List Answer)
+    → AreAnswers filter lines answers → HasCounted frames tally lines answers
     → held_count (tally.answered + tally.skipped) ≡ held_count (length lines)
-lines_counted filter tally lines answers answered counted =
+lines_counted frames filter tally lines answers answered counted =
     let long = AllZip-long filter.Answers lines answers answered in
     omega (arith, counted_all answers, counted.answered, counted.skipped, long)
 
 -- the counts of a tally are those of its lines
-pub AreCounts-kept : (is_latin1 : Bool) (tally : Tally) (lines : List (List ℕ)) (answers : List Answer)
-    (counts : LineCounts) → HasCounted tally lines answers → held_count (tally.answered + tally.skipped) ≡ held_count (length lines)
+pub AreCounts-kept : (frames : Frames) (is_latin1 : Bool) (tally : Tally) (lines : List (List ℕ)) (answers : List Answer)
+    (counts : LineCounts) → HasCounted frames tally lines answers → held_count (tally.answered + tally.skipped) ≡ held_count (length lines)
     → counts.lines ≡ held_count (tally.answered + tally.skipped) → counts.refused ≡ tally.skipped
-    → counts.refused_invalid ≡ tally.skipped_invalid
-    → counts.replaced ≡ (if is_latin1 then 0 else tally.answered_invalid) → AreCounts is_latin1 lines answers counts
-AreCounts-kept is_latin1 tally lines answers counts counted all told refused invalid replaced = record {
+    → counts.refused_invalid ≡ tally.skipped_invalid → counts.too_long ≡ tally.too_long
+    → counts.replaced ≡ (if is_latin1 then 0 else tally.answered_invalid) → AreCounts frames is_latin1 lines answers counts
+AreCounts-kept frames is_latin1 tally lines answers counts counted all told refused invalid long replaced = record {
   lines = told ∙ all;
   refused = refused ∙ counted.skipped;
   refused_invalid = invalid ∙ counted.skipped_invalid;
+  too_long = long ∙ counted.too_long;
   replaced = replaced ∙ ap (λ (n : ℕ). if is_latin1 then 0 else n) counted.answered_invalid;
 }

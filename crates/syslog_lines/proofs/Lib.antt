@@ -1,9 +1,16 @@
 pub mod Names
 pub mod LaneLemmas
 pub mod FeedLemmas
+pub mod DigitLemmas
+pub mod FrameLemmas
 pub mod LineLemmas
 pub mod CountLemmas
 pub mod AnswerLemmas
 pub mod BlockLemmas
+pub mod MarkLemmas
+pub mod PlaceLemmas
+pub mod WholeLemmas
+pub mod EnterLemmas
+pub mod HeldLemmas
 pub mod WriteLemmas
 pub mod PumpLemmas

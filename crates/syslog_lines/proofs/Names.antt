@@ -12,11 +12,11 @@ pub use Rattle.std.proofs.lemmas.Simd.{length-chunk}
 pub use Rattle.std.proofs.lemmas.Slice.{between_is}
 pub use Rattle.std.specs.Io.KnownBytes.{Keeps}
 pub use Rattle.std.specs.Prelude.{count_by}
-pub use Rattle.syslog_lines.specs.Block.{cut_bytes}
+pub use Rattle.syslog_lines.specs.Block.{held_bytes}
 pub use Rattle.syslog_lines.specs.Count.{held_count}
 pub use Rattle.syslog_lines.specs.Lines.{NoFeed, IsLines, EndsInFeed, IsFirstLine}
 pub use Rattle.syslog_lines.specs.Output.{Filter, is_answered, is_skipped, output_of, HasCounted}
-pub use Rattle.syslog_lines.specs.Write.{WritesFirst, AddsAnswers, Answered, AnswersBefore, WroteCut, Wrote}
+pub use Rattle.syslog_lines.specs.Write.{AddsAnswers, Answered, AnswersBefore, WroteCut, Wrote}
 pub use Rattle.syslog_lines.specs.Write.{AnswersAll}
 pub use Rattle.syslog_lines.specs.declared.summary.RunFault.{RunFault}
 pub use Rattle.syslog_lines.specs.declared.summary.RunFault.TheVariants.{Write, Memory}

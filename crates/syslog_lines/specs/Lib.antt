@@ -1,8 +1,10 @@
 pub mod Lines
+pub mod Frames
 pub mod Search
 pub mod Size
 pub mod Block
 pub mod Count
 pub mod Output
 pub mod Write
+pub mod Place
 pub mod Pump

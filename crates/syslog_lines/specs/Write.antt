@@ -1,12 +1,12 @@
 -- What is written for some lines.
-use Rattle.std.specs.Prelude.{◌≡◌, ℕ, Bool, true, false, List, ◌∷◌, ◌++◌, Option, Some}
+use Rattle.std.specs.Prelude.{◌≡◌, ℕ, List, ◌∷◌, ◌++◌, Option, Some}
 use Rattle.std.specs.Prelude.{Result, Ok, Err, take}
 use Rattle.std.specs.Io.KnownBytes.{Appends}
+use Rattle.syslog_lines.specs.Frames.{AreFrames, IsOpen}
 use Rattle.syslog_lines.specs.Lines.{IsLines}
 use Rattle.syslog_lines.specs.Output.{Answer, AreAnswers, Counts, Filter, output_of}
 use Rattle.syslog_lines.specs.declared.summary.Tally.{Tally}
-use Rattle.syslog_lines.specs.declared.summary.RunFault.{RunFault}
-use Rattle.syslog_lines.specs.declared.summary.RunFault.TheVariants.{Read, Write, Memory}
+use Rattle.syslog_lines.specs.declared.framing.Frames.{Frames}
 
 -- the output of the lines was written
 pub record Wrote (filter : Filter) (lines : List (List ℕ)) (out_before out_after : Option (List ℕ)) : Type 0 where
@@ -34,15 +34,15 @@ pub record WroteCut (filter : Filter) (lines : List (List ℕ)) (out_before out_
   pub written : Appends out_before out_after (take size (output_of answers))
 
 -- the output of the lines was written, and the lines counted
-pub record Answered (filter : Filter) (lines : List (List ℕ)) (out_before out_after : Option (List ℕ)) (was is : Tally)
+pub record Answered (frames : Frames) (filter : Filter) (lines : List (List ℕ)) (out_before out_after : Option (List ℕ)) (was is : Tally)
     : Type 0 where
   pub wrote : Wrote filter lines out_before out_after
-  pub counted : Counts was is lines wrote.answers
+  pub counted : Counts frames was is lines wrote.answers
 
 -- that of all lines of the bytes
-abbrev pub AnswersAll : Filter → List ℕ → Option (List ℕ) → Option (List ℕ) → Tally → Tally → Type 0
-AnswersAll filter bytes out_before out_after was is = (lines : List (List ℕ)) × IsLines bytes lines
-    × Answered filter lines out_before out_after was is
+abbrev pub AnswersAll : Frames → Filter → List ℕ → Option (List ℕ) → Option (List ℕ) → Tally → Tally → Type 0
+AnswersAll frames filter bytes out_before out_after was is = (lines : List (List ℕ)) × IsLines bytes lines
+    × Answered frames filter lines out_before out_after was is
 
 -- that of their lines before one for which memory may be wanted
 abbrev pub AnswersBefore : Filter → List ℕ → Option (List ℕ) → Option (List ℕ) → Type 0
@@ -50,14 +50,17 @@ AnswersBefore filter bytes out_before out_after = (lines : List (List ℕ)) × I
     × WroteBefore filter lines out_before out_after
 
 -- the output of all lines of the bytes was added; or memory was refused, and that of those before one that may want it
-abbrev pub AddsAnswers : {X E : Type 0} → Filter → List ℕ → List ℕ → List ℕ → Tally → Tally → Result X E → Type 0
-AddsAnswers filter bytes old new was is (Ok done) = AnswersAll filter bytes (Some old) (Some new) was is
-AddsAnswers filter bytes old new was is (Err refused) = AnswersBefore filter bytes (Some old) (Some new)
+abbrev pub AddsAnswers : {X E : Type 0} → Frames → Filter → List ℕ → List ℕ → List ℕ → Tally → Tally → Result X E → Type 0
+AddsAnswers frames filter bytes old new was is (Ok done) = AnswersAll frames filter bytes (Some old) (Some new) was is
+AddsAnswers frames filter bytes old new was is (Err refused) = AnswersBefore filter bytes (Some old) (Some new)
 
--- by the fault: what was written of the output of the bytes' lines, and whether the writer failed
-abbrev pub WritesFirst : Filter → List ℕ → Option (List ℕ) → Option (List ℕ) → Bool → RunFault → Type 0
-WritesFirst filter bytes out_before out_after failed Read = ⊥
-WritesFirst filter bytes out_before out_after failed Write = (failed ≡ true)
-    × ((lines : List (List ℕ)) × IsLines bytes lines × WroteCut filter lines out_before out_after)
-WritesFirst filter bytes out_before out_after failed Memory = (failed ≡ false)
-    × AnswersBefore filter bytes out_before out_after
+-- the output of whole frames that the bytes begin with was written, and these bytes follow
+abbrev pub AddsWhole : Frames → Filter → List ℕ → List ℕ → Option (List ℕ) → Option (List ℕ) → Tally → Tally → Type 0
+AddsWhole frames filter bytes rest out_before out_after was is = (messages : List (List ℕ))
+    × AreFrames frames.framing bytes messages rest × Answered frames filter messages out_before out_after was is
+
+-- of the whole frames that the bytes begin with, the output of those before one that may want memory was written
+abbrev pub StopsWithin : Frames → Filter → List ℕ → Option (List ℕ) → Option (List ℕ) → Type 0
+StopsWithin frames filter bytes out_before out_after = (messages : List (List ℕ)) × (rest : List ℕ)
+    × AreFrames frames.framing bytes messages rest × IsOpen frames.framing rest
+    × WroteBefore filter messages out_before out_after

@@ -10,13 +10,17 @@
 mod apply;
 mod block;
 pub mod filter;
+mod frames;
+pub mod framing;
 mod lines;
+mod place;
 pub mod pump;
 mod search;
 pub mod summary;
 mod watched;
 
 pub use filter::{LineFilter, push_line};
+pub use framing::{Frames, Framing, LONGEST_LINE};
 pub use lines::first_line;
 pub use summary::{LineCounts, RunFault, Summary, Tally};
 pub use watched::Watched;

@@ -1,61 +1,72 @@
 //! From a reader to a writer, through a filter.
-ghost use Rattle.std.specs.Prelude.{◌≡◌, false, IfOk, IfErr, OnOk};
+ghost use Rattle.std.specs.Prelude.{◌≡◌, ◌≤◌, [], false, Some, IfOk, IfErr, OnOk, length, take, drop};
+ghost use Rattle.syslog_lines.specs.Frames.{HasAllFrames};
+ghost use Rattle.syslog_lines.specs.Output.{taken};
+ghost use Rattle.syslog_lines.specs.Place.{Goes, HasRead, IsAt, IsHeld, IsSeen, Stops};
 ghost use Rattle.syslog_lines.specs.Pump.{EndsEarly, FailedAs, PumpsAll};
-ghost use Rattle.syslog_lines.specs.Write.{AnswersAll, WritesFirst};
+ghost use Rattle.syslog_lines.specs.Write.{Answered};
 
-use crate::apply::filter_lines;
+use crate::apply::{filter_held, filter_last};
 use crate::block::Block;
 use crate::filter::LineFilter;
+use crate::framing::Frames;
+use crate::place::Place;
 use crate::summary::{RunFault, Tally};
 use crate::watched::Watched;
 use std::alloc::Global;
 use std::io::{Read, Write};
 
-/// Reads lines to the end of the input, and writes what the filter gives for each.
+/// Reads the messages of these frames to the end of the input, and writes what the filter gives for the line of each. A
+/// line that is too long is counted, and the filter doesn't see it.
 ///
 /// The output of each block of input is written before more is read, and the writer is flushed at the end. Nothing is
-/// tried again. It takes memory for a block of input, its output, and the longest line. `RunFault` says why it ended
-/// early.
+/// tried again. It takes memory for a block of input, its output, and the longest frame up to the limit. `RunFault`
+/// says why it ended early.
 pub fn pump<F: LineFilter, R: Read, W: Write>(
     alloc: Global,
+    frames: Frames,
     filter: &F,
     reader: &mut Watched<R>,
     writer: &mut Watched<W>,
 ) -> Result<Tally, RunFault>
     requires reader { reader.old.failed ≡ false }
     requires writer { writer.old.failed ≡ false }
-    ensures ok { IfOk result (λ tally. PumpsAll (F.answers filter.now) (R.remaining reader.old.inner)
+    ensures ok { IfOk result (λ tally. PumpsAll frames (F.answers filter.now) (R.remaining reader.old.inner)
         (R.remaining reader.new.inner)
         (W.contents writer.old.inner) (W.contents writer.new.inner) tally) }
-    ensures err { IfErr result (λ fault. EndsEarly (F.answers filter.now) (R.remaining reader.old.inner)
+    ensures err { IfErr result (λ fault. EndsEarly frames (F.answers filter.now) (R.remaining reader.old.inner)
         (R.remaining reader.new.inner)
         (W.contents writer.old.inner) (W.contents writer.new.inner) fault) }
     ensures failed { FailedAs result reader.new.failed writer.new.failed }
 {
-    let mut tally = Tally {
-        answered: 0,
-        skipped: 0,
-        answered_invalid: 0,
-        skipped_invalid: 0,
-    };
+    let mut tally = Tally::new();
     let mut text = String::new(alloc);
     let mut output = Vec::new(alloc);
-    let mut block = Block::new(alloc)?;
+    let mut block = Block::new(alloc, frames.longest)?;
+    let mut place = Place::start(frames);
+    let mut seen = 0;
     while block.fill(reader)? {
-        write_answers(
+        let past = answer_held(
             alloc,
+            frames,
             filter,
-            block.complete(),
+            &mut place,
+            block.held(),
+            seen,
             &mut text,
             &mut output,
             writer,
             &mut tally,
         )?;
+        block.pass(past);
+        seen = block.held().len();
     }
-    write_answers(
+    answer_last(
         alloc,
+        frames,
         filter,
-        block.cut(),
+        place,
+        block.held(),
         &mut text,
         &mut output,
         writer,
@@ -67,25 +78,66 @@ pub fn pump<F: LineFilter, R: Read, W: Write>(
     Ok(tally)
 }
 
-// Writes what the lines give, and counts them. If an allocation fails, the output of the lines before is written.
-fn write_answers<F: LineFilter, W: Write>(
+// Writes what the messages give that end in these bytes, from a place on, and counts them. Returns how many bytes are
+// done with. The first `seen` of them were seen before. If an allocation fails, the output of the messages before is
+// written.
+fn answer_held<F: LineFilter, W: Write>(
     alloc: Global,
+    frames: Frames,
     filter: &F,
-    lines: &[u8],
+    place: &mut Place,
+    bytes: &[u8],
+    seen: usize,
+    text: &mut String,
+    output: &mut Vec<u8>,
+    writer: &mut Watched<W>,
+    tally: &mut Tally,
+) -> Result<usize, RunFault>
+    requires writer { writer.old.failed ≡ false }
+    requires within { seen ≤ length bytes.now }
+    requires seen { IsSeen frames.framing place.old (take seen bytes.now) }
+    ensures within { IfOk result (λ past. past ≤ length bytes.now) }
+    ensures held { IfOk result (λ past. IsHeld frames.framing place.new (drop past bytes.now)) }
+    ensures ok { IfOk result (λ past. Goes frames place.old bytes.now
+        (λ input messages. IsAt frames place.new input messages (drop past bytes.now))
+        (λ more. Answered frames (taken frames (F.answers filter.now)) more (W.contents writer.old.inner)
+        (W.contents writer.new.inner) tally.old tally.new)) }
+    ensures well { OnOk result (writer.new.failed ≡ false) }
+    ensures err { IfErr result (Stops frames (F.answers filter.now) place.old bytes.now (HasRead frames)
+        (W.contents writer.old.inner) (W.contents writer.new.inner) writer.new.failed) }
+{
+    output.clear();
+    let answered = filter_held(
+        alloc, frames, filter, place, bytes, seen, text, output, tally,
+    );
+    writer.write_whole(output)?;
+    let past = answered?;
+    Ok(past)
+}
+
+// Writes what the last message gives, which ends with these bytes, from a place on.
+fn answer_last<F: LineFilter, W: Write>(
+    alloc: Global,
+    frames: Frames,
+    filter: &F,
+    place: Place,
+    bytes: &[u8],
     text: &mut String,
     output: &mut Vec<u8>,
     writer: &mut Watched<W>,
     tally: &mut Tally,
 ) -> Result<(), RunFault>
-    requires { writer.old.failed ≡ false }
-    ensures ok { OnOk result (AnswersAll (F.answers filter.now) lines.now (W.contents writer.old.inner)
-        (W.contents writer.new.inner) tally.old tally.new) }
+    requires writer { writer.old.failed ≡ false }
+    requires held { IsHeld frames.framing place bytes.now }
+    ensures ok { OnOk result (Goes frames place bytes.now (HasAllFrames frames)
+        (λ more. Answered frames (taken frames (F.answers filter.now)) more (W.contents writer.old.inner)
+        (W.contents writer.new.inner) tally.old tally.new)) }
     ensures well { OnOk result (writer.new.failed ≡ false) }
-    ensures err { IfErr result (WritesFirst (F.answers filter.now) lines.now (W.contents writer.old.inner)
-        (W.contents writer.new.inner) writer.new.failed) }
+    ensures err { IfErr result (Stops frames (F.answers filter.now) place bytes.now (HasAllFrames frames)
+        (W.contents writer.old.inner) (W.contents writer.new.inner) writer.new.failed) }
 {
     output.clear();
-    let answered = filter_lines(alloc, filter, lines, text, output, tally);
+    let answered = filter_last(alloc, frames, filter, place, bytes, text, output, tally);
     writer.write_whole(output)?;
     answered?;
     Ok(())

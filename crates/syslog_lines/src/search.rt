@@ -1,9 +1,9 @@
 //! Where a line ends.
-ghost use Rattle.std.specs.Prelude.{◌≡◌, ◌≢◌, ◌+◌, ◌<◌, ◌≤◌, ℕ, length, slice_index};
+ghost use Rattle.std.specs.Prelude.{◌≡◌, ◌≢◌, ◌+◌, ◌-◌, ◌<◌, ◌≤◌, ℕ, length, slice_index};
 ghost use Rattle.memchr.specs.Find.{IsFirstByte, is_byte};
 ghost use Rattle.syslog_lines.specs.Search.{IsRun};
 
-use memchr::memchr;
+use memchr::{memchr, memrchr};
 use std::simd::prelude::*;
 
 const LANES: usize = 64;
@@ -54,4 +54,18 @@ fn feedless_run(bytes: &[u8], at: usize) -> usize
     let feeds = lanes.simd_eq(u8x64::splat(b'\n'));
     // (where no lane has one there are as many zeros as lanes)
     feeds.to_bitmask().trailing_zeros() as usize
+}
+
+/// Returns the place after the last line feed, and 0 if there is none. None is before `from`.
+pub fn past_last_feed(bytes: &[u8], from: usize) -> usize
+    requires within { from ≤ length bytes.now }
+    requires before { (k : ℕ) → k < from → slice_index bytes.now k ≢ 10 }
+    ensures within { result ≤ length bytes.now }
+    ensures closed { 0 < result → slice_index bytes.now (result - 1) ≡ 10 }
+    ensures open { (k : ℕ) → result ≤ k → k < length bytes.now → slice_index bytes.now k ≢ 10 }
+{
+    match memrchr(b'\n', &bytes[from..]) {
+        Some(feed) => from + feed + 1,
+        None => 0,
+    }
 }

@@ -20,6 +20,8 @@ pub struct LineCounts {
     pub refused: u64,
     /// How many of these are not UTF-8.
     pub refused_invalid: u64,
+    /// How many of these are too long, so that nobody looked at their bytes.
+    pub too_long: u64,
     /// How many messages have U+FFFD for what is not UTF-8.
     pub replaced: u64,
 }
@@ -35,11 +37,39 @@ pub struct Tally {
     pub answered_invalid: u64,
     /// How many of those that were skipped are not UTF-8.
     pub skipped_invalid: u64,
+    /// How many lines were skipped since they are too long.
+    pub too_long: u64,
 }
 
 impl Tally {
     ghost use Rattle.std.specs.Prelude.{◌≡◌, ◌+◌, ◌-◌, if◌then◌else◌};
     ghost use Rattle.syslog_lines.specs.Count.{held_count};
+    ghost use Rattle.syslog_lines.specs.Place.{CountsLong};
+
+    /// Returns that of no lines.
+    pub fn new() -> Tally
+        ensures answered { result.answered ≡ 0 }
+        ensures skipped { result.skipped ≡ 0 }
+        ensures answered_invalid { result.answered_invalid ≡ 0 }
+        ensures skipped_invalid { result.skipped_invalid ≡ 0 }
+        ensures too_long { result.too_long ≡ 0 }
+    {
+        Tally {
+            answered: 0,
+            skipped: 0,
+            answered_invalid: 0,
+            skipped_invalid: 0,
+            too_long: 0,
+        }
+    }
+
+    /// Counts a line that is too long.
+    pub fn count_long(&mut self)
+        ensures { CountsLong self.old self.new }
+    {
+        self.skipped = self.skipped.saturating_add(1);
+        self.too_long = self.too_long.saturating_add(1);
+    }
 
     /// Counts a line that is UTF-8.
     #[inline]
@@ -49,6 +79,7 @@ impl Tally {
             ≡ held_count (self.old.skipped + (if is_answered then 0 else 1)) }
         ensures answered_invalid { self.new.answered_invalid ≡ self.old.answered_invalid }
         ensures skipped_invalid { self.new.skipped_invalid ≡ self.old.skipped_invalid }
+        ensures too_long { self.new.too_long ≡ self.old.too_long }
     {
         self.answered = self.answered.saturating_add(u64::from(is_answered));
         self.skipped = self.skipped.saturating_add(u64::from(!is_answered));
@@ -63,6 +94,7 @@ impl Tally {
             ≡ held_count (self.old.answered_invalid + (if is_answered then 1 else 0)) }
         ensures skipped_invalid { self.new.skipped_invalid
             ≡ held_count (self.old.skipped_invalid + (if is_answered then 0 else 1)) }
+        ensures too_long { self.new.too_long ≡ self.old.too_long }
     {
         self.count(is_answered);
         self.answered_invalid = self.answered_invalid.saturating_add(u64::from(is_answered));
@@ -75,12 +107,14 @@ impl Tally {
         ensures lines { result.lines ≡ held_count (self.now.answered + self.now.skipped) }
         ensures refused { result.refused ≡ self.now.skipped }
         ensures refused_invalid { result.refused_invalid ≡ self.now.skipped_invalid }
+        ensures too_long { result.too_long ≡ self.now.too_long }
         ensures replaced { result.replaced ≡ (if is_latin1 then 0 else self.now.answered_invalid) }
     {
         LineCounts {
             lines: self.lines(),
             refused: self.skipped,
             refused_invalid: self.skipped_invalid,
+            too_long: self.too_long,
             replaced: if is_latin1 { 0 } else { self.answered_invalid },
         }
     }

@@ -12,7 +12,8 @@ use Rattle.std.specs.Prelude.{IsUtf8, encode_utf8_all, count_by, not}
 use Rattle.syslog_loose.{specs.OneLine.IsOneLine, specs.Printed.printed}
 use Rattle.syslog_loose.{proofs.SettlingLemmas.Settles.one_first_settled, specs.Message.MessageValue}
 use Rattle.syslog_loose.proofs.ReadBackLemmas.{printed_line, printed_scalars}
-use Rattle.syslog_lines.{specs.Output.Marked, specs.Output.output_of, specs.declared.summary.Summary.Summary}
+use Rattle.syslog_lines.proofs.LineLemmas.{frames_are_lines}
+use Rattle.syslog_lines.{specs.Output.Marked, specs.Output.Unasked, specs.Output.output_of, specs.declared.summary.Summary.Summary}
 use Rattle.syslog_lines.{specs.Count.held_count, specs.Lines.NoFeed, specs.Lines.with_feeds, specs.Lines.IsLines}
 use Rattle.syslog_lines.proofs.LineLemmas.{IsOther, all_after, all_front}
 use Rattle.syslog_tidy.specs.Filters.{TidiesAll, WritesAgain}
@@ -116,17 +117,20 @@ module _ (year : ℤ) (line text : List ℕ) (free : NoFeed line) (utf8 : IsUtf8
           (one_first_settled Either (in_utc year) (chars (encode_utf8_all text)) other text given itself))
       only (Marked bytes) none = absurd none
       only Omitted none = absurd (none (text, (valid, refl)) text itself)
+      only Unasked none = absurd none
 
 -- the bytes that are written
 abbrev lines_of : List Answer → List (List ℕ)
 lines_of [] = []
 lines_of (Omitted ∷ answers) = lines_of answers
+lines_of (Unasked ∷ answers) = lines_of answers
 lines_of (Marked bytes ∷ answers) = bytes ∷ lines_of answers
 lines_of (Written bytes ∷ answers) = bytes ∷ lines_of answers
 
 output_fed : (answers : List Answer) → output_of answers ≡ with_feeds (lines_of answers)
 output_fed [] = refl
 output_fed (Omitted ∷ answers) = output_fed answers
+output_fed (Unasked ∷ answers) = output_fed answers
 output_fed (Marked bytes ∷ answers) = simp (append_assoc, output_fed answers)
 output_fed (Written bytes ∷ answers) = simp (append_assoc, output_fed answers)
 
@@ -140,6 +144,7 @@ all_at_rest year (line ∷ lines) (Written bytes ∷ answers) free ((utf8, (text
   all_at_rest year lines answers (All-tail NoFeed line lines free) h,
 )
 all_at_rest year (line ∷ lines) (Marked bytes ∷ answers) free h = absurd h.0
+all_at_rest year (line ∷ lines) (Unasked ∷ answers) free h = absurd h.0
 all_at_rest year lines answers free h = absurd h
 
 -- each of them gives itself
@@ -164,7 +169,8 @@ TidiesAll-again year in_before in_after out_before out_after summary (found, all
     (λ (l : List ℕ). all.all.read ≡ l) all.all.consumed all.all.at_end refl) in
     let free = All-weaker (IsAtRest year) NoFeed (λ line at. at.0) ts (All-from_recursion (IsAtRest year) ts rests) in
     let same = fed_lines ts all.lines free
-    (subst (λ (l : List ℕ). IsLines l all.lines) (read ∙ fed) all.all.cut) in
+    (subst (λ (l : List ℕ). IsLines l all.lines) (sym all.all.framed.1 ∙ read ∙ fed)
+    (frames_are_lines all.all.framed.0 all.lines all.all.framed.2)) in
     let (again, none) = answered_again year ts found rests
     (subst (λ (l : List (List ℕ)). AreAnswers (tidying year) l found) same all.answered) in
     (subst (λ (l : List ℕ). Appends out_before out_after l) (again ∙ sym fed) all.written, refused ∙ ap held_count none)

@@ -8,8 +8,9 @@ use Rattle.syslog_loose.specs.Reading.{IsUnreadable, in_utc}
 use Rattle.syslog_loose.specs.Settling.{IsFirstSettled}
 use Rattle.syslog_loose.specs.declared.variant.Variant.TheVariants.{Either}
 use Rattle.syslog_lines.specs.Count.{held_count}
+use Rattle.syslog_lines.specs.Frames.{plain_lines}
 use Rattle.syslog_lines.specs.Lines.{IsLines}
-use Rattle.syslog_lines.specs.Output.{Answer, AreAnswers, Filter, Marked, Omitted}
+use Rattle.syslog_lines.specs.Output.{Answer, AreAnswers, Filter, Marked, Omitted, Unasked}
 use Rattle.syslog_lines.specs.Output.{Written, is_answered, is_skipped, output_of}
 use Rattle.syslog_lines.specs.Pump.{FiltersAll}
 use Rattle.syslog_tidy.specs.declared.counts.Changed.{Changed}
@@ -21,6 +22,7 @@ of_texts Answers line (Written bytes) =
     IsUtf8 line × ((text : List ℕ) × Answers (chars line) (Some text) × (bytes ≡ encode_utf8_all text))
 of_texts Answers line (Marked bytes) = ⊥
 of_texts Answers line Omitted = IsUtf8 line → Answers (chars line) None
+of_texts Answers line Unasked = ⊥
 
 -- what the text gives is its first stable round in this year, or none where no round of it is stable
 abbrev pub IsTidied : ℤ → List ℕ → Option (List ℕ) → Type 0
@@ -52,6 +54,7 @@ abbrev pub IsRefused : ℤ → List ℕ → Answer → Type 0
 IsRefused year line (Written bytes) = (tidying year).Answers line Omitted × (bytes ≡ line)
 IsRefused year line (Marked bytes) = ⊥
 IsRefused year line Omitted = (bytes : List ℕ) × (tidying year).Answers line (Written bytes)
+IsRefused year line Unasked = ⊥
 
 -- memory may be taken for any line
 abbrev pub refusing : ℤ → Filter
@@ -60,7 +63,7 @@ refusing year = record { Answers = IsRefused year; Wants = λ line. ⊤ }
 -- all was read and written, and the summary counts the lines and those that gave nothing
 abbrev pub TidiesAll : ℤ → Option (List ℕ) → Option (List ℕ) → Option (List ℕ) → Option (List ℕ) → Summary → Type 0
 TidiesAll year in_before in_after out_before out_after summary = (answers : List Answer)
-    × (all : FiltersAll (tidying year) in_before in_after out_before out_after answers)
+    × (all : FiltersAll plain_lines (tidying year) in_before in_after out_before out_after answers)
     × (summary.lines ≡ held_count (length all.lines)) × (summary.refused ≡ held_count (count_by is_skipped answers))
 
 -- these bytes are what is written in the year for the lines of some bytes
@@ -77,7 +80,7 @@ WritesAgain year in_before out_before out_after summary = (output : List ℕ) �
 abbrev pub FindsChanged : ℤ → Option (List ℕ) → Option (List ℕ) → Option (List ℕ) → Option (List ℕ)
     → Changed → Type 0
 FindsChanged year in_before in_after out_before out_after counts = (answers : List Answer)
-    × (all : FiltersAll (finding_changed year) in_before in_after out_before out_after answers)
+    × (all : FiltersAll plain_lines (finding_changed year) in_before in_after out_before out_after answers)
     × (counts.lines ≡ held_count (length all.lines)) × (counts.changed ≡ held_count (count_by is_answered answers))
 
 -- of each of these lines exactly one is written: what `tidying` gives, or the line as it came
@@ -90,6 +93,6 @@ SharesOut year lines refused =
 -- and those that were written
 abbrev pub RefusesAll : ℤ → Option (List ℕ) → Option (List ℕ) → Option (List ℕ) → Option (List ℕ) → Summary → Type 0
 RefusesAll year in_before in_after out_before out_after summary = (answers : List Answer)
-    × (all : FiltersAll (refusing year) in_before in_after out_before out_after answers)
+    × (all : FiltersAll plain_lines (refusing year) in_before in_after out_before out_after answers)
     × SharesOut year all.lines answers × (summary.lines ≡ held_count (length all.lines))
     × (summary.refused ≡ held_count (count_by is_answered answers))

@@ -9,13 +9,14 @@ ghost use Rattle.syslog_loose.specs.declared.fault.ParseFault.TheVariants.{Inval
 ghost use Rattle.syslog_loose.specs.declared.variant.Variant.TheVariants.{Either};
 ghost use Rattle.syslog_tidy.specs.Filters.{FindsChanged, IsTidied, RefusesAll, TidiesAll, WritesAgain};
 ghost use Rattle.syslog_tidy.specs.Filters.{finding_changed, refusing, tidying};
+ghost use Rattle.syslog_lines.specs.Frames.{plain_lines};
 ghost use Rattle.syslog_lines.specs.Pump.{EndsEarly, FailedAs};
 
 use crate::counts::Changed;
 use std::alloc::{AllocError, Global};
 use std::io::{Read, Write};
 use syslog_lines::pump::pump;
-use syslog_lines::{LineFilter, RunFault, Summary, Watched, push_line};
+use syslog_lines::{Frames, LineFilter, RunFault, Summary, Watched, push_line};
 use syslog_loose::{IncompleteDate, ParseFault, TimeZone, Variant, reads_differently, settle_into};
 
 /// Reads lines to the end of the input, and writes the stable printed form of each message, in the given year: the
@@ -40,12 +41,12 @@ pub fn run<R: Read, W: Write>(
         (W.contents writer.old.inner) (W.contents writer.new.inner) summary) }
     ensures again { IfOk result (λ summary. WritesAgain year (R.remaining reader.old.inner)
         (W.contents writer.old.inner) (W.contents writer.new.inner) summary) }
-    ensures err { IfErr result (λ fault. EndsEarly (tidying year) (R.remaining reader.old.inner)
+    ensures err { IfErr result (λ fault. EndsEarly plain_lines (tidying year) (R.remaining reader.old.inner)
         (R.remaining reader.new.inner)
         (W.contents writer.old.inner) (W.contents writer.new.inner) fault) }
     ensures failed { FailedAs result reader.new.failed writer.new.failed }
 {
-    let tally = pump(alloc, &Tidy { year }, reader, writer)?;
+    let tally = pump(alloc, Frames::plain(), &Tidy { year }, reader, writer)?;
     Ok(Summary {
         lines: tally.lines(),
         refused: tally.skipped,
@@ -129,7 +130,7 @@ pub fn refused<R: Read, W: Write>(
     requires writer { writer.old.failed ≡ false }
     ensures ok { IfOk result (λ summary. RefusesAll year (R.remaining reader.old.inner) (R.remaining reader.new.inner)
         (W.contents writer.old.inner) (W.contents writer.new.inner) summary) }
-    ensures err { IfErr result (λ fault. EndsEarly (refusing year) (R.remaining reader.old.inner)
+    ensures err { IfErr result (λ fault. EndsEarly plain_lines (refusing year) (R.remaining reader.old.inner)
         (R.remaining reader.new.inner)
         (W.contents writer.old.inner) (W.contents writer.new.inner) fault) }
     ensures failed { FailedAs result reader.new.failed writer.new.failed }
@@ -137,7 +138,7 @@ pub fn refused<R: Read, W: Write>(
     let refusals = Refusals {
         tidy: Tidy { year },
     };
-    let tally = pump(alloc, &refusals, reader, writer)?;
+    let tally = pump(alloc, Frames::plain(), &refusals, reader, writer)?;
     Ok(Summary {
         lines: tally.lines(),
         refused: tally.answered,
@@ -197,12 +198,18 @@ pub fn changed<R: Read, W: Write>(
     ensures ok { IfOk result (λ counts. FindsChanged year (R.remaining reader.old.inner)
         (R.remaining reader.new.inner)
         (W.contents writer.old.inner) (W.contents writer.new.inner) counts) }
-    ensures err { IfErr result (λ fault. EndsEarly (finding_changed year) (R.remaining reader.old.inner)
+    ensures err { IfErr result (λ fault. EndsEarly plain_lines (finding_changed year) (R.remaining reader.old.inner)
         (R.remaining reader.new.inner)
         (W.contents writer.old.inner) (W.contents writer.new.inner) fault) }
     ensures failed { FailedAs result reader.new.failed writer.new.failed }
 {
-    let tally = pump(alloc, &ChangedLines { year }, reader, writer)?;
+    let tally = pump(
+        alloc,
+        Frames::plain(),
+        &ChangedLines { year },
+        reader,
+        writer,
+    )?;
     Ok(Changed {
         lines: tally.lines(),
         changed: tally.answered,

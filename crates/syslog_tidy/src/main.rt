@@ -29,25 +29,26 @@ use syslog_loose::VERSION;
 fn filter_input(rt: &HostRuntime, output: Output, year: i32) -> u8 {
     let mut reader = Watched::new(rt.stdin());
     let mut writer = Watched::new(rt.stdout());
+    let mut errors = Watched::new(rt.stderr());
     match output {
         Output::Settled => {
             let outcome = run(rt.alloc(), &mut reader, &mut writer, year);
-            report(&outcome, &mut rt.stderr())
+            report(&outcome, &mut errors)
         }
         Output::Changed => {
             let outcome = changed(rt.alloc(), &mut reader, &mut writer, year);
-            report_changed(&outcome, &mut rt.stderr())
+            report_changed(&outcome, &mut errors)
         }
         Output::Refused => {
             let outcome = refused(rt.alloc(), &mut reader, &mut writer, year);
-            report(&outcome, &mut rt.stderr())
+            report(&outcome, &mut errors)
         }
     }
 }
 
 fn main(rt: HostRuntime) -> ExitCode {
     let mut out = Watched::new(rt.stdout());
-    let mut errors = rt.stderr();
+    let mut errors = Watched::new(rt.stderr());
     let status = match arguments(&rt) {
         Some(Task::Lines(output, year)) => filter_input(&rt, output, year),
         Some(Task::Help) => say(HELP, &mut out, &mut errors),

@@ -1,12 +1,12 @@
 //! What the program writes at its end, and about itself.
-ghost use Rattle.std.specs.Prelude.{◌≡◌, codes};
-ghost use Rattle.syslog_command_line.specs.Report.{WritesFront, said_of, status_of};
+ghost use Rattle.std.specs.Prelude.{◌≡◌, codes, false};
+ghost use Rattle.syslog_command_line.specs.Report.{WritesUnlessFailed, said_of, status_of};
 ghost use Rattle.syslog_tidy.specs.Arguments.{usage_line};
 
 use crate::counts::Changed;
 use std::io::Write;
 use syslog_command_line::report::{refuse, report_count, report_fault};
-use syslog_lines::RunFault;
+use syslog_lines::{RunFault, Watched};
 
 /// How the program is called, and what it does.
 pub const HELP: &str =
@@ -31,19 +31,22 @@ Status:
   2  wrong arguments; or a read or a write failed, or memory ran out
 ";
 
-/// Writes how the program is called, in one line, and returns the exit status 2. A failed write is ignored.
-pub fn usage<W: Write>(errors: &mut W) -> u8
+/// Writes how the program is called, in one line, and returns the exit status 2. If a write fails, the stream says so.
+pub fn usage<W: Write>(errors: &mut Watched<W>) -> u8
+    requires { errors.old.failed ≡ false }
     ensures status { result ≡ 2 }
-    ensures said { WritesFront (W.contents errors.old) (W.contents errors.new) usage_line }
+    ensures said { WritesUnlessFailed (W.contents errors.old.inner) (W.contents errors.new.inner) errors.new.failed
+        usage_line }
 {
     refuse("usage: syslog_tidy [--changed] YEAR\n", errors)
 }
 
 /// Writes how many lines changed, if any did, or the fault's text, and returns the exit status: 0 if no line changed, 1
-/// if some did, 2 after a fault. A failed write is ignored.
-pub fn report_changed<W: Write>(outcome: &Result<Changed, RunFault>, errors: &mut W) -> u8
+/// if some did, 2 after a fault. If a write fails, the stream says so.
+pub fn report_changed<W: Write>(outcome: &Result<Changed, RunFault>, errors: &mut Watched<W>) -> u8
+    requires { errors.old.failed ≡ false }
     ensures status { result ≡ status_of (λ counts. counts.changed) outcome.now }
-    ensures said { WritesFront (W.contents errors.old) (W.contents errors.new)
+    ensures said { WritesUnlessFailed (W.contents errors.old.inner) (W.contents errors.new.inner) errors.new.failed
         (said_of (codes "changed") (λ counts. counts.changed) (λ counts. counts.lines) outcome.now) }
 {
     match outcome {

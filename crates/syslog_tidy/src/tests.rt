@@ -113,9 +113,10 @@ fn says_how_many_lines_changed(rt: HostRuntime) {
         (Ok((most, most)), 1, said),
         (Err(RunFault::Memory), 2, b"out of memory\n"),
     ] {
-        let mut errors = Vec::new(rt.alloc());
+        let mut errors = Watched::new(Vec::new(rt.alloc()));
         let outcome = outcome.map(|(lines, changed)| Changed { lines, changed });
-        let same = report_changed(&outcome, &mut errors) == status && errors.as_slice() == said;
+        let same = report_changed(&outcome, &mut errors) == status
+            && errors.inner.as_slice() == said;
         assert!(rt; same, "{status}");
     }
 }

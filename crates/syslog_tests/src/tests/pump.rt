@@ -9,7 +9,7 @@ use std::io::{Error, ErrorKind, Write};
 use std::test::Fail;
 use syslog_command_line::report::report;
 use syslog_lines::pump::pump;
-use syslog_lines::{LineFilter, RunFault, Summary, Watched, push_line};
+use syslog_lines::{Frames, LineFilter, RunFault, Summary, Watched, push_line};
 
 /// Writes each line as it came, or none.
 #[derive(Drop)]
@@ -89,7 +89,13 @@ fn flushes_once_and_ends_where_no_more_reads_are_counted(rt: HostRuntime) {
             flushes: 0,
             flush_fails,
         });
-        let outcome = pump(rt.alloc(), &Echo { writes }, &mut reader, &mut writer);
+        let outcome = pump(
+            rt.alloc(),
+            Frames::plain(),
+            &Echo { writes },
+            &mut reader,
+            &mut writer,
+        );
         check(&rt, outcome.err() == want, "outcome");
         check(&rt, writer.inner.taken == taken, "output");
         check(&rt, writer.inner.flushes == flushes, "flushes");
@@ -132,9 +138,9 @@ fn says_how_it_ended(rt: HostRuntime) {
         (Err(RunFault::Write), 2, b"write failed\n"),
         (Err(RunFault::Memory), 2, b"out of memory\n"),
     ] {
-        let mut errors = Vec::new(rt.alloc());
+        let mut errors = Watched::new(Vec::new(rt.alloc()));
         let outcome = outcome.map(|(lines, refused)| Summary { lines, refused });
         check(&rt, report(&outcome, &mut errors) == status, "status");
-        check(&rt, errors.as_slice() == said, "text");
+        check(&rt, errors.inner.as_slice() == said, "text");
     }
 }

@@ -1,5 +1,5 @@
-use Rattle.std.proofs.Common.{◌∙◌}
 use Rattle.syslog_lines.proofs.AnswerLemmas.{IfErr-passed}
+use Rattle.syslog_lines.proofs.CountLemmas.{AreCounts-kept}
 use Rattle.syslog_5424.proofs.filter.write_converted.Goals as goal
 
 pub returns-in_err-tally-clause-err : goal.returns-in_err-tally-clause-err
@@ -7,5 +7,9 @@ returns-in_err-tally-clause-err g c = IfErr-passed _ _ _ c.from_residual.ensures
 
 pub returns-clause-ok : goal.returns-clause-ok
 returns-clause-ok g c =
-    let (answers, all, counted, lines) = c.in_ok-tally.ensures.ok in
-    (answers, all, c.lines.ensures ∙ lines, counted.skipped)
+    let (answers, all, counted, lines) = c.in_ok-tally.ensures.ok in (
+      answers,
+      all,
+      AreCounts-kept c.args.frames c.args.filter.latin1 _ _ _ _ counted lines c.counts.ensures.lines c.counts.ensures.refused
+          c.counts.ensures.refused_invalid c.counts.ensures.too_long c.counts.ensures.replaced,
+    )

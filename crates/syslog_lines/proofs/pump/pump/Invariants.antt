@@ -1,12 +1,14 @@
-use Rattle.syslog_lines.proofs.Names.{◌≡◌, ◌-◌, ◌^◌, false, cut_bytes}
+use Rattle.syslog_lines.proofs.Names.{◌≡◌, ◌-◌, ◌^◌, false, held_bytes, length}
+use Rattle.syslog_lines.proofs.CountLemmas.{IsFresh}
 use Rattle.syslog_lines.proofs.PumpLemmas.{PumpedSoFar}
 use Rattle.syslog_lines.proofs.pump.pump.Given as goal
 
 abbrev pub invariant-loop-block : goal.invariant-loop-block
 invariant-loop-block g l = record {
-  so_far : PumpedSoFar (g.F.LineFilter.answers l.filter) (g.R.Read.remaining l.fn.reader.inner)
+  so_far : PumpedSoFar l.frames (g.F.LineFilter.answers l.filter) (g.R.Read.remaining l.fn.reader.inner)
       (g.R.Read.remaining l.reader.inner) (g.W.Write.contents l.fn.writer.inner) (g.W.Write.contents l.writer.inner)
-      (cut_bytes l.block) l.tally;
+      l.initial.tally l.place (held_bytes l.block) l.tally;
+  seen : l.seen ≡ length (held_bytes l.block);
   reader_well : l.reader.failed ≡ false;
   writer_well : l.writer.failed ≡ false;
 }

@@ -5,7 +5,7 @@ use Rattle.syslog_5424.proofs.filter.Conversions.convert_line.Goals as goal
 
 pub returns : goal.returns
 returns c =
-    let dates = c.args.self.now.dates in
-    told dates (chars c.args.line.now) (text_in c.to_rfc5424_into.new.text) c.to_rfc5424_into.result
-    (told_copied _ dates (chars c.args.line.now) (text_in c.to_rfc5424_into.new.text) c.to_rfc5424_into.result
+    let filter = c.args.self.now in
+    told filter (chars c.args.line.now) (text_in c.to_rfc5424_into.new.text) c.to_rfc5424_into.result
+    (told_copied filter (chars c.args.line.now) (text_in c.to_rfc5424_into.new.text) _ c.to_rfc5424_into.result
     c.to_rfc5424_into.ensures (λ date y is. is.1))

@@ -1,4 +1,4 @@
-use Rattle.std.proofs.Common.{refl, sym}
+use Rattle.std.proofs.Common.{inl, refl, sym}
 use Rattle.std.proofs.lemmas.Str.{IsUtf8-string_bytes, encodes-chars}
 use Rattle.syslog_lines.{proofs.AnswerLemmas.OnErr-any, specs.Output.Written}
 use Rattle.syslog_5424.{proofs.CallLemmas.written_not_refused, specs.Conversions.conversions}
@@ -8,9 +8,9 @@ pub returns-in_ok-push_line-in-Ok-clause-ok : goal.returns-in_ok-push_line-in-Ok
 returns-in_ok-push_line-in-Ok-clause-ok c =
     let spelt = sym (encodes-chars _ (IsUtf8-string_bytes c.convert_line.new.text)) in
     let added = rw c.as_bytes.ensures.value at c.in_ok-push_line-in-Ok.ensures.ok in
-    (Written _, (c.utf8.line, (_, c.in-Ok.ensures.0, c.in-Ok.ensures.1, spelt)), added, refl)
+    (Written _, (_, inl (c.utf8.line, refl), (_, c.in-Ok.ensures.0, c.in-Ok.ensures.1, spelt)), added, refl)
 
 pub returns-in_err-push_line-in-Ok-clause-refusal : goal.returns-in_err-push_line-in-Ok-clause-refusal
 returns-in_err-push_line-in-Ok-clause-refusal c =
-    OnErr-any _ ((conversions c.args.self.now.dates).Wants c.args.line.now)
-    (c.utf8.line, written_not_refused c.args.self.now.dates _ _ c.in-Ok.ensures.1)
+    OnErr-any _ ((conversions c.args.self.now).Wants c.args.line.now)
+    (λ utf8. written_not_refused c.args.self.now _ _ c.in-Ok.ensures.1)

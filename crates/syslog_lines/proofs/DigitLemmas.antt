@@ -1,0 +1,168 @@
+-- The digits that bytes begin with, and the count that they may be.
+use Rattle.syslog_lines.proofs.Names.{◌≡◌, ◌≢◌, ◌+◌, ◌-◌, ◌<◌, ◌≤◌, ℕ, List, [], ◌∷◌, ◌++◌, length, take, drop, slice_index}
+use Rattle.syslog_lines.proofs.Names.{inl, inr, refl, sym, ◌∙◌, ap, subst, arith, cases_eq, All-nil, get_or, take-append-drop, append_assoc}
+use Rattle.std.proofs.Common.{length-append, length-take, ◌⊎◌, suc, zero}
+use Rattle.std.proofs.Math.Seq.{get_or-append_seam, take-append_seam, drop-append_seam}
+use Rattle.std.proofs.lemmas.Bool.{cases_lt}
+use Rattle.std.proofs.Common.{◌*◌, ◌^◌, add-one}
+use Rattle.std.proofs.Math.Nat.{pow-le-pow_right, pow-suc}
+use Rattle.std.proofs.lemmas.List.{get_or-take, get_or_append_left, drop_more}
+use Rattle.std.proofs.lemmas.List.Elements.{All-cons, All-get_or}
+use Rattle.std.specs.List.{All}
+use Rattle.syslog_lines.specs.Frames.{AreDigits, IsCount, IsCounted, IsDigit, IsOpen, IsUncounted, number_after}
+use Rattle.syslog_lines.specs.declared.framing.Framing.{Framing}
+use Rattle.syslog_lines.specs.declared.framing.Framing.TheVariants.{LineFeeds, Nuls, OctetCounts}
+
+pub le_or_lt : (a b : ℕ) → (a ≤ b) ⊎ (b < a)
+le_or_lt a b = elim (cases_lt b a) [ inl low ↦ inr low | inr high ↦ inl high ]
+
+pub number_after-push : (before : ℕ) (digits : List ℕ) (digit : ℕ)
+    → number_after before (digits ++ digit ∷ []) ≡ number_after before digits * 10 + (digit - 48)
+number_after-push before [] digit = refl
+number_after-push before (first ∷ digits) digit = number_after-push (before * 10 + (first - 48)) digits digit
+
+-- the number of up to eight digits, and of one more
+pub small_number : (octets size : ℕ) → size < 9 → octets < 10 ^ size → octets < 100000000
+small_number octets size few small = let most : 10 ^ size ≤ 10 ^ 8 = pow-le-pow_right {n = 10} (omega arith) {i = size} {j = 8} (omega arith) in
+    omega (arith, most)
+
+pub larger_number : (octets size digit : ℕ) → IsDigit digit → octets < 10 ^ size
+    → octets * 10 + (digit - 48) < 10 ^ (size + 1)
+larger_number octets size digit is small = rw (add-one, pow-suc 10 size) (omega (arith, is.0, is.1, small))
+
+digit_or_not : (byte : ℕ) → IsDigit byte ⊎ (¬ (IsDigit byte))
+digit_or_not byte = elim (le_or_lt 48 byte) [
+  | inl low ↦ elim (le_or_lt byte 57) [
+    | inl high ↦ inl (low, high)
+    | inr high ↦ inr (λ is. omega (arith, is.1, high))
+  ]
+  | inr low ↦ inr (λ is. omega (arith, is.0, low))
+]
+
+-- so many digits, and no more up to a limit
+digits_within : (limit : ℕ) (bytes : List ℕ) → (size : ℕ) × (size ≤ limit) × (size ≤ length bytes)
+    × All IsDigit (take size bytes) × (size < limit → size < length bytes → ¬ (IsDigit (slice_index bytes size)))
+digits_within zero bytes = (0, omega arith, omega arith, All-nil IsDigit, λ low. absurd (omega arith))
+digits_within (suc limit) [] = (0, omega arith, omega arith, All-nil IsDigit, λ low within. absurd (omega arith))
+digits_within (suc limit) (byte ∷ bytes) = elim (digit_or_not byte) [
+  | inl is ↦
+      let (size, few, within, each, last) = digits_within limit bytes in (
+        suc size,
+        omega arith,
+        omega arith,
+        All-cons IsDigit byte (take size bytes) is each,
+        λ low inside. last (omega arith) (omega arith),
+      )
+  | inr other ↦ (0, omega arith, omega arith, All-nil IsDigit, λ low within. other)
+]
+
+-- the digits of a count are all that there are
+module _ (bytes : List ℕ) (size number : ℕ) (are : AreDigits bytes size number) (digits : List ℕ) (octets : ℕ) (rest : List ℕ)
+    (count : IsCount digits octets) (same : bytes ≡ digits ++ 32 ∷ rest) where
+  space : slice_index bytes (length digits) ≡ 32
+  space = rw same (get_or-append_seam digits 32 rest 0)
+
+  long : length digits < length bytes
+  long = omega (arith, ap length same, length-append digits (32 ∷ rest))
+
+  pub digits_same : length digits ≡ size
+  digits_same = elim (le_or_lt size (length digits)) [
+    | inl high ↦ elim (le_or_lt (length digits) size) [
+      | inl low ↦ omega arith
+      | inr more ↦ absurd (are.last (omega (arith, count.few)) (omega (arith, long))
+          (subst IsDigit (sym (ap (λ (l : List ℕ). slice_index l size) same ∙ get_or_append_left digits (32 ∷ rest) 0 size more))
+          (All-get_or IsDigit digits size 0 more count.each)))
+    ]
+    | inr less ↦ absurd (
+        let digit = All-get_or IsDigit (take size bytes) (length digits) 0
+        (omega (arith, length-take size bytes, are.within)) are.each in
+        omega (arith, subst IsDigit (get_or-take size bytes (length digits) 0 less ∙ space) digit))
+  ]
+
+  pub count_ends : slice_index bytes size ≡ 32
+  count_ends = subst (λ (n : ℕ). slice_index bytes n ≡ 32) digits_same space
+
+  pub count_within : size < length bytes
+  count_within = omega (arith, digits_same, long)
+
+  pub count_some : 0 < size
+  count_some = omega (arith, digits_same, count.some)
+
+  pub count_first : slice_index bytes 0 ≢ 48
+  count_first = rw (same, get_or_append_left digits (32 ∷ rest) 0 0 count.some) count.first
+
+-- digits with a space after them are a count
+pub count_is : (bytes : List ℕ) (size number : ℕ) → AreDigits bytes size number → 0 < size → slice_index bytes 0 ≢ 48
+    → size < length bytes → slice_index bytes size ≡ 32 → IsCounted OctetCounts bytes number (drop (size + 1) bytes)
+count_is bytes size number are some first within space = (
+  take size bytes,
+  record {
+    some = omega (arith, length-take size bytes);
+    few = omega (arith, length-take size bytes, are.few);
+    first = rw (get_or-take size bytes 0 0 some) first;
+    each = are.each;
+    value = are.value;
+  },
+  sym (take-append-drop size bytes) ∙ ap (λ (l : List ℕ). take size bytes ++ l)
+      (rw space at (drop_more bytes size 0 within)),
+)
+
+pub count_or_not : (framing : Framing) (bytes : List ℕ)
+    → ((octets : ℕ) × (rest : List ℕ) × IsCounted framing bytes octets rest) ⊎ IsUncounted framing bytes
+count_or_not LineFeeds bytes = inr (λ octets rest is. absurd is)
+count_or_not Nuls bytes = inr (λ octets rest is. absurd is)
+count_or_not OctetCounts bytes =
+    let (size, few, within, each, last) = digits_within 9 bytes in
+    let are : AreDigits bytes size (number_after 0 (take size bytes)) =
+    record { few = few; within = within; each = each; value = refl; last = last } in
+    elim (le_or_lt (length bytes) size) [
+      | inl short ↦ inr (λ octets rest (digits, count, same).
+          omega (arith, count_within bytes size _ are digits octets rest count same))
+      | inr inside ↦ elim (cases_eq (slice_index bytes size) 32) [
+        | inl space ↦ elim (cases_eq size 0) [
+          | inl none ↦ inr (λ octets rest (digits, count, same).
+              omega (arith, count_some bytes size _ are digits octets rest count same))
+          | inr some ↦ elim (cases_eq (slice_index bytes 0) 48) [
+            | inl zero_first ↦ inr (λ octets rest (digits, count, same).
+                count_first bytes size _ are digits octets rest count same zero_first)
+            | inr first ↦ inl (_, _, count_is bytes size _ are (omega arith) first inside space)
+          ]
+        ]
+        | inr other ↦ inr (λ octets rest (digits, count, same).
+            other (count_ends bytes size _ are digits octets rest count same))
+      ]
+    ]
+
+-- the count and what follows it are the only ones
+module _ (bytes : List ℕ) where
+  found : (size : ℕ) × (size ≤ 9) × (size ≤ length bytes)
+      × All IsDigit (take size bytes) × (size < 9 → size < length bytes → ¬ (IsDigit (slice_index bytes size)))
+  found = digits_within 9 bytes
+
+  found_are : AreDigits bytes found.0 (number_after 0 (take found.0 bytes))
+  found_are = record { few = found.1; within = found.2; each = found.3; value = refl; last = found.4 }
+
+  found_digits : (digits : List ℕ) (octets : ℕ) (rest : List ℕ) → IsCount digits octets → bytes ≡ digits ++ 32 ∷ rest
+      → (digits ≡ take found.0 bytes) × (rest ≡ drop (found.0 + 1) bytes)
+  found_digits digits octets rest count same =
+      let size = digits_same bytes found.0 (number_after 0 (take found.0 bytes)) found_are digits octets rest count same in
+      let long : length (digits ++ 32 ∷ []) ≡ found.0 + 1 = omega (arith, length-append digits (32 ∷ []), size) in (
+        sym (take-append_seam digits (32 ∷ rest)) ∙ ap (take (length digits)) (sym same)
+            ∙ ap (λ (n : ℕ). take n bytes) size,
+        sym (drop-append_seam (digits ++ 32 ∷ []) rest)
+            ∙ ap (drop (length (digits ++ 32 ∷ []))) (append_assoc digits (32 ∷ []) rest ∙ sym same)
+            ∙ ap (λ (n : ℕ). drop n bytes) long,
+      )
+
+pub few_octets : (framing : Framing) (bytes : List ℕ) (octets : ℕ) (rest : List ℕ) → IsCounted framing bytes octets rest
+    → IsOpen framing bytes → length rest < octets
+few_octets LineFeeds bytes octets rest is unended = absurd is
+few_octets Nuls bytes octets rest is unended = absurd is
+few_octets OctetCounts bytes octets rest is (message, inr (none, free, same)) = absurd (none octets rest is)
+few_octets OctetCounts bytes octets rest (digits, count, same) (message, inl (other, few, (others, counts, equal))) =
+    let first = found_digits bytes digits octets rest count same in
+    let second = found_digits bytes others other message counts equal in
+    let one : octets ≡ other =
+    count.value ∙ ap (number_after 0) (first.0 ∙ sym second.0) ∙ sym counts.value in
+    let rests : rest ≡ message = first.1 ∙ sym second.1 in
+    omega (arith, one, ap length rests, few)

@@ -1,0 +1,30 @@
+-- The byte order mark, byte by byte.
+use Rattle.syslog_lines.proofs.Names.{◌≡◌, ◌≢◌, ◌+◌, ◌<◌, ◌≤◌, ℕ, List, [], ◌∷◌, ◌++◌, length, take, drop, slice_index}
+use Rattle.syslog_lines.proofs.Names.{inl, inr, refl, sym, ◌∙◌, ap, arith, append_assoc}
+use Rattle.std.proofs.lemmas.List.{get_or_append_left}
+use Rattle.syslog_lines.specs.Frames.{mark}
+use Rattle.syslog_lines.specs.Place.{HasMark, IsMarkFront, Settles}
+
+-- a byte that is not that of the mark
+module _ (bytes : List ℕ) (k : ℕ) (within : k < length bytes) (inside : k < 3)
+    (other : slice_index bytes k ≢ slice_index mark k) where
+  unmarked : (more rest : List ℕ) → bytes ++ more ≡ mark ++ rest → ⊥
+  unmarked more rest is = other (sym (get_or_append_left bytes more 0 k within)
+      ∙ ap (λ (l : List ℕ). slice_index l k) is ∙ get_or_append_left mark rest 0 k (omega (arith, inside)))
+
+  pub no_mark : HasMark bytes 0
+  no_mark = (omega arith, λ more. inr (refl, unmarked more))
+
+pub whole_mark : (bytes : List ℕ) → 2 < length bytes → slice_index bytes 0 ≡ 0xEF → slice_index bytes 1 ≡ 0xBB
+    → slice_index bytes 2 ≡ 0xBF → HasMark bytes 3
+whole_mark [] long a b c = absurd (omega arith)
+whole_mark (x ∷ []) long a b c = absurd (omega arith)
+whole_mark (x ∷ y ∷ []) long a b c = absurd (omega arith)
+whole_mark (x ∷ y ∷ z ∷ rest) long a b c = (omega arith, λ more. rw (a, b, c) (inl refl))
+
+pub mark_front : (bytes : List ℕ) → length bytes ≤ 2 → (0 < length bytes → slice_index bytes 0 ≡ 0xEF)
+    → (1 < length bytes → slice_index bytes 1 ≡ 0xBB) → IsMarkFront bytes
+mark_front [] short a b = inl refl
+mark_front (x ∷ []) short a b = inr (inl (rw (a (omega arith)) refl))
+mark_front (x ∷ y ∷ []) short a b = inr (inr (rw (a (omega arith), b (omega arith)) refl))
+mark_front (x ∷ y ∷ z ∷ rest) short a b = absurd (omega arith)

@@ -1,0 +1,142 @@
+//! Where in the input the bytes are that were read and are not done with.
+ghost use Rattle.std.specs.Prelude.{◌≡◌, ◌-◌, ◌≤◌, true, ℕ, List, MatchOption, length, take, drop};
+ghost use Rattle.syslog_lines.specs.declared.place.Entry.TheVariants.{After};
+ghost use Rattle.syslog_lines.specs.Frames.{IsOpen, is_above};
+ghost use Rattle.syslog_lines.specs.Place.{CountsLong, Enters, HasMark, IsAt, IsHeld, IsMarkFront, IsSeen, Opened};
+ghost use Rattle.syslog_lines.specs.Place.{PassesMark, StartsAt};
+ghost use Rattle.syslog_lines.specs.declared.place.Place.TheVariants.{Frame, Head};
+
+use crate::frames::cut_message;
+use crate::framing::Frames;
+use crate::summary::Tally;
+use memchr::memchr;
+
+/// Where the bytes are that come next.
+#[derive(Clone, Copy, PartialEq, Eq)]
+pub enum Place {
+    /// At the head of the input, where a byte order mark may be.
+    Head,
+    /// Where a frame begins.
+    Frame,
+    /// In a message that is too long, and goes on up to an ending.
+    Ending,
+    /// In a message that is too long, and has so many octets more.
+    Octets(usize),
+}
+
+/// What the first of the bytes are.
+pub enum Entry {
+    /// So many bytes, and then a frame begins, of which so many were seen before.
+    After(usize, usize),
+    /// So many bytes, and then no frame begins.
+    Only(usize),
+}
+
+impl Place {
+    /// Returns the place of the first bytes.
+    pub fn start(frames: Frames) -> Place
+        ensures { StartsAt frames result }
+    {
+        if frames.strips {
+            Place::Head
+        } else {
+            Place::Frame
+        }
+    }
+
+    /// Goes on to where a frame begins, and counts a message that is too long and ends before. The first `seen` bytes
+    /// were seen before.
+    pub fn enter(&mut self, frames: Frames, bytes: &[u8], seen: usize, tally: &mut Tally) -> Entry
+        requires within { seen ≤ length bytes.now }
+        requires seen { IsSeen frames.framing self.old (take seen bytes.now) }
+        ensures { Enters frames self.old self.new bytes.now tally.old tally.new result }
+    {
+        match *self {
+            Place::Head => self.pass_mark(bytes),
+            Place::Frame => Entry::After(0, seen),
+            Place::Ending => match memchr(frames.framing.ending(), bytes) {
+                Some(end) => self.end_long(end + 1, tally),
+                None => Entry::Only(bytes.len()),
+            },
+            Place::Octets(left) if left > bytes.len() => {
+                *self = Place::Octets(left - bytes.len());
+                Entry::Only(bytes.len())
+            }
+            Place::Octets(left) => self.end_long(left, tally),
+        }
+    }
+
+    // Counts a message that is too long and ends here.
+    fn end_long(&mut self, end: usize, tally: &mut Tally) -> Entry
+        ensures place { self.new ≡ Frame }
+        ensures entry { result ≡ After end 0 }
+        ensures counted { CountsLong tally.old tally.new }
+    {
+        tally.count_long();
+        *self = Place::Frame;
+        Entry::After(end, 0)
+    }
+
+    // Passes a byte order mark over.
+    fn pass_mark(&mut self, bytes: &[u8]) -> Entry
+        requires { self.old ≡ Head }
+        ensures { PassesMark self.new bytes.now result }
+    {
+        let Some(size) = mark_size(bytes) else {
+            return Entry::Only(0);
+        };
+        *self = Place::Frame;
+        Entry::After(size, 0)
+    }
+
+    /// Returns how many bytes of a frame that is cut are done with: all, if its message is too long.
+    pub fn leave(&mut self, frames: Frames, bytes: &[u8]) -> usize
+        requires place { self.old ≡ Frame }
+        requires open { IsOpen frames.framing bytes.now }
+        ensures within { result ≤ length bytes.now }
+        ensures held { IsHeld frames.framing self.new (drop result bytes.now) }
+        ensures at { (input : List ℕ) (messages : List (List ℕ)) → Opened frames input messages bytes.now
+            → IsAt frames self.new input messages (drop result bytes.now) }
+    {
+        let (message, missing) = cut_message(frames.framing, bytes);
+        if !is_long_front(frames, bytes.len(), message.len()) {
+            return 0;
+        }
+        *self = match missing {
+            Some(octets) => Place::Octets(octets),
+            None => Place::Ending,
+        };
+        bytes.len()
+    }
+}
+
+// Returns whether the message of a frame that is cut is too long, of which so many bytes are there. Two bytes at its end may
+// yet be left out, and ten of the frame show whether there is a count.
+fn is_long_front(frames: Frames, size: usize, message: usize) -> bool
+    ensures { result ≡ true → (10 ≤ size) × (is_above frames.longest (message - 2) ≡ true) }
+{
+    if size < 10 {
+        return false;
+    }
+    frames.is_too_long(message.saturating_sub(2))
+}
+
+// Returns the size of the byte order mark that the bytes begin with, 0 if it is none, and nothing if they don't show it.
+fn mark_size(bytes: &[u8]) -> Option<usize>
+    ensures { MatchOption result (IsMarkFront bytes.now) (λ size. HasMark bytes.now size) }
+{
+    let size = bytes.len();
+    if size > 0 && bytes[0] != 0xEF {
+        return Some(0);
+    }
+    if size > 1 && bytes[1] != 0xBB {
+        return Some(0);
+    }
+    if size > 2 && bytes[2] != 0xBF {
+        return Some(0);
+    }
+    if size > 2 {
+        return Some(3);
+    }
+    None
+}
