@@ -5,3 +5,4 @@ mod GatherLemmas
 mod WriterLemmas
 pub mod UnescapedLemmas
 pub mod WrittenLemmas
+pub mod ElementsLemmas

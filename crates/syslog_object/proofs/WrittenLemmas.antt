@@ -155,7 +155,7 @@ mutual
 -- ---- no value of a line has a large number or nests deep
 
 -- the value has small numbers, and nests no deeper
-abbrev IsFlat : ℕ → Json → Type 0
+abbrev pub IsFlat : ℕ → Json → Type 0
 IsFlat n d = HasSmallNumbers d × (depth d ≤ n)
 
 flat_object : (n : ℕ) (ps : List (List ℕ × Json)) → AllByRecursion (λ p. IsFlat n p.1) ps
@@ -202,11 +202,11 @@ flat_element : (element : ElementValue) → IsFlat 2 (element_json element)
 flat_element element = flat_gathered 0 _ (each_mapped (λ p. IsFlat 0 p.1) param_pair (λ p. (tt, omega arith)) element.params)
 
 -- the value, if any, has small numbers and nests no deeper
-abbrev IsFlatField : Option Json → Type 0
+abbrev pub IsFlatField : Option Json → Type 0
 IsFlatField None = ⊤
 IsFlatField (Some value) = IsFlat 4 value
 
-flat_structured : (elements : List ElementValue) → IsFlatField (structured_json elements)
+pub flat_structured : (elements : List ElementValue) → IsFlatField (structured_json elements)
 flat_structured [] = tt
 flat_structured (e ∷ es) = flat_gathered 2 (map element_pair (e ∷ es)) (each_mapped (λ p. IsFlat 2 p.1) element_pair flat_element (e ∷ es))
 
@@ -271,7 +271,7 @@ flat_message m b small = flat_object 4 (present (fields_of m b)) (flat_fields (f
 ))
 
 -- ---- what was written is the text of its value
-text_of_small : (j : Json) → HasSmallNumbers j → depth j ≤ 5 → IsTextOf j (compact_text j)
+pub text_of_small : (j : Json) → HasSmallNumbers j → depth j ≤ 5 → IsTextOf j (compact_text j)
 text_of_small j small shallow = record {
   read_back = ap document (printed j) ∙ document-print j (numbers j small) (omega (arith, shallow));
   compact = printed j;

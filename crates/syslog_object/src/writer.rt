@@ -1,5 +1,5 @@
 //! The writer of a line's object that is given the elements while the line is read.
-ghost use Rattle.std.specs.Prelude.{◌≡◌, ◌≢◌, ◌≤◌, ◌++◌, ◌∷◌, [], List, ℕ, OnErr, OnOk};
+ghost use Rattle.std.specs.Prelude.{◌≡◌, ◌≢◌, ◌≤◌, ◌++◌, ◌∷◌, [], List, ℕ, IfOk, OnErr, OnOk};
 ghost use Rattle.std.specs.Prelude.{codes, cond, length, map, take};
 ghost use Rattle.std.specs.Bool.{OnTrue};
 ghost use Rattle.json.specs.Print.{quoted};
@@ -10,12 +10,14 @@ ghost use Rattle.syslog_pieces.specs.StructuredData.Visited.{element_seen, list_
 ghost use Rattle.syslog_loose.specs.Line.{line_value};
 ghost use Rattle.syslog_pieces.specs.Pieces.Class.{Text};
 ghost use Rattle.syslog_loose.specs.Unparsed.{IsLeftUnparsed};
+ghost use Rattle.syslog_object.specs.Elements.{IsStructuredText, elements_text};
 ghost use Rattle.syslog_object.specs.Object.{beside_line, message_json, param_pair, structured_json};
 ghost use Rattle.syslog_object.specs.Parts.{IsNewKey, field_text, object_text};
 ghost use Rattle.syslog_object.specs.Places.{before_member};
 ghost use Rattle.syslog_object.specs.Written.{IsTextOf};
 ghost use Rattle.syslog_object.specs.Writer.{AreWritten, HasWritten};
 
+use crate::element::push_elements;
 use crate::gather::{are_distinct, push_each, push_key};
 use crate::object::{push_back, push_front, push_list};
 use crate::output::Output;
@@ -112,6 +114,26 @@ impl<'a> ObjectWriter<'a> {
         output.extend_from_slice(&text.as_slice()[start..])
     }
 
+    /// Returns the object of the elements that it was given, as the object of their line has it; nothing where there are
+    /// none. It is written into the vector that the writer was given or grew. Memory is asked for as by `write`.
+    pub fn into_elements(self, list: &ElementList<'_>) -> Result<Vec<u8>, AllocError>
+        requires { HasWritten self (list_elements list.now) }
+        ensures { IfOk result (λ text. IsStructuredText (list_elements list.now) text.items) }
+    {
+        let has_elements = self.is_whole && self.count > 0;
+        let ObjectWriter {
+            alloc,
+            mut text,
+            ..
+        } = self;
+        close_elements(&mut text, has_elements)?;
+        if has_elements {
+            return Ok(text.into_bytes());
+        }
+        push_any_elements(alloc, &mut text, list)?;
+        Ok(text.into_bytes())
+    }
+
     /// Returns the vector that it was given or grew, for another writer. What that holds doesn't count.
     #[inline(always)]
     pub fn into_memory(self) -> Vec<u8> {
@@ -181,6 +203,20 @@ fn push_again_or_list(
     } else {
         push_list(alloc, text, list)
     }
+}
+
+// Appends the object of the elements, where there are some.
+fn push_any_elements(
+    alloc: Global,
+    out: &mut Output,
+    list: &ElementList<'_>,
+) -> Result<(), AllocError>
+    ensures { OnOk result (out.new ≡ out.old ++ elements_text (list_elements list.now)) }
+{
+    if list.is_empty() {
+        return Ok(());
+    }
+    push_elements(alloc, out, list)
 }
 
 impl<'a> ElementVisitor<'a> for ObjectWriter<'a> {

@@ -1,0 +1,83 @@
+//! Which messages a filter is asked for: by severity, host and app name.
+//!
+//! The choice of the severity `err` and the host `gw` chooses the messages of that host that are errors or worse.
+#![tactic(auto)]
+
+ghost use Rattle.std.specs.Prelude.{◌≡◌, ◌↔◌, IfSome, IsTrue, Some};
+ghost use Rattle.std.specs.Str.{chars};
+ghost use Rattle.syslog_loose.specs.Line.{line_value};
+ghost use Rattle.syslog_pieces.specs.Pieces.View.{seen};
+ghost use Rattle.syslog_choice.specs.Chosen.{IsAsSevere, IsChosen, IsEverything};
+
+use syslog_loose::{Line, SyslogSeverity};
+
+/// Which messages are chosen: those that have all that is given.
+#[derive(Clone, Copy)]
+pub struct Choice<'a> {
+    /// The least severe severity that is chosen.
+    pub severity: Option<SyslogSeverity>,
+    /// The host.
+    pub host: Option<&'a str>,
+    /// The app name.
+    pub app: Option<&'a str>,
+}
+
+impl Choice<'_> {
+    /// Returns whether nothing is given, so that every message is chosen.
+    #[inline(always)]
+    pub fn is_everything(&self) -> bool
+        ensures { IsTrue result ↔ IsEverything self.now }
+    {
+        self.severity.is_none() && self.host.is_none() && self.app.is_none()
+    }
+
+    /// Returns whether the message of the line is chosen.
+    #[inline(always)]
+    pub fn is_chosen(&self, line: &Line<'_>) -> bool
+        ensures { IsTrue result ↔ IsChosen self.now (line_value line.now) }
+    {
+        is_severe(self.severity, line)
+            && is_named(self.host, line.hostname)
+            && is_named(self.app, line.appname)
+    }
+}
+
+// Whether the line has this severity or a worse one, where one is given.
+#[inline(always)]
+fn is_severe(least: Option<SyslogSeverity>, line: &Line<'_>) -> bool
+    ensures { IsTrue result ↔ IfSome least (λ it. IsAsSevere it (line_value line.now)) }
+{
+    match least {
+        Some(least) => has_severity(least, line),
+        None => true,
+    }
+}
+
+fn has_severity(least: SyslogSeverity, line: &Line<'_>) -> bool
+    ensures { IsTrue result ↔ IsAsSevere least (line_value line.now) }
+{
+    match line.severity() {
+        Some(severity) => severity as u8 <= least as u8,
+        None => false,
+    }
+}
+
+// Whether the name is the one that is given, where one is.
+#[inline(always)]
+fn is_named(given: Option<&str>, name: Option<&str>) -> bool
+    ensures { IsTrue result ↔ IfSome given.entry (λ it. seen name.entry ≡ Some (chars it.now)) }
+{
+    match given {
+        Some(given) => match name {
+            Some(name) => is_same(name, given),
+            None => false,
+        },
+        None => true,
+    }
+}
+
+fn is_same(name: &str, given: &str) -> bool
+    ensures { IsTrue result ↔ (chars name.now ≡ chars given.now) }
+{
+    name == given
+}

@@ -1,0 +1,9 @@
+use Rattle.std.proofs.Common.{◌∙◌, ap, decimal, sym}
+use Rattle.syslog_pieces.specs.Pri.{facility_number}
+use Rattle.syslog_csv.proofs.CellLemmas.{number_digits}
+use Rattle.syslog_csv.proofs.cells.facility_code_cell.Goals as goal
+
+pub returns-in-Some : goal.returns-in-Some
+returns-in-Some c =
+    rw c.in-Some.is (c.as_bytes.ensures.value ∙ c.format.ensures.text ∙ ap decimal c.facility_code.ensures
+    ∙ sym (number_digits (decimal (facility_number c.in-Some.facility))))

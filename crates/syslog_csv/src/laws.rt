@@ -1,0 +1,16 @@
+//! Laws of the definitions of records.
+ghost use Rattle.std.specs.Prelude.{◌≡◌, ◌≢◌, ◌++◌, ◌∷◌, [], List, ℕ};
+ghost use Rattle.std.specs.List.{AllByRecursion, flat_map};
+ghost use Rattle.syslog_csv.specs.Records.{AreRecords, record_text};
+
+/// A text is divided into records, each with CR LF after it, in one way at most.
+pub fn records_are_divided_once()
+    ensures { (text : List ℕ) (records others : List (List (List ℕ))) → AreRecords text records
+        → AreRecords text others → others ≡ records }
+{}
+
+/// Records that are written one after the other, each with CR LF after it, are divided into these.
+pub fn written_records_are_read_back()
+    ensures { (records : List (List (List ℕ))) → AllByRecursion (λ fields. fields ≢ []) records
+        → AreRecords (flat_map (λ fields. record_text fields ++ (13 ∷ 10 ∷ [])) records) records }
+{}

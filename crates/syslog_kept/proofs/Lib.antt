@@ -1,0 +1,3 @@
+mod PartLemmas
+mod ObjectLemmas
+pub mod KeptLemmas

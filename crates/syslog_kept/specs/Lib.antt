@@ -1,0 +1,3 @@
+pub mod Part
+pub mod Elements
+pub mod Kept
