@@ -1,5 +1,5 @@
 -- A text has one front of each class of a line of Cisco's.
-use Rattle.std.proofs.Common.{◌≡◌, ℕ, [], ◌∷◌, Option, refl, arith}
+use Rattle.std.proofs.Common.{◌≡◌, ℕ, [], ◌∷◌, ◌++◌, Option, refl, arith, append_assoc, ap, subst, sym, ◌∙◌}
 use Rattle.std.specs.Char.{is_ascii_digit}
 use Rattle.syslog_pieces.specs.Pieces.Class.{Text, Values, Front, NoFront, NoDivision, IsDeterministic, Row, exactly, optional, run, some_run}
 use Rattle.syslog_pieces.specs.Pieces.Rules.{such_that}
@@ -11,7 +11,7 @@ use Rattle.syslog_pieces.proofs.TimestampLemmas.Rfc3339.{year_det}
 use Rattle.syslog_dialects.specs.Cisco.{begins_host, IsMnemonic, origin, mnemonic, counter_row, label_row, label}
 use Rattle.syslog_dialects.specs.Cisco.{task_row, mark, start_row, labelled, start, front_year_row, front_year, date_row}
 use Rattle.syslog_dialects.specs.Cisco.{place_row, place, message_row, cisco_row, IsAsa, IsNxOs, undated_row}
-use Rattle.syslog_dialects.specs.Cisco.{asa_form, cisco_forms, cisco_sent, ios_form, nx_os_form}
+use Rattle.syslog_dialects.specs.Cisco.{IsDated, asa_form, cisco_forms, cisco_sent, ios_form, nx_os_form}
 use Rattle.syslog_dialects.specs.Dialects.{IsOfNone, IsOnlyOf}
 use Rattle.syslog_dialects.specs.Sent.{SentValue}
 use Rattle.syslog_dialects.specs.declared.dialect.Dialect.TheVariants.{CiscoAsa, CiscoIos, CiscoNxOs}
@@ -20,6 +20,8 @@ use Rattle.syslog_dialects.specs.Zone.{bare_word}
 use Rattle.syslog_dialects.proofs.DateLemmas.{any_date_det}
 use Rattle.syslog_dialects.proofs.DialectLemmas.{here, later}
 use Rattle.syslog_dialects.proofs.FormLemmas.{says_once}
+use Rattle.syslog_dialects.specs.Date.{any_date}
+use Rattle.syslog_dialects.specs.declared.sent.SentDate.{SentDate}
 use Rattle.syslog_dialects.proofs.ZoneLemmas.{bare_word_det}
 
 colon_det : IsDeterministic (exactly colon)
@@ -126,3 +128,21 @@ module _ {t : Text} {vs : Values cisco_row} (f : Front (Row cisco_row) t [] vs) 
   in_ios no_asa no_nx_os = later asa_form (nx_os_form ∷ ios_form ∷ []) t CiscoIos sent (not_such IsAsa no_asa)
       (later nx_os_form (ios_form ∷ []) t CiscoIos sent (not_such IsNxOs no_nx_os)
       (here ios_form [] t sent (says_once CiscoIos cisco_row cisco_sent cisco_row_det f e)))
+
+-- ---- a line whose date was read already
+
+-- where what comes before the date leaves as much of the text as the blanks before it
+pub dated_here : {t u s a r : Text} {host : Option Text} {y : Option ℕ} {date : SentDate} → Front (run is_blank) t u tt
+    → Front any_date u r date → Front start t s host → Front (optional front_year) s a y
+    → ((p q : Text) → p ++ a ≡ q ++ u → a ≡ u) → IsDated t host y date r
+dated_here {u = u} {s = s} {a = a} {r = r} {date = date} gap d f g one =
+    let whole : (f.piece ++ g.piece) ++ a ≡ gap.piece ++ u =
+    append_assoc f.piece g.piece a ∙ ap (λ (x : Text). f.piece ++ x) (sym g.whole) ∙ sym f.whole ∙ gap.whole in
+    let same = one (f.piece ++ g.piece) gap.piece whole in
+    record {
+      started = s;
+      at_date = a;
+      front = f;
+      year = g;
+      dated = subst (λ (x : Text). Front any_date x r date) (sym same) d;
+    }

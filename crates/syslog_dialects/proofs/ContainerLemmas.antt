@@ -1,6 +1,6 @@
 -- A text has one division into the row of a container's log file.
-use Rattle.std.proofs.Common.{◌≡◌, List, [], ◌∷◌, ◌++◌, refl, sym, ap, subst, ◌∙◌, append-nil}
-use Rattle.syslog_pieces.specs.Pieces.Class.{Text, Class, Values, Front, NoFront, IsDeterministic, Row, exactly}
+use Rattle.std.proofs.Common.{◌≡◌, [], ◌++◌, refl, sym, ap, subst, ◌∙◌, append-nil}
+use Rattle.syslog_pieces.specs.Pieces.Class.{Text, Values, Front, NoFront, IsDeterministic, Row}
 use Rattle.syslog_pieces.specs.Text.{is_blank}
 use Rattle.syslog_pieces.proofs.PieceLemmas.Class.{AllDeterministic, ◌also◌, exactly_det, front_of, no_front_no, run_det}
 use Rattle.syslog_pieces.proofs.PieceLemmas.Rules.{such_det}

@@ -1,5 +1,4 @@
 -- A text has one division into each row of a date and what follows it.
-use Rattle.syslog_pieces.specs.Pieces.Rules.{such_that}
 use Rattle.syslog_pieces.specs.Text.{is_blank}
 use Rattle.syslog_pieces.proofs.PieceLemmas.Class.{AllDeterministic, ◌also◌, run_det, some_run_det}
 use Rattle.syslog_pieces.proofs.PieceLemmas.Rules.{such_det}

@@ -1,6 +1,6 @@
 -- What the readers of forms return.
 use Rattle.std.proofs.Common.{◌≡◌, List, [], ◌∷◌, Option, sym, ap, ◌∙◌}
-use Rattle.syslog_pieces.specs.Pieces.Class.{Text, Class, Values, Front, NoFront, Row, NoDivision}
+use Rattle.syslog_pieces.specs.Pieces.Class.{Text, Class, Values, Front, Row, NoDivision}
 use Rattle.syslog_pieces.proofs.PieceLemmas.Class.{AllDeterministic, front_division, match_map, unique_division}
 use Rattle.syslog_dialects.specs.Dialects.{Finds}
 use Rattle.syslog_dialects.specs.Sent.{Form, IsOnlySent, SentValue, sent_value}

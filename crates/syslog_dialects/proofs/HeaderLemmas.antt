@@ -1,5 +1,5 @@
 -- A header without structured data: one front of each class, and what a text with one says.
-use Rattle.std.proofs.Common.{◌≡◌, [], refl, sym, ap, ◌∙◌}
+use Rattle.std.proofs.Common.{◌≡◌, [], sym, ap, ◌∙◌}
 use Rattle.syslog_pieces.specs.Pieces.Class.{Text, Values, Front, Row}
 use Rattle.syslog_pieces.specs.Text.{is_blank}
 use Rattle.syslog_pieces.proofs.PieceLemmas.Class.{AllDeterministic, ◌also◌, exactly_det, front_division, rest_det, some_run_det}

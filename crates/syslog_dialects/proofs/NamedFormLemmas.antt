@@ -12,6 +12,7 @@ use Rattle.syslog_dialects.specs.Dialects.{Finds, IsOfNone, IsOnlyOf}
 use Rattle.syslog_dialects.specs.Named.{NamedTexts}
 use Rattle.syslog_dialects.proofs.NamedLemmas.{beginning_det, beginning_front, no_beginning}
 use Rattle.syslog_dialects.specs.NamedForms.{Tail, dated_form, dated_row, front_row, says, tail_forms, undated_form, undated_row}
+use Rattle.syslog_dialects.specs.NamedForms.{all_named, message_tails, program_forms, program_tails, undated_forms}
 use Rattle.syslog_dialects.specs.Sent.{Form, IsOnlySent, SentValue, loose, sent_value}
 use Rattle.syslog_dialects.specs.declared.dialect.Dialect.{Dialect}
 use Rattle.syslog_dialects.specs.declared.sent.Sent.{Sent}
@@ -69,6 +70,12 @@ none_undated (T ∷ Ts) n = (
   no_row_division (dated_row T.after T.names) (rows_none_here front_row (mapped T.after NamedTexts T.names ∷ []) n),
   none_undated Ts n,
 )
+
+-- then the forms of texts without a date are tried
+pub none_named : {text : Text} (r : Option (Dialect × Sent)) → NoFront (Row front_row) text → Finds undated_forms text r
+    → Finds all_named text r
+none_named {text} r n h = found_after (tail_forms message_tails) program_forms text r (none_undated message_tails n)
+    (found_after (tail_forms program_tails) undated_forms text r (none_undated program_tails n) h)
 
 module _ (T : Tail) (Fs : List Form) (det : IsDeterministic T.after) {text rest : Text} {d : SentDate}
     (f : Front (Row front_row) text rest (tt, (d, (tt, tt)))) where

@@ -30,7 +30,7 @@ use Rattle.syslog_loose.specs.Printed.{rest_text, spaced_elements, tag_text}
 use Rattle.syslog_loose.specs.Visit.{IsLineOf}
 use Rattle.syslog_loose.specs.declared.line.Line.{Line}
 use Rattle.syslog_loose.specs.declared.variant.Variant.{Variant}
-use Rattle.syslog_dialects.specs.Ordinary.{IsOrdinary, IsTag, IsTagged, are_digits, is_odd_app, mark, tag_row}
+use Rattle.syslog_dialects.specs.Ordinary.{IsOrdinary, IsTag, IsTagged, are_digits, is_odd, mark, tag_row}
 
 -- ---- what `strip_prefix` gives
 
@@ -181,11 +181,15 @@ module _ (line : Line) (host app : Bor (List ℕ)) (e : line.hostname ≡ Some h
   same_app : (is : IsTagged line) → is.app ≡ shown app
   same_app is = let same = sym is.is_app ∙ ap seen f in cc
 
-  -- an odd app name is no tag
-  pub odd_answer : true ≡ is_odd_app (shown app) → IsTagged line → ⊥
-  odd_answer odd is = let none : true ≡ false = odd ∙ sym (ap is_odd_app (same_app is)) ∙ is.plain in cc
+  same_host : (is : IsTagged line) → is.host ≡ shown host
+  same_host is = let same = sym is.is_host ∙ ap seen e in cc
 
-  tagged : is_odd_app (shown app) ≡ false → IsSome line.timestamp → IsTag (shown host) (shown app) (shown line.rest) → IsTagged line
+  -- an odd app name is no tag
+  pub odd_answer : true ≡ is_odd (shown host) (shown app) → IsTagged line → ⊥
+  odd_answer odd is = let none : true ≡ false = odd ∙ sym (ap (λ (t : Text). is_odd t (shown app)) (same_host is))
+      ∙ sym (ap (λ (t : Text). is_odd is.host t) (same_app is)) ∙ is.plain in cc
+
+  tagged : is_odd (shown host) (shown app) ≡ false → IsSome line.timestamp → IsTag (shown host) (shown app) (shown line.rest) → IsTagged line
   tagged plain dated tag = record {
     dated = dated;
     host = shown host;
@@ -198,17 +202,16 @@ module _ (line : Line) (host app : Bor (List ℕ)) (e : line.hostname ≡ Some h
 
   not_tagged : (IsTag (shown host) (shown app) (shown line.rest) → ⊥) → IsTagged line → ⊥
   not_tagged none is =
-      let same_host : is.host ≡ shown host = (let same = sym is.is_host ∙ ap seen e in cc) in
       none (subst (λ (t : Text). IsTag (shown host) t (shown line.rest)) (same_app is)
-      (subst (λ (t : Text). IsTag t is.app (shown line.rest)) same_host is.tag))
+      (subst (λ (t : Text). IsTag t is.app (shown line.rest)) (same_host is) is.tag))
 
-  pub tag_answer : (b : Bool) → is_odd_app (shown app) ≡ false → IsSome line.timestamp
+  pub tag_answer : (b : Bool) → is_odd (shown host) (shown app) ≡ false → IsSome line.timestamp
       → MatchBool b (IsTag (shown host) (shown app) (shown line.rest))
       (IsTag (shown host) (shown app) (shown line.rest) → ⊥) → MatchBool b (IsTagged line) (IsTagged line → ⊥)
   tag_answer true plain dated tag = tagged plain dated tag
   tag_answer false plain dated none = not_tagged none
 
-  pub printed_answer : is_odd_app (shown app) ≡ false → IsSome line.timestamp → KnowsForm line → line.is_printed ≡ true → line.version ≡ None
+  pub printed_answer : is_odd (shown host) (shown app) ≡ false → IsSome line.timestamp → KnowsForm line → line.is_printed ≡ true → line.version ≡ None
       → MatchBool line.is_printed (IsTagged line) (IsTagged line → ⊥)
   printed_answer plain dated form printed none =
       subst (λ (b : Bool). MatchBool b (IsTagged line) (IsTagged line → ⊥)) (sym printed)

@@ -1,7 +1,7 @@
 -- A text has one division into each row of IOS-XR, NetScaler, ProCurve, Sophos UTM and OpenWrt.
-use Rattle.std.proofs.Common.{List, [], ◌∷◌, Option, arith}
+use Rattle.std.proofs.Common.{Option, arith}
 use Rattle.std.specs.Char.{is_ascii_digit}
-use Rattle.syslog_pieces.specs.Pieces.Class.{Text, Class, IsDeterministic, Row, exactly, optional, some_run, texted, after}
+use Rattle.syslog_pieces.specs.Pieces.Class.{Text, Row, exactly, some_run}
 use Rattle.syslog_pieces.specs.Text.{is_blank, colon}
 use Rattle.syslog_pieces.specs.Text.CharClass.{is_label_char}
 use Rattle.syslog_pieces.specs.Timestamp.Rfc3339.{pair, year}
@@ -10,7 +10,7 @@ use Rattle.syslog_pieces.proofs.PieceLemmas.Class.{rest_det, row_det, run_det, s
 use Rattle.syslog_pieces.proofs.PieceLemmas.Rules.{such_det}
 use Rattle.syslog_pieces.proofs.TimestampLemmas.Rfc3339.{pair_det, year_det}
 use Rattle.syslog_dialects.specs.Cisco.{counter_row, date_row}
-use Rattle.syslog_dialects.specs.IosXr.{IsNode, card_row, card, host, host_in, host_row, process, process_in, process_row, xr_row}
+use Rattle.syslog_dialects.specs.IosXr.{IsNode, card_row, host, host_in, host_row, process_in, process_row, xr_row}
 use Rattle.syslog_dialects.specs.NetScaler.{netscaler_row, slashed_of, slashed_row}
 use Rattle.syslog_dialects.specs.Dated.{IsDay}
 use Rattle.syslog_dialects.specs.OpenWrt.{logread_row}

@@ -19,7 +19,7 @@ use Rattle.syslog_pieces.proofs.TimestampLemmas.Rfc3339.{pair_det as two_det, ye
 use Rattle.syslog_dialects.specs.Named.{◌otherwise◌}
 use Rattle.syslog_dialects.specs.Pairs.{pair, pair_row, pair_of, quoted, quoted_row, quoted_of, bare, value, either_text}
 use Rattle.syslog_dialects.specs.Pairs.{first_value, or_value, noted, noted_more, Noted, day_row, clock_row, offset_row, IsApart, IsTogether}
-use Rattle.syslog_dialects.specs.Pairs.{IsMoment, IsOffset, IsShown, at_offset, date_at, paired, pairs_row, pairs_form, is_date_key, is_time_key}
+use Rattle.syslog_dialects.specs.Pairs.{IsMoment, IsOffset, IsShown, at_offset, paired, pairs_row, pairs_form, is_date_key, is_time_key}
 use Rattle.syslog_dialects.specs.Pairs.{is_zone_key, is_host_key, is_stamp_key}
 use Rattle.syslog_dialects.specs.Runs.{is_unquoted, is_word_char}
 use Rattle.syslog_dialects.specs.Sent.{IsOnlySent, SentValue, loose}
@@ -27,7 +27,6 @@ use Rattle.syslog_dialects.specs.declared.sent.SentDate.{SentDate}
 use Rattle.syslog_dialects.proofs.NamedLemmas.{otherwise_det}
 use Rattle.syslog_dialects.proofs.DateLemmas.{fraction_row_det, iso_date_det}
 use Rattle.syslog_dialects.specs.Date.{fraction, fraction_row, iso_date}
-use Rattle.syslog_pieces.specs.Pieces.Class.{optional}
 use Rattle.syslog_pieces.proofs.PieceLemmas.Class.{optional_det}
 
 -- ---- runs

@@ -11,7 +11,7 @@ use Rattle.syslog_pieces.specs.declared.timestamp.OffsetTimestamp.{OffsetTimesta
 use Rattle.syslog_pieces.proofs.PieceLemmas.Class.{front_same, optional_det}
 use Rattle.syslog_pieces.proofs.PriLemmas.{priority_det}
 use Rattle.syslog_loose.specs.Bodies.Start.{IsAfterPriority}
-use Rattle.syslog_loose.specs.Line.{KnowsForm, line_value}
+use Rattle.syslog_loose.specs.Line.{line_value}
 use Rattle.syslog_loose.specs.Message.{MessageValue}
 use Rattle.syslog_loose.specs.Reading.{IsOnlyRead, IsUnreadable}
 use Rattle.syslog_loose.specs.Unparsed.{IsLeftUnparsed}

@@ -3,7 +3,6 @@ use Rattle.std.proofs.Common.{◌≡◌, ℕ, ℤ, pos, ◌*◌, ◌*ℤ◌, ◌
 use Rattle.syslog_pieces.proofs.Names.{signed_arith}
 use Rattle.jiff.specs.Types.{DateTime}
 use Rattle.jiff.specs.Words.{civil_nanos, nanos_of_seconds}
-use Rattle.syslog_pieces.specs.Pieces.Rules.{such_that}
 use Rattle.syslog_pieces.specs.Pieces.Class.{IsDeterministic, Row}
 use Rattle.syslog_pieces.specs.Text.{is_blank, number}
 use Rattle.syslog_pieces.specs.Timestamp.Fields.{fields_of}
@@ -13,7 +12,7 @@ use Rattle.syslog_pieces.proofs.PieceLemmas.Class.{run_det, some_run_det}
 use Rattle.syslog_pieces.proofs.PieceLemmas.Rules.{such_det}
 use Rattle.syslog_pieces.proofs.TextLemmas.Words.{host_det, number_det}
 use Rattle.syslog_pieces.proofs.TimestampLemmas.Civil.{civil_fields-is}
-use Rattle.syslog_dialects.specs.Date.{fraction, fraction_row}
+use Rattle.syslog_dialects.specs.Date.{fraction_row}
 use Rattle.syslog_dialects.specs.UnixSeconds.{IsLate, meraki_row, short_row, unix_date, unix_of, unix_row}
 use Rattle.syslog_dialects.specs.declared.sent.SentDate.{SentDate}
 use Rattle.syslog_dialects.proofs.CiscoLemmas.{origin_det}

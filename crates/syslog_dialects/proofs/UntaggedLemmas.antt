@@ -1,8 +1,20 @@
 -- A text has one front of each class of marks.
-use Rattle.std.proofs.Common.{arith}
+use Rattle.std.proofs.Common.{◌≡◌, inl, inr, ℕ, Bool, true, false, List, [], ◌∷◌, ◌++◌, Some, None, refl, sym, ap, subst, ◌∙◌, arith}
+use Rattle.std.proofs.lemmas.Bool.Decides.{nat_tests}
+use Rattle.std.specs.Char.{is_not_whitespace}
+use Rattle.std.specs.Prelude.{◌&&◌, codes, nat_le}
+use Rattle.syslog_pieces.specs.Pieces.Class.{Text, Class, NoFront, Row, after, exactly, join, optional, run}
+use Rattle.syslog_pieces.proofs.PieceLemmas.Class.{heads}
+use Rattle.syslog_pieces.proofs.PieceLemmas.Rules.{Opens, row_opens}
+use Rattle.syslog_pieces.proofs.TextLemmas.Words.{host_det}
+use Rattle.syslog_dialects.specs.Named.{◌otherwise◌}
+use Rattle.syslog_dialects.specs.Untagged.{begins, here, host_row, is_level, mark_class, repeated_row, repeats}
+use Rattle.syslog_dialects.specs.declared.untagged.Mark.{Mark}
+use Rattle.syslog_dialects.specs.declared.untagged.Mark.TheVariants.{Cef, Leef, Repeated, PaloAlto, Pair, Json, Idrac, Level}
+use Rattle.syslog_dialects.specs.declared.untagged.Mark.TheVariants.{Bracket, Topics}
 use Rattle.std.specs.Char.{is_ascii_digit}
 use Rattle.syslog_pieces.specs.Text.{is_blank}
-use Rattle.syslog_pieces.specs.Timestamp.Rfc3339.{pair}
+use Rattle.syslog_pieces.specs.Timestamp.Rfc3339.{pair, year}
 use Rattle.syslog_pieces.proofs.PieceLemmas.Class.{AllDeterministic, ◌also◌, after_det, exactly_det, run_det, some_run_det}
 use Rattle.syslog_pieces.proofs.TimestampLemmas.Rfc3339.{pair_det as two_det, year_det}
 use Rattle.syslog_pieces.specs.Pieces.Class.{IsDeterministic, some_run, texted}
@@ -51,3 +63,77 @@ topics_det = row_det topic_row topic_det also otherwise_det main_topic_det (row_
 
 pub number_row_det : AllDeterministic number_row
 number_row_det = exactly_det _ also some_run_det is_ascii_digit also exactly_det _ also tt
+
+pub host_row_det : AllDeterministic host_row
+host_row_det = host_det also some_run_det is_blank also tt
+
+-- ---- what a mark begins with
+
+-- a text of the class begins with a character that passes the test
+abbrev Starts : Class → (ℕ → Bool) → Type 0
+Starts C test = Opens C (λ c. test c ≡ true)
+
+run_starts : (test : ℕ → Bool) → Starts (some_run test) test
+run_starts test [] q v (h, e, f) = absurd (omega (arith, h))
+run_starts test (c ∷ p) q v (h, e, f) = (c, p, refl, e.0)
+
+first_optional : (C : Class) (Cs : List Class) (H : ℕ → Type 0) → Opens C H → Opens (Row Cs) H
+    → Opens (Row (optional C ∷ Cs)) H
+first_optional C Cs H o k p q vs ([], e, h) = absurd h
+first_optional C Cs H o k p q (None, vs) (a ∷ ps, e, (n, h)) =
+    let (c, t, f, g) = k (join ps) q vs (ps, refl, h) in (c, t, e ∙ ap (λ (x : Text). x ++ join ps) n.0 ∙ f, g)
+first_optional C Cs H o k p q (Some v, vs) (a ∷ ps, e, (n, h)) =
+    let (c, t, f, g) = o a (join ps ++ q) v n in (c, t ++ join ps, e ∙ ap (λ (x : Text). x ++ join ps) f, g)
+
+otherwise_opens : {C D : Class} (H : ℕ → Type 0) → Opens C H → Opens D H → Opens (C otherwise D) H
+otherwise_opens H o k p q (inl v) h = o p q v h
+otherwise_opens H o k p q (inr w) h = k p q w h.1
+
+level_starts : (c : ℕ) (t : Text) → IsTrue (is_level (c ∷ t)) → IsTrue (nat_le 68 c && nat_le c 87)
+level_starts c t h = grind (arith, nat_tests)
+
+abbrev more_of_palo_alto : List Class
+more_of_palo_alto =
+    exactly (44 ∷ []) ∷ year ∷ after 47 (pair 100) ∷ after 47 (pair 100) ∷ exactly (32 ∷ []) ∷ pair 100
+    ∷ after 58 (pair 100) ∷ after 58 (pair 100) ∷ exactly (44 ∷ []) ∷ []
+
+-- the text that it is begins with the character
+exact : (c : ℕ) (t : Text) (test : ℕ → Bool) → test c ≡ true → Starts (exactly (c ∷ t)) test
+exact c t test h p q v e = (c, t, e, h)
+
+opens : (m : Mark) → Starts (mark_class m) (begins m)
+opens Cef = row_opens (exactly (codes "CEF:")) (run is_blank ∷ some_run is_ascii_digit ∷ exactly (124 ∷ []) ∷ [])
+    (λ c. begins Cef c ≡ true) (exact 67 (codes "EF:") (begins Cef) refl)
+opens Leef = row_opens (exactly (codes "LEEF:"))
+    (run is_blank ∷ some_run is_ascii_digit ∷ exactly (46 ∷ []) ∷ some_run is_ascii_digit ∷ exactly (124 ∷ []) ∷ [])
+    (λ c. begins Leef c ≡ true) (exact 76 (codes "EEF:") (begins Leef) refl)
+opens Repeated = otherwise_opens {C = Row repeated_row} {D = Row repeats_row otherwise here} (λ c. begins Repeated c ≡ true)
+    (first_optional (exactly (codes "last ")) repeated_tail (λ c. begins Repeated c ≡ true)
+    (exact 108 (codes "ast ") (begins Repeated) refl)
+    (row_opens (exactly (codes "message repeated ")) (some_run is_ascii_digit ∷ exactly (codes " time") ∷ [])
+    (λ c. begins Repeated c ≡ true) (exact 109 (codes "essage repeated ") (begins Repeated) refl)))
+    (otherwise_opens {C = Row repeats_row} {D = here} (λ c. begins Repeated c ≡ true)
+    (row_opens repeats (some_run is_ascii_digit ∷ exactly (codes " time") ∷ []) (λ c. begins Repeated c ≡ true)
+    (otherwise_opens {C = exactly (codes "--- last message repeated ")} {D = exactly (codes "above message repeats ")}
+    (λ c. begins Repeated c ≡ true) (exact 45 (codes "-- last message repeated ") (begins Repeated) refl)
+    (exact 97 (codes "bove message repeats ") (begins Repeated) refl)))
+    (exact 45 (codes "- MARK --") (begins Repeated) refl))
+opens PaloAlto = row_opens (some_run is_ascii_digit) more_of_palo_alto (λ c. begins PaloAlto c ≡ true) (run_starts is_ascii_digit)
+opens Pair = row_opens (some_run is_word_char) (exactly (61 ∷ []) ∷ []) (λ c. begins Pair c ≡ true) (run_starts is_word_char)
+opens Json = exact 123 (34 ∷ []) (begins Json) refl
+opens Idrac = exact 83 (codes "everity: ") (begins Idrac) refl
+opens Level = λ p q v ((u, h, e), k). let (c, t, f, g) = run_starts is_not_whitespace p q u h in
+    (c, t, f, level_starts c t (subst (λ (x : Text). IsTrue (is_level x)) (e ∙ f) k))
+opens Topics = row_opens (Row topic_row) ((main_topic otherwise Row later_topic_row) ∷ []) (λ c. begins Topics c ≡ true)
+    (row_opens (some_run is_plain_char) (exactly (44 ∷ []) ∷ []) (λ c. begins Topics c ≡ true) (run_starts is_plain_char))
+opens Bracket = λ p q v h. (91, [], h.1, refl)
+
+-- a text that begins otherwise has none
+pub no_mark : (m : Mark) {t more : Text} {c : ℕ} → t ≡ c ∷ more → false ≡ begins m c → NoFront (mark_class m) t
+no_mark m {more = more} {c = c} e fails p q v f h = let (d, r, g, k) = opens m p q v h in
+    let same : c ≡ d = heads c d more (r ++ q) (sym e ∙ f ∙ ap (λ (x : Text). x ++ q) g) in
+    let bad : true ≡ false = sym k ∙ ap (begins m) (sym same) ∙ sym fails in cc
+
+pub no_mark_empty : (m : Mark) {t : Text} → t ≡ [] → NoFront (mark_class m) t
+no_mark_empty m e p q v f h = let (d, r, g, k) = opens m p q v h in
+    let bad : [] ≡ d ∷ (r ++ q) = sym e ∙ f ∙ ap (λ (x : Text). x ++ q) g in cc

@@ -1,17 +1,28 @@
 -- A text has one front of each class of a zone.
-use Rattle.std.proofs.Common.{◌≡◌, ◌⊎◌, inl, inr, ℕ, ℤ, Bool, true, false, List, [], ◌∷◌, ◌++◌, Option, Some, None, refl, sym, ap, subst, ◌∙◌, arith}
-use Rattle.syslog_pieces.specs.Pieces.Class.{Text, Class, Front, NoFront, IsDeterministic, Row, Ends, exactly, optional, run, some_run}
+use Rattle.std.proofs.Common.{◌≡◌, ℕ, ℤ, Bool, true, false, List, [], ◌∷◌, Option, refl, sym, subst, arith}
+use Rattle.syslog_pieces.specs.Pieces.Class.{Text, Class, Front, NoFront, IsDeterministic, Row, Ends, exactly, optional, some_run}
 use Rattle.syslog_pieces.specs.Text.{is_tag_char, is_blank, colon}
-use Rattle.syslog_pieces.specs.Timestamp.Rfc3339.{pair, sign, seconds_of}
+use Rattle.syslog_pieces.specs.Timestamp.Rfc3339.{sign, seconds_of}
 use Rattle.syslog_pieces.proofs.PieceLemmas.Class.{AllDeterministic, ◌also◌, exactly_det, optional_det, mapped_det, texted_det, row_det}
-use Rattle.syslog_pieces.proofs.PieceLemmas.Class.{some_run_det, run_det, front_of, front_same, no_front_no, Fails, no_row, no_mapped}
+use Rattle.syslog_pieces.proofs.PieceLemmas.Class.{some_run_det, run_det, front_of, front_same, Fails, no_row, no_mapped}
 use Rattle.syslog_pieces.proofs.PieceLemmas.Rules.{such_det}
 use Rattle.syslog_pieces.proofs.TimestampLemmas.Rfc3339.{pair_det, numeric_det}
-use Rattle.syslog_dialects.specs.Zone.{bare_word, ended, minutes_row, minutes, some_minutes, offset_row}
+use Rattle.syslog_dialects.specs.Zone.{bare_word, ended, minutes_row, minutes, offset_row}
 use Rattle.syslog_dialects.specs.Named.{◌otherwise◌}
 use Rattle.syslog_dialects.specs.Zone.{mapped_offset, numeric_offset}
 use Rattle.syslog_dialects.specs.Zone.{IsZoneName, zone_name, offset_of, zone_mark, zone_row, zone}
-use Rattle.syslog_dialects.proofs.NamedLemmas.{otherwise_det}
+use Rattle.std.proofs.Common.{map}
+use Rattle.std.proofs.lemmas.Bool.{and_parts}
+use Rattle.std.proofs.lemmas.Str.{IsUtf8-from_ascii}
+use Rattle.std.specs.Cmp.Lexicographic.{same_text}
+use Rattle.std.specs.Prelude.{◌&&◌, ◌||◌, IsTrue}
+use Rattle.std.specs.Str.{IsUtf8, chars}
+use Rattle.syslog_pieces.specs.Pieces.View.{text_eq}
+use Rattle.syslog_pieces.proofs.TextLemmas.Runs.{same_chars}
+use Rattle.syslog_dialects.specs.Runs.{are_ascii}
+use Rattle.syslog_dialects.specs.Dated.{IsDay, day_words}
+use Rattle.syslog_dialects.specs.Zone.{has_shape, is_among, zone_words}
+use Rattle.syslog_dialects.proofs.NamedLemmas.{ascii_told, otherwise_det}
 
 -- ---- a piece that ends a word
 pub ended_det : (C : Class) → IsDeterministic C → IsDeterministic (ended C)
@@ -64,3 +75,45 @@ no_sign n m p q false e h = m p q tt e h
 
 pub no_offset : {t : Text} → Fails offset_row t → NoFront numeric_offset t
 no_offset f = no_ended mapped_offset (no_mapped (Row offset_row) ℤ seconds_of (no_row offset_row offset_row_det f))
+
+-- ---- the names of zones have one shape
+
+-- one of two tests holds
+pub either_told : {P : Type 0} (a b : Bool) → (a || b) ≡ true → (a ≡ true → P) → (b ≡ true → P) → P
+either_told true b h f g = f refl
+either_told false b h f g = g h
+
+are_fit : List (List ℕ) → Bool
+are_fit [] = true
+are_fit (w ∷ ws) = (are_ascii w && has_shape w) && are_fit ws
+
+module _ (bs : List ℕ) (u : IsUtf8 bs) where
+  one_shape : (w : List ℕ) → IsTrue (are_ascii w && has_shape w) → true ≡ text_eq (chars w) (chars bs) → IsTrue (has_shape bs)
+  one_shape w h e =
+      let (ascii, shape) = and_parts (are_ascii w) (has_shape w) h in
+      let is : w ≡ bs = same_chars w bs (IsUtf8-from_ascii w (ascii_told w ascii)) u (same_text (chars w) (chars bs) e) in
+      subst (λ (x : List ℕ). IsTrue (has_shape x)) is shape
+
+  among_shape : (ws : List (List ℕ)) → IsTrue (are_fit ws) → is_among (chars bs) (map chars ws) ≡ true → IsTrue (has_shape bs)
+  unfolding are_fit
+  among_shape [] h e = absurd (let f : false ≡ true = e in cc)
+  among_shape (w ∷ ws) h e =
+      let (fits, more) = and_parts (are_ascii w && has_shape w) (are_fit ws) h in
+      either_told (text_eq (chars w) (chars bs)) (is_among (chars bs) (map chars ws)) e (λ is. one_shape w fits (sym is))
+      (λ later. among_shape ws more later)
+
+names_fit : IsTrue (are_fit zone_words)
+unfolding are_fit
+names_fit = refl
+
+days_fit : IsTrue (are_fit day_words)
+unfolding are_fit
+days_fit = refl
+
+-- a text of another shape is the name of no zone
+pub no_zone : (bs : List ℕ) → IsUtf8 bs → false ≡ has_shape bs → IsZoneName (chars bs) → ⊥
+no_zone bs u n is = let s : true ≡ has_shape bs = sym (among_shape bs u zone_words names_fit is) in cc
+
+-- and of no day
+pub no_day : (bs : List ℕ) → IsUtf8 bs → false ≡ has_shape bs → IsDay (chars bs) → ⊥
+no_day bs u n is = let s : true ≡ has_shape bs = sym (among_shape bs u day_words days_fit is) in cc

@@ -4,7 +4,7 @@
 -- it come, each where the system is so configured: a counter, a sequence number, the host, the task (WLC), `*` or `.` for
 -- a clock that was never set or has lost its server, the date, and the host (ASA, FTD). NX-OS has the year before the
 -- month.
-use Rattle.std.specs.Prelude.{◌≡◌, ◌⊎◌, ◌||◌, ◌&&◌, ℕ, nat_eq, Bool, true, List, [], ◌∷◌, ◌++◌, Option, Some, None}
+use Rattle.std.specs.Prelude.{◌≡◌, ◌⊎◌, ◌||◌, ◌&&◌, ℕ, nat_eq, Bool, true, List, [], ◌∷◌, Option, Some, None}
 use Rattle.std.specs.Prelude.{codes}
 use Rattle.std.specs.Option.{is_some}
 use Rattle.std.specs.Char.{is_ascii_digit}
@@ -16,7 +16,6 @@ use Rattle.syslog_dialects.specs.Date.{any_date, in_year}
 use Rattle.syslog_dialects.specs.Named.{BeginsWith, is_letter}
 use Rattle.syslog_dialects.specs.Sent.{Form, SentValue, loose}
 use Rattle.syslog_dialects.specs.Zone.{bare_word}
-use Rattle.syslog_dialects.specs.declared.dialect.Dialect.{Dialect}
 use Rattle.syslog_dialects.specs.declared.dialect.Dialect.TheVariants.{CiscoAsa, CiscoIos, CiscoNxOs, CiscoUndated}
 use Rattle.syslog_dialects.specs.declared.sent.SentDate.{SentDate}
 
@@ -98,6 +97,14 @@ message_row = mnemonic ∷ run is_blank ∷ exactly colon ∷ run is_blank ∷ r
 
 abbrev pub cisco_row : List Class
 cisco_row = start ∷ Row date_row ∷ place ∷ Row message_row ∷ []
+
+-- the text begins as such a line does: what comes before the date, the date, and what is left
+pub record IsDated (text : Text) (host : Option Text) (y : Option ℕ) (date : SentDate) (left : Text) : Type 0 where
+  pub started : Text
+  pub at_date : Text
+  pub front : Front start text started host
+  pub year : Front (optional front_year) started at_date y
+  pub dated : Front any_date at_date left date
 
 -- the host that comes first
 abbrev pub either_host : Option Text → Option Text → Option Text

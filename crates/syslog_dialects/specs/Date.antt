@@ -1,12 +1,12 @@
 -- The dates that senders show: month dates with a fraction, a zone or a year after the time, and the dates of RFC 3339
 -- with what is left out of them or written otherwise. 32 is a space, 44 `,`, 45 `-`, 46 `.`, 47 `/`, 58 `:`, 84 `T`.
 use Rattle.std.proofs.Common.{inl, inr}
-use Rattle.std.specs.Prelude.{◌≡◌, ◌⊎◌, ℕ, ℤ, ◌<◌, min, ◌&&◌, Bool, true, false, List, [], ◌∷◌, ◌++◌, Option, Some, None}
+use Rattle.std.specs.Prelude.{◌≡◌, ◌⊎◌, ℕ, min, ◌&&◌, Bool, false, List, [], ◌∷◌, ◌++◌, Option, Some, None}
 use Rattle.std.specs.Prelude.{unwrap_or, is_none}
 use Rattle.std.specs.Option.{option_flatten}
-use Rattle.syslog_pieces.specs.Pieces.Class.{Text, Class, Values, Row, NoFront, run, exactly, optional, mapped, after, spaced}
+use Rattle.syslog_pieces.specs.Pieces.Class.{Class, Values, Row, NoFront, exactly, optional, mapped, after, spaced}
 use Rattle.syslog_pieces.specs.Pieces.Rules.{◌or◌, such_that}
-use Rattle.syslog_pieces.specs.Text.{number, is_blank}
+use Rattle.syslog_pieces.specs.Text.{number}
 use Rattle.syslog_pieces.specs.Timestamp.{header_stamp}
 use Rattle.syslog_pieces.specs.Timestamp.MonthDate.{month_date}
 use Rattle.syslog_pieces.specs.Timestamp.Rfc3339.{pair, year, decimals}

@@ -1,5 +1,4 @@
 -- How clauses see the structs of the readers.
-use Rattle.std.specs.Prelude.{◌∷◌}
 use Rattle.syslog_pieces.specs.Pieces.Class.{Text, Values}
 use Rattle.syslog_pieces.specs.Pieces.View.{seen, shown}
 use Rattle.syslog_dialects.specs.Cisco.{cisco_row, message_row}

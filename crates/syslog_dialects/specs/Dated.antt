@@ -1,13 +1,12 @@
 -- The dialects whose date alone differs from what the port reads: a date of theirs, and what the port reads after one.
-use Rattle.std.specs.Prelude.{◌≡◌, true, List, [], ◌∷◌, Option, Some, codes, map, chars}
-use Rattle.syslog_pieces.specs.Pieces.Class.{Text, Class, Values, Row, run, some_run, mapped}
+use Rattle.std.specs.Prelude.{◌≡◌, ℕ, true, List, [], ◌∷◌, Some, codes, map, chars}
+use Rattle.syslog_pieces.specs.Pieces.Class.{Text, Class, run, some_run}
 use Rattle.syslog_pieces.specs.Pieces.Rules.{such_that}
 use Rattle.syslog_pieces.specs.Text.{is_blank}
 use Rattle.syslog_dialects.specs.Date.{odd_bsd_date, odd_iso_date, iso_date}
 use Rattle.syslog_dialects.specs.Sent.{Form, SentValue, loose}
 use Rattle.syslog_dialects.specs.Tail.{TailValue, wide_tail}
 use Rattle.syslog_dialects.specs.Zone.{bare_word, is_among}
-use Rattle.syslog_dialects.specs.declared.dialect.Dialect.{Dialect}
 use Rattle.syslog_dialects.specs.declared.dialect.Dialect.TheVariants.{BsdDate, NearlyRfc3339, Journal}
 use Rattle.syslog_dialects.specs.declared.sent.SentDate.{SentDate}
 
@@ -29,9 +28,11 @@ iso_row = run is_blank ∷ odd_iso_date ∷ wide_tail ∷ []
 abbrev pub iso_form : Form
 iso_form = record { dialect = NearlyRfc3339; row = iso_row; Means = λ v sent. sent ≡ dated_sent v.1.0 v.1.1.0 }
 
+abbrev pub day_words : List (List ℕ)
+day_words = codes "Mon" ∷ codes "Tue" ∷ codes "Wed" ∷ codes "Thu" ∷ codes "Fri" ∷ codes "Sat" ∷ codes "Sun" ∷ []
+
 abbrev pub days : List Text
-days = map chars
-    (codes "Mon" ∷ codes "Tue" ∷ codes "Wed" ∷ codes "Thu" ∷ codes "Fri" ∷ codes "Sat" ∷ codes "Sun" ∷ [])
+days = map chars day_words
 
 abbrev pub IsDay : Text → Type 0
 IsDay t = is_among t days ≡ true

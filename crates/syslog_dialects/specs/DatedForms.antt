@@ -3,6 +3,7 @@ use Rattle.std.specs.Prelude.{List, [], ◌∷◌, ◌++◌}
 use Rattle.syslog_dialects.specs.Cisco.{cisco_forms, undated_form}
 use Rattle.syslog_dialects.specs.Container.{container_form}
 use Rattle.syslog_dialects.specs.Dated.{bsd_form, iso_form, journal_form}
+use Rattle.syslog_dialects.specs.Esxi.{esxi_form}
 use Rattle.syslog_dialects.specs.Filed.{filed_forms}
 use Rattle.syslog_dialects.specs.IosXr.{xr_form}
 use Rattle.syslog_dialects.specs.NetScaler.{netscaler_form}
@@ -42,8 +43,11 @@ bsd_forms = bsd_form ∷ iso_forms
 abbrev pub procurve_forms : List Form
 procurve_forms = procurve_form ∷ bsd_forms
 
+abbrev pub esxi_forms : List Form
+esxi_forms = esxi_form ∷ procurve_forms
+
 abbrev pub container_forms : List Form
-container_forms = container_form ∷ procurve_forms
+container_forms = container_form ∷ esxi_forms
 
 abbrev pub xr_forms : List Form
 xr_forms = xr_form ∷ container_forms

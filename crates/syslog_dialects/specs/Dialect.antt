@@ -8,7 +8,7 @@ use Rattle.syslog_dialects.specs.declared.dialect.Dialect.TheVariants.{Container
 use Rattle.syslog_dialects.specs.declared.dialect.Dialect.TheVariants.{Repeated, Cef, Leef, PaloAlto, KeyValue, Json}
 use Rattle.syslog_dialects.specs.declared.dialect.Dialect.TheVariants.{Idrac, Log4j, Forwarded, SeverityFirst, SpacedName, NoHost, Heroku}
 use Rattle.syslog_dialects.specs.declared.dialect.Dialect.TheVariants.{Bracketed, MikroTik, SophosUtm, UnixSeconds}
-use Rattle.syslog_dialects.specs.declared.dialect.Dialect.TheVariants.{WatchGuard}
+use Rattle.syslog_dialects.specs.declared.dialect.Dialect.TheVariants.{Esxi, WatchGuard}
 
 -- the name of a dialect, in ASCII
 abbrev pub dialect_name : Dialect → List ℕ
@@ -22,6 +22,7 @@ dialect_name CiscoAsa = codes "cisco-asa"
 dialect_name CiscoUndated = codes "cisco-undated"
 dialect_name Container = codes "container"
 dialect_name CiscoIosXr = codes "cisco-ios-xr"
+dialect_name Esxi = codes "esxi"
 dialect_name NetScaler = codes "netscaler"
 dialect_name ProCurve = codes "procurve"
 dialect_name Repeated = codes "repeated"
@@ -59,6 +60,7 @@ dialect_number CiscoAsa = 25
 dialect_number CiscoUndated = 26
 dialect_number Container = 27
 dialect_number CiscoIosXr = 28
+dialect_number Esxi = 33
 dialect_number NetScaler = 29
 dialect_number ProCurve = 30
 dialect_number Repeated = 40

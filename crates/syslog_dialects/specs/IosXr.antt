@@ -9,7 +9,6 @@ use Rattle.syslog_pieces.specs.Text.CharClass.{is_label_char}
 use Rattle.syslog_dialects.specs.Cisco.{Starts, counter_row, date_row, dated_in, origin}
 use Rattle.syslog_dialects.specs.Sent.{Form, SentValue, loose}
 use Rattle.syslog_dialects.specs.Zone.{bare_word}
-use Rattle.syslog_dialects.specs.declared.dialect.Dialect.{Dialect}
 use Rattle.syslog_dialects.specs.declared.dialect.Dialect.TheVariants.{CiscoIosXr}
 
 -- `RP/0/RSP0/CPU0`: the card that the message is from

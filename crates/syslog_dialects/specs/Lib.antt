@@ -6,9 +6,11 @@ pub mod Dated
 pub mod DatedForms
 pub mod Dialect
 pub mod Dialects
+pub mod Esxi
 pub mod Filed
 pub mod Header
 pub mod IosXr
+pub mod Led
 pub mod Named
 pub mod NamedFinds
 pub mod NamedForms

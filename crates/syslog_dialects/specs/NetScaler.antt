@@ -1,5 +1,5 @@
 -- Lines of Citrix NetScaler: `03/02/2026:06:33:04 GMT ns1 0-PPE-0 : text`. 47 is `/`, 58 `:`.
-use Rattle.std.specs.Prelude.{◌≡◌, List, [], ◌∷◌, Option, Some}
+use Rattle.std.specs.Prelude.{◌≡◌, List, [], ◌∷◌, Some}
 use Rattle.std.specs.Option.{option_flatten}
 use Rattle.syslog_pieces.specs.Pieces.Class.{Class, Values, Row, run, optional, mapped, after}
 use Rattle.syslog_pieces.specs.Text.{is_blank}
@@ -8,7 +8,6 @@ use Rattle.syslog_dialects.specs.Dated.{dated_sent}
 use Rattle.syslog_dialects.specs.Sent.{Form}
 use Rattle.syslog_dialects.specs.Tail.{wide_tail}
 use Rattle.syslog_dialects.specs.Zone.{zone}
-use Rattle.syslog_dialects.specs.declared.dialect.Dialect.{Dialect}
 use Rattle.syslog_dialects.specs.declared.dialect.Dialect.TheVariants.{NetScaler}
 use Rattle.syslog_dialects.specs.declared.sent.SentDate.{SentDate}
 

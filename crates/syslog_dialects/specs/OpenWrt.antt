@@ -5,10 +5,9 @@ use Rattle.syslog_pieces.specs.Pieces.Class.{Class, Values, Row, run, some_run, 
 use Rattle.syslog_pieces.specs.Text.{is_blank}
 use Rattle.syslog_dialects.specs.Date.{any_date}
 use Rattle.syslog_dialects.specs.Dated.{weekday}
-use Rattle.syslog_dialects.specs.Named.{ProgramText, program}
+use Rattle.syslog_dialects.specs.Named.{program}
 use Rattle.syslog_dialects.specs.Programs.{selector_row}
 use Rattle.syslog_dialects.specs.Sent.{Form, SentValue, loose}
-use Rattle.syslog_dialects.specs.declared.dialect.Dialect.{Dialect}
 use Rattle.syslog_dialects.specs.declared.dialect.Dialect.TheVariants.{SeverityFirst}
 
 abbrev pub logread_row : List Class

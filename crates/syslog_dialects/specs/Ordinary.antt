@@ -1,11 +1,12 @@
 -- The lines of the port that keep their reading, by their fields alone: this project's own choice. 32 is a space, 58 `:`,
--- 91 `[`.
-use Rattle.std.specs.Prelude.{◌≡◌, ◌≢◌, ◌⊎◌, ◌∷◌, ◌&&◌, ◌||◌, ℕ, Bool, true, false, List, [], Some, IsSome, codes}
+-- 40 `(`, 91 `[`, 123 `{`.
+use Rattle.std.specs.Prelude.{◌≡◌, ◌≢◌, ◌⊎◌, ◌∷◌, ◌&&◌, ◌||◌, ℕ, nat_eq, Bool, true, false, List, [], Some, IsSome, codes, nat_lt, length, slice_index}
 use Rattle.std.specs.Char.{is_ascii_digit}
 use Rattle.syslog_pieces.specs.Pieces.Class.{Text, Class, Front, Row, exactly}
 use Rattle.syslog_pieces.specs.Pieces.View.{seen, shown, text_eq}
 use Rattle.syslog_pieces.specs.StructuredData.Visited.{list_elements}
 use Rattle.syslog_loose.specs.declared.line.Line.{Line}
+use Rattle.syslog_dialects.specs.Named.{is_letter}
 
 -- a colon, or the bracket before a process id
 abbrev pub mark : Class
@@ -24,18 +25,42 @@ abbrev pub are_digits : Text → Bool
 are_digits [] = true
 are_digits (c ∷ cs) = is_ascii_digit c && are_digits cs
 
--- what begins a message and the port takes for an app name: a number before a colon, a bracket, or one of these words
-abbrev pub is_odd_app : Text → Bool
-is_odd_app app = are_digits app || (text_eq app (codes "CEF") || (text_eq app (codes "LEEF") || text_eq app (codes "Severity")))
+-- an object of JSON
+abbrev pub opens_object : Text → Bool
+opens_object [] = false
+opens_object (c ∷ cs) = nat_eq c 123
 
--- the line has a timestamp, and after it its host and its app name, as a tag; the app name is no number and none of those words
+-- what begins a message and the port takes for an app name: a number before a colon, a bracket, an object, or one of
+-- these words
+abbrev pub is_odd_app : Text → Bool
+is_odd_app app = are_digits app || (opens_object app
+    || (text_eq app (codes "CEF") || (text_eq app (codes "LEEF") || text_eq app (codes "Severity"))))
+
+-- with these they begin
+abbrev pub begins_oddly : ℕ → Bool
+begins_oddly c = is_ascii_digit c || (nat_eq c 123 || (nat_eq c 67 || (nat_eq c 76 || nat_eq c 83)))
+
+-- what the port takes for a host and is the level of a line of ESXi: two letters and a bracket, as in `In(182)`
+abbrev pub is_level_mark : Text → Bool
+is_level_mark (a ∷ b ∷ c ∷ more) = (is_letter a && is_letter b) && nat_eq c 40
+is_level_mark _ = false
+
+-- the third byte is a bracket
+abbrev pub has_bracket : List ℕ → Bool
+has_bracket bytes = nat_lt 2 (length bytes) && nat_eq (slice_index bytes 2) 40
+
+-- the two together are no host and no tag
+abbrev pub is_odd : Text → Text → Bool
+is_odd host app = is_odd_app app || is_level_mark host
+
+-- the line has a timestamp, and after it its host and its app name, as a tag, which are a host and a tag
 pub record IsTagged (line : Line) : Type 0 where
   pub dated : IsSome line.timestamp
   pub host : Text
   pub app : Text
   pub is_host : seen line.hostname ≡ Some host
   pub is_app : seen line.appname ≡ Some app
-  pub plain : is_odd_app app ≡ false
+  pub plain : is_odd host app ≡ false
   pub tag : IsTag host app (shown line.rest)
 
 -- of RFC 5424, or with a strict element, or with a timestamp, a host and a tag

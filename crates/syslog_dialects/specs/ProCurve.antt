@@ -1,13 +1,12 @@
 -- Lines of HP's ProCurve and ArubaOS-Switch: a date, the switch, the number of the event, the module and a colon.
 use Rattle.std.specs.Prelude.{◌≡◌, List, [], ◌∷◌, Some, None}
 use Rattle.std.specs.Char.{is_ascii_digit}
-use Rattle.syslog_pieces.specs.Pieces.Class.{Class, Values, Row, run, some_run, exactly, rest}
+use Rattle.syslog_pieces.specs.Pieces.Class.{Class, Values, run, some_run, exactly, rest}
 use Rattle.syslog_pieces.specs.Text.{is_blank, colon}
 use Rattle.syslog_dialects.specs.Cisco.{origin}
 use Rattle.syslog_dialects.specs.Date.{any_date}
 use Rattle.syslog_dialects.specs.Sent.{Form, SentValue, loose}
 use Rattle.syslog_dialects.specs.Zone.{bare_word}
-use Rattle.syslog_dialects.specs.declared.dialect.Dialect.{Dialect}
 use Rattle.syslog_dialects.specs.declared.dialect.Dialect.TheVariants.{ProCurve}
 
 abbrev pub procurve_row : List Class

@@ -6,7 +6,6 @@ use Rattle.syslog_pieces.specs.Timestamp.Rfc3339.{pair, year}
 use Rattle.syslog_dialects.specs.Dated.{dated_sent}
 use Rattle.syslog_dialects.specs.Sent.{Form}
 use Rattle.syslog_dialects.specs.Tail.{wide_tail}
-use Rattle.syslog_dialects.specs.declared.dialect.Dialect.{Dialect}
 use Rattle.syslog_dialects.specs.declared.dialect.Dialect.TheVariants.{SophosUtm}
 use Rattle.syslog_dialects.specs.declared.sent.SentDate.{SentDate}
 

@@ -12,9 +12,8 @@ use Rattle.syslog_pieces.specs.Timestamp.Printed.{civil_fields}
 use Rattle.syslog_pieces.specs.declared.timestamp.fields.CivilFields.{CivilFields}
 use Rattle.syslog_dialects.specs.Cisco.{origin}
 use Rattle.syslog_dialects.specs.Date.{fraction}
-use Rattle.syslog_dialects.specs.Named.{ProgramText, program}
+use Rattle.syslog_dialects.specs.Named.{program}
 use Rattle.syslog_dialects.specs.Sent.{Form, SentValue, loose}
-use Rattle.syslog_dialects.specs.declared.dialect.Dialect.{Dialect}
 use Rattle.syslog_dialects.specs.declared.dialect.Dialect.TheVariants.{UnixSeconds}
 use Rattle.syslog_dialects.specs.declared.sent.SentDate.{SentDate}
 

@@ -1,12 +1,12 @@
 -- Messages that no program's name is before: they are told by what they begin with. 32 is a space, 44 `,`, 46 `.`,
 -- 47 `/`, 58 `:`, 61 `=`, 91 `[`, 123 `{`, 124 `|`.
 use Rattle.std.proofs.Common.{inl, inr}
-use Rattle.std.specs.Prelude.{◌⊎◌, ◌||◌, Option, Bool, IsTrue, List, [], ◌∷◌, None, codes}
+use Rattle.std.specs.Prelude.{◌⊎◌, ◌||◌, ◌&&◌, ℕ, nat_eq, nat_le, Option, Bool, IsTrue, List, [], ◌∷◌, None, codes}
 use Rattle.std.specs.Char.{is_ascii_digit, is_not_whitespace}
 use Rattle.syslog_pieces.specs.Pieces.Class.{Text, Class, Row, run, some_run, exactly, optional, after, mapped, texted}
 use Rattle.syslog_pieces.specs.Pieces.Rules.{such_that}
 use Rattle.syslog_pieces.specs.Pieces.View.{text_eq}
-use Rattle.syslog_pieces.specs.Text.{is_blank}
+use Rattle.syslog_pieces.specs.Text.{host, is_blank}
 use Rattle.syslog_pieces.specs.Timestamp.Rfc3339.{pair, year}
 use Rattle.syslog_dialects.specs.Date.{unless}
 use Rattle.syslog_dialects.specs.Named.{◌otherwise◌, NamedTexts, beginning, hosted, untagged}
@@ -94,6 +94,23 @@ mark_class Idrac = exactly (codes "Severity: ")
 mark_class Level = such_that (texted (some_run is_not_whitespace)) (λ t. IsTrue (is_level t))
 mark_class Topics = Row topics_row
 mark_class Bracket = unless (Row number_row) (exactly (91 ∷ []))
+
+-- the character may begin such a message
+abbrev pub begins : Mark → ℕ → Bool
+begins Cef c = nat_eq c 67
+begins Leef c = nat_eq c 76
+begins Repeated c = nat_eq c 108 || (nat_eq c 109 || (nat_eq c 45 || nat_eq c 97))
+begins PaloAlto c = is_ascii_digit c
+begins Pair c = is_word_char c
+begins Json c = nat_eq c 123
+begins Idrac c = nat_eq c 83
+begins Level c = nat_le 68 c && nat_le c 87
+begins Topics c = is_plain_char c
+begins Bracket c = nat_eq c 91
+
+-- a host, and the blanks after it
+abbrev pub host_row : List Class
+host_row = host ∷ some_run is_blank ∷ []
 
 -- such a message, or a host before it
 abbrev pub marked : Mark → Class

@@ -4,8 +4,8 @@
 -- UTC, GMT and Z are offset 0. The others are not: IST is the time of India, of Israel and of Ireland.
 use Rattle.std.proofs.Common.{inl, inr}
 use Rattle.std.specs.Prelude.{◌≡◌, ◌⊎◌, ◌||◌, ℕ, ℤ, pos, Bool, true, false, if◌then◌else◌, List, [], ◌∷◌, Option, Some, None}
-use Rattle.std.specs.Prelude.{codes, unwrap_or, map, chars}
-use Rattle.syslog_pieces.specs.Pieces.Class.{Text, Class, Values, Row, Ends, run, some_run, exactly, optional, mapped, texted}
+use Rattle.std.specs.Prelude.{◌&&◌, codes, length, nat_le, nat_lt, slice_index, unwrap_or, map, chars}
+use Rattle.syslog_pieces.specs.Pieces.Class.{Text, Class, Row, Ends, run, some_run, exactly, optional, mapped, texted}
 use Rattle.syslog_pieces.specs.Pieces.Rules.{such_that}
 use Rattle.syslog_pieces.specs.Pieces.View.{text_eq}
 use Rattle.syslog_pieces.specs.Text.{is_blank, is_tag_char, colon}
@@ -56,15 +56,22 @@ numeric_offset = ended mapped_offset
 abbrev pub universal_names : List Text
 universal_names = map chars (codes "UTC" ∷ codes "GMT" ∷ codes "Z" ∷ [])
 
-abbrev pub zone_names : List Text
-zone_names =
-    map chars (codes "UTC" ∷ codes "GMT" ∷ codes "Z" ∷ codes "CET" ∷ codes "CEST" ∷ codes "EST" ∷ codes "EDT" ∷ codes "CST"
+abbrev pub zone_words : List (List ℕ)
+zone_words =
+    codes "UTC" ∷ codes "GMT" ∷ codes "Z" ∷ codes "CET" ∷ codes "CEST" ∷ codes "EST" ∷ codes "EDT" ∷ codes "CST"
     ∷ codes "CDT" ∷ codes "MST" ∷ codes "MDT" ∷ codes "PST" ∷ codes "PDT" ∷ codes "AKST" ∷ codes "AKDT" ∷ codes "HST"
     ∷ codes "HDT" ∷ codes "AST" ∷ codes "ADT" ∷ codes "NST" ∷ codes "NDT" ∷ codes "WET" ∷ codes "WEST" ∷ codes "BST"
     ∷ codes "IST" ∷ codes "MET" ∷ codes "MEST" ∷ codes "EET" ∷ codes "EEST" ∷ codes "MSK" ∷ codes "SAST" ∷ codes "WAT"
     ∷ codes "CAT" ∷ codes "EAT" ∷ codes "IDT" ∷ codes "PKT" ∷ codes "WIB" ∷ codes "WITA" ∷ codes "WIT" ∷ codes "HKT"
     ∷ codes "KST" ∷ codes "JST" ∷ codes "AWST" ∷ codes "ACST" ∷ codes "ACDT" ∷ codes "AEST" ∷ codes "AEDT"
-    ∷ codes "NZST" ∷ codes "NZDT" ∷ codes "ChST" ∷ codes "SST" ∷ [])
+    ∷ codes "NZST" ∷ codes "NZDT" ∷ codes "ChST" ∷ codes "SST" ∷ []
+
+abbrev pub zone_names : List Text
+zone_names = map chars zone_words
+
+-- at most four bytes, of which the first is a capital letter, as each of the names
+abbrev pub has_shape : List ℕ → Bool
+has_shape t = nat_lt 0 (length t) && (nat_le (length t) 4 && (nat_le 65 (slice_index t 0) && nat_le (slice_index t 0) 90))
 
 abbrev pub IsZoneName : Text → Type 0
 IsZoneName t = is_among t zone_names ≡ true

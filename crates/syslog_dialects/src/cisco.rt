@@ -7,13 +7,15 @@
 //!
 //! `<189>29: *Mar  1 18:48:50.483: %SYS-5-CONFIG_I: text`, `<187>4211: core-sw1: Mar  1 18:48:50 CET: %LINK-3-UPDOWN: text`,
 //! `<189>: 2026 Mar  1 18:48:50 CET: %ETHPORT-5-IF_DOWN: text`, `<166>Mar 01 2026 18:48:50 asa1 : %ASA-6-302013: text`.
-ghost use Rattle.std.specs.Prelude.{◌≡◌, ◌∷◌, [], chars, IsTrue, MatchBool, MatchOption, Option, ℕ};
+ghost use Rattle.std.specs.Prelude.{◌≡◌, ◌++◌, ◌∷◌, [], chars, IsTrue, MatchBool, MatchOption, Option, Some, ℕ};
 ghost use Rattle.std.specs.Char.{is_ascii_digit};
-ghost use Rattle.syslog_pieces.specs.Pieces.Class.{Front, NoFront, Row, exactly, optional, some_run};
+ghost use Rattle.syslog_pieces.specs.Pieces.Class.{Front, NoFront, Row, Text, exactly, optional, run, some_run};
 ghost use Rattle.syslog_pieces.specs.Pieces.View.{Reads, Recognises, seen, shown};
 ghost use Rattle.syslog_pieces.specs.Text.{colon as any_colon, is_blank};
+ghost use Rattle.syslog_dialects.specs.Date.{any_date as date_class};
 ghost use Rattle.syslog_dialects.specs.DateViews.{cisco_values, message_values};
 ghost use Rattle.syslog_dialects.specs.Dialects.{Finds};
+ghost use Rattle.syslog_dialects.specs.Led.{IsFront, IsLed};
 ghost use Rattle.syslog_dialects.specs.Named.{BeginsWith};
 ghost use Rattle.syslog_dialects.specs.Runs.{are_ascii};
 ghost use Rattle.syslog_dialects.specs.Sent.{Sends, sent_value};
@@ -22,10 +24,13 @@ ghost use Rattle.syslog_dialects.specs.Cisco as spec;
 
 use crate::date::any_date;
 use crate::dialect::Dialect;
+use crate::led::{LeadingDate, Led};
 use crate::named::past;
 use crate::sent::{Sent, SentDate};
 use crate::zone::bare_word;
-use syslog_pieces::text::{CharClass, blanks, first, literal, past_colon, some_blanks, split_run};
+use syslog_pieces::text::{
+    CharClass, begins_with_digit, blanks, first, literal, past_colon, some_blanks, split_run,
+};
 use syslog_pieces::timestamp::MonthDate;
 use syslog_pieces::timestamp::pairs::year;
 
@@ -132,6 +137,9 @@ pub(crate) fn gap(text: &str) -> Option<&str>
 fn counter(text: &str) -> Option<&str>
     ensures { Recognises (Row spec.counter_row) (chars text.now) result }
 {
+    if !begins_with_digit(text.as_bytes()) {
+        return None;
+    }
     digits(text).and_then(colon).and_then(gap)
 }
 
@@ -293,16 +301,19 @@ pub(crate) struct Cisco<'a> {
     pub(crate) msg: &'a str,
 }
 
-/// Returns what the line shows, if it is one of theirs with a date.
-pub(crate) fn shown_line(text: &str) -> Option<Cisco<'_>>
-    ensures { MatchOption result (NoFront (Row spec.cisco_row) (chars text.now))
-        (λ x. Front (Row spec.cisco_row) (chars text.now) [] (cisco_values x)) }
+// What a line shows, of which this comes up to the date, and this after it.
+fn shown_after<'a>(
+    first_host: Option<&'a str>,
+    year: Option<u16>,
+    date: SentDate,
+    rest: &'a str,
+) -> Option<Cisco<'a>>
+    ensures { (text : Text) → spec.IsDated text (seen first_host.entry) year date (chars rest.entry.now)
+        → MatchOption result (NoFront (Row spec.cisco_row) text)
+        (λ x. Front (Row spec.cisco_row) text [] (cisco_values x)) }
 {
-    let (first_host, rest) = start(text);
-    let (year, rest) = optional_front_year(rest);
-    let (date, rest) = any_date(rest)?;
-    let (second_host, rest) = place(rest);
-    let (tag, msg) = message(rest)?;
+    let (second_host, after_place) = place(rest);
+    let (tag, msg) = message(after_place)?;
     Some(Cisco {
         first_host,
         year,
@@ -311,6 +322,53 @@ pub(crate) fn shown_line(text: &str) -> Option<Cisco<'_>>
         tag,
         msg,
     })
+}
+
+/// Returns what the line shows, if it is one of theirs with a date.
+pub(crate) fn shown_line(text: &str) -> Option<Cisco<'_>>
+    ensures { MatchOption result (NoFront (Row spec.cisco_row) (chars text.now))
+        (λ x. Front (Row spec.cisco_row) (chars text.now) [] (cisco_values x)) }
+{
+    let (first_host, after_start) = start(text);
+    let (year, at_date) = optional_front_year(after_start);
+    let (date, rest) = any_date(at_date)?;
+    shown_after(first_host, year, date, rest)
+}
+
+// Whether the two have one length: of two ends of one text they are the same then.
+fn are_one_end(a: &str, b: &str) -> bool
+    ensures { IsTrue result → (p q : Text) → p ++ chars a.now ≡ q ++ chars b.now → chars a.now ≡ chars b.now }
+{
+    a.len() == b.len()
+}
+
+// What a line shows that begins with this date, after blanks or none. One of RFC 3339 is read again only where a name or
+// a counter comes before it. Before a month date comes neither.
+fn shown_led<'a>(text: &'a str, led: Led<'a>) -> Option<Cisco<'a>>
+    ensures { IsLed (chars text.entry.now) led.entry
+        → MatchOption result (NoFront (Row spec.cisco_row) (chars text.entry.now))
+        (λ x. Front (Row spec.cisco_row) (chars text.entry.now) [] (cisco_values x)) }
+{
+    match led.date {
+        LeadingDate::Month(date) => shown_after(None, None, date.sent(), led.rest),
+        LeadingDate::Iso(date) => shown_from(text, led.text, date, led.rest),
+    }
+}
+
+// What a line shows of which this is the text from the date on.
+fn shown_from<'a>(text: &'a str, begun: &'a str, date: SentDate, rest: &'a str) -> Option<Cisco<'a>>
+    ensures { Front (run is_blank) (chars text.entry.now) (chars begun.entry.now) tt
+        → Front date_class (chars begun.entry.now) (chars rest.entry.now) date
+        → MatchOption result (NoFront (Row spec.cisco_row) (chars text.entry.now))
+        (λ x. Front (Row spec.cisco_row) (chars text.entry.now) [] (cisco_values x)) }
+{
+    let (first_host, after_start) = start(text);
+    let (year, at_date) = optional_front_year(after_start);
+    if are_one_end(at_date, begun) {
+        return shown_after(first_host, year, date, rest);
+    }
+    let (date, rest) = any_date(at_date)?;
+    shown_after(first_host, year, date, rest)
 }
 
 impl<'a> Cisco<'a> {
@@ -344,20 +402,40 @@ impl<'a> Cisco<'a> {
     }
 }
 
-/// Returns the system of a line with a date, and what the line says: ASA or FTD by its facility, NX-OS by a year before
-/// the month, and otherwise IOS.
-pub(crate) fn read_cisco(text: &str) -> Option<(Dialect, Sent<'_>)>
-    ensures { Finds spec.cisco_forms (chars text.now) result }
+// The system of a line, and what the line says: ASA or FTD by its facility, NX-OS by a year before the month, and
+// otherwise IOS.
+fn by_system<'a>(line: &Cisco<'a>) -> (Dialect, Sent<'a>)
+    ensures { (text : Text) → Front (Row spec.cisco_row) text [] (cisco_values line.now)
+        → Finds spec.cisco_forms text (Some result) }
 {
-    let line = shown_line(text)?;
     let sent = line.sent();
     if line.is_asa() {
-        return Some((Dialect::CiscoAsa, sent));
+        return (Dialect::CiscoAsa, sent);
     }
     if line.is_nx_os() {
-        return Some((Dialect::CiscoNxOs, sent));
+        return (Dialect::CiscoNxOs, sent);
     }
-    Some((Dialect::CiscoIos, sent))
+    (Dialect::CiscoIos, sent)
+}
+
+// What a line shows, of which this is the front.
+fn shown<'a>(text: &'a str, front: Option<Led<'a>>) -> Option<Cisco<'a>>
+    ensures { IsFront (chars text.entry.now) front.entry
+        → MatchOption result (NoFront (Row spec.cisco_row) (chars text.entry.now))
+        (λ x. Front (Row spec.cisco_row) (chars text.entry.now) [] (cisco_values x)) }
+{
+    match front {
+        Some(led) => shown_led(text, led),
+        None => shown_line(text),
+    }
+}
+
+/// Returns the system of a line with a date, and what the line says. The front is what `read_front` says of it.
+pub(crate) fn read_cisco<'a>(text: &'a str, front: Option<Led<'a>>) -> Option<(Dialect, Sent<'a>)>
+    ensures { IsFront (chars text.entry.now) front.entry → Finds spec.cisco_forms (chars text.entry.now) result }
+{
+    let line = shown(text, front)?;
+    Some(by_system(&line))
 }
 
 /// Returns what a line of Cisco's systems says that shows no date.

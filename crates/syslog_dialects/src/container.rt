@@ -3,17 +3,18 @@
 //! **Rule.** The stream and the mark of a full or a partial line name no host and no program, so that they stay before the
 //! message. (Kubernetes, "CRI logging": a timestamp of RFC 3339, `stdout` or `stderr`, `F` or `P`, each before a space.)
 ghost use Rattle.std.specs.Prelude.{◌≡◌, ◌∷◌, [], chars, true, MatchBool};
-ghost use Rattle.syslog_pieces.specs.Pieces.Class.{Row, exactly};
+ghost use Rattle.syslog_pieces.specs.Pieces.Class.{Front, Row, Text, exactly, run};
 ghost use Rattle.syslog_pieces.specs.Pieces.Rules.{such_that};
 ghost use Rattle.syslog_pieces.specs.Pieces.View.{Recognises};
+ghost use Rattle.syslog_pieces.specs.Text.{is_blank};
+ghost use Rattle.syslog_dialects.specs.Date.{iso_date};
 ghost use Rattle.syslog_dialects.specs.Sent.{Sends};
 ghost use Rattle.syslog_dialects.specs.Zone.{bare_word as any_word};
 ghost use Rattle.syslog_dialects.specs.Container as spec;
 
-use crate::date::iso_date;
-use crate::sent::Sent;
+use crate::sent::{Sent, SentDate};
 use crate::zone::{bare_word, is_one_of};
-use syslog_pieces::text::{blanks, literal};
+use syslog_pieces::text::literal;
 
 const STREAMS: [&str; 2] = ["stdout", "stderr"];
 
@@ -64,11 +65,11 @@ fn past_stream(text: &str) -> Option<&str>
     stream(text).and_then(space).and_then(mark)
 }
 
-/// Returns what a line of a container's log file says.
-pub(crate) fn read_container(text: &str) -> Option<Sent<'_>>
-    ensures { Sends spec.container_form (chars text.now) result }
+/// Returns what a line of a container's log file says that begins with this date, and of which the rest is left.
+pub(crate) fn read_container(date: SentDate, rest: &str) -> Option<Sent<'_>>
+    ensures { (text at : Text) → Front (run is_blank) text at tt → Front iso_date at (chars rest.now) date
+        → Sends spec.container_form text result }
 {
-    let (date, rest) = iso_date(blanks(text))?;
     let msg = space(rest)?;
     let _ = past_stream(msg)?;
     Some(Sent {

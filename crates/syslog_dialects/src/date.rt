@@ -17,13 +17,13 @@ use crate::decimals::decimals;
 use crate::sent::SentDate;
 use crate::zone::{ends_word, zone};
 use syslog_pieces::text::{literal, number};
+use syslog_pieces::timestamp::MonthDate;
 use syslog_pieces::timestamp::month_date::month_date;
 use syslog_pieces::timestamp::pairs::{pair, pair_after, year};
-use syslog_pieces::timestamp::{MonthDate, header_stamp};
 
 /// A month date, and what follows it: a fraction in nanoseconds, a zone with the offset that it is known to be, a year.
 #[derive(Clone, Copy)]
-struct BsdDate {
+pub(crate) struct BsdDate {
     date: MonthDate,
     nanosecond: Option<u32>,
     zone: Option<Option<i32>>,
@@ -134,14 +134,15 @@ fn optional_year(text: &str) -> (Option<u16>, &str)
 }
 
 impl BsdDate {
-    // Whether nothing follows the month date.
-    fn is_plain(&self) -> bool
+    /// Returns whether nothing follows the month date.
+    pub(crate) fn is_plain(&self) -> bool
         ensures { result ≡ spec.is_plain (bsd_values self.now) }
     {
         self.nanosecond.is_none() && self.zone.is_none() && self.year.is_none()
     }
 
-    fn sent(self) -> SentDate
+    /// Returns the date in the year and the zone that are shown.
+    pub(crate) fn sent(self) -> SentDate
         ensures { result ≡ spec.bsd_of (bsd_values self) }
     {
         let date = match self.year {
@@ -159,8 +160,8 @@ impl BsdDate {
     }
 }
 
-// The month date at the front, and what follows it.
-fn bsd(text: &str) -> Option<(BsdDate, &str)>
+/// Returns the month date at the front, with what follows it, and the text after these.
+pub(crate) fn bsd(text: &str) -> Option<(BsdDate, &str)>
     ensures { Reads (Row spec.bsd_row) bsd_values (chars text.now) result }
 {
     let (date, rest) = month_date(text)?;
@@ -181,17 +182,6 @@ pub(crate) fn bsd_date(text: &str) -> Option<(SentDate, &str)>
     ensures { Reads spec.bsd_date (λ d. d) (chars text.now) result }
 {
     let (date, rest) = bsd(text)?;
-    Some((date.sent(), rest))
-}
-
-/// Returns the month date at the front, if a fraction, a zone or a year follows it, and the text after these.
-pub(crate) fn odd_bsd_date(text: &str) -> Option<(SentDate, &str)>
-    ensures { Reads spec.odd_bsd_date (λ d. d) (chars text.now) result }
-{
-    let (date, rest) = bsd(text)?;
-    if date.is_plain() {
-        return None;
-    }
     Some((date.sent(), rest))
 }
 
@@ -265,16 +255,6 @@ pub(crate) fn iso_date(text: &str) -> Option<(SentDate, &str)>
 {
     let (date, rest) = iso(text)?;
     Some((date.sent(), rest))
-}
-
-/// Returns such a date, if the text begins with no timestamp of RFC 3339, and the text after it.
-pub(crate) fn odd_iso_date(text: &str) -> Option<(SentDate, &str)>
-    ensures { Reads spec.odd_iso_date (λ d. d) (chars text.now) result }
-{
-    match header_stamp(text) {
-        Some(_) => None,
-        None => iso_date(text),
-    }
 }
 
 /// Returns the date at the front in any of the forms, and the text after it.

@@ -9,16 +9,21 @@
 //!
 //! What follows the date is read as the port reads it.
 ghost use Rattle.std.specs.Prelude.{◌≡◌, chars, true, MatchBool};
+ghost use Rattle.syslog_pieces.specs.Pieces.Class.{Front, Row, Text, run};
 ghost use Rattle.syslog_pieces.specs.Pieces.View.{Recognises};
+ghost use Rattle.syslog_pieces.specs.Text.{is_blank};
+ghost use Rattle.syslog_dialects.specs.Date.{bsd_row as date_row, iso_date as date_class};
+ghost use Rattle.syslog_dialects.specs.DateViews.{bsd_values};
 ghost use Rattle.syslog_dialects.specs.Sent.{Sends, sent_value};
 ghost use Rattle.syslog_dialects.specs.TailViews.{tail_value};
 ghost use Rattle.syslog_dialects.specs.Dated as spec;
 
-use crate::date::{iso_date, odd_bsd_date, odd_iso_date};
+use crate::date::{BsdDate, iso_date};
 use crate::sent::{Sent, SentDate};
 use crate::tail::{Tail, read_wide_tail};
-use crate::zone::{bare_word, is_one_of};
+use crate::zone::{bare_word, has_shape, is_one_of};
 use syslog_pieces::text::{blanks, some_blanks};
+use syslog_pieces::timestamp::header_stamp;
 
 const DAYS: [&str; 7] = ["Mon", "Tue", "Wed", "Thu", "Fri", "Sat", "Sun"];
 
@@ -37,25 +42,34 @@ pub(crate) fn says<'a>(date: SentDate, tail: Tail<'a>) -> Sent<'a>
     }
 }
 
-/// Returns what a line says whose month date has a fraction, a zone or a year after it.
-pub(crate) fn read_bsd(text: &str) -> Option<Sent<'_>>
-    ensures { Sends spec.bsd_form (chars text.now) result }
+/// Returns what a line says that begins with this month date, where a fraction, a zone or a year follows it.
+pub(crate) fn read_bsd(date: BsdDate, rest: &str) -> Option<Sent<'_>>
+    ensures { (text at : Text) → Front (run is_blank) text at tt
+        → Front (Row date_row) at (chars rest.now) (bsd_values date) → Sends spec.bsd_form text result }
 {
-    let (date, rest) = odd_bsd_date(blanks(text))?;
-    Some(says(date, read_wide_tail(rest)))
+    if date.is_plain() {
+        return None;
+    }
+    Some(says(date.sent(), read_wide_tail(rest)))
 }
 
-/// Returns what a line says whose date is nearly one of RFC 3339.
-pub(crate) fn read_iso(text: &str) -> Option<Sent<'_>>
-    ensures { Sends spec.iso_form (chars text.now) result }
+/// Returns what a line says that begins with this date, which is nearly one of RFC 3339.
+pub(crate) fn read_iso<'a>(begun: &'a str, date: SentDate, rest: &'a str) -> Option<Sent<'a>>
+    ensures { (text : Text) → Front (run is_blank) text (chars begun.entry.now) tt
+        → Front date_class (chars begun.entry.now) (chars rest.entry.now) date → Sends spec.iso_form text result }
 {
-    let (date, rest) = odd_iso_date(blanks(text))?;
+    if let Some(_) = header_stamp(begun) {
+        return None;
+    }
     Some(says(date, read_wide_tail(rest)))
 }
 
 fn is_day(word: &str) -> bool
     ensures { MatchBool result (spec.IsDay (chars word.now)) (spec.IsDay (chars word.now) → ⊥) }
 {
+    if !has_shape(word.as_bytes()) {
+        return false;
+    }
     is_one_of(&DAYS, word)
 }
 

@@ -1,18 +1,30 @@
-//! The forms that are told by their date, in the order in which they are tried.
-ghost use Rattle.std.specs.Prelude.{chars};
+//! The forms that their date makes out, in the order in which they are tried.
+ghost use Rattle.std.specs.Prelude.{◌≡◌, chars};
+ghost use Rattle.syslog_pieces.specs.Pieces.Class.{Front, NoFront, Row, Text, run};
+ghost use Rattle.syslog_pieces.specs.Text.{is_blank};
+ghost use Rattle.syslog_dialects.specs.Container.{container_form};
+ghost use Rattle.syslog_dialects.specs.Date.{bsd_row, iso_date};
+ghost use Rattle.syslog_dialects.specs.DateViews.{bsd_values};
 ghost use Rattle.syslog_dialects.specs.Dialects.{Finds};
+ghost use Rattle.syslog_dialects.specs.Esxi.{esxi_form};
+ghost use Rattle.syslog_dialects.specs.Filed.{filed_forms};
+ghost use Rattle.syslog_dialects.specs.Led.{IsFront, IsLed};
+ghost use Rattle.syslog_dialects.specs.Sent.{Sends};
 ghost use Rattle.syslog_dialects.specs.DatedForms as spec;
 
 use crate::cisco::{read_cisco, read_undated};
 use crate::container::read_container;
+use crate::date::BsdDate;
 use crate::dated::{read_bsd, read_iso, read_journal};
 use crate::dialect::Dialect;
+use crate::esxi::read_esxi;
 use crate::filed::read_filed;
 use crate::ios_xr::read_ios_xr;
+use crate::led::{LeadingDate, Led};
 use crate::netscaler::read_netscaler;
 use crate::open_wrt::read_logread;
 use crate::procurve::read_procurve;
-use crate::sent::Sent;
+use crate::sent::{Sent, SentDate};
 use crate::sophos_utm::read_utm;
 use crate::unix_seconds::{read_meraki, read_short};
 
@@ -79,66 +91,128 @@ fn from_journal(text: &str) -> Option<(Dialect, Sent<'_>)>
     }
 }
 
-fn from_iso(text: &str) -> Option<(Dialect, Sent<'_>)>
-    ensures { Finds spec.iso_forms (chars text.now) result }
+// From the first form on that has a month date, where the text begins with one.
+fn after_month(date: BsdDate, rest: &str) -> Option<(Dialect, Sent<'_>)>
+    ensures { (text at : Text) → Front (run is_blank) text at tt
+        → Front (Row bsd_row) at (chars rest.now) (bsd_values date) → Finds spec.bsd_forms text result }
 {
-    match read_iso(text) {
+    let sent = read_bsd(date, rest)?;
+    Some((Dialect::BsdDate, sent))
+}
+
+// From there on where it begins with a date that is nearly one of RFC 3339.
+fn after_iso<'a>(
+    text: &'a str,
+    begun: &'a str,
+    date: SentDate,
+    rest: &'a str,
+) -> Option<(Dialect, Sent<'a>)>
+    ensures { Front (run is_blank) (chars text.entry.now) (chars begun.entry.now) tt
+        → NoFront (Row bsd_row) (chars begun.entry.now)
+        → Front iso_date (chars begun.entry.now) (chars rest.entry.now) date
+        → Finds spec.bsd_forms (chars text.entry.now) result }
+{
+    match read_iso(begun, date, rest) {
         Some(sent) => Some((Dialect::NearlyRfc3339, sent)),
         None => from_journal(text),
     }
 }
 
-fn from_bsd(text: &str) -> Option<(Dialect, Sent<'_>)>
-    ensures { Finds spec.bsd_forms (chars text.now) result }
+fn from_bsd<'a>(text: &'a str, led: Led<'a>) -> Option<(Dialect, Sent<'a>)>
+    ensures { IsLed (chars text.entry.now) led.entry → Finds spec.bsd_forms (chars text.entry.now) result }
 {
-    match read_bsd(text) {
-        Some(sent) => Some((Dialect::BsdDate, sent)),
-        None => from_iso(text),
+    match led.date {
+        LeadingDate::Month(date) => after_month(date, led.rest),
+        LeadingDate::Iso(date) => after_iso(text, led.text, date, led.rest),
     }
 }
 
-fn from_procurve(text: &str) -> Option<(Dialect, Sent<'_>)>
-    ensures { Finds spec.procurve_forms (chars text.now) result }
+fn from_procurve<'a>(text: &'a str, led: Led<'a>) -> Option<(Dialect, Sent<'a>)>
+    ensures { IsLed (chars text.entry.now) led.entry → Finds spec.procurve_forms (chars text.entry.now) result }
 {
-    match read_procurve(text) {
+    match read_procurve(led.date.sent(), led.rest) {
         Some(sent) => Some((Dialect::ProCurve, sent)),
-        None => from_bsd(text),
+        None => from_bsd(text, led),
     }
 }
 
-fn from_container(text: &str) -> Option<(Dialect, Sent<'_>)>
-    ensures { Finds spec.container_forms (chars text.now) result }
+// What a line of ESXi says, which has no month date.
+fn of_esxi(led: Led<'_>) -> Option<Sent<'_>>
+    ensures { (text : Text) → IsLed text led.entry → Sends esxi_form text result }
 {
-    match read_container(text) {
+    match led.date {
+        LeadingDate::Month(_) => None,
+        LeadingDate::Iso(date) => read_esxi(date, led.rest),
+    }
+}
+
+fn from_esxi<'a>(text: &'a str, led: Led<'a>) -> Option<(Dialect, Sent<'a>)>
+    ensures { IsLed (chars text.entry.now) led.entry → Finds spec.esxi_forms (chars text.entry.now) result }
+{
+    match of_esxi(led) {
+        Some(sent) => Some((Dialect::Esxi, sent)),
+        None => from_procurve(text, led),
+    }
+}
+
+// What a line of a container's log file says, which has no month date.
+fn of_container(led: Led<'_>) -> Option<Sent<'_>>
+    ensures { (text : Text) → IsLed text led.entry → Sends container_form text result }
+{
+    match led.date {
+        LeadingDate::Month(_) => None,
+        LeadingDate::Iso(date) => read_container(date, led.rest),
+    }
+}
+
+fn from_container<'a>(text: &'a str, led: Led<'a>) -> Option<(Dialect, Sent<'a>)>
+    ensures { IsLed (chars text.entry.now) led.entry → Finds spec.container_forms (chars text.entry.now) result }
+{
+    match of_container(led) {
         Some(sent) => Some((Dialect::Container, sent)),
-        None => from_procurve(text),
+        None => from_esxi(text, led),
     }
 }
 
-fn from_xr(text: &str) -> Option<(Dialect, Sent<'_>)>
-    ensures { Finds spec.xr_forms (chars text.now) result }
+// From the first form on that may have another beginning than a date.
+fn from_xr<'a>(text: &'a str, front: Option<Led<'a>>) -> Option<(Dialect, Sent<'a>)>
+    ensures { IsFront (chars text.entry.now) front.entry → Finds spec.xr_forms (chars text.entry.now) result }
 {
-    match read_ios_xr(text) {
-        Some(sent) => Some((Dialect::CiscoIosXr, sent)),
-        None => from_container(text),
+    if let Some(sent) = read_ios_xr(text) {
+        return Some((Dialect::CiscoIosXr, sent));
+    }
+    match front {
+        Some(led) => from_container(text, led),
+        None => from_journal(text),
     }
 }
 
-fn from_filed(text: &str) -> Option<(Dialect, Sent<'_>)>
-    ensures { Finds spec.later_forms (chars text.now) result }
+// What a filed line says, which begins with a date.
+fn of_filed(front: Option<Led<'_>>) -> Option<(Dialect, Sent<'_>)>
+    ensures { (text : Text) → IsFront text front.entry → Finds filed_forms text result }
 {
-    match read_filed(text) {
+    match front {
+        Some(led) => read_filed(led.date.sent(), led.rest),
+        None => None,
+    }
+}
+
+fn from_filed<'a>(text: &'a str, front: Option<Led<'a>>) -> Option<(Dialect, Sent<'a>)>
+    ensures { IsFront (chars text.entry.now) front.entry → Finds spec.later_forms (chars text.entry.now) result }
+{
+    match of_filed(front) {
         Some(found) => Some(found),
-        None => from_xr(text),
+        None => from_xr(text, front),
     }
 }
 
-/// Returns the dialect of the text after a priority, by its date, and what it says.
-pub(crate) fn read(text: &str) -> Option<(Dialect, Sent<'_>)>
-    ensures { Finds spec.all_dated (chars text.now) result }
+/// Returns the dialect of the text after a priority, by its date, and what it says. The front is what `read_front` says
+/// of it.
+pub(crate) fn read<'a>(text: &'a str, front: Option<Led<'a>>) -> Option<(Dialect, Sent<'a>)>
+    ensures { IsFront (chars text.entry.now) front.entry → Finds spec.all_dated (chars text.entry.now) result }
 {
-    match read_cisco(text) {
+    match read_cisco(text, front) {
         Some(found) => Some(found),
-        None => from_filed(text),
+        None => from_filed(text, front),
     }
 }

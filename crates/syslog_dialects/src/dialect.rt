@@ -26,6 +26,8 @@ pub enum Dialect {
     Container,
     /// Cisco's IOS-XR.
     CiscoIosXr,
+    /// VMware ESXi from 8.0 on: the level and the priority after the date.
+    Esxi,
     /// Citrix NetScaler.
     NetScaler,
     /// Seconds since 1970 in place of a date, as Cisco Meraki and `journalctl -o short-unix` write.
@@ -44,11 +46,11 @@ pub enum Dialect {
     PaloAlto,
     /// Pairs of a key and a value, as FortiGate, SonicWall and Sophos write.
     KeyValue,
-    /// An object of JSON behind the host.
+    /// An object of JSON after the host.
     Json,
     /// Dell's iDRAC.
     Idrac,
-    /// A level of log4j behind the host.
+    /// A level of log4j after the host.
     Log4j,
     /// Topics of RouterOS with commas between them, as MikroTik's routers write.
     MikroTik,
@@ -84,6 +86,7 @@ impl Dialect {
             Dialect::CiscoUndated => "cisco-undated",
             Dialect::Container => "container",
             Dialect::CiscoIosXr => "cisco-ios-xr",
+            Dialect::Esxi => "esxi",
             Dialect::NetScaler => "netscaler",
             Dialect::ProCurve => "procurve",
             Dialect::Repeated => "repeated",
@@ -122,6 +125,7 @@ impl Dialect {
             Dialect::CiscoUndated => 26,
             Dialect::Container => 27,
             Dialect::CiscoIosXr => 28,
+            Dialect::Esxi => 33,
             Dialect::NetScaler => 29,
             Dialect::ProCurve => 30,
             Dialect::Repeated => 40,
@@ -175,6 +179,7 @@ impl Dialect {
             54 => Some(Dialect::Bracketed),
             31 => Some(Dialect::SophosUtm),
             32 => Some(Dialect::UnixSeconds),
+            33 => Some(Dialect::Esxi),
             55 => Some(Dialect::WatchGuard),
             48 => Some(Dialect::Forwarded),
             49 => Some(Dialect::SeverityFirst),

@@ -5,25 +5,12 @@ ghost use Rattle.std.specs.Prelude.{chars, ◌++◌};
 ghost use Rattle.syslog_dialects.specs.Dialects.{Finds, dated_forms, forms_of, last_forms, late_forms, named_forms};
 
 use crate::dialect::Dialect;
+use crate::led::read_front;
 use crate::priority_alone::{read_alone, read_program_alone};
 use crate::sent::Sent;
 use crate::{dated_forms, named_forms};
 
-// The dialect of the text after a priority, by its date, and what it says.
-fn read_dated(text: &str) -> Option<(Dialect, Sent<'_>)>
-    ensures { Finds dated_forms (chars text.now) result }
-{
-    dated_forms::read(text)
-}
-
-// The same by what follows the date.
-fn read_named(text: &str) -> Option<(Dialect, Sent<'_>)>
-    ensures { Finds named_forms (chars text.now) result }
-{
-    named_forms::read(text)
-}
-
-// The same of a text that has a priority, and that the port does not parse.
+// The dialect of a text that has a priority, and that the port does not parse, and what it says.
 fn read_last(text: &str) -> Option<(Dialect, Sent<'_>)>
     ensures { Finds last_forms (chars text.now) result }
 {
@@ -34,13 +21,14 @@ fn read_last(text: &str) -> Option<(Dialect, Sent<'_>)>
     Some((Dialect::PriorityAlone, sent))
 }
 
-// The same by either.
+// The dialect of the text after a priority, by its date or by what follows it, and what it says.
 fn read_early(text: &str) -> Option<(Dialect, Sent<'_>)>
     ensures { Finds (dated_forms ++ named_forms) (chars text.now) result }
 {
-    match read_dated(text) {
+    let front = read_front(text);
+    match dated_forms::read(text, front) {
         Some(found) => Some(found),
-        None => read_named(text),
+        None => named_forms::read(text, front),
     }
 }
 

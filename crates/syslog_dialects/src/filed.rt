@@ -3,18 +3,18 @@
 //! **Rule.** The date of the message is the device's own, and the host what the device calls itself, or else what the
 //! collector calls it (rsyslog and syslog-ng write their date and the sender before the message as it came).
 ghost use Rattle.std.specs.Prelude.{◌≡◌, [], MatchOption, chars};
-ghost use Rattle.syslog_pieces.specs.Pieces.Class.{Front, NoFront, Row};
+ghost use Rattle.syslog_pieces.specs.Pieces.Class.{Front, NoFront, Row, Text, run};
+ghost use Rattle.syslog_pieces.specs.Text.{is_blank};
 ghost use Rattle.syslog_pieces.specs.Pieces.View.{shown};
+ghost use Rattle.syslog_dialects.specs.Date.{any_date as date_class};
 ghost use Rattle.syslog_dialects.specs.DateViews.{cisco_values};
 ghost use Rattle.syslog_dialects.specs.Dialects.{Finds};
 ghost use Rattle.syslog_dialects.specs.Sent.{sent_value};
 ghost use Rattle.syslog_dialects.specs.Filed as spec;
 
 use crate::cisco::{Cisco, dated_in, gap, origin, shown_line};
-use crate::date::any_date;
 use crate::dialect::Dialect;
 use crate::sent::{Sent, SentDate};
-use syslog_pieces::text::blanks;
 
 // What a collector writes before the line, and the line.
 #[derive(Clone, Copy)]
@@ -24,12 +24,13 @@ struct Filed<'a> {
     line: &'a str,
 }
 
-fn past_front(text: &str) -> Option<Filed<'_>>
-    ensures { MatchOption result (NoFront (Row spec.filed_front) (chars text.now)) (λ x. Front (Row spec.filed_front)
-        (chars text.now) (shown x.line) (tt, (x.date, (tt, (shown x.device, (tt, tt)))))) }
+// What a collector writes of a line that begins with this date, and of which the rest is left.
+fn past_front(date: SentDate, rest: &str) -> Option<Filed<'_>>
+    ensures { (text at : Text) → Front (run is_blank) text at tt → Front date_class at (chars rest.now) date
+        → MatchOption result (NoFront (Row spec.filed_front) text) (λ x. Front (Row spec.filed_front)
+        text (shown x.line) (tt, (x.date, (tt, (shown x.device, (tt, tt)))))) }
 {
-    let (date, after_date) = any_date(blanks(text))?;
-    let before_device = gap(after_date)?;
+    let before_device = gap(rest)?;
     let (device, after_device) = origin(before_device)?;
     let line = gap(after_device)?;
     Some(Filed { date, device, line })
@@ -57,11 +58,12 @@ fn sent<'a>(line: &Cisco<'a>, device: &'a str) -> Sent<'a>
     }
 }
 
-/// Returns the system of a filed line, and what the line says.
-pub(crate) fn read_filed(text: &str) -> Option<(Dialect, Sent<'_>)>
-    ensures { Finds spec.filed_forms (chars text.now) result }
+/// Returns the system of a filed line, and what the line says, where it begins with this date and the rest is left.
+pub(crate) fn read_filed(date: SentDate, rest: &str) -> Option<(Dialect, Sent<'_>)>
+    ensures { (text at : Text) → Front (run is_blank) text at tt → Front date_class at (chars rest.now) date
+        → Finds spec.filed_forms text result }
 {
-    let front = past_front(text)?;
+    let front = past_front(date, rest)?;
     let line = shown_line(front.line)?;
     let sent = sent(&line, front.device);
     if line.is_asa() {

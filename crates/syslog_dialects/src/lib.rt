@@ -15,10 +15,12 @@ mod dated_forms;
 mod decimals;
 mod dialect;
 mod dialects;
+mod esxi;
 mod filed;
 mod header;
 mod ios_xr;
 pub mod laws;
+mod led;
 mod named;
 mod named_forms;
 #[cfg(test)]

@@ -1,4 +1,4 @@
-//! What stands after a date: a host, a program's name and the message.
+//! What comes after a date: a host, a program's name and the message.
 ghost use Rattle.std.specs.Prelude.{◌≡◌, ◌∷◌, [], IsTrue, MatchBool, Option, chars};
 ghost use Rattle.syslog_pieces.specs.Pieces.Class.{Front, exactly, optional};
 ghost use Rattle.syslog_pieces.specs.Pieces.View.{Reads, Skips, seen, shown, text_eq};

@@ -1,31 +1,21 @@
-//! The dialects that are told by what follows the date, in the order in which they are tried. The date is read once.
+//! The dialects that what follows the date makes out, in the order in which they are tried.
 ghost use Rattle.std.specs.Prelude.{◌≡◌, None, chars};
-ghost use Rattle.syslog_pieces.specs.Pieces.Class.{Front, Row, Text};
-ghost use Rattle.syslog_pieces.specs.Pieces.View.{Reads};
 ghost use Rattle.syslog_dialects.specs.Dialects.{Finds};
+ghost use Rattle.syslog_dialects.specs.Led.{IsFront, IsLed};
 ghost use Rattle.syslog_dialects.specs.NamedFinds.{FindsAfter};
 ghost use Rattle.syslog_dialects.specs.NamedForms as spec;
 ghost use Rattle.syslog_dialects.specs.Sent.{loose, sent_value};
 ghost use Rattle.syslog_dialects.specs.Views.{named_value};
 
-use crate::date::any_date;
 use crate::dialect::Dialect;
 use crate::header::read_header;
+use crate::led::Led;
 use crate::named::Named;
 use crate::pairs::read_pairs;
 use crate::programs::{after_serial, forwarded, hostless, severity_first, worded};
 use crate::sent::{Sent, SentDate};
-use crate::untagged::{Mark, mark_end, message};
+use crate::untagged::{Mark, mark_end, message, past_host};
 use syslog_pieces::text::{blanks, some_blanks};
-
-// A date, blanks or none before it, and blanks after it.
-fn front(text: &str) -> Option<(SentDate, &str)>
-    ensures { Reads (Row spec.front_row) (λ d. (tt, (d, (tt, tt)))) (chars text.now) result }
-{
-    let (date, rest) = any_date(blanks(text))?;
-    let rest = some_blanks(rest)?;
-    Some((date, rest))
-}
 
 // What names and a message after a date say.
 fn sent<'a>(date: SentDate, named: Named<'a>) -> Sent<'a>
@@ -103,45 +93,57 @@ fn of_program<'a>(date: SentDate, rest: &'a str, text: &'a str) -> Option<(Diale
 fn of_message<'a>(date: SentDate, rest: &'a str, text: &'a str) -> Option<(Dialect, Sent<'a>)>
     ensures { FindsAfter spec.all_named date (chars rest.entry.now) (chars text.entry.now) result }
 {
-    if let Some(named) = message(rest, Mark::Repeated) {
+    let after_host = past_host(rest);
+    if let Some(named) = message(rest, after_host, Mark::Repeated) {
         return Some((Dialect::Repeated, sent(date, named)));
     }
-    if let Some(named) = message(rest, Mark::Cef) {
+    if let Some(named) = message(rest, after_host, Mark::Cef) {
         return Some((Dialect::Cef, sent(date, named)));
     }
-    if let Some(named) = message(rest, Mark::Leef) {
+    if let Some(named) = message(rest, after_host, Mark::Leef) {
         return Some((Dialect::Leef, sent(date, named)));
     }
-    if let Some(named) = message(rest, Mark::PaloAlto) {
+    if let Some(named) = message(rest, after_host, Mark::PaloAlto) {
         return Some((Dialect::PaloAlto, sent(date, named)));
     }
-    if let Some(named) = message(rest, Mark::Pair) {
+    if let Some(named) = message(rest, after_host, Mark::Pair) {
         return Some((Dialect::KeyValue, sent(date, named)));
     }
-    if let Some(named) = message(rest, Mark::Json) {
+    if let Some(named) = message(rest, after_host, Mark::Json) {
         return Some((Dialect::Json, sent(date, named)));
     }
-    if let Some(named) = message(rest, Mark::Idrac) {
+    if let Some(named) = message(rest, after_host, Mark::Idrac) {
         return Some((Dialect::Idrac, sent(date, named)));
     }
-    if let Some(named) = message(rest, Mark::Level) {
+    if let Some(named) = message(rest, after_host, Mark::Level) {
         return Some((Dialect::Log4j, sent(date, named)));
     }
-    if let Some(named) = message(rest, Mark::Topics) {
+    if let Some(named) = message(rest, after_host, Mark::Topics) {
         return Some((Dialect::MikroTik, sent(date, named)));
     }
-    if let Some(named) = message(rest, Mark::Bracket) {
+    if let Some(named) = message(rest, after_host, Mark::Bracket) {
         return Some((Dialect::Bracketed, sent(date, named)));
     }
     of_program(date, rest, text)
 }
 
-/// The dialect of the text after a priority, by what follows the date, and what it says.
-pub(crate) fn read(text: &str) -> Option<(Dialect, Sent<'_>)>
-    ensures { Finds spec.all_named (chars text.now) result }
+// What is found after a date that begins the text.
+fn of_led<'a>(led: Led<'a>, text: &'a str) -> Option<(Dialect, Sent<'a>)>
+    ensures { IsLed (chars text.entry.now) led.entry → Finds spec.all_named (chars text.entry.now) result }
 {
-    match front(text) {
-        Some((date, rest)) => of_message(date, rest, text),
+    match some_blanks(led.rest) {
+        Some(rest) => of_message(led.date.sent(), rest, text),
+        None => undated(text),
+    }
+}
+
+/// Returns the dialect of the text after a priority, by what follows the date, and what it says. The front is what
+/// `read_front` says of it.
+pub(crate) fn read<'a>(text: &'a str, front: Option<Led<'a>>) -> Option<(Dialect, Sent<'a>)>
+    ensures { IsFront (chars text.entry.now) front.entry → Finds spec.all_named (chars text.entry.now) result }
+{
+    match front {
+        Some(led) => of_led(led, text),
         None => undated(text),
     }
 }

@@ -1,6 +1,7 @@
 //! Lines of the forms that are told by what follows the date, as vendors' documents have them: dialect, host, app name,
 //! process and message, where an empty text is an absent one. After two lines of a form comes one that is nearly of it.
 use crate::dialect::Dialect;
+use crate::led::read_front;
 use crate::named_forms::read;
 use crate::priority_alone::{read_alone, read_program_alone};
 use crate::sent::Sent;
@@ -489,7 +490,7 @@ fn are_said(found: Option<(Dialect, Sent<'_>)>, row: &[&str; 6]) -> bool {
 fn lines_say_their_fields(rt: HostRuntime) {
     for row in &LINES {
         let text = row[0];
-        assert!(rt; are_said(read(text), row), "{text}");
+        assert!(rt; are_said(read(text, read_front(text)), row), "{text}");
     }
 }
 

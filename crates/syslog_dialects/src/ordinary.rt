@@ -12,7 +12,7 @@ ghost use Rattle.syslog_dialects.specs.Ordinary as spec;
 
 use crate::named::is_word;
 use syslog_loose::Line;
-use syslog_pieces::text::{CharClass, literal, split_run};
+use syslog_pieces::text::{CharClass, first, literal, split_run};
 
 // The text after this one, where it begins the text.
 fn past<'a>(text: &'a str, front: &str) -> Option<&'a str>
@@ -62,12 +62,92 @@ fn are_digits(text: &str) -> bool
     rest.is_empty()
 }
 
-// Whether the app name is a number, nothing, or a word that begins a message.
+// Whether the text begins as an object of JSON.
+fn opens_object(app: &str) -> bool
+    ensures { result ≡ spec.opens_object (chars app.now) }
+{
+    match first(app) {
+        Some((c, _)) => c == '{',
+        None => false,
+    }
+}
+
+// Whether the app name is a number, nothing, or what begins a message. By a call, since few begin so.
+#[cold]
+#[inline(never)]
+fn is_odd_word(app: &str) -> bool
+    ensures { result ≡ spec.is_odd_app (chars app.now) }
+{
+    are_digits(app)
+        || (opens_object(app)
+            || (is_word(app, "CEF") || (is_word(app, "LEEF") || is_word(app, "Severity"))))
+}
+
+// Whether such an app name may begin with the character.
+#[inline(always)]
+fn begins_oddly(c: char) -> bool
+    ensures { result ≡ spec.begins_oddly c }
+{
+    c.is_ascii_digit() || (c == '{' || (c == 'C' || (c == 'L' || c == 'S')))
+}
+
 #[inline(always)]
 fn is_odd_app(app: &str) -> bool
     ensures { result ≡ spec.is_odd_app (chars app.now) }
 {
-    are_digits(app) || (is_word(app, "CEF") || (is_word(app, "LEEF") || is_word(app, "Severity")))
+    let Some((c, _)) = first(app) else {
+        return true;
+    };
+    if begins_oddly(c) {
+        is_odd_word(app)
+    } else {
+        false
+    }
+}
+
+// Whether the text is no host, but the level of a line of ESXi. By a call, since few hosts have a bracket there.
+#[cold]
+#[inline(never)]
+fn opens_level(host: &str) -> bool
+    ensures { result ≡ spec.is_level_mark (chars host.now) }
+{
+    let Some((a, more)) = first(host) else {
+        return false;
+    };
+    let Some((b, last)) = first(more) else {
+        return false;
+    };
+    match first(last) {
+        Some((c, _)) => (a.is_ascii_alphabetic() && b.is_ascii_alphabetic()) && c == '(',
+        None => false,
+    }
+}
+
+// Whether the third byte is a bracket.
+#[inline(always)]
+fn has_bracket(host: &[u8]) -> bool
+    ensures { result ≡ spec.has_bracket host.now }
+{
+    2 < host.len() && host[2] == b'('
+}
+
+#[inline(always)]
+fn is_level_mark(host: &str) -> bool
+    ensures { result ≡ spec.is_level_mark (chars host.now) }
+{
+    if has_bracket(host.as_bytes()) {
+        opens_level(host)
+    } else {
+        false
+    }
+}
+
+// Whether the two are no host and no tag.
+#[inline(always)]
+fn is_odd(host: &str, app: &str) -> bool
+    ensures { result ≡ spec.is_odd (chars host.now) (chars app.now) }
+{
+    is_odd_app(app) || is_level_mark(host)
 }
 
 // Whether the line of RFC 3164 has a timestamp, a host and a tag.
@@ -86,7 +166,7 @@ fn is_tagged(line: &Line<'_>) -> bool
     let Some(app) = line.appname else {
         return false;
     };
-    if is_odd_app(app) {
+    if is_odd(host, app) {
         return false;
     }
     line.is_printed || begins_with_tag(line.rest, host, app)

@@ -1,23 +1,25 @@
 //! Lines of HP's ProCurve and ArubaOS-Switch: `Mar  2 06:33:04 10.0.0.5 00076 ports: port 1 is now on-line`.
 //!
-//! **Rule.** The number of the event, which stands before the module, names no program: the module does. (HP, "Event log
+//! **Rule.** The number of the event, which is before the module, names no program: the module does. (HP, "Event log
 //! message reference": severity, date, event number, system module.)
-ghost use Rattle.std.specs.Prelude.{chars};
+ghost use Rattle.std.specs.Prelude.{◌≡◌, chars};
+ghost use Rattle.syslog_pieces.specs.Pieces.Class.{Front, Text, run};
+ghost use Rattle.syslog_pieces.specs.Text.{is_blank};
+ghost use Rattle.syslog_dialects.specs.Date.{any_date};
 ghost use Rattle.syslog_dialects.specs.Sent.{Sends};
 ghost use Rattle.syslog_dialects.specs.ProCurve as spec;
 
 use crate::cisco::{colon, digits, gap, origin};
-use crate::date::any_date;
-use crate::sent::Sent;
+use crate::sent::{Sent, SentDate};
 use crate::zone::bare_word;
 use syslog_pieces::text::blanks;
 
-/// Returns what a line of ProCurve says.
-pub(crate) fn read_procurve(text: &str) -> Option<Sent<'_>>
-    ensures { Sends spec.procurve_form (chars text.now) result }
+/// Returns what a line of ProCurve says that begins with this date, and of which the rest is left.
+pub(crate) fn read_procurve(date: SentDate, rest: &str) -> Option<Sent<'_>>
+    ensures { (text at : Text) → Front (run is_blank) text at tt → Front any_date at (chars rest.now) date
+        → Sends spec.procurve_form text result }
 {
-    let (date, after_date) = any_date(blanks(text))?;
-    let before_host = gap(after_date)?;
+    let before_host = gap(rest)?;
     let (host, after_host) = origin(before_host)?;
     let before_number = gap(after_host)?;
     let after_number = digits(before_number)?;

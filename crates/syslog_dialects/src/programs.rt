@@ -1,4 +1,4 @@
-//! Lines of programs that are told by what stands between the date and the program's name.
+//! Lines of programs that what is between the date and the program's name makes out.
 ghost use Rattle.std.specs.Prelude.{◌≡◌, ◌∷◌, ◌||◌, [], IfSome, IsUtf8, List, chars, codes};
 ghost use Rattle.syslog_pieces.specs.Pieces.Class.{Front, Row, exactly, some_run, spaced, texted};
 ghost use Rattle.syslog_pieces.specs.Pieces.Lists.{many};

@@ -1,7 +1,7 @@
 //! Runs of the characters that the names of programs and the keys and values of pairs are made of.
-ghost use Rattle.std.specs.Prelude.{◌≡◌};
+ghost use Rattle.std.specs.Prelude.{◌≡◌, ◌<◌, ◌≤◌, ℕ, false, length, slice_index, true};
 ghost use Rattle.syslog_pieces.specs.Bodies.Scan.{EndsRun, SplitsRun};
-ghost use Rattle.syslog_dialects.specs.Runs.{is_of};
+ghost use Rattle.syslog_dialects.specs.Runs.{is_of, is_unquoted};
 
 /// A class of characters.
 #[derive(Clone, Copy)]
@@ -15,8 +15,8 @@ pub(crate) enum Run {
 }
 
 impl Run {
-    // Whether the character is of the class.
-    fn has(self, c: char) -> bool
+    /// Returns whether the character is of the class.
+    pub(crate) fn has(self, c: char) -> bool
         ensures { result ≡ is_of self c }
     {
         match self {
@@ -32,13 +32,38 @@ impl Run {
     }
 }
 
-// The place after the maximal run of the class at the front, in bytes.
+// How many bytes at the front are characters of the class.
+fn run_len(bytes: &[u8], run: Run) -> usize
+    ensures within { result ≤ length bytes.now }
+    ensures pass { (k : ℕ) → k < result → is_of run (slice_index bytes.now k) ≡ true }
+    ensures stop { result < length bytes.now → is_of run (slice_index bytes.now result) ≡ false }
+{
+    for (i, byte) in bytes.iter().enumerate() {
+        if !run.has(char::from(*byte)) {
+            return i;
+        }
+    }
+    bytes.len()
+}
+
+// The place after the maximal run at the front that has no quote, in bytes.
+fn unquoted_end(text: &str) -> usize
+    ensures { EndsRun is_unquoted text.now result }
+{
+    match text.find(|c: char| !Run::Unquoted.has(c)) {
+        Some(end) => end,
+        None => text.len(),
+    }
+}
+
+// The place after the maximal run of the class at the front, in bytes. The first two classes are of ASCII alone.
 fn run_end(text: &str, run: Run) -> usize
     ensures { EndsRun (is_of run) text.now result }
 {
-    match text.find(|c: char| !run.has(c)) {
-        Some(end) => end,
-        None => text.len(),
+    match run {
+        Run::Word => run_len(text.as_bytes(), Run::Word),
+        Run::Plain => run_len(text.as_bytes(), Run::Plain),
+        Run::Unquoted => unquoted_end(text),
     }
 }
 

@@ -1,13 +1,14 @@
 //! Lines of each dialect that is told by its date, as vendors document them, with all that they say; and lines that are
 //! nearly of it.
 use crate::dated_forms::read;
+use crate::led::read_front;
 use crate::sent::SentDate;
 use std::alloc::Global;
 use std::process::Abort;
 
 // A text from after the priority on, and after `¦` its dialect, date, host, app name, process and message. A date is year,
 // month, day, hour, minute, second, nanosecond and offset.
-const ROWS: [&str; 60] = [
+const ROWS: [&str; 63] = [
     "29: *Mar  1 18:48:50.483: %SYS-5-CONFIG_I: Configured from console¦cisco-ios¦- 3 1 18 48 50 483000000 -¦-¦%SYS-5-CONFIG_I¦-¦Configured from console",
     "4211: core-sw1: Mar  1 18:48:50.483 CET: %LINK-3-UPDOWN: changed state¦cisco-ios¦- 3 1 18 48 50 483000000 -¦core-sw1¦%LINK-3-UPDOWN¦-¦changed state",
     "29: edge1: 000031: .Mar  1 2026 18:48:50 UTC: %SYS-5-CONFIG_I: text¦cisco-ios¦2026 3 1 18 48 50 0 0¦edge1¦%SYS-5-CONFIG_I¦-¦text",
@@ -31,6 +32,9 @@ const ROWS: [&str; 60] = [
     "2026-03-02T06:33:04.123456789Z stdout F level=info¦container¦2026 3 2 6 33 4 123456789 0¦-¦-¦-¦stdout F level=info",
     "2026-03-02T06:33:04.5+01:00 stderr P panic: nil¦container¦2026 3 2 6 33 4 500000000 3600¦-¦-¦-¦stderr P panic: nil",
     "2026-03-02T06:33:04.5+01:00 stdin P panic: nil¦none",
+    "2026-03-02T06:33:04.123Z In(182) vmkernel: cpu3:2097)text¦esxi¦2026 3 2 6 33 4 123000000 0¦-¦vmkernel¦-¦cpu3:2097)text",
+    "2026-03-02T06:33:04Z Db(167) Hostd[2099]: Task Created¦esxi¦2026 3 2 6 33 4 0 0¦-¦Hostd¦2099¦Task Created",
+    "2026-03-02T06:33:04Z In[182] vmkernel: text¦none",
     "Mar  2 06:33:04 10.0.0.5 00076 ports: port 1 is now on-line¦procurve¦- 3 2 6 33 4 0 -¦10.0.0.5¦ports¦-¦port 1 is now on-line",
     " Mar  2 06:33:04 sw7 05177 auth:  User 'admin' logged in¦procurve¦- 3 2 6 33 4 0 -¦sw7¦auth¦-¦User 'admin' logged in",
     "Mar  2 06:33:04 10.0.0.5 000x6 ports: port 1 is now on-line¦none",
@@ -96,7 +100,7 @@ fn date(alloc: Global, date: Option<SentDate>) -> String {
 }
 
 fn says(alloc: Global, text: &str) -> String {
-    let Some((dialect, sent)) = read(text) else {
+    let Some((dialect, sent)) = read(text, read_front(text)) else {
         return String::from_str(alloc, "none").unwrap_or(String::new(alloc));
     };
     let date = date(alloc, sent.date);

@@ -1,7 +1,7 @@
-//! Messages that no program's name is before: they are told by what they begin with.
+//! Messages that no program's name is before: what they begin with makes them out.
 ghost use Rattle.std.specs.Prelude.{◌≡◌, ◌∷◌, [], ◌||◌, Option, chars, codes};
 ghost use Rattle.syslog_pieces.specs.Pieces.Class.{Front, Row, after, exactly, optional, run, some_run};
-ghost use Rattle.syslog_pieces.specs.Pieces.View.{Recognises, shown};
+ghost use Rattle.syslog_pieces.specs.Pieces.View.{Reads, Recognises, seen, shown};
 ghost use Rattle.syslog_pieces.specs.Timestamp.Rfc3339.{pair as pair_class, year as year_class};
 ghost use Rattle.syslog_pieces.specs.Text.{is_blank};
 ghost use Rattle.syslog_dialects.specs.Runs.{is_plain_char, is_word_char};
@@ -12,7 +12,7 @@ ghost use Rattle.syslog_dialects.specs.Views.{Names, named_value};
 
 use crate::named::{Named, is_word, past, untagged};
 use crate::runs::{Run, split};
-use syslog_pieces::text::{CharClass, blanks, host, literal, some_blanks, split_run};
+use syslog_pieces::text::{CharClass, blanks, first, host, literal, some_blanks, split_run};
 use syslog_pieces::timestamp::pairs::{pair, pair_after, year};
 
 /// What such a message begins with.
@@ -357,8 +357,42 @@ fn open_bracket(text: &str) -> Option<&str>
     bracket(text)
 }
 
+impl Mark {
+    // Whether the mark may begin with this character.
+    #[inline(always)]
+    fn begins(self, c: char) -> bool
+        ensures { result ≡ spec.begins self c }
+    {
+        match self {
+            Mark::Cef => c == 'C',
+            Mark::Leef => c == 'L',
+            Mark::Repeated => c == 'l' || (c == 'm' || (c == '-' || c == 'a')),
+            Mark::PaloAlto => c.is_ascii_digit(),
+            Mark::Pair => Run::Word.has(c),
+            Mark::Json => c == '{',
+            Mark::Idrac => c == 'S',
+            Mark::Level => 'D' <= c && c <= 'W',
+            Mark::Topics => Run::Plain.has(c),
+            Mark::Bracket => c == '[',
+        }
+    }
+}
+
 /// Returns the text after the mark, where it begins the text.
+#[inline(always)]
 pub(crate) fn mark_end(text: &str, mark: Mark) -> Option<&str>
+    ensures { Recognises (spec.mark_class mark) (chars text.now) result }
+{
+    let (c, _) = first(text)?;
+    if mark.begins(c) {
+        read_mark(text, mark)
+    } else {
+        None
+    }
+}
+
+// The text after the mark.
+fn read_mark(text: &str, mark: Mark) -> Option<&str>
     ensures { Recognises (spec.mark_class mark) (chars text.now) result }
 {
     match mark {
@@ -375,15 +409,29 @@ pub(crate) fn mark_end(text: &str, mark: Mark) -> Option<&str>
     }
 }
 
-/// A message that the mark begins, or a host and such a message.
-pub(crate) fn message(text: &str, mark: Mark) -> Option<Named<'_>>
-    ensures { Names (spec.message mark) named_value (chars text.now) result }
+/// Returns the host at the front, and the text after it and the blanks that follow it.
+pub(crate) fn past_host(text: &str) -> Option<(Option<&str>, &str)>
+    ensures { Reads (Row spec.host_row) (λ h. (seen h, (tt, tt))) (chars text.now) result }
+{
+    let (hostname, rest) = host(text)?;
+    let rest = some_blanks(rest)?;
+    Some((hostname, rest))
+}
+
+/// Returns a message that the mark begins, or a host and such a message, where this is what follows the host.
+#[inline(always)]
+pub(crate) fn message<'a>(
+    text: &'a str,
+    after_host: Option<(Option<&'a str>, &'a str)>,
+    mark: Mark,
+) -> Option<Named<'a>>
+    ensures { Reads (Row spec.host_row) (λ h. (seen h, (tt, tt))) (chars text.entry.now) after_host.entry
+        → Names (spec.message mark) named_value (chars text.entry.now) result }
 {
     if let Some(_) = mark_end(text, mark) {
         return Some(untagged(None, text));
     }
-    let (hostname, rest) = host(text)?;
-    let rest = some_blanks(rest)?;
+    let (hostname, rest) = after_host?;
     let _ = mark_end(rest, mark)?;
     Some(untagged(hostname, rest))
 }

@@ -83,7 +83,7 @@ fn some_minutes(text: &str) -> (u32, &str)
     }
 }
 
-// Hours and minutes in seconds, negative where the clock is behind UTC.
+// Hours and minutes in seconds, negative where the clock is slow of UTC.
 fn seconds(is_behind: bool, hours: u32, minutes: u32) -> i32
     requires hours { hours < 24 }
     requires minutes { minutes < 60 }
@@ -106,9 +106,19 @@ fn numeric_offset(text: &str) -> Option<(i32, &str)>
     Some((seconds(is_behind, hours, minutes), rest))
 }
 
+/// Returns whether the bytes are as few as those of a zone's name, and begin as one does. Few words are looked up.
+pub(crate) fn has_shape(name: &[u8]) -> bool
+    ensures { result ≡ spec.has_shape name.now }
+{
+    0 < name.len() && (name.len() <= 4 && (b'A' <= name[0] && name[0] <= b'Z'))
+}
+
 fn is_zone_name(name: &str) -> bool
     ensures { MatchBool result (spec.IsZoneName (chars name.now)) (spec.IsZoneName (chars name.now) → ⊥) }
 {
+    if !has_shape(name.as_bytes()) {
+        return false;
+    }
     is_one_of(&ZONE_NAMES, name)
 }
 

@@ -1,4 +1,4 @@
-use Rattle.std.proofs.Common.{[], ◌∷◌, Some, None, inl, refl}
+use Rattle.std.proofs.Common.{Some, None, inl, refl}
 use Rattle.syslog_pieces.proofs.PieceLemmas.Class.{◌past◌, ◌then◌, no_row, no_row_division, row_of}
 use Rattle.syslog_dialects.specs.Container.{container_row}
 use Rattle.syslog_dialects.specs.Sent.{loose}
@@ -7,19 +7,15 @@ use Rattle.syslog_dialects.proofs.FormLemmas.{says_once}
 use Rattle.syslog_dialects.specs.declared.dialect.Dialect.TheVariants.{Container}
 use Rattle.syslog_dialects.proofs.container.read_container.Goals as goal
 
-pub returns-in_err-date : goal.returns-in_err-date
-returns-in_err-date c = rw c.from_residual.ensures (no_row_division container_row (no_row container_row container_row_det
-    (c.blanks.ensures past inl c.in_err-date.ensures)))
-
 pub returns-in_err-msg : goal.returns-in_err-msg
-returns-in_err-msg c = rw c.from_residual-in_err-msg.ensures (no_row_division container_row (no_row container_row container_row_det
-    (c.blanks.ensures past c.in_ok-date.ensures past inl c.in_err-msg.ensures)))
+returns-in_err-msg c text at g d = rw c.from_residual.ensures (no_row_division container_row (no_row container_row container_row_det
+    (g past d past inl c.in_err-msg.ensures)))
 
 pub returns-in_err-past_stream : goal.returns-in_err-past_stream
-returns-in_err-past_stream c = rw c.from_residual-in_err-past_stream.ensures (no_row_division container_row (no_row container_row container_row_det
-    (c.blanks.ensures past c.in_ok-date.ensures past c.in_ok-msg.ensures.1 past inl (no_output c.in_err-past_stream.ensures))))
+returns-in_err-past_stream c text at g d = rw c.from_residual-in_err-past_stream.ensures (no_row_division container_row (no_row container_row container_row_det
+    (g past d past c.in_ok-msg.ensures.1 past inl (no_output c.in_err-past_stream.ensures))))
 
 pub returns : goal.returns
-returns c = says_once Container container_row (λ v. loose (Some v.1.0) None None None v.1.1.1.0) container_row_det
-    (row_of container_row (c.blanks.ensures then c.in_ok-date.ensures then c.in_ok-msg.ensures.1
+returns c text at g d = says_once Container container_row (λ v. loose (Some v.1.0) None None None v.1.1.1.0) container_row_det
+    (row_of container_row (g then d then c.in_ok-msg.ensures.1
     then output_front c.in_ok-past_stream.ensures.1 then refl)) refl

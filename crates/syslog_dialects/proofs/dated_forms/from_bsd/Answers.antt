@@ -1,11 +1,7 @@
-use Rattle.syslog_dialects.proofs.DialectLemmas.{here}
-use Rattle.syslog_dialects.proofs.FormLemmas.{found_later}
-use Rattle.syslog_dialects.specs.Dated.{bsd_form}
-use Rattle.syslog_dialects.specs.DatedForms.{iso_forms}
 use Rattle.syslog_dialects.proofs.dated_forms.from_bsd.Goals as goal
 
-pub returns-in-Some : goal.returns-in-Some
-returns-in-Some c = here bsd_form iso_forms _ _ c.in-Some.ensures
+pub returns-in-Month : goal.returns-in-Month
+returns-in-Month c led = c.after_month.ensures _ _ led.gap (rw c.in-Month.is at led.date)
 
-pub returns-in-None : goal.returns-in-None
-returns-in-None c = found_later bsd_form iso_forms _ c.from_iso.result c.in-None.ensures c.from_iso.ensures
+pub returns-in-Iso : goal.returns-in-Iso
+returns-in-Iso c led = let (n, d) = rw c.in-Iso.is at led.date in c.after_iso.ensures led.gap n d

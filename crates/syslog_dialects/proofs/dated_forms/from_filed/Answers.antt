@@ -4,7 +4,8 @@ use Rattle.syslog_dialects.specs.DatedForms.{xr_forms}
 use Rattle.syslog_dialects.proofs.dated_forms.from_filed.Goals as goal
 
 pub returns-in-Some : goal.returns-in-Some
-returns-in-Some c = found_early filed_forms xr_forms _ c.in-Some.found c.in-Some.ensures
+returns-in-Some c front = found_early filed_forms xr_forms _ c.in-Some.found (c.in-Some.ensures _ front)
 
 pub returns-in-None : goal.returns-in-None
-returns-in-None c = found_late filed_forms xr_forms _ c.from_xr.result c.in-None.ensures c.from_xr.ensures
+returns-in-None c front =
+    found_late filed_forms xr_forms _ c.from_xr.result (c.in-None.ensures _ front) (c.from_xr.ensures front)

@@ -1,4 +1,3 @@
-use Rattle.std.proofs.Common.{refl}
 use Rattle.syslog_dialects.proofs.pairs.apart.Goals as goal
 
 pub returns-in_err-day : goal.returns-in_err-day

@@ -1,4 +1,4 @@
-use Rattle.std.proofs.Common.{inl, inr}
+use Rattle.std.proofs.Common.{inr}
 use Rattle.syslog_pieces.proofs.PieceLemmas.Class.{match_map}
 use Rattle.syslog_dialects.proofs.NamedLemmas.{first_front, no_otherwise, second_front}
 use Rattle.syslog_dialects.proofs.programs.grade.Goals as goal

@@ -1,31 +1,16 @@
-use Rattle.std.proofs.Common.{rules, ℕ, Bool, not, length, take, drop, arith}
-use Rattle.std.proofs.lemmas.Bool.{not-true}
-use Rattle.std.proofs.lemmas.Fn.{always_returns_same}
-use Rattle.std.proofs.lemmas.List.{take_all, drop_all}
-use Rattle.std.proofs.lemmas.Str.{IsCharBoundary-end, IsUtf8-take, IsUtf8-drop, chars_past_char, chars-nil}
-use Rattle.syslog_pieces.proofs.TextLemmas.Runs.{ends_run}
-use Rattle.syslog_dialects.proofs.NamedLemmas.{each_of_text}
-use Rattle.syslog_dialects.specs.Runs.{is_of}
+use Rattle.syslog_dialects.proofs.RunLemmas.{ends_ascii, plain_low, word_low}
+use Rattle.syslog_dialects.specs.Runs.{is_plain_char, is_word_char}
 use Rattle.syslog_dialects.proofs.runs.run_end.Goals as goal
 
-pub returns-in-Some : goal.returns-in-Some
-returns-in-Some c =
-    let bs = c.args.text.now in
-    let i = c.in-Some.end in
-    let test : ℕ → Bool = is_of c.args.run in
-    let (j, find, le, cut, more) = c.in-Some.ensures.cases in
-    let (none, (x, pass, at)) = find (λ x. not (test x))
-    (always_returns_same _ _ _ (λ a r f g. (search rules, search rules))) in
-    ends_run test bs i c.utf8.text cut (each_of_text test (take i bs) (IsUtf8-take bs i c.utf8.text cut) none)
-    (rw (chars_past_char (drop i bs) (drop j bs) x (IsUtf8-drop bs i c.utf8.text cut) at.split)
-    (not-true (test x) pass))
+pub returns-in-Word : goal.returns-in-Word
+returns-in-Word c = rw c.in-Word.is (ends_ascii is_word_char word_low _ _ c.utf8.text (rw c.as_bytes.ensures.value at c.run_len.ensures.within)
+    (rw c.as_bytes.ensures.value at c.run_len.ensures.pass) (rw c.as_bytes.ensures.value at c.run_len.ensures.stop))
 
-pub returns-in-None : goal.returns-in-None
-returns-in-None c =
-    let bs = c.args.text.now in
-    let test : ℕ → Bool = is_of c.args.run in
-    let none = c.in-None.ensures.cases (λ x. not (test x))
-    (always_returns_same _ _ _ (λ a r f g. (search rules, search rules))) in
-    ends_run test bs (length bs) c.utf8.text (IsCharBoundary-end bs)
-    (rw (take_all (length bs) bs (omega arith)) (each_of_text test bs c.utf8.text none))
-    (rw (drop_all (length bs) bs (omega arith), chars-nil) tt)
+pub returns-in-Plain : goal.returns-in-Plain
+returns-in-Plain c = rw c.in-Plain.is (ends_ascii is_plain_char plain_low _ _ c.utf8.text
+    (rw c.as_bytes-in-Plain.ensures.value at c.run_len-in-Plain.ensures.within)
+    (rw c.as_bytes-in-Plain.ensures.value at c.run_len-in-Plain.ensures.pass)
+    (rw c.as_bytes-in-Plain.ensures.value at c.run_len-in-Plain.ensures.stop))
+
+pub returns-in-Unquoted : goal.returns-in-Unquoted
+returns-in-Unquoted c = rw c.in-Unquoted.is c.unquoted_end.ensures
