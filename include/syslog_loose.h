@@ -23,7 +23,7 @@
  * What stays, before version 1.0 too: the names of calls, structs, fields and macros, their numbers, and what each
  * promises here. What a minor version may change before 1.0:
  *   - It may add calls and outcomes, so take an outcome that you don't know for a failure.
- *   - It may add fields at the end of a struct, so set fields by their names. The shared library (libsyslog_loose.so.2)
+ *   - It may add fields at the end of a struct, so set fields by their names. The shared library (libsyslog_loose.so.3)
  *     then gets another number: no program runs with structs of another size than it was compiled with.
  *   - It may read a line in another way, and CHANGELOG.md then says so.
  */
@@ -112,6 +112,8 @@ struct syslog_message {
     size_t elements;  /* how many elements of structured data there are */
     size_t params;    /* how many parameters these have together */
     uint32_t dialect; /* its number where the line was read in a dialect, and otherwise 0 */
+    struct syslog_text unparsed; /* structured data from its first element on that is not strict, which no element has;
+                                    absent where each element is strict */
 };
 
 /* A line of a block: the line, how its reading ends, and its message, which is blank where the line is none: then its
@@ -137,7 +139,7 @@ struct syslog_param {
 #define SYSLOG_TEXT_INIT { "", 0, 0 }
 #define SYSLOG_MESSAGE_INIT \
     { 0, 0, 0, 0, { 0, 0, 0, 0, 0, 0 }, SYSLOG_TEXT_INIT, SYSLOG_TEXT_INIT, { SYSLOG_TEXT_INIT, 0, 0 }, \
-      SYSLOG_TEXT_INIT, SYSLOG_TEXT_INIT, 0, 0, 0 }
+      SYSLOG_TEXT_INIT, SYSLOG_TEXT_INIT, 0, 0, 0, SYSLOG_TEXT_INIT }
 #define SYSLOG_ROW_INIT { SYSLOG_TEXT_INIT, 0, SYSLOG_MESSAGE_INIT }
 #define SYSLOG_ELEMENT_INIT { SYSLOG_TEXT_INIT, 0 }
 #define SYSLOG_PARAM_INIT { SYSLOG_TEXT_INIT, SYSLOG_TEXT_INIT }

@@ -1,5 +1,6 @@
 //! Says where the library lies: in the folder SYSLOG_LOOSE_LIB, or where pkg-config says, or where the linker looks.
 use std::env;
+use std::path::Path;
 use std::process::Command;
 
 fn main() {
@@ -8,6 +9,11 @@ fn main() {
     }
     for folder in env::var("SYSLOG_LOOSE_LIB").map_or_else(|_| told_folders(), |folder| vec![folder]) {
         println!("cargo:rustc-link-search=native={folder}");
+        let library = format!("{folder}/libsyslog_loose.a");
+        // (the crate has a copy of the static library, and has to be made anew where that was)
+        if Path::new(&library).exists() {
+            println!("cargo:rerun-if-changed={library}");
+        }
     }
     let kind = if env::var_os("SYSLOG_LOOSE_STATIC").is_some() { "static" } else { "dylib" };
     println!("cargo:rustc-link-lib={kind}=syslog_loose");

@@ -12,7 +12,7 @@ static const struct {
 
 /* The fields of a Message, in its order. */
 enum field { PROTOCOL, VERSION, FACILITY, SEVERITY, TIMESTAMP, NANOSECOND, TIMESTAMP_TEXT, SHOWS_YEAR, SHOWS_OFFSET, HOSTNAME,
-             APPNAME, PROCID, MSGID, STRUCTURED_DATA, MESSAGE, RAW, DIALECT, FIELDS };
+             APPNAME, PROCID, MSGID, STRUCTURED_DATA, MESSAGE, RAW, DIALECT, UNPARSED, FIELDS };
 
 /* Members of Facility and of Severity, by their numbers, and other values that many messages share. */
 static PyObject *facilities[24], *severities[8], *numbers[2], *nothing;
@@ -237,6 +237,7 @@ static PyObject *fields_of(const struct line *line, const struct syslog_options 
     PyTuple_SetItem(made, MESSAGE, text_of(line, &m->msg));
     PyTuple_SetItem(made, RAW, counted(line->given));
     PyTuple_SetItem(made, DIALECT, m->dialect ? name_of(m->dialect) : counted(Py_None));
+    PyTuple_SetItem(made, UNPARSED, text_of(line, &m->unparsed));
     /* A field that could not be made is missing, and this says why. */
     if (PyErr_Occurred())
         Py_CLEAR(made);

@@ -60,7 +60,7 @@ PyObject *dialect_name(PyObject *self, PyObject *number);
 PyObject *written(writer *call, const struct line *line, const struct syslog_options *options);
 writer object_of;
 
-/* columns.c: those for many lines. */
+/* columns.c and texts.c: those for many lines. */
 PyObject *columns(PyObject *self, PyObject *words);
 PyObject *texts(PyObject *self, PyObject *words);
 PyObject *categories(PyObject *self, PyObject *words);

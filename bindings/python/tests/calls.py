@@ -13,6 +13,7 @@ import itertools
 import sys
 
 import syslog_loose as it
+from syslog_loose import _columns, _native
 
 LINES = [
     "<34>Mar  2 06:35:05 gateway dropbear[2310]: Exit (root) from 10.0.4.17:51514",
@@ -41,6 +42,16 @@ def call_all():
             except (ValueError, TypeError):
                 pass
     return count
+
+
+def read_block():
+    """Reads the lines as a block, with each text of theirs, and texts as categories. Returns how many calls these were."""
+    block = "\n".join(LINES).encode(errors="surrogateescape")
+    told = _native.columns(block, 0, 2026, 0, 0, 0)
+    for place in _columns._PLACES.values():
+        _native.texts(block, told, place, 0, len(LINES))
+        _native.categories(block, told, place, 0)
+    return 1 + 2 * len(_columns._PLACES)
 
 
 def shared():
@@ -81,10 +92,10 @@ def main():
     done = 0
     # (what is made once, as the compiled form of a loop, is there after the first rounds)
     while done < most // 10:
-        done += call_all()
+        done += call_all() + read_block()
     counts, before = measured()
     while done < most:
-        done += call_all()
+        done += call_all() + read_block()
     counts_after, after = measured()
     objects, given, kept = (now - then for now, then in zip(after, before))
     # (the interpreter itself makes and drops some, but not with each call)

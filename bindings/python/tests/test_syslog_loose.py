@@ -7,6 +7,7 @@ import io
 import json
 import os
 import pickle
+import signal
 import subprocess
 import sys
 import tempfile
@@ -370,6 +371,44 @@ class Columns(unittest.TestCase):
             self.assertEqual([frame["message"][i] for i in (0, 2, 3, 5)], ["größe", "no message", "1 - - - - - - gr\ufffd\ufffd", "größe"])
             self.assertEqual(frame["time"][1].isoformat(), "2026-03-02T06:35:05+00:00")
 
+    @unittest.skipUnless(importlib.util.find_spec("pandas"), "pandas is not installed")
+    def test_frame_of_many_lines(self):
+        """More lines than are made at a time, and more hosts than a table of categories has at first."""
+        numbers = [0, 7, -1, 2147483647, -2147483648]
+        hosts = ["h%d" % (i % 700) for i in range(10_000)]
+        lines = ["<34>Mar  2 06:35:05 %s a[%d]: m%d" % (host, numbers[i % 5], i) for i, host in enumerate(hosts)]
+        frame = syslog_loose.to_frame("\n".join(lines).encode(), year=2026)
+        self.assertEqual(list(frame["hostname"]), hosts)
+        self.assertEqual(list(frame["procid"]), [str(numbers[i % 5]) for i in range(10_000)])
+        self.assertEqual(list(frame["message"]), ["m%d" % i for i in range(10_000)])
+        self.assertEqual(set(frame["msgid"]), {None})
+        empty = syslog_loose.to_frame(b"", year=2026)
+        self.assertEqual((len(empty), list(empty.columns)), (0, list(frame.columns)))
+
+    def test_other_threads_run_while_lines_are_read(self):
+        """Threads that never take turns by time: another one runs only where the lock is let go."""
+        given = b"<34>Mar  2 06:35:05 h a: x\n" * 20_000
+        syslog_loose.read_columns(given, year=2026)
+        ran, ended = [], []
+
+        def work():
+            for _ in range(500):
+                if ran:
+                    break
+                syslog_loose.read_columns(given, year=2026)
+            ended.append(True)
+
+        old = sys.getswitchinterval()
+        sys.setswitchinterval(1000)
+        try:
+            thread = threading.Thread(target=work)
+            thread.start()
+            ran.append(not ended)
+        finally:
+            sys.setswitchinterval(old)
+        thread.join()
+        self.assertEqual(ran, [True])
+
 
 class Program(unittest.TestCase):
     GIVEN = b'<34>Mar  2 06:35:05 gw app[2310]: a, "b"\nnone\xff\n<34>1 - - - - - [a b="c\\"d"] x\ty\r1\n'
@@ -411,6 +450,20 @@ class Program(unittest.TestCase):
                     except ParseError:
                         continue
                     self.assertLessEqual(set(made), set(header))
+
+    def test_offsets(self):
+        for words, shown in ((("--offset", "-09:30"), "-09:30"), (("--offset=+01:00",), "+01:00"), (("--raw",), "+00:00")):
+            made = json.loads(self.ran("--year", "2026", *words, given=b"Mar  2 06:35:05 h a: x")[1])
+            self.assertEqual(made["timestamp"], "2026-03-02T06:35:05" + shown)
+        self.assertEqual(self.ran("--offset")[0], 2)
+
+    def test_an_interrupt(self):
+        words = [sys.executable, "-m", "syslog_loose", "--year", "2026"]
+        with subprocess.Popen(words, stdin=subprocess.PIPE, stdout=subprocess.DEVNULL, stderr=subprocess.PIPE) as ran:
+            # (this is more than a pipe holds: once it was written, the program reads lines)
+            ran.stdin.write(self.GIVEN * 2000)
+            ran.send_signal(signal.SIGINT)
+            self.assertEqual((ran.wait(60), ran.stderr.read()), (130, b""))
 
     def test_faults(self):
         for words, said in (

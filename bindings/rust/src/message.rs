@@ -23,6 +23,8 @@ pub struct Message<'a> {
     pub msgid: Option<&'a str>,
     /// The text of the message: what follows the header and the structured data.
     pub message: &'a str,
+    /// Its structured data from the first element on that is not strict; none where each is strict.
+    pub unparsed_structured_data: Option<&'a str>,
     /// The dialect in which the line was read, where it is in one.
     pub dialect: Option<Dialect>,
     // the id of each element, and how many parameters it has
@@ -146,6 +148,7 @@ impl<'a> Message<'a> {
             procid: parts.procid(),
             msgid: parts.msgid(),
             message: parts.message(),
+            unparsed_structured_data: parts.unparsed_structured_data(),
             dialect: parts.dialect(),
             elements: parts.elements().map(|(id, params)| (id, params.len())).collect(),
             params: parts.params().collect(),

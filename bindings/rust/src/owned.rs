@@ -27,6 +27,9 @@ pub struct OwnedMessage {
     pub structured_data: Vec<OwnedElement>,
     /// The text of the message: what follows the header and the structured data.
     pub message: String,
+    /// Its structured data from the first element on that is not strict; none where each is strict.
+    #[cfg_attr(feature = "serde", serde(default))]
+    pub unparsed_structured_data: Option<String>,
     /// The dialect in which the line was read, where it is in one.
     #[cfg_attr(feature = "serde", serde(default))]
     pub dialect: Option<Dialect>,
@@ -83,6 +86,7 @@ impl From<&Message<'_>> for OwnedMessage {
             msgid: text(it.msgid),
             structured_data: it.elements().map(OwnedElement::from).collect(),
             message: it.message.to_string(),
+            unparsed_structured_data: text(it.unparsed_structured_data),
             dialect: it.dialect,
         }
     }

@@ -82,6 +82,11 @@ impl<'a: 'r, 'r> Parts<'a, 'r> {
         self.piece(&self.read.msg)
     }
 
+    /// Its structured data from the first element on that is not strict; none where each is strict.
+    pub fn unparsed_structured_data(&self) -> Option<&'a str> {
+        self.optional(&self.read.unparsed)
+    }
+
     /// The elements of its structured data, in order: the id of each, and its parameters.
     pub fn elements(&self) -> impl Iterator<Item = (&'a str, impl ExactSizeIterator<Item = Param<'a>> + 'r)> + 'r {
         let parts = *self;

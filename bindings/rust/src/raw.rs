@@ -52,6 +52,7 @@ pub struct Message {
     pub elements: usize,
     pub params: usize,
     pub dialect: u32,
+    pub unparsed: Text,
 }
 
 #[repr(C)]
@@ -105,6 +106,7 @@ impl Message {
         elements: 0,
         params: 0,
         dialect: 0,
+        unparsed: Text::NONE,
     };
 }
 

@@ -5,6 +5,7 @@ use libsyslog_loose::{
 use libsyslog_loose::{Dialect, Error, Facility, LineError, Message, NoSuchName, Options, OwnedMessage, Param};
 use libsyslog_loose::{ProcId, Protocol, Severity, Timestamp, Variant};
 use std::borrow::Cow;
+use std::collections::HashSet;
 use std::thread;
 use std::time::{Duration, SystemTime};
 
@@ -176,6 +177,7 @@ fn dialects() {
 fn timestamps_are_values() {
     let (at, later) = (stamp(5, 0, 3_600), stamp(5, 1, 0));
     assert!(at < later && stamp(5, 0, 0) < at);
+    assert_eq!(HashSet::from([at, later, stamp(5, 0, 3_600)]).len(), 2);
     for text in ["2003-10-11T22:14:15.003004005-07:00", "1969-12-31T23:59:58.500+00:00", "0000-02-29T00:00:00+23:59"] {
         assert_eq!(text.parse::<Timestamp>().unwrap().to_string(), text);
     }

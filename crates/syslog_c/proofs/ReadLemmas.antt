@@ -1,5 +1,5 @@
 -- A line that is read into the caller's arrays.
-use Rattle.syslog_c.proofs.Words.{List, list_elements, line_value, IsElement, all_params, ReadsInto, NoReading}
+use Rattle.syslog_c.proofs.Words.{List, list_elements, IsElement, all_params, ReadsInto, NoReading}
 use Rattle.syslog_c.proofs.Words.{◌≡◌, ◌⊎◌, ◌<◌, ◌≤◌, ℕ, Option, None, Some, refl, arith, length, Text, Dating, IsParam}
 use Rattle.syslog_c.proofs.Words.{◌∙◌, [], inl, inr, sym, subst, IsBegun, Outcome, Rules}
 use Rattle.std.proofs.lemmas.Bool.{cases_lt}
@@ -11,7 +11,7 @@ use Rattle.syslog_loose.specs.declared.line.Line.{Line}
 use Rattle.syslog_dialects.specs.Ordinary.{IsOrdinary}
 use Rattle.syslog_c.{specs.Arrays.HasPut, specs.declared.fields.Fields.Fields}
 use Rattle.syslog_c.specs.Told.{AreMeant, MeansOnly}
-use Rattle.syslog_c.{specs.Fields.AreFields, specs.declared.arrays.Arrays.Arrays, specs.declared.fields.Element.Element}
+use Rattle.syslog_c.{specs.OfLine.AreOfLine, specs.declared.arrays.Arrays.Arrays, specs.declared.fields.Element.Element}
 use Rattle.syslog_c.{proofs.ArrayLemmas.begun_none, proofs.ArrayLemmas.begun_nothing, specs.declared.fields.Param.Param}
 use Rattle.syslog_c.specs.declared.outcome.Outcome.TheVariants.{Done, NotUtf8, NoMemory, NoRoom, BadArgument}
 
@@ -49,7 +49,7 @@ module _ (rules : Rules) (dating : Dating) (text : Text) (old mid new : Fields) 
     (none_put : before.count ≡ 0) (none_filled : before.filled ≡ 0) where
   abbrev Reads : Option Bool → Type 0
   Reads found = Made (λ (_ : Fields) line (made : Bool) now.
-      AreFields now None (line_value line) × MatchBool made (IsOrdinary line) (IsOrdinary line → ⊥))
+      AreOfLine now None line × MatchBool made (IsOrdinary line) (IsOrdinary line → ⊥))
       (λ (first now : Arrays) es. HasPut first now es) rules.variant dating text old before found mid after
 
   -- the arrays stay the caller's
@@ -78,6 +78,7 @@ module _ (rules : Rules) (dating : Dating) (text : Text) (old mid new : Fields) 
         meant.message,
         meant.only,
         meant.shown,
+        meant.leaves,
         (
           meant.are,
           subst (λ (es : List ElementValue). IsBegun IsElement es before.elements.now after.elements.now)
@@ -106,7 +107,7 @@ module _ (rules : Rules) (dating : Dating) (text : Text) (old mid new : Fields) 
   -- what the line of the port that was read gives
   abbrev pub Takes : Bool → Type 0
   Takes is_ordinary = (line : Line) → IsLineOf rules.variant dating text line
-      → AreFields mid None (line_value line)
+      → AreOfLine mid None line
       → MatchBool is_ordinary (IsOrdinary line) (IsOrdinary line → ⊥)
       → AreMeant rules dating text (list_elements line.list) new
 
@@ -121,7 +122,7 @@ module _ (rules : Rules) (dating : Dating) (text : Text) (old mid new : Fields) 
         elements = omega (arith, e, meant.are.elements);
         params = omega (arith, p, meant.are.params);
       } in
-      inl (meant.dialect, meant.message, meant.only, meant.shown, (meant.are, put.elements, put.params))
+      inl (meant.dialect, meant.message, meant.only, meant.shown, meant.leaves, (meant.are, put.elements, put.params))
 
   -- where there is too little, its numbers are there
   pub too_much_read : (is_ordinary : Bool) → Reads (Some is_ordinary) → Takes is_ordinary
@@ -134,6 +135,7 @@ module _ (rules : Rules) (dating : Dating) (text : Text) (old mid new : Fields) 
         meant.message,
         meant.only,
         meant.shown,
+        meant.leaves,
         (
           meant.are,
           too_few (length es) (length (all_params es)) (length after.elements.now) (length after.params.now)

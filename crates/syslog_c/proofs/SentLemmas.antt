@@ -9,19 +9,21 @@ use Rattle.syslog_loose.specs.Reading.{IsUnreadable}
 use Rattle.syslog_loose.specs.Visit.{IsLineOf}
 use Rattle.syslog_loose.specs.declared.line.Line.{Line}
 use Rattle.syslog_dialects.proofs.SentReadingLemmas.{flags, in_dialect, left_read, read_once, same_elements}
-use Rattle.syslog_dialects.proofs.SentReadingLemmas.{undated}
+use Rattle.syslog_dialects.proofs.SentReadingLemmas.{dialect_leaves, undated}
+use Rattle.syslog_loose.proofs.UnparsedLemmas.{leaves_of}
+use Rattle.syslog_loose.specs.Unparsed.{IsLeftUnparsed}
 use Rattle.syslog_dialects.specs.Ordinary.{IsOrdinary}
 use Rattle.syslog_dialects.specs.SentReading.{AreAsked, HasFlags, IsDialectLine, IsInNone, IsLeft, MayBegin}
-use Rattle.syslog_dialects.specs.SentReading.{Shows, Stands}
+use Rattle.syslog_dialects.specs.SentReading.{LeavesSent, Shows, Stands}
 use Rattle.syslog_dialects.specs.declared.dialect.Dialect.{Dialect}
 use Rattle.syslog_dialects.specs.declared.visit.SentLine.{SentLine}
-use Rattle.syslog_c.specs.Fields.{AreFields}
+use Rattle.syslog_c.specs.OfLine.{AreOfLine}
 use Rattle.syslog_c.specs.Sent.{IsMeant, IsOnlyMeant}
 use Rattle.syslog_c.specs.Shown.{IsShown, IsShownIn, flag_number}
 use Rattle.syslog_c.specs.Told.{AreMeant, MeansOnly, TellsFields}
 use Rattle.syslog_c.specs.declared.fields.Fields.{Fields}
 use Rattle.syslog_c.specs.declared.outcome.Outcome.TheVariants.{Done, NotUtf8, NoMemory, NoRoom, BadArgument}
-use Rattle.syslog_c.proofs.ShownLemmas.{restamped, strict_shows_none}
+use Rattle.syslog_c.proofs.ShownLemmas.{restamped_line, strict_shows_none}
 
 -- a text is read as one message
 pub only_meant : (rules : Rules) (dating : Dating) (text : Text) (dialect : Option Dialect) (m : MessageValue)
@@ -63,18 +65,18 @@ reflagged s t year offset e f g h y o (Some at) absent is = record {
 -- of a dialect
 pub sent_fields : (rules : Rules) (dating : Dating) (text : Text) (it : SentLine) (dialect : Dialect) (f : Fields)
     (t : Stamp) → it.dialect ≡ Some dialect → Shows rules.dates dating rules.variant text it
-    → AreFields f it.dialect (line_value it.line)
+    → AreOfLine f it.dialect it.line
     → ((at : Option OffsetTimestamp) → (at ≡ None → (it.shows_year ≡ false) × (it.shows_offset ≡ false))
     → IsStamp f.timestamp at → IsStamp t at) → t.shows_year ≡ flag_number it.shows_year
     → t.shows_offset ≡ flag_number it.shows_offset
-    → AreFields (record f { timestamp = t }) it.dialect (line_value it.line)
+    → AreOfLine (record f { timestamp = t }) it.dialect it.line
     × IsShownIn rules dating text it.dialect (line_value it.line) t
 sent_fields rules dating text it dialect f t named shown are stamps year offset =
     let m = line_value it.line in
     let shows = subst (λ (d : Option Dialect). HasFlags rules.dates dating rules.variant text d m it.shows_year
     it.shows_offset) named shown in (
-      restamped f t it.dialect m are (stamps m.timestamp (λ none. undated rules.dates dating rules.variant text dialect
-          m it.shows_year it.shows_offset shows none) are.timestamp),
+      restamped_line f t it.dialect it.line are (stamps m.timestamp (λ none. undated rules.dates dating rules.variant text dialect
+          m it.shows_year it.shows_offset shows none) are.are.timestamp),
       subst (λ (d : Option Dialect). IsShownIn rules dating text d m t) (sym named) record {
         year = it.shows_year;
         offset = it.shows_offset;
@@ -86,38 +88,39 @@ sent_fields rules dating text it dialect f t named shown are stamps year offset 
 
 -- of the port
 pub port_fields : (rules : Rules) (dating : Dating) (text : Text) (line : Line) (f : Fields) (t : Stamp)
-    → IsLineOf rules.variant dating text line → AreFields f None (line_value line)
+    → IsLineOf rules.variant dating text line → AreOfLine f None line
     → ((at : Option OffsetTimestamp) → IsStamp f.timestamp at → (f.protocol ≡ 5424 → ShowsNoDate text)
     → IsStamp t at × IsShown text t)
-    → AreFields (record f { timestamp = t }) None (line_value line) × IsShown text t
+    → AreOfLine (record f { timestamp = t }) None line × IsShown text t
 port_fields rules dating text line f t of are stamps =
     let m = line_value line in
-    let at = stamps m.timestamp are.timestamp
-    (λ strict. strict_shows_none rules.variant dating text m of.only.read (sym are.protocol ∙ strict)) in
-    (restamped f t None m are at.0, at.1)
+    let at = stamps m.timestamp are.are.timestamp
+    (λ strict. strict_shows_none rules.variant dating text m of.only.read (sym are.are.protocol ∙ strict)) in
+    (restamped_line f t None line are at.0, at.1)
 
 module _ (rules : Rules) (dating : Dating) (text : Text) (line : Line) (new : Fields)
     (of : IsLineOf rules.variant dating text line) where
   -- the port's line is kept, since it is ordinary, or since the text is of no dialect
   port_meant : Stands rules.dates dating rules.dialects rules.variant text
-      → AreFields new None (line_value line) × IsShown text new.timestamp
+      → AreOfLine new None line × IsShown text new.timestamp
       → AreMeant rules dating text (list_elements line.list) new
   port_meant stands are = record {
     dialect = None;
     message = line_value line;
     only = only_meant rules dating text None (line_value line) (of.only, stands);
-    are = are.0;
+    are = are.0.are;
     shown = are.1;
+    leaves = (are.0.unparsed, leaves_of rules.variant dating text line are.0.unparsed of are.0.left, are.0.has);
     elements = refl;
   }
 
-  pub ordinary_meant : IsOrdinary line → AreFields new None (line_value line) × IsShown text new.timestamp
+  pub ordinary_meant : IsOrdinary line → AreOfLine new None line × IsShown text new.timestamp
       → AreMeant rules dating text (list_elements line.list) new
   ordinary_meant is = port_meant
       (left_read rules.dates dating rules.dialects rules.variant text line of (λ odd may. absurd (odd is)))
 
   pub left_meant : (AreAsked rules.dialects rules.variant → MayBegin text → IsInNone rules.dates true text)
-      → AreFields new None (line_value line) × IsShown text new.timestamp
+      → AreOfLine new None line × IsShown text new.timestamp
       → AreMeant rules dating text (list_elements line.list) new
   left_meant none = port_meant
       (λ asked. left_read rules.dates dating rules.dialects rules.variant text line of
@@ -127,7 +130,7 @@ module _ (rules : Rules) (dating : Dating) (text : Text) (line : Line) (new : Fi
   pub instead_meant : (it : SentLine) → (IsOrdinary line → ⊥)
       → (AreAsked rules.dialects rules.variant × MayBegin text) × IsDialectLine rules.dates true text it
       → ((dialect : Dialect) → it.dialect ≡ Some dialect → Shows rules.dates dating rules.variant text it
-      → AreFields new it.dialect (line_value it.line)
+      → AreOfLine new it.dialect it.line
       × IsShownIn rules dating text it.dialect (line_value it.line) new.timestamp)
       → AreMeant rules dating text (list_elements line.list) new
   instead_meant it odd ((asked, may), is) says =
@@ -139,8 +142,13 @@ module _ (rules : Rules) (dating : Dating) (text : Text) (line : Line) (new : Fi
         message = line_value it.line;
         only = only_meant rules dating text it.dialect (line_value it.line)
             (in_dialect rules.dates dating rules.dialects rules.variant text asked true it left is);
-        are = are.0;
+        are = are.0.are;
         shown = are.1;
+        leaves = (
+          are.0.unparsed,
+          dialect_leaves rules.dates true rules.variant text it are.0.unparsed is are.0.left,
+          are.0.has,
+        );
         elements = same_elements rules.dates text line it odd is;
       }
 
@@ -148,18 +156,20 @@ module _ (rules : Rules) (dating : Dating) (text : Text) (line : Line) (new : Fi
 pub unread_meant : (rules : Rules) (dating : Dating) (text : Text) (it : SentLine) (new : Fields)
     → IsUnreadable rules.variant dating text → IsMeant rules dating text it.dialect (line_value it.line)
     → Shows rules.dates dating rules.variant text it → list_elements it.line.list ≡ []
+    → ((u : Text) → IsLeftUnparsed it.line u → LeavesSent it.dialect rules.variant text u)
     → ((dialect : Dialect) → it.dialect ≡ Some dialect → Shows rules.dates dating rules.variant text it
-    → AreFields new it.dialect (line_value it.line)
+    → AreOfLine new it.dialect it.line
     × IsShownIn rules dating text it.dialect (line_value it.line) new.timestamp) → AreMeant rules dating text [] new
-unread_meant rules dating text it new none read shown no_list says =
+unread_meant rules dating text it new none read shown no_list leaves says =
     let (dialect, named) = which it.dialect refl in
     let are = says dialect named shown in
     record {
       dialect = it.dialect;
       message = line_value it.line;
       only = only_meant rules dating text it.dialect (line_value it.line) read;
-      are = are.0;
+      are = are.0.are;
       shown = are.1;
+      leaves = (are.0.unparsed, leaves are.0.unparsed are.0.left, are.0.has);
       elements = no_list;
     }
   where
@@ -172,7 +182,7 @@ unread_meant rules dating text it new none read shown no_list says =
 pub reported : (rules : Rules) (dating : Dating) (text : Text) (es : List ElementValue) (old new : Fields)
     → AreMeant rules dating text es new → TellsFields rules dating text old new Done
 reported rules dating text es old new meant =
-    inl (meant.dialect, meant.message, meant.only, refl, meant.are, meant.shown)
+    inl (meant.dialect, meant.message, meant.only, refl, meant.are, meant.shown, meant.leaves)
 
 pub unread_reported : (rules : Rules) (dating : Dating) (text : Text) (old mid new : Fields) (outcome : Outcome)
     → mid ≡ old → MeansOnly rules dating text mid new outcome → TellsFields rules dating text old new outcome

@@ -8,6 +8,9 @@ use Rattle.syslog_loose.specs.declared.variant.Variant.TheVariants.{Either, RFC3
 use Rattle.syslog_loose.proofs.Rfc3164Lemmas.{shown_apart}
 use Rattle.syslog_dialects.specs.declared.dialect.Dialect.{Dialect}
 use Rattle.syslog_c.specs.Fields.{AreFields, protocol_number}
+use Rattle.syslog_c.specs.OfLine.{AreOfLine}
+use Rattle.syslog_loose.specs.Line.{line_value}
+use Rattle.syslog_loose.specs.declared.line.Line.{Line}
 use Rattle.syslog_c.specs.declared.fields.Fields.{Fields}
 use Rattle.syslog_c.specs.Shown.{AreFlags, IsShown}
 
@@ -45,7 +48,7 @@ flagged text s t there e f g h flags (Some at) is = (
 )
 
 -- the fields say what the message is with another timestamp too that does
-pub restamped : (f : Fields) (s : Stamp) (dialect : Option Dialect) (m : MessageValue) → AreFields f dialect m
+restamped : (f : Fields) (s : Stamp) (dialect : Option Dialect) (m : MessageValue) → AreFields f dialect m
     → IsStamp s m.timestamp → AreFields (record f { timestamp = s }) dialect m
 restamped f s dialect m are is = record {
   protocol = are.protocol;
@@ -61,4 +64,14 @@ restamped f s dialect m are is = record {
   elements = are.elements;
   params = are.params;
   dialect = are.dialect;
+}
+
+-- and of a line too
+pub restamped_line : (f : Fields) (s : Stamp) (dialect : Option Dialect) (line : Line) → AreOfLine f dialect line
+    → IsStamp s (line_value line).timestamp → AreOfLine (record f { timestamp = s }) dialect line
+restamped_line f s dialect line of is = record {
+  are = restamped f s dialect (line_value line) of.are is;
+  unparsed = of.unparsed;
+  left = of.left;
+  has = of.has;
 }

@@ -1,5 +1,6 @@
 pub mod Arrays
 pub mod Fields
+pub mod OfLine
 pub mod Line
 pub mod Names
 pub mod Options

@@ -27,6 +27,7 @@ pub record AreBlank (fields : Fields) : Type 0 where
   pub elements : fields.elements ≡ 0
   pub params : fields.params ≡ 0
   pub dialect : fields.dialect ≡ 0
+  pub unparsed : IsNoText fields.unparsed
 
 -- the row has the line, and what `syslog_read_fields` returns of it and leaves of blank fields
 pub record IsRow (options : Options) (row : Row) (line : List ℕ) : Type 0 where

@@ -11,6 +11,7 @@ use Rattle.syslog_dialects.specs.SentReading.{IsUnsent}
 use Rattle.syslog_dialects.specs.declared.dialect.Dialect.{Dialect}
 use Rattle.syslog_c.specs.Fields.{AreFields, IsBegun, IsElement, IsParam, all_params}
 use Rattle.syslog_c.specs.Line.{Refuses}
+use Rattle.syslog_c.specs.OfLine.{HasUnparsed}
 use Rattle.syslog_c.specs.Sent.{IsOnlyMeant, RefusesSent}
 use Rattle.syslog_c.specs.Shown.{IsShownIn}
 use Rattle.syslog_c.specs.declared.fields.Element.{Element}
@@ -36,7 +37,7 @@ abbrev pub ReadsInto : Rules → Dating → Text → Fields → Fields → List 
     → List Param → List Param → Outcome → Type 0
 ReadsInto rules dating text old_fields fields old_elements elements old_params params outcome =
     ((dialect : Option Dialect) × (m : MessageValue) × IsOnlyMeant rules dating text dialect m
-    × IsShownIn rules dating text dialect m fields.timestamp
+    × IsShownIn rules dating text dialect m fields.timestamp × HasUnparsed rules text dialect fields
     × IsTold dialect m fields old_elements elements old_params params outcome)
     ⊎ (RefusesSent rules dating text outcome × (fields ≡ old_fields) × (elements ≡ old_elements)
     × (params ≡ old_params))
@@ -49,6 +50,7 @@ pub record AreMeant (rules : Rules) (dating : Dating) (text : Text) (es : List E
   pub only : IsOnlyMeant rules dating text dialect message
   pub are : AreFields fields dialect message
   pub shown : IsShownIn rules dating text dialect message fields.timestamp
+  pub leaves : HasUnparsed rules text dialect fields
   pub elements : message.structured_data ≡ es
 
 -- the fields are those of a message without elements; or there is none, and they are as they were
@@ -62,7 +64,8 @@ MeansOnly rules dating text old new outcome = ⊥
 abbrev pub TellsFields : Rules → Dating → Text → Fields → Fields → Outcome → Type 0
 TellsFields rules dating text old_fields fields outcome =
     ((dialect : Option Dialect) × (m : MessageValue) × IsOnlyMeant rules dating text dialect m × (outcome ≡ Done)
-    × AreFields fields dialect m × IsShownIn rules dating text dialect m fields.timestamp)
+    × AreFields fields dialect m × IsShownIn rules dating text dialect m fields.timestamp
+    × HasUnparsed rules text dialect fields)
     ⊎ (RefusesSent rules dating text outcome × (fields ≡ old_fields))
 
 -- 1 of a canonical message, 0 of another

@@ -70,6 +70,8 @@ pub struct Fields<'a> {
     pub params: usize,
     /// The number of the dialect that the line was read in, or 0.
     pub dialect: u32,
+    /// The structured data from the first element on that is not strict; absent where each is strict.
+    pub unparsed: Text<'a>,
 }
 
 /// What a line of a block says.

@@ -14,7 +14,7 @@ ghost use Rattle.syslog_loose.specs.declared.line.Line.{Line as AnyLine};
 ghost use Rattle.syslog_dialects.specs.Ordinary.{IsOrdinary};
 ghost use Rattle.syslog_dialects.specs.SentReading.{IsUnsent, Shows};
 ghost use Rattle.syslog_dialects.specs.declared.dialect.Dialect.{Dialect};
-ghost use Rattle.syslog_c.specs.Fields.{AreFields};
+ghost use Rattle.syslog_c.specs.OfLine.{AreOfLine};
 ghost use Rattle.syslog_c.specs.Shown.{IsShownIn};
 ghost use Rattle.syslog_c.specs.Told.{AreMeant};
 ghost use Rattle.syslog_c.specs.declared.rules.Rules.{Rules as AnyRules};
@@ -35,7 +35,7 @@ pub(crate) fn take_read<'a>(
     fields: &mut Fields<'a>,
 )
     ensures { (dating : Dating) (line : AnyLine) → IsLineOf rules.now.variant dating (chars text.entry.now) line
-        → AreFields fields.old None (line_value line)
+        → AreOfLine fields.old None line
         → MatchBool is_ordinary (IsOrdinary line) (IsOrdinary line → ⊥)
         → AreMeant rules.now dating (chars text.entry.now) (list_elements line.list) fields.new }
 {
@@ -67,8 +67,8 @@ pub(crate) fn take_unread<'a>(text: &'a str, rules: &Rules, fields: &mut Fields<
 #[inline(always)]
 fn show_port(text: &str, fields: &mut Fields<'_>)
     ensures { (rules : AnyRules) (dating : Dating) (line : AnyLine)
-        → IsLineOf rules.variant dating (chars text.entry.now) line → AreFields fields.old None (line_value line)
-        → AreFields fields.new None (line_value line)
+        → IsLineOf rules.variant dating (chars text.entry.now) line → AreOfLine fields.old None line
+        → AreOfLine fields.new None line
         × IsShownIn rules dating (chars text.entry.now) None (line_value line) fields.new.timestamp }
 {
     fields.timestamp = with_shown(text, fields.protocol, fields.timestamp);
@@ -78,7 +78,7 @@ fn show_port(text: &str, fields: &mut Fields<'_>)
 fn fields_sent<'a>(sent: &SentLine<'a>) -> Fields<'a>
     ensures { (rules : AnyRules) (dating : Dating) (text : AnyText) (dialect : Dialect)
         → sent.now.dialect ≡ Some dialect → Shows rules.dates dating rules.variant text sent.now
-        → AreFields result sent.now.dialect (line_value sent.now.line)
+        → AreOfLine result sent.now.dialect sent.now.line
         × IsShownIn rules dating text sent.now.dialect (line_value sent.now.line) result.timestamp }
 {
     let mut fields = fields_of(&sent.line, sent.dialect);

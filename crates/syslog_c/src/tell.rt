@@ -4,9 +4,10 @@ ghost use Rattle.std.specs.Option.{option_map};
 ghost use Rattle.syslog_pieces.specs.Pieces.View.{seen, shown};
 ghost use Rattle.syslog_pieces.specs.ProcId.{procid_value};
 ghost use Rattle.syslog_pieces.specs.Timestamp.{stamp_seen};
-ghost use Rattle.syslog_loose.specs.Line.{KnowsForm, line_value};
+ghost use Rattle.syslog_loose.specs.Line.{KnowsForm};
 ghost use Rattle.syslog_dialects.specs.Ordinary.{IsOrdinary};
-ghost use Rattle.syslog_c.specs.Fields.{AreFields, IsOptionalText, IsProcess, IsStamp, IsText};
+ghost use Rattle.syslog_c.specs.Fields.{IsOptionalText, IsProcess, IsStamp, IsText};
+ghost use Rattle.syslog_c.specs.OfLine.{AreOfLine};
 ghost use Rattle.syslog_c.specs.Rows.{AreBlank};
 ghost use Rattle.syslog_c.specs.Fields.{facility_code, protocol_number, severity_code, version_number};
 ghost use Rattle.syslog_c.specs.Sent as spec;
@@ -134,7 +135,7 @@ fn dialect_code(dialect: Option<Dialect>) -> u32
 /// The fields of the line, which was read in this dialect or in none.
 #[inline(always)]
 pub(crate) fn fields_of<'a>(line: &Line<'a>, dialect: Option<Dialect>) -> Fields<'a>
-    ensures { AreFields result dialect (line_value line.now) }
+    ensures { AreOfLine result dialect line.now }
 {
     let (protocol, version) = protocol_of(line.protocol());
     Fields {
@@ -151,6 +152,7 @@ pub(crate) fn fields_of<'a>(line: &Line<'a>, dialect: Option<Dialect>) -> Fields
         elements: line.list.len(),
         params: line.list.params_len(),
         dialect: dialect_code(dialect),
+        unparsed: optional_text(line.list.unparsed()),
     }
 }
 
@@ -172,6 +174,7 @@ pub(crate) fn blank_fields<'a>() -> Fields<'a>
         elements: 0,
         params: 0,
         dialect: 0,
+        unparsed: optional_text(None),
     }
 }
 
@@ -179,13 +182,13 @@ pub(crate) fn blank_fields<'a>() -> Fields<'a>
 impl<'a> LineVisitor<'a> for Fields<'a> {
     type Answer = bool;
 
-    ghost makes = { λ old line made new. AreFields new None (line_value line)
+    ghost makes = { λ old line made new. AreOfLine new None line
         × MatchBool made (IsOrdinary line) (IsOrdinary line → ⊥) };
 
     #[inline(always)]
     fn line(&mut self, line: &Line<'a>) -> bool
         requires form { KnowsForm line.now }
-        ensures { AreFields self.new None (line_value line.now)
+        ensures { AreOfLine self.new None line.now
             × MatchBool result (IsOrdinary line.now) (IsOrdinary line.now → ⊥) }
     {
         let is_ordinary = is_ordinary(line);

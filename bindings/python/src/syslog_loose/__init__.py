@@ -114,6 +114,7 @@ class Message(NamedTuple):
     message: str
     raw: str  #: the line
     dialect: Optional[str] = None  #: the name of the dialect that the line was read in, as cisco-ios
+    unparsed_structured_data: Optional[str] = None  #: structured data from its first element on that is not strict
 
 
 _native.set_up(
@@ -164,7 +165,8 @@ def read_columns(
     variant: Variant = "either",
     dialects: bool = True,
 ) -> Mapping[str, Any]:
-    """What is told of each line, as numpy arrays with a place for each line, in order. It needs numpy.
+    """What is told of each line, as numpy arrays with a place for each line, in order. It needs numpy. The arrays share one
+    block of memory, which lasts as long as one of them.
 
     buffer: the bytes, which the offsets below are in.
     outcome: 0 of a message, 1 of a line that is none, 2 of one that is no UTF-8. These two have no fields.

@@ -16,7 +16,7 @@ import json
 import os
 import re
 import sys
-from typing import Any, BinaryIO, Callable, Mapping
+from typing import Any, BinaryIO, Callable, Iterable, Mapping
 
 import syslog_loose
 
@@ -96,6 +96,12 @@ def write_files(names: list[str], out: BinaryIO, table: bool, options: dict[str,
     return count, refused
 
 
+def joined(words: Iterable[str]) -> list[str]:
+    """The words, where an offset is one word with its name: argparse would take -09:30 for another name."""
+    rest = iter(words)
+    return ["%s=%s" % (it, next(rest, "")) if it == "--offset" else it for it in rest]
+
+
 def arguments() -> argparse.Namespace:
     words = argparse.ArgumentParser(prog="python3 -m syslog_loose", description="Writes lines of syslog as JSON objects.")
     words.add_argument("--year", type=int, default=datetime.date.today().year, help="of dates that show none (now: %(default)s)")
@@ -106,7 +112,7 @@ def arguments() -> argparse.Namespace:
     words.add_argument("--csv", action="store_true", help="a table with a header, by RFC 4180, instead of objects")
     words.add_argument("--version", action="version", version=syslog_loose.__version__)
     words.add_argument("file", nargs="*", help="none or -: standard input")
-    return words.parse_args()
+    return words.parse_args(joined(sys.argv[1:]))
 
 
 def main() -> int:
@@ -121,6 +127,8 @@ def main() -> int:
         # (nothing is written to the closed pipe at the end either)
         os.dup2(os.open(os.devnull, os.O_WRONLY), sys.stdout.fileno())
         return 1
+    except KeyboardInterrupt:
+        return 130
     except OSError as fault:
         about = "%s: %s" % (fault.filename, fault.strerror) if fault.filename else fault.strerror
         print("syslog_loose: %s" % about, file=sys.stderr)

@@ -8,12 +8,18 @@ from typing import Any, Mapping
 
 from . import Facility, Severity, Source, _native
 
-# The columns as the extension gives them, and how numpy calls the type of each.
-_COLUMNS = [("outcome", "u1"), ("time", "M8[ns]"), ("nanosecond", "i4"), ("offset", "i4"), ("shown", "u1")]
-_COLUMNS += [("protocol", "u2"), ("facility", "i1"), ("severity", "i1"), ("process", "i4"), ("has_number", "u1"), ("elements", "u4")]
-_COLUMNS += [("dialect", "u2")]
+# The columns as the extension gives them, one after the other, and how numpy calls the type of each.
+_COLUMNS = [("time", "M8[ns]")]
 for _name in ("line", "host", "app", "process", "msgid", "message"):
     _COLUMNS += [(_name + "_at", "i8"), (_name + "_size", "i8")]
+_COLUMNS += [("nanosecond", "i4"), ("offset", "i4"), ("process", "i4"), ("elements", "u4"), ("protocol", "u2"), ("dialect", "u2")]
+_COLUMNS += [("outcome", "u1"), ("shown", "u1"), ("facility", "i1"), ("severity", "i1"), ("has_number", "u1")]
+# The bytes of all columns for a line.
+_BYTES_A_LINE = 129
+# The number of the column that has the places of a text.
+_PLACES = {name: number for number, (name, _) in enumerate(_COLUMNS) if name.endswith("_at")}
+# Texts of so many lines are made at a time, which a processor's cache holds.
+_BLOCK = 4096
 _FACILITIES = [it.name.lower() for it in Facility]
 _SEVERITIES = [it.name.lower() for it in Severity]
 
@@ -36,7 +42,7 @@ def _bytes_of(source: Source) -> bytes:
 
 def _told(
     source: Source, variant: int | None, year: int, month: int, offset: int, dialects: bool
-) -> tuple[bytes, tuple[bytearray, ...]]:
+) -> tuple[bytes, bytearray]:
     buffer = _bytes_of(source)
     if variant is None:
         raise ValueError("there is no such variant")
@@ -48,53 +54,62 @@ def _told(
 
 def read(source: Source, variant: int | None, year: int, month: int, offset: int, dialects: bool) -> Mapping[str, Any]:
     numpy = _needed("numpy", "read_columns")
-    buffer, told = _told(source, variant, year, month, offset, dialects)
+    return _as_arrays(numpy, *_told(source, variant, year, month, offset, dialects))
+
+
+def _as_arrays(numpy: Any, buffer: bytes, told: bytearray) -> dict[str, Any]:
+    """The columns as arrays, over the same memory."""
     columns: dict[str, Any] = {"buffer": buffer}
-    for (name, kind), column in zip(_COLUMNS, told):
-        columns[name] = numpy.frombuffer(column, kind)
+    count, begin = len(told) // _BYTES_A_LINE, 0
+    for name, kind in _COLUMNS:
+        columns[name] = numpy.frombuffer(told, kind, count, begin)
+        begin += columns[name].nbytes
     shown = columns.pop("shown")
     columns["shows_year"] = (shown & 1).astype(bool)
     columns["shows_offset"] = shown > 1
     return columns
 
 
-def _frame_texts(columns: Mapping[str, Any], name: str, numpy: Any) -> Any:
-    given = _native.texts(columns["buffer"], columns[name + "_at"].tobytes(), columns[name + "_size"].tobytes())
-    made = numpy.empty(len(given), object)
-    made[:] = given
-    return made
+def _dialects(numpy: Any, pandas: Any, numbers: Any) -> Any:
+    """The names of the dialects, as categories."""
+    counts = numpy.bincount(numbers, minlength=1)
+    kinds = [it for it in numpy.flatnonzero(counts).tolist() if it]
+    codes = numpy.full(len(counts), -1, "i4")
+    codes[kinds] = numpy.arange(len(kinds))
+    return pandas.Categorical.from_codes(codes[numbers], [_native.dialect_name(it) for it in kinds])
 
 
 def to_frame(source: Source, variant: int | None, year: int, month: int, offset: int, dialects: bool) -> Any:
     numpy, pandas = _needed("numpy", "to_frame"), _needed("pandas", "to_frame")
-    columns = read(source, variant, year, month, offset, dialects)
-
-    def categories(name: str) -> Any:
-        places = columns[name + "_at"].tobytes(), columns[name + "_size"].tobytes()
-        codes, names = _native.categories(columns["buffer"], *places)
-        return pandas.Categorical.from_codes(numpy.frombuffer(codes, "i4"), names)
-
-    # (the 0 of no dialect is the first kind, also where each line has one)
-    kinds, codes = numpy.unique(numpy.append(columns["dialect"], numpy.uint16(0)), return_inverse=True)
-    names = [_native.dialect_name(int(it)) for it in kinds[1:]]
+    buffer, told = _told(source, variant, year, month, offset, dialects)
+    columns = _as_arrays(numpy, buffer, told)
     refused = columns["outcome"] != 0
     # (a line that is no message is its own)
     for end in ("_at", "_size"):
         columns["message" + end][refused] = columns["line" + end][refused]
-    procid = _frame_texts(columns, "process", numpy)
-    numbers = columns["has_number"] == 1
-    procid[numbers] = list(map(str, columns["process"][numbers].tolist()))
-    return pandas.DataFrame(
-        {
-            "time": pandas.Series(columns["time"]).dt.tz_localize("UTC"),
-            "facility": pandas.Categorical.from_codes(columns["facility"], _FACILITIES),
-            "severity": pandas.Categorical.from_codes(columns["severity"], _SEVERITIES, ordered=True),
-            "hostname": categories("host"),
-            "appname": categories("app"),
-            "procid": procid,
-            "msgid": _frame_texts(columns, "msgid", numpy),
-            "message": _frame_texts(columns, "message", numpy),
-            "dialect": pandas.Categorical.from_codes(codes[:-1] - 1, names),
-            "refused": refused,
-        }
-    )
+
+    def texts(name: str) -> Any:
+        made = numpy.empty(len(refused), object)
+        for begin in range(0, len(made), _BLOCK):
+            made[begin : begin + _BLOCK] = _native.texts(buffer, told, _PLACES[name], begin, begin + _BLOCK)
+        return made
+
+    def categories(name: str) -> Any:
+        # (the hash of a text is another one in each process)
+        codes, names = _native.categories(buffer, told, _PLACES[name], hash(name))
+        return pandas.Categorical.from_codes(numpy.frombuffer(codes, "i4"), names)
+
+    made = {
+        "time": pandas.Series(columns["time"]).dt.tz_localize("UTC"),
+        "facility": pandas.Categorical.from_codes(columns["facility"], _FACILITIES),
+        "severity": pandas.Categorical.from_codes(columns["severity"], _SEVERITIES, ordered=True),
+        "hostname": categories("host_at"),
+        "appname": categories("app_at"),
+        "procid": texts("process_at"),
+        "msgid": texts("msgid_at"),
+        "message": texts("message_at"),
+        "dialect": _dialects(numpy, pandas, columns["dialect"]),
+        "refused": refused,
+    }
+    # (nothing else has these arrays: a copy would only put the columns of one kind side by side)
+    return pandas.DataFrame(made, copy=False)

@@ -10,4 +10,5 @@ pub returns : goal.returns
 returns c dating none =
     unread_meant c.args.rules.now dating (chars c.args.text.now) c.in-Some.sent c.fields_sent.result none
     (c.in-Some.ensures.reads dating none) (c.in-Some.ensures.shown dating none) c.in-Some.ensures.elements
+    c.in-Some.ensures.leaves
     (c.fields_sent.ensures c.args.rules.now dating (chars c.args.text.now))
