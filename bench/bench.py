@@ -9,6 +9,7 @@
   bench.py --reading                  measures syslog_totals instead, which reads and prints sums alone
   bench.py --library                  measures bench/c_totals.c, the same over the library for C; needs cc
   bench.py --rust                     measures bench/rust_totals, the same by bindings/rust/syslog_loose; needs cargo
+  bench.py --rust --peer crates.io    beside the same program over the crate of crates.io, which cargo fetches
   bench.py --json                     measures syslog_json, and with --check compares its objects by their values
   bench.py --cores                    times ways to filter one file on all cores
   bench.py --write                    puts the tables of the run into docs/BENCHMARKS.md as well
@@ -141,20 +142,31 @@ def library_for_c():
     return os.path.join(crate, "out", "libsyslog_c.a")
 
 
+def built_by_cargo(scratch, words, environment):
+    """Builds bench/rust_totals by cargo, with these words and variables more, and returns its path."""
+    target = os.path.join(scratch, "target")
+    folder = os.path.join(TOP, "bench", "rust_totals")
+    environment = {**os.environ, **environment, "CARGO_TARGET_DIR": target}
+    subprocess.run(["cargo", "build", "--release", *words], cwd=folder, env=environment, stdout=sys.stderr, check=True)
+    return os.path.join(target, "release", "rust_totals")
+
+
 def built_in_rust(library):
-    """Builds bench/rust_totals over the library for C, statically, and returns its path. The crates that it needs come from
-    Debian's packages (librust-chrono-dev) where these are, and otherwise from cargo's own cache."""
+    """Builds it over the library for C, statically. The crates that it needs come from Debian's packages (librust-chrono-dev)
+    where these are, and otherwise from cargo's own cache."""
     scratch = os.path.join(tempfile.gettempdir(), "syslog-bench-rust")
     subprocess.run(["make", "-s", "OUT=" + scratch, "LIBRARY=" + library, scratch + "/libsyslog_loose.a"], cwd=TOP, check=True)
-    words = ["cargo", "build", "--release", "--offline"]
+    ours = os.path.join(TOP, "bindings", "rust", "syslog_loose")
+    words = ["--offline", "--config", 'patch.crates-io.syslog_loose.path="%s"' % ours]
     if os.path.isdir(CRATES_OF_DEBIAN):
         words += ["--config", 'source.crates-io.replace-with="debian"']
         words += ["--config", 'source.debian.directory="%s"' % CRATES_OF_DEBIAN]
-    target = os.path.join(scratch, "target")
-    environment = {"SYSLOG_LOOSE_LIB": scratch, "SYSLOG_LOOSE_STATIC": "1", "CARGO_TARGET_DIR": target}
-    folder = os.path.join(TOP, "bench", "rust_totals")
-    subprocess.run(words, cwd=folder, env={**os.environ, **environment}, stdout=sys.stderr, check=True)
-    return os.path.join(target, "release", "rust_totals")
+    return built_by_cargo(scratch, words, {"SYSLOG_LOOSE_LIB": scratch, "SYSLOG_LOOSE_STATIC": "1"})
+
+
+def built_over_the_crate():
+    """Builds it over the Rust crate itself, which cargo fetches from crates.io."""
+    return built_by_cargo(os.path.join(tempfile.gettempdir(), "syslog-bench-crate"), [], {})
 
 
 def built(chosen):
@@ -449,7 +461,8 @@ def check_objects(filters, chosen):
 def arguments():
     reader = argparse.ArgumentParser(description=__doc__, formatter_class=argparse.RawDescriptionHelpFormatter)
     reader.add_argument("--program", help="the program, instead of the one that is built")
-    reader.add_argument("--peer", help="another program with the same argument")
+    told = "another program with the same argument; with --rust crates.io too: the same program over the crate from there"
+    reader.add_argument("--peer", help=told)
     reader.add_argument("--check", action="store_true", help="compare the outputs")
     reader.add_argument("--instructions", action="store_true", help="count instructions by valgrind, and time nothing")
     told = "measure the reading calls, by syslog_totals, on the corpora alone"
@@ -477,8 +490,8 @@ def arguments():
         reader.error("--check compares with a --peer")
     if chosen.write and (chosen.only or chosen.check):
         reader.error("--write replaces whole tables: --only makes parts of them, and --check none")
-    if chosen.write and chosen.sums and not chosen.instructions:
-        reader.error("the document has --reading, --library and --rust by --instructions alone")
+    if chosen.write and (chosen.reading or chosen.library) and not chosen.instructions:
+        reader.error("the document has --reading and --library by --instructions alone")
     return chosen
 
 
@@ -506,6 +519,8 @@ def main():
         with open(chosen.write, encoding="utf-8") as document:
             with_tables(document.read(), dict.fromkeys(names, []), measured)
     paths = [chosen.program or built(chosen)] + [chosen.peer] * bool(chosen.peer)
+    if chosen.rust and chosen.peer == "crates.io":
+        paths[1] = built_over_the_crate()
     filters = [Filter(path, chosen.year, chosen.processor) for path in paths]
     if chosen.check:
         compare = check_objects if chosen.json else check

@@ -1,12 +1,12 @@
 #!/usr/bin/env python3
 """Measures the package for Python beside jc and a regular expression, on corpora of bench/corpora.py.
 
-    bench/python.py [--site FOLDER] [--python PYTHON] [--write]
+    bench/python.py [--site FOLDER] [--python PYTHON] [--times] [--write]
 
 FOLDER has the package as it is installed; where it isn't given, the package is built over the library for C that `rt lib`
 left in crates/. PYTHON (/usr/bin/python3) has jc, numpy and pandas: Debian's packages jc and python3-pandas. Instructions
-are counted by valgrind, as the difference of two runs of bench/python_lines. --write puts both tables into
-docs/BENCHMARKS.md.
+are counted by valgrind, as the difference of two runs of bench/python_lines; with --times they are not. --write puts the
+tables into docs/BENCHMARKS.md.
 """
 
 import argparse
@@ -109,23 +109,27 @@ def main():
     reader = argparse.ArgumentParser(description=__doc__, formatter_class=argparse.RawDescriptionHelpFormatter)
     reader.add_argument("--site", help="the folder of the package")
     reader.add_argument("--python", default="/usr/bin/python3")
+    reader.add_argument("--times", action="store_true", help="measure times alone")
     reader.add_argument("--write", action="store_true", help="put the tables into docs/BENCHMARKS.md")
     chosen = reader.parse_args()
+    tables = []
     with tempfile.TemporaryDirectory(prefix="syslog-bench-") as room:
         ways = Ways(chosen.python, chosen.site or package(room))
-        print("Instructions a line:\n")
-        files = written(room, COUNTED)
-        counts = table_of(ways.instructions, OWN, "jc's over parse's", lambda own, jc: jc / own, files)
+        if not chosen.times:
+            print("Instructions a line:\n")
+            files = written(room, COUNTED)
+            table = table_of(ways.instructions, OWN, "jc's over parse's", lambda own, jc: jc / own, files)
+            tables.append((NAMES[0], table, "instructions by valgrind, one run."))
         print("\nLines a second of processor time, the most of %d runs in turn:\n" % RUNS)
         files = written(room, LINES)
-        times = table_of(ways.lines_a_second, OWN + MORE, "parse's over jc's", lambda own, jc: own / jc, files)
+        table = table_of(ways.lines_a_second, OWN + MORE, "parse's over jc's", lambda own, jc: own / jc, files)
+        tables.append((NAMES[1], table, "processor time, the most of %d runs in turn." % RUNS))
     if chosen.write:
         commit = subprocess.check_output(["git", "rev-parse", "--short", "HEAD"], cwd=bench.TOP, text=True).strip()
         measured = "Measured on %s, at commit %s; " % (bench.machine(), commit)
-        hows = ("instructions by valgrind, one run.", "processor time, the most of %d runs in turn." % RUNS)
         with open(bench.DOCUMENT, "r+", encoding="utf-8") as document:
             text = document.read()
-            for name, table, how in zip(NAMES, (counts, times), hows):
+            for name, table, how in tables:
                 text = bench.with_tables(text, {name: table}, measured + how)
             document.seek(0)
             document.write(text)

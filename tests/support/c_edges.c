@@ -49,7 +49,7 @@ static void set(struct place *place)
     memset(place, 0, sizeof *place);
     place->message = (struct syslog_message){ .protocol = 7, .host = stood(), .app = stood(), .msgid = stood(),
                                               .process = { .name = stood() }, .msg = stood(), .elements = 77,
-                                              .params = 78, .dialect = 79 };
+                                              .params = 78, .dialect = 79, .unparsed = stood() };
     for (size_t i = 0; i < MOST + 2; i++) {
         place->elements[i].id = stood();
         place->params[i].name = place->params[i].value = stood();
@@ -62,7 +62,8 @@ static int is_set(const struct place *place)
     struct syslog_text text = stood();
     return it->protocol == 7 && it->version == 0 && it->dialect == 79 && it->facility == 0 && it->severity == 0 && !it->timestamp.present
         && same_text(&it->host, &text) && same_text(&it->app, &text) && same_text(&it->process.name, &text)
-        && same_text(&it->msgid, &text) && same_text(&it->msg, &text) && it->elements == 77 && it->params == 78;
+        && same_text(&it->msgid, &text) && same_text(&it->msg, &text) && it->elements == 77 && it->params == 78
+        && same_text(&it->unparsed, &text);
 }
 
 /* How many of each stand there. */
@@ -117,6 +118,7 @@ static void fields_alone(const char *line, size_t length, const struct syslog_me
     CHECK(same_text(&it->process.name, &whole->process.name) && it->process.number == whole->process.number);
     CHECK(same_text(&it->msgid, &whole->msgid) && same_text(&it->msg, &whole->msg));
     CHECK(it->elements == whole->elements && it->params == whole->params && it->dialect == whole->dialect);
+    CHECK(same_text(&it->unparsed, &whole->unparsed));
 }
 
 static void each_array(const char *line, size_t length)

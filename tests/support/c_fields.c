@@ -173,6 +173,7 @@ static void print_head(const struct syslog_message *message)
     print_text("msgid", &message->msgid);
     print_text("msg", &message->msg);
     print_dialect(message->dialect);
+    print_text("unparsed", &message->unparsed);
 }
 
 static void print_line(const struct syslog_options *options)

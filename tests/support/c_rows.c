@@ -33,7 +33,7 @@ static int same_message(const struct syslog_message *one, const struct syslog_me
            same_text(&one->app, &other->app) && same_text(&one->process.name, &other->process.name) &&
            one->process.number == other->process.number && one->process.is_number == other->process.is_number &&
            same_text(&one->msgid, &other->msgid) && same_text(&one->msg, &other->msg) && one->elements == other->elements &&
-           one->params == other->params && one->dialect == other->dialect;
+           one->params == other->params && one->dialect == other->dialect && same_text(&one->unparsed, &other->unparsed);
 }
 
 /* Compares a row with its line, which begins there, and returns where the next one begins. */

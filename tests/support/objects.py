@@ -78,8 +78,8 @@ def refused_line(line):
 
 
 def object_of(line, fields, raw=False):
-    """The object of a line, by its fields as bench/reader and the Rust crate tell them, and with the line itself where that
-    is asked for."""
+    """The object of a line, by its fields as bench/reader, the Rust crate or the library for C has them, and with the line
+    itself where that is asked for."""
     if not fields["ok"]:
         return refused_line(line)
     elements = [(it["id"], gathered((name, plain) for name, _, plain in it["params"])) for it in fields["structured_data"]]
@@ -95,6 +95,7 @@ def object_of(line, fields, raw=False):
         "procid": fields["procid"] and str(fields["procid"]["value"]),
         "msgid": fields["msgid"],
         "structured_data": gathered(elements) if elements else None,
+        "unparsed_structured_data": fields.get("unparsed"),
         "message": fields["msg"],
         "raw": line.decode() if raw else None,
     }
