@@ -21,7 +21,7 @@ from dask.distributed import Client
 def read_frame(files, year):
     """A DataFrame of all lines, a row each. The files are read in blocks: a partition is the lines of a block."""
     # With a delimiter each block goes on to the end of its last line, so that none is cut.
-    _, blocks = dask.bytes.read_bytes(files, delimiter=b"\n", blocksize="16 MiB", sample=False)
+    _, blocks = dask.bytes.read_bytes(files, delimiter=b"\n", blocksize="8 MiB", sample=False)
     to_frame = dask.delayed(syslog_loose.to_frame)
     partitions = [to_frame(block, year=year) for file in blocks for block in file]
     # (each partition has the hosts and programs of its own lines as categories)
