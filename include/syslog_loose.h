@@ -6,8 +6,8 @@
  *     cc program.c $(pkg-config --cflags --libs syslog_loose)
  *
  * A program may include the system's <syslog.h> too. Three calls ask for memory, by the program's malloc, realloc and
- * free: syslog_settle, syslog_to_rfc5424 and syslog_json make the text in memory of their own, copy it to the caller's
- * buffer, and free that memory before they return. No other call asks for any.
+ * free: syslog_settle, syslog_to_rfc5424 and syslog_json. They make the text in memory of their own, copy it to the
+ * caller's buffer, and free that memory before they return. No other call asks for any.
  *
  * The library has no state: no call keeps or frees anything of the caller's, and threads may call it at once. Don't
  * call it from a signal handler, nor in the forked child of a process with threads.
@@ -56,23 +56,23 @@ enum syslog_outcome {
 };
 
 /* How a line is read. { .year = 2026 } reads both protocols and the dialects, in that year and in UTC. { 0 } reads in
- * the year 0, which no call refuses: a date that shows no year then lies two thousand years back. */
+ * the year 0, which no call refuses. A date that shows no year then lies two thousand years back. */
 struct syslog_options {
     uint32_t variant;     /* 0: either protocol, RFC 5424 first; 3164 or 5424: that one */
     int32_t year;         /* of dates that show none, from -9999 to 9999 */
     uint32_t month;       /* 0: all of these are of that year; 1 to 12: it is this month of that year, and in January a
                              date of December is of the year before */
     int32_t offset;       /* seconds by which dates without an offset are ahead of UTC, from -93599 to 93599 */
-    uint32_t no_dialects; /* 0: a line is read in its sender's dialect, where it is in one; otherwise by the protocols
-                             alone, as the Rust crate syslog_loose reads it */
+    uint32_t no_dialects; /* 0: a line is read in its sender's dialect, where it is in one; any other number: each line
+                             is read by the protocols alone */
 };
 
 /* A dialect is a form of lines of senders that follow neither protocol, as Cisco's switches and FortiGate's firewalls
  * write them: docs/SENDERS.md has them all. Where the variant and no_dialects are 0, syslog_read, syslog_read_fields,
  * syslog_read_lines and syslog_json read a line in its dialect. Its message has no structured data.
  *
- * syslog_normalise, syslog_settle, syslog_is_canonical and syslog_to_rfc5424 read each line by the protocols alone: what
- * they print is what the Rust crate prints. A line of a dialect may be no message for them. */
+ * syslog_normalise, syslog_settle, syslog_is_canonical and syslog_to_rfc5424 read each line by the protocols alone. A
+ * line of a dialect may be no message for them. */
 
 /* A piece of the line, in UTF-8. No zero byte ends it. An absent one has the length 0. */
 struct syslog_text {
@@ -112,11 +112,11 @@ struct syslog_message {
     size_t elements;  /* how many elements of structured data there are */
     size_t params;    /* how many parameters these have together */
     uint32_t dialect; /* its number where the line was read in a dialect, and otherwise 0 */
-    struct syslog_text unparsed; /* structured data from its first element on that is not strict, which no element has;
-                                    absent where each element is strict */
+    struct syslog_text unparsed; /* structured data from its first element on that is not strict; absent where each is.
+                                    A strict element after that one is among the elements too */
 };
 
-/* A line of a block: the line, how its reading ends, and its message, which is blank where the line is none: then its
+/* A line of a buffer: the line, how its reading ends, and its message. That is blank where the line is none: its
  * facility and severity are -1, all else is 0, and its texts are absent. */
 struct syslog_row {
     struct syslog_text line; /* without its line feed */
@@ -198,7 +198,7 @@ uint32_t syslog_to_rfc5424(const char *line, size_t length, const struct syslog_
                            size_t room_length, size_t *needed);
 
 /* The line's message as one JSON object, as the program syslog_json writes it, without the line feed after it. If raw
- * is not 0, the key "raw" has the line itself. The key "unparsed_structured_data" has structured data that is not strict.
+ * is not 0, the key "raw" has the line itself. The key "unparsed_structured_data" has the text of the field unparsed.
  * No byte below 32 is in an object. A line that is no message has none here, where the program writes one with the key
  * "refused". */
 uint32_t syslog_json(const char *line, size_t length, const struct syslog_options *options, uint32_t raw, char *room,
