@@ -72,7 +72,9 @@ pub taken_answer : (filter : Conversions) (line text old new : List ℕ) (r : Re
     → IfOk r (λ is_answered. AddsAnswer (conversions filter) text old new is_answered)
     → IfOk r (λ is_answered. AddsAnswer (conversions filter) line old new is_answered)
 taken_answer filter line text old new (Err refused) invalid is utf8 h = tt
-taken_answer filter line text old new (Ok b) invalid is utf8 (answer, (taken, inl (valid, same), conversion), added, counted) =
+taken_answer filter line text old new (Ok b) invalid is utf8
+    (answer, (taken, inl (valid, same), conversion), added, counted) =
     (answer, (taken, inr (invalid, same ∙ is), conversion), added, counted)
-taken_answer filter line text old new (Ok b) invalid is utf8 (answer, (taken, inr (other, same), conversion), added, counted) =
+taken_answer filter line text old new (Ok b) invalid is utf8
+    (answer, (taken, inr (other, same), conversion), added, counted) =
     absurd (other utf8)

@@ -16,10 +16,10 @@ use syslog_loose::{Dates, IncompleteDate, ParseFault, Variant};
 use syslog_strict::to_rfc5424_into;
 use syslog_utf8::decode;
 
-/// Reads lines to the end of the input, and writes each as RFC 5424, read by the dates: a line that is in the grammar as
-/// it came, and otherwise its message, converted. A line that is neither in the grammar nor a message is left out and
-/// counted as refused. A line that is not UTF-8 is taken for a text: as ISO 8859-1, or with U+FFFD for each part that is
-/// no UTF-8.
+/// Reads lines to the end of the input, and writes each as RFC 5424, read by the dates: a line that is in the grammar
+/// as it came, and otherwise its message, converted. A line that is neither in the grammar nor a message is left out
+/// and counted as refused. A line that is not UTF-8 is taken for a text: as ISO 8859-1, or with U+FFFD for each part
+/// that is no UTF-8.
 ///
 /// Each line written is in the grammar of RFC 5424, and a converted one is parsed as the converted message. The output
 /// of each block of input is written before more is read, and the writer is flushed at the end. Nothing is tried again.

@@ -75,7 +75,8 @@ sent_fields rules dating text it dialect f t named shown are stamps year offset 
     let m = line_value it.line in
     let shows = subst (λ (d : Option Dialect). HasFlags rules.dates dating rules.variant text d m it.shows_year
     it.shows_offset) named shown in (
-      restamped_line f t it.dialect it.line are (stamps m.timestamp (λ none. undated rules.dates dating rules.variant text dialect
+      restamped_line f t it.dialect it.line are (stamps m.timestamp (λ none. undated rules.dates dating rules.variant
+          text dialect
           m it.shows_year it.shows_offset shows none) are.are.timestamp),
       subst (λ (d : Option Dialect). IsShownIn rules dating text d m t) (sym named) record {
         year = it.shows_year;

@@ -7,7 +7,8 @@ use Rattle.std.proofs.lemmas.Str.Pattern.{IsSplitOnceResult, split_after, split_
 use Rattle.syslog_command_line.specs.Arguments.{two_digits}
 
 no_dash : (word : List ℕ) → IsYear word → (i : ℕ) → i < length word → get_or word i 0 ≢ 45
-no_dash word is i within dash = let digit : IsInRange 48 57 (get_or word i 0) = is.2 i 0 within in omega (arith, digit.0)
+no_dash word is i within dash = let digit : IsInRange 48 57 (get_or word i 0) = is.2 i 0 within in
+    omega (arith, digit.0)
 
 dash_within : (xs ys : List ℕ) → ((i : ℕ) → i < length (xs ++ (45 ∷ ys)) → get_or (xs ++ (45 ∷ ys)) i 0 ≢ 45) → ⊥
 dash_within [] ys none = none 0 (omega arith) refl

@@ -8,7 +8,8 @@ use Rattle.syslog_command_line.specs.Flags.{IsValue, flag_number, flag_word, tak
 use Rattle.syslog_command_line.specs.Options.{GivenFlag, given_words, value_words}
 use Rattle.syslog_command_line.specs.Words.{AreDateWords}
 use Rattle.syslog_command_line.specs.declared.flags.Flag.{Flag}
-use Rattle.syslog_command_line.specs.declared.flags.Flag.TheVariants.{Raw, NoDialects, Latin1, Offset, Nul, OctetCounted}
+use Rattle.syslog_command_line.specs.declared.flags.Flag.TheVariants.{Raw, NoDialects, Latin1, Offset, Nul}
+use Rattle.syslog_command_line.specs.declared.flags.Flag.TheVariants.{OctetCounted}
 use Rattle.syslog_command_line.specs.declared.flags.Flag.TheVariants.{MaxLine, Severity, Host, App, Csv}
 
 -- ---- each flag is known by its number and by its word
@@ -60,7 +61,8 @@ flag_no_date flag words rest year month first dated =
 
 -- ---- words begin with one flag and one value
 
-value_same : (takes : Bool) (x y : List ℕ) (rest left : List (List ℕ)) → (takes ≡ false → x ≡ []) → (takes ≡ false → y ≡ [])
+value_same : (takes : Bool) (x y : List ℕ) (rest left : List (List ℕ)) → (takes ≡ false → x ≡ [])
+    → (takes ≡ false → y ≡ [])
     → (if takes then x ∷ [] else []) ++ rest ≡ (if takes then y ∷ [] else []) ++ left → (x ≡ y) × (rest ≡ left)
 value_same true x y rest left no_x no_y same =
     let both : x ∷ rest ≡ y ∷ left = same in
@@ -79,7 +81,8 @@ same_given one other flag value =
     subst (λ (v : List ℕ). one ≡ record { flag = other.flag; value = v }) value first
 
 pub one_beginning : (one other : GivenFlag) (rest left : List (List ℕ)) → IsValue one.flag one.value
-    → IsValue other.flag other.value → given_words one ++ rest ≡ given_words other ++ left → (one ≡ other) × (rest ≡ left)
+    → IsValue other.flag other.value → given_words one ++ rest ≡ given_words other ++ left → (one ≡ other)
+    × (rest ≡ left)
 one_beginning one other rest left is also same =
     let both : flag_word one.flag ∷ (value_words one.flag one.value ++ rest)
     ≡ flag_word other.flag ∷ (value_words other.flag other.value ++ left) = same in

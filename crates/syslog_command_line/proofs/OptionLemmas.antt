@@ -1,20 +1,25 @@
 -- Flags in any order before a date.
-use Rattle.syslog_command_line.proofs.Names.{◌≡◌, ◌≢◌, ◌<◌, ◌∷◌, ◌++◌, ◌∙◌, ℕ, ℤ, [], List, MatchOption, None, Option, Some}
-use Rattle.syslog_command_line.proofs.Names.{append_assoc, ap, arith, get_or, inl, inr, length, pos, refl, subst, sym, true, false}
+use Rattle.syslog_command_line.proofs.Names.{◌≡◌, ◌≢◌, ◌<◌, ◌∷◌, ◌++◌, ◌∙◌, ℕ, ℤ, [], List, MatchOption, None, Option}
+use Rattle.syslog_command_line.proofs.Names.{Some}
+use Rattle.syslog_command_line.proofs.Names.{append_assoc, ap, arith, get_or, inl, inr, length, pos, refl, subst, sym}
+use Rattle.syslog_command_line.proofs.Names.{true, false}
 use Rattle.std.proofs.Common.{All, Bool, Bor, Contains, IsSomeAnd, flat_map, is_some, replicate, set, unwrap_or, ◌⊎◌}
 use Rattle.std.proofs.lemmas.{Bool.cases_eq, List.flat_map_more, List.length-append, List.length-set}
-use Rattle.std.proofs.lemmas.List.{get_or_append_left, get_or-replicate, get_or-set_other, get_or-set_same, length-replicate}
+use Rattle.std.proofs.lemmas.List.{get_or_append_left, get_or-replicate, get_or-set_other, get_or-set_same}
+use Rattle.std.proofs.lemmas.List.{length-replicate}
 use Rattle.std.proofs.lemmas.List.Elements.{All-nil, All-push, Contains-append_left, Contains-push}
 use Rattle.std.proofs.lemmas.List.Quantifiers.{all_pairs_push}
 use Rattle.std.proofs.Math.Seq.{get_or-append_seam}
-use Rattle.syslog_command_line.proofs.FlagLemmas.{flag_no_date, number_within, one_beginning, same_by_number, same_by_word}
+use Rattle.syslog_command_line.proofs.FlagLemmas.{flag_no_date, number_within, one_beginning, same_by_number}
+use Rattle.syslog_command_line.proofs.FlagLemmas.{same_by_word}
 use Rattle.syslog_command_line.proofs.WordLemmas.{among_later}
 use Rattle.jiff.specs.Types.{TimeZone}
 use Rattle.syslog_loose.specs.Reckoning.{IsZoneAt}
 use Rattle.syslog_command_line.specs.Arguments.{NamesOffset}
 use Rattle.syslog_command_line.specs.Flags.{IsValue, flag_number, flag_word, rival}
 use Rattle.syslog_command_line.specs.Given.{AreNoFlagsAndDate, BeginsWith, BeginsWithNone, Holds, SplitsWords, value_at}
-use Rattle.syslog_command_line.specs.Options.{AreFlagsAndDate, AsksForOptions, ByFlag, CanBeGiven, GivenFlag, GoTogether}
+use Rattle.syslog_command_line.specs.Options.{AreFlagsAndDate, AsksForOptions, ByFlag, CanBeGiven, GivenFlag}
+use Rattle.syslog_command_line.specs.Options.{GoTogether}
 use Rattle.syslog_command_line.specs.Options.{IsGivenAs, IsLeftOut, given_words, value_words}
 use Rattle.syslog_command_line.specs.Words.{AreDateWords, IsAmong}
 use Rattle.syslog_command_line.specs.declared.flags.Flag.{Flag}
@@ -34,7 +39,8 @@ can_be_more offered given one can has is beside = record {
   together = all_pairs_push GoTogether given one can.together beside;
 }
 
-can_be_one : (offered : List Flag) (given more : List GivenFlag) (one : GivenFlag) → CanBeGiven offered (given ++ one ∷ more)
+can_be_one : (offered : List Flag) (given more : List GivenFlag) (one : GivenFlag)
+    → CanBeGiven offered (given ++ one ∷ more)
     → Contains offered one.flag × IsValue one.flag one.value × All (λ other. GoTogether other one) given
 can_be_one offered given more one can =
     let long : length given < length (given ++ one ∷ more) = omega (arith, length-append given (one ∷ more)) in
@@ -96,10 +102,12 @@ held_more held after given flag value holds is same = record {
         → Has (given ++ given_as flag value.now ∷ []) other (value_at after other)
     each other (inl number) = subst (λ (f : Flag). Has (given ++ given_as flag value.now ∷ []) f (value_at after f))
         (sym (same_by_number other flag number))
-        (subst (λ (o : Option (Bor (List ℕ))). Has (given ++ given_as flag value.now ∷ []) flag o) (sym here) (Contains-push given (given_as flag value.now)))
+        (subst (λ (o : Option (Bor (List ℕ))). Has (given ++ given_as flag value.now ∷ []) flag o) (sym here)
+        (Contains-push given (given_as flag value.now)))
     each other (inr apart) = subst (λ (o : Option (Bor (List ℕ))). Has (given ++ given_as flag value.now ∷ []) other o)
         (sym (elsewhere other apart))
-        (one_more given (given_as flag value.now) other (value_at held other) (λ same_flag. apart (ap flag_number (sym same_flag)))
+        (one_more given (given_as flag value.now) other (value_at held other) (λ same_flag. apart
+        (ap flag_number (sym same_flag)))
         (holds.each other))
 
 -- none are held at first
@@ -217,7 +225,8 @@ ReadSoFar-more offered words held after rest left flag value so_far begins added
     record {
       given = so_far.given ++ record { flag = flag; value = value.now } ∷ [];
       listed = so_far.listed ∙ ap (λ (ws : List (List ℕ)). flat_map given_words so_far.given ++ ws) begins.listed
-          ∙ sym (append_assoc (flat_map given_words so_far.given) (given_words (record { flag = flag; value = value.now })) left)
+          ∙ sym (append_assoc (flat_map given_words so_far.given)
+          (given_words (record { flag = flag; value = value.now })) left)
           ∙ ap (λ (ws : List (List ℕ)). ws ++ left)
           (flat_map_more given_words [] so_far.given (record { flag = flag; value = value.now }));
       allowed = can_be_more offered so_far.given (record { flag = flag; value = value.now }) so_far.allowed begins.known
@@ -225,7 +234,8 @@ ReadSoFar-more offered words held after rest left flag value so_far begins added
       holds = held_more held after so_far.given flag value so_far.holds begins.valued added;
       goes_on = λ flags year month all.
           let (more, same, listed) = so_far.goes_on flags year month all in
-          goes_on_more offered so_far.given flags (record { flag = flag; value = value.now }) rest left all.rest year month
+          goes_on_more offered so_far.given flags (record { flag = flag; value = value.now }) rest left all.rest year
+          month
           begins.valued begins.listed all.allowed all.dated more same listed;
     }
 
@@ -261,7 +271,8 @@ ReadSoFar-end offered words held rest so_far none = record {
       date_left offered words held rest all.rest year month flags so_far none all.allowed all.dated more same listed;
 }
 
-pub ReadSoFar-wrong : (offered : List Flag) (words : List (List ℕ)) (held : Given) (rest : List (List ℕ)) (wrong : Wrong)
+pub ReadSoFar-wrong : (offered : List Flag) (words : List (List ℕ)) (held : Given) (rest : List (List ℕ))
+    (wrong : Wrong)
     → ReadSoFar offered words held rest → IsAmong rest wrong
     → (flag : Flag) × (after : List (List ℕ)) × (rest ≡ flag_word flag ∷ after) → BeginsWithNone offered held rest
     → IsAmong words wrong × AreNoFlagsAndDate offered words
@@ -336,7 +347,8 @@ named_or Names None usual value is = absurd is
 -- the zone, by the offset that was named
 pub zone_by : (given : List GivenFlag) (offset : ℤ) (zone : TimeZone)
     → ByFlag given Offset (λ text. NamesOffset text offset) (offset ≡ pos 0) → IsZoneAt offset zone
-    → ByFlag given Offset (λ text. (seconds : ℤ) × NamesOffset text seconds × IsZoneAt seconds zone) (IsZoneAt (pos 0) zone)
+    → ByFlag given Offset (λ text. (seconds : ℤ) × NamesOffset text seconds × IsZoneAt seconds zone)
+    (IsZoneAt (pos 0) zone)
 zone_by given offset zone (inl (text, at, named)) is = inl (text, at, (offset, named, is))
 zone_by given offset zone (inr (left, none)) is = inr (left, subst (λ (z : ℤ). IsZoneAt z zone) none is)
 

@@ -1,5 +1,6 @@
 -- Numbers of bytes in decimal digits.
-use Rattle.syslog_command_line.proofs.Names.{◌≡◌, ◌<◌, ◌≤◌, ◌∙◌, ℕ, List, Ok, Err, Result, arith, get_or, length, refl, sym}
+use Rattle.syslog_command_line.proofs.Names.{◌≡◌, ◌<◌, ◌≤◌, ◌∙◌, ℕ, List, Ok, Err, Result, arith, get_or, length}
+use Rattle.syslog_command_line.proofs.Names.{refl, sym}
 use Rattle.syslog_command_line.proofs.Names.{IsInRange, numerals_by_value, tells_by_index}
 use Rattle.syslog_command_line.proofs.Names.{Bool, MatchOption, None, Option, Some, true}
 use Rattle.std.proofs.Common.{All, is_some, ◌^◌, ◌↔◌}
@@ -15,7 +16,8 @@ module _ {E : Type 0} (text : List ℕ) where
       → OkIff r ((0 < length text) × (digits_value 10 text < 2 ^ 64)) (digits_value 10 text)
   parsed r parse all =
       let digits : (i : ℕ) → i < length text → IsInRange 48 57 (get_or text i 0) = λ i within. all i 0 within in
-      let by_index = numerals_by_value (λ ds. (i : ℕ) → i < length ds → IsInRange 48 57 (get_or ds i 0)) tells_by_index in
+      let by_index = numerals_by_value (λ ds. (i : ℕ) → i < length ds → IsInRange 48 57 (get_or ds i 0))
+      tells_by_index in
       parse_digits by_index 64 text r parse digits
 
   pub size_named : (size : ℕ) (r : Result ℕ E) → r ≡ Ok size → ParsesUnsigned 64 10 text r → All IsAsciiDigit text

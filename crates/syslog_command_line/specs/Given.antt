@@ -15,7 +15,8 @@ value_at held flag = slice_index_or held.values (flag_number flag) None
 -- the values of these flags are held, and no others
 pub record Holds (held : Given) (given : List GivenFlag) : Type 0 where
   pub size : length held.values ≡ 11
-  pub each : (flag : Flag) → MatchOption (value_at held flag) (IsLeftOut given flag) (λ value. IsGivenAs given flag value.now)
+  pub each : (flag : Flag) → MatchOption (value_at held flag)
+      (IsLeftOut given flag) (λ value. IsGivenAs given flag value.now)
   pub valued : All (λ one. IsValue one.flag one.value) given
 
 -- the words begin with this flag, it can be given beside those that are held, and these words come after it
@@ -33,7 +34,8 @@ BeginsWithNone offered held words =
     (one : GivenFlag) (rest : List (List ℕ)) → ¬ (BeginsWith offered held words one rest)
 
 -- the words are flags and others, and whatever flags and a date they are, the date is in these others
-pub record SplitsWords (offered : List Flag) (words : List (List ℕ)) (held : Given) (rest : List (List ℕ)) : Type 0 where
+pub record SplitsWords (offered : List Flag) (words : List (List ℕ)) (held : Given) (rest : List (List ℕ)) : Type
+    0 where
   pub given : List GivenFlag
   pub listed : words ≡ flat_map given_words given ++ rest
   pub allowed : CanBeGiven offered given

@@ -9,7 +9,8 @@ use Rattle.syslog_command_line.specs.Arguments.{NamesOffset}
 use Rattle.syslog_command_line.specs.Flags.{IsValue, NamesSeverity, NamesSize, flag_word, rival, takes_value}
 use Rattle.syslog_command_line.specs.Words.{AreDateWords}
 use Rattle.syslog_command_line.specs.declared.flags.Flag.{Flag}
-use Rattle.syslog_command_line.specs.declared.flags.Flag.TheVariants.{Raw, NoDialects, Latin1, Offset, Nul, OctetCounted}
+use Rattle.syslog_command_line.specs.declared.flags.Flag.TheVariants.{Raw, NoDialects, Latin1, Offset, Nul}
+use Rattle.syslog_command_line.specs.declared.flags.Flag.TheVariants.{OctetCounted}
 use Rattle.syslog_command_line.specs.declared.flags.Flag.TheVariants.{MaxLine, Severity, Host, App, Csv}
 use Rattle.syslog_command_line.specs.declared.options.Options.{Options}
 
@@ -62,7 +63,8 @@ abbrev pub usual_max_line : ℕ
 usual_max_line = 67_108_864
 
 -- the options are what the flags and the date say; without an offset dates are taken in UTC
-pub record AreOptions (given : List GivenFlag) (named_year : ℤ) (named_month : Option ℕ) (options : Options) : Type 0 where
+pub record AreOptions (given : List GivenFlag) (named_year : ℤ) (named_month : Option ℕ) (options : Options) : Type
+    0 where
   pub raw : ByFlag given Raw (λ _. options.raw ≡ true) (options.raw ≡ false)
   pub dialects : ByFlag given NoDialects (λ _. options.dialects ≡ false) (options.dialects ≡ true)
   pub latin1 : ByFlag given Latin1 (λ _. options.latin1 ≡ true) (options.latin1 ≡ false)

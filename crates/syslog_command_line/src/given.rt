@@ -21,7 +21,8 @@ impl<'a> Given<'a> {
         }
     }
 
-    /// Returns the value that was given with the flag, which is empty if it takes none; `None` if the flag was left out.
+    /// Returns the value that was given with the flag, which is empty if it takes none; `None` if the flag was left
+    /// out.
     pub(crate) fn value(&self, flag: Flag) -> Option<&'a str>
         ensures { result ≡ value_at self.now flag }
     {

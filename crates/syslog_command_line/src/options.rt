@@ -1,5 +1,6 @@
 //! The flags before the date, and what they and the date ask for.
-ghost use Rattle.std.specs.Prelude.{◌≡◌, ◌∷◌, ◌++◌, ◌≤ℤ◌, IsSomeAnd, List, MatchOption, MatchResult, None, negsuc, pos, ℕ};
+ghost use Rattle.std.specs.Prelude.{◌≡◌, ◌∷◌, ◌++◌, ◌≤ℤ◌, IsSomeAnd, List, MatchOption, MatchResult, None, negsuc};
+ghost use Rattle.std.specs.Prelude.{pos, ℕ};
 ghost use Rattle.syslog_command_line.specs.Arguments.{NamesOffset};
 ghost use Rattle.syslog_command_line.specs.Flags.{IsValue, NamesSeverity, NamesSize, flag_word};
 ghost use Rattle.syslog_command_line.specs.Given.{AreNoFlagsAndDate, BeginsWith, BeginsWithNone, Holds, SplitsWords};

@@ -199,7 +199,8 @@ pub fn report_count<W: Write>(what: &str, count: u64, lines: u64, errors: &mut W
     1
 }
 
-/// Writes why a filter ended early, as `read failed`, and returns the exit status 2. If a write fails, the stream says so.
+/// Writes why a filter ended early, as `read failed`, and returns the exit status 2. If a write fails, the stream
+/// says so.
 pub fn report_fault<W: Write>(fault: RunFault, errors: &mut Watched<W>) -> u8
     requires { errors.old.failed ≡ false }
     ensures status { result ≡ 2 }

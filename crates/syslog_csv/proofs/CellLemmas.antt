@@ -1,5 +1,6 @@
 -- The cells of a message and of a line that is no message, one after the other.
-use Rattle.std.proofs.Common.{◌≡◌, ℕ, List, [], ◌∷◌, ◌++◌, Bool, true, false, Option, None, Some, cond, codes, refl, sym, ap, ◌∙◌}
+use Rattle.std.proofs.Common.{◌≡◌, ℕ, List, [], ◌∷◌, ◌++◌, Bool, true, false, Option, None, Some, cond, codes, refl}
+use Rattle.std.proofs.Common.{sym, ap, ◌∙◌}
 use Rattle.std.proofs.Common.{map, option_map}
 use Rattle.std.specs.List.{AllByRecursion}
 use Rattle.std.specs.Prelude.{encode_utf8_all}
@@ -15,7 +16,8 @@ use Rattle.syslog_pieces.specs.declared.pri.SyslogSeverity.{SyslogSeverity}
 use Rattle.syslog_loose.specs.Message.{MessageValue}
 use Rattle.syslog_object.proofs.WrittenLemmas.{printed}
 use Rattle.syslog_object.specs.Gathered.{members_of}
-use Rattle.syslog_object.specs.Object.{Beside, Field, fields_of, message_json, number_json, present, protocol_text, refused_json}
+use Rattle.syslog_object.specs.Object.{Beside, Field, fields_of, message_json, number_json, present, protocol_text}
+use Rattle.syslog_object.specs.Object.{refused_json}
 use Rattle.syslog_object.specs.Object.{structured_json, text_json, timestamp_json, version_json}
 use Rattle.std.specs.Option.{unwrap_or}
 use Rattle.syslog_pieces.specs.Front.{clock_text}
@@ -55,7 +57,8 @@ both_none false = refl
 get_present : (key : List ℕ) (fields : List Field) → get_member key (members_of (present fields)) ≡ field_at key fields
 get_present key [] = refl
 get_present key ((other, None) ∷ fields) =
-    get_present key fields ∙ sym (ap (λ (o : Option Json). later_or (field_at key fields) o) (both_none (bytes_eq other key))
+    get_present key fields ∙ sym (ap (λ (o : Option Json). later_or (field_at key fields) o)
+    (both_none (bytes_eq other key))
     ∙ later_none (field_at key fields))
 get_present key ((other, Some value) ∷ fields) =
     ap (λ (o : Option Json). later_or o (cond (bytes_eq other key) (Some value) None)) (get_present key fields)
@@ -99,12 +102,14 @@ pub cells_of_refused : (line : List ℕ) → cells_of (refused_json line)
 unfolding print_from
 cells_of_refused line = refl
 
-pub version_same : (version : Option ℕ) → cell_of (option_map number_json version) ≡ cell_of (version_json (protocol_of version))
+pub version_same : (version : Option ℕ) → cell_of (option_map number_json version) ≡ cell_of
+    (version_json (protocol_of version))
 version_same None = refl
 version_same (Some n) = refl
 
 pub stamp_same : (stamp : Option ClockStamp)
-    → unwrap_or (option_map (λ s. clock_text (Some s)) stamp) [] ≡ cell_of (option_map timestamp_json (stamp_seen stamp))
+    → unwrap_or (option_map (λ s. clock_text (Some s)) stamp) [] ≡ cell_of
+    (option_map timestamp_json (stamp_seen stamp))
 stamp_same None = refl
 stamp_same (Some stamp) = refl
 

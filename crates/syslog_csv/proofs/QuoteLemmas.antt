@@ -1,5 +1,6 @@
 -- A field between quotes, written up to one of its quotes after the other.
-use Rattle.std.proofs.Common.{◌≡◌, ◌==◌, ◌+◌, ◌<◌, ◌≤◌, ◌++◌, ◌∷◌, [], ℕ, zero, suc, List, Bool, true, false, length, take}
+use Rattle.std.proofs.Common.{◌≡◌, ◌==◌, ◌+◌, ◌<◌, ◌≤◌, ◌++◌, ◌∷◌, [], ℕ, zero, suc, List, Bool, true, false, length}
+use Rattle.std.proofs.Common.{take}
 use Rattle.std.proofs.Common.{drop, refl, sym, ap, ◌∙◌, add-one, arith, append_assoc}
 use Rattle.std.specs.Prelude.{slice_index}
 use Rattle.std.proofs.lemmas.Bool.{eqb-true}
@@ -17,7 +18,8 @@ not_true true never = absurd (never refl)
 not_true false never = refl
 
 -- up to its first quote, which is written twice
-pub doubled_at : (rest : List ℕ) (at : ℕ) → at < length rest → ((k : ℕ) → k < at → (slice_index rest k == 34) ≡ true → ⊥)
+pub doubled_at : (rest : List ℕ) (at : ℕ) → at < length rest
+    → ((k : ℕ) → k < at → (slice_index rest k == 34) ≡ true → ⊥)
     → (slice_index rest at == 34) ≡ true → doubled rest ≡ take (suc at) rest ++ (34 ∷ doubled (drop (suc at) rest))
 doubled_at [] at within before here = absurd (omega arith)
 doubled_at (byte ∷ rest) zero within before here =
@@ -54,7 +56,8 @@ quote_written out mid new front rest text all first second split before =
     rw (second, first, ← before, split) (simp append_assoc)
 
 -- the rest was written, and the quote at the end
-pub quote_closed : (old out mid new rest field : List ℕ) → mid ≡ out ++ rest → new ≡ mid ++ (34 ∷ []) → doubled rest ≡ rest
+pub quote_closed : (old out mid new rest field : List ℕ) → mid ≡ out ++ rest → new ≡ mid ++ (34 ∷ [])
+    → doubled rest ≡ rest
     → out ++ doubled rest ≡ old ++ (34 ∷ doubled field) → new ≡ old ++ (34 ∷ (doubled field ++ (34 ∷ [])))
 quote_closed old out mid new rest field first second plain before =
     second ∙ ap (λ (l : List ℕ). l ++ (34 ∷ []))

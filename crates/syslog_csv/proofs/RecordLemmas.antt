@@ -6,7 +6,8 @@ use Rattle.std.proofs.lemmas.List.{append-nil}
 use Rattle.std.specs.Prelude.{⊤}
 use Rattle.std.specs.List.{AllByRecursion, flat_map, list_any}
 use Rattle.std.proofs.lemmas.Bool.{cases_Bool, eqb-true, or_parts}
-use Rattle.syslog_csv.specs.Records.{is_mark, doubled, quoted, IsField, AreLaterFields, IsRecord, IsOnlyRecord, AreRecords}
+use Rattle.syslog_csv.specs.Records.{is_mark, doubled, quoted, IsField, AreLaterFields, IsRecord, IsOnlyRecord}
+use Rattle.syslog_csv.specs.Records.{AreRecords}
 use Rattle.syslog_csv.specs.Records.{AddsFields, field_text, record_text}
 use Rattle.syslog_csv.proofs.QuoteLemmas.{doubled_quote, doubled_other}
 
@@ -66,10 +67,12 @@ plain_first (q ∷ w) y t plain ends e =
 quote_closes : (q : ℕ) (w x y : List ℕ) → Ends x → 34 ∷ x ≡ doubled (q ∷ w) ++ (34 ∷ y) → ⊥
 quote_closes q w x y ends e = elim (cases_Bool (q == 34)) [
   | inl same ↦
-      let two : 34 ∷ x ≡ 34 ∷ 34 ∷ (doubled w ++ (34 ∷ y)) = e ∙ ap (λ (l : List ℕ). l ++ (34 ∷ y)) (doubled_quote q w same) in
+      let two : 34 ∷ x ≡ 34 ∷ 34 ∷ (doubled w ++ (34 ∷ y)) = e
+      ∙ ap (λ (l : List ℕ). l ++ (34 ∷ y)) (doubled_quote q w same) in
       no_quote_ends x (doubled w ++ (34 ∷ y)) ends (cc two)
   | inr other ↦
-      let one : 34 ∷ x ≡ q ∷ (doubled w ++ (34 ∷ y)) = e ∙ ap (λ (l : List ℕ). l ++ (34 ∷ y)) (doubled_other q w other) in
+      let one : 34 ∷ x ≡ q ∷ (doubled w ++ (34 ∷ y)) = e
+      ∙ ap (λ (l : List ℕ). l ++ (34 ∷ y)) (doubled_other q w other) in
       let first : q ≡ 34 = cc one in not_both _ (is_quote q first) other
 ]
 
@@ -114,7 +117,8 @@ quoted_follows v x = ap (λ (l : List ℕ). 34 ∷ l) (append_assoc (doubled v) 
 field_once : (a b x y v w : List ℕ) → IsField a v → IsField b w → Ends x → Ends y → a ++ x ≡ b ++ y → (v ≡ w) × (x ≡ y)
 field_once a b x y v w (inl qa) (inl qb) ex ey e =
     let whole : 34 ∷ (doubled v ++ (34 ∷ x)) ≡ 34 ∷ (doubled w ++ (34 ∷ y)) =
-    sym (ap (λ (l : List ℕ). l ++ x) qa ∙ quoted_follows v x) ∙ e ∙ ap (λ (l : List ℕ). l ++ y) qb ∙ quoted_follows w y in
+    sym (ap (λ (l : List ℕ). l ++ x) qa ∙ quoted_follows v x) ∙ e ∙ ap (λ (l : List ℕ). l ++ y) qb
+    ∙ quoted_follows w y in
     quoted_once v w x y ex ey (cc whole)
 field_once a b x y v w (inl qa) (inr (is, plain)) ex ey e =
     absurd (plain_first w y (doubled v ++ (34 ∷ x)) plain ey
@@ -177,7 +181,8 @@ no_record_end (byte ∷ first) rest e = absurd (cc e)
 pub divided_once : (text : List ℕ) (records others : List (List (List ℕ))) → AreRecords text records
     → AreRecords text others → others ≡ records
 divided_once text [] [] none bare = refl
-divided_once text [] (o ∷ others) none (second, left, f, also, later) = absurd (no_record_end second left (sym none ∙ f))
+divided_once text [] (o ∷ others) none (second, left, f, also, later) = absurd
+    (no_record_end second left (sym none ∙ f))
 divided_once text (r ∷ records) [] (first, rest, e, is, more) none = absurd (no_record_end first rest (sym none ∙ e))
 divided_once text (r ∷ records) (o ∷ others) (first, rest, e, is, more) (second, left, f, also, later) =
     let both = record_once o r second first (13 ∷ 10 ∷ left) (13 ∷ 10 ∷ rest) also is refl refl (sym f ∙ e) in
@@ -233,7 +238,8 @@ pub adds_none : (old : List ℕ) → AddsFields old old []
 adds_none old = record { added = sym (append-nil old) }
 
 -- one, which is this field, and then more
-pub adds_next : (old mid new shown field : List ℕ) (fields : List (List ℕ)) → shown ≡ field → AddsFields old mid (shown ∷ [])
+pub adds_next : (old mid new shown field : List ℕ) (fields : List (List ℕ)) → shown ≡ field
+    → AddsFields old mid (shown ∷ [])
     → AddsFields mid new fields → AddsFields old new (field ∷ fields)
 adds_next old mid new shown field fields is first rest = record {
   added = rest.added ∙ ap (λ (l : List ℕ). l ++ flat_map (λ later. 44 ∷ field_text later) fields) first.added
@@ -246,5 +252,12 @@ pub record_whole : (begun one two three : List ℕ) (first : List ℕ) (fields x
     → three ≡ record_text (first ∷ (fields ++ (xs ++ (ys ++ zs))))
 record_whole begun one two three first fields xs ys zs is a b c =
     let g : List ℕ → List ℕ = λ later. 44 ∷ field_text later in
-    c.added ∙ rw (b.added, a.added, is, flat_map-append g fields (xs ++ (ys ++ zs)), flat_map-append g xs (ys ++ zs), flat_map-append g ys zs)
+    c.added ∙ rw (
+      b.added,
+      a.added,
+      is,
+      flat_map-append g fields (xs ++ (ys ++ zs)),
+      flat_map-append g xs (ys ++ zs),
+      flat_map-append g ys zs,
+    )
     (simp append_assoc)

@@ -1,5 +1,5 @@
--- Records of CSV, by the grammar of RFC 4180, and how they are written. Its TEXTDATA is ASCII that can be printed; here it
--- is every byte that is no mark.
+-- Records of CSV, by the grammar of RFC 4180, and how they are written. Its TEXTDATA is ASCII that can be printed;
+-- here it is every byte that is no mark.
 use Rattle.std.specs.Prelude.{◌≡◌, ◌⊎◌, ◌==◌, ◌||◌, ℕ, Bool, false, if◌then◌else◌, List, [], ◌∷◌, ◌++◌}
 use Rattle.std.specs.List.{flat_map, list_any}
 

@@ -37,8 +37,8 @@ structured_data,unparsed_structured_data,message,raw,refused,invalid_utf8\r\n"
 
 /// Returns the row of a line and its CR. The line was read in this dialect, or in none.
 ///
-/// `elements` is the text of the object of its structured data, and empty where there is none. Where `raw` is given it has
-/// a cell: the line as it came. What the message lacks is an empty cell.
+/// `elements` is the text of the object of its structured data, and empty where there is none. Where `raw` is given
+/// it has a cell: the line as it came. What the message lacks is an empty cell.
 pub fn line_row(
     alloc: Global,
     line: &Line<'_>,

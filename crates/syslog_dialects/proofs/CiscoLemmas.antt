@@ -1,15 +1,20 @@
 -- A text has one front of each class of a line of Cisco's.
 use Rattle.std.proofs.Common.{◌≡◌, ℕ, [], ◌∷◌, ◌++◌, Option, refl, arith, append_assoc, ap, subst, sym, ◌∙◌}
 use Rattle.std.specs.Char.{is_ascii_digit}
-use Rattle.syslog_pieces.specs.Pieces.Class.{Text, Values, Front, NoFront, NoDivision, IsDeterministic, Row, exactly, optional, run, some_run}
+use Rattle.syslog_pieces.specs.Pieces.Class.{Text, Values, Front, NoFront, NoDivision, IsDeterministic, Row, exactly}
+use Rattle.syslog_pieces.specs.Pieces.Class.{optional, run, some_run}
 use Rattle.syslog_pieces.specs.Pieces.Rules.{such_that}
 use Rattle.syslog_pieces.specs.Text.{is_blank, colon}
-use Rattle.syslog_pieces.proofs.PieceLemmas.Class.{AllDeterministic, ◌also◌, exactly_det, optional_det, mapped_det, row_det}
-use Rattle.syslog_pieces.proofs.PieceLemmas.Class.{run_det, some_run_det, rest_det, ◌then◌, no_row_division, row_none_here, row_of}
-use Rattle.syslog_pieces.proofs.PieceLemmas.Rules.{exactly_apart, or_det, such_det, no_such_front, no_such_meaning, such_front}
+use Rattle.syslog_pieces.proofs.PieceLemmas.Class.{AllDeterministic, ◌also◌, exactly_det, optional_det, mapped_det}
+use Rattle.syslog_pieces.proofs.PieceLemmas.Class.{row_det}
+use Rattle.syslog_pieces.proofs.PieceLemmas.Class.{run_det, some_run_det, rest_det, ◌then◌, no_row_division}
+use Rattle.syslog_pieces.proofs.PieceLemmas.Class.{row_none_here, row_of}
+use Rattle.syslog_pieces.proofs.PieceLemmas.Rules.{exactly_apart, or_det, such_det, no_such_front, no_such_meaning}
+use Rattle.syslog_pieces.proofs.PieceLemmas.Rules.{such_front}
 use Rattle.syslog_pieces.proofs.TimestampLemmas.Rfc3339.{year_det}
 use Rattle.syslog_dialects.specs.Cisco.{begins_host, IsMnemonic, origin, mnemonic, counter_row, label_row, label}
-use Rattle.syslog_dialects.specs.Cisco.{task_row, mark, start_row, labelled, start, front_year_row, front_year, date_row}
+use Rattle.syslog_dialects.specs.Cisco.{task_row, mark, start_row, labelled, start, front_year_row, front_year}
+use Rattle.syslog_dialects.specs.Cisco.{date_row}
 use Rattle.syslog_dialects.specs.Cisco.{place_row, place, message_row, cisco_row, IsAsa, IsNxOs, undated_row}
 use Rattle.syslog_dialects.specs.Cisco.{IsDated, asa_form, cisco_forms, cisco_sent, ios_form, nx_os_form}
 use Rattle.syslog_dialects.specs.Dialects.{IsOfNone, IsOnlyOf}
@@ -52,7 +57,8 @@ pub task_row_det : AllDeterministic task_row
 task_row_det = exactly_det _ also bare_word_det also colon_det also gap_det also tt
 
 mark_det : IsDeterministic mark
-mark_det = or_det (exactly_det _) (exactly_det _) (exactly_apart 42 (exactly (46 ∷ [])) (λ p q v h. (46, [], h, omega arith)))
+mark_det = or_det (exactly_det _) (exactly_det _) (exactly_apart 42
+    (exactly (46 ∷ [])) (λ p q v h. (46, [], h, omega arith)))
 
 start_row_det : AllDeterministic start_row
 start_row_det =
@@ -72,7 +78,8 @@ date_row_det = optional_det front_year (mapped_det (Row front_year_row) ℕ _ (r
     also any_date_det also tt
 
 place_row_det : AllDeterministic place_row
-place_row_det = blanks_det also optional_det origin origin_det also blanks_det also optional_det (exactly colon) colon_det
+place_row_det = blanks_det also optional_det origin origin_det also blanks_det also optional_det (exactly colon)
+    colon_det
     also blanks_det also tt
 
 place_det : IsDeterministic place
@@ -82,7 +89,8 @@ pub message_row_det : AllDeterministic message_row
 message_row_det = mnemonic_det also blanks_det also colon_det also blanks_det also rest_det also tt
 
 pub cisco_row_det : AllDeterministic cisco_row
-cisco_row_det = start_det also row_det date_row date_row_det also place_det also row_det message_row message_row_det also tt
+cisco_row_det = start_det also row_det date_row date_row_det also place_det also row_det message_row message_row_det
+    also tt
 
 pub asa_row_det : AllDeterministic (such_that (Row cisco_row) IsAsa ∷ [])
 asa_row_det = such_det (Row cisco_row) IsAsa (row_det cisco_row cisco_row_det) also tt
@@ -92,7 +100,8 @@ nx_os_row_det = such_det (Row cisco_row) IsNxOs (row_det cisco_row cisco_row_det
 
 pub undated_row_det : AllDeterministic undated_row
 undated_row_det = blanks_det also optional_det (exactly colon) colon_det also blanks_det
-    also optional_det (Row counter_row) (row_det counter_row counter_row_det) also row_det message_row message_row_det also tt
+    also optional_det (Row counter_row) (row_det counter_row counter_row_det) also row_det message_row message_row_det
+    also tt
 
 -- ---- the forms of lines with a date: by whether such a line is there, and of which system it is
 
@@ -108,7 +117,8 @@ module _ {t : Text} (none : NoFront (Row cisco_row) t) where
     ),
   )
 
-module _ {t : Text} {vs : Values cisco_row} (f : Front (Row cisco_row) t [] vs) (sent : SentValue) (e : sent ≡ cisco_sent vs) where
+module _ {t : Text} {vs : Values cisco_row} (f : Front (Row cisco_row) t [] vs) (sent : SentValue)
+    (e : sent ≡ cisco_sent vs) where
   not_such : (P : Values cisco_row → Type 0) → (P vs → ⊥) → NoDivision (such_that (Row cisco_row) P ∷ []) t
   not_such P n = no_row_division (such_that (Row cisco_row) P ∷ []) (row_none_here (such_that (Row cisco_row) P) []
       (no_such_meaning (Row cisco_row) P (row_det cisco_row cisco_row_det) f n))

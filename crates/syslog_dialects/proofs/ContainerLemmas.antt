@@ -2,7 +2,8 @@
 use Rattle.std.proofs.Common.{◌≡◌, [], ◌++◌, refl, sym, ap, subst, ◌∙◌, append-nil}
 use Rattle.syslog_pieces.specs.Pieces.Class.{Text, Values, Front, NoFront, IsDeterministic, Row}
 use Rattle.syslog_pieces.specs.Text.{is_blank}
-use Rattle.syslog_pieces.proofs.PieceLemmas.Class.{AllDeterministic, ◌also◌, exactly_det, front_of, no_front_no, run_det}
+use Rattle.syslog_pieces.proofs.PieceLemmas.Class.{AllDeterministic, ◌also◌, exactly_det, front_of, no_front_no}
+use Rattle.syslog_pieces.proofs.PieceLemmas.Class.{run_det}
 use Rattle.syslog_pieces.proofs.PieceLemmas.Rules.{such_det}
 use Rattle.syslog_dialects.specs.Container.{IsMark, IsStream, container_row, output, stream_row}
 use Rattle.syslog_dialects.specs.Zone.{bare_word}
@@ -10,11 +11,13 @@ use Rattle.syslog_dialects.proofs.DateLemmas.{iso_date_det}
 use Rattle.syslog_dialects.proofs.ZoneLemmas.{bare_word_det}
 
 pub stream_row_det : AllDeterministic stream_row
-stream_row_det = such_det bare_word IsStream bare_word_det also exactly_det _ also such_det bare_word IsMark bare_word_det also tt
+stream_row_det = such_det bare_word IsStream bare_word_det also exactly_det _ also such_det bare_word IsMark
+    bare_word_det also tt
 
 output_det : IsDeterministic output
 output_det p q p' q' t t' e (n, s, b) (n', s', b') =
-    let same : p ≡ p' = sym (append-nil p) ∙ ap (λ (x : Text). p ++ x) (sym n) ∙ e ∙ ap (λ (x : Text). p' ++ x) n' ∙ append-nil p' in
+    let same : p ≡ p' = sym (append-nil p) ∙ ap (λ (x : Text). p ++ x) (sym n) ∙ e ∙ ap (λ (x : Text). p' ++ x) n'
+    ∙ append-nil p' in
     (same, s ∙ same ∙ sym s')
 
 pub container_row_det : AllDeterministic container_row
@@ -24,5 +27,6 @@ pub output_front : {t r : Text} {v : Values stream_row} → Front (Row stream_ro
 output_front {t} f = front_of t (sym (append-nil t)) (refl, refl, (_, _, f))
 
 pub no_output : {t : Text} → NoFront (Row stream_row) t → NoFront output t
-no_output n p q t e (z, s, (r, v, f)) = no_front_no (Row stream_row) n (subst (λ (x : Text). Front (Row stream_row) x r v)
+no_output n p q t e (z, s, (r, v, f)) = no_front_no (Row stream_row) n
+    (subst (λ (x : Text). Front (Row stream_row) x r v)
     (sym (e ∙ ap (λ (x : Text). p ++ x) z ∙ append-nil p)) f)

@@ -5,14 +5,17 @@ use Rattle.syslog_pieces.specs.Pieces.Rules.{◌or◌, such_that}
 use Rattle.syslog_pieces.specs.Text.{number}
 use Rattle.syslog_pieces.specs.Timestamp.{header_stamp}
 use Rattle.syslog_pieces.specs.Timestamp.Rfc3339.{pair, year}
-use Rattle.syslog_pieces.proofs.PieceLemmas.Class.{AllDeterministic, ◌also◌, exactly_det, optional_det, mapped_det, row_det, after_det}
+use Rattle.syslog_pieces.proofs.PieceLemmas.Class.{AllDeterministic, ◌also◌, exactly_det, optional_det, mapped_det}
+use Rattle.syslog_pieces.proofs.PieceLemmas.Class.{row_det, after_det}
 use Rattle.syslog_pieces.proofs.PieceLemmas.Class.{front_of, no_front_no}
 use Rattle.syslog_pieces.proofs.PieceLemmas.Rules.{exactly_apart, or_det, such_det}
 use Rattle.syslog_pieces.proofs.TextLemmas.Words.{number_det}
 use Rattle.syslog_pieces.proofs.TimestampLemmas.MonthDate.{month_date_det}
 use Rattle.syslog_pieces.proofs.TimestampLemmas.Rfc3339.{pair_det, year_det, decimals_det}
-use Rattle.syslog_dialects.specs.Date.{point, fraction_row, fraction, late_fraction_row, late_fraction, year_after, bsd_row, bsd_of}
-use Rattle.syslog_dialects.specs.Date.{bsd_date, IsOdd, odd_bsd_date, middle, iso_row, iso_of, iso_date, unless, odd_iso_date}
+use Rattle.syslog_dialects.specs.Date.{point, fraction_row, fraction, late_fraction_row, late_fraction, year_after}
+use Rattle.syslog_dialects.specs.Date.{bsd_row, bsd_of}
+use Rattle.syslog_dialects.specs.Date.{bsd_date, IsOdd, odd_bsd_date, middle, iso_row, iso_of, iso_date, unless}
+use Rattle.syslog_dialects.specs.Date.{odd_iso_date}
 use Rattle.syslog_dialects.specs.Date.{any_date, one_of_dates}
 use Rattle.syslog_dialects.specs.{Named.◌otherwise◌, Zone.ended, Zone.zone}
 use Rattle.syslog_dialects.specs.declared.sent.SentDate.{SentDate}
@@ -25,7 +28,8 @@ use Rattle.syslog_dialects.proofs.NamedLemmas.{program_det}
 use Rattle.syslog_dialects.proofs.{NamedLemmas.otherwise_det, ZoneLemmas.ended_det, ZoneLemmas.zone_det}
 
 point_det : IsDeterministic point
-point_det = or_det (exactly_det _) (exactly_det _) (exactly_apart 46 (exactly (44 ∷ [])) (λ p q v h. (44, [], h, omega arith)))
+point_det = or_det (exactly_det _) (exactly_det _)
+    (exactly_apart 46 (exactly (44 ∷ [])) (λ p q v h. (44, [], h, omega arith)))
 
 pub fraction_row_det : AllDeterministic fraction_row
 fraction_row_det = point_det also decimals_det also tt
@@ -38,14 +42,16 @@ ended_year_det = ended_det year year_det
 
 pub bsd_det : AllDeterministic bsd_row
 bsd_det = month_date_det
-    also optional_det late_fraction (mapped_det (Row late_fraction_row) ℕ _ (row_det late_fraction_row late_fraction_row_det))
+    also optional_det late_fraction (mapped_det (Row late_fraction_row)
+    ℕ _ (row_det late_fraction_row late_fraction_row_det))
     also optional_det zone zone_det also optional_det year_after (after_det (ended year) ended_year_det) also tt
 
 bsd_date_det : IsDeterministic bsd_date
 bsd_date_det = mapped_det (Row bsd_row) SentDate bsd_of (row_det bsd_row bsd_det)
 
 pub odd_bsd_date_det : IsDeterministic odd_bsd_date
-odd_bsd_date_det = mapped_det (such_that (Row bsd_row) IsOdd) SentDate bsd_of (such_det (Row bsd_row) IsOdd (row_det bsd_row bsd_det))
+odd_bsd_date_det = mapped_det (such_that (Row bsd_row) IsOdd) SentDate bsd_of
+    (such_det (Row bsd_row) IsOdd (row_det bsd_row bsd_det))
 
 middle_det : IsDeterministic middle
 middle_det = mapped_det (exactly (84 ∷ []) or exactly (32 ∷ [])) (Unit {0}) _ (or_det (exactly_det _) (exactly_det _)
@@ -90,4 +96,5 @@ odd_told b e = sym e
 -- ---- a row with a date within
 pub serial_det : AllDeterministic serial_row
 serial_det = host_det also some_run_det is_blank also some_run_det is_plain_char also exactly_det _ also exactly_det _
-    also iso_date_det also exactly_det _ also some_run_det is_blank also program_det also run_det is_blank also rest_det also tt
+    also iso_date_det also exactly_det _ also some_run_det is_blank also program_det also run_det is_blank also
+    rest_det also tt

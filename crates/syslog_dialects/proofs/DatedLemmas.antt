@@ -15,5 +15,6 @@ pub iso_line_det : AllDeterministic iso_row
 iso_line_det = run_det is_blank also odd_iso_date_det also wide_tail_det also tt
 
 pub journal_line_det : AllDeterministic journal_row
-journal_line_det = run_det is_blank also such_det bare_word IsDay bare_word_det also some_run_det is_blank also iso_date_det
+journal_line_det = run_det is_blank also such_det bare_word IsDay bare_word_det also some_run_det is_blank also
+    iso_date_det
     also wide_tail_det also tt

@@ -1,6 +1,7 @@
 -- Decimals that are a run of digits of their own.
 use Rattle.syslog_pieces.proofs.Names.{◌≡◌, ℕ, ◌<◌, List, [], ◌∷◌, length, refl, sym, ap, subst, ◌∙◌, arith, append-nil}
-use Rattle.syslog_pieces.proofs.Names.{length-append, chars, is_ascii_digit, Text, Each, Front, NoFront, SplitsRun, decimals}
+use Rattle.syslog_pieces.proofs.Names.{length-append, chars, is_ascii_digit, Text, Each, Front, NoFront, SplitsRun}
+use Rattle.syslog_pieces.proofs.Names.{decimals}
 use Rattle.syslog_pieces.proofs.Names.{fraction_value, front_same, no_front_no}
 use Rattle.syslog_pieces.proofs.PieceLemmas.Class.{front_of}
 use Rattle.syslog_pieces.proofs.TextLemmas.Runs.{ascii_chars, digits_ascii, chars_nonempty, no_run_front}

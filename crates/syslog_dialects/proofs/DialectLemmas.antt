@@ -49,7 +49,11 @@ pub in_first : (Fs Gs : List Form) (text : Text) (dialect : Dialect) (sent : Sen
 in_first [] Gs text dialect sent is = absurd is.first
 in_first (F ∷ Fs) Gs text dialect sent is = elim is.first as (λ _. IsOnlyOf (F ∷ (Fs ++ Gs)) text dialect sent) [
   | inl (e, s) ↦ subst (λ d. IsOnlyOf (F ∷ (Fs ++ Gs)) text d sent) (sym e)
-      (here F (Fs ++ Gs) text sent (record { says = s; only = λ says other. (is.only F.dialect says (inl (refl, other))).1 }))
+      (here F (Fs ++ Gs) text sent (record {
+        says = s;
+        only = λ says
+            other. (is.only F.dialect says (inl (refl, other))).1;
+      }))
   | inr (none, rest) ↦ later F (Fs ++ Gs) text dialect sent none (in_first Fs Gs text dialect sent
       (record { first = rest; only = λ other says more. is.only other says (inr (none, more)) }))
 ]

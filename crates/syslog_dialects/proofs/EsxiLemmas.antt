@@ -3,7 +3,9 @@ use Rattle.std.specs.Char.{is_ascii_digit}
 use Rattle.std.specs.Prelude.{IsTrue}
 use Rattle.syslog_pieces.specs.Pieces.Class.{Front, NoDivision, NoFront, Text, run, some_run, texted}
 use Rattle.syslog_pieces.specs.Text.{is_blank}
-use Rattle.syslog_pieces.proofs.PieceLemmas.Class.{AllDeterministic, ◌also◌, ◌past◌, exactly_det, no_row, no_row_division, rest_det, row_det, run_det, some_run_det, texted_det}
+use Rattle.syslog_pieces.proofs.PieceLemmas.Class.{AllDeterministic, ◌also◌, ◌past◌, exactly_det, no_row}
+use Rattle.syslog_pieces.proofs.PieceLemmas.Class.{no_row_division, rest_det, row_det, run_det, some_run_det}
+use Rattle.syslog_pieces.proofs.PieceLemmas.Class.{texted_det}
 use Rattle.syslog_pieces.proofs.PieceLemmas.Rules.{such_det}
 use Rattle.std.proofs.Common.{inl}
 use Rattle.syslog_dialects.specs.Date.{iso_date}
@@ -14,7 +16,8 @@ use Rattle.syslog_dialects.proofs.NamedLemmas.{program_det}
 
 pub mark_row_det : AllDeterministic mark_row
 mark_row_det = such_det (texted (some_run is_plain_char)) (λ t. IsTrue (is_level t))
-    (texted_det (some_run is_plain_char) (some_run_det is_plain_char)) also exactly_det _ also some_run_det is_ascii_digit
+    (texted_det (some_run is_plain_char) (some_run_det is_plain_char)) also exactly_det _ also some_run_det
+    is_ascii_digit
     also exactly_det _ also tt
 
 pub esxi_row_det : AllDeterministic esxi_row

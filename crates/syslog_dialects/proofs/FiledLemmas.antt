@@ -3,7 +3,8 @@ use Rattle.std.proofs.Common.{◌≡◌, [], ◌∷◌, sym, ap, ◌∙◌}
 use Rattle.syslog_pieces.specs.Pieces.Class.{Text, Class, Values, Front, NoFront, Row, Division, NoDivision}
 use Rattle.syslog_pieces.specs.Pieces.Rules.{such_that}
 use Rattle.syslog_pieces.specs.Text.{is_blank}
-use Rattle.syslog_pieces.proofs.PieceLemmas.Class.{AllDeterministic, ◌also◌, all_joined, front_division, no_row_division}
+use Rattle.syslog_pieces.proofs.PieceLemmas.Class.{AllDeterministic, ◌also◌, all_joined, front_division}
+use Rattle.syslog_pieces.proofs.PieceLemmas.Class.{no_row_division}
 use Rattle.syslog_pieces.proofs.PieceLemmas.Class.{row_cons, row_det, row_nil, row_none_here, rows_join, rows_none_here}
 use Rattle.syslog_pieces.proofs.PieceLemmas.Class.{rows_none_later, run_det, some_run_det, unique_division}
 use Rattle.syslog_pieces.proofs.PieceLemmas.Rules.{no_such_front, no_such_meaning, such_det, such_front}
@@ -19,7 +20,8 @@ use Rattle.syslog_dialects.proofs.DateLemmas.{any_date_det}
 use Rattle.syslog_dialects.proofs.DialectLemmas.{here, later}
 
 pub filed_front_det : AllDeterministic filed_front
-filed_front_det = run_det is_blank also any_date_det also some_run_det is_blank also origin_det also some_run_det is_blank
+filed_front_det = run_det is_blank also any_date_det also some_run_det is_blank also origin_det also some_run_det
+    is_blank
     also tt
 
 -- a line of such a system
@@ -32,7 +34,8 @@ no_front P n = no_row_division (filed_row (one P)) (rows_none_here filed_front (
 pub unfiled : {t : Text} → NoFront (Row filed_front) t → IsOfNone filed_forms t
 unfiled n = (no_front IsAsa n, (no_front IsNxOs n, (no_front IsAny n, tt)))
 
-module _ {t line device : Text} {d : SentDate} (f : Front (Row filed_front) t line (tt, (d, (tt, (device, (tt, tt)))))) where
+module _ {t line device : Text} {d : SentDate} (f : Front (Row filed_front) t line
+    (tt, (d, (tt, (device, (tt, tt)))))) where
   no_line : (P : Values cisco_row → Type 0) → NoFront (one P) line → NoDivision (filed_row (one P)) t
   no_line P n = no_row_division (filed_row (one P))
       (rows_none_later filed_front (one P ∷ []) filed_front_det f (row_none_here (one P) [] n))
@@ -40,7 +43,10 @@ module _ {t line device : Text} {d : SentDate} (f : Front (Row filed_front) t li
   pub none_filed : NoFront (Row cisco_row) line → IsOfNone filed_forms t
   none_filed n = (
     no_line IsAsa (no_such_front (Row cisco_row) IsAsa n),
-    (no_line IsNxOs (no_such_front (Row cisco_row) IsNxOs n), (no_line IsAny (no_such_front (Row cisco_row) IsAny n), tt)),
+    (
+      no_line IsNxOs (no_such_front (Row cisco_row) IsNxOs n),
+      (no_line IsAny (no_such_front (Row cisco_row) IsAny n), tt),
+    ),
   )
 
   module _ {vs : Values cisco_row} (g : Front (Row cisco_row) line [] vs) (sent : SentValue)
@@ -67,12 +73,14 @@ module _ {t line device : Text} {d : SentDate} (f : Front (Row filed_front) t li
         (says_one CiscoAsa IsAsa is)
 
     pub of_nx_os : (IsAsa vs → ⊥) → IsNxOs vs → IsOnlyOf filed_forms t CiscoNxOs sent
-    of_nx_os no_asa is = later (filed_form CiscoAsa IsAsa) (filed_form CiscoNxOs IsNxOs ∷ filed_form CiscoIos IsAny ∷ []) t
+    of_nx_os no_asa is = later (filed_form CiscoAsa IsAsa)
+        (filed_form CiscoNxOs IsNxOs ∷ filed_form CiscoIos IsAny ∷ []) t
         CiscoNxOs sent (not_one IsAsa no_asa)
         (here (filed_form CiscoNxOs IsNxOs) (filed_form CiscoIos IsAny ∷ []) t sent (says_one CiscoNxOs IsNxOs is))
 
     pub of_ios : (IsAsa vs → ⊥) → (IsNxOs vs → ⊥) → IsOnlyOf filed_forms t CiscoIos sent
-    of_ios no_asa no_nx_os = later (filed_form CiscoAsa IsAsa) (filed_form CiscoNxOs IsNxOs ∷ filed_form CiscoIos IsAny ∷ []) t
+    of_ios no_asa no_nx_os = later (filed_form CiscoAsa IsAsa)
+        (filed_form CiscoNxOs IsNxOs ∷ filed_form CiscoIos IsAny ∷ []) t
         CiscoIos sent (not_one IsAsa no_asa)
         (later (filed_form CiscoNxOs IsNxOs) (filed_form CiscoIos IsAny ∷ []) t CiscoIos sent (not_one IsNxOs no_nx_os)
         (here (filed_form CiscoIos IsAny) [] t sent (says_one CiscoIos IsAny tt)))

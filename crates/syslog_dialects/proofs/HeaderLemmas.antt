@@ -2,7 +2,8 @@
 use Rattle.std.proofs.Common.{◌≡◌, [], sym, ap, ◌∙◌}
 use Rattle.syslog_pieces.specs.Pieces.Class.{Text, Values, Front, Row}
 use Rattle.syslog_pieces.specs.Text.{is_blank}
-use Rattle.syslog_pieces.proofs.PieceLemmas.Class.{AllDeterministic, ◌also◌, exactly_det, front_division, rest_det, some_run_det}
+use Rattle.syslog_pieces.proofs.PieceLemmas.Class.{AllDeterministic, ◌also◌, exactly_det, front_division, rest_det}
+use Rattle.syslog_pieces.proofs.PieceLemmas.Class.{some_run_det}
 use Rattle.syslog_pieces.proofs.PieceLemmas.Class.{unique_division}
 use Rattle.syslog_pieces.proofs.TextLemmas.Words.{host_det, number_det, word_det}
 use Rattle.syslog_dialects.proofs.DateLemmas.{iso_date_det}
@@ -12,7 +13,8 @@ use Rattle.syslog_dialects.specs.Sent.{IsOnlySent, SentValue}
 pub header_det : AllDeterministic header_row
 header_det =
     let gap = some_run_det is_blank in
-    number_det 4294967295 also gap also iso_date_det also gap also host_det also gap also word_det also gap also word_det
+    number_det 4294967295 also gap also iso_date_det also gap also host_det also gap also word_det also gap also
+    word_det
     also gap also exactly_det _ also gap also rest_det also tt
 
 pub header_said : {text : Text} {vs : Values header_row} {s : SentValue} → Front (Row header_row) text [] vs

@@ -1,5 +1,6 @@
 -- A date that begins a text, and what has none.
-use Rattle.std.proofs.Common.{◌≡◌, inl, inr, ℕ, ◌<◌, ◌≤◌, List, [], ◌∷◌, ◌++◌, length, refl, sym, ap, subst, ◌∙◌, arith, length-append}
+use Rattle.std.proofs.Common.{◌≡◌, inl, inr, ℕ, ◌<◌, ◌≤◌, List, [], ◌∷◌, ◌++◌, length, refl, sym, ap, subst, ◌∙◌}
+use Rattle.std.proofs.Common.{arith, length-append}
 use Rattle.std.proofs.lemmas.Str.{encodes-append, encodes-chars, length-le-encodes}
 use Rattle.std.specs.Str.{IsUtf8, chars, encode_utf8_all}
 use Rattle.syslog_pieces.specs.Pieces.Class.{Text, Values, Front, NoFront, NoDivision, Row, run}
@@ -7,7 +8,8 @@ use Rattle.syslog_pieces.specs.Pieces.Rules.{such_that}
 use Rattle.syslog_pieces.specs.Text.{is_blank}
 use Rattle.syslog_pieces.specs.Timestamp.{header_stamp}
 use Rattle.syslog_pieces.specs.Timestamp.Rfc3339.{year}
-use Rattle.syslog_pieces.proofs.PieceLemmas.Class.{◌past◌, front_of, mapped_front, no_mapped, no_row, no_row_division, row_pieces}
+use Rattle.syslog_pieces.proofs.PieceLemmas.Class.{◌past◌, front_of, mapped_front, no_mapped, no_row, no_row_division}
+use Rattle.syslog_pieces.proofs.PieceLemmas.Class.{row_pieces}
 use Rattle.syslog_pieces.proofs.PieceLemmas.Lists.{Begins, begins_apart}
 use Rattle.syslog_pieces.proofs.PieceLemmas.Rules.{no_such_front}
 use Rattle.syslog_pieces.proofs.TimestampLemmas.MonthDate.{IsLetter, month_date_begins}
@@ -46,8 +48,11 @@ not_month {t} n p q vs e h = n p q _ e
     (inl (bsd_of vs), (vs, h, refl), refl)
 
 pub not_iso : {t : Text} → NoFront any_date t → NoFront iso_date t
-not_iso {t} n p q d e h = n p q _ e
-    (inr d, (subst (λ (x : Text). NoFront bsd_date x) e (no_mapped (Row bsd_row) SentDate bsd_of (not_month n)), h), refl)
+not_iso {t} n p q d e h = n p q _ e (
+  inr d,
+  (subst (λ (x : Text). NoFront bsd_date x) e (no_mapped (Row bsd_row) SentDate bsd_of (not_month n)), h),
+  refl,
+)
 
 pub year_begins : (p q : Text) (y : ℕ) → year.Is p q y → Begins (λ c. c < 65) (p ++ q)
 year_begins p q y h = rw h.0 (omega arith)

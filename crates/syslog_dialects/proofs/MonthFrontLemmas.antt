@@ -1,6 +1,7 @@
--- A text that begins with a month date: what comes before Cisco's dates is not there, and no form with another beginning
--- divides it.
-use Rattle.std.proofs.Common.{◌≡◌, inl, inr, ℕ, ◌<◌, ◌≤◌, Bool, true, false, List, [], ◌∷◌, ◌++◌, length, map, Option, Some, None, refl, sym, ap, subst, ◌∙◌, arith}
+-- A text that begins with a month date: what comes before Cisco's dates is not there, and no form with another
+-- beginning divides it.
+use Rattle.std.proofs.Common.{◌≡◌, inl, inr, ℕ, ◌<◌, ◌≤◌, Bool, true, false, List, [], ◌∷◌, ◌++◌, length, map, Option}
+use Rattle.std.proofs.Common.{Some, None, refl, sym, ap, subst, ◌∙◌, arith}
 use Rattle.std.proofs.lemmas.Bool.{agree_below_at, and_parts}
 use Rattle.std.proofs.lemmas.Bool.Decides.{nat_tests}
 use Rattle.std.proofs.lemmas.Str.{chars-IsAscii}
@@ -10,19 +11,22 @@ use Rattle.std.specs.Cmp.Lexicographic.{same_text}
 use Rattle.std.specs.Prelude.{◌&&◌, ◌||◌, IsTrue, is_none, nat_lt}
 use Rattle.std.specs.Str.{chars}
 use Rattle.syslog_pieces.specs.Bodies.MonthReading.{small_month}
-use Rattle.syslog_pieces.specs.Pieces.Class.{Text, Class, Values, Each, Ends, Front, NoFront, Row, exactly, optional, run, some_run}
+use Rattle.syslog_pieces.specs.Pieces.Class.{Text, Class, Values, Each, Ends, Front, NoFront, Row, exactly, optional}
+use Rattle.syslog_pieces.specs.Pieces.Class.{run, some_run}
 use Rattle.syslog_pieces.specs.Pieces.View.{text_eq}
 use Rattle.syslog_pieces.specs.Text.{is_blank, is_tag_char, colon, number}
 use Rattle.syslog_pieces.specs.Timestamp.MonthDate.{clock_row, month, month_date, short_number}
 use Rattle.syslog_pieces.specs.Timestamp.Rfc3339.{pair, year}
 use Rattle.syslog_pieces.specs.declared.timestamp.month_date.MonthDate.{MonthDate}
-use Rattle.syslog_pieces.proofs.PieceLemmas.Class.{◌past◌, ◌then◌, front_of, front_same, mapped_front, no_mapped, no_row, no_row_division}
+use Rattle.syslog_pieces.proofs.PieceLemmas.Class.{◌past◌, ◌then◌, front_of, front_same, mapped_front, no_mapped}
+use Rattle.syslog_pieces.proofs.PieceLemmas.Class.{no_row, no_row_division}
 use Rattle.syslog_pieces.proofs.PieceLemmas.Class.{optional_none, row_of, row_pieces}
 use Rattle.syslog_pieces.proofs.PieceLemmas.Lists.{Begins, begins, begins_apart}
 use Rattle.syslog_pieces.proofs.PieceLemmas.Rules.{no_such_front}
 use Rattle.syslog_pieces.proofs.TextLemmas.Runs.{no_run}
 use Rattle.syslog_pieces.proofs.TimestampLemmas.MonthDate.{IsBlank, IsLetter, blank_low, blanks_begin, month_letters}
-use Rattle.syslog_dialects.specs.Cisco.{IsMnemonic, counter_row, front_year, front_year_row, label, label_row, labelled, mark, mnemonic}
+use Rattle.syslog_dialects.specs.Cisco.{IsMnemonic, counter_row, front_year, front_year_row, label, label_row}
+use Rattle.syslog_dialects.specs.Cisco.{labelled, mark, mnemonic}
 use Rattle.syslog_dialects.specs.Cisco.{message_row, start, start_row, task_row, undated_row}
 use Rattle.syslog_dialects.specs.Date.{bsd_row}
 use Rattle.syslog_dialects.specs.Dated.{IsDay, day_words, journal_row, weekday}
@@ -35,11 +39,13 @@ use Rattle.syslog_dialects.specs.SophosUtm.{colon_of, colon_row, utm_row}
 use Rattle.syslog_dialects.specs.UnixSeconds.{IsLate, meraki_row, seconds, short_row, unix_of, unix_row}
 use Rattle.syslog_dialects.specs.Zone.{bare_word, is_among}
 use Rattle.syslog_dialects.specs.declared.sent.SentDate.{SentDate}
-use Rattle.syslog_dialects.proofs.CiscoLemmas.{counter_row_det, front_year_row_det, message_row_det, task_row_det, undated_row_det}
+use Rattle.syslog_dialects.proofs.CiscoLemmas.{counter_row_det, front_year_row_det, message_row_det, task_row_det}
+use Rattle.syslog_dialects.proofs.CiscoLemmas.{undated_row_det}
 use Rattle.syslog_dialects.proofs.DatedLemmas.{journal_line_det}
 use Rattle.syslog_dialects.proofs.LedLemmas.{year_begins}
 use Rattle.syslog_dialects.proofs.NamedLemmas.{ascii_told}
-use Rattle.syslog_dialects.proofs.OtherDateLemmas.{colon_row_det, logread_row_det, netscaler_row_det, slashed_row_det, utm_row_det}
+use Rattle.syslog_dialects.proofs.OtherDateLemmas.{colon_row_det, logread_row_det, netscaler_row_det, slashed_row_det}
+use Rattle.syslog_dialects.proofs.OtherDateLemmas.{utm_row_det}
 use Rattle.syslog_dialects.proofs.UnixLemmas.{meraki_row_det, short_row_det, unix_row_det}
 use Rattle.syslog_dialects.proofs.ZoneLemmas.{bare_word_det, either_told}
 
@@ -49,7 +55,8 @@ use Rattle.syslog_dialects.proofs.ZoneLemmas.{bare_word_det, either_told}
 abbrev pub IsSmall : ℕ → Type 0
 IsSmall c = (97 ≤ to_ascii_lowercase c) × (to_ascii_lowercase c < 123)
 
-small_letters : (a b c n : ℕ) → small_month a b c ≡ Some n → (97 ≤ a) × (a < 123) × (97 ≤ b) × (b < 123) × (97 ≤ c) × (c < 123)
+small_letters : (a b c n : ℕ) → small_month a b c ≡ Some n → (97 ≤ a) × (a < 123) × (97 ≤ b) × (b < 123) × (97 ≤ c)
+    × (c < 123)
 unfolding small_month
 small_letters a b c n m = (
   grind (arith, nat_tests),
@@ -88,7 +95,8 @@ pub record HasMonth (t : Text) : Type 0 where
   pub word : IsWord p
   pub blank : Begins IsBlank q
 
-from_row : (Cs : List Class) {t r : Text} {vs : Values (month ∷ some_run is_blank ∷ Cs)} → Front (Row (month ∷ some_run is_blank ∷ Cs)) t r vs
+from_row : (Cs : List Class) {t r : Text} {vs : Values (month ∷ some_run is_blank ∷ Cs)}
+    → Front (Row (month ∷ some_run is_blank ∷ Cs)) t r vs
     → HasMonth t
 from_row Cs f = let (u, m, (w, gap, more)) = row_pieces (month ∷ some_run is_blank ∷ Cs) f in
     let (a, b, c, e, k) = month_letters m.piece _ m.is in record {
@@ -107,7 +115,8 @@ abbrev after_month_dated : List Class
 after_month_dated = short_number ∷ some_run is_blank ∷ number 2147483647 ∷ some_run is_blank ∷ clock_row
 
 from_date : (p q : Text) (d : MonthDate) → month_date.Is p q d → HasMonth (p ++ q)
-from_date p q d (inl (vs, h, i)) = from_row after_month {t = p ++ q} {r = q} {vs = vs} (record { piece = p; whole = refl; is = h })
+from_date p q d (inl (vs, h, i)) = from_row after_month {t = p ++ q} {r = q} {vs = vs}
+    (record { piece = p; whole = refl; is = h })
 from_date p q d (inr (vs, h, i)) =
     from_row after_month_dated {t = p ++ q} {r = q} {vs = vs} (record { piece = p; whole = refl; is = h })
 
@@ -148,7 +157,8 @@ module _ {t : Text} (m : HasMonth t) where
   no_low C low p q v e h = let (c, more, is, large) = first_letter in
       begins_apart {H = IsLetter} {K = λ d. d < 65} t (λ d k l. omega (arith, k, l)) (rw is large) (rw e (low p q v h))
 
-  no_digits : (C : Class) → ((p q : Text) (v : C.Value) → C.Is p q v → (0 < length p) × Each is_ascii_digit p) → NoFront C t
+  no_digits : (C : Class) → ((p q : Text) (v : C.Value) → C.Is p q v → (0 < length p) × Each is_ascii_digit p)
+      → NoFront C t
   no_digits C digits = let (c, more, is, large) = first_letter in
       no_run is_ascii_digit t (rw is (grind (arith, nat_tests, large))) C digits
 
@@ -162,7 +172,8 @@ module _ {t : Text} (m : HasMonth t) where
   no_label p q v e (vs, h, is) =
       let (u, o, (w, c, more)) = row_pieces label_row (front_of p e h) in
       let same = (front_same bare_word bare_word_det (front_of o.piece o.whole o.is.0) month_word).0 in
-      begins_apart {H = IsBlank} {K = λ d. d ≡ 58} u (λ d k l. let b : is_blank 58 ≡ true = rw l at k in let f : false ≡ true = b in cc)
+      begins_apart {H = IsBlank} {K = λ d. d ≡ 58} u (λ d k l. let b : is_blank 58 ≡ true = rw l at k in
+      let f : false ≡ true = b in cc)
       (rw same m.blank) (rw (begins 58 u w c) refl)
 
   no_task : NoFront (Row task_row) t
@@ -191,7 +202,8 @@ module _ {t : Text} (m : HasMonth t) where
   no_year = no_low year year_begins
 
   pub bare_year : Front (optional front_year) t t None
-  bare_year = optional_none front_year (no_mapped (Row front_year_row) ℕ _ (no_row front_year_row front_year_row_det (inl no_year)))
+  bare_year = optional_none front_year (no_mapped (Row front_year_row)
+      ℕ _ (no_row front_year_row front_year_row_det (inl no_year)))
 
 -- ---- it is no day of the week
 
@@ -203,7 +215,8 @@ are_none : List (List ℕ) → Bool
 are_none [] = true
 are_none (w ∷ ws) = (are_ascii w && is_none (month_of w)) && are_none ws
 
-one_none : (w t : List ℕ) → IsTrue (are_ascii w && is_none (month_of w)) → true ≡ text_eq (chars w) t → IsTrue (is_none (month_of t))
+one_none : (w t : List ℕ) → IsTrue (are_ascii w && is_none (month_of w)) → true ≡ text_eq (chars w) t
+    → IsTrue (is_none (month_of t))
 one_none w t h e = let (ascii, none) = and_parts (are_ascii w) (is_none (month_of w)) h in
     let is : w ≡ t = sym (chars-IsAscii w (ascii_told w ascii)) ∙ same_text (chars w) t e in
     subst (λ (x : List ℕ). IsTrue (is_none (month_of x))) is none

@@ -1,17 +1,21 @@
 -- What is found in a list of forms, and what forms after a date say.
 use Rattle.std.proofs.Common.{◌≡◌, inl, List, [], ◌∷◌, ◌++◌, Option, Some, None, refl, sym, ap, ◌∙◌}
-use Rattle.syslog_pieces.specs.Pieces.Class.{Text, Class, Values, Front, NoFront, IsDeterministic, Division, NoDivision, Row}
+use Rattle.syslog_pieces.specs.Pieces.Class.{Text, Class, Values, Front, NoFront, IsDeterministic, Division}
+use Rattle.syslog_pieces.specs.Pieces.Class.{NoDivision, Row}
 use Rattle.syslog_pieces.specs.Pieces.Class.{run, mapped}
 use Rattle.syslog_pieces.specs.Text.{is_blank}
-use Rattle.syslog_pieces.proofs.PieceLemmas.Class.{AllDeterministic, ◌also◌, all_joined, front_division, mapped_det, row_cons}
-use Rattle.syslog_pieces.proofs.PieceLemmas.Class.{row_nil, rows_join, rows_none_here, rows_none_later, row_none_here, row_of, no_row, ◌past◌, ◌then◌}
+use Rattle.syslog_pieces.proofs.PieceLemmas.Class.{AllDeterministic, ◌also◌, all_joined, front_division, mapped_det}
+use Rattle.syslog_pieces.proofs.PieceLemmas.Class.{row_cons}
+use Rattle.syslog_pieces.proofs.PieceLemmas.Class.{row_nil, rows_join, rows_none_here, rows_none_later, row_none_here}
+use Rattle.syslog_pieces.proofs.PieceLemmas.Class.{row_of, no_row, ◌past◌, ◌then◌}
 use Rattle.syslog_pieces.proofs.PieceLemmas.Class.{no_row_division, run_det, some_run_det, unique_division}
 use Rattle.syslog_dialects.proofs.DateLemmas.{any_date_det, serial_det}
 use Rattle.syslog_dialects.proofs.DialectLemmas.{here, later}
 use Rattle.syslog_dialects.specs.Dialects.{Finds, IsOfNone, IsOnlyOf}
 use Rattle.syslog_dialects.specs.Named.{NamedTexts}
 use Rattle.syslog_dialects.proofs.NamedLemmas.{beginning_det, beginning_front, no_beginning}
-use Rattle.syslog_dialects.specs.NamedForms.{Tail, dated_form, dated_row, front_row, says, tail_forms, undated_form, undated_row}
+use Rattle.syslog_dialects.specs.NamedForms.{Tail, dated_form, dated_row, front_row, says, tail_forms, undated_form}
+use Rattle.syslog_dialects.specs.NamedForms.{undated_row}
 use Rattle.syslog_dialects.specs.NamedForms.{all_named, message_tails, program_forms, program_tails, undated_forms}
 use Rattle.syslog_dialects.specs.Sent.{Form, IsOnlySent, SentValue, loose, sent_value}
 use Rattle.syslog_dialects.specs.declared.dialect.Dialect.{Dialect}
@@ -42,11 +46,13 @@ found_after (F ∷ Fs) Gs text r n h = found_later F (Fs ++ Gs) text r n.0 (foun
 pub front_det : AllDeterministic front_row
 front_det = run_det is_blank also any_date_det also some_run_det is_blank also tt
 
-module _ (dialect : Dialect) (C : Class) (names : C.Value → NamedTexts) (det : IsDeterministic C) {text rest : Text} {d : SentDate}
+module _ (dialect : Dialect) (C : Class) (names : C.Value → NamedTexts)
+    (det : IsDeterministic C) {text rest : Text} {d : SentDate}
     (f : Front (Row front_row) text rest (tt, (d, (tt, tt)))) where
   pub none_after : NoFront (mapped C NamedTexts names) rest → NoDivision (dated_row C names) text
   none_after n = no_row_division (dated_row C names)
-      (rows_none_later front_row (mapped C NamedTexts names ∷ []) front_det f (row_none_here (mapped C NamedTexts names) [] n))
+      (rows_none_later front_row (mapped C NamedTexts names ∷ []) front_det f
+      (row_none_here (mapped C NamedTexts names) [] n))
 
   divided : {v : NamedTexts} → Front (mapped C NamedTexts names) rest [] v
       → Division (dated_row C names) text (tt, (d, (tt, (v, tt))))
@@ -58,7 +64,8 @@ module _ (dialect : Dialect) (C : Class) (names : C.Value → NamedTexts) (det :
   said_after {v} {s} g e = record {
     says = record { values = (tt, (d, (tt, (v, tt)))); division = divided g; means = e };
     only = λ other k.
-        (let same = (unique_division (dated_row C names) (all_joined front_row (mapped C NamedTexts names ∷ []) front_det
+        (let same = (unique_division (dated_row C names) (all_joined front_row (mapped C NamedTexts names ∷ [])
+        front_det
         (mapped_det C NamedTexts names det also tt)) k.division (divided g)).1 in
         k.means ∙ ap (λ (vs : Values (dated_row C names)). says vs.1.0 vs.1.1.1.0) same ∙ sym e);
   }
@@ -96,7 +103,8 @@ module _ (T : Tail) (Fs : List Form) (det : IsDeterministic T.after) {text rest 
 pub undated_det : (m : Mark) → AllDeterministic (undated_row m)
 undated_det m = run_det is_blank also beginning_det (mark_class m) also tt
 
-module _ (dialect : Dialect) (m : Mark) (Fs : List Form) {text msg : Text} (gap : Front (run is_blank) text msg tt) where
+module _ (dialect : Dialect) (m : Mark) (Fs : List Form) {text msg : Text}
+    (gap : Front (run is_blank) text msg tt) where
   pub undated_later : (r : Option (Dialect × Sent)) → NoFront (mark_class m) msg → Finds Fs text r
       → Finds (undated_form dialect m ∷ Fs) text r
   undated_later r n h = found_later (undated_form dialect m) Fs text r

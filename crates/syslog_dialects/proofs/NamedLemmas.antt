@@ -15,18 +15,22 @@ use Rattle.syslog_pieces.specs.Pieces.View.{Reads, Recognises, Skips, shown}
 use Rattle.std.specs.Str.{chars}
 use Rattle.std.specs.Char.{is_not_whitespace}
 use Rattle.syslog_pieces.specs.Bodies.Scan.{SplitsRun}
-use Rattle.syslog_pieces.specs.Pieces.Class.{Text, Class, Values, Front, NoFront, IsDeterministic, Row, some_run, exactly}
+use Rattle.syslog_pieces.specs.Pieces.Class.{Text, Class, Values, Front, NoFront, IsDeterministic, Row, some_run}
+use Rattle.syslog_pieces.specs.Pieces.Class.{exactly}
 use Rattle.syslog_pieces.specs.Pieces.Class.{mapped, texted}
 use Rattle.syslog_pieces.specs.Pieces.Rules.{such_that}
 use Rattle.syslog_pieces.specs.Text.{is_blank}
 use Rattle.syslog_pieces.specs.Text.CharClass.{is_id_char, is_label_char}
-use Rattle.syslog_pieces.proofs.PieceLemmas.Class.{AllDeterministic, ◌also◌, exactly_det, rest_det, optional_det, mapped_det}
-use Rattle.syslog_pieces.proofs.PieceLemmas.Class.{texted_det, row_det, run_det, some_run_det, front_of, no_front_no, Fails}
+use Rattle.syslog_pieces.proofs.PieceLemmas.Class.{AllDeterministic, ◌also◌, exactly_det, rest_det, optional_det}
+use Rattle.syslog_pieces.proofs.PieceLemmas.Class.{mapped_det}
+use Rattle.syslog_pieces.proofs.PieceLemmas.Class.{texted_det, row_det, run_det, some_run_det, front_of, no_front_no}
+use Rattle.syslog_pieces.proofs.PieceLemmas.Class.{Fails}
 use Rattle.syslog_pieces.proofs.PieceLemmas.Class.{no_row, no_mapped}
 use Rattle.syslog_pieces.proofs.PieceLemmas.Rules.{such_det}
 use Rattle.syslog_pieces.proofs.TextLemmas.Runs.{ascii_ahead, ascii_front, chars_nonempty, run_is}
 use Rattle.syslog_pieces.proofs.TextLemmas.Words.{host_det}
-use Rattle.syslog_dialects.specs.Named.{◌otherwise◌, behind_row, beginning, hosted, BeginsWith, begins_name, name, id_row, id_of, process_id}
+use Rattle.syslog_dialects.specs.Named.{◌otherwise◌, behind_row, beginning, hosted, BeginsWith, begins_name, name}
+use Rattle.syslog_dialects.specs.Named.{id_row, id_of, process_id}
 use Rattle.syslog_dialects.specs.Named.{program_row, program_of, program, ProgramText}
 use Rattle.syslog_dialects.specs.Runs.{are_ascii, is_plain_char, is_word_char}
 use Rattle.syslog_dialects.specs.Named.{NamedTexts, is_letter}
@@ -35,7 +39,8 @@ use Rattle.syslog_pieces.proofs.PieceLemmas.Class.{after_det}
 use Rattle.syslog_pieces.proofs.PieceLemmas.Lists.{many_det}
 use Rattle.syslog_pieces.specs.Pieces.Class.{spaced}
 use Rattle.syslog_pieces.specs.Text.{is_tag_char}
-use Rattle.syslog_dialects.specs.Programs.{facility, grade, hostless_row, is_facility, is_severity, selector_row, severity, severity_row}
+use Rattle.syslog_dialects.specs.Programs.{facility, grade, hostless_row, is_facility, is_severity, selector_row}
+use Rattle.syslog_dialects.specs.Programs.{severity, severity_row}
 
 -- ---- words of the theory
 
@@ -48,7 +53,8 @@ otherwise_det c d p q p' q' (inr v) (inr w) e (n, h) (m, h') = let r = d p q p' 
 pub first_front : {C D : Class} {t q : Text} {v : C.Value} → Front C t q v → Front (C otherwise D) t q (inl v)
 first_front f = front_of f.piece f.whole f.is
 
-pub second_front : {C D : Class} {t q : Text} {w : D.Value} → NoFront C t → Front D t q w → Front (C otherwise D) t q (inr w)
+pub second_front : {C D : Class} {t q : Text} {w : D.Value} → NoFront C t → Front D t q w
+    → Front (C otherwise D) t q (inr w)
 second_front {C} n f = front_of f.piece f.whole (subst (λ (x : Text). NoFront C x) f.whole n, f.is)
 
 pub no_otherwise : {C D : Class} {t : Text} → NoFront C t → NoFront D t → NoFront (C otherwise D) t
@@ -89,7 +95,8 @@ module _ (test : ℕ → Bool) (f : Text → Bool) (empty : f [] ≡ false) wher
   some_from [] h = absurd (let e : false ≡ true = sym empty ∙ h in cc)
   some_from (c ∷ t) h = omega arith
 
-  pub told : {bs : List ℕ} (xs ys : Bor (List ℕ)) (b : Bool) (r : Option (Bor (List ℕ))) → SplitsRun test bs xs.now ys.now
+  pub told : {bs : List ℕ} (xs ys : Bor (List ℕ)) (b : Bool) (r : Option (Bor (List ℕ)))
+      → SplitsRun test bs xs.now ys.now
       → b ≡ f (chars xs.now) → r ≡ then_some b ys
       → Recognises (such_that (texted (some_run test)) (λ t. IsTrue (f t))) (chars bs) r
   told xs ys true r s e h =
@@ -110,7 +117,8 @@ module _ (test : ℕ → Bool) (f : Text → Bool) (empty : f [] ≡ false) wher
 pub ascii_told : (t : List ℕ) → IsTrue (are_ascii t) → IsAscii t
 ascii_told [] h = IsAscii-nil
 ascii_told (c ∷ t) h =
-    let (first, more) = and_parts (nat_lt c 128) (are_ascii t) h in IsAscii-cons c t (ltb-true c 128 first) (ascii_told t more)
+    let (first, more) = and_parts (nat_lt c 128) (are_ascii t) h in
+    IsAscii-cons c t (ltb-true c 128 first) (ascii_told t more)
 
 pub prefix_told : (words bytes : List ℕ) → IsAscii words → IsUtf8 bytes → (r : Option (Bor (List ℕ)))
     → MatchOption r (FindsTextPrefix words bytes None) (λ x. StripsPrefix (FindsTextPrefix words) bytes x.now)
@@ -126,7 +134,8 @@ each_from_none : (test : ℕ → Bool) (cs : List ℕ) → NonePass (λ c. not (
 each_from_none test [] n = tt
 each_from_none test (c ∷ cs) n = (not-false (test c) n.0, each_from_none test cs n.1)
 
-pub each_of_text : (test : ℕ → Bool) (bs : List ℕ) → IsUtf8 bs → NoCharPasses (λ c. not (test c)) bs → Each test (chars bs)
+pub each_of_text : (test : ℕ → Bool) (bs : List ℕ) → IsUtf8 bs → NoCharPasses (λ c. not (test c)) bs
+    → Each test (chars bs)
 each_of_text test bs u (cs, e, n) = rw (← chars_from_encodes cs bs u e) (each_from_none test cs n)
 
 -- ---- rows with a meaning
@@ -207,5 +216,6 @@ forwarded_det = exactly_det _ also texted_det (some_run is_tag_char) (some_run_d
 pub passed_on_det : IsDeterministic passed_on
 passed_on_det = mapped_det (Row forwarded_row) NamedTexts forwarded_of (row_det forwarded_row forwarded_det)
 
-pub hosted_none : (C : Class) → IsDeterministic C → {t : Text} → NoFront C t → Fails (behind_row C) t → NoFront (hosted C) t
+pub hosted_none : (C : Class) → IsDeterministic C → {t : Text} → NoFront C t → Fails (behind_row C) t
+    → NoFront (hosted C) t
 hosted_none C d n h = no_otherwise n (no_row (behind_row C) (behind_det C d) h)

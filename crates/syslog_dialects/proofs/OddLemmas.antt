@@ -1,5 +1,6 @@
 -- What an odd app name begins with, and a host that is the level of a line of ESXi.
-use Rattle.std.proofs.Common.{◌≡◌, ◌<◌, ℕ, true, false, List, [], ◌∷◌, ◌++◌, length, refl, sym, ap, ◌∙◌, inl, inr, arith}
+use Rattle.std.proofs.Common.{◌≡◌, ◌<◌, ℕ, true, false, List, [], ◌∷◌, ◌++◌, length, refl, sym, ap, ◌∙◌, inl, inr}
+use Rattle.std.proofs.Common.{arith}
 use Rattle.std.proofs.lemmas.Bool.{and_parts, cases_Bool}
 use Rattle.std.proofs.lemmas.Bool.Decides.{nat_tests}
 use Rattle.std.proofs.lemmas.Str.Ascii.{IsAscii-cons, IsAscii-nil}
@@ -49,7 +50,8 @@ level_bytes : (bs : List ℕ) → IsUtf8 bs → HasLevel (chars bs) → has_brac
 level_bytes bs u l =
     let ascii = IsAscii-cons l.a (l.b ∷ 40 ∷ []) l.low_a (IsAscii-cons l.b (40 ∷ []) l.low_b
     (IsAscii-cons 40 [] (omega arith) IsAscii-nil)) in
-    let bytes : bs ≡ (l.a ∷ l.b ∷ 40 ∷ []) ++ encode_utf8_all l.more = ascii_ahead (l.a ∷ l.b ∷ 40 ∷ []) l.more bs u ascii l.is in
+    let bytes : bs ≡ (l.a ∷ l.b ∷ 40 ∷ []) ++ encode_utf8_all l.more = ascii_ahead (l.a ∷ l.b ∷ 40 ∷ []) l.more bs u
+    ascii l.is in
     let long : 2 < length bs = rw bytes (omega arith) in
     let third : slice_index bs 2 ≡ 40 = rw bytes refl in
     grind (arith, nat_tests)

@@ -18,7 +18,8 @@ use Rattle.syslog_pieces.specs.Timestamp.{stamp_seen}
 use Rattle.syslog_pieces.specs.Timestamp.Zone.{Dating}
 use Rattle.syslog_pieces.specs.declared.procid.ProcId.{ProcId}
 use Rattle.syslog_pieces.specs.declared.timestamp.clock.ClockStamp.{ClockStamp}
-use Rattle.syslog_pieces.proofs.PieceLemmas.Class.{AllDeterministic, ◌also◌, ◌then◌, exactly_det, front_of, front_same, heads, no_front_no, piece_front}
+use Rattle.syslog_pieces.proofs.PieceLemmas.Class.{AllDeterministic, ◌also◌, ◌then◌, exactly_det, front_of}
+use Rattle.syslog_pieces.proofs.PieceLemmas.Class.{front_same, heads, no_front_no, piece_front}
 use Rattle.syslog_pieces.proofs.PieceLemmas.Class.{row_det, row_of}
 use Rattle.syslog_pieces.proofs.TextLemmas.Runs.{chars_cut}
 use Rattle.syslog_loose.proofs.LineLemmas.{line_rest}
@@ -45,7 +46,8 @@ prefix_told words bytes w u (Some x) (k, (long, whole, cut), is, fits) = front_o
 
 -- ---- digits alone
 
-all_digits : (p q : Text) → Each is_ascii_digit p → Ends is_ascii_digit q → (b : Bool) → (IsTrue b → q ≡ []) → (q ≡ [] → IsTrue b)
+all_digits : (p q : Text) → Each is_ascii_digit p → Ends is_ascii_digit q → (b : Bool) → (IsTrue b → q ≡ [])
+    → (q ≡ [] → IsTrue b)
     → b ≡ are_digits (p ++ q)
 all_digits [] [] h e b f g = g refl
 all_digits [] (c ∷ q) h e true f g = absurd (let none = f refl in cc)
@@ -131,7 +133,8 @@ versions_too (Some v) (Some w) e is = is
 versions_too (Some v) None e is = absurd (let same = e in cc)
 versions_too None w e is = absurd (let none = is in cc)
 
-module _ (variant : Variant) (dating : Dating) (text : Text) (line other : Line) (of : IsLineOf variant dating text line)
+module _ (variant : Variant) (dating : Dating) (text : Text) (line other : Line)
+    (of : IsLineOf variant dating text line)
     (too : IsLineOf variant dating text other) where
   same_message : line_value line ≡ line_value other
   same_message = sym (of.only.only (line_value other) too.only.read)
@@ -141,7 +144,8 @@ module _ (variant : Variant) (dating : Dating) (text : Text) (line other : Line)
       let rests = front_same (Row (stamped_row dating)) (row_det (stamped_row dating) (stamped_det dating))
       (line_rest line of none) (line_rest other too never) in
       record {
-        dated = stamps_too line.timestamp other.timestamp (ap (λ (m : MessageValue). m.timestamp) same_message) is.dated;
+        dated = stamps_too line.timestamp other.timestamp (ap (λ (m : MessageValue). m.timestamp) same_message)
+            is.dated;
         host = is.host;
         app = is.app;
         is_host = sym (ap (λ (m : MessageValue). m.hostname) same_message) ∙ is.is_host;
@@ -165,7 +169,8 @@ module _ (variant : Variant) (dating : Dating) (text : Text) (line other : Line)
   ordinary_too (inr (inr is)) = loose_too line.version other.version refl refl is
 
 -- ---- what ends a tag
-pub mark_second : (t : Text) (r : Option (Bor (List ℕ))) → NoFront (exactly (58 ∷ [])) t → Skips (exactly (91 ∷ [])) tt t r
+pub mark_second : (t : Text) (r : Option (Bor (List ℕ))) → NoFront (exactly (58 ∷ [])) t
+    → Skips (exactly (91 ∷ [])) tt t r
     → Skips mark tt t r
 mark_second t None no_colon none = λ p q v e h. elim h [ inl k ↦ no_colon p q tt e k | inr k ↦ none p q tt e k ]
 mark_second t (Some q) no_colon f = front_of f.piece f.whole (inr f.is)
@@ -189,7 +194,8 @@ module _ (line : Line) (host app : Bor (List ℕ)) (e : line.hostname ≡ Some h
   odd_answer odd is = let none : true ≡ false = odd ∙ sym (ap (λ (t : Text). is_odd t (shown app)) (same_host is))
       ∙ sym (ap (λ (t : Text). is_odd is.host t) (same_app is)) ∙ is.plain in cc
 
-  tagged : is_odd (shown host) (shown app) ≡ false → IsSome line.timestamp → IsTag (shown host) (shown app) (shown line.rest) → IsTagged line
+  tagged : is_odd (shown host) (shown app) ≡ false → IsSome line.timestamp
+      → IsTag (shown host) (shown app) (shown line.rest) → IsTagged line
   tagged plain dated tag = record {
     dated = dated;
     host = shown host;
@@ -211,7 +217,8 @@ module _ (line : Line) (host app : Bor (List ℕ)) (e : line.hostname ≡ Some h
   tag_answer true plain dated tag = tagged plain dated tag
   tag_answer false plain dated none = not_tagged none
 
-  pub printed_answer : is_odd (shown host) (shown app) ≡ false → IsSome line.timestamp → KnowsForm line → line.is_printed ≡ true → line.version ≡ None
+  pub printed_answer : is_odd (shown host) (shown app) ≡ false → IsSome line.timestamp → KnowsForm line
+      → line.is_printed ≡ true → line.version ≡ None
       → MatchBool line.is_printed (IsTagged line) (IsTagged line → ⊥)
   printed_answer plain dated form printed none =
       subst (λ (b : Bool). MatchBool b (IsTagged line) (IsTagged line → ⊥)) (sym printed)

@@ -5,7 +5,8 @@ use Rattle.syslog_pieces.specs.Pieces.Class.{Text, Row, exactly, some_run}
 use Rattle.syslog_pieces.specs.Text.{is_blank, colon}
 use Rattle.syslog_pieces.specs.Text.CharClass.{is_label_char}
 use Rattle.syslog_pieces.specs.Timestamp.Rfc3339.{pair, year}
-use Rattle.syslog_pieces.proofs.PieceLemmas.Class.{AllDeterministic, ◌also◌, after_det, exactly_det, mapped_det, optional_det}
+use Rattle.syslog_pieces.proofs.PieceLemmas.Class.{AllDeterministic, ◌also◌, after_det, exactly_det, mapped_det}
+use Rattle.syslog_pieces.proofs.PieceLemmas.Class.{optional_det}
 use Rattle.syslog_pieces.proofs.PieceLemmas.Class.{rest_det, row_det, run_det, some_run_det, texted_det}
 use Rattle.syslog_pieces.proofs.PieceLemmas.Rules.{such_det}
 use Rattle.syslog_pieces.proofs.TimestampLemmas.Rfc3339.{pair_det, year_det}
@@ -52,17 +53,21 @@ slashed_row_det =
     also after_det (pair 100) (pair_det 100 (omega arith)) also optional_det zone zone_det also tt
 
 pub netscaler_row_det : AllDeterministic netscaler_row
-netscaler_row_det = run_det is_blank also mapped_det (Row slashed_row) SentDate slashed_of (row_det slashed_row slashed_row_det)
+netscaler_row_det = run_det is_blank also mapped_det (Row slashed_row) SentDate slashed_of
+    (row_det slashed_row slashed_row_det)
     also wide_tail_det also tt
 
 pub procurve_row_det : AllDeterministic procurve_row
-procurve_row_det = run_det is_blank also any_date_det also some_run_det is_blank also origin_det also some_run_det is_blank
-    also some_run_det is_ascii_digit also some_run_det is_blank also bare_word_det also exactly_det _ also run_det is_blank
+procurve_row_det = run_det is_blank also any_date_det also some_run_det is_blank also origin_det also some_run_det
+    is_blank
+    also some_run_det is_ascii_digit also some_run_det is_blank also bare_word_det also exactly_det _ also run_det
+    is_blank
     also rest_det also tt
 
 pub colon_row_det : AllDeterministic colon_row
 colon_row_det =
-    year_det also after_det (pair 100) (pair_det 100 (omega arith)) also after_det (pair 100) (pair_det 100 (omega arith))
+    year_det also after_det (pair 100) (pair_det 100 (omega arith)) also after_det (pair 100)
+    (pair_det 100 (omega arith))
     also after_det (pair 100) (pair_det 100 (omega arith)) also after_det (pair 100) (pair_det 100 (omega arith))
     also after_det (pair 100) (pair_det 100 (omega arith)) also tt
 
@@ -71,6 +76,7 @@ utm_row_det = run_det is_blank also mapped_det (Row colon_row) SentDate colon_of
     also wide_tail_det also tt
 
 pub logread_row_det : AllDeterministic logread_row
-logread_row_det = run_det is_blank also such_det bare_word IsDay bare_word_det also some_run_det is_blank also any_date_det
+logread_row_det = run_det is_blank also such_det bare_word IsDay bare_word_det also some_run_det is_blank also
+    any_date_det
     also some_run_det is_blank also row_det selector_row selector_det also some_run_det is_blank also program_det
     also run_det is_blank also rest_det also tt

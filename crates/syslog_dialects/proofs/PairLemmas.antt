@@ -1,25 +1,33 @@
 -- Pairs of a key and a value: one front of each class, what is noted of them, and the date that they show.
-use Rattle.std.proofs.Common.{◌≡◌, inl, inr, ℕ, ℤ, ◌<◌, Bool, true, false, List, [], ◌∷◌, ◌++◌, length, Option, Some, None}
+use Rattle.std.proofs.Common.{◌≡◌, inl, inr, ℕ, ℤ, ◌<◌, Bool, true, false, List, [], ◌∷◌, ◌++◌, length, Option, Some}
+use Rattle.std.proofs.Common.{None}
 use Rattle.std.proofs.Common.{refl, sym, ap, subst, ◌∙◌, arith, length-append, append-nil, if◌then◌else◌}
 use Rattle.std.proofs.lemmas.Bool.{cases_Bool}
 use Rattle.std.specs.Char.{is_not_whitespace}
 use Rattle.std.specs.Str.{chars}
 use Rattle.syslog_pieces.specs.Bodies.Scan.{SplitsRun}
-use Rattle.syslog_pieces.specs.Pieces.Class.{Text, Class, Values, Front, NoFront, IsDeterministic, Division, NoDivision, Row}
+use Rattle.syslog_pieces.specs.Pieces.Class.{Text, Class, Values, Front, NoFront, IsDeterministic, Division}
+use Rattle.syslog_pieces.specs.Pieces.Class.{NoDivision, Row}
 use Rattle.syslog_pieces.specs.Pieces.Class.{run, some_run, exactly, texted}
 use Rattle.syslog_pieces.specs.Pieces.Lists.{many}
 use Rattle.syslog_pieces.specs.Text.{is_blank}
 use Rattle.syslog_pieces.specs.Timestamp.Rfc3339.{pair as two, seconds_of, sign}
-use Rattle.syslog_pieces.proofs.PieceLemmas.Class.{AllDeterministic, ◌also◌, ◌past◌, ◌then◌, after_det, division_front, exactly_det}
-use Rattle.syslog_pieces.proofs.PieceLemmas.Class.{front_division, front_longer, front_of, front_same, mapped_det, no_row}
-use Rattle.syslog_pieces.proofs.PieceLemmas.Class.{no_row_division, row_det, row_head, row_of, run_det, some_run_det, texted_det}
+use Rattle.syslog_pieces.proofs.PieceLemmas.Class.{AllDeterministic, ◌also◌, ◌past◌, ◌then◌, after_det}
+use Rattle.syslog_pieces.proofs.PieceLemmas.Class.{division_front, exactly_det}
+use Rattle.syslog_pieces.proofs.PieceLemmas.Class.{front_division, front_longer, front_of, front_same, mapped_det}
+use Rattle.syslog_pieces.proofs.PieceLemmas.Class.{no_row}
+use Rattle.syslog_pieces.proofs.PieceLemmas.Class.{no_row_division, row_det, row_head, row_of, run_det, some_run_det}
+use Rattle.syslog_pieces.proofs.PieceLemmas.Class.{texted_det}
 use Rattle.syslog_pieces.proofs.PieceLemmas.Class.{heads, unique_division}
 use Rattle.syslog_pieces.proofs.PieceLemmas.Lists.{many_det}
 use Rattle.syslog_pieces.proofs.TimestampLemmas.Rfc3339.{pair_det as two_det, year_det}
 use Rattle.syslog_dialects.specs.Named.{◌otherwise◌}
-use Rattle.syslog_dialects.specs.Pairs.{pair, pair_row, pair_of, quoted, quoted_row, quoted_of, bare, value, either_text}
-use Rattle.syslog_dialects.specs.Pairs.{first_value, or_value, noted, noted_more, Noted, day_row, clock_row, offset_row, IsApart, IsTogether}
-use Rattle.syslog_dialects.specs.Pairs.{IsMoment, IsOffset, IsShown, at_offset, paired, pairs_row, pairs_form, is_date_key, is_time_key}
+use Rattle.syslog_dialects.specs.Pairs.{pair, pair_row, pair_of, quoted, quoted_row, quoted_of, bare, value}
+use Rattle.syslog_dialects.specs.Pairs.{either_text}
+use Rattle.syslog_dialects.specs.Pairs.{first_value, or_value, noted, noted_more, Noted, day_row, clock_row}
+use Rattle.syslog_dialects.specs.Pairs.{offset_row, IsApart, IsTogether}
+use Rattle.syslog_dialects.specs.Pairs.{IsMoment, IsOffset, IsShown, at_offset, paired, pairs_row, pairs_form}
+use Rattle.syslog_dialects.specs.Pairs.{is_date_key, is_time_key}
 use Rattle.syslog_dialects.specs.Pairs.{is_zone_key, is_host_key, is_stamp_key}
 use Rattle.syslog_dialects.specs.Runs.{is_unquoted, is_word_char}
 use Rattle.syslog_dialects.specs.Sent.{IsOnlySent, SentValue, loose}
@@ -54,7 +62,8 @@ pub pair_det : IsDeterministic pair
 pair_det = mapped_det (Row pair_row) (Text × Text) pair_of (row_det pair_row pair_row_det)
 
 pub day_det : AllDeterministic day_row
-day_det = year_det also after_det (two 100) (two_det 100 (omega arith)) also after_det (two 100) (two_det 100 (omega arith))
+day_det = year_det also after_det (two 100) (two_det 100 (omega arith)) also after_det (two 100)
+    (two_det 100 (omega arith))
     also tt
 
 pub clock_det : AllDeterministic clock_row
@@ -165,8 +174,10 @@ shown_at n shown other d e m o = record { shown = shown; other = other; moment =
 
 paired_det : IsDeterministic paired
 paired_det p q p' q' v v' e (z, w, (ps, r, f, s, h)) (z', w', (ps', r', f', s', h')) =
-    let whole : p ≡ p' = sym (append-nil p) ∙ ap (λ (x : Text). p ++ x) (sym z) ∙ e ∙ ap (λ (x : Text). p' ++ x) z' ∙ append-nil p' in
-    let same = (front_same (many pair) (many_det pair pair_det) (subst (λ (x : Text). Front (many pair) x r ps) whole f) f').1 in
+    let whole : p ≡ p' = sym (append-nil p) ∙ ap (λ (x : Text). p ++ x) (sym z) ∙ e ∙ ap (λ (x : Text). p' ++ x) z'
+    ∙ append-nil p' in
+    let same = (front_same (many pair) (many_det pair pair_det)
+    (subst (λ (x : Text). Front (many pair) x r ps) whole f) f').1 in
     let shown = shown_once (noted ps') v.0 v'.0 (subst (λ (x : List (Text × Text)). IsShown (noted x) v.0) same s) s' in
     let host = h ∙ ap (λ (x : List (Text × Text)). (noted x).hostname) same ∙ sym h' in
     let text = w ∙ whole ∙ sym w' in
@@ -183,13 +194,15 @@ module _ {text msg : Text} (gap : Front (run is_blank) text msg tt) {ps : List (
       none : NoFront paired msg
       none p q v e (z, w, (qs, u, g, s, h)) =
           let whole : msg ≡ p = e ∙ ap (λ (x : Text). p ++ x) z ∙ append-nil p in
-          let same = (front_same (many pair) (many_det pair pair_det) (subst (λ (x : Text). Front (many pair) x r ps) whole f) g).1 in
+          let same = (front_same (many pair) (many_det pair pair_det)
+          (subst (λ (x : Text). Front (many pair) x r ps) whole f) g).1 in
           n v.0 (subst (λ (x : List (Text × Text)). IsShown (noted x) v.0) (sym same) s)
 
   pub pairs_said : {d : SentDate} {s : SentValue} → IsShown (noted ps) d
       → s ≡ loose (Some d) (noted ps).hostname None None msg → IsOnlySent pairs_form text s
   pairs_said {d} {s} h e =
-      let line : Front paired msg [] (d, (noted ps).hostname, msg) = front_of msg (sym (append-nil msg)) (refl, refl, (ps, r, f, h, refl)) in
+      let line : Front paired msg [] (d, (noted ps).hostname, msg) = front_of msg (sym (append-nil msg))
+      (refl, refl, (ps, r, f, h, refl)) in
       let whole : Division pairs_row text (tt, ((d, (noted ps).hostname, msg), tt)) = front_division pairs_row
       (row_of pairs_row (gap then line then refl)) in
       record {

@@ -6,7 +6,8 @@ use Rattle.syslog_pieces.specs.Pieces.Class.{Text, Front, NoFront, Division, NoD
 use Rattle.syslog_pieces.specs.Text.{is_blank}
 use Rattle.syslog_pieces.specs.Timestamp.MonthDate.{month_date}
 use Rattle.syslog_pieces.proofs.PieceLemmas.Class.{AllDeterministic, ◌also◌, ◌past◌, ◌then◌, front_division, no_row}
-use Rattle.syslog_pieces.proofs.PieceLemmas.Class.{no_row_division, rest_det, rest_front, row_of, run_det, some_run_det, unique_division}
+use Rattle.syslog_pieces.proofs.PieceLemmas.Class.{no_row_division, rest_det, rest_front, row_of, run_det}
+use Rattle.syslog_pieces.proofs.PieceLemmas.Class.{some_run_det, unique_division}
 use Rattle.syslog_pieces.proofs.PieceLemmas.Rules.{no_such_meaning, such_det, such_front}
 use Rattle.syslog_pieces.proofs.TextLemmas.Words.{end_told, number_det}
 use Rattle.std.specs.Char.{is_ascii_digit}

@@ -1,5 +1,6 @@
 -- Runs of ASCII characters, by their bytes.
-use Rattle.std.proofs.Common.{◌≡◌, ℕ, ◌<◌, ◌≤◌, Bool, true, false, List, [], ◌∷◌, length, get_or, take, drop, suc, inl, inr, arith, sym, ap, ◌∙◌}
+use Rattle.std.proofs.Common.{◌≡◌, ℕ, ◌<◌, ◌≤◌, Bool, true, false, List, [], ◌∷◌, length, get_or, take, drop, suc}
+use Rattle.std.proofs.Common.{inl, inr, arith, sym, ap, ◌∙◌}
 use Rattle.std.proofs.Common.{length-drop, length-take}
 use Rattle.std.proofs.lemmas.Bool.{cases_Bool}
 use Rattle.std.proofs.lemmas.Bool.Decides.{nat_tests}
@@ -16,8 +17,10 @@ each_by_place h [] f = tt
 each_by_place h (b ∷ bs) f = (f 0 (omega arith), each_by_place h bs (λ k lt. f (suc k) (omega arith)))
 
 -- a run of characters that are ASCII
-pub ends_ascii : (test : ℕ → Bool) → ((c : ℕ) → test c ≡ true → c < 128) → (bs : List ℕ) (n : ℕ) → IsUtf8 bs → n ≤ length bs
-    → ((k : ℕ) → k < n → test (get_or bs k 0) ≡ true) → (n < length bs → test (get_or bs n 0) ≡ false) → EndsRun test bs n
+pub ends_ascii : (test : ℕ → Bool) → ((c : ℕ) → test c ≡ true → c < 128) → (bs : List ℕ) (n : ℕ) → IsUtf8 bs
+    → n ≤ length bs
+    → ((k : ℕ) → k < n → test (get_or bs k 0) ≡ true) → (n < length bs → test (get_or bs n 0) ≡ false)
+    → EndsRun test bs n
 ends_ascii test low bs n u le pass stop =
     let cut = ascii_cut bs n u le (λ k lt. low (get_or bs k 0) (pass k lt)) in
     let each : Each test (take n bs) = each_by_place test (take n bs) (λ k lt.

@@ -14,13 +14,15 @@ use Rattle.syslog_loose.specs.declared.dates.Dates.{Dates}
 use Rattle.syslog_dialects.specs.SentLine.{HasStamp, IsSentStamp, IsStampIn, sent_fields, sent_year}
 use Rattle.syslog_dialects.specs.declared.sent.SentDate.{SentDate}
 
-stamp_in_once : (dates : Dates) (offset : Option ℤ) (f : CivilFields) (s t : OffsetTimestamp) → IsStampIn dates offset f s
+stamp_in_once : (dates : Dates) (offset : Option ℤ) (f : CivilFields) (s t : OffsetTimestamp)
+    → IsStampIn dates offset f s
     → IsStampIn dates offset f t → s ≡ t
 stamp_in_once dates None f s t (dt, e, h) (dt', e', k) =
     let same : dt ≡ dt' = one_datetime f dt dt' e e' in
     in_any_once None (plain_zone dates.zone) dt' s t (rw same at h) k
 stamp_in_once dates (Some seconds) f s t (offset, e, h) (offset', e', k) =
-    let same = e ∙ sym e' in same_timestamp s t (rw (h.instant, k.instant, same) refl) (h.at_offset ∙ same ∙ sym k.at_offset)
+    let same = e ∙ sym e' in same_timestamp s t (rw (h.instant, k.instant, same) refl)
+    (h.at_offset ∙ same ∙ sym k.at_offset)
 
 -- a date has one timestamp
 pub stamp_once : (dates : Dates) (date : Option SentDate) (s t : Option OffsetTimestamp) → HasStamp dates date s

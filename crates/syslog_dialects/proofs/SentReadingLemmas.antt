@@ -94,7 +94,8 @@ module _ (dates : Dates) (dating : Dating) (dialects : Bool) (variant : Variant)
   pub in_dialect : AreAsked dialects variant → (is_read : Bool) (it : SentLine) → IsLeft variant dating text is_read
       → IsDialectLine dates is_read text it → IsSentAnswer dates dating dialects variant text (Some it)
   in_dialect asked is_read it left is =
-      subst (λ (d : Option Dialect). IsReadSent dates dating dialects variant text d (line_value it.line)) (sym is.named)
+      subst (λ (d : Option Dialect). IsReadSent dates dating dialects variant text d (line_value it.line))
+      (sym is.named)
       (asked, (is_read, left, is.sent))
 
   -- the port's line is kept
@@ -112,7 +113,8 @@ module _ (dates : Dates) (dating : Dating) (dialects : Bool) (variant : Variant)
   -- a dialect's line comes before it
   pub dialect_before : (asked : Bool) → IsTrue asked ↔ AreAsked dialects variant → IsTrue asked → (line : Line)
       (it : SentLine) → (IsOrdinary line → ⊥) → MayBegin text → IsDialectLine dates true text it
-      → IsLineOf variant dating text line → IsReadSent dates dating dialects variant text it.dialect (line_value it.line)
+      → IsLineOf variant dating text line → IsReadSent dates dating dialects variant text it.dialect
+      (line_value it.line)
   dialect_before asked is asks line it odd may says of = in_dialect (is.0 asks) true it ((line, of, odd), may) says
 
   -- where the port reads none
@@ -192,8 +194,10 @@ same_elements dates text line it odd says =
 
 -- ---- what is left unparsed
 
-pub dialect_leaves : (dates : Dates) (is_read : Bool) (variant : Variant) (text : Text) (it : SentLine) (unparsed : Text)
-    → IsDialectLine dates is_read text it → IsLeftUnparsed it.line unparsed → LeavesSent it.dialect variant text unparsed
+pub dialect_leaves : (dates : Dates) (is_read : Bool) (variant : Variant) (text : Text) (it : SentLine)
+    (unparsed : Text)
+    → IsDialectLine dates is_read text it → IsLeftUnparsed it.line unparsed
+    → LeavesSent it.dialect variant text unparsed
 dialect_leaves dates is_read variant text it unparsed is left =
     subst (λ (d : Option Dialect). LeavesSent d variant text unparsed) (sym is.named)
     (unparsed_same (list_text it.line.list) unparsed [] left (nothing_leaves (list_text it.line.list) is.no_list))
@@ -207,10 +211,13 @@ port_leaves variant dating text line it unparsed same plain of left =
     (leaves_of variant dating text line unparsed of (subst (λ (l : Line). IsLeftUnparsed l unparsed) same left))
 
 pub found_leaves : (dates : Dates) (variant : Variant) (text : Text) (asked : Bool) (never : Type 0)
-    (result : Option SentLine) → MatchOption result never (λ it. IsTrue asked × MayBegin text × IsDialectLine dates false text it)
-    → IfSome result (λ it. (unparsed : Text) → IsLeftUnparsed it.line unparsed → LeavesSent it.dialect variant text unparsed)
+    (result : Option SentLine) → MatchOption result never (λ it. IsTrue asked × MayBegin text
+    × IsDialectLine dates false text it)
+    → IfSome result (λ it. (unparsed : Text) → IsLeftUnparsed it.line unparsed
+    → LeavesSent it.dialect variant text unparsed)
 found_leaves dates variant text asked never None h = tt
-found_leaves dates variant text asked never (Some it) h = λ unparsed left. dialect_leaves dates false variant text it unparsed h.2 left
+found_leaves dates variant text asked never (Some it) h = λ unparsed left. dialect_leaves dates false variant text it
+    unparsed h.2 left
 
 -- a text leaves one text
 pub leaves_once : (dialect : Option Dialect) (variant : Variant) (text u w : Text) → LeavesSent dialect variant text u

@@ -1,5 +1,6 @@
 -- A text has one front of each class of marks.
-use Rattle.std.proofs.Common.{◌≡◌, inl, inr, ℕ, Bool, true, false, List, [], ◌∷◌, ◌++◌, Some, None, refl, sym, ap, subst, ◌∙◌, arith}
+use Rattle.std.proofs.Common.{◌≡◌, inl, inr, ℕ, Bool, true, false, List, [], ◌∷◌, ◌++◌, Some, None, refl, sym, ap}
+use Rattle.std.proofs.Common.{subst, ◌∙◌, arith}
 use Rattle.std.proofs.lemmas.Bool.Decides.{nat_tests}
 use Rattle.std.specs.Char.{is_not_whitespace}
 use Rattle.std.specs.Prelude.{◌&&◌, codes, nat_le}
@@ -10,12 +11,14 @@ use Rattle.syslog_pieces.proofs.TextLemmas.Words.{host_det}
 use Rattle.syslog_dialects.specs.Named.{◌otherwise◌}
 use Rattle.syslog_dialects.specs.Untagged.{begins, here, host_row, is_level, mark_class, repeated_row, repeats}
 use Rattle.syslog_dialects.specs.declared.untagged.Mark.{Mark}
-use Rattle.syslog_dialects.specs.declared.untagged.Mark.TheVariants.{Cef, Leef, Repeated, PaloAlto, Pair, Json, Idrac, Level}
+use Rattle.syslog_dialects.specs.declared.untagged.Mark.TheVariants.{Cef, Leef, Repeated, PaloAlto, Pair, Json, Idrac}
+use Rattle.syslog_dialects.specs.declared.untagged.Mark.TheVariants.{Level}
 use Rattle.syslog_dialects.specs.declared.untagged.Mark.TheVariants.{Bracket, Topics}
 use Rattle.std.specs.Char.{is_ascii_digit}
 use Rattle.syslog_pieces.specs.Text.{is_blank}
 use Rattle.syslog_pieces.specs.Timestamp.Rfc3339.{pair, year}
-use Rattle.syslog_pieces.proofs.PieceLemmas.Class.{AllDeterministic, ◌also◌, after_det, exactly_det, run_det, some_run_det}
+use Rattle.syslog_pieces.proofs.PieceLemmas.Class.{AllDeterministic, ◌also◌, after_det, exactly_det, run_det}
+use Rattle.syslog_pieces.proofs.PieceLemmas.Class.{some_run_det}
 use Rattle.syslog_pieces.proofs.TimestampLemmas.Rfc3339.{pair_det as two_det, year_det}
 use Rattle.syslog_pieces.specs.Pieces.Class.{IsDeterministic, some_run, texted}
 use Rattle.std.specs.Prelude.{IsTrue}
@@ -24,7 +27,8 @@ use Rattle.syslog_pieces.proofs.PieceLemmas.Rules.{such_det}
 use Rattle.syslog_dialects.proofs.NamedLemmas.{otherwise_det}
 use Rattle.syslog_dialects.specs.Runs.{is_plain_char, is_word_char}
 use Rattle.syslog_dialects.specs.Untagged.{cef_row, leef_row, pair_row, palo_alto_row, repeated_tail, repeats_row}
-use Rattle.syslog_dialects.specs.Untagged.{is_main_topic, later_topic_row, main_topic, number_row, topic_row, topics_row}
+use Rattle.syslog_dialects.specs.Untagged.{is_main_topic, later_topic_row, main_topic, number_row, topic_row}
+use Rattle.syslog_dialects.specs.Untagged.{topics_row}
 
 pub cef_det : AllDeterministic cef_row
 cef_det = exactly_det _ also run_det is_blank also some_run_det is_ascii_digit also exactly_det _ also tt
@@ -39,7 +43,8 @@ repeated_det = exactly_det _ also some_run_det is_ascii_digit also exactly_det _
 pub palo_alto_det : AllDeterministic palo_alto_row
 palo_alto_det =
     let two = two_det 100 (omega arith) in
-    some_run_det is_ascii_digit also exactly_det _ also year_det also after_det (pair 100) two also after_det (pair 100) two
+    some_run_det is_ascii_digit also exactly_det _ also year_det also after_det (pair 100) two also after_det
+    (pair 100) two
     also exactly_det _ also two also after_det (pair 100) two also after_det (pair 100) two also exactly_det _ also tt
 
 pub pair_det : AllDeterministic pair_row
@@ -59,7 +64,8 @@ pub later_topic_det : AllDeterministic later_topic_row
 later_topic_det = row_det topic_row topic_det also main_topic_det also tt
 
 pub topics_det : AllDeterministic topics_row
-topics_det = row_det topic_row topic_det also otherwise_det main_topic_det (row_det later_topic_row later_topic_det) also tt
+topics_det = row_det topic_row topic_det also otherwise_det main_topic_det (row_det later_topic_row later_topic_det)
+    also tt
 
 pub number_row_det : AllDeterministic number_row
 number_row_det = exactly_det _ also some_run_det is_ascii_digit also exactly_det _ also tt
@@ -107,7 +113,8 @@ opens Cef = row_opens (exactly (codes "CEF:")) (run is_blank ∷ some_run is_asc
 opens Leef = row_opens (exactly (codes "LEEF:"))
     (run is_blank ∷ some_run is_ascii_digit ∷ exactly (46 ∷ []) ∷ some_run is_ascii_digit ∷ exactly (124 ∷ []) ∷ [])
     (λ c. begins Leef c ≡ true) (exact 76 (codes "EEF:") (begins Leef) refl)
-opens Repeated = otherwise_opens {C = Row repeated_row} {D = Row repeats_row otherwise here} (λ c. begins Repeated c ≡ true)
+opens Repeated = otherwise_opens {C = Row repeated_row} {D = Row repeats_row otherwise here} (λ c. begins Repeated
+    c ≡ true)
     (first_optional (exactly (codes "last ")) repeated_tail (λ c. begins Repeated c ≡ true)
     (exact 108 (codes "ast ") (begins Repeated) refl)
     (row_opens (exactly (codes "message repeated ")) (some_run is_ascii_digit ∷ exactly (codes " time") ∷ [])
@@ -118,14 +125,17 @@ opens Repeated = otherwise_opens {C = Row repeated_row} {D = Row repeats_row oth
     (λ c. begins Repeated c ≡ true) (exact 45 (codes "-- last message repeated ") (begins Repeated) refl)
     (exact 97 (codes "bove message repeats ") (begins Repeated) refl)))
     (exact 45 (codes "- MARK --") (begins Repeated) refl))
-opens PaloAlto = row_opens (some_run is_ascii_digit) more_of_palo_alto (λ c. begins PaloAlto c ≡ true) (run_starts is_ascii_digit)
-opens Pair = row_opens (some_run is_word_char) (exactly (61 ∷ []) ∷ []) (λ c. begins Pair c ≡ true) (run_starts is_word_char)
+opens PaloAlto = row_opens (some_run is_ascii_digit) more_of_palo_alto (λ c. begins PaloAlto c ≡ true)
+    (run_starts is_ascii_digit)
+opens Pair = row_opens (some_run is_word_char) (exactly (61 ∷ []) ∷ []) (λ c. begins Pair c ≡ true)
+    (run_starts is_word_char)
 opens Json = exact 123 (34 ∷ []) (begins Json) refl
 opens Idrac = exact 83 (codes "everity: ") (begins Idrac) refl
 opens Level = λ p q v ((u, h, e), k). let (c, t, f, g) = run_starts is_not_whitespace p q u h in
     (c, t, f, level_starts c t (subst (λ (x : Text). IsTrue (is_level x)) (e ∙ f) k))
 opens Topics = row_opens (Row topic_row) ((main_topic otherwise Row later_topic_row) ∷ []) (λ c. begins Topics c ≡ true)
-    (row_opens (some_run is_plain_char) (exactly (44 ∷ []) ∷ []) (λ c. begins Topics c ≡ true) (run_starts is_plain_char))
+    (row_opens (some_run is_plain_char) (exactly (44 ∷ []) ∷ []) (λ c. begins Topics c ≡ true)
+    (run_starts is_plain_char))
 opens Bracket = λ p q v h. (91, [], h.1, refl)
 
 -- a text that begins otherwise has none

@@ -1,10 +1,13 @@
 -- A text has one front of each class of a zone.
 use Rattle.std.proofs.Common.{◌≡◌, ℕ, ℤ, Bool, true, false, List, [], ◌∷◌, Option, refl, sym, subst, arith}
-use Rattle.syslog_pieces.specs.Pieces.Class.{Text, Class, Front, NoFront, IsDeterministic, Row, Ends, exactly, optional, some_run}
+use Rattle.syslog_pieces.specs.Pieces.Class.{Text, Class, Front, NoFront, IsDeterministic, Row, Ends, exactly}
+use Rattle.syslog_pieces.specs.Pieces.Class.{optional, some_run}
 use Rattle.syslog_pieces.specs.Text.{is_tag_char, is_blank, colon}
 use Rattle.syslog_pieces.specs.Timestamp.Rfc3339.{sign, seconds_of}
-use Rattle.syslog_pieces.proofs.PieceLemmas.Class.{AllDeterministic, ◌also◌, exactly_det, optional_det, mapped_det, texted_det, row_det}
-use Rattle.syslog_pieces.proofs.PieceLemmas.Class.{some_run_det, run_det, front_of, front_same, Fails, no_row, no_mapped}
+use Rattle.syslog_pieces.proofs.PieceLemmas.Class.{AllDeterministic, ◌also◌, exactly_det, optional_det, mapped_det}
+use Rattle.syslog_pieces.proofs.PieceLemmas.Class.{texted_det, row_det}
+use Rattle.syslog_pieces.proofs.PieceLemmas.Class.{some_run_det, run_det, front_of, front_same, Fails, no_row}
+use Rattle.syslog_pieces.proofs.PieceLemmas.Class.{no_mapped}
 use Rattle.syslog_pieces.proofs.PieceLemmas.Rules.{such_det}
 use Rattle.syslog_pieces.proofs.TimestampLemmas.Rfc3339.{pair_det, numeric_det}
 use Rattle.syslog_dialects.specs.Zone.{bare_word, ended, minutes_row, minutes, offset_row}
@@ -49,7 +52,8 @@ minutes_det : IsDeterministic minutes
 minutes_det = mapped_det (Row minutes_row) ℕ _ (row_det minutes_row minutes_row_det)
 
 pub offset_row_det : AllDeterministic offset_row
-offset_row_det = numeric_det.0 also pair_det 24 (omega arith) also mapped_det (optional minutes) ℕ _ (optional_det minutes minutes_det)
+offset_row_det = numeric_det.0 also pair_det 24 (omega arith) also mapped_det (optional minutes)
+    ℕ _ (optional_det minutes minutes_det)
     also tt
 
 pub seconds_det : IsDeterministic mapped_offset
@@ -88,18 +92,22 @@ are_fit [] = true
 are_fit (w ∷ ws) = (are_ascii w && has_shape w) && are_fit ws
 
 module _ (bs : List ℕ) (u : IsUtf8 bs) where
-  one_shape : (w : List ℕ) → IsTrue (are_ascii w && has_shape w) → true ≡ text_eq (chars w) (chars bs) → IsTrue (has_shape bs)
+  one_shape : (w : List ℕ) → IsTrue (are_ascii w && has_shape w) → true ≡ text_eq (chars w) (chars bs)
+      → IsTrue (has_shape bs)
   one_shape w h e =
       let (ascii, shape) = and_parts (are_ascii w) (has_shape w) h in
-      let is : w ≡ bs = same_chars w bs (IsUtf8-from_ascii w (ascii_told w ascii)) u (same_text (chars w) (chars bs) e) in
+      let is : w ≡ bs = same_chars w bs (IsUtf8-from_ascii w (ascii_told w ascii)) u
+      (same_text (chars w) (chars bs) e) in
       subst (λ (x : List ℕ). IsTrue (has_shape x)) is shape
 
-  among_shape : (ws : List (List ℕ)) → IsTrue (are_fit ws) → is_among (chars bs) (map chars ws) ≡ true → IsTrue (has_shape bs)
+  among_shape : (ws : List (List ℕ)) → IsTrue (are_fit ws) → is_among (chars bs) (map chars ws) ≡ true
+      → IsTrue (has_shape bs)
   unfolding are_fit
   among_shape [] h e = absurd (let f : false ≡ true = e in cc)
   among_shape (w ∷ ws) h e =
       let (fits, more) = and_parts (are_ascii w && has_shape w) (are_fit ws) h in
-      either_told (text_eq (chars w) (chars bs)) (is_among (chars bs) (map chars ws)) e (λ is. one_shape w fits (sym is))
+      either_told (text_eq (chars w) (chars bs)) (is_among (chars bs) (map chars ws))
+      e (λ is. one_shape w fits (sym is))
       (λ later. among_shape ws more later)
 
 names_fit : IsTrue (are_fit zone_words)

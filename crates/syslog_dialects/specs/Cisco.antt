@@ -1,14 +1,15 @@
 -- Lines of Cisco's systems. 35 is `#`, 37 `%`, 42 `*`, 46 `.`.
 --
--- Each ends in `%FACILITY-SEVERITY-MNEMONIC: text` ("System Message Format" in the guides of IOS, NX-OS and ASA). Before
--- it come, each where the system is so configured: a counter, a sequence number, the host, the task (WLC), `*` or `.` for
--- a clock that was never set or has lost its server, the date, and the host (ASA, FTD). NX-OS has the year before the
--- month.
+-- Each ends in `%FACILITY-SEVERITY-MNEMONIC: text` ("System Message Format" in the guides of IOS, NX-OS and ASA).
+-- Before it come, each where the system is so configured: a counter, a sequence number, the host, the task (WLC), `*`
+-- or `.` for a clock that was never set or has lost its server, the date, and the host (ASA, FTD). NX-OS has the year
+-- before the month.
 use Rattle.std.specs.Prelude.{◌≡◌, ◌⊎◌, ◌||◌, ◌&&◌, ℕ, nat_eq, Bool, true, List, [], ◌∷◌, Option, Some, None}
 use Rattle.std.specs.Prelude.{codes}
 use Rattle.std.specs.Option.{is_some}
 use Rattle.std.specs.Char.{is_ascii_digit}
-use Rattle.syslog_pieces.specs.Pieces.Class.{Text, Class, Values, Front, Row, run, some_run, exactly, rest, optional, mapped}
+use Rattle.syslog_pieces.specs.Pieces.Class.{Text, Class, Values, Front, Row, run, some_run, exactly, rest, optional}
+use Rattle.syslog_pieces.specs.Pieces.Class.{mapped}
 use Rattle.syslog_pieces.specs.Pieces.Rules.{◌or◌, such_that}
 use Rattle.syslog_pieces.specs.Text.{is_blank, colon}
 use Rattle.syslog_pieces.specs.Timestamp.Rfc3339.{year}

@@ -6,7 +6,8 @@ use Rattle.syslog_dialects.specs.declared.dialect.Dialect.TheVariants.{PriorityA
 use Rattle.syslog_dialects.specs.declared.dialect.Dialect.TheVariants.{CiscoIos, CiscoNxOs, CiscoAsa, CiscoUndated}
 use Rattle.syslog_dialects.specs.declared.dialect.Dialect.TheVariants.{Container, CiscoIosXr, NetScaler, ProCurve}
 use Rattle.syslog_dialects.specs.declared.dialect.Dialect.TheVariants.{Repeated, Cef, Leef, PaloAlto, KeyValue, Json}
-use Rattle.syslog_dialects.specs.declared.dialect.Dialect.TheVariants.{Idrac, Log4j, Forwarded, SeverityFirst, SpacedName, NoHost, Heroku}
+use Rattle.syslog_dialects.specs.declared.dialect.Dialect.TheVariants.{Idrac, Log4j, Forwarded, SeverityFirst}
+use Rattle.syslog_dialects.specs.declared.dialect.Dialect.TheVariants.{SpacedName, NoHost, Heroku}
 use Rattle.syslog_dialects.specs.declared.dialect.Dialect.TheVariants.{Bracketed, MikroTik, SophosUtm, UnixSeconds}
 use Rattle.syslog_dialects.specs.declared.dialect.Dialect.TheVariants.{Esxi, WatchGuard}
 

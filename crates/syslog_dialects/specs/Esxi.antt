@@ -1,5 +1,5 @@
--- Lines of VMware ESXi from 8.0 on (its files in /var/log, and what a forwarder sends of them): a timestamp, the level with
--- the priority in brackets, and the program. 40 is `(`, 41 `)`.
+-- Lines of VMware ESXi from 8.0 on (its files in /var/log, and what a forwarder sends of them): a timestamp, the
+-- level with the priority in brackets, and the program. 40 is `(`, 41 `)`.
 use Rattle.std.specs.Prelude.{◌≡◌, ◌||◌, Bool, IsTrue, List, [], ◌∷◌, Some, None, codes}
 use Rattle.std.specs.Char.{is_ascii_digit}
 use Rattle.syslog_pieces.specs.Pieces.Class.{Text, Class, Values, Row, run, some_run, exactly, rest, texted}
@@ -30,7 +30,8 @@ abbrev pub mark_row : List Class
 mark_row = level ∷ exactly (40 ∷ []) ∷ some_run is_ascii_digit ∷ exactly (41 ∷ []) ∷ []
 
 abbrev pub esxi_row : List Class
-esxi_row = run is_blank ∷ iso_date ∷ some_run is_blank ∷ Row mark_row ∷ some_run is_blank ∷ program ∷ run is_blank ∷ rest ∷ []
+esxi_row = run is_blank ∷ iso_date ∷ some_run is_blank ∷ Row mark_row ∷ some_run is_blank ∷ program ∷ run
+    is_blank ∷ rest ∷ []
 
 abbrev pub esxi_sent : Values esxi_row → SentValue
 esxi_sent (_, (date, (_, (_, (_, (p, (_, (msg, _)))))))) = loose (Some date) None (Some p.name) p.process msg

@@ -2,7 +2,8 @@
 -- message with its code. ("System Monitoring", the format of system log messages.) 91 is `[`, 93 `]`.
 use Rattle.std.specs.Prelude.{◌≡◌, ◌⊎◌, List, [], ◌∷◌, Option, Some, codes}
 use Rattle.std.specs.Char.{is_ascii_digit}
-use Rattle.syslog_pieces.specs.Pieces.Class.{Text, Class, Values, Row, run, some_run, exactly, rest, optional, mapped, texted}
+use Rattle.syslog_pieces.specs.Pieces.Class.{Text, Class, Values, Row, run, some_run, exactly, rest, optional, mapped}
+use Rattle.syslog_pieces.specs.Pieces.Class.{texted}
 use Rattle.syslog_pieces.specs.Pieces.Rules.{such_that}
 use Rattle.syslog_pieces.specs.Text.{is_blank, colon}
 use Rattle.syslog_pieces.specs.Text.CharClass.{is_label_char}

@@ -52,7 +52,8 @@ marked_tail dialect m = record { dialect = dialect; after = marked m; names = ma
 abbrev pub message_tails : List Tail
 message_tails =
     marked_tail dialect.Repeated mark.Repeated ∷ marked_tail dialect.Cef mark.Cef ∷ marked_tail dialect.Leef mark.Leef
-    ∷ marked_tail dialect.PaloAlto mark.PaloAlto ∷ marked_tail dialect.KeyValue mark.Pair ∷ marked_tail dialect.Json mark.Json
+    ∷ marked_tail dialect.PaloAlto mark.PaloAlto ∷ marked_tail dialect.KeyValue mark.Pair ∷ marked_tail dialect.Json
+    mark.Json
     ∷ marked_tail dialect.Idrac mark.Idrac ∷ marked_tail dialect.Log4j mark.Level
     ∷ marked_tail dialect.MikroTik mark.Topics ∷ marked_tail dialect.Bracketed mark.Bracket ∷ []
 

@@ -15,7 +15,8 @@ logread_row = run is_blank ∷ weekday ∷ some_run is_blank ∷ any_date ∷ so
     ∷ some_run is_blank ∷ program ∷ run is_blank ∷ rest ∷ []
 
 abbrev pub logread_sent : Values logread_row → SentValue
-logread_sent (_, (_, (_, (date, (_, (_, (_, (p, (_, (msg, _)))))))))) = loose (Some date) None (Some p.name) p.process msg
+logread_sent (_, (_, (_, (date, (_, (_, (_, (p, (_, (msg, _)))))))))) = loose (Some date) None (Some p.name) p.process
+    msg
 
 abbrev pub logread_form : Form
 logread_form = record { dialect = SeverityFirst; row = logread_row; Means = λ v sent. sent ≡ logread_sent v }

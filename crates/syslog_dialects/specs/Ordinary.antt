@@ -1,6 +1,8 @@
--- The lines of the port that keep their reading, by their fields alone: this project's own choice. 32 is a space, 58 `:`,
+-- The lines of the port that keep their reading, by their fields alone: this project's own choice. 32 is a space, 58
+-- `:`,
 -- 40 `(`, 91 `[`, 123 `{`.
-use Rattle.std.specs.Prelude.{◌≡◌, ◌≢◌, ◌⊎◌, ◌∷◌, ◌&&◌, ◌||◌, ℕ, nat_eq, Bool, true, false, List, [], Some, IsSome, codes, nat_lt, length, slice_index}
+use Rattle.std.specs.Prelude.{◌≡◌, ◌≢◌, ◌⊎◌, ◌∷◌, ◌&&◌, ◌||◌, ℕ, nat_eq, Bool, true, false, List, [], Some, IsSome}
+use Rattle.std.specs.Prelude.{codes, nat_lt, length, slice_index}
 use Rattle.std.specs.Char.{is_ascii_digit}
 use Rattle.syslog_pieces.specs.Pieces.Class.{Text, Class, Front, Row, exactly}
 use Rattle.syslog_pieces.specs.Pieces.View.{seen, shown, text_eq}

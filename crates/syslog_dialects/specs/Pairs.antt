@@ -1,8 +1,10 @@
 -- Lines that are pairs of a key and a value, time and host among them. 34 is `"`, 45 `-`, 58 `:`, 61 `=`.
 use Rattle.std.proofs.Common.{inl, inr}
-use Rattle.std.specs.Prelude.{◌≡◌, ◌⊎◌, ◌||◌, ℤ, Bool, true, false, if◌then◌else◌, List, [], ◌∷◌, Option, Some, None, MatchOption, codes, min, unwrap_or}
+use Rattle.std.specs.Prelude.{◌≡◌, ◌⊎◌, ◌||◌, ℤ, Bool, true, false, if◌then◌else◌, List, [], ◌∷◌, Option, Some, None}
+use Rattle.std.specs.Prelude.{MatchOption, codes, min, unwrap_or}
 use Rattle.std.specs.Char.{is_not_whitespace}
-use Rattle.syslog_pieces.specs.Pieces.Class.{Text, Class, Values, Front, Division, NoDivision, Row, run, some_run, exactly, after, mapped, optional, texted}
+use Rattle.syslog_pieces.specs.Pieces.Class.{Text, Class, Values, Front, Division, NoDivision, Row, run, some_run}
+use Rattle.syslog_pieces.specs.Pieces.Class.{exactly, after, mapped, optional, texted}
 use Rattle.syslog_pieces.specs.Pieces.Lists.{many}
 use Rattle.syslog_pieces.specs.Pieces.View.{text_eq}
 use Rattle.syslog_pieces.specs.Text.{is_blank}
@@ -129,7 +131,8 @@ date_at (y, (m, (d, _))) (h, (mi, (s, (f, _)))) = record {
 
 -- the date and the time, each as a value of its own
 abbrev pub IsApart : Text → Text → SentDate → Type 0
-IsApart d t date = (day : Values day_row) × (clock : Values clock_row) × Division day_row d day × Division clock_row t clock
+IsApart d t date = (day : Values day_row) × (clock : Values clock_row) × Division day_row d day
+    × Division clock_row t clock
     × (date ≡ date_at day clock)
 
 -- the two in one value, with the zone or without it

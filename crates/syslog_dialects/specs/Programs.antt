@@ -2,14 +2,16 @@
 -- a space, 40 `(`, 41 `)`, 46 `.`.
 use Rattle.std.specs.Prelude.{◌⊎◌, Bool, IsTrue, ◌||◌, List, [], ◌∷◌, Option, Some, None, codes}
 use Rattle.std.specs.Char.{is_not_whitespace}
-use Rattle.syslog_pieces.specs.Pieces.Class.{Text, Class, Values, Row, run, some_run, exactly, rest, mapped, texted, spaced}
+use Rattle.syslog_pieces.specs.Pieces.Class.{Text, Class, Values, Row, run, some_run, exactly, rest, mapped, texted}
+use Rattle.syslog_pieces.specs.Pieces.Class.{spaced}
 use Rattle.syslog_pieces.specs.Pieces.Lists.{many}
 use Rattle.syslog_pieces.specs.Pieces.Rules.{such_that}
 use Rattle.syslog_pieces.specs.Pieces.View.{text_eq}
 use Rattle.syslog_pieces.specs.Text.{colon, host, is_blank}
 use Rattle.syslog_pieces.specs.Text.{is_tag_char}
 use Rattle.syslog_dialects.specs.Date.{iso_date}
-use Rattle.syslog_dialects.specs.Named.{◌otherwise◌, NamedTexts, BeginsWith, hosted, is_letter, process_id, program, tagged}
+use Rattle.syslog_dialects.specs.Named.{◌otherwise◌, NamedTexts, BeginsWith, hosted, is_letter, process_id, program}
+use Rattle.syslog_dialects.specs.Named.{tagged}
 use Rattle.syslog_dialects.specs.Runs.{is_plain_char, is_word_char}
 use Rattle.std.proofs.Common.{inl, inr}
 
@@ -76,7 +78,8 @@ severity_of (h, (_, (_, (_, (p, (_, (m, _))))))) = tagged h p m
 abbrev pub severity_first : Class
 severity_first = mapped (Row severity_row) NamedTexts severity_of
 
--- ---- the serial number and the time before the program: `fb1 80DA02F9E3C1B (2026-03-02T05:33:04) https-proxy[2345]: text`
+-- ---- the serial number and the time before the program: `fb1 80DA02F9E3C1B (2026-03-02T05:33:04) https-proxy[2345]:
+-- text`
 
 -- WatchGuard's Fireboxes ("Configure Syslog Server Settings": the serial number and the time stamp are sent)
 abbrev pub serial_row : List Class

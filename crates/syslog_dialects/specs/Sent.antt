@@ -38,7 +38,8 @@ sent_value s = record {
   msg = shown s.msg;
 }
 
--- A form of lines, from after the priority on: its dialect, its pieces, the last of which is the rest, and what they mean.
+-- A form of lines, from after the priority on: its dialect, its pieces, the last of which is the rest, and what they
+-- mean.
 pub record Form : Type 1 where
   pub dialect : Dialect
   pub row : List Class

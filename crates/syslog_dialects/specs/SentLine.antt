@@ -40,7 +40,8 @@ sent_fields dates sent = record {
 -- the timestamp of the fields on a clock at the offset that is shown, or else in the zone of the dates
 abbrev pub IsStampIn : Dates → Option ℤ → CivilFields → OffsetTimestamp → Type 0
 IsStampIn dates None fields s = IsStampOfFields None (plain_zone dates.zone) fields s
-IsStampIn dates (Some seconds) fields s = (offset : Offset) × (offset.seconds ≡ seconds) × IsStampOfClock fields offset s
+IsStampIn dates (Some seconds) fields s = (offset : Offset) × (offset.seconds ≡ seconds)
+    × IsStampOfClock fields offset s
 
 -- there is such a date, and this is its timestamp
 abbrev pub IsSentStamp : Dates → SentDate → OffsetTimestamp → Type 0

@@ -1,5 +1,6 @@
 -- How a text is read as its sender meant it: in a dialect, or as the port reads it.
-use Rattle.std.specs.Prelude.{◌≡◌, ◌||◌, ◌&&◌, ℕ, Bool, true, false, nat_eq, nat_le, IsTrue, [], ◌∷◌, Option, Some, None}
+use Rattle.std.specs.Prelude.{◌≡◌, ◌||◌, ◌&&◌, ℕ, Bool, true, false, nat_eq, nat_le, IsTrue, [], ◌∷◌, Option, Some}
+use Rattle.std.specs.Prelude.{None}
 use Rattle.std.specs.Prelude.{MatchOption, is_some}
 use Rattle.std.specs.Char.{is_ascii_digit}
 use Rattle.syslog_pieces.specs.Pieces.Class.{Text}
@@ -40,7 +41,8 @@ is_mark c = nat_eq c 37 || (nat_eq c 42 || (nat_eq c 46 || (nat_eq c 58 || nat_e
 
 -- a mark, a digit, `<`, a capital letter, `d`, `i` or `t`
 abbrev pub begins : ℕ → Bool
-begins c = (is_mark c || (is_ascii_digit c || nat_eq c 60)) || (is_capital c || (nat_eq c 100 || (nat_eq c 105 || nat_eq c 116)))
+begins c = (is_mark c || (is_ascii_digit c || nat_eq c 60)) || (is_capital
+    c || (nat_eq c 100 || (nat_eq c 105 || nat_eq c 116)))
 
 -- white space or a digit
 abbrev pub is_gap_or_digit : ℕ → Bool
@@ -53,8 +55,8 @@ follows_digit d e =
     ((is_ascii_digit d && (is_ascii_digit e || (nat_eq e 47 || nat_eq e 58))) || (nat_le d 32 && is_gap_or_digit e))
     || ((nat_eq d 58 && nat_le e 32) || (nat_eq d 47 && (is_ascii_digit e || is_capital e)))
 
--- after a mark: white space and more of it, a digit, a capital letter or a mark; a digit and another, `.` or `:`; a capital
--- letter and a letter
+-- after a mark: white space and more of it, a digit, a capital letter or a mark; a digit and another, `.` or `:`; a
+-- capital letter and a letter
 abbrev pub follows_mark : ℕ → ℕ → Bool
 follows_mark d e =
     (nat_le d 32 && (is_gap_or_digit e || (is_capital e || is_mark e)))

@@ -12,7 +12,8 @@ use Rattle.syslog_dialects.specs.declared.sent.SentDate.{SentDate}
 -- year, month and day with colons, a hyphen, and the clock
 abbrev pub colon_row : List Class
 colon_row =
-    year ∷ after 58 (pair 100) ∷ after 58 (pair 100) ∷ after 45 (pair 100) ∷ after 58 (pair 100) ∷ after 58 (pair 100) ∷ []
+    year ∷ after 58 (pair 100) ∷ after 58 (pair 100) ∷ after 45 (pair 100) ∷ after 58 (pair 100) ∷ after 58
+    (pair 100) ∷ []
 
 abbrev pub colon_of : Values colon_row → SentDate
 colon_of (y, (m, (d, (h, (mi, (s, _)))))) = record {

@@ -12,7 +12,8 @@ use Rattle.syslog_dialects.specs.Date.{unless}
 use Rattle.syslog_dialects.specs.Named.{◌otherwise◌, NamedTexts, beginning, hosted, untagged}
 use Rattle.syslog_dialects.specs.Runs.{is_plain_char, is_word_char}
 use Rattle.syslog_dialects.specs.declared.untagged.Mark.{Mark}
-use Rattle.syslog_dialects.specs.declared.untagged.Mark.TheVariants.{Cef, Leef, Repeated, PaloAlto, Pair, Json, Idrac, Level}
+use Rattle.syslog_dialects.specs.declared.untagged.Mark.TheVariants.{Cef, Leef, Repeated, PaloAlto, Pair, Json, Idrac}
+use Rattle.syslog_dialects.specs.declared.untagged.Mark.TheVariants.{Level}
 use Rattle.syslog_dialects.specs.declared.untagged.Mark.TheVariants.{Bracket, Topics}
 
 abbrev pub some_digits : Class

@@ -3,7 +3,8 @@
 -- The names are the alphabetic abbreviations that the IANA time zone database (2024b) has for a zone today, and `Z`.
 -- UTC, GMT and Z are offset 0. The others are not: IST is the time of India, of Israel and of Ireland.
 use Rattle.std.proofs.Common.{inl, inr}
-use Rattle.std.specs.Prelude.{◌≡◌, ◌⊎◌, ◌||◌, ℕ, ℤ, pos, Bool, true, false, if◌then◌else◌, List, [], ◌∷◌, Option, Some, None}
+use Rattle.std.specs.Prelude.{◌≡◌, ◌⊎◌, ◌||◌, ℕ, ℤ, pos, Bool, true, false, if◌then◌else◌, List, [], ◌∷◌, Option}
+use Rattle.std.specs.Prelude.{Some, None}
 use Rattle.std.specs.Prelude.{◌&&◌, codes, length, nat_le, nat_lt, slice_index, unwrap_or, map, chars}
 use Rattle.syslog_pieces.specs.Pieces.Class.{Text, Class, Row, Ends, run, some_run, exactly, optional, mapped, texted}
 use Rattle.syslog_pieces.specs.Pieces.Rules.{such_that}
@@ -71,7 +72,8 @@ zone_names = map chars zone_words
 
 -- at most four bytes, of which the first is a capital letter, as each of the names
 abbrev pub has_shape : List ℕ → Bool
-has_shape t = nat_lt 0 (length t) && (nat_le (length t) 4 && (nat_le 65 (slice_index t 0) && nat_le (slice_index t 0) 90))
+has_shape t = nat_lt 0 (length t) && (nat_le (length t)
+    4 && (nat_le 65 (slice_index t 0) && nat_le (slice_index t 0) 90))
 
 abbrev pub IsZoneName : Text → Type 0
 IsZoneName t = is_among t zone_names ≡ true

@@ -1,5 +1,5 @@
-//! How a text of a dialect may begin. Few other texts are looked at further than at three characters, so that a line that
-//! is refused costs little more than before there were dialects.
+//! How a text of a dialect may begin. Few other texts are looked at further than at three characters, so that a line
+//! that is refused costs little more than before there were dialects.
 ghost use Rattle.std.specs.Prelude.{◌≡◌, ◌↔◌, IsTrue, chars};
 ghost use Rattle.syslog_dialects.specs.SentReading as spec;
 

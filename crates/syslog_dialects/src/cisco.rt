@@ -2,10 +2,12 @@
 //!
 //! **Rule.** The app name is `%FACILITY-SEVERITY-MNEMONIC`, the message what follows its colon. Counters, sequence
 //! numbers, tasks and the mark of a clock that is not right are left out. The host is the name before the date, or else
-//! that after it; a line that has neither has no host. (Cisco, "System Message Format": IOS System Messages Guide; NX-OS
+//! that after it; a line that has neither has no host. (Cisco, "System Message Format": IOS System Messages Guide;
+//! NX-OS
 //! System Messages Reference; ASA Syslog Messages.)
 //!
-//! `<189>29: *Mar  1 18:48:50.483: %SYS-5-CONFIG_I: text`, `<187>4211: core-sw1: Mar  1 18:48:50 CET: %LINK-3-UPDOWN: text`,
+//! `<189>29: *Mar  1 18:48:50.483: %SYS-5-CONFIG_I: text`, `<187>4211: core-sw1: Mar  1 18:48:50 CET: %LINK-3-UPDOWN:
+//! text`,
 //! `<189>: 2026 Mar  1 18:48:50 CET: %ETHPORT-5-IF_DOWN: text`, `<166>Mar 01 2026 18:48:50 asa1 : %ASA-6-302013: text`.
 ghost use Rattle.std.specs.Prelude.{◌≡◌, ◌++◌, ◌∷◌, [], chars, IsTrue, MatchBool, MatchOption, Option, Some, ℕ};
 ghost use Rattle.std.specs.Char.{is_ascii_digit};
@@ -342,8 +344,8 @@ fn are_one_end(a: &str, b: &str) -> bool
     a.len() == b.len()
 }
 
-// What a line shows that begins with this date, after blanks or none. One of RFC 3339 is read again only where a name or
-// a counter comes before it. Before a month date comes neither.
+// What a line shows that begins with this date, after blanks or none. One of RFC 3339 is read again only where a name
+// or a counter comes before it. Before a month date comes neither.
 fn shown_led<'a>(text: &'a str, led: Led<'a>) -> Option<Cisco<'a>>
     ensures { IsLed (chars text.entry.now) led.entry
         → MatchOption result (NoFront (Row spec.cisco_row) (chars text.entry.now))

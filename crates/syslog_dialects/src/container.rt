@@ -1,7 +1,9 @@
 //! Container log files in the format of Kubernetes (CRI): `2026-03-02T06:33:04.123456789Z stdout F text`.
 //!
-//! **Rule.** The stream and the mark of a full or a partial line name no host and no program, so that they stay before the
-//! message. (Kubernetes, "CRI logging": a timestamp of RFC 3339, `stdout` or `stderr`, `F` or `P`, each before a space.)
+//! **Rule.** The stream and the mark of a full or a partial line name no host and no program, so that they stay
+//! before the
+//! message. (Kubernetes, "CRI logging": a timestamp of RFC 3339, `stdout` or `stderr`, `F` or `P`, each before a
+//! space.)
 ghost use Rattle.std.specs.Prelude.{◌≡◌, ◌∷◌, [], chars, true, MatchBool};
 ghost use Rattle.syslog_pieces.specs.Pieces.Class.{Front, Row, Text, exactly, run};
 ghost use Rattle.syslog_pieces.specs.Pieces.Rules.{such_that};

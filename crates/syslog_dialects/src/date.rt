@@ -2,8 +2,8 @@
 //!
 //! **Rule.** A month date may have a fraction after the seconds (`.123`, `,123`, or `:123` as H3C writes), a zone
 //! (`zone`) and a year. A date of RFC 3339 may have a space for its `T`, a comma for its dot, months and days of one
-//! digit, an offset without its colon or its minutes, the name of a zone, or no zone at all. Second 60 counts as 59 there,
-//! as the port has it.
+//! digit, an offset without its colon or its minutes, the name of a zone, or no zone at all. Second 60 counts as 59
+//! there, as the port has it.
 ghost use Rattle.std.specs.Prelude.{◌≡◌, ◌<◌, chars, ℕ, Option, false, MatchBool, option_map};
 ghost use Rattle.syslog_pieces.specs.Pieces.Class.{Front, Row, after, optional};
 ghost use Rattle.syslog_pieces.specs.Pieces.View.{Reads, Recognises, Skips, shown};

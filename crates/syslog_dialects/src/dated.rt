@@ -2,9 +2,11 @@
 //!
 //! | Sender | Line |
 //! |---|---|
-//! | Junos, Huawei, `journalctl -o short-precise` | `Mar  2 06:33:04.123 mx1 rpd[123]: text`, `Mar  2 2026 06:33:04+08:00 h ..` |
+//! | Junos, Huawei, `journalctl -o short-precise` | `Mar  2 06:33:04.123 mx1 rpd[123]: text`, `Mar  2 2026
+//! 06:33:04+08:00 h ..` |
 //! | H3C, ArubaOS | `Mar  2 06:33:04 2026 h app: text` |
-//! | `journalctl -o short-iso`, Huawei, log4j | `2026-03-02T06:33:04+0100 h app[1]: text`, `2026-03-02 06:33:04,123 h ..` |
+//! | `journalctl -o short-iso`, Huawei, log4j | `2026-03-02T06:33:04+0100 h app[1]: text`, `2026-03-02 06:33:04,123 h
+//! ..` |
 //! | `journalctl -o short-full` | `Mon 2026-03-02 06:33:04 CET h app[1]: text` |
 //!
 //! What follows the date is read as the port reads it.

@@ -1,6 +1,7 @@
 //! Lines of VMware ESXi from 8.0 on: `2026-03-02T06:33:04.123Z In(182) vmkernel: cpu3:2097)text`.
 //!
-//! **Rule.** The level and the priority in brackets name no host: the program follows them. (VMware, "ESXi Log Files": from
+//! **Rule.** The level and the priority in brackets name no host: the program follows them. (VMware, "ESXi Log
+//! Files": from
 //! 8.0 on a line has the level and the priority after its timestamp.)
 ghost use Rattle.std.specs.Prelude.{◌≡◌, ◌∷◌, [], chars};
 ghost use Rattle.std.specs.Char.{is_ascii_digit};

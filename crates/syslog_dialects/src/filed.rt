@@ -1,4 +1,5 @@
-//! Lines of Cisco's systems as a collector files them: `Mar  2 06:33:04 10.1.1.1 45: Mar  2 06:33:03: %SEC-6-IPACCESSLOGP: text`.
+//! Lines of Cisco's systems as a collector files them: `Mar  2 06:33:04 10.1.1.1 45: Mar  2 06:33:03:
+//! %SEC-6-IPACCESSLOGP: text`.
 //!
 //! **Rule.** The date of the message is the device's own, and the host what the device calls itself, or else what the
 //! collector calls it (rsyslog and syslog-ng write their date and the sender before the message as it came).

@@ -1,6 +1,7 @@
 //! Lines of Cisco's IOS-XR: `2831: RP/0/RSP0/CPU0:Mar  2 06:33:04.123 UTC: config[65710]: %MGBL-SYS-5-CONFIG_I : text`.
 //!
-//! **Rule.** The process is the program, and the message begins with its code. The node is no host; a name before it is.
+//! **Rule.** The process is the program, and the message begins with its code. The node is no host; a name before it
+//! is.
 ghost use Rattle.std.specs.Prelude.{◌≡◌, ◌∷◌, [], chars, MatchBool, MatchOption};
 ghost use Rattle.std.specs.Char.{is_ascii_digit};
 ghost use Rattle.syslog_pieces.specs.Pieces.Class.{Front, NoFront, Row, exactly, optional, some_run, texted};

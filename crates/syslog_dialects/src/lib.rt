@@ -1,9 +1,9 @@
-//! Lines of syslog as their senders meant them: the forms in which switches, firewalls, daemons and journals write, each
-//! as a row of pieces and what they say.
+//! Lines of syslog as their senders meant them: the forms in which switches, firewalls, daemons and journals write,
+//! each as a row of pieces and what they say.
 //!
 //! A line that the port reads rightly keeps its reading (`ordinary`). Any other text is of the first dialect whose row
-//! divides it, and otherwise as the port reads it. The line is the same `Line`, so whatever is made of a line is made of
-//! a dialect's too.
+//! divides it, and otherwise as the port reads it. The line is the same `Line`, so whatever is made of a line is made
+//! of a dialect's too.
 #![tactic(auto)]
 
 mod beginning;

@@ -1,8 +1,8 @@
 //! The lines of the port that keep their reading.
 //!
 //! **Rule.** A line of RFC 5424 is read as the port reads it, and so is one that has a date, a host and a tag before a
-//! colon or a process id, as RFC 3164 has them (section 5.4), or a strict element. So no dialect is tried for most lines,
-//! and none can change them.
+//! colon or a process id, as RFC 3164 has them (section 5.4), or a strict element. So no dialect is tried for most
+//! lines, and none can change them.
 ghost use Rattle.std.specs.Prelude.{◌≡◌, None, MatchBool, chars};
 ghost use Rattle.syslog_pieces.specs.Pieces.Class.{Row, exactly};
 ghost use Rattle.syslog_pieces.specs.Pieces.View.{Skips, seen, shown};

@@ -1,9 +1,12 @@
 //! Lines that are pairs of a key and a value, time and host among them: the whole text is the message.
 //!
-//! **Rule.** FortiGate (FortiOS Log Message Reference) and FortiMail have `date=2026-03-02 time=06:33:04`, FortiGate also an
-//! offset, `tz="+0100"`. Sophos (SFOS syslog guide) has date and time in the same way, and SonicWall (SonicOS Log Events
-//! Reference) both in `time="2026-03-02 06:33:04"`, with ` UTC` where it is so configured. SFOS from 18 on has both and the
-//! offset in `timestamp="2026-03-02T06:33:04+0100"`. The first pair of a key counts. A zone that is a name is passed over.
+//! **Rule.** FortiGate (FortiOS Log Message Reference) and FortiMail have `date=2026-03-02 time=06:33:04`, FortiGate
+//! also an
+//! offset, `tz="+0100"`. Sophos (SFOS syslog guide) has date and time in the same way, and SonicWall (SonicOS Log
+//! Events
+//! Reference) both in `time="2026-03-02 06:33:04"`, with ` UTC` where it is so configured. SFOS from 18 on has both
+//! and the offset in `timestamp="2026-03-02T06:33:04+0100"`. The first pair of a key counts. A zone that is a name is
+//! passed over.
 ghost use Rattle.std.specs.Prelude.{◌≡◌, ◌<◌, ◌∷◌, [], IfSome, IsUtf8, List, MatchOption, Some, chars};
 ghost use Rattle.syslog_pieces.specs.Pieces.Class.{Division, Front, NoDivision, Row, Text, exactly};
 ghost use Rattle.syslog_pieces.specs.Pieces.Lists.{many};
@@ -121,7 +124,8 @@ fn or_value<'a>(noted: Option<&'a str>, passes: bool, value: &'a str) -> Option<
 
 // The notes, with one more pair.
 fn noted_more<'a>(notes: Notes<'a>, pair: Pair<'a>) -> Notes<'a>
-    ensures { notes_value result ≡ spec.noted_more (notes_value notes.entry) (shown pair.entry.key) (shown pair.entry.value) }
+    ensures { notes_value result
+        ≡ spec.noted_more (notes_value notes.entry) (shown pair.entry.key) (shown pair.entry.value) }
 {
     Notes {
         date: or_value(notes.date, is_word(pair.key, "date"), pair.value),
@@ -232,7 +236,8 @@ fn apart(date: &str, time: &str) -> Option<SentDate>
 
 // The date that one value shows.
 fn together(text: &str) -> Option<SentDate>
-    ensures { MatchOption result ((d : Date) → spec.IsTogether (chars text.now) d → ⊥) (spec.IsTogether (chars text.now)) }
+    ensures { MatchOption result ((d : Date) → spec.IsTogether (chars text.now) d
+        → ⊥) (spec.IsTogether (chars text.now)) }
 {
     let (date, rest) = iso_date(text)?;
     match first(rest) {
@@ -253,7 +258,8 @@ fn timed(time: &str, date: Option<&str>) -> Option<SentDate>
 }
 
 fn stamped(stamp: Option<&str>) -> Option<SentDate>
-    ensures { MatchOption result ((d : Date) → spec.IsStamped (seen stamp.entry) d → ⊥) (spec.IsStamped (seen stamp.entry)) }
+    ensures { MatchOption result ((d : Date) → spec.IsStamped (seen stamp.entry) d
+        → ⊥) (spec.IsStamped (seen stamp.entry)) }
 {
     match stamp {
         Some(stamp) => together(stamp),

@@ -1,4 +1,5 @@
-//! A priority, and a text of no other form: a program's line without a date (Python's SysLogHandler with an ident, older
+//! A priority, and a text of no other form: a program's line without a date (Python's SysLogHandler with an ident,
+//! older
 //! OpenWrt), or a message alone, as MikroTik's routers write (RouterOS, Log: `remote` without `bsd-syslog`).
 //!
 //! A text that begins with a month date or with a version is of another form that failed: it stays refused.

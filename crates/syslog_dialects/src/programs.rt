@@ -165,7 +165,8 @@ fn spaced_word(text: &str) -> Option<&str>
 
 // The text after more words, each after a space.
 fn more_words(text: &str) -> &str
-    ensures { (vs : List (Unit {0})) × Front (many (spaced (some_run is_word_char))) (chars text.now) (shown result) vs }
+    ensures { (vs : List (Unit {0}))
+        × Front (many (spaced (some_run is_word_char))) (chars text.now) (shown result) vs }
 {
     let mut rest = text;
     'words: while let Some(more) = spaced_word(rest) {

@@ -6,8 +6,8 @@ use crate::sent::SentDate;
 use std::alloc::Global;
 use std::process::Abort;
 
-// A text from after the priority on, and after `¦` its dialect, date, host, app name, process and message. A date is year,
-// month, day, hour, minute, second, nanosecond and offset.
+// A text from after the priority on, and after `¦` its dialect, date, host, app name, process and message. A date is
+// year, month, day, hour, minute, second, nanosecond and offset.
 const ROWS: [&str; 63] = [
     "29: *Mar  1 18:48:50.483: %SYS-5-CONFIG_I: Configured from console¦cisco-ios¦- 3 1 18 48 50 483000000 -¦-¦%SYS-5-CONFIG_I¦-¦Configured from console",
     "4211: core-sw1: Mar  1 18:48:50.483 CET: %LINK-3-UPDOWN: changed state¦cisco-ios¦- 3 1 18 48 50 483000000 -¦core-sw1¦%LINK-3-UPDOWN¦-¦changed state",

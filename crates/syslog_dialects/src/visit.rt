@@ -182,8 +182,8 @@ pub fn line_instead<'a>(
 ///
 /// Where `dialects` is true and the variant is `Either`, the line of a dialect that the text is in comes before the
 /// port's, unless that is ordinary. Otherwise the line is the port's. A dialect's line has no elements, and instead of
-/// one that has some there is none: so what a visitor was given of the elements holds of this line. Nothing of a dialect's
-/// line is left unparsed as structured data.
+/// one that has some there is none: so what a visitor was given of the elements holds of this line. Nothing of a
+/// dialect's line is left unparsed as structured data.
 #[inline(always)]
 pub fn sent_line<'a>(
     line: &Line<'a>,
@@ -210,7 +210,8 @@ pub fn sent_line<'a>(
     }
 }
 
-/// Returns the line of the text as its sender meant it, where the port reads none, and none where the text is no message.
+/// Returns the line of the text as its sender meant it, where the port reads none, and none where the text is no
+/// message.
 /// It takes no memory, and the line has no elements.
 #[inline(always)]
 pub fn unread_line<'a>(

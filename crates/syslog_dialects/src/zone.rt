@@ -1,6 +1,7 @@
 //! The zone that a sender shows after the time: an offset in digits, as `+01:00`, `+0100` or `+01`, or a name.
 //!
-//! **Rule.** `UTC`, `GMT` and `Z` are offset 0. Any other name of the IANA time zone database is passed over, since most
+//! **Rule.** `UTC`, `GMT` and `Z` are offset 0. Any other name of the IANA time zone database is passed over, since
+//! most
 //! names mean several zones: the date then is in the zone of dates that show none.
 ghost use Rattle.std.specs.Prelude.{◌≡◌, ◌<◌, ◌∷◌, [], chars, ℕ, List, Option, true, MatchBool, map, unwrap_or};
 ghost use Rattle.syslog_pieces.specs.Pieces.Class.{Ends, Front};

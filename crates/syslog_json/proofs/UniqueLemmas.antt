@@ -60,7 +60,8 @@ only_refused filter line value is = (is, λ other also. other_refused filter lin
 -- what is made of the port's line, as it is returned itself
 abbrev pub IsMade : TimeZone → Text → ObjectWriter → Option Line → ObjectWriter → Option ℤ → Type 0
 IsMade zone text old found new year =
-    (v : Itself) × (w : Itself) × Made (λ (before : Itself) (line made : Line) (after : Itself). (made ≡ line) × KnowsForm line)
+    (v : Itself) × (w : Itself) × Made (λ (before : Itself) (line made : Line) (after : Itself). (made ≡ line)
+    × KnowsForm line)
     (λ (first it : ObjectWriter) es. HasWritten it es) Either (dating_in zone year) text v old found w new
 
 line_made : (zone : TimeZone) (text : Text) (old new : ObjectWriter) (made : Line) (year : Option ℤ)
@@ -69,27 +70,34 @@ line_made zone text old new made year (v, w, (line, of, same, given)) =
     subst (IsLineOf Either (dating_in zone year) text) (sym same.0) of
 
 module _ {post : IncompleteDate → ℤ → Type 0} (filter : Objects) (text : Text) (old new : ObjectWriter) where
-  pub made_form : (made : Line) → InYear post Either text (IsMade (plain_zone filter.dates.zone) text old (Some made) new) → KnowsForm made
+  pub made_form : (made : Line) → InYear post Either text
+      (IsMade (plain_zone filter.dates.zone) text old (Some made) new) → KnowsForm made
   made_form made h = let (v, w, (line, of, same, given)) = h.holds h.answered (λ date asks. refl) in
       subst KnowsForm (sym same.0) same.1
 
   -- the line that was made of the port's was returned, and the writer was given its elements
-  pub line_read : (made : Line) → InYear post Either text (IsMade (plain_zone filter.dates.zone) text old (Some made) new)
+  pub line_read : (made : Line) → InYear post Either text
+      (IsMade (plain_zone filter.dates.zone) text old (Some made) new)
       → ((date : IncompleteDate) (y : ℤ) → post date y → y ≡ year_in filter.dates date) → HasWritten old []
       → (it : SentLine) → ((dating : Dating) → IsLineOf Either dating text made
       → IsReadSent filter.dates dating filter.dialects Either text it.dialect (line_value it.line))
-      → list_elements it.line.list ≡ list_elements made.list → ((dating : Dating) (u : Text) → IsLineOf Either dating text made
+      → list_elements it.line.list ≡ list_elements made.list
+      → ((dating : Dating) (u : Text) → IsLineOf Either dating text made
       → IsLeftUnparsed it.line u → LeavesSent it.dialect Either text u) → IsLineRead filter text (Some it) new
   line_read made h tells empty it reads elements leaves = (
     reading.in_year_told (reading.in_year_map (λ year is.
-        reads (dating_in (plain_zone filter.dates.zone) year) (line_made (plain_zone filter.dates.zone) text old new made year is)) h) tells,
+        reads (dating_in (plain_zone filter.dates.zone) year)
+        (line_made (plain_zone filter.dates.zone) text old new made year is)) h) tells,
     let (v, w, (line, of, same, given)) = h.holds h.answered (λ date asks. refl) in
-        subst (HasWritten new) (ap (λ (l : Line). list_elements l.list) (sym same.0) ∙ sym elements) (given old [] empty),
+        subst (HasWritten new) (ap (λ (l : Line). list_elements l.list) (sym same.0) ∙ sym elements)
+        (given old [] empty),
     λ u left. leaves (dating_in (plain_zone filter.dates.zone) h.answered) u
-        (line_made (plain_zone filter.dates.zone) text old new made h.answered (h.holds h.answered (λ date asks. refl))) left,
+        (line_made (plain_zone filter.dates.zone) text old new made h.answered
+        (h.holds h.answered (λ date asks. refl))) left,
   )
 
-  none_written : InYear post Either text (IsMade (plain_zone filter.dates.zone) text old None new) → HasWritten old [] → HasWritten new []
+  none_written : InYear post Either text (IsMade (plain_zone filter.dates.zone) text old None new) → HasWritten old []
+      → HasWritten new []
   none_written h empty = let (v, w, none) = h.holds h.answered (λ date asks. refl) in none.2 old [] empty
 
   -- or one that the port does not read
@@ -101,9 +109,11 @@ module _ {post : IncompleteDate → ℤ → Type 0} (filter : Objects) (text : T
       → IfSome result (λ it. (u : Text) → IsLeftUnparsed it.line u → LeavesSent it.dialect Either text u)
       → IsLineRead filter text result new
   line_unread h tells empty None reads elements leaves =
-      reading.in_year_told (reading.in_year_map (λ year is. reads (dating_in (plain_zone filter.dates.zone) year) is.2.0) h) tells
+      reading.in_year_told (reading.in_year_map (λ year is. reads (dating_in (plain_zone filter.dates.zone) year)
+      is.2.0) h) tells
   line_unread h tells empty (Some it) reads elements leaves = (
-    reading.in_year_told (reading.in_year_map (λ year is. reads (dating_in (plain_zone filter.dates.zone) year) is.2.0) h) tells,
+    reading.in_year_told (reading.in_year_map (λ year is. reads (dating_in (plain_zone filter.dates.zone) year)
+        is.2.0) h) tells,
     subst (HasWritten new) (sym elements) (none_written h empty),
     leaves,
   )

@@ -71,11 +71,12 @@ pub Answered-after : {frames : Frames} {filter : Filter} {old mid new : Option (
     {was then is : Tally} → Answered frames filter lines old mid was then
     → Answered frames filter more mid new then is → Answered frames filter (lines ++ more) old new was is
 unfolding Wrote-after
-Answered-after {frames = frames} {filter = filter} {lines = lines} {more = more} {was = was} {then = then} {is = is} first next = record {
-  wrote = Wrote-after first.wrote next.wrote;
-  counted = Counts-append frames filter.Answers was then is lines more first.wrote.answers next.wrote.answers
-      first.wrote.answered first.counted next.counted;
-}
+Answered-after {frames = frames} {filter = filter} {lines = lines} {more = more} {was = was} {then = then} {is = is}
+    first next = record {
+      wrote = Wrote-after first.wrote next.wrote;
+      counted = Counts-append frames filter.Answers was then is lines more first.wrote.answers next.wrote.answers
+          first.wrote.answered first.counted next.counted;
+    }
 
 -- no line, and nothing written
 pub Answered-none : (frames : Frames) (filter : Filter) (old new : Option (List ℕ)) (tally : Tally) → Keeps old new
@@ -179,7 +180,8 @@ module _ (frames : Frames) (filter : Filter) (message old new : List ℕ) (was i
       → Answered frames (taken frames filter) (message ∷ []) (Some old) (Some new) was is
   Answered-invalid invalid first second = record {
     wrote = Wrote-one;
-    counted = Counts-invalid frames was is message short adds.0 answered adds.3 more less kept_long invalid first second;
+    counted = Counts-invalid frames was is message short adds.0 answered adds.3 more less kept_long invalid first
+        second;
   }
 
 -- nothing was added for a first line
@@ -228,7 +230,8 @@ pub OnErr-any : {X E : Type 0} (r : Result X E) (P : Type 0) → P → OnErr r P
 OnErr-any (Ok x) P p = tt
 OnErr-any (Err e) P p = p
 
-pub AddsAnswers-stopped : {X E : Type 0} (frames : Frames) (filter : Filter) (bytes old new : List ℕ) (was is : Tally) (r : Result X E)
+pub AddsAnswers-stopped : {X E : Type 0} (frames : Frames) (filter : Filter) (bytes old new : List ℕ) (was is : Tally)
+    (r : Result X E)
     → IsErr r → AnswersBefore filter bytes (Some old) (Some new) → AddsAnswers frames filter bytes old new was is r
 AddsAnswers-stopped frames filter bytes old new was is (Ok x) stopped first = search rules
 AddsAnswers-stopped frames filter bytes old new was is (Err e) stopped first = first

@@ -8,7 +8,8 @@ use Rattle.std.{proofs.lemmas.List.Sums.sum_by-append, proofs.lemmas.Slice.Zip.A
 use Rattle.std.proofs.lemmas.Str.{is_utf8-from_IsUtf8, IsUtf8-from_is_utf8}
 use Rattle.std.specs.{List.AllZip, Prelude.IsUtf8, Prelude.if◌then◌else◌, Str.is_utf8}
 use Rattle.syslog_lines.specs.Frames.{is_too_long, line_of}
-use Rattle.syslog_lines.specs.Output.{Answer, AreAnswers, AreCounts, Counts, Grows, Omitted, invalid_answers, is_invalid}
+use Rattle.syslog_lines.specs.Output.{Answer, AreAnswers, AreCounts, Counts, Grows, Omitted, invalid_answers}
+use Rattle.syslog_lines.specs.Output.{is_invalid}
 use Rattle.syslog_lines.specs.Place.{CountsLong}
 use Rattle.syslog_lines.specs.declared.framing.Frames.{Frames}
 use Rattle.syslog_lines.specs.declared.summary.LineCounts.{LineCounts}
@@ -197,11 +198,14 @@ lines_counted frames filter tally lines answers answered counted =
     omega (arith, counted_all answers, counted.answered, counted.skipped, long)
 
 -- the counts of a tally are those of its lines
-pub AreCounts-kept : (frames : Frames) (is_latin1 : Bool) (tally : Tally) (lines : List (List ℕ)) (answers : List Answer)
-    (counts : LineCounts) → HasCounted frames tally lines answers → held_count (tally.answered + tally.skipped) ≡ held_count (length lines)
+pub AreCounts-kept : (frames : Frames) (is_latin1 : Bool) (tally : Tally) (lines : List (List ℕ))
+    (answers : List Answer)
+    (counts : LineCounts) → HasCounted frames tally lines answers
+    → held_count (tally.answered + tally.skipped) ≡ held_count (length lines)
     → counts.lines ≡ held_count (tally.answered + tally.skipped) → counts.refused ≡ tally.skipped
     → counts.refused_invalid ≡ tally.skipped_invalid → counts.too_long ≡ tally.too_long
-    → counts.replaced ≡ (if is_latin1 then 0 else tally.answered_invalid) → AreCounts frames is_latin1 lines answers counts
+    → counts.replaced ≡ (if is_latin1 then 0 else tally.answered_invalid)
+    → AreCounts frames is_latin1 lines answers counts
 AreCounts-kept frames is_latin1 tally lines answers counts counted all told refused invalid long replaced = record {
   lines = told ∙ all;
   refused = refused ∙ counted.skipped;

@@ -1,6 +1,8 @@
 -- The digits that bytes begin with, and the count that they may be.
-use Rattle.syslog_lines.proofs.Names.{◌≡◌, ◌≢◌, ◌+◌, ◌-◌, ◌<◌, ◌≤◌, ℕ, List, [], ◌∷◌, ◌++◌, length, take, drop, slice_index}
-use Rattle.syslog_lines.proofs.Names.{inl, inr, refl, sym, ◌∙◌, ap, subst, arith, cases_eq, All-nil, get_or, take-append-drop, append_assoc}
+use Rattle.syslog_lines.proofs.Names.{◌≡◌, ◌≢◌, ◌+◌, ◌-◌, ◌<◌, ◌≤◌, ℕ, List, [], ◌∷◌, ◌++◌, length, take, drop}
+use Rattle.syslog_lines.proofs.Names.{slice_index}
+use Rattle.syslog_lines.proofs.Names.{inl, inr, refl, sym, ◌∙◌, ap, subst, arith, cases_eq, All-nil, get_or}
+use Rattle.syslog_lines.proofs.Names.{take-append-drop, append_assoc}
 use Rattle.std.proofs.Common.{length-append, length-take, ◌⊎◌, suc, zero}
 use Rattle.std.proofs.Math.Seq.{get_or-append_seam, take-append_seam, drop-append_seam}
 use Rattle.std.proofs.lemmas.Bool.{cases_lt}
@@ -23,7 +25,8 @@ number_after-push before (first ∷ digits) digit = number_after-push (before * 
 
 -- the number of up to eight digits, and of one more
 pub small_number : (octets size : ℕ) → size < 9 → octets < 10 ^ size → octets < 100000000
-small_number octets size few small = let most : 10 ^ size ≤ 10 ^ 8 = pow-le-pow_right {n = 10} (omega arith) {i = size} {j = 8} (omega arith) in
+small_number octets size few small = let most : 10 ^ size ≤ 10 ^ 8 = pow-le-pow_right {n = 10}
+    (omega arith) {i = size} {j = 8} (omega arith) in
     omega (arith, most)
 
 pub larger_number : (octets size digit : ℕ) → IsDigit digit → octets < 10 ^ size
@@ -57,7 +60,8 @@ digits_within (suc limit) (byte ∷ bytes) = elim (digit_or_not byte) [
 ]
 
 -- the digits of a count are all that there are
-module _ (bytes : List ℕ) (size number : ℕ) (are : AreDigits bytes size number) (digits : List ℕ) (octets : ℕ) (rest : List ℕ)
+module _ (bytes : List ℕ) (size number : ℕ) (are : AreDigits bytes size number) (digits : List ℕ) (octets : ℕ)
+    (rest : List ℕ)
     (count : IsCount digits octets) (same : bytes ≡ digits ++ 32 ∷ rest) where
   space : slice_index bytes (length digits) ≡ 32
   space = rw same (get_or-append_seam digits 32 rest 0)
@@ -70,7 +74,8 @@ module _ (bytes : List ℕ) (size number : ℕ) (are : AreDigits bytes size numb
     | inl high ↦ elim (le_or_lt (length digits) size) [
       | inl low ↦ omega arith
       | inr more ↦ absurd (are.last (omega (arith, count.few)) (omega (arith, long))
-          (subst IsDigit (sym (ap (λ (l : List ℕ). slice_index l size) same ∙ get_or_append_left digits (32 ∷ rest) 0 size more))
+          (subst IsDigit (sym (ap (λ (l : List ℕ). slice_index l size) same
+          ∙ get_or_append_left digits (32 ∷ rest) 0 size more))
           (All-get_or IsDigit digits size 0 more count.each)))
     ]
     | inr less ↦ absurd (
@@ -145,7 +150,8 @@ module _ (bytes : List ℕ) where
   found_digits : (digits : List ℕ) (octets : ℕ) (rest : List ℕ) → IsCount digits octets → bytes ≡ digits ++ 32 ∷ rest
       → (digits ≡ take found.0 bytes) × (rest ≡ drop (found.0 + 1) bytes)
   found_digits digits octets rest count same =
-      let size = digits_same bytes found.0 (number_after 0 (take found.0 bytes)) found_are digits octets rest count same in
+      let size = digits_same bytes found.0 (number_after 0 (take found.0 bytes)) found_are digits octets rest count
+      same in
       let long : length (digits ++ 32 ∷ []) ≡ found.0 + 1 = omega (arith, length-append digits (32 ∷ []), size) in (
         sym (take-append_seam digits (32 ∷ rest)) ∙ ap (take (length digits)) (sym same)
             ∙ ap (λ (n : ℕ). take n bytes) size,

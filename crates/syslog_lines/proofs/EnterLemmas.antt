@@ -1,17 +1,20 @@
 -- From the bytes that come next at a place to the first frame.
 use Rattle.syslog_lines.proofs.Names.{◌≡◌, ◌+◌, ◌-◌, ◌<◌, ◌≤◌, ℕ, List, [], ◌∷◌, ◌++◌, length, take, drop, Tally}
-use Rattle.syslog_lines.proofs.Names.{inl, inr, refl, sym, ◌∙◌, ap, subst, arith, append-nil, true, is_byte, Passes, Nowhere}
+use Rattle.syslog_lines.proofs.Names.{inl, inr, refl, sym, ◌∙◌, ap, subst, arith, append-nil, true, is_byte, Passes}
+use Rattle.syslog_lines.proofs.Names.{Nowhere}
 use Rattle.std.proofs.Math.Seq.{drop-length}
 use Rattle.memchr.specs.Find.{NoneBefore}
 use Rattle.syslog_lines.specs.Frames.{AreFrames, IsOpen, ending_of, is_above}
-use Rattle.syslog_lines.specs.Place.{CountsLong, Enters, HasMark, IsAt, IsHeld, IsMarkFront, Opened, PassesMark, Settles}
+use Rattle.syslog_lines.specs.Place.{CountsLong, Enters, HasMark, IsAt, IsHeld, IsMarkFront, Opened, PassesMark}
+use Rattle.syslog_lines.specs.Place.{Settles}
 use Rattle.syslog_lines.specs.declared.framing.Frames.{Frames}
 use Rattle.syslog_lines.specs.declared.place.Entry.{Entry}
 use Rattle.syslog_lines.specs.declared.place.Entry.TheVariants.{After, Only}
 use Rattle.syslog_lines.specs.declared.place.Place.{Place}
 use Rattle.syslog_lines.specs.declared.place.Place.TheVariants.{Head, Frame, Ending, Octets}
 use Rattle.syslog_lines.proofs.FrameLemmas.{IsOpen-nil}
-use Rattle.syslog_lines.proofs.WholeLemmas.{first_ending, long_ended, long_goes_on, long_octets, no_ending, octets_go_on}
+use Rattle.syslog_lines.proofs.WholeLemmas.{first_ending, long_ended, long_goes_on, long_octets, no_ending}
+use Rattle.syslog_lines.proofs.WholeLemmas.{octets_go_on}
 
 pub enters_head : (frames : Frames) (new : Place) (bytes : List ℕ) (tally : Tally) (entry : Entry)
     → PassesMark new bytes entry → Enters frames Head new bytes tally tally entry
@@ -33,7 +36,8 @@ enters_head frames new bytes tally (Only size) (head, none, front) = (
   λ input messages here. rw (head, none) here,
 )
 
-pub enters_frame : (frames : Frames) (bytes : List ℕ) (seen : ℕ) (tally : Tally) → seen ≤ length bytes → IsOpen frames.framing (take seen bytes)
+pub enters_frame : (frames : Frames) (bytes : List ℕ) (seen : ℕ) (tally : Tally) → seen ≤ length bytes
+    → IsOpen frames.framing (take seen bytes)
     → Enters frames Frame Frame bytes tally tally (After 0 seen)
 enters_frame frames bytes seen tally within unended = (
   refl,
@@ -43,9 +47,11 @@ enters_frame frames bytes seen tally within unended = (
   λ input messages opened. ([], rw (append-nil messages) opened, inl (refl, refl)),
 )
 
-module _ (frames : Frames) (bytes : List ℕ) (was is : Tally) (new : Place) (begun : new ≡ Frame) (counted : CountsLong was is)
+module _ (frames : Frames) (bytes : List ℕ) (was is : Tally) (new : Place) (begun : new ≡ Frame)
+    (counted : CountsLong was is)
   where
-    pub enters_ended : (end : ℕ) (entry : Entry) → NoneBefore (Passes (is_byte (ending_of frames.framing)) bytes) 0 (length bytes) end
+    pub enters_ended : (end : ℕ) (entry : Entry) → NoneBefore (Passes (is_byte (ending_of frames.framing)) bytes) 0
+        (length bytes) end
         → Passes (is_byte (ending_of frames.framing)) bytes end → entry ≡ After (end + 1) 0
         → Enters frames Ending new bytes was is entry
     enters_ended end entry first last same = rw same (

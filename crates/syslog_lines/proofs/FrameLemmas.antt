@@ -1,6 +1,8 @@
 -- Frames: bytes in two, more bytes after them, and that all bytes have them.
-use Rattle.syslog_lines.proofs.Names.{◌≡◌, ◌≢◌, ◌+◌, ◌-◌, ◌<◌, ◌≤◌, ℕ, List, [], ◌∷◌, ◌++◌, length, take, drop, slice_index}
-use Rattle.syslog_lines.proofs.Names.{inl, inr, refl, sym, ◌∙◌, ap, subst, arith, append_assoc, append-nil, cases_eq, All-nil}
+use Rattle.syslog_lines.proofs.Names.{◌≡◌, ◌≢◌, ◌+◌, ◌-◌, ◌<◌, ◌≤◌, ℕ, List, [], ◌∷◌, ◌++◌, length, take, drop}
+use Rattle.syslog_lines.proofs.Names.{slice_index}
+use Rattle.syslog_lines.proofs.Names.{inl, inr, refl, sym, ◌∙◌, ap, subst, arith, append_assoc, append-nil, cases_eq}
+use Rattle.syslog_lines.proofs.Names.{All-nil}
 use Rattle.syslog_lines.proofs.Names.{take-append-drop, length-drop, Bool, true, false}
 use Rattle.std.proofs.Common.{length-append, length-take, ◌⊎◌, suc, zero}
 use Rattle.std.proofs.Math.Seq.{take-append_seam, take-append-add}
@@ -75,7 +77,8 @@ IsUncounted-more Nuls front more long none = λ octets rest is. absurd is
 IsUncounted-more OctetCounts front more long none = λ octets rest is.
     let (part, found) = ten_are_enough front more octets rest long is in none octets part found
 
-pub uncounted_byte : (framing : Framing) (byte : ℕ) (rest : List ℕ) → ¬ (IsDigit byte) → IsUncounted framing (byte ∷ rest)
+pub uncounted_byte : (framing : Framing) (byte : ℕ) (rest : List ℕ) → ¬ (IsDigit byte)
+    → IsUncounted framing (byte ∷ rest)
 uncounted_byte LineFeeds byte rest other = λ octets after is. absurd is
 uncounted_byte Nuls byte rest other = λ octets after is. absurd is
 uncounted_byte OctetCounts byte rest other = λ octets after is. begins is
@@ -83,7 +86,8 @@ uncounted_byte OctetCounts byte rest other = λ octets after is. begins is
     begins : {octets : ℕ} {after : List ℕ} → IsCounted OctetCounts (byte ∷ rest) octets after → ⊥
     begins ([], count, same) = absurd (omega (arith, count.some))
     begins (digit ∷ digits, count, same) =
-        other (subst IsDigit (sym (ap (λ (l : List ℕ). slice_index l 0) same)) (All-head IsDigit digit digits count.each))
+        other (subst IsDigit (sym (ap (λ (l : List ℕ). slice_index l 0) same))
+        (All-head IsDigit digit digits count.each))
 
 pub uncounted_nil : (framing : Framing) → IsUncounted framing []
 uncounted_nil LineFeeds = λ octets rest is. absurd is
@@ -144,7 +148,8 @@ first_frame framing bytes = elim (count_or_not framing bytes) [
     counted_first octets rest counted = elim (le_or_lt octets (length rest)) [
       | inl there ↦
           let whole = subst (IsCounted framing bytes octets) (sym (take-append-drop octets rest)) counted in
-          let (frame, is, same, some) = IsCounted-cut framing bytes octets (take octets rest) (drop octets rest) whole in
+          let (frame, is, same, some) = IsCounted-cut framing bytes octets (take octets rest) (drop octets rest)
+          whole in
           let size : octets ≡ length (take octets rest) = omega (arith, length-take octets rest) in
           inl (
             take octets rest,
@@ -181,7 +186,12 @@ first_frame framing bytes = elim (count_or_not framing bytes) [
 
 frames_within : (n : ℕ) (framing : Framing) (bytes : List ℕ) → length bytes ≤ n → (messages : List (List ℕ))
     × (rest : List ℕ) × AreFrames framing bytes messages rest × IsOpen framing rest
-frames_within zero framing bytes few = ([], bytes, refl, subst (IsOpen framing) (sym (empty bytes few)) (IsOpen-nil framing))
+frames_within zero framing bytes few = (
+  [],
+  bytes,
+  refl,
+  subst (IsOpen framing) (sym (empty bytes few)) (IsOpen-nil framing),
+)
   where
     empty : (l : List ℕ) → length l ≤ 0 → l ≡ []
     empty [] few = refl

@@ -1,11 +1,13 @@
 -- What the bytes give that are read, from a place on.
 use Rattle.syslog_lines.proofs.Names.{◌≡◌, ◌<◌, ◌≤◌, ℕ, List, [], ◌∷◌, ◌++◌, Option, length, take, drop, Tally, Keeps}
-use Rattle.syslog_lines.proofs.Names.{inl, inr, refl, sym, ◌∙◌, ap, subst, arith, append_assoc, append-nil, Filter, Answered}
+use Rattle.syslog_lines.proofs.Names.{inl, inr, refl, sym, ◌∙◌, ap, subst, arith, append_assoc, append-nil, Filter}
+use Rattle.syslog_lines.proofs.Names.{Answered}
 use Rattle.syslog_lines.proofs.Names.{Appends-kept, output_of, Wrote, Bool, true, eqb, eqb-true}
 use Rattle.syslog_lines.proofs.AnswerLemmas.{Answered-after, Answered-long, Answered-none, Answered-skips, Wrote-none}
 use Rattle.syslog_lines.proofs.AnswerLemmas.{WroteBefore-after}
 use Rattle.syslog_lines.proofs.FrameLemmas.{AreFrames-append, some_frames}
-use Rattle.syslog_lines.proofs.PlaceLemmas.{Opened-frames, Opened-ready, Ready, Ready-head, all_cut, all_none_left, open_front}
+use Rattle.syslog_lines.proofs.PlaceLemmas.{Opened-frames, Opened-ready, Ready, Ready-head, all_cut, all_none_left}
+use Rattle.syslog_lines.proofs.PlaceLemmas.{open_front}
 use Rattle.std.proofs.KnownBytes.{Keeps-refl}
 use Rattle.std.proofs.Common.{◌⊎◌, OnErr, OnOk, Result, Ok, Err}
 use Rattle.syslog_lines.proofs.Names.{◌+◌, ◌-◌, length-drop}
@@ -111,8 +113,10 @@ module _ (bytes : List ℕ) (start size gone : ℕ) (within : start ≤ length b
   past_is = drop_twice bytes start size within ∙ sym (rest_is bytes (start + size))
 
   pub held_done : (frames : Frames) (filter : Filter) (place : Place) (was then is : Tally)
-      → Goes frames place bytes (λ input messages. Opened frames input messages (drop start bytes)) (Skips frames was then)
-      → (old new : Option (List ℕ)) → AddsWhole frames (taken frames filter) (take (length bytes - start) (drop start bytes))
+      → Goes frames place bytes (λ input messages. Opened frames input messages (drop start bytes))
+      (Skips frames was then)
+      → (old new : Option (List ℕ)) → AddsWhole frames (taken frames filter)
+      (take (length bytes - start) (drop start bytes))
       (drop size (take (length bytes - start) (drop start bytes))) old new then is → (next : Place)
       → ((input : List ℕ) (messages : List (List ℕ))
       → Opened frames input messages (take (length bytes - (start + size)) (drop (start + size) bytes))
@@ -120,7 +124,8 @@ module _ (bytes : List ℕ) (start size gone : ℕ) (within : start ≤ length b
       → Goes frames place bytes (λ input messages. IsAt frames next input messages (drop (start + size + gone) bytes))
       (λ more. Answered frames (taken frames filter) more old new was is)
   held_done frames filter place was then is entered old new whole next leaves =
-      held_goes frames filter place bytes (drop start bytes) was then entered old new next (drop size (drop start bytes))
+      held_goes frames filter place bytes (drop start bytes) was then entered old new next
+      (drop size (drop start bytes))
       (drop (start + size + gone) bytes) is (rw (rest_is bytes start) at whole)
       (λ input messages opened. subst (IsAt frames next input messages) gone_is
       (leaves input messages (subst (Opened frames input messages) past_is opened)))
@@ -137,7 +142,8 @@ module _ (bytes : List ℕ) (start size gone : ℕ) (within : start ≤ length b
 -- ---- the end of the input
 
 -- a message that is too long ends
-pub last_long : (frames : Frames) (filter : Filter) (place : Place) (bytes : List ℕ) (old : Option (List ℕ)) (was is : Tally)
+pub last_long : (frames : Frames) (filter : Filter) (place : Place) (bytes : List ℕ) (old : Option (List ℕ))
+    (was is : Tally)
     → (place ≡ Ending) ⊎ ((left : ℕ) × (place ≡ Octets left)) → IsHeld frames.framing place bytes → CountsLong was is
     → Goes frames place bytes (HasAllFrames frames) (λ more. Answered frames (taken frames filter) more old old was is)
 last_long frames filter place bytes old was is (inl ending) held counted = rw ending (λ input messages
@@ -168,7 +174,8 @@ ready_at frames place input messages bytes (inl head) held here =
 ready_at frames place input messages bytes (inr frame) held here =
     Opened-ready frames input messages bytes (rw frame at here)
 
-module _ (frames : Frames) (filter : Filter) (place : Place) (bytes : List ℕ) (begins : (place ≡ Head) ⊎ (place ≡ Frame))
+module _ (frames : Frames) (filter : Filter) (place : Place) (bytes : List ℕ)
+    (begins : (place ≡ Head) ⊎ (place ≡ Frame))
     (held : IsHeld frames.framing place bytes) (old new : Option (List ℕ)) where
   pub last_none : (tally : Tally) → bytes ≡ [] → Goes frames place bytes (HasAllFrames frames)
       (λ more. Answered frames (taken frames filter) more old old tally tally)
@@ -180,7 +187,8 @@ module _ (frames : Frames) (filter : Filter) (place : Place) (bytes : List ℕ) 
   )
 
   pub last_cut : (message : List ℕ) (was is : Tally) → 0 < length bytes → IsCutFrame frames.framing message bytes
-      → Answered frames (taken frames filter) (message ∷ []) old new was is → Goes frames place bytes (HasAllFrames frames)
+      → Answered frames (taken frames filter) (message ∷ []) old new was is
+      → Goes frames place bytes (HasAllFrames frames)
       (λ more. Answered frames (taken frames filter) more old new was is)
   last_cut message was is some cut answered = λ input messages at. (
     message ∷ [],

@@ -4,7 +4,8 @@ use Rattle.syslog_lines.proofs.Names.{◌≡◌, length, get_or, eq-eqb, eqb-tru
 use Rattle.syslog_lines.proofs.Names.{◌≢◌, ◌+◌, ◌-◌, ◌<◌, ◌∷◌, ◌++◌, take, drop, refl, sym, ◌∙◌, subst, arith, Passes}
 use Rattle.syslog_lines.proofs.Names.{◌≤◌, ℕ, [], ap, inl, inr, length-drop, slice_index}
 use Rattle.std.{proofs.Common.length-append, proofs.Math.Seq.drop-append_seam, proofs.Math.Seq.take-append_seam}
-use Rattle.std.proofs.lemmas.List.{get_or-append-add, get_or-drop, drop_more, get_or-take, length-take, append_assoc, take_all, take-append-le}
+use Rattle.std.proofs.lemmas.List.{get_or-append-add, get_or-drop, drop_more, get_or-take, length-take, append_assoc}
+use Rattle.std.proofs.lemmas.List.{take_all, take-append-le}
 use Rattle.std.proofs.lemmas.List.Elements.{All-from_get_or, All-cons, All-head, All-tail, All-drop, All-push, All-take}
 use Rattle.std.specs.List.{All}
 use Rattle.std.proofs.Common.{Bool, true, false, Option, None, Some, ◌==◌}
@@ -171,7 +172,8 @@ frames_are_feeds bytes (line ∷ lines) rest (frame, after, inr (none, free, is)
     (All-cons NoFeed line lines free others, simp (same, is, joined, append_assoc))
 
 -- all frames that end in line feeds are all lines
-pub frames_are_lines : (bytes : List ℕ) (lines : List (List ℕ)) → AreAllFrames LineFeeds bytes lines → IsLines bytes lines
+pub frames_are_lines : (bytes : List ℕ) (lines : List (List ℕ)) → AreAllFrames LineFeeds bytes lines
+    → IsLines bytes lines
 frames_are_lines bytes lines (inl framed) =
     let (free, joined) = frames_are_feeds bytes lines [] framed in (free, inl (joined ∙ append-nil (with_feeds lines)))
 frames_are_lines bytes lines (inr ends) = elim ends.unended [

@@ -1,11 +1,14 @@
 -- The place of the bytes that come next, as more is read and as frames end.
-use Rattle.syslog_lines.proofs.Names.{◌≡◌, ◌≢◌, ◌+◌, ◌-◌, ◌<◌, ◌≤◌, ℕ, List, [], ◌∷◌, ◌++◌, length, take, drop, slice_index}
-use Rattle.syslog_lines.proofs.Names.{inl, inr, refl, sym, ◌∙◌, ap, subst, arith, append_assoc, append-nil, All-nil, All-append}
+use Rattle.syslog_lines.proofs.Names.{◌≡◌, ◌≢◌, ◌+◌, ◌-◌, ◌<◌, ◌≤◌, ℕ, List, [], ◌∷◌, ◌++◌, length, take, drop}
+use Rattle.syslog_lines.proofs.Names.{slice_index}
+use Rattle.syslog_lines.proofs.Names.{inl, inr, refl, sym, ◌∙◌, ap, subst, arith, append_assoc, append-nil, All-nil}
+use Rattle.syslog_lines.proofs.Names.{All-append}
 use Rattle.syslog_lines.proofs.Names.{take-append-drop, length-drop, Bool, true, false}
 use Rattle.std.proofs.Common.{length-append, length-take, ◌⊎◌}
 use Rattle.std.proofs.Math.Seq.{take-append_seam}
 use Rattle.std.proofs.lemmas.List.Elements.{All-cons}
-use Rattle.syslog_lines.specs.Frames.{AreFrames, HasAllFrames, HasBody, HasFrames, IsCounted, IsCutFrame, IsDigit, IsFrame}
+use Rattle.syslog_lines.specs.Frames.{AreFrames, HasAllFrames, HasBody, HasFrames, IsCounted, IsCutFrame, IsDigit}
+use Rattle.syslog_lines.specs.Frames.{IsFrame}
 use Rattle.syslog_lines.specs.Frames.{IsOpen, IsUncounted, NoByte, ending_of, is_too_long, mark}
 use Rattle.syslog_lines.specs.Place.{HasRead, IsAt, IsHeld, IsLongFront, IsMarkFront, IsSeen, Opened, Settles}
 use Rattle.syslog_lines.specs.Size.{block_size}
@@ -14,7 +17,8 @@ use Rattle.syslog_lines.specs.declared.framing.Framing.TheVariants.{LineFeeds, N
 use Rattle.syslog_lines.specs.declared.framing.Frames.{Frames}
 use Rattle.syslog_lines.specs.declared.place.Place.{Place}
 use Rattle.syslog_lines.specs.declared.place.Place.TheVariants.{Head, Frame, Ending, Octets}
-use Rattle.syslog_lines.proofs.FrameLemmas.{AreFrames-append, AreFrames-more, IsCounted-more, IsOpen-nil, uncounted_byte}
+use Rattle.syslog_lines.proofs.FrameLemmas.{AreFrames-append, AreFrames-more, IsCounted-more, IsOpen-nil}
+use Rattle.syslog_lines.proofs.FrameLemmas.{uncounted_byte}
 
 -- ---- more frames, and more bytes
 
@@ -31,7 +35,8 @@ pub Opened-read : (frames : Frames) (input : List ℕ) (messages : List (List �
     → Opened frames input messages bytes → Opened frames (input ++ piece) messages (bytes ++ piece)
 Opened-read frames input messages bytes piece opened = record {
   body = opened.body ++ piece;
-  settled = λ more. rw (append_assoc input piece more, append_assoc opened.body piece more) (opened.settled (piece ++ more));
+  settled = λ more. rw (append_assoc input piece more, append_assoc opened.body piece more)
+      (opened.settled (piece ++ more));
   framed = AreFrames-more frames.framing opened.body messages bytes piece opened.framed;
 }
 
@@ -117,7 +122,12 @@ pub HasRead-held : (frames : Frames) (place : Place) (input : List ℕ) (message
 HasRead-held frames Head input messages bytes at front =
     let ready = Ready-head frames input messages bytes at front in (
       bytes,
-      record { body = ready.body; opened = ready.opened; framed = ready.framed; unended = open_front frames.framing bytes front },
+      record {
+        body = ready.body;
+        opened = ready.opened;
+        framed = ready.framed;
+        unended = open_front frames.framing bytes front;
+      },
       omega arith,
     )
 HasRead-held frames Frame input messages bytes opened unended =
@@ -138,7 +148,8 @@ HasRead-held frames Ending input messages bytes (front, opened, long, some, none
       },
       omega (arith, ap length empty),
     )
-HasRead-held frames (Octets left) input messages bytes (octets, front, part, opened, long, some, counted, total, more) empty =
+HasRead-held frames (Octets left) input messages bytes (octets, front, part, opened, long, some, counted, total, more)
+    empty =
     let ready = Opened-ready frames input messages (front ++ bytes) opened in (
       front,
       record {
@@ -165,18 +176,19 @@ IsAt-read frames Ending input messages bytes piece (front, opened, long, some, n
   none,
   free,
 )
-IsAt-read frames (Octets left) input messages bytes piece (octets, front, part, opened, long, some, counted, total, more) = (
-  octets,
-  front,
-  part,
-  Opened-along frames (input ++ piece) messages ((front ++ bytes) ++ piece) (front ++ (bytes ++ piece))
-      (append_assoc front bytes piece) (Opened-read frames input messages (front ++ bytes) piece opened),
-  long,
-  some,
-  counted,
-  total,
-  more,
-)
+IsAt-read frames (Octets left) input messages bytes piece
+    (octets, front, part, opened, long, some, counted, total, more) = (
+      octets,
+      front,
+      part,
+      Opened-along frames (input ++ piece) messages ((front ++ bytes) ++ piece) (front ++ (bytes ++ piece))
+          (append_assoc front bytes piece) (Opened-read frames input messages (front ++ bytes) piece opened),
+      long,
+      some,
+      counted,
+      total,
+      more,
+    )
 
 pub IsSeen-held : (framing : Framing) (place : Place) (bytes piece : List ℕ) → IsHeld framing place bytes
     → IsSeen framing place (take (length bytes) (bytes ++ piece))

@@ -1,7 +1,8 @@
 -- How a filter is pumped over its input, block by block.
 use Rattle.syslog_lines.proofs
 use proofs.Names.{append_assoc, append-nil, RunFault, Option, subst, Memory, Filter, Answered, length}
-use proofs.Names.{◌≡◌, ◌+◌, ◌≤◌, ℕ, Bool, List, [], ◌++◌, inl, inr, refl, sym, ap, ◌∙◌, arith, Keeps, Tally, Write, drop, true, false}
+use proofs.Names.{◌≡◌, ◌+◌, ◌≤◌, ℕ, Bool, List, [], ◌++◌, inl, inr, refl, sym, ap, ◌∙◌, arith, Keeps, Tally, Write}
+use proofs.Names.{drop, true, false}
 use Rattle.std.specs.Io.KnownBytes.{Consumes, IsAtEnd}
 use Rattle.std.proofs.KnownBytes.{Consumes-kept, Consumes-nil, Consumes-trans, Keeps-refl}
 use Rattle.syslog_lines.{specs.Block.StopsReading, specs.declared.summary.RunFault.TheVariants.Read}
@@ -63,7 +64,12 @@ nothing_read frames input = record {
   read = [];
   consumed = Consumes-nil input;
   cut = [];
-  framed = record { body = []; opened = nothing_framed frames.strips; framed = refl; unended = IsOpen-nil frames.framing };
+  framed = record {
+    body = [];
+    opened = nothing_framed frames.strips;
+    framed = refl;
+    unended = IsOpen-nil frames.framing;
+  };
 }
 
 -- no block was had, so nothing was read
@@ -145,7 +151,8 @@ module _ {frames : Frames} {filter : Filter} {in_before in_mid out_before out_mi
     pub EndsEarly-more : (out_after : Option (List ℕ)) (failed : Bool) (fault : RunFault)
         → Stops frames filter place bytes (HasRead frames) out_mid out_after failed fault
         → EndsEarly frames filter in_before in_after out_before out_after fault
-    EndsEarly-more out_after failed fault stops = stopped_after (so_far.read ++ filled.0) out_after bytes (HasRead frames)
+    EndsEarly-more out_after failed fault stops = stopped_after (so_far.read ++ filled.0) out_after bytes
+        (HasRead frames)
         at_more (λ messages (cut, framed). inl record {
           read = so_far.read ++ filled.0;
           consumed = consumed_more;
@@ -178,7 +185,8 @@ module _ {frames : Frames} {filter : Filter} {in_before in_mid out_before out_mi
     PumpsAll-last out_after is zero goes =
         let (more, framed, answered) = goes so_far.read so_far.lines at_last in
         let whole = Answered-after so_far.answered answered in
-        let counted = counted_from_zero frames fresh is (so_far.lines ++ more) whole.wrote.answers zero whole.counted in (
+        let counted = counted_from_zero frames fresh is (so_far.lines ++ more) whole.wrote.answers zero
+        whole.counted in (
           whole.wrote.answers,
           record {
             lines = so_far.lines ++ more;
@@ -194,5 +202,6 @@ module _ {frames : Frames} {filter : Filter} {in_before in_mid out_before out_mi
     pub EndsEarly-last : (out_after : Option (List ℕ)) (failed : Bool) (fault : RunFault)
         → Stops frames filter place bytes (HasAllFrames frames) out_mid out_after failed fault
         → EndsEarly frames filter in_before in_after out_before out_after fault
-    EndsEarly-last out_after failed fault stops = stopped_after so_far.read out_after bytes (HasAllFrames frames) at_last
+    EndsEarly-last out_after failed fault stops = stopped_after so_far.read out_after bytes (HasAllFrames frames)
+        at_last
         (λ messages framed. inr (all_read messages framed)) failed fault stops

@@ -1,7 +1,10 @@
 -- The first frame of bytes, by the first ending among them or by a count.
-use Rattle.syslog_lines.proofs.Names.{◌≡◌, ◌≢◌, ◌+◌, ◌-◌, ◌<◌, ◌≤◌, ℕ, List, [], ◌∷◌, ◌++◌, length, take, drop, slice_index}
-use Rattle.syslog_lines.proofs.Names.{inl, inr, refl, sym, ◌∙◌, ap, subst, arith, append_assoc, append-nil, All-append, get_or}
-use Rattle.syslog_lines.proofs.Names.{take-append-drop, length-drop, take_at, take_all, eq-eqb, eqb-true, Passes, Nowhere, is_byte}
+use Rattle.syslog_lines.proofs.Names.{◌≡◌, ◌≢◌, ◌+◌, ◌-◌, ◌<◌, ◌≤◌, ℕ, List, [], ◌∷◌, ◌++◌, length, take, drop}
+use Rattle.syslog_lines.proofs.Names.{slice_index}
+use Rattle.syslog_lines.proofs.Names.{inl, inr, refl, sym, ◌∙◌, ap, subst, arith, append_assoc, append-nil}
+use Rattle.syslog_lines.proofs.Names.{All-append, get_or}
+use Rattle.syslog_lines.proofs.Names.{take-append-drop, length-drop, take_at, take_all, eq-eqb, eqb-true, Passes}
+use Rattle.syslog_lines.proofs.Names.{Nowhere, is_byte}
 use Rattle.std.proofs.Common.{length-append, length-take, ◌⊎◌, None, Some, true}
 use Rattle.std.proofs.Math.Seq.{take-add, drop-append-add}
 use Rattle.std.proofs.lemmas.List.{drop_more, get_or-take, get_or-drop}
@@ -15,7 +18,8 @@ use Rattle.syslog_lines.specs.declared.framing.Framing.{Framing}
 use Rattle.syslog_lines.specs.declared.framing.Framing.TheVariants.{LineFeeds}
 use Rattle.syslog_lines.specs.declared.framing.Frames.{Frames}
 use Rattle.syslog_lines.specs.declared.place.Place.TheVariants.{Ending, Octets}
-use Rattle.syslog_lines.proofs.FrameLemmas.{IsCounted-cut, IsCounted-more, IsCounted-some, IsUncounted-front, IsUncounted-more}
+use Rattle.syslog_lines.proofs.FrameLemmas.{IsCounted-cut, IsCounted-more, IsCounted-some, IsUncounted-front}
+use Rattle.syslog_lines.proofs.FrameLemmas.{IsUncounted-more}
 use Rattle.syslog_lines.proofs.PlaceLemmas.{Opened-along, Opened-frames}
 
 -- ---- the first ending
@@ -98,7 +102,11 @@ module _ (framing : Framing) (bytes : List ℕ) (head octets : ℕ) (within : he
       let more : List ℕ = drop octets (drop head bytes) in
       let whole = subst (IsCounted framing bytes octets) (sym (take-append-drop octets (drop head bytes))) counted in
       let (frame, is, same, some) = IsCounted-cut framing bytes octets message more whole in
-      let size : octets ≡ length message = omega (arith, length-take octets (drop head bytes), length-drop head bytes) in
+      let size : octets ≡ length message = omega (
+        arith,
+        length-take octets (drop head bytes),
+        length-drop head bytes,
+      ) in
       let long : head + octets ≡ length frame = omega (
         arith,
         ap length same,
@@ -140,7 +148,8 @@ long_ended frames bytes end (free, split) input messages (front, opened, long, s
     ap (λ (l : List ℕ). front ++ l) split ∙ sym (append_assoc front (take end bytes) (ending_of frames.framing ∷ rest))
     ∙ sym (append_assoc message last rest) in
     let uncounted : IsUncounted frames.framing (message ++ last) =
-    rw (append_assoc front (take end bytes) last) (IsUncounted-more frames.framing front (take end bytes ++ last) some none) in (
+    rw (append_assoc front (take end bytes) last) (IsUncounted-more frames.framing front (take end bytes ++ last) some
+    none) in (
       message,
       Opened-frames frames input messages (message ∷ []) (front ++ bytes) rest opened (
         message ++ last,
@@ -163,7 +172,12 @@ pub long_octets : (frames : Frames) (bytes : List ℕ) (left : ℕ) → left ≤
 long_octets frames bytes left there input messages (octets, front, part, opened, long, some, counted, total, more) =
     let message : List ℕ = part ++ take left bytes in
     let frame : List ℕ = front ++ take left bytes in
-    let size : octets ≡ length message = omega (arith, total, length-append part (take left bytes), length-take left bytes) in
+    let size : octets ≡ length message = omega (
+      arith,
+      total,
+      length-append part (take left bytes),
+      length-take left bytes,
+    ) in
     let whole : front ++ bytes ≡ frame ++ drop left bytes =
     ap (λ (l : List ℕ). front ++ l) (sym (take-append-drop left bytes))
     ∙ sym (append_assoc front (take left bytes) (drop left bytes)) in (
@@ -184,7 +198,8 @@ pub long_goes_on : (frames : Frames) (bytes : List ℕ) → NoByte (ending_of fr
     → (messages : List (List ℕ)) → IsAt frames Ending input messages bytes → IsAt frames Ending input messages []
 long_goes_on frames bytes free input messages (front, opened, long, some, none, clear) = (
   front ++ bytes,
-  Opened-along frames input messages (front ++ bytes) ((front ++ bytes) ++ []) (sym (append-nil (front ++ bytes))) opened,
+  Opened-along frames input messages (front ++ bytes) ((front ++ bytes) ++ []) (sym (append-nil (front ++ bytes)))
+      opened,
   λ more. rw (append_assoc front bytes more) (long (bytes ++ more)),
   omega (arith, length-append front bytes, some),
   IsUncounted-more frames.framing front bytes some none,
@@ -198,7 +213,8 @@ octets_go_on frames bytes left fewer input messages (octets, front, part, opened
   octets,
   front ++ bytes,
   part ++ bytes,
-  Opened-along frames input messages (front ++ bytes) ((front ++ bytes) ++ []) (sym (append-nil (front ++ bytes))) opened,
+  Opened-along frames input messages (front ++ bytes) ((front ++ bytes) ++ []) (sym (append-nil (front ++ bytes)))
+      opened,
   λ rest. rw (append_assoc part bytes rest) (long (bytes ++ rest)),
   omega (arith, length-append front bytes, some),
   IsCounted-more frames.framing front octets part bytes counted,
@@ -219,7 +235,8 @@ long_begins frames bytes message some long (none, free, same) input messages ope
   free,
 )
 
-pub octets_begin : (frames : Frames) (bytes message : List ℕ) (left : ℕ) → 10 ≤ length bytes → IsLongFront frames message
+pub octets_begin : (frames : Frames) (bytes message : List ℕ) (left : ℕ) → 10 ≤ length bytes
+    → IsLongFront frames message
     → IsCutBy frames.framing bytes message (Some left) → (input : List ℕ) → (messages : List (List ℕ))
     → Opened frames input messages bytes → IsAt frames (Octets left) input messages []
 octets_begin frames bytes message left some long (more, counted) input messages opened = (
@@ -244,7 +261,8 @@ module _ (bytes : List ℕ) (past : ℕ) where
       rw (← get_or-take past bytes k 0 below)
       (All-get_or (λ (byte : ℕ). byte ≢ 10) (take past bytes) k 0 (omega (arith, length-take past bytes)) free)
 
-  pub open_after : ((k : ℕ) → past ≤ k → k < length bytes → slice_index bytes k ≢ 10) → IsOpen LineFeeds (drop past bytes)
+  pub open_after : ((k : ℕ) → past ≤ k → k < length bytes → slice_index bytes k ≢ 10)
+      → IsOpen LineFeeds (drop past bytes)
   open_after none = (
     drop past bytes,
     inr (
@@ -255,7 +273,8 @@ module _ (bytes : List ℕ) (past : ℕ) where
     ),
   )
 
-  pub closed_before : past ≤ length bytes → (0 < past → slice_index bytes (past - 1) ≡ 10) → EndsInFeed (take past bytes)
+  pub closed_before : past ≤ length bytes → (0 < past → slice_index bytes (past - 1) ≡ 10)
+      → EndsInFeed (take past bytes)
   closed_before within closed = λ some.
       let size : length (take past bytes) ≡ past = omega (arith, length-take past bytes) in
       rw (size, get_or-take past bytes (past - 1) 0 (omega (arith, size))) (closed (omega (arith, size)))
@@ -265,7 +284,8 @@ module _ (bytes : List ℕ) (past : ℕ) where
 pub rest_is : (bytes : List ℕ) (from : ℕ) → take (length bytes - from) (drop from bytes) ≡ drop from bytes
 rest_is bytes from = take_all (length bytes - from) (drop from bytes) (omega (arith, length-drop from bytes))
 
-pub drop_twice : (bytes : List ℕ) (from size : ℕ) → from ≤ length bytes → drop size (drop from bytes) ≡ drop (from + size) bytes
+pub drop_twice : (bytes : List ℕ) (from size : ℕ) → from ≤ length bytes
+    → drop size (drop from bytes) ≡ drop (from + size) bytes
 drop_twice bytes from size within =
     let long : length (take from bytes) ≡ from = omega (arith, length-take from bytes) in
     sym (drop-append-add (take from bytes) (drop from bytes) size)

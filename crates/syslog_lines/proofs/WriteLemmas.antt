@@ -157,7 +157,8 @@ pub Goes-read : (frames : Frames) (place next : Place) (bytes rest : List ℕ) (
     → Goes frames place bytes (HasRead frames) Does
 Goes-read frames place next bytes rest Does held goes = Goes-more frames place bytes
     (λ input messages. IsAt frames next input messages rest) (HasRead frames) Does Does
-    (λ input messages here. let (cut, framed, long) = HasRead-held frames next input messages rest here held in (cut, framed))
+    (λ input messages here. let (cut, framed, long) = HasRead-held frames next input messages rest here held in
+    (cut, framed))
     (λ more does. does) goes
 
 -- what was collected was written
@@ -169,7 +170,8 @@ module _ (frames : Frames) (filter : Filter) (place : Place) (bytes : List ℕ)
       → Goes frames place bytes Reaches (λ more. Answered frames filter more old mid was is)
       → Goes frames place bytes Reaches (λ more. Answered frames filter more out_before out_after was is)
   Goes-answered was is goes = Goes-more frames place bytes Reaches Reaches
-      (λ more. Answered frames filter more old mid was is) (λ more. Answered frames filter more out_before out_after was is)
+      (λ more. Answered frames filter more old mid was is) (λ more. Answered frames filter more out_before out_after
+      was is)
       (λ input messages reached. reached)
       (λ more done. Answered-moved filter old mid out_before out_after moves frames more was is done) goes
 
@@ -207,10 +209,12 @@ pub Stops-held : (frames : Frames) (filter : Filter) (place next : Place) (bytes
     → Stops frames filter place bytes (HasRead frames) out_before out_after failed fault
 Stops-held frames filter place next bytes old mid out_before out_after was is begins {E = E} (Ok past) held done stopped
     failed fault =
-    Stops-cut frames filter place bytes old mid out_before out_after was is begins (HasRead frames) {X = ℕ} {E = E} (Ok past)
+    Stops-cut frames filter place bytes old mid out_before out_after was is begins (HasRead frames) {X = ℕ} {E = E}
+    (Ok past)
     (Goes-read frames place next bytes (drop past bytes)
     (λ more. Answered frames (taken frames filter) more old mid was is) held done) tt failed fault
 Stops-held frames filter place next bytes old mid out_before out_after was is begins {E = E} (Err e) held done stopped
     failed fault =
-    Stops-cut frames filter place bytes old mid out_before out_after was is begins (HasRead frames) {X = ℕ} {E = E} (Err e) tt stopped
+    Stops-cut frames filter place bytes old mid out_before out_after was is begins (HasRead frames) {X = ℕ} {E = E}
+    (Err e) tt stopped
     failed fault

@@ -113,7 +113,8 @@ abbrev pub without_last : ℕ → List ℕ → List ℕ
 without_last byte message =
     if slice_index message (length message - 1) == byte then take (length message - 1) message else message
 
--- the line that a message is read as: without a carriage return at its end and then without a NUL, if these are stripped
+-- the line that a message is read as: without a carriage return at its end and then without a NUL, if these are
+-- stripped
 abbrev pub line_of : Bool → List ℕ → List ℕ
 line_of false message = message
 line_of true message = without_last 0 (without_last 13 message)

@@ -82,12 +82,14 @@ invalid_answers frames (message ∷ messages) (answer ∷ answers) = if is_inval
 pub record HasCounted (frames : Frames) (tally : Tally) (lines : List (List ℕ)) (answers : List Answer) : Type 0 where
   pub answered : tally.answered ≡ held_count (count_by is_answered answers)
   pub skipped : tally.skipped ≡ held_count (count_by is_skipped answers)
-  pub answered_invalid : tally.answered_invalid ≡ held_count (count_by is_answered (invalid_answers frames lines answers))
+  pub answered_invalid : tally.answered_invalid ≡ held_count
+      (count_by is_answered (invalid_answers frames lines answers))
   pub skipped_invalid : tally.skipped_invalid ≡ held_count (count_by is_skipped (invalid_answers frames lines answers))
   pub too_long : tally.too_long ≡ held_count (count_by (is_too_long frames) lines)
 
 -- these are the counts of lines and of what they gave; lines that were read as ISO 8859-1 have nothing replaced
-pub record AreCounts (frames : Frames) (is_latin1 : Bool) (all : List (List ℕ)) (answers : List Answer) (counts : LineCounts) : Type 0 where
+pub record AreCounts (frames : Frames) (is_latin1 : Bool) (all : List (List ℕ)) (answers : List Answer)
+    (counts : LineCounts) : Type 0 where
   pub lines : counts.lines ≡ held_count (length all)
   pub refused : counts.refused ≡ held_count (count_by is_skipped answers)
   pub refused_invalid : counts.refused_invalid ≡ held_count (count_by is_skipped (invalid_answers frames all answers))
@@ -103,7 +105,8 @@ Grows keep answers was is = (n : ℕ) → was ≡ held_count n → is ≡ held_c
 pub record Counts (frames : Frames) (was is : Tally) (lines : List (List ℕ)) (answers : List Answer) : Type 0 where
   pub answered : Grows is_answered answers was.answered is.answered
   pub skipped : Grows is_skipped answers was.skipped is.skipped
-  pub answered_invalid : Grows is_answered (invalid_answers frames lines answers) was.answered_invalid is.answered_invalid
+  pub answered_invalid : Grows is_answered (invalid_answers frames lines answers) was.answered_invalid
+      is.answered_invalid
   pub skipped_invalid : Grows is_skipped (invalid_answers frames lines answers) was.skipped_invalid is.skipped_invalid
   pub too_long : Grows (is_too_long frames) lines was.too_long is.too_long
 

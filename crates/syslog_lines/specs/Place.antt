@@ -41,7 +41,8 @@ IsAt frames Frame input messages bytes = Opened frames input messages bytes
 IsAt frames Ending input messages bytes = (front : List ℕ) × Opened frames input messages (front ++ bytes)
     × IsLongFront frames front × (10 ≤ length front) × IsUncounted frames.framing front
     × NoByte (ending_of frames.framing) front
-IsAt frames (Octets left) input messages bytes = (octets : ℕ) × (front : List ℕ) × (part : List ℕ) × Opened frames input messages (front ++ bytes)
+IsAt frames (Octets left) input messages bytes = (octets : ℕ) × (front : List ℕ) × (part : List ℕ)
+    × Opened frames input messages (front ++ bytes)
     × IsLongFront frames part × (0 < length front) × IsCounted frames.framing front octets part
     × (octets ≡ length part + left) × (0 < left)
 
@@ -72,7 +73,8 @@ StartsAt frames (Octets left) = ⊥
 
 -- what is missing of a frame that is cut: the octets that its count says beyond these, or an ending
 abbrev pub IsCutBy : Framing → List ℕ → List ℕ → Option ℕ → Type 0
-IsCutBy framing bytes message (Some missing) = (0 < missing) × IsCounted framing bytes (length message + missing) message
+IsCutBy framing bytes message (Some missing) = (0 < missing)
+    × IsCounted framing bytes (length message + missing) message
 IsCutBy framing bytes message None = IsUncounted framing bytes × NoByte (ending_of framing) bytes × (message ≡ bytes)
 
 -- after so many bytes the body of the input begins, whatever more of it is read

@@ -48,7 +48,8 @@ PumpsAll frames filter in_before in_after out_before out_after tally = (answers 
     × (held_count (tally.answered + tally.skipped) ≡ held_count (length all.lines))
 
 -- the output of all whole frames of what was read was written
-abbrev pub LosesNothing : Frames → Filter → Option (List ℕ) → Option (List ℕ) → Option (List ℕ) → Option (List ℕ) → Type 0
+abbrev pub LosesNothing : Frames → Filter → Option (List ℕ) → Option (List ℕ) → Option (List ℕ) → Option (List ℕ)
+    → Type 0
 LosesNothing frames filter in_before in_after out_before out_after = (lines : List (List ℕ))
     × ReadFrames frames in_before in_after lines × Wrote (taken frames filter) lines out_before out_after
 
@@ -60,7 +61,8 @@ WantsRoom frames filter in_before in_after out_before out_after =
 
 -- What was read and written where a filter ends early. A failed read, and want of memory for the next block, lose no
 -- whole frame; want of memory for a line loses none before it; after a failed write the last line may be cut.
-abbrev pub EndsEarly : Frames → Filter → Option (List ℕ) → Option (List ℕ) → Option (List ℕ) → Option (List ℕ) → RunFault
+abbrev pub EndsEarly : Frames → Filter → Option (List ℕ) → Option (List ℕ) → Option (List ℕ) → Option (List ℕ)
+    → RunFault
     → Type 0
 EndsEarly frames filter in_before in_after out_before out_after Read =
     LosesNothing frames filter in_before in_after out_before out_after
@@ -68,7 +70,8 @@ EndsEarly frames filter in_before in_after out_before out_after Write = (lines :
     × CanAnswer frames in_before in_after lines × WroteCut (taken frames filter) lines out_before out_after
 EndsEarly frames filter in_before in_after out_before out_after Memory =
     WantsRoom frames filter in_before in_after out_before out_after
-    ⊎ ((lines : List (List ℕ)) × CanAnswer frames in_before in_after lines × WroteBefore (taken frames filter) lines out_before out_after)
+    ⊎ ((lines : List (List ℕ)) × CanAnswer frames in_before in_after lines
+    × WroteBefore (taken frames filter) lines out_before out_after)
 
 -- which of the reader and the writer failed, by how the filter ended
 abbrev pub FailedAs : {X : Type 0} → Result X RunFault → Bool → Bool → Type 0

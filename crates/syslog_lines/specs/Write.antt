@@ -34,7 +34,8 @@ pub record WroteCut (filter : Filter) (lines : List (List ℕ)) (out_before out_
   pub written : Appends out_before out_after (take size (output_of answers))
 
 -- the output of the lines was written, and the lines counted
-pub record Answered (frames : Frames) (filter : Filter) (lines : List (List ℕ)) (out_before out_after : Option (List ℕ)) (was is : Tally)
+pub record Answered (frames : Frames) (filter : Filter) (lines : List (List ℕ))
+    (out_before out_after : Option (List ℕ)) (was is : Tally)
     : Type 0 where
   pub wrote : Wrote filter lines out_before out_after
   pub counted : Counts frames was is lines wrote.answers
@@ -50,7 +51,8 @@ AnswersBefore filter bytes out_before out_after = (lines : List (List ℕ)) × I
     × WroteBefore filter lines out_before out_after
 
 -- the output of all lines of the bytes was added; or memory was refused, and that of those before one that may want it
-abbrev pub AddsAnswers : {X E : Type 0} → Frames → Filter → List ℕ → List ℕ → List ℕ → Tally → Tally → Result X E → Type 0
+abbrev pub AddsAnswers : {X E : Type 0} → Frames → Filter → List ℕ → List ℕ → List ℕ → Tally → Tally → Result X E
+    → Type 0
 AddsAnswers frames filter bytes old new was is (Ok done) = AnswersAll frames filter bytes (Some old) (Some new) was is
 AddsAnswers frames filter bytes old new was is (Err refused) = AnswersBefore filter bytes (Some old) (Some new)
 

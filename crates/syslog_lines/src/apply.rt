@@ -1,6 +1,7 @@
 //! Applies a filter to each of some lines.
 ghost use Rattle.syslog_lines.specs.declared.place.Place.TheVariants.{Frame, Head};
-ghost use Rattle.std.specs.Prelude.{◌≡◌, ◌≤◌, ◌⊎◌, ◌∷◌, [], List, ℕ, Some, false, IfOk, OnErr, OnOk, length, take, drop};
+ghost use Rattle.std.specs.Prelude.{◌≡◌, ◌≤◌, ◌⊎◌, ◌∷◌, [], List, ℕ, Some, false, IfOk, OnErr, OnOk, length, take};
+ghost use Rattle.std.specs.Prelude.{drop};
 ghost use Rattle.syslog_lines.specs.Frames.{AreFrames, HasAllFrames, IsOpen, is_above};
 ghost use Rattle.syslog_lines.specs.Output.{taken};
 ghost use Rattle.syslog_lines.specs.Place.{Goes, HasRead, IsAt, IsHeld, IsSeen};

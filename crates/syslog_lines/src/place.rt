@@ -110,8 +110,8 @@ impl Place {
     }
 }
 
-// Returns whether the message of a frame that is cut is too long, of which so many bytes are there. Two bytes at its end may
-// yet be left out, and ten of the frame show whether there is a count.
+// Returns whether the message of a frame that is cut is too long, of which so many bytes are there. Two bytes at its
+// end may yet be left out, and ten of the frame show whether there is a count.
 fn is_long_front(frames: Frames, size: usize, message: usize) -> bool
     ensures { result ≡ true → (10 ≤ size) × (is_above frames.longest (message - 2) ≡ true) }
 {
@@ -121,7 +121,8 @@ fn is_long_front(frames: Frames, size: usize, message: usize) -> bool
     frames.is_too_long(message.saturating_sub(2))
 }
 
-// Returns the size of the byte order mark that the bytes begin with, 0 if it is none, and nothing if they don't show it.
+// Returns the size of the byte order mark that the bytes begin with, 0 if it is none, and nothing if they don't show
+// it.
 fn mark_size(bytes: &[u8]) -> Option<usize>
     ensures { MatchOption result (IsMarkFront bytes.now) (λ size. HasMark bytes.now size) }
 {

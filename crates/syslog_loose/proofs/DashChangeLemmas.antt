@@ -244,7 +244,8 @@ module _ (dating : Dating) (text : Text) where
   back RFC3164 d = let r = differs_by_dash_change dating text d in
       differs_by RFC3164 dating text _ _ (r.read BeforeAnything).1 (r.read BeforeBlank).1 r.differ
   back Either (none, d) = let r = differs_by_dash_change dating text d in
-      differs_by Either dating text _ _ (inr (none, (r.read BeforeAnything).1)) (inr (none, (r.read BeforeBlank).1)) r.differ
+      differs_by Either dating text _ _ (inr (none, (r.read BeforeAnything).1)) (inr (none, (r.read BeforeBlank).1))
+      r.differ
 
   -- ---- a text was read exactly where it is
 

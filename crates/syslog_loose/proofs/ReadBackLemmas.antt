@@ -162,7 +162,8 @@ printed_shows_none m b = shows_none_as m.protocol m refl b.protocol
 -- so neither does that of a message that was read
 pub read_shows_none : (variant : Variant) (dating : Dating) (text : Text) (m : MessageValue)
     → IsRead variant dating text m → (date : MonthDate) → ShowsMonthDate (printed m) date → ⊥
-read_shows_none variant dating text m r = shows_none_as m.protocol m refl (read_bounded variant dating text m r).protocol
+read_shows_none variant dating text m r = shows_none_as m.protocol m refl
+    (read_bounded variant dating text m r).protocol
 
 -- and it asks for no year
 asks_shown : (variant : Variant) (text : Text) (date : MonthDate) → AsksYear variant text date
@@ -237,7 +238,8 @@ again variant dating bytes u (Err Memory) told m k h e n = absurd (n refl)
 -- and in the year that the closure returned
 pub again_in : (post : IncompleteDate → ℤ → Type 0) (variant : Variant) (dated : Option ℤ → Dating) (bytes : List ℕ)
     → IsUtf8 bytes → (r : Result (String Global) ParseFault)
-    → InYear post variant (chars bytes) (λ year. Normalises variant (dated year) bytes r) → AnswersAgain variant (chars bytes) bytes r
+    → InYear post variant (chars bytes) (λ year. Normalises variant (dated year) bytes r)
+    → AnswersAgain variant (chars bytes) bytes r
 again_in post variant dated bytes u r h =
     again variant (dated h.answered) bytes u r (h.holds h.answered (λ date asks. refl))
 

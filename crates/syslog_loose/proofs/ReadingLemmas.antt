@@ -1,5 +1,7 @@
--- How a text is read: what the pieces at its front say, what is made of it by way of its line, and what the calls return.
-use Rattle.syslog_loose.proofs.Names.{◌⊎◌, ◌≡◌, ◌≢◌, ◌∙◌, inl, inr, ℕ, ℤ, List, Option, Some, None, w32, to_z, of_z, refl}
+-- How a text is read: what the pieces at its front say, what is made of it by way of its line, and what the calls
+-- return.
+use Rattle.syslog_loose.proofs.Names.{◌⊎◌, ◌≡◌, ◌≢◌, ◌∙◌, inl, inr, ℕ, ℤ, List, Option, Some, None, w32, to_z, of_z}
+use Rattle.syslog_loose.proofs.Names.{refl}
 use Rattle.syslog_loose.proofs.Names.{sym, ap, subst, MatchOption, IsSomeAnd, Bor, TimeZone, Text, shown, Dating}
 use Rattle.syslog_loose.proofs.Names.{dating_of, MonthDate, MessageValue, message_value, dash_rule, IsRead, IsOnlyRead}
 use Rattle.syslog_loose.proofs.Names.{IncompleteDate, AsksYear, IsYearAnswered, InYear, IsQuoted, incomplete}
@@ -280,7 +282,8 @@ module _ (variant : Variant) (text : Text) {follows : Text} {p : Option ℕ}
 
 -- a reading by RFC 5424 is one by each variant that reads it, and one by RFC 3164 by each that is left to try it
 read_by : (variant : Variant) (dating : Dating) (text : Text) (m : MessageValue) → (variant ≢ RFC3164
-    × IsRead5424 text m) ⊎ (IsLeftTo3164 variant text × IsRead3164 dash_rule dating text m) → IsRead variant dating text m
+    × IsRead5424 text m) ⊎ (IsLeftTo3164 variant text × IsRead3164 dash_rule dating text m)
+    → IsRead variant dating text m
 read_by RFC5424 dating text m (inl (n, r)) = r
 read_by RFC5424 dating text m (inr (left, r)) = absurd left
 read_by RFC3164 dating text m (inl (n, r)) = absurd (n refl)
@@ -308,14 +311,16 @@ unversioned line r =
 pub line_5424 : (variant : Variant) (dating : Dating) {text : Text} (line : Line)
     → variant ≢ RFC3164 × IsLine5424 text line → IsLineOf variant dating text line
 line_5424 variant dating {text} line r = record {
-  only = only_read variant dating text (line_value line) (read_by variant dating text (line_value line) (inl (r.0, r.1.read)));
+  only = only_read variant dating text (line_value line)
+      (read_by variant dating text (line_value line) (inl (r.0, r.1.read)));
   shows = inl r.1;
 }
 
 pub line_3164 : (variant : Variant) (dating : Dating) {text : Text} (line : Line) → IsLeftTo3164 variant text
     → IsLine3164 dating text line → IsLineOf variant dating text line
 line_3164 variant dating {text} line left r = record {
-  only = only_read variant dating text (line_value line) (read_by variant dating text (line_value line) (inr (left, r.read)));
+  only = only_read variant dating text (line_value line)
+      (read_by variant dating text (line_value line) (inr (left, r.read)));
   shows = inr r;
 }
 

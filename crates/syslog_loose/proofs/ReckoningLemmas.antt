@@ -24,7 +24,8 @@ answered_once answer variant text (Some y) (Some z) (d, shown, is) (e, also, sam
 
 -- what holds of the dating, and what else does, holds of one
 pub one_dating : {Holds More : Dating → Type 0} (dates : Dates) (variant : Variant) (text : Text)
-    → IsDated dates variant text Holds → IsDated dates variant text More → (dating : Dating) × Holds dating × More dating
+    → IsDated dates variant text Holds → IsDated dates variant text More → (dating : Dating) × Holds dating
+    × More dating
 one_dating dates variant text g h = (
   dating_in (plain_zone dates.zone) g.answered,
   g.holds g.answered (λ date asks. refl),

@@ -141,7 +141,8 @@ named_bounded : (id : Text) (process : ProcId Text) → NamesProcess id process 
 named_bounded id (PID n) h = h.1
 named_bounded id (Name t) h = tt
 
-pub rfc3164_bounded : (rule : DashRule) (dating : Dating) (text : Text) (m : MessageValue) → IsRead3164 rule dating text m
+pub rfc3164_bounded : (rule : DashRule) (dating : Dating) (text : Text) (m : MessageValue)
+    → IsRead3164 rule dating text m
     → IsBounded m
 rfc3164_bounded rule dating text m r =
     let (n, resolves, means) = r.means in
@@ -260,7 +261,8 @@ many_shorter p q (e ∷ es) l (a, b, whole, is, more) =
     let f : Front full_element (p ++ q) (b ++ q) e = record { piece = a; whole = append_more p a b q whole; is = is } in
     omega (arith, full_shorter (p ++ q) (b ++ q) e f, length-append b q)
 
-pub list_none : (rule : DashRule) {t q : Text} (v : Option (List ElementValue)) → Front (optional (rfc3164_list rule)) t q v
+pub list_none : (rule : DashRule) {t q : Text} (v : Option (List ElementValue))
+    → Front (optional (rfc3164_list rule)) t q v
     → length t ≤ length q → (elements_or v ≡ []) × NoFront (rfc3164_list rule) t
 list_none rule None f l = (refl, absent_none (rfc3164_list rule) f)
 list_none rule {q = q} (Some es) f l = elim f.is [
@@ -394,7 +396,8 @@ rfc3164_apart : (dating : Dating) (p q : Text) (v : Option OffsetTimestamp) → 
     → Versioned (p ++ q) → ⊥
 rfc3164_apart dating p q None (inl h) n = dash_apart [] q (p ++ q) (ap (λ (x : Text). x ++ q) h) tt n
 rfc3164_apart dating p q (Some s) (inl h) n =
-    let (y, r, e, digits) = stamp_text-year p s h.0 in dash_apart y (r ++ q) (p ++ q) (append_more p y (45 ∷ r) q e) digits n
+    let (y, r, e, digits) = stamp_text-year p s h.0 in
+    dash_apart y (r ++ q) (p ++ q) (append_more p y (45 ∷ r) q e) digits n
 rfc3164_apart dating p q None (inr h) n = absurd h
 rfc3164_apart dating p q (Some s) (inr (d, h, stamp)) n = date_apart p q d h n
 
@@ -440,7 +443,8 @@ no_digit false ys h = let t : false ≡ true = h in cc
 
 -- the printed text of a message of RFC 3164
 pub printed_3164_is : (m : MessageValue) → m.protocol ≡ RFC3164 → printed m ≡ printed_3164 m
-printed_3164_is m e = ap (λ (x : Protocol). elim x [ RFC5424 version ↦ printed_5424 version m | RFC3164 ↦ printed_3164 m ]) e
+printed_3164_is m e = ap (λ (x : Protocol). elim x
+    [ RFC5424 version ↦ printed_5424 version m | RFC3164 ↦ printed_3164 m ]) e
 
 pub printed_apart : (m : MessageValue) → IsNot5424 (printed_3164 m)
 unfolding printed_3164

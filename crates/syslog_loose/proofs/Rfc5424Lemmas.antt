@@ -175,7 +175,8 @@ elements_unblank (e ∷ es) q = refl
 
 -- its list and its message part, after its names
 pub data_printed : {line : Line} {text after start left own msg : Text} {es : List ElementValue}
-    → FitsNames text line after → Front (run is_blank) after start tt → Front forgiving start left es → start ≡ own ++ left
+    → FitsNames text line after → Front (run is_blank) after start tt → Front forgiving start left es → start ≡ own
+    ++ left
     → text ≡ names_before line (32 ∷ (elements_text es ++ (32 ∷ msg)))
     → IsTrue line.is_printed × (after ≡ 32 ∷ start) × (own ≡ elements_text es) × (left ≡ 32 ∷ msg)
 data_printed {left = left} {own = own} {msg = msg} {es = es} names gap list cut e =
@@ -276,7 +277,11 @@ module _ (version : ℕ) (m : MessageValue) (bounded : version ≤ 4294967295) (
       then message_blanks m.msg p.msg_front then rest_front m.msg then refl) in
       let header = row_back fields fields_sound (values_of version m) _ (fields_back (elements_text es ++ end)) in
       record {
-        values = (Some (priority_of m), both_values (classes fields) tail_row (values_of version m) (tt, ([], (tt, (m.msg, tt)))));
+        values = (
+          Some (priority_of m),
+          both_values (classes fields) tail_row (values_of version m)
+              (tt, ([], (tt, (m.msg, tt)))),
+        );
         division = front_division leaving_row (rw (trimmed_5424 version m p.msg_end)
             (row_cons (optional priority) (classes fields ++ tail_row)
             (optional_some priority (priority_front (priority_of m) _ (priority_low m)))
@@ -371,8 +376,10 @@ filled (Some x) d h = refl
 pub read_canonical : (rule : DashRule) (text : Text) (m : MessageValue) → IsRead5424 text m → IsSome m.facility
     → IsCanonical rule m
 read_canonical rule text m r f =
-    let there : IsSome (option_and_then facility_of r.values.0) = subst (λ (x : MessageValue). IsSome x.facility) r.means f in
-    let s : IsSome m.severity = subst (λ (x : MessageValue). IsSome x.severity) (sym r.means) (severity_beside r.values.0 there) in
+    let there : IsSome (option_and_then facility_of r.values.0) = subst (λ (x : MessageValue). IsSome x.facility)
+    r.means f in
+    let s : IsSome m.severity = subst (λ (x : MessageValue). IsSome x.severity) (sym r.means)
+    (severity_beside r.values.0 there) in
     let same : completed m ≡ m = λ i. record m {
       facility = filled m.facility LOG_SYSLOG f i;
       severity = filled m.severity SEV_DEBUG s i;

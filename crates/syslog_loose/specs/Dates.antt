@@ -14,4 +14,5 @@ year_in dates date = reckoned_year dates.year dates.month date
 -- this holds of the dating of the text by the dates
 abbrev pub IsDated : Dates → Variant → Text → (Dating → Type 0) → Type 0
 IsDated dates variant text Holds =
-    InYear (λ date year. year ≡ year_in dates date) variant text (λ year. Holds (dating_in (plain_zone dates.zone) year))
+    InYear (λ date year. year ≡ year_in dates date) variant
+    text (λ year. Holds (dating_in (plain_zone dates.zone) year))

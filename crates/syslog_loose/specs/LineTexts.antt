@@ -3,7 +3,8 @@
 use Rattle.std.specs.Option.{option_flatten}
 use Rattle.std.specs.Prelude.{◌≡◌, ◌↔◌, ◌∷◌}
 use Rattle.syslog_loose.specs.Words.{ℕ, [], IsSome, IsTrue, Option, Some, Text, Division, Front, Row, run, rest}
-use Rattle.syslog_loose.specs.Words.{optional, texted, seen, shown, list_text, is_blank, forgiving, rfc3164_list, trimmed, Dating}
+use Rattle.syslog_loose.specs.Words.{optional, texted, seen, shown, list_text, is_blank, forgiving, rfc3164_list}
+use Rattle.syslog_loose.specs.Words.{trimmed, Dating}
 use Rattle.syslog_loose.specs.Line.{line_value}
 use Rattle.syslog_loose.specs.Printed.{rest_text}
 use Rattle.syslog_loose.specs.Reading.{dash_rule}

@@ -77,7 +77,8 @@ pub record IsUnsettled (variant : Variant) (dating : Dating) (text later : Text)
   pub odd : HasRank 0 message → ⊥
   pub lower : (n : ℕ) (m : MessageValue) → IsRead variant dating later m → HasRank (suc n) message → HasRank n m
 
--- At most so many passes lead from the text to u. The last writes the next round of the text before it, which is settled.
+-- At most so many passes lead from the text to u. The last writes the next round of the text before it, which is
+-- settled.
 -- Each other writes a later round of the text before it, before which none is settled, and the rank falls.
 unfoldable pub PassesLead : Variant → Dating → ℕ → Text → Text → Type 0
 PassesLead variant dating zero text u = ⊥

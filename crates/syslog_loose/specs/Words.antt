@@ -1,4 +1,5 @@
--- The words of std, jiff and syslog_pieces that the clauses and definitions of this crate cite, passed on from one place.
+-- The words of std, jiff and syslog_pieces that the clauses and definitions of this crate cite, passed on from one
+-- place.
 -- Declares nothing.
 pub use Rattle.std.specs.Borrow.{Bor}
 pub use Rattle.std.specs.Cmp.Lexicographic.{pointwise, nat_list_eq_equiv, options_equiv, lists_equiv}

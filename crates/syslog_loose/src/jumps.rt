@@ -41,7 +41,8 @@ pub(crate) fn write_round(text: &mut String, line: &Line<'_>) -> Result<(), Allo
 
 // Writes the line without the dashes that its next readings take.
 fn write_past_dashes(text: &mut String, line: &Line<'_>) -> Result<(), AllocError>
-    requires { IfSome (line_value line.now).timestamp IsCanonicalStamp → IfSome (line_value line.now).hostname EndsOnce }
+    requires { IfSome (line_value line.now).timestamp IsCanonicalStamp
+        → IfSome (line_value line.now).hostname EndsOnce }
     ensures { (variant : Variant) (dating : Dating) (input : Text) → IsRead variant dating input (line_value line.now)
         → line.now.version ≡ None
         → OnOk result (IsLater variant dating input (line_value line.now) (chars (string_bytes text.new))) }
@@ -189,10 +190,11 @@ fn push_end(text: &mut String, msg: &str) -> Result<(), AllocError>
     text.push_str(msg)
 }
 
-// The message part without the dashes that the next readings take from it, one in each round, up to the last one that has
-// a blank after it.
+// The message part without the dashes that the next readings take from it, one in each round, up to the last one that
+// has a blank after it.
 fn msg_past_dashes<'a>(line: &Line<'a>) -> &'a str
-    requires { IfSome (line_value line.now).timestamp IsCanonicalStamp → IfSome (line_value line.now).hostname EndsOnce }
+    requires { IfSome (line_value line.now).timestamp IsCanonicalStamp
+        → IfSome (line_value line.now).hostname EndsOnce }
     ensures { (variant : Variant) (dating : Dating) (input : Text)
         → IsRead variant dating input (line_value line.now) → line.now.version ≡ None
         → IsLater variant dating input (line_value line.now) (printed (with_msg (line_value line.now) (shown result))) }

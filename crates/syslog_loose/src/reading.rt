@@ -1,7 +1,7 @@
 //! The calls that read a text.
 //!
-//! Each goes by `visit_line`, and collects the elements of the line. The calls with `exact` in their names refuse a text
-//! that does not parse; the others return the fallback.
+//! Each goes by `visit_line`, and collects the elements of the line. The calls with `exact` in their names refuse a
+//! text that does not parse; the others return the fallback.
 ghost use Rattle.std.specs.Prelude.{◌≡◌};
 ghost use Rattle.syslog_loose.specs.Words.{List, [], IfOk, None, chars, plain_zone, shown, dating_of, ElementValue};
 ghost use Rattle.syslog_pieces.specs.Timestamp.Zone.{IsYearAt};

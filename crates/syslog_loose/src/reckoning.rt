@@ -8,8 +8,8 @@ ghost use Rattle.syslog_loose.specs.Reckoning.{IsZoneAt, reckoned_year};
 use crate::variant::IncompleteDate;
 use jiff::tz::{Offset, TimeZone};
 
-/// Returns the year of a date that shows none, from the year that it is now. Where the month is known and it is January,
-/// a date of December is of the year before. Meant as the body of a `get_year`, for years from -9999 to 9999.
+/// Returns the year of a date that shows none, from the year that it is now. Where the month is known and it is
+/// January, a date of December is of the year before. Meant as the body of a `get_year`, for years from -9999 to 9999.
 #[inline]
 pub fn reckon_year(year: i32, month: Option<u32>, date: IncompleteDate) -> i32
     ensures { IsYear year → result ≡ reckoned_year year month date }

@@ -120,7 +120,8 @@ impl<'a> LineVisitor<'a> for String {
 #[inline(always)]
 fn is_known_settled(line: &Line<'_>) -> bool
     requires { KnowsForm line.now }
-    ensures { MatchBool result (IsAtRest (line_value line.now).protocol (line_value line.now)) (line.now.version ≡ None) }
+    ensures { MatchBool result (IsAtRest (line_value line.now).protocol (line_value line.now)) (line.now.version
+        ≡ None) }
 {
     line.version.is_some() || (line.is_printed && is_canonical_clock(line.timestamp))
 }

@@ -78,12 +78,14 @@ pub fn settle_into<F: FnOnce(IncompleteDate) -> i32>(
     settle_on(alloc, text, variant)
 }
 
-// Continues from a round that is not known to be settled, by at most five passes. What is printed shows no month date, so
-// none asks for a year. The two texts are swapped before each pass.
+// Continues from a round that is not known to be settled, by at most five passes. What is printed shows no month
+// date, so none asks for a year. The two texts are swapped before each pass.
 fn settle_on(alloc: Global, text: &mut String, variant: Variant) -> Result<(), ParseFault>
-    ensures settles { (dating : Dating) (input : Text) → ReachesRank variant dating input 4 (chars (string_bytes text.old))
+    ensures settles { (dating : Dating) (input : Text)
+        → ReachesRank variant dating input 4 (chars (string_bytes text.old))
         → Settles variant dating input (answer_in result text.new) }
-    ensures passes { (dating : Dating) (input : Text) → ReachesRank variant dating input 4 (chars (string_bytes text.old))
+    ensures passes { (dating : Dating) (input : Text)
+        → ReachesRank variant dating input 4 (chars (string_bytes text.old))
         → IfOk (answer_in result text.new) (λ answer. PassesLead variant dating 5 (chars (string_bytes text.old))
         (chars (string_bytes answer))) }
 {

@@ -41,8 +41,8 @@ pub trait LineVisitor<'a> {
         ensures { makes self.old line.now result self.new };
 }
 
-// What is made of a line of RFC 5424, from after its priority on; none where the variant reads no such lines, or the text
-// is none. Where no version begins it, that is found before the call.
+// What is made of a line of RFC 5424, from after its priority on; none where the variant reads no such lines, or the
+// text is none. Where no version begins it, that is found before the call.
 #[inline(always)]
 fn visit_5424<'a, E: ElementVisitor<'a>, V: LineVisitor<'a>>(
     priority: Option<u8>,
@@ -160,8 +160,8 @@ pub(crate) fn visit_undated<'a, E: ElementVisitor<'a>, V: LineVisitor<'a>>(
 
 /// Returns what the visitor makes of the line that the text is parsed as, and none where it does not parse.
 ///
-/// The strict elements of the line are given to `elements` on the way, before the visitor takes the line. Where the text
-/// does not parse, it is given none.
+/// The strict elements of the line are given to `elements` on the way, before the visitor takes the line. Where the
+/// text does not parse, it is given none.
 ///
 /// `get_year` gives the year of a date that has none: it is called once, and only where the text shows such a date and
 /// the variant reads it. `tz` is the zone of a date without an offset, and `local` is taken where that is absent. No

@@ -497,7 +497,8 @@ pair_ends {raw = raw} {text = text} {first = first} {room = room} {end = end} st
 -- and a pair within it is passed
 pub pair_passed : {raw : Bool} {base text : List ℕ} {at first : ℕ} {room : List ℕ} {end left stop : ℕ}
     → AtStop raw base text at first room end left stop → (stop ≡ 15 → ⊥)
-    → AreStops text first (stop + 2) (bit_and (bit_and left (bit_not w64 (1 * 2 ^ stop % 2 ^ 64))) (bit_not w64 (1 * 2 ^ (stop + 1) % 2 ^ 64)))
+    → AreStops text first (stop + 2) (bit_and (bit_and left (bit_not w64 (1 * 2 ^ stop % 2 ^ 64)))
+    (bit_not w64 (1 * 2 ^ (stop + 1) % 2 ^ 64)))
     × (bit_and (bit_and left (bit_not w64 (1 * 2 ^ stop % 2 ^ 64))) (bit_not w64 (1 * 2 ^ (stop + 1) % 2 ^ 64)) < left)
 pair_passed {text = text} {first = first} {left = left} {stop = stop} a other =
     let next = bit_and left (bit_not w64 (1 * 2 ^ stop % 2 ^ 64)) in

@@ -20,7 +20,8 @@ NoBackslash xs = (k : ℕ) → k < length xs → get_or xs k 0 ≢ 92
 stay : (xs rest : List ℕ) → NoBackslash xs → unescaped (xs ++ rest) ≡ xs ++ unescaped rest
 stay [] rest h = refl
 stay (x ∷ xs) rest h =
-    rw (ne_eqb x 92 (h 0 (omega arith))) (ap (λ (l : List ℕ). x ∷ l) (stay xs rest (λ k below. h (suc k) (omega arith))))
+    rw (ne_eqb x 92 (h 0 (omega arith))) (ap (λ (l : List ℕ). x ∷ l)
+    (stay xs rest (λ k below. h (suc k) (omega arith))))
 
 -- a byte of a character is none that another character is
 other_bytes : (c d : ℕ) → c ≢ d → d < 128 → (k : ℕ) → k < length (encode c) → get_or (encode c) k 0 ≢ d
@@ -72,9 +73,14 @@ pair_agrees c t u h =
           ∙ ap₂ (λ (a b : List ℕ). a ++ b) (sym (meaning_ascii c low)) h ∙ sym (encodes-append (pair_meaning c) u)
       | inr high ↦
           let is : (d : ℕ) → d < 128 → c ≢ d = λ d low e. omega arith in
-          let stays = pair_stays c (is 110 (omega arith)) (is 92 (omega arith)) (is 34 (omega arith)) (is 93 (omega arith)) in
+          let stays = pair_stays c (is 110 (omega arith)) (is 92 (omega arith)) (is 34 (omega arith))
+          (is 93 (omega arith)) in
           start
-          ∙ high_pair (encode c) (encodes t) (omega (arith, length-le-encodes (c ∷ []), ap length (append-nil (encode c)))) (λ d low. other_bytes c d (is d low) low)
+          ∙ high_pair (encode c) (encodes t) (omega (
+            arith,
+            length-le-encodes (c ∷ []),
+            ap length (append-nil (encode c)),
+          )) (λ d low. other_bytes c d (is d low) low)
           ∙ ap (λ (l : List ℕ). 92 ∷ (encode c ++ l)) h
           ∙ sym (ap (λ (x : Text). encodes (x ++ u)) stays ∙ encodes_low 92 (c ∷ u) (omega arith))
     ]

@@ -47,14 +47,18 @@ pub closed : (out now all : List ℕ) → now ≡ out ++ 125 ∷ [] → out ++ r
 closed out now all e before = e ∙ before
 
 pub opened : (old now : List ℕ) (protocol : Protocol) (fields : List Field) → now ≡ old ++ protocol_fields protocol
-    → now ++ rest_text fields ≡ old ++ compact_text (object_of ((codes "protocol", Some (string (protocol_text protocol)))
+    → now ++ rest_text fields ≡ old ++ compact_text (object_of
+    ((codes "protocol", Some (string (protocol_text protocol)))
     ∷ (codes "version", version_json protocol) ∷ fields))
 opened old now protocol fields e =
     let version = field_text (codes "version") (version_json protocol) in
     ap (λ xs. xs ++ rest_text fields) e ∙ append_assoc old (protocol_fields protocol) (rest_text fields)
-    ∙ ap (λ xs. old ++ (123 ∷ xs)) (append_assoc (quoted (codes "protocol")) (58 ∷ (quoted (protocol_text protocol) ++ version)) (rest_text fields)
-    ∙ ap (λ xs. quoted (codes "protocol") ++ 58 ∷ xs) (append_assoc (quoted (protocol_text protocol)) version (rest_text fields)
-    ∙ ap (λ xs. quoted (protocol_text protocol) ++ xs) (sym (rest_more (codes "version") (version_json protocol) fields))))
+    ∙ ap (λ xs. old ++ (123 ∷ xs)) (append_assoc (quoted (codes "protocol"))
+    (58 ∷ (quoted (protocol_text protocol) ++ version)) (rest_text fields)
+    ∙ ap (λ xs. quoted (codes "protocol") ++ 58 ∷ xs) (append_assoc (quoted (protocol_text protocol)) version
+    (rest_text fields)
+    ∙ ap (λ xs. quoted (protocol_text protocol) ++ xs)
+    (sym (rest_more (codes "version") (version_json protocol) fields))))
 
 -- a field with the bytes before its text
 pub named : (key prefix : List ℕ) (text : Option Text) → prefix ≡ 44 ∷ (quoted key ++ 58 ∷ 34 ∷ [])
@@ -113,7 +117,8 @@ message_whole m b =
     let p6 = p5 ++ text_field (codes ",\"appname\":\"") m.appname in
     let p7 = p6 ++ text_field (codes ",\"procid\":\"") (option_map procid_text m.procid) in
     let p8 = p7 ++ text_field (codes ",\"msgid\":\"") m.msgid in
-    field_written p8 _ _ (codes "structured_data") (structured_json m.structured_data) (back_fields m b.unparsed b.raw) refl
+    field_written p8 _ _ (codes "structured_data") (structured_json m.structured_data)
+    (back_fields m b.unparsed b.raw) refl
     (name_written p7 p8 _ (codes "msgid") _ m.msgid _ refl refl
     (process_written p6 p7 _ (codes "procid") _ m.procid _ refl refl
     (name_written p5 p6 _ (codes "appname") _ m.appname _ refl refl
@@ -125,7 +130,8 @@ message_whole m b =
     (opened [] p0 m.protocol _ refl)))))))))
 
 -- so they are the object, where they were written one after the other
-pub whole_written : (m : MessageValue) (b : Beside) (old front list now : List ℕ) → front ≡ old ++ front_text m b.dialect
+pub whole_written : (m : MessageValue) (b : Beside) (old front list now : List ℕ) → front ≡ old
+    ++ front_text m b.dialect
     → list ≡ front ++ field_text (codes "structured_data") (structured_json m.structured_data)
     → now ≡ list ++ rest_text (back_fields m b.unparsed b.raw) → now ≡ old ++ compact_text (message_json m b)
 whole_written m b old front list now first second third =
@@ -178,7 +184,8 @@ ids_added es e ids count id within held same =
     rw (take_more_set ids count id within, map-append (λ (s : Bor (List ℕ)). s.now) (take count ids) (id ∷ []))
     (rw (held, same, keys_more es e) refl)
 
-pub keys_distinct : (es : List ElementValue) (e : ElementValue) (id : List ℕ) (keys : List (List ℕ)) → AreDistinct (element_keys es)
+pub keys_distinct : (es : List ElementValue) (e : ElementValue) (id : List ℕ) (keys : List (List ℕ))
+    → AreDistinct (element_keys es)
     → keys ≡ element_keys es → id ≡ encode_utf8_all e.id → IsNewKey id keys → AreDistinct (element_keys (es ++ e ∷ []))
 keys_distinct es e id keys distinct held same new =
     rw (keys_more es e) (distinct_more (element_keys es) _ distinct (rw (held, same) at new))

@@ -150,7 +150,11 @@ mutual
   members later no_members h = (omega arith, tt)
   members later (member k j ms) h =
       joined (comma_if later) _ (comma later)
-      (joined (quoted k) _ (in_quotes k) (omega arith, joined (compact_text j) _ (printable j h.0) (members true ms h.1)))
+      (joined (quoted k) _ (in_quotes k) (
+        omega arith,
+        joined (compact_text j) _ (printable j h.0)
+            (members true ms h.1),
+      ))
 
 -- ---- no value of a line has a large number or nests deep
 
@@ -199,7 +203,8 @@ each_mapped P f each [] = tt
 each_mapped P f each (x ∷ xs) = (each x, each_mapped P f each xs)
 
 flat_element : (element : ElementValue) → IsFlat 2 (element_json element)
-flat_element element = flat_gathered 0 _ (each_mapped (λ p. IsFlat 0 p.1) param_pair (λ p. (tt, omega arith)) element.params)
+flat_element element = flat_gathered 0 _ (each_mapped (λ p. IsFlat 0 p.1) param_pair (λ p. (tt, omega arith))
+    element.params)
 
 -- the value, if any, has small numbers and nests no deeper
 abbrev pub IsFlatField : Option Json → Type 0
@@ -208,7 +213,8 @@ IsFlatField (Some value) = IsFlat 4 value
 
 pub flat_structured : (elements : List ElementValue) → IsFlatField (structured_json elements)
 flat_structured [] = tt
-flat_structured (e ∷ es) = flat_gathered 2 (map element_pair (e ∷ es)) (each_mapped (λ p. IsFlat 2 p.1) element_pair flat_element (e ∷ es))
+flat_structured (e ∷ es) = flat_gathered 2 (map element_pair (e ∷ es))
+    (each_mapped (λ p. IsFlat 2 p.1) element_pair flat_element (e ∷ es))
 
 flat_optional : {X : Type 0} (json : X → Json) → ((x : X) → IsFlat 4 (json x)) → (o : Option X)
     → IsFlatField (option_map json o)

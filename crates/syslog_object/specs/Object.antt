@@ -78,8 +78,8 @@ present ((key, Some value) ∷ fields) = (key, value) ∷ present fields
 abbrev pub object_of : List Field → Json
 object_of fields = object (members_of (present fields))
 
--- what the object has beside the message, each where it is given: the name of the dialect in which the line was read, the
--- structured data that was left unparsed, and the line as it came
+-- what the object has beside the message, each where it is given: the name of the dialect in which the line was read,
+-- the structured data that was left unparsed, and the line as it came
 pub record Beside : Type 0 where
   pub dialect : Option Text
   pub unparsed : Option Text

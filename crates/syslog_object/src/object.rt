@@ -94,12 +94,12 @@ fn push_fields(
 
 /// Returns the object of a line, as `{"protocol":"RFC3164","facility":"auth",..}`, written into the vector's memory.
 ///
-/// `dialect` is the name of the dialect in which the line was read, where it was one. Where `raw` is given it is the last
-/// member: the line as it came. The structured data that was left unparsed has a member too.
+/// `dialect` is the name of the dialect in which the line was read, where it was one. Where `raw` is given it is the
+/// last member: the line as it came. The structured data that was left unparsed has a member too.
 ///
 /// What the message lacks has no key. An id or a name that comes again has an array of all its values, at its first
-/// place. Memory is taken where the vector's is too little, and if a line has more than one element, an element more than
-/// sixteen parameters, or a name comes again.
+/// place. Memory is taken where the vector's is too little, and if a line has more than one element, an element more
+/// than sixteen parameters, or a name comes again.
 pub fn line_object(
     alloc: Global,
     memory: Vec<u8>,
@@ -126,8 +126,8 @@ pub fn refused_object(memory: Vec<u8>, line: &str) -> Result<Vec<u8>, AllocError
     Ok(text.into_bytes())
 }
 
-/// Returns the object of a line that is not UTF-8: `line` has U+FFFD for each part that is not. It is that of a line that
-/// is no message, with `"invalid_utf8":true`, and takes memory in the same way.
+/// Returns the object of a line that is not UTF-8: `line` has U+FFFD for each part that is not. It is that of a line
+/// that is no message, with `"invalid_utf8":true`, and takes memory in the same way.
 pub fn invalid_object(memory: Vec<u8>, line: &str) -> Result<Vec<u8>, AllocError>
     ensures { IfOk result (λ object. IsTextOf (invalid_json line.now) object.items) }
 {

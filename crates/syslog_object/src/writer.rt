@@ -114,8 +114,8 @@ impl<'a> ObjectWriter<'a> {
         output.extend_from_slice(&text.as_slice()[start..])
     }
 
-    /// Returns the object of the elements that it was given, as the object of their line has it; nothing where there are
-    /// none. It is written into the vector that the writer was given or grew. Memory is asked for as by `write`.
+    /// Returns the object of the elements that it was given, as the object of their line has it; nothing where there
+    /// are none. It is written into the vector that the writer was given or grew. Memory is asked for as by `write`.
     pub fn into_elements(self, list: &ElementList<'_>) -> Result<Vec<u8>, AllocError>
         requires { HasWritten self (list_elements list.now) }
         ensures { IfOk result (λ text. IsStructuredText (list_elements list.now) text.items) }

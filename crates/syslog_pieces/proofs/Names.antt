@@ -110,7 +110,8 @@ pub use Rattle.syslog_pieces.specs.declared.timestamp.clock.ClockStamp.{ClockSta
 pub use Rattle.syslog_pieces.specs.declared.timestamp.fields.CivilFields.{CivilFields}
 pub use Rattle.syslog_pieces.specs.declared.timestamp.month_date.MonthDate.{MonthDate}
 pub use Rattle.syslog_pieces.specs.declared.timestamp.rfc3339_text.Rfc3339Fields.{Rfc3339Fields}
-pub use Rattle.syslog_pieces.proofs.PieceLemmas.Class.{◌also◌, append_more, Meets, row_of, ◌then◌, no_row, ◌past◌, IsAlone}
+pub use Rattle.syslog_pieces.proofs.PieceLemmas.Class.{◌also◌, append_more, Meets, row_of, ◌then◌, no_row, ◌past◌}
+pub use Rattle.syslog_pieces.proofs.PieceLemmas.Class.{IsAlone}
 pub use Rattle.syslog_pieces.proofs.PieceLemmas.Class.{heads, all_map, each_map, meets_on, row_goes, false_is, no_truth}
 pub use Rattle.syslog_pieces.proofs.PieceLemmas.Class.{front_same, texted_det, mapped_det, all_append, meets_here}
 pub use Rattle.syslog_pieces.proofs.PieceLemmas.Class.{no_front_no, exactly_det, each_append, each_after, piece_front}

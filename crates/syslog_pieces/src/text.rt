@@ -103,8 +103,8 @@ pub fn run_end(text: &str, class: CharClass) -> usize
     }
 }
 
-// The place after a run that reaches a character past ASCII. Most visible ones are passed by their bytes, and all others
-// are looked at one by one.
+// The place after a run that reaches a character past ASCII. Most visible ones are passed by their bytes, and all
+// others are looked at one by one.
 #[cold]
 #[inline(never)]
 fn mixed_run_end(text: &str, class: CharClass) -> usize

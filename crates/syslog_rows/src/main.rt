@@ -1,5 +1,5 @@
-//! Reads blocks of rows from standard input, and writes each with what comes of it to standard output: the fields of the
-//! message, and what the other calls make of the text. README.md beside this says how both are written.
+//! Reads blocks of rows from standard input, and writes each with what comes of it to standard output: the fields of
+//! the message, and what the other calls make of the text. README.md beside this says how both are written.
 #![tactic(auto)]
 
 mod block;

@@ -20,7 +20,8 @@ use Rattle.syslog_strict.proofs.GrammarLemmas.{elements_prints, no_element}
 use Rattle.syslog_strict.specs.Grammar.{IsAll, IsValueUnit, body, header, pri, prival, sd_elements, sp, version}
 use Rattle.syslog_pieces.specs.Pieces.{Class.Row, Class.exactly, Class.rest, Class.spaced, Rules.short_run}
 use Rattle.syslog_pieces.specs.StructuredData.Escapes.{TextUnit, pair, single, unit_text}
-use Rattle.syslog_pieces.proofs.PieceLemmas.Class.{◌then◌, front_division, optional_some, piece_front, rest_front, row_of}
+use Rattle.syslog_pieces.proofs.PieceLemmas.Class.{◌then◌, front_division, optional_some, piece_front, rest_front}
+use Rattle.syslog_pieces.proofs.PieceLemmas.Class.{row_of}
 use Rattle.syslog_pieces.proofs.PieceLemmas.Class.{rows_join, spaced_front}
 use Rattle.syslog_pieces.proofs.TextLemmas.Bounded.{numeral_back}
 use Rattle.syslog_strict.proofs.ElementLemmas.{elements_some, other_if, same_if}
@@ -83,26 +84,31 @@ lone_same t other = elim (cases_Bool (text_eq t colon)) [
   | inr e ↦ rw e refl
 ]
 
-word_text_again : (most : ℕ) (t : Text) → 0 < most → option_and_then (converted_word most) (converted_word most t) ≡ converted_word most t
+word_text_again : (most : ℕ) (t : Text) → 0 < most
+    → option_and_then (converted_word most) (converted_word most t) ≡ converted_word most t
 word_text_again most t h =
     let u = cleaned is_printusascii most t in
     let w = without_lone_colon u in
     named_again w (λ x. without_lone_colon (cleaned is_printusascii most x))
-    (ap without_lone_colon (cleaned_same is_printusascii most w (lone_passes u (cleaned_passes is_printusascii most t refl))
+    (ap without_lone_colon (cleaned_same is_printusascii most w
+    (lone_passes u (cleaned_passes is_printusascii most t refl))
     (lone_short most u h (cleaned_short is_printusascii most t)))
     ∙ lone_same w (lone_other u))
 
 pub word_again : (most : ℕ) (v : Option Text) → 0 < most
-    → option_and_then (converted_word most) (option_and_then (converted_word most) v) ≡ option_and_then (converted_word most) v
+    → option_and_then (converted_word most) (option_and_then (converted_word most) v) ≡ option_and_then
+    (converted_word most) v
 word_again most None h = refl
 word_again most (Some t) h = word_text_again most t h
 
 -- a process id that a word names
-named_process_again : (u : Text) (p : ProcId Text) → named_process u ≡ p → NamesProcess u p → converted_word 128 u ≡ Some u
+named_process_again : (u : Text) (p : ProcId Text) → named_process u ≡ p → NamesProcess u p
+    → converted_word 128 u ≡ Some u
     → converted_process p ≡ Some p
 named_process_again u (PID n) is names same = refl
 named_process_again u (Name t) is names same =
-    ap (λ (x : Text). option_map named_process (converted_word 128 x)) names.1 ∙ ap (option_map named_process) same ∙ ap Some is
+    ap (λ (x : Text). option_map named_process (converted_word 128 x)) names.1 ∙ ap (option_map named_process) same
+    ∙ ap Some is
 
 word_process_again : (v : Option Text) → option_and_then (converted_word 128) v ≡ v
     → option_and_then converted_process (option_map named_process v) ≡ option_map named_process v
@@ -212,7 +218,8 @@ pub strict_stay : (es : List ElementValue) → AllByRecursion IsCanonicalElement
     → elements_text (converted_elements es) ≡ elements_text es
 strict_stay es canonical (ds, (is, (some, apart))) =
     let (text, are, _) = (elements_prints (elements_text es) [] ds).0 is in
-    let same : elements_text es ≡ elements_text ds = text ∙ sym (elements_some ds (λ e. (let k = ap length e in omega arith))) in
+    let same : elements_text es ≡ elements_text ds = text
+    ∙ sym (elements_some ds (λ e. (let k = ap length e in omega arith))) in
     let here : es ≡ ds = (forgiving_det _ [] _ [] es ds (ap (λ (t : Text). t ++ []) same)
     (forgiving_back es [] canonical no_item_nil) (forgiving_back ds [] (all_map element_back ds are) no_item_nil)).1 in
     rw here (ap elements_text (distinct_again ds are apart))
@@ -243,7 +250,8 @@ pub stamp_again : (v : Option OffsetTimestamp)
     ≡ timestamp_text (option_and_then converted_stamp v)
 stamp_again None = refl
 stamp_again (Some s) = by_choice (λ v. timestamp_text (option_and_then converted_stamp v) ≡ timestamp_text v) s
-    (stamp_same (cut_stamp s) (micros_again s.instant.nanosecond)) (stamp_same (in_utc (cut_stamp s)) (micros_again s.instant.nanosecond)) refl
+    (stamp_same (cut_stamp s) (micros_again s.instant.nanosecond))
+    (stamp_same (in_utc (cut_stamp s)) (micros_again s.instant.nanosecond)) refl
 
 -- ---- messages
 
@@ -260,7 +268,8 @@ printed_again m =
     ) refl
 
 -- what is written of a converted text is that text
-pub text_stays : (variant : Variant) (dating receiver : Dating) (input text again : Text) → IsConvertedText variant dating input text
+pub text_stays : (variant : Variant) (dating receiver : Dating) (input text again : Text)
+    → IsConvertedText variant dating input text
     → (IsSyslogMsg text × (again ≡ text)) ⊎ IsConvertedText Either receiver text again → again ≡ text
 text_stays variant dating receiver input text again first (inl (valid, e)) = e
 text_stays variant dating receiver input text again first (inr second) =
@@ -286,7 +295,8 @@ sp_front u = piece_front sp (32 ∷ []) u tt refl
 
 pri_front : (n : ℕ) (u : Text) → n ≤ 191 → Front (Row pri) (60 ∷ (decimal n ++ (62 ∷ u))) u (tt, (n, (tt, tt)))
 pri_front n u small = row_of pri (piece_front (exactly (60 ∷ [])) (60 ∷ []) _ tt refl
-    then piece_front prival (decimal n) (62 ∷ u) n (numeral_back n 0 191 (62 ∷ u) (omega arith) small (omega arith) refl)
+    then piece_front prival (decimal n) (62 ∷ u) n (numeral_back n 0 191 (62 ∷ u) (omega arith) small (omega arith)
+    refl)
     then piece_front (exactly (62 ∷ [])) (62 ∷ []) u tt refl then refl)
 
 pub converted_strict : (m : MessageValue) → IfSome m.procid IsBoundedProcess → IsSyslogMsg (printed (converted m))
@@ -329,7 +339,11 @@ pub read_msg : (variant : Variant) (dating : Dating) (text : Text) (m : MessageV
     → HasReadMsg m
 read_msg variant dating text m r = elim (read_as variant dating text m r) [
   | inl s ↦ (let (canonical, _) = read_completed dash_rule text m s in
-      record { front = canonical.0.msg_front; end = canonical.0.msg_end; bounded = read_bounded variant dating text m r })
+      record {
+        front = canonical.0.msg_front;
+        end = canonical.0.msg_end;
+        bounded = read_bounded variant dating text m r;
+      })
   | inr s ↦ (let near = read_near dash_rule dating text m s in
       record { front = near.msg_front; end = near.msg_end; bounded = read_bounded variant dating text m r })
 ]
@@ -417,6 +431,7 @@ text_converts variant dating input text m u only leaves e =
       parsed = rw e (converted_parsed (whole m u) has);
     }
 
-pub no_memory : (variant : Variant) (dating : Dating) (input : Text) (m : MessageValue) → IsOnlyRead variant dating input m
+pub no_memory : (variant : Variant) (dating : Dating) (input : Text) (m : MessageValue)
+    → IsOnlyRead variant dating input m
     → (Memory ≡ Invalid) ↔ IsUnreadable variant dating input
 no_memory variant dating input m only = ((λ e. absurd cc), (λ none. absurd (none m only.read)))

@@ -78,7 +78,8 @@ module _ (bs xs ys old now whole : List ℕ) (s : SplitsRun is_inert_char bs xs 
   pub past_other : (c : ℕ) (t out : Text) → chars ys ≡ c ∷ t → c ≢ 92 → out ≡ (now ++ 92 ∷ []) ++ c ∷ []
       → out ++ escaped_from false t ≡ whole
   past_other c t out e other q = step now out (92 ∷ c ∷ []) (chars ys) t whole
-      (ap (escaped_from false) e ∙ value_other c t (no_run c t e) other) (q ∙ append_assoc now (92 ∷ []) (c ∷ [])) after_run
+      (ap (escaped_from false) e ∙ value_other c t (no_run c t e) other) (q ∙ append_assoc now (92 ∷ []) (c ∷ []))
+      after_run
 
   pub past_pair : (c d : ℕ) (t u out : Text) → chars ys ≡ c ∷ t → c ≡ 92 → t ≡ d ∷ u → out ≡ now ++ pair_text d
       → out ++ escaped_from false u ≡ whole
@@ -136,11 +137,14 @@ params_last id (x ∷ xs) e = elim (cases_Bool (text_eq x.id id)) [
 ]
 
 -- ---- joined elements are one of each id
-pub not_last : (t id : Text) (ids : List Text) → is_among t (ids ++ id ∷ []) ≡ false → (is_among t ids ≡ false) × (text_eq id t ≡ false)
+pub not_last : (t id : Text) (ids : List Text) → is_among t (ids ++ id ∷ []) ≡ false → (is_among t ids ≡ false)
+    × (text_eq id t ≡ false)
 not_last t id ids h =
-    let (new, other) = or_parts _ _ (sym (list_any-append (λ u. text_eq u t) ids (id ∷ [])) ∙ h) in (new, (or_parts _ _ other).0)
+    let (new, other) = or_parts _ _ (sym (list_any-append (λ u. text_eq u t) ids (id ∷ [])) ∙ h) in
+    (new, (or_parts _ _ other).0)
 
-pub firsts_new : (ids : List Text) (es : List ElementValue) → AllByRecursion (λ t. is_among t ids ≡ false) (firsts ids es)
+pub firsts_new : (ids : List Text) (es : List ElementValue)
+    → AllByRecursion (λ t. is_among t ids ≡ false) (firsts ids es)
 firsts_new ids [] = tt
 firsts_new ids (e ∷ es) = elim (cases_Bool (is_among e.id ids)) [
   | inl old ↦ rw old (firsts_new ids es)
@@ -164,32 +168,39 @@ other_if b x y e = rw e refl
 old_skips : (ids : List Text) (e : ElementValue) (es : List ElementValue) (t : Text) → is_among e.id ids ≡ true
     → is_among t ids ≡ false → of_id es t ≡ of_id (e ∷ es) t
 old_skips ids e es t old new = elim (cases_Bool (text_eq e.id t)) [
-  | inl same ↦ absurd (let k : true ≡ false = sym old ∙ ap (λ (x : Text). is_among x ids) (text_eq_true e.id t same) ∙ new in cc)
+  | inl same ↦ absurd (let k : true ≡ false = sym old ∙ ap (λ (x : Text). is_among x ids) (text_eq_true e.id t same)
+      ∙ new in cc)
   | inr other ↦ ap (λ ps. record { id = t; params = ps }) (sym (other_if (text_eq e.id t) _ (params_of t es) other))
 ]
 
-pub joined_by_id : (ids : List Text) (es : List ElementValue) → joined_past ids es ≡ map (λ id. of_id es id) (firsts ids es)
+pub joined_by_id : (ids : List Text) (es : List ElementValue)
+    → joined_past ids es ≡ map (λ id. of_id es id) (firsts ids es)
 joined_by_id ids [] = refl
 joined_by_id ids (e ∷ es) = elim (cases_Bool (is_among e.id ids)) [
   | inl old ↦ rw old (joined_by_id ids es
       ∙ map_same (λ id. of_id es id) (λ id. of_id (e ∷ es) id) (firsts ids es)
       (all_map (λ t new. old_skips ids e es t old new) _ (firsts_new ids es)))
   | inr new ↦ rw new (ap₂ (λ y ys. y ∷ ys)
-      (ap (λ ps. record { id = e.id; params = ps }) (sym (same_if (text_eq e.id e.id) (e.params ++ params_of e.id es) _ (same_text_eq e.id))))
+      (ap (λ ps. record { id = e.id; params = ps }) (sym
+      (same_if (text_eq e.id e.id) (e.params ++ params_of e.id es) _ (same_text_eq e.id))))
       (joined_by_id (ids ++ e.id ∷ []) es
       ∙ map_same (λ id. of_id es id) (λ id. of_id (e ∷ es) id) (firsts (ids ++ e.id ∷ []) es)
-      (all_map (λ t h. ap (λ ps. record { id = t; params = ps }) (sym (other_if (text_eq e.id t) _ (params_of t es) (not_last t e.id ids h).1)))
+      (all_map (λ t h. ap (λ ps. record { id = t; params = ps })
+      (sym (other_if (text_eq e.id t) _ (params_of t es) (not_last t e.id ids h).1)))
       _ (firsts_new (ids ++ e.id ∷ []) es))))
 ]
 
 -- ---- the parameters by id
 module _ (joined : Joined) (seen : List ElementValue) (h : HasJoined joined seen) where
   one_text : (id : String Global)
-      → 91 ∷ (text_in id ++ (text_or_none (get_by_text joined.params (string_bytes id)) ++ (93 ∷ []))) ≡ element_text (of_id seen (text_in id))
-  one_text id = ap (λ (x : Text). 91 ∷ (text_in id ++ (x ++ (93 ∷ [])))) (h.params (string_bytes id) (IsUtf8-string_bytes id))
+      → 91 ∷ (text_in id ++ (text_or_none (get_by_text joined.params (string_bytes id)) ++ (93 ∷ []))) ≡ element_text
+      (of_id seen (text_in id))
+  one_text id = ap (λ (x : Text). 91 ∷ (text_in id ++ (x ++ (93 ∷ []))))
+      (h.params (string_bytes id) (IsUtf8-string_bytes id))
 
   all_texts : (ids : List (String Global))
-      → flat_map (λ id. 91 ∷ (text_in id ++ (text_or_none (get_by_text joined.params (string_bytes id)) ++ (93 ∷ [])))) ids
+      → flat_map (λ id. 91 ∷ (text_in id ++ (text_or_none (get_by_text joined.params (string_bytes id))
+      ++ (93 ∷ [])))) ids
       ≡ flat_map element_text (map (λ id. of_id seen id) (map (λ s. text_in s) ids))
   all_texts [] = refl
   all_texts (id ∷ ids) = ap₂ (λ (x y : Text). x ++ y) (one_text id) (all_texts ids)
@@ -206,7 +217,8 @@ known_bool false true false f = refl
 known_bool false false true f = refl
 known_bool false false false f = refl
 
-some_cond : (b : Bool) (s : String Global) (o : Option (String Global)) → is_some (cond b (Some s) o) ≡ cond b true (is_some o)
+some_cond : (b : Bool) (s : String Global) (o : Option (String Global))
+    → is_some (cond b (Some s) o) ≡ cond b true (is_some o)
 some_cond true s o = refl
 some_cond false s o = refl
 
@@ -214,7 +226,8 @@ both_cond : (b : Bool) (s : Option (String Global)) (o : Option (String Global))
 both_cond true s o = refl
 both_cond false s o = refl
 
-among_if : (k : Bool) (t id : Text) → is_among t (if k then [] else id ∷ []) ≡ (if k then false else (text_eq id t || false))
+among_if : (k : Bool) (t id : Text) → is_among t (if k then [] else id ∷ [])
+    ≡ (if k then false else (text_eq id t || false))
 among_if true t id = refl
 among_if false t id = refl
 
@@ -225,7 +238,8 @@ module _ (old new : Joined) (taken : List ℕ → Option (String Global)) (seen 
     ++ (if is_some (get_by_text old.params (string_bytes id)) then [] else text_in id ∷ []))
     (took : (q : List ℕ) → taken q ≡ cond (bytes_eq (string_bytes id) q) None (get_by_text old.params q))
     (put : (q : List ℕ) → get_by_text new.params q ≡ cond (bytes_eq (string_bytes id) q) (Some text) (taken q)) where
-  has : (q : List ℕ) → get_by_text new.params q ≡ cond (bytes_eq (string_bytes id) q) (Some text) (get_by_text old.params q)
+  has : (q : List ℕ) → get_by_text new.params q ≡ cond (bytes_eq (string_bytes id) q) (Some text)
+      (get_by_text old.params q)
   has q = put q ∙ ap (cond (bytes_eq (string_bytes id) q) (Some text)) (took q)
       ∙ both_cond (bytes_eq (string_bytes id) q) (Some text) (get_by_text old.params q)
 
@@ -238,14 +252,17 @@ module _ (old new : Joined) (taken : List ℕ → Option (String Global)) (seen 
   was : is_some (get_by_text old.params (string_bytes id)) ≡ is_among e.id (firsts [] seen)
   was = h.known (string_bytes id) its ∙ ap (λ (x : Text). is_among x (firsts [] seen)) same
 
-  more_known : (q : List ℕ) → IsUtf8 q → is_some (get_by_text new.params q) ≡ is_among (chars q) (firsts [] (seen ++ e ∷ []))
+  more_known : (q : List ℕ) → IsUtf8 q → is_some (get_by_text new.params q) ≡ is_among (chars q)
+      (firsts [] (seen ++ e ∷ []))
   more_known q v =
       ap is_some (has q) ∙ some_cond (bytes_eq (string_bytes id) q) text (get_by_text old.params q)
       ∙ ap₂ (λ (b o : Bool). cond b true o) (is_id q v) (h.known q v)
       ∙ known_bool (is_among (chars q) (firsts [] seen)) (text_eq e.id (chars q)) (is_among e.id (firsts [] seen))
       (λ equal. ap (λ (x : Text). is_among x (firsts [] seen)) (sym (text_eq_true e.id (chars q) equal)))
-      ∙ sym (ap (λ (x : Bool). is_among (chars q) (firsts [] seen) || x) (among_if (is_among e.id (firsts [] seen)) (chars q) e.id))
-      ∙ sym (list_any-append (λ u. text_eq u (chars q)) (firsts [] seen) (if is_among e.id (firsts [] seen) then [] else e.id ∷ []))
+      ∙ sym (ap (λ (x : Bool). is_among (chars q) (firsts [] seen) || x)
+      (among_if (is_among e.id (firsts [] seen)) (chars q) e.id))
+      ∙ sym (list_any-append (λ u. text_eq u (chars q)) (firsts [] seen)
+      (if is_among e.id (firsts [] seen) then [] else e.id ∷ []))
       ∙ ap (is_among (chars q)) (sym (firsts_last [] seen e))
 
   more_params : (q : List ℕ) → IsUtf8 q
@@ -256,7 +273,8 @@ module _ (old new : Joined) (taken : List ℕ → Option (String Global)) (seen 
       ∙ ap (flat_map param_text) (sym (params_last (chars q) seen e))
     where
       params_at : (b : Bool) → bytes_eq (string_bytes id) q ≡ b → text_or_none (get_by_text new.params q)
-          ≡ flat_map param_text (params_of (chars q) seen) ++ flat_map param_text (if text_eq e.id (chars q) then e.params else [])
+          ≡ flat_map param_text (params_of (chars q) seen) ++ flat_map param_text
+          (if text_eq e.id (chars q) then e.params else [])
       params_at true b =
           let equal : string_bytes id ≡ q = (bytes_eq-Decides (string_bytes id) q).0 b in
           ap text_or_none (has q ∙ ap (λ (x : Bool). cond x (Some text) (get_by_text old.params q)) b) ∙ added
@@ -271,7 +289,8 @@ module _ (old new : Joined) (taken : List ℕ → Option (String Global)) (seen 
 
   pub joined_more : HasJoined new (seen ++ e ∷ [])
   joined_more = record {
-    ids = ids ∙ ap₂ (λ (x y : List Text). x ++ y) h.ids (ap₂ (λ (b : Bool) (x : Text). if b then [] else x ∷ []) was same)
+    ids = ids ∙ ap₂ (λ (x y : List Text). x ++ y) h.ids
+        (ap₂ (λ (b : Bool) (x : Text). if b then [] else x ∷ []) was same)
         ∙ sym (firsts_last [] seen e);
     known = more_known;
     params = more_params;

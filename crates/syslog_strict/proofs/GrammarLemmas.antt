@@ -1,26 +1,31 @@
 -- A text has one front of each class of the grammar; and elements of the grammar are what elements with such names and
 -- values print.
-use Rattle.syslog_strict.proofs.Words.{◌≡◌, ◌≢◌, inl, inr, ℕ, ◌+◌, ◌/◌, ◌<◌, ◌≤◌, Bool, true, false, List, [], ◌∷◌, ◌++◌}
+use Rattle.syslog_strict.proofs.Words.{◌≡◌, ◌≢◌, inl, inr, ℕ, ◌+◌, ◌/◌, ◌<◌, ◌≤◌, Bool, true, false, List, [], ◌∷◌}
+use Rattle.syslog_strict.proofs.Words.{◌++◌}
 use Rattle.syslog_strict.proofs.Words.{length, map, refl, sym, ap, ◌∙◌, arith, append_assoc, AllByRecursion}
 use Rattle.syslog_strict.proofs.Words.{Text, Ends, Each, heads, AreDistinct, is_escaped, is_sd_char, flat_map}
-use Rattle.syslog_strict.proofs.Words.{ElementValue, elements_text, joined_elements, element_text, param_text, is_ascii_digit}
+use Rattle.syslog_strict.proofs.Words.{ElementValue, elements_text, joined_elements, element_text, param_text}
+use Rattle.syslog_strict.proofs.Words.{is_ascii_digit}
 use Rattle.std.proofs.lemmas.List.{append_cancel_right, length-append}
 use Rattle.std.specs.Prelude.{◌↔◌}
 use Rattle.syslog_pieces.specs.Pieces.Class.{Class, Front, NoFront, IsDeterministic, Row, exactly, after, spaced}
 use Rattle.syslog_pieces.specs.Pieces.Class.{texted, rest}
 use Rattle.syslog_pieces.specs.Pieces.Lists.{many}
 use Rattle.syslog_pieces.specs.StructuredData.Escapes.{TextUnit, pair, single, unit_text}
-use Rattle.syslog_pieces.proofs.PieceLemmas.Class.{AllDeterministic, ◌also◌, exactly_det, rest_det, optional_det, mapped_det}
+use Rattle.syslog_pieces.proofs.PieceLemmas.Class.{AllDeterministic, ◌also◌, exactly_det, rest_det, optional_det}
+use Rattle.syslog_pieces.proofs.PieceLemmas.Class.{mapped_det}
 use Rattle.syslog_pieces.proofs.PieceLemmas.Class.{texted_det, row_det, after_det, row_pieces, piece_front, front_of}
 use Rattle.syslog_pieces.proofs.PieceLemmas.Lists.{many_det}
-use Rattle.syslog_pieces.proofs.PieceLemmas.Rules.{Opens, Prints, after_prints, exactly_apart, many_prints, or_det, row_opens}
+use Rattle.syslog_pieces.proofs.PieceLemmas.Rules.{Opens, Prints, after_prints, exactly_apart, many_prints, or_det}
+use Rattle.syslog_pieces.proofs.PieceLemmas.Rules.{row_opens}
 use Rattle.syslog_pieces.proofs.PieceLemmas.Rules.{short_run_det, such_det, none_left}
 use Rattle.syslog_pieces.proofs.TextLemmas.Bounded.{numeral_det}
 use Rattle.syslog_pieces.proofs.TimestampLemmas.Rfc3339.{pair_det, year_det}
 use Rattle.syslog_pieces.specs.Timestamp.Rfc3339.{pair as two_digits, year}
 use Rattle.syslog_strict.specs.Grammar as grammar
 use Rattle.syslog_strict.specs.Grammar.{IsValueUnit, sd_element, sd_elements, sd_param, sd_name, value_unit, param_row}
-use Rattle.syslog_strict.specs.Grammar.{element_row, date_row, partial_time, time_numoffset, date_time, AreElements, IsDate}
+use Rattle.syslog_strict.specs.Grammar.{element_row, date_row, partial_time, time_numoffset, date_time, AreElements}
+use Rattle.syslog_strict.specs.Grammar.{IsDate}
 
 -- ---- PRI and TIMESTAMP
 
@@ -44,7 +49,8 @@ time_det = pair_det 24 (omega arith) also minute_det also minute_det
     also optional_det grammar.time_secfrac (after_det _ (short_run_det is_ascii_digit 6)) also tt
 
 sign_det : IsDeterministic grammar.sign
-sign_det = or_det (exactly_det _) (exactly_det _) (exactly_apart 43 (exactly (45 ∷ [])) (λ p q v h. (45, [], h, omega arith)))
+sign_det = or_det (exactly_det _) (exactly_det _) (exactly_apart 43
+    (exactly (45 ∷ [])) (λ p q v h. (45, [], h, omega arith)))
 
 sign_opens : Opens grammar.sign (λ d. d ≢ 90)
 sign_opens p q (inl v) h = (43, [], h, omega arith)
@@ -66,7 +72,8 @@ date_opens p q vs (h, _) = row_opens year (after 45 (two_digits 100) ∷ after 4
 
 pub timestamp_det : IsDeterministic grammar.timestamp
 timestamp_det = or_det (exactly_det _) (row_det date_time date_time_det) (exactly_apart 45 (Row date_time)
-    (row_opens grammar.full_date (exactly (84 ∷ []) ∷ Row partial_time ∷ grammar.time_offset ∷ []) (λ d. d ≢ 45) date_opens))
+    (row_opens grammar.full_date (exactly (84 ∷ []) ∷ Row partial_time ∷ grammar.time_offset ∷ []) (λ d. d ≢ 45)
+    date_opens))
 
 -- ---- elements
 
@@ -75,18 +82,21 @@ name_det = texted_det sd_name (short_run_det is_sd_char 32)
 
 unit_det : IsDeterministic value_unit
 unit_det p q p' q' (pair c) (pair d) e (f, a) (g, b) = (let h = rw (f, g) at e in cc, let h = rw (f, g) at e in cc)
-unit_det p q p' q' (pair c) (single d) e (f, a) (g, b) = absurd (plain_first 92 d refl b (heads _ _ _ _ (rw (f, g) at e)))
+unit_det p q p' q' (pair c) (single d) e (f, a) (g, b) = absurd
+    (plain_first 92 d refl b (heads _ _ _ _ (rw (f, g) at e)))
   where
     plain_first : (c d : ℕ) → is_escaped c ≡ true → is_escaped d ≡ false → c ≡ d → ⊥
     plain_first c d h k e = let same = ap is_escaped e in cc
-unit_det p q p' q' (single c) (pair d) e (f, a) (g, b) = absurd (plain_first 92 c refl a (sym (heads _ _ _ _ (rw (f, g) at e))))
+unit_det p q p' q' (single c) (pair d) e (f, a) (g, b) = absurd
+    (plain_first 92 c refl a (sym (heads _ _ _ _ (rw (f, g) at e))))
   where
     plain_first : (c d : ℕ) → is_escaped c ≡ true → is_escaped d ≡ false → c ≡ d → ⊥
     plain_first c d h k e = let same = ap is_escaped e in cc
 unit_det p q p' q' (single c) (single d) e (f, a) (g, b) = (let h = rw (f, g) at e in cc, let h = rw (f, g) at e in cc)
 
 pub param_det : AllDeterministic param_row
-param_det = name_det also exactly_det _ also exactly_det _ also texted_det grammar.param_value (many_det value_unit unit_det)
+param_det = name_det also exactly_det _ also exactly_det _ also texted_det grammar.param_value
+    (many_det value_unit unit_det)
     also exactly_det _ also tt
 
 pub sp_param_det : IsDeterministic (spaced sd_param)
@@ -135,7 +145,8 @@ value_prints = many_prints value_unit unit_text IsValueUnit (λ p q u. (λ h. h,
 param_prints : Prints sd_param quoted IsStrictParam
 param_prints p q v = (
   (λ (vs, h, same).
-      let (u1, f1, (u2, f2, (u3, f3, (u4, f4, (u5, f5, end))))) = row_pieces param_row (piece_front (Row param_row) p q vs h) in
+      let (u1, f1, (u2, f2, (u3, f3, (u4, f4, (u5, f5, end))))) = row_pieces param_row
+      (piece_front (Row param_row) p q vs h) in
       let (_, name, a) = f1.is in
       let (units, value, b) = f4.is in
       let (f, are, _) = (value_prints f4.piece u4 units).0 value in
@@ -144,7 +155,8 @@ param_prints p q v = (
       let g3 = whole_is _ f3 (34 ∷ []) f3.is in
       let g4 = whole_is _ f4 vs.1.1.1.0 (sym b) in
       let g5 = whole_is _ f5 (34 ∷ []) f5.is in
-      let whole : p ++ q ≡ quoted (vs.0, vs.1.1.1.0) ++ q = (let e : p ++ q ≡ vs.0 ++ (61 ∷ 34 ∷ (vs.1.1.1.0 ++ (34 ∷ q))) = cc in e ∙ sym (simp append_assoc refl)) in
+      let whole : p ++ q ≡ quoted (vs.0, vs.1.1.1.0) ++ q =
+      (let e : p ++ q ≡ vs.0 ++ (61 ∷ 34 ∷ (vs.1.1.1.0 ++ (34 ∷ q))) = cc in e ∙ sym (simp append_assoc refl)) in
       let text = append_cancel_right p (quoted (vs.0, vs.1.1.1.0)) q whole in
       rw same (text, ((rw a ((name.0, name.1, name.2)), (units, b ∙ f, are))))),
   (λ (e, (name, (units, f, are))). (
@@ -154,7 +166,16 @@ param_prints p q v = (
       e,
       (
         (tt, (name.0, name.1, name.2, refl), refl),
-        (refl, (refl, ((units, (value_prints v.1 (34 ∷ q) units).1 (f, are, no_unit 34 q (omega arith) refl), refl), (refl, tt)))),
+        (
+          refl,
+          (
+            refl,
+            (
+              (units, (value_prints v.1 (34 ∷ q) units).1 (f, are, no_unit 34 q (omega arith) refl), refl),
+              (refl, tt),
+            ),
+          ),
+        ),
       ),
     ),
     refl,
@@ -163,7 +184,8 @@ param_prints p q v = (
 
 params_prints : (p q : Text) (ps : List (Text × Text)) → (many (spaced sd_param)).Is p q ps
     ↔ ((p ≡ flat_map param_text ps) × AllByRecursion IsStrictParam ps × NoFront (spaced sd_param) q)
-params_prints = many_prints (spaced sd_param) param_text IsStrictParam (after_prints 32 sd_param quoted IsStrictParam param_prints)
+params_prints = many_prints (spaced sd_param) param_text IsStrictParam
+    (after_prints 32 sd_param quoted IsStrictParam param_prints)
 
 params_end : (ps : List (Text × Text)) (q : Text) → Ends is_sd_char ((flat_map param_text ps ++ (93 ∷ [])) ++ q)
 params_end [] q = refl
@@ -172,15 +194,21 @@ params_end (p ∷ ps) q = refl
 element_prints : Prints sd_element element_text IsStrictElement
 element_prints p q e = (
   (λ (vs, h, same).
-      let (u1, f1, (u2, f2, (u3, f3, (u4, f4, end)))) = row_pieces element_row (piece_front (Row element_row) p q vs h) in
+      let (u1, f1, (u2, f2, (u3, f3, (u4, f4, end)))) = row_pieces element_row
+      (piece_front (Row element_row) p q vs h) in
       let (_, name, a) = f2.is in
       let (f, are, _) = (params_prints f3.piece u3 vs.1.1.0).0 f3.is in
       let g1 = whole_is _ f1 (91 ∷ []) f1.is in
       let g2 = whole_is _ f2 vs.1.0 (sym a) in
       let g3 = whole_is _ f3 (flat_map param_text vs.1.1.0) f in
       let g4 = whole_is _ f4 (93 ∷ []) f4.is in
-      let whole : p ++ q ≡ element_text (grammar.element_of vs) ++ q = (let w : p ++ q ≡ 91 ∷ (vs.1.0 ++ (flat_map param_text vs.1.1.0 ++ (93 ∷ q))) = cc in w ∙ sym (simp append_assoc refl)) in
-      rw same (append_cancel_right p (element_text (grammar.element_of vs)) q whole, (rw a (name.0, name.1, name.2), are))),
+      let whole : p ++ q ≡ element_text (grammar.element_of vs)
+      ++ q = (let w : p ++ q ≡ 91 ∷ (vs.1.0 ++ (flat_map param_text vs.1.1.0 ++ (93 ∷ q))) = cc in
+      w ∙ sym (simp append_assoc refl)) in
+      rw same (
+        append_cancel_right p (element_text (grammar.element_of vs)) q whole,
+        (rw a (name.0, name.1, name.2), are),
+      )),
   (λ (w, (name, are)). (
     (tt, (e.id, (e.params, (tt, tt)))),
     (
@@ -210,7 +238,8 @@ elements_prints = many_prints sd_element element_text IsStrictElement element_pr
 
 pub element_shorter : {t q : Text} {e : ElementValue} → Front sd_element t q e → length q < length t
 element_shorter {q = q} {e = e} f =
-    let text = ((element_prints f.piece q e).0 f.is).0 in omega (arith, ap length f.whole, length-append f.piece q, ap length text)
+    let text = ((element_prints f.piece q e).0 f.is).0 in
+    omega (arith, ap length f.whole, length-append f.piece q, ap length text)
 
 -- there is no first element
 pub no_elements : {t : Text} → NoFront sd_element t → NoFront sd_elements t
@@ -222,7 +251,8 @@ elements_open p q [] (h, (some, apart)) = absurd (omega arith)
 elements_open p q (e ∷ es) (h, (some, apart)) = (91, _, ((elements_prints p q (e ∷ es)).0 h).0, omega arith)
 
 pub data_det : IsDeterministic grammar.structured_data
-data_det = or_det (exactly_det _) (such_det (many sd_element) AreElements (many_det sd_element element_det)) (exactly_apart 45 sd_elements elements_open)
+data_det = or_det (exactly_det _) (such_det (many sd_element) AreElements (many_det sd_element element_det))
+    (exactly_apart 45 sd_elements elements_open)
 
 pub no_element : (c : ℕ) (q : Text) → c ≢ 91 → NoFront sd_element (c ∷ q)
 no_element c q other p r e f h = other (heads c 91 q _ (f ∙ ap (λ (x : Text). x ++ r) ((element_prints p r e).0 h).0))
@@ -244,7 +274,8 @@ pub header_det : AllDeterministic grammar.header
 header_det =
     let space = exactly_det (32 ∷ []) in
     let short = λ (most : ℕ). short_run_det grammar.is_printusascii most in
-    row_det grammar.pri pri_det also numeral_det 1 999 also space also timestamp_det also space also short 255 also space
+    row_det grammar.pri pri_det also numeral_det 1 999 also space also timestamp_det also space also short 255 also
+    space
     also short 48 also space also short 128 also space also short 32 also space also tt
 
 pub body_det : AllDeterministic grammar.body

@@ -12,7 +12,8 @@ use Rattle.syslog_strict.proofs.Words.{kept_char, named, no_colon, without_last_
 use Rattle.syslog_strict.proofs.Words.{converted_element, converted_elements, converted_name, converted_param}
 use Rattle.syslog_strict.proofs.Words.{escaped_from, is_among, joined_past, or_mark, params_of, is_printusascii}
 use Rattle.syslog_strict.proofs.Words.{AreDistinct, is_escaped, is_sd_char, Front}
-use Rattle.syslog_strict.proofs.GrammarLemmas.{IsParamValue, IsSdName, IsSomeOf, IsStrictElement, IsStrictParam, data_front}
+use Rattle.syslog_strict.proofs.GrammarLemmas.{IsParamValue, IsSdName, IsSomeOf, IsStrictElement, IsStrictParam}
+use Rattle.syslog_strict.proofs.GrammarLemmas.{data_front}
 use Rattle.syslog_strict.specs.Grammar.{IsValueUnit as IsStrictUnit, sd_element, structured_data}
 use Rattle.syslog_pieces.specs.Pieces.Class.{NoFront}
 use Rattle.std.proofs.Common.{◌^◌, FitsSigned, w32}
@@ -98,8 +99,11 @@ number_is (pos n) h =
     (digits.0, (let short = ten_long n small in omega (arith, short)), digits_print (decimal n) digits.1)
 number_is (negsuc n) h =
     let small : suc n < 2 ^ 32 = omega (arith, h) in
-    let digits = decimal_digits (suc n) (omega arith) in
-    (omega arith, (let short = ten_long (suc n) small in omega (arith, short)), (refl, digits_print (decimal (suc n)) digits.1))
+    let digits = decimal_digits (suc n) (omega arith) in (
+      omega arith,
+      (let short = ten_long (suc n) small in omega (arith, short)),
+      (refl, digits_print (decimal (suc n)) digits.1),
+    )
 
 named_process_is : (t : Text) (p : ProcId Text) → IsSomeOf is_printusascii 128 t → NamesProcess t p
     → IsSomeOf is_printusascii 128 (procid_text p)
@@ -159,7 +163,8 @@ colonless_end (c ∷ []) [] e = no_colon_kept c (heads _ _ _ _ e)
 colonless_end (c ∷ []) (d ∷ []) e = cc
 colonless_end (c ∷ []) (d ∷ f ∷ front) e = cc
 colonless_end (c ∷ d ∷ t) [] e = absurd (let l = colonless_length (d ∷ t) in let k = ap length e in omega (arith, l, k))
-colonless_end (c ∷ d ∷ t) (f ∷ front) e = colonless_end (d ∷ t) front (let g : without_last_colon (d ∷ t) ≡ front ++ colon = cc in g)
+colonless_end (c ∷ d ∷ t) (f ∷ front) e = colonless_end (d ∷ t) front
+    (let g : without_last_colon (d ∷ t) ≡ front ++ colon = cc in g)
 
 pub host_back : (v : Option Text) → IfSome (option_and_then converted_host v) IsCanonicalHost
 host_back None = tt
@@ -183,8 +188,11 @@ lone_other t = elim (cases_Bool (text_eq t colon)) [
 pub word_text_back : (most : ℕ) (t : Text) → IfSome (converted_word most t) IsCanonicalWord
 word_text_back most t =
     let u = cleaned is_printusascii most t in
-    named_there (without_lone_colon u) IsCanonicalWord (λ some other.
-    ((some_long _ some, prints_visible _ (lone_passes u (cleaned_passes is_printusascii most t refl))), other, lone_other u))
+    named_there (without_lone_colon u) IsCanonicalWord (λ some other. (
+      (some_long _ some, prints_visible _ (lone_passes u (cleaned_passes is_printusascii most t refl))),
+      other,
+      lone_other u,
+    ))
 
 pub word_back : (most : ℕ) (v : Option Text) → IfSome (option_and_then (converted_word most) v) IsCanonicalWord
 word_back most None = tt
@@ -194,7 +202,8 @@ named_canonical : (t : Text) (p : ProcId Text) → IsCanonicalWord t → NamesPr
 named_canonical t (PID n) is names = tt
 named_canonical t (Name u) is names = rw (names.1) (is, names.0)
 
-word_process_back : (v : Option Text) → IfSome v IsCanonicalWord → IfSome (option_map named_process v) IsCanonicalProcess
+word_process_back : (v : Option Text) → IfSome v IsCanonicalWord
+    → IfSome (option_map named_process v) IsCanonicalProcess
 word_process_back None is = tt
 word_process_back (Some t) is = named_canonical t (named_process t) is (named_names t)
 
@@ -233,7 +242,8 @@ name_is t = (
 -- ---- values
 
 -- what holds of both holds of the one that is taken
-pick : {A : Type 0} (b : Bool) (x y : A) (P : A → Type 0) → (b ≡ true → P x) → (b ≡ false → P y) → P (if b then x else y)
+pick : {A : Type 0} (b : Bool) (x y : A) (P : A → Type 0) → (b ≡ true → P x) → (b ≡ false → P y)
+    → P (if b then x else y)
 pick true x y P f g = f refl
 pick false x y P f g = g refl
 
@@ -279,7 +289,8 @@ params_of_are : (id : Text) (es : List ElementValue) → AllByRecursion IsStrict
 params_of_are id [] each = tt
 params_of_are id (e ∷ es) each =
     let rest = params_of_are id es each.1 in
-    pick (text_eq e.id id) _ _ (AllByRecursion IsStrictParam) (λ h. all_append IsStrictParam e.params (params_of id es) each.0.1 rest) (λ h. rest)
+    pick (text_eq e.id id) _ _ (AllByRecursion IsStrictParam) (λ h. all_append IsStrictParam e.params
+    (params_of id es) each.0.1 rest) (λ h. rest)
 
 joined_are : (ids : List Text) (es : List ElementValue) → AllByRecursion IsStrictElement es
     → AllByRecursion IsStrictElement (joined_past ids es)
@@ -293,7 +304,8 @@ joined_are ids (e ∷ es) each =
 
 -- ---- no id comes twice
 
-ids_joined : (ids : List Text) (es : List ElementValue) → map (λ (e : ElementValue). e.id) (joined_past ids es) ≡ firsts ids es
+ids_joined : (ids : List Text) (es : List ElementValue)
+    → map (λ (e : ElementValue). e.id) (joined_past ids es) ≡ firsts ids es
 ids_joined ids [] = refl
 ids_joined ids (e ∷ es) = elim (cases_Bool (is_among e.id ids)) [
   | inl old ↦ rw old (ids_joined ids es)
@@ -313,7 +325,8 @@ distinct ids (e ∷ es) = elim (cases_Bool (is_among e.id ids)) [
 pub converted_are : (es : List ElementValue) → AllByRecursion IsStrictElement (converted_elements es)
 converted_are es = joined_are [] (map converted_element es) (elements_are es)
 
-pub converted_distinct : (es : List ElementValue) → AreDistinct (map (λ (e : ElementValue). e.id) (converted_elements es))
+pub converted_distinct : (es : List ElementValue) → AreDistinct
+    (map (λ (e : ElementValue). e.id) (converted_elements es))
 converted_distinct es = rw (ids_joined [] (map converted_element es)) (distinct [] (map converted_element es))
 
 -- their text, before what begins no element

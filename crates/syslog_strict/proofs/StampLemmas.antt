@@ -12,7 +12,8 @@ use Rattle.syslog_strict.specs.Grammar.{time_numoffset, time_offset, time_secfra
 use Rattle.syslog_pieces.specs.{Bodies.Looks.is_dot, Timestamp.Rfc3339.pair, Timestamp.Rfc3339.year as year_class}
 use Rattle.syslog_pieces.specs.Pieces.{Class.Class, Class.Front, Class.Row, Class.after, Class.exactly, Class.optional}
 use Rattle.syslog_pieces.specs.Pieces.Rules.{short_run}
-use Rattle.syslog_pieces.proofs.PieceLemmas.Class.{◌then◌, front_of, no_spaced_space, optional_none, piece_front, row_of}
+use Rattle.syslog_pieces.proofs.PieceLemmas.Class.{◌then◌, front_of, no_spaced_space, optional_none, piece_front}
+use Rattle.syslog_pieces.proofs.PieceLemmas.Class.{row_of}
 use Rattle.syslog_pieces.proofs.PieceLemmas.Rules.{second_front, such_front}
 use Rattle.std.proofs.Common.{length}
 use Rattle.jiff_core.proofs.CalendarLemmas.{days_in_month_bounds}
@@ -48,7 +49,8 @@ pub clock_micros : (c : ClockStamp) → c.fields.nanosecond % 1_000 ≡ 0
 clock_micros c h = whole_micros (days_from_civil c.fields.year c.fields.month c.fields.day) c.offset.seconds
     (c.fields.hour * 3600 + c.fields.minute * 60 + c.fields.second) c.fields.nanosecond h
 
-pub has_micros : (clock : Option ClockStamp) (c : ClockStamp) → clock ≡ Some c → nat_eq (c.fields.nanosecond % 1_000) 0 ≡ true
+pub has_micros : (clock : Option ClockStamp) (c : ClockStamp) → clock ≡ Some c
+    → nat_eq (c.fields.nanosecond % 1_000) 0 ≡ true
     → IfSome (stamp_seen clock) (λ s. micros s.instant.nanosecond ≡ s.instant.nanosecond)
 has_micros clock c e h = rw e (clock_micros c (grind (arith, nat_tests)))
 
@@ -92,11 +94,14 @@ clock_ascii (Some c) =
     let s = clock_value c in
     each_ascii _ (printed_stamp-characters s.instant.nanosecond s.offset.seconds s.instant.in_range s.offset.in_range)
 
-pub printed_front_ascii : (priority version : ℕ) (c : Option ClockStamp) → IsAscii (printed_front priority (Some version) c)
+pub printed_front_ascii : (priority version : ℕ) (c : Option ClockStamp)
+    → IsAscii (printed_front priority (Some version) c)
 printed_front_ascii priority version c =
     IsAscii-append (priority_text priority) _
-    (IsAscii-cons 60 _ (omega arith) (IsAscii-append (decimal priority) (62 ∷ []) (decimal_ascii priority) (IsAscii-cons 62 [] (omega arith) IsAscii-nil)))
-    (IsAscii-append (decimal version) (32 ∷ clock_text c) (decimal_ascii version) (IsAscii-cons 32 (clock_text c) (omega arith) (clock_ascii c)))
+    (IsAscii-cons 60 _ (omega arith) (IsAscii-append (decimal priority) (62 ∷ []) (decimal_ascii priority)
+    (IsAscii-cons 62 [] (omega arith) IsAscii-nil)))
+    (IsAscii-append (decimal version) (32 ∷ clock_text c) (decimal_ascii version)
+    (IsAscii-cons 32 (clock_text c) (omega arith) (clock_ascii c)))
 
 pub clock_shown : (c : Option ClockStamp) → clock_text c ≡ timestamp_text (stamp_seen c)
 clock_shown None = refl
@@ -114,10 +119,12 @@ front_chars bytes priority c stamp e f =
     ap chars e ∙ chars-IsAscii _ (printed_front_ascii priority 1 c) ∙ front_joined priority (clock_text c)
     ∙ ap (front_text priority) (clock_shown c ∙ f)
 
-pub priority_chars : (priority : ℕ) → chars (60 ∷ (decimal priority ++ (62 ∷ 49 ∷ 32 ∷ []))) ≡ 60 ∷ (decimal priority ++ (62 ∷ 49 ∷ 32 ∷ []))
+pub priority_chars : (priority : ℕ) → chars (60 ∷ (decimal priority ++ (62 ∷ 49 ∷ 32 ∷ [])))
+    ≡ 60 ∷ (decimal priority ++ (62 ∷ 49 ∷ 32 ∷ []))
 priority_chars priority = chars-IsAscii _
     (IsAscii-cons 60 _ (omega arith) (IsAscii-append (decimal priority) (62 ∷ 49 ∷ 32 ∷ []) (decimal_ascii priority)
-    (IsAscii-cons 62 (49 ∷ 32 ∷ []) (omega arith) (IsAscii-cons 49 (32 ∷ []) (omega arith) (IsAscii-cons 32 [] (omega arith) IsAscii-nil)))))
+    (IsAscii-cons 62 (49 ∷ 32 ∷ []) (omega arith) (IsAscii-cons 49 (32 ∷ []) (omega arith)
+    (IsAscii-cons 32 [] (omega arith) IsAscii-nil)))))
 
 pub one : decimal 1 ≡ 49 ∷ []
 unfolding digits
@@ -127,9 +134,11 @@ parts_joined : (old p stamp : Text) → (old ++ (60 ∷ (p ++ (62 ∷ 49 ∷ 32 
     ≡ old ++ (60 ∷ (p ++ (62 ∷ (decimal 1 ++ (32 ∷ stamp)))))
 parts_joined old p stamp = rw one (simp append_assoc refl)
 
-pub front_parts : (priority : ℕ) (stamp old mid now : Text) → mid ≡ old ++ (60 ∷ (decimal priority ++ (62 ∷ 49 ∷ 32 ∷ [])))
+pub front_parts : (priority : ℕ) (stamp old mid now : Text) → mid ≡ old
+    ++ (60 ∷ (decimal priority ++ (62 ∷ 49 ∷ 32 ∷ [])))
     → now ≡ mid ++ stamp → now ≡ old ++ front_text priority stamp
-front_parts priority stamp old mid now e f = f ∙ ap (λ (x : Text). x ++ stamp) e ∙ parts_joined old (decimal priority) stamp
+front_parts priority stamp old mid now e f = f ∙ ap (λ (x : Text). x ++ stamp) e
+    ∙ parts_joined old (decimal priority) stamp
 
 -- ---- what the test of a timestamp says
 
@@ -208,7 +217,8 @@ zone_ends (negsuc n) q = (refl, refl)
 
 -- date and time in a year from 0 on, and more
 text-shape : (f : CivilFields) (y : ℕ) (fraction zone q : Text) → f.year ≡ pos y
-    → (date_time_text f ++ (fraction ++ zone)) ++ q ≡ pad4 y ++ (45 ∷ pad2 f.month ++ (45 ∷ pad2 f.day ++ (84 ∷ pad2 f.hour
+    → (date_time_text f ++ (fraction ++ zone)) ++ q ≡ pad4 y
+    ++ (45 ∷ pad2 f.month ++ (45 ∷ pad2 f.day ++ (84 ∷ pad2 f.hour
     ++ (58 ∷ pad2 f.minute ++ (58 ∷ pad2 f.second ++ (fraction ++ (zone ++ q)))))))
 unfolding date_time_text
 text-shape f y fraction zone q e = rw e (simp append_assoc)
@@ -223,8 +233,10 @@ fields_is f o y year civil whole minutes day q =
     let ends = zone_ends o (32 ∷ q) in
     let dated = such_front (Row date_row) IsDate (row_of date_row (
     piece_front year_class (pad4 y) _ y (refl, omega (arith, signed_arith, date.0))
-    then piece_front (after 45 (pair 100)) (45 ∷ pad2 f.month) _ f.month (pad2 f.month, refl, (refl, omega (arith, date.1)))
-    then piece_front (after 45 (pair 100)) (45 ∷ pad2 f.day) _ f.day (pad2 f.day, refl, (refl, omega (arith, date.2, days)))
+    then piece_front (after 45 (pair 100)) (45 ∷ pad2 f.month) _ f.month
+    (pad2 f.month, refl, (refl, omega (arith, date.1)))
+    then piece_front (after 45 (pair 100)) (45 ∷ pad2 f.day) _ f.day
+    (pad2 f.day, refl, (refl, omega (arith, date.2, days)))
     then refl)) date in
     let timed = row_of partial_time (piece_front time_hour (pad2 f.hour) _ f.hour (refl, civil.hour_in)
     then minute_front f.minute _ civil.minute_in then minute_front f.second _ civil.second_in
@@ -250,17 +262,20 @@ unfolding printed_stamp
 cut_text s n is h =
     let canonical = text_canonical s h in
     let o = s.offset.seconds in
-    let fields = civil_fields_exist _ (in_range-at_offset s.instant.nanosecond o s.instant.in_range s.offset.in_range) in
+    let fields = civil_fields_exist _ (in_range-at_offset s.instant.nanosecond o s.instant.in_range
+    s.offset.in_range) in
     let (both, day) = and_parts _ _ h in
     let (year, minutes) = and_parts _ _ both in
     let (y, shows, small) = four_digits (own_year s) year in
-    fields_is _ o y shows fields.0 (subst (λ (x : ℤ). (civil_fields (x +ℤ nanos_of_seconds o)).nanosecond % 1_000 ≡ 0) (sym is) (whole_fields n o))
+    fields_is _ o y shows fields.0 (subst (λ (x : ℤ). (civil_fields (x +ℤ nanos_of_seconds o)).nanosecond % 1_000 ≡ 0)
+    (sym is) (whole_fields n o))
     canonical.minutes canonical.day
 
 -- ---- converted timestamps
 
 -- what holds of each choice holds of the one that is taken
-pub by_choice : (P : Option OffsetTimestamp → Type 0) (s : OffsetTimestamp) → (has_text (cut_stamp s) ≡ true → P (Some (cut_stamp s)))
+pub by_choice : (P : Option OffsetTimestamp → Type 0) (s : OffsetTimestamp)
+    → (has_text (cut_stamp s) ≡ true → P (Some (cut_stamp s)))
     → (has_text (in_utc (cut_stamp s)) ≡ true → P (Some (in_utc (cut_stamp s)))) → P None → P (converted_stamp s)
 by_choice P s own utc none = elim (cases_Bool (has_text (cut_stamp s))) [
   | inl h ↦ rw h (own h)
@@ -269,9 +284,12 @@ by_choice P s own utc none = elim (cases_Bool (has_text (cut_stamp s))) [
 
 pub stamp_is : (v : Option OffsetTimestamp) → IsPiece timestamp (timestamp_text (option_and_then converted_stamp v))
 stamp_is None = λ q. (inl tt, piece_front timestamp (45 ∷ []) (32 ∷ q) (inl tt) refl)
-stamp_is (Some s) = by_choice (λ v. IsPiece timestamp (timestamp_text v)) s (cut_text (cut_stamp s) s.instant.nanosecond refl)
-    (cut_text (in_utc (cut_stamp s)) s.instant.nanosecond refl) (λ q. (inl tt, piece_front timestamp (45 ∷ []) (32 ∷ q) (inl tt) refl))
+stamp_is (Some s) = by_choice (λ v. IsPiece timestamp (timestamp_text v)) s
+    (cut_text (cut_stamp s) s.instant.nanosecond refl)
+    (cut_text (in_utc (cut_stamp s)) s.instant.nanosecond
+    refl) (λ q. (inl tt, piece_front timestamp (45 ∷ []) (32 ∷ q) (inl tt) refl))
 
 pub stamp_back : (v : Option OffsetTimestamp) → IfSome (option_and_then converted_stamp v) IsCanonicalStamp
 stamp_back None = tt
-stamp_back (Some s) = by_choice (λ v. IfSome v IsCanonicalStamp) s (text_canonical (cut_stamp s)) (text_canonical (in_utc (cut_stamp s))) tt
+stamp_back (Some s) = by_choice (λ v. IfSome v IsCanonicalStamp) s (text_canonical (cut_stamp s))
+    (text_canonical (in_utc (cut_stamp s))) tt

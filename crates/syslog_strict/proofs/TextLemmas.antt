@@ -123,7 +123,8 @@ host_char c last = if last then kept_char no_colon (kept_char is_printusascii c)
 abbrev pub IsLast : ℕ → Text → Bool → Type 0
 IsLast n more last = MatchBool last ((n ≡ 1) ⊎ (more ≡ [])) ((n ≢ 1) × (more ≢ []))
 
-host_cons : (c m : ℕ) (t : Text) (last : Bool) → IsLast (suc m) t last → host_left (suc m) (c ∷ t) ≡ host_char c last ∷ host_left m t
+host_cons : (c m : ℕ) (t : Text) (last : Bool) → IsLast (suc m) t last
+    → host_left (suc m) (c ∷ t) ≡ host_char c last ∷ host_left m t
 host_cons c zero t true is = refl
 host_cons c zero t false is = absurd (is.0 refl)
 host_cons c (suc m) [] true is = refl
@@ -138,7 +139,8 @@ pub host_step : (c n : ℕ) (old now t more whole : Text) (last : Bool) → 0 < 
 host_step c zero old now t more whole last h e is p i = absurd (omega arith)
 host_step c (suc m) old now t more whole last h e is p i =
     let one : suc m - 1 ≡ m = omega arith in
-    rw (p, one, append_assoc) (ap (λ (x : Text). old ++ x) (sym (ap (host_left (suc m)) e ∙ host_cons c m more last is)) ∙ i)
+    rw (p, one, append_assoc) (ap (λ (x : Text). old ++ x)
+    (sym (ap (host_left (suc m)) e ∙ host_cons c m more last is)) ∙ i)
 
 nothing_left : (n : ℕ) (t : Text) → (n ≤ 0) ⊎ (t ≡ []) → host_left n t ≡ []
 nothing_left zero t e = refl
@@ -146,7 +148,8 @@ nothing_left (suc n) t (inl e) = absurd (omega arith)
 nothing_left (suc n) t (inr e) = rw e refl
 
 -- no more may be copied, or nothing is left
-pub host_end : (host old now rest : Text) (n : ℕ) → host ≢ [] → (n ≤ 0) ⊎ (rest ≡ []) → now ++ host_left n rest ≡ old ++ host_left 255 host
+pub host_end : (host old now rest : Text) (n : ℕ) → host ≢ [] → (n ≤ 0) ⊎ (rest ≡ []) → now ++ host_left n rest ≡ old
+    ++ host_left 255 host
     → now ≡ old ++ name_text (converted_host host)
 host_end host old now rest n some ends i =
     sym (append-nil now) ∙ ap (λ (x : Text). now ++ x) (sym (nothing_left n rest ends)) ∙ i
@@ -223,7 +226,8 @@ abbrev space : Text
 space = 32 ∷ []
 
 pieces : (front host app process id elements msg : Text)
-    → (((((((((((front ++ space) ++ host) ++ space) ++ app) ++ space) ++ process) ++ space) ++ id) ++ space) ++ elements) ++ space) ++ msg
+    → (((((((((((front ++ space) ++ host) ++ space) ++ app) ++ space) ++ process) ++ space) ++ id) ++ space)
+    ++ elements) ++ space) ++ msg
     ≡ front ++ (32 ∷ (host ++ (32 ∷ (app ++ (32 ∷ (process ++ (32 ∷ (id ++ (32 ∷ (elements ++ (32 ∷ msg)))))))))))
 pieces front host app process id elements msg = simp append_assoc refl
 

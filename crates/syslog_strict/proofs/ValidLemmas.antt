@@ -1,6 +1,8 @@
 -- Values, ids of elements, and the ids that were seen.
-use Rattle.syslog_strict.proofs.Words.{◌≡◌, ◌≢◌, inl, inr, ℕ, ◌<◌, ◌≤◌, Bool, true, false, List, [], ◌∷◌, ◌++◌, length, map}
-use Rattle.syslog_strict.proofs.Words.{refl, sym, ap, ap₂, subst, ◌∙◌, arith, cond, Bor, IsUtf8, AllByRecursion, AreDistinct}
+use Rattle.syslog_strict.proofs.Words.{◌≡◌, ◌≢◌, inl, inr, ℕ, ◌<◌, ◌≤◌, Bool, true, false, List, [], ◌∷◌, ◌++◌}
+use Rattle.syslog_strict.proofs.Words.{length, map}
+use Rattle.syslog_strict.proofs.Words.{refl, sym, ap, ap₂, subst, ◌∙◌, arith, cond, Bor, IsUtf8, AllByRecursion}
+use Rattle.syslog_strict.proofs.Words.{AreDistinct}
 use Rattle.syslog_strict.proofs.Words.{list_any-append, ◌||◌, nat_tests, Text, Each, Ends, shown, text_eq, ElementValue}
 use Rattle.syslog_strict.proofs.Words.{chars, SplitsRun, is_inert_char, is_among, HasSeen, is_escaped, cases_Bool}
 use Rattle.std.proofs.Common.{is_eq}
@@ -15,7 +17,8 @@ use Rattle.syslog_pieces.proofs.PieceLemmas.Class.{front_of, piece_front}
 use Rattle.syslog_pieces.proofs.PieceLemmas.Rules.{Runs, many_left, no_run, one_run, runs_left}
 use Rattle.syslog_strict.specs.Grammar.{escape, sd_element, sd_elements, value_unit}
 use Rattle.syslog_strict.proofs.GrammarLemmas.{element_det}
-use Rattle.syslog_strict.proofs.{ElementLemmas.bytes_text, NameLaws.no_text, NameLaws.no_text_eq, TextLemmas.text_eq_true}
+use Rattle.syslog_strict.proofs.{ElementLemmas.bytes_text, NameLaws.no_text, NameLaws.no_text_eq}
+use Rattle.syslog_strict.proofs.{TextLemmas.text_eq_true}
 use Rattle.syslog_strict.specs.declared.ids.Ids.{Ids}
 
 -- ---- values
@@ -36,7 +39,8 @@ split_runs {xs = xs} {ys = ys} s = let (units, r) = plain_runs (chars xs) (chars
 
 pub no_unit_after : (t : Text) → Ends is_inert_char t → NoFront escape t → NoFront value_unit t
 no_unit_after t ends n p q (pair d) e h = n p q d e h
-no_unit_after t ends n p q (single d) e (f, is) = other d is (subst (Ends is_inert_char) (e ∙ ap (λ (x : Text). x ++ q) f) ends)
+no_unit_after t ends n p q (single d) e (f, is) = other d is
+    (subst (Ends is_inert_char) (e ∙ ap (λ (x : Text). x ++ q) f) ends)
   where
     other : (c : ℕ) → is_escaped c ≡ false → is_inert_char c ≡ false → ⊥
     other c h k = grind (arith, nat_tests)
@@ -72,7 +76,8 @@ repeated (d ∷ es) us e h apart = elim (cases_Bool (text_eq d.id e.id)) [
     there (x ∷ xs) each = there xs each.1
 
 -- a new one doesn't
-pub distinct_more : (es : List ElementValue) (e : ElementValue) → AreDistinct (ids_of es) → is_among e.id (ids_of es) ≡ false
+pub distinct_more : (es : List ElementValue) (e : ElementValue) → AreDistinct (ids_of es)
+    → is_among e.id (ids_of es) ≡ false
     → AreDistinct (ids_of (es ++ e ∷ []))
 distinct_more [] e apart h = (tt, tt)
 distinct_more (d ∷ es) e apart h =
@@ -85,13 +90,16 @@ distinct_more (d ∷ es) e apart h =
     last (x ∷ xs) each n = (each.0, last xs each.1 n)
 
 -- an element whose id comes again among those after it: then those at the front are not distinct
-pub repeats : {t s u : Text} {e : ElementValue} {id : Text} (es : List ElementValue) → Runs sd_element t es s → e.id ≡ id
-    → Front sd_element s u e → ((q : Text) (us : List ElementValue) → Front (many sd_element) u q us → is_among id (ids_of us) ≡ true)
+pub repeats : {t s u : Text} {e : ElementValue} {id : Text} (es : List ElementValue) → Runs sd_element t es s
+    → e.id ≡ id
+    → Front sd_element s u e → ((q : Text) (us : List ElementValue) → Front (many sd_element) u q us
+    → is_among id (ids_of us) ≡ true)
     → NoFront sd_elements t
 repeats es r same f again p q ws e (h, (some, apart)) =
     let (us, first, others) = runs_left element_det ws r (front_of p e h) in
     let (vs, second, more) = many_left element_det us f others in
-    let (each, _) = later es _ (subst (λ (x : List ElementValue). AreDistinct (ids_of x)) (first ∙ ap (λ (x : List ElementValue). es ++ x) second) apart) in
+    let (each, _) = later es _ (subst (λ (x : List ElementValue). AreDistinct (ids_of x))
+    (first ∙ ap (λ (x : List ElementValue). es ++ x) second) apart) in
     let none = (none_tells _ (ids_of vs)).1 (subst (λ (x : Text). AllByRecursion (λ u. u ≢ x) (ids_of vs)) same each) in
     let some = again q vs more in cc
 
@@ -102,7 +110,8 @@ came {e = d} es r same f old p q ws e (h, (some, apart)) =
     let (us, first, others) = runs_left element_det ws r (front_of p e h) in
     let (vs, second, more) = many_left element_det us f others in
     repeated es vs d (ap (λ (x : Text). is_among x (ids_of es)) same ∙ old)
-    (subst (λ (x : List ElementValue). AreDistinct (ids_of x)) (first ∙ ap (λ (x : List ElementValue). es ++ x) second) apart)
+    (subst (λ (x : List ElementValue). AreDistinct (ids_of x))
+    (first ∙ ap (λ (x : List ElementValue). es ++ x) second) apart)
 
 -- one whose id doesn't come again
 pub fresh : (e : ElementValue) {id : Text} → e.id ≡ id → (us : List ElementValue) → is_among id (ids_of us) ≡ false
@@ -125,7 +134,8 @@ ids_more (d ∷ es) e = ap (λ (x : List Text). d.id ∷ x) (ids_more es e)
 
 -- ---- a set of ids, as the texts that came before
 
-last_among : (t id : Text) (seen : List Text) → is_among t (seen ++ id ∷ []) ≡ (is_among t seen || (text_eq id t || false))
+last_among : (t id : Text) (seen : List Text) → is_among t
+    (seen ++ id ∷ []) ≡ (is_among t seen || (text_eq id t || false))
 last_among t id seen = list_any-append (λ u. text_eq u t) seen (id ∷ [])
 
 put : (a b e : Bool) → (a || cond e true b) ≡ ((a || b) || (e || false))
@@ -157,7 +167,8 @@ module _ (old new : Ids) (seen : List Text) (id : Bor (List ℕ)) (u : IsUtf8 id
         (updated k ∙ ap (λ (x : Bool). cond x true (contains (λ x y. slice_cmp nat_cmp x.now y.now) old.many k))
         (is_eq-slice_cmp id.now k.now ∙ bytes_text id.now k.now u v))
         ∙ put (is_among (shown k) (map (λ s. shown s) old.few.items))
-        (contains (λ x y. slice_cmp nat_cmp x.now y.now) old.many k) (text_eq (shown id) (shown k)) ∙ ap (λ (x : Bool). x || (text_eq (shown id) (shown k) || false)) (h.same k v)
+        (contains (λ x y. slice_cmp nat_cmp x.now y.now) old.many k) (text_eq (shown id) (shown k))
+        ∙ ap (λ (x : Bool). x || (text_eq (shown id) (shown k) || false)) (h.same k v)
         ∙ sym (last_among (shown k) (shown id) seen);
   }
 
@@ -165,6 +176,7 @@ module _ (old new : Ids) (seen : List Text) (id : Bor (List ℕ)) (u : IsUtf8 id
       → false ≡ is_among (shown id) (map (λ s. shown s) old.few.items) → 8 ≤ length old.few.items → new.few ≡ old.few
       → ((k : Bor (List ℕ)) → contains (λ x y. slice_cmp nat_cmp x.now y.now) new.many k
       ≡ cond (is_eq (slice_cmp nat_cmp id.now k.now)) true (contains (λ x y. slice_cmp nat_cmp x.now y.now) old.many k))
-      → MatchBool is_new ((is_among (shown id) seen ≡ false) × HasSeen new (seen ++ shown id ∷ [])) (is_among (shown id) seen ≡ true)
+      → MatchBool is_new ((is_among (shown id) seen ≡ false) × HasSeen new (seen ++ shown id ∷ []))
+      (is_among (shown id) seen ≡ true)
   seen_put true e other full kept updated = (sym (seen_other other) ∙ not-true _ (sym e), seen_many full kept updated)
   seen_put false e other full kept updated = sym (seen_other other) ∙ not-false _ (sym e)

@@ -14,8 +14,8 @@ use Rattle.syslog_strict.specs.Conversion.{converted, whole}
 use Rattle.syslog_strict.specs.Grammar.{IsSyslogMsg}
 
 -- The text is that of the one message as which the input is read, with what is left unparsed of its structured data
--- before the message part, converted. It is in the grammar, and whoever reads it again, whatever the year and zones, reads
--- the converted message, and leaves nothing unparsed.
+-- before the message part, converted. It is in the grammar, and whoever reads it again, whatever the year and zones,
+-- reads the converted message, and leaves nothing unparsed.
 pub record IsConvertedText (variant : Variant) (dating : Dating) (input text : Text) : Type 0 where
   pub message : MessageValue
   pub read : IsOnlyRead variant dating input message
@@ -30,8 +30,8 @@ pub record IsConvertedText (variant : Variant) (dating : Dating) (input text : T
 abbrev pub NoSyslogMsg : Text → Type 0
 NoSyslogMsg text = IsSyslogMsg text → ⊥
 
--- the input is not in the grammar, and the text is its conversion; or there is a fault, which is `Invalid` exactly where
--- the input is read as no message
+-- the input is not in the grammar, and the text is its conversion; or there is a fault, which is `Invalid` exactly
+-- where the input is read as no message
 abbrev pub Converts : Variant → Dating → Text → Result (Unit {0}) ParseFault → Text → Type 0
 Converts variant dating input result text = NoSyslogMsg input
     × MatchResult result (λ _. IsConvertedText variant dating input text)

@@ -1,7 +1,8 @@
 -- The conversion of a message to RFC 5424, field by field: what the grammar takes stays as it is. 45 is `-`, 58 `:`, 63
 -- `?`, 92 a backslash.
 use Rattle.std.specs.Prelude.{ℕ, ℤ, pos, negsuc, ◌%◌, ◌-ℤ◌, ◌&&◌, not, nat_eq, nat_le, nat_lt, ◌==◌, Bool, true, false}
-use Rattle.std.specs.Prelude.{if◌then◌else◌, List, [], ◌∷◌, ◌++◌, map, take, Option, Some, None, unwrap_or, unsigned_abs}
+use Rattle.std.specs.Prelude.{if◌then◌else◌, List, [], ◌∷◌, ◌++◌, map, take, Option, Some, None, unwrap_or}
+use Rattle.std.specs.Prelude.{unsigned_abs}
 use Rattle.std.specs.List.{list_any}
 use Rattle.std.specs.Int.{int_rem_euclid}
 use Rattle.std.specs.Option.{option_and_then, option_map}
@@ -109,8 +110,8 @@ or_mark (c ∷ t) = c ∷ t
 abbrev pub converted_name : Text → Text
 converted_name t = cleaned is_sd_char 32 (or_mark t)
 
--- A value with each `\`, `"` and `]` after a backslash. Whether a backslash was read before comes first: with an escaped
--- character it is an escape and stays, and otherwise it is a character as any other.
+-- A value with each `\`, `"` and `]` after a backslash. Whether a backslash was read before comes first: with an
+-- escaped character it is an escape and stays, and otherwise it is a character as any other.
 abbrev pub escaped_from : Bool → Text → Text
 escaped_from false [] = []
 escaped_from true [] = 92 ∷ 92 ∷ []
@@ -170,8 +171,8 @@ whole m unparsed = record m { msg = spaced_before unparsed m.msg }
 
 -- ---- messages
 
--- The message as RFC 5424 of version 1. Without a priority it has 13, `user` and `notice` (RFC 3164, section 4.3.3); with
--- one past 191 the facility `user`.
+-- The message as RFC 5424 of version 1. Without a priority it has 13, `user` and `notice` (RFC 3164, section 4.3.3);
+-- with one past 191 the facility `user`.
 abbrev pub converted : MessageValue → MessageValue
 converted m = record {
   protocol = RFC5424 1;

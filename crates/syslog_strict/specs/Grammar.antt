@@ -1,12 +1,14 @@
--- The grammar of RFC 5424, section 6, rule by rule under the RFC's names, as classes of the theory of pieces. A text is a
--- list of characters, so that what the RFC calls UTF-8-STRING is any text here. A run is maximal, which excludes nothing:
--- what follows one in the grammar is never a character of it. 34 is `"`, 43 `+`, 45 `-`, 58 `:`, 84 `T`, 90 `Z`.
+-- The grammar of RFC 5424, section 6, rule by rule under the RFC's names, as classes of the theory of pieces. A text
+-- is a list of characters, so that what the RFC calls UTF-8-STRING is any text here. A run is maximal, which excludes
+-- nothing: what follows one in the grammar is never a character of it. 34 is `"`, 43 `+`, 45 `-`, 58 `:`, 84 `T`, 90
+-- `Z`.
 use Rattle.std.specs.Prelude.{◌≡◌, ◌≢◌, ⊤, ℕ, pos, ◌<◌, ◌&&◌, ◌||◌, nat_eq, nat_le, not, Bool, true, false}
 use Rattle.std.specs.Prelude.{List, [], ◌∷◌, ◌++◌, length, map}
 use Rattle.std.specs.Char.{is_ascii_digit}
 use Rattle.std.specs.List.{AllByRecursion}
 use Rattle.jiff_core.specs.Calendar.{IsCivilDate}
-use Rattle.syslog_pieces.specs.Pieces.Class.{Text, Class, Values, Division, Row, exactly, optional, rest, mapped, texted}
+use Rattle.syslog_pieces.specs.Pieces.Class.{Text, Class, Values, Division, Row, exactly, optional, rest, mapped}
+use Rattle.syslog_pieces.specs.Pieces.Class.{texted}
 use Rattle.syslog_pieces.specs.Pieces.Class.{after, spaced}
 use Rattle.syslog_pieces.specs.Pieces.Lists.{many}
 use Rattle.syslog_pieces.specs.Pieces.Rules.{short_run, ◌or◌, such_that}

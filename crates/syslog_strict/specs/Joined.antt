@@ -30,5 +30,6 @@ pub record HasJoined (joined : Joined) (seen : List ElementValue) : Type 0 where
 
 -- an element of each id
 abbrev pub joined_text : Joined → Text
-joined_text joined = flat_map (λ id. 91 ∷ (text_in id ++ (text_or_none (get_by_text joined.params (string_bytes id)) ++ (93 ∷ []))))
+joined_text joined = flat_map (λ id. 91 ∷ (text_in id
+    ++ (text_or_none (get_by_text joined.params (string_bytes id)) ++ (93 ∷ []))))
     joined.ids.items

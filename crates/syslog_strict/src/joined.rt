@@ -39,7 +39,8 @@ impl Joined {
         ensures ids { OnOk result (map (λ s. text_in s) self.new.ids.items
             ≡ map (λ s. text_in s) self.old.ids.items
             ++ (if is_some (get_by_text self.old.params (string_bytes id.now)) then [] else text_in id.now ∷ [])) }
-        ensures params { IfOk result (λ params. text_in params ≡ text_or_none (get_by_text self.old.params (string_bytes id.now))) }
+        ensures params { IfOk result (λ params. text_in params
+            ≡ text_or_none (get_by_text self.old.params (string_bytes id.now))) }
         ensures others { OnOk result ((q : List ℕ) → get_by_text self.new.params q
             ≡ cond (bytes_eq (string_bytes id.now) q) None (get_by_text self.old.params q)) }
     {

@@ -23,7 +23,8 @@ pub fn converted_text_is_in_the_grammar()
 {}
 
 /// The conversion of a message that was read is canonical, with what was left unparsed of its structured data. So its
-/// printed text is read as that message, whatever the year and zones of the receiver, and nothing of it is left unparsed.
+/// printed text is read as that message, whatever the year and zones of the receiver, and nothing of it is left
+/// unparsed.
 pub fn converted_text_is_read_back()
     ensures canonical { (variant : Variant) (dating : Dating) (text : Text) (m : MessageValue) (unparsed : Text)
         → IsRead variant dating text m → Leaves variant text unparsed
@@ -36,7 +37,8 @@ pub fn converted_text_is_read_back()
         → Leaves Either (printed (converted (whole m unparsed))) [] }
 {}
 
-/// What was converted stays: whatever the call may write of a converted text, whatever the year and zones, is that text.
+/// What was converted stays: whatever the call may write of a converted text, whatever the year and zones, is that
+/// text.
 /// And a converted message prints as its own conversion does.
 #[tactic(auto, using(crate::proofs::ConversionLaws::printed_again))]
 pub fn converted_text_stays()

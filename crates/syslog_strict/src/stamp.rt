@@ -24,7 +24,8 @@ use syslog_pieces::timestamp::canonical::{is_canonical_clock, is_canonical_stamp
 // The number of the priority: `user` and `notice` where a part is absent (RFC 3164 section 4.3.3).
 #[inline(always)]
 fn strict_priority(facility: Option<SyslogFacility>, severity: Option<SyslogSeverity>) -> u32
-    ensures number { result ≡ facility_number (unwrap_or facility LOG_USER) * 8 + severity_number (unwrap_or severity SEV_NOTICE) }
+    ensures number { result
+        ≡ facility_number (unwrap_or facility LOG_USER) * 8 + severity_number (unwrap_or severity SEV_NOTICE) }
     ensures small { result < 192 }
 {
     let facility = match facility {
@@ -74,7 +75,8 @@ fn is_strict(stamp: &OffsetTimestamp) -> bool
 // The instant, cut to microseconds, at this offset, where RFC 5424 has a text for it.
 fn cut_at(instant: Timestamp, offset: Offset) -> Option<OffsetTimestamp>
     ensures { (s : OffsetValue) → IsCutAt instant.nanosecond offset.seconds s
-        → MatchOption result (has_text s ≡ false) (λ t. (has_text s ≡ true) × (timestamp_text result ≡ timestamp_text (Some s))) }
+        → MatchOption result (has_text s ≡ false) (λ t. (has_text s ≡ true)
+        × (timestamp_text result ≡ timestamp_text (Some s))) }
 {
     let cut = cut_instant(instant);
     let stamp = OffsetTimestamp {

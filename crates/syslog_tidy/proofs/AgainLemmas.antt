@@ -13,7 +13,8 @@ use Rattle.syslog_loose.{specs.OneLine.IsOneLine, specs.Printed.printed}
 use Rattle.syslog_loose.{proofs.SettlingLemmas.Settles.one_first_settled, specs.Message.MessageValue}
 use Rattle.syslog_loose.proofs.ReadBackLemmas.{printed_line, printed_scalars}
 use Rattle.syslog_lines.proofs.LineLemmas.{frames_are_lines}
-use Rattle.syslog_lines.{specs.Output.Marked, specs.Output.Unasked, specs.Output.output_of, specs.declared.summary.Summary.Summary}
+use Rattle.syslog_lines.{specs.Output.Marked, specs.Output.Unasked, specs.Output.output_of}
+use Rattle.syslog_lines.{specs.declared.summary.Summary.Summary}
 use Rattle.syslog_lines.{specs.Count.held_count, specs.Lines.NoFeed, specs.Lines.with_feeds, specs.Lines.IsLines}
 use Rattle.syslog_lines.proofs.LineLemmas.{IsOther, all_after, all_front}
 use Rattle.syslog_tidy.specs.Filters.{TidiesAll, WritesAgain}

@@ -271,11 +271,14 @@ module _ (rule : DashRule) (t : Text) (n : Names3164) (vs : Values (body_row rul
 abbrev pub Ended : (rule : DashRule) → List ElementValue → Text → Values (from_blanks rule) → Type 0
 Ended rule es msg vs =
     ((elements_or vs.1.0 ≡ es) × (vs.1.1.1.0 ≡ msg) × (es ≡ [] → BeginsNoList rule msg))
-    ⊎ ((es ≡ []) × (BeginsNoList rule msg → ⊥) × (length vs.1.1.1.0 < length msg) × (elements_or vs.1.0 ≡ [] → (rest : Text)
+    ⊎ ((es ≡ []) × (BeginsNoList rule msg → ⊥) × (length vs.1.1.1.0 < length msg)
+    × (elements_or vs.1.0 ≡ [] → (rest : Text)
     × (msg ≡ 45 ∷ rest) × IsDashBefore rule rest × Front (run is_blank) rest vs.1.1.1.0 tt))
 
-end_read : (rule : DashRule) (es : List ElementValue) (msg : Text) → AllByRecursion IsCanonicalElement es → AllByRecursion
-    (λ e. 0 < length e.params) es → Ends is_blank msg → (vs : Values (from_blanks rule)) → Front (Row (from_blanks rule))
+end_read : (rule : DashRule) (es : List ElementValue) (msg : Text) → AllByRecursion IsCanonicalElement es
+    → AllByRecursion
+    (λ e. 0 < length e.params) es → Ends is_blank msg → (vs : Values (from_blanks rule))
+    → Front (Row (from_blanks rule))
     (tail_text es msg) [] vs → Ended rule es msg vs
 end_read rule [] msg h k b vs d = elim (list_read rule _ msg vs (message_blanks msg b) d) [
   | inl (none, absent, same) ↦ inl (ap elements_or absent, same, λ e. none)
@@ -343,7 +346,8 @@ end_or_dashed t [] left e before f =
 end_or_dashed t (c ∷ cs) left e before f = by f.piece f.whole f.is
   where
     by : (p : Text) → c ∷ cs ≡ p ++ left → (run is_blank).Is p left tt → (left ≡ []) ⊎ IsDashed t left
-    by [] whole is = absurd (let odd = subst (Ends is_blank) (sym whole) is.1 in let z : true ≡ false = sym before ∙ odd in cc)
+    by [] whole is = absurd (let odd = subst (Ends is_blank) (sym whole) is.1 in
+        let z : true ≡ false = sym before ∙ odd in cc)
     by (d ∷ ds) whole is = inr (record {
       blanks = d ∷ ds;
       whole = e ∙ ap (λ (x : Text). 45 ∷ x) whole;
@@ -400,12 +404,14 @@ module _ (rule : DashRule) (first second : Dating) (text : Text) (m n : MessageV
 
   named_as : Tail (32 ∷ after_space m) → Named
   named_as = names_step rule (tail_text m.structured_data m.msg) s.means.0 s.values.1.1.1 s.means.1 m.hostname m.appname
-      m.procid near.hostname near.odd_host near.names near.colon_process dashes (rfc3164_bounded rule first text m r).procid
+      m.procid near.hostname near.odd_host near.names near.colon_process dashes
+      (rfc3164_bounded rule first text m r).procid
 
   named : IfSome m.timestamp IsCanonicalStamp → Named
   named k = named_as (kept m.timestamp k stamped.1).1
 
-  ended : Stays rule (tail_text m.structured_data m.msg) s.means.0 s.values.1.1.1 s.means.1 m.hostname m.appname m.procid
+  ended : Stays rule (tail_text m.structured_data m.msg) s.means.0 s.values.1.1.1 s.means.1 m.hostname m.appname
+      m.procid
       → Ended rule m.structured_data m.msg s.values.1.1.1.1.1.1.1
   ended k = end_read rule m.structured_data m.msg near.elements near.parameters near.msg_front _ k.after
 

@@ -1,4 +1,5 @@
--- Rounds of a text: one is stable first, or one is missing; and the rounds that are skipped, with what is written of them.
+-- Rounds of a text: one is stable first, or one is missing; and the rounds that are skipped, with what is written of
+-- them.
 use Rattle.syslog_loose.proofs.Names.{◌≡◌, ◌<◌, ◌⊎◌, ◌∙◌, ℕ, zero, suc, inl, inr, refl, sym, ap, subst, arith, Text, []}
 use Rattle.syslog_loose.proofs.Names.{leb_tells, Dating, printed, IsUnreadable, IsNext, IsRound, IsSettled, NoneSettled}
 use Rattle.syslog_loose.proofs.Names.{Reaches, IsFirstSettled, Variant, ◌≤◌, ◌∷◌, ◌++◌, length, true, Option, None, ◌+◌}
@@ -357,7 +358,8 @@ repeat_sum xs (suc m) n (suc k) e = rw (append_assoc, repeat_sum xs m n k (omega
 repeat_times : (xs : List ℕ) (m n : ℕ) → repeat m (repeat n xs) ≡ repeat (m * n) xs
 repeat_times xs zero n = ap (λ (i : ℕ). repeat i xs) (let same : 0 ≡ 0 * n = omega arith in same)
 repeat_times xs (suc m) n =
-    rw (repeat_times xs m n) (repeat_sum xs n (m * n) (suc m * n) (let same : n + m * n ≡ suc m * n = grind arith in same))
+    rw (repeat_times xs m n) (repeat_sum xs n (m * n) (suc m * n)
+    (let same : n + m * n ≡ suc m * n = grind arith in same))
 
 repeat_alone : (xs : List ℕ) (n : ℕ) → encode_utf8_all xs ≡ xs → encode_utf8_all (repeat n xs) ≡ repeat n xs
 unfolding encode_utf8
@@ -450,7 +452,8 @@ module _ (variant : Variant) (dating : Dating) (input : Text) (m : MessageValue)
       | inl s ↦ absurd (let other = sym e ∙ ap (λ (x : MessageValue). x.protocol) s.means in cc)
       | inr s ↦ s
     ],
-    reached_next variant dating input 0 input (printed m) (reached_none variant dating input) (λ l. absurd (omega arith))
+    reached_next variant dating input 0 input (printed m)
+        (reached_none variant dating input) (λ l. absurd (omega arith))
         (record { message = m; read = r; is_printed = refl }),
   )
 
@@ -459,7 +462,8 @@ module _ (variant : Variant) (dating : Dating) (input : Text) (m : MessageValue)
       → (HasNoException dash_rule z → ⊥) → Known (suc n) z
   next_known n y z (text, before, reaches) again odd =
       let same = printed_3164_is y (read_near BeforeBlank dating text y before).protocol in
-      let read : IsRead variant dating (printed y) z = rw same (as_variant variant dating y z (rw e at (read_protocol variant dating input m r)) again) in (
+      let read : IsRead variant dating (printed y) z = rw same
+      (as_variant variant dating y z (rw e at (read_protocol variant dating input m r)) again) in (
         printed y,
         rw same again,
         reached_next variant dating input (suc n) (printed y) (printed z) reaches
@@ -523,7 +527,8 @@ module _ (variant : Variant) (dating : Dating) (input : Text) (m : MessageValue)
         → IsDashed u next → Known (suc (suc n)) (read_with m (names_of m) u)
     more_dashes n before u next k d f =
         rw (read_twice m (names_of m) u) at
-        (next_dash (suc n) (read_with m (names_of m) before) u next k (record { timestamp = none.timestamp; names = none.names }) refl d f)
+        (next_dash (suc n) (read_with m (names_of m) before) u next k
+        (record { timestamp = none.timestamp; names = none.names }) refl d f)
 
     all_dashes : (n : ℕ) (u : Text) → PassesDashes (suc n) m.msg u → Known (suc n) (read_with m (names_of m) u)
     all_dashes zero u (before, is, d, next, f) = next_dash 0 m u next known none es (rw is at d) f
@@ -584,7 +589,8 @@ passes_spaced zero t next d = refl
 passes_spaced (suc n) t next d =
     let one = one_dashed t next d in
     let more : spaced_dashes (suc n) ++ t ≡ spaced_dashes n ++ (45 ∷ 32 ∷ t) =
-    ap (λ (x : Text). x ++ t) (sym (repeat_sum (45 ∷ 32 ∷ []) n 1 (suc n) (omega arith))) ∙ append_assoc (spaced_dashes n) (45 ∷ 32 ∷ []) t in
+    ap (λ (x : Text). x ++ t) (sym (repeat_sum (45 ∷ 32 ∷ []) n 1 (suc n) (omega arith)))
+    ∙ append_assoc (spaced_dashes n) (45 ∷ 32 ∷ []) t in
     (45 ∷ 32 ∷ t, rw more (passes_spaced n (45 ∷ 32 ∷ t) t one), one, next, d)
 
 pub passes_both : (m n : ℕ) (a b t : Text) → PassesDashes m a b → PassesDashes n b t → (k : ℕ) × PassesDashes k a t
@@ -626,7 +632,12 @@ pub tail_pushed : (old mid new : List ℕ) (es : List ElementValue) (msg : Text)
     → new ≡ old ++ encode_utf8_all (tail_text es msg)
 unfolding encode_utf8
 tail_pushed old mid new [] msg n e f = absurd (n refl)
-tail_pushed old mid new (x ∷ es) msg n e f = rw (f, e, encodes-append (joined_elements (x ∷ es)) (message_end msg), append_assoc) refl
+tail_pushed old mid new (x ∷ es) msg n e f = rw (
+  f,
+  e,
+  encodes-append (joined_elements (x ∷ es)) (message_end msg),
+  append_assoc,
+) refl
 
 -- what `strip_suffix` of a text gives
 pub suffix_bytes : (run bytes short : List ℕ) → StripsSuffix (FindsTextSuffix run) bytes short → bytes ≡ short ++ run
@@ -664,7 +675,8 @@ cut_chars name host shorter c n u k l =
 
 pub once_chars : (bs : List ℕ) → IsUtf8 bs → EndsOnce bs → EndsOnce (chars bs)
 once_chars bs u n front e (g, f) =
-    let bytes = λ (t : Text). encodes-append t colon ∙ ap (λ (x : List ℕ). encode_utf8_all t ++ x) (encodes-IsAscii colon colon_ascii) in
+    let bytes = λ (t : Text). encodes-append t colon ∙ ap (λ (x : List ℕ). encode_utf8_all t ++ x)
+    (encodes-IsAscii colon colon_ascii) in
     n (encode_utf8_all front) (sym (encodes-chars bs u) ∙ ap encode_utf8_all e ∙ bytes front)
     (encode_utf8_all g, ap encode_utf8_all f ∙ bytes g)
 
@@ -673,7 +685,8 @@ pub last_of_all : {t rest : Text} → IsDashed t rest → ((next : Text) → IsD
     → IsDashed t p → IsDashed p q → ⊥
 last_of_all {rest = rest} d none p q e f =
     let whole : d.blanks ++ rest ≡ e.blanks ++ p = (let a = d.whole in let b = e.whole in cc) in
-    let same = (front_same (run is_blank) (run_det is_blank) (piece_front (run is_blank) d.blanks rest tt (d.each, d.no_more))
+    let same = (front_same (run is_blank) (run_det is_blank)
+    (piece_front (run is_blank) d.blanks rest tt (d.each, d.no_more))
     (record { piece = e.blanks; whole = whole; is = (e.each, e.no_more) })).0 in
     none q (subst (λ (x : Text). IsDashed x q) (sym same) f)
 

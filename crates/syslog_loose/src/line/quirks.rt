@@ -1,5 +1,5 @@
-//! The quirks, tested on the fields of a line. What was read as RFC 3164 meets all else of the written condition but for
-//! an absent facility and severity, so without a quirk its printed text is settled. The tests look at a few bytes.
+//! The quirks, tested on the fields of a line. What was read as RFC 3164 meets all else of the written condition but
+//! for an absent facility and severity, so without a quirk its printed text is settled. The tests look at a few bytes.
 ghost use Rattle.std.specs.Prelude.{◌≡◌, ◌≢◌, ◌↔◌};
 ghost use Rattle.syslog_loose.specs.Words.{IfSome, IsTrue, MatchBool, option_map, seen, shown};
 ghost use Rattle.syslog_loose.specs.Words.{procid_value, EndsInColon, dash};

@@ -70,7 +70,8 @@ impl<S: AsStr> Message<S> {
 #[tactic(auto, using(crate::proofs::Names::last_is))]
 pub(crate) fn are_canonical_fields<S: AsStr>(fields: &Fields<'_, S>) -> bool
     ensures { (es : List ElementValue) → AreElements fields.now.no_elements fields.now.have_params es
-        → AllByRecursion spec.IsCanonicalElement es → IsTrue result ↔ spec.IsCanonical dash_rule (fields_value (text_of S.text) fields.now es) }
+        → AllByRecursion spec.IsCanonicalElement es
+        → IsTrue result ↔ spec.IsCanonical dash_rule (fields_value (text_of S.text) fields.now es) }
 {
     if !are_canonical_in_both(fields) {
         return false;

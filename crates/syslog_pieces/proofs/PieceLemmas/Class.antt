@@ -262,7 +262,8 @@ rows_none_later As Bs d f n p q vs e h = no_front_no (Row Bs) n (rows_step As Bs
 -- ---- pieces after a character
 pub after_det : {c : ℕ} (C : Class) → IsDeterministic C → IsDeterministic (after c C)
 after_det {c} C d p q p' q' v v' e (t, f, h) (t', f', h') =
-    let same : t ++ q ≡ t' ++ q' = (let f1 = ap (λ (x : Text). x ++ q) f in let f2 = ap (λ (x : Text). x ++ q') f' in cc) in
+    let same : t ++ q ≡ t' ++ q' = (let f1 = ap (λ (x : Text). x ++ q) f in let f2 = ap (λ (x : Text). x ++ q') f' in
+    cc) in
     let r = d t q t' q' v v' same h h' in
     (f ∙ ap (λ (x : Text). c ∷ x) r.0 ∙ sym f', r.1)
 

@@ -94,7 +94,11 @@ many_cons C {q = q} {v = v} f g = front_of (f.piece ++ g.piece)
 pub many_parts : (C : Class) {t q : Text} {v : C.Value} {vs : List C.Value} → Front (many C) t q (v ∷ vs)
     → (u : Text) × Front C t u v × Front (many C) u q vs
 many_parts C {q = q} f =
-    let (a, b, i, k, more) = f.is in (b ++ q, front_of a (f.whole ∙ append_more f.piece a b q i) k, front_of b refl more)
+    let (a, b, i, k, more) = f.is in (
+      b ++ q,
+      front_of a (f.whole ∙ append_more f.piece a b q i) k,
+      front_of b refl more,
+    )
 
 pub has_read_more : (C : Class) (t s s' : Text) (vs : List C.Value) (v : C.Value) → HasRead C t vs s → Front C s s' v
     → HasRead C t (vs ++ (v ∷ [])) s'

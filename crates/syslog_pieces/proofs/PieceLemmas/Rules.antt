@@ -1,5 +1,6 @@
 -- The words of grammars: one text has one front of each, and what their readers return.
-use Rattle.std.proofs.Common.{◌≡◌, ◌≢◌, ◌⊎◌, inl, inr, ℕ, ◌<◌, Bool, true, false, List, [], ◌∷◌, ◌++◌, length, Option, Some, None}
+use Rattle.std.proofs.Common.{◌≡◌, ◌≢◌, ◌⊎◌, inl, inr, ℕ, ◌<◌, Bool, true, false, List, [], ◌∷◌, ◌++◌, length, Option}
+use Rattle.std.proofs.Common.{Some, None}
 use Rattle.std.proofs.Common.{refl, sym, ap, subst, ◌∙◌, append-nil, arith, length-append, MatchOption}
 use Rattle.std.specs.Borrow.{Bor}
 use Rattle.std.specs.List.{AllByRecursion, flat_map}
@@ -10,7 +11,8 @@ use Rattle.syslog_pieces.specs.Pieces.Class.{exactly, join, mapped, texted}
 use Rattle.syslog_pieces.specs.Pieces.Lists.{many}
 use Rattle.syslog_pieces.specs.Pieces.Rules.{short_run, ◌or◌, such_that}
 use Rattle.syslog_pieces.specs.Pieces.View.{Recognises, Skips, shown}
-use Rattle.syslog_pieces.proofs.PieceLemmas.Class.{AllDeterministic, run_same, front_of, front_same, no_front_no, match_map}
+use Rattle.syslog_pieces.proofs.PieceLemmas.Class.{AllDeterministic, run_same, front_of, front_same, no_front_no}
+use Rattle.syslog_pieces.proofs.PieceLemmas.Class.{match_map}
 use Rattle.syslog_pieces.proofs.PieceLemmas.Class.{row_none_here, row_none_later, row_cons, row_nil, heads}
 use Rattle.syslog_pieces.proofs.PieceLemmas.Class.{no_texted, texted_front, no_mapped, mapped_front}
 use Rattle.syslog_pieces.proofs.PieceLemmas.Lists.{many_here, many_cons, many_none, many_parts}
@@ -57,26 +59,30 @@ pub second_front : {C D : Class} {t q : Text} {w : D.Value} → Front D t q w �
 second_front f = front_of f.piece f.whole f.is
 
 -- what a reader of the second returns where there is no piece of the first
-pub second_of : (C D : Class) {t : Text} (r : Option (Bor (List ℕ))) → NoFront C t → Recognises D t r → Recognises (C or D) t r
+pub second_of : (C D : Class) {t : Text} (r : Option (Bor (List ℕ))) → NoFront C t → Recognises D t r
+    → Recognises (C or D) t r
 second_of C D r n = match_map r (no_or n) (λ q (w, f). (inr w, front_of f.piece f.whole f.is))
 
 -- ---- a class with a property
 pub such_det : (C : Class) (P : C.Value → Type 0) → IsDeterministic C → IsDeterministic (such_that C P)
 such_det C P d p q p' q' v v' e h h' = d p q p' q' v v' e h.0 h'.0
 
-pub such_front : (C : Class) (P : C.Value → Type 0) {t q : Text} {v : C.Value} → Front C t q v → P v → Front (such_that C P) t q v
+pub such_front : (C : Class) (P : C.Value → Type 0) {t q : Text} {v : C.Value} → Front C t q v → P v
+    → Front (such_that C P) t q v
 such_front C P f h = front_of f.piece f.whole (f.is, h)
 
 pub no_such_front : (C : Class) (P : C.Value → Type 0) {t : Text} → NoFront C t → NoFront (such_that C P) t
 no_such_front C P n p q v e h = n p q v e h.0
 
 -- the one front of the class has another meaning
-pub no_such_meaning : (C : Class) (P : C.Value → Type 0) → IsDeterministic C → {t q : Text} {v : C.Value} → Front C t q v
+pub no_such_meaning : (C : Class) (P : C.Value → Type 0) → IsDeterministic C → {t q : Text} {v : C.Value}
+    → Front C t q v
     → (P v → ⊥) → NoFront (such_that C P) t
 no_such_meaning C P d f n p q v e h = n (subst P (front_same C d (front_of p e h.0) f).1 h.1)
 
 -- what a reader returns after a front of the class, by a test of its meaning
-pub such_reads : (C : Class) (P : C.Value → Type 0) → IsDeterministic C → {t : Text} {v : C.Value} (q : Bor (List ℕ)) (b : Bool)
+pub such_reads : (C : Class) (P : C.Value → Type 0) → IsDeterministic C
+    → {t : Text} {v : C.Value} (q : Bor (List ℕ)) (b : Bool)
     (r : Option (Bor (List ℕ))) → Front C t (shown q) v → MatchBool b (P v) (P v → ⊥) → r ≡ then_some b q
     → Recognises (such_that C P) t r
 such_reads C P d {v = v} q true r f h e = rw e (v, such_front C P f h)
@@ -101,7 +107,8 @@ texted_on C r m = match_map r (λ e. e)
     (λ x h. match_map m (λ n. no_texted C n) (λ y (v, f). (f.piece, texted_front C f)) h)
 
 -- a class with another meaning
-pub mapped_reads : (C : Class) (B : Type 0) (f : C.Value → B) (text : Text) (r : Option (Bor (List ℕ))) → Recognises C text r
+pub mapped_reads : (C : Class) (B : Type 0) (f : C.Value → B) (text : Text) (r : Option (Bor (List ℕ)))
+    → Recognises C text r
     → Recognises (mapped C B f) text r
 mapped_reads C B f text r = match_map r (λ n. no_mapped C B f n) (λ y (v, g). (f v, mapped_front C B f g))
 
@@ -117,7 +124,8 @@ abbrev pub last_of : Option (Bor (List ℕ)) → List (Option (Bor (List ℕ))) 
 last_of r [] = r
 last_of r (m ∷ ms) = last_of m ms
 
-chained : (Cs : List Class) → AllDeterministic Cs → (r : Option (Bor (List ℕ))) (ms : List (Option (Bor (List ℕ)))) → Chained Cs r ms
+chained : (Cs : List Class) → AllDeterministic Cs → (r : Option (Bor (List ℕ))) (ms : List (Option (Bor (List ℕ))))
+    → Chained Cs r ms
     → MatchOption r (last_of r ms ≡ None) (λ x. Recognises (Row Cs) (shown x) (last_of r ms))
 chained [] d None [] h = refl
 chained [] d (Some x) [] h = (tt, row_nil (shown x))
@@ -127,7 +135,8 @@ chained (C ∷ Cs) d None (m ∷ ms) (e, l) =
     ap (λ (x : Option (Bor (List ℕ))). last_of x ms) e
     ∙ chained Cs d.1 None ms (subst (λ (x : Option (Bor (List ℕ))). Chained Cs x ms) e l)
 chained (C ∷ Cs) d (Some x) (None ∷ ms) (n, l) =
-    subst (λ (y : Option (Bor (List ℕ))). Recognises (Row (C ∷ Cs)) (shown x) y) (sym (chained Cs d.1 None ms l)) (row_none_here C Cs n)
+    subst (λ (y : Option (Bor (List ℕ))). Recognises (Row (C ∷ Cs)) (shown x) y) (sym (chained Cs d.1 None ms l))
+    (row_none_here C Cs n)
 chained (C ∷ Cs) d (Some x) (Some y ∷ ms) ((v, f), l) = match_map (last_of (Some y) ms) (row_none_later C Cs d.0 f)
     (λ q (vs, g). ((v, vs), row_cons C Cs f g)) (chained Cs d.1 (Some y) ms l)
 
@@ -148,7 +157,8 @@ pub runs_more : {C : Class} {t s u : Text} {vs : List C.Value} {v : C.Value} →
 runs_more no_run f = one_run f no_run
 runs_more (one_run g r) f = one_run g (runs_more r f)
 
-pub runs_joined : {C : Class} {t s u : Text} {vs ws : List C.Value} → Runs C t vs s → Runs C s ws u → Runs C t (vs ++ ws) u
+pub runs_joined : {C : Class} {t s u : Text} {vs ws : List C.Value} → Runs C t vs s → Runs C s ws u
+    → Runs C t (vs ++ ws) u
 runs_joined no_run r = r
 runs_joined (one_run g r) s = one_run g (runs_joined r s)
 
@@ -202,7 +212,8 @@ after_prints c C print P each p q v = (
 )
 
 -- then a list of them prints so too
-pub many_prints : (C : Class) (print : C.Value → Text) (P : C.Value → Type 0) → Prints C print P → (p q : Text) (vs : List C.Value)
+pub many_prints : (C : Class) (print : C.Value → Text) (P : C.Value → Type 0) → Prints C print P
+    → (p q : Text) (vs : List C.Value)
     → (many C).Is p q vs ↔ ((p ≡ flat_map print vs) × AllByRecursion P vs × NoFront C q)
 many_prints C print P each p q [] = (λ h. (h.0, tt, h.1), λ h. (h.0, h.2))
 many_prints C print P each p q (v ∷ vs) = (

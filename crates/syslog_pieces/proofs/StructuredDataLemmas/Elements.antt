@@ -11,7 +11,8 @@ use Rattle.syslog_pieces.proofs.Names.{quoted_row, append-nil, OneMeaning, insid
 use Rattle.syslog_pieces.proofs.Names.{one_value, unit_text, param_row, bracketed, start_row, is_blank, many_det, value}
 use Rattle.syslog_pieces.proofs.Names.{∥∥₁_elim, flat_map, list_any, some_run, TextUnit, element, run_det, row_det, ◌≢◌}
 use Rattle.syslog_pieces.proofs.Names.{is_none, IsValue, NoFront, exactly, Divides, IsMany, IsList, IsMore, quoted, ◌<◌}
-use Rattle.syslog_pieces.proofs.Names.{inside, IsUtf8, length, Option, single, strict, append_more, ◌also◌, begins, Values}
+use Rattle.syslog_pieces.proofs.Names.{inside, IsUtf8, length, Option, single, strict, append_more, ◌also◌, begins}
+use Rattle.syslog_pieces.proofs.Names.{Values}
 use Rattle.syslog_pieces.proofs.Names.{param, heads, Meets, props, chars, false, arith, subst, Front, Each, pair, many}
 use Rattle.syslog_pieces.proofs.Names.{item, dash, Ends, Bool, drop, Some, None, refl, Text, join, true, ◌++◌, List, ap}
 use Rattle.syslog_pieces.proofs.Names.{inl, inr, ◌∷◌, sym, ◌∙◌, map, Row, run, [], ℕ}
@@ -180,7 +181,8 @@ strict_some (e ∷ es) = ap (λ (x : List ElementValue). e ∷ x) (strict_some e
 
 -- ---- the list
 
-pub no_forgiving_list : (t q : Text) (vs : List (Option ElementValue)) → NoFront (exactly dash) t → Front (many item) t q vs
+pub no_forgiving_list : (t q : Text) (vs : List (Option ElementValue)) → NoFront (exactly dash) t
+    → Front (many item) t q vs
     → vs ≡ [] → NoFront forgiving t
 no_forgiving_list t q vs n f z p r es e (inl (g, h)) = n p r tt e g
 no_forgiving_list t q vs n f z p r es e (inr (ws, l, m, g)) =
@@ -373,7 +375,8 @@ no_unit_at_end (single c) t h e = cc
 
 value_prop : (t : Text) → IsProp (IsValue t)
 value_prop t v w =
-    let same : v.0 ≡ w.0 = (units_same IsValueUnit (λ c h. h.0) (λ x. x ≡ []) no_unit_at_end v.0 w.0 [] [] v.2 w.2 refl refl
+    let same : v.0 ≡ w.0 = (units_same IsValueUnit (λ c h. h.0) (λ x. x ≡ []) no_unit_at_end v.0 w.0 [] [] v.2 w.2
+    refl refl
     (ap (λ (x : Text). x ++ []) (sym v.1 ∙ w.1))).0 in
     let all = is_prop→PathP (λ i. (t ≡ flat_map unit_text (same i)) × AllByRecursion IsValueUnit (same i))
     (λ i. Prim.hlevel (props, AllByRecursion-prop IsValueUnit unit_prop (same i))) (v.1, v.2) (w.1, w.2) in

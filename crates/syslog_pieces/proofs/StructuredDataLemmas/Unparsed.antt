@@ -1,6 +1,8 @@
 -- What is left unparsed of a list: one text, which is nothing or goes from a bracket to a bracket.
-use Rattle.syslog_pieces.proofs.Names.{◌≡◌, ◌≢◌, ◌⊎◌, ◌<◌, inl, inr, ℕ, List, [], ◌∷◌, ◌++◌, Option, Some, None, refl, sym}
-use Rattle.syslog_pieces.proofs.Names.{ap, subst, ◌∙◌, map, arith, length, chars, chars-nil, nil_from_length, append_assoc, append-nil, Text, Class, Values}
+use Rattle.syslog_pieces.proofs.Names.{◌≡◌, ◌≢◌, ◌⊎◌, ◌<◌, inl, inr, ℕ, List, [], ◌∷◌, ◌++◌, Option, Some, None, refl}
+use Rattle.syslog_pieces.proofs.Names.{sym}
+use Rattle.syslog_pieces.proofs.Names.{ap, subst, ◌∙◌, map, arith, length, chars, chars-nil, nil_from_length}
+use Rattle.syslog_pieces.proofs.Names.{append_assoc, append-nil, Text, Class, Values}
 use Rattle.syslog_pieces.proofs.Names.{Front, NoFront, IsDeterministic, exactly, texted, run, some_run, many, IsMany}
 use Rattle.syslog_pieces.proofs.Names.{list_before, param, element, full_element, item, forgiving, dash, ElementValue}
 use Rattle.syslog_pieces.proofs.Names.{elements_text, joined_elements, element_text, front_same, many_det, is_blank}
@@ -86,7 +88,8 @@ pub unparsed_same : (list u w : Text) → IsUnparsed list u → IsUnparsed list 
 unparsed_same list u w (inl (d, e)) (inl (c, f)) = e ∙ sym f
 unparsed_same list u w (inl (d, e)) (inr (n, f)) = absurd (n d)
 unparsed_same list u w (inr (n, f)) (inl (d, e)) = absurd (n d)
-unparsed_same list u w (inr (n, (es, f))) (inr (m, (fs, g))) = (front_same (many element) (many_det element element_det) f g).0
+unparsed_same list u w (inr (n, (es, f))) (inr (m, (fs, g))) =
+    (front_same (many element) (many_det element element_det) f g).0
 
 pub leaving_det : IsDeterministic leaving
 leaving_det p q p' q' u w e ((es, f), left) ((fs, g), right) =
@@ -94,7 +97,8 @@ leaving_det p q p' q' u w e ((es, f), left) ((fs, g), right) =
     (same, unparsed_same p' u w (subst (λ (x : Text). IsUnparsed x u) same left) right)
 
 -- what canonical elements print as, where no item follows
-pub leaving_back : (es : List ElementValue) (q : Text) → AllByRecursion IsCanonicalElement es → forgiving.Is (elements_text es) q es
+pub leaving_back : (es : List ElementValue) (q : Text) → AllByRecursion IsCanonicalElement es
+    → forgiving.Is (elements_text es) q es
     → leaving.Is (elements_text es) q []
 leaving_back es q each is = ((es, is), printed_leaves (elements_text es) es each refl)
 
@@ -126,7 +130,8 @@ item_ends p q (Some e) (vs, (ps, same, each), is) =
 item_ends p q None (none, (ps, same, each)) =
     let (front, end) = row_ends 93 (exactly (91 ∷ []) ∷ run is_open_char ∷ []) ps q _ each in (front, same ∙ end)
 
-items_end : (p q : Text) (v : Option ElementValue) (vs : List (Option ElementValue)) → IsMany item p q (v ∷ vs) → EndsIn 93 p
+items_end : (p q : Text) (v : Option ElementValue) (vs : List (Option ElementValue)) → IsMany item p q (v ∷ vs)
+    → EndsIn 93 p
 items_end p q v [] (a, b, e, is, (none, _)) =
     let (front, end) = item_ends a (b ++ q) v is in
     (front, e ∙ ap (λ (x : Text). a ++ x) none ∙ append-nil a ∙ end)

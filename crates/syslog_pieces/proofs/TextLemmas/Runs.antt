@@ -185,7 +185,8 @@ pub split_at_end : (h : ℕ → Bool) (bs xs ys : List ℕ) (n : ℕ) → EndsRu
 split_at_end h bs xs ys n e f g = rw (f, g) e.1
 
 -- what follows two characters after a run is shorter than the text
-pub after_two : {test : ℕ → Bool} {bs xs ys : List ℕ} {c d : ℕ} {q r : Text} → SplitsRun test bs xs ys → chars ys ≡ c ∷ q
+pub after_two : {test : ℕ → Bool} {bs xs ys : List ℕ} {c d : ℕ} {q r : Text} → SplitsRun test bs xs ys
+    → chars ys ≡ c ∷ q
     → q ≡ d ∷ r → length r < length (chars bs)
 after_two {xs = xs} {ys = ys} s e f =
     omega (arith, ap length s.characters, length-append (chars xs) (chars ys), ap length e, ap length f)

@@ -111,7 +111,8 @@ offset_only : HasOnly offset
 offset_only p q s (inl (u, inl e, z)) = rw e (refl, tt)
 offset_only p q s (inl (u, inr e, z)) = rw e (refl, tt)
 offset_only p q s (inr (vs, h, e)) =
-    row_only numeric_row (sign_only also pair_only 24 (omega arith) also after_only 58 (pair 60) refl (pair_only 60 (omega
+    row_only numeric_row (sign_only also pair_only 24 (omega arith) also after_only 58 (pair 60) refl
+    (pair_only 60 (omega
     arith)) also tt) p q vs h
 
 letter_only : HasOnly (letter 84)
@@ -176,7 +177,8 @@ all_decimals bs ds q len n e some front back value =
 
 -- a further digit: its place is worth a tenth of the one before, and nothing past nine
 module _ (ds : Text) (i n d place v k j : ℕ) (within : i < length ds) (digit : d ≡ get_or ds i 0 - 48) (small : d ≤ 9)
-    (worth : place ≡ 10 ^ k / 10) (bound : n + 10 ^ k ≤ 1_000_000_000) (so_far : n + fraction_value k (drop i ds) ≡ v) where
+    (worth : place ≡ 10 ^ k / 10) (bound : n + 10 ^ k ≤ 1_000_000_000)
+    (so_far : n + fraction_value k (drop i ds) ≡ v) where
   abbrev Stepped : Type 0
   Stepped = (place / 10 ≡ 10 ^ j / 10) × (n + d * place + 10 ^ j ≤ 1_000_000_000)
       × (n + d * place + fraction_value j (drop (i + 1) ds) ≡ v)

@@ -114,7 +114,11 @@ module _ (bs : List ℕ) (long : 3 ≤ length bs) where
       (to_ascii_lowercase (get_or bs 2 0)) n → Front month bs (take (length bs - 3) (drop 3 bs)) n
   month_here n h =
       let l = h.from in
-      record { piece = get_or bs 0 0 ∷ get_or bs 1 0 ∷ get_or bs 2 0 ∷ []; whole = three_first; is = (n - 1, omega arith, h.name) }
+      record {
+        piece = get_or bs 0 0 ∷ get_or bs 1 0 ∷ get_or bs 2 0 ∷ [];
+        whole = three_first;
+        is = (n - 1, omega arith, h.name);
+      }
 
   pub no_month_here : small_month (to_ascii_lowercase (get_or bs 0 0)) (to_ascii_lowercase (get_or bs 1 0))
       (to_ascii_lowercase (get_or bs 2 0)) ≡ None → NoFront month bs

@@ -68,7 +68,8 @@ offset_apart p q p' q' s s' e h (vs, ([], w, k), z) = absurd k
 offset_apart p q p' q' s s' e (u, l, _) (vs, (a ∷ ps, w, k), z) = let first = k.0 in grind arith
 
 pub offset_det : IsDeterministic offset
-offset_det = either_det ℤ zulu.Is (mapped (Row numeric_row) ℤ seconds_of).Is (mapped_det (letter 90) ℤ _ (letter_det 90))
+offset_det = either_det ℤ zulu.Is (mapped (Row numeric_row) ℤ seconds_of).Is
+    (mapped_det (letter 90) ℤ _ (letter_det 90))
     (mapped_det (Row numeric_row) ℤ seconds_of (row_det numeric_row numeric_det)) offset_apart
 
 module _ {t : Text} where
@@ -119,7 +120,12 @@ shown_row =
     ∷ fraction ∷ []
 
 pub stamp_alone : IsAlone stamp_text
-stamp_alone p q r w (vs, h, e) = (vs, closed_alone offset offset_alone offset_filled shown_row (search rules) p q r vs h, e)
+stamp_alone p q r w (vs, h, e) = (
+  vs,
+  closed_alone offset offset_alone offset_filled shown_row (search rules) p q r vs
+      h,
+  e,
+)
 
 -- ---- from what a text wrote to the result
 
@@ -221,7 +227,14 @@ text_long {t} {q} f =
     let hour = front_length (pair 100) f5 in let two = ap length f5.is.0 in
     let decimal = front_length fraction f8 in
     let last = front_length offset f9 in let one = ap length e in
-    omega (arith, pair_length 45 100 f2, pair_length 45 100 f3, letter_length f4, pair_length 58 100 f6, pair_length 58 61 f7)
+    omega (
+      arith,
+      pair_length 45 100 f2,
+      pair_length 45 100 f3,
+      letter_length f4,
+      pair_length 58 100 f6,
+      pair_length 58 61 f7,
+    )
 
 -- the year of the text, which a dash follows
 pub begins_with_year : (text : Text) (w : Rfc3339Fields) → stamp_text.Is text [] w
@@ -344,7 +357,8 @@ printed_stamp-characters n o h k =
     let f = civil_fields (n +ℤ nanos_of_seconds o) in
     each_append is_stamp_character (date_time_text f) (fraction_text f.nanosecond ++ offset_text o) (date_time f there)
     (each_append is_stamp_character (fraction_text f.nanosecond) (offset_text o)
-    (fraction_characters _ [] f.nanosecond (fraction_text-is [] tt tt f.nanosecond there.nanosecond_in)) (offset_characters o k))
+    (fraction_characters _ [] f.nanosecond (fraction_text-is [] tt tt f.nanosecond there.nanosecond_in))
+    (offset_characters o k))
 
 -- the bytes of a printed stamp are its characters
 pub printed_stamp-bytes : (s : OffsetTimestamp) → encode_utf8_all (printed_stamp s.instant.nanosecond s.offset.seconds)

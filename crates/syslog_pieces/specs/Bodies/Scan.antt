@@ -3,7 +3,8 @@ use Rattle.std.proofs.lemmas.Bool.{agree_below}
 use Rattle.std.specs.Bool.{beq}
 use Rattle.std.specs.Int.{w64, trailing_zeros}
 use Rattle.std.specs.Prelude.{◌≡◌, ◌+◌, ◌==◌, if◌then◌else◌, ◌≤◌, ◌<◌, ℕ, Bool, true, false, not}
-use Rattle.std.specs.Prelude.{◌-◌, ◌%◌, ◌||◌, nat_eq, ◌&&◌, nat_lt, List, [], ◌∷◌, ◌++◌, length, slice_index, take, drop}
+use Rattle.std.specs.Prelude.{◌-◌, ◌%◌, ◌||◌, nat_eq, ◌&&◌, nat_lt, List, [], ◌∷◌, ◌++◌, length, slice_index, take}
+use Rattle.std.specs.Prelude.{drop}
 use Rattle.std.specs.Str.{chars, IsUtf8, IsCharBoundary}
 use Rattle.syslog_pieces.specs.declared.text.CharClass.{CharClass}
 use Rattle.syslog_pieces.specs.declared.text.CharClass.TheVariants.{Visible}

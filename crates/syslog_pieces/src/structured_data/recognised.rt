@@ -63,8 +63,10 @@ pub struct ElementList<'a> {
     ghost counted: { elements ≡ length (strict_of (one_value meaning)) },
     ghost params_counted: { params ≡ sum_by (λ e. length e.params) (strict_of (one_value meaning)) },
     ghost printed_utf8: { IfSome printed (λ p. IsUtf8 p.now) } by { Prim.hlevel props },
-    ghost prints: { IfSome printed (λ p. shown p ≡ elements_text (strict_of (one_value meaning))) } by { Prim.hlevel props },
-    ghost begins: { IfSome printed (λ p. chars text.now ≡ shown p ++ drop (length (shown p)) (chars text.now)) } by { Prim.hlevel props },
+    ghost prints: { IfSome printed (λ p. shown p
+        ≡ elements_text (strict_of (one_value meaning))) } by { Prim.hlevel props },
+    ghost begins: { IfSome printed (λ p. chars text.now ≡ shown p
+        ++ drop (length (shown p)) (chars text.now)) } by { Prim.hlevel props },
     ghost differs: { IfNone printed (chars text.now ≢ elements_text (strict_of (one_value meaning))) } by { Prim.hlevel props },
 }
 

@@ -1,5 +1,6 @@
-//! What is left unparsed of a list: its text from the first element on that is not strict. (This project's own choice: it
-//! is one piece of the line, which has each broken element, and the strict ones after the first of them too.)
+//! What is left unparsed of a list: its text from the first element on that is not strict. (This project's own
+//! choice: it is one piece of the line, which has each broken element, and the strict ones after the first of them
+//! too.)
 ghost use Rattle.std.specs.Prelude.{◌≡◌, ◌≢◌, List, MatchBool, chars};
 ghost use Rattle.syslog_pieces.specs.Words.{ElementValue, Front, Text, list_text, many, seen};
 ghost use Rattle.syslog_pieces.specs.StructuredData.{element as element_class};

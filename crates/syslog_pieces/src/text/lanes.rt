@@ -73,7 +73,8 @@ pub(crate) fn class_run(bytes: &[u8], at: usize, class: CharClass) -> usize
     set_run(bytes, at, bytes_of(class), 0x80, 0x80)
 }
 
-/// How many bytes at the front are of visible characters, if ASCII white space ends them, and none of them is C2 or E1 to
+/// How many bytes at the front are of visible characters, if ASCII white space ends them, and none of them is C2 or
+/// E1 to
 /// E3, with which other white space begins. Near the end of the bytes it doesn't look.
 pub(crate) fn visible_front(bytes: &[u8]) -> Option<usize>
     ensures { IfSome result (λ n. IsRun visible_byte bytes.now n × (n < length bytes.now)

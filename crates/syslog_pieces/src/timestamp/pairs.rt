@@ -25,7 +25,8 @@ pub fn year(text: &str) -> Option<(u16, &str)>
     Some((year, text.split_at(text.len() - end.len()).1))
 }
 
-/// Returns the number that two digits after this ASCII character write, if it is below the limit, and the text after them.
+/// Returns the number that two digits after this ASCII character write, if it is below the limit, and the text after
+/// them.
 #[inline(always)]
 pub fn pair_after(text: &str, mark: char, limit: u32) -> Option<(u32, &str)>
     requires mark { mark < 128 }

@@ -102,7 +102,8 @@ fn spaced_param(text: &str) -> Option<&str>
 // The text after any number of SD-PARAMs, each after a space.
 #[inline(always)]
 fn params(text: &str) -> &str
-    ensures { (params : List (Text × Text)) × Front (many (spaced grammar.sd_param)) (chars text.now) (shown result) params }
+    ensures { (params : List (Text × Text))
+        × Front (many (spaced grammar.sd_param)) (chars text.now) (shown result) params }
 {
     let mut rest = text;
     'params: while let Some(more) = spaced_param(rest) {

@@ -1,5 +1,5 @@
-//! Lines through a filter, from a reader to a writer: what no clause says of them. (Streams that give or take little, or
-//! fail, are tried with the programs, by tests/streams.)
+//! Lines through a filter, from a reader to a writer: what no clause says of them. (Streams that give or take little,
+//! or fail, are tried with the programs, by tests/streams.)
 ghost use Rattle.std.specs.Prelude.{⊤};
 
 use super::checks::check;

@@ -3,7 +3,8 @@ use Rattle.syslog_pieces.specs.Pieces.View.{seen}
 use Rattle.syslog_pieces.specs.StructuredData.Visited.{list_elements}
 use Rattle.syslog_loose.specs.Line.{line_value}
 use Rattle.syslog_object.specs.Object.{beside_line, message_json, protocol_text, text_json, version_json}
-use Rattle.syslog_csv.proofs.CellLemmas.{cells_of_message, cells_with, elements_same, from_empty, message_cells, row_made}
+use Rattle.syslog_csv.proofs.CellLemmas.{cells_of_message, cells_with, elements_same, from_empty, message_cells}
+use Rattle.syslog_csv.proofs.CellLemmas.{row_made}
 use Rattle.syslog_csv.proofs.RecordLemmas.{record_whole}
 use Rattle.syslog_csv.specs.Records.{record_text}
 use Rattle.syslog_csv.specs.Rows.{cell_of}

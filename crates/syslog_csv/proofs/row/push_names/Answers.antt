@@ -7,7 +7,8 @@ use Rattle.syslog_csv.proofs.row.push_names.Goals as goal
 pub returns : goal.returns
 returns c =
     adds_next _ _ _ _ _ _
-    (c.stamp_cell.ensures ∙ ap (λ o. unwrap_or o []) c.printed_stamp-stamp.ensures ∙ stamp_same c.args.line.now.timestamp)
+    (c.stamp_cell.ensures ∙ ap (λ o. unwrap_or o []) c.printed_stamp-stamp.ensures
+    ∙ stamp_same c.args.line.now.timestamp)
     c.in_ok-push_later.ensures
     (adds_next _ _ _ _ _ _ c.text_cell.ensures c.in_ok-push_later-2.ensures
     (adds_next _ _ _ _ _ _ c.text_cell-2.ensures c.in_ok-push_later-3.ensures

@@ -10,7 +10,8 @@ returns c =
       u,
       left,
       adds_next _ _ _ _ _ _ refl c.in_ok-push_later.ensures
-          (adds_next _ _ _ _ _ _ (c.text_cell.ensures ∙ ap (λ o. cell_of (option_map text_json o)) same) c.in_ok-push_later-2.ensures
+          (adds_next _ _ _ _ _ _ (c.text_cell.ensures ∙ ap (λ o. cell_of (option_map text_json o)) same)
+          c.in_ok-push_later-2.ensures
           (adds_next _ _ _ _ _ _ c.bytes_of.ensures c.in_ok-push_later-3.ensures
           (adds_next _ _ _ _ _ _ c.text_cell-2.ensures c.in_ok-push_later-4.ensures
           (adds_next _ _ _ _ _ _ refl c.in_ok-push_later-5.ensures

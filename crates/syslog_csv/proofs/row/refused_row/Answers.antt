@@ -9,12 +9,14 @@ abbrev with_message : List ℕ → List (List ℕ)
 with_message line =
     [] ∷ [] ∷ [] ∷ [] ∷ [] ∷ [] ∷ [] ∷ [] ∷ [] ∷ [] ∷ [] ∷ [] ∷ [] ∷ [] ∷ line ∷ [] ∷ codes "true" ∷ [] ∷ []
 
-joined : (empty commas mid new shown line : List ℕ) → empty ≡ [] → commas ≡ empty ++ codes ",,,,,,,,,,,,,," → shown ≡ line
+joined : (empty commas mid new shown line : List ℕ) → empty ≡ [] → commas ≡ empty ++ codes ",,,,,,,,,,,,,,"
+    → shown ≡ line
     → mid ≡ commas ++ field_text shown → new ≡ mid ++ codes ",,true,\r"
     → new ≡ record_text (with_message line) ++ (13 ∷ [])
 joined empty commas mid new shown line none first is second third =
     third ∙ rw (second, first, none, is)
-    (ap (λ (l : List ℕ). codes ",,,,,,,,,,,,,," ++ l) (sym (append_assoc (field_text line) (codes ",,true,") (13 ∷ []))))
+    (ap (λ (l : List ℕ). codes ",,,,,,,,,,,,,," ++ l) (sym
+    (append_assoc (field_text line) (codes ",,true,") (13 ∷ []))))
 
 pub returns : goal.returns
 returns c =

@@ -4,7 +4,8 @@ use Rattle.syslog_pieces.specs.Pieces.Class.{some_run}
 use Rattle.syslog_dialects.proofs.cisco.digits.Goals as goal
 
 pub returns-then-is_empty : goal.returns-then-is_empty
-returns-then-is_empty c = no_run_front _ _ _ _ c.split_run.ensures (empty_is _ c.if-is_empty.ensures) (some_run is_ascii_digit)
+returns-then-is_empty c = no_run_front _ _ _ _ c.split_run.ensures (empty_is _ c.if-is_empty.ensures)
+    (some_run is_ascii_digit)
     (λ p q v h. (h.0, h.1))
 
 pub returns : goal.returns

@@ -15,7 +15,8 @@ returns-in_err-rest c = rw c.from_residual-in_err-rest.ensures (no_mapped (Row l
 
 pub returns-in_err-rest-2 : goal.returns-in_err-rest-2
 returns-in_err-rest-2 c = rw c.from_residual-in_err-rest-2.ensures (no_mapped (Row label_row) Text (λ v. v.0)
-    (no_row label_row label_row_det (c.in_ok-host.ensures past c.in_ok-rest.ensures.1 past inl c.in_err-rest-2.ensures)))
+    (no_row label_row label_row_det (c.in_ok-host.ensures past c.in_ok-rest.ensures.1 past inl
+    c.in_err-rest-2.ensures)))
 
 pub returns : goal.returns
 returns c = mapped_front (Row label_row) Text (λ v. v.0)

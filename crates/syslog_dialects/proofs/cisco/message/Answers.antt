@@ -12,5 +12,6 @@ returns-in_err-rest c = rw c.from_residual-in_err-rest.ensures (no_row message_r
     past c.blanks.ensures past inl c.in_err-rest.ensures))
 
 pub returns : goal.returns
-returns c = row_of message_row (c.in_ok-tag.ensures then c.blanks.ensures then c.in_ok-rest.ensures.1 then c.blanks-2.ensures
+returns c = row_of message_row (c.in_ok-tag.ensures then c.blanks.ensures then c.in_ok-rest.ensures.1 then
+    c.blanks-2.ensures
     then rest_front _ then refl)

@@ -8,7 +8,8 @@ pub returns-in_err-word : goal.returns-in_err-word
 returns-in_err-word c = rw c.from_residual.ensures (no_such_front bare_word IsMnemonic c.in_err-word.ensures)
 
 pub returns-then-not-is_mnemonic : goal.returns-then-not-is_mnemonic
-returns-then-not-is_mnemonic c = no_such_meaning bare_word IsMnemonic bare_word_det c.in_ok-word.ensures c.if-not-is_mnemonic.ensures
+returns-then-not-is_mnemonic c = no_such_meaning bare_word IsMnemonic bare_word_det c.in_ok-word.ensures
+    c.if-not-is_mnemonic.ensures
 
 pub returns : goal.returns
 returns c = such_front bare_word IsMnemonic c.in_ok-word.ensures c.if-not-is_mnemonic.ensures

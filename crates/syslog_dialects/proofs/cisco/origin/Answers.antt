@@ -5,10 +5,12 @@ use Rattle.syslog_dialects.proofs.ZoneLemmas.{bare_word_det}
 use Rattle.syslog_dialects.proofs.cisco.origin.Goals as goal
 
 pub returns-in_err-word : goal.returns-in_err-word
-returns-in_err-word c = rw c.from_residual.ensures (no_such_front bare_word (BeginsWith begins_host) c.in_err-word.ensures)
+returns-in_err-word c = rw c.from_residual.ensures
+    (no_such_front bare_word (BeginsWith begins_host) c.in_err-word.ensures)
 
 pub returns-then-not-is_host : goal.returns-then-not-is_host
-returns-then-not-is_host c = no_such_meaning bare_word (BeginsWith begins_host) bare_word_det c.in_ok-word.ensures c.if-not-is_host.ensures
+returns-then-not-is_host c = no_such_meaning bare_word (BeginsWith begins_host) bare_word_det c.in_ok-word.ensures
+    c.if-not-is_host.ensures
 
 pub returns : goal.returns
 returns c = such_front bare_word (BeginsWith begins_host) c.in_ok-word.ensures c.if-not-is_host.ensures

@@ -8,7 +8,8 @@ use Rattle.syslog_dialects.proofs.cisco.read_undated.Goals as goal
 
 pub returns-in_err-tag : goal.returns-in_err-tag
 returns-in_err-tag c = rw c.from_residual.ensures (no_row_division undated_row (no_row undated_row undated_row_det
-    (c.blanks-after_gap.ensures past c.past_colon-after_colon.ensures.1 past c.blanks-begun.ensures past c.past_counter-rest.ensures.1
+    (c.blanks-after_gap.ensures past c.past_colon-after_colon.ensures.1 past c.blanks-begun.ensures past
+    c.past_counter-rest.ensures.1
     past inl c.in_err-tag.ensures)))
 
 pub returns : goal.returns

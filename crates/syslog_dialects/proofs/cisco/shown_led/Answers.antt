@@ -13,4 +13,5 @@ returns-in-Month c led = let d = rw c.in-Month.is at led.date in c.shown_after.e
 })
 
 pub returns-in-Iso : goal.returns-in-Iso
-returns-in-Iso c led = let d = rw c.in-Iso.is at led.date in c.shown_from.ensures led.gap (any_front (Iso c.in-Iso.date) d)
+returns-in-Iso c led = let d = rw c.in-Iso.is at led.date in
+    c.shown_from.ensures led.gap (any_front (Iso c.in-Iso.date) d)

@@ -6,5 +6,6 @@ use Rattle.syslog_dialects.proofs.ContainerLemmas.{stream_row_det}
 use Rattle.syslog_dialects.proofs.container.past_stream.Goals as goal
 
 pub returns : goal.returns
-returns c = row_reads stream_row stream_row_det c.args.text (c.stream.result ∷ c.and_then.result ∷ c.and_then-2.result ∷ [])
+returns c = row_reads stream_row stream_row_det c.args.text
+    (c.stream.result ∷ c.and_then.result ∷ c.and_then-2.result ∷ [])
     (c.stream.ensures also c.and_then.ensures also c.and_then-2.ensures also tt)

@@ -11,4 +11,5 @@ returns-in-Some c = mapped_front (bsd_date otherwise iso_date) SentDate one_of_d
 pub returns-in-None : goal.returns-in-None
 returns-in-None c = match_map c.iso_date.result
     (λ n. no_mapped (bsd_date otherwise iso_date) SentDate one_of_dates (no_otherwise c.in-None.ensures n))
-    (λ x f. mapped_front (bsd_date otherwise iso_date) SentDate one_of_dates (second_front c.in-None.ensures f)) c.iso_date.ensures
+    (λ x f. mapped_front (bsd_date otherwise iso_date) SentDate one_of_dates (second_front c.in-None.ensures f))
+    c.iso_date.ensures

@@ -22,17 +22,22 @@ returns-in_err-rest c = rw c.from_residual-in_err-rest.ensures (no_row iso_row i
 
 pub returns-in_err-hour : goal.returns-in_err-hour
 returns-in_err-hour c = rw c.from_residual-in_err-hour.ensures (no_row iso_row iso_det
-    (c.in_ok-year.ensures past c.in_ok-month.ensures past c.in_ok-day.ensures past c.in_ok-rest.ensures past inl c.in_err-hour.ensures))
+    (c.in_ok-year.ensures past c.in_ok-month.ensures past c.in_ok-day.ensures past c.in_ok-rest.ensures past inl
+    c.in_err-hour.ensures))
 
 pub returns-in_err-minute : goal.returns-in_err-minute
 returns-in_err-minute c = rw c.from_residual-in_err-minute.ensures (no_row iso_row iso_det
-    (c.in_ok-year.ensures past c.in_ok-month.ensures past c.in_ok-day.ensures past c.in_ok-rest.ensures past c.in_ok-hour.ensures past inl c.in_err-minute.ensures))
+    (c.in_ok-year.ensures past c.in_ok-month.ensures past c.in_ok-day.ensures past c.in_ok-rest.ensures past
+    c.in_ok-hour.ensures past inl c.in_err-minute.ensures))
 
 pub returns-in_err-second : goal.returns-in_err-second
 returns-in_err-second c = rw c.from_residual-in_err-second.ensures (no_row iso_row iso_det
-    (c.in_ok-year.ensures past c.in_ok-month.ensures past c.in_ok-day.ensures past c.in_ok-rest.ensures past c.in_ok-hour.ensures past c.in_ok-minute.ensures past inl c.in_err-second.ensures))
+    (c.in_ok-year.ensures past c.in_ok-month.ensures past c.in_ok-day.ensures past c.in_ok-rest.ensures past
+    c.in_ok-hour.ensures past c.in_ok-minute.ensures past inl c.in_err-second.ensures))
 
 pub returns : goal.returns
-returns c = row_of iso_row (c.in_ok-year.ensures then c.in_ok-month.ensures then c.in_ok-day.ensures then c.in_ok-rest.ensures
-    then c.in_ok-hour.ensures then c.in_ok-minute.ensures then c.in_ok-second.ensures then c.optional_fraction-nanosecond.ensures
+returns c = row_of iso_row (c.in_ok-year.ensures then c.in_ok-month.ensures then c.in_ok-day.ensures then
+    c.in_ok-rest.ensures
+    then c.in_ok-hour.ensures then c.in_ok-minute.ensures then c.in_ok-second.ensures then
+    c.optional_fraction-nanosecond.ensures
     then c.optional_zone-zone.ensures then refl)

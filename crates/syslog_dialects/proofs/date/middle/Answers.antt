@@ -6,7 +6,8 @@ use Rattle.syslog_pieces.specs.Pieces.Rules.{◌or◌}
 use Rattle.syslog_dialects.proofs.date.middle.Goals as goal
 
 pub returns-in-Some : goal.returns-in-Some
-returns-in-Some c = mapped_front (exactly (84 ∷ []) or exactly (32 ∷ [])) (Unit {0}) (λ _. tt) (first_of c.in-Some.ensures).1
+returns-in-Some c = mapped_front (exactly (84 ∷ []) or exactly (32 ∷ [])) (Unit {0}) (λ _. tt)
+    (first_of c.in-Some.ensures).1
 
 pub returns-in-None : goal.returns-in-None
 returns-in-None c = match_map c.literal-in-None.result

@@ -1,5 +1,6 @@
 use Rattle.std.proofs.Common.{inl, refl}
-use Rattle.syslog_pieces.proofs.PieceLemmas.Class.{◌past◌, ◌then◌, mapped_front, no_mapped, no_row, no_row_division, row_det, row_of}
+use Rattle.syslog_pieces.proofs.PieceLemmas.Class.{◌past◌, ◌then◌, mapped_front, no_mapped, no_row, no_row_division}
+use Rattle.syslog_pieces.proofs.PieceLemmas.Class.{row_det, row_of}
 use Rattle.syslog_pieces.proofs.PieceLemmas.Rules.{no_such_meaning, such_front}
 use Rattle.syslog_pieces.specs.Pieces.Class.{Row}
 use Rattle.syslog_pieces.specs.Pieces.Rules.{such_that}

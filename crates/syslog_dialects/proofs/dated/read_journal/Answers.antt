@@ -7,15 +7,18 @@ use Rattle.syslog_dialects.specs.declared.dialect.Dialect.TheVariants.{Journal}
 use Rattle.syslog_dialects.proofs.dated.read_journal.Goals as goal
 
 pub returns-in_err-after_day : goal.returns-in_err-after_day
-returns-in_err-after_day c = rw c.from_residual.ensures (no_row_division journal_row (no_row journal_row journal_line_det
+returns-in_err-after_day c = rw c.from_residual.ensures
+    (no_row_division journal_row (no_row journal_row journal_line_det
     (c.blanks.ensures past inl c.in_err-after_day.ensures)))
 
 pub returns-in_err-after_gap : goal.returns-in_err-after_gap
-returns-in_err-after_gap c = rw c.from_residual-in_err-after_gap.ensures (no_row_division journal_row (no_row journal_row journal_line_det
+returns-in_err-after_gap c = rw c.from_residual-in_err-after_gap.ensures
+    (no_row_division journal_row (no_row journal_row journal_line_det
     (c.blanks.ensures past c.in_ok-after_day.ensures.1 past inl c.in_err-after_gap.ensures)))
 
 pub returns-in_err-date : goal.returns-in_err-date
-returns-in_err-date c = rw c.from_residual-in_err-date.ensures (no_row_division journal_row (no_row journal_row journal_line_det
+returns-in_err-date c = rw c.from_residual-in_err-date.ensures
+    (no_row_division journal_row (no_row journal_row journal_line_det
     (c.blanks.ensures past c.in_ok-after_day.ensures.1 past c.in_ok-after_gap.ensures past inl c.in_err-date.ensures)))
 
 pub returns : goal.returns

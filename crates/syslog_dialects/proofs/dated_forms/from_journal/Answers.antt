@@ -8,4 +8,5 @@ pub returns-in-Some : goal.returns-in-Some
 returns-in-Some c = here journal_form netscaler_forms _ _ c.in-Some.ensures
 
 pub returns-in-None : goal.returns-in-None
-returns-in-None c = found_later journal_form netscaler_forms _ c.from_netscaler.result c.in-None.ensures c.from_netscaler.ensures
+returns-in-None c = found_later journal_form netscaler_forms _ c.from_netscaler.result c.in-None.ensures
+    c.from_netscaler.ensures

@@ -5,7 +5,8 @@ use Rattle.syslog_dialects.proofs.EsxiLemmas.{no_esxi}
 use Rattle.syslog_dialects.specs.Esxi.{esxi_form}
 use Rattle.syslog_dialects.specs.IosXr.{xr_form}
 use Rattle.syslog_dialects.specs.{Container.container_form, Dated.bsd_form, Dated.iso_form, ProCurve.procurve_form}
-use Rattle.syslog_dialects.specs.DatedForms.{bsd_forms, container_forms, esxi_forms, iso_forms, journal_forms, procurve_forms}
+use Rattle.syslog_dialects.specs.DatedForms.{bsd_forms, container_forms, esxi_forms, iso_forms, journal_forms}
+use Rattle.syslog_dialects.specs.DatedForms.{procurve_forms}
 use Rattle.syslog_dialects.proofs.dated_forms.from_xr.Goals as goal
 
 pub returns-in-Some : goal.returns-in-Some

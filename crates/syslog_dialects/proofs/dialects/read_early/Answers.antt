@@ -6,5 +6,6 @@ pub returns-in-Some : goal.returns-in-Some
 returns-in-Some c = found_early dated_forms named_forms _ c.in-Some.found (c.in-Some.ensures c.read_front-front.ensures)
 
 pub returns-in-None : goal.returns-in-None
-returns-in-None c = found_late dated_forms named_forms _ c.read-in-None.result (c.in-None.ensures c.read_front-front.ensures)
+returns-in-None c = found_late dated_forms named_forms _ c.read-in-None.result
+    (c.in-None.ensures c.read_front-front.ensures)
     (c.read-in-None.ensures c.read_front-front.ensures)

@@ -6,13 +6,19 @@ use Rattle.syslog_dialects.proofs.OtherDateLemmas.{card_row_det}
 use Rattle.syslog_dialects.proofs.ios_xr.card.Goals as goal
 
 pub returns-in_err-after_node : goal.returns-in_err-after_node
-returns-in_err-after_node c = rw c.from_residual.ensures (no_mapped (Row card_row) (Option Text) host_in (no_row card_row card_row_det
-    (c.blanks-after_gap.ensures past c.past_counter-after_counter.ensures.1 past c.optional_host.ensures past inl c.in_err-after_node.ensures)))
+returns-in_err-after_node c = rw c.from_residual.ensures
+    (no_mapped (Row card_row) (Option Text) host_in (no_row card_row card_row_det
+    (c.blanks-after_gap.ensures past c.past_counter-after_counter.ensures.1 past c.optional_host.ensures past inl
+    c.in_err-after_node.ensures)))
 
 pub returns-in_err-rest : goal.returns-in_err-rest
-returns-in_err-rest c = rw c.from_residual-in_err-rest.ensures (no_mapped (Row card_row) (Option Text) host_in (no_row card_row card_row_det
-    (c.blanks-after_gap.ensures past c.past_counter-after_counter.ensures.1 past c.optional_host.ensures past c.in_ok-after_node.ensures.1 past inl c.in_err-rest.ensures)))
+returns-in_err-rest c = rw c.from_residual-in_err-rest.ensures
+    (no_mapped (Row card_row) (Option Text) host_in (no_row card_row card_row_det
+    (c.blanks-after_gap.ensures past c.past_counter-after_counter.ensures.1 past c.optional_host.ensures past
+    c.in_ok-after_node.ensures.1 past inl c.in_err-rest.ensures)))
 
 pub returns : goal.returns
-returns c = mapped_front (Row card_row) (Option Text) host_in (row_of card_row (c.blanks-after_gap.ensures then c.past_counter-after_counter.ensures.1 then c.optional_host.ensures then c.in_ok-after_node.ensures.1
+returns c = mapped_front (Row card_row) (Option Text) host_in
+    (row_of card_row (c.blanks-after_gap.ensures then c.past_counter-after_counter.ensures.1 then
+    c.optional_host.ensures then c.in_ok-after_node.ensures.1
     then c.in_ok-rest.ensures.1 then refl))

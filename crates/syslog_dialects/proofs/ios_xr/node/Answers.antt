@@ -8,7 +8,8 @@ pub returns-in_err-word : goal.returns-in_err-word
 returns-in_err-word c = rw c.from_residual.ensures (no_such_front bare_word IsNode c.in_err-word.ensures)
 
 pub returns-then-not-is_node : goal.returns-then-not-is_node
-returns-then-not-is_node c = no_such_meaning bare_word IsNode bare_word_det c.in_ok-word.ensures c.if-not-is_node.ensures
+returns-then-not-is_node c = no_such_meaning bare_word IsNode bare_word_det c.in_ok-word.ensures
+    c.if-not-is_node.ensures
 
 pub returns : goal.returns
 returns c = (_, such_front bare_word IsNode c.in_ok-word.ensures c.if-not-is_node.ensures)

@@ -9,17 +9,22 @@ use Rattle.syslog_dialects.specs.declared.dialect.Dialect.TheVariants.{CiscoIosX
 use Rattle.syslog_dialects.proofs.ios_xr.read_ios_xr.Goals as goal
 
 pub returns-in_err-host : goal.returns-in_err-host
-returns-in_err-host c = rw c.from_residual.ensures (no_row_division xr_row (no_row xr_row xr_row_det (inl c.in_err-host.ensures)))
+returns-in_err-host c = rw c.from_residual.ensures
+    (no_row_division xr_row (no_row xr_row xr_row_det (inl c.in_err-host.ensures)))
 
 pub returns-in_err-date : goal.returns-in_err-date
-returns-in_err-date c = rw c.from_residual-in_err-date.ensures (no_row_division xr_row (no_row xr_row xr_row_det (c.in_ok-host.ensures past inl
+returns-in_err-date c = rw c.from_residual-in_err-date.ensures
+    (no_row_division xr_row (no_row xr_row xr_row_det (c.in_ok-host.ensures past inl
     (no_row date_row date_row_det (c.optional_front_year-year.ensures past inl c.in_err-date.ensures)))))
 
 pub returns-in_err-shown : goal.returns-in_err-shown
-returns-in_err-shown c = rw c.from_residual-in_err-shown.ensures (no_row_division xr_row (no_row xr_row xr_row_det (c.in_ok-host.ensures
-    past row_of date_row (c.optional_front_year-year.ensures then c.in_ok-date.ensures then refl) past inl c.in_err-shown.ensures)))
+returns-in_err-shown c = rw c.from_residual-in_err-shown.ensures
+    (no_row_division xr_row (no_row xr_row xr_row_det (c.in_ok-host.ensures
+    past row_of date_row (c.optional_front_year-year.ensures then c.in_ok-date.ensures then refl) past inl
+    c.in_err-shown.ensures)))
 
 pub returns : goal.returns
 returns c = says_once CiscoIosXr xr_row xr_sent xr_row_det (row_of xr_row (c.in_ok-host.ensures
-    then row_of date_row (c.optional_front_year-year.ensures then c.in_ok-date.ensures then refl) then c.in_ok-shown.ensures then refl))
+    then row_of date_row (c.optional_front_year-year.ensures then c.in_ok-date.ensures then refl) then
+    c.in_ok-shown.ensures then refl))
     (rw c.dated_in.ensures refl)

@@ -13,10 +13,12 @@ returns-in_err-rest c = rw c.from_residual.ensures (unread id_row id_row_det Tex
 
 pub returns-then-is_empty : goal.returns-then-is_empty
 returns-then-is_empty c = no_mapped (Row id_row) Text id_of (no_row id_row id_row_det (c.in_ok-rest.ensures
-    past inl (no_texted (some_run is_id_char) (no_some_run _ _ _ _ c.split_run.ensures (empty_is _ c.if-is_empty.ensures)))))
+    past inl (no_texted (some_run is_id_char) (no_some_run _ _ _ _ c.split_run.ensures
+    (empty_is _ c.if-is_empty.ensures)))))
 
 pub returns-in_err-rest-2 : goal.returns-in_err-rest-2
-returns-in_err-rest-2 c = rw c.from_residual-in_err-rest-2.ensures (unread id_row id_row_det Text id_of (c.in_ok-rest.ensures
+returns-in_err-rest-2 c = rw c.from_residual-in_err-rest-2.ensures
+    (unread id_row id_row_det Text id_of (c.in_ok-rest.ensures
     past run_text is_id_char c.split_run.ensures (nonempty_is _ c.if-is_empty.ensures)
     past inl c.in_err-rest-2.ensures))
 

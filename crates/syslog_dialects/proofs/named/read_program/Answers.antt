@@ -6,10 +6,13 @@ use Rattle.syslog_dialects.specs.Named.{ProgramText, program_of, program_row}
 use Rattle.syslog_dialects.proofs.named.read_program.Goals as goal
 
 pub returns-in_err-name : goal.returns-in_err-name
-returns-in_err-name c = rw c.from_residual.ensures (unread program_row program_row_det ProgramText program_of (inl c.in_err-name.ensures))
+returns-in_err-name c = rw c.from_residual.ensures
+    (unread program_row program_row_det ProgramText program_of (inl c.in_err-name.ensures))
 
 pub returns-in_err-rest : goal.returns-in_err-rest
-returns-in_err-rest c = rw c.from_residual-in_err-rest.ensures (unread program_row program_row_det ProgramText program_of (c.in_ok-name.ensures past c.optional_id.ensures past inl c.in_err-rest.ensures))
+returns-in_err-rest c = rw c.from_residual-in_err-rest.ensures
+    (unread program_row program_row_det ProgramText program_of
+    (c.in_ok-name.ensures past c.optional_id.ensures past inl c.in_err-rest.ensures))
 
 pub returns : goal.returns
 returns c = mapped_front (Row program_row) ProgramText program_of

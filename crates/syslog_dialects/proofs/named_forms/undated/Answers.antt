@@ -19,12 +19,14 @@ returns-in-Some c =
 
 pub returns-in-Some-mark_end : goal.returns-in-Some-mark_end
 returns-in-Some-mark_end c = undated_later dialect.Cef mark.Cef leef c.blanks-msg.ensures
-    (Some (dialect.Leef, c.bare-in-Some-mark_end.result)) c.in_default.ensures (undated_here dialect.Leef mark.Leef pairs
+    (Some (dialect.Leef, c.bare-in-Some-mark_end.result)) c.in_default.ensures
+    (undated_here dialect.Leef mark.Leef pairs
     c.blanks-msg.ensures c.in-Some-mark_end.ensures.1 c.bare-in-Some-mark_end.ensures)
 
 pub returns-in-Some-read_pairs : goal.returns-in-Some-read_pairs
 returns-in-Some-read_pairs c = undated_later dialect.Cef mark.Cef leef c.blanks-msg.ensures
-    (Some (dialect.KeyValue, c.in-Some-read_pairs.sent)) c.in_default.ensures (undated_later dialect.Leef mark.Leef pairs
+    (Some (dialect.KeyValue, c.in-Some-read_pairs.sent)) c.in_default.ensures
+    (undated_later dialect.Leef mark.Leef pairs
     c.blanks-msg.ensures (Some (dialect.KeyValue, c.in-Some-read_pairs.sent)) c.in_default-mark_end.ensures
     (here pairs_form (header_form ∷ []) _ _ c.in-Some-read_pairs.ensures))
 

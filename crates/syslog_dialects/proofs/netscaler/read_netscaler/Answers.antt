@@ -8,8 +8,11 @@ use Rattle.syslog_dialects.specs.declared.dialect.Dialect.TheVariants.{NetScaler
 use Rattle.syslog_dialects.proofs.netscaler.read_netscaler.Goals as goal
 
 pub returns-in_err-date : goal.returns-in_err-date
-returns-in_err-date c = rw c.from_residual.ensures (no_row_division netscaler_row (no_row netscaler_row netscaler_row_det (c.blanks.ensures past inl c.in_err-date.ensures)))
+returns-in_err-date c = rw c.from_residual.ensures
+    (no_row_division netscaler_row (no_row netscaler_row netscaler_row_det
+    (c.blanks.ensures past inl c.in_err-date.ensures)))
 
 pub returns : goal.returns
 returns c = says_once NetScaler netscaler_row (λ v. dated_sent v.1.0 v.1.1.0) netscaler_row_det
-    (row_of netscaler_row (c.blanks.ensures then c.in_ok-date.ensures then c.read_wide_tail.ensures then refl)) c.says.ensures
+    (row_of netscaler_row (c.blanks.ensures then c.in_ok-date.ensures then c.read_wide_tail.ensures then refl))
+    c.says.ensures

@@ -5,7 +5,8 @@ use Rattle.syslog_dialects.specs.declared.sent.SentDate.{SentDate}
 use Rattle.syslog_dialects.proofs.netscaler.slashed_date.Goals as goal
 
 pub returns-in_err-date : goal.returns-in_err-date
-returns-in_err-date c = rw c.from_residual.ensures (no_mapped (Row slashed_row) SentDate slashed_of c.in_err-date.ensures)
+returns-in_err-date c = rw c.from_residual.ensures
+    (no_mapped (Row slashed_row) SentDate slashed_of c.in_err-date.ensures)
 
 pub returns : goal.returns
 returns c = rw c.sent.ensures (mapped_front (Row slashed_row) SentDate slashed_of c.in_ok-date.ensures)

@@ -4,7 +4,8 @@ use Rattle.syslog_dialects.proofs.ordinary.is_tagged.Goals as goal
 
 pub returns-then-is_odd : goal.returns-then-is_odd
 returns-then-is_odd c =
-    odd_answer c.args.line.now c.in-Some.host c.in-Some-appname.app c.in-Some.is c.in-Some-appname.is c.if-is_odd.ensures
+    odd_answer c.args.line.now c.in-Some.host c.in-Some-appname.app c.in-Some.is c.in-Some-appname.is
+    c.if-is_odd.ensures
 
 pub returns-then-line : goal.returns-then-line
 returns-then-line c =

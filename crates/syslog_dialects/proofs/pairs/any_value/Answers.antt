@@ -6,7 +6,8 @@ use Rattle.syslog_dialects.specs.{Named.◌otherwise◌, Pairs.bare, Pairs.eithe
 use Rattle.syslog_dialects.proofs.pairs.any_value.Goals as goal
 
 pub returns-in-Some-clause-reads : goal.returns-in-Some-clause-reads
-returns-in-Some-clause-reads c = mapped_front (quoted otherwise bare) Text either_text (first_front c.in-Some.ensures.reads)
+returns-in-Some-clause-reads c = mapped_front (quoted otherwise bare) Text either_text
+    (first_front c.in-Some.ensures.reads)
 
 pub returns-in-None-clause-reads : goal.returns-in-None-clause-reads
 returns-in-None-clause-reads c = mapped_front (quoted otherwise bare) Text either_text

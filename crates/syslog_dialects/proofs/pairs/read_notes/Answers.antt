@@ -14,7 +14,8 @@ pairs-preserved c = let (ps, r, e) = c.pairs.invariant.1 in let f = c.in-Some.en
   (
     ps ++ pair_value c.in-Some.pair ∷ [],
     runs_more r f,
-    c.noted_more-notes.ensures ∙ ap (λ (n : Noted). noted_more n (shown c.in-Some.pair.key) (shown c.in-Some.pair.value)) e
+    c.noted_more-notes.ensures ∙ ap (λ (n : Noted). noted_more n (shown c.in-Some.pair.key)
+        (shown c.in-Some.pair.value)) e
         ∙ sym (noted_push ps (pair_value c.in-Some.pair)),
   ),
 )

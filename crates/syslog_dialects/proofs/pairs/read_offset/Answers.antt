@@ -11,7 +11,8 @@ returns-in_err-is_behind c = rw c.from_residual.ensures
 
 pub returns-in_err-hours : goal.returns-in_err-hours
 returns-in_err-hours c = rw c.from_residual-in_err-hours.ensures
-    (no_row_division offset_row (no_row offset_row offset_det (c.in_ok-is_behind.ensures past inl c.in_err-hours.ensures)))
+    (no_row_division offset_row (no_row offset_row offset_det
+    (c.in_ok-is_behind.ensures past inl c.in_err-hours.ensures)))
 
 pub returns-in_err-minutes : goal.returns-in_err-minutes
 returns-in_err-minutes c = rw c.from_residual-in_err-minutes.ensures
@@ -19,7 +20,8 @@ returns-in_err-minutes c = rw c.from_residual-in_err-minutes.ensures
     past inl c.in_err-minutes.ensures)))
 
 pub returns-in-Some : goal.returns-in-Some
-returns-in-Some c = not_whole offset_row offset_det (row_of offset_row (c.in_ok-is_behind.ensures then c.in_ok-hours.ensures
+returns-in-Some c = not_whole offset_row offset_det
+    (row_of offset_row (c.in_ok-is_behind.ensures then c.in_ok-hours.ensures
     then c.in_ok-minutes.ensures then refl)) c.in-Some.ensures.0
 
 pub returns-in-None : goal.returns-in-None

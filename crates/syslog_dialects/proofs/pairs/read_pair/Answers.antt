@@ -12,7 +12,8 @@ returns-then-is_empty-clause-reads c = no_mapped (Row pair_row) (Text × Text) p
     (no_some_run _ _ _ _ c.split.ensures (empty_is _ c.if-is_empty.ensures)))))
 
 pub returns-in_err-after_sign-clause-reads : goal.returns-in_err-after_sign-clause-reads
-returns-in_err-after_sign-clause-reads c = rw c.from_residual.ensures (unread pair_row pair_row_det (Text × Text) pair_of
+returns-in_err-after_sign-clause-reads c = rw c.from_residual.ensures
+    (unread pair_row pair_row_det (Text × Text) pair_of
     (c.blanks.ensures past run_text is_word_char c.split.ensures (nonempty_is _ c.if-is_empty.ensures)
     past inl c.in_err-after_sign.ensures))
 

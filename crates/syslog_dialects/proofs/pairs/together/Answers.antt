@@ -9,7 +9,8 @@ returns-in_err-date c = rw c.from_residual.ensures (λ d. no_row_division (iso_d
     (no_row (iso_date ∷ []) together_det (inl c.in_err-date.ensures)) (d, tt))
 
 pub returns-in-Some : goal.returns-in-Some
-returns-in-Some c = λ d. not_whole (iso_date ∷ []) together_det (row_of (iso_date ∷ []) (c.in_ok-date.ensures then refl))
+returns-in-Some c = λ d. not_whole (iso_date ∷ []) together_det
+    (row_of (iso_date ∷ []) (c.in_ok-date.ensures then refl))
     c.in-Some.ensures.0 (d, tt)
 
 pub returns-in-None : goal.returns-in-None

@@ -12,4 +12,5 @@ pub returns-in-Some-past_version : goal.returns-in-Some-past_version
 returns-in-Some-past_version c = λ a. no_front_no (Row version_row) a.unversioned c.in-Some-past_version.ensures.1
 
 pub returns : goal.returns
-returns c = alone_told _ c.is_empty.result c.utf8.text c.is_empty.ensures c.in_default.ensures c.in_default-past_version.ensures
+returns c = alone_told _ c.is_empty.result c.utf8.text c.is_empty.ensures c.in_default.ensures
+    c.in_default-past_version.ensures

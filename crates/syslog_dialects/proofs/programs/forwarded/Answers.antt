@@ -1,7 +1,8 @@
 use Rattle.std.proofs.Common.{inl, refl}
 use Rattle.syslog_pieces.proofs.PieceLemmas.Class.{◌past◌, ◌then◌, mapped_front, match_map, no_mapped, row_of}
 use Rattle.syslog_dialects.proofs.NamedLemmas.{first_front, hosted_none, passed_on_det, second_front}
-use Rattle.syslog_dialects.specs.{Named.NamedTexts, Named.behind_row, Named.hosted, Programs.passed_on, Programs.relayed_of}
+use Rattle.syslog_dialects.specs.{Named.NamedTexts, Named.behind_row, Named.hosted, Programs.passed_on}
+use Rattle.syslog_dialects.specs.{Programs.relayed_of}
 use Rattle.syslog_dialects.proofs.programs.forwarded.Goals as goal
 
 pub returns-in-Some : goal.returns-in-Some

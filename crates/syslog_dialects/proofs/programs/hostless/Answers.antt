@@ -6,10 +6,12 @@ use Rattle.syslog_dialects.specs.{Named.NamedTexts, Programs.hostless_of, Progra
 use Rattle.syslog_dialects.proofs.programs.hostless.Goals as goal
 
 pub returns-in_err-program : goal.returns-in_err-program
-returns-in_err-program c = rw c.from_residual.ensures (unread hostless_row hostless_det NamedTexts hostless_of (inl c.in_err-program.ensures))
+returns-in_err-program c = rw c.from_residual.ensures
+    (unread hostless_row hostless_det NamedTexts hostless_of (inl c.in_err-program.ensures))
 
 pub returns-in_err-msg : goal.returns-in_err-msg
-returns-in_err-msg c = rw c.from_residual-in_err-msg.ensures (unread hostless_row hostless_det NamedTexts hostless_of (c.in_ok-program.ensures past inl c.in_err-msg.ensures))
+returns-in_err-msg c = rw c.from_residual-in_err-msg.ensures
+    (unread hostless_row hostless_det NamedTexts hostless_of (c.in_ok-program.ensures past inl c.in_err-msg.ensures))
 
 pub returns : goal.returns
 returns c = rw c.tagged.ensures (mapped_front (Row hostless_row) NamedTexts hostless_of

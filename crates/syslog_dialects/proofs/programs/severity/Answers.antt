@@ -5,5 +5,6 @@ use Rattle.syslog_dialects.specs.Programs.{is_severity}
 use Rattle.syslog_dialects.proofs.programs.severity.Goals as goal
 
 pub returns : goal.returns
-returns c = told_both is_not_whitespace is_severity refl c.split_run.result.0 c.split_run.result.1 _ _ c.split_run.ensures
+returns c = told_both is_not_whitespace is_severity refl c.split_run.result.0
+    c.split_run.result.1 _ _ c.split_run.ensures
     c.is_severity.ensures c.then_some.ensures

@@ -6,19 +6,28 @@ use Rattle.syslog_dialects.specs.{Named.NamedTexts, Programs.severity_of, Progra
 use Rattle.syslog_dialects.proofs.programs.severity_first.Goals as goal
 
 pub returns-in_err-hostname : goal.returns-in_err-hostname
-returns-in_err-hostname c = rw c.from_residual.ensures (unread severity_row severity_det NamedTexts severity_of (inl c.in_err-hostname.ensures))
+returns-in_err-hostname c = rw c.from_residual.ensures
+    (unread severity_row severity_det NamedTexts severity_of (inl c.in_err-hostname.ensures))
 
 pub returns-in_err-rest : goal.returns-in_err-rest
-returns-in_err-rest c = rw c.from_residual-in_err-rest.ensures (unread severity_row severity_det NamedTexts severity_of (c.in_ok-hostname.ensures past inl c.in_err-rest.ensures))
+returns-in_err-rest c = rw c.from_residual-in_err-rest.ensures
+    (unread severity_row severity_det NamedTexts severity_of (c.in_ok-hostname.ensures past inl c.in_err-rest.ensures))
 
 pub returns-in_err-rest-2 : goal.returns-in_err-rest-2
-returns-in_err-rest-2 c = rw c.from_residual-in_err-rest-2.ensures (unread severity_row severity_det NamedTexts severity_of (c.in_ok-hostname.ensures past c.in_ok-rest.ensures past inl c.in_err-rest-2.ensures))
+returns-in_err-rest-2 c = rw c.from_residual-in_err-rest-2.ensures
+    (unread severity_row severity_det NamedTexts severity_of
+    (c.in_ok-hostname.ensures past c.in_ok-rest.ensures past inl c.in_err-rest-2.ensures))
 
 pub returns-in_err-rest-3 : goal.returns-in_err-rest-3
-returns-in_err-rest-3 c = rw c.from_residual-in_err-rest-3.ensures (unread severity_row severity_det NamedTexts severity_of (c.in_ok-hostname.ensures past c.in_ok-rest.ensures past c.in_ok-rest-2.ensures.1 past inl c.in_err-rest-3.ensures))
+returns-in_err-rest-3 c = rw c.from_residual-in_err-rest-3.ensures
+    (unread severity_row severity_det NamedTexts severity_of
+    (c.in_ok-hostname.ensures past c.in_ok-rest.ensures past c.in_ok-rest-2.ensures.1 past inl
+    c.in_err-rest-3.ensures))
 
 pub returns-in_err-program : goal.returns-in_err-program
-returns-in_err-program c = rw c.from_residual-in_err-program.ensures (unread severity_row severity_det NamedTexts severity_of (c.in_ok-hostname.ensures past c.in_ok-rest.ensures past c.in_ok-rest-2.ensures.1 past c.in_ok-rest-3.ensures
+returns-in_err-program c = rw c.from_residual-in_err-program.ensures
+    (unread severity_row severity_det NamedTexts severity_of
+    (c.in_ok-hostname.ensures past c.in_ok-rest.ensures past c.in_ok-rest-2.ensures.1 past c.in_ok-rest-3.ensures
     past inl c.in_err-program.ensures))
 
 pub returns : goal.returns

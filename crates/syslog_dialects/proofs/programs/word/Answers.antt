@@ -5,4 +5,8 @@ pub returns-then-is_empty-clause-reads : goal.returns-then-is_empty-clause-reads
 returns-then-is_empty-clause-reads c = no_some_run _ _ _ _ c.split.ensures (empty_is _ c.if-is_empty.ensures)
 
 pub returns-else-is_empty-clause-reads : goal.returns-else-is_empty-clause-reads
-returns-else-is_empty-clause-reads c = (tt, some_run_front _ _ _ _ c.split.ensures (nonempty_is _ c.if-is_empty.ensures))
+returns-else-is_empty-clause-reads c = (
+  tt,
+  some_run_front _ _ _ _ c.split.ensures
+      (nonempty_is _ c.if-is_empty.ensures),
+)

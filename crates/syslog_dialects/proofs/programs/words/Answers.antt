@@ -14,7 +14,8 @@ abbrev Fits : Text → Type 0
 Fits = BeginsWith is_letter
 
 -- the name is the piece
-named : {t q name : Text} {v : (Row words_row).Value} → (f : Front (Row words_row) t q v) → t ≡ name ++ q → Front text t q name
+named : {t q name : Text} {v : (Row words_row).Value} → (f : Front (Row words_row) t q v) → t ≡ name ++ q
+    → Front text t q name
 named {t} {q} {name} f e = subst (λ (x : Text). Front text t q x)
     (append_cancel_right f.piece name q (sym f.whole ∙ e)) (texted_front (Row words_row) f)
 
@@ -31,5 +32,6 @@ returns-then-is_letter c = let (v, f) = c.in_ok-rest.ensures in
 
 pub returns-else-is_letter : goal.returns-else-is_letter
 returns-else-is_letter c = let (v, f) = c.in_ok-rest.ensures in
-    no_such_meaning text Fits (texted_det (Row words_row) (row_det words_row words_row_det)) (named f c.before-name.ensures)
+    no_such_meaning text Fits (texted_det (Row words_row) (row_det words_row words_row_det))
+    (named f c.before-name.ensures)
     c.if-is_letter.ensures

@@ -3,7 +3,8 @@ use Rattle.syslog_dialects.specs.Runs.{is_plain_char, is_word_char}
 use Rattle.syslog_dialects.proofs.runs.run_end.Goals as goal
 
 pub returns-in-Word : goal.returns-in-Word
-returns-in-Word c = rw c.in-Word.is (ends_ascii is_word_char word_low _ _ c.utf8.text (rw c.as_bytes.ensures.value at c.run_len.ensures.within)
+returns-in-Word c = rw c.in-Word.is (ends_ascii is_word_char word_low _ _ c.utf8.text
+    (rw c.as_bytes.ensures.value at c.run_len.ensures.within)
     (rw c.as_bytes.ensures.value at c.run_len.ensures.pass) (rw c.as_bytes.ensures.value at c.run_len.ensures.stop))
 
 pub returns-in-Plain : goal.returns-in-Plain

@@ -25,12 +25,15 @@ returns-in_err-hour c = rw c.from_residual-in_err-hour.ensures (unread colon_row
 
 pub returns-in_err-minute : goal.returns-in_err-minute
 returns-in_err-minute c = rw c.from_residual-in_err-minute.ensures (unread colon_row colon_row_det SentDate colon_of
-    (c.in_ok-year.ensures past c.in_ok-month.ensures past c.in_ok-day.ensures past c.in_ok-hour.ensures past inl c.in_err-minute.ensures))
+    (c.in_ok-year.ensures past c.in_ok-month.ensures past c.in_ok-day.ensures past c.in_ok-hour.ensures past inl
+    c.in_err-minute.ensures))
 
 pub returns-in_err-second : goal.returns-in_err-second
 returns-in_err-second c = rw c.from_residual-in_err-second.ensures (unread colon_row colon_row_det SentDate colon_of
-    (c.in_ok-year.ensures past c.in_ok-month.ensures past c.in_ok-day.ensures past c.in_ok-hour.ensures past c.in_ok-minute.ensures past inl c.in_err-second.ensures))
+    (c.in_ok-year.ensures past c.in_ok-month.ensures past c.in_ok-day.ensures past c.in_ok-hour.ensures past
+    c.in_ok-minute.ensures past inl c.in_err-second.ensures))
 
 pub returns : goal.returns
 returns c = rw c.date_of.ensures (mapped_front (Row colon_row) SentDate colon_of (row_of colon_row
-    (c.in_ok-year.ensures then c.in_ok-month.ensures then c.in_ok-day.ensures then c.in_ok-hour.ensures then c.in_ok-minute.ensures then c.in_ok-second.ensures then refl)))
+    (c.in_ok-year.ensures then c.in_ok-month.ensures then c.in_ok-day.ensures then c.in_ok-hour.ensures then
+    c.in_ok-minute.ensures then c.in_ok-second.ensures then refl)))

@@ -8,7 +8,8 @@ pub returns-in_err-rest : goal.returns-in_err-rest
 returns-in_err-rest c = rw c.from_residual.ensures (no_ended (exactly (32 ∷ [])) c.in_err-rest.ensures)
 
 pub returns-then-not-ends_word : goal.returns-then-not-ends_word
-returns-then-not-ends_word c = not_ended (exactly (32 ∷ [])) (exactly_det _) c.in_ok-rest.ensures c.if-not-ends_word.ensures
+returns-then-not-ends_word c = not_ended (exactly (32 ∷ [])) (exactly_det _) c.in_ok-rest.ensures
+    c.if-not-ends_word.ensures
 
 pub returns : goal.returns
 returns c = (tt, ended_front (exactly (32 ∷ [])) c.in_ok-rest.ensures c.if-not-ends_word.ensures)

@@ -6,7 +6,8 @@ use Rattle.syslog_dialects.proofs.tail.read_tail.Goals as goal
 
 pub returns : goal.returns
 returns c =
-    let f = row_of tail_row (c.host_field.ensures then c.tag_field.ensures then c.blanks.ensures then c.past_colon.ensures.1
+    let f = row_of tail_row (c.host_field.ensures then c.tag_field.ensures then c.blanks.ensures then
+    c.past_colon.ensures.1
     then c.blanks-msg.ensures then rest_front _ then refl) in
     record {
       piece = f.piece;

@@ -17,7 +17,8 @@ pub returns-then-eq : goal.returns-then-eq
 returns-then-eq c =
     let id = id_front c.split_run-2.ensures (nonempty_is _ c.if-is_empty.ensures) in
     let whole = text_is _ (93 ∷ []) (one_ascii 93 (omega arith)) c.if-eq.ensures in
-    let end : Front closing (chars c.split_run-2.result.1.now) [] tt = record { piece = 93 ∷ []; whole = whole; is = refl } in
+    let end : Front closing (chars c.split_run-2.result.1.now) []
+    tt = record { piece = 93 ∷ []; whole = whole; is = refl } in
     front_division form_row
     (row_of form_row (label_front c.split_run.ensures then c.in_ok-rest.ensures then id then end then refl))
 

@@ -4,7 +4,8 @@ use Rattle.syslog_pieces.proofs.PieceLemmas.Class.{mapped_front, no_mapped, row_
 use Rattle.syslog_pieces.proofs.PieceLemmas.Class.{rows_none_here, rows_none_later}
 use Rattle.syslog_dialects.proofs.NamedLemmas.{beginning_front, first_front, no_beginning, no_otherwise, second_front}
 use Rattle.syslog_dialects.proofs.UntaggedLemmas.{host_row_det}
-use Rattle.syslog_dialects.specs.{Named.NamedTexts, Named.beginning, Untagged.host_row, Untagged.mark_class, Untagged.marked}
+use Rattle.syslog_dialects.specs.{Named.NamedTexts, Named.beginning, Untagged.host_row, Untagged.mark_class}
+use Rattle.syslog_dialects.specs.{Untagged.marked}
 use Rattle.syslog_dialects.specs.Untagged.{marked_of}
 use Rattle.syslog_dialects.specs.declared.untagged.Mark.{Mark}
 use Rattle.syslog_dialects.proofs.untagged.message.Goals as goal
@@ -22,9 +23,11 @@ returns-in_err-hostname c after = rw c.from_residual.ensures (no_mapped (marked 
     (rows_none_here host_row (begun c.args.mark ∷ []) (rw c.in_err-hostname.was at after))))
 
 pub returns-in_err-mark_end : goal.returns-in_err-mark_end
-returns-in_err-mark_end c after = rw c.from_residual-in_err-mark_end.ensures (no_mapped (marked c.args.mark) NamedTexts marked_of
+returns-in_err-mark_end c after = rw c.from_residual-in_err-mark_end.ensures
+    (no_mapped (marked c.args.mark) NamedTexts marked_of
     (no_otherwise (no_beginning c.in_default.ensures) (rows_none_later host_row (begun c.args.mark ∷ []) host_row_det
-    (rw c.in_ok-hostname.was at after) (row_none_here (begun c.args.mark) [] (no_beginning c.in_err-mark_end.ensures)))))
+    (rw c.in_ok-hostname.was at after) (row_none_here (begun c.args.mark) []
+    (no_beginning c.in_err-mark_end.ensures)))))
 
 pub returns : goal.returns
 returns c after = let (v, f) = c.in_ok-mark_end.ensures in

@@ -11,6 +11,7 @@ returns-in-Some-repeats c = let (v, f) = c.in-Some-repeats.ensures in
     (inr (inl v), second_front c.in_default.ensures (first_front f))
 
 pub returns : goal.returns
-returns c = match_map c.here.result (λ n. no_otherwise c.in_default.ensures (no_otherwise c.in_default-repeats.ensures n))
+returns c = match_map c.here.result (λ n. no_otherwise c.in_default.ensures
+    (no_otherwise c.in_default-repeats.ensures n))
     (λ x (v, f). (inr (inr v), second_front c.in_default.ensures (second_front c.in_default-repeats.ensures f)))
     c.here.ensures

@@ -4,5 +4,6 @@ use Rattle.syslog_dialects.{proofs.UntaggedLemmas.repeats_det, specs.Untagged.re
 use Rattle.syslog_dialects.proofs.untagged.repeats.Goals as goal
 
 pub returns : goal.returns
-returns c = row_reads repeats_row repeats_det c.args.text (c.repeats_words.result ∷ c.and_then.result ∷ c.and_then-2.result ∷ [])
+returns c = row_reads repeats_row repeats_det c.args.text
+    (c.repeats_words.result ∷ c.and_then.result ∷ c.and_then-2.result ∷ [])
     (c.repeats_words.ensures also c.and_then.ensures also c.and_then-2.ensures also tt)

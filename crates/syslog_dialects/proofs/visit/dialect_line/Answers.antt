@@ -38,7 +38,8 @@ returns c =
       };
       year = c.of.ensures.2;
       offset = c.of.ensures.3;
-      no_elements = ap (λ (l : Line). list_elements l.list) same ∙ ap (λ (m : MessageValue). m.structured_data) is.means.2;
+      no_elements = ap (λ (l : Line). list_elements l.list) same
+          ∙ ap (λ (m : MessageValue). m.structured_data) is.means.2;
       no_list = ap (λ (l : Line). list_text l.list) same ∙ is.list;
       form = subst (λ (l : Line). KnowsForm l) (sym same) c.in-Some.ensures.form;
     }

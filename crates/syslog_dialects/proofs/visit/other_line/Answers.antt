@@ -4,4 +4,11 @@ use Rattle.syslog_dialects.proofs.visit.other_line.Goals as goal
 pub returns : goal.returns
 returns c =
     match_map c.dialect_line.result (λ none asked odd may. none)
-    (λ it is. (c.if-not-are_asked.false, (c.if-is_ordinary.ensures, c.may_be_sent.ensures.0 c.if-not-may_be_sent.false), is)) c.dialect_line.ensures
+    (λ it is. (
+      c.if-not-are_asked.false,
+      (
+        c.if-is_ordinary.ensures,
+        c.may_be_sent.ensures.0 c.if-not-may_be_sent.false,
+      ),
+      is,
+    )) c.dialect_line.ensures

@@ -6,8 +6,10 @@ use Rattle.syslog_dialects.proofs.visit.sent_line.Goals as goal
 
 pub returns-in-Some-clause-reads : goal.returns-in-Some-clause-reads
 returns-in-Some-clause-reads c dating of =
-    dialect_before c.args.dates.now dating c.args.dialects c.args.variant (chars c.args.input.now) c.asks_dialects.result
-    c.asks_dialects.ensures c.in-Some.ensures.0 c.args.line.now c.in-Some.sent c.in-Some.ensures.1.0 c.in-Some.ensures.1.1 c.in-Some.ensures.2 of
+    dialect_before c.args.dates.now dating c.args.dialects c.args.variant (chars c.args.input.now)
+    c.asks_dialects.result
+    c.asks_dialects.ensures c.in-Some.ensures.0 c.args.line.now c.in-Some.sent c.in-Some.ensures.1.0
+    c.in-Some.ensures.1.1 c.in-Some.ensures.2 of
 
 pub returns-in-Some-clause-shown : goal.returns-in-Some-clause-shown
 returns-in-Some-clause-shown c dating of =
@@ -21,7 +23,8 @@ returns-in-Some-clause-elements c =
 
 pub returns-in-Some-clause-leaves : goal.returns-in-Some-clause-leaves
 returns-in-Some-clause-leaves c dating unparsed of left =
-    dialect_leaves c.args.dates.now true c.args.variant (chars c.args.input.now) c.in-Some.sent unparsed c.in-Some.ensures.2 left
+    dialect_leaves c.args.dates.now true c.args.variant (chars c.args.input.now) c.in-Some.sent unparsed
+    c.in-Some.ensures.2 left
 
 pub returns-in-None-clause-reads : goal.returns-in-None-clause-reads
 returns-in-None-clause-reads c dating of =

@@ -7,6 +7,8 @@ use Rattle.syslog_dialects.proofs.zone.minutes.Goals as goal
 
 pub returns : goal.returns
 returns c = match_map c.pair.result
-    (λ n. no_mapped (Row minutes_row) ℕ (λ v. v.1.0) (no_row minutes_row minutes_row_det (c.past_colon.ensures.1 past inl n)))
-    (λ x f. mapped_front (Row minutes_row) ℕ (λ v. v.1.0) (row_of minutes_row (c.past_colon.ensures.1 then f then refl)))
+    (λ n. no_mapped (Row minutes_row) ℕ (λ v. v.1.0) (no_row minutes_row minutes_row_det
+    (c.past_colon.ensures.1 past inl n)))
+    (λ x f. mapped_front (Row minutes_row) ℕ (λ v. v.1.0)
+    (row_of minutes_row (c.past_colon.ensures.1 then f then refl)))
     c.pair.ensures

@@ -5,4 +5,5 @@ use Rattle.syslog_dialects.specs.Zone.{minutes}
 use Rattle.syslog_dialects.proofs.zone.some_minutes.Goals as goal
 
 pub returns-in-Some-clause-reads : goal.returns-in-Some-clause-reads
-returns-in-Some-clause-reads c = mapped_front (optional minutes) ℕ (λ m. unwrap_or m 0) (optional_some minutes c.in-Some.ensures)
+returns-in-Some-clause-reads c = mapped_front (optional minutes) ℕ (λ m. unwrap_or m 0)
+    (optional_some minutes c.in-Some.ensures)

@@ -8,7 +8,8 @@ use Rattle.syslog_dialects.proofs.zone.zone_mark.Goals as goal
 pub returns-in-Some : goal.returns-in-Some
 returns-in-Some c =
     let fits : FitsSigned w32 c.in-Some.seconds = search rules in
-    rw to_z-of_z (mapped_front (numeric_offset otherwise zone_name) (Option ℤ) offset_of (first_front c.in-Some.ensures))
+    rw to_z-of_z (mapped_front (numeric_offset otherwise zone_name) (Option ℤ) offset_of
+    (first_front c.in-Some.ensures))
 
 pub returns-in_err-name : goal.returns-in_err-name
 returns-in_err-name c = rw c.from_residual.ensures (no_mapped (numeric_offset otherwise zone_name) (Option ℤ) offset_of

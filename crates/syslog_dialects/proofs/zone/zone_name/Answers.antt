@@ -7,7 +7,8 @@ pub returns-in_err-name : goal.returns-in_err-name
 returns-in_err-name c = rw c.from_residual.ensures (no_such_front bare_word IsZoneName c.in_err-name.ensures)
 
 pub returns-then-not-is_zone_name : goal.returns-then-not-is_zone_name
-returns-then-not-is_zone_name c = no_such_meaning bare_word IsZoneName bare_word_det c.in_ok-name.ensures c.if-not-is_zone_name.ensures
+returns-then-not-is_zone_name c = no_such_meaning bare_word IsZoneName bare_word_det c.in_ok-name.ensures
+    c.if-not-is_zone_name.ensures
 
 pub returns : goal.returns
 returns c = such_front bare_word IsZoneName c.in_ok-name.ensures c.if-not-is_zone_name.ensures

@@ -1,4 +1,5 @@
-use Rattle.syslog_lines.proofs.Names.{◌≡◌, ◌+◌, ◌-◌, List, ℕ, [], ◌∷◌, take, drop, length, subst, arith, sym, Some, length-drop}
+use Rattle.syslog_lines.proofs.Names.{◌≡◌, ◌+◌, ◌-◌, List, ℕ, [], ◌∷◌, take, drop, length, subst, arith, sym, Some}
+use Rattle.syslog_lines.proofs.Names.{length-drop}
 use Rattle.syslog_lines.proofs.AnswerLemmas.{OnErr-any}
 use Rattle.syslog_lines.proofs.FrameLemmas.{IsOpen-nil}
 use Rattle.syslog_lines.proofs.HeldLemmas.{stops_here, whole_more, whole_start}

@@ -5,7 +5,8 @@ use Rattle.syslog_lines.proofs.WholeLemmas.{rest_is}
 use Rattle.syslog_lines.proofs.apply.filter_held.Goals as goal
 
 pub returns-in-Only-clause-ok : goal.returns-in-Only-clause-ok
-returns-in-Only-clause-ok g c = held_only c.args.frames _ c.args.place.now _ c.args.bytes.now _ _ _ _ c.in-Only.ensures.0
+returns-in-Only-clause-ok g c = held_only
+    c.args.frames _ c.args.place.now _ c.args.bytes.now _ _ _ _ c.in-Only.ensures.0
     c.in-Only.ensures.3
 
 pub filter_frames-requires-clause-within : goal.filter_frames-requires-clause-within
@@ -23,7 +24,8 @@ leave-requires-clause-open g c = held_open c.args.bytes.now c.in-After.start c.i
     c.in_ok-size.ensures.within c.args.frames.framing c.in_ok-size.ensures.open
 
 pub returns-clause-ok : goal.returns-clause-ok
-returns-clause-ok g c = held_done c.args.bytes.now c.in-After.start c.in_ok-size.size c.leave.result c.in-After.ensures.1
+returns-clause-ok g c = held_done c.args.bytes.now c.in-After.start c.in_ok-size.size c.leave.result
+    c.in-After.ensures.1
     c.in_ok-size.ensures.within c.args.frames _ c.args.place.now _ _ _ c.in-After.ensures.4 _ _ c.in_ok-size.ensures.ok
     c.leave.new.self c.leave.ensures.at
 

@@ -7,7 +7,8 @@ returns-in-Ending-clause-ok g c = last_long c.args.frames _ c.args.place c.args.
     c.requires c.count_long.ensures
 
 pub returns-in-Octets-clause-ok : goal.returns-in-Octets-clause-ok
-returns-in-Octets-clause-ok g c = last_long c.args.frames _ c.args.place c.args.bytes.now _ _ _ (inr (_, c.in-Octets.is))
+returns-in-Octets-clause-ok g c = last_long c.args.frames _ c.args.place
+    c.args.bytes.now _ _ _ (inr (_, c.in-Octets.is))
     c.requires c.count_long-in-Octets.ensures
 
 pub filter_cut-requires-clause-begins : goal.filter_cut-requires-clause-begins

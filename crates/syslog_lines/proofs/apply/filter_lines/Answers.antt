@@ -31,9 +31,11 @@ loop-rest-preserved g c =
       short = omega (arith, sizes.1, c.loop-rest.invariant.short);
       so_far = GoesOn-more _ _ _ _ _ _ _ _ _ _ _ _ (some_left _ _ c.is_empty.ensures c.loop-rest-test.true)
           first c.loop-rest.invariant.so_far
-          (Answered-valid c.args.frames _ _ _ _ _ _ _ short (rw c.text_line-line.ensures.line at c.in_ok-is_answered.ensures.ok)
+          (Answered-valid c.args.frames _ _ _ _ _ _ _ short (rw
+          c.text_line-line.ensures.line at c.in_ok-is_answered.ensures.ok)
           c.count.ensures.answered c.count.ensures.skipped c.count.ensures.too_long
-          (rw c.text_line-line.ensures.line at c.text_line-line.ensures.utf8) c.count.ensures.answered_invalid c.count.ensures.skipped_invalid);
+          (rw c.text_line-line.ensures.line at c.text_line-line.ensures.utf8) c.count.ensures.answered_invalid
+          c.count.ensures.skipped_invalid);
     }
 
 pub returns : goal.returns

@@ -10,7 +10,8 @@ returns-then-is_too_long-clause-ok g c =
     ap (λ (l : List ℕ). is_above c.args.frames.longest (length l)) (sym c.line-line.ensures)
     ∙ sym c.is_too_long.ensures ∙ c.if-is_too_long.true in
     let output = Some c.args.output.now.items in
-    Answered-long c.args.frames (g.F.LineFilter.answers c.args.filter.now) c.args.message.now output output c.args.tally.now _
+    Answered-long c.args.frames (g.F.LineFilter.answers c.args.filter.now) c.args.message.now output output
+    c.args.tally.now _
     long (Keeps-refl output) c.count_long.ensures
 
 pub returns-in_ok-is_answered-in-Ok-clause-ok : goal.returns-in_ok-is_answered-in-Ok-clause-ok
@@ -20,7 +21,8 @@ returns-in_ok-is_answered-in-Ok-clause-ok g c =
     ∙ sym c.is_too_long.ensures ∙ c.if-is_too_long.false in
     let same = c.in-Ok.ensures.0 ∙ c.line-line.ensures in
     Answered-valid c.args.frames _ _ _ _ _ _ _ short (rw same at c.in_ok-is_answered-in-Ok.ensures.ok)
-    c.count.ensures.answered c.count.ensures.skipped c.count.ensures.too_long (rw c.line-line.ensures at c.in-Ok.ensures.1)
+    c.count.ensures.answered c.count.ensures.skipped c.count.ensures.too_long
+    (rw c.line-line.ensures at c.in-Ok.ensures.1)
     c.count.ensures.answered_invalid c.count.ensures.skipped_invalid
 
 pub returns-in_err-is_answered-in-Ok-clause-refusal : goal.returns-in_err-is_answered-in-Ok-clause-refusal

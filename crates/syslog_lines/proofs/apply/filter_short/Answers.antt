@@ -28,7 +28,8 @@ pub returns-in_err-filter_lines-clause-err : goal.returns-in_err-filter_lines-cl
 returns-in_err-filter_lines-clause-err g c =
     let past = c.past_last_feed-past.result in
     let (lines, found, before) = c.in_err-filter_lines.ensures in
-    let stops : StopsWithin c.args.frames (taken c.args.frames (g.F.LineFilter.answers c.args.filter.now)) c.args.bytes.now
+    let stops : StopsWithin c.args.frames (taken c.args.frames (g.F.LineFilter.answers c.args.filter.now))
+    c.args.bytes.now
     (Some c.args.output.now.items) (Some c.filter_lines.new.output.items) = (
       lines,
       drop past c.args.bytes.now,

@@ -6,13 +6,15 @@ use Rattle.syslog_lines.proofs.pump.answer_last.Goals as goal
 
 pub returns-in_err-write_whole-clause-err : goal.returns-in_err-write_whole-clause-err
 returns-in_err-write_whole-clause-err g c =
-    IfErr-passed _ _ _ c.from_residual.ensures.1 (Stops-cut c.args.frames (g.F.LineFilter.answers c.args.filter.now) c.args.place
+    IfErr-passed _ _ _ c.from_residual.ensures.1 (Stops-cut c.args.frames (g.F.LineFilter.answers c.args.filter.now)
+    c.args.place
     c.args.bytes.now (Some c.clear.new.self.items) (Some c.filter_last-answered.new.output.items)
     (g.W.Write.contents c.args.writer.now.inner) (g.W.Write.contents c.write_whole.new.self.inner) c.args.tally.now
     c.filter_last-answered.new.tally
     (begins_collected _ _ (g.W.Write.contents c.args.writer.now.inner)
     (g.W.Write.contents c.write_whole.new.self.inner) c.clear.ensures.items
-    (rw c.deref.ensures.value at c.in_err-write_whole.ensures.err)) (HasAllFrames c.args.frames) c.filter_last-answered.result
+    (rw c.deref.ensures.value at c.in_err-write_whole.ensures.err)) (HasAllFrames c.args.frames)
+    c.filter_last-answered.result
     c.filter_last-answered.ensures.ok c.filter_last-answered.ensures.err _ _ c.in_err-write_whole.ensures.fault)
 
 pub returns-in_err-answered-clause-err : goal.returns-in_err-answered-clause-err
@@ -20,7 +22,8 @@ returns-in_err-answered-clause-err g c =
     IfErr-passed _ Memory _ c.from_residual-in_err-answered.ensures.1 (
       c.in_ok-write_whole.ensures.well,
       Goes-before c.args.frames _ c.args.place c.args.bytes.now _ _ _ _ (appends_collected _ _ _ _ c.clear.ensures.items
-          (rw c.deref.ensures.value at c.in_ok-write_whole.ensures.ok)) (HasAllFrames c.args.frames) c.in_err-answered.ensures.err,
+          (rw c.deref.ensures.value at c.in_ok-write_whole.ensures.ok)) (HasAllFrames c.args.frames)
+          c.in_err-answered.ensures.err,
     )
 
 pub returns-clause-ok : goal.returns-clause-ok

@@ -1,9 +1,11 @@
-use Rattle.syslog_lines.proofs.Names.{arith, length, refl, true, false, Appends-kept, take_all, Memory, Write, ap, sym, ◌∙◌, held_bytes}
+use Rattle.syslog_lines.proofs.Names.{arith, length, refl, true, false, Appends-kept, take_all, Memory, Write, ap}
+use Rattle.syslog_lines.proofs.Names.{sym, ◌∙◌, held_bytes}
 use Rattle.syslog_lines.specs.Frames.{HasAllFrames}
 use Rattle.std.proofs.Common.{length-append}
 use Rattle.syslog_lines.proofs.AnswerLemmas.{IfErr-passed}
 use Rattle.syslog_lines.proofs.PlaceLemmas.{IsSeen-held}
-use Rattle.syslog_lines.proofs.PumpLemmas.{EndsEarly-last, EndsEarly-more, EndsEarly-stopped, EndsEarly-unbegun, held_last}
+use Rattle.syslog_lines.proofs.PumpLemmas.{EndsEarly-last, EndsEarly-more, EndsEarly-stopped, EndsEarly-unbegun}
+use Rattle.syslog_lines.proofs.PumpLemmas.{held_last}
 use Rattle.syslog_lines.proofs.PumpLemmas.{PumpedSoFar-more, PumpedSoFar-start, PumpsAll-last}
 use Rattle.syslog_lines.proofs.WriteLemmas.{Goes-answered, cut_answered}
 use Rattle.syslog_lines.proofs.pump.pump.Goals as goal
@@ -28,7 +30,12 @@ returns-in_err-fill-clause-err g c =
 pub answer_held-requires-clause-within : goal.answer_held-requires-clause-within
 answer_held-requires-clause-within g c =
     let filled = rw (c.if-branch.true, ← c.held.ensures) at c.in_ok-fill.ensures.ok in
-    omega (arith, ap length filled.2, length-append (held_bytes c.loop-block.block) filled.0, c.loop-block.invariant.seen)
+    omega (
+      arith,
+      ap length filled.2,
+      length-append (held_bytes c.loop-block.block) filled.0,
+      c.loop-block.invariant.seen,
+    )
 
 pub answer_held-requires-clause-seen : goal.answer_held-requires-clause-seen
 answer_held-requires-clause-seen g c =

@@ -4,7 +4,8 @@ use Rattle.syslog_loose.proofs.line.have_params.Goals as goal
 
 pub loop-element-init : goal.loop-element-init
 loop-element-init c =
-    let same = ap elements_left c.into_iter-element-iterator.ensures.into_iter_gives ∙ c.elements-element-items.ensures in
+    let same = ap elements_left c.into_iter-element-iterator.ensures.into_iter_gives
+    ∙ c.elements-element-items.ensures in
     (tt, tt, (subst HaveParams same, subst HaveParams (sym same)))
 
 pub returns-then-params_len-eq0 : goal.returns-then-params_len-eq0
@@ -19,7 +20,10 @@ loop-element-preserved c =
       tt,
       tt,
       (
-        (λ h. stays.0 (subst HaveParams (sym step) (omega (arith, c.params_len.ensures, c.if-params_len-eq0.false), h))),
+        (λ h. stays.0 (subst HaveParams (sym step) (
+          omega (arith, c.params_len.ensures, c.if-params_len-eq0.false),
+          h,
+        ))),
         (λ h. (subst HaveParams step (stays.1 h)).1),
       ),
     )

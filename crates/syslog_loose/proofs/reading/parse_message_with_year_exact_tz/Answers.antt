@@ -6,7 +6,8 @@ use Rattle.syslog_loose.proofs.reading.parse_message_with_year_exact_tz.Goals as
 pub returns-clause-reads : goal.returns-clause-reads
 returns-clause-reads g c =
     in_year_map (λ year h. message_answers c.args.variant (dating_of year c.args.tz c.args.local)
-    (chars c.args.input.now) _ _ _ _ c.visit_line-made.result c.answer_of.result h c.new-collect.ensures c.answer_of.ensures)
+    (chars c.args.input.now) _ _ _ _ c.visit_line-made.result c.answer_of.result h c.new-collect.ensures
+    c.answer_of.ensures)
     c.visit_line-made.ensures
 
 pub returns-clause-itself : goal.returns-clause-itself

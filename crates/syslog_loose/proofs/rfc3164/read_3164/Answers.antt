@@ -17,7 +17,8 @@ list_row = texted (optional (rfc3164_list dash_rule)) ∷ run is_blank ∷ rest 
 
 -- where the list is empty text, there is none, and what follows is the message part
 bare : {rest after msg : Text} {es : Option (List ElementValue)}
-    → Front (optional (rfc3164_list dash_rule)) rest after es → rest ≡ after → Ends is_blank rest → Front (run is_blank) after msg tt
+    → Front (optional (rfc3164_list dash_rule)) rest after es → rest ≡ after → Ends is_blank rest
+    → Front (run is_blank) after msg tt
     → (elements_or es ≡ []) × BeginsNoList dash_rule rest × (msg ≡ rest)
 bare {rest} {es = es} f same ends gap =
     let (none, unlisted) = list_none dash_rule es f (omega (arith, ap length same)) in

@@ -59,7 +59,8 @@ returns g c =
     let fits = fields_known (rw is_origin at c.host_field.ensures) (rw is_name at c.tag_field.ensures) rest
     (seen names.hostname) (seen names.appname) (seen names.process) (c.before-2.ensures ∙ end)
     (rw (is_origin, is_name) at c.resolve-names.ensures.names)
-    (rw (is_origin, is_name) at c.resolve-names.ensures.process) (c.is_bare.ensures.0 bare) in (host_there, rw is_name refl, fits.0, fits.1)) in
+    (rw (is_origin, is_name) at c.resolve-names.ensures.process) (c.is_bare.ensures.0 bare) in
+    (host_there, rw is_name refl, fits.0, fits.1)) in
     let only : is_some host ≡ true → is_some (option_flatten tag) ≡ true
     → chars c.args.text.now ≡ fields_before (names_value names) rest → c.are_all-are_printed.result ≡ true =
     λ is_host is_tag e.

@@ -56,7 +56,8 @@ one_gap : {t u w : Text} → Front (some_run is_blank) t u tt → Ends is_blank 
 one_gap f ends e = (front_same (some_run is_blank) (some_run_det is_blank) f
     (front_of (32 ∷ []) e (omega arith, (refl, tt), ends))).0
 
-peeled : {t u q : Text} (more name : Text) → Front (some_run is_blank) t u tt → u ≡ name ++ q → Ends is_blank (name ++ more)
+peeled : {t u q : Text} (more name : Text) → Front (some_run is_blank) t u tt → u ≡ name ++ q
+    → Ends is_blank (name ++ more)
     → t ≡ 32 ∷ (name ++ more) → (t ≡ 32 ∷ (name ++ q)) × (q ≡ more)
 peeled {q = q} more name gap stands ends e =
     let rest = append_cancel_left name q more (sym stands ∙ one_gap gap ends e) in
@@ -149,7 +150,8 @@ returns-clause-prints g c =
     record {
       prints = λ e. (let (starts, (after_host, (after_app, (bare, (ends, _))))) = c.are_all-is_printed.ensures.0 e in
           names_joined _ _ _ (name_text (seen c.in_ok-msgid.msgid)) (shown c.in_ok-msgid.after_id)
-          (host.fits.0 starts) (app.fits.0 after_host) (word.fits.0 after_app) (bare_process _ (c.is_bare.ensures.0 bare))
+          (host.fits.0 starts) (app.fits.0 after_host) (word.fits.0 after_app)
+          (bare_process _ (c.is_bare.ensures.0 bare))
           (id.fits.0 ends));
       only = λ more e. (
           let (starts, after_host) = host_peeled host.reads e in

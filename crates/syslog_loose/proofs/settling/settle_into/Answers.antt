@@ -38,7 +38,8 @@ returns-clause-passes g c =
     in_year_map (λ year told. let dating = dating_of year c.args.tz c.args.local in
     let (told, (lower, e, more)) = rw c.if-settled.false at told in
     let same : lower ≡ 4 = omega (arith, e) in
-    passes_on c.args.variant dating 5 _ _ (answer_in c.settle_on.result c.settle_on.new.text) told (c.settle_on.ensures.passes dating (chars c.args.input.now) (rw same at more))) c.in_ok-settled.ensures
+    passes_on c.args.variant dating 5 _ _ (answer_in c.settle_on.result c.settle_on.new.text) told
+    (c.settle_on.ensures.passes dating (chars c.args.input.now) (rw same at more))) c.in_ok-settled.ensures
 
 pub returns-clause-canonical : goal.returns-clause-canonical
 returns-clause-canonical g c =

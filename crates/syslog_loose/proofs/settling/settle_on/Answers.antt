@@ -10,13 +10,17 @@ returns-in_err-settled-clause-settles c = λ dating input start.
 
 pub returns-then-settled-clause-settles : goal.returns-then-settled-clause-settles
 returns-then-settled-clause-settles c = λ dating input start.
-    (rw c.if-settled.true at ((rw (c.as_str.ensures.value, c.swap.ensures.x_after) at c.in_ok-settled.ensures) dating input _
+    (rw c.if-settled.true at ((rw (c.as_str.ensures.value, c.swap.ensures.x_after) at c.in_ok-settled.ensures)
+    dating input _
     (c.loop-done.invariant dating input start).1)).1
 
 pub returns-then-settled-clause-passes : goal.returns-then-settled-clause-passes
 returns-then-settled-clause-passes c = λ dating input start.
     let (below, reached, leads) = c.loop-done.invariant dating input start in
-    let told = (rw c.if-settled.true at ((rw (c.as_str.ensures.value, c.swap.ensures.x_after) at c.in_ok-settled.ensures)
+    let told = (rw c.if-settled.true at ((rw (
+      c.as_str.ensures.value,
+      c.swap.ensures.x_after,
+    ) at c.in_ok-settled.ensures)
     dating input _ reached)).0 in
     let left : 5 - c.loop-done.done ≡ suc (4 - c.loop-done.done) = omega (arith, below) in
     leads _ (rw left (last_pass c.args.variant dating _ _ _ told))
@@ -32,8 +36,10 @@ loop-done-preserved c = λ dating input start.
 
 pub returns-clause-settles : goal.returns-clause-settles
 returns-clause-settles c = λ dating input start.
-    let (below, _, _) = c.loop-done.invariant dating input start in absurd (omega (arith, below, c.loop-done-test.false))
+    let (below, _, _) = c.loop-done.invariant dating input start in
+    absurd (omega (arith, below, c.loop-done-test.false))
 
 pub returns-clause-passes : goal.returns-clause-passes
 returns-clause-passes c = λ dating input start.
-    let (below, _, _) = c.loop-done.invariant dating input start in absurd (omega (arith, below, c.loop-done-test.false))
+    let (below, _, _) = c.loop-done.invariant dating input start in
+    absurd (omega (arith, below, c.loop-done-test.false))

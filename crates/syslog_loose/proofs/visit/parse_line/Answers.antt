@@ -10,4 +10,5 @@ returns-clause-reads g c = in_year_map (λ year. match_map c.visit_line.result (
 pub returns-clause-form : goal.returns-clause-form
 returns-clause-form g c =
     let in_year = c.visit_line.ensures in
-    match_map c.visit_line.result (λ none. tt) (λ made of. rw of.2.0 of.2.1) (in_year.holds in_year.answered (λ date asks. refl))
+    match_map c.visit_line.result (λ none. tt) (λ made of. rw of.2.0 of.2.1)
+    (in_year.holds in_year.answered (λ date asks. refl))

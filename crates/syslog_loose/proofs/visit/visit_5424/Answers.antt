@@ -13,8 +13,10 @@ returns-then-not-reads_rfc5424 g c whole f = (
 
 pub returns-then-not-begins_with_digit : goal.returns-then-not-begins_with_digit
 returns-then-not-begins_with_digit g c whole f =
-    let none = no_number 4294967295 _ c.utf8.text (rw c.as_bytes.ensures.value at c.if-not-begins_with_digit.ensures) in (
-      (λ n. no_row_division rfc5424_row (rows_none_here header_row data_row (no_row header_row header_det (f past inl none)))),
+    let none = no_number 4294967295 _ c.utf8.text
+    (rw c.as_bytes.ensures.value at c.if-not-begins_with_digit.ensures) in (
+      (λ n. no_row_division rfc5424_row (rows_none_here header_row data_row
+          (no_row header_row header_det (f past inl none)))),
       refl,
       visits_none g.E.ElementVisitor.was_given c.args.elements.now,
     )

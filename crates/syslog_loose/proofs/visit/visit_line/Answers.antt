@@ -64,7 +64,8 @@ returns g c =
           w.in-Some-month_stamp.ensures))
       | in-None+in_default-visit_5424+in-Some-front_stamp w ↦ (let front = w.in-Some-front_stamp.ensures in
           let (strict, same, nothing) = w.in_default-visit_5424.ensures whole f in
-          unasked (asks_none v whole f w.in-None.ensures) (λ year. (let dating = dating_of year c.args.tz c.args.local in (
+          unasked (asks_none v whole f w.in-None.ensures) (λ year. (let dating = dating_of year c.args.tz
+          c.args.local in (
             line,
             line_3164 v dating line (left_to_try v whole front.reads strict) ((rw w.timestamp-is at (read dating whole))
                 (other_front v whole f w.in-None.ensures dating w.in-Some-front_stamp.stamp front)),

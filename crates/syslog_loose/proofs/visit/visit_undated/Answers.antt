@@ -20,7 +20,8 @@ returns g c whole f without dating =
     let stamp = other_front c.args.variant whole f without dating c.in-Some-front_stamp.timestamp front in
     let (strict, same, nothing) = c.in_default.ensures whole f in (
       line,
-      line_3164 c.args.variant dating line (left_to_try c.args.variant whole front.reads strict) (read dating whole stamp),
+      line_3164 c.args.variant dating line (left_to_try c.args.variant whole front.reads strict)
+          (read dating whole stamp),
       rw (sym same) makes,
       visits_after g.E.ElementVisitor.was_given _ _ _ _ nothing given,
     )

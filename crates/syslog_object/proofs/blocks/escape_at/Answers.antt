@@ -1,7 +1,10 @@
 use Rattle.syslog_object.proofs.Names.{arith, inl, inr}
 use Rattle.syslog_object.proofs.BlockLemmas.{backslash_at, nothing_at, other_at, pair_at, on_other, on_no_raw}
-use Rattle.syslog_object.proofs.blocks.escape_at.Goals.{then-byte-ne92-via-then-byte-ne92, then-byte-ne92-via-else-byte-ne92+then-not-is_raw}
-use Rattle.syslog_object.proofs.blocks.escape_at.Goals.{then-second-eq110-via-then-second-eq110, then-second-eq110-via-else-second-eq110+then-second-eq34, then-second-eq110-via-else-second-eq110+else-second-eq34+then-second-eq92}
+use Rattle.syslog_object.proofs.blocks.escape_at.Goals.{then-byte-ne92-via-then-byte-ne92}
+use Rattle.syslog_object.proofs.blocks.escape_at.Goals.{then-byte-ne92-via-else-byte-ne92+then-not-is_raw}
+use Rattle.syslog_object.proofs.blocks.escape_at.Goals.{then-second-eq110-via-then-second-eq110}
+use Rattle.syslog_object.proofs.blocks.escape_at.Goals.{then-second-eq110-via-else-second-eq110+then-second-eq34}
+use Rattle.syslog_object.proofs.blocks.escape_at.Goals.{then-second-eq110-via-else-second-eq110+else-second-eq34+then-second-eq92}
 use Rattle.syslog_object.proofs.blocks.escape_at.Goals as goal
 
 pub returns-then-byte-ne92 : goal.returns-then-byte-ne92

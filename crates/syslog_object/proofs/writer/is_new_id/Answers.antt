@@ -7,5 +7,6 @@ returns c = c.loop-other.invariant (of_keys (IsNewKey c.args.id.now) (λ (s : Bo
     (nothing_after c.args.ids.now c.loop-other.other-index c.loop-other-test.false) tt)
 
 pub loop-other-preserved : goal.loop-other-preserved
-loop-other-preserved c = λ new. c.loop-other.invariant (of_keys (IsNewKey c.args.id.now) (λ (s : Bor (List ℕ)). s.now) _ _
+loop-other-preserved c = λ new. c.loop-other.invariant
+    (of_keys (IsNewKey c.args.id.now) (λ (s : Bor (List ℕ)). s.now) _ _
     (drop_more c.args.ids.now c.loop-other.other-index _ c.loop-other-test.true) (sym c.if-eq.ensures, new))

@@ -12,7 +12,8 @@ returns-then-leads_bare c =
 pub returns-else-leads_bare : goal.returns-else-leads_bare
 returns-else-leads_bare c =
     let bare = number_bare c.args.name.now c.utf8.name _ c.in-PID.ensures in (
-      (λ negative. bare.1 (inr (rw c.as_bytes-else-leads_bare.ensures.value at (c.begins_negative.ensures.0 negative)))),
+      (λ negative. bare.1 (inr (rw c.as_bytes-else-leads_bare.ensures.value at (c.begins_negative.ensures.0
+          negative)))),
       (λ same. elim (bare.0 same) [
         | inl lead ↦ absurd (no_truth ((rw c.as_bytes.ensures.value at c.if-leads_bare.ensures).1 lead))
         | inr negative ↦ (rw c.as_bytes-else-leads_bare.ensures.value at c.begins_negative.ensures).1 negative

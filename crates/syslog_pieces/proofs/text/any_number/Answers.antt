@@ -20,7 +20,8 @@ number_of_digits-requires c =
 
 pub returns-in_err-value : goal.returns-in_err-value
 returns-in_err-value c =
-    let n = number_stuck _ _ _ (split_at_end _ _ _ _ _ c.digits_end.ensures c.split_at-2.ensures.front c.split_at-2.ensures.back) 4294967295
+    let n = number_stuck _ _ _ (split_at_end _ _ _ _ _ c.digits_end.ensures c.split_at-2.ensures.front
+    c.split_at-2.ensures.back) 4294967295
     (λ some low. c.in_err-value.ensures (some, omega (arith, low))) in search rules
 
 pub returns : goal.returns

@@ -6,7 +6,8 @@ pub returns-in_default : goal.returns-in_default
 returns-in_default c = optional_none (spaced host) (no_spaced_space host c.in_default.ensures)
 
 pub returns-in-Some-host : goal.returns-in-Some-host
-returns-in-Some-host c = rw c.of.ensures (optional_some (spaced host) (spaced_front host c.in-Some.ensures c.in-Some-host.ensures))
+returns-in-Some-host c = rw c.of.ensures (optional_some (spaced host)
+    (spaced_front host c.in-Some.ensures c.in-Some-host.ensures))
 
 pub returns-in-None : goal.returns-in-None
 returns-in-None c = optional_none (spaced host) (no_spaced_piece host c.in-Some.ensures c.in-None.ensures)

@@ -3,7 +3,8 @@ use Rattle.syslog_loose.proofs.{ReadingLemmas.in_year_map, UnparsedLemmas.leaves
 use Rattle.syslog_strict.proofs.call.convert.Goals as goal
 
 pub returns-in_default : goal.returns-in_default
-returns-in_default g c = in_year_map (λ y none. (c.requires.other, ((λ e. none), (λ u. refl)))) c.in_default.ensures.reads
+returns-in_default g c = in_year_map (λ y none. (c.requires.other, ((λ e. none), (λ u. refl))))
+    c.in_default.ensures.reads
 
 pub returns-in-Ok : goal.returns-in-Ok
 returns-in-Ok g c =

@@ -19,6 +19,7 @@ returns c =
           (ap chars (c.in_ok-reserve.ensures.bytes ∙ c.clear.ensures.bytes) ∙ chars-nil)
           c.in_ok-push_front.ensures c.in_ok-push_char.ensures c.in_ok-push_host.ensures c.in_ok-push_char-2.ensures
           c.in_ok-push_word.ensures c.in_ok-push_char-3.ensures
-          c.in_ok-push_process.ensures c.in_ok-push_char-4.ensures c.in_ok-push_word-2.ensures c.in_ok-push_char-5.ensures c.in_ok-push_list.ensures c.in_ok-push_char-6.ensures e,
+          c.in_ok-push_process.ensures c.in_ok-push_char-4.ensures c.in_ok-push_word-2.ensures
+          c.in_ok-push_char-5.ensures c.in_ok-push_list.ensures c.in_ok-push_char-6.ensures e,
     ))
     (c.push_msg.ensures u same)

@@ -7,7 +7,8 @@ pub returns : goal.returns
 returns c =
     let (seen, has, e) = c.loop-element.invariant in
     appended c.push_to.result _ _ _ _
-    (joined_is _ seen has ∙ ap (λ es. joined_elements (joined_past [] es)) (all_of converted_element seen _ _ e c.in-None.ensures.steps.0))
+    (joined_is _ seen has ∙ ap (λ es. joined_elements (joined_past [] es))
+    (all_of converted_element seen _ _ e c.in-None.ensures.steps.0))
     c.push_to.ensures
 
 pub loop-element-preserved : goal.loop-element-preserved

@@ -6,5 +6,6 @@ pub returns-then-not-ends_in_colon : goal.returns-then-not-ends_in_colon
 returns-then-not-ends_in_colon c =
     let host = chars c.args.host.now in
     appended c.push_text.result _ _ _ _
-    (sym (host_stays host c.args.host.now c.if-is_no_text.ensures (c.if-is_kept.ensures.same refl) (c.if-is_kept.ensures.ascii refl)
+    (sym (host_stays host c.args.host.now c.if-is_no_text.ensures (c.if-is_kept.ensures.same refl)
+    (c.if-is_kept.ensures.ascii refl)
     (λ front e. c.if-not-ends_in_colon.ensures front (c.as_bytes.ensures.value ∙ e)))) c.push_text.ensures

@@ -5,4 +5,5 @@ use Rattle.syslog_strict.proofs.names.push_number.Goals as goal
 
 pub returns : goal.returns
 returns c = ap chars c.in_ok-write.ensures.bytes ∙ chars-append _ _ (IsUtf8-string_bytes c.args.out.now)
-    ∙ ap (λ x. text_in c.args.out.now ++ x) (chars-IsAscii _ (signed_ascii _) ∙ ap signed_decimal (to_z-of_z _ _ c.ranges.number))
+    ∙ ap (λ x. text_in c.args.out.now ++ x) (chars-IsAscii _ (signed_ascii _)
+    ∙ ap signed_decimal (to_z-of_z _ _ c.ranges.number))

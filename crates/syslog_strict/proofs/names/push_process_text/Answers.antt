@@ -13,10 +13,12 @@ returns-then-is_kept c =
 pub returns-in-PID : goal.returns-in-PID
 returns-in-PID c = appended c.push_number.result _ _ _ _
     (ap signed_decimal (to_z-of_z _ _ c.in-PID.ensures.1)
-    ∙ ap (λ p. process_text (converted_process p)) (process_same (chars c.args.word.now) (PID c.in-PID.number) _ c.in-PID.ensures (named_names (chars c.args.word.now))))
+    ∙ ap (λ p. process_text (converted_process p)) (process_same (chars c.args.word.now)
+    (PID c.in-PID.number) _ c.in-PID.ensures (named_names (chars c.args.word.now))))
     c.push_number.ensures
 
 pub returns-in-Name : goal.returns-in-Name
 returns-in-Name c = appended c.push_process_name.result _ _ _ _
-    (ap (λ p. process_text (converted_process p)) (process_same (chars c.args.word.now) (Name (chars c.in-Name.name.now)) _ c.in-Name.ensures (named_names (chars c.args.word.now))))
+    (ap (λ p. process_text (converted_process p)) (process_same (chars c.args.word.now)
+    (Name (chars c.in-Name.name.now)) _ c.in-Name.ensures (named_names (chars c.args.word.now))))
     c.push_process_name.ensures

@@ -13,5 +13,6 @@ pub returns : goal.returns
 returns c =
     let word = chars c.args.word.now in
     appended c.push_cleaned.result _ _ _ _
-    (sym (word_prints c.args.most word c.requires c.if-is_no_text.ensures (ap (text_eq word) (sym chars_colon) ∙ sym c.if-is_same_text.ensures)))
+    (sym (word_prints c.args.most word c.requires c.if-is_no_text.ensures
+    (ap (text_eq word) (sym chars_colon) ∙ sym c.if-is_same_text.ensures)))
     c.push_cleaned.ensures

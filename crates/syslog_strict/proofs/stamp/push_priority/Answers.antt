@@ -2,4 +2,5 @@ use Rattle.syslog_strict.proofs.{Words.IsUtf8-string_bytes, StampLemmas.priority
 use Rattle.syslog_strict.proofs.stamp.push_priority.Goals as goal
 
 pub returns : goal.returns
-returns c = written _ _ _ _ (IsUtf8-string_bytes c.args.out.now) c.in_ok-write.ensures.bytes (priority_chars c.args.priority)
+returns c = written _ _ _ _ (IsUtf8-string_bytes c.args.out.now) c.in_ok-write.ensures.bytes
+    (priority_chars c.args.priority)

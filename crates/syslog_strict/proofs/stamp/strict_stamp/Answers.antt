@@ -11,4 +11,5 @@ returns-in-Some c =
 pub returns-in-None : goal.returns-in-None
 returns-in-None c =
     let s = c.args.stamp.now in
-    utc_told s _ (c.in-None.ensures (cut_stamp s) (refl, refl)) (c.cut_at-in-None.ensures (in_utc (cut_stamp s)) (refl, refl))
+    utc_told s _ (c.in-None.ensures (cut_stamp s) (refl, refl))
+    (c.cut_at-in-None.ensures (in_utc (cut_stamp s)) (refl, refl))

@@ -1,4 +1,5 @@
-use Rattle.syslog_strict.proofs.Words.{◌≡◌, ℕ, [], ◌∷◌, ◌++◌, Some, None, refl, sym, ap, ◌∙◌, nat_eq, arith, nat_tests, Text, heads}
+use Rattle.syslog_strict.proofs.Words.{◌≡◌, ℕ, [], ◌∷◌, ◌++◌, Some, None, refl, sym, ap, ◌∙◌, nat_eq, arith}
+use Rattle.syslog_strict.proofs.Words.{nat_tests, Text, heads}
 use Rattle.std.specs.Prelude.{◌↔◌, IsTrue}
 use Rattle.syslog_pieces.specs.Pieces.Class.{optional, rest, spaced}
 use Rattle.syslog_strict.specs.Grammar.{IsAll}
@@ -6,7 +7,14 @@ use Rattle.syslog_strict.proofs.valid.is_spaced_msg.Goals as goal
 
 spaced_is : (t : Text) (c : ℕ) (more : Text) → t ≡ c ∷ more → IsTrue (nat_eq c 32) ↔ IsAll (optional (spaced rest)) t
 spaced_is t c more e = (
-  (λ h. (Some more, (more, (let same : c ≡ 32 = grind (arith, nat_tests) in e ∙ ap (λ (x : ℕ). x ∷ more) same), (refl, refl)))),
+  (λ h. (
+    Some more,
+    (
+      more,
+      (let same : c ≡ 32 = grind (arith, nat_tests) in e ∙ ap (λ (x : ℕ). x ∷ more) same),
+      (refl, refl),
+    ),
+  )),
   (λ (v, is). back v is),
 )
   where
@@ -18,5 +26,14 @@ pub returns-in-Some : goal.returns-in-Some
 returns-in-Some c = spaced_is _ c.in-Some.c _ c.in-Some.ensures.0
 
 pub returns-in-None : goal.returns-in-None
-returns-in-None c =
-    ((λ h. (None, (c.in-None.ensures, (λ p q v e (u, f, h). let w : [] ≡ 32 ∷ (u ++ q) = e ∙ ap (λ (x : Text). x ++ q) f in cc)))), (λ h. refl))
+returns-in-None c = (
+  (λ h. (
+    None,
+    (
+      c.in-None.ensures,
+      (λ p q v e (u, f, h). let w : [] ≡ 32 ∷ (u ++ q) = e
+          ∙ ap (λ (x : Text). x ++ q) f in cc),
+    ),
+  )),
+  (λ h. refl),
+)

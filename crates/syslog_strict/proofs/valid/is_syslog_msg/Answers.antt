@@ -1,7 +1,9 @@
 use Rattle.syslog_strict.proofs.Words.{[], ◌∷◌, ◌++◌, refl, sym, append-nil, Text, Front}
 use Rattle.std.specs.Prelude.{◌↔◌}
-use Rattle.syslog_pieces.proofs.PieceLemmas.Class.{◌then◌, division_front, false_is, front_division, front_of, nil_front}
-use Rattle.syslog_pieces.proofs.PieceLemmas.Class.{no_front_no, row_head, row_none_here, row_of, rows_join, rows_none_here}
+use Rattle.syslog_pieces.proofs.PieceLemmas.Class.{◌then◌, division_front, false_is, front_division, front_of}
+use Rattle.syslog_pieces.proofs.PieceLemmas.Class.{nil_front}
+use Rattle.syslog_pieces.proofs.PieceLemmas.Class.{no_front_no, row_head, row_none_here, row_of, rows_join}
+use Rattle.syslog_pieces.proofs.PieceLemmas.Class.{rows_none_here}
 use Rattle.syslog_pieces.proofs.PieceLemmas.Class.{rows_none_later, rows_step, step}
 use Rattle.syslog_pieces.proofs.PieceLemmas.Rules.{all_of}
 use Rattle.syslog_pieces.specs.Pieces.Class.{NoFront, Row, Values, optional, rest, spaced}
@@ -13,14 +15,16 @@ no_msg : {text : Text} → NoFront (Row (header ++ body)) text → IsSyslogMsg t
 no_msg n m = no_front_no (Row (header ++ body)) n (division_front (header ++ body) m.division)
 
 -- after the header and the structured data
-msg_is : (text u t : Text) (vs : Values header) (v : structured_data.Value) → Front (Row header) text u vs → Front structured_data u t v
+msg_is : (text u t : Text) (vs : Values header) (v : structured_data.Value) → Front (Row header) text u vs
+    → Front structured_data u t v
     → IsAll (optional (spaced rest)) t ↔ IsSyslogMsg text
 msg_is text u t vs v f g = (
   (λ (w, is). (let last : Front (optional (spaced rest)) t [] w = front_of t (sym (append-nil t)) is in
       let whole = rows_join header body f (row_of body (g then last then refl)) in
       record { values = _; division = front_division (header ++ body) whole })),
   (λ m. (let (_, at) = rows_step header body header_det f (division_front (header ++ body) m.division) in
-      let (q, h, end) = row_head (optional (spaced rest)) [] (step structured_data (optional (spaced rest) ∷ []) data_det g at) in
+      let (q, h, end) = row_head (optional (spaced rest)) []
+      (step structured_data (optional (spaced rest) ∷ []) data_det g at) in
       (_, all_of h (nil_front end)))),
 )
 
@@ -37,4 +41,5 @@ returns-in-Some-structured_data c =
 
 pub returns-in-None : goal.returns-in-None
 returns-in-None c = let (vs, f) = c.in-Some.ensures in
-    false_is (no_msg (rows_none_later header body header_det f (row_none_here structured_data (optional (spaced rest) ∷ []) c.in-None.ensures)))
+    false_is (no_msg (rows_none_later header body header_det f
+    (row_none_here structured_data (optional (spaced rest) ∷ []) c.in-None.ensures)))

@@ -7,7 +7,8 @@ use std::process::Abort;
 use syslog_loose::{IncompleteDate, Line, Variant, parse_line};
 use syslog_object::line_object;
 
-/// Lines with their objects: without elements and with one, with more, with many, and with ids and names that come again.
+/// Lines with their objects: without elements and with one, with more, with many, and with ids and names that come
+/// again.
 const OBJECTS: [&str; 7] = [
     "<34>Oct 11 22:14:15 h app[3]: a \"b\"\
      ¦{\"protocol\":\"RFC3164\",\"facility\":\"auth\",\"facility_code\":4,\"severity\":\"crit\",\"severity_code\":2,\

@@ -14,7 +14,8 @@ returns-in_ok-write-in-Some-clause-ok c =
       (
         _,
         only_read c.args.self.now _ _ (c.utf8.line, (_, m, u, read, leaves u left, refl)),
-        read_as _ _ (subst (λ (o : Option Text). IsTextOf (message_json m (beside_line dialect u o)) bytes) (search rules)
+        read_as _ _ (subst (λ (o : Option Text). IsTextOf (message_json m (beside_line dialect u o)) bytes)
+            (search rules)
             (rw c.dialect_name-dialect.ensures at text)),
       ),
       added,

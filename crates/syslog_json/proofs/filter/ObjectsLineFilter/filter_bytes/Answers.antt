@@ -19,7 +19,8 @@ returns-clause-ok c =
           (λ on. ap (λ o. o.items) w.object-is)
     ] in
     let text = c.as_str.ensures.value ∙ c.in_ok-text.ensures.text in
-    let (other, is, bytes, kept) = invalid_answer filter c.args.line.now _ answer c.requires text c.as_str.utf8 given in (
+    let (other, is, bytes, kept) = invalid_answer filter c.args.line.now _ answer c.requires text c.as_str.utf8
+    given in (
       other,
       is,
       (rw c.as_slice.ensures.value at c.in_ok-extend_from_slice.ensures.items)

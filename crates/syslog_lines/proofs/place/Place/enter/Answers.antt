@@ -4,7 +4,8 @@ use Rattle.syslog_lines.proofs.EnterLemmas.{stays_octets}
 use Rattle.syslog_lines.proofs.place.Place.enter.Goals as goal
 
 pub returns-in-Head : goal.returns-in-Head
-returns-in-Head c = rw c.in-Head.is (enters_head c.args.frames _ c.args.bytes.now c.args.tally.now _ c.pass_mark.ensures)
+returns-in-Head c = rw c.in-Head.is (enters_head c.args.frames _ c.args.bytes.now
+    c.args.tally.now _ c.pass_mark.ensures)
 
 pub returns-in-Frame : goal.returns-in-Frame
 returns-in-Frame c = rw c.in-Frame.is (enters_frame c.args.frames c.args.bytes.now c.args.seen c.args.tally.now
@@ -13,7 +14,8 @@ returns-in-Frame c = rw c.in-Frame.is (enters_frame c.args.frames c.args.bytes.n
 pub returns-in-Some : goal.returns-in-Some
 returns-in-Some c =
     let (first, last) = rw c.ending.ensures at c.in-Some.ensures in
-    rw c.in-Ending.is (enters_ended c.args.frames c.args.bytes.now _ _ _ c.end_long.ensures.place c.end_long.ensures.counted
+    rw c.in-Ending.is (enters_ended c.args.frames c.args.bytes.now _ _ _ c.end_long.ensures.place
+    c.end_long.ensures.counted
     c.in-Some.end _ first last c.end_long.ensures.entry)
 
 pub returns-in-None : goal.returns-in-None
@@ -28,4 +30,5 @@ pub returns-in-Octets-2 : goal.returns-in-Octets-2
 returns-in-Octets-2 c =
     let same : c.in-Octets-2.left ≡ c.in-Octets.left = cc (c.in-Octets-2.is, c.in-Octets.is) in
     rw c.in-Octets-2.is (enters_octets c.args.frames c.args.bytes.now _ _ _ c.end_long-in-Octets-2.ensures.place
-    c.end_long-in-Octets-2.ensures.counted c.in-Octets-2.left _ (omega (arith, same)) c.end_long-in-Octets-2.ensures.entry)
+    c.end_long-in-Octets-2.ensures.counted c.in-Octets-2.left _ (omega (arith, same))
+    c.end_long-in-Octets-2.ensures.entry)

@@ -7,4 +7,5 @@ pub returns-in-Some-clause-text : goal.returns-in-Some-clause-text
 unfolding printed_stamp
 returns-in-Some-clause-text c =
     let clock = c.in-Some.stamp in
-    rw (c.in-Some.is) (rw (shows_fields clock.fields _ clock.offset.seconds clock.civil refl) c.push_fields.ensures.text)
+    rw (c.in-Some.is) (rw (shows_fields clock.fields _ clock.offset.seconds clock.civil refl)
+    c.push_fields.ensures.text)

@@ -1,5 +1,6 @@
 use Rattle.syslog_pieces.proofs.Names.{meets_none}
-use Rattle.syslog_pieces.proofs.StructuredDataLemmas.Closing.{unescaped_plain, past_run, value_quoted, value_on, unit_after}
+use Rattle.syslog_pieces.proofs.StructuredDataLemmas.Closing.{unescaped_plain, past_run, value_quoted, value_on}
+use Rattle.syslog_pieces.proofs.StructuredDataLemmas.Closing.{unit_after}
 use Rattle.syslog_pieces.proofs.structured_data.recognise.after_value.Goals as goal
 
 pub returns-in-Some : goal.returns-in-Some

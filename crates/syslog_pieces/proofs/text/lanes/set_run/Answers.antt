@@ -9,5 +9,6 @@ returns c =
     let range = joined _ (lanes _ _) (splat _) in
     let is = λ (x k : ℕ). nat_eq x (slice_index set.2 k) in
     let within = λ (x first count : ℕ). nat_lt ((x + (256 - first)) % 256) count in
-    run_in c.requires c.first_set.ensures (joined _ (joined _ (joined _ range more) (splat _)) (joined _ (lanes _ _) (splat _)))
+    run_in c.requires c.first_set.ensures (joined _ (joined _ (joined _ range more) (splat _))
+    (joined _ (lanes _ _) (splat _)))
     (λ x. mask_tests (within x set.0 set.1) (is x 0) (is x 1) (is x 2) set.3 (within x c.args.lowest c.args.width))

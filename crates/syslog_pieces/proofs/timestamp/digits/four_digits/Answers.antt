@@ -11,5 +11,6 @@ pub returns-in_err-year : goal.returns-in_err-year
 returns-in_err-year c =
     let g = c.in_ok-century.ensures in
     let front = rw g.is.0 at g.whole in
-    let n : NoFront year c.args.text.now = λ p q v e h. (let whole = rw h.0 at e in c.in_err-year.ensures (pad2 (v % 100))
+    let n : NoFront year c.args.text.now = λ p q v e h. (let whole = rw h.0 at e in
+    c.in_err-year.ensures (pad2 (v % 100))
     q (v % 100) (cc) (refl, omega arith)) in search rules

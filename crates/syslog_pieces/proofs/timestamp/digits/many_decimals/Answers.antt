@@ -33,5 +33,6 @@ returns c =
     let none = at_drop_all (fraction_value (9 - c.digits.byte-index)) _ _ c.digits-test.false ∙ fraction_value-nil _ in
     let value : c.digits.nanosecond ≡ fraction_value 9 c.split_at.result.0.now =
     omega (arith, none, c.digits.invariant.2) in
-    all_decimals _ _ _ _ _ c.digits_len-len.ensures.len (omega (arith, c.split_at.ensures.front_len)) c.split_at.ensures.front
+    all_decimals _ _ _ _ _ c.digits_len-len.ensures.len (omega (arith, c.split_at.ensures.front_len))
+    c.split_at.ensures.front
     c.split_at.ensures.back value

@@ -44,6 +44,9 @@ pub returns : goal.returns
 returns c = let (es, some, r, h) = c.elements.invariant.1 in
     let n = c.in_default.ensures.reads in (
       es,
-      such_front (many sd_element) AreElements (runs_all r n)
-          (some, subst (λ (x : List ElementValue). AreDistinct (ids_of x)) (append-nil es) (h _ [] (many_here sd_element _ n) tt)),
+      such_front (many sd_element) AreElements (runs_all r n) (
+        some,
+        subst (λ (x : List ElementValue). AreDistinct (ids_of x)) (append-nil es)
+            (h _ [] (many_here sd_element _ n) tt),
+      ),
     )

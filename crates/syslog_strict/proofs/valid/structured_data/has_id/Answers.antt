@@ -1,4 +1,5 @@
-use Rattle.syslog_strict.proofs.Words.{◌≡◌, refl, sym, ap, ◌∙◌, ◌||◌, Bool, true, false, List, ElementValue, Front, Text}
+use Rattle.syslog_strict.proofs.Words.{◌≡◌, refl, sym, ap, ◌∙◌, ◌||◌, Bool, true, false, List, ElementValue, Front}
+use Rattle.syslog_strict.proofs.Words.{Text}
 use Rattle.syslog_strict.proofs.Words.{chars, is_among, text_eq}
 use Rattle.syslog_pieces.specs.Pieces.Lists.{many}
 use Rattle.syslog_pieces.proofs.PieceLemmas.Rules.{many_left, none_left}
@@ -9,7 +10,8 @@ use Rattle.syslog_strict.proofs.valid.structured_data.has_id.Goals as goal
 -- whether the id is among the elements that are left, by the first of them
 among_left : {t u q : Text} (id other : Text) (b : Bool) (us : List ElementValue) {e : ElementValue} → e.id ≡ other
     → Front sd_element t u e → b ≡ text_eq other id → Front (many sd_element) t q us
-    → (ws : List ElementValue) × Front (many sd_element) u q ws × (is_among id (ids_of us) ≡ (b || is_among id (ids_of ws)))
+    → (ws : List ElementValue) × Front (many sd_element) u q ws
+    × (is_among id (ids_of us) ≡ (b || is_among id (ids_of ws)))
 among_left id other b us same f h g =
     let (ws, e, more) = many_left element_det us f g in (
       ws,
@@ -44,4 +46,5 @@ elements-smaller c = let (e, is, f) = c.in-Some.ensures.reads in element_shorter
 pub returns : goal.returns
 returns c = λ q es g.
     let (us, h, same) = c.elements.invariant.1 q es g in
-    sym (same ∙ ap (λ (x : List ElementValue). is_among (chars c.args.id.now) (ids_of x)) (none_left us c.in_default.ensures.reads h))
+    sym (same ∙ ap (λ (x : List ElementValue). is_among (chars c.args.id.now) (ids_of x))
+    (none_left us c.in_default.ensures.reads h))

@@ -7,7 +7,8 @@ use Rattle.syslog_strict.specs.Grammar.{value_unit}
 use Rattle.syslog_strict.proofs.valid.structured_data.param_value.Given as goal
 
 abbrev pub invariant-units : goal.invariant-units
-invariant-units l = shadow (Utf8 l.rest) × ((units : List TextUnit) × Runs value_unit (chars l.text) units (chars l.rest))
+invariant-units l = shadow (Utf8 l.rest) × ((units : List TextUnit)
+    × Runs value_unit (chars l.text) units (chars l.rest))
 
 abbrev pub decreases-units : goal.decreases-units
 decreases-units l = length (chars l.rest)

@@ -7,7 +7,8 @@ use Rattle.syslog_strict.specs.Grammar.{sd_param}
 use Rattle.syslog_strict.proofs.valid.structured_data.params.Given as goal
 
 abbrev pub invariant-params : goal.invariant-params
-invariant-params l = shadow (Utf8 l.rest) × ((ps : List (Text × Text)) × Runs (spaced sd_param) (chars l.text) ps (chars l.rest))
+invariant-params l = shadow (Utf8 l.rest) × ((ps : List (Text × Text))
+    × Runs (spaced sd_param) (chars l.text) ps (chars l.rest))
 
 abbrev pub decreases-params : goal.decreases-params
 decreases-params l = length (chars l.rest)

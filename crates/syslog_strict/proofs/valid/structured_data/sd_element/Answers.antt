@@ -7,16 +7,19 @@ use Rattle.syslog_strict.proofs.valid.structured_data.sd_element.Goals as goal
 
 pub returns-in_err-after_bracket-clause-reads : goal.returns-in_err-after_bracket-clause-reads
 returns-in_err-after_bracket-clause-reads c = rw c.from_residual.ensures
-    (no_mapped (Row element_row) ElementValue element_of (no_row element_row element_row_det (inl c.in_err-after_bracket.ensures)))
+    (no_mapped (Row element_row) ElementValue element_of
+    (no_row element_row element_row_det (inl c.in_err-after_bracket.ensures)))
 
 pub returns-in_err-id-clause-reads : goal.returns-in_err-id-clause-reads
 returns-in_err-id-clause-reads c = rw c.from_residual-in_err-id.ensures
-    (no_mapped (Row element_row) ElementValue element_of (no_row element_row element_row_det (c.in_ok-after_bracket.ensures
+    (no_mapped (Row element_row) ElementValue element_of
+    (no_row element_row element_row_det (c.in_ok-after_bracket.ensures
     past inl c.in_err-id.ensures)))
 
 pub returns-in_err-rest-clause-reads : goal.returns-in_err-rest-clause-reads
 returns-in_err-rest-clause-reads c = rw c.from_residual-in_err-rest.ensures
-    (no_mapped (Row element_row) ElementValue element_of (no_row element_row element_row_det (c.in_ok-after_bracket.ensures
+    (no_mapped (Row element_row) ElementValue element_of
+    (no_row element_row element_row_det (c.in_ok-after_bracket.ensures
     past c.in_ok-id.ensures past c.params.ensures.1 past inl c.in_err-rest.ensures.reads)))
 
 pub returns-clause-reads : goal.returns-clause-reads

@@ -9,4 +9,5 @@ pub returns-in-Ok : goal.returns-in-Ok
 returns-in-Ok c = second_of nilvalue sd_elements c.in-Ok.read c.in_default.ensures c.in-Ok.ensures
 
 pub returns-in-Err : goal.returns-in-Err
-returns-in-Err c = second_of nilvalue sd_elements c.elements_by_pairs.result c.in_default.ensures c.elements_by_pairs.ensures
+returns-in-Err c = second_of nilvalue sd_elements c.elements_by_pairs.result c.in_default.ensures
+    c.elements_by_pairs.ensures

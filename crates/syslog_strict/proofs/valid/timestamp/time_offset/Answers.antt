@@ -8,4 +8,5 @@ pub returns-in-Some : goal.returns-in-Some
 returns-in-Some c = first_of c.in-Some.ensures
 
 pub returns-in-None : goal.returns-in-None
-returns-in-None c = second_of (exactly (90 ∷ [])) (Row time_numoffset) c.time_numoffset.result c.in-None.ensures c.time_numoffset.ensures
+returns-in-None c = second_of (exactly (90 ∷ [])) (Row time_numoffset) c.time_numoffset.result c.in-None.ensures
+    c.time_numoffset.ensures
