@@ -1,4 +1,4 @@
--- What the call wrote for a line, by the dating of the line, and the answer to a line that is not UTF-8.
+-- What the call wrote for a line, by the dating of the line, and what the filter gives for a line that is not UTF-8.
 use Rattle.std.proofs.Common.{◌≡◌, ◌⊎◌, inl, inr, ℕ, ℤ, Bool, List, Result, Ok, Err, refl, sym, ◌∙◌}
 use Rattle.std.specs.declared.alloc.AllocError.{AllocError}
 use Rattle.std.specs.Prelude.{◌↔◌, IfOk, IsUtf8, MatchResult}

@@ -24,7 +24,7 @@ abbrev pub IsRefused : Conversions → Text → Type 0
 IsRefused filter input = NoSyslogMsg input × IsDated filter.dates Either input
     (λ dating. IsUnreadable Either dating input)
 
--- the answer to a text: what is written for it, encoded, or nothing where it is refused
+-- what the filter gives for a text: what is written for it, encoded, or nothing if it is refused
 abbrev pub IsConversion : Conversions → List ℕ → Answer → Type 0
 IsConversion filter line (Written bytes) = (text : Text) × IsSyslogMsg text × IsWritten filter (chars line) text
     × (bytes ≡ encode_utf8_all text)
@@ -32,7 +32,8 @@ IsConversion filter line (Marked bytes) = ⊥
 IsConversion filter line Omitted = IsRefused filter (chars line)
 IsConversion filter line Unasked = ⊥
 
--- the answer to a line: that to the text that it is taken for, which is another one where the line is not UTF-8
+-- what the filter gives for a line: that for the text that the line is decoded to, which is another one if the line is
+-- not UTF-8
 abbrev pub IsLineConversion : Conversions → List ℕ → Answer → Type 0
 IsLineConversion filter line answer =
     (text : List ℕ) × AreTakenFor filter.latin1 line text × IsConversion filter text answer

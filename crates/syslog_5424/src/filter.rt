@@ -16,17 +16,19 @@ use syslog_loose::{Dates, IncompleteDate, ParseFault, Variant};
 use syslog_strict::to_rfc5424_into;
 use syslog_utf8::decode;
 
-/// Reads lines to the end of the input, and writes each as RFC 5424, read by the dates: a line that is in the grammar
-/// as it came, and otherwise its message, converted. A line that is neither in the grammar nor a message is left out
-/// and counted as refused. A line that is not UTF-8 is taken for a text: as ISO 8859-1, or with U+FFFD for each part
-/// that is no UTF-8.
+/// Reads lines to the end of the input, and writes each as RFC 5424: a line that is in the grammar as it came, and
+/// otherwise its message, converted, with its dates completed by `dates`. A line that is neither in the grammar nor a
+/// message is left out and counted as refused. A line that is not UTF-8 is first decoded: as ISO 8859-1, or with U+FFFD
+/// for each part that is not UTF-8.
 ///
 /// Each line written is in the grammar of RFC 5424, and a converted one is parsed as the converted message. The output
-/// of each block of input is written before more is read, and the writer is flushed at the end. Nothing is tried again.
-/// After `RunFault::Read` the output of each complete line that was read was written. After `RunFault::Memory` so it
-/// was, if the allocation that failed was for a block, before anything was read or for a line that takes a whole one.
-/// If it was for a line, the output of each line before it was written. After `RunFault::Write` a beginning of the
-/// output was written. It takes memory for a block of input, its output, and the longest line.
+/// of each block of input is written before more is read, and the writer is flushed at the end. A call that failed is
+/// not repeated. It allocates a block of input, its output, and the longest line.
+///
+/// - After `RunFault::Read` the output of each complete line that was read was written.
+/// - After `RunFault::Memory` it was too, if the allocation that failed was for a block: before anything was read, or
+///   for a line that takes a whole block. If it was for a line, the output of each line before it was written.
+/// - After `RunFault::Write` a prefix of the output was written.
 pub fn write_converted<R: Read, W: Write>(
     alloc: Global,
     frames: Frames,
@@ -48,12 +50,12 @@ pub fn write_converted<R: Read, W: Write>(
     Ok(tally.counts(filter.latin1))
 }
 
-/// Writes each line as RFC 5424.
+/// The filter that writes each line as RFC 5424.
 #[derive(Drop)]
 pub struct Conversions {
-    /// Whether a line that is not UTF-8 is read as ISO 8859-1.
+    /// Whether a line that is not UTF-8 is decoded as ISO 8859-1.
     pub latin1: bool,
-    /// How dates that show no year or no zone are taken.
+    /// How dates that show no year or no zone are completed.
     pub dates: Dates,
 }
 

@@ -1,9 +1,8 @@
-//! Writes each syslog line of standard input that is a message to standard output as RFC 5424, by the letter of its
-//! grammar.
+//! Writes each syslog line of standard input that is a message to standard output as RFC 5424, in the strict grammar of
+//! its section 6.
 //!
-//! `syslog_5424 2019` writes the line `<34>Oct 11 22:14:15 mymachine app[323]: a message` as
-//! `<34>1 2019-10-11T22:14:15+00:00 mymachine app 323 - - a message`. A line that is no message is left out
-//! and counted.
+//! `syslog_5424 2019` writes the line `<34>Oct 11 22:14:15 mymachine app[323]: a message` as `<34>1
+//! 2019-10-11T22:14:15+00:00 mymachine app 323 - - a message`. A line that is no message is left out and counted.
 #![tactic(auto)]
 
 mod filter;

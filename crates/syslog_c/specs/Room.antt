@@ -1,4 +1,4 @@
--- What a call leaves in room of the caller's, and as the length that is needed.
+-- What a call leaves in a buffer of the caller's, and as the length that is needed.
 use Rattle.std.specs.Prelude.{◌≡◌, ◌⊎◌, ℕ, ◌<◌, ◌≤◌, ◌^◌, ◌-◌, List, ◌++◌, length, drop, min}
 use Rattle.std.specs.Str.{chars, IsUtf8}
 use Rattle.syslog_pieces.specs.Pieces.Class.{Text}
@@ -12,8 +12,8 @@ use Rattle.syslog_c.specs.declared.outcome.Outcome.TheVariants.{Done, NoReading,
 abbrev pub told_length : List ℕ → ℕ
 told_length bytes = min (length bytes) (2 ^ 64 - 1)
 
--- The length of the bytes is reported. They are at the front of the room, and what follows is as it was; or the room is
--- too small for them.
+-- The length of the bytes is reported. They are at the front of the buffer, and what follows is as it was; or the
+-- buffer is too small for them.
 abbrev pub Puts : List ℕ → List ℕ → List ℕ → ℕ → Outcome → Type 0
 Puts bytes old new needed Done = (needed ≡ length bytes) × (length bytes ≤ length new)
     × (new ≡ bytes ++ drop (length bytes) old)
@@ -40,7 +40,7 @@ TellsLength buffer needed outcome = (needed ≡ buffer.needed) × (length buffer
     × (((outcome ≡ Done) × (buffer.needed ≤ length buffer.room.now))
     ⊎ ((outcome ≡ NoRoom) × (length buffer.room.now < buffer.needed)))
 
--- the room is as it was, and the length is reported as 0
+-- the buffer is as it was, and the length is reported as 0
 abbrev pub IsLeft : List ℕ → List ℕ → ℕ → Type 0
 IsLeft old new needed = (new ≡ old) × (needed ≡ 0)
 
@@ -49,6 +49,6 @@ abbrev pub fault_outcome : ParseFault → Outcome
 fault_outcome Invalid = NoReading
 fault_outcome Memory = NoMemory
 
--- the fault is the outcome, and the room is as it was
+-- the fault is the outcome, and the buffer is as it was
 abbrev pub IsLeftFor : ParseFault → List ℕ → List ℕ → ℕ → Outcome → Type 0
 IsLeftFor fault old new needed outcome = (outcome ≡ fault_outcome fault) × IsLeft old new needed

@@ -38,8 +38,8 @@ pub record IsRow (options : Options) (row : Row) (line : List ℕ) : Type 0 wher
   pub read : IsCodeOf row.outcome (λ outcome. OnLine options line outcome (row.fields ≡ blank)
       (λ rules dating text. TellsFields rules dating text blank row.fields outcome))
 
--- The lines of the buffer have a row each, in order, and the rows after them are as they were; or there are more lines
--- than rows, and each row has one of the first lines; or the options mean nothing, and all is as it was.
+-- The lines of the buffer have a row each, in order, and the rows after them are as they were. Or there are more lines
+-- than rows, and each row has one of the first lines. Or the options mean nothing, and all is as it was.
 abbrev pub ReadsLines : Options → List ℕ → List Row → List Row → ℕ → Outcome → Type 0
 ReadsLines options buffer old new read Done = IsTaken options × ((lines : List (List ℕ)) × IsLines buffer lines
     × (read ≡ length lines) × IsBegun (IsRow options) lines old new)

@@ -49,7 +49,7 @@ pub record IsShownSent (rules : Rules) (dating : Dating) (text : Chars) (dialect
   pub shows_year : s.shows_year ≡ flag_number year
   pub shows_offset : s.shows_offset ≡ flag_number offset
 
--- the same of a text that is read in a dialect or in none
+-- the timestamp says what the text shows of its date, for a text that is read in a dialect or in none
 abbrev pub IsShownIn : Rules → Dating → Chars → Option Dialect → MessageValue → Stamp → Type 0
 IsShownIn rules dating text None m s = IsShown text s
 IsShownIn rules dating text (Some dialect) m s = IsShownSent rules dating text dialect m s

@@ -27,20 +27,20 @@ pub record IsSettledText (variant : Variant) (dating : Dating) (text : Text) (by
   pub utf8 : IsUtf8 bytes
   pub settles : SettlesAs variant dating text (chars bytes)
 
--- why there is none: it is never settled, or memory was refused
+-- why there is none: it is never settled, or an allocation failed
 abbrev pub SettlesNot : Variant → Dating → Text → Outcome → Type 0
 SettlesNot variant dating text NoReading = IsSettlingFault variant dating text Invalid
 SettlesNot variant dating text NoMemory = IsSettlingFault variant dating text Memory
 SettlesNot variant dating text outcome = ⊥
 
--- the first settled round, in the room or with its length alone; or there is none, and all is as it was
+-- the first settled round, in the buffer or with its length alone; or there is none, and all is as it was
 abbrev pub Settled : Variant → Dating → Text → List ℕ → List ℕ → ℕ → Outcome → Type 0
 Settled variant dating text old new needed outcome =
     ((bytes : List ℕ) × IsSettledText variant dating text bytes × Puts bytes old new needed outcome)
     ⊎ (SettlesNot variant dating text outcome × IsLeft old new needed)
 
--- the printed text of the one message as which the text is read, in the room or with its length alone; or there is no
--- message, and all is as it was
+-- The printed text of the one message as which the text is read is in the buffer, or its length alone is reported. Or
+-- there is no message, and all is as it was.
 abbrev pub Normalised : Variant → Dating → Text → List ℕ → List ℕ → ℕ → Outcome → Type 0
 Normalised variant dating text old new needed outcome =
     ((m : MessageValue) × IsOnlyRead variant dating text m
@@ -51,8 +51,8 @@ Normalised variant dating text old new needed outcome =
 abbrev pub raw_text : ℕ → Text → Option Text
 raw_text raw text = if nat_eq raw 0 then None else Some text
 
--- the text of the message's object, with what is left unparsed of structured data, in the buffer or with its length
--- alone; or no memory, and all is as it was
+-- The text of the message's object, with what is left unparsed of structured data, is in the buffer, or its length
+-- alone is reported. Or an allocation failed, and all is as it was.
 abbrev pub PutsObject : Option Dialect → MessageValue → (Text → Type 0) → Option Text → List ℕ → List ℕ → ℕ → Outcome
     → Type 0
 PutsObject dialect m Unparsed raw old new needed outcome =
@@ -61,8 +61,8 @@ PutsObject dialect m Unparsed raw old new needed outcome =
     × Puts bytes old new needed outcome))
     ⊎ ((outcome ≡ NoMemory) × IsLeft old new needed)
 
--- so it is for the one message as which the text is read, in one dialect or none; or there is no message, and all is as
--- it was
+-- the object is written for the one message as which the text is read, in one dialect or none; or there is no message,
+-- and all is as it was
 abbrev pub WritesObject : ℕ → Rules → Dating → Text → List ℕ → List ℕ → ℕ → Outcome → Type 0
 WritesObject raw rules dating text old new needed outcome =
     ((dialect : Option Dialect) × (m : MessageValue) × IsOnlyMeant rules dating text dialect m
@@ -75,7 +75,7 @@ pub record IsUnescapedValue (value bytes : List ℕ) : Type 0 where
   pub utf8 : IsUtf8 bytes
   pub unescaped : IsUnescaped (chars value) (chars bytes)
 
--- them, in the room or with their length alone; or the value is no UTF-8, and all is as it was
+-- these bytes are in the buffer, or their length alone is reported; or the value is not UTF-8, and all is as it was
 abbrev pub Unescaped : List ℕ → List ℕ → List ℕ → ℕ → Outcome → Type 0
 Unescaped value old new needed outcome =
     ((bytes : List ℕ) × IsUnescapedValue value bytes × Puts bytes old new needed outcome)

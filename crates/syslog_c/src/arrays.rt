@@ -1,4 +1,4 @@
-//! The caller's arrays, into which the elements of a line and their parameters are put while the line is read.
+//! The caller's arrays, into which the elements of a line and their parameters are written while the line is read.
 ghost use Rattle.std.specs.Prelude.{◌≡◌, ◌+◌, ◌<◌, ◌≤◌, MatchBool, length, map};
 ghost use Rattle.syslog_pieces.specs.Pieces.View.{shown};
 ghost use Rattle.syslog_pieces.specs.StructuredData.Collected.{HasNoted};
@@ -12,20 +12,20 @@ use crate::tell::text_of;
 use syslog_pieces::structured_data as data;
 use syslog_pieces::structured_data::{ElementVisitor, FewParams};
 
-/// Puts the elements that it is given into arrays of the caller's, and their parameters. What does not fit is left out:
-/// then there are more elements, or more parameters, than an array has places.
+/// The visitor that writes elements and their parameters into the caller's arrays. What does not fit is left out: then
+/// `count` or `filled` is less than the number in the line.
 #[derive(Drop)]
 pub(crate) struct Arrays<'a, 'r> {
     pub(crate) elements: &'r mut [Element<'a>],
     pub(crate) params: &'r mut [Param<'a>],
-    /// How many elements were put.
+    /// How many elements were written.
     pub(crate) count: usize,
-    /// How many parameters were put.
+    /// How many parameters were written.
     pub(crate) filled: usize,
 }
 
 impl<'a, 'r> Arrays<'a, 'r> {
-    /// Whether the arrays have places for so many elements and parameters.
+    /// Whether the arrays have space for so many elements and parameters.
     #[inline(always)]
     pub(crate) fn have_space(&self, elements: usize, params: usize) -> bool
         ensures { MatchBool result
@@ -35,7 +35,7 @@ impl<'a, 'r> Arrays<'a, 'r> {
         elements <= self.elements.len() && params <= self.params.len()
     }
 
-    // Whether one more element has a place, and so many parameters more.
+    // Whether there is space for one more element, and so many more parameters.
     #[inline(always)]
     fn have_places(&self, params: usize) -> bool
         ensures { MatchBool result
@@ -80,7 +80,7 @@ fn element_of<'a>(element: &data::Element<'a>) -> Element<'a>
     }
 }
 
-// Puts the parameters of an element at the front of the array, from its notes where these have all.
+// Writes the parameters of an element to the front of the array, from its notes if these have all of them.
 #[inline(always)]
 fn put_params<'a>(element: &data::Element<'a>, notes: &FewParams<'a>, array: &mut [Param<'a>])
     requires noted { HasNoted notes.now (element_seen element.now).params }

@@ -8,8 +8,8 @@ use crate::options::Options;
 use crate::outcome::Outcome;
 use crate::read_line::read_line;
 
-/// Sets `canonical` to 1 if the line's message is read back from its printed text as that very message, and otherwise
-/// to 0. No memory is taken.
+/// Sets `canonical` to 1 if the line's message is read back from its printed text as the same message, and otherwise to
+/// 0. Nothing is allocated.
 #[unsafe(no_mangle)]
 pub extern "C" fn syslog_is_canonical(line: &[u8], options: &Options, canonical: &mut u32) -> u32
     ensures { IsCodeOf result (λ outcome. OnLine options.now line.now outcome (canonical.new ≡ 0)

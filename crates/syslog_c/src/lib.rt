@@ -1,9 +1,9 @@
 //! The calls of `syslog_loose` for C: a static library with one export for each. `include/syslog_loose.h` declares
 //! them.
 //!
-//! Where `line` is `<34>Mar  2 06:35:05 gateway dropbear[2310]: Exit`, of 48 bytes, and the year of the options is
-//! 2026, the call `syslog_read(line, 48, &options, &m, &element, 1, &param, 1)` returns `SYSLOG_DONE`: then
-//! `m.facility` is 4, `m.severity` is 2, `m.host` has the bytes `gateway`, and `m.timestamp.seconds` is 1772433305.
+//! Let `line` be `<34>Mar  2 06:35:05 gateway dropbear[2310]: Exit`, of 48 bytes, and the year of the options 2026.
+//! Then `syslog_read(line, 48, &options, &m, &element, 1, &param, 1)` returns `SYSLOG_DONE`: `m.facility` is 4,
+//! `m.severity` is 2, `m.host` has the bytes `gateway`, and `m.timestamp.seconds` is 1772433305.
 #![tactic(auto)]
 
 mod arrays;

@@ -1,4 +1,4 @@
-//! The lines of a block, a row each.
+//! Reads the lines of a block, a row for each.
 ghost use Rattle.syslog_c.specs.Outcome.{IsCodeOf};
 ghost use Rattle.syslog_c.specs.Rows.{IsRow, ReadsLines};
 
@@ -10,10 +10,10 @@ use crate::rules::rules_of;
 use crate::tell::blank_fields;
 use syslog_lines::first_line;
 
-/// Reads the lines of the buffer, a row each, in order, and sets `read` to how many rows there are.
+/// Reads the lines of the buffer into rows, one for each line, in order, and sets `read` to the number of rows written.
 ///
-/// A line is what is between line feeds; an empty last one is none. If there are more lines than rows, each row has one
-/// of the first lines. No memory is taken.
+/// A line is what is between line feeds, and an empty last one is no line. If there are more lines than rows, each row
+/// has one of the first lines. Nothing is allocated.
 #[unsafe(no_mangle)]
 pub extern "C" fn syslog_read_lines<'a>(
     buffer: &'a [u8],
@@ -54,7 +54,7 @@ fn read_rows<'a>(
     }
 }
 
-// The row of a line.
+// Returns the row of a line.
 fn row_of<'a>(line: &'a [u8], options: &Options) -> Row<'a>
     ensures { IsRow options.now result line.entry.now }
 {

@@ -1,4 +1,4 @@
-//! The names of facilities, severities and dialects, and what outcomes say.
+//! The names of facilities, severities and dialects, and the texts of outcomes.
 ghost use Rattle.std.specs.Prelude.{◌≡◌, slice_get};
 ghost use Rattle.std.specs.Option.{option_map};
 ghost use Rattle.syslog_pieces.specs.Pieces.View.{seen};
@@ -45,7 +45,8 @@ pub extern "C" fn syslog_dialect_name(dialect: u32, name: &mut Text<'static>)
     };
 }
 
-/// Sets `text` to what the outcome with this number says, as `no message`; to an absent text if there is none.
+/// Sets `text` to what the outcome with this number means, as `no message`; to an absent text if there is no such
+/// outcome.
 #[unsafe(no_mangle)]
 pub extern "C" fn syslog_outcome_text(outcome: u32, text: &mut Text<'static>)
     ensures { IsOptionalText text.new (slice_get outcome_texts outcome) }

@@ -20,8 +20,8 @@ use syslog_object::line_object;
 const MORE: usize = 256;
 
 /// Writes the JSON object of the line's message to the front of `room`, and its length in bytes to `needed`. If `raw`
-/// is not 0, the line as it came is the last member. If the object is longer than `room`, `room` may hold anything. It
-/// takes memory.
+/// is not 0, the line as it came is the last member. If the object is longer than `room`, `room` may hold anything.
+/// This call allocates.
 #[unsafe(no_mangle)]
 pub extern "C" fn syslog_json(
     alloc: Global,

@@ -1,15 +1,15 @@
-//! How a call ends.
+//! The outcomes of a call.
 
-/// How a call ends. C gets the number, as `SYSLOG_DONE` and the like.
+/// The outcome of a call. A caller in C gets the number, as `SYSLOG_DONE` and the like.
 #[derive(Clone, Copy, Debug, PartialEq, Eq)]
 pub enum Outcome {
     /// All that the call writes was written.
     Done = 0,
-    /// The line does not parse; for `syslog_settle` also a line with a round that does not.
+    /// The line does not parse. For `syslog_settle` it may also be a later round of the line that does not.
     NoReading = 1,
     /// The line, or the value, is not UTF-8.
     NotUtf8 = 2,
-    /// An allocation failed. Only `syslog_settle`, `syslog_to_rfc5424` and `syslog_json` make some.
+    /// An allocation failed. Only `syslog_settle`, `syslog_to_rfc5424` and `syslog_json` allocate.
     NoMemory = 3,
     /// An array or the buffer is too small. The counts, or `needed`, say how large it has to be.
     NoRoom = 4,

@@ -1,4 +1,4 @@
-//! The printed text of a line, once or stable, in a buffer of the caller's.
+//! The printed text of a line, after one round or as the stable text, in a buffer of the caller's.
 ghost use Rattle.std.specs.Str.{encode_utf8_all};
 ghost use Rattle.std.specs.Prelude.{◌≡◌};
 ghost use Rattle.syslog_loose.specs.Dates.{year_in};
@@ -20,7 +20,7 @@ use syslog_loose::{IncompleteDate, Line, settle};
 use syslog_utf8::from_utf8;
 
 /// Writes the printed text of the line's message to the front of `room`, and its length in bytes to `needed`. If it is
-/// longer than `room`, `room` may hold anything. No memory is taken.
+/// longer than `room`, `room` may hold anything. Nothing is allocated.
 #[unsafe(no_mangle)]
 pub extern "C" fn syslog_normalise(
     line: &[u8],
@@ -55,7 +55,7 @@ fn print_into(line: &Line<'_>, room: &mut [u8], needed: &mut usize) -> Outcome
 }
 
 /// Writes the stable text of the line, which prints as itself, to the front of `room`, and its length in bytes to
-/// `needed`. If it is longer than `room`, `room` may hold anything. It takes memory.
+/// `needed`. If it is longer than `room`, `room` may hold anything. This call allocates.
 #[unsafe(no_mangle)]
 pub extern "C" fn syslog_settle(
     alloc: Global,

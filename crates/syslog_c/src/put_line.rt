@@ -1,4 +1,5 @@
-//! The printed text of a line, put piece by piece into a buffer. A buffer refuses nothing, so nothing here can fail.
+//! The printed text of a line, written piece by piece into a buffer. A buffer takes every piece, so nothing here can
+//! fail.
 ghost use Rattle.std.specs.Fmt.{signed_decimal};
 ghost use Rattle.std.specs.Prelude.{◌∷◌, chars, encode_utf8_all, option_map};
 ghost use Rattle.syslog_pieces.specs.Pieces.View.{seen, shown};
@@ -13,7 +14,7 @@ ghost use Rattle.syslog_c.specs.Room.{Takes, TakesText};
 use crate::room::Buffer;
 use syslog_loose::{Element, ElementList, Line, ProcId};
 
-/// Puts the printed text of the line.
+/// Writes the printed text of the line.
 pub(crate) fn put_line(buffer: &mut Buffer<'_>, line: &Line<'_>)
     ensures { Takes buffer.old (encode_utf8_all (printed (line_value line.now))) buffer.new }
 {
@@ -22,7 +23,7 @@ pub(crate) fn put_line(buffer: &mut Buffer<'_>, line: &Line<'_>)
     put_rest(buffer, line)
 }
 
-// Puts all after the timestamp.
+// Writes everything after the timestamp.
 fn put_rest(buffer: &mut Buffer<'_>, line: &Line<'_>)
     ensures { TakesText buffer.old (rest_text (line_value line.now)) buffer.new }
 {
@@ -56,14 +57,14 @@ fn put_rest_3164(buffer: &mut Buffer<'_>, line: &Line<'_>)
     put(buffer, line.msg)
 }
 
-// Puts a text.
+// Writes a text.
 fn put(buffer: &mut Buffer<'_>, text: &str)
     ensures { TakesText buffer.old (chars text.now) buffer.new }
 {
     buffer.push(text);
 }
 
-// Puts a space and a name, or `-`.
+// Writes a space and a name, or `-` for an absent one.
 fn put_name(buffer: &mut Buffer<'_>, name: Option<&str>)
     ensures { TakesText buffer.old (32 ∷ name_text (seen name.entry)) buffer.new }
 {
@@ -74,7 +75,7 @@ fn put_name(buffer: &mut Buffer<'_>, name: Option<&str>)
     }
 }
 
-// Puts a number in decimal digits. Here it is known to have 32 bits.
+// Writes a number in decimal digits. Here it is known to have 32 bits.
 fn put_number(buffer: &mut Buffer<'_>, number: i32)
     ensures { TakesText buffer.old (signed_decimal number) buffer.new }
 {
@@ -82,7 +83,7 @@ fn put_number(buffer: &mut Buffer<'_>, number: i32)
     put(buffer, digits.format(number));
 }
 
-// Puts a process id.
+// Writes a process id.
 fn put_procid(buffer: &mut Buffer<'_>, process: ProcId<&str>)
     ensures { TakesText buffer.old (procid_text (procid_value (λ s. shown s) process.entry)) buffer.new }
 {
@@ -92,7 +93,7 @@ fn put_procid(buffer: &mut Buffer<'_>, process: ProcId<&str>)
     }
 }
 
-// Puts a space and a process id, or `-`.
+// Writes a space and a process id, or `-` for an absent one.
 fn put_process(buffer: &mut Buffer<'_>, process: Option<ProcId<&str>>)
     ensures { TakesText buffer.old
         (32 ∷ process_text (option_map (procid_value (λ s. shown s)) process.entry)) buffer.new }
@@ -104,7 +105,7 @@ fn put_process(buffer: &mut Buffer<'_>, process: Option<ProcId<&str>>)
     }
 }
 
-// Puts a space, the app name and the process id as RFC 3164 does, and what ends them.
+// Writes a space, the app name and the process id as RFC 3164 does, and what ends them.
 fn put_tag(buffer: &mut Buffer<'_>, app: Option<&str>, process: Option<ProcId<&str>>)
     ensures { TakesText buffer.old
         (32 ∷ tag_text (seen app.entry) (option_map (procid_value (λ s. shown s)) process.entry)) buffer.new }
@@ -122,7 +123,7 @@ fn put_tag(buffer: &mut Buffer<'_>, app: Option<&str>, process: Option<ProcId<&s
     put(buffer, "]: ")
 }
 
-// Puts a parameter, after a space.
+// Writes a parameter, after a space.
 fn put_param(buffer: &mut Buffer<'_>, name: &str, value: &str)
     ensures { TakesText buffer.old (param_text (chars name.now, chars value.now)) buffer.new }
 {
@@ -144,7 +145,7 @@ fn put_element(buffer: &mut Buffer<'_>, element: &Element<'_>)
     put(buffer, "]")
 }
 
-// Puts the elements one after the other.
+// Writes the elements one after the other.
 fn put_joined(buffer: &mut Buffer<'_>, list: &ElementList<'_>)
     ensures { TakesText buffer.old (joined_elements (list_elements list.now)) buffer.new }
 {
@@ -153,7 +154,7 @@ fn put_joined(buffer: &mut Buffer<'_>, list: &ElementList<'_>)
     }
 }
 
-// Puts the elements, or `-` where there are none.
+// Writes the elements, or `-` if there are none.
 fn put_list(buffer: &mut Buffer<'_>, list: &ElementList<'_>)
     ensures { TakesText buffer.old (elements_text (list_elements list.now)) buffer.new }
 {
@@ -163,7 +164,7 @@ fn put_list(buffer: &mut Buffer<'_>, list: &ElementList<'_>)
     put_joined(buffer, list)
 }
 
-// Puts the elements and a space, or nothing where there are none.
+// Writes the elements and a space, or nothing if there are none.
 fn put_spaced_list(buffer: &mut Buffer<'_>, list: &ElementList<'_>)
     ensures { TakesText buffer.old (spaced_elements (list_elements list.now)) buffer.new }
 {

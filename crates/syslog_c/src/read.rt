@@ -20,7 +20,7 @@ use syslog_utf8::from_utf8;
 /// Reads the line: its fields into `fields`, and its elements and their parameters into the two arrays.
 ///
 /// If one of the arrays is too small, `fields` has the numbers that are needed, and both arrays may hold anything. If
-/// the line is no message, nothing is written. No memory is taken.
+/// the line is no message, nothing is written. Nothing is allocated.
 #[unsafe(no_mangle)]
 pub extern "C" fn syslog_read<'a>(
     line: &'a [u8],
@@ -102,7 +102,7 @@ fn read_by<'a>(
     }
 }
 
-// Takes the fields of a dialect's line, which has no elements, where the port reads none.
+// Takes the fields of a dialect's line, which has no elements, for a text that the port does not parse.
 #[inline(always)]
 fn read_unread<'a>(text: &'a str, rules: &Rules, fields: &mut Fields<'a>) -> Outcome
     ensures { (dating : Dating) → IsUnreadable rules.now.variant dating (chars text.entry.now)
@@ -116,7 +116,7 @@ fn read_unread<'a>(text: &'a str, rules: &Rules, fields: &mut Fields<'a>) -> Out
 }
 
 /// Reads the fields of the line into `fields`, with the numbers of its elements and parameters. If the line is no
-/// message, nothing is written. No memory is taken.
+/// message, nothing is written. Nothing is allocated.
 #[unsafe(no_mangle)]
 pub extern "C" fn syslog_read_fields<'a>(
     line: &'a [u8],

@@ -1,4 +1,4 @@
-//! The reading of a line of bytes by the options.
+//! Reads a line of bytes by the options.
 ghost use Rattle.std.specs.Prelude.{◌≡◌, MatchResult, ⊤};
 ghost use Rattle.syslog_pieces.specs.Pieces.View.{shown};
 ghost use Rattle.syslog_loose.specs.Dates.{year_in};

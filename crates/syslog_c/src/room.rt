@@ -5,7 +5,7 @@ ghost use Rattle.syslog_c.specs.Room.{IsLeftFor, Puts, Takes, TellsLength, fault
 use crate::outcome::Outcome;
 use syslog_loose::ParseFault;
 
-/// A buffer of the caller's, into which a text is put piece by piece. What has no space there is only counted.
+/// A buffer of the caller's, into which a text is written piece by piece. A piece that does not fit is only counted.
 #[derive(Drop)]
 pub(crate) struct Buffer<'r> {
     room: &'r mut [u8],
@@ -14,7 +14,7 @@ pub(crate) struct Buffer<'r> {
 }
 
 impl<'r> Buffer<'r> {
-    /// A buffer into which nothing is put yet.
+    /// Returns a buffer into which nothing is written yet.
     pub(crate) fn new(room: &'r mut [u8]) -> Buffer<'r>
         ensures same { result.room.ghost_name ≡ room.entry.ghost_name }
         ensures none { (result.room.now ≡ room.old) × (result.needed ≡ 0) }
@@ -22,7 +22,7 @@ impl<'r> Buffer<'r> {
         Buffer { room, needed: 0 }
     }
 
-    /// Puts the next piece of the text.
+    /// Writes the next piece of the text.
     pub(crate) fn push(&mut self, text: &str)
         ensures { Takes self.old text.now self.new }
     {
@@ -52,7 +52,8 @@ fn put_front(bytes: &[u8], room: &mut [u8])
     room[..bytes.len()].copy_from_slice(bytes);
 }
 
-/// Puts the text at the front of `room`, and sets `needed` to its length; to 0 after a fault, which it returns.
+/// Writes the text to the front of `room`, and sets `needed` to its length. After a fault it sets `needed` to 0, and
+/// returns the outcome of that fault.
 pub(crate) fn put_answer(
     answer: Result<String, ParseFault>,
     room: &mut [u8],
@@ -70,7 +71,7 @@ pub(crate) fn put_answer(
     }
 }
 
-/// How a call ends after this fault.
+/// Returns the outcome of a call that had this fault.
 pub(crate) fn outcome_of(fault: ParseFault) -> Outcome
     ensures { result ≡ fault_outcome fault }
 {

@@ -1,4 +1,4 @@
-//! What the options mean.
+//! What the options of a caller in C mean.
 ghost use Rattle.std.specs.Prelude.{◌≡◌, ◌↔◌, ◌≤◌, IsTrue, MatchOption};
 ghost use Rattle.jiff.specs.Words.{plain_zone};
 ghost use Rattle.jiff_core.specs.Calendar.{IsYear};
@@ -9,7 +9,7 @@ ghost use Rattle.syslog_c.specs.Options.{AreDates, AreInRange, AreRules, IsTaken
 use crate::options::Options;
 use syslog_loose::{Dates, Variant};
 
-/// How a line is read: by which variant, how its dates are taken, and whether in the dialect that it is in.
+/// How a line is read: by which variant, how its dates are completed, and whether in the dialect that it is in.
 #[derive(Drop)]
 pub(crate) struct Rules {
     pub(crate) variant: Variant,
@@ -17,7 +17,7 @@ pub(crate) struct Rules {
     pub(crate) dialects: bool,
 }
 
-/// Returns what the options mean, if each is in its range.
+/// Returns what the options mean; none if one of them is out of its range.
 pub(crate) fn rules_of(options: &Options) -> Option<Rules>
     ensures { MatchOption result (IsTaken options.now → ⊥) (λ rules. AreRules options.now rules) }
 {
@@ -56,7 +56,7 @@ fn variant_of(number: u32) -> Option<Variant>
     }
 }
 
-// The month that it is now, where it is known.
+// Returns the current month, if it is known.
 fn month_of(number: u32) -> Option<u32>
     ensures { result ≡ known_month number }
 {
@@ -66,7 +66,7 @@ fn month_of(number: u32) -> Option<u32>
     Some(number)
 }
 
-// How dates that show no year or no zone are taken.
+// Returns how dates that show no year or no zone are completed.
 fn dates_of(options: &Options) -> Dates
     requires { AreInRange options.now }
     ensures { AreDates options.now result }

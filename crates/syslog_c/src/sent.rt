@@ -1,6 +1,6 @@
-//! The fields of a line that may be of a dialect, where the port has read the text already.
+//! The fields of a line that may be in a dialect, after the port has read the text.
 //!
-//! A visitor takes the fields of the port's line at once, so that an ordinary line costs only a look at whether it is
+//! A visitor takes the fields of the port's line at once, so that an ordinary line only costs a look at whether it is
 //! one. A dialect's line is made afterwards.
 ghost use Rattle.std.specs.Prelude.{◌≡◌, [], None, Some, MatchBool};
 ghost use Rattle.std.specs.Str.{chars};
@@ -25,8 +25,8 @@ use crate::shown::{with_flags, with_shown};
 use crate::tell::fields_of;
 use syslog_dialects::{SentLine, line_instead, unread_line};
 
-/// Completes the fields of the port's line, which keeps its reading or not: by what the text shows of its date, or by
-/// those of a dialect's line instead.
+/// Completes the fields of the port's line. If that line keeps its reading, they get what the text shows of its date;
+/// otherwise those of a dialect's line replace them.
 #[inline(always)]
 pub(crate) fn take_read<'a>(
     text: &'a str,
@@ -48,7 +48,7 @@ pub(crate) fn take_read<'a>(
     }
 }
 
-/// Takes the fields of a dialect's line, where the port reads none. Returns whether there is one.
+/// Takes the fields of a dialect's line, for a text that the port does not parse. Returns whether there is such a line.
 #[inline(always)]
 pub(crate) fn take_unread<'a>(text: &'a str, rules: &Rules, fields: &mut Fields<'a>) -> bool
     ensures { (dating : Dating) → IsUnreadable rules.now.variant dating (chars text.entry.now) → MatchBool result

@@ -11,8 +11,8 @@ use syslog_pieces::text::{blanks, trimmed};
 use syslog_pieces::timestamp::MonthDate;
 use syslog_pieces::timestamp::month_date::month_date;
 
-/// Returns the timestamp of a line of this protocol, which the port reads, with what its text shows of it. No line of
-/// RFC 5424 has a month date.
+/// Returns the timestamp of a line that the port reads by this protocol, with what its text shows of it. No line of RFC
+/// 5424 has a month date.
 #[inline(always)]
 pub(crate) fn with_shown(text: &str, protocol: u32, stamp: Stamp) -> Stamp
     ensures { (at : Option OffsetTimestamp) → IsStamp stamp at → (protocol ≡ 5424 → ShowsNoDate (chars text.entry.now))
@@ -44,7 +44,7 @@ fn flags_of(text: &str) -> (u32, u32)
     flags(shown_date(text))
 }
 
-// The two flags of the month date that a text shows, or of a text that shows none.
+// Returns the two flags of the month date that a text shows, if it shows one.
 fn flags(date: Option<MonthDate>) -> (u32, u32)
     ensures { (result.0 ≡ year_flag date) × (result.1 ≡ offset_flag date) }
 {

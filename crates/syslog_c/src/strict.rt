@@ -13,8 +13,8 @@ use syslog_loose::IncompleteDate;
 use syslog_strict::to_rfc5424_into;
 use syslog_utf8::from_utf8;
 
-/// Writes the line as strict RFC 5424 to the front of `room`, and how long it is to `needed`: a line that is in the
-/// RFC's grammar as it is, and otherwise its message, converted. It takes memory for that text.
+/// Writes the line as strict RFC 5424 to the front of `room`, and its length in bytes to `needed`: a line that is in
+/// the RFC's grammar as it is, and otherwise its message, converted. This call allocates.
 #[unsafe(no_mangle)]
 pub extern "C" fn syslog_to_rfc5424(
     alloc: Global,

@@ -1,4 +1,4 @@
-//! The fields of a line, as C gets them.
+//! Converts the fields of a line to the structs of a caller in C.
 ghost use Rattle.std.specs.Prelude.{◌≡◌, MatchBool, None};
 ghost use Rattle.std.specs.Option.{option_map};
 ghost use Rattle.syslog_pieces.specs.Pieces.View.{seen, shown};
@@ -20,7 +20,7 @@ use syslog_loose::{
 
 const NONE: &[u8] = &[];
 
-/// The text as C gets it.
+/// Converts a text to C.
 pub(crate) fn text_of(text: &str) -> Text<'_>
     ensures { IsText result (shown text.entry) }
 {
@@ -30,7 +30,7 @@ pub(crate) fn text_of(text: &str) -> Text<'_>
     }
 }
 
-/// The text as C gets it, which may be absent.
+/// Converts a text that may be absent to C.
 pub(crate) fn optional_text(text: Option<&str>) -> Text<'_>
     ensures { IsOptionalText result (seen text.entry) }
 {
@@ -65,7 +65,7 @@ fn process_of<'a>(process: &Option<ProcId<&'a str>>) -> Process<'a>
     }
 }
 
-// The timestamp as C gets it, which says nothing yet of what the line shows.
+// Converts a timestamp to C, without what the line shows of it.
 fn stamp_of(stamp: Option<ClockStamp>) -> Stamp
     ensures { IsStamp result (stamp_seen stamp) }
 {
@@ -111,7 +111,7 @@ fn severity_of(severity: Option<SyslogSeverity>) -> i32
     }
 }
 
-// The number of the protocol, and the version of RFC 5424.
+// Returns the number of the protocol, and the version of RFC 5424 or 0.
 fn protocol_of(protocol: Protocol) -> (u32, u32)
     ensures { (result.0 ≡ protocol_number protocol) × (result.1 ≡ version_number protocol) }
 {
@@ -132,7 +132,7 @@ fn dialect_code(dialect: Option<Dialect>) -> u32
     }
 }
 
-/// The fields of the line, which was read in this dialect or in none.
+/// Converts the fields of the line, which was read in this dialect or in none, to C.
 #[inline(always)]
 pub(crate) fn fields_of<'a>(line: &Line<'a>, dialect: Option<Dialect>) -> Fields<'a>
     ensures { AreOfLine result dialect line.now }
@@ -156,7 +156,7 @@ pub(crate) fn fields_of<'a>(line: &Line<'a>, dialect: Option<Dialect>) -> Fields
     }
 }
 
-/// Fields that say nothing: no number, and no text.
+/// Returns fields that say nothing: no number, and no text.
 pub(crate) fn blank_fields<'a>() -> Fields<'a>
     ensures { AreBlank result }
 {
@@ -178,7 +178,7 @@ pub(crate) fn blank_fields<'a>() -> Fields<'a>
     }
 }
 
-// Takes the fields of the port's line, and returns whether that line keeps its reading, whatever dialect may be asked.
+// Takes the fields of the port's line, and returns whether that line keeps its reading, even if dialects are asked for.
 impl<'a> LineVisitor<'a> for Fields<'a> {
     type Answer = bool;
 

@@ -13,7 +13,7 @@ use syslog_pieces::text::{CharClass, first, split_run};
 use syslog_utf8::from_utf8;
 
 /// Writes the value with its escapes removed to the front of `room`, and its length in bytes to `needed`. If it is
-/// longer than `room`, `room` may hold anything. No memory is taken.
+/// longer than `room`, `room` may hold anything. Nothing is allocated.
 #[unsafe(no_mangle)]
 pub extern "C" fn syslog_unescape(value: &[u8], room: &mut [u8], needed: &mut usize) -> u32
     ensures { IsCodeOf result (λ outcome. Unescaped value.now room.old room.new needed.new outcome) }
@@ -51,7 +51,7 @@ fn push_unescaped(buffer: &mut Buffer<'_>, value: &str)
     }
 }
 
-// Puts what a backslash and this character mean.
+// Writes what a backslash and this character mean.
 fn push_pair(buffer: &mut Buffer<'_>, c: char)
     ensures { TakesText buffer.old (pair_meaning c) buffer.new }
 {
@@ -65,7 +65,7 @@ fn push_pair(buffer: &mut Buffer<'_>, c: char)
     push_char(buffer, c)
 }
 
-// A function of its own, since what the buffer takes is a text: the character is encoded first.
+// Writes a character. It is a function of its own, since a buffer takes a text: the character is encoded first.
 fn push_char(buffer: &mut Buffer<'_>, c: char)
     ensures { TakesText buffer.old (c ∷ []) buffer.new }
 {

@@ -6,8 +6,8 @@ use crate::fields::Text;
 use crate::tell::text_of;
 use syslog_loose::VERSION;
 
-/// Returns the version of the library as a number, to compare with `SYSLOG_VERSION` of the header: 1,000,000 for each
-/// major one, 1,000 for each minor one.
+/// Returns the version of the library as a number, to compare with `SYSLOG_VERSION` of the header: 1,000,000 times the
+/// major version, plus 1,000 times the minor one, plus the patch.
 #[unsafe(no_mangle)]
 pub extern "C" fn syslog_version() -> u32
     ensures { result ≡ 1_000 }

@@ -1,4 +1,4 @@
-//! Which messages a filter is asked for: by severity, host and app name.
+//! Which messages a filter is asked for: by severity, host and app name. The rule is this project's own choice.
 //!
 //! The choice of the severity `err` and the host `gw` chooses the messages of that host that are errors or worse.
 #![tactic(auto)]
@@ -11,14 +11,14 @@ ghost use Rattle.syslog_choice.specs.Chosen.{IsAsSevere, IsChosen, IsEverything}
 
 use syslog_loose::{Line, SyslogSeverity};
 
-/// Which messages are chosen: those that have all that is given.
+/// Which messages are chosen: those that match everything that is given here.
 #[derive(Clone, Copy)]
 pub struct Choice<'a> {
-    /// The least severe severity that is chosen.
+    /// The least severe severity that is chosen; absent if any is.
     pub severity: Option<SyslogSeverity>,
-    /// The host.
+    /// The host whose messages are chosen; absent if any is.
     pub host: Option<&'a str>,
-    /// The app name.
+    /// The app name whose messages are chosen; absent if any is.
     pub app: Option<&'a str>,
 }
 
@@ -42,7 +42,7 @@ impl Choice<'_> {
     }
 }
 
-// Whether the line has this severity or a worse one, where one is given.
+// Whether the line has this severity or a worse one, if one is given.
 #[inline(always)]
 fn is_severe(least: Option<SyslogSeverity>, line: &Line<'_>) -> bool
     ensures { IsTrue result ↔ IfSome least (λ it. IsAsSevere it (line_value line.now)) }
@@ -62,7 +62,7 @@ fn has_severity(least: SyslogSeverity, line: &Line<'_>) -> bool
     }
 }
 
-// Whether the name is the one that is given, where one is.
+// Whether the name is the one that is given, if one is.
 #[inline(always)]
 fn is_named(given: Option<&str>, name: Option<&str>) -> bool
     ensures { IsTrue result ↔ IfSome given.entry (λ it. seen name.entry ≡ Some (chars it.now)) }

@@ -49,11 +49,11 @@ IsReason Unreadable line = line ≡ codes "a word is not UTF-8, or out of memory
 abbrev pub IsRefusal : List ℕ → Wrong → List ℕ → Type 0
 IsRefusal usage wrong text = (text ≡ usage) ⊎ ((reason : List ℕ) × IsReason wrong reason × (text ≡ usage ++ reason))
 
--- a front of the text was written
+-- a prefix of the text was written
 abbrev pub WritesFront : Option (List ℕ) → Option (List ℕ) → List ℕ → Type 0
 WritesFront before after text = (size : ℕ) × Appends before after (take size text)
 
--- all of the text was written; or, if the stream failed, a front of it
+-- all of the text was written; or, if the stream failed, a prefix of it
 abbrev pub WritesUnlessFailed : Option (List ℕ) → Option (List ℕ) → Bool → List ℕ → Type 0
 WritesUnlessFailed before after false text = Appends before after text
 WritesUnlessFailed before after true text = WritesFront before after text

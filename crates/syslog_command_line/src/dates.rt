@@ -1,11 +1,11 @@
-//! The words that say how dates that show no year or no zone are taken.
+//! The words of a command line that say how dates that show no year or no zone are completed.
 ghost use Rattle.std.specs.Prelude.{◌≡◌, ◌∷◌, ◌<◌, ◌≤◌, [], MatchOption, Option, ℕ, ℤ};
 ghost use Rattle.syslog_command_line.specs.Arguments.{NamesDate, NamesOffset, two_digits};
 
 use crate::args::read_year;
 
 /// Returns the year, from 0 to 9999, and the month, from 1 to 12 if there is one, that a text of the form `YEAR` or
-/// `YEAR-MONTH` names; none for any other text.
+/// `YEAR-MONTH` writes; none for any other text.
 pub fn read_date(text: &str) -> Option<(i32, Option<u32>)>
     ensures { MatchOption result ((year : ℤ) (month : Option ℕ) → ¬ (NamesDate text.now year month))
         (λ date. NamesDate text.now date.0 date.1) }
@@ -16,7 +16,7 @@ pub fn read_date(text: &str) -> Option<(i32, Option<u32>)>
     }
 }
 
-// The month that two digits name.
+// Returns the month that two digits write.
 fn read_month(text: &str) -> Option<u32>
     ensures { MatchOption result ((n : ℕ) → 1 ≤ n → n ≤ 12 → ¬ (text.now ≡ two_digits n))
         (λ n. (1 ≤ n) × (n ≤ 12) × (text.now ≡ two_digits n)) }
@@ -32,7 +32,7 @@ fn read_month(text: &str) -> Option<u32>
     }
 }
 
-/// Returns the seconds that a text of the form `+HH:MM` or `-HH:MM` names, up to 23:59; none for any other text.
+/// Returns the seconds that a text of the form `+HH:MM` or `-HH:MM` writes, up to 23:59; none for any other text.
 pub fn read_offset(text: &str) -> Option<i32>
     ensures { MatchOption result ((seconds : ℤ) → ¬ (NamesOffset text.now seconds))
         (λ seconds. NamesOffset text.now seconds) }

@@ -5,30 +5,30 @@ ghost use Rattle.syslog_command_line.specs.Flags.{IsValue, flag_word, rival, tak
 use crate::dates::read_offset;
 use crate::values::{read_severity, read_size};
 
-/// A flag of a program. Each program says which of them it has.
+/// A flag that a program may have. Each program says which of them it has.
 #[derive(Clone, Copy)]
 pub enum Flag {
-    /// `--raw`: each line is written as it came, too.
+    /// `--raw`: the output also has each line as it came.
     Raw,
     /// `--no-dialects`: no line is read in a dialect.
     NoDialects,
-    /// `--latin1`: a line that is not UTF-8 is read as ISO 8859-1.
+    /// `--latin1`: a line that is not UTF-8 is decoded as ISO 8859-1.
     Latin1,
     /// `--offset OFFSET`: the zone of dates that show none, as `+HH:MM`.
     Offset,
     /// `--nul`: each line of the input ends in a NUL.
     Nul,
-    /// `--octet-counted`: each line of the input comes after its length.
+    /// `--octet-counted`: each line of the input begins with its length.
     OctetCounted,
     /// `--max-line BYTES`: the length of the longest line that is read.
     MaxLine,
-    /// `--severity NAME`: only messages of that severity, or a worse one.
+    /// `--severity NAME`: only messages of that severity or a worse one are written.
     Severity,
-    /// `--host NAME`: only messages of that host.
+    /// `--host NAME`: only messages of that host are written.
     Host,
-    /// `--app NAME`: only messages of that application.
+    /// `--app NAME`: only messages of that app name are written.
     App,
-    /// `--csv`: a line of CSV for each message.
+    /// `--csv`: each message is written as a line of CSV.
     Csv,
 }
 
@@ -36,7 +36,7 @@ pub enum Flag {
 pub(crate) const FLAGS: usize = 11;
 
 impl Flag {
-    /// Returns the word by which it is given.
+    /// Returns the word of a command line that gives this flag, as `--raw`.
     pub fn word(self) -> &'static str
         ensures { result.now ≡ flag_word self }
     {
@@ -55,7 +55,7 @@ impl Flag {
         }
     }
 
-    /// Returns whether its value comes after its word.
+    /// Returns whether the flag takes a value, which is the next word.
     pub(crate) fn takes_value(self) -> bool
         ensures { result ≡ takes_value self }
     {
@@ -65,7 +65,7 @@ impl Flag {
         }
     }
 
-    /// Returns the flag that says otherwise, and so can't be given too; itself, if there is none.
+    /// Returns the flag that contradicts this one, so that not both can be given; this one if there is none.
     pub(crate) fn rival(self) -> Flag
         ensures { result ≡ rival self }
     {
@@ -76,7 +76,7 @@ impl Flag {
         }
     }
 
-    /// Returns whether the text is a value of the flag; that of a flag that takes none is empty.
+    /// Returns whether the text can be the value of the flag. The value of a flag that takes none is empty.
     pub(crate) fn is_value(self, text: &str) -> bool
         ensures { IsTrue result ↔ IsValue self text.now }
     {
@@ -90,7 +90,7 @@ impl Flag {
     }
 }
 
-/// Returns the flag among these that the word gives.
+/// Returns the flag among `flags` that the word gives, if it gives one.
 pub(crate) fn find_flag(flags: &[Flag], word: &str) -> Option<Flag>
     ensures { MatchOption result (All (λ flag. flag_word flag ≢ word.now) flags.now)
         (λ flag. Contains flags.now flag × (flag_word flag ≡ word.now)) }

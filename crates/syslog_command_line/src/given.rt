@@ -12,7 +12,7 @@ pub(crate) struct Given<'a> {
 }
 
 impl<'a> Given<'a> {
-    /// Returns one with no flag.
+    /// Returns the state in which no flag was given.
     pub(crate) fn new() -> Given<'a>
         ensures { Holds result [] }
     {
@@ -21,8 +21,8 @@ impl<'a> Given<'a> {
         }
     }
 
-    /// Returns the value that was given with the flag, which is empty if it takes none; `None` if the flag was left
-    /// out.
+    /// Returns the value that was given with the flag, which is empty if the flag takes none; none if the flag was not
+    /// given.
     pub(crate) fn value(&self, flag: Flag) -> Option<&'a str>
         ensures { result ≡ value_at self.now flag }
     {
@@ -36,7 +36,7 @@ impl<'a> Given<'a> {
         self.value(flag).is_some()
     }
 
-    /// Returns whether neither the flag nor one that says otherwise was given.
+    /// Returns whether neither the flag nor one that contradicts it was given.
     pub(crate) fn allows(&self, flag: Flag) -> bool
         ensures { IsTrue result
             ↔ ((value_at self.now flag ≡ None) × (value_at self.now (rival flag) ≡ None)) }

@@ -1,7 +1,7 @@
-//! The command line of the programs: the words that they are called with, and what they say.
+//! The command line of the programs: the words that they are called with, and what they report.
 //!
 //! `read_task` reads the words after a program's name, `report` writes at the end what became of the lines, and `say`
-//! writes a text that was asked for. Which words there are, and the texts, are this project's own choice.
+//! writes a text that was asked for. The words and the texts are this project's own choice.
 //!
 //! `read_year("2019")` is `Some(2019)`, and `read_offset("-07:00")` is `Some(-25200)`.
 #![tactic(auto)]

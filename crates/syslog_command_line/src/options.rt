@@ -1,4 +1,4 @@
-//! The flags before the date, and what they and the date ask for.
+//! The flags of a command line and the date after them, and what they ask for.
 ghost use Rattle.std.specs.Prelude.{◌≡◌, ◌∷◌, ◌++◌, ◌≤ℤ◌, IsSomeAnd, List, MatchOption, MatchResult, None, negsuc};
 ghost use Rattle.std.specs.Prelude.{pos, ℕ};
 ghost use Rattle.syslog_command_line.specs.Arguments.{NamesOffset};
@@ -18,35 +18,35 @@ use crate::words::{Wrong, read_date_words};
 use syslog_lines::Framing;
 use syslog_loose::{Dates, SyslogSeverity};
 
-/// The bytes of the longest line that is read, if `--max-line` is left out.
+/// How many bytes the longest line that is read has, if `--max-line` is not given.
 pub const MAX_LINE: usize = 67_108_864;
 
-/// How lines are read, and what is written of them. Texts point into the words.
+/// How lines are read, and what is written for them. Its texts are slices of the words.
 #[derive(Drop)]
 pub struct Options<'a> {
-    /// Whether each line is written as it came, too.
+    /// Whether the output also has each line as it came.
     pub raw: bool,
     /// Whether a line is read in a dialect that it is in.
     pub dialects: bool,
-    /// Whether a line that is not UTF-8 is read as ISO 8859-1.
+    /// Whether a line that is not UTF-8 is decoded as ISO 8859-1.
     pub latin1: bool,
     /// Whether messages are written as CSV.
     pub csv: bool,
-    /// What ends a line of the input.
+    /// How the input is cut into lines.
     pub framing: Framing,
-    /// The bytes of the longest line that is read.
+    /// How many bytes the longest line that is read has.
     pub max_line: usize,
-    /// The least severe messages that are written; all, if this is absent.
+    /// The least severe severity of the messages that are written; absent if all are written.
     pub severity: Option<SyslogSeverity>,
-    /// The host whose messages are written; all, if this is absent.
+    /// The host whose messages are written; absent if all are written.
     pub host: Option<&'a str>,
-    /// The application whose messages are written; all, if this is absent.
+    /// The app name whose messages are written; absent if all are written.
     pub app: Option<&'a str>,
-    /// How dates that show no year or no zone are taken.
+    /// How dates that show no year or no zone are completed.
     pub dates: Dates,
 }
 
-/// Returns what the words ask for: flags of those offered, each at most once and in any order, and a date.
+/// Returns what the words ask for: flags of those that are offered, each at most once and in any order, and a date.
 pub(crate) fn read_options<'a>(
     words: &'a [String],
     offered: &[Flag],
@@ -71,7 +71,7 @@ pub(crate) fn read_options<'a>(
     })
 }
 
-// What ends a line.
+// Returns how the input is cut into lines.
 fn framing_of(given: &Given<'_>) -> Framing
     ensures { (flags : List GivenFlag) → Holds given.now flags
         → ByFlag flags Flag.Nul (λ _. result ≡ Nuls)
@@ -86,7 +86,7 @@ fn framing_of(given: &Given<'_>) -> Framing
     Framing::LineFeeds
 }
 
-// The bytes of the longest line.
+// Returns how many bytes the longest line has.
 fn max_line_of(given: &Given<'_>) -> usize
     ensures { (flags : List GivenFlag) → Holds given.now flags
         → ByFlag flags Flag.MaxLine (λ text. NamesSize text result) (result ≡ usual_max_line) }
@@ -97,7 +97,7 @@ fn max_line_of(given: &Given<'_>) -> usize
     }
 }
 
-// The least severe messages.
+// Returns the least severe severity that is written.
 fn severity_of(given: &Given<'_>) -> Option<SyslogSeverity>
     ensures { (flags : List GivenFlag) → Holds given.now flags
         → ByFlag flags Flag.Severity (λ text. IsSomeAnd result (λ severity. NamesSeverity text severity))
@@ -109,7 +109,7 @@ fn severity_of(given: &Given<'_>) -> Option<SyslogSeverity>
     }
 }
 
-// The zone, in seconds ahead of UTC.
+// Returns the zone, in seconds ahead of UTC.
 fn offset_of(given: &Given<'_>) -> i32
     ensures value { (flags : List GivenFlag) → Holds given.now flags
         → ByFlag flags Flag.Offset (λ text. NamesOffset text result) (result ≡ pos 0) }
@@ -121,7 +121,7 @@ fn offset_of(given: &Given<'_>) -> i32
     }
 }
 
-// The flags before the date, and the words after them.
+// Reads the flags before the date. Returns them and the words after them.
 fn read_flags<'a>(
     words: &'a [String],
     offered: &[Flag],
@@ -138,8 +138,8 @@ fn read_flags<'a>(
     Ok((given, rest))
 }
 
-// The flag that begins the words, if it is offered and can be given beside those before it, with its value, and the
-// words after it.
+// Reads the flag that begins the words, if it is offered and can be given beside those before it. Returns it with its
+// value, and the words after it.
 fn read_flag<'a>(
     words: &'a [String],
     offered: &[Flag],
@@ -166,7 +166,7 @@ fn read_flag<'a>(
     Ok(Some((flag, value, rest)))
 }
 
-// The value of a flag, which is the first word if it takes one, and the words after it.
+// Reads the value of a flag, which is the first word if it takes one. Returns it, and the words after it.
 fn read_value(flag: Flag, words: &[String]) -> Result<(&str, &[String]), Wrong<'_>>
     ensures { MatchResult result
         (λ found. IsValue flag found.0.now × (texts words.now ≡ value_words flag found.0.now ++ texts found.1.now))

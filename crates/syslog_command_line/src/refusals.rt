@@ -1,4 +1,4 @@
-//! What is said of wrong words.
+//! What the programs report of wrong words.
 ghost use Rattle.std.specs.Prelude.{◌≡◌, false, IfOk, List, ℕ, string_bytes};
 ghost use Rattle.syslog_command_line.specs.Report.{IsReason, IsRefusal, WritesUnlessFailed};
 
@@ -9,9 +9,9 @@ use std::fs;
 use std::io::Write;
 use syslog_lines::Watched;
 
-/// Writes the usage line, and one more that says what is wrong with the words, and returns the exit status 2. A word
-/// that names a file gets a hint, since a filter reads its standard input alone. If an allocation fails, the usage line
-/// is written alone. If a write fails, the stream says so.
+/// Writes the usage line and a line that says what is wrong with the words, and returns the exit status 2. If the wrong
+/// word names a file, that line has a hint, since a filter reads its standard input alone. If an allocation fails, only
+/// the usage line is written. If a write fails, `errors.failed` is set.
 pub fn refuse_words<W: Write>(
     rt: &HostRuntime,
     usage: &str,

@@ -1,5 +1,5 @@
-//! What the programs say: at their end on standard error, and of themselves where they are asked. The first write is
-//! passed the whole of a message, so that those of filters that run side by side don't mix.
+//! What the programs report: at their end on standard error, and the texts that were asked for. Each message is handed
+//! to the first write as a whole, so that those of programs that run side by side don't mix.
 ghost use Rattle.std.specs.Prelude.{◌≡◌, ◌==◌, ◌≤◌, if◌then◌else◌, false, [], codes, length, map};
 ghost use Rattle.std.specs.Fmt.InlineText.{inline_text};
 ghost use Rattle.std.specs.List.{concat};
@@ -14,18 +14,18 @@ use std::fmt::InlineText;
 use std::io::Write;
 use syslog_lines::{LineCounts, RunFault, Summary, Watched};
 
-/// More bytes than a line of a message has, which is put together without memory.
+/// How many bytes a message is given, which is put together without allocating: more than one line has.
 const LINE: usize = 512;
 
-/// More bytes than two such lines have.
+/// How many bytes a message of two lines is given.
 const LINES: usize = 1024;
 
-/// The longest name of a program or of a version, and the longest word for what became of lines, that is always written
-/// whole.
+/// How many bytes of the name of a program or of a version are always written, and of the word for what became of
+/// lines.
 const NAME: usize = 64;
 
-/// Writes how many lines were refused, or the fault's text, and returns the exit status: 0 if no line was refused, 1 if
-/// some were, 2 after a fault. If none was refused, nothing is written. If a write fails, the stream says so.
+/// Writes how many lines were refused, or the text of the fault. Returns the exit status: 0 if no line was refused, 1
+/// if some were, 2 after a fault. If none was refused, nothing is written. If a write fails, `errors.failed` is set.
 pub fn report<W: Write>(outcome: &Result<Summary, RunFault>, errors: &mut Watched<W>) -> u8
     requires { errors.old.failed ≡ false }
     ensures status { result ≡ status_of (λ summary. summary.refused) outcome.now }
@@ -38,11 +38,12 @@ pub fn report<W: Write>(outcome: &Result<Summary, RunFault>, errors: &mut Watche
     }
 }
 
-/// Writes what became of the lines of a run, as far as not all is well, or the fault's text. Returns the exit status: 0
-/// if each line is a message of UTF-8, 1 if not, 2 after a fault. If a write fails, the stream says so.
+/// Writes how many lines are no messages and how many are not UTF-8, or the text of the fault. Returns the exit status:
+/// 0 if each line is a message and UTF-8, 1 if not, 2 after a fault. If a write fails, `errors.failed` is set.
 ///
 /// It writes a line of the form `syslog_json: 3 of 12 lines are no messages (2 not UTF-8)`, and one that says how many
-/// messages have U+FFFD for what is not UTF-8. Neither is written for no lines. The name has at most 64 bytes.
+/// messages have U+FFFD for what is not UTF-8. A line that would count nothing is not written. The name has at most 64
+/// bytes.
 pub fn report_lines<W: Write>(
     program: &str,
     outcome: &Result<LineCounts, RunFault>,
@@ -59,7 +60,7 @@ pub fn report_lines<W: Write>(
     }
 }
 
-// Writes what `report_lines` does of these counts, and returns the exit status.
+// Writes what `report_lines` writes for these counts, and returns the exit status.
 fn report_counts<W: Write>(program: &str, counts: &LineCounts, errors: &mut Watched<W>) -> u8
     requires { errors.old.failed ≡ false }
     ensures status { result ≡ counts_status counts.now }
@@ -132,8 +133,8 @@ fn say_replaced(program: &str, counts: &LineCounts) -> InlineText<LINE>
     ])
 }
 
-/// Writes a text that was asked for to `out`, and returns the exit status 0. If that failed, writes the fault's text to
-/// `errors`, and returns 2.
+/// Writes a text that was asked for to `out`, and returns the exit status 0. If that fails, writes the text of the
+/// fault to `errors`, and returns 2.
 pub fn say<W: Write, E: Write>(text: &str, out: &mut Watched<W>, errors: &mut Watched<E>) -> u8
     requires out { out.old.failed ≡ false }
     requires errors { errors.old.failed ≡ false }
@@ -168,7 +169,8 @@ pub fn say_version<W: Write, E: Write>(
     say(joined(&[program, " ", version, "\n"]).as_str(), out, errors)
 }
 
-/// Writes the usage line after wrong arguments, and returns the exit status 2. If a write fails, the stream says so.
+/// Writes the usage line after wrong arguments, and returns the exit status 2. If the write fails, `errors.failed` is
+/// set.
 pub fn refuse<W: Write>(usage: &str, errors: &mut Watched<W>) -> u8
     requires { errors.old.failed ≡ false }
     ensures status { result ≡ 2 }
@@ -179,8 +181,9 @@ pub fn refuse<W: Write>(usage: &str, errors: &mut Watched<W>) -> u8
     2
 }
 
-/// Writes `what` became of `count` of the lines, as `refused 2 of 9 lines`, and returns the exit status 1. If `count`
-/// is 0, writes nothing and returns 0. If a write fails, the stream says so. The word has at most 64 bytes.
+/// Writes what happened to `count` of the lines, as `refused 2 of 9 lines` if `what` is `refused`, and returns the exit
+/// status 1. If `count` is 0, writes nothing and returns 0. If a write fails, `errors.failed` is set. The word `what`
+/// has at most 64 bytes.
 pub fn report_count<W: Write>(what: &str, count: u64, lines: u64, errors: &mut Watched<W>) -> u8
     requires { errors.old.failed ≡ false }
     ensures status { result ≡ (if count == 0 then 0 else 1) }
@@ -199,8 +202,8 @@ pub fn report_count<W: Write>(what: &str, count: u64, lines: u64, errors: &mut W
     1
 }
 
-/// Writes why a filter ended early, as `read failed`, and returns the exit status 2. If a write fails, the stream
-/// says so.
+/// Writes why a filter ended early, as `read failed`, and returns the exit status 2. If the write fails,
+/// `errors.failed` is set.
 pub fn report_fault<W: Write>(fault: RunFault, errors: &mut Watched<W>) -> u8
     requires { errors.old.failed ≡ false }
     ensures status { result ≡ 2 }
@@ -222,7 +225,7 @@ fn fault_text(fault: RunFault) -> &'static str
     }
 }
 
-// Returns the parts, one after the other. If they are longer together, the text is cut.
+// Returns the parts, one after the other. If they don't fit, the text is cut.
 fn joined(parts: &[&str]) -> InlineText<LINE>
     ensures { let text = concat (map (λ part. part.now) parts.now) in
         length text ≤ LINE → inline_text result ≡ text }
@@ -234,7 +237,7 @@ fn joined(parts: &[&str]) -> InlineText<LINE>
     text
 }
 
-// Writes a text to the standard error. If that fails, no stream is left to say it, but the exit status does.
+// Writes a text to the standard error. If that fails, there is no stream left to report it, but the exit status does.
 fn write_text<W: Write>(text: &str, errors: &mut Watched<W>)
     requires { errors.old.failed ≡ false }
     ensures { WritesUnlessFailed (W.contents errors.old.inner) (W.contents errors.new.inner) errors.new.failed text.now }

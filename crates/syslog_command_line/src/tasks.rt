@@ -1,4 +1,4 @@
-//! What a filter with dates is asked for.
+//! What a program with flags and dates is asked for.
 ghost use Rattle.std.specs.Prelude.{◌≡◌, ◌↔◌, ◌⊎◌, ◌∷◌, [], IsTrue, MatchResult};
 ghost use Rattle.syslog_command_line.specs.Arguments.{help_word, short_help_word};
 ghost use Rattle.syslog_command_line.specs.Tasks.{AsksFor};
@@ -12,18 +12,19 @@ use crate::words::{Wrong, after_word};
 /// What a program is asked for.
 #[derive(Drop)]
 pub enum Task<'a> {
-    /// How it is called.
+    /// To write how it is called.
     Help,
-    /// Its version.
+    /// To write its version.
     Version,
-    /// The lines of its input, by these options.
+    /// To filter the lines of its input, by these options.
     Lines(Options<'a>),
 }
 
-/// Returns what the words after the program's name ask for: flags of those offered, in any order and each at most once,
-/// and `[--] YEAR[-MONTH]`; or `--help`, `-h` or `--version` alone. Of two flags that say otherwise, as `--nul` and
-/// `--octet-counted`, at most one is given. For all other words it is the first one that can't be at its place, or that
-/// a year is missing.
+/// Returns what the words after the program's name ask for. They are flags of those that are offered, in any order and
+/// each at most once, and `[--] YEAR[-MONTH]`; or they are `--help`, `-h` or `--version` alone. Of two flags that
+/// contradict each other, as `--nul` and `--octet-counted`, at most one is given.
+///
+/// For all other words it returns the first one that can't be at its place, or that a year is missing.
 pub fn read_task<'a>(words: &'a [String], offered: &[Flag]) -> Result<Task<'a>, Wrong<'a>>
     ensures { MatchResult result (λ task. AsksFor offered.now (texts words.now) task)
         (λ wrong. IsAmong (texts words.now) wrong

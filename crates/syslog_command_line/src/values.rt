@@ -8,7 +8,7 @@ use syslog_loose::SyslogSeverity;
 /// The largest number that `read_size` returns.
 const MOST: usize = 0x7fff_ffff_ffff_ffff;
 
-/// Returns the number of bytes, from 1 to 2^63 - 1, that decimal digits name; none for any other text.
+/// Returns the number of bytes, from 1 to 2^63 - 1, that decimal digits write; none for any other text.
 pub fn read_size(text: &str) -> Option<usize>
     ensures { MatchOption result ((size : ℕ) → ¬ (NamesSize text.now size)) (λ size. NamesSize text.now size) }
 {
@@ -25,8 +25,8 @@ pub fn read_size(text: &str) -> Option<usize>
     }
 }
 
-/// Returns the severity of a name: `emerg`, `alert`, `crit`, `err`, `warning`, `notice`, `info` or `debug`, or `panic`,
-/// `error` or `warn`. None for any other text.
+/// Returns the severity of a name: `emerg`, `alert`, `crit`, `err`, `warning`, `notice`, `info` or `debug`, or the
+/// older names `panic`, `error` and `warn`. Returns none for any other text.
 pub fn read_severity(name: &str) -> Option<SyslogSeverity>
     ensures { MatchOption result ((severity : SyslogSeverity) → ¬ (NamesSeverity name.now severity))
         (λ severity. NamesSeverity name.now severity) }

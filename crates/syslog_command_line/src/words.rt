@@ -1,4 +1,4 @@
-//! The words that a filter with dates is called with.
+//! The words that a program with flags and dates is called with.
 ghost use Rattle.std.specs.Prelude.{◌≡◌, ◌∷◌, [], IfErr, IfOk, List, MatchOption, MatchResult};
 ghost use Rattle.std.specs.Prelude.{Option, ℕ, ℤ, drop};
 ghost use Rattle.std.specs.Vec.Iter.{into_iter_items};
@@ -11,18 +11,18 @@ use std::alloc::{AllocError, Global};
 use std::env;
 use std::env::Args;
 
-/// Why a program's words ask for nothing.
+/// What is wrong with a program's words.
 #[derive(Clone, Copy)]
 pub enum Wrong<'a> {
     /// This word can't be at its place.
     Word(&'a str),
-    /// The year is missing at their end.
+    /// A year is missing after the last word.
     Missing,
     /// One of the words is not UTF-8, or an allocation failed.
     Unreadable,
 }
 
-/// The words after the first, where that is this one.
+/// Returns the words after the first, if that is `wanted`.
 pub(crate) fn after_word<'a>(words: &'a [String], wanted: &str) -> Option<&'a [String]>
     ensures { MatchOption result ((rest : List (List ℕ)) → ¬ (texts words.now ≡ wanted.now ∷ rest))
         (λ rest. texts words.now ≡ wanted.now ∷ texts rest.now) }
@@ -35,7 +35,7 @@ pub(crate) fn after_word<'a>(words: &'a [String], wanted: &str) -> Option<&'a [S
     }
 }
 
-/// The year, and the month if there is one, that the words name: one word, or the word after `--`.
+/// Returns the year, and the month if there is one, that the words write, if they are one word, or `--` and one word.
 pub(crate) fn read_date_words(words: &[String]) -> Result<(i32, Option<u32>), Wrong<'_>>
     ensures { MatchResult result (λ date. AreDateWords (texts words.now) date.0 date.1)
         (λ wrong. IsAmong (texts words.now) wrong
@@ -47,7 +47,7 @@ pub(crate) fn read_date_words(words: &[String]) -> Result<(i32, Option<u32>), Wr
     }
 }
 
-// The year, and the month if there is one, that the only word names.
+// Returns the year, and the month if there is one, that the only word writes.
 fn read_last_word(words: &[String]) -> Result<(i32, Option<u32>), Wrong<'_>>
     ensures { MatchResult result
         (λ date. (word : List ℕ) × (texts words.now ≡ word ∷ []) × NamesDate word date.0 date.1)
@@ -67,7 +67,7 @@ fn read_last_word(words: &[String]) -> Result<(i32, Option<u32>), Wrong<'_>>
 }
 
 /// Returns the words that the program was called with, after its name; `Wrong::Unreadable` if one is not UTF-8, or an
-/// allocation fails. No clause says which words these are, since the host has none for them.
+/// allocation fails. No clause says which words these are, since the host's contract doesn't.
 pub fn program_words(rt: &HostRuntime) -> Result<Vec<String>, Wrong<'static>>
     ensures { IfErr result (λ wrong. wrong ≡ Unreadable) }
 {

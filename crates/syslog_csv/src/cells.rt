@@ -1,4 +1,4 @@
-//! The cells of a line: what its object has at each key, and nothing where a key is absent.
+//! The cells of a line: what its object has at each key, and nothing if a key is absent.
 ghost use Rattle.std.specs.Prelude.{◌≡◌, [], Some, encode_utf8_all};
 ghost use Rattle.std.specs.Option.{option_map, unwrap_or};
 ghost use Rattle.std.specs.Str.{chars};

@@ -15,7 +15,7 @@ pub(crate) fn push_later(output: &mut Vec<u8>, field: &[u8]) -> Result<(), Alloc
     Ok(())
 }
 
-/// Appends a field, between quotes where it has a mark.
+/// Appends a field, between quotes if it has a quote, a comma, CR or LF.
 pub(crate) fn push_field(output: &mut Vec<u8>, field: &[u8]) -> Result<(), AllocError>
     ensures { OnOk result (output.new.items ≡ output.old.items ++ field_text field.now) }
 {
@@ -32,7 +32,7 @@ fn has_mark(field: &[u8]) -> bool
     field.iter().any(|byte| *byte == b'"' || *byte == b',' || *byte == b'\r' || *byte == b'\n')
 }
 
-// Appends a field between quotes, each of its own quotes twice.
+// Appends a field between quotes, with each of its own quotes doubled.
 fn push_quoted(output: &mut Vec<u8>, field: &[u8]) -> Result<(), AllocError>
     ensures { OnOk result (output.new.items ≡ output.old.items ++ quoted field.now) }
 {
@@ -48,7 +48,7 @@ fn push_quoted(output: &mut Vec<u8>, field: &[u8]) -> Result<(), AllocError>
     Ok(())
 }
 
-// Returns the text up to its first quote and with it, and what follows; none where it has no quote.
+// Returns the text up to and with its first quote, and what follows; none if it has no quote.
 fn split_quote(text: &[u8]) -> Option<(&[u8], &[u8])>
     ensures { MatchOption result (doubled text.now ≡ text.now)
         (λ parts. (doubled text.now ≡ parts.0.now ++ (34 ∷ doubled parts.1.now))

@@ -27,7 +27,7 @@ use syslog_loose::{Line, SyslogFacility, SyslogSeverity};
 /// How many bytes a row is given at first.
 const ROOM: usize = 512;
 
-/// Returns the header: the names of the columns, and CR LF.
+/// Returns the header of the table: the names of the columns, and CR LF.
 pub fn header() -> &'static [u8]
     ensures { result.now ≡ record_text columns ++ (13 ∷ 10 ∷ []) }
 {
@@ -35,10 +35,10 @@ pub fn header() -> &'static [u8]
 structured_data,unparsed_structured_data,message,raw,refused,invalid_utf8\r\n"
 }
 
-/// Returns the row of a line and its CR. The line was read in this dialect, or in none.
+/// Returns the row of a line that was read in this dialect, or in none, and the CR that ends it.
 ///
-/// `elements` is the text of the object of its structured data, and empty where there is none. Where `raw` is given
-/// it has a cell: the line as it came. What the message lacks is an empty cell.
+/// `elements` is the JSON object of its structured data, and empty if there is none. `raw` is the line as it came, if
+/// that is to be in the row. What the message lacks is an empty cell.
 pub fn line_row(
     alloc: Global,
     line: &Line<'_>,
@@ -116,7 +116,7 @@ fn push_names(row: &mut Vec<u8>, line: &Line<'_>) -> Result<(), AllocError>
     Ok(())
 }
 
-// Appends the structured data, what was left unparsed of it, the message and the line as it came; and two empty cells.
+// Appends the structured data, what was left unparsed of it, the message, the line as it came, and two empty cells.
 fn push_texts(
     row: &mut Vec<u8>,
     line: &Line<'_>,
@@ -136,7 +136,7 @@ fn push_texts(
     Ok(())
 }
 
-/// Returns the row of a line that is no message, and its CR.
+/// Returns the row of a line that is no message, and the CR that ends it.
 pub fn refused_row(alloc: Global, line: &str) -> Result<Vec<u8>, AllocError>
     ensures { IfOk result (λ row. IsRowOf (refused_json line.now) row.items) }
 {

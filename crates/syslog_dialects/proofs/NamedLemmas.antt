@@ -189,7 +189,7 @@ pub begins_some : (test : ℕ → Bool) (t : Text) → BeginsWith test t → 0 <
 begins_some test [] h = absurd h
 begins_some test (c ∷ t) h = omega arith
 
--- ---- behind a host
+-- ---- after a host
 
 pub behind_det : (C : Class) → IsDeterministic C → AllDeterministic (behind_row C)
 behind_det C d = host_det also some_run_det is_blank also d also tt

@@ -1,9 +1,9 @@
 -- Lines of Cisco's systems. 35 is `#`, 37 `%`, 42 `*`, 46 `.`.
 --
 -- Each ends in `%FACILITY-SEVERITY-MNEMONIC: text` ("System Message Format" in the guides of IOS, NX-OS and ASA).
--- Before it come, each where the system is so configured: a counter, a sequence number, the host, the task (WLC), `*`
--- or `.` for a clock that was never set or has lost its server, the date, and the host (ASA, FTD). NX-OS has the year
--- before the month.
+-- Before it come, if the system is so configured: a counter, a sequence number, the host, the task (WLC), a mark, the
+-- date, and the host (ASA, FTD). The mark is `*` for a clock that was never set, and `.` for one that has lost its
+-- server. NX-OS has the year before the month.
 use Rattle.std.specs.Prelude.{◌≡◌, ◌⊎◌, ◌||◌, ◌&&◌, ℕ, nat_eq, Bool, true, List, [], ◌∷◌, Option, Some, None}
 use Rattle.std.specs.Prelude.{codes}
 use Rattle.std.specs.Option.{is_some}

@@ -1,5 +1,7 @@
--- The dates that senders show: month dates with a fraction, a zone or a year after the time, and the dates of RFC 3339
--- with what is left out of them or written otherwise. 32 is a space, 44 `,`, 45 `-`, 46 `.`, 47 `/`, 58 `:`, 84 `T`.
+-- The dates that senders show. They are month dates with a fraction, a zone or a year after the time, and dates that
+-- are nearly those of RFC 3339.
+--
+-- 32 is a space, 44 `,`, 45 `-`, 46 `.`, 47 `/`, 58 `:`, 84 `T`.
 use Rattle.std.proofs.Common.{inl, inr}
 use Rattle.std.specs.Prelude.{◌≡◌, ◌⊎◌, ℕ, min, ◌&&◌, Bool, false, List, [], ◌∷◌, ◌++◌, Option, Some, None}
 use Rattle.std.specs.Prelude.{unwrap_or, is_none}
@@ -28,7 +30,7 @@ fraction_row = point ∷ decimals ∷ []
 abbrev pub fraction : Class
 fraction = mapped (Row fraction_row) ℕ (λ v. v.1.0)
 
--- the same after a month date, whose last colon may be the mark
+-- decimals after a month date, whose last colon may be the mark before them
 abbrev pub late_fraction_row : List Class
 late_fraction_row = optional point ∷ decimals ∷ []
 

@@ -1,4 +1,4 @@
--- The forms that are told by their date, in the order in which they are tried.
+-- The forms that are recognised by their date, in the order in which they are tried.
 use Rattle.std.specs.Prelude.{List, [], ◌∷◌, ◌++◌}
 use Rattle.syslog_dialects.specs.Cisco.{cisco_forms, undated_form}
 use Rattle.syslog_dialects.specs.Container.{container_form}

@@ -28,15 +28,15 @@ pub record IsOnlyOf (Fs : List Form) (text : Text) (dialect : Dialect) (sent : S
 abbrev pub Finds : List Form → Text → Option (Dialect × Sent) → Type 0
 Finds Fs text r = MatchOption r (IsOfNone Fs text) (λ x. IsOnlyOf Fs text x.0 (sent_value x.1))
 
--- the forms that are told by their date
+-- the forms that are recognised by their date
 abbrev pub dated_forms : List Form
 dated_forms = all_dated
 
--- those that are told by what follows the date
+-- the forms that are recognised by what follows the date
 abbrev pub named_forms : List Form
 named_forms = all_named
 
--- those of texts that the port does not parse, after a priority
+-- the forms of texts that the port does not parse, after a priority
 abbrev pub last_forms : List Form
 last_forms = program_form ∷ alone_form ∷ []
 

@@ -1,5 +1,5 @@
--- Lines of Cisco's systems as a collector files them (rsyslog, syslog-ng): its own date and the name of the device, and
--- after them the line as the device sent it, with a date of its own.
+-- Lines of Cisco's systems as a collector files them (rsyslog, syslog-ng). The collector's date and the name of the
+-- device come first, and then the line as the device sent it, with a date of its own.
 use Rattle.std.specs.Prelude.{◌≡◌, List, [], ◌∷◌, ◌++◌, Some, None}
 use Rattle.syslog_pieces.specs.Pieces.Class.{Text, Class, Values, Row, run, some_run}
 use Rattle.syslog_pieces.specs.Pieces.Rules.{such_that}

@@ -1,5 +1,4 @@
--- What stands after a date: a host, a program's name and the message. 37 is `%`, 40 `(`, 47 `/`, 91 `[`, 93 `]`, 95
--- `_`.
+-- What follows a date: a host, a program's name and the message. 37 is `%`, 40 `(`, 47 `/`, 91 `[`, 93 `]`, 95 `_`.
 use Rattle.std.proofs.Common.{inl, inr}
 use Rattle.std.specs.Prelude.{◌≡◌, ◌⊎◌, ℕ, Bool, true, nat_eq, ◌||◌, List, [], ◌∷◌, ◌++◌, Option, Some, None}
 use Rattle.std.specs.Char.{is_ascii_alphabetic}

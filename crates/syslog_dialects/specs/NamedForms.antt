@@ -1,4 +1,4 @@
--- The forms that are told by what follows the date, in the order in which they are tried.
+-- The forms that are recognised by what follows the date, in the order in which they are tried.
 use Rattle.std.specs.Prelude.{◌≡◌, List, [], ◌∷◌, ◌++◌, Some, None}
 use Rattle.syslog_pieces.specs.Pieces.Class.{Class, Values, Row, run, some_run, mapped}
 use Rattle.syslog_pieces.specs.Text.{is_blank}

@@ -1,5 +1,5 @@
--- What a program's line says in the forms that are told by what comes between the date and the program's name. 32 is
--- a space, 40 `(`, 41 `)`, 46 `.`.
+-- What a program's line says, in the forms that are recognised by what is between the date and the program's name. 32
+-- is a space, 40 `(`, 41 `)`, 46 `.`.
 use Rattle.std.specs.Prelude.{◌⊎◌, Bool, IsTrue, ◌||◌, List, [], ◌∷◌, Option, Some, None, codes}
 use Rattle.std.specs.Char.{is_not_whitespace}
 use Rattle.syslog_pieces.specs.Pieces.Class.{Text, Class, Values, Row, run, some_run, exactly, rest, mapped, texted}
@@ -123,7 +123,7 @@ forwarded_of (_, (h, (_, (_, (p, (_, (m, _))))))) = tagged (Some h) p m
 abbrev pub passed_on : Class
 passed_on = mapped (Row forwarded_row) NamedTexts forwarded_of
 
--- perhaps behind the host that passes it on, which is left out
+-- it may follow the name of the host that passes it on, which is left out
 abbrev pub relayed_of : NamedTexts ⊎ (Option Text × (Unit {0} × (NamedTexts × Unit {0}))) → NamedTexts
 relayed_of (inl n) = n
 relayed_of (inr (_, (_, (n, _)))) = n

@@ -28,7 +28,7 @@ tail = record { Value = TailValue; Is = IsTail }
 abbrev pub spare : Class
 spare = ended (exactly (32 ∷ []))
 
--- the same after one space more than the port takes (macOS, `log show --style syslog`)
+-- what follows a date, after one space more than the port takes (macOS, `log show --style syslog`)
 abbrev pub wide_row : List Class
 wide_row = optional spare ∷ tail ∷ []
 

@@ -1,5 +1,6 @@
--- Messages that no program's name is before: they are told by what they begin with. 32 is a space, 44 `,`, 46 `.`,
--- 47 `/`, 58 `:`, 61 `=`, 91 `[`, 123 `{`, 124 `|`.
+-- Messages that have no program's name before them: they are recognised by what they begin with.
+--
+-- 32 is a space, 44 `,`, 46 `.`, 47 `/`, 58 `:`, 61 `=`, 91 `[`, 123 `{`, 124 `|`.
 use Rattle.std.proofs.Common.{inl, inr}
 use Rattle.std.specs.Prelude.{◌⊎◌, ◌||◌, ◌&&◌, ℕ, nat_eq, nat_le, Option, Bool, IsTrue, List, [], ◌∷◌, None, codes}
 use Rattle.std.specs.Char.{is_ascii_digit, is_not_whitespace}
@@ -42,7 +43,7 @@ repeats = exactly (codes "--- last message repeated ") otherwise exactly (codes 
 abbrev pub repeats_row : List Class
 repeats_row = repeats ∷ some_digits ∷ exactly (codes " time") ∷ []
 
--- `-- MARK --`, by which a daemon says that it is there (sysklogd's `-m`, the module immark of rsyslog)
+-- `-- MARK --`, by which a daemon says that it is running (sysklogd's `-m`, the module immark of rsyslog)
 abbrev pub here : Class
 here = exactly (codes "-- MARK --")
 

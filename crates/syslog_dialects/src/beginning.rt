@@ -1,5 +1,5 @@
-//! How a text of a dialect may begin. Few other texts are looked at further than at three characters, so that a line
-//! that is refused costs little more than before there were dialects.
+//! How a text of a dialect may begin. Of most other texts only three characters are looked at, so that a line that does
+//! not parse costs little more than without dialects.
 ghost use Rattle.std.specs.Prelude.{◌≡◌, ◌↔◌, IsTrue, chars};
 ghost use Rattle.syslog_dialects.specs.SentReading as spec;
 
@@ -19,7 +19,7 @@ fn is_mark(c: char) -> bool
     c == '%' || (c == '*' || (c == '.' || (c == ':' || c == '[')))
 }
 
-// Whether the first character is one of a priority, a date, a counter, a mark or a name of the dialects.
+// Whether a priority, a date, a counter, a mark or a name of the dialects may begin with this character.
 #[inline(always)]
 fn begins(c: char) -> bool
     ensures { result ≡ spec.begins c }
@@ -34,7 +34,7 @@ fn is_gap_or_digit(c: char) -> bool
     c <= ' ' || c.is_ascii_digit()
 }
 
-// Whether these may follow a digit.
+// Whether these two characters may follow a digit at the front.
 fn follow_digit(d: char, e: char) -> bool
     ensures { result ≡ spec.follows_digit d e }
 {
@@ -43,7 +43,7 @@ fn follow_digit(d: char, e: char) -> bool
         || ((d == ':' && e <= ' ') || (d == '/' && (e.is_ascii_digit() || is_capital(e))))
 }
 
-// Whether these may follow a mark.
+// Whether these two characters may follow a mark at the front.
 fn follow_mark(d: char, e: char) -> bool
     ensures { result ≡ spec.follows_mark d e }
 {
@@ -52,7 +52,7 @@ fn follow_mark(d: char, e: char) -> bool
             || (is_capital(d) && e.is_ascii_alphabetic()))
 }
 
-// Whether a priority begins so, or a name.
+// Whether a priority or a name may begin with these three characters.
 fn begin_otherwise(c: char, d: char, e: char) -> bool
     ensures { result ≡ spec.begins_otherwise c d e }
 {
@@ -60,7 +60,7 @@ fn begin_otherwise(c: char, d: char, e: char) -> bool
         || (is_capital(c) && (d.is_ascii_alphabetic() && (e.is_ascii_alphabetic() || e == '/')))
 }
 
-// Whether a key begins so with which the pairs of a line begin.
+// Whether one of the keys with which a line of pairs begins may begin with these three characters.
 fn begins_key(c: char, d: char, e: char) -> bool
     ensures { result ≡ spec.begins_key c d e }
 {
@@ -75,7 +75,7 @@ fn begin_so(c: char, d: char, e: char) -> bool
         || (begin_otherwise(c, d, e) || begins_key(c, d, e))
 }
 
-// Whether the text may go on so after its first character.
+// Whether this text may follow the first character `c`.
 fn goes_on(c: char, text: &str) -> bool
     ensures { IsTrue result ↔ spec.GoesOn c (chars text.now) }
 {
@@ -88,7 +88,7 @@ fn goes_on(c: char, text: &str) -> bool
     }
 }
 
-/// Returns whether a dialect may begin the text.
+/// Returns whether the text begins as one of a dialect may.
 #[inline(always)]
 pub(crate) fn may_be_sent(text: &str) -> bool
     ensures { IsTrue result ↔ spec.MayBegin (chars text.now) }

@@ -1,14 +1,13 @@
 //! Lines of Cisco's systems: IOS, IOS-XE, NX-OS, ASA, FTD and WLC.
 //!
-//! **Rule.** The app name is `%FACILITY-SEVERITY-MNEMONIC`, the message what follows its colon. Counters, sequence
-//! numbers, tasks and the mark of a clock that is not right are left out. The host is the name before the date, or else
-//! that after it; a line that has neither has no host. (Cisco, "System Message Format": IOS System Messages Guide;
-//! NX-OS
-//! System Messages Reference; ASA Syslog Messages.)
+//! **Rule.** The app name is `%FACILITY-SEVERITY-MNEMONIC`, and the message is what follows its colon. Counters,
+//! sequence numbers, tasks and the mark of a clock that is not right are left out. The host is the name before the
+//! date, or otherwise the one after it; a line that has neither has no host. (Cisco, "System Message Format": IOS
+//! System Messages Guide; NX-OS System Messages Reference; ASA Syslog Messages.)
 //!
 //! `<189>29: *Mar  1 18:48:50.483: %SYS-5-CONFIG_I: text`, `<187>4211: core-sw1: Mar  1 18:48:50 CET: %LINK-3-UPDOWN:
-//! text`,
-//! `<189>: 2026 Mar  1 18:48:50 CET: %ETHPORT-5-IF_DOWN: text`, `<166>Mar 01 2026 18:48:50 asa1 : %ASA-6-302013: text`.
+//! text`, `<189>: 2026 Mar  1 18:48:50 CET: %ETHPORT-5-IF_DOWN: text`, `<166>Mar 01 2026 18:48:50 asa1 : %ASA-6-302013:
+//! text`.
 ghost use Rattle.std.specs.Prelude.{◌≡◌, ◌++◌, ◌∷◌, [], chars, IsTrue, MatchBool, MatchOption, Option, Some, ℕ};
 ghost use Rattle.std.specs.Char.{is_ascii_digit};
 ghost use Rattle.syslog_pieces.specs.Pieces.Class.{Front, NoFront, Row, Text, exactly, optional, run, some_run};
@@ -36,7 +35,7 @@ use syslog_pieces::text::{
 use syslog_pieces::timestamp::MonthDate;
 use syslog_pieces::timestamp::pairs::year;
 
-// A letter or a digit.
+// Whether a host's name may begin with this character: a letter or a digit.
 fn begins_host(c: char) -> bool
     ensures { result ≡ spec.begins_host c }
 {
@@ -53,7 +52,7 @@ fn is_host(word: &str) -> bool
     }
 }
 
-// Whether it is `%` or `#`, and then a letter.
+// Whether the word begins with `%` or `#`, and then a letter.
 fn is_mnemonic(word: &str) -> bool
     ensures { MatchBool result (spec.IsMnemonic (chars word.now)) (spec.IsMnemonic (chars word.now) → ⊥) }
 {
@@ -83,7 +82,7 @@ fn is_asa_tag(tag: &str) -> bool
     starts(tag, "%ASA-") || starts(tag, "%FTD-")
 }
 
-// A host's name at the front.
+// Returns a host's name at the front, and the text after it.
 pub(crate) fn origin(text: &str) -> Option<(&str, &str)>
     ensures { Reads spec.origin (λ word. shown word) (chars text.now) result }
 {
@@ -103,7 +102,7 @@ fn optional_origin(text: &str) -> (Option<&str>, &str)
     }
 }
 
-// `%FACILITY-SEVERITY-MNEMONIC` at the front.
+// Returns `%FACILITY-SEVERITY-MNEMONIC` at the front, and the text after it.
 fn mnemonic(text: &str) -> Option<(&str, &str)>
     ensures { Reads spec.mnemonic (λ word. shown word) (chars text.now) result }
 {
@@ -145,7 +144,7 @@ fn counter(text: &str) -> Option<&str>
     digits(text).and_then(colon).and_then(gap)
 }
 
-// The text after a counter, or all of it where there is none.
+// Returns the text after a counter, and all of it if it begins with none.
 pub(crate) fn past_counter(text: &str) -> &str
     ensures { (v : (optional (Row spec.counter_row)).Value)
         × Front (optional (Row spec.counter_row)) (chars text.now) (shown result) v }
@@ -156,7 +155,7 @@ pub(crate) fn past_counter(text: &str) -> &str
     }
 }
 
-// A host's name before a colon and blanks.
+// Returns a host's name before a colon and blanks, and the text after these.
 fn label(text: &str) -> Option<(&str, &str)>
     ensures { Reads spec.label (λ word. shown word) (chars text.now) result }
 {
@@ -194,7 +193,7 @@ fn task(text: &str) -> Option<&str>
     star(text).and_then(task_name).and_then(colon).and_then(gap)
 }
 
-// The text after a task, or all of it where there is none.
+// Returns the text after a task, and all of it if it begins with none.
 fn past_task(text: &str) -> &str
     ensures { (v : (optional (Row spec.task_row)).Value)
         × Front (optional (Row spec.task_row)) (chars text.now) (shown result) v }
@@ -214,7 +213,7 @@ fn mark(text: &str) -> Option<&str>
     }
 }
 
-// The text after a mark, or all of it where there is none.
+// Returns the text after a mark, and all of it if it begins with none.
 fn past_mark(text: &str) -> &str
     ensures { (v : (optional spec.mark).Value) × Front (optional spec.mark) (chars text.now) (shown result) v }
 {
@@ -224,7 +223,7 @@ fn past_mark(text: &str) -> &str
     }
 }
 
-// What comes before the date: the host, where it does.
+// Reads what comes before the date: returns the host, if it comes there, and the text from the date on.
 fn start(text: &str) -> (Option<&str>, &str)
     ensures { Front spec.start (chars text.now) (shown result.1) (seen result.0) }
 {
@@ -240,7 +239,7 @@ fn start(text: &str) -> (Option<&str>, &str)
     (host, rest)
 }
 
-// A year before blanks.
+// Returns a year before blanks, and the text after these.
 fn front_year(text: &str) -> Option<(u16, &str)>
     ensures { Reads spec.front_year (λ y. y) (chars text.now) result }
 {
@@ -258,7 +257,7 @@ pub(crate) fn optional_front_year(text: &str) -> (Option<u16>, &str)
     }
 }
 
-// What comes after the date: the host, where it does.
+// Reads what comes after the date: returns the host, if it comes there, and the text after it.
 fn place(text: &str) -> (Option<&str>, &str)
     ensures { Front spec.place (chars text.now) (shown result.1) (seen result.0) }
 {
@@ -266,7 +265,7 @@ fn place(text: &str) -> (Option<&str>, &str)
     (host, blanks(past_colon(blanks(rest))))
 }
 
-// A mnemonic, a colon and the message.
+// Reads a mnemonic, a colon and the message: returns the mnemonic and the message.
 fn message(text: &str) -> Option<(&str, &str)>
     ensures { MatchOption result (NoFront (Row spec.message_row) (chars text.now))
         (λ x. Front (Row spec.message_row) (chars text.now) [] (message_values (shown x.0) (shown x.1))) }
@@ -276,7 +275,7 @@ fn message(text: &str) -> Option<(&str, &str)>
     Some((tag, blanks(rest)))
 }
 
-/// Returns the date in the year that is shown before it, where one is.
+/// Returns the date, in the year that is shown before it if one is.
 pub(crate) fn dated_in(year: Option<u16>, shown: SentDate) -> SentDate
     ensures { result ≡ spec.dated_in year shown }
 {
@@ -303,7 +302,7 @@ pub(crate) struct Cisco<'a> {
     pub(crate) msg: &'a str,
 }
 
-// What a line shows, of which this comes up to the date, and this after it.
+// Returns what a line shows, from what comes up to its date and what comes after it.
 fn shown_after<'a>(
     first_host: Option<&'a str>,
     year: Option<u16>,
@@ -337,15 +336,15 @@ pub(crate) fn shown_line(text: &str) -> Option<Cisco<'_>>
     shown_after(first_host, year, date, rest)
 }
 
-// Whether the two have one length: of two ends of one text they are the same then.
+// Whether the two texts have one length. Two ends of the same text are the same then.
 fn are_one_end(a: &str, b: &str) -> bool
     ensures { IsTrue result → (p q : Text) → p ++ chars a.now ≡ q ++ chars b.now → chars a.now ≡ chars b.now }
 {
     a.len() == b.len()
 }
 
-// What a line shows that begins with this date, after blanks or none. One of RFC 3339 is read again only where a name
-// or a counter comes before it. Before a month date comes neither.
+// Returns what a line shows that begins with this date, after blanks or none. A date of RFC 3339 is read again only if
+// a name or a counter comes before it; neither comes before a month date.
 fn shown_led<'a>(text: &'a str, led: Led<'a>) -> Option<Cisco<'a>>
     ensures { IsLed (chars text.entry.now) led.entry
         → MatchOption result (NoFront (Row spec.cisco_row) (chars text.entry.now))
@@ -357,7 +356,7 @@ fn shown_led<'a>(text: &'a str, led: Led<'a>) -> Option<Cisco<'a>>
     }
 }
 
-// What a line shows of which this is the text from the date on.
+// Returns what a line shows, of which `text` is the part from the date on.
 fn shown_from<'a>(text: &'a str, begun: &'a str, date: SentDate, rest: &'a str) -> Option<Cisco<'a>>
     ensures { Front (run is_blank) (chars text.entry.now) (chars begun.entry.now) tt
         → Front date_class (chars begun.entry.now) (chars rest.entry.now) date
@@ -404,8 +403,8 @@ impl<'a> Cisco<'a> {
     }
 }
 
-// The system of a line, and what the line says: ASA or FTD by its facility, NX-OS by a year before the month, and
-// otherwise IOS.
+// Returns the system of a line, and what the line says. It is ASA or FTD by its facility, NX-OS by a year before the
+// month, and otherwise IOS.
 fn by_system<'a>(line: &Cisco<'a>) -> (Dialect, Sent<'a>)
     ensures { (text : Text) → Front (Row spec.cisco_row) text [] (cisco_values line.now)
         → Finds spec.cisco_forms text (Some result) }
@@ -420,7 +419,7 @@ fn by_system<'a>(line: &Cisco<'a>) -> (Dialect, Sent<'a>)
     (Dialect::CiscoIos, sent)
 }
 
-// What a line shows, of which this is the front.
+// Returns what a line shows that begins with this front.
 fn shown<'a>(text: &'a str, front: Option<Led<'a>>) -> Option<Cisco<'a>>
     ensures { IsFront (chars text.entry.now) front.entry
         → MatchOption result (NoFront (Row spec.cisco_row) (chars text.entry.now))
@@ -432,7 +431,7 @@ fn shown<'a>(text: &'a str, front: Option<Led<'a>>) -> Option<Cisco<'a>>
     }
 }
 
-/// Returns the system of a line with a date, and what the line says. The front is what `read_front` says of it.
+/// Returns the system of a line with a date, and what the line says. `front` is what `read_front` returned for it.
 pub(crate) fn read_cisco<'a>(text: &'a str, front: Option<Led<'a>>) -> Option<(Dialect, Sent<'a>)>
     ensures { IsFront (chars text.entry.now) front.entry → Finds spec.cisco_forms (chars text.entry.now) result }
 {

@@ -1,7 +1,6 @@
 //! Container log files in the format of Kubernetes (CRI): `2026-03-02T06:33:04.123456789Z stdout F text`.
 //!
-//! **Rule.** The stream and the mark of a full or a partial line name no host and no program, so that they stay
-//! before the
+//! **Rule.** The stream and the mark of a full or a partial line name no host and no program, so they stay before the
 //! message. (Kubernetes, "CRI logging": a timestamp of RFC 3339, `stdout` or `stderr`, `F` or `P`, each before a
 //! space.)
 ghost use Rattle.std.specs.Prelude.{◌≡◌, ◌∷◌, [], chars, true, MatchBool};
@@ -60,14 +59,14 @@ fn space(text: &str) -> Option<&str>
     literal(text, ' ')
 }
 
-// The text after the stream, a space and the mark.
+// Returns the text after the stream, a space and the mark.
 fn past_stream(text: &str) -> Option<&str>
     ensures { Recognises (Row spec.stream_row) (chars text.now) result }
 {
     stream(text).and_then(space).and_then(mark)
 }
 
-/// Returns what a line of a container's log file says that begins with this date, and of which the rest is left.
+/// Returns what a line of a container's log file says, which begins with this date, and has `rest` after it.
 pub(crate) fn read_container(date: SentDate, rest: &str) -> Option<Sent<'_>>
     ensures { (text at : Text) → Front (run is_blank) text at tt → Front iso_date at (chars rest.now) date
         → Sends spec.container_form text result }

@@ -1,9 +1,9 @@
 //! The dates that senders show.
 //!
-//! **Rule.** A month date may have a fraction after the seconds (`.123`, `,123`, or `:123` as H3C writes), a zone
-//! (`zone`) and a year. A date of RFC 3339 may have a space for its `T`, a comma for its dot, months and days of one
-//! digit, an offset without its colon or its minutes, the name of a zone, or no zone at all. Second 60 counts as 59
-//! there, as the port has it.
+//! **Rule.** A month date may be followed by a fraction (`.123`, `,123`, or `:123` as H3C writes), a zone (`zone`) and
+//! a year. A date of RFC 3339 may have a space for its `T`, a comma for its dot, and months and days of one digit. Its
+//! offset may lack the colon or the minutes, be the name of a zone, or be absent. Second 60 counts as 59 there, as the
+//! port has it.
 ghost use Rattle.std.specs.Prelude.{◌≡◌, ◌<◌, chars, ℕ, Option, false, MatchBool, option_map};
 ghost use Rattle.syslog_pieces.specs.Pieces.Class.{Front, Row, after, optional};
 ghost use Rattle.syslog_pieces.specs.Pieces.View.{Reads, Recognises, Skips, shown};
@@ -21,7 +21,8 @@ use syslog_pieces::timestamp::MonthDate;
 use syslog_pieces::timestamp::month_date::month_date;
 use syslog_pieces::timestamp::pairs::{pair, pair_after, year};
 
-/// A month date, and what follows it: a fraction in nanoseconds, a zone with the offset that it is known to be, a year.
+/// A month date, and what follows it: a fraction in nanoseconds, a zone with its offset where that is known, and a
+/// year.
 #[derive(Clone, Copy)]
 pub(crate) struct BsdDate {
     date: MonthDate,
@@ -30,7 +31,7 @@ pub(crate) struct BsdDate {
     year: Option<u16>,
 }
 
-/// The numbers of a date of RFC 3339, nearly.
+/// The numbers of a date that is nearly one of RFC 3339.
 #[derive(Clone, Copy)]
 struct IsoDate {
     year: u16,
@@ -43,7 +44,7 @@ struct IsoDate {
     zone: Option<Option<i32>>,
 }
 
-// The text after a dot or a comma.
+// Returns the text after a dot or a comma.
 fn point(text: &str) -> Option<&str>
     ensures { Recognises spec.point (chars text.now) result }
 {
@@ -53,7 +54,7 @@ fn point(text: &str) -> Option<&str>
     }
 }
 
-// The text after a dot or a comma, or all of it where there is none.
+// Returns the text after a dot or a comma, and all of it if it begins with neither.
 fn past_point(text: &str) -> &str
     ensures { (v : (optional spec.point).Value) × Front (optional spec.point) (chars text.now) (shown result) v }
 {
@@ -63,7 +64,8 @@ fn past_point(text: &str) -> &str
     }
 }
 
-// A dot or a comma, and decimals, in nanoseconds.
+// Returns the fraction at the front, in nanoseconds, and the text after it. A fraction is a dot or a comma, and
+// decimals.
 /// Returns the fraction at the front, in nanoseconds, and the text after it.
 pub(crate) fn fraction(text: &str) -> Option<(u32, &str)>
     ensures { Reads spec.fraction (λ n. n) (chars text.now) result }
@@ -72,7 +74,7 @@ pub(crate) fn fraction(text: &str) -> Option<(u32, &str)>
     decimals(rest)
 }
 
-/// Returns the fraction at the front, where there is one, in nanoseconds, and the text after it.
+/// Returns the fraction at the front in nanoseconds, if there is one, and the text after it.
 pub(crate) fn optional_fraction(text: &str) -> (Option<u32>, &str)
     ensures { Front (optional spec.fraction) (chars text.now) (shown result.1) result.0 }
 {
@@ -82,7 +84,8 @@ pub(crate) fn optional_fraction(text: &str) -> (Option<u32>, &str)
     }
 }
 
-// Decimals after a month date, in nanoseconds. No digit follows the seconds but after the date's last colon.
+// Returns the decimals after a month date, in nanoseconds, and the text after them. A digit right after the seconds is
+// only there if the date ends in a colon, as H3C writes.
 fn late_fraction(text: &str) -> Option<(u32, &str)>
     ensures { Reads spec.late_fraction (λ n. n) (chars text.now) result }
 {
@@ -98,7 +101,7 @@ fn optional_late_fraction(text: &str) -> (Option<u32>, &str)
     }
 }
 
-/// Returns the zone at the front, where there is one, and the text after it.
+/// Returns the zone at the front, if there is one, and the text after it.
 pub(crate) fn optional_zone(text: &str) -> (Option<Option<i32>>, &str)
     ensures { Front (optional any_zone) (chars text.now) (shown result.1) result.0 }
 {
@@ -108,7 +111,7 @@ pub(crate) fn optional_zone(text: &str) -> (Option<Option<i32>>, &str)
     }
 }
 
-// A year that is a word.
+// Returns a year that is a whole word, and the text after it.
 fn ended_year(text: &str) -> Option<(u16, &str)>
     ensures { Reads (ended any_year) (λ y. y) (chars text.now) result }
 {
@@ -116,7 +119,7 @@ fn ended_year(text: &str) -> Option<(u16, &str)>
     ends_word(rest).then_some((year, rest))
 }
 
-// A year after a space.
+// Returns a year after a space, and the text after it.
 fn year_after(text: &str) -> Option<(u16, &str)>
     ensures { Reads spec.year_after (λ y. y) (chars text.now) result }
 {
@@ -185,7 +188,7 @@ pub(crate) fn bsd_date(text: &str) -> Option<(SentDate, &str)>
     Some((date.sent(), rest))
 }
 
-// The text after a `T` or a space.
+// Returns the text after a `T` or a space.
 fn middle(text: &str) -> Option<&str>
     ensures { Skips spec.middle tt (chars text.now) result }
 {
@@ -195,7 +198,7 @@ fn middle(text: &str) -> Option<&str>
     }
 }
 
-// A month or a day after a dash.
+// Returns a month or a day after a dash, and the text after it.
 fn number_after(text: &str) -> Option<(u32, &str)>
     ensures { Reads (after 45 (any_number 99)) (λ n. n) (chars text.now) result }
 {
@@ -223,7 +226,7 @@ impl IsoDate {
     }
 }
 
-// The date of RFC 3339, nearly, at the front.
+// Returns the date at the front that is nearly one of RFC 3339, and the text after it.
 fn iso(text: &str) -> Option<(IsoDate, &str)>
     ensures { Reads (Row spec.iso_row) iso_values (chars text.now) result }
 {
@@ -249,7 +252,7 @@ fn iso(text: &str) -> Option<(IsoDate, &str)>
     Some((shown, rest))
 }
 
-/// Returns the date of RFC 3339, nearly, at the front, and the text after it.
+/// Returns the date at the front that is nearly one of RFC 3339, as a line shows it, and the text after it.
 pub(crate) fn iso_date(text: &str) -> Option<(SentDate, &str)>
     ensures { Reads spec.iso_date (λ d. d) (chars text.now) result }
 {

@@ -1,15 +1,13 @@
 //! The dialects whose date alone differs from what the port reads.
 //!
-//! | Sender | Line |
-//! |---|---|
-//! | Junos, Huawei, `journalctl -o short-precise` | `Mar  2 06:33:04.123 mx1 rpd[123]: text`, `Mar  2 2026
-//! 06:33:04+08:00 h ..` |
-//! | H3C, ArubaOS | `Mar  2 06:33:04 2026 h app: text` |
-//! | `journalctl -o short-iso`, Huawei, log4j | `2026-03-02T06:33:04+0100 h app[1]: text`, `2026-03-02 06:33:04,123 h
-//! ..` |
-//! | `journalctl -o short-full` | `Mon 2026-03-02 06:33:04 CET h app[1]: text` |
+//! **Rule.** What follows the date is read as the port reads it. These senders write such lines:
 //!
-//! What follows the date is read as the port reads it.
+//! - Junos, Huawei and `journalctl -o short-precise`: `Mar  2 06:33:04.123 mx1 rpd[123]: text`, `Mar  2 2026
+//!   06:33:04+08:00 h ..`
+//! - H3C and ArubaOS: `Mar  2 06:33:04 2026 h app: text`
+//! - `journalctl -o short-iso`, Huawei and log4j: `2026-03-02T06:33:04+0100 h app[1]: text`, `2026-03-02 06:33:04,123 h
+//!   ..`
+//! - `journalctl -o short-full`: `Mon 2026-03-02 06:33:04 CET h app[1]: text`
 ghost use Rattle.std.specs.Prelude.{◌≡◌, chars, true, MatchBool};
 ghost use Rattle.syslog_pieces.specs.Pieces.Class.{Front, Row, Text, run};
 ghost use Rattle.syslog_pieces.specs.Pieces.View.{Recognises};
@@ -29,7 +27,7 @@ use syslog_pieces::timestamp::header_stamp;
 
 const DAYS: [&str; 7] = ["Mon", "Tue", "Wed", "Thu", "Fri", "Sat", "Sun"];
 
-/// Returns what a date and all after it say.
+/// Returns what a line says that has this date and this text after it.
 pub(crate) fn says<'a>(date: SentDate, tail: Tail<'a>) -> Sent<'a>
     ensures { sent_value result ≡ spec.dated_sent date (tail_value tail.entry) }
 {
@@ -44,7 +42,7 @@ pub(crate) fn says<'a>(date: SentDate, tail: Tail<'a>) -> Sent<'a>
     }
 }
 
-/// Returns what a line says that begins with this month date, where a fraction, a zone or a year follows it.
+/// Returns what a line says that begins with this month date; none if no fraction, zone or year follows it.
 pub(crate) fn read_bsd(date: BsdDate, rest: &str) -> Option<Sent<'_>>
     ensures { (text at : Text) → Front (run is_blank) text at tt
         → Front (Row date_row) at (chars rest.now) (bsd_values date) → Sends spec.bsd_form text result }
@@ -75,7 +73,7 @@ fn is_day(word: &str) -> bool
     is_one_of(&DAYS, word)
 }
 
-/// Returns the text after the day of the week.
+/// Returns the text after the day of the week, if that begins it.
 pub(crate) fn weekday(text: &str) -> Option<&str>
     ensures { Recognises spec.weekday (chars text.now) result }
 {

@@ -1,4 +1,4 @@
-//! The forms that their date makes out, in the order in which they are tried.
+//! The forms that are recognised by their date, in the order in which they are tried.
 ghost use Rattle.std.specs.Prelude.{◌≡◌, chars};
 ghost use Rattle.syslog_pieces.specs.Pieces.Class.{Front, NoFront, Row, Text, run};
 ghost use Rattle.syslog_pieces.specs.Text.{is_blank};
@@ -91,7 +91,7 @@ fn from_journal(text: &str) -> Option<(Dialect, Sent<'_>)>
     }
 }
 
-// From the first form on that has a month date, where the text begins with one.
+// Tries the forms that have a month date, and those after them, on a text that begins with one.
 fn after_month(date: BsdDate, rest: &str) -> Option<(Dialect, Sent<'_>)>
     ensures { (text at : Text) → Front (run is_blank) text at tt
         → Front (Row bsd_row) at (chars rest.now) (bsd_values date) → Finds spec.bsd_forms text result }
@@ -100,7 +100,8 @@ fn after_month(date: BsdDate, rest: &str) -> Option<(Dialect, Sent<'_>)>
     Some((Dialect::BsdDate, sent))
 }
 
-// From there on where it begins with a date that is nearly one of RFC 3339.
+// Tries the forms that have a date that is nearly one of RFC 3339, and those after them, on a text that begins with
+// one.
 fn after_iso<'a>(
     text: &'a str,
     begun: &'a str,
@@ -136,7 +137,7 @@ fn from_procurve<'a>(text: &'a str, led: Led<'a>) -> Option<(Dialect, Sent<'a>)>
     }
 }
 
-// What a line of ESXi says, which has no month date.
+// Returns what a line of ESXi says, which never begins with a month date.
 fn of_esxi(led: Led<'_>) -> Option<Sent<'_>>
     ensures { (text : Text) → IsLed text led.entry → Sends esxi_form text result }
 {
@@ -155,7 +156,7 @@ fn from_esxi<'a>(text: &'a str, led: Led<'a>) -> Option<(Dialect, Sent<'a>)>
     }
 }
 
-// What a line of a container's log file says, which has no month date.
+// Returns what a line of a container's log file says, which never begins with a month date.
 fn of_container(led: Led<'_>) -> Option<Sent<'_>>
     ensures { (text : Text) → IsLed text led.entry → Sends container_form text result }
 {
@@ -174,7 +175,7 @@ fn from_container<'a>(text: &'a str, led: Led<'a>) -> Option<(Dialect, Sent<'a>)
     }
 }
 
-// From the first form on that may have another beginning than a date.
+// Tries the forms that need not begin with a date, and those after them.
 fn from_xr<'a>(text: &'a str, front: Option<Led<'a>>) -> Option<(Dialect, Sent<'a>)>
     ensures { IsFront (chars text.entry.now) front.entry → Finds spec.xr_forms (chars text.entry.now) result }
 {
@@ -187,7 +188,7 @@ fn from_xr<'a>(text: &'a str, front: Option<Led<'a>>) -> Option<(Dialect, Sent<'
     }
 }
 
-// What a filed line says, which begins with a date.
+// Returns what a filed line says, which begins with a date.
 fn of_filed(front: Option<Led<'_>>) -> Option<(Dialect, Sent<'_>)>
     ensures { (text : Text) → IsFront text front.entry → Finds filed_forms text result }
 {
@@ -206,8 +207,8 @@ fn from_filed<'a>(text: &'a str, front: Option<Led<'a>>) -> Option<(Dialect, Sen
     }
 }
 
-/// Returns the dialect of the text after a priority, by its date, and what it says. The front is what `read_front` says
-/// of it.
+/// Returns the dialect that the text after a priority is in by its date, and what the text says. `front` is what
+/// `read_front` returned for it.
 pub(crate) fn read<'a>(text: &'a str, front: Option<Led<'a>>) -> Option<(Dialect, Sent<'a>)>
     ensures { IsFront (chars text.entry.now) front.entry → Finds spec.all_dated (chars text.entry.now) result }
 {

@@ -7,8 +7,8 @@ ghost use Rattle.syslog_pieces.specs.Timestamp.Rfc3339 as spec;
 
 use syslog_pieces::text::{CharClass, split_run};
 
-/// Returns the decimals at the front, one or more digits, in nanoseconds, and the text after them. Those past nine are
-/// cut.
+/// Returns the decimals at the front in nanoseconds, and the text after them; none if there is no digit. Decimals past
+/// nine are cut off.
 pub(crate) fn decimals(text: &str) -> Option<(u32, &str)>
     ensures { Reads spec.decimals (λ n. n) (chars text.now) result }
 {
@@ -24,7 +24,7 @@ fn digit(byte: u8) -> u32
     u32::from(byte) - 48
 }
 
-// One or more digits, of any number: those past nine are worth nothing.
+// Reads one or more digits: those past nine are worth nothing.
 fn many_decimals(text: &[u8]) -> Option<(u32, &[u8])>
     ensures { ReadsBytes spec.decimals (λ n. n) text.now result }
 {
@@ -42,7 +42,8 @@ fn many_decimals(text: &[u8]) -> Option<(u32, &[u8])>
     Some((nanosecond, rest))
 }
 
-// How many digits the text begins with. A function of its own, so that its clauses speak of bytes, and not of items.
+// Returns how many digits the text begins with. It is a function of its own, so that its clauses speak of bytes and not
+// of items.
 fn digits_len(text: &[u8]) -> usize
     ensures len { result ≡ prefix_len is_ascii_digit text.now }
     ensures within { result ≤ length text.now }

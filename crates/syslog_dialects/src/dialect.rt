@@ -1,9 +1,9 @@
-//! The dialects, by their names.
+//! The dialects, and their names and numbers.
 ghost use Rattle.std.specs.Prelude.{◌≡◌, MatchOption};
 ghost use Rattle.syslog_dialects.specs.Dialect.{dialect_name, dialect_number};
 ghost use Rattle.syslog_dialects.specs.declared.dialect.Dialect.{Dialect as AnyDialect};
 
-/// A form in which senders write, other than the two of the port.
+/// A dialect: a form in which some senders write, other than RFC 5424 and RFC 3164 as the port reads them.
 #[derive(Clone, Copy, Debug)]
 pub enum Dialect {
     /// A priority and a text that shows no date, as MikroTik's routers write.
@@ -12,7 +12,7 @@ pub enum Dialect {
     BsdDate,
     /// A date that is nearly one of RFC 3339.
     NearlyRfc3339,
-    /// The day of the week before such a date, as `journalctl -o short-full` writes.
+    /// The day of the week before a date that is nearly one of RFC 3339, as `journalctl -o short-full` writes.
     Journal,
     /// Cisco's IOS, IOS-XE and WLC.
     CiscoIos,
@@ -20,7 +20,7 @@ pub enum Dialect {
     CiscoNxOs,
     /// Cisco's ASA and FTD.
     CiscoAsa,
-    /// Cisco's systems without a date.
+    /// Lines of Cisco's systems that show no date.
     CiscoUndated,
     /// Container log files of Kubernetes.
     Container,
@@ -30,13 +30,13 @@ pub enum Dialect {
     Esxi,
     /// Citrix NetScaler.
     NetScaler,
-    /// Seconds since 1970 in place of a date, as Cisco Meraki and `journalctl -o short-unix` write.
+    /// Seconds since 1970 instead of a date, as Cisco Meraki and `journalctl -o short-unix` write.
     UnixSeconds,
     /// Sophos UTM.
     SophosUtm,
     /// HP's ProCurve and ArubaOS-Switch.
     ProCurve,
-    /// What a daemon says of itself: that the last message was repeated, or that it is there.
+    /// What a daemon says of itself: that the last message was repeated, or that it is still running.
     Repeated,
     /// The Common Event Format of ArcSight.
     Cef,
@@ -56,7 +56,7 @@ pub enum Dialect {
     MikroTik,
     /// A message that begins with a bracket.
     Bracketed,
-    /// A line that AIX passed on.
+    /// A line that AIX forwarded, as it writes `Message forwarded from`.
     Forwarded,
     /// The severity before the program's name, as F5's BIG-IP writes.
     SeverityFirst,
@@ -71,7 +71,7 @@ pub enum Dialect {
 }
 
 impl Dialect {
-    /// Returns the name, as `priority-alone`, in ASCII.
+    /// Returns the name of the dialect, as `priority-alone`, in ASCII.
     pub fn name(self) -> &'static str
         ensures { result.now ≡ dialect_name self }
     {
@@ -110,7 +110,7 @@ impl Dialect {
         }
     }
 
-    /// Returns the number, from 1 on, which stays the same from one version to the next.
+    /// Returns the number of the dialect, from 1 on, which stays the same from one version to the next.
     pub fn number(self) -> u32
         ensures { result ≡ dialect_number self }
     {
@@ -149,7 +149,7 @@ impl Dialect {
         }
     }
 
-    /// Returns the dialect that has this number.
+    /// Returns the dialect that has this number, if one has.
     pub fn from_number(number: u32) -> Option<Dialect>
         ensures { MatchOption result ((dialect : AnyDialect) → number ≡ dialect_number dialect → ⊥)
             (λ dialect. number ≡ dialect_number dialect) }

@@ -1,6 +1,7 @@
 //! The dialects in the order in which they are tried. A text is of the first one that divides it.
 //!
-//! Few lines come here. No reader scans the text more than a few times, and each leaves it at its first missing piece.
+//! Few lines come here. No reader scans the text more than a few times, and each of them stops at the first piece that
+//! is missing.
 ghost use Rattle.std.specs.Prelude.{chars, ◌++◌};
 ghost use Rattle.syslog_dialects.specs.Dialects.{Finds, dated_forms, forms_of, last_forms, late_forms, named_forms};
 
@@ -10,7 +11,7 @@ use crate::priority_alone::{read_alone, read_program_alone};
 use crate::sent::Sent;
 use crate::{dated_forms, named_forms};
 
-// The dialect of a text that has a priority, and that the port does not parse, and what it says.
+// Returns the dialect of a text that has a priority and that the port does not parse, and what the text says.
 fn read_last(text: &str) -> Option<(Dialect, Sent<'_>)>
     ensures { Finds last_forms (chars text.now) result }
 {
@@ -21,7 +22,7 @@ fn read_last(text: &str) -> Option<(Dialect, Sent<'_>)>
     Some((Dialect::PriorityAlone, sent))
 }
 
-// The dialect of the text after a priority, by its date or by what follows it, and what it says.
+// Returns the dialect of the text after a priority, by its date or by what follows that, and what the text says.
 fn read_early(text: &str) -> Option<(Dialect, Sent<'_>)>
     ensures { Finds (dated_forms ++ named_forms) (chars text.now) result }
 {
@@ -32,7 +33,8 @@ fn read_early(text: &str) -> Option<(Dialect, Sent<'_>)>
     }
 }
 
-// The same of a text after this priority, which the port parses, or not, by the forms that are tried last.
+// Returns the dialect of the text after this priority by the forms that are tried last, and what the text says.
+// `is_read` says whether the port parses it.
 fn read_late(is_read: bool, priority: Option<u8>, text: &str) -> Option<(Dialect, Sent<'_>)>
     ensures { Finds (late_forms is_read priority) (chars text.now) result }
 {
@@ -45,7 +47,8 @@ fn read_late(is_read: bool, priority: Option<u8>, text: &str) -> Option<(Dialect
     }
 }
 
-/// The dialect of the text after this priority, which the port parses, or not, and what it says.
+/// Returns the dialect of the text after this priority, and what the text says. `is_read` says whether the port parses
+/// it.
 pub(crate) fn read_dialect(
     is_read: bool,
     priority: Option<u8>,

@@ -1,8 +1,7 @@
 //! Lines of VMware ESXi from 8.0 on: `2026-03-02T06:33:04.123Z In(182) vmkernel: cpu3:2097)text`.
 //!
-//! **Rule.** The level and the priority in brackets name no host: the program follows them. (VMware, "ESXi Log
-//! Files": from
-//! 8.0 on a line has the level and the priority after its timestamp.)
+//! **Rule.** The level and the priority in brackets name no host; the program follows them. (VMware, "ESXi Log Files":
+//! from 8.0 on a line has the level and the priority after its timestamp.)
 ghost use Rattle.std.specs.Prelude.{◌≡◌, ◌∷◌, [], chars};
 ghost use Rattle.std.specs.Char.{is_ascii_digit};
 ghost use Rattle.syslog_pieces.specs.Pieces.Class.{Front, Row, Text, exactly, run, some_run};
@@ -36,7 +35,7 @@ fn is_level(word: &str) -> bool
     is_grave(word) || is_mild(word)
 }
 
-// The text after a level.
+// Returns the text after a level.
 fn level(text: &str) -> Option<&str>
     ensures { Recognises spec.level (chars text.now) result }
 {
@@ -56,7 +55,7 @@ fn closing(text: &str) -> Option<&str>
     literal(text, ')')
 }
 
-// The text after the level and the priority.
+// Returns the text after the level and the priority.
 fn mark(text: &str) -> Option<&str>
     ensures { Recognises (Row spec.mark_row) (chars text.now) result }
 {
@@ -66,7 +65,7 @@ fn mark(text: &str) -> Option<&str>
         .and_then(closing)
 }
 
-/// Returns what a line of ESXi says that begins with this date, and of which the rest is left.
+/// Returns what a line of ESXi says, which begins with this date, and has `rest` after it.
 pub(crate) fn read_esxi(date: SentDate, rest: &str) -> Option<Sent<'_>>
     ensures { (text at : Text) → Front (run is_blank) text at tt → Front iso_date at (chars rest.now) date
         → Sends spec.esxi_form text result }

@@ -1,8 +1,8 @@
 //! Lines of Cisco's systems as a collector files them: `Mar  2 06:33:04 10.1.1.1 45: Mar  2 06:33:03:
 //! %SEC-6-IPACCESSLOGP: text`.
 //!
-//! **Rule.** The date of the message is the device's own, and the host what the device calls itself, or else what the
-//! collector calls it (rsyslog and syslog-ng write their date and the sender before the message as it came).
+//! **Rule.** The date of the message is the device's own. The host is what the device calls itself, or otherwise what
+//! the collector calls it. (rsyslog and syslog-ng write their date and the sender before the message as it came.)
 ghost use Rattle.std.specs.Prelude.{◌≡◌, [], MatchOption, chars};
 ghost use Rattle.syslog_pieces.specs.Pieces.Class.{Front, NoFront, Row, Text, run};
 ghost use Rattle.syslog_pieces.specs.Text.{is_blank};
@@ -17,7 +17,7 @@ use crate::cisco::{Cisco, dated_in, gap, origin, shown_line};
 use crate::dialect::Dialect;
 use crate::sent::{Sent, SentDate};
 
-// What a collector writes before the line, and the line.
+// What a collector writes before the line of a device, and that line.
 #[derive(Clone, Copy)]
 struct Filed<'a> {
     date: SentDate,
@@ -25,7 +25,7 @@ struct Filed<'a> {
     line: &'a str,
 }
 
-// What a collector writes of a line that begins with this date, and of which the rest is left.
+// Reads what a collector writes before the line of a device, after this date.
 fn past_front(date: SentDate, rest: &str) -> Option<Filed<'_>>
     ensures { (text at : Text) → Front (run is_blank) text at tt → Front date_class at (chars rest.now) date
         → MatchOption result (NoFront (Row spec.filed_front) text) (λ x. Front (Row spec.filed_front)
@@ -37,7 +37,7 @@ fn past_front(date: SentDate, rest: &str) -> Option<Filed<'_>>
     Some(Filed { date, device, line })
 }
 
-// What the line of a device says.
+// Returns what the line of a device says, which the collector calls `device`.
 fn sent<'a>(line: &Cisco<'a>, device: &'a str) -> Sent<'a>
     ensures { sent_value result ≡ spec.filed_sent (shown device.entry) (cisco_values line.now) }
 {
@@ -59,7 +59,7 @@ fn sent<'a>(line: &Cisco<'a>, device: &'a str) -> Sent<'a>
     }
 }
 
-/// Returns the system of a filed line, and what the line says, where it begins with this date and the rest is left.
+/// Returns the system of a filed line, and what the line says, which begins with this date, and has `rest` after it.
 pub(crate) fn read_filed(date: SentDate, rest: &str) -> Option<(Dialect, Sent<'_>)>
     ensures { (text at : Text) → Front (run is_blank) text at tt → Front date_class at (chars rest.now) date
         → Finds spec.filed_forms text result }

@@ -1,5 +1,7 @@
-//! A header of RFC 5424 that no structured data follow, not even `-`, as Heroku (Logplex) and Cloud Foundry write:
-//! `1 2026-03-02T06:33:04+00:00 host app web.3 - text`.
+//! A header of RFC 5424 that no structured data follow, not even `-`: `1 2026-03-02T06:33:04+00:00 host app web.3 -
+//! text`.
+//!
+//! **Rule.** Heroku (Logplex) and Cloud Foundry write so; the rest of the line is the message.
 ghost use Rattle.std.specs.Prelude.{chars};
 ghost use Rattle.syslog_dialects.specs.Header as spec;
 ghost use Rattle.syslog_dialects.specs.Sent.{Sends};
@@ -8,7 +10,7 @@ use crate::date::iso_date;
 use crate::sent::Sent;
 use syslog_pieces::text::{host, literal, number, some_blanks, word};
 
-/// What a line with such a header says.
+/// Returns what a line with such a header says.
 pub(crate) fn read_header(text: &str) -> Option<Sent<'_>>
     ensures { Sends spec.header_form (chars text.now) result }
 {

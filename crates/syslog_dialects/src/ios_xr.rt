@@ -1,7 +1,7 @@
 //! Lines of Cisco's IOS-XR: `2831: RP/0/RSP0/CPU0:Mar  2 06:33:04.123 UTC: config[65710]: %MGBL-SYS-5-CONFIG_I : text`.
 //!
 //! **Rule.** The process is the program, and the message begins with its code. The node is no host; a name before it
-//! is.
+//! is. (Cisco, "System Monitoring": the format of system log messages.)
 ghost use Rattle.std.specs.Prelude.{◌≡◌, ◌∷◌, [], chars, MatchBool, MatchOption};
 ghost use Rattle.std.specs.Char.{is_ascii_digit};
 ghost use Rattle.syslog_pieces.specs.Pieces.Class.{Front, NoFront, Row, exactly, optional, some_run, texted};
@@ -23,7 +23,7 @@ fn is_node(word: &str) -> bool
     starts(word, "RP/") || (starts(word, "LC/") || starts(word, "0/"))
 }
 
-// The text after a node.
+// Returns the text after a node.
 fn node(text: &str) -> Option<&str>
     ensures { Recognises spec.node (chars text.now) result }
 {
@@ -34,7 +34,7 @@ fn node(text: &str) -> Option<&str>
     Some(rest)
 }
 
-// A host's name before blanks.
+// Returns a host's name before blanks, and the text after these.
 fn host(text: &str) -> Option<(&str, &str)>
     ensures { Reads spec.host (λ host. shown host) (chars text.now) result }
 {
@@ -52,7 +52,7 @@ fn optional_host(text: &str) -> (Option<&str>, &str)
     }
 }
 
-// What comes before the date: the host, where it does.
+// Reads what comes before the date: returns the host, if it comes there, and the text from the date on.
 fn card(text: &str) -> Option<(Option<&str>, &str)>
     ensures { Reads spec.card seen (chars text.now) result }
 {
@@ -64,7 +64,7 @@ fn card(text: &str) -> Option<(Option<&str>, &str)>
     Some((name, rest))
 }
 
-// A program's name.
+// Returns a program's name, and the text after it.
 fn name(text: &str) -> Option<(&str, &str)>
     ensures { Reads (texted (some_run is_label_char)) (λ run. shown run) (chars text.now) result }
 {

@@ -1,4 +1,5 @@
-//! Which of the port's readings stay, over the definitions alone.
+//! Which lines keep the port's reading, as laws over the definitions alone: each function does nothing, and its
+//! contract is the law.
 ghost use Rattle.std.specs.Prelude.{Bool, None, Some};
 ghost use Rattle.syslog_pieces.specs.Pieces.Class.{Text};
 ghost use Rattle.syslog_pieces.specs.Timestamp.Zone.{Dating};
@@ -23,7 +24,7 @@ pub fn ordinary_lines_keep_their_reading()
         → IsReadSent dates dating dialects variant text (Some dialect) m → ⊥ }
 {}
 
-/// Where no dialects are asked for, or one protocol alone, each text is read as the port reads it, or is no message.
+/// If no dialects are asked for, or one protocol alone, each text is read as the port reads it, or is no message.
 pub fn texts_are_the_ports_without_dialects()
     ensures read { (dates : AllDates) (dating : Dating) (dialects : Bool) (variant : Variant) (text : Text)
         (m : MessageValue) → (AreAsked dialects variant → ⊥) → IsOnlyRead variant dating text m

@@ -38,7 +38,7 @@ pub(crate) struct Led<'a> {
     pub(crate) rest: &'a str,
 }
 
-// The date at the front, and the text after it.
+// Returns the date at the front, and the text after it.
 fn leading_date(text: &str) -> Option<(LeadingDate, &str)>
     ensures { IsLeading (chars text.now) result }
 {
@@ -49,7 +49,7 @@ fn leading_date(text: &str) -> Option<(LeadingDate, &str)>
     Some((LeadingDate::Iso(date), rest))
 }
 
-/// Returns the date that begins the text, after blanks or none, and the text from it on and after it.
+/// Returns the date that begins the text, after blanks or none, with the text from the date on and the text after it.
 pub(crate) fn read_front(text: &str) -> Option<Led<'_>>
     ensures { IsFront (chars text.now) result }
 {

@@ -2,8 +2,8 @@
 //! each as a row of pieces and what they say.
 //!
 //! A line that the port reads rightly keeps its reading (`ordinary`). Any other text is of the first dialect whose row
-//! divides it, and otherwise as the port reads it. The line is the same `Line`, so whatever is made of a line is made
-//! of a dialect's too.
+//! divides it, and otherwise is read as the port reads it. Either way the result is a `Line` of `syslog_loose`, so
+//! whatever is made of a line can be made of a dialect's line.
 #![tactic(auto)]
 
 mod beginning;

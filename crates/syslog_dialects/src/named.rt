@@ -9,7 +9,7 @@ ghost use Rattle.syslog_dialects.specs.Named as spec;
 use syslog_pieces::as_str::is_same_text;
 use syslog_pieces::text::{CharClass, first, literal, split_run};
 
-/// A program's name, and the id of its process where one is shown.
+/// A program's name, and the id of its process if one is shown.
 #[derive(Clone, Copy)]
 pub(crate) struct Program<'a> {
     pub(crate) name: &'a str,
@@ -25,7 +25,7 @@ pub(crate) struct Named<'a> {
     pub(crate) msg: &'a str,
 }
 
-/// The message of a program beside this host.
+/// Returns the message of a program, with this host or none.
 pub(crate) fn tagged<'a>(hostname: Option<&'a str>, program: Program<'a>, msg: &'a str) -> Named<'a>
     ensures { named_value result ≡ spec.tagged (seen hostname.entry) (program_seen program.entry) (shown msg.entry) }
 {
@@ -37,7 +37,7 @@ pub(crate) fn tagged<'a>(hostname: Option<&'a str>, program: Program<'a>, msg: &
     }
 }
 
-/// A message without a program, beside this host or none.
+/// Returns a message without a program, with this host or none.
 pub(crate) fn untagged<'a>(hostname: Option<&'a str>, msg: &'a str) -> Named<'a>
     ensures { named_value result ≡ spec.untagged (seen hostname.entry) (shown msg.entry) }
 {
@@ -106,7 +106,7 @@ pub(crate) fn name(text: &str) -> Option<(&str, &str)>
     }
 }
 
-/// An id in brackets.
+/// Returns an id in brackets at the front, and the text after it.
 pub(crate) fn process_id(text: &str) -> Option<(&str, &str)>
     ensures { Reads spec.process_id (λ t. shown t) (chars text.now) result }
 {
@@ -119,7 +119,7 @@ pub(crate) fn process_id(text: &str) -> Option<(&str, &str)>
     Some((id, rest))
 }
 
-// An id in brackets, where there is one.
+// Returns an id in brackets at the front, if there is one, and the text after it.
 fn optional_id(text: &str) -> (Option<&str>, &str)
     ensures { Front (optional spec.process_id) (chars text.now) (shown result.1) (seen result.0) }
 {

@@ -1,4 +1,4 @@
-//! The dialects that what follows the date makes out, in the order in which they are tried.
+//! The forms that are recognised by what follows the date, in the order in which they are tried.
 ghost use Rattle.std.specs.Prelude.{◌≡◌, None, chars};
 ghost use Rattle.syslog_dialects.specs.Dialects.{Finds};
 ghost use Rattle.syslog_dialects.specs.Led.{IsFront, IsLed};
@@ -17,7 +17,7 @@ use crate::sent::{Sent, SentDate};
 use crate::untagged::{Mark, mark_end, message, past_host};
 use syslog_pieces::text::{blanks, some_blanks};
 
-// What names and a message after a date say.
+// Returns what a line says that has this date, and these names and this message after it.
 fn sent<'a>(date: SentDate, named: Named<'a>) -> Sent<'a>
     ensures { sent_value result ≡ spec.says date (named_value named.entry) }
 {
@@ -32,7 +32,7 @@ fn sent<'a>(date: SentDate, named: Named<'a>) -> Sent<'a>
     }
 }
 
-// What a message alone says.
+// Returns what a line says that is a message alone.
 fn bare(msg: &str) -> Sent<'_>
     ensures { sent_value result ≡ loose None None None None (chars msg.now) }
 {
@@ -47,7 +47,7 @@ fn bare(msg: &str) -> Sent<'_>
     }
 }
 
-// A message without a date before it.
+// Reads a message that has no date before it.
 fn undated(text: &str) -> Option<(Dialect, Sent<'_>)>
     ensures { Finds spec.undated_forms (chars text.now) result }
 {
@@ -67,7 +67,7 @@ fn undated(text: &str) -> Option<(Dialect, Sent<'_>)>
     None
 }
 
-// A program's line after its date.
+// Reads a program's line after its date.
 fn of_program<'a>(date: SentDate, rest: &'a str, text: &'a str) -> Option<(Dialect, Sent<'a>)>
     ensures { FindsAfter spec.program_forms date (chars rest.entry.now) (chars text.entry.now) result }
 {
@@ -89,7 +89,7 @@ fn of_program<'a>(date: SentDate, rest: &'a str, text: &'a str) -> Option<(Diale
     undated(text)
 }
 
-// A message without a program, after its date.
+// Reads a message without a program, after its date.
 fn of_message<'a>(date: SentDate, rest: &'a str, text: &'a str) -> Option<(Dialect, Sent<'a>)>
     ensures { FindsAfter spec.all_named date (chars rest.entry.now) (chars text.entry.now) result }
 {
@@ -127,7 +127,7 @@ fn of_message<'a>(date: SentDate, rest: &'a str, text: &'a str) -> Option<(Diale
     of_program(date, rest, text)
 }
 
-// What is found after a date that begins the text.
+// Reads what follows a date that begins the text.
 fn of_led<'a>(led: Led<'a>, text: &'a str) -> Option<(Dialect, Sent<'a>)>
     ensures { IsLed (chars text.entry.now) led.entry → Finds spec.all_named (chars text.entry.now) result }
 {
@@ -137,8 +137,8 @@ fn of_led<'a>(led: Led<'a>, text: &'a str) -> Option<(Dialect, Sent<'a>)>
     }
 }
 
-/// Returns the dialect of the text after a priority, by what follows the date, and what it says. The front is what
-/// `read_front` says of it.
+/// Returns the dialect that the text after a priority is in by what follows the date, and what the text says. `front`
+/// is what `read_front` returned for it.
 pub(crate) fn read<'a>(text: &'a str, front: Option<Led<'a>>) -> Option<(Dialect, Sent<'a>)>
     ensures { IsFront (chars text.entry.now) front.entry → Finds spec.all_named (chars text.entry.now) result }
 {

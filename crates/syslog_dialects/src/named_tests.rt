@@ -1,5 +1,6 @@
-//! Lines of the forms that are told by what follows the date, as vendors' documents have them: dialect, host, app name,
-//! process and message, where an empty text is an absent one. After two lines of a form comes one that is nearly of it.
+//! Lines of the forms that are recognised by what follows the date, as vendors' documents have them: dialect, host, app
+//! name, process and message, where an empty text is an absent one. After two lines of a form comes one that is nearly
+//! of it.
 use crate::dialect::Dialect;
 use crate::led::read_front;
 use crate::named_forms::read;

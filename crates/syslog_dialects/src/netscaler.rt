@@ -1,7 +1,7 @@
 //! Lines of Citrix NetScaler (ADC): `03/02/2026:06:33:04 GMT ns1 0-PPE-0 : default TCP CONN_TERMINATE ..`.
 //!
-//! **Rule.** The month comes first, as the appliance writes unless it is told otherwise (Citrix, "Audit logging": date
-//! format MMDDYYYY). What follows is read as the port reads it.
+//! **Rule.** The month comes first, as in the appliance's default setting (Citrix, "Audit logging": date format
+//! MMDDYYYY). What follows is read as the port reads it.
 ghost use Rattle.std.specs.Prelude.{◌≡◌, chars};
 ghost use Rattle.syslog_pieces.specs.Pieces.Class.{Row, after};
 ghost use Rattle.syslog_pieces.specs.Pieces.View.{Reads};
@@ -18,7 +18,7 @@ use syslog_pieces::text::{blanks, literal};
 use syslog_pieces::timestamp::MonthDate;
 use syslog_pieces::timestamp::pairs::{pair, pair_after, year};
 
-// A year after a slash.
+// Returns a year after a slash, and the text after it.
 fn slashed_year(text: &str) -> Option<(u16, &str)>
     ensures { Reads (after 47 any_year) (λ y. y) (chars text.now) result }
 {

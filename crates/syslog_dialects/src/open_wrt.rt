@@ -1,7 +1,6 @@
 //! Lines of OpenWrt's `logread`: `Mon Mar  2 06:33:04 2026 daemon.info dnsmasq[1234]: text`.
 //!
-//! **Rule.** They have no host. The facility and the severity before the program are passed over (ubox,
-//! `log/logread.c`).
+//! **Rule.** They have no host. The facility and the severity before the program are left out (ubox, `log/logread.c`).
 ghost use Rattle.std.specs.Prelude.{chars};
 ghost use Rattle.syslog_dialects.specs.Sent.{Sends};
 ghost use Rattle.syslog_dialects.specs.OpenWrt as spec;

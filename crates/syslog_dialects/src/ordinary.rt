@@ -1,8 +1,8 @@
 //! The lines of the port that keep their reading.
 //!
-//! **Rule.** A line of RFC 5424 is read as the port reads it, and so is one that has a date, a host and a tag before a
-//! colon or a process id, as RFC 3164 has them (section 5.4), or a strict element. So no dialect is tried for most
-//! lines, and none can change them.
+//! **Rule.** A line of RFC 5424 is read as the port reads it. So is a line of RFC 3164 with a date, a host and a tag
+//! that a colon or a process id ends, as section 5.4 has them, and one with a strict element. So no dialect is tried
+//! for most lines, and none can change them.
 ghost use Rattle.std.specs.Prelude.{◌≡◌, None, MatchBool, chars};
 ghost use Rattle.syslog_pieces.specs.Pieces.Class.{Row, exactly};
 ghost use Rattle.syslog_pieces.specs.Pieces.View.{Skips, seen, shown};
@@ -14,14 +14,14 @@ use crate::named::is_word;
 use syslog_loose::Line;
 use syslog_pieces::text::{CharClass, first, literal, split_run};
 
-// The text after this one, where it begins the text.
+// Returns the text after `front`, if that begins it.
 fn past<'a>(text: &'a str, front: &str) -> Option<&'a str>
     ensures { Skips (exactly (chars front.now)) tt (chars text.entry.now) result }
 {
     text.strip_prefix(front)
 }
 
-// The text after a colon or a bracket.
+// Returns the text after a colon or a bracket.
 fn past_mark(text: &str) -> Option<&str>
     ensures { Skips mark tt (chars text.now) result }
 {
@@ -31,7 +31,7 @@ fn past_mark(text: &str) -> Option<&str>
     }
 }
 
-// The text after a space, the host, a space, the app name, and what ends a tag.
+// Returns the text after a space, the host, a space, the app name, and what ends a tag.
 fn past_tag<'a>(text: &'a str, host: &str, app: &str) -> Option<&'a str>
     ensures { Skips (Row (tag_row (chars host.now) (chars app.now))) (tt, (tt, (tt, (tt, (tt, tt)))))
         (chars text.entry.now) result }
@@ -43,7 +43,7 @@ fn past_tag<'a>(text: &'a str, host: &str, app: &str) -> Option<&'a str>
     past_mark(rest)
 }
 
-// Whether host and app name begin the text as a tag. By a call, since most lines are in printed form.
+// Whether host and app name begin the text as a tag. It is a call of its own, since most lines are in printed form.
 #[cold]
 #[inline(never)]
 fn begins_with_tag(text: &str, host: &str, app: &str) -> bool
@@ -53,7 +53,7 @@ fn begins_with_tag(text: &str, host: &str, app: &str) -> bool
     past_tag(text, host, app).is_some()
 }
 
-// Whether the text is digits alone, or nothing.
+// Whether the text has only digits, or is empty.
 #[inline(always)]
 fn are_digits(text: &str) -> bool
     ensures { result ≡ spec.are_digits (chars text.now) }
@@ -72,7 +72,7 @@ fn opens_object(app: &str) -> bool
     }
 }
 
-// Whether the app name is a number, nothing, or what begins a message. By a call, since few begin so.
+// Whether the app name is a number, empty, or the beginning of a message. It is a call of its own, since few begin so.
 #[cold]
 #[inline(never)]
 fn is_odd_word(app: &str) -> bool
@@ -83,7 +83,7 @@ fn is_odd_word(app: &str) -> bool
             || (is_word(app, "CEF") || (is_word(app, "LEEF") || is_word(app, "Severity"))))
 }
 
-// Whether such an app name may begin with the character.
+// Whether an app name that is no program's may begin with the character.
 #[inline(always)]
 fn begins_oddly(c: char) -> bool
     ensures { result ≡ spec.begins_oddly c }
@@ -105,7 +105,8 @@ fn is_odd_app(app: &str) -> bool
     }
 }
 
-// Whether the text is no host, but the level of a line of ESXi. By a call, since few hosts have a bracket there.
+// Whether the text is no host, but the level of a line of ESXi. It is a call of its own, since few hosts have a bracket
+// there.
 #[cold]
 #[inline(never)]
 fn opens_level(host: &str) -> bool
@@ -142,7 +143,7 @@ fn is_level_mark(host: &str) -> bool
     }
 }
 
-// Whether the two are no host and no tag.
+// Whether the two are not a host and a tag.
 #[inline(always)]
 fn is_odd(host: &str, app: &str) -> bool
     ensures { result ≡ spec.is_odd (chars host.now) (chars app.now) }
@@ -172,7 +173,7 @@ fn is_tagged(line: &Line<'_>) -> bool
     line.is_printed || begins_with_tag(line.rest, host, app)
 }
 
-/// Returns whether a line of the port keeps its reading.
+/// Returns whether a line that the port parsed keeps that reading, so that no dialect is tried for it.
 #[inline(always)]
 pub fn is_ordinary(line: &Line<'_>) -> bool
     requires { KnowsForm line.now }

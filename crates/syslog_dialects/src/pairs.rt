@@ -1,12 +1,10 @@
 //! Lines that are pairs of a key and a value, time and host among them: the whole text is the message.
 //!
 //! **Rule.** FortiGate (FortiOS Log Message Reference) and FortiMail have `date=2026-03-02 time=06:33:04`, FortiGate
-//! also an
-//! offset, `tz="+0100"`. Sophos (SFOS syslog guide) has date and time in the same way, and SonicWall (SonicOS Log
-//! Events
-//! Reference) both in `time="2026-03-02 06:33:04"`, with ` UTC` where it is so configured. SFOS from 18 on has both
-//! and the offset in `timestamp="2026-03-02T06:33:04+0100"`. The first pair of a key counts. A zone that is a name is
-//! passed over.
+//! also an offset, `tz="+0100"`. Sophos (SFOS syslog guide) has date and time in the same way. SonicWall (SonicOS Log
+//! Events Reference) has both in `time="2026-03-02 06:33:04"`, with ` UTC` if it is so configured. SFOS from 18 on has
+//! both and the offset in `timestamp="2026-03-02T06:33:04+0100"`. The first pair of a key counts. The name of a zone is
+//! left out.
 ghost use Rattle.std.specs.Prelude.{◌≡◌, ◌<◌, ◌∷◌, [], IfSome, IsUtf8, List, MatchOption, Some, chars};
 ghost use Rattle.syslog_pieces.specs.Pieces.Class.{Division, Front, NoDivision, Row, Text, exactly};
 ghost use Rattle.syslog_pieces.specs.Pieces.Lists.{many};
@@ -59,7 +57,7 @@ pub(crate) struct Clock {
     nanosecond: Option<u32>,
 }
 
-// The text after a quote. It is no `literal`, so that its clauses say that the text is UTF-8.
+// Returns the text after a quote. It is no `literal`, so that its clauses say that the text is UTF-8.
 fn past_quote(text: &str) -> Option<&str>
     ensures reads { Recognises (exactly (34 ∷ [])) (chars text.now) result }
     ensures utf8 { IfSome result (λ rest. IsUtf8 rest.now) }
@@ -68,7 +66,7 @@ fn past_quote(text: &str) -> Option<&str>
     if c == '"' { Some(rest) } else { None }
 }
 
-// A value in quotes.
+// Returns a value in quotes, and the text after it.
 fn quoted(text: &str) -> Option<(&str, &str)>
     ensures reads { Reads spec.quoted (λ t. shown t) (chars text.now) result }
     ensures utf8 { IfSome result (λ x. IsUtf8 x.1.now) }
@@ -79,7 +77,7 @@ fn quoted(text: &str) -> Option<(&str, &str)>
     Some((value, rest))
 }
 
-// A value in quotes, or one without white space.
+// Returns a value in quotes, or otherwise one without white space, and the text after it.
 fn any_value(text: &str) -> (&str, &str)
     ensures reads { Front spec.value (chars text.now) (shown result.1) (shown result.0) }
     ensures utf8 { IsUtf8 result.1.now }
@@ -90,7 +88,7 @@ fn any_value(text: &str) -> (&str, &str)
     }
 }
 
-// A key, and its value.
+// Returns a key and its value, and the text after them.
 fn read_pair(text: &str) -> Option<(Pair<'_>, &str)>
     ensures reads { Reads spec.pair pair_value (chars text.now) result }
     ensures utf8 { IfSome result (λ x. IsUtf8 x.1.now) }
@@ -112,7 +110,7 @@ fn is_host_key(key: &str) -> bool
         || (is_word(key, "device_name") || (is_word(key, "fw") || is_word(key, "device_id")))
 }
 
-// The value that was noted, or else this one, if its key passes.
+// Returns the value that was noted, and otherwise this value if `passes` is true.
 fn or_value<'a>(noted: Option<&'a str>, passes: bool, value: &'a str) -> Option<&'a str>
     ensures { seen result ≡ spec.or_value (seen noted.entry) passes (shown value.entry) }
 {
@@ -136,7 +134,7 @@ fn noted_more<'a>(notes: Notes<'a>, pair: Pair<'a>) -> Notes<'a>
     }
 }
 
-// What the pairs at the front note.
+// Returns what is noted of the pairs at the front.
 fn read_notes(text: &str) -> Notes<'_>
     ensures { (ps : List (Text × Text)) × (r : Text) × Front (many spec.pair) (chars text.now) r ps
         × (notes_value result ≡ spec.noted ps) }
@@ -246,7 +244,7 @@ fn together(text: &str) -> Option<SentDate>
     }
 }
 
-// The date that this time shows, and the date where there is one.
+// Returns the date that a time shows, with the value of the date if there is one.
 fn timed(time: &str, date: Option<&str>) -> Option<SentDate>
     ensures { MatchOption result ((d : Date) → spec.IsTimed (chars time.now) (seen date.entry) d → ⊥)
         (spec.IsTimed (chars time.now) (seen date.entry)) }
@@ -267,7 +265,7 @@ fn stamped(stamp: Option<&str>) -> Option<SentDate>
     }
 }
 
-// The date that is noted, but for an offset of its own.
+// Returns the date that is noted, without an offset that is noted apart from it.
 fn moment(time: Option<&str>, date: Option<&str>, stamp: Option<&str>) -> Option<SentDate>
     ensures { MatchOption result
         ((d : Date) → spec.IsMoment (seen time.entry) (seen date.entry) (seen stamp.entry) d → ⊥)
@@ -289,7 +287,7 @@ fn read_sign(text: &str) -> Option<(bool, &str)>
     Some((false, rest))
 }
 
-// Hours and minutes in seconds, negative if the clock is slow of UTC.
+// Returns hours and minutes in seconds, negative if the clock is slow of UTC.
 fn offset_seconds(is_behind: bool, hours: u32, minutes: u32) -> i32
     requires hours { hours < 24 }
     requires minutes { minutes < 60 }
@@ -322,7 +320,7 @@ fn offset(zone: Option<&str>) -> Option<i32>
     }
 }
 
-// The date, at this offset where it shows none.
+// Returns the date, at this offset if it shows none of its own.
 fn at_offset(date: SentDate, offset: Option<i32>) -> SentDate
     ensures { result ≡ spec.at_offset date offset }
 {
@@ -344,7 +342,7 @@ fn shown_date(notes: Notes<'_>) -> Option<SentDate>
     Some(at_offset(date, offset(notes.zone)))
 }
 
-/// What a line of pairs says.
+/// Returns what a line of pairs says.
 pub(crate) fn read_pairs(text: &str) -> Option<Sent<'_>>
     ensures { Sends spec.pairs_form (chars text.now) result }
 {

@@ -1,8 +1,8 @@
-//! A priority, and a text of no other form: a program's line without a date (Python's SysLogHandler with an ident,
-//! older
-//! OpenWrt), or a message alone, as MikroTik's routers write (RouterOS, Log: `remote` without `bsd-syslog`).
+//! A priority, and a text of no other form.
 //!
-//! A text that begins with a month date or with a version is of another form that failed: it stays refused.
+//! **Rule.** It is a program's line without a date (Python's SysLogHandler with an ident, older OpenWrt). Or it is a
+//! message alone, as MikroTik's routers write (RouterOS, Log: `remote` without `bsd-syslog`). A text that begins with a
+//! month date or with a version fails to be of another form, so it does not parse.
 ghost use Rattle.std.specs.Prelude.{◌∷◌, MatchBool, chars};
 ghost use Rattle.syslog_pieces.specs.Pieces.Class.{Row};
 ghost use Rattle.syslog_pieces.specs.Pieces.View.{Recognises};
@@ -15,7 +15,7 @@ use crate::sent::Sent;
 use syslog_pieces::text::{blanks, literal, number, some_blanks};
 use syslog_pieces::timestamp::month_date::month_date;
 
-// The text after a number and blanks.
+// Returns the text after a number and blanks.
 fn past_version(text: &str) -> Option<&str>
     ensures { Recognises (Row spec.version_row) (chars text.now) result }
 {
@@ -35,7 +35,7 @@ fn is_alone(text: &str) -> bool
     !text.is_empty()
 }
 
-/// What a program's line without a date says.
+/// Returns what a program's line without a date says.
 pub(crate) fn read_program_alone(text: &str) -> Option<Sent<'_>>
     ensures { Sends spec.program_form (chars text.now) result }
 {
@@ -56,7 +56,7 @@ pub(crate) fn read_program_alone(text: &str) -> Option<Sent<'_>>
     })
 }
 
-/// What a text of no other form says.
+/// Returns what a text of no other form says.
 pub(crate) fn read_alone(text: &str) -> Option<Sent<'_>>
     ensures { Sends spec.alone_form (chars text.now) result }
 {

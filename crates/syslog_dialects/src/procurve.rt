@@ -14,7 +14,7 @@ use crate::sent::{Sent, SentDate};
 use crate::zone::bare_word;
 use syslog_pieces::text::blanks;
 
-/// Returns what a line of ProCurve says that begins with this date, and of which the rest is left.
+/// Returns what a line of ProCurve says, which begins with this date, and has `rest` after it.
 pub(crate) fn read_procurve(date: SentDate, rest: &str) -> Option<Sent<'_>>
     ensures { (text at : Text) → Front (run is_blank) text at tt → Front any_date at (chars rest.now) date
         → Sends spec.procurve_form text result }

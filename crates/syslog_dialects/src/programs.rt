@@ -1,4 +1,4 @@
-//! Lines of programs that what is between the date and the program's name makes out.
+//! Lines of programs that are recognised by what is between the date and the program's name.
 ghost use Rattle.std.specs.Prelude.{◌≡◌, ◌∷◌, ◌||◌, [], IfSome, IsUtf8, List, chars, codes};
 ghost use Rattle.syslog_pieces.specs.Pieces.Class.{Front, Row, exactly, some_run, spaced, texted};
 ghost use Rattle.syslog_pieces.specs.Pieces.Lists.{many};
@@ -15,7 +15,7 @@ use crate::untagged::topic_word;
 use syslog_pieces::text::verbatim::before;
 use syslog_pieces::text::{CharClass, blanks, host, literal, some_blanks, split_run};
 
-/// A line without a host.
+/// Reads a line without a host.
 pub(crate) fn hostless(text: &str) -> Option<Named<'_>>
     ensures { Names spec.hostless named_value (chars text.now) result }
 {
@@ -46,7 +46,7 @@ fn is_severity(word: &str) -> bool
     is_grave(word) || is_mild(word)
 }
 
-// A severity at the front.
+// Returns a severity at the front, and the text after it.
 fn severity(text: &str) -> Option<(&str, &str)>
     ensures { Reads spec.severity (λ t. shown t) (chars text.now) result }
 {
@@ -89,7 +89,7 @@ fn is_facility(word: &str) -> bool
     is_system_facility(word) || is_local_facility(word)
 }
 
-// The text after the name of a facility.
+// Returns the text after the name of a facility.
 fn facility(text: &str) -> Option<&str>
     ensures { Recognises spec.facility (chars text.now) result }
 {
@@ -107,7 +107,7 @@ pub(crate) fn selector(text: &str) -> Option<&str>
     Some(rest)
 }
 
-// The text after a severity, or after a facility and a severity.
+// Returns the text after a severity, or after a facility and a severity.
 fn grade(text: &str) -> Option<&str>
     ensures { Recognises spec.grade (chars text.now) result }
 {
@@ -117,7 +117,7 @@ fn grade(text: &str) -> Option<&str>
     selector(text)
 }
 
-/// A line with the severity before the program.
+/// Reads a line with the severity before the program.
 pub(crate) fn severity_first(text: &str) -> Option<Named<'_>>
     ensures { Names spec.severity_first named_value (chars text.now) result }
 {
@@ -129,7 +129,7 @@ pub(crate) fn severity_first(text: &str) -> Option<Named<'_>>
     Some(tagged(hostname, program, blanks(rest)))
 }
 
-/// A line with the serial number and the time of a Firebox before the program.
+/// Reads a line with the serial number and the time of a Firebox before the program.
 pub(crate) fn after_serial(text: &str) -> Option<Named<'_>>
     ensures { Names spec.after_serial named_value (chars text.now) result }
 {
@@ -145,7 +145,7 @@ pub(crate) fn after_serial(text: &str) -> Option<Named<'_>>
     Some(tagged(hostname, program, blanks(rest)))
 }
 
-// The text after a word.
+// Returns the text after a word.
 fn word(text: &str) -> Option<&str>
     ensures reads { Recognises (some_run is_word_char) (chars text.now) result }
     ensures utf8 { IfSome result (λ rest. IsUtf8 rest.now) }
@@ -154,7 +154,7 @@ fn word(text: &str) -> Option<&str>
     if run.is_empty() { None } else { Some(rest) }
 }
 
-// The text after a space and a word.
+// Returns the text after a space and a word.
 fn spaced_word(text: &str) -> Option<&str>
     ensures reads { Recognises (spaced (some_run is_word_char)) (chars text.now) result }
     ensures utf8 { IfSome result (λ rest. IsUtf8 rest.now) }
@@ -163,7 +163,7 @@ fn spaced_word(text: &str) -> Option<&str>
     word(rest)
 }
 
-// The text after more words, each after a space.
+// Returns the text after any number of further words, each after a space.
 fn more_words(text: &str) -> &str
     ensures { (vs : List (Unit {0}))
         × Front (many (spaced (some_run is_word_char))) (chars text.now) (shown result) vs }
@@ -175,14 +175,14 @@ fn more_words(text: &str) -> &str
     rest
 }
 
-// The text after words with one space between two.
+// Returns the text after words that have one space between each two.
 fn words_end(text: &str) -> Option<&str>
     ensures { Recognises (Row spec.words_row) (chars text.now) result }
 {
     word(text).map(more_words)
 }
 
-// A name of words at the front.
+// Returns a name of several words at the front, and the text after it.
 fn words(text: &str) -> Option<(&str, &str)>
     ensures { Reads spec.words (λ t. shown t) (chars text.now) result }
 {
@@ -195,7 +195,7 @@ fn words(text: &str) -> Option<(&str, &str)>
     }
 }
 
-/// A line whose program has a name of several words.
+/// Reads a line whose program has a name of several words.
 pub(crate) fn worded(text: &str) -> Option<Named<'_>>
     ensures { Names spec.worded named_value (chars text.now) result }
 {
@@ -211,7 +211,7 @@ pub(crate) fn worded(text: &str) -> Option<Named<'_>>
     Some(tagged(hostname, program, blanks(rest)))
 }
 
-// A host before a colon.
+// Returns a host before a colon, and the text after these.
 fn origin(text: &str) -> Option<(&str, &str)>
     ensures { Reads (texted (some_run is_tag_char)) (λ t. shown t) (chars text.now) result }
 {
@@ -229,7 +229,7 @@ fn forwarded_words(text: &str) -> Option<&str>
     past(text, "Message forwarded from ")
 }
 
-// A line that was passed on.
+// Reads a line that was forwarded, from `Message forwarded from` on.
 fn passed_on(text: &str) -> Option<Named<'_>>
     ensures { Names spec.passed_on named_value (chars text.now) result }
 {
@@ -240,7 +240,7 @@ fn passed_on(text: &str) -> Option<Named<'_>>
     Some(tagged(Some(hostname), program, blanks(rest)))
 }
 
-/// A line that was passed on, perhaps with the host that did so.
+/// Reads a line that was forwarded, after the name of the host that forwarded it, if that is shown.
 pub(crate) fn forwarded(text: &str) -> Option<Named<'_>>
     ensures { Names spec.forwarded named_value (chars text.now) result }
 {

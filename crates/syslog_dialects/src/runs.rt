@@ -10,7 +10,7 @@ pub(crate) enum Run {
     Word,
     /// A letter, a digit, `!` or `-`.
     Plain,
-    /// No quote.
+    /// Any character but a quote.
     Unquoted,
 }
 
@@ -67,7 +67,7 @@ fn run_end(text: &str, run: Run) -> usize
     }
 }
 
-/// The maximal run of the class at the front, perhaps empty, and the text after it.
+/// Returns the maximal run of the class at the front, which may be empty, and the text after it.
 pub(crate) fn split(text: &str, run: Run) -> (&str, &str)
     ensures { SplitsRun (is_of run) text.now result.0.now result.1.now }
 {

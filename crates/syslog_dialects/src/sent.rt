@@ -1,5 +1,5 @@
-//! What a sender said in a line, as the pieces of its dialect say it: before any year or zone is asked for, so that no
-//! reader of a dialect looks at a calendar. `line_of` makes the line of it.
+//! What a sender said in a line, as the pieces of its dialect say it. No year and no zone is needed for it, so that no
+//! reader of a dialect looks at a calendar. `line_of` makes the line from it.
 ghost use Rattle.std.specs.Prelude.{◌≡◌, ◌<ℤ◌, pos, IfSome, MatchOption};
 ghost use Rattle.syslog_pieces.specs.Timestamp.{IsAnswer, stamp_seen};
 ghost use Rattle.syslog_loose.specs.Line.{KnowsForm};
@@ -11,21 +11,21 @@ use syslog_loose::{ClockStamp, Dates, ElementList, Line};
 use syslog_pieces::timestamp::zone::civil_stamp;
 use syslog_pieces::timestamp::{CivilFields, MonthDate, clock_stamp};
 
-/// The numbers of a date that a line shows, of which there may be no such date. One of RFC 3339 has its year.
+/// The numbers of a date that a line shows. There may be no such date.
 #[derive(Clone, Copy)]
 pub(crate) struct SentDate {
     /// The date, and the time of day to the second.
     pub(crate) date: MonthDate,
     /// The fraction of the second, in nanoseconds.
     pub(crate) nanosecond: u32,
-    /// How many seconds the clock is ahead of UTC, where the line shows it.
+    /// How many seconds the clock is ahead of UTC; absent if the line does not show it.
     pub(crate) offset: Option<i32>,
 }
 
-/// What a line says, but for its priority.
+/// What a line says, without its priority.
 #[derive(Clone, Copy)]
 pub(crate) struct Sent<'a> {
-    /// The version of RFC 5424, where the line shows one.
+    /// The version of RFC 5424; absent if the line shows none.
     pub(crate) version: Option<u32>,
     /// The date.
     pub(crate) date: Option<SentDate>,
@@ -41,7 +41,7 @@ pub(crate) struct Sent<'a> {
     pub(crate) msg: &'a str,
 }
 
-// The year that the date shows, or else that of the dates; none where no calendar has it.
+// Returns the year that the date shows, or otherwise that of `dates`; none if no calendar has it.
 fn year_of(date: MonthDate, dates: &Dates) -> Option<i32>
     ensures { MatchOption result (pos 9999 <ℤ sent_year dates.now date) (λ year. year ≡ sent_year dates.now date) }
 {
@@ -51,7 +51,7 @@ fn year_of(date: MonthDate, dates: &Dates) -> Option<i32>
     }
 }
 
-// The timestamp of the date: on a clock at its own offset, or in the zone of the dates.
+// Returns the timestamp of the date, on a clock at its own offset or otherwise in the zone of `dates`.
 fn stamp_of(sent: SentDate, dates: &Dates) -> Option<ClockStamp>
     ensures { IsAnswer (IsSentStamp dates.now sent) result }
 {
@@ -71,7 +71,7 @@ fn stamp_of(sent: SentDate, dates: &Dates) -> Option<ClockStamp>
     }
 }
 
-// The timestamp of a date that may be absent; none where it does not exist.
+// Returns the timestamp of a date that may be absent; none if there is no such date.
 fn optional_stamp(date: Option<SentDate>, dates: &Dates) -> Option<Option<ClockStamp>>
     ensures { MatchOption result (HasNoStamp dates.now date) (λ stamp. HasStamp dates.now date (stamp_seen stamp)) }
 {
@@ -81,7 +81,7 @@ fn optional_stamp(date: Option<SentDate>, dates: &Dates) -> Option<Option<ClockS
     }
 }
 
-/// Returns the line that says this, after a priority or none; none where its date does not exist.
+/// Returns the line that says this, with a priority or without; none if there is no such date.
 pub(crate) fn line_of<'a>(priority: Option<u8>, sent: &Sent<'a>, dates: &Dates) -> Option<Line<'a>>
     ensures line { MatchOption result (HasNoStamp dates.now (sent_value sent.now).date)
         (λ line. IsLineSent dates.now priority (sent_value sent.now) line) }

@@ -1,7 +1,7 @@
 //! What follows a date as the port reads it: a host field, a tag field, a colon, and the message.
 //!
-//! **Rule.** It is that of the port (`rfc3164` of `syslog_loose`): a tag of the form `tag[id]` is a program and its
-//! process, and a lone word that is not of it is the host. A list of elements is left in the message.
+//! **Rule.** It is that of the port (`rfc3164` of `syslog_loose`). A tag of the form `tag[id]` is a program and its
+//! process, and a lone word that is not of that form is the host. A list of elements is left in the message.
 ghost use Rattle.std.specs.Prelude.{◌≡◌, MatchOption, Option, chars, []};
 ghost use Rattle.syslog_pieces.specs.Pieces.Class.{Front, optional};
 ghost use Rattle.syslog_pieces.specs.Pieces.View.{Recognises, field_seen, seen, shown};
@@ -42,7 +42,7 @@ impl TailNames<'_> {
     };
 }
 
-// The tag and the id of a text of the form `tag[id]`.
+// Returns the tag and the id of a text of the form `tag[id]`; none for any other text.
 fn tag_form(text: &str) -> Option<(&str, &str)>
     ensures { MatchOption result (IsNoForm (chars text.now)) (λ x. IsForm (chars text.now) (shown x.0) (shown x.1)) }
 {
@@ -55,7 +55,7 @@ fn tag_form(text: &str) -> Option<(&str, &str)>
     if rest == "]" { Some((tag, id)) } else { None }
 }
 
-// A program's name beside this host.
+// Returns the names of a line that has this host and a program's name.
 #[tactic(auto, using(syslog_pieces::proofs::ProcIdLemmas::named_names))]
 fn program<'a>(hostname: Option<&'a str>, name: &'a str) -> TailNames<'a>
     ensures names { NamesProgram (seen hostname.entry) (chars name.entry.now) (tail_names result) }
@@ -75,7 +75,7 @@ fn program<'a>(hostname: Option<&'a str>, name: &'a str) -> TailNames<'a>
     }
 }
 
-// A lone name: a program's if it is of the form `tag[id]`, otherwise a host.
+// Returns the names of a line that has one word: a program's if it is of the form `tag[id]`, otherwise a host.
 #[tactic(auto, using(syslog_pieces::proofs::ProcIdLemmas::named_names))]
 fn lone<'a>(name: &'a str) -> TailNames<'a>
     ensures names { NamesHost (chars name.entry.now) (tail_names result) }
@@ -95,7 +95,7 @@ fn lone<'a>(name: &'a str) -> TailNames<'a>
     }
 }
 
-// What the host field and the tag field mean together.
+// Returns what the host field and the tag field mean together.
 fn resolve<'a>(host: Field<'a>, tag: Field<'a>) -> TailNames<'a>
     ensures names { Resolves (field_seen host.entry) (field_seen tag.entry) (tail_names result) }
     ensures process { HasProcess (field_seen host.entry) (field_seen tag.entry) (seen result.process) }
@@ -110,7 +110,7 @@ fn resolve<'a>(host: Field<'a>, tag: Field<'a>) -> TailNames<'a>
     }
 }
 
-// The names and the message of all that follows a date.
+// Returns the names and the message of all that follows a date.
 fn read_tail(text: &str) -> Tail<'_>
     ensures { Front spec.tail (chars text.now) [] (tail_value result) }
 {
@@ -126,7 +126,7 @@ fn read_tail(text: &str) -> Tail<'_>
     }
 }
 
-// The text after a space, where white space or a colon follows it.
+// Returns the text after a space that white space or a colon follows.
 fn past_spare(text: &str) -> Option<&str>
     ensures { Recognises spec.spare (chars text.now) result }
 {
@@ -137,7 +137,8 @@ fn past_spare(text: &str) -> Option<&str>
     Some(rest)
 }
 
-// The same, or the text where no such space begins it.
+// Returns the text after a space that white space or a colon follows, and the whole text if it begins with no such
+// space.
 fn narrowed(text: &str) -> &str
     ensures { (v : Option (Unit {0})) × Front (optional spec.spare) (chars text.now) (shown result) v }
 {

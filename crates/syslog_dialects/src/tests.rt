@@ -1,5 +1,5 @@
-//! Lines of each dialect that is told by its date, as vendors document them, with all that they say; and lines that are
-//! nearly of it.
+//! Lines of each dialect that is recognised by its date, as vendors document them, with all that they say; and lines
+//! that are nearly of it.
 use crate::dated_forms::read;
 use crate::led::read_front;
 use crate::sent::SentDate;

@@ -1,8 +1,8 @@
 //! Lines whose date is the seconds since 1970: `1 1772433184.123456789 MX84 flows allow ..` of Cisco Meraki, and
 //! `1772433184.123456 web1 sshd[811]: text` of `journalctl -o short-unix`.
 //!
-//! **Rule.** The date is what a clock in UTC shows then. Ten digits at least are such a date. Meraki's message begins
-//! with its type, which is no program.
+//! **Rule.** The date is what a clock in UTC shows at that second. Ten digits at least are such a date. Meraki's
+//! message begins with its type, which is no program.
 ghost use Rattle.std.specs.Prelude.{◌≡◌, chars};
 ghost use Rattle.syslog_pieces.specs.Pieces.View.{Reads};
 ghost use Rattle.syslog_pieces.specs.Timestamp.Fields.{fields_of};
@@ -19,7 +19,7 @@ use jiff::tz::Offset;
 use syslog_pieces::text::{blanks, host, literal, number};
 use syslog_pieces::timestamp::MonthDate;
 
-// What a clock in UTC shows that many seconds after 1970 began.
+// Returns what a clock in UTC shows so many seconds after 1970 began.
 fn shown_at(seconds: u32) -> Option<DateTime>
     ensures { spec.ShowsAt seconds result }
 {
@@ -48,7 +48,7 @@ fn in_utc(shown: DateTime, nanosecond: u32) -> SentDate
     }
 }
 
-// Ten digits or more.
+// Returns the number that ten digits or more write, and the text after them.
 fn seconds(text: &str) -> Option<(u32, &str)>
     ensures { Reads spec.seconds (λ n. n) (chars text.now) result }
 {

@@ -1,4 +1,4 @@
-//! Messages that no program's name is before: what they begin with makes them out.
+//! Messages that have no program's name before them: they are recognised by what they begin with.
 ghost use Rattle.std.specs.Prelude.{◌≡◌, ◌∷◌, [], ◌||◌, Option, chars, codes};
 ghost use Rattle.syslog_pieces.specs.Pieces.Class.{Front, Row, after, exactly, optional, run, some_run};
 ghost use Rattle.syslog_pieces.specs.Pieces.View.{Reads, Recognises, seen, shown};
@@ -47,7 +47,7 @@ fn digits(text: &str) -> Option<&str>
     if run.is_empty() { None } else { Some(rest) }
 }
 
-// The text after blanks or none.
+// Returns the text after any blanks.
 fn past_blanks(text: &str) -> &str
     ensures { (v : Unit {0}) × Front (run is_blank) (chars text.now) (shown result) v }
 {
@@ -102,7 +102,7 @@ fn times(text: &str) -> Option<&str>
     past(text, " time")
 }
 
-// The text after `last `, or all of it.
+// Returns the text after `last `, and all of it if it does not begin so.
 fn past_last(text: &str) -> &str
     ensures { (v : Option (Unit {0})) × Front (optional (exactly (codes "last "))) (chars text.now) (shown result) v }
 {
@@ -173,7 +173,7 @@ fn here(text: &str) -> Option<&str>
     past(text, "-- MARK --")
 }
 
-// What a daemon says of itself.
+// Returns the text after what a daemon says of itself.
 fn repeated(text: &str) -> Option<&str>
     ensures { Recognises (spec.mark_class Repeated) (chars text.now) result }
 {
@@ -409,7 +409,7 @@ fn read_mark(text: &str, mark: Mark) -> Option<&str>
     }
 }
 
-/// Returns the host at the front, and the text after it and the blanks that follow it.
+/// Returns the host at the front, if there is one, and the text after it and the blanks that follow it.
 pub(crate) fn past_host(text: &str) -> Option<(Option<&str>, &str)>
     ensures { Reads (Row spec.host_row) (λ h. (seen h, (tt, tt))) (chars text.now) result }
 {
@@ -418,7 +418,7 @@ pub(crate) fn past_host(text: &str) -> Option<(Option<&str>, &str)>
     Some((hostname, rest))
 }
 
-/// Returns a message that the mark begins, or a host and such a message, where this is what follows the host.
+/// Returns a message that the mark begins, or a host and such a message.
 #[inline(always)]
 pub(crate) fn message<'a>(
     text: &'a str,

@@ -1,7 +1,7 @@
 //! The way from a text to a line, in a dialect or as the port reads it.
 //!
-//! The port reads the text once. Its line is kept where it is ordinary. Otherwise, and where it reads none, the
-//! dialects are tried, by a call: so an ordinary line pays a look at a few of its fields.
+//! The port reads the text once. If its line is ordinary, it is kept. Otherwise, and if there is no line, the dialects
+//! are tried by a call of its own. So an ordinary line only pays for a look at a few of its fields.
 ghost use Rattle.std.specs.Prelude.{◌≡◌, ◌↔◌, [], false, true, IfSome, IsTrue, MatchOption, chars};
 ghost use Rattle.syslog_pieces.specs.Pieces.Class.{Text};
 ghost use Rattle.syslog_pieces.specs.StructuredData.Visited.{list_elements};
@@ -23,16 +23,16 @@ use syslog_loose::{Dates, IncompleteDate, Line, Variant, parse_line};
 use syslog_pieces::pri::optional_priority;
 use syslog_pieces::text::trimmed;
 
-/// A line as its sender meant it.
+/// A line as its sender meant it, and the dialect that it was read in, if any.
 #[derive(Clone, Copy)]
 pub struct SentLine<'a> {
-    /// The line.
+    /// The line, whose texts are slices of the input.
     pub line: Line<'a>,
-    /// The dialect of the text; none where the line is the port's.
+    /// The dialect of the text; absent if the line is the port's.
     pub dialect: Option<Dialect>,
-    /// Whether the date of a dialect's line shows its year. It is false where the line is the port's.
+    /// Whether the date of a dialect's line shows its year. It is false if the line is the port's.
     pub shows_year: bool,
-    /// Whether the date of a dialect's line shows its offset. It is false where the line is the port's.
+    /// Whether the date of a dialect's line shows its offset. It is false if the line is the port's.
     pub shows_offset: bool,
 }
 
@@ -42,7 +42,7 @@ impl<'a> SentLine<'a> {
     ghost use Rattle.syslog_dialects.specs.Dialect.{dialect_text};
     ghost use Rattle.syslog_dialects.specs.SentReading as spec;
 
-    // The line, of this dialect, in which it has this date; or of none, with no date.
+    // Returns the line in this dialect, in which it has this date; or the port's line, in no dialect and with no date.
     #[inline(always)]
     fn of(line: &Line<'a>, dialect: Option<Dialect>, date: Option<SentDate>) -> SentLine<'a>
         ensures { (result.line ≡ line.now) × (result.dialect ≡ dialect)
@@ -59,7 +59,7 @@ impl<'a> SentLine<'a> {
         }
     }
 
-    /// Returns the name of the dialect, where it is one.
+    /// Returns the name of the dialect; none if the line is the port's.
     #[inline(always)]
     pub fn dialect_name(&self) -> Option<&'static str>
         ensures { seen result ≡ dialect_text self.now.dialect }
@@ -93,7 +93,8 @@ fn shows_offset(date: Option<SentDate>) -> bool
     }
 }
 
-// The line of the dialect that the text is in, which the port reads, or not; none where its date does not exist.
+// Returns the line of the dialect that the text is in; none if it is in none, or there is no such date. `is_read` says
+// whether the port parses the text.
 #[cold]
 #[inline(never)]
 fn dialect_line<'a>(is_read: bool, input: &'a str, dates: &Dates) -> Option<SentLine<'a>>
@@ -108,7 +109,7 @@ fn dialect_line<'a>(is_read: bool, input: &'a str, dates: &Dates) -> Option<Sent
     Some(SentLine::of(&line, Some(dialect), sent.date))
 }
 
-// The line of a dialect instead of the port's, which is not ordinary, where the dialects are asked.
+// Returns the line of a dialect instead of the port's line, which is not ordinary, if dialects are asked for.
 #[inline(always)]
 fn other_line<'a>(
     line: &Line<'a>,
@@ -135,7 +136,7 @@ fn other_line<'a>(
     dialect_line(true, input, dates)
 }
 
-// The line of a dialect where the port reads none, where the dialects are asked.
+// Returns the line of a dialect for a text that the port does not parse, if dialects are asked for.
 #[inline(always)]
 fn last_line<'a>(input: &'a str, dates: &Dates, are_asked: bool) -> Option<SentLine<'a>>
     ensures { MatchOption result (IsTrue are_asked → spec.MayBegin (chars input.entry.now)
@@ -152,10 +153,10 @@ fn last_line<'a>(input: &'a str, dates: &Dates, are_asked: bool) -> Option<SentL
     dialect_line(false, input, dates)
 }
 
-/// Returns the line of a dialect instead of the port's line of the text, which is not ordinary, and none where the text
-/// is of no dialect. It takes no memory, and the line has no elements.
+/// Returns the line of a dialect instead of the port's line of the text, which is not ordinary, and none if the text is
+/// in no dialect. It does not allocate, and the line has no elements.
 ///
-/// It is for callers that have made something of the port's line already: `sent_line` returns either line.
+/// It is for callers that have made something of the port's line already; `sent_line` returns either line.
 #[inline(always)]
 pub fn line_instead<'a>(
     input: &'a str,
@@ -178,12 +179,14 @@ pub fn line_instead<'a>(
     dialect_line(true, input, dates)
 }
 
-/// Returns the line of the text as its sender meant it, where this is the port's line. It takes no memory.
+/// Returns the line of the text as its sender meant it, given the port's line. It does not allocate.
 ///
-/// Where `dialects` is true and the variant is `Either`, the line of a dialect that the text is in comes before the
-/// port's, unless that is ordinary. Otherwise the line is the port's. A dialect's line has no elements, and instead of
-/// one that has some there is none: so what a visitor was given of the elements holds of this line. Nothing of a
-/// dialect's line is left unparsed as structured data.
+/// If `dialects` is true and the variant is `Either`, the line of a dialect that the text is in comes before the
+/// port's, unless that is ordinary. Otherwise the line is the port's.
+///
+/// A dialect's line has no elements, and a line of the port that has some is never replaced by one. So what a visitor
+/// was given of the elements holds of the returned line. Nothing of a dialect's line is left unparsed as structured
+/// data.
 #[inline(always)]
 pub fn sent_line<'a>(
     line: &Line<'a>,
@@ -210,9 +213,8 @@ pub fn sent_line<'a>(
     }
 }
 
-/// Returns the line of the text as its sender meant it, where the port reads none, and none where the text is no
-/// message.
-/// It takes no memory, and the line has no elements.
+/// Returns the line of a text that the port does not parse, as its sender meant it; none if the text is no message. It
+/// does not allocate, and the line has no elements.
 #[inline(always)]
 pub fn unread_line<'a>(
     input: &'a str,
@@ -232,7 +234,7 @@ pub fn unread_line<'a>(
     last_line(input, dates, asks_dialects(variant, dialects))
 }
 
-// Whether the dialects are asked.
+// Whether dialects are tried: they are asked for, and so are both protocols.
 #[inline(always)]
 fn asks_dialects(variant: Variant, dialects: bool) -> bool
     ensures { IsTrue result ↔ spec.AreAsked dialects variant }
@@ -240,7 +242,7 @@ fn asks_dialects(variant: Variant, dialects: bool) -> bool
     dialects && matches!(variant, Variant::Either)
 }
 
-/// Returns the line of the text as its sender meant it, and none where it is no message. It takes no memory.
+/// Returns the line of the text as its sender meant it, and none if the text is no message. It does not allocate.
 ///
 /// The arguments are those of `sent_line` and `unread_line`; `dates` has the year and the zone of dates that show none.
 #[inline(always)]

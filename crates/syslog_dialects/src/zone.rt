@@ -1,8 +1,7 @@
 //! The zone that a sender shows after the time: an offset in digits, as `+01:00`, `+0100` or `+01`, or a name.
 //!
-//! **Rule.** `UTC`, `GMT` and `Z` are offset 0. Any other name of the IANA time zone database is passed over, since
-//! most
-//! names mean several zones: the date then is in the zone of dates that show none.
+//! **Rule.** `UTC`, `GMT` and `Z` are offset 0. Any other name of the IANA time zone database is left out, since most
+//! names mean several zones. Then the date is in the zone of dates that show none.
 ghost use Rattle.std.specs.Prelude.{◌≡◌, ◌<◌, ◌∷◌, [], chars, ℕ, List, Option, true, MatchBool, map, unwrap_or};
 ghost use Rattle.syslog_pieces.specs.Pieces.Class.{Ends, Front};
 ghost use Rattle.syslog_pieces.specs.Pieces.View.{Reads, shown};
@@ -14,7 +13,7 @@ use syslog_pieces::as_str::is_same_text;
 use syslog_pieces::text::{CharClass, blanks, first, literal, past_colon, split_run};
 use syslog_pieces::timestamp::pairs::pair;
 
-/// The names of zones that are passed over, and those of offset 0 before them.
+/// The names of zones that are recognised: first those of offset 0, then those that are left out.
 const ZONE_NAMES: [&str; 51] = [
     "UTC", "GMT", "Z", "CET", "CEST", "EST", "EDT", "CST", "CDT", "MST", "MDT", "PST", "PDT",
     "AKST", "AKDT", "HST", "HDT", "AST", "ADT", "NST", "NDT", "WET", "WEST", "BST", "IST", "MET",
@@ -57,7 +56,7 @@ pub(crate) fn is_one_of(words: &[&str], word: &str) -> bool
     false
 }
 
-// `+` or `-`: whether it is `-`.
+// Reads `+` or `-`, and returns whether it is `-`.
 fn sign(text: &str) -> Option<(bool, &str)>
     ensures { Reads rfc3339.sign (λ behind. behind) (chars text.now) result }
 {
@@ -84,7 +83,7 @@ fn some_minutes(text: &str) -> (u32, &str)
     }
 }
 
-// Hours and minutes in seconds, negative where the clock is slow of UTC.
+// Returns hours and minutes in seconds, negative if the clock is slow of UTC.
 fn seconds(is_behind: bool, hours: u32, minutes: u32) -> i32
     requires hours { hours < 24 }
     requires minutes { minutes < 60 }
@@ -94,7 +93,7 @@ fn seconds(is_behind: bool, hours: u32, minutes: u32) -> i32
     if is_behind { -seconds } else { seconds }
 }
 
-// The offset in digits at the front, in seconds.
+// Returns the offset in digits at the front, in seconds, and the text after it.
 fn numeric_offset(text: &str) -> Option<(i32, &str)>
     ensures { Reads spec.numeric_offset (λ seconds. seconds) (chars text.now) result }
 {
@@ -107,7 +106,8 @@ fn numeric_offset(text: &str) -> Option<(i32, &str)>
     Some((seconds(is_behind, hours, minutes), rest))
 }
 
-/// Returns whether the bytes are as few as those of a zone's name, and begin as one does. Few words are looked up.
+/// Returns whether the bytes are as few as those of a zone's name, and begin as one does, so that few words are looked
+/// up.
 pub(crate) fn has_shape(name: &[u8]) -> bool
     ensures { result ≡ spec.has_shape name.now }
 {
@@ -158,8 +158,8 @@ fn zone_mark(text: &str) -> Option<(Option<i32>, &str)>
     Some((name_offset(name), rest))
 }
 
-/// Returns the zone at the front, after blanks or none: the offset that it is known to be, in seconds. Returns the text
-/// after it too.
+/// Returns the zone at the front, after blanks or none, and the text after it. The zone is its offset in seconds, if
+/// that is known.
 pub(crate) fn zone(text: &str) -> Option<(Option<i32>, &str)>
     ensures { Reads spec.zone (λ offset. offset) (chars text.now) result }
 {

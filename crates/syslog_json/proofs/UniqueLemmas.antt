@@ -118,7 +118,7 @@ module _ {post : IncompleteDate → ℤ → Type 0} (filter : Objects) (text : T
     leaves,
   )
 
--- either answer's bytes, and what it counts as
+-- the bytes that are written for a line, and what the line counts as
 pub answered : (is_message : Bool) (bytes : List ℕ) → (answer_bytes (answer_of is_message bytes) ≡ bytes ++ 10 ∷ [])
     × (is_message ≡ is_answered (answer_of is_message bytes))
 answered true bytes = (refl, refl)

@@ -57,7 +57,8 @@ pub record IsReadAs (value : Json) (bytes : List ℕ) : Type 0 where
   pub made : of_json value ≡ Some own
   pub read_back : read bytes ≡ Some own
 
--- the answer to a text: the text of its only value, which may be marked; one that is no message counts as skipped
+-- what the filter gives for a text: the text of its only value, which may be marked; one that is no message counts as
+-- skipped
 abbrev pub IsObject : Objects → Bool → List ℕ → Answer → Type 0
 IsObject filter is_marked line (Written bytes) = (value : Json) × IsOnly (IsReadJson filter line) value
     × IsReadAs (marked_if is_marked value) bytes
@@ -66,8 +67,8 @@ IsObject filter is_marked line (Marked bytes) = (value : Json) × IsOnly (IsRefu
 IsObject filter is_marked line Omitted = ⊥
 IsObject filter is_marked line Unasked = ⊥
 
--- The answer to a line. One that is not UTF-8 is taken for a text, and its object is marked, unless each of its bytes
--- is a character of ISO 8859-1.
+-- What the filter gives for a line. One that is not UTF-8 is decoded, and its object is marked, unless it was decoded
+-- as ISO 8859-1.
 abbrev pub IsLineObject : Objects → List ℕ → Answer → Type 0
 IsLineObject filter line answer = (IsUtf8 line × IsObject filter false line answer)
     ⊎ ((¬ (IsUtf8 line)) × IsObject filter (not filter.latin1) (decoded filter.latin1 line) answer)
@@ -93,7 +94,7 @@ IsLineRead filter text result writer = MatchOption result
     × HasWritten writer (list_elements it.line.list)
     × ((unparsed : Text) → IsLeftUnparsed it.line unparsed → LeavesSent it.dialect Either text unparsed))
 
--- the answer of an object that was written, as what the line counts
+-- what the filter gives for an object that was written, as the line counts
 abbrev pub answer_of : Bool → List ℕ → Answer
 answer_of true bytes = Written bytes
 answer_of false bytes = Marked bytes

@@ -19,16 +19,17 @@ use syslog_loose::{Dates, IncompleteDate, Itself, Variant, visit_line};
 use syslog_object::{ObjectWriter, refused_object};
 use syslog_utf8::decode;
 
-/// Reads lines to the end of the input, and writes each as one JSON object on one line: that of its message, read by
-/// the dates and in its dialect, or one that has the line and `"refused":true`. A line that is longer than `frames`
-/// allows is counted alone. No object has a byte below 32.
+/// Reads lines to the end of the input, and writes each as one JSON object on one line: that of its message, or one
+/// that has the line and `"refused":true`. A line is read in the dialect that it is in, and its dates are completed by
+/// `dates`. A line that is longer than `frames` allows is only counted. No object has a byte below 32.
 ///
-/// The output of each block of input is written before more is read, and the writer is flushed at the end. Nothing is
-/// tried again. After `RunFault::Read` the output of each complete line that was read was written. After
-/// `RunFault::Memory` so it was, if the allocation that failed was for a block, before anything was read or for a line
-/// that takes a whole one. If it was for a line, the output of each line before it was written. After
-/// `RunFault::Write` a beginning of the output was written. It takes memory for a block of input, its output, and the
-/// longest line and its object.
+/// The output of each block of input is written before more is read, and the writer is flushed at the end. A call that
+/// failed is not repeated. It allocates a block of input, its output, and the longest line and its object.
+///
+/// - After `RunFault::Read` the output of each complete line that was read was written.
+/// - After `RunFault::Memory` it was too, if the allocation that failed was for a block: before anything was read, or
+///   for a line that takes a whole block. If it was for a line, the output of each line before it was written.
+/// - After `RunFault::Write` a prefix of the output was written.
 pub fn write_objects<R: Read, W: Write>(
     alloc: Global,
     frames: Frames,
@@ -50,21 +51,21 @@ pub fn write_objects<R: Read, W: Write>(
     Ok(tally.counts(filter.latin1))
 }
 
-/// Writes the JSON of each line.
+/// The filter that writes each line as a JSON object.
 #[derive(Drop)]
 pub struct Objects {
-    /// Whether the object of a message has the line as it came, too.
+    /// Whether the object of a message also has the line as it came.
     pub raw: bool,
     /// Whether a line is read in a dialect that it is in.
     pub dialects: bool,
-    /// Whether a line that is not UTF-8 is read as ISO 8859-1.
+    /// Whether a line that is not UTF-8 is decoded as ISO 8859-1.
     pub latin1: bool,
-    /// How dates that show no year or no zone are taken.
+    /// How dates that show no year or no zone are completed.
     pub dates: Dates,
 }
 
 impl Objects {
-    // Reads the line, gives the writer its elements, and returns the line, where it is a message.
+    // Reads the line, gives the writer its elements, and returns the line, if it is a message.
     #[inline(always)]
     fn read<'a>(&self, line: &'a str, writer: &mut ObjectWriter<'a>) -> Option<SentLine<'a>>
         requires { HasWritten writer.old [] }
@@ -88,8 +89,8 @@ impl Objects {
         }
     }
 
-    // Adds the object of the line, or nothing where memory is refused. Returns the memory that was used, and whether
-    // the line is a message.
+    // Adds the object of the line, or nothing if an allocation fails. Returns the memory that was used, and whether the
+    // line is a message.
     #[inline(always)]
     fn write_line(
         &self,
@@ -115,7 +116,7 @@ impl Objects {
     }
 }
 
-// Adds the object of a line that is no message, or nothing where memory is refused. Returns the memory, which it used.
+// Adds the object of a line that is no message, or nothing if an allocation fails. Returns the memory that was used.
 fn write_refused(memory: Vec<u8>, line: &str, output: &mut Vec<u8>) -> Result<Vec<u8>, AllocError>
     ensures ok { IfOk result (λ _. (bytes : List ℕ) × IsTextOf (refused_json line.now) bytes
         × (output.new.items ≡ output.old.items ++ bytes)) }

@@ -1,4 +1,4 @@
-//! What the program says of itself.
+//! The usage line and the help of the program.
 
 /// How the program is called, in one line.
 pub const USAGE: &str =

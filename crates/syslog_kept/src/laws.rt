@@ -11,15 +11,16 @@ ghost use Rattle.syslog_loose.specs.declared.variant.Variant.{Variant};
 ghost use Rattle.syslog_object.specs.Object.{Beside, beside_line, invalid_json, message_json, refused_json, text_json};
 ghost use Rattle.syslog_kept.specs.Kept.{AccountsFor};
 
-/// Each character of a line that is a message is found in the object of the line, or is left out as `AccountsFor` says,
-/// whatever the object has as its dialect and as the raw line.
+/// Each character of a line that is a message is found in the object of the line, or is left out as `AccountsFor` says.
+/// This holds whatever the object has as its dialect and as the raw line.
 pub fn each_character_is_found()
     ensures { (variant : Variant) (dating : Dating) (text : Text) (m : MessageValue) (unparsed : Text)
         (dialect raw : Option Text) → IsRead variant dating text m → Leaves variant text unparsed
         → AccountsFor dating (message_json m (beside_line dialect unparsed raw)) text }
 {}
 
-/// The whole of a line that is no message is found in its object, also if a call falls back to a message.
+/// The whole of a line that is no message is found in its object, and in the message of a call that returns the
+/// fallback.
 pub fn line_that_is_no_message_is_found()
     ensures refused { (line : List ℕ) → get (codes "message") (refused_json line) ≡ Some (string line) }
     ensures invalid { (line : List ℕ) → get (codes "message") (invalid_json line) ≡ Some (string line) }

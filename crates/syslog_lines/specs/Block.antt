@@ -17,7 +17,7 @@ Fills in_before in_after old new true = (piece : List ℕ) × Consumes in_before
 Fills in_before in_after old new false = Consumes in_before in_after [] × IsAtEnd in_after
     × (held_bytes new ≡ held_bytes old)
 
--- reading stopped by a failed read, or for want of memory where what is held takes a whole block
+-- reading stopped at a failed read; or at a failed allocation, if what is held takes a whole block
 abbrev pub StopsReading : List ℕ → RunFault → Bool → Type 0
 StopsReading held Read failed = failed ≡ true
 StopsReading held Write failed = ⊥

@@ -9,8 +9,8 @@ use Rattle.syslog_lines.specs.Count.{held_count}
 use Rattle.syslog_lines.specs.Frames.{is_too_long, line_of}
 use Rattle.syslog_lines.specs.declared.framing.Frames.{Frames}
 
--- what a line gives: these bytes are written for it; or they are, and the line counts as skipped; or nothing is; or
--- nothing is since nobody asked for the line, which doesn't count as skipped
+-- what a line gives: bytes that are written for it, also for a line that counts as skipped (`Marked`); nothing, for a
+-- line that counts as skipped; or nothing since nobody asked for the line
 pub data Answer : Type 0 where
   Written : List ℕ → Answer
   Marked : List ℕ → Answer
@@ -71,7 +71,7 @@ output_of answers = flat_map answer_bytes answers
 abbrev pub is_invalid : Frames → List ℕ → Bool
 is_invalid frames message = if is_too_long frames message then false else not (is_utf8 (line_of frames.strips message))
 
--- of these answers, those to lines that are not UTF-8
+-- what the lines that are not UTF-8 gave, among these
 abbrev pub invalid_answers : Frames → List (List ℕ) → List Answer → List Answer
 invalid_answers frames [] answers = []
 invalid_answers frames (message ∷ messages) [] = []

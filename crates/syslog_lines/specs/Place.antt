@@ -16,7 +16,7 @@ use Rattle.syslog_lines.specs.declared.summary.Tally.{Tally}
 use Rattle.syslog_lines.specs.declared.summary.RunFault.{RunFault}
 use Rattle.syslog_lines.specs.declared.summary.RunFault.TheVariants.{Read, Write, Memory}
 
--- the bytes are a beginning of the byte order mark, and not all of it
+-- the bytes are a prefix of the byte order mark, and not all of it
 abbrev pub IsMarkFront : List ℕ → Type 0
 IsMarkFront bytes = (bytes ≡ []) ⊎ ((bytes ≡ 0xEF ∷ []) ⊎ (bytes ≡ 0xEF ∷ 0xBB ∷ []))
 
@@ -81,7 +81,7 @@ IsCutBy framing bytes message None = IsUncounted framing bytes × NoByte (ending
 abbrev pub HasMark : List ℕ → ℕ → Type 0
 HasMark bytes size = (size ≤ length bytes) × Settles true bytes (drop size bytes)
 
--- at the head of the input, the byte order mark was passed over if there is one; or the bytes don't show it yet
+-- at the head of the input, the byte order mark was skipped if there is one; or the bytes don't show it yet
 abbrev pub PassesMark : Place → List ℕ → Entry → Type 0
 PassesMark place bytes (After start seen) = (place ≡ Frame) × (seen ≡ 0) × HasMark bytes start
 PassesMark place bytes (Only size) = (place ≡ Head) × (size ≡ 0) × IsMarkFront bytes
@@ -105,7 +105,7 @@ abbrev pub Skips : Frames → Tally → Tally → List (List ℕ) → Type 0
 Skips frames was is messages = ((messages ≡ []) × (is ≡ was))
     ⊎ ((message : List ℕ) × (messages ≡ message ∷ []) × (is_too_long frames message ≡ true) × CountsLong was is)
 
--- what the first of the bytes are: they are passed over up to a frame, or there is none
+-- what the first of the bytes are: they are skipped up to a frame, or there is none
 abbrev pub Enters : Frames → Place → Place → List ℕ → Tally → Tally → Entry → Type 0
 Enters frames old new bytes was is (After start seen) = (new ≡ Frame) × (start ≤ length bytes)
     × (seen ≤ length (drop start bytes)) × IsOpen frames.framing (take seen (drop start bytes))
@@ -114,7 +114,7 @@ Enters frames old new bytes was is (Only size) = (is ≡ was) × (size ≤ lengt
     × IsHeld frames.framing new (drop size bytes) × ((input : List ℕ) (messages : List (List ℕ))
     → IsAt frames old input messages bytes → IsAt frames new input messages (drop size bytes))
 
--- what was written where a filter stopped at a place: for want of memory, or after a failed write
+-- what was written when a filter stopped at a place, since an allocation or a write failed
 abbrev pub Stops : Frames → Filter → Place → List ℕ → (List ℕ → List (List ℕ) → Type 0) → Option (List ℕ)
     → Option (List ℕ) → Bool → RunFault → Type 0
 Stops frames filter place bytes Reaches out_before out_after failed Read = ⊥

@@ -12,7 +12,7 @@ use Rattle.syslog_lines.specs.declared.summary.Tally.{Tally}
 use Rattle.syslog_lines.specs.declared.summary.RunFault.{RunFault}
 use Rattle.syslog_lines.specs.declared.summary.RunFault.TheVariants.{Read, Write, Memory}
 
--- what was read of the input has these messages in whole frames, and the beginning of one more
+-- what was read of the input has these messages in whole frames, and a prefix of one more
 pub record ReadFrames (frames : Frames) (in_before in_after : Option (List ℕ)) (lines : List (List ℕ)) : Type 0 where
   pub read : List ℕ
   pub consumed : Consumes in_before in_after read
@@ -53,14 +53,16 @@ abbrev pub LosesNothing : Frames → Filter → Option (List ℕ) → Option (Li
 LosesNothing frames filter in_before in_after out_before out_after = (lines : List (List ℕ))
     × ReadFrames frames in_before in_after lines × Wrote (taken frames filter) lines out_before out_after
 
--- the same, and room was wanted for the next block: nothing was read yet, or the frame that was cut takes a whole block
+-- the output of all whole frames of what was read was written, and space was needed for the next block: nothing was
+-- read yet, or the frame that was cut takes a whole block
 abbrev pub WantsRoom : Frames → Filter → Option (List ℕ) → Option (List ℕ) → Option (List ℕ) → Option (List ℕ) → Type 0
 WantsRoom frames filter in_before in_after out_before out_after =
     (lines : List (List ℕ)) × (seen : ReadFrames frames in_before in_after lines)
     × ((seen.read ≡ []) ⊎ (block_size ≤ length seen.cut)) × Wrote (taken frames filter) lines out_before out_after
 
--- What was read and written where a filter ends early. A failed read, and want of memory for the next block, lose no
--- whole frame; want of memory for a line loses none before it; after a failed write the last line may be cut.
+-- What was read and written if a filter ends early. A failed read loses no whole frame, nor does a failed allocation
+-- for the next block. A failed allocation for a line loses no line before it. After a failed write the last line may be
+-- cut.
 abbrev pub EndsEarly : Frames → Filter → Option (List ℕ) → Option (List ℕ) → Option (List ℕ) → Option (List ℕ)
     → RunFault
     → Type 0

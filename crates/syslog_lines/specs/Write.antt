@@ -14,7 +14,7 @@ pub record Wrote (filter : Filter) (lines : List (List ℕ)) (out_before out_aft
   pub answered : AreAnswers filter lines answers
   pub written : Appends out_before out_after (output_of answers)
 
--- the output of the lines before one for which memory may be wanted was written
+-- the output of the lines before one for which the filter may allocate was written
 pub record WroteBefore (filter : Filter) (lines : List (List ℕ)) (out_before out_after : Option (List ℕ)) : Type 0 where
   pub before : List (List ℕ)
   pub line : List ℕ
@@ -23,7 +23,7 @@ pub record WroteBefore (filter : Filter) (lines : List (List ℕ)) (out_before o
   pub wanted : filter.Wants line
   pub wrote : Wrote filter before out_before out_after
 
--- a beginning of the output of the lines was written, which may end within a line's
+-- a prefix of the output of the lines was written, which may end within a line's
 pub record WroteCut (filter : Filter) (lines : List (List ℕ)) (out_before out_after : Option (List ℕ)) : Type 0 where
   pub before : List (List ℕ)
   pub after : List (List ℕ)
@@ -50,7 +50,8 @@ abbrev pub AnswersBefore : Filter → List ℕ → Option (List ℕ) → Option 
 AnswersBefore filter bytes out_before out_after = (lines : List (List ℕ)) × IsLines bytes lines
     × WroteBefore filter lines out_before out_after
 
--- the output of all lines of the bytes was added; or memory was refused, and that of those before one that may want it
+-- the output of all lines of the bytes was added; or an allocation failed, and the output of those before a line that
+-- may need one was added
 abbrev pub AddsAnswers : {X E : Type 0} → Frames → Filter → List ℕ → List ℕ → List ℕ → Tally → Tally → Result X E
     → Type 0
 AddsAnswers frames filter bytes old new was is (Ok done) = AnswersAll frames filter bytes (Some old) (Some new) was is
@@ -61,7 +62,7 @@ abbrev pub AddsWhole : Frames → Filter → List ℕ → List ℕ → Option (L
 AddsWhole frames filter bytes rest out_before out_after was is = (messages : List (List ℕ))
     × AreFrames frames.framing bytes messages rest × Answered frames filter messages out_before out_after was is
 
--- of the whole frames that the bytes begin with, the output of those before one that may want memory was written
+-- of the whole frames that the bytes begin with, the output of those before one that may need an allocation was written
 abbrev pub StopsWithin : Frames → Filter → List ℕ → Option (List ℕ) → Option (List ℕ) → Type 0
 StopsWithin frames filter bytes out_before out_after = (messages : List (List ℕ)) × (rest : List ℕ)
     × AreFrames frames.framing bytes messages rest × IsOpen frames.framing rest

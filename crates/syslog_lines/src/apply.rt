@@ -18,9 +18,9 @@ use crate::summary::Tally;
 use std::alloc::{AllocError, Global};
 use syslog_utf8::from_utf8;
 
-/// Adds the output of all lines of bytes among which none is too long, and counts them. If an allocation for a line
-/// fails, that of the lines before is added, and the line is one for which the filter may take memory. `text` is the
-/// filter's, for its texts in between.
+/// Adds the output of each of these lines to `output`, and counts them. None of them is too long. If an allocation for
+/// a line fails, the output of the lines before it was added, and the line is one for which the filter may allocate.
+/// `text` is for the filter's texts in between.
 pub fn filter_lines<F: LineFilter>(
     alloc: Global,
     frames: Frames,
@@ -48,7 +48,7 @@ pub fn filter_lines<F: LineFilter>(
     Ok(())
 }
 
-// Adds what lines give, some of which are not UTF-8.
+// Adds the output of lines of which some are not UTF-8.
 fn filter_byte_lines<F: LineFilter>(
     alloc: Global,
     frames: Frames,
@@ -70,7 +70,7 @@ fn filter_byte_lines<F: LineFilter>(
     Ok(())
 }
 
-// Adds what a message gives, and counts it.
+// Adds the output of a message, and counts it.
 fn filter_message<F: LineFilter>(
     alloc: Global,
     frames: Frames,
@@ -103,7 +103,7 @@ fn filter_message<F: LineFilter>(
     Ok(())
 }
 
-// Adds what the messages of whole frames give, and returns the size of these frames. The first `seen` bytes have no
+// Adds the output of the messages of whole frames, and returns the size of these frames. The first `seen` bytes have no
 // whole frame.
 fn filter_frames<F: LineFilter>(
     alloc: Global,
@@ -132,7 +132,7 @@ fn filter_frames<F: LineFilter>(
     }
 }
 
-// Adds what the messages of whole frames give that end in line feeds, none of which is too long.
+// Adds the output of the messages of whole frames that end in line feeds, none of which is too long.
 #[inline(always)]
 fn filter_short<F: LineFilter>(
     alloc: Global,
@@ -160,7 +160,7 @@ fn filter_short<F: LineFilter>(
     Ok(past)
 }
 
-// Adds what the messages of whole frames give, frame by frame.
+// Adds the output of the messages of whole frames, frame by frame.
 fn filter_each<F: LineFilter>(
     alloc: Global,
     frames: Frames,
@@ -190,8 +190,8 @@ fn filter_each<F: LineFilter>(
     Ok(past)
 }
 
-/// Adds what the messages give that end in these bytes, from a place on, and returns how many bytes are done with. The
-/// first `seen` of them were seen before.
+/// Adds the output of the messages that end in these bytes, which are at `place` of the input, and returns how many
+/// bytes are done with. The first `seen` of them were seen before.
 pub fn filter_held<F: LineFilter>(
     alloc: Global,
     frames: Frames,
@@ -233,7 +233,7 @@ pub fn filter_held<F: LineFilter>(
     Ok(past + place.leave(frames, &bytes[past..]))
 }
 
-/// Adds what the last message gives, which ends with these bytes, from a place on.
+/// Adds the output of the last message, which ends with these bytes, which are at `place` of the input.
 pub fn filter_last<F: LineFilter>(
     alloc: Global,
     frames: Frames,
@@ -266,7 +266,7 @@ pub fn filter_last<F: LineFilter>(
     }
 }
 
-// Adds what the message gives of a frame that the end of the input cuts, if it has any bytes.
+// Adds the output of the message of a frame that the end of the input cuts, if it has any bytes.
 fn filter_cut<F: LineFilter>(
     alloc: Global,
     frames: Frames,

@@ -13,7 +13,7 @@ use std::io::Read;
 /// How many bytes a block holds, if no frame is longer.
 const SIZE: usize = 65536;
 
-/// The bytes that were read and are not done with.
+/// The bytes of the input that were read and are not done with.
 #[derive(Drop)]
 pub struct Block {
     bytes: Vec<u8>,
@@ -28,7 +28,8 @@ pub struct Block {
 impl Block {
     ghost use Rattle.syslog_lines.specs.Block.{Fills, StopsReading, held_bytes};
 
-    /// Returns an empty block, for which it takes 64 KiB. It grows for lines of up to `longest` bytes.
+    /// Returns an empty block, for which it allocates 64 KiB. It grows for frames whose lines have up to `longest`
+    /// bytes.
     pub fn new(alloc: Global, longest: Option<usize>) -> Result<Block, AllocError>
         ensures { IfOk result (λ block. held_bytes block ≡ []) }
     {
@@ -42,14 +43,14 @@ impl Block {
         })
     }
 
-    /// Returns the bytes.
+    /// Returns the bytes that were read and are not done with.
     pub fn held(&self) -> &[u8]
         ensures { result.now ≡ held_bytes self.now }
     {
         &self.bytes[self.passed..self.end]
     }
 
-    /// Is done with the first of the bytes.
+    /// Drops the first `size` of the bytes, which are done with.
     pub fn pass(&mut self, size: usize)
         requires { size ≤ length (held_bytes self.old) }
         ensures { held_bytes self.new ≡ drop size (held_bytes self.old) }
@@ -57,9 +58,9 @@ impl Block {
         self.passed += size;
     }
 
-    /// Reads once, after the bytes that are held. False at the end of the input.
+    /// Reads once, after the bytes that are held. Returns false at the end of the input.
     ///
-    /// `RunFault::Read` if the read fails, and `RunFault::Memory` if what is held takes the whole block, and an
+    /// Returns `RunFault::Read` if the read fails, and `RunFault::Memory` if what is held takes the whole block and an
     /// allocation for a larger one fails. Neither takes anything from the reader.
     pub fn fill<R: Read>(&mut self, reader: &mut Watched<R>) -> Result<bool, RunFault>
         requires { reader.old.failed ≡ false }

@@ -1,18 +1,18 @@
-//! What a filter is: what it writes for each line.
+//! What a filter of lines is: what it writes for each line.
 ghost use Rattle.std.specs.Prelude.{◌≡◌, ◌++◌, ◌∷◌, [], IfOk, IsUtf8, OnOk, OnErr};
 ghost use Rattle.syslog_lines.specs.Output.{AddsAnswer, Filter};
 
 use std::alloc::{AllocError, Global};
 
-/// What is written for each line of the input.
+/// Writes something for each line of the input.
 pub trait LineFilter {
     // what a line gives, and the lines for which memory may be taken
     ghost answers: { Self → Filter };
 
-    /// Adds what a line that is UTF-8 gives, with a line feed, to `output`, or nothing. Returns whether the line counts
-    /// as answered.
+    /// Adds the output for a line that is UTF-8 to `output`, with a line feed, or nothing. Returns whether the line
+    /// counts as answered.
     ///
-    /// If an allocation fails, nothing is added, and the line is one for which memory may be taken. `text` is for a
+    /// If an allocation fails, nothing is added, and the line is one for which the filter may allocate. `text` is for a
     /// text in between: what it holds doesn't count, and its memory is used again for the next line.
     fn filter_line(
         &self,
@@ -26,7 +26,7 @@ pub trait LineFilter {
         ensures err { OnErr result (output.new.items ≡ output.old.items) }
         ensures refusal { OnErr result ((answers self.now).Wants line.now) };
 
-    /// Adds what a line that is not UTF-8 gives, with a line feed, to `output`, or nothing. Returns whether the line
+    /// Adds the output for a line that is not UTF-8 to `output`, with a line feed, or nothing. Returns whether the line
     /// counts as answered. If an allocation fails, nothing is added.
     fn filter_bytes(
         &self,

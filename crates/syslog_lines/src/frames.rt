@@ -35,7 +35,7 @@ fn read_count(framing: Framing, bytes: &[u8]) -> Option<(usize, usize)>
     }
 }
 
-// Returns that of octet counts.
+// Returns the size of the octet count that the bytes begin with, with the space after it, and the number of octets.
 fn octet_count(bytes: &[u8]) -> Option<(usize, usize)>
     ensures counted { MatchOption result (IsUncounted OctetCounts bytes.now)
         (λ x. IsCounted OctetCounts bytes.now x.1 (drop x.0 bytes.now)) }
@@ -76,7 +76,7 @@ pub fn whole_frame(framing: Framing, bytes: &[u8], seen: usize) -> Option<(&[u8]
     Some((&bytes[head..size], size))
 }
 
-// Returns that of bytes that begin with no count.
+// Returns the message and the size of the first frame, if it is whole, of bytes that begin with no count.
 fn ended_frame(framing: Framing, bytes: &[u8], seen: usize) -> Option<(&[u8], usize)>
     requires none { IsUncounted framing bytes.now }
     requires within { seen ≤ length bytes.now }
@@ -91,8 +91,8 @@ fn ended_frame(framing: Framing, bytes: &[u8], seen: usize) -> Option<(&[u8], us
     }
 }
 
-/// Returns what is there of the message of a frame that is cut, and how many octets of its count are missing, if it has
-/// one.
+/// Returns the bytes that are there of the message of a frame that is cut, and how many octets of its count are
+/// missing, if it has one.
 pub fn cut_message(framing: Framing, bytes: &[u8]) -> (&[u8], Option<usize>)
     requires { IsOpen framing bytes.now }
     ensures cut { IsCutFrame framing result.0.now bytes.now }

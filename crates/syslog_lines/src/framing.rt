@@ -1,18 +1,21 @@
-//! How the input is cut into frames, and what of each is its line.
+//! How the input is cut into frames, and which part of each is its line.
+//!
+//! **Rule.** Octet counts are those of RFC 6587 (section 3.4.1). The other two framings, and what is left out at the
+//! ends of a message, are this project's own choice.
 ghost use Rattle.std.specs.Prelude.{◌≡◌, IsUtf8, Some, length, true, false};
 ghost use Rattle.syslog_lines.specs.Frames.{ending_of, is_above, line_of, plain_lines, without_last};
 
-/// The most bytes of a line that is read, unless something else is asked for: 64 MiB.
+/// How many bytes a line that is read has at most, unless something else is asked for: 64 MiB.
 pub const LONGEST_LINE: usize = 67_108_864;
 
-/// How frames follow each other.
+/// How the input is cut into frames.
 #[derive(Clone, Copy, Debug, PartialEq, Eq)]
 pub enum Framing {
-    /// Each ends in a line feed.
+    /// Each frame ends in a line feed.
     LineFeeds,
-    /// Each ends in NUL.
+    /// Each frame ends in NUL.
     Nuls,
-    /// Each begins with the count of its octets and a space, or else ends in a line feed.
+    /// Each frame begins with the count of its octets and a space, or otherwise ends in a line feed.
     OctetCounts,
 }
 
@@ -29,20 +32,20 @@ impl Framing {
     }
 }
 
-/// Which frames the input has, and which of their bytes are read.
+/// How the input is cut into frames, and which of their bytes are read as lines.
 #[derive(Clone, Copy, Debug, PartialEq, Eq)]
 pub struct Frames {
-    /// How they follow each other.
+    /// How the input is cut into frames.
     pub framing: Framing,
-    /// Whether a byte order mark at the head of the input is passed over, and a carriage return and a NUL at the end of
-    /// a message.
+    /// Whether a byte order mark at the head of the input is left out, and a carriage return and a NUL at the end of a
+    /// message.
     pub strips: bool,
-    /// How many bytes a line may have, if not any number.
+    /// How many bytes a line may have; absent if any number.
     pub longest: Option<usize>,
 }
 
 impl Frames {
-    /// Returns those of plain lines: what is between line feeds, of any length, with each of its bytes.
+    /// Returns the frames of plain lines: what is between line feeds, of any length, with each of its bytes.
     pub fn plain() -> Frames
         ensures { result ≡ plain_lines }
     {
@@ -53,7 +56,8 @@ impl Frames {
         }
     }
 
-    /// Returns those of messages that follow each other so, whose lines have at most `longest` bytes.
+    /// Returns the frames of messages: cut as `framing` says, with the ends of a message left out, and lines of at most
+    /// `longest` bytes.
     pub fn messages(framing: Framing, longest: usize) -> Frames
         ensures framing { result.framing ≡ framing }
         ensures strips { result.strips ≡ true }
@@ -66,7 +70,7 @@ impl Frames {
         }
     }
 
-    /// Returns whether a line of so many bytes is too long.
+    /// Returns whether a line of `size` bytes is too long.
     #[inline]
     pub fn is_too_long(self, size: usize) -> bool
         ensures { result ≡ is_above self.longest size }
@@ -77,7 +81,7 @@ impl Frames {
         }
     }
 
-    /// Returns the line of a message.
+    /// Returns the line of a message: without the ends that are left out.
     #[inline(always)]
     pub fn line(self, message: &[u8]) -> &[u8]
         ensures { result.now ≡ line_of self.strips message.now }
@@ -92,7 +96,7 @@ impl Frames {
         without_end(without_end(message, b'\r'), 0)
     }
 
-    /// Returns the line of a message that is a text.
+    /// Returns the line of a message that is a text: without the ends that are left out.
     #[inline(always)]
     pub fn text_line(self, message: &str) -> &str
         ensures line { result.now ≡ line_of self.strips message.now }
@@ -103,7 +107,7 @@ impl Frames {
     }
 }
 
-// Returns whether the last byte is up to a carriage return: it may be one, or NUL.
+// Returns whether the last byte is one that may be left out, or a control character below it.
 #[inline(always)]
 fn may_end(message: &[u8]) -> bool
     ensures { result ≡ false → line_of true message.now ≡ message.now }

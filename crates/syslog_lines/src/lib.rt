@@ -1,10 +1,11 @@
 //! Filters of lines, from a reader to a writer.
 //!
-//! `pump` reads the input a block at a time, hands each line to a `LineFilter`, and writes the output of a block before
+//! `pump` reads the input a block at a time, gives each line to a `LineFilter`, and writes the output of a block before
 //! it reads the next. `docs/PROMISES.md` says what was read and written if it ends early. The programs are built on it.
 //!
-//! If `reader` holds the lines `a` and `b`, and `filter` gives each its text, `pump(alloc, &filter, &mut reader, &mut
-//! writer)` writes `a` and `b`, each with a line feed. It returns a `Tally` with `answered` 2 and `skipped` 0.
+//! If `reader` holds the lines `a` and `b`, and `filter` writes each line as it is, `pump(alloc, Frames::plain(),
+//! &filter, &mut reader, &mut writer)` writes `a` and `b`, each with a line feed. It returns a `Tally` with `answered`
+//! 2 and `skipped` 0.
 #![tactic(auto)]
 
 mod apply;

@@ -11,24 +11,24 @@ use crate::framing::Frames;
 use crate::summary::Tally;
 use memchr::memchr;
 
-/// Where the bytes are that come next.
+/// Where in the input the next bytes are.
 #[derive(Clone, Copy, PartialEq, Eq)]
 pub enum Place {
     /// At the head of the input, where a byte order mark may be.
     Head,
     /// Where a frame begins.
     Frame,
-    /// In a message that is too long, and goes on up to an ending.
+    /// In a message that is too long, and goes on up to an ending byte.
     Ending,
-    /// In a message that is too long, and has so many octets more.
+    /// In a message that is too long, and goes on for so many octets.
     Octets(usize),
 }
 
-/// What the first of the bytes are.
+/// How many of the bytes are done with, and what follows them.
 pub enum Entry {
-    /// So many bytes, and then a frame begins, of which so many were seen before.
+    /// So many bytes are done with, and then a frame begins, of which so many bytes were seen before.
     After(usize, usize),
-    /// So many bytes, and then no frame begins.
+    /// So many bytes are done with, and no frame begins yet.
     Only(usize),
 }
 
@@ -77,7 +77,7 @@ impl Place {
         Entry::After(end, 0)
     }
 
-    // Passes a byte order mark over.
+    // Skips a byte order mark.
     fn pass_mark(&mut self, bytes: &[u8]) -> Entry
         requires { self.old ≡ Head }
         ensures { PassesMark self.new bytes.now result }
@@ -110,8 +110,8 @@ impl Place {
     }
 }
 
-// Returns whether the message of a frame that is cut is too long, of which so many bytes are there. Two bytes at its
-// end may yet be left out, and ten of the frame show whether there is a count.
+// Whether the message of a frame that is cut is too long, of which so many bytes are there. Two bytes at its end may
+// yet be left out, and it takes ten bytes of the frame to see whether there is a count.
 fn is_long_front(frames: Frames, size: usize, message: usize) -> bool
     ensures { result ≡ true → (10 ≤ size) × (is_above frames.longest (message - 2) ≡ true) }
 {

@@ -1,4 +1,4 @@
-//! From a reader to a writer, through a filter.
+//! From a reader to a writer, through a filter: a block of input at a time.
 ghost use Rattle.std.specs.Prelude.{◌≡◌, ◌≤◌, [], false, Some, IfOk, IfErr, OnOk, length, take, drop};
 ghost use Rattle.syslog_lines.specs.Frames.{HasAllFrames};
 ghost use Rattle.syslog_lines.specs.Output.{taken};
@@ -19,8 +19,8 @@ use std::io::{Read, Write};
 /// Reads the messages of these frames to the end of the input, and writes what the filter gives for the line of each. A
 /// line that is too long is counted, and the filter doesn't see it.
 ///
-/// The output of each block of input is written before more is read, and the writer is flushed at the end. Nothing is
-/// tried again. It takes memory for a block of input, its output, and the longest frame up to the limit. `RunFault`
+/// The output of each block of input is written before more is read, and the writer is flushed at the end. A call that
+/// failed is not repeated. It allocates a block of input, its output, and the longest frame up to the limit. `RunFault`
 /// says why it ended early.
 pub fn pump<F: LineFilter, R: Read, W: Write>(
     alloc: Global,
@@ -78,9 +78,9 @@ pub fn pump<F: LineFilter, R: Read, W: Write>(
     Ok(tally)
 }
 
-// Writes what the messages give that end in these bytes, from a place on, and counts them. Returns how many bytes are
-// done with. The first `seen` of them were seen before. If an allocation fails, the output of the messages before is
-// written.
+// Writes the output of the messages that end in these bytes, which are at `place` of the input, and counts them.
+// Returns how many bytes are done with. The first `seen` of them were seen before. If an allocation fails, the output
+// of the messages before is written.
 fn answer_held<F: LineFilter, W: Write>(
     alloc: Global,
     frames: Frames,
@@ -115,7 +115,7 @@ fn answer_held<F: LineFilter, W: Write>(
     Ok(past)
 }
 
-// Writes what the last message gives, which ends with these bytes, from a place on.
+// Writes the output of the last message, which ends with these bytes, which are at `place` of the input.
 fn answer_last<F: LineFilter, W: Write>(
     alloc: Global,
     frames: Frames,

@@ -2,42 +2,42 @@
 use std::alloc::AllocError;
 use thiserror::Error;
 
-/// How many lines a run read, and how many of them it refused. A count that is at its last value stays so.
+/// How many lines a run read, and how many of them it refused. The counts saturate.
 #[derive(Clone, Copy, Debug, PartialEq, Eq)]
 pub struct Summary {
     /// The number of lines.
     pub lines: u64,
-    /// The number of lines that are no message: not UTF-8, or without a parse.
+    /// The number of lines that are no message: those that are not UTF-8, and those that do not parse.
     pub refused: u64,
 }
 
-/// What became of the lines of a run. A count that is at its last value stays so.
+/// What became of the lines of a run. The counts saturate.
 #[derive(Clone, Copy, Debug, PartialEq, Eq)]
 pub struct LineCounts {
     /// The number of lines.
     pub lines: u64,
     /// The number of lines that are no message.
     pub refused: u64,
-    /// How many of these are not UTF-8.
+    /// The number of those lines that are no message and not UTF-8.
     pub refused_invalid: u64,
-    /// How many of these are too long, so that nobody looked at their bytes.
+    /// The number of those lines that are too long, so that nobody looked at their bytes. They count as no message.
     pub too_long: u64,
-    /// How many messages have U+FFFD for what is not UTF-8.
+    /// The number of messages that have U+FFFD for what is not UTF-8.
     pub replaced: u64,
 }
 
-/// How many lines a filter answered, and how many it skipped. A count that is at its last value stays so.
+/// How many lines a filter answered, and how many it skipped. The counts saturate.
 #[derive(Clone, Copy)]
 pub struct Tally {
     /// The number of lines for which the filter returned `true`.
     pub answered: u64,
     /// The number of lines for which the filter returned `false`.
     pub skipped: u64,
-    /// How many of the lines that were answered are not UTF-8.
+    /// The number of lines that were answered and are not UTF-8.
     pub answered_invalid: u64,
-    /// How many of those that were skipped are not UTF-8.
+    /// The number of lines that were skipped and are not UTF-8.
     pub skipped_invalid: u64,
-    /// How many lines were skipped since they are too long.
+    /// The number of lines that were skipped because they are too long.
     pub too_long: u64,
 }
 
@@ -46,7 +46,7 @@ impl Tally {
     ghost use Rattle.syslog_lines.specs.Count.{held_count};
     ghost use Rattle.syslog_lines.specs.Place.{CountsLong};
 
-    /// Returns that of no lines.
+    /// Returns the counts of no lines.
     pub fn new() -> Tally
         ensures answered { result.answered ≡ 0 }
         ensures skipped { result.skipped ≡ 0 }
@@ -101,8 +101,8 @@ impl Tally {
         self.skipped_invalid = self.skipped_invalid.saturating_add(u64::from(!is_answered));
     }
 
-    /// Returns the counts of lines that are messages if they were answered. If those that are not UTF-8 were read as
-    /// ISO 8859-1, nothing was replaced.
+    /// Returns the counts for a filter by which a line is answered exactly if it is a message. If lines that are not
+    /// UTF-8 were decoded as ISO 8859-1, nothing was replaced.
     pub fn counts(&self, is_latin1: bool) -> LineCounts
         ensures lines { result.lines ≡ held_count (self.now.answered + self.now.skipped) }
         ensures refused { result.refused ≡ self.now.skipped }

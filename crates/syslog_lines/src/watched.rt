@@ -1,4 +1,4 @@
-//! A reader or a writer, how often it was read, and whether a call of it failed.
+//! A reader or a writer that counts its reads, and remembers whether a call failed.
 ghost use Rattle.std.specs.Prelude.{◌≡◌, ◌+◌, ◌<◌, ℕ, false, true, IsErr, OnOk, OnErr, IfOk, IfErr, length, take};
 ghost use Rattle.std.specs.Io.{ReadsAtMost, WritesAtMost};
 ghost use Rattle.std.specs.Io.KnownBytes.{Appends, Keeps, ReadConsumes, WriteAppends};
@@ -8,19 +8,19 @@ use crate::summary::RunFault;
 use std::io;
 use std::io::{Error, ErrorKind, Read, Write};
 
-/// A reader or a writer that remembers whether a call failed. It shows the bytes that `inner` shows.
+/// A reader or a writer that remembers whether a call failed. All calls are passed on to `inner`.
 #[derive(Drop)]
 pub struct Watched<T> {
-    /// What the calls are passed on to.
+    /// The reader or writer that the calls are passed on to.
     pub inner: T,
-    /// How many reads were passed on. At its last value nothing is read any more, so that reading ends.
+    /// How many reads were passed on. When the count is at its largest value no more is read, so that reading ends.
     pub calls: u64,
     /// Whether a call returned an error.
     pub failed: bool,
 }
 
 impl<T> Watched<T> {
-    /// Returns one that has no call and no failure so far.
+    /// Returns a reader or a writer that had no call and no failure so far.
     pub fn new(inner: T) -> Watched<T>
         ensures inner { result.inner ≡ inner }
         ensures calls { result.calls ≡ 0 }
@@ -35,7 +35,7 @@ impl<T> Watched<T> {
 }
 
 impl<W: Write> Watched<W> {
-    /// Writes all of the bytes, or a beginning of them if a write fails.
+    /// Writes all of the bytes, or a prefix of them if a write fails.
     pub fn write_whole(&mut self, bytes: &[u8]) -> Result<(), RunFault>
         requires { self.old.failed ≡ false }
         ensures ok { OnOk result (Appends (W.contents self.old.inner) (W.contents self.new.inner) bytes.now) }

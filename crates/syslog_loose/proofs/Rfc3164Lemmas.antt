@@ -113,8 +113,9 @@ resolves_once None (Some (Some t)) r s x y = names_once None t (names None (Some
 resolves_once (Some h) (Some (Some t)) r s x y = names_once h t (names h (Some t) None) r s x y
 resolves_once v t r s x y = x ∙ sym y
 
--- What holds of the names that a host field and a tag field mean, case by case: of no names, of a lone text (a host, or
--- of a program's form), and of a program's text beside what the host field holds (of that form, or not).
+-- What holds of the names that a host field and a tag field mean, case by case. There may be no names, or a lone text:
+-- a host, or one of a program's form. Or there is a program's text, of that form or not, beside what the host field
+-- holds.
 pub record OfNames (P : Option (Option Text) → Option (Option Text) → Names3164 → Type 0) : Type 0 where
   pub nobody : (v t : Option (Option Text)) → P v t (names None None None)
   pub host : (h : Text) → IsNoForm h → P (Some (Some h)) None (names (Some h) None None)

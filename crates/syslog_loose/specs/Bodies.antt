@@ -1,4 +1,4 @@
--- Words that only laws and the proofs of bodies speak of. A reader of the claims can pass them over.
+-- Words that only laws and the proofs of bodies use. A reader of the claims can skip them.
 pub mod Cases
 pub mod Rows
 pub mod Jumps

@@ -1,5 +1,5 @@
--- What the rule of the dash changed: how it was while a dash was a list of RFC 3164 before anything, and which texts
--- are read otherwise now. (This project's own.)
+-- What the rule of the dash changed: how texts are read if a dash is a list of RFC 3164 before any text, as in the Rust
+-- crate, and which texts are read differently now. (This project's own.)
 use Rattle.std.specs.Prelude.{◌≡◌, ◌≢◌, ◌∷◌, ◌++◌, false}
 use Rattle.syslog_loose.specs.Words.{ℕ, List, [], length, Option, Some, None, Text, Class, rfc3164_list, is_blank, dash}
 use Rattle.syslog_loose.specs.Words.{Dating, DashRule, join}
@@ -56,7 +56,7 @@ pub record BeginsDashChange (text : Text) : Type 0 where
   pub is : text ≡ 45 ∷ (next ∷ after)
   pub no_blank : is_blank next ≡ false
 
--- The text was read as RFC 3164 with the old list: the ninth of its eleven pieces is the list's, and was `-`, and what
+-- The text is read as RFC 3164 with the old list: the ninth of its eleven pieces, which is the list's, is `-`. What
 -- follows that piece begins with a character that is no blank.
 pub record HasDashChange3164 (dating : Dating) (text : Text) : Type 0 where
   pub message : MessageValue

@@ -1,5 +1,5 @@
--- What a message that was read as RFC 3164 may miss of the written condition: five things and no more. So these are the
--- messages that are read as another one, or not at all, when they are printed. (This project's own.)
+-- What a message that was read as RFC 3164 may lack of the written condition: five quirks, and no more. So the messages
+-- that have one are read as another message, or not at all, when they are printed. (This project's own.)
 use Rattle.std.specs.Prelude.{◌≡◌, ◌≢◌, ◌⊎◌, ◌<◌, ◌&&◌}
 use Rattle.syslog_loose.specs.Words.{⊤, ℕ, nat_eq, not, Bool, [], length, Option, Some, None, IfSome, IsSome}
 use Rattle.syslog_loose.specs.Words.{AllByRecursion, Text, Each, Ends, BeginsNoList, is_blank, is_tag_char, dash}
@@ -27,15 +27,19 @@ pub record HasQuietNames (host : Option Text) (process : Option (ProcId Text)) :
   pub no_last_colon : IfSome host (λ h. EndsInColon h → ⊥)
   pub no_colon : IfSome process HasNoColon
 
--- The message has none of the quirks, which are: a timestamp that its printed text does not have; a host `-`, which is
--- the text of an absent one; a host that ends in a colon, which is taken for the one after the names; a process name
--- with a colon, at which the name before it is cut; and with no element a message that begins with a list.
+-- The message has none of the quirks, which are these:
+--
+-- 1. a timestamp that its printed text does not have
+-- 2. a host `-`, which is the text of an absent one
+-- 3. a host that ends in a colon, which is taken for the one after the names
+-- 4. a process name with a colon, at which the name before it is cut
+-- 5. no element, and a message part that begins with a list
 pub record HasNoException (rule : DashRule) (m : MessageValue) : Type 0 where
   pub timestamp : IfSome m.timestamp IsCanonicalStamp
   pub names : HasQuietNames m.hostname m.procid
   pub no_list : m.structured_data ≡ [] → BeginsNoList rule m.msg
 
--- it has none of them before its message part
+-- it has none of the quirks before its message part
 pub record HasNoNameException (m : MessageValue) : Type 0 where
   pub timestamp : IfSome m.timestamp IsCanonicalStamp
   pub names : HasQuietNames m.hostname m.procid
@@ -55,14 +59,14 @@ abbrev pub IsInnerProcess : ProcId Text → Type 0
 IsInnerProcess (PID n) = ⊤
 IsInnerProcess (Name t) = (0 < length t) × Each is_inner_char t × IsNoI32Text t
 
--- the condition on the names, but that a process name may have colons
+-- the condition on the names, except that a process name may have colons
 abbrev pub AreNamesButExceptions : Option Text → Option Text → Option (ProcId Text) → Type 0
 AreNamesButExceptions host None None = IfSome host IsNoForm
 AreNamesButExceptions host None (Some process) = ⊥
 AreNamesButExceptions host (Some app) None = (0 < length app) × Each is_tag_char app × (app ≢ dash) × IsNoForm app
 AreNamesButExceptions host (Some app) (Some process) = Each is_label_char app × IsInnerProcess process
 
--- The message meets the condition for RFC 3164, but for its facility and severity and for the quirks. A host that is
+-- The message meets the condition for RFC 3164, except for its facility and severity and for the quirks. A host that is
 -- `-` or ends in a colon comes with no app name, and a process name with a colon comes with no host.
 pub record HasExceptionsAlone (m : MessageValue) : Type 0 where
   pub protocol : m.protocol ≡ RFC3164
@@ -76,7 +80,7 @@ pub record HasExceptionsAlone (m : MessageValue) : Type 0 where
   pub msg_front : Ends is_blank m.msg
   pub msg_end : EndsVisibly m.msg
 
--- the message meets the condition but for the exceptions
+-- the message meets the condition except for the quirks
 pub record IsNearlyCanonical (m : MessageValue) : Type 0 where
   pub facility : IsSome m.facility
   pub severity : IsSome m.severity

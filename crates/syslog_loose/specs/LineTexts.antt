@@ -27,8 +27,8 @@ pub record IsLine5424 (text : Text) (line : Line) : Type 0 where
   pub is_printed : IsTrue line.is_printed ↔ (shown line.rest ≡ rest_text (line_value line))
 
 -- The text is read as the line. Priority and timestamp begin it, then come the two fields of names, one of which has
--- the text of the process, and a colon, and then the list, which may be absent, and the message part. The line says
--- whether all after its timestamp is as it prints, with the field of a host and a program, and without a list.
+-- the text of the process, and a colon. Then come the list, which may be absent, and the message part. The line says
+-- whether all after its timestamp is in printed form, with a host field and a program, and without a list.
 pub record IsLine3164 (dating : Dating) (text : Text) (line : Line) : Type 0 where
   pub read : IsRead3164 dash_rule dating text (line_value line)
   pub front : IsAfterStamp dating (trimmed text) line.priority line.timestamp (shown line.rest)

@@ -97,7 +97,7 @@ WritesRound line made bytes = MatchResult made
     → IsToldRound variant dating whole (chars bytes) settled)
     (λ _. ⊤)
 
--- what is answered where this was written of the line of a text, or where there is none
+-- what a call returns when this was written for the line of a text, or when there is no line
 abbrev pub round_answer : Option (Result Bool AllocError) → Result Bool ParseFault
 round_answer None = Err Invalid
 round_answer (Some (Ok settled)) = Ok settled

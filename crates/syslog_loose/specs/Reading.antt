@@ -68,13 +68,13 @@ AsksYear RFC5424 text date = ⊥
 AsksYear RFC3164 text date = ShowsOf yearless_date text date
 AsksYear Either text date = ShowsOf yearless_date text date
 
--- this is the year that the closure answered: none where the text asks for no year
+-- this is the year that the closure returned: none if the text asks for no year
 abbrev pub IsYearAnswered : (IncompleteDate → ℤ → Type 0) → Variant → Text → Option ℤ → Type 0
 IsYearAnswered post variant text None = (date : MonthDate) → AsksYear variant text date → ⊥
 IsYearAnswered post variant text (Some year) = (date : MonthDate) × AsksYear variant text date
     × post (date.month, date.day, date.hour, date.minute, date.second) year
 
--- This holds in the year that the closure answered, and in any year where the text asks for none.
+-- This holds in the year that the closure returned, and in any year if the text asks for none.
 pub record InYear (post : IncompleteDate → ℤ → Type 0) (variant : Variant) (text : Text)
     (Holds : Option ℤ → Type 0) : Type 0 where
   pub answered : Option ℤ
@@ -110,7 +110,7 @@ abbrev pub IsReadOrWhole : Variant → Dating → Text → MessageValue → Type
 IsReadOrWhole variant dating text m = IsOnlyRead variant dating text m
     ⊎ (IsUnreadable variant dating text × (m ≡ fallback text))
 
--- that message, or a refusal of memory, only for a text whose message has elements
+-- that message, or the fault of a failed allocation, only for a text whose message has elements
 abbrev pub AnswersOrWhole : Variant → Dating → Text → Result (Message (Bor (List ℕ))) AllocError → Type 0
 AnswersOrWhole variant dating text result = MatchResult result
     (λ m. IsReadOrWhole variant dating text (message_value (λ s. shown s) m))

@@ -1,5 +1,5 @@
-//! Whether the change of the dash changed the reading of a text. The front of the text, up to its list, decides it: so
-//! no element is collected, and no memory taken.
+//! Whether a text is read differently here than by the Rust crate `syslog_loose`, which takes a dash before any text
+//! for an empty list. The fields before the list decide that, so no element is collected, and nothing is allocated.
 ghost use Rattle.std.specs.Prelude.{◌↔◌};
 ghost use Rattle.syslog_loose.specs.Words.{IsTrue, MatchBool, IsOkAnd, chars, Text, dating_of};
 ghost use Rattle.syslog_pieces.specs.Timestamp.Zone.{Dating as AnyDating};
@@ -15,12 +15,14 @@ use std::alloc::{AllocError, Global};
 use syslog_pieces::structured_data::NoElements;
 use syslog_pieces::text::{CharClass, first, literal};
 
-/// Whether the text is read otherwise than it was while a dash was a list of RFC 3164 before anything, as it is in the
-/// Rust crate: so whether the list's piece was a dash before a character that is no blank, which was left out, and
-/// begins `msg` now that a dash is a list only at the end and before a blank.
+/// Returns whether the Rust crate would drop a leading `-` that is kept here as the beginning of `msg`.
 ///
-/// The arguments are those of `parse_message_with_year_exact_tz`, and `get_year` is called as there. It is never
-/// refused.
+/// In RFC 3164 the crate takes a dash for an empty list of structured data before any text. Here a dash is one only at
+/// the end of the text, or before a blank. So this is true if the text is read as RFC 3164, and a dash is where a list
+/// may begin, right before a character that is no blank.
+///
+/// The arguments are those of `parse_message_with_year_exact_tz`, and `get_year` is called as there. The call never
+/// fails.
 pub fn reads_differently<F: FnOnce(IncompleteDate) -> i32>(
     _alloc: Global,
     input: &str,
@@ -32,7 +34,7 @@ pub fn reads_differently<F: FnOnce(IncompleteDate) -> i32>(
     requires { AnswersEachMonth (F.pre get_year) }
     ensures reads { InYear (F.post get_year) variant (chars input.entry.now) (λ year. IsOkAnd result (λ differs.
         IsTrue differs ↔ ReadsDifferently variant (dating_of year tz.entry local.entry) (chars input.entry.now))) }
-    // So whether the piece of the list that was read as RFC 3164 was `-`, before a character that is no blank.
+    // What that comes to: the piece of the list that was read as RFC 3164 was `-`, before a character that is no blank.
     ensures drops { InYear (F.post get_year) variant (chars input.entry.now) (λ year. IsOkAnd result (λ differs.
         IsTrue differs ↔ HasDashChange variant (dating_of year tz.entry local.entry) (chars input.entry.now))) }
 {

@@ -1,17 +1,17 @@
-//! How dates that show no year or no zone are taken, as one value.
+//! How dates that show no year or no zone are completed, as one value.
 ghost use Rattle.jiff.specs.Words.{IsYear};
 
 use crate::reckoning::{reckon_year, zone_ahead};
 use crate::variant::IncompleteDate;
 use jiff::tz::TimeZone;
 
-/// How dates that show no year or no zone are taken.
+/// How dates that show no year or no zone are completed.
 #[derive(Drop)]
 pub struct Dates {
     /// The year of dates that show none, from -9999 to 9999.
     pub year: i32,
-    /// The month that it is now, from 1 to 12: in January a date of December is of the year before. If it is absent,
-    /// each date is of `year`.
+    /// The current month, from 1 to 12: in January a date of December is of the year before. If it is absent, each date
+    /// is of `year`.
     pub month: Option<u32>,
     /// The zone of dates that show none.
     pub zone: TimeZone<'static>,
@@ -24,7 +24,8 @@ impl Dates {
     ghost use Rattle.syslog_loose.specs.Reckoning.{IsZoneAt};
     ghost use Rattle.syslog_loose.specs.Dates.{year_in};
 
-    /// Returns the dates of a year, and of a month if it is known, in the zone that is so many seconds ahead of UTC.
+    /// Returns the dates of this year and, if it is known, of the current month, in the zone that is `offset` seconds
+    /// ahead of UTC.
     pub fn new(year: i32, month: Option<u32>, offset: i32) -> Dates
         requires year { IsYear year }
         requires offset { IsOffsetSeconds offset }
@@ -38,7 +39,7 @@ impl Dates {
         Dates { year, month, zone }
     }
 
-    /// Returns the year of a date that shows none.
+    /// Returns the year of a date that shows none, by the rule of `month`.
     #[inline]
     pub fn year_of(&self, date: IncompleteDate) -> i32
         ensures { result ≡ year_in self.now date }

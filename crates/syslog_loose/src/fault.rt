@@ -1,14 +1,14 @@
-//! Why a text gave no message.
+//! Why parsing a text returned no message.
 use std::alloc::AllocError;
 use thiserror::Error;
 
-/// Why a text gave no message. The number is the discriminant.
+/// Why parsing a text returned no message. The number is the discriminant.
 #[derive(Clone, Copy, Debug, PartialEq, Eq, Error)]
 pub enum ParseFault {
-    /// The text has no division by the protocol that was asked for.
+    /// The text does not parse by the protocol, or by either of the protocols, that was asked for.
     #[error("unable to parse input as valid syslog message")]
     Invalid = 1,
-    /// A request for memory was refused.
+    /// An allocation failed.
     #[error("out of memory")]
     Memory = 2,
 }

@@ -1,8 +1,8 @@
 //! Rounds that `settle` skips, so that no line takes more than a handful of passes.
 //!
-//! A host of RFC 3164 that ends in colons is read with one fewer each time, and the colon is in the message part after
-//! it; of a message part of dashes each reading takes one for an empty list. Each of these rounds is known from the one
-//! before it, so the last of them is written at once.
+//! A host of RFC 3164 that ends in colons loses one of them in each round, and the message part has that colon from
+//! then on. A message part that begins with dashes loses one dash in each round, since each reading takes the first for
+//! an empty list. Each of these rounds follows from the one before it, so only the last of them is written.
 ghost use Rattle.std.specs.Prelude.{◌≡◌, ◌+◌, ◌++◌, ◌<◌, ◌≤◌, ◌∷◌, ◌-◌};
 ghost use Rattle.std.specs.List.{repeat};
 ghost use Rattle.syslog_loose.specs.Words.{ℕ, [], IfSome, MatchOption, None, OnOk, Some, length, string_bytes, chars};
@@ -26,8 +26,7 @@ const SPACED_COLONS: &str = " : : : : : : : : : : : : : : : :";
 
 const SPACED_DASHES: &str = "- - - - - - - - - - - - - - - - ";
 
-/// Writes a round of the line of RFC 3164: the next one, or the last of those that are known from it. None before it is
-/// settled.
+/// Writes into `text` the next round of a line of RFC 3164, or a later one if no round before that is stable.
 pub(crate) fn write_round(text: &mut String, line: &Line<'_>) -> Result<(), AllocError>
     ensures { (variant : Variant) (dating : Dating) (input : Text) → IsRead variant dating input (line_value line.now)
         → line.now.version ≡ None
@@ -39,7 +38,7 @@ pub(crate) fn write_round(text: &mut String, line: &Line<'_>) -> Result<(), Allo
     }
 }
 
-// Writes the line without the dashes that its next readings take.
+// Writes the line without the dashes that its next readings would drop.
 fn write_past_dashes(text: &mut String, line: &Line<'_>) -> Result<(), AllocError>
     requires { IfSome (line_value line.now).timestamp IsCanonicalStamp
         → IfSome (line_value line.now).hostname EndsOnce }
@@ -56,7 +55,7 @@ fn write_past_dashes(text: &mut String, line: &Line<'_>) -> Result<(), AllocErro
     print_line(text, &later)
 }
 
-// The host without all but one of the colons that it ends in, where that cuts any, and how many.
+// Returns the host with only one of the colons that it ends in, and how many were cut; none if that cuts nothing.
 fn last_colons<'a>(line: &Line<'a>) -> Option<(&'a str, usize)>
     ensures { MatchOption result
         (IfSome (line_value line.now).timestamp IsCanonicalStamp → IfSome (line_value line.now).hostname EndsOnce)
@@ -72,7 +71,7 @@ fn last_colons<'a>(line: &Line<'a>) -> Option<(&'a str, usize)>
     if cut == 0 { None } else { Some((host, cut)) }
 }
 
-// The name without all but one of the colons that it ends in, and how many were cut: by thirty-two, then one by one.
+// Returns the name with only one of the colons that it ends in, and how many were cut: by thirty-two, then one by one.
 fn cut_colons(name: &str) -> (&str, usize)
     ensures cuts { CutsColons (chars name.now) (chars result.0.now) result.1 }
     ensures once { EndsOnce (chars result.0.now) }
@@ -100,7 +99,7 @@ fn cut_runs<'a>(name: &'a str, run: &str) -> (&'a str, usize)
     (host, cut)
 }
 
-// The text before the run at its end, if that ends in a colon too.
+// Returns the text before the run at its end, if that also ends in a colon.
 #[inline(always)]
 fn before_run<'a>(text: &'a str, run: &str) -> Option<&'a str>
     ensures { MatchOption result (run.now ≡ 58 ∷ [] → EndsOnce text.now)
@@ -115,7 +114,7 @@ fn before_run<'a>(text: &'a str, run: &str) -> Option<&'a str>
     }
 }
 
-// Writes the line that is read where so many colons of its host were cut, one in each round.
+// Writes the round in which `count` colons of the line's host were cut, one in each round.
 fn write_past_colons(
     text: &mut String,
     line: &Line<'_>,
@@ -144,7 +143,7 @@ fn write_past_colons(
     push_tail(text, &line.list, line.msg)
 }
 
-// Appends so many times a space and a colon: by sixteen, then one by one.
+// Appends ` :` `count` times: by sixteen, then one by one.
 fn push_colons(text: &mut String, count: usize) -> Result<(), AllocError>
     ensures { OnOk result (string_bytes text.new ≡ string_bytes text.old ++ colons_before count []) }
 {
@@ -152,7 +151,7 @@ fn push_colons(text: &mut String, count: usize) -> Result<(), AllocError>
     push_runs(text, " :", count % 16)
 }
 
-// Appends so many times this text.
+// Appends `run` `count` times.
 #[inline(always)]
 #[tactic(auto, using(crate::proofs::SettlingLemmas::Settles::pushed))]
 fn push_runs(text: &mut String, run: &str, count: usize) -> Result<(), AllocError>
@@ -177,7 +176,7 @@ fn push_tail(text: &mut String, list: &ElementList<'_>, msg: &str) -> Result<(),
     push_end(text, msg)
 }
 
-// Appends a space and the message part, or nothing where that is empty.
+// Appends a space and the message part, or nothing if that is empty.
 #[tactic(auto, using(crate::proofs::SettlingLemmas::Settles::ends_empty, crate::proofs::SettlingLemmas::Settles::ends_some))]
 fn push_end(text: &mut String, msg: &str) -> Result<(), AllocError>
     ensures { OnOk result (string_bytes text.new ≡ string_bytes text.old
@@ -190,8 +189,8 @@ fn push_end(text: &mut String, msg: &str) -> Result<(), AllocError>
     text.push_str(msg)
 }
 
-// The message part without the dashes that the next readings take from it, one in each round, up to the last one that
-// has a blank after it.
+// Returns the message part without the dashes that the next readings drop, one in each round: from the last of them on
+// that has a blank after it.
 fn msg_past_dashes<'a>(line: &Line<'a>) -> &'a str
     requires { IfSome (line_value line.now).timestamp IsCanonicalStamp
         → IfSome (line_value line.now).hostname EndsOnce }
@@ -208,8 +207,8 @@ fn msg_past_dashes<'a>(line: &Line<'a>) -> &'a str
     last_dash(line.msg)
 }
 
-// The text from the last dash on of those that it begins with, each with blanks after it; the text itself where none
-// does. Dashes with a space after each are passed by sixteen, the others one by one.
+// Returns the text from the last of its leading dashes on, where each of them has blanks after it; the text itself if
+// it begins with no such dash. Dashes with one space after each are skipped by sixteen, the others one by one.
 fn last_dash(text: &str) -> &str
     ensures passes { (n : ℕ) × PassesDashes n (chars text.now) (shown result) }
     ensures last { (p q : Text) → IsDashed (shown result) p → IsDashed p q → ⊥ }
@@ -226,7 +225,7 @@ fn last_dash(text: &str) -> &str
     from
 }
 
-// The text after sixteen dashes with a space each, again and again as long as a further dash follows.
+// Skips sixteen dashes with a space after each, as often as a further dash follows them.
 fn past_many_dashes(text: &str) -> &str
     ensures { (n : ℕ) × PassesDashes n (chars text.now) (shown result) }
 {
@@ -240,7 +239,7 @@ fn past_many_dashes(text: &str) -> &str
     from
 }
 
-// The text after a dash and one or more blanks.
+// Returns the text after a dash and one or more blanks.
 fn after_dash(text: &str) -> Option<&str>
     ensures { MatchOption result ((rest : Text) → IsDashed (chars text.now) rest → ⊥)
         (λ rest. IsDashed (chars text.now) (shown rest)) }

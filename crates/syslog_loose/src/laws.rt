@@ -13,7 +13,8 @@ pub mod read_back;
 pub mod rounds;
 pub mod settling;
 
-/// Two divisions of one text into the pieces of RFC 5424 are the same list of pieces, with the same meanings.
+/// Two divisions of one text into the pieces of RFC 5424 are the same list of pieces with the same meanings: the
+/// grammar is unambiguous.
 pub fn one_rfc5424_division()
     ensures pieces { (text : Text) (vs ws : Values rfc5424_row) (d : Division rfc5424_row text vs)
         (e : Division rfc5424_row text ws) → d.pieces ≡ e.pieces }
@@ -26,20 +27,20 @@ pub fn one_rfc5424_message()
     ensures { (text : Text) (m n : MessageValue) → IsRead5424 text m → IsRead5424 text n → m ≡ n }
 {}
 
-/// A text is of the form `tag[id]` in one way.
+/// A text is of the form `tag[id]` in at most one way.
 pub fn one_form()
     ensures tag { (text tag id tag' id' : Text) → IsForm text tag id → IsForm text tag' id' → tag ≡ tag' }
     ensures id { (text tag id tag' id' : Text) → IsForm text tag id → IsForm text tag' id' → id ≡ id' }
 {}
 
-/// The host field and the tag field of RFC 3164 mean one thing together.
+/// The host field and the tag field of RFC 3164 together have at most one meaning.
 #[tactic(auto, using(crate::proofs::Rfc3164Lemmas::resolves_once))]
 pub fn one_resolution()
     ensures { (host tag : Option (Option Text)) (r s : Names3164) → Resolves host tag r → Resolves host tag s → r ≡ s }
 {}
 
-/// Two divisions of one text into the pieces of RFC 3164, under one rule of the dash, one year and the same zones, are
-/// the same list of pieces, with the same meanings.
+/// Two divisions of one text into the pieces of RFC 3164, by one rule of the dash, one year and the same zones, are the
+/// same list of pieces with the same meanings.
 pub fn one_rfc3164_division()
     ensures pieces { (rule : DashRule) (dating : Dating) (text : Text) (vs ws : Values (rfc3164_row rule dating))
         (d : Division (rfc3164_row rule dating) text vs) (e : Division (rfc3164_row rule dating) text ws)
@@ -54,14 +55,14 @@ pub fn one_rfc3164_message()
         → IsRead3164 rule dating text m → IsRead3164 rule dating text n → m ≡ n }
 {}
 
-/// After the timestamp of RFC 3164 nothing can fail: a text has no division exactly where no priority or none, blanks
-/// or none and a timestamp begin it. The rule of the dash has no part in that.
+/// After the timestamp of RFC 3164 nothing can fail. A text has no division exactly if it does not begin with an
+/// optional priority, optional blanks and a timestamp, whatever the rule of the dash.
 pub fn rfc3164_fails_before_its_timestamp_alone()
     ensures { (rule : DashRule) (dating : Dating) (text : Text)
         → NoDivision (rfc3164_row rule dating) text ↔ NoFront (Row (stamped_row dating)) text }
 {}
 
-/// No text has a division of both protocols. So it counts for nothing which one is tried first.
+/// No text has a division of both protocols, so it makes no difference which one is tried first.
 pub fn no_text_has_both_divisions()
     ensures { (rule : DashRule) (dating : Dating) (text : Text) (vs : Values rfc5424_row)
         (ws : Values (rfc3164_row rule dating))
@@ -89,14 +90,14 @@ pub fn printed_rfc3164_is_no_rfc5424()
     ensures { (m : MessageValue) → m.protocol ≡ RFC3164 → IsNot5424 (printed m) }
 {}
 
-/// Each text of the message as which a text is read is a piece of its division, or a part of one.
+/// Each text of the message as which a text is parsed is a piece of its division, or a part of one.
 #[tactic(auto, using(crate::proofs::ReadingLemmas::quoted))]
 pub fn each_text_is_of_a_piece()
     ensures { (variant : Variant) (dating : Dating) (text : Text) (m : MessageValue) → IsRead variant dating text m
         → IsQuoted variant dating text m }
 {}
 
-/// A text is read as at most one message under each variant, in one year and by the same zones.
+/// A text is read as at most one message under each variant, for one year and the same zones.
 #[tactic(auto, using(crate::proofs::ReadingLemmas::read_once))]
 pub fn one_message()
     ensures { (variant : Variant) (dating : Dating) (text : Text) (m n : MessageValue) → IsRead variant dating text m

@@ -1,11 +1,12 @@
 //! Reads a syslog message from a text, by RFC 5424 or the looser RFC 3164, and prints it again: the crate
 //! `syslog_loose` 0.23.0, ported to Rattle.
 //!
-//! Memory aside, a text is read by the one division into pieces that the grammar in `docs/GRAMMAR.md` allows. Reading
-//! copies no text; what takes memory takes `alloc` first and can be refused.
+//! A text is parsed by the one division into pieces that the grammar in `docs/GRAMMAR.md` allows, unless an allocation
+//! fails. Texts of a result are slices of the input. A call that allocates takes the allocator `alloc` first, and
+//! returns an error if an allocation fails.
 //!
 //! `normalise` prints the message of a text, and `settle` goes on until the text no longer changes. A printed line of
-//! RFC 5424 is stable; any other becomes so, or one of its rounds does not parse.
+//! RFC 5424 is stable. Any other becomes so after a few rounds, or one of its rounds does not parse.
 //!
 //! If `line` is `<34>Oct 11 22:14:15 mymachine app[323]: a message` and `get_year` returns 2019, the call
 //! `normalise(alloc, line, get_year, None, Variant::Either, &TimeZone::UTC)` returns `<34> 2019-10-11T22:14:15+00:00

@@ -1,4 +1,4 @@
-//! A parsed line: the one value between a text and whatever is made of it. It takes no memory.
+//! A parsed line: the one value between a text and whatever is made of it. It holds no memory of its own.
 ghost use Rattle.std.specs.Prelude.{◌≡◌, ◌↔◌, ◌<◌};
 ghost use Rattle.syslog_loose.specs.Words.{IsTrue, length, map, AllByRecursion, option_map, shown, procid_value};
 ghost use Rattle.syslog_loose.specs.Words.{element_value, list_elements};
@@ -15,32 +15,32 @@ use syslog_pieces::procid::ProcId;
 use syslog_pieces::structured_data::{ElementList, Elements, StructuredElement};
 use syslog_pieces::timestamp::{ClockStamp, OffsetTimestamp, stamp_of};
 
-/// A line as it was parsed. Its texts are slices of the input, so it is `Copy` and takes no memory; its elements are
-/// walked when they are asked for.
+/// A line as it was parsed, by RFC 5424 or RFC 3164. Its texts are slices of the input, so it is `Copy` and holds no
+/// memory of its own. Its elements are parsed again when they are asked for.
 #[derive(Clone, Copy)]
 pub struct Line<'a> {
     /// The version of RFC 5424; absent for RFC 3164.
     pub version: Option<u32>,
-    /// The priority, 0 to 255, where there is one.
+    /// The number of the priority, from 0 to 255; absent if the line has none.
     pub priority: Option<u8>,
-    /// What a clock showed when the line was written.
+    /// The date and time that the line shows, and the offset of their clock.
     pub timestamp: Option<ClockStamp>,
-    /// The host, absent where the text names none.
+    /// The host; absent if the text names none.
     pub hostname: Option<&'a str>,
-    /// The app name, absent where the text names none.
+    /// The app name; absent if the text names none.
     pub appname: Option<&'a str>,
-    /// The text that names the process.
+    /// The text that names the process, which may be a number.
     pub process: Option<&'a str>,
-    /// The message id of RFC 5424.
+    /// The message id; absent for RFC 3164.
     pub msgid: Option<&'a str>,
-    /// The structured data.
+    /// The structured data, as it was recognised in the text.
     pub list: ElementList<'a>,
-    /// The message part.
+    /// The message part: what follows the header and the structured data.
     pub msg: &'a str,
     /// The whole text after the timestamp.
     pub rest: &'a str,
-    /// Whether all after the timestamp is already in printed form. Of a line of RFC 3164 the field of a host and a tag
-    /// that names a program must be there too, and no list.
+    /// Whether the whole text after the timestamp is already in printed form. In a line of RFC 3164 it is true only if
+    /// there also is a host field, a tag that names a program, and no list.
     pub is_printed: bool,
 }
 
@@ -60,7 +60,7 @@ impl<'a> Line<'a> {
         }
     }
 
-    /// Returns the facility, absent where there is no priority or one past 191.
+    /// Returns the facility; absent if there is no priority, or one above 191.
     #[inline(always)]
     pub fn facility(&self) -> Option<SyslogFacility>
         ensures { result ≡ (line_value self.now).facility }
@@ -68,7 +68,7 @@ impl<'a> Line<'a> {
         parts(self.priority).0
     }
 
-    /// Returns the severity, absent where there is no priority.
+    /// Returns the severity; absent if there is no priority.
     #[inline(always)]
     pub fn severity(&self) -> Option<SyslogSeverity>
         ensures { result ≡ (line_value self.now).severity }
@@ -76,7 +76,7 @@ impl<'a> Line<'a> {
         parts(self.priority).1
     }
 
-    /// Returns the process id: the number that its text writes, or else the text.
+    /// Returns the process id: the number that its text writes, and otherwise the text.
     #[inline(always)]
     #[tactic(auto, using(crate::proofs::Names::process_same, crate::proofs::Names::named_names))]
     pub fn process(&self) -> Option<ProcId<&'a str>>
@@ -88,7 +88,7 @@ impl<'a> Line<'a> {
         }
     }
 
-    /// Returns the instant at which the clock showed the timestamp, and the clock's offset.
+    /// Returns the timestamp as an instant, with the offset of the clock that showed it.
     #[inline(always)]
     pub fn instant(&self) -> Option<OffsetTimestamp>
         ensures { result ≡ (line_value self.now).timestamp }
@@ -96,7 +96,7 @@ impl<'a> Line<'a> {
         stamp_of(self.timestamp)
     }
 
-    /// Returns the elements, one after the other.
+    /// Returns an iterator over the strict elements of the structured data, in order.
     #[inline(always)]
     pub fn elements(&self) -> Elements<'a>
         ensures { elements_left result ≡ (line_value self.now).structured_data }
@@ -104,8 +104,8 @@ impl<'a> Line<'a> {
         self.list.elements()
     }
 
-    /// Returns the message that the line means. An `Err` is only for memory, which is asked for only where there are
-    /// elements.
+    /// Returns the line as a message that holds its elements. It allocates only if there are elements, and fails only
+    /// if an allocation does.
     pub fn message(&self, alloc: Global) -> Result<Message<&'a str>, AllocError>
         ensures { MatchResult result (λ m. message_value (λ s. shown s) m ≡ line_value self.now)
             (λ _. list_elements self.now.list ≢ []) }
@@ -114,9 +114,9 @@ impl<'a> Line<'a> {
         Ok(self.with(elements))
     }
 
-    /// Returns whether the line's message, printed, is parsed as the same message by its own protocol.
+    /// Returns whether the printed text of the line's message is parsed as the same message by its own protocol.
     ///
-    /// It looks at the fields alone, takes no memory, and its time is linear in the line.
+    /// It looks at the fields alone, does not allocate, and takes time linear in the line.
     #[tactic(auto, using(syslog_pieces::proofs::StructuredDataLemmas::Elements::are_canonical))]
     pub fn is_canonical(&self) -> bool
         ensures { IsTrue result ↔ IsCanonical dash_rule (line_value self.now) }
@@ -137,7 +137,7 @@ impl<'a> Line<'a> {
         })
     }
 
-    // The message of the line, with these elements instead of its own.
+    // Returns the message of the line, with these elements instead of its own.
     #[inline(always)]
     pub(crate) fn with(&self, elements: Vec<StructuredElement<&'a str>>) -> Message<&'a str>
         ensures { message_value (λ s. shown s) result

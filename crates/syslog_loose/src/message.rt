@@ -22,47 +22,51 @@ use syslog_pieces::procid::ProcId;
 use syslog_pieces::structured_data::StructuredElement;
 use syslog_pieces::timestamp::OffsetTimestamp;
 
-/// By which protocol a message is written: RFC 3164, or RFC 5424 with its version.
+/// The protocol that a message is written in: RFC 3164, or RFC 5424 with its version.
 #[derive(Clone, Copy, Debug, PartialEq, Eq)]
 pub enum Protocol {
     RFC3164,
     RFC5424(u32),
 }
 
-/// A syslog message over texts of a type `S`.
+/// A syslog message whose texts have the type `S`.
 ///
-/// It prints as its protocol writes it. Values of parameters are printed as they are, without escaping; an absent
-/// facility counts as 5, an absent severity as 7.
+/// It prints as its protocol writes it. The values of parameters are printed as they are, without escaping. An absent
+/// facility is printed as 5 (`syslog`) and an absent severity as 7 (`debug`), as the Rust crate does.
 ///
-/// Two messages are `==` when all fields but the protocol are: timestamps by instant, whatever their offsets, and
-/// elements in order, each with its parameters in any order. That is an equivalence, but there is no `Eq`: messages
-/// that are `==` may differ in protocol, in offsets and in the order of parameters, and then they print otherwise. It
-/// takes no memory. `try_clone` and `to_owned_text` copy a message; there is no `Clone`, which couldn't be refused.
+/// Two messages are `==` if all fields but the protocol are equal: timestamps by instant, whatever their offsets, and
+/// elements in order, each with its parameters in any order. That is an equivalence, and it does not allocate. There is
+/// no `Eq`, since messages that are `==` may differ in protocol, in offsets and in the order of parameters, and then
+/// print differently.
+///
+/// `try_clone` and `to_owned_text` copy a message. There is no `Clone`, which could not report that an allocation
+/// failed.
 #[derive(Debug, Drop)]
 pub struct Message<S> {
-    /// The protocol that the message was read by, or prints as.
+    /// The protocol that the message was read by, and that it is printed in.
     pub protocol: Protocol,
-    /// The facility; absent where the text has no priority, or one from 192 on.
+    /// The facility; absent if the text has no priority, or one above 191.
     pub facility: Option<SyslogFacility>,
-    /// The severity; absent where the text has no priority.
+    /// The severity; absent if the text has no priority.
     pub severity: Option<SyslogSeverity>,
-    /// The instant and the offset at which it was written.
+    /// The instant of the message, and the offset of the clock that showed it.
     pub timestamp: Option<OffsetTimestamp>,
     /// The host that sent the message.
     pub hostname: Option<S>,
-    /// The program that the message is from.
+    /// The program that sent the message.
     pub appname: Option<S>,
-    /// The process that the message is from.
+    /// The process that sent the message.
     pub procid: Option<ProcId<S>>,
-    /// The kind of the message. RFC 3164 has none, and never prints it.
+    /// The message id, which names the kind of the message. RFC 3164 has none, and it is not printed there.
     pub msgid: Option<S>,
     /// The elements of structured data, in order.
     pub structured_data: Vec<StructuredElement<S>>,
-    /// What is left of the text.
+    /// The message part: the text after the header and the structured data.
     pub msg: S,
 }
 
-/// The composed priority, with what an absent part prints as.
+/// Returns the priority that is printed for a facility and a severity: an absent facility counts as 5, and an absent
+/// severity as 7.
 #[inline]
 pub(crate) fn priority(facility: Option<SyslogFacility>, severity: Option<SyslogSeverity>) -> u32
     ensures { result ≡ option_map_or facility_number facility 5 * 8 + option_map_or severity_number severity 7 }

@@ -1,7 +1,7 @@
 //! The calls that read a text.
 //!
-//! Each goes by `visit_line`, and collects the elements of the line. The calls with `exact` in their names refuse a
-//! text that does not parse; the others return the fallback.
+//! Each of them goes by `visit_line`, and collects the elements of the line. The calls with `exact` in their names
+//! return an error for a text that does not parse; the others return the fallback, as the Rust crate does.
 ghost use Rattle.std.specs.Prelude.{◌≡◌};
 ghost use Rattle.syslog_loose.specs.Words.{List, [], IfOk, None, chars, plain_zone, shown, dating_of, ElementValue};
 ghost use Rattle.syslog_pieces.specs.Timestamp.Zone.{IsYearAt};
@@ -23,10 +23,11 @@ use std::alloc::{AllocError, Global};
 use syslog_pieces::structured_data::Collect;
 use syslog_pieces::timestamp::year_at;
 
-/// The message of the text, read by the variant, with the year of `now` in the local zone for a date that has none.
+/// Returns the message of the text, read by the variant. A date without a year is of the year of `now` in the local
+/// zone.
 ///
-/// For a text that does not parse it returns the fallback: protocol RFC 3164, the whole input as its `msg`, and nothing
-/// else. It fails for memory alone, which is asked for only to collect elements.
+/// For a text that does not parse it returns the fallback: a message of RFC 3164 with the whole input as `msg`, and
+/// nothing else. It fails only if an allocation does, and allocates only to collect elements.
 pub fn parse_message<'a>(
     alloc: Global,
     input: &'a str,
@@ -44,8 +45,8 @@ pub fn parse_message<'a>(
     parse_message_with_year_tz(alloc, input, current_year, None, variant, local)
 }
 
-/// The message of the text, read by the variant, or the fallback. `get_year` gives the year of a date that has none,
-/// and dates are in the local zone.
+/// Returns the message of the text, read by the variant, or the fallback if it does not parse. `get_year` gives the
+/// year of a date that has none, and dates without an offset are in the local zone.
 pub fn parse_message_with_year<'a, F: FnOnce(IncompleteDate) -> i32>(
     alloc: Global,
     input: &'a str,
@@ -60,8 +61,8 @@ pub fn parse_message_with_year<'a, F: FnOnce(IncompleteDate) -> i32>(
     parse_message_with_year_tz(alloc, input, get_year, None, variant, local)
 }
 
-/// The message of the text, read by the variant, or the fallback. `get_year` gives the year of a date that has none;
-/// dates are in the zone `tz`, and in the local one where that is absent.
+/// Returns the message of the text, read by the variant, or the fallback if it does not parse. `get_year` gives the
+/// year of a date that has none. Dates without an offset are in the zone `tz`, or in the local one if that is absent.
 pub fn parse_message_with_year_tz<'a, F: FnOnce(IncompleteDate) -> i32>(
     alloc: Global,
     input: &'a str,
@@ -94,7 +95,7 @@ fn or_fallback<'a>(
     }
 }
 
-// The message for a text that does not parse.
+// Returns the fallback: a message of RFC 3164 that has the whole text as its `msg`.
 fn fallback(alloc: Global, input: &str) -> Message<&str>
     ensures { message_value (λ s. shown s) result ≡ spec.fallback (chars input.now) }
 {
@@ -112,8 +113,8 @@ fn fallback(alloc: Global, input: &str) -> Message<&str>
     }
 }
 
-/// The message of the text, read by the variant, or `Invalid`. `get_year` gives the year of a date that has none, and
-/// dates are in the local zone.
+/// Returns the message of the text, read by the variant, or `Invalid` if it does not parse. `get_year` gives the year
+/// of a date that has none, and dates without an offset are in the local zone.
 pub fn parse_message_with_year_exact<'a, F: FnOnce(IncompleteDate) -> i32>(
     alloc: Global,
     input: &'a str,
@@ -134,11 +135,11 @@ pub fn parse_message_with_year_exact<'a, F: FnOnce(IncompleteDate) -> i32>(
     parse_message_with_year_exact_tz(alloc, input, get_year, None, variant, local)
 }
 
-/// The message of the text, read by the variant, or `Invalid`.
+/// Returns the message of the text, read by the variant, or `Invalid` if it does not parse.
 ///
-/// `get_year` gives the year of a date that has none: it is called once, and only if the text shows such a date and the
-/// variant reads it. `tz` is the zone of a date without an offset; without it `local` is used. Each text of the message
-/// is a slice of the input. It fails with `Invalid` or `Memory`, and memory is asked for only to collect elements.
+/// `get_year` gives the year of a date that has none. It is called once, and only if the text shows such a date and the
+/// variant reads it. `tz` is the zone of a date without an offset; `local` is used if that is absent. Each text of the
+/// message is a slice of the input. Only the elements are allocated, and `Memory` says that this failed.
 #[inline]
 pub fn parse_message_with_year_exact_tz<'a, F: FnOnce(IncompleteDate) -> i32>(
     alloc: Global,
@@ -151,8 +152,8 @@ pub fn parse_message_with_year_exact_tz<'a, F: FnOnce(IncompleteDate) -> i32>(
     requires { AnswersEachMonth (F.pre get_year) }
     ensures reads { InYear (F.post get_year) variant (chars input.entry.now)
         (λ year. Answers variant (dating_of year tz.entry local.entry) (chars input.entry.now) result) }
-    // A printed message is read as itself exactly if it meets the written condition; what is known of the fields; and
-    // each text of the message is a part of a piece of the text.
+    // A printed message is read as itself exactly if it meets the written condition. The clause also says what is known
+    // of the fields, and that each text of the message is a part of a piece of the text.
     ensures itself { AnswersItself variant (chars input.entry.now) result }
     ensures fields { InYear (F.post get_year) variant (chars input.entry.now) (λ year. IfOk result (λ m.
         FieldsAsRead m.protocol (dating_of year tz.entry local.entry) (chars input.entry.now)
@@ -175,7 +176,7 @@ pub fn parse_message_with_year_exact_tz<'a, F: FnOnce(IncompleteDate) -> i32>(
     answer_of(made, collect)
 }
 
-// The message that was made, with the elements that were collected; or why there is none.
+// Returns the message with the elements that were collected, or why there is none.
 #[inline(always)]
 fn answer_of<'a>(
     made: Option<Message<&'a str>>,
@@ -195,7 +196,7 @@ fn answer_of<'a>(
     }
 }
 
-// Returns the message of a line, without its elements.
+// The visitor that returns the message of a line, without its elements.
 #[derive(Clone, Copy)]
 struct Headers {
     alloc: Global,

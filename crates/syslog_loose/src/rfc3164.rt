@@ -1,9 +1,9 @@
 //! The header of RFC 3164 (section 4), read loosely: eleven pieces, of which only the priority, the blanks and the
 //! timestamp at the front can fail.
 //!
-//! `read_3164` returns the line of the one division of a text, once the pieces that can fail were read. It takes each
-//! piece from the readers of `syslog_pieces`, from the left. `resolve` says what the host field and the tag field mean
-//! together.
+//! `read_3164` returns the line of the one division of a text, after the pieces that can fail have been read. It reads
+//! the pieces from the left, by the readers of `syslog_pieces`. `resolve` says what the host field and the tag field
+//! mean together.
 ghost use Rattle.std.specs.Prelude.{◌≡◌};
 ghost use Rattle.syslog_loose.specs.Words.{chars, Text, seen, list_elements, Visits};
 ghost use Rattle.syslog_loose.specs.Words.{trimmed, Dating, field_seen};
@@ -20,7 +20,7 @@ use syslog_pieces::text::verbatim::before;
 use syslog_pieces::text::{Field, blanks, host_field, past_colon, tag_field};
 use syslog_pieces::timestamp::ClockStamp;
 
-/// The names of a line.
+/// The names that the header of a line shows.
 #[derive(Clone, Copy)]
 pub(crate) struct Names<'a> {
     pub(crate) hostname: Option<&'a str>,
@@ -38,7 +38,7 @@ impl Names<'_> {
     };
 }
 
-// A program's name beside this host.
+// Returns the names of a line that has this host and a program's name.
 #[inline(always)]
 #[tactic(auto, using(syslog_pieces::proofs::ProcIdLemmas::named_names))]
 fn program<'a>(hostname: Option<&'a str>, name: &'a str) -> Names<'a>
@@ -59,7 +59,8 @@ fn program<'a>(hostname: Option<&'a str>, name: &'a str) -> Names<'a>
     }
 }
 
-// A lone name: a program's if it is of the form `tag[id]`, otherwise a host. By a call, since such lines are few.
+// Returns the names of a line that has one word: a program's if it is of the form `tag[id]`, otherwise a host. It is a
+// call of its own, since such lines are few.
 #[inline(never)]
 #[tactic(auto, using(syslog_pieces::proofs::ProcIdLemmas::named_names))]
 fn lone<'a>(name: &'a str) -> Names<'a>
@@ -80,7 +81,7 @@ fn lone<'a>(name: &'a str) -> Names<'a>
     }
 }
 
-/// What the host field and the tag field mean together.
+/// Returns what the host field and the tag field mean together.
 #[inline(always)]
 pub(crate) fn resolve<'a, C>(host: Field<'a>, tag: Field<'a>) -> Names<'a>
     ensures names { spec.Resolves (field_seen host.entry) (field_seen tag.entry) (names_value result) }
@@ -106,7 +107,7 @@ pub(crate) struct Fields<'a> {
     pub(crate) rest: &'a str,
 }
 
-/// The names after the timestamp, up to the blanks after their colon. Each visitor `C` has its own copy, as of
+/// Reads the names after the timestamp, up to the blanks after their colon. Each visitor `C` has its own copy, as of
 /// `resolve`, and both are compiled in.
 #[inline(always)]
 pub(crate) fn read_fields<'a, C>(text: &'a str) -> Fields<'a>
@@ -130,7 +131,7 @@ pub(crate) fn read_fields<'a, C>(text: &'a str) -> Fields<'a>
     }
 }
 
-/// The line of a text, from after its timestamp on: there nothing can fail.
+/// Returns the line of a text, from after its timestamp on, where nothing can fail.
 #[inline(always)]
 pub(crate) fn read_3164<'a, C, E: ElementVisitor<'a>>(
     priority: Option<u8>,

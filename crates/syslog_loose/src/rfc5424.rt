@@ -1,7 +1,7 @@
 //! The header of RFC 5424 (section 6): sixteen pieces, from the priority to the message.
 //!
-//! `read_5424` returns the line of the one division of a trimmed text, or that there is none. What it reads it takes
-//! from the readers of `syslog_pieces`, piece by piece from the left.
+//! `read_5424` returns the line of the one division of a trimmed text, or none if there is no division. It reads the
+//! pieces from the left, by the readers of `syslog_pieces`.
 ghost use Rattle.std.specs.Prelude.{◌≡◌, ◌↔◌};
 ghost use Rattle.syslog_loose.specs.Words.{[], ℕ, IfSome, IsTrue, MatchOption, Some, AllByRecursion, chars, IsUtf8};
 ghost use Rattle.syslog_loose.specs.Words.{Text, seen, shown, list_elements, Visits, trimmed};
@@ -17,7 +17,7 @@ use syslog_pieces::text::verbatim::is_one_space;
 use syslog_pieces::text::{blanks, host, number, some_blanks, word};
 use syslog_pieces::timestamp::{ClockStamp, header_stamp};
 
-/// Whether all of them are true, by one look.
+/// Whether all five are true, tested at once.
 #[inline(always)]
 pub(crate) fn are_all(tests: [bool; 5]) -> bool
     ensures { IsTrue result ↔ AllByRecursion IsTrue tests }
@@ -26,7 +26,7 @@ pub(crate) fn are_all(tests: [bool; 5]) -> bool
     a & b & c & d & e
 }
 
-/// Whether the text that names a process, where there is one, prints as what it names.
+/// Whether the text that names a process, if there is one, is printed as it is.
 #[inline(always)]
 pub(crate) fn is_bare(process: Option<&str>) -> bool
     ensures { IsTrue result ↔ IfSome (seen process.entry) IsBareWord }
@@ -34,7 +34,7 @@ pub(crate) fn is_bare(process: Option<&str>) -> bool
     process.is_none_or(is_bare_word)
 }
 
-// A host after a gap, the rest, and whether the gap is one space.
+// Returns a host after blanks, the text after it, and whether the blanks are one space.
 #[inline(always)]
 fn spaced_host(text: &str) -> Option<(Option<&str>, &str, bool)>
     ensures reads { ReadsSpaced spec.host seen (chars text.now) result }
@@ -45,7 +45,7 @@ fn spaced_host(text: &str) -> Option<(Option<&str>, &str, bool)>
     Some((name, rest, is_one_space(text, start)))
 }
 
-// A word after a gap, in the same way.
+// Returns a word after blanks, the text after it, and whether the blanks are one space.
 #[inline(always)]
 fn spaced_word(text: &str) -> Option<(Option<&str>, &str, bool)>
     ensures reads { ReadsSpaced spec.word seen (chars text.now) result }
@@ -56,8 +56,9 @@ fn spaced_word(text: &str) -> Option<(Option<&str>, &str, bool)>
     Some((name, rest, is_one_space(text, start)))
 }
 
-// The names after the timestamp, as a line with no list and no message part yet, and the rest. Each visitor `C` has
-// its own copy, which is compiled in: shared, it would be a call, and the line would go through memory.
+// Reads the names after the timestamp: returns a line that has no list and no message part yet, and the text after the
+// names. Each visitor `C` has its own copy, which is compiled in: shared, it would be a call, and the line would go
+// through memory.
 #[inline(always)]
 fn read_names<'a, C>(
     version: Option<u32>,
@@ -91,7 +92,7 @@ fn read_names<'a, C>(
     ))
 }
 
-// All fields before the structured data, in the same way.
+// Reads all fields before the structured data: returns a line that has no list and no message part yet, and the rest.
 #[inline(always)]
 fn read_header<'a, C>(priority: Option<u8>, text: &'a str) -> Option<(Line<'a>, &'a str)>
     ensures reads { (whole : Text) → IsAfterPriority whole priority (chars text.entry.now)
@@ -108,7 +109,7 @@ fn read_header<'a, C>(priority: Option<u8>, text: &'a str) -> Option<(Line<'a>, 
     read_names::<C>(Some(version), priority, timestamp, rest)
 }
 
-/// The line of the one division of a trimmed text, from after its priority on, and none where there is no division.
+/// Returns the line of the one division of a trimmed text, from after its priority on; none if there is no division.
 #[inline(always)]
 pub(crate) fn read_5424<'a, C, E: ElementVisitor<'a>>(
     priority: Option<u8>,

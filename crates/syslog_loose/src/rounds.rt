@@ -1,8 +1,8 @@
 //! Rounds: a text is parsed, and its line is printed.
 //!
-//! `normalise` returns one round. What was read as RFC 5424 prints as a settled text, and so does what was read as
-//! RFC 3164 and has no quirk. So nearly each line is settled by one round, and `settling` asks for more of the others
-//! alone.
+//! `normalise` returns one round. What was read as RFC 5424 prints as a stable text, and so does what was read as RFC
+//! 3164 and has no quirk. So nearly each line is stable after one round, and `settling` makes more of them for the
+//! others alone.
 ghost use Rattle.std.specs.Prelude.{◌≡◌, ◌↔◌};
 ghost use Rattle.syslog_loose.specs.Words.{MatchBool, MatchResult, None, string_bytes, chars, encode_utf8_all};
 ghost use Rattle.syslog_loose.specs.Words.{dating_of, Text, ℕ};
@@ -23,8 +23,8 @@ use syslog_pieces::structured_data::NoElements;
 use syslog_pieces::text::trimmed;
 use syslog_pieces::timestamp::canonical::is_canonical_clock;
 
-/// Returns the printed text of the message that `parse_message_with_year_exact_tz` returns, in memory of its own. A
-/// text that does not parse is `Invalid`, and never `Memory`.
+/// Returns the printed text of the message that `parse_message_with_year_exact_tz` returns, in a new `String`. For a
+/// text that does not parse it returns `Invalid`, and never `Memory`.
 pub fn normalise<F: FnOnce(IncompleteDate) -> i32>(
     alloc: Global,
     input: &str,
@@ -49,8 +49,8 @@ pub fn normalise<F: FnOnce(IncompleteDate) -> i32>(
     Ok(text)
 }
 
-/// Writes the next round of the text into `text`, or a later one, before which none is stable. Returns whether it is
-/// known to be stable. The arguments are those of `visit_line`.
+/// Writes the next round of the input into `text`, or a later one if no round before that is stable. Returns whether it
+/// is known to be stable. The arguments are those of `visit_line`.
 #[inline(always)]
 pub(crate) fn next_round<F: FnOnce(IncompleteDate) -> i32>(
     text: &mut String,
@@ -69,7 +69,8 @@ pub(crate) fn next_round<F: FnOnce(IncompleteDate) -> i32>(
     answer(made)
 }
 
-/// Writes the next round of a text that is a round, or a later one, as `next_round` does. It shows no month date.
+/// Writes the next round of a text that is itself a round, or a later one, as `next_round` does. Such a text shows no
+/// month date, so no year is needed.
 #[inline(always)]
 pub(crate) fn later_round(
     text: &mut String,
@@ -85,7 +86,7 @@ pub(crate) fn later_round(
     answer(made)
 }
 
-// What is answered where this was made of the line of a text, or where there is none.
+// Returns what the visitor made of the line of a text, or `Invalid` if there is no line.
 #[inline(always)]
 fn answer(made: Option<Result<bool, AllocError>>) -> Result<bool, ParseFault>
     ensures { result ≡ round_answer made }
@@ -116,7 +117,7 @@ impl<'a> LineVisitor<'a> for String {
     }
 }
 
-// Whether the printed text is known to be settled by the protocol and the form of the line.
+// Whether the printed text is known to be stable by the protocol and the form of the line.
 #[inline(always)]
 fn is_known_settled(line: &Line<'_>) -> bool
     requires { KnowsForm line.now }
@@ -126,7 +127,7 @@ fn is_known_settled(line: &Line<'_>) -> bool
     line.version.is_some() || (line.is_printed && is_canonical_clock(line.timestamp))
 }
 
-// The round of a line of RFC 3164.
+// Writes the round of a line of RFC 3164, and returns whether it is known to be stable.
 #[inline(never)]
 fn other_round(text: &mut String, line: &Line<'_>) -> Result<bool, AllocError>
     requires form { KnowsForm line.now }

@@ -1,7 +1,7 @@
 //! Rounds, until the text no longer changes.
 //!
-//! A message of RFC 3164 that has a quirk weighs less each time that what was printed of it is read again, and no
-//! more than its text has characters at first: so this ends.
+//! A message of RFC 3164 that has a quirk weighs less after each round. At first it weighs no more than its text has
+//! characters, so the rounds end.
 ghost use Rattle.syslog_loose.specs.Words.{IfOk, string_bytes, chars, Text, Dating, dating_of};
 ghost use Rattle.syslog_loose.specs.Clauses.{IsCanonical, MessageValue, AnswersEachMonth, InYear, IsRead, dash_rule};
 ghost use Rattle.syslog_loose.specs.Clauses.{PassesLead, ReachesRank, Settles, answer_in};
@@ -13,13 +13,15 @@ use jiff::tz::TimeZone;
 use std::alloc::Global;
 use std::mem::swap;
 
-/// Returns the first stable round of the text: round 1 is what `normalise` returns for the text, each further round
-/// what it returns for the one before. `Invalid` if a round does not parse.
+/// Returns the first stable round of the text. Round 1 is what `normalise` returns for the text, and each further round
+/// what it returns for the round before. Returns `Invalid` if a round does not parse.
 ///
-/// The arguments are those of `normalise`. `get_year` is called as there, and in round 1 alone: what is printed shows
-/// no month date. Two texts are held at most at a time, and no memory is asked for that `normalise` would not ask for
-/// round by round. Rounds that are known from the one before, as those in which a host loses its last colons, are
-/// skipped: each text takes at most six passes, each of which takes time linear in it.
+/// The arguments are those of `normalise`, and `get_year` is called as there, in round 1 alone, since a printed text
+/// shows no month date. At most two texts are held at a time, and nothing is allocated that `normalise` would not
+/// allocate round by round.
+///
+/// Rounds that follow from the one before are skipped, as those in which a host loses its last colons. So each text
+/// takes at most six passes, and each pass takes time linear in it.
 pub fn settle<F: FnOnce(IncompleteDate) -> i32>(
     alloc: Global,
     input: &str,
@@ -46,8 +48,8 @@ pub fn settle<F: FnOnce(IncompleteDate) -> i32>(
     Ok(text)
 }
 
-/// Writes what `settle` returns into `text`, instead of what was there. One `String` for line after line needs an
-/// allocation only for a line longer than each before. If the call fails, `text` may hold anything.
+/// Writes what `settle` returns into `text`, instead of what it held. One `String`, used for line after line, allocates
+/// only for a line that is longer than each before. If the call fails, `text` may hold anything.
 pub fn settle_into<F: FnOnce(IncompleteDate) -> i32>(
     alloc: Global,
     text: &mut String,
@@ -78,8 +80,8 @@ pub fn settle_into<F: FnOnce(IncompleteDate) -> i32>(
     settle_on(alloc, text, variant)
 }
 
-// Continues from a round that is not known to be settled, by at most five passes. What is printed shows no month
-// date, so none asks for a year. The two texts are swapped before each pass.
+// Goes on from a round that is not known to be stable, by at most five passes. A printed text shows no month date, so
+// no year is needed. The two texts are swapped before each pass.
 fn settle_on(alloc: Global, text: &mut String, variant: Variant) -> Result<(), ParseFault>
     ensures settles { (dating : Dating) (input : Text)
         → ReachesRank variant dating input 4 (chars (string_bytes text.old))

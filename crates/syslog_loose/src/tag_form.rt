@@ -1,11 +1,11 @@
-//! The form `tag[id]` of a program's name in RFC 3164 (section 5.3 has it by example; where it ends is the crate's
-//! rule).
+//! The form `tag[id]` of a program's name in RFC 3164. Section 5.3 shows it by example; where it ends is the Rust
+//! crate's rule.
 ghost use Rattle.syslog_loose.specs.Words.{MatchOption, chars, shown};
 ghost use Rattle.syslog_loose.specs.TagForm.{IsForm, IsNoForm};
 
 use syslog_pieces::text::{CharClass, literal, split_run};
 
-/// The tag and the id of a text of the form `tag[id]`.
+/// Returns the tag and the id of a text of the form `tag[id]`; none for any other text.
 #[inline(always)]
 pub(crate) fn tag_form(text: &str) -> Option<(&str, &str)>
     ensures { MatchOption result (IsNoForm (chars text.now)) (λ x. IsForm (chars text.now) (shown x.0) (shown x.1)) }

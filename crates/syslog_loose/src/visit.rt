@@ -1,7 +1,7 @@
 //! The one way from a text to a line, and to whatever a visitor makes of the line.
 //!
-//! A text is trimmed once, and its priority and its month date are read once: after a month date RFC 5424 is not tried,
-//! and where the date has no year the closure is asked.
+//! A text is trimmed once, and its priority and its month date are read once. After a month date RFC 5424 is not tried.
+//! If the date has no year, the closure is asked for it.
 ghost use Rattle.std.specs.Prelude.{◌≡◌, ◌≢◌};
 ghost use Rattle.syslog_loose.specs.Words.{IfSome, IsSome, MatchOption, None, chars, Text, shown, list_elements};
 ghost use Rattle.syslog_loose.specs.Words.{Visits, header_stamp, stamp_seen, dating_of, MonthDate, month_date};
@@ -26,23 +26,23 @@ use syslog_pieces::timestamp::month_date::{MonthDate, month_date};
 use syslog_pieces::timestamp::zone::{Dating, month_stamp};
 use syslog_pieces::timestamp::{ClockStamp, header_stamp};
 
-/// Makes something of a line. What it makes is returned from where the line was read, so that few fields of the line
-/// need to be kept in memory.
+/// Makes something of a line. The result is returned from where the line was read, so that few fields of the line need
+/// to be kept in memory.
 pub trait LineVisitor<'a> {
-    /// What is made of the line.
+    /// The type of the result.
     type Answer;
 
     // what is made of a line, and how it leaves the visitor
     ghost makes: { Self → Line → Self.Answer → Self → Type 0 };
 
-    /// Takes the line.
+    /// Takes the line, and returns the result.
     fn line(&mut self, line: &Line<'a>) -> Self::Answer
         requires form { KnowsForm line.now }
         ensures { makes self.old line.now result self.new };
 }
 
-// What is made of a line of RFC 5424, from after its priority on; none where the variant reads no such lines, or the
-// text is none. Where no version begins it, that is found before the call.
+// Returns what the visitor makes of a line of RFC 5424, from after its priority on; none if the variant excludes RFC
+// 5424, or the text does not parse. Whether a version begins the text is tested before the call.
 #[inline(always)]
 fn visit_5424<'a, E: ElementVisitor<'a>, V: LineVisitor<'a>>(
     priority: Option<u8>,
@@ -64,7 +64,7 @@ fn visit_5424<'a, E: ElementVisitor<'a>, V: LineVisitor<'a>>(
     visit_versioned(priority, text, elements, visitor)
 }
 
-// The line of RFC 5424 of a text that begins with a digit, by a call.
+// Returns what the visitor makes of a text that begins with a digit, as a line of RFC 5424. It is a call of its own.
 fn visit_versioned<'a, E: ElementVisitor<'a>, V: LineVisitor<'a>>(
     priority: Option<u8>,
     text: &'a str,
@@ -81,7 +81,7 @@ fn visit_versioned<'a, E: ElementVisitor<'a>, V: LineVisitor<'a>>(
     Some(visitor.line(&line))
 }
 
-// What is made of a line of RFC 3164, from after its timestamp on.
+// Returns what the visitor makes of a line of RFC 3164, from after its timestamp on.
 fn visit_3164<'a, E: ElementVisitor<'a>, V: LineVisitor<'a>>(
     priority: Option<u8>,
     timestamp: Option<ClockStamp>,
@@ -99,7 +99,7 @@ fn visit_3164<'a, E: ElementVisitor<'a>, V: LineVisitor<'a>>(
     visitor.line(&line)
 }
 
-// The month date after a priority, where the variant reads such dates, and the rest.
+// Returns the month date after a priority, if the variant reads such dates, and the text after it.
 #[inline(always)]
 fn front_date(text: &str, variant: Variant) -> Option<(MonthDate, &str)>
     ensures { MatchOption result (BeginsWithout month_date variant (chars text.now))
@@ -112,7 +112,7 @@ fn front_date(text: &str, variant: Variant) -> Option<(MonthDate, &str)>
     }
 }
 
-// A timestamp that is no month date, in the same way.
+// Returns the timestamp after a priority that is no month date, if the variant reads RFC 3164, and the text after it.
 #[inline(always)]
 fn front_stamp(text: &str, variant: Variant) -> Option<(Option<ClockStamp>, &str)>
     ensures { MatchOption result (BeginsWithout header_stamp variant (chars text.now))
@@ -125,7 +125,7 @@ fn front_stamp(text: &str, variant: Variant) -> Option<(Option<ClockStamp>, &str
     }
 }
 
-// The numbers of a date whose year is asked for.
+// Returns the numbers of a date whose year has to be asked for.
 #[inline(always)]
 fn asked_numbers(date: MonthDate) -> Option<IncompleteDate>
     ensures { MatchOption result (IsSome date.year) (λ d. (date.year ≡ None) × (d ≡ incomplete date)) }
@@ -136,7 +136,7 @@ fn asked_numbers(date: MonthDate) -> Option<IncompleteDate>
     }
 }
 
-/// What the visitor makes of the line of a text that begins with no month date, from after its priority on.
+/// Returns what the visitor makes of the line of a text that begins with no month date, from after its priority on.
 #[inline(always)]
 pub(crate) fn visit_undated<'a, E: ElementVisitor<'a>, V: LineVisitor<'a>>(
     priority: Option<u8>,
@@ -158,14 +158,14 @@ pub(crate) fn visit_undated<'a, E: ElementVisitor<'a>, V: LineVisitor<'a>>(
     Some(visit_3164(priority, timestamp, rest, elements, visitor))
 }
 
-/// Returns what the visitor makes of the line that the text is parsed as, and none where it does not parse.
+/// Returns what the visitor makes of the line that the text is parsed as, and none if it does not parse.
 ///
-/// The strict elements of the line are given to `elements` on the way, before the visitor takes the line. Where the
-/// text does not parse, it is given none.
+/// While the text is read, `elements` is given the strict elements of the line, before the visitor takes the line. If
+/// the text does not parse, it is given none.
 ///
-/// `get_year` gives the year of a date that has none: it is called once, and only where the text shows such a date and
-/// the variant reads it. `tz` is the zone of a date without an offset, and `local` is taken where that is absent. No
-/// memory is taken but by the two.
+/// `get_year` gives the year of a date that has none. It is called once, and only if the text shows such a date and the
+/// variant reads it. `tz` is the zone of a date without an offset; `local` is used if that is absent. Nothing is
+/// allocated but by the two visitors.
 #[inline(always)]
 pub fn visit_line<'a, F: FnOnce(IncompleteDate) -> i32, E: ElementVisitor<'a>, V: LineVisitor<'a>>(
     input: &'a str,
@@ -226,9 +226,9 @@ impl<'a> LineVisitor<'a> for Itself {
     }
 }
 
-/// Returns the line that the text is parsed as, and none where it does not parse. It takes no memory.
+/// Returns the line that the text is parsed as, and none if it does not parse. It does not allocate.
 ///
-/// Each of its texts is a piece of the text as it came.
+/// Each text of the line is a slice of the input.
 ///
 /// The arguments are those of `visit_line`.
 #[inline(always)]

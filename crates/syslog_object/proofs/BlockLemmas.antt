@@ -199,7 +199,7 @@ in_json_plain true xs ys plain =
     ap escape (plain_unescaped xs ys plain) ∙ escape-append xs (unescaped ys)
     ∙ ap (λ zs. zs ++ escape (unescaped ys)) (plain_escape xs plain)
 
--- of the block's sixteen bytes so many are passed, and what they are in JSON is written; the others stand after that
+-- so many of the block's sixteen bytes are done with, and what they are in JSON is written; the others follow that
 pub record InBlock (raw : Bool) (base text : List ℕ) (at first : ℕ) (room : List ℕ) (end passed : ℕ) : Type 0 where
   pub done : List ℕ
   pub few : passed ≤ 16
@@ -266,7 +266,7 @@ stay_plain {raw = raw} {base = base} {text = text} {at = at} {first = first} {ro
     let there : passed + n ≡ stop = omega arith in
     subst (λ (k : ℕ). InBlock raw base text at first room end k) there (stay n b (omega arith) more kept)
 
--- what stands before the next byte
+-- what is written before the next byte
 pub before_next : {raw : Bool} {base text : List ℕ} {at first : ℕ} {room : List ℕ} {end passed : ℕ}
     (b : InBlock raw base text at first room end passed) → take (end + passed - 16) room ≡ b.done
 before_next {room = room} {end = end} {passed = passed} b =
@@ -469,7 +469,7 @@ are_left {raw = raw} {base = base} {text = text} {at = begin} {first = first} {r
           falls = omega (arith, less, differs);
         }
 
--- a pair stands across its end
+-- a pair goes past its end
 pub pair_ends : {raw : Bool} {base text : List ℕ} {at first : ℕ} {room : List ℕ} {end : ℕ} (stop : ℕ) (now : List ℕ)
     → (b : InBlock raw base text at first room end stop) → stop ≡ 15 → first + 32 ≤ length text
     → in_json raw (drop (first + stop) text)

@@ -78,8 +78,8 @@ present ((key, Some value) ∷ fields) = (key, value) ∷ present fields
 abbrev pub object_of : List Field → Json
 object_of fields = object (members_of (present fields))
 
--- what the object has beside the message, each where it is given: the name of the dialect in which the line was read,
--- the structured data that was left unparsed, and the line as it came
+-- What the object has beside the message, each if it is given. They are the name of the dialect in which the line was
+-- read, the structured data that was left unparsed, and the line as it came.
 pub record Beside : Type 0 where
   pub dialect : Option Text
   pub unparsed : Option Text
@@ -118,7 +118,7 @@ beside_line dialect unparsed raw = record { dialect = dialect; unparsed = if_any
 abbrev pub refused_json : List ℕ → Json
 refused_json line = object_of ((codes "message", Some (string line)) ∷ (codes "refused", Some (boolean true)) ∷ [])
 
--- the value of a line that is no UTF-8, with what is none of it replaced
+-- the value of a line that is not UTF-8, with U+FFFD for each part that is not
 abbrev pub invalid_json : List ℕ → Json
 invalid_json line =
     object_of ((codes "message", Some (string line)) ∷ (codes "refused", Some (boolean true))

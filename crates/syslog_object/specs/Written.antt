@@ -27,8 +27,8 @@ abbrev mutual
   MembersHaveSmallNumbers no_members = ⊤
   MembersHaveSmallNumbers (member k j ms) = HasSmallNumbers j × MembersHaveSmallNumbers ms
 
--- the bytes are read as exactly this value, are its text without a space between tokens, its members in their order,
--- and have no byte below 32; the numbers are small, and few arrays and objects are nested
+-- The bytes are read as exactly this value. They are its text without a space between tokens, its members in their
+-- order, and have no byte below 32. The numbers are small, and few arrays and objects are nested.
 pub record IsTextOf (value : Json) (bytes : List ℕ) : Type 0 where
   pub read_back : document bytes ≡ Some value
   pub compact : bytes ≡ print (json_tokens value)

@@ -1,5 +1,5 @@
-//! Texts with JSON's escapes, by blocks of sixteen bytes: each is copied whole, and what comes after a byte that needs
-//! an escape is copied again at its new place.
+//! Texts with JSON's escapes, by blocks of sixteen bytes: each block is copied whole, and what comes after a byte that
+//! needs an escape is copied again to its new place.
 
 ghost use Rattle.std.specs.Prelude.{◌≡◌, ◌+◌, ◌++◌, ◌∷◌, ◌≤◌, ◌<◌, true, length, slice_index, take, drop};
 ghost use Rattle.std.specs.Bool.{OnTrue};
@@ -10,12 +10,12 @@ ghost use Rattle.syslog_object.specs.Blocks.{AreStops, IsEscapeAt, in_json};
 
 use std::simd::prelude::*;
 
-/// How many bytes from the first of its places on a block may write: six for each of sixteen bytes, a byte more where a
-/// pair ends after them, and sixteen that are copied again.
+/// How many bytes from its first place on a block may write: six for each of sixteen bytes, a byte more if a pair ends
+/// after them, and sixteen that are copied again.
 pub(crate) const BLOCK_ROOM: usize = 128;
 
-// Writes the bytes to the front. (An array is stored as a whole, where `copy_from_slice` asks first whether the two
-// overlap.)
+// Writes the bytes to the front. (An array is stored as a whole, while `copy_from_slice` would ask first whether the
+// two overlap.)
 #[inline(always)]
 fn store<const N: usize>(room: &mut [u8], piece: &[u8; N])
     requires { N ≤ length room.old }
@@ -26,7 +26,7 @@ fn store<const N: usize>(room: &mut [u8], piece: &[u8; N])
     }
 }
 
-/// Writes the bytes at the place, for which there is room, and returns the place after them.
+/// Writes the bytes at the place, where there must be space for them, and returns the place after them.
 #[inline(always)]
 pub(crate) fn put<const N: usize>(room: &mut [u8], at: usize, piece: &[u8; N]) -> usize
     requires { at + N ≤ length room.old }
@@ -89,7 +89,7 @@ fn put_by_8(room: &mut [u8], at: usize, text: &[u8])
     u8x8::from_slice(&text[text.len() - 8..]).copy_to_slice(&mut room[at + text.len() - 8..]);
 }
 
-/// Writes bytes from the front of the text, of which none needs an escape, and returns how many.
+/// Writes the bytes at the front of the text of which none needs an escape, and returns how many it wrote.
 #[inline(always)]
 pub(crate) fn put_plain(room: &mut [u8], at: usize, text: &[u8]) -> usize
     requires { at + length text.now ≤ length room.old }
@@ -152,7 +152,7 @@ fn put_plain_blocks(room: &mut [u8], at: usize, text: &[u8]) -> usize
     }
 }
 
-// What JSON has for a byte that needs an escape.
+// What the JSON text has for a byte that needs an escape.
 enum Escape {
     // a control character's own escape
     Control,
@@ -164,7 +164,7 @@ enum Escape {
     Backslash,
 }
 
-// Returns what JSON has for the byte at this place. A raw text has the escapes of a parameter's value.
+// Returns what the JSON text has for the byte at this place. A raw text has the escapes of a parameter's value.
 #[inline(always)]
 fn escape_at(text: &[u8], at: usize, is_raw: bool) -> Escape
     requires more { at + 1 < length text.now }
@@ -188,8 +188,8 @@ fn escape_at(text: &[u8], at: usize, is_raw: bool) -> Escape
     Escape::Backslash
 }
 
-// Writes the escape of a control character at the place, and after it sixteen bytes of the text. Returns how long the
-// escape is.
+// Writes the escape of a control character at the place, and after it sixteen bytes of the text. Returns the length of
+// the escape.
 #[inline(always)]
 fn put_control(room: &mut [u8], at: usize, byte: u8, text: &[u8], next: usize) -> usize
     requires byte { byte < 32 }
@@ -218,8 +218,8 @@ fn put_backslash(room: &mut [u8], at: usize, text: &[u8], next: usize)
     put_lanes(room, at + 1, text, next);
 }
 
-/// Writes the next sixteen bytes of the text, or seventeen if a pair goes past their end. Returns the places after what
-/// was written, and after what was read.
+/// Writes the next sixteen bytes of the text, or seventeen if a pair goes past their end. Returns the place after what
+/// was written, and the place after what was read.
 #[inline(always)]
 pub(crate) fn put_block(
     room: &mut [u8],
@@ -267,7 +267,7 @@ pub(crate) fn put_block(
     (end, first + 16)
 }
 
-// Returns the escape of a control character: so many bytes as the last one says.
+// Returns the escape of a control character, whose length is its last byte.
 #[inline(always)]
 fn control(byte: u8) -> &'static [u8; 8]
     requires { byte < 32 }

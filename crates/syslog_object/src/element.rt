@@ -1,4 +1,4 @@
-//! Elements: the object of their ids, and of the names and the values of each.
+//! The object of the elements of a line: for each id, the object of its parameters' names and values.
 ghost use Rattle.std.specs.Prelude.{◌≡◌, ◌≤◌, ◌++◌, length, OnOk, map};
 ghost use Rattle.syslog_pieces.specs.StructuredData.Visited.{element_seen, list_elements};
 ghost use Rattle.syslog_object.specs.Gathered.{gathered};
@@ -10,7 +10,8 @@ use crate::output::Output;
 use std::alloc::{AllocError, Global};
 use syslog_loose::{Element, ElementList};
 
-// The name of a parameter. A function of its own, since what a call returns is known to be UTF-8, and a field is not.
+// Returns the name of a parameter. It is a function of its own, since what a call returns is known to be UTF-8, and a
+// field is not.
 #[inline(always)]
 fn name<'a>(param: &(&'a str, &'a str)) -> &'a str
     ensures { result.now ≡ param.now.0.now }
@@ -18,7 +19,8 @@ fn name<'a>(param: &(&'a str, &'a str)) -> &'a str
     param.0
 }
 
-// The raw value, by a function for the same reason.
+// Returns the raw value of a parameter. It is a function of its own, since what a call returns is known to be UTF-8,
+// and a field is not.
 #[inline(always)]
 fn value<'a>(param: &(&'a str, &'a str)) -> &'a str
     ensures { result.now ≡ param.now.1.now }
@@ -26,7 +28,7 @@ fn value<'a>(param: &(&'a str, &'a str)) -> &'a str
     param.1
 }
 
-// A parameter: its name and its raw value.
+// A parameter as a member: its name is the key, and its raw value the value.
 impl<'a> Member<'a> for (&'a str, &'a str) {
     ghost use Rattle.syslog_pieces.specs.Pieces.View.{shown};
     ghost use Rattle.syslog_pieces.specs.StructuredData.Element.{param_value};
@@ -84,7 +86,7 @@ fn push_few_params(alloc: Global, out: &mut Output, element: &Element<'_>) -> Re
     push_members(alloc, out, &params[..count])
 }
 
-// Appends the object of an element that has many parameters, for which it takes memory.
+// Appends the object of an element that has many parameters, for which it allocates.
 #[inline(never)]
 fn push_many_params(
     alloc: Global,
@@ -100,7 +102,7 @@ fn push_many_params(
     push_members(alloc, out, params.as_slice())
 }
 
-/// Appends the object of the elements of a list. More than one take memory.
+/// Appends the object of the elements of a list. It allocates if there is more than one.
 #[inline(never)]
 pub(crate) fn push_elements(
     alloc: Global,
@@ -119,7 +121,7 @@ pub(crate) fn push_elements(
     push_many_elements(alloc, out, list)
 }
 
-// Appends the object of more than one element, for which it takes memory.
+// Appends the object of more than one element, for which it allocates.
 fn push_many_elements(
     alloc: Global,
     out: &mut Output,

@@ -1,4 +1,4 @@
-//! The fields that are no elements: each is appended with the comma before it.
+//! The fields of a line other than its elements: each is appended with the comma before it.
 ghost use Rattle.std.specs.Prelude.{◌≡◌, ◌++◌, ◌≤◌, OnOk, Some, codes};
 ghost use Rattle.std.specs.Option.{option_map};
 ghost use Rattle.std.specs.Str.{chars};
@@ -16,7 +16,7 @@ use syslog_loose::{ClockStamp, ProcId, SyslogFacility, SyslogSeverity};
 use syslog_pieces::front::Ascii;
 use syslog_pieces::procid::is_bare_word;
 
-/// Appends the brace, the protocol, and the version of RFC 5424.
+/// Appends the opening brace, the protocol, and the version of RFC 5424.
 #[tactic(auto, unfolding(json::specs::Print::escape_byte))]
 pub(crate) fn push_protocol(out: &mut Output, version: Option<u32>) -> Result<(), AllocError>
     ensures text { OnOk result (out.new ≡ out.old ++ protocol_fields (protocol_of version)) }
@@ -33,7 +33,7 @@ pub(crate) fn push_protocol(out: &mut Output, version: Option<u32>) -> Result<()
     }
 }
 
-/// Returns the name and the number of the facility, as members; nothing if there is none.
+/// Returns the name and the number of the facility as members of an object; nothing if there is none.
 #[tactic(auto, unfolding(crate::proofs::EscapeLemmas::members_on_literals))]
 pub(crate) fn facility_members(facility: Option<SyslogFacility>) -> &'static [u8]
     ensures { result.now ≡ facility_fields facility }
@@ -69,7 +69,7 @@ pub(crate) fn facility_members(facility: Option<SyslogFacility>) -> &'static [u8
     }
 }
 
-/// Returns the name and the number of the severity, as members; nothing if there is none.
+/// Returns the name and the number of the severity as members of an object; nothing if there is none.
 #[tactic(auto, unfolding(crate::proofs::EscapeLemmas::members_on_literals))]
 pub(crate) fn severity_members(severity: Option<SyslogSeverity>) -> &'static [u8]
     ensures { result.now ≡ severity_fields severity }
@@ -89,8 +89,8 @@ pub(crate) fn severity_members(severity: Option<SyslogSeverity>) -> &'static [u8
     }
 }
 
-/// Appends the text of a field and the quote after it, or nothing if it is absent. `key` is all before it: a comma, the
-/// key, a colon and a quote.
+/// Appends the text of a field and the quote after it, or nothing if it is absent. `key` is everything before it: a
+/// comma, the key, a colon and a quote.
 #[inline(always)]
 pub(crate) fn push_field<const N: usize>(
     out: &mut Output,
@@ -106,7 +106,7 @@ pub(crate) fn push_field<const N: usize>(
     }
 }
 
-/// Appends the timestamp as it is printed, where there is one.
+/// Appends the timestamp in printed form, if there is one.
 #[inline(always)]
 pub(crate) fn push_timestamp(
     out: &mut Output,
@@ -124,7 +124,7 @@ pub(crate) fn push_timestamp(
     }
 }
 
-/// Appends the process id that a text names, as a text, a number in decimal; nothing if it is absent. A word that is
+/// Appends the process id that a text names: a number in decimal, or the text; nothing if it is absent. A word that is
 /// printed as it is is written as it is, so that few numbers are computed and printed again.
 #[inline(always)]
 pub(crate) fn push_process(out: &mut Output, process: Option<&str>) -> Result<(), AllocError>
@@ -138,7 +138,7 @@ pub(crate) fn push_process(out: &mut Output, process: Option<&str>) -> Result<()
     }
 }
 
-// Appends the process id that any text names, by a call.
+// Appends the process id that any text names. It is a call of its own.
 #[inline(never)]
 fn push_named(out: &mut Output, word: &str) -> Result<(), AllocError>
     ensures { OnOk result (out.new ≡ out.old ++ text_field (codes ",\"procid\":\"")

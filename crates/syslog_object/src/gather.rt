@@ -1,4 +1,4 @@
-//! Objects whose keys may come again: then the value is an array of all their values, at the first place of the key.
+//! Objects whose keys may be repeated: then the value is an array of all values of the key, at its first place.
 ghost use Rattle.std.specs.Prelude.{◌≡◌, ◌<◌, ◌+◌, ◌==◌, ◌++◌, ◌∷◌, [], List, ℕ, OnOk, IfOk, cond, drop, get_or};
 ghost use Rattle.std.specs.Prelude.{length, map};
 ghost use Rattle.std.specs.Bool.{OnTrue};
@@ -12,10 +12,10 @@ use crate::output::Output;
 use std::alloc::{AllocError, Global};
 use std::collections::BTreeMap;
 
-/// How many keys are compared with each other; where there are more, they are sorted.
+/// How many keys are compared with each other; if there are more, they are sorted.
 pub(crate) const FEW: usize = 16;
 
-/// A key and a value.
+/// A member of an object: a key and a value.
 pub(crate) trait Member<'a>: Copy {
     // the bytes of the key
     ghost key_of: { Self → List ℕ };
@@ -43,7 +43,7 @@ fn is_new<'a, M: Member<'a>>(key: &str, members: &[M]) -> bool
     true
 }
 
-/// Whether the keys are few, and each comes once.
+/// Whether the keys are few, and no key is repeated.
 #[inline(always)]
 pub(crate) fn are_distinct<'a, M: Member<'a>>(members: &[M]) -> bool
     ensures { OnTrue result (AreDistinct (map M.key_of members.now)) }
@@ -63,7 +63,7 @@ pub(crate) fn are_distinct<'a, M: Member<'a>>(members: &[M]) -> bool
     }
 }
 
-/// Appends a key and a colon, after a brace, or after a comma where members come before it.
+/// Appends a key and a colon, after a brace if it is the first member and otherwise after a comma.
 #[inline(always)]
 pub(crate) fn push_key(out: &mut Output, count: usize, key: &str) -> Result<(), AllocError>
     ensures { OnOk result (out.new ≡ out.old ++ (before_member count ∷ (quoted key.now ++ 58 ∷ []))) }
@@ -72,7 +72,7 @@ pub(crate) fn push_key(out: &mut Output, count: usize, key: &str) -> Result<(), 
     out.push_text(&[before, b'"'], key, b"\":")
 }
 
-// Appends the brace after so many members, or both braces where there are none.
+// Appends the closing brace after `count` members, or both braces if there are none.
 #[inline(always)]
 fn push_end(out: &mut Output, count: usize) -> Result<(), AllocError>
     ensures { OnOk result (out.new ≡ out.old ++ cond (count == 0) (123 ∷ 125 ∷ []) (125 ∷ [])) }
@@ -110,7 +110,7 @@ struct Places<'a> {
     next: Vec<usize>,
 }
 
-// Finds the places from the last member to the first, in n log n steps.
+// Finds the places from the last member to the first, in time n log n.
 fn find_places<'a, M: Member<'a>>(alloc: Global, members: &[M]) -> Result<Places<'a>, AllocError>
     ensures { IfOk result (λ places. ArePlaces (map (λ m. (M.key_of m, M.json m)) members.now) 0
         places.first places.next.items) }
@@ -127,7 +127,7 @@ fn find_places<'a, M: Member<'a>>(alloc: Global, members: &[M]) -> Result<Places
     Ok(Places { first, next })
 }
 
-// Appends the values of a key from its first place on: one that is alone as it is, and more in an array.
+// Appends the values of a key from its first place on: a single one as it is, and several in an array.
 fn push_values<'a, M: Member<'a>>(
     alloc: Global,
     out: &mut Output,
@@ -155,7 +155,7 @@ fn push_values<'a, M: Member<'a>>(
     out.push(b"]")
 }
 
-// Appends the key of a place and all its values, if the key begins there.
+// Appends the key of a place and all its values, if this is the first place of the key.
 fn push_group<'a, M: Member<'a>>(
     alloc: Global,
     out: &mut Output,
@@ -179,7 +179,7 @@ fn push_group<'a, M: Member<'a>>(
     push_values(alloc, out, members, places.next.as_slice(), at)
 }
 
-// Appends the object of members whose keys may come again.
+// Appends the object of members whose keys may be repeated.
 #[inline(never)]
 fn push_gathered<'a, M: Member<'a>>(
     alloc: Global,
@@ -196,8 +196,8 @@ fn push_gathered<'a, M: Member<'a>>(
     push_end(out, members.len())
 }
 
-/// Appends the object of members: a key that comes again has an array of all its values, at its first place. It takes
-/// memory only where keys come again or are many.
+/// Appends the object of members. A key that is repeated has an array of all its values, at its first place. It
+/// allocates only if keys are repeated or are many.
 #[inline(always)]
 pub(crate) fn push_members<'a, M: Member<'a>>(
     alloc: Global,

@@ -1,10 +1,11 @@
-//! A law of the object's definitions.
+//! A law of the object's definitions: the function does nothing, and its contract is the law.
 ghost use Rattle.std.specs.Prelude.{◌≡◌, encode_utf8_all};
 ghost use Rattle.syslog_pieces.specs.Pieces.Class.{Text};
 ghost use Rattle.syslog_pieces.specs.StructuredData.Escapes.{IsUnescaped};
 ghost use Rattle.syslog_object.specs.Object.{unescaped};
 
-/// Escapes are removed from the bytes of a value as they are from its characters: by the split into units.
+/// Removing the escapes from the bytes of a value and from its characters gives the same text. Both are defined by the
+/// split into units.
 #[tactic(auto, using(crate::proofs::UnescapedLemmas::bytes_unescaped))]
 pub fn escapes_are_removed_from_bytes_as_from_characters()
     ensures { (value bare : Text) → IsUnescaped value bare

@@ -18,7 +18,7 @@ use crate::output::Output;
 use std::alloc::{AllocError, Global};
 use syslog_loose::{ElementList, Line};
 
-/// Appends the structured data, where there are elements.
+/// Appends the structured data, if there are elements.
 #[inline(always)]
 pub(crate) fn push_list(
     alloc: Global,
@@ -35,7 +35,7 @@ pub(crate) fn push_list(
     push_elements(alloc, out, list)
 }
 
-/// Appends the fields before the elements, with the brace before them. The line was read in this dialect, or none.
+/// Appends the opening brace and the fields before the elements. The line was read in this dialect, or in none.
 #[inline(always)]
 pub(crate) fn push_front(
     out: &mut Output,
@@ -56,7 +56,8 @@ pub(crate) fn push_front(
     push_field(out, b",\"msgid\":\"", line.msgid)
 }
 
-/// Appends the fields after them, and the last brace. This is left unparsed of the structured data.
+/// Appends the fields after the elements, and the closing brace. `unparsed` is what was left unparsed of the structured
+/// data.
 #[inline(always)]
 pub(crate) fn push_back(
     out: &mut Output,
@@ -73,7 +74,7 @@ pub(crate) fn push_back(
     out.push(b"}")
 }
 
-// Appends the members, between braces.
+// Appends all members, between braces.
 #[inline(always)]
 fn push_fields(
     alloc: Global,
@@ -92,14 +93,15 @@ fn push_fields(
     push_back(out, line, unparsed, raw)
 }
 
-/// Returns the object of a line, as `{"protocol":"RFC3164","facility":"auth",..}`, written into the vector's memory.
+/// Returns the JSON object of a line, as `{"protocol":"RFC3164","facility":"auth",..}`, written into the vector's
+/// memory.
 ///
-/// `dialect` is the name of the dialect in which the line was read, where it was one. Where `raw` is given it is the
-/// last member: the line as it came. The structured data that was left unparsed has a member too.
+/// `dialect` is the name of the dialect in which the line was read, if it was one. If `raw` is given, it is the last
+/// member: the line as it came. The structured data that was left unparsed has a member too.
 ///
-/// What the message lacks has no key. An id or a name that comes again has an array of all its values, at its first
-/// place. Memory is taken where the vector's is too little, and if a line has more than one element, an element more
-/// than sixteen parameters, or a name comes again.
+/// What the message lacks has no key. An id or a name that is repeated has an array of all its values, at its first
+/// place. The call allocates if the vector's memory is too little. It also does if a line has more than one element, an
+/// element has more than sixteen parameters, or a name is repeated.
 pub fn line_object(
     alloc: Global,
     memory: Vec<u8>,
@@ -116,8 +118,8 @@ pub fn line_object(
     Ok(text.into_bytes())
 }
 
-/// Returns the object of a line that is no message, as `{"message":"..","refused":true}`, written into the vector's
-/// memory. More is taken where that is too little.
+/// Returns the JSON object of a line that is no message, as `{"message":"..","refused":true}`, written into the
+/// vector's memory. The call allocates if that is too little.
 pub fn refused_object(memory: Vec<u8>, line: &str) -> Result<Vec<u8>, AllocError>
     ensures { IfOk result (λ object. IsTextOf (refused_json line.now) object.items) }
 {
@@ -126,8 +128,9 @@ pub fn refused_object(memory: Vec<u8>, line: &str) -> Result<Vec<u8>, AllocError
     Ok(text.into_bytes())
 }
 
-/// Returns the object of a line that is not UTF-8: `line` has U+FFFD for each part that is not. It is that of a line
-/// that is no message, with `"invalid_utf8":true`, and takes memory in the same way.
+/// Returns the JSON object of a line that is no message and not UTF-8, as
+/// `{"message":"..","refused":true,"invalid_utf8":true}`, written into the vector's memory. `line` has U+FFFD for each
+/// part that is not UTF-8. The call allocates if the memory is too little.
 pub fn invalid_object(memory: Vec<u8>, line: &str) -> Result<Vec<u8>, AllocError>
     ensures { IfOk result (λ object. IsTextOf (invalid_json line.now) object.items) }
 {

@@ -1,4 +1,4 @@
-//! What is written of an object.
+//! The bytes of an object, while they are written.
 
 ghost use Rattle.std.specs.Prelude.{◌≡◌, ◌+◌, ◌-◌, ◌++◌, ◌≤◌, [], List, ℕ, IfOk, IsUtf8, OnOk, drop, length, replicate};
 ghost use Rattle.std.specs.Prelude.{take, vec_len};
@@ -10,10 +10,10 @@ use crate::blocks::{BLOCK_ROOM, put, put_block, put_plain};
 use std::alloc::AllocError;
 use std::marker::Model;
 
-/// How much room each text leaves after it.
+/// How many bytes of spare space each text leaves after it.
 const ROOM: usize = 64;
 
-/// Bytes that are written one after the other into the elements of a vector, of which those from a place on are room.
+/// Bytes that are written one after the other into the elements of a vector, whose elements after them are spare space.
 #[derive(Drop)]
 pub(crate) struct Output {
     bytes: Vec<u8>,
@@ -29,7 +29,7 @@ impl Model for Output {
 }
 
 impl Output {
-    /// Returns an output of no byte, which uses the vector's memory.
+    /// Returns an empty output that uses the vector's memory.
     #[inline(always)]
     pub(crate) fn over(memory: Vec<u8>) -> Output
         ensures { result ≡ [] }
@@ -40,7 +40,7 @@ impl Output {
         }
     }
 
-    /// Returns what was written.
+    /// Returns the bytes that were written.
     #[inline(always)]
     pub(crate) fn as_slice(&self) -> &[u8]
         ensures { result.now ≡ self.now }
@@ -48,7 +48,7 @@ impl Output {
         &self.bytes[..self.at]
     }
 
-    /// Returns the vector, with what was written.
+    /// Returns the vector, cut to the bytes that were written.
     #[inline(always)]
     pub(crate) fn into_bytes(self) -> Vec<u8>
         ensures { result.items ≡ self }
@@ -72,7 +72,7 @@ impl Output {
         self.at = 0;
     }
 
-    /// Appends bytes.
+    /// Appends the bytes of an array.
     #[inline(always)]
     pub(crate) fn push<const N: usize>(&mut self, piece: &[u8; N]) -> Result<(), AllocError>
         ensures { OnOk result (self.new ≡ self.old ++ piece.now) }
@@ -83,7 +83,7 @@ impl Output {
         Ok(())
     }
 
-    /// Appends bytes.
+    /// Appends the bytes of a slice.
     #[inline(always)]
     pub(crate) fn push_slice(&mut self, piece: &[u8]) -> Result<(), AllocError>
         ensures { OnOk result (self.new ≡ self.old ++ piece.now) }
@@ -95,7 +95,7 @@ impl Output {
         Ok(())
     }
 
-    /// Appends the first so many bytes again.
+    /// Appends the first `count` bytes again.
     #[inline(always)]
     pub(crate) fn push_again(&mut self, count: usize) -> Result<(), AllocError>
         requires { count ≤ length self.old }
@@ -124,7 +124,8 @@ impl Output {
         self.push_between(before, text, after, false)
     }
 
-    /// Appends the text with JSON's escapes, between two pieces. Where it is raw it loses those of a parameter's value.
+    /// Appends the text with JSON's escapes, between two pieces. If the text is raw, the escapes of a parameter's value
+    /// are removed first.
     #[inline(always)]
     pub(crate) fn push_between<const N: usize, const M: usize>(
         &mut self,
@@ -146,7 +147,7 @@ impl Output {
     }
 }
 
-// Makes room for so many bytes after the place, and for some more where there was less.
+// Makes space for `count` bytes after the place, and for some more if there was too little.
 #[inline(always)]
 fn reserve(bytes: &mut Vec<u8>, at: usize, count: usize) -> Result<(), AllocError>
     requires { at ≤ vec_len bytes.old }
@@ -170,7 +171,7 @@ fn grow(bytes: &mut Vec<u8>, at: usize, count: usize) -> Result<(), AllocError>
     bytes.resize(at.saturating_add(count).saturating_add(1024), 0)
 }
 
-// Writes bytes from the front of the text, of which none needs an escape, and returns how many.
+// Writes the bytes at the front of the text of which none needs an escape, and returns how many it wrote.
 #[inline(always)]
 fn write_plain(bytes: &mut Vec<u8>, at: usize, text: &[u8]) -> usize
     requires { at + length text.now ≤ vec_len bytes.old }
@@ -182,7 +183,7 @@ fn write_plain(bytes: &mut Vec<u8>, at: usize, text: &[u8]) -> usize
     put_plain(bytes.as_mut_slice(), at, text)
 }
 
-// Writes the text, for which there is room if none of it needs an escape, and returns the place after it.
+// Writes the text and returns the place after it. There must be space for it if none of it needs an escape.
 #[inline(always)]
 fn write_text(
     bytes: &mut Vec<u8>,
@@ -202,8 +203,8 @@ fn write_text(
     put_escaped(bytes, at + plain, &text[plain..], is_raw)
 }
 
-// Writes the text by blocks, the last ones from a copy that has brackets after it, which are taken off again. Returns
-// the place after it.
+// Writes the text by blocks, and returns the place after it. The last blocks are read from a copy with brackets after
+// it, which are taken off again.
 #[inline(never)]
 fn put_escaped(
     bytes: &mut Vec<u8>,

@@ -1,4 +1,4 @@
-//! The writer of a line's object that is given the elements while the line is read.
+//! The writer of a line's JSON object that is given the elements while the line is read.
 ghost use Rattle.std.specs.Prelude.{◌≡◌, ◌≢◌, ◌≤◌, ◌++◌, ◌∷◌, [], List, ℕ, IfOk, OnErr, OnOk};
 ghost use Rattle.std.specs.Prelude.{codes, cond, length, map, take};
 ghost use Rattle.std.specs.Bool.{OnTrue};
@@ -28,8 +28,8 @@ use syslog_pieces::structured_data::{Element, ElementVisitor, FewParams};
 /// How many elements are written while the line is read.
 const IDS: usize = 8;
 
-/// Writes the object of a line. As a visitor it is given the elements while the line is read, and writes them at once,
-/// so that they are not walked again.
+/// Writes the JSON object of a line. As a visitor it is given the elements while the line is read, and writes them at
+/// once, so that they are not walked again.
 #[derive(Drop)]
 pub struct ObjectWriter<'a> {
     alloc: Global,
@@ -38,13 +38,13 @@ pub struct ObjectWriter<'a> {
     // their ids
     ids: [&'a str; 8],
     count: usize,
-    // Whether all were written: each id and each name came once, and none were too many. Otherwise `text` doesn't
-    // count.
+    // Whether all elements were written: no id and no name was repeated, and there were not too many. Otherwise `text`
+    // doesn't count.
     is_whole: bool,
 }
 
 impl<'a> ObjectWriter<'a> {
-    /// A writer that was given no element. It uses the vector's memory, and clears what that holds.
+    /// Returns a writer that was given no element. It uses the vector's memory, and clears what that holds.
     #[inline(always)]
     pub fn new(alloc: Global, memory: Vec<u8>) -> ObjectWriter<'a>
         ensures { HasWritten result [] }
@@ -58,7 +58,7 @@ impl<'a> ObjectWriter<'a> {
         }
     }
 
-    // Writes an element by its notes, if these have all parameters. Returns whether that could be done.
+    // Writes an element by its notes, if these have all parameters. Returns whether it was written.
     #[inline(always)]
     fn add(&mut self, element: &Element<'a>, notes: &FewParams<'a>) -> bool
         requires { HasNoted notes.now (element_seen element.now).params }
@@ -84,11 +84,11 @@ impl<'a> ObjectWriter<'a> {
         true
     }
 
-    /// Appends the object of the line whose elements it was given, as `line_object` gives it, or nothing if an
-    /// allocation fails. It is for one line.
+    /// Appends the JSON object of the line whose elements it was given to `output`, as `line_object` writes it, or
+    /// nothing if an allocation fails. A writer is for one line.
     ///
-    /// Memory is asked for more of its own and of `output`. It is also asked for as by `line_object`, where an id or a
-    /// name comes again, or there are more than eight elements or an element has more than sixteen parameters.
+    /// The call may grow its own memory and `output`. It allocates as `line_object` does if an id or a name is
+    /// repeated, there are more than eight elements, or an element has more than sixteen parameters.
     pub fn write(
         &mut self,
         line: &Line<'_>,
@@ -114,8 +114,8 @@ impl<'a> ObjectWriter<'a> {
         output.extend_from_slice(&text.as_slice()[start..])
     }
 
-    /// Returns the object of the elements that it was given, as the object of their line has it; nothing where there
-    /// are none. It is written into the vector that the writer was given or grew. Memory is asked for as by `write`.
+    /// Returns the JSON object of the elements that it was given, as the object of their line has it; nothing if there
+    /// are none. It is written into the vector that the writer was given or grew. It allocates as `write` does.
     pub fn into_elements(self, list: &ElementList<'_>) -> Result<Vec<u8>, AllocError>
         requires { HasWritten self (list_elements list.now) }
         ensures { IfOk result (λ text. IsStructuredText (list_elements list.now) text.items) }
@@ -134,7 +134,7 @@ impl<'a> ObjectWriter<'a> {
         Ok(text.into_bytes())
     }
 
-    /// Returns the vector that it was given or grew, for another writer. What that holds doesn't count.
+    /// Returns the vector that the writer was given or grew, for another writer. What that holds doesn't count.
     #[inline(always)]
     pub fn into_memory(self) -> Vec<u8> {
         let ObjectWriter { text, .. } = self;
@@ -155,7 +155,8 @@ fn is_new_id(id: &str, ids: &[&str]) -> bool
     true
 }
 
-// Appends an element after so many: its id, and the object of its parameters, whose names each come once.
+// Appends an element: its id, and the object of its parameters, no name of which is repeated. `count` elements are
+// before it.
 fn push_element(
     alloc: Global,
     out: &mut Output,
@@ -183,7 +184,7 @@ fn close_elements(text: &mut Output, has_elements: bool) -> Result<(), AllocErro
     Ok(())
 }
 
-// Appends the key of the elements, and their object: the first bytes again if it was written.
+// Appends the key of the elements and their object: the first bytes again if it was written while the line was read.
 #[inline(always)]
 fn push_again_or_list(
     alloc: Global,
@@ -205,7 +206,7 @@ fn push_again_or_list(
     }
 }
 
-// Appends the object of the elements, where there are some.
+// Appends the object of the elements, if there are any.
 fn push_any_elements(
     alloc: Global,
     out: &mut Output,

@@ -1,16 +1,16 @@
-//! Texts of any type: the bound under which a message is generic.
+//! The trait of types whose values are texts, under which messages are generic.
 ghost use Rattle.std.specs.Prelude.{◌≡◌, ℕ, List, nat_eq, string_bytes, refl};
 ghost use Rattle.std.specs.Cmp.Lexicographic.{pointwise, slice_cmp};
 ghost use Rattle.std.specs.Ordering.{nat_cmp};
 ghost use Rattle.syslog_pieces.specs.Pieces.{text_eq, text_of};
 
-/// A type whose values are texts: its equality and its order are those of the texts. The two laws
-/// are what `AsRef<str>` does not say.
+/// A type whose values are texts, and whose equality and order are those of the texts: `AsRef<str>` does not promise
+/// that.
 pub trait AsStr: Ord {
     // The bytes of the text.
     ghost text: { Self → List ℕ };
 
-    /// The text. Takes no memory.
+    /// Returns the text, without allocating.
     fn as_str(&self) -> &str
         ensures { result.now ≡ text self.now };
 
@@ -19,7 +19,7 @@ pub trait AsStr: Ord {
     ghost cmp_by_text: { (x y : Self) → Self.cmp x y ≡ slice_cmp nat_cmp (text x) (text y) };
 }
 
-/// Whether two values are the same text. Takes no memory.
+/// Returns whether two values are the same text, without allocating.
 pub fn is_same_text<S: AsStr>(a: &S, b: &S) -> bool
     ensures { result ≡ text_eq (text_of S.text a.now) (text_of S.text b.now) }
 {

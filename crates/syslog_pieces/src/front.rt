@@ -1,7 +1,9 @@
-//! Short texts of ASCII, in one array: a printed timestamp, and the front of a printed line, which is the priority, the
-//! version and the timestamp.
+//! Short texts of ASCII in one array: a printed timestamp, or the printed front of a line, which is its priority, its
+//! version and its timestamp.
 //!
-//! What follows the timestamp is mostly copied, so a line is two pieces: this one and the rest.
+//! **Rule.** The front of a line is that of RFC 5424 (section 6), with a space where RFC 3164 has no version; the
+//! timestamp is that of RFC 3339. What follows the timestamp is mostly copied from the input, so a printed line is two
+//! pieces: this one and the rest.
 ghost use Rattle.std.specs.Prelude.{◌≡◌, ◌<◌, ◌≤◌, ◌+◌, ◌++◌, ℕ, [], Some, length, slice_index, unsigned_abs, decimal};
 ghost use Rattle.std.specs.List.{AllByRecursion};
 ghost use Rattle.syslog_pieces.specs.Bodies.Clock.{fields_text, unsigned_date_time};
@@ -15,7 +17,7 @@ use crate::timestamp::{ClockStamp, OffsetTimestamp};
 use jiff::tz::Offset;
 use std::{fmt, str};
 
-/// A text of at most 64 ASCII characters, which takes no memory.
+/// A text of at most 64 ASCII characters, held in an array.
 #[derive(Clone, Copy)]
 pub struct Ascii {
     bytes: [u8; 64],
@@ -28,7 +30,7 @@ impl Ascii {
     ghost use Rattle.std.specs.Prelude.{Some};
     ghost use Rattle.syslog_pieces.specs.Front.{ascii_bytes, clock_text, front_text, version_text};
 
-    // No text.
+    // Returns the empty text.
     #[inline(always)]
     fn empty() -> Ascii
         ensures { ascii_bytes result ≡ [] }
@@ -59,7 +61,7 @@ impl Ascii {
         self.length = end;
     }
 
-    // Appends a priority as it prints.
+    // Appends a priority in printed form.
     #[tactic(auto, using(crate::proofs::PriLemmas::decimals))]
     #[inline(always)]
     fn push_priority(&mut self, number: u32)
@@ -95,7 +97,7 @@ impl Ascii {
         self.push(&[digit(number % 10)]);
     }
 
-    // Appends a version of RFC 5424, where there is one.
+    // Appends the version of RFC 5424, if there is one.
     #[tactic(auto, using(crate::proofs::TextLemmas::Words::ten_digits))]
     #[inline(always)]
     fn push_version(&mut self, version: Option<u32>)
@@ -110,7 +112,7 @@ impl Ascii {
         }
     }
 
-    // Appends `YYYY-MM-DDTHH:MM:SS`, after a `-` where the year is negative.
+    // Appends `YYYY-MM-DDTHH:MM:SS`, with a `-` before it if the year is negative.
     #[tactic(auto, unfolding(crate::specs::Timestamp::Printed::date_time_text))]
     #[inline(always)]
     fn push_date_time(&mut self, fields: CivilFields)
@@ -165,7 +167,7 @@ impl Ascii {
         self.push(&[sign, h, u, b':', i, n]);
     }
 
-    // Appends what a clock at the offset shows.
+    // Appends the date and time that a clock at the offset shows, with the offset.
     #[inline(always)]
     fn push_fields(&mut self, fields: CivilFields, offset: Offset)
         requires room { self.old.length + 36 ≤ 64 }
@@ -178,7 +180,7 @@ impl Ascii {
         self.push_offset(offset);
     }
 
-    // Appends a timestamp as it prints, or `-`.
+    // Appends a timestamp in printed form, or `-` for an absent one.
     #[inline(always)]
     fn push_timestamp(&mut self, timestamp: Option<ClockStamp>)
         requires room { self.old.length + 36 ≤ 64 }
@@ -191,7 +193,7 @@ impl Ascii {
         }
     }
 
-    /// The front of a line: the priority, the version of RFC 5424, a space and the timestamp.
+    /// Returns the printed front of a line: the priority, the version of RFC 5424, a space and the timestamp.
     #[inline(always)]
     pub fn front(priority: u32, version: Option<u32>, timestamp: Option<ClockStamp>) -> Ascii
         requires { priority < 1_000 }
@@ -205,7 +207,7 @@ impl Ascii {
         front
     }
 
-    /// Returns a timestamp as it prints, as `2026-03-02T06:35:05+00:00`.
+    /// Returns a timestamp in printed form, as `2026-03-02T06:35:05+00:00`.
     #[inline(always)]
     pub fn timestamp(timestamp: ClockStamp) -> Ascii
         ensures { ascii_bytes result ≡ clock_text (Some timestamp) }
@@ -216,7 +218,7 @@ impl Ascii {
     }
 }
 
-// The date and the time of day to the second, without the year's sign.
+// Returns the date and the time of day to the second, without the sign of the year.
 #[inline(always)]
 fn date_time_bytes(fields: CivilFields) -> [u8; 19]
     requires { AreCivil fields }

@@ -43,13 +43,13 @@ pub fn priority_is_composed()
         × (facility_of pri ≡ Some facility) × (severity_of pri ≡ Some severity) × (composed facility severity ≡ pri) }
 {}
 
-/// The process id that is computed of a text is the one that it names.
+/// The process id that is computed from a text is the one that the text names by definition.
 #[tactic(auto, using(crate::proofs::ProcIdLemmas::named_names))]
 pub fn text_names_computed_process()
     ensures { (text : Text) → NamesProcess text (named_process text) }
 {}
 
-/// A text has at most one stamp.
+/// A text has at most one timestamp of RFC 3339.
 pub fn text_has_one_stamp()
     ensures instant { (text : List ℕ) (n o m p : ℤ) → HasStamp text n o → HasStamp text m p → n ≡ m }
     ensures at_offset { (text : List ℕ) (n o m p : ℤ) → HasStamp text n o → HasStamp text m p → o ≡ p }
@@ -102,7 +102,7 @@ pub fn printed_stamp_is_one_word()
         → Each is_not_whitespace (printed_stamp stamp.instant.nanosecond stamp.offset.seconds) }
 {}
 
-/// A text has one split into units.
+/// A text is split into units in one way.
 #[tactic(auto, using(crate::proofs::StructuredDataLemmas::Units::split_one, crate::proofs::StructuredDataLemmas::Units::split_there))]
 pub fn text_has_one_split()
     ensures there { (text : Text) → (units : List TextUnit) × (lone : Bool) × SplitsUnits text units lone }
@@ -110,7 +110,7 @@ pub fn text_has_one_split()
         → SplitsUnits text units lone → SplitsUnits text others last → (units ≡ others) × (lone ≡ last) }
 {}
 
-/// A value is a text whose split has no lone backslash and no single quote.
+/// A text is the value of a parameter exactly if its split into units has no lone backslash and no single quote.
 #[tactic(auto, using(crate::proofs::StructuredDataLemmas::Units::value_split))]
 pub fn value_is_unquoted_split()
     ensures { (text : Text) → IsValue text
@@ -124,19 +124,20 @@ pub fn escapes_are_removed()
     ensures one { (text other : Text) → IsUnescaped (escaped text) other → other ≡ text }
 {}
 
-/// A text without its escapes is one text.
+/// Removing the escapes from a text gives one text.
 pub fn text_is_unescaped_once()
     ensures { (text unescaped other : Text) → IsUnescaped text unescaped → IsUnescaped text other → unescaped ≡ other }
 {}
 
-/// An iterator over parameters, called until it gives nothing, has given one item in the place of each, in order.
+/// An iterator over parameters, called until it returns nothing, has returned one item for each parameter, in order.
 #[tactic(auto, using(crate::proofs::StructuredDataLemmas::Units::param_items_drained))]
 pub fn params_are_given_in_order<S: AsStr>()
     ensures { (params : List (S × S)) (items : List (Result (Bor S × String Global) AllocError))
         → Drains (NextParam S.text) params items → AreParamItems S.text params items }
 {}
 
-/// No list of RFC 3164 begins a text exactly where neither a dash that is such a list begins it, nor an element of one.
+/// A text begins with no list of RFC 3164 exactly if it begins neither with a dash that is such a list, nor with an
+/// element of one.
 pub fn list_begins_with_dash_or_element()
     ensures { (rule : DashRule) (text : Text) → NoFront (rfc3164_list rule) text ↔ BeginsNoList rule text }
 {}
@@ -155,7 +156,7 @@ pub fn parts_compare_by_number()
         → ⟦<SyslogSeverity as Ord>⟧.cmp a b ≡ nat_cmp (severity_number a) (severity_number b) }
 {}
 
-/// Within facilities, and within severities, one name is one value, and so is one number.
+/// No two facilities have the same name or the same number, and no two severities do.
 pub fn name_is_of_one_value()
     ensures facility { (a b : SyslogFacility) → facility_name a ≡ facility_name b → a ≡ b }
     ensures severity { (a b : SyslogSeverity) → severity_name a ≡ severity_name b → a ≡ b }
@@ -163,7 +164,8 @@ pub fn name_is_of_one_value()
     ensures severity_by_number { (a b : SyslogSeverity) → severity_number a ≡ severity_number b → a ≡ b }
 {}
 
-/// Two process ids are equal exactly when they are one value over texts. So this is an equivalence.
+/// Two process ids are equal exactly when they are the same number, or names with the same text. So this is an
+/// equivalence.
 pub fn process_ids_are_equal_by_value<S: AsStr>()
     ensures exact { (a b : ProcId S) → IsTrue (⟦<ProcId<S> as PartialEq>⟧.eq a b)
         ↔ (procid_value (text_of S.text) a ≡ procid_value (text_of S.text) b) }
@@ -174,8 +176,8 @@ pub fn process_ids_are_equal_by_value<S: AsStr>()
         → IsTrue (⟦<ProcId<S> as PartialEq>⟧.eq b c) → IsTrue (⟦<ProcId<S> as PartialEq>⟧.eq a c) }
 {}
 
-/// Two elements are equal exactly when their ids are one text and the parameters of one are those of the other in some
-/// order. So this is an equivalence, and elements with one value over texts are equal.
+/// Two elements are equal exactly when their ids are the same text and the parameters of one are those of the other in
+/// some order. So this is an equivalence, and elements with the same value are equal.
 pub fn elements_are_equal_in_any_order<S: AsStr>()
     ensures exact { (a b : StructuredElement S) → IsTrue (⟦<StructuredElement<S> as PartialEq>⟧.eq a b)
         ↔ IsSameInSomeOrder (element_value (text_of S.text) a) (element_value (text_of S.text) b) }
@@ -189,8 +191,8 @@ pub fn elements_are_equal_in_any_order<S: AsStr>()
         → IsTrue (⟦<StructuredElement<S> as PartialEq>⟧.eq a b) }
 {}
 
-/// Two timestamps are equal exactly when their instants are, whatever the offsets. So this is an equivalence, with
-/// which the order agrees.
+/// Two timestamps are equal exactly when their instants are, whatever the offsets. So this is an equivalence, and the
+/// order agrees with it.
 pub fn timestamps_are_equal_by_instant()
     ensures exact { (a b : OffsetTimestamp) → IsTrue (⟦<OffsetTimestamp as PartialEq>⟧.eq a b)
         ↔ (a.instant.nanosecond ≡ b.instant.nanosecond) }
@@ -205,14 +207,14 @@ pub fn timestamps_are_equal_by_instant()
 
 // What is printed of a canonical piece is read back, and what is read is canonical.
 
-/// A number up to the limit is read back before what begins with no digit.
+/// A number up to the limit is read back from its digits, if no digit follows them.
 pub fn decimal_is_read_back()
     ensures { (n limit : ℕ) (q : Text) → n ≤ limit → limit < 2 ^ 64 → Ends is_ascii_digit q
         → (number limit).Is (decimal n) q n }
 {}
 
-/// A canonical host, or none, is read back before the end or white space; what is read before a blank is a canonical
-/// host, or none.
+/// A printed host, canonical or absent, is read back before the end or white space. What is read before a blank is a
+/// canonical host, or an absent one.
 #[tactic(auto, using(crate::proofs::TextLemmas::Words::hosts))]
 pub fn canonical_host_is_read_back()
     ensures back { (v : Option Text) (q : Text) → IfSome v IsCanonicalHost → Ends is_not_whitespace q
@@ -221,8 +223,8 @@ pub fn canonical_host_is_read_back()
         → IfSome v IsCanonicalHost }
 {}
 
-/// A canonical word, or none, is read back before the end or white space, and what is read is a canonical word, or
-/// none.
+/// A printed word, canonical or absent, is read back before the end or white space, and what is read is a canonical
+/// word, or an absent one.
 #[tactic(auto, using(crate::proofs::TextLemmas::Words::words))]
 pub fn canonical_word_is_read_back()
     ensures back { (v : Option Text) (q : Text) → IfSome v IsCanonicalWord → Ends is_not_whitespace q
@@ -230,8 +232,8 @@ pub fn canonical_word_is_read_back()
     ensures only { (p q : Text) (v : Option Text) → word.Is p q v → IfSome v IsCanonicalWord }
 {}
 
-/// A canonical process id, or none, is read back before the end or white space, and what is read is a canonical one, or
-/// none.
+/// A printed process id, canonical or absent, is read back before the end or white space, and what is read is a
+/// canonical process id, or an absent one.
 #[tactic(auto, using(crate::proofs::ProcIdLemmas::processes))]
 pub fn canonical_process_is_read_back()
     ensures back { (v : Option (ProcId Text)) (q : Text) → IfSome v IsCanonicalProcess → IfSome v IsBoundedProcess
@@ -239,7 +241,8 @@ pub fn canonical_process_is_read_back()
     ensures only { (p q : Text) (v : Option (ProcId Text)) → process_word.Is p q v → IfSome v IsCanonicalProcess }
 {}
 
-/// Canonical elements, or none, are read back as a forgiving list where no item follows, and what is read is canonical.
+/// Printed elements that are canonical, or `-` for none, are read back as a list of RFC 5424 if no item follows, and
+/// the elements that are read are canonical.
 pub fn canonical_elements_are_read_back()
     ensures back { (es : List ElementValue) (q : Text) → AllByRecursion IsCanonicalElement es → NoFront item q
         → forgiving.Is (elements_text es) q es }

@@ -1,7 +1,7 @@
-//! The priority, and the facility and the severity that it is composed of (RFC 5424 section 6.2.1).
+//! The priority, and the facility and the severity that it is composed of.
 //!
-//! The priority of a line is optional; `optional_priority` returns it and the text after it. Nothing here takes
-//! memory.
+//! **Rule.** RFC 5424 section 6.2.1, and RFC 3164 section 4.1.1, which says the same. As the Rust crate does, it also
+//! reads 192 to 255, whose facility is absent. The priority of a line is optional. Nothing here allocates.
 ghost use Rattle.std.specs.Prelude.{◌≡◌, ◌<◌, ◌≤◌, MatchOption, option_and_then, chars, encode_utf8_all};
 ghost use Rattle.syslog_pieces.specs.Words.{WritesOnOk, Front, optional, shown, Reads};
 ghost use Rattle.syslog_pieces.specs.Pri.{priority_text};
@@ -65,7 +65,7 @@ static SEVERITY_NAMES: [&str; 8] = [
 ];
 
 impl SyslogFacility {
-    /// The name, as `auth`; no two have the same one. Takes no memory.
+    /// Returns the name, as `auth`, without allocating. No two facilities have the same name.
     pub fn as_str(self) -> &'static str
         ensures { result.now ≡ encode_utf8_all (spec.facility_name self) }
     {
@@ -74,7 +74,7 @@ impl SyslogFacility {
 }
 
 impl SyslogSeverity {
-    /// The name, as `crit`; no two have the same one. Takes no memory.
+    /// Returns the name, as `crit`, without allocating. No two severities have the same name.
     pub fn as_str(self) -> &'static str
         ensures { result.now ≡ encode_utf8_all (spec.severity_name self) }
     {
@@ -131,9 +131,9 @@ fn facility_at(number: u8) -> Option<SyslogFacility>
     Some(facility)
 }
 
-/// The facility and the severity of a priority. The facility is an eighth of it, and absent from 192
-/// on; the severity is what is left of it, and always there. (RFC 5424 stops at 191; that 192 to 255
-/// keep their severity is the crate's own rule.)
+/// Returns the facility and the severity of a priority. The facility is the priority divided by 8, and is absent from
+/// 192 on; the severity is the remainder, and is always there. (RFC 5424 stops at 191; that 192 to 255 keep their
+/// severity is the Rust crate's rule.)
 pub fn decompose_pri(pri: u8) -> (Option<SyslogFacility>, Option<SyslogSeverity>)
     ensures facility { result.0 ≡ spec.facility_of pri }
     ensures severity { result.1 ≡ spec.severity_of pri }
@@ -141,8 +141,8 @@ pub fn decompose_pri(pri: u8) -> (Option<SyslogFacility>, Option<SyslogSeverity>
     (facility_at(pri / 8), Some(severity_at(pri % 8)))
 }
 
-/// Returns the facility and the severity of a priority. Both are absent where there is none, and the facility
-/// also where the priority is past 191.
+/// Returns the facility and the severity of a priority. Both are absent if the priority is, and the facility also if
+/// the priority is above 191.
 pub fn parts(priority: Option<u8>) -> (Option<SyslogFacility>, Option<SyslogSeverity>)
     ensures facility { result.0 ≡ option_and_then spec.facility_of priority }
     ensures severity { result.1 ≡ option_and_then spec.severity_of priority }
@@ -164,8 +164,8 @@ pub fn priority(text: &str) -> Option<(u8, &str)>
     Some((value as u8, rest))
 }
 
-/// Reads a priority at the front of the text, where there is one. Returns its number and the text after it, which is
-/// the whole text where there is none.
+/// Reads a priority at the front of the text, if there is one. Returns its number and the text after it, which is the
+/// whole text if there is none.
 #[inline(always)]
 pub fn optional_priority(text: &str) -> (Option<u8>, &str)
     ensures { Front (optional spec.priority) (chars text.now) (shown result.1) result.0 }
@@ -176,7 +176,7 @@ pub fn optional_priority(text: &str) -> (Option<u8>, &str)
     }
 }
 
-/// Writes the number of a priority as it prints, as `<34>`.
+/// Writes the number of a priority in printed form, as `<34>`.
 pub fn write_priority<W: fmt::Write>(f: &mut fmt::Formatter<W>, number: u32) -> fmt::Result
     ensures { WritesOnOk W.write_str_gives f.old result (priority_text number) f.new }
 {

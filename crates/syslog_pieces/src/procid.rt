@@ -1,7 +1,7 @@
 //! Process ids: a number of 32 bits, or any other text.
 //!
-//! A text is a number exactly where it is an optional sign and ASCII digits of such a number; that is the crate's rule,
-//! RFC 5424 section 6.2.6 leaves the form open.
+//! **Rule.** A text is a number exactly if it is an optional sign and ASCII digits, and the number fits into 32 bits.
+//! That is the Rust crate's rule; RFC 5424 section 6.2.6 leaves the form open.
 ghost use Rattle.std.specs.Cmp.{on_equiv, on_per, partial_equiv_from_equiv};
 ghost use Rattle.syslog_pieces.specs.Words.{on, ProcId, shown, text_of, ClonesKeepText};
 ghost use Rattle.std.specs.Prelude.{◌≡◌, ◌↔◌, IfOk, IsTrue, Some, string_bytes, chars, encode_utf8_all};
@@ -15,12 +15,12 @@ use crate::text::{begins_negative, leads_bare};
 use std::alloc::{AllocError, Global};
 use std::fmt;
 
-/// What names the process that a message is from.
+/// The process that a message is from, by number or by name.
 #[derive(Debug, Drop)]
 pub enum ProcId<S> {
     /// A number.
     PID(i32),
-    /// A text that is not the text of a number.
+    /// A text that does not write a number.
     Name(S),
 }
 
@@ -38,7 +38,7 @@ impl<S: AsStr> fmt::Display for ProcId<S> {
     }
 }
 
-// A number is equal to no name, not even to the one that writes it.
+// A number is equal to no name, not even to a name that writes it.
 impl<S: AsStr> PartialEq for ProcId<S> {
     ghost eq = { on (spec.procid_value (text_of S.text)) procid_eq };
 
@@ -58,7 +58,8 @@ impl<S: AsStr> Eq for ProcId<S> {
 }
 
 impl<S: AsStr + Clone> ProcId<S> {
-    /// A copy: the same number, or a clone of the name. An `Err` is only for memory, and nothing has changed then.
+    /// Returns a copy: the same number, or a clone of the name. It fails only if an allocation does; nothing has
+    /// changed then.
     pub fn try_clone(&self, alloc: Global) -> Result<ProcId<S>, AllocError>
         requires { ClonesKeepText S.is_clone S.text }
         ensures { IfOk result (λ copy. spec.procid_value (text_of S.text) copy
@@ -74,7 +75,8 @@ impl<S: AsStr + Clone> ProcId<S> {
 }
 
 impl ProcId<&str> {
-    /// Returns the process id with a name of its own. If an allocation fails, nothing has changed.
+    /// Returns the process id with a name of its own, so that it can outlive the input. If an allocation fails, nothing
+    /// has changed.
     pub fn to_owned_text(&self, alloc: Global) -> Result<ProcId<String>, AllocError>
         ensures { IfOk result (λ copy. spec.procid_value (text_of string_bytes) copy
             ≡ spec.procid_value (λ s. shown s) self.now) }
@@ -89,7 +91,7 @@ impl ProcId<&str> {
 impl<'a> From<&'a str> for ProcId<&'a str> {
     ghost from_gives = { λ text procid. spec.NamesProcess (chars text.now) (spec.procid_value (λ s. shown s) procid) };
 
-    // A call, because a reading call asks for the process at two places.
+    // It is a call, because a reading call asks for the process at two places.
     #[inline(never)]
     fn from(text: &'a str) -> ProcId<&'a str> {
         match text.parse::<i32>() {
@@ -99,15 +101,15 @@ impl<'a> From<&'a str> for ProcId<&'a str> {
     }
 }
 
-/// Whether the word is printed as what it names. One without a sign or a zero before other characters is, so few words
-/// are parsed for it.
+/// Returns whether the word, taken as a process id, is printed as it is. Any word is that has no sign and no zero
+/// before other characters, so few words are parsed for it.
 pub fn is_bare_word(name: &str) -> bool
     ensures { IsTrue result ↔ spec.IsBareWord (chars name.now) }
 {
     leads_bare(name.as_bytes()) || prints_as_named(name)
 }
 
-// The same, by what the word names.
+// Whether the word is printed as it is, found out by parsing it.
 #[cold]
 #[inline(never)]
 fn prints_as_named(name: &str) -> bool
@@ -119,14 +121,14 @@ fn prints_as_named(name: &str) -> bool
     }
 }
 
-/// Returns whether the text is that of a signed number of 32 bits, as `5`, `+5` or `-5`.
+/// Returns whether the text writes a signed number of 32 bits, as `5`, `+5` or `-5` do.
 pub fn names_number(text: &str) -> bool
     ensures { IsTrue result ↔ (spec.IsNoI32Text (chars text.now) → ⊥) }
 {
     matches!(ProcId::from(text), ProcId::PID(_))
 }
 
-/// Whether the process id is read back from its printed text as one of RFC 5424. Takes no memory.
+/// Returns whether the process id is read back from its printed text as the process id of RFC 5424, without allocating.
 pub fn is_canonical_process<S: AsStr>(process: &ProcId<S>) -> bool
     ensures { IsTrue result ↔ spec.IsCanonicalProcess (spec.procid_value (text_of S.text) process.now) }
 {

@@ -1,7 +1,7 @@
 //! Structured data: elements with an id and parameters (RFC 5424 section 6.3).
 //!
-//! Values stay raw, and `StructuredElement::params` takes the escapes out. Recognising an element or a list takes no
-//! memory, and time in proportion to the text; collecting it allocates.
+//! Values stay raw, and `StructuredElement::params` removes their escapes. Recognising an element or a list does not
+//! allocate, and takes time in proportion to the text; collecting the elements allocates.
 ghost use Rattle.std.specs.Prelude.{◌≡◌, ◌++◌, [], ◌∷◌, Some, encode_utf8_all};
 ghost use Rattle.syslog_pieces.specs.Words.{WritesOnOk, element_text, element_value, text_of};
 
@@ -34,19 +34,19 @@ use std::alloc::Global;
 use std::fmt;
 pub use visit::{ElementVisitor, NoElements, NoNotes, ParamNotes};
 
-/// An element: its id, and the names and the raw values of its parameters, in order. It prints with one space before
-/// each parameter, and values raw, with the escapes that they have and no others.
+/// An element of structured data: its id, and the names and the raw values of its parameters, in order. It is printed
+/// with one space before each parameter, and values are printed raw: with the escapes that they have, and no others.
 #[derive(Debug, Drop)]
 pub struct StructuredElement<S> {
     /// The id of the element, which is `SD-ID` in RFC 5424.
     pub id: S,
-    /// The names and the values of its parameters, in the order of the text.
+    /// The names and the raw values of its parameters, in the order of the text.
     pub params: Vec<(S, S)>,
 }
 
 impl<S: AsStr> StructuredElement<S> {
-    /// The parameters in order, with the escapes in their values removed. This takes no memory, but each item does; the
-    /// place of an item that is refused it holds an `Err`.
+    /// Returns an iterator over the parameters, in order, that removes the escapes in their values. Each item
+    /// allocates; if that fails, the item is an `Err`.
     pub fn params(&self, alloc: Global) -> ParamsIter<'_, S>
         ensures { result ≡ self.now.params.items }
     {
@@ -70,7 +70,7 @@ impl<S: AsStr> fmt::Display for StructuredElement<S> {
     }
 }
 
-// A space, the name, and the value between quotes.
+// Writes a space, the name, and the value between quotes.
 fn write_param<W: fmt::Write>(f: &mut fmt::Formatter<W>, name: &str, value: &str) -> fmt::Result
     ensures { WritesOnOk W.write_str_gives f.old result
         (32 ∷ (name.now ++ (61 ∷ 34 ∷ (value.now ++ (34 ∷ []))))) f.new }

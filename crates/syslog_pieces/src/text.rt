@@ -1,8 +1,11 @@
-//! White space, blanks, numbers and words.
+//! White space, blanks, numbers, words and fields.
 //!
-//! One scanner cuts the maximal run of a class of characters from the front of a text. Every reader of a word rests on
-//! it. A reader returns what its class in `specs/Text.antt` means and the rest, or nothing where no front of the text
-//! is of the class. Nothing here takes memory, and no text is copied.
+//! **Rule.** Hosts and words are those of RFC 5424 (section 6), read loosely: a run without white space, of any length,
+//! where `-` is an absent one. Fields and tag words are those of RFC 3164 (section 4) as the Rust crate reads them.
+//!
+//! One scanner cuts the maximal run of a class of characters from the front of a text, and every reader of a word rests
+//! on it. A reader returns what its class in `specs/Text.antt` means and the rest, or none if no front of the text is
+//! of the class. Nothing here allocates, and no text is copied.
 ghost use Rattle.std.specs.Prelude.{◌≡◌, ◌<◌, [], ◌∷◌, IfSome, IsTrue, Option, MatchOption, bytes_eq, chars, IsUtf8};
 ghost use Rattle.syslog_pieces.specs.Words.{has, Front, exactly, optional, run, some_run, spaced, field_seen, seen};
 ghost use Rattle.syslog_pieces.specs.Words.{shown, Reads, Skips};
@@ -26,39 +29,39 @@ pub use looks::{begins_with_digit, ends_in_colon};
 use numerals::{number_of_digits, small_digits};
 use scan::{ascii_run, is_cut, is_in};
 
-/// A class of characters, whose runs are read.
+/// A class of characters, of which runs are read.
 #[derive(Clone, Copy)]
 pub enum CharClass {
     /// ASCII digits.
     Digit,
     /// A space or a tab.
     Blank,
-    /// No white space.
+    /// Anything but white space.
     Visible,
-    /// No white space, and neither `]` nor `=`: an element's id.
+    /// Anything but white space, `]` and `=`: the characters of an element's id.
     Id,
-    /// Neither `]` nor `=`: a parameter's name.
+    /// Anything but `]` and `=`: the characters of a parameter's name.
     Name,
-    /// Neither a backslash nor a quote: what a value is mostly made of.
+    /// Anything but a backslash and a quote: what a value is mostly made of.
     Unescaped,
-    /// No `]`: what a broken element is made of.
+    /// Anything but `]`: what a broken element is made of.
     Open,
-    /// Neither a backslash nor a quote nor `]`.
+    /// Anything but a backslash, a quote and `]`.
     Inert,
-    /// No backslash.
+    /// Anything but a backslash.
     Bare,
-    /// Neither white space nor a colon: a tag word.
+    /// Anything but white space and a colon: the characters of a tag word.
     Tag,
-    /// Neither white space nor a colon nor `[`: the tag of the form `tag[id]`.
+    /// Anything but white space, a colon and `[`: the characters of the tag in `tag[id]`.
     Label,
     /// PRINTUSASCII of RFC 5424: `!` to `~`.
     Printable,
-    /// PRINTUSASCII but `=`, `]` and `"`: an SD-NAME of RFC 5424.
+    /// PRINTUSASCII without `=`, `]` and `"`: the characters of an SD-NAME of RFC 5424.
     SdName,
 }
 
 impl CharClass {
-    /// Whether the character is of the class.
+    /// Returns whether the character is of the class.
     #[inline(always)]
     pub fn has(self, c: char) -> bool
         ensures { result ≡ has self c }
@@ -81,7 +84,7 @@ impl CharClass {
     }
 }
 
-/// Splits the text after the maximal run of the class at its front, which may be empty.
+/// Returns the maximal run of the class at the front of the text, which may be empty, and the text after it.
 #[tactic(auto, using(crate::proofs::TextLemmas::Runs::split_at_end))]
 #[inline(always)]
 pub fn split_run(text: &str, class: CharClass) -> (&str, &str)
@@ -90,7 +93,7 @@ pub fn split_run(text: &str, class: CharClass) -> (&str, &str)
     text.split_at(run_end(text, class))
 }
 
-/// Returns the place after the maximal run of the class at the front of the text, in bytes.
+/// Returns how many bytes the maximal run of the class at the front of the text has.
 #[inline(always)]
 pub fn run_end(text: &str, class: CharClass) -> usize
     ensures { EndsRun (has class) text.now result }
@@ -103,8 +106,8 @@ pub fn run_end(text: &str, class: CharClass) -> usize
     }
 }
 
-// The place after a run that reaches a character past ASCII. Most visible ones are passed by their bytes, and all
-// others are looked at one by one.
+// Returns the place after a run that reaches a character past ASCII. Most visible ones are skipped by their bytes, and
+// all others are looked at one by one.
 #[cold]
 #[inline(never)]
 fn mixed_run_end(text: &str, class: CharClass) -> usize
@@ -121,7 +124,7 @@ fn mixed_run_end(text: &str, class: CharClass) -> usize
     }
 }
 
-/// The first character, and the text after it.
+/// Returns the first character, and the text after it; none if the text is empty.
 #[tactic(auto, using(std::proofs::lemmas::Str::chars_past_char))]
 #[inline(always)]
 pub fn first(text: &str) -> Option<(char, &str)>
@@ -132,7 +135,7 @@ pub fn first(text: &str) -> Option<(char, &str)>
     Some((c, all.as_str()))
 }
 
-/// The text after this ASCII character, where it begins the text.
+/// Returns the text after this ASCII character; none if the text does not begin with it.
 #[inline(always)]
 pub fn literal(text: &str, c: char) -> Option<&str>
     requires { c < 128 }
@@ -145,7 +148,7 @@ pub fn literal(text: &str, c: char) -> Option<&str>
     }
 }
 
-/// The text after a colon, where one begins it, and otherwise the whole.
+/// Returns the text after a colon at its front, and the whole text if there is none.
 #[inline(always)]
 pub fn past_colon(text: &str) -> &str
     ensures { (more : Option (Unit {0})) × Front (optional (exactly spec.colon)) (chars text.now) (shown result) more }
@@ -156,7 +159,7 @@ pub fn past_colon(text: &str) -> &str
     }
 }
 
-/// The text after the blanks at the front, of which there may be none.
+/// Returns the text after the blanks at its front, if there are any.
 #[tactic(auto, using(crate::proofs::TextLemmas::Runs::no_blanks, crate::proofs::TextLemmas::Runs::split_at_end))]
 #[inline(always)]
 pub fn blanks(text: &str) -> &str
@@ -171,7 +174,7 @@ pub fn blanks(text: &str) -> &str
     text.split_at(blanks_end(text)).1
 }
 
-/// The text after the blanks at the front, of which there is at least one.
+/// Returns the text after the blanks at its front; none if there are none.
 #[tactic(auto, using(crate::proofs::TextLemmas::Runs::some_read))]
 #[inline(always)]
 pub fn some_blanks(text: &str) -> Option<&str>
@@ -184,7 +187,7 @@ pub fn some_blanks(text: &str) -> Option<&str>
     if front.is_empty() { None } else { Some(rest) }
 }
 
-// The text after a space before no blank, which most gaps are: it needs no scan.
+// Returns the text after a space that no blank follows; none otherwise. Most gaps are so, and need no scan.
 #[inline(always)]
 pub(crate) fn past_space(text: &str) -> Option<&str>
     ensures { IfSome result (λ rest. Front (some_run spec.is_blank) (chars text.now) (shown rest) tt
@@ -197,8 +200,8 @@ pub(crate) fn past_space(text: &str) -> Option<&str>
     }
 }
 
-// The place after the blanks at the front. It is a function of its own, since few gaps need a scan. It returns a place,
-// not a text, so that no text goes through memory.
+// Returns the place after the blanks at the front. It is a function of its own, since few gaps need a scan. It returns
+// a place and not a text, so that no text goes through memory.
 #[cold]
 #[inline(never)]
 fn blanks_end(text: &str) -> usize
@@ -207,7 +210,8 @@ fn blanks_end(text: &str) -> usize
     run_end(text, CharClass::Blank)
 }
 
-/// The number at the front, up to a limit, and the text after it. Leading zeros are allowed.
+/// Returns the number at the front and the text after it; none if there is no digit, or the number is above `limit`.
+/// Leading zeros are allowed.
 #[tactic(auto, using(crate::proofs::TextLemmas::Words::number_past))]
 #[inline(always)]
 pub fn number(text: &str, limit: u32) -> Option<(u32, &str)>
@@ -217,7 +221,8 @@ pub fn number(text: &str, limit: u32) -> Option<(u32, &str)>
     (value <= limit).then_some((value, rest))
 }
 
-// The number of 32 bits at the front, and the text after it. One of one to three digits, as most are, needs no scan.
+// Returns the number of 32 bits at the front, and the text after it. One of one to three digits, as most are, needs no
+// scan.
 #[inline(always)]
 fn any_number(text: &str) -> Option<(u32, &str)>
     ensures { Reads (spec.number 4294967295) (λ n. n) (chars text.now) result }
@@ -234,7 +239,7 @@ fn any_number(text: &str) -> Option<(u32, &str)>
     Some((value, rest))
 }
 
-// The place after the digits at the front, in a function of its own for the same reason.
+// Returns the place after the digits at the front. It is a function of its own, since few numbers need a scan.
 #[cold]
 #[inline(never)]
 fn digits_end(text: &str) -> usize
@@ -251,7 +256,7 @@ fn is_byte(text: &str, byte: u8) -> bool
     matches!(text.as_bytes(), [only] if *only == byte)
 }
 
-// `-` is an absent name.
+// Returns the name that a run of characters is: none for `-`.
 #[tactic(auto, using(crate::proofs::TextLemmas::Words::dash_told))]
 #[inline(always)]
 fn named(run: &str) -> Option<&str>
@@ -260,7 +265,8 @@ fn named(run: &str) -> Option<&str>
     if is_byte(run, b'-') { None } else { Some(run) }
 }
 
-/// The word of RFC 5424 at the front (app name, process id or message id), absent for `-`, and the text after it.
+/// Returns the word of RFC 5424 at the front, absent if it is `-`, and the text after it; none if there is no word. App
+/// name, process id and message id are words.
 #[inline(always)]
 pub fn word(text: &str) -> Option<(Option<&str>, &str)>
     ensures { Reads spec.word seen (chars text.now) result }
@@ -275,7 +281,8 @@ pub fn word(text: &str) -> Option<(Option<&str>, &str)>
     Some((named(run), rest))
 }
 
-/// The host at the front, absent for `-`, and the text after it. The last colon of a run is left to that text.
+/// Returns the host at the front, absent if it is `-`, and the text after it; none if there is no host. If the host
+/// ends in colons, the last one is left to the text after it.
 #[tactic(auto, using(crate::proofs::TextLemmas::Words::host_reads))]
 #[inline(always)]
 pub fn host(text: &str) -> Option<(Option<&str>, &str)>
@@ -295,7 +302,8 @@ pub fn host(text: &str) -> Option<(Option<&str>, &str)>
     Some((Some(front), after))
 }
 
-/// The tag word of RFC 3164 at the front, empty for `-`, and the text after it.
+/// Returns the tag word of RFC 3164 at the front, empty if it is `-`, and the text after it; none if there is no tag
+/// word.
 #[inline(always)]
 pub fn tag_word(text: &str) -> Option<(Option<&str>, &str)>
     ensures { Reads spec.tag_word seen (chars text.now) result }
@@ -307,7 +315,7 @@ pub fn tag_word(text: &str) -> Option<(Option<&str>, &str)>
     Some((named(run), rest))
 }
 
-/// A field of RFC 3164, which a space begins.
+/// A field of RFC 3164: a space, and a host or a tag word.
 #[derive(Clone, Copy)]
 pub enum Field<'a> {
     /// There is no such field.
@@ -323,7 +331,7 @@ impl<'a> Field<'a> {
     ghost use Rattle.std.specs.Option.{is_some, option_flatten};
     ghost use Rattle.syslog_pieces.specs.Words.{field_seen, seen};
 
-    // The field of a name, which is absent for `-`.
+    // Returns the field with this name, which is absent for `-`.
     #[inline(always)]
     fn of(name: Option<&'a str>) -> Field<'a>
         ensures { field_seen result ≡ Some (seen name.entry) }
@@ -342,7 +350,7 @@ impl<'a> Field<'a> {
         !matches!(self, Field::Missing)
     }
 
-    /// Returns the name, absent for `-` and where there is no field.
+    /// Returns the name; none if the field is `-` or missing.
     #[inline(always)]
     pub fn name(self) -> Option<&'a str>
         ensures { seen result ≡ option_flatten (field_seen self.entry) }
@@ -354,7 +362,7 @@ impl<'a> Field<'a> {
     }
 }
 
-/// Returns the host field of RFC 3164, where a space and a host begin the text, and the text after it.
+/// Returns the host field of RFC 3164, and the text after it. The field is there if a space and a host begin the text.
 #[inline(always)]
 pub fn host_field(text: &str) -> (Field<'_>, &str)
     ensures { Front (optional (spaced spec.host)) (chars text.now) (shown result.1) (field_seen result.0) }
@@ -368,7 +376,8 @@ pub fn host_field(text: &str) -> (Field<'_>, &str)
     }
 }
 
-/// Returns the tag field of RFC 3164, where a space and a tag word begin the text, and the text after it.
+/// Returns the tag field of RFC 3164, and the text after it. The field is there if a space and a tag word begin the
+/// text.
 #[inline(always)]
 pub fn tag_field(text: &str) -> (Field<'_>, &str)
     ensures { Front (optional (spaced spec.tag_word)) (chars text.now) (shown result.1) (field_seen result.0) }
@@ -382,7 +391,7 @@ pub fn tag_field(text: &str) -> (Field<'_>, &str)
     }
 }
 
-/// The text without the white space at its two ends.
+/// Returns the text without the white space at its two ends.
 #[tactic(auto, using(crate::proofs::TextLemmas::Runs::bare_trimmed))]
 #[inline(always)]
 pub fn trimmed(text: &str) -> &str
@@ -404,7 +413,7 @@ fn trim(text: &str) -> &str
     text.trim()
 }
 
-// Whether the first and the last byte are ASCII and no white space.
+// Whether the first and the last byte are ASCII and not white space.
 #[inline(always)]
 fn is_bare(bytes: &[u8]) -> bool
     ensures { IsTrue result → IsBare bytes.now }

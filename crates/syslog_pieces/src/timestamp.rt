@@ -1,14 +1,17 @@
 //! An instant with an offset: read from an RFC 3339 text or from a month date, compared, and printed.
 //!
-//! **Rule.** Month dates are those of RFC 3164 (`month_date`), read in a zone (`zone`). The other
-//! texts are those of RFC 3339 section 5.6, `date-time`. This project's own choices are: second 60,
-//! in any minute, is read as second 59 with its fraction kept; decimals past nine are cut off; `Z`
-//! and a zero offset of either sign are the offset 0; an instant outside the range of
-//! `jiff::Timestamp` is refused; the printed form is the one that [`OffsetTimestamp`] describes.
+//! **Rule.** Month dates are those of RFC 3164 (`month_date`), read in a zone (`zone`). The other texts are those of
+//! RFC 3339 section 5.6, `date-time`. These are this project's own choices:
 //!
-//! **For the floor above.** [`header_stamp`] reads exactly the class `header_stamp`, which begins with `-` or a digit,
-//! and `month_date` exactly the class `month_date`, which begins with a letter. `zone::month_stamp` returns the
-//! timestamp of a month date. Display writes `printed_stamp`. Equality and order look at the instant alone.
+//! - Second 60, in any minute, is read as second 59 with its fraction kept.
+//! - Decimals past nine are cut off.
+//! - `Z` and a zero offset of either sign are the offset 0.
+//! - An instant outside the range of `jiff::Timestamp` does not parse.
+//! - The printed form is the one that [`OffsetTimestamp`] describes.
+//!
+//! **For callers.** [`header_stamp`] reads exactly the class `header_stamp`, which begins with `-` or a digit, and
+//! `month_date` exactly the class `month_date`, which begins with a letter. `zone::month_stamp` returns the timestamp
+//! of a month date. Display writes `printed_stamp`. Equality and order look at the instant alone.
 ghost use Rattle.std.proofs.Common.{rules};
 ghost use Rattle.std.specs.Cmp.{partial_order_from_own_ties};
 ghost use Rattle.std.specs.Cmp.Rules.{comparing};
@@ -38,10 +41,10 @@ pub use zone::year_at;
 
 /// An instant, and how far the clock that showed it is ahead of UTC.
 ///
-/// It prints the civil time at the offset as `YYYY-MM-DDTHH:MM:SS` (a negative year as `-` and four
-/// digits), then a fraction of 0, 3, 6 or 9 decimals, the least that is exact, then the offset as a
-/// sign and `HH:MM`. Zero is `+00:00` and never `Z`. An offset with seconds is rounded to the
-/// nearest minute, 30 seconds going away from zero, and keeps its own sign.
+/// It is printed as the civil time at the offset, `YYYY-MM-DDTHH:MM:SS` (a negative year as `-` and four digits). Then
+/// comes a fraction of 0, 3, 6 or 9 decimals, the least that is exact, and the offset as a sign and `HH:MM`. Zero is
+/// `+00:00` and never `Z`. An offset with seconds is rounded to the nearest minute, 30 seconds going away from zero,
+/// and keeps its own sign.
 ///
 /// Equality and order look at the instant alone.
 #[derive(Clone, Copy, Debug)]
@@ -52,8 +55,8 @@ pub struct OffsetTimestamp {
     pub offset: Offset,
 }
 
-/// Reads the timestamp at the front of a header's text, absent for `-`. Returns it and the rest. A text that begins
-/// with `-` is never more than that.
+/// Reads the timestamp at the front of a header's text. Returns it, absent if it is `-`, and the rest; none if no
+/// timestamp begins the text. A text that begins with `-` is never read further than that.
 #[inline(always)]
 pub fn header_stamp(text: &str) -> Option<(Option<ClockStamp>, &str)>
     ensures { Reads spec.header_stamp stamp_seen (chars text.now) result }

@@ -3,7 +3,7 @@ use crate::bad_row;
 use std::alloc::Global;
 use std::io;
 
-/// A block, and the part that `…` stands for in its values.
+/// A block, and the part that `…` represents in its values.
 #[derive(Drop)]
 pub struct Block<'a> {
     pub text: &'a str,
@@ -29,7 +29,7 @@ impl<'a> Block<'a> {
         found
     }
 
-    /// The text that a value stands for: `<U+00A0>` is that character, and `…` the part that is repeated.
+    /// Returns the text that a value represents: `<U+00A0>` is that character, and `…` the part that is repeated.
     pub fn text_of(&self, alloc: Global, value: &str) -> io::Result<String> {
         let mut text = String::new(alloc);
         let mut pieces = value.split("<U+");

@@ -28,7 +28,7 @@ pub fn bad_row() -> io::Error {
     io::Error::from(io::ErrorKind::InvalidInput)
 }
 
-// What comes of the text that a line's value stands for.
+// Writes what comes of the text that a line's value represents.
 fn write_answer<W: Write>(
     alloc: Global,
     out: &mut W,

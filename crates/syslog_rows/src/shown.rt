@@ -2,7 +2,7 @@
 use std::fmt;
 
 /// A text on one line. A character that is neither of ASCII from the space to `~` nor a letter is written as
-/// `<U+00A0>`, and so is a space at either end; the part that a block repeats, where there is one, as `…`.
+/// `<U+00A0>`, and so is a space at either end. The part that a block repeats, if there is one, is written as `…`.
 #[derive(Clone, Copy)]
 pub struct Shown<'a> {
     pub text: &'a str,

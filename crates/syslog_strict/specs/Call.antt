@@ -37,6 +37,6 @@ Converts variant dating input result text = NoSyslogMsg input
     × MatchResult result (λ _. IsConvertedText variant dating input text)
     (λ fault. (fault ≡ Invalid) ↔ IsUnreadable variant dating input)
 
--- the input is in the grammar, and is the text, or there was no memory for it
+-- the input is in the grammar, and is the text, or an allocation for it failed
 abbrev pub Copies : Text → Result (Unit {0}) ParseFault → Text → Type 0
 Copies input result text = IsSyslogMsg input × MatchResult result (λ _. text ≡ input) (λ fault. fault ≡ Memory)

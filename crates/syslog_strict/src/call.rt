@@ -17,10 +17,10 @@ use syslog_loose::{IncompleteDate, ParseFault, TimeZone, Variant, parse_line};
 /// Replaces `text` by the input as strict RFC 5424: the input itself if it is in the grammar of section 6, and
 /// otherwise its message, converted. What was left unparsed of the structured data comes before the message part.
 ///
-/// `get_year` gives the year of a date that has none: it is called at most once, and only where the text shows such a
-/// date and the variant reads it. `tz` is the zone of a date without an offset, and `local` is taken where that is
-/// absent. A text that is not in the grammar and does not parse is `Invalid`, and never `Memory`. After an `Err` what
-/// `text` holds is open.
+/// `get_year` gives the year of a date that has none. It is called at most once, and only if the text shows such a date
+/// and the variant reads it. `tz` is the zone of a date without an offset; `local` is used if that is absent. For a
+/// text that is not in the grammar and does not parse it returns `Invalid`, and never `Memory`. After an `Err`, `text`
+/// may hold anything.
 pub fn to_rfc5424_into<F: FnOnce(IncompleteDate) -> i32>(
     alloc: Global,
     text: &mut String,
@@ -53,7 +53,7 @@ fn copy(text: &mut String, input: &str) -> Result<(), ParseFault>
     }
 }
 
-// Writes the message of the text, which is not in the grammar, converted.
+// Writes the converted message of a text that is not in the grammar.
 #[inline(always)]
 fn convert<F: FnOnce(IncompleteDate) -> i32>(
     alloc: Global,
@@ -78,7 +78,7 @@ fn convert<F: FnOnce(IncompleteDate) -> i32>(
     }
 }
 
-/// The text as RFC 5424 in memory of its own, as `to_rfc5424_into` writes it.
+/// Returns the text as strict RFC 5424 in a new `String`, as `to_rfc5424_into` writes it.
 pub fn to_rfc5424<F: FnOnce(IncompleteDate) -> i32>(
     alloc: Global,
     input: &str,

@@ -1,4 +1,4 @@
-//! A line as RFC 5424.
+//! Writes a line as strict RFC 5424.
 ghost use Rattle.std.specs.Prelude.{◌≡◌, ◌∷◌, OnOk, ℕ};
 ghost use Rattle.std.specs.Str.{chars};
 ghost use Rattle.syslog_pieces.specs.Pieces.Class.{Text};
@@ -18,10 +18,10 @@ use std::alloc::{AllocError, Global};
 use syslog_loose::Line;
 use syslog_pieces::text::first;
 
-// What a converted line may have beyond the rest of the line.
+// How many bytes a converted line may have beyond the rest of the line.
 const MORE: usize = 96;
 
-// Appends a space, where both texts are there.
+// Appends a space if neither text is empty.
 fn push_gap(out: &mut String, before: &str, after: &str) -> Result<(), AllocError>
     ensures { OnOk result (Appends out.old (gap_between (chars before.now) (chars after.now)) out.new) }
 {
@@ -31,7 +31,7 @@ fn push_gap(out: &mut String, before: &str, after: &str) -> Result<(), AllocErro
     }
 }
 
-// Appends a space, where the text is there.
+// Appends a space if the text is not empty.
 fn push_space_before(out: &mut String, after: &str) -> Result<(), AllocError>
     ensures { (c : ℕ) (t : Text) → OnOk result (Appends out.old (gap_between (c ∷ t) (chars after.now)) out.new) }
 {
@@ -52,7 +52,7 @@ fn push_unparsed(out: &mut String, unparsed: &str, msg: &str) -> Result<(), Allo
     push_text(out, msg)
 }
 
-// Appends what was left unparsed of structured data, where something was, and then the message part.
+// Appends what was left unparsed of structured data, if anything was, and then the message part.
 #[inline(always)]
 fn push_msg(out: &mut String, unparsed: Option<&str>, msg: &str) -> Result<(), AllocError>
     ensures { (left : Text) → seen unparsed.entry ≡ if_any left

@@ -1,4 +1,4 @@
-//! Structured data, as RFC 5424 has it.
+//! Writes structured data as strict RFC 5424 (section 6.3) has it.
 ghost use Rattle.std.specs.Prelude.{◌≡◌, [], ◌∷◌, OnOk, map, if◌then◌else◌};
 ghost use Rattle.std.specs.List.{flat_map};
 ghost use Rattle.std.specs.Str.{chars};
@@ -17,7 +17,7 @@ use syslog_pieces::text::{CharClass, first, split_run};
 // How many characters an id or a name has at most.
 const NAME: usize = 32;
 
-// The text, or `?` where it is empty.
+// Returns the text, or `?` if it is empty.
 #[tactic(auto, using(crate::proofs::ElementLemmas::chars_mark))]
 #[inline(always)]
 fn or_mark(text: &str) -> &str
@@ -37,7 +37,7 @@ pub(crate) fn push_name(out: &mut String, name: &str) -> Result<(), AllocError>
     push_cleaned(out, or_mark(name), Kept::SdName, NAME)
 }
 
-// Appends a character after a backslash that was read.
+// Appends the character that a backslash is before.
 fn push_pair(out: &mut String, c: char) -> Result<(), AllocError>
     ensures { OnOk result (Appends out.old (if is_escaped c then 92 ∷ c ∷ [] else 92 ∷ 92 ∷ c ∷ []) out.new) }
 {

@@ -1,4 +1,4 @@
-//! Ids that came before, of which the first few are compared one by one, without memory.
+//! The ids of the elements before. The first few are compared one by one, without allocating.
 ghost use Rattle.std.specs.Prelude.{◌≡◌, ◌++◌, ◌∷◌, [], false, true, IfOk, List, MatchBool, map};
 ghost use Rattle.std.specs.Str.{chars};
 ghost use Rattle.syslog_pieces.specs.Pieces.Class.{Text};
@@ -11,7 +11,7 @@ use std::alloc::{AllocError, Global};
 use std::collections::BTreeSet;
 use syslog_pieces::as_str::is_same_text;
 
-/// Ids that came before.
+/// The ids of the elements before.
 #[derive(Drop)]
 pub(crate) struct Ids<'a> {
     few: ArrayVec<&'a str, 8>,
@@ -19,7 +19,7 @@ pub(crate) struct Ids<'a> {
 }
 
 impl<'a> Ids<'a> {
-    /// No ids.
+    /// Returns an empty set of ids.
     #[tactic(auto, using(crate::proofs::ValidLemmas::seen_none))]
     #[inline(always)]
     pub(crate) fn new(alloc: Global) -> Ids<'a>
@@ -31,7 +31,7 @@ impl<'a> Ids<'a> {
         }
     }
 
-    /// Adds the id, and returns whether it did not come before.
+    /// Adds the id, and returns whether it is a new one.
     #[inline(always)]
     pub(crate) fn insert(&mut self, id: &'a str) -> Result<bool, AllocError>
         ensures { (seen : List Text) → HasSeen self.old seen

@@ -1,4 +1,4 @@
-//! The elements of a line, those with one id joined: the parameters of each id are gathered in one pass.
+//! The elements of a line, joined by their ids: the parameters of each id are gathered in one pass.
 ghost use Rattle.std.specs.Prelude.{◌≡◌, ◌++◌, ◌∷◌, [], ℕ, cond, if◌then◌else◌, is_some, IfOk, List, None, OnOk, map};
 ghost use Rattle.std.specs.Prelude.{string_bytes};
 ghost use Rattle.std.specs.BTreeMap.{get_by_text};
@@ -24,7 +24,7 @@ struct Joined {
 }
 
 impl Joined {
-    // No elements.
+    // Returns the state with no elements.
     fn new(alloc: Global) -> Joined
         ensures { HasJoined result [] }
     {
@@ -34,7 +34,7 @@ impl Joined {
         }
     }
 
-    // Takes out the parameters of this id, of which there are none where it is new.
+    // Takes out the parameters of this id. There are none if it is a new one.
     fn take(&mut self, alloc: Global, id: &String) -> Result<String, AllocError>
         ensures ids { OnOk result (map (λ s. text_in s) self.new.ids.items
             ≡ map (λ s. text_in s) self.old.ids.items
@@ -100,7 +100,7 @@ impl Joined {
     }
 }
 
-// Appends the elements, those with one id as one. It takes memory for the ids and the parameters.
+// Appends the elements, those with one id as one. It allocates for the ids and the parameters.
 fn push_many(alloc: Global, out: &mut String, list: &ElementList<'_>) -> Result<(), AllocError>
     ensures { OnOk result (Appends out.old (joined_elements (converted_elements (list_elements list.now))) out.new) }
 {
@@ -111,9 +111,9 @@ fn push_many(alloc: Global, out: &mut String, list: &ElementList<'_>) -> Result<
     joined.push_to(out)
 }
 
-/// Appends the elements, or `-` where there are none. Elements that are in the grammar are copied.
+/// Appends the elements, or `-` if there are none. Elements that are in the grammar are copied.
 ///
-/// The list is no reference: while one was taken, the whole line would be kept in memory.
+/// The list is passed by value: if a reference to it were taken, the whole line would be kept in memory.
 pub(crate) fn push_list(
     alloc: Global,
     out: &mut String,

@@ -1,4 +1,5 @@
-//! Laws of the grammar and of the conversion, over their definitions alone.
+//! Laws of the grammar and of the conversion, over their definitions alone: each function does nothing, and its
+//! contract is the law.
 ghost use Rattle.std.specs.Prelude.{◌≡◌, ◌⊎◌, [], IfSome};
 ghost use Rattle.syslog_pieces.specs.Pieces.Class.{Text};
 ghost use Rattle.syslog_pieces.specs.ProcId.{IsBoundedProcess};
@@ -17,7 +18,7 @@ ghost use Rattle.syslog_strict.specs.Grammar.{IsSyslogMsg};
 ghost use Rattle.syslog_strict.specs.Value.{meaning};
 
 /// The printed text of each converted message is in the grammar of RFC 5424, whether the message was read or not. A
-/// number that is a process id has 32 bits, as in the program.
+/// process id that is a number has 32 bits, as in the program.
 pub fn converted_text_is_in_the_grammar()
     ensures { (m : MessageValue) → IfSome m.procid IsBoundedProcess → IsSyslogMsg (printed (converted m)) }
 {}
@@ -37,8 +38,7 @@ pub fn converted_text_is_read_back()
         → Leaves Either (printed (converted (whole m unparsed))) [] }
 {}
 
-/// What was converted stays: whatever the call may write of a converted text, whatever the year and zones, is that
-/// text.
+/// A converted text is not changed again: whatever the call may write for it, in any year and any zones, is that text.
 /// And a converted message prints as its own conversion does.
 #[tactic(auto, using(crate::proofs::ConversionLaws::printed_again))]
 pub fn converted_text_stays()
@@ -48,8 +48,8 @@ pub fn converted_text_stays()
     ensures message { (m : MessageValue) → printed (converted (converted m)) ≡ printed (converted m) }
 {}
 
-/// A converted value means what the value meant, as the RFC reads both: so `\n` is a backslash and an `n` before and
-/// after. And without its escapes, as this project removes them, it is what the RFC reads.
+/// A converted value means what the value meant, as the RFC reads both: a `\n` is a backslash and an `n` before and
+/// after. With its escapes removed as this project does it, it is what the RFC reads.
 #[tactic(auto, using(crate::proofs::ValueLemmas::value_keeps_its_meaning, crate::proofs::ValueLemmas::converted_is_unescaped))]
 pub fn converted_value_keeps_its_meaning()
     ensures same { (value : Text) → meaning (converted_value value) ≡ meaning value }

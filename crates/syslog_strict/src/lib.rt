@@ -1,4 +1,7 @@
-//! Syslog lines as RFC 5424, by the letter of its grammar.
+//! Syslog lines as strict RFC 5424, in the grammar of its section 6.
+//!
+//! `specs/Grammar.antt` has the grammar, rule by rule. How a field is converted is this project's own choice, which
+//! `docs/GRAMMAR.md` describes.
 #![tactic(auto)]
 
 mod call;

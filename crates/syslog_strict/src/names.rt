@@ -1,4 +1,4 @@
-//! Host, app name, process id and message id, as RFC 5424 has them.
+//! Writes host, app name, process id and message id as strict RFC 5424 (section 6.2) has them.
 ghost use Rattle.std.specs.Prelude.{◌≡◌, ◌≢◌, ◌⊎◌, ◌<◌, [], MatchBool, OnOk, if◌then◌else◌};
 ghost use Rattle.std.specs.Option.{option_and_then, option_map};
 ghost use Rattle.std.specs.Fmt.{signed_decimal};
@@ -17,12 +17,12 @@ use syslog_pieces::as_str::is_same_text;
 use syslog_pieces::procid::{ProcId, is_bare_word};
 use syslog_pieces::text::{ends_in_colon, first};
 
-// How many characters a host has at most, and a process id.
+// How many characters a host has at most, and a process id too.
 const HOST: usize = 255;
 
 const PROCESS: usize = 128;
 
-/// Appends the host.
+/// Appends the host, or `-` for an absent one.
 #[inline(always)]
 pub(crate) fn push_host(out: &mut String, host: Option<&str>) -> Result<(), AllocError>
     ensures { OnOk result (Appends out.old (name_text (option_and_then converted_host (seen host.entry))) out.new) }
@@ -78,7 +78,7 @@ fn push_host_chars(out: &mut String, host: &str) -> Result<(), AllocError>
     Ok(())
 }
 
-// Whether no more than one character was left to take, or the text ends.
+// Whether at most one more character is taken, or the text ends.
 #[inline(always)]
 fn is_last_char(left: usize, more: &str) -> bool
     ensures { MatchBool result ((left ≡ 1) ⊎ (chars more.now ≡ [])) ((left ≢ 1) × (chars more.now ≢ [])) }
@@ -89,7 +89,7 @@ fn is_last_char(left: usize, more: &str) -> bool
     is_no_text(more)
 }
 
-// The character of a host, where a last colon becomes `?`.
+// Returns the character of a host as it is written: a last colon becomes `?`.
 #[inline(always)]
 fn host_char(c: char, is_last: bool) -> char
     ensures { result ≡ if is_last then kept_char no_colon (kept_char is_printusascii c) else kept_char is_printusascii c }
@@ -98,7 +98,7 @@ fn host_char(c: char, is_last: bool) -> char
     if is_last && c == ':' { '?' } else { c }
 }
 
-/// Appends an app name or a message id.
+/// Appends an app name or a message id, or `-` for an absent one.
 #[inline(always)]
 pub(crate) fn push_word(out: &mut String, word: Option<&str>, most: usize) -> Result<(), AllocError>
     requires { 1 < most }
@@ -125,7 +125,7 @@ fn push_word_text(out: &mut String, word: &str, most: usize) -> Result<(), Alloc
     push_cleaned(out, word, Kept::Printable, most)
 }
 
-/// Appends the process id that the text names.
+/// Appends the process id that the text names, or `-` for an absent one.
 #[inline(always)]
 pub(crate) fn push_process(
     alloc: Global,
@@ -141,7 +141,7 @@ pub(crate) fn push_process(
     }
 }
 
-// Appends the process id that this text names: the text itself, where that is in the grammar and printed as it is.
+// Appends the process id that this text names: the text itself, if that is in the grammar and printed as it is.
 #[inline(always)]
 fn push_process_text(alloc: Global, out: &mut String, word: &str) -> Result<(), AllocError>
     ensures { OnOk result (Appends out.old (process_text (converted_process (named_process (chars word.now)))) out.new) }

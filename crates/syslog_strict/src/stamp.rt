@@ -1,4 +1,4 @@
-//! The front of a line of RFC 5424: priority, version and timestamp.
+//! Writes the front of a line of strict RFC 5424: priority, version and timestamp.
 ghost use Rattle.std.specs.Prelude.{◌≡◌, ◌+◌, ◌*◌, ◌<◌, ◌++◌, ◌∷◌, [], true, false, IfSome, IsTrue, MatchOption, OnOk};
 ghost use Rattle.std.specs.Prelude.{Some, unwrap_or};
 ghost use Rattle.std.specs.Fmt.{decimal};
@@ -21,7 +21,8 @@ use syslog_loose::{
 use syslog_pieces::front::Ascii;
 use syslog_pieces::timestamp::canonical::{is_canonical_clock, is_canonical_stamp};
 
-// The number of the priority: `user` and `notice` where a part is absent (RFC 3164 section 4.3.3).
+// Returns the number of the priority: an absent facility is `user` and an absent severity `notice` (RFC 3164 section
+// 4.3.3).
 #[inline(always)]
 fn strict_priority(facility: Option<SyslogFacility>, severity: Option<SyslogSeverity>) -> u32
     ensures number { result
@@ -39,7 +40,7 @@ fn strict_priority(facility: Option<SyslogFacility>, severity: Option<SyslogSeve
     facility * 8 + severity
 }
 
-// Whether the timestamp, where there is one, has no more than microseconds.
+// Whether the timestamp, if there is one, has no more than microseconds.
 #[tactic(auto, using(crate::proofs::StampLemmas::has_micros))]
 #[inline(always)]
 fn has_micros(clock: &Option<ClockStamp>) -> bool
@@ -51,7 +52,7 @@ fn has_micros(clock: &Option<ClockStamp>) -> bool
     }
 }
 
-// The instant without what is finer than microseconds.
+// Returns the instant without what is finer than microseconds.
 fn cut_instant(instant: Timestamp) -> Timestamp
     ensures { result.nanosecond ≡ micros instant.nanosecond }
 {
@@ -62,7 +63,7 @@ fn cut_instant(instant: Timestamp) -> Timestamp
     }
 }
 
-// Whether RFC 5424 has a text for the timestamp.
+// Whether RFC 5424 can write the timestamp.
 fn is_strict(stamp: &OffsetTimestamp) -> bool
     ensures { result ≡ has_text stamp.now }
 {
@@ -72,7 +73,7 @@ fn is_strict(stamp: &OffsetTimestamp) -> bool
     })
 }
 
-// The instant, cut to microseconds, at this offset, where RFC 5424 has a text for it.
+// Returns the instant, cut to microseconds, at this offset; none if RFC 5424 can't write it.
 fn cut_at(instant: Timestamp, offset: Offset) -> Option<OffsetTimestamp>
     ensures { (s : OffsetValue) → IsCutAt instant.nanosecond offset.seconds s
         → MatchOption result (has_text s ≡ false) (λ t. (has_text s ≡ true)
@@ -86,7 +87,7 @@ fn cut_at(instant: Timestamp, offset: Offset) -> Option<OffsetTimestamp>
     if is_strict(&stamp) { Some(stamp) } else { None }
 }
 
-// The timestamp cut to microseconds; where RFC 5424 has no text for it, in UTC, or absent.
+// Returns the timestamp cut to microseconds. If RFC 5424 can't write it, it is in UTC instead, or absent.
 #[cold]
 fn strict_stamp(stamp: &OffsetTimestamp) -> Option<OffsetTimestamp>
     ensures { timestamp_text result ≡ timestamp_text (converted_stamp stamp.now) }
@@ -123,7 +124,7 @@ fn push_converted(
     }
 }
 
-// Appends a timestamp as it prints.
+// Appends a timestamp in printed form, or `-` for an absent one.
 fn push_stamp(out: &mut String, stamp: Option<OffsetTimestamp>) -> Result<(), AllocError>
     ensures { OnOk result (Appends out.old (timestamp_text stamp) out.new) }
 {
@@ -136,7 +137,7 @@ fn push_stamp(out: &mut String, stamp: Option<OffsetTimestamp>) -> Result<(), Al
     }
 }
 
-/// Appends the priority, the version and the timestamp of the line's message, as RFC 5424 has them.
+/// Appends the priority, the version and the timestamp of the line's message, as strict RFC 5424 has them.
 #[inline(always)]
 pub(crate) fn push_front(out: &mut String, line: &Line<'_>) -> Result<(), AllocError>
     ensures { OnOk result (Appends out.old (front_text (priority_of (converted (line_value line.now)))

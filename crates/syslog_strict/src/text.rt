@@ -1,4 +1,4 @@
-//! Texts that are appended, as they are or with what a class lacks as `?`.
+//! Texts that are appended as they are, or with `?` for each character that a class lacks.
 ghost use Rattle.std.specs.Prelude.{◌≡◌, [], ◌∷◌, IsTrue, OnOk};
 ghost use Rattle.std.specs.Str.{chars};
 ghost use Rattle.syslog_strict.specs.Conversion.{cleaned as cleaned_text, kept_char};
@@ -7,12 +7,12 @@ ghost use Rattle.syslog_strict.specs.Pushing.{Appends, keeps};
 use std::alloc::AllocError;
 use syslog_pieces::text::first;
 
-/// Which characters a name keeps.
+/// A class of characters that a name keeps.
 #[derive(Clone, Copy)]
 pub(crate) enum Kept {
     /// PRINTUSASCII.
     Printable,
-    /// PRINTUSASCII but `=`, `]` and `"`.
+    /// PRINTUSASCII without `=`, `]` and `"`.
     SdName,
 }
 
@@ -28,7 +28,7 @@ impl Kept {
         }
     }
 
-    // The character where it is kept, and otherwise `?`.
+    // Returns the character if it is kept, and otherwise `?`.
     #[inline(always)]
     pub(crate) fn kept(self, c: char) -> char
         ensures { result ≡ kept_char (keeps self) c }
@@ -48,14 +48,16 @@ impl Kept {
     }
 }
 
-/// Appends a character. A function of its own, so that its clause speaks of characters where `push` speaks of bytes.
+/// Appends a character. It is a function of its own, so that its clause speaks of characters where `push` speaks of
+/// bytes.
 pub(crate) fn push_char(out: &mut String, c: char) -> Result<(), AllocError>
     ensures { OnOk result (Appends out.old (c ∷ []) out.new) }
 {
     out.push(c)
 }
 
-/// Appends a text as it is. It is apart, so that its clause speaks of characters where `push_str` speaks of bytes.
+/// Appends a text as it is. It is a function of its own, so that its clause speaks of characters where `push_str`
+/// speaks of bytes.
 #[inline(always)]
 pub(crate) fn push_text(out: &mut String, text: &str) -> Result<(), AllocError>
     ensures { OnOk result (Appends out.old (chars text.now) out.new) }
@@ -63,7 +65,7 @@ pub(crate) fn push_text(out: &mut String, text: &str) -> Result<(), AllocError>
     out.push_str(text)
 }
 
-/// Whether each character of the text is kept, and there are at most that many.
+/// Whether each character of the text is kept, and there are at most `most` of them.
 #[inline(always)]
 pub(crate) fn is_kept(text: &str, kept: Kept, most: usize) -> bool
     ensures same { IsTrue result → cleaned_text (keeps kept) most (chars text.now) ≡ chars text.now }
@@ -83,7 +85,7 @@ pub(crate) fn is_kept(text: &str, kept: Kept, most: usize) -> bool
     true
 }
 
-/// Appends the text with each character that isn't kept as `?`, cut to at most that many characters.
+/// Appends the text, cut to at most `most` characters, with `?` for each character that isn't kept.
 #[inline(always)]
 pub(crate) fn push_cleaned(
     out: &mut String,

@@ -1,7 +1,7 @@
-//! Whether a text is in the grammar of RFC 5424 (section 6) already.
+//! Whether a text is in the grammar of RFC 5424 (section 6).
 //!
-//! A reader is named after its rule. It returns the text after a piece of the rule's class in `specs/Grammar.antt`, or
-//! nothing if the text does not begin with one.
+//! Each reader is named after its rule of the ABNF. It returns the text after a piece of the rule's class in
+//! `specs/Grammar.antt`, or none if the text does not begin with one.
 ghost use Rattle.std.specs.Prelude.{◌↔◌, ◌∷◌, [], IsTrue};
 ghost use Rattle.std.specs.Str.{chars};
 ghost use Rattle.syslog_pieces.specs.Pieces.Class.{Row, exactly, optional, rest as rest_class, spaced};
@@ -113,7 +113,7 @@ fn header(text: &str) -> Option<&str>
         .and_then(sp)
 }
 
-// Whether the text is `SP MSG`, or nothing.
+// Whether the text is `SP MSG`, or empty.
 #[inline(always)]
 fn is_spaced_msg(text: &str) -> bool
     ensures { IsTrue result ↔ (grammar.IsAll (optional (spaced rest_class)) (chars text.now)) }

@@ -14,24 +14,24 @@ use syslog_command_line::{is_alone, read_year, read_year_words};
 pub enum Output {
     /// Each line that is a message, in its stable printed form.
     Settled,
-    /// Each that reads differently under the two rules of the dash, as it came.
+    /// Each line that reads differently under the two rules of the dash, as it came.
     Changed,
-    /// Each that has no stable printed form, as it came.
+    /// Each line that has no stable printed form, as it came.
     Refused,
 }
 
 /// What the program is asked for.
 #[derive(Clone, Copy)]
 pub enum Task {
-    /// How it is called.
+    /// To write how it is called.
     Help,
-    /// Its version.
+    /// To write its version.
     Version,
-    /// These lines, in this year.
+    /// To write these lines, with dates completed in this year.
     Lines(Output, i32),
 }
 
-/// Reads `YEAR` or `--changed YEAR`: whether the lines that changed are wanted, and the year. Returns none for other
+/// Reads `YEAR` or `--changed YEAR`. Returns whether the lines that changed are wanted, and the year; none for other
 /// words.
 pub fn read_args(args: &[&str]) -> Option<(bool, i32)>
     ensures { MatchOption result ((changed : Bool) (year : ℤ)
@@ -57,7 +57,7 @@ fn read_flag<'a, 'b>(args: &'a [&'b str]) -> (Output, &'a [&'b str])
     }
 }
 
-/// Reads what `read_args` does, and `--refused YEAR`, with or without `--` before the year. Returns none for other
+/// Reads `YEAR`, `--changed YEAR` or `--refused YEAR`, with or without `--` before the year. Returns none for other
 /// words.
 fn read_lines(args: &[&str]) -> Option<(Output, i32)>
     ensures { MatchOption result ((output : Output) (year : ℤ)
@@ -89,8 +89,8 @@ pub fn read_task(args: &[&str]) -> Option<Task>
     Some(Task::Lines(output, year))
 }
 
-/// Reads the program's arguments by `read_task`; returns none if the host has none. The host has no clause on which
-/// words these are, so `tests/program` tries it.
+/// Reads the program's arguments by `read_task`, and returns none if the host has none. The host's contract doesn't say
+/// which words these are, so `tests/program` tries it.
 pub fn arguments(rt: &HostRuntime) -> Option<Task>
     ensures { IfSome result (λ task. (words : List (List ℕ)) × AsksFor words task) }
 {

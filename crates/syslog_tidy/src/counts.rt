@@ -1,6 +1,6 @@
 //! The counts of `changed`.
 
-/// How many lines `changed` read, and how many of them it wrote. Neither count goes past its last value.
+/// How many lines `changed` read, and how many of them it wrote. The counts saturate.
 #[derive(Clone, Copy, Debug, PartialEq, Eq)]
 pub struct Changed {
     /// The number of lines.

@@ -1,5 +1,5 @@
-//! The filters. `run` writes each message in its stable form, `refused` the other lines, and `changed` those that read
-//! differently under the two rules of the dash.
+//! The filters. `run` writes each message in its stable form, `refused` the other lines, and `changed` those that the
+//! Rust crate's rule of the dash reads differently.
 ghost use Rattle.std.specs.Prelude.{◌≡◌, ◌↔◌, Some, None, false, Err, IsTrue, IfOk, IfErr, MatchResult, string_bytes};
 ghost use Rattle.std.specs.Result.{IsOkAnd};
 ghost use Rattle.std.specs.Str.{chars};
@@ -19,16 +19,18 @@ use syslog_lines::pump::pump;
 use syslog_lines::{Frames, LineFilter, RunFault, Summary, Watched, push_line};
 use syslog_loose::{IncompleteDate, ParseFault, TimeZone, Variant, reads_differently, settle_into};
 
-/// Reads lines to the end of the input, and writes the stable printed form of each message, in the given year: the
-/// first that is printed again as it is.
+/// Reads lines to the end of the input, and writes the stable printed form of each message, with dates completed in the
+/// given year. The stable form is the first round that is printed again as it is.
 ///
-/// A line that has none, or is not UTF-8, gives nothing and is counted as refused. The output, filtered again in that
+/// A line that has none, or is not UTF-8, gives no output and is counted as refused. The output, filtered again in that
 /// year, is written as it is. The output of each block is written before more is read, and the writer is flushed at the
-/// end. Nothing is tried again. After `RunFault::Read` the output of each complete line that was read was written.
-/// `RunFault::Memory` comes after that too, if a block had no memory: the first, or one for a line that fills a block.
-/// Otherwise an allocation failed for a line that parses, and the output of each line before it was written. After
-/// `RunFault::Write` a beginning of the output was written. It takes memory for a block of input, its output, and the
-/// longest line.
+/// end. A call that failed is not repeated. It allocates a block of input, its output, and the longest line.
+///
+/// - After `RunFault::Read` the output of each complete line that was read was written.
+/// - After `RunFault::Memory` it was too, if the allocation that failed was for a block: the first one, or one for a
+///   line that fills a block. Otherwise an allocation failed for a line that parses, and the output of each line before
+///   it was written.
+/// - After `RunFault::Write` a prefix of the output was written.
 pub fn run<R: Read, W: Write>(
     alloc: Global,
     reader: &mut Watched<R>,
@@ -118,8 +120,8 @@ impl LineFilter for Tidy {
 /// Reads lines to the end of the input, and writes, as it came, each for which `run` writes nothing in the given year.
 /// Each line is in the output of exactly one of the two.
 ///
-/// Blocks, faults, the flush, memory and what was written after a fault are as for `run`, but memory may be taken for
-/// each line.
+/// Blocks, faults, the flush, allocations and what was written after a fault are as for `run`, but a line that is
+/// written may need an allocation too.
 pub fn refused<R: Read, W: Write>(
     alloc: Global,
     reader: &mut Watched<R>,
@@ -145,7 +147,7 @@ pub fn refused<R: Read, W: Write>(
     })
 }
 
-/// Writes each line for which `Tidy` writes nothing, as it came.
+/// The filter that writes each line for which `Tidy` writes nothing, as it came.
 #[derive(Drop)]
 struct Refusals {
     tidy: Tidy,
@@ -182,11 +184,11 @@ impl LineFilter for Refusals {
     }
 }
 
-/// Reads lines to the end of the input, and writes, as it came, each that reads differently under the two rules of the
-/// dash, in the given year.
+/// Reads lines to the end of the input, and writes, as it came, each that the Rust crate's rule of the dash reads
+/// differently, in the given year.
 ///
-/// Other lines, and those that are not UTF-8, give nothing. Blocks, faults, the flush, memory and what was written
-/// after a fault are as for `run`.
+/// Other lines, and those that are not UTF-8, give no output. Blocks, faults, the flush, allocations and what was
+/// written after a fault are as for `run`.
 pub fn changed<R: Read, W: Write>(
     alloc: Global,
     reader: &mut Watched<R>,
@@ -223,7 +225,7 @@ struct ChangedLines {
 }
 
 impl ChangedLines {
-    // Returns whether the line reads differently. This never fails.
+    // Returns whether the line reads differently under the two rules of the dash. This never fails.
     fn is_changed(&self, alloc: Global, line: &str) -> Result<bool, AllocError>
         ensures { IsOkAnd result (λ differs. IsTrue differs
             ↔ ReadsDifferently Either (in_utc self.now.year) (chars line.now)) }

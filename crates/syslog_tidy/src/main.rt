@@ -1,5 +1,5 @@
-//! Writes the syslog lines of standard input to standard output: each message in its stable printed form, or the lines
-//! that the Rust crate reads differently, or those that are no message.
+//! Writes the syslog lines of standard input to standard output: each message in its stable printed form. It can also
+//! write the lines that the Rust crate's rule of the dash reads differently, or those that are no message.
 //!
 //! `syslog_tidy 2019` writes the line `<34>Oct 11 22:14:15 mymachine app[323]: a message` as `<34>
 //! 2019-10-11T22:14:15+00:00 mymachine app[323]: a message`.

@@ -1,4 +1,4 @@
-//! What the program writes at its end, and about itself.
+//! What the program reports at its end, and writes about itself.
 ghost use Rattle.std.specs.Prelude.{◌≡◌, codes, false};
 ghost use Rattle.syslog_command_line.specs.Report.{WritesUnlessFailed, said_of, status_of};
 ghost use Rattle.syslog_tidy.specs.Arguments.{usage_line};
@@ -31,7 +31,7 @@ Status:
   2  wrong arguments; or a read or a write failed, or memory ran out
 ";
 
-/// Writes how the program is called, in one line, and returns the exit status 2. If a write fails, the stream says so.
+/// Writes the usage line, and returns the exit status 2. If the write fails, `errors.failed` is set.
 pub fn usage<W: Write>(errors: &mut Watched<W>) -> u8
     requires { errors.old.failed ≡ false }
     ensures status { result ≡ 2 }
@@ -41,8 +41,8 @@ pub fn usage<W: Write>(errors: &mut Watched<W>) -> u8
     refuse("usage: syslog_tidy [--changed] YEAR\n", errors)
 }
 
-/// Writes how many lines changed, if any did, or the fault's text, and returns the exit status: 0 if no line changed, 1
-/// if some did, 2 after a fault. If a write fails, the stream says so.
+/// Writes how many lines changed, if any did, or the text of the fault. Returns the exit status: 0 if no line changed,
+/// 1 if some did, 2 after a fault. If a write fails, `errors.failed` is set.
 pub fn report_changed<W: Write>(outcome: &Result<Changed, RunFault>, errors: &mut Watched<W>) -> u8
     requires { errors.old.failed ≡ false }
     ensures status { result ≡ status_of (λ counts. counts.changed) outcome.now }

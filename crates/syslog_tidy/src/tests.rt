@@ -1,5 +1,5 @@
-//! What no clause says of `run` and `changed`, and what the program never asks of its functions: that each run flushes
-//! once, and what was written where it ends early; the words and the reports of a caller.
+//! What no clause says of `run` and `changed`: that each run flushes once, and what was written if it ends early. Also
+//! what the program never asks of its functions: the words and the reports of another caller.
 use crate::{Changed, RunFault, Watched, changed, read_args, report_changed, run};
 use std::alloc::Global;
 use std::io;

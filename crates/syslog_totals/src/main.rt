@@ -1,7 +1,8 @@
-//! Reads each line of standard input as one message and prints what it read, added up: a program for measurement.
+//! Reads each line of standard input as one message and prints totals of what it read: a program for measurement.
 //!
-//! Lines, those that are read, bytes of hosts, app names, message ids and messages, elements, parameters, and the sum
-//! of process ids, versions and seconds of timestamps. Dates without a year lie in 2019, and the zones are UTC.
+//! It counts lines, those that are read, bytes of hosts, app names, message ids and messages, elements and parameters,
+//! and adds up process ids, versions and seconds of timestamps. Dates without a year are in 2019, and the zones are
+//! UTC.
 #![tactic(auto)]
 
 use jiff::tz::TimeZone;
@@ -46,7 +47,7 @@ impl Totals {
         }
     }
 
-    // A negative number takes from the sum.
+    // Adds a number, which may be negative.
     fn add_number(&mut self, number: i64) {
         let size = number.unsigned_abs();
         self.numbers = if number < 0 {
@@ -78,7 +79,7 @@ impl Totals {
     }
 }
 
-// The line at the front, and the text after its line feed. A text without one is a line too.
+// Returns the line at the front, and the text after its line feed. A text without a line feed is a line too.
 #[inline(always)]
 fn first_line(text: &str) -> Option<(&str, &str)> {
     match memchr(b'\n', text.as_bytes()) {
@@ -113,7 +114,7 @@ fn add_lines(alloc: Global, text: &str, totals: &mut Totals) -> io::Result<()> {
     Ok(())
 }
 
-// The same of bytes, which are to be UTF-8.
+// Adds up the lines of bytes, which have to be UTF-8.
 fn add_bytes(alloc: Global, bytes: &[u8], totals: &mut Totals) -> io::Result<()> {
     match from_utf8(bytes) {
         Ok(text) => add_lines(alloc, text, totals),
@@ -121,7 +122,7 @@ fn add_bytes(alloc: Global, bytes: &[u8], totals: &mut Totals) -> io::Result<()>
     }
 }
 
-// How many bytes are read at a time. A line is to be shorter.
+// How many bytes are read at a time. Each line has to be shorter.
 const BLOCK: usize = 1 << 16;
 
 // Adds up the complete lines at the front of the block, and returns how many bytes of the next line follow them:

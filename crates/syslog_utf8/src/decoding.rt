@@ -1,12 +1,13 @@
-//! The text of bytes that are not UTF-8.
+//! Decodes bytes that are not UTF-8.
 ghost use Rattle.std.specs.Prelude.{◌≡◌, IfOk, IsTrue, encode_utf8_all, string_bytes};
 ghost use Rattle.std.specs.Str.{chars};
 ghost use Rattle.syslog_utf8.specs.Decoded.{decoded};
 
 use std::alloc::{AllocError, Global};
 
-/// Returns the text that bytes are taken for which are not UTF-8. As ISO 8859-1 each byte is the character of its
-/// number, and nothing is lost. Otherwise U+FFFD replaces the longest front of a character that is cut, or one byte.
+/// Decodes bytes that are not UTF-8. As ISO 8859-1 each byte is the character with its number, and nothing is lost.
+/// Otherwise U+FFFD replaces each part that is not UTF-8: the front of a character that is cut, as long as it goes, or
+/// one byte.
 pub fn decode(alloc: Global, bytes: &[u8], is_latin1: bool) -> Result<String, AllocError>
     ensures text { IfOk result (λ text. string_bytes text ≡ decoded is_latin1 bytes.now) }
     ensures whole { IsTrue is_latin1 → IfOk result (λ text. chars (string_bytes text) ≡ bytes.now) }

@@ -1,8 +1,8 @@
-//! The check of UTF-8 for the programs and the library for C: `simdutf8`, but for texts of ASCII alone, on which it
-//! takes more instructions than std.
+//! The check of UTF-8 for the programs and the library for C. It is that of `simdutf8`, but for texts of ASCII alone,
+//! on which that takes more instructions than std.
 //!
-//! `from_utf8(b"caf\xc3\xa9")` is `Ok("café")`, and `from_utf8(b"caf\xe9")` an error. `decode` takes the latter for
-//! `café` in ISO 8859-1, or for a text with U+FFFD.
+//! `from_utf8(b"caf\xc3\xa9")` is `Ok("café")`, and `from_utf8(b"caf\xe9")` an error. `decode` returns `café` for the
+//! latter as ISO 8859-1, and otherwise a text with U+FFFD.
 #![tactic(auto)]
 
 mod decoding;
@@ -17,7 +17,7 @@ use std::simd::prelude::*;
 
 const LANES: usize = 64;
 
-/// Returns the bytes as a text, or an error if they are not UTF-8.
+/// Returns the bytes as a text; an error if they are not UTF-8.
 pub fn from_utf8(bytes: &[u8]) -> Result<&str, Utf8Error>
     ensures { MatchResult result (λ text. (text.now ≡ bytes.now) × IsUtf8 bytes.now) (λ _. ¬ (IsUtf8 bytes.now)) }
 {
@@ -46,7 +46,7 @@ fn is_ascii(bytes: &[u8]) -> bool
     are_ascii(bytes, last)
 }
 
-// Returns whether the sixty-four bytes from an offset on are ASCII.
+// Returns whether the sixty-four bytes from `at` on are ASCII.
 #[inline(always)]
 fn are_ascii(bytes: &[u8], at: usize) -> bool
     requires { at + LANES ≤ length bytes.now }

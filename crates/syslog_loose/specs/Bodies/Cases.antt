@@ -18,7 +18,7 @@ incomplete date = (date.month, date.day, date.hour, date.minute, date.second)
 abbrev pub HasMonth : IncompleteDate → Type 0
 HasMonth d = (1 ≤ d.0) × (d.0 ≤ 12) × (d.1 < 2 ^ 32) × (d.2 < 2 ^ 32) × (d.3 < 2 ^ 32) × (d.4 < 2 ^ 32)
 
--- the composed priority, as a message prints that was read after this one
+-- the priority that is printed for the priority of a line, which may be absent
 abbrev pub printed_number : Option ℕ → ℕ
 printed_number pri = option_map_or facility_number (option_and_then facility_of pri) 5 * 8
     + option_map_or severity_number (option_and_then severity_of pri) 7

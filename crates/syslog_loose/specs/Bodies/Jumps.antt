@@ -73,7 +73,7 @@ pub record IsDashed (text after : Text) : Type 0 where
   pub each : Each is_blank blanks
   pub no_more : Ends is_blank after
 
--- n dashes, each with the blanks after it, are passed over, and a further one with blanks after it follows
+-- n dashes, each with the blanks after it, are skipped, and a further one with blanks after it follows
 abbrev pub PassesDashes : ℕ → Text → Text → Type 0
 PassesDashes zero text after = after ≡ text
 PassesDashes (suc n) text after = (before : Text) × PassesDashes n text before × IsDashed before after × (next : Text)

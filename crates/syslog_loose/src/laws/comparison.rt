@@ -6,8 +6,8 @@ ghost use Rattle.syslog_loose.specs.Clauses.{message_eq, MessageValue, message_v
 use crate::message::{Message, Protocol};
 use syslog_pieces::as_str::AsStr;
 
-/// Equality of messages is an equivalence, for every type of texts, and messages with one value over texts are equal.
-/// The protocol has no part in it.
+/// Equality of messages is an equivalence for every type of texts, and messages with the same value are equal. It does
+/// not depend on the protocol.
 pub fn messages_are_equal_but_for_the_protocol<S: AsStr>()
     ensures reflexive { (a : Message S) → IsTrue (⟦<Message<S> as PartialEq>⟧.eq a a) }
     ensures symmetric { (a b : Message S) → IsTrue (⟦<Message<S> as PartialEq>⟧.eq a b)
@@ -20,7 +20,7 @@ pub fn messages_are_equal_but_for_the_protocol<S: AsStr>()
         → message_eq (record m { protocol = p }) (record n { protocol = q }) ≡ message_eq m n }
 {}
 
-/// Two protocols are equal exactly when they are one: both RFC 3164, or both RFC 5424 with one version.
+/// Two protocols are equal exactly when they are the same: both RFC 3164, or both RFC 5424 with the same version.
 pub fn protocols_are_equal_by_value()
     ensures { (p q : Protocol) → IsTrue (⟦<Protocol as PartialEq>⟧.eq p q) ↔ (p ≡ q) }
 {}

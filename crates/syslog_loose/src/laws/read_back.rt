@@ -1,4 +1,4 @@
-//! What is printed of a message, and what is read of it.
+//! What is read back from the printed text of a message.
 ghost use Rattle.std.specs.Prelude.{◌≡◌, ◌↔◌, ◌⊎◌};
 ghost use Rattle.syslog_loose.specs.Words.{ℕ, IfSome, IsSome, Text, IsCanonicalStamp, Dating, DashRule};
 ghost use Rattle.syslog_loose.specs.declared.message.Protocol.TheVariants.{RFC3164};
@@ -7,35 +7,36 @@ ghost use Rattle.syslog_loose.specs.Clauses.{IsNearlyCanonical, IsOfMonthDate, M
 ghost use Rattle.syslog_loose.specs.Clauses.{ReadsProtocol, dash_rule, IsRead, IsOnlyRead, IsRead3164, IsRead5424};
 ghost use Rattle.syslog_loose.specs.Clauses.{RFC5424, Variant};
 
-/// The printed text of a message of RFC 5424 is read as the same message exactly where the message is canonical, under
+/// The printed text of a message of RFC 5424 is read as the same message exactly if the message is canonical, under
 /// either rule of the dash.
 pub fn rfc5424_is_read_back_exactly()
     ensures { (rule : DashRule) (version : ℕ) (m : MessageValue) → m.protocol ≡ RFC5424 version → IsBounded m
         → IsRead5424 (printed m) m ↔ IsCanonical rule m }
 {}
 
-/// A text that is read as RFC 5424 with a facility gives a canonical message.
+/// A message that was read as RFC 5424 and has a facility is canonical.
 pub fn read_rfc5424_is_canonical()
     ensures { (rule : DashRule) (text : Text) (m : MessageValue) → IsRead5424 text m → IsSome m.facility
         → IsCanonical rule m }
 {}
 
-/// Whatever was read as RFC 5424, with a facility or without, prints as a text that is read as a message that prints
-/// the same.
+/// A message that was read as RFC 5424, with a facility or without, prints as a text that is read as a message that
+/// prints the same.
 pub fn printed_rfc5424_prints_again()
     ensures { (text : Text) (m : MessageValue) → IsRead5424 text m
         → (n : MessageValue) × IsRead5424 (printed m) n × (printed n ≡ printed m) }
 {}
 
-/// A printed message of RFC 3164 is read as the message itself exactly where it meets the written condition: under each
-/// rule of the dash, with the condition under that rule, and for every year and zone.
+/// A printed message of RFC 3164 is read as the message itself exactly if it meets the written condition, for every
+/// year and zone. Each rule of the dash has its own condition.
 pub fn rfc3164_is_read_back_exactly()
     ensures { (rule : DashRule) (dating : Dating) (m : MessageValue) → m.protocol ≡ RFC3164 → IsBounded m
         → IsRead3164 rule dating (printed m) m ↔ IsCanonical rule m }
 {}
 
-/// What is read as RFC 3164 meets the written condition but for its exceptions, where it has a facility; its facility
-/// and severity aside, always. A timestamp that isn't canonical is that of a month date that the text shows.
+/// A message that was read as RFC 3164 meets all of the written condition but for its quirks, facility and severity;
+/// these two meet it if it has a facility. A timestamp that isn't canonical is that of a month date that the text
+/// shows.
 pub fn read_rfc3164_has_exceptions_alone()
     ensures near { (rule : DashRule) (dating : Dating) (text : Text) (m : MessageValue) → IsRead3164 rule dating text m
         → HasExceptionsAlone m }
@@ -45,7 +46,8 @@ pub fn read_rfc3164_has_exceptions_alone()
         → IsRead3164 rule dating text m → IfSome m.timestamp (λ s. IsCanonicalStamp s ⊎ IsOfMonthDate dating text s) }
 {}
 
-/// The exceptions are all that a message of RFC 3164 can miss beside the rest of the condition.
+/// A message of RFC 3164 that meets the rest of the written condition meets all of it exactly if it has none of the
+/// quirks.
 #[tactic(auto, using(crate::proofs::CanonicalLemmas::nearly))]
 pub fn canonical_rfc3164_has_no_exception()
     ensures { (rule : DashRule) (m : MessageValue) → m.protocol ≡ RFC3164
@@ -53,7 +55,8 @@ pub fn canonical_rfc3164_has_no_exception()
 {}
 
 /// The printed text of a message, read under `Either` or the message's own variant, is read as the message itself
-/// exactly where it meets the written condition, for every year and zone. So is the one message as which it is read.
+/// exactly if that meets the written condition, for every year and zone. The message as which a text is read is the
+/// only one.
 pub fn printed_is_read_back_exactly()
     ensures read { (variant : Variant) (dating : Dating) (m : MessageValue) → ReadsProtocol variant m.protocol
         → IsBounded m
@@ -63,8 +66,7 @@ pub fn printed_is_read_back_exactly()
         → IsOnlyRead variant dating (printed m) n → (n ≡ m) ↔ IsCanonical dash_rule m }
 {}
 
-/// What is read of one line is printed as one line: where the text has no line feed, the printed text of its message
-/// has none.
+/// The message of one line prints as one line: if a text has no line feed, the printed text of its message has none.
 pub fn message_of_one_line_prints_as_one()
     ensures { (variant : Variant) (dating : Dating) (text : Text) (m : MessageValue) → IsRead variant dating text m
         → IsOneLine text

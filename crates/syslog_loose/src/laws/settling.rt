@@ -1,11 +1,11 @@
-//! Lines that settle: what is read of a text and printed again and again comes to rest.
+//! Why printing and reading a line again and again leads to a stable text.
 ghost use Rattle.std.specs.Prelude.{◌≡◌, ◌≢◌, ◌⊎◌, ◌<◌, ◌≤◌};
 ghost use Rattle.syslog_loose.specs.Words.{ℕ, suc, length, IfSome, Text, Dating, DashRule, BeforeBlank};
 ghost use Rattle.syslog_loose.specs.Clauses.{HasNoColon, MessageValue, HasRank, Prints, printed, IsRead3164, Weighs};
 
-/// Where the printed text of a message that was read as RFC 3164 is read as one that prints otherwise, the new one
-/// weighs less. The years and zones of the two readings count for nothing. Where a dash is a list before anything, a
-/// process name with a colon is left out: `- [:--]` comes to weigh more.
+/// If the printed text of a message of RFC 3164 is read as a message that prints otherwise, the new message weighs
+/// less, whatever the years and zones of the two readings. By the Rust crate's rule of the dash this holds but for
+/// process names with a colon: `- [:--]` comes to weigh more.
 pub fn read_again_weighs_less()
     ensures { (rule : DashRule) (first second : Dating) (text : Text) (m n : MessageValue) (w v : ℕ)
         → (rule ≡ BeforeBlank) ⊎ IfSome m.procid HasNoColon
@@ -19,8 +19,8 @@ pub fn read_weighs_no_more_than_its_text()
         → IsRead3164 rule dating text m → Weighs rule m w → w ≤ length text }
 {}
 
-/// What is read of the print of a pass has a lower rank than the message that the pass took. A rank is at most 5, and 0
-/// where the message has no quirk, so that `settle` makes at most six passes.
+/// The message that is read from the text of one pass has a lower rank than the message before that pass. A rank is at
+/// most 5, and 0 if the message has no quirk, so `settle` makes at most six passes.
 pub fn each_pass_lowers_the_rank()
     ensures falls { (first second : Dating) (text : Text) (m later n : MessageValue) (rank : ℕ) → Prints m later
         → IsRead3164 BeforeBlank first text later → IsRead3164 BeforeBlank second (printed later) n

@@ -1,6 +1,7 @@
-//! Prints a line: the front from one array of ASCII, and the rest copied where it is already in printed form.
+//! Prints a line: the priority, version and timestamp from one array of ASCII, and the rest copied from the input if it
+//! is already in printed form.
 //!
-//! The rest of other lines is printed field by field. No message is made of a line that is printed.
+//! Otherwise the rest is printed field by field. No message is built for a line that is printed.
 ghost use Rattle.std.specs.Prelude.{◌≡◌, ◌++◌};
 ghost use Rattle.syslog_loose.specs.Words.{OnOk, Some, string_bytes, WritesOnOk, encode_utf8_all, list_elements};
 ghost use Rattle.syslog_pieces.specs.Front.{ascii_bytes, front_text};
@@ -16,7 +17,8 @@ use syslog_pieces::as_str::AsStr;
 use syslog_pieces::front::Ascii;
 use syslog_pieces::structured_data::ElementList;
 
-// What a printed line may have beyond its rest: a priority, a version and a timestamp, and the dashes of absent fields.
+// How many bytes a printed line may have beyond its rest: a priority, a version and a timestamp, and the dashes of
+// absent fields.
 const MORE_PRINTED: usize = 80;
 
 impl fmt::Display for Line<'_> {
@@ -41,7 +43,7 @@ impl Line<'_> {
     }
 }
 
-// All up to the timestamp, as it prints.
+// Returns everything up to the timestamp, in printed form.
 #[inline(always)]
 fn front_of(line: &Line<'_>) -> Ascii
     ensures { ascii_bytes result ≡ front_text (printed_number line.now.priority) line.now.version line.now.timestamp }
@@ -100,7 +102,7 @@ fn write_list_before<W: fmt::Write>(
     f.write_str(" ")
 }
 
-/// Prints the line into `text`, instead of what was there. It allocates only if the text has too little capacity.
+/// Prints the line into `text`, instead of what it held. It allocates only if the text has too little capacity.
 #[inline(always)]
 pub(crate) fn print_line(text: &mut String, line: &Line<'_>) -> Result<(), AllocError>
     requires { KnowsForm line.now }

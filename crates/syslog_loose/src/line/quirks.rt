@@ -1,5 +1,5 @@
 //! The quirks, tested on the fields of a line. What was read as RFC 3164 meets all else of the written condition but
-//! for an absent facility and severity, so without a quirk its printed text is settled. The tests look at a few bytes.
+//! for an absent facility and severity, so without a quirk its printed text is stable. The tests look at a few bytes.
 ghost use Rattle.std.specs.Prelude.{◌≡◌, ◌≢◌, ◌↔◌};
 ghost use Rattle.syslog_loose.specs.Words.{IfSome, IsTrue, MatchBool, option_map, seen, shown};
 ghost use Rattle.syslog_loose.specs.Words.{procid_value, EndsInColon, dash};
@@ -19,7 +19,7 @@ pub(crate) fn has_no_quirk(line: &Line<'_>) -> bool
     has_quiet_names(line) && begins_no_list(line.list.is_empty(), line.msg)
 }
 
-/// Whether it has none before its message part.
+/// Whether the line has no quirk before its message part.
 pub(crate) fn has_quiet_names(line: &Line<'_>) -> bool
     ensures { IsTrue result ↔ spec.HasNoNameException (line_value line.now) }
 {
@@ -28,7 +28,8 @@ pub(crate) fn has_quiet_names(line: &Line<'_>) -> bool
         && is_uncut_process(line.process())
 }
 
-// Whether the host is neither the text of an absent one nor taken for the one after the names.
+// Whether the host is neither `-`, which is printed for an absent one, nor ends in a colon, which would be taken for
+// the one after the names.
 #[tactic(auto, using(crate::proofs::CanonicalLemmas::odd_told, crate::proofs::CanonicalLemmas::no_odd_told))]
 fn has_no_odd_host(host: Option<&str>) -> bool
     ensures { IsTrue result ↔ (IfSome (seen host.entry) (λ h. h ≢ dash)
@@ -40,8 +41,8 @@ fn has_no_odd_host(host: Option<&str>) -> bool
     }
 }
 
-// Whether the bytes are not those of `-`. A function of its own, so that its caller rests on one fact about the text,
-// not on each arm of `matches!`.
+// Whether the bytes are not those of `-`. It is a function of its own, so that its caller rests on one fact about the
+// text, and not on each arm of `matches!`.
 #[inline(always)]
 fn is_no_dash(name: &str) -> bool
     ensures { MatchBool result (name.now ≢ dash) (name.now ≡ dash) }
@@ -49,7 +50,7 @@ fn is_no_dash(name: &str) -> bool
     !matches!(name.as_bytes(), [b'-'])
 }
 
-// Whether the process is a number, or a name at which no other is cut.
+// Whether the process is a number, or a name without a colon, at which the name before it would be cut.
 #[tactic(auto, using(crate::proofs::CanonicalLemmas::no_colon_told))]
 fn is_uncut_process(process: Option<ProcId<&str>>) -> bool
     ensures { IsTrue result ↔ IfSome (option_map (procid_value (λ s. shown s)) process.entry) spec.HasNoColon }

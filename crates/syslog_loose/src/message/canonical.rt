@@ -1,4 +1,4 @@
-//! The written condition, tested on the fields: each text is put before the scanner or the reader that would read it.
+//! The written condition, tested on the fields: each text is given to the scanner or the reader that would read it.
 ghost use Rattle.std.specs.Prelude.{◌≡◌, ◌≢◌, ◌↔◌, ◌<◌};
 ghost use Rattle.syslog_loose.specs.Words.{AllByRecursion, option_map, List, [], IfSome, IsTrue, MatchBool, None, Some};
 ghost use Rattle.syslog_loose.specs.Words.{length, map, chars, Ends, text_of, procid_value, ElementValue};
@@ -21,7 +21,7 @@ use syslog_pieces::text::canonical::{
 use syslog_pieces::timestamp::OffsetTimestamp;
 use syslog_pieces::timestamp::canonical::is_canonical_stamp;
 
-/// What the written condition asks about: the fields of a message, and two facts about its elements.
+/// What the written condition depends on: the fields of a message, and two facts about its elements.
 #[derive(Drop)]
 pub(crate) struct Fields<'a, S> {
     pub(crate) protocol: Protocol,
@@ -40,8 +40,8 @@ pub(crate) struct Fields<'a, S> {
 }
 
 impl<S: AsStr> Message<S> {
-    /// Whether the message is read back unchanged from its printed text, by its own protocol. It looks at the fields
-    /// alone: it prints nothing and takes no memory, and its time is linear in the message.
+    /// Returns whether the message is read back unchanged from its printed text, by its own protocol. It looks at the
+    /// fields alone: it prints nothing, does not allocate, and takes time linear in the message.
     #[tactic(auto, using(crate::proofs::CanonicalLemmas::emptiness))]
     pub fn is_canonical(&self) -> bool
         ensures { IsTrue result ↔ spec.IsCanonical dash_rule (message_value (text_of S.text) self.now) }
@@ -66,7 +66,7 @@ impl<S: AsStr> Message<S> {
     }
 }
 
-/// Whether a message of these fields is canonical, where its elements are.
+/// Whether a message with these fields is canonical, provided that its elements are.
 #[tactic(auto, using(crate::proofs::Names::last_is))]
 pub(crate) fn are_canonical_fields<S: AsStr>(fields: &Fields<'_, S>) -> bool
     ensures { (es : List ElementValue) → AreElements fields.now.no_elements fields.now.have_params es
@@ -82,7 +82,7 @@ pub(crate) fn are_canonical_fields<S: AsStr>(fields: &Fields<'_, S>) -> bool
     }
 }
 
-// What both protocols ask.
+// The part of the condition that both protocols have.
 fn are_canonical_in_both<S: AsStr>(fields: &Fields<'_, S>) -> bool
     ensures { (es : List ElementValue) → AllByRecursion spec.IsCanonicalElement es
         → IsTrue result ↔ spec.IsCanonicalInBoth (fields_value (text_of S.text) fields.now es) }
@@ -107,7 +107,7 @@ fn is_canonical_msg(msg: &str) -> bool
     begins_unblank(msg) && msg.trim_end() == msg
 }
 
-// What RFC 5424 asks beyond that.
+// The part of the condition that only RFC 5424 has.
 fn are_canonical_rfc5424<S: AsStr>(fields: &Fields<'_, S>) -> bool
     ensures { (es : List ElementValue) → IsTrue result
         ↔ spec.IsCanonical5424 (fields_value (text_of S.text) fields.now es) }
@@ -124,7 +124,7 @@ fn is_word<S: AsStr>(word: &Option<S>) -> bool
         .is_none_or(|word| is_canonical_word(word.as_str()))
 }
 
-// What RFC 3164 asks beyond that.
+// The part of the condition that only RFC 3164 has.
 fn are_canonical_rfc3164<S: AsStr>(fields: &Fields<'_, S>) -> bool
     ensures { (es : List ElementValue) → AreElements fields.now.no_elements fields.now.have_params es
         → IsTrue result ↔ spec.IsCanonical3164 dash_rule (fields_value (text_of S.text) fields.now es) }
@@ -135,7 +135,7 @@ fn are_canonical_rfc3164<S: AsStr>(fields: &Fields<'_, S>) -> bool
         && begins_no_list(fields.no_elements, fields.msg.as_str())
 }
 
-// Whether host, app name and process id are found again.
+// Whether host, app name and process id are read back from their printed text in RFC 3164.
 fn are_canonical_names<S: AsStr>(
     host: &Option<S>,
     app: &Option<S>,
@@ -157,7 +157,7 @@ fn are_canonical_names<S: AsStr>(
     }
 }
 
-// An app name and a process id that are printed as `app[process]`.
+// Whether an app name and a process id, printed as `app[process]`, are read back.
 fn is_program<S: AsStr>(app: &S, process: &ProcId<S>) -> bool
     ensures { IsTrue result ↔ spec.AreCanonicalNames None (Some (text_of S.text app.now))
         (Some (procid_value (text_of S.text) process.now)) }
@@ -186,7 +186,7 @@ fn is_bracketed_name(name: &str) -> bool
     !names_number(name)
 }
 
-// An app name without a process id.
+// Whether an app name without a process id is read back.
 fn is_lone_tag(app: &str) -> bool
     ensures { IsTrue result ↔ spec.AreCanonicalNames None (Some (chars app.now)) None }
 {
@@ -202,7 +202,7 @@ fn is_no_form(text: &str) -> bool
     }
 }
 
-// The host where there is no app name.
+// Whether the host of a message without an app name is read back.
 fn is_lone_host<S: AsStr>(host: &Option<S>) -> bool
     ensures { IsTrue result ↔ IfSome (option_map (text_of S.text) host.now) IsNoForm }
 {
@@ -225,7 +225,7 @@ fn have_params<S: AsStr>(elements: &[StructuredElement<S>]) -> bool
     true
 }
 
-/// Whether the message part is not taken for a list, where there is no element before it.
+/// Whether the message part is not taken for a list of elements, if there is no element before it.
 pub(crate) fn begins_no_list(no_elements: bool, msg: &str) -> bool
     ensures { (es : List ElementValue) → MatchBool no_elements (es ≡ []) (es ≢ [])
         → IsTrue result ↔ (es ≡ [] → BeginsNoList dash_rule (chars msg.now)) }

@@ -1,4 +1,4 @@
-//! Copies of messages. The memory for each list is asked for once, at its final size.
+//! Copies of messages. The memory for each list is allocated once, at its final size.
 ghost use Rattle.std.specs.Prelude.{◌≡◌};
 ghost use Rattle.syslog_loose.specs.Words.{option_map, IfOk, map, string_bytes, shown, text_of, procid_value};
 ghost use Rattle.syslog_loose.specs.Words.{element_value, ClonesKeepText};
@@ -11,8 +11,8 @@ use syslog_pieces::procid::ProcId;
 use syslog_pieces::structured_data::StructuredElement;
 
 impl<S: AsStr + Clone> Message<S> {
-    /// A copy, the same in each field, with elements and parameters in the same order. An `Err` is only for memory, and
-    /// nothing has changed then.
+    /// Returns a copy that is the same in each field, with elements and parameters in the same order. It fails only if
+    /// an allocation does; nothing has changed then.
     pub fn try_clone(&self, alloc: Global) -> Result<Message<S>, AllocError>
         requires { ClonesKeepText S.is_clone S.text }
         ensures { IfOk result (λ copy. message_value (text_of S.text) copy ≡ message_value (text_of S.text) self.now) }

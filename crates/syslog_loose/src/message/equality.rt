@@ -1,4 +1,4 @@
-//! Equality of messages: all fields but the protocol. It takes no memory.
+//! Equality of messages: all fields but the protocol are compared. Nothing is allocated.
 ghost use Rattle.std.specs.Prelude.{◌≡◌};
 ghost use Rattle.syslog_loose.specs.Words.{option_eq, option_map, text_eq, text_of, facility_eq, severity_eq, on};
 ghost use Rattle.std.specs.Cmp.{on_per, partial_equiv_from_equiv};
@@ -27,14 +27,15 @@ impl<S: AsStr> PartialEq for Message<S> {
     }
 }
 
-// A function of its own, so that its clause speaks of numbers where the derived `==` speaks of places in the enum.
+// Whether two facilities are the same. It is a function of its own, so that its clause speaks of numbers, where that of
+// the derived `==` speaks of places in the enum.
 fn is_same_facility(a: Option<SyslogFacility>, b: Option<SyslogFacility>) -> bool
     ensures { result ≡ option_eq facility_eq a b }
 {
     a == b
 }
 
-// A function of its own, for the same reason.
+// Whether two severities are the same: a function of its own, so that its clause speaks of numbers.
 fn is_same_severity(a: Option<SyslogSeverity>, b: Option<SyslogSeverity>) -> bool
     ensures { result ≡ option_eq severity_eq a b }
 {

@@ -14,7 +14,7 @@ use syslog_pieces::procid::ProcId;
 use syslog_pieces::structured_data::StructuredElement;
 use syslog_pieces::timestamp::OffsetTimestamp;
 
-/// The composed priority of a message that is read after this one.
+/// Returns the priority that is printed for the priority of a line, which may be absent or above 191.
 #[inline(always)]
 pub(crate) fn read_priority(number: Option<u8>) -> u32
     ensures { result ≡ printed_number number }
@@ -23,7 +23,7 @@ pub(crate) fn read_priority(number: Option<u8>) -> u32
     priority(facility, severity)
 }
 
-/// Writes a space and a name.
+/// Writes a space and a name, or `-` for an absent one.
 #[inline(always)]
 #[tactic(auto, using(crate::proofs::Names::put_two, crate::proofs::Names::encodes_shown))]
 pub(crate) fn write_name<S: AsStr, W: fmt::Write>(
@@ -43,7 +43,7 @@ pub(crate) fn write_name<S: AsStr, W: fmt::Write>(
     }
 }
 
-/// Writes a space and a timestamp.
+/// Writes a space and a timestamp, or `-` for an absent one.
 #[inline]
 pub(crate) fn write_timestamp<W: fmt::Write>(
     f: &mut fmt::Formatter<W>,
@@ -60,7 +60,7 @@ pub(crate) fn write_timestamp<W: fmt::Write>(
     }
 }
 
-/// Writes a space and a process id.
+/// Writes a space and a process id, or `-` for an absent one.
 #[inline]
 pub(crate) fn write_process<S: AsStr, W: fmt::Write>(
     f: &mut fmt::Formatter<W>,
@@ -78,7 +78,7 @@ pub(crate) fn write_process<S: AsStr, W: fmt::Write>(
     }
 }
 
-/// Writes a space and the elements one after the other.
+/// Writes a space and the elements one after the other, or `-` if there are none.
 #[inline]
 pub(crate) fn write_elements<S: AsStr, W: fmt::Write>(
     f: &mut fmt::Formatter<W>,

@@ -402,7 +402,7 @@ module _ {v : List ℕ} where
   pub splat : (n : ℕ) → IsLanes v (replicate 16 n) (λ _. n)
   splat n = record { same = splat_is_map v 16 n }
 
--- a lane of the kernel of a set stops where the set lacks it, from the answers of the comparisons
+-- a lane of the kernel of a set stops where the set lacks it, by the results of the comparisons
 pub mask_tests : (r a b c l p : Bool) → top 7 (bit_or (bit_xor (bit_or (cond r 255 0)
     (bit_or (bit_or (cond a 255 0) (cond b 255 0)) (cond c 255 0))) (cond (not (eqb (bool_byte l) 0)) 255 0))
     (cond p 255 0)) ≡ not (not p && beq (r || a || b || c) l)

@@ -129,7 +129,7 @@ stamp_alone p q r w (vs, h, e) = (
 
 -- ---- from what a text wrote to the result
 
--- an answer to one question is one to another that asks the same
+-- a timestamp that has one property has another that means the same
 pub answer_same : (P Q : OffsetTimestamp → Type 0) (answer : Option ClockStamp) → ((s : OffsetTimestamp) → P s → Q s) →
     ((s : OffsetTimestamp) → Q s → P s) → IsAnswer P answer → IsAnswer Q answer
 answer_same P Q None forth back h = λ s q. h s (back s q)

@@ -13,7 +13,7 @@ pub record HasNoted (notes : FewParams) (ps : List (Text × Text)) : Type 0 wher
   pub first : map (param_value (λ s. shown s)) (take notes.count notes.params) ≡ take notes.count ps
   pub all : notes.count < 16 → notes.count ≡ length ps
 
--- these elements were collected, or memory for one of them was refused
+-- these elements were collected, or an allocation for one of them failed
 abbrev pub HasCollected : Collect → List ElementValue → Type 0
 HasCollected c es =
     MatchResult c.elements (λ v. map (element_value (λ s. shown s)) v.items ≡ es) (λ _. es ≢ [])

@@ -7,7 +7,7 @@ use Rattle.std.specs.declared.alloc.AllocError.{AllocError}
 use Rattle.syslog_pieces.specs.StructuredData.Escapes.{IsUnescaped}
 use Rattle.syslog_pieces.specs.Pieces.View.{text_of}
 
--- what is given for a parameter: its name and its value without escapes, or that memory was refused
+-- what is given for a parameter: its name and its value without escapes, or that an allocation failed
 abbrev pub IsParamItem : {S : Type 0} → (S → List ℕ) → S × S → Result (Bor S × String Global) AllocError → Type 0
 IsParamItem bytes param item =
     IfOk item (λ found. (found.0.now ≡ param.0) × IsUnescaped (text_of bytes param.1) (chars (string_bytes found.1)))

@@ -11,8 +11,8 @@ use Rattle.syslog_pieces.specs.declared.timestamp.month_date.MonthDate.{MonthDat
 use Rattle.syslog_pieces.specs.declared.timestamp.zone.Dating.{Dating as DatingHandle}
 use Rattle.syslog_pieces.specs.Timestamp.Fields.{IsDateTime, IsStampAt, fields_of}
 
--- How a date without an offset gets a timestamp: the year of a date that has none (where that is absent too, such a
--- date has no timestamp), the zone that is given, and the local zone, which is used where none is.
+-- How a date without an offset gets a timestamp: the year of a date that has none, the zone that is given, and the
+-- local zone, which is used if none is given. If the year is absent too, such a date has no timestamp.
 pub record Dating : Type 0 where
   pub year : Option ℤ
   pub zone : Option TimeZone

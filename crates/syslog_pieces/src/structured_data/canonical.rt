@@ -1,4 +1,5 @@
-//! Which elements are read back from print as they are: the scanners that read them are asked, and no memory is taken.
+//! Which elements are read back unchanged from their printed text. The scanners that read them decide it, and nothing
+//! is allocated.
 ghost use Rattle.std.specs.Prelude.{◌↔◌, IsTrue, map, chars};
 ghost use Rattle.syslog_pieces.specs.Words.{AllByRecursion, text_of, IsValue, element_value, param_value};
 ghost use Rattle.syslog_pieces.specs.StructuredData.Canonical as spec;
@@ -55,7 +56,7 @@ fn begins_unblank_params<S: AsStr>(params: &[(S, S)]) -> bool
         .is_none_or(|first| begins_unblank(first.0.as_str()))
 }
 
-/// Returns whether the element is read back from its printed text, in which each value is as it is.
+/// Returns whether the element is read back unchanged from its printed text.
 pub fn is_canonical_element<S: AsStr>(element: &StructuredElement<S>) -> bool
     ensures { IsTrue result ↔ spec.IsCanonicalElement (element_value (text_of S.text) element.now) }
 {
@@ -68,7 +69,7 @@ pub fn is_canonical_element<S: AsStr>(element: &StructuredElement<S>) -> bool
     begins_unblank_params(&element.params)
 }
 
-/// Returns whether each of the elements is read back from its printed text.
+/// Returns whether each of the elements is read back unchanged from its printed text.
 pub fn are_canonical_elements<S: AsStr>(elements: &[StructuredElement<S>]) -> bool
     ensures { IsTrue result ↔ AllByRecursion spec.IsCanonicalElement
         (map (element_value (text_of S.text)) elements.now) }

@@ -8,7 +8,7 @@ use super::recognised::{Element, ElementList};
 use super::visit::ElementVisitor;
 use std::alloc::{AllocError, Global};
 
-/// Collects the elements that it is given. Once memory was refused, it keeps the refusal.
+/// A visitor that collects the elements that it is given. If an allocation fails, `finish` returns that.
 #[derive(Drop)]
 pub struct Collect<'a> {
     alloc: Global,
@@ -19,7 +19,7 @@ impl<'a> Collect<'a> {
     ghost use Rattle.std.specs.Prelude.{List};
     ghost use Rattle.syslog_pieces.specs.Words.{ElementValue, HasCollected};
 
-    /// Returns a collector that has no elements. It takes no memory.
+    /// Returns a collector without elements. It does not allocate.
     #[inline(always)]
     pub fn new(alloc: Global) -> Collect<'a>
         ensures { HasCollected result [] }
@@ -30,7 +30,7 @@ impl<'a> Collect<'a> {
         }
     }
 
-    /// Returns the elements that were collected, or the refusal of memory, which is kept only where there are elements.
+    /// Returns the elements that were collected, or an error if an allocation for them failed.
     pub fn finish(self) -> Result<Vec<StructuredElement<&'a str>>, AllocError>
         ensures { (es : List ElementValue) → HasCollected self.entry es → MatchResult result
             (λ v. map (element_value (λ s. shown s)) v.items ≡ es) (λ _. es ≢ []) }
@@ -58,7 +58,7 @@ impl<'a> ElementVisitor<'a> for Collect<'a> {
 }
 
 impl<'a> Element<'a> {
-    /// Collects its parameters, for which memory is asked once. An `Err` is only for memory.
+    /// Returns the element with its parameters in a vector. It allocates once, and fails only if that does.
     pub fn collect(&self, alloc: Global) -> Result<StructuredElement<&'a str>, AllocError>
         ensures { IfOk result (λ e. element_value (λ s. shown s) e ≡ element_seen self.now) }
     {
@@ -70,7 +70,8 @@ impl<'a> Element<'a> {
 }
 
 impl<'a> ElementList<'a> {
-    /// Collects its strict elements, and asks for no memory where it has none. An `Err` is only for memory.
+    /// Returns the strict elements of the list in a vector. It does not allocate if there are none, and fails only if
+    /// an allocation does.
     pub fn collect(&self, alloc: Global) -> Result<Vec<StructuredElement<&'a str>>, AllocError>
         ensures { MatchResult result (λ v. map (element_value (λ s. shown s)) v.items ≡ list_elements self.now)
             (λ _. list_elements self.now ≢ []) }
@@ -86,7 +87,7 @@ impl<'a> ElementList<'a> {
     }
 }
 
-// The parameters of an element, walked once more.
+// Collects the parameters of an element by walking it again.
 #[inline(never)]
 fn walk_params<'a>(
     alloc: Global,
@@ -101,7 +102,7 @@ fn walk_params<'a>(
     Ok(params)
 }
 
-// The parameters of an element, from its notes where these have all. Memory is asked for once.
+// Collects the parameters of an element, from its notes if these have all of them. It allocates once.
 #[inline(always)]
 fn collect_params<'a>(
     alloc: Global,

@@ -1,4 +1,4 @@
-//! Copies of elements. The memory for a list is asked for once, at its final size.
+//! Copies of elements. The memory for a list is allocated once, at its final size.
 ghost use Rattle.std.specs.Prelude.{◌≡◌, IfOk, string_bytes};
 ghost use Rattle.syslog_pieces.specs.Words.{shown, text_of, ClonesKeepText, element_value};
 
@@ -7,8 +7,8 @@ use crate::as_str::AsStr;
 use std::alloc::{AllocError, Global};
 
 impl<S: AsStr + Clone> StructuredElement<S> {
-    /// A copy: the same id, and the same parameters in the same order. An `Err` is only for memory, and nothing has
-    /// changed then.
+    /// Returns a copy: the same id, and the same parameters in the same order. It fails only if an allocation does;
+    /// nothing has changed then.
     pub fn try_clone(&self, alloc: Global) -> Result<StructuredElement<S>, AllocError>
         requires { ClonesKeepText S.is_clone S.text }
         ensures { IfOk result (λ copy. element_value (text_of S.text) copy ≡ element_value (text_of S.text) self.now) }
@@ -23,7 +23,8 @@ impl<S: AsStr + Clone> StructuredElement<S> {
 }
 
 impl StructuredElement<&str> {
-    /// Returns the element with texts of its own, its parameters in order. If an allocation fails, nothing has changed.
+    /// Returns the element with texts of its own, its parameters in order, so that it can outlive the input. If an
+    /// allocation fails, nothing has changed.
     pub fn to_owned_text(&self, alloc: Global) -> Result<StructuredElement<String>, AllocError>
         ensures { IfOk result (λ copy. element_value (text_of string_bytes) copy
             ≡ element_value (λ s. shown s) self.now) }

@@ -1,5 +1,5 @@
-//! Equality of elements: one id, and the same parameters in any order. It takes no memory. It is one pass if the
-//! parameters are in one order, and at worst time in proportion to the product of the two lengths.
+//! Equality of elements: the same id, and the same parameters in any order. Nothing is allocated. It is one pass if the
+//! parameters are in one order, and otherwise takes at worst time in proportion to the product of the two lengths.
 ghost use Rattle.std.specs.Cmp.{on_equiv, on_per, partial_equiv_from_equiv};
 ghost use Rattle.syslog_pieces.specs.Words.{on, text_of, element_value, param_value};
 ghost use Rattle.std.specs.Prelude.{◌≡◌, ◌≤◌, count_by, length, map, take};
@@ -23,8 +23,8 @@ impl<S: AsStr> Eq for StructuredElement<S> {
     ghost laws = { on_equiv (element_value (text_of S.text)) element_equivalence };
 }
 
-// Whether both lists have the same parameters, each as often. Nearly always they are in one order, and the first pass
-// is all; only after the first difference are they counted.
+// Whether both lists have the same parameters, each as often. Nearly always they are in the same order, and the first
+// pass decides it; they are counted only after the first difference.
 #[tactic(auto, using(crate::proofs::StructuredDataLemmas::Units::comparing))]
 fn have_same_params<S: AsStr>(a: &[(S, S)], b: &[(S, S)]) -> bool
     ensures { result ≡ same_params (map (param_value (text_of S.text)) a.now)
@@ -37,7 +37,7 @@ fn have_same_params<S: AsStr>(a: &[(S, S)], b: &[(S, S)]) -> bool
     are_as_frequent(&a[start..], &b[start..])
 }
 
-// How many parameters at the front of two lists of one length are the same.
+// Returns how many parameters at the front of two lists of the same length are the same.
 fn first_difference<S: AsStr>(a: &[(S, S)], b: &[(S, S)]) -> usize
     requires { length a.now ≡ length b.now }
     ensures within { result ≤ length a.now }

@@ -5,7 +5,8 @@ ghost use Rattle.syslog_pieces.specs.StructuredData.Escapes.{pair_meaning, IsUne
 use crate::text::{CharClass, first, split_run};
 use std::alloc::{AllocError, Global};
 
-// Two functions of their own, so that their clauses speak of characters where `push` and `push_str` speak of bytes.
+// Appends a character. It and `push_pair` are functions of their own, so that their clauses speak of characters where
+// `push` and `push_str` speak of bytes.
 fn push_char(out: &mut String, c: char) -> Result<(), AllocError>
     ensures { IfOk result (λ _. chars (string_bytes out.new) ≡ chars (string_bytes out.old) ++ (c ∷ [])) }
 {
@@ -18,7 +19,7 @@ fn push_text(out: &mut String, text: &str) -> Result<(), AllocError>
     out.push_str(text)
 }
 
-// What a backslash and this character mean.
+// Appends what a backslash and this character mean.
 fn push_pair(out: &mut String, c: char) -> Result<(), AllocError>
     ensures { IfOk result (λ _. chars (string_bytes out.new) ≡ chars (string_bytes out.old) ++ pair_meaning c) }
 {
@@ -32,9 +33,9 @@ fn push_pair(out: &mut String, c: char) -> Result<(), AllocError>
     push_char(out, c)
 }
 
-/// The value of a parameter with its escapes removed: `\n` gives a line feed, `\"`, `\]` and `\\` give their second
-/// character, any other pair stays, and a lone last backslash is dropped (RFC 5424 section 6.3.3; the line feed and the
-/// lone backslash are the crate's own). An `Err` is only for memory.
+/// Returns the value of a parameter with its escapes removed. `\n` gives a line feed; `\"`, `\]` and `\\` give their
+/// second character. Any other pair stays, and a lone last backslash is dropped. (RFC 5424 section 6.3.3; the line feed
+/// and the lone backslash are the Rust crate's rule.) It fails only if an allocation does.
 pub fn unescape(alloc: Global, value: &str) -> Result<String, AllocError>
     ensures { IfOk result (λ unescaped. IsUnescaped (chars value.now) (chars (string_bytes unescaped))) }
 {

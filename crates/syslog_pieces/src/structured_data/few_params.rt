@@ -5,7 +5,7 @@ use super::recognised::Element;
 use super::visit::ParamNotes;
 
 /// How many parameters of an element are noted, so that they need no second walk. Space for them is cleared once for
-/// each list, at four instructions a parameter.
+/// each list, which takes four instructions a parameter.
 const NOTED: usize = 16;
 
 /// The first sixteen parameters of an element, noted while the element is recognised.
@@ -21,7 +21,7 @@ impl<'a> FewParams<'a> {
     ghost use Rattle.std.specs.Prelude.{◌<◌, MatchOption, map};
     ghost use Rattle.syslog_pieces.specs.Words.{shown, HasNoted, param_value, element_seen};
 
-    /// Returns the parameters of the element, or none where it has more than sixteen, which were not all noted.
+    /// Returns the parameters of the element if they were all noted; none if the element has more than sixteen.
     pub fn all_of(&self, element: &Element<'a>) -> Option<&[(&'a str, &'a str)]>
         requires { HasNoted self.now (element_seen element.now).params }
         ensures { MatchOption result (16 < length (element_seen element.now).params)

@@ -1,4 +1,4 @@
-//! The list of a line, recognised and not collected. A visitor is given its strict elements on the way.
+//! The list of a line, recognised and not collected. A visitor is given its strict elements while the list is read.
 ghost use Rattle.std.specs.Prelude.{◌≡◌, ◌++◌, [], ◌∷◌, List, Option, IfSome, MatchOption, chars};
 ghost use Rattle.syslog_pieces.specs.Words.{Front, NoFront, optional, many, shown, forgiving, ElementValue};
 ghost use Rattle.syslog_pieces.specs.Words.{elements_or, full_element, rfc3164_list, list_elements};
@@ -13,7 +13,7 @@ use super::walk::{walk_element, walk_full_element};
 use crate::text::literal;
 use crate::text::verbatim::before;
 
-// What was walked of a list.
+// What is known of a list after its items were walked.
 #[derive(Clone, Copy)]
 struct Tally<'a> {
     elements: usize,
@@ -24,7 +24,7 @@ struct Tally<'a> {
     prints: bool,
 }
 
-// `-` at the front, as a list.
+// Returns the list that is `-`.
 #[inline(always)]
 fn dash_list<'a>(text: &'a str, rest: &str) -> ElementList<'a>
     requires { chars text.now ≡ 45 ∷ chars rest.now }
@@ -35,7 +35,7 @@ fn dash_list<'a>(text: &'a str, rest: &str) -> ElementList<'a>
     ElementList::new(dash, Some(dash), 0, 0)
 }
 
-// The items before a rest of the text, as a list.
+// Returns the list of the items before a rest of the text.
 #[inline(always)]
 fn item_list<'a>(text: &'a str, rest: &str, tally: Tally<'a>) -> ElementList<'a>
     requires { (vs : List (Option ElementValue)) × AreItems (chars text.now) (chars rest.now) vs
@@ -53,7 +53,7 @@ fn item_list<'a>(text: &'a str, rest: &str, tally: Tally<'a>) -> ElementList<'a>
     }
 }
 
-// The strict and broken elements at the front, as many as there are, and the rest.
+// Visits the strict and broken elements at the front, as many as there are, and returns the text after them.
 #[inline(always)]
 fn visit_items<'a, V: ElementVisitor<'a>>(
     text: &'a str,
@@ -96,7 +96,7 @@ fn visit_items<'a, V: ElementVisitor<'a>>(
     }
 }
 
-// The strict elements with a parameter at the front, as many as there are, and the rest.
+// Visits the strict elements at the front that have a parameter, as many as there are, and returns the text after them.
 #[inline(never)]
 fn visit_full_elements<'a, V: ElementVisitor<'a>>(
     text: &'a str,
@@ -125,7 +125,8 @@ fn visit_full_elements<'a, V: ElementVisitor<'a>>(
     (item_list(text, rest, tally), rest)
 }
 
-/// The list of RFC 5424 at the front, and the rest: `-`, or strict and broken elements, as many as there are.
+/// Returns the list of RFC 5424 at the front, and the text after it. The list is `-`, or strict and broken elements, as
+/// many as there are; the visitor is given the strict ones.
 #[inline(always)]
 pub fn visit_forgiving_list<'a, V: ElementVisitor<'a>>(
     text: &'a str,
@@ -148,8 +149,8 @@ pub fn visit_forgiving_list<'a, V: ElementVisitor<'a>>(
     }
 }
 
-/// The list of RFC 3164 at the front, which may be absent, and the rest: `-` where the rule allows it, or strict
-/// elements that each have a parameter.
+/// Returns the list of RFC 3164 at the front, which may be absent, and the text after it. The list is `-` if the rule
+/// allows it, or strict elements that each have a parameter, which the visitor is given.
 #[inline(always)]
 pub fn visit_rfc3164_list<'a, V: ElementVisitor<'a>>(
     text: &'a str,

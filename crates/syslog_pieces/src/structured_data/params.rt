@@ -8,8 +8,8 @@ use crate::as_str::AsStr;
 use std::alloc::{AllocError, Global};
 use std::marker::Model;
 
-/// The names of an element's parameters, and their values with the escapes removed, in order. Each value allocates. If
-/// that fails, the item is an `Err`, and the next call goes on with the next parameter.
+/// An iterator over an element's parameters: their names, and their values with the escapes removed, in order. Each
+/// value is allocated. If that fails, the item is an `Err`, and the next call goes on with the next parameter.
 #[derive(Drop)]
 pub struct ParamsIter<'a, S> {
     alloc: Global,

@@ -1,9 +1,9 @@
-//! Recognising strict and broken elements, without memory and in time linear in the text.
+//! Recognises strict and broken elements, without allocating and in time linear in the text.
 //!
-//! A strict element that fails may have been scanned far: its first value may hold every `]` up to the end of the text,
-//! and each of the items after it would be scanned as far again. But any scan that passes a `]` is inside a value, so
-//! all of them continue alike. A number `dead` keeps how: no element closes from after a `]` that leaves `dead` bytes
-//! or more. A scan that passes such a `]` stops there.
+//! A strict element that fails may have been scanned far: its first value may hold every `]` up to the end of the text.
+//! Then each of the items after it would be scanned as far again. But any scan that passes a `]` is inside a value, so
+//! all of them go on alike. The number `dead` remembers how: no element closes from after a `]` that leaves `dead`
+//! bytes or more. A scan that passes such a `]` stops there.
 ghost use Rattle.std.specs.Prelude.{◌≡◌, ◌↔◌, ◌++◌, [], ◌∷◌, IsTrue, MatchOption, MatchResult, chars, IsUtf8};
 ghost use Rattle.syslog_pieces.specs.Words.{has, Front, NoFront, exactly, some_run, texted, shown, Reads, Recognises};
 ghost use Rattle.syslog_pieces.specs.Words.{IsValueUnit, param_value};
@@ -14,7 +14,7 @@ ghost use Rattle.syslog_pieces.specs.StructuredData.{bracketed as bracketed_clas
 
 use crate::text::{CharClass, blanks, first, literal, split_run};
 
-// The nonempty run of the class at the front, and the text after it.
+// Returns the run of the class at the front, which must not be empty, and the text after it.
 #[tactic(auto, using(crate::proofs::TextLemmas::Runs::chars_nonempty, crate::proofs::TextLemmas::Runs::nonempty_is))]
 #[inline(always)]
 pub(super) fn nonempty_run(text: &str, class: CharClass) -> Option<(&str, &str)>
@@ -45,7 +45,7 @@ pub(super) fn open_param(text: &str) -> Option<(&str, &str, bool)>
     Some((name, value, false))
 }
 
-// The last character of the unit at the front, and the text after the unit.
+// Returns the last character of the unit at the front, and the text after the unit.
 #[inline(always)]
 fn unit(text: &str) -> Option<(char, &str)>
     requires { NoFront (exactly (34 ∷ [])) (chars text.now) }
@@ -60,7 +60,7 @@ fn unit(text: &str) -> Option<(char, &str)>
     }
 }
 
-// The text after the value at the front and its closing quote.
+// Returns the text after the value at the front and its closing quote.
 #[inline(always)]
 pub(super) fn after_value(text: &str) -> Option<&str>
     ensures { Recognises quoted_class (chars text.now) result }
@@ -76,7 +76,7 @@ pub(super) fn after_value(text: &str) -> Option<&str>
     }
 }
 
-// The value whose closing quote is before the rest.
+// Returns the value whose closing quote is before the rest.
 pub(super) fn value_before<'a>(text: &'a str, rest: &str) -> &'a str
     requires { (v : quoted_class.Value) × Front quoted_class (chars text.now) (chars rest.now) v }
     ensures { Front quoted_class (chars text.now) (chars rest.now) (shown result, (tt, tt)) }
@@ -84,7 +84,7 @@ pub(super) fn value_before<'a>(text: &'a str, rest: &str) -> &'a str
     text.split_at(text.len() - rest.len() - 1).0
 }
 
-// The value at the front, and the text after the quote that closes it.
+// Returns the value at the front, and the text after the quote that closes it.
 #[inline(always)]
 fn quoted(text: &str) -> Option<(&str, &str)>
     ensures { Reads quoted_class (λ v. (shown v, (tt, tt))) (chars text.now) result }
@@ -93,7 +93,7 @@ fn quoted(text: &str) -> Option<(&str, &str)>
     Some((value_before(text, rest), rest))
 }
 
-// The name and the value of the parameter at the front, and the text after it.
+// Returns the name and the value of the parameter at the front, and the text after it.
 #[inline(always)]
 pub(super) fn param(text: &str) -> Option<((&str, &str), &str)>
     ensures { Reads param_class (param_value (λ s. shown s)) (chars text.now) result }
@@ -103,8 +103,8 @@ pub(super) fn param(text: &str) -> Option<((&str, &str), &str)>
     Some(((name, value), rest))
 }
 
-// The text after the value at the front and its closing quote. A refusal says that no element closes from here, and
-// gives such a number for the text.
+// Returns the text after the value at the front and its closing quote. An error says that no element closes from here
+// on, and is the new `dead` for the text.
 #[inline(always)]
 pub(super) fn live_value(text: &str, dead: usize) -> Result<&str, usize>
     requires { IsDead (chars text.now) dead }

@@ -1,4 +1,4 @@
-//! Elements and lists that were recognised and not collected: they are `Copy`, and hold no memory.
+//! Elements and lists that were recognised and not collected: they are `Copy`, and hold no memory of their own.
 ghost use Rattle.std.specs.Prelude.{◌≡◌, ◌≢◌, ◌++◌, IfNone, IfSome, drop, length, sum_by, chars, IsUtf8};
 ghost use Rattle.std.proofs.Props.{props};
 ghost use Rattle.syslog_pieces.specs.Bodies.Closing.{inside as inside_class};
@@ -7,7 +7,7 @@ ghost use Rattle.syslog_pieces.specs.StructuredData.{item as item_class, strict 
 ghost use Rattle.syslog_pieces.specs.StructuredData.Element.{elements_text};
 ghost use Rattle.syslog_pieces.specs.StructuredData.Recognised.{OneMeaning, OneInside-prop, OneItems-prop, one_value};
 
-/// A strict element. Its parameters are walked when they are asked for.
+/// A strict element, as a slice of the text. Its parameters are walked when they are asked for.
 #[derive(Clone, Copy)]
 pub struct Element<'a> {
     id: &'a str,
@@ -24,7 +24,7 @@ impl<'a> Element<'a> {
     ghost use Rattle.std.specs.Prelude.{List};
     ghost use Rattle.syslog_pieces.specs.Words.{Text, Front, element_seen};
 
-    // The element of the id and of the text inside, which has so many parameters.
+    // Returns the element with this id, whose `count` parameters are in the text `inside`.
     #[inline(always)]
     pub(super) fn new(id: &'a str, inside: &'a str, count: usize) -> Element<'a>
         requires { (q : Text) × ((ps : List (Text × Text))
@@ -50,7 +50,7 @@ impl<'a> Element<'a> {
     }
 }
 
-/// A list of elements: `-`, or strict and broken elements, or nothing.
+/// A list of elements, as a slice of the text: `-`, or strict and broken elements, or nothing.
 #[derive(Clone, Copy)]
 pub struct ElementList<'a> {
     pub(super) text: &'a str,
@@ -74,7 +74,7 @@ impl<'a> ElementList<'a> {
     ghost use Rattle.std.specs.Prelude.{◌↔◌, List, Option, [], IsTrue, MatchBool};
     ghost use Rattle.syslog_pieces.specs.Words.{Text, Front, ElementValue, list_elements, list_text};
 
-    // The list of this text, of its printed text, and of its numbers of elements and of their parameters.
+    // Returns the list of this text, with its printed text and the numbers of its elements and of their parameters.
     #[inline(always)]
     pub(super) fn new(
         text: &'a str,
@@ -99,7 +99,7 @@ impl<'a> ElementList<'a> {
         }
     }
 
-    /// Returns the list of a text that has none: its text is empty, and it has no elements.
+    /// Returns the list of a line that has none: its text is empty, and it has no elements.
     pub fn none() -> ElementList<'a>
         ensures elements { list_elements result ≡ [] }
         ensures text { list_text result ≡ [] }
@@ -114,7 +114,8 @@ impl<'a> ElementList<'a> {
         self.text
     }
 
-    /// The printed text of its elements, or `-` where there are none, where that begins its text. It may be absent.
+    /// Returns the printed text of its elements, or `-` if there are none, where the list's own text begins with that.
+    /// It may be absent.
     pub fn printed(&self) -> Option<&'a str>
         ensures prints { IfSome result (λ p. shown p ≡ elements_text (list_elements self.now)) }
         ensures begins { IfSome result (λ p. (left : Text) × (list_text self.now ≡ shown p ++ left)) }
@@ -122,7 +123,7 @@ impl<'a> ElementList<'a> {
         self.printed
     }
 
-    /// Whether its text is the printed text of its elements.
+    /// Returns whether its text is already the printed text of its elements.
     pub fn is_printed(&self) -> bool
         ensures { IsTrue result ↔ (list_text self.now ≡ elements_text (list_elements self.now)) }
     {
@@ -146,7 +147,7 @@ impl<'a> ElementList<'a> {
         self.len() == 0
     }
 
-    /// Returns how many parameters the strict elements of the list have together.
+    /// Returns how many parameters the strict elements of the list have in all.
     pub fn params_len(&self) -> usize
         ensures { result ≡ sum_by (λ e. length e.params) (list_elements self.now) }
     {

@@ -12,8 +12,8 @@ use super::visit::NoNotes;
 use super::walk::walk_element;
 use crate::text::literal;
 
-// The text after the space at the front, where there is one, or else the whole.
-// A function of its own, so that its clause separates the two cases for `next`.
+// Returns the text after the space at the front, and the whole text if there is none. It is a function of its own, so
+// that its clause separates the two cases for `next`.
 fn past_separator(text: &str) -> &str
     ensures { (chars text.now ≡ 32 ∷ chars result.now)
         ⊎ (NoFront (exactly (32 ∷ [])) (chars text.now) × (chars text.now ≡ chars result.now)) }
@@ -21,7 +21,7 @@ fn past_separator(text: &str) -> &str
     literal(text, ' ').unwrap_or(text)
 }
 
-/// The names and the raw values of an element's parameters, in order.
+/// An iterator over the names and the raw values of an element's parameters, in order.
 #[derive(Clone, Copy)]
 pub struct Params<'a> {
     rest: &'a str,
@@ -48,7 +48,7 @@ impl<'a> Iterator for Params<'a> {
     }
 }
 
-/// The strict elements of a list, in order. Walks the whole list in time linear in its text.
+/// An iterator over the strict elements of a list, in order. Walking the whole list takes time linear in its text.
 #[derive(Clone, Copy)]
 pub struct Elements<'a> {
     rest: &'a str,
@@ -90,7 +90,7 @@ impl<'a> Iterator for Elements<'a> {
 impl<'a> Element<'a> {
     ghost use Rattle.syslog_pieces.specs.Words.{element_seen, params_left};
 
-    /// Returns the names and the raw values of the element's parameters, one after the other.
+    /// Returns an iterator over the names and the raw values of the element's parameters, in order.
     #[tactic(auto, using(crate::proofs::StructuredDataLemmas::Walk::inside_same))]
     pub fn params(&self) -> Params<'a>
         ensures { params_left result ≡ (element_seen self.now).params }
@@ -102,7 +102,7 @@ impl<'a> Element<'a> {
 impl<'a> ElementList<'a> {
     ghost use Rattle.syslog_pieces.specs.Words.{elements_left, list_elements};
 
-    /// Returns the strict elements of the list, one after the other.
+    /// Returns an iterator over the strict elements of the list, in order.
     pub fn elements(&self) -> Elements<'a>
         ensures { elements_left result ≡ list_elements self.now }
     {

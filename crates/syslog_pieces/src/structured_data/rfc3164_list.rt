@@ -1,4 +1,8 @@
-//! The list of RFC 3164: `-`, or strict elements that each have a parameter. Anything else belongs to the message.
+//! The list of structured data in a line of RFC 3164: `-`, or strict elements that each have a parameter. Anything else
+//! belongs to the message.
+//!
+//! **Rule.** RFC 3164 has no structured data; that a list is read after the tag is the Rust crate's rule. Before which
+//! texts `-` is a list is this project's own choice.
 ghost use Rattle.std.specs.Prelude.{◌≡◌, ◌∷◌, MatchBool, MatchOption, chars};
 ghost use Rattle.syslog_pieces.specs.Words.{Text, NoFront, shown, rfc3164_list, IsDashBefore};
 
@@ -6,16 +10,16 @@ use super::visit::NoNotes;
 use super::walk::walk_full_element;
 use crate::text::{CharClass, first, literal};
 
-/// Before which texts a dash is a list without elements.
+/// Before which texts a dash is a list without elements, in a line of RFC 3164.
 #[derive(Clone, Copy, Debug, PartialEq, Eq)]
 pub enum DashRule {
-    /// Before each text.
+    /// Before any text, as in the Rust crate.
     BeforeAnything,
-    /// At the end of the text, and before a blank.
+    /// Only at the end of the text, and before a blank.
     BeforeBlank,
 }
 
-/// The rule of this project: at the end of the text, and before a blank.
+/// The rule of this project: a dash is a list only at the end of the text, and before a blank.
 pub const DASH_RULE: DashRule = DashRule::BeforeBlank;
 
 impl DashRule {
@@ -30,7 +34,7 @@ impl DashRule {
     }
 }
 
-// The text after the dash at the front, where that is a list.
+// Returns the text after the dash at the front, if that is a list by the rule.
 #[inline(always)]
 pub(super) fn after_dash(text: &str, rule: DashRule) -> Option<&str>
     ensures { MatchOption result ((q : Text) → chars text.now ≡ 45 ∷ q → IsDashBefore rule q → ⊥)
@@ -40,7 +44,7 @@ pub(super) fn after_dash(text: &str, rule: DashRule) -> Option<&str>
     if rule.allows(rest) { Some(rest) } else { None }
 }
 
-/// Whether a list of RFC 3164 begins the text. Takes no memory.
+/// Returns whether a list of RFC 3164 begins the text, without allocating.
 #[inline(always)]
 pub fn begins_list(text: &str, rule: DashRule) -> bool
     ensures { MatchBool result (NoFront (rfc3164_list rule) (chars text.now) → ⊥)

@@ -1,6 +1,7 @@
-//! What is left unparsed of a list: its text from the first element on that is not strict. (This project's own
-//! choice: it is one piece of the line, which has each broken element, and the strict ones after the first of them
-//! too.)
+//! What is left unparsed of a list: its text from the first element on that is not strict.
+//!
+//! **Rule.** This project's own choice: it is one piece of the line, and has each broken element, and the strict ones
+//! after the first of them too.
 ghost use Rattle.std.specs.Prelude.{◌≡◌, ◌≢◌, List, MatchBool, chars};
 ghost use Rattle.syslog_pieces.specs.Words.{ElementValue, Front, Text, list_text, many, seen};
 ghost use Rattle.syslog_pieces.specs.StructuredData.{element as element_class};
@@ -12,7 +13,7 @@ use super::visit::NoNotes;
 use super::walk::walk_element;
 use crate::text::first;
 
-// The text after the strict elements at the front, as many as there are.
+// Returns the text after the strict elements at the front, as many as there are.
 fn after_elements(text: &str) -> &str
     ensures { (es : List ElementValue) × Front (many element_class) (chars text.now) (chars result.now) es }
 {
@@ -31,7 +32,7 @@ fn is_dash(list: &str) -> bool
     list == "-"
 }
 
-// The text, or nothing where it is empty.
+// Returns the text, and none if it is empty.
 fn if_any(text: &str) -> Option<&str>
     ensures { seen result ≡ any_of (chars text.now) }
 {
@@ -41,7 +42,7 @@ fn if_any(text: &str) -> Option<&str>
     }
 }
 
-// What is left unparsed of the text of a list, where something is.
+// Returns what is left unparsed of the text of a list, if anything is.
 #[cold]
 #[inline(never)]
 fn walk_list(list: &str) -> Option<&str>
@@ -54,8 +55,8 @@ fn walk_list(list: &str) -> Option<&str>
 }
 
 impl<'a> ElementList<'a> {
-    /// Its text from the first element on that is not strict, where there is one. A list that is in printed form is not
-    /// walked for it.
+    /// Returns the text of the list from the first element on that is not strict; none if each is strict. A list that
+    /// is in printed form is not walked for it.
     #[inline(always)]
     pub fn unparsed(&self) -> Option<&'a str>
         ensures { (unparsed : Text) × IsUnparsed (list_text self.now) unparsed × (seen result ≡ any_of unparsed) }

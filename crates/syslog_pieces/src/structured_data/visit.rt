@@ -1,4 +1,4 @@
-//! What is made of the elements of a list while the list is recognised.
+//! What a caller may make of the elements of a list while the list is recognised.
 ghost use Rattle.std.specs.Prelude.{List, [], ◌∷◌, ◌++◌, chars};
 ghost use Rattle.syslog_pieces.specs.Pieces.{Text};
 ghost use Rattle.syslog_pieces.specs.StructuredData.Element.{ElementValue};
@@ -11,11 +11,11 @@ pub trait ParamNotes<'a>: Drop {
     // these parameters were noted, as far as there is space
     ghost noted: { Self → List (Text × Text) → Type 0 };
 
-    /// Empty notes. They are made where a list begins with `[`, so that a line with no list needs none.
+    /// Returns empty notes. They are made when a list begins with `[`, so that a line without a list needs none.
     fn new() -> Self
         ensures { noted result [] };
 
-    /// Forgets all.
+    /// Forgets all that was noted.
     fn clear(&mut self)
         ensures { noted self.new [] };
 
@@ -27,13 +27,13 @@ pub trait ParamNotes<'a>: Drop {
 
 /// Makes something of the elements of a list while the list is recognised.
 pub trait ElementVisitor<'a> {
-    /// What it notes of an element before that has ended.
+    /// What the visitor notes of an element before the element has ended.
     type Notes: ParamNotes<'a>;
 
     // since it was the first, it was given these elements
     ghost was_given: { Self → Self → List ElementValue → Type 0 };
 
-    /// Takes an element, whose parameters were noted.
+    /// Takes an element, with the notes of its parameters.
     fn element(&mut self, element: Element<'a>, notes: &Self::Notes)
         requires { Self.Notes.noted notes.now (element_seen element).params }
         ensures { (first : Self) (es : List ElementValue) → was_given first self.old es

@@ -1,5 +1,5 @@
-//! The walk over an element: recognises the strict element at the front, in time linear over a list, and says whether
-//! it prints as it is.
+//! The walk over an element: recognises the strict element at the front, in time linear over a whole list, and says
+//! whether it is already in printed form.
 ghost use Rattle.std.specs.Prelude.{◌≡◌, ◌↔◌, ◌++◌, ◌<◌, ◌∷◌, IfOk, IfSome, IsTrue, MatchOption, MatchResult, chars};
 ghost use Rattle.std.specs.Prelude.{length};
 ghost use Rattle.syslog_pieces.specs.Bodies.Closing.{IsDead};
@@ -13,16 +13,16 @@ use super::visit::ParamNotes;
 use crate::text::verbatim::is_one_space;
 use crate::text::{CharClass, blanks, literal, past_space};
 
-/// A strict element at the front of a text.
+/// A strict element at the front of a text, after the walk over it.
 #[derive(Clone, Copy)]
 pub(super) struct Walked<'a> {
     pub(super) element: Element<'a>,
     pub(super) rest: &'a str,
-    /// Whether it prints as it is.
+    /// Whether its text is already in printed form.
     pub(super) prints: bool,
 }
 
-// The text after the blanks at the front, and whether these are one space.
+// Returns the text after the blanks at the front, and whether these are one space.
 #[inline(always)]
 fn gap(text: &str) -> (&str, bool)
     ensures blanks { Front (run spec.is_blank) (chars text.now) (shown result.0) tt }
@@ -34,8 +34,8 @@ fn gap(text: &str) -> (&str, bool)
     }
 }
 
-// A gap that is no single space before a visible character. It is a call of its own, since callers of the walk would
-// otherwise outgrow what the compiler takes into its caller.
+// Returns what `gap` does for blanks that are no single space before a visible character. It is a call of its own,
+// since callers of the walk would otherwise outgrow what the compiler takes into its caller.
 #[cold]
 #[inline(never)]
 fn odd_gap(text: &str) -> (&str, bool)
@@ -46,7 +46,7 @@ fn odd_gap(text: &str) -> (&str, bool)
     (rest, is_one_space(text, rest))
 }
 
-/// Walks the strict element at the front, and notes its parameters. A refusal has a number as that of `live_value`.
+/// Walks the strict element at the front, and notes its parameters. An error is a new `dead`, as that of `live_value`.
 #[inline(always)]
 pub(super) fn walk_element<'a, N: ParamNotes<'a>>(
     text: &'a str,
@@ -98,7 +98,7 @@ pub(super) fn walk_element<'a, N: ParamNotes<'a>>(
     }
 }
 
-/// Walks the strict element at the front, where that has a parameter, and notes its parameters.
+/// Walks the strict element at the front if it has a parameter, and notes its parameters.
 #[inline(always)]
 pub(super) fn walk_full_element<'a, N: ParamNotes<'a>>(
     text: &'a str,

@@ -1,4 +1,6 @@
-//! Runs of at most so many characters, and numbers between two bounds: what most rules of an ABNF are made of.
+//! Runs of at most so many characters, and numbers between two bounds.
+//!
+//! **Rule.** Most rules of an ABNF are made of these, as `1*255PRINTUSASCII` of RFC 5424 (section 6).
 ghost use Rattle.std.specs.Prelude.{◌≡◌, ◌<◌, ℕ, true, MatchBool, chars};
 ghost use Rattle.syslog_pieces.specs.Words.{has, shown, texted, Reads};
 ghost use Rattle.syslog_pieces.specs.Pieces.Rules.{short_run};

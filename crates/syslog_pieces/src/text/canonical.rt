@@ -1,5 +1,5 @@
-//! Which texts are read back from print as they are. Each test asks the scanner or the reader that reads such a text,
-//! and takes no memory.
+//! Which texts are read back unchanged from their printed form. Each test uses the scanner or the reader that reads
+//! such a text, and does not allocate.
 ghost use Rattle.std.specs.Prelude.{◌≡◌, ◌↔◌, ◌<◌, IsSomeAnd, IsTrue, [], length, chars};
 ghost use Rattle.syslog_pieces.specs.Words.{Each, Ends, shown, has};
 ghost use Rattle.syslog_pieces.specs.Text.{is_blank};
@@ -7,7 +7,7 @@ ghost use Rattle.syslog_pieces.specs.Text.Canonical.{IsCanonicalHost, IsCanonica
 
 use super::{CharClass, host, split_run, tag_word, word};
 
-/// Whether each character of the text is of the class.
+/// Returns whether each character of the text is of the class.
 pub fn is_only(text: &str, class: CharClass) -> bool
     ensures { IsTrue result ↔ Each (has class) (chars text.now) }
 {
@@ -15,7 +15,7 @@ pub fn is_only(text: &str, class: CharClass) -> bool
     rest.is_empty()
 }
 
-/// Whether the text has a character, and each is of the class.
+/// Returns whether the text has a character, and each is of the class.
 #[tactic(auto, using(crate::proofs::TextLemmas::Words::both_told))]
 pub fn is_some_of(text: &str, class: CharClass) -> bool
     ensures { IsTrue result ↔ ((0 < length (chars text.now)) × Each (has class) (chars text.now)) }
@@ -23,7 +23,7 @@ pub fn is_some_of(text: &str, class: CharClass) -> bool
     !text.is_empty() && is_only(text, class)
 }
 
-// Whether a reader has taken the whole text for a name.
+// Whether a reader returned a name and no text after it.
 #[tactic(auto, using(crate::proofs::TextLemmas::Words::end_told))]
 fn is_whole(read: Option<(Option<&str>, &str)>) -> bool
     ensures { IsTrue result ↔ IsSomeAnd read.entry (λ x. IsSomeAnd x.0 (λ _. shown x.1 ≡ [])) }
@@ -31,21 +31,21 @@ fn is_whole(read: Option<(Option<&str>, &str)>) -> bool
     matches!(read, Some((Some(_), rest)) if rest.is_empty())
 }
 
-/// Whether the reader of hosts takes the whole text for a host.
+/// Returns whether the reader of hosts takes the whole text for a host.
 pub fn is_canonical_host(text: &str) -> bool
     ensures { IsTrue result ↔ IsCanonicalHost (chars text.now) }
 {
     is_whole(host(text))
 }
 
-/// Whether the reader of words takes the whole text for a word.
+/// Returns whether the reader of words takes the whole text for a word.
 pub fn is_canonical_word(text: &str) -> bool
     ensures { IsTrue result ↔ IsCanonicalWord (chars text.now) }
 {
     is_whole(word(text))
 }
 
-/// Whether the text does not begin with a blank.
+/// Returns whether the text does not begin with a blank.
 pub fn begins_unblank(text: &str) -> bool
     ensures { IsTrue result ↔ Ends is_blank (chars text.now) }
 {
@@ -53,7 +53,7 @@ pub fn begins_unblank(text: &str) -> bool
     blanks.is_empty()
 }
 
-/// Whether the reader of tag words takes the whole text for a tag.
+/// Returns whether the reader of tag words takes the whole text for a tag.
 pub fn is_canonical_tag(text: &str) -> bool
     ensures { IsTrue result ↔ IsCanonicalTag (chars text.now) }
 {

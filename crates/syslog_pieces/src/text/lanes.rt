@@ -1,7 +1,7 @@
-//! The kernel: how many of the next sixteen bytes, from the first, are ASCII and of a class.
+//! The kernel of the scanner: how many of the next sixteen bytes, from the first on, are ASCII and of a class.
 //!
 //! It compares sixteen bytes at once, and returns the place of the first that stops the run. There is one for all
-//! classes: it is inlined where the class is known, so that only the comparisons of that class are left.
+//! classes. It is inlined where the class is known, so that only the comparisons of that class are left.
 ghost use Rattle.std.specs.Prelude.{◌≡◌, ◌+◌, ◌≤◌, ◌<◌, IfSome, IsTrue, length, slice_index};
 ghost use Rattle.syslog_pieces.specs.Bodies.Scan.{IsRun, IsRunIn, byte_in, first_set, in_set, lists_class};
 ghost use Rattle.syslog_pieces.specs.Bodies.Scan.{visible_byte};
@@ -12,11 +12,13 @@ use std::simd::prelude::*;
 /// How many bytes the kernel looks at.
 pub(crate) const LANES: usize = 16;
 
-/// A range of bytes (the first, and how many) and three more; and whether those are the set, or all others.
+/// A set of bytes: a range (its first byte, and how many) and three more bytes; and whether those are the set, or all
+/// others.
 #[derive(Clone, Copy)]
 struct ByteSet(u8, u8, [u8; 3], bool);
 
-// ASCII white space is 9 to 13 and 32, and no other byte. The range of `SdName` goes on from 255 to 0: it is 127 to 32.
+// Returns the set of a class. ASCII white space is 9 to 13 and 32, and no other byte. The range of `SdName` goes on
+// from 255 to 0: it is 127 to 32.
 #[inline(always)]
 fn bytes_of(class: CharClass) -> ByteSet
     ensures { IsTrue (lists_class result class) }

@@ -42,7 +42,7 @@ pub(crate) fn begins_negative(bytes: &[u8]) -> bool
     matches!(bytes, [b'-', b'1'..=b'9', ..])
 }
 
-/// Whether the last byte is that of a colon.
+/// Returns whether the last byte is a colon.
 #[inline(always)]
 pub fn ends_in_colon(bytes: &[u8]) -> bool
     ensures { MatchBool result ((front : List ℕ) × (bytes.now ≡ front ++ (58 ∷ [])))
@@ -51,7 +51,7 @@ pub fn ends_in_colon(bytes: &[u8]) -> bool
     matches!(bytes, [.., b':'])
 }
 
-/// Whether an ASCII digit begins the bytes.
+/// Returns whether an ASCII digit begins the bytes.
 #[inline(always)]
 pub fn begins_with_digit(bytes: &[u8]) -> bool
     ensures { MatchBool result (¬ (spec.EndsDigits bytes.now)) (spec.EndsDigits bytes.now) }

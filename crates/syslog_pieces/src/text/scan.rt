@@ -5,8 +5,8 @@ ghost use Rattle.syslog_pieces.specs.Bodies.Scan.{IsRun, byte_in};
 use crate::text::CharClass;
 use crate::text::lanes::{LANES, class_run};
 
-// The classes of each byte: its entry has the bit of each class that it is of, and no bit where it is not ASCII. Most
-// bytes are of all classes but `Digit` and `Blank`, which is 8188. That no entry is wrong is the clause of `is_in`.
+// The classes of each byte: its entry has the bit of each class that it is of, and no bit if it is not ASCII. Most
+// bytes are of all classes but `Digit` and `Blank`, which is 8188. The clause of `is_in` says that each entry is right.
 static CLASSES: [u16; 256] = [
     2044, 2044, 2044, 2044, 2044, 2044, 2044, 2044, 2044, 498, 496, 496, 496, 496, 2044, 2044,
     2044, 2044, 2044, 2044, 2044, 2044, 2044, 2044, 2044, 2044, 2044, 2044, 2044, 2044, 2044, 2044,

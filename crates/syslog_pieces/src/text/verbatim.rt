@@ -1,10 +1,10 @@
-//! Which gaps of a text are already in printed form, by a look at a few bytes; and the text before a rest of it.
+//! Which gaps of a text are already in printed form, found by a look at a few bytes; and the text before a rest of it.
 ghost use Rattle.std.specs.Prelude.{◌≡◌, ◌↔◌, ◌∷◌, ◌++◌, IsTrue, chars};
 ghost use Rattle.syslog_pieces.specs.Words.{Text};
 
 use crate::text::looks::begins_with;
 
-/// Whether a text is one space and then a rest of it: so that gap is already in printed form.
+/// Returns whether a text is one space and then `rest`: then that gap is already in printed form.
 #[inline(always)]
 pub fn is_one_space(text: &str, rest: &str) -> bool
     requires { (front : Text) × (chars text.now ≡ front ++ chars rest.now) }
@@ -13,7 +13,7 @@ pub fn is_one_space(text: &str, rest: &str) -> bool
     begins_with(text.as_bytes(), b' ') && text.len() - 1 == rest.len()
 }
 
-/// The text before a rest of it.
+/// Returns the part of a text before `rest`, at which it ends.
 #[inline(always)]
 pub fn before<'a>(text: &'a str, rest: &str) -> &'a str
     requires { (front : Text) × (chars text.now ≡ front ++ chars rest.now) }

@@ -1,9 +1,9 @@
-//! The bytes of digits.
+//! Decimal digits as bytes of ASCII.
 ghost use Rattle.std.specs.Prelude.{◌≡◌, ◌<◌, ◌+◌};
 ghost use Rattle.syslog_pieces.specs.Words.{AllByRecursion, pad3};
 ghost use Rattle.jiff_fmt.specs.Text.{pad2};
 
-/// The byte of a digit.
+/// Returns the ASCII byte of a digit from 0 to 9.
 #[inline(always)]
 pub(crate) fn digit(n: u32) -> u8
     requires { n < 10 }
@@ -12,12 +12,12 @@ pub(crate) fn digit(n: u32) -> u8
     b'0' + n as u8
 }
 
-// The two digits of each number below 100: so none is divided for them.
+// The two digits of each number below 100, so that no number is divided for them.
 static PAIRS: [u8; 200] =
     *b"000102030405060708091011121314151617181920212223242526272829303132333435363738394041\
     42434445464748495051525354555657585960616263646566676869707172737475767778798081828384858687888990919293949596979899";
 
-/// A number below 100, in two digits.
+/// Returns the two digits of a number below 100.
 #[tactic(auto, using(crate::proofs::TextLemmas::Words::pairs_at))]
 #[inline(always)]
 pub(crate) fn two_digits(n: u32) -> [u8; 2]
@@ -29,7 +29,7 @@ pub(crate) fn two_digits(n: u32) -> [u8; 2]
     [PAIRS[at], PAIRS[at + 1]]
 }
 
-/// A number below 1000, in three digits.
+/// Returns the three digits of a number below 1000.
 #[inline(always)]
 pub(crate) fn three_digits(n: u32) -> [u8; 3]
     requires { n < 1_000 }

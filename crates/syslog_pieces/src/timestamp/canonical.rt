@@ -4,8 +4,8 @@ ghost use Rattle.syslog_pieces.specs.Words.{stamp_seen, IsCanonicalStamp};
 
 use super::{ClockStamp, OffsetTimestamp};
 
-/// Whether the timestamp is read back from its printed text: a clock at its own offset shows a year from 0 to 9999, and
-/// the offset is whole minutes and under 24 hours either way. It takes no memory.
+/// Returns whether the timestamp is read back from its printed text. It is if a clock at its own offset shows a year
+/// from 0 to 9999, and the offset is whole minutes and under 24 hours either way. Nothing is allocated.
 pub fn is_canonical_stamp(stamp: OffsetTimestamp) -> bool
     ensures { IsTrue result ↔ IsCanonicalStamp stamp }
 {
@@ -13,7 +13,7 @@ pub fn is_canonical_stamp(stamp: OffsetTimestamp) -> bool
     is_read_back(stamp.offset.seconds(), i32::from(year))
 }
 
-/// Returns whether what a clock showed, if anything, is read back from print.
+/// Returns whether the date and time that a clock showed, if there are any, are read back from their printed text.
 pub fn is_canonical_clock(clock: Option<ClockStamp>) -> bool
     ensures { IsTrue result ↔ IfSome (stamp_seen clock) IsCanonicalStamp }
 {

@@ -6,7 +6,7 @@ ghost use Rattle.syslog_pieces.specs.Timestamp.Rfc3339 as spec;
 
 use crate::text::begins_with_digit;
 
-// The number of a digit, by 32 bits: by 8 each sum would be widened once more.
+// Returns the number that an ASCII digit writes. It has 32 bits, since each sum of 8 bits would be widened once more.
 #[inline(always)]
 fn digit(byte: u8) -> u32
     requires { IsAsciiDigit byte }
@@ -53,7 +53,7 @@ pub fn four_digits(text: &[u8]) -> Option<(u16, &[u8])>
     Some(((century * 100 + year) as u16, rest))
 }
 
-/// Returns the text after a letter in either case, given its upper case.
+/// Returns the bytes after a letter in either case; the letter is given in upper case.
 #[inline(always)]
 pub fn after_letter(text: &[u8], upper: u8) -> Option<&[u8]>
     requires { upper < 128 }
@@ -66,8 +66,8 @@ pub fn after_letter(text: &[u8], upper: u8) -> Option<&[u8]>
     }
 }
 
-/// Reads a dot and one or more digits at the front, as nanoseconds, or nothing, which is 0. Returns them and the
-/// bytes after them.
+/// Reads a fraction at the front: a dot and one or more digits, as nanoseconds, or nothing, which is 0. Returns it and
+/// the bytes after it.
 #[inline(always)]
 pub fn fraction(text: &[u8]) -> Option<(u32, &[u8])>
     ensures { ReadsBytes spec.fraction (λ n. n) text.now result }
@@ -81,7 +81,7 @@ pub fn fraction(text: &[u8]) -> Option<(u32, &[u8])>
     }
 }
 
-// Exactly three, six or nine digits, which most fractions have: they need no loop.
+// Reads exactly three, six or nine digits, which most fractions have: they need no loop.
 #[inline(always)]
 fn few_decimals(text: &[u8]) -> Option<(u32, &[u8])>
     ensures { IfSome result (λ read. Front spec.decimals text.now read.1.now read.0) }
@@ -114,7 +114,7 @@ fn three_digits(text: &[u8]) -> Option<(u32, &[u8])>
     }
 }
 
-// One or more digits, of any number: those past nine are worth nothing.
+// Reads one or more digits: those past nine are worth nothing.
 fn many_decimals(text: &[u8]) -> Option<(u32, &[u8])>
     ensures { ReadsBytes spec.decimals (λ n. n) text.now result }
 {
@@ -132,7 +132,8 @@ fn many_decimals(text: &[u8]) -> Option<(u32, &[u8])>
     Some((nanosecond, rest))
 }
 
-// How many digits the text begins with. A function of its own, so that its clauses speak of bytes, and not of items.
+// Returns how many digits the text begins with. It is a function of its own, so that its clauses speak of bytes and not
+// of items.
 fn digits_len(text: &[u8]) -> usize
     ensures len { result ≡ prefix_len is_ascii_digit text.now }
     ensures within { result ≤ length text.now }

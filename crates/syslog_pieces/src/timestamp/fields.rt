@@ -1,10 +1,10 @@
-//! Civil fields as numbers, and the datetime that they name.
+//! A year, month, day, hour, minute, second and nanosecond as numbers, and the datetime that they name.
 ghost use Rattle.std.specs.Prelude.{◌≡◌, ◌<◌, ◌^◌, pos, IsNone, IfSome, SomeIff, FitsSigned};
 ghost use Rattle.syslog_pieces.specs.Words.{w16, AreCivil, fields_of};
 
 use jiff::civil::DateTime;
 
-/// A year, month, day, hour, minute, second and nanosecond, of which there may be no such datetime.
+/// A year, month, day, hour, minute, second and nanosecond as numbers. There may be no datetime that has them.
 #[derive(Clone, Copy)]
 pub struct CivilFields {
     pub year: i32,
@@ -17,7 +17,7 @@ pub struct CivilFields {
 }
 
 impl CivilFields {
-    /// The datetime with these fields, if there is one.
+    /// Returns the datetime with these fields, if there is one.
     pub fn datetime(self) -> Option<DateTime>
         ensures value { IfSome result (λ dt. fields_of dt ≡ self) }
         ensures none { IsNone result → ¬ (AreCivil self) }
@@ -33,7 +33,7 @@ impl CivilFields {
     }
 }
 
-/// The fields of a datetime.
+/// Returns the fields of a datetime.
 pub(crate) fn datetime_fields(dt: DateTime) -> CivilFields
     ensures { result ≡ fields_of dt }
 {
@@ -48,7 +48,8 @@ pub(crate) fn datetime_fields(dt: DateTime) -> CivilFields
     }
 }
 
-// A function of its own, as the two below: beside seven `Result`s the prover would not find that there is no datetime.
+// Returns the year as jiff has it. It and the two functions below are apart, since beside seven `Result`s the prover
+// would not find that there is no datetime.
 fn year_number(n: i32) -> Option<i16>
     ensures { SomeIff result (FitsSigned w16 n) n }
 {

@@ -1,5 +1,5 @@
-//! Whether there is a timestamp of civil fields on a clock, and its instant, by its own arithmetic: of most dates no
-//! calendar is asked, and no datetime is made of any for its instant.
+//! Whether civil fields on a clock have a timestamp, and its instant, by arithmetic of its own. Most dates need no
+//! calendar lookup, and no datetime is made for an instant.
 ghost use Rattle.std.specs.Prelude.{◌≡◌, ◌↔◌, ◌+◌, ◌*◌, ◌<◌, ◌≤◌, ◌+ℤ◌, ◌-ℤ◌, ◌*ℤ◌, ◌≤ℤ◌, ◌<ℤ◌, neg_ℤ, pos, IsTrue};
 ghost use Rattle.syslog_pieces.specs.Words.{IsInRange, IsOffsetSeconds, IsTimestampNanos, nanos_of_seconds, IsAnswer};
 ghost use Rattle.syslog_pieces.specs.Words.{clock_value, stamp_seen, AreCivil, nanos_of_fields};
@@ -13,7 +13,7 @@ use super::{ClockStamp, OffsetTimestamp};
 use jiff::Timestamp;
 use jiff::tz::Offset;
 
-// Whether the date is one that each month has, in a year from 0 to 9998. Most are, and then no calendar is asked.
+// Whether the date is one that each month has, in a year from 0 to 9998. Most are, and these need no calendar lookup.
 fn is_early(fields: CivilFields) -> bool
     ensures civil { IsTrue result → AreCivil fields }
     ensures year { IsTrue result → (pos 0 ≤ℤ fields.year) × (fields.year <ℤ pos 9999) }
@@ -24,8 +24,8 @@ fn is_early(fields: CivilFields) -> bool
     year && date && clock && fields.nanosecond < 1_000_000_000
 }
 
-/// The timestamp of the fields on a clock at this offset, if there are such a date and time of day, and the instant is
-/// in range.
+/// Returns the timestamp of the fields on a clock at this offset; none if there is no such date or time of day, or the
+/// instant is out of range.
 #[inline(always)]
 pub fn clock_stamp(fields: CivilFields, offset: Offset) -> Option<ClockStamp>
     ensures { IsAnswer (IsStampOfClock fields offset) result }
@@ -49,8 +49,8 @@ pub fn clock_stamp(fields: CivilFields, offset: Offset) -> Option<ClockStamp>
     }
 }
 
-// Returns whether there are such a date and time of day, and the instant is in range. As one value the fields would be
-// in memory on each line, for a call that few lines make.
+// Whether there are such a date and time of day, and the instant is in range. The fields are passed one by one: as one
+// value they would be in memory on each line, for a call that few lines make.
 #[inline(never)]
 fn is_there(
     year: i32,
@@ -91,7 +91,7 @@ fn is_there(
 impl ClockStamp {
     ghost use Rattle.syslog_pieces.specs.Words.{int_div_euclid, int_rem_euclid};
 
-    /// The timestamp: the instant at which the clock shows the fields, and the offset.
+    /// Returns the timestamp: the instant at which the clock shows these fields, and its offset.
     pub fn stamp(self) -> OffsetTimestamp
         ensures { result ≡ clock_value self }
     {
@@ -104,7 +104,7 @@ impl ClockStamp {
         }
     }
 
-    /// Returns the whole seconds from 1970 to its instant, rounded down, and the nanoseconds after them.
+    /// Returns the instant as Unix time: the whole seconds since 1970, rounded down, and the nanoseconds after them.
     pub fn unix_time(self) -> (i64, u32)
         ensures seconds { result.0 ≡ int_div_euclid (clock_value self).instant.nanosecond (pos 1_000_000_000) }
         ensures nanoseconds { pos result.1 ≡ int_rem_euclid (clock_value self).instant.nanosecond (pos 1_000_000_000) }
@@ -114,14 +114,14 @@ impl ClockStamp {
     }
 }
 
-/// Returns the timestamp of a clock that may be absent.
+/// Returns the instant and the offset of the date and time that a clock showed; none if there are none.
 pub fn stamp_of(clock: Option<ClockStamp>) -> Option<OffsetTimestamp>
     ensures { result ≡ stamp_seen clock }
 {
     Some(clock?.stamp())
 }
 
-// The second of the instant, which its nanosecond is counted from.
+// Returns the second of the instant, which its nanosecond is counted from.
 fn second_of(fields: CivilFields, offset: Offset) -> i64
     requires { AreCivil fields }
     ensures { result *ℤ pos 1_000_000_000 +ℤ pos fields.nanosecond
@@ -140,10 +140,10 @@ fn nanosecond(fields: CivilFields, offset: Offset) -> i128
     i128::from(second_of(fields, offset)) * 1_000_000_000 + i128::from(fields.nanosecond)
 }
 
-// The seconds of the days before 1970, counted as below.
+// The seconds from 1 January of the year -10000 to 1970, counted as `days` counts.
 const EPOCH: i64 = 377_736_739_200;
 
-// The second of an instant at which a clock at the offset shows the day and the second of the day.
+// Returns the second of the instant at which a clock at the offset shows this day and this second of the day.
 #[inline(always)]
 fn second_at(days: u32, clock: u32, offset: i32) -> i64
     requires days { days < 7_400_000 }
@@ -155,7 +155,7 @@ fn second_at(days: u32, clock: u32, offset: i32) -> i64
     shown as i64 - EPOCH - i64::from(offset)
 }
 
-// The days since 1 January of the year -10000.
+// Returns the days from 1 January of the year -10000 to the date.
 fn days(year: i32, month: u32, day: u32) -> u32
     requires from { neg_ℤ (pos 9999) ≤ℤ year }
     requires to { year ≤ℤ pos 9999 }
@@ -172,7 +172,8 @@ fn days(year: i32, month: u32, day: u32) -> u32
     }
 }
 
-// The years since the year -10000. A function of its own, so that its clause speaks of a number where a cast has bits.
+// Returns the years since the year -10000. It is a function of its own, so that its clause speaks of a number where a
+// cast has bits.
 fn years(year: i32) -> u32
     requires from { neg_ℤ (pos 9999) ≤ℤ year }
     requires to { year ≤ℤ pos 9999 }

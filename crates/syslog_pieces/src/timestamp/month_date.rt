@@ -1,6 +1,7 @@
-//! Month dates: the dates of RFC 3164.
+//! Month dates: the dates of RFC 3164 (section 4.1.2), with a year or without one.
 //!
-//! A date is recognised by its letters and digits alone, before anybody asks for its year. Nothing here takes memory.
+//! **Rule.** The year may come after the day, as the Rust crate has it. A date is recognised by its letters and digits
+//! alone, before anybody asks for its year. Nothing here allocates.
 ghost use Rattle.std.specs.Prelude.{◌≡◌, IfSome, Option, MatchOption, chars};
 ghost use Rattle.syslog_pieces.specs.Words.{Front, NoFront, Row, Text, shown, Reads, ReadsBytes, MonthDate};
 ghost use Rattle.syslog_pieces.specs.Bodies.MonthReading as parts;
@@ -8,12 +9,12 @@ ghost use Rattle.syslog_pieces.specs.Timestamp.MonthDate as spec;
 
 use crate::text::{literal, number, past_colon, some_blanks};
 
-/// The numbers that a month date shows. There may be no such date, as with `Feb 30`.
+/// The numbers that a month date shows. There may be no such date, as for `Feb 30`.
 #[derive(Clone, Copy, Debug)]
 pub struct MonthDate {
-    /// The year, where the date has one.
+    /// The year; absent if the date shows none.
     pub year: Option<u32>,
-    /// The month, from 1 on.
+    /// The month, from 1 to 12.
     pub month: u32,
     /// The day of the month.
     pub day: u32,
@@ -25,7 +26,7 @@ pub struct MonthDate {
     pub second: u32,
 }
 
-/// The month and the day of it.
+/// A month and the day of it.
 #[derive(Clone, Copy)]
 struct MonthDay {
     month: u32,
@@ -40,7 +41,8 @@ struct TimeOfDay {
     second: u32,
 }
 
-/// The month date at the front, with a year or without one, and the rest of the text.
+/// Returns the month date at the front, with a year or without one, and the rest of the text; none if no month date
+/// begins it.
 #[inline(always)]
 pub fn month_date(text: &str) -> Option<(MonthDate, &str)>
     ensures { Reads spec.month_date (λ d. d) (chars text.now) result }
@@ -52,7 +54,7 @@ pub fn month_date(text: &str) -> Option<(MonthDate, &str)>
     }
 }
 
-// Reads the rest of a month date with a year, whose day is before the text.
+// Reads the rest of a month date with a year, whose month and day are before the text.
 #[inline(never)]
 fn dated(day: MonthDay, text: &str) -> Option<(MonthDate, &str)>
     ensures { (whole : Text) → Front (Row parts.day_row) whole (chars text.now) (parts.day_values day)
@@ -77,7 +79,7 @@ fn date_of(year: Option<u32>, day: MonthDay, clock: TimeOfDay) -> MonthDate
     }
 }
 
-// Reads the month and the day, and the blanks after each.
+// Reads the month and the day, and the blanks after each of them.
 #[inline(always)]
 fn read_day(text: &str) -> Option<(MonthDay, &str)>
     ensures { Reads (Row parts.day_row) parts.day_values (chars text.now) result }
@@ -110,7 +112,7 @@ fn read_clock(text: &str) -> Option<(TimeOfDay, &str)>
     Some((clock, past_colon(rest)))
 }
 
-// The number of the month that the text begins with the name of, which has three letters.
+// Reads the name of a month, which has three letters in any case. Returns its number and the text after it.
 #[inline(always)]
 fn read_month(text: &str) -> Option<(u32, &str)>
     ensures { Reads spec.month (λ n. n) (chars text.now) result }
@@ -119,7 +121,7 @@ fn read_month(text: &str) -> Option<(u32, &str)>
     Some((number, text.split_at(text.len() - after.len()).1))
 }
 
-// Reads a month of bytes.
+// Reads the name of a month at the front of bytes.
 #[inline(always)]
 fn month(bytes: &[u8]) -> Option<(u32, &[u8])>
     ensures { ReadsBytes spec.month (λ n. n) bytes.now result }
@@ -138,7 +140,7 @@ fn month(bytes: &[u8]) -> Option<(u32, &[u8])>
     }
 }
 
-// The number of the month that three small letters name.
+// Returns the number of the month that three small letters name.
 #[tactic(auto, unfolding(crate::specs::Bodies::MonthReading::small_month))]
 #[inline(always)]
 fn named_month(a: u8, b: u8, c: u8) -> Option<u32>

@@ -1,4 +1,6 @@
-//! Two and four digits at the front of a text: what the dates and times of an ABNF are made of.
+//! Numbers of two and four digits at the front of a text.
+//!
+//! **Rule.** The dates and times of an ABNF are made of these, as `2DIGIT` and `4DIGIT` of RFC 3339 (section 5.6).
 ghost use Rattle.std.specs.Prelude.{◌<◌, ◌≤◌, chars};
 ghost use Rattle.syslog_pieces.specs.Words.{Reads, after};
 ghost use Rattle.syslog_pieces.specs.Timestamp.Rfc3339 as spec;

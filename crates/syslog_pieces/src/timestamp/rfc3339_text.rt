@@ -1,6 +1,6 @@
-//! What an RFC 3339 text writes, read at the front of a text, and the stamp that it has.
+//! The numbers that an RFC 3339 text writes, read at the front of a text, and the timestamp that they name.
 //!
-//! The text is ASCII, so its bytes are its characters: it is read byte by byte, piece by piece from the left.
+//! The text is ASCII, so its bytes are its characters: it is read byte by byte, from the left.
 ghost use Rattle.std.specs.Prelude.{◌≡◌, ◌<◌, chars};
 ghost use Rattle.syslog_pieces.specs.Words.{Reads, ReadsBytes, IsAnswer, IsStampOfRfc3339};
 ghost use Rattle.syslog_pieces.specs.Bodies.Clock.{fields_of_rfc3339};
@@ -34,7 +34,7 @@ pub fn stamp(written: Rfc3339Fields) -> Option<ClockStamp>
     clock_stamp(fields_of(written), offset)
 }
 
-// A leap second has no place of its own on the clock, so it counts as the second before.
+// Returns the civil fields. A leap second has no place of its own on the clock, so it counts as the second before.
 fn fields_of(written: Rfc3339Fields) -> CivilFields
     ensures { result ≡ fields_of_rfc3339 written }
 {
@@ -92,7 +92,7 @@ fn numbers(text: &[u8]) -> Option<(Rfc3339Fields, &[u8])>
     Some((written, rest))
 }
 
-// `Z`, or a sign and `HH:MM`, in seconds.
+// Reads `Z`, or a sign and `HH:MM`, in seconds.
 #[inline(always)]
 fn offset(text: &[u8]) -> Option<(i32, &[u8])>
     ensures { ReadsBytes spec.offset (λ seconds. seconds) text.now result }
@@ -106,7 +106,7 @@ fn offset(text: &[u8]) -> Option<(i32, &[u8])>
     Some((seconds(is_behind, hours, minutes), rest))
 }
 
-// Hours and minutes in seconds, negative if the clock is slow of UTC.
+// Returns hours and minutes in seconds, negative if the clock is slow of UTC.
 fn seconds(is_behind: bool, hours: u32, minutes: u32) -> i32
     requires hours { hours < 24 }
     requires minutes { minutes < 60 }
@@ -116,7 +116,7 @@ fn seconds(is_behind: bool, hours: u32, minutes: u32) -> i32
     if is_behind { -seconds } else { seconds }
 }
 
-// `+` or `-`: whether it is `-`.
+// Reads `+` or `-`, and returns whether it is `-`.
 #[inline(always)]
 fn sign(text: &[u8]) -> Option<(bool, &[u8])>
     ensures { ReadsBytes spec.sign (λ behind. behind) text.now result }

@@ -1,8 +1,8 @@
 //! The timestamp of civil fields in a zone, and the year of a moment there.
 //!
-//! **Rule.** Where a clock in the zone shows the fields twice, the earlier instant counts. Where it never shows them, a
-//! zone that is given has no timestamp of them, and in the local zone they are taken as UTC. (This project's own
-//! choice, as the crate's documents have it.) No conversion here takes memory.
+//! **Rule.** If a clock in the zone shows the fields twice, the earlier instant counts. If it never shows them, there
+//! is no timestamp of them in a zone that is given, and in the local zone they are taken as UTC. (This project's own
+//! choice, as the documents of the Rust crate have it.) No conversion here allocates.
 ghost use Rattle.std.specs.Prelude.{◌≡◌, Some, pos, ◌<ℤ◌, IfSome, IsNone, option_map};
 ghost use Rattle.syslog_pieces.specs.Words.{plain_zone, ambiguous_at, IsAnswer, clock_value, fields_of};
 ghost use Rattle.syslog_pieces.specs.Bodies.Clock.{year_of as shown_year};
@@ -16,20 +16,20 @@ use jiff::Timestamp;
 use jiff::civil::DateTime;
 use jiff::tz::{AmbiguousOffset, Offset, TimeZone};
 
-/// The year of a date that shows none, and the zones of one without an offset: the one that is given, or else the local
-/// one.
+/// How a date is completed: the year of a date that shows none, and the zone of one without an offset, which is the
+/// given one or otherwise the local one.
 #[derive(Clone, Copy)]
 pub struct Dating<'a, 'z> {
-    /// The year, where there is one.
+    /// The year of a date that shows none. If it is absent, such a date has no timestamp.
     pub year: Option<i32>,
-    /// The zone that is given.
+    /// The zone that is given; absent if the local one is used.
     pub tz: Option<&'a TimeZone<'z>>,
     /// The local zone.
     pub local: &'a TimeZone<'z>,
 }
 
-/// The timestamp of a month date: in the zone that is given, or else in the local one. A date that shows no year takes
-/// the one that is handed in, and has no timestamp where there is none.
+/// Returns the timestamp of a month date, in the zone that is given or otherwise in the local one. A date that shows no
+/// year takes that of `dating`, and has no timestamp if that is absent.
 #[inline(always)]
 pub fn month_stamp(date: MonthDate, dating: &Dating<'_, '_>) -> Option<ClockStamp>
     ensures { IsAnswer (spec.IsMonthStamp (spec.dating_value dating.entry.now) date) result }
@@ -47,7 +47,7 @@ pub fn month_stamp(date: MonthDate, dating: &Dating<'_, '_>) -> Option<ClockStam
     civil_stamp(fields, dating.tz, dating.local)
 }
 
-/// The timestamp of civil fields: in the zone that is given, or else in the local one.
+/// Returns the timestamp of civil fields, in the zone that is given or otherwise in the local one.
 #[inline(always)]
 pub fn civil_stamp(
     fields: CivilFields,
@@ -64,14 +64,14 @@ pub fn civil_stamp(
     }
 }
 
-/// The year that a clock in the zone shows at the moment, from -9999 to 9999.
+/// Returns the year that a clock in the zone shows at the moment, from -9999 to 9999.
 pub fn year_at(now: Timestamp, local: &TimeZone<'_>) -> i32
     ensures { spec.IsYearAt (plain_zone local.now) now.nanosecond result }
 {
     i32::from(local.to_datetime(now).year())
 }
 
-// The year that the date shows, or else the one that is handed in.
+// Returns the year that the date shows, or otherwise the one that is given.
 fn year_of(date: MonthDate, year: Option<i32>) -> Option<i32>
     ensures value { IfSome result (λ y. shown_year date year ≡ Some y) }
     ensures none { IsNone result → IfSome (shown_year date year) (λ y. pos 9999 <ℤ y) }
@@ -98,7 +98,8 @@ fn of_fields(
     }
 }
 
-// The offset of the clock in the zone that shows the datetime, the one before a fold where two do, and none in a gap.
+// Returns the offset of the clock in the zone when it shows the datetime: the earlier one if it shows it twice, and
+// none if it never does.
 fn offset_before(dt: DateTime, tz: &TimeZone<'_>) -> Option<Offset>
     ensures { result ≡ spec.earlier (ambiguous_at (plain_zone tz.now) dt) }
 {
@@ -109,7 +110,7 @@ fn offset_before(dt: DateTime, tz: &TimeZone<'_>) -> Option<Offset>
     }
 }
 
-// In the zone that is given.
+// Returns the timestamp of the fields in a zone that is given; none in a gap.
 fn in_zone(fields: CivilFields, dt: DateTime, tz: &TimeZone<'_>) -> Option<ClockStamp>
     requires { fields_of dt ≡ fields }
     ensures { IsAnswer (spec.IsStampOf (ambiguous_at (plain_zone tz.now) dt) dt (λ _. ⊥)) result }
@@ -118,7 +119,7 @@ fn in_zone(fields: CivilFields, dt: DateTime, tz: &TimeZone<'_>) -> Option<Clock
     clock_stamp(fields, offset)
 }
 
-// In the local zone.
+// Returns the timestamp of the fields in the local zone; as UTC in a gap.
 fn in_local(fields: CivilFields, dt: DateTime, local: &TimeZone<'_>) -> Option<ClockStamp>
     requires { fields_of dt ≡ fields }
     ensures { IsAnswer (spec.IsStampOf (ambiguous_at (plain_zone local.now) dt) dt
@@ -130,7 +131,7 @@ fn in_local(fields: CivilFields, dt: DateTime, local: &TimeZone<'_>) -> Option<C
     }
 }
 
-// As UTC.
+// Returns what a clock in the local zone shows when one in UTC shows the datetime.
 fn in_gap(dt: DateTime, local: &TimeZone<'_>) -> Option<ClockStamp>
     ensures { IsAnswer (spec.IsStampInGap (plain_zone local.now) dt) result }
 {
@@ -140,7 +141,7 @@ fn in_gap(dt: DateTime, local: &TimeZone<'_>) -> Option<ClockStamp>
     }
 }
 
-// What a clock at the offset shows at the instant.
+// Returns the date and time that a clock at the offset shows at the instant.
 fn shown_at(instant: Timestamp, offset: Offset) -> ClockStamp
     ensures { clock_value result ≡ record { instant = instant; offset = offset } }
 {

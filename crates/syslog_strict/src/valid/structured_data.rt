@@ -1,4 +1,4 @@
-//! STRUCTURED-DATA of RFC 5424 (section 6.3), whose rules the functions are named after.
+//! STRUCTURED-DATA of RFC 5424 (section 6.3). The functions are named after its rules.
 ghost use Rattle.std.specs.Prelude.{◌≡◌, ◌∷◌, [], ◌<◌, IfOk, IfSome, IsTrue, List, MatchOption, map, length, true};
 ghost use Rattle.std.specs.Str.{chars, IsUtf8};
 ghost use Rattle.syslog_pieces.specs.Pieces.Class.{Front, NoFront, Text, exactly, spaced, texted};
@@ -15,7 +15,7 @@ use syslog_pieces::as_str::is_same_text;
 use syslog_pieces::text::bounded::short_run;
 use syslog_pieces::text::{CharClass, first, literal, split_run};
 
-// The text after this character. It is no `literal`, so that its clauses say that the text is UTF-8.
+// Returns the text after this character. It is no `literal`, so that its clauses say that the text is UTF-8.
 #[inline(always)]
 fn past(text: &str, c: char) -> Option<&str>
     ensures reads { Recognises (exactly (c ∷ [])) (chars text.now) result }
@@ -25,7 +25,7 @@ fn past(text: &str, c: char) -> Option<&str>
     if d == c { Some(rest) } else { None }
 }
 
-// The text after a backslash and a character that is escaped.
+// Returns the text after a backslash and a character that has to be escaped.
 #[inline(always)]
 fn escape(text: &str) -> Option<&str>
     ensures reads { Recognises grammar.escape (chars text.now) result }
@@ -40,7 +40,7 @@ fn escape(text: &str) -> Option<&str>
     }
 }
 
-// The text after PARAM-VALUE, which may be empty.
+// Returns the text after PARAM-VALUE, which may be empty.
 #[inline(always)]
 fn param_value(text: &str) -> &str
     ensures { (units : List TextUnit) × Front grammar.param_value (chars text.now) (shown result) units }
@@ -99,7 +99,7 @@ fn spaced_param(text: &str) -> Option<&str>
     sd_param(param)
 }
 
-// The text after any number of SD-PARAMs, each after a space.
+// Returns the text after any number of SD-PARAMs, each after a space.
 #[inline(always)]
 fn params(text: &str) -> &str
     ensures { (params : List (Text × Text))
@@ -112,7 +112,7 @@ fn params(text: &str) -> &str
     rest
 }
 
-// An SD-ELEMENT's SD-ID, and the text after the element.
+// Returns the SD-ID of an SD-ELEMENT at the front, and the text after the element.
 #[inline(always)]
 fn sd_element(text: &str) -> Option<(&str, &str)>
     ensures reads { MatchOption result (NoFront grammar.sd_element (chars text.now)) (λ x. (e : ElementValue)
@@ -140,7 +140,8 @@ fn has_id(text: &str, id: &str) -> bool
     false
 }
 
-// The text after the elements at the front, of which no two have one id. It takes no memory: ids are compared by pairs.
+// Returns the text after the elements at the front; none if two have the same id. It does not allocate: ids are
+// compared by pairs.
 #[cold]
 #[inline(never)]
 fn elements_by_pairs(text: &str) -> Option<&str>
@@ -160,7 +161,7 @@ fn elements_by_pairs(text: &str) -> Option<&str>
     Some(rest)
 }
 
-// The text after the elements at the front, of which no two have one id.
+// Returns the text after the elements at the front; none if two have the same id.
 #[inline(always)]
 fn sd_elements(alloc: Global, text: &str) -> Result<Option<&str>, AllocError>
     ensures { IfOk result (λ rest. Recognises grammar.sd_elements (chars text.now) rest) }
@@ -180,7 +181,8 @@ fn sd_elements(alloc: Global, text: &str) -> Result<Option<&str>, AllocError>
     Ok(Some(rest))
 }
 
-/// Whether the text is elements of which no id comes twice. It may be `false` though it is, if an allocation fails.
+/// Whether the text is elements no two of which have the same id. If an allocation fails, it may return false for such
+/// a text too.
 pub(crate) fn are_elements(alloc: Global, text: &str) -> bool
     ensures { IsTrue result → grammar.IsAll grammar.sd_elements (chars text.now) }
 {
@@ -190,7 +192,7 @@ pub(crate) fn are_elements(alloc: Global, text: &str) -> bool
     }
 }
 
-/// The text after STRUCTURED-DATA. Where there is no memory for ids, they are compared by pairs.
+/// Returns the text after STRUCTURED-DATA. If there is no memory for ids, they are compared by pairs.
 #[inline(always)]
 pub(super) fn structured_data(alloc: Global, text: &str) -> Option<&str>
     ensures { Recognises grammar.structured_data (chars text.now) result }

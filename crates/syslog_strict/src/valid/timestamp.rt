@@ -1,4 +1,4 @@
-//! TIMESTAMP of RFC 5424 (section 6.2.3), whose rules the functions are named after.
+//! TIMESTAMP of RFC 5424 (section 6.2.3). The functions are named after its rules.
 ghost use Rattle.std.specs.Prelude.{◌∷◌, ◌<◌, [], MatchBool, Option, pos};
 ghost use Rattle.std.specs.Str.{chars};
 ghost use Rattle.jiff_core.specs.Calendar.{IsCivilDate};
@@ -40,7 +40,7 @@ fn time_hour(text: &str) -> Option<&str>
     Some(rest)
 }
 
-// TIME-MINUTE, and so TIME-SECOND, after a colon.
+// Returns the text after a colon and TIME-MINUTE, or TIME-SECOND, which is the same rule.
 #[inline(always)]
 fn time_minute(text: &str) -> Option<&str>
     ensures { Recognises (after 58 grammar.time_minute) (chars text.now) result }

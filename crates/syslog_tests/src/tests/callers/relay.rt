@@ -41,9 +41,9 @@ fn printed_anew(alloc: Global, message: &Message<&str>) -> Result<Sent, AllocErr
     Ok(Sent::Printed(text))
 }
 
-/// What is sent for the line. What is printed is read as the very message that the line was read as, by whatever year
-/// and zones; a line is sent as it came where it is no message, or one that print would change. An `Err` is only for
-/// memory.
+/// Returns what is sent for the line: the printed text of its message, or the line as it came. A printed text is read
+/// as the very message of the line, in any year and any zone. A line is sent as it came if it is no message, or if
+/// printing would change it. It fails only if an allocation does.
 fn relay(alloc: Global, line: &str, year: i32, local: &TimeZone<'_>) -> Result<Sent, AllocError>
     ensures prints { (text : String GlobalAllocator) → result ≡ Ok (Printed text)
         → OnReading Either (dating_of (Some year) None local.entry) (chars line.now) ⊥ (λ m.

@@ -7,8 +7,9 @@ use std::process::Abort;
 use syslog_loose::{IncompleteDate, ParseFault, Variant};
 use syslog_strict::to_rfc5424;
 
-/// Texts and what is written of them: an example of section 6.5 of RFC 5424; the same elements after more decimals than
-/// the grammar has; the example of section 5.4 of RFC 3164; and elements of which two have one id.
+/// Texts and what is written for them. They are an example of section 6.5 of RFC 5424, and its elements after more
+/// decimals than the grammar has. Then come the example of section 5.4 of RFC 3164, and elements of which two have one
+/// id.
 const TEXTS: [&str; 4] = [
     "<165>1 2003-10-11T22:14:15.003Z mymachine.example.com evntslog - ID47 [exampleSDID@32473 iut=\"3\" \
      eventSource=\"Application\" eventID=\"1011\"][examplePriority@32473 class=\"high\"]\
