@@ -20,11 +20,13 @@ TIDY = crates/syslog_tidy/out/syslog_tidy
 JSON = crates/syslog_json/out/syslog_json
 STRICT = crates/syslog_5424/out/syslog_5424
 LIBRARY = crates/syslog_c/out/libsyslog_c.a
-# The toolchain's part of the library, which asks for memory. (Looked for where it is linked alone: no install needs rt.)
+# The toolchain's part of the library, which asks for memory. (Looked for where it is linked alone: no install needs
+# rt.)
 KIT = $(patsubst %/,%,$(dir $(shell rt doc)))
 HEAP = $(KIT)/c/liblibc_c.a
 
-VERSION := $(shell awk '/^.define SYSLOG_VERSION_(MAJOR|MINOR|PATCH) / { printf s $$3; s = "." }' include/syslog_loose.h)
+VERSION := $(shell awk '/^.define SYSLOG_VERSION_(MAJOR|MINOR|PATCH) / { printf s $$3; s = "." }' \
+	include/syslog_loose.h)
 SONAME = libsyslog_loose.so.3
 SHARED = libsyslog_loose.so.$(VERSION)
 BUILT = $(TIDY) $(JSON) $(STRICT) $(OUT)/libsyslog_loose.a $(OUT)/$(SHARED)

@@ -152,10 +152,12 @@ def built_by_cargo(scratch, words, environment):
 
 
 def built_in_rust(library):
-    """Builds it over the library for C, statically. The crates that it needs come from Debian's packages (librust-chrono-dev)
-    where these are, and otherwise from cargo's own cache."""
+    """Builds it over the library for C, statically. The crates that it needs come from Debian's packages
+    (librust-chrono-dev) where these are, and otherwise from cargo's own cache."""
     scratch = os.path.join(tempfile.gettempdir(), "syslog-bench-rust")
-    subprocess.run(["make", "-s", "OUT=" + scratch, "LIBRARY=" + library, scratch + "/libsyslog_loose.a"], cwd=TOP, check=True)
+    subprocess.run(
+        ["make", "-s", "OUT=" + scratch, "LIBRARY=" + library, scratch + "/libsyslog_loose.a"], cwd=TOP, check=True
+    )
     ours = os.path.join(TOP, "bindings", "rust", "syslog_loose")
     words = ["--offline", "--config", 'patch.crates-io.syslog_loose.path="%s"' % ours]
     if os.path.isdir(CRATES_OF_DEBIAN):
@@ -370,8 +372,8 @@ def count_corpora(filters, chosen):
 
 
 def count_hostile(filters, chosen):
-    """The instructions of the first filter for the longest of each hostile line, the most by which they grew as its length
-    doubled, and by how much those of the other are more."""
+    """The instructions of the first filter for the longest of each hostile line, the most by which they grew as its
+    length doubled, and by how much those of the other are more."""
     size = "%d KB" % COUNTED_SIZES[-1]
     print("\nMillions of instructions for one hostile line of %s:\n" % size)
     more = ["the peer's over ours"] * (len(filters) > 1)
@@ -452,7 +454,11 @@ def check_objects(filters, chosen):
         differ = [it for it in values if not is_same_object(*it[1:])]
         wrong = [it for it in differ if not is_of_the_dash(*it[1:])]
         total += len(wrong)
-        print("%s: %d lines, %d of them of the dash, %d other objects differ" % (name, len(lines), len(differ) - len(wrong), len(wrong)))
+        print(
+            "%s: %d lines, %d of them of the dash, %d other objects differ" % (
+                name, len(lines), len(differ) - len(wrong), len(wrong)
+            )
+        )
         for line, own, peer in wrong[:3]:
             print("  line  %r\n  ours  %r\n  peer  %r" % (line, own, peer))
     return total
@@ -461,7 +467,9 @@ def check_objects(filters, chosen):
 def arguments():
     reader = argparse.ArgumentParser(description=__doc__, formatter_class=argparse.RawDescriptionHelpFormatter)
     reader.add_argument("--program", help="the program, instead of the one that is built")
-    told = "another program with the same argument; with --rust crates.io too: the same program over the crate from there"
+    told = (
+        "another program with the same argument; with --rust crates.io too: the same program over the crate from there"
+    )
     reader.add_argument("--peer", help=told)
     reader.add_argument("--check", action="store_true", help="compare the outputs")
     reader.add_argument("--instructions", action="store_true", help="count instructions by valgrind, and time nothing")

@@ -6,10 +6,10 @@
   compare_texts.py --dates 2000 --variant 3164 --zone rule ..        as many dates of RFC 3164, each in a whole message
   compare_texts.py --dashes 100000 --variant either ..               as many lines that begin their message with a dash
 
-PROGRAM of --ours is called with a variant (either, 3164 or 5424), the years and the zone; bench/build_reader builds
-it. PROGRAM of --theirs is called with --raw --variant VARIANT --year YEARS --tz ZONE, under TZ=UTC. Each reads texts, one a
-line, and prints a JSON object for each, with the fields of a message or "ok": false. The texts are the same
-each time for one seed. The status is 0 where each difference is one that is expected, and named below, and where `differs` of
+PROGRAM of --ours is called with a variant (either, 3164 or 5424), the years and the zone; bench/build_reader builds it.
+PROGRAM of --theirs is called with --raw --variant VARIANT --year YEARS --tz ZONE, under TZ=UTC. Each reads texts, one a
+line, and prints a JSON object for each, with the fields of a message or "ok": false. The texts are the same each time
+for one seed. The status is 0 where each difference is one that is expected, and named below, and where `differs` of
 ours is true exactly for the texts whose messages differ.
 """
 
@@ -23,20 +23,68 @@ import subprocess
 import sys
 
 HERE = os.path.dirname(os.path.abspath(__file__))
-FIELDS = "ok protocol version facility severity timestamp hostname appname procid msgid structured_data msg printed".split()
+FIELDS = (
+    "ok protocol version facility severity timestamp hostname appname procid msgid structured_data msg printed".split()
+)
 
-WHITE = [" ", "  ", "\t", " \t", "\u000b", "\u000c", "\r", "\u001c", "\u001f", "\u0085", "\u00a0", "\u1680", "\u2003", "\u2028", "\u202f", "\u3000", "\u200b", "\ufeff"]
-MARKS = ["[", "]", '"', "\\", "=", '="', '"]', "\\\"", "\\]", "\\\\", "\\n", "][", "[]", "-", ":", "<", ">", "- ", ": ", "[a]", '[a b="c"]', "[a b=]"]
+WHITE = [
+    " ",
+    "  ",
+    "\t",
+    " \t",
+    "\u000b",
+    "\u000c",
+    "\r",
+    "\u001c",
+    "\u001f",
+    "\u0085",
+    "\u00a0",
+    "\u1680",
+    "\u2003",
+    "\u2028",
+    "\u202f",
+    "\u3000",
+    "\u200b",
+    "\ufeff",
+]
+MARKS = [
+    "[",
+    "]",
+    '"',
+    "\\",
+    "=",
+    '="',
+    '"]',
+    "\\\"",
+    "\\]",
+    "\\\\",
+    "\\n",
+    "][",
+    "[]",
+    "-",
+    ":",
+    "<",
+    ">",
+    "- ",
+    ": ",
+    "[a]",
+    '[a b="c"]',
+    "[a b=]",
+]
 LIMITS = (
     "0 00 007 1 9 12 13 23 24 28 29 30 31 32 59 60 61 99 191 192 255 256 999 0000 1969 1970 9999 10000 32768 65536 "
     "2147483647 2147483648 -2147483648 -2147483649 +2147483647 4294967295 4294967296 00000000004294967295 "
     "999999999 1234567890 99999999999999999999 18446744073709551616"
 ).split()
-NON_ASCII = ["ü", "ß", "局域网", "🔋", "é", "e\u0301", "\u2212", "Ω", "\u0660", "\uff11", "\u00ad", "\U0010ffff", "\ue000", "\u0080"]
+NON_ASCII = [
+    "ü", "ß", "局域网", "🔋", "é", "e\u0301", "\u2212", "Ω", "\u0660", "\uff11", "\u00ad", "\U0010ffff", "\ue000", "\u0080"
+]
 STAMPS = [
-    "2003-10-11T22:14:15.003Z", "2016-12-31T23:59:60Z", "2016-12-31t23:59:60.999999999999+01:30", "2020-02-29T00:00:00-00:00",
+    "2003-10-11T22:14:15.003Z", "2016-12-31T23:59:60Z", "2016-12-31t23:59:60.999999999999+01:30",
+    "2020-02-29T00:00:00-00:00",
     "2019-02-29T00:00:00Z", "2020-01-01T00:00:00+23:59", "2020-01-01T00:00:00-24:00", "2020-01-01T00:00:00\u221201:00",
-    "2020-01-01 00:00:00Z", "2020-01-01T00:00:00UTC", "2020-01-01T00:00:00.Z", "2020-01-01T00:00:00+0100", "2020-01-01T00:00Z",
+    "2020-01-01 00:00:00Z", "2020-01-01T00:00:00UTC", "2020-01-01T00:00:00.Z", "2020-01-01T00:00:00+0100",
+    "2020-01-01T00:00Z",
     "9999-12-31T23:59:59.999999999Z", "9999-12-31T23:59:59+02:00", "0000-01-01T00:00:00+23:59", "+2020-01-01T00:00:00Z",
     "Oct 11 22:14:15", "Feb 29 00:00:00", "Dec 31 2020 23:59:59:", "-",
 ]  # fmt: skip
@@ -112,7 +160,20 @@ def put_stamp(chance, text, bases):
     return text[:begin] + chance.choice(STAMPS) + text[end:]
 
 
-EDITS = [splice, splice_words, delete, delete, double, swap_words, space_oddly, mark, mark, put_limit, put_non_ascii, put_stamp]
+EDITS = [
+    splice,
+    splice_words,
+    delete,
+    delete,
+    double,
+    swap_words,
+    space_oddly,
+    mark,
+    mark,
+    put_limit,
+    put_non_ascii,
+    put_stamp,
+]
 
 
 def edited(chance, bases):
@@ -132,7 +193,32 @@ def likely(bases, variant):
     return bases + 7 * [it for it in bases if re.match(form, it)]
 
 
-PIECES = ["[", "]", '"', "\\", "=", " ", "  ", "\t", "a", "id", "ex@32473", "name", "n", "ü", "局", "\u00a0", "\u3000", '="', '"]', '\\"', "\\]", "\\\\", "-", "1"]
+PIECES = [
+    "[",
+    "]",
+    '"',
+    "\\",
+    "=",
+    " ",
+    "  ",
+    "\t",
+    "a",
+    "id",
+    "ex@32473",
+    "name",
+    "n",
+    "ü",
+    "局",
+    "\u00a0",
+    "\u3000",
+    '="',
+    '"]',
+    '\\"',
+    "\\]",
+    "\\\\",
+    "-",
+    "1",
+]
 
 
 def run_of(chance, characters, least, most):
@@ -156,14 +242,27 @@ def element(chance):
     text = "[" + run_of(chance, PIECES, 1, 14) if chance.random() < 0.4 else near_element(chance)
     if chance.random() < 0.3:
         begin, end = span(chance, text, 3)
-        text = chance.choice([text[:begin] + text[end:], text[:end] + text[begin:], insert(chance, text, chance.choice(PIECES))])
+        text = chance.choice(
+            [text[:begin] + text[end:], text[:end] + text[begin:], insert(chance, text, chance.choice(PIECES))]
+        )
     return text
 
 
 MONTHS = "Jan Feb Mar Apr May Jun Jul Aug Sep Oct Nov Dec".split()
 GAPS = [" ", " ", " ", "  ", "\t", " \t ", ""]
 # Days and times about the edges of the zone's gap and fold, in the years that are asked for.
-EDGES = ["Mar 29 {}01:59:59", "Mar 29 {}02:00:00", "Mar 29 {}02:30:00", "Mar 29 {}02:59:59", "Mar 29 {}03:00:00", "Oct 25 {}01:59:59", "Oct 25 {}02:00:00", "Oct 25 {}02:30:00", "Oct 25 {}02:59:59", "Oct 25 {}03:00:00"]
+EDGES = [
+    "Mar 29 {}01:59:59",
+    "Mar 29 {}02:00:00",
+    "Mar 29 {}02:30:00",
+    "Mar 29 {}02:59:59",
+    "Mar 29 {}03:00:00",
+    "Oct 25 {}01:59:59",
+    "Oct 25 {}02:00:00",
+    "Oct 25 {}02:30:00",
+    "Oct 25 {}02:59:59",
+    "Oct 25 {}03:00:00",
+]
 
 
 def odd_case(chance, word):
@@ -175,21 +274,62 @@ def date(chance):
     if chance.random() < 0.2:
         text = chance.choice(EDGES).format(chance.choice(["", "2020 ", "2021 "]))
     else:
-        month = odd_case(chance, chance.choice(MONTHS)) if chance.random() < 0.9 else run_of(chance, ["J", "a", "n", "e", "b"], 2, 4)
+        month = odd_case(chance, chance.choice(MONTHS)) if chance.random() < 0.9 else run_of(
+            chance, ["J", "a", "n", "e", "b"], 2, 4
+        )
         day = chance.choice([str(chance.randrange(1, 29)), str(chance.randrange(0, 33)), chance.choice(LIMITS)])
-        year = chance.choice(["", "", str(chance.randrange(1990, 2030)), str(chance.randrange(0, 10001)), chance.choice(LIMITS)])
-        clock = ":".join(chance.choice([str(chance.randrange(0, 24)), "%02d" % chance.randrange(0, 61), "%02d" % chance.randrange(0, 61)]) for _ in range(3))
+        year = chance.choice(
+            ["", "", str(chance.randrange(1990, 2030)), str(chance.randrange(0, 10001)), chance.choice(LIMITS)]
+        )
+        clock = ":".join(
+            chance.choice(
+                [str(chance.randrange(0, 24)), "%02d" % chance.randrange(0, 61), "%02d" % chance.randrange(0, 61)]
+            )
+            for _ in range(3)
+        )
         if chance.random() < 0.1:
             clock = ":".join(clock.split(":")[:2] + [chance.choice(LIMITS)])
         words = [it for it in (month, day, year, clock) if it]
         text = "".join(word + chance.choice(GAPS) for word in words[:-1]) + words[-1]
-    return text + chance.choice(["", "", "", ":", "::", " :"]) + chance.choice([" h a: m", " h a: m", "", "h a: m", " h a[1]: m"])
+    return text + chance.choice(["", "", "", ":", "::", " :"]) + chance.choice(
+        [" h a: m", " h a: m", "", "h a: m", " h a[1]: m"]
+    )
 
 
-HEADERS = ["-", "-", "Oct 11 22:14:15", "Oct 11 2019 22:14:15", "oct  1 02:03:04:", "2019-10-11T22:14:15Z", "2019-10-11T22:14:15.5+02:00"]
+HEADERS = [
+    "-",
+    "-",
+    "Oct 11 22:14:15",
+    "Oct 11 2019 22:14:15",
+    "oct  1 02:03:04:",
+    "2019-10-11T22:14:15Z",
+    "2019-10-11T22:14:15.5+02:00",
+]
 NAMES = ["", " h", " mymachine", " -", " h:", " h[1]", " ü.example", " 10.0.0.1"]
 TAGS = ["", " app", " app", " app[323]", " -", " a/b", " [5]", " 局"]
-AFTER = ["", " ", "\t", "  ", "-", "--", "5", "5 degrees", "x", "x y", "ü", "🔋", ":", "[", "[e k=\"v\"] x", "[e] x", "]", "\"", ">", "- x", "-\tx"]
+AFTER = [
+    "",
+    " ",
+    "\t",
+    "  ",
+    "-",
+    "--",
+    "5",
+    "5 degrees",
+    "x",
+    "x y",
+    "ü",
+    "🔋",
+    ":",
+    "[",
+    "[e k=\"v\"] x",
+    "[e] x",
+    "]",
+    "\"",
+    ">",
+    "- x",
+    "-\tx",
+]
 
 
 def dashed(chance):
@@ -247,7 +387,9 @@ def plain(answer):
 
 # The last instant that a Timestamp of jiff holds, 9999-12-30T22:00:00.999999999Z.
 LAST_INSTANT = 253402207200999999999
-RFC_3339 = re.compile(r"[0-9]{4}-[0-9]{2}-[0-9]{2}[Tt][0-9]{2}:[0-9]{2}:[0-9]{2}(\.[0-9]+)?([Zz]|[+-][0-9]{2}:[0-9]{2})")
+RFC_3339 = re.compile(
+    r"[0-9]{4}-[0-9]{2}-[0-9]{2}[Tt][0-9]{2}:[0-9]{2}:[0-9]{2}(\.[0-9]+)?([Zz]|[+-][0-9]{2}:[0-9]{2})"
+)
 
 
 def shown_stamps(text):
@@ -282,7 +424,9 @@ def is_no_rfc_3339(text, ours, theirs):
 
 def is_dated_in_a_zone(text, ours, theirs):
     """A date with a year beside a given zone: taken as UTC there, and in the zone here, where a gap refuses it."""
-    if not re.match(r"\s*(<[0-9]+>)?[ \t]*[A-Za-z]{3}[ \t]+[0-9]+[ \t]+[0-9]+[ \t]+[0-9]", text) or not theirs.get("ok"):
+    if not re.match(
+        r"\s*(<[0-9]+>)?[ \t]*[A-Za-z]{3}[ \t]+[0-9]+[ \t]+[0-9]+[ \t]+[0-9]", text
+    ) or not theirs.get("ok"):
         return False
     if not ours.get("ok"):
         return True
@@ -313,7 +457,9 @@ def kind_of(text, ours, theirs):
     """The name of the expected difference, or the fields that differ."""
     dashed = with_its_dash(ours, theirs)
     if dashed and plain(ours) == plain(dashed):
-        return "A dash before a character that is no blank: a list of RFC 3164 there, and the begin of the message here."
+        return (
+            "A dash before a character that is no blank: a list of RFC 3164 there, and the begin of the message here."
+        )
     # (there may be another difference too)
     theirs = dashed or theirs
     for it in EXPECTED:
@@ -330,7 +476,11 @@ def report_dashes(texts, ours, theirs, shown):
     both = [(text, a, b) for text, a, b in zip(texts, ours, theirs) if a.get("ok") and b.get("ok")]
     wrong = [text for text, a, b in both if a["differs"] != (a["msg"] != b["msg"])]
     wrong += [text for text, a, b in zip(texts, ours, theirs) if a["differs"] and not (a.get("ok") and b.get("ok"))]
-    print("%d read by both; of them %d are said to be read differently, wrongly %d" % (len(both), sum(a["differs"] for _, a, _ in both), len(wrong)))
+    print(
+        "%d read by both; of them %d are said to be read differently, wrongly %d" % (
+            len(both), sum(a["differs"] for _, a, _ in both), len(wrong)
+        )
+    )
     for text in sorted(wrong, key=len)[:shown]:
         print("  text %s" % json.dumps(text, ensure_ascii=False))
     return not wrong
@@ -366,9 +516,19 @@ def arguments():
     reader.add_argument("--count", type=int, default=50_000, help="edited texts (50,000)")
     reader.add_argument("--elements", type=int, default=0, metavar="N", help="N elements instead of edited texts")
     reader.add_argument("--dates", type=int, default=0, metavar="N", help="N dates of RFC 3164 instead of edited texts")
-    reader.add_argument("--dashes", type=int, default=0, metavar="N", help="N lines that begin their message with a dash instead of edited texts")
-    reader.add_argument("--years", default="2019/2019", help="the years of dates without one, in December and else (2019/2019)")
-    reader.add_argument("--zone", default="none", help="the zone of dates without an offset: none, utc, rule or +HH:MM (none)")
+    reader.add_argument(
+        "--dashes",
+        type=int,
+        default=0,
+        metavar="N",
+        help="N lines that begin their message with a dash instead of edited texts",
+    )
+    reader.add_argument(
+        "--years", default="2019/2019", help="the years of dates without one, in December and else (2019/2019)"
+    )
+    reader.add_argument(
+        "--zone", default="none", help="the zone of dates without an offset: none, utc, rule or +HH:MM (none)"
+    )
     reader.add_argument("--seed", type=int, default=5424)
     reader.add_argument("--base", default=os.path.join(HERE, "base_texts.txt"), help="the texts that are edited")
     reader.add_argument("--shown", type=int, default=2, help="examples of each kind of difference (2)")
@@ -387,7 +547,9 @@ def main():
             out.writelines(text + "\n" for text in texts)
         return
     ours = answers([chosen.ours, chosen.variant, chosen.years, chosen.zone], texts)
-    theirs = answers([chosen.theirs, "--raw", "--variant", chosen.variant, "--year", chosen.years, "--tz", chosen.zone], texts)
+    theirs = answers(
+        [chosen.theirs, "--raw", "--variant", chosen.variant, "--year", chosen.years, "--tz", chosen.zone], texts
+    )
     expected = report(texts, ours, theirs, chosen.shown)
     told = report_dashes(texts, ours, theirs, chosen.shown)
     sys.exit(0 if expected and told else 1)

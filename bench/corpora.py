@@ -72,7 +72,9 @@ def plain_5424(chance):
 
 
 def element(chance):
-    values = ["%d" % chance.randrange(100000), "eth%d" % chance.randrange(8), "TCP FIN", "", 'C:\\\\tmp\\\\\\"a\\"', "x[1\\]"]
+    values = [
+        "%d" % chance.randrange(100000), "eth%d" % chance.randrange(8), "TCP FIN", "", 'C:\\\\tmp\\\\\\"a\\"', "x[1\\]"
+    ]
     names = ["sequence", "interface", "reason", "user", "path", "item"]
     params = "".join(' %s="%s"' % pair for pair in zip(names, values[: chance.randrange(7)]))
     return "[%s@%d%s]" % (chance.choice(["meta", "origin", "flow"]), chance.randrange(1, 65536), params)
@@ -220,39 +222,59 @@ def containers(chance):
         status, chance.randrange(2000), address(chance), chance.randrange(16**16))
     if chance.random() < 0.5:
         return header(chance) + " - " + text
-    return "%s%s %s dockerd[%d]: %s" % (priority(chance), month_stamp(chance), chance.choice(HOSTS), chance.randrange(1, 70000), text)
+    return "%s%s %s dockerd[%d]: %s" % (
+        priority(chance), month_stamp(chance), chance.choice(HOSTS), chance.randrange(1, 70000), text
+    )
 
 
 # An event of Windows, as NXLog and Winlogbeat write it: backslashes, and tabs where lines were.
 def windows(chance):
     user, name = chance.choice(["CORP\\anna", "CORP\\svc-backup", "NT AUTHORITY\\SYSTEM"]), chance.choice(HOSTS)
     program = chance.choice(["C:\\Windows\\System32\\svchost.exe", "C:\\Program Files\\Agent\\bin\\agent.exe"])
-    text = "A new process has been created.\tSubject:\t\tAccount Name:\t%s\tNew Process Name:\t%s\tCommand Line:\t\"%s\" -k netsvcs" % (
-        user, program, program)
+    text = (
+        "A new process has been created.\tSubject:\t\tAccount Name:\t%s\tNew Process Name:\t%s"
+        "\tCommand Line:\t\"%s\" -k netsvcs"
+    ) % (user, program, program)
     kind = '[NXLOG@14506 Keywords="-9214364837600034816" EventType="AUDIT_SUCCESS" EventID="%d" RecordNumber="%d"]' % (
         chance.choice([4624, 4634, 4688]), chance.randrange(10**7))
-    return "<14>1 %s %s Microsoft-Windows-Security-Auditing %d - %s %s" % (stamp(chance), name, chance.randrange(1, 9000), kind, text)
+    return "<14>1 %s %s Microsoft-Windows-Security-Auditing %d - %s %s" % (
+        stamp(chance), name, chance.randrange(1, 9000), kind, text
+    )
 
 
 # What a Juniper firewall writes of a session: an element of thirteen parameters and no message.
 def firewall(chance):
     values = [
-        ("source-address", address(chance)), ("source-port", chance.randrange(65536)), ("destination-address", address(chance)),
-        ("destination-port", chance.choice([53, 80, 443])), ("service-name", chance.choice(["junos-http", "junos-https", "None"])),
-        ("nat-source-address", address(chance)), ("nat-source-port", chance.randrange(65536)), ("protocol-id", chance.choice([6, 17])),
+        ("source-address", address(chance)), ("source-port", chance.randrange(65536)),
+        ("destination-address", address(chance)),
+        ("destination-port", chance.choice([53, 80, 443])),
+        ("service-name", chance.choice(["junos-http", "junos-https", "None"])),
+        ("nat-source-address", address(chance)), ("nat-source-port", chance.randrange(65536)),
+        ("protocol-id", chance.choice([6, 17])),
         ("policy-name", "trust-to-untrust"), ("source-zone-name", "trust"), ("destination-zone-name", "untrust"),
         ("session-id-32", chance.randrange(10**6)), ("packet-incoming-interface", "ge-0/0/%d.0" % chance.randrange(8)),
     ]
     params = "".join(' %s="%s"' % it for it in values)
-    return "<14>1 %s %s RT_FLOW - RT_FLOW_SESSION_CREATE [junos@2636.1.1.1.2.129%s]" % (stamp(chance), chance.choice(HOSTS), params)
+    return "<14>1 %s %s RT_FLOW - RT_FLOW_SESSION_CREATE [junos@2636.1.1.1.2.129%s]" % (
+        stamp(chance), chance.choice(HOSTS), params
+    )
 
 
 # An exception of a Java program with its trace of some 2 KB, whose lines a sender joined by "#012" and tabs.
 def java(chance):
-    classes = ["org.apache.catalina.core.ApplicationFilterChain", "com.example.orders.OrderService", "java.base/java.lang.Thread"]
-    text = 'ERROR [http-nio-8080-exec-%d] c.e.o.OrderController - Cannot read field "id" because "<local%d>" is null#012' % (
-        chance.randrange(200), chance.randrange(9))
-    calls = ["\tat %s.invoke(%s.java:%d)" % (it, it.split(".")[-1], chance.randrange(1000)) for it in chance.choices(classes, k=chance.randrange(14, 28))]
+    classes = [
+        "org.apache.catalina.core.ApplicationFilterChain",
+        "com.example.orders.OrderService",
+        "java.base/java.lang.Thread",
+    ]
+    text = (
+        'ERROR [http-nio-8080-exec-%d] c.e.o.OrderController'
+        ' - Cannot read field "id" because "<local%d>" is null#012'
+    ) % (chance.randrange(200), chance.randrange(9))
+    calls = [
+        "\tat %s.invoke(%s.java:%d)" % (it, it.split(".")[-1], chance.randrange(1000))
+        for it in chance.choices(classes, k=chance.randrange(14, 28))
+    ]
     return header(chance) + " - " + text + "#012".join(calls)
 
 
@@ -345,7 +367,10 @@ SETTLING_LINES = [
     ("dashes_after_a_process_3164", lambda size: "- host app[x:y]: " + filled("- ", size) + "x"),
     ("colons_of_a_dash_3164", lambda size: "- -" + filled(":", size) + " text"),
     ("colons_of_a_form_3164", lambda size: "- h[1]" + filled(":", size) + " text"),
-    ("colons_and_a_list_3164", lambda size: "- host" + filled(":", size // 2) + " " + filled('[a b="c"]', size // 2) + " - x"),
+    (
+        "colons_and_a_list_3164"
+        "", lambda size: "- host" + filled(":", size // 2) + " " + filled('[a b="c"]', size // 2) + " - x"
+    ),
 ]
 
 HOSTILE = [

@@ -3,10 +3,10 @@
 
     bench/python.py [--site FOLDER] [--python PYTHON] [--times] [--write]
 
-FOLDER has the package as it is installed; where it isn't given, the package is built over the library for C that `rt lib`
-left in crates/. PYTHON (/usr/bin/python3) has jc, numpy and pandas: Debian's packages jc and python3-pandas. Instructions
-are counted by valgrind, as the difference of two runs of bench/python_lines; with --times they are not. --write puts the
-tables into docs/BENCHMARKS.md.
+FOLDER has the package as it is installed; where it isn't given, the package is built over the library for C that `rt
+lib` left in crates/. PYTHON (/usr/bin/python3) has jc, numpy and pandas: Debian's packages jc and python3-pandas.
+Instructions are counted by valgrind, as the difference of two runs of bench/python_lines; with --times they are not.
+--write puts the tables into docs/BENCHMARKS.md.
 """
 
 import argparse
@@ -83,7 +83,9 @@ def package(room):
     subprocess.run(["cp", "-R", os.path.join(bench.TOP, "bindings", "python"), source], check=True)
     folders = {"SYSLOG_LOOSE_LIB": room, "SYSLOG_LOOSE_INCLUDE": os.path.join(bench.TOP, "include")}
     words = ["/usr/bin/python3", "setup.py", "-q", "build", "--build-lib", site]
-    subprocess.run(words, cwd=source, env={**os.environ, **folders}, check=True, stdout=sys.stderr, stderr=subprocess.DEVNULL)
+    subprocess.run(
+        words, cwd=source, env={**os.environ, **folders}, check=True, stdout=sys.stderr, stderr=subprocess.DEVNULL
+    )
     return site
 
 
@@ -96,7 +98,8 @@ def written(room, count):
 
 
 def table_of(measured, own, last, ratio, files):
-    """A table of what is measured for the package's own ways, for jc and for a regular expression, and of jc beside parse."""
+    """A table of what is measured for the package's own ways, for jc and for a regular expression, and of jc beside
+    parse."""
     table = bench.head("corpus", *own, "jc", "regular expression", last)
     for name, file in files.items():
         which = CORPORA[name]

@@ -1,9 +1,10 @@
 #!/usr/bin/env python3
 """Counts the messages of log files by host and severity, on many machines: dask_logs.py YEAR FILE..
 
-It needs dask.distributed and pandas (Debian: python3-distributed, python3-pandas). The workers are processes of this machine,
-four or as many as WORKERS says. If DASK_SCHEDULER has the address of a cluster's scheduler, they are those of the cluster: they
-need the package syslog_loose too, and the files under the same names (dask also opens s3://.. and hdfs://..).
+It needs dask.distributed and pandas (Debian: python3-distributed, python3-pandas). The workers are processes of this
+machine, four or as many as WORKERS says. If DASK_SCHEDULER has the address of a cluster's scheduler, they are those of
+the cluster: they need the package syslog_loose too, and the files under the same names (dask also opens s3://.. and
+hdfs://..).
 
 A message that shows no host or no severity is not counted.
 """

@@ -1,5 +1,5 @@
-"""Says where the library for C lies: in the folders SYSLOG_LOOSE_LIB and SYSLOG_LOOSE_INCLUDE, or as pkg-config says, or where
-make puts it."""
+"""Says where the library for C lies: in the folders SYSLOG_LOOSE_LIB and SYSLOG_LOOSE_INCLUDE, or as pkg-config says,
+or where make puts it."""
 import os
 import subprocess
 
@@ -12,7 +12,9 @@ def folders(name, flag, made):
     if name in os.environ:
         return [os.environ[name]]
     try:
-        told = subprocess.run(["pkg-config", flag, "syslog_loose"], stdout=subprocess.PIPE, stderr=subprocess.DEVNULL, text=True)
+        told = subprocess.run(
+            ["pkg-config", flag, "syslog_loose"], stdout=subprocess.PIPE, stderr=subprocess.DEVNULL, text=True
+        )
     except OSError:
         return [made]
     # (pkg-config leaves out where the compiler looks anyhow)

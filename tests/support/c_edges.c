@@ -60,8 +60,9 @@ static int is_set(const struct place *place)
 {
     const struct syslog_message *it = &place->message;
     struct syslog_text text = stood();
-    return it->protocol == 7 && it->version == 0 && it->dialect == 79 && it->facility == 0 && it->severity == 0 && !it->timestamp.present
-        && same_text(&it->host, &text) && same_text(&it->app, &text) && same_text(&it->process.name, &text)
+    return it->protocol == 7 && it->version == 0 && it->dialect == 79 && it->facility == 0 && it->severity == 0
+        && !it->timestamp.present && same_text(&it->host, &text) && same_text(&it->app, &text)
+        && same_text(&it->process.name, &text)
         && same_text(&it->msgid, &text) && same_text(&it->msg, &text) && it->elements == 77 && it->params == 78
         && same_text(&it->unparsed, &text);
 }
@@ -245,9 +246,11 @@ static void wrong_arguments(void)
 {
     static const char line[] = "1 - - - - - [a b=\"c\"] x", latin[] = "1 - - - - - - gr\xfc\xdf";
     static const struct syslog_options wrong[] = {
-        { 1, 2026, 0, 0, 0 },     { 5425, 2026, 0, 0, 0 },   { 0, -10000, 0, 0, 0 },       { 0, 10000, 0, 0, 0 },
-        { 0, INT32_MIN, 1, 0, 0 }, { 0, INT32_MAX, 0, 0, 1 }, { 0, 2026, 13, 0, 0 },        { 0, 2026, UINT32_MAX, 0, 0 },
-        { 0, 2026, 0, 93600, 0 },  { 0, 2026, 0, -93600, 1 }, { 0, 2026, 0, INT32_MIN, 0 }, { 3163, 2026, 0, 0, 0 },
+        { 1, 2026, 0, 0, 0 },         { 5425, 2026, 0, 0, 0 },   { 0, -10000, 0, 0, 0 },
+        { 0, 10000, 0, 0, 0 },        { 0, INT32_MIN, 1, 0, 0 }, { 0, INT32_MAX, 0, 0, 1 },
+        { 0, 2026, 13, 0, 0 },        { 0, 2026, UINT32_MAX, 0, 0 },
+        { 0, 2026, 0, 93600, 0 },     { 0, 2026, 0, -93600, 1 }, { 0, 2026, 0, INT32_MIN, 0 },
+        { 3163, 2026, 0, 0, 0 },
     };
     for (size_t i = 0; i < sizeof wrong / sizeof *wrong; i++) {
         refused(line, sizeof line - 1, &wrong[i], SYSLOG_BAD_ARGUMENT);
@@ -455,7 +458,9 @@ static void large_and_odd(void)
         { "Mar  2 06:35:05 a", "\xc3\xa9", "[7]: x" },
         { "Mar  2 06:35:05 h a: ", " ", "x" },
     };
-    static const size_t counts[] = { 0, 1, 2, 7, 8, 9, 15, 16, 17, 31, 32, 33, 34, 63, 64, 65, 127, 128, 129, 255, 256, 257, 4096 };
+    static const size_t counts[] = {
+        0, 1, 2, 7, 8, 9, 15, 16, 17, 31, 32, 33, 34, 63, 64, 65, 127, 128, 129, 255, 256, 257, 4096
+    };
     writer *calls[] = { normalise, settle, strict, object, object_with_line };
     for (size_t i = 0; i < sizeof shapes / sizeof *shapes; i++)
         for (size_t k = 0; k < sizeof counts / sizeof *counts; k++) {

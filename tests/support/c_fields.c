@@ -28,8 +28,8 @@ static void fault(const char *what)
 /* What there are rooms for at a time. */
 enum room { LINE, ELEMENTS, PARAMS, WRITTEN, ROOMS };
 
-/* So many bytes, all zero, before a page that can't be touched. Each line gets the same pages while they suffice: mapping
- * them anew took most of the time. */
+/* So many bytes, all zero, before a page that can't be touched. Each line gets the same pages while they suffice:
+ * mapping them anew took most of the time. */
 static void *room_of(enum room which, size_t size)
 {
     static struct { char *end; size_t size; } rooms[ROOMS];

@@ -1,6 +1,6 @@
-/* Reads standard input by syslog_read_lines, with room for so many rows at a time, and compares each row with what syslog_read
- * tells of the line: for each room from 1 to 300 rows that is a power of three, for the whole at once, and for blocks that are
- * cut anywhere, within lines and characters too.
+/* Reads standard input by syslog_read_lines, with space for so many rows at a time, and compares each row with what
+ * syslog_read returns of the line. It does so for each number of rows from 1 to 300 that is a power of three, for the
+ * whole at once, and for blocks that are cut anywhere, within lines and characters too.
  *
  *   c_rows YEAR      prints how many lines there are, and how many of them are messages
  *
@@ -20,7 +20,8 @@ static void fault(const char *what, size_t line)
 
 static int same_text(const struct syslog_text *one, const struct syslog_text *other)
 {
-    return one->present == other->present && one->length == other->length && (!one->length || one->start == other->start);
+    return one->present == other->present && one->length == other->length
+        && (!one->length || one->start == other->start);
 }
 
 static int same_message(const struct syslog_message *one, const struct syslog_message *other)
@@ -32,8 +33,9 @@ static int same_message(const struct syslog_message *one, const struct syslog_me
            at->shows_offset == when->shows_offset && same_text(&one->host, &other->host) &&
            same_text(&one->app, &other->app) && same_text(&one->process.name, &other->process.name) &&
            one->process.number == other->process.number && one->process.is_number == other->process.is_number &&
-           same_text(&one->msgid, &other->msgid) && same_text(&one->msg, &other->msg) && one->elements == other->elements &&
-           one->params == other->params && one->dialect == other->dialect && same_text(&one->unparsed, &other->unparsed);
+           same_text(&one->msgid, &other->msgid) && same_text(&one->msg, &other->msg) &&
+           one->elements == other->elements && one->params == other->params && one->dialect == other->dialect &&
+           same_text(&one->unparsed, &other->unparsed);
 }
 
 /* Compares a row with its line, which begins there, and returns where the next one begins. */
@@ -57,7 +59,8 @@ static const char *compare(const struct syslog_row *row, const char *at, const c
 }
 
 /* Reads all with so much room, and returns how many lines are messages. */
-static size_t read_all(const char *begin, const char *end, const struct syslog_options *options, size_t room, size_t *lines)
+static size_t read_all(const char *begin, const char *end, const struct syslog_options *options, size_t room,
+                       size_t *lines)
 {
     struct syslog_row *rows = malloc(room * sizeof *rows);
     size_t messages = 0, read = 0;

@@ -20,5 +20,9 @@ def shared(name, room):
     built = os.path.join(room, name + ".so")
     made = subprocess.run(["cc", "-O1", "-shared", "-fPIC", "-o", built, os.path.join(HERE, name + ".c")])
     if made.returncode:
-        sys.exit("%s: cc failed on tests/support/%s.c. Its headers: apt-get install libc6-dev" % (os.path.basename(sys.argv[0]), name))
+        sys.exit(
+            "%s: cc failed on tests/support/%s.c. Its headers: apt-get install libc6-dev" % (
+                os.path.basename(sys.argv[0]), name
+            )
+        )
     return built

@@ -1,7 +1,9 @@
-"""What tests/program, tests/json and tests/strict share: how a built program is run on some input, and what is seen of it.
+"""What tests/program, tests/json and tests/strict share: how a built program is run on some input, and what is seen of
+it.
 
-A case is a row of a table, and its streams are those of a shell's redirection. One that no redirection makes is a function
-that starts the program itself; those of pipes are here, for each way to call a program that a `Mode` describes.
+A case is a row of a table, and its streams are those of a shell's redirection. One that no redirection makes is a
+function that starts the program itself; those of pipes are here, for each way to call a program that a `Mode`
+describes.
 """
 import os
 import subprocess
@@ -46,24 +48,39 @@ HOSTILE_LINES = {
     "a priority of a million zeros": (b"<" + b"0" * MILLION + b"34>1 - - - - - -", b"<34>1 - - - - - - "),
     "a version of a million nines": (b"9" * MILLION + b" - - - - - -", None),
     "a process id of a million zeros": (b"1 - h a " + b"0" * MILLION + b"7 m - x", b"<47>1 - h a 7 m - x"),
-    "a process id of a million nines": (b"1 - h a " + b"9" * MILLION + b" m - x", b"<47>1 - h a " + b"9" * MILLION + b" m - x"),
+    "a process id of a million nines": (
+        b"1 - h a " + b"9" * MILLION + b" m - x", b"<47>1 - h a " + b"9" * MILLION + b" m - x"
+    ),
     "a million decimals": (
         b"1 2020-01-01T00:00:00." + b"1" * MILLION + b"Z h a 1 m - x",
         b"<47>1 2020-01-01T00:00:00.111111111+00:00 h a 1 m - x",
     ),
-    "a host of a million colons": (b"1 - " + b":" * MILLION + b"h a 1 m - x", b"<47>1 - " + b":" * MILLION + b"h a 1 m - x"),
-    "an app name of a million brackets": (b"1 - h " + b"[" * MILLION + b" 1 m - x", b"<47>1 - h " + b"[" * MILLION + b" 1 m - x"),
+    "a host of a million colons": (
+        b"1 - " + b":" * MILLION + b"h a 1 m - x", b"<47>1 - " + b":" * MILLION + b"h a 1 m - x"
+    ),
+    "an app name of a million brackets": (
+        b"1 - h " + b"[" * MILLION + b" 1 m - x", b"<47>1 - h " + b"[" * MILLION + b" 1 m - x"
+    ),
     "RFC 3164: a million blanks at each end": (b" " * MILLION + DASHED + b" " * MILLION, DASHED_TIDY),
-    "RFC 3164: a day of a million zeros": (b"Oct " + b"0" * MILLION + b"5 07:08:09 h a: x", b"<47> 2019-10-05T07:08:09+00:00 h a: x"),
+    "RFC 3164: a day of a million zeros": (
+        b"Oct " + b"0" * MILLION + b"5 07:08:09 h a: x", b"<47> 2019-10-05T07:08:09+00:00 h a: x"
+    ),
     "RFC 3164: a year of a million nines": (b"Oct 5 " + b"9" * MILLION + b" 07:08:09 h a: x", None),
-    "RFC 3164: a host of a million colons": (b"- " + b":" * MILLION + b"h a: x", b"<47> - " + b":" * MILLION + b"h a: x"),
-    "RFC 3164: a tag of a million brackets": (b"- h " + b"[" * MILLION + b": x", b"<47> - h " + b"[" * MILLION + b": x"),
+    "RFC 3164: a host of a million colons": (
+        b"- " + b":" * MILLION + b"h a: x", b"<47> - " + b":" * MILLION + b"h a: x"
+    ),
+    "RFC 3164: a tag of a million brackets": (
+        b"- h " + b"[" * MILLION + b": x", b"<47> - h " + b"[" * MILLION + b": x"
+    ),
     "RFC 3164: a process id of a million zeros": (b"- h a[" + b"0" * MILLION + b"7]: x", b"<47> - h a[7]: x"),
     **{
         name: (b"1 - - - - - " + given, strict and b"<47>1 - - - - - " + strict)
         for name, (given, strict, _) in HOSTILE_LISTS.items()
     },
-    **{"RFC 3164: " + name: (b"- h a: " + given, b"<47> - h a: " + loose) for name, (given, _, loose) in HOSTILE_LISTS.items()},
+    **{
+        "RFC 3164: " + name: (b"- h a: " + given, b"<47> - h a: " + loose)
+        for name, (given, _, loose) in HOSTILE_LISTS.items()
+    },
 }
 
 
@@ -90,8 +107,8 @@ def refused(count, lines):
 
 
 def no_messages(program, count, lines, invalid=0, replaced=0):
-    """What a program says of its lines: how many are no messages, how many of these are not UTF-8, and how many others have
-    U+FFFD for what is not."""
+    """What a program says of its lines: how many are no messages, how many of these are not UTF-8, and how many others
+    have U+FFFD for what is not."""
     said = b""
     if count:
         reason = b" (%d not UTF-8)" % invalid if invalid else b""
@@ -127,7 +144,8 @@ NO_YEARS = ("x", "", "20190", "00000", "+19", "-19", " 2019", "2019 ", "2019\n",
 
 
 class Mode(NamedTuple):
-    """A way to call a program: its arguments, a line, what is written of it, and what is said of so many of so many lines.
+    """A way to call a program: its arguments, a line, what is written of it, and what is said of so many of so many
+    lines.
 
     `plain` takes what was written to what is compared.
     """
@@ -244,7 +262,8 @@ def asked(program, word, **streams):
 
 
 def of_itself(text):
-    """The cases of how a program says how it is called, in this text, and that it judges its arguments before it reads."""
+    """The cases of how a program says how it is called, in this text, and that it judges its arguments before it
+    reads."""
 
     def tells(program):
         ran = asked(program, "--help")
@@ -288,8 +307,8 @@ def judges(cases, plain=bytes):
 
 
 def main(crate, judges):
-    """Judges each program that is named, or the crate's own: `judges` are names and functions of the program, each of which
-    returns what it saw and what it wants. The status is 0 if all were equal."""
+    """Judges each program that is named, or the crate's own: `judges` are names and functions of the program, each of
+    which returns what it saw and what it wants. The status is 0 if all were equal."""
     name = os.path.basename(sys.argv[0])
     programs = sys.argv[1:] or [os.path.join(TOP, "crates", crate, "out", crate)]
     missing = [it for it in programs if not os.path.isfile(it)]
@@ -304,6 +323,10 @@ def main(crate, judges):
                 seen, wanted = "no end: %s" % fault, "an end"
             passed, failed = passed + (seen == wanted), failed + (seen != wanted)
             if seen != wanted:
-                print("%s: %s: %s\n  seen:   %s\n  wanted: %s" % (name, os.path.basename(program), what, short(seen), short(wanted)))
+                print(
+                    "%s: %s: %s\n  seen:   %s\n  wanted: %s" % (
+                        name, os.path.basename(program), what, short(seen), short(wanted)
+                    )
+                )
     print("%s: %d passed, %d failed" % (name, passed, failed))
     return 1 if failed or not passed else 0

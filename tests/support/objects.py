@@ -1,5 +1,5 @@
-"""The JSON that syslog_json writes of a line, for tests/json, tests/c_library and tests/by_hand/json_fields: as Python's json
-reads it, and as the fields of the line's message say."""
+"""The JSON that syslog_json writes of a line, for tests/json, tests/c_library and tests/by_hand/json_fields: as
+Python's json reads it, and as the fields of the line's message say."""
 import json
 
 KEYS = (
@@ -33,8 +33,8 @@ def text_of(value):
 
 
 def value_of(line):
-    """What Python's json makes of a line, or what is wrong with it: it must also be the very text that json writes, with
-    no other keys, and these in order."""
+    """What Python's json makes of a line, or what is wrong with it: it must also be the very text that json writes,
+    with no other keys, and these in order."""
     try:
         value = json.loads(line.decode(), object_pairs_hook=once)
     except ValueError as wrong:
@@ -78,11 +78,13 @@ def refused_line(line):
 
 
 def object_of(line, fields, raw=False):
-    """The object of a line, by its fields as bench/reader, the Rust crate or the library for C has them, and with the line
-    itself where that is asked for."""
+    """The object of a line, by its fields as bench/reader, the Rust crate or the library for C has them, and with the
+    line itself where that is asked for."""
     if not fields["ok"]:
         return refused_line(line)
-    elements = [(it["id"], gathered((name, plain) for name, _, plain in it["params"])) for it in fields["structured_data"]]
+    elements = [
+        (it["id"], gathered((name, plain) for name, _, plain in it["params"])) for it in fields["structured_data"]
+    ]
     found = {
         "protocol": fields["protocol"],
         "version": fields["version"],

@@ -8,7 +8,8 @@ SD_ELEMENT = rb"\[" + SD_NAME + rb"(?: " + SD_NAME + rb"=\"" + PARAM_VALUE + rb"
 TIMESTAMP = rb"(?:-|(\d{4})-(\d\d)-(\d\d)T(\d\d):(\d\d):(\d\d)(?:\.\d{1,6})?(?:Z|[+-](\d\d):(\d\d)))"
 SYSLOG_MSG = re.compile(
     rb"<(0|[1-9]\d{0,2})>[1-9]\d{0,2} " + TIMESTAMP
-    + rb" " + PRINTUSASCII + rb"{1,255} " + PRINTUSASCII + rb"{1,48} " + PRINTUSASCII + rb"{1,128} " + PRINTUSASCII + rb"{1,32}"
+    + rb" " + PRINTUSASCII + rb"{1,255} "
+                             rb"" + PRINTUSASCII + rb"{1,48} " + PRINTUSASCII + rb"{1,128} " + PRINTUSASCII + rb"{1,32}"
     + rb" (-|(?:" + SD_ELEMENT + rb")+)(?: .*)?",
     re.DOTALL,
 )

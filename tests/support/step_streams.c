@@ -1,7 +1,8 @@
-/* Loaded into a program by LD_PRELOAD, it gives at most READ_STEP bytes of the standard input at a read, and takes at most
-   WRITE_STEP bytes for the standard output or the standard error at a write. The read whose number is WRONG_READ fails, from
-   1 on; so does the write to the standard output whose number is WRONG_WRITE, and with TAKES_NOTHING that takes nothing. At the program's end it
-   writes to the file descriptor STREAMS_TELL how many reads and writes there were, and how many writes for the standard error. */
+/* Loaded into a program by LD_PRELOAD, it gives at most READ_STEP bytes of the standard input at a read, and takes at
+   most WRITE_STEP bytes for the standard output or the standard error at a write. The read whose number is WRONG_READ
+   fails, from 1 on. So does the write to the standard output whose number is WRONG_WRITE; with TAKES_NOTHING that takes
+   nothing. At the program's end it writes to the file descriptor STREAMS_TELL how many reads and writes there were, and
+   how many writes for the standard error. */
 #include <errno.h>
 #include <stdio.h>
 #include <stdlib.h>

@@ -50,5 +50,8 @@ fn main() {
         line.clear();
     }
     let Totals { read, bytes, elements, params, numbers } = totals;
-    println!("{lines} lines, {read} read, {bytes} bytes of texts, {elements} elements, {params} parameters, numbers {numbers}");
+    println!(
+        "{lines} lines, {read} read, {bytes} bytes of texts, {elements} elements, {params} parameters, \
+         numbers {numbers}"
+    );
 }

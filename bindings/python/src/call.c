@@ -62,7 +62,8 @@ static int32_t number_of(PyObject *word)
 
 static uint32_t variant_of(PyObject *word)
 {
-    static const struct variant { const char *name; uint32_t number; } variants[] = {{"either", 0}, {"3164", 3164}, {"5424", 5424}};
+    static const struct variant { const char *name; uint32_t number; } variants[] = {
+        {"either", 0}, {"3164", 3164}, {"5424", 5424}};
     for (size_t i = 0; PyUnicode_Check(word) && i < COUNT_OF(variants); i++)
         if (PyUnicode_CompareWithASCIIString(word, variants[i].name) == 0)
             return variants[i].number;

@@ -13,7 +13,8 @@ static int64_t time_of(const struct syslog_timestamp *at)
     return at->seconds * 1000000000 + at->nanoseconds;
 }
 
-static void put_text(char *const *columns, enum column at, size_t row, const char *buffer, const struct syslog_text *text)
+static void put_text(char *const *columns, enum column at, size_t row, const char *buffer,
+                     const struct syslog_text *text)
 {
     ((int64_t *)columns[at])[row] = text->present ? text->start - buffer : -1;
     ((int64_t *)columns[at + 1])[row] = (int64_t)text->length;

@@ -1,8 +1,8 @@
 /* The message of a line, as an object. */
 #include "native.h"
 
-/* What the module datetime hands to C, as far as it is used here: so it has been since Python 3.7. (A call by its name would
- * take as long as all else that is done for a line.) */
+/* What the module datetime hands to C, as far as it is used here: so it has been since Python 3.7. (A call by its name
+ * would take as long as all else that is done for a line.) */
 static const struct {
     PyTypeObject *date, *datetime, *time, *delta, *zone;
     PyObject *utc;
@@ -11,8 +11,8 @@ static const struct {
 } *dates;
 
 /* The fields of a Message, in its order. */
-enum field { PROTOCOL, VERSION, FACILITY, SEVERITY, TIMESTAMP, NANOSECOND, TIMESTAMP_TEXT, SHOWS_YEAR, SHOWS_OFFSET, HOSTNAME,
-             APPNAME, PROCID, MSGID, STRUCTURED_DATA, MESSAGE, RAW, DIALECT, UNPARSED, FIELDS };
+enum field { PROTOCOL, VERSION, FACILITY, SEVERITY, TIMESTAMP, NANOSECOND, TIMESTAMP_TEXT, SHOWS_YEAR, SHOWS_OFFSET,
+             HOSTNAME, APPNAME, PROCID, MSGID, STRUCTURED_DATA, MESSAGE, RAW, DIALECT, UNPARSED, FIELDS };
 
 /* Members of Facility and of Severity, by their numbers, and other values that many messages share. */
 static PyObject *facilities[24], *severities[8], *numbers[2], *nothing;
@@ -42,7 +42,9 @@ int set_message(void)
     numbers[1] = PyLong_FromLong(5424);
     nothing = PyTuple_New(0);
     dates = PyCapsule_Import("datetime.datetime_CAPI", 0);
-    if (!dates || !numbers[0] || !numbers[1] || !nothing || take_members(given.facilities, facilities, COUNT_OF(facilities)))
+    if (!dates || !numbers[0] || !numbers[1] || !nothing)
+        return -1;
+    if (take_members(given.facilities, facilities, COUNT_OF(facilities)))
         return -1;
     return take_members(given.severities, severities, COUNT_OF(severities));
 }
@@ -211,8 +213,9 @@ static PyObject *process_of(const struct line *line, const struct syslog_process
 }
 
 /* The message of a line that is a text. */
-static PyObject *fields_of(const struct line *line, const struct syslog_options *options, const struct syslog_message *m,
-                           const struct syslog_element *elements, const struct syslog_param *params)
+static PyObject *fields_of(const struct line *line, const struct syslog_options *options,
+                           const struct syslog_message *m, const struct syslog_element *elements,
+                           const struct syslog_param *params)
 {
     const struct syslog_timestamp *at = &m->timestamp;
     PyObject *made = new_tuple(given.message, FIELDS);
@@ -244,8 +247,9 @@ static PyObject *fields_of(const struct line *line, const struct syslog_options 
     return made;
 }
 
-static PyObject *message_of(const struct line *line, const struct syslog_options *options, const struct syslog_message *m,
-                            const struct syslog_element *elements, const struct syslog_param *params)
+static PyObject *message_of(const struct line *line, const struct syslog_options *options,
+                            const struct syslog_message *m, const struct syslog_element *elements,
+                            const struct syslog_param *params)
 {
     if (PyUnicode_Check(line->given))
         return fields_of(line, options, m, elements, params);
@@ -271,7 +275,8 @@ static PyObject *read_large(const struct line *line, const struct syslog_options
         params[i] = (struct syslog_param)SYSLOG_PARAM_INIT;
     if (!elements || !params)
         PyErr_NoMemory();
-    else if (syslog_read(line->start, (size_t)line->length, options, m, elements, m->elements, params, m->params) == SYSLOG_DONE)
+    else if (syslog_read(line->start, (size_t)line->length, options, m, elements, m->elements, params, m->params)
+             == SYSLOG_DONE)
         made = message_of(line, options, m, elements, params);
     PyMem_Free(elements);
     PyMem_Free(params);
@@ -285,15 +290,16 @@ PyObject *parse(PyObject *self, PyObject *const *words, Py_ssize_t count, PyObje
     if (take_call(words, count, names, READING_KEYS, &call))
         return NULL;
     const struct line *line = &call.line;
-    size_t element_room = rooms.are_taken ? 0 : COUNT_OF(rooms.elements), param_room = rooms.are_taken ? 0 : COUNT_OF(rooms.params);
+    size_t element_room = rooms.are_taken ? 0 : COUNT_OF(rooms.elements);
+    size_t param_room = rooms.are_taken ? 0 : COUNT_OF(rooms.params);
     uint32_t outcome = syslog_read(line->start, (size_t)line->length, &call.options, &m, rooms.elements, element_room,
                                    rooms.params, param_room);
     if (outcome == SYSLOG_NO_ROOM)
         return read_large(line, &call.options, &m);
     if (outcome != SYSLOG_DONE)
         return refuse(outcome, line->given);
-    /* While the message is made, Python may collect garbage, and run code that comes here again, of another thread too. Who
-     * has taken the rooms gives them back, and nobody else. */
+    /* While the message is made, Python may collect garbage, and run code that comes here again, of another thread too.
+     * Who has taken the rooms gives them back, and nobody else. */
     int takes = m.elements > 0;
     if (takes)
         rooms.are_taken = 1;

@@ -6,8 +6,8 @@ struct given given;
 /* Keeps what the package hands over. */
 static PyObject *set_up(PyObject *self, PyObject *words)
 {
-    if (!PyArg_ParseTuple(words, "OOOOOO", &given.error, &given.message, &given.element, &given.facilities, &given.severities,
-                          &given.zone))
+    if (!PyArg_ParseTuple(words, "OOOOOO", &given.error, &given.message, &given.element, &given.facilities,
+                          &given.severities, &given.zone))
         return NULL;
     Py_INCREF(words);
     given.zones = PyDict_New();
@@ -29,12 +29,15 @@ static PyMethodDef methods[] = {
     OF_A_LINE(parse, ", dialects=True", "The message of a line. ParseError where it is none."),
     OF_A_LINE(normalise, "", "The line in printed form. ParseError where it is no message."),
     OF_A_LINE(settle, "",
-              "The line printed again and again until it no longer changes. ParseError where it, or such a text, is no message."),
+              "The line printed again and again until it no longer changes. ParseError where it, or such a text, is no "
+              "message."),
     OF_A_LINE(to_rfc5424, "",
-              "The line as strict RFC 5424: unchanged if it is in the RFC's grammar, and otherwise its message, converted.\n"
+              "The line as strict RFC 5424: unchanged if it is in the RFC's grammar, and otherwise its message, "
+              "converted.\n"
               "ParseError where it is neither."),
     OF_A_LINE(json, ", dialects=True, raw=False",
-              "The message of a line as the text of one JSON object, as syslog_json writes it; with `raw` it has the line too.\n"
+              "The message of a line as the text of one JSON object, as syslog_json writes it; with `raw` it has the "
+              "line too.\n"
               "ParseError where the line is no message."),
     {"dialect_name", dialect_name, METH_O,
      "dialect_name($module, number, /)\n--\n\nThe name of the dialect that has this number. None where none has."},

@@ -65,7 +65,8 @@ PyObject *texts(PyObject *self, PyObject *words)
     PyObject *list = PyList_New(end - begin);
     for (Py_ssize_t i = begin; list && i < end; i++) {
         int is_number = are_numbers && are_numbers[i];
-        PyObject *text = is_number ? digits_of(((const int32_t *)told.columns[NUMBER])[i]) : piece(told.buffer, at[i], size[i]);
+        PyObject *text = is_number ? digits_of(((const int32_t *)told.columns[NUMBER])[i])
+                                   : piece(told.buffer, at[i], size[i]);
         if (text)
             PyList_SetItem(list, i - begin, text);
         else
@@ -74,8 +75,8 @@ PyObject *texts(PyObject *self, PyObject *words)
     return list;
 }
 
-/* A table of texts that were met, each with the code that it got. With a seed that nobody knows, nobody can choose texts
- * that all fall on one place. */
+/* A table of texts that were met, each with the code that it got. With a seed that nobody knows, nobody can choose
+ * texts that all fall on one place. */
 struct table {
     struct place { const char *start; size_t size; int32_t code; } *places;
     size_t mask, count;

@@ -2,12 +2,14 @@
 #include "native.h"
 
 /* The object of a line, and with the line itself in it, as writers. */
-uint32_t object_of(const char *line, size_t length, const struct syslog_options *options, char *room, size_t size, size_t *needed)
+uint32_t object_of(const char *line, size_t length, const struct syslog_options *options, char *room, size_t size,
+                   size_t *needed)
 {
     return syslog_json(line, length, options, 0, room, size, needed);
 }
 
-static uint32_t raw_object_of(const char *line, size_t length, const struct syslog_options *options, char *room, size_t size, size_t *needed)
+static uint32_t raw_object_of(const char *line, size_t length, const struct syslog_options *options, char *room,
+                              size_t size, size_t *needed)
 {
     return syslog_json(line, length, options, 1, room, size, needed);
 }

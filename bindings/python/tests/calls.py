@@ -1,6 +1,6 @@
 #!/usr/bin/env python3
-"""Calls the package so many times, with lines of all kinds and with wrong arguments, and sees that memory stays as it was
-and that no value which all messages share is counted up or down.
+"""Calls the package so many times, with lines of all kinds and with wrong arguments, and sees that memory stays as it
+was and that no value which all messages share is counted up or down.
 
     calls.py COUNT
 
@@ -27,8 +27,12 @@ LINES = [
     "1 - - - - - - \udc80",
 ]
 CALLS = [it.parse, it.normalise, it.settle, it.to_rfc5424, it.json]
-OPTIONS = [{"year": 2026}, {"year": 2026, "month": 1, "offset": -5400, "variant": "either"}, {"year": 2026, "variant": "3164"}]
-OPTIONS += [{"year": 10000}, {"year": 1 << 40}, {"year": "2026"}, {"year": 2026, "variant": "rfc"}, {"month": 1}, {"yaer": 2026}]
+OPTIONS = [
+    {"year": 2026}, {"year": 2026, "month": 1, "offset": -5400, "variant": "either"}, {"year": 2026, "variant": "3164"}
+]
+OPTIONS += [
+    {"year": 10000}, {"year": 1 << 40}, {"year": "2026"}, {"year": 2026, "variant": "rfc"}, {"month": 1}, {"yaer": 2026}
+]
 
 
 def call_all():
@@ -45,7 +49,8 @@ def call_all():
 
 
 def read_block():
-    """Reads the lines as a block, with each text of theirs, and texts as categories. Returns how many calls these were."""
+    """Reads the lines as a block, with each text of theirs, and texts as categories. Returns how many calls these
+    were."""
     block = "\n".join(LINES).encode(errors="surrogateescape")
     told = _native.columns(block, 0, 2026, 0, 0, 0)
     for place in _columns._PLACES.values():
@@ -81,7 +86,8 @@ def allocated():
 
 def measured():
     gc.collect()
-    # (up to Python 3.11 each free place of the cache of attributes refers to None, and which places are taken is chance)
+    # (up to Python 3.11 each free place of the cache of attributes refers to None, and which places are taken is
+    # chance)
     if sys.version_info < (3, 12):
         sys._clear_type_cache()
     return shared(), allocated()

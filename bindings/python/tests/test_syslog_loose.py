@@ -1,4 +1,5 @@
-"""Tests of the package as it is installed, in the folder that PYTHONPATH names: python3 -m unittest discover bindings/python/tests"""
+"""Tests of the package as it is installed, in the folder that PYTHONPATH names: python3 -m unittest discover
+bindings/python/tests"""
 import csv
 import gc
 import importlib.util
@@ -18,11 +19,15 @@ from datetime import datetime, timedelta, timezone
 HERE = os.path.dirname(os.path.abspath(__file__))
 SAMPLES = os.path.join(HERE, "..", "..", "..", "samples")
 import syslog_loose  # noqa: E402
-from syslog_loose import Element, Facility, ParseError, Severity, normalise, parse, read, settle, to_rfc5424  # noqa: E402
+# noqa: E402
+from syslog_loose import Element, Facility, ParseError, Severity, normalise, parse, read, settle, to_rfc5424
 
 WRITERS = normalise, settle, to_rfc5424, syslog_loose.json
 # As docs/SENDERS.md has Cisco's form.
-SWITCH = "<187>4211: core-sw1: Mar  1 18:48:50.483 CET: %LINK-3-UPDOWN: Interface GigabitEthernet1/0/3, changed state to down"
+SWITCH = (
+    "<187>4211: core-sw1: Mar  1 18:48:50.483 CET: "
+    "%LINK-3-UPDOWN: Interface GigabitEthernet1/0/3, changed state to down"
+)
 LINE = '<165>1 2003-10-11T22:14:15.003004005-07:00 mymachine app 7 ID47 [a b="c" d="\\"\\]"][e] größe'
 
 
@@ -71,10 +76,17 @@ class Parsing(unittest.TestCase):
         if at:
             since = m.timestamp - datetime(1970, 1, 1, tzinfo=timezone.utc)
             self.assertEqual(since // timedelta(microseconds=1), at["nanos"] // 1000)
-            self.assertEqual((m.nanosecond, m.timestamp.utcoffset()), (at["nanos"] % 10**9, timedelta(seconds=at["offset"])))
-        self.assertEqual((m.hostname, m.appname, m.msgid, m.message), tuple(want[it] for it in ("hostname", "appname", "msgid", "msg")))
+            self.assertEqual(
+                (m.nanosecond, m.timestamp.utcoffset()), (at["nanos"] % 10**9, timedelta(seconds=at["offset"]))
+            )
+        self.assertEqual(
+            (m.hostname, m.appname, m.msgid, m.message),
+            tuple(want[it] for it in ("hostname", "appname", "msgid", "msg")),
+        )
         self.assertEqual(m.procid, want["procid"] and want["procid"]["value"])
-        elements = tuple(Element(it["id"], tuple((name, plain) for name, _, plain in it["params"])) for it in want["structured_data"])
+        elements = tuple(
+            Element(it["id"], tuple((name, plain) for name, _, plain in it["params"])) for it in want["structured_data"]
+        )
         self.assertEqual(m.structured_data, elements)
         self.assertEqual(normalise(line, year=2026), want["printed"])
 
@@ -138,7 +150,9 @@ class Dates(unittest.TestCase):
 
     def test_dialects(self):
         m = parse(SWITCH, year=2026)
-        self.assertEqual((m.dialect, m.hostname, m.appname, m.procid), ("cisco-ios", "core-sw1", "%LINK-3-UPDOWN", None))
+        self.assertEqual(
+            (m.dialect, m.hostname, m.appname, m.procid), ("cisco-ios", "core-sw1", "%LINK-3-UPDOWN", None)
+        )
         self.assertEqual(m.message, "Interface GigabitEthernet1/0/3, changed state to down")
         self.assertEqual((m.facility, m.severity, m.structured_data), (Facility.LOCAL7, Severity.ERR, ()))
         self.assertEqual(m.timestamp.isoformat(), "2026-03-01T18:48:50.483000+00:00")
@@ -154,14 +168,18 @@ class Dates(unittest.TestCase):
             m = parse(line, year=2026)
             self.assertEqual((m.shows_year, m.shows_offset), want)
         firewall = "<166>Mar 01 2026 18:48:50 asa1 : %ASA-6-302013: Built outbound TCP connection"
-        self.assertEqual((parse(firewall, year=2026).dialect, parse(firewall, year=2026).hostname), ("cisco-asa", "asa1"))
+        self.assertEqual(
+            (parse(firewall, year=2026).dialect, parse(firewall, year=2026).hostname), ("cisco-asa", "asa1")
+        )
         for options in ({"dialects": False}, {"variant": "3164"}):
             self.assertIsNone(parse(firewall, year=2026, **options).dialect)
             self.assertNotIn("dialect", json.loads(syslog_loose.json(firewall, year=2026, **options)))
         self.assertIsNone(parse(LINE, year=2026).dialect)
         early = parse(SWITCH, year=-5)
         self.assertEqual((early.timestamp, early.timestamp_text), (None, "-0005-03-01T18:48:50.483+00:00"))
-        self.assertEqual([syslog_loose.dialect_name(it) for it in (23, 0, 19, 1 << 40)], ["cisco-ios", None, None, None])
+        self.assertEqual(
+            [syslog_loose.dialect_name(it) for it in (23, 0, 19, 1 << 40)], ["cisco-ios", None, None, None]
+        )
         for options in ({"dialects": False}, {"dialects": True}):
             with self.assertRaises(TypeError):
                 to_rfc5424(LINE, year=2026, **options)
@@ -214,8 +232,10 @@ class Printing(unittest.TestCase):
     def test_json(self):
         want = {
             "protocol": "RFC5424", "version": 1, "facility": "local4", "facility_code": 20, "severity": "notice",
-            "severity_code": 5, "timestamp": "2003-10-11T22:14:15.003004005-07:00", "hostname": "mymachine", "appname": "app",
-            "procid": "7", "msgid": "ID47", "structured_data": {"a": {"b": "c", "d": '"]'}, "e": {}}, "message": "größe",
+            "severity_code": 5, "timestamp": "2003-10-11T22:14:15.003004005-07:00", "hostname": "mymachine",
+            "appname": "app",
+            "procid": "7", "msgid": "ID47", "structured_data": {"a": {"b": "c", "d": '"]'}, "e": {}},
+            "message": "größe",
         }  # fmt: skip
         self.assertEqual(json.loads(syslog_loose.json(LINE, year=2026)), want)
         self.assertEqual(json.loads(syslog_loose.json(LINE.encode(), year=2026, raw=True)), {**want, "raw": LINE})
@@ -297,7 +317,13 @@ class Reading(unittest.TestCase):
 
 @unittest.skipUnless(importlib.util.find_spec("numpy"), "numpy is not installed")
 class Columns(unittest.TestCase):
-    LINES = [LINE.encode(), b"<34>Mar  2 06:35:05 gateway dropbear[2310]: Exit", b"no message", b"1 - - - - - - gr\xfc\xdf", b""]
+    LINES = [
+        LINE.encode(),
+        b"<34>Mar  2 06:35:05 gateway dropbear[2310]: Exit",
+        b"no message",
+        b"1 - - - - - - gr\xfc\xdf",
+        b"",
+    ]
     LINES += ["<200>2019-12-31T23:59:59.5+01:00 ü a[name]: größe".encode(), b"<0>1 9998-12-31T23:59:59Z - - - - -"]
     LINES += [b"<34>Dec 31 2019 23:59:59 h a: a year and no offset", SWITCH.encode()]
 
@@ -333,9 +359,14 @@ class Columns(unittest.TestCase):
             numbers = [-1 if it is None else int(it) for it in (m.facility, m.severity)]
             self.assertEqual(told, [0, m.protocol, *numbers, len(m.structured_data)])
             self.assertEqual(syslog_loose.dialect_name(int(columns["dialect"][i])), m.dialect)
-            self.assertEqual([text(it, i) for it in ("host", "app", "msgid", "message")], [m.hostname, m.appname, m.msgid, m.message])
+            self.assertEqual(
+                [text(it, i) for it in ("host", "app", "msgid", "message")], [m.hostname, m.appname, m.msgid, m.message]
+            )
             process = int(columns["process"][i]) if columns["has_number"][i] else text("process", i)
-            self.assertEqual((process, columns["shows_year"][i], columns["shows_offset"][i]), (m.procid, m.shows_year, m.shows_offset))
+            self.assertEqual(
+                (process, columns["shows_year"][i], columns["shows_offset"][i]),
+                (m.procid, m.shows_year, m.shows_offset),
+            )
             if m.timestamp is None or m.timestamp.year > 2261:
                 self.assertEqual((str(columns["time"][i]), columns["nanosecond"][i]), ("NaT", m.nanosecond))
             else:
@@ -354,7 +385,9 @@ class Columns(unittest.TestCase):
             self.check(syslog_loose.read_columns(given, year=2026, month=3, offset=60), lines)
 
     def test_wrong_options(self):
-        for options in ({"year": 10000}, {"year": 1 << 40}, {"year": 2026, "month": 13}, {"year": 2026, "variant": "rfc"}):
+        for options in (
+            {"year": 10000}, {"year": 1 << 40}, {"year": 2026, "month": 13}, {"year": 2026, "variant": "rfc"}
+        ):
             with self.assertRaises(ValueError):
                 syslog_loose.read_columns(b"x", **options)
 
@@ -365,10 +398,18 @@ class Columns(unittest.TestCase):
             self.assertEqual(str(frame.dtypes["time"]), "datetime64[ns, UTC]")
             self.assertEqual(list(frame["refused"]), [False, False, True, True, True, False, False, False, False])
             self.assertEqual(list(frame["hostname"].cat.categories), ["mymachine", "gateway", "ü", "h", "core-sw1"])
-            self.assertEqual((list(frame["dialect"].cat.categories), list(frame["dialect"].cat.codes)), (["cisco-ios"], [-1] * 8 + [0]))
-            self.assertEqual([frame[it][0] for it in ("facility", "severity", "appname", "procid")], ["local4", "notice", "app", "7"])
+            self.assertEqual(
+                (list(frame["dialect"].cat.categories), list(frame["dialect"].cat.codes)),
+                (["cisco-ios"], [-1] * 8 + [0]),
+            )
+            self.assertEqual(
+                [frame[it][0] for it in ("facility", "severity", "appname", "procid")], ["local4", "notice", "app", "7"]
+            )
             self.assertEqual([frame["procid"][i] for i in (1, 2, 5)], ["2310", None, "name"])
-            self.assertEqual([frame["message"][i] for i in (0, 2, 3, 5)], ["größe", "no message", "1 - - - - - - gr\ufffd\ufffd", "größe"])
+            self.assertEqual(
+                [frame["message"][i] for i in (0, 2, 3, 5)],
+                ["größe", "no message", "1 - - - - - - gr\ufffd\ufffd", "größe"],
+            )
             self.assertEqual(frame["time"][1].isoformat(), "2026-03-02T06:35:05+00:00")
 
     @unittest.skipUnless(importlib.util.find_spec("pandas"), "pandas is not installed")
@@ -423,7 +464,8 @@ class Program(unittest.TestCase):
         self.assertEqual(
             out.split("\r\n"),
             [
-                "protocol,version,dialect,facility,facility_code,severity,severity_code,timestamp,hostname,appname,procid,msgid,"
+                "protocol,version,dialect,facility,facility_code,severity,severity_code,timestamp,hostname,appname,proc"
+                "id,msgid,"
                 "structured_data,unparsed_structured_data,message,raw,refused,invalid_utf8",
                 'RFC3164,,,auth,4,crit,2,2026-03-02T06:35:05+00:00,gw,app,2310,,,,"a, ""b""",,,',
                 ",,,,,,,,,,,,,,none\ufffd,,true,true",
@@ -452,7 +494,9 @@ class Program(unittest.TestCase):
                     self.assertLessEqual(set(made), set(header))
 
     def test_offsets(self):
-        for words, shown in ((("--offset", "-09:30"), "-09:30"), (("--offset=+01:00",), "+01:00"), (("--raw",), "+00:00")):
+        for words, shown in (
+            (("--offset", "-09:30"), "-09:30"), (("--offset=+01:00",), "+01:00"), (("--raw",), "+00:00")
+        ):
             made = json.loads(self.ran("--year", "2026", *words, given=b"Mar  2 06:35:05 h a: x")[1])
             self.assertEqual(made["timestamp"], "2026-03-02T06:35:05" + shown)
         self.assertEqual(self.ran("--offset")[0], 2)
@@ -486,7 +530,9 @@ class Package(unittest.TestCase):
         for options in ({}, {"month": 1}, {"year": 2026, "raw": True}, {"year": None}):
             with self.assertRaises(TypeError):
                 parse(LINE, **options)
-        self.assertEqual(str(inspect.signature(parse)), "(line, /, *, year, month=None, offset=0, variant='either', dialects=True)")
+        self.assertEqual(
+            str(inspect.signature(parse)), "(line, /, *, year, month=None, offset=0, variant='either', dialects=True)"
+        )
 
     def test_version(self):
         with open(os.path.join(HERE, "..", "pyproject.toml"), encoding="utf-8") as project:

@@ -150,7 +150,8 @@ fn dialects() {
     assert_eq!((m.hostname, m.appname, m.procid), (Some("core-sw1"), Some("%LINK-3-UPDOWN"), None));
     assert_eq!((m.message, m.elements().len()), ("Interface changed state to down", 0));
     let at = m.timestamp.unwrap();
-    assert_eq!((at.to_string(), at.shows_year, at.shows_offset), ("2026-03-01T18:48:50.483+00:00".into(), false, false));
+    assert_eq!(at.to_string(), "2026-03-01T18:48:50.483+00:00");
+    assert_eq!((at.shows_year, at.shows_offset), (false, false));
     assert_eq!(parse_fields(SWITCH, &IN_2026).unwrap().dialect, m.dialect);
     assert!(json(SWITCH, &IN_2026, false).unwrap().contains(r#""hostname":"core-sw1""#));
     let firewall = "<166>Mar 01 2026 18:48:50 asa1 : %ASA-6-302013: Built outbound TCP connection";

@@ -2,8 +2,8 @@
 
     python3 -m syslog_loose [--year YEAR] [--month MONTH] [--offset OFFSET] [--no-dialects] [--raw] [--csv] [FILE..]
 
-With --csv it writes a table by RFC 4180: a header, and a record for each line. The status is 1 if lines were refused, and
-2 after a fault.
+With --csv it writes a table by RFC 4180: a header, and a record for each line. The status is 1 if lines were refused,
+and 2 after a fault.
 """
 
 from __future__ import annotations
@@ -68,7 +68,9 @@ def as_record(text: str) -> bytes:
     return record([cell(made.get(key)) for key in KEYS])
 
 
-def write_lines(lines: BinaryIO, out: BinaryIO, form: Callable[[str], bytes], options: dict[str, Any]) -> tuple[int, int]:
+def write_lines(
+    lines: BinaryIO, out: BinaryIO, form: Callable[[str], bytes], options: dict[str, Any]
+) -> tuple[int, int]:
     """Writes each line in this form. Returns how many lines there are, and how many of them were refused."""
     count = refused = 0
     for line in lines:
@@ -103,8 +105,12 @@ def joined(words: Iterable[str]) -> list[str]:
 
 
 def arguments() -> argparse.Namespace:
-    words = argparse.ArgumentParser(prog="python3 -m syslog_loose", description="Writes lines of syslog as JSON objects.")
-    words.add_argument("--year", type=int, default=datetime.date.today().year, help="of dates that show none (now: %(default)s)")
+    words = argparse.ArgumentParser(
+        prog="python3 -m syslog_loose", description="Writes lines of syslog as JSON objects."
+    )
+    words.add_argument(
+        "--year", type=int, default=datetime.date.today().year, help="of dates that show none (now: %(default)s)"
+    )
     words.add_argument("--month", type=int, help="that it is: in January a date of December is then of the year before")
     words.add_argument("--offset", type=offset, default=0, help="of dates that show none, as +01:00 (UTC without it)")
     words.add_argument("--no-dialects", action="store_true", help="reads each line by RFC 5424 or RFC 3164 alone")

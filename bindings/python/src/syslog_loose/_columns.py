@@ -12,7 +12,9 @@ from . import Facility, Severity, Source, _native
 _COLUMNS = [("time", "M8[ns]")]
 for _name in ("line", "host", "app", "process", "msgid", "message"):
     _COLUMNS += [(_name + "_at", "i8"), (_name + "_size", "i8")]
-_COLUMNS += [("nanosecond", "i4"), ("offset", "i4"), ("process", "i4"), ("elements", "u4"), ("protocol", "u2"), ("dialect", "u2")]
+_COLUMNS += [
+    ("nanosecond", "i4"), ("offset", "i4"), ("process", "i4"), ("elements", "u4"), ("protocol", "u2"), ("dialect", "u2")
+]
 _COLUMNS += [("outcome", "u1"), ("shown", "u1"), ("facility", "i1"), ("severity", "i1"), ("has_number", "u1")]
 # The bytes of all columns for a line.
 _BYTES_A_LINE = 129
