@@ -26,21 +26,21 @@ static PyObject *version(PyObject *self, PyObject *none)
      #name "($module, line, /, *, year, month=None, offset=0, variant='either'" more ")\n--\n\n" text}
 
 static PyMethodDef methods[] = {
-    OF_A_LINE(parse, ", dialects=True", "The message of a line. ParseError where it is none."),
-    OF_A_LINE(normalise, "", "The line in printed form. ParseError where it is no message."),
+    OF_A_LINE(parse, ", dialects=True", "Returns the message of a line. Raises ParseError if it is no message."),
+    OF_A_LINE(normalise, "", "Returns the line in printed form. Raises ParseError if it is no message."),
     OF_A_LINE(settle, "",
-              "The line printed again and again until it no longer changes. ParseError where it, or such a text, is no "
-              "message."),
+              "Returns the line, printed again and again until it no longer changes. Raises ParseError if it, or such "
+              "a text, is no message."),
     OF_A_LINE(to_rfc5424, "",
-              "The line as strict RFC 5424: unchanged if it is in the RFC's grammar, and otherwise its message, "
-              "converted.\n"
-              "ParseError where it is neither."),
+              "Returns the line as strict RFC 5424: unchanged if it is in the RFC's grammar, and otherwise its "
+              "message, converted.\n"
+              "Raises ParseError if it is neither."),
     OF_A_LINE(json, ", dialects=True, raw=False",
-              "The message of a line as the text of one JSON object, as syslog_json writes it; with `raw` it has the "
-              "line too.\n"
-              "ParseError where the line is no message."),
+              "Returns the message of a line as the text of one JSON object, as syslog_json writes it; with `raw` it "
+              "has the line too.\n"
+              "Raises ParseError if the line is no message."),
     {"dialect_name", dialect_name, METH_O,
-     "dialect_name($module, number, /)\n--\n\nThe name of the dialect that has this number. None where none has."},
+     "dialect_name($module, number, /)\n--\n\nReturns the name of the dialect that has this number; None if none has."},
     {"set_up", set_up, METH_VARARGS, NULL},
     {"version", version, METH_NOARGS, NULL},
     {"columns", columns, METH_VARARGS, NULL},

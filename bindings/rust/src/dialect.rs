@@ -2,8 +2,8 @@ use crate::{raw, NoSuchName};
 use std::fmt;
 use std::str::FromStr;
 
-/// A dialect: a form of lines of senders that follow neither protocol, as Cisco's switches. It keeps its number and its
-/// name.
+/// A dialect: a form in which some senders write that follow neither protocol, as Cisco's switches. Its number and its
+/// name stay the same from one version to the next.
 #[derive(Clone, Copy, Debug, PartialEq, Eq, PartialOrd, Ord, Hash)]
 pub struct Dialect(u32);
 
@@ -13,12 +13,12 @@ impl Dialect {
         (number != 0).then_some(Dialect(number))
     }
 
-    /// Its number, from 1 on.
+    /// Returns the number of the dialect, from 1 on.
     pub fn number(self) -> u32 {
         self.0
     }
 
-    /// Its name, as `cisco-ios`.
+    /// Returns the name of the dialect, as `cisco-ios`.
     pub fn as_str(self) -> &'static str {
         name_of(self.0).unwrap_or("")
     }
@@ -39,7 +39,7 @@ impl fmt::Display for Dialect {
     }
 }
 
-/// The dialect of this number.
+/// Converts a number to the dialect that has it.
 impl TryFrom<u8> for Dialect {
     type Error = NoSuchName;
 
@@ -48,7 +48,7 @@ impl TryFrom<u8> for Dialect {
     }
 }
 
-/// The dialect of this name.
+/// Converts a name to the dialect that has it.
 impl FromStr for Dialect {
     type Err = NoSuchName;
 
@@ -57,7 +57,7 @@ impl FromStr for Dialect {
     }
 }
 
-/// As its name.
+/// Serializes a dialect as its name.
 #[cfg(feature = "serde")]
 impl serde::Serialize for Dialect {
     fn serialize<S: serde::Serializer>(&self, to: S) -> Result<S::Ok, S::Error> {

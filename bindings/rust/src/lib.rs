@@ -37,16 +37,16 @@ use std::time::SystemTime;
 /// The protocols by which a line may be read.
 #[derive(Clone, Copy, Debug, Default, PartialEq, Eq, Hash)]
 pub enum Variant {
-    /// By either one, RFC 5424 first.
+    /// RFC 5424, and RFC 3164 if the line does not parse by that.
     #[default]
     Either,
-    /// By RFC 3164 alone.
+    /// RFC 3164 alone.
     Rfc3164,
-    /// By RFC 5424 alone.
+    /// RFC 5424 alone.
     Rfc5424,
 }
 
-/// The variant that `either`, `3164` or `5424` names.
+/// Converts `either`, `3164` or `5424` to the variant that it names.
 impl FromStr for Variant {
     type Err = NoSuchName;
 
@@ -60,30 +60,31 @@ impl FromStr for Variant {
     }
 }
 
-/// How a line is read. The default is either protocol or a dialect, in UTC, in the month of the year that it is.
+/// How a line is read. The default is either protocol or a dialect, in UTC, with the current year and month.
 #[derive(Clone, Copy, Debug, PartialEq, Eq, Hash)]
 pub struct Options {
     /// The protocols by which the line is read.
     pub variant: Variant,
     /// The year of dates that show none, from -9999 to 9999.
     pub year: i32,
-    /// Without it all such dates are of that year. With it, it is this month of that year, from 1 to 12: in January a
-    /// date of December is of the year before.
+    /// The current month, from 1 to 12: in January a date of December that shows no year is of the year before. Without
+    /// it, all such dates are of `year`.
     pub month: Option<u8>,
-    /// By how many seconds dates that show no offset are ahead of UTC, from -93599 to 93599.
+    /// How many seconds dates that show no offset are ahead of UTC, from -93599 to 93599.
     pub offset: i32,
-    /// Whether the calls that parse a line, and `json`, read it in its sender's dialect, where the variant is `Either`.
-    /// `normalise`, `settle`, `to_rfc5424` and `is_canonical` read each line by the protocols alone.
+    /// Whether a line is read in its sender's dialect, if it is in one, by the calls that parse a line and by `json`.
+    /// It counts only if the variant is `Either`. `normalise`, `settle`, `to_rfc5424` and `is_canonical` read each line
+    /// by the protocols alone.
     pub dialects: bool,
 }
 
 impl Options {
-    /// Either protocol or a dialect, in that year and in UTC.
+    /// Returns options for either protocol or a dialect, in this year and in UTC.
     pub const fn in_year(year: i32) -> Options {
         Options { variant: Variant::Either, year, month: None, offset: 0, dialects: true }
     }
 
-    /// Either protocol or a dialect, in UTC, in the month of the year that it is then.
+    /// Returns options for either protocol or a dialect, in UTC, with the year and the month at this time.
     pub fn at(now: SystemTime) -> Options {
         let seconds = match now.duration_since(SystemTime::UNIX_EPOCH) {
             Ok(after) => after.as_secs() as i64,
@@ -119,15 +120,15 @@ impl Default for Options {
 #[derive(Clone, Copy, Debug, PartialEq, Eq)]
 #[non_exhaustive]
 pub enum Error {
-    /// The line is no message, or one of the texts that `settle` prints of it is none.
+    /// The line does not parse. For `settle` it may also be a text that is printed of the line that does not.
     NoMessage,
-    /// The line is no UTF-8.
+    /// The line is not UTF-8.
     NotUtf8,
     /// An allocation failed.
     NoMemory,
-    /// The year, the month or the offset is out of its range.
+    /// The year, the month or the offset is out of range.
     BadArgument,
-    /// The library says something that this crate doesn't know.
+    /// The library returned an outcome that this crate doesn't know.
     Unknown(u32),
 }
 
@@ -174,18 +175,18 @@ thread_local! {
     static ROOMS: RefCell<Rooms> = const { RefCell::new(Rooms::EMPTY) };
 }
 
-/// The message of a line, whose texts are pieces of it.
+/// Returns the message of a line, whose texts are slices of it.
 pub fn parse<'a, T: AsRef<[u8]> + ?Sized>(line: &'a T, options: &Options) -> Result<Message<'a>, Error> {
     parse_text(from_utf8(line.as_ref()).map_err(|_| Error::NotUtf8)?, options)
 }
 
-/// The message of a line, as [`parse`] has it, which doesn't check anew that it is UTF-8.
+/// Returns the message of a line that is a `str`, as [`parse`] does, without checking again that it is UTF-8.
 pub fn parse_text<'a>(line: &'a str, options: &Options) -> Result<Message<'a>, Error> {
     parse_into(line, options, |parts| Message::of(&parts))
 }
 
-/// What `make` makes of a line: an object of the caller's own, without a [`Message`] between. No memory is taken but by
-/// `make`, and for a line of more than 8 elements or 32 parameters.
+/// Returns what `make` makes of a line: an object of the caller's own, without a [`Message`] between. Only `make`
+/// allocates, and this call for a line of more than 8 elements or 32 parameters.
 pub fn parse_into<'a, R>(line: &'a str, options: &Options, make: impl FnOnce(Parts<'a, '_>) -> R) -> Result<R, Error> {
     ROOMS.with(|rooms| match rooms.try_borrow_mut() {
         Ok(mut rooms) => parse_in(line, options, &mut rooms, make),
@@ -216,7 +217,8 @@ fn parse_in<'a, R>(
     }
 }
 
-/// The message of a line, whose texts are pieces of it, without its structured data. No memory is taken.
+/// Returns the message of a line without its structured data. Its texts are slices of the line, and nothing is
+/// allocated.
 pub fn parse_fields<'a, T: AsRef<[u8]> + ?Sized>(line: &'a T, options: &Options) -> Result<Message<'a>, Error> {
     let line = from_utf8(line.as_ref()).map_err(|_| Error::NotUtf8)?;
     let (options, mut message) = (options.raw(), raw::Message::NONE);
@@ -255,12 +257,12 @@ fn read(
     }
 }
 
-/// The line in printed form.
+/// Returns the line in printed form.
 pub fn normalise<T: AsRef<[u8]> + ?Sized>(line: &T, options: &Options) -> Result<String, Error> {
     printed(raw::syslog_normalise, line.as_ref(), options)
 }
 
-/// The line in printed form, printed again and again until it no longer changes.
+/// Returns the stable printed form of the line: it is printed again and again until it no longer changes.
 pub fn settle<T: AsRef<[u8]> + ?Sized>(line: &T, options: &Options) -> Result<String, Error> {
     printed(raw::syslog_settle, line.as_ref(), options)
 }
@@ -273,12 +275,13 @@ fn printed(call: raw::Writer, line: &[u8], options: &Options) -> Result<String, 
     })
 }
 
-/// The line as strict RFC 5424: unchanged if it is in the RFC's grammar, and otherwise its message, converted.
+/// Returns the line as strict RFC 5424: unchanged if it is in the RFC's grammar, and otherwise its message, converted.
 pub fn to_rfc5424<T: AsRef<[u8]> + ?Sized>(line: &T, options: &Options) -> Result<String, Error> {
     printed(raw::syslog_to_rfc5424, line.as_ref(), options)
 }
 
-/// The message of a line as the text of one JSON object, as `syslog_json` writes it; with `raw` it has the line too.
+/// Returns the message of a line as the text of one JSON object, as `syslog_json` writes it. If `raw` is true, the
+/// object has the line too.
 pub fn json<T: AsRef<[u8]> + ?Sized>(line: &T, options: &Options, raw: bool) -> Result<String, Error> {
     let (line, options) = (line.as_ref(), options.raw());
     // SAFETY: the pointers and lengths are those of the line and of the buffer, as in `read`.
@@ -288,7 +291,7 @@ pub fn json<T: AsRef<[u8]> + ?Sized>(line: &T, options: &Options, raw: bool) -> 
     })
 }
 
-/// Whether the message of a line is read back from its printed form as that very message.
+/// Returns whether the message of a line is read back from its printed form as that very message.
 pub fn is_canonical<T: AsRef<[u8]> + ?Sized>(line: &T, options: &Options) -> Result<bool, Error> {
     let (line, options, mut canonical) = (line.as_ref(), options.raw(), 0);
     // SAFETY: the pointers and lengths are those of the line and of the number, as in `read`.
@@ -298,7 +301,7 @@ pub fn is_canonical<T: AsRef<[u8]> + ?Sized>(line: &T, options: &Options) -> Res
     }
 }
 
-/// The value of a parameter, as [`Param::raw`] has it, without its escapes.
+/// Returns the value of a parameter, as [`Param::raw`] has it, without its escapes.
 pub fn unescape(value: &str) -> Cow<'_, str> {
     if !value.contains('\\') {
         return Cow::Borrowed(value);
@@ -311,7 +314,7 @@ pub fn unescape(value: &str) -> Cow<'_, str> {
     Cow::Owned(unescaped.expect("memory for a value without its escapes"))
 }
 
-/// The text that a call writes into a buffer: this long at first, and as long as it needs then.
+/// Returns the text that a call writes into a buffer: of this size at first, and then of the size that it needs.
 fn filled(size: usize, call: impl Fn(&mut [u8], &mut usize) -> u32) -> Result<String, Error> {
     let (mut room, mut needed) = (vec![0; size], 0);
     let mut outcome = call(&mut room, &mut needed);
@@ -326,7 +329,8 @@ fn filled(size: usize, call: impl Fn(&mut [u8], &mut usize) -> u32) -> Result<St
     String::from_utf8(room).map_err(|_| Error::NotUtf8)
 }
 
-/// The version of the library: 1,000,000 for each major one, 1,000 for each minor one.
+/// Returns the version of the library: 1,000,000 times the major version, plus 1,000 times the minor one, plus the
+/// patch.
 pub fn version() -> u32 {
     // SAFETY: the call takes nothing and changes nothing.
     unsafe { raw::syslog_version() }

@@ -2,7 +2,7 @@ use crate::{Error, Options, OwnedMessage};
 use std::io::{self, BufRead};
 use std::{error, fmt};
 
-/// The messages of a reader's lines, in order. [`lines`] makes it.
+/// An iterator over the messages of a reader's lines, in order. [`lines`] makes it.
 #[derive(Debug)]
 pub struct Lines<R> {
     reader: R,
@@ -10,12 +10,12 @@ pub struct Lines<R> {
     line: Vec<u8>,
 }
 
-/// Why a line of a reader has no message.
+/// Why there is no message for a line of a reader.
 #[derive(Debug)]
 pub enum LineError {
     /// The reader failed.
     Io(io::Error),
-    /// The line, without its line feed, has none.
+    /// The line, here without its line feed, is no message, for this reason.
     Refused(Vec<u8>, Error),
 }
 
@@ -37,7 +37,7 @@ impl error::Error for LineError {
     }
 }
 
-/// The messages of a reader's lines, each of which ends with a line feed or with the input.
+/// Returns the messages of a reader's lines, in order. Each line ends with a line feed or with the input.
 pub fn lines<R: BufRead>(reader: R, options: &Options) -> Lines<R> {
     Lines { reader, options: *options, line: Vec::new() }
 }

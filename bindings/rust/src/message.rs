@@ -2,7 +2,7 @@ use crate::{unescape, Dialect, Facility, OwnedMessage, Parts, Severity, Timestam
 use std::borrow::Cow;
 use std::{fmt, iter, slice};
 
-/// A message. Its texts are pieces of the line.
+/// A message, whose texts are slices of the line.
 #[derive(Clone, Debug, PartialEq, Eq, Hash)]
 pub struct Message<'a> {
     /// The protocol by which the line was read.
@@ -11,7 +11,7 @@ pub struct Message<'a> {
     pub facility: Option<Facility>,
     /// The severity: how urgent the message is.
     pub severity: Option<Severity>,
-    /// When the message was written, as the line shows it.
+    /// When the message was written, as the line shows it; none if it shows no date.
     pub timestamp: Option<Timestamp>,
     /// The host that the message comes from.
     pub hostname: Option<&'a str>,
@@ -19,13 +19,13 @@ pub struct Message<'a> {
     pub appname: Option<&'a str>,
     /// The process id of that program: a number, or any other text.
     pub procid: Option<ProcId<&'a str>>,
-    /// The id that its sender gives to messages of one kind. Only RFC 5424 has it.
+    /// The message id: the sender gives the same one to messages of one kind. Only RFC 5424 has it.
     pub msgid: Option<&'a str>,
     /// The text of the message: what follows the header and the structured data.
     pub message: &'a str,
-    /// Its structured data from the first element on that is not strict; none where each is strict.
+    /// The structured data from the first element on that is not strict; none if each is strict.
     pub unparsed_structured_data: Option<&'a str>,
-    /// The dialect in which the line was read, where it is in one.
+    /// The dialect that the line was read in; none if it was read by a protocol.
     pub dialect: Option<Dialect>,
     // the id of each element, and how many parameters it has
     elements: Vec<(&'a str, usize)>,
@@ -42,17 +42,17 @@ pub enum Protocol {
     Rfc5424(u32),
 }
 
-/// A process id.
+/// A process id: a number, or any other text.
 #[derive(Clone, Copy, Debug, PartialEq, Eq, PartialOrd, Ord, Hash)]
 #[cfg_attr(feature = "serde", derive(serde::Serialize, serde::Deserialize), serde(untagged))]
 pub enum ProcId<S> {
     /// A number.
     Number(i32),
-    /// Any other text.
+    /// A text that is not a number of 32 bits.
     Name(S),
 }
 
-/// The number that the text writes, or else the text.
+/// Converts a text to the number that it writes, or otherwise to a name.
 impl<'a> From<&'a str> for ProcId<&'a str> {
     fn from(text: &'a str) -> ProcId<&'a str> {
         text.parse().map_or(ProcId::Name(text), ProcId::Number)
@@ -86,23 +86,23 @@ pub struct Param<'a> {
 }
 
 impl<'a> Param<'a> {
-    /// The value without its escapes.
+    /// Returns the value of the parameter without its escapes.
     pub fn value(&self) -> Cow<'a, str> {
         unescape(self.raw)
     }
 }
 
 impl<'m, 'a> Element<'m, 'a> {
-    /// The parameters of the element, in order.
+    /// Returns the parameters of the element, in order.
     pub fn params(&self) -> Params<'m, 'a> {
         self.params.iter().copied()
     }
 }
 
-/// The parameters of an element.
+/// An iterator over the parameters of an element.
 pub type Params<'m, 'a> = iter::Copied<slice::Iter<'m, Param<'a>>>;
 
-/// The elements of a message.
+/// An iterator over the elements of a message.
 #[derive(Clone, Debug)]
 pub struct Elements<'m, 'a> {
     elements: slice::Iter<'m, (&'a str, usize)>,
@@ -127,12 +127,12 @@ impl<'m, 'a> Iterator for Elements<'m, 'a> {
 impl ExactSizeIterator for Elements<'_, '_> {}
 
 impl<'a> Message<'a> {
-    /// The elements of its structured data, in order.
+    /// Returns the elements of the structured data, in order.
     pub fn elements(&self) -> Elements<'_, 'a> {
         Elements { elements: self.elements.iter(), params: &self.params }
     }
 
-    /// The message with texts of its own.
+    /// Returns the message with texts of its own, so that it can outlive the line.
     pub fn to_owned(&self) -> OwnedMessage {
         OwnedMessage::from(self)
     }
@@ -156,7 +156,7 @@ impl<'a> Message<'a> {
     }
 }
 
-/// The message in printed form, as `normalise` writes it of a line that it reads so.
+/// Writes the message in printed form, as `normalise` writes a line that is read as this message.
 impl fmt::Display for Message<'_> {
     fn fmt(&self, f: &mut fmt::Formatter<'_>) -> fmt::Result {
         write_message(

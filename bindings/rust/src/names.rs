@@ -30,7 +30,7 @@ macro_rules! named {
             /// All of them, each at the place of its number.
             pub const ALL: &'static [$name] = &[$($name::$value,)*];
 
-            /// Its name.
+            /// Returns the name.
             pub const fn as_str(self) -> &'static str {
                 match self {
                     $($name::$value => $text,)*

@@ -11,7 +11,7 @@ pub struct OwnedMessage {
     pub protocol: Protocol,
     /// The facility: which part of a system the message comes from.
     pub facility: Option<Facility>,
-    /// The severity: how urgent the message is.
+    /// When the message was written, as the line shows it; none if it shows no date.
     pub severity: Option<Severity>,
     /// When the message was written, as the line shows it.
     pub timestamp: Option<Timestamp>,
@@ -21,16 +21,16 @@ pub struct OwnedMessage {
     pub appname: Option<String>,
     /// The process id of that program: a number, or any other text.
     pub procid: Option<ProcId<String>>,
-    /// The id that its sender gives to messages of one kind. Only RFC 5424 has it.
+    /// The message id: the sender gives the same one to messages of one kind. Only RFC 5424 has it.
     pub msgid: Option<String>,
     /// The elements of structured data, in order.
     pub structured_data: Vec<OwnedElement>,
     /// The text of the message: what follows the header and the structured data.
     pub message: String,
-    /// Its structured data from the first element on that is not strict; none where each is strict.
+    /// The structured data from the first element on that is not strict; none if each is strict.
     #[cfg_attr(feature = "serde", serde(default))]
     pub unparsed_structured_data: Option<String>,
-    /// The dialect in which the line was read, where it is in one.
+    /// The dialect that the line was read in; none if it was read by a protocol.
     #[cfg_attr(feature = "serde", serde(default))]
     pub dialect: Option<Dialect>,
 }
@@ -56,14 +56,14 @@ pub struct OwnedParam {
 }
 
 impl OwnedParam {
-    /// The value without its escapes.
+    /// Returns the value of the parameter without its escapes.
     pub fn value(&self) -> Cow<'_, str> {
         unescape(&self.raw)
     }
 }
 
 impl OwnedMessage {
-    /// The message of a line.
+    /// Returns the message of a line, with texts of its own.
     pub fn parse<T: AsRef<[u8]> + ?Sized>(line: &T, options: &Options) -> Result<OwnedMessage, Error> {
         Ok(parse(line, options)?.to_owned())
     }
@@ -105,7 +105,7 @@ impl From<crate::Element<'_, '_>> for OwnedElement {
     }
 }
 
-/// The message in printed form.
+/// Writes the message in printed form.
 impl fmt::Display for OwnedMessage {
     fn fmt(&self, f: &mut fmt::Formatter<'_>) -> fmt::Result {
         let process = self.procid.as_ref();

@@ -1,8 +1,8 @@
 use crate::{raw, Dialect, Facility, Param, ProcId, Protocol, Severity, Timestamp};
 use std::marker::PhantomData;
 
-/// What was read of a line, in no object yet: [`parse_into`](crate::parse_into) hands it to what makes one. Its texts
-/// are pieces of the line.
+/// What was read of a line, before it is made into an object: [`parse_into`](crate::parse_into) hands it to the closure
+/// that makes one. Its texts are slices of the line.
 #[derive(Clone, Copy)]
 pub struct Parts<'a, 'r> {
     read: &'r raw::Message,
@@ -26,7 +26,7 @@ impl<'a: 'r, 'r> Parts<'a, 'r> {
         Parts { read, elements: &elements[..read.elements], params: &params[..read.params], line: PhantomData }
     }
 
-    /// The protocol by which the line was read.
+    /// Returns the protocol by which the line was read.
     pub fn protocol(&self) -> Protocol {
         match self.read.protocol {
             5424 => Protocol::Rfc5424(self.read.version),
@@ -34,37 +34,37 @@ impl<'a: 'r, 'r> Parts<'a, 'r> {
         }
     }
 
-    /// The dialect in which the line was read, where it is in one.
+    /// Returns the dialect that the line was read in; none if it was read by a protocol.
     pub fn dialect(&self) -> Option<Dialect> {
         Dialect::of(self.read.dialect)
     }
 
-    /// The facility: which part of a system the message comes from.
+    /// Returns the facility: which part of a system the message comes from.
     pub fn facility(&self) -> Option<Facility> {
         numbered(self.read.facility)
     }
 
-    /// The severity: how urgent the message is.
+    /// Returns the severity: how urgent the message is.
     pub fn severity(&self) -> Option<Severity> {
         numbered(self.read.severity)
     }
 
-    /// When the message was written, as the line shows it.
+    /// Returns when the message was written, as the line shows it.
     pub fn timestamp(&self) -> Option<Timestamp> {
         Timestamp::of(&self.read.timestamp)
     }
 
-    /// The host that the message comes from.
+    /// Returns the host that the message comes from.
     pub fn hostname(&self) -> Option<&'a str> {
         self.optional(&self.read.host)
     }
 
-    /// The program that wrote the message.
+    /// Returns the program that wrote the message.
     pub fn appname(&self) -> Option<&'a str> {
         self.optional(&self.read.app)
     }
 
-    /// The process id of that program: a number, or any other text.
+    /// Returns the process id of that program: a number, or any other text.
     pub fn procid(&self) -> Option<ProcId<&'a str>> {
         match &self.read.process {
             it if it.is_number == 1 => Some(ProcId::Number(it.number)),
@@ -72,22 +72,22 @@ impl<'a: 'r, 'r> Parts<'a, 'r> {
         }
     }
 
-    /// The id that its sender gives to messages of one kind. Only RFC 5424 has it.
+    /// Returns the message id: the sender gives the same one to messages of one kind. Only RFC 5424 has it.
     pub fn msgid(&self) -> Option<&'a str> {
         self.optional(&self.read.msgid)
     }
 
-    /// The text of the message: what follows the header and the structured data.
+    /// Returns the text of the message: what follows the header and the structured data.
     pub fn message(&self) -> &'a str {
         self.piece(&self.read.msg)
     }
 
-    /// Its structured data from the first element on that is not strict; none where each is strict.
+    /// Returns the structured data from the first element on that is not strict; none if each is strict.
     pub fn unparsed_structured_data(&self) -> Option<&'a str> {
         self.optional(&self.read.unparsed)
     }
 
-    /// The elements of its structured data, in order: the id of each, and its parameters.
+    /// Returns the elements of the structured data, in order: the id of each, and its parameters.
     pub fn elements(&self) -> impl Iterator<Item = (&'a str, impl ExactSizeIterator<Item = Param<'a>> + 'r)> + 'r {
         let parts = *self;
         self.elements.iter().scan(self.params, move |rest, element| {
@@ -97,7 +97,7 @@ impl<'a: 'r, 'r> Parts<'a, 'r> {
         })
     }
 
-    /// The parameters of all elements, in order.
+    /// Returns the parameters of all elements, in order.
     pub(crate) fn params(&self) -> impl ExactSizeIterator<Item = Param<'a>> + 'r {
         let parts = *self;
         self.params.iter().map(move |it| parts.param(it))
@@ -118,7 +118,7 @@ impl<'a: 'r, 'r> Parts<'a, 'r> {
     }
 }
 
-/// What has this number; -1 is that of an absent one.
+/// Converts a number to what has it; -1 is the number of an absent one.
 fn numbered<T: TryFrom<u8>>(number: i32) -> Option<T> {
     T::try_from(u8::try_from(number).ok()?).ok()
 }

@@ -72,7 +72,7 @@ pub struct Param {
 impl Text {
     pub const NONE: Text = Text { start: NonNull::dangling().as_ptr(), length: 0, present: 0 };
 
-    /// The text itself.
+    /// Returns the text itself.
     ///
     /// # Safety
     ///
@@ -117,7 +117,7 @@ pub const NO_MEMORY: u32 = 3;
 pub const NO_ROOM: u32 = 4;
 pub const BAD_ARGUMENT: u32 = 5;
 
-/// A call that writes a text of a line.
+/// A call that writes a text for a line into a buffer.
 pub type Writer = unsafe extern "C" fn(*const u8, usize, *const Options, *mut u8, usize, *mut usize) -> u32;
 
 extern "C" {

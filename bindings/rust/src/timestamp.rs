@@ -5,7 +5,8 @@ use std::time::{Duration, SystemTime};
 
 const DAY: i64 = 86_400;
 
-/// An instant, and the offset of the clock that showed it. They are ordered by the instant, and then by the offset.
+/// An instant, and the offset of the clock that showed it. Timestamps are ordered by the instant, and then by the
+/// offset.
 ///
 /// It is displayed as what that clock showed, in RFC 3339: with 0, 3, 6 or 9 decimals as it needs, or with as many as
 /// the format asks for (`{:.0}`: none). `{:#}` displays it in UTC, which ends in `Z`.
@@ -14,9 +15,9 @@ const DAY: i64 = 86_400;
 pub struct Timestamp {
     /// Whole seconds since 1970-01-01T00:00:00Z, rounded down.
     pub seconds: i64,
-    /// Nanoseconds after these, from 0 to 999,999,999.
+    /// Nanoseconds after these seconds, from 0 to 999,999,999.
     pub nanoseconds: u32,
-    /// By how many seconds the clock is ahead of UTC.
+    /// How many seconds the clock is ahead of UTC.
     pub offset: i32,
     /// Whether the line shows the year; otherwise the options gave it.
     pub shows_year: bool,
@@ -35,7 +36,7 @@ impl Timestamp {
         })
     }
 
-    /// The instant as chrono has it, at its offset. None where the offset is of a day or more.
+    /// Returns the instant as chrono has it, at its offset; none if the offset is a day or more.
     #[cfg(feature = "chrono")]
     pub fn to_chrono(self) -> Option<chrono::DateTime<chrono::FixedOffset>> {
         use chrono::TimeZone;
@@ -43,7 +44,7 @@ impl Timestamp {
     }
 }
 
-/// The instant. No timestamp lies outside of what `SystemTime` has on Linux.
+/// Converts a timestamp to its instant. No timestamp is outside of the range of `SystemTime` on Linux.
 impl From<Timestamp> for SystemTime {
     fn from(at: Timestamp) -> SystemTime {
         let seconds = Duration::from_secs(at.seconds.unsigned_abs());
@@ -52,7 +53,7 @@ impl From<Timestamp> for SystemTime {
     }
 }
 
-/// The timestamp of a whole text of RFC 3339, as in a line of RFC 5424.
+/// Parses a whole text of RFC 3339, as in a line of RFC 5424.
 impl FromStr for Timestamp {
     type Err = Error;
 

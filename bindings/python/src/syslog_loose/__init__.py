@@ -3,9 +3,12 @@
     m = parse("<34>Mar  2 06:35:05 gateway dropbear[2310]: Exit (root)", year=2026)
     m.hostname, m.severity, m.timestamp
 
-Each call takes these: `year` is that of dates that show none. Without `month` all of these are of that year; with it,
-it is that month of the year now, and in January a date of December is of the year before. `offset` is by how many
-seconds dates that show no offset are ahead of UTC.
+Each call takes these:
+
+- `year` is the year of dates that show none.
+- `month` is the current month, from 1 to 12: in January a date of December is of the year before. Without it, all such
+  dates are of `year`.
+- `offset` is how many seconds dates that show no offset are ahead of UTC.
 
 `parse`, `json` and what reads many lines read a line in its sender's dialect, if it is in one: docs/SENDERS.md lists
 them. They do so unless `dialects` is false or `variant` names a protocol. `normalise`, `settle` and `to_rfc5424` read
@@ -167,17 +170,22 @@ def read_columns(
     variant: Variant = "either",
     dialects: bool = True,
 ) -> Mapping[str, Any]:
-    """What is told of each line, as numpy arrays with a place for each line, in order. It needs numpy. The arrays share
-    one block of memory, which lasts as long as one of them.
+    """Returns what each line says, as numpy arrays with a place for each line, in order. It needs numpy. The arrays
+    share one block of memory, which lasts as long as one of them.
 
-    buffer: the bytes, which the offsets below are in. outcome: 0 of a message, 1 of a line that is none, 2 of one that
-    is no UTF-8. These two have no fields. time: datetime64[ns] in UTC; NaT where the line has none, and outside of the
-    years 1678 to 2261. nanosecond: its part of a second. offset: the seconds by which its clock is ahead. shows_year,
-    shows_offset: whether the line shows them. protocol: 3164 or 5424. facility, severity: their numbers, or -1.
-    elements: how many there are. process: the number of the process id, 0 where has_number is not 1. dialect: the
-    number of the line's dialect, or 0, of which dialect_name gives the name. line_at, host_at, app_at, process_at,
-    msgid_at, message_at: where the text begins, or -1 of an absent one; and line_size, host_size, .. its length in
-    bytes.
+    - buffer: the bytes of the source, which the offsets below are in
+    - outcome: 0 for a message, 1 for a line that is none, 2 for one that is not UTF-8; the last two have no fields
+    - time: datetime64[ns] in UTC; NaT if the line has no timestamp, or one outside of the years 1678 to 2261
+    - nanosecond: the part of a second of the timestamp
+    - offset: how many seconds the clock that showed it is ahead of UTC
+    - shows_year, shows_offset: whether the line shows them
+    - protocol: 3164 or 5424
+    - facility, severity: their numbers, or -1
+    - elements: how many elements of structured data there are
+    - process: the process id if it is a number (has_number is 1), otherwise 0
+    - dialect: the number of the line's dialect, or 0; dialect_name returns its name
+    - line_at, host_at, app_at, process_at, msgid_at, message_at: the offset of the text, or -1 if it is absent
+    - line_size, host_size, app_size, process_size, msgid_size, message_size: its length in bytes
     """
     from . import _columns
 
@@ -193,9 +201,11 @@ def to_frame(
     variant: Variant = "either",
     dialects: bool = True,
 ) -> Any:
-    """A pandas DataFrame with a row for each line, in order: time (datetime64[ns, UTC]), facility, severity, hostname
-    and appname (categories), procid, msgid and message (texts), dialect (a category), and refused: True for a line that
-    is no message, which is its own message there. It needs pandas."""
+    """Returns a pandas DataFrame with a row for each line, in order. It needs pandas.
+
+    Its columns are time (datetime64[ns, UTC]), facility, severity, hostname, appname and dialect (categories), procid,
+    msgid and message (texts), and refused: True for a line that is no message, whose message is the whole line.
+    """
     from . import _columns
 
     return _columns.to_frame(source, _VARIANTS.get(variant), year, month or 0, offset, dialects)

@@ -24,10 +24,10 @@ pub use timestamp::IncompleteDate;
 
 use chrono::{Datelike, Local, TimeZone};
 
-/// By which protocol a line is read.
+/// The protocols by which a line is read.
 #[derive(Clone, Copy, Debug)]
 pub enum Variant {
-    /// RFC 5424, and RFC 3164 where the line is none of RFC 5424.
+    /// RFC 5424, and RFC 3164 if the line does not parse by that.
     Either,
     /// RFC 3164 alone.
     RFC3164,
@@ -35,14 +35,16 @@ pub enum Variant {
     RFC5424,
 }
 
-/// The message of a line. A date that shows no year is of this year, and one that shows no offset in the local zone.
+/// Returns the message of a line. A date that shows no year is of the current year, and one that shows no offset is in
+/// the local zone.
 ///
-/// A line that is no message is a message of RFC 3164 whose `msg` is the whole line.
+/// For a line that does not parse it returns a message of RFC 3164 whose `msg` is the whole line.
 pub fn parse_message(input: &str, variant: Variant) -> Message<&str> {
     parse_message_with_year(input, |_| Local::now().year(), variant)
 }
 
-/// The message of a line, in the year that the closure gives for a date that shows none.
+/// Returns the message of a line, as [`parse_message`] does, with the year that the closure gives for a date that shows
+/// none.
 pub fn parse_message_with_year<F>(input: &str, get_year: F, variant: Variant) -> Message<&str>
 where
     F: FnOnce(IncompleteDate) -> i32,
@@ -50,7 +52,8 @@ where
     parse_message_with_year_tz::<F, Local>(input, get_year, None, variant)
 }
 
-/// The message of a line, in that year. Dates that show no offset are in `tz`, or without it in the local zone.
+/// Returns the message of a line, as [`parse_message_with_year`] does. Dates that show no offset are in `tz`, or in the
+/// local zone if that is `None`.
 pub fn parse_message_with_year_tz<F, Tz>(input: &str, get_year: F, tz: Option<Tz>, variant: Variant) -> Message<&str>
 where
     F: FnOnce(IncompleteDate) -> i32,
@@ -59,7 +62,7 @@ where
     parse_message_with_year_exact_tz(input, get_year, tz, variant).unwrap_or_else(|_| Message::whole(input))
 }
 
-/// The message of a line, as [`parse_message_with_year`] has it, but an error where the line is no message.
+/// Returns the message of a line, as [`parse_message_with_year`] does, and an error if the line does not parse.
 pub fn parse_message_with_year_exact<F>(input: &str, get_year: F, variant: Variant) -> Result<Message<&str>, String>
 where
     F: FnOnce(IncompleteDate) -> i32,
@@ -67,7 +70,7 @@ where
     parse_message_with_year_exact_tz::<F, Local>(input, get_year, None, variant)
 }
 
-/// The message of a line, as [`parse_message_with_year_tz`] has it, but an error where the line is no message.
+/// Returns the message of a line, as [`parse_message_with_year_tz`] does, and an error if the line does not parse.
 pub fn parse_message_with_year_exact_tz<F, Tz>(
     input: &str,
     get_year: F,

@@ -2,7 +2,7 @@ use crate::{ProcId, StructuredElement, SyslogFacility, SyslogSeverity};
 use chrono::{DateTime, FixedOffset};
 use std::fmt;
 
-/// By which protocol a line was read.
+/// The protocol by which a line was read.
 #[derive(Clone, Debug, PartialEq, Eq)]
 pub enum Protocol {
     /// RFC 3164.
@@ -28,7 +28,7 @@ pub struct Message<S: AsRef<str> + Ord + PartialEq + Clone> {
     pub appname: Option<S>,
     /// The process id of that program: a number, or any other text.
     pub procid: Option<ProcId<S>>,
-    /// The id that its sender gives to messages of one kind. Only RFC 5424 has it.
+    /// The message id: the sender gives the same one to messages of one kind. Only RFC 5424 has it.
     pub msgid: Option<S>,
     /// The elements of structured data, in order.
     pub structured_data: Vec<StructuredElement<S>>,

@@ -11,7 +11,7 @@ macro_rules! mirrored {
         }
 
         impl $name {
-            /// Its name.
+            /// Returns the name.
             pub fn as_str(self) -> &'static str {
                 match self {
                     $($name::$value => $same::$other.as_str(),)*
@@ -73,7 +73,7 @@ mirrored! {
     }
 }
 
-/// The facility and the severity of a priority. A priority past 191 has no facility.
+/// Returns the facility and the severity of a priority. A priority above 191 has no facility.
 pub fn decompose_pri(pri: u8) -> (Option<SyslogFacility>, Option<SyslogSeverity>) {
     let (facility, severity) = (Facility::try_from(pri / 8), Severity::try_from(pri % 8));
     (facility.ok().map(SyslogFacility::from), severity.ok().map(SyslogSeverity::from))

@@ -1,7 +1,7 @@
 use libsyslog_loose::{unescape, Param};
 use std::{fmt, slice};
 
-/// An element of structured data: its id, and its parameters as names with their values as in the line.
+/// An element of structured data: its id, and the names of its parameters with their values as they are in the line.
 #[derive(Clone, Debug)]
 pub struct StructuredElement<S: AsRef<str> + Ord + PartialEq + Clone> {
     /// Its id.
@@ -11,13 +11,13 @@ pub struct StructuredElement<S: AsRef<str> + Ord + PartialEq + Clone> {
 }
 
 impl<S: AsRef<str> + Ord + PartialEq + Clone> StructuredElement<S> {
-    /// The parameters, with values without their escapes.
+    /// Returns the parameters, with their values without escapes.
     pub fn params(&self) -> ParamsIter<'_, S> {
         ParamsIter { params: self.params.iter() }
     }
 }
 
-/// The parameters of an element, with values without their escapes.
+/// An iterator over the parameters of an element, with their values without escapes.
 pub struct ParamsIter<'a, S: AsRef<str>> {
     params: slice::Iter<'a, (S, S)>,
 }

@@ -2,7 +2,7 @@ use chrono::{DateTime, Datelike, FixedOffset, Local, LocalResult, Offset, TimeZo
 use chrono::{NaiveDate, NaiveDateTime, NaiveTime};
 use libsyslog_loose::Timestamp;
 
-/// The year in which the library reads dates that show none: each date that is in some year is in this one.
+/// The year in which the library reads dates that show none: each date that exists in some year exists in this one.
 pub(crate) const LEAP_YEAR: i32 = 2000;
 /// When it begins, in seconds since 1970.
 const BEGIN: i64 = 946_684_800;
@@ -12,7 +12,7 @@ const DAY: u32 = 86_400;
 /// Month, day, hour, minute and second of a date that shows no year.
 pub type IncompleteDate = (u32, u32, u32, u32, u32);
 
-/// The timestamp of what a line shows, with the year and the zone that it lacks. None where there is no such date.
+/// Returns the timestamp of what a line shows, with the year and the zone that it lacks; none if there is no such date.
 pub(crate) fn dated<F, Tz>(shown: Timestamp, get_year: F, tz: Option<Tz>) -> Option<DateTime<FixedOffset>>
 where
     F: FnOnce(IncompleteDate) -> i32,
