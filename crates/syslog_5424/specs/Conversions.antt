@@ -5,7 +5,8 @@ use Rattle.syslog_pieces.specs.Pieces.Class.{Text}
 use Rattle.syslog_loose.specs.Dates.{IsDated}
 use Rattle.syslog_loose.specs.Reading.{IsUnreadable}
 use Rattle.syslog_loose.specs.declared.variant.Variant.TheVariants.{Either}
-use Rattle.syslog_lines.specs.Output.{Answer, AreCounts, Filter, Written, Marked, Omitted, Unasked}
+use Rattle.syslog_lines.specs.Output.{Answer, AreCounts, Filter, Framed, Written, Marked, Omitted, Unasked}
+use Rattle.syslog_lines.specs.Frames.{frame_of}
 use Rattle.syslog_lines.specs.Pump.{FiltersAll}
 use Rattle.syslog_lines.specs.declared.framing.Frames.{Frames}
 use Rattle.syslog_lines.specs.declared.summary.LineCounts.{LineCounts}
@@ -24,10 +25,11 @@ abbrev pub IsRefused : Conversions → Text → Type 0
 IsRefused filter input = NoSyslogMsg input × IsDated filter.dates Either input
     (λ dating. IsUnreadable Either dating input)
 
--- what the filter gives for a text: what is written for it, encoded, or nothing if it is refused
+-- what the filter gives for a text: the frame of what is written for it, encoded, or nothing if it is refused
 abbrev pub IsConversion : Conversions → List ℕ → Answer → Type 0
-IsConversion filter line (Written bytes) = (text : Text) × IsSyslogMsg text × IsWritten filter (chars line) text
-    × (bytes ≡ encode_utf8_all text)
+IsConversion filter line (Framed frame) = (text : Text) × IsSyslogMsg text × IsWritten filter (chars line) text
+    × (frame ≡ frame_of filter.framing (encode_utf8_all text))
+IsConversion filter line (Written bytes) = ⊥
 IsConversion filter line (Marked bytes) = ⊥
 IsConversion filter line Omitted = IsRefused filter (chars line)
 IsConversion filter line Unasked = ⊥

@@ -11,7 +11,7 @@ ghost use Rattle.syslog_5424.specs.Conversions.{ConvertsAll, IsRefused, IsWritte
 use std::alloc::{AllocError, Global};
 use std::io::{Read, Write};
 use syslog_lines::pump::pump;
-use syslog_lines::{Frames, LineCounts, LineFilter, RunFault, Watched, push_line};
+use syslog_lines::{Frames, Framing, LineCounts, LineFilter, RunFault, Watched, push_frame};
 use syslog_loose::{Dates, IncompleteDate, ParseFault, Variant};
 use syslog_strict::to_rfc5424_into;
 use syslog_utf8::decode;
@@ -53,6 +53,8 @@ pub fn write_converted<R: Read, W: Write>(
 /// The filter that writes each line as RFC 5424.
 #[derive(Drop)]
 pub struct Conversions {
+    /// How the frames that are written follow each other.
+    pub framing: Framing,
     /// Whether a line that is not UTF-8 is decoded as ISO 8859-1.
     pub latin1: bool,
     /// How dates that show no year or no zone are completed.
@@ -96,7 +98,7 @@ impl LineFilter for Conversions {
     ) -> Result<bool, AllocError> {
         match self.convert_line(alloc, line, text) {
             Ok(()) => {
-                push_line(output, text.as_bytes())?;
+                push_frame(output, self.framing, text.as_bytes())?;
                 Ok(true)
             }
             Err(ParseFault::Invalid) => Ok(false),

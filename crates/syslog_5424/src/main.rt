@@ -17,7 +17,13 @@ use syslog_lines::{Frames, Watched};
 use syslog_loose::VERSION;
 
 // The flags of this program.
-const FLAGS: [Flag; 3] = [Flag::Latin1, Flag::Offset, Flag::MaxLine];
+const FLAGS: [Flag; 5] = [
+    Flag::Latin1,
+    Flag::Offset,
+    Flag::Nul,
+    Flag::OctetCounted,
+    Flag::MaxLine,
+];
 
 // Writes the lines of standard input as RFC 5424, and then returns the exit status.
 fn filter_input(rt: &HostRuntime, frames: Frames, filter: Conversions) -> u8 {
@@ -30,6 +36,7 @@ fn filter_input(rt: &HostRuntime, frames: Frames, filter: Conversions) -> u8 {
 // The filter that was asked for.
 fn conversions_of(options: Options<'_>) -> Conversions {
     Conversions {
+        framing: options.framing,
         latin1: options.latin1,
         dates: options.dates,
     }

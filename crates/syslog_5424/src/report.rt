@@ -20,6 +20,9 @@ Options, in any order, each at most once:
                    UTC where this is left out
   --latin1         reads a line that is not UTF-8 as ISO 8859-1, and not with
                    U+FFFD for what is not
+  --nul            frames end in NUL, and not in a line feed, in and out
+  --octet-counted  frames have octet counts (RFC 6587), in and out; one that is
+                   read may end in a line feed in place of that
   --max-line BYTES a longer line is refused, 67108864 where this is left out
   --               may come before YEAR
   -h, --help       this text

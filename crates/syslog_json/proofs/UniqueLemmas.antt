@@ -23,7 +23,7 @@ use Rattle.std.proofs.Common.{◌-◌, arith, append_assoc, codes, length, take}
 use Rattle.std.proofs.lemmas.List.{length-append, take-append-le}
 use Rattle.std.specs.Prelude.{IsUtf8}
 use Rattle.syslog_utf8.specs.Decoded.{decoded}
-use Rattle.syslog_lines.specs.Output.{Answer, Written, Marked, Omitted, Unasked}
+use Rattle.syslog_lines.specs.Output.{Answer, Framed, Written, Marked, Omitted, Unasked}
 use Rattle.syslog_json.proofs.MarkLemmas.{marked_read}
 use Rattle.syslog_json.specs.Marked.{HasMember, marked_line, marked_text}
 use Rattle.syslog_json.specs.Objects.{IsLineObject, IsLineRead, IsObject, IsOnly, IsReadJson, IsRefusedJson}
@@ -182,6 +182,7 @@ invalid_answer filter line taken (Marked bytes) invalid is utf8 (inl (valid, obj
   same_line (not filter.latin1) bytes,
   refl,
 )
+invalid_answer filter line taken (Framed bytes) invalid is utf8 (inl (valid, object)) = absurd object
 invalid_answer filter line taken Omitted invalid is utf8 (inl (valid, object)) = absurd object
 invalid_answer filter line taken Unasked invalid is utf8 (inl (valid, object)) = absurd object
 invalid_answer filter line taken answer invalid is utf8 (inr (other, object)) = absurd (other utf8)

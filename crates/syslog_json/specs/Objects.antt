@@ -16,7 +16,7 @@ use Rattle.syslog_dialects.specs.declared.visit.SentLine.{SentLine}
 use Rattle.json.specs.Json.{Json}
 use Rattle.serde_json.specs.Data.{Data}
 use Rattle.serde_json.specs.Read.{of_json, read}
-use Rattle.syslog_lines.specs.Output.{Answer, AreCounts, Filter, Written, Marked, Omitted, Unasked}
+use Rattle.syslog_lines.specs.Output.{Answer, AreCounts, Filter, Framed, Written, Marked, Omitted, Unasked}
 use Rattle.syslog_lines.specs.Pump.{FiltersAll}
 use Rattle.syslog_lines.specs.declared.framing.Frames.{Frames}
 use Rattle.syslog_lines.specs.declared.summary.LineCounts.{LineCounts}
@@ -64,6 +64,7 @@ IsObject filter is_marked line (Written bytes) = (value : Json) × IsOnly (IsRea
     × IsReadAs (marked_if is_marked value) bytes
 IsObject filter is_marked line (Marked bytes) = (value : Json) × IsOnly (IsRefusedJson filter line) value
     × IsReadAs (marked_if is_marked value) bytes
+IsObject filter is_marked line (Framed bytes) = ⊥
 IsObject filter is_marked line Omitted = ⊥
 IsObject filter is_marked line Unasked = ⊥
 

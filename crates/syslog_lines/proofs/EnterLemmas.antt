@@ -1,12 +1,11 @@
 -- From the bytes that come next at a place to the first frame.
-use Rattle.syslog_lines.proofs.Names.{◌≡◌, ◌+◌, ◌-◌, ◌<◌, ◌≤◌, ℕ, List, [], ◌∷◌, ◌++◌, length, take, drop, Tally}
-use Rattle.syslog_lines.proofs.Names.{inl, inr, refl, sym, ◌∙◌, ap, subst, arith, append-nil, true, is_byte, Passes}
+use Rattle.syslog_lines.proofs.Names.{◌≡◌, ◌+◌, ◌-◌, ◌<◌, ◌≤◌, ℕ, List, [], ◌∷◌, length, take, drop, Tally}
+use Rattle.syslog_lines.proofs.Names.{inl, inr, refl, sym, subst, arith, append-nil, is_byte, Passes}
 use Rattle.syslog_lines.proofs.Names.{Nowhere}
 use Rattle.std.proofs.Math.Seq.{drop-length}
 use Rattle.memchr.specs.Find.{NoneBefore}
-use Rattle.syslog_lines.specs.Frames.{AreFrames, IsOpen, ending_of, is_above}
-use Rattle.syslog_lines.specs.Place.{CountsLong, Enters, HasMark, IsAt, IsHeld, IsMarkFront, Opened, PassesMark}
-use Rattle.syslog_lines.specs.Place.{Settles}
+use Rattle.syslog_lines.specs.Frames.{IsOpen, ending_of}
+use Rattle.syslog_lines.specs.Place.{CountsLong, Enters, IsAt, PassesMark}
 use Rattle.syslog_lines.specs.declared.framing.Frames.{Frames}
 use Rattle.syslog_lines.specs.declared.place.Entry.{Entry}
 use Rattle.syslog_lines.specs.declared.place.Entry.TheVariants.{After, Only}

@@ -2,7 +2,7 @@
 use Rattle.syslog_lines.proofs.Names.{◌≡◌, ◌<◌, ◌≤◌, ℕ, List, [], ◌∷◌, ◌++◌, Option, length, take, drop, Tally, Keeps}
 use Rattle.syslog_lines.proofs.Names.{inl, inr, refl, sym, ◌∙◌, ap, subst, arith, append_assoc, append-nil, Filter}
 use Rattle.syslog_lines.proofs.Names.{Answered}
-use Rattle.syslog_lines.proofs.Names.{Appends-kept, output_of, Wrote, Bool, true, eqb, eqb-true}
+use Rattle.syslog_lines.proofs.Names.{Appends-kept, output_of, Bool, true, eqb, eqb-true}
 use Rattle.syslog_lines.proofs.AnswerLemmas.{Answered-after, Answered-long, Answered-none, Answered-skips, Wrote-none}
 use Rattle.syslog_lines.proofs.AnswerLemmas.{WroteBefore-after}
 use Rattle.syslog_lines.proofs.FrameLemmas.{AreFrames-append, some_frames}
@@ -12,7 +12,7 @@ use Rattle.std.proofs.KnownBytes.{Keeps-refl}
 use Rattle.std.proofs.Common.{◌⊎◌, OnErr, OnOk, Result, Ok, Err}
 use Rattle.syslog_lines.proofs.Names.{◌+◌, ◌-◌, length-drop}
 use Rattle.syslog_lines.proofs.WholeLemmas.{drop_twice, rest_is}
-use Rattle.syslog_lines.specs.Frames.{AreFrames, HasAllFrames, HasFrames, IsCutFrame, IsOpen, is_too_long}
+use Rattle.syslog_lines.specs.Frames.{AreFrames, HasAllFrames, IsCutFrame, IsOpen}
 use Rattle.syslog_lines.specs.Output.{taken}
 use Rattle.syslog_lines.specs.Place.{CountsLong, Goes, HasRead, IsAt, IsHeld, Opened, Skips}
 use Rattle.syslog_lines.specs.Write.{AddsWhole, StopsWithin, WroteBefore}

@@ -2,6 +2,7 @@ pub mod Names
 pub mod LaneLemmas
 pub mod FeedLemmas
 pub mod DigitLemmas
+pub mod FrameLaws
 pub mod FrameLemmas
 pub mod LineLemmas
 pub mod CountLemmas

@@ -1,9 +1,9 @@
 -- The byte order mark, byte by byte.
-use Rattle.syslog_lines.proofs.Names.{◌≡◌, ◌≢◌, ◌+◌, ◌<◌, ◌≤◌, ℕ, List, [], ◌∷◌, ◌++◌, length, take, drop, slice_index}
-use Rattle.syslog_lines.proofs.Names.{inl, inr, refl, sym, ◌∙◌, ap, arith, append_assoc}
+use Rattle.syslog_lines.proofs.Names.{◌≡◌, ◌≢◌, ◌<◌, ◌≤◌, ℕ, List, [], ◌∷◌, ◌++◌, length, slice_index}
+use Rattle.syslog_lines.proofs.Names.{inl, inr, refl, sym, ◌∙◌, ap, arith}
 use Rattle.std.proofs.lemmas.List.{get_or_append_left}
 use Rattle.syslog_lines.specs.Frames.{mark}
-use Rattle.syslog_lines.specs.Place.{HasMark, IsMarkFront, Settles}
+use Rattle.syslog_lines.specs.Place.{HasMark, IsMarkFront}
 
 -- a byte that is not that of the mark
 module _ (bytes : List ℕ) (k : ℕ) (within : k < length bytes) (inside : k < 3)

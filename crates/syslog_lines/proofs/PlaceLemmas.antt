@@ -1,23 +1,19 @@
 -- The place of the bytes that come next, as more is read and as frames end.
-use Rattle.syslog_lines.proofs.Names.{◌≡◌, ◌≢◌, ◌+◌, ◌-◌, ◌<◌, ◌≤◌, ℕ, List, [], ◌∷◌, ◌++◌, length, take, drop}
-use Rattle.syslog_lines.proofs.Names.{slice_index}
+use Rattle.syslog_lines.proofs.Names.{◌≡◌, ◌≢◌, ◌<◌, ◌≤◌, ℕ, List, [], ◌∷◌, ◌++◌, length, take}
 use Rattle.syslog_lines.proofs.Names.{inl, inr, refl, sym, ◌∙◌, ap, subst, arith, append_assoc, append-nil, All-nil}
-use Rattle.syslog_lines.proofs.Names.{All-append}
-use Rattle.syslog_lines.proofs.Names.{take-append-drop, length-drop, Bool, true, false}
-use Rattle.std.proofs.Common.{length-append, length-take, ◌⊎◌}
+use Rattle.syslog_lines.proofs.Names.{Bool, true}
+use Rattle.std.proofs.Common.{length-append}
 use Rattle.std.proofs.Math.Seq.{take-append_seam}
 use Rattle.std.proofs.lemmas.List.Elements.{All-cons}
-use Rattle.syslog_lines.specs.Frames.{AreFrames, HasAllFrames, HasBody, HasFrames, IsCounted, IsCutFrame, IsDigit}
-use Rattle.syslog_lines.specs.Frames.{IsFrame}
-use Rattle.syslog_lines.specs.Frames.{IsOpen, IsUncounted, NoByte, ending_of, is_too_long, mark}
-use Rattle.syslog_lines.specs.Place.{HasRead, IsAt, IsHeld, IsLongFront, IsMarkFront, IsSeen, Opened, Settles}
-use Rattle.syslog_lines.specs.Size.{block_size}
+use Rattle.syslog_lines.specs.Frames.{AreFrames, HasAllFrames, HasBody, HasFrames, IsCutFrame, IsDigit}
+use Rattle.syslog_lines.specs.Frames.{IsOpen, ending_of, mark}
+use Rattle.syslog_lines.specs.Place.{IsAt, IsHeld, IsMarkFront, IsSeen, Opened, Settles}
 use Rattle.syslog_lines.specs.declared.framing.Framing.{Framing}
 use Rattle.syslog_lines.specs.declared.framing.Framing.TheVariants.{LineFeeds, Nuls, OctetCounts}
 use Rattle.syslog_lines.specs.declared.framing.Frames.{Frames}
 use Rattle.syslog_lines.specs.declared.place.Place.{Place}
 use Rattle.syslog_lines.specs.declared.place.Place.TheVariants.{Head, Frame, Ending, Octets}
-use Rattle.syslog_lines.proofs.FrameLemmas.{AreFrames-append, AreFrames-more, IsCounted-more, IsOpen-nil}
+use Rattle.syslog_lines.proofs.FrameLemmas.{AreFrames-append, AreFrames-more, IsOpen-nil}
 use Rattle.syslog_lines.proofs.FrameLemmas.{uncounted_byte}
 
 -- ---- more frames, and more bytes

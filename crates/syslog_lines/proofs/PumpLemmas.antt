@@ -1,20 +1,18 @@
 -- How a filter is pumped over its input, block by block.
 use Rattle.syslog_lines.proofs
-use proofs.Names.{append_assoc, append-nil, RunFault, Option, subst, Memory, Filter, Answered, length}
-use proofs.Names.{◌≡◌, ◌+◌, ◌≤◌, ℕ, Bool, List, [], ◌++◌, inl, inr, refl, sym, ap, ◌∙◌, arith, Keeps, Tally, Write}
-use proofs.Names.{drop, true, false}
+use proofs.Names.{append-nil, RunFault, Option, subst, Memory, Filter, Answered}
+use proofs.Names.{◌≡◌, ℕ, Bool, List, [], ◌++◌, inl, inr, refl, arith, Keeps, Tally, Write}
+use proofs.Names.{true, false}
 use Rattle.std.specs.Io.KnownBytes.{Consumes, IsAtEnd}
 use Rattle.std.proofs.KnownBytes.{Consumes-kept, Consumes-nil, Consumes-trans, Keeps-refl}
 use Rattle.syslog_lines.{specs.Block.StopsReading, specs.declared.summary.RunFault.TheVariants.Read}
 use proofs.{CountLemmas.IsFresh, CountLemmas.counted_from_zero, CountLemmas.lines_counted}
 use proofs.FrameLemmas.{IsOpen-nil}
 use proofs.PlaceLemmas.{HasRead-held, IsAt-read}
-use Rattle.syslog_lines.specs.Frames.{HasAllFrames, HasBody, HasFrames}
+use Rattle.syslog_lines.specs.Frames.{HasAllFrames, HasBody}
 use Rattle.syslog_lines.specs.Output.{taken}
-use Rattle.syslog_lines.specs.Place.{Goes, HasRead, IsAt, IsHeld, Opened, StartsAt, Stops, IsMarkFront}
+use Rattle.syslog_lines.specs.Place.{Goes, HasRead, IsAt, IsHeld, StartsAt, Stops}
 use Rattle.syslog_lines.specs.Pump.{CanAnswer, EndsEarly, ReadAll, ReadFrames, PumpsAll}
-use Rattle.syslog_lines.specs.Size.{block_size}
-use Rattle.syslog_lines.specs.Write.{WroteBefore, WroteCut}
 use Rattle.syslog_lines.specs.declared.framing.Frames.{Frames}
 use Rattle.syslog_lines.specs.declared.place.Place.{Place}
 use Rattle.syslog_lines.specs.declared.place.Place.TheVariants.{Head, Frame, Ending, Octets}

@@ -5,12 +5,12 @@ use Rattle.syslog_lines.proofs.Names.{inl, inr, refl, sym, ◌∙◌, ap, subst,
 use Rattle.syslog_lines.proofs.Names.{All-append, get_or}
 use Rattle.syslog_lines.proofs.Names.{take-append-drop, length-drop, take_at, take_all, eq-eqb, eqb-true, Passes}
 use Rattle.syslog_lines.proofs.Names.{Nowhere, is_byte}
-use Rattle.std.proofs.Common.{length-append, length-take, ◌⊎◌, None, Some, true}
+use Rattle.std.proofs.Common.{length-append, length-take, None, Some, true}
 use Rattle.std.proofs.Math.Seq.{take-add, drop-append-add}
 use Rattle.std.proofs.lemmas.List.{drop_more, get_or-take, get_or-drop}
 use Rattle.std.proofs.lemmas.List.Elements.{All-from_get_or, All-get_or}
 use Rattle.memchr.specs.Find.{NoneBefore}
-use Rattle.syslog_lines.specs.Frames.{AreFrames, IsCounted, IsCutFrame, IsFrame, IsOpen, IsUncounted, NoByte, ending_of}
+use Rattle.syslog_lines.specs.Frames.{AreFrames, IsCounted, IsFrame, IsOpen, IsUncounted, NoByte, ending_of}
 use Rattle.syslog_lines.specs.Frames.{is_too_long}
 use Rattle.syslog_lines.specs.Place.{IsAt, IsCutBy, IsLongFront, Opened}
 use Rattle.syslog_lines.specs.Lines.{EndsInFeed}

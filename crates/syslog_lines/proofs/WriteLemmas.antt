@@ -1,7 +1,7 @@
 -- Bytes that are written in several steps.
-use Rattle.syslog_lines.proofs.Names.{subst, append_assoc, Appends-kept, Appends-trans, take-append-drop, AnswersBefore}
-use Rattle.syslog_lines.proofs.Names.{length-drop, append-nil, take_at, output_of, AddsAnswers, AnswersAll}
-use Rattle.syslog_lines.proofs.Names.{◌≡◌, length, Option, Result, arith, take_all, IsLines, Filter, WroteCut, RunFault}
+use Rattle.syslog_lines.proofs.Names.{subst, append_assoc, Appends-kept, Appends-trans, take-append-drop}
+use Rattle.syslog_lines.proofs.Names.{length-drop, append-nil, take_at, output_of}
+use Rattle.syslog_lines.proofs.Names.{◌≡◌, length, Option, Result, arith, take_all, Filter, WroteCut, RunFault}
 use Rattle.syslog_lines.proofs.Names.{Bool, true, ◌-◌, List, ◌++◌, take, drop, Some, refl, Keeps, Wrote, Tally, Write}
 use Rattle.syslog_lines.proofs.Names.{ℕ, ◌≤◌, [], ◌∷◌, Ok, Err, sym, ◌∙◌, ap}
 use Rattle.std.specs.Io.KnownBytes.{Appends}

@@ -1,6 +1,6 @@
 -- The frames of the input: those of RFC 6587, section 3.4, and this project's own choices.
 use Rattle.std.specs.Prelude.{◌≡◌, ◌≢◌, ◌+◌, ◌-◌, ◌*◌, ◌<◌, ◌≤◌, ◌⊎◌, ℕ, Bool, true, false, List, [], ◌∷◌, ◌++◌, All}
-use Rattle.std.specs.Prelude.{Option, Some, None, ◌==◌, if◌then◌else◌, length, nat_lt, slice_index, take}
+use Rattle.std.specs.Prelude.{Option, Some, None, ◌==◌, decimal, if◌then◌else◌, length, nat_lt, slice_index, take}
 use Rattle.syslog_lines.specs.declared.framing.Framing.{Framing}
 use Rattle.syslog_lines.specs.declared.framing.Framing.TheVariants.{LineFeeds, Nuls, OctetCounts}
 use Rattle.syslog_lines.specs.declared.framing.Frames.{Frames}
@@ -57,6 +57,18 @@ IsUncounted framing bytes = (octets : ℕ) (rest : List ℕ) → IsCounted frami
 abbrev pub IsFrame : Framing → List ℕ → List ℕ → Type 0
 IsFrame framing message frame = IsCounted framing frame (length message) message
     ⊎ (IsUncounted framing frame × NoByte (ending_of framing) message × (frame ≡ message ++ ending_of framing ∷ []))
+
+-- the frame that is written for a message
+abbrev pub frame_of : Framing → List ℕ → List ℕ
+frame_of LineFeeds message = message ++ 10 ∷ []
+frame_of Nuls message = message ++ 0 ∷ []
+frame_of OctetCounts message = decimal (length message) ++ 32 ∷ message
+
+-- a message that one frame can have: no ending is in it, or it is not empty and its count has at most nine digits
+abbrev pub CanBeFramed : Framing → List ℕ → Type 0
+CanBeFramed LineFeeds message = NoByte 10 message
+CanBeFramed Nuls message = NoByte 0 message
+CanBeFramed OctetCounts message = (0 < length message) × (length message ≤ 999999999)
 
 -- a frame that the end of the bytes cuts, and what is there of its message
 abbrev pub IsCutFrame : Framing → List ℕ → List ℕ → Type 0

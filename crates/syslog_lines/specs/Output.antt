@@ -9,16 +9,18 @@ use Rattle.syslog_lines.specs.Count.{held_count}
 use Rattle.syslog_lines.specs.Frames.{is_too_long, line_of}
 use Rattle.syslog_lines.specs.declared.framing.Frames.{Frames}
 
--- what a line gives: bytes that are written for it, also for a line that counts as skipped (`Marked`); nothing, for a
--- line that counts as skipped; or nothing since nobody asked for the line
+-- what a line gives: bytes that are written for it, also for a line that counts as skipped (`Marked`); a whole frame;
+-- nothing, for a line that counts as skipped; or nothing since nobody asked for the line
 pub data Answer : Type 0 where
   Written : List ℕ → Answer
+  Framed : List ℕ → Answer
   Marked : List ℕ → Answer
   Omitted : Answer
   Unasked : Answer
 
 abbrev pub is_answered : Answer → Bool
 is_answered (Written bytes) = true
+is_answered (Framed bytes) = true
 is_answered (Marked bytes) = false
 is_answered Omitted = false
 is_answered Unasked = true
@@ -56,9 +58,10 @@ taken frames filter = stripping frames.strips (limited frames.longest filter)
 abbrev pub AreAnswers : Filter → List (List ℕ) → List Answer → Type 0
 AreAnswers filter lines answers = AllZip filter.Answers lines answers
 
--- what is written for a line: its bytes and a line feed, or nothing
+-- what is written for a line: its bytes and a line feed, its frame, or nothing
 abbrev pub answer_bytes : Answer → List ℕ
 answer_bytes (Written bytes) = bytes ++ 10 ∷ []
+answer_bytes (Framed bytes) = bytes
 answer_bytes (Marked bytes) = bytes ++ 10 ∷ []
 answer_bytes Omitted = []
 answer_bytes Unasked = []

@@ -13,6 +13,7 @@ mod block;
 pub mod filter;
 mod frames;
 pub mod framing;
+pub mod laws;
 mod lines;
 mod place;
 pub mod pump;
@@ -20,7 +21,7 @@ mod search;
 pub mod summary;
 mod watched;
 
-pub use filter::{LineFilter, push_line};
+pub use filter::{LineFilter, push_frame, push_line};
 pub use framing::{Frames, Framing, LONGEST_LINE};
 pub use lines::first_line;
 pub use summary::{LineCounts, RunFault, Summary, Tally};

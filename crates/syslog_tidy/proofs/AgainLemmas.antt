@@ -13,7 +13,7 @@ use Rattle.syslog_loose.{specs.OneLine.IsOneLine, specs.Printed.printed}
 use Rattle.syslog_loose.{proofs.SettlingLemmas.Settles.one_first_settled, specs.Message.MessageValue}
 use Rattle.syslog_loose.proofs.ReadBackLemmas.{printed_line, printed_scalars}
 use Rattle.syslog_lines.proofs.LineLemmas.{frames_are_lines}
-use Rattle.syslog_lines.{specs.Output.Marked, specs.Output.Unasked, specs.Output.output_of}
+use Rattle.syslog_lines.{specs.Output.Framed, specs.Output.Marked, specs.Output.Unasked, specs.Output.output_of}
 use Rattle.syslog_lines.{specs.declared.summary.Summary.Summary}
 use Rattle.syslog_lines.{specs.Count.held_count, specs.Lines.NoFeed, specs.Lines.with_feeds, specs.Lines.IsLines}
 use Rattle.syslog_lines.proofs.LineLemmas.{IsOther, all_after, all_front}
@@ -116,6 +116,7 @@ module _ (year : ℤ) (line text : List ℕ) (free : NoFeed line) (utf8 : IsUtf8
           → answer ≡ Written (encode_utf8_all text)
       only (Written bytes) (u, (other, given, same)) = ap Written (same ∙ ap encode_utf8_all
           (one_first_settled Either (in_utc year) (chars (encode_utf8_all text)) other text given itself))
+      only (Framed bytes) none = absurd none
       only (Marked bytes) none = absurd none
       only Omitted none = absurd (none (text, (valid, refl)) text itself)
       only Unasked none = absurd none
@@ -125,15 +126,20 @@ abbrev lines_of : List Answer → List (List ℕ)
 lines_of [] = []
 lines_of (Omitted ∷ answers) = lines_of answers
 lines_of (Unasked ∷ answers) = lines_of answers
-lines_of (Marked bytes ∷ answers) = bytes ∷ lines_of answers
+lines_of (Marked bytes ∷ answers) = lines_of answers
+lines_of (Framed bytes ∷ answers) = lines_of answers
 lines_of (Written bytes ∷ answers) = bytes ∷ lines_of answers
 
-output_fed : (answers : List Answer) → output_of answers ≡ with_feeds (lines_of answers)
-output_fed [] = refl
-output_fed (Omitted ∷ answers) = output_fed answers
-output_fed (Unasked ∷ answers) = output_fed answers
-output_fed (Marked bytes ∷ answers) = simp (append_assoc, output_fed answers)
-output_fed (Written bytes ∷ answers) = simp (append_assoc, output_fed answers)
+output_fed : (year : ℤ) (lines : List (List ℕ)) (answers : List Answer) → AreAnswers (tidying year) lines answers
+    → output_of answers ≡ with_feeds (lines_of answers)
+output_fed year [] [] h = refl
+output_fed year (line ∷ lines) (Omitted ∷ answers) h = output_fed year lines answers h.1
+output_fed year (line ∷ lines) (Written bytes ∷ answers) h =
+    simp (append_assoc, output_fed year lines answers h.1)
+output_fed year (line ∷ lines) (Framed bytes ∷ answers) h = absurd h.0
+output_fed year (line ∷ lines) (Marked bytes ∷ answers) h = absurd h.0
+output_fed year (line ∷ lines) (Unasked ∷ answers) h = absurd h.0
+output_fed year lines answers h = absurd h
 
 all_at_rest : (year : ℤ) (lines : List (List ℕ)) (answers : List Answer) → All NoFeed lines
     → AreAnswers (tidying year) lines answers → AllByRecursion (IsAtRest year) (lines_of answers)
@@ -144,6 +150,7 @@ all_at_rest year (line ∷ lines) (Written bytes ∷ answers) free ((utf8, (text
   subst (IsAtRest year) (sym same) (at_rest year line text (All-head NoFeed line lines free) utf8 first),
   all_at_rest year lines answers (All-tail NoFeed line lines free) h,
 )
+all_at_rest year (line ∷ lines) (Framed bytes ∷ answers) free h = absurd h.0
 all_at_rest year (line ∷ lines) (Marked bytes ∷ answers) free h = absurd h.0
 all_at_rest year (line ∷ lines) (Unasked ∷ answers) free h = absurd h.0
 all_at_rest year lines answers free h = absurd h
@@ -165,7 +172,7 @@ TidiesAll-again year in_before in_after out_before out_after summary (found, all
     (bytes, lines, answers, cut, answered, is) =
     let ts = lines_of answers in
     let rests = all_at_rest year lines answers cut.0 answered in
-    let fed : output ≡ with_feeds ts = is ∙ output_fed answers in
+    let fed : output ≡ with_feeds ts = is ∙ output_fed year lines answers answered in
     let read : all.all.read ≡ output = rw e at (Consumes-whole in_before in_after all.all.read
     (λ (l : List ℕ). all.all.read ≡ l) all.all.consumed all.all.at_end refl) in
     let free = All-weaker (IsAtRest year) NoFeed (λ line at. at.0) ts (All-from_recursion (IsAtRest year) ts rests) in

@@ -10,7 +10,7 @@ use Rattle.syslog_loose.specs.declared.variant.Variant.TheVariants.{Either}
 use Rattle.syslog_lines.specs.Count.{held_count}
 use Rattle.syslog_lines.specs.Frames.{plain_lines}
 use Rattle.syslog_lines.specs.Lines.{IsLines}
-use Rattle.syslog_lines.specs.Output.{Answer, AreAnswers, Filter, Marked, Omitted, Unasked}
+use Rattle.syslog_lines.specs.Output.{Answer, AreAnswers, Filter, Framed, Marked, Omitted, Unasked}
 use Rattle.syslog_lines.specs.Output.{Written, is_answered, is_skipped, output_of}
 use Rattle.syslog_lines.specs.Pump.{FiltersAll}
 use Rattle.syslog_tidy.specs.declared.counts.Changed.{Changed}
@@ -20,6 +20,7 @@ use Rattle.syslog_lines.specs.declared.summary.Summary.{Summary}
 abbrev pub of_texts : (List ℕ → Option (List ℕ) → Type 0) → List ℕ → Answer → Type 0
 of_texts Answers line (Written bytes) =
     IsUtf8 line × ((text : List ℕ) × Answers (chars line) (Some text) × (bytes ≡ encode_utf8_all text))
+of_texts Answers line (Framed bytes) = ⊥
 of_texts Answers line (Marked bytes) = ⊥
 of_texts Answers line Omitted = IsUtf8 line → Answers (chars line) None
 of_texts Answers line Unasked = ⊥
@@ -52,6 +53,7 @@ finding_changed year = record {
 -- what the line gives is the line itself where `tidying` writes nothing for it, and none where it writes something
 abbrev pub IsRefused : ℤ → List ℕ → Answer → Type 0
 IsRefused year line (Written bytes) = (tidying year).Answers line Omitted × (bytes ≡ line)
+IsRefused year line (Framed bytes) = ⊥
 IsRefused year line (Marked bytes) = ⊥
 IsRefused year line Omitted = (bytes : List ℕ) × (tidying year).Answers line (Written bytes)
 IsRefused year line Unasked = ⊥

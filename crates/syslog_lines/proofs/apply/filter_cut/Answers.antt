@@ -1,4 +1,4 @@
-use Rattle.syslog_lines.proofs.Names.{inl, inr, refl, length, List, ℕ, Some}
+use Rattle.syslog_lines.proofs.Names.{Some}
 use Rattle.syslog_lines.proofs.AnswerLemmas.{some_left}
 use Rattle.syslog_lines.proofs.HeldLemmas.{OnErr-both, OnOk-along, last_cut, last_none, last_stops, none_left, open_at}
 use Rattle.syslog_lines.proofs.apply.filter_cut.Goals as goal

@@ -1,4 +1,4 @@
-use Rattle.syslog_lines.proofs.Names.{◌≡◌, ◌+◌, ◌-◌, List, ℕ, [], ◌∷◌, take, drop, length, subst, arith, sym, Some}
+use Rattle.syslog_lines.proofs.Names.{◌≡◌, ◌+◌, List, ℕ, drop, arith}
 use Rattle.syslog_lines.proofs.Names.{length-drop}
 use Rattle.syslog_lines.proofs.AnswerLemmas.{OnErr-any}
 use Rattle.syslog_lines.proofs.FrameLemmas.{IsOpen-nil}

@@ -1,5 +1,4 @@
-use Rattle.syslog_lines.proofs.Names.{arith, append-nil, Some, refl, length, take, drop, length-drop}
-use Rattle.syslog_lines.proofs.AnswerLemmas.{OnErr-any, Answered-none}
+use Rattle.syslog_lines.proofs.AnswerLemmas.{OnErr-any}
 use Rattle.syslog_lines.proofs.HeldLemmas.{held_done, held_only, held_open, held_shut, held_stops}
 use Rattle.syslog_lines.proofs.WholeLemmas.{rest_is}
 use Rattle.syslog_lines.proofs.apply.filter_held.Goals as goal

@@ -1,4 +1,4 @@
-use Rattle.syslog_lines.proofs.Names.{inl, inr, refl}
+use Rattle.syslog_lines.proofs.Names.{inl, inr}
 use Rattle.syslog_lines.proofs.HeldLemmas.{last_long}
 use Rattle.syslog_lines.proofs.apply.filter_last.Goals as goal
 

@@ -1,4 +1,4 @@
-use Rattle.syslog_lines.proofs.Names.{◌≡◌, refl, sym, ◌∙◌, ap, length, List, ℕ, true, false, Some}
+use Rattle.syslog_lines.proofs.Names.{◌≡◌, sym, ◌∙◌, ap, length, List, ℕ, true, false, Some}
 use Rattle.syslog_lines.proofs.AnswerLemmas.{Answered-invalid, Answered-long, Answered-valid, OnErr-any, taken-wants}
 use Rattle.syslog_lines.specs.Frames.{is_above, is_too_long}
 use Rattle.std.proofs.KnownBytes.{Keeps-refl}

@@ -1,4 +1,4 @@
-use Rattle.syslog_lines.proofs.Names.{arith, take, drop, sym, ◌∙◌, Some, ℕ}
+use Rattle.syslog_lines.proofs.Names.{drop, Some}
 use Rattle.syslog_lines.specs.Output.{taken}
 use Rattle.syslog_lines.specs.Write.{StopsWithin}
 use Rattle.syslog_lines.proofs.AnswerLemmas.{OnErr-any}

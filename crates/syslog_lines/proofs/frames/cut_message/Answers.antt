@@ -1,4 +1,4 @@
-use Rattle.syslog_lines.proofs.Names.{◌≡◌, ◌+◌, ◌-◌, ◌<◌, ◌≤◌, ℕ, List, length, drop, arith, inl, inr, refl, subst}
+use Rattle.syslog_lines.proofs.Names.{◌≡◌, ◌+◌, ◌-◌, ℕ, List, length, drop, arith, inl, inr, refl, subst}
 use Rattle.syslog_lines.proofs.DigitLemmas.{few_octets}
 use Rattle.syslog_lines.proofs.WholeLemmas.{open_free, rest_is}
 use Rattle.syslog_lines.specs.Frames.{IsCounted}

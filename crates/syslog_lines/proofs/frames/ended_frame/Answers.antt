@@ -1,4 +1,4 @@
-use Rattle.syslog_lines.proofs.Names.{drop, arith}
+use Rattle.syslog_lines.proofs.Names.{drop}
 use Rattle.syslog_lines.proofs.WholeLemmas.{ended_whole, first_ending, no_ending, not_ended, rest_is}
 use Rattle.syslog_lines.specs.Frames.{ending_of}
 use Rattle.syslog_lines.proofs.frames.ended_frame.Goals as goal

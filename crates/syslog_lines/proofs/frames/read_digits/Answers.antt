@@ -2,7 +2,7 @@ use Rattle.syslog_lines.proofs.Names.{◌≡◌, ◌+◌, ◌-◌, ℕ, List, []
 use Rattle.std.proofs.Common.{◌*◌}
 use Rattle.std.proofs.lemmas.List.{take_more}
 use Rattle.std.proofs.lemmas.List.Elements.{All-push}
-use Rattle.syslog_lines.specs.Frames.{IsDigit, number_after}
+use Rattle.syslog_lines.specs.Frames.{IsDigit}
 use Rattle.syslog_lines.proofs.DigitLemmas.{larger_number, number_after-push}
 use Rattle.syslog_lines.proofs.frames.read_digits.Goals as goal
 

@@ -1,4 +1,4 @@
-use Rattle.syslog_lines.proofs.Names.{◌≡◌, ◌+◌, ◌-◌, ℕ, arith}
+use Rattle.syslog_lines.proofs.Names.{◌≡◌, ◌+◌, ◌-◌, arith}
 use Rattle.syslog_lines.proofs.WholeLemmas.{counted_cut, counted_some, counted_whole}
 use Rattle.syslog_lines.proofs.frames.whole_frame.Goals as goal
 

@@ -1,5 +1,5 @@
 use Rattle.syslog_lines.proofs.Names.{arith}
-use Rattle.syslog_lines.proofs.MarkLemmas.{mark_front, no_mark, whole_mark}
+use Rattle.syslog_lines.proofs.MarkLemmas.{mark_front}
 use Rattle.syslog_lines.proofs.place.mark_size.Goals.{else-size-gt0-via-then-size-gt0+else-bytes}
 use Rattle.syslog_lines.proofs.place.mark_size.Goals.{else-size-gt0-via-else-size-gt0}
 use Rattle.syslog_lines.proofs.place.mark_size.Goals.{else-size-gt1-via-then-size-gt1+else-bytes-2}

@@ -1,4 +1,4 @@
-use Rattle.syslog_lines.proofs.Names.{Memory, Write, refl, take, drop, List, ℕ, length, Some}
+use Rattle.syslog_lines.proofs.Names.{Memory, drop, List, ℕ, Some}
 use Rattle.syslog_lines.specs.Place.{HasRead, IsAt}
 use Rattle.syslog_lines.proofs.AnswerLemmas.{IfErr-passed}
 use Rattle.syslog_lines.proofs.WriteLemmas.{Goes-answered, Goes-before, Stops-held, appends_collected, begins_collected}

@@ -1,4 +1,4 @@
-use Rattle.syslog_lines.proofs.Names.{Memory, Write, refl, take, List, ℕ, length, Some}
+use Rattle.syslog_lines.proofs.Names.{Memory, Some}
 use Rattle.syslog_lines.specs.Frames.{HasAllFrames}
 use Rattle.syslog_lines.proofs.AnswerLemmas.{IfErr-passed}
 use Rattle.syslog_lines.proofs.WriteLemmas.{Goes-answered, Goes-before, Stops-cut, appends_collected, begins_collected}

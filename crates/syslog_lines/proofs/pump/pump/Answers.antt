@@ -1,5 +1,5 @@
-use Rattle.syslog_lines.proofs.Names.{arith, length, refl, true, false, Appends-kept, take_all, Memory, Write, ap}
-use Rattle.syslog_lines.proofs.Names.{sym, ◌∙◌, held_bytes}
+use Rattle.syslog_lines.proofs.Names.{arith, length, refl, true, Appends-kept, take_all, Memory, Write, ap}
+use Rattle.syslog_lines.proofs.Names.{sym, held_bytes}
 use Rattle.syslog_lines.specs.Frames.{HasAllFrames}
 use Rattle.std.proofs.Common.{length-append}
 use Rattle.syslog_lines.proofs.AnswerLemmas.{IfErr-passed}

@@ -1,5 +1,4 @@
 use Rattle.syslog_lines.proofs.Names.{◌≡◌, ◌-◌, ◌^◌, false, held_bytes, length}
-use Rattle.syslog_lines.proofs.CountLemmas.{IsFresh}
 use Rattle.syslog_lines.proofs.PumpLemmas.{PumpedSoFar}
 use Rattle.syslog_lines.proofs.pump.pump.Given as goal
 

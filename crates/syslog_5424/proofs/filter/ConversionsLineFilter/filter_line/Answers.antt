@@ -1,16 +1,17 @@
-use Rattle.std.proofs.Common.{inl, refl, sym}
+use Rattle.std.proofs.Common.{ap, inl, refl, sym}
 use Rattle.std.proofs.lemmas.Str.{IsUtf8-string_bytes, encodes-chars}
-use Rattle.syslog_lines.{proofs.AnswerLemmas.OnErr-any, specs.Output.Written}
+use Rattle.syslog_lines.{proofs.AnswerLemmas.OnErr-any, specs.Frames.frame_of, specs.Output.Framed}
 use Rattle.syslog_5424.{proofs.CallLemmas.written_not_refused, specs.Conversions.conversions}
 use Rattle.syslog_5424.proofs.filter.ConversionsLineFilter.filter_line.Goals as goal
 
-pub returns-in_ok-push_line-in-Ok-clause-ok : goal.returns-in_ok-push_line-in-Ok-clause-ok
-returns-in_ok-push_line-in-Ok-clause-ok c =
+pub returns-in_ok-push_frame-in-Ok-clause-ok : goal.returns-in_ok-push_frame-in-Ok-clause-ok
+returns-in_ok-push_frame-in-Ok-clause-ok c =
     let spelt = sym (encodes-chars _ (IsUtf8-string_bytes c.convert_line.new.text)) in
-    let added = rw c.as_bytes.ensures.value at c.in_ok-push_line-in-Ok.ensures.ok in
-    (Written _, (_, inl (c.utf8.line, refl), (_, c.in-Ok.ensures.0, c.in-Ok.ensures.1, spelt)), added, refl)
+    let added = rw c.as_bytes.ensures.value at c.in_ok-push_frame-in-Ok.ensures.ok in
+    let framed = ap (frame_of c.args.self.now.framing) spelt in
+    (Framed _, (_, inl (c.utf8.line, refl), (_, c.in-Ok.ensures.0, c.in-Ok.ensures.1, framed)), added, refl)
 
-pub returns-in_err-push_line-in-Ok-clause-refusal : goal.returns-in_err-push_line-in-Ok-clause-refusal
-returns-in_err-push_line-in-Ok-clause-refusal c =
+pub returns-in_err-push_frame-in-Ok-clause-refusal : goal.returns-in_err-push_frame-in-Ok-clause-refusal
+returns-in_err-push_frame-in-Ok-clause-refusal c =
     OnErr-any _ ((conversions c.args.self.now).Wants c.args.line.now)
     (λ utf8. written_not_refused c.args.self.now _ _ c.in-Ok.ensures.1)

@@ -1,4 +1,3 @@
-use Rattle.syslog_lines.proofs.Names.{drop, length, List, ℕ, sym}
 use Rattle.std.proofs.Math.Seq.{drop-length}
 use Rattle.syslog_lines.proofs.LineLemmas.{long_front}
 use Rattle.syslog_lines.proofs.WholeLemmas.{long_begins, octets_begin}
