@@ -23,8 +23,6 @@ pub mod laws;
 mod led;
 mod named;
 mod named_forms;
-#[cfg(test)]
-mod named_tests;
 mod netscaler;
 mod open_wrt;
 mod ordinary;
@@ -36,8 +34,6 @@ mod runs;
 mod sent;
 mod sophos_utm;
 mod tail;
-#[cfg(test)]
-mod tests;
 mod unix_seconds;
 mod untagged;
 mod visit;
