@@ -5,9 +5,10 @@
  *
  *     cc program.c $(pkg-config --cflags --libs syslog_loose)
  *
- * A program may include the system's <syslog.h> too. Three calls ask for memory, by the program's malloc, realloc and
- * free: syslog_settle, syslog_to_rfc5424 and syslog_json. They make the text in memory of their own, copy it to the
- * caller's buffer, and free that memory before they return. No other call asks for any.
+ * A program may include the system's <syslog.h> too. Four calls ask for memory, by the program's malloc, realloc and
+ * free: syslog_settle, syslog_to_rfc5424, syslog_json, and syslog_decode for bytes that are not UTF-8. They make the
+ * text in memory of their own, copy it to the caller's buffer, and free that memory before they return. No other call
+ * asks for any.
  *
  * The library has no state: no call keeps or frees anything of the caller's, and threads may call it at once. Don't
  * call it from a signal handler, nor in the forked child of a process with threads.
@@ -175,7 +176,7 @@ uint32_t syslog_read_fields(const char *line, size_t length, const struct syslog
 uint32_t syslog_read_lines(const char *buffer, size_t length, const struct syslog_options *options,
                            struct syslog_row *rows, size_t room, size_t *read);
 
-/* The five that follow write a text to the beginning of a buffer, which has room_length bytes, and the length of the
+/* The six that follow write a text to the beginning of a buffer, which has room_length bytes, and the length of the
  * text to needed.
  *
  * SYSLOG_DONE: it is there, with no zero byte after it, and the rest of the buffer is as it was.
@@ -207,6 +208,13 @@ uint32_t syslog_json(const char *line, size_t length, const struct syslog_option
 /* The value of a parameter without its escapes: \n is a line feed, \" and \] and \\ are their second character, any
  * other pair stays, and a lone backslash at the end is dropped. It is no longer than the value. */
 uint32_t syslog_unescape(const char *value, size_t length, char *room, size_t room_length, size_t *needed);
+
+/* The bytes as UTF-8, so that the other calls take them, which refuse what is not: as they are if they are UTF-8.
+ * Otherwise each byte is a character of ISO 8859-1 if latin1 is not 0, and nothing is lost; or else U+FFFD is in the
+ * place of each part that is not UTF-8: of the front of a character that is cut, as far as it goes, or of one byte. The
+ * text may be longer than the bytes. */
+uint32_t syslog_decode(const char *bytes, size_t length, uint32_t latin1, char *room, size_t room_length,
+                       size_t *needed);
 
 /* Whether the line's message is read back from its printed form as that very message: canonical is 1 then, and
  * otherwise 0, as it is where the line is no message. */

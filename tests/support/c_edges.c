@@ -285,6 +285,30 @@ static void values(void)
     }
 }
 
+/* Bytes as the text that they are taken for: with U+FFFD, and as ISO 8859-1. */
+static void decoded(void)
+{
+    static const char *const rows[][3] = {
+        { "", "", "" },
+        { "gr\xc3\xbc\xc3\x9f", "gr\xc3\xbc\xc3\x9f", "gr\xc3\xbc\xc3\x9f" },
+        { "gr\xfc\xdf", "gr\xef\xbf\xbd\xef\xbf\xbd", "gr\xc3\xbc\xc3\x9f" },
+        { "\xe2\x82, \xc3\xbc", "\xef\xbf\xbd, \xc3\xbc", "\xc3\xa2\xc2\x82, \xc3\x83\xc2\xbc" },
+    };
+    for (size_t i = 0; i < sizeof rows / sizeof *rows; i++)
+        for (uint32_t latin1 = 0; latin1 < 2; latin1++) {
+            const char *wanted = rows[i][1 + latin1];
+            char room[32];
+            size_t needed = 77;
+            CHECK(syslog_decode(rows[i][0], strlen(rows[i][0]), latin1, room, sizeof room, &needed) == SYSLOG_DONE);
+            CHECK(needed == strlen(wanted) && !memcmp(room, wanted, needed));
+            for (size_t space = 0; space < strlen(wanted); space++) {
+                needed = 77;
+                CHECK(syslog_decode(rows[i][0], strlen(rows[i][0]), latin1, room, space, &needed) == SYSLOG_NO_ROOM);
+                CHECK(needed == strlen(wanted));
+            }
+        }
+}
+
 /* What is written of a line that is read by these options. The raw line is in its object as its last member. */
 static void written(const char *line, const struct syslog_options *options, const char *strict_text, const char *json,
                     const char *raw)
@@ -561,6 +585,7 @@ int main(int count, char **words)
     }
     wrong_arguments();
     values();
+    decoded();
     converted();
     dialects();
     names();

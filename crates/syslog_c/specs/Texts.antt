@@ -1,5 +1,5 @@
 -- What the calls leave that write a text.
-use Rattle.std.specs.Prelude.{◌≡◌, ◌⊎◌, ℕ, nat_eq, if◌then◌else◌, List, Option, None, Some}
+use Rattle.std.specs.Prelude.{◌≡◌, ◌⊎◌, ℕ, Bool, nat_eq, not, if◌then◌else◌, List, Option, None, Some}
 use Rattle.std.specs.Str.{chars, encode_utf8_all, IsUtf8}
 use Rattle.syslog_pieces.specs.Pieces.Class.{Text}
 use Rattle.syslog_pieces.specs.StructuredData.Escapes.{IsUnescaped}
@@ -15,6 +15,7 @@ use Rattle.syslog_dialects.specs.SentReading.{LeavesSent}
 use Rattle.syslog_dialects.specs.declared.dialect.Dialect.{Dialect}
 use Rattle.syslog_object.specs.Object.{beside_line, message_json}
 use Rattle.syslog_object.specs.Written.{IsTextOf}
+use Rattle.syslog_utf8.specs.Decoded.{AreTakenFor}
 use Rattle.syslog_c.specs.Line.{Refuses}
 use Rattle.syslog_c.specs.Room.{IsLeft, Puts}
 use Rattle.syslog_c.specs.Sent.{IsOnlyMeant, RefusesSent}
@@ -80,3 +81,14 @@ abbrev pub Unescaped : List ℕ → List ℕ → List ℕ → ℕ → Outcome �
 Unescaped value old new needed outcome =
     ((bytes : List ℕ) × IsUnescapedValue value bytes × Puts bytes old new needed outcome)
     ⊎ ((outcome ≡ NotUtf8) × (IsUtf8 value → ⊥) × IsLeft old new needed)
+
+-- whether a number of C asks for something: it is not 0
+abbrev pub is_asked : ℕ → Bool
+is_asked asked = not (nat_eq asked 0)
+
+-- The text that the bytes are taken for is in the buffer, or its length alone is reported. Or they are not UTF-8, and
+-- an allocation failed, and all is as it was.
+abbrev pub PutsDecoded : Bool → List ℕ → List ℕ → List ℕ → ℕ → Outcome → Type 0
+PutsDecoded is_latin1 bytes old new needed outcome =
+    ((text : List ℕ) × AreTakenFor is_latin1 bytes text × Puts text old new needed outcome)
+    ⊎ ((outcome ≡ NoMemory) × (IsUtf8 bytes → ⊥) × IsLeft old new needed)

@@ -8,6 +8,7 @@
 
 mod arrays;
 mod canonical;
+mod decode;
 pub mod fields;
 mod lines;
 mod names;
