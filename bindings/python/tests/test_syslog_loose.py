@@ -503,7 +503,9 @@ class Program(unittest.TestCase):
 
     def test_an_interrupt(self):
         words = [sys.executable, "-m", "syslog_loose", "--year", "2026"]
-        with subprocess.Popen(words, stdin=subprocess.PIPE, stdout=subprocess.DEVNULL, stderr=subprocess.PIPE) as ran:
+        pipes = {"stdin": subprocess.PIPE, "stdout": subprocess.DEVNULL, "stderr": subprocess.PIPE}
+        # A shell that runs the tests in the background has them ignore interrupts, which the program would inherit.
+        with subprocess.Popen(words, **pipes, preexec_fn=lambda: signal.signal(signal.SIGINT, signal.SIG_DFL)) as ran:
             # (this is more than a pipe holds: once it was written, the program reads lines)
             ran.stdin.write(self.GIVEN * 2000)
             ran.send_signal(signal.SIGINT)
