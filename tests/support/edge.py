@@ -106,13 +106,14 @@ def refused(count, lines):
     return b"refused %d of %d lines\n" % (count, lines)
 
 
-def no_messages(program, count, lines, invalid=0, replaced=0):
-    """What a program says of its lines: how many are no messages, how many of these are not UTF-8, and how many others
-    have U+FFFD for what is not."""
+def no_messages(program, count, lines, invalid=0, replaced=0, too_long=0):
+    """What a program says of its lines: how many are no messages, how many of these are not UTF-8 and how many are too
+    long, and how many others have U+FFFD for what is not UTF-8."""
     said = b""
     if count:
-        reason = b" (%d not UTF-8)" % invalid if invalid else b""
-        said += b"%s: %d of %d lines are no messages%s\n" % (program, count, lines, reason)
+        kinds = [b"%d %s" % (many, what) for many, what in ((invalid, b"not UTF-8"), (too_long, b"too long")) if many]
+        reasons = b" (%s)" % b", ".join(kinds) if kinds else b""
+        said += b"%s: %d of %d lines are no messages%s\n" % (program, count, lines, reasons)
     if replaced:
         said += b"%s: %d of %d lines have U+FFFD for what is not UTF-8\n" % (program, replaced, lines)
     return said

@@ -1,7 +1,7 @@
 -- Messages that are put together without memory, and their writing.
 use Rattle.syslog_command_line.proofs.Names.{◌≡◌, ◌++◌, ◌≤◌, ◌∙◌, ℕ, [], List, Option, ap, append_assoc}
 use Rattle.syslog_command_line.proofs.Names.{arith, length, rules, subst}
-use Rattle.std.proofs.Common.{Bool, ◌+◌}
+use Rattle.std.proofs.Common.{Bool, ◌+◌, append-nil, codes, sym}
 use Rattle.std.{proofs.lemmas.List.length-append, specs.Fmt.Cut.cut_to}
 use Rattle.syslog_command_line.specs.Report.{WritesUnlessFailed}
 
@@ -32,3 +32,18 @@ pub same_text : (before after : Option (List ℕ)) (failed : Bool) (text whole :
     → WritesUnlessFailed before after failed text → WritesUnlessFailed before after failed whole
 same_text before after failed text whole same wrote =
     subst (λ (t : List ℕ). WritesUnlessFailed before after failed t) same wrote
+
+-- one kind of lines in brackets
+pub one_kind : (count : List ℕ) → count ++ codes " not UTF-8)" ≡ (count ++ codes " not UTF-8") ++ codes ")"
+one_kind count = sym (append_assoc count (codes " not UTF-8") (codes ")"))
+
+-- and two
+pub two_kinds : (count other : List ℕ) → count ++ (codes " not UTF-8, " ++ (other ++ codes " too long)"))
+    ≡ (count ++ codes " not UTF-8") ++ (((codes ", " ++ (other ++ codes " too long")) ++ []) ++ codes ")")
+two_kinds count other =
+    let closed : ((codes ", " ++ (other ++ codes " too long")) ++ []) ++ codes ")"
+    ≡ codes ", " ++ (other ++ codes " too long)") =
+    ap (λ (l : List ℕ). l ++ codes ")") (append-nil (codes ", " ++ (other ++ codes " too long")))
+    ∙ ap (λ (l : List ℕ). codes ", " ++ l) (append_assoc other (codes " too long") (codes ")")) in
+    sym (ap (λ (l : List ℕ). (count ++ codes " not UTF-8") ++ l) closed
+    ∙ append_assoc count (codes " not UTF-8") (codes ", " ++ (other ++ codes " too long)")))

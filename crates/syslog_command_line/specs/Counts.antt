@@ -1,5 +1,6 @@
 -- What a program says of its lines, where not all is well: this project's own choice.
-use Rattle.std.specs.Prelude.{ℕ, ◌&&◌, ◌==◌, if◌then◌else◌, List, [], ◌++◌, Result, Ok, Err, codes, decimal}
+use Rattle.std.specs.Prelude.{ℕ, ◌&&◌, ◌==◌, if◌then◌else◌, List, [], ◌∷◌, ◌++◌, Result, Ok, Err, codes, decimal}
+use Rattle.std.specs.List.{flat_map}
 use Rattle.syslog_command_line.specs.Report.{fault_line}
 use Rattle.syslog_lines.specs.declared.summary.LineCounts.{LineCounts}
 use Rattle.syslog_lines.specs.declared.summary.RunFault.{RunFault}
@@ -9,15 +10,24 @@ abbrev pub share : List ℕ → ℕ → ℕ → List ℕ → List ℕ
 share program count lines what =
     program ++ (codes ": " ++ (decimal count ++ (codes " of " ++ (decimal lines ++ what))))
 
--- why lines are no messages, as far as it is said: how many of them are not UTF-8
-abbrev pub reasons : ℕ → List ℕ
-reasons invalid = if invalid == 0 then codes " lines are no messages\n"
-    else codes " lines are no messages (" ++ (decimal invalid ++ codes " not UTF-8)\n")
+-- so many lines of one kind, if there are some
+abbrev pub kind : ℕ → List ℕ → List (List ℕ)
+kind count what = if count == 0 then [] else (decimal count ++ what) ∷ []
+
+-- the kinds in brackets, with commas between them, if there are some
+abbrev pub in_brackets : List (List ℕ) → List ℕ
+in_brackets [] = []
+in_brackets (first ∷ more) = codes " (" ++ (first ++ (flat_map (λ other. codes ", " ++ other) more ++ codes ")"))
+
+-- why lines are no messages, as far as it is said: how many are not UTF-8, and how many are too long
+abbrev pub reasons : ℕ → ℕ → List ℕ
+reasons invalid long = in_brackets (kind invalid (codes " not UTF-8") ++ kind long (codes " too long"))
 
 -- how many lines are no messages, if there are some
 abbrev pub refused_line : List ℕ → LineCounts → List ℕ
 refused_line program counts =
-    if counts.refused == 0 then [] else share program counts.refused counts.lines (reasons counts.refused_invalid)
+    if counts.refused == 0 then [] else share program counts.refused counts.lines
+    (codes " lines are no messages" ++ (reasons counts.refused_invalid counts.too_long ++ codes "\n"))
 
 -- how many messages have U+FFFD for what is not UTF-8, if there are some
 abbrev pub replaced_line : List ℕ → LineCounts → List ℕ

@@ -3,8 +3,8 @@
 ghost use Rattle.std.specs.Prelude.{◌≡◌, ◌==◌, ◌≤◌, if◌then◌else◌, false, [], codes, length, map};
 ghost use Rattle.std.specs.Fmt.InlineText.{inline_text};
 ghost use Rattle.std.specs.List.{concat};
-ghost use Rattle.syslog_command_line.specs.Counts.{counts_status, counts_text, lines_said, lines_status, refused_line};
-ghost use Rattle.syslog_command_line.specs.Counts.{replaced_line};
+ghost use Rattle.syslog_command_line.specs.Counts.{counts_status, counts_text, lines_said, lines_status, reasons};
+ghost use Rattle.syslog_command_line.specs.Counts.{refused_line, replaced_line};
 ghost use Rattle.syslog_command_line.specs.Report.{WritesUnlessFailed, count_line, fault_line, said_of, status_of};
 ghost use Rattle.syslog_command_line.specs.Report.{version_line};
 ghost use Rattle.syslog_lines.specs.declared.summary.RunFault.TheVariants.{Write};
@@ -19,6 +19,9 @@ const LINE: usize = 512;
 
 /// How many bytes a message of two lines is given.
 const LINES: usize = 1024;
+
+/// How many bytes the reasons why lines are no messages have at most.
+const REASONS: usize = 128;
 
 /// How many bytes of the name of a program or of a version are always written, and of the word for what became of
 /// lines.
@@ -41,9 +44,9 @@ pub fn report<W: Write>(outcome: &Result<Summary, RunFault>, errors: &mut Watche
 /// Writes how many lines are no messages and how many are not UTF-8, or the text of the fault. Returns the exit status:
 /// 0 if each line is a message and UTF-8, 1 if not, 2 after a fault. If a write fails, `errors.failed` is set.
 ///
-/// It writes a line of the form `syslog_json: 3 of 12 lines are no messages (2 not UTF-8)`, and one that says how many
-/// messages have U+FFFD for what is not UTF-8. A line that would count nothing is not written. The name has at most 64
-/// bytes.
+/// It writes a line of the form `syslog_json: 3 of 12 lines are no messages (2 not UTF-8, 1 too long)`, and one that
+/// says how many messages have U+FFFD for what is not UTF-8. A line that would count nothing is not written, nor is a
+/// kind of lines in brackets. The name has at most 64 bytes.
 pub fn report_lines<W: Write>(
     program: &str,
     outcome: &Result<LineCounts, RunFault>,
@@ -80,37 +83,43 @@ fn report_counts<W: Write>(program: &str, counts: &LineCounts, errors: &mut Watc
     }
 }
 
-// Returns the line that says how many lines are no messages, and how many of these are not UTF-8.
+// Returns the line that says how many lines are no messages, and why.
 fn say_refused(program: &str, counts: &LineCounts) -> InlineText<LINE>
     ensures { length program.now ≤ NAME → inline_text result ≡ refused_line program.now counts.now }
 {
     if counts.refused == 0 {
         return InlineText::new();
     }
-    let (mut first, mut second, mut third) = (Buffer::new(), Buffer::new(), Buffer::new());
+    let (mut first, mut second) = (Buffer::new(), Buffer::new());
     let refused = first.format(counts.refused);
     let lines = second.format(counts.lines);
-    if counts.refused_invalid == 0 {
-        return joined(&[
-            program,
-            ": ",
-            refused,
-            " of ",
-            lines,
-            " lines are no messages\n",
-        ]);
-    }
-    let invalid = third.format(counts.refused_invalid);
+    let reasons = say_reasons(counts.refused_invalid, counts.too_long);
     joined(&[
         program,
         ": ",
         refused,
         " of ",
         lines,
-        " lines are no messages (",
-        invalid,
-        " not UTF-8)\n",
+        " lines are no messages",
+        reasons.as_str(),
+        "\n",
     ])
+}
+
+// Returns how many lines are not UTF-8 and how many are too long, in brackets; or nothing, if none are.
+fn say_reasons(invalid: u64, long: u64) -> InlineText<LINE>
+    ensures text { inline_text result ≡ reasons invalid long }
+    ensures short { length (inline_text result) ≤ REASONS }
+{
+    let (mut first, mut second) = (Buffer::new(), Buffer::new());
+    let invalid_text = first.format(invalid);
+    let long_text = second.format(long);
+    match (invalid == 0, long == 0) {
+        (true, true) => InlineText::new(),
+        (true, false) => joined(&[" (", long_text, " too long)"]),
+        (false, true) => joined(&[" (", invalid_text, " not UTF-8)"]),
+        (false, false) => joined(&[" (", invalid_text, " not UTF-8, ", long_text, " too long)"]),
+    }
 }
 
 // Returns the line that says how many messages have U+FFFD for what is not UTF-8.
