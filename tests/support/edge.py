@@ -28,6 +28,45 @@ DASHED = b"<34>Oct 11 22:14:15 mymachine app: -5 degrees"
 DASHED_TIDY = b"<34> 2019-10-11T22:14:15+00:00 mymachine app: -5 degrees"
 BAD = b"gobbledegook"
 
+# Lines of each severity, from the worst, of the host gw and the app sshd. Then lines that differ from these in one of
+# the three, or nearly have it, and one that lacks them.
+TO_CHOOSE = [
+    *(b"<%d>1 - gw sshd - - - x" % (8 * 4 + severity) for severity in range(8)),
+    b"<34>Oct 11 22:14:15 gw2 sshd: x",
+    b"<38>Oct 11 22:14:15 gw cron: x",
+    b"<36>1 - GW sshd2 - - - x",
+    b"<36>1 - g\xc3\xa4w - - - - x",
+    b"1 - - - - - - x",
+]
+# Flags, and which of these lines they choose, by their places.
+CHOICES = {
+    ("--severity", "emerg"): [0],
+    ("--severity", "panic"): [0],
+    ("--severity", "alert"): [0, 1],
+    ("--severity", "crit"): [0, 1, 2, 8],
+    ("--severity", "err"): [0, 1, 2, 3, 8],
+    ("--severity", "error"): [0, 1, 2, 3, 8],
+    ("--severity", "warning"): [0, 1, 2, 3, 4, 8, 10, 11],
+    ("--severity", "warn"): [0, 1, 2, 3, 4, 8, 10, 11],
+    ("--severity", "notice"): [0, 1, 2, 3, 4, 5, 8, 10, 11],
+    ("--severity", "info"): [0, 1, 2, 3, 4, 5, 6, 8, 9, 10, 11],
+    ("--severity", "debug"): [0, 1, 2, 3, 4, 5, 6, 7, 8, 9, 10, 11],
+    ("--host", "gw"): [0, 1, 2, 3, 4, 5, 6, 7, 9],
+    ("--host", "gw2"): [8],
+    ("--host", "GW"): [10],
+    ("--host", "g\u00e4w"): [11],
+    ("--host", "g"): [],
+    ("--host", "g?w"): [],
+    ("--host", ""): [],
+    ("--app", "sshd"): [0, 1, 2, 3, 4, 5, 6, 7, 8],
+    ("--app", "sshd2"): [10],
+    ("--app", "ssh"): [],
+    ("--host", "gw", "--severity", "err"): [0, 1, 2, 3],
+    ("--app", "cron", "--host", "gw", "--severity", "info"): [9],
+    ("--app", "cron", "--host", "gw", "--severity", "err"): [],
+    (): [0, 1, 2, 3, 4, 5, 6, 7, 8, 9, 10, 11, 12],
+}
+
 # Lists with text after them, by what they are: as RFC 5424 prints them, where it reads them, and as RFC 3164 does.
 HOSTILE_LISTS = {
     "a million opening brackets": (b"[" * MILLION, None, b"[" * MILLION),

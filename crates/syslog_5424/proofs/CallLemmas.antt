@@ -7,7 +7,7 @@ use Rattle.syslog_loose.proofs.ReadingLemmas.{in_year_map, in_year_told, invalid
 use Rattle.syslog_loose.proofs.ReckoningLemmas.{one_dating}
 use Rattle.jiff.specs.Words.{plain_zone}
 use Rattle.syslog_loose.specs.Dates.{IsDated, year_in}
-use Rattle.syslog_loose.specs.Reading.{IncompleteDate, InYear, IsUnreadable}
+use Rattle.syslog_loose.specs.Reading.{IncompleteDate, InYear, IsOnlyRead, IsUnreadable}
 use Rattle.syslog_loose.specs.Reckoning.{dating_in}
 use Rattle.syslog_loose.specs.declared.fault.ParseFault.{ParseFault}
 use Rattle.syslog_loose.specs.declared.fault.ParseFault.TheVariants.{Invalid}
@@ -15,7 +15,14 @@ use Rattle.syslog_loose.specs.declared.variant.Variant.TheVariants.{Either}
 use Rattle.syslog_lines.specs.Output.{AddsAnswer}
 use Rattle.syslog_strict.specs.{Call.Converts, Call.Copies, Call.IsConvertedText, Call.NoSyslogMsg, Grammar.IsSyslogMsg}
 use Rattle.syslog_utf8.specs.Decoded.{decoded}
-use Rattle.syslog_5424.specs.Conversions.{IsRefused, IsWritten, conversions}
+use Rattle.syslog_5424.specs.Conversions.{IsAskedFor, IsRefused, IsWritten, conversions}
+use Rattle.std.proofs.Common.{IsTrue, Option, Some, subst}
+use Rattle.syslog_choice.specs.Chosen.{IsChosen}
+use Rattle.syslog_choice.specs.declared.Choice.{Choice}
+use Rattle.syslog_loose.specs.Line.{line_value}
+use Rattle.syslog_loose.specs.Message.{MessageValue}
+use Rattle.syslog_loose.specs.Visit.{IsLineOf}
+use Rattle.syslog_loose.specs.declared.line.Line.{Line}
 use Rattle.syslog_5424.specs.declared.filter.Conversions.{Conversions}
 
 module _ (filter : Conversions) (input text : Text) where
@@ -65,6 +72,30 @@ module _ (filter : Conversions) (input text : Text) where
       → Copies input r text ⊎ IsDated filter.dates Either input (λ dating. Converts Either dating input r text)
   told_copied post r (inl copied) tells = inl copied
   told_copied post r (inr h) tells = inr (in_year_told h tells)
+
+-- whether the line is asked for, by what its reading gives
+module _ (filter : Conversions) (choice : Choice) (input : Text) (given : filter.choice ≡ Some choice) where
+  pub asked_chosen : (line : Line) (r : Bool)
+      → IsDated filter.dates Either input (λ dating. IsLineOf Either dating input line)
+      → (IsTrue r ↔ IsChosen choice (line_value line)) → IsTrue r ↔ IsAskedFor filter input
+  asked_chosen line r read chosen = (
+    λ yes. rw given (in_year_map (λ year is. (line_value line, is.only, chosen.0 yes)) read),
+    λ asked.
+        let (dating, is, (m, only, has)) =
+        one_dating {Holds = λ d. IsLineOf Either d input line}
+        {More = λ d. (m : MessageValue) × IsOnlyRead Either d input m × IsChosen choice m}
+        filter.dates Either input read (rw given at asked) in
+        chosen.1 (subst (λ (m : MessageValue). IsChosen choice m) (is.only.only m only.read) has),
+  )
+
+  pub none_asked : IsDated filter.dates Either input (λ dating. IsUnreadable Either dating input)
+      → IsAskedFor filter input → ⊥
+  none_asked none asked =
+      let (dating, is, (m, only, has)) =
+      one_dating {Holds = λ d. IsUnreadable Either d input}
+      {More = λ d. (m : MessageValue) × IsOnlyRead Either d input m × IsChosen choice m}
+      filter.dates Either input none (rw given at asked) in
+      is m only.read
 
 -- what a line gives that is not UTF-8: what the text gives that it is taken for
 pub taken_answer : (filter : Conversions) (line text old new : List ℕ) (r : Result Bool AllocError) → ¬ (IsUtf8 line)

@@ -1,9 +1,10 @@
 -- What is written for each line: this project's own choice.
-use Rattle.std.specs.Prelude.{◌≡◌, ◌⊎◌, ℕ, List, Option, IsUtf8, encode_utf8_all}
+use Rattle.std.specs.Prelude.{◌≡◌, ◌⊎◌, ℕ, List, Option, IfSome, IsUtf8, encode_utf8_all}
 use Rattle.std.specs.Str.{chars}
 use Rattle.syslog_pieces.specs.Pieces.Class.{Text}
 use Rattle.syslog_loose.specs.Dates.{IsDated}
-use Rattle.syslog_loose.specs.Reading.{IsUnreadable}
+use Rattle.syslog_loose.specs.Message.{MessageValue}
+use Rattle.syslog_loose.specs.Reading.{IsOnlyRead, IsUnreadable}
 use Rattle.syslog_loose.specs.declared.variant.Variant.TheVariants.{Either}
 use Rattle.syslog_lines.specs.Output.{Answer, AreCounts, Filter, Framed, Written, Marked, Omitted, Unasked}
 use Rattle.syslog_lines.specs.Frames.{frame_of}
@@ -11,6 +12,7 @@ use Rattle.syslog_lines.specs.Pump.{FiltersAll}
 use Rattle.syslog_lines.specs.declared.framing.Frames.{Frames}
 use Rattle.syslog_lines.specs.declared.summary.LineCounts.{LineCounts}
 use Rattle.syslog_strict.specs.{Call.IsConvertedText, Call.NoSyslogMsg, Grammar.IsSyslogMsg}
+use Rattle.syslog_choice.specs.Chosen.{IsChosen}
 use Rattle.syslog_utf8.specs.Decoded.{AreTakenFor}
 use Rattle.syslog_5424.specs.declared.filter.Conversions.{Conversions}
 
@@ -25,14 +27,21 @@ abbrev pub IsRefused : Conversions → Text → Type 0
 IsRefused filter input = NoSyslogMsg input × IsDated filter.dates Either input
     (λ dating. IsUnreadable Either dating input)
 
--- what the filter gives for a text: the frame of what is written for it, encoded, or nothing if it is refused
+-- where messages are chosen, the text is read as one of them
+abbrev pub IsAskedFor : Conversions → Text → Type 0
+IsAskedFor filter input = IfSome filter.choice (λ choice. IsDated filter.dates Either input
+    (λ dating. (m : MessageValue) × IsOnlyRead Either dating input m × IsChosen choice m))
+
+-- what the filter gives for a text: the frame of what is written for it, encoded, or nothing if it is refused or not
+-- asked for
 abbrev pub IsConversion : Conversions → List ℕ → Answer → Type 0
-IsConversion filter line (Framed frame) = (text : Text) × IsSyslogMsg text × IsWritten filter (chars line) text
+IsConversion filter line (Framed frame) = IsAskedFor filter (chars line)
+    × (text : Text) × IsSyslogMsg text × IsWritten filter (chars line) text
     × (frame ≡ frame_of filter.framing (encode_utf8_all text))
 IsConversion filter line (Written bytes) = ⊥
 IsConversion filter line (Marked bytes) = ⊥
 IsConversion filter line Omitted = IsRefused filter (chars line)
-IsConversion filter line Unasked = ⊥
+IsConversion filter line Unasked = (¬ (IsRefused filter (chars line))) × (¬ (IsAskedFor filter (chars line)))
 
 -- what the filter gives for a line: that for the text that the line is decoded to, which is another one if the line is
 -- not UTF-8

@@ -1,15 +1,17 @@
 //! The filter that writes each line as RFC 5424.
-ghost use Rattle.std.specs.Prelude.{◌≡◌, ◌↔◌, false, IfErr, IfOk, MatchResult};
+ghost use Rattle.std.specs.Prelude.{◌≡◌, ◌↔◌, false, IfErr, IfOk, IsTrue, MatchResult, Some};
 ghost use Rattle.std.specs.Str.{chars};
 ghost use Rattle.syslog_loose.specs.Dates.{year_in};
 ghost use Rattle.syslog_loose.specs.declared.fault.ParseFault.TheVariants.{Invalid};
 ghost use Rattle.syslog_lines.specs.Pump.{EndsEarly, FailedAs};
 ghost use Rattle.syslog_strict.specs.Grammar.{IsSyslogMsg};
 ghost use Rattle.syslog_strict.specs.Pushing.{text_in};
-ghost use Rattle.syslog_5424.specs.Conversions.{ConvertsAll, IsRefused, IsWritten, conversions};
+ghost use Rattle.syslog_5424.specs.Conversions.{ConvertsAll, IsAskedFor, IsRefused, IsWritten};
+ghost use Rattle.syslog_5424.specs.Conversions.{conversions};
 
 use std::alloc::{AllocError, Global};
 use std::io::{Read, Write};
+use syslog_choice::{Choice, parse_apart};
 use syslog_lines::pump::pump;
 use syslog_lines::{Frames, Framing, LineCounts, LineFilter, RunFault, Watched, push_frame};
 use syslog_loose::{Dates, IncompleteDate, ParseFault, Variant};
@@ -19,7 +21,7 @@ use syslog_utf8::decode;
 /// Reads lines to the end of the input, and writes each as RFC 5424: a line that is in the grammar as it came, and
 /// otherwise its message, converted, with its dates completed by `dates`. A line that is neither in the grammar nor a
 /// message is left out and counted as refused. A line that is not UTF-8 is first decoded: as ISO 8859-1, or with U+FFFD
-/// for each part that is not UTF-8.
+/// for each part that is not UTF-8. If messages are chosen, no others are written, and all are counted.
 ///
 /// Each line written is in the grammar of RFC 5424, and a converted one is parsed as the converted message. The output
 /// of each block of input is written before more is read, and the writer is flushed at the end. A call that failed is
@@ -34,14 +36,14 @@ pub fn write_converted<R: Read, W: Write>(
     frames: Frames,
     reader: &mut Watched<R>,
     writer: &mut Watched<W>,
-    filter: Conversions,
+    filter: Conversions<'_>,
 ) -> Result<LineCounts, RunFault>
     requires reader { reader.old.failed ≡ false }
     requires writer { writer.old.failed ≡ false }
-    ensures ok { IfOk result (λ counts. ConvertsAll frames filter (R.remaining reader.old.inner)
+    ensures ok { IfOk result (λ counts. ConvertsAll frames filter.entry (R.remaining reader.old.inner)
         (R.remaining reader.new.inner)
         (W.contents writer.old.inner) (W.contents writer.new.inner) counts) }
-    ensures err { IfErr result (λ fault. EndsEarly frames (conversions filter) (R.remaining reader.old.inner)
+    ensures err { IfErr result (λ fault. EndsEarly frames (conversions filter.entry) (R.remaining reader.old.inner)
         (R.remaining reader.new.inner)
         (W.contents writer.old.inner) (W.contents writer.new.inner) fault) }
     ensures failed { FailedAs result reader.new.failed writer.new.failed }
@@ -52,16 +54,43 @@ pub fn write_converted<R: Read, W: Write>(
 
 /// The filter that writes each line as RFC 5424.
 #[derive(Drop)]
-pub struct Conversions {
+pub struct Conversions<'a> {
     /// How the frames that are written follow each other.
     pub framing: Framing,
     /// Whether a line that is not UTF-8 is decoded as ISO 8859-1.
     pub latin1: bool,
     /// How dates that show no year or no zone are completed.
     pub dates: Dates,
+    /// Which messages are written. If it is absent, all are.
+    pub choice: Option<Choice<'a>>,
 }
 
-impl Conversions {
+impl Conversions<'_> {
+    // Returns whether the line is one of the messages that are chosen, if some are.
+    #[inline(always)]
+    fn asks_for(&self, line: &str) -> bool
+        ensures { IsTrue result ↔ IsAskedFor self.now (chars line.now) }
+    {
+        match &self.choice {
+            Some(choice) => self.is_asked_for(choice, line),
+            None => true,
+        }
+    }
+
+    // Returns whether the line is a message of this choice. It is a call, so that each line pays one test alone if nothing
+    // is chosen.
+    #[cold]
+    #[inline(never)]
+    fn is_asked_for(&self, choice: &Choice<'_>, line: &str) -> bool
+        requires { self.now.choice ≡ Some choice.now }
+        ensures { IsTrue result ↔ IsAskedFor self.now (chars line.now) }
+    {
+        match parse_apart(line, &self.dates) {
+            Some(found) => choice.is_chosen(&found),
+            None => false,
+        }
+    }
+
     // Writes the conversion of a line into `text`.
     #[inline(always)]
     fn convert_line(&self, alloc: Global, line: &str, text: &mut String) -> Result<(), ParseFault>
@@ -85,7 +114,7 @@ impl Conversions {
     }
 }
 
-impl LineFilter for Conversions {
+impl LineFilter for Conversions<'_> {
     ghost answers = { λ filter. conversions filter };
 
     #[inline(always)]
@@ -98,6 +127,9 @@ impl LineFilter for Conversions {
     ) -> Result<bool, AllocError> {
         match self.convert_line(alloc, line, text) {
             Ok(()) => {
+                if !self.asks_for(line) {
+                    return Ok(true);
+                }
                 push_frame(output, self.framing, text.as_bytes())?;
                 Ok(true)
             }

@@ -11,22 +11,26 @@ mod report;
 use filter::{Conversions, write_converted};
 use report::{HELP, USAGE};
 use std::process::ExitCode;
+use syslog_choice::Choice;
 use syslog_command_line::report::{report_lines, say, say_version};
 use syslog_command_line::{Flag, Options, Task, Wrong, program_words, read_task, refuse_words};
 use syslog_lines::{Frames, Watched};
 use syslog_loose::VERSION;
 
 // The flags of this program.
-const FLAGS: [Flag; 5] = [
+const FLAGS: [Flag; 8] = [
     Flag::Latin1,
     Flag::Offset,
     Flag::Nul,
     Flag::OctetCounted,
     Flag::MaxLine,
+    Flag::Severity,
+    Flag::Host,
+    Flag::App,
 ];
 
 // Writes the lines of standard input as RFC 5424, and then returns the exit status.
-fn filter_input(rt: &HostRuntime, frames: Frames, filter: Conversions) -> u8 {
+fn filter_input(rt: &HostRuntime, frames: Frames, filter: Conversions<'_>) -> u8 {
     let mut reader = Watched::new(rt.stdin());
     let mut writer = Watched::new(rt.stdout());
     let outcome = write_converted(rt.alloc(), frames, &mut reader, &mut writer, filter);
@@ -34,11 +38,21 @@ fn filter_input(rt: &HostRuntime, frames: Frames, filter: Conversions) -> u8 {
 }
 
 // The filter that was asked for.
-fn conversions_of(options: Options<'_>) -> Conversions {
+fn conversions_of(options: Options<'_>) -> Conversions<'_> {
+    let choice = Choice {
+        severity: options.severity,
+        host: options.host,
+        app: options.app,
+    };
     Conversions {
         framing: options.framing,
         latin1: options.latin1,
         dates: options.dates,
+        choice: if choice.is_everything() {
+            None
+        } else {
+            Some(choice)
+        },
     }
 }
 

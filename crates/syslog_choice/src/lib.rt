@@ -9,6 +9,9 @@ ghost use Rattle.syslog_loose.specs.Line.{line_value};
 ghost use Rattle.syslog_pieces.specs.Pieces.View.{seen};
 ghost use Rattle.syslog_choice.specs.Chosen.{IsAsSevere, IsChosen, IsEverything};
 
+mod apart;
+
+pub use apart::{Apart, parse_apart};
 use syslog_loose::{Line, SyslogSeverity};
 
 /// Which messages are chosen: those that match everything that is given here.

@@ -1,0 +1,54 @@
+//! The reading of a line in order to choose it, apart from the reading that makes something of it.
+ghost use Rattle.std.specs.Prelude.{◌≡◌, IfSome, MatchOption};
+ghost use Rattle.std.specs.Str.{chars};
+ghost use Rattle.syslog_loose.specs.Dates.{IsDated, year_in};
+ghost use Rattle.syslog_loose.specs.Line.{KnowsForm};
+ghost use Rattle.syslog_loose.specs.Reading.{IsUnreadable};
+ghost use Rattle.syslog_loose.specs.Visit.{IsLineOf};
+ghost use Rattle.syslog_loose.specs.declared.variant.Variant.TheVariants.{Either};
+
+use syslog_loose::{Dates, IncompleteDate, Line, LineVisitor, Variant, visit_line};
+use syslog_pieces::structured_data::NoElements;
+
+/// The visitor that returns the line, as `Itself` of `syslog_loose` does. It is for a filter's second way of reading: a
+/// reader that is compiled for two callers is compiled into neither.
+#[derive(Clone, Copy)]
+pub struct Apart;
+
+impl<'a> LineVisitor<'a> for Apart {
+    type Answer = Line<'a>;
+
+    ghost makes = { λ old line made new. (made ≡ line) × KnowsForm line };
+
+    #[inline(always)]
+    fn line(&mut self, line: &Line<'a>) -> Line<'a>
+        requires form { KnowsForm line.now }
+        ensures { (result ≡ line.now) × KnowsForm line.now }
+    {
+        Line {
+            rest: line.rest,
+            ..*line
+        }
+    }
+}
+
+/// Returns the line that the text is parsed as, by the year and the zone of the dates, and none where it does not parse.
+/// It takes no memory.
+pub fn parse_apart<'a>(input: &'a str, dates: &Dates) -> Option<Line<'a>>
+    ensures reads { IsDated dates.now Either (chars input.entry.now) (λ dating. MatchOption result
+        (IsUnreadable Either dating (chars input.entry.now)) (IsLineOf Either dating (chars input.entry.now))) }
+    ensures form { IfSome result KnowsForm }
+{
+    let get_year = |date: IncompleteDate| -> i32
+        ensures { result ≡ year_in dates.entry.now date }
+    { dates.year_of(date) };
+    visit_line(
+        input,
+        get_year,
+        None,
+        Variant::Either,
+        &dates.zone,
+        &mut NoElements,
+        &mut Apart,
+    )
+}
