@@ -11,3 +11,4 @@ pub mod Rfc3164Lemmas
 pub mod Rfc5424Lemmas
 pub mod SettlingLemmas
 pub mod UnparsedLemmas
+pub mod YearLemmas

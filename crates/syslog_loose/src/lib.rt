@@ -34,6 +34,7 @@ pub use dash_change::reads_differently;
 pub use dates::Dates;
 pub use fault::ParseFault;
 pub use jiff::Timestamp;
+pub use jiff::civil::Date;
 pub use jiff::tz::{Offset, TimeZone};
 pub use line::Line;
 pub use message::{Message, Protocol};
@@ -41,7 +42,7 @@ pub use reading::{
     parse_message, parse_message_with_year, parse_message_with_year_exact,
     parse_message_with_year_exact_tz, parse_message_with_year_tz,
 };
-pub use reckoning::{reckon_year, zone_ahead};
+pub use reckoning::{latest_year, reckon_year, zone_ahead, zone_of_rule};
 pub use rounds::normalise;
 pub use settling::{settle, settle_into};
 pub use syslog_pieces::VERSION;
