@@ -1,4 +1,6 @@
 //! The structs that a caller in C gets: numbers, and texts that point into the line.
+//!
+//! **Rule.** It is this project's own choice; `include/syslog_loose.h` declares it for C.
 
 /// A text: a pointer to its first byte in the line, and its length in bytes. An absent one points nowhere.
 #[repr(C)]

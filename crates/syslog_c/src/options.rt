@@ -1,4 +1,6 @@
 //! How a caller in C says by which protocol a line is read, and how its dates are completed.
+//!
+//! **Rule.** It is this project's own choice; `include/syslog_loose.h` declares it for C.
 
 /// How a line is read.
 #[repr(C)]

@@ -1,4 +1,6 @@
 //! The outcomes of a call.
+//!
+//! **Rule.** It is this project's own choice; `include/syslog_loose.h` declares it for C.
 
 /// The outcome of a call. A caller in C gets the number, as `SYSLOG_DONE` and the like.
 #[derive(Clone, Copy, Debug, PartialEq, Eq)]

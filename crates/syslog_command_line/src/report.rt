@@ -1,5 +1,8 @@
 //! What the programs report: at their end on standard error, and the texts that were asked for. Each message is handed
 //! to the first write as a whole, so that those of programs that run side by side don't mix.
+//!
+//! **Rule.** The texts and the exit statuses are this project's own choice, stated in `specs/Report.antt` and
+//! `specs/Counts.antt`.
 ghost use Rattle.std.specs.Prelude.{◌≡◌, ◌==◌, ◌≤◌, if◌then◌else◌, false, [], codes, length, map};
 ghost use Rattle.std.specs.Fmt.InlineText.{inline_text};
 ghost use Rattle.std.specs.List.{concat};

@@ -14,7 +14,7 @@ ghost use Rattle.syslog_dialects.specs.Ordinary.{IsOrdinary};
 ghost use Rattle.syslog_dialects.specs.SentReading.{AreAsked, IsReadSent, IsUnsent};
 ghost use Rattle.syslog_dialects.specs.declared.dialect.Dialect.{Dialect};
 
-/// A line of the port that is ordinary is read as the port reads it, and in no dialect, whatever it says.
+/// A line that `syslog_loose` parses and that is ordinary is read as it parses it, and in no dialect, whatever it says.
 pub fn ordinary_lines_keep_their_reading()
     ensures kept { (dates : AllDates) (dating : Dating) (dialects : Bool) (variant : Variant) (text : Text) (line : Line)
         → IsLineOf variant dating text line → IsOrdinary line
@@ -24,7 +24,8 @@ pub fn ordinary_lines_keep_their_reading()
         → IsReadSent dates dating dialects variant text (Some dialect) m → ⊥ }
 {}
 
-/// If no dialects are asked for, or one protocol alone, each text is read as the port reads it, or is no message.
+/// If no dialects are asked for, or one protocol alone, each text is read as `syslog_loose` parses it, or is no
+/// message.
 pub fn texts_are_the_ports_without_dialects()
     ensures read { (dates : AllDates) (dating : Dating) (dialects : Bool) (variant : Variant) (text : Text)
         (m : MessageValue) → (AreAsked dialects variant → ⊥) → IsOnlyRead variant dating text m

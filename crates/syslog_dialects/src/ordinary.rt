@@ -173,7 +173,8 @@ fn is_tagged(line: &Line<'_>) -> bool
     line.is_printed || begins_with_tag(line.rest, host, app)
 }
 
-/// Returns whether a line that the port parsed keeps that reading, so that no dialect is tried for it.
+/// Returns whether a line that `syslog_loose` parsed by RFC 5424 or RFC 3164 keeps that reading, so that no dialect is
+/// tried for it.
 #[inline(always)]
 pub fn is_ordinary(line: &Line<'_>) -> bool
     requires { KnowsForm line.now }

@@ -28,7 +28,7 @@ use syslog_pieces::text::trimmed;
 pub struct SentLine<'a> {
     /// The line, whose texts are slices of the input.
     pub line: Line<'a>,
-    /// The dialect of the text; absent if the line is the port's.
+    /// The dialect that the text was read in; absent if the line was read by RFC 5424 or RFC 3164.
     pub dialect: Option<Dialect>,
     /// Whether the date of a dialect's line shows its year. It is false if the line is the port's.
     pub shows_year: bool,
@@ -59,7 +59,7 @@ impl<'a> SentLine<'a> {
         }
     }
 
-    /// Returns the name of the dialect; none if the line is the port's.
+    /// Returns the name of the dialect that the line was read in; none if it was read by RFC 5424 or RFC 3164.
     #[inline(always)]
     pub fn dialect_name(&self) -> Option<&'static str>
         ensures { seen result ≡ dialect_text self.now.dialect }

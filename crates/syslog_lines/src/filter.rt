@@ -1,4 +1,6 @@
 //! What a filter of lines is: what it writes for each line.
+//!
+//! **Rule.** It is this project's own choice, stated in `specs/Output.antt`.
 ghost use Rattle.std.specs.Prelude.{◌≡◌, ◌++◌, ◌∷◌, [], IfOk, IsUtf8, OnOk, OnErr};
 ghost use Rattle.syslog_lines.specs.Frames.{frame_of};
 ghost use Rattle.syslog_lines.specs.Output.{AddsAnswer, Filter};

@@ -33,7 +33,8 @@ pub enum Entry {
 }
 
 impl Place {
-    /// Returns the place of the first bytes.
+    /// Returns where in the input its first bytes are: at its head, where a byte order mark may be, or where a frame
+    /// begins.
     pub fn start(frames: Frames) -> Place
         ensures { StartsAt frames result }
     {
@@ -89,7 +90,8 @@ impl Place {
         Entry::After(size, 0)
     }
 
-    /// Returns how many bytes of a frame that is cut are done with: all, if its message is too long.
+    /// For a frame whose end was not read yet, returns how many of its bytes need not be kept: all of them if its
+    /// message is already too long, and otherwise none.
     pub fn leave(&mut self, frames: Frames, bytes: &[u8]) -> usize
         requires place { self.old ≡ Frame }
         requires open { IsOpen frames.framing bytes.now }

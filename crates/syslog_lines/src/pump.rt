@@ -1,4 +1,7 @@
 //! From a reader to a writer, through a filter: a block of input at a time.
+//!
+//! **Rule.** What is read and written, and what after a fault, is this project's own choice, stated in
+//! `specs/Pump.antt`.
 ghost use Rattle.std.specs.Prelude.{◌≡◌, ◌≤◌, [], false, Some, IfOk, IfErr, OnOk, length, take, drop};
 ghost use Rattle.syslog_lines.specs.Frames.{HasAllFrames};
 ghost use Rattle.syslog_lines.specs.Output.{taken};

@@ -1,4 +1,6 @@
 //! What filters count, and how they end.
+//!
+//! **Rule.** What is counted is this project's own choice, stated in `specs/Output.antt`.
 use std::alloc::AllocError;
 use thiserror::Error;
 
@@ -71,7 +73,7 @@ impl Tally {
         self.too_long = self.too_long.saturating_add(1);
     }
 
-    /// Counts a line that is UTF-8.
+    /// Counts a line that is UTF-8, as answered or as skipped.
     #[inline]
     pub fn count(&mut self, is_answered: bool)
         ensures answered { self.new.answered ≡ held_count (self.old.answered + (if is_answered then 1 else 0)) }
@@ -85,7 +87,7 @@ impl Tally {
         self.skipped = self.skipped.saturating_add(u64::from(!is_answered));
     }
 
-    /// Counts a line that is not UTF-8.
+    /// Counts a line that is not UTF-8, as answered or as skipped.
     pub fn count_invalid(&mut self, is_answered: bool)
         ensures answered { self.new.answered ≡ held_count (self.old.answered + (if is_answered then 1 else 0)) }
         ensures skipped { self.new.skipped

@@ -24,7 +24,7 @@ impl Dates {
     ghost use Rattle.syslog_loose.specs.Reckoning.{IsZoneAt};
     ghost use Rattle.syslog_loose.specs.Dates.{year_in};
 
-    /// Returns the dates of this year and, if it is known, of the current month, in the zone that is `offset` seconds
+    /// Returns a `Dates` for this year, for the current month if it is known, and for the zone that is `offset` seconds
     /// ahead of UTC.
     pub fn new(year: i32, month: Option<u32>, offset: i32) -> Dates
         requires year { IsYear year }

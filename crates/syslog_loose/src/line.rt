@@ -49,7 +49,7 @@ impl<'a> Line<'a> {
     ghost use Rattle.syslog_loose.specs.Words.{[], IsTrue, MatchResult, elements_left};
     ghost use Rattle.syslog_loose.specs.Clauses.{line_value, IsCanonical, dash_rule, message_value, with_elements};
 
-    /// Returns the protocol.
+    /// Returns the protocol that the line was read by.
     #[inline(always)]
     pub fn protocol(&self) -> Protocol
         ensures { result ≡ (line_value self.now).protocol }
@@ -96,7 +96,7 @@ impl<'a> Line<'a> {
         stamp_of(self.timestamp)
     }
 
-    /// Returns an iterator over the strict elements of the structured data, in order.
+    /// Returns an iterator over the elements of the structured data that are strict, which means well formed, in order.
     #[inline(always)]
     pub fn elements(&self) -> Elements<'a>
         ensures { elements_left result ≡ (line_value self.now).structured_data }

@@ -36,7 +36,7 @@ use crate::procid::ProcId;
 use crate::structured_data::StructuredElement;
 use crate::timestamp::OffsetTimestamp;
 
-/// A priority below 192 is composed of its two parts.
+/// A priority below 192 is 8 times the number of its facility, plus that of its severity.
 #[tactic(auto, using(crate::proofs::PriLemmas::priority_composed))]
 pub fn priority_is_composed()
     ensures { (pri : ℕ) → pri < 192 → (facility : SyslogFacility) × (severity : SyslogSeverity)
@@ -117,7 +117,7 @@ pub fn value_is_unquoted_split()
         ↔ ((units : List TextUnit) × SplitsUnits text units false × AllByRecursion IsUnquoted units) }
 {}
 
-/// Removing the escapes from an escaped text gives the text, and nothing else.
+/// Removing the escapes from a text to which they were added gives that text again, and no other.
 #[tactic(auto, using(crate::proofs::StructuredDataLemmas::Units::escaped_there))]
 pub fn escapes_are_removed()
     ensures there { (text : Text) → IsUnescaped (escaped text) text }

@@ -10,7 +10,7 @@ ghost use Rattle.syslog_pieces.specs.Pri as spec;
 use crate::text::{literal, number};
 use std::fmt;
 
-/// Which part of a system a message comes from. The number is the discriminant.
+/// The facility: which part of a system a message comes from. Its number is the discriminant.
 #[derive(Clone, Copy, Debug, PartialEq, Eq, PartialOrd, Ord)]
 pub enum SyslogFacility {
     LOG_KERN = 0,
@@ -39,7 +39,7 @@ pub enum SyslogFacility {
     LOG_LOCAL7 = 23,
 }
 
-/// How severe a message is, 0 being the worst. The number is the discriminant.
+/// The severity: how severe a message is, 0 being the worst. Its number is the discriminant.
 #[derive(Clone, Copy, Debug, PartialEq, Eq, PartialOrd, Ord)]
 pub enum SyslogSeverity {
     SEV_EMERG = 0,

@@ -18,7 +18,8 @@ pub fn readings_differ_where_a_dash_is_dropped()
         ↔ HasDashChange variant dating text }
 {}
 
-/// A text parses by the crate's rule of the dash exactly if it parses by the rule of this project.
+/// A text parses if a dash before any text is a list of RFC 3164, which is the Rust crate's rule, exactly if it parses
+/// by the rule of this project.
 pub fn what_was_read_is_read()
     ensures { (variant : Variant) (dating : Dating) (text : Text) → WasUnreadable variant dating text
         ↔ IsUnreadable variant dating text }

@@ -1,5 +1,7 @@
 //! Which elements are read back unchanged from their printed text. The scanners that read them decide it, and nothing
 //! is allocated.
+//!
+//! **Rule.** It is a part of the written condition, which is this project's own (`docs/GRAMMAR.md`).
 ghost use Rattle.std.specs.Prelude.{◌↔◌, IsTrue, map, chars};
 ghost use Rattle.syslog_pieces.specs.Words.{AllByRecursion, text_of, IsValue, element_value, param_value};
 ghost use Rattle.syslog_pieces.specs.StructuredData.Canonical as spec;

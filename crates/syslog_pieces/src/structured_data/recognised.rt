@@ -114,8 +114,8 @@ impl<'a> ElementList<'a> {
         self.text
     }
 
-    /// Returns the printed text of its elements, or `-` if there are none, where the list's own text begins with that.
-    /// It may be absent.
+    /// Returns the printed text of the list's elements, or `-` if there are none, if the list's own text begins with
+    /// that. It may be none even then.
     pub fn printed(&self) -> Option<&'a str>
         ensures prints { IfSome result (λ p. shown p ≡ elements_text (list_elements self.now)) }
         ensures begins { IfSome result (λ p. (left : Text) × (list_text self.now ≡ shown p ++ left)) }
@@ -123,7 +123,7 @@ impl<'a> ElementList<'a> {
         self.printed
     }
 
-    /// Returns whether its text is already the printed text of its elements.
+    /// Returns whether the list's text is already the printed text of its elements.
     pub fn is_printed(&self) -> bool
         ensures { IsTrue result ↔ (list_text self.now ≡ elements_text (list_elements self.now)) }
     {

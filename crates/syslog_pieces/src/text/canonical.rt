@@ -1,5 +1,7 @@
 //! Which texts are read back unchanged from their printed form. Each test uses the scanner or the reader that reads
 //! such a text, and does not allocate.
+//!
+//! **Rule.** It is a part of the written condition, which is this project's own (`docs/GRAMMAR.md`).
 ghost use Rattle.std.specs.Prelude.{◌≡◌, ◌↔◌, ◌<◌, IsSomeAnd, IsTrue, [], length, chars};
 ghost use Rattle.syslog_pieces.specs.Words.{Each, Ends, shown, has};
 ghost use Rattle.syslog_pieces.specs.Text.{is_blank};

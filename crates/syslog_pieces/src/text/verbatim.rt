@@ -13,7 +13,7 @@ pub fn is_one_space(text: &str, rest: &str) -> bool
     begins_with(text.as_bytes(), b' ') && text.len() - 1 == rest.len()
 }
 
-/// Returns the part of a text before `rest`, at which it ends.
+/// Returns the part of a text that is before `rest`, where `rest` is the end of that text.
 #[inline(always)]
 pub fn before<'a>(text: &'a str, rest: &str) -> &'a str
     requires { (front : Text) × (chars text.now ≡ front ++ chars rest.now) }

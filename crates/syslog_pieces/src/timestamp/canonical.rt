@@ -1,4 +1,6 @@
 //! Whether a timestamp is read back from its printed text.
+//!
+//! **Rule.** It is a part of the written condition, which is this project's own (`docs/GRAMMAR.md`).
 ghost use Rattle.std.specs.Prelude.{◌≡◌, ◌↔◌, ◌%◌, ◌<◌, ◌≤ℤ◌, pos, unsigned_abs, IfSome, IsTrue};
 ghost use Rattle.syslog_pieces.specs.Words.{stamp_seen, IsCanonicalStamp};
 

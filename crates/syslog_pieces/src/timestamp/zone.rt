@@ -24,7 +24,7 @@ pub struct Dating<'a, 'z> {
     pub year: Option<i32>,
     /// The zone that is given; absent if the local one is used.
     pub tz: Option<&'a TimeZone<'z>>,
-    /// The local zone.
+    /// The local zone, which is used if no zone is given.
     pub local: &'a TimeZone<'z>,
 }
 
