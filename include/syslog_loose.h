@@ -51,7 +51,7 @@ enum syslog_outcome {
     SYSLOG_DONE = 0,         /* all that the call writes was written */
     SYSLOG_NO_READING = 1,   /* the line is no message (syslog_settle: or one of the texts that it prints is none) */
     SYSLOG_NOT_UTF8 = 2,     /* the bytes are no UTF-8 */
-    SYSLOG_NO_MEMORY = 3,    /* an allocation failed: only in syslog_settle, syslog_to_rfc5424 and syslog_json */
+    SYSLOG_NO_MEMORY = 3,    /* an allocation failed: only in one of the four calls that ask for memory */
     SYSLOG_NO_ROOM = 4,      /* a buffer or an array is too small: see what is needed */
     SYSLOG_BAD_ARGUMENT = 5  /* one of the options is out of its range */
 };
@@ -209,10 +209,10 @@ uint32_t syslog_json(const char *line, size_t length, const struct syslog_option
  * other pair stays, and a lone backslash at the end is dropped. It is no longer than the value. */
 uint32_t syslog_unescape(const char *value, size_t length, char *room, size_t room_length, size_t *needed);
 
-/* The bytes as UTF-8, so that the other calls take them, which refuse what is not: as they are if they are UTF-8.
- * Otherwise each byte is a character of ISO 8859-1 if latin1 is not 0, and nothing is lost; or else U+FFFD is in the
- * place of each part that is not UTF-8: of the front of a character that is cut, as far as it goes, or of one byte. The
- * text may be longer than the bytes. */
+/* The bytes as UTF-8, which the other calls want: as they are if they are UTF-8. Of other bytes, if latin1 is
+ * not 0, each is a character of ISO 8859-1, and nothing is lost. If it is 0, U+FFFD replaces each part that is not
+ * UTF-8: the front of a character that is cut, as far as it goes, or one byte. The text may be longer than the bytes.
+ */
 uint32_t syslog_decode(const char *bytes, size_t length, uint32_t latin1, char *room, size_t room_length,
                        size_t *needed);
 
