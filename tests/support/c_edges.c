@@ -539,7 +539,14 @@ static void threads(void)
         CHECK(!pthread_join(ids[i], NULL) && sums[i] == alone);
 }
 
-/* Each call once: one of the three that ask for memory returns SYSLOG_NO_MEMORY where a request was refused. */
+/* Bytes of ISO 8859-1, whatever the line. */
+static uint32_t latin1_bytes(const char *line, size_t length, char *room, size_t space, size_t *needed)
+{
+    (void)line, (void)length;
+    return syslog_decode("gr\xfc\xdf", 4, 1, room, space, needed);
+}
+
+/* Each call once: one of the four that ask for memory returns SYSLOG_NO_MEMORY where a request was refused. */
 static int with_memory_refused(const char *line)
 {
     static struct place place;
@@ -553,8 +560,8 @@ static int with_memory_refused(const char *line)
     CHECK(syslog_is_canonical(line, length, &OPTIONS, &canonical) == SYSLOG_DONE && canonical <= 1);
     CHECK(normalise(line, length, room, sizeof room, &needed) == SYSLOG_DONE && needed > length);
     CHECK(syslog_unescape(line, length, room, sizeof room, &needed) == SYSLOG_DONE && needed <= length);
-    writer *calls[] = { settle, strict, object };
-    for (int i = 0; i < 3; i++) {
+    writer *calls[] = { settle, strict, object, latin1_bytes };
+    for (int i = 0; i < 4; i++) {
         memset(room, 0, sizeof room);
         uint32_t code = calls[i](line, length, room, sizeof room, &needed);
         CHECK(code == SYSLOG_DONE ? needed == strlen(room) : code == SYSLOG_NO_MEMORY && needed == 0 && !room[0]);
