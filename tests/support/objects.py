@@ -102,3 +102,11 @@ def object_of(line, fields, raw=False):
         "raw": line.decode() if raw else None,
     }
     return coded({name: value for name, value in found.items() if value is not None})
+
+
+def rfc5424(message="x", **fields):
+    return coded({"protocol": "RFC5424", "version": 1, **fields, "message": message})
+
+
+def rfc3164(message="x", **fields):
+    return coded({"protocol": "RFC3164", **fields, "message": message})

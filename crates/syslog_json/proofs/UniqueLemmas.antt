@@ -1,13 +1,12 @@
 -- A line has one value.
 use Rattle.syslog_json.proofs.Names.{List, Option, Some, refl, subst, chars, Json, line_value, message_json}
 use Rattle.syslog_json.proofs.Names.{◌≡◌, [], ℕ, ap, inl, inr, sym, ◌∙◌, Text}
-use Rattle.std.proofs.Common.{◌++◌, ◌∷◌, ℤ, Bool, true, false, not, None}
+use Rattle.std.proofs.Common.{◌++◌, ◌∷◌, ◌⊎◌, ◌≢◌, ℤ, Bool, true, false, not, None}
 use Rattle.jiff.{specs.Types.TimeZone, specs.Words.plain_zone}
 use Rattle.syslog_loose.{specs.Message.MessageValue, specs.declared.line.Line.Line}
 use Rattle.syslog_loose.specs.Reading.{IncompleteDate, InYear, IsUnreadable}
 use Rattle.syslog_loose.{proofs.ReckoningLemmas.one_dating, specs.Dates.year_in, specs.Reckoning.dating_in}
 use Rattle.syslog_loose.{specs.Clauses.KnowsForm, specs.Visit.IsLineOf, specs.Visit.Made}
-use Rattle.syslog_loose.specs.declared.visit.Itself.{Itself}
 use Rattle.syslog_pieces.specs.Timestamp.Zone.{Dating}
 use Rattle.syslog_dialects.proofs.SentReadingLemmas.{leaves_once, read_once}
 use Rattle.syslog_dialects.specs.SentReading.{IsReadSent, IsSentAnswer, LeavesSent}
@@ -25,11 +24,17 @@ use Rattle.std.specs.Prelude.{IsUtf8}
 use Rattle.syslog_utf8.specs.Decoded.{decoded}
 use Rattle.syslog_lines.specs.Output.{Answer, Framed, Written, Marked, Omitted, Unasked}
 use Rattle.syslog_json.proofs.MarkLemmas.{marked_read}
-use Rattle.syslog_json.specs.Marked.{HasMember, marked_line, marked_text}
-use Rattle.syslog_json.specs.Objects.{IsLineObject, IsLineRead, IsObject, IsOnly, IsReadJson, IsRefusedJson}
-use Rattle.syslog_json.specs.Objects.{answer_of, raw_text}
+use Rattle.syslog_json.specs.Marked.{HasMember, marked, marked_line, marked_output, marked_text}
+use Rattle.syslog_object.specs.Object.{Beside, refused_json}
+use Rattle.syslog_json.specs.Objects.{IsLineAnswer, IsLineRead, IsOnly, IsReadAs, IsReadJson, IsRefusedJson}
+use Rattle.syslog_json.specs.Objects.{IsValueText, answer_of, raw_text}
 use Rattle.syslog_json.specs.declared.filter.Objects.{Objects}
 use Rattle.syslog_loose.proofs.ReadingLemmas as reading
+
+-- the value of a message, or of a line that is none, which is not marked
+abbrev pub IsPlain : Json → Type 0
+IsPlain value = ((m : MessageValue) × (beside : Beside) × (value ≡ message_json m beside))
+    ⊎ ((line : List ℕ) × (value ≡ refused_json line))
 
 read_twice : (filter : Objects) (line : List ℕ) (value other : Json) → IsReadJson filter line value
     → IsReadJson filter line other → other ≡ value
@@ -57,66 +62,67 @@ only_refused filter line value is = (is, λ other also. other_refused filter lin
 
 -- ---- what the port's line and the writer are
 
--- what is made of the port's line, as it is returned itself
-abbrev pub IsMade : TimeZone → Text → ObjectWriter → Option Line → ObjectWriter → Option ℤ → Type 0
-IsMade zone text old found new year =
-    (v : Itself) × (w : Itself) × Made (λ (before : Itself) (line made : Line) (after : Itself). (made ≡ line)
+-- what is made of the port's line, as a visitor of this type returns it itself
+abbrev pub IsMade : Type 0 → TimeZone → Text → ObjectWriter → Option Line → ObjectWriter → Option ℤ → Type 0
+IsMade V zone text old found new year =
+    (v : V) × (w : V) × Made (λ (before : V) (line made : Line) (after : V). (made ≡ line)
     × KnowsForm line)
     (λ (first it : ObjectWriter) es. HasWritten it es) Either (dating_in zone year) text v old found w new
 
-line_made : (zone : TimeZone) (text : Text) (old new : ObjectWriter) (made : Line) (year : Option ℤ)
-    → IsMade zone text old (Some made) new year → IsLineOf Either (dating_in zone year) text made
+line_made : {V : Type 0} (zone : TimeZone) (text : Text) (old new : ObjectWriter) (made : Line) (year : Option ℤ)
+    → IsMade V zone text old (Some made) new year → IsLineOf Either (dating_in zone year) text made
 line_made zone text old new made year (v, w, (line, of, same, given)) =
     subst (IsLineOf Either (dating_in zone year) text) (sym same.0) of
 
-module _ {post : IncompleteDate → ℤ → Type 0} (filter : Objects) (text : Text) (old new : ObjectWriter) where
-  pub made_form : (made : Line) → InYear post Either text
-      (IsMade (plain_zone filter.dates.zone) text old (Some made) new) → KnowsForm made
-  made_form made h = let (v, w, (line, of, same, given)) = h.holds h.answered (λ date asks. refl) in
-      subst KnowsForm (sym same.0) same.1
+module _ {V : Type 0} {post : IncompleteDate → ℤ → Type 0} (filter : Objects) (text : Text) (old new : ObjectWriter)
+  where
+    pub made_form : (made : Line) → InYear post Either text
+        (IsMade V (plain_zone filter.dates.zone) text old (Some made) new) → KnowsForm made
+    made_form made h = let (v, w, (line, of, same, given)) = h.holds h.answered (λ date asks. refl) in
+        subst KnowsForm (sym same.0) same.1
 
-  -- the line that was made of the port's was returned, and the writer was given its elements
-  pub line_read : (made : Line) → InYear post Either text
-      (IsMade (plain_zone filter.dates.zone) text old (Some made) new)
-      → ((date : IncompleteDate) (y : ℤ) → post date y → y ≡ year_in filter.dates date) → HasWritten old []
-      → (it : SentLine) → ((dating : Dating) → IsLineOf Either dating text made
-      → IsReadSent filter.dates dating filter.dialects Either text it.dialect (line_value it.line))
-      → list_elements it.line.list ≡ list_elements made.list
-      → ((dating : Dating) (u : Text) → IsLineOf Either dating text made
-      → IsLeftUnparsed it.line u → LeavesSent it.dialect Either text u) → IsLineRead filter text (Some it) new
-  line_read made h tells empty it reads elements leaves = (
-    reading.in_year_told (reading.in_year_map (λ year is.
-        reads (dating_in (plain_zone filter.dates.zone) year)
-        (line_made (plain_zone filter.dates.zone) text old new made year is)) h) tells,
-    let (v, w, (line, of, same, given)) = h.holds h.answered (λ date asks. refl) in
-        subst (HasWritten new) (ap (λ (l : Line). list_elements l.list) (sym same.0) ∙ sym elements)
-        (given old [] empty),
-    λ u left. leaves (dating_in (plain_zone filter.dates.zone) h.answered) u
-        (line_made (plain_zone filter.dates.zone) text old new made h.answered
-        (h.holds h.answered (λ date asks. refl))) left,
-  )
+    -- the line that was made of the port's was returned, and the writer was given its elements
+    pub line_read : (made : Line) → InYear post Either text
+        (IsMade V (plain_zone filter.dates.zone) text old (Some made) new)
+        → ((date : IncompleteDate) (y : ℤ) → post date y → y ≡ year_in filter.dates date) → HasWritten old []
+        → (it : SentLine) → ((dating : Dating) → IsLineOf Either dating text made
+        → IsReadSent filter.dates dating filter.dialects Either text it.dialect (line_value it.line))
+        → list_elements it.line.list ≡ list_elements made.list
+        → ((dating : Dating) (u : Text) → IsLineOf Either dating text made
+        → IsLeftUnparsed it.line u → LeavesSent it.dialect Either text u) → IsLineRead filter text (Some it) new
+    line_read made h tells empty it reads elements leaves = (
+      reading.in_year_told (reading.in_year_map (λ year is.
+          reads (dating_in (plain_zone filter.dates.zone) year)
+          (line_made (plain_zone filter.dates.zone) text old new made year is)) h) tells,
+      let (v, w, (line, of, same, given)) = h.holds h.answered (λ date asks. refl) in
+          subst (HasWritten new) (ap (λ (l : Line). list_elements l.list) (sym same.0) ∙ sym elements)
+          (given old [] empty),
+      λ u left. leaves (dating_in (plain_zone filter.dates.zone) h.answered) u
+          (line_made (plain_zone filter.dates.zone) text old new made h.answered
+          (h.holds h.answered (λ date asks. refl))) left,
+    )
 
-  none_written : InYear post Either text (IsMade (plain_zone filter.dates.zone) text old None new) → HasWritten old []
-      → HasWritten new []
-  none_written h empty = let (v, w, none) = h.holds h.answered (λ date asks. refl) in none.2 old [] empty
+    none_written : InYear post Either text (IsMade V (plain_zone filter.dates.zone) text old None new) → HasWritten old []
+        → HasWritten new []
+    none_written h empty = let (v, w, none) = h.holds h.answered (λ date asks. refl) in none.2 old [] empty
 
-  -- or one that the port does not read
-  pub line_unread : InYear post Either text (IsMade (plain_zone filter.dates.zone) text old None new)
-      → ((date : IncompleteDate) (y : ℤ) → post date y → y ≡ year_in filter.dates date) → HasWritten old []
-      → (result : Option SentLine) → ((dating : Dating) → IsUnreadable Either dating text
-      → IsSentAnswer filter.dates dating filter.dialects Either text result)
-      → IfSome result (λ it. list_elements it.line.list ≡ [])
-      → IfSome result (λ it. (u : Text) → IsLeftUnparsed it.line u → LeavesSent it.dialect Either text u)
-      → IsLineRead filter text result new
-  line_unread h tells empty None reads elements leaves =
+    -- or one that the port does not read
+    pub line_unread : InYear post Either text (IsMade V (plain_zone filter.dates.zone) text old None new)
+        → ((date : IncompleteDate) (y : ℤ) → post date y → y ≡ year_in filter.dates date) → HasWritten old []
+        → (result : Option SentLine) → ((dating : Dating) → IsUnreadable Either dating text
+        → IsSentAnswer filter.dates dating filter.dialects Either text result)
+        → IfSome result (λ it. list_elements it.line.list ≡ [])
+        → IfSome result (λ it. (u : Text) → IsLeftUnparsed it.line u → LeavesSent it.dialect Either text u)
+        → IsLineRead filter text result new
+    line_unread h tells empty None reads elements leaves =
+        reading.in_year_told (reading.in_year_map (λ year is. reads (dating_in (plain_zone filter.dates.zone) year)
+        is.2.0) h) tells
+    line_unread h tells empty (Some it) reads elements leaves = (
       reading.in_year_told (reading.in_year_map (λ year is. reads (dating_in (plain_zone filter.dates.zone) year)
-      is.2.0) h) tells
-  line_unread h tells empty (Some it) reads elements leaves = (
-    reading.in_year_told (reading.in_year_map (λ year is. reads (dating_in (plain_zone filter.dates.zone) year)
-        is.2.0) h) tells,
-    subst (HasWritten new) (sym elements) (none_written h empty),
-    leaves,
-  )
+          is.2.0) h) tells,
+      subst (HasWritten new) (sym elements) (none_written h empty),
+      leaves,
+    )
 
 -- the bytes that are written for a line, and what the line counts as
 pub answered : (is_message : Bool) (bytes : List ℕ) → (answer_bytes (answer_of is_message bytes) ≡ bytes ++ 10 ∷ [])
@@ -126,30 +132,44 @@ answered false bytes = (refl, refl)
 
 -- ---- the object of a line that is not UTF-8
 
-message_has_member : (filter : Objects) (line : List ℕ) (value : Json) → IsReadJson filter line value → HasMember value
-message_has_member filter line value (utf8, (d, m, u, read, leaves, is)) = (_, _, _, is)
+message_plain : (filter : Objects) (line : List ℕ) (value : Json) → IsReadJson filter line value → IsPlain value
+message_plain filter line value (utf8, (d, m, u, read, leaves, is)) = inl (m, _, is)
 
-refused_has_member : (filter : Objects) (line : List ℕ) (value : Json) → IsRefusedJson filter line value
-    → HasMember value
-refused_has_member filter line value (utf8, none, is) = (_, _, _, is)
+refused_plain : (filter : Objects) (line : List ℕ) (value : Json) → IsRefusedJson filter line value → IsPlain value
+refused_plain filter line value (utf8, none, is) = inr (line, is)
+
+plain_member : (value : Json) → IsPlain value → HasMember value
+plain_member value (inl (m, beside, is)) = (_, _, _, is)
+plain_member value (inr (line, is)) = (_, _, _, is)
+
+-- what is written of a value that is marked
+module _ (IsText : Json → List ℕ → Type 0) (mark : List ℕ → List ℕ)
+    (marks : (value : Json) (bytes : List ℕ) → IsPlain value → IsText value bytes → IsText (marked value) (mark bytes))
+  where
+    pub text_marked : (filter : Objects) (is_message : Bool) (line bytes : List ℕ)
+        → IsValueText IsText filter false line (answer_of is_message bytes)
+        → IsValueText IsText filter true line (answer_of is_message (mark bytes))
+    text_marked filter true line bytes (value, only, is) =
+        (value, only, marks value bytes (message_plain filter line value only.0) is)
+    text_marked filter false line bytes (value, only, is) =
+        (value, only, marks value bytes (refused_plain filter line value only.0) is)
 
 -- its text is marked where bytes were replaced
 abbrev pub marked_text_if : Bool → List ℕ → List ℕ
 marked_text_if false bytes = bytes
 marked_text_if true bytes = marked_text bytes
 
-pub object_marked : (filter : Objects) (is_marked is_message : Bool) (line bytes : List ℕ)
-    → IsObject filter false line (answer_of is_message bytes)
-    → IsObject filter is_marked line (answer_of is_message (marked_text_if is_marked bytes))
+object_marked : (filter : Objects) (is_marked is_message : Bool) (line bytes : List ℕ)
+    → IsValueText IsReadAs filter false line (answer_of is_message bytes)
+    → IsValueText IsReadAs filter is_marked line (answer_of is_message (marked_text_if is_marked bytes))
 object_marked filter false is_message line bytes object = object
-object_marked filter true true line bytes (value, only, read) =
-    (value, only, marked_read value bytes (message_has_member filter line value only.0) read)
-object_marked filter true false line bytes (value, only, read) =
-    (value, only, marked_read value bytes (refused_has_member filter line value only.0) read)
+object_marked filter true is_message line bytes object =
+    text_marked IsReadAs marked_text (λ value old plain read. marked_read value old (plain_member value plain) read)
+    filter is_message line bytes object
 
-abbrev pub marked_line_if : Bool → List ℕ → List ℕ
-marked_line_if false bytes = bytes
-marked_line_if true bytes = marked_line bytes
+abbrev pub marked_output_if : Bool → List ℕ → List ℕ
+marked_output_if false bytes = bytes
+marked_output_if true bytes = marked_output bytes
 
 line_of_marked : (bytes : List ℕ) → marked_text bytes ++ 10 ∷ [] ≡ marked_line (bytes ++ 10 ∷ [])
 line_of_marked bytes =
@@ -159,35 +179,67 @@ line_of_marked bytes =
     append_assoc (take (length bytes - 1) bytes) (codes ",\"invalid_utf8\":true}") (10 ∷ [])
     ∙ ap (λ (l : List ℕ). l ++ codes ",\"invalid_utf8\":true}\n") (sym front)
 
+is_written : (bytes : List ℕ) → marked_line (bytes ++ 10 ∷ []) ≡ marked_output (bytes ++ 10 ∷ [])
+is_written [] = refl
+is_written (byte ∷ bytes) = refl
+
 same_line : (is_marked : Bool) (bytes : List ℕ)
-    → marked_text_if is_marked bytes ++ 10 ∷ [] ≡ marked_line_if is_marked (bytes ++ 10 ∷ [])
+    → marked_text_if is_marked bytes ++ 10 ∷ [] ≡ marked_output_if is_marked (bytes ++ 10 ∷ [])
 same_line false bytes = refl
-same_line true bytes = line_of_marked bytes
+same_line true bytes = line_of_marked bytes ∙ is_written bytes
+
+none_written_of : (is_marked : Bool) → [] ≡ marked_output_if is_marked []
+none_written_of false = refl
+none_written_of true = refl
+
+-- what is added to a line that was written
+pub mark_added : (old : List ℕ) → old ≢ [] → marked_output old ≡ marked_line old
+mark_added [] some = absurd (some refl)
+mark_added (byte ∷ bytes) some = refl
 
 -- what a line gives that is not UTF-8, by what the text gives that it is taken for
 pub invalid_answer : (filter : Objects) (line taken : List ℕ) (answer : Answer) → ¬ (IsUtf8 line)
-    → taken ≡ decoded filter.latin1 line → IsUtf8 taken → IsLineObject filter taken answer
-    → (other : Answer) × IsLineObject filter line other
-    × (answer_bytes other ≡ marked_line_if (not filter.latin1) (answer_bytes answer))
+    → taken ≡ decoded filter.latin1 line → IsUtf8 taken → IsLineAnswer IsReadAs filter taken answer
+    → (other : Answer) × IsLineAnswer IsReadAs filter line other
+    × (answer_bytes other ≡ marked_output_if (not filter.latin1) (answer_bytes answer))
     × (is_answered other ≡ is_answered answer)
-invalid_answer filter line taken (Written bytes) invalid is utf8 (inl (valid, object)) = (
+invalid_answer filter line taken (Written bytes) invalid is utf8 (inl (valid, inl (asked, object))) = (
   Written (marked_text_if (not filter.latin1) bytes),
-  inr (invalid, object_marked filter (not filter.latin1) true (decoded filter.latin1 line) bytes (rw is at object)),
+  inr (
+    invalid,
+    inl (
+      rw is at asked,
+      object_marked filter (not filter.latin1) true (decoded filter.latin1 line) bytes (rw is at object),
+    ),
+  ),
   same_line (not filter.latin1) bytes,
   refl,
 )
-invalid_answer filter line taken (Marked bytes) invalid is utf8 (inl (valid, object)) = (
+invalid_answer filter line taken (Marked bytes) invalid is utf8 (inl (valid, inl (asked, object))) = (
   Marked (marked_text_if (not filter.latin1) bytes),
-  inr (invalid, object_marked filter (not filter.latin1) false (decoded filter.latin1 line) bytes (rw is at object)),
+  inr (
+    invalid,
+    inl (
+      rw is at asked,
+      object_marked filter (not filter.latin1) false (decoded filter.latin1 line) bytes (rw is at object),
+    ),
+  ),
   same_line (not filter.latin1) bytes,
   refl,
 )
-invalid_answer filter line taken (Framed bytes) invalid is utf8 (inl (valid, object)) = absurd object
-invalid_answer filter line taken Omitted invalid is utf8 (inl (valid, object)) = absurd object
-invalid_answer filter line taken Unasked invalid is utf8 (inl (valid, object)) = absurd object
+invalid_answer filter line taken Omitted invalid is utf8 (inl (valid, inr left)) =
+    (Omitted, inr (invalid, inr (rw is at left)), none_written_of (not filter.latin1), refl)
+invalid_answer filter line taken Unasked invalid is utf8 (inl (valid, inr left)) =
+    (Unasked, inr (invalid, inr (rw is at left)), none_written_of (not filter.latin1), refl)
+invalid_answer filter line taken Omitted invalid is utf8 (inl (valid, inl (asked, object))) = absurd object
+invalid_answer filter line taken Unasked invalid is utf8 (inl (valid, inl (asked, object))) = absurd object
+invalid_answer filter line taken (Framed bytes) invalid is utf8 (inl (valid, inl (asked, object))) = absurd object
+invalid_answer filter line taken (Framed bytes) invalid is utf8 (inl (valid, inr left)) = absurd left
+invalid_answer filter line taken (Written bytes) invalid is utf8 (inl (valid, inr left)) = absurd left
+invalid_answer filter line taken (Marked bytes) invalid is utf8 (inl (valid, inr left)) = absurd left
 invalid_answer filter line taken answer invalid is utf8 (inr (other, object)) = absurd (other utf8)
 
-pub marked_unless : (is_latin1 : Bool) (object old : List ℕ) → (is_latin1 ≡ false → object ≡ marked_line old)
-    → (is_latin1 ≡ true → object ≡ old) → object ≡ marked_line_if (not is_latin1) old
+pub marked_unless : (is_latin1 : Bool) (object old : List ℕ) → (is_latin1 ≡ false → object ≡ marked_output old)
+    → (is_latin1 ≡ true → object ≡ old) → object ≡ marked_output_if (not is_latin1) old
 marked_unless true object old replaced whole = whole refl
 marked_unless false object old replaced whole = replaced refl

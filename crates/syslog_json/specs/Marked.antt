@@ -1,5 +1,5 @@
 -- The object of a line that is not UTF-8, which says so: this project's own choice.
-use Rattle.std.specs.Prelude.{◌≡◌, ◌-◌, ℕ, Bool, true, false, List, ◌++◌, codes, length, take}
+use Rattle.std.specs.Prelude.{◌≡◌, ◌-◌, ℕ, Bool, true, false, List, [], ◌∷◌, ◌++◌, codes, length, take}
 use Rattle.json.specs.Json.{Json, null, boolean, number, string, array, object}
 use Rattle.json.specs.Json.{Members, no_members, member}
 
@@ -29,6 +29,11 @@ marked_text bytes = take (length bytes - 1) bytes ++ codes ",\"invalid_utf8\":tr
 -- the line of an object that is marked, by the line of the object
 abbrev pub marked_line : List ℕ → List ℕ
 marked_line bytes = take (length bytes - 2) bytes ++ codes ",\"invalid_utf8\":true}\n"
+
+-- the same, if there is one
+abbrev pub marked_output : List ℕ → List ℕ
+marked_output [] = []
+marked_output (byte ∷ bytes) = marked_line (byte ∷ bytes)
 
 -- the value is an object with members
 abbrev pub HasMember : Json → Type 0

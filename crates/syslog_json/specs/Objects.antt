@@ -1,6 +1,6 @@
 -- What is written for each line: this project's own choice.
 use Rattle.std.specs.Prelude.{◌≡◌, ◌⊎◌, ⊤, ℕ, Bool, true, false, not, List, Option, Some, None, MatchOption}
-use Rattle.std.specs.Prelude.{IsUtf8}
+use Rattle.std.specs.Prelude.{IfSome, IsSomeAnd, IsUtf8}
 use Rattle.std.specs.Str.{chars}
 use Rattle.syslog_pieces.specs.Pieces.Class.{Text}
 use Rattle.syslog_pieces.specs.StructuredData.Visited.{list_elements}
@@ -24,6 +24,7 @@ use Rattle.syslog_object.specs.Object.{beside_line, message_json, refused_json}
 use Rattle.syslog_object.specs.Written.{IsTextOf}
 use Rattle.syslog_object.specs.Writer.{HasWritten}
 use Rattle.syslog_object.specs.declared.writer.ObjectWriter.{ObjectWriter}
+use Rattle.syslog_choice.specs.Chosen.{IsChosen}
 use Rattle.syslog_utf8.specs.Decoded.{decoded}
 use Rattle.syslog_json.specs.Marked.{marked_if}
 use Rattle.syslog_json.specs.declared.filter.Objects.{Objects}
@@ -33,18 +34,30 @@ abbrev pub raw_text : Bool → Text → Option Text
 raw_text true text = Some text
 raw_text false text = None
 
+-- the line is read as this message, in this dialect or in none
+abbrev pub IsMessage : Objects → List ℕ → Option Dialect → MessageValue → Type 0
+IsMessage filter line dialect m = IsDated filter.dates Either (chars line)
+    (λ dating. IsReadSent filter.dates dating filter.dialects Either (chars line) dialect m)
+
+-- it is read as a message of which this holds
+abbrev pub HasMessage : Objects → List ℕ → (MessageValue → Type 0) → Type 0
+HasMessage filter line Holds = (dialect : Option Dialect) × (m : MessageValue) × IsMessage filter line dialect m
+    × Holds m
+
+-- it is no message
+abbrev pub HasNoMessage : Objects → List ℕ → Type 0
+HasNoMessage filter line = IsDated filter.dates Either (chars line)
+    (λ dating. IsUnsent filter.dates dating filter.dialects Either (chars line))
+
 -- the value of the message as which the line is read, with its dialect and what it leaves unparsed of structured data
 abbrev pub IsReadJson : Objects → List ℕ → Json → Type 0
 IsReadJson filter line value = IsUtf8 line × ((dialect : Option Dialect) × (m : MessageValue) × (unparsed : Text)
-    × IsDated filter.dates Either (chars line)
-    (λ dating. IsReadSent filter.dates dating filter.dialects Either (chars line) dialect m)
-    × LeavesSent dialect Either (chars line) unparsed
+    × IsMessage filter line dialect m × LeavesSent dialect Either (chars line) unparsed
     × (value ≡ message_json m (beside_line (dialect_text dialect) unparsed (raw_text filter.raw (chars line)))))
 
 -- the value of a line that is no message
 abbrev pub IsRefusedJson : Objects → List ℕ → Json → Type 0
-IsRefusedJson filter line value = IsUtf8 line × IsDated filter.dates Either (chars line)
-    (λ dating. IsUnsent filter.dates dating filter.dialects Either (chars line)) × (value ≡ refused_json line)
+IsRefusedJson filter line value = IsUtf8 line × HasNoMessage filter line × (value ≡ refused_json line)
 
 -- the value is such, and there is no other
 abbrev pub IsOnly : (Json → Type 0) → Json → Type 0
@@ -57,26 +70,43 @@ pub record IsReadAs (value : Json) (bytes : List ℕ) : Type 0 where
   pub made : of_json value ≡ Some own
   pub read_back : read bytes ≡ Some own
 
--- what the filter gives for a text: the text of its only value, which may be marked; one that is no message counts as
+-- what the filter writes for a text: that of its only value, which may be marked; one that is no message counts as
 -- skipped
-abbrev pub IsObject : Objects → Bool → List ℕ → Answer → Type 0
-IsObject filter is_marked line (Written bytes) = (value : Json) × IsOnly (IsReadJson filter line) value
-    × IsReadAs (marked_if is_marked value) bytes
-IsObject filter is_marked line (Marked bytes) = (value : Json) × IsOnly (IsRefusedJson filter line) value
-    × IsReadAs (marked_if is_marked value) bytes
-IsObject filter is_marked line (Framed bytes) = ⊥
-IsObject filter is_marked line Omitted = ⊥
-IsObject filter is_marked line Unasked = ⊥
+abbrev pub IsValueText : (Json → List ℕ → Type 0) → Objects → Bool → List ℕ → Answer → Type 0
+IsValueText IsText filter is_marked line (Written bytes) = (value : Json) × IsOnly (IsReadJson filter line) value
+    × IsText (marked_if is_marked value) bytes
+IsValueText IsText filter is_marked line (Marked bytes) = (value : Json) × IsOnly (IsRefusedJson filter line) value
+    × IsText (marked_if is_marked value) bytes
+IsValueText IsText filter is_marked line (Framed bytes) = ⊥
+IsValueText IsText filter is_marked line Omitted = ⊥
+IsValueText IsText filter is_marked line Unasked = ⊥
 
--- What the filter gives for a line. One that is not UTF-8 is decoded, and its object is marked, unless it was decoded
--- as ISO 8859-1.
-abbrev pub IsLineObject : Objects → List ℕ → Answer → Type 0
-IsLineObject filter line answer = (IsUtf8 line × IsObject filter false line answer)
-    ⊎ ((¬ (IsUtf8 line)) × IsObject filter (not filter.latin1) (decoded filter.latin1 line) answer)
+-- where messages are chosen, the line is one of them
+abbrev pub IsAskedFor : Objects → List ℕ → Type 0
+IsAskedFor filter line = IfSome filter.choice (λ choice. HasMessage filter line (IsChosen choice))
+
+-- where messages are chosen, the line is another message, or none, which counts as skipped
+abbrev pub IsLeftOut : Objects → List ℕ → Answer → Type 0
+IsLeftOut filter line (Written bytes) = ⊥
+IsLeftOut filter line (Marked bytes) = ⊥
+IsLeftOut filter line (Framed bytes) = ⊥
+IsLeftOut filter line Omitted = IsSomeAnd filter.choice (λ _. HasNoMessage filter line)
+IsLeftOut filter line Unasked = IsSomeAnd filter.choice (λ choice. HasMessage filter line (λ m. ¬ (IsChosen choice m)))
+
+-- what the filter gives for a text
+abbrev pub IsTextAnswer : (Json → List ℕ → Type 0) → Objects → Bool → List ℕ → Answer → Type 0
+IsTextAnswer IsText filter is_marked line answer =
+    (IsAskedFor filter line × IsValueText IsText filter is_marked line answer) ⊎ IsLeftOut filter line answer
+
+-- What the filter gives for a line. One that is not UTF-8 is decoded, and its value is marked, unless it was decoded as
+-- ISO 8859-1.
+abbrev pub IsLineAnswer : (Json → List ℕ → Type 0) → Objects → List ℕ → Answer → Type 0
+IsLineAnswer IsText filter line answer = (IsUtf8 line × IsTextAnswer IsText filter false line answer)
+    ⊎ ((¬ (IsUtf8 line)) × IsTextAnswer IsText filter (not filter.latin1) (decoded filter.latin1 line) answer)
 
 -- memory may be wanted for any line
 abbrev pub objects : Objects → Filter
-objects filter = record { Answers = IsLineObject filter; Wants = λ line. ⊤ }
+objects filter = record { Answers = IsLineAnswer IsReadAs filter; Wants = λ line. ⊤ }
 
 -- all was read, the text of each line's value was written, and the lines were counted
 abbrev pub WritesObjects : Frames → Objects → Option (List ℕ) → Option (List ℕ) → Option (List ℕ) → Option (List ℕ)
@@ -99,3 +129,8 @@ IsLineRead filter text result writer = MatchOption result
 abbrev pub answer_of : Bool → List ℕ → Answer
 answer_of true bytes = Written bytes
 answer_of false bytes = Marked bytes
+
+-- what the filter gives for a line that is not written, by what the line counts as
+abbrev pub unwritten : Bool → Answer
+unwritten true = Unasked
+unwritten false = Omitted

@@ -6,12 +6,14 @@ ghost use Rattle.syslog_lines.specs.Pump.{EndsEarly, FailedAs};
 ghost use Rattle.syslog_object.specs.Object.{refused_json};
 ghost use Rattle.syslog_object.specs.Writer.{HasWritten};
 ghost use Rattle.syslog_object.specs.Written.{IsTextOf};
-ghost use Rattle.syslog_json.specs.Marked.{marked_line};
-ghost use Rattle.syslog_json.specs.Objects.{IsLineRead, IsObject, WritesObjects, answer_of, objects};
+ghost use Rattle.syslog_json.specs.Marked.{marked_output};
+ghost use Rattle.syslog_json.specs.Objects.{IsLineRead, IsReadAs, IsValueText, WritesObjects, answer_of};
+ghost use Rattle.syslog_json.specs.Objects.{objects};
 
 use std::alloc::{AllocError, Global};
 use std::io::{Read, Write};
 use std::mem;
+use syslog_choice::Choice;
 use syslog_dialects::{SentLine, sent_line, unread_line};
 use syslog_lines::pump::pump;
 use syslog_lines::{Frames, LineCounts, LineFilter, RunFault, Watched};
@@ -21,7 +23,8 @@ use syslog_utf8::decode;
 
 /// Reads lines to the end of the input, and writes each as one JSON object on one line: that of its message, or one
 /// that has the line and `"refused":true`. A line is read in the dialect that it is in, and its dates are completed by
-/// `dates`. A line that is longer than `frames` allows is only counted. No object has a byte below 32.
+/// `dates`. A line that is longer than `frames` allows is only counted. No object has a byte below 32. If messages are
+/// chosen, no other line is written, but each is counted.
 ///
 /// The output of each block of input is written before more is read, and the writer is flushed at the end. A call that
 /// failed is not repeated. It allocates a block of input, its output, and the longest line and its object.
@@ -35,14 +38,14 @@ pub fn write_objects<R: Read, W: Write>(
     frames: Frames,
     reader: &mut Watched<R>,
     writer: &mut Watched<W>,
-    filter: Objects,
+    filter: Objects<'_>,
 ) -> Result<LineCounts, RunFault>
     requires reader { reader.old.failed ≡ false }
     requires writer { writer.old.failed ≡ false }
-    ensures ok { IfOk result (λ counts. WritesObjects frames filter (R.remaining reader.old.inner)
+    ensures ok { IfOk result (λ counts. WritesObjects frames filter.entry (R.remaining reader.old.inner)
         (R.remaining reader.new.inner)
         (W.contents writer.old.inner) (W.contents writer.new.inner) counts) }
-    ensures err { IfErr result (λ fault. EndsEarly frames (objects filter) (R.remaining reader.old.inner)
+    ensures err { IfErr result (λ fault. EndsEarly frames (objects filter.entry) (R.remaining reader.old.inner)
         (R.remaining reader.new.inner)
         (W.contents writer.old.inner) (W.contents writer.new.inner) fault) }
     ensures failed { FailedAs result reader.new.failed writer.new.failed }
@@ -53,7 +56,7 @@ pub fn write_objects<R: Read, W: Write>(
 
 /// The filter that writes each line as a JSON object.
 #[derive(Drop)]
-pub struct Objects {
+pub struct Objects<'a> {
     /// Whether the object of a message also has the line as it came.
     pub raw: bool,
     /// Whether a line is read in a dialect that it is in.
@@ -62,9 +65,11 @@ pub struct Objects {
     pub latin1: bool,
     /// How dates that show no year or no zone are completed.
     pub dates: Dates,
+    /// Which messages are written. If it is absent, all lines are.
+    pub choice: Option<Choice<'a>>,
 }
 
-impl Objects {
+impl Objects<'_> {
     // Reads the line, gives the writer its elements, and returns the line, if it is a message.
     #[inline(always)]
     fn read<'a>(&self, line: &'a str, writer: &mut ObjectWriter<'a>) -> Option<SentLine<'a>>
@@ -99,7 +104,8 @@ impl Objects {
         memory: Vec<u8>,
         output: &mut Vec<u8>,
     ) -> Result<(Vec<u8>, bool), AllocError>
-        ensures ok { IfOk result (λ x. (bytes : List ℕ) × IsObject self.now false line.now (answer_of x.1 bytes)
+        ensures ok { IfOk result (λ x. (bytes : List ℕ) × IsValueText IsReadAs self.now false line.now
+            (answer_of x.1 bytes)
             × (output.new.items ≡ output.old.items ++ bytes)) }
         ensures err { OnErr result (output.new.items ≡ output.old.items) }
     {
@@ -127,7 +133,7 @@ fn write_refused(memory: Vec<u8>, line: &str, output: &mut Vec<u8>) -> Result<Ve
     Ok(object)
 }
 
-impl LineFilter for Objects {
+impl LineFilter for Objects<'_> {
     ghost answers = { λ filter. objects filter };
 
     fn filter_line(
@@ -137,6 +143,9 @@ impl LineFilter for Objects {
         text: &mut String,
         output: &mut Vec<u8>,
     ) -> Result<bool, AllocError> {
+        if let Some(is_message) = self.left_out(line) {
+            return Ok(is_message);
+        }
         let before = output.len();
         let memory = mem::replace(text, String::new(alloc)).into_bytes();
         let (memory, is_message) = self.write_line(alloc, line, memory, output)?;
@@ -167,10 +176,13 @@ impl LineFilter for Objects {
     }
 }
 
-// Adds `"invalid_utf8":true` at the end of the line of an object that has a member.
+// Adds `"invalid_utf8":true` at the end of the line of an object that has a member, if it was written.
 fn mark(object: &mut Vec<u8>) -> Result<(), AllocError>
-    ensures { OnOk result (object.new.items ≡ marked_line object.old.items) }
+    ensures { OnOk result (object.new.items ≡ marked_output object.old.items) }
 {
+    if object.is_empty() {
+        return Ok(());
+    }
     object.truncate(object.len().saturating_sub(2));
     object.extend_from_slice(b",\"invalid_utf8\":true}\n")
 }

@@ -7,19 +7,21 @@
 //! is lost.
 #![tactic(auto)]
 
+mod apart;
 mod filter;
 mod report;
 
 use filter::{Objects, write_objects};
 use report::{HELP, USAGE};
 use std::process::ExitCode;
+use syslog_choice::Choice;
 use syslog_command_line::report::{report_lines, say, say_version};
 use syslog_command_line::{Flag, Options, Task, Wrong, program_words, read_task, refuse_words};
 use syslog_lines::{Frames, Watched};
 use syslog_loose::VERSION;
 
 // The flags of this program.
-const FLAGS: [Flag; 7] = [
+const FLAGS: [Flag; 10] = [
     Flag::Raw,
     Flag::NoDialects,
     Flag::Latin1,
@@ -27,10 +29,13 @@ const FLAGS: [Flag; 7] = [
     Flag::Nul,
     Flag::OctetCounted,
     Flag::MaxLine,
+    Flag::Severity,
+    Flag::Host,
+    Flag::App,
 ];
 
 // Writes the lines of standard input as JSON, and then returns the exit status.
-fn filter_input(rt: &HostRuntime, frames: Frames, filter: Objects) -> u8 {
+fn filter_input(rt: &HostRuntime, frames: Frames, filter: Objects<'_>) -> u8 {
     let mut reader = Watched::new(rt.stdin());
     let mut writer = Watched::new(rt.stdout());
     let outcome = write_objects(rt.alloc(), frames, &mut reader, &mut writer, filter);
@@ -38,12 +43,22 @@ fn filter_input(rt: &HostRuntime, frames: Frames, filter: Objects) -> u8 {
 }
 
 // The filter that was asked for.
-fn objects_of(options: Options<'_>) -> Objects {
+fn objects_of(options: Options<'_>) -> Objects<'_> {
+    let choice = Choice {
+        severity: options.severity,
+        host: options.host,
+        app: options.app,
+    };
     Objects {
         raw: options.raw,
         dialects: options.dialects,
         latin1: options.latin1,
         dates: options.dates,
+        choice: if choice.is_everything() {
+            None
+        } else {
+            Some(choice)
+        },
     }
 }
 

@@ -28,12 +28,16 @@ Options, in any order, each at most once:
   --nul            frames end in NUL, and not in a line feed
   --octet-counted  frames have octet counts (RFC 6587), or end in a line feed
   --max-line BYTES a longer line is refused, 67108864 where this is left out
+  --severity NAME  writes only messages of that severity, or a worse one: emerg,
+                   alert, crit, err, warning, notice, info or debug
+  --host NAME      writes only messages of that host
+  --app NAME       writes only messages of that app name
   --               may come before YEAR
   -h, --help       this text
   --version        the name and the version of this program
 
 How many lines are no messages, and how many have U+FFFD, is written to standard
-error at the end.
+error at the end. These are counts of all lines, whatever messages are chosen.
 
 Status:
   0  each line is a message, and none has U+FFFD for what is not UTF-8

@@ -1,7 +1,7 @@
 use Rattle.syslog_json.proofs.Names.{◌≡◌, ◌∙◌, ap, sym}
 use Rattle.std.proofs.Common.{◌++◌, List, ℕ, not}
 use Rattle.syslog_lines.specs.Output.{answer_bytes}
-use Rattle.syslog_json.proofs.UniqueLemmas.{invalid_answer, marked_line_if, marked_unless}
+use Rattle.syslog_json.proofs.UniqueLemmas.{invalid_answer, marked_output_if, marked_unless}
 use Rattle.syslog_json.proofs.filter.ObjectsLineFilter.filter_bytes.Goals.{then-not-self+in_ok-mark, else-not-self}
 use Rattle.syslog_json.proofs.filter.ObjectsLineFilter.filter_bytes.Goals as goal
 
@@ -10,7 +10,7 @@ returns-clause-ok c =
     let filter = c.args.self.now in
     let (answer, given, added, same) = c.in_ok-is_message.ensures.ok in
     let made : c.filter_line.new.output.items ≡ answer_bytes answer = rw c.new-object.ensures.items at added in
-    let whole : c.if-not-self.object.items ≡ marked_line_if (not filter.latin1) c.filter_line.new.output.items =
+    let whole : c.if-not-self.object.items ≡ marked_output_if (not filter.latin1) c.filter_line.new.output.items =
     elim c.if-not-self.branch [
       | then-not-self+in_ok-mark w ↦ marked_unless filter.latin1 _ _
           (λ off. ap (λ o. o.items) w.object-is ∙ w.in_ok-mark.ensures)
@@ -25,6 +25,6 @@ returns-clause-ok c =
       is,
       (rw c.as_slice.ensures.value at c.in_ok-extend_from_slice.ensures.items)
           ∙ ap (λ (l : List ℕ). c.args.output.now.items ++ l)
-          (whole ∙ ap (marked_line_if (not filter.latin1)) made ∙ sym bytes),
+          (whole ∙ ap (marked_output_if (not filter.latin1)) made ∙ sym bytes),
       same ∙ sym kept,
     )
