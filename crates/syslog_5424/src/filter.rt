@@ -77,8 +77,8 @@ impl Conversions<'_> {
         }
     }
 
-    // Returns whether the line is a message of this choice. It is a call, so that each line pays one test alone if nothing
-    // is chosen.
+    // Returns whether the line is a message of this choice. It is a call, so that each line pays one test alone if
+    // nothing is chosen.
     #[cold]
     #[inline(never)]
     fn is_asked_for(&self, choice: &Choice<'_>, line: &str) -> bool

@@ -10,7 +10,7 @@ use Rattle.syslog_loose.specs.Visit.{IsLineOf, Made}
 use Rattle.syslog_loose.specs.declared.line.Line.{Line}
 use Rattle.syslog_dialects.specs.Ordinary.{IsOrdinary}
 use Rattle.syslog_c.{specs.Arrays.HasPut, specs.declared.fields.Fields.Fields}
-use Rattle.syslog_c.specs.Told.{AreMeant, MeansOnly}
+use Rattle.syslog_c.specs.Reported.{AreMeant, MeansOnly}
 use Rattle.syslog_c.{specs.OfLine.AreOfLine, specs.declared.arrays.Arrays.Arrays, specs.declared.fields.Element.Element}
 use Rattle.syslog_c.{proofs.ArrayLemmas.begun_none, proofs.ArrayLemmas.begun_nothing, specs.declared.fields.Param.Param}
 use Rattle.syslog_c.specs.declared.outcome.Outcome.TheVariants.{Done, NotUtf8, NoMemory, NoRoom, BadArgument}

@@ -20,7 +20,7 @@ use Rattle.syslog_dialects.specs.declared.visit.SentLine.{SentLine}
 use Rattle.syslog_c.specs.OfLine.{AreOfLine}
 use Rattle.syslog_c.specs.Sent.{IsMeant, IsOnlyMeant}
 use Rattle.syslog_c.specs.Shown.{IsShown, IsShownIn, flag_number}
-use Rattle.syslog_c.specs.Told.{AreMeant, MeansOnly, TellsFields}
+use Rattle.syslog_c.specs.Reported.{AreMeant, MeansOnly, ReportsFields}
 use Rattle.syslog_c.specs.declared.fields.Fields.{Fields}
 use Rattle.syslog_c.specs.declared.outcome.Outcome.TheVariants.{Done, NotUtf8, NoMemory, NoRoom, BadArgument}
 use Rattle.syslog_c.proofs.ShownLemmas.{restamped_line, strict_shows_none}
@@ -181,12 +181,12 @@ unread_meant rules dating text it new none read shown no_list leaves says =
 
 -- the fields are reported
 pub reported : (rules : Rules) (dating : Dating) (text : Text) (es : List ElementValue) (old new : Fields)
-    → AreMeant rules dating text es new → TellsFields rules dating text old new Done
+    → AreMeant rules dating text es new → ReportsFields rules dating text old new Done
 reported rules dating text es old new meant =
     inl (meant.dialect, meant.message, meant.only, refl, meant.are, meant.shown, meant.leaves)
 
 pub unread_reported : (rules : Rules) (dating : Dating) (text : Text) (old mid new : Fields) (outcome : Outcome)
-    → mid ≡ old → MeansOnly rules dating text mid new outcome → TellsFields rules dating text old new outcome
+    → mid ≡ old → MeansOnly rules dating text mid new outcome → ReportsFields rules dating text old new outcome
 unread_reported rules dating text old mid new Done same meant = reported rules dating text [] old new meant
 unread_reported rules dating text old mid new NoReading same (unsent, is) = inr ((refl, unsent), is ∙ same)
 unread_reported rules dating text old mid new NotUtf8 same none = absurd none

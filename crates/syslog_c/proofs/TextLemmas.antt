@@ -10,7 +10,7 @@ use Rattle.std.proofs.Common.{map}
 use Rattle.syslog_pieces.proofs.Names.{chars-append}
 use Rattle.syslog_loose.specs.Settling.{Settles}
 use Rattle.syslog_loose.specs.declared.fault.ParseFault.TheVariants.{Invalid, Memory}
-use Rattle.syslog_c.specs.Room.{HasTaken, IsLeftFor, Puts, Takes, TellsLength}
+use Rattle.syslog_c.specs.Room.{HasTaken, IsLeftFor, Puts, Takes, ReportsLength}
 use Rattle.syslog_c.{specs.Texts.PutsObject, specs.Texts.Settled, specs.declared.room.Buffer.Buffer}
 use Rattle.syslog_c.proofs.Words.{MessageValue, Option}
 use Rattle.syslog_dialects.specs.declared.dialect.Dialect.{Dialect}
@@ -72,7 +72,7 @@ text_along old new s t e h = subst (λ (x : Text). TakesText old x new) e h
 
 -- what was put, once its length is reported
 pub told : (first now : Buffer) (bytes old : List ℕ) (needed : ℕ) (outcome : Outcome) → first.room.now ≡ old
-    → HasTaken first now bytes → TellsLength now needed outcome → Puts bytes old now.room.now needed outcome
+    → HasTaken first now bytes → ReportsLength now needed outcome → Puts bytes old now.room.now needed outcome
 told first now bytes old needed outcome same h (e, short, inl (done, fits)) =
     let whole : length bytes ≤ length now.room.now = omega (arith, h.needed, fits, short) in
     rw (done, ← same) (omega (arith, e, h.needed, whole, short), whole, h.put whole)

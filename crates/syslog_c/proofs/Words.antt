@@ -23,7 +23,7 @@ pub use Rattle.syslog_c.specs.Fields.{IsElement, IsBegun, IsParam, IsStamp, all_
 pub use Rattle.syslog_c.specs.Line.{OnLine}
 pub use Rattle.syslog_c.specs.Options.{AreRules}
 pub use Rattle.syslog_c.specs.Room.{TakesText}
-pub use Rattle.syslog_c.specs.Told.{ReadsInto}
+pub use Rattle.syslog_c.specs.Reported.{ReadsInto}
 pub use Rattle.syslog_c.specs.declared.fields.Stamp.{Stamp}
 pub use Rattle.syslog_c.specs.declared.options.Options.{Options}
 pub use Rattle.syslog_c.specs.declared.outcome.Outcome.{Outcome}

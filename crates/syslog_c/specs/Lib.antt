@@ -11,4 +11,4 @@ pub mod Sent
 pub mod Shown
 pub mod Strict
 pub mod Texts
-pub mod Told
+pub mod Reported

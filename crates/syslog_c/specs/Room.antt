@@ -35,8 +35,8 @@ abbrev pub TakesText : Buffer → Text → Buffer → Type 0
 TakesText old text new = (bytes : List ℕ) × IsUtf8 bytes × (chars bytes ≡ text) × Takes old bytes new
 
 -- the length is reported, and whether there is space for the text
-abbrev pub TellsLength : Buffer → ℕ → Outcome → Type 0
-TellsLength buffer needed outcome = (needed ≡ buffer.needed) × (length buffer.room.now < 2 ^ 64 - 1)
+abbrev pub ReportsLength : Buffer → ℕ → Outcome → Type 0
+ReportsLength buffer needed outcome = (needed ≡ buffer.needed) × (length buffer.room.now < 2 ^ 64 - 1)
     × (((outcome ≡ Done) × (buffer.needed ≤ length buffer.room.now))
     ⊎ ((outcome ≡ NoRoom) × (length buffer.room.now < buffer.needed)))
 

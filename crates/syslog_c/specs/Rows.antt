@@ -5,7 +5,7 @@ use Rattle.syslog_c.specs.Fields.{IsBegun, IsNoText, IsProcess, IsStamp}
 use Rattle.syslog_c.specs.Line.{OnLine}
 use Rattle.syslog_c.specs.Options.{IsTaken}
 use Rattle.syslog_c.specs.Outcome.{IsCodeOf}
-use Rattle.syslog_c.specs.Told.{TellsFields}
+use Rattle.syslog_c.specs.Reported.{ReportsFields}
 use Rattle.syslog_c.specs.declared.fields.Fields.{Fields}
 use Rattle.syslog_c.specs.declared.fields.Row.{Row}
 use Rattle.syslog_c.specs.declared.options.Options.{Options}
@@ -36,7 +36,7 @@ pub record IsRow (options : Options) (row : Row) (line : List ℕ) : Type 0 wher
   pub blank : Fields
   pub are_blank : AreBlank blank
   pub read : IsCodeOf row.outcome (λ outcome. OnLine options line outcome (row.fields ≡ blank)
-      (λ rules dating text. TellsFields rules dating text blank row.fields outcome))
+      (λ rules dating text. ReportsFields rules dating text blank row.fields outcome))
 
 -- The lines of the buffer have a row each, in order, and the rows after them are as they were. Or there are more lines
 -- than rows, and each row has one of the first lines. Or the options mean nothing, and all is as it was.

@@ -2,7 +2,7 @@
 ghost use Rattle.std.specs.Prelude.{◌≡◌};
 ghost use Rattle.syslog_c.specs.Line.{OnLine};
 ghost use Rattle.syslog_c.specs.Outcome.{IsCodeOf};
-ghost use Rattle.syslog_c.specs.Told.{TellsOwnCanonical};
+ghost use Rattle.syslog_c.specs.Reported.{ReportsOwnCanonical};
 
 use crate::options::Options;
 use crate::outcome::Outcome;
@@ -13,14 +13,14 @@ use crate::read_line::read_line;
 #[unsafe(no_mangle)]
 pub extern "C" fn syslog_is_canonical(line: &[u8], options: &Options, canonical: &mut u32) -> u32
     ensures { IsCodeOf result (λ outcome. OnLine options.now line.now outcome (canonical.new ≡ 0)
-        (λ rules dating text. TellsOwnCanonical rules.variant dating text canonical.new outcome)) }
+        (λ rules dating text. ReportsOwnCanonical rules.variant dating text canonical.new outcome)) }
 {
     tell_canonical(line, options, canonical) as u32
 }
 
 fn tell_canonical(line: &[u8], options: &Options, canonical: &mut u32) -> Outcome
     ensures { OnLine options.now line.now result (canonical.new ≡ 0) (λ rules dating text.
-        TellsOwnCanonical rules.variant dating text canonical.new result) }
+        ReportsOwnCanonical rules.variant dating text canonical.new result) }
 {
     match read_line(line, options) {
         Ok((_, line)) => {

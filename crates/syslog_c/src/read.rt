@@ -6,7 +6,7 @@ ghost use Rattle.syslog_loose.specs.Dates.{IsDated, year_in};
 ghost use Rattle.syslog_loose.specs.Reading.{IsUnreadable};
 ghost use Rattle.syslog_c.specs.Line.{OnLine};
 ghost use Rattle.syslog_c.specs.Outcome.{IsCodeOf};
-ghost use Rattle.syslog_c.specs.Told.{MeansOnly, ReadsInto, TellsFields};
+ghost use Rattle.syslog_c.specs.Reported.{MeansOnly, ReadsInto, ReportsFields};
 
 use crate::arrays::Arrays;
 use crate::fields::{Element, Fields, Param};
@@ -124,14 +124,14 @@ pub extern "C" fn syslog_read_fields<'a>(
     fields: &mut Fields<'a>,
 ) -> u32
     ensures { IsCodeOf result (λ outcome. OnLine options.now line.now outcome (fields.new ≡ fields.old)
-        (λ rules dating text. TellsFields rules dating text fields.old fields.new outcome)) }
+        (λ rules dating text. ReportsFields rules dating text fields.old fields.new outcome)) }
 {
     read_fields(line, options, fields) as u32
 }
 
 pub(crate) fn read_fields<'a>(line: &'a [u8], options: &Options, fields: &mut Fields<'a>) -> Outcome
     ensures { OnLine options.now line.now result (fields.new ≡ fields.old)
-        (λ rules dating text. TellsFields rules dating text fields.old fields.new result) }
+        (λ rules dating text. ReportsFields rules dating text fields.old fields.new result) }
 {
     let Some(rules) = rules_of(options) else {
         return Outcome::BadArgument;
@@ -145,7 +145,7 @@ pub(crate) fn read_fields<'a>(line: &'a [u8], options: &Options, fields: &mut Fi
 // Reads the fields of the text by these rules. (By the visitor alone LLVM inlines neither of the two readings.)
 fn read_text<'a>(text: &'a str, rules: &Rules, fields: &mut Fields<'a>) -> Outcome
     ensures { IsDated rules.now.dates rules.now.variant (chars text.entry.now)
-        (λ dating. TellsFields rules.now dating (chars text.entry.now) fields.old fields.new result) }
+        (λ dating. ReportsFields rules.now dating (chars text.entry.now) fields.old fields.new result) }
 {
     let dates = &rules.dates;
     let get_year = |date: IncompleteDate| -> i32

@@ -1,6 +1,6 @@
 //! Texts in a buffer of the caller's.
 ghost use Rattle.std.specs.Prelude.{◌≡◌, ◌++◌, ◌≤◌, MatchResult, drop, length, string_bytes};
-ghost use Rattle.syslog_c.specs.Room.{IsLeftFor, Puts, Takes, TellsLength, fault_outcome};
+ghost use Rattle.syslog_c.specs.Room.{IsLeftFor, Puts, Takes, ReportsLength, fault_outcome};
 
 use crate::outcome::Outcome;
 use syslog_loose::ParseFault;
@@ -35,7 +35,7 @@ impl<'r> Buffer<'r> {
 
     /// Sets `needed` to the length of the text, and returns whether there was space for all of it.
     pub(crate) fn tell(&self, needed: &mut usize) -> Outcome
-        ensures { TellsLength self.now needed.new result }
+        ensures { ReportsLength self.now needed.new result }
     {
         *needed = self.needed;
         if self.needed > self.room.len() {

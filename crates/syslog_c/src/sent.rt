@@ -16,7 +16,7 @@ ghost use Rattle.syslog_dialects.specs.SentReading.{IsUnsent, Shows};
 ghost use Rattle.syslog_dialects.specs.declared.dialect.Dialect.{Dialect};
 ghost use Rattle.syslog_c.specs.OfLine.{AreOfLine};
 ghost use Rattle.syslog_c.specs.Shown.{IsShownIn};
-ghost use Rattle.syslog_c.specs.Told.{AreMeant};
+ghost use Rattle.syslog_c.specs.Reported.{AreMeant};
 ghost use Rattle.syslog_c.specs.declared.rules.Rules.{Rules as AnyRules};
 
 use crate::fields::Fields;

@@ -32,8 +32,8 @@ impl<'a> LineVisitor<'a> for Apart {
     }
 }
 
-/// Returns the line that the text is parsed as, by the year and the zone of the dates, and none where it does not parse.
-/// It takes no memory.
+/// Returns the line that the text is parsed as, by the year and the zone of the dates. Returns `None` if it does not
+/// parse. It takes no memory.
 pub fn parse_apart<'a>(input: &'a str, dates: &Dates) -> Option<Line<'a>>
     ensures reads { IsDated dates.now Either (chars input.entry.now) (λ dating. MatchOption result
         (IsUnreadable Either dating (chars input.entry.now)) (IsLineOf Either dating (chars input.entry.now))) }

@@ -29,7 +29,7 @@ use Rattle.syslog_pieces.proofs.PieceLemmas.Class.{no_row, no_mapped}
 use Rattle.syslog_pieces.proofs.PieceLemmas.Rules.{such_det}
 use Rattle.syslog_pieces.proofs.TextLemmas.Runs.{ascii_ahead, ascii_front, chars_nonempty, run_is}
 use Rattle.syslog_pieces.proofs.TextLemmas.Words.{host_det}
-use Rattle.syslog_dialects.specs.Named.{◌otherwise◌, behind_row, beginning, hosted, BeginsWith, begins_name, name}
+use Rattle.syslog_dialects.specs.Named.{◌otherwise◌, after_row, beginning, hosted, BeginsWith, begins_name, name}
 use Rattle.syslog_dialects.specs.Named.{id_row, id_of, process_id}
 use Rattle.syslog_dialects.specs.Named.{program_row, program_of, program, ProgramText}
 use Rattle.syslog_dialects.specs.Runs.{are_ascii, is_plain_char, is_word_char}
@@ -191,11 +191,11 @@ begins_some test (c ∷ t) h = omega arith
 
 -- ---- after a host
 
-pub behind_det : (C : Class) → IsDeterministic C → AllDeterministic (behind_row C)
-behind_det C d = host_det also some_run_det is_blank also d also tt
+pub after_row_det : (C : Class) → IsDeterministic C → AllDeterministic (after_row C)
+after_row_det C d = host_det also some_run_det is_blank also d also tt
 
 pub hosted_det : (C : Class) → IsDeterministic C → IsDeterministic (hosted C)
-hosted_det C d = otherwise_det d (row_det (behind_row C) (behind_det C d))
+hosted_det C d = otherwise_det d (row_det (after_row C) (after_row_det C d))
 
 pub words_row_det : AllDeterministic words_row
 words_row_det = some_run_det is_word_char also many_det (spaced (some_run is_word_char))
@@ -216,6 +216,6 @@ forwarded_det = exactly_det _ also texted_det (some_run is_tag_char) (some_run_d
 pub passed_on_det : IsDeterministic passed_on
 passed_on_det = mapped_det (Row forwarded_row) NamedTexts forwarded_of (row_det forwarded_row forwarded_det)
 
-pub hosted_none : (C : Class) → IsDeterministic C → {t : Text} → NoFront C t → Fails (behind_row C) t
+pub hosted_none : (C : Class) → IsDeterministic C → {t : Text} → NoFront C t → Fails (after_row C) t
     → NoFront (hosted C) t
-hosted_none C d n h = no_otherwise n (no_row (behind_row C) (behind_det C d) h)
+hosted_none C d n h = no_otherwise n (no_row (after_row C) (after_row_det C d) h)

@@ -20,11 +20,11 @@ abbrev pub ◌otherwise◌ : Class → Class → Class
 ◌otherwise◌ C D = record { Value = C.Value ⊎ D.Value; Is = IsFirstOf C D }
 
 -- a piece of the class, or a host before it
-abbrev pub behind_row : Class → List Class
-behind_row C = host ∷ some_run is_blank ∷ C ∷ []
+abbrev pub after_row : Class → List Class
+after_row C = host ∷ some_run is_blank ∷ C ∷ []
 
 abbrev pub hosted : Class → Class
-hosted C = C otherwise Row (behind_row C)
+hosted C = C otherwise Row (after_row C)
 
 -- all that is left, where a piece of the class begins it
 abbrev pub beginning : Class → Class

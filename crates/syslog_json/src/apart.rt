@@ -1,5 +1,5 @@
-//! The reading of a line to choose it, beside that for its object. It has a visitor of its own, since a second caller of
-//! a reader keeps it from being compiled into the first one.
+//! The reading of a line to choose it, beside that for its object. It has a visitor of its own, since a second caller
+//! of a reader keeps it from being compiled into the first one.
 ghost use Rattle.std.specs.Prelude.{◌≡◌, MatchOption, Some, chars};
 ghost use Rattle.syslog_loose.specs.Dates.{IsDated};
 ghost use Rattle.syslog_loose.specs.declared.variant.Variant.TheVariants.{Either};
@@ -25,7 +25,8 @@ impl Objects<'_> {
         }
     }
 
-    // The same by this choice. It is a call, so that each line pays one test alone if nothing is chosen.
+    // Returns whether the line is a message, if it is left out by this choice. It is a call, so that each line pays one
+    // test alone if nothing is chosen.
     #[cold]
     #[inline(never)]
     fn not_chosen(&self, choice: &Choice<'_>, line: &str) -> Option<bool>

@@ -15,8 +15,8 @@ pub trait LineFilter {
     // what a line gives, and the lines for which memory may be taken
     ghost answers: { Self → Filter };
 
-    /// Adds the output for a line that is UTF-8 to `output`, with a line feed or as a frame, or nothing. Returns whether
-    /// the line counts as answered.
+    /// Adds the output for a line that is UTF-8 to `output`, with a line feed or as a frame, or nothing. Returns
+    /// whether the line counts as answered.
     ///
     /// If an allocation fails, nothing is added, and the line is one for which the filter may allocate. `text` is for a
     /// text in between: what it holds doesn't count, and its memory is used again for the next line.

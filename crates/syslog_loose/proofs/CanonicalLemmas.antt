@@ -8,8 +8,8 @@ use Rattle.syslog_loose.proofs.Names.{chars_from_encodes, chars-IsAscii, encodes
 use Rattle.syslog_loose.proofs.Names.{colon, EndsInColon, is_no_colon, false_is, colon_ascii, ◌&&◌, inl, inr, Option}
 use Rattle.syslog_loose.proofs.Names.{Some, IfSome, IsSome, ProcId, PID, Name, Protocol, RFC3164, IsVisible, HasNoColon}
 use Rattle.syslog_loose.proofs.Names.{IsCanonicalHost, IsBracketedProcess, is_process_char, AreCanonicalNames, each_map}
-use Rattle.syslog_loose.proofs.Names.{IsCanonical3164, IsCanonicalFor, IsCanonical, is_inner_char, HasNoException}
-use Rattle.syslog_loose.proofs.Names.{IsOddHost, IsInnerProcess, AreNamesButExceptions, HasExceptionsAlone, each_both}
+use Rattle.syslog_loose.proofs.Names.{IsCanonical3164, IsCanonicalFor, IsCanonical, is_inner_char, HasNoQuirk}
+use Rattle.syslog_loose.proofs.Names.{IsOddHost, IsInnerProcess, AreNamesButQuirks, HasQuirksAlone, each_both}
 use Rattle.syslog_loose.proofs.Names.{IsNearlyCanonical, MessageValue, each_left, each_right, is_not_whitespace}
 use Rattle.syslog_loose.proofs.Names.{IfSome_then, SyslogFacility, SyslogSeverity, trim_end, NonePass, same_chars}
 use Rattle.syslog_loose.proofs.Names.{end_trimmed_chars, no_list_is, dash_ascii}
@@ -136,7 +136,7 @@ bracketed_of (Name t) (l, a, none) k = (
 
 -- ---- the names
 near_of : (host app : Option Text) (process : Option (ProcId Text)) → AreCanonicalNames host app process
-    → AreNamesButExceptions host app process × IfSome process HasNoColon
+    → AreNamesButQuirks host app process × IfSome process HasNoColon
 near_of host (Some a) (Some (PID n)) h = (h, tt)
 near_of host (Some a) (Some (Name t)) (label, (some, each, none)) =
     let both = each_map is_process_char (λ c. is_inner_char c && is_no_colon c) process_of t each in
@@ -145,14 +145,14 @@ near_of host None (Some p) h = absurd h
 near_of host None None h = (h, tt)
 near_of host (Some a) None h = (h, tt)
 
-pub canonical_names : (host app : Option Text) (process : Option (ProcId Text)) → AreNamesButExceptions host app process
+pub canonical_names : (host app : Option Text) (process : Option (ProcId Text)) → AreNamesButQuirks host app process
     → IfSome process HasNoColon → AreCanonicalNames host app process
 canonical_names host (Some a) (Some p) h k = (h.0, bracketed_of p h.1 k)
 canonical_names host app process h k = h
 
 -- ---- the message
 pub canonical_near : (rule : DashRule) (m : MessageValue) → m.protocol ≡ RFC3164 → IsCanonical rule m
-    → IsNearlyCanonical m × HasNoException rule m
+    → IsNearlyCanonical m × HasNoQuirk rule m
 canonical_near rule m e (canonical, other) =
     let own : IsCanonical3164 rule m = subst (λ (x : Protocol). IsCanonicalFor rule x m) e other in
     let (names, no_colon) = near_of m.hostname m.appname m.procid own.names in (
@@ -185,7 +185,7 @@ canonical_near rule m e (canonical, other) =
 
 -- the message with this facility and severity instead of its own
 pub near_completed : (rule : DashRule) (m : MessageValue) (f : Option SyslogFacility) (s : Option SyslogSeverity)
-    → IsSome f → IsSome s → HasExceptionsAlone m → HasNoException rule m
+    → IsSome f → IsSome s → HasQuirksAlone m → HasNoQuirk rule m
     → IsCanonical rule (record m { facility = f; severity = s })
 near_completed rule m f s facility severity near none =
     let quiet = none.names in (
@@ -206,7 +206,7 @@ near_completed rule m f s facility severity near none =
       }),
     )
 
-pub near_canonical : (rule : DashRule) (m : MessageValue) → IsNearlyCanonical m × HasNoException rule m
+pub near_canonical : (rule : DashRule) (m : MessageValue) → IsNearlyCanonical m × HasNoQuirk rule m
     → IsCanonical rule m
 near_canonical rule m (nearly, none) =
     near_completed rule m m.facility m.severity nearly.facility nearly.severity nearly.rest none

@@ -115,14 +115,15 @@ pub use Rattle.syslog_loose.specs.declared.line.Line.{Line}
 pub use Rattle.syslog_loose.specs.declared.message.Protocol.{Protocol}
 pub use Rattle.syslog_loose.specs.Bodies.Rows.{body_row, names_row, header_row, data_row}
 pub use Rattle.syslog_loose.specs.Rows.{stamped_row, fields_row, front_row}
-pub use Rattle.syslog_loose.specs.Exceptions.{is_no_colon, HasNoException, HasNoColon, is_inner_char, IsOddHost}
-pub use Rattle.syslog_loose.specs.Exceptions.{IsInnerProcess, AreNamesButExceptions, HasExceptionsAlone}
-pub use Rattle.syslog_loose.specs.Exceptions.{IsNearlyCanonical, HasQuietNames, HasNoNameException, IsOfMonthDate}
+pub use Rattle.syslog_loose.specs.Quirks.{is_no_colon, HasNoQuirk, HasNoColon, is_inner_char, IsOddHost}
+pub use Rattle.syslog_loose.specs.Quirks.{IsInnerProcess, AreNamesButQuirks, HasQuirksAlone}
+pub use Rattle.syslog_loose.specs.Quirks.{IsNearlyCanonical, HasQuietNames, HasNoNameQuirk, IsOfMonthDate}
 pub use Rattle.syslog_loose.specs.Printed.{timestamp_text, tag_text, priority_of, printed}
 pub use Rattle.syslog_loose.specs.Printed.{spaced_elements, printed_5424, rest_text}
 pub use Rattle.syslog_loose.specs.Bodies.Jumps.{colons, colons_before, past_colons, CutsColons, EndsColons, IsDashed}
 pub use Rattle.syslog_loose.specs.Bodies.Jumps.{PassesDashes, with_msg, tail_text}
-pub use Rattle.syslog_loose.specs.Passes.{EndsOnce, IsLater, Prints, HasRank, IsToldRound, ReachesRank, BeginsNoDashes}
+pub use Rattle.syslog_loose.specs.Passes.{EndsOnce, IsLater, Prints, HasRank, IsReportedRound, ReachesRank}
+pub use Rattle.syslog_loose.specs.Passes.{BeginsNoDashes}
 pub use Rattle.syslog_loose.specs.Bodies.Cases.{IsBoundedProtocol, incomplete, HasMonth}
 pub use Rattle.syslog_loose.specs.ReadBack.{ReadsProtocol, IsFixed}
 pub use Rattle.syslog_loose.specs.declared.fault.ParseFault.{ParseFault}

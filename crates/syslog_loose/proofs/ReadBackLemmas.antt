@@ -2,7 +2,7 @@
 -- characters.
 use Rattle.syslog_loose.proofs.Names.{◌⊎◌, inl, inr, Text, Dating, IsBounded, MessageValue, dash_rule, IsRead, Variant}
 use Rattle.syslog_loose.proofs.Names.{IsRead3164, IsRead5424, Either, RFC5424, ◌≡◌, ◌∙◌, Some, refl, sym, unwrap_or, ℕ}
-use Rattle.syslog_loose.proofs.Names.{LOG_SYSLOG, SEV_DEBUG, DashRule, IsCanonical, HasNoException, printed, ◌↔◌, ℤ, Ok}
+use Rattle.syslog_loose.proofs.Names.{LOG_SYSLOG, SEV_DEBUG, DashRule, IsCanonical, HasNoQuirk, printed, ◌↔◌, ℤ, Ok}
 use Rattle.syslog_loose.proofs.Names.{List, Option, Result, Err, ap, subst, string_bytes, encodes-chars, IfOk, String}
 use Rattle.syslog_loose.proofs.Names.{chars, IsUtf8, encode_utf8_all, Global, ReadsProtocol, IsFixed, IsOnlyRead, ◌<◌}
 use Rattle.syslog_loose.proofs.Names.{IsUnreadable, Answers, IncompleteDate, InYear, ParseFault, Invalid, Memory, ◌≤◌}
@@ -63,7 +63,7 @@ printed_again m e =
     printed_3164_is (completed m) e ∙ rw (priority_same m.facility m.severity) (sym (printed_3164_is m e))
 
 pub read_again : (rule : DashRule) (dating : Dating) (text : Text) (m : MessageValue) → IsRead3164 rule dating text m
-    → HasNoException rule m
+    → HasNoQuirk rule m
     → IsCanonical rule (completed m) × IsBounded (completed m) × (printed (completed m) ≡ printed m)
 read_again rule dating text m r none =
     let near = read_near rule dating text m r in

@@ -11,13 +11,13 @@ pub use Rattle.syslog_loose.specs.DashChange.{BeginsDashChange, HasDashChange, R
 pub use Rattle.syslog_loose.specs.DashChange.{WasUnreadable}
 pub use Rattle.syslog_loose.specs.Equal.{message_eq, stamp_eq}
 pub use Rattle.syslog_loose.specs.EqualLaws.{message_equivalence}
-pub use Rattle.syslog_loose.specs.Exceptions.{HasExceptionsAlone, HasNoColon, HasNoException, IsNearlyCanonical}
-pub use Rattle.syslog_loose.specs.Exceptions.{IsOfMonthDate}
+pub use Rattle.syslog_loose.specs.Quirks.{HasQuirksAlone, HasNoColon, HasNoQuirk, IsNearlyCanonical}
+pub use Rattle.syslog_loose.specs.Quirks.{IsOfMonthDate}
 pub use Rattle.syslog_loose.specs.Line.{KnowsForm, line_value}
 pub use Rattle.syslog_loose.specs.LineTexts.{IsLine3164, IsLine5424}
 pub use Rattle.syslog_loose.specs.Message.{MessageValue, message_value, with_elements}
 pub use Rattle.syslog_loose.specs.OneLine.{IsOneLine}
-pub use Rattle.syslog_loose.specs.Passes.{AnswersPass, EndsOnce, HasRank, IsAtRest, IsLater, PassesLead, Prints}
+pub use Rattle.syslog_loose.specs.Passes.{AnswersPass, EndsOnce, HasRank, IsStable, IsLater, PassesLead, Prints}
 pub use Rattle.syslog_loose.specs.Passes.{ReachesRank}
 pub use Rattle.syslog_loose.specs.Passes.{ShowsNoDate, WritesRound, round_answer}
 pub use Rattle.syslog_loose.specs.Printed.{elements_text, printed, rest_3164, rest_5424, rest_text, spaced_elements}

@@ -6,7 +6,7 @@ pub mod Equal
 pub mod EqualLaws
 pub mod Line
 pub mod LineTexts
-pub mod Exceptions
+pub mod Quirks
 pub mod Message
 pub mod Passes
 pub mod OneLine

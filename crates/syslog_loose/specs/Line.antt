@@ -2,7 +2,7 @@
 use Rattle.std.specs.Prelude.{◌≡◌}
 use Rattle.syslog_loose.specs.Words.{ℕ, IsTrue, Option, Some, None, IfSome, option_map, IsUtf8, seen, shown}
 use Rattle.syslog_loose.specs.Words.{named_process, list_elements, stamp_seen, IsCanonicalStamp}
-use Rattle.syslog_loose.specs.Exceptions.{HasNoException}
+use Rattle.syslog_loose.specs.Quirks.{HasNoQuirk}
 use Rattle.syslog_loose.specs.Message.{MessageValue, message_of_parts}
 use Rattle.syslog_loose.specs.Printed.{rest_text}
 use Rattle.syslog_loose.specs.Reading.{dash_rule}
@@ -28,4 +28,4 @@ pub record KnowsForm (line : Line) : Type 0 where
   pub utf8 : IsUtf8 line.rest.now
   pub prints : IsTrue line.is_printed → shown line.rest ≡ rest_text (line_value line)
   pub quiet : IsTrue line.is_printed → line.version ≡ None → IfSome (stamp_seen line.timestamp) IsCanonicalStamp
-      → HasNoException dash_rule (line_value line)
+      → HasNoQuirk dash_rule (line_value line)

@@ -4,7 +4,7 @@ use Rattle.std.specs.Prelude.{◌≡◌, ◌⊎◌, ◌++◌}
 use Rattle.syslog_loose.specs.Words.{⊤, ℕ, zero, suc, List, [], Bool, MatchBool, Option, Some, None, IfSome, Result, Ok}
 use Rattle.syslog_loose.specs.Words.{Err, MatchResult, chars, AllocError, Text, colon, EndsInColon, IsCanonicalStamp}
 use Rattle.syslog_loose.specs.Words.{ShowsMonthDate, Dating, MonthDate}
-use Rattle.syslog_loose.specs.Exceptions.{HasNoException, HasNoNameException}
+use Rattle.syslog_loose.specs.Quirks.{HasNoQuirk, HasNoNameQuirk}
 use Rattle.syslog_loose.specs.Bodies.Jumps.{IsDashed}
 use Rattle.syslog_loose.specs.Line.{line_value}
 use Rattle.syslog_loose.specs.Message.{MessageValue}
@@ -27,9 +27,9 @@ BeginsNoDashes m = m.structured_data ≡ [] → (rest : Text) → IsDashed m.msg
 
 -- The message of RFC 3164 has this rank, or a lower one. Each line leaves out what the lines before it ask last.
 abbrev pub HasRank : ℕ → MessageValue → Type 0
-HasRank zero m = HasNoException dash_rule m
-HasRank (suc zero) m = HasNoNameException m × BeginsNoDashes m
-HasRank (suc (suc zero)) m = HasNoNameException m
+HasRank zero m = HasNoQuirk dash_rule m
+HasRank (suc zero) m = HasNoNameQuirk m × BeginsNoDashes m
+HasRank (suc (suc zero)) m = HasNoNameQuirk m
 HasRank (suc (suc (suc zero))) m = IfSome m.timestamp IsCanonicalStamp × IfSome m.hostname (λ h. EndsInColon h → ⊥)
 HasRank (suc (suc (suc (suc zero)))) m = IfSome m.timestamp IsCanonicalStamp
 HasRank (suc (suc (suc (suc (suc n))))) m = ⊤
@@ -45,10 +45,10 @@ pub record Prints (m later : MessageValue) : Type 0 where
   pub timestamp : later.timestamp ≡ m.timestamp
   pub one_colon : IfSome m.timestamp IsCanonicalStamp → IfSome later.hostname EndsOnce
   pub host : IfSome m.hostname (λ h. EndsInColon h → ⊥) → later.hostname ≡ m.hostname
-  pub quiet : HasNoNameException m → HasNoNameException later
-  pub last_dash : HasNoNameException m → later.structured_data ≡ [] → (p q : Text) → IsDashed later.msg p → IsDashed p q
+  pub quiet : HasNoNameQuirk m → HasNoNameQuirk later
+  pub last_dash : HasNoNameQuirk m → later.structured_data ≡ [] → (p q : Text) → IsDashed later.msg p → IsDashed p q
       → ⊥
-  pub no_dashes : HasNoNameException m → BeginsNoDashes m → BeginsNoDashes later
+  pub no_dashes : HasNoNameQuirk m → BeginsNoDashes m → BeginsNoDashes later
 
 -- this is a later round of the input, which was read as the message, and none before it is settled
 pub record IsLater (variant : Variant) (dating : Dating) (input : Text) (m : MessageValue) (later : Text) : Type 0 where
@@ -63,9 +63,9 @@ pub record IsLater (variant : Variant) (dating : Dating) (input : Text) (m : Mes
 -- ---- words of the bodies
 
 -- a message that was read so prints as a settled text
-abbrev pub IsAtRest : Protocol → MessageValue → Type 0
-IsAtRest RFC3164 m = HasNoException dash_rule m
-IsAtRest (RFC5424 version) m = ⊤
+abbrev pub IsStable : Protocol → MessageValue → Type 0
+IsStable RFC3164 m = HasNoQuirk dash_rule m
+IsStable (RFC5424 version) m = ⊤
 
 -- a later round of a text that is not settled, none before it is, and what is read of it has a lower rank
 pub record IsUnsettled (variant : Variant) (dating : Dating) (text later : Text) : Type 0 where
@@ -86,15 +86,15 @@ PassesLead variant dating (suc n) text u = (IsNext variant dating text u × IsSe
     ⊎ ((later : Text) × IsUnsettled variant dating text later × PassesLead variant dating n later u)
 
 -- where this is true, this is the next round of the text, and settled; or else a round of an unsettled text
-abbrev pub IsToldRound : Variant → Dating → Text → Text → Bool → Type 0
-IsToldRound variant dating text later settled = MatchBool settled
+abbrev pub IsReportedRound : Variant → Dating → Text → Text → Bool → Type 0
+IsReportedRound variant dating text later settled = MatchBool settled
     (IsNext variant dating text later × IsSettled variant dating later) (IsUnsettled variant dating text later)
 
 -- What is written of a line: a round as the flag says, of each text that is read as the line.
 abbrev pub WritesRound : Line → Result Bool AllocError → List ℕ → Type 0
 WritesRound line made bytes = MatchResult made
     (λ settled. (variant : Variant) (dating : Dating) (whole : Text) → IsRead variant dating whole (line_value line)
-    → IsToldRound variant dating whole (chars bytes) settled)
+    → IsReportedRound variant dating whole (chars bytes) settled)
     (λ _. ⊤)
 
 -- what a call returns when this was written for the line of a text, or when there is no line
@@ -117,7 +117,7 @@ pub record ReachesRank (variant : Variant) (dating : Dating) (text : Text) (rank
 -- settled round; where it is false, a later round of a lower rank. Or it is a fault.
 abbrev pub AnswersPass : Variant → Dating → Text → ℕ → Text → List ℕ → Result Bool ParseFault → Type 0
 AnswersPass variant dating text rank u bytes result = MatchResult result
-    (λ settled. IsToldRound variant dating u (chars bytes) settled
+    (λ settled. IsReportedRound variant dating u (chars bytes) settled
     × MatchBool settled (SettlesAs variant dating text (chars bytes))
     ((lower : ℕ) × (rank ≡ suc lower) × ReachesRank variant dating text lower (chars bytes)))
     (λ fault. IsSettlingFault variant dating text fault)

@@ -3,7 +3,7 @@ use Rattle.std.specs.Prelude.{◌≡◌, ◌≢◌, ◌↔◌, ◌⊎◌}
 use Rattle.syslog_loose.specs.Words.{⊤, ℕ, List, Result, Err, String, string_bytes, IfSome, IsSome, IsOkAnd, Global}
 use Rattle.syslog_loose.specs.Words.{Bor, Text, shown, IsCanonicalStamp, Dating}
 use Rattle.syslog_loose.specs.Canonical.{IsBounded, IsCanonical}
-use Rattle.syslog_loose.specs.Exceptions.{HasNoException, IsNearlyCanonical, IsOfMonthDate}
+use Rattle.syslog_loose.specs.Quirks.{HasNoQuirk, IsNearlyCanonical, IsOfMonthDate}
 use Rattle.syslog_loose.specs.Message.{MessageValue, message_value}
 use Rattle.syslog_loose.specs.Printed.{printed}
 use Rattle.syslog_loose.specs.Reading.{dash_rule}
@@ -42,7 +42,7 @@ FieldsAsRead protocol.RFC3164 dating text m = (IsSome m.facility → IsNearlyCan
 -- with a facility or without: as RFC 5424, or as RFC 3164 and then with none of the quirks.
 abbrev pub IsFixed : MessageValue → Type 0
 IsFixed m = (IsBounded m × IsCanonical dash_rule m) ⊎ ((text : Text) × IsRead5424 text m)
-    ⊎ ((text : Text) × (dating : Dating) × IsRead3164 dash_rule dating text m × HasNoException dash_rule m)
+    ⊎ ((text : Text) × (dating : Dating) × IsRead3164 dash_rule dating text m × HasNoQuirk dash_rule m)
 
 -- Unless an allocation fails, the printed text of such a message is returned again.
 abbrev pub AnswersAgain : Variant → Text → List ℕ → Result (String Global) ParseFault → Type 0

@@ -13,7 +13,7 @@ mod printing;
 pub(crate) use canonical::{Fields, are_canonical_fields, begins_no_list};
 use printing::write_elements_before;
 pub(crate) use printing::{
-    read_priority, write_elements, write_name, write_process, write_tag, write_timestamp,
+    printed_priority, write_elements, write_name, write_process, write_tag, write_timestamp,
 };
 use std::fmt;
 use syslog_pieces::as_str::AsStr;

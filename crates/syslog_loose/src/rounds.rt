@@ -9,7 +9,7 @@ ghost use Rattle.syslog_loose.specs.Words.{dating_of, Text, ℕ};
 ghost use Rattle.syslog_pieces.specs.Timestamp.Zone.{Dating as AnyDating};
 ghost use Rattle.syslog_loose.specs.Clauses.{KnowsForm, line_value, MessageValue, printed, AnswersAgain};
 ghost use Rattle.syslog_loose.specs.Clauses.{AnswersEachMonth, InYear, IsOnlyRead, IsUnreadable, AnswersPass};
-ghost use Rattle.syslog_loose.specs.Clauses.{IsAtRest, ReachesRank, WritesRound, round_answer, Invalid};
+ghost use Rattle.syslog_loose.specs.Clauses.{IsStable, ReachesRank, WritesRound, round_answer, Invalid};
 
 use crate::fault::ParseFault;
 use crate::jumps::write_round;
@@ -121,7 +121,7 @@ impl<'a> LineVisitor<'a> for String {
 #[inline(always)]
 fn is_known_settled(line: &Line<'_>) -> bool
     requires { KnowsForm line.now }
-    ensures { MatchBool result (IsAtRest (line_value line.now).protocol (line_value line.now)) (line.now.version
+    ensures { MatchBool result (IsStable (line_value line.now).protocol (line_value line.now)) (line.now.version
         ≡ None) }
 {
     line.version.is_some() || (line.is_printed && is_canonical_clock(line.timestamp))

@@ -87,8 +87,8 @@ fed_lines ts lines a (free, inr lacks) =
 -- ---- settled lines
 
 -- the line has no line feed, and gives itself alone
-abbrev IsAtRest : ℤ → List ℕ → Type 0
-IsAtRest year line = NoFeed line × ((answer : Answer) → (tidying year).Answers line answer → answer ≡ Written line)
+abbrev IsStableLine : ℤ → List ℕ → Type 0
+IsStableLine year line = NoFeed line × ((answer : Answer) → (tidying year).Answers line answer → answer ≡ Written line)
 
 module _ (year : ℤ) (line text : List ℕ) (free : NoFeed line) (utf8 : IsUtf8 line)
     (first : IsFirstSettled Either (in_utc year) (chars line) text) where
@@ -104,7 +104,7 @@ module _ (year : ℤ) (line text : List ℕ) (free : NoFeed line) (utf8 : IsUtf8
     none_before = λ k u l. absurd (omega arith);
   }
 
-  at_rest : IsAtRest year (encode_utf8_all text)
+  at_rest : IsStableLine year (encode_utf8_all text)
   at_rest = (
     encoded_line text (round_keeps IsOneLine year (chars line) text (suc first.before)
         (printed_line Either (in_utc year)) first.round
@@ -142,12 +142,12 @@ output_fed year (line ∷ lines) (Unasked ∷ answers) h = absurd h.0
 output_fed year lines answers h = absurd h
 
 all_at_rest : (year : ℤ) (lines : List (List ℕ)) (answers : List Answer) → All NoFeed lines
-    → AreAnswers (tidying year) lines answers → AllByRecursion (IsAtRest year) (lines_of answers)
+    → AreAnswers (tidying year) lines answers → AllByRecursion (IsStableLine year) (lines_of answers)
 all_at_rest year [] [] free h = tt
 all_at_rest year (line ∷ lines) (Omitted ∷ answers) free h =
     all_at_rest year lines answers (All-tail NoFeed line lines free) h.1
 all_at_rest year (line ∷ lines) (Written bytes ∷ answers) free ((utf8, (text, first, same)), h) = (
-  subst (IsAtRest year) (sym same) (at_rest year line text (All-head NoFeed line lines free) utf8 first),
+  subst (IsStableLine year) (sym same) (at_rest year line text (All-head NoFeed line lines free) utf8 first),
   all_at_rest year lines answers (All-tail NoFeed line lines free) h,
 )
 all_at_rest year (line ∷ lines) (Framed bytes ∷ answers) free h = absurd h.0
@@ -156,7 +156,7 @@ all_at_rest year (line ∷ lines) (Unasked ∷ answers) free h = absurd h.0
 all_at_rest year lines answers free h = absurd h
 
 -- each of them gives itself
-answered_again : (year : ℤ) (ts : List (List ℕ)) (answers : List Answer) → AllByRecursion (IsAtRest year) ts
+answered_again : (year : ℤ) (ts : List (List ℕ)) (answers : List Answer) → AllByRecursion (IsStableLine year) ts
     → AreAnswers (tidying year) ts answers → (output_of answers ≡ with_feeds ts) × (count_by is_skipped answers ≡ 0)
 answered_again year [] [] h k = (refl, refl)
 answered_again year (t ∷ ts) (a ∷ answers) h k =
@@ -175,7 +175,8 @@ TidiesAll-again year in_before in_after out_before out_after summary (found, all
     let fed : output ≡ with_feeds ts = is ∙ output_fed year lines answers answered in
     let read : all.all.read ≡ output = rw e at (Consumes-whole in_before in_after all.all.read
     (λ (l : List ℕ). all.all.read ≡ l) all.all.consumed all.all.at_end refl) in
-    let free = All-weaker (IsAtRest year) NoFeed (λ line at. at.0) ts (All-from_recursion (IsAtRest year) ts rests) in
+    let free =
+      All-weaker (IsStableLine year) NoFeed (λ line at. at.0) ts (All-from_recursion (IsStableLine year) ts rests) in
     let same = fed_lines ts all.lines free
     (subst (λ (l : List ℕ). IsLines l all.lines) (sym all.all.framed.1 ∙ read ∙ fed)
     (frames_are_lines all.all.framed.0 all.lines all.all.framed.2)) in

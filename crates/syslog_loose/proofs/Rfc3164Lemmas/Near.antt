@@ -9,7 +9,7 @@ use Rattle.syslog_loose.proofs.Names.{is_open_char, rfc3164_stamp, month_date, I
 use Rattle.syslog_loose.proofs.Names.{Name, DashRule, OffsetTimestamp, division_front, heads, rest_whole, spaced_parts}
 use Rattle.syslog_loose.proofs.Names.{present_front, bare_prints, stamp_text_canonical, IsVisible, IsCanonicalElement}
 use Rattle.syslog_loose.proofs.Names.{HasQuietNames, is_no_colon, HasNoColon, IsOddHost, IsInnerProcess, MessageValue}
-use Rattle.syslog_loose.proofs.Names.{AreNamesButExceptions, HasExceptionsAlone, IsNearlyCanonical, tag_text, Names3164}
+use Rattle.syslog_loose.proofs.Names.{AreNamesButQuirks, HasQuirksAlone, IsNearlyCanonical, tag_text, Names3164}
 use Rattle.syslog_loose.proofs.Names.{Resolves, names, rfc3164_row, IsRead3164, stamped_row, fields_row, NamesProgram}
 use Rattle.syslog_loose.proofs.Names.{fields_before, form_row, IsForm, each_after, each_both, each_left, each_front}
 use Rattle.syslog_loose.proofs.Names.{each_right, begins, row_pieces, IsOfMonthDate}
@@ -107,7 +107,7 @@ no_colon_process id (Name t) (none, e) a = rw e a
 pub record NearNames (origin : Option (Option Text)) (n : Names3164) : Type 0 where
   pub visible : IfSome n.hostname IsVisible
   pub odd_host : IfSome n.hostname (λ h. IsOddHost h → n.appname ≡ None)
-  pub names : AreNamesButExceptions n.hostname n.appname n.procid
+  pub names : AreNamesButQuirks n.hostname n.appname n.procid
   pub colon : IfSome n.procid HasNoColon ⊎ ((h : Text) × (origin ≡ Some (Some h)) × (n.hostname ≡ None))
   pub host_is : IfSome n.hostname (λ h. origin ≡ Some (Some h))
 
@@ -148,7 +148,7 @@ near_names q = of_names (λ v t n. HostField q v → TagField q t → NearNames 
 
 -- ---- the message
 module _ (rule : DashRule) (dating : Dating) (text : Text) where
-  pub read_near : (m : MessageValue) → IsRead3164 rule dating text m → HasExceptionsAlone m
+  pub read_near : (m : MessageValue) → IsRead3164 rule dating text m → HasQuirksAlone m
   read_near m r =
       let v = r.values in
       let (n, resolves, means) = r.means in

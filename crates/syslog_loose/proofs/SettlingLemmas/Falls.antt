@@ -7,18 +7,18 @@ use Rattle.syslog_loose.proofs.Names.{Ends, run, exactly, optional, spaced, is_b
 use Rattle.syslog_loose.proofs.Names.{name_text, tag_word, is_tag_char, ProcId, PID, Name, DashRule, BeforeBlank, names}
 use Rattle.syslog_loose.proofs.Names.{each_both, each_left, each_right, each_front, each_after, each_append, rows_step}
 use Rattle.syslog_loose.proofs.Names.{piece_front, IsBoundedProcess, IsVisible, IsCanonicalHost, AreCanonicalNames, ◌+◌}
-use Rattle.syslog_loose.proofs.Names.{is_no_colon, HasNoColon, is_inner_char, IsOddHost, AreNamesButExceptions, heads}
+use Rattle.syslog_loose.proofs.Names.{is_no_colon, HasNoColon, is_inner_char, IsOddHost, AreNamesButQuirks, heads}
 use Rattle.syslog_loose.proofs.Names.{HasQuietNames, tag_text, Names3164, Resolves, body_row, names_weight, elements_or}
 use Rattle.syslog_loose.proofs.Names.{is_open_char, run_same, division_front, optional_some, optional_none, form_row}
 use Rattle.syslog_loose.proofs.Names.{spaced_front, no_spaced_space, no_spaced_piece, IsNoForm, ◌*◌, List, ElementValue}
 use Rattle.syslog_loose.proofs.Names.{option_map_or, rfc3164_stamp, IsCanonicalStamp, Dating, OffsetTimestamp, step}
-use Rattle.syslog_loose.proofs.Names.{step_value, IsCanonicalElement, HasExceptionsAlone, MessageValue, timestamp_text}
+use Rattle.syslog_loose.proofs.Names.{step_value, IsCanonicalElement, HasQuirksAlone, MessageValue, timestamp_text}
 use Rattle.syslog_loose.proofs.Names.{priority_of, printed, rfc3164_row, IsRead3164, Weighs, tail_text, AllByRecursion}
 use Rattle.syslog_loose.proofs.Names.{facility_number, severity_number, facility_of, severity_of, rest_same, row_head}
 use Rattle.syslog_loose.proofs.Names.{front_same, row_det, Begins, begins_apart, begins_more, begins_with, IsLow, zero}
 use Rattle.syslog_loose.proofs.Names.{priority_composed, rfc3164_stamp_det, stamped_date_begins, stamp_text_canonical}
 use Rattle.syslog_loose.proofs.Names.{printed_stamp-visible, printed_stamp-begins, suc, nil_from_length, BeginsNoList}
-use Rattle.syslog_loose.proofs.Names.{IsDashBefore, IsDashed, HasNoNameException, dash_rule, no_full_nil, EndsOnce}
+use Rattle.syslog_loose.proofs.Names.{IsDashBefore, IsDashed, HasNoNameQuirk, dash_rule, no_full_nil, EndsOnce}
 use Rattle.syslog_loose.proofs.Names.{HasRank, Prints, drop, list_any, BeginsNoDashes}
 use Rattle.std.proofs.lemmas.List.{take-append-drop}
 use Rattle.std.proofs.lemmas.List.Prefix.{end_rest}
@@ -190,7 +190,7 @@ module _ (rule : DashRule) (t : Text) (n : Names3164) (vs : Values (body_row rul
       }
 
   cut_moved : (h a : Option Text) (p : Option (ProcId Text)) → Cut p → rule ≡ BeforeBlank → h ≡ None
-      → AreNamesButExceptions h a p → Reads (names_text h a p t) → Moved h p
+      → AreNamesButQuirks h a p → Reads (names_text h a p t) → Moved h p
   cut_moved (Some h) a p c blank e near d = cc
   cut_moved None None p (x, z, is, free) blank e near d = absurd (rw is at near)
   cut_moved None (Some a) p (x, z, is, free) blank e near d =
@@ -254,7 +254,7 @@ module _ (rule : DashRule) (t : Text) (n : Names3164) (vs : Values (body_row rul
   ]
 
   pub names_step : (h a : Option Text) (p : Option (ProcId Text)) → IfSome h IsVisible
-      → IfSome h (λ x. IsOddHost x → a ≡ None) → AreNamesButExceptions h a p → IfSome p HasNoColon ⊎ (h ≡ None)
+      → IfSome h (λ x. IsOddHost x → a ≡ None) → AreNamesButQuirks h a p → IfSome p HasNoColon ⊎ (h ≡ None)
       → (rule ≡ BeforeBlank) ⊎ IfSome p HasNoColon → IfSome p IsBoundedProcess → Reads (names_text h a p t) → Step h a p
   names_step h a p k o near cut dashes b d = elim (whole_or_cut p) [
     | inl c ↦ whole_step h a p k o (canonical_names h a p near c) c b d
@@ -368,7 +368,7 @@ no_end t e = (
 
 module _ (rule : DashRule) (first second : Dating) (text : Text) (m n : MessageValue) (r : IsRead3164 rule first text m)
     (s : IsRead3164 rule second (printed m) n) (dashes : (rule ≡ BeforeBlank) ⊎ IfSome m.procid HasNoColon) where
-  near : HasExceptionsAlone m
+  near : HasQuirksAlone m
   near = read_near rule first text m r
 
   abbrev Tail : Text → Type 0
@@ -480,7 +480,7 @@ module _ (rule : DashRule) (first second : Dating) (text : Text) (m n : MessageV
   canonical : IfSome n.timestamp IsCanonicalStamp
   canonical = rw s.means.2 (other m.timestamp stamped.1).0
 
-  quiet_so : HasQuietNames s.means.0.hostname s.means.0.procid → HasNoNameException n
+  quiet_so : HasQuietNames s.means.0.hostname s.means.0.procid → HasNoNameQuirk n
   quiet_so q = rw s.means.2 (record { timestamp = (other m.timestamp stamped.1).0; names = q })
 
   host_falls : IfSome m.timestamp IsCanonicalStamp → IfSome m.hostname EndsOnce
@@ -491,14 +491,14 @@ module _ (rule : DashRule) (first second : Dating) (text : Text) (m n : MessageV
     | inr (_, _, inr (x, is, host)) ↦ rw s.means.2 (host_is s.means.0.hostname x host ((rw is at once) x refl))
   ]
 
-  quiet_falls : IfSome m.timestamp IsCanonicalStamp → IfSome m.hostname (λ h. EndsInColon h → ⊥) → HasNoNameException n
+  quiet_falls : IfSome m.timestamp IsCanonicalStamp → IfSome m.hostname (λ h. EndsInColon h → ⊥) → HasNoNameQuirk n
   quiet_falls k none = elim (named k) [
     | inl stays ↦ quiet_so stays.quiet
     | inr (_, _, inl (_, quiet)) ↦ quiet_so quiet
     | inr (_, _, inr (x, is, host)) ↦ absurd ((rw is at none) (x, refl))
   ]
 
-  quiet_ended : HasNoNameException m → Ended rule m.structured_data m.msg s.values.1.1.1.1.1.1.1
+  quiet_ended : HasNoNameQuirk m → Ended rule m.structured_data m.msg s.values.1.1.1.1.1.1.1
   quiet_ended q = elim (named q.timestamp) [
     | inl stays ↦ ended stays
     | inr (_, _, inl (cut, _)) ↦ absurd (cut q.names.no_colon)
@@ -531,10 +531,10 @@ module _ (first second : Dating) (text : Text) (m n : MessageValue) (r : IsRead3
         ]
   ])
 
-  abbrev quiet : IfSome m.timestamp IsCanonicalStamp → IfSome m.hostname (λ h. EndsInColon h → ⊥) → HasNoNameException n
+  abbrev quiet : IfSome m.timestamp IsCanonicalStamp → IfSome m.hostname (λ h. EndsInColon h → ⊥) → HasNoNameQuirk n
   quiet = quiet_falls BeforeBlank first second text m n r s (inl refl)
 
-  abbrev end : HasNoNameException m → EndedSo
+  abbrev end : HasNoNameQuirk m → EndedSo
   end = quiet_ended BeforeBlank first second text m n r s (inl refl)
 
   -- the rank of what a pass prints of a message falls

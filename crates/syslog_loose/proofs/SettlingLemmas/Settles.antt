@@ -6,12 +6,13 @@ use Rattle.syslog_loose.proofs.Names.{Reaches, IsFirstSettled, Variant, ◌≤�
 use Rattle.syslog_loose.proofs.Names.{Some, append_assoc, is_not_whitespace, Front, is_blank, trimmed, MessageValue, Ok}
 use Rattle.syslog_loose.proofs.Names.{priority_of, dash_rule, IsRead, ShowsMonthDate, month_date, optional_some, Either}
 use Rattle.syslog_loose.proofs.Names.{ReadsProtocol, Protocol, RFC5424, ◌↔◌, Bool, false, List, chars_from_encodes, Err}
-use Rattle.syslog_loose.proofs.Names.{chars, IsUtf8, encode_utf8_all, IsCanonical, HasNoException, IsRead3164, Weighs}
-use Rattle.syslog_loose.proofs.Names.{ParseFault, Invalid, Memory, IsFixed, HasRank, IsLater, IsToldRound, Result, IfOk}
+use Rattle.syslog_loose.proofs.Names.{chars, IsUtf8, encode_utf8_all, IsCanonical, HasNoQuirk, IsRead3164, Weighs}
+use Rattle.syslog_loose.proofs.Names.{ParseFault, Invalid, Memory, IsFixed, HasRank, IsLater, IsReportedRound, Result}
+use Rattle.syslog_loose.proofs.Names.{IfOk}
 use Rattle.syslog_loose.proofs.Names.{string_bytes, Global, String, ElementValue, line_value, BeginsWithout, Made, Row}
 use Rattle.syslog_loose.proofs.Names.{IsAfterPriority, row_of, ◌then◌, piece_front, rest, run, IfSome, length-append}
 use Rattle.syslog_loose.proofs.Names.{Values, rfc3164_list, colon, EndsInColon, rfc3164_stamp, IsCanonicalStamp, colons}
-use Rattle.syslog_loose.proofs.Names.{BeforeBlank, each_front, IsBoundedProcess, HasExceptionsAlone, HasNoNameException}
+use Rattle.syslog_loose.proofs.Names.{BeforeBlank, each_front, IsBoundedProcess, HasQuirksAlone, HasNoNameQuirk}
 use Rattle.syslog_loose.proofs.Names.{colons_before, past_colons, EndsColons, IsDashed, PassesDashes, with_msg, names}
 use Rattle.syslog_loose.proofs.Names.{tail_text, Names3164, Resolves, rfc3164_row, body_row, facility_of, severity_of}
 use Rattle.syslog_loose.proofs.Names.{row_cons, rows_join, rest_front, front_division, dash_rfc3164_list, EndsOnce, ◌-◌}
@@ -29,7 +30,7 @@ use Rattle.syslog_loose.proofs.Rfc3164Lemmas.ReadBack.{body_back, names_back, pr
 use Rattle.syslog_loose.proofs.Rfc3164Lemmas.ReadBack.{to_stamp_back, trimmed_whole}
 use Rattle.syslog_loose.proofs.Rfc3164Lemmas.Near.{read_near}
 use Rattle.syslog_loose.specs.Settling.{SettlesAs, IsSettlingFault, Settles}
-use Rattle.syslog_loose.specs.Passes.{IsAtRest, AnswersPass, PassesLead, WritesRound, round_answer}
+use Rattle.syslog_loose.specs.Passes.{IsStable, AnswersPass, PassesLead, WritesRound, round_answer}
 use Rattle.syslog_loose.proofs.ReadBackLemmas.{read_as, read_bounded, printed_exact, fixed_again, read_shows_none}
 use Rattle.syslog_loose.proofs.CanonicalLemmas.{canonical_near, canonical_host, canonical_names, colon_end}
 use Rattle.syslog_loose.proofs.SettlingLemmas.Falls.{falls, same_text, rank_falls, after_space, priority_again}
@@ -120,7 +121,7 @@ read_protocol Either dating text m r = tt
 
 -- ---- by which protocol a text was read
 -- a message without exceptions is at rest
-pub rests_so : (p : Protocol) (m : MessageValue) → HasNoException dash_rule m → IsAtRest p m
+pub rests_so : (p : Protocol) (m : MessageValue) → HasNoQuirk dash_rule m → IsStable p m
 rests_so protocol.RFC3164 m h = h
 rests_so (protocol.RFC5424 version) m h = tt
 
@@ -150,7 +151,7 @@ module _ (variant : Variant) (dating : Dating) where
 
   -- so a text is not settled whose message of RFC 3164 has an exception
   pub odd_unsettled : (text : Text) (m : MessageValue) → IsRead variant dating text m → m.protocol ≡ protocol.RFC3164
-      → (HasNoException dash_rule m → ⊥) → IsSettled variant dating text → ⊥
+      → (HasNoQuirk dash_rule m → ⊥) → IsSettled variant dating text → ⊥
   odd_unsettled text m r e odd s = odd (canonical_near dash_rule m e (settled_canonical text m s r)).1
 
   -- ---- weights fall
@@ -234,8 +235,8 @@ module _ (variant : Variant) (dating : Dating) where
   -- ---- what is known of a round
   module _ (text : Text) (m : MessageValue) (r : IsRead variant dating text m) where
     -- where the message is at rest, its print is the next round, which is settled
-    pub told_settled : (bytes : List ℕ) → IsUtf8 bytes → bytes ≡ encode_utf8_all (printed m) → IsAtRest m.protocol m
-        → IsToldRound variant dating text (chars bytes) true
+    pub told_settled : (bytes : List ℕ) → IsUtf8 bytes → bytes ≡ encode_utf8_all (printed m) → IsStable m.protocol m
+        → IsReportedRound variant dating text (chars bytes) true
     told_settled bytes u w rest =
         let next : IsNext variant dating text (chars bytes) =
         record { message = m; read = r; is_printed = sym (chars_from_encodes (printed m) bytes u (sym w)) } in (
@@ -246,15 +247,15 @@ module _ (variant : Variant) (dating : Dating) where
               text,
               dating,
               s,
-              subst (λ (p : Protocol). IsAtRest p m)
+              subst (λ (p : Protocol). IsStable p m)
                   (read_near dash_rule dating text m s).protocol rest,
             )
           ]))),
         )
 
     -- where it has a quirk, a later one may take its place, and what is read of that has a lower rank
-    pub told_later : (later : Text) → m.protocol ≡ protocol.RFC3164 → (HasNoException dash_rule m → ⊥)
-        → IsLater variant dating text m later → IsToldRound variant dating text later false
+    pub told_later : (later : Text) → m.protocol ≡ protocol.RFC3164 → (HasNoQuirk dash_rule m → ⊥)
+        → IsLater variant dating text m later → IsReportedRound variant dating text later false
     told_later later e odd l = record {
       never = odd_unsettled text m r e odd;
       before = l.before;
@@ -306,18 +307,18 @@ module _ (variant : Variant) (dating : Dating) where
       h.is_printed (shows month_date f gap (record { piece = p; whole = whole; is = is })))
 
   -- the last pass, and one before others
-  pub last_pass : (n : ℕ) (text u : Text) → IsToldRound variant dating text u true
+  pub last_pass : (n : ℕ) (text u : Text) → IsReportedRound variant dating text u true
       → PassesLead variant dating (suc n) text u
   unfolding PassesLead
   last_pass n text u told = inl told
 
-  pub pass_before : (n : ℕ) (text later u : Text) → IsToldRound variant dating text later false
+  pub pass_before : (n : ℕ) (text later u : Text) → IsReportedRound variant dating text later false
       → PassesLead variant dating n later u → PassesLead variant dating (suc n) text u
   unfolding PassesLead
   pass_before n text later u told more = inr (later, told, more)
 
   pub passes_on : (n : ℕ) (text later : Text) (result : Result (String Global) ParseFault)
-      → IsToldRound variant dating text later false
+      → IsReportedRound variant dating text later false
       → IfOk result (λ u. PassesLead variant dating n later (chars (string_bytes u)))
       → IfOk result (λ u. PassesLead variant dating (suc n) text (chars (string_bytes u)))
   passes_on n text later (Ok u) told more = pass_before n text later (chars (string_bytes u)) told more
@@ -383,7 +384,7 @@ passes_dashed zero t u (before, is, d, next, f) = (u, rw is at d)
 passes_dashed (suc n) t u (before, p, d, next, f) = passes_dashed n t before p
 
 module _ (dating : Dating) (text : Text) (m : MessageValue) (r : IsRead3164 BeforeBlank dating text m) where
-  near : HasExceptionsAlone m
+  near : HasQuirksAlone m
   near = read_near BeforeBlank dating text m r
 
   abbrev tail : Text
@@ -418,7 +419,7 @@ module _ (dating : Dating) (text : Text) (m : MessageValue) (r : IsRead3164 Befo
       (inr (rw o (no_form_open front 58 [] (refl, tt)), refl))
 
   -- a message part of dashes loses one, which is taken for an empty list
-  dash_read : (rest : Text) → HasNoNameException m → m.structured_data ≡ [] → IsDashed m.msg rest
+  dash_read : (rest : Text) → HasNoNameQuirk m → m.structured_data ≡ [] → IsDashed m.msg rest
       → IsRead3164 BeforeBlank dating (printed_3164 m) (read_with m (names_of m) rest)
   unfolding message_end
   dash_read rest none es d =
@@ -459,7 +460,7 @@ module _ (variant : Variant) (dating : Dating) (input : Text) (m : MessageValue)
 
   -- the next round, which has an exception itself
   next_known : (n : ℕ) (y z : MessageValue) → Known n y → IsRead3164 BeforeBlank dating (printed_3164 y) z
-      → (HasNoException dash_rule z → ⊥) → Known (suc n) z
+      → (HasNoQuirk dash_rule z → ⊥) → Known (suc n) z
   next_known n y z (text, before, reaches) again odd =
       let same = printed_3164_is y (read_near BeforeBlank dating text y before).protocol in
       let read : IsRead variant dating (printed y) z = rw same
@@ -517,12 +518,12 @@ module _ (variant : Variant) (dating : Dating) (input : Text) (m : MessageValue)
         })
 
   -- ---- rounds in which a message part loses its dashes
-  next_dash : (n : ℕ) (y : MessageValue) (u next : Text) → Known n y → HasNoNameException y → y.structured_data ≡ []
+  next_dash : (n : ℕ) (y : MessageValue) (u next : Text) → Known n y → HasNoNameQuirk y → y.structured_data ≡ []
       → IsDashed y.msg u → IsDashed u next → Known (suc n) (read_with y (names_of y) u)
   next_dash n y u next k none es d f = next_known n y _ k (dash_read dating k.0 y k.1 u none es d)
       (λ none. (none.no_list refl).0 (f.blanks ++ next) f.whole (dash_before f.blanks next f.some f.each))
 
-  module _ (none : HasNoNameException m) (es : m.structured_data ≡ []) where
+  module _ (none : HasNoNameQuirk m) (es : m.structured_data ≡ []) where
     more_dashes : (n : ℕ) (before u next : Text) → Known (suc n) (read_with m (names_of m) before) → IsDashed before u
         → IsDashed u next → Known (suc (suc n)) (read_with m (names_of m) u)
     more_dashes n before u next k d f =
@@ -536,8 +537,8 @@ module _ (variant : Variant) (dating : Dating) (input : Text) (m : MessageValue)
 
   -- the last of these dashes is the last that has blanks after it; where none is passed, no more need be known
   pub dashes_later : (n : ℕ) (u : Text) → PassesDashes n m.msg u
-      → (0 < n → HasNoNameException m × (m.structured_data ≡ []))
-      → (HasNoNameException m → m.structured_data ≡ [] → (p q : Text) → IsDashed u p → IsDashed p q → ⊥)
+      → (0 < n → HasNoNameQuirk m × (m.structured_data ≡ []))
+      → (HasNoNameQuirk m → m.structured_data ≡ [] → (p q : Text) → IsDashed u p → IsDashed p q → ⊥)
       → (IfSome m.timestamp IsCanonicalStamp → IfSome m.hostname EndsOnce)
       → IsLater variant dating input m (printed (with_msg m u))
   dashes_later zero u is some last once =

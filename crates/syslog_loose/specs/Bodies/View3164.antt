@@ -3,7 +3,7 @@ use Rattle.std.specs.Option.{option_flatten}
 use Rattle.std.specs.Prelude.{◌≡◌, ◌↔◌, ◌∷◌, ◌++◌}
 use Rattle.syslog_loose.specs.Words.{IsSome, IsTrue, Option, option_map, named_process, Text, Ends, seen, shown}
 use Rattle.syslog_loose.specs.Words.{is_blank, Some, None}
-use Rattle.syslog_loose.specs.Exceptions.{HasQuietNames}
+use Rattle.syslog_loose.specs.Quirks.{HasQuietNames}
 use Rattle.syslog_loose.specs.Printed.{name_text, tag_text}
 use Rattle.syslog_loose.specs.Rfc3164.{HasProcess, Names3164, names, NamesByForm}
 use Rattle.syslog_loose.specs.declared.rfc3164.Fields.{Fields}

@@ -2,7 +2,7 @@
 ghost use Rattle.std.specs.Prelude.{◌≡◌, ◌↔◌, ◌⊎◌};
 ghost use Rattle.syslog_loose.specs.Words.{ℕ, IfSome, IsSome, Text, IsCanonicalStamp, Dating, DashRule};
 ghost use Rattle.syslog_loose.specs.declared.message.Protocol.TheVariants.{RFC3164};
-ghost use Rattle.syslog_loose.specs.Clauses.{IsBounded, IsCanonical, HasNoException, HasExceptionsAlone};
+ghost use Rattle.syslog_loose.specs.Clauses.{IsBounded, IsCanonical, HasNoQuirk, HasQuirksAlone};
 ghost use Rattle.syslog_loose.specs.Clauses.{IsNearlyCanonical, IsOfMonthDate, MessageValue, IsOneLine, printed};
 ghost use Rattle.syslog_loose.specs.Clauses.{ReadsProtocol, dash_rule, IsRead, IsOnlyRead, IsRead3164, IsRead5424};
 ghost use Rattle.syslog_loose.specs.Clauses.{RFC5424, Variant};
@@ -37,9 +37,9 @@ pub fn rfc3164_is_read_back_exactly()
 /// A message that was read as RFC 3164 meets all of the written condition but for its quirks, facility and severity;
 /// these two meet it if it has a facility. A timestamp that isn't canonical is that of a month date that the text
 /// shows.
-pub fn read_rfc3164_has_exceptions_alone()
+pub fn read_rfc3164_has_quirks_alone()
     ensures near { (rule : DashRule) (dating : Dating) (text : Text) (m : MessageValue) → IsRead3164 rule dating text m
-        → HasExceptionsAlone m }
+        → HasQuirksAlone m }
     ensures nearly { (rule : DashRule) (dating : Dating) (text : Text) (m : MessageValue)
         → IsRead3164 rule dating text m → IsSome m.facility → IsNearlyCanonical m }
     ensures timestamp { (rule : DashRule) (dating : Dating) (text : Text) (m : MessageValue)
@@ -49,9 +49,9 @@ pub fn read_rfc3164_has_exceptions_alone()
 /// A message of RFC 3164 that meets the rest of the written condition meets all of it exactly if it has none of the
 /// quirks.
 #[tactic(auto, using(crate::proofs::CanonicalLemmas::nearly))]
-pub fn canonical_rfc3164_has_no_exception()
+pub fn canonical_rfc3164_has_no_quirk()
     ensures { (rule : DashRule) (m : MessageValue) → m.protocol ≡ RFC3164
-        → IsCanonical rule m ↔ (IsNearlyCanonical m × HasNoException rule m) }
+        → IsCanonical rule m ↔ (IsNearlyCanonical m × HasNoQuirk rule m) }
 {}
 
 /// The printed text of a message, read under `Either` or the message's own variant, is read as the message itself

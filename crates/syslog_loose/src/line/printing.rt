@@ -9,7 +9,7 @@ ghost use Rattle.syslog_loose.specs.Clauses.{printed_number, line_value, KnowsFo
 ghost use Rattle.syslog_loose.specs.Clauses.{rest_5424, rest_text, spaced_elements};
 
 use super::Line;
-use crate::message::{read_priority, write_name, write_program, write_spaced, write_tag};
+use crate::message::{printed_priority, write_name, write_program, write_spaced, write_tag};
 use std::alloc::AllocError;
 use std::fmt;
 use std::fmt::{Display, Write};
@@ -48,7 +48,7 @@ impl Line<'_> {
 fn front_of(line: &Line<'_>) -> Ascii
     ensures { ascii_bytes result ≡ front_text (printed_number line.now.priority) line.now.version line.now.timestamp }
 {
-    Ascii::front(read_priority(line.priority), line.version, line.timestamp)
+    Ascii::front(printed_priority(line.priority), line.version, line.timestamp)
 }
 
 // Writes all after the timestamp, field by field.

@@ -3,7 +3,7 @@
 ghost use Rattle.std.specs.Prelude.{◌≡◌, ◌≢◌, ◌↔◌};
 ghost use Rattle.syslog_loose.specs.Words.{IfSome, IsTrue, MatchBool, option_map, seen, shown};
 ghost use Rattle.syslog_loose.specs.Words.{procid_value, EndsInColon, dash};
-ghost use Rattle.syslog_loose.specs.Exceptions as spec;
+ghost use Rattle.syslog_loose.specs.Quirks as spec;
 ghost use Rattle.syslog_loose.specs.Clauses.{line_value, dash_rule};
 
 use super::Line;
@@ -14,14 +14,14 @@ use syslog_pieces::timestamp::canonical::is_canonical_clock;
 
 /// Whether the line has no quirk.
 pub(crate) fn has_no_quirk(line: &Line<'_>) -> bool
-    ensures { IsTrue result ↔ spec.HasNoException dash_rule (line_value line.now) }
+    ensures { IsTrue result ↔ spec.HasNoQuirk dash_rule (line_value line.now) }
 {
     has_quiet_names(line) && begins_no_list(line.list.is_empty(), line.msg)
 }
 
 /// Whether the line has no quirk before its message part.
 pub(crate) fn has_quiet_names(line: &Line<'_>) -> bool
-    ensures { IsTrue result ↔ spec.HasNoNameException (line_value line.now) }
+    ensures { IsTrue result ↔ spec.HasNoNameQuirk (line_value line.now) }
 {
     is_canonical_clock(line.timestamp)
         && has_no_odd_host(line.hostname)

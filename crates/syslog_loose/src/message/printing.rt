@@ -16,7 +16,7 @@ use syslog_pieces::timestamp::OffsetTimestamp;
 
 /// Returns the priority that is printed for the priority of a line, which may be absent or above 191.
 #[inline(always)]
-pub(crate) fn read_priority(number: Option<u8>) -> u32
+pub(crate) fn printed_priority(number: Option<u8>) -> u32
     ensures { result ≡ printed_number number }
 {
     let (facility, severity) = parts(number);

@@ -273,8 +273,8 @@ module _ (test : ℕ → Bool) (bs xs ys : List ℕ) (s : SplitsRun test bs xs y
 -- ---- readers that take the whole of a text
 
 -- what the test whether such a reader took the whole text returns
-abbrev pub Tells : (Text → Text → Option Text → Type 0) → (Text → Type 0) → Type 0
-Tells Is P = (t : Text) (read : Option (Option (Bor (List ℕ)) × Bor (List ℕ))) (b : Bool)
+abbrev pub SaysIf : (Text → Text → Option Text → Type 0) → (Text → Type 0) → Type 0
+SaysIf Is P = (t : Text) (read : Option (Option (Bor (List ℕ)) × Bor (List ℕ))) (b : Bool)
     → Reads (record { Value = Option Text; Is = Is }) seen t read
     → IsTrue b ↔ IsSomeAnd read (λ x. IsSomeAnd x.0 (λ _. shown x.1 ≡ [])) → IsTrue b ↔ P t
 
@@ -287,7 +287,7 @@ module _ (Is : Text → Text → Option Text → Type 0) (d : IsDeterministic (r
   whole_front : (t : Text) → P t → Front C t [] (Some t)
   whole_front t h = record { piece = t; whole = sym (append-nil t); is = from t h }
 
-  whole_told : Tells Is P
+  whole_told : SaysIf Is P
   whole_told t None b n k = ((λ h. absurd (k.0 h)), (λ h. absurd (no_front_no C n (whole_front t h))))
   whole_told t (Some (None, q)) b f k =
       ((λ h. absurd (k.0 h)), (λ h. absurd (let e = (front_same C d f (whole_front t h)).1 in cc)))
@@ -299,14 +299,14 @@ host_whole : (p v : Text) → IsHost p [] (Some v) → IsCanonicalHost p
 host_whole p v (long, visible, inl (no_end, e, (same, no_dash))) = ((long, visible), no_dash, no_end)
 host_whole p v (long, visible, inr (r, z, e, same)) = cc
 
-pub host_told : Tells IsHost IsCanonicalHost
+pub host_told : SaysIf IsHost IsCanonicalHost
 host_told = whole_told IsHost host_det IsCanonicalHost host_whole (λ t h. host_back (Some t) [] h tt)
 
-pub word_told : Tells word.Is IsCanonicalWord
+pub word_told : SaysIf word.Is IsCanonicalWord
 word_told = whole_told word.Is word_det IsCanonicalWord (λ p v h. ((h.0, h.1), h.4.1, h.3))
     (λ t h. word_back (Some t) [] h tt)
 
-pub tag_told : Tells tag_word.Is IsCanonicalTag
+pub tag_told : SaysIf tag_word.Is IsCanonicalTag
 tag_told = whole_told tag_word.Is tag_word_det IsCanonicalTag (λ p v h. (h.0, h.1, h.3.1))
     (λ t h. (h.0, h.1, tt, (refl, h.2)))
 

@@ -1,7 +1,7 @@
 use Rattle.std.proofs.Common.{inl, refl}
 use Rattle.syslog_pieces.proofs.PieceLemmas.Class.{◌past◌, ◌then◌, mapped_front, match_map, no_mapped, row_of}
 use Rattle.syslog_dialects.proofs.NamedLemmas.{first_front, hosted_none, passed_on_det, second_front}
-use Rattle.syslog_dialects.specs.{Named.NamedTexts, Named.behind_row, Named.hosted, Programs.passed_on}
+use Rattle.syslog_dialects.specs.{Named.NamedTexts, Named.after_row, Named.hosted, Programs.passed_on}
 use Rattle.syslog_dialects.specs.{Programs.relayed_of}
 use Rattle.syslog_dialects.proofs.programs.forwarded.Goals as goal
 
@@ -21,5 +21,5 @@ returns c = match_map c.passed_on-2.result
     (λ n. no_mapped (hosted passed_on) NamedTexts relayed_of (hosted_none passed_on passed_on_det c.in_default.ensures
     (c.in_ok-rest.ensures past c.in_ok-rest-2.ensures past inl n)))
     (λ x f. mapped_front (hosted passed_on) NamedTexts relayed_of (second_front c.in_default.ensures
-    (row_of (behind_row passed_on) (c.in_ok-rest.ensures then c.in_ok-rest-2.ensures then f then refl))))
+    (row_of (after_row passed_on) (c.in_ok-rest.ensures then c.in_ok-rest-2.ensures then f then refl))))
     c.passed_on-2.ensures

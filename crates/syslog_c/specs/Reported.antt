@@ -22,14 +22,14 @@ use Rattle.syslog_c.specs.declared.outcome.Outcome.TheVariants.{Done, NoReading,
 use Rattle.syslog_c.specs.declared.rules.Rules.{Rules}
 
 -- the whole message is reported; or one of the arrays is too small, and the fields are
-abbrev pub IsTold : Option Dialect → MessageValue → Fields → List Element → List Element → List Param → List Param
+abbrev pub IsReported : Option Dialect → MessageValue → Fields → List Element → List Element → List Param → List Param
     → Outcome → Type 0
-IsTold dialect m fields old_elements elements old_params params Done = AreFields fields dialect m
+IsReported dialect m fields old_elements elements old_params params Done = AreFields fields dialect m
     × IsBegun IsElement m.structured_data old_elements elements
     × IsBegun IsParam (all_params m.structured_data) old_params params
-IsTold dialect m fields old_elements elements old_params params NoRoom = AreFields fields dialect m
+IsReported dialect m fields old_elements elements old_params params NoRoom = AreFields fields dialect m
     × ((length elements < length m.structured_data) ⊎ (length params < length (all_params m.structured_data)))
-IsTold dialect m fields old_elements elements old_params params outcome = ⊥
+IsReported dialect m fields old_elements elements old_params params outcome = ⊥
 
 -- the one message as which the text is read, in one dialect or none, is reported; or there is none, and all is as it
 -- was
@@ -38,7 +38,7 @@ abbrev pub ReadsInto : Rules → Dating → Text → Fields → Fields → List 
 ReadsInto rules dating text old_fields fields old_elements elements old_params params outcome =
     ((dialect : Option Dialect) × (m : MessageValue) × IsOnlyMeant rules dating text dialect m
     × IsShownIn rules dating text dialect m fields.timestamp × HasUnparsed rules text dialect fields
-    × IsTold dialect m fields old_elements elements old_params params outcome)
+    × IsReported dialect m fields old_elements elements old_params params outcome)
     ⊎ (RefusesSent rules dating text outcome × (fields ≡ old_fields) × (elements ≡ old_elements)
     × (params ≡ old_params))
 
@@ -61,19 +61,19 @@ MeansOnly rules dating text old new NoReading =
 MeansOnly rules dating text old new outcome = ⊥
 
 -- its fields alone are reported; or there is none, and all is as it was
-abbrev pub TellsFields : Rules → Dating → Text → Fields → Fields → Outcome → Type 0
-TellsFields rules dating text old_fields fields outcome =
+abbrev pub ReportsFields : Rules → Dating → Text → Fields → Fields → Outcome → Type 0
+ReportsFields rules dating text old_fields fields outcome =
     ((dialect : Option Dialect) × (m : MessageValue) × IsOnlyMeant rules dating text dialect m × (outcome ≡ Done)
     × AreFields fields dialect m × IsShownIn rules dating text dialect m fields.timestamp
     × HasUnparsed rules text dialect fields)
     ⊎ (RefusesSent rules dating text outcome × (fields ≡ old_fields))
 
 -- 1 of a canonical message, 0 of another
-abbrev pub TellsCanonical : MessageValue → ℕ → Type 0
-TellsCanonical m told = ((told ≡ 1) × IsCanonical dash_rule m) ⊎ ((told ≡ 0) × (IsCanonical dash_rule m → ⊥))
+abbrev pub ReportsCanonical : MessageValue → ℕ → Type 0
+ReportsCanonical m told = ((told ≡ 1) × IsCanonical dash_rule m) ⊎ ((told ≡ 0) × (IsCanonical dash_rule m → ⊥))
 
 -- of the one message as which the text is read; or there is none, and 0 is reported
-abbrev pub TellsOwnCanonical : Variant → Dating → Text → ℕ → Outcome → Type 0
-TellsOwnCanonical variant dating text told outcome =
-    ((m : MessageValue) × IsOnlyRead variant dating text m × (outcome ≡ Done) × TellsCanonical m told)
+abbrev pub ReportsOwnCanonical : Variant → Dating → Text → ℕ → Outcome → Type 0
+ReportsOwnCanonical variant dating text told outcome =
+    ((m : MessageValue) × IsOnlyRead variant dating text m × (outcome ≡ Done) × ReportsCanonical m told)
     ⊎ (Refuses variant dating text outcome × (told ≡ 0))

@@ -11,7 +11,7 @@ use Rattle.syslog_loose.specs.Canonical.{IsVisible, IsNoI32Text, IsCanonicalElem
 use Rattle.syslog_loose.specs.Message.{MessageValue}
 use Rattle.syslog_loose.specs.TagForm.{IsNoForm}
 
--- ---- the exceptions
+-- ---- the quirks
 
 abbrev pub is_no_colon : ℕ → Bool
 is_no_colon c = not (nat_eq c 58)
@@ -34,13 +34,13 @@ pub record HasQuietNames (host : Option Text) (process : Option (ProcId Text)) :
 -- 3. a host that ends in a colon, which is taken for the one after the names
 -- 4. a process name with a colon, at which the name before it is cut
 -- 5. no element, and a message part that begins with a list
-pub record HasNoException (rule : DashRule) (m : MessageValue) : Type 0 where
+pub record HasNoQuirk (rule : DashRule) (m : MessageValue) : Type 0 where
   pub timestamp : IfSome m.timestamp IsCanonicalStamp
   pub names : HasQuietNames m.hostname m.procid
   pub no_list : m.structured_data ≡ [] → BeginsNoList rule m.msg
 
 -- it has none of the quirks before its message part
-pub record HasNoNameException (m : MessageValue) : Type 0 where
+pub record HasNoNameQuirk (m : MessageValue) : Type 0 where
   pub timestamp : IfSome m.timestamp IsCanonicalStamp
   pub names : HasQuietNames m.hostname m.procid
 
@@ -60,19 +60,19 @@ IsInnerProcess (PID n) = ⊤
 IsInnerProcess (Name t) = (0 < length t) × Each is_inner_char t × IsNoI32Text t
 
 -- the condition on the names, except that a process name may have colons
-abbrev pub AreNamesButExceptions : Option Text → Option Text → Option (ProcId Text) → Type 0
-AreNamesButExceptions host None None = IfSome host IsNoForm
-AreNamesButExceptions host None (Some process) = ⊥
-AreNamesButExceptions host (Some app) None = (0 < length app) × Each is_tag_char app × (app ≢ dash) × IsNoForm app
-AreNamesButExceptions host (Some app) (Some process) = Each is_label_char app × IsInnerProcess process
+abbrev pub AreNamesButQuirks : Option Text → Option Text → Option (ProcId Text) → Type 0
+AreNamesButQuirks host None None = IfSome host IsNoForm
+AreNamesButQuirks host None (Some process) = ⊥
+AreNamesButQuirks host (Some app) None = (0 < length app) × Each is_tag_char app × (app ≢ dash) × IsNoForm app
+AreNamesButQuirks host (Some app) (Some process) = Each is_label_char app × IsInnerProcess process
 
 -- The message meets the condition for RFC 3164, except for its facility and severity and for the quirks. A host that is
 -- `-` or ends in a colon comes with no app name, and a process name with a colon comes with no host.
-pub record HasExceptionsAlone (m : MessageValue) : Type 0 where
+pub record HasQuirksAlone (m : MessageValue) : Type 0 where
   pub protocol : m.protocol ≡ RFC3164
   pub hostname : IfSome m.hostname IsVisible
   pub odd_host : IfSome m.hostname (λ h. IsOddHost h → m.appname ≡ None)
-  pub names : AreNamesButExceptions m.hostname m.appname m.procid
+  pub names : AreNamesButQuirks m.hostname m.appname m.procid
   pub colon_process : IfSome m.procid HasNoColon ⊎ (m.hostname ≡ None)
   pub msgid : m.msgid ≡ None
   pub elements : AllByRecursion IsCanonicalElement m.structured_data
@@ -84,7 +84,7 @@ pub record HasExceptionsAlone (m : MessageValue) : Type 0 where
 pub record IsNearlyCanonical (m : MessageValue) : Type 0 where
   pub facility : IsSome m.facility
   pub severity : IsSome m.severity
-  pub rest : HasExceptionsAlone m
+  pub rest : HasQuirksAlone m
 
 -- the timestamp is that of a month date that the text shows
 abbrev pub IsOfMonthDate : Dating → Text → OffsetTimestamp → Type 0
