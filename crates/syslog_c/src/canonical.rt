@@ -15,10 +15,10 @@ pub extern "C" fn syslog_is_canonical(line: &[u8], options: &Options, canonical:
     ensures { IsCodeOf result (λ outcome. OnLine options.now line.now outcome (canonical.new ≡ 0)
         (λ rules dating text. ReportsOwnCanonical rules.variant dating text canonical.new outcome)) }
 {
-    tell_canonical(line, options, canonical) as u32
+    report_canonical(line, options, canonical) as u32
 }
 
-fn tell_canonical(line: &[u8], options: &Options, canonical: &mut u32) -> Outcome
+fn report_canonical(line: &[u8], options: &Options, canonical: &mut u32) -> Outcome
     ensures { OnLine options.now line.now result (canonical.new ≡ 0) (λ rules dating text.
         ReportsOwnCanonical rules.variant dating text canonical.new result) }
 {

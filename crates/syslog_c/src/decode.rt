@@ -8,7 +8,7 @@ use std::alloc::Global;
 use syslog_utf8::{decode, from_utf8};
 
 /// Writes the bytes as UTF-8 to the front of `room`, and their length then to `needed`: as they are, if they are UTF-8.
-/// Otherwise each byte is a character of ISO 8859-1 if `latin1` is not 0, and else U+FFFD replaces each part that is
+/// If `latin1` is not 0, each byte of others is a character of ISO 8859-1; otherwise U+FFFD replaces each part that is
 /// not UTF-8. If the text is longer than `room`, `room` may hold anything. This call allocates for bytes that are not
 /// UTF-8.
 #[unsafe(no_mangle)]

@@ -8,6 +8,7 @@
 
 mod arrays;
 mod canonical;
+mod convert;
 mod decode;
 pub mod fields;
 mod lines;
@@ -24,6 +25,5 @@ mod rules;
 mod sent;
 mod shown;
 mod strict;
-mod tell;
 mod unescape;
 mod version;

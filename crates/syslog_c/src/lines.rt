@@ -7,7 +7,7 @@ use crate::options::Options;
 use crate::outcome::Outcome;
 use crate::read::read_fields;
 use crate::rules::rules_of;
-use crate::tell::blank_fields;
+use crate::convert::blank_fields;
 use syslog_lines::first_line;
 
 /// Reads the lines of the buffer into rows, one for each line, in order, and sets `read` to the number of rows written.

@@ -7,7 +7,7 @@ ghost use Rattle.syslog_c.specs.Fields.{IsOptionalText};
 ghost use Rattle.syslog_c.specs.Names.{IsDialectName, outcome_texts};
 
 use crate::fields::Text;
-use crate::tell::optional_text;
+use crate::convert::optional_text;
 use syslog_dialects::Dialect;
 use syslog_loose::{SyslogFacility, SyslogSeverity};
 use syslog_pieces::pri::decompose_pri;

@@ -51,7 +51,7 @@ fn print_into(line: &Line<'_>, room: &mut [u8], needed: &mut usize) -> Outcome
 {
     let mut buffer = Buffer::new(room);
     put_line(&mut buffer, line);
-    buffer.tell(needed)
+    buffer.report_length(needed)
 }
 
 /// Writes the stable text of the line, which prints as itself, to the front of `room`, and its length in bytes to

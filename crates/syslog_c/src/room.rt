@@ -34,7 +34,7 @@ impl<'r> Buffer<'r> {
     }
 
     /// Sets `needed` to the length of the text, and returns whether there was space for all of it.
-    pub(crate) fn tell(&self, needed: &mut usize) -> Outcome
+    pub(crate) fn report_length(&self, needed: &mut usize) -> Outcome
         ensures { ReportsLength self.now needed.new result }
     {
         *needed = self.needed;

@@ -30,7 +30,7 @@ fn unescaped(value: &[u8], room: &mut [u8], needed: &mut usize) -> Outcome
     };
     let mut buffer = Buffer::new(room);
     push_unescaped(&mut buffer, text);
-    buffer.tell(needed)
+    buffer.report_length(needed)
 }
 
 fn push_unescaped(buffer: &mut Buffer<'_>, value: &str)

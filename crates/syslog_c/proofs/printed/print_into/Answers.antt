@@ -11,6 +11,8 @@ returns c =
     let now = c.put_line.new.buffer in
     let h = c.put_line.ensures first [] (taken_none first c.new-buffer.ensures.none.1) in
     let same = h.same ∙ c.new-buffer.ensures.same in
-    with_room (λ room. Puts bytes c.args.room.now room c.tell.new.needed c.tell.result) now.room.now _
+    with_room
+    (λ room. Puts bytes c.args.room.now room c.report_length.new.needed c.report_length.result) now.room.now _
     (search (rules, same))
-    (told first now bytes c.args.room.now c.tell.new.needed c.tell.result c.new-buffer.ensures.none.0 h c.tell.ensures)
+    (told first now bytes c.args.room.now c.report_length.new.needed c.report_length.result
+    c.new-buffer.ensures.none.0 h c.report_length.ensures)

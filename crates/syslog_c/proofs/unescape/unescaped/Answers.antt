@@ -19,11 +19,12 @@ returns c =
       unescaped = subst (λ (v : List ℕ). IsUnescaped (chars v) (chars bytes)) c.in-Ok.ensures.0
           (subst (λ (t : Text). IsUnescaped (chars c.in-Ok.text.now) t) (sym spelt) unescaped);
     } in
-    with_room (λ room. Unescaped value c.args.room.now room c.tell.new.needed c.tell.result) now.room.now _
+    with_room
+    (λ room. Unescaped value c.args.room.now room c.report_length.new.needed c.report_length.result) now.room.now _
     (search (rules, same))
     (inl (
       bytes,
       is,
-      told first now bytes c.args.room.now c.tell.new.needed c.tell.result c.new-buffer.ensures.none.0 h
-          c.tell.ensures,
+      told first now bytes c.args.room.now c.report_length.new.needed c.report_length.result
+          c.new-buffer.ensures.none.0 h c.report_length.ensures,
     ))

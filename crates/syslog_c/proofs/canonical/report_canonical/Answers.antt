@@ -1,6 +1,6 @@
 use Rattle.syslog_c.proofs.Words.{inl, inr, refl, rules}
 use Rattle.syslog_c.proofs.LineLemmas.{on_line_map, tried_map}
-use Rattle.syslog_c.proofs.canonical.tell_canonical.Goals as goal
+use Rattle.syslog_c.proofs.canonical.report_canonical.Goals as goal
 
 pub returns-in-Ok : goal.returns-in-Ok
 returns-in-Ok c = inr (inr (tried_map _ _

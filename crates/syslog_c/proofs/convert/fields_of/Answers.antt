@@ -3,7 +3,7 @@ use Rattle.syslog_pieces.specs.declared.procid.ProcId.{ProcId}
 use Rattle.syslog_c.specs.Fields.{IsOptionalText, IsProcess, facility_code, protocol_number, severity_code}
 use Rattle.syslog_c.specs.Fields.{version_number}
 use Rattle.syslog_c.proofs.ArrayLemmas.{all_params_length}
-use Rattle.syslog_c.proofs.tell.fields_of.Goals as goal
+use Rattle.syslog_c.proofs.convert.fields_of.Goals as goal
 
 pub returns : goal.returns
 returns c =
