@@ -2,7 +2,6 @@ pub mod CiscoLemmas
 pub mod ContainerLemmas
 pub mod DateLemmas
 pub mod DatedLemmas
-pub mod DecimalLemmas
 pub mod DialectLemmas
 pub mod EsxiLemmas
 pub mod FiledLemmas

@@ -13,13 +13,12 @@ ghost use Rattle.syslog_dialects.specs.DateViews.{bsd_values, iso_values};
 ghost use Rattle.syslog_dialects.specs.Zone.{ended, zone as any_zone};
 ghost use Rattle.syslog_dialects.specs.Date as spec;
 
-use crate::decimals::decimals;
 use crate::sent::SentDate;
 use crate::zone::{ends_word, zone};
 use syslog_pieces::text::{literal, number};
 use syslog_pieces::timestamp::MonthDate;
 use syslog_pieces::timestamp::month_date::month_date;
-use syslog_pieces::timestamp::pairs::{pair, pair_after, year};
+use syslog_pieces::timestamp::pairs::{decimals, pair, pair_after, year};
 
 /// A month date, and what follows it: a fraction in nanoseconds, a zone with its offset where that is known, and a
 /// year.

@@ -12,7 +12,6 @@ mod container;
 mod date;
 mod dated;
 mod dated_forms;
-mod decimals;
 mod dialect;
 mod dialects;
 mod esxi;

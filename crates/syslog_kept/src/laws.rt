@@ -8,7 +8,7 @@ ghost use Rattle.syslog_loose.specs.Message.{MessageValue};
 ghost use Rattle.syslog_loose.specs.Reading.{IsRead, fallback};
 ghost use Rattle.syslog_loose.specs.Unparsed.{Leaves};
 ghost use Rattle.syslog_loose.specs.declared.variant.Variant.{Variant};
-ghost use Rattle.syslog_object.specs.Object.{Beside, beside_line, invalid_json, message_json, refused_json, text_json};
+ghost use Rattle.syslog_object.specs.Object.{Beside, beside_line, message_json, refused_json, text_json};
 ghost use Rattle.syslog_kept.specs.Kept.{AccountsFor};
 
 /// Each character of a line that is a message is found in the object of the line, or is left out as `AccountsFor` says.
@@ -23,7 +23,6 @@ pub fn each_character_is_found()
 /// fallback.
 pub fn line_that_is_no_message_is_found()
     ensures refused { (line : List ℕ) → get (codes "message") (refused_json line) ≡ Some (string line) }
-    ensures invalid { (line : List ℕ) → get (codes "message") (invalid_json line) ≡ Some (string line) }
     ensures whole { (text : Text) (beside : Beside)
         → get (codes "message") (message_json (fallback text) beside) ≡ Some (text_json text) }
 {}

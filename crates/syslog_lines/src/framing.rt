@@ -5,9 +5,6 @@
 ghost use Rattle.std.specs.Prelude.{◌≡◌, IsUtf8, Some, length, true, false};
 ghost use Rattle.syslog_lines.specs.Frames.{ending_of, is_above, line_of, plain_lines, without_last};
 
-/// How many bytes a line that is read has at most, unless something else is asked for: 64 MiB.
-pub const LONGEST_LINE: usize = 67_108_864;
-
 /// How the input is cut into frames.
 #[derive(Clone, Copy, Debug, PartialEq, Eq)]
 pub enum Framing {

@@ -22,7 +22,7 @@ pub mod summary;
 mod watched;
 
 pub use filter::{LineFilter, push_frame, push_line};
-pub use framing::{Frames, Framing, LONGEST_LINE};
+pub use framing::{Frames, Framing};
 pub use lines::first_line;
 pub use summary::{LineCounts, RunFault, Summary, Tally};
 pub use watched::Watched;

@@ -19,7 +19,7 @@ use Rattle.syslog_pieces.proofs.PriLemmas.{facility_low, severity_low}
 use Rattle.syslog_loose.specs.declared.message.Protocol.TheVariants.{RFC3164, RFC5424}
 use Rattle.syslog_object.specs.{Parts.comma_if, Parts.members_text, Parts.IsSmallVersion, Gathered.members_of}
 use Rattle.syslog_object.specs.Written.{HasSmallNumbers, ItemsHaveSmallNumbers, MembersHaveSmallNumbers, IsTextOf}
-use Rattle.syslog_object.specs.Object.{Beside, fields_of, present, invalid_json, refused_json}
+use Rattle.syslog_object.specs.Object.{Beside, fields_of, present, refused_json}
 
 -- ---- the numbers are numbers of JSON
 mutual
@@ -294,5 +294,3 @@ text_of_message m b small =
 pub text_of_refused : (line : List ℕ) → IsTextOf (refused_json line) (compact_text (refused_json line))
 text_of_refused line = text_of_small (refused_json line) (tt, (tt, tt)) (omega arith)
 
-pub text_of_invalid : (line : List ℕ) → IsTextOf (invalid_json line) (compact_text (invalid_json line))
-text_of_invalid line = text_of_small (invalid_json line) (tt, (tt, (tt, tt))) (omega arith)

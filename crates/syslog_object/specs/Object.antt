@@ -118,8 +118,3 @@ beside_line dialect unparsed raw = record { dialect = dialect; unparsed = if_any
 abbrev pub refused_json : List ℕ → Json
 refused_json line = object_of ((codes "message", Some (string line)) ∷ (codes "refused", Some (boolean true)) ∷ [])
 
--- the value of a line that is not UTF-8, with U+FFFD for each part that is not
-abbrev pub invalid_json : List ℕ → Json
-invalid_json line =
-    object_of ((codes "message", Some (string line)) ∷ (codes "refused", Some (boolean true))
-    ∷ (codes "invalid_utf8", Some (boolean true)) ∷ [])

@@ -5,7 +5,7 @@ ghost use Rattle.syslog_loose.specs.Line.{line_value};
 ghost use Rattle.syslog_pieces.specs.StructuredData.Visited.{list_elements};
 ghost use Rattle.syslog_pieces.specs.Pieces.Class.{Text};
 ghost use Rattle.syslog_loose.specs.Unparsed.{IsLeftUnparsed};
-ghost use Rattle.syslog_object.specs.Object.{beside_line, invalid_json, message_json, refused_json, structured_json};
+ghost use Rattle.syslog_object.specs.Object.{beside_line, message_json, refused_json, structured_json};
 ghost use Rattle.syslog_object.specs.Parts.{IsSmallVersion, back_fields, compact_text};
 ghost use Rattle.syslog_object.specs.Parts.{field_text, front_text, rest_text};
 ghost use Rattle.syslog_object.specs.Written.{IsTextOf};
@@ -125,20 +125,5 @@ pub fn refused_object(memory: Vec<u8>, line: &str) -> Result<Vec<u8>, AllocError
 {
     let mut text = Output::over(memory);
     text.push_text(b"{\"message\":\"", line, b"\",\"refused\":true}")?;
-    Ok(text.into_bytes())
-}
-
-/// Returns the JSON object of a line that is no message and not UTF-8, as
-/// `{"message":"..","refused":true,"invalid_utf8":true}`, written into the vector's memory. `line` has U+FFFD for each
-/// part that is not UTF-8. The call allocates if the memory is too little.
-pub fn invalid_object(memory: Vec<u8>, line: &str) -> Result<Vec<u8>, AllocError>
-    ensures { IfOk result (λ object. IsTextOf (invalid_json line.now) object.items) }
-{
-    let mut text = Output::over(memory);
-    text.push_text(
-        b"{\"message\":\"",
-        line,
-        b"\",\"refused\":true,\"invalid_utf8\":true}",
-    )?;
     Ok(text.into_bytes())
 }

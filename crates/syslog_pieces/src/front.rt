@@ -11,7 +11,7 @@ ghost use Rattle.syslog_pieces.specs.Pri.{priority_text};
 ghost use Rattle.syslog_pieces.specs.Timestamp.Fields.{AreCivil};
 ghost use Rattle.syslog_pieces.specs.Timestamp.Printed.{date_time_text, fraction_text, offset_text, printed_stamp};
 
-use crate::text::write_ascii::{digit, three_digits, two_digits};
+use crate::text::write_ascii::{ascii_digit, three_digits, two_digits};
 use crate::timestamp::fields::{CivilFields, datetime_fields};
 use crate::timestamp::{ClockStamp, OffsetTimestamp};
 use jiff::tz::Offset;
@@ -71,7 +71,7 @@ impl Ascii {
         ensures length { self.new.length ≤ self.old.length + 5 }
     {
         if number < 10 {
-            self.push(&[b'<', digit(number), b'>']);
+            self.push(&[b'<', ascii_digit(number), b'>']);
             return;
         }
         let [t, o] = two_digits(number % 100);
@@ -79,7 +79,7 @@ impl Ascii {
             self.push(&[b'<', t, o, b'>']);
             return;
         }
-        self.push(&[b'<', digit(number / 100), t, o, b'>']);
+        self.push(&[b'<', ascii_digit(number / 100), t, o, b'>']);
     }
 
     // Appends a number in decimal digits.
@@ -90,11 +90,11 @@ impl Ascii {
         ensures length { self.new.length ≡ self.old.length + length (decimal number) }
     {
         if number < 10 {
-            self.push(&[digit(number)]);
+            self.push(&[ascii_digit(number)]);
             return;
         }
         self.push_number(number / 10);
-        self.push(&[digit(number % 10)]);
+        self.push(&[ascii_digit(number % 10)]);
     }
 
     // Appends the version of RFC 5424, if there is one.
@@ -106,7 +106,7 @@ impl Ascii {
         ensures length { self.new.length ≤ self.old.length + 10 }
     {
         match version {
-            Some(version) if version < 10 => self.push(&[digit(version)]),
+            Some(version) if version < 10 => self.push(&[ascii_digit(version)]),
             Some(version) => self.push_number(version),
             None => {}
         }

@@ -5,7 +5,7 @@ ghost use Rattle.jiff_fmt.specs.Text.{pad2};
 
 /// Returns the ASCII byte of a digit from 0 to 9.
 #[inline(always)]
-pub(crate) fn digit(n: u32) -> u8
+pub(crate) fn ascii_digit(n: u32) -> u8
     requires { n < 10 }
     ensures { result ≡ 48 + n }
 {
@@ -37,5 +37,5 @@ pub(crate) fn three_digits(n: u32) -> [u8; 3]
     ensures text { result ≡ pad3 n }
 {
     let [t, o] = two_digits(n % 100);
-    [digit(n / 100), t, o]
+    [ascii_digit(n / 100), t, o]
 }

@@ -8,7 +8,7 @@ use crate::text::begins_with_digit;
 
 // Returns the number that an ASCII digit writes. It has 32 bits, since each sum of 8 bits would be widened once more.
 #[inline(always)]
-fn digit(byte: u8) -> u32
+fn digit_value(byte: u8) -> u32
     requires { IsAsciiDigit byte }
     ensures { result + 48 ≡ byte }
 {
@@ -23,7 +23,7 @@ pub fn pair(text: &[u8], limit: u32) -> Option<(u32, &[u8])>
 {
     match text {
         [tens @ b'0'..=b'9', ones @ b'0'..=b'9', rest @ ..] => {
-            let number = digit(*tens) * 10 + digit(*ones);
+            let number = digit_value(*tens) * 10 + digit_value(*ones);
             (number < limit).then_some((number, rest))
         }
         _ => None,
@@ -73,11 +73,20 @@ pub fn fraction(text: &[u8]) -> Option<(u32, &[u8])>
     ensures { ReadsBytes spec.fraction (λ n. n) text.now result }
 {
     match text {
-        [b'.', rest @ ..] => match few_decimals(rest) {
-            Some(read) => Some(read),
-            None => many_decimals(rest),
-        },
+        [b'.', rest @ ..] => decimals(rest),
         _ => Some((0, text)),
+    }
+}
+
+/// Reads one or more digits at the front as the decimals of a second, in nanoseconds: those past nine are worth
+/// nothing. Returns them and the bytes after them.
+#[inline(always)]
+pub fn decimals(text: &[u8]) -> Option<(u32, &[u8])>
+    ensures { ReadsBytes spec.decimals (λ n. n) text.now result }
+{
+    match few_decimals(text) {
+        Some(read) => Some(read),
+        None => many_decimals(text),
     }
 }
 
@@ -86,29 +95,30 @@ pub fn fraction(text: &[u8]) -> Option<(u32, &[u8])>
 fn few_decimals(text: &[u8]) -> Option<(u32, &[u8])>
     ensures { IfSome result (λ read. Front spec.decimals text.now read.1.now read.0) }
 {
-    let (milli, rest) = three_digits(text)?;
+    let (milli, rest) = triple(text)?;
     if !begins_with_digit(rest) {
         return Some((milli * 1_000_000, rest));
     }
-    let (micro, rest) = three_digits(rest)?;
+    let (micro, rest) = triple(rest)?;
     if !begins_with_digit(rest) {
         return Some((milli * 1_000_000 + micro * 1_000, rest));
     }
-    let (nano, rest) = three_digits(rest)?;
+    let (nano, rest) = triple(rest)?;
     if begins_with_digit(rest) {
         return None;
     }
     Some((milli * 1_000_000 + micro * 1_000 + nano, rest))
 }
 
+// Reads three digits at the front, as a number.
 #[inline(always)]
-fn three_digits(text: &[u8]) -> Option<(u32, &[u8])>
+fn triple(text: &[u8]) -> Option<(u32, &[u8])>
     ensures small { IfSome result (λ read. read.0 < 1_000) }
     ensures text { IfSome result (λ read. text.now ≡ pad3 read.0 ++ read.1.now) }
 {
     match text {
         [a @ b'0'..=b'9', b @ b'0'..=b'9', c @ b'0'..=b'9', rest @ ..] => {
-            Some((digit(*a) * 100 + digit(*b) * 10 + digit(*c), rest))
+            Some((digit_value(*a) * 100 + digit_value(*b) * 10 + digit_value(*c), rest))
         }
         _ => None,
     }
@@ -126,7 +136,7 @@ fn many_decimals(text: &[u8]) -> Option<(u32, &[u8])>
     let mut nanosecond = 0;
     let mut place = 100_000_000;
     'digits: for byte in digits {
-        nanosecond += digit(*byte) * place;
+        nanosecond += digit_value(*byte) * place;
         place /= 10;
     }
     Some((nanosecond, rest))

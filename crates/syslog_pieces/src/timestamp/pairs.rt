@@ -1,4 +1,4 @@
-//! Numbers of two and four digits at the front of a text.
+//! Numbers of two and four digits at the front of a text, and the decimals of a second.
 //!
 //! **Rule.** The dates and times of an ABNF are made of these, as `2DIGIT` and `4DIGIT` of RFC 3339 (section 5.6).
 ghost use Rattle.std.specs.Prelude.{◌<◌, ◌≤◌, chars};
@@ -6,7 +6,7 @@ ghost use Rattle.syslog_pieces.specs.Words.{Reads, after};
 ghost use Rattle.syslog_pieces.specs.Timestamp.Rfc3339 as spec;
 
 use super::digits;
-use crate::text::literal;
+use crate::text::{CharClass, literal, split_run};
 
 /// Returns the number that two digits at the front write, if it is below the limit, and the text after them.
 #[inline(always)]
@@ -37,4 +37,13 @@ pub fn pair_after(text: &str, mark: char, limit: u32) -> Option<(u32, &str)>
 {
     let digits = literal(text, mark)?;
     pair(digits, limit)
+}
+
+/// Returns the decimals at the front in nanoseconds, and the text after them. Decimals past nine are cut off.
+pub fn decimals(text: &str) -> Option<(u32, &str)>
+    ensures { Reads spec.decimals (λ n. n) (chars text.now) result }
+{
+    let (run, rest) = split_run(text, CharClass::Digit);
+    let (nanosecond, _) = digits::decimals(run.as_bytes())?;
+    Some((nanosecond, rest))
 }

@@ -20,11 +20,11 @@ digits-preserved c =
     let ds = c.split_at.result.0.now in
     let i = c.digits.byte-index in
     let small = small_digit _ _ _ _ c.split_at.ensures.front c.digits-test.true c.digits_len-len.ensures.digits in
-    let value : c.digit.result ≡ get_or ds i 0 - 48 = omega (arith, c.digit.ensures) in
+    let value : c.digit_value.result ≡ get_or ds i 0 - 48 = omega (arith, c.digit_value.ensures) in
     elim (cases_lt i 9) [
-      | inl lt ↦ step_on ds i c.digits.nanosecond c.digit.result c.digits.place _ (9 - i) _ c.digits-test.true value
+      | inl lt ↦ step_on ds i c.digits.nanosecond c.digit_value.result c.digits.place _ (9 - i) _ c.digits-test.true value
           (rw value small) worth bound so_far (omega arith)
-      | inr past ↦ step_past ds i c.digits.nanosecond c.digit.result c.digits.place _ (9 - i) _ c.digits-test.true value
+      | inr past ↦ step_past ds i c.digits.nanosecond c.digit_value.result c.digits.place _ (9 - i) _ c.digits-test.true value
           (rw value small) worth bound so_far (omega arith) (omega arith)
     ]
 

@@ -1,5 +1,5 @@
-use Rattle.syslog_dialects.proofs.DecimalLemmas.{no_run_decimals, run_decimals}
-use Rattle.syslog_dialects.proofs.decimals.decimals.Goals as goal
+use Rattle.syslog_pieces.proofs.TimestampLemmas.Decimals.{no_run_decimals, run_decimals}
+use Rattle.syslog_pieces.proofs.timestamp.pairs.decimals.Goals as goal
 
 pub returns-in_err-nanosecond : goal.returns-in_err-nanosecond
 returns-in_err-nanosecond c = rw c.from_residual.ensures (no_run_decimals _ _ _ c.split_run.ensures
