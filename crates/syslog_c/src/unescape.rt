@@ -46,13 +46,13 @@ fn push_unescaped(buffer: &mut Buffer<'_>, value: &str)
         let Some((c, next)) = first(pair) else {
             return;
         };
-        push_pair(buffer, c);
+        push_meaning(buffer, c);
         rest = next;
     }
 }
 
 // Writes what a backslash and this character mean.
-fn push_pair(buffer: &mut Buffer<'_>, c: char)
+fn push_meaning(buffer: &mut Buffer<'_>, c: char)
     ensures { TakesText buffer.old (pair_meaning c) buffer.new }
 {
     if c == 'n' {

@@ -15,7 +15,7 @@ use Rattle.syslog_pieces.proofs.PieceLemmas.Class.{firsts, lasts}
 use Rattle.std.proofs.Math.Seq.{drop-append_seam}
 use Rattle.syslog_loose.specs.Bodies.View3164.{FieldsAreRead}
 use Rattle.syslog_loose.specs.declared.variant.Variant.TheVariants.{RFC3164}
-use Rattle.syslog_loose.specs.declared.rfc3164.Fields.{Fields}
+use Rattle.syslog_loose.specs.declared.rfc3164.NameFields.{NameFields}
 use Rattle.syslog_loose.specs.DashChange.{ReadsDifferently, BeginsDashChange, HasDashChange3164, HasDashChange}
 use Rattle.syslog_loose.specs.DashChange.{IsReadingUnder, WasUnreadable}
 use Rattle.syslog_loose.proofs.Rfc3164Lemmas.{is_read, from_gap, from_list, gap_back}
@@ -317,7 +317,7 @@ told_by_list dating text list vs n false f means h = (
       absurd (h (record { next = d.next; after = d.more; is = same; no_blank = d.no_blank })),
 )
 
-pub told_by_line : (variant : Variant) (dating : Dating) (text : Text) (line : Line) (fields : Fields) (b : Bool)
+pub told_by_line : (variant : Variant) (dating : Dating) (text : Text) (line : Line) (fields : NameFields) (b : Bool)
     → IsLineOf variant dating text line → line.version ≡ None → FieldsAreRead (shown line.rest) fields
     → MatchBool b (BeginsDashChange (shown fields.rest)) (BeginsDashChange (shown fields.rest) → ⊥)
     → IsTrue b ↔ HasDashChange variant dating text

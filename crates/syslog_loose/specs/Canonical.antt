@@ -9,7 +9,7 @@ pub use Rattle.syslog_pieces.specs.ProcId.{IsBoundedProcess, IsNoI32Text, IsCano
 pub use Rattle.syslog_pieces.specs.StructuredData.Canonical.{IsCanonicalElement}
 pub use Rattle.syslog_pieces.specs.Text.Canonical.{IsVisible, IsCanonicalHost, IsCanonicalWord, EndsVisibly}
 pub use Rattle.syslog_pieces.specs.Timestamp.Canonical.{IsCanonicalStamp}
-use Rattle.syslog_loose.specs.declared.message.canonical.Fields.{Fields}
+use Rattle.syslog_loose.specs.declared.message.canonical.CheckedFields.{CheckedFields}
 use Rattle.syslog_loose.specs.declared.message.Protocol.{Protocol}
 use Rattle.syslog_loose.specs.declared.message.Protocol.TheVariants.{RFC3164, RFC5424}
 use Rattle.syslog_loose.specs.Message.{MessageValue}
@@ -83,7 +83,7 @@ pub record AreElements (none params : Bool) (es : List ElementValue) : Type 0 wh
   pub params_is : IsTrue params ↔ AllByRecursion (λ e. 0 < length e.params) es
 
 -- the message of these fields and elements
-abbrev pub fields_value : {S : Type 0} → (S → Text) → Fields S → List ElementValue → MessageValue
+abbrev pub fields_value : {S : Type 0} → (S → Text) → CheckedFields S → List ElementValue → MessageValue
 fields_value text f es = record {
   protocol = f.protocol;
   facility = f.facility;

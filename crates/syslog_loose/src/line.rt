@@ -6,7 +6,7 @@ ghost use Rattle.syslog_loose.specs.Words.{element_value, list_elements};
 mod printing;
 mod quirks;
 
-use crate::message::{Fields, Message, Protocol, are_canonical_fields};
+use crate::message::{CheckedFields, Message, Protocol, are_canonical_fields};
 pub(crate) use printing::print_line;
 pub(crate) use quirks::{has_no_quirk, has_quiet_names};
 use std::alloc::{AllocError, Global};
@@ -122,7 +122,7 @@ impl<'a> Line<'a> {
         ensures { IsTrue result ↔ IsCanonical dash_rule (line_value self.now) }
     {
         let procid = self.process();
-        are_canonical_fields(&Fields {
+        are_canonical_fields(&CheckedFields {
             protocol: self.protocol(),
             facility: self.facility(),
             severity: self.severity(),

@@ -10,7 +10,7 @@ mod copies;
 mod equality;
 mod printing;
 
-pub(crate) use canonical::{Fields, are_canonical_fields, begins_no_list};
+pub(crate) use canonical::{CheckedFields, are_canonical_fields, begins_no_list};
 use printing::write_elements_before;
 pub(crate) use printing::{
     printed_priority, write_elements, write_name, write_process, write_tag, write_timestamp,

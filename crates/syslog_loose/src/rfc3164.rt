@@ -99,7 +99,7 @@ pub(crate) fn resolve<'a, C>(host: Field<'a>, tag: Field<'a>) -> Names<'a>
 
 /// The fields of names after the timestamp.
 #[derive(Clone, Copy)]
-pub(crate) struct Fields<'a> {
+pub(crate) struct NameFields<'a> {
     names: Names<'a>,
     // whether they and what ends them are already in printed form, a host field among them
     are_printed: bool,
@@ -110,7 +110,7 @@ pub(crate) struct Fields<'a> {
 /// Reads the names after the timestamp, up to the blanks after their colon. Each visitor `C` has its own copy, as of
 /// `resolve`, and both are compiled in.
 #[inline(always)]
-pub(crate) fn read_fields<'a, C>(text: &'a str) -> Fields<'a>
+pub(crate) fn read_fields<'a, C>(text: &'a str) -> NameFields<'a>
     ensures { FieldsAreRead (chars text.now) result }
 {
     let (host, after_host) = host_field(text);
@@ -124,7 +124,7 @@ pub(crate) fn read_fields<'a, C>(text: &'a str) -> Fields<'a>
         before(after_tag, rest) == ": ",
         true,
     ]);
-    Fields {
+    NameFields {
         names,
         are_printed,
         rest,

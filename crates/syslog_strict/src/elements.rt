@@ -38,7 +38,7 @@ pub(crate) fn push_name(out: &mut String, name: &str) -> Result<(), AllocError>
 }
 
 // Appends the character that a backslash is before.
-fn push_pair(out: &mut String, c: char) -> Result<(), AllocError>
+fn push_escaped(out: &mut String, c: char) -> Result<(), AllocError>
     ensures { OnOk result (Appends out.old (if is_escaped c then 92 ∷ c ∷ [] else 92 ∷ 92 ∷ c ∷ []) out.new) }
 {
     push_char(out, '\\')?;
@@ -68,7 +68,7 @@ fn push_value(out: &mut String, value: &str) -> Result<(), AllocError>
         let Some((escaped, next)) = first(more) else {
             return push_lone(out);
         };
-        push_pair(out, escaped)?;
+        push_escaped(out, escaped)?;
         rest = next;
     }
 }

@@ -6,7 +6,7 @@ use Rattle.syslog_loose.specs.Words.{is_blank, Some, None}
 use Rattle.syslog_loose.specs.Quirks.{HasQuietNames}
 use Rattle.syslog_loose.specs.Printed.{name_text, tag_text}
 use Rattle.syslog_loose.specs.Rfc3164.{HasProcess, Names3164, names, NamesByForm}
-use Rattle.syslog_loose.specs.declared.rfc3164.Fields.{Fields}
+use Rattle.syslog_loose.specs.declared.rfc3164.NameFields.{NameFields}
 use Rattle.syslog_loose.specs.declared.rfc3164.Names.{Names}
 use Rattle.syslog_loose.specs.Bodies.Rows.{ReadsNames}
 
@@ -27,7 +27,7 @@ fields_before n more = 32 ∷ (name_text n.hostname ++ (32 ∷ (tag_text n.appna
 
 -- The fields begin the text, and one has the text of the process. They say whether the host field and a program are
 -- there in printed form, and then the names are quiet.
-pub record FieldsAreRead (text : Text) (fields : Fields) : Type 0 where
+pub record FieldsAreRead (text : Text) (fields : NameFields) : Type 0 where
   pub read : ReadsNames text (shown fields.rest) (names_value fields.names)
   pub process : HasProcess read.values.0 read.values.1.0 (seen fields.names.process)
   pub ends : Ends is_blank (shown fields.rest)

@@ -23,7 +23,7 @@ use syslog_pieces::timestamp::canonical::is_canonical_stamp;
 
 /// What the written condition depends on: the fields of a message, and two facts about its elements.
 #[derive(Drop)]
-pub(crate) struct Fields<'a, S> {
+pub(crate) struct CheckedFields<'a, S> {
     pub(crate) protocol: Protocol,
     pub(crate) facility: Option<SyslogFacility>,
     pub(crate) severity: Option<SyslogSeverity>,
@@ -50,7 +50,7 @@ impl<S: AsStr> Message<S> {
         if !are_canonical_elements(elements) {
             return false;
         }
-        are_canonical_fields(&Fields {
+        are_canonical_fields(&CheckedFields {
             protocol: self.protocol,
             facility: self.facility,
             severity: self.severity,
@@ -68,7 +68,7 @@ impl<S: AsStr> Message<S> {
 
 /// Whether a message with these fields is canonical, provided that its elements are.
 #[tactic(auto, using(crate::proofs::Names::last_is))]
-pub(crate) fn are_canonical_fields<S: AsStr>(fields: &Fields<'_, S>) -> bool
+pub(crate) fn are_canonical_fields<S: AsStr>(fields: &CheckedFields<'_, S>) -> bool
     ensures { (es : List ElementValue) → AreElements fields.now.no_elements fields.now.have_params es
         → AllByRecursion spec.IsCanonicalElement es
         → IsTrue result ↔ spec.IsCanonical dash_rule (fields_value (text_of S.text) fields.now es) }
@@ -83,7 +83,7 @@ pub(crate) fn are_canonical_fields<S: AsStr>(fields: &Fields<'_, S>) -> bool
 }
 
 // The part of the condition that both protocols have.
-fn are_canonical_in_both<S: AsStr>(fields: &Fields<'_, S>) -> bool
+fn are_canonical_in_both<S: AsStr>(fields: &CheckedFields<'_, S>) -> bool
     ensures { (es : List ElementValue) → AllByRecursion spec.IsCanonicalElement es
         → IsTrue result ↔ spec.IsCanonicalInBoth (fields_value (text_of S.text) fields.now es) }
 {
@@ -108,7 +108,7 @@ fn is_canonical_msg(msg: &str) -> bool
 }
 
 // The part of the condition that only RFC 5424 has.
-fn are_canonical_rfc5424<S: AsStr>(fields: &Fields<'_, S>) -> bool
+fn are_canonical_rfc5424<S: AsStr>(fields: &CheckedFields<'_, S>) -> bool
     ensures { (es : List ElementValue) → IsTrue result
         ↔ spec.IsCanonical5424 (fields_value (text_of S.text) fields.now es) }
 {
@@ -125,7 +125,7 @@ fn is_word<S: AsStr>(word: &Option<S>) -> bool
 }
 
 // The part of the condition that only RFC 3164 has.
-fn are_canonical_rfc3164<S: AsStr>(fields: &Fields<'_, S>) -> bool
+fn are_canonical_rfc3164<S: AsStr>(fields: &CheckedFields<'_, S>) -> bool
     ensures { (es : List ElementValue) → AreElements fields.now.no_elements fields.now.have_params es
         → IsTrue result ↔ spec.IsCanonical3164 dash_rule (fields_value (text_of S.text) fields.now es) }
 {

@@ -34,7 +34,7 @@ units-preserved c =
       c.in-Some-first.ensures.1,
       (
         (put ++ run) ++ pair_meaning c.in-Some-first.c,
-        text_after _ _ _ _ _ after c.push_pair.ensures,
+        text_after _ _ _ _ _ after c.push_meaning.ensures,
         removes_pair c.split_run.ensures removes refl _ _ _ _ _ c.in-Some.ensures.0 c.in-Some-first.ensures.0 refl,
       ),
     )

@@ -24,5 +24,5 @@ stretches-preserved c = (
   c.in-Some-first.ensures.1,
   past_pair _ _ _ _ _ _ c.split_run.ensures c.in_ok-push_text.ensures c.stretches.invariant.1 c.in-Some.c
       c.in-Some-first.escaped _ _ _
-      c.in-Some.ensures.0 c.if-c-ne92.false c.in-Some-first.ensures.0 c.in_ok-push_pair.ensures,
+      c.in-Some.ensures.0 c.if-c-ne92.false c.in-Some-first.ensures.0 c.in_ok-push_escaped.ensures,
 )

@@ -1,6 +1,6 @@
 use Rattle.syslog_c.proofs.Words.{rules, ◌≡◌, [], ◌∷◌, pair_meaning}
 use Rattle.syslog_c.proofs.TextLemmas.{text_after, text_along}
-use Rattle.syslog_c.proofs.unescape.push_pair.Goals as goal
+use Rattle.syslog_c.proofs.unescape.push_meaning.Goals as goal
 
 pub returns : goal.returns
 returns c =
