@@ -4,7 +4,8 @@
 //! process, and a lone word that is not of that form is the host. A list of elements is left in the message.
 ghost use Rattle.std.specs.Prelude.{◌≡◌, MatchOption, Option, chars, []};
 ghost use Rattle.syslog_pieces.specs.Pieces.Class.{Front, optional};
-ghost use Rattle.syslog_pieces.specs.Pieces.View.{Recognises, field_seen, seen, shown};
+ghost use Rattle.syslog_pieces.specs.Pieces.View.{Recognises, seen, shown};
+ghost use Rattle.syslog_pieces.specs.Text.{field_seen};
 ghost use Rattle.syslog_loose.specs.Bodies.View3164.{NamesHost, NamesProgram};
 ghost use Rattle.syslog_loose.specs.Rfc3164.{HasProcess, Resolves};
 ghost use Rattle.syslog_loose.specs.TagForm.{IsForm, IsIdOf, IsNoForm};

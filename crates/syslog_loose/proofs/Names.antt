@@ -32,18 +32,18 @@ pub use Rattle.syslog_pieces.specs.StructuredData.Rfc3164List.{BeginsNoList, rfc
 pub use Rattle.syslog_pieces.specs.StructuredData.Rfc3164List.{elements_or, full_element}
 pub use Rattle.syslog_pieces.specs.declared.structured_data.rfc3164_list.DashRule.{DashRule}
 pub use Rattle.syslog_pieces.specs.Text.Canonical.{EndsVisibly, IsCanonicalWord}
-pub use Rattle.syslog_pieces.specs.Pieces.View.{shown, text_of, seen, field_seen, Skips}
+pub use Rattle.syslog_pieces.specs.Pieces.View.{shown, text_of, seen, Skips}
 pub use Rattle.syslog_pieces.specs.StructuredData.Element.{ElementValue, joined_elements, elements_text, param_text}
 pub use Rattle.syslog_pieces.specs.StructuredData.Element.{element_text, element_texts, element_value, param_value}
 pub use Rattle.syslog_pieces.specs.Text.{trimmed, is_blank, dash, colon, EndsInColon, number, host, word, name_text}
-pub use Rattle.syslog_pieces.specs.Text.{IsHost, tag_word, is_tag_char}
+pub use Rattle.syslog_pieces.specs.Text.{IsHost, tag_word, is_tag_char, field_seen}
 pub use Rattle.syslog_pieces.specs.declared.structured_data.rfc3164_list.DashRule.TheVariants.{BeforeAnything}
 pub use Rattle.syslog_pieces.specs.declared.structured_data.rfc3164_list.DashRule.TheVariants.{BeforeBlank}
 pub use Rattle.syslog_pieces.specs.Pieces.Format.{Format, classes, printed_row}
 pub use Rattle.syslog_pieces.specs.ProcId.{process_word, process_text, NamesProcess, named_process, procid_text}
 pub use Rattle.syslog_pieces.specs.Timestamp.{header_stamp, clock_value, stamp_seen}
 pub use Rattle.syslog_pieces.specs.Timestamp.Canonical.{IsCanonicalStamp, own_year}
-pub use Rattle.syslog_pieces.specs.Pieces.Parts.{IsPart, AreInPieces, text_list, process_texts}
+pub use Rattle.syslog_pieces.specs.Pieces.Parts.{IsPart, AreInPieces, text_list}
 pub use Rattle.syslog_pieces.specs.declared.procid.ProcId.{ProcId}
 pub use Rattle.syslog_pieces.specs.declared.procid.ProcId.TheVariants.{PID, Name}
 pub use Rattle.syslog_pieces.specs.declared.timestamp.OffsetTimestamp.{OffsetTimestamp}
@@ -57,7 +57,7 @@ pub use Rattle.syslog_pieces.specs.declared.pri.SyslogFacility.TheVariants.{LOG_
 pub use Rattle.syslog_pieces.specs.declared.pri.SyslogSeverity.TheVariants.{SEV_DEBUG}
 pub use Rattle.syslog_pieces.specs.Timestamp.Rfc3164.{rfc3164_stamp, ShowsMonthDate, ShowsYearless}
 pub use Rattle.syslog_pieces.specs.Timestamp.MonthDate.{month_date, month, yearless_date}
-pub use Rattle.syslog_pieces.specs.ProcId.{IsBareWord}
+pub use Rattle.syslog_pieces.specs.ProcId.{IsBareWord, process_texts}
 pub use Rattle.syslog_pieces.specs.Pieces.Lists.{IsMany}
 pub use Rattle.syslog_pieces.specs.Text.CharClass.{is_label_char, is_open_char, is_id_char, is_name_char}
 pub use Rattle.syslog_pieces.specs.Bodies.Closing.{start_row, start, opening_row}
@@ -83,7 +83,8 @@ pub use Rattle.syslog_pieces.proofs.TextLemmas.Words.{decimal_digits, number_bac
 pub use Rattle.syslog_pieces.proofs.TextLemmas.Words.{encodes-decimal, encodes_shown, encodes_step, flat_map-map}
 pub use Rattle.syslog_pieces.proofs.TextLemmas.Words.{dash_ascii}
 pub use Rattle.syslog_pieces.proofs.PieceLemmas.Lists.{begins, part_joined, Quoted, row_quotes, silent, rest_quotes}
-pub use Rattle.syslog_pieces.proofs.PieceLemmas.Lists.{host_quotes, Begins, begins_apart, begins_more, begins_with}
+pub use Rattle.syslog_pieces.proofs.PieceLemmas.Lists.{Begins, begins_apart, begins_more, begins_with}
+pub use Rattle.syslog_pieces.proofs.TextLemmas.Quotes.{host_quotes}
 pub use Rattle.syslog_pieces.proofs.TimestampLemmas.Rfc3339.{printed_stamp-bytes, printed_stamp-characters}
 pub use Rattle.syslog_pieces.proofs.TimestampLemmas.Rfc3339.{stamp_text_canonical, printed_stamp-begins}
 pub use Rattle.syslog_pieces.proofs.TimestampLemmas.Rfc3339.{printed_stamp_back, printed_stamp-visible, stamp_text-year}

@@ -26,7 +26,8 @@ use Rattle.syslog_loose.proofs.Names.{subst, month, false, List, refl, Text, Som
 use Rattle.syslog_loose.proofs.Names.{Bool, cond, ◌<◌, ◌∷◌, ◌∙◌, Row, run, ◌⊎◌, inl, inr, sym, PID, ◌↔◌, map, ◌≤◌}
 use Rattle.syslog_pieces.proofs.PieceLemmas.Class.{texted_det, after_det, Fails, all_append, append_more}
 use Rattle.syslog_loose.specs.Rfc3164.{NamesByForm}
-use Rattle.syslog_pieces.proofs.PieceLemmas.Lists.{first_kind, each_begins, texted_quotes, tag_word_quotes, part_left}
+use Rattle.syslog_pieces.proofs.PieceLemmas.Lists.{first_kind, each_begins, texted_quotes, part_left}
+use Rattle.syslog_pieces.proofs.TextLemmas.Quotes.{tag_word_quotes}
 use Rattle.syslog_pieces.proofs.PieceLemmas.Lists.{optional_quotes, optional_texts, spaced_quotes, part_right}
 use Rattle.syslog_pieces.proofs.TimestampLemmas.MonthDate.{month_date_det, dated_date, IsBlank, blanks_begin, blank_low}
 use Rattle.syslog_pieces.specs.Bodies.Scan.{SplitsRun}

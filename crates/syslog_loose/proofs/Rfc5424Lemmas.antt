@@ -21,7 +21,8 @@ use Rattle.syslog_loose.proofs.Names.{IsCanonicalInBoth, IsCanonicalFor, IsCanon
 use Rattle.syslog_loose.proofs.Names.{AllByRecursion, Bool, Class, IsTrue, Line, append_cancel_right, true, ◌↔◌}
 use Rattle.syslog_loose.specs.Bodies.View5424.{FitsNames, names_before}
 use Rattle.syslog_pieces.proofs.PieceLemmas.Class.{front_of}
-use Rattle.syslog_pieces.proofs.PieceLemmas.Lists.{word_quotes, process_quotes, AllSound, row_back}
+use Rattle.syslog_pieces.proofs.PieceLemmas.Lists.{AllSound, row_back}
+use Rattle.syslog_pieces.proofs.TextLemmas.Quotes.{word_quotes, process_quotes}
 use Rattle.syslog_pieces.proofs.TextLemmas.Words.{number_det, word_det, word_back, word_canonical, host_canonical}
 use Rattle.syslog_pieces.proofs.TextLemmas.Words.{NoColonNext, blanks_next}
 use Rattle.syslog_pieces.proofs.StructuredDataLemmas.Elements.{forgiving_det, forgiving_back, forgiving_canonical}

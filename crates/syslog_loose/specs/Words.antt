@@ -16,11 +16,12 @@ pub use Rattle.jiff.specs.Words.{plain_zone, IsOffsetSeconds, IsYear}
 pub use Rattle.syslog_pieces.specs.Pieces.Class.{Text, Division, NoFront, Row, Values, Each, Ends, Class, Front, run}
 pub use Rattle.syslog_pieces.specs.Pieces.Class.{some_run, rest, exactly, optional, spaced, join, after, texted}
 pub use Rattle.syslog_pieces.specs.Pieces.Class.{NoDivision}
-pub use Rattle.syslog_pieces.specs.Pieces.Parts.{AreInPieces, text_list, process_texts}
-pub use Rattle.syslog_pieces.specs.Pieces.View.{shown, text_of, seen, text_eq, ClonesKeepText, field_seen}
+pub use Rattle.syslog_pieces.specs.Pieces.Parts.{AreInPieces, text_list}
+pub use Rattle.syslog_pieces.specs.Pieces.View.{shown, text_of, seen, text_eq, ClonesKeepText}
 pub use Rattle.syslog_pieces.specs.Pri.{facility_number, severity_number, facility_eq, severity_eq, facility_of}
 pub use Rattle.syslog_pieces.specs.Pri.{severity_of, priority}
 pub use Rattle.syslog_pieces.specs.ProcId.{procid_value, process_word, named_process, process_text, NamesProcess}
+pub use Rattle.syslog_pieces.specs.ProcId.{process_texts}
 pub use Rattle.syslog_pieces.specs.ProcId.Equal.{procid_eq}
 pub use Rattle.syslog_pieces.specs.StructuredData.{forgiving}
 pub use Rattle.syslog_pieces.specs.StructuredData.Element.{element_value, ElementValue, element_texts, element_text}
@@ -28,7 +29,7 @@ pub use Rattle.syslog_pieces.specs.StructuredData.Equal.{element_eq}
 pub use Rattle.syslog_pieces.specs.StructuredData.Rfc3164List.{BeginsNoList, rfc3164_list}
 pub use Rattle.syslog_pieces.specs.StructuredData.Visited.{list_elements, list_text, Visits, elements_left}
 pub use Rattle.syslog_pieces.specs.Text.{EndsInColon, dash, is_blank, trimmed, number, colon, host, word, tag_word}
-pub use Rattle.syslog_pieces.specs.Text.{is_tag_char}
+pub use Rattle.syslog_pieces.specs.Text.{is_tag_char, field_seen}
 pub use Rattle.syslog_pieces.specs.Text.CharClass.{is_label_char, is_open_char}
 pub use Rattle.syslog_pieces.specs.Timestamp.{header_stamp, stamp_seen}
 pub use Rattle.syslog_pieces.specs.Timestamp.Canonical.{IsCanonicalStamp}

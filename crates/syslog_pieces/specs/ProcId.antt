@@ -1,7 +1,7 @@
 -- Process ids: a number of 32 bits, or any other text.
 pub mod Equal
 pub mod EqualLaws
-use Rattle.std.specs.Prelude.{◌≡◌, ⊤, ℤ, pos, negsuc, FitsSigned, length, Option, Some, None}
+use Rattle.std.specs.Prelude.{◌≡◌, ⊤, ℤ, pos, negsuc, FitsSigned, length, Option, Some, None, List, [], ◌∷◌}
 use Rattle.std.specs.Prelude.{Bool, ◌&&◌, if◌then◌else◌, nat_lt}
 use Rattle.std.specs.List.{list_all}
 use Rattle.std.specs.Int.{w32}
@@ -18,6 +18,12 @@ use Rattle.syslog_pieces.specs.declared.procid.ProcId.TheVariants.{PID, Name}
 abbrev pub procid_value : {S : Type 0} → (S → Text) → ProcId S → ProcId Text
 procid_value text (PID n) = PID n
 procid_value text (Name s) = Name (text s)
+
+-- the name of a process, where it is no number
+abbrev pub process_texts : Option (ProcId Text) → List Text
+process_texts None = []
+process_texts (Some (PID n)) = []
+process_texts (Some (Name t)) = t ∷ []
 
 -- digits, after at most one sign, that write this number from -2147483648 to 2147483647
 abbrev pub IsI32Text : Text → ℤ → Type 0

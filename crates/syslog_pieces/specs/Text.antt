@@ -8,6 +8,9 @@ use Rattle.std.specs.Char.{is_ascii_digit, is_not_whitespace}
 use Rattle.std.specs.Str.{skip_leading_whitespace, drop_trailing_whitespace}
 use Rattle.std.specs.Str.Parse.{digits_value}
 use Rattle.syslog_pieces.specs.Pieces.Class.{Text, Class, Each, Ends}
+use Rattle.syslog_pieces.specs.Pieces.View.{shown}
+use Rattle.syslog_pieces.specs.declared.text.Field.{Field}
+use Rattle.syslog_pieces.specs.declared.text.Field.TheVariants.{Missing, Dash, Name}
 
 -- the text without the white space at its two ends; white space is Unicode's White_Space
 abbrev pub trimmed : Text → Text
@@ -67,3 +70,9 @@ is_tag_char c = is_not_whitespace c && not (nat_eq c 58)
 abbrev pub tag_word : Class
 tag_word =
     record { Value = Option Text; Is = λ p q v. (0 < length p) × Each is_tag_char p × Ends is_tag_char q × Names p v }
+
+-- what a field is read as: it may be not there, or there and empty, or a text
+abbrev pub field_seen : Field → Option (Option Text)
+field_seen Missing = None
+field_seen Dash = Some None
+field_seen (Name name) = Some (Some (shown name))

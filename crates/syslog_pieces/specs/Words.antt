@@ -8,7 +8,7 @@ pub use Rattle.std.specs.Iterator.{Drains, YieldsFirstBy, item_count}
 pub use Rattle.std.specs.List.{AllByRecursion, prefix_len}
 pub use Rattle.std.specs.Ordering.{as_partial_cmp, int_cmp, int_eq, nat_cmp, on}
 pub use Rattle.syslog_pieces.specs.Pieces.{ClonesKeepText, Each, Ends, Front, NoFront, Reads, ReadsBytes, Recognises}
-pub use Rattle.syslog_pieces.specs.Pieces.{Row, Skips, Text, after, exactly, field_seen, many, optional, run, seen}
+pub use Rattle.syslog_pieces.specs.Pieces.{Row, Skips, Text, after, exactly, many, optional, run, seen}
 pub use Rattle.syslog_pieces.specs.Pieces.{shown, some_run, spaced, text_of, texted}
 pub use Rattle.syslog_pieces.specs.StructuredData.{IsValue, IsValueUnit, forgiving, item}
 pub use Rattle.syslog_pieces.specs.StructuredData.Collected.{HasCollected, HasNoted}
@@ -18,6 +18,7 @@ pub use Rattle.syslog_pieces.specs.StructuredData.Rfc3164List.{BeginsNoList, IsD
 pub use Rattle.syslog_pieces.specs.StructuredData.Rfc3164List.{rfc3164_list}
 pub use Rattle.syslog_pieces.specs.StructuredData.Visited.{AreItems, IsTallied, IsWalked, Visits, element_seen}
 pub use Rattle.syslog_pieces.specs.StructuredData.Visited.{elements_left, list_elements, list_text, params_left}
+pub use Rattle.syslog_pieces.specs.Text.{field_seen}
 pub use Rattle.syslog_pieces.specs.Text.CharClass.{has}
 pub use Rattle.syslog_pieces.specs.Timestamp.{IsAnswer, IsStampOfRfc3339, IsStampText, clock_value, stamp_seen}
 pub use Rattle.syslog_pieces.specs.Timestamp.Canonical.{BeginsWithYear, IsCanonicalStamp}

@@ -5,10 +5,7 @@ use Rattle.std.specs.List.{AllByRecursion}
 use Rattle.syslog_pieces.specs.Pieces.Class.{Text, Front, NoFront, IsDeterministic, Each, either, Class, Row, exactly}
 use Rattle.syslog_pieces.specs.Pieces.Class.{Values, join, Divides, rest, optional, spaced, texted}
 use Rattle.syslog_pieces.specs.Pieces.Lists.{IsMany, many, HasRead, IsList, IsMore, list_before, more_before}
-use Rattle.syslog_pieces.specs.Pieces.Parts.{IsPart, IsInPieces, AreInPieces, text_list, process_texts}
-use Rattle.syslog_pieces.specs.ProcId.{process_word}
-use Rattle.syslog_pieces.specs.Text.{Names, host, tag_word, word}
-use Rattle.syslog_pieces.specs.declared.procid.ProcId.TheVariants.{PID, Name}
+use Rattle.syslog_pieces.specs.Pieces.Parts.{IsPart, IsInPieces, AreInPieces}
 use Rattle.syslog_pieces.specs.Pieces.Format.{Format, IsSound, classes, printed_row, RowReadsBack}
 use Rattle.syslog_pieces.proofs.PieceLemmas.Class.{no_front_no, piece_front, all_append, rest_same, after_nil, front_of}
 use Rattle.syslog_pieces.proofs.PieceLemmas.Class.{row_cons, row_head, all_map, row_nil, append_more, heads, Meets}
@@ -313,25 +310,6 @@ texted_quotes C p q t (v, h, e) = (part_same p t e, tt)
 
 pub rest_quotes : Quotes rest (λ t. t ∷ [])
 rest_quotes p q t h = (part_same p t h.1, tt)
-
-names_quotes : (p : Text) (v : Option Text) → Names p v → AllByRecursion (λ t. IsPart p t) (text_list v)
-names_quotes p None h = tt
-names_quotes p (Some t) h = (part_same p t h.0, tt)
-
-pub word_quotes : Quotes word text_list
-word_quotes p q v h = names_quotes p v h.4
-
-pub host_quotes : Quotes host text_list
-host_quotes p q v (l, a, inl (n, b, m)) = names_quotes p v m
-host_quotes p q v (l, a, inr (r, f, b, m)) = rw m (part_same p p refl, tt)
-
-pub process_quotes : Quotes process_word process_texts
-process_quotes p q None h = tt
-process_quotes p q (Some (PID n)) h = tt
-process_quotes p q (Some (Name t)) (u, w, k) = (part_same p t (k.1 ∙ w.4.0), tt)
-
-pub tag_word_quotes : Quotes tag_word text_list
-tag_word_quotes p q v h = names_quotes p v h.3
 
 -- ---- pieces that may be absent, and pieces after a space
 

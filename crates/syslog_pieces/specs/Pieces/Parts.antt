@@ -2,8 +2,6 @@
 use Rattle.std.specs.Prelude.{◌≡◌, ◌⊎◌, List, [], ◌∷◌, ◌++◌, Option, Some, None}
 use Rattle.std.specs.List.{AllByRecursion}
 use Rattle.syslog_pieces.specs.Pieces.Class.{Text}
-use Rattle.syslog_pieces.specs.declared.procid.ProcId.{ProcId}
-use Rattle.syslog_pieces.specs.declared.procid.ProcId.TheVariants.{PID, Name}
 
 -- the text is the piece, or a part of it
 abbrev pub IsPart : Text → Text → Type 0
@@ -22,9 +20,3 @@ AreInPieces pieces texts = AllByRecursion (λ t. IsInPieces pieces t) texts
 abbrev pub text_list : Option Text → List Text
 text_list None = []
 text_list (Some t) = t ∷ []
-
--- the name of a process, where it is no number
-abbrev pub process_texts : Option (ProcId Text) → List Text
-process_texts None = []
-process_texts (Some (PID n)) = []
-process_texts (Some (Name t)) = t ∷ []

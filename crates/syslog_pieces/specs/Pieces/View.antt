@@ -5,8 +5,6 @@ use Rattle.std.specs.Borrow.{Bor}
 use Rattle.std.specs.Str.{chars}
 use Rattle.std.specs.Cmp.Lexicographic.{pointwise}
 use Rattle.syslog_pieces.specs.Pieces.Class.{Text, Class, Front, NoFront}
-use Rattle.syslog_pieces.specs.declared.text.Field.{Field}
-use Rattle.syslog_pieces.specs.declared.text.Field.TheVariants.{Missing, Dash, Name}
 
 -- the text that a slice shows
 abbrev pub shown : Bor (List ℕ) → Text
@@ -15,12 +13,6 @@ shown s = chars s.now
 -- the text after an optional slice
 abbrev pub seen : Option (Bor (List ℕ)) → Option Text
 seen s = option_map (λ t. shown t) s
-
--- what a field is read as: it may be not there, or there and empty, or a text
-abbrev pub field_seen : Field → Option (Option Text)
-field_seen Missing = None
-field_seen Dash = Some None
-field_seen (Name name) = Some (Some (shown name))
 
 -- the text of a value, of which AsStr gives the bytes
 abbrev pub text_of : {S : Type 0} → (S → List ℕ) → S → Text
