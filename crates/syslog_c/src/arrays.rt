@@ -7,8 +7,8 @@ ghost use Rattle.syslog_pieces.specs.StructuredData.Visited.{element_seen};
 ghost use Rattle.syslog_c.specs.Arrays.{HasPut};
 ghost use Rattle.syslog_c.specs.Fields.{IsBegun, IsElement, IsParam};
 
-use crate::fields::{Element, Param};
 use crate::convert::text_of;
+use crate::fields::{Element, Param};
 use syslog_pieces::structured_data as data;
 use syslog_pieces::structured_data::{ElementVisitor, FewParams};
 

@@ -2,12 +2,12 @@
 ghost use Rattle.syslog_c.specs.Outcome.{IsCodeOf};
 ghost use Rattle.syslog_c.specs.Rows.{IsRow, ReadsLines};
 
+use crate::convert::blank_fields;
 use crate::fields::{Row, Text};
 use crate::options::Options;
 use crate::outcome::Outcome;
 use crate::read::read_fields;
 use crate::rules::rules_of;
-use crate::convert::blank_fields;
 use syslog_lines::first_line;
 
 /// Reads the lines of the buffer into rows, one for each line, in order, and sets `read` to the number of rows written.

@@ -6,8 +6,8 @@ ghost use Rattle.syslog_pieces.specs.Pri.{facilities, facility_name, severities,
 ghost use Rattle.syslog_c.specs.Fields.{IsOptionalText};
 ghost use Rattle.syslog_c.specs.Names.{IsDialectName, outcome_texts};
 
-use crate::fields::Text;
 use crate::convert::optional_text;
+use crate::fields::Text;
 use syslog_dialects::Dialect;
 use syslog_loose::{SyslogFacility, SyslogSeverity};
 use syslog_pieces::pri::decompose_pri;

@@ -19,10 +19,10 @@ ghost use Rattle.syslog_c.specs.Shown.{IsShownIn};
 ghost use Rattle.syslog_c.specs.Reported.{AreMeant};
 ghost use Rattle.syslog_c.specs.declared.rules.Rules.{Rules as AnyRules};
 
+use crate::convert::fields_of;
 use crate::fields::Fields;
 use crate::rules::Rules;
 use crate::shown::{with_flags, with_shown};
-use crate::convert::fields_of;
 use syslog_dialects::{SentLine, line_instead, unread_line};
 
 /// Completes the fields of the port's line. If that line keeps its reading, they get what the text shows of its date;

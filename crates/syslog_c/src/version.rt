@@ -2,8 +2,8 @@
 ghost use Rattle.std.specs.Prelude.{◌≡◌, codes};
 ghost use Rattle.syslog_c.specs.Fields.{IsText};
 
-use crate::fields::Text;
 use crate::convert::text_of;
+use crate::fields::Text;
 use syslog_loose::VERSION;
 
 /// Returns the version of the library as a number, to compare with `SYSLOG_VERSION` of the header: 1,000,000 times the

@@ -252,7 +252,8 @@ fn joined(parts: &[&str]) -> InlineText<LINE>
 // Writes a text to the standard error. If that fails, there is no stream left to report it, but the exit status does.
 fn write_text<W: Write>(text: &str, errors: &mut Watched<W>)
     requires { errors.old.failed ≡ false }
-    ensures { WritesUnlessFailed (W.contents errors.old.inner) (W.contents errors.new.inner) errors.new.failed text.now }
+    ensures { WritesUnlessFailed (W.contents errors.old.inner) (W.contents errors.new.inner)
+        errors.new.failed text.now }
 {
     match errors.write_whole(text.as_bytes()) {
         Ok(()) => {}

@@ -125,7 +125,8 @@ pub(crate) fn stamp_cell(stamp: &Option<Ascii>) -> &[u8]
 
 /// Returns the process id that a text names: a number in decimal, or the text.
 pub(crate) fn process_cell<'a>(buffer: &'a mut Buffer, process: Option<&'a str>) -> &'a [u8]
-    ensures { result.now ≡ cell_of (option_map (λ p. text_json (procid_text p)) (option_map named_process (seen process.entry))) }
+    ensures { result.now ≡ cell_of (option_map (λ p. text_json (procid_text p))
+        (option_map named_process (seen process.entry))) }
 {
     match process {
         Some(word) => named_cell(buffer, word),

@@ -16,10 +16,12 @@ ghost use Rattle.syslog_dialects.specs.declared.dialect.Dialect.{Dialect};
 
 /// A line that `syslog_loose` parses and that is ordinary is read as it parses it, and in no dialect, whatever it says.
 pub fn ordinary_lines_keep_their_reading()
-    ensures kept { (dates : AllDates) (dating : Dating) (dialects : Bool) (variant : Variant) (text : Text) (line : Line)
+    ensures kept { (dates : AllDates) (dating : Dating) (dialects : Bool) (variant : Variant) (text : Text)
+        (line : Line)
         → IsLineOf variant dating text line → IsOrdinary line
         → IsReadSent dates dating dialects variant text None (line_value line) }
-    ensures only { (dates : AllDates) (dating : Dating) (dialects : Bool) (variant : Variant) (text : Text) (line : Line)
+    ensures only { (dates : AllDates) (dating : Dating) (dialects : Bool) (variant : Variant) (text : Text)
+        (line : Line)
         → IsLineOf variant dating text line → IsOrdinary line → (dialect : Dialect) (m : MessageValue)
         → IsReadSent dates dating dialects variant text (Some dialect) m → ⊥ }
 {}

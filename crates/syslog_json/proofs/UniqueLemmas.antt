@@ -102,8 +102,8 @@ module _ {V : Type 0} {post : IncompleteDate → ℤ → Type 0} (filter : Objec
           (h.holds h.answered (λ date asks. refl))) left,
     )
 
-    none_written : InYear post Either text (IsMade V (plain_zone filter.dates.zone) text old None new) → HasWritten old []
-        → HasWritten new []
+    none_written : InYear post Either text (IsMade V (plain_zone filter.dates.zone) text old None new)
+        → HasWritten old [] → HasWritten new []
     none_written h empty = let (v, w, none) = h.holds h.answered (λ date asks. refl) in none.2 old [] empty
 
     -- or one that the port does not read

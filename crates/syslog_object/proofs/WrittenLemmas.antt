@@ -293,4 +293,3 @@ text_of_message m b small =
 
 pub text_of_refused : (line : List ℕ) → IsTextOf (refused_json line) (compact_text (refused_json line))
 text_of_refused line = text_of_small (refused_json line) (tt, (tt, tt)) (omega arith)
-

@@ -117,4 +117,3 @@ beside_line dialect unparsed raw = record { dialect = dialect; unparsed = if_any
 -- the value of a line that is no message
 abbrev pub refused_json : List ℕ → Json
 refused_json line = object_of ((codes "message", Some (string line)) ∷ (codes "refused", Some (boolean true)) ∷ [])
-

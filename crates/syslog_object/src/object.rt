@@ -84,7 +84,8 @@ fn push_fields(
     raw: Option<&str>,
 ) -> Result<(), AllocError>
     ensures text { OnOk result ((unparsed : Text) × IsLeftUnparsed line.now unparsed × (out.new ≡ out.old
-        ++ compact_text (message_json (line_value line.now) (beside_line (seen dialect.entry) unparsed (seen raw.entry))))) }
+        ++ compact_text (message_json (line_value line.now)
+        (beside_line (seen dialect.entry) unparsed (seen raw.entry))))) }
     ensures small { IsSmallVersion (line_value line.now).protocol }
 {
     let unparsed = line.list.unparsed();

@@ -98,7 +98,8 @@ impl<'a> ObjectWriter<'a> {
     ) -> Result<(), AllocError>
         requires { HasWritten self.old (list_elements line.now.list) }
         ensures ok { OnOk result ((unparsed : Text) × IsLeftUnparsed line.now unparsed × ((bytes : List ℕ)
-            × IsTextOf (message_json (line_value line.now) (beside_line (seen dialect.entry) unparsed (seen raw.entry))) bytes
+            × IsTextOf (message_json (line_value line.now)
+            (beside_line (seen dialect.entry) unparsed (seen raw.entry))) bytes
             × (output.new.items ≡ output.old.items ++ bytes))) }
         ensures err { OnErr result (output.new.items ≡ output.old.items) }
     {

@@ -93,7 +93,8 @@ pub fn to_rfc5424<F: FnOnce(IncompleteDate) -> i32>(
         ⊎ InYear (F.post get_year) variant (chars input.entry.now) (λ year. NoSyslogMsg (chars input.entry.now)
         × MatchResult result
         (λ text. IsConvertedText variant (dating_of year tz.entry local.entry) (chars input.entry.now) (text_in text))
-        (λ fault. (fault ≡ Invalid) ↔ IsUnreadable variant (dating_of year tz.entry local.entry) (chars input.entry.now))) }
+        (λ fault. (fault ≡ Invalid)
+        ↔ IsUnreadable variant (dating_of year tz.entry local.entry) (chars input.entry.now))) }
 {
     let mut text = String::new(alloc);
     match to_rfc5424_into(alloc, &mut text, input, get_year, tz, variant, local) {

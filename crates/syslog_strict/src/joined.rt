@@ -70,7 +70,8 @@ impl Joined {
 
     // Appends the parameters of this id.
     fn push_params_of(&self, out: &mut String, id: &String) -> Result<(), AllocError>
-        ensures { OnOk result (Appends out.old (text_or_none (get_by_text self.now.params (string_bytes id.now))) out.new) }
+        ensures { OnOk result
+            (Appends out.old (text_or_none (get_by_text self.now.params (string_bytes id.now))) out.new) }
     {
         match self.params.get(id.as_str()) {
             Some(params) => push_text(out, params.as_str()),

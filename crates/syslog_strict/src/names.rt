@@ -92,7 +92,8 @@ fn is_last_char(left: usize, more: &str) -> bool
 // Returns the character of a host as it is written: a last colon becomes `?`.
 #[inline(always)]
 fn host_char(c: char, is_last: bool) -> char
-    ensures { result ≡ if is_last then kept_char no_colon (kept_char is_printusascii c) else kept_char is_printusascii c }
+    ensures { result ≡ if is_last then kept_char no_colon (kept_char is_printusascii c)
+        else kept_char is_printusascii c }
 {
     let c = Kept::Printable.kept(c);
     if is_last && c == ':' { '?' } else { c }
@@ -102,7 +103,8 @@ fn host_char(c: char, is_last: bool) -> char
 #[inline(always)]
 pub(crate) fn push_word(out: &mut String, word: Option<&str>, most: usize) -> Result<(), AllocError>
     requires { 1 < most }
-    ensures { OnOk result (Appends out.old (name_text (option_and_then (converted_word most) (seen word.entry))) out.new) }
+    ensures { OnOk result
+        (Appends out.old (name_text (option_and_then (converted_word most) (seen word.entry))) out.new) }
 {
     match word {
         Some(word) => push_word_text(out, word, most),
@@ -144,7 +146,8 @@ pub(crate) fn push_process(
 // Appends the process id that this text names: the text itself, if that is in the grammar and printed as it is.
 #[inline(always)]
 fn push_process_text(alloc: Global, out: &mut String, word: &str) -> Result<(), AllocError>
-    ensures { OnOk result (Appends out.old (process_text (converted_process (named_process (chars word.now)))) out.new) }
+    ensures { OnOk result
+        (Appends out.old (process_text (converted_process (named_process (chars word.now)))) out.new) }
 {
     if word.len() > 1 && is_bare_word(word) && is_kept(word, Kept::Printable, PROCESS) {
         return push_text(out, word);

@@ -176,7 +176,7 @@ TidiesAll-again year in_before in_after out_before out_after summary (found, all
     let read : all.all.read ≡ output = rw e at (Consumes-whole in_before in_after all.all.read
     (λ (l : List ℕ). all.all.read ≡ l) all.all.consumed all.all.at_end refl) in
     let free =
-      All-weaker (IsStableLine year) NoFeed (λ line at. at.0) ts (All-from_recursion (IsStableLine year) ts rests) in
+    All-weaker (IsStableLine year) NoFeed (λ line at. at.0) ts (All-from_recursion (IsStableLine year) ts rests) in
     let same = fed_lines ts all.lines free
     (subst (λ (l : List ℕ). IsLines l all.lines) (sym all.all.framed.1 ∙ read ∙ fed)
     (frames_are_lines all.all.framed.0 all.lines all.all.framed.2)) in

@@ -48,7 +48,11 @@ impl Line<'_> {
 fn front_of(line: &Line<'_>) -> Ascii
     ensures { ascii_bytes result ≡ front_text (printed_number line.now.priority) line.now.version line.now.timestamp }
 {
-    Ascii::front(printed_priority(line.priority), line.version, line.timestamp)
+    Ascii::front(
+        printed_priority(line.priority),
+        line.version,
+        line.timestamp,
+    )
 }
 
 // Writes all after the timestamp, field by field.

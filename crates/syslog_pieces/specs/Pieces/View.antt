@@ -1,5 +1,5 @@
 -- How clauses see the texts that the program holds.
-use Rattle.std.specs.Prelude.{◌≡◌, ℕ, Bool, List, Option, Some, None, MatchOption, nat_eq}
+use Rattle.std.specs.Prelude.{◌≡◌, ℕ, Bool, List, Option, MatchOption, nat_eq}
 use Rattle.std.specs.Option.{option_map}
 use Rattle.std.specs.Borrow.{Bor}
 use Rattle.std.specs.Str.{chars}

@@ -57,7 +57,8 @@ pub fn four_digits(text: &[u8]) -> Option<(u16, &[u8])>
 #[inline(always)]
 pub fn after_letter(text: &[u8], upper: u8) -> Option<&[u8]>
     requires { upper < 128 }
-    ensures { MatchOption result (NoFront (spec.letter upper) text.now) (λ rest. Front (spec.letter upper) text.now rest.now tt) }
+    ensures { MatchOption result (NoFront (spec.letter upper) text.now)
+        (λ rest. Front (spec.letter upper) text.now rest.now tt) }
 {
     match text {
         [first, rest @ ..] if *first == upper => Some(rest),
@@ -118,7 +119,10 @@ fn triple(text: &[u8]) -> Option<(u32, &[u8])>
 {
     match text {
         [a @ b'0'..=b'9', b @ b'0'..=b'9', c @ b'0'..=b'9', rest @ ..] => {
-            Some((digit_value(*a) * 100 + digit_value(*b) * 10 + digit_value(*c), rest))
+            Some((
+                digit_value(*a) * 100 + digit_value(*b) * 10 + digit_value(*c),
+                rest,
+            ))
         }
         _ => None,
     }

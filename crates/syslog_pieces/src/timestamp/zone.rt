@@ -88,8 +88,8 @@ fn of_fields(
     tz: Option<&TimeZone<'_>>,
     local: &TimeZone<'_>,
 ) -> Option<ClockStamp>
-    ensures { IsAnswer (spec.IsStampOfFields (option_map (λ z. plain_zone z.now) tz.entry) (plain_zone local.now) fields)
-        result }
+    ensures { IsAnswer (spec.IsStampOfFields (option_map (λ z. plain_zone z.now) tz.entry)
+        (plain_zone local.now) fields) result }
 {
     let dt = fields.datetime()?;
     match tz {

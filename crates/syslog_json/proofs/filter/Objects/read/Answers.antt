@@ -6,12 +6,14 @@ use Rattle.syslog_json.proofs.filter.Objects.read.Goals as goal
 
 pub sent_line-requires : goal.sent_line-requires
 sent_line-requires c =
-    made_form {V = Itself} c.args.self.now (chars c.args.line.now) c.args.writer.now c.visit_line.new.elements c.in-Some.found
+    made_form {V = Itself} c.args.self.now (chars c.args.line.now) c.args.writer.now c.visit_line.new.elements
+    c.in-Some.found
     (in_year_map (λ year made. (_, _, made)) c.in-Some.ensures)
 
 pub returns-in-Some : goal.returns-in-Some
 returns-in-Some c =
-    line_read {V = Itself} c.args.self.now (chars c.args.line.now) c.args.writer.now c.visit_line.new.elements c.in-Some.found
+    line_read {V = Itself} c.args.self.now (chars c.args.line.now) c.args.writer.now c.visit_line.new.elements
+    c.in-Some.found
     (in_year_map (λ year made. (_, _, made)) c.in-Some.ensures) (λ date y is. is.1) c.requires c.sent_line.result
     c.sent_line.ensures.reads c.sent_line.ensures.elements c.sent_line.ensures.leaves
 

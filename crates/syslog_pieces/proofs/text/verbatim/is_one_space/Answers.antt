@@ -1,5 +1,5 @@
 use Rattle.std.proofs.Common.{eq-eqb}
-use Rattle.syslog_pieces.proofs.Names.{ap, length, arith, eqb-true, refl, sym, ◌∙◌, false_is}
+use Rattle.syslog_pieces.proofs.Names.{ap, length, arith, eqb-true, ◌∙◌, false_is}
 use Rattle.syslog_pieces.proofs.TextLemmas.Runs.{space_bytes, space_stands}
 use Rattle.syslog_pieces.proofs.text.verbatim.is_one_space.Goals as goal
 

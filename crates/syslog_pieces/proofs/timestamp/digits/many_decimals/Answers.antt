@@ -22,10 +22,10 @@ digits-preserved c =
     let small = small_digit _ _ _ _ c.split_at.ensures.front c.digits-test.true c.digits_len-len.ensures.digits in
     let value : c.digit_value.result ≡ get_or ds i 0 - 48 = omega (arith, c.digit_value.ensures) in
     elim (cases_lt i 9) [
-      | inl lt ↦ step_on ds i c.digits.nanosecond c.digit_value.result c.digits.place _ (9 - i) _ c.digits-test.true value
-          (rw value small) worth bound so_far (omega arith)
-      | inr past ↦ step_past ds i c.digits.nanosecond c.digit_value.result c.digits.place _ (9 - i) _ c.digits-test.true value
-          (rw value small) worth bound so_far (omega arith) (omega arith)
+      | inl lt ↦ step_on ds i c.digits.nanosecond c.digit_value.result c.digits.place _ (9 - i) _
+          c.digits-test.true value (rw value small) worth bound so_far (omega arith)
+      | inr past ↦ step_past ds i c.digits.nanosecond c.digit_value.result c.digits.place _ (9 - i) _
+          c.digits-test.true value (rw value small) worth bound so_far (omega arith) (omega arith)
     ]
 
 pub returns : goal.returns
