@@ -23,7 +23,7 @@ def folders(name, flag, made):
 
 native = Extension(
     "syslog_loose._native",
-    ["src/native.c", "src/call.c", "src/message.c", "src/written.c", "src/columns.c", "src/texts.c"],
+    ["src/native.c", "src/call.c", "src/message.c", "src/written.c", "src/decode.c", "src/columns.c", "src/texts.c"],
     depends=["src/native.h", "src/columns.h"],
     include_dirs=folders("SYSLOG_LOOSE_INCLUDE", "--cflags-only-I", os.path.join(TOP, "include")),
     library_dirs=folders("SYSLOG_LOOSE_LIB", "--libs-only-L", os.path.join(TOP, "out")),

@@ -1,8 +1,8 @@
 /* The arguments of the calls for one line, and their refusals. */
 #include "native.h"
 
-enum key { YEAR, MONTH, OFFSET, VARIANT, DIALECTS, RAW, KEYS };
-static const char *const key_names[KEYS] = {"year", "month", "offset", "variant", "dialects", "raw"};
+enum key { YEAR, MONTH, OFFSET, VARIANT, ERRORS, DIALECTS, RAW, KEYS };
+static const char *const key_names[KEYS] = {"year", "month", "offset", "variant", "errors", "dialects", "raw"};
 static PyObject *interned[KEYS];
 
 /* Callers' names of arguments are interned, so most are told by their place. */
@@ -60,16 +60,23 @@ static int32_t number_of(PyObject *word)
     return -1;
 }
 
-static uint32_t variant_of(PyObject *word)
+/* A word that an argument may be, and its number. */
+struct choice {
+    const char *name;
+    uint32_t number;
+};
+
+static uint32_t chosen(const struct choice *choices, size_t count, const char *what, PyObject *word)
 {
-    static const struct variant { const char *name; uint32_t number; } variants[] = {
-        {"either", 0}, {"3164", 3164}, {"5424", 5424}};
-    for (size_t i = 0; PyUnicode_Check(word) && i < COUNT_OF(variants); i++)
-        if (PyUnicode_CompareWithASCIIString(word, variants[i].name) == 0)
-            return variants[i].number;
-    PyErr_Format(PyExc_ValueError, "there is no such variant: %R", word);
+    for (size_t i = 0; PyUnicode_Check(word) && i < count; i++)
+        if (PyUnicode_CompareWithASCIIString(word, choices[i].name) == 0)
+            return choices[i].number;
+    PyErr_Format(PyExc_ValueError, "there is no such %s: %R", what, word);
     return 0;
 }
+
+static const struct choice variants[] = {{"either", 0}, {"3164", 3164}, {"5424", 5424}};
+static const struct choice handlings[] = {{"strict", STRICT}, {"replace", REPLACE}, {"latin-1", LATIN1}};
 
 /* Takes an argument that has a name. */
 static void take_word(enum key key, PyObject *word, struct call *call)
@@ -81,37 +88,68 @@ static void take_word(enum key key, PyObject *word, struct call *call)
     else if (key == OFFSET)
         call->options.offset = number_of(word);
     else if (key == VARIANT)
-        call->options.variant = variant_of(word);
+        call->options.variant = chosen(variants, COUNT_OF(variants), "variant", word);
+    else if (key == ERRORS)
+        call->errors = chosen(handlings, COUNT_OF(handlings), "handling of errors", word);
     else if (key == DIALECTS)
         call->options.no_dialects = PyObject_IsTrue(word) == 0;
     else
         call->raw = (uint32_t)PyObject_IsTrue(word);
 }
 
-static int take_line(PyObject *word, struct line *line)
+static int take_text(PyObject *text, struct line *line)
 {
-    line->given = word;
-    line->is_ascii = 0;
-    if (!PyUnicode_Check(word))
-        return PyBytes_AsStringAndSize(word, (char **)&line->start, &line->length);
-    line->start = PyUnicode_AsUTF8AndSize(word, &line->length);
+    line->text = text;
+    line->start = PyUnicode_AsUTF8AndSize(text, &line->length);
     if (line->start) {
-        line->is_ascii = PyUnicode_GetLength(word) == line->length;
+        line->is_ascii = PyUnicode_GetLength(text) == line->length;
         return 0;
     }
     if (PyErr_ExceptionMatches(PyExc_UnicodeEncodeError)) {
         PyErr_Clear();
-        refuse(SYSLOG_NOT_UTF8, word);
+        refuse(SYSLOG_NOT_UTF8, line->given);
     }
     return -1;
 }
 
-/* Takes a line, and by their names the first of the keys, of which the year has to be there. */
+/* Takes bytes as a text. Those that are not UTF-8 are decoded. */
+static int take_decoded(struct line *line, int latin1)
+{
+    line->made = PyUnicode_DecodeUTF8(line->start, line->length, NULL);
+    if (!line->made && PyErr_ExceptionMatches(PyExc_UnicodeDecodeError)) {
+        PyErr_Clear();
+        line->made = decoded_text(line->start, line->length, latin1);
+        line->is_replaced = !latin1;
+    }
+    if (line->made && take_text(line->made, line) == 0)
+        return 0;
+    Py_CLEAR(line->made);
+    return -1;
+}
+
+static int take_line(PyObject *word, uint32_t errors, struct line *line)
+{
+    *line = (struct line){.given = word};
+    if (PyUnicode_Check(word))
+        return take_text(word, line);
+    if (PyBytes_AsStringAndSize(word, (char **)&line->start, &line->length))
+        return -1;
+    return errors == STRICT ? 0 : take_decoded(line, errors == LATIN1);
+}
+
+void end_call(struct call *call)
+{
+    Py_CLEAR(call->line.made);
+}
+
+/* Takes a line, and by their names the first of the keys, of which the year has to be there. A call that was taken has
+ * to be ended. */
 int take_call(PyObject *const *words, Py_ssize_t count, PyObject *names, int keys, struct call *call)
 {
     Py_ssize_t named = names ? PyTuple_Size(names) : 0;
     int has_year = 0;
     call->options = (struct syslog_options){0};
+    call->errors = STRICT;
     call->raw = 0;
     if (count != 1) {
         PyErr_SetString(PyExc_TypeError, "one line is taken, and the other arguments by their names");
@@ -130,5 +168,5 @@ int take_call(PyObject *const *words, Py_ssize_t count, PyObject *names, int key
         PyErr_SetString(PyExc_TypeError, "there is no year: year=2026, say");
         return -1;
     }
-    return take_line(words[0], &call->line);
+    return take_line(words[0], call->errors, &call->line);
 }

@@ -63,7 +63,7 @@ static PyObject *text_of(const struct line *line, const struct syslog_text *text
     if (!line->is_ascii)
         return PyUnicode_FromStringAndSize(text->start, (Py_ssize_t)text->length);
     Py_ssize_t at = text->length ? text->start - line->start : 0;
-    return PyUnicode_Substring(line->given, at, at + (Py_ssize_t)text->length);
+    return PyUnicode_Substring(line->text, at, at + (Py_ssize_t)text->length);
 }
 
 /* The year, the month and the day of so many days since 1970. */
@@ -238,7 +238,7 @@ static PyObject *fields_of(const struct line *line, const struct syslog_options 
     PyTuple_SetItem(made, MSGID, text_of(line, &m->msgid));
     PyTuple_SetItem(made, STRUCTURED_DATA, elements_of(line, elements, m->elements, params));
     PyTuple_SetItem(made, MESSAGE, text_of(line, &m->msg));
-    PyTuple_SetItem(made, RAW, counted(line->given));
+    PyTuple_SetItem(made, RAW, counted(line->text));
     PyTuple_SetItem(made, DIALECT, m->dialect ? name_of(m->dialect) : counted(Py_None));
     PyTuple_SetItem(made, UNPARSED, text_of(line, &m->unparsed));
     /* A field that could not be made is missing, and this says why. */
@@ -251,15 +251,15 @@ static PyObject *message_of(const struct line *line, const struct syslog_options
                             const struct syslog_message *m, const struct syslog_element *elements,
                             const struct syslog_param *params)
 {
-    if (PyUnicode_Check(line->given))
+    if (line->text)
         return fields_of(line, options, m, elements, params);
     struct line text = *line;
-    text.given = PyUnicode_FromStringAndSize(line->start, line->length);
-    if (!text.given)
+    text.text = PyUnicode_FromStringAndSize(line->start, line->length);
+    if (!text.text)
         return NULL;
-    text.is_ascii = PyUnicode_GetLength(text.given) == line->length;
+    text.is_ascii = PyUnicode_GetLength(text.text) == line->length;
     PyObject *made = fields_of(&text, options, m, elements, params);
-    Py_DECREF(text.given);
+    Py_DECREF(text.text);
     return made;
 }
 
@@ -283,19 +283,15 @@ static PyObject *read_large(const struct line *line, const struct syslog_options
     return made;
 }
 
-PyObject *parse(PyObject *self, PyObject *const *words, Py_ssize_t count, PyObject *names)
+static PyObject *parse_line(const struct line *line, const struct syslog_options *options)
 {
-    struct call call;
     struct syslog_message m = SYSLOG_MESSAGE_INIT;
-    if (take_call(words, count, names, READING_KEYS, &call))
-        return NULL;
-    const struct line *line = &call.line;
     size_t element_room = rooms.are_taken ? 0 : COUNT_OF(rooms.elements);
     size_t param_room = rooms.are_taken ? 0 : COUNT_OF(rooms.params);
-    uint32_t outcome = syslog_read(line->start, (size_t)line->length, &call.options, &m, rooms.elements, element_room,
+    uint32_t outcome = syslog_read(line->start, (size_t)line->length, options, &m, rooms.elements, element_room,
                                    rooms.params, param_room);
     if (outcome == SYSLOG_NO_ROOM)
-        return read_large(line, &call.options, &m);
+        return read_large(line, options, &m);
     if (outcome != SYSLOG_DONE)
         return refuse(outcome, line->given);
     /* While the message is made, Python may collect garbage, and run code that comes here again, of another thread too.
@@ -303,8 +299,18 @@ PyObject *parse(PyObject *self, PyObject *const *words, Py_ssize_t count, PyObje
     int takes = m.elements > 0;
     if (takes)
         rooms.are_taken = 1;
-    PyObject *made = message_of(line, &call.options, &m, rooms.elements, rooms.params);
+    PyObject *made = message_of(line, options, &m, rooms.elements, rooms.params);
     if (takes)
         rooms.are_taken = 0;
+    return made;
+}
+
+PyObject *parse(PyObject *self, PyObject *const *words, Py_ssize_t count, PyObject *names)
+{
+    struct call call;
+    if (take_call(words, count, names, READING_KEYS, &call))
+        return NULL;
+    PyObject *made = parse_line(&call.line, &call.options);
+    end_call(&call);
     return made;
 }

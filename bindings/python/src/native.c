@@ -23,7 +23,7 @@ static PyObject *version(PyObject *self, PyObject *none)
 
 #define OF_A_LINE(name, more, text) \
     {#name, (PyCFunction)(void (*)(void))name, METH_FASTCALL | METH_KEYWORDS, \
-     #name "($module, line, /, *, year, month=None, offset=0, variant='either'" more ")\n--\n\n" text}
+     #name "($module, line, /, *, year, month=None, offset=0, variant='either', errors='strict'" more ")\n--\n\n" text}
 
 static PyMethodDef methods[] = {
     OF_A_LINE(parse, ", dialects=True", "Returns the message of a line. Raises ParseError if it is no message."),
@@ -43,6 +43,7 @@ static PyMethodDef methods[] = {
      "dialect_name($module, number, /)\n--\n\nReturns the name of the dialect that has this number; None if none has."},
     {"set_up", set_up, METH_VARARGS, NULL},
     {"version", version, METH_NOARGS, NULL},
+    {"decoded", decoded, METH_VARARGS, NULL},
     {"columns", columns, METH_VARARGS, NULL},
     {"texts", texts, METH_VARARGS, NULL},
     {"categories", categories, METH_VARARGS, NULL},

@@ -22,31 +22,36 @@ extern struct given {
     PyObject *error, *message, *element, *facilities, *severities, *zone, *zones;
 } given;
 
-/* A line as it was given, its bytes, and whether it is a text of ASCII alone. */
+/* A line as it was given, and its bytes. If it is a text, or bytes that had to be decoded, `text` is that, and
+ * `is_ascii` says whether it is ASCII alone. Of bytes that were decoded it is `made` for the call, which gives it back. */
 struct line {
-    PyObject *given;
+    PyObject *given, *text, *made;
     const char *start;
     Py_ssize_t length;
-    int is_ascii;
+    int is_ascii, is_replaced;
 };
+
+/* What becomes of bytes that are not UTF-8, as the argument `errors` says it. */
+enum errors { STRICT, REPLACE, LATIN1 };
 
 /* The arguments of a call for one line. */
 struct call {
     struct line line;
     struct syslog_options options;
-    uint32_t raw;
+    uint32_t errors, raw;
 };
 
-/* How many of the arguments that have names a call takes: year, month, offset, variant; dialects; raw. */
-#define PRINTING_KEYS 4
-#define READING_KEYS 5
-#define OBJECT_KEYS 6
+/* How many of the arguments that have names a call takes: year, month, offset, variant, errors; dialects; raw. */
+#define PRINTING_KEYS 5
+#define READING_KEYS 6
+#define OBJECT_KEYS 7
 
 typedef uint32_t writer(const char *, size_t, const struct syslog_options *, char *, size_t, size_t *);
 
 /* call.c: the arguments, and what the caller is told of a line that gives nothing (NULL). */
 int set_keys(void);
 int take_call(PyObject *const *words, Py_ssize_t count, PyObject *names, int keys, struct call *call);
+void end_call(struct call *call);
 void *refuse(uint32_t outcome, PyObject *line);
 
 /* message.c and written.c: the calls for one line. */
@@ -59,6 +64,10 @@ PyObject *json(PyObject *self, PyObject *const *words, Py_ssize_t count, PyObjec
 PyObject *dialect_name(PyObject *self, PyObject *number);
 PyObject *written(writer *call, const struct line *line, const struct syslog_options *options);
 writer object_of;
+
+/* decode.c: bytes that are not UTF-8. */
+PyObject *decoded_text(const char *bytes, Py_ssize_t length, int latin1);
+PyObject *decoded(PyObject *self, PyObject *words);
 
 /* columns.c and texts.c: those for many lines. */
 PyObject *columns(PyObject *self, PyObject *words);

@@ -37,7 +37,11 @@ PyObject *written(writer *call, const struct line *line, const struct syslog_opt
 static PyObject *write_by(writer *writes, PyObject *const *words, Py_ssize_t count, PyObject *names)
 {
     struct call call;
-    return take_call(words, count, names, PRINTING_KEYS, &call) ? NULL : written(writes, &call.line, &call.options);
+    if (take_call(words, count, names, PRINTING_KEYS, &call))
+        return NULL;
+    PyObject *text = written(writes, &call.line, &call.options);
+    end_call(&call);
+    return text;
 }
 
 PyObject *normalise(PyObject *self, PyObject *const *words, Py_ssize_t count, PyObject *names)
@@ -55,10 +59,23 @@ PyObject *to_rfc5424(PyObject *self, PyObject *const *words, Py_ssize_t count, P
     return write_by(syslog_to_rfc5424, words, count, names);
 }
 
+/* The object as one that says that its line is not UTF-8. */
+static PyObject *marked(PyObject *object)
+{
+    PyObject *front = PyUnicode_Substring(object, 0, PyUnicode_GetLength(object) - 1);
+    PyObject *made = front ? PyUnicode_FromFormat("%U,\"invalid_utf8\":true}", front) : NULL;
+    Py_XDECREF(front);
+    Py_DECREF(object);
+    return made;
+}
+
 PyObject *json(PyObject *self, PyObject *const *words, Py_ssize_t count, PyObject *names)
 {
     struct call call;
     if (take_call(words, count, names, OBJECT_KEYS, &call))
         return NULL;
-    return written(call.raw ? raw_object_of : object_of, &call.line, &call.options);
+    PyObject *object = written(call.raw ? raw_object_of : object_of, &call.line, &call.options);
+    int is_replaced = call.line.is_replaced;
+    end_call(&call);
+    return object && is_replaced ? marked(object) : object;
 }

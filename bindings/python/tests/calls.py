@@ -30,6 +30,7 @@ CALLS = [it.parse, it.normalise, it.settle, it.to_rfc5424, it.json]
 OPTIONS = [
     {"year": 2026}, {"year": 2026, "month": 1, "offset": -5400, "variant": "either"}, {"year": 2026, "variant": "3164"}
 ]
+OPTIONS += [{"year": 2026, "errors": it} for it in ("replace", "latin-1", "ignore")]
 OPTIONS += [
     {"year": 10000}, {"year": 1 << 40}, {"year": "2026"}, {"year": 2026, "variant": "rfc"}, {"month": 1}, {"yaer": 2026}
 ]

@@ -5,6 +5,7 @@ import gc
 import importlib.util
 import inspect
 import io
+import itertools
 import json
 import os
 import pickle
@@ -108,6 +109,89 @@ class Parsing(unittest.TestCase):
             line = "1 - - - - - - ".ljust(size, "ü")
             self.assertEqual(parse(line, year=2026).message, "ü" * (size - 14))
             self.assertEqual(settle(line, year=2026), "<47>" + line)
+
+
+class OtherBytes(unittest.TestCase):
+    """Lines in bytes that are not UTF-8."""
+
+    LINE = b'<34>1 2003-10-11T22:14:15Z h\xe9 app 7 - [a b="\xff"] caf\xe9 \xe2\x82 x'
+    NONE = b"caf\xe9"
+    TEXTS = {"replace": LINE.decode(errors="replace"), "latin-1": LINE.decode("latin-1")}
+
+    def test_they_are_refused(self):
+        for errors in ({}, {"errors": "strict"}):
+            for call in (parse, *WRITERS):
+                with self.assertRaises(ParseError) as refused:
+                    call(self.LINE, year=2026, **errors)
+                self.assertEqual(refused.exception.line, self.LINE)
+
+    def test_they_are_decoded(self):
+        for errors, text in self.TEXTS.items():
+            m = parse(self.LINE, year=2026, errors=errors)
+            self.assertEqual(m, parse(text, year=2026))
+            self.assertEqual(m.raw, text)
+            for call in (normalise, settle, to_rfc5424):
+                self.assertEqual(call(self.LINE, year=2026, errors=errors), call(text, year=2026))
+        self.assertEqual(parse(self.LINE, year=2026, errors="replace").message, "caf\ufffd \ufffd x")
+        self.assertEqual(parse(self.LINE, year=2026, errors="latin-1").message, "caf\xe9 \xe2\x82 x")
+
+    def test_utf8_and_texts_are_read_as_they_are(self):
+        for errors in ("strict", "replace", "latin-1"):
+            for line in (LINE, LINE.encode(), "1 - - - - - - x", b"1 - - - - - - x"):
+                self.assertEqual(parse(line, year=2026, errors=errors), parse(line, year=2026))
+                self.assertEqual(to_rfc5424(line, year=2026, errors=errors), to_rfc5424(line, year=2026))
+
+    def test_a_refused_line_is_as_it_was_given(self):
+        for errors in ("replace", "latin-1"):
+            with self.assertRaises(ParseError) as refused:
+                parse(self.NONE, year=2026, errors=errors)
+            self.assertEqual(refused.exception.line, self.NONE)
+
+    def test_objects_say_what_was_replaced(self):
+        for raw in (False, True):
+            plain = {it: json.loads(syslog_loose.json(text, year=2026, raw=raw)) for it, text in self.TEXTS.items()}
+            made = {it: json.loads(syslog_loose.json(self.LINE, year=2026, raw=raw, errors=it)) for it in plain}
+            self.assertEqual(list(made["replace"].items()), [*plain["replace"].items(), ("invalid_utf8", True)])
+            self.assertEqual(made["latin-1"], plain["latin-1"])
+        self.assertNotIn("invalid_utf8", syslog_loose.json(LINE.encode(), year=2026, errors="replace"))
+
+    def test_parts_that_are_replaced(self):
+        """As Python's own decoder replaces them."""
+        some = [bytes([it]) for it in b"a\x7f\x80\x8f\x90\x9f\xa0\xbf\xc1\xc2\xdf\xe0\xe1\xed\xef\xf0\xf1\xf4\xf5\xff"]
+        for bytes_ in map(b"".join, itertools.product(some, repeat=3)):
+            line = b"1 - - - - - - |" + bytes_ + b"|"
+            self.assertEqual(parse(line, year=2026, errors="replace").raw, line.decode(errors="replace"))
+
+    def test_a_file(self):
+        given = [self.LINE + b"\n", b"1 - - - - - - x\n", self.NONE]
+        for errors, text in self.TEXTS.items():
+            refused = []
+            seen = [it.raw for it in read(given, year=2026, errors=errors, refused=refused.append)]
+            self.assertEqual((seen, refused), ([text, "1 - - - - - - x"], [self.NONE]))
+        with self.assertRaises(ParseError):
+            list(read(given, year=2026))
+
+    def test_columns(self):
+        from syslog_loose import _columns
+
+        given = b"\n".join([self.LINE, b"1 - - - - - - \xc3\xa9", self.NONE]) + b"\n"
+        wanted = {
+            "strict": (given, b"\x02\x00\x02"),
+            "replace": (given.decode(errors="replace").encode(), b"\x00\x00\x01"),
+            "latin-1": (given.decode("latin-1").replace("\xc3\xa9", "\xe9").encode(), b"\x00\x00\x01"),
+        }
+        for errors, want in wanted.items():
+            buffer, told = _columns._told(given, 0, 2026, 0, 0, True, errors)
+            begin = 3 * _columns._BEFORE_OUTCOME
+            self.assertEqual((buffer, bytes(told[begin : begin + 3])), want)
+        self.assertEqual(_columns._COLUMNS[-5][0], "outcome")
+        with self.assertRaises(ValueError):
+            _columns._told(given, 0, 2026, 0, 0, True, "ignore")
+
+    def test_what_errors_may_be(self):
+        for errors in ("ignore", "latin1", "", None, 1):
+            with self.assertRaises(ValueError):
+                parse(self.LINE, year=2026, errors=errors)
 
 
 class Dates(unittest.TestCase):
@@ -493,6 +577,21 @@ class Program(unittest.TestCase):
                         continue
                     self.assertLessEqual(set(made), set(header))
 
+    def test_bytes_that_are_not_utf8(self):
+        line = b"<34>1 - h\xe9 app - - - caf\xe9\n"
+        replaced = "1 of 1 lines have U+FFFD for what is not UTF-8\n"
+        front = '{"protocol":"RFC5424","version":1,"facility":"auth","facility_code":4,"severity":"crit","severity_code":2,'
+        fields = '"hostname":"h%s","appname":"app","message":"caf%s"'
+        for words, given, wanted in (
+            ((), line, (1, front + fields % ("\ufffd", "\ufffd") + ',"invalid_utf8":true}\n', replaced)),
+            (("--latin1",), line, (0, front + fields % ("\xe9", "\xe9") + "}\n", "")),
+            ((), b"\xff", (1, '{"message":"\ufffd","refused":true,"invalid_utf8":true}\n', "refused 1 of 1 lines\n")),
+            (("--latin1",), b"\xff", (1, '{"message":"\xff","refused":true}\n', "refused 1 of 1 lines\n")),
+        ):
+            self.assertEqual(self.ran("--year", "2026", *words, given=given), wanted)
+        rows = list(csv.reader(io.StringIO(self.ran("--csv", given=line)[1], newline="")))
+        self.assertEqual((rows[1][8], rows[1][-4:]), ("h\ufffd", ["caf\ufffd", "", "", "true"]))
+
     def test_offsets(self):
         for words, shown in (
             (("--offset", "-09:30"), "-09:30"), (("--offset=+01:00",), "+01:00"), (("--raw",), "+00:00")
@@ -533,7 +632,7 @@ class Package(unittest.TestCase):
             with self.assertRaises(TypeError):
                 parse(LINE, **options)
         self.assertEqual(
-            str(inspect.signature(parse)), "(line, /, *, year, month=None, offset=0, variant='either', dialects=True)"
+            str(inspect.signature(parse)), "(line, /, *, year, month=None, offset=0, variant='either', errors='strict', dialects=True)"
         )
 
     def test_version(self):

@@ -257,6 +257,30 @@ fn read(
     }
 }
 
+/// How bytes that are not UTF-8 are decoded.
+#[derive(Clone, Copy, Debug, PartialEq, Eq, Hash)]
+pub enum Decoding {
+    /// U+FFFD replaces each part that is not UTF-8: the front of a character that is cut, as far as it goes, or one
+    /// byte.
+    Replace,
+    /// Each byte is a character of ISO 8859-1, so that nothing is lost.
+    Latin1,
+}
+
+/// Returns a line as UTF-8, for the other calls: as it is if it is UTF-8, and otherwise decoded. The programs
+/// `syslog_json` and `syslog_5424` decode lines so.
+pub fn decode(line: &[u8], decoding: Decoding) -> Result<Cow<'_, str>, Error> {
+    if let Ok(text) = from_utf8(line) {
+        return Ok(Cow::Borrowed(text));
+    }
+    let latin1 = u32::from(decoding == Decoding::Latin1);
+    // SAFETY: the pointers and lengths are those of the line and of the buffer, as in `read`.
+    let text = filled(2 * line.len(), |room, needed| unsafe {
+        raw::syslog_decode(line.as_ptr(), line.len(), latin1, room.as_mut_ptr(), room.len(), needed)
+    });
+    text.map(Cow::Owned)
+}
+
 /// Returns the line in printed form.
 pub fn normalise<T: AsRef<[u8]> + ?Sized>(line: &T, options: &Options) -> Result<String, Error> {
     printed(raw::syslog_normalise, line.as_ref(), options)

@@ -1,4 +1,4 @@
-use crate::{Error, Options, OwnedMessage};
+use crate::{decode, Decoding, Error, Options, OwnedMessage};
 use std::io::{self, BufRead};
 use std::{error, fmt};
 
@@ -7,6 +7,7 @@ use std::{error, fmt};
 pub struct Lines<R> {
     reader: R,
     options: Options,
+    decoding: Option<Decoding>,
     line: Vec<u8>,
 }
 
@@ -39,7 +40,21 @@ impl error::Error for LineError {
 
 /// Returns the messages of a reader's lines, in order. Each line ends with a line feed or with the input.
 pub fn lines<R: BufRead>(reader: R, options: &Options) -> Lines<R> {
-    Lines { reader, options: *options, line: Vec::new() }
+    Lines { reader, options: *options, decoding: None, line: Vec::new() }
+}
+
+impl<R> Lines<R> {
+    /// Decodes lines that are not UTF-8. Otherwise they are refused.
+    pub fn decoding(self, decoding: Decoding) -> Lines<R> {
+        Lines { decoding: Some(decoding), ..self }
+    }
+
+    fn parse(&self) -> Result<OwnedMessage, Error> {
+        match self.decoding {
+            Some(decoding) => OwnedMessage::parse(&*decode(&self.line, decoding)?, &self.options),
+            None => OwnedMessage::parse(&self.line, &self.options),
+        }
+    }
 }
 
 impl<R: BufRead> Iterator for Lines<R> {
@@ -55,7 +70,6 @@ impl<R: BufRead> Iterator for Lines<R> {
         if self.line.last() == Some(&b'\n') {
             self.line.pop();
         }
-        let read = OwnedMessage::parse(&self.line, &self.options);
-        Some(read.map_err(|why| LineError::Refused(self.line.clone(), why)))
+        Some(self.parse().map_err(|why| LineError::Refused(self.line.clone(), why)))
     }
 }

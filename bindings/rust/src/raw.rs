@@ -167,6 +167,14 @@ extern "C" {
         room_length: usize,
         needed: *mut usize,
     ) -> u32;
+    pub fn syslog_decode(
+        bytes: *const u8,
+        length: usize,
+        latin1: u32,
+        room: *mut u8,
+        room_length: usize,
+        needed: *mut usize,
+    ) -> u32;
     pub fn syslog_unescape(
         value: *const u8,
         length: usize,

@@ -1,9 +1,9 @@
 //! The crate over the library that it is linked with.
 use libsyslog_loose::{
-    is_canonical, json, lines, normalise, parse, parse_fields, parse_into, settle, to_rfc5424, version,
+    decode, is_canonical, json, lines, normalise, parse, parse_fields, parse_into, settle, to_rfc5424, version,
 };
-use libsyslog_loose::{Dialect, Error, Facility, LineError, Message, NoSuchName, Options, OwnedMessage, Param};
-use libsyslog_loose::{ProcId, Protocol, Severity, Timestamp, Variant};
+use libsyslog_loose::{Decoding, Dialect, Error, Facility, LineError, Message, NoSuchName, Options, OwnedMessage};
+use libsyslog_loose::{Param, ProcId, Protocol, Severity, Timestamp, Variant};
 use std::borrow::Cow;
 use std::collections::HashSet;
 use std::thread;
@@ -246,6 +246,24 @@ fn the_lines_of_a_reader() {
     assert!(matches!(&read[1], Err(LineError::Refused(line, Error::NotUtf8)) if line == b"\xff"));
     assert_eq!(read[2].as_ref().unwrap().appname.as_deref(), Some("b"));
     assert_eq!(read.len(), 3);
+}
+
+#[test]
+fn bytes_that_are_not_utf8() {
+    let line = b"1 - h\xe9 a - - - caf\xe9 \xe2\x82 x";
+    assert_eq!(decode(line, Decoding::Replace), Ok(String::from_utf8_lossy(line)));
+    assert_eq!(decode(line, Decoding::Latin1).unwrap(), line.iter().map(|it| char::from(*it)).collect::<String>());
+    for decoding in [Decoding::Replace, Decoding::Latin1] {
+        assert!(matches!(decode(LINE.as_bytes(), decoding), Ok(Cow::Borrowed(LINE))));
+        assert_eq!(decode(b"\xff".repeat(100_000).as_slice(), decoding).unwrap().chars().count(), 100_000);
+    }
+    let given = [&line[..], b"\xff", b"1 - h b - - - y"].join(&b'\n');
+    let read: Vec<_> = lines(&given[..], &IN_2026).decoding(Decoding::Latin1).collect();
+    assert_eq!(read[0].as_ref().unwrap().hostname.as_deref(), Some("h\u{e9}"));
+    assert!(matches!(&read[1], Err(LineError::Refused(line, Error::NoMessage)) if line == b"\xff"));
+    assert_eq!(read[2].as_ref().unwrap().appname.as_deref(), Some("b"));
+    let replaced = lines(&given[..], &IN_2026).decoding(Decoding::Replace).next();
+    assert_eq!(replaced.unwrap().unwrap().message, "caf\u{fffd} \u{fffd} x");
 }
 
 #[test]

@@ -9,6 +9,9 @@ Each call takes these:
 - `month` is the current month, from 1 to 12: in January a date of December is of the year before. Without it, all such
   dates are of `year`.
 - `offset` is how many seconds dates that show no offset are ahead of UTC.
+- `errors` says what becomes of a line that is given as bytes which are not UTF-8. By "strict" it is no message. By
+  "replace" it has U+FFFD for each part that is not UTF-8, and by "latin-1" it is read as ISO 8859-1. A line that is
+  UTF-8 is read as that.
 
 `parse`, `json` and what reads many lines read a line in its sender's dialect, if it is in one: docs/SENDERS.md lists
 them. They do so unless `dialects` is false or `variant` names a protocol. `normalise`, `settle` and `to_rfc5424` read
@@ -27,11 +30,12 @@ from typing import Any, BinaryIO, Callable, Iterable, Iterator, Literal, Mapping
 
 from . import _native
 
-__all__ = ["Element", "Facility", "Line", "Message", "ParseError", "Severity", "Source", "Variant"]
+__all__ = ["Element", "Errors", "Facility", "Line", "Message", "ParseError", "Severity", "Source", "Variant"]
 __all__ += ["dialect_name", "json", "normalise", "parse", "read", "read_columns", "settle", "to_frame", "to_rfc5424"]
 __version__ = "0.1.0"
 
 Variant = Literal["either", "3164", "5424"]
+Errors = Literal["strict", "replace", "latin-1"]
 Line = Union[str, bytes]
 #: Lines as bytes, or a file of them: its path, or open in binary mode.
 Source = Union[bytes, str, "os.PathLike[str]", BinaryIO]
@@ -137,6 +141,7 @@ def read(
     offset: int = 0,
     variant: Variant = "either",
     dialects: bool = True,
+    errors: Errors = "strict",
     refused: Callable[[Line], object] | None = None,
 ) -> Iterator[Message]:
     """Yields the message of each line of a file, which is a path, or open. A line that is no message goes to `refused`;
@@ -144,7 +149,7 @@ def read(
     if isinstance(file, (str, os.PathLike)):
         with open(file, "rb") as lines:
             options: dict[str, Any] = {
-                "year": year, "month": month, "offset": offset, "variant": variant, "dialects": dialects
+                "year": year, "month": month, "offset": offset, "variant": variant, "dialects": dialects, "errors": errors
             }
             yield from read(lines, refused=refused, **options)
         return
@@ -152,7 +157,9 @@ def read(
         if line[-1:] in (b"\n", "\n"):
             line = line[:-1]
         try:
-            message = parse(line, year=year, month=month, offset=offset, variant=variant, dialects=dialects)
+            message = parse(
+                line, year=year, month=month, offset=offset, variant=variant, dialects=dialects, errors=errors
+            )
         except ParseError:
             if refused is None:
                 raise
@@ -169,11 +176,12 @@ def read_columns(
     offset: int = 0,
     variant: Variant = "either",
     dialects: bool = True,
+    errors: Errors = "strict",
 ) -> Mapping[str, Any]:
     """Returns what each line says, as numpy arrays with a place for each line, in order. It needs numpy. The arrays
     share one block of memory, which lasts as long as one of them.
 
-    - buffer: the bytes of the source, which the offsets below are in
+    - buffer: the bytes of the source, which the offsets below are in; lines that `errors` decodes are there as UTF-8
     - outcome: 0 for a message, 1 for a line that is none, 2 for one that is not UTF-8; the last two have no fields
     - time: datetime64[ns] in UTC; NaT if the line has no timestamp, or one outside of the years 1678 to 2261
     - nanosecond: the part of a second of the timestamp
@@ -189,7 +197,7 @@ def read_columns(
     """
     from . import _columns
 
-    return _columns.read(source, _VARIANTS.get(variant), year, month or 0, offset, dialects)
+    return _columns.read(source, _VARIANTS.get(variant), year, month or 0, offset, dialects, errors)
 
 
 def to_frame(
@@ -200,6 +208,7 @@ def to_frame(
     offset: int = 0,
     variant: Variant = "either",
     dialects: bool = True,
+    errors: Errors = "strict",
 ) -> Any:
     """Returns a pandas DataFrame with a row for each line, in order. It needs pandas.
 
@@ -208,4 +217,4 @@ def to_frame(
     """
     from . import _columns
 
-    return _columns.to_frame(source, _VARIANTS.get(variant), year, month or 0, offset, dialects)
+    return _columns.to_frame(source, _VARIANTS.get(variant), year, month or 0, offset, dialects, errors)

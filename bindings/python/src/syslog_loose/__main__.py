@@ -1,9 +1,11 @@
 """Writes each line of files, or of standard input, as the JSON object that syslog_json writes of it.
 
-    python3 -m syslog_loose [--year YEAR] [--month MONTH] [--offset OFFSET] [--no-dialects] [--raw] [--csv] [FILE..]
+    python3 -m syslog_loose [--year YEAR] [--month MONTH] [--offset OFFSET] [--latin1] [--no-dialects] [--raw] [--csv]
+        [FILE..]
 
-With --csv it writes a table by RFC 4180: a header, and a record for each line. The status is 1 if lines were refused,
-and 2 after a fault.
+With --csv it writes a table by RFC 4180: a header, and a record for each line. A line that is not UTF-8 is read with
+U+FFFD for what is not, and with --latin1 as ISO 8859-1. The status is 1 if lines were refused or have U+FFFD for what
+is not UTF-8, and 2 after a fault.
 """
 
 from __future__ import annotations
@@ -16,14 +18,17 @@ import json
 import os
 import re
 import sys
-from typing import Any, BinaryIO, Callable, Iterable, Mapping
+from typing import Any, BinaryIO, Callable, Iterable, Mapping, NamedTuple
 
 import syslog_loose
+from syslog_loose import _native
 
 # The keys of an object, in its order: docs/JSON.md says what they mean.
 KEYS = ["protocol", "version", "dialect", "facility", "facility_code", "severity", "severity_code", "timestamp"]
 KEYS += ["hostname", "appname", "procid", "msgid", "structured_data", "unparsed_structured_data", "message", "raw"]
 KEYS += ["refused", "invalid_utf8"]
+# How the object of a message ends that has U+FFFD for what is not UTF-8.
+REPLACED = ',"invalid_utf8":true}'
 
 
 def offset(text: str) -> int:
@@ -39,9 +44,18 @@ def json_text(value: object) -> str:
     return json.dumps(value, ensure_ascii=False, separators=(",", ":"))
 
 
-def refused_object(line: bytes) -> str:
-    text = line.decode(errors="replace")
-    broken = {"invalid_utf8": True} if text.encode() != line else {}
+def is_utf8(line: bytes) -> bool:
+    try:
+        line.decode()
+    except UnicodeDecodeError:
+        return False
+    return True
+
+
+def refused_object(line: bytes, errors: str) -> str:
+    is_latin1 = errors == "latin-1"
+    text = _native.decoded(line, is_latin1).decode()
+    broken = {} if is_latin1 or is_utf8(line) else {"invalid_utf8": True}
     return json_text({"message": text, "refused": True, **broken})
 
 
@@ -68,34 +82,42 @@ def as_record(text: str) -> bytes:
     return record([cell(made.get(key)) for key in KEYS])
 
 
-def write_lines(
-    lines: BinaryIO, out: BinaryIO, form: Callable[[str], bytes], options: dict[str, Any]
-) -> tuple[int, int]:
-    """Writes each line in this form. Returns how many lines there are, and how many of them were refused."""
-    count = refused = 0
+class Counts(NamedTuple):
+    """How many lines there are, how many of them were refused, and how many others have U+FFFD for what is not
+    UTF-8."""
+
+    lines: int
+    refused: int
+    replaced: int
+
+
+def write_lines(lines: BinaryIO, out: BinaryIO, form: Callable[[str], bytes], options: dict[str, Any]) -> Counts:
+    """Writes each line in this form, and counts them."""
+    count = refused = replaced = 0
     for line in lines:
         count += 1
         line = line[:-1] if line.endswith(b"\n") else line
         try:
             made = syslog_loose.json(line, **options)
+            replaced += made.endswith(REPLACED)
         except syslog_loose.ParseError:
             refused += 1
-            made = refused_object(line)
+            made = refused_object(line, options["errors"])
         out.write(form(made))
-    return count, refused
+    return Counts(count, refused, replaced)
 
 
-def write_files(names: list[str], out: BinaryIO, table: bool, options: dict[str, Any]) -> tuple[int, int]:
+def write_files(names: list[str], out: BinaryIO, table: bool, options: dict[str, Any]) -> Counts:
     """The same of files, one after the other, as objects or as a table."""
-    count = refused = 0
+    counts = Counts(0, 0, 0)
     if table:
         out.write(record(KEYS))
     for name in names:
         with sys.stdin.buffer if name == "-" else open(name, "rb") as lines:
             told = write_lines(lines, out, as_record if table else as_object, options)
-        count, refused = count + told[0], refused + told[1]
+        counts = Counts(*map(sum, zip(counts, told)))
     out.flush()
-    return count, refused
+    return counts
 
 
 def joined(words: Iterable[str]) -> list[str]:
@@ -113,6 +135,7 @@ def arguments() -> argparse.Namespace:
     )
     words.add_argument("--month", type=int, help="that it is: in January a date of December is then of the year before")
     words.add_argument("--offset", type=offset, default=0, help="of dates that show none, as +01:00 (UTC without it)")
+    words.add_argument("--latin1", action="store_true", help="reads a line that is not UTF-8 as ISO 8859-1")
     words.add_argument("--no-dialects", action="store_true", help="reads each line by RFC 5424 or RFC 3164 alone")
     words.add_argument("--raw", action="store_true", help="with the line itself in each object")
     words.add_argument("--csv", action="store_true", help="a table with a header, by RFC 4180, instead of objects")
@@ -125,10 +148,11 @@ def main() -> int:
     chosen = arguments()
     options = {"year": chosen.year, "month": chosen.month, "offset": chosen.offset}
     options.update(raw=chosen.raw, dialects=not chosen.no_dialects)
+    options.update(errors="latin-1" if chosen.latin1 else "replace")
     try:
         # (wrong options are found before anything is written)
         syslog_loose.json(b"1 - - - - - -", **options)
-        count, refused = write_files(chosen.file or ["-"], sys.stdout.buffer, chosen.csv, options)
+        counts = write_files(chosen.file or ["-"], sys.stdout.buffer, chosen.csv, options)
     except BrokenPipeError:
         # (nothing is written to the closed pipe at the end either)
         os.dup2(os.open(os.devnull, os.O_WRONLY), sys.stdout.fileno())
@@ -142,9 +166,11 @@ def main() -> int:
     except ValueError as fault:
         print("syslog_loose: %s" % fault, file=sys.stderr)
         return 2
-    if refused:
-        print("refused %d of %d lines" % (refused, count), file=sys.stderr)
-    return 1 if refused else 0
+    if counts.refused:
+        print("refused %d of %d lines" % (counts.refused, counts.lines), file=sys.stderr)
+    if counts.replaced:
+        print("%d of %d lines have U+FFFD for what is not UTF-8" % (counts.replaced, counts.lines), file=sys.stderr)
+    return 1 if counts.refused or counts.replaced else 0
 
 
 if __name__ == "__main__":

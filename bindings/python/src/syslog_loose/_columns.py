@@ -6,7 +6,7 @@ import importlib
 import os
 from typing import Any, Mapping
 
-from . import Facility, Severity, Source, _native
+from . import Errors, Facility, Severity, Source, _native
 
 # The columns as the extension gives them, one after the other, and how numpy calls the type of each.
 _COLUMNS = [("time", "M8[ns]")]
@@ -16,8 +16,9 @@ _COLUMNS += [
     ("nanosecond", "i4"), ("offset", "i4"), ("process", "i4"), ("elements", "u4"), ("protocol", "u2"), ("dialect", "u2")
 ]
 _COLUMNS += [("outcome", "u1"), ("shown", "u1"), ("facility", "i1"), ("severity", "i1"), ("has_number", "u1")]
-# The bytes of all columns for a line.
-_BYTES_A_LINE = 129
+# The bytes of all columns for a line, and of those before the outcome.
+_BYTES_A_LINE, _BEFORE_OUTCOME = 129, 124
+_NOT_UTF8 = 2
 # The number of the column that has the places of a text.
 _PLACES = {name: number for number, (name, _) in enumerate(_COLUMNS) if name.endswith("_at")}
 # Texts of so many lines are made at a time, which a processor's cache holds.
@@ -42,21 +43,36 @@ def _bytes_of(source: Source) -> bytes:
     return bytes(source.read())
 
 
+def _has_other_bytes(told: bytearray) -> bool:
+    """Whether a line is not UTF-8."""
+    count = len(told) // _BYTES_A_LINE
+    return told.find(_NOT_UTF8, _BEFORE_OUTCOME * count, (_BEFORE_OUTCOME + 1) * count) >= 0
+
+
 def _told(
-    source: Source, variant: int | None, year: int, month: int, offset: int, dialects: bool
+    source: Source, variant: int | None, year: int, month: int, offset: int, dialects: bool, errors: Errors
 ) -> tuple[bytes, bytearray]:
     buffer = _bytes_of(source)
     if variant is None:
         raise ValueError("there is no such variant")
+    if errors not in ("strict", "replace", "latin-1"):
+        raise ValueError("there is no such handling of errors: %r" % (errors,))
     try:
-        return buffer, _native.columns(buffer, variant, year, month, offset, int(not dialects))
+        told = _native.columns(buffer, variant, year, month, offset, int(not dialects))
+        if errors != "strict" and _has_other_bytes(told):
+            is_latin1 = errors == "latin-1"
+            buffer = b"\n".join(_native.decoded(line, is_latin1) for line in buffer.split(b"\n"))
+            told = _native.columns(buffer, variant, year, month, offset, int(not dialects))
     except OverflowError:
         raise ValueError("there is no such year, month or offset") from None
+    return buffer, told
 
 
-def read(source: Source, variant: int | None, year: int, month: int, offset: int, dialects: bool) -> Mapping[str, Any]:
+def read(
+    source: Source, variant: int | None, year: int, month: int, offset: int, dialects: bool, errors: Errors
+) -> Mapping[str, Any]:
     numpy = _needed("numpy", "read_columns")
-    return _as_arrays(numpy, *_told(source, variant, year, month, offset, dialects))
+    return _as_arrays(numpy, *_told(source, variant, year, month, offset, dialects, errors))
 
 
 def _as_arrays(numpy: Any, buffer: bytes, told: bytearray) -> dict[str, Any]:
@@ -81,9 +97,11 @@ def _dialects(numpy: Any, pandas: Any, numbers: Any) -> Any:
     return pandas.Categorical.from_codes(codes[numbers], [_native.dialect_name(it) for it in kinds])
 
 
-def to_frame(source: Source, variant: int | None, year: int, month: int, offset: int, dialects: bool) -> Any:
+def to_frame(
+    source: Source, variant: int | None, year: int, month: int, offset: int, dialects: bool, errors: Errors
+) -> Any:
     numpy, pandas = _needed("numpy", "to_frame"), _needed("pandas", "to_frame")
-    buffer, told = _told(source, variant, year, month, offset, dialects)
+    buffer, told = _told(source, variant, year, month, offset, dialects, errors)
     columns = _as_arrays(numpy, buffer, told)
     refused = columns["outcome"] != 0
     # (a line that is no message is its own)
