@@ -8,6 +8,7 @@ pub mod FiledLemmas
 pub mod FormLemmas
 pub mod HeaderLemmas
 pub mod LedLemmas
+pub mod MarkLemmas
 pub mod MonthFrontLemmas
 pub mod NamedFormLemmas
 pub mod NamedLemmas

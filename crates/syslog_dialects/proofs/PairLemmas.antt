@@ -3,6 +3,7 @@ use Rattle.std.proofs.Common.{◌≡◌, inl, inr, ℕ, ℤ, ◌<◌, Bool, true
 use Rattle.std.proofs.Common.{None}
 use Rattle.std.proofs.Common.{refl, sym, ap, subst, ◌∙◌, arith, length-append, append-nil, if◌then◌else◌}
 use Rattle.std.proofs.lemmas.Bool.{cases_Bool}
+use Rattle.std.proofs.lemmas.Bool.Decides.{nat_tests}
 use Rattle.std.specs.Char.{is_not_whitespace}
 use Rattle.std.specs.Str.{chars}
 use Rattle.syslog_pieces.specs.Bodies.Scan.{SplitsRun}
@@ -24,7 +25,8 @@ use Rattle.syslog_pieces.proofs.TimestampLemmas.Rfc3339.{pair_det as two_det, ye
 use Rattle.syslog_dialects.specs.Named.{◌otherwise◌}
 use Rattle.syslog_dialects.specs.Pairs.{pair, pair_row, pair_of, quoted, quoted_row, quoted_of, bare, value}
 use Rattle.syslog_dialects.specs.Pairs.{either_text}
-use Rattle.syslog_dialects.specs.Pairs.{first_value, or_value, noted, noted_more, Noted, day_row, clock_row}
+use Rattle.syslog_dialects.specs.Pairs.{first_value, may_be_noted, or_value, noted, noted_more, Noted, day_row}
+use Rattle.syslog_dialects.specs.Pairs.{clock_row}
 use Rattle.syslog_dialects.specs.Pairs.{offset_row, IsApart, IsTogether}
 use Rattle.syslog_dialects.specs.Pairs.{IsMoment, IsOffset, IsShown, at_offset, paired, pairs_row, pairs_form}
 use Rattle.syslog_dialects.specs.Pairs.{is_date_key, is_time_key}
@@ -121,6 +123,28 @@ noted_push ps (k, v) =
     let d = first_more is_host_key ps k v in
     let e = first_more is_stamp_key ps k v in
     rw (a, b, c, d, e) refl
+
+or_same : (o : Option Text) (v : Text) → or_value o false v ≡ o
+or_same (Some t) v = refl
+or_same None v = refl
+
+unnoted_key : (key : Text) → false ≡ may_be_noted key → (is_date_key key ≡ false) × (is_time_key key ≡ false)
+    × (is_stamp_key key ≡ false) × (is_zone_key key ≡ false) × (is_host_key key ≡ false)
+unnoted_key [] h = (refl, refl, refl, refl, refl)
+unnoted_key (c ∷ more) h = (
+  grind (arith, nat_tests, h),
+  grind (arith, nat_tests, h),
+  grind (arith, nat_tests, h),
+  grind (arith, nat_tests, h),
+  grind (arith, nat_tests, h),
+)
+
+-- a key that begins otherwise notes nothing
+pub unnoted : (n : Noted) (key v : Text) → false ≡ may_be_noted key → n ≡ noted_more n key v
+unnoted n key v h =
+    let (d, t, s, z, o) = unnoted_key key h in
+    rw (d, t, s, z, o, or_same n.date v, or_same n.time v, or_same n.stamp v, or_same n.zone v, or_same n.hostname v)
+    refl
 
 -- ---- whole texts
 

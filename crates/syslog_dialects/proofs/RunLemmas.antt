@@ -1,16 +1,16 @@
 -- Runs of ASCII characters, by their bytes.
 use Rattle.std.proofs.Common.{◌≡◌, ℕ, ◌<◌, ◌≤◌, Bool, true, false, List, [], ◌∷◌, length, get_or, take, drop, suc}
-use Rattle.std.proofs.Common.{inl, inr, arith, sym, ap, ◌∙◌}
+use Rattle.std.proofs.Common.{inl, inr, arith, refl, sym, ap, ◌∙◌, nat_eq}
 use Rattle.std.proofs.Common.{length-drop, length-take}
 use Rattle.std.proofs.lemmas.Bool.{cases_Bool}
 use Rattle.std.proofs.lemmas.Bool.Decides.{nat_tests}
 use Rattle.std.proofs.lemmas.List.{get_or-take}
-use Rattle.std.proofs.lemmas.Str.{IsUtf8-drop, chars-IsAscii}
-use Rattle.std.specs.Str.{IsUtf8, chars}
+use Rattle.std.proofs.lemmas.Str.{IsUtf8-drop, chars-IsAscii, chars_from_encodes}
+use Rattle.std.specs.Str.{IsUtf8, NoCharPasses, NonePass, chars}
 use Rattle.syslog_pieces.specs.Bodies.Scan.{EndsRun}
-use Rattle.syslog_pieces.specs.Pieces.Class.{Each}
+use Rattle.syslog_pieces.specs.Pieces.Class.{Each, Text}
 use Rattle.syslog_pieces.proofs.TextLemmas.Runs.{ascii_cut, ends_by_byte, ends_run, first_left, low_ascii}
-use Rattle.syslog_dialects.specs.Runs.{is_plain_char, is_word_char}
+use Rattle.syslog_dialects.specs.Runs.{is_plain_char, is_unquoted, is_word_char}
 
 each_by_place : (h : ℕ → Bool) (bs : List ℕ) → ((k : ℕ) → k < length bs → h (get_or bs k 0) ≡ true) → Each h bs
 each_by_place h [] f = tt
@@ -39,3 +39,12 @@ word_low c h = grind (arith, nat_tests)
 
 pub plain_low : (c : ℕ) → is_plain_char c ≡ true → c < 128
 plain_low c h = grind (arith, nat_tests)
+
+-- ---- what a search of a quote says
+
+unquoted : (cs : Text) → NonePass (λ d. nat_eq d 34) cs → Each is_unquoted cs
+unquoted [] n = tt
+unquoted (c ∷ cs) n = (rw n.0 refl, unquoted cs n.1)
+
+pub each_unquoted : (bs : List ℕ) → IsUtf8 bs → NoCharPasses (λ d. nat_eq d 34) bs → Each is_unquoted (chars bs)
+each_unquoted bs u (cs, e, n) = rw (← chars_from_encodes cs bs u e) (unquoted cs n)

@@ -5,7 +5,7 @@
 -- date, and the host (ASA, FTD). The mark is `*` for a clock that was never set, and `.` for one that has lost its
 -- server. NX-OS has the year before the month.
 use Rattle.std.specs.Prelude.{◌≡◌, ◌⊎◌, ◌||◌, ◌&&◌, ℕ, nat_eq, Bool, true, List, [], ◌∷◌, Option, Some, None}
-use Rattle.std.specs.Prelude.{codes}
+use Rattle.std.specs.Prelude.{codes, not}
 use Rattle.std.specs.Option.{is_some}
 use Rattle.std.specs.Char.{is_ascii_digit}
 use Rattle.syslog_pieces.specs.Pieces.Class.{Text, Class, Values, Front, Row, run, some_run, exactly, rest, optional}
@@ -34,6 +34,10 @@ abbrev pub IsMnemonic : Text → Type 0
 IsMnemonic [] = ⊥
 IsMnemonic (c ∷ []) = ⊥
 IsMnemonic (c ∷ d ∷ more) = ((nat_eq c 37 || nat_eq c 35) && is_letter d) ≡ true
+
+-- neither of the two
+abbrev pub is_unmarked : ℕ → Bool
+is_unmarked c = not (nat_eq c 37) && not (nat_eq c 35)
 
 abbrev pub mnemonic : Class
 mnemonic = such_that bare_word IsMnemonic

@@ -1,6 +1,6 @@
 -- Lines of Cisco's IOS-XR: a counter and the host, where it is so configured, the node, the date, the process, and the
 -- message with its code. ("System Monitoring", the format of system log messages.) 91 is `[`, 93 `]`.
-use Rattle.std.specs.Prelude.{◌≡◌, ◌⊎◌, List, [], ◌∷◌, Option, Some, codes}
+use Rattle.std.specs.Prelude.{◌≡◌, ◌⊎◌, ◌||◌, ℕ, nat_eq, Bool, List, [], ◌∷◌, Option, Some, codes}
 use Rattle.std.specs.Char.{is_ascii_digit}
 use Rattle.syslog_pieces.specs.Pieces.Class.{Text, Class, Values, Row, run, some_run, exactly, rest, optional, mapped}
 use Rattle.syslog_pieces.specs.Pieces.Class.{texted}
@@ -15,6 +15,10 @@ use Rattle.syslog_dialects.specs.declared.dialect.Dialect.TheVariants.{CiscoIosX
 -- `RP/0/RSP0/CPU0`: the card that the message is from
 abbrev pub IsNode : Text → Type 0
 IsNode t = Starts (codes "RP/") t ⊎ (Starts (codes "LC/") t ⊎ Starts (codes "0/") t)
+
+-- `R`, `L` or `0`
+abbrev pub begins_node : ℕ → Bool
+begins_node c = nat_eq c 82 || (nat_eq c 76 || nat_eq c 48)
 
 abbrev pub node : Class
 node = such_that bare_word IsNode

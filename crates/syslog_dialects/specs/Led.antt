@@ -1,5 +1,5 @@
 -- The date that begins a line, as its readers are given it.
-use Rattle.std.specs.Prelude.{Option, MatchOption}
+use Rattle.std.specs.Prelude.{◌≡◌, Option, MatchOption}
 use Rattle.std.specs.Borrow.{Bor}
 use Rattle.std.specs.Prelude.{List, ℕ}
 use Rattle.syslog_pieces.specs.Pieces.Class.{Text, Front, NoFront, Row, run}
@@ -29,6 +29,7 @@ IsLeading text r = MatchOption r (NoFront any_date text) (λ x. IsDate x.0 text 
 pub record IsLed (text : Text) (led : Led) : Type 0 where
   pub gap : Front (run is_blank) text (shown led.text) tt
   pub date : IsDate led.date (shown led.text) (shown led.rest)
+  pub sent : led.sent ≡ date_of led.date
 
 -- a line that begins with none
 pub record IsUnled (text : Text) : Type 0 where

@@ -1,7 +1,7 @@
 -- Lines that are pairs of a key and a value, time and host among them. 34 is `"`, 45 `-`, 58 `:`, 61 `=`.
 use Rattle.std.proofs.Common.{inl, inr}
 use Rattle.std.specs.Prelude.{◌≡◌, ◌⊎◌, ◌||◌, ℤ, Bool, true, false, if◌then◌else◌, List, [], ◌∷◌, Option, Some, None}
-use Rattle.std.specs.Prelude.{MatchOption, codes, min, unwrap_or}
+use Rattle.std.specs.Prelude.{MatchOption, codes, min, nat_eq, unwrap_or}
 use Rattle.std.specs.Char.{is_not_whitespace}
 use Rattle.syslog_pieces.specs.Pieces.Class.{Text, Class, Values, Front, Division, NoDivision, Row, run, some_run}
 use Rattle.syslog_pieces.specs.Pieces.Class.{exactly, after, mapped, optional, texted}
@@ -74,6 +74,11 @@ is_stamp_key key = text_eq key (codes "timestamp")
 
 abbrev pub is_zone_key : Text → Bool
 is_zone_key key = text_eq key (codes "tz")
+
+-- with these letters they begin: `d`, `f` and `t`
+abbrev pub may_be_noted : Text → Bool
+may_be_noted [] = false
+may_be_noted (c ∷ more) = nat_eq c 100 || (nat_eq c 102 || nat_eq c 116)
 
 -- the value that was noted, or else this one, if its key passes
 abbrev pub or_value : Option Text → Bool → Text → Option Text

@@ -1,7 +1,8 @@
 //! The forms that are recognised by their date, in the order in which they are tried.
-ghost use Rattle.std.specs.Prelude.{◌≡◌, chars};
-ghost use Rattle.syslog_pieces.specs.Pieces.Class.{Front, NoFront, Row, Text, run};
+ghost use Rattle.std.specs.Prelude.{◌≡◌, ◌++◌, chars, false};
+ghost use Rattle.syslog_pieces.specs.Pieces.Class.{Each, Front, NoFront, Row, Text, run};
 ghost use Rattle.syslog_pieces.specs.Text.{is_blank};
+ghost use Rattle.syslog_dialects.specs.Cisco.{cisco_forms, is_unmarked};
 ghost use Rattle.syslog_dialects.specs.Container.{container_form};
 ghost use Rattle.syslog_dialects.specs.Date.{bsd_row, iso_date};
 ghost use Rattle.syslog_dialects.specs.DateViews.{bsd_values};
@@ -27,6 +28,7 @@ use crate::procurve::read_procurve;
 use crate::sent::{Sent, SentDate};
 use crate::sophos_utm::read_utm;
 use crate::unix_seconds::{read_meraki, read_short};
+use memchr::memchr2;
 
 fn from_undated(text: &str) -> Option<(Dialect, Sent<'_>)>
     ensures { Finds spec.undated_forms (chars text.now) result }
@@ -131,7 +133,7 @@ fn from_bsd<'a>(text: &'a str, led: Led<'a>) -> Option<(Dialect, Sent<'a>)>
 fn from_procurve<'a>(text: &'a str, led: Led<'a>) -> Option<(Dialect, Sent<'a>)>
     ensures { IsLed (chars text.entry.now) led.entry → Finds spec.procurve_forms (chars text.entry.now) result }
 {
-    match read_procurve(led.date.sent(), led.rest) {
+    match read_procurve(led.sent, led.rest) {
         Some(sent) => Some((Dialect::ProCurve, sent)),
         None => from_bsd(text, led),
     }
@@ -193,17 +195,32 @@ fn of_filed(front: Option<Led<'_>>) -> Option<(Dialect, Sent<'_>)>
     ensures { (text : Text) → IsFront text front.entry → Finds filed_forms text result }
 {
     match front {
-        Some(led) => read_filed(led.date.sent(), led.rest),
+        Some(led) => read_filed(led.sent, led.rest),
         None => None,
     }
 }
 
-fn from_filed<'a>(text: &'a str, front: Option<Led<'a>>) -> Option<(Dialect, Sent<'a>)>
-    ensures { IsFront (chars text.entry.now) front.entry → Finds spec.later_forms (chars text.entry.now) result }
+// Whether the text has `%` or `#`. Each line of Cisco's with a date has one of them, and few other lines have.
+fn is_marked(text: &str) -> bool
+    ensures { (result ≡ false) → Each is_unmarked (chars text.now) }
 {
-    match of_filed(front) {
+    match memchr2(b'%', b'#', text.as_bytes()) {
+        Some(_) => true,
+        None => false,
+    }
+}
+
+// Returns the system of a line of Cisco's with a date, and what the line says, also where a collector files it.
+fn of_cisco<'a>(text: &'a str, front: Option<Led<'a>>) -> Option<(Dialect, Sent<'a>)>
+    ensures { IsFront (chars text.entry.now) front.entry
+        → Finds (cisco_forms ++ filed_forms) (chars text.entry.now) result }
+{
+    if !is_marked(text) {
+        return None;
+    }
+    match read_cisco(text, front) {
         Some(found) => Some(found),
-        None => from_xr(text, front),
+        None => of_filed(front),
     }
 }
 
@@ -212,8 +229,8 @@ fn from_filed<'a>(text: &'a str, front: Option<Led<'a>>) -> Option<(Dialect, Sen
 pub(crate) fn read<'a>(text: &'a str, front: Option<Led<'a>>) -> Option<(Dialect, Sent<'a>)>
     ensures { IsFront (chars text.entry.now) front.entry → Finds spec.all_dated (chars text.entry.now) result }
 {
-    match read_cisco(text, front) {
+    match of_cisco(text, front) {
         Some(found) => Some(found),
-        None => from_filed(text, front),
+        None => from_xr(text, front),
     }
 }

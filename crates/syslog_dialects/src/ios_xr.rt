@@ -7,6 +7,7 @@ ghost use Rattle.std.specs.Char.{is_ascii_digit};
 ghost use Rattle.syslog_pieces.specs.Pieces.Class.{Front, NoFront, Row, exactly, optional, some_run, texted};
 ghost use Rattle.syslog_pieces.specs.Pieces.View.{Reads, Recognises, seen, shown};
 ghost use Rattle.syslog_pieces.specs.Text.CharClass.{is_label_char};
+ghost use Rattle.syslog_dialects.specs.Named.{BeginsWith};
 ghost use Rattle.syslog_dialects.specs.Sent.{Sends};
 ghost use Rattle.syslog_dialects.specs.Cisco.{dated_in as date_in};
 ghost use Rattle.syslog_dialects.specs.IosXr as spec;
@@ -15,7 +16,7 @@ use crate::cisco::{colon, dated_in, gap, optional_front_year, origin, past_count
 use crate::date::any_date;
 use crate::sent::Sent;
 use crate::zone::bare_word;
-use syslog_pieces::text::{CharClass, blanks, literal, past_colon, split_run};
+use syslog_pieces::text::{CharClass, blanks, first, literal, past_colon, split_run};
 
 fn is_node(word: &str) -> bool
     ensures { MatchBool result (spec.IsNode (chars word.now)) (spec.IsNode (chars word.now) → ⊥) }
@@ -23,10 +24,24 @@ fn is_node(word: &str) -> bool
     starts(word, "RP/") || (starts(word, "LC/") || starts(word, "0/"))
 }
 
+// Whether a node may begin as the text does.
+fn may_be_node(text: &str) -> bool
+    ensures { MatchBool result (BeginsWith spec.begins_node (chars text.now))
+        (BeginsWith spec.begins_node (chars text.now) → ⊥) }
+{
+    match first(text) {
+        Some((c, _)) => c == 'R' || (c == 'L' || c == '0'),
+        None => false,
+    }
+}
+
 // Returns the text after a node.
 fn node(text: &str) -> Option<&str>
     ensures { Recognises spec.node (chars text.now) result }
 {
+    if !may_be_node(text) {
+        return None;
+    }
     let (word, rest) = bare_word(text)?;
     if !is_node(word) {
         return None;

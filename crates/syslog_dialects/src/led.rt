@@ -32,8 +32,10 @@ impl LeadingDate {
 pub(crate) struct Led<'a> {
     /// The line from the date on.
     pub(crate) text: &'a str,
-    /// The date.
+    /// The date, as it was read.
     pub(crate) date: LeadingDate,
+    /// What the date says.
+    pub(crate) sent: SentDate,
     /// The line after the date.
     pub(crate) rest: &'a str,
 }
@@ -58,6 +60,7 @@ pub(crate) fn read_front(text: &str) -> Option<Led<'_>>
     Some(Led {
         text: begun,
         date,
+        sent: date.sent(),
         rest,
     })
 }

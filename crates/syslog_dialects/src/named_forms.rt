@@ -1,10 +1,13 @@
 //! The forms that are recognised by what follows the date, in the order in which they are tried.
 ghost use Rattle.std.specs.Prelude.{◌≡◌, None, chars};
+ghost use Rattle.syslog_pieces.specs.Pieces.Class.{Row};
+ghost use Rattle.syslog_pieces.specs.Pieces.View.{Reads, seen};
 ghost use Rattle.syslog_dialects.specs.Dialects.{Finds};
 ghost use Rattle.syslog_dialects.specs.Led.{IsFront, IsLed};
 ghost use Rattle.syslog_dialects.specs.NamedFinds.{FindsAfter};
 ghost use Rattle.syslog_dialects.specs.NamedForms as spec;
 ghost use Rattle.syslog_dialects.specs.Sent.{loose, sent_value};
+ghost use Rattle.syslog_dialects.specs.Untagged.{host_row};
 ghost use Rattle.syslog_dialects.specs.Views.{named_value};
 
 use crate::dialect::Dialect;
@@ -67,23 +70,29 @@ fn undated(text: &str) -> Option<(Dialect, Sent<'_>)>
     None
 }
 
-// Reads a program's line after its date.
-fn of_program<'a>(date: SentDate, rest: &'a str, text: &'a str) -> Option<(Dialect, Sent<'a>)>
-    ensures { FindsAfter spec.program_forms date (chars rest.entry.now) (chars text.entry.now) result }
+// Reads a program's line after its date. `after_host` is what `past_host` returned for what follows the date.
+fn of_program<'a>(
+    date: SentDate,
+    rest: &'a str,
+    after_host: Option<(Option<&'a str>, &'a str)>,
+    text: &'a str,
+) -> Option<(Dialect, Sent<'a>)>
+    ensures { Reads (Row host_row) (λ h. (seen h, (tt, tt))) (chars rest.entry.now) after_host.entry
+        → FindsAfter spec.program_forms date (chars rest.entry.now) (chars text.entry.now) result }
 {
-    if let Some(named) = forwarded(rest) {
+    if let Some(named) = forwarded(rest, after_host) {
         return Some((Dialect::Forwarded, sent(date, named)));
     }
-    if let Some(named) = severity_first(rest) {
+    if let Some(named) = severity_first(after_host) {
         return Some((Dialect::SeverityFirst, sent(date, named)));
     }
-    if let Some(named) = worded(rest) {
+    if let Some(named) = worded(after_host) {
         return Some((Dialect::SpacedName, sent(date, named)));
     }
     if let Some(named) = hostless(rest) {
         return Some((Dialect::NoHost, sent(date, named)));
     }
-    if let Some(named) = after_serial(rest) {
+    if let Some(named) = after_serial(after_host) {
         return Some((Dialect::WatchGuard, sent(date, named)));
     }
     undated(text)
@@ -124,7 +133,7 @@ fn of_message<'a>(date: SentDate, rest: &'a str, text: &'a str) -> Option<(Diale
     if let Some(named) = message(rest, after_host, Mark::Bracket) {
         return Some((Dialect::Bracketed, sent(date, named)));
     }
-    of_program(date, rest, text)
+    of_program(date, rest, after_host, text)
 }
 
 // Reads what follows a date that begins the text.
@@ -132,7 +141,7 @@ fn of_led<'a>(led: Led<'a>, text: &'a str) -> Option<(Dialect, Sent<'a>)>
     ensures { IsLed (chars text.entry.now) led.entry → Finds spec.all_named (chars text.entry.now) result }
 {
     match some_blanks(led.rest) {
-        Some(rest) => of_message(led.date.sent(), rest, text),
+        Some(rest) => of_message(led.sent, rest, text),
         None => undated(text),
     }
 }

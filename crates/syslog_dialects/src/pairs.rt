@@ -120,11 +120,24 @@ fn or_value<'a>(noted: Option<&'a str>, passes: bool, value: &'a str) -> Option<
     if passes { Some(value) } else { None }
 }
 
+// Whether a key that is noted may begin as this one does. Most keys of a line begin otherwise.
+fn may_be_noted(key: &str) -> bool
+    ensures { result ≡ spec.may_be_noted (chars key.now) }
+{
+    match first(key) {
+        Some((c, _)) => c == 'd' || (c == 'f' || c == 't'),
+        None => false,
+    }
+}
+
 // The notes, with one more pair.
 fn noted_more<'a>(notes: Notes<'a>, pair: Pair<'a>) -> Notes<'a>
     ensures { notes_value result
         ≡ spec.noted_more (notes_value notes.entry) (shown pair.entry.key) (shown pair.entry.value) }
 {
+    if !may_be_noted(pair.key) {
+        return notes;
+    }
     Notes {
         date: or_value(notes.date, is_word(pair.key, "date"), pair.value),
         time: or_value(notes.time, is_word(pair.key, "time"), pair.value),

@@ -1,11 +1,12 @@
 //! Lines of programs that are recognised by what is between the date and the program's name.
 ghost use Rattle.std.specs.Prelude.{◌≡◌, ◌∷◌, ◌||◌, [], IfSome, IsUtf8, List, chars, codes};
-ghost use Rattle.syslog_pieces.specs.Pieces.Class.{Front, Row, exactly, some_run, spaced, texted};
+ghost use Rattle.syslog_pieces.specs.Pieces.Class.{Front, Row, Text, exactly, some_run, spaced, texted};
 ghost use Rattle.syslog_pieces.specs.Pieces.Lists.{many};
-ghost use Rattle.syslog_pieces.specs.Pieces.View.{Reads, Recognises, shown};
+ghost use Rattle.syslog_pieces.specs.Pieces.View.{Reads, Recognises, seen, shown};
 ghost use Rattle.syslog_pieces.specs.Text.{is_tag_char};
 ghost use Rattle.syslog_dialects.specs.Runs.{is_word_char};
 ghost use Rattle.syslog_dialects.specs.Programs as spec;
+ghost use Rattle.syslog_dialects.specs.Untagged.{host_row};
 ghost use Rattle.syslog_dialects.specs.Views.{Names, named_value};
 
 use crate::date::iso_date;
@@ -13,7 +14,7 @@ use crate::named::{Named, Program, is_letter, is_word, past, process_id, read_pr
 use crate::runs::{Run, split};
 use crate::untagged::topic_word;
 use syslog_pieces::text::verbatim::before;
-use syslog_pieces::text::{CharClass, blanks, host, literal, some_blanks, split_run};
+use syslog_pieces::text::{CharClass, blanks, literal, some_blanks, split_run};
 
 /// Reads a line without a host.
 pub(crate) fn hostless(text: &str) -> Option<Named<'_>>
@@ -117,24 +118,27 @@ fn grade(text: &str) -> Option<&str>
     selector(text)
 }
 
-/// Reads a line with the severity before the program.
-pub(crate) fn severity_first(text: &str) -> Option<Named<'_>>
-    ensures { Names spec.severity_first named_value (chars text.now) result }
+/// Reads a line with the severity before the program. `after_host` is what `past_host` returned for the line.
+pub(crate) fn severity_first<'a>(
+    after_host: Option<(Option<&'a str>, &'a str)>,
+) -> Option<Named<'a>>
+    ensures { (text : Text) → Reads (Row host_row) (λ h. (seen h, (tt, tt))) text after_host.entry
+        → Names spec.severity_first named_value text result }
 {
-    let (hostname, rest) = host(text)?;
-    let rest = some_blanks(rest)?;
+    let (hostname, rest) = after_host?;
     let rest = grade(rest)?;
     let rest = some_blanks(rest)?;
     let (program, rest) = read_program(rest)?;
     Some(tagged(hostname, program, blanks(rest)))
 }
 
-/// Reads a line with the serial number and the time of a Firebox before the program.
-pub(crate) fn after_serial(text: &str) -> Option<Named<'_>>
-    ensures { Names spec.after_serial named_value (chars text.now) result }
+/// Reads a line with the serial number and the time of a Firebox before the program. `after_host` is what `past_host`
+/// returned for the line.
+pub(crate) fn after_serial<'a>(after_host: Option<(Option<&'a str>, &'a str)>) -> Option<Named<'a>>
+    ensures { (text : Text) → Reads (Row host_row) (λ h. (seen h, (tt, tt))) text after_host.entry
+        → Names spec.after_serial named_value text result }
 {
-    let (hostname, after_host) = host(text)?;
-    let before_serial = some_blanks(after_host)?;
+    let (hostname, before_serial) = after_host?;
     let serial_end = topic_word(before_serial)?;
     let before_bracket = literal(serial_end, ' ')?;
     let before_date = literal(before_bracket, '(')?;
@@ -195,12 +199,12 @@ fn words(text: &str) -> Option<(&str, &str)>
     }
 }
 
-/// Reads a line whose program has a name of several words.
-pub(crate) fn worded(text: &str) -> Option<Named<'_>>
-    ensures { Names spec.worded named_value (chars text.now) result }
+/// Reads a line whose program has a name of several words. `after_host` is what `past_host` returned for the line.
+pub(crate) fn worded<'a>(after_host: Option<(Option<&'a str>, &'a str)>) -> Option<Named<'a>>
+    ensures { (text : Text) → Reads (Row host_row) (λ h. (seen h, (tt, tt))) text after_host.entry
+        → Names spec.worded named_value text result }
 {
-    let (hostname, rest) = host(text)?;
-    let rest = some_blanks(rest)?;
+    let (hostname, rest) = after_host?;
     let (name, rest) = words(rest)?;
     let (id, rest) = process_id(rest)?;
     let rest = literal(rest, ':')?;
@@ -240,14 +244,18 @@ fn passed_on(text: &str) -> Option<Named<'_>>
     Some(tagged(Some(hostname), program, blanks(rest)))
 }
 
-/// Reads a line that was forwarded, after the name of the host that forwarded it, if that is shown.
-pub(crate) fn forwarded(text: &str) -> Option<Named<'_>>
-    ensures { Names spec.forwarded named_value (chars text.now) result }
+/// Reads a line that was forwarded, after the name of the host that forwarded it, if that is shown. `after_host` is
+/// what `past_host` returned for the line.
+pub(crate) fn forwarded<'a>(
+    text: &'a str,
+    after_host: Option<(Option<&'a str>, &'a str)>,
+) -> Option<Named<'a>>
+    ensures { Reads (Row host_row) (λ h. (seen h, (tt, tt))) (chars text.entry.now) after_host.entry
+        → Names spec.forwarded named_value (chars text.entry.now) result }
 {
     if let Some(named) = passed_on(text) {
         return Some(named);
     }
-    let (_, rest) = host(text)?;
-    let rest = some_blanks(rest)?;
+    let (_, rest) = after_host?;
     passed_on(rest)
 }

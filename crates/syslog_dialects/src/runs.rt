@@ -32,14 +32,36 @@ impl Run {
     }
 }
 
+// The classes of each byte: 1 is `Word`, 2 is `Plain`, and 4 is `Unquoted`. The clause of `is_in` says that each entry
+// is right.
+static CLASSES: [u8; 256] = [
+    4, 4, 4, 4, 4, 4, 4, 4, 4, 4, 4, 4, 4, 4, 4, 4, 4, 4, 4, 4, 4, 4, 4, 4, 4, 4, 4, 4, 4, 4, 4, 4,
+    4, 6, 0, 4, 4, 4, 4, 4, 4, 4, 4, 4, 4, 7, 5, 5, 7, 7, 7, 7, 7, 7, 7, 7, 7, 7, 4, 4, 4, 4, 4, 4,
+    4, 7, 7, 7, 7, 7, 7, 7, 7, 7, 7, 7, 7, 7, 7, 7, 7, 7, 7, 7, 7, 7, 7, 7, 7, 7, 7, 4, 4, 4, 4, 5,
+    4, 7, 7, 7, 7, 7, 7, 7, 7, 7, 7, 7, 7, 7, 7, 7, 7, 7, 7, 7, 7, 7, 7, 7, 7, 7, 7, 4, 4, 4, 4, 4,
+    4, 4, 4, 4, 4, 4, 4, 4, 4, 4, 4, 4, 4, 4, 4, 4, 4, 4, 4, 4, 4, 4, 4, 4, 4, 4, 4, 4, 4, 4, 4, 4,
+    4, 4, 4, 4, 4, 4, 4, 4, 4, 4, 4, 4, 4, 4, 4, 4, 4, 4, 4, 4, 4, 4, 4, 4, 4, 4, 4, 4, 4, 4, 4, 4,
+    4, 4, 4, 4, 4, 4, 4, 4, 4, 4, 4, 4, 4, 4, 4, 4, 4, 4, 4, 4, 4, 4, 4, 4, 4, 4, 4, 4, 4, 4, 4, 4,
+    4, 4, 4, 4, 4, 4, 4, 4, 4, 4, 4, 4, 4, 4, 4, 4, 4, 4, 4, 4, 4, 4, 4, 4, 4, 4, 4, 4, 4, 4, 4, 4,
+];
+
+// Whether the byte, as a character, is of the class.
+#[inline(always)]
+fn is_in(b: u8, run: Run) -> bool
+    ensures { result ≡ is_of run b }
+{
+    CLASSES[b as usize] & (1 << run as u8) != 0
+}
+
 // How many bytes at the front are characters of the class.
+#[inline(always)]
 fn run_len(bytes: &[u8], run: Run) -> usize
     ensures within { result ≤ length bytes.now }
     ensures pass { (k : ℕ) → k < result → is_of run (slice_index bytes.now k) ≡ true }
     ensures stop { result < length bytes.now → is_of run (slice_index bytes.now result) ≡ false }
 {
     for (i, byte) in bytes.iter().enumerate() {
-        if !run.has(char::from(*byte)) {
+        if !is_in(*byte, run) {
             return i;
         }
     }
@@ -50,7 +72,7 @@ fn run_len(bytes: &[u8], run: Run) -> usize
 fn unquoted_end(text: &str) -> usize
     ensures { EndsRun is_unquoted text.now result }
 {
-    match text.find(|c: char| !Run::Unquoted.has(c)) {
+    match text.find('"') {
         Some(end) => end,
         None => text.len(),
     }

@@ -7,7 +7,7 @@ use Rattle.syslog_dialects.proofs.dated_forms.of_filed.Goals as goal
 
 pub returns-in-Some : goal.returns-in-Some
 returns-in-Some c text front = let led = rw c.in-Some.is at front in
-    c.read_filed.ensures _ _ led.gap (rw c.sent.ensures (any_front c.in-Some.led.date led.date))
+    c.read_filed.ensures _ _ led.gap (rw led.sent (any_front c.in-Some.led.date led.date))
 
 pub returns-in-None : goal.returns-in-None
 returns-in-None c text front = let none = rw c.in-None.is at front in

@@ -5,4 +5,4 @@ returns-in_err-date c = rw c.from_residual.ensures
     (record { begun = _; gap = c.blanks-begun.ensures; undated = c.in_err-date.ensures })
 
 pub returns : goal.returns
-returns c = record { gap = c.blanks-begun.ensures; date = c.in_ok-date.ensures }
+returns c = record { gap = c.blanks-begun.ensures; date = c.in_ok-date.ensures; sent = c.sent.ensures }

@@ -7,7 +7,7 @@ use Rattle.syslog_dialects.proofs.named_forms.of_led.Goals as goal
 
 pub returns-in-Some : goal.returns-in-Some
 returns-in-Some c led = c.of_message.ensures (row_of front_row (led.gap
-    then rw c.sent.ensures (any_front c.args.led.date led.date) then c.in-Some.ensures then refl))
+    then rw led.sent (any_front c.args.led.date led.date) then c.in-Some.ensures then refl))
 
 pub returns-in-None : goal.returns-in-None
 returns-in-None c led = none_named c.undated.result (no_row front_row front_det (led.gap

@@ -245,4 +245,4 @@ returns c front = tail_later (marked_tail dialect.Repeated mark.Repeated) (tail_
     (tail_later (marked_tail dialect.Bracketed mark.Bracket) (tail_forms tails10 ++ program_forms)
     (marked_det mark.Bracket) front
     c.of_program.result (c.in_default-message-9.ensures c.past_host-after_host.ensures)
-    (c.of_program.ensures front))))))))))
+    (c.of_program.ensures c.past_host-after_host.ensures front))))))))))

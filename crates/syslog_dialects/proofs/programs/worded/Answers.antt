@@ -1,35 +1,42 @@
-use Rattle.syslog_pieces.proofs.PieceLemmas.Class.{◌past◌, ◌then◌, mapped_front, rest_front, row_of}
-use Rattle.syslog_pieces.specs.Pieces.Class.{Row}
-use Rattle.std.proofs.Common.{inl, refl}
-use Rattle.syslog_dialects.proofs.NamedLemmas.{worded_det, unread}
-use Rattle.syslog_dialects.specs.{Named.NamedTexts, Programs.worded_of, Programs.worded_row}
+use Rattle.std.proofs.Common.{List, [], ◌∷◌, inl, refl}
+use Rattle.syslog_pieces.specs.Pieces.Class.{Class, Row, exactly, rest, run}
+use Rattle.syslog_pieces.specs.Text.{colon, is_blank}
+use Rattle.syslog_pieces.proofs.PieceLemmas.Class.{◌past◌, ◌then◌, mapped_front, no_mapped, no_row, rest_front, row_of}
+use Rattle.syslog_pieces.proofs.PieceLemmas.Class.{rows_join, rows_none_here, rows_none_later}
+use Rattle.syslog_dialects.proofs.NamedLemmas.{worded_det}
+use Rattle.syslog_dialects.proofs.UntaggedLemmas.{host_row_det}
+use Rattle.syslog_dialects.specs.{Named.NamedTexts, Named.process_id, Programs.worded_of, Programs.worded_row}
+use Rattle.syslog_dialects.specs.{Programs.words, Untagged.host_row}
 use Rattle.syslog_dialects.proofs.programs.worded.Goals as goal
 
-pub returns-in_err-hostname : goal.returns-in_err-hostname
-returns-in_err-hostname c = rw c.from_residual.ensures
-    (unread worded_row worded_det NamedTexts worded_of (inl c.in_err-hostname.ensures))
+-- what follows the host
+abbrev more : List Class
+more = words ∷ process_id ∷ exactly colon ∷ run is_blank ∷ rest ∷ []
 
-pub returns-in_err-rest : goal.returns-in_err-rest
-returns-in_err-rest c = rw c.from_residual-in_err-rest.ensures
-    (unread worded_row worded_det NamedTexts worded_of (c.in_ok-hostname.ensures past inl c.in_err-rest.ensures))
+pub returns-in_err-hostname : goal.returns-in_err-hostname
+returns-in_err-hostname c text after = rw c.from_residual.ensures (no_mapped (Row worded_row) NamedTexts worded_of
+    (rows_none_here host_row more (rw c.in_err-hostname.was at after)))
 
 pub returns-in_err-name : goal.returns-in_err-name
-returns-in_err-name c = rw c.from_residual-in_err-name.ensures
-    (unread worded_row worded_det NamedTexts worded_of
-    (c.in_ok-hostname.ensures past c.in_ok-rest.ensures past inl c.in_err-name.ensures))
+returns-in_err-name c text after = rw c.from_residual-in_err-name.ensures
+    (no_mapped (Row worded_row) NamedTexts worded_of
+    (rows_none_later host_row more host_row_det (rw c.in_ok-hostname.was at after)
+    (no_row more worded_det.1.1 (inl c.in_err-name.ensures))))
 
 pub returns-in_err-id : goal.returns-in_err-id
-returns-in_err-id c = rw c.from_residual-in_err-id.ensures
-    (unread worded_row worded_det NamedTexts worded_of
-    (c.in_ok-hostname.ensures past c.in_ok-rest.ensures past c.in_ok-name.ensures past inl c.in_err-id.ensures))
+returns-in_err-id c text after = rw c.from_residual-in_err-id.ensures
+    (no_mapped (Row worded_row) NamedTexts worded_of
+    (rows_none_later host_row more host_row_det (rw c.in_ok-hostname.was at after)
+    (no_row more worded_det.1.1 (c.in_ok-name.ensures past inl c.in_err-id.ensures))))
 
-pub returns-in_err-rest-2 : goal.returns-in_err-rest-2
-returns-in_err-rest-2 c = rw c.from_residual-in_err-rest-2.ensures
-    (unread worded_row worded_det NamedTexts worded_of
-    (c.in_ok-hostname.ensures past c.in_ok-rest.ensures past c.in_ok-name.ensures past c.in_ok-id.ensures past inl
-    c.in_err-rest-2.ensures))
+pub returns-in_err-rest : goal.returns-in_err-rest
+returns-in_err-rest c text after = rw c.from_residual-in_err-rest.ensures
+    (no_mapped (Row worded_row) NamedTexts worded_of
+    (rows_none_later host_row more host_row_det (rw c.in_ok-hostname.was at after)
+    (no_row more worded_det.1.1 (c.in_ok-name.ensures past c.in_ok-id.ensures past inl c.in_err-rest.ensures))))
 
 pub returns : goal.returns
-returns c = rw c.tagged.ensures (mapped_front (Row worded_row) NamedTexts worded_of
-    (row_of worded_row (c.in_ok-hostname.ensures then c.in_ok-rest.ensures then c.in_ok-name.ensures then
-    c.in_ok-id.ensures then c.in_ok-rest-2.ensures then c.blanks.ensures then rest_front _ then refl)))
+returns c text after = rw c.tagged.ensures (mapped_front (Row worded_row) NamedTexts worded_of
+    (rows_join host_row more (rw c.in_ok-hostname.was at after) (row_of more
+    (c.in_ok-name.ensures then c.in_ok-id.ensures then c.in_ok-rest.ensures then c.blanks.ensures
+    then rest_front _ then refl))))
