@@ -1,35 +1,35 @@
 -- What the call wrote for a line, by the dating of the line, and what the filter gives for a line that is not UTF-8.
-use Rattle.std.proofs.Common.{◌≡◌, ◌⊎◌, inl, inr, ℕ, ℤ, Bool, List, Result, Ok, Err, refl, sym, ◌∙◌}
+use Rattle.std.proofs.Common.{◌≡◌, ◌⊎◌, inl, inr, ℕ, Bool, List, Option, Some, Result, Ok, Err, IsTrue, refl, subst}
+use Rattle.std.proofs.Common.{sym, ◌∙◌}
 use Rattle.std.specs.declared.alloc.AllocError.{AllocError}
 use Rattle.std.specs.Prelude.{◌↔◌, IfOk, IsUtf8, MatchResult}
 use Rattle.syslog_pieces.specs.Pieces.Class.{Text}
-use Rattle.syslog_loose.proofs.ReadingLemmas.{in_year_map, in_year_told, invalid_or_memory}
+use Rattle.syslog_choice.specs.Chosen.{IsChosen}
+use Rattle.syslog_choice.specs.declared.Choice.{Choice}
+use Rattle.syslog_dialects.proofs.SentReadingLemmas.{read_once}
+use Rattle.syslog_dialects.specs.SentReading.{IsReadSent, IsUnsent}
+use Rattle.syslog_dialects.specs.declared.dialect.Dialect.{Dialect}
+use Rattle.syslog_dialects.specs.declared.visit.SentLine.{SentLine}
+use Rattle.syslog_loose.proofs.ReadingLemmas.{in_year_map, invalid_or_memory}
 use Rattle.syslog_loose.proofs.ReckoningLemmas.{one_dating}
-use Rattle.jiff.specs.Words.{plain_zone}
-use Rattle.syslog_loose.specs.Dates.{IsDated, year_in}
-use Rattle.syslog_loose.specs.Reading.{IncompleteDate, InYear, IsOnlyRead, IsUnreadable}
-use Rattle.syslog_loose.specs.Reckoning.{dating_in}
+use Rattle.syslog_loose.specs.Dates.{IsDated}
+use Rattle.syslog_loose.specs.Line.{line_value}
+use Rattle.syslog_loose.specs.Message.{MessageValue}
 use Rattle.syslog_loose.specs.declared.fault.ParseFault.{ParseFault}
 use Rattle.syslog_loose.specs.declared.fault.ParseFault.TheVariants.{Invalid}
 use Rattle.syslog_loose.specs.declared.variant.Variant.TheVariants.{Either}
 use Rattle.syslog_lines.specs.Output.{AddsAnswer}
-use Rattle.syslog_strict.specs.{Call.Converts, Call.Copies, Call.IsConvertedText, Call.NoSyslogMsg, Grammar.IsSyslogMsg}
+use Rattle.syslog_strict.proofs.SentLaws.{read_not_unsent}
+use Rattle.syslog_strict.specs.{Call.Copies, Call.NoSyslogMsg, Grammar.IsSyslogMsg, Sent.ConvertsSent, Sent.IsSentText}
 use Rattle.syslog_utf8.specs.Decoded.{decoded}
 use Rattle.syslog_5424.specs.Conversions.{IsAskedFor, IsRefused, IsWritten, conversions}
-use Rattle.std.proofs.Common.{IsTrue, Option, Some, subst}
-use Rattle.syslog_choice.specs.Chosen.{IsChosen}
-use Rattle.syslog_choice.specs.declared.Choice.{Choice}
-use Rattle.syslog_loose.specs.Line.{line_value}
-use Rattle.syslog_loose.specs.Message.{MessageValue}
-use Rattle.syslog_loose.specs.Visit.{IsLineOf}
-use Rattle.syslog_loose.specs.declared.line.Line.{Line}
 use Rattle.syslog_5424.specs.declared.filter.Conversions.{Conversions}
 
 module _ (filter : Conversions) (input text : Text) where
   -- the text of a conversion is in the grammar
-  strict_dated : IsDated filter.dates Either input (λ dating. IsConvertedText Either dating input text)
-      → IsSyslogMsg text
-  strict_dated h = (h.holds h.answered (λ date asks. refl)).strict
+  strict_dated : IsDated filter.dates Either input
+      (λ dating. IsSentText filter.dates dating filter.dialects Either input text) → IsSyslogMsg text
+  strict_dated h = (h.holds h.answered (λ date asks. refl)).is.strict
 
   -- no year decides whether the text is in the grammar
   not_strict : IsDated filter.dates Either input (λ dating. NoSyslogMsg input) → NoSyslogMsg input
@@ -40,12 +40,13 @@ module _ (filter : Conversions) (input text : Text) where
   written_not_refused (inl (valid, same)) refused = refused.0 valid
   written_not_refused (inr (other, converted)) refused =
       let (dating, is, none) =
-      one_dating {Holds = λ d. IsConvertedText Either d input text}
-      {More = λ d. IsUnreadable Either d input} filter.dates Either input converted refused.1 in
-      none is.message is.read.read
+      one_dating {Holds = λ d. IsSentText filter.dates d filter.dialects Either input text}
+      {More = λ d. IsUnsent filter.dates d filter.dialects Either input}
+      filter.dates Either input converted refused.1 in
+      read_not_unsent filter.dates dating filter.dialects Either input is.dialect is.message is.read none
 
   pub told : (r : Result (Unit {0}) ParseFault) → Copies input r text ⊎ IsDated filter.dates Either input
-      (λ dating. Converts Either dating input r text)
+      (λ dating. ConvertsSent filter.dates dating filter.dialects Either input r text)
       → MatchResult r (λ _. IsSyslogMsg text × IsWritten filter input text)
       (λ fault. (fault ≡ Invalid) ↔ IsRefused filter input)
   told (Ok x) (inl (valid, e)) = (rw e valid, inl (valid, e))
@@ -60,42 +61,40 @@ module _ (filter : Conversions) (input text : Text) where
     λ e. (not_strict (in_year_map (λ year is. is.0) h), in_year_map (λ year is. is.1.0 e) h),
     λ refused.
         let (dating, is, none) =
-        one_dating {Holds = λ d. Converts Either d input (Err fault) text}
-        {More = λ d. IsUnreadable Either d input} filter.dates Either input h refused.1 in
+        one_dating {Holds = λ d. ConvertsSent filter.dates d filter.dialects Either input (Err fault) text}
+        {More = λ d. IsUnsent filter.dates d filter.dialects Either input} filter.dates Either input h refused.1 in
         is.1.1 none,
   )
 
-  pub told_copied : (post : IncompleteDate → ℤ → Type 0) (r : Result (Unit {0}) ParseFault)
-      → Copies input r text ⊎ InYear post Either input
-      (λ year. Converts Either (dating_in (plain_zone filter.dates.zone) year) input r text)
-      → ((date : IncompleteDate) (year : ℤ) → post date year → year ≡ year_in filter.dates date)
-      → Copies input r text ⊎ IsDated filter.dates Either input (λ dating. Converts Either dating input r text)
-  told_copied post r (inl copied) tells = inl copied
-  told_copied post r (inr h) tells = inr (in_year_told h tells)
-
 -- whether the line is asked for, by what its reading gives
 module _ (filter : Conversions) (choice : Choice) (input : Text) (given : filter.choice ≡ Some choice) where
-  pub asked_chosen : (line : Line) (r : Bool)
-      → IsDated filter.dates Either input (λ dating. IsLineOf Either dating input line)
-      → (IsTrue r ↔ IsChosen choice (line_value line)) → IsTrue r ↔ IsAskedFor filter input
-  asked_chosen line r read chosen = (
-    λ yes. rw given (in_year_map (λ year is. (line_value line, is.only, chosen.0 yes)) read),
+  pub asked_chosen : (it : SentLine) (r : Bool)
+      → IsDated filter.dates Either input
+      (λ dating. IsReadSent filter.dates dating filter.dialects Either input it.dialect (line_value it.line))
+      → (IsTrue r ↔ IsChosen choice (line_value it.line)) → IsTrue r ↔ IsAskedFor filter input
+  asked_chosen it r read chosen = (
+    λ yes. rw given (in_year_map (λ year is. (it.dialect, line_value it.line, is, chosen.0 yes)) read),
     λ asked.
-        let (dating, is, (m, only, has)) =
-        one_dating {Holds = λ d. IsLineOf Either d input line}
-        {More = λ d. (m : MessageValue) × IsOnlyRead Either d input m × IsChosen choice m}
+        let (dating, is, (dialect, m, other, has)) =
+        one_dating
+        {Holds = λ d. IsReadSent filter.dates d filter.dialects Either input it.dialect (line_value it.line)}
+        {More = λ d. (dialect : Option Dialect) × (m : MessageValue)
+        × IsReadSent filter.dates d filter.dialects Either input dialect m × IsChosen choice m}
         filter.dates Either input read (rw given at asked) in
-        chosen.1 (subst (λ (m : MessageValue). IsChosen choice m) (is.only.only m only.read) has),
+        let once =
+        read_once filter.dates dating filter.dialects Either input it.dialect dialect (line_value it.line) m is other in
+        chosen.1 (subst (λ (n : MessageValue). IsChosen choice n) once.1 has),
   )
 
-  pub none_asked : IsDated filter.dates Either input (λ dating. IsUnreadable Either dating input)
-      → IsAskedFor filter input → ⊥
+  pub none_asked : IsDated filter.dates Either input
+      (λ dating. IsUnsent filter.dates dating filter.dialects Either input) → IsAskedFor filter input → ⊥
   none_asked none asked =
-      let (dating, is, (m, only, has)) =
-      one_dating {Holds = λ d. IsUnreadable Either d input}
-      {More = λ d. (m : MessageValue) × IsOnlyRead Either d input m × IsChosen choice m}
+      let (dating, is, (dialect, m, other, has)) =
+      one_dating {Holds = λ d. IsUnsent filter.dates d filter.dialects Either input}
+      {More = λ d. (dialect : Option Dialect) × (m : MessageValue)
+      × IsReadSent filter.dates d filter.dialects Either input dialect m × IsChosen choice m}
       filter.dates Either input none (rw given at asked) in
-      is m only.read
+      read_not_unsent filter.dates dating filter.dialects Either input dialect m other is
 
 -- what a line gives that is not UTF-8: what the text gives that it is taken for
 pub taken_answer : (filter : Conversions) (line text old new : List ℕ) (r : Result Bool AllocError) → ¬ (IsUtf8 line)

@@ -4,33 +4,36 @@ use Rattle.std.specs.Str.{chars}
 use Rattle.syslog_pieces.specs.Pieces.Class.{Text}
 use Rattle.syslog_loose.specs.Dates.{IsDated}
 use Rattle.syslog_loose.specs.Message.{MessageValue}
-use Rattle.syslog_loose.specs.Reading.{IsOnlyRead, IsUnreadable}
 use Rattle.syslog_loose.specs.declared.variant.Variant.TheVariants.{Either}
 use Rattle.syslog_lines.specs.Output.{Answer, AreCounts, Filter, Framed, Written, Marked, Omitted, Unasked}
 use Rattle.syslog_lines.specs.Frames.{frame_of}
 use Rattle.syslog_lines.specs.Pump.{FiltersAll}
 use Rattle.syslog_lines.specs.declared.framing.Frames.{Frames}
 use Rattle.syslog_lines.specs.declared.summary.LineCounts.{LineCounts}
-use Rattle.syslog_strict.specs.{Call.IsConvertedText, Call.NoSyslogMsg, Grammar.IsSyslogMsg}
+use Rattle.syslog_dialects.specs.SentReading.{IsReadSent, IsUnsent}
+use Rattle.syslog_dialects.specs.declared.dialect.Dialect.{Dialect}
+use Rattle.syslog_strict.specs.{Call.NoSyslogMsg, Grammar.IsSyslogMsg, Sent.IsSentText}
 use Rattle.syslog_choice.specs.Chosen.{IsChosen}
 use Rattle.syslog_utf8.specs.Decoded.{AreTakenFor}
 use Rattle.syslog_5424.specs.declared.filter.Conversions.{Conversions}
 
--- the text that is written for a text: itself, where it is in the grammar, and otherwise its conversion
+-- the text that is written for a text: itself, where it is in the grammar, and otherwise the conversion of the message
+-- as which it is read, in a dialect or in none
 abbrev pub IsWritten : Conversions → Text → Text → Type 0
 IsWritten filter input text = (IsSyslogMsg input × (text ≡ input))
     ⊎ (NoSyslogMsg input × IsDated filter.dates Either input
-    (λ dating. IsConvertedText Either dating input text))
+    (λ dating. IsSentText filter.dates dating filter.dialects Either input text))
 
 -- the text is neither in the grammar nor a message
 abbrev pub IsRefused : Conversions → Text → Type 0
 IsRefused filter input = NoSyslogMsg input × IsDated filter.dates Either input
-    (λ dating. IsUnreadable Either dating input)
+    (λ dating. IsUnsent filter.dates dating filter.dialects Either input)
 
 -- where messages are chosen, the text is read as one of them
 abbrev pub IsAskedFor : Conversions → Text → Type 0
 IsAskedFor filter input = IfSome filter.choice (λ choice. IsDated filter.dates Either input
-    (λ dating. (m : MessageValue) × IsOnlyRead Either dating input m × IsChosen choice m))
+    (λ dating. (dialect : Option Dialect) × (m : MessageValue)
+    × IsReadSent filter.dates dating filter.dialects Either input dialect m × IsChosen choice m))
 
 -- what the filter gives for a text: the frame of what is written for it, encoded, or nothing if it is refused or not
 -- asked for

@@ -1,7 +1,6 @@
 //! The filter that writes each line as RFC 5424.
 ghost use Rattle.std.specs.Prelude.{◌≡◌, ◌↔◌, false, IfErr, IfOk, IsTrue, MatchResult, Some};
 ghost use Rattle.std.specs.Str.{chars};
-ghost use Rattle.syslog_loose.specs.Dates.{year_in};
 ghost use Rattle.syslog_loose.specs.declared.fault.ParseFault.TheVariants.{Invalid};
 ghost use Rattle.syslog_lines.specs.Pump.{EndsEarly, FailedAs};
 ghost use Rattle.syslog_strict.specs.Grammar.{IsSyslogMsg};
@@ -11,17 +10,18 @@ ghost use Rattle.syslog_5424.specs.Conversions.{conversions};
 
 use std::alloc::{AllocError, Global};
 use std::io::{Read, Write};
-use syslog_choice::{Choice, parse_apart};
+use syslog_choice::{Choice, sent_apart};
 use syslog_lines::pump::pump;
 use syslog_lines::{Frames, Framing, LineCounts, LineFilter, RunFault, Watched, push_frame};
-use syslog_loose::{Dates, IncompleteDate, ParseFault, Variant};
-use syslog_strict::to_rfc5424_into;
+use syslog_loose::{Dates, ParseFault, Variant};
+use syslog_strict::to_rfc5424_sent;
 use syslog_utf8::decode;
 
 /// Reads lines to the end of the input, and writes each as RFC 5424: a line that is in the grammar as it came, and
-/// otherwise its message, converted, with its dates completed by `dates`. A line that is neither in the grammar nor a
-/// message is left out and counted as refused. A line that is not UTF-8 is first decoded: as ISO 8859-1, or with U+FFFD
-/// for each part that is not UTF-8. If messages are chosen, no others are written, and all are counted.
+/// otherwise its message, converted, with its dates completed by `dates`. If dialects are asked for, a line is read in
+/// the one that it is in. A line that is neither in the grammar nor a message is left out and counted as refused. A line
+/// that is not UTF-8 is first decoded: as ISO 8859-1, or with U+FFFD for each part that is not UTF-8. If messages are
+/// chosen, no others are written, and all are counted.
 ///
 /// Each line written is in the grammar of RFC 5424, and a converted one is parsed as the converted message. The output
 /// of each block of input is written before more is read, and the writer is flushed at the end. A call that failed is
@@ -57,6 +57,8 @@ pub fn write_converted<R: Read, W: Write>(
 pub struct Conversions<'a> {
     /// How the frames that are written follow each other.
     pub framing: Framing,
+    /// Whether a line is read in a dialect that it is in.
+    pub dialects: bool,
     /// Whether a line that is not UTF-8 is decoded as ISO 8859-1.
     pub latin1: bool,
     /// How dates that show no year or no zone are completed.
@@ -85,8 +87,8 @@ impl Conversions<'_> {
         requires { self.now.choice ≡ Some choice.now }
         ensures { IsTrue result ↔ IsAskedFor self.now (chars line.now) }
     {
-        match parse_apart(line, &self.dates) {
-            Some(found) => choice.is_chosen(&found),
+        match sent_apart(line, &self.dates, self.dialects) {
+            Some(found) => choice.is_chosen(&found.line),
             None => false,
         }
     }
@@ -98,18 +100,13 @@ impl Conversions<'_> {
             (λ _. IsSyslogMsg (text_in text.new) × IsWritten self.now (chars line.now) (text_in text.new))
             (λ fault. (fault ≡ Invalid) ↔ IsRefused self.now (chars line.now)) }
     {
-        let dates = &self.dates;
-        let get_year = |date: IncompleteDate| -> i32
-            ensures { result ≡ year_in dates.entry.now date }
-        { dates.year_of(date) };
-        to_rfc5424_into(
+        to_rfc5424_sent(
             alloc,
             text,
             line,
-            get_year,
-            None,
+            &self.dates,
             Variant::Either,
-            &dates.zone,
+            self.dialects,
         )
     }
 }

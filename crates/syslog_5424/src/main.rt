@@ -18,7 +18,8 @@ use syslog_lines::{Frames, Watched};
 use syslog_loose::VERSION;
 
 // The flags of this program.
-const FLAGS: [Flag; 8] = [
+const FLAGS: [Flag; 9] = [
+    Flag::NoDialects,
     Flag::Latin1,
     Flag::Offset,
     Flag::Nul,
@@ -46,6 +47,7 @@ fn conversions_of(options: Options<'_>) -> Conversions<'_> {
     };
     Conversions {
         framing: options.framing,
+        dialects: options.dialects,
         latin1: options.latin1,
         dates: options.dates,
         choice: if choice.is_everything() {

@@ -20,6 +20,8 @@ Options, in any order, each at most once:
                    UTC where this is left out
   --latin1         reads a line that is not UTF-8 as ISO 8859-1, and not with
                    U+FFFD for what is not
+  --no-dialects    reads no line in the form of a sender that follows neither
+                   RFC 5424 nor RFC 3164
   --nul            frames end in NUL, and not in a line feed, in and out
   --octet-counted  frames have octet counts (RFC 6587), in and out; one that is
                    read may end in a line feed in place of that

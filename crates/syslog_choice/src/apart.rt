@@ -6,7 +6,9 @@ ghost use Rattle.syslog_loose.specs.Line.{KnowsForm};
 ghost use Rattle.syslog_loose.specs.Reading.{IsUnreadable};
 ghost use Rattle.syslog_loose.specs.Visit.{IsLineOf};
 ghost use Rattle.syslog_loose.specs.declared.variant.Variant.TheVariants.{Either};
+ghost use Rattle.syslog_dialects.specs.SentReading.{IsSentAnswer};
 
+use syslog_dialects::{SentLine, sent_line, unread_line};
 use syslog_loose::{Dates, IncompleteDate, Line, LineVisitor, Variant, visit_line};
 use syslog_pieces::structured_data::NoElements;
 
@@ -32,9 +34,8 @@ impl<'a> LineVisitor<'a> for Apart {
     }
 }
 
-/// Returns the line that the text is parsed as, by the year and the zone of the dates. Returns `None` if it does not
-/// parse. It takes no memory.
-pub fn parse_apart<'a>(input: &'a str, dates: &Dates) -> Option<Line<'a>>
+// Returns the line that the text is parsed as, and `None` if it does not parse.
+fn parse_apart<'a>(input: &'a str, dates: &Dates) -> Option<Line<'a>>
     ensures reads { IsDated dates.now Either (chars input.entry.now) (λ dating. MatchOption result
         (IsUnreadable Either dating (chars input.entry.now)) (IsLineOf Either dating (chars input.entry.now))) }
     ensures form { IfSome result KnowsForm }
@@ -51,4 +52,16 @@ pub fn parse_apart<'a>(input: &'a str, dates: &Dates) -> Option<Line<'a>>
         &mut NoElements,
         &mut Apart,
     )
+}
+
+/// Returns the line of the text as its sender meant it, by the year and the zone of the dates; in a dialect only if
+/// `dialects` is true. Returns `None` if the text is no message. It takes no memory.
+pub fn sent_apart<'a>(input: &'a str, dates: &Dates, dialects: bool) -> Option<SentLine<'a>>
+    ensures { IsDated dates.now Either (chars input.entry.now) (λ dating.
+        IsSentAnswer dates.now dating dialects Either (chars input.entry.now) result) }
+{
+    match parse_apart(input, dates) {
+        Some(found) => Some(sent_line(&found, input, dates, Variant::Either, dialects)),
+        None => unread_line(input, dates, Variant::Either, dialects),
+    }
 }

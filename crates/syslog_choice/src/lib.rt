@@ -11,7 +11,7 @@ ghost use Rattle.syslog_choice.specs.Chosen.{IsAsSevere, IsChosen, IsEverything}
 
 mod apart;
 
-pub use apart::{Apart, parse_apart};
+pub use apart::{Apart, sent_apart};
 use syslog_loose::{Line, SyslogSeverity};
 
 /// Which messages are chosen: those that match everything that is given here.

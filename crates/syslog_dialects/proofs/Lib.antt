@@ -9,6 +9,7 @@ pub mod FormLemmas
 pub mod HeaderLemmas
 pub mod LedLemmas
 pub mod MarkLemmas
+pub mod MessageLemmas
 pub mod MonthFrontLemmas
 pub mod NamedFormLemmas
 pub mod NamedLemmas

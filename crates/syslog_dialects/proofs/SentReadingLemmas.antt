@@ -80,7 +80,7 @@ no_list (e ∷ es) none = absurd (none (λ same. cc))
 
 module _ (dates : Dates) (dating : Dating) (dialects : Bool) (variant : Variant) (text : Text) where
   -- no text is left in two ways
-  left_unread : IsUnreadable variant dating text → (MayBegin text → IsInNone dates false text)
+  pub left_unread : IsUnreadable variant dating text → (MayBegin text → IsInNone dates false text)
       → Stands dates dating dialects variant text
   left_unread none never asked true ((line, of, odd), may) = absurd (none (line_value line) of.only.read)
   left_unread none never asked false left = never left.1

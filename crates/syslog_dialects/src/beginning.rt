@@ -90,7 +90,7 @@ fn goes_on(c: char, text: &str) -> bool
 
 /// Returns whether the text begins as one of a dialect may.
 #[inline(always)]
-pub(crate) fn may_be_sent(text: &str) -> bool
+pub fn may_be_sent(text: &str) -> bool
     ensures { IsTrue result ↔ spec.MayBegin (chars text.now) }
 {
     match first(trimmed(text)) {

@@ -1,7 +1,9 @@
-//! Which lines keep the port's reading, as laws over the definitions alone: each function does nothing, and its
-//! contract is the law.
-ghost use Rattle.std.specs.Prelude.{Bool, None, Some};
-ghost use Rattle.syslog_pieces.specs.Pieces.Class.{Text};
+//! Which lines keep the port's reading, and what a dialect's message is, as laws over the definitions alone: each
+//! function does nothing, and its contract is the law.
+ghost use Rattle.std.specs.Prelude.{◌≡◌, ◌++◌, Bool, None, Some};
+ghost use Rattle.syslog_pieces.specs.Pieces.Class.{Ends, Text};
+ghost use Rattle.syslog_pieces.specs.Text.{is_blank, trimmed};
+ghost use Rattle.syslog_pieces.specs.Text.Canonical.{EndsVisibly};
 ghost use Rattle.syslog_pieces.specs.Timestamp.Zone.{Dating};
 ghost use Rattle.syslog_loose.specs.Line.{line_value};
 ghost use Rattle.syslog_loose.specs.Message.{MessageValue};
@@ -35,4 +37,12 @@ pub fn texts_are_the_ports_without_dialects()
     ensures unread { (dates : AllDates) (dating : Dating) (dialects : Bool) (variant : Variant) (text : Text)
         → (AreAsked dialects variant → ⊥) → IsUnreadable variant dating text
         → IsUnsent dates dating dialects variant text }
+{}
+
+/// The message part of a dialect's line is the end of the trimmed text. It begins with no blank, and its last character
+/// is no white space.
+pub fn messages_end_their_lines()
+    ensures { (dates : AllDates) (dating : Dating) (dialects : Bool) (variant : Variant) (text : Text)
+        (dialect : Dialect) (m : MessageValue) → IsReadSent dates dating dialects variant text (Some dialect) m
+        → ((before : Text) × (trimmed text ≡ before ++ m.msg)) × Ends is_blank m.msg × EndsVisibly m.msg }
 {}

@@ -38,6 +38,7 @@ mod untagged;
 mod visit;
 mod zone;
 
+pub use beginning::may_be_sent;
 pub use dialect::Dialect;
 pub use ordinary::is_ordinary;
 pub use visit::{SentLine, line_instead, parse_sent_line, sent_line, unread_line};

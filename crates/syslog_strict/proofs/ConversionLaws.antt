@@ -14,7 +14,10 @@ use Rattle.syslog_strict.proofs.Words.{converted_word, escaped_from, is_among, j
 use Rattle.syslog_strict.proofs.Words.{without_last_colon, without_lone_colon, AreDistinct, Front}
 use Rattle.syslog_strict.proofs.Words.{IsSyslogMsg, is_escaped, is_printusascii, is_sd_char}
 use Rattle.syslog_strict.proofs.Words.{list_any-append, flat_map, ◌≤◌}
-use Rattle.syslog_strict.specs.{Call.IsConvertedText, Conversion.converted_value}
+use Rattle.std.proofs.Common.{Result, Ok, Err}
+use Rattle.std.specs.Prelude.{MatchResult}
+use Rattle.syslog_strict.specs.{Call.Converts, Call.IsConvertedText, Call.IsLineText, Call.IsStrictText}
+use Rattle.syslog_strict.specs.{Call.NoSyslogMsg, Conversion.converted_value}
 use Rattle.syslog_strict.proofs.GrammarLemmas.{IsParamValue, IsSdName, IsSomeOf, IsStrictElement, IsStrictParam}
 use Rattle.syslog_strict.proofs.GrammarLemmas.{elements_prints, no_element}
 use Rattle.syslog_strict.specs.Grammar.{IsAll, IsValueUnit, body, header, pri, prival, sd_elements, sp, version}
@@ -28,19 +31,18 @@ use Rattle.syslog_strict.proofs.ElementLemmas.{elements_some, other_if, same_if}
 use Rattle.std.proofs.Common.{◌&&◌, nat_lt}
 use Rattle.std.proofs.lemmas.{Bool.or_from}
 use Rattle.std.specs.Bool.{◌==◌}
-use Rattle.std.specs.Prelude.{◌↔◌}
 use Rattle.syslog_pieces.specs.{ProcId.IsBareWord, Timestamp.Zone.Dating, Text.Canonical.EndsVisibly}
 use Rattle.syslog_pieces.proofs.StructuredDataLemmas.Elements.{forgiving_back}
 use Rattle.syslog_pieces.proofs.StructuredDataLemmas.Elements.{forgiving_det, no_item_nil}
 use Rattle.syslog_loose.specs.{Printed.printed, Printed.printed_5424, declared.variant.Variant.Variant}
 use Rattle.syslog_loose.specs.{declared.variant.Variant.TheVariants.Either, Canonical.IsBounded, Canonical.IsCanonical}
-use Rattle.syslog_loose.specs.declared.fault.ParseFault.TheVariants.{Invalid}
+use Rattle.syslog_loose.specs.declared.fault.ParseFault.{ParseFault}
 use Rattle.syslog_loose.specs.declared.fault.ParseFault.TheVariants.{Memory}
 use Rattle.syslog_loose.proofs.ReadBackLemmas.{read_as, read_bounded, printed_exact}
 use Rattle.syslog_loose.proofs.{PrintedLemmas.priority_small, Rfc5424Lemmas.read_completed}
 use Rattle.std.specs.Char.{is_not_whitespace}
 use Rattle.syslog_loose.proofs.Rfc3164Lemmas.Near.{read_near}
-use Rattle.syslog_loose.specs.Reading.{IsOnlyRead, IsRead, IsUnreadable, dash_rule}
+use Rattle.syslog_loose.specs.Reading.{IsOnlyRead, IsRead, dash_rule}
 use Rattle.syslog_strict.proofs.NameLaws.{converted_are, converted_distinct, elements_is}
 use Rattle.syslog_strict.proofs.NameLaws.{element_back, no_text, colonless_end, colonless_length}
 use Rattle.syslog_strict.proofs.NameLaws.{colonless_passes, lone_other, lone_passes, lone_short, elements_back}
@@ -49,7 +51,11 @@ use Rattle.syslog_strict.proofs.TextLemmas.{cleaned_passes, cleaned_same, cleane
 use Rattle.syslog_strict.proofs.StampLemmas.{by_choice, stamp_back, stamp_is}
 use Rattle.syslog_pieces.proofs.StructuredDataLemmas.Unparsed.{EndsIn, IsBracketed}
 use Rattle.syslog_loose.specs.Unparsed.{Leaves}
-use Rattle.syslog_loose.proofs.UnparsedLemmas.{leaves_same, leaves_shape}
+use Rattle.syslog_loose.proofs.ReadingLemmas.{invalid_or_memory}
+use Rattle.syslog_loose.proofs.UnparsedLemmas.{leaves_of, leaves_same, leaves_shape}
+use Rattle.syslog_loose.specs.Line.{line_value}
+use Rattle.syslog_loose.specs.Visit.{IsLineOf}
+use Rattle.syslog_loose.specs.declared.line.Line.{Line}
 use Rattle.syslog_loose.proofs.Rfc5424Lemmas.{canonical_leaves}
 use Rattle.syslog_strict.specs.Conversion.{spaced_before, whole}
 use Rattle.syslog_strict.proofs.NameLaws as names
@@ -274,10 +280,10 @@ pub text_stays : (variant : Variant) (dating receiver : Dating) (input text agai
 text_stays variant dating receiver input text again first (inl (valid, e)) = e
 text_stays variant dating receiver input text again first (inr second) =
     let m = whole first.message first.unparsed in
-    let same = second.read.only (converted m) (first.again receiver) in
-    let none = leaves_same Either text second.unparsed [] second.leaves first.parsed in
-    second.prints ∙ ap (λ (x : Text). printed (converted (whole second.message x))) none
-    ∙ ap (λ (x : MessageValue). printed (converted x)) (sym same) ∙ printed_again m ∙ sym first.prints
+    let same = second.read.only (converted m) (first.is.again receiver) in
+    let none = leaves_same Either text second.unparsed [] second.leaves first.is.parsed in
+    second.is.prints ∙ ap (λ (x : Text). printed (converted (whole second.message x))) none
+    ∙ ap (λ (x : MessageValue). printed (converted x)) (sym same) ∙ printed_again m ∙ sym first.is.prints
 
 -- ---- in the grammar
 
@@ -333,7 +339,7 @@ one_visible (d ∷ front) c e = absurd (no_lone front c [] (sym (ap tail_of e)))
 pub record HasReadMsg (m : MessageValue) : Type 0 where
   pub front : Ends is_blank m.msg
   pub end : EndsVisibly m.msg
-  pub bounded : IsBounded m
+  pub process : IfSome m.procid IsBoundedProcess
 
 pub read_msg : (variant : Variant) (dating : Dating) (text : Text) (m : MessageValue) → IsRead variant dating text m
     → HasReadMsg m
@@ -342,10 +348,14 @@ read_msg variant dating text m r = elim (read_as variant dating text m r) [
       record {
         front = canonical.0.msg_front;
         end = canonical.0.msg_end;
-        bounded = read_bounded variant dating text m r;
+        process = (read_bounded variant dating text m r).procid;
       })
   | inr s ↦ (let near = read_near dash_rule dating text m s in
-      record { front = near.msg_front; end = near.msg_end; bounded = read_bounded variant dating text m r })
+      record {
+        front = near.msg_front;
+        end = near.msg_end;
+        process = (read_bounded variant dating text m r).procid;
+      })
 ]
 
 -- with what was left unparsed before it, it is such a message part still
@@ -370,12 +380,12 @@ pub whole_msg : (m : MessageValue) (u : Text) → HasReadMsg m → (u ≡ []) �
 whole_msg m u has (inl e) = subst (λ (x : Text). HasReadMsg (whole m x)) (sym e) (record {
   front = has.front;
   end = has.end;
-  bounded = record { protocol = has.bounded.protocol; procid = has.bounded.procid };
+  process = has.process;
 })
 whole_msg m u has (inr b) = record {
   front = begins_unblank u m.msg b.begins;
   end = ends_visibly u m.msg b.ends has.end;
-  bounded = record { protocol = has.bounded.protocol; procid = has.bounded.procid };
+  process = has.process;
 }
 
 pub read_whole : (variant : Variant) (dating : Dating) (text : Text) (m : MessageValue) (u : Text)
@@ -402,7 +412,7 @@ converted_canonical m has = (
 )
 
 pub converted_bounded : (m : MessageValue) → HasReadMsg m → IsBounded (converted m)
-converted_bounded m has = record { protocol = omega arith; procid = names.process_bounded m.procid has.bounded.procid }
+converted_bounded m has = record { protocol = omega arith; procid = names.process_bounded m.procid has.process }
 
 pub converted_again : (m : MessageValue) (receiver : Dating) → HasReadMsg m
     → IsRead Either receiver (printed (converted m)) (converted m)
@@ -415,23 +425,37 @@ converted_parsed m has =
 
 -- ---- what the call writes
 
+pub strict_text : (m : MessageValue) (text : Text) → HasReadMsg m → text ≡ printed (converted m) → IsStrictText m text
+strict_text m text has e = record {
+  prints = e;
+  strict = rw e (converted_strict m has.process);
+  again = λ receiver. rw e (converted_again m receiver has);
+  parsed = rw e (converted_parsed m has);
+}
+
 pub text_converts : (variant : Variant) (dating : Dating) (input text : Text) (m : MessageValue) (u : Text)
     → IsOnlyRead variant dating input m → Leaves variant input u → text ≡ printed (converted (whole m u))
     → IsConvertedText variant dating input text
-text_converts variant dating input text m u only leaves e =
-    let has = read_whole variant dating input m u only.read leaves in
-    record {
-      message = m;
-      read = only;
-      unparsed = u;
-      leaves = leaves;
-      prints = e;
-      strict = rw e (converted_strict (whole m u) has.bounded.procid);
-      again = λ receiver. rw e (converted_again (whole m u) receiver has);
-      parsed = rw e (converted_parsed (whole m u) has);
-    }
+text_converts variant dating input text m u only leaves e = record {
+  message = m;
+  read = only;
+  unparsed = u;
+  leaves = leaves;
+  is = strict_text (whole m u) text (read_whole variant dating input m u only.read leaves) e;
+}
 
-pub no_memory : (variant : Variant) (dating : Dating) (input : Text) (m : MessageValue)
-    → IsOnlyRead variant dating input m
-    → (Memory ≡ Invalid) ↔ IsUnreadable variant dating input
-no_memory variant dating input m only = ((λ e. absurd cc), (λ none. absurd (none m only.read)))
+-- what is written of the line as which the text is read
+pub line_written : (variant : Variant) (dating : Dating) (input text : Text) (line : Line)
+    (r : Result (Unit {0}) ParseFault) → NoSyslogMsg input → IsLineOf variant dating input line
+    → MatchResult r (λ _. IsLineText line text) (λ fault. fault ≡ Memory) → Converts variant dating input r text
+line_written variant dating input text line (Ok x) other of (u, left, e) = (
+  other,
+  text_converts variant dating input text (line_value line) u of.only (leaves_of variant dating input line u of left) e,
+)
+line_written variant dating input text line (Err fault) other of memory = (
+  other,
+  (
+    λ invalid. absurd (invalid_or_memory (sym memory ∙ invalid)),
+    λ none. absurd (none (line_value line) of.only.read),
+  ),
+)

@@ -8,7 +8,11 @@ use Rattle.syslog_strict.proofs.Words.{named_process, procid_text, process_text,
 use Rattle.syslog_strict.proofs.Words.{MessageValue, priority_of, timestamp_text, cleaned, kept_char, named, no_colon}
 use Rattle.syslog_strict.proofs.Words.{without_last_colon, without_lone_colon, converted_host, converted_word}
 use Rattle.syslog_strict.proofs.Words.{is_printusascii, keeps, front_text}
-use Rattle.std.proofs.Common.{zero, take, Result, Ok, Err, OnOk, MatchBool}
+use Rattle.syslog_strict.specs.Pushing.{data_text}
+use Rattle.std.proofs.Common.{zero, take, Result, Ok, Err, OnOk, MatchBool, is_some}
+use Rattle.std.specs.Borrow.{Bor}
+use Rattle.std.specs.Option.{option_and_then}
+use Rattle.syslog_pieces.specs.Pieces.View.{seen}
 use Rattle.std.proofs.lemmas.List.{take_all, drop_all, length-map, length-take}
 use Rattle.std.proofs.lemmas.Str.{chars_past_char, IsUtf8-encode}
 use Rattle.std.specs.{Char.IsScalar, Result.is_ok}
@@ -225,9 +229,36 @@ cleaned_short test most t = rw (length-map, length-take) (omega arith)
 abbrev space : Text
 space = 32 ∷ []
 
+data_pieces : (t id elements : Text) → ((((t ++ space) ++ id) ++ space) ++ elements) ++ space
+    ≡ t ++ (32 ∷ (id ++ (32 ∷ (elements ++ space))))
+data_pieces t id elements = simp append_assoc refl
+
+-- the message id and the elements, piece by piece
+pub data_joined : (m : MessageValue) (t0 t1 t2 t3 t4 t5 : Text) → t1 ≡ t0 ++ space → t2 ≡ t1 ++ name_text m.msgid
+    → t3 ≡ t2 ++ space → t4 ≡ t3 ++ elements_text m.structured_data → t5 ≡ t4 ++ space → t5 ≡ t0 ++ data_text m
+data_joined m t0 t1 t2 t3 t4 t5 e1 e2 e3 e4 e5 =
+    rw (e5, e4, e3, e2, e1) (data_pieces t0 (name_text m.msgid) (elements_text m.structured_data))
+
+-- ` - - `
+dashes_ascii : IsAscii (32 ∷ 45 ∷ 32 ∷ 45 ∷ 32 ∷ [])
+dashes_ascii =
+    IsAscii-cons 32 (45 ∷ 32 ∷ 45 ∷ 32 ∷ []) (omega arith) (IsAscii-cons 45 (32 ∷ 45 ∷ 32 ∷ []) (omega arith)
+    (IsAscii-cons 32 (45 ∷ 32 ∷ []) (omega arith) (IsAscii-cons 45 (32 ∷ []) (omega arith)
+    (IsAscii-cons 32 [] (omega arith) IsAscii-nil))))
+
+pub no_data : (m : MessageValue) → m.msgid ≡ None → m.structured_data ≡ []
+    → chars (32 ∷ 45 ∷ 32 ∷ 45 ∷ 32 ∷ []) ≡ data_text m
+no_data m id elements = chars-IsAscii (32 ∷ 45 ∷ 32 ∷ 45 ∷ 32 ∷ []) dashes_ascii ∙ rw (id, elements) refl
+
+-- an absent message id stays absent
+pub no_word : (word : Option (Bor (List ℕ))) → is_some word ≡ false
+    → option_and_then (converted_word 32) (seen word) ≡ None
+no_word None none = refl
+no_word (Some word) none = cc
+
 pieces : (front host app process id elements msg : Text)
-    → (((((((((((front ++ space) ++ host) ++ space) ++ app) ++ space) ++ process) ++ space) ++ id) ++ space)
-    ++ elements) ++ space) ++ msg
+    → (((((((front ++ space) ++ host) ++ space) ++ app) ++ space) ++ process)
+    ++ (32 ∷ (id ++ (32 ∷ (elements ++ space))))) ++ msg
     ≡ front ++ (32 ∷ (host ++ (32 ∷ (app ++ (32 ∷ (process ++ (32 ∷ (id ++ (32 ∷ (elements ++ (32 ∷ msg)))))))))))
 pieces front host app process id elements msg = simp append_assoc refl
 
@@ -236,15 +267,13 @@ front_before : (p stamp more : Text) → (60 ∷ (p ++ (62 ∷ (decimal 1 ++ (32
 front_before p stamp more = simp append_assoc refl
 
 -- what was appended to no text, piece by piece, is the printed message
-pub line_joined : (m : MessageValue) (t0 t1 t2 t3 t4 t5 t6 t7 t8 t9 t10 t11 t12 t13 : Text) → t0 ≡ []
+pub line_joined : (m : MessageValue) (t0 t1 t2 t3 t4 t5 t6 t7 t8 t9 : Text) → t0 ≡ []
     → t1 ≡ t0 ++ front_text (priority_of m) (timestamp_text m.timestamp) → t2 ≡ t1 ++ space
     → t3 ≡ t2 ++ name_text m.hostname → t4 ≡ t3 ++ space → t5 ≡ t4 ++ name_text m.appname → t6 ≡ t5 ++ space
-    → t7 ≡ t6 ++ process_text m.procid → t8 ≡ t7 ++ space → t9 ≡ t8 ++ name_text m.msgid → t10 ≡ t9 ++ space
-    → t11 ≡ t10 ++ elements_text m.structured_data → t12 ≡ t11 ++ space → t13 ≡ t12 ++ m.msg
-    → t13 ≡ printed_5424 1 m
+    → t7 ≡ t6 ++ process_text m.procid → t8 ≡ t7 ++ data_text m → t9 ≡ t8 ++ m.msg → t9 ≡ printed_5424 1 m
 unfolding printed_5424
-line_joined m t0 t1 t2 t3 t4 t5 t6 t7 t8 t9 t10 t11 t12 t13 e0 e1 e2 e3 e4 e5 e6 e7 e8 e9 e10 e11 e12 e13 =
-    rw (e13, e12, e11, e10, e9, e8, e7, e6, e5, e4, e3, e2, e1, e0)
+line_joined m t0 t1 t2 t3 t4 t5 t6 t7 t8 t9 e0 e1 e2 e3 e4 e5 e6 e7 e8 e9 =
+    rw (e9, e8, e7, e6, e5, e4, e3, e2, e1, e0)
     (pieces (front_text (priority_of m) (timestamp_text m.timestamp)) (name_text m.hostname) (name_text m.appname)
     (process_text m.procid) (name_text m.msgid) (elements_text m.structured_data) m.msg
     ∙ front_before (decimal (priority_of m)) (timestamp_text m.timestamp) _)

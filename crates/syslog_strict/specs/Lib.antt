@@ -4,4 +4,5 @@ pub mod Grammar
 pub mod Ids
 pub mod Joined
 pub mod Pushing
+pub mod Sent
 pub mod Value

@@ -1,9 +1,12 @@
 -- What is appended to a text, and the names of the tests that the code passes on.
-use Rattle.std.specs.Prelude.{◌≡◌, ◌∷◌, ◌++◌, ℕ, ℤ, Bool, String, string_bytes}
+use Rattle.std.specs.Prelude.{◌≡◌, ◌∷◌, ◌++◌, [], ℕ, ℤ, Bool, String, string_bytes}
 use Rattle.std.specs.Global.{Global}
 use Rattle.std.specs.Fmt.{decimal}
 use Rattle.std.specs.Str.{chars}
+use Rattle.syslog_loose.specs.Message.{MessageValue}
+use Rattle.syslog_loose.specs.Printed.{elements_text}
 use Rattle.syslog_pieces.specs.Pieces.Class.{Text}
+use Rattle.syslog_pieces.specs.Text.{name_text}
 use Rattle.syslog_pieces.specs.declared.timestamp.OffsetTimestamp.{OffsetTimestamp}
 use Rattle.syslog_strict.specs.Conversion.{micros}
 use Rattle.syslog_strict.specs.Grammar.{is_printusascii, is_sd_char}
@@ -25,6 +28,10 @@ keeps SdName c = is_sd_char c
 -- `<priority>1 timestamp`
 abbrev pub front_text : ℕ → Text → Text
 front_text priority stamp = 60 ∷ (decimal priority ++ (62 ∷ (decimal 1 ++ (32 ∷ stamp))))
+
+-- the message id and the elements, with a space before each and after them
+abbrev pub data_text : MessageValue → Text
+data_text m = 32 ∷ (name_text m.msgid ++ (32 ∷ (elements_text m.structured_data ++ (32 ∷ []))))
 
 -- the instant without what is finer than microseconds, at this offset
 abbrev pub IsCutAt : ℤ → ℤ → OffsetTimestamp → Type 0

@@ -8,7 +8,7 @@ ghost use Rattle.syslog_strict.specs.Call.{Converts, Copies, IsConvertedText, No
 ghost use Rattle.syslog_strict.specs.Grammar.{IsSyslogMsg};
 ghost use Rattle.syslog_strict.specs.Pushing.{text_in};
 
-use crate::conversion::write_line;
+use crate::conversion::convert_line;
 use crate::text::push_text;
 use crate::valid::is_syslog_msg;
 use std::alloc::Global;
@@ -41,9 +41,9 @@ pub fn to_rfc5424_into<F: FnOnce(IncompleteDate) -> i32>(
     convert(alloc, text, input, get_year, tz, variant, local)
 }
 
-// Copies the text into `text`.
+/// Copies the text into `text`.
 #[inline(always)]
-fn copy(text: &mut String, input: &str) -> Result<(), ParseFault>
+pub(crate) fn copy(text: &mut String, input: &str) -> Result<(), ParseFault>
     ensures { MatchResult result (λ _. text_in text.new ≡ chars input.now) (λ fault. fault ≡ Memory) }
 {
     text.clear();
@@ -72,10 +72,7 @@ fn convert<F: FnOnce(IncompleteDate) -> i32>(
     let Some(line) = parse_line(input, get_year, tz, variant, local) else {
         return Err(ParseFault::Invalid);
     };
-    match write_line(alloc, text, &line) {
-        Ok(()) => Ok(()),
-        Err(_) => Err(ParseFault::Memory),
-    }
+    convert_line::<false>(alloc, text, &line)
 }
 
 /// Returns the text as strict RFC 5424 in a new `String`, as `to_rfc5424_into` writes it.

@@ -1,21 +1,21 @@
 //! Writes a line as strict RFC 5424.
-ghost use Rattle.std.specs.Prelude.{◌≡◌, ◌∷◌, OnOk, ℕ};
+ghost use Rattle.std.specs.Prelude.{◌≡◌, ◌∷◌, MatchResult, OnOk, ℕ};
 ghost use Rattle.std.specs.Str.{chars};
 ghost use Rattle.syslog_pieces.specs.Pieces.Class.{Text};
 ghost use Rattle.syslog_pieces.specs.Pieces.View.{seen};
 ghost use Rattle.syslog_pieces.specs.StructuredData.Unparsed.{if_any};
 ghost use Rattle.syslog_loose.specs.Line.{line_value};
-ghost use Rattle.syslog_loose.specs.Printed.{printed};
-ghost use Rattle.syslog_loose.specs.Unparsed.{IsLeftUnparsed};
-ghost use Rattle.syslog_strict.specs.Conversion.{converted, gap_between, spaced_before, whole};
-ghost use Rattle.syslog_strict.specs.Pushing.{Appends, text_in};
+ghost use Rattle.syslog_loose.specs.declared.fault.ParseFault.TheVariants.{Memory};
+ghost use Rattle.syslog_strict.specs.Call.{IsLineText};
+ghost use Rattle.syslog_strict.specs.Conversion.{converted, gap_between, spaced_before};
+ghost use Rattle.syslog_strict.specs.Pushing.{Appends, data_text, text_in};
 
 use crate::joined::push_list;
 use crate::names::{push_host, push_process, push_word};
 use crate::stamp::push_front;
 use crate::text::{push_char, push_text};
 use std::alloc::{AllocError, Global};
-use syslog_loose::Line;
+use syslog_loose::{Line, ParseFault};
 use syslog_pieces::text::first;
 
 // How many bytes a converted line may have beyond the rest of the line.
@@ -64,14 +64,28 @@ fn push_msg(out: &mut String, unparsed: Option<&str>, msg: &str) -> Result<(), A
     }
 }
 
-/// Replaces `text` by the converted message of the line.
-pub(crate) fn write_line(
+// Appends the message id and the structured data, with a space before each and after them. Most lines have neither.
+#[inline(always)]
+fn push_data(alloc: Global, out: &mut String, line: &Line<'_>) -> Result<(), AllocError>
+    ensures { OnOk result (Appends out.old (data_text (converted (line_value line.now))) out.new) }
+{
+    if line.msgid.is_none() && line.list.is_empty() {
+        return push_text(out, " - - ");
+    }
+    push_char(out, ' ')?;
+    push_word(out, line.msgid, 32)?;
+    push_char(out, ' ')?;
+    push_list(alloc, out, line.list)?;
+    push_char(out, ' ')
+}
+
+// Replaces `text` by the converted message of the line.
+fn write_line<const IS_APART: bool>(
     alloc: Global,
     text: &mut String,
     line: &Line<'_>,
 ) -> Result<(), AllocError>
-    ensures { OnOk result ((unparsed : Text) × IsLeftUnparsed line.now unparsed
-        × (text_in text.new ≡ printed (converted (whole (line_value line.now) unparsed)))) }
+    ensures { OnOk result (IsLineText line.now (text_in text.new)) }
 {
     text.clear();
     text.reserve(line.rest.len().saturating_add(MORE))?;
@@ -82,11 +96,23 @@ pub(crate) fn write_line(
     push_word(text, line.appname, 48)?;
     push_char(text, ' ')?;
     push_process(alloc, text, line.process)?;
-    push_char(text, ' ')?;
-    push_word(text, line.msgid, 32)?;
-    push_char(text, ' ')?;
     let unparsed = line.list.unparsed();
-    push_list(alloc, text, line.list)?;
-    push_char(text, ' ')?;
+    push_data(alloc, text, line)?;
     push_msg(text, unparsed, line.msg)
+}
+
+/// Replaces `text` by the converted message of the line. What it calls has two copies, one for the lines that are
+/// written apart, since with two callers it would be compiled into neither.
+#[inline(always)]
+pub(crate) fn convert_line<const IS_APART: bool>(
+    alloc: Global,
+    text: &mut String,
+    line: &Line<'_>,
+) -> Result<(), ParseFault>
+    ensures { MatchResult result (λ _. IsLineText line.now (text_in text.new)) (λ fault. fault ≡ Memory) }
+{
+    match write_line::<IS_APART>(alloc, text, line) {
+        Ok(()) => Ok(()),
+        Err(_) => Err(ParseFault::Memory),
+    }
 }

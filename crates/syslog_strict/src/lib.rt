@@ -11,9 +11,11 @@ mod ids;
 mod joined;
 pub mod laws;
 mod names;
+mod sent;
 mod stamp;
 mod text;
 mod valid;
 
 pub use call::{to_rfc5424, to_rfc5424_into};
+pub use sent::to_rfc5424_sent;
 pub use valid::is_syslog_msg;

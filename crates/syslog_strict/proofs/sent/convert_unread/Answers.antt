@@ -1,0 +1,17 @@
+use Rattle.std.proofs.Common.{refl}
+use Rattle.std.specs.Str.{chars}
+use Rattle.syslog_dialects.proofs.SentReadingLemmas.{left_unread}
+use Rattle.syslog_strict.proofs.sent.convert_unread.Goals as goal
+
+pub returns-else-may_be_sent : goal.returns-else-may_be_sent
+returns-else-may_be_sent c dating none = (
+  c.requires,
+  (
+    λ e. (
+      none,
+      λ asked. left_unread c.args.dates.now dating c.args.dialects c.args.variant (chars c.args.input.now) none
+          (λ may. absurd (cc (c.may_be_sent.ensures.1 may, c.if-may_be_sent.false))) asked,
+    ),
+    λ unsent. refl,
+  ),
+)
