@@ -19,9 +19,9 @@ use syslog_utf8::decode;
 
 /// Reads lines to the end of the input, and writes each as RFC 5424: a line that is in the grammar as it came, and
 /// otherwise its message, converted, with its dates completed by `dates`. If dialects are asked for, a line is read in
-/// the one that it is in. A line that is neither in the grammar nor a message is left out and counted as refused. A line
-/// that is not UTF-8 is first decoded: as ISO 8859-1, or with U+FFFD for each part that is not UTF-8. If messages are
-/// chosen, no others are written, and all are counted.
+/// the one that it is in. A line that is neither in the grammar nor a message is left out and counted as refused. A
+/// line that is not UTF-8 is first decoded: as ISO 8859-1, or with U+FFFD for each part that is not UTF-8. If messages
+/// are chosen, no others are written, and all are counted.
 ///
 /// Each line written is in the grammar of RFC 5424, and a converted one is parsed as the converted message. The output
 /// of each block of input is written before more is read, and the writer is flushed at the end. A call that failed is
@@ -36,19 +36,19 @@ pub fn write_converted<R: Read, W: Write>(
     frames: Frames,
     reader: &mut Watched<R>,
     writer: &mut Watched<W>,
-    filter: Conversions<'_>,
+    filter: &Conversions<'_>,
 ) -> Result<LineCounts, RunFault>
     requires reader { reader.old.failed ≡ false }
     requires writer { writer.old.failed ≡ false }
-    ensures ok { IfOk result (λ counts. ConvertsAll frames filter.entry (R.remaining reader.old.inner)
+    ensures ok { IfOk result (λ counts. ConvertsAll frames filter.entry.now (R.remaining reader.old.inner)
         (R.remaining reader.new.inner)
         (W.contents writer.old.inner) (W.contents writer.new.inner) counts) }
-    ensures err { IfErr result (λ fault. EndsEarly frames (conversions filter.entry) (R.remaining reader.old.inner)
+    ensures err { IfErr result (λ fault. EndsEarly frames (conversions filter.entry.now) (R.remaining reader.old.inner)
         (R.remaining reader.new.inner)
         (W.contents writer.old.inner) (W.contents writer.new.inner) fault) }
     ensures failed { FailedAs result reader.new.failed writer.new.failed }
 {
-    let tally = pump(alloc, frames, &filter, reader, writer)?;
+    let tally = pump(alloc, frames, filter, reader, writer)?;
     Ok(tally.counts(filter.latin1))
 }
 

@@ -13,15 +13,16 @@ use report::{HELP, USAGE};
 use std::process::ExitCode;
 use syslog_choice::Choice;
 use syslog_command_line::report::{report_lines, say, say_version};
-use syslog_command_line::{Flag, Options, Task, Wrong, program_words, read_task, refuse_words};
+use syslog_command_line::{Flag, Options, Task, program_words, read_task, refuse_words};
 use syslog_lines::{Frames, Watched};
 use syslog_loose::VERSION;
 
 // The flags of this program.
-const FLAGS: [Flag; 9] = [
+const FLAGS: [Flag; 10] = [
     Flag::NoDialects,
     Flag::Latin1,
     Flag::Offset,
+    Flag::Zone,
     Flag::Nul,
     Flag::OctetCounted,
     Flag::MaxLine,
@@ -31,43 +32,45 @@ const FLAGS: [Flag; 9] = [
 ];
 
 // Writes the lines of standard input as RFC 5424, and then returns the exit status.
-fn filter_input(rt: &HostRuntime, frames: Frames, filter: Conversions<'_>) -> u8 {
+fn filter_input(rt: &HostRuntime, frames: Frames, filter: &Conversions<'_>) -> u8 {
     let mut reader = Watched::new(rt.stdin());
     let mut writer = Watched::new(rt.stdout());
     let outcome = write_converted(rt.alloc(), frames, &mut reader, &mut writer, filter);
     report_lines("syslog_5424", &outcome, &mut Watched::new(rt.stderr()))
 }
 
-// The filter that was asked for.
-fn conversions_of(options: Options<'_>) -> Conversions<'_> {
+// Returns which messages are asked for; none if all are.
+fn choice_of<'a>(options: &Options<'a>) -> Option<Choice<'a>> {
     let choice = Choice {
         severity: options.severity,
         host: options.host,
         app: options.app,
     };
-    Conversions {
-        framing: options.framing,
-        dialects: options.dialects,
-        latin1: options.latin1,
-        dates: options.dates,
-        choice: if choice.is_everything() {
-            None
-        } else {
-            Some(choice)
-        },
+    if choice.is_everything() {
+        None
+    } else {
+        Some(choice)
     }
 }
 
-// Does what is asked for, and then returns the exit status.
-fn run_task(rt: &HostRuntime, task: Result<Task<'_>, Wrong<'_>>) -> u8 {
+// Does what the words ask for, and then returns the exit status.
+fn run(rt: &HostRuntime, words: &[String]) -> u8 {
     let mut out = Watched::new(rt.stdout());
     let mut errors = Watched::new(rt.stderr());
-    match task {
+    match read_task(words, &FLAGS) {
         Ok(Task::Help) => say(HELP, &mut out, &mut errors),
         Ok(Task::Version) => say_version("syslog_5424", VERSION, &mut out, &mut errors),
         Ok(Task::Lines(options)) => {
             let frames = Frames::messages(options.framing, options.max_line);
-            filter_input(rt, frames, conversions_of(options))
+            let choice = choice_of(&options);
+            let filter = Conversions {
+                framing: options.framing,
+                dialects: options.dialects,
+                latin1: options.latin1,
+                dates: options.dates,
+                choice,
+            };
+            filter_input(rt, frames, &filter)
         }
         Err(wrong) => refuse_words(rt, USAGE, wrong, &mut errors),
     }
@@ -75,8 +78,8 @@ fn run_task(rt: &HostRuntime, task: Result<Task<'_>, Wrong<'_>>) -> u8 {
 
 fn main(rt: HostRuntime) -> ExitCode {
     let status = match program_words(&rt) {
-        Ok(words) => run_task(&rt, read_task(&words, &FLAGS)),
-        Err(wrong) => run_task(&rt, Err(wrong)),
+        Ok(words) => run(&rt, &words),
+        Err(wrong) => refuse_words(&rt, USAGE, wrong, &mut Watched::new(rt.stderr())),
     };
     ExitCode::from(status)
 }

@@ -4,7 +4,7 @@ use Rattle.syslog_c.proofs.Words.{ℕ, ◌⊎◌, inl, inr, subst, Text, Result,
 use Rattle.std.specs.Prelude.{ℤ}
 use Rattle.std.specs.Str.{chars}
 use Rattle.jiff.specs.Words.{plain_zone}
-use Rattle.syslog_loose.specs.Dates.{year_in}
+use Rattle.syslog_loose.specs.Today.{IsYearIn}
 use Rattle.syslog_loose.specs.Reading.{IncompleteDate, InYear}
 use Rattle.syslog_strict.specs.Call.{Converts, Copies}
 use Rattle.syslog_c.proofs.LineLemmas.{tried_line}
@@ -14,7 +14,7 @@ use Rattle.syslog_c.specs.Strict.{PutsResult, PutsSome, PutsStrict}
 pub strict_put : {post : IncompleteDate → ℤ → Type 0} (options : Options) (line bytes : List ℕ) (rules : Rules)
     (result : Result (Unit {0}) ParseFault) (text : Text) (old new : List ℕ) (needed : ℕ) (outcome : Outcome)
     → AreRules options rules → (bytes ≡ line) × IsUtf8 line
-    → ((date : IncompleteDate) (year : ℤ) → post date year → year ≡ year_in rules.dates date)
+    → ((date : IncompleteDate) (year : ℤ) → post date year → IsYearIn rules.dates.today date year)
     → Copies (chars bytes) result text ⊎ InYear post rules.variant (chars bytes)
     (λ year. Converts rules.variant (dating_in (plain_zone rules.dates.zone) year) (chars bytes) result text)
     → PutsResult result text old new needed outcome → PutsStrict options line old new needed outcome

@@ -1,10 +1,12 @@
 -- What the options mean.
-use Rattle.std.specs.Prelude.{◌≡◌, ℕ, nat_eq, ◌≤◌, if◌then◌else◌, Option, Some, None}
+use Rattle.std.specs.Prelude.{◌≡◌, ℕ, nat_eq, ◌≤◌, if◌then◌else◌}
 use Rattle.jiff.specs.Words.{plain_zone}
 use Rattle.jiff_core.specs.Calendar.{IsYear}
 use Rattle.jiff_core.specs.Timestamp.{IsOffsetSeconds}
 use Rattle.syslog_loose.specs.Reckoning.{IsZoneAt}
 use Rattle.syslog_loose.specs.declared.dates.Dates.{Dates}
+use Rattle.syslog_loose.specs.declared.today.Today.{Today}
+use Rattle.syslog_loose.specs.declared.today.Today.TheVariants.{Month, Year}
 use Rattle.syslog_loose.specs.declared.variant.Variant.{Variant}
 use Rattle.syslog_loose.specs.declared.variant.Variant.TheVariants.{Either, RFC3164, RFC5424}
 use Rattle.syslog_c.specs.declared.options.Options.{Options}
@@ -16,9 +18,10 @@ variant_number Either = 0
 variant_number RFC3164 = 3164
 variant_number RFC5424 = 5424
 
--- the month that it is now, where it is known
-abbrev pub known_month : ℕ → Option ℕ
-known_month month = if nat_eq month 0 then None else Some month
+-- the current day: its year, and its month if that is known
+abbrev pub current_day : Options → Today
+current_day options =
+    if nat_eq options.month 0 then Year options.year else Month options.year options.month
 
 -- the numbers of a year, a month (or none) and an offset are in range
 pub record AreInRange (options : Options) : Type 0 where
@@ -32,8 +35,7 @@ IsTaken options = ((variant : Variant) × (options.variant ≡ variant_number va
 
 -- dates that show no year or no zone are taken as the options say
 pub record AreDates (options : Options) (dates : Dates) : Type 0 where
-  pub year : dates.year ≡ options.year
-  pub month : dates.month ≡ known_month options.month
+  pub today : dates.today ≡ current_day options
   pub zone : IsZoneAt options.offset (plain_zone dates.zone)
 
 -- these are the rules that the options say

@@ -1,7 +1,6 @@
 //! The printed text of a line, after one round or as the stable text, in a buffer of the caller's.
 ghost use Rattle.std.specs.Str.{encode_utf8_all};
-ghost use Rattle.std.specs.Prelude.{◌≡◌};
-ghost use Rattle.syslog_loose.specs.Dates.{year_in};
+ghost use Rattle.syslog_loose.specs.Today.{IsYearIn};
 ghost use Rattle.syslog_loose.specs.Line.{line_value};
 ghost use Rattle.syslog_loose.specs.Printed.{printed};
 ghost use Rattle.syslog_c.specs.Line.{OnLine};
@@ -89,7 +88,7 @@ fn write_settled(
     };
     let dates = &rules.dates;
     let get_year = |date: IncompleteDate| -> i32
-        ensures { result ≡ year_in dates.entry.now date }
+        ensures { IsYearIn dates.entry.now.today date result }
     { dates.year_of(date) };
     let settled = settle(alloc, text, get_year, None, rules.variant, &dates.zone);
     put_answer(settled, room, needed)

@@ -2,7 +2,8 @@
 ghost use Rattle.std.specs.Prelude.{◌≡◌};
 ghost use Rattle.std.specs.Str.{chars};
 ghost use Rattle.syslog_pieces.specs.Timestamp.Zone.{Dating};
-ghost use Rattle.syslog_loose.specs.Dates.{IsDated, year_in};
+ghost use Rattle.syslog_loose.specs.Dates.{IsDated};
+ghost use Rattle.syslog_loose.specs.Today.{IsYearIn};
 ghost use Rattle.syslog_loose.specs.Reading.{IsUnreadable};
 ghost use Rattle.syslog_c.specs.Line.{OnLine};
 ghost use Rattle.syslog_c.specs.Outcome.{IsCodeOf};
@@ -81,7 +82,7 @@ fn read_by<'a>(
 {
     let dates = &rules.dates;
     let get_year = |date: IncompleteDate| -> i32
-        ensures { result ≡ year_in dates.entry.now date }
+        ensures { IsYearIn dates.entry.now.today date result }
     { dates.year_of(date) };
     let Some(is_ordinary) = visit_line(
         text,
@@ -149,7 +150,7 @@ fn read_text<'a>(text: &'a str, rules: &Rules, fields: &mut Fields<'a>) -> Outco
 {
     let dates = &rules.dates;
     let get_year = |date: IncompleteDate| -> i32
-        ensures { result ≡ year_in dates.entry.now date }
+        ensures { IsYearIn dates.entry.now.today date result }
     { dates.year_of(date) };
     let Some(line) = parse_line(text, get_year, None, rules.variant, &dates.zone) else {
         return read_unread(text, rules, fields);

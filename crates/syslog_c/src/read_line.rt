@@ -1,7 +1,7 @@
 //! Reads a line of bytes by the options.
 ghost use Rattle.std.specs.Prelude.{◌≡◌, MatchResult, ⊤};
 ghost use Rattle.syslog_pieces.specs.Pieces.View.{shown};
-ghost use Rattle.syslog_loose.specs.Dates.{year_in};
+ghost use Rattle.syslog_loose.specs.Today.{IsYearIn};
 ghost use Rattle.syslog_loose.specs.Line.{line_value};
 ghost use Rattle.syslog_loose.specs.Reading.{IsOnlyRead};
 ghost use Rattle.syslog_c.specs.Line.{IsTried, OnLine, Refuses};
@@ -33,7 +33,7 @@ pub(crate) fn read_line<'a>(
     };
     let dates = &rules.dates;
     let get_year = |date: IncompleteDate| -> i32
-        ensures { result ≡ year_in dates.entry.now date }
+        ensures { IsYearIn dates.entry.now.today date result }
     { dates.year_of(date) };
     match parse_line(text, get_year, None, rules.variant, &dates.zone) {
         Some(line) => Ok((text, line)),

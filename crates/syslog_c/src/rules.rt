@@ -4,10 +4,10 @@ ghost use Rattle.jiff.specs.Words.{plain_zone};
 ghost use Rattle.jiff_core.specs.Calendar.{IsYear};
 ghost use Rattle.jiff_core.specs.Timestamp.{IsOffsetSeconds};
 ghost use Rattle.syslog_loose.specs.declared.variant.Variant.{Variant};
-ghost use Rattle.syslog_c.specs.Options.{AreDates, AreInRange, AreRules, IsTaken, known_month, variant_number};
+ghost use Rattle.syslog_c.specs.Options.{AreDates, AreInRange, AreRules, IsTaken, current_day, variant_number};
 
 use crate::options::Options;
-use syslog_loose::{Dates, Variant};
+use syslog_loose::{Dates, Today, Variant};
 
 /// How a line is read: by which variant, how its dates are completed, and whether in the dialect that it is in.
 #[derive(Drop)]
@@ -56,14 +56,14 @@ fn variant_of(number: u32) -> Option<Variant>
     }
 }
 
-// Returns the current month, if it is known.
-fn month_of(number: u32) -> Option<u32>
-    ensures { result ≡ known_month number }
+// Returns what the options say of the current day: its year, and its month if that is known.
+fn today_of(options: &Options) -> Today
+    ensures { result ≡ current_day options.now }
 {
-    if number == 0 {
-        return None;
+    if options.month == 0 {
+        return Today::Year(options.year);
     }
-    Some(number)
+    Today::Month(options.year, options.month)
 }
 
 // Returns how dates that show no year or no zone are completed.
@@ -71,5 +71,5 @@ fn dates_of(options: &Options) -> Dates
     requires { AreInRange options.now }
     ensures { AreDates options.now result }
 {
-    Dates::new(options.year, month_of(options.month), options.offset)
+    Dates::ahead(today_of(options), options.offset)
 }

@@ -1,6 +1,5 @@
 //! A line as strict RFC 5424, in a buffer of the caller's.
-ghost use Rattle.std.specs.Prelude.{◌≡◌};
-ghost use Rattle.syslog_loose.specs.Dates.{year_in};
+ghost use Rattle.syslog_loose.specs.Today.{IsYearIn};
 ghost use Rattle.syslog_c.specs.Outcome.{IsCodeOf};
 ghost use Rattle.syslog_c.specs.Strict.{PutsStrict};
 
@@ -46,7 +45,7 @@ fn write_strict(
     };
     let dates = &rules.dates;
     let get_year = |date: IncompleteDate| -> i32
-        ensures { result ≡ year_in dates.entry.now date }
+        ensures { IsYearIn dates.entry.now.today date result }
     { dates.year_of(date) };
     let mut text = String::new(alloc);
     match to_rfc5424_into(

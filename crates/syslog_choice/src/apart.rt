@@ -1,9 +1,10 @@
 //! The reading of a line in order to choose it, apart from the reading that makes something of it.
 ghost use Rattle.std.specs.Prelude.{◌≡◌, IfSome, MatchOption};
 ghost use Rattle.std.specs.Str.{chars};
-ghost use Rattle.syslog_loose.specs.Dates.{IsDated, year_in};
+ghost use Rattle.syslog_loose.specs.Dates.{IsDated};
 ghost use Rattle.syslog_loose.specs.Line.{KnowsForm};
 ghost use Rattle.syslog_loose.specs.Reading.{IsUnreadable};
+ghost use Rattle.syslog_loose.specs.Today.{IsYearIn};
 ghost use Rattle.syslog_loose.specs.Visit.{IsLineOf};
 ghost use Rattle.syslog_loose.specs.declared.variant.Variant.TheVariants.{Either};
 ghost use Rattle.syslog_dialects.specs.SentReading.{IsSentAnswer};
@@ -41,7 +42,7 @@ fn parse_apart<'a>(input: &'a str, dates: &Dates) -> Option<Line<'a>>
     ensures form { IfSome result KnowsForm }
 {
     let get_year = |date: IncompleteDate| -> i32
-        ensures { result ≡ year_in dates.entry.now date }
+        ensures { IsYearIn dates.entry.now.today date result }
     { dates.year_of(date) };
     visit_line(
         input,

@@ -1,21 +1,23 @@
 -- Flags, and the words that give them.
-use Rattle.syslog_command_line.proofs.Names.{◌≡◌, ◌<◌, ◌∷◌, ◌++◌, ◌∙◌, ℕ, ℤ, [], List, Option, ap, arith, false}
+use Rattle.syslog_command_line.proofs.Names.{◌≡◌, ◌<◌, ◌∷◌, ◌++◌, ◌∙◌, ℕ, [], List, ap, arith, false}
 use Rattle.syslog_command_line.proofs.Names.{get_or, length, refl, subst, sym, true}
 use Rattle.std.proofs.Common.{Bool, filter, if◌then◌else◌, nat_eq}
 use Rattle.std.specs.Cmp.Lexicographic.{pointwise}
+use Rattle.syslog_loose.specs.declared.today.Today.{Today}
 use Rattle.syslog_command_line.proofs.WordLemmas.{no_flag}
 use Rattle.syslog_command_line.specs.Flags.{IsValue, flag_number, flag_word, takes_value}
 use Rattle.syslog_command_line.specs.Options.{GivenFlag, given_words, value_words}
 use Rattle.syslog_command_line.specs.Words.{AreDateWords}
 use Rattle.syslog_command_line.specs.declared.flags.Flag.{Flag}
-use Rattle.syslog_command_line.specs.declared.flags.Flag.TheVariants.{Raw, NoDialects, Latin1, Offset, Nul}
-use Rattle.syslog_command_line.specs.declared.flags.Flag.TheVariants.{OctetCounted}
+use Rattle.syslog_command_line.specs.declared.flags.Flag.TheVariants.{Raw, NoDialects, Latin1, Offset, Zone}
+use Rattle.syslog_command_line.specs.declared.flags.Flag.TheVariants.{Nul, OctetCounted}
 use Rattle.syslog_command_line.specs.declared.flags.Flag.TheVariants.{MaxLine, Severity, Host, App, Csv}
 
 -- ---- each flag is known by its number and by its word
 
 abbrev all_flags : List Flag
-all_flags = Raw ∷ NoDialects ∷ Latin1 ∷ Offset ∷ Nul ∷ OctetCounted ∷ MaxLine ∷ Severity ∷ Host ∷ App ∷ Csv ∷ []
+all_flags =
+    Raw ∷ NoDialects ∷ Latin1 ∷ Offset ∷ Zone ∷ Nul ∷ OctetCounted ∷ MaxLine ∷ Severity ∷ Host ∷ App ∷ Csv ∷ []
 
 abbrev flag_at : ℕ → Flag
 flag_at n = get_or all_flags n Raw
@@ -26,7 +28,7 @@ flag_with word = get_or (filter (λ flag. pointwise nat_eq (flag_word flag) word
 -- what is looked up of a flag: that its number and its word are its own, that its word is no date, and that its only
 -- value is empty if it takes none
 abbrev IsRow : Flag → Type 0
-IsRow flag = (flag_at (flag_number flag) ≡ flag) × (flag_with (flag_word flag) ≡ flag) × (flag_number flag < 11)
+IsRow flag = (flag_at (flag_number flag) ≡ flag) × (flag_with (flag_word flag) ≡ flag) × (flag_number flag < 12)
     × (get_or (flag_word flag) 0 0 ≡ 45) × (2 < length (flag_word flag))
     × ((text : List ℕ) → takes_value flag ≡ false → IsValue flag text → text ≡ [])
     × (takes_value flag ≡ false → IsValue flag [])
@@ -36,6 +38,7 @@ row Raw = (refl, refl, omega arith, refl, omega arith, λ text none is. is, λ n
 row NoDialects = (refl, refl, omega arith, refl, omega arith, λ text none is. is, λ none. refl)
 row Latin1 = (refl, refl, omega arith, refl, omega arith, λ text none is. is, λ none. refl)
 row Offset = (refl, refl, omega arith, refl, omega arith, λ text none is. cc, λ none. cc)
+row Zone = (refl, refl, omega arith, refl, omega arith, λ text none is. cc, λ none. cc)
 row Nul = (refl, refl, omega arith, refl, omega arith, λ text none is. is, λ none. refl)
 row OctetCounted = (refl, refl, omega arith, refl, omega arith, λ text none is. is, λ none. refl)
 row MaxLine = (refl, refl, omega arith, refl, omega arith, λ text none is. cc, λ none. cc)
@@ -44,7 +47,7 @@ row Host = (refl, refl, omega arith, refl, omega arith, λ text none is. cc, λ 
 row App = (refl, refl, omega arith, refl, omega arith, λ text none is. cc, λ none. cc)
 row Csv = (refl, refl, omega arith, refl, omega arith, λ text none is. is, λ none. refl)
 
-pub number_within : (flag : Flag) → flag_number flag < 11
+pub number_within : (flag : Flag) → flag_number flag < 12
 number_within flag = (row flag).2
 
 pub same_by_number : (flag other : Flag) → flag_number flag ≡ flag_number other → flag ≡ other
@@ -54,10 +57,10 @@ pub same_by_word : (flag other : Flag) → flag_word flag ≡ flag_word other �
 same_by_word flag other same = sym (row flag).1 ∙ ap flag_with same ∙ (row other).1
 
 -- the words of a flag and more are no date
-pub flag_no_date : (flag : Flag) (words rest : List (List ℕ)) (year : ℤ) (month : Option ℕ)
-    → words ≡ flag_word flag ∷ rest → AreDateWords words year month → ⊥
-flag_no_date flag words rest year month first dated =
-    no_flag words rest (flag_word flag) year month (row flag).3 (row flag).4 first dated
+pub flag_no_date : (flag : Flag) (words rest : List (List ℕ)) (today : Today)
+    → words ≡ flag_word flag ∷ rest → AreDateWords words today → ⊥
+flag_no_date flag words rest today first dated =
+    no_flag words rest (flag_word flag) today (row flag).3 (row flag).4 first dated
 
 -- ---- words begin with one flag and one value
 

@@ -14,16 +14,20 @@ use Rattle.syslog_command_line.proofs.FlagLemmas.{flag_no_date, number_within, o
 use Rattle.syslog_command_line.proofs.FlagLemmas.{same_by_word}
 use Rattle.syslog_command_line.proofs.WordLemmas.{among_later}
 use Rattle.jiff.specs.Types.{TimeZone}
+use Rattle.jiff.specs.declared.tz.timezone.TimeZone.{TimeZone as Held}
+use Rattle.jiff.specs.Placed.{IsPosixZone}
+use Rattle.jiff.specs.Words.{plain_zone}
 use Rattle.syslog_loose.specs.Reckoning.{IsZoneAt}
+use Rattle.syslog_loose.specs.declared.today.Today.{Today}
 use Rattle.syslog_command_line.specs.Arguments.{NamesOffset}
 use Rattle.syslog_command_line.specs.Flags.{IsValue, flag_number, flag_word, rival}
 use Rattle.syslog_command_line.specs.Given.{AreNoFlagsAndDate, BeginsWith, BeginsWithNone, Holds, SplitsWords, value_at}
 use Rattle.syslog_command_line.specs.Options.{AreFlagsAndDate, AsksForOptions, ByFlag, CanBeGiven, GivenFlag}
-use Rattle.syslog_command_line.specs.Options.{GoTogether}
+use Rattle.syslog_command_line.specs.Options.{GoTogether, IsZoneGiven}
 use Rattle.syslog_command_line.specs.Options.{IsGivenAs, IsLeftOut, given_words, value_words}
 use Rattle.syslog_command_line.specs.Words.{AreDateWords, IsAmong}
 use Rattle.syslog_command_line.specs.declared.flags.Flag.{Flag}
-use Rattle.syslog_command_line.specs.declared.flags.Flag.TheVariants.{Offset}
+use Rattle.syslog_command_line.specs.declared.flags.Flag.TheVariants.{Offset, Zone}
 use Rattle.syslog_command_line.specs.declared.given.Given.{Given}
 use Rattle.syslog_command_line.specs.declared.options.Options.{Options}
 use Rattle.syslog_command_line.specs.declared.words.Wrong.{Wrong}
@@ -111,9 +115,9 @@ held_more held after given flag value holds is same = record {
         (holds.each other))
 
 -- none are held at first
-pub held_none : (held : Given) → held.values ≡ replicate 11 None → Holds held []
+pub held_none : (held : Given) → held.values ≡ replicate 12 None → Holds held []
 held_none held same = record {
-  size = rw same (length-replicate {A = Option (Bor (List ℕ))} 11 None);
+  size = rw same (length-replicate {A = Option (Bor (List ℕ))} 12 None);
   each = λ flag. subst (λ (o : Option (Bor (List ℕ))). Has [] flag o) (sym (nothing flag))
       (All-nil (λ (it : GivenFlag). it.flag ≢ flag));
   valued = All-nil (λ (it : GivenFlag). IsValue it.flag it.value);
@@ -121,7 +125,7 @@ held_none held same = record {
   where
     nothing : (flag : Flag) → value_at held flag ≡ None
     nothing flag = ap (λ (vs : List (Option (Bor (List ℕ)))). get_or vs (flag_number flag) None) same
-        ∙ get_or-replicate 11 (flag_number flag) None None (number_within flag)
+        ∙ get_or-replicate 12 (flag_number flag) None None (number_within flag)
 
 -- ---- the flag that begins the words
 
@@ -176,8 +180,8 @@ pub record ReadSoFar (offered : List Flag) (words : List (List ℕ)) (held : Giv
   pub listed : words ≡ flat_map given_words given ++ rest
   pub allowed : CanBeGiven offered given
   pub holds : Holds held given
-  pub goes_on : (flags : List GivenFlag) (year : ℤ) (month : Option ℕ)
-      → (all : AreFlagsAndDate offered words flags year month)
+  pub goes_on : (flags : List GivenFlag) (today : Today)
+      → (all : AreFlagsAndDate offered words flags today)
       → (more : List GivenFlag) × (flags ≡ given ++ more) × (rest ≡ flat_map given_words more ++ all.rest)
 
 pub ReadSoFar-start : (offered : List Flag) (words : List (List ℕ)) (held : Given) → Holds held []
@@ -191,18 +195,18 @@ ReadSoFar-start offered words held holds = record {
     together = λ i j d before within. absurd (omega arith);
   };
   holds = holds;
-  goes_on = λ flags year month all. (flags, refl, all.listed);
+  goes_on = λ flags today all. (flags, refl, all.listed);
 }
 
 -- after one more flag
 goes_on_more : (offered : List Flag) (given flags : List GivenFlag) (one : GivenFlag) (rest left last : List (List ℕ))
-    (year : ℤ) (month : Option ℕ) → IsValue one.flag one.value → rest ≡ given_words one ++ left
-    → CanBeGiven offered flags → AreDateWords last year month → (more : List GivenFlag) → flags ≡ given ++ more
+    (today : Today) → IsValue one.flag one.value → rest ≡ given_words one ++ left
+    → CanBeGiven offered flags → AreDateWords last today → (more : List GivenFlag) → flags ≡ given ++ more
     → rest ≡ flat_map given_words more ++ last
     → (after : List GivenFlag) × (flags ≡ (given ++ one ∷ []) ++ after) × (left ≡ flat_map given_words after ++ last)
-goes_on_more offered given flags one rest left last year month is begins can dated [] same listed =
-    absurd (flag_no_date one.flag last (value_words one.flag one.value ++ left) year month (sym listed ∙ begins) dated)
-goes_on_more offered given flags one rest left last year month is begins can dated (other ∷ more) same listed =
+goes_on_more offered given flags one rest left last today is begins can dated [] same listed =
+    absurd (flag_no_date one.flag last (value_words one.flag one.value ++ left) today (sym listed ∙ begins) dated)
+goes_on_more offered given flags one rest left last today is begins can dated (other ∷ more) same listed =
     let (has, is_other, beside) =
     can_be_one offered given more other (subst (λ (them : List GivenFlag). CanBeGiven offered them) same can) in
     let both : given_words one ++ left ≡ given_words other ++ (flat_map given_words more ++ last) =
@@ -232,21 +236,20 @@ ReadSoFar-more offered words held after rest left flag value so_far begins added
       allowed = can_be_more offered so_far.given (record { flag = flag; value = value.now }) so_far.allowed begins.known
           begins.valued (λ k d within. (new k d within, unopposed k d within));
       holds = held_more held after so_far.given flag value so_far.holds begins.valued added;
-      goes_on = λ flags year month all.
-          let (more, same, listed) = so_far.goes_on flags year month all in
-          goes_on_more offered so_far.given flags (record { flag = flag; value = value.now }) rest left all.rest year
-          month
+      goes_on = λ flags today all.
+          let (more, same, listed) = so_far.goes_on flags today all in
+          goes_on_more offered so_far.given flags (record { flag = flag; value = value.now }) rest left all.rest today
           begins.valued begins.listed all.allowed all.dated more same listed;
     }
 
-date_left : (offered : List Flag) (words : List (List ℕ)) (held : Given) (rest last : List (List ℕ)) (year : ℤ)
-    (month : Option ℕ) (flags : List GivenFlag) → (so_far : ReadSoFar offered words held rest)
-    → BeginsWithNone offered held rest → CanBeGiven offered flags → AreDateWords last year month
+date_left : (offered : List Flag) (words : List (List ℕ)) (held : Given) (rest last : List (List ℕ)) (today : Today)
+    (flags : List GivenFlag) → (so_far : ReadSoFar offered words held rest)
+    → BeginsWithNone offered held rest → CanBeGiven offered flags → AreDateWords last today
     → (more : List GivenFlag) → flags ≡ so_far.given ++ more → rest ≡ flat_map given_words more ++ last
-    → AreDateWords rest year month
-date_left offered words held rest last year month flags so_far none can dated [] same listed =
-    subst (λ (ws : List (List ℕ)). AreDateWords ws year month) (sym listed) dated
-date_left offered words held rest last year month flags so_far none can dated (one ∷ more) same listed =
+    → AreDateWords rest today
+date_left offered words held rest last today flags so_far none can dated [] same listed =
+    subst (λ (ws : List (List ℕ)). AreDateWords ws today) (sym listed) dated
+date_left offered words held rest last today flags so_far none can dated (one ∷ more) same listed =
     let (has, is, beside) =
     can_be_one offered so_far.given more one (subst (λ (them : List GivenFlag). CanBeGiven offered them) same can) in
     absurd (none one (flat_map given_words more ++ last) (record {
@@ -266,9 +269,9 @@ ReadSoFar-end offered words held rest so_far none = record {
   listed = so_far.listed;
   allowed = so_far.allowed;
   holds = so_far.holds;
-  dated = λ flags year month all.
-      let (more, same, listed) = so_far.goes_on flags year month all in
-      date_left offered words held rest all.rest year month flags so_far none all.allowed all.dated more same listed;
+  dated = λ flags today all.
+      let (more, same, listed) = so_far.goes_on flags today all in
+      date_left offered words held rest all.rest today flags so_far none all.allowed all.dated more same listed;
 }
 
 pub ReadSoFar-wrong : (offered : List Flag) (words : List (List ℕ)) (held : Given) (rest : List (List ℕ))
@@ -278,8 +281,8 @@ pub ReadSoFar-wrong : (offered : List Flag) (words : List (List ℕ)) (held : Gi
     → IsAmong words wrong × AreNoFlagsAndDate offered words
 ReadSoFar-wrong offered words held rest wrong so_far among (flag, after, first) none = (
   among_later (flat_map given_words so_far.given) rest words wrong so_far.listed among,
-  λ flags year month all. flag_no_date flag rest after year month first
-      ((ReadSoFar-end offered words held rest so_far none).dated flags year month all),
+  λ flags today all. flag_no_date flag rest after today first
+      ((ReadSoFar-end offered words held rest so_far none).dated flags today all),
 )
 
 -- the flag takes at least a word
@@ -352,7 +355,27 @@ pub zone_by : (given : List GivenFlag) (offset : ℤ) (zone : TimeZone)
 zone_by given offset zone (inl (text, at, named)) is = inl (text, at, (offset, named, is))
 zone_by given offset zone (inr (left, none)) is = inr (left, subst (λ (z : ℤ). IsZoneAt z zone) none is)
 
+-- or by the rule that was
+pub zone_by_rule : (given : List GivenFlag) (found : Option Held) (held : Held) (zone : TimeZone) → found ≡ Some held
+    → zone ≡ plain_zone held
+    → ByFlag given Zone (λ text. IsSomeAnd found (λ it. IsPosixZone text (plain_zone it))) (found ≡ None)
+    → IsZoneGiven given zone
+zone_by_rule given found held zone some same (inl (text, at, is)) =
+    let here : IsSomeAnd (Some held) (λ it. IsPosixZone text (plain_zone it)) =
+    subst (λ (r : Option Held). IsSomeAnd r (λ it. IsPosixZone text (plain_zone it))) some is in
+    inl (text, at, subst (IsPosixZone text) (sym same) here)
+zone_by_rule given found held zone some same (inr (left, none)) = cc
+
+pub zone_without_rule : (given : List GivenFlag) (found : Option Held) (offset : ℤ) (zone : TimeZone) → found ≡ None
+    → ByFlag given Zone (λ text. IsSomeAnd found (λ it. IsPosixZone text (plain_zone it))) (found ≡ None)
+    → ByFlag given Offset (λ text. NamesOffset text offset) (offset ≡ pos 0) → IsZoneAt offset zone
+    → IsZoneGiven given zone
+zone_without_rule given found offset zone none (inl (text, at, is)) named at_offset =
+    absurd (subst (λ (r : Option Held). IsSomeAnd r (λ it. IsPosixZone text (plain_zone it))) none is)
+zone_without_rule given found offset zone none (inr (left, same)) named at_offset =
+    inr (left, zone_by given offset zone named at_offset)
+
 -- no options, where no flags and date are
 pub no_options : (offered : List Flag) (words : List (List ℕ)) → AreNoFlagsAndDate offered words → (options : Options)
     → AsksForOptions offered words options → ⊥
-no_options offered words none options (given, year, month, are, so) = none given year month are
+no_options offered words none options (given, today, are, so) = none given today are

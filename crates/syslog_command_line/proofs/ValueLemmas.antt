@@ -1,14 +1,18 @@
--- Numbers of bytes in decimal digits.
+-- Numbers of bytes in decimal digits, and zones by their rules.
 use Rattle.syslog_command_line.proofs.Names.{◌≡◌, ◌<◌, ◌≤◌, ◌∙◌, ℕ, List, Ok, Err, Result, arith, get_or, length}
 use Rattle.syslog_command_line.proofs.Names.{refl, sym}
 use Rattle.syslog_command_line.proofs.Names.{IsInRange, numerals_by_value, tells_by_index}
 use Rattle.syslog_command_line.proofs.Names.{Bool, MatchOption, None, Option, Some, true}
-use Rattle.std.proofs.Common.{All, is_some, ◌^◌, ◌↔◌}
+use Rattle.std.proofs.Common.{All, IsSomeAnd, is_some, subst, ◌^◌, ◌↔◌}
 use Rattle.std.proofs.lemmas.Str.Parse.{parse_digits}
 use Rattle.std.specs.Char.{IsAsciiDigit}
 use Rattle.std.specs.Result.{OkIff}
 use Rattle.std.specs.Str.Parse.{ParsesUnsigned, digits_value}
 use Rattle.syslog_command_line.specs.Flags.{NamesSize}
+use Rattle.jiff.specs.Placed.{IsPosixZone}
+use Rattle.jiff.specs.Types.{TimeZone, Fixed, Posix, Tzif, UTC, Unknown}
+use Rattle.jiff.specs.Words.{plain_zone, read_whole}
+use Rattle.jiff.specs.declared.tz.timezone.TimeZone.{TimeZone as Held}
 
 module _ {E : Type 0} (text : List ℕ) where
   -- digits are parsed as their value, if it fits
@@ -53,3 +57,27 @@ pub some_iff : {X : Type 0} (Names : X → Type 0) (r : Option X) (found : Bool)
     → MatchOption r ((x : X) → Names x → ⊥) (λ x. Names x) → found ≡ is_some r → (found ≡ true) ↔ ((x : X) × Names x)
 some_iff Names (Some x) found read is = (λ on. (x, read), λ named. is)
 some_iff Names None found read is = (λ on. cc, λ named. absurd (read named.0 named.1))
+
+-- ---- rules of zones
+
+no_rule : (text : List ℕ) (zone : TimeZone) → read_whole text ≡ None → IsPosixZone text zone → ⊥
+no_rule text (Posix rule) none is = cc
+no_rule text UTC none is = is
+no_rule text Unknown none is = is
+no_rule text (Fixed offset) none is = is
+no_rule text (Tzif zone) none is = is
+
+-- a reader of rules returns a zone exactly if the text is one
+pub zone_iff : (text : List ℕ) (r : Option Held) (found : Bool)
+    → MatchOption r (read_whole text ≡ None) (λ it. IsPosixZone text (plain_zone it)) → found ≡ is_some r
+    → (found ≡ true) ↔ ((zone : TimeZone) × IsPosixZone text zone)
+zone_iff text (Some it) found read is = (λ on. (plain_zone it, read), λ named. is)
+zone_iff text None found read is = (λ on. cc, λ named. absurd (no_rule text named.0 read named.1))
+
+-- and of a rule it returns the zone
+pub zone_of_value : (text value : List ℕ) (r : Option Held)
+    → MatchOption r (read_whole text ≡ None) (λ it. IsPosixZone text (plain_zone it)) → text ≡ value
+    → (zone : TimeZone) × IsPosixZone value zone → IsSomeAnd r (λ it. IsPosixZone value (plain_zone it))
+zone_of_value text value (Some it) read same is = subst (λ (t : List ℕ). IsPosixZone t (plain_zone it)) same read
+zone_of_value text value None none same (zone, is) =
+    absurd (no_rule text zone none (subst (λ (t : List ℕ). IsPosixZone t zone) (sym same) is))

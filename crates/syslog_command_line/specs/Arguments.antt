@@ -1,8 +1,9 @@
 -- The arguments that the programs share: this project's own choice.
 use Rattle.std.specs.Prelude.{◌≡◌, ◌⊎◌, ◌+◌, ◌*◌, ◌/◌, ◌%◌, ℕ, ℤ, ◌≤◌, List, [], ◌∷◌, ◌++◌, length, All, pos, neg_ℤ}
-use Rattle.std.specs.Prelude.{Option, Some, None}
 use Rattle.std.specs.Char.{IsAsciiDigit}
 use Rattle.std.specs.Str.Parse.{digits_value}
+use Rattle.syslog_loose.specs.declared.today.Today.{Today}
+use Rattle.syslog_loose.specs.declared.today.Today.TheVariants.{Day, Month, Year}
 
 -- one to four ASCII digits
 abbrev pub IsYear : List ℕ → Type 0
@@ -16,11 +17,14 @@ NamesYear text year = IsYear text × (year ≡ pos (digits_value 10 text))
 abbrev pub two_digits : ℕ → List ℕ
 two_digits n = (48 + n / 10) ∷ (48 + n % 10) ∷ []
 
--- the text names this year, or this year and month: `YEAR`, or `YEAR-MONTH` with a month of two digits
-abbrev pub NamesDate : List ℕ → ℤ → Option ℕ → Type 0
-NamesDate text year None = NamesYear text year
-NamesDate text year (Some month) = (word : List ℕ) × NamesYear word year × (1 ≤ month) × (month ≤ 12)
+-- The text names this year, this month or this day: `YEAR`, `YEAR-MONTH` or `YEAR-MONTH-DAY`. A month and a day have
+-- two digits, and the calendar has the day.
+abbrev pub NamesDate : List ℕ → Today → Type 0
+NamesDate text (Year year) = NamesYear text year
+NamesDate text (Month year month) = (word : List ℕ) × NamesYear word year × (1 ≤ month) × (month ≤ 12)
     × (text ≡ word ++ (45 ∷ two_digits month))
+NamesDate text (Day day) = (word : List ℕ) × NamesYear word day.year
+    × (text ≡ word ++ (45 ∷ (two_digits day.month ++ (45 ∷ two_digits day.day))))
 
 -- the text names this offset, in seconds ahead of UTC: `+HH:MM` or `-HH:MM`, up to 23:59
 pub record NamesOffset (text : List ℕ) (seconds : ℤ) : Type 0 where

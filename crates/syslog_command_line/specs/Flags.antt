@@ -2,13 +2,15 @@
 use Rattle.std.specs.Prelude.{◌≡◌, ◌⊎◌, ◌<◌, ◌≤◌, ◌^◌, ℕ, ℤ, Bool, true, false, List, [], length, All, ⊤, codes}
 use Rattle.std.specs.Char.{IsAsciiDigit}
 use Rattle.std.specs.Str.Parse.{digits_value}
+use Rattle.jiff.specs.Placed.{IsPosixZone}
+use Rattle.jiff.specs.Types.{TimeZone}
 use Rattle.syslog_pieces.specs.declared.pri.SyslogSeverity.{SyslogSeverity}
 use Rattle.syslog_pieces.specs.declared.pri.SyslogSeverity.TheVariants.{SEV_EMERG, SEV_ERR, SEV_WARNING}
 use Rattle.syslog_pieces.specs.Pri.{severity_name}
 use Rattle.syslog_command_line.specs.Arguments.{NamesOffset}
 use Rattle.syslog_command_line.specs.declared.flags.Flag.{Flag}
-use Rattle.syslog_command_line.specs.declared.flags.Flag.TheVariants.{Raw, NoDialects, Latin1, Offset, Nul}
-use Rattle.syslog_command_line.specs.declared.flags.Flag.TheVariants.{OctetCounted}
+use Rattle.syslog_command_line.specs.declared.flags.Flag.TheVariants.{Raw, NoDialects, Latin1, Offset, Zone}
+use Rattle.syslog_command_line.specs.declared.flags.Flag.TheVariants.{Nul, OctetCounted}
 use Rattle.syslog_command_line.specs.declared.flags.Flag.TheVariants.{MaxLine, Severity, Host, App, Csv}
 
 -- its word
@@ -17,6 +19,7 @@ flag_word Raw = codes "--raw"
 flag_word NoDialects = codes "--no-dialects"
 flag_word Latin1 = codes "--latin1"
 flag_word Offset = codes "--offset"
+flag_word Zone = codes "--zone"
 flag_word Nul = codes "--nul"
 flag_word OctetCounted = codes "--octet-counted"
 flag_word MaxLine = codes "--max-line"
@@ -31,17 +34,19 @@ flag_number Raw = 0
 flag_number NoDialects = 1
 flag_number Latin1 = 2
 flag_number Offset = 3
-flag_number Nul = 4
-flag_number OctetCounted = 5
-flag_number MaxLine = 6
-flag_number Severity = 7
-flag_number Host = 8
-flag_number App = 9
-flag_number Csv = 10
+flag_number Zone = 4
+flag_number Nul = 5
+flag_number OctetCounted = 6
+flag_number MaxLine = 7
+flag_number Severity = 8
+flag_number Host = 9
+flag_number App = 10
+flag_number Csv = 11
 
 -- whether its value comes after its word
 abbrev pub takes_value : Flag → Bool
 takes_value Offset = true
+takes_value Zone = true
 takes_value MaxLine = true
 takes_value Severity = true
 takes_value Host = true
@@ -52,6 +57,8 @@ takes_value flag = false
 abbrev pub rival : Flag → Flag
 rival Nul = OctetCounted
 rival OctetCounted = Nul
+rival Offset = Zone
+rival Zone = Offset
 rival flag = flag
 
 -- the text names this number of bytes, from 1 to 2^63 - 1, in decimal digits
@@ -76,6 +83,7 @@ NamesSeverity text severity = (text ≡ severity_name severity) ⊎ (text ≡ se
 -- the text is a value of the flag; that of a flag that takes none is empty
 abbrev pub IsValue : Flag → List ℕ → Type 0
 IsValue Offset text = (seconds : ℤ) × NamesOffset text seconds
+IsValue Zone text = (zone : TimeZone) × IsPosixZone text zone
 IsValue MaxLine text = (size : ℕ) × NamesSize text size
 IsValue Severity text = (severity : SyslogSeverity) × NamesSeverity text severity
 IsValue Host text = ⊤

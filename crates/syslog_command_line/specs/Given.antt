@@ -1,7 +1,8 @@
 -- The flags that a reader of words has taken so far.
-use Rattle.std.specs.Prelude.{◌≡◌, ℕ, ℤ, List, ◌++◌, Option, None, MatchOption, All, Contains, length, slice_index_or}
+use Rattle.std.specs.Prelude.{◌≡◌, ℕ, List, ◌++◌, Option, None, MatchOption, All, Contains, length, slice_index_or}
 use Rattle.std.specs.List.{flat_map}
 use Rattle.std.proofs.Common.{Bor}
+use Rattle.syslog_loose.specs.declared.today.Today.{Today}
 use Rattle.syslog_command_line.specs.Flags.{IsValue, flag_number, rival}
 use Rattle.syslog_command_line.specs.Options.{AreFlagsAndDate, CanBeGiven, GivenFlag, IsGivenAs, IsLeftOut, given_words}
 use Rattle.syslog_command_line.specs.Words.{AreDateWords}
@@ -14,7 +15,7 @@ value_at held flag = slice_index_or held.values (flag_number flag) None
 
 -- the values of these flags are held, and no others
 pub record Holds (held : Given) (given : List GivenFlag) : Type 0 where
-  pub size : length held.values ≡ 11
+  pub size : length held.values ≡ 12
   pub each : (flag : Flag) → MatchOption (value_at held flag)
       (IsLeftOut given flag) (λ value. IsGivenAs given flag value.now)
   pub valued : All (λ one. IsValue one.flag one.value) given
@@ -40,10 +41,10 @@ pub record SplitsWords (offered : List Flag) (words : List (List ℕ)) (held : G
   pub listed : words ≡ flat_map given_words given ++ rest
   pub allowed : CanBeGiven offered given
   pub holds : Holds held given
-  pub dated : (flags : List GivenFlag) (year : ℤ) (month : Option ℕ) → AreFlagsAndDate offered words flags year month
-      → AreDateWords rest year month
+  pub dated : (flags : List GivenFlag) (today : Today) → AreFlagsAndDate offered words flags today
+      → AreDateWords rest today
 
 -- the words are no flags and date
 abbrev pub AreNoFlagsAndDate : List Flag → List (List ℕ) → Type 0
-AreNoFlagsAndDate offered words = (flags : List GivenFlag) (year : ℤ) (month : Option ℕ)
-    → ¬ (AreFlagsAndDate offered words flags year month)
+AreNoFlagsAndDate offered words =
+    (flags : List GivenFlag) (today : Today) → ¬ (AreFlagsAndDate offered words flags today)

@@ -1,16 +1,19 @@
 -- The flags before the date, and what they and the date ask for: this project's own choice.
-use Rattle.std.specs.Prelude.{◌≡◌, ◌≢◌, ◌⊎◌, ℕ, ℤ, true, false, if◌then◌else◌, List, [], ◌∷◌, ◌++◌, Option, None, pos}
+use Rattle.std.specs.Prelude.{◌≡◌, ◌≢◌, ◌⊎◌, ℕ, ℤ, true, false, if◌then◌else◌, List, [], ◌∷◌, ◌++◌, None, pos}
 use Rattle.std.specs.Prelude.{All, AllPairs, Contains, IsSomeAnd}
 use Rattle.std.specs.List.{flat_map}
+use Rattle.jiff.specs.Placed.{IsPosixZone}
+use Rattle.jiff.specs.Types.{TimeZone}
 use Rattle.jiff.specs.Words.{plain_zone}
 use Rattle.syslog_loose.specs.Reckoning.{IsZoneAt}
+use Rattle.syslog_loose.specs.declared.today.Today.{Today}
 use Rattle.syslog_lines.specs.declared.framing.Framing.TheVariants.{LineFeeds, Nuls, OctetCounts}
 use Rattle.syslog_command_line.specs.Arguments.{NamesOffset}
 use Rattle.syslog_command_line.specs.Flags.{IsValue, NamesSeverity, NamesSize, flag_word, rival, takes_value}
 use Rattle.syslog_command_line.specs.Words.{AreDateWords}
 use Rattle.syslog_command_line.specs.declared.flags.Flag.{Flag}
-use Rattle.syslog_command_line.specs.declared.flags.Flag.TheVariants.{Raw, NoDialects, Latin1, Offset, Nul}
-use Rattle.syslog_command_line.specs.declared.flags.Flag.TheVariants.{OctetCounted}
+use Rattle.syslog_command_line.specs.declared.flags.Flag.TheVariants.{Raw, NoDialects, Latin1, Offset, Zone}
+use Rattle.syslog_command_line.specs.declared.flags.Flag.TheVariants.{Nul, OctetCounted}
 use Rattle.syslog_command_line.specs.declared.flags.Flag.TheVariants.{MaxLine, Severity, Host, App, Csv}
 use Rattle.syslog_command_line.specs.declared.options.Options.{Options}
 
@@ -38,12 +41,12 @@ pub record CanBeGiven (offered : List Flag) (given : List GivenFlag) : Type 0 wh
   pub together : AllPairs GoTogether given
 
 -- the words are these flags, in any order, and a date
-pub record AreFlagsAndDate (offered : List Flag) (words : List (List ℕ)) (given : List GivenFlag) (year : ℤ)
-    (month : Option ℕ) : Type 0 where
+pub record AreFlagsAndDate (offered : List Flag) (words : List (List ℕ)) (given : List GivenFlag) (today : Today) : Type
+    0 where
   pub rest : List (List ℕ)
   pub listed : words ≡ flat_map given_words given ++ rest
   pub allowed : CanBeGiven offered given
-  pub dated : AreDateWords rest year month
+  pub dated : AreDateWords rest today
 
 -- the flag was given, with this value
 abbrev pub IsGivenAs : List GivenFlag → Flag → List ℕ → Type 0
@@ -62,9 +65,14 @@ ByFlag given flag With Without =
 abbrev pub usual_max_line : ℕ
 usual_max_line = 67_108_864
 
--- the options are what the flags and the date say; without an offset dates are taken in UTC
-pub record AreOptions (given : List GivenFlag) (named_year : ℤ) (named_month : Option ℕ) (options : Options) : Type
-    0 where
+-- the zone of the rule or the offset that a flag names; UTC where none does
+abbrev pub IsZoneGiven : List GivenFlag → TimeZone → Type 0
+IsZoneGiven given zone = ByFlag given Zone (λ text. IsPosixZone text zone)
+    (ByFlag given Offset (λ text. (seconds : ℤ) × NamesOffset text seconds × IsZoneAt seconds zone)
+    (IsZoneAt (pos 0) zone))
+
+-- the options are what the flags and the date say
+pub record AreOptions (given : List GivenFlag) (named : Today) (options : Options) : Type 0 where
   pub raw : ByFlag given Raw (λ _. options.raw ≡ true) (options.raw ≡ false)
   pub dialects : ByFlag given NoDialects (λ _. options.dialects ≡ false) (options.dialects ≡ true)
   pub latin1 : ByFlag given Latin1 (λ _. options.latin1 ≡ true) (options.latin1 ≡ false)
@@ -76,13 +84,10 @@ pub record AreOptions (given : List GivenFlag) (named_year : ℤ) (named_month :
       (λ text. IsSomeAnd options.severity (λ severity. NamesSeverity text severity)) (options.severity ≡ None)
   pub host : ByFlag given Host (λ text. IsSomeAnd options.host (λ host. host.now ≡ text)) (options.host ≡ None)
   pub app : ByFlag given App (λ text. IsSomeAnd options.app (λ app. app.now ≡ text)) (options.app ≡ None)
-  pub year : options.dates.year ≡ named_year
-  pub month : options.dates.month ≡ named_month
-  pub zone : ByFlag given Offset
-      (λ text. (seconds : ℤ) × NamesOffset text seconds × IsZoneAt seconds (plain_zone options.dates.zone))
-      (IsZoneAt (pos 0) (plain_zone options.dates.zone))
+  pub today : options.dates.today ≡ named
+  pub zone : IsZoneGiven given (plain_zone options.dates.zone)
 
 -- the words ask for these options
 abbrev pub AsksForOptions : List Flag → List (List ℕ) → Options → Type 0
-AsksForOptions offered words options = (given : List GivenFlag) × (year : ℤ) × (month : Option ℕ)
-    × AreFlagsAndDate offered words given year month × AreOptions given year month options
+AsksForOptions offered words options = (given : List GivenFlag) × (today : Today)
+    × AreFlagsAndDate offered words given today × AreOptions given today options

@@ -4,6 +4,7 @@ ghost use Rattle.syslog_command_line.specs.Flags.{IsValue, flag_word, rival, tak
 
 use crate::dates::read_offset;
 use crate::values::{read_severity, read_size};
+use syslog_loose::zone_of_rule;
 
 /// A flag that a program may have. Each program says which of them it has.
 #[derive(Clone, Copy)]
@@ -16,6 +17,8 @@ pub enum Flag {
     Latin1,
     /// `--offset OFFSET`: the zone of dates that show none, as `+HH:MM`.
     Offset,
+    /// `--zone RULE`: the zone of dates that show none, as a POSIX rule.
+    Zone,
     /// `--nul`: each line of the input ends in a NUL.
     Nul,
     /// `--octet-counted`: each line of the input begins with its length.
@@ -33,7 +36,7 @@ pub enum Flag {
 }
 
 /// How many flags there are.
-pub(crate) const FLAGS: usize = 11;
+pub(crate) const FLAGS: usize = 12;
 
 impl Flag {
     /// Returns the word of a command line that gives this flag, as `--raw`.
@@ -45,6 +48,7 @@ impl Flag {
             Flag::NoDialects => "--no-dialects",
             Flag::Latin1 => "--latin1",
             Flag::Offset => "--offset",
+            Flag::Zone => "--zone",
             Flag::Nul => "--nul",
             Flag::OctetCounted => "--octet-counted",
             Flag::MaxLine => "--max-line",
@@ -60,7 +64,8 @@ impl Flag {
         ensures { result ≡ takes_value self }
     {
         match self {
-            Flag::Offset | Flag::MaxLine | Flag::Severity | Flag::Host | Flag::App => true,
+            Flag::Offset | Flag::Zone | Flag::MaxLine | Flag::Severity | Flag::Host | Flag::App =>
+                true,
             _ => false,
         }
     }
@@ -72,6 +77,8 @@ impl Flag {
         match self {
             Flag::Nul => Flag::OctetCounted,
             Flag::OctetCounted => Flag::Nul,
+            Flag::Offset => Flag::Zone,
+            Flag::Zone => Flag::Offset,
             _ => self,
         }
     }
@@ -82,6 +89,7 @@ impl Flag {
     {
         match self {
             Flag::Offset => read_offset(text).is_some(),
+            Flag::Zone => zone_of_rule(text).is_some(),
             Flag::MaxLine => read_size(text).is_some(),
             Flag::Severity => read_severity(text).is_some(),
             Flag::Host | Flag::App => true,

@@ -1,10 +1,14 @@
 //! The flags of a command line and the date after them, and what they ask for.
 ghost use Rattle.std.specs.Prelude.{◌≡◌, ◌∷◌, ◌++◌, ◌≤ℤ◌, IsSomeAnd, List, MatchOption, MatchResult, None, negsuc};
 ghost use Rattle.std.specs.Prelude.{pos, ℕ};
+ghost use Rattle.jiff.specs.Placed.{IsPosixZone};
+ghost use Rattle.jiff.specs.Words.{plain_zone};
+ghost use Rattle.syslog_loose.specs.Today.{HasYear};
 ghost use Rattle.syslog_command_line.specs.Arguments.{NamesOffset};
 ghost use Rattle.syslog_command_line.specs.Flags.{IsValue, NamesSeverity, NamesSize, flag_word};
 ghost use Rattle.syslog_command_line.specs.Given.{AreNoFlagsAndDate, BeginsWith, BeginsWithNone, Holds, SplitsWords};
-ghost use Rattle.syslog_command_line.specs.Options.{AsksForOptions, ByFlag, GivenFlag, usual_max_line, value_words};
+ghost use Rattle.syslog_command_line.specs.Options.{AsksForOptions, ByFlag, GivenFlag, IsZoneGiven, usual_max_line};
+ghost use Rattle.syslog_command_line.specs.Options.{value_words};
 ghost use Rattle.syslog_command_line.specs.Words.{IsAmong, texts};
 ghost use Rattle.syslog_command_line.specs.declared.flags.Flag.{Flag};
 ghost use Rattle.syslog_command_line.specs.declared.options.Options.{Options};
@@ -16,7 +20,7 @@ use crate::given::Given;
 use crate::values::{read_severity, read_size};
 use crate::words::{Wrong, read_date_words};
 use syslog_lines::Framing;
-use syslog_loose::{Dates, SyslogSeverity};
+use syslog_loose::{Dates, SyslogSeverity, TimeZone, Today, zone_of_rule};
 
 /// How many bytes the longest line that is read has, if `--max-line` is not given.
 pub const MAX_LINE: usize = 67_108_864;
@@ -56,7 +60,7 @@ pub(crate) fn read_options<'a>(
         × ((options : Options) → ¬ (AsksForOptions offered.now (texts words.now) options))) }
 {
     let (given, rest) = read_flags(words, offered)?;
-    let (year, month) = read_date_words(rest)?;
+    let today = read_date_words(rest)?;
     Ok(Options {
         raw: given.has(Flag::Raw),
         dialects: !given.has(Flag::NoDialects),
@@ -67,7 +71,7 @@ pub(crate) fn read_options<'a>(
         severity: severity_of(&given),
         host: given.value(Flag::Host),
         app: given.value(Flag::App),
-        dates: Dates::new(year, month, offset_of(&given)),
+        dates: dates_of(&given, today),
     })
 }
 
@@ -109,7 +113,31 @@ fn severity_of(given: &Given<'_>) -> Option<SyslogSeverity>
     }
 }
 
-// Returns the zone, in seconds ahead of UTC.
+// Returns how dates are completed, on this day.
+fn dates_of(given: &Given<'_>, today: Today) -> Dates
+    requires { HasYear today }
+    ensures today { result.today ≡ today }
+    ensures zone { (flags : List GivenFlag) → Holds given.now flags → IsZoneGiven flags (plain_zone result.zone) }
+{
+    match rule_of(given) {
+        Some(zone) => Dates::new(today, zone),
+        None => Dates::ahead(today, offset_of(given)),
+    }
+}
+
+// Returns the zone that is given by its rule.
+fn rule_of(given: &Given<'_>) -> Option<TimeZone<'static>>
+    ensures { (flags : List GivenFlag) → Holds given.now flags
+        → ByFlag flags Flag.Zone (λ text. IsSomeAnd result (λ zone. IsPosixZone text (plain_zone zone)))
+        (result ≡ None) }
+{
+    match given.value(Flag::Zone) {
+        Some(text) => zone_of_rule(text),
+        None => None,
+    }
+}
+
+// Returns the zone that is given by its offset, in seconds ahead of UTC: 0 if none is.
 fn offset_of(given: &Given<'_>) -> i32
     ensures value { (flags : List GivenFlag) → Holds given.now flags
         → ByFlag flags Flag.Offset (λ text. NamesOffset text result) (result ≡ pos 0) }

@@ -21,8 +21,8 @@ pub enum Task<'a> {
 }
 
 /// Returns what the words after the program's name ask for. They are flags of those that are offered, in any order and
-/// each at most once, and `[--] YEAR[-MONTH]`; or they are `--help`, `-h` or `--version` alone. Of two flags that
-/// contradict each other, as `--nul` and `--octet-counted`, at most one is given.
+/// each at most once, and `[--] YEAR[-MONTH[-DAY]]`; or they are `--help`, `-h` or `--version` alone. Of two flags that
+/// contradict each other, as `--offset` and `--zone`, at most one is given.
 ///
 /// For all other words it returns the first one that can't be at its place, or that a year is missing.
 pub fn read_task<'a>(words: &'a [String], offered: &[Flag]) -> Result<Task<'a>, Wrong<'a>>
@@ -36,7 +36,10 @@ pub fn read_task<'a>(words: &'a [String], offered: &[Flag]) -> Result<Task<'a>, 
     if is_only(words, "--version") {
         return Ok(Task::Version);
     }
-    Ok(Task::Lines(read_options(words, offered)?))
+    match read_options(words, offered) {
+        Ok(options) => Ok(Task::Lines(options)),
+        Err(wrong) => Err(wrong),
+    }
 }
 
 // Whether the only word is `--help` or `-h`.

@@ -1,7 +1,8 @@
 //! The words that a program with flags and dates is called with.
 ghost use Rattle.std.specs.Prelude.{◌≡◌, ◌∷◌, [], IfErr, IfOk, List, MatchOption, MatchResult};
-ghost use Rattle.std.specs.Prelude.{Option, ℕ, ℤ, drop};
+ghost use Rattle.std.specs.Prelude.{ℕ, drop};
 ghost use Rattle.std.specs.Vec.Iter.{into_iter_items};
+ghost use Rattle.syslog_loose.specs.declared.today.Today.{Today as AnyToday};
 ghost use Rattle.syslog_command_line.specs.Arguments.{NamesDate};
 ghost use Rattle.syslog_command_line.specs.Words.{AreDateWords, IsAmong, texts};
 ghost use Rattle.syslog_command_line.specs.declared.words.Wrong.TheVariants.{Unreadable};
@@ -10,6 +11,7 @@ use crate::dates::read_date;
 use std::alloc::{AllocError, Global};
 use std::env;
 use std::env::Args;
+use syslog_loose::Today;
 
 /// What is wrong with a program's words.
 #[derive(Clone, Copy)]
@@ -35,11 +37,11 @@ pub(crate) fn after_word<'a>(words: &'a [String], wanted: &str) -> Option<&'a [S
     }
 }
 
-/// Returns the year, and the month if there is one, that the words write, if they are one word, or `--` and one word.
-pub(crate) fn read_date_words(words: &[String]) -> Result<(i32, Option<u32>), Wrong<'_>>
-    ensures { MatchResult result (λ date. AreDateWords (texts words.now) date.0 date.1)
+/// Returns the year, the month or the day that the words write, if they are one word, or `--` and one word.
+pub(crate) fn read_date_words(words: &[String]) -> Result<Today, Wrong<'_>>
+    ensures { MatchResult result (λ today. AreDateWords (texts words.now) today)
         (λ wrong. IsAmong (texts words.now) wrong
-        × ((year : ℤ) (month : Option ℕ) → ¬ (AreDateWords (texts words.now) year month))) }
+        × ((today : AnyToday) → ¬ (AreDateWords (texts words.now) today))) }
 {
     match after_word(words, "--") {
         Some(rest) => read_last_word(rest),
@@ -47,21 +49,21 @@ pub(crate) fn read_date_words(words: &[String]) -> Result<(i32, Option<u32>), Wr
     }
 }
 
-// Returns the year, and the month if there is one, that the only word writes.
-fn read_last_word(words: &[String]) -> Result<(i32, Option<u32>), Wrong<'_>>
+// Returns the year, the month or the day that the only word writes.
+fn read_last_word(words: &[String]) -> Result<Today, Wrong<'_>>
     ensures { MatchResult result
-        (λ date. (word : List ℕ) × (texts words.now ≡ word ∷ []) × NamesDate word date.0 date.1)
-        (λ wrong. IsAmong (texts words.now) wrong × ((word : List ℕ) (year : ℤ) (month : Option ℕ)
-        → texts words.now ≡ word ∷ [] → ¬ (NamesDate word year month))) }
+        (λ today. (word : List ℕ) × (texts words.now ≡ word ∷ []) × NamesDate word today)
+        (λ wrong. IsAmong (texts words.now) wrong × ((word : List ℕ) (today : AnyToday)
+        → texts words.now ≡ word ∷ [] → ¬ (NamesDate word today))) }
 {
     let Some((word, rest)) = words.split_first() else {
         return Err(Wrong::Missing);
     };
-    let Some(date) = read_date(word.as_str()) else {
+    let Some(today) = read_date(word.as_str()) else {
         return Err(Wrong::Word(word.as_str()));
     };
     match rest.split_first() {
-        None => Ok(date),
+        None => Ok(today),
         Some((extra, _)) => Err(Wrong::Word(extra.as_str())),
     }
 }

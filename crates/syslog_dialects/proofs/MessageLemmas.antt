@@ -38,8 +38,8 @@ use Rattle.syslog_dialects.specs.OpenWrt.{logread_row, logread_sent}
 use Rattle.syslog_dialects.specs.Pairs.{paired, pairs_row}
 use Rattle.syslog_dialects.specs.PriorityAlone.{IsAlone, alone_row, program_row, program_sent}
 use Rattle.syslog_dialects.specs.ProCurve.{procurve_row, procurve_sent}
-use Rattle.syslog_dialects.specs.Programs.{forwarded_of, forwarded_row, hostless_row, passed_on, serial_row, severity_row}
-use Rattle.syslog_dialects.specs.Programs.{worded_row}
+use Rattle.syslog_dialects.specs.Programs.{forwarded_of, forwarded_row, hostless_row, passed_on, serial_row}
+use Rattle.syslog_dialects.specs.Programs.{severity_row, worded_row}
 use Rattle.syslog_dialects.specs.Sent.{Form, IsSent, SentValue, loose}
 use Rattle.syslog_dialects.specs.SentReading.{IsSentIn}
 use Rattle.syslog_dialects.specs.SophosUtm.{utm_row}

@@ -10,25 +10,29 @@ use Rattle.syslog_pieces.specs.Timestamp.Zone.{IsStampOfFields}
 use Rattle.syslog_pieces.specs.declared.timestamp.OffsetTimestamp.{OffsetTimestamp}
 use Rattle.syslog_pieces.specs.declared.timestamp.fields.CivilFields.{CivilFields}
 use Rattle.syslog_pieces.specs.declared.timestamp.month_date.MonthDate.{MonthDate}
-use Rattle.syslog_loose.specs.Dates.{year_in}
 use Rattle.syslog_loose.specs.Line.{line_value, protocol_of}
 use Rattle.syslog_loose.specs.Message.{MessageValue, message_of_parts}
+use Rattle.syslog_loose.specs.Reading.{IncompleteDate}
+use Rattle.syslog_loose.specs.Today.{IsYearIn}
 use Rattle.syslog_loose.specs.declared.dates.Dates.{Dates}
 use Rattle.syslog_loose.specs.declared.line.Line.{Line}
 use Rattle.syslog_dialects.specs.Sent.{SentValue}
 use Rattle.syslog_dialects.specs.declared.sent.SentDate.{SentDate}
 
--- the year that the date shows, or else that of the dates
-abbrev pub sent_year : Dates → MonthDate → ℤ
-sent_year dates date = elim date.year [
-  | Some shown ↦ pos shown
-  | None ↦ year_in dates (date.month, date.day, date.hour, date.minute, date.second)
-]
+-- the year of the numbers of a date: the one that is shown with them, or else that by the dates
+abbrev pub IsYearWith : Dates → Option ℕ → IncompleteDate → ℤ → Type 0
+IsYearWith dates (Some shown) numbers year = year ≡ pos shown
+IsYearWith dates None numbers year = IsYearIn dates.today numbers year
 
--- what a clock showed
-abbrev pub sent_fields : Dates → SentDate → CivilFields
-sent_fields dates sent = record {
-  year = sent_year dates sent.date;
+-- the year of the date
+abbrev pub IsSentYear : Dates → MonthDate → ℤ → Type 0
+IsSentYear dates date year =
+    IsYearWith dates date.year (date.month, date.day, date.hour, date.minute, date.second) year
+
+-- what a clock showed, in this year
+abbrev pub sent_fields : ℤ → SentDate → CivilFields
+sent_fields year sent = record {
+  year = year;
   month = sent.date.month;
   day = sent.date.day;
   hour = sent.date.hour;
@@ -45,7 +49,8 @@ IsStampIn dates (Some seconds) fields s = (offset : Offset) × (offset.seconds �
 
 -- there is such a date, and this is its timestamp
 abbrev pub IsSentStamp : Dates → SentDate → OffsetTimestamp → Type 0
-IsSentStamp dates sent s = IsStampIn dates sent.offset (sent_fields dates sent) s
+IsSentStamp dates sent s = (year : ℤ) × IsSentYear dates sent.date year
+    × IsStampIn dates sent.offset (sent_fields year sent) s
 
 -- the timestamp, absent where no date is shown
 abbrev pub HasStamp : Dates → Option SentDate → Option OffsetTimestamp → Type 0

@@ -1,10 +1,10 @@
 //! What a sender said in a line, as the pieces of its dialect say it. No year and no zone is needed for it, so that no
 //! reader of a dialect looks at a calendar. `line_of` makes the line from it.
-ghost use Rattle.std.specs.Prelude.{◌≡◌, ◌<ℤ◌, pos, IfSome, MatchOption};
+ghost use Rattle.std.specs.Prelude.{◌<ℤ◌, ℤ, pos, IfSome, MatchOption};
 ghost use Rattle.syslog_pieces.specs.Timestamp.{IsAnswer, stamp_seen};
 ghost use Rattle.syslog_loose.specs.Line.{KnowsForm};
 ghost use Rattle.syslog_dialects.specs.Sent.{sent_value};
-ghost use Rattle.syslog_dialects.specs.SentLine.{HasNoStamp, HasStamp, IsLineSent, IsSentStamp, sent_year};
+ghost use Rattle.syslog_dialects.specs.SentLine.{HasNoStamp, HasStamp, IsLineSent, IsSentStamp, IsSentYear};
 
 use jiff::tz::Offset;
 use syslog_loose::{ClockStamp, Dates, ElementList, Line};
@@ -43,7 +43,8 @@ pub(crate) struct Sent<'a> {
 
 // Returns the year that the date shows, or otherwise that of `dates`; none if no calendar has it.
 fn year_of(date: MonthDate, dates: &Dates) -> Option<i32>
-    ensures { MatchOption result (pos 9999 <ℤ sent_year dates.now date) (λ year. year ≡ sent_year dates.now date) }
+    ensures { MatchOption result ((year : ℤ) → IsSentYear dates.now date year → pos 9999 <ℤ year)
+        (λ year. IsSentYear dates.now date year) }
 {
     match date.year {
         Some(shown) => i32::try_from(shown).ok(),

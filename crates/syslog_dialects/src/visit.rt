@@ -6,9 +6,10 @@ ghost use Rattle.std.specs.Prelude.{◌≡◌, ◌↔◌, [], false, true, IfSom
 ghost use Rattle.syslog_pieces.specs.Pieces.Class.{Text};
 ghost use Rattle.syslog_pieces.specs.StructuredData.Visited.{list_elements};
 ghost use Rattle.syslog_pieces.specs.Timestamp.Zone.{Dating};
-ghost use Rattle.syslog_loose.specs.Dates.{IsDated, year_in};
+ghost use Rattle.syslog_loose.specs.Dates.{IsDated};
 ghost use Rattle.syslog_loose.specs.Line.{KnowsForm, line_value};
 ghost use Rattle.syslog_loose.specs.Reading.{IsUnreadable};
+ghost use Rattle.syslog_loose.specs.Today.{IsYearIn};
 ghost use Rattle.syslog_loose.specs.Unparsed.{IsLeftUnparsed};
 ghost use Rattle.syslog_loose.specs.Visit.{IsLineOf};
 ghost use Rattle.syslog_dialects.specs.Ordinary.{IsOrdinary};
@@ -259,7 +260,7 @@ pub fn parse_sent_line<'a>(
     ensures form { IfSome result (λ it. KnowsForm it.line) }
 {
     let get_year = |date: IncompleteDate| -> i32
-        ensures { result ≡ year_in dates.entry.now date }
+        ensures { IsYearIn dates.entry.now.today date result }
     { dates.year_of(date) };
     match parse_line(input, get_year, None, variant, &dates.zone) {
         Some(line) => Some(sent_line(&line, input, dates, variant, dialects)),

@@ -5,7 +5,7 @@ use Rattle.std.proofs.Common.{◌++◌, ◌∷◌, ◌⊎◌, ◌≢◌, ℤ, Bo
 use Rattle.jiff.{specs.Types.TimeZone, specs.Words.plain_zone}
 use Rattle.syslog_loose.{specs.Message.MessageValue, specs.declared.line.Line.Line}
 use Rattle.syslog_loose.specs.Reading.{IncompleteDate, InYear, IsUnreadable}
-use Rattle.syslog_loose.{proofs.ReckoningLemmas.one_dating, specs.Dates.year_in, specs.Reckoning.dating_in}
+use Rattle.syslog_loose.{proofs.ReckoningLemmas.one_dating, specs.Today.IsYearIn, specs.Reckoning.dating_in}
 use Rattle.syslog_loose.{specs.Clauses.KnowsForm, specs.Visit.IsLineOf, specs.Visit.Made}
 use Rattle.syslog_pieces.specs.Timestamp.Zone.{Dating}
 use Rattle.syslog_dialects.proofs.SentReadingLemmas.{leaves_once, read_once}
@@ -27,7 +27,7 @@ use Rattle.syslog_json.proofs.MarkLemmas.{marked_read}
 use Rattle.syslog_json.specs.Marked.{HasMember, marked, marked_line, marked_output, marked_text}
 use Rattle.syslog_object.specs.Object.{Beside, refused_json}
 use Rattle.syslog_json.specs.Objects.{IsLineAnswer, IsLineRead, IsOnly, IsReadAs, IsReadJson, IsRefusedJson}
-use Rattle.syslog_json.specs.Objects.{IsValueText, answer_of, raw_text}
+use Rattle.syslog_json.specs.Objects.{IsValueText, answer_of}
 use Rattle.syslog_json.specs.declared.filter.Objects.{Objects}
 use Rattle.syslog_loose.proofs.ReadingLemmas as reading
 
@@ -84,7 +84,7 @@ module _ {V : Type 0} {post : IncompleteDate → ℤ → Type 0} (filter : Objec
     -- the line that was made of the port's was returned, and the writer was given its elements
     pub line_read : (made : Line) → InYear post Either text
         (IsMade V (plain_zone filter.dates.zone) text old (Some made) new)
-        → ((date : IncompleteDate) (y : ℤ) → post date y → y ≡ year_in filter.dates date) → HasWritten old []
+        → ((date : IncompleteDate) (y : ℤ) → post date y → IsYearIn filter.dates.today date y) → HasWritten old []
         → (it : SentLine) → ((dating : Dating) → IsLineOf Either dating text made
         → IsReadSent filter.dates dating filter.dialects Either text it.dialect (line_value it.line))
         → list_elements it.line.list ≡ list_elements made.list
@@ -108,7 +108,7 @@ module _ {V : Type 0} {post : IncompleteDate → ℤ → Type 0} (filter : Objec
 
     -- or one that the port does not read
     pub line_unread : InYear post Either text (IsMade V (plain_zone filter.dates.zone) text old None new)
-        → ((date : IncompleteDate) (y : ℤ) → post date y → y ≡ year_in filter.dates date) → HasWritten old []
+        → ((date : IncompleteDate) (y : ℤ) → post date y → IsYearIn filter.dates.today date y) → HasWritten old []
         → (result : Option SentLine) → ((dating : Dating) → IsUnreadable Either dating text
         → IsSentAnswer filter.dates dating filter.dialects Either text result)
         → IfSome result (λ it. list_elements it.line.list ≡ [])

@@ -1,7 +1,7 @@
 //! The filter that writes each line as JSON.
 ghost use Rattle.std.specs.Prelude.{◌≡◌, ◌++◌, [], List, ℕ, false, IfErr, IfOk, OnErr, OnOk};
 ghost use Rattle.std.specs.Str.{chars};
-ghost use Rattle.syslog_loose.specs.Dates.{year_in};
+ghost use Rattle.syslog_loose.specs.Today.{IsYearIn};
 ghost use Rattle.syslog_lines.specs.Pump.{EndsEarly, FailedAs};
 ghost use Rattle.syslog_object.specs.Object.{refused_json};
 ghost use Rattle.syslog_object.specs.Writer.{HasWritten};
@@ -38,19 +38,19 @@ pub fn write_objects<R: Read, W: Write>(
     frames: Frames,
     reader: &mut Watched<R>,
     writer: &mut Watched<W>,
-    filter: Objects<'_>,
+    filter: &Objects<'_>,
 ) -> Result<LineCounts, RunFault>
     requires reader { reader.old.failed ≡ false }
     requires writer { writer.old.failed ≡ false }
-    ensures ok { IfOk result (λ counts. WritesObjects frames filter.entry (R.remaining reader.old.inner)
+    ensures ok { IfOk result (λ counts. WritesObjects frames filter.entry.now (R.remaining reader.old.inner)
         (R.remaining reader.new.inner)
         (W.contents writer.old.inner) (W.contents writer.new.inner) counts) }
-    ensures err { IfErr result (λ fault. EndsEarly frames (objects filter.entry) (R.remaining reader.old.inner)
+    ensures err { IfErr result (λ fault. EndsEarly frames (objects filter.entry.now) (R.remaining reader.old.inner)
         (R.remaining reader.new.inner)
         (W.contents writer.old.inner) (W.contents writer.new.inner) fault) }
     ensures failed { FailedAs result reader.new.failed writer.new.failed }
 {
-    let tally = pump(alloc, frames, &filter, reader, writer)?;
+    let tally = pump(alloc, frames, filter, reader, writer)?;
     Ok(tally.counts(filter.latin1))
 }
 
@@ -78,7 +78,7 @@ impl Objects<'_> {
     {
         let dates = &self.dates;
         let get_year = |date: IncompleteDate| -> i32
-            ensures { result ≡ year_in dates.entry.now date }
+            ensures { IsYearIn dates.entry.now.today date result }
         { dates.year_of(date) };
         match visit_line(
             line,

@@ -2,10 +2,11 @@
 
 /// How the program is called, in one line.
 pub const USAGE: &str =
-    "usage: syslog_json [OPTION].. [--] YEAR[-MONTH], or --help, or --version\n";
+    "usage: syslog_json [OPTION].. [--] YEAR[-MONTH[-DAY]], or --help, or --version\n";
 
 /// How the program is called, and what it does.
-pub const HELP: &str = "usage: syslog_json [OPTION].. [--] YEAR[-MONTH], or --help, or --version
+pub const HELP: &str =
+    "usage: syslog_json [OPTION].. [--] YEAR[-MONTH[-DAY]], or --help, or --version
 
 Reads lines of syslog from standard input, and writes each as one JSON object
 on one line to standard output. What a message lacks has no key:
@@ -17,9 +18,13 @@ is not UTF-8 is read with U+FFFD for what is not, and has \"invalid_utf8\": true
   YEAR             the year of dates that show none: one to four digits
   YEAR-MONTH       the same, and the month that it is now, two digits: in
                    January a date of December is of the year before
+  YEAR-MONTH-DAY   the day that it is now: such a date is of the last year in
+                   which it is that day, the day after or an earlier one
 Options, in any order, each at most once:
   --offset OFFSET  the zone of dates that show none, +HH:MM or -HH:MM; it is
-                   UTC where this is left out
+                   UTC without this and --zone
+  --zone RULE      the same, in place of --offset, by a POSIX rule, as
+                   CET-1CEST,M3.5.0,M10.5.0/3
   --raw            adds each message's line, as it came, as \"raw\"
   --latin1         reads a line that is not UTF-8 as ISO 8859-1; it has no
                    \"invalid_utf8\"

@@ -1,11 +1,17 @@
--- A text has one dating.
-use Rattle.syslog_loose.proofs.Names.{◌≡◌, ◌∙◌, ℕ, ℤ, Option, Some, None, ap, refl, sym, Text, Dating, MonthDate}
+-- A date has one year, and a text one dating.
+use Rattle.syslog_loose.proofs.Names.{◌≡◌, ◌∙◌, ℤ, Option, Some, None, ap, refl, sym, Text, Dating, MonthDate}
 use Rattle.syslog_loose.proofs.Names.{AsksYear, IncompleteDate, IsYearAnswered, incomplete, Variant, Either, RFC5424}
 use Rattle.jiff.specs.Words.{plain_zone}
 use Rattle.syslog_pieces.proofs.TimestampLemmas.MonthDate.{shown_once}
 use Rattle.syslog_loose.specs.declared.variant.Variant.TheVariants.{RFC3164}
-use Rattle.syslog_loose.specs.Dates.{IsDated, year_in}
-use Rattle.syslog_loose.specs.Reckoning.{dating_in}
+use Rattle.std.proofs.Common.{arith, inl, inr, subst}
+use Rattle.jiff.proofs.SpanFacts.{signed_arith}
+use Rattle.jiff.specs.Types.{Date}
+use Rattle.syslog_loose.specs.Dates.{IsDated}
+use Rattle.syslog_loose.specs.Reckoning.{IsYearOnDay, dating_in}
+use Rattle.syslog_loose.specs.Today.{IsYearIn}
+use Rattle.syslog_loose.specs.declared.today.Today.{Today}
+use Rattle.syslog_loose.specs.declared.today.Today.TheVariants.{Year, Month, Day}
 use Rattle.syslog_loose.specs.declared.dates.Dates.{Dates}
 
 asked_once : (variant : Variant) (text : Text) (d e : MonthDate) → AsksYear variant text d → AsksYear variant text e
@@ -14,13 +20,32 @@ asked_once RFC5424 text d e asks also = absurd asks
 asked_once RFC3164 text d e asks also = shown_once text d e asks also
 asked_once Either text d e asks also = shown_once text d e asks also
 
-answered_once : (answer : IncompleteDate → ℤ) (variant : Variant) (text : Text) (year other : Option ℤ) → IsYearAnswered
-    (λ date y. y ≡ answer date) variant text year → IsYearAnswered (λ date y. y ≡ answer date) variant text other
+-- ---- a date has one year
+
+latest_once : (day : Date) (date : IncompleteDate) (y z : ℤ) → IsYearOnDay day date y → IsYearOnDay day date z → y ≡ z
+latest_once day date y z (inl is) (inl too) =
+    omega (arith, signed_arith, is.last z too.in_time, too.last y is.in_time)
+latest_once day date y z (inl is) (inr none) = absurd (none.0 y is.in_time)
+latest_once day date y z (inr none) (inl is) = absurd (none.0 z is.in_time)
+latest_once day date y z (inr is) (inr too) = is.1 ∙ sym too.1
+
+pub year_once : (today : Today) (date : IncompleteDate) (y z : ℤ) → IsYearIn today date y → IsYearIn today date z
+    → y ≡ z
+year_once (Year year) date y z is too = is ∙ sym too
+year_once (Month year month) date y z is too = is ∙ sym too
+year_once (Day day) date y z is too = latest_once day date y z is too
+
+-- ---- a text has one dating
+
+answered_once : (today : Today) (variant : Variant) (text : Text) (year other : Option ℤ)
+    → IsYearAnswered (IsYearIn today) variant text year → IsYearAnswered (IsYearIn today) variant text other
     → (date : MonthDate) → AsksYear variant text date → year ≡ other
-answered_once answer variant text None other never is date asks = absurd (never date asks)
-answered_once answer variant text (Some y) None is never date asks = absurd (never date asks)
-answered_once answer variant text (Some y) (Some z) (d, shown, is) (e, also, same) date asks =
-    ap Some (is ∙ ap (λ (m : MonthDate). answer (incomplete m)) (asked_once variant text d e shown also) ∙ sym same)
+answered_once today variant text None other never is date asks = absurd (never date asks)
+answered_once today variant text (Some y) None is never date asks = absurd (never date asks)
+answered_once today variant text (Some y) (Some z) (d, shown, is) (e, also, too) date asks =
+    let same : e ≡ d = asked_once variant text e d also shown in
+    ap Some (year_once today (incomplete d) y z is
+    (subst (λ (m : MonthDate). IsYearIn today (incomplete m) z) same too))
 
 -- what holds of the dating, and what else does, holds of one
 pub one_dating : {Holds More : Dating → Type 0} (dates : Dates) (variant : Variant) (text : Text)
@@ -29,5 +54,5 @@ pub one_dating : {Holds More : Dating → Type 0} (dates : Dates) (variant : Var
 one_dating dates variant text g h = (
   dating_in (plain_zone dates.zone) g.answered,
   g.holds g.answered (λ date asks. refl),
-  h.holds g.answered (answered_once (year_in dates) variant text g.answered h.answered g.is_answered h.is_answered),
+  h.holds g.answered (answered_once dates.today variant text g.answered h.answered g.is_answered h.is_answered),
 )

@@ -19,6 +19,7 @@ pub mod Rfc5424
 pub mod Rows
 pub mod Settling
 pub mod TagForm
+pub mod Today
 pub mod Unparsed
 pub mod Visit
 pub mod Words

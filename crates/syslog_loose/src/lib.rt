@@ -27,6 +27,7 @@ mod rfc5424;
 mod rounds;
 mod settling;
 mod tag_form;
+mod today;
 mod variant;
 mod visit;
 
@@ -54,5 +55,6 @@ pub use syslog_pieces::structured_data::{
     Params, ParamsIter, StructuredElement,
 };
 pub use syslog_pieces::timestamp::{ClockStamp, OffsetTimestamp};
+pub use today::Today;
 pub use variant::{IncompleteDate, Variant};
 pub use visit::{Itself, LineVisitor, parse_line, visit_line};

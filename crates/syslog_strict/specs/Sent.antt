@@ -12,8 +12,8 @@ use Rattle.syslog_dialects.specs.declared.dialect.Dialect.{Dialect}
 use Rattle.syslog_strict.specs.Call.{IsStrictText, NoSyslogMsg}
 use Rattle.syslog_strict.specs.Conversion.{whole}
 
--- The text is that of the one message as which the input is read, in this dialect or in none, with what is left unparsed
--- of its structured data before the message part, converted.
+-- The text is that of the one message as which the input is read, in this dialect or in none, with what is left
+-- unparsed of its structured data before the message part, converted.
 pub record IsSentText (dates : Dates) (dating : Dating) (dialects : Bool) (variant : Variant) (input text : Text)
     : Type 0 where
   pub dialect : Option Dialect

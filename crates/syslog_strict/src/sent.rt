@@ -4,9 +4,10 @@
 //! its own, so that an ordinary line only pays for a look at a few of its fields.
 ghost use Rattle.std.specs.Prelude.{◌≡◌, ◌⊎◌, chars, None, MatchOption, MatchResult, true};
 ghost use Rattle.syslog_pieces.specs.Timestamp.Zone.{Dating};
-ghost use Rattle.syslog_loose.specs.Dates.{IsDated, year_in};
+ghost use Rattle.syslog_loose.specs.Dates.{IsDated};
 ghost use Rattle.syslog_loose.specs.Line.{KnowsForm, line_value};
 ghost use Rattle.syslog_loose.specs.Reading.{IsUnreadable};
+ghost use Rattle.syslog_loose.specs.Today.{IsYearIn};
 ghost use Rattle.syslog_loose.specs.Visit.{IsLineOf};
 ghost use Rattle.syslog_loose.specs.declared.fault.ParseFault.TheVariants.{Memory};
 ghost use Rattle.syslog_loose.specs.declared.line.Line.{Line as AnyLine};
@@ -64,7 +65,7 @@ fn convert_sent(
         ConvertsSent dates.now dating dialects variant (chars input.entry.now) result (text_in text.new)) }
 {
     let get_year = |date: IncompleteDate| -> i32
-        ensures { result ≡ year_in dates.entry.now date }
+        ensures { IsYearIn dates.entry.now.today date result }
     { dates.year_of(date) };
     let Some(line) = parse_line(input, get_year, None, variant, &dates.zone) else {
         return convert_unread(alloc, text, input, dates, variant, dialects);

@@ -1,6 +1,6 @@
 use Rattle.syslog_command_line.proofs.Names.{◌≡◌, ℕ, List, [], ◌∷◌}
 use Rattle.std.proofs.Common.{◌⊎◌}
-use Rattle.std.proofs.lemmas.{Bool.iff_false, Result.err_from_is_err_and}
+use Rattle.std.proofs.lemmas.Bool.{iff_false}
 use Rattle.syslog_command_line.specs.Arguments.{help_word, short_help_word, version_word}
 use Rattle.syslog_command_line.specs.{Options.AsksForOptions, Tasks.AsksFor, declared.tasks.Task.Task}
 use Rattle.syslog_command_line.specs.declared.flags.Flag.{Flag}
@@ -16,11 +16,9 @@ no_task offered words no_help no_version none Help = no_help
 no_task offered words no_help no_version none Version = no_version
 no_task offered words no_help no_version none (Lines options) = none options
 
-pub returns-in_err-read_options : goal.returns-in_err-read_options
-returns-in_err-read_options c =
-    let p = err_from_is_err_and c.from_residual.result c.from_residual.ensures.1 in
-    rw (p.1, p.2) (
-      c.in_err-read_options.ensures.0,
-      no_task c.args.offered.now _ (iff_false c.asks_for_help.ensures c.if-asks_for_help.false)
-          (iff_false c.is_only.ensures c.if-is_only.false) c.in_err-read_options.ensures.1,
-    )
+pub returns-in-Err : goal.returns-in-Err
+returns-in-Err c = (
+  c.in-Err.ensures.0,
+  no_task c.args.offered.now _ (iff_false c.asks_for_help.ensures c.if-asks_for_help.false)
+      (iff_false c.is_only.ensures c.if-is_only.false) c.in-Err.ensures.1,
+)

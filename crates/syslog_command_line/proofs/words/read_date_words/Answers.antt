@@ -7,5 +7,5 @@ returns-in-Some c = MatchResult-weaker c.read_last_word.result c.read_last_word.
     (λ date named. (named.0, inr (c.in-Some.ensures ∙ ap (λ ws. end_word ∷ ws) named.1), named.2))
     (λ wrong none. (
       among_later (end_word ∷ []) _ _ wrong c.in-Some.ensures none.0,
-      λ year month. date_after_dash _ _ year month c.in-Some.ensures (λ word. none.1 word year month),
+      λ today. date_after_dash _ _ today c.in-Some.ensures (λ word. none.1 word today),
     ))

@@ -1,6 +1,10 @@
 use Rattle.std.proofs.Common.{◌≡◌, FitsSigned, rules, to_z-of_z, w32}
-use Rattle.syslog_dialects.proofs.SentLemmas.{stamped_at, stamped_there}
+use Rattle.syslog_dialects.proofs.SentLemmas.{never_stamped, stamped_at, stamped_there}
 use Rattle.syslog_dialects.proofs.sent.stamp_of.Goals as goal
+
+pub returns-in_err-year_of : goal.returns-in_err-year_of
+returns-in_err-year_of c =
+    rw c.from_residual.ensures (never_stamped c.args.dates.now c.args.sent c.in_err-year_of.ensures)
 
 pub returns-in_ok-ok-in-Some : goal.returns-in_ok-ok-in-Some
 returns-in_ok-ok-in-Some c =

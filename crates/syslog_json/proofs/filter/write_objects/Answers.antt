@@ -10,7 +10,7 @@ returns-clause-ok g c =
     let (answers, all, counted, lines) = c.in_ok-tally.ensures.ok in (
       answers,
       all,
-      AreCounts-kept c.args.frames c.args.filter.latin1 _ _ _ _ counted lines c.counts.ensures.lines
+      AreCounts-kept c.args.frames c.args.filter.now.latin1 _ _ _ _ counted lines c.counts.ensures.lines
           c.counts.ensures.refused
           c.counts.ensures.refused_invalid c.counts.ensures.too_long c.counts.ensures.replaced,
     )

@@ -17,5 +17,6 @@ returns-then-is_empty c =
     let none : is_some c.args.line.now.msgid ≡ false = c.if-is_none.ensures in
     let empty : list_elements c.args.line.now.list ≡ [] = c.if-is_empty.ensures in
     appended c.push_text.result _ _ _ _
-    (no_data (converted (line_value c.args.line.now)) (no_word c.args.line.now.msgid none) (ap converted_elements empty))
+    (no_data (converted (line_value c.args.line.now)) (no_word c.args.line.now.msgid none)
+    (ap converted_elements empty))
     c.push_text.ensures

@@ -11,7 +11,7 @@ returns-in-Some c dating line of odd =
     let dates = c.args.dates.now in
     let input = chars c.args.input.now in
     let it = c.in-Some.sent in
-    line_converts dates dating c.args.dialects c.args.variant input (text_in c.convert_apart.new.text) it.dialect it.line
-    c.convert_apart.result c.requires
+    line_converts dates dating c.args.dialects c.args.variant input (text_in c.convert_apart.new.text) it.dialect
+    it.line c.convert_apart.result c.requires
     (in_dialect dates dating c.args.dialects c.args.variant input asked true it ((line, of, odd), may) is)
     (λ u left. dialect_leaves dates true c.args.variant input it u is left) c.convert_apart.ensures

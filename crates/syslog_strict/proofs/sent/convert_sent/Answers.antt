@@ -13,7 +13,8 @@ returns-in_default c =
 
 pub returns-in-Some-convert_before : goal.returns-in-Some-convert_before
 returns-in-Some-convert_before c =
-    in_year_told (in_year_map (λ year of. c.in-Some-convert_before.ensures _ of) c.in-Some.ensures.reads) (λ date y is. is.1)
+    in_year_told (in_year_map (λ year of. c.in-Some-convert_before.ensures _ of) c.in-Some.ensures.reads)
+    (λ date y is. is.1)
 
 pub returns-in-None : goal.returns-in-None
 returns-in-None c =

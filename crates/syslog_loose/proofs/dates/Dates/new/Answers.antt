@@ -1,6 +1,0 @@
-use Rattle.syslog_loose.proofs.Names.{◌≡◌, of_z, rules, to_z, w32}
-use Rattle.syslog_loose.proofs.dates.Dates.new.Goals as goal
-
-pub returns-clause-zone : goal.returns-clause-zone
-returns-clause-zone c =
-    let same : to_z w32 (of_z w32 c.args.offset) ≡ c.args.offset = search rules in rw same at c.in-Some.ensures.1
