@@ -580,8 +580,8 @@ class Program(unittest.TestCase):
     def test_bytes_that_are_not_utf8(self):
         line = b"<34>1 - h\xe9 app - - - caf\xe9\n"
         replaced = "1 of 1 lines have U+FFFD for what is not UTF-8\n"
-        front = '{"protocol":"RFC5424","version":1,"facility":"auth","facility_code":4,"severity":"crit","severity_code":2,'
-        fields = '"hostname":"h%s","appname":"app","message":"caf%s"'
+        front = '{"protocol":"RFC5424","version":1,"facility":"auth","facility_code":4,"severity":"crit",'
+        fields = '"severity_code":2,"hostname":"h%s","appname":"app","message":"caf%s"'
         for words, given, wanted in (
             ((), line, (1, front + fields % ("\ufffd", "\ufffd") + ',"invalid_utf8":true}\n', replaced)),
             (("--latin1",), line, (0, front + fields % ("\xe9", "\xe9") + "}\n", "")),
@@ -632,7 +632,8 @@ class Package(unittest.TestCase):
             with self.assertRaises(TypeError):
                 parse(LINE, **options)
         self.assertEqual(
-            str(inspect.signature(parse)), "(line, /, *, year, month=None, offset=0, variant='either', errors='strict', dialects=True)"
+            str(inspect.signature(parse)),
+            "(line, /, *, year, month=None, offset=0, variant='either', errors='strict', dialects=True)",
         )
 
     def test_version(self):

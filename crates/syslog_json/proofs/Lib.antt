@@ -1,4 +1,5 @@
 pub mod Names
 pub mod ReadLemmas
 pub mod MarkLemmas
+pub mod RowLemmas
 pub mod UniqueLemmas

@@ -1,12 +1,14 @@
 -- The text of an object that is marked.
 use Rattle.syslog_json.proofs.Names.{◌≡◌, ℕ, [], List, refl, sym, ap, subst, ◌∙◌, Json, IsTextOf}
-use Rattle.std.proofs.Common.{◌++◌, ◌∷◌, ◌≤◌, ◌-◌, true, append_assoc, arith, codes, length, take}
+use Rattle.std.proofs.Common.{◌⊎◌, ◌++◌, ◌∷◌, ◌≤◌, ◌-◌, false, true, append_assoc, arith, codes, length, take}
 use Rattle.std.proofs.lemmas.List.{length-append, take_at}
 use Rattle.std.proofs.lemmas.List.Elements.{All-from_recursion}
 use Rattle.json.specs.Json.{boolean, object, document, Members, no_members, member}
 use Rattle.json.specs.Print.{escape_byte, quoted}
 use Rattle.json.specs.Tree.{depth, members_depth}
 use Rattle.json.proofs.Printed.Trees.{document-print}
+use Rattle.syslog_loose.specs.Message.{MessageValue}
+use Rattle.syslog_object.specs.Object.{Beside, message_json, refused_json}
 use Rattle.syslog_object.specs.Parts.{compact_text, members_text}
 use Rattle.syslog_object.specs.Written.{HasSmallNumbers, MembersHaveSmallNumbers}
 use Rattle.syslog_object.proofs.WrittenLemmas.{numbers, printable, printed}
@@ -14,8 +16,13 @@ use Rattle.syslog_json.proofs.ReadLemmas.{read_as}
 use Rattle.syslog_json.specs.Marked.{HasMember, and_member, marked, marked_text}
 use Rattle.syslog_json.specs.Objects.{IsReadAs}
 
-abbrev mark_key : List ℕ
+abbrev pub mark_key : List ℕ
 mark_key = codes "invalid_utf8"
+
+-- the value of a message, or of a line that is none, which is not marked
+abbrev pub IsPlain : Json → Type 0
+IsPlain value = ((m : MessageValue) × (beside : Beside) × (value ≡ message_json m beside))
+    ⊎ ((line : List ℕ) × (value ≡ refused_json line))
 
 -- members after the first one, without the brace
 abbrev open_members : Members → List ℕ
@@ -45,11 +52,11 @@ mark_text = refl
 front_of : (q t o e : List ℕ) → 123 ∷ (q ++ 58 ∷ (t ++ (o ++ e))) ≡ (123 ∷ (q ++ 58 ∷ (t ++ o))) ++ e
 front_of q t o e = simp append_assoc
 
-cut_last : (front : List ℕ) (last : ℕ) → take (length (front ++ last ∷ []) - 1) (front ++ last ∷ []) ≡ front
+pub cut_last : (front : List ℕ) (last : ℕ) → take (length (front ++ last ∷ []) - 1) (front ++ last ∷ []) ≡ front
 cut_last front last = take_at front (last ∷ []) _ (omega (arith, length-append front (last ∷ [])))
 
 marked_object : (k : List ℕ) (j : Json) (ms : Members)
-    → compact_text (marked (object (member k j ms))) ≡ marked_text (compact_text (object (member k j ms)))
+    → compact_text (marked (object (member k j ms))) ≡ marked_text false (compact_text (object (member k j ms)))
 marked_object k j ms =
     let front = 123 ∷ (quoted k ++ 58 ∷ (compact_text j ++ open_members ms)) in
     let old : compact_text (object (member k j ms)) ≡ front ++ 125 ∷ [] =
@@ -84,17 +91,17 @@ text_of_small value small shallow = record {
 }
 
 marked_members : (k : List ℕ) (j : Json) (ms : Members) (bytes : List ℕ) → IsTextOf (object (member k j ms)) bytes
-    → IsTextOf (marked (object (member k j ms))) (marked_text bytes)
+    → IsTextOf (marked (object (member k j ms))) (marked_text false bytes)
 marked_members k j ms bytes text =
     let value = object (member k j ms) in
     let same : bytes ≡ compact_text value = text.compact ∙ sym (printed value) in
-    subst (IsTextOf (marked value)) (marked_object k j ms ∙ ap marked_text (sym same))
+    subst (IsTextOf (marked value)) (marked_object k j ms ∙ ap (marked_text false) (sym same))
     (text_of_small (marked value) (small_members (member k j ms) text.numbers)
     (omega (arith, text.nesting, flat_members (member k j ms))))
 
 pub marked_read : (value : Json) (bytes : List ℕ) → HasMember value → IsReadAs value bytes
-    → IsReadAs (marked value) (marked_text bytes)
+    → IsReadAs (marked value) (marked_text false bytes)
 marked_read value bytes (k, j, ms, is) read =
-    read_as (marked value) (marked_text bytes)
-    (subst (λ (v : Json). IsTextOf (marked v) (marked_text bytes)) (sym is)
+    read_as (marked value) (marked_text false bytes)
+    (subst (λ (v : Json). IsTextOf (marked v) (marked_text false bytes)) (sym is)
     (marked_members k j ms bytes (subst (λ (v : Json). IsTextOf v bytes) is read.text)))

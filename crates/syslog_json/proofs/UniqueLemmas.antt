@@ -1,9 +1,9 @@
 -- A line has one value.
-use Rattle.syslog_json.proofs.Names.{List, Option, Some, refl, subst, chars, Json, line_value, message_json}
+use Rattle.syslog_json.proofs.Names.{List, Option, Some, refl, subst, chars, Json, line_value}
 use Rattle.syslog_json.proofs.Names.{◌≡◌, [], ℕ, ap, inl, inr, sym, ◌∙◌, Text}
-use Rattle.std.proofs.Common.{◌++◌, ◌∷◌, ◌⊎◌, ◌≢◌, ℤ, Bool, true, false, not, None}
+use Rattle.std.proofs.Common.{◌++◌, ◌∷◌, ℤ, Bool, true, false, not, None}
 use Rattle.jiff.{specs.Types.TimeZone, specs.Words.plain_zone}
-use Rattle.syslog_loose.{specs.Message.MessageValue, specs.declared.line.Line.Line}
+use Rattle.syslog_loose.specs.declared.line.Line.{Line}
 use Rattle.syslog_loose.specs.Reading.{IncompleteDate, InYear, IsUnreadable}
 use Rattle.syslog_loose.{proofs.ReckoningLemmas.one_dating, specs.Today.IsYearIn, specs.Reckoning.dating_in}
 use Rattle.syslog_loose.{specs.Clauses.KnowsForm, specs.Visit.IsLineOf, specs.Visit.Made}
@@ -18,23 +18,18 @@ use Rattle.syslog_loose.specs.declared.variant.Variant.TheVariants.{Either}
 use Rattle.syslog_pieces.specs.StructuredData.Visited.{list_elements}
 use Rattle.syslog_lines.specs.Output.{answer_bytes, is_answered}
 use Rattle.syslog_object.{specs.Writer.HasWritten, specs.declared.writer.ObjectWriter.ObjectWriter}
-use Rattle.std.proofs.Common.{◌-◌, arith, append_assoc, codes, length, take}
+use Rattle.std.proofs.Common.{◌-◌, arith, append_assoc, length, take}
 use Rattle.std.proofs.lemmas.List.{length-append, take-append-le}
 use Rattle.std.specs.Prelude.{IsUtf8}
 use Rattle.syslog_utf8.specs.Decoded.{decoded}
 use Rattle.syslog_lines.specs.Output.{Answer, Framed, Written, Marked, Omitted, Unasked}
-use Rattle.syslog_json.proofs.MarkLemmas.{marked_read}
-use Rattle.syslog_json.specs.Marked.{HasMember, marked, marked_line, marked_output, marked_text}
-use Rattle.syslog_object.specs.Object.{Beside, refused_json}
-use Rattle.syslog_json.specs.Objects.{IsLineAnswer, IsLineRead, IsOnly, IsReadAs, IsReadJson, IsRefusedJson}
-use Rattle.syslog_json.specs.Objects.{IsValueText, answer_of}
+use Rattle.syslog_json.proofs.MarkLemmas.{IsPlain, marked_read}
+use Rattle.syslog_json.proofs.RowLemmas.{marked_row}
+use Rattle.syslog_json.specs.Marked.{HasMember, mark_text, marked, marked_line, marked_output, marked_text}
+use Rattle.syslog_json.specs.Objects.{IsLineAnswer, IsLineRead, IsOnly, IsReadJson, IsRefusedJson}
+use Rattle.syslog_json.specs.Objects.{IsOutputOf, IsValueText, answer_of}
 use Rattle.syslog_json.specs.declared.filter.Objects.{Objects}
 use Rattle.syslog_loose.proofs.ReadingLemmas as reading
-
--- the value of a message, or of a line that is none, which is not marked
-abbrev pub IsPlain : Json → Type 0
-IsPlain value = ((m : MessageValue) × (beside : Beside) × (value ≡ message_json m beside))
-    ⊎ ((line : List ℕ) × (value ≡ refused_json line))
 
 read_twice : (filter : Objects) (line : List ℕ) (value other : Json) → IsReadJson filter line value
     → IsReadJson filter line other → other ≡ value
@@ -154,57 +149,58 @@ module _ (IsText : Json → List ℕ → Type 0) (mark : List ℕ → List ℕ)
     text_marked filter false line bytes (value, only, is) =
         (value, only, marks value bytes (refused_plain filter line value only.0) is)
 
+output_marked : (csv : Bool) (value : Json) (bytes : List ℕ) → IsPlain value → IsOutputOf csv value bytes
+    → IsOutputOf csv (marked value) (marked_text csv bytes)
+output_marked false value bytes plain read = marked_read value bytes (plain_member value plain) read
+output_marked true value bytes plain row = marked_row value bytes plain row
+
 -- its text is marked where bytes were replaced
-abbrev pub marked_text_if : Bool → List ℕ → List ℕ
-marked_text_if false bytes = bytes
-marked_text_if true bytes = marked_text bytes
+abbrev pub marked_text_if : Bool → Bool → List ℕ → List ℕ
+marked_text_if csv false bytes = bytes
+marked_text_if csv true bytes = marked_text csv bytes
 
 object_marked : (filter : Objects) (is_marked is_message : Bool) (line bytes : List ℕ)
-    → IsValueText IsReadAs filter false line (answer_of is_message bytes)
-    → IsValueText IsReadAs filter is_marked line (answer_of is_message (marked_text_if is_marked bytes))
+    → IsValueText (IsOutputOf filter.csv) filter false line (answer_of is_message bytes)
+    → IsValueText (IsOutputOf filter.csv) filter is_marked line
+    (answer_of is_message (marked_text_if filter.csv is_marked bytes))
 object_marked filter false is_message line bytes object = object
 object_marked filter true is_message line bytes object =
-    text_marked IsReadAs marked_text (λ value old plain read. marked_read value old (plain_member value plain) read)
-    filter is_message line bytes object
+    text_marked (IsOutputOf filter.csv) (marked_text filter.csv) (output_marked filter.csv) filter is_message line bytes
+    object
 
-abbrev pub marked_output_if : Bool → List ℕ → List ℕ
-marked_output_if false bytes = bytes
-marked_output_if true bytes = marked_output bytes
+abbrev pub marked_output_if : Bool → Bool → List ℕ → List ℕ
+marked_output_if csv false bytes = bytes
+marked_output_if csv true bytes = marked_output csv bytes
 
-line_of_marked : (bytes : List ℕ) → marked_text bytes ++ 10 ∷ [] ≡ marked_line (bytes ++ 10 ∷ [])
-line_of_marked bytes =
+line_of_marked : (csv : Bool) (bytes : List ℕ) → marked_text csv bytes ++ 10 ∷ [] ≡ marked_line csv (bytes ++ 10 ∷ [])
+line_of_marked csv bytes =
     let size : length (bytes ++ 10 ∷ []) - 2 ≡ length bytes - 1 = omega (arith, length-append bytes (10 ∷ [])) in
     let front : take (length (bytes ++ 10 ∷ []) - 2) (bytes ++ 10 ∷ []) ≡ take (length bytes - 1) bytes =
     rw size (take-append-le (length bytes - 1) bytes (10 ∷ []) (omega arith)) in
-    append_assoc (take (length bytes - 1) bytes) (codes ",\"invalid_utf8\":true}") (10 ∷ [])
-    ∙ ap (λ (l : List ℕ). l ++ codes ",\"invalid_utf8\":true}\n") (sym front)
+    append_assoc (take (length bytes - 1) bytes) (mark_text csv) (10 ∷ [])
+    ∙ ap (λ (l : List ℕ). l ++ (mark_text csv ++ 10 ∷ [])) (sym front)
 
-is_written : (bytes : List ℕ) → marked_line (bytes ++ 10 ∷ []) ≡ marked_output (bytes ++ 10 ∷ [])
-is_written [] = refl
-is_written (byte ∷ bytes) = refl
+is_written : (csv : Bool) (bytes : List ℕ) → marked_line csv (bytes ++ 10 ∷ []) ≡ marked_output csv (bytes ++ 10 ∷ [])
+is_written csv [] = refl
+is_written csv (byte ∷ bytes) = refl
 
-same_line : (is_marked : Bool) (bytes : List ℕ)
-    → marked_text_if is_marked bytes ++ 10 ∷ [] ≡ marked_output_if is_marked (bytes ++ 10 ∷ [])
-same_line false bytes = refl
-same_line true bytes = line_of_marked bytes ∙ is_written bytes
+same_line : (csv is_marked : Bool) (bytes : List ℕ)
+    → marked_text_if csv is_marked bytes ++ 10 ∷ [] ≡ marked_output_if csv is_marked (bytes ++ 10 ∷ [])
+same_line csv false bytes = refl
+same_line csv true bytes = line_of_marked csv bytes ∙ is_written csv bytes
 
-none_written_of : (is_marked : Bool) → [] ≡ marked_output_if is_marked []
-none_written_of false = refl
-none_written_of true = refl
-
--- what is added to a line that was written
-pub mark_added : (old : List ℕ) → old ≢ [] → marked_output old ≡ marked_line old
-mark_added [] some = absurd (some refl)
-mark_added (byte ∷ bytes) some = refl
+none_written_of : (csv is_marked : Bool) → [] ≡ marked_output_if csv is_marked []
+none_written_of csv false = refl
+none_written_of csv true = refl
 
 -- what a line gives that is not UTF-8, by what the text gives that it is taken for
 pub invalid_answer : (filter : Objects) (line taken : List ℕ) (answer : Answer) → ¬ (IsUtf8 line)
-    → taken ≡ decoded filter.latin1 line → IsUtf8 taken → IsLineAnswer IsReadAs filter taken answer
-    → (other : Answer) × IsLineAnswer IsReadAs filter line other
-    × (answer_bytes other ≡ marked_output_if (not filter.latin1) (answer_bytes answer))
+    → taken ≡ decoded filter.latin1 line → IsUtf8 taken → IsLineAnswer (IsOutputOf filter.csv) filter taken answer
+    → (other : Answer) × IsLineAnswer (IsOutputOf filter.csv) filter line other
+    × (answer_bytes other ≡ marked_output_if filter.csv (not filter.latin1) (answer_bytes answer))
     × (is_answered other ≡ is_answered answer)
 invalid_answer filter line taken (Written bytes) invalid is utf8 (inl (valid, inl (asked, object))) = (
-  Written (marked_text_if (not filter.latin1) bytes),
+  Written (marked_text_if filter.csv (not filter.latin1) bytes),
   inr (
     invalid,
     inl (
@@ -212,11 +208,11 @@ invalid_answer filter line taken (Written bytes) invalid is utf8 (inl (valid, in
       object_marked filter (not filter.latin1) true (decoded filter.latin1 line) bytes (rw is at object),
     ),
   ),
-  same_line (not filter.latin1) bytes,
+  same_line filter.csv (not filter.latin1) bytes,
   refl,
 )
 invalid_answer filter line taken (Marked bytes) invalid is utf8 (inl (valid, inl (asked, object))) = (
-  Marked (marked_text_if (not filter.latin1) bytes),
+  Marked (marked_text_if filter.csv (not filter.latin1) bytes),
   inr (
     invalid,
     inl (
@@ -224,13 +220,13 @@ invalid_answer filter line taken (Marked bytes) invalid is utf8 (inl (valid, inl
       object_marked filter (not filter.latin1) false (decoded filter.latin1 line) bytes (rw is at object),
     ),
   ),
-  same_line (not filter.latin1) bytes,
+  same_line filter.csv (not filter.latin1) bytes,
   refl,
 )
 invalid_answer filter line taken Omitted invalid is utf8 (inl (valid, inr left)) =
-    (Omitted, inr (invalid, inr (rw is at left)), none_written_of (not filter.latin1), refl)
+    (Omitted, inr (invalid, inr (rw is at left)), none_written_of filter.csv (not filter.latin1), refl)
 invalid_answer filter line taken Unasked invalid is utf8 (inl (valid, inr left)) =
-    (Unasked, inr (invalid, inr (rw is at left)), none_written_of (not filter.latin1), refl)
+    (Unasked, inr (invalid, inr (rw is at left)), none_written_of filter.csv (not filter.latin1), refl)
 invalid_answer filter line taken Omitted invalid is utf8 (inl (valid, inl (asked, object))) = absurd object
 invalid_answer filter line taken Unasked invalid is utf8 (inl (valid, inl (asked, object))) = absurd object
 invalid_answer filter line taken (Framed bytes) invalid is utf8 (inl (valid, inl (asked, object))) = absurd object
@@ -239,7 +235,8 @@ invalid_answer filter line taken (Written bytes) invalid is utf8 (inl (valid, in
 invalid_answer filter line taken (Marked bytes) invalid is utf8 (inl (valid, inr left)) = absurd left
 invalid_answer filter line taken answer invalid is utf8 (inr (other, object)) = absurd (other utf8)
 
-pub marked_unless : (is_latin1 : Bool) (object old : List ℕ) → (is_latin1 ≡ false → object ≡ marked_output old)
-    → (is_latin1 ≡ true → object ≡ old) → object ≡ marked_output_if (not is_latin1) old
-marked_unless true object old replaced whole = whole refl
-marked_unless false object old replaced whole = replaced refl
+pub marked_unless : (csv is_latin1 : Bool) (object old : List ℕ)
+    → (is_latin1 ≡ false → object ≡ marked_output csv old)
+    → (is_latin1 ≡ true → object ≡ old) → object ≡ marked_output_if csv (not is_latin1) old
+marked_unless csv true object old replaced whole = whole refl
+marked_unless csv false object old replaced whole = replaced refl

@@ -22,18 +22,23 @@ abbrev pub marked_if : Bool → Json → Json
 marked_if false value = value
 marked_if true value = marked value
 
--- the text of an object that is marked, by the text of the object
-abbrev pub marked_text : List ℕ → List ℕ
-marked_text bytes = take (length bytes - 1) bytes ++ codes ",\"invalid_utf8\":true}"
+-- how the text of an object that is marked ends: its JSON, or its row of CSV, whose last cell is that of the mark
+abbrev pub mark_text : Bool → List ℕ
+mark_text false = codes ",\"invalid_utf8\":true}"
+mark_text true = codes "true\r"
+
+-- the text of an object that is marked, by the text of the object, which ends in a brace or CR
+abbrev pub marked_text : Bool → List ℕ → List ℕ
+marked_text csv bytes = take (length bytes - 1) bytes ++ mark_text csv
 
 -- the line of an object that is marked, by the line of the object
-abbrev pub marked_line : List ℕ → List ℕ
-marked_line bytes = take (length bytes - 2) bytes ++ codes ",\"invalid_utf8\":true}\n"
+abbrev pub marked_line : Bool → List ℕ → List ℕ
+marked_line csv bytes = take (length bytes - 2) bytes ++ (mark_text csv ++ 10 ∷ [])
 
 -- the same, if there is one
-abbrev pub marked_output : List ℕ → List ℕ
-marked_output [] = []
-marked_output (byte ∷ bytes) = marked_line (byte ∷ bytes)
+abbrev pub marked_output : Bool → List ℕ → List ℕ
+marked_output csv [] = []
+marked_output csv (byte ∷ bytes) = marked_line csv (byte ∷ bytes)
 
 -- the value is an object with members
 abbrev pub HasMember : Json → Type 0

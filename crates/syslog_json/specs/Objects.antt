@@ -1,6 +1,7 @@
 -- What is written for each line: this project's own choice.
-use Rattle.std.specs.Prelude.{◌≡◌, ◌⊎◌, ⊤, ℕ, Bool, true, false, not, List, Option, Some, None, MatchOption}
-use Rattle.std.specs.Prelude.{IfSome, IsSomeAnd, IsUtf8}
+use Rattle.std.specs.Prelude.{◌≡◌, ◌⊎◌, ⊤, ℕ, Bool, true, false, not, List, [], ◌∷◌, ◌++◌, Option, Some, None}
+use Rattle.std.specs.Prelude.{IfSome, IsSomeAnd, IsUtf8, MatchOption, take}
+use Rattle.std.specs.Io.KnownBytes.{Appends}
 use Rattle.std.specs.Str.{chars}
 use Rattle.syslog_pieces.specs.Pieces.Class.{Text}
 use Rattle.syslog_pieces.specs.StructuredData.Visited.{list_elements}
@@ -17,14 +18,18 @@ use Rattle.json.specs.Json.{Json}
 use Rattle.serde_json.specs.Data.{Data}
 use Rattle.serde_json.specs.Read.{of_json, read}
 use Rattle.syslog_lines.specs.Output.{Answer, AreCounts, Filter, Framed, Written, Marked, Omitted, Unasked}
-use Rattle.syslog_lines.specs.Pump.{FiltersAll}
+use Rattle.syslog_lines.specs.Pump.{EndsEarly, FiltersAll}
 use Rattle.syslog_lines.specs.declared.framing.Frames.{Frames}
 use Rattle.syslog_lines.specs.declared.summary.LineCounts.{LineCounts}
+use Rattle.syslog_lines.specs.declared.summary.RunFault.{RunFault}
+use Rattle.syslog_lines.specs.declared.summary.RunFault.TheVariants.{Write}
 use Rattle.syslog_object.specs.Object.{beside_line, message_json, refused_json}
 use Rattle.syslog_object.specs.Written.{IsTextOf}
 use Rattle.syslog_object.specs.Writer.{HasWritten}
 use Rattle.syslog_object.specs.declared.writer.ObjectWriter.{ObjectWriter}
 use Rattle.syslog_choice.specs.Chosen.{IsChosen}
+use Rattle.syslog_csv.specs.Records.{record_text}
+use Rattle.syslog_csv.specs.Rows.{IsRowOf, columns}
 use Rattle.syslog_utf8.specs.Decoded.{decoded}
 use Rattle.syslog_json.specs.Marked.{marked_if}
 use Rattle.syslog_json.specs.declared.filter.Objects.{Objects}
@@ -70,6 +75,11 @@ pub record IsReadAs (value : Json) (bytes : List ℕ) : Type 0 where
   pub made : of_json value ≡ Some own
   pub read_back : read bytes ≡ Some own
 
+-- the bytes are what is written of the value: a row of CSV where that is asked for, and its JSON otherwise
+abbrev pub IsOutputOf : Bool → Json → List ℕ → Type 0
+IsOutputOf true value bytes = IsRowOf value bytes
+IsOutputOf false value bytes = IsReadAs value bytes
+
 -- what the filter writes for a text: that of its only value, which may be marked; one that is no message counts as
 -- skipped
 abbrev pub IsValueText : (Json → List ℕ → Type 0) → Objects → Bool → List ℕ → Answer → Type 0
@@ -106,14 +116,29 @@ IsLineAnswer IsText filter line answer = (IsUtf8 line × IsTextAnswer IsText fil
 
 -- memory may be wanted for any line
 abbrev pub objects : Objects → Filter
-objects filter = record { Answers = IsLineAnswer IsReadAs filter; Wants = λ line. ⊤ }
+objects filter = record { Answers = IsLineAnswer (IsOutputOf filter.csv) filter; Wants = λ line. ⊤ }
 
--- all was read, the text of each line's value was written, and the lines were counted
+-- what is written before the first line: the header, where rows of CSV are asked for
+abbrev pub head_text : Bool → List ℕ
+head_text true = record_text columns ++ (13 ∷ 10 ∷ [])
+head_text false = []
+
+-- all was read, the header and the text of each line's value were written, and the lines were counted
 abbrev pub WritesObjects : Frames → Objects → Option (List ℕ) → Option (List ℕ) → Option (List ℕ) → Option (List ℕ)
     → LineCounts → Type 0
-WritesObjects frames filter in_before in_after out_before out_after counts = (answers : List Answer)
-    × (all : FiltersAll frames (objects filter) in_before in_after out_before out_after answers)
-    × AreCounts frames filter.latin1 all.lines answers counts
+WritesObjects frames filter in_before in_after out_before out_after counts = (begun : Option (List ℕ))
+    × Appends out_before begun (head_text filter.csv) × ((answers : List Answer)
+    × (all : FiltersAll frames (objects filter) in_before in_after begun out_after answers)
+    × AreCounts frames filter.latin1 all.lines answers counts)
+
+-- what was written ends early: nothing was read and the header was cut, or lines were read after it
+abbrev pub StopsEarly : Frames → Objects → Option (List ℕ) → Option (List ℕ) → Option (List ℕ) → Option (List ℕ)
+    → RunFault → Type 0
+StopsEarly frames filter in_before in_after out_before out_after fault =
+    ((fault ≡ Write) × (in_after ≡ in_before) × ((size : ℕ)
+    × Appends out_before out_after (take size (head_text filter.csv))))
+    ⊎ ((begun : Option (List ℕ)) × Appends out_before begun (head_text filter.csv)
+    × EndsEarly frames (objects filter) in_before in_after begun out_after fault)
 
 -- the line as which the text is read was returned, the writer was given its elements, and the line leaves what the text
 -- does; or the text is no message
@@ -129,6 +154,12 @@ IsLineRead filter text result writer = MatchOption result
 abbrev pub answer_of : Bool → List ℕ → Answer
 answer_of true bytes = Written bytes
 answer_of false bytes = Marked bytes
+
+-- the bytes are the row of the line's message
+abbrev pub IsMessageRow : Objects → List ℕ → SentLine → List ℕ → Type 0
+IsMessageRow filter line it bytes = (unparsed : Text) × IsLeftUnparsed it.line unparsed
+    × IsRowOf (message_json (line_value it.line)
+    (beside_line (dialect_text it.dialect) unparsed (raw_text filter.raw (chars line)))) bytes
 
 -- what the filter gives for a line that is not written, by what the line counts as
 abbrev pub unwritten : Bool → Answer

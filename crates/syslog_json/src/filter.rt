@@ -1,15 +1,16 @@
-//! The filter that writes each line as JSON.
-ghost use Rattle.std.specs.Prelude.{◌≡◌, ◌++◌, [], List, ℕ, false, IfErr, IfOk, OnErr, OnOk};
+//! The filter that writes the object of each line, as JSON or as a row of CSV.
+ghost use Rattle.std.specs.Prelude.{◌≡◌, ◌++◌, ◌∷◌, [], List, ℕ, false, IfErr, IfOk, OnErr, OnOk};
 ghost use Rattle.std.specs.Str.{chars};
 ghost use Rattle.syslog_loose.specs.Today.{IsYearIn};
-ghost use Rattle.syslog_lines.specs.Pump.{EndsEarly, FailedAs};
+ghost use Rattle.syslog_lines.specs.Pump.{FailedAs};
 ghost use Rattle.syslog_object.specs.Object.{refused_json};
 ghost use Rattle.syslog_object.specs.Writer.{HasWritten};
 ghost use Rattle.syslog_object.specs.Written.{IsTextOf};
-ghost use Rattle.syslog_json.specs.Marked.{marked_output};
-ghost use Rattle.syslog_json.specs.Objects.{IsLineRead, IsReadAs, IsValueText, WritesObjects, answer_of};
-ghost use Rattle.syslog_json.specs.Objects.{objects};
+ghost use Rattle.syslog_json.specs.Marked.{mark_text, marked_output};
+ghost use Rattle.syslog_json.specs.Objects.{IsLineRead, IsOutputOf, IsValueText, StopsEarly, WritesObjects};
+ghost use Rattle.syslog_json.specs.Objects.{answer_of, objects};
 
+use crate::rows::write_refused_row;
 use std::alloc::{AllocError, Global};
 use std::io::{Read, Write};
 use std::mem;
@@ -25,6 +26,10 @@ use syslog_utf8::decode;
 /// that has the line and `"refused":true`. A line is read in the dialect that it is in, and its dates are completed by
 /// `dates`. A line that is longer than `frames` allows is only counted. No object has a byte below 32. If messages are
 /// chosen, no other line is written, but each is counted.
+///
+/// If the filter writes CSV, the header of the table comes first, also if there is no line. Then each object is written
+/// as a row, which ends in CR and a line feed. A cell has the text that the object has at the key of its column, the
+/// JSON of another value, and nothing if the key is absent.
 ///
 /// The output of each block of input is written before more is read, and the writer is flushed at the end. A call that
 /// failed is not repeated. It allocates a block of input, its output, and the longest line and its object.
@@ -45,18 +50,21 @@ pub fn write_objects<R: Read, W: Write>(
     ensures ok { IfOk result (λ counts. WritesObjects frames filter.entry.now (R.remaining reader.old.inner)
         (R.remaining reader.new.inner)
         (W.contents writer.old.inner) (W.contents writer.new.inner) counts) }
-    ensures err { IfErr result (λ fault. EndsEarly frames (objects filter.entry.now) (R.remaining reader.old.inner)
+    ensures err { IfErr result (λ fault. StopsEarly frames filter.entry.now (R.remaining reader.old.inner)
         (R.remaining reader.new.inner)
         (W.contents writer.old.inner) (W.contents writer.new.inner) fault) }
     ensures failed { FailedAs result reader.new.failed writer.new.failed }
 {
+    writer.write_whole(filter.head())?;
     let tally = pump(alloc, frames, filter, reader, writer)?;
     Ok(tally.counts(filter.latin1))
 }
 
-/// The filter that writes each line as a JSON object.
+/// The filter that writes the object of each line.
 #[derive(Drop)]
 pub struct Objects<'a> {
+    /// Whether an object is written as a row of CSV. Otherwise it is written as JSON.
+    pub csv: bool,
     /// Whether the object of a message also has the line as it came.
     pub raw: bool,
     /// Whether a line is read in a dialect that it is in.
@@ -94,8 +102,8 @@ impl Objects<'_> {
         }
     }
 
-    // Adds the object of the line, or nothing if an allocation fails. Returns the memory that was used, and whether the
-    // line is a message.
+    // Adds the output of the line without its line feed, or nothing if an allocation fails. Returns the memory that was
+    // used, and whether the line is a message.
     #[inline(always)]
     fn write_line(
         &self,
@@ -104,8 +112,8 @@ impl Objects<'_> {
         memory: Vec<u8>,
         output: &mut Vec<u8>,
     ) -> Result<(Vec<u8>, bool), AllocError>
-        ensures ok { IfOk result (λ x. (bytes : List ℕ) × IsValueText IsReadAs self.now false line.now
-            (answer_of x.1 bytes)
+        ensures ok { IfOk result (λ x. (bytes : List ℕ)
+            × IsValueText (IsOutputOf self.now.csv) self.now false line.now (answer_of x.1 bytes)
             × (output.new.items ≡ output.old.items ++ bytes)) }
         ensures err { OnErr result (output.new.items ≡ output.old.items) }
     {
@@ -113,16 +121,28 @@ impl Objects<'_> {
         let raw = self.raw.then_some(line);
         match self.read(line, &mut writer) {
             Some(found) => {
+                if self.csv {
+                    let memory = self.write_row(alloc, line, &found, writer, output)?;
+                    return Ok((memory, true));
+                }
                 let dialect = found.dialect_name();
                 writer.write(&found.line, dialect, raw, output)?;
                 Ok((writer.into_memory(), true))
             }
-            None => Ok((write_refused(writer.into_memory(), line, output)?, false)),
+            None => {
+                let memory = writer.into_memory();
+                if self.csv {
+                    write_refused_row(alloc, line, output)?;
+                    return Ok((memory, false));
+                }
+                Ok((write_refused(memory, line, output)?, false))
+            }
         }
     }
 }
 
-// Adds the object of a line that is no message, or nothing if an allocation fails. Returns the memory that was used.
+// Adds the JSON object of a line that is no message, or nothing if an allocation fails. Returns the memory that was
+// used.
 fn write_refused(memory: Vec<u8>, line: &str, output: &mut Vec<u8>) -> Result<Vec<u8>, AllocError>
     ensures ok { IfOk result (λ _. (bytes : List ℕ) × IsTextOf (refused_json line.now) bytes
         × (output.new.items ≡ output.old.items ++ bytes)) }
@@ -169,22 +189,33 @@ impl LineFilter for Objects<'_> {
         // (by a second call of `write_line` each line of UTF-8 would take a tenth more instructions)
         let is_message = self.filter_line(alloc, text.as_str(), &mut spare, &mut object)?;
         if !self.latin1 {
-            mark(&mut object)?;
+            mark(self.csv, &mut object)?;
         }
         output.extend_from_slice(object.as_slice())?;
         Ok(is_message)
     }
 }
 
-// Adds `"invalid_utf8":true` at the end of the line of an object that has a member, if it was written.
-fn mark(object: &mut Vec<u8>) -> Result<(), AllocError>
-    ensures { OnOk result (object.new.items ≡ marked_output object.old.items) }
+// Says at the end of an object's line, or in the last cell of its row, that its line is not UTF-8, if it was written.
+fn mark(csv: bool, object: &mut Vec<u8>) -> Result<(), AllocError>
+    ensures { OnOk result (object.new.items ≡ marked_output csv object.old.items) }
 {
     if object.is_empty() {
         return Ok(());
     }
     object.truncate(object.len().saturating_sub(2));
-    object.extend_from_slice(b",\"invalid_utf8\":true}\n")
+    object.extend_from_slice(mark_line(csv))
+}
+
+// Returns what replaces the last byte and the line feed of an object or a row that is marked.
+fn mark_line(csv: bool) -> &'static [u8]
+    ensures { result.now ≡ mark_text csv ++ (10 ∷ []) }
+{
+    if csv {
+        b"true\r\n"
+    } else {
+        b",\"invalid_utf8\":true}\n"
+    }
 }
 
 // Gives the memory of a text back.

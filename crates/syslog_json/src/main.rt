@@ -4,12 +4,13 @@
 //! `{"protocol":"RFC3164","facility":"auth","facility_code":4,"severity":"crit","severity_code":2,`
 //! `"timestamp":"2019-10-11T22:14:15+00:00","hostname":"mymachine","appname":"app","procid":"323",`
 //! `"message":"a message"}`. A line that is no message is written as `{"message":"..","refused":true}`, so that no line
-//! is lost.
+//! is lost. With `--csv` each object is a row of CSV.
 #![tactic(auto)]
 
 mod apart;
 mod filter;
 mod report;
+mod rows;
 
 use filter::{Objects, write_objects};
 use report::{HELP, USAGE};
@@ -21,7 +22,8 @@ use syslog_lines::{Frames, Watched};
 use syslog_loose::VERSION;
 
 // The flags of this program.
-const FLAGS: [Flag; 11] = [
+const FLAGS: [Flag; 12] = [
+    Flag::Csv,
     Flag::Raw,
     Flag::NoDialects,
     Flag::Latin1,
@@ -35,7 +37,7 @@ const FLAGS: [Flag; 11] = [
     Flag::App,
 ];
 
-// Writes the lines of standard input as JSON, and then returns the exit status.
+// Writes the lines of standard input as JSON or as CSV, and then returns the exit status.
 fn filter_input(rt: &HostRuntime, frames: Frames, filter: &Objects<'_>) -> u8 {
     let mut reader = Watched::new(rt.stdin());
     let mut writer = Watched::new(rt.stdout());
@@ -68,6 +70,7 @@ fn run(rt: &HostRuntime, words: &[String]) -> u8 {
             let frames = Frames::messages(options.framing, options.max_line);
             let choice = choice_of(&options);
             let filter = Objects {
+                csv: options.csv,
                 raw: options.raw,
                 dialects: options.dialects,
                 latin1: options.latin1,

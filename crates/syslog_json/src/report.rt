@@ -21,6 +21,8 @@ is not UTF-8 is read with U+FFFD for what is not, and has \"invalid_utf8\": true
   YEAR-MONTH-DAY   the day that it is now: such a date is of the last year in
                    which it is that day, the day after or an earlier one
 Options, in any order, each at most once:
+  --csv            writes a table of CSV: a header, and each object as a row, with
+                   an empty cell for a key that it lacks
   --offset OFFSET  the zone of dates that show none, +HH:MM or -HH:MM; it is
                    UTC without this and --zone
   --zone RULE      the same, in place of --offset, by a POSIX rule, as
