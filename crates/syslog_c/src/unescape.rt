@@ -1,15 +1,14 @@
 //! The value of a parameter without its escapes, in a buffer of the caller's.
-ghost use Rattle.std.specs.Prelude.{[], ◌∷◌};
 ghost use Rattle.std.specs.Str.{chars};
 ghost use Rattle.syslog_pieces.specs.Pieces.Class.{Text};
-ghost use Rattle.syslog_pieces.specs.StructuredData.Escapes.{IsUnescaped, pair_meaning};
+ghost use Rattle.syslog_pieces.specs.StructuredData.Escapes.{IsUnescaped};
 ghost use Rattle.syslog_c.specs.Outcome.{IsCodeOf};
 ghost use Rattle.syslog_c.specs.Room.{TakesText};
 ghost use Rattle.syslog_c.specs.Texts.{Unescaped};
 
 use crate::outcome::Outcome;
 use crate::room::Buffer;
-use syslog_pieces::text::{CharClass, first, split_run};
+use syslog_pieces::structured_data::next_unescaped;
 use syslog_utf8::from_utf8;
 
 /// Writes the value with its escapes removed to the front of `room`, and its length in bytes to `needed`. If it is
@@ -37,38 +36,11 @@ fn push_unescaped(buffer: &mut Buffer<'_>, value: &str)
     ensures { (unescaped : Text) × IsUnescaped (chars value.now) unescaped × TakesText buffer.old unescaped buffer.new }
 {
     let mut rest = value;
-    'units: loop {
-        let (run, after) = split_run(rest, CharClass::Bare);
-        buffer.push(run);
-        let Some((_, pair)) = first(after) else {
+    'texts: loop {
+        let Some((text, after)) = next_unescaped(rest) else {
             return;
         };
-        let Some((c, next)) = first(pair) else {
-            return;
-        };
-        push_meaning(buffer, c);
-        rest = next;
+        buffer.push(text);
+        rest = after;
     }
-}
-
-// Writes what a backslash and this character mean.
-fn push_meaning(buffer: &mut Buffer<'_>, c: char)
-    ensures { TakesText buffer.old (pair_meaning c) buffer.new }
-{
-    if c == 'n' {
-        return push_char(buffer, '\n');
-    }
-    if c == '\\' || (c == '"' || c == ']') {
-        return push_char(buffer, c);
-    }
-    push_char(buffer, '\\');
-    push_char(buffer, c)
-}
-
-// Writes a character. It is a function of its own, since a buffer takes a text: the character is encoded first.
-fn push_char(buffer: &mut Buffer<'_>, c: char)
-    ensures { TakesText buffer.old (c ∷ []) buffer.new }
-{
-    let mut bytes = [0u8; 4];
-    buffer.push(c.encode_utf8(&mut bytes));
 }

@@ -24,7 +24,7 @@ mod walk;
 
 use crate::as_str::AsStr;
 pub use collect::Collect;
-pub use escapes::unescape;
+pub use escapes::{next_unescaped, unescape};
 pub use few_params::FewParams;
 pub use line_list::{visit_forgiving_list, visit_rfc3164_list};
 pub use params::ParamsIter;

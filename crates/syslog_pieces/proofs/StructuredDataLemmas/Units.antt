@@ -4,7 +4,7 @@ use Rattle.syslog_pieces.proofs.Names.{◌≢◌, inl, inr, ◌∷◌, sym, Text
 use Rattle.syslog_pieces.proofs.Names.{ℕ, eqb_tells, nat_tests, unit_text, SplitsRun, param_row, map-append, one_answer}
 use Rattle.syslog_pieces.proofs.Names.{false, Result, IsUtf8, single, String, Option, Values, exactly, element, all_map}
 use Rattle.syslog_pieces.proofs.Names.{[], element_row, elements_or, length-drop, param_value, param_count, same_params}
-use Rattle.syslog_pieces.proofs.Names.{ap, ◌∙◌, Err, Ok, ◌↔◌, Bor, Row, run, ◌+◌, ◌<◌, map, ◌-◌}
+use Rattle.syslog_pieces.proofs.Names.{ap, chars-nil, ◌∙◌, Err, Ok, ◌↔◌, Bor, Row, run, ◌+◌, ◌<◌, map, ◌-◌}
 use Rattle.syslog_pieces.proofs.Names.{subst, mapped, IsMany, IsMore, IsList, strict, ◌also◌, length, get_or, nat_eq}
 use Rattle.syslog_pieces.proofs.Names.{append_assoc, append-nil, chars-append, is_name_char, ElementValue, full_element}
 use Rattle.syslog_pieces.proofs.Names.{flat_map, TextUnit, some_run, optional, forgiving, param_of, is_blank, take_more}
@@ -16,7 +16,7 @@ use Rattle.std.specs.Global.{Global}
 use Rattle.std.specs.Iterator.{Drains}
 use Rattle.std.specs.declared.alloc.AllocError.{AllocError}
 use Rattle.syslog_pieces.specs.StructuredData.Escapes.{IsUnit, IsUnquoted, lone_backslash, SplitsUnits, is_escaped}
-use Rattle.syslog_pieces.specs.StructuredData.Escapes.{pair_meaning, unit_meaning}
+use Rattle.syslog_pieces.specs.StructuredData.Escapes.{MeansFirst, pair_meaning, unit_meaning}
 use Rattle.syslog_pieces.specs.StructuredData.Params.{NextParam, AreParamItems}
 use Rattle.syslog_pieces.specs.Pieces.Parts.{IsPart}
 use Rattle.syslog_pieces.specs.StructuredData.EqualLaws.{Param, param_eq-same, counts_agree-at, counts_agree-from}
@@ -145,12 +145,23 @@ value_split text = (λ v. let t = each_piece v.0 v.2 in
     (v.0, record { whole = v.1 ∙ sym (append-nil (flat_map unit_text v.0)); each = t.0 }, t.1))
     also (λ s. (s.0, s.1.whole ∙ append-nil (flat_map unit_text s.0), each_unit s.0 s.1.each s.2))
 
--- ---- reading units one after the other: with what the rest means, what was read means that of the text
-pub record Removes (text out rest : Text) : Type 0 where
-  pub on : (w : Text) → IsUnescaped rest w → IsUnescaped text (out ++ w)
+-- ---- the text without its escapes, front by front
 
-pub removes_here : (t : Text) (out : Text) → out ≡ [] → Removes t out t
-removes_here t out e = record { on = λ w i. rw e i }
+pub means_here : (t : Text) (out : Text) → out ≡ [] → MeansFirst t out t
+means_here t out e = record { on = λ w i. rw e i }
+
+-- what was taken of a text, and then a front of its rest
+pub means_more : {t r r' out front out' : Text} → MeansFirst t out r → MeansFirst r front r' → out' ≡ out ++ front
+    → MeansFirst t out' r'
+means_more {front = front} m n e = record { on = λ w i. rw (e, append_assoc) (m.on (front ++ w) (n.on w i)) }
+
+-- all that it means was taken
+pub means_all : {t r out : Text} → MeansFirst t out r → IsUnescaped r [] → IsUnescaped t out
+means_all m i = rw append-nil at (m.on [] i)
+
+means_nothing : {t : Text} (lone : Bool) → t ≡ lone_backslash lone → IsUnescaped t []
+means_nothing lone e =
+    record { units = []; lone = lone; split = record { whole = e; each = tt }; means = refl }
 
 bare_is : (c : ℕ) → is_bare_char c ≡ true → c ≢ 92
 bare_is c e = grind (arith, nat_tests)
@@ -162,32 +173,50 @@ unescaped_run : (xs t w : Text) → Each is_bare_char xs → IsUnescaped t w →
 unescaped_run [] t w h i = i
 unescaped_run (c ∷ xs) t w h i = unescaped_on (single c) (bare_is c h.0) (unescaped_run xs t w h.1 i)
 
-module _ {t bs xs ys out out' : Text} (s : SplitsRun is_bare_char bs xs ys) (r : Removes t out (chars bs))
-    (f : out' ≡ out ++ chars xs) where
-  pub removes_run : Removes t out' (chars ys)
-  removes_run = record {
-    on = λ w i. rw (f, append_assoc) (r.on (chars xs ++ w)
-        (rw s.characters (unescaped_run (chars xs) (chars ys) w s.each i)));
-  }
+-- what a text means that begins with a character which is no backslash
+single_first : (d : ℕ) (q w : Text) → d ≢ 92 → IsUnescaped (d ∷ q) w
+    → (v : Text) × IsUnescaped q v × (w ≡ d ∷ v)
+single_first d q w n i =
+    let (us, lone, s) = split_there q in
+    let j : IsUnescaped q (flat_map unit_meaning us) =
+    record { units = us; lone = lone; split = s; means = refl } in
+    (flat_map unit_meaning us, j, unescaped_one (d ∷ q) w _ i (unescaped_on (single d) n j))
 
-  -- what is after the run begins with a backslash
-  pub backslash : (c : ℕ) (q w : Text) → chars ys ≡ c ∷ q → q ≡ w → chars ys ≡ 92 ∷ w
-  backslash c q w e g = let b = bare_not c (subst (λ (x : Text). Ends is_bare_char x) e s.ends) in cc
+module _ {bs xs ys : List ℕ} (s : SplitsRun is_bare_char bs xs ys) where
+  pub means_run : MeansFirst (chars bs) (chars xs) (chars ys)
+  means_run = record { on = λ w i. rw s.characters (unescaped_run (chars xs) (chars ys) w s.each i) }
 
-  pub removes_end : (lone : Bool) → chars ys ≡ lone_backslash lone → IsUnescaped t out'
-  removes_end lone e = rw append-nil at (removes_run.on [] (record {
-    units = [];
-    lone = lone;
-    split = record { whole = e; each = tt };
-    means = refl;
-  }))
+  module _ (none : xs ≡ []) where
+    no_run : chars bs ≡ chars ys
+    no_run = s.characters ∙ ap (λ (x : List ℕ). chars x ++ chars ys) none
+        ∙ ap (λ (x : Text). x ++ chars ys) chars-nil
 
-  pub removes_pair : (c d : ℕ) (q q' out'' : Text) → chars ys ≡ c ∷ q → q ≡ d ∷ q' → out'' ≡ out' ++ pair_meaning d
-      → Removes t out'' q'
-  removes_pair c d q q' out'' e g h = record {
-    on = λ w i. rw (h, append_assoc) (removes_run.on (pair_meaning d ++ w)
-        (rw (backslash c q (d ∷ q') e g) (unescaped_on (pair d) tt i)));
-  }
+    pub means_no_text : chars ys ≡ [] → IsUnescaped (chars bs) []
+    means_no_text e = means_nothing false (no_run ∙ e)
+
+    module _ {c : ℕ} {q : Text} (e : chars ys ≡ c ∷ q) where
+      -- what is after the run begins with a backslash
+      backslash : chars bs ≡ 92 ∷ q
+      backslash = let b = bare_not c (subst (λ (x : Text). Ends is_bare_char x) e s.ends) in
+          no_run ∙ e ∙ ap (λ (d : ℕ). d ∷ q) b
+
+      pub means_lone : q ≡ [] → IsUnescaped (chars bs) []
+      means_lone f = means_nothing true (backslash ∙ ap (λ (x : Text). 92 ∷ x) f)
+
+      module _ {d : ℕ} {q' : Text} (f : q ≡ d ∷ q') where
+        whole : chars bs ≡ 92 ∷ d ∷ q'
+        whole = backslash ∙ ap (λ (x : Text). 92 ∷ x) f
+
+        pub means_pair : {front : Text} → front ≡ pair_meaning d → MeansFirst (chars bs) front q'
+        means_pair g = record { on = λ w i. rw (whole, g) (unescaped_on (pair d) tt i) }
+
+        pub means_itself : {front : Text} → pair_meaning d ≡ 92 ∷ d ∷ [] → d ≢ 92 → front ≡ 92 ∷ []
+            → MeansFirst (chars bs) front q
+        means_itself m n g = record {
+          on = λ w i.
+              let (v, j, h) = single_first d q' w n (subst (λ (x : Text). IsUnescaped x w) f i) in
+              rw (whole, g, h) (rw m at (unescaped_on (pair d) tt j));
+        }
 
 -- ---- what an iterator over parameters gives in all
 pub param_items_drained : {S : Type 0} (bytes : S → List ℕ) (params : List (S × S)) (items : List (Result (Bor S ×

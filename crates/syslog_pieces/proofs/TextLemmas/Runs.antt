@@ -191,6 +191,23 @@ pub after_two : {test : ℕ → Bool} {bs xs ys : List ℕ} {c d : ℕ} {q r : T
 after_two {xs = xs} {ys = ys} s e f =
     omega (arith, ap length s.characters, length-append (chars xs) (chars ys), ap length e, ap length f)
 
+-- what follows one character after a run is shorter than the text
+pub after_one : {test : ℕ → Bool} {bs xs ys : List ℕ} {c : ℕ} {q : Text} → SplitsRun test bs xs ys → chars ys ≡ c ∷ q
+    → length q < length (chars bs)
+after_one {xs = xs} {ys = ys} s e =
+    omega (arith, ap length s.characters, length-append (chars xs) (chars ys), ap length e)
+
+-- what follows a run that is not empty is shorter than the text
+pub after_run : {test : ℕ → Bool} {bs xs ys : List ℕ} → SplitsRun test bs xs ys → 0 < length xs
+    → length (chars ys) < length (chars bs)
+after_run {xs = xs} {ys = ys} s more =
+    let some = chars_nonempty xs s.front_utf8 more in
+    omega (arith, some, ap length s.characters, length-append (chars xs) (chars ys))
+
+-- a text that is one ASCII character
+pub char_alone : (c : ℕ) → c < 128 → chars (c ∷ []) ≡ c ∷ []
+char_alone c low = chars-IsAscii (c ∷ []) (one_ascii c low)
+
 -- ---- a run of ASCII bytes
 
 each_by_place : (h : ℕ → Bool) (bs : List ℕ) → ((k : ℕ) → k < length bs → h (get_or bs k 0) ≡ true) → Each h bs

@@ -53,6 +53,10 @@ pub record IsUnescaped (text unescaped : Text) : Type 0 where
   pub split : SplitsUnits text units lone
   pub means : unescaped ≡ flat_map unit_meaning units
 
+-- without its escapes the text is this front, and then the rest without its escapes
+pub record MeansFirst (text front rest : Text) : Type 0 where
+  pub on : (unescaped : Text) → IsUnescaped rest unescaped → IsUnescaped text (front ++ unescaped)
+
 -- a character, after a backslash where it is escaped
 abbrev pub escaped_char : ℕ → Text
 escaped_char c = if is_escaped c then 92 ∷ c ∷ [] else c ∷ []

@@ -1,56 +1,64 @@
 //! The removal of escapes from a value.
-ghost use Rattle.std.specs.Prelude.{◌≡◌, ◌++◌, [], ◌∷◌, IfOk, string_bytes, chars};
-ghost use Rattle.syslog_pieces.specs.StructuredData.Escapes.{pair_meaning, IsUnescaped};
+//!
+//! **Rule.** `\n` gives a line feed; `\"`, `\]` and `\\` give their second character. Any other pair stays, and a lone
+//! last backslash is dropped. (RFC 5424 section 6.3.3; the line feed and the lone backslash are the Rust crate's rule.)
+ghost use Rattle.std.specs.Prelude.{◌≡◌, ◌≢◌, ◌++◌, [], ◌∷◌, ◌<◌, length, IfOk, MatchOption, string_bytes, chars};
+ghost use Rattle.syslog_pieces.specs.Words.{shown};
+ghost use Rattle.syslog_pieces.specs.StructuredData.Escapes.{pair_meaning, IsUnescaped, MeansFirst};
 
 use crate::text::{CharClass, first, split_run};
 use std::alloc::{AllocError, Global};
 
-// Appends a character. It and `push_pair` are functions of their own, so that their clauses speak of characters where
-// `push` and `push_str` speak of bytes.
-fn push_char(out: &mut String, c: char) -> Result<(), AllocError>
-    ensures { IfOk result (λ _. chars (string_bytes out.new) ≡ chars (string_bytes out.old) ++ (c ∷ [])) }
+// Returns what a backslash and this character mean; none if they mean themselves.
+fn meaning(c: char) -> Option<&'static str>
+    ensures { MatchOption result ((pair_meaning c ≡ 92 ∷ c ∷ []) × (c ≢ 92)) (λ text. chars text.now ≡ pair_meaning c) }
 {
-    out.push(c)
+    match c {
+        'n' => Some("\n"),
+        '"' => Some("\""),
+        '\\' => Some("\\"),
+        ']' => Some("]"),
+        _ => None,
+    }
 }
 
+/// Returns the first text of a value with its escapes removed, and the rest of the value, whose own text comes after
+/// it; none if the value has no text, because it is empty or a lone backslash. It does not allocate.
+pub fn next_unescaped(value: &str) -> Option<(&str, &str)>
+    ensures { MatchOption result (IsUnescaped (chars value.now) [])
+        (λ x. MeansFirst (chars value.now) (shown x.0) (shown x.1) × (length (shown x.1) < length (chars value.now))) }
+{
+    let (run, pair) = split_run(value, CharClass::Bare);
+    if !run.is_empty() {
+        return Some((run, pair));
+    }
+    let (_, escaped) = first(pair)?;
+    let (c, rest) = first(escaped)?;
+    match meaning(c) {
+        Some(text) => Some((text, rest)),
+        None => Some(("\\", escaped)),
+    }
+}
+
+// Appends a text. It is a function of its own, so that its clause speaks of characters where `push_str` speaks of
+// bytes.
 fn push_text(out: &mut String, text: &str) -> Result<(), AllocError>
     ensures { IfOk result (λ _. chars (string_bytes out.new) ≡ chars (string_bytes out.old) ++ chars text.now) }
 {
     out.push_str(text)
 }
 
-// Appends what a backslash and this character mean.
-fn push_pair(out: &mut String, c: char) -> Result<(), AllocError>
-    ensures { IfOk result (λ _. chars (string_bytes out.new) ≡ chars (string_bytes out.old) ++ pair_meaning c) }
-{
-    if c == 'n' {
-        return push_char(out, '\n');
-    }
-    if c == '\\' || (c == '"' || c == ']') {
-        return push_char(out, c);
-    }
-    push_char(out, '\\')?;
-    push_char(out, c)
-}
-
-/// Returns the value of a parameter with its escapes removed. `\n` gives a line feed; `\"`, `\]` and `\\` give their
-/// second character. Any other pair stays, and a lone last backslash is dropped. (RFC 5424 section 6.3.3; the line feed
-/// and the lone backslash are the Rust crate's rule.) It fails only if an allocation does.
+/// Returns the value of a parameter with its escapes removed. It fails only if an allocation does.
 pub fn unescape(alloc: Global, value: &str) -> Result<String, AllocError>
     ensures { IfOk result (λ unescaped. IsUnescaped (chars value.now) (chars (string_bytes unescaped))) }
 {
     let mut out = String::new(alloc);
     let mut rest = value;
-    'units: loop {
-        let (run, after) = split_run(rest, CharClass::Bare);
-        push_text(&mut out, run)?;
-        let Some((_, more)) = first(after) else {
+    'texts: loop {
+        let Some((text, after)) = next_unescaped(rest) else {
             return Ok(out);
         };
-        let Some((c, next)) = first(more) else {
-            return Ok(out);
-        };
-        push_pair(&mut out, c)?;
-        rest = next;
+        push_text(&mut out, text)?;
+        rest = after;
     }
 }
