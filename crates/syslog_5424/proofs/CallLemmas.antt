@@ -19,8 +19,9 @@ use Rattle.syslog_loose.specs.declared.fault.ParseFault.{ParseFault}
 use Rattle.syslog_loose.specs.declared.fault.ParseFault.TheVariants.{Invalid}
 use Rattle.syslog_loose.specs.declared.variant.Variant.TheVariants.{Either}
 use Rattle.syslog_lines.specs.Output.{AddsAnswer}
-use Rattle.syslog_strict.proofs.SentLaws.{read_not_unsent}
-use Rattle.syslog_strict.specs.{Call.Copies, Call.NoSyslogMsg, Grammar.IsSyslogMsg, Sent.ConvertsSent, Sent.IsSentText}
+use Rattle.syslog_strict.specs.{Call.Copies, Call.NoSyslogMsg, Grammar.IsSyslogMsg}
+use Rattle.syslog_strict_sent.proofs.ConvertLemmas.{read_not_unsent}
+use Rattle.syslog_strict_sent.specs.Converted.{ConvertsSent, IsSentText}
 use Rattle.syslog_utf8.specs.Decoded.{decoded}
 use Rattle.syslog_5424.specs.Conversions.{IsAskedFor, IsRefused, IsWritten, conversions}
 use Rattle.syslog_5424.specs.declared.filter.Conversions.{Conversions}

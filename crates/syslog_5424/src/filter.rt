@@ -14,7 +14,7 @@ use syslog_choice::{Choice, sent_apart};
 use syslog_lines::pump::pump;
 use syslog_lines::{Frames, Framing, LineCounts, LineFilter, RunFault, Watched, push_frame};
 use syslog_loose::{Dates, ParseFault, Variant};
-use syslog_strict::to_rfc5424_sent;
+use syslog_strict_sent::to_rfc5424_sent;
 use syslog_utf8::decode;
 
 /// Reads lines to the end of the input, and writes each as RFC 5424: a line that is in the grammar as it came, and

@@ -3,7 +3,6 @@ pub mod ElementLemmas
 pub mod GrammarLemmas
 pub mod NameLaws
 pub mod Words
-pub mod SentLaws
 pub mod StampLemmas
 pub mod TextLemmas
 pub mod ValidLemmas

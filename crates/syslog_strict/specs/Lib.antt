@@ -4,5 +4,4 @@ pub mod Grammar
 pub mod Ids
 pub mod Joined
 pub mod Pushing
-pub mod Sent
 pub mod Value

@@ -36,14 +36,14 @@ pub fn to_rfc5424_into<F: FnOnce(IncompleteDate) -> i32>(
         Converts variant (dating_of year tz.entry local.entry) (chars input.entry.now) result (text_in text.new)) }
 {
     if is_syslog_msg(alloc, input) {
-        return copy(text, input);
+        return copy_text(text, input);
     }
     convert(alloc, text, input, get_year, tz, variant, local)
 }
 
-/// Copies the text into `text`.
+/// Replaces `text` by a copy of the input. It fails only if an allocation does.
 #[inline(always)]
-pub(crate) fn copy(text: &mut String, input: &str) -> Result<(), ParseFault>
+pub fn copy_text(text: &mut String, input: &str) -> Result<(), ParseFault>
     ensures { MatchResult result (λ _. text_in text.new ≡ chars input.now) (λ fault. fault ≡ Memory) }
 {
     text.clear();

@@ -101,10 +101,13 @@ fn write_line<const IS_APART: bool>(
     push_msg(text, unparsed, line.msg)
 }
 
-/// Replaces `text` by the converted message of the line. What it calls has two copies, one for the lines that are
-/// written apart, since with two callers it would be compiled into neither.
+/// Replaces `text` by the converted message of the line, with what was left unparsed of its structured data before the
+/// message part. It fails only if an allocation does, and `text` may then hold anything.
+///
+/// What it calls is compiled once for each value of `IS_APART`: a caller that has a rare second call passes `true`
+/// there, since with two callers it would be compiled into neither.
 #[inline(always)]
-pub(crate) fn convert_line<const IS_APART: bool>(
+pub fn convert_line<const IS_APART: bool>(
     alloc: Global,
     text: &mut String,
     line: &Line<'_>,

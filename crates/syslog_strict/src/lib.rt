@@ -11,11 +11,10 @@ mod ids;
 mod joined;
 pub mod laws;
 mod names;
-mod sent;
 mod stamp;
 mod text;
 mod valid;
 
-pub use call::{to_rfc5424, to_rfc5424_into};
-pub use sent::to_rfc5424_sent;
+pub use call::{copy_text, to_rfc5424, to_rfc5424_into};
+pub use conversion::convert_line;
 pub use valid::is_syslog_msg;

@@ -19,7 +19,7 @@ use Rattle.syslog_dialects.specs.SentReading.{IsReadSent, IsSentIn, IsUnsent, Le
 use Rattle.syslog_dialects.specs.declared.dialect.Dialect.{Dialect}
 use Rattle.syslog_strict.proofs.ConversionLaws.{HasReadMsg, read_whole, strict_text}
 use Rattle.syslog_strict.specs.{Call.IsLineText, Call.NoSyslogMsg, Conversion.converted, Conversion.whole}
-use Rattle.syslog_strict.specs.Sent.{ConvertsSent, IsSentText}
+use Rattle.syslog_strict_sent.specs.Converted.{ConvertsSent, IsSentText}
 
 -- the message of a dialect's line has a message part that is read back
 sent_read : (dates : Dates) (is_read : Bool) (text : Text) (dialect : Dialect) (m : MessageValue)

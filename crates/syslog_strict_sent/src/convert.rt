@@ -15,14 +15,12 @@ ghost use Rattle.syslog_dialects.specs.Ordinary.{IsOrdinary};
 ghost use Rattle.syslog_dialects.specs.SentReading.{AreAsked, IsInNone, IsReadSent, MayBegin};
 ghost use Rattle.syslog_strict.specs.Call.{Copies, IsLineText, NoSyslogMsg};
 ghost use Rattle.syslog_strict.specs.Pushing.{text_in};
-ghost use Rattle.syslog_strict.specs.Sent.{ConvertsSent};
+ghost use Rattle.syslog_strict_sent.specs.Converted.{ConvertsSent};
 
-use crate::call::copy;
-use crate::conversion::convert_line;
-use crate::valid::is_syslog_msg;
 use std::alloc::Global;
 use syslog_dialects::{is_ordinary, line_instead, may_be_sent, unread_line};
 use syslog_loose::{Dates, IncompleteDate, Line, ParseFault, Variant, parse_line};
+use syslog_strict::{convert_line, copy_text, is_syslog_msg};
 
 /// Replaces `text` by the input as strict RFC 5424: the input itself if it is in the grammar of section 6, and
 /// otherwise the message as which its sender meant it, converted. What was left unparsed of the structured data comes
@@ -45,7 +43,7 @@ pub fn to_rfc5424_sent(
         ConvertsSent dates.now dating dialects variant (chars input.entry.now) result (text_in text.new)) }
 {
     if is_syslog_msg(alloc, input) {
-        return copy(text, input);
+        return copy_text(text, input);
     }
     convert_sent(alloc, text, input, dates, variant, dialects)
 }

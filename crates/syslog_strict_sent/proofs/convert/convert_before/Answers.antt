@@ -1,7 +1,7 @@
 use Rattle.std.specs.Str.{chars}
 use Rattle.syslog_pieces.proofs.PieceLemmas.Class.{match_map}
 use Rattle.syslog_dialects.proofs.SentReadingLemmas.{kept_reading, left_read}
-use Rattle.syslog_strict.proofs.sent.convert_before.Goals as goal
+use Rattle.syslog_strict_sent.proofs.convert.convert_before.Goals as goal
 
 pub returns-then-is_ordinary : goal.returns-then-is_ordinary
 returns-then-is_ordinary c dating of =

@@ -1,9 +1,9 @@
 use Rattle.std.specs.Str.{chars}
 use Rattle.std.proofs.Common.{true}
 use Rattle.syslog_dialects.proofs.SentReadingLemmas.{dialect_leaves, in_dialect}
-use Rattle.syslog_strict.proofs.SentLaws.{line_converts}
+use Rattle.syslog_strict_sent.proofs.ConvertLemmas.{line_converts}
 use Rattle.syslog_strict.specs.Pushing.{text_in}
-use Rattle.syslog_strict.proofs.sent.convert_instead.Goals as goal
+use Rattle.syslog_strict_sent.proofs.convert.convert_instead.Goals as goal
 
 pub returns-in-Some : goal.returns-in-Some
 returns-in-Some c dating line of odd =

@@ -1,8 +1,8 @@
 use Rattle.std.proofs.Common.{refl}
 use Rattle.std.specs.Str.{chars}
-use Rattle.syslog_strict.proofs.SentLaws.{line_converts}
+use Rattle.syslog_strict_sent.proofs.ConvertLemmas.{line_converts}
 use Rattle.syslog_strict.specs.Pushing.{text_in}
-use Rattle.syslog_strict.proofs.sent.convert_last.Goals as goal
+use Rattle.syslog_strict_sent.proofs.convert.convert_last.Goals as goal
 
 pub returns-in-Some : goal.returns-in-Some
 returns-in-Some c dating none =

@@ -2,9 +2,9 @@ use Rattle.std.proofs.Common.{None}
 use Rattle.std.specs.Str.{chars}
 use Rattle.syslog_loose.proofs.ReadingLemmas.{in_year_map, in_year_told}
 use Rattle.syslog_loose.proofs.UnparsedLemmas.{leaves_of}
-use Rattle.syslog_strict.proofs.SentLaws.{line_converts}
+use Rattle.syslog_strict_sent.proofs.ConvertLemmas.{line_converts}
 use Rattle.syslog_strict.specs.Pushing.{text_in}
-use Rattle.syslog_strict.proofs.sent.convert_sent.Goals as goal
+use Rattle.syslog_strict_sent.proofs.convert.convert_sent.Goals as goal
 
 pub returns-in_default : goal.returns-in_default
 returns-in_default c =

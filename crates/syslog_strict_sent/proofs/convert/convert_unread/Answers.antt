@@ -1,7 +1,7 @@
 use Rattle.std.proofs.Common.{refl}
 use Rattle.std.specs.Str.{chars}
 use Rattle.syslog_dialects.proofs.SentReadingLemmas.{left_unread}
-use Rattle.syslog_strict.proofs.sent.convert_unread.Goals as goal
+use Rattle.syslog_strict_sent.proofs.convert.convert_unread.Goals as goal
 
 pub returns-else-may_be_sent : goal.returns-else-may_be_sent
 returns-else-may_be_sent c dating none = (
