@@ -28,7 +28,7 @@ use Rattle.syslog_json.proofs.RowLemmas.{marked_row}
 use Rattle.syslog_json.specs.Marked.{HasMember, mark_text, marked, marked_line, marked_output, marked_text}
 use Rattle.syslog_json.specs.Objects.{IsLineAnswer, IsLineRead, IsOnly, IsReadJson, IsRefusedJson}
 use Rattle.syslog_json.specs.Objects.{IsOutputOf, IsValueText, answer_of}
-use Rattle.syslog_json.specs.declared.filter.Objects.{Objects}
+use Rattle.syslog_json.specs.declared.objects.Objects.{Objects}
 use Rattle.syslog_loose.proofs.ReadingLemmas as reading
 
 read_twice : (filter : Objects) (line : List ℕ) (value other : Json) → IsReadJson filter line value

@@ -32,7 +32,7 @@ use Rattle.syslog_csv.specs.Records.{record_text}
 use Rattle.syslog_csv.specs.Rows.{IsRowOf, columns}
 use Rattle.syslog_utf8.specs.Decoded.{decoded}
 use Rattle.syslog_json.specs.Marked.{marked_if}
-use Rattle.syslog_json.specs.declared.filter.Objects.{Objects}
+use Rattle.syslog_json.specs.declared.objects.Objects.{Objects}
 
 -- the line as it came, where it is asked for
 abbrev pub raw_text : Bool → Text → Option Text

@@ -2,7 +2,7 @@
 ghost use Rattle.std.specs.Prelude.{◌≡◌, MatchOption, Some};
 ghost use Rattle.syslog_json.specs.Objects.{IsAskedFor, IsLeftOut, unwritten};
 
-use crate::filter::Objects;
+use crate::objects::Objects;
 use syslog_choice::{Choice, sent_apart};
 
 impl Objects<'_> {

@@ -10,15 +10,15 @@ ghost use Rattle.syslog_json.specs.Marked.{mark_text, marked_output};
 ghost use Rattle.syslog_json.specs.Objects.{IsLineRead, IsOutputOf, IsValueText, StopsEarly, WritesObjects};
 ghost use Rattle.syslog_json.specs.Objects.{answer_of, objects};
 
+use crate::objects::Objects;
 use crate::rows::write_refused_row;
 use std::alloc::{AllocError, Global};
 use std::io::{Read, Write};
 use std::mem;
-use syslog_choice::Choice;
 use syslog_dialects::{SentLine, sent_line, unread_line};
 use syslog_lines::pump::pump;
 use syslog_lines::{Frames, LineCounts, LineFilter, RunFault, Watched};
-use syslog_loose::{Dates, IncompleteDate, Itself, Variant, visit_line};
+use syslog_loose::{IncompleteDate, Itself, Variant, visit_line};
 use syslog_object::{ObjectWriter, refused_object};
 use syslog_utf8::decode;
 
@@ -58,23 +58,6 @@ pub fn write_objects<R: Read, W: Write>(
     writer.write_whole(filter.head())?;
     let tally = pump(alloc, frames, filter, reader, writer)?;
     Ok(tally.counts(filter.latin1))
-}
-
-/// The filter that writes the object of each line.
-#[derive(Drop)]
-pub struct Objects<'a> {
-    /// Whether an object is written as a row of CSV. Otherwise it is written as JSON.
-    pub csv: bool,
-    /// Whether the object of a message also has the line as it came.
-    pub raw: bool,
-    /// Whether a line is read in a dialect that it is in.
-    pub dialects: bool,
-    /// Whether a line that is not UTF-8 is decoded as ISO 8859-1.
-    pub latin1: bool,
-    /// How dates that show no year or no zone are completed.
-    pub dates: Dates,
-    /// Which messages are written. If it is absent, all lines are.
-    pub choice: Option<Choice<'a>>,
 }
 
 impl Objects<'_> {

@@ -9,10 +9,12 @@
 
 mod apart;
 mod filter;
+mod objects;
 mod report;
 mod rows;
 
-use filter::{Objects, write_objects};
+use filter::write_objects;
+use objects::Objects;
 use report::{HELP, USAGE};
 use std::process::ExitCode;
 use syslog_choice::Choice;

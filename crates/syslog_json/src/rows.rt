@@ -8,7 +8,7 @@ ghost use Rattle.syslog_object.specs.Writer.{HasWritten};
 ghost use Rattle.syslog_csv.specs.Rows.{IsRowOf};
 ghost use Rattle.syslog_json.specs.Objects.{IsMessageRow, head_text, raw_text};
 
-use crate::filter::Objects;
+use crate::objects::Objects;
 use std::alloc::{AllocError, Global};
 use syslog_csv::{header, line_row, refused_row};
 use syslog_dialects::SentLine;

@@ -1,6 +1,6 @@
 use Rattle.std.proofs.Common.{rules, IsTrue}
 use Rattle.syslog_loose.specs.Line.{line_value}
-use Rattle.syslog_json.proofs.filter.Objects.not_chosen.Goals as goal
+use Rattle.syslog_json.proofs.objects.Objects.not_chosen.Goals as goal
 
 pub returns-then-is_chosen : goal.returns-then-is_chosen
 returns-then-is_chosen c =

@@ -2,7 +2,7 @@ use Rattle.syslog_json.proofs.Names.{chars}
 use Rattle.syslog_json.proofs.UniqueLemmas.{line_read, line_unread, made_form}
 use Rattle.syslog_loose.proofs.ReadingLemmas.{in_year_map}
 use Rattle.syslog_loose.specs.declared.visit.Itself.{Itself}
-use Rattle.syslog_json.proofs.filter.Objects.read.Goals as goal
+use Rattle.syslog_json.proofs.objects.Objects.read.Goals as goal
 
 pub sent_line-requires : goal.sent_line-requires
 sent_line-requires c =

@@ -6,7 +6,7 @@ use Rattle.syslog_dialects.specs.Dialect.{dialect_text}
 use Rattle.syslog_object.specs.Object.{beside_line}
 use Rattle.syslog_json.{proofs.ReadLemmas.read_as, proofs.UniqueLemmas.only_read, proofs.UniqueLemmas.only_refused}
 use Rattle.syslog_json.specs.Objects.{IsOutputOf, IsReadAs}
-use Rattle.syslog_json.proofs.filter.Objects.write_line.Goals as goal
+use Rattle.syslog_json.proofs.objects.Objects.write_line.Goals as goal
 
 -- what is asked for was written
 as_row : (csv : Bool) (value : Json) (bytes : List ℕ) → csv ≡ true → IsRowOf value bytes → IsOutputOf csv value bytes
