@@ -6,6 +6,7 @@ pub mod DialectLemmas
 pub mod EsxiLemmas
 pub mod FiledLemmas
 pub mod FormLemmas
+pub mod FoundLemmas
 pub mod HeaderLemmas
 pub mod LedLemmas
 pub mod MarkLemmas
@@ -14,6 +15,7 @@ pub mod MonthFrontLemmas
 pub mod NamedFormLemmas
 pub mod NamedLemmas
 pub mod OddLemmas
+pub mod OrderLemmas
 pub mod OrdinaryLemmas
 pub mod OtherDateLemmas
 pub mod PairLemmas

@@ -80,12 +80,12 @@ all_of text msg same ends =
     record { before = []; whole = sym same; front = subst (Ends is_blank) (sym same) ends }
 
 -- a row of one class
-end_of : (C : Class) {t : Text} {v : Values (C ∷ [])} → Front (Row (C ∷ [])) t [] v → Front C t [] v.0
+pub end_of : (C : Class) {t : Text} {v : Values (C ∷ [])} → Front (Row (C ∷ [])) t [] v → Front C t [] v.0
 end_of C {t = t} {v = v} f =
     let (q, it, none) = row_head C [] f in subst (λ (x : Text). Front C t x v.0) (nil_front none) it
 
 -- a piece after which nothing is left is the text
-whole_of : (C : Class) {t : Text} {v : C.Value} → (f : Front C t [] v) → f.piece ≡ t
+pub whole_of : (C : Class) {t : Text} {v : C.Value} → (f : Front C t [] v) → f.piece ≡ t
 whole_of C f = sym (f.whole ∙ append-nil f.piece)
 
 -- pieces of the class end in this part of what they mean

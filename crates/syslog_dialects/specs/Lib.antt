@@ -8,6 +8,7 @@ pub mod Dialect
 pub mod Dialects
 pub mod Esxi
 pub mod Filed
+pub mod Found
 pub mod Header
 pub mod IosXr
 pub mod Led

@@ -1,6 +1,6 @@
-//! Which lines keep the port's reading, and what a dialect's message is, as laws over the definitions alone: each
+//! Which lines keep the port's reading, and where a dialect's texts are found, as laws over the definitions alone: each
 //! function does nothing, and its contract is the law.
-ghost use Rattle.std.specs.Prelude.{◌≡◌, ◌++◌, Bool, None, Some};
+ghost use Rattle.std.specs.Prelude.{◌≡◌, ◌++◌, ℕ, Bool, None, Option, Some};
 ghost use Rattle.syslog_pieces.specs.Pieces.Class.{Ends, Text};
 ghost use Rattle.syslog_pieces.specs.Text.{is_blank, trimmed};
 ghost use Rattle.syslog_pieces.specs.Text.Canonical.{EndsVisibly};
@@ -12,8 +12,11 @@ ghost use Rattle.syslog_loose.specs.Visit.{IsLineOf};
 ghost use Rattle.syslog_loose.specs.declared.dates.Dates.{Dates as AllDates};
 ghost use Rattle.syslog_loose.specs.declared.line.Line.{Line};
 ghost use Rattle.syslog_loose.specs.declared.variant.Variant.{Variant};
+ghost use Rattle.syslog_dialects.specs.Dialects.{IsOfFirst, forms_of};
+ghost use Rattle.syslog_dialects.specs.Found.{AreFound, IsFoundIn, names_of};
 ghost use Rattle.syslog_dialects.specs.Ordinary.{IsOrdinary};
-ghost use Rattle.syslog_dialects.specs.SentReading.{AreAsked, IsReadSent, IsUnsent};
+ghost use Rattle.syslog_dialects.specs.Sent.{SentValue};
+ghost use Rattle.syslog_dialects.specs.SentReading.{AreAsked, IsReadSent, IsSentIn, IsUnsent};
 ghost use Rattle.syslog_dialects.specs.declared.dialect.Dialect.{Dialect};
 
 /// A line that `syslog_loose` parses and that is ordinary is read as it parses it, and in no dialect, whatever it says.
@@ -45,4 +48,14 @@ pub fn messages_end_their_lines()
     ensures { (dates : AllDates) (dating : Dating) (dialects : Bool) (variant : Variant) (text : Text)
         (dialect : Dialect) (m : MessageValue) → IsReadSent dates dating dialects variant text (Some dialect) m
         → ((before : Text) × (trimmed text ≡ before ++ m.msg)) × Ends is_blank m.msg × EndsVisibly m.msg }
+{}
+
+/// The texts of a dialect's line are found in it. The host, the app name, the text of the process and the message id
+/// are pieces of what is before the message part, in this order. Those of a line of pairs may be pieces of that part.
+pub fn texts_of_a_dialect_are_found_in_order()
+    ensures said { (is_read : Bool) (priority : Option ℕ) (text : Text) (dialect : Dialect) (sent : SentValue)
+        → IsOfFirst (forms_of is_read priority) text dialect sent
+        → AreFound dialect text (names_of sent) sent.msg }
+    ensures read { (dates : AllDates) (is_read : Bool) (text : Text) (dialect : Dialect) (m : MessageValue)
+        → IsSentIn dates is_read text dialect m → IsFoundIn dialect (trimmed text) m }
 {}
