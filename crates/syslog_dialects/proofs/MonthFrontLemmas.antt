@@ -8,10 +8,11 @@ use Rattle.std.proofs.lemmas.Str.{chars-IsAscii}
 use Rattle.std.proofs.lemmas.Str.Ascii.{lowercase_is}
 use Rattle.std.specs.Char.{is_ascii_digit, to_ascii_lowercase}
 use Rattle.std.specs.Cmp.Lexicographic.{same_text}
-use Rattle.std.specs.Prelude.{◌&&◌, ◌||◌, IsTrue, is_none, nat_lt}
+use Rattle.std.specs.Prelude.{◌&&◌, ◌||◌, IsTrue, is_none, nat_le, nat_lt, not}
 use Rattle.std.specs.Str.{chars}
 use Rattle.syslog_pieces.specs.Bodies.MonthReading.{small_month}
-use Rattle.syslog_pieces.specs.Pieces.Class.{Text, Class, Values, Each, Ends, Front, NoFront, Row, exactly, optional}
+use Rattle.syslog_pieces.specs.Pieces.Class.{Text, Class, Values, Each, Ends, Front, NoDivision, NoFront, Row, exactly}
+use Rattle.syslog_pieces.specs.Pieces.Class.{optional}
 use Rattle.syslog_pieces.specs.Pieces.Class.{run, some_run}
 use Rattle.syslog_pieces.specs.Pieces.View.{text_eq}
 use Rattle.syslog_pieces.specs.Text.{is_blank, is_tag_char, colon, number}
@@ -19,19 +20,22 @@ use Rattle.syslog_pieces.specs.Timestamp.MonthDate.{clock_row, month, month_date
 use Rattle.syslog_pieces.specs.Timestamp.Rfc3339.{pair, year}
 use Rattle.syslog_pieces.specs.declared.timestamp.month_date.MonthDate.{MonthDate}
 use Rattle.syslog_pieces.proofs.PieceLemmas.Class.{◌past◌, ◌then◌, front_of, front_same, mapped_front, no_mapped}
-use Rattle.syslog_pieces.proofs.PieceLemmas.Class.{no_row, no_row_division}
+use Rattle.syslog_pieces.proofs.PieceLemmas.Class.{each_map, no_row, no_row_division, optional_some}
 use Rattle.syslog_pieces.proofs.PieceLemmas.Class.{optional_none, row_of, row_pieces}
 use Rattle.syslog_pieces.proofs.PieceLemmas.Lists.{Begins, begins, begins_apart}
-use Rattle.syslog_pieces.proofs.PieceLemmas.Rules.{no_such_front}
+use Rattle.syslog_pieces.proofs.PieceLemmas.Rules.{no_such_front, such_front}
 use Rattle.syslog_pieces.proofs.TextLemmas.Runs.{no_run}
 use Rattle.syslog_pieces.proofs.TimestampLemmas.MonthDate.{IsBlank, IsLetter, blank_low, blanks_begin, month_letters}
-use Rattle.syslog_dialects.specs.Cisco.{IsMnemonic, counter_row, front_year, front_year_row, label, label_row}
+use Rattle.syslog_dialects.specs.Cisco.{IsMnemonic, begins_host, counter_row, front_year, front_year_row, label}
+use Rattle.syslog_dialects.specs.Cisco.{label_row}
 use Rattle.syslog_dialects.specs.Cisco.{labelled, mark, mnemonic}
 use Rattle.syslog_dialects.specs.Cisco.{message_row, start, start_row, task_row, undated_row}
 use Rattle.syslog_dialects.specs.Date.{bsd_row}
 use Rattle.syslog_dialects.specs.Dated.{IsDay, day_words, journal_row, weekday}
 use Rattle.syslog_dialects.specs.DatedForms.{journal_forms}
 use Rattle.syslog_dialects.specs.Dialects.{IsOfNone}
+use Rattle.syslog_dialects.specs.IosXr.{IsNode, card_row, host, host_in, host_row, node, xr_row}
+use Rattle.syslog_dialects.specs.Named.{BeginsWith}
 use Rattle.syslog_dialects.specs.NetScaler.{netscaler_row, slashed_of, slashed_row}
 use Rattle.syslog_dialects.specs.OpenWrt.{logread_row}
 use Rattle.syslog_dialects.specs.Runs.{are_ascii}
@@ -44,8 +48,8 @@ use Rattle.syslog_dialects.proofs.CiscoLemmas.{undated_row_det}
 use Rattle.syslog_dialects.proofs.DatedLemmas.{journal_line_det}
 use Rattle.syslog_dialects.proofs.LedLemmas.{year_begins}
 use Rattle.syslog_dialects.proofs.NamedLemmas.{ascii_told}
-use Rattle.syslog_dialects.proofs.OtherDateLemmas.{colon_row_det, logread_row_det, netscaler_row_det, slashed_row_det}
-use Rattle.syslog_dialects.proofs.OtherDateLemmas.{utm_row_det}
+use Rattle.syslog_dialects.proofs.OtherDateLemmas.{card_row_det, colon_row_det, logread_row_det, netscaler_row_det}
+use Rattle.syslog_dialects.proofs.OtherDateLemmas.{slashed_row_det, utm_row_det, xr_row_det}
 use Rattle.syslog_dialects.proofs.UnixLemmas.{meraki_row_det, short_row_det, unix_row_det}
 use Rattle.syslog_dialects.proofs.ZoneLemmas.{bare_word_det, either_told}
 
@@ -74,6 +78,23 @@ tag_letter : (c : ℕ) → IsSmall c → is_tag_char c ≡ true
 tag_letter c h = let (large, low) = small_low c h in
     grind (arith, nat_tests, agree_below_at (λ k. nat_lt k 65 || is_tag_char k) (λ k. true) 123 c refl low)
 
+tag_digit : (c : ℕ) → is_ascii_digit c ≡ true → is_tag_char c ≡ true
+tag_digit c h = let low : c < 58 = grind (arith, nat_tests, h) in
+    grind (arith, nat_tests, h, agree_below_at (λ k. nat_lt k 48 || is_tag_char k) (λ k. true) 58 c refl low)
+
+-- a letter begins a host's name
+host_letter : (c : ℕ) → IsSmall c → begins_host c ≡ true
+host_letter c h = let (large, low) = small_low c h in
+    let small : (nat_le 97 (to_ascii_lowercase c) && nat_lt (to_ascii_lowercase c) 123) ≡ true =
+    grind (arith, nat_tests, h.0, h.1) in
+    grind (
+      arith,
+      nat_tests,
+      small,
+      agree_below_at (λ k. not (nat_le 97 (to_ascii_lowercase k) && nat_lt (to_ascii_lowercase k) 123) || begins_host k)
+          (λ k. true) 123 c refl low,
+    )
+
 blank_apart : (c : ℕ) → is_blank c ≡ true → is_tag_char c ≡ false
 blank_apart c h = let low = blank_low c h in
     grind (arith, nat_tests, agree_below_at (λ k. is_blank k && is_tag_char k) (λ k. false) 33 c refl (omega arith))
@@ -87,38 +108,53 @@ pub record IsWord (p : Text) : Type 0 where
   pub is : p ≡ a ∷ b ∷ c ∷ []
   pub names : small_month (to_ascii_lowercase a) (to_ascii_lowercase b) (to_ascii_lowercase c) ≡ Some n
 
--- the month that begins a text, and a blank after it
+-- the month that begins a text, blanks, the digits of the day, and a blank after them
 pub record HasMonth (t : Text) : Type 0 where
   pub p : Text
   pub q : Text
   pub whole : t ≡ p ++ q
   pub word : IsWord p
   pub blank : Begins IsBlank q
+  pub at_day : Text
+  pub gap : Front (some_run is_blank) q at_day tt
+  pub day : Text
+  pub after_day : Text
+  pub shown : at_day ≡ day ++ after_day
+  pub some : 0 < length day
+  pub digits : Each is_ascii_digit day
+  pub end : Begins IsBlank after_day
 
-from_row : (Cs : List Class) {t r : Text} {vs : Values (month ∷ some_run is_blank ∷ Cs)}
-    → Front (Row (month ∷ some_run is_blank ∷ Cs)) t r vs
-    → HasMonth t
-from_row Cs f = let (u, m, (w, gap, more)) = row_pieces (month ∷ some_run is_blank ∷ Cs) f in
+-- such a front of a month date, and what follows it
+abbrev day_row : List Class → List Class
+day_row Cs = month ∷ some_run is_blank ∷ short_number ∷ some_run is_blank ∷ Cs
+
+from_row : (Cs : List Class) {t r : Text} {vs : Values (day_row Cs)} → Front (Row (day_row Cs)) t r vs → HasMonth t
+from_row Cs f = let (u, m, (w, gap, (x, day, (y, end, more)))) = row_pieces (day_row Cs) f in
     let (a, b, c, e, k) = month_letters m.piece _ m.is in record {
       p = m.piece;
       q = u;
       whole = m.whole;
       word = record { a = a; b = b; c = c; n = _; is = e; names = k };
       blank = blanks_begin gap;
+      at_day = w;
+      gap = gap;
+      day = day.piece;
+      after_day = x;
+      shown = day.whole;
+      some = day.is.0;
+      digits = day.is.1;
+      end = blanks_begin end;
     }
 
--- the pieces of a month date after the month and a gap, without a year and with one
-abbrev after_month : List Class
-after_month = short_number ∷ some_run is_blank ∷ clock_row
-
-abbrev after_month_dated : List Class
-after_month_dated = short_number ∷ some_run is_blank ∷ number 2147483647 ∷ some_run is_blank ∷ clock_row
+-- the pieces of a month date with a year after the day
+abbrev after_day_dated : List Class
+after_day_dated = number 2147483647 ∷ some_run is_blank ∷ clock_row
 
 from_date : (p q : Text) (d : MonthDate) → month_date.Is p q d → HasMonth (p ++ q)
-from_date p q d (inl (vs, h, i)) = from_row after_month {t = p ++ q} {r = q} {vs = vs}
+from_date p q d (inl (vs, h, i)) = from_row clock_row {t = p ++ q} {r = q} {vs = vs}
     (record { piece = p; whole = refl; is = h })
 from_date p q d (inr (vs, h, i)) =
-    from_row after_month_dated {t = p ++ q} {r = q} {vs = vs} (record { piece = p; whole = refl; is = h })
+    from_row after_day_dated {t = p ++ q} {r = q} {vs = vs} (record { piece = p; whole = refl; is = h })
 
 pub has_month : {t r : Text} {vs : Values bsd_row} → Front (Row bsd_row) t r vs → HasMonth t
 has_month f = let (u, d, more) = row_pieces bsd_row f in
@@ -127,6 +163,12 @@ has_month f = let (u, d, more) = row_pieces bsd_row f in
 ends_tag : (q : Text) → Begins IsBlank q → Ends is_tag_char q
 ends_tag [] h = tt
 ends_tag (c ∷ q) h = blank_apart c h
+
+-- the digits of a day are no node
+day_no_node : (w : Text) → Each is_ascii_digit w → IsNode w → ⊥
+day_no_node w e (inl (q, f)) = let d = rw (f.whole, f.is) at e in let bad : false ≡ true = d.0 in cc
+day_no_node w e (inr (inl (q, f))) = let d = rw (f.whole, f.is) at e in let bad : false ≡ true = d.0 in cc
+day_no_node w e (inr (inr (q, f))) = let d = rw (f.whole, f.is) at e in let bad : false ≡ true = d.1.0 in cc
 
 module _ {t : Text} (m : HasMonth t) where
   first_letter : (c : ℕ) × (more : Text) × (t ≡ c ∷ more) × (65 ≤ c)
@@ -198,6 +240,22 @@ module _ {t : Text} (m : HasMonth t) where
       then optional_none label no_label then optional_none (Row counter_row) no_counter
       then optional_none (Row task_row) no_task then optional_none mark no_mark then refl))
 
+  -- a name, and blanks after it
+  month_host : Front host t m.at_day m.p
+  month_host = let s = small_letters _ _ _ _ m.word.names in
+      mapped_front (Row host_row) Text (λ v. v.0) (row_of host_row
+      (such_front bare_word (BeginsWith begins_host) month_word (rw m.word.is (host_letter m.word.a (s.0, s.1)))
+      then m.gap then refl))
+
+  day_word : Front bare_word m.at_day m.after_day m.day
+  day_word = front_of m.day m.shown
+      ((tt, (m.some, each_map is_ascii_digit is_tag_char tag_digit m.day m.digits, ends_tag m.after_day m.end), refl))
+
+  -- and no node after them
+  no_node : NoFront node m.at_day
+  no_node p q v e h = let same = front_same bare_word bare_word_det (front_of p e h.0) day_word in
+      day_no_node m.day m.digits (subst IsNode same.1 h.1)
+
   no_year : NoFront year t
   no_year = no_low year year_begins
 
@@ -261,6 +319,11 @@ module _ {text t : Text} (gap : Front (run is_blank) text t tt) (m : HasMonth t)
   no_unix : NoFront seconds t
   no_unix = no_such_front (number 4294967295) IsLate
       (no_digits m (number 4294967295) (λ p q v h. (h.0, h.1)))
+
+  pub no_xr : NoDivision xr_row text
+  no_xr = no_row_division xr_row (no_row xr_row xr_row_det (inl (no_mapped (Row card_row) (Option Text) host_in
+      (no_row card_row card_row_det (gap past optional_none (Row counter_row) (no_counter m)
+      past optional_some host (month_host m) past inl (no_node m))))))
 
   pub no_other : IsOfNone journal_forms text
   no_other = (

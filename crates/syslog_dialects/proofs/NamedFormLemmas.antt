@@ -19,10 +19,12 @@ use Rattle.syslog_dialects.specs.NamedForms.{undated_row}
 use Rattle.syslog_dialects.specs.NamedForms.{all_named, message_tails, program_forms, program_tails, undated_forms}
 use Rattle.syslog_dialects.specs.Sent.{Form, IsOnlySent, SentValue, loose, sent_value}
 use Rattle.syslog_dialects.specs.declared.dialect.Dialect.{Dialect}
+use Rattle.syslog_dialects.specs.declared.dialect.Dialect.TheVariants as dialect
 use Rattle.syslog_dialects.specs.declared.sent.Sent.{Sent}
 use Rattle.syslog_dialects.specs.declared.sent.SentDate.{SentDate}
 use Rattle.syslog_dialects.specs.declared.untagged.Mark.{Mark}
-use Rattle.syslog_dialects.specs.Untagged.{mark_class}
+use Rattle.syslog_dialects.specs.declared.untagged.Mark.TheVariants as mark
+use Rattle.syslog_dialects.specs.Untagged.{IsNoMessage, mark_class, marked, marked_of}
 use Rattle.syslog_dialects.specs.Named.{beginning, hosted}
 use Rattle.syslog_dialects.specs.Programs.{hostless_row, passed_on, serial_row, severity_row, worded_row}
 use Rattle.syslog_dialects.proofs.NamedLemmas.{hosted_det, hostless_det, passed_on_det, severity_det, worded_det}
@@ -140,3 +142,42 @@ hostless_tail_det = row_det hostless_row hostless_det
 
 pub serial_tail_det : IsDeterministic (Row serial_row)
 serial_tail_det = row_det serial_row serial_det
+
+not_marked : (m : Mark) {text rest : Text} {d : SentDate} → Front (Row front_row) text rest (tt, (d, (tt, tt)))
+    → IsNoMessage rest → NoDivision (dated_row (marked m) marked_of) text
+not_marked m f n = none_after dialect.Repeated (marked m) marked_of (marked_det m) f (n m)
+
+-- where no message without a program begins what follows the date, the text is of none of their forms
+pub none_marked : {text rest : Text} {d : SentDate} → Front (Row front_row) text rest (tt, (d, (tt, tt)))
+    → IsNoMessage rest → IsOfNone (tail_forms message_tails) text
+none_marked f n = (
+  not_marked mark.Repeated f n,
+  (
+    not_marked mark.Cef f n,
+    (
+      not_marked mark.Leef f n,
+      (
+        not_marked mark.PaloAlto f n,
+        (
+          not_marked mark.Pair f n,
+          (
+            not_marked mark.Json f n,
+            (
+              not_marked mark.Idrac f n,
+              (
+                not_marked mark.Level f n,
+                (
+                  not_marked mark.Topics f n,
+                  (
+                    not_marked mark.Bracket f n,
+                    tt,
+                  ),
+                ),
+              ),
+            ),
+          ),
+        ),
+      ),
+    ),
+  ),
+)

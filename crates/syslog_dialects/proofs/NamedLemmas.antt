@@ -2,16 +2,17 @@
 use Rattle.std.proofs.Common.{◌≡◌, inl, inr, ℕ, ◌<◌, Bool, true, List, [], ◌∷◌, ◌++◌, length, Option, None, MatchOption}
 use Rattle.std.proofs.Common.{refl, sym, ap, subst, ◌∙◌, append-nil, arith}
 use Rattle.std.proofs.Common.{Some, false, not}
-use Rattle.std.proofs.lemmas.Bool.{and_parts, ltb-true, not-false}
+use Rattle.std.proofs.lemmas.Bool.{and_parts, cases_Bool, ltb-true, not-false}
 use Rattle.std.proofs.lemmas.Str.Ascii.{IsAscii-cons, IsAscii-nil}
-use Rattle.std.proofs.lemmas.Str.{chars_from_encodes}
+use Rattle.std.proofs.lemmas.Str.{chars_from_encodes, encodes-IsAscii, encodes-chars}
+use Rattle.std.specs.Cmp.Lexicographic.{same_text}
 use Rattle.std.specs.Bool.{then_some}
 use Rattle.std.specs.Borrow.{Bor}
 use Rattle.std.specs.Prelude.{IsTrue, nat_lt}
 use Rattle.std.specs.Str.{IsAscii, IsUtf8, encode_utf8_all, NoCharPasses, NonePass}
 use Rattle.std.specs.Str.Pattern.{FindsTextPrefix, StripsPrefix}
 use Rattle.syslog_pieces.specs.Pieces.Class.{Each}
-use Rattle.syslog_pieces.specs.Pieces.View.{Reads, Recognises, Skips, shown}
+use Rattle.syslog_pieces.specs.Pieces.View.{Reads, Recognises, Skips, shown, text_eq}
 use Rattle.std.specs.Str.{chars}
 use Rattle.std.specs.Char.{is_not_whitespace}
 use Rattle.syslog_pieces.specs.Bodies.Scan.{SplitsRun}
@@ -60,6 +61,10 @@ second_front {C} n f = front_of f.piece f.whole (subst (λ (x : Text). NoFront C
 pub no_otherwise : {C D : Class} {t : Text} → NoFront C t → NoFront D t → NoFront (C otherwise D) t
 no_otherwise n m p q (inl v) e h = n p q v e h
 no_otherwise n m p q (inr w) e h = m p q w e h.1
+
+-- a text that does not begin with the first character of a longer one does not begin with that
+pub no_longer : (c : ℕ) (w : Text) {t : Text} → NoFront (exactly (c ∷ [])) t → NoFront (exactly (c ∷ w)) t
+no_longer c w n p q v e h = n (c ∷ []) (w ++ q) tt (e ∙ ap (λ (x : Text). x ++ q) h) refl
 
 pub beginning_det : (C : Class) → IsDeterministic (beginning C)
 beginning_det C p q p' q' t t' e h h' = rest_det p q p' q' t t' e (h.0, h.1) (h'.0, h'.1)
@@ -119,6 +124,14 @@ ascii_told [] h = IsAscii-nil
 ascii_told (c ∷ t) h =
     let (first, more) = and_parts (nat_lt c 128) (are_ascii t) h in
     IsAscii-cons c t (ltb-true c 128 first) (ascii_told t more)
+
+-- a text of other bytes is no such word
+pub other_word : (bs w : List ℕ) → IsUtf8 bs → IsAscii w → (bs ≡ w → ⊥) → false ≡ text_eq (chars bs) w
+other_word bs w u a n = elim (cases_Bool (text_eq (chars bs) w)) [
+  | inl same ↦ absurd (n (sym (encodes-chars bs u)
+      ∙ ap encode_utf8_all (same_text (chars bs) w (sym same)) ∙ encodes-IsAscii w a))
+  | inr other ↦ sym other
+]
 
 pub prefix_told : (words bytes : List ℕ) → IsAscii words → IsUtf8 bytes → (r : Option (Bor (List ℕ)))
     → MatchOption r (FindsTextPrefix words bytes None) (λ x. StripsPrefix (FindsTextPrefix words) bytes x.now)

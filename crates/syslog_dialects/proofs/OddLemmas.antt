@@ -7,16 +7,34 @@ use Rattle.std.proofs.lemmas.Str.Ascii.{IsAscii-cons, IsAscii-nil}
 use Rattle.std.specs.Prelude.{nat_eq, slice_index, ◌&&◌, IsTrue}
 use Rattle.std.specs.Str.{IsUtf8, chars, encode_utf8_all}
 use Rattle.syslog_pieces.specs.Pieces.Class.{Text}
-use Rattle.syslog_pieces.proofs.TextLemmas.Runs.{ascii_ahead}
+use Rattle.syslog_pieces.proofs.TextLemmas.Runs.{ascii_ahead, chars_nonempty, one_ascii}
 use Rattle.syslog_dialects.specs.Named.{is_letter}
-use Rattle.syslog_dialects.specs.Ordinary.{begins_oddly, has_bracket, is_level_mark, is_odd_app}
+use Rattle.syslog_dialects.specs.Ordinary.{BeginsPlainly, begins_oddly, has_bracket, is_level_mark, is_odd_app}
+
+oddly_low : (c : ℕ) → begins_oddly c ≡ true → c < 128
+oddly_low c h = grind (arith, nat_tests)
 
 plain_begins : (c : ℕ) (t : Text) → begins_oddly c ≡ false → is_odd_app (c ∷ t) ≡ false
 plain_begins c t h = grind (arith, nat_tests)
 
--- an app name that begins otherwise is none
-pub not_odd : {t more : Text} {c : ℕ} → t ≡ c ∷ more → false ≡ begins_oddly c → false ≡ is_odd_app t
-not_odd {more = more} {c = c} e h = sym (ap is_odd_app e ∙ plain_begins c more (sym h))
+-- the first character of an odd app name is its first byte
+odd_first : (bs : List ℕ) (c : ℕ) (t : Text) → IsUtf8 bs → chars bs ≡ c ∷ t → begins_oddly c ≡ true
+    → begins_oddly (slice_index bs 0) ≡ true
+odd_first bs c t u e h =
+    let bytes : bs ≡ (c ∷ []) ++ encode_utf8_all t = ascii_ahead (c ∷ []) t bs u (one_ascii c (oddly_low c h)) e in
+    rw bytes h
+
+not_odd : (bs : List ℕ) (t : Text) → IsUtf8 bs → chars bs ≡ t → BeginsPlainly bs → is_odd_app t ≡ false
+not_odd bs [] u e (some, plain) =
+    absurd (let long = chars_nonempty bs u some in omega (arith, long, ap length e))
+not_odd bs (c ∷ t) u e (some, plain) = elim (cases_Bool (begins_oddly c)) [
+  | inl odd ↦ (let bad : true ≡ false = sym (odd_first bs c t u e odd) ∙ plain in cc)
+  | inr not ↦ plain_begins c t not
+]
+
+-- an app name that begins with another byte is none
+pub plain_not_odd : (bs : List ℕ) → IsUtf8 bs → BeginsPlainly bs → is_odd_app (chars bs) ≡ false
+plain_not_odd bs u plain = not_odd bs (chars bs) u refl plain
 
 letter_low : (c : ℕ) → IsTrue (is_letter c) → c < 128
 letter_low c h = grind (arith, nat_tests)

@@ -59,6 +59,11 @@ pub digits_told : (bs xs ys : List ℕ) (b : Bool) → SplitsRun is_ascii_digit 
 digits_told bs xs ys b s e = let told = end_told ys b s.back_utf8 e in
     rw s.characters (all_digits (chars xs) (chars ys) s.each s.ends b told.0 told.1)
 
+pub no_digits_told : (bs : List ℕ) (b : Bool) → IsUtf8 bs → Ends is_ascii_digit (chars bs) → b ≡ nat_eq (length bs) 0
+    → b ≡ are_digits (chars bs)
+no_digits_told bs b u ends e =
+    let told = end_told bs b u e in all_digits [] (chars bs) tt ends b told.0 told.1
+
 -- ---- tags
 
 -- one character: of two

@@ -10,7 +10,7 @@ use Rattle.std.specs.Str.{IsUtf8, NoCharPasses, NonePass, chars}
 use Rattle.syslog_pieces.specs.Bodies.Scan.{EndsRun}
 use Rattle.syslog_pieces.specs.Pieces.Class.{Each, Text}
 use Rattle.syslog_pieces.proofs.TextLemmas.Runs.{ascii_cut, ends_by_byte, ends_run, first_left, low_ascii}
-use Rattle.syslog_dialects.specs.Runs.{is_plain_char, is_unquoted, is_word_char}
+use Rattle.syslog_dialects.specs.Runs.{is_either_char, is_plain_char, is_unquoted, is_word_char}
 
 each_by_place : (h : ℕ → Bool) (bs : List ℕ) → ((k : ℕ) → k < length bs → h (get_or bs k 0) ≡ true) → Each h bs
 each_by_place h [] f = tt
@@ -39,6 +39,9 @@ word_low c h = grind (arith, nat_tests)
 
 pub plain_low : (c : ℕ) → is_plain_char c ≡ true → c < 128
 plain_low c h = grind (arith, nat_tests)
+
+pub either_low : (c : ℕ) → is_either_char c ≡ true → c < 128
+either_low c h = grind (arith, nat_tests)
 
 -- ---- what a search of a quote says
 

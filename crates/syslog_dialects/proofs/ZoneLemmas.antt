@@ -1,5 +1,5 @@
 -- A text has one front of each class of a zone.
-use Rattle.std.proofs.Common.{◌≡◌, ℕ, ℤ, Bool, true, false, List, [], ◌∷◌, Option, refl, sym, subst, arith}
+use Rattle.std.proofs.Common.{◌≡◌, ◌∙◌, ◌++◌, ℕ, ℤ, Bool, true, false, List, [], ◌∷◌, Option, refl, sym, subst, arith}
 use Rattle.syslog_pieces.specs.Pieces.Class.{Text, Class, Front, NoFront, IsDeterministic, Row, Ends, exactly}
 use Rattle.syslog_pieces.specs.Pieces.Class.{optional, some_run}
 use Rattle.syslog_pieces.specs.Text.{is_tag_char, is_blank, colon}
@@ -11,12 +11,12 @@ use Rattle.syslog_pieces.proofs.PieceLemmas.Class.{no_mapped}
 use Rattle.syslog_pieces.proofs.PieceLemmas.Rules.{such_det}
 use Rattle.syslog_pieces.proofs.TimestampLemmas.Rfc3339.{pair_det, numeric_det}
 use Rattle.syslog_dialects.specs.Zone.{bare_word, ended, minutes_row, minutes, offset_row}
-use Rattle.syslog_dialects.specs.Named.{◌otherwise◌}
+use Rattle.syslog_dialects.specs.Named.{◌otherwise◌, BeginsWith}
 use Rattle.syslog_dialects.specs.Zone.{mapped_offset, numeric_offset}
 use Rattle.syslog_dialects.specs.Zone.{IsZoneName, zone_name, offset_of, zone_mark, zone_row, zone}
 use Rattle.std.proofs.Common.{map}
 use Rattle.std.proofs.lemmas.Bool.{and_parts}
-use Rattle.std.proofs.lemmas.Str.{IsUtf8-from_ascii}
+use Rattle.std.proofs.lemmas.Str.{IsUtf8-from_ascii, chars-IsAscii}
 use Rattle.std.specs.Cmp.Lexicographic.{same_text}
 use Rattle.std.specs.Prelude.{◌&&◌, ◌||◌, IsTrue}
 use Rattle.std.specs.Str.{IsUtf8, chars}
@@ -24,7 +24,7 @@ use Rattle.syslog_pieces.specs.Pieces.View.{text_eq}
 use Rattle.syslog_pieces.proofs.TextLemmas.Runs.{same_chars}
 use Rattle.syslog_dialects.specs.Runs.{are_ascii}
 use Rattle.syslog_dialects.specs.Dated.{IsDay, day_words}
-use Rattle.syslog_dialects.specs.Zone.{has_shape, is_among, zone_words}
+use Rattle.syslog_dialects.specs.Zone.{has_shape, is_among, is_capital, zone_words}
 use Rattle.syslog_dialects.proofs.NamedLemmas.{ascii_told, otherwise_det}
 
 -- ---- a piece that ends a word
@@ -125,3 +125,50 @@ no_zone bs u n is = let s : true ≡ has_shape bs = sym (among_shape bs u zone_w
 -- and of no day
 pub no_day : (bs : List ℕ) → IsUtf8 bs → false ≡ has_shape bs → IsDay (chars bs) → ⊥
 no_day bs u n is = let s : true ≡ has_shape bs = sym (among_shape bs u day_words days_fit is) in cc
+
+-- ---- each begins with a capital letter
+
+begins_capital : List ℕ → Bool
+begins_capital [] = false
+begins_capital (c ∷ cs) = is_capital c
+
+are_capital : List (List ℕ) → Bool
+are_capital [] = true
+are_capital (w ∷ ws) = (are_ascii w && begins_capital w) && are_capital ws
+
+capital_told : (t q : Text) → IsTrue (begins_capital t) → BeginsWith is_capital (t ++ q)
+unfolding begins_capital
+capital_told [] q h = absurd (let f : false ≡ true = h in cc)
+capital_told (c ∷ t) q h = h
+
+one_capital : (w t q : Text) → IsTrue (are_ascii w && begins_capital w) → true ≡ text_eq (chars w) t
+    → BeginsWith is_capital (t ++ q)
+one_capital w t q h e =
+    let (ascii, capital) = and_parts (are_ascii w) (begins_capital w) h in
+    let is : w ≡ t = sym (chars-IsAscii w (ascii_told w ascii)) ∙ same_text (chars w) t e in
+    capital_told t q (subst (λ (x : List ℕ). IsTrue (begins_capital x)) is capital)
+
+among_capital : (t q : Text) (ws : List (List ℕ)) → IsTrue (are_capital ws) → is_among t (map chars ws) ≡ true
+    → BeginsWith is_capital (t ++ q)
+unfolding are_capital
+among_capital t q [] h e = absurd (let f : false ≡ true = e in cc)
+among_capital t q (w ∷ ws) h e =
+    let (fits, more) = and_parts (are_ascii w && begins_capital w) (are_capital ws) h in
+    either_told (text_eq (chars w) t) (is_among t (map chars ws)) e (λ is. one_capital w t q fits (sym is))
+    (λ later. among_capital t q ws more later)
+
+names_capital : IsTrue (are_capital zone_words)
+unfolding are_capital begins_capital
+names_capital = refl
+
+-- a text that begins with the name of a zone begins with a capital letter
+pub zone_capital : (t q : Text) → IsZoneName t → BeginsWith is_capital (t ++ q)
+zone_capital t q is = among_capital t q zone_words names_capital is
+
+days_capital : IsTrue (are_capital day_words)
+unfolding are_capital begins_capital
+days_capital = refl
+
+-- and one with the name of a day
+pub day_capital : (t q : Text) → IsDay t → BeginsWith is_capital (t ++ q)
+day_capital t q is = among_capital t q day_words days_capital is

@@ -35,6 +35,10 @@ IsMnemonic [] = ⊥
 IsMnemonic (c ∷ []) = ⊥
 IsMnemonic (c ∷ d ∷ more) = ((nat_eq c 37 || nat_eq c 35) && is_letter d) ≡ true
 
+-- one of the two
+abbrev pub begins_mnemonic : ℕ → Bool
+begins_mnemonic c = nat_eq c 37 || nat_eq c 35
+
 -- neither of the two
 abbrev pub is_unmarked : ℕ → Bool
 is_unmarked c = not (nat_eq c 37) && not (nat_eq c 35)

@@ -2,7 +2,7 @@
 -- `:`,
 -- 40 `(`, 91 `[`, 123 `{`.
 use Rattle.std.specs.Prelude.{◌≡◌, ◌≢◌, ◌⊎◌, ◌∷◌, ◌&&◌, ◌||◌, ℕ, nat_eq, Bool, true, false, List, [], Some, IsSome}
-use Rattle.std.specs.Prelude.{codes, nat_lt, length, slice_index}
+use Rattle.std.specs.Prelude.{◌<◌, codes, nat_lt, length, slice_index}
 use Rattle.std.specs.Char.{is_ascii_digit}
 use Rattle.syslog_pieces.specs.Pieces.Class.{Text, Class, Front, Row, exactly}
 use Rattle.syslog_pieces.specs.Pieces.View.{seen, shown, text_eq}
@@ -41,6 +41,10 @@ is_odd_app app = are_digits app || (opens_object app
 -- with these they begin
 abbrev pub begins_oddly : ℕ → Bool
 begins_oddly c = is_ascii_digit c || (nat_eq c 123 || (nat_eq c 67 || (nat_eq c 76 || nat_eq c 83)))
+
+-- the first byte is there, and is none of these
+abbrev pub BeginsPlainly : List ℕ → Type 0
+BeginsPlainly bytes = (0 < length bytes) × (begins_oddly (slice_index bytes 0) ≡ false)
 
 -- what the port takes for a host and is the level of a line of ESXi: two letters and a bracket, as in `In(182)`
 abbrev pub is_level_mark : Text → Bool

@@ -22,6 +22,7 @@ use Rattle.syslog_dialects.specs.Named.{is_letter}
 use Rattle.syslog_dialects.specs.Ordinary.{IsOrdinary}
 use Rattle.syslog_dialects.specs.Sent.{SentValue}
 use Rattle.syslog_dialects.specs.SentLine.{IsMessageSent}
+pub use Rattle.syslog_dialects.specs.Zone.{is_capital}
 use Rattle.syslog_dialects.specs.declared.dialect.Dialect.{Dialect}
 use Rattle.syslog_dialects.specs.declared.sent.SentDate.{SentDate}
 use Rattle.syslog_dialects.specs.declared.visit.SentLine.{SentLine}
@@ -31,9 +32,6 @@ abbrev pub AreAsked : Bool → Variant → Type 0
 AreAsked dialects variant = IsTrue dialects × (variant ≡ Either)
 
 -- ---- how a text of a dialect may begin
-
-abbrev pub is_capital : ℕ → Bool
-is_capital c = nat_le 65 c && nat_le c 90
 
 -- `%`, `*`, `.`, `:` or `[`
 abbrev pub is_mark : ℕ → Bool

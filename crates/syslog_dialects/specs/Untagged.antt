@@ -4,7 +4,8 @@
 use Rattle.std.proofs.Common.{inl, inr}
 use Rattle.std.specs.Prelude.{◌⊎◌, ◌||◌, ◌&&◌, ℕ, nat_eq, nat_le, Option, Bool, IsTrue, List, [], ◌∷◌, None, codes}
 use Rattle.std.specs.Char.{is_ascii_digit, is_not_whitespace}
-use Rattle.syslog_pieces.specs.Pieces.Class.{Text, Class, Row, run, some_run, exactly, optional, after, mapped, texted}
+use Rattle.syslog_pieces.specs.Pieces.Class.{Text, Class, NoFront, Row, run, some_run, exactly, optional, after, mapped}
+use Rattle.syslog_pieces.specs.Pieces.Class.{texted}
 use Rattle.syslog_pieces.specs.Pieces.Rules.{such_that}
 use Rattle.syslog_pieces.specs.Pieces.View.{text_eq}
 use Rattle.syslog_pieces.specs.Text.{host, is_blank}
@@ -110,6 +111,19 @@ begins Level c = nat_le 68 c && nat_le c 87
 begins Topics c = is_plain_char c
 begins Bracket c = nat_eq c 91
 
+-- the character may begin such a message, unless a key, a number or a topic does
+abbrev pub begins_mark : ℕ → Bool
+begins_mark c = (nat_le 67 c && nat_le c 87)
+    || (nat_eq c 97 || (nat_eq c 108 || (nat_eq c 109 || (nat_eq c 45 || (nat_eq c 123 || nat_eq c 91)))))
+
+-- `=` or a comma, which a key, a number or a topic ends at
+abbrev pub ends_list : ℕ → Bool
+ends_list c = nat_eq c 61 || nat_eq c 44
+
+-- none begins the text
+abbrev pub IsUnmarked : Text → Type 0
+IsUnmarked t = (m : Mark) → NoFront (mark_class m) t
+
 -- a host, and the blanks after it
 abbrev pub host_row : List Class
 host_row = host ∷ some_run is_blank ∷ []
@@ -124,3 +138,7 @@ marked_of (inr (h, (_, (t, _)))) = untagged h t
 
 abbrev pub message : Mark → Class
 message m = mapped (marked m) NamedTexts marked_of
+
+-- the text begins with none of them
+abbrev pub IsNoMessage : Text → Type 0
+IsNoMessage t = (m : Mark) → NoFront (message m) t

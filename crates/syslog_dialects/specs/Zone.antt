@@ -75,6 +75,10 @@ abbrev pub has_shape : List ℕ → Bool
 has_shape t = nat_lt 0 (length t) && (nat_le (length t)
     4 && (nat_le 65 (slice_index t 0) && nat_le (slice_index t 0) 90))
 
+-- a capital letter
+abbrev pub is_capital : ℕ → Bool
+is_capital c = nat_le 65 c && nat_le c 90
+
 abbrev pub IsZoneName : Text → Type 0
 IsZoneName t = is_among t zone_names ≡ true
 

@@ -102,10 +102,25 @@ fn optional_origin(text: &str) -> (Option<&str>, &str)
     }
 }
 
+// Whether `%` or `#` begins the text.
+#[inline(always)]
+fn begins_with_mark(text: &str) -> bool
+    ensures { MatchBool result (BeginsWith spec.begins_mnemonic (chars text.now))
+        (BeginsWith spec.begins_mnemonic (chars text.now) → ⊥) }
+{
+    match first(text) {
+        Some((c, _)) => c == '%' || c == '#',
+        None => false,
+    }
+}
+
 // Returns `%FACILITY-SEVERITY-MNEMONIC` at the front, and the text after it.
 fn mnemonic(text: &str) -> Option<(&str, &str)>
     ensures { Reads spec.mnemonic (λ word. shown word) (chars text.now) result }
 {
+    if !begins_with_mark(text) {
+        return None;
+    }
     let (word, rest) = bare_word(text)?;
     if !is_mnemonic(word) {
         return None;

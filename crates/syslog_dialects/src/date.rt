@@ -85,12 +85,14 @@ pub(crate) fn optional_fraction(text: &str) -> (Option<u32>, &str)
 
 // Returns the decimals after a month date, in nanoseconds, and the text after them. A digit right after the seconds is
 // only there if the date ends in a colon, as H3C writes.
+#[inline(always)]
 fn late_fraction(text: &str) -> Option<(u32, &str)>
     ensures { Reads spec.late_fraction (λ n. n) (chars text.now) result }
 {
     decimals(past_point(text))
 }
 
+#[inline(always)]
 fn optional_late_fraction(text: &str) -> (Option<u32>, &str)
     ensures { Front (optional spec.late_fraction) (chars text.now) (shown result.1) result.0 }
 {
@@ -101,6 +103,7 @@ fn optional_late_fraction(text: &str) -> (Option<u32>, &str)
 }
 
 /// Returns the zone at the front, if there is one, and the text after it.
+#[inline(always)]
 pub(crate) fn optional_zone(text: &str) -> (Option<Option<i32>>, &str)
     ensures { Front (optional any_zone) (chars text.now) (shown result.1) result.0 }
 {
@@ -126,6 +129,7 @@ fn year_after(text: &str) -> Option<(u16, &str)>
     ended_year(rest)
 }
 
+#[inline(always)]
 fn optional_year(text: &str) -> (Option<u16>, &str)
     ensures { Front (optional spec.year_after) (chars text.now) (shown result.1) result.0 }
 {
@@ -144,6 +148,7 @@ impl BsdDate {
     }
 
     /// Returns the date in the year and the zone that are shown.
+    #[inline(always)]
     pub(crate) fn sent(self) -> SentDate
         ensures { result ≡ spec.bsd_of (bsd_values self) }
     {
@@ -163,6 +168,7 @@ impl BsdDate {
 }
 
 /// Returns the month date at the front, with what follows it, and the text after these.
+#[inline(always)]
 pub(crate) fn bsd(text: &str) -> Option<(BsdDate, &str)>
     ensures { Reads (Row spec.bsd_row) bsd_values (chars text.now) result }
 {
@@ -206,6 +212,7 @@ fn number_after(text: &str) -> Option<(u32, &str)>
 }
 
 impl IsoDate {
+    #[inline(always)]
     fn sent(self) -> SentDate
         ensures { result ≡ spec.iso_of (iso_values self) }
     {

@@ -21,7 +21,7 @@ ghost use Rattle.syslog_dialects.specs.Dated as spec;
 use crate::date::{BsdDate, iso_date};
 use crate::sent::{Sent, SentDate};
 use crate::tail::{Tail, read_wide_tail};
-use crate::zone::{bare_word, has_shape, is_one_of};
+use crate::zone::{bare_word, begins_with_capital, has_shape, is_one_of};
 use syslog_pieces::text::{blanks, some_blanks};
 use syslog_pieces::timestamp::header_stamp;
 
@@ -77,6 +77,9 @@ fn is_day(word: &str) -> bool
 pub(crate) fn weekday(text: &str) -> Option<&str>
     ensures { Recognises spec.weekday (chars text.now) result }
 {
+    if !begins_with_capital(text) {
+        return None;
+    }
     let (day, rest) = bare_word(text)?;
     if !is_day(day) {
         return None;

@@ -9,7 +9,8 @@ ghost use Rattle.syslog_dialects.specs.DateViews.{bsd_values};
 ghost use Rattle.syslog_dialects.specs.Dialects.{Finds};
 ghost use Rattle.syslog_dialects.specs.Esxi.{esxi_form};
 ghost use Rattle.syslog_dialects.specs.Filed.{filed_forms};
-ghost use Rattle.syslog_dialects.specs.Led.{IsFront, IsLed};
+ghost use Rattle.syslog_dialects.specs.IosXr.{xr_form};
+ghost use Rattle.syslog_dialects.specs.Led.{IsFront, IsLed, IsUnled};
 ghost use Rattle.syslog_dialects.specs.Sent.{Sends};
 ghost use Rattle.syslog_dialects.specs.DatedForms as spec;
 
@@ -177,16 +178,43 @@ fn from_container<'a>(text: &'a str, led: Led<'a>) -> Option<(Dialect, Sent<'a>)
     }
 }
 
+// Returns what a line of IOS-XR says, which never begins with a month date.
+fn of_xr<'a>(text: &'a str, led: Led<'a>) -> Option<Sent<'a>>
+    ensures { IsLed (chars text.entry.now) led.entry → Sends xr_form (chars text.entry.now) result }
+{
+    match led.date {
+        LeadingDate::Month(_) => None,
+        LeadingDate::Iso(_) => read_ios_xr(text),
+    }
+}
+
+// Tries the forms that need not begin with a date, and those after them, on a text that begins with one.
+fn from_led<'a>(text: &'a str, led: Led<'a>) -> Option<(Dialect, Sent<'a>)>
+    ensures { IsLed (chars text.entry.now) led.entry → Finds spec.xr_forms (chars text.entry.now) result }
+{
+    match of_xr(text, led) {
+        Some(sent) => Some((Dialect::CiscoIosXr, sent)),
+        None => from_container(text, led),
+    }
+}
+
+// Tries the forms that need not begin with a date on a text that begins with none.
+fn from_unled(text: &str) -> Option<(Dialect, Sent<'_>)>
+    ensures { IsUnled (chars text.now) → Finds spec.xr_forms (chars text.now) result }
+{
+    match read_ios_xr(text) {
+        Some(sent) => Some((Dialect::CiscoIosXr, sent)),
+        None => from_journal(text),
+    }
+}
+
 // Tries the forms that need not begin with a date, and those after them.
 fn from_xr<'a>(text: &'a str, front: Option<Led<'a>>) -> Option<(Dialect, Sent<'a>)>
     ensures { IsFront (chars text.entry.now) front.entry → Finds spec.xr_forms (chars text.entry.now) result }
 {
-    if let Some(sent) = read_ios_xr(text) {
-        return Some((Dialect::CiscoIosXr, sent));
-    }
     match front {
-        Some(led) => from_container(text, led),
-        None => from_journal(text),
+        Some(led) => from_led(text, led),
+        None => from_unled(text),
     }
 }
 

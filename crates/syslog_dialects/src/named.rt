@@ -1,5 +1,5 @@
 //! What comes after a date: a host, a program's name and the message.
-ghost use Rattle.std.specs.Prelude.{◌≡◌, ◌∷◌, [], IsTrue, MatchBool, Option, chars};
+ghost use Rattle.std.specs.Prelude.{◌≡◌, ◌≢◌, ◌∷◌, [], IsTrue, MatchBool, Option, chars, false};
 ghost use Rattle.syslog_pieces.specs.Pieces.Class.{Front, exactly, optional};
 ghost use Rattle.syslog_pieces.specs.Pieces.View.{Reads, Skips, seen, shown, text_eq};
 ghost use Rattle.syslog_dialects.specs.Runs.{are_ascii};
@@ -26,6 +26,7 @@ pub(crate) struct Named<'a> {
 }
 
 /// Returns the message of a program, with this host or none.
+#[inline(always)]
 pub(crate) fn tagged<'a>(hostname: Option<&'a str>, program: Program<'a>, msg: &'a str) -> Named<'a>
     ensures { named_value result ≡ spec.tagged (seen hostname.entry) (program_seen program.entry) (shown msg.entry) }
 {
@@ -38,6 +39,7 @@ pub(crate) fn tagged<'a>(hostname: Option<&'a str>, program: Program<'a>, msg: &
 }
 
 /// Returns a message without a program, with this host or none.
+#[inline(always)]
 pub(crate) fn untagged<'a>(hostname: Option<&'a str>, msg: &'a str) -> Named<'a>
     ensures { named_value result ≡ spec.untagged (seen hostname.entry) (shown msg.entry) }
 {
@@ -57,11 +59,29 @@ pub(crate) fn past<'a>(text: &'a str, words: &str) -> Option<&'a str>
     text.strip_prefix(words)
 }
 
+// Whether the two have one length and one first byte. Few words that are compared do.
+#[inline(always)]
+fn may_be_same(a: &[u8], b: &[u8]) -> bool
+    ensures { (result ≡ false) → a.now ≢ b.now }
+{
+    if a.len() != b.len() {
+        return false;
+    }
+    if a.is_empty() {
+        return true;
+    }
+    a[0] == b[0]
+}
+
 /// Returns whether the text is this ASCII word.
+#[inline(always)]
 pub(crate) fn is_word(text: &str, word: &str) -> bool
     requires { IsTrue (are_ascii word.now) }
     ensures { result ≡ text_eq (chars text.now) word.now }
 {
+    if !may_be_same(text.as_bytes(), word.as_bytes()) {
+        return false;
+    }
     is_same_text(&text, &word)
 }
 
@@ -130,6 +150,7 @@ fn optional_id(text: &str) -> (Option<&str>, &str)
 }
 
 /// Returns the program at the front, up to its colon, and the text after that.
+#[inline(always)]
 pub(crate) fn read_program(text: &str) -> Option<(Program<'_>, &str)>
     ensures { Reads spec.program program_seen (chars text.now) result }
 {

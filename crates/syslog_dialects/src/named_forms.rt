@@ -17,10 +17,11 @@ use crate::named::Named;
 use crate::pairs::read_pairs;
 use crate::programs::{after_serial, forwarded, hostless, severity_first, worded};
 use crate::sent::{Sent, SentDate};
-use crate::untagged::{Mark, mark_end, message, past_host};
+use crate::untagged::{Mark, mark_end, may_be_message, message, past_host};
 use syslog_pieces::text::{blanks, some_blanks};
 
 // Returns what a line says that has this date, and these names and this message after it.
+#[inline(always)]
 fn sent<'a>(date: SentDate, named: Named<'a>) -> Sent<'a>
     ensures { sent_value result ≡ spec.says date (named_value named.entry) }
 {
@@ -36,6 +37,7 @@ fn sent<'a>(date: SentDate, named: Named<'a>) -> Sent<'a>
 }
 
 // Returns what a line says that is a message alone.
+#[inline(always)]
 fn bare(msg: &str) -> Sent<'_>
     ensures { sent_value result ≡ loose None None None None (chars msg.now) }
 {
@@ -71,6 +73,7 @@ fn undated(text: &str) -> Option<(Dialect, Sent<'_>)>
 }
 
 // Reads a program's line after its date. `after_host` is what `past_host` returned for what follows the date.
+#[inline(always)]
 fn of_program<'a>(
     date: SentDate,
     rest: &'a str,
@@ -98,11 +101,17 @@ fn of_program<'a>(
     undated(text)
 }
 
-// Reads a message without a program, after its date.
-fn of_message<'a>(date: SentDate, rest: &'a str, text: &'a str) -> Option<(Dialect, Sent<'a>)>
-    ensures { FindsAfter spec.all_named date (chars rest.entry.now) (chars text.entry.now) result }
+// Reads a message without a program, after its date. `after_host` is what `past_host` returned for what follows the
+// date.
+fn of_mark<'a>(
+    date: SentDate,
+    rest: &'a str,
+    after_host: Option<(Option<&'a str>, &'a str)>,
+    text: &'a str,
+) -> Option<(Dialect, Sent<'a>)>
+    ensures { Reads (Row host_row) (λ h. (seen h, (tt, tt))) (chars rest.entry.now) after_host.entry
+        → FindsAfter spec.all_named date (chars rest.entry.now) (chars text.entry.now) result }
 {
-    let after_host = past_host(rest);
     if let Some(named) = message(rest, after_host, Mark::Repeated) {
         return Some((Dialect::Repeated, sent(date, named)));
     }
@@ -136,7 +145,21 @@ fn of_message<'a>(date: SentDate, rest: &'a str, text: &'a str) -> Option<(Diale
     of_program(date, rest, after_host, text)
 }
 
+// Reads what follows a date and blanks.
+#[inline(always)]
+fn of_message<'a>(date: SentDate, rest: &'a str, text: &'a str) -> Option<(Dialect, Sent<'a>)>
+    ensures { FindsAfter spec.all_named date (chars rest.entry.now) (chars text.entry.now) result }
+{
+    let after_host = past_host(rest);
+    if may_be_message(rest, after_host) {
+        of_mark(date, rest, after_host, text)
+    } else {
+        of_program(date, rest, after_host, text)
+    }
+}
+
 // Reads what follows a date that begins the text.
+#[inline(always)]
 fn of_led<'a>(led: Led<'a>, text: &'a str) -> Option<(Dialect, Sent<'a>)>
     ensures { IsLed (chars text.entry.now) led.entry → Finds spec.all_named (chars text.entry.now) result }
 {

@@ -3,7 +3,7 @@
 //! **Rule.** A line of RFC 5424 is read as the port reads it. So is a line of RFC 3164 with a date, a host and a tag
 //! that a colon or a process id ends, as section 5.4 has them, and one with a strict element. So no dialect is tried
 //! for most lines, and none can change them.
-ghost use Rattle.std.specs.Prelude.{◌≡◌, None, MatchBool, chars};
+ghost use Rattle.std.specs.Prelude.{◌≡◌, None, IsTrue, MatchBool, chars};
 ghost use Rattle.syslog_pieces.specs.Pieces.Class.{Row, exactly};
 ghost use Rattle.syslog_pieces.specs.Pieces.View.{Skips, seen, shown};
 ghost use Rattle.syslog_loose.specs.Line.{KnowsForm};
@@ -12,7 +12,7 @@ ghost use Rattle.syslog_dialects.specs.Ordinary as spec;
 
 use crate::named::is_word;
 use syslog_loose::Line;
-use syslog_pieces::text::{CharClass, first, literal, split_run};
+use syslog_pieces::text::{CharClass, begins_with_digit, first, literal, split_run};
 
 // Returns the text after `front`, if that begins it.
 fn past<'a>(text: &'a str, front: &str) -> Option<&'a str>
@@ -58,6 +58,9 @@ fn begins_with_tag(text: &str, host: &str, app: &str) -> bool
 fn are_digits(text: &str) -> bool
     ensures { result ≡ spec.are_digits (chars text.now) }
 {
+    if !begins_with_digit(text.as_bytes()) {
+        return text.is_empty();
+    }
     let (_, rest) = split_run(text, CharClass::Digit);
     rest.is_empty()
 }
@@ -83,25 +86,30 @@ fn is_odd_word(app: &str) -> bool
             || (is_word(app, "CEF") || (is_word(app, "LEEF") || is_word(app, "Severity"))))
 }
 
-// Whether an app name that is no program's may begin with the character.
+// Whether an app name that is no program's may begin with the byte.
 #[inline(always)]
-fn begins_oddly(c: char) -> bool
-    ensures { result ≡ spec.begins_oddly c }
+fn begins_oddly(byte: u8) -> bool
+    ensures { result ≡ spec.begins_oddly byte }
 {
-    c.is_ascii_digit() || (c == '{' || (c == 'C' || (c == 'L' || c == 'S')))
+    byte.is_ascii_digit() || (byte == b'{' || (byte == b'C' || (byte == b'L' || byte == b'S')))
+}
+
+// Whether a byte with which no odd app name begins is at the front. Most app names begin so, and need no further look.
+#[inline(always)]
+fn begins_plainly(app: &[u8]) -> bool
+    ensures { IsTrue result → spec.BeginsPlainly app.now }
+{
+    matches!(app, [first, ..] if !begins_oddly(*first))
 }
 
 #[inline(always)]
 fn is_odd_app(app: &str) -> bool
     ensures { result ≡ spec.is_odd_app (chars app.now) }
 {
-    let Some((c, _)) = first(app) else {
-        return true;
-    };
-    if begins_oddly(c) {
-        is_odd_word(app)
-    } else {
+    if begins_plainly(app.as_bytes()) {
         false
+    } else {
+        is_odd_word(app)
     }
 }
 

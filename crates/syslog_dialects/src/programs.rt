@@ -17,6 +17,7 @@ use syslog_pieces::text::verbatim::before;
 use syslog_pieces::text::{CharClass, blanks, literal, some_blanks, split_run};
 
 /// Reads a line without a host.
+#[inline(always)]
 pub(crate) fn hostless(text: &str) -> Option<Named<'_>>
     ensures { Names spec.hostless named_value (chars text.now) result }
 {
@@ -119,6 +120,7 @@ fn grade(text: &str) -> Option<&str>
 }
 
 /// Reads a line with the severity before the program. `after_host` is what `past_host` returned for the line.
+#[inline(always)]
 pub(crate) fn severity_first<'a>(
     after_host: Option<(Option<&'a str>, &'a str)>,
 ) -> Option<Named<'a>>
@@ -134,6 +136,7 @@ pub(crate) fn severity_first<'a>(
 
 /// Reads a line with the serial number and the time of a Firebox before the program. `after_host` is what `past_host`
 /// returned for the line.
+#[inline(always)]
 pub(crate) fn after_serial<'a>(after_host: Option<(Option<&'a str>, &'a str)>) -> Option<Named<'a>>
     ensures { (text : Text) → Reads (Row host_row) (λ h. (seen h, (tt, tt))) text after_host.entry
         → Names spec.after_serial named_value text result }
@@ -200,6 +203,7 @@ fn words(text: &str) -> Option<(&str, &str)>
 }
 
 /// Reads a line whose program has a name of several words. `after_host` is what `past_host` returned for the line.
+#[inline(always)]
 pub(crate) fn worded<'a>(after_host: Option<(Option<&'a str>, &'a str)>) -> Option<Named<'a>>
     ensures { (text : Text) → Reads (Row host_row) (λ h. (seen h, (tt, tt))) text after_host.entry
         → Names spec.worded named_value text result }
@@ -230,10 +234,12 @@ fn origin(text: &str) -> Option<(&str, &str)>
 fn forwarded_words(text: &str) -> Option<&str>
     ensures { Recognises (exactly (codes "Message forwarded from ")) (chars text.now) result }
 {
+    let _ = literal(text, 'M')?;
     past(text, "Message forwarded from ")
 }
 
 // Reads a line that was forwarded, from `Message forwarded from` on.
+#[inline(always)]
 fn passed_on(text: &str) -> Option<Named<'_>>
     ensures { Names spec.passed_on named_value (chars text.now) result }
 {
@@ -246,6 +252,7 @@ fn passed_on(text: &str) -> Option<Named<'_>>
 
 /// Reads a line that was forwarded, after the name of the host that forwarded it, if that is shown. `after_host` is
 /// what `past_host` returned for the line.
+#[inline(always)]
 pub(crate) fn forwarded<'a>(
     text: &'a str,
     after_host: Option<(Option<&'a str>, &'a str)>,

@@ -12,6 +12,8 @@ pub(crate) enum Run {
     Plain,
     /// Any character but a quote.
     Unquoted,
+    /// A character of `Word` or of `Plain`: a letter, a digit, `!`, `-`, `.`, `/` or `_`.
+    Either,
 }
 
 impl Run {
@@ -28,21 +30,27 @@ impl Run {
                 c.is_ascii_alphabetic() || (c.is_ascii_digit() || (c == '!' || c == '-'))
             }
             Run::Unquoted => c != '"',
+            Run::Either => {
+                c.is_ascii_alphabetic()
+                    || (c.is_ascii_digit()
+                        || (c == '!' || (c == '-' || (c == '.' || (c == '/' || c == '_')))))
+            }
         }
     }
 }
 
-// The classes of each byte: 1 is `Word`, 2 is `Plain`, and 4 is `Unquoted`. The clause of `is_in` says that each entry
-// is right.
+// The classes of each byte: 1 is `Word`, 2 is `Plain`, 4 is `Unquoted`, and 8 is `Either`. The clause of `is_in` says
+// that each entry is right.
 static CLASSES: [u8; 256] = [
     4, 4, 4, 4, 4, 4, 4, 4, 4, 4, 4, 4, 4, 4, 4, 4, 4, 4, 4, 4, 4, 4, 4, 4, 4, 4, 4, 4, 4, 4, 4, 4,
-    4, 6, 0, 4, 4, 4, 4, 4, 4, 4, 4, 4, 4, 7, 5, 5, 7, 7, 7, 7, 7, 7, 7, 7, 7, 7, 4, 4, 4, 4, 4, 4,
-    4, 7, 7, 7, 7, 7, 7, 7, 7, 7, 7, 7, 7, 7, 7, 7, 7, 7, 7, 7, 7, 7, 7, 7, 7, 7, 7, 4, 4, 4, 4, 5,
-    4, 7, 7, 7, 7, 7, 7, 7, 7, 7, 7, 7, 7, 7, 7, 7, 7, 7, 7, 7, 7, 7, 7, 7, 7, 7, 7, 4, 4, 4, 4, 4,
+    4, 14, 0, 4, 4, 4, 4, 4, 4, 4, 4, 4, 4, 15, 13, 13, 15, 15, 15, 15, 15, 15, 15, 15, 15, 15, 4,
+    4, 4, 4, 4, 4, 4, 15, 15, 15, 15, 15, 15, 15, 15, 15, 15, 15, 15, 15, 15, 15, 15, 15, 15, 15,
+    15, 15, 15, 15, 15, 15, 15, 4, 4, 4, 4, 13, 4, 15, 15, 15, 15, 15, 15, 15, 15, 15, 15, 15, 15,
+    15, 15, 15, 15, 15, 15, 15, 15, 15, 15, 15, 15, 15, 15, 4, 4, 4, 4, 4, 4, 4, 4, 4, 4, 4, 4, 4,
     4, 4, 4, 4, 4, 4, 4, 4, 4, 4, 4, 4, 4, 4, 4, 4, 4, 4, 4, 4, 4, 4, 4, 4, 4, 4, 4, 4, 4, 4, 4, 4,
     4, 4, 4, 4, 4, 4, 4, 4, 4, 4, 4, 4, 4, 4, 4, 4, 4, 4, 4, 4, 4, 4, 4, 4, 4, 4, 4, 4, 4, 4, 4, 4,
     4, 4, 4, 4, 4, 4, 4, 4, 4, 4, 4, 4, 4, 4, 4, 4, 4, 4, 4, 4, 4, 4, 4, 4, 4, 4, 4, 4, 4, 4, 4, 4,
-    4, 4, 4, 4, 4, 4, 4, 4, 4, 4, 4, 4, 4, 4, 4, 4, 4, 4, 4, 4, 4, 4, 4, 4, 4, 4, 4, 4, 4, 4, 4, 4,
+    4, 4, 4, 4, 4, 4, 4, 4, 4, 4, 4, 4, 4, 4, 4, 4, 4, 4, 4, 4, 4, 4, 4, 4,
 ];
 
 // Whether the byte, as a character, is of the class.
@@ -78,7 +86,7 @@ fn unquoted_end(text: &str) -> usize
     }
 }
 
-// The place after the maximal run of the class at the front, in bytes. The first two classes are of ASCII alone.
+// The place after the maximal run of the class at the front, in bytes. All classes but `Unquoted` are of ASCII alone.
 fn run_end(text: &str, run: Run) -> usize
     ensures { EndsRun (is_of run) text.now result }
 {
@@ -86,6 +94,7 @@ fn run_end(text: &str, run: Run) -> usize
         Run::Word => run_len(text.as_bytes(), Run::Word),
         Run::Plain => run_len(text.as_bytes(), Run::Plain),
         Run::Unquoted => unquoted_end(text),
+        Run::Either => run_len(text.as_bytes(), Run::Either),
     }
 }
 

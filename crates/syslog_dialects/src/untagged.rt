@@ -1,6 +1,6 @@
 //! Messages that have no program's name before them: they are recognised by what they begin with.
-ghost use Rattle.std.specs.Prelude.{◌≡◌, ◌∷◌, [], ◌||◌, Option, chars, codes};
-ghost use Rattle.syslog_pieces.specs.Pieces.Class.{Front, Row, after, exactly, optional, run, some_run};
+ghost use Rattle.std.specs.Prelude.{◌≡◌, ◌∷◌, [], ◌||◌, Option, chars, codes, false};
+ghost use Rattle.syslog_pieces.specs.Pieces.Class.{Front, NoFront, Row, after, exactly, optional, run, some_run};
 ghost use Rattle.syslog_pieces.specs.Pieces.View.{Reads, Recognises, seen, shown};
 ghost use Rattle.syslog_pieces.specs.Timestamp.Rfc3339.{pair as pair_class, year as year_class};
 ghost use Rattle.syslog_pieces.specs.Text.{is_blank};
@@ -406,6 +406,73 @@ fn read_mark(text: &str, mark: Mark) -> Option<&str>
         Mark::Level => level(text),
         Mark::Topics => topics(text),
         Mark::Bracket => open_bracket(text),
+    }
+}
+
+// Whether a mark that is no key, no number and no topic may begin with this character.
+#[inline(always)]
+fn begins_mark(c: char) -> bool
+    ensures { result ≡ spec.begins_mark c }
+{
+    ('C' <= c && c <= 'W')
+        || (c == 'a' || (c == 'l' || (c == 'm' || (c == '-' || (c == '{' || c == '[')))))
+}
+
+// Whether the character ends a key, a number or a topic.
+#[inline(always)]
+fn ends_list(c: char) -> bool
+    ensures { result ≡ spec.ends_list c }
+{
+    c == '=' || c == ','
+}
+
+// Whether `=` or a comma follows the characters that keys, numbers and topics are made of.
+fn may_be_list(text: &str) -> bool
+    ensures { (result ≡ false) → NoFront (Row spec.pair_row) (chars text.now)
+        × (NoFront (Row spec.topics_row) (chars text.now) × NoFront (Row spec.palo_alto_row) (chars text.now)) }
+{
+    let (_, rest) = split(text, Run::Either);
+    match first(rest) {
+        Some((c, _)) => ends_list(c),
+        None => false,
+    }
+}
+
+// Whether a mark may begin the text.
+fn may_be_marked(text: &str) -> bool
+    ensures { (result ≡ false) → spec.IsUnmarked (chars text.now) }
+{
+    let Some((c, _)) = first(text) else {
+        return false;
+    };
+    if begins_mark(c) {
+        return true;
+    }
+    may_be_list(text)
+}
+
+// Whether a mark may begin one of the two. Most messages follow a host, so the text after it is looked at first.
+fn may_one_be_marked(text: &str, after_host: &str) -> bool
+    ensures { (result ≡ false) → spec.IsUnmarked (chars text.now) × spec.IsUnmarked (chars after_host.now) }
+{
+    if may_be_marked(after_host) {
+        return true;
+    }
+    may_be_marked(text)
+}
+
+/// Returns whether a message without a program may begin the text. `after_host` is what `past_host` returned for it. Of
+/// most texts only two words are looked at.
+pub(crate) fn may_be_message<'a>(
+    text: &'a str,
+    after_host: Option<(Option<&'a str>, &'a str)>,
+) -> bool
+    ensures { Reads (Row spec.host_row) (λ h. (seen h, (tt, tt))) (chars text.entry.now) after_host.entry
+        → (result ≡ false) → spec.IsNoMessage (chars text.entry.now) }
+{
+    match after_host {
+        Some((_, rest)) => may_one_be_marked(text, rest),
+        None => may_be_marked(text),
     }
 }
 

@@ -7,6 +7,7 @@ ghost use Rattle.syslog_pieces.specs.Pieces.Class.{Ends, Front};
 ghost use Rattle.syslog_pieces.specs.Pieces.View.{Reads, shown};
 ghost use Rattle.syslog_pieces.specs.Text.{is_tag_char};
 ghost use Rattle.syslog_pieces.specs.Timestamp.Rfc3339 as rfc3339;
+ghost use Rattle.syslog_dialects.specs.Named.{BeginsWith};
 ghost use Rattle.syslog_dialects.specs.Zone as spec;
 
 use syslog_pieces::as_str::is_same_text;
@@ -129,10 +130,26 @@ fn is_universal(name: &str) -> bool
     is_one_of(&UNIVERSAL_NAMES, name)
 }
 
+/// Returns whether a capital letter begins the text. No name of a zone or a day begins otherwise, so few words are read
+/// whole.
+#[inline(always)]
+pub(crate) fn begins_with_capital(text: &str) -> bool
+    ensures { MatchBool result (BeginsWith spec.is_capital (chars text.now))
+        (BeginsWith spec.is_capital (chars text.now) → ⊥) }
+{
+    match first(text) {
+        Some((c, _)) => 'A' <= c && c <= 'Z',
+        None => false,
+    }
+}
+
 // The name of a zone at the front.
 fn zone_name(text: &str) -> Option<(&str, &str)>
     ensures { Reads spec.zone_name (λ name. shown name) (chars text.now) result }
 {
+    if !begins_with_capital(text) {
+        return None;
+    }
     let (name, rest) = bare_word(text)?;
     if !is_zone_name(name) {
         return None;

@@ -1,10 +1,7 @@
-use Rattle.std.proofs.Common.{ap, sym}
-use Rattle.syslog_dialects.proofs.OddLemmas.{not_odd}
-use Rattle.syslog_dialects.specs.Ordinary.{is_odd_app}
+use Rattle.std.proofs.Common.{refl, sym}
+use Rattle.syslog_dialects.proofs.OddLemmas.{plain_not_odd}
 use Rattle.syslog_dialects.proofs.ordinary.is_odd_app.Goals as goal
 
-pub returns-in_default : goal.returns-in_default
-returns-in_default c = sym (ap is_odd_app c.in_default.ensures)
-
-pub returns-else-begins_oddly : goal.returns-else-begins_oddly
-returns-else-begins_oddly c = not_odd c.in-Some.ensures.0 c.if-begins_oddly.ensures
+pub returns-then-begins_plainly : goal.returns-then-begins_plainly
+returns-then-begins_plainly c = sym (plain_not_odd c.args.app.now c.utf8.app
+    (rw c.as_bytes.ensures.value at (c.if-begins_plainly.ensures refl)))

@@ -5,7 +5,7 @@ use Rattle.std.proofs.lemmas.Bool.{agree_below, agree_below_at}
 use Rattle.syslog_dialects.specs.Runs.{is_of}
 use Rattle.syslog_dialects.specs.contracts.runs.Run.{the_type}
 use Rattle.syslog_dialects.specs.declared.runs.Run.{Run}
-use Rattle.syslog_dialects.specs.declared.runs.Run.TheVariants.{Word, Plain, Unquoted}
+use Rattle.syslog_dialects.specs.declared.runs.Run.TheVariants.{Word, Plain, Unquoted, Either}
 use Rattle.syslog_dialects.specs.declared.runs.TheConstants.{CLASSES}
 use Rattle.syslog_dialects.proofs.runs.is_in.Goals as goal
 
@@ -16,6 +16,7 @@ agrees : (run : Run) → agree_below (reads run) (is_of run) 256 ≡ true
 agrees Word = refl
 agrees Plain = refl
 agrees Unquoted = refl
+agrees Either = refl
 
 pub returns : goal.returns
 returns c = agree_below_at (reads c.args.run) (is_of c.args.run) 256 c.args.b (agrees c.args.run) (omega arith)
