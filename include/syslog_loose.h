@@ -70,10 +70,10 @@ struct syslog_options {
 
 /* A dialect is a form of lines of senders that follow neither protocol, as Cisco's switches and FortiGate's firewalls
  * write them: docs/SENDERS.md has them all. Where the variant and no_dialects are 0, syslog_read, syslog_read_fields,
- * syslog_read_lines and syslog_json read a line in its dialect. Its message has no structured data.
+ * syslog_read_lines, syslog_json and syslog_to_rfc5424 read a line in its dialect. Its message has no structured data.
  *
- * syslog_normalise, syslog_settle, syslog_is_canonical and syslog_to_rfc5424 read each line by the protocols alone. A
- * line of a dialect may be no message for them. */
+ * syslog_normalise, syslog_settle and syslog_is_canonical read each line by the protocols alone. A line of a dialect
+ * may be no message for them. */
 
 /* A piece of the line, in UTF-8. No zero byte ends it. An absent one has the length 0. */
 struct syslog_text {
@@ -192,9 +192,9 @@ uint32_t syslog_normalise(const char *line, size_t length, const struct syslog_o
 uint32_t syslog_settle(const char *line, size_t length, const struct syslog_options *options, char *room,
                        size_t room_length, size_t *needed);
 
-/* The line as strict RFC 5424: unchanged if it is in the RFC's grammar, and otherwise its message, converted field by
- * field. The text is in the grammar; of a converted line, it is read back as the converted message. It may be longer
- * than the line. */
+/* The line as strict RFC 5424, as the program syslog_5424 writes it: unchanged if it is in the RFC's grammar, and
+ * otherwise its message, converted field by field. The text is in the grammar; of a converted line, it is read back as
+ * the converted message. It may be longer than the line. */
 uint32_t syslog_to_rfc5424(const char *line, size_t length, const struct syslog_options *options, char *room,
                            size_t room_length, size_t *needed);
 

@@ -370,6 +370,16 @@ static void dialects(void)
     CHECK(syslog_json(line, sizeof line - 1, &OPTIONS, 0, room, ROOM, &needed) == SYSLOG_DONE);
     CHECK(syslog_json(line, sizeof line - 1, &without, 0, other, ROOM, &again) == SYSLOG_DONE);
     CHECK(needed != again || memcmp(room, other, needed));
+    /* README.md's switch. */
+    static const char from_switch[] =
+        "<187>4211: core-sw1: Mar  1 18:48:50.483 CET: %LINK-3-UPDOWN: Interface Gi1/0/3, changed state to down";
+    static const char strict_text[] =
+        "<187>1 2026-03-01T18:48:50.483+00:00 core-sw1 %LINK-3-UPDOWN - - - Interface Gi1/0/3, changed state to down";
+    size_t length = sizeof from_switch - 1;
+    CHECK(syslog_to_rfc5424(from_switch, length, &OPTIONS, room, ROOM, &needed) == SYSLOG_DONE);
+    CHECK(needed == sizeof strict_text - 1 && !memcmp(room, strict_text, needed));
+    CHECK(syslog_to_rfc5424(from_switch, length, &without, room, ROOM, &needed) == SYSLOG_NO_READING && !needed);
+    CHECK(syslog_to_rfc5424(from_switch, length, &loose, room, ROOM, &needed) == SYSLOG_NO_READING && !needed);
     /* What prints a line has no dialects. */
     CHECK(syslog_normalise(line, sizeof line - 1, &OPTIONS, room, ROOM, &needed) == SYSLOG_DONE);
     CHECK(syslog_normalise(line, sizeof line - 1, &without, other, ROOM, &again) == SYSLOG_DONE);

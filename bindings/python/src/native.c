@@ -31,9 +31,9 @@ static PyMethodDef methods[] = {
     OF_A_LINE(settle, "",
               "Returns the line, printed again and again until it no longer changes. Raises ParseError if it, or such "
               "a text, is no message."),
-    OF_A_LINE(to_rfc5424, "",
-              "Returns the line as strict RFC 5424: unchanged if it is in the RFC's grammar, and otherwise its "
-              "message, converted.\n"
+    OF_A_LINE(to_rfc5424, ", dialects=True",
+              "Returns the line as strict RFC 5424, as syslog_5424 writes it: unchanged if it is in the RFC's grammar, "
+              "and otherwise its message, converted.\n"
               "Raises ParseError if it is neither."),
     OF_A_LINE(json, ", dialects=True, raw=False",
               "Returns the message of a line as the text of one JSON object, as syslog_json writes it; with `raw` it "

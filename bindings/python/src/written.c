@@ -34,10 +34,10 @@ PyObject *written(writer *call, const struct line *line, const struct syslog_opt
     return text;
 }
 
-static PyObject *write_by(writer *writes, PyObject *const *words, Py_ssize_t count, PyObject *names)
+static PyObject *write_by(writer *writes, int keys, PyObject *const *words, Py_ssize_t count, PyObject *names)
 {
     struct call call;
-    if (take_call(words, count, names, PRINTING_KEYS, &call))
+    if (take_call(words, count, names, keys, &call))
         return NULL;
     PyObject *text = written(writes, &call.line, &call.options);
     end_call(&call);
@@ -46,17 +46,17 @@ static PyObject *write_by(writer *writes, PyObject *const *words, Py_ssize_t cou
 
 PyObject *normalise(PyObject *self, PyObject *const *words, Py_ssize_t count, PyObject *names)
 {
-    return write_by(syslog_normalise, words, count, names);
+    return write_by(syslog_normalise, PRINTING_KEYS, words, count, names);
 }
 
 PyObject *settle(PyObject *self, PyObject *const *words, Py_ssize_t count, PyObject *names)
 {
-    return write_by(syslog_settle, words, count, names);
+    return write_by(syslog_settle, PRINTING_KEYS, words, count, names);
 }
 
 PyObject *to_rfc5424(PyObject *self, PyObject *const *words, Py_ssize_t count, PyObject *names)
 {
-    return write_by(syslog_to_rfc5424, words, count, names);
+    return write_by(syslog_to_rfc5424, READING_KEYS, words, count, names);
 }
 
 /* The object as one that says that its line is not UTF-8. */

@@ -264,9 +264,19 @@ class Dates(unittest.TestCase):
         self.assertEqual(
             [syslog_loose.dialect_name(it) for it in (23, 0, 19, 1 << 40)], ["cisco-ios", None, None, None]
         )
-        for options in ({"dialects": False}, {"dialects": True}):
+        for call, options in itertools.product((normalise, settle), ({"dialects": False}, {"dialects": True})):
             with self.assertRaises(TypeError):
-                to_rfc5424(LINE, year=2026, **options)
+                call(LINE, year=2026, **options)
+
+    def test_strict_lines_of_dialects(self):
+        self.assertEqual(
+            to_rfc5424(SWITCH, year=2026),
+            "<187>1 2026-03-01T18:48:50.483+00:00 core-sw1 %LINK-3-UPDOWN - - - "
+            "Interface GigabitEthernet1/0/3, changed state to down",
+        )
+        for options in ({"dialects": False}, {"variant": "3164"}):
+            with self.assertRaises(ParseError):
+                to_rfc5424(SWITCH, year=2026, **options)
 
     def test_variant(self):
         line = "<34>1 2003-10-11T22:14:15Z h a - - - x"

@@ -72,8 +72,8 @@ pub struct Options {
     pub month: Option<u8>,
     /// How many seconds dates that show no offset are ahead of UTC, from -93599 to 93599.
     pub offset: i32,
-    /// Whether a line is read in its sender's dialect, if it is in one, by the calls that parse a line and by `json`.
-    /// It counts only if the variant is `Either`. `normalise`, `settle`, `to_rfc5424` and `is_canonical` read each line
+    /// Whether a line is read in its sender's dialect, if it is in one, by the calls that parse a line, by `json` and by
+    /// `to_rfc5424`. It counts only if the variant is `Either`. `normalise`, `settle` and `is_canonical` read each line
     /// by the protocols alone.
     pub dialects: bool,
 }
@@ -299,7 +299,8 @@ fn printed(call: raw::Writer, line: &[u8], options: &Options) -> Result<String, 
     })
 }
 
-/// Returns the line as strict RFC 5424: unchanged if it is in the RFC's grammar, and otherwise its message, converted.
+/// Returns the line as strict RFC 5424, as `syslog_5424` writes it: unchanged if it is in the RFC's grammar, and
+/// otherwise its message, converted.
 pub fn to_rfc5424<T: AsRef<[u8]> + ?Sized>(line: &T, options: &Options) -> Result<String, Error> {
     printed(raw::syslog_to_rfc5424, line.as_ref(), options)
 }

@@ -313,6 +313,12 @@ fn converted() {
     let ahead = Options { offset: 3_600, ..IN_2026 };
     assert_eq!(to_rfc5424("Oct 11 22:14:15 h app[323]: größe", &ahead).as_deref(), Ok(strict));
     assert_eq!(to_rfc5424(strict, &IN_2026).as_deref(), Ok(strict));
+    let by_dialect =
+        "<187>1 2026-03-01T18:48:50.483+00:00 core-sw1 %LINK-3-UPDOWN - - - Interface changed state to down";
+    assert_eq!(to_rfc5424(SWITCH, &IN_2026).as_deref(), Ok(by_dialect));
+    for options in [Options { dialects: false, ..IN_2026 }, Options { variant: Variant::Rfc3164, ..IN_2026 }] {
+        assert_eq!(to_rfc5424(SWITCH, &options), Err(Error::NoMessage));
+    }
     let line = r#"<34>1 - h a - - [e b="\]" b="2"] x"#;
     let object = concat!(
         r#"{"protocol":"RFC5424","version":1,"facility":"auth","facility_code":4,"severity":"crit","severity_code":2,"#,

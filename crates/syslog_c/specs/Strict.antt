@@ -1,9 +1,10 @@
--- What `syslog_to_rfc5424` leaves, in the words of the call of `syslog_strict`.
+-- What `syslog_to_rfc5424` leaves, in the words of the call of `syslog_strict_sent`.
 use Rattle.std.specs.Prelude.{◌≡◌, ◌⊎◌, ℕ, List, Result, MatchResult}
 use Rattle.std.specs.Str.{chars, IsUtf8}
 use Rattle.syslog_pieces.specs.Pieces.Class.{Text}
 use Rattle.syslog_loose.specs.declared.fault.ParseFault.{ParseFault}
-use Rattle.syslog_strict.specs.Call.{Converts, Copies}
+use Rattle.syslog_strict.specs.Call.{Copies}
+use Rattle.syslog_strict_sent.specs.Converted.{ConvertsSent}
 use Rattle.syslog_c.specs.Line.{OnLine}
 use Rattle.syslog_c.specs.Options.{IsTaken}
 use Rattle.syslog_c.specs.Room.{IsLeft, IsLeftFor, Puts}
@@ -21,9 +22,10 @@ abbrev pub PutsSome : (Result (Unit {0}) ParseFault → Text → Type 0) → Lis
 PutsSome Holds old new needed outcome = (result : Result (Unit {0}) ParseFault) × (text : Text) × Holds result text
     × PutsResult result text old new needed outcome
 
--- the line is copied, as the call says, or converted
+-- the line is copied, as the call says, or read by the rules and converted
 abbrev pub PutsStrict : Options → List ℕ → List ℕ → List ℕ → ℕ → Outcome → Type 0
 PutsStrict options line old new needed outcome =
     (IsTaken options × IsUtf8 line × PutsSome (Copies (chars line)) old new needed outcome)
     ⊎ OnLine options line outcome (IsLeft old new needed)
-    (λ rules dating input. PutsSome (Converts rules.variant dating input) old new needed outcome)
+    (λ rules dating input. PutsSome (ConvertsSent rules.dates dating rules.dialects rules.variant input)
+    old new needed outcome)

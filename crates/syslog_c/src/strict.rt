@@ -1,5 +1,4 @@
 //! A line as strict RFC 5424, in a buffer of the caller's.
-ghost use Rattle.syslog_loose.specs.Today.{IsYearIn};
 ghost use Rattle.syslog_c.specs.Outcome.{IsCodeOf};
 ghost use Rattle.syslog_c.specs.Strict.{PutsStrict};
 
@@ -8,12 +7,11 @@ use crate::outcome::Outcome;
 use crate::room::{outcome_of, put};
 use crate::rules::rules_of;
 use std::alloc::Global;
-use syslog_loose::IncompleteDate;
-use syslog_strict::to_rfc5424_into;
+use syslog_strict_sent::to_rfc5424_sent;
 use syslog_utf8::from_utf8;
 
 /// Writes the line as strict RFC 5424 to the front of `room`, and its length in bytes to `needed`: a line that is in
-/// the RFC's grammar as it is, and otherwise its message, converted. This call allocates.
+/// the RFC's grammar as it is, and otherwise the message as which its sender meant it, converted. This call allocates.
 #[unsafe(no_mangle)]
 pub extern "C" fn syslog_to_rfc5424(
     alloc: Global,
@@ -43,19 +41,14 @@ fn write_strict(
     let Ok(input) = from_utf8(line) else {
         return Outcome::NotUtf8;
     };
-    let dates = &rules.dates;
-    let get_year = |date: IncompleteDate| -> i32
-        ensures { IsYearIn dates.entry.now.today date result }
-    { dates.year_of(date) };
     let mut text = String::new(alloc);
-    match to_rfc5424_into(
+    match to_rfc5424_sent(
         alloc,
         &mut text,
         input,
-        get_year,
-        None,
+        &rules.dates,
         rules.variant,
-        &dates.zone,
+        rules.dialects,
     ) {
         Ok(()) => put(text.as_bytes(), room, needed),
         Err(fault) => outcome_of(fault),

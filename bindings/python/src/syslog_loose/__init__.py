@@ -13,9 +13,9 @@ Each call takes these:
   "replace" it has U+FFFD for each part that is not UTF-8, and by "latin-1" it is read as ISO 8859-1. A line that is
   UTF-8 is read as that.
 
-`parse`, `json` and what reads many lines read a line in its sender's dialect, if it is in one: docs/SENDERS.md lists
-them. They do so unless `dialects` is false or `variant` names a protocol. `normalise`, `settle` and `to_rfc5424` read
-each line by the protocols alone, and a line of a dialect may be no message for them.
+`parse`, `json`, `to_rfc5424` and what reads many lines read a line in its sender's dialect, if it is in one:
+docs/SENDERS.md lists them. They do so unless `dialects` is false or `variant` names a protocol. `normalise` and
+`settle` read each line by the protocols alone, and a line of a dialect may be no message for them.
 
 Threads may call all of this at once. A call for one line keeps Python's lock, since it takes less time than to give the
 lock up and to take it again; read_columns and to_frame let it go while they read lines.

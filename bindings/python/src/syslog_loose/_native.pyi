@@ -44,6 +44,7 @@ def to_rfc5424(
     offset: int = 0,
     variant: Variant = "either",
     errors: Errors = "strict",
+    dialects: bool = True,
 ) -> str: ...
 def json(
     line: Line,

@@ -4,14 +4,13 @@ use Rattle.syslog_strict.specs.Pushing.{text_in}
 use Rattle.syslog_c.proofs.StrictLemmas.{strict_put}
 use Rattle.syslog_c.proofs.strict.write_strict.Goals as goal
 
-pub returns-in-Ok-to_rfc5424_into : goal.returns-in-Ok-to_rfc5424_into
-returns-in-Ok-to_rfc5424_into c =
+pub returns-in-Ok-to_rfc5424_sent : goal.returns-in-Ok-to_rfc5424_sent
+returns-in-Ok-to_rfc5424_sent c =
     let value = c.as_bytes.ensures.value in
-    strict_put _ _ _ _ (Ok _) (text_in c.to_rfc5424_into.new.text) _ _ _ _
-    c.in-Some.ensures c.in-Ok.ensures (λ date y is. is.1) c.in-Ok-to_rfc5424_into.ensures
-    (_, rw value (IsUtf8-string_bytes c.to_rfc5424_into.new.text), ap chars value, c.put.ensures)
+    strict_put _ _ _ _ (Ok _) (text_in c.to_rfc5424_sent.new.text) _ _ _ _
+    c.in-Some.ensures c.in-Ok.ensures c.in-Ok-to_rfc5424_sent.ensures
+    (_, rw value (IsUtf8-string_bytes c.to_rfc5424_sent.new.text), ap chars value, c.put.ensures)
 
 pub returns : goal.returns
-returns c = strict_put _ _ _ _ (Err _) (text_in c.to_rfc5424_into.new.text) _ _ _ _
-    c.in-Some.ensures c.in-Ok.ensures (λ date y is. is.1) c.in-Err.ensures
-    (c.outcome_of.ensures, (refl, refl))
+returns c = strict_put _ _ _ _ (Err _) (text_in c.to_rfc5424_sent.new.text) _ _ _ _
+    c.in-Some.ensures c.in-Ok.ensures c.in-Err.ensures (c.outcome_of.ensures, (refl, refl))
