@@ -27,7 +27,7 @@ HEAP = $(KIT)/c/liblibc_c.a
 
 VERSION := $(shell awk '/^.define SYSLOG_VERSION_(MAJOR|MINOR|PATCH) / { printf s $$3; s = "." }' \
 	include/syslog_loose.h)
-SONAME = libsyslog_loose.so.3
+SONAME = libsyslog_loose.so.4
 SHARED = libsyslog_loose.so.$(VERSION)
 BUILT = $(TIDY) $(JSON) $(STRICT) $(OUT)/libsyslog_loose.a $(OUT)/$(SHARED)
 

@@ -24,7 +24,7 @@
  * What stays, before version 1.0 too: the names of calls, structs, fields and macros, their numbers, and what each
  * promises here. What a minor version may change before 1.0:
  *   - It may add calls and outcomes, so take an outcome that you don't know for a failure.
- *   - It may add fields at the end of a struct, so set fields by their names. The shared library (libsyslog_loose.so.3)
+ *   - It may add fields at the end of a struct, so set fields by their names. The shared library (libsyslog_loose.so.4)
  *     then gets another number: no program runs with structs of another size than it was compiled with.
  *   - It may read a line in another way, and CHANGELOG.md then says so.
  */
@@ -53,7 +53,8 @@ enum syslog_outcome {
     SYSLOG_NOT_UTF8 = 2,     /* the bytes are no UTF-8 */
     SYSLOG_NO_MEMORY = 3,    /* an allocation failed: only in one of the four calls that ask for memory */
     SYSLOG_NO_ROOM = 4,      /* a buffer or an array is too small: see what is needed */
-    SYSLOG_BAD_ARGUMENT = 5  /* one of the options is out of its range */
+    SYSLOG_BAD_ARGUMENT = 5  /* the options mean nothing: one is out of its range, the calendar does not have the day, or
+                                the zone is no rule, or there are a zone and an offset */
 };
 
 /* How a line is read. { .year = 2026 } reads both protocols and the dialects, in that year and in UTC. { 0 } reads in
@@ -66,6 +67,12 @@ struct syslog_options {
     int32_t offset;       /* seconds by which dates without an offset are ahead of UTC, from -93599 to 93599 */
     uint32_t no_dialects; /* 0: a line is read in its sender's dialect, where it is in one; any other number: each line
                              is read by the protocols alone */
+    uint32_t day;         /* 0: the day is not known; 1 to 31: it is this day of that month, which the calendar has, and
+                             a date is of the last year that puts it no more than a day past this day. So on 2026-11-28
+                             Nov 29 is of 2026, and Nov 30 of 2025 */
+    char zone[96];        /* "": dates without an offset are at the one above; otherwise a POSIX rule for them, as
+                             "CET-1CEST,M3.5.0,M10.5.0/3", and the offset above is 0. A zero byte ends it: a rule has at
+                             most 90 bytes. One with summer time says when that begins and ends. Names are no rules */
 };
 
 /* A dialect is a form of lines of senders that follow neither protocol, as Cisco's switches and FortiGate's firewalls

@@ -242,25 +242,77 @@ static void refused(const char *line, size_t length, const struct syslog_options
     CHECK(syslog_is_canonical(line, length, options, &canonical) == code && canonical == 0);
 }
 
+/* A rule as long as they get: each name has at most fifteen bytes, and each number at most its digits. */
+#define LONGEST_RULE \
+    "<STANDARD-TIME-0>-24:59:59<SUMMER-TIME-000>-23:59:59,M12.5.0/-167:59:59,M12.5.0/-167:59:59"
+
 static void wrong_arguments(void)
 {
     static const char line[] = "1 - - - - - [a b=\"c\"] x", latin[] = "1 - - - - - - gr\xfc\xdf";
     static const struct syslog_options wrong[] = {
-        { 1, 2026, 0, 0, 0 },         { 5425, 2026, 0, 0, 0 },   { 0, -10000, 0, 0, 0 },
-        { 0, 10000, 0, 0, 0 },        { 0, INT32_MIN, 1, 0, 0 }, { 0, INT32_MAX, 0, 0, 1 },
-        { 0, 2026, 13, 0, 0 },        { 0, 2026, UINT32_MAX, 0, 0 },
-        { 0, 2026, 0, 93600, 0 },     { 0, 2026, 0, -93600, 1 }, { 0, 2026, 0, INT32_MIN, 0 },
-        { 3163, 2026, 0, 0, 0 },
+        { .variant = 1, .year = 2026 },
+        { .variant = 3163, .year = 2026 },
+        { .variant = 5425, .year = 2026 },
+        { .year = -10000 },
+        { .year = 10000 },
+        { .year = INT32_MIN, .month = 1 },
+        { .year = INT32_MAX, .no_dialects = 1 },
+        { .year = 2026, .month = 13 },
+        { .year = 2026, .month = UINT32_MAX },
+        { .year = 2026, .offset = 93600 },
+        { .year = 2026, .offset = -93600, .no_dialects = 1 },
+        { .year = 2026, .offset = INT32_MIN },
+        /* (no such day, also where a number is taken modulo 256 or 65,536) */
+        { .year = 2026, .day = 1 },
+        { .year = 2026, .month = 1, .day = 32 },
+        { .year = 2026, .month = 2, .day = 29 },
+        { .year = 2026, .month = 11, .day = 31 },
+        { .year = 2026, .month = 13, .day = 1 },
+        { .year = 10000, .month = 1, .day = 1 },
+        { .year = -10000, .month = 12, .day = 31 },
+        { .year = 2026, .month = 12, .day = UINT32_MAX },
+        { .year = 2026, .month = 1, .day = 257 },
+        { .year = 2026, .month = 257, .day = 1 },
+        { .year = 67562, .month = 1, .day = 1 },
+        { .year = 2026, .month = 1, .offset = 93600, .day = 1 },
+        /* (zones that are no rules, and a rule beside an offset) */
+        { .year = 2026, .zone = "EST5EDT" },
+        { .year = 2026, .zone = "Europe/Berlin" },
+        { .year = 2026, .zone = "UTC" },
+        { .year = 2026, .zone = " " },
+        { .year = 2026, .zone = "CET-1 " },
+        { .year = 2026, .zone = "CET-1CEST,M3.5.0,M10.5.0/3x" },
+        { .year = 2026, .zone = "CET-1CEST,M3.5.0,M13.5.0" },
+        { .year = 2026, .zone = "\xc3\x89ST5" },
+        { .year = 2026, .zone = "\xff" },
+        { .year = 2026, .offset = 3600, .zone = "CET-1" },
+        { .year = 2026, .offset = INT32_MIN, .zone = "CET-1" },
     };
     for (size_t i = 0; i < sizeof wrong / sizeof *wrong; i++) {
         refused(line, sizeof line - 1, &wrong[i], SYSLOG_BAD_ARGUMENT);
         refused(latin, sizeof latin - 1, &wrong[i], SYSLOG_BAD_ARGUMENT);
     }
     static const struct syslog_options right[] = {
-        { 0, -9999, 1, -93599, 0 }, { 5424, 9999, 12, 93599, 0 }, { 3164, 0, 0, 0, UINT32_MAX },
+        { .year = -9999, .month = 1, .offset = -93599 },
+        { .variant = 5424, .year = 9999, .month = 12, .offset = 93599 },
+        { .variant = 3164, .no_dialects = UINT32_MAX },
+        { .year = 2024, .month = 2, .day = 29 },
+        { .year = -9999, .month = 1, .day = 1 },
+        { .year = 9999, .month = 12, .offset = -93599, .day = 31 },
+        { .year = 2026, .zone = "CET-1" },
+        { .year = 2026, .month = 11, .day = 28, .zone = "CET-1CEST,M3.5.0,M10.5.0/3" },
+        { .year = 2026, .zone = "UTC0\0and what comes after a text" },
+        { .year = 2026, .zone = LONGEST_RULE },
     };
+    CHECK(sizeof LONGEST_RULE == 91);
     for (size_t i = 0; i < sizeof right / sizeof *right; i++)
         refused(latin, sizeof latin - 1, &right[i], SYSLOG_NOT_UTF8);
+    /* A text that fills the array is longer than any rule; so is one that snprintf cut. */
+    struct syslog_options full = { .year = 2026 };
+    memset(full.zone, 'A', sizeof full.zone);
+    refused(line, sizeof line - 1, &full, SYSLOG_BAD_ARGUMENT);
+    full.zone[sizeof full.zone - 1] = 0;
+    refused(line, sizeof line - 1, &full, SYSLOG_BAD_ARGUMENT);
     refused("gobbledegook", 12, &OPTIONS, SYSLOG_NO_READING);
     refused("gobbledegook", 12, &right[2], SYSLOG_NO_READING);
     refused("", 0, &OPTIONS, SYSLOG_NO_READING);

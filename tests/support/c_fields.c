@@ -1,6 +1,6 @@
 /* Prints what the library for C makes of each line of standard input, a JSON object a line.
  *
- *   c_fields VARIANT YEAR MONTH OFFSET [nul] [dialects]
+ *   c_fields VARIANT YEAR MONTH OFFSET DAY ZONE [nul] [dialects]
  *
  * nul: a zero byte ends a line, and not a line feed. dialects: a line is read in the dialect that it is in.
  *
@@ -210,14 +210,16 @@ static void print_line(const struct syslog_options *options)
 
 int main(int count, char **words)
 {
-    if (count < 5 || syslog_version() != SYSLOG_VERSION)
+    if (count < 7 || syslog_version() != SYSLOG_VERSION)
         return 2;
     struct syslog_options options = { .variant = (uint32_t)atol(words[1]), .year = atoi(words[2]),
-                                      .month = (uint32_t)atol(words[3]), .offset = atoi(words[4]), .no_dialects = 1 };
+                                      .month = (uint32_t)atol(words[3]), .offset = atoi(words[4]), .no_dialects = 1,
+                                      .day = (uint32_t)atol(words[5]) };
+    snprintf(options.zone, sizeof options.zone, "%s", words[6]);
     char *text = NULL;
     size_t size = 0;
     int closing = '\n';
-    for (int i = 5; i < count; i++)
+    for (int i = 7; i < count; i++)
         if (!strcmp(words[i], "nul"))
             closing = 0;
         else

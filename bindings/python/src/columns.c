@@ -88,7 +88,7 @@ PyObject *columns(PyObject *self, PyObject *words)
 {
     const char *buffer;
     Py_ssize_t length;
-    struct syslog_options options;
+    struct syslog_options options = {0};
     if (!PyArg_ParseTuple(words, "y#IiIiI", &buffer, &length, &options.variant, &options.year, &options.month,
                           &options.offset, &options.no_dialects))
         return NULL;

@@ -106,6 +106,8 @@ impl Options {
             month: self.month.map_or(0, u32::from),
             offset: self.offset,
             no_dialects: u32::from(!self.dialects),
+            day: 0,
+            zone: [0; raw::ZONE],
         }
     }
 }

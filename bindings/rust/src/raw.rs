@@ -2,6 +2,9 @@
 use std::ptr::NonNull;
 use std::{slice, str};
 
+/// How many bytes there are for the rule of a zone, with a zero byte after it.
+pub const ZONE: usize = 96;
+
 #[repr(C)]
 pub struct Options {
     pub variant: u32,
@@ -9,6 +12,8 @@ pub struct Options {
     pub month: u32,
     pub offset: i32,
     pub no_dialects: u32,
+    pub day: u32,
+    pub zone: [u8; ZONE],
 }
 
 /// A piece of the line, in UTF-8.

@@ -2,6 +2,7 @@ pub mod Words
 pub mod ArrayLemmas
 pub mod LineLemmas
 pub mod NameLemmas
+pub mod OptionLemmas
 pub mod ReadLemmas
 pub mod RowLemmas
 pub mod SentLemmas

@@ -4,6 +4,7 @@ use Rattle.syslog_c.proofs.Words.{AreRules, Rules, in_year_map}
 use Rattle.std.specs.Str.{chars}
 use Rattle.syslog_loose.specs.Dates.{IsDated}
 use Rattle.syslog_c.specs.Line.{IsTried}
+use Rattle.syslog_c.specs.declared.outcome.Outcome.TheVariants.{NotUtf8}
 
 -- what holds of the text that the line's bytes are, as its dates are taken by the rules
 pub tried_line : (Holds : Rules → Dating → Text → Type 0) (options : Options) (line bytes : List ℕ) (rules : Rules)
@@ -17,6 +18,12 @@ tried_line Holds options line bytes rules are (same, utf8) holds = record {
   holds = subst (λ (bs : List ℕ). IsDated rules.dates rules.variant (chars bs)
       (λ dating. Holds rules dating (chars bs))) same holds;
 }
+
+-- a line that is not UTF-8, by options that say some rules
+pub not_text : {Left : Type 0} {Holds : Rules → Dating → Text → Type 0} (options : Options) (line : List ℕ)
+    (outcome : Outcome) (rules : Rules) → AreRules options rules → (IsUtf8 line → ⊥) → outcome ≡ NotUtf8 → Left
+    → OnLine options line outcome Left Holds
+not_text options line outcome rules are other is left = inr (inl (is, (rules, are), other, left))
 
 -- what holds of a line that is read holds of one that is read so
 pub tried_map : {Holds More : Rules → Dating → Text → Type 0} (options : Options) (line : List ℕ)

@@ -1,5 +1,5 @@
 -- A line of RFC 5424 shows no month date.
-use Rattle.syslog_c.proofs.Words.{◌≡◌, ◌∙◌, sym, ap, ℕ, Text, Dating, Variant, inl, inr, arith, Option, None, Some}
+use Rattle.syslog_c.proofs.Words.{◌≡◌, ◌∙◌, ap, ℕ, Text, Dating, Variant, inl, inr, arith, Option, None, Some}
 use Rattle.syslog_c.proofs.Words.{IsStamp, MessageValue, OffsetTimestamp, ShowsNoDate, Stamp}
 use Rattle.syslog_loose.specs.Reading.{IsRead, dash_rule}
 use Rattle.syslog_loose.specs.Rfc3164.{IsRead3164}

@@ -17,7 +17,7 @@ pub strict_put : (options : Options) (line bytes : List ℕ) (rules : Rules) (re
     → PutsResult result text old new needed outcome → PutsStrict options line old new needed outcome
 strict_put options line bytes rules result text old new needed outcome are (same, utf8) (inl copies) puts =
     inl (
-      ((rules.variant, are.named), are.in_range),
+      (rules, are),
       utf8,
       (
         result,

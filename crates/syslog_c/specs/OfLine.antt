@@ -1,5 +1,5 @@
 -- What C gets of a line.
-use Rattle.std.specs.Prelude.{◌≡◌, Option}
+use Rattle.std.specs.Prelude.{Option}
 use Rattle.syslog_pieces.specs.Pieces.Class.{Text}
 use Rattle.syslog_pieces.specs.StructuredData.Unparsed.{if_any}
 use Rattle.syslog_loose.specs.Line.{line_value}

@@ -1,5 +1,5 @@
 -- What `syslog_read_lines` leaves.
-use Rattle.std.specs.Prelude.{◌≡◌, ◌⊎◌, ℕ, ◌<◌, List, length, take, pos, negsuc, None}
+use Rattle.std.specs.Prelude.{◌≡◌, ℕ, ◌<◌, List, length, take, negsuc, None}
 use Rattle.syslog_lines.specs.Lines.{IsLines}
 use Rattle.syslog_c.specs.Fields.{IsBegun, IsNoText, IsProcess, IsStamp}
 use Rattle.syslog_c.specs.Line.{OnLine}

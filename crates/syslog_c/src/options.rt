@@ -17,4 +17,10 @@ pub struct Options {
     pub offset: i32,
     /// If it is 0, a line that is in a dialect is read in it. Otherwise each line is read by the two protocols alone.
     pub no_dialects: u32,
+    /// The current day of the month, from 1 to 31, which the calendar has: a date that shows no year is of the last
+    /// year that puts it no more than a day past this day. If it is 0, only the year and the month are known.
+    pub day: u32,
+    /// The zone of dates that show none, as a POSIX rule such as `CET-1CEST,M3.5.0,M10.5.0/3`, beside which `offset` is
+    /// 0. A zero byte ends it. If it is empty, `offset` counts.
+    pub zone: [u8; 96],
 }

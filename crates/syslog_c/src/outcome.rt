@@ -15,6 +15,7 @@ pub enum Outcome {
     NoMemory = 3,
     /// An array or the buffer is too small. The counts, or `needed`, say how large it has to be.
     NoRoom = 4,
-    /// There is no such variant, year, month or offset.
+    /// The options mean nothing: one is out of its range, the calendar does not have the day, the zone is no rule, or
+    /// there are a zone and an offset.
     BadArgument = 5,
 }

@@ -1,13 +1,16 @@
 //! What the options of a caller in C mean.
-ghost use Rattle.std.specs.Prelude.{◌≡◌, ◌↔◌, ◌≤◌, IsTrue, MatchOption};
-ghost use Rattle.jiff.specs.Words.{plain_zone};
+ghost use Rattle.std.specs.Prelude.{◌≡◌, ◌↔◌, ◌<◌, ◌≤◌, IsTrue, MatchOption, length, pos};
+ghost use Rattle.jiff.specs.Types.{Date as AnyDate, TimeZone as AnyZone};
+ghost use Rattle.jiff.specs.Words.{IsYmd, plain_zone};
 ghost use Rattle.jiff_core.specs.Calendar.{IsYear};
-ghost use Rattle.jiff_core.specs.Timestamp.{IsOffsetSeconds};
+ghost use Rattle.syslog_loose.specs.declared.today.Today.{Today as AnyToday};
 ghost use Rattle.syslog_loose.specs.declared.variant.Variant.{Variant};
-ghost use Rattle.syslog_c.specs.Options.{AreDates, AreInRange, AreRules, IsTaken, current_day, variant_number};
+ghost use Rattle.syslog_c.specs.Options.{AreRules, IsTaken, IsTextIn, IsToday, IsZoneBy, variant_number};
 
 use crate::options::Options;
-use syslog_loose::{Dates, Today, Variant};
+use memchr::memchr;
+use syslog_loose::{Date, Dates, TimeZone, Today, Variant, zone_ahead, zone_of_rule};
+use syslog_utf8::from_utf8;
 
 /// How a line is read: by which variant, how its dates are completed, and whether in the dialect that it is in.
 #[derive(Drop)]
@@ -17,30 +20,35 @@ pub(crate) struct Rules {
     pub(crate) dialects: bool,
 }
 
-/// Returns what the options mean; none if one of them is out of its range.
+/// Returns what the options mean; none if they mean nothing.
 pub(crate) fn rules_of(options: &Options) -> Option<Rules>
     ensures { MatchOption result (IsTaken options.now → ⊥) (λ rules. AreRules options.now rules) }
 {
-    if !are_in_range(options) {
-        return None;
-    }
     let variant = variant_of(options.variant)?;
-    let dates = dates_of(options);
+    let today = today_of(options)?;
     let dialects = options.no_dialects == 0;
+    let rule = text_in(&options.zone);
+    if rule.is_empty() {
+        // (a zone that comes by two ways is copied, and each line pays for that)
+        let Some(zone) = zone_ahead(options.offset) else {
+            return None;
+        };
+        let dates = Dates::new(today, zone);
+        return Some(Rules {
+            variant,
+            dates,
+            dialects,
+        });
+    }
+    let Some(zone) = zone_by(rule, options.offset) else {
+        return None;
+    };
+    let dates = Dates::new(today, zone);
     Some(Rules {
         variant,
         dates,
         dialects,
     })
-}
-
-// Whether the year, the month and the offset are in range.
-fn are_in_range(options: &Options) -> bool
-    ensures { IsTrue result ↔ (IsYear options.now.year × (options.now.month ≤ 12)
-        × IsOffsetSeconds options.now.offset) }
-{
-    (options.year >= -9999 && options.year <= 9999)
-        && (options.month <= 12 && (options.offset >= -93_599 && options.offset <= 93_599))
 }
 
 // The variant that has this number.
@@ -56,20 +64,69 @@ fn variant_of(number: u32) -> Option<Variant>
     }
 }
 
-// Returns what the options say of the current day: its year, and its month if that is known.
-fn today_of(options: &Options) -> Today
-    ensures { result ≡ current_day options.now }
+// Returns what the options say of the current day: the day, or its month, or its year alone.
+fn today_of(options: &Options) -> Option<Today>
+    ensures { MatchOption result ((today : AnyToday) → IsToday options.now today → ⊥)
+        (λ today. IsToday options.now today) }
 {
-    if options.month == 0 {
-        return Today::Year(options.year);
+    if options.day != 0 {
+        return Some(Today::Day(day_of(options)?));
     }
-    Today::Month(options.year, options.month)
+    if !are_in_range(options) {
+        return None;
+    }
+    if options.month == 0 {
+        return Some(Today::Year(options.year));
+    }
+    Some(Today::Month(options.year, options.month))
 }
 
-// Returns how dates that show no year or no zone are completed.
-fn dates_of(options: &Options) -> Dates
-    requires { AreInRange options.now }
-    ensures { AreDates options.now result }
+// Returns the day that the options name, if the calendar has it.
+fn day_of(options: &Options) -> Option<Date>
+    ensures { MatchOption result
+        ((date : AnyDate) → IsYmd options.now.year (pos options.now.month) (pos options.now.day) date → ⊥)
+        (λ date. IsYmd options.now.year (pos options.now.month) (pos options.now.day) date) }
 {
-    Dates::ahead(today_of(options), options.offset)
+    let year = i16::try_from(options.year).ok()?;
+    let month = i8::try_from(options.month).ok()?;
+    let day = i8::try_from(options.day).ok()?;
+    Date::new(year, month, day).ok()
+}
+
+// Whether the calendar has the year, and the month is that of a year, or none.
+fn are_in_range(options: &Options) -> bool
+    ensures { IsTrue result ↔ (IsYear options.now.year × (options.now.month ≤ 12)) }
+{
+    options.year >= -9999 && (options.year <= 9999 && options.month <= 12)
+}
+
+// Returns the zone of a rule, if there is no offset beside it.
+#[cold]
+#[inline(never)]
+fn zone_by(rule: &[u8], offset: i32) -> Option<TimeZone<'static>>
+    requires { 0 < length rule.now }
+    ensures { MatchOption result ((zone : AnyZone) → IsZoneBy rule.now offset zone → ⊥)
+        (λ zone. IsZoneBy rule.now offset (plain_zone zone)) }
+{
+    if offset != 0 {
+        return None;
+    }
+    match from_utf8(rule) {
+        Ok(rule) => zone_of_rule(rule),
+        Err(_) => None,
+    }
+}
+
+// Returns the text that C has in the array: the bytes before the first zero byte, or all of them.
+fn text_in(array: &[u8]) -> &[u8]
+    ensures { IsTextIn array.now result.now }
+{
+    // (mostly there is no text, and each line pays for this look)
+    if !array.is_empty() && array[0] == 0 {
+        return &[];
+    }
+    match memchr(0, array) {
+        Some(end) => &array[..end],
+        None => array,
+    }
 }

@@ -1,7 +1,11 @@
-use Rattle.syslog_c.proofs.Words.{inr, in_year_map, in_year_told}
-use Rattle.syslog_c.proofs.LineLemmas.{tried_line}
+use Rattle.syslog_c.proofs.Words.{inr, in_year_map, in_year_told, rules}
+use Rattle.syslog_c.proofs.LineLemmas.{not_text, tried_line}
 use Rattle.syslog_c.proofs.TextLemmas.{settled_answer}
 use Rattle.syslog_c.proofs.printed.write_settled.Goals as goal
+
+pub returns-in_default-from_utf8 : goal.returns-in_default-from_utf8
+returns-in_default-from_utf8 c =
+    not_text _ _ _ _ c.in-Some.ensures c.in_default-from_utf8.ensures (search rules) (search rules)
 
 pub returns : goal.returns
 returns c =

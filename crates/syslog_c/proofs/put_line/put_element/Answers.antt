@@ -1,4 +1,4 @@
-use Rattle.syslog_c.proofs.Words.{◌∙◌, ◌∷◌, ◌++◌, [], ap, sym, append-nil, append_assoc, Text, shown, param_value}
+use Rattle.syslog_c.proofs.Words.{◌∙◌, ◌∷◌, [], ap, sym, append-nil, append_assoc, Text, shown, param_value}
 use Rattle.syslog_c.proofs.Words.{element_seen, params_left}
 use Rattle.std.specs.List.{flat_map}
 use Rattle.syslog_pieces.specs.StructuredData.Element.{param_text}

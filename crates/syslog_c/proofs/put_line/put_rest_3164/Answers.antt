@@ -1,4 +1,4 @@
-use Rattle.syslog_c.proofs.Words.{[], ◌∷◌, append_assoc}
+use Rattle.syslog_c.proofs.Words.{append_assoc}
 use Rattle.syslog_c.proofs.TextLemmas.{text_after, text_along}
 use Rattle.syslog_c.proofs.put_line.put_rest_3164.Goals as goal
 

@@ -1,6 +1,11 @@
-use Rattle.syslog_c.proofs.Words.{inr, refl, NoReading, in_year_map, in_year_told}
-use Rattle.syslog_c.{proofs.LineLemmas.tried_line, specs.Line.Refuses}
+use Rattle.syslog_c.proofs.Words.{inr, refl, rules, NoReading, in_year_map, in_year_told}
+use Rattle.syslog_c.proofs.LineLemmas.{not_text, tried_line}
+use Rattle.syslog_c.specs.Line.{Refuses}
 use Rattle.syslog_c.proofs.read_line.read_line.Goals as goal
+
+pub returns-in_default-from_utf8 : goal.returns-in_default-from_utf8
+returns-in_default-from_utf8 c =
+    not_text _ _ _ _ c.in-Some.ensures c.in_default-from_utf8.ensures (search rules) (search rules)
 
 pub returns-in-Some-parse_line : goal.returns-in-Some-parse_line
 returns-in-Some-parse_line c = tried_line _ _ _ _ _ c.in-Some.ensures c.in-Ok.ensures

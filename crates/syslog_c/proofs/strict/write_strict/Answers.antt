@@ -1,8 +1,13 @@
-use Rattle.syslog_c.proofs.Words.{Ok, Err, ap, refl, IsUtf8-string_bytes}
+use Rattle.syslog_c.proofs.Words.{Ok, Err, ap, inr, refl, rules, IsUtf8-string_bytes}
 use Rattle.std.specs.Str.{chars}
 use Rattle.syslog_strict.specs.Pushing.{text_in}
+use Rattle.syslog_c.proofs.LineLemmas.{not_text}
 use Rattle.syslog_c.proofs.StrictLemmas.{strict_put}
 use Rattle.syslog_c.proofs.strict.write_strict.Goals as goal
+
+pub returns-in_default-from_utf8 : goal.returns-in_default-from_utf8
+returns-in_default-from_utf8 c =
+    inr (not_text _ _ _ _ c.in-Some.ensures c.in_default-from_utf8.ensures (search rules) (search rules))
 
 pub returns-in-Ok-to_rfc5424_sent : goal.returns-in-Ok-to_rfc5424_sent
 returns-in-Ok-to_rfc5424_sent c =

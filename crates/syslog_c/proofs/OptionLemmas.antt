@@ -1,0 +1,154 @@
+-- The day and the zone that options name.
+use Rattle.syslog_c.proofs.Words.{◌≡◌, ◌∙◌, ◌<◌, ◌≤◌, ◌⊎◌, ◌∷◌, ◌++◌, [], ℕ, ℤ, ap, append-nil, arith, inl, inr, length}
+use Rattle.syslog_c.proofs.Words.{refl, subst, sym, List, Option, Some, None, Result, Ok, Err, IsUtf8, Options}
+use Rattle.std.proofs.Common.{◌↔◌, ◌≢◌, drop, get_or, pos, true≢false}
+use Rattle.std.proofs.lemmas.Int.{ints}
+use Rattle.std.proofs.lemmas.List.Elements.{All-head, All-nil, All-tail}
+use Rattle.std.specs.Prelude.{IfOk, IsOk, MatchOption}
+use Rattle.std.specs.Result.{OkIff, result_ok}
+use Rattle.jiff.specs.Placed.{IsPosixZone}
+use Rattle.jiff.specs.Types.{Date, Fixed, Posix, TimeZone, Tzif, UTC, Unknown}
+use Rattle.jiff.specs.Words.{IsDate, IsOffsetSeconds, IsYear, IsYmd, plain_zone, read_whole}
+use Rattle.jiff.specs.declared.tz.timezone.TimeZone.{TimeZone as Held}
+use Rattle.syslog_lines.specs.Frames.{NoByte}
+use Rattle.syslog_loose.specs.Reckoning.{IsZoneAt}
+use Rattle.syslog_loose.specs.Today.{HasYear}
+use Rattle.syslog_loose.specs.declared.today.Today.{Today}
+use Rattle.syslog_loose.specs.declared.today.Today.TheVariants.{Day, Month, Year}
+use Rattle.syslog_c.specs.Options.{IsTextIn, IsToday, IsZoneBy, IsZoneOf}
+
+-- a number of another type is the same number
+pub converted : {E : Type 0} (P : Type 0) (r : Result ℤ E) (x v : ℤ) → Some x ≡ result_ok r → OkIff r P v → x ≡ v
+converted P (Ok y) x v same fits = let is : x ≡ y = cc in is ∙ fits.1
+converted P (Err fault) x v same fits = cc
+
+-- a date of the calendar has a day that constructors take
+is_date : (year : ℤ) (month day : ℕ) (date : Date) → IsYmd year (pos month) (pos day) date
+    → IsDate year (pos month) (pos day)
+is_date year month day date (same, of_year, of_month) =
+    let month_is : date.month ≡ month = omega (arith, ints, of_year) in
+    let day_is : date.day ≡ day = omega (arith, ints, of_month) in
+    rw (sym same, sym month_is, sym day_is) (
+      date.year_in,
+      (omega (arith, ints, date.month_in.0), omega (arith, ints, date.month_in.1)),
+      (omega (arith, ints, date.day_in.0), omega (arith, ints, date.day_in.1)),
+    )
+
+-- what a constructor of dates returns for such numbers
+pub date_found : {E : Type 0} (year : ℤ) (month day : ℕ) (y m d : ℤ) (r : Result Date E) (found : Option Date)
+    → found ≡ result_ok r → y ≡ year → m ≡ pos month → d ≡ pos day → IsOk r ↔ IsDate y m d → IfOk r (IsYmd y m d)
+    → MatchOption found ((date : Date) → IsYmd year (pos month) (pos day) date → ⊥)
+    (λ date. IsYmd year (pos month) (pos day) date)
+date_found year month day y m d (Ok date) found same at_year at_month at_day there is =
+    rw same (rw (at_year, at_month, at_day) at is)
+date_found year month day y m d (Err fault) found same at_year at_month at_day there is = rw same (λ date named.
+    absurd (true≢false (sym (there.1 (rw (at_year, at_month, at_day) (is_date year month day date named))))))
+
+-- the year of what is known is one of the calendar
+pub has_year : (options : Options) (today : Today) → IsToday options today → HasYear today
+has_year options (Year year) is = is.0
+has_year options (Month year month) is = is.0
+has_year options (Day date) is = tt
+
+-- where there is no day, and the year or the month is out of range, nothing is known
+pub unknown : (options : Options) (today : Today) → options.day ≡ 0
+    → (IsYear options.year × (options.month ≤ 12) → ⊥) → IsToday options today → ⊥
+unknown options (Year year) no_day out is = out (rw is.1 is.0, omega (arith, is.2))
+unknown options (Month year month) no_day out is = out (rw is.1 is.0, omega (arith, is.2, is.3, is.4))
+unknown options (Day date) no_day out is = omega (arith, ints, date.day_in.0, is.2, no_day)
+
+-- where there is a day, only that is known
+pub day_known : (options : Options) (today : Today) → (options.day ≡ 0 → ⊥)
+    → ((date : Date) → IsYmd options.year (pos options.month) (pos options.day) date → ⊥) → IsToday options today → ⊥
+day_known options (Year year) some none is = some is.3
+day_known options (Month year month) some none is = some is.5
+day_known options (Day date) some none is = none date is
+
+-- ---- the text in an array
+
+-- what follows a text that C has in an array
+abbrev IsRest : List ℕ → Type 0
+IsRest rest = (rest ≡ []) ⊎ ((after : List ℕ) × (rest ≡ 0 ∷ after))
+
+with_rest : (array text : List ℕ) → IsTextIn array text → (rest : List ℕ) × IsRest rest × (array ≡ text ++ rest)
+with_rest array text (free, inl same) = ([], inl refl, same ∙ sym (append-nil text))
+with_rest array text (free, inr (after, same)) = (0 ∷ after, inr (after, refl), same)
+
+-- a text without zero bytes is no longer than the one before such a rest
+no_longer : (byte : ℕ) (text more rest : List ℕ) → NoByte 0 (byte ∷ text) → IsRest rest
+    → rest ≡ byte ∷ (text ++ more) → ⊥
+no_longer byte text more rest free (inl none) same = omega (arith, ap length (sym none ∙ same))
+no_longer byte text more rest free (inr (after, zero)) same =
+    All-head (λ (b : ℕ). b ≢ 0) byte text free (sym (ap (λ (l : List ℕ). get_or l 0 0) (sym zero ∙ same)))
+
+one_front : (a b x y : List ℕ) → NoByte 0 a → NoByte 0 b → IsRest x → IsRest y → a ++ x ≡ b ++ y → a ≡ b
+one_front [] [] x y free also at too same = refl
+one_front [] (c ∷ b) x y free also at too same = absurd (no_longer c b y x also at same)
+one_front (c ∷ a) [] x y free also at too same = absurd (no_longer c a x y free too (sym same))
+one_front (c ∷ a) (d ∷ b) x y free also at too same =
+    let head : c ≡ d = ap (λ (l : List ℕ). get_or l 0 0) same in
+    let tail : a ++ x ≡ b ++ y = ap (drop 1) same in
+    let rest : a ≡ b = one_front a b x y (All-tail (λ (it : ℕ). it ≢ 0) c a free)
+    (All-tail (λ (it : ℕ). it ≢ 0) d b also) at too tail in
+    rw (head, rest) refl
+
+-- an array has one text
+text_once : (array a b : List ℕ) → IsTextIn array a → IsTextIn array b → a ≡ b
+text_once array a b is too =
+    let (x, at, here) = with_rest array a is in
+    let (y, ends, there) = with_rest array b too in
+    one_front a b x y is.0 too.0 at ends (sym here ∙ there)
+
+-- an array that begins with a zero byte has no text
+pub text_none : (array : List ℕ) → 0 < length array → get_or array 0 0 ≡ 0 → IsTextIn array []
+text_none [] some zero = absurd (omega (arith, some))
+text_none (byte ∷ after) some zero =
+    (All-nil (λ (b : ℕ). b ≢ 0), inr (after, ap (λ (b : ℕ). b ∷ after) zero))
+
+-- ---- zones
+
+no_rule : (text : List ℕ) (zone : TimeZone) → read_whole text ≡ None → IsPosixZone text zone → ⊥
+no_rule text (Posix rule) none is = cc
+no_rule text UTC none is = is
+no_rule text Unknown none is = is
+no_rule text (Fixed offset) none is = is
+no_rule text (Tzif zone) none is = is
+
+module _ (rule : List ℕ) (offset : ℤ) where
+  -- there is no such zone, or it is this one
+  abbrev pub NamesZone : Option Held → Type 0
+  NamesZone found = MatchOption found ((zone : TimeZone) → IsZoneBy rule offset zone → ⊥)
+      (λ it. IsZoneBy rule offset (plain_zone it))
+
+-- without a rule it is the one at the offset
+pub zone_at_offset : (rule : List ℕ) (offset : ℤ) (found : Option Held) → rule ≡ []
+    → MatchOption found (IsOffsetSeconds offset → ⊥) (λ it. IsOffsetSeconds offset × IsZoneAt offset (plain_zone it))
+    → NamesZone rule offset found
+zone_at_offset [] offset (Some it) none is = is
+zone_at_offset [] offset None none out = λ zone is. out is.0
+zone_at_offset (byte ∷ more) offset found none is = absurd (omega (arith, ap length none))
+
+-- with a rule it is the one of that
+pub zone_by_rule : (rule text : List ℕ) (offset : ℤ) (found : Option Held) → 0 < length rule → offset ≡ pos 0
+    → (text ≡ rule) × IsUtf8 rule
+    → MatchOption found (read_whole text ≡ None) (λ it. IsPosixZone text (plain_zone it)) → NamesZone rule offset found
+zone_by_rule [] text offset found some zero utf8 is = absurd (omega (arith, some))
+zone_by_rule (byte ∷ more) text offset (Some it) some zero (same, utf8) is =
+    (zero, utf8, subst (λ (t : List ℕ). IsPosixZone t (plain_zone it)) same is)
+zone_by_rule (byte ∷ more) text offset None some zero (same, utf8) none = λ zone is.
+    no_rule text zone none (subst (λ (t : List ℕ). IsPosixZone t zone) (sym same) is.2)
+
+-- a rule that has an offset beside it, or is not UTF-8, names none
+pub no_zone : (rule : List ℕ) (offset : ℤ) (zone : TimeZone) → 0 < length rule
+    → (offset ≡ pos 0 → IsUtf8 rule → ⊥) → IsZoneBy rule offset zone → ⊥
+no_zone [] offset zone some wrong is = omega (arith, some)
+no_zone (byte ∷ more) offset zone some wrong is = wrong is.0 is.1
+
+-- the zone that options name, by the rule that is in their array
+pub zone_named : (options : Options) (rule : List ℕ) (found : Option Held) → IsTextIn options.zone rule
+    → NamesZone rule options.offset found
+    → MatchOption found ((zone : TimeZone) → IsZoneOf options zone → ⊥) (λ it. IsZoneOf options (plain_zone it))
+zone_named options rule (Some it) text is = (rule, text, is)
+zone_named options rule None text none = λ zone named.
+    none zone (subst (λ (t : List ℕ). IsZoneBy t options.offset zone)
+    (text_once options.zone named.0 rule named.1 text) named.2)
