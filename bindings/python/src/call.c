@@ -1,8 +1,9 @@
 /* The arguments of the calls for one line, and their refusals. */
 #include "native.h"
 
-enum key { YEAR, MONTH, OFFSET, VARIANT, ERRORS, DIALECTS, RAW, KEYS };
-static const char *const key_names[KEYS] = {"year", "month", "offset", "variant", "errors", "dialects", "raw"};
+enum key { YEAR, MONTH, DAY, OFFSET, ZONE, VARIANT, ERRORS, DIALECTS, RAW, KEYS };
+static const char *const key_names[KEYS] = {"year", "month", "day", "offset", "zone", "variant", "errors", "dialects",
+                                            "raw"};
 static PyObject *interned[KEYS];
 
 /* Callers' names of arguments are interned, so most are told by their place. */
@@ -44,7 +45,7 @@ void *refuse(uint32_t outcome, PyObject *line)
     else if (outcome == SYSLOG_NO_MEMORY)
         PyErr_NoMemory();
     else
-        PyErr_SetString(PyExc_ValueError, "there is no such year, month or offset");
+        PyErr_SetString(PyExc_ValueError, "there is no such year, month, day, offset or zone");
     return NULL;
 }
 
@@ -58,6 +59,24 @@ static int32_t number_of(PyObject *word)
         return (int32_t)number;
     refuse(SYSLOG_BAD_ARGUMENT, NULL);
     return -1;
+}
+
+/* Takes the rule of a zone, or None, for options that have no zone yet. */
+int take_zone(PyObject *rule, struct syslog_options *options)
+{
+    Py_ssize_t length;
+    if (rule == Py_None)
+        return 0;
+    const char *text = PyUnicode_AsUTF8AndSize(rule, &length);
+    if (!text)
+        return -1;
+    /* (no rule is as long, and the library takes an empty one for none) */
+    if (length == 0 || (size_t)length >= sizeof options->zone || memchr(text, 0, (size_t)length)) {
+        refuse(SYSLOG_BAD_ARGUMENT, NULL);
+        return -1;
+    }
+    memcpy(options->zone, text, (size_t)length);
+    return 0;
 }
 
 /* A word that an argument may be, and its number. */
@@ -85,8 +104,12 @@ static void take_word(enum key key, PyObject *word, struct call *call)
         call->options.year = number_of(word);
     else if (key == MONTH)
         call->options.month = word == Py_None ? 0 : (uint32_t)number_of(word);
+    else if (key == DAY)
+        call->options.day = word == Py_None ? 0 : (uint32_t)number_of(word);
     else if (key == OFFSET)
         call->options.offset = number_of(word);
+    else if (key == ZONE)
+        take_zone(word, &call->options);
     else if (key == VARIANT)
         call->options.variant = chosen(variants, COUNT_OF(variants), "variant", word);
     else if (key == ERRORS)

@@ -88,9 +88,11 @@ PyObject *columns(PyObject *self, PyObject *words)
 {
     const char *buffer;
     Py_ssize_t length;
+    PyObject *zone;
     struct syslog_options options = {0};
-    if (!PyArg_ParseTuple(words, "y#IiIiI", &buffer, &length, &options.variant, &options.year, &options.month,
-                          &options.offset, &options.no_dialects))
+    if (!PyArg_ParseTuple(words, "y#IiIIiOI", &buffer, &length, &options.variant, &options.year, &options.month,
+                          &options.day, &options.offset, &zone, &options.no_dialects) ||
+        take_zone(zone, &options))
         return NULL;
     size_t count = lines_in(buffer, (size_t)length);
     PyObject *made = PyByteArray_FromStringAndSize(NULL, (Py_ssize_t)(count * BYTES_A_LINE));

@@ -23,7 +23,8 @@ static PyObject *version(PyObject *self, PyObject *none)
 
 #define OF_A_LINE(name, more, text) \
     {#name, (PyCFunction)(void (*)(void))name, METH_FASTCALL | METH_KEYWORDS, \
-     #name "($module, line, /, *, year, month=None, offset=0, variant='either', errors='strict'" more ")\n--\n\n" text}
+     #name "($module, line, /, *, year, month=None, day=None, offset=0, zone=None, variant='either', errors='strict'" \
+     more ")\n--\n\n" text}
 
 static PyMethodDef methods[] = {
     OF_A_LINE(parse, ", dialects=True", "Returns the message of a line. Raises ParseError if it is no message."),

@@ -41,10 +41,11 @@ struct call {
     uint32_t errors, raw;
 };
 
-/* How many of the arguments that have names a call takes: year, month, offset, variant, errors; dialects; raw. */
-#define PRINTING_KEYS 5
-#define READING_KEYS 6
-#define OBJECT_KEYS 7
+/* How many of the arguments that have names a call takes: year, month, day, offset, zone, variant, errors; dialects;
+ * raw. */
+#define PRINTING_KEYS 7
+#define READING_KEYS 8
+#define OBJECT_KEYS 9
 
 typedef uint32_t writer(const char *, size_t, const struct syslog_options *, char *, size_t, size_t *);
 
@@ -53,6 +54,7 @@ int set_keys(void);
 int take_call(PyObject *const *words, Py_ssize_t count, PyObject *names, int keys, struct call *call);
 void end_call(struct call *call);
 void *refuse(uint32_t outcome, PyObject *line);
+int take_zone(PyObject *rule, struct syslog_options *options);
 
 /* message.c and written.c: the calls for one line. */
 int set_message(void);

@@ -30,6 +30,7 @@ CALLS = [it.parse, it.normalise, it.settle, it.to_rfc5424, it.json]
 OPTIONS = [
     {"year": 2026}, {"year": 2026, "month": 1, "offset": -5400, "variant": "either"}, {"year": 2026, "variant": "3164"}
 ]
+OPTIONS += [{"year": 2026, "month": 11, "day": 28, "zone": it} for it in ("CET-1CEST,M3.5.0,M10.5.0/3", "EST5EDT", 7)]
 OPTIONS += [{"year": 2026, "errors": it} for it in ("replace", "latin-1", "ignore")]
 OPTIONS += [
     {"year": 10000}, {"year": 1 << 40}, {"year": "2026"}, {"year": 2026, "variant": "rfc"}, {"month": 1}, {"yaer": 2026}
@@ -53,7 +54,7 @@ def read_block():
     """Reads the lines as a block, with each text of theirs, and texts as categories. Returns how many calls these
     were."""
     block = "\n".join(LINES).encode(errors="surrogateescape")
-    told = _native.columns(block, 0, 2026, 0, 0, 0)
+    told = _native.columns(block, *_columns.Options(0, 2026, 11, 28, zone="CET-1CEST,M3.5.0,M10.5.0/3"))
     for place in _columns._PLACES.values():
         _native.texts(block, told, place, 0, len(LINES))
         _native.categories(block, told, place, 0)

@@ -29,6 +29,8 @@ SWITCH = (
     "<187>4211: core-sw1: Mar  1 18:48:50.483 CET: "
     "%LINK-3-UPDOWN: Interface GigabitEthernet1/0/3, changed state to down"
 )
+RULE = "CET-1CEST,M3.5.0,M10.5.0/3"
+WRONG_ZONES = ["", "EST5EDT", "Europe/Berlin", RULE + "\0", "\xc9ST5", "CET-1\udc80", "A" * 96, 7, b"CET-1"]
 LINE = '<165>1 2003-10-11T22:14:15.003004005-07:00 mymachine app 7 ID47 [a b="c" d="\\"\\]"][e] größe'
 
 
@@ -181,12 +183,12 @@ class OtherBytes(unittest.TestCase):
             "latin-1": (given.decode("latin-1").replace("\xc3\xa9", "\xe9").encode(), b"\x00\x00\x01"),
         }
         for errors, want in wanted.items():
-            buffer, told = _columns._told(given, 0, 2026, 0, 0, True, errors)
+            buffer, told = _columns._told(given, _columns.Options(0, 2026), errors)
             begin = 3 * _columns._BEFORE_OUTCOME
             self.assertEqual((buffer, bytes(told[begin : begin + 3])), want)
         self.assertEqual(_columns._COLUMNS[-5][0], "outcome")
         with self.assertRaises(ValueError):
-            _columns._told(given, 0, 2026, 0, 0, True, "ignore")
+            _columns._told(given, _columns.Options(0, 2026), "ignore")
 
     def test_what_errors_may_be(self):
         for errors in ("ignore", "latin1", "", None, 1):
@@ -205,6 +207,25 @@ class Dates(unittest.TestCase):
             ({"year": 2020, "offset": -3661}, "2020-12-31T23:59:59-01:01:01"),
         ):
             self.assertEqual(parse(self.DECEMBER, **options).timestamp.isoformat(), want)
+
+    def test_day_and_zone(self):
+        on_the_day = {"year": 2026, "month": 11, "day": 28}
+        for date, year in (("Nov 29", 2026), ("Nov 30", 2025), ("Dec 20", 2025), ("Feb 29", 2024)):
+            self.assertEqual(parse("<34>%s 06:35:05 h a: x" % date, **on_the_day).timestamp.year, year)
+        for rule, date, shown in (
+            (RULE, "Jul  2", "2026-07-02T06:35:05+02:00"),
+            (RULE, "Nov  2", "2026-11-02T06:35:05+01:00"),
+            ("<+0330>-3:30", "Nov 30", "2025-11-30T06:35:05+03:30"),
+            (None, "Nov 30", "2025-11-30T06:35:05+00:00"),
+        ):
+            line = "<34>%s 06:35:05 h a: x" % date
+            options = {**on_the_day, "zone": rule}
+            self.assertEqual(parse(line, **options).timestamp.isoformat(), shown)
+            self.assertEqual([it.timestamp.isoformat() for it in read([line], **options)], [shown])
+            self.assertEqual(normalise(line, **options), "<34> %s h a: x" % shown)
+            self.assertEqual(settle(line, **options), "<34> %s h a: x" % shown)
+            self.assertEqual(to_rfc5424(line, **options), "<34>1 %s h a - - - x" % shown)
+            self.assertEqual(json.loads(syslog_loose.json(line, **options))["timestamp"], shown)
 
     def test_before_1970(self):
         m = parse("1 1969-12-31T23:59:58.5Z - - - - -", year=2026)
@@ -299,6 +320,8 @@ class Refusals(unittest.TestCase):
         for options in (
             {"year": 10000}, {"year": 2026, "month": 13}, {"year": 2026, "offset": 93600}, {"year": 2026, "month": -1},
             {"year": 1 << 40}, {"year": "2026"}, {"year": 2026, "variant": "rfc"},
+            {"year": 2026, "day": 1}, {"year": 2026, "month": 2, "day": 29}, {"year": 2026, "month": 1, "day": -1},
+            *({"year": 2026, "zone": it} for it in WRONG_ZONES), {"year": 2026, "zone": RULE, "offset": 3600},
         ):  # fmt: skip
             for call in (parse, *WRITERS):
                 with self.assertRaises((ValueError, TypeError)) as caught:
@@ -420,6 +443,7 @@ class Columns(unittest.TestCase):
     ]
     LINES += ["<200>2019-12-31T23:59:59.5+01:00 ü a[name]: größe".encode(), b"<0>1 9998-12-31T23:59:59Z - - - - -"]
     LINES += [b"<34>Dec 31 2019 23:59:59 h a: a year and no offset", SWITCH.encode()]
+    OPTIONS = {"year": 2026, "month": 3, "day": 1, "zone": RULE}
 
     def sources(self):
         whole = b"\n".join(self.LINES)
@@ -444,7 +468,7 @@ class Columns(unittest.TestCase):
         for i, line in enumerate(lines):
             self.assertEqual(buffer[columns["line_at"][i] :][: columns["line_size"][i]], line)
             try:
-                m = parse(line, year=2026, month=3, offset=60)
+                m = parse(line, **self.OPTIONS)
             except ParseError:
                 self.assertIn(columns["outcome"][i], (1, 2))
                 self.assertEqual((columns["protocol"][i], columns["severity"][i], columns["host_at"][i]), (0, -1, -1))
@@ -472,16 +496,17 @@ class Columns(unittest.TestCase):
 
     def test_each_row_is_its_line(self):
         for source in self.sources():
-            self.check(syslog_loose.read_columns(source, year=2026, month=3, offset=60), self.LINES)
+            self.check(syslog_loose.read_columns(source, **self.OPTIONS), self.LINES)
         for count in (0, 1, 255, 256, 257, 1000):
             lines = [self.LINES[i % len(self.LINES)] for i in range(count)]
             given = b"".join(it + b"\n" for it in lines)
-            self.check(syslog_loose.read_columns(given, year=2026, month=3, offset=60), lines)
+            self.check(syslog_loose.read_columns(given, **self.OPTIONS), lines)
 
     def test_wrong_options(self):
         for options in (
-            {"year": 10000}, {"year": 1 << 40}, {"year": 2026, "month": 13}, {"year": 2026, "variant": "rfc"}
-        ):
+            {"year": 10000}, {"year": 1 << 40}, {"year": 2026, "month": 13}, {"year": 2026, "variant": "rfc"},
+            {"year": 2026, "day": 1}, *({"year": 2026, "zone": it} for it in WRONG_ZONES[:-2]),
+        ):  # fmt: skip
             with self.assertRaises(ValueError):
                 syslog_loose.read_columns(b"x", **options)
 
@@ -543,6 +568,9 @@ class Columns(unittest.TestCase):
             sys.setswitchinterval(old)
         thread.join()
         self.assertEqual(ran, [True])
+
+
+NOT_THERE = "syslog_loose: there is no such year, month, day, offset or zone\n"
 
 
 class Program(unittest.TestCase):
@@ -620,10 +648,29 @@ class Program(unittest.TestCase):
             ran.send_signal(signal.SIGINT)
             self.assertEqual((ran.wait(60), ran.stderr.read()), (130, b""))
 
+    def test_dates(self):
+        for words, shown in (
+            (("--year", "2026-11-28"), "2025-12-20T06:35:05+00:00"),
+            (("--year", "2026-11-28", "--zone", RULE), "2025-12-20T06:35:05+01:00"),
+            (("--year", "2027-01"), "2026-12-20T06:35:05+00:00"),
+            (("--year", "2027", "--month", "1"), "2026-12-20T06:35:05+00:00"),
+            (("--year=2026", "--zone=<+0330>-3:30"), "2026-12-20T06:35:05+03:30"),
+        ):
+            made = json.loads(self.ran(*words, given=b"Dec 20 06:35:05 h a: x")[1])
+            self.assertEqual(made["timestamp"], shown)
+        for words in (
+            ("--year", "2026-00"), ("--year", "2026-11-00"), ("--year", "2026-1"), ("--year", "2026-11-28 "),
+            ("--year", "x"), ("--year", "2026-11", "--month", "11"), ("--offset=+01:00", "--zone", "CET-1"),
+        ):  # fmt: skip
+            self.assertEqual(self.ran(*words)[:2], (2, ""))
+
     def test_faults(self):
         for words, said in (
             (["--year", "2026", "no such file"], "syslog_loose: no such file: No such file or directory\n"),
-            (["--year", "99999"], "syslog_loose: there is no such year, month or offset\n"),
+            (["--year", "99999"], NOT_THERE),
+            (["--year", "2026-11-31"], NOT_THERE),
+            (["--zone", "EST5EDT"], NOT_THERE),
+            (["--zone", ""], NOT_THERE),
         ):
             self.assertEqual(self.ran(*words), (2, "", said))
         self.assertEqual(self.ran("--year", "2026", given=b"")[:2], (0, ""))
@@ -643,7 +690,8 @@ class Package(unittest.TestCase):
                 parse(LINE, **options)
         self.assertEqual(
             str(inspect.signature(parse)),
-            "(line, /, *, year, month=None, offset=0, variant='either', errors='strict', dialects=True)",
+            "(line, /, *, year, month=None, day=None, offset=0, zone=None, variant='either', errors='strict', "
+            "dialects=True)",
         )
 
     def test_version(self):

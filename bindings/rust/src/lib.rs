@@ -19,6 +19,7 @@ mod owned;
 mod parts;
 mod raw;
 mod timestamp;
+mod zone;
 
 pub use dialect::Dialect;
 pub use lines::{lines, LineError, Lines};
@@ -27,6 +28,7 @@ pub use names::{Facility, NoSuchName, Severity};
 pub use owned::{OwnedElement, OwnedMessage, OwnedParam};
 pub use parts::Parts;
 pub use timestamp::Timestamp;
+pub use zone::Zone;
 
 use std::borrow::Cow;
 use std::cell::RefCell;
@@ -70,8 +72,13 @@ pub struct Options {
     /// The current month, from 1 to 12: in January a date of December that shows no year is of the year before. Without
     /// it, all such dates are of `year`.
     pub month: Option<u8>,
+    /// The current day of the month, from 1 to 31, which the calendar has: a date that shows no year is of the last year
+    /// that puts it no more than a day past this day. Without it, `month` counts.
+    pub day: Option<u8>,
     /// How many seconds dates that show no offset are ahead of UTC, from -93599 to 93599.
     pub offset: i32,
+    /// The zone of dates that show no offset, beside which `offset` is 0. Without it, `offset` counts.
+    pub zone: Option<Zone>,
     /// Whether a line is read in its sender's dialect, if it is in one, by the calls that parse a line, by `json` and by
     /// `to_rfc5424`. It counts only if the variant is `Either`. `normalise`, `settle` and `is_canonical` read each line
     /// by the protocols alone.
@@ -81,7 +88,7 @@ pub struct Options {
 impl Options {
     /// Returns options for either protocol or a dialect, in this year and in UTC.
     pub const fn in_year(year: i32) -> Options {
-        Options { variant: Variant::Either, year, month: None, offset: 0, dialects: true }
+        Options { variant: Variant::Either, year, month: None, day: None, offset: 0, zone: None, dialects: true }
     }
 
     /// Returns options for either protocol or a dialect, in UTC, with the year and the month at this time.
@@ -106,8 +113,8 @@ impl Options {
             month: self.month.map_or(0, u32::from),
             offset: self.offset,
             no_dialects: u32::from(!self.dialects),
-            day: 0,
-            zone: [0; raw::ZONE],
+            day: self.day.map_or(0, u32::from),
+            zone: self.zone.map_or([0; raw::ZONE], |zone| zone.raw()),
         }
     }
 }
@@ -128,7 +135,8 @@ pub enum Error {
     NotUtf8,
     /// An allocation failed.
     NoMemory,
-    /// The year, the month or the offset is out of range.
+    /// The options mean nothing: the year, the month or the offset is out of range, the calendar does not have the day,
+    /// or there are a zone and an offset. Of [`Zone`]: the text is no rule.
     BadArgument,
     /// The library returned an outcome that this crate doesn't know.
     Unknown(u32),
@@ -152,7 +160,7 @@ impl fmt::Display for Error {
             Error::NoMessage => f.write_str("the line is no message"),
             Error::NotUtf8 => f.write_str("the line is no UTF-8"),
             Error::NoMemory => f.write_str("an allocation failed"),
-            Error::BadArgument => f.write_str("there is no such year, month or offset"),
+            Error::BadArgument => f.write_str("there is no such year, month, day, offset or zone"),
             Error::Unknown(outcome) => write!(f, "the library returned {outcome}"),
         }
     }

@@ -3,7 +3,7 @@ use libsyslog_loose::{
     decode, is_canonical, json, lines, normalise, parse, parse_fields, parse_into, settle, to_rfc5424, version,
 };
 use libsyslog_loose::{Decoding, Dialect, Error, Facility, LineError, Message, NoSuchName, Options, OwnedMessage};
-use libsyslog_loose::{Param, ProcId, Protocol, Severity, Timestamp, Variant};
+use libsyslog_loose::{Param, ProcId, Protocol, Severity, Timestamp, Variant, Zone};
 use std::borrow::Cow;
 use std::collections::HashSet;
 use std::thread;
@@ -12,6 +12,7 @@ use std::time::{Duration, SystemTime};
 const IN_2026: Options = Options::in_year(2026);
 const LINE: &str = r#"<165>1 2003-10-11T22:14:15.003004005-07:00 mymachine app 7 ID47 [a b="c" d="\"\]"][e] größe"#;
 const DECEMBER: &str = "<34>Dec 31 23:59:59 h a: x";
+const RULE: &str = "CET-1CEST,M3.5.0,M10.5.0/3";
 // As docs/SENDERS.md has Cisco's form.
 const SWITCH: &str = "<187>4211: core-sw1: Mar  1 18:48:50.483 CET: %LINK-3-UPDOWN: Interface changed state to down";
 
@@ -112,6 +113,27 @@ fn dates_without_a_year() {
     assert_eq!(seconds(Options::in_year(2020)), 1_609_459_199);
     assert_eq!(seconds(Options { month: Some(1), ..Options::in_year(2020) }), 1_577_836_799);
     assert_eq!(seconds(Options { month: Some(12), offset: 3_600, ..Options::in_year(2020) }), 1_609_455_599);
+}
+
+#[test]
+fn dates_on_a_day_and_in_a_zone() {
+    let on_the_day = Options { month: Some(11), day: Some(28), ..IN_2026 };
+    for (date, year) in [("Nov 29", "2026"), ("Nov 30", "2025"), ("Dec 20", "2025"), ("Feb 29", "2024")] {
+        let line = format!("<34>{date} 06:35:05 h a: x");
+        assert!(parse(&line, &on_the_day).unwrap().timestamp.unwrap().to_string().starts_with(year), "{line}");
+    }
+    let zone: Zone = RULE.parse().unwrap();
+    assert_eq!((zone.as_str(), zone.to_string()), (RULE, RULE.to_string()));
+    let in_the_zone = Options { zone: Some(zone), ..on_the_day };
+    for (date, shown) in [("Jul  2", "2026-07-02T06:35:05+02:00"), ("Nov  2", "2026-11-02T06:35:05+01:00")] {
+        let line = format!("<34>{date} 06:35:05 h a: x");
+        assert_eq!(parse(&line, &in_the_zone).unwrap().timestamp.unwrap().to_string(), shown);
+        assert!(json(&line, &in_the_zone, false).unwrap().contains(shown));
+        assert_eq!(to_rfc5424(&line, &in_the_zone), Ok(format!("<34>1 {shown} h a - - - x")));
+    }
+    for wrong in ["", "EST5EDT", "Europe/Berlin", "CET-1\0", "\u{e9}ST5", &"A".repeat(96)] {
+        assert_eq!(wrong.parse::<Zone>(), Err(Error::BadArgument), "{wrong:?}");
+    }
 }
 
 #[test]
@@ -341,9 +363,15 @@ fn refusals() {
     assert_eq!(in_2026(b"gobbledegook"), (Some(Error::NoMessage), [Some(Error::NoMessage); 4]));
     assert_eq!(in_2026(b""), (Some(Error::NoMessage), [Some(Error::NoMessage); 4]));
     assert_eq!(in_2026(b"1 - - - - - - gr\xfc\xdf"), (Some(Error::NotUtf8), [Some(Error::NotUtf8); 4]));
-    for wrong in
-        [Options::in_year(10_000), Options { month: Some(13), ..IN_2026 }, Options { offset: 93_600, ..IN_2026 }]
-    {
+    let zone = "CET-1".parse().ok();
+    for wrong in [
+        Options::in_year(10_000),
+        Options { month: Some(13), ..IN_2026 },
+        Options { offset: 93_600, ..IN_2026 },
+        Options { day: Some(1), ..IN_2026 },
+        Options { month: Some(2), day: Some(29), ..IN_2026 },
+        Options { offset: 3_600, zone, ..IN_2026 },
+    ] {
         assert_eq!(parse(LINE, &wrong), Err(Error::BadArgument));
         assert_eq!(settle(LINE, &wrong), Err(Error::BadArgument));
         assert_eq!(to_rfc5424(LINE, &wrong), Err(Error::BadArgument));

@@ -8,7 +8,11 @@ Each call takes these:
 - `year` is the year of dates that show none.
 - `month` is the current month, from 1 to 12: in January a date of December is of the year before. Without it, all such
   dates are of `year`.
+- `day` is the current day of that month, from 1 to 31. A date is then of the last year that puts it no more than a day
+  past this day.
 - `offset` is how many seconds dates that show no offset are ahead of UTC.
+- `zone` is their zone as a POSIX rule, without an offset beside it: "CET-1CEST,M3.5.0,M10.5.0/3". A rule with summer
+  time says when that begins and ends, and names such as "Europe/Berlin" are refused.
 - `errors` says what becomes of a line that is given as bytes which are not UTF-8. By "strict" it is no message. By
   "replace" it has U+FFFD for each part that is not UTF-8, and by "latin-1" it is read as ISO 8859-1. A line that is
   UTF-8 is read as that.
@@ -127,7 +131,6 @@ class Message(NamedTuple):
 _native.set_up(
     ParseError, Message, Element, tuple(Facility), tuple(Severity), lambda ahead: timezone(timedelta(seconds=ahead))
 )
-_VARIANTS = {"either": 0, "3164": 3164, "5424": 5424}
 # The calls for one line are the extension's own.
 parse, normalise, settle = _native.parse, _native.normalise, _native.settle
 to_rfc5424, json, dialect_name = _native.to_rfc5424, _native.json, _native.dialect_name
@@ -138,7 +141,9 @@ def read(
     *,
     year: int,
     month: int | None = None,
+    day: int | None = None,
     offset: int = 0,
+    zone: str | None = None,
     variant: Variant = "either",
     dialects: bool = True,
     errors: Errors = "strict",
@@ -148,9 +153,8 @@ def read(
     without that, ParseError is raised."""
     if isinstance(file, (str, os.PathLike)):
         with open(file, "rb") as lines:
-            options: dict[str, Any] = {
-                "year": year, "month": month, "offset": offset, "variant": variant, "dialects": dialects, "errors": errors
-            }
+            options: dict[str, Any] = {"year": year, "month": month, "day": day, "offset": offset, "zone": zone}
+            options.update(variant=variant, dialects=dialects, errors=errors)
             yield from read(lines, refused=refused, **options)
         return
     for line in file:
@@ -158,7 +162,15 @@ def read(
             line = line[:-1]
         try:
             message = parse(
-                line, year=year, month=month, offset=offset, variant=variant, dialects=dialects, errors=errors
+                line,
+                year=year,
+                month=month,
+                day=day,
+                offset=offset,
+                zone=zone,
+                variant=variant,
+                dialects=dialects,
+                errors=errors,
             )
         except ParseError:
             if refused is None:
@@ -173,7 +185,9 @@ def read_columns(
     *,
     year: int,
     month: int | None = None,
+    day: int | None = None,
     offset: int = 0,
+    zone: str | None = None,
     variant: Variant = "either",
     dialects: bool = True,
     errors: Errors = "strict",
@@ -197,7 +211,8 @@ def read_columns(
     """
     from . import _columns
 
-    return _columns.read(source, _VARIANTS.get(variant), year, month or 0, offset, dialects, errors)
+    options = _columns.chosen(variant, year, month, day, offset, zone, dialects)
+    return _columns.read(source, options, errors)
 
 
 def to_frame(
@@ -205,7 +220,9 @@ def to_frame(
     *,
     year: int,
     month: int | None = None,
+    day: int | None = None,
     offset: int = 0,
+    zone: str | None = None,
     variant: Variant = "either",
     dialects: bool = True,
     errors: Errors = "strict",
@@ -217,4 +234,5 @@ def to_frame(
     """
     from . import _columns
 
-    return _columns.to_frame(source, _VARIANTS.get(variant), year, month or 0, offset, dialects, errors)
+    options = _columns.chosen(variant, year, month, day, offset, zone, dialects)
+    return _columns.to_frame(source, options, errors)

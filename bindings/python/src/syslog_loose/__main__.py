@@ -1,7 +1,7 @@
 """Writes each line of files, or of standard input, as the JSON object that syslog_json writes of it.
 
-    python3 -m syslog_loose [--year YEAR] [--month MONTH] [--offset OFFSET] [--latin1] [--no-dialects] [--raw] [--csv]
-        [FILE..]
+    python3 -m syslog_loose [--year YEAR[-MONTH[-DAY]]] [--month MONTH] [--offset OFFSET | --zone RULE] [--latin1]
+        [--no-dialects] [--raw] [--csv] [FILE..]
 
 With --csv it writes a table by RFC 4180: a header, and a record for each line. A line that is not UTF-8 is read with
 U+FFFD for what is not, and with --latin1 as ISO 8859-1. The status is 1 if lines were refused or have U+FFFD for what
@@ -38,6 +38,14 @@ def offset(text: str) -> int:
         raise argparse.ArgumentTypeError("no offset such as +01:00: %r" % text)
     seconds = int(found[2]) * 3600 + int(found[3]) * 60
     return -seconds if found[1] == "-" else seconds
+
+
+def date(text: str) -> tuple[int, int, int]:
+    """The year, the month and the day of 2026-11-28; 0 for what isn't there, as in 2026-11 and 2026."""
+    found = re.fullmatch(r"(-?\d+)(?:-(\d\d)(?:-(\d\d))?)?", text, re.ASCII)
+    if not found or "00" in found.groups():
+        raise argparse.ArgumentTypeError("no year, month or day such as 2026-11-28: %r" % text)
+    return int(found[1]), int(found[2] or 0), int(found[3] or 0)
 
 
 def json_text(value: object) -> str:
@@ -131,24 +139,41 @@ def arguments() -> argparse.Namespace:
         prog="python3 -m syslog_loose", description="Writes lines of syslog as JSON objects."
     )
     words.add_argument(
-        "--year", type=int, default=datetime.date.today().year, help="of dates that show none (now: %(default)s)"
+        "--year",
+        type=date,
+        default=str(datetime.date.today().year),
+        metavar="YEAR[-MONTH[-DAY]]",
+        help="of dates that show none (now: %(default)s); with the day that it is, as 2026-11-28, a date is of the last"
+        " year that puts it no more than a day past that day",
     )
     words.add_argument("--month", type=int, help="that it is: in January a date of December is then of the year before")
-    words.add_argument("--offset", type=offset, default=0, help="of dates that show none, as +01:00 (UTC without it)")
+    zones = words.add_mutually_exclusive_group()
+    zones.add_argument("--offset", type=offset, default=0, help="of dates that show none, as +01:00 (UTC without it)")
+    zones.add_argument("--zone", metavar="RULE", help="of such dates, as CET-1CEST,M3.5.0,M10.5.0/3")
     words.add_argument("--latin1", action="store_true", help="reads a line that is not UTF-8 as ISO 8859-1")
     words.add_argument("--no-dialects", action="store_true", help="reads each line by RFC 5424 or RFC 3164 alone")
     words.add_argument("--raw", action="store_true", help="with the line itself in each object")
     words.add_argument("--csv", action="store_true", help="a table with a header, by RFC 4180, instead of objects")
     words.add_argument("--version", action="version", version=syslog_loose.__version__)
     words.add_argument("file", nargs="*", help="none or -: standard input")
-    return words.parse_args(joined(sys.argv[1:]))
+    chosen = words.parse_args(joined(sys.argv[1:]))
+    if chosen.month is not None and chosen.year[1]:
+        words.error("two months: of --year and of --month")
+    return chosen
+
+
+def options_of(chosen: argparse.Namespace) -> dict[str, Any]:
+    """The arguments of the call that writes an object."""
+    year, month, day = chosen.year
+    options: dict[str, Any] = {"year": year, "month": chosen.month or month, "day": day, "zone": chosen.zone}
+    options.update(offset=chosen.offset, raw=chosen.raw, dialects=not chosen.no_dialects)
+    options.update(errors="latin-1" if chosen.latin1 else "replace")
+    return options
 
 
 def main() -> int:
     chosen = arguments()
-    options = {"year": chosen.year, "month": chosen.month, "offset": chosen.offset}
-    options.update(raw=chosen.raw, dialects=not chosen.no_dialects)
-    options.update(errors="latin-1" if chosen.latin1 else "replace")
+    options = options_of(chosen)
     try:
         # (wrong options are found before anything is written)
         syslog_loose.json(b"1 - - - - - -", **options)

@@ -4,9 +4,9 @@ from __future__ import annotations
 
 import importlib
 import os
-from typing import Any, Mapping
+from typing import Any, Mapping, NamedTuple, Optional
 
-from . import Errors, Facility, Severity, Source, _native
+from . import Errors, Facility, Severity, Source, Variant, _native
 
 # The columns as the extension gives them, one after the other, and how numpy calls the type of each.
 _COLUMNS = [("time", "M8[ns]")]
@@ -25,6 +25,28 @@ _PLACES = {name: number for number, (name, _) in enumerate(_COLUMNS) if name.end
 _BLOCK = 4096
 _FACILITIES = [it.name.lower() for it in Facility]
 _SEVERITIES = [it.name.lower() for it in Severity]
+_VARIANTS: dict[str, int] = {"either": 0, "3164": 3164, "5424": 5424}
+
+
+class Options(NamedTuple):
+    """How lines are read, in the order in which the extension takes it."""
+
+    variant: int
+    year: int
+    month: int = 0
+    day: int = 0
+    offset: int = 0
+    zone: Optional[str] = None
+    no_dialects: bool = False
+
+
+def chosen(
+    variant: Variant, year: int, month: int | None, day: int | None, offset: int, zone: str | None, dialects: bool
+) -> Options:
+    """The options that a caller chose."""
+    if variant not in _VARIANTS:
+        raise ValueError("there is no such variant: %r" % (variant,))
+    return Options(_VARIANTS[variant], year, month or 0, day or 0, offset, zone, not dialects)
 
 
 def _needed(name: str, caller: str) -> Any:
@@ -49,30 +71,24 @@ def _has_other_bytes(told: bytearray) -> bool:
     return told.find(_NOT_UTF8, _BEFORE_OUTCOME * count, (_BEFORE_OUTCOME + 1) * count) >= 0
 
 
-def _told(
-    source: Source, variant: int | None, year: int, month: int, offset: int, dialects: bool, errors: Errors
-) -> tuple[bytes, bytearray]:
+def _told(source: Source, options: Options, errors: Errors) -> tuple[bytes, bytearray]:
     buffer = _bytes_of(source)
-    if variant is None:
-        raise ValueError("there is no such variant")
     if errors not in ("strict", "replace", "latin-1"):
         raise ValueError("there is no such handling of errors: %r" % (errors,))
     try:
-        told = _native.columns(buffer, variant, year, month, offset, int(not dialects))
+        told = _native.columns(buffer, *options)
         if errors != "strict" and _has_other_bytes(told):
             is_latin1 = errors == "latin-1"
             buffer = b"\n".join(_native.decoded(line, is_latin1) for line in buffer.split(b"\n"))
-            told = _native.columns(buffer, variant, year, month, offset, int(not dialects))
+            told = _native.columns(buffer, *options)
     except OverflowError:
-        raise ValueError("there is no such year, month or offset") from None
+        raise ValueError("there is no such year, month, day, offset or zone") from None
     return buffer, told
 
 
-def read(
-    source: Source, variant: int | None, year: int, month: int, offset: int, dialects: bool, errors: Errors
-) -> Mapping[str, Any]:
+def read(source: Source, options: Options, errors: Errors) -> Mapping[str, Any]:
     numpy = _needed("numpy", "read_columns")
-    return _as_arrays(numpy, *_told(source, variant, year, month, offset, dialects, errors))
+    return _as_arrays(numpy, *_told(source, options, errors))
 
 
 def _as_arrays(numpy: Any, buffer: bytes, told: bytearray) -> dict[str, Any]:
@@ -97,11 +113,9 @@ def _dialects(numpy: Any, pandas: Any, numbers: Any) -> Any:
     return pandas.Categorical.from_codes(codes[numbers], [_native.dialect_name(it) for it in kinds])
 
 
-def to_frame(
-    source: Source, variant: int | None, year: int, month: int, offset: int, dialects: bool, errors: Errors
-) -> Any:
+def to_frame(source: Source, options: Options, errors: Errors) -> Any:
     numpy, pandas = _needed("numpy", "to_frame"), _needed("pandas", "to_frame")
-    buffer, told = _told(source, variant, year, month, offset, dialects, errors)
+    buffer, told = _told(source, options, errors)
     columns = _as_arrays(numpy, buffer, told)
     refused = columns["outcome"] != 0
     # (a line that is no message is its own)

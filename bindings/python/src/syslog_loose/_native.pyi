@@ -10,7 +10,9 @@ def parse(
     *,
     year: int,
     month: int | None = None,
+    day: int | None = None,
     offset: int = 0,
+    zone: str | None = None,
     variant: Variant = "either",
     errors: Errors = "strict",
     dialects: bool = True,
@@ -21,7 +23,9 @@ def normalise(
     *,
     year: int,
     month: int | None = None,
+    day: int | None = None,
     offset: int = 0,
+    zone: str | None = None,
     variant: Variant = "either",
     errors: Errors = "strict",
 ) -> str: ...
@@ -31,7 +35,9 @@ def settle(
     *,
     year: int,
     month: int | None = None,
+    day: int | None = None,
     offset: int = 0,
+    zone: str | None = None,
     variant: Variant = "either",
     errors: Errors = "strict",
 ) -> str: ...
@@ -41,7 +47,9 @@ def to_rfc5424(
     *,
     year: int,
     month: int | None = None,
+    day: int | None = None,
     offset: int = 0,
+    zone: str | None = None,
     variant: Variant = "either",
     errors: Errors = "strict",
     dialects: bool = True,
@@ -52,7 +60,9 @@ def json(
     *,
     year: int,
     month: int | None = None,
+    day: int | None = None,
     offset: int = 0,
+    zone: str | None = None,
     variant: Variant = "either",
     errors: Errors = "strict",
     dialects: bool = True,
@@ -60,6 +70,8 @@ def json(
 ) -> str: ...
 def dialect_name(number: int, /) -> str | None: ...
 def decoded(line: bytes, is_latin1: bool) -> bytes: ...
-def columns(buffer: bytes, variant: int, year: int, month: int, offset: int, no_dialects: int) -> bytearray: ...
+def columns(
+    buffer: bytes, variant: int, year: int, month: int, day: int, offset: int, zone: str | None, no_dialects: int, /
+) -> bytearray: ...
 def texts(buffer: bytes, columns: bytearray, which: int, begin: int, end: int) -> list[str | None]: ...
 def categories(buffer: bytes, columns: bytearray, which: int, seed: int) -> tuple[bytearray, list[str]]: ...
