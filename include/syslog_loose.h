@@ -53,7 +53,7 @@ enum syslog_outcome {
     SYSLOG_NOT_UTF8 = 2,     /* the bytes are no UTF-8 */
     SYSLOG_NO_MEMORY = 3,    /* an allocation failed: only in one of the four calls that ask for memory */
     SYSLOG_NO_ROOM = 4,      /* a buffer or an array is too small: see what is needed */
-    SYSLOG_BAD_ARGUMENT = 5  /* the options mean nothing: one is out of its range, the calendar does not have the day, or
+    SYSLOG_BAD_ARGUMENT = 5  /* the options mean nothing: one is out of its range, the calendar does not have the day,
                                 the zone is no rule, or there are a zone and an offset */
 };
 

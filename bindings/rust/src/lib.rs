@@ -72,15 +72,15 @@ pub struct Options {
     /// The current month, from 1 to 12: in January a date of December that shows no year is of the year before. Without
     /// it, all such dates are of `year`.
     pub month: Option<u8>,
-    /// The current day of the month, from 1 to 31, which the calendar has: a date that shows no year is of the last year
-    /// that puts it no more than a day past this day. Without it, `month` counts.
+    /// The current day of the month, from 1 to 31, which the calendar has: a date that shows no year is of the last
+    /// year that puts it no more than a day past this day. Without it, `month` counts.
     pub day: Option<u8>,
     /// How many seconds dates that show no offset are ahead of UTC, from -93599 to 93599.
     pub offset: i32,
     /// The zone of dates that show no offset, beside which `offset` is 0. Without it, `offset` counts.
     pub zone: Option<Zone>,
-    /// Whether a line is read in its sender's dialect, if it is in one, by the calls that parse a line, by `json` and by
-    /// `to_rfc5424`. It counts only if the variant is `Either`. `normalise`, `settle` and `is_canonical` read each line
+    /// Whether a line is read in its sender's dialect, if it is in one, by `json`, by `to_rfc5424` and by the calls that
+    /// parse a line. It counts only if the variant is `Either`. `normalise`, `settle` and `is_canonical` read each line
     /// by the protocols alone.
     pub dialects: bool,
 }
