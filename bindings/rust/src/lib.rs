@@ -197,34 +197,47 @@ pub fn parse_text<'a>(line: &'a str, options: &Options) -> Result<Message<'a>, E
 
 /// Returns what `make` makes of a line: an object of the caller's own, without a [`Message`] between. Only `make`
 /// allocates, and this call for a line of more than 8 elements or 32 parameters.
+#[inline]
 pub fn parse_into<'a, R>(line: &'a str, options: &Options, make: impl FnOnce(Parts<'a, '_>) -> R) -> Result<R, Error> {
-    ROOMS.with(|rooms| match rooms.try_borrow_mut() {
-        Ok(mut rooms) => parse_in(line, options, &mut rooms, make),
-        // (`make` of another line parses this one)
-        Err(_) => parse_in(line, options, &mut Box::new(Rooms::EMPTY), make),
+    ROOMS.with(|rooms| {
+        let (mut shared, mut own) = (rooms.try_borrow_mut(), None);
+        let rooms: &mut Rooms = match &mut shared {
+            Ok(rooms) => rooms,
+            // (`make` of another line parses this one)
+            Err(_) => own.insert(Box::new(Rooms::EMPTY)).as_mut(),
+        };
+        parse_in(line, options, rooms, make)
     })
 }
 
+// (Only one place calls `make`, so that it is compiled into this function, and what it returns is not copied.)
+#[inline]
 fn parse_in<'a, R>(
     line: &'a str,
     options: &Options,
     rooms: &mut Rooms,
     make: impl FnOnce(Parts<'a, '_>) -> R,
 ) -> Result<R, Error> {
-    match read(line, options, &mut rooms.message, &mut rooms.elements, &mut rooms.params) {
+    let mut outcome = read(line, options, &mut rooms.message, &mut rooms.elements, &mut rooms.params);
+    let (mut elements, mut params) = (&rooms.elements[..], &rooms.params[..]);
+    let many;
+    if outcome == raw::NO_ROOM {
+        many = read_many(line, options, &mut rooms.message);
+        (outcome, elements, params) = (many.0, &many.1, &many.2);
+    }
+    match outcome {
         // SAFETY: the library has read these of the line, and all of them fitted.
-        raw::DONE => Ok(make(unsafe { Parts::of(line, &rooms.message, &rooms.elements, &rooms.params) })),
-        raw::NO_ROOM => {
-            let mut elements = vec![raw::Element::NONE; rooms.message.elements];
-            let mut params = vec![raw::Param::NONE; rooms.message.params];
-            match read(line, options, &mut rooms.message, &mut elements, &mut params) {
-                // SAFETY: as above.
-                raw::DONE => Ok(make(unsafe { Parts::of(line, &rooms.message, &elements, &params) })),
-                outcome => Err(Error::of(outcome)),
-            }
-        }
+        raw::DONE => Ok(make(unsafe { Parts::of(line, &rooms.message, elements, params) })),
         outcome => Err(Error::of(outcome)),
     }
+}
+
+/// Reads a line that has more elements or parameters than `Rooms` has places for: as many as the message says.
+#[cold]
+fn read_many(line: &str, options: &Options, message: &mut raw::Message) -> (u32, Vec<raw::Element>, Vec<raw::Param>) {
+    let (mut elements, mut params) =
+        (vec![raw::Element::NONE; message.elements], vec![raw::Param::NONE; message.params]);
+    (read(line, options, message, &mut elements, &mut params), elements, params)
 }
 
 /// Returns the message of a line without its structured data. Its texts are slices of the line, and nothing is
@@ -369,4 +382,14 @@ fn filled(size: usize, call: impl Fn(&mut [u8], &mut usize) -> u32) -> Result<St
 pub fn version() -> u32 {
     // SAFETY: the call takes nothing and changes nothing.
     unsafe { raw::syslog_version() }
+}
+
+/// Returns the seconds since the machine was started, as of the last tick of its clock. `Instant::now` takes longer,
+/// since it reads a counter of the processor. (`syslog_loose` asks for each line, and has no unsafe code.)
+#[doc(hidden)]
+pub fn seconds_of_uptime() -> i64 {
+    let mut now = raw::Time { seconds: 0, nanoseconds: 0 };
+    // SAFETY: the pointer comes from a reference, and nothing keeps it.
+    unsafe { raw::clock_gettime(raw::CLOCK_MONOTONIC_COARSE, &mut now) };
+    now.seconds
 }

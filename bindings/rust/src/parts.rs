@@ -17,6 +17,7 @@ impl<'a: 'r, 'r> Parts<'a, 'r> {
     /// # Safety
     ///
     /// The library has just read these of that line, with as many elements and parameters as the message says.
+    #[inline]
     pub(crate) unsafe fn of(
         _line: &'a str,
         read: &'r raw::Message,
@@ -27,6 +28,7 @@ impl<'a: 'r, 'r> Parts<'a, 'r> {
     }
 
     /// Returns the protocol by which the line was read.
+    #[inline]
     pub fn protocol(&self) -> Protocol {
         match self.read.protocol {
             5424 => Protocol::Rfc5424(self.read.version),
@@ -35,36 +37,43 @@ impl<'a: 'r, 'r> Parts<'a, 'r> {
     }
 
     /// Returns the dialect that the line was read in; none if it was read by a protocol.
+    #[inline]
     pub fn dialect(&self) -> Option<Dialect> {
         Dialect::of(self.read.dialect)
     }
 
     /// Returns the facility: which part of a system the message comes from.
+    #[inline]
     pub fn facility(&self) -> Option<Facility> {
         numbered(self.read.facility)
     }
 
     /// Returns the severity: how urgent the message is.
+    #[inline]
     pub fn severity(&self) -> Option<Severity> {
         numbered(self.read.severity)
     }
 
     /// Returns when the message was written, as the line shows it.
+    #[inline]
     pub fn timestamp(&self) -> Option<Timestamp> {
         Timestamp::of(&self.read.timestamp)
     }
 
     /// Returns the host that the message comes from.
+    #[inline]
     pub fn hostname(&self) -> Option<&'a str> {
         self.optional(&self.read.host)
     }
 
     /// Returns the program that wrote the message.
+    #[inline]
     pub fn appname(&self) -> Option<&'a str> {
         self.optional(&self.read.app)
     }
 
     /// Returns the process id of that program: a number, or any other text.
+    #[inline]
     pub fn procid(&self) -> Option<ProcId<&'a str>> {
         match &self.read.process {
             it if it.is_number == 1 => Some(ProcId::Number(it.number)),
@@ -73,21 +82,25 @@ impl<'a: 'r, 'r> Parts<'a, 'r> {
     }
 
     /// Returns the message id: the sender gives the same one to messages of one kind. Only RFC 5424 has it.
+    #[inline]
     pub fn msgid(&self) -> Option<&'a str> {
         self.optional(&self.read.msgid)
     }
 
     /// Returns the text of the message: what follows the header and the structured data.
+    #[inline]
     pub fn message(&self) -> &'a str {
         self.piece(&self.read.msg)
     }
 
     /// Returns the structured data from the first element on that is not strict; none if each is strict.
+    #[inline]
     pub fn unparsed_structured_data(&self) -> Option<&'a str> {
         self.optional(&self.read.unparsed)
     }
 
     /// Returns the elements of the structured data, in order: the id of each, and its parameters.
+    #[inline]
     pub fn elements(&self) -> impl Iterator<Item = (&'a str, impl ExactSizeIterator<Item = Param<'a>> + 'r)> + 'r {
         let parts = *self;
         self.elements.iter().scan(self.params, move |rest, element| {
@@ -98,19 +111,23 @@ impl<'a: 'r, 'r> Parts<'a, 'r> {
     }
 
     /// Returns the parameters of all elements, in order.
+    #[inline]
     pub(crate) fn params(&self) -> impl ExactSizeIterator<Item = Param<'a>> + 'r {
         let parts = *self;
         self.params.iter().map(move |it| parts.param(it))
     }
 
+    #[inline]
     fn param(&self, it: &raw::Param) -> Param<'a> {
         Param { name: self.piece(&it.name), raw: self.piece(&it.value) }
     }
 
+    #[inline]
     fn optional(&self, text: &raw::Text) -> Option<&'a str> {
         (text.present == 1).then(|| self.piece(text))
     }
 
+    #[inline]
     fn piece(&self, text: &raw::Text) -> &'a str {
         // SAFETY: each text that the library reads is a piece of the line, in UTF-8 (its clause AreFields). By `of`
         // these are of the line that is borrowed for 'a.
@@ -119,6 +136,7 @@ impl<'a: 'r, 'r> Parts<'a, 'r> {
 }
 
 /// Converts a number to what has it; -1 is the number of an absent one.
+#[inline]
 fn numbered<T: TryFrom<u8>>(number: i32) -> Option<T> {
     T::try_from(u8::try_from(number).ok()?).ok()
 }

@@ -1,4 +1,4 @@
-//! What `syslog_loose.h` declares, word by word.
+//! What `syslog_loose.h` declares, word by word, and a clock of the system.
 use std::ptr::NonNull;
 use std::{slice, str};
 
@@ -115,6 +115,16 @@ impl Message {
     };
 }
 
+/// A time, as `struct timespec` of Linux on x86-64.
+#[repr(C)]
+pub struct Time {
+    pub seconds: i64,
+    pub nanoseconds: i64,
+}
+
+/// Linux's clock that counts from the start of the machine, as of the last tick.
+pub const CLOCK_MONOTONIC_COARSE: i32 = 6;
+
 pub const DONE: u32 = 0;
 pub const NO_READING: u32 = 1;
 pub const NOT_UTF8: u32 = 2;
@@ -188,4 +198,7 @@ extern "C" {
         needed: *mut usize,
     ) -> u32;
     pub fn syslog_dialect_name(dialect: u32, name: *mut Text);
+
+    // (of the system's library for C)
+    pub fn clock_gettime(clock: i32, time: *mut Time) -> i32;
 }

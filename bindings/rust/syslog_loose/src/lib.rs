@@ -10,6 +10,7 @@
 #![forbid(unsafe_code)]
 #![deny(missing_docs)]
 
+mod local;
 mod message;
 mod pri;
 mod procid;

@@ -37,7 +37,8 @@ pub struct Message<S: AsRef<str> + Ord + PartialEq + Clone> {
 }
 
 impl<'a> Message<&'a str> {
-    // What was read of a line, with this timestamp.
+    // What was read of a line, with this timestamp. (Where it is no call, the message is made where it is used.)
+    #[inline(always)]
     pub(crate) fn of(parts: &libsyslog_loose::Parts<'a, '_>, timestamp: Option<DateTime<FixedOffset>>) -> Self {
         Message {
             protocol: match parts.protocol() {

@@ -1,5 +1,7 @@
-use chrono::{DateTime, Datelike, FixedOffset, Local, LocalResult, Offset, TimeZone, Timelike};
-use chrono::{NaiveDate, NaiveDateTime, NaiveTime};
+use crate::local;
+use chrono::{
+    DateTime, Datelike, FixedOffset, LocalResult, NaiveDate, NaiveDateTime, NaiveTime, Offset, TimeZone, Timelike,
+};
 use libsyslog_loose::Timestamp;
 
 /// The year in which the library reads dates that show none: each date that exists in some year exists in this one.
@@ -26,29 +28,39 @@ where
         }
         at.naive_utc()
     } else {
-        let clock = in_leap_year(shown)?;
-        clock.with_year(get_year(incomplete(clock)))?
+        in_year(shown, get_year)?
     };
     match tz {
         Some(tz) => earlier(tz.from_local_datetime(&clock)),
-        // (the clock is taken as that of UTC where the local one skips this hour)
-        None => earlier(Local.from_local_datetime(&clock)).or_else(|| Some(fixed(Local.from_utc_datetime(&clock)))),
+        None => local::at(clock),
     }
 }
 
-/// What a clock shows in [`LEAP_YEAR`], by the seconds from its beginning on: chrono's way from any instant is longer.
-fn in_leap_year(shown: Timestamp) -> Option<NaiveDateTime> {
+/// What a clock that shows no year shows in the year that the closure gives. The library read it in [`LEAP_YEAR`], and
+/// the seconds from its beginning on say the date: chrono's way from any instant is longer.
+fn in_year<F: FnOnce(IncompleteDate) -> i32>(shown: Timestamp, get_year: F) -> Option<NaiveDateTime> {
     let seconds = u32::try_from(shown.seconds - BEGIN).ok()?;
+    let date = NaiveDate::from_yo_opt(LEAP_YEAR, seconds / DAY + 1)?;
     let time = NaiveTime::from_num_seconds_from_midnight_opt(seconds % DAY, shown.nanoseconds)?;
-    Some(NaiveDate::from_yo_opt(LEAP_YEAR, seconds / DAY + 1)?.and_time(time))
+    let (month, day) = (date.month(), date.day());
+    let year = get_year((month, day, time.hour(), time.minute(), time.second()));
+    Some(NaiveDate::from_ymd_opt(year, month, day)?.and_time(time))
 }
 
-fn incomplete(clock: NaiveDateTime) -> IncompleteDate {
-    (clock.month(), clock.day(), clock.hour(), clock.minute(), clock.second())
+/// Returns the instant at which a clock with this offset shows that: chrono's way takes longer.
+pub(crate) fn at_offset(clock: NaiveDateTime, offset: FixedOffset) -> Option<DateTime<FixedOffset>> {
+    let (day, seconds) = (DAY as i32, clock.time().num_seconds_from_midnight() as i32 - offset.local_minus_utc());
+    let date = match seconds.div_euclid(day) {
+        0 => clock.date(),
+        1 => clock.date().succ_opt()?,
+        _ => clock.date().pred_opt()?,
+    };
+    let time = NaiveTime::from_num_seconds_from_midnight_opt(seconds.rem_euclid(day) as u32, clock.nanosecond())?;
+    Some(offset.from_utc_datetime(&date.and_time(time)))
 }
 
-/// The one instant, or the earlier of two.
-fn earlier<Tz: TimeZone>(found: LocalResult<DateTime<Tz>>) -> Option<DateTime<FixedOffset>> {
+/// Returns the one instant, or the earlier of two.
+pub(crate) fn earlier<Tz: TimeZone>(found: LocalResult<DateTime<Tz>>) -> Option<DateTime<FixedOffset>> {
     match found {
         LocalResult::None => None,
         LocalResult::Single(at) => Some(fixed(at)),
@@ -56,6 +68,6 @@ fn earlier<Tz: TimeZone>(found: LocalResult<DateTime<Tz>>) -> Option<DateTime<Fi
     }
 }
 
-fn fixed<Tz: TimeZone>(at: DateTime<Tz>) -> DateTime<FixedOffset> {
+pub(crate) fn fixed<Tz: TimeZone>(at: DateTime<Tz>) -> DateTime<FixedOffset> {
     at.with_timezone(&at.offset().fix())
 }
