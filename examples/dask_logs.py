@@ -10,24 +10,29 @@ A message that shows no host or no severity is not counted.
 """
 import os
 import sys
+from collections import Counter
 
 import dask
 import dask.bytes
-import dask.dataframe
 import syslog_loose
-from dask.dataframe.utils import clear_known_categories
 from dask.distributed import Client
 
+# The worker that gets the last block of all works alone for that long. With smaller blocks dask itself takes longer.
+BLOCK = "4 MiB"
 
-def read_frame(files, year):
-    """A DataFrame of all lines, a row each. The files are read in blocks: a partition is the lines of a block."""
+
+def count(block, year):
+    """Returns how many messages each pair of a host and a severity has in a block of lines."""
+    frame = syslog_loose.to_frame(block, year=year)
+    return Counter(frame.groupby(["hostname", "severity"], observed=True).size().to_dict())
+
+
+def count_files(files, year):
+    """Returns the counts of all files. Only the counts of a block leave the worker that has read it."""
     # With a delimiter each block goes on to the end of its last line, so that none is cut.
-    _, blocks = dask.bytes.read_bytes(files, delimiter=b"\n", blocksize="8 MiB", sample=False)
-    to_frame = dask.delayed(syslog_loose.to_frame)
-    partitions = [to_frame(block, year=year) for file in blocks for block in file]
-    # (each partition has the hosts and programs of its own lines as categories)
-    meta = clear_known_categories(syslog_loose.to_frame(b"", year=year), cols=["hostname", "appname"])
-    return dask.dataframe.from_delayed(partitions, meta=meta, verify_meta=False)
+    _, blocks = dask.bytes.read_bytes(files, delimiter=b"\n", blocksize=BLOCK, sample=False)
+    counts = [dask.delayed(count)(block, year) for file in blocks for block in file]
+    return sum(dask.compute(*counts), Counter())
 
 
 def main():
@@ -36,10 +41,9 @@ def main():
     year, files = int(sys.argv[1]), sys.argv[2:]
     scheduler, workers = os.environ.get("DASK_SCHEDULER"), int(os.environ.get("WORKERS", "4"))
     with Client(scheduler) if scheduler else Client(n_workers=workers, threads_per_worker=1):
-        frame = read_frame(files, year)
-        counts = frame.groupby(["hostname", "severity"], observed=True).size().compute()
-    for (host, severity), count in counts[counts > 0].sort_index().items():
-        print(host, severity, count)
+        counts = count_files(files, year)
+    for (host, severity), number in sorted(counts.items()):
+        print(host, severity, number)
 
 
 if __name__ == "__main__":
