@@ -1,14 +1,12 @@
 //! Dates in the local zone, which is that of the process: so this test has a process of its own.
-use chrono::{DateTime, Duration, FixedOffset, LocalResult, NaiveDate, NaiveDateTime, Offset, TimeZone, Utc};
+use chrono::{DateTime, Datelike, Duration, FixedOffset, LocalResult, NaiveDate, NaiveDateTime, Offset, TimeZone, Utc};
 use chrono_tz::Europe::Paris;
 use std::{env, thread, time};
 use syslog_loose::{parse_message_with_year, Variant};
 
-const YEAR: i32 = 2020;
-
 fn read(clock: NaiveDateTime) -> DateTime<FixedOffset> {
     let line = clock.format("<34>%b %e %H:%M:%S h a: m").to_string();
-    let read = parse_message_with_year(&line, |_| YEAR, Variant::Either);
+    let read = parse_message_with_year(&line, |_| clock.year(), Variant::Either);
     read.timestamp.unwrap_or_else(|| panic!("{line}"))
 }
 
@@ -24,13 +22,15 @@ fn paris(clock: NaiveDateTime) -> DateTime<FixedOffset> {
 }
 
 #[test]
-fn each_half_hour_of_a_year() {
+fn each_half_hour_of_two_years() {
     // (as a rule, so that no table of zones is needed)
     env::set_var("TZ", "CET-1CEST,M3.5.0,M10.5.0/3");
-    let begin = NaiveDate::from_ymd_opt(YEAR, 1, 1).unwrap().and_hms_opt(0, 15, 7).unwrap();
-    for half_hours in (0..366 * 48).chain(0..48) {
+    let begin = NaiveDate::from_ymd_opt(2020, 1, 1).unwrap().and_hms_opt(0, 15, 7).unwrap();
+    for half_hours in 0..366 * 48 {
         let clock = begin + Duration::minutes(30 * half_hours);
-        assert_eq!((read(clock), read(clock).offset()), (paris(clock), paris(clock).offset()), "{clock}");
+        for clock in [Some(clock), clock.with_year(2019)].into_iter().flatten() {
+            assert_eq!((read(clock), read(clock).offset()), (paris(clock), paris(clock).offset()), "{clock}");
+        }
     }
     // A zone that is changed is seen after two seconds at most.
     env::set_var("TZ", "UTC0");
