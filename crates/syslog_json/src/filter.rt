@@ -105,8 +105,8 @@ impl Objects<'_> {
         match self.read(line, &mut writer) {
             Some(found) => {
                 if self.csv {
-                    let memory = self.write_row(alloc, line, &found, writer, output)?;
-                    return Ok((memory, true));
+                    self.write_row(alloc, line, &found, &mut writer, output)?;
+                    return Ok((writer.into_memory(), true));
                 }
                 let dialect = found.dialect_name();
                 writer.write(&found.line, dialect, raw, output)?;

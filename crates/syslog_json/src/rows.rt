@@ -1,5 +1,5 @@
 //! The rows of CSV. They are written by calls of their own, so that a line of JSON pays for one test alone.
-ghost use Rattle.std.specs.Prelude.{◌≡◌, ◌++◌, List, ℕ, IfOk, OnErr, OnOk};
+ghost use Rattle.std.specs.Prelude.{◌≡◌, ◌++◌, List, ℕ, OnErr, OnOk};
 ghost use Rattle.std.specs.Str.{chars};
 ghost use Rattle.syslog_pieces.specs.Pieces.View.{seen};
 ghost use Rattle.syslog_pieces.specs.StructuredData.Visited.{list_elements};
@@ -10,6 +10,7 @@ ghost use Rattle.syslog_json.specs.Objects.{IsMessageRow, head_text, raw_text};
 
 use crate::objects::Objects;
 use std::alloc::{AllocError, Global};
+use std::mem;
 use syslog_csv::{header, line_row, refused_row};
 use syslog_dialects::SentLine;
 use syslog_object::ObjectWriter;
@@ -23,22 +24,23 @@ impl Objects<'_> {
     }
 
     /// Adds the row of a message whose elements the writer was given, and the CR that ends it, or nothing if an
-    /// allocation fails. Returns the memory that the writer used.
+    /// allocation fails. (A writer that is passed by value is cleared for each line of JSON too.)
     #[inline(never)]
     pub(crate) fn write_row(
         &self,
         alloc: Global,
         line: &str,
         found: &SentLine<'_>,
-        writer: ObjectWriter<'_>,
+        writer: &mut ObjectWriter<'_>,
         output: &mut Vec<u8>,
-    ) -> Result<Vec<u8>, AllocError>
-        requires { HasWritten writer (list_elements found.now.line.list) }
-        ensures ok { IfOk result (λ _. (bytes : List ℕ) × IsMessageRow self.now line.now found.now bytes
+    ) -> Result<(), AllocError>
+        requires { HasWritten writer.old (list_elements found.now.line.list) }
+        ensures ok { OnOk result ((bytes : List ℕ) × IsMessageRow self.now line.now found.now bytes
             × (output.new.items ≡ output.old.items ++ bytes)) }
         ensures err { OnErr result (output.new.items ≡ output.old.items) }
     {
-        let elements = writer.into_elements(&found.line.list)?;
+        let given = mem::replace(writer, ObjectWriter::new(alloc, Vec::new(alloc)));
+        let elements = given.into_elements(&found.line.list)?;
         let row = line_row(
             alloc,
             &found.line,
@@ -47,7 +49,8 @@ impl Objects<'_> {
             elements.as_slice(),
         )?;
         output.extend_from_slice(row.as_slice())?;
-        Ok(elements)
+        *writer = ObjectWriter::new(alloc, elements);
+        Ok(())
     }
 
     // Returns the line as it came, if it is asked for.

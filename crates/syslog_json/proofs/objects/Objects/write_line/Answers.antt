@@ -22,7 +22,7 @@ pub returns-then-self-clause-ok : goal.returns-then-self-clause-ok
 returns-then-self-clause-ok c =
     let m = line_value c.in-Some.found.line in
     let (read, written, leaves) = c.in-Some.ensures in
-    let (bytes, (u, left, row), added) = c.in_ok-memory-in-Some.ensures.ok in (
+    let (bytes, (u, left, row), added) = c.in_ok-write_row-in-Some.ensures.ok in (
       bytes,
       (
         _,
