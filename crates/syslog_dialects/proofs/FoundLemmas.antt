@@ -1,23 +1,24 @@
--- The names of a dialect's line are found in order before its message, or of pairs in it.
-use Rattle.std.proofs.Common.{◌≡◌, inl, inr, ℕ, Bool, true, false, List, [], ◌∷◌, ◌++◌, Option, Some, None}
-use Rattle.std.proofs.Common.{refl, sym, ap, subst, ◌∙◌, append_assoc, if◌then◌else◌, take}
-use Rattle.std.specs.Char.{is_ascii_digit, is_not_whitespace}
-use Rattle.std.specs.Option.{option_flatten}
-use Rattle.std.specs.Prelude.{codes}
-use Rattle.syslog_pieces.specs.Pieces.Class.{Text, Class, Values, Row, exactly, mapped, optional, rest, run}
-use Rattle.syslog_pieces.specs.Pieces.Class.{some_run, texted}
-use Rattle.syslog_pieces.specs.Pieces.Lists.{IsMany}
+-- Each character of a dialect's line is of a text or of the date that it says, or is left out.
+use Rattle.std.proofs.Common.{◌≡◌, ◌⊎◌, inl, inr, ℕ, Bool, true, false, List, [], ◌∷◌, ◌++◌, Option, Some, None}
+use Rattle.std.proofs.Common.{refl, sym, ap, subst, ◌∙◌, append_assoc, drop, if◌then◌else◌, take}
+use Rattle.std.specs.Char.{is_ascii_digit}
+use Rattle.syslog_pieces.specs.Pieces.Class.{Text, Class, Each, Values, Front, Row, exactly, mapped, optional, rest, run}
+use Rattle.syslog_pieces.specs.Pieces.Class.{some_run, spaced, texted}
+use Rattle.syslog_pieces.specs.Pieces.Lists.{many}
 use Rattle.syslog_pieces.specs.Pieces.Rules.{such_that}
-use Rattle.syslog_pieces.specs.Text.{colon, dash, host, is_blank, is_tag_char, number, trimmed}
-use Rattle.syslog_pieces.specs.Text.CharClass.{is_label_char, is_open_char}
-use Rattle.syslog_pieces.proofs.PieceLemmas.Class.{◌also◌, division_front, front_of, row_head}
+use Rattle.syslog_pieces.specs.Text.{host, is_blank, is_tag_char, number, tag_word, trimmed}
+use Rattle.syslog_pieces.specs.Text.CharClass.{is_label_char}
+use Rattle.syslog_pieces.proofs.PieceLemmas.Class.{◌also◌, ◌then◌, division_front, front_of, present_front, row_head}
+use Rattle.syslog_pieces.proofs.PieceLemmas.Class.{firsts, lasts, row_of, rows_split}
+use Rattle.syslog_pieces.proofs.PieceLemmas.Lists.{many_parts}
 use Rattle.syslog_loose.specs.Message.{MessageValue}
 use Rattle.syslog_loose.specs.Rfc3164.{HasProcess, Names3164, NamesByForm, Resolves, names}
-use Rattle.syslog_loose.specs.TagForm.{IsForm, IsIdOf, form_row}
+use Rattle.syslog_loose.specs.TagForm.{IsForm, IsIdOf}
 use Rattle.syslog_loose.specs.declared.dates.Dates.{Dates}
 use Rattle.syslog_loose.proofs.Rfc3164Lemmas.{one_form}
+use Rattle.syslog_loose.proofs.Rfc3164Lemmas.Near.{form_parts}
 use Rattle.syslog_dialects.specs.Cisco.{IsAsa, IsMnemonic, IsNxOs, cisco_forms, cisco_row, cisco_sent}
-use Rattle.syslog_dialects.specs.Cisco.{counter_row, date_row, either_host, begins_host, label, label_row, labelled}
+use Rattle.syslog_dialects.specs.Cisco.{counter_row, date_row, begins_host, dated_in, label, label_row, labelled}
 use Rattle.syslog_dialects.specs.Cisco.{mark, message_row, mnemonic, origin, place, place_row, start, start_row}
 use Rattle.syslog_dialects.specs.Cisco.{task_row}
 use Rattle.syslog_dialects.specs.Cisco as cisco
@@ -27,8 +28,11 @@ use Rattle.syslog_dialects.specs.Dated.{bsd_row, dated_sent, iso_row, journal_ro
 use Rattle.syslog_dialects.specs.DatedForms.{later_forms, xr_forms}
 use Rattle.syslog_dialects.specs.Dialects.{IsOfFirst, dated_forms, forms_of, last_forms, late_forms, named_forms}
 use Rattle.syslog_dialects.specs.Esxi.{esxi_row, esxi_sent, mark_row}
-use Rattle.syslog_dialects.specs.Filed.{IsAny, filed_form, filed_forms, filed_front, filed_row, filed_sent}
-use Rattle.syslog_dialects.specs.Found.{AreFound, AreInOrder, IsFoundIn, names_of}
+use Rattle.syslog_dialects.specs.Filed.{IsAny, filed_forms, filed_row, filed_sent}
+use Rattle.syslog_dialects.specs.Found.{AreFound, AreInOrder, Date, IsDateOf, IsFoundIn, IsTold, Name, Part}
+use Rattle.syslog_dialects.specs.Found.{Tells, Version, cisco_left_out, date_first, filed_date, filed_device}
+use Rattle.syslog_dialects.specs.Found.{filed_rest, second_place}
+use Rattle.syslog_dialects.specs.Found.{forwarded_words, host_alone, host_first, if_there, is_sign, left_out, serial}
 use Rattle.syslog_dialects.specs.Header.{header_row, header_says}
 use Rattle.syslog_dialects.specs.IosXr.{card, card_row, host_in, node, process, process_in, process_row, xr_row}
 use Rattle.syslog_dialects.specs.IosXr.{xr_sent}
@@ -42,13 +46,13 @@ use Rattle.syslog_dialects.specs.NamedForms.{severity_tail, tail_forms, undated_
 use Rattle.syslog_dialects.specs.NamedForms.{worded_tail}
 use Rattle.syslog_dialects.specs.NetScaler.{netscaler_row, slashed_date}
 use Rattle.syslog_dialects.specs.OpenWrt.{logread_row, logread_sent}
-use Rattle.syslog_dialects.specs.Pairs.{bare, either_text, first_value, is_host_key, pair, pair_of, pair_row, paired}
-use Rattle.syslog_dialects.specs.Pairs.{pairs_form, pairs_row, quoted, quoted_of, quoted_row}
+use Rattle.syslog_dialects.specs.Pairs.{bare, either_text, first_value, is_host_key, pair, pair_row, paired, value}
+use Rattle.syslog_dialects.specs.Pairs.{pairs_form, pairs_row, quoted, quoted_row}
 use Rattle.syslog_dialects.specs.PriorityAlone.{IsAlone, alone_row, program_row, program_sent}
 use Rattle.syslog_dialects.specs.ProCurve.{procurve_row, procurve_sent}
 use Rattle.syslog_dialects.specs.Programs.{forwarded_of, forwarded_row, grade, hostless_row, passed_on, selector_row}
 use Rattle.syslog_dialects.specs.Programs.{serial_row, severity_row, worded_row, words_row}
-use Rattle.syslog_dialects.specs.Runs.{is_plain_char, is_unquoted, is_word_char}
+use Rattle.syslog_dialects.specs.Runs.{is_unquoted, is_word_char}
 use Rattle.syslog_dialects.specs.Sent.{Form, IsSent, SentValue, loose}
 use Rattle.syslog_dialects.specs.SentReading.{IsSentIn}
 use Rattle.syslog_dialects.specs.SophosUtm.{colon_date, utm_row}
@@ -57,21 +61,22 @@ use Rattle.syslog_dialects.specs.UnixSeconds.{meraki_row, meraki_sent, short_row
 use Rattle.syslog_dialects.specs.Untagged.{mark_class, marked, marked_of}
 use Rattle.syslog_dialects.specs.declared.dialect.Dialect.{Dialect}
 use Rattle.syslog_dialects.specs.declared.dialect.Dialect.TheVariants as dialect
+use Rattle.syslog_dialects.specs.declared.sent.SentDate.{SentDate}
 use Rattle.syslog_dialects.specs.declared.untagged.Mark.{Mark}
 use Rattle.syslog_dialects.specs.declared.untagged.Mark.TheVariants as mark_of
 use Rattle.syslog_dialects.proofs.MessageLemmas.{end_of, whole_of}
-use Rattle.syslog_dialects.proofs.OrderLemmas.{Ending, Has, Shows, a_host, a_name, a_program, a_word, after_first}
-use Rattle.syslog_dialects.proofs.OrderLemmas.{an_id, bare as bare_text, before_rest, found_so, host_field, last_found}
-use Rattle.syslog_dialects.proofs.OrderLemmas.{left_out, mapped_found, meant, passed, perhaps, row_has, sooner, such}
-use Rattle.syslog_dialects.proofs.OrderLemmas.{tag_field, text_of, texted_has, the_name, the_text, whole_found}
-use Rattle.syslog_dialects.proofs.OrderLemmas.{within_first}
+use Rattle.syslog_dialects.proofs.OrderLemmas.{Ending, Shows, a_colon, a_date, a_gap, a_host, a_name, a_program, a_sign}
+use Rattle.syslog_dialects.proofs.OrderLemmas.{a_word, an_id, bare as bare_text, before_rest, blank_signs, blanks}
+use Rattle.syslog_dialects.proofs.OrderLemmas.{dash_field, host_named, last_found, mapped_found, maybe, maybe_colon}
+use Rattle.syslog_dialects.proofs.OrderLemmas.{meant, name_before, no_field, nothing_more, out_more, passed, perhaps}
+use Rattle.syslog_dialects.proofs.OrderLemmas.{row_has, row_more, shown, signs_before, such, tag_named, text_field, text_of}
+use Rattle.syslog_dialects.proofs.OrderLemmas.{IsOut, whole_found}
 
 -- ---- forms
 
--- of each text of the form its texts are found
+-- of each text of the form each character is accounted for
 abbrev IsFoundForm : Form → Type 0
-IsFoundForm F = (text : Text) (sent : SentValue) → IsSent F text sent
-    → AreFound F.dialect text (names_of sent) sent.msg
+IsFoundForm F = (text : Text) (sent : SentValue) → IsSent F text sent → AreFound F.dialect text sent
 
 abbrev AllFound : List Form → Type 0
 AllFound [] = Unit {0}
@@ -81,262 +86,389 @@ both_found : (As Bs : List Form) → AllFound As → AllFound Bs → AllFound (A
 both_found [] Bs a b = b
 both_found (F ∷ As) Bs a b = (a.0, both_found As Bs a.1 b)
 
--- the names that the pieces of a row say are found before the message
-abbrev RowFound : (row : List Class) → (Values row → SentValue) → Type 0
-RowFound row says_of = Ending (Row row) (λ v. names_of (says_of v)) (λ v. (says_of v).msg)
+-- the pieces of a row tell what they say
+abbrev RowTold : (left row : List Class) → (Values row → SentValue) → Type 0
+RowTold left row says_of = (t : Text) (v : Values row) → Front (Row row) t [] v → IsTold left t (says_of v)
+
+-- with the date before the host
+abbrev RowFound : (left row : List Class) → (Values row → SentValue) → Type 0
+RowFound left row says_of = Ending left (Row row) (λ v. date_first (says_of v)) (λ v. (says_of v).msg)
 
 -- a form whose pieces say it
-said : (it : Dialect) (row : List Class) (says_of : Values row → SentValue) → RowFound row says_of
+said_so : (it : Dialect) (row : List Class) (says_of : Values row → SentValue) → RowTold (left_out it) row says_of
     → IsFoundForm (record { dialect = it; row = row; Means = λ v s. s ≡ says_of v })
-said it row says_of found text sent s =
-    let (before, whole, in_order) = found text s.values (division_front row s.division) in
-    subst (λ (x : SentValue). AreFound it text (names_of x) x.msg) (sym s.means) (before, whole, inl in_order)
+said_so it row says_of told text sent s =
+    subst (AreFound it text) (sym s.means) (inl (told text s.values (division_front row s.division)))
+
+said : (it : Dialect) (row : List Class) (says_of : Values row → SentValue) → RowFound (left_out it) row says_of
+    → IsFoundForm (record { dialect = it; row = row; Means = λ v s. s ≡ says_of v })
+said it row says_of found = said_so it row says_of (λ t v f. inl (found t v f))
+
+-- ---- dates
+
+any_is_date : (p q : Text) (d : SentDate) → any_date.Is p q d → IsDateOf p q d
+any_is_date p q d (inl e, is, same) = subst (IsDateOf p q) (sym same) (inl is)
+any_is_date p q d (inr e, is, same) = subst (IsDateOf p q) (sym same) (inr (inl is.1))
+
+abbrev an_any_date : {left : List Class} → Shows left any_date
+an_any_date = a_date any_date (λ d. d) any_is_date
+
+abbrev an_iso_date : {left : List Class} → Shows left iso_date
+an_iso_date = a_date iso_date (λ d. d) (λ p q d is. inr (inl is))
+
+abbrev an_odd_bsd_date : {left : List Class} → Shows left odd_bsd_date
+an_odd_bsd_date = a_date odd_bsd_date (λ d. d) (λ p q d is. inl (is.0, is.1.0, is.2))
+
+abbrev an_odd_iso_date : {left : List Class} → Shows left odd_iso_date
+an_odd_iso_date = a_date odd_iso_date (λ d. d) (λ p q d is. inr (inl is.1))
+
+abbrev a_cisco_date : {left : List Class} → Shows left (Row date_row)
+a_cisco_date = a_date (Row date_row) (λ v. dated_in v.0 v.1.0) (λ p q v is. inr (inr (inl (v, is, refl))))
+
+abbrev a_slashed_date : {left : List Class} → Shows left slashed_date
+a_slashed_date = a_date slashed_date (λ d. d) (λ p q d is. inr (inr (inr (inl is))))
+
+abbrev a_colon_date : {left : List Class} → Shows left colon_date
+a_colon_date = a_date colon_date (λ d. d) (λ p q d is. inr (inr (inr (inr (inl is)))))
+
+abbrev a_unix_date : {left : List Class} → Shows left unix_date
+a_unix_date = a_date unix_date (λ d. d) (λ p q d is. inr (inr (inr (inr (inr is)))))
 
 -- ---- Cisco
 
-abbrev an_origin : Shows origin
+abbrev an_origin : {left : List Class} → Shows left origin
 an_origin = bare_text (BeginsWith begins_host)
 
-abbrev a_start : Shows start
-a_start = meant (Row start_row) (Option Text) labelled the_name (row_has start_row
-    (passed (run is_blank) also passed (optional (exactly colon)) also passed (run is_blank)
-    also passed (optional (Row counter_row)) also passed (optional (Row counter_row))
-    also perhaps label.Is (meant (Row label_row) Text (λ v. v.0) the_text (row_has label_row
-    (an_origin also passed (exactly colon) also passed (some_run is_blank) also tt))).1
-    also passed (optional (Row counter_row)) also passed (optional (Row task_row)) also passed (optional mark)
+counter_out : IsOut cisco_left_out (Row counter_row)
+counter_out p q v is = inr (inl (v, is))
+
+task_out : IsOut cisco_left_out (Row task_row)
+task_out p q v is = inr (inr (inl (v, is)))
+
+mark_out : IsOut cisco_left_out mark
+mark_out p q v is = inr (inr (inr (inl (v, is))))
+
+second_out : IsOut cisco_left_out second_place
+second_out p q v is = inr (inr (inr (inr (inl (v, is)))))
+
+filed_date_out : IsOut cisco_left_out filed_date
+filed_date_out p q v is = inr (inr (inr (inr (inr (inl (v, is))))))
+
+filed_device_out : IsOut cisco_left_out filed_device
+filed_device_out p q v is = inr (inr (inr (inr (inr (inr (inl (v, is)))))))
+
+abbrev a_label : {left : List Class} → Shows left label
+a_label {left} = meant (Row label_row) Text (λ v. v.0) (λ t parts. Name t ∷ parts)
+    (row_has left label_row (an_origin also a_colon also a_gap also tt))
+
+abbrev a_start : Shows cisco_left_out start
+a_start = meant (Row start_row) (Option Text) labelled (if_there Name) (row_has cisco_left_out start_row
+    (blanks also maybe_colon also blanks also maybe (Row counter_row) counter_out
+    also maybe (Row counter_row) counter_out also perhaps label Name (a_label {left = cisco_left_out}).has
+    also maybe (Row counter_row) counter_out also maybe (Row task_row) task_out also maybe mark mark_out also tt))
+
+abbrev a_place : Shows cisco_left_out place
+a_place = meant (Row place_row) (Option Text) (λ v. v.1.0) (if_there Name) (row_has cisco_left_out place_row
+    (blanks also perhaps origin Name (an_origin {left = cisco_left_out}).has also blanks also maybe_colon also blanks
     also tt))
 
-abbrev a_place : Shows place
-a_place = meant (Row place_row) (Option Text) (λ v. v.1.0) the_name (row_has place_row
-    (passed (run is_blank) also perhaps origin.Is an_origin.1 also passed (run is_blank)
-    also passed (optional (exactly colon)) also passed (run is_blank) also tt))
-
 -- the tag, and nothing else
-tag_found : Ending (Row message_row) (λ v. Some v.0 ∷ None ∷ None ∷ []) (λ v. v.1.1.1.1.0)
-tag_found = before_rest (take 4 message_row)
-    (bare_text IsMnemonic also passed (run is_blank) also passed (exactly colon) also passed (run is_blank) also tt)
-    (None ∷ None ∷ []) tt
+tag_found : (left : List Class) → Ending left (Row message_row) (λ v. Name v.0 ∷ []) (λ v. v.1.1.1.1.0)
+tag_found left =
+    before_rest left (take 4 message_row) (bare_text IsMnemonic also blanks also a_colon also blanks also tt)
 
--- of two hosts the first that is there
-first_host : (one other : Option Text) (ts : List (Option Text)) (text : Text) → AreInOrder (one ∷ other ∷ ts) text
-    → AreInOrder (either_host one other ∷ ts) text
-first_host None other ts text found = found
-first_host (Some h) other ts text found =
-    after_first (Some h) (other ∷ ts) ts (left_out other ts) text found
+-- the host, where it comes before the date, or after it
+abbrev cisco_parts : Values cisco_row → List Part
+cisco_parts (None, ((y, (date, _)), (other, ((tag, _), _)))) =
+    Date (dated_in y date) ∷ if_there Name other (Name tag ∷ [])
+cisco_parts (Some h, ((y, (date, _)), (other, ((tag, _), _)))) = Name h ∷ Date (dated_in y date) ∷ Name tag ∷ []
 
--- or the last
-later_host : (one : Option Text) (device : Text) (ts : List (Option Text)) (text : Text)
-    → AreInOrder (Some device ∷ one ∷ ts) text → AreInOrder (either_host one (Some device) ∷ ts) text
-later_host None device ts text found = found
-later_host (Some h) device ts text found = left_out (Some device) (Some h ∷ ts) text found
+-- The first host is said. With it the second is left out.
+cisco_found : Ending cisco_left_out (Row cisco_row) cisco_parts (λ v. (cisco_sent v).msg)
+cisco_found t (None, v) f = last_found cisco_left_out (take 3 cisco_row)
+    (a_start also a_cisco_date also a_place also tt) (Row message_row) (λ w. Name w.0 ∷ []) (λ w. w.1.1.1.1.0)
+    (tag_found cisco_left_out) t (None, v) f
+cisco_found t (Some h, v) f =
+    let (u, started, more) = row_head start (drop 1 cisco_row) f in
+    let (w, dated, others) = row_head (Row date_row) (drop 2 cisco_row) more in
+    let (x, placed, ends) = row_head place (drop 3 cisco_row) others in
+    let it = end_of (Row message_row) ends in
+    let (r, tag, body) = row_head mnemonic (drop 1 message_row) it in
+    let led : Front (Row (start ∷ Row date_row ∷ [])) t w (Some h, (v.0, tt)) =
+    row_of (start ∷ Row date_row ∷ []) (started then dated then refl) in
+    row_more (start ∷ Row date_row ∷ []) (a_start also a_cisco_date also tt) led
+    (out_more place placed (second_out placed.piece x v.1.0 (placed.is, (r, v.1.1.0.0, tag)))
+    (tag_found cisco_left_out x v.1.1.0 it))
 
-cisco_found : RowFound cisco_row cisco_sent
-cisco_found t v f = found_so
-    (v.0 ∷ v.1.1.0 ∷ Some v.1.1.1.0.0 ∷ None ∷ None ∷ []) (names_of (cisco_sent v)) (cisco_sent v).msg t
-    (first_host v.0 v.1.1.0 (Some v.1.1.1.0.0 ∷ None ∷ None ∷ []))
-    (last_found (take 3 cisco_row) (a_start also passed (Row date_row) also a_place also tt) (Row message_row)
-    (λ w. Some w.0 ∷ None ∷ None ∷ []) (λ w. w.1.1.1.1.0) tag_found t v f)
-
-such_found : (P : Values cisco_row → Type 0)
-    → Ending (such_that (Row cisco_row) P) (λ v. names_of (cisco_sent v)) (λ v. (cisco_sent v).msg)
-such_found P t v f = cisco_found t v (front_of f.piece f.whole f.is.0)
+cisco_told : RowTold cisco_left_out cisco_row cisco_sent
+cisco_told t (None, v) f = inl (cisco_found t (None, v) f)
+cisco_told t (Some h, v) f = inr (cisco_found t (Some h, v) f)
 
 -- those of one system
-system_found : (P : Values cisco_row → Type 0) → RowFound (such_that (Row cisco_row) P ∷ []) (λ v. cisco_sent v.0)
-system_found P t v f = such_found P t v.0 (end_of (such_that (Row cisco_row) P) f)
+system_told : (P : Values cisco_row → Type 0)
+    → RowTold cisco_left_out (such_that (Row cisco_row) P ∷ []) (λ v. cisco_sent v.0)
+system_told P t v f =
+    let it = end_of (such_that (Row cisco_row) P) f in
+    cisco_told t v.0 (front_of it.piece it.whole it.is.0)
 
 cisco_all : AllFound cisco_forms
 cisco_all =
-    said dialect.CiscoAsa (such_that (Row cisco_row) IsAsa ∷ []) (λ v. cisco_sent v.0) (system_found IsAsa)
-    also said dialect.CiscoNxOs (such_that (Row cisco_row) IsNxOs ∷ []) (λ v. cisco_sent v.0) (system_found IsNxOs)
-    also said dialect.CiscoIos cisco_row cisco_sent cisco_found also tt
+    said_so dialect.CiscoAsa (such_that (Row cisco_row) IsAsa ∷ []) (λ v. cisco_sent v.0) (system_told IsAsa)
+    also said_so dialect.CiscoNxOs (such_that (Row cisco_row) IsNxOs ∷ []) (λ v. cisco_sent v.0) (system_told IsNxOs)
+    also said_so dialect.CiscoIos cisco_row cisco_sent cisco_told also tt
 
--- as a collector files them
-filed_found : (P : Values cisco_row → Type 0)
-    → RowFound (filed_row (such_that (Row cisco_row) P)) (λ v. filed_sent v.1.1.1.0 v.1.1.1.1.1.0)
-filed_found P t v f =
+-- ---- as a collector files them
+
+-- the same parts of more text
+told_more : {t u : Text} (sent : SentValue)
+    → ((parts : List Part) → Tells cisco_left_out u parts sent.msg → Tells cisco_left_out t parts sent.msg)
+    → IsTold cisco_left_out u sent → IsTold cisco_left_out t sent
+told_more sent more (inl told) = inl (more (date_first sent) told)
+told_more sent more (inr told) = inr (more (host_first sent) told)
+
+-- the device is the host where the line shows none
+device_told : (device : Text) (line : Values cisco_row) {t u : Text} → Front origin t u device
+    → Front (Row filed_rest) u [] (tt, (line, tt)) → Tells cisco_left_out u (cisco_parts line) (cisco_sent line).msg
+    → IsTold cisco_left_out t (filed_sent device line)
+device_told device (Some h, v) {u = u} f more told = inr (out_more origin f
+    (filed_device_out f.piece u device (f.is, ([], (tt, ((Some h, v), tt)), more))) told)
+device_told device (None, (d, (Some o, v))) {u = u} f more told = inl (out_more origin f
+    (filed_device_out f.piece u device (f.is, ([], (tt, ((None, (d, (Some o, v))), tt)), more))) told)
+device_told device (None, (d, (None, v))) {t} {u} f more told =
+    inr ((an_origin {left = cisco_left_out}).has t u device f (cisco_parts (None, (d, (None, v)))) v.0.1.1.1.1.0 told)
+
+filed_told : (P : Values cisco_row → Type 0)
+    → RowTold cisco_left_out (filed_row (such_that (Row cisco_row) P)) (λ v. filed_sent v.1.1.1.0 v.1.1.1.1.1.0)
+filed_told P t v f =
+    let C = such_that (Row cisco_row) P in
     let line = v.1.1.1.1.1.0 in
-    let sent = filed_sent v.1.1.1.0 line in
-    found_so (Some v.1.1.1.0 ∷ names_of (cisco_sent line)) (names_of sent) sent.msg t
-    (later_host (cisco_sent line).hostname v.1.1.1.0 (sent.appname ∷ sent.process ∷ sent.msgid ∷ []))
-    (last_found filed_front
-    (passed (run is_blank) also passed any_date also passed (some_run is_blank) also an_origin
-    also passed (some_run is_blank) also tt) (such_that (Row cisco_row) P)
-    (λ w. names_of (cisco_sent w)) (λ w. (cisco_sent w).msg) (such_found P) t v f)
-
-filed : (it : Dialect) (P : Values cisco_row → Type 0) → IsFoundForm (filed_form it P)
-filed it P = said it (filed_row (such_that (Row cisco_row) P)) (λ v. filed_sent v.1.1.1.0 v.1.1.1.1.1.0)
-    (filed_found P)
+    let (a, blank, f1) = row_head (run is_blank) (drop 1 (filed_row C)) f in
+    let (b, dated, f2) = row_head any_date (drop 2 (filed_row C)) f1 in
+    let (c, gap, f3) = row_head (some_run is_blank) (drop 3 (filed_row C)) f2 in
+    let (d, device, f4) = row_head origin (drop 4 (filed_row C)) f3 in
+    let (e, space, f5) = row_head (some_run is_blank) (drop 5 (filed_row C)) f4 in
+    let it = end_of C f5 in
+    let whole : Front (Row cisco_row) e [] line = front_of it.piece it.whole it.is.0 in
+    let left : Front (Row filed_rest) d [] (tt, (line, tt)) = row_of filed_rest (space then whole then refl) in
+    let named = device_told v.1.1.1.0 line device left
+    (out_more (some_run is_blank) space (inl (blank_signs space.piece space.is.1)) (cisco_found e line whole)) in
+    let after : Front (Row (some_run is_blank ∷ origin ∷ filed_rest)) b [] (tt, (v.1.1.1.0, (tt, (line, tt)))) =
+    row_of (some_run is_blank ∷ origin ∷ filed_rest) (gap then device then space then whole then refl) in
+    told_more (filed_sent v.1.1.1.0 line) (λ parts told.
+    out_more (run is_blank) blank (inl (blank_signs blank.piece blank.is.0))
+    (out_more any_date dated
+    (filed_date_out dated.piece b v.1.0 (dated.is, ([], (tt, (v.1.1.1.0, (tt, (line, tt)))), after)))
+    (out_more (some_run is_blank) gap (inl (blank_signs gap.piece gap.is.1)) told))) named
 
 filed_all : AllFound filed_forms
 filed_all =
-    filed dialect.CiscoAsa IsAsa also filed dialect.CiscoNxOs IsNxOs also filed dialect.CiscoIos IsAny also tt
+    said_so dialect.CiscoAsa (filed_row (such_that (Row cisco_row) IsAsa)) (λ v. filed_sent v.1.1.1.0 v.1.1.1.1.1.0)
+    (filed_told IsAsa)
+    also said_so dialect.CiscoNxOs (filed_row (such_that (Row cisco_row) IsNxOs))
+    (λ v. filed_sent v.1.1.1.0 v.1.1.1.1.1.0) (filed_told IsNxOs)
+    also said_so dialect.CiscoIos (filed_row (such_that (Row cisco_row) IsAny))
+    (λ v. filed_sent v.1.1.1.0 v.1.1.1.1.1.0) (filed_told IsAny) also tt
 
-undated_cisco : RowFound cisco.undated_row cisco.undated_sent
-undated_cisco = last_found (take 4 cisco.undated_row)
-    (passed (run is_blank) also passed (optional (exactly colon)) also passed (run is_blank)
-    also passed (optional (Row counter_row)) also tt) (Row message_row) (λ v. Some v.0 ∷ None ∷ None ∷ [])
-    (λ v. v.1.1.1.1.0) tag_found
+undated_cisco : RowFound (left_out dialect.CiscoUndated) cisco.undated_row cisco.undated_sent
+undated_cisco = last_found (left_out dialect.CiscoUndated) (take 4 cisco.undated_row)
+    (blanks also maybe_colon also blanks also maybe (Row counter_row) (λ p q v is. inr (inl (v, is))) also tt)
+    (Row message_row) (λ v. Name v.0 ∷ []) (λ v. v.1.1.1.1.0) (tag_found (left_out dialect.CiscoUndated))
 
-process_found : Ending process (λ v. Some v.0 ∷ Some v.1.0 ∷ None ∷ []) (λ v. v.1.1)
-process_found = mapped_found (Row process_row) (Text × (Text × Text)) process_in
-    (λ v. Some v.0 ∷ Some v.1.0 ∷ None ∷ []) (λ v. v.1.1) (before_rest (take 9 process_row)
-    (passed (run is_blank) also passed (optional (exactly colon)) also passed (run is_blank)
-    also text_of (some_run is_label_char) also passed (exactly (91 ∷ [])) also text_of (some_run is_ascii_digit)
-    also passed (exactly (93 ∷ [])) also passed (exactly colon) also passed (run is_blank) also tt)
-    (None ∷ []) tt)
+process_found : (left : List Class) → Ending left process (λ v. Name v.0 ∷ Name v.1.0 ∷ []) (λ v. v.1.1)
+process_found left = mapped_found left (Row process_row) (Text × (Text × Text)) process_in
+    (λ v. Name v.0 ∷ Name v.1.0 ∷ []) (λ v. v.1.1) (before_rest left (take 9 process_row)
+    (blanks also maybe_colon also blanks also text_of (some_run is_label_char) also a_sign 91 refl
+    also text_of (some_run is_ascii_digit) also a_sign 93 refl also a_colon also blanks also tt))
 
-abbrev a_card : Shows card
-a_card = meant (Row card_row) (Option Text) host_in the_name (row_has card_row
-    (passed (run is_blank) also passed (optional (Row counter_row))
-    also perhaps xr.host.Is (meant (Row xr.host_row) Text (λ v. v.0) the_text
-    (row_has xr.host_row (an_origin also passed (some_run is_blank) also tt))).1
-    also passed node also passed (exactly colon) also tt))
+abbrev xr_left_out : List Class
+xr_left_out = left_out dialect.CiscoIosXr
 
-xr_found : RowFound xr_row xr_sent
-xr_found = last_found (take 2 xr_row) (a_card also passed (Row date_row) also tt) process
-    (λ v. Some v.0 ∷ Some v.1.0 ∷ None ∷ []) (λ v. v.1.1) process_found
+abbrev an_xr_host : Shows xr_left_out xr.host
+an_xr_host = meant (Row xr.host_row) Text (λ v. v.0) (λ t parts. Name t ∷ parts)
+    (row_has xr_left_out xr.host_row (an_origin also a_gap also tt))
+
+abbrev a_card : Shows xr_left_out card
+a_card = meant (Row card_row) (Option Text) host_in (if_there Name) (row_has xr_left_out card_row
+    (blanks also maybe (Row counter_row) (λ p q v is. inr (inl (v, is))) also perhaps xr.host Name an_xr_host.has
+    also passed node (λ p q v is. inr (inr (inl (v, is)))) also a_colon also tt))
+
+xr_found : RowTold xr_left_out xr_row xr_sent
+xr_found t v f = inr (last_found xr_left_out (take 2 xr_row) (a_card also a_cisco_date also tt) process
+    (λ w. Name w.0 ∷ Name w.1.0 ∷ []) (λ w. w.1.1) (process_found xr_left_out) t v f)
 
 -- ---- what the port reads after a date
 
-no_names : (n : Names3164) (id : Option Text) → n ≡ names None None None → id ≡ None → (text : Text)
-    → AreInOrder (n.hostname ∷ n.appname ∷ id ∷ None ∷ []) text
-no_names n id e f text = subst (λ (x : Names3164). AreInOrder (x.hostname ∷ x.appname ∷ id ∷ None ∷ []) text) (sym e)
-    (subst (λ (x : Option Text). AreInOrder (x ∷ None ∷ []) text) (sym f) tt)
+-- the names of a text, an id among them or none
+abbrev three : Option Text → Option Text → Option Text → List Part
+three host app id = if_there Name host (if_there Name app (if_there Name id []))
 
--- tag and id, where the text is of the form
-form_found : (it tag id : Text) → IsForm it tag id → (r : Text) → AreInOrder (Some tag ∷ Some id ∷ None ∷ []) (it ++ r)
-form_found it tag id form r =
-    let f = division_front form_row form in
-    subst (λ (x : Text). AreInOrder (Some tag ∷ Some id ∷ None ∷ []) (x ++ r)) (whole_of (Row form_row) f)
-    (row_has form_row
-    (text_of (run is_label_char) also passed (exactly (91 ∷ [])) also text_of (some_run is_open_char)
-    also passed (exactly (93 ∷ [])) also tt) f.piece [] (tag, (tt, (id, (tt, tt)))) f.is (None ∷ []) r tt)
+-- a text of the form
+form_told : {left : List Class} (it tag id : Text) {u msg : Text} → IsForm it tag id → Tells left u [] msg
+    → Tells left (it ++ u) (Name tag ∷ Name id ∷ []) msg
+form_told {left} it tag id {u} {msg} form told =
+    let same = ap (λ (x : Text). x ++ u) (form_parts it tag id form).whole
+    ∙ append_assoc tag (91 ∷ (id ++ (93 ∷ []))) u
+    ∙ ap (λ (x : Text). tag ++ (91 ∷ x)) (append_assoc id (93 ∷ []) u) in
+    subst (λ (x : Text). Tells left x (Name tag ∷ Name id ∷ []) msg) (sym same)
+    (name_before tag (signs_before (91 ∷ []) (refl, tt) (name_before id (signs_before (93 ∷ []) (refl, tt) told))))
 
-id_found : (it tag id : Text) (process : Option Text) → IsForm it tag id → IsIdOf it process → (r : Text)
-    → AreInOrder (Some tag ∷ process ∷ None ∷ []) (it ++ r)
-id_found it tag id None form is r = absurd (is (tag, (tt, (id, (tt, tt)))) form)
-id_found it tag id (Some id') form (tag', form') r =
-    subst (λ (x : Text). AreInOrder (Some x ∷ Some id' ∷ None ∷ []) (it ++ r))
-    (one_form it tag' id' tag id form' form).0 (form_found it tag' id' form' r)
+id_told : {left : List Class} (it tag id : Text) (process : Option Text) {u msg : Text} → IsForm it tag id
+    → IsIdOf it process → Tells left u [] msg → Tells left (it ++ u) (Name tag ∷ if_there Name process []) msg
+id_told it tag id None form is told = absurd (is (tag, (tt, (id, (tt, tt)))) form)
+id_told {left} it tag id (Some id') {u} {msg} form (tag', form') told =
+    subst (λ (x : Text). Tells left (it ++ u) (Name x ∷ Name id' ∷ []) msg)
+    (one_form it tag' id' tag id form' form).0 (form_told it tag' id' form' told)
 
--- a program's name beside this host
-program_found : (h : Option Text) (it : Text) (n : Names3164) (id : Option Text)
-    → NamesByForm h it (names h (Some it) None) n → IsIdOf it id → (text : Text)
-    → AreInOrder (h ∷ Some it ∷ None ∷ None ∷ []) text → AreInOrder (n.hostname ∷ n.appname ∷ id ∷ None ∷ []) text
-program_found h it n id (inl (tag, number, of, form, named, e)) is text found =
-    subst (λ (x : Names3164). AreInOrder (x.hostname ∷ x.appname ∷ id ∷ None ∷ []) text) (sym e)
-    (after_first h (Some it ∷ None ∷ None ∷ []) (Some tag ∷ id ∷ None ∷ [])
-    (within_first it (None ∷ None ∷ []) (Some tag ∷ id ∷ None ∷ []) (λ r none. id_found it tag number id form is r))
-    text found)
-program_found h it n None (inr (no_form, e)) is text found =
-    subst (λ (x : Names3164). AreInOrder (x.hostname ∷ x.appname ∷ None ∷ None ∷ []) text) (sym e) found
-program_found h it n (Some id) (inr (no_form, e)) (tag, form) text found =
+-- the name of a program, which follows what tells this host
+program_told : {left : List Class} (h : Option Text) (it : Text) (n : Names3164) (id : Option Text) {t u msg : Text}
+    → NamesByForm h it (names h (Some it) None) n → IsIdOf it id → Tells left u [] msg
+    → ((parts : List Part) → Tells left (it ++ u) parts msg → Tells left t (if_there Name h parts) msg)
+    → Tells left t (three n.hostname n.appname id) msg
+program_told {left} h it n id {t} {msg = msg} (inl (tag, number, of, form, named, e)) is told more =
+    subst (λ (x : Names3164). Tells left t (three x.hostname x.appname id) msg) (sym e)
+    (more (Name tag ∷ if_there Name id []) (id_told it tag number id form is told))
+program_told {left} h it n None {t} {msg = msg} (inr (no_form, e)) is told more =
+    subst (λ (x : Names3164). Tells left t (three x.hostname x.appname None) msg) (sym e)
+    (more (Name it ∷ []) (name_before it told))
+program_told h it n (Some id) (inr (no_form, e)) (tag, form) told more =
     absurd (no_form (tag, (tt, (id, (tt, tt)))) form)
 
 -- a lone name
-lone_found : (it : Text) (n : Names3164) (id : Option Text) → NamesByForm None it (names (Some it) None None) n
-    → IsIdOf it id → (text : Text) → AreInOrder (Some it ∷ None ∷ None ∷ None ∷ []) text
-    → AreInOrder (n.hostname ∷ n.appname ∷ id ∷ None ∷ []) text
-lone_found it n id (inl (tag, number, of, form, named, e)) is text found =
-    subst (λ (x : Names3164). AreInOrder (x.hostname ∷ x.appname ∷ id ∷ None ∷ []) text) (sym e)
-    (within_first it (None ∷ None ∷ None ∷ []) (Some tag ∷ id ∷ None ∷ [])
-    (λ r none. id_found it tag number id form is r) text found)
-lone_found it n None (inr (no_form, e)) is text found =
-    subst (λ (x : Names3164). AreInOrder (x.hostname ∷ x.appname ∷ None ∷ None ∷ []) text) (sym e) found
-lone_found it n (Some id) (inr (no_form, e)) (tag, form) text found =
-    absurd (no_form (tag, (tt, (id, (tt, tt)))) form)
+lone_told : {left : List Class} (it : Text) (n : Names3164) (id : Option Text) {u msg : Text}
+    → NamesByForm None it (names (Some it) None None) n → IsIdOf it id → Tells left u [] msg
+    → Tells left (it ++ u) (three n.hostname n.appname id) msg
+lone_told {left} it n id {u} {msg} (inl (tag, number, of, form, named, e)) is told =
+    subst (λ (x : Names3164). Tells left (it ++ u) (three x.hostname x.appname id) msg) (sym e)
+    (id_told it tag number id form is told)
+lone_told {left} it n None {u} {msg} (inr (no_form, e)) is told =
+    subst (λ (x : Names3164). Tells left (it ++ u) (three x.hostname x.appname None) msg) (sym e) (name_before it told)
+lone_told it n (Some id) (inr (no_form, e)) (tag, form) told = absurd (no_form (tag, (tt, (id, (tt, tt)))) form)
 
--- the names that the two fields mean, where the fields are
-fields_found : (origin program : Option (Option Text)) (n : Names3164) (id : Option Text) → Resolves origin program n
-    → HasProcess origin program id → (text : Text)
-    → AreInOrder (option_flatten origin ∷ option_flatten program ∷ None ∷ None ∷ []) text
-    → AreInOrder (n.hostname ∷ n.appname ∷ id ∷ None ∷ []) text
-fields_found None None n id e is text found = no_names n id e is text
-fields_found (Some None) None n id e is text found = no_names n id e is text
-fields_found (Some (Some lone)) None n id by is text found = lone_found lone n id by is text found
-fields_found None (Some (Some it)) n id by is text found = program_found None it n id by is text found
-fields_found (Some None) (Some (Some it)) n id by is text found = program_found None it n id by is text found
-fields_found (Some (Some h)) (Some (Some it)) n id by is text found = program_found (Some h) it n id by is text found
-fields_found None (Some None) n id e is text found = no_names n id e is text
-fields_found (Some None) (Some None) n id e is text found = no_names n id e is text
-fields_found (Some (Some h)) (Some None) n id e is text found = no_names n id e is text
+no_names : {left : List Class} (n : Names3164) (id : Option Text) {t msg : Text} → n ≡ names None None None
+    → id ≡ None → Tells left t [] msg → Tells left t (three n.hostname n.appname id) msg
+no_names {left} n id {t} {msg} e f told =
+    subst (λ (x : Names3164). Tells left t (three x.hostname x.appname id) msg) (sym e)
+    (subst (λ (x : Option Text). Tells left t (if_there Name x []) msg) (sym f) told)
 
-abbrev tail_names : TailValue → List (Option Text)
-tail_names v = v.hostname ∷ v.appname ∷ v.process ∷ None ∷ []
+abbrev tail_parts : TailValue → List Part
+tail_parts v = three v.hostname v.appname v.process
 
-tail_found : Ending tail tail_names (λ v. v.msg)
-tail_found t v f =
-    let (o, g, m, n, row, by, same_host, same_app, is) = f.is in
-    found_so (option_flatten o ∷ option_flatten g ∷ None ∷ None ∷ []) (tail_names v) v.msg t (λ text found.
-    subst (λ (x : Option Text). AreInOrder (x ∷ v.appname ∷ v.process ∷ None ∷ []) text) (sym same_host)
-    (subst (λ (x : Option Text). AreInOrder (n.hostname ∷ x ∷ v.process ∷ None ∷ []) text) (sym same_app)
-    (fields_found o g n v.process by is text found)))
-    (before_rest (take 5 tail_row)
-    (host_field also tag_field also passed (run is_blank) also passed (optional (exactly colon))
-    also passed (run is_blank) also tt) (None ∷ None ∷ []) tt t (o, (g, (tt, (m, (tt, (v.msg, tt))))))
-    (front_of f.piece f.whole row))
+-- beside the tag `-` a host is left out
+module _ (Cs : List Class) where
+  alone_told : {t u w msg : Text} (h : Text) → Front (optional (spaced host)) t u (Some (Some h))
+      → Front (optional (spaced tag_word)) u w (Some None) → Tells (host_alone ∷ Cs) w [] msg
+      → Tells (host_alone ∷ Cs) t [] msg
+  alone_told {w = w} h f g told =
+      let it = present_front (spaced host) f in
+      let tag = present_front (spaced tag_word) g in
+      let (r, whole, is) = tag.is in
+      out_more (spaced host) it
+      (inr (inl (Some h, (it.is, (w, None, front_of tag.piece tag.whole (r, whole, (is, refl)))))))
+      (dash_field tag_word.Is tag_named g told)
 
-wide_found : Ending wide_tail tail_names (λ v. v.msg)
-wide_found = mapped_found (Row wide_row) TailValue (λ v. v.1.0) tail_names (λ v. v.msg)
-    (last_found (take 1 wide_row) (passed (optional spare) also tt) tail tail_names (λ v. v.msg) tail_found)
+  -- the names that the two fields mean
+  fields_told : (origin program : Option (Option Text)) (n : Names3164) (id : Option Text) {t u w msg : Text}
+      → Resolves origin program n → HasProcess origin program id → Front (optional (spaced host)) t u origin
+      → Front (optional (spaced tag_word)) u w program → Tells (host_alone ∷ Cs) w [] msg
+      → Tells (host_alone ∷ Cs) t (three n.hostname n.appname id) msg
+  fields_told None None n id e is f g told =
+      no_names n id e is (no_field (spaced host) f (no_field (spaced tag_word) g told))
+  fields_told (Some None) None n id e is f g told =
+      no_names n id e is (dash_field host.Is host_named f (no_field (spaced tag_word) g told))
+  fields_told (Some (Some lone)) None n id by is f g told =
+      text_field host.Is host_named lone f (lone_told lone n id by is (no_field (spaced tag_word) g told))
+  fields_told None (Some (Some it)) n id by is f g told = program_told None it n id by is told
+      (λ parts more. no_field (spaced host) f (text_field tag_word.Is tag_named it g more))
+  fields_told (Some None) (Some (Some it)) n id by is f g told = program_told None it n id by is told
+      (λ parts more. dash_field host.Is host_named f (text_field tag_word.Is tag_named it g more))
+  fields_told (Some (Some h)) (Some (Some it)) n id by is f g told = program_told (Some h) it n id by is told
+      (λ parts more. text_field host.Is host_named h f (name_before h (text_field tag_word.Is tag_named it g more)))
+  fields_told None (Some None) n id e is f g told =
+      no_names n id e is (no_field (spaced host) f (dash_field tag_word.Is tag_named g told))
+  fields_told (Some None) (Some None) n id e is f g told =
+      no_names n id e is (dash_field host.Is host_named f (dash_field tag_word.Is tag_named g told))
+  fields_told (Some (Some h)) (Some None) n id e is f g told = no_names n id e is (alone_told h f g told)
+
+  tail_found : Ending (host_alone ∷ Cs) tail tail_parts (λ v. v.msg)
+  tail_found t v f =
+      let (o, g, m, n, row, by, same_host, same_app, is) = f.is in
+      let fields : Front (Row tail_row) t [] (o, (g, (tt, (m, (tt, (v.msg, tt)))))) =
+      front_of f.piece f.whole row in
+      let (u, a, others) = row_head (optional (spaced host)) (drop 1 tail_row) fields in
+      let (w, b, ends) = row_head (optional (spaced tag_word)) (drop 2 tail_row) others in
+      let told = before_rest (host_alone ∷ Cs) (take 3 (drop 2 tail_row))
+      (blanks also maybe_colon also blanks also tt) w (tt, (m, (tt, (v.msg, tt)))) ends in
+      subst (λ (x : Option Text). Tells (host_alone ∷ Cs) t (three x v.appname v.process) v.msg) (sym same_host)
+      (subst (λ (x : Option Text). Tells (host_alone ∷ Cs) t (three n.hostname x v.process) v.msg) (sym same_app)
+      (fields_told o g n v.process by is a b told))
+
+  wide_found : Ending (host_alone ∷ Cs) wide_tail tail_parts (λ v. v.msg)
+  wide_found = mapped_found (host_alone ∷ Cs) (Row wide_row) TailValue (λ v. v.1.0) tail_parts (λ v. v.msg)
+      (last_found (host_alone ∷ Cs) (take 1 wide_row)
+      (maybe spare (λ p q v is. inl (subst (Each is_sign) (sym is.0) (refl, tt))) also tt) tail tail_parts (λ v. v.msg)
+      tail_found)
+
+  -- a date of the class after blanks, and all after it
+  dated_found : (D : Class) (shows : Shows (host_alone ∷ Cs) D)
+      → Ending (host_alone ∷ Cs) (Row (run is_blank ∷ D ∷ wide_tail ∷ []))
+      (λ v. shows.adds v.1.0 (tail_parts v.1.1.0)) (λ v. v.1.1.0.msg)
+  dated_found D shows = last_found (host_alone ∷ Cs) (run is_blank ∷ D ∷ []) (blanks also shows also tt) wide_tail
+      tail_parts (λ v. v.msg) wide_found
 
 -- ---- other dates
 
-container_found : RowFound container_row (λ v. loose (Some v.1.0) None None None v.1.1.1.0)
-container_found = last_found (take 3 container_row)
-    (passed (run is_blank) also passed iso_date also passed (exactly (32 ∷ [])) also tt) output (λ v. []) (λ v. v)
-    (whole_found output (λ v. v) (λ p v is. is.1) [] tt)
+container_found : RowFound (left_out dialect.Container) container_row (λ v. loose (Some v.1.0) None None None v.1.1.1.0)
+container_found = last_found (left_out dialect.Container) (take 3 container_row)
+    (blanks also an_iso_date also a_sign 32 refl also tt) output (λ v. []) (λ v. v)
+    (whole_found (left_out dialect.Container) output (λ v. v) (λ p v is. is.1))
 
-esxi_found : RowFound esxi_row esxi_sent
-esxi_found = before_rest (take 7 esxi_row)
-    (passed (run is_blank) also passed iso_date also passed (some_run is_blank) also passed (Row mark_row)
-    also passed (some_run is_blank) also a_program also passed (run is_blank) also tt) (None ∷ []) tt
+esxi_found : RowFound (left_out dialect.Esxi) esxi_row esxi_sent
+esxi_found = before_rest (left_out dialect.Esxi) (take 7 esxi_row)
+    (blanks also an_iso_date also a_gap also passed (Row mark_row) (λ p q v is. inr (inl (v, is))) also a_gap
+    also a_program also blanks also tt)
 
-procurve_found : RowFound procurve_row procurve_sent
-procurve_found = before_rest (take 10 procurve_row)
-    (passed (run is_blank) also passed any_date also passed (some_run is_blank) also an_origin
-    also passed (some_run is_blank) also passed (some_run is_ascii_digit) also passed (some_run is_blank)
-    also text_of (some_run is_tag_char) also passed (exactly colon) also passed (run is_blank) also tt) [] tt
+procurve_found : RowFound (left_out dialect.ProCurve) procurve_row procurve_sent
+procurve_found = before_rest (left_out dialect.ProCurve) (take 10 procurve_row)
+    (blanks also an_any_date also a_gap also an_origin also a_gap
+    also passed (some_run is_ascii_digit) (λ p q v is. inr (inl (v, is))) also a_gap
+    also text_of (some_run is_tag_char) also a_colon also blanks also tt)
 
-logread_found : RowFound logread_row logread_sent
-logread_found = before_rest (take 9 logread_row)
-    (passed (run is_blank) also passed weekday also passed (some_run is_blank) also passed any_date
-    also passed (some_run is_blank) also passed (Row selector_row) also passed (some_run is_blank) also a_program
-    also passed (run is_blank) also tt) (None ∷ []) tt
+abbrev words_left_out : List Class
+words_left_out = left_out dialect.SeverityFirst
 
-meraki_found : RowFound meraki_row meraki_sent
-meraki_found = before_rest (take 7 meraki_row)
-    (passed (run is_blank) also passed (exactly (49 ∷ [])) also passed (some_run is_blank) also passed unix_date
-    also passed (some_run is_blank) also an_origin also passed (some_run is_blank) also tt) [] tt
+logread_found : RowFound words_left_out logread_row logread_sent
+logread_found = before_rest words_left_out (take 9 logread_row)
+    (blanks also passed weekday (λ p q v is. inr (inl (v, is))) also a_gap also an_any_date also a_gap
+    also passed (Row selector_row) (λ p q v is. inr (inr (inr (inl (v, is))))) also a_gap also a_program also blanks
+    also tt)
 
-short_found : RowFound short_row short_sent
-short_found = before_rest (take 7 short_row)
-    (passed (run is_blank) also passed unix_date also passed (some_run is_blank) also a_host
-    also passed (some_run is_blank) also a_program also passed (run is_blank) also tt) (None ∷ []) tt
+meraki_found : RowFound (left_out dialect.UnixSeconds) meraki_row meraki_sent
+meraki_found = before_rest (left_out dialect.UnixSeconds) (take 7 meraki_row)
+    (blanks also passed (exactly (49 ∷ [])) (λ p q v is. inr (inl (v, is))) also a_gap also a_unix_date also a_gap
+    also an_origin also a_gap also tt)
 
--- a date of the class after blanks, and all after it
-dated_found : (D : Class)
-    → Ending (Row (run is_blank ∷ D ∷ wide_tail ∷ [])) (λ v. tail_names v.1.1.0) (λ v. v.1.1.0.msg)
-dated_found D = last_found (run is_blank ∷ D ∷ []) (passed (run is_blank) also passed D also tt) wide_tail tail_names
-    (λ v. v.msg) wide_found
+short_found : RowFound (left_out dialect.UnixSeconds) short_row short_sent
+short_found = before_rest (left_out dialect.UnixSeconds) (take 7 short_row)
+    (blanks also a_unix_date also a_gap also a_host also a_gap also a_program also blanks also tt)
 
-journal_found : RowFound journal_row (λ v. dated_sent v.1.1.1.0 v.1.1.1.1.0)
-journal_found = last_found (take 4 journal_row)
-    (passed (run is_blank) also passed weekday also passed (some_run is_blank) also passed iso_date also tt) wide_tail
-    tail_names (λ v. v.msg) wide_found
+journal_found : RowFound (left_out dialect.Journal) journal_row (λ v. dated_sent v.1.1.1.0 v.1.1.1.1.0)
+journal_found = last_found (left_out dialect.Journal) (take 4 journal_row)
+    (blanks also passed weekday (λ p q v is. inr (inr (inl (v, is)))) also a_gap also an_iso_date also tt) wide_tail
+    tail_parts (λ v. v.msg) (wide_found (weekday ∷ []))
 
 xr_all : AllFound xr_forms
 xr_all =
-    said dialect.CiscoIosXr xr_row xr_sent xr_found
+    said_so dialect.CiscoIosXr xr_row xr_sent xr_found
     also said dialect.Container container_row (λ v. loose (Some v.1.0) None None None v.1.1.1.0) container_found
     also said dialect.Esxi esxi_row esxi_sent esxi_found
     also said dialect.ProCurve procurve_row procurve_sent procurve_found
-    also said dialect.BsdDate bsd_row (λ v. dated_sent v.1.0 v.1.1.0) (dated_found odd_bsd_date)
-    also said dialect.NearlyRfc3339 iso_row (λ v. dated_sent v.1.0 v.1.1.0) (dated_found odd_iso_date)
+    also said dialect.BsdDate bsd_row (λ v. dated_sent v.1.0 v.1.1.0) (dated_found [] odd_bsd_date an_odd_bsd_date)
+    also said dialect.NearlyRfc3339 iso_row (λ v. dated_sent v.1.0 v.1.1.0)
+    (dated_found [] odd_iso_date an_odd_iso_date)
     also said dialect.Journal journal_row (λ v. dated_sent v.1.1.1.0 v.1.1.1.1.0) journal_found
-    also said dialect.NetScaler netscaler_row (λ v. dated_sent v.1.0 v.1.1.0) (dated_found slashed_date)
-    also said dialect.SophosUtm utm_row (λ v. dated_sent v.1.0 v.1.1.0) (dated_found colon_date)
+    also said dialect.NetScaler netscaler_row (λ v. dated_sent v.1.0 v.1.1.0)
+    (dated_found [] slashed_date a_slashed_date)
+    also said dialect.SophosUtm utm_row (λ v. dated_sent v.1.0 v.1.1.0) (dated_found [] colon_date a_colon_date)
     also said dialect.SeverityFirst logread_row logread_sent logread_found
     also said dialect.UnixSeconds meraki_row meraki_sent meraki_found
     also said dialect.UnixSeconds short_row short_sent short_found
@@ -347,29 +479,29 @@ dated_all = both_found cisco_forms later_forms cisco_all (both_found filed_forms
 
 -- ---- what follows the date
 
-abbrev texts_of : NamedTexts → List (Option Text)
-texts_of n = n.hostname ∷ n.appname ∷ n.process ∷ None ∷ []
+abbrev texts_of : NamedTexts → List Part
+texts_of n = three n.hostname n.appname n.process
 
 abbrev TailFound : Tail → Type 0
-TailFound T = Ending T.after (λ v. texts_of (T.names v)) (λ v. (T.names v).msg)
+TailFound T = Ending (left_out T.dialect) T.after (λ v. texts_of (T.names v)) (λ v. (T.names v).msg)
 
 tail_of : (T : Tail) → TailFound T → IsFoundForm (dated_form T.dialect T.after T.names)
 tail_of T found = said T.dialect (dated_row T.after T.names) (λ v. says v.1.0 v.1.1.1.0)
-    (last_found front_row (passed (run is_blank) also passed any_date also passed (some_run is_blank) also tt)
+    (last_found (left_out T.dialect) front_row (blanks also an_any_date also a_gap also tt)
     (mapped T.after NamedTexts T.names) texts_of (λ n. n.msg)
-    (mapped_found T.after NamedTexts T.names texts_of (λ n. n.msg) found))
+    (mapped_found (left_out T.dialect) T.after NamedTexts T.names texts_of (λ n. n.msg) found))
 
 -- a message by its mark, or a host before it
-marked_found : (D : Class) → Ending (hosted (beginning D)) (λ v. texts_of (marked_of v)) (λ v. (marked_of v).msg)
-marked_found D t (inl msg) f =
-    whole_found (beginning D) (λ x. x) (λ p x is. is.1) [] tt t msg (front_of f.piece f.whole f.is)
-marked_found D t (inr w) f = last_found (take 2 (after_row (beginning D)))
-    (a_host also passed (some_run is_blank) also tt) (beginning D) (λ x. None ∷ None ∷ None ∷ []) (λ x. x)
-    (whole_found (beginning D) (λ x. x) (λ p x is. is.1) (None ∷ None ∷ None ∷ []) tt) t w
-    (front_of f.piece f.whole f.is.1)
+marked_found : (left : List Class) (D : Class)
+    → Ending left (hosted (beginning D)) (λ v. texts_of (marked_of v)) (λ v. (marked_of v).msg)
+marked_found left D t (inl msg) f =
+    whole_found left (beginning D) (λ x. x) (λ p x is. is.1) t msg (front_of f.piece f.whole f.is)
+marked_found left D t (inr w) f = last_found left (take 2 (after_row (beginning D)))
+    (a_host also a_gap also tt) (beginning D) (λ x. []) (λ x. x)
+    (whole_found left (beginning D) (λ x. x) (λ p x is. is.1)) t w (front_of f.piece f.whole f.is.1)
 
 mark_found : (it : Dialect) (m : Mark) → IsFoundForm (dated_form it (marked m) marked_of)
-mark_found it m = tail_of (marked_tail it m) (marked_found (mark_class m))
+mark_found it m = tail_of (marked_tail it m) (marked_found (left_out it) (mark_class m))
 
 messages_all : AllFound (tail_forms message_tails)
 messages_all =
@@ -381,39 +513,56 @@ messages_all =
 
 -- ---- programs
 
-passed_found : Ending passed_on texts_of (λ n. n.msg)
-passed_found = mapped_found (Row forwarded_row) NamedTexts forwarded_of texts_of (λ n. n.msg)
-    (before_rest (take 6 forwarded_row)
-    (passed (exactly (codes "Message forwarded from ")) also text_of (some_run is_tag_char)
-    also passed (exactly colon) also passed (run is_blank) also a_program also passed (run is_blank) also tt)
-    (None ∷ []) tt)
+abbrev forwarded_left_out : List Class
+forwarded_left_out = left_out dialect.Forwarded
+
+passed_found : Ending forwarded_left_out passed_on texts_of (λ n. n.msg)
+passed_found = mapped_found forwarded_left_out (Row forwarded_row) NamedTexts forwarded_of texts_of (λ n. n.msg)
+    (before_rest forwarded_left_out (take 6 forwarded_row)
+    (passed forwarded_words (λ p q v is. inr (inr (inl (v, is)))) also text_of (some_run is_tag_char)
+    also a_colon also blanks also a_program also blanks also tt))
 
 forwarded_found : TailFound forwarded_tail
 forwarded_found t (inl n) f = passed_found t n (front_of f.piece f.whole f.is)
-forwarded_found t (inr w) f = last_found (take 2 (after_row passed_on))
-    (passed host also passed (some_run is_blank) also tt) passed_on texts_of (λ n. n.msg) passed_found t w
-    (front_of f.piece f.whole f.is.1)
+forwarded_found t (inr w) f =
+    let whole : Front (Row (after_row passed_on)) t [] w = front_of f.piece f.whole f.is.1 in
+    let (u, relayed, more) = row_head host (drop 1 (after_row passed_on)) whole in
+    let (x, gap, others) = row_head (some_run is_blank) (passed_on ∷ []) more in
+    let it = end_of passed_on others in
+    let (vs, is, same) = it.is in
+    let line : Front (Row forwarded_row) x [] vs = front_of it.piece it.whole is in
+    let (y, words, ends) = row_head forwarded_words (drop 1 forwarded_row) line in
+    let after : Front (Row (some_run is_blank ∷ forwarded_words ∷ [])) u y (tt, (tt, tt)) =
+    row_of (some_run is_blank ∷ forwarded_words ∷ []) (gap then words then refl) in
+    out_more host relayed (inr (inl (w.0, (relayed.is, (y, (tt, (tt, tt)), after)))))
+    (out_more (some_run is_blank) gap (inl (blank_signs gap.piece gap.is.1)) (passed_found x w.1.1.0 it))
+
+grade_out : IsOut words_left_out grade
+grade_out p q (inl v) is = inr (inr (inl (v, is)))
+grade_out p q (inr v) is = inr (inr (inr (inl (v, is.1))))
 
 severity_found : TailFound severity_tail
-severity_found = before_rest (take 6 severity_row)
-    (a_host also passed (some_run is_blank) also passed grade also passed (some_run is_blank) also a_program
-    also passed (run is_blank) also tt) (None ∷ []) tt
+severity_found = before_rest words_left_out (take 6 severity_row)
+    (a_host also a_gap also passed grade grade_out also a_gap also a_program also blanks also tt)
 
 worded_found : TailFound worded_tail
-worded_found = before_rest (take 6 worded_row)
-    (a_host also passed (some_run is_blank)
-    also such (texted (Row words_row)) (BeginsWith is_letter) (text_of (Row words_row)) also an_id
-    also passed (exactly colon) also passed (run is_blank) also tt) (None ∷ []) tt
+worded_found = before_rest (left_out dialect.SpacedName) (take 6 worded_row)
+    (a_host also a_gap also such (texted (Row words_row)) (BeginsWith is_letter) (text_of (Row words_row)) also an_id
+    also a_colon also blanks also tt)
 
 hostless_found : TailFound hostless_tail
-hostless_found =
-    before_rest (take 2 hostless_row) (a_program also passed (some_run is_blank) also tt) (None ∷ []) tt
+hostless_found = before_rest (left_out dialect.NoHost) (take 2 hostless_row) (a_program also a_gap also tt)
 
+-- the serial number and the date in brackets are left out as one piece
 serial_found : TailFound serial_tail
-serial_found = before_rest (take 10 serial_row)
-    (a_host also passed (some_run is_blank) also passed (some_run is_plain_char) also passed (exactly (32 ∷ []))
-    also passed (exactly (40 ∷ [])) also passed iso_date also passed (exactly (41 ∷ []))
-    also passed (some_run is_blank) also a_program also passed (run is_blank) also tt) (None ∷ []) tt
+serial_found t v f =
+    let left = left_out dialect.WatchGuard in
+    let (u, a, b) = rows_split (take 2 serial_row) (drop 2 serial_row) f in
+    let (w, c, d) = rows_split serial (drop 7 serial_row) b in
+    row_more (take 2 serial_row) (a_host also a_gap also tt) a
+    (out_more (Row serial) c (inr (inl (firsts serial (drop 7 serial_row) v.1.1, c.is)))
+    (before_rest left (take 3 (drop 7 serial_row)) (a_gap also a_program also blanks also tt) w
+    (lasts serial (drop 7 serial_row) v.1.1) d))
 
 programs_all : AllFound (tail_forms program_tails)
 programs_all =
@@ -421,64 +570,97 @@ programs_all =
     also tail_of worded_tail worded_found also tail_of hostless_tail hostless_found
     also tail_of serial_tail serial_found also tt
 
--- ---- pairs, whose host is in the message
+-- ---- pairs, whose names are in the message
 
-quoted_has : Has quoted the_text
-quoted_has = (meant (Row quoted_row) Text quoted_of the_text (row_has quoted_row
-    (passed (exactly (34 ∷ [])) also text_of (run is_unquoted) also passed (exactly (34 ∷ [])) also tt))).1
+-- one text, as a list of names
+abbrev only : Option Text → List (Option Text)
+only v = v ∷ None ∷ None ∷ None ∷ []
 
-either_has : Has (quoted otherwise bare) (λ v ts. Some (either_text v) ∷ ts)
-either_has p q (inl t) is ts r found = quoted_has p q t is ts r found
-either_has p q (inr t) is ts r found = texted_has (run is_not_whitespace) p q t is.1 ts r found
+-- with more text before them
+sooner : (ts : List (Option Text)) (p r : Text) → AreInOrder ts r → AreInOrder ts (p ++ r)
+sooner [] p r found = tt
+sooner (None ∷ ts) p r found = sooner ts p r found
+sooner (Some t ∷ ts) p r (before, after, whole, others) =
+    (p ++ before, after, ap (λ (x : Text). p ++ x) whole ∙ sym (append_assoc p before (t ++ after)), others)
 
-pair_has : Has pair (λ x ts. Some x.1 ∷ ts)
-pair_has = (meant (Row pair_row) (Text × Text) pair_of (λ x ts. Some x.1 ∷ ts) (row_has pair_row
-    (passed (run is_blank) also passed (texted (some_run is_word_char)) also passed (exactly (61 ∷ []))
-    also meant (quoted otherwise bare) Text either_text the_text either_has also tt))).1
+sooner_front : {C : Class} {t q : Text} {v : C.Value} (ts : List (Option Text)) → Front C t q v → AreInOrder ts q
+    → AreInOrder ts t
+sooner_front {q = q} ts f found = subst (AreInOrder ts) (sym f.whole) (sooner ts f.piece q found)
 
-one_of_two : (b : Bool) (v : Text) (o : Option Text) (text : Text) → AreInOrder (Some v ∷ None ∷ None ∷ None ∷ []) text
-    → AreInOrder (o ∷ None ∷ None ∷ None ∷ []) text
-    → AreInOrder ((if b then Some v else o) ∷ None ∷ None ∷ None ∷ []) text
+text_in : {C : Class} {t q : Text} {v : C.Value} (x : Text) → (f : Front C t q v) → x ≡ f.piece
+    → AreInOrder (only (Some x)) t
+text_in {q = q} x f same = ([], q, f.whole ∙ ap (λ (y : Text). y ++ q) (sym same), tt)
+
+quoted_in : {t q : Text} (x : Text) → Front quoted t q x → AreInOrder (only (Some x)) t
+quoted_in {t} {q} x f =
+    let (vs, is, same) = f.is in
+    let row : Front (Row quoted_row) t q vs = front_of f.piece f.whole is in
+    let (u, opened, more) = row_head (exactly (34 ∷ [])) (drop 1 quoted_row) row in
+    let (w, inside, ends) = row_head (texted (run is_unquoted)) (drop 2 quoted_row) more in
+    subst (λ (y : Text). AreInOrder (only (Some y)) t) (sym same)
+    (sooner_front (only (Some vs.1.0)) opened (text_in vs.1.0 inside inside.is.2))
+
+either_in : {t q : Text} (w : Text ⊎ Text) → Front (quoted otherwise bare) t q w
+    → AreInOrder (only (Some (either_text w))) t
+either_in (inl x) f = quoted_in x (front_of f.piece f.whole f.is)
+either_in (inr x) f = text_in x f f.is.1.2
+
+value_in : {t q : Text} (x : Text) → Front value t q x → AreInOrder (only (Some x)) t
+value_in {t} {q} x f =
+    let (w, is, same) = f.is in
+    let it : Front (quoted otherwise bare) t q w = front_of f.piece f.whole is in
+    subst (λ (y : Text). AreInOrder (only (Some y)) t) (sym same) (either_in w it)
+
+pair_in : {t q : Text} (key x : Text) → Front pair t q (key, x) → AreInOrder (only (Some x)) t
+pair_in {t} {q} key x f =
+    let (vs, is, same) = f.is in
+    let row : Front (Row pair_row) t q vs = front_of f.piece f.whole is in
+    let (a, gap, f1) = row_head (run is_blank) (drop 1 pair_row) row in
+    let (b, word, f2) = row_head (texted (some_run is_word_char)) (drop 2 pair_row) f1 in
+    let (c, equals, f3) = row_head (exactly (61 ∷ [])) (drop 3 pair_row) f2 in
+    let (d, it, ends) = row_head value [] f3 in
+    let ts = only (Some vs.1.1.1.0) in
+    subst (λ (y : Text × Text). AreInOrder (only (Some y.1)) t) (sym same)
+    (sooner_front ts gap (sooner_front ts word (sooner_front ts equals (value_in vs.1.1.1.0 it))))
+
+one_of_two : (b : Bool) (v : Text) (o : Option Text) (text : Text) → AreInOrder (only (Some v)) text
+    → AreInOrder (only o) text → AreInOrder (only (if b then Some v else o)) text
 one_of_two true v o text one other = one
 one_of_two false v o text one other = other
 
 -- the first value at such a key is found in the pairs
-value_found : (is_key : Text → Bool) (ps : List (Text × Text)) (p q r : Text) → IsMany pair p q ps
-    → AreInOrder (first_value is_key ps ∷ None ∷ None ∷ None ∷ []) (p ++ r)
-value_found is_key [] p q r is = tt
-value_found is_key ((key, v) ∷ ps) p q r (a, b, whole, here, more) =
-    subst (AreInOrder (first_value is_key ((key, v) ∷ ps) ∷ None ∷ None ∷ None ∷ []))
-    (sym (ap (λ (x : Text). x ++ r) whole ∙ append_assoc a b r))
-    (one_of_two (is_key key) v (first_value is_key ps) (a ++ (b ++ r))
-    (pair_has a (b ++ q) (key, v) here (None ∷ None ∷ None ∷ []) (b ++ r) tt)
-    (sooner (first_value is_key ps ∷ None ∷ None ∷ None ∷ []) a (b ++ r) (value_found is_key ps b q r more)))
+value_found : (is_key : Text → Bool) (ps : List (Text × Text)) {t r : Text} → Front (many pair) t r ps
+    → AreInOrder (only (first_value is_key ps)) t
+value_found is_key [] f = tt
+value_found is_key ((key, v) ∷ ps) {t} f =
+    let (u, here, more) = many_parts pair f in
+    one_of_two (is_key key) v (first_value is_key ps) t (pair_in key v here)
+    (sooner_front (only (first_value is_key ps)) here (value_found is_key ps more))
 
 pairs_found : IsFoundForm pairs_form
 pairs_found text sent s =
     let v = s.values.1.0 in
     let (q, gap, more) = row_head (run is_blank) (paired ∷ []) (division_front pairs_row s.division) in
     let it = end_of paired more in
-    let (nil, same, (ps, r, front, shown, device)) = it.is in
-    let found = value_found is_host_key ps front.piece r r front.is in
-    let found = subst (AreInOrder (first_value is_host_key ps ∷ None ∷ None ∷ None ∷ [])) (sym (same ∙ front.whole))
-    found in
-    let found = subst (λ (x : Option Text). AreInOrder (x ∷ None ∷ None ∷ None ∷ []) v.2) (sym device) found in
-    let whole = gap.whole ∙ ap (λ (x : Text). gap.piece ++ x) (sym (same ∙ whole_of paired it)) in
-    subst (λ (x : SentValue). AreFound dialect.KeyValue text (names_of x) x.msg) (sym s.means)
-    (gap.piece, whole, inr (refl, found))
+    let (nil, same, (ps, r, front, shows, device)) = it.is in
+    let pairs = subst (λ (x : Text). Front (many pair) x r ps) (sym same) front in
+    let found = subst (λ (x : Option Text). AreInOrder (only x) v.2) (sym device) (value_found is_host_key ps pairs) in
+    let told = out_more (run is_blank) gap (inl (blank_signs gap.piece gap.is.0))
+    (subst (λ (x : Text). Tells [] x [] v.2) (same ∙ whole_of paired it) (nothing_more [] v.2)) in
+    subst (AreFound dialect.KeyValue text) (sym s.means)
+    (inr (refl, (told, found, (v.0, refl, (ps, r, pairs, shows)))))
 
 -- ---- without a date
 
 marked_alone : (it : Dialect) (m : Mark) → IsFoundForm (undated_form it m)
 marked_alone it m = said it (undated_row m) (λ v. loose None None None None v.1.0)
-    (last_found (run is_blank ∷ []) (passed (run is_blank) also tt) (beginning (mark_class m)) (λ x. []) (λ x. x)
-    (whole_found (beginning (mark_class m)) (λ x. x) (λ p x is. is.1) [] tt))
+    (last_found (left_out it) (run is_blank ∷ []) (blanks also tt) (beginning (mark_class m)) (λ x. []) (λ x. x)
+    (whole_found (left_out it) (beginning (mark_class m)) (λ x. x) (λ p x is. is.1)))
 
-header_found : RowFound header_row header_says
-header_found = before_rest (take 12 header_row)
-    (passed (number 4294967295) also passed (some_run is_blank) also passed iso_date also passed (some_run is_blank)
-    also a_host also passed (some_run is_blank) also a_word also passed (some_run is_blank) also a_word
-    also passed (some_run is_blank) also passed (exactly dash) also passed (some_run is_blank) also tt) (None ∷ []) tt
+header_found : RowFound (left_out dialect.Heroku) header_row header_says
+header_found = before_rest (left_out dialect.Heroku) (take 12 header_row)
+    (shown (number 4294967295) Version (λ p q n is. is) also a_gap also an_iso_date also a_gap also a_host also a_gap
+    also a_word also a_gap also a_word also a_gap also a_sign 45 refl also a_gap also tt)
 
 undated_all : AllFound undated_forms
 undated_all =
@@ -489,14 +671,15 @@ named_all : AllFound named_forms
 named_all = both_found (tail_forms message_tails) program_forms messages_all
     (both_found (tail_forms program_tails) undated_forms programs_all undated_all)
 
-program_alone : RowFound program_row program_sent
-program_alone = before_rest (take 7 program_row)
-    (passed (run is_blank) also a_name also passed (exactly (91 ∷ [])) also text_of (some_run is_ascii_digit)
-    also passed (exactly (93 ∷ [])) also passed (exactly colon) also passed (run is_blank) also tt) [] tt
+program_alone : RowFound (left_out dialect.NoHost) program_row program_sent
+program_alone = before_rest (left_out dialect.NoHost) (take 7 program_row)
+    (blanks also a_name also a_sign 91 refl also text_of (some_run is_ascii_digit) also a_sign 93 refl also a_colon
+    also blanks also tt)
 
-alone_found : RowFound alone_row (λ v. loose None None None None v.1.0)
-alone_found = last_found (run is_blank ∷ []) (passed (run is_blank) also tt) (such_that rest IsAlone) (λ x. []) (λ x. x)
-    (whole_found (such_that rest IsAlone) (λ x. x) (λ p x is. is.0.1) [] tt)
+alone_found : RowFound (left_out dialect.PriorityAlone) alone_row (λ v. loose None None None None v.1.0)
+alone_found = last_found (left_out dialect.PriorityAlone) (run is_blank ∷ []) (blanks also tt)
+    (such_that rest IsAlone) (λ x. []) (λ x. x)
+    (whole_found (left_out dialect.PriorityAlone) (such_that rest IsAlone) (λ x. x) (λ p x is. is.0.1))
 
 last_all : AllFound last_forms
 last_all =
@@ -511,34 +694,27 @@ late_all false None = tt
 late_all false (Some number) = last_all
 
 first_found : (Fs : List Form) → AllFound Fs → (text : Text) (it : Dialect) (sent : SentValue)
-    → IsOfFirst Fs text it sent → AreFound it text (names_of sent) sent.msg
+    → IsOfFirst Fs text it sent → AreFound it text sent
 first_found [] all text it sent is = absurd is
 first_found (F ∷ Fs) all text it sent (inl (same, is)) =
-    subst (λ (x : Dialect). AreFound x text (names_of sent) sent.msg) (sym same) (all.0 text sent is)
+    subst (λ (x : Dialect). AreFound x text sent) (sym same) (all.0 text sent is)
 first_found (F ∷ Fs) all text it sent (inr (none, more)) = first_found Fs all.1 text it sent more
 
 -- of a text after its priority
 pub said_found : (is_read : Bool) (priority : Option ℕ) (text : Text) (it : Dialect) (sent : SentValue)
-    → IsOfFirst (forms_of is_read priority) text it sent → AreFound it text (names_of sent) sent.msg
+    → IsOfFirst (forms_of is_read priority) text it sent → AreFound it text sent
 said_found is_read priority = first_found (forms_of is_read priority)
     (both_found (dated_forms ++ named_forms) (late_forms is_read priority)
     (both_found dated_forms named_forms dated_all named_all) (late_all is_read priority))
 
--- with more text before it
-found_later : (it : Dialect) (p text : Text) (ts : List (Option Text)) (msg : Text) → AreFound it text ts msg
-    → AreFound it (p ++ text) ts msg
-found_later it p text ts msg (before, whole, inl found) =
-    (p ++ before, ap (λ (x : Text). p ++ x) whole ∙ sym (append_assoc p before msg), inl (sooner ts p before found))
-found_later it p text ts msg (before, whole, inr in_pairs) =
-    (p ++ before, ap (λ (x : Text). p ++ x) whole ∙ sym (append_assoc p before msg), inr in_pairs)
-
 -- of the whole line
 pub read_found : (dates : Dates) (is_read : Bool) (text : Text) (it : Dialect) (m : MessageValue)
-    → IsSentIn dates is_read text it m → IsFoundIn it (trimmed text) m
-read_found dates is_read text it m is =
-    let sent = is.sent in
-    let found = said_found is_read is.priority is.follows it sent is.form.first in
-    let found = found_later it is.front.piece is.follows (names_of sent) sent.msg found in
-    let found = subst (λ (x : Text). AreFound it x (names_of sent) sent.msg) (sym is.front.whole) found in
-    subst (IsFoundIn it (trimmed text)) (sym is.says.2)
-    (record { process = sent.process; named = refl; found = found })
+    → IsSentIn dates is_read text it m → IsFoundIn dates it (trimmed text) m
+read_found dates is_read text it m is = record {
+  priority = is.priority;
+  follows = is.follows;
+  sent = is.sent;
+  front = is.front;
+  found = said_found is_read is.priority is.follows it is.sent is.form.first;
+  says = is.says;
+}

@@ -1,260 +1,311 @@
--- Texts that are found in order, by the pieces of a row that have them.
-use Rattle.std.proofs.Common.{◌≡◌, inl, inr, List, [], ◌∷◌, ◌++◌, Option, Some, None}
-use Rattle.std.proofs.Common.{refl, sym, ap, subst, ◌∙◌, append_assoc}
-use Rattle.std.specs.Option.{option_flatten}
-use Rattle.syslog_pieces.specs.Pieces.Class.{Text, Class, Values, Divides, Front, Row, join}
-use Rattle.syslog_pieces.specs.Pieces.Class.{exactly, mapped, optional, rest, some_run, spaced, texted}
+-- What a text tells, by the pieces of a row that tell it.
+use Rattle.std.proofs.Common.{◌≡◌, ◌||◌, inl, inr, ℕ, nat_eq, true, List, [], ◌∷◌, ◌++◌, Option, Some, None}
+use Rattle.std.proofs.Common.{refl, sym, ap, subst, ◌∙◌, append_assoc, MatchOption}
+use Rattle.std.proofs.lemmas.Bool.{or_left}
+use Rattle.syslog_pieces.specs.Pieces.Class.{Text, Class, Each, Values, Front, Row, join}
+use Rattle.syslog_pieces.specs.Pieces.Class.{exactly, mapped, optional, rest, run, some_run, spaced, texted}
 use Rattle.syslog_pieces.specs.Pieces.Rules.{such_that}
-use Rattle.syslog_pieces.specs.Text.{Names, colon, host, is_tag_char, tag_word, word}
+use Rattle.syslog_pieces.specs.Text.{IsHost, Names, colon, dash, host, is_blank, is_tag_char, tag_word, word}
 use Rattle.syslog_pieces.specs.Text.CharClass.{is_id_char, is_label_char}
-use Rattle.syslog_pieces.proofs.PieceLemmas.Class.{◌also◌, firsts, front_of, lasts, rest_whole, rows_split}
-use Rattle.syslog_dialects.specs.Found.{AreInOrder}
+use Rattle.syslog_pieces.proofs.PieceLemmas.Class.{◌also◌, absent_stays, each_map, firsts, front_of, lasts, nil_front}
+use Rattle.syslog_pieces.proofs.PieceLemmas.Class.{present_front, rest_whole, row_head, rows_split, spaced_parts}
+use Rattle.syslog_dialects.specs.Found.{Date, IsDateOf, IsLeftOut, Name, Part, Says, Tells, if_there, is_sign}
 use Rattle.syslog_dialects.specs.Named.{BeginsWith, ProgramText, begins_name, id_of, id_row, name, process_id}
 use Rattle.syslog_dialects.specs.Named.{program, program_of, program_row}
 use Rattle.syslog_dialects.specs.Zone.{bare_word}
+use Rattle.syslog_dialects.specs.declared.sent.SentDate.{SentDate}
 use Rattle.syslog_dialects.proofs.MessageLemmas.{end_of, whole_of}
 
--- ---- texts in order
+-- ---- a piece, and what is told after it
 
--- with more text before them
-pub sooner : (ts : List (Option Text)) (p r : Text) → AreInOrder ts r → AreInOrder ts (p ++ r)
-sooner [] p r found = tt
-sooner (None ∷ ts) p r found = sooner ts p r found
-sooner (Some t ∷ ts) p r (before, after, whole, others) =
-    (p ++ before, after, ap (λ (x : Text). p ++ x) whole ∙ sym (append_assoc p before (t ++ after)), others)
+whole_more : {C : Class} {t q : Text} {v : C.Value} (ps : List Text) (msg : Text) → (f : Front C t q v)
+    → q ≡ join ps ++ msg → t ≡ join (f.piece ∷ ps) ++ msg
+whole_more ps msg f same =
+    f.whole ∙ ap (λ (x : Text). f.piece ++ x) same ∙ sym (append_assoc f.piece (join ps) msg)
 
--- without the first of them
-pub left_out : (t : Option Text) (ts : List (Option Text)) (text : Text) → AreInOrder (t ∷ ts) text
-    → AreInOrder ts text
-left_out None ts text found = found
-left_out (Some t) ts text (before, after, whole, others) =
-    subst (AreInOrder ts) (sym whole) (sooner ts before (t ++ after) (sooner ts t after others))
+-- a piece that is left out
+pub out_more : {left : List Class} (C : Class) {t q : Text} {v : C.Value} {parts : List Part} {msg : Text}
+    → (f : Front C t q v) → IsLeftOut left f.piece q → Tells left q parts msg → Tells left t parts msg
+out_more {left} C {msg = msg} f out told = record {
+  pieces = f.piece ∷ told.pieces;
+  whole = whole_more told.pieces msg f told.whole;
+  each = inl (subst (IsLeftOut left f.piece) told.whole out, told.each);
+}
 
--- with others after the first
-pub after_first : (t : Option Text) (ts us : List (Option Text))
-    → ((r : Text) → AreInOrder ts r → AreInOrder us r) → (text : Text) → AreInOrder (t ∷ ts) text
-    → AreInOrder (t ∷ us) text
-after_first None ts us others text found = others text found
-after_first (Some t) ts us others text (before, after, whole, found) = (before, after, whole, others after found)
+-- a piece that says the next part
+pub says_more : {left : List Class} (C : Class) {t q : Text} {v : C.Value} (x : Part) {parts : List Part} {msg : Text}
+    → (f : Front C t q v) → Says f.piece q x → Tells left q parts msg → Tells left t (x ∷ parts) msg
+says_more C x {parts} {msg} f says told = record {
+  pieces = f.piece ∷ told.pieces;
+  whole = whole_more told.pieces msg f told.whole;
+  each = inr (x, parts, refl, subst (λ (y : Text). Says f.piece y x) told.whole says, told.each);
+}
 
--- with others, which are found where the first is
-pub within_first : (t : Text) (ts us : List (Option Text))
-    → ((r : Text) → AreInOrder ts r → AreInOrder us (t ++ r)) → (text : Text) → AreInOrder (Some t ∷ ts) text
-    → AreInOrder us text
-within_first t ts us others text (before, after, whole, found) =
-    subst (AreInOrder us) (sym whole) (sooner us before (t ++ after) (others after found))
+-- nothing more is told
+pub nothing_more : (left : List Class) (t : Text) → Tells left t [] t
+nothing_more left t = record { pieces = []; whole = refl; each = refl }
 
--- ---- a piece, and the texts of its meaning
+-- ---- texts and signs
 
--- the texts of the meaning, before those of what follows
-abbrev pub Adds : Type 0 → Type 0
-Adds V = V → List (Option Text) → List (Option Text)
+pub name_before : {left : List Class} {q : Text} {parts : List Part} {msg : Text} (n : Text) → Tells left q parts msg
+    → Tells left (n ++ q) (Name n ∷ parts) msg
+name_before n told = says_more (exactly n) (Name n) (front_of n refl refl) refl told
 
--- a piece of the class has these texts
-abbrev pub Has : (C : Class) → Adds C.Value → Type 0
-Has C adds = (p q : Text) (v : C.Value) → C.Is p q v → (ts : List (Option Text)) (r : Text) → AreInOrder ts r
-    → AreInOrder (adds v ts) (p ++ r)
+pub signs_before : {left : List Class} {q : Text} {parts : List Part} {msg : Text} (s : Text) → Each is_sign s
+    → Tells left q parts msg → Tells left (s ++ q) parts msg
+signs_before s signs told = out_more (exactly s) (front_of s refl refl) (inl signs) told
 
-abbrev pub Shows : Class → Type 0
-Shows C = (adds : Adds C.Value) × Has C adds
+pub blank_signs : (p : Text) → Each is_blank p → Each is_sign p
+blank_signs = each_map is_blank is_sign
+    (λ c blank. or_left (is_blank c) (nat_eq c 58 || (nat_eq c 91 || (nat_eq c 93 || nat_eq c 45))) blank)
 
--- no text
-abbrev pub no_text : {V : Type 0} → Adds V
-no_text v ts = ts
+-- the piece is a name, or `-` for none
+abbrev pub IsNamed : Text → Option Text → Type 0
+IsNamed p v = MatchOption v (p ≡ dash) (λ t. t ≡ p)
 
--- the meaning, which is a text
-abbrev pub the_text : Adds Text
-the_text t ts = Some t ∷ ts
+pub name_more : {left : List Class} (C : Class) {t q : Text} {w : C.Value} {parts : List Part} {msg : Text}
+    (v : Option Text) → (f : Front C t q w) → IsNamed f.piece v → Tells left q parts msg
+    → Tells left t (if_there Name v parts) msg
+name_more C None f is told = out_more C f (inl (subst (Each is_sign) (sym is) (refl, tt))) told
+name_more C (Some n) f is told = says_more C (Name n) f (sym is) told
 
--- the meaning, which may be a text
-abbrev pub the_name : Adds (Option Text)
-the_name t ts = t ∷ ts
+pub names_named : (p : Text) (v : Option Text) → Names p v → IsNamed p v
+names_named p None is = is
+names_named p (Some t) is = is.0
 
-pub passed_has : (C : Class) → Has C no_text
-passed_has C p q v is ts r found = sooner ts p r found
+-- a host is its piece, also before a colon
+pub host_named : (p q : Text) (v : Option Text) → IsHost p q v → IsNamed p v
+host_named p q v (some, each, inl (no_colon, ends, is)) = names_named p v is
+host_named p q v (some, each, inr (s, follows, ends, same)) = subst (IsNamed p) (sym same) refl
 
-abbrev pub passed : (C : Class) → Shows C
-passed C = (no_text, passed_has C)
+-- ---- what a piece of a class adds
 
--- the piece itself
-piece_has : (p t : Text) → t ≡ p → (ts : List (Option Text)) (r : Text) → AreInOrder ts r
-    → AreInOrder (Some t ∷ ts) (p ++ r)
-piece_has p t same ts r found =
-    subst (λ (x : Text). AreInOrder (Some x ∷ ts) (p ++ r)) (sym same) ([], r, refl, found)
+abbrev pub Has : (left : List Class) (C : Class) → (C.Value → List Part → List Part) → Type 0
+Has left C adds = (t q : Text) (v : C.Value) → Front C t q v → (parts : List Part) (msg : Text) → Tells left q parts msg
+    → Tells left t (adds v parts) msg
 
-pub texted_has : (C : Class) → Has (texted C) the_text
-texted_has C p q t (v, is, same) ts r found = piece_has p t same ts r found
+pub record Shows (left : List Class) (C : Class) : Type 0 where
+  pub adds : C.Value → List Part → List Part
+  pub has : Has left C adds
 
-abbrev pub text_of : (C : Class) → Shows (texted C)
-text_of C = (the_text, texted_has C)
+-- each piece of the class is left out
+abbrev pub IsOut : List Class → Class → Type 0
+IsOut left C = (p q : Text) (v : C.Value) → C.Is p q v → IsLeftOut left p q
 
--- a piece whose meaning has a property
-pub such_has : (C : Class) (P : C.Value → Type 0) (shows : Shows C) → Has (such_that C P) shows.0
-such_has C P shows p q v is ts r found = shows.1 p q v is.0 ts r found
+abbrev pub passed : {left : List Class} (C : Class) → IsOut left C → Shows left C
+passed C out = record {
+  adds = λ v parts. parts;
+  has = λ t q v f parts msg told. out_more C f (out f.piece q v f.is) told;
+}
 
-abbrev pub such : (C : Class) (P : C.Value → Type 0) → Shows C → Shows (such_that C P)
-such C P shows = (shows.0, such_has C P shows)
+pub maybe_out : (left : List Class) (C : Class) → IsOut left C → IsOut left (optional C)
+maybe_out left C out p q None is = inl (subst (Each is_sign) (sym is.0) tt)
+maybe_out left C out p q (Some v) is = out p q v is
 
--- another meaning
-pub mapped_has : (C : Class) (B : Type 0) (meaning : C.Value → B) (adds : Adds B) → Has C (λ v. adds (meaning v))
-    → Has (mapped C B meaning) adds
-mapped_has C B meaning adds has p q b (v, is, same) ts r found =
-    subst (λ (x : B). AreInOrder (adds x ts) (p ++ r)) (sym same) (has p q v is ts r found)
+abbrev pub maybe : {left : List Class} (C : Class) → IsOut left C → Shows left (optional C)
+maybe {left} C out = passed (optional C) (maybe_out left C out)
 
-abbrev pub meant : (C : Class) (B : Type 0) (meaning : C.Value → B) (adds : Adds B) → Has C (λ v. adds (meaning v))
-    → Shows (mapped C B meaning)
-meant C B meaning adds has = (adds, mapped_has C B meaning adds has)
+-- a part
+abbrev pub shown : {left : List Class} (C : Class) (part : C.Value → Part)
+    → ((p q : Text) (v : C.Value) → C.Is p q v → Says p q (part v)) → Shows left C
+shown C part says = record {
+  adds = λ v parts. part v ∷ parts;
+  has = λ t q v f parts msg told. says_more C (part v) f (says f.piece q v f.is) told;
+}
 
--- a piece that is a text or absent
-module _ (Is : Text → Text → Text → Type 0) where
-  abbrev pub TextClass : Class
-  TextClass = record { Value = Text; Is = Is }
+-- a name or none
+abbrev pub named : {left : List Class} (C : Class) (name_in : C.Value → Option Text)
+    → ((p q : Text) (v : C.Value) → C.Is p q v → IsNamed p (name_in v)) → Shows left C
+named C name_in is = record {
+  adds = λ v parts. if_there Name (name_in v) parts;
+  has = λ t q v f parts msg told. name_more C (name_in v) f (is f.piece q v f.is) told;
+}
 
-  pub optional_has : Has TextClass the_text → Has (optional TextClass) the_name
-  optional_has has p q None is ts r found = sooner ts p r found
-  optional_has has p q (Some t) is ts r found = has p q t is ts r found
+-- the part of a piece that may be absent
+pub optional_has : (left : List Class) (C : Class) (part : C.Value → Part) → Has left C (λ v parts. part v ∷ parts)
+    → Has left (optional C) (λ o parts. if_there part o parts)
+optional_has left C part has t q None f parts msg told =
+    subst (λ (x : Text). Tells left x parts msg) (sym (absent_stays C f)) told
+optional_has left C part has t q (Some v) f parts msg told = has t q v (present_front C f) parts msg told
 
-  abbrev pub perhaps : Has TextClass the_text → Shows (optional TextClass)
-  perhaps has = (the_name, optional_has has)
+abbrev pub perhaps : {left : List Class} (C : Class) (part : C.Value → Part) → Has left C (λ v parts. part v ∷ parts)
+    → Shows left (optional C)
+perhaps {left} C part has = record {
+  adds = λ o parts. if_there part o parts;
+  has = optional_has left C part has;
+}
+
+-- of a piece whose meaning has a property
+abbrev pub such : {left : List Class} (C : Class) (P : C.Value → Type 0) → Shows left C → Shows left (such_that C P)
+such C P shows = record {
+  adds = shows.adds;
+  has = λ t q v f parts msg told. shows.has t q v (front_of f.piece f.whole f.is.0) parts msg told;
+}
+
+-- of a piece with another meaning
+pub mapped_has : (left : List Class) (C : Class) (B : Type 0) (meaning : C.Value → B)
+    (adds : B → List Part → List Part) → Has left C (λ v. adds (meaning v)) → Has left (mapped C B meaning) adds
+mapped_has left C B meaning adds has t q b f parts msg told =
+    let (v, is, same) = f.is in
+    subst (λ (x : B). Tells left t (adds x parts) msg) (sym same)
+    (has t q v (front_of f.piece f.whole is) parts msg told)
+
+abbrev pub meant : {left : List Class} (C : Class) (B : Type 0) (meaning : C.Value → B)
+    (adds : B → List Part → List Part) → Has left C (λ v. adds (meaning v)) → Shows left (mapped C B meaning)
+meant {left} C B meaning adds has = record { adds = adds; has = mapped_has left C B meaning adds has }
 
 -- ---- rows
 
--- of each class of a row
-abbrev pub AllShow : List Class → Type 0
-AllShow [] = Unit {0}
-AllShow (C ∷ Cs) = Shows C × AllShow Cs
+abbrev pub AllShow : List Class → List Class → Type 0
+AllShow left [] = Unit {0}
+AllShow left (C ∷ Cs) = Shows left C × AllShow left Cs
 
 -- what the pieces of a row add
-abbrev pub added : (Cs : List Class) → AllShow Cs → Adds (Values Cs)
-added [] shows vs ts = ts
-added (C ∷ Cs) shows vs ts = shows.0.0 vs.0 (added Cs shows.1 vs.1 ts)
+abbrev pub added : (left Cs : List Class) → AllShow left Cs → Values Cs → List Part → List Part
+added left [] shows vs parts = parts
+added left (C ∷ Cs) shows vs parts = shows.0.adds vs.0 (added left Cs shows.1 vs.1 parts)
 
-pieces_have : (Cs : List Class) (shows : AllShow Cs) (ps : List Text) (q : Text) (vs : Values Cs)
-    → Divides Cs ps q vs → (ts : List (Option Text)) (r : Text) → AreInOrder ts r
-    → AreInOrder (added Cs shows vs ts) (join ps ++ r)
-pieces_have [] shows [] q vs each ts r found = found
-pieces_have [] shows (p ∷ ps) q vs each ts r found = absurd each
-pieces_have (C ∷ Cs) shows [] q vs each ts r found = absurd each
-pieces_have (C ∷ Cs) shows (p ∷ ps) q vs each ts r found =
-    subst (AreInOrder (added (C ∷ Cs) shows vs ts)) (sym (append_assoc p (join ps) r))
-    (shows.0.1 p (join ps ++ q) vs.0 each.0 (added Cs shows.1 vs.1 ts) (join ps ++ r)
-    (pieces_have Cs shows.1 ps q vs.1 each.1 ts r found))
+pub row_has : (left Cs : List Class) (shows : AllShow left Cs) → Has left (Row Cs) (added left Cs shows)
+row_has left [] shows t q vs f parts msg told =
+    subst (λ (x : Text). Tells left x parts msg) (sym (nil_front f)) told
+row_has left (C ∷ Cs) shows t q vs f parts msg told =
+    let (u, first, others) = row_head C Cs f in
+    shows.0.has t u vs.0 first (added left Cs shows.1 vs.1 parts) msg
+    (row_has left Cs shows.1 u q vs.1 others parts msg told)
 
-pub row_has : (Cs : List Class) (shows : AllShow Cs) → Has (Row Cs) (added Cs shows)
-row_has Cs shows p q vs (ps, whole, each) ts r found =
-    subst (λ (x : Text). AreInOrder (added Cs shows vs ts) (x ++ r)) (sym whole)
-    (pieces_have Cs shows ps q vs each ts r found)
+pub row_more : {left : List Class} (Cs : List Class) (shows : AllShow left Cs) {t q : Text} {vs : Values Cs}
+    {parts : List Part} {msg : Text} → Front (Row Cs) t q vs → Tells left q parts msg
+    → Tells left t (added left Cs shows vs parts) msg
+row_more {left} Cs shows {t} {q} {vs} {parts} {msg} f told = row_has left Cs shows t q vs f parts msg told
+
+-- ---- blanks and other signs
+
+abbrev pub blanks : {left : List Class} → Shows left (run is_blank)
+blanks = passed (run is_blank) (λ p q v is. inl (blank_signs p is.0))
+
+abbrev pub a_gap : {left : List Class} → Shows left (some_run is_blank)
+a_gap = passed (some_run is_blank) (λ p q v is. inl (blank_signs p is.1))
+
+pub sign_out : (left : List Class) (c : ℕ) → is_sign c ≡ true → IsOut left (exactly (c ∷ []))
+sign_out left c sign p q v is = inl (subst (Each is_sign) (sym is) (sign, tt))
+
+abbrev pub a_sign : {left : List Class} (c : ℕ) → is_sign c ≡ true → Shows left (exactly (c ∷ []))
+a_sign {left} c sign = passed (exactly (c ∷ [])) (sign_out left c sign)
+
+abbrev pub a_colon : {left : List Class} → Shows left (exactly colon)
+a_colon = a_sign 58 refl
+
+abbrev pub maybe_colon : {left : List Class} → Shows left (optional (exactly colon))
+maybe_colon {left} = maybe (exactly colon) (sign_out left 58 refl)
 
 -- ---- names
 
-name_has : (p : Text) (v : Option Text) → Names p v → (ts : List (Option Text)) (r : Text) → AreInOrder ts r
-    → AreInOrder (v ∷ ts) (p ++ r)
-name_has p None is ts r found = sooner ts p r found
-name_has p (Some t) is ts r found = piece_has p t is.0 ts r found
+-- the piece itself
+abbrev pub text_of : {left : List Class} (C : Class) → Shows left (texted C)
+text_of C = shown (texted C) Name (λ p q t is. sym is.2)
 
--- a host is its piece, also before a colon
-pub host_has : Has host the_name
-host_has p q v (some, each, inl (no_colon, ends, named)) ts r found = name_has p v named ts r found
-host_has p q v (some, each, inr (s, before, ends, same)) ts r found =
-    subst (λ (x : Option Text). AreInOrder (x ∷ ts) (p ++ r)) (sym same) (piece_has p p refl ts r found)
+abbrev pub a_host : {left : List Class} → Shows left host
+a_host = named host (λ v. v) host_named
 
-pub word_has : Has word the_name
-word_has p q v is ts r found = name_has p v is.4 ts r found
-
-pub tag_has : Has tag_word the_name
-tag_has p q v is ts r found = name_has p v is.3 ts r found
-
-abbrev pub a_host : Shows host
-a_host = (the_name, host_has)
-
-abbrev pub a_word : Shows word
-a_word = (the_name, word_has)
+abbrev pub a_word : {left : List Class} → Shows left word
+a_word = named word (λ v. v) (λ p q v is. names_named p v is.4)
 
 -- a word that begins so
-abbrev pub bare : (P : Text → Type 0) → Shows (such_that bare_word P)
+abbrev pub bare : {left : List Class} (P : Text → Type 0) → Shows left (such_that bare_word P)
 bare P = such bare_word P (text_of (some_run is_tag_char))
 
 -- the id of a process
-abbrev pub an_id : Shows process_id
-an_id = meant (Row id_row) Text id_of the_text
-    (row_has id_row (passed (exactly (91 ∷ [])) also text_of (some_run is_id_char) also passed (exactly (93 ∷ []))
-    also tt))
+abbrev pub an_id : {left : List Class} → Shows left process_id
+an_id {left} = meant (Row id_row) Text id_of (λ t parts. Name t ∷ parts)
+    (row_has left id_row (a_sign 91 refl also text_of (some_run is_id_char) also a_sign 93 refl also tt))
 
 -- a program's name, and the id of its process
-abbrev pub program_adds : Adds ProgramText
-program_adds p ts = Some p.name ∷ p.process ∷ ts
+abbrev pub program_parts : ProgramText → List Part → List Part
+program_parts p parts = Name p.name ∷ if_there Name p.process parts
 
-abbrev pub a_name : Shows name
+abbrev pub a_name : {left : List Class} → Shows left name
 a_name = such (texted (some_run is_label_char)) (BeginsWith begins_name) (text_of (some_run is_label_char))
 
-abbrev pub a_program : Shows program
-a_program = meant (Row program_row) ProgramText program_of program_adds
-    (row_has program_row (a_name also perhaps process_id.Is an_id.1 also passed (exactly colon) also tt))
+abbrev pub a_program : {left : List Class} → Shows left program
+a_program {left} = meant (Row program_row) ProgramText program_of program_parts
+    (row_has left program_row (a_name also perhaps process_id Name (an_id {left = left}).has also a_colon also tt))
 
 -- ---- fields, which may be there and empty
 
-module _ (Is : Text → Text → Option Text → Type 0) where
+module _ (Is : Text → Text → Option Text → Type 0)
+    (is_named : (p q : Text) (v : Option Text) → Is p q v → IsNamed p v) where
   abbrev pub NameClass : Class
   NameClass = record { Value = Option Text; Is = Is }
 
-  pub field_has : Has NameClass the_name → Has (optional (spaced NameClass)) (λ o ts. option_flatten o ∷ ts)
-  field_has has p q None is ts r found = sooner ts p r found
-  field_has has p q (Some v) (t, whole, is) ts r found =
-      subst (λ (x : Text). AreInOrder (v ∷ ts) (x ++ r)) (sym whole)
-      (sooner (v ∷ ts) (32 ∷ []) (t ++ r) (has t q v is ts r found))
+  -- `-` in a field is no text
+  pub dash_field : {left : List Class} {t q : Text} {parts : List Part} {msg : Text}
+      → Front (optional (spaced NameClass)) t q (Some None) → Tells left q parts msg → Tells left t parts msg
+  dash_field {left} {q = q} {parts = parts} {msg = msg} g told =
+      let (r, whole, f) = spaced_parts NameClass (present_front (spaced NameClass) g) in
+      subst (λ (x : Text). Tells left x parts msg) (sym whole) (signs_before (32 ∷ []) (refl, tt)
+      (name_more NameClass None f (is_named f.piece q None f.is) told))
 
-abbrev pub host_field : Shows (optional (spaced host))
-host_field = (λ o ts. option_flatten o ∷ ts, field_has host.Is host_has)
+  -- the text of a field, where it tells this
+  pub text_field : {left : List Class} {t q : Text} {parts : List Part} {msg : Text} (h : Text)
+      → Front (optional (spaced NameClass)) t q (Some (Some h)) → Tells left (h ++ q) parts msg
+      → Tells left t parts msg
+  text_field {left} {q = q} {parts = parts} {msg = msg} h g told =
+      let (r, whole, f) = spaced_parts NameClass (present_front (spaced NameClass) g) in
+      let same = f.whole ∙ ap (λ (x : Text). x ++ q) (sym (is_named f.piece q (Some h) f.is)) in
+      subst (λ (x : Text). Tells left x parts msg) (sym whole) (signs_before (32 ∷ []) (refl, tt)
+      (subst (λ (x : Text). Tells left x parts msg) (sym same) told))
 
-abbrev pub tag_field : Shows (optional (spaced tag_word))
-tag_field = (λ o ts. option_flatten o ∷ ts, field_has tag_word.Is tag_has)
+-- without a field
+pub no_field : {left : List Class} (C : Class) {t q : Text} {parts : List Part} {msg : Text}
+    → Front (optional C) t q None → Tells left q parts msg → Tells left t parts msg
+no_field {left} C {parts = parts} {msg = msg} g told =
+    subst (λ (x : Text). Tells left x parts msg) (sym (absent_stays C g)) told
+
+pub tag_named : (p q : Text) (v : Option Text) → tag_word.Is p q v → IsNamed p v
+tag_named p q v is = names_named p v is.3
+
+-- ---- dates
+
+-- a piece of the class is a date
+abbrev pub a_date : {left : List Class} (C : Class) (date_in : C.Value → SentDate)
+    → ((p q : Text) (v : C.Value) → C.Is p q v → IsDateOf p q (date_in v)) → Shows left C
+a_date C date_in is = shown C (λ v. Date (date_in v)) is
 
 -- ---- the message at the end
 
--- the text ends in the message, and the texts are found before it
-abbrev pub Found : List (Option Text) → Text → Text → Type 0
-Found ts msg text = (before : Text) × (text ≡ before ++ msg) × AreInOrder ts before
-
--- of a text that is a piece of the class
-abbrev pub Ending : (C : Class) → (C.Value → List (Option Text)) → (C.Value → Text) → Type 0
-Ending C ts msg = (t : Text) (v : C.Value) → Front C t [] v → Found (ts v) (msg v) t
+-- a text that is a piece of the class tells these parts, and ends in the message
+abbrev pub Ending : (left : List Class) (C : Class) → (C.Value → List Part) → (C.Value → Text) → Type 0
+Ending left C parts msg = (t : Text) (v : C.Value) → Front C t [] v → Tells left t (parts v) (msg v)
 
 -- the whole text is the message
-pub whole_found : (C : Class) (msg : C.Value → Text) → ((p : Text) (v : C.Value) → C.Is p [] v → msg v ≡ p)
-    → (ts : List (Option Text)) → AreInOrder ts [] → Ending C (λ v. ts) msg
-whole_found C msg is_whole ts none t v f =
-    ([], sym (is_whole f.piece v f.is ∙ whole_of C f), none)
+pub whole_found : (left : List Class) (C : Class) (msg : C.Value → Text)
+    → ((p : Text) (v : C.Value) → C.Is p [] v → msg v ≡ p) → Ending left C (λ v. []) msg
+whole_found left C msg is_whole t v f =
+    subst (λ (x : Text). Tells left x [] (msg v)) (is_whole f.piece v f.is ∙ whole_of C f) (nothing_more left (msg v))
 
-pub rest_found : (ts : List (Option Text)) → AreInOrder ts [] → Ending rest (λ v. ts) (λ v. v)
-rest_found ts none t v f = ([], rest_whole f, none)
+pub rest_found : (left : List Class) → Ending left rest (λ v. []) (λ v. v)
+rest_found left t v f = subst (λ (x : Text). Tells left x [] v) (sym (rest_whole f)) (nothing_more left v)
 
 -- a row whose last class ends so
-pub last_found : (As : List Class) (shows : AllShow As) (C : Class) (ts : C.Value → List (Option Text))
-    (msg : C.Value → Text) → Ending C ts msg
-    → Ending (Row (As ++ (C ∷ []))) (λ v. added As shows (firsts As (C ∷ []) v) (ts (lasts As (C ∷ []) v).0))
+pub last_found : (left As : List Class) (shows : AllShow left As) (C : Class) (parts : C.Value → List Part)
+    (msg : C.Value → Text) → Ending left C parts msg
+    → Ending left (Row (As ++ (C ∷ [])))
+    (λ v. added left As shows (firsts As (C ∷ []) v) (parts (lasts As (C ∷ []) v).0))
     (λ v. msg (lasts As (C ∷ []) v).0)
-last_found As shows C ts msg ends t v f =
+last_found left As shows C parts msg ends t v f =
     let (u, a, b) = rows_split As (C ∷ []) f in
     let w = (lasts As (C ∷ []) v).0 in
-    let (before, whole, found) = ends u w (end_of C b) in (
-      a.piece ++ before,
-      a.whole ∙ ap (λ (x : Text). a.piece ++ x) whole ∙ sym (append_assoc a.piece before (msg w)),
-      row_has As shows a.piece u (firsts As (C ∷ []) v) a.is (ts w) before found,
-    )
+    row_has left As shows t u (firsts As (C ∷ []) v) a (parts w) (msg w) (ends u w (end_of C b))
 
 -- or is the rest
-pub before_rest : (As : List Class) (shows : AllShow As) (ts : List (Option Text)) → AreInOrder ts []
-    → Ending (Row (As ++ (rest ∷ []))) (λ v. added As shows (firsts As (rest ∷ []) v) ts)
+pub before_rest : (left As : List Class) (shows : AllShow left As)
+    → Ending left (Row (As ++ (rest ∷ []))) (λ v. added left As shows (firsts As (rest ∷ []) v) [])
     (λ v. (lasts As (rest ∷ []) v).0)
-before_rest As shows ts none = last_found As shows rest (λ v. ts) (λ v. v) (rest_found ts none)
+before_rest left As shows = last_found left As shows rest (λ v. []) (λ v. v) (rest_found left)
 
-pub mapped_found : (C : Class) (B : Type 0) (meaning : C.Value → B) (ts : B → List (Option Text)) (msg : B → Text)
-    → Ending C (λ v. ts (meaning v)) (λ v. msg (meaning v)) → Ending (mapped C B meaning) ts msg
-mapped_found C B meaning ts msg ends t b f =
+pub mapped_found : (left : List Class) (C : Class) (B : Type 0) (meaning : C.Value → B) (parts : B → List Part)
+    (msg : B → Text) → Ending left C (λ v. parts (meaning v)) (λ v. msg (meaning v))
+    → Ending left (mapped C B meaning) parts msg
+mapped_found left C B meaning parts msg ends t b f =
     let (v, is, same) = f.is in
-    subst (λ (x : B). Found (ts x) (msg x) t) (sym same) (ends t v (front_of f.piece f.whole is))
-
--- other texts that are found where those are
-pub found_so : (ts us : List (Option Text)) (msg text : Text)
-    → ((r : Text) → AreInOrder ts r → AreInOrder us r) → Found ts msg text → Found us msg text
-found_so ts us msg text others (before, whole, found) = (before, whole, others before found)
+    subst (λ (x : B). Tells left t (parts x) (msg x)) (sym same) (ends t v (front_of f.piece f.whole is))

@@ -13,7 +13,7 @@ ghost use Rattle.syslog_loose.specs.declared.dates.Dates.{Dates as AllDates};
 ghost use Rattle.syslog_loose.specs.declared.line.Line.{Line};
 ghost use Rattle.syslog_loose.specs.declared.variant.Variant.{Variant};
 ghost use Rattle.syslog_dialects.specs.Dialects.{IsOfFirst, forms_of};
-ghost use Rattle.syslog_dialects.specs.Found.{AreFound, IsFoundIn, names_of};
+ghost use Rattle.syslog_dialects.specs.Found.{AreFound, IsFoundIn};
 ghost use Rattle.syslog_dialects.specs.Ordinary.{IsOrdinary};
 ghost use Rattle.syslog_dialects.specs.Sent.{SentValue};
 ghost use Rattle.syslog_dialects.specs.SentReading.{AreAsked, IsReadSent, IsSentIn, IsUnsent};
@@ -50,12 +50,12 @@ pub fn messages_end_their_lines()
         → ((before : Text) × (trimmed text ≡ before ++ m.msg)) × Ends is_blank m.msg × EndsVisibly m.msg }
 {}
 
-/// The texts of a dialect's line are found in it. The host, the app name, the text of the process and the message id
-/// are pieces of what is before the message part, in this order. Those of a line of pairs may be pieces of that part.
+/// Each character of a dialect's line is of a text or of the date that the line says, or is left out by the lists of
+/// `left_out`. Host, app name, process and message id come in this order before the message, and the date before the
+/// host or after it. The timestamp is that of this date. Those of a line of pairs may be in the message.
 pub fn texts_of_a_dialect_are_found_in_order()
     ensures said { (is_read : Bool) (priority : Option ℕ) (text : Text) (dialect : Dialect) (sent : SentValue)
-        → IsOfFirst (forms_of is_read priority) text dialect sent
-        → AreFound dialect text (names_of sent) sent.msg }
+        → IsOfFirst (forms_of is_read priority) text dialect sent → AreFound dialect text sent }
     ensures read { (dates : AllDates) (is_read : Bool) (text : Text) (dialect : Dialect) (m : MessageValue)
-        → IsSentIn dates is_read text dialect m → IsFoundIn dialect (trimmed text) m }
+        → IsSentIn dates is_read text dialect m → IsFoundIn dates dialect (trimmed text) m }
 {}
