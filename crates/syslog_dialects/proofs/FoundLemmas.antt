@@ -2,7 +2,8 @@
 use Rattle.std.proofs.Common.{◌≡◌, ◌⊎◌, inl, inr, ℕ, Bool, true, false, List, [], ◌∷◌, ◌++◌, Option, Some, None}
 use Rattle.std.proofs.Common.{refl, sym, ap, subst, ◌∙◌, append_assoc, drop, if◌then◌else◌, take}
 use Rattle.std.specs.Char.{is_ascii_digit}
-use Rattle.syslog_pieces.specs.Pieces.Class.{Text, Class, Each, Values, Front, Row, exactly, mapped, optional, rest, run}
+use Rattle.syslog_pieces.specs.Pieces.Class.{Text, Class, Each, Values, Front, Row, exactly, mapped, optional, rest}
+use Rattle.syslog_pieces.specs.Pieces.Class.{run}
 use Rattle.syslog_pieces.specs.Pieces.Class.{some_run, spaced, texted}
 use Rattle.syslog_pieces.specs.Pieces.Lists.{many}
 use Rattle.syslog_pieces.specs.Pieces.Rules.{such_that}
@@ -69,7 +70,8 @@ use Rattle.syslog_dialects.proofs.OrderLemmas.{Ending, Shows, a_colon, a_date, a
 use Rattle.syslog_dialects.proofs.OrderLemmas.{a_word, an_id, bare as bare_text, before_rest, blank_signs, blanks}
 use Rattle.syslog_dialects.proofs.OrderLemmas.{dash_field, host_named, last_found, mapped_found, maybe, maybe_colon}
 use Rattle.syslog_dialects.proofs.OrderLemmas.{meant, name_before, no_field, nothing_more, out_more, passed, perhaps}
-use Rattle.syslog_dialects.proofs.OrderLemmas.{row_has, row_more, shown, signs_before, such, tag_named, text_field, text_of}
+use Rattle.syslog_dialects.proofs.OrderLemmas.{row_has, row_more, shown, signs_before, such, tag_named, text_field}
+use Rattle.syslog_dialects.proofs.OrderLemmas.{text_of}
 use Rattle.syslog_dialects.proofs.OrderLemmas.{IsOut, whole_found}
 
 -- ---- forms

@@ -26,9 +26,11 @@ use Rattle.syslog_dialects.specs.SophosUtm.{colon_date}
 use Rattle.syslog_dialects.specs.UnixSeconds.{unix_date}
 use Rattle.syslog_dialects.specs.declared.dialect.Dialect.{Dialect}
 use Rattle.syslog_dialects.specs.declared.dialect.Dialect.TheVariants.{BsdDate, CiscoAsa, CiscoIos, CiscoIosXr}
-use Rattle.syslog_dialects.specs.declared.dialect.Dialect.TheVariants.{CiscoNxOs, CiscoUndated, Esxi, Forwarded, Journal}
+use Rattle.syslog_dialects.specs.declared.dialect.Dialect.TheVariants.{CiscoNxOs, CiscoUndated, Esxi, Forwarded}
+use Rattle.syslog_dialects.specs.declared.dialect.Dialect.TheVariants.{Journal}
 use Rattle.syslog_dialects.specs.declared.dialect.Dialect.TheVariants.{KeyValue, NearlyRfc3339, NetScaler, ProCurve}
-use Rattle.syslog_dialects.specs.declared.dialect.Dialect.TheVariants.{SeverityFirst, SophosUtm, UnixSeconds, WatchGuard}
+use Rattle.syslog_dialects.specs.declared.dialect.Dialect.TheVariants.{SeverityFirst, SophosUtm, UnixSeconds}
+use Rattle.syslog_dialects.specs.declared.dialect.Dialect.TheVariants.{WatchGuard}
 use Rattle.syslog_dialects.specs.declared.sent.SentDate.{SentDate}
 
 -- ---- what is left out

@@ -90,7 +90,7 @@ number_part o n facility severity = elim (cases_lt n 192) [
       inr (high, facility ∙ ap (option_map (λ x. number_json (facility_number x))) past, severity ∙ severity_left n)
 ]
 
-priority_part : (o : Json) (p q : Text) (v : Option ℕ)
+pub priority_part : (o : Json) (p q : Text) (v : Option ℕ)
     → get (codes "facility_code") o ≡ option_map (λ f. number_json (facility_number f)) (option_and_then facility_of v)
     → get (codes "severity_code") o ≡ option_map (λ s. number_json (severity_number s)) (option_and_then severity_of v)
     → (optional pri_of.priority).Is p q v → maybe (priority o) p
@@ -123,7 +123,7 @@ process_part o p q (Some id) there (t, is, names_it) =
 
 -- ---- timestamps
 
-stamp_there : (o : Json) (s : OffsetTimestamp) → get (codes "timestamp") o ≡ Some (timestamp_json s) → HasStamp o s
+pub stamp_there : (o : Json) (s : OffsetTimestamp) → get (codes "timestamp") o ≡ Some (timestamp_json s) → HasStamp o s
 stamp_there o s there = (printed_stamp s.instant.nanosecond s.offset.seconds, there, refl, printed_stamp_back s)
 
 stamp_part : (o : Json) (p q : Text) (v : Option OffsetTimestamp)

@@ -1,3 +1,4 @@
 mod PartLemmas
 mod ObjectLemmas
 pub mod KeptLemmas
+pub mod SentLemmas

@@ -52,6 +52,9 @@ module _ (m : MessageValue) (b : Beside) where
   pub version_at : get (codes "version") (message_json m b) ≡ version_json m.protocol
   version_at = field_at (codes "version") (fields_of m b) ∙ simp none_earlier refl
 
+  pub dialect_at : get (codes "dialect") (message_json m b) ≡ option_map text_json b.dialect
+  dialect_at = field_at (codes "dialect") (fields_of m b) ∙ simp none_earlier refl
+
   pub facility_at : get (codes "facility_code") (message_json m b)
       ≡ option_map (λ f. number_json (facility_number f)) m.facility
   facility_at = field_at (codes "facility_code") (fields_of m b) ∙ simp none_earlier refl

@@ -1,3 +1,4 @@
 pub mod Part
 pub mod Elements
 pub mod Kept
+pub mod Sent
