@@ -31,9 +31,9 @@ use Rattle.syslog_dialects.specs.Dialects.{IsOfFirst, dated_forms, forms_of, las
 use Rattle.syslog_dialects.specs.Esxi.{esxi_row, esxi_sent, mark_row}
 use Rattle.syslog_dialects.specs.Filed.{IsAny, filed_forms, filed_row, filed_sent}
 use Rattle.syslog_dialects.specs.Found.{AreFound, AreInOrder, Date, IsDateOf, IsFoundIn, IsTold, Name, Part}
-use Rattle.syslog_dialects.specs.Found.{Tells, Version, cisco_left_out, date_first, filed_date, filed_device}
-use Rattle.syslog_dialects.specs.Found.{filed_rest, second_place}
-use Rattle.syslog_dialects.specs.Found.{forwarded_words, host_alone, host_first, if_there, is_sign, left_out, serial}
+use Rattle.syslog_dialects.specs.Found.{Tells, Version, beside, cisco_hosts, cisco_left_out, date_first, filed_date}
+use Rattle.syslog_dialects.specs.Found.{filed_device, filed_rest, forwarded_words, host_alone, host_first, if_there}
+use Rattle.syslog_dialects.specs.Found.{is_sign, left_of, left_out, relay, second_place, serial}
 use Rattle.syslog_dialects.specs.Header.{header_row, header_says}
 use Rattle.syslog_dialects.specs.IosXr.{card, card_row, host_in, node, process, process_in, process_row, xr_row}
 use Rattle.syslog_dialects.specs.IosXr.{xr_sent}
@@ -89,22 +89,24 @@ both_found [] Bs a b = b
 both_found (F ∷ As) Bs a b = (a.0, both_found As Bs a.1 b)
 
 -- the pieces of a row tell what they say
-abbrev RowTold : (left row : List Class) → (Values row → SentValue) → Type 0
-RowTold left row says_of = (t : Text) (v : Values row) → Front (Row row) t [] v → IsTold left t (says_of v)
+abbrev RowTold : Dialect → (row : List Class) → (Values row → SentValue) → Type 0
+RowTold it row says_of = (t : Text) (v : Values row) → Front (Row row) t [] v
+    → IsTold (left_of it (says_of v).hostname) t (says_of v)
 
--- with the date before the host
-abbrev RowFound : (left row : List Class) → (Values row → SentValue) → Type 0
-RowFound left row says_of = Ending left (Row row) (λ v. date_first (says_of v)) (λ v. (says_of v).msg)
+-- with the date before the host, whichever that is
+abbrev RowFound : Dialect → (row : List Class) → (Values row → SentValue) → Type 0
+RowFound it row says_of = (h : Option Text)
+    → Ending (left_of it h) (Row row) (λ v. date_first (says_of v)) (λ v. (says_of v).msg)
 
 -- a form whose pieces say it
-said_so : (it : Dialect) (row : List Class) (says_of : Values row → SentValue) → RowTold (left_out it) row says_of
+said_so : (it : Dialect) (row : List Class) (says_of : Values row → SentValue) → RowTold it row says_of
     → IsFoundForm (record { dialect = it; row = row; Means = λ v s. s ≡ says_of v })
 said_so it row says_of told text sent s =
     subst (AreFound it text) (sym s.means) (inl (told text s.values (division_front row s.division)))
 
-said : (it : Dialect) (row : List Class) (says_of : Values row → SentValue) → RowFound (left_out it) row says_of
+said : (it : Dialect) (row : List Class) (says_of : Values row → SentValue) → RowFound it row says_of
     → IsFoundForm (record { dialect = it; row = row; Means = λ v s. s ≡ says_of v })
-said it row says_of found = said_so it row says_of (λ t v f. inl (found t v f))
+said it row says_of found = said_so it row says_of (λ t v f. inl (found (says_of v).hostname t v f))
 
 -- ---- dates
 
@@ -141,38 +143,39 @@ a_unix_date = a_date unix_date (λ d. d) (λ p q d is. inr (inr (inr (inr (inr i
 abbrev an_origin : {left : List Class} → Shows left origin
 an_origin = bare_text (BeginsWith begins_host)
 
-counter_out : IsOut cisco_left_out (Row counter_row)
-counter_out p q v is = inr (inl (v, is))
+counter_out : (Cs : List Class) → IsOut (cisco_left_out ++ Cs) (Row counter_row)
+counter_out Cs p q v is = inr (inl (v, is))
 
-task_out : IsOut cisco_left_out (Row task_row)
-task_out p q v is = inr (inr (inl (v, is)))
+task_out : (Cs : List Class) → IsOut (cisco_left_out ++ Cs) (Row task_row)
+task_out Cs p q v is = inr (inr (inl (v, is)))
 
-mark_out : IsOut cisco_left_out mark
-mark_out p q v is = inr (inr (inr (inl (v, is))))
+mark_out : (Cs : List Class) → IsOut (cisco_left_out ++ Cs) mark
+mark_out Cs p q v is = inr (inr (inr (inl (v, is))))
 
-second_out : IsOut cisco_left_out second_place
-second_out p q v is = inr (inr (inr (inr (inl (v, is)))))
+filed_date_out : (Cs : List Class) → IsOut (cisco_left_out ++ Cs) filed_date
+filed_date_out Cs p q v is = inr (inr (inr (inr (inl (v, is)))))
 
-filed_date_out : IsOut cisco_left_out filed_date
-filed_date_out p q v is = inr (inr (inr (inr (inr (inl (v, is))))))
+second_out : IsOut (cisco_left_out ++ cisco_hosts) second_place
+second_out p q v is = inr (inr (inr (inr (inr (inl (v, is))))))
 
-filed_device_out : IsOut cisco_left_out filed_device
-filed_device_out p q v is = inr (inr (inr (inr (inr (inr (inl (v, is)))))))
+device_out : IsOut (cisco_left_out ++ cisco_hosts) filed_device
+device_out p q v is = inr (inr (inr (inr (inr (inr (inl (v, is)))))))
 
 abbrev a_label : {left : List Class} → Shows left label
 a_label {left} = meant (Row label_row) Text (λ v. v.0) (λ t parts. Name t ∷ parts)
     (row_has left label_row (an_origin also a_colon also a_gap also tt))
 
-abbrev a_start : Shows cisco_left_out start
-a_start = meant (Row start_row) (Option Text) labelled (if_there Name) (row_has cisco_left_out start_row
-    (blanks also maybe_colon also blanks also maybe (Row counter_row) counter_out
-    also maybe (Row counter_row) counter_out also perhaps label Name (a_label {left = cisco_left_out}).has
-    also maybe (Row counter_row) counter_out also maybe (Row task_row) task_out also maybe mark mark_out also tt))
+abbrev a_start : (Cs : List Class) → Shows (cisco_left_out ++ Cs) start
+a_start Cs = meant (Row start_row) (Option Text) labelled (if_there Name) (row_has (cisco_left_out ++ Cs) start_row
+    (blanks also maybe_colon also blanks also maybe (Row counter_row) (counter_out Cs)
+    also maybe (Row counter_row) (counter_out Cs)
+    also perhaps label Name (a_label {left = cisco_left_out ++ Cs}).has
+    also maybe (Row counter_row) (counter_out Cs) also maybe (Row task_row) (task_out Cs)
+    also maybe mark (mark_out Cs) also tt))
 
-abbrev a_place : Shows cisco_left_out place
-a_place = meant (Row place_row) (Option Text) (λ v. v.1.0) (if_there Name) (row_has cisco_left_out place_row
-    (blanks also perhaps origin Name (an_origin {left = cisco_left_out}).has also blanks also maybe_colon also blanks
-    also tt))
+abbrev a_place : {left : List Class} → Shows left place
+a_place {left} = meant (Row place_row) (Option Text) (λ v. v.1.0) (if_there Name) (row_has left place_row
+    (blanks also perhaps origin Name (an_origin {left = left}).has also blanks also maybe_colon also blanks also tt))
 
 -- the tag, and nothing else
 tag_found : (left : List Class) → Ending left (Row message_row) (λ v. Name v.0 ∷ []) (λ v. v.1.1.1.1.0)
@@ -185,12 +188,17 @@ cisco_parts (None, ((y, (date, _)), (other, ((tag, _), _)))) =
     Date (dated_in y date) ∷ if_there Name other (Name tag ∷ [])
 cisco_parts (Some h, ((y, (date, _)), (other, ((tag, _), _)))) = Name h ∷ Date (dated_in y date) ∷ Name tag ∷ []
 
--- The first host is said. With it the second is left out.
-cisco_found : Ending cisco_left_out (Row cisco_row) cisco_parts (λ v. (cisco_sent v).msg)
-cisco_found t (None, v) f = last_found cisco_left_out (take 3 cisco_row)
-    (a_start also a_cisco_date also a_place also tt) (Row message_row) (λ w. Name w.0 ∷ []) (λ w. w.1.1.1.1.0)
-    (tag_found cisco_left_out) t (None, v) f
-cisco_found t (Some h, v) f =
+-- where no host comes before the date
+led_found : (Cs : List Class) (t : Text) (v : Values (drop 1 cisco_row)) → Front (Row cisco_row) t [] (None, v)
+    → Tells (cisco_left_out ++ Cs) t (cisco_parts (None, v)) (cisco_sent (None, v)).msg
+led_found Cs t v f = last_found (cisco_left_out ++ Cs) (take 3 cisco_row)
+    (a_start Cs also a_cisco_date also a_place also tt) (Row message_row) (λ w. Name w.0 ∷ []) (λ w. w.1.1.1.1.0)
+    (tag_found (cisco_left_out ++ Cs)) t (None, v) f
+
+-- where one does, the second is left out
+hosted_found : (t h : Text) (v : Values (drop 1 cisco_row)) → Front (Row cisco_row) t [] (Some h, v)
+    → Tells (cisco_left_out ++ cisco_hosts) t (cisco_parts (Some h, v)) (cisco_sent (Some h, v)).msg
+hosted_found t h v f =
     let (u, started, more) = row_head start (drop 1 cisco_row) f in
     let (w, dated, others) = row_head (Row date_row) (drop 2 cisco_row) more in
     let (x, placed, ends) = row_head place (drop 3 cisco_row) others in
@@ -198,17 +206,21 @@ cisco_found t (Some h, v) f =
     let (r, tag, body) = row_head mnemonic (drop 1 message_row) it in
     let led : Front (Row (start ∷ Row date_row ∷ [])) t w (Some h, (v.0, tt)) =
     row_of (start ∷ Row date_row ∷ []) (started then dated then refl) in
-    row_more (start ∷ Row date_row ∷ []) (a_start also a_cisco_date also tt) led
+    row_more (start ∷ Row date_row ∷ []) (a_start cisco_hosts also a_cisco_date also tt) led
     (out_more place placed (second_out placed.piece x v.1.0 (placed.is, (r, v.1.1.0.0, tag)))
-    (tag_found cisco_left_out x v.1.1.0 it))
+    (tag_found (cisco_left_out ++ cisco_hosts) x v.1.1.0 it))
 
-cisco_told : RowTold cisco_left_out cisco_row cisco_sent
-cisco_told t (None, v) f = inl (cisco_found t (None, v) f)
-cisco_told t (Some h, v) f = inr (cisco_found t (Some h, v) f)
+-- a row that says what a line of Cisco's does
+abbrev CiscoTold : (row : List Class) → (Values row → SentValue) → Type 0
+CiscoTold row says_of = (t : Text) (v : Values row) → Front (Row row) t [] v
+    → IsTold (cisco_left_out ++ beside (says_of v).hostname cisco_hosts) t (says_of v)
+
+cisco_told : CiscoTold cisco_row cisco_sent
+cisco_told t (None, v) f = inl (led_found (beside v.1.0 cisco_hosts) t v f)
+cisco_told t (Some h, v) f = inr (hosted_found t h v f)
 
 -- those of one system
-system_told : (P : Values cisco_row → Type 0)
-    → RowTold cisco_left_out (such_that (Row cisco_row) P ∷ []) (λ v. cisco_sent v.0)
+system_told : (P : Values cisco_row → Type 0) → CiscoTold (such_that (Row cisco_row) P ∷ []) (λ v. cisco_sent v.0)
 system_told P t v f =
     let it = end_of (such_that (Row cisco_row) P) f in
     cisco_told t v.0 (front_of it.piece it.whole it.is.0)
@@ -222,25 +234,32 @@ cisco_all =
 -- ---- as a collector files them
 
 -- the same parts of more text
-told_more : {t u : Text} (sent : SentValue)
-    → ((parts : List Part) → Tells cisco_left_out u parts sent.msg → Tells cisco_left_out t parts sent.msg)
-    → IsTold cisco_left_out u sent → IsTold cisco_left_out t sent
-told_more sent more (inl told) = inl (more (date_first sent) told)
-told_more sent more (inr told) = inr (more (host_first sent) told)
+told_more : (left : List Class) {t u : Text} (sent : SentValue)
+    → ((parts : List Part) → Tells left u parts sent.msg → Tells left t parts sent.msg)
+    → IsTold left u sent → IsTold left t sent
+told_more left sent more (inl told) = inl (more (date_first sent) told)
+told_more left sent more (inr told) = inr (more (host_first sent) told)
+
+line_found : (line : Values cisco_row) {t : Text} → Front (Row cisco_row) t [] line
+    → Tells (cisco_left_out ++ cisco_hosts) t (cisco_parts line) (cisco_sent line).msg
+line_found (None, v) {t} f = led_found cisco_hosts t v f
+line_found (Some h, v) {t} f = hosted_found t h v f
 
 -- the device is the host where the line shows none
 device_told : (device : Text) (line : Values cisco_row) {t u : Text} → Front origin t u device
-    → Front (Row filed_rest) u [] (tt, (line, tt)) → Tells cisco_left_out u (cisco_parts line) (cisco_sent line).msg
-    → IsTold cisco_left_out t (filed_sent device line)
+    → Front (Row filed_rest) u [] (tt, (line, tt))
+    → Tells (cisco_left_out ++ cisco_hosts) u (cisco_parts line) (cisco_sent line).msg
+    → IsTold (cisco_left_out ++ beside (filed_sent device line).hostname cisco_hosts) t (filed_sent device line)
 device_told device (Some h, v) {u = u} f more told = inr (out_more origin f
-    (filed_device_out f.piece u device (f.is, ([], (tt, ((Some h, v), tt)), more))) told)
+    (device_out f.piece u device (f.is, ([], (tt, ((Some h, v), tt)), more))) told)
 device_told device (None, (d, (Some o, v))) {u = u} f more told = inl (out_more origin f
-    (filed_device_out f.piece u device (f.is, ([], (tt, ((None, (d, (Some o, v))), tt)), more))) told)
+    (device_out f.piece u device (f.is, ([], (tt, ((None, (d, (Some o, v))), tt)), more))) told)
 device_told device (None, (d, (None, v))) {t} {u} f more told =
-    inr ((an_origin {left = cisco_left_out}).has t u device f (cisco_parts (None, (d, (None, v)))) v.0.1.1.1.1.0 told)
+    inr ((an_origin {left = cisco_left_out ++ cisco_hosts}).has t u device f (cisco_parts (None, (d, (None, v))))
+    v.0.1.1.1.1.0 told)
 
 filed_told : (P : Values cisco_row → Type 0)
-    → RowTold cisco_left_out (filed_row (such_that (Row cisco_row) P)) (λ v. filed_sent v.1.1.1.0 v.1.1.1.1.1.0)
+    → CiscoTold (filed_row (such_that (Row cisco_row) P)) (λ v. filed_sent v.1.1.1.0 v.1.1.1.1.1.0)
 filed_told P t v f =
     let C = such_that (Row cisco_row) P in
     let line = v.1.1.1.1.1.0 in
@@ -253,13 +272,14 @@ filed_told P t v f =
     let whole : Front (Row cisco_row) e [] line = front_of it.piece it.whole it.is.0 in
     let left : Front (Row filed_rest) d [] (tt, (line, tt)) = row_of filed_rest (space then whole then refl) in
     let named = device_told v.1.1.1.0 line device left
-    (out_more (some_run is_blank) space (inl (blank_signs space.piece space.is.1)) (cisco_found e line whole)) in
+    (out_more (some_run is_blank) space (inl (blank_signs space.piece space.is.1)) (line_found line whole)) in
     let after : Front (Row (some_run is_blank ∷ origin ∷ filed_rest)) b [] (tt, (v.1.1.1.0, (tt, (line, tt)))) =
     row_of (some_run is_blank ∷ origin ∷ filed_rest) (gap then device then space then whole then refl) in
-    told_more (filed_sent v.1.1.1.0 line) (λ parts told.
+    let hosts = beside (filed_sent v.1.1.1.0 line).hostname cisco_hosts in
+    told_more (cisco_left_out ++ hosts) (filed_sent v.1.1.1.0 line) (λ parts told.
     out_more (run is_blank) blank (inl (blank_signs blank.piece blank.is.0))
     (out_more any_date dated
-    (filed_date_out dated.piece b v.1.0 (dated.is, ([], (tt, (v.1.1.1.0, (tt, (line, tt)))), after)))
+    (filed_date_out hosts dated.piece b v.1.0 (dated.is, ([], (tt, (v.1.1.1.0, (tt, (line, tt)))), after)))
     (out_more (some_run is_blank) gap (inl (blank_signs gap.piece gap.is.1)) told))) named
 
 filed_all : AllFound filed_forms
@@ -271,10 +291,10 @@ filed_all =
     also said_so dialect.CiscoIos (filed_row (such_that (Row cisco_row) IsAny))
     (λ v. filed_sent v.1.1.1.0 v.1.1.1.1.1.0) (filed_told IsAny) also tt
 
-undated_cisco : RowFound (left_out dialect.CiscoUndated) cisco.undated_row cisco.undated_sent
-undated_cisco = last_found (left_out dialect.CiscoUndated) (take 4 cisco.undated_row)
+undated_cisco : RowFound dialect.CiscoUndated cisco.undated_row cisco.undated_sent
+undated_cisco h = last_found (left_of dialect.CiscoUndated h) (take 4 cisco.undated_row)
     (blanks also maybe_colon also blanks also maybe (Row counter_row) (λ p q v is. inr (inl (v, is))) also tt)
-    (Row message_row) (λ v. Name v.0 ∷ []) (λ v. v.1.1.1.1.0) (tag_found (left_out dialect.CiscoUndated))
+    (Row message_row) (λ v. Name v.0 ∷ []) (λ v. v.1.1.1.1.0) (tag_found (left_of dialect.CiscoUndated h))
 
 process_found : (left : List Class) → Ending left process (λ v. Name v.0 ∷ Name v.1.0 ∷ []) (λ v. v.1.1)
 process_found left = mapped_found left (Row process_row) (Text × (Text × Text)) process_in
@@ -282,21 +302,22 @@ process_found left = mapped_found left (Row process_row) (Text × (Text × Text)
     (blanks also maybe_colon also blanks also text_of (some_run is_label_char) also a_sign 91 refl
     also text_of (some_run is_ascii_digit) also a_sign 93 refl also a_colon also blanks also tt))
 
-abbrev xr_left_out : List Class
-xr_left_out = left_out dialect.CiscoIosXr
+abbrev an_xr_host : {left : List Class} → Shows left xr.host
+an_xr_host {left} = meant (Row xr.host_row) Text (λ v. v.0) (λ t parts. Name t ∷ parts)
+    (row_has left xr.host_row (an_origin also a_gap also tt))
 
-abbrev an_xr_host : Shows xr_left_out xr.host
-an_xr_host = meant (Row xr.host_row) Text (λ v. v.0) (λ t parts. Name t ∷ parts)
-    (row_has xr_left_out xr.host_row (an_origin also a_gap also tt))
-
-abbrev a_card : Shows xr_left_out card
-a_card = meant (Row card_row) (Option Text) host_in (if_there Name) (row_has xr_left_out card_row
-    (blanks also maybe (Row counter_row) (λ p q v is. inr (inl (v, is))) also perhaps xr.host Name an_xr_host.has
+abbrev a_card : (Cs : List Class) → Shows (left_out dialect.CiscoIosXr ++ Cs) card
+a_card Cs = meant (Row card_row) (Option Text) host_in (if_there Name)
+    (row_has (left_out dialect.CiscoIosXr ++ Cs) card_row
+    (blanks also maybe (Row counter_row) (λ p q v is. inr (inl (v, is)))
+    also perhaps xr.host Name (an_xr_host {left = left_out dialect.CiscoIosXr ++ Cs}).has
     also passed node (λ p q v is. inr (inr (inl (v, is)))) also a_colon also tt))
 
-xr_found : RowTold xr_left_out xr_row xr_sent
-xr_found t v f = inr (last_found xr_left_out (take 2 xr_row) (a_card also a_cisco_date also tt) process
-    (λ w. Name w.0 ∷ Name w.1.0 ∷ []) (λ w. w.1.1) (process_found xr_left_out) t v f)
+xr_found : RowTold dialect.CiscoIosXr xr_row xr_sent
+xr_found t v f =
+    let left = left_of dialect.CiscoIosXr v.0 in
+    inr (last_found left (take 2 xr_row) (a_card (beside v.0 []) also a_cisco_date also tt) process
+    (λ w. Name w.0 ∷ Name w.1.0 ∷ []) (λ w. w.1.1) (process_found left) t v f)
 
 -- ---- what the port reads after a date
 
@@ -419,44 +440,41 @@ module _ (Cs : List Class) where
 
 -- ---- other dates
 
-container_found : RowFound (left_out dialect.Container) container_row (λ v. loose (Some v.1.0) None None None v.1.1.1.0)
-container_found = last_found (left_out dialect.Container) (take 3 container_row)
+container_found : RowFound dialect.Container container_row (λ v. loose (Some v.1.0) None None None v.1.1.1.0)
+container_found h = last_found (left_of dialect.Container h) (take 3 container_row)
     (blanks also an_iso_date also a_sign 32 refl also tt) output (λ v. []) (λ v. v)
-    (whole_found (left_out dialect.Container) output (λ v. v) (λ p v is. is.1))
+    (whole_found (left_of dialect.Container h) output (λ v. v) (λ p v is. is.1))
 
-esxi_found : RowFound (left_out dialect.Esxi) esxi_row esxi_sent
-esxi_found = before_rest (left_out dialect.Esxi) (take 7 esxi_row)
+esxi_found : RowFound dialect.Esxi esxi_row esxi_sent
+esxi_found h = before_rest (left_of dialect.Esxi h) (take 7 esxi_row)
     (blanks also an_iso_date also a_gap also passed (Row mark_row) (λ p q v is. inr (inl (v, is))) also a_gap
     also a_program also blanks also tt)
 
-procurve_found : RowFound (left_out dialect.ProCurve) procurve_row procurve_sent
-procurve_found = before_rest (left_out dialect.ProCurve) (take 10 procurve_row)
+procurve_found : RowFound dialect.ProCurve procurve_row procurve_sent
+procurve_found h = before_rest (left_of dialect.ProCurve h) (take 10 procurve_row)
     (blanks also an_any_date also a_gap also an_origin also a_gap
     also passed (some_run is_ascii_digit) (λ p q v is. inr (inl (v, is))) also a_gap
     also text_of (some_run is_tag_char) also a_colon also blanks also tt)
 
-abbrev words_left_out : List Class
-words_left_out = left_out dialect.SeverityFirst
-
-logread_found : RowFound words_left_out logread_row logread_sent
-logread_found = before_rest words_left_out (take 9 logread_row)
+logread_found : RowFound dialect.SeverityFirst logread_row logread_sent
+logread_found h = before_rest (left_of dialect.SeverityFirst h) (take 9 logread_row)
     (blanks also passed weekday (λ p q v is. inr (inl (v, is))) also a_gap also an_any_date also a_gap
     also passed (Row selector_row) (λ p q v is. inr (inr (inr (inl (v, is))))) also a_gap also a_program also blanks
     also tt)
 
-meraki_found : RowFound (left_out dialect.UnixSeconds) meraki_row meraki_sent
-meraki_found = before_rest (left_out dialect.UnixSeconds) (take 7 meraki_row)
+meraki_found : RowFound dialect.UnixSeconds meraki_row meraki_sent
+meraki_found h = before_rest (left_of dialect.UnixSeconds h) (take 7 meraki_row)
     (blanks also passed (exactly (49 ∷ [])) (λ p q v is. inr (inl (v, is))) also a_gap also a_unix_date also a_gap
     also an_origin also a_gap also tt)
 
-short_found : RowFound (left_out dialect.UnixSeconds) short_row short_sent
-short_found = before_rest (left_out dialect.UnixSeconds) (take 7 short_row)
+short_found : RowFound dialect.UnixSeconds short_row short_sent
+short_found h = before_rest (left_of dialect.UnixSeconds h) (take 7 short_row)
     (blanks also a_unix_date also a_gap also a_host also a_gap also a_program also blanks also tt)
 
-journal_found : RowFound (left_out dialect.Journal) journal_row (λ v. dated_sent v.1.1.1.0 v.1.1.1.1.0)
-journal_found = last_found (left_out dialect.Journal) (take 4 journal_row)
+journal_found : RowFound dialect.Journal journal_row (λ v. dated_sent v.1.1.1.0 v.1.1.1.1.0)
+journal_found h = last_found (left_of dialect.Journal h) (take 4 journal_row)
     (blanks also passed weekday (λ p q v is. inr (inr (inl (v, is)))) also a_gap also an_iso_date also tt) wide_tail
-    tail_parts (λ v. v.msg) (wide_found (weekday ∷ []))
+    tail_parts (λ v. v.msg) (wide_found (weekday ∷ beside h []))
 
 xr_all : AllFound xr_forms
 xr_all =
@@ -464,13 +482,13 @@ xr_all =
     also said dialect.Container container_row (λ v. loose (Some v.1.0) None None None v.1.1.1.0) container_found
     also said dialect.Esxi esxi_row esxi_sent esxi_found
     also said dialect.ProCurve procurve_row procurve_sent procurve_found
-    also said dialect.BsdDate bsd_row (λ v. dated_sent v.1.0 v.1.1.0) (dated_found [] odd_bsd_date an_odd_bsd_date)
+    also said dialect.BsdDate bsd_row (λ v. dated_sent v.1.0 v.1.1.0) (λ h. dated_found (beside h []) odd_bsd_date an_odd_bsd_date)
     also said dialect.NearlyRfc3339 iso_row (λ v. dated_sent v.1.0 v.1.1.0)
-    (dated_found [] odd_iso_date an_odd_iso_date)
+    (λ h. dated_found (beside h []) odd_iso_date an_odd_iso_date)
     also said dialect.Journal journal_row (λ v. dated_sent v.1.1.1.0 v.1.1.1.1.0) journal_found
     also said dialect.NetScaler netscaler_row (λ v. dated_sent v.1.0 v.1.1.0)
-    (dated_found [] slashed_date a_slashed_date)
-    also said dialect.SophosUtm utm_row (λ v. dated_sent v.1.0 v.1.1.0) (dated_found [] colon_date a_colon_date)
+    (λ h. dated_found (beside h []) slashed_date a_slashed_date)
+    also said dialect.SophosUtm utm_row (λ v. dated_sent v.1.0 v.1.1.0) (λ h. dated_found (beside h []) colon_date a_colon_date)
     also said dialect.SeverityFirst logread_row logread_sent logread_found
     also said dialect.UnixSeconds meraki_row meraki_sent meraki_found
     also said dialect.UnixSeconds short_row short_sent short_found
@@ -485,13 +503,18 @@ abbrev texts_of : NamedTexts → List Part
 texts_of n = three n.hostname n.appname n.process
 
 abbrev TailFound : Tail → Type 0
-TailFound T = Ending (left_out T.dialect) T.after (λ v. texts_of (T.names v)) (λ v. (T.names v).msg)
+TailFound T = (t : Text) (v : T.after.Value) → Front T.after t [] v
+    → Tells (left_of T.dialect (T.names v).hostname) t (texts_of (T.names v)) (T.names v).msg
 
 tail_of : (T : Tail) → TailFound T → IsFoundForm (dated_form T.dialect T.after T.names)
-tail_of T found = said T.dialect (dated_row T.after T.names) (λ v. says v.1.0 v.1.1.1.0)
-    (last_found (left_out T.dialect) front_row (blanks also an_any_date also a_gap also tt)
-    (mapped T.after NamedTexts T.names) texts_of (λ n. n.msg)
-    (mapped_found (left_out T.dialect) T.after NamedTexts T.names texts_of (λ n. n.msg) found))
+tail_of T found = said_so T.dialect (dated_row T.after T.names) (λ v. says v.1.0 v.1.1.1.0) (λ t v f.
+    let C = mapped T.after NamedTexts T.names in
+    let (u, a, b) = rows_split front_row (C ∷ []) f in
+    let it = end_of C b in
+    let (w, is, same) = it.is in
+    let told = subst (λ (n : NamedTexts). Tells (left_of T.dialect n.hostname) u (texts_of n) n.msg) (sym same)
+    (found u w (front_of it.piece it.whole is)) in
+    inl (row_more front_row (blanks also an_any_date also a_gap also tt) a told))
 
 -- a message by its mark, or a host before it
 marked_found : (left : List Class) (D : Class)
@@ -503,7 +526,8 @@ marked_found left D t (inr w) f = last_found left (take 2 (after_row (beginning 
     (whole_found left (beginning D) (λ x. x) (λ p x is. is.1)) t w (front_of f.piece f.whole f.is.1)
 
 mark_found : (it : Dialect) (m : Mark) → IsFoundForm (dated_form it (marked m) marked_of)
-mark_found it m = tail_of (marked_tail it m) (marked_found (left_out it) (mark_class m))
+mark_found it m = tail_of (marked_tail it m)
+    (λ t v f. marked_found (left_of it (marked_of v).hostname) (mark_class m) t v f)
 
 messages_all : AllFound (tail_forms message_tails)
 messages_all =
@@ -515,17 +539,17 @@ messages_all =
 
 -- ---- programs
 
-abbrev forwarded_left_out : List Class
-forwarded_left_out = left_out dialect.Forwarded
+line_passed : (Cs : List Class) → Ending (left_out dialect.Forwarded ++ Cs) (Row forwarded_row)
+    (λ v. texts_of (forwarded_of v)) (λ v. (forwarded_of v).msg)
+line_passed Cs = before_rest (left_out dialect.Forwarded ++ Cs) (take 6 forwarded_row)
+    (passed forwarded_words (λ p q v is. inr (inl (v, is))) also text_of (some_run is_tag_char)
+    also a_colon also blanks also a_program also blanks also tt)
 
-passed_found : Ending forwarded_left_out passed_on texts_of (λ n. n.msg)
-passed_found = mapped_found forwarded_left_out (Row forwarded_row) NamedTexts forwarded_of texts_of (λ n. n.msg)
-    (before_rest forwarded_left_out (take 6 forwarded_row)
-    (passed forwarded_words (λ p q v is. inr (inr (inl (v, is)))) also text_of (some_run is_tag_char)
-    also a_colon also blanks also a_program also blanks also tt))
-
+-- with its host another one is left out
 forwarded_found : TailFound forwarded_tail
-forwarded_found t (inl n) f = passed_found t n (front_of f.piece f.whole f.is)
+forwarded_found t (inl n) f = mapped_found (left_of dialect.Forwarded n.hostname) (Row forwarded_row) NamedTexts
+    forwarded_of texts_of (λ x. x.msg) (line_passed (beside n.hostname (relay ∷ []))) t n
+    (front_of f.piece f.whole f.is)
 forwarded_found t (inr w) f =
     let whole : Front (Row (after_row passed_on)) t [] w = front_of f.piece f.whole f.is.1 in
     let (u, relayed, more) = row_head host (drop 1 (after_row passed_on)) whole in
@@ -536,29 +560,30 @@ forwarded_found t (inr w) f =
     let (y, words, ends) = row_head forwarded_words (drop 1 forwarded_row) line in
     let after : Front (Row (some_run is_blank ∷ forwarded_words ∷ [])) u y (tt, (tt, tt)) =
     row_of (some_run is_blank ∷ forwarded_words ∷ []) (gap then words then refl) in
-    out_more host relayed (inr (inl (w.0, (relayed.is, (y, (tt, (tt, tt)), after)))))
-    (out_more (some_run is_blank) gap (inl (blank_signs gap.piece gap.is.1)) (passed_found x w.1.1.0 it))
+    subst (λ (n : NamedTexts). Tells (left_of dialect.Forwarded n.hostname) t (texts_of n) n.msg) (sym same)
+    (out_more host relayed (inr (inr (inl (w.0, (relayed.is, (y, (tt, (tt, tt)), after))))))
+    (out_more (some_run is_blank) gap (inl (blank_signs gap.piece gap.is.1)) (line_passed (relay ∷ []) x vs line)))
 
-grade_out : IsOut words_left_out grade
-grade_out p q (inl v) is = inr (inr (inl (v, is)))
-grade_out p q (inr v) is = inr (inr (inr (inl (v, is.1))))
+grade_out : (Cs : List Class) → IsOut (left_out dialect.SeverityFirst ++ Cs) grade
+grade_out Cs p q (inl v) is = inr (inr (inl (v, is)))
+grade_out Cs p q (inr v) is = inr (inr (inr (inl (v, is.1))))
 
 severity_found : TailFound severity_tail
-severity_found = before_rest words_left_out (take 6 severity_row)
-    (a_host also a_gap also passed grade grade_out also a_gap also a_program also blanks also tt)
+severity_found t v = before_rest (left_of dialect.SeverityFirst v.0) (take 6 severity_row)
+    (a_host also a_gap also passed grade (grade_out (beside v.0 [])) also a_gap also a_program also blanks also tt) t v
 
 worded_found : TailFound worded_tail
-worded_found = before_rest (left_out dialect.SpacedName) (take 6 worded_row)
+worded_found t v = before_rest (left_of dialect.SpacedName v.0) (take 6 worded_row)
     (a_host also a_gap also such (texted (Row words_row)) (BeginsWith is_letter) (text_of (Row words_row)) also an_id
-    also a_colon also blanks also tt)
+    also a_colon also blanks also tt) t v
 
 hostless_found : TailFound hostless_tail
-hostless_found = before_rest (left_out dialect.NoHost) (take 2 hostless_row) (a_program also a_gap also tt)
+hostless_found = before_rest (left_of dialect.NoHost None) (take 2 hostless_row) (a_program also a_gap also tt)
 
 -- the serial number and the date in brackets are left out as one piece
 serial_found : TailFound serial_tail
 serial_found t v f =
-    let left = left_out dialect.WatchGuard in
+    let left = left_of dialect.WatchGuard v.0 in
     let (u, a, b) = rows_split (take 2 serial_row) (drop 2 serial_row) f in
     let (w, c, d) = rows_split serial (drop 7 serial_row) b in
     row_more (take 2 serial_row) (a_host also a_gap also tt) a
@@ -656,11 +681,11 @@ pairs_found text sent s =
 
 marked_alone : (it : Dialect) (m : Mark) → IsFoundForm (undated_form it m)
 marked_alone it m = said it (undated_row m) (λ v. loose None None None None v.1.0)
-    (last_found (left_out it) (run is_blank ∷ []) (blanks also tt) (beginning (mark_class m)) (λ x. []) (λ x. x)
-    (whole_found (left_out it) (beginning (mark_class m)) (λ x. x) (λ p x is. is.1)))
+    (λ h. last_found (left_of it h) (run is_blank ∷ []) (blanks also tt) (beginning (mark_class m)) (λ x. []) (λ x. x)
+    (whole_found (left_of it h) (beginning (mark_class m)) (λ x. x) (λ p x is. is.1)))
 
-header_found : RowFound (left_out dialect.Heroku) header_row header_says
-header_found = before_rest (left_out dialect.Heroku) (take 12 header_row)
+header_found : RowFound dialect.Heroku header_row header_says
+header_found h = before_rest (left_of dialect.Heroku h) (take 12 header_row)
     (shown (number 4294967295) Version (λ p q n is. is) also a_gap also an_iso_date also a_gap also a_host also a_gap
     also a_word also a_gap also a_word also a_gap also a_sign 45 refl also a_gap also tt)
 
@@ -673,15 +698,15 @@ named_all : AllFound named_forms
 named_all = both_found (tail_forms message_tails) program_forms messages_all
     (both_found (tail_forms program_tails) undated_forms programs_all undated_all)
 
-program_alone : RowFound (left_out dialect.NoHost) program_row program_sent
-program_alone = before_rest (left_out dialect.NoHost) (take 7 program_row)
+program_alone : RowFound dialect.NoHost program_row program_sent
+program_alone h = before_rest (left_of dialect.NoHost h) (take 7 program_row)
     (blanks also a_name also a_sign 91 refl also text_of (some_run is_ascii_digit) also a_sign 93 refl also a_colon
     also blanks also tt)
 
-alone_found : RowFound (left_out dialect.PriorityAlone) alone_row (λ v. loose None None None None v.1.0)
-alone_found = last_found (left_out dialect.PriorityAlone) (run is_blank ∷ []) (blanks also tt)
+alone_found : RowFound dialect.PriorityAlone alone_row (λ v. loose None None None None v.1.0)
+alone_found h = last_found (left_of dialect.PriorityAlone h) (run is_blank ∷ []) (blanks also tt)
     (such_that rest IsAlone) (λ x. []) (λ x. x)
-    (whole_found (left_out dialect.PriorityAlone) (such_that rest IsAlone) (λ x. x) (λ p x is. is.0.1))
+    (whole_found (left_of dialect.PriorityAlone h) (such_that rest IsAlone) (λ x. x) (λ p x is. is.0.1))
 
 last_all : AllFound last_forms
 last_all =

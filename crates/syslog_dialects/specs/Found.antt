@@ -49,11 +49,7 @@ abbrev pub ◌followed_by◌ : Class → Class → Class
 abbrev pub host_alone : Class
 host_alone = spaced host followed_by spaced (such_that tag_word (λ v. v ≡ None))
 
--- what is between the date and Cisco's tag: a second host, where one comes before the date
-abbrev pub second_place : Class
-second_place = place followed_by mnemonic
-
--- of a line that a collector filed: its date, and the device that it names, where the line shows a host of its own
+-- what a collector adds before a whole line of Cisco's: its date, and then the device
 abbrev pub filed_rest : List Class
 filed_rest = some_run is_blank ∷ Row cisco_row ∷ []
 
@@ -63,10 +59,9 @@ filed_date = any_date followed_by Row (some_run is_blank ∷ origin ∷ filed_re
 abbrev pub filed_device : Class
 filed_device = origin followed_by Row filed_rest
 
--- with them counters and sequence numbers, the task, and the mark of a clock
-abbrev pub cisco_left_out : List Class
-cisco_left_out =
-    Row counter_row ∷ Row task_row ∷ mark ∷ second_place ∷ filed_date ∷ filed_device ∷ []
+-- what is between the date and Cisco's tag, a host among it
+abbrev pub second_place : Class
+second_place = place followed_by mnemonic
 
 abbrev pub forwarded_words : Class
 forwarded_words = exactly (codes "Message forwarded from ")
@@ -78,6 +73,10 @@ relay = host followed_by Row (some_run is_blank ∷ forwarded_words ∷ [])
 -- the number of a Firebox, and its date in brackets
 abbrev pub serial : List Class
 serial = some_run is_plain_char ∷ exactly (32 ∷ []) ∷ exactly (40 ∷ []) ∷ iso_date ∷ exactly (41 ∷ []) ∷ []
+
+-- counters and sequence numbers, the task, the mark of a clock, and a collector's date
+abbrev pub cisco_left_out : List Class
+cisco_left_out = Row counter_row ∷ Row task_row ∷ mark ∷ filed_date ∷ []
 
 -- What a dialect leaves out besides. These are IOS-XR's card, a day of the week, a facility and a severity in words,
 -- ESXi's level with its number, the number of ProCurve's event, and Meraki's `1`. In the others it is nothing.
@@ -96,9 +95,29 @@ left_out SeverityFirst = weekday ∷ severity ∷ Row selector_row ∷ []
 left_out Esxi = Row mark_row ∷ []
 left_out ProCurve = some_run is_ascii_digit ∷ []
 left_out UnixSeconds = exactly (49 ∷ []) ∷ []
-left_out Forwarded = relay ∷ forwarded_words ∷ []
+left_out Forwarded = forwarded_words ∷ []
 left_out WatchGuard = Row serial ∷ []
 left_out _ = []
+
+-- the other hosts that a line shows beside the one that it says
+abbrev pub cisco_hosts : List Class
+cisco_hosts = second_place ∷ filed_device ∷ []
+
+abbrev pub other_hosts : Dialect → List Class
+other_hosts CiscoIos = cisco_hosts
+other_hosts CiscoNxOs = cisco_hosts
+other_hosts CiscoAsa = cisco_hosts
+other_hosts Forwarded = relay ∷ []
+other_hosts _ = []
+
+-- these are left out where the line says a host
+abbrev pub beside : Option Text → List Class → List Class
+beside None hosts = []
+beside (Some _) hosts = hosts
+
+-- all that is left out of a line that says this host, or none
+abbrev pub left_of : Dialect → Option Text → List Class
+left_of dialect hostname = left_out dialect ++ beside hostname (other_hosts dialect)
 
 -- the piece is of one of the classes
 abbrev pub IsOfOne : List Class → Text → Text → Type 0
@@ -193,7 +212,8 @@ AreInPairs text sent = Tells [] text [] sent.msg × AreInOrder (names_of sent) s
 
 -- each character of the text, which follows a priority or none, is accounted for
 abbrev pub AreFound : Dialect → Text → SentValue → Type 0
-AreFound dialect text sent = IsTold (left_out dialect) text sent ⊎ ((dialect ≡ KeyValue) × AreInPairs text sent)
+AreFound dialect text sent =
+    IsTold (left_of dialect sent.hostname) text sent ⊎ ((dialect ≡ KeyValue) × AreInPairs text sent)
 
 -- The text is a priority or none, and a text of which each character is accounted for. The message is that of what the
 -- text says: by `IsMessageSent` its timestamp is that of the date, and its facility and severity those of the priority.
