@@ -1,5 +1,5 @@
 -- The day and the zone that options name.
-use Rattle.syslog_c.proofs.Words.{◌≡◌, ◌∙◌, ◌<◌, ◌≤◌, ◌⊎◌, ◌∷◌, ◌++◌, [], ℕ, ℤ, ap, append-nil, arith, inl, inr, length}
+use Rattle.syslog_c.proofs.Words.{◌≡◌, ◌∙◌, ◌<◌, ◌⊎◌, ◌∷◌, ◌++◌, [], ℕ, ℤ, ap, append-nil, arith, inl, inr, length}
 use Rattle.syslog_c.proofs.Words.{refl, subst, sym, List, Option, Some, None, Result, Ok, Err, IsUtf8, Options}
 use Rattle.std.proofs.Common.{◌↔◌, ◌≢◌, drop, get_or, pos, true≢false}
 use Rattle.std.proofs.lemmas.Int.{ints}
@@ -8,7 +8,7 @@ use Rattle.std.specs.Prelude.{IfOk, IsOk, MatchOption}
 use Rattle.std.specs.Result.{OkIff, result_ok}
 use Rattle.jiff.specs.Placed.{IsPosixZone}
 use Rattle.jiff.specs.Types.{Date, Fixed, Posix, TimeZone, Tzif, UTC, Unknown}
-use Rattle.jiff.specs.Words.{IsDate, IsOffsetSeconds, IsYear, IsYmd, plain_zone, read_whole}
+use Rattle.jiff.specs.Words.{IsDate, IsOffsetSeconds, IsYmd, plain_zone, read_whole}
 use Rattle.jiff.specs.declared.tz.timezone.TimeZone.{TimeZone as Held}
 use Rattle.syslog_lines.specs.Frames.{NoByte}
 use Rattle.syslog_loose.specs.Reckoning.{IsZoneAt}
@@ -49,13 +49,6 @@ pub has_year : (options : Options) (today : Today) → IsToday options today →
 has_year options (Year year) is = is.0
 has_year options (Month year month) is = is.0
 has_year options (Day date) is = tt
-
--- where there is no day, and the year or the month is out of range, nothing is known
-pub unknown : (options : Options) (today : Today) → options.day ≡ 0
-    → (IsYear options.year × (options.month ≤ 12) → ⊥) → IsToday options today → ⊥
-unknown options (Year year) no_day out is = out (rw is.1 is.0, omega (arith, is.2))
-unknown options (Month year month) no_day out is = out (rw is.1 is.0, omega (arith, is.2, is.3, is.4))
-unknown options (Day date) no_day out is = omega (arith, ints, date.day_in.0, is.2, no_day)
 
 -- where there is a day, only that is known
 pub day_known : (options : Options) (today : Today) → (options.day ≡ 0 → ⊥)
@@ -152,3 +145,8 @@ zone_named options rule (Some it) text is = (rule, text, is)
 zone_named options rule None text none = λ zone named.
     none zone (subst (λ (t : List ℕ). IsZoneBy t options.offset zone)
     (text_once options.zone named.0 rule named.1 text) named.2)
+
+-- without a rule it is the zone at the offset
+pub zone_ahead_of : (options : Options) (zone : TimeZone) → 0 < length options.zone → get_or options.zone 0 0 ≡ 0
+    → IsOffsetSeconds options.offset → IsZoneAt options.offset zone → IsZoneOf options zone
+zone_ahead_of options zone some zero within is = ([], text_none options.zone some zero, (within, is))

@@ -7,7 +7,7 @@ use crate::fields::{Row, Text};
 use crate::options::Options;
 use crate::outcome::Outcome;
 use crate::read::read_fields;
-use crate::rules::rules_of;
+use crate::rules::Rules;
 use syslog_lines::first_line;
 
 /// Reads the lines of the buffer into rows, one for each line, in order, and sets `read` to the number of rows written.
@@ -35,9 +35,10 @@ fn read_rows<'a>(
     ensures { ReadsLines options.now buffer.now rows.old rows.new read.new result }
 {
     *read = 0;
-    let Some(_) = rules_of(options) else {
+    let mut rules = Rules::new();
+    if !rules.take(options) {
         return Outcome::BadArgument;
-    };
+    }
     let mut rest = buffer;
     let mut count = 0;
     while count < rows.len() && !rest.is_empty() {

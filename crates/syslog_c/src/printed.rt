@@ -13,7 +13,7 @@ use crate::outcome::Outcome;
 use crate::put_line::put_line;
 use crate::read_line::read_line;
 use crate::room::{Buffer, put_answer};
-use crate::rules::rules_of;
+use crate::rules::Rules;
 use std::alloc::Global;
 use syslog_loose::{IncompleteDate, Line, settle};
 use syslog_utf8::from_utf8;
@@ -80,9 +80,10 @@ fn write_settled(
         Settled rules.variant dating text room.old room.new needed.new result) }
 {
     *needed = 0;
-    let Some(rules) = rules_of(options) else {
+    let mut rules = Rules::new();
+    if !rules.take(options) {
         return Outcome::BadArgument;
-    };
+    }
     let Ok(text) = from_utf8(line) else {
         return Outcome::NotUtf8;
     };

@@ -13,7 +13,7 @@ use crate::arrays::Arrays;
 use crate::fields::{Element, Fields, Param};
 use crate::options::Options;
 use crate::outcome::Outcome;
-use crate::rules::{Rules, rules_of};
+use crate::rules::Rules;
 use crate::sent::{take_read, take_unread};
 use syslog_loose::{IncompleteDate, LineVisitor, parse_line, visit_line};
 use syslog_utf8::from_utf8;
@@ -50,9 +50,10 @@ fn read_into<'a>(
         (λ rules dating text. ReadsInto rules dating text
         fields.old fields.new elements.old elements.new params.old params.new result) }
 {
-    let Some(rules) = rules_of(options) else {
+    let mut rules = Rules::new();
+    if !rules.take(options) {
         return Outcome::BadArgument;
-    };
+    }
     let Ok(text) = from_utf8(line) else {
         return Outcome::NotUtf8;
     };
@@ -62,24 +63,6 @@ fn read_into<'a>(
         count: 0,
         filled: 0,
     };
-    read_by(text, &rules, &mut arrays, fields)
-}
-
-// Reads the text by these rules.
-#[inline(always)]
-fn read_by<'a>(
-    text: &'a str,
-    rules: &Rules,
-    arrays: &mut Arrays<'a, '_>,
-    fields: &mut Fields<'a>,
-) -> Outcome
-    requires { (arrays.old.count ≡ 0) × (arrays.old.filled ≡ 0) }
-    ensures elements { arrays.new.elements.ghost_name ≡ arrays.old.elements.ghost_name }
-    ensures params { arrays.new.params.ghost_name ≡ arrays.old.params.ghost_name }
-    ensures reads { IsDated rules.now.dates rules.now.variant (chars text.entry.now) (λ dating. ReadsInto rules.now
-        dating (chars text.entry.now) fields.old fields.new arrays.old.elements.now arrays.new.elements.now
-        arrays.old.params.now arrays.new.params.now result) }
-{
     let dates = &rules.dates;
     let get_year = |date: IncompleteDate| -> i32
         ensures { IsYearIn dates.entry.now.today date result }
@@ -90,12 +73,12 @@ fn read_by<'a>(
         None,
         rules.variant,
         &dates.zone,
-        arrays,
+        &mut arrays,
         fields,
     ) else {
-        return read_unread(text, rules, fields);
+        return read_unread(text, &rules, fields);
     };
-    take_read(text, rules, is_ordinary, fields);
+    take_read(text, &rules, is_ordinary, fields);
     if arrays.have_space(fields.elements, fields.params) {
         Outcome::Done
     } else {
@@ -134,28 +117,22 @@ pub(crate) fn read_fields<'a>(line: &'a [u8], options: &Options, fields: &mut Fi
     ensures { OnLine options.now line.now result (fields.new ≡ fields.old)
         (λ rules dating text. ReportsFields rules dating text fields.old fields.new result) }
 {
-    let Some(rules) = rules_of(options) else {
+    let mut rules = Rules::new();
+    if !rules.take(options) {
         return Outcome::BadArgument;
-    };
+    }
     let Ok(text) = from_utf8(line) else {
         return Outcome::NotUtf8;
     };
-    read_text(text, &rules, fields)
-}
-
-// Reads the fields of the text by these rules. (By the visitor alone LLVM inlines neither of the two readings.)
-fn read_text<'a>(text: &'a str, rules: &Rules, fields: &mut Fields<'a>) -> Outcome
-    ensures { IsDated rules.now.dates rules.now.variant (chars text.entry.now)
-        (λ dating. ReportsFields rules.now dating (chars text.entry.now) fields.old fields.new result) }
-{
     let dates = &rules.dates;
     let get_year = |date: IncompleteDate| -> i32
         ensures { IsYearIn dates.entry.now.today date result }
     { dates.year_of(date) };
+    // (by the visitor alone LLVM inlines neither of the two readings)
     let Some(line) = parse_line(text, get_year, None, rules.variant, &dates.zone) else {
-        return read_unread(text, rules, fields);
+        return read_unread(text, &rules, fields);
     };
     let is_ordinary = fields.line(&line);
-    take_read(text, rules, is_ordinary, fields);
+    take_read(text, &rules, is_ordinary, fields);
     Outcome::Done
 }

@@ -9,7 +9,7 @@ ghost use Rattle.syslog_c.specs.Sent.{IsOnlyMeant, LeavesOf, RefusesSent};
 
 use crate::options::Options;
 use crate::outcome::Outcome;
-use crate::rules::rules_of;
+use crate::rules::Rules;
 use syslog_dialects::{SentLine, parse_sent_line};
 use syslog_loose::{IncompleteDate, Line, parse_line};
 use syslog_utf8::from_utf8;
@@ -25,9 +25,10 @@ pub(crate) fn read_line<'a>(
         (λ outcome. OnLine options.now line.entry.now outcome ⊤
         (λ rules dating text. Refuses rules.variant dating text outcome)) }
 {
-    let Some(rules) = rules_of(options) else {
+    let mut rules = Rules::new();
+    if !rules.take(options) {
         return Err(Outcome::BadArgument);
-    };
+    }
     let Ok(text) = from_utf8(line) else {
         return Err(Outcome::NotUtf8);
     };
@@ -53,9 +54,10 @@ pub(crate) fn read_sent_line<'a>(
         (λ outcome. OnLine options.now line.entry.now outcome ⊤
         (λ rules dating text. RefusesSent rules dating text outcome)) }
 {
-    let Some(rules) = rules_of(options) else {
+    let mut rules = Rules::new();
+    if !rules.take(options) {
         return Err(Outcome::BadArgument);
-    };
+    }
     let Ok(text) = from_utf8(line) else {
         return Err(Outcome::NotUtf8);
     };

@@ -3,9 +3,11 @@ ghost use Rattle.std.specs.Prelude.{◌≡◌, ◌↔◌, ◌<◌, ◌≤◌, Is
 ghost use Rattle.jiff.specs.Types.{Date as AnyDate, TimeZone as AnyZone};
 ghost use Rattle.jiff.specs.Words.{IsYmd, plain_zone};
 ghost use Rattle.jiff_core.specs.Calendar.{IsYear};
+ghost use Rattle.syslog_loose.specs.declared.dates.Dates.{Dates as AllDates};
 ghost use Rattle.syslog_loose.specs.declared.today.Today.{Today as AnyToday};
 ghost use Rattle.syslog_loose.specs.declared.variant.Variant.{Variant};
-ghost use Rattle.syslog_c.specs.Options.{AreRules, IsTaken, IsTextIn, IsToday, IsZoneBy, variant_number};
+ghost use Rattle.syslog_loose.specs.Today.{HasYear};
+ghost use Rattle.syslog_c.specs.Options.{AreDates, IsTextIn, IsToday, IsZoneBy, IsZoneOf, variant_number};
 
 use crate::options::Options;
 use memchr::memchr;
@@ -20,35 +22,64 @@ pub(crate) struct Rules {
     pub(crate) dialects: bool,
 }
 
-/// Returns what the options mean; none if they mean nothing.
-pub(crate) fn rules_of(options: &Options) -> Option<Rules>
-    ensures { MatchOption result (IsTaken options.now → ⊥) (λ rules. AreRules options.now rules) }
-{
-    let variant = variant_of(options.variant)?;
-    let today = today_of(options)?;
-    let dialects = options.no_dialects == 0;
-    let rule = text_in(&options.zone);
-    if rule.is_empty() {
-        // (a zone that comes by two ways is copied, and each line pays for that)
-        let Some(zone) = zone_ahead(options.offset) else {
-            return None;
-        };
-        let dates = Dates::new(today, zone);
-        return Some(Rules {
-            variant,
-            dates,
-            dialects,
-        });
+impl Rules {
+    ghost use Rattle.std.specs.Prelude.{IsTrue};
+    ghost use Rattle.syslog_c.specs.Options.{AreRules, IsTaken};
+
+    /// Returns rules for `take` to replace: they are those of options that are all 0.
+    #[inline(always)]
+    pub(crate) fn new() -> Rules {
+        Rules {
+            variant: Variant::Either,
+            dates: Dates::new(Today::Year(0), TimeZone::UTC),
+            dialects: true,
+        }
     }
-    let Some(zone) = zone_by(rule, options.offset) else {
+
+    /// Takes the rules that the options say, and returns true; returns false if they say none. (Rules that are returned
+    /// are copied, and each line pays for that.)
+    #[inline(always)]
+    pub(crate) fn take(&mut self, options: &Options) -> bool
+        ensures taken { IsTrue result → AreRules options.now self.new }
+        ensures refused { ¬ (IsTrue result) → IsTaken options.now → ⊥ }
+    {
+        let Some(variant) = variant_of(options.variant) else {
+            return false;
+        };
+        let Some(today) = month_of(options) else {
+            return false;
+        };
+        let Some(zone) = zone_ahead(options.offset) else {
+            return false;
+        };
+        self.variant = variant;
+        self.dates = Dates::new(today, zone);
+        self.dialects = options.no_dialects == 0;
+        if options.day == 0 && options.zone[0] == 0 {
+            return true;
+        }
+        match dates_of(options) {
+            Some(dates) => {
+                self.dates = dates;
+                true
+            }
+            None => false,
+        }
+    }
+}
+
+// Returns how the options, which may have a day or the rule of a zone, say that dates are completed.
+#[cold]
+#[inline(never)]
+fn dates_of(options: &Options) -> Option<Dates>
+    ensures { MatchOption result ((dates : AllDates) → AreDates options.now dates → ⊥)
+        (λ dates. AreDates options.now dates) }
+{
+    let today = today_of(options)?;
+    let Some(zone) = zone_of(options) else {
         return None;
     };
-    let dates = Dates::new(today, zone);
-    Some(Rules {
-        variant,
-        dates,
-        dialects,
-    })
+    Some(Dates::new(today, zone))
 }
 
 // The variant that has this number.
@@ -72,6 +103,14 @@ fn today_of(options: &Options) -> Option<Today>
     if options.day != 0 {
         return Some(Today::Day(day_of(options)?));
     }
+    month_of(options)
+}
+
+// Returns what options without a day say of the current one: its month, or its year alone.
+fn month_of(options: &Options) -> Option<Today>
+    ensures { MatchOption result (¬ (IsYear options.now.year × (options.now.month ≤ 12)))
+        (λ today. HasYear today × (options.now.day ≡ 0 → IsToday options.now today)) }
+{
     if !are_in_range(options) {
         return None;
     }
@@ -98,6 +137,18 @@ fn are_in_range(options: &Options) -> bool
     ensures { IsTrue result ↔ (IsYear options.now.year × (options.now.month ≤ 12)) }
 {
     options.year >= -9999 && (options.year <= 9999 && options.month <= 12)
+}
+
+// Returns the zone that the options say.
+fn zone_of(options: &Options) -> Option<TimeZone<'static>>
+    ensures { MatchOption result ((zone : AnyZone) → IsZoneOf options.now zone → ⊥)
+        (λ zone. IsZoneOf options.now (plain_zone zone)) }
+{
+    let rule = text_in(&options.zone);
+    if rule.is_empty() {
+        return zone_ahead(options.offset);
+    }
+    zone_by(rule, options.offset)
 }
 
 // Returns the zone of a rule, if there is no offset beside it.

@@ -5,7 +5,7 @@ ghost use Rattle.syslog_c.specs.Strict.{PutsStrict};
 use crate::options::Options;
 use crate::outcome::Outcome;
 use crate::room::{outcome_of, put};
-use crate::rules::rules_of;
+use crate::rules::Rules;
 use std::alloc::Global;
 use syslog_strict_sent::to_rfc5424_sent;
 use syslog_utf8::from_utf8;
@@ -35,9 +35,10 @@ fn write_strict(
     ensures { PutsStrict options.now line.now room.old room.new needed.new result }
 {
     *needed = 0;
-    let Some(rules) = rules_of(options) else {
+    let mut rules = Rules::new();
+    if !rules.take(options) {
         return Outcome::BadArgument;
-    };
+    }
     let Ok(input) = from_utf8(line) else {
         return Outcome::NotUtf8;
     };

@@ -17,7 +17,7 @@ loop-count-preserved c = (
 
 pub returns-then-is_empty : goal.returns-then-is_empty
 returns-then-is_empty c = (
-  (_, c.in-Some.ensures),
+  (_, (c.take.ensures.taken c.if-not-take.false)),
   all_lines _ _ _ _ _ _ c.loop-count.invariant.0 (none_left _ _ c.is_empty-2.ensures c.if-is_empty.true),
 )
 
@@ -29,6 +29,6 @@ returns-else-is_empty c =
           absurd (omega (arith, some, ap length (none_left _ _ w.is_empty.ensures w.if-not-is_empty.false)))
       | else-loop-count-test w ↦ omega (arith, c.loop-count.invariant.1, w.loop-count-test.false)
     ] in (
-      (_, c.in-Some.ensures),
+      (_, (c.take.ensures.taken c.if-not-take.false)),
       first_lines _ _ _ _ _ _ c.loop-count.invariant.0 some full,
     )

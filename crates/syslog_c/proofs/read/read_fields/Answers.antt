@@ -1,10 +1,32 @@
-use Rattle.syslog_c.proofs.Words.{inr, rules}
+use Rattle.syslog_c.proofs.Words.{inr, refl, rules, in_year_map, in_year_told, dating_in}
+use Rattle.std.specs.Str.{chars}
+use Rattle.syslog_c.specs.Reported.{ReportsFields}
 use Rattle.syslog_c.proofs.LineLemmas.{not_text, tried_line}
+use Rattle.syslog_c.proofs.SentLemmas.{reported, unread_reported}
 use Rattle.syslog_c.proofs.read.read_fields.Goals as goal
 
-pub returns-in_default-from_utf8 : goal.returns-in_default-from_utf8
-returns-in_default-from_utf8 c =
-    not_text _ _ _ _ c.in-Some.ensures c.in_default-from_utf8.ensures (search rules) (search rules)
+pub returns-in_default : goal.returns-in_default
+returns-in_default c = not_text _ _ _ _ (c.take.ensures.taken c.if-not-take.false) c.in_default.ensures
+    (search rules) (search rules)
+
+pub returns-in_default-parse_line : goal.returns-in_default-parse_line
+returns-in_default-parse_line c =
+    let a = c.args in
+    let by = c.take.new.self in
+    let text = chars c.in-Ok.text.now in
+    inr (inr (tried_line (λ are dating text. ReportsFields are dating text a.fields.now c.read_unread.new.fields
+    c.read_unread.result) _ _ _ _ (c.take.ensures.taken c.if-not-take.false) c.in-Ok.ensures
+    (in_year_told (in_year_map (λ year none. unread_reported by (dating_in _ year) text a.fields.now a.fields.now
+    c.read_unread.new.fields c.read_unread.result refl (c.read_unread.ensures (dating_in _ year) none))
+    c.in_default-parse_line.ensures.reads) (λ date year is. is.1))))
 
 pub returns : goal.returns
-returns c = inr (inr (tried_line _ _ _ _ _ c.in-Some.ensures c.in-Ok.ensures c.read_text.ensures))
+returns c =
+    let a = c.args in
+    let by = c.take.new.self in
+    let text = chars c.in-Ok.text.now in
+    inr (inr (tried_line _ _ _ _ _ (c.take.ensures.taken c.if-not-take.false) c.in-Ok.ensures
+    (in_year_told (in_year_map (λ year of. reported by (dating_in _ year) text _ a.fields.now c.take_read.new.fields
+    (c.take_read.ensures (dating_in _ year) c.in-Some.line of c.line-is_ordinary.ensures.0
+    c.line-is_ordinary.ensures.1))
+    c.in-Some.ensures.reads) (λ date year is. is.1))))
