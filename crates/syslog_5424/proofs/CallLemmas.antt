@@ -8,7 +8,7 @@ use Rattle.syslog_choice.specs.Chosen.{IsChosen}
 use Rattle.syslog_choice.specs.declared.Choice.{Choice}
 use Rattle.syslog_dialects.proofs.SentReadingLemmas.{read_once}
 use Rattle.syslog_dialects.specs.SentReading.{IsReadSent, IsUnsent}
-use Rattle.syslog_dialects.specs.declared.dialect.Dialect.{Dialect}
+use Rattle.syslog_sent.specs.declared.dialect.Dialect.{Dialect}
 use Rattle.syslog_dialects.specs.declared.visit.SentLine.{SentLine}
 use Rattle.syslog_loose.proofs.ReadingLemmas.{in_year_map, invalid_or_memory}
 use Rattle.syslog_loose.proofs.ReckoningLemmas.{one_dating}

@@ -11,7 +11,7 @@ use Rattle.syslog_lines.specs.Pump.{FiltersAll}
 use Rattle.syslog_lines.specs.declared.framing.Frames.{Frames}
 use Rattle.syslog_lines.specs.declared.summary.LineCounts.{LineCounts}
 use Rattle.syslog_dialects.specs.SentReading.{IsReadSent, IsUnsent}
-use Rattle.syslog_dialects.specs.declared.dialect.Dialect.{Dialect}
+use Rattle.syslog_sent.specs.declared.dialect.Dialect.{Dialect}
 use Rattle.syslog_strict.specs.{Call.NoSyslogMsg, Grammar.IsSyslogMsg}
 use Rattle.syslog_strict_sent.specs.Converted.{IsSentText}
 use Rattle.syslog_choice.specs.Chosen.{IsChosen}

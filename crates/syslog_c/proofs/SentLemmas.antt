@@ -15,7 +15,7 @@ use Rattle.syslog_loose.specs.Unparsed.{IsLeftUnparsed}
 use Rattle.syslog_dialects.specs.Ordinary.{IsOrdinary}
 use Rattle.syslog_dialects.specs.SentReading.{AreAsked, HasFlags, IsDialectLine, IsInNone, IsLeft, MayBegin}
 use Rattle.syslog_dialects.specs.SentReading.{LeavesSent, Shows, Stands}
-use Rattle.syslog_dialects.specs.declared.dialect.Dialect.{Dialect}
+use Rattle.syslog_sent.specs.declared.dialect.Dialect.{Dialect}
 use Rattle.syslog_dialects.specs.declared.visit.SentLine.{SentLine}
 use Rattle.syslog_c.specs.OfLine.{AreOfLine}
 use Rattle.syslog_c.specs.Sent.{IsMeant, IsOnlyMeant}

@@ -6,7 +6,7 @@ use Rattle.syslog_loose.specs.Rfc3164.{IsRead3164}
 use Rattle.syslog_loose.specs.Rfc5424.{IsRead5424}
 use Rattle.syslog_loose.specs.declared.variant.Variant.TheVariants.{Either, RFC3164, RFC5424}
 use Rattle.syslog_loose.proofs.Rfc3164Lemmas.{shown_apart}
-use Rattle.syslog_dialects.specs.declared.dialect.Dialect.{Dialect}
+use Rattle.syslog_sent.specs.declared.dialect.Dialect.{Dialect}
 use Rattle.syslog_c.specs.Fields.{AreFields, protocol_number}
 use Rattle.syslog_c.specs.OfLine.{AreOfLine}
 use Rattle.syslog_loose.specs.Line.{line_value}

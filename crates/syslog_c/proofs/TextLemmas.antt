@@ -13,7 +13,7 @@ use Rattle.syslog_loose.specs.declared.fault.ParseFault.TheVariants.{Invalid, Me
 use Rattle.syslog_c.specs.Room.{HasTaken, IsLeftFor, Puts, Takes, ReportsLength}
 use Rattle.syslog_c.{specs.Texts.PutsObject, specs.Texts.Settled, specs.declared.room.Buffer.Buffer}
 use Rattle.syslog_c.proofs.Words.{MessageValue, Option}
-use Rattle.syslog_dialects.specs.declared.dialect.Dialect.{Dialect}
+use Rattle.syslog_sent.specs.declared.dialect.Dialect.{Dialect}
 
 -- what the characters of a literal unfold
 unfoldable pub chars_of_literals : ⊤

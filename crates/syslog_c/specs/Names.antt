@@ -3,8 +3,8 @@
 use Rattle.std.specs.Prelude.{◌≡◌, ◌⊎◌, ℕ, codes, List, [], ◌∷◌}
 use Rattle.std.specs.Str.{chars}
 use Rattle.syslog_pieces.specs.Pieces.Class.{Text as Chars}
-use Rattle.syslog_dialects.specs.Dialect.{dialect_name, dialect_number}
-use Rattle.syslog_dialects.specs.declared.dialect.Dialect.{Dialect}
+use Rattle.syslog_sent.specs.Dialect.{dialect_name, dialect_number}
+use Rattle.syslog_sent.specs.declared.dialect.Dialect.{Dialect}
 use Rattle.syslog_c.specs.Fields.{IsNoText, IsText}
 use Rattle.syslog_c.specs.declared.fields.Text.{Text}
 

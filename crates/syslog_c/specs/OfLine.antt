@@ -6,7 +6,7 @@ use Rattle.syslog_loose.specs.Line.{line_value}
 use Rattle.syslog_loose.specs.Unparsed.{IsLeftUnparsed}
 use Rattle.syslog_loose.specs.declared.line.Line.{Line}
 use Rattle.syslog_dialects.specs.SentReading.{LeavesSent}
-use Rattle.syslog_dialects.specs.declared.dialect.Dialect.{Dialect}
+use Rattle.syslog_sent.specs.declared.dialect.Dialect.{Dialect}
 use Rattle.syslog_c.specs.Fields.{AreFields, IsOptionalText}
 use Rattle.syslog_c.specs.declared.fields.Fields.{Fields}
 use Rattle.syslog_c.specs.declared.rules.Rules.{Rules}

@@ -8,7 +8,7 @@ use Rattle.syslog_loose.specs.Message.{MessageValue}
 use Rattle.syslog_loose.specs.Reading.{IsOnlyRead, dash_rule}
 use Rattle.syslog_loose.specs.declared.variant.Variant.{Variant}
 use Rattle.syslog_dialects.specs.SentReading.{IsUnsent}
-use Rattle.syslog_dialects.specs.declared.dialect.Dialect.{Dialect}
+use Rattle.syslog_sent.specs.declared.dialect.Dialect.{Dialect}
 use Rattle.syslog_c.specs.Fields.{AreFields, IsBegun, IsElement, IsParam, all_params}
 use Rattle.syslog_c.specs.Line.{Refuses}
 use Rattle.syslog_c.specs.OfLine.{HasUnparsed}

@@ -4,9 +4,9 @@ use Rattle.syslog_pieces.specs.Pieces.Class.{Text}
 use Rattle.syslog_pieces.specs.Timestamp.Zone.{Dating}
 use Rattle.syslog_loose.specs.Message.{MessageValue}
 use Rattle.syslog_loose.specs.Unparsed.{IsLeftUnparsed}
-use Rattle.syslog_dialects.specs.Dialect.{dialect_number}
+use Rattle.syslog_sent.specs.Dialect.{dialect_number}
 use Rattle.syslog_dialects.specs.SentReading.{IsReadSent, IsUnsent, LeavesSent}
-use Rattle.syslog_dialects.specs.declared.dialect.Dialect.{Dialect}
+use Rattle.syslog_sent.specs.declared.dialect.Dialect.{Dialect}
 use Rattle.syslog_dialects.specs.declared.visit.SentLine.{SentLine}
 use Rattle.syslog_c.specs.declared.outcome.Outcome.{Outcome}
 use Rattle.syslog_c.specs.declared.outcome.Outcome.TheVariants.{NoReading}

@@ -7,7 +7,7 @@ use Rattle.syslog_pieces.specs.Timestamp.Zone.{Dating}
 use Rattle.syslog_loose.specs.Message.{MessageValue}
 use Rattle.syslog_loose.specs.Passes.{ShowsNoDate}
 use Rattle.syslog_dialects.specs.SentReading.{HasFlags}
-use Rattle.syslog_dialects.specs.declared.dialect.Dialect.{Dialect}
+use Rattle.syslog_sent.specs.declared.dialect.Dialect.{Dialect}
 use Rattle.syslog_c.specs.declared.fields.Stamp.{Stamp}
 use Rattle.syslog_c.specs.declared.rules.Rules.{Rules}
 

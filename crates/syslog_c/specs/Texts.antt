@@ -10,9 +10,9 @@ use Rattle.syslog_loose.specs.Reading.{IsOnlyRead}
 use Rattle.syslog_loose.specs.Settling.{IsSettlingFault, SettlesAs}
 use Rattle.syslog_loose.specs.declared.fault.ParseFault.TheVariants.{Invalid, Memory}
 use Rattle.syslog_loose.specs.declared.variant.Variant.{Variant}
-use Rattle.syslog_dialects.specs.Dialect.{dialect_text}
+use Rattle.syslog_sent.specs.Dialect.{dialect_text}
 use Rattle.syslog_dialects.specs.SentReading.{LeavesSent}
-use Rattle.syslog_dialects.specs.declared.dialect.Dialect.{Dialect}
+use Rattle.syslog_sent.specs.declared.dialect.Dialect.{Dialect}
 use Rattle.syslog_object.specs.Object.{beside_line, message_json}
 use Rattle.syslog_object.specs.Written.{IsTextOf}
 use Rattle.syslog_utf8.specs.Decoded.{AreTakenFor}

@@ -13,7 +13,7 @@ ghost use Rattle.syslog_loose.specs.Visit.{IsLineOf};
 ghost use Rattle.syslog_loose.specs.declared.line.Line.{Line as AnyLine};
 ghost use Rattle.syslog_dialects.specs.Ordinary.{IsOrdinary};
 ghost use Rattle.syslog_dialects.specs.SentReading.{IsUnsent, Shows};
-ghost use Rattle.syslog_dialects.specs.declared.dialect.Dialect.{Dialect};
+ghost use Rattle.syslog_sent.specs.declared.dialect.Dialect.{Dialect};
 ghost use Rattle.syslog_c.specs.OfLine.{AreOfLine};
 ghost use Rattle.syslog_c.specs.Shown.{IsShownIn};
 ghost use Rattle.syslog_c.specs.Reported.{AreMeant};

@@ -18,53 +18,56 @@ use Rattle.syslog_loose.specs.TagForm.{IsForm, IsIdOf}
 use Rattle.syslog_loose.specs.declared.dates.Dates.{Dates}
 use Rattle.syslog_loose.proofs.Rfc3164Lemmas.{one_form}
 use Rattle.syslog_loose.proofs.Rfc3164Lemmas.Near.{form_parts}
-use Rattle.syslog_dialects.specs.Cisco.{IsAsa, IsMnemonic, IsNxOs, cisco_forms, cisco_row, cisco_sent}
-use Rattle.syslog_dialects.specs.Cisco.{counter_row, date_row, begins_host, dated_in, label, label_row, labelled}
-use Rattle.syslog_dialects.specs.Cisco.{mark, message_row, mnemonic, origin, place, place_row, start, start_row}
-use Rattle.syslog_dialects.specs.Cisco.{task_row}
-use Rattle.syslog_dialects.specs.Cisco as cisco
-use Rattle.syslog_dialects.specs.Container.{container_row, output}
-use Rattle.syslog_dialects.specs.Date.{any_date, iso_date, odd_bsd_date, odd_iso_date}
-use Rattle.syslog_dialects.specs.Dated.{bsd_row, dated_sent, iso_row, journal_row, weekday}
-use Rattle.syslog_dialects.specs.DatedForms.{later_forms, xr_forms}
-use Rattle.syslog_dialects.specs.Dialects.{IsOfFirst, dated_forms, forms_of, last_forms, late_forms, named_forms}
-use Rattle.syslog_dialects.specs.Esxi.{esxi_row, esxi_sent, mark_row}
-use Rattle.syslog_dialects.specs.Filed.{IsAny, filed_forms, filed_row, filed_sent}
+use Rattle.syslog_dated_forms.specs.Cisco.{IsAsa, IsMnemonic, IsNxOs, cisco_forms, cisco_row, cisco_sent}
+use Rattle.syslog_dated_forms.specs.Cisco.{counter_row, date_row, begins_host, dated_in, label, label_row, labelled}
+use Rattle.syslog_dated_forms.specs.Cisco.{mark, message_row, mnemonic, origin, place, place_row, start, start_row}
+use Rattle.syslog_dated_forms.specs.Cisco.{task_row}
+use Rattle.syslog_dated_forms.specs.Cisco as cisco
+use Rattle.syslog_dated_forms.specs.Container.{container_row, output}
+use Rattle.syslog_sent.specs.Date.{any_date, iso_date, odd_bsd_date, odd_iso_date}
+use Rattle.syslog_dated_forms.specs.Dated.{bsd_row, dated_sent, iso_row, journal_row}
+use Rattle.syslog_sent.specs.Date.{weekday}
+use Rattle.syslog_dated_forms.specs.DatedForms.{later_forms, xr_forms}
+use Rattle.syslog_sent.specs.Forms.{IsOfFirst}
+use Rattle.syslog_dialects.specs.Dialects.{dated_forms, forms_of, last_forms, late_forms, named_forms}
+use Rattle.syslog_dated_forms.specs.Esxi.{esxi_row, esxi_sent, mark_row}
+use Rattle.syslog_dated_forms.specs.Filed.{IsAny, filed_forms, filed_row, filed_sent}
 use Rattle.syslog_dialects.specs.Found.{AreFound, AreInOrder, Date, IsDateOf, IsFoundIn, IsTold, Name, Part}
 use Rattle.syslog_dialects.specs.Found.{Tells, Version, beside, cisco_hosts, cisco_left_out, date_first, filed_date}
 use Rattle.syslog_dialects.specs.Found.{filed_device, filed_rest, forwarded_words, host_alone, host_first, if_there}
 use Rattle.syslog_dialects.specs.Found.{is_sign, left_of, left_out, relay, second_place, serial}
-use Rattle.syslog_dialects.specs.Header.{header_row, header_says}
-use Rattle.syslog_dialects.specs.IosXr.{card, card_row, host_in, node, process, process_in, process_row, xr_row}
-use Rattle.syslog_dialects.specs.IosXr.{xr_sent}
-use Rattle.syslog_dialects.specs.IosXr as xr
-use Rattle.syslog_dialects.specs.Named.{BeginsWith, NamedTexts, after_row, beginning, hosted, is_letter}
-use Rattle.syslog_dialects.specs.Named.{◌otherwise◌}
-use Rattle.syslog_dialects.specs.NamedForms.{Tail, dated_form, dated_row, forwarded_tail, front_row, hostless_tail}
-use Rattle.syslog_dialects.specs.NamedForms.{marked_tail, message_tails, program_forms, program_tails, says}
-use Rattle.syslog_dialects.specs.NamedForms.{serial_tail}
-use Rattle.syslog_dialects.specs.NamedForms.{severity_tail, tail_forms, undated_form, undated_forms, undated_row}
-use Rattle.syslog_dialects.specs.NamedForms.{worded_tail}
-use Rattle.syslog_dialects.specs.NetScaler.{netscaler_row, slashed_date}
-use Rattle.syslog_dialects.specs.OpenWrt.{logread_row, logread_sent}
-use Rattle.syslog_dialects.specs.Pairs.{bare, either_text, first_value, is_host_key, pair, pair_row, paired, value}
-use Rattle.syslog_dialects.specs.Pairs.{pairs_form, pairs_row, quoted, quoted_row}
+use Rattle.syslog_named_forms.specs.Header.{header_row, header_says}
+use Rattle.syslog_dated_forms.specs.IosXr.{card, card_row, host_in, node, process, process_in, process_row, xr_row}
+use Rattle.syslog_dated_forms.specs.IosXr.{xr_sent}
+use Rattle.syslog_dated_forms.specs.IosXr as xr
+use Rattle.syslog_sent.specs.Named.{BeginsWith, NamedTexts, after_row, beginning, hosted, is_letter}
+use Rattle.syslog_sent.specs.Named.{◌otherwise◌}
+use Rattle.syslog_named_forms.specs.NamedForms.{Tail, dated_form, dated_row, forwarded_tail, front_row, hostless_tail}
+use Rattle.syslog_named_forms.specs.NamedForms.{marked_tail, message_tails, program_forms, program_tails, says}
+use Rattle.syslog_named_forms.specs.NamedForms.{serial_tail}
+use Rattle.syslog_named_forms.specs.NamedForms.{severity_tail, tail_forms, undated_form, undated_forms, undated_row}
+use Rattle.syslog_named_forms.specs.NamedForms.{worded_tail}
+use Rattle.syslog_dated_forms.specs.NetScaler.{netscaler_row, slashed_date}
+use Rattle.syslog_dated_forms.specs.OpenWrt.{logread_row, logread_sent}
+use Rattle.syslog_named_forms.specs.Pairs.{bare, either_text, first_value, is_host_key, pair, pair_row, paired, value}
+use Rattle.syslog_named_forms.specs.Pairs.{pairs_form, pairs_row, quoted, quoted_row}
 use Rattle.syslog_dialects.specs.PriorityAlone.{IsAlone, alone_row, program_row, program_sent}
-use Rattle.syslog_dialects.specs.ProCurve.{procurve_row, procurve_sent}
-use Rattle.syslog_dialects.specs.Programs.{forwarded_of, forwarded_row, grade, hostless_row, passed_on, selector_row}
-use Rattle.syslog_dialects.specs.Programs.{serial_row, severity_row, worded_row, words_row}
-use Rattle.syslog_dialects.specs.Runs.{is_unquoted, is_word_char}
-use Rattle.syslog_dialects.specs.Sent.{Form, IsSent, SentValue, loose}
+use Rattle.syslog_dated_forms.specs.ProCurve.{procurve_row, procurve_sent}
+use Rattle.syslog_named_forms.specs.Programs.{forwarded_of, forwarded_row, grade, hostless_row, passed_on}
+use Rattle.syslog_sent.specs.Selector.{selector_row}
+use Rattle.syslog_named_forms.specs.Programs.{serial_row, severity_row, worded_row, words_row}
+use Rattle.syslog_sent.specs.Runs.{is_unquoted, is_word_char}
+use Rattle.syslog_sent.specs.Sent.{Form, IsSent, SentValue, loose}
 use Rattle.syslog_dialects.specs.SentReading.{IsSentIn}
-use Rattle.syslog_dialects.specs.SophosUtm.{colon_date, utm_row}
-use Rattle.syslog_dialects.specs.Tail.{TailValue, spare, tail, tail_row, wide_row, wide_tail}
-use Rattle.syslog_dialects.specs.UnixSeconds.{meraki_row, meraki_sent, short_row, short_sent, unix_date}
-use Rattle.syslog_dialects.specs.Untagged.{mark_class, marked, marked_of}
-use Rattle.syslog_dialects.specs.declared.dialect.Dialect.{Dialect}
-use Rattle.syslog_dialects.specs.declared.dialect.Dialect.TheVariants as dialect
-use Rattle.syslog_dialects.specs.declared.sent.SentDate.{SentDate}
-use Rattle.syslog_dialects.specs.declared.untagged.Mark.{Mark}
-use Rattle.syslog_dialects.specs.declared.untagged.Mark.TheVariants as mark_of
+use Rattle.syslog_dated_forms.specs.SophosUtm.{colon_date, utm_row}
+use Rattle.syslog_dated_forms.specs.Tail.{TailValue, spare, tail, tail_row, wide_row, wide_tail}
+use Rattle.syslog_dated_forms.specs.UnixSeconds.{meraki_row, meraki_sent, short_row, short_sent, unix_date}
+use Rattle.syslog_named_forms.specs.Untagged.{mark_class, marked, marked_of}
+use Rattle.syslog_sent.specs.declared.dialect.Dialect.{Dialect}
+use Rattle.syslog_sent.specs.declared.dialect.Dialect.TheVariants as dialect
+use Rattle.syslog_sent.specs.declared.sent.SentDate.{SentDate}
+use Rattle.syslog_named_forms.specs.declared.untagged.Mark.{Mark}
+use Rattle.syslog_named_forms.specs.declared.untagged.Mark.TheVariants as mark_of
 use Rattle.syslog_dialects.proofs.MessageLemmas.{end_of, whole_of}
 use Rattle.syslog_dialects.proofs.OrderLemmas.{Ending, Shows, a_colon, a_date, a_gap, a_host, a_name, a_program, a_sign}
 use Rattle.syslog_dialects.proofs.OrderLemmas.{a_word, an_id, bare as bare_text, before_rest, blank_signs, blanks}

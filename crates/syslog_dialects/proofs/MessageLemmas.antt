@@ -18,45 +18,46 @@ use Rattle.syslog_pieces.proofs.ProcIdLemmas.{named_names}
 use Rattle.syslog_loose.proofs.PrintedLemmas.{drop_ends, visible_ends_blanks}
 use Rattle.syslog_loose.specs.Message.{MessageValue}
 use Rattle.syslog_loose.specs.declared.dates.Dates.{Dates}
-use Rattle.syslog_dialects.specs.Cisco.{IsAsa, IsNxOs, cisco_forms, cisco_row, cisco_sent, message_row}
-use Rattle.syslog_dialects.specs.Cisco as cisco
-use Rattle.syslog_dialects.specs.Container.{IsStream, container_row, output, stream_row}
-use Rattle.syslog_dialects.specs.Dated.{bsd_row, dated_sent, iso_row, journal_row}
-use Rattle.syslog_dialects.specs.DatedForms.{later_forms, xr_forms}
-use Rattle.syslog_dialects.specs.Dialects.{IsOfFirst, dated_forms, forms_of, last_forms, late_forms, named_forms}
-use Rattle.syslog_dialects.specs.Esxi.{esxi_row, esxi_sent}
-use Rattle.syslog_dialects.specs.Filed.{IsAny, filed_form, filed_forms, filed_front, filed_row, filed_sent}
-use Rattle.syslog_dialects.specs.Header.{header_row, header_says}
-use Rattle.syslog_dialects.specs.IosXr.{process, process_in, process_row, xr_row, xr_sent}
-use Rattle.syslog_dialects.specs.Named.{NamedTexts, after_row, beginning, hosted}
-use Rattle.syslog_dialects.specs.NamedForms.{Tail, dated_form, dated_row, front_row, marked_tail, message_tails}
-use Rattle.syslog_dialects.specs.NamedForms.{forwarded_tail, hostless_tail, program_forms, program_tails, says}
-use Rattle.syslog_dialects.specs.NamedForms.{serial_tail, severity_tail, tail_forms, undated_form, undated_forms}
-use Rattle.syslog_dialects.specs.NamedForms.{undated_row, worded_tail}
-use Rattle.syslog_dialects.specs.NetScaler.{netscaler_row}
-use Rattle.syslog_dialects.specs.OpenWrt.{logread_row, logread_sent}
-use Rattle.syslog_dialects.specs.Pairs.{paired, pairs_row}
+use Rattle.syslog_dated_forms.specs.Cisco.{IsAsa, IsNxOs, cisco_forms, cisco_row, cisco_sent, message_row}
+use Rattle.syslog_dated_forms.specs.Cisco as cisco
+use Rattle.syslog_dated_forms.specs.Container.{IsStream, container_row, output, stream_row}
+use Rattle.syslog_dated_forms.specs.Dated.{bsd_row, dated_sent, iso_row, journal_row}
+use Rattle.syslog_dated_forms.specs.DatedForms.{later_forms, xr_forms}
+use Rattle.syslog_sent.specs.Forms.{IsOfFirst}
+use Rattle.syslog_dialects.specs.Dialects.{dated_forms, forms_of, last_forms, late_forms, named_forms}
+use Rattle.syslog_dated_forms.specs.Esxi.{esxi_row, esxi_sent}
+use Rattle.syslog_dated_forms.specs.Filed.{IsAny, filed_form, filed_forms, filed_front, filed_row, filed_sent}
+use Rattle.syslog_named_forms.specs.Header.{header_row, header_says}
+use Rattle.syslog_dated_forms.specs.IosXr.{process, process_in, process_row, xr_row, xr_sent}
+use Rattle.syslog_sent.specs.Named.{NamedTexts, after_row, beginning, hosted}
+use Rattle.syslog_named_forms.specs.NamedForms.{Tail, dated_form, dated_row, front_row, marked_tail, message_tails}
+use Rattle.syslog_named_forms.specs.NamedForms.{forwarded_tail, hostless_tail, program_forms, program_tails, says}
+use Rattle.syslog_named_forms.specs.NamedForms.{serial_tail, severity_tail, tail_forms, undated_form, undated_forms}
+use Rattle.syslog_named_forms.specs.NamedForms.{undated_row, worded_tail}
+use Rattle.syslog_dated_forms.specs.NetScaler.{netscaler_row}
+use Rattle.syslog_dated_forms.specs.OpenWrt.{logread_row, logread_sent}
+use Rattle.syslog_named_forms.specs.Pairs.{paired, pairs_row}
 use Rattle.syslog_dialects.specs.PriorityAlone.{IsAlone, alone_row, program_row, program_sent}
-use Rattle.syslog_dialects.specs.ProCurve.{procurve_row, procurve_sent}
-use Rattle.syslog_dialects.specs.Programs.{forwarded_of, forwarded_row, hostless_row, passed_on, serial_row}
-use Rattle.syslog_dialects.specs.Programs.{severity_row, worded_row}
-use Rattle.syslog_dialects.specs.Sent.{Form, IsSent, SentValue, loose}
+use Rattle.syslog_dated_forms.specs.ProCurve.{procurve_row, procurve_sent}
+use Rattle.syslog_named_forms.specs.Programs.{forwarded_of, forwarded_row, hostless_row, passed_on, serial_row}
+use Rattle.syslog_named_forms.specs.Programs.{severity_row, worded_row}
+use Rattle.syslog_sent.specs.Sent.{Form, IsSent, SentValue, loose}
 use Rattle.syslog_dialects.specs.SentReading.{IsSentIn}
-use Rattle.syslog_dialects.specs.SophosUtm.{utm_row}
-use Rattle.syslog_dialects.specs.Tail.{TailValue, tail, tail_row, wide_row, wide_tail}
-use Rattle.syslog_dialects.specs.UnixSeconds.{meraki_row, meraki_sent, short_row, short_sent}
-use Rattle.syslog_dialects.specs.Untagged.{mark_class, marked, marked_of}
-use Rattle.syslog_dialects.specs.Zone.{bare_word}
-use Rattle.syslog_dialects.specs.declared.dialect.Dialect.{Dialect}
-use Rattle.syslog_dialects.specs.declared.dialect.Dialect.TheVariants.{PriorityAlone, BsdDate, NearlyRfc3339, Journal}
-use Rattle.syslog_dialects.specs.declared.dialect.Dialect.TheVariants.{CiscoIos, CiscoNxOs, CiscoAsa, CiscoUndated}
-use Rattle.syslog_dialects.specs.declared.dialect.Dialect.TheVariants.{Container, CiscoIosXr, NetScaler, ProCurve}
-use Rattle.syslog_dialects.specs.declared.dialect.Dialect.TheVariants.{Repeated, Cef, Leef, PaloAlto, KeyValue, Json}
-use Rattle.syslog_dialects.specs.declared.dialect.Dialect.TheVariants.{Idrac, Log4j, SeverityFirst, NoHost, Heroku}
-use Rattle.syslog_dialects.specs.declared.dialect.Dialect.TheVariants.{Bracketed, MikroTik, SophosUtm, UnixSeconds}
-use Rattle.syslog_dialects.specs.declared.dialect.Dialect.TheVariants.{Esxi}
-use Rattle.syslog_dialects.specs.declared.untagged.Mark.{Mark}
-use Rattle.syslog_dialects.specs.declared.untagged.Mark.TheVariants as mark
+use Rattle.syslog_dated_forms.specs.SophosUtm.{utm_row}
+use Rattle.syslog_dated_forms.specs.Tail.{TailValue, tail, tail_row, wide_row, wide_tail}
+use Rattle.syslog_dated_forms.specs.UnixSeconds.{meraki_row, meraki_sent, short_row, short_sent}
+use Rattle.syslog_named_forms.specs.Untagged.{mark_class, marked, marked_of}
+use Rattle.syslog_sent.specs.Zone.{bare_word}
+use Rattle.syslog_sent.specs.declared.dialect.Dialect.{Dialect}
+use Rattle.syslog_sent.specs.declared.dialect.Dialect.TheVariants.{PriorityAlone, BsdDate, NearlyRfc3339, Journal}
+use Rattle.syslog_sent.specs.declared.dialect.Dialect.TheVariants.{CiscoIos, CiscoNxOs, CiscoAsa, CiscoUndated}
+use Rattle.syslog_sent.specs.declared.dialect.Dialect.TheVariants.{Container, CiscoIosXr, NetScaler, ProCurve}
+use Rattle.syslog_sent.specs.declared.dialect.Dialect.TheVariants.{Repeated, Cef, Leef, PaloAlto, KeyValue, Json}
+use Rattle.syslog_sent.specs.declared.dialect.Dialect.TheVariants.{Idrac, Log4j, SeverityFirst, NoHost, Heroku}
+use Rattle.syslog_sent.specs.declared.dialect.Dialect.TheVariants.{Bracketed, MikroTik, SophosUtm, UnixSeconds}
+use Rattle.syslog_sent.specs.declared.dialect.Dialect.TheVariants.{Esxi}
+use Rattle.syslog_named_forms.specs.declared.untagged.Mark.{Mark}
+use Rattle.syslog_named_forms.specs.declared.untagged.Mark.TheVariants as mark
 
 -- ---- the end of a text
 

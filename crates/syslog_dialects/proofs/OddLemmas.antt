@@ -8,7 +8,7 @@ use Rattle.std.specs.Prelude.{nat_eq, slice_index, ◌&&◌, IsTrue}
 use Rattle.std.specs.Str.{IsUtf8, chars, encode_utf8_all}
 use Rattle.syslog_pieces.specs.Pieces.Class.{Text}
 use Rattle.syslog_pieces.proofs.TextLemmas.Runs.{ascii_ahead, chars_nonempty, one_ascii}
-use Rattle.syslog_dialects.specs.Named.{is_letter}
+use Rattle.syslog_sent.specs.Named.{is_letter}
 use Rattle.syslog_dialects.specs.Ordinary.{BeginsPlainly, begins_oddly, has_bracket, is_level_mark, is_odd_app}
 
 oddly_low : (c : ℕ) → begins_oddly c ≡ true → c < 128

@@ -10,10 +10,10 @@ use Rattle.syslog_pieces.specs.Text.CharClass.{is_id_char, is_label_char}
 use Rattle.syslog_pieces.proofs.PieceLemmas.Class.{◌also◌, absent_stays, each_map, firsts, front_of, lasts, nil_front}
 use Rattle.syslog_pieces.proofs.PieceLemmas.Class.{present_front, rest_whole, row_head, rows_split, spaced_parts}
 use Rattle.syslog_dialects.specs.Found.{Date, IsDateOf, IsLeftOut, Name, Part, Says, Tells, if_there, is_sign}
-use Rattle.syslog_dialects.specs.Named.{BeginsWith, ProgramText, begins_name, id_of, id_row, name, process_id}
-use Rattle.syslog_dialects.specs.Named.{program, program_of, program_row}
-use Rattle.syslog_dialects.specs.Zone.{bare_word}
-use Rattle.syslog_dialects.specs.declared.sent.SentDate.{SentDate}
+use Rattle.syslog_sent.specs.Named.{BeginsWith, ProgramText, begins_name, id_of, id_row, name, process_id}
+use Rattle.syslog_sent.specs.Named.{program, program_of, program_row}
+use Rattle.syslog_sent.specs.Zone.{bare_word}
+use Rattle.syslog_sent.specs.declared.sent.SentDate.{SentDate}
 use Rattle.syslog_dialects.proofs.MessageLemmas.{end_of, whole_of}
 
 -- ---- a piece, and what is told after it

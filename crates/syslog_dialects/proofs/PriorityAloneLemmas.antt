@@ -13,9 +13,9 @@ use Rattle.syslog_pieces.proofs.TextLemmas.Words.{end_told, number_det}
 use Rattle.std.specs.Char.{is_ascii_digit}
 use Rattle.syslog_pieces.proofs.PieceLemmas.Class.{exactly_det, texted_det}
 use Rattle.syslog_pieces.specs.Pieces.Class.{some_run}
-use Rattle.syslog_dialects.proofs.NamedLemmas.{name_det}
+use Rattle.syslog_sent.proofs.NamedLemmas.{name_det}
 use Rattle.syslog_dialects.specs.PriorityAlone.{IsAlone, alone_form, alone_row, program_row, version_row}
-use Rattle.syslog_dialects.specs.Sent.{IsOnlySent, SentValue, loose}
+use Rattle.syslog_sent.specs.Sent.{IsOnlySent, SentValue, loose}
 
 pub version_det : AllDeterministic version_row
 version_det = number_det 4294967295 also some_run_det is_blank also tt

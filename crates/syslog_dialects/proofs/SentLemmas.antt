@@ -16,7 +16,7 @@ use Rattle.syslog_loose.specs.Reading.{IncompleteDate}
 use Rattle.jiff.proofs.SpanFacts.{signed_arith}
 use Rattle.syslog_loose.specs.declared.dates.Dates.{Dates}
 use Rattle.syslog_dialects.specs.SentLine.{HasStamp, IsSentStamp, IsSentYear, IsStampIn, IsYearWith, sent_fields}
-use Rattle.syslog_dialects.specs.declared.sent.SentDate.{SentDate}
+use Rattle.syslog_sent.specs.declared.sent.SentDate.{SentDate}
 
 stamp_in_once : (dates : Dates) (offset : Option ℤ) (f : CivilFields) (s t : OffsetTimestamp)
     → IsStampIn dates offset f s

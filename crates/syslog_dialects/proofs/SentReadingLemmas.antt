@@ -21,17 +21,18 @@ use Rattle.syslog_pieces.proofs.StructuredDataLemmas.Unparsed.{nothing_leaves, u
 use Rattle.syslog_loose.specs.declared.dates.Dates.{Dates}
 use Rattle.syslog_loose.specs.declared.line.Line.{Line}
 use Rattle.syslog_loose.specs.declared.variant.Variant.{Variant}
-use Rattle.syslog_dialects.specs.Dialects.{IsOfFirst, IsOfNone, IsOnlyOf, forms_of}
+use Rattle.syslog_sent.specs.Forms.{IsOfFirst, IsOfNone, IsOnlyOf}
+use Rattle.syslog_dialects.specs.Dialects.{forms_of}
 use Rattle.syslog_dialects.specs.Ordinary.{IsOrdinary}
-use Rattle.syslog_dialects.specs.Sent.{SentValue}
+use Rattle.syslog_sent.specs.Sent.{SentValue}
 use Rattle.syslog_dialects.specs.SentLine.{HasNoStamp, HasStamp, sent_message}
 use Rattle.syslog_dialects.specs.SentReading.{AreAsked, IsDialectLine, IsInNone, IsLeft}
 use Rattle.syslog_dialects.specs.SentReading.{HasFlags, IsReadSent, IsSentAnswer, IsSentIn, LeavesSent, MayBegin}
 use Rattle.syslog_dialects.specs.SentReading.{Shows, Stands, shows_offset, shows_year}
-use Rattle.syslog_dialects.specs.declared.dialect.Dialect.{Dialect}
-use Rattle.syslog_dialects.specs.declared.sent.SentDate.{SentDate}
+use Rattle.syslog_sent.specs.declared.dialect.Dialect.{Dialect}
+use Rattle.syslog_sent.specs.declared.sent.SentDate.{SentDate}
 use Rattle.syslog_dialects.specs.declared.visit.SentLine.{SentLine}
-use Rattle.syslog_dialects.proofs.DialectLemmas.{none_first}
+use Rattle.syslog_sent.proofs.DialectLemmas.{none_first}
 use Rattle.syslog_dialects.proofs.OrdinaryLemmas.{ordinary_too}
 use Rattle.syslog_dialects.proofs.SentLemmas.{stamp_once}
 

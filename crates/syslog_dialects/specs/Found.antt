@@ -10,28 +10,28 @@ use Rattle.syslog_pieces.specs.Text.{host, is_blank, number, tag_word}
 use Rattle.syslog_loose.specs.Bodies.Start.{IsAfterPriority}
 use Rattle.syslog_loose.specs.Message.{MessageValue}
 use Rattle.syslog_loose.specs.declared.dates.Dates.{Dates}
-use Rattle.syslog_dialects.specs.Cisco.{cisco_row, counter_row, date_row, dated_in, mark, mnemonic, origin, place}
-use Rattle.syslog_dialects.specs.Cisco.{task_row}
-use Rattle.syslog_dialects.specs.Date.{any_date, bsd_date, iso_date}
-use Rattle.syslog_dialects.specs.Dated.{weekday}
-use Rattle.syslog_dialects.specs.Esxi.{mark_row}
-use Rattle.syslog_dialects.specs.IosXr.{node}
-use Rattle.syslog_dialects.specs.NetScaler.{slashed_date}
-use Rattle.syslog_dialects.specs.Pairs.{IsShown, noted, pair}
-use Rattle.syslog_dialects.specs.Programs.{selector_row, severity}
-use Rattle.syslog_dialects.specs.Runs.{is_plain_char}
-use Rattle.syslog_dialects.specs.Sent.{SentValue}
+use Rattle.syslog_dated_forms.specs.Cisco.{cisco_row, counter_row, date_row, dated_in, mark, mnemonic, origin, place}
+use Rattle.syslog_dated_forms.specs.Cisco.{task_row}
+use Rattle.syslog_sent.specs.Date.{any_date, bsd_date, iso_date}
+use Rattle.syslog_sent.specs.Date.{weekday}
+use Rattle.syslog_dated_forms.specs.Esxi.{mark_row}
+use Rattle.syslog_dated_forms.specs.IosXr.{node}
+use Rattle.syslog_dated_forms.specs.NetScaler.{slashed_date}
+use Rattle.syslog_named_forms.specs.Pairs.{IsShown, noted, pair}
+use Rattle.syslog_sent.specs.Selector.{selector_row, severity}
+use Rattle.syslog_sent.specs.Runs.{is_plain_char}
+use Rattle.syslog_sent.specs.Sent.{SentValue}
 use Rattle.syslog_dialects.specs.SentLine.{IsMessageSent}
-use Rattle.syslog_dialects.specs.SophosUtm.{colon_date}
-use Rattle.syslog_dialects.specs.UnixSeconds.{unix_date}
-use Rattle.syslog_dialects.specs.declared.dialect.Dialect.{Dialect}
-use Rattle.syslog_dialects.specs.declared.dialect.Dialect.TheVariants.{BsdDate, CiscoAsa, CiscoIos, CiscoIosXr}
-use Rattle.syslog_dialects.specs.declared.dialect.Dialect.TheVariants.{CiscoNxOs, CiscoUndated, Esxi, Forwarded}
-use Rattle.syslog_dialects.specs.declared.dialect.Dialect.TheVariants.{Journal}
-use Rattle.syslog_dialects.specs.declared.dialect.Dialect.TheVariants.{KeyValue, NearlyRfc3339, NetScaler, ProCurve}
-use Rattle.syslog_dialects.specs.declared.dialect.Dialect.TheVariants.{SeverityFirst, SophosUtm, UnixSeconds}
-use Rattle.syslog_dialects.specs.declared.dialect.Dialect.TheVariants.{WatchGuard}
-use Rattle.syslog_dialects.specs.declared.sent.SentDate.{SentDate}
+use Rattle.syslog_dated_forms.specs.SophosUtm.{colon_date}
+use Rattle.syslog_dated_forms.specs.UnixSeconds.{unix_date}
+use Rattle.syslog_sent.specs.declared.dialect.Dialect.{Dialect}
+use Rattle.syslog_sent.specs.declared.dialect.Dialect.TheVariants.{BsdDate, CiscoAsa, CiscoIos, CiscoIosXr}
+use Rattle.syslog_sent.specs.declared.dialect.Dialect.TheVariants.{CiscoNxOs, CiscoUndated, Esxi, Forwarded}
+use Rattle.syslog_sent.specs.declared.dialect.Dialect.TheVariants.{Journal}
+use Rattle.syslog_sent.specs.declared.dialect.Dialect.TheVariants.{KeyValue, NearlyRfc3339, NetScaler, ProCurve}
+use Rattle.syslog_sent.specs.declared.dialect.Dialect.TheVariants.{SeverityFirst, SophosUtm, UnixSeconds}
+use Rattle.syslog_sent.specs.declared.dialect.Dialect.TheVariants.{WatchGuard}
+use Rattle.syslog_sent.specs.declared.sent.SentDate.{SentDate}
 
 -- ---- what is left out
 

@@ -8,7 +8,7 @@ use Rattle.syslog_pieces.specs.Pieces.Class.{Text, Class, Front, Row, exactly}
 use Rattle.syslog_pieces.specs.Pieces.View.{seen, shown, text_eq}
 use Rattle.syslog_pieces.specs.StructuredData.Visited.{list_elements}
 use Rattle.syslog_loose.specs.declared.line.Line.{Line}
-use Rattle.syslog_dialects.specs.Named.{is_letter}
+use Rattle.syslog_sent.specs.Named.{is_letter}
 
 -- a colon, or the bracket before a process id
 abbrev pub mark : Class

@@ -6,9 +6,9 @@ use Rattle.syslog_pieces.specs.Pieces.Class.{Text, Class, Values, NoFront, Row, 
 use Rattle.syslog_pieces.specs.Pieces.Rules.{such_that}
 use Rattle.syslog_pieces.specs.Text.{colon, is_blank, number}
 use Rattle.syslog_pieces.specs.Timestamp.MonthDate.{month_date}
-use Rattle.syslog_dialects.specs.Named.{name}
-use Rattle.syslog_dialects.specs.Sent.{Form, SentValue, loose}
-use Rattle.syslog_dialects.specs.declared.dialect.Dialect.TheVariants.{NoHost, PriorityAlone}
+use Rattle.syslog_sent.specs.Named.{name}
+use Rattle.syslog_sent.specs.Sent.{Form, SentValue, loose}
+use Rattle.syslog_sent.specs.declared.dialect.Dialect.TheVariants.{NoHost, PriorityAlone}
 
 -- a number and a blank, as a version of RFC 5424
 abbrev pub version_row : List Class

@@ -16,8 +16,8 @@ use Rattle.syslog_loose.specs.Reading.{IncompleteDate}
 use Rattle.syslog_loose.specs.Today.{IsYearIn}
 use Rattle.syslog_loose.specs.declared.dates.Dates.{Dates}
 use Rattle.syslog_loose.specs.declared.line.Line.{Line}
-use Rattle.syslog_dialects.specs.Sent.{SentValue}
-use Rattle.syslog_dialects.specs.declared.sent.SentDate.{SentDate}
+use Rattle.syslog_sent.specs.Sent.{SentValue}
+use Rattle.syslog_sent.specs.declared.sent.SentDate.{SentDate}
 
 -- the year of the numbers of a date: the one that is shown with them, or else that by the dates
 abbrev pub IsYearWith : Dates → Option ℕ → IncompleteDate → ℤ → Type 0

@@ -17,14 +17,15 @@ use Rattle.syslog_loose.specs.declared.dates.Dates.{Dates}
 use Rattle.syslog_loose.specs.declared.line.Line.{Line}
 use Rattle.syslog_loose.specs.declared.variant.Variant.{Variant}
 use Rattle.syslog_loose.specs.declared.variant.Variant.TheVariants.{Either}
-use Rattle.syslog_dialects.specs.Dialects.{IsOnlyOf, forms_of}
-use Rattle.syslog_dialects.specs.Named.{is_letter}
+use Rattle.syslog_sent.specs.Forms.{IsOnlyOf}
+use Rattle.syslog_dialects.specs.Dialects.{forms_of}
+use Rattle.syslog_sent.specs.Named.{is_letter}
 use Rattle.syslog_dialects.specs.Ordinary.{IsOrdinary}
-use Rattle.syslog_dialects.specs.Sent.{SentValue}
+use Rattle.syslog_sent.specs.Sent.{SentValue}
 use Rattle.syslog_dialects.specs.SentLine.{IsMessageSent}
-pub use Rattle.syslog_dialects.specs.Zone.{is_capital}
-use Rattle.syslog_dialects.specs.declared.dialect.Dialect.{Dialect}
-use Rattle.syslog_dialects.specs.declared.sent.SentDate.{SentDate}
+pub use Rattle.syslog_sent.specs.Zone.{is_capital}
+use Rattle.syslog_sent.specs.declared.dialect.Dialect.{Dialect}
+use Rattle.syslog_sent.specs.declared.sent.SentDate.{SentDate}
 use Rattle.syslog_dialects.specs.declared.visit.SentLine.{SentLine}
 
 -- the dialects are asked: they are wanted, and either protocol is read

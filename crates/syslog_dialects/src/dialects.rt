@@ -3,13 +3,15 @@
 //! Few lines come here. No reader scans the text more than a few times, and each of them stops at the first piece that
 //! is missing.
 ghost use Rattle.std.specs.Prelude.{chars, ◌++◌};
-ghost use Rattle.syslog_dialects.specs.Dialects.{Finds, dated_forms, forms_of, last_forms, late_forms, named_forms};
+ghost use Rattle.syslog_sent.specs.Forms.{Finds};
+ghost use Rattle.syslog_dialects.specs.Dialects.{dated_forms, forms_of, last_forms, late_forms, named_forms};
 
-use crate::dialect::Dialect;
-use crate::led::read_front;
 use crate::priority_alone::{read_alone, read_program_alone};
-use crate::sent::Sent;
-use crate::{dated_forms, named_forms};
+use syslog_dated_forms::dated_forms;
+use syslog_named_forms::named_forms;
+use syslog_sent::dialect::Dialect;
+use syslog_sent::led::read_front;
+use syslog_sent::sent::Sent;
 
 // Returns the dialect of a text that has a priority and that the port does not parse, and what the text says.
 fn read_last(text: &str) -> Option<(Dialect, Sent<'_>)>

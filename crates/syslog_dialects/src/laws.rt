@@ -12,12 +12,13 @@ ghost use Rattle.syslog_loose.specs.Visit.{IsLineOf};
 ghost use Rattle.syslog_loose.specs.declared.dates.Dates.{Dates as AllDates};
 ghost use Rattle.syslog_loose.specs.declared.line.Line.{Line};
 ghost use Rattle.syslog_loose.specs.declared.variant.Variant.{Variant};
-ghost use Rattle.syslog_dialects.specs.Dialects.{IsOfFirst, forms_of};
+ghost use Rattle.syslog_sent.specs.Forms.{IsOfFirst};
+ghost use Rattle.syslog_dialects.specs.Dialects.{forms_of};
 ghost use Rattle.syslog_dialects.specs.Found.{AreFound, IsFoundIn};
 ghost use Rattle.syslog_dialects.specs.Ordinary.{IsOrdinary};
-ghost use Rattle.syslog_dialects.specs.Sent.{SentValue};
+ghost use Rattle.syslog_sent.specs.Sent.{SentValue};
 ghost use Rattle.syslog_dialects.specs.SentReading.{AreAsked, IsReadSent, IsSentIn, IsUnsent};
-ghost use Rattle.syslog_dialects.specs.declared.dialect.Dialect.{Dialect};
+ghost use Rattle.syslog_sent.specs.declared.dialect.Dialect.{Dialect};
 
 /// A line that `syslog_loose` parses and that is ordinary is read as it parses it, and in no dialect, whatever it says.
 pub fn ordinary_lines_keep_their_reading()

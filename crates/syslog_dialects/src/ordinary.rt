@@ -10,9 +10,9 @@ ghost use Rattle.syslog_loose.specs.Line.{KnowsForm};
 ghost use Rattle.syslog_dialects.specs.Ordinary.{IsOrdinary, IsTag, IsTagged, mark, tag_row};
 ghost use Rattle.syslog_dialects.specs.Ordinary as spec;
 
-use crate::named::is_word;
 use syslog_loose::Line;
 use syslog_pieces::text::{CharClass, begins_with_digit, first, literal, split_run};
+use syslog_sent::named::is_word;
 
 // Returns the text after `front`, if that begins it.
 fn past<'a>(text: &'a str, front: &str) -> Option<&'a str>

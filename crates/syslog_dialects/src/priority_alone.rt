@@ -7,13 +7,12 @@ ghost use Rattle.std.specs.Prelude.{◌∷◌, MatchBool, chars};
 ghost use Rattle.syslog_pieces.specs.Pieces.Class.{Row};
 ghost use Rattle.syslog_pieces.specs.Pieces.View.{Recognises};
 ghost use Rattle.syslog_dialects.specs.PriorityAlone as spec;
-ghost use Rattle.syslog_dialects.specs.Sent.{Sends};
+ghost use Rattle.syslog_sent.specs.Sent.{Sends};
 
-use crate::ios_xr::number as number_text;
-use crate::named::name;
-use crate::sent::Sent;
 use syslog_pieces::text::{blanks, literal, number, some_blanks};
 use syslog_pieces::timestamp::month_date::month_date;
+use syslog_sent::named::{name, number as number_text};
+use syslog_sent::sent::Sent;
 
 // Returns the text after a number and blanks.
 fn past_version(text: &str) -> Option<&str>

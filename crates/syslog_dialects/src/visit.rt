@@ -16,13 +16,14 @@ ghost use Rattle.syslog_dialects.specs.Ordinary.{IsOrdinary};
 ghost use Rattle.syslog_dialects.specs.SentReading as spec;
 
 use crate::beginning::may_be_sent;
-use crate::dialect::Dialect;
 use crate::dialects::read_dialect;
+use crate::line::line_of;
 use crate::ordinary::is_ordinary;
-use crate::sent::{SentDate, line_of};
 use syslog_loose::{Dates, IncompleteDate, Line, Variant, parse_line};
 use syslog_pieces::pri::optional_priority;
 use syslog_pieces::text::trimmed;
+use syslog_sent::dialect::Dialect;
+use syslog_sent::sent::SentDate;
 
 /// A line as its sender meant it, and the dialect that it was read in, if any.
 #[derive(Clone, Copy)]
@@ -40,7 +41,7 @@ pub struct SentLine<'a> {
 impl<'a> SentLine<'a> {
     ghost use Rattle.std.specs.Prelude.{◌≡◌};
     ghost use Rattle.syslog_pieces.specs.Pieces.View.{seen};
-    ghost use Rattle.syslog_dialects.specs.Dialect.{dialect_text};
+    ghost use Rattle.syslog_sent.specs.Dialect.{dialect_text};
     ghost use Rattle.syslog_dialects.specs.SentReading as spec;
 
     // Returns the line in this dialect, in which it has this date; or the port's line, in no dialect and with no date.

@@ -12,11 +12,11 @@ use Rattle.syslog_pieces.proofs.ProcIdLemmas.{named_names}
 use Rattle.syslog_loose.specs.Line.{protocol_of}
 use Rattle.syslog_loose.specs.Message.{MessageValue}
 use Rattle.syslog_loose.specs.declared.dates.Dates.{Dates}
-use Rattle.syslog_dialects.specs.Dialect.{dialect_text}
+use Rattle.syslog_sent.specs.Dialect.{dialect_text}
 use Rattle.syslog_dialects.specs.Found.{AreFound}
 use Rattle.syslog_dialects.specs.SentLine.{sent_message}
 use Rattle.syslog_dialects.specs.SentReading.{IsSentIn}
-use Rattle.syslog_dialects.specs.declared.dialect.Dialect.{Dialect}
+use Rattle.syslog_sent.specs.declared.dialect.Dialect.{Dialect}
 use Rattle.syslog_dialects.proofs.FoundLemmas.{read_found}
 use Rattle.syslog_object.specs.Object.{beside_line, message_json, number_json, text_json, timestamp_json, version_json}
 use Rattle.syslog_kept.specs.Kept.{priority}

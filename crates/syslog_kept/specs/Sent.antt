@@ -6,11 +6,11 @@ use Rattle.json.specs.Json.{Json}
 use Rattle.syslog_pieces.specs.Pieces.Class.{Text}
 use Rattle.syslog_pieces.specs.declared.timestamp.OffsetTimestamp.{OffsetTimestamp}
 use Rattle.syslog_loose.specs.declared.dates.Dates.{Dates}
-use Rattle.syslog_dialects.specs.Dialect.{dialect_name}
+use Rattle.syslog_sent.specs.Dialect.{dialect_name}
 use Rattle.syslog_dialects.specs.Found.{AreFound}
-use Rattle.syslog_dialects.specs.Sent.{SentValue}
+use Rattle.syslog_sent.specs.Sent.{SentValue}
 use Rattle.syslog_dialects.specs.SentLine.{HasStamp as IsStampOf}
-use Rattle.syslog_dialects.specs.declared.dialect.Dialect.{Dialect}
+use Rattle.syslog_sent.specs.declared.dialect.Dialect.{Dialect}
 use Rattle.syslog_object.specs.Object.{number_json, text_json}
 use Rattle.syslog_kept.specs.Kept.{HasStamp, priority, process}
 use Rattle.syslog_kept.specs.Part.{AreParts, maybe, white_space}

@@ -16,7 +16,7 @@ use Rattle.syslog_loose.specs.declared.variant.Variant.{Variant}
 use Rattle.syslog_dialects.proofs.MessageLemmas.{sent_msg, sent_process}
 use Rattle.syslog_dialects.proofs.SentReadingLemmas.{read_once}
 use Rattle.syslog_dialects.specs.SentReading.{IsReadSent, IsSentIn, IsUnsent, LeavesSent}
-use Rattle.syslog_dialects.specs.declared.dialect.Dialect.{Dialect}
+use Rattle.syslog_sent.specs.declared.dialect.Dialect.{Dialect}
 use Rattle.syslog_strict.proofs.ConversionLaws.{HasReadMsg, read_whole, strict_text}
 use Rattle.syslog_strict.specs.{Call.IsLineText, Call.NoSyslogMsg, Conversion.converted, Conversion.whole}
 use Rattle.syslog_strict_sent.specs.Converted.{ConvertsSent, IsSentText}

@@ -1,5 +1,5 @@
 use Rattle.std.specs.Prelude.{◌++◌}
-use Rattle.syslog_dialects.proofs.DialectLemmas.{found_early, found_late}
+use Rattle.syslog_sent.proofs.DialectLemmas.{found_early, found_late}
 use Rattle.syslog_dialects.specs.Dialects.{dated_forms, late_forms, named_forms}
 use Rattle.syslog_dialects.proofs.dialects.read_dialect.Goals as goal
 

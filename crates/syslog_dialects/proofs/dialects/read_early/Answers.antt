@@ -1,4 +1,4 @@
-use Rattle.syslog_dialects.proofs.DialectLemmas.{found_early, found_late}
+use Rattle.syslog_sent.proofs.DialectLemmas.{found_early, found_late}
 use Rattle.syslog_dialects.specs.Dialects.{dated_forms, named_forms}
 use Rattle.syslog_dialects.proofs.dialects.read_early.Goals as goal
 

@@ -1,9 +1,9 @@
 use Rattle.std.proofs.Common.{inl, refl}
 use Rattle.syslog_pieces.proofs.PieceLemmas.Class.{◌past◌, ◌then◌, no_row, no_row_division, rest_front, row_of}
 use Rattle.syslog_dialects.specs.PriorityAlone.{program_row, program_sent}
-use Rattle.syslog_dialects.proofs.FormLemmas.{says_once}
+use Rattle.syslog_sent.proofs.FormLemmas.{says_once}
 use Rattle.syslog_dialects.proofs.PriorityAloneLemmas.{program_alone_det}
-use Rattle.syslog_dialects.specs.declared.dialect.Dialect.TheVariants.{NoHost}
+use Rattle.syslog_sent.specs.declared.dialect.Dialect.TheVariants.{NoHost}
 use Rattle.syslog_dialects.proofs.priority_alone.read_program_alone.Goals as goal
 
 pub returns-in_err-app : goal.returns-in_err-app

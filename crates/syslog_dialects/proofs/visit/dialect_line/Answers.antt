@@ -3,7 +3,8 @@ use Rattle.std.specs.Str.{chars}
 use Rattle.syslog_pieces.specs.StructuredData.Visited.{list_elements, list_text}
 use Rattle.syslog_loose.specs.{Line.KnowsForm, Line.line_value, Message.MessageValue, declared.line.Line.Line}
 use Rattle.syslog_dialects.proofs.SentReadingLemmas.{no_stamp, unformed}
-use Rattle.syslog_dialects.specs.{Sent.sent_value, SentLine.IsMessageSent}
+use Rattle.syslog_sent.specs.Sent.{sent_value}
+use Rattle.syslog_dialects.specs.SentLine.{IsMessageSent}
 use Rattle.syslog_dialects.proofs.visit.dialect_line.Goals as goal
 
 pub returns-in_err-dialect : goal.returns-in_err-dialect

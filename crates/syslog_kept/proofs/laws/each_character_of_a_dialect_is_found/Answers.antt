@@ -1,7 +1,7 @@
 use Rattle.std.proofs.Common.{Some, sym, subst}
 use Rattle.syslog_pieces.specs.Pieces.Class.{Text}
 use Rattle.syslog_object.specs.Object.{beside_line, message_json}
-use Rattle.syslog_dialects.specs.Dialect.{dialect_text}
+use Rattle.syslog_sent.specs.Dialect.{dialect_text}
 use Rattle.syslog_kept.specs.Sent.{AccountsForSent}
 use Rattle.syslog_kept.proofs.SentLemmas.{sent_accounts}
 use Rattle.syslog_kept.proofs.laws.each_character_of_a_dialect_is_found.Goals as goal

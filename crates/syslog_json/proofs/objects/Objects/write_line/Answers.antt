@@ -2,7 +2,7 @@ use Rattle.syslog_json.proofs.Names.{◌≡◌, ℕ, List, Option, Json, Text, r
 use Rattle.syslog_json.proofs.Names.{line_value, message_json, IsTextOf}
 use Rattle.std.proofs.Common.{Bool, false, true}
 use Rattle.syslog_csv.specs.Rows.{IsRowOf}
-use Rattle.syslog_dialects.specs.Dialect.{dialect_text}
+use Rattle.syslog_sent.specs.Dialect.{dialect_text}
 use Rattle.syslog_object.specs.Object.{beside_line}
 use Rattle.syslog_json.{proofs.ReadLemmas.read_as, proofs.UniqueLemmas.only_read, proofs.UniqueLemmas.only_refused}
 use Rattle.syslog_json.specs.Objects.{IsOutputOf, IsReadAs}

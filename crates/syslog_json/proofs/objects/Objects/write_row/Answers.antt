@@ -1,7 +1,7 @@
 use Rattle.syslog_json.proofs.Names.{Option, subst, Text, line_value, message_json}
 use Rattle.syslog_object.specs.Object.{beside_line}
 use Rattle.syslog_csv.specs.Rows.{IsRowOf}
-use Rattle.syslog_dialects.specs.Dialect.{dialect_text}
+use Rattle.syslog_sent.specs.Dialect.{dialect_text}
 use Rattle.syslog_json.proofs.objects.Objects.write_row.Goals as goal
 
 pub returns-clause-ok : goal.returns-clause-ok

@@ -1,0 +1,158 @@
+-- A text has one front of each class of a line of Cisco's.
+use Rattle.std.proofs.Common.{◌≡◌, ℕ, [], ◌∷◌, ◌++◌, Option, refl, arith, append_assoc, ap, subst, sym, ◌∙◌}
+use Rattle.std.specs.Char.{is_ascii_digit}
+use Rattle.syslog_pieces.specs.Pieces.Class.{Text, Values, Front, NoFront, NoDivision, IsDeterministic, Row, exactly}
+use Rattle.syslog_pieces.specs.Pieces.Class.{optional, run, some_run}
+use Rattle.syslog_pieces.specs.Pieces.Rules.{such_that}
+use Rattle.syslog_pieces.specs.Text.{is_blank, colon}
+use Rattle.syslog_pieces.proofs.PieceLemmas.Class.{AllDeterministic, ◌also◌, exactly_det, optional_det, mapped_det}
+use Rattle.syslog_pieces.proofs.PieceLemmas.Class.{row_det}
+use Rattle.syslog_pieces.proofs.PieceLemmas.Class.{run_det, some_run_det, rest_det, ◌then◌, no_row_division}
+use Rattle.syslog_pieces.proofs.PieceLemmas.Class.{row_none_here, row_of}
+use Rattle.syslog_pieces.proofs.PieceLemmas.Rules.{exactly_apart, or_det, such_det, no_such_front, no_such_meaning}
+use Rattle.syslog_pieces.proofs.PieceLemmas.Rules.{such_front}
+use Rattle.syslog_pieces.proofs.TimestampLemmas.Rfc3339.{year_det}
+use Rattle.syslog_dated_forms.specs.Cisco.{begins_host, IsMnemonic, origin, mnemonic, counter_row, label_row, label}
+use Rattle.syslog_dated_forms.specs.Cisco.{task_row, mark, start_row, labelled, start, front_year_row, front_year}
+use Rattle.syslog_dated_forms.specs.Cisco.{date_row}
+use Rattle.syslog_dated_forms.specs.Cisco.{place_row, place, message_row, cisco_row, IsAsa, IsNxOs, undated_row}
+use Rattle.syslog_dated_forms.specs.Cisco.{IsDated, asa_form, cisco_forms, cisco_sent, ios_form, nx_os_form}
+use Rattle.syslog_sent.specs.Forms.{IsOfNone, IsOnlyOf}
+use Rattle.syslog_sent.specs.Sent.{SentValue}
+use Rattle.syslog_sent.specs.declared.dialect.Dialect.TheVariants.{CiscoAsa, CiscoIos, CiscoNxOs}
+use Rattle.syslog_sent.specs.Named.{BeginsWith}
+use Rattle.syslog_sent.specs.Zone.{bare_word}
+use Rattle.syslog_sent.proofs.DateLemmas.{any_date_det}
+use Rattle.syslog_sent.proofs.DialectLemmas.{here, later}
+use Rattle.syslog_sent.proofs.FormLemmas.{says_once}
+use Rattle.syslog_sent.specs.Date.{any_date}
+use Rattle.syslog_sent.specs.declared.sent.SentDate.{SentDate}
+use Rattle.syslog_sent.proofs.ZoneLemmas.{bare_word_det}
+
+colon_det : IsDeterministic (exactly colon)
+colon_det = exactly_det colon
+
+gap_det : IsDeterministic (some_run is_blank)
+gap_det = some_run_det is_blank
+
+blanks_det : IsDeterministic (run is_blank)
+blanks_det = run_det is_blank
+
+pub origin_det : IsDeterministic origin
+origin_det = such_det bare_word (BeginsWith begins_host) bare_word_det
+
+mnemonic_det : IsDeterministic mnemonic
+mnemonic_det = such_det bare_word IsMnemonic bare_word_det
+
+pub counter_row_det : AllDeterministic counter_row
+counter_row_det = some_run_det is_ascii_digit also colon_det also gap_det also tt
+
+pub label_row_det : AllDeterministic label_row
+label_row_det = origin_det also colon_det also gap_det also tt
+
+label_det : IsDeterministic label
+label_det = mapped_det (Row label_row) Text _ (row_det label_row label_row_det)
+
+pub task_row_det : AllDeterministic task_row
+task_row_det = exactly_det _ also bare_word_det also colon_det also gap_det also tt
+
+mark_det : IsDeterministic mark
+mark_det = or_det (exactly_det _) (exactly_det _) (exactly_apart 42
+    (exactly (46 ∷ [])) (λ p q v h. (46, [], h, omega arith)))
+
+start_row_det : AllDeterministic start_row
+start_row_det =
+    let count = optional_det (Row counter_row) (row_det counter_row counter_row_det) in
+    blanks_det also optional_det (exactly colon) colon_det also blanks_det also count also count
+    also optional_det label label_det also count also optional_det (Row task_row) (row_det task_row task_row_det)
+    also optional_det mark mark_det also tt
+
+start_det : IsDeterministic start
+start_det = mapped_det (Row start_row) (Option Text) labelled (row_det start_row start_row_det)
+
+pub front_year_row_det : AllDeterministic front_year_row
+front_year_row_det = year_det also gap_det also tt
+
+pub date_row_det : AllDeterministic date_row
+date_row_det = optional_det front_year (mapped_det (Row front_year_row) ℕ _ (row_det front_year_row front_year_row_det))
+    also any_date_det also tt
+
+place_row_det : AllDeterministic place_row
+place_row_det = blanks_det also optional_det origin origin_det also blanks_det also optional_det (exactly colon)
+    colon_det
+    also blanks_det also tt
+
+place_det : IsDeterministic place
+place_det = mapped_det (Row place_row) (Option Text) _ (row_det place_row place_row_det)
+
+pub message_row_det : AllDeterministic message_row
+message_row_det = mnemonic_det also blanks_det also colon_det also blanks_det also rest_det also tt
+
+pub cisco_row_det : AllDeterministic cisco_row
+cisco_row_det = start_det also row_det date_row date_row_det also place_det also row_det message_row message_row_det
+    also tt
+
+pub asa_row_det : AllDeterministic (such_that (Row cisco_row) IsAsa ∷ [])
+asa_row_det = such_det (Row cisco_row) IsAsa (row_det cisco_row cisco_row_det) also tt
+
+pub nx_os_row_det : AllDeterministic (such_that (Row cisco_row) IsNxOs ∷ [])
+nx_os_row_det = such_det (Row cisco_row) IsNxOs (row_det cisco_row cisco_row_det) also tt
+
+pub undated_row_det : AllDeterministic undated_row
+undated_row_det = blanks_det also optional_det (exactly colon) colon_det also blanks_det
+    also optional_det (Row counter_row) (row_det counter_row counter_row_det) also row_det message_row message_row_det
+    also tt
+
+-- ---- the forms of lines with a date: by whether such a line is there, and of which system it is
+
+module _ {t : Text} (none : NoFront (Row cisco_row) t) where
+  pub none_cisco : IsOfNone cisco_forms t
+  none_cisco = (
+    no_row_division (such_that (Row cisco_row) IsAsa ∷ [])
+        (row_none_here (such_that (Row cisco_row) IsAsa) [] (no_such_front (Row cisco_row) IsAsa none)),
+    (
+      no_row_division (such_that (Row cisco_row) IsNxOs ∷ [])
+          (row_none_here (such_that (Row cisco_row) IsNxOs) [] (no_such_front (Row cisco_row) IsNxOs none)),
+      (no_row_division cisco_row none, tt),
+    ),
+  )
+
+module _ {t : Text} {vs : Values cisco_row} (f : Front (Row cisco_row) t [] vs) (sent : SentValue)
+    (e : sent ≡ cisco_sent vs) where
+  not_such : (P : Values cisco_row → Type 0) → (P vs → ⊥) → NoDivision (such_that (Row cisco_row) P ∷ []) t
+  not_such P n = no_row_division (such_that (Row cisco_row) P ∷ []) (row_none_here (such_that (Row cisco_row) P) []
+      (no_such_meaning (Row cisco_row) P (row_det cisco_row cisco_row_det) f n))
+
+  pub in_asa : IsAsa vs → IsOnlyOf cisco_forms t CiscoAsa sent
+  in_asa is = here asa_form (nx_os_form ∷ ios_form ∷ []) t sent
+      (says_once CiscoAsa (such_that (Row cisco_row) IsAsa ∷ []) (λ v. cisco_sent v.0) asa_row_det
+      (row_of (such_that (Row cisco_row) IsAsa ∷ []) (such_front (Row cisco_row) IsAsa f is then refl)) e)
+
+  pub in_nx_os : (IsAsa vs → ⊥) → IsNxOs vs → IsOnlyOf cisco_forms t CiscoNxOs sent
+  in_nx_os no_asa is = later asa_form (nx_os_form ∷ ios_form ∷ []) t CiscoNxOs sent (not_such IsAsa no_asa)
+      (here nx_os_form (ios_form ∷ []) t sent
+      (says_once CiscoNxOs (such_that (Row cisco_row) IsNxOs ∷ []) (λ v. cisco_sent v.0) nx_os_row_det
+      (row_of (such_that (Row cisco_row) IsNxOs ∷ []) (such_front (Row cisco_row) IsNxOs f is then refl)) e))
+
+  pub in_ios : (IsAsa vs → ⊥) → (IsNxOs vs → ⊥) → IsOnlyOf cisco_forms t CiscoIos sent
+  in_ios no_asa no_nx_os = later asa_form (nx_os_form ∷ ios_form ∷ []) t CiscoIos sent (not_such IsAsa no_asa)
+      (later nx_os_form (ios_form ∷ []) t CiscoIos sent (not_such IsNxOs no_nx_os)
+      (here ios_form [] t sent (says_once CiscoIos cisco_row cisco_sent cisco_row_det f e)))
+
+-- ---- a line whose date was read already
+
+-- where what comes before the date leaves as much of the text as the blanks before it
+pub dated_here : {t u s a r : Text} {host : Option Text} {y : Option ℕ} {date : SentDate} → Front (run is_blank) t u tt
+    → Front any_date u r date → Front start t s host → Front (optional front_year) s a y
+    → ((p q : Text) → p ++ a ≡ q ++ u → a ≡ u) → IsDated t host y date r
+dated_here {u = u} {s = s} {a = a} {r = r} {date = date} gap d f g one =
+    let whole : (f.piece ++ g.piece) ++ a ≡ gap.piece ++ u =
+    append_assoc f.piece g.piece a ∙ ap (λ (x : Text). f.piece ++ x) (sym g.whole) ∙ sym f.whole ∙ gap.whole in
+    let same = one (f.piece ++ g.piece) gap.piece whole in
+    record {
+      started = s;
+      at_date = a;
+      front = f;
+      year = g;
+      dated = subst (λ (x : Text). Front any_date x r date) (sym same) d;
+    }

@@ -1,0 +1,21 @@
+-- A text has one division into each row of a date and what follows it.
+use Rattle.syslog_pieces.specs.Text.{is_blank}
+use Rattle.syslog_pieces.proofs.PieceLemmas.Class.{AllDeterministic, ◌also◌, run_det, some_run_det}
+use Rattle.syslog_pieces.proofs.PieceLemmas.Rules.{such_det}
+use Rattle.syslog_sent.specs.Date.{IsDay}
+use Rattle.syslog_dated_forms.specs.Dated.{bsd_row, iso_row, journal_row}
+use Rattle.syslog_sent.specs.Zone.{bare_word}
+use Rattle.syslog_sent.proofs.DateLemmas.{iso_date_det, odd_bsd_date_det, odd_iso_date_det}
+use Rattle.syslog_dated_forms.proofs.TailLemmas.{wide_tail_det}
+use Rattle.syslog_sent.proofs.ZoneLemmas.{bare_word_det}
+
+pub bsd_line_det : AllDeterministic bsd_row
+bsd_line_det = run_det is_blank also odd_bsd_date_det also wide_tail_det also tt
+
+pub iso_line_det : AllDeterministic iso_row
+iso_line_det = run_det is_blank also odd_iso_date_det also wide_tail_det also tt
+
+pub journal_line_det : AllDeterministic journal_row
+journal_line_det = run_det is_blank also such_det bare_word IsDay bare_word_det also some_run_det is_blank also
+    iso_date_det
+    also wide_tail_det also tt

@@ -1,0 +1,86 @@
+-- What is found of lines that a collector files: by whether such a line is there, and of which system it is.
+use Rattle.std.proofs.Common.{◌≡◌, [], ◌∷◌, sym, ap, ◌∙◌}
+use Rattle.syslog_pieces.specs.Pieces.Class.{Text, Class, Values, Front, NoFront, Row, Division, NoDivision}
+use Rattle.syslog_pieces.specs.Pieces.Rules.{such_that}
+use Rattle.syslog_pieces.specs.Text.{is_blank}
+use Rattle.syslog_pieces.proofs.PieceLemmas.Class.{AllDeterministic, ◌also◌, all_joined, front_division}
+use Rattle.syslog_pieces.proofs.PieceLemmas.Class.{no_row_division}
+use Rattle.syslog_pieces.proofs.PieceLemmas.Class.{row_cons, row_det, row_nil, row_none_here, rows_join, rows_none_here}
+use Rattle.syslog_pieces.proofs.PieceLemmas.Class.{rows_none_later, run_det, some_run_det, unique_division}
+use Rattle.syslog_pieces.proofs.PieceLemmas.Rules.{no_such_front, no_such_meaning, such_det, such_front}
+use Rattle.syslog_dated_forms.specs.Cisco.{IsAsa, IsNxOs, cisco_row}
+use Rattle.syslog_sent.specs.Forms.{IsOfNone, IsOnlyOf}
+use Rattle.syslog_dated_forms.specs.Filed.{IsAny, filed_form, filed_forms, filed_front, filed_row, filed_sent}
+use Rattle.syslog_sent.specs.Sent.{IsOnlySent, SentValue}
+use Rattle.syslog_sent.specs.declared.dialect.Dialect.{Dialect}
+use Rattle.syslog_sent.specs.declared.dialect.Dialect.TheVariants.{CiscoAsa, CiscoIos, CiscoNxOs}
+use Rattle.syslog_sent.specs.declared.sent.SentDate.{SentDate}
+use Rattle.syslog_dated_forms.proofs.CiscoLemmas.{cisco_row_det, origin_det}
+use Rattle.syslog_sent.proofs.DateLemmas.{any_date_det}
+use Rattle.syslog_sent.proofs.DialectLemmas.{here, later}
+
+pub filed_front_det : AllDeterministic filed_front
+filed_front_det = run_det is_blank also any_date_det also some_run_det is_blank also origin_det also some_run_det
+    is_blank
+    also tt
+
+-- a line of such a system
+abbrev one : (Values cisco_row → Type 0) → Class
+one P = such_that (Row cisco_row) P
+
+no_front : (P : Values cisco_row → Type 0) {t : Text} → NoFront (Row filed_front) t → NoDivision (filed_row (one P)) t
+no_front P n = no_row_division (filed_row (one P)) (rows_none_here filed_front (one P ∷ []) n)
+
+pub unfiled : {t : Text} → NoFront (Row filed_front) t → IsOfNone filed_forms t
+unfiled n = (no_front IsAsa n, (no_front IsNxOs n, (no_front IsAny n, tt)))
+
+module _ {t line device : Text} {d : SentDate} (f : Front (Row filed_front) t line
+    (tt, (d, (tt, (device, (tt, tt)))))) where
+  no_line : (P : Values cisco_row → Type 0) → NoFront (one P) line → NoDivision (filed_row (one P)) t
+  no_line P n = no_row_division (filed_row (one P))
+      (rows_none_later filed_front (one P ∷ []) filed_front_det f (row_none_here (one P) [] n))
+
+  pub none_filed : NoFront (Row cisco_row) line → IsOfNone filed_forms t
+  none_filed n = (
+    no_line IsAsa (no_such_front (Row cisco_row) IsAsa n),
+    (
+      no_line IsNxOs (no_such_front (Row cisco_row) IsNxOs n),
+      (no_line IsAny (no_such_front (Row cisco_row) IsAny n), tt),
+    ),
+  )
+
+  module _ {vs : Values cisco_row} (g : Front (Row cisco_row) line [] vs) (sent : SentValue)
+      (e : sent ≡ filed_sent device vs) where
+    not_one : (P : Values cisco_row → Type 0) → (P vs → ⊥) → NoDivision (filed_row (one P)) t
+    not_one P n = no_line P (no_such_meaning (Row cisco_row) P (row_det cisco_row cisco_row_det) g n)
+
+    divided : (P : Values cisco_row → Type 0) → P vs
+        → Division (filed_row (one P)) t (tt, (d, (tt, (device, (tt, (vs, tt))))))
+    divided P is = front_division (filed_row (one P)) (rows_join filed_front (one P ∷ []) f
+        (row_cons (one P) [] (such_front (Row cisco_row) P g is) (row_nil [])))
+
+    says_one : (dialect : Dialect) (P : Values cisco_row → Type 0) → P vs → IsOnlySent (filed_form dialect P) t sent
+    says_one dialect P is = record {
+      says = record { values = (tt, (d, (tt, (device, (tt, (vs, tt)))))); division = divided P is; means = e };
+      only = λ other k.
+          (let same = (unique_division (filed_row (one P)) (all_joined filed_front (one P ∷ []) filed_front_det
+          (such_det (Row cisco_row) P (row_det cisco_row cisco_row_det) also tt)) k.division (divided P is)).1 in
+          k.means ∙ ap (λ (v : Values (filed_row (one P))). filed_sent v.1.1.1.0 v.1.1.1.1.1.0) same ∙ sym e);
+    }
+
+    pub of_asa : IsAsa vs → IsOnlyOf filed_forms t CiscoAsa sent
+    of_asa is = here (filed_form CiscoAsa IsAsa) (filed_form CiscoNxOs IsNxOs ∷ filed_form CiscoIos IsAny ∷ []) t sent
+        (says_one CiscoAsa IsAsa is)
+
+    pub of_nx_os : (IsAsa vs → ⊥) → IsNxOs vs → IsOnlyOf filed_forms t CiscoNxOs sent
+    of_nx_os no_asa is = later (filed_form CiscoAsa IsAsa)
+        (filed_form CiscoNxOs IsNxOs ∷ filed_form CiscoIos IsAny ∷ []) t
+        CiscoNxOs sent (not_one IsAsa no_asa)
+        (here (filed_form CiscoNxOs IsNxOs) (filed_form CiscoIos IsAny ∷ []) t sent (says_one CiscoNxOs IsNxOs is))
+
+    pub of_ios : (IsAsa vs → ⊥) → (IsNxOs vs → ⊥) → IsOnlyOf filed_forms t CiscoIos sent
+    of_ios no_asa no_nx_os = later (filed_form CiscoAsa IsAsa)
+        (filed_form CiscoNxOs IsNxOs ∷ filed_form CiscoIos IsAny ∷ []) t
+        CiscoIos sent (not_one IsAsa no_asa)
+        (later (filed_form CiscoNxOs IsNxOs) (filed_form CiscoIos IsAny ∷ []) t CiscoIos sent (not_one IsNxOs no_nx_os)
+        (here (filed_form CiscoIos IsAny) [] t sent (says_one CiscoIos IsAny tt)))

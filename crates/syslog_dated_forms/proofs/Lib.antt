@@ -1,0 +1,11 @@
+pub mod CiscoLemmas
+pub mod ContainerLemmas
+pub mod DatedLemmas
+pub mod EsxiLemmas
+pub mod FiledLemmas
+pub mod LedFormLemmas
+pub mod MarkLemmas
+pub mod MonthFrontLemmas
+pub mod OtherDateLemmas
+pub mod TailLemmas
+pub mod UnixLemmas

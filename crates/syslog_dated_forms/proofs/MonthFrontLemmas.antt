@@ -1,0 +1,358 @@
+-- A text that begins with a month date: what comes before Cisco's dates is not there, and no form with another
+-- beginning divides it.
+use Rattle.std.proofs.Common.{◌≡◌, inl, inr, ℕ, ◌<◌, ◌≤◌, Bool, true, false, List, [], ◌∷◌, ◌++◌, length, map, Option}
+use Rattle.std.proofs.Common.{Some, None, refl, sym, ap, subst, ◌∙◌, arith}
+use Rattle.std.proofs.lemmas.Bool.{agree_below_at, and_parts}
+use Rattle.std.proofs.lemmas.Bool.Decides.{nat_tests}
+use Rattle.std.proofs.lemmas.Str.{chars-IsAscii}
+use Rattle.std.proofs.lemmas.Str.Ascii.{lowercase_is}
+use Rattle.std.specs.Char.{is_ascii_digit, to_ascii_lowercase}
+use Rattle.std.specs.Cmp.Lexicographic.{same_text}
+use Rattle.std.specs.Prelude.{◌&&◌, ◌||◌, IsTrue, is_none, nat_le, nat_lt, not}
+use Rattle.std.specs.Str.{chars}
+use Rattle.syslog_pieces.specs.Bodies.MonthReading.{small_month}
+use Rattle.syslog_pieces.specs.Pieces.Class.{Text, Class, Values, Each, Ends, Front, NoDivision, NoFront, Row, exactly}
+use Rattle.syslog_pieces.specs.Pieces.Class.{optional}
+use Rattle.syslog_pieces.specs.Pieces.Class.{run, some_run}
+use Rattle.syslog_pieces.specs.Pieces.View.{text_eq}
+use Rattle.syslog_pieces.specs.Text.{is_blank, is_tag_char, colon, number}
+use Rattle.syslog_pieces.specs.Timestamp.MonthDate.{clock_row, month, month_date, short_number}
+use Rattle.syslog_pieces.specs.Timestamp.Rfc3339.{pair, year}
+use Rattle.syslog_pieces.specs.declared.timestamp.month_date.MonthDate.{MonthDate}
+use Rattle.syslog_pieces.proofs.PieceLemmas.Class.{◌past◌, ◌then◌, front_of, front_same, mapped_front, no_mapped}
+use Rattle.syslog_pieces.proofs.PieceLemmas.Class.{each_map, no_row, no_row_division, optional_some}
+use Rattle.syslog_pieces.proofs.PieceLemmas.Class.{optional_none, row_of, row_pieces}
+use Rattle.syslog_pieces.proofs.PieceLemmas.Lists.{Begins, begins, begins_apart}
+use Rattle.syslog_pieces.proofs.PieceLemmas.Rules.{no_such_front, such_front}
+use Rattle.syslog_pieces.proofs.TextLemmas.Runs.{no_run}
+use Rattle.syslog_pieces.proofs.TimestampLemmas.MonthDate.{IsBlank, IsLetter, blank_low, blanks_begin, month_letters}
+use Rattle.syslog_dated_forms.specs.Cisco.{IsMnemonic, begins_host, counter_row, front_year, front_year_row, label}
+use Rattle.syslog_dated_forms.specs.Cisco.{label_row}
+use Rattle.syslog_dated_forms.specs.Cisco.{labelled, mark, mnemonic}
+use Rattle.syslog_dated_forms.specs.Cisco.{message_row, start, start_row, task_row, undated_row}
+use Rattle.syslog_sent.specs.Date.{bsd_row}
+use Rattle.syslog_sent.specs.Date.{IsDay, day_words, weekday}
+use Rattle.syslog_dated_forms.specs.Dated.{journal_row}
+use Rattle.syslog_dated_forms.specs.DatedForms.{journal_forms}
+use Rattle.syslog_sent.specs.Forms.{IsOfNone}
+use Rattle.syslog_dated_forms.specs.IosXr.{IsNode, card_row, host, host_in, host_row, node, xr_row}
+use Rattle.syslog_sent.specs.Named.{BeginsWith}
+use Rattle.syslog_dated_forms.specs.NetScaler.{netscaler_row, slashed_of, slashed_row}
+use Rattle.syslog_dated_forms.specs.OpenWrt.{logread_row}
+use Rattle.syslog_sent.specs.Runs.{are_ascii}
+use Rattle.syslog_dated_forms.specs.SophosUtm.{colon_of, colon_row, utm_row}
+use Rattle.syslog_dated_forms.specs.UnixSeconds.{IsLate, meraki_row, seconds, short_row, unix_of, unix_row}
+use Rattle.syslog_sent.specs.Zone.{bare_word, is_among}
+use Rattle.syslog_sent.specs.declared.sent.SentDate.{SentDate}
+use Rattle.syslog_dated_forms.proofs.CiscoLemmas.{counter_row_det, front_year_row_det, message_row_det, task_row_det}
+use Rattle.syslog_dated_forms.proofs.CiscoLemmas.{undated_row_det}
+use Rattle.syslog_dated_forms.proofs.DatedLemmas.{journal_line_det}
+use Rattle.syslog_sent.proofs.LedLemmas.{year_begins}
+use Rattle.syslog_sent.proofs.NamedLemmas.{ascii_told}
+use Rattle.syslog_dated_forms.proofs.OtherDateLemmas.{card_row_det, colon_row_det, logread_row_det, netscaler_row_det}
+use Rattle.syslog_dated_forms.proofs.OtherDateLemmas.{slashed_row_det, utm_row_det, xr_row_det}
+use Rattle.syslog_dated_forms.proofs.UnixLemmas.{meraki_row_det, short_row_det, unix_row_det}
+use Rattle.syslog_sent.proofs.ZoneLemmas.{bare_word_det, either_told}
+
+-- ---- the word that a month is
+
+-- a letter in either case, by the small one
+abbrev pub IsSmall : ℕ → Type 0
+IsSmall c = (97 ≤ to_ascii_lowercase c) × (to_ascii_lowercase c < 123)
+
+small_letters : (a b c n : ℕ) → small_month a b c ≡ Some n → (97 ≤ a) × (a < 123) × (97 ≤ b) × (b < 123) × (97 ≤ c)
+    × (c < 123)
+unfolding small_month
+small_letters a b c n m = (
+  grind (arith, nat_tests),
+  grind (arith, nat_tests),
+  grind (arith, nat_tests),
+  grind (arith, nat_tests),
+  grind (arith, nat_tests),
+  grind (arith, nat_tests),
+)
+
+small_low : (c : ℕ) → IsSmall c → (65 ≤ c) × (c < 123)
+small_low c h = grind (arith, lowercase_is c)
+
+tag_letter : (c : ℕ) → IsSmall c → is_tag_char c ≡ true
+tag_letter c h = let (large, low) = small_low c h in
+    grind (arith, nat_tests, agree_below_at (λ k. nat_lt k 65 || is_tag_char k) (λ k. true) 123 c refl low)
+
+tag_digit : (c : ℕ) → is_ascii_digit c ≡ true → is_tag_char c ≡ true
+tag_digit c h = let low : c < 58 = grind (arith, nat_tests, h) in
+    grind (arith, nat_tests, h, agree_below_at (λ k. nat_lt k 48 || is_tag_char k) (λ k. true) 58 c refl low)
+
+-- a letter begins a host's name
+host_letter : (c : ℕ) → IsSmall c → begins_host c ≡ true
+host_letter c h = let (large, low) = small_low c h in
+    let small : (nat_le 97 (to_ascii_lowercase c) && nat_lt (to_ascii_lowercase c) 123) ≡ true =
+    grind (arith, nat_tests, h.0, h.1) in
+    grind (
+      arith,
+      nat_tests,
+      small,
+      agree_below_at (λ k. not (nat_le 97 (to_ascii_lowercase k) && nat_lt (to_ascii_lowercase k) 123) || begins_host k)
+          (λ k. true) 123 c refl low,
+    )
+
+blank_apart : (c : ℕ) → is_blank c ≡ true → is_tag_char c ≡ false
+blank_apart c h = let low = blank_low c h in
+    grind (arith, nat_tests, agree_below_at (λ k. is_blank k && is_tag_char k) (λ k. false) 33 c refl (omega arith))
+
+-- three letters that name a month
+pub record IsWord (p : Text) : Type 0 where
+  pub a : ℕ
+  pub b : ℕ
+  pub c : ℕ
+  pub n : ℕ
+  pub is : p ≡ a ∷ b ∷ c ∷ []
+  pub names : small_month (to_ascii_lowercase a) (to_ascii_lowercase b) (to_ascii_lowercase c) ≡ Some n
+
+-- the month that begins a text, blanks, the digits of the day, and a blank after them
+pub record HasMonth (t : Text) : Type 0 where
+  pub p : Text
+  pub q : Text
+  pub whole : t ≡ p ++ q
+  pub word : IsWord p
+  pub blank : Begins IsBlank q
+  pub at_day : Text
+  pub gap : Front (some_run is_blank) q at_day tt
+  pub day : Text
+  pub after_day : Text
+  pub shown : at_day ≡ day ++ after_day
+  pub some : 0 < length day
+  pub digits : Each is_ascii_digit day
+  pub end : Begins IsBlank after_day
+
+-- such a front of a month date, and what follows it
+abbrev day_row : List Class → List Class
+day_row Cs = month ∷ some_run is_blank ∷ short_number ∷ some_run is_blank ∷ Cs
+
+from_row : (Cs : List Class) {t r : Text} {vs : Values (day_row Cs)} → Front (Row (day_row Cs)) t r vs → HasMonth t
+from_row Cs f = let (u, m, (w, gap, (x, day, (y, end, more)))) = row_pieces (day_row Cs) f in
+    let (a, b, c, e, k) = month_letters m.piece _ m.is in record {
+      p = m.piece;
+      q = u;
+      whole = m.whole;
+      word = record { a = a; b = b; c = c; n = _; is = e; names = k };
+      blank = blanks_begin gap;
+      at_day = w;
+      gap = gap;
+      day = day.piece;
+      after_day = x;
+      shown = day.whole;
+      some = day.is.0;
+      digits = day.is.1;
+      end = blanks_begin end;
+    }
+
+-- the pieces of a month date with a year after the day
+abbrev after_day_dated : List Class
+after_day_dated = number 2147483647 ∷ some_run is_blank ∷ clock_row
+
+from_date : (p q : Text) (d : MonthDate) → month_date.Is p q d → HasMonth (p ++ q)
+from_date p q d (inl (vs, h, i)) = from_row clock_row {t = p ++ q} {r = q} {vs = vs}
+    (record { piece = p; whole = refl; is = h })
+from_date p q d (inr (vs, h, i)) =
+    from_row after_day_dated {t = p ++ q} {r = q} {vs = vs} (record { piece = p; whole = refl; is = h })
+
+pub has_month : {t r : Text} {vs : Values bsd_row} → Front (Row bsd_row) t r vs → HasMonth t
+has_month f = let (u, d, more) = row_pieces bsd_row f in
+    subst HasMonth (sym d.whole) (from_date d.piece u _ d.is)
+
+ends_tag : (q : Text) → Begins IsBlank q → Ends is_tag_char q
+ends_tag [] h = tt
+ends_tag (c ∷ q) h = blank_apart c h
+
+-- the digits of a day are no node
+day_no_node : (w : Text) → Each is_ascii_digit w → IsNode w → ⊥
+day_no_node w e (inl (q, f)) = let d = rw (f.whole, f.is) at e in let bad : false ≡ true = d.0 in cc
+day_no_node w e (inr (inl (q, f))) = let d = rw (f.whole, f.is) at e in let bad : false ≡ true = d.0 in cc
+day_no_node w e (inr (inr (q, f))) = let d = rw (f.whole, f.is) at e in let bad : false ≡ true = d.1.0 in cc
+
+module _ {t : Text} (m : HasMonth t) where
+  first_letter : (c : ℕ) × (more : Text) × (t ≡ c ∷ more) × (65 ≤ c)
+  first_letter = let s = small_letters _ _ _ _ m.word.names in
+      let large = (small_low m.word.a (s.0, s.1)).0 in
+      (m.word.a, m.word.b ∷ m.word.c ∷ m.q, m.whole ∙ ap (λ (x : Text). x ++ m.q) m.word.is, large)
+
+  month_word : Front bare_word t m.q m.p
+  month_word = let s = small_letters _ _ _ _ m.word.names in front_of m.p m.whole
+      ((
+        tt,
+        (
+          rw m.word.is (omega arith),
+          rw m.word.is (
+            tag_letter m.word.a (s.0, s.1),
+            (
+              tag_letter m.word.b (s.2, s.3),
+              (tag_letter m.word.c (s.4, s.5), tt),
+            ),
+          ),
+          ends_tag m.q m.blank,
+        ),
+        refl,
+      ))
+
+  -- no piece that begins below the letters
+  no_low : (C : Class) → ((p q : Text) (v : C.Value) → C.Is p q v → Begins (λ c. c < 65) (p ++ q)) → NoFront C t
+  no_low C low p q v e h = let (c, more, is, large) = first_letter in
+      begins_apart {H = IsLetter} {K = λ d. d < 65} t (λ d k l. omega (arith, k, l)) (rw is large) (rw e (low p q v h))
+
+  no_digits : (C : Class) → ((p q : Text) (v : C.Value) → C.Is p q v → (0 < length p) × Each is_ascii_digit p)
+      → NoFront C t
+  no_digits C digits = let (c, more, is, large) = first_letter in
+      no_run is_ascii_digit t (rw is (grind (arith, nat_tests, large))) C digits
+
+  no_char : (d : ℕ) → d < 65 → NoFront (exactly (d ∷ [])) t
+  no_char d low = no_low (exactly (d ∷ [])) (λ p q v h. rw h low)
+
+  no_counter : NoFront (Row counter_row) t
+  no_counter = no_row counter_row counter_row_det (inl (no_digits (some_run is_ascii_digit) (λ p q v h. (h.0, h.1))))
+
+  no_label : NoFront label t
+  no_label p q v e (vs, h, is) =
+      let (u, o, (w, c, more)) = row_pieces label_row (front_of p e h) in
+      let same = (front_same bare_word bare_word_det (front_of o.piece o.whole o.is.0) month_word).0 in
+      begins_apart {H = IsBlank} {K = λ d. d ≡ 58} u (λ d k l. let b : is_blank 58 ≡ true = rw l at k in
+      let f : false ≡ true = b in cc)
+      (rw same m.blank) (rw (begins 58 u w c) refl)
+
+  no_task : NoFront (Row task_row) t
+  no_task = no_row task_row task_row_det (inl (no_char 42 (omega arith)))
+
+  no_mark : NoFront mark t
+  no_mark p q (inl v) e h = no_char 42 (omega arith) p q v e h
+  no_mark p q (inr v) e h = no_char 46 (omega arith) p q v e h
+
+  no_blank : Front (run is_blank) t t tt
+  no_blank = let (c, more, is, large) = first_letter in record {
+    piece = [];
+    whole = refl;
+    is = (tt, rw is (grind (arith, nat_tests, large)));
+  }
+
+  -- nothing of what may come before the date of a line of Cisco's
+  pub bare_start : {text : Text} → Front (run is_blank) text t tt → Front start text t None
+  bare_start gap = mapped_front (Row start_row) (Option Text) labelled (row_of start_row (gap
+      then optional_none (exactly colon) (no_char 58 (omega arith)) then no_blank
+      then optional_none (Row counter_row) no_counter then optional_none (Row counter_row) no_counter
+      then optional_none label no_label then optional_none (Row counter_row) no_counter
+      then optional_none (Row task_row) no_task then optional_none mark no_mark then refl))
+
+  -- a name, and blanks after it
+  month_host : Front host t m.at_day m.p
+  month_host = let s = small_letters _ _ _ _ m.word.names in
+      mapped_front (Row host_row) Text (λ v. v.0) (row_of host_row
+      (such_front bare_word (BeginsWith begins_host) month_word (rw m.word.is (host_letter m.word.a (s.0, s.1)))
+      then m.gap then refl))
+
+  day_word : Front bare_word m.at_day m.after_day m.day
+  day_word = front_of m.day m.shown
+      ((tt, (m.some, each_map is_ascii_digit is_tag_char tag_digit m.day m.digits, ends_tag m.after_day m.end), refl))
+
+  -- and no node after them
+  no_node : NoFront node m.at_day
+  no_node p q v e h = let same = front_same bare_word bare_word_det (front_of p e h.0) day_word in
+      day_no_node m.day m.digits (subst IsNode same.1 h.1)
+
+  no_year : NoFront year t
+  no_year = no_low year year_begins
+
+  pub bare_year : Front (optional front_year) t t None
+  bare_year = optional_none front_year (no_mapped (Row front_year_row)
+      ℕ _ (no_row front_year_row front_year_row_det (inl no_year)))
+
+-- ---- it is no day of the week
+
+month_of : List ℕ → Option ℕ
+month_of (a ∷ b ∷ c ∷ []) = small_month (to_ascii_lowercase a) (to_ascii_lowercase b) (to_ascii_lowercase c)
+month_of _ = None
+
+are_none : List (List ℕ) → Bool
+are_none [] = true
+are_none (w ∷ ws) = (are_ascii w && is_none (month_of w)) && are_none ws
+
+one_none : (w t : List ℕ) → IsTrue (are_ascii w && is_none (month_of w)) → true ≡ text_eq (chars w) t
+    → IsTrue (is_none (month_of t))
+one_none w t h e = let (ascii, none) = and_parts (are_ascii w) (is_none (month_of w)) h in
+    let is : w ≡ t = sym (chars-IsAscii w (ascii_told w ascii)) ∙ same_text (chars w) t e in
+    subst (λ (x : List ℕ). IsTrue (is_none (month_of x))) is none
+
+among_none : (t : List ℕ) (ws : List (List ℕ)) → IsTrue (are_none ws) → is_among t (map chars ws) ≡ true
+    → IsTrue (is_none (month_of t))
+unfolding are_none
+among_none t [] h e = absurd (let f : false ≡ true = e in cc)
+among_none t (w ∷ ws) h e =
+    let (none, more) = and_parts (are_ascii w && is_none (month_of w)) (are_none ws) h in
+    either_told (text_eq (chars w) t) (is_among t (map chars ws)) e (λ is. one_none w t none (sym is))
+    (λ later. among_none t ws more later)
+
+days_none : IsTrue (are_none day_words)
+unfolding are_none month_of small_month
+days_none = refl
+
+month_no_day : (p : Text) → IsWord p → IsDay p → ⊥
+unfolding month_of
+month_no_day p w h =
+    let none : IsTrue (is_none (month_of (w.a ∷ w.b ∷ w.c ∷ []))) = rw w.is at (among_none p day_words days_none h) in
+    let some : IsTrue (is_none (Some w.n)) = rw w.names at none in
+    let bad : false ≡ true = some in cc
+
+month_no_mnemonic : (p : Text) → IsWord p → IsMnemonic p → ⊥
+month_no_mnemonic p w h = let s = small_letters _ _ _ _ w.names in
+    let large = (small_low w.a (s.0, s.1)).0 in
+    let is = rw w.is at h in
+    grind (arith, nat_tests, large, is)
+
+-- ---- the forms with another beginning
+
+module _ {text t : Text} (gap : Front (run is_blank) text t tt) (m : HasMonth t) where
+  no_weekday : NoFront weekday t
+  no_weekday p q v e h = let same = front_same bare_word bare_word_det (front_of p e h.0) (month_word m) in
+      month_no_day m.p m.word (subst IsDay same.1 h.1)
+
+  no_mnemonic : NoFront mnemonic t
+  no_mnemonic p q v e h = let same = front_same bare_word bare_word_det (front_of p e h.0) (month_word m) in
+      month_no_mnemonic m.p m.word (subst IsMnemonic same.1 h.1)
+
+  no_unix : NoFront seconds t
+  no_unix = no_such_front (number 4294967295) IsLate
+      (no_digits m (number 4294967295) (λ p q v h. (h.0, h.1)))
+
+  pub no_xr : NoDivision xr_row text
+  no_xr = no_row_division xr_row (no_row xr_row xr_row_det (inl (no_mapped (Row card_row) (Option Text) host_in
+      (no_row card_row card_row_det (gap past optional_none (Row counter_row) (no_counter m)
+      past optional_some host (month_host m) past inl (no_node m))))))
+
+  pub no_other : IsOfNone journal_forms text
+  no_other = (
+    no_row_division journal_row (no_row journal_row journal_line_det (gap past inl no_weekday)),
+    (
+      no_row_division netscaler_row (no_row netscaler_row netscaler_row_det (gap past inl
+          (no_mapped (Row slashed_row) SentDate slashed_of (no_row slashed_row slashed_row_det
+          (inl (no_low m (pair 100) (λ p q v h. rw h.0 (omega (arith, h.1))))))))),
+      (
+        no_row_division utm_row (no_row utm_row utm_row_det (gap past inl
+            (no_mapped (Row colon_row) SentDate colon_of (no_row colon_row colon_row_det (inl (no_year m)))))),
+        (
+          no_row_division logread_row (no_row logread_row logread_row_det (gap past inl no_weekday)),
+          (
+            no_row_division meraki_row (no_row meraki_row meraki_row_det (gap past inl (no_char m 49 (omega arith)))),
+            (
+              no_row_division short_row (no_row short_row short_row_det (gap past inl
+                  (no_mapped (Row unix_row) SentDate unix_of (no_row unix_row unix_row_det (inl no_unix))))),
+              (
+                no_row_division undated_row (no_row undated_row undated_row_det (gap
+                    past optional_none (exactly colon) (no_char m 58 (omega arith)) past no_blank m
+                    past optional_none (Row counter_row) (no_counter m)
+                    past inl (no_row message_row message_row_det (inl no_mnemonic)))),
+                tt,
+              ),
+            ),
+          ),
+        ),
+      ),
+    ),
+  )

@@ -1,0 +1,21 @@
+use Rattle.std.proofs.Common.{[], ◌∷◌, inl}
+use Rattle.std.specs.Char.{is_ascii_digit}
+use Rattle.std.specs.Str.{chars}
+use Rattle.syslog_pieces.specs.Pieces.Class.{some_run}
+use Rattle.syslog_pieces.proofs.TextLemmas.Runs.{ends_digits, no_run}
+use Rattle.syslog_pieces.proofs.PieceLemmas.Class.{◌also◌, no_row}
+use Rattle.syslog_pieces.proofs.PieceLemmas.Rules.{row_reads}
+use Rattle.syslog_dated_forms.specs.Cisco.{counter_row}
+use Rattle.syslog_dated_forms.proofs.CiscoLemmas.{counter_row_det}
+use Rattle.syslog_dated_forms.proofs.cisco.counter.Goals as goal
+
+pub returns : goal.returns
+returns c = row_reads counter_row counter_row_det c.args.text
+    (c.digits.result ∷ c.and_then.result ∷ c.and_then-2.result ∷ [])
+    (c.digits.ensures also c.and_then.ensures also c.and_then-2.ensures also tt)
+
+pub returns-then-not-begins_with_digit : goal.returns-then-not-begins_with_digit
+returns-then-not-begins_with_digit c = no_row counter_row counter_row_det
+    (inl (no_run is_ascii_digit (chars c.args.text.now)
+    (ends_digits c.args.text.now c.utf8.text (rw c.as_bytes.ensures.value at c.if-not-begins_with_digit.ensures))
+    (some_run is_ascii_digit) (λ p q v h. (h.0, h.1))))

@@ -1,0 +1,18 @@
+use Rattle.std.proofs.Common.{inl}
+use Rattle.syslog_pieces.proofs.PieceLemmas.Class.{◌past◌, no_row}
+use Rattle.syslog_dated_forms.specs.Cisco.{cisco_row, date_row}
+use Rattle.syslog_dated_forms.proofs.CiscoLemmas.{cisco_row_det, date_row_det}
+use Rattle.syslog_dated_forms.proofs.cisco.shown_line.Goals as goal
+
+pub returns-in_err-date : goal.returns-in_err-date
+returns-in_err-date c = rw c.from_residual.ensures (no_row cisco_row cisco_row_det (c.start.ensures past inl
+    (no_row date_row date_row_det (c.optional_front_year-year.ensures past inl c.in_err-date.ensures))))
+
+pub returns : goal.returns
+returns c = c.shown_after.ensures _ (record {
+  started = _;
+  at_date = _;
+  front = c.start.ensures;
+  year = c.optional_front_year-year.ensures;
+  dated = c.in_ok-date.ensures;
+})

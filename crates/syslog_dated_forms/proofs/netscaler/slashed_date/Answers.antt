@@ -1,0 +1,12 @@
+use Rattle.syslog_pieces.proofs.PieceLemmas.Class.{mapped_front, no_mapped}
+use Rattle.syslog_pieces.specs.Pieces.Class.{Row}
+use Rattle.syslog_dated_forms.specs.NetScaler.{slashed_of, slashed_row}
+use Rattle.syslog_sent.specs.declared.sent.SentDate.{SentDate}
+use Rattle.syslog_dated_forms.proofs.netscaler.slashed_date.Goals as goal
+
+pub returns-in_err-date : goal.returns-in_err-date
+returns-in_err-date c = rw c.from_residual.ensures
+    (no_mapped (Row slashed_row) SentDate slashed_of c.in_err-date.ensures)
+
+pub returns : goal.returns
+returns c = rw c.sent.ensures (mapped_front (Row slashed_row) SentDate slashed_of c.in_ok-date.ensures)

@@ -1,0 +1,26 @@
+use Rattle.std.proofs.Common.{refl}
+use Rattle.syslog_pieces.proofs.PieceLemmas.Class.{◌then◌, rest_front, row_of}
+use Rattle.syslog_dated_forms.specs.Tail.{tail_row}
+use Rattle.syslog_dated_forms.specs.TailViews.{tail_names}
+use Rattle.syslog_dated_forms.proofs.tail.read_tail.Goals as goal
+
+pub returns : goal.returns
+returns c =
+    let f = row_of tail_row (c.host_field.ensures then c.tag_field.ensures then c.blanks.ensures then
+    c.past_colon.ensures.1
+    then c.blanks-msg.ensures then rest_front _ then refl) in
+    record {
+      piece = f.piece;
+      whole = f.whole;
+      is = (
+        _,
+        _,
+        _,
+        tail_names c.resolve-names.result,
+        f.is,
+        c.resolve-names.ensures.names,
+        refl,
+        refl,
+        c.resolve-names.ensures.process,
+      );
+    }

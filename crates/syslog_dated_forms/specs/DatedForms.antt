@@ -1,0 +1,59 @@
+-- The forms that are recognised by their date, in the order in which they are tried.
+use Rattle.std.specs.Prelude.{List, [], ◌∷◌, ◌++◌}
+use Rattle.syslog_dated_forms.specs.Cisco.{cisco_forms, undated_form}
+use Rattle.syslog_dated_forms.specs.Container.{container_form}
+use Rattle.syslog_dated_forms.specs.Dated.{bsd_form, iso_form, journal_form}
+use Rattle.syslog_dated_forms.specs.Esxi.{esxi_form}
+use Rattle.syslog_dated_forms.specs.Filed.{filed_forms}
+use Rattle.syslog_dated_forms.specs.IosXr.{xr_form}
+use Rattle.syslog_dated_forms.specs.NetScaler.{netscaler_form}
+use Rattle.syslog_dated_forms.specs.OpenWrt.{logread_form}
+use Rattle.syslog_dated_forms.specs.ProCurve.{procurve_form}
+use Rattle.syslog_sent.specs.Sent.{Form}
+use Rattle.syslog_dated_forms.specs.SophosUtm.{utm_form}
+use Rattle.syslog_dated_forms.specs.UnixSeconds.{meraki_form, short_form}
+
+abbrev pub undated_forms : List Form
+undated_forms = undated_form ∷ []
+
+abbrev pub short_forms : List Form
+short_forms = short_form ∷ undated_forms
+
+abbrev pub meraki_forms : List Form
+meraki_forms = meraki_form ∷ short_forms
+
+abbrev pub logread_forms : List Form
+logread_forms = logread_form ∷ meraki_forms
+
+abbrev pub utm_forms : List Form
+utm_forms = utm_form ∷ logread_forms
+
+abbrev pub netscaler_forms : List Form
+netscaler_forms = netscaler_form ∷ utm_forms
+
+abbrev pub journal_forms : List Form
+journal_forms = journal_form ∷ netscaler_forms
+
+abbrev pub iso_forms : List Form
+iso_forms = iso_form ∷ journal_forms
+
+abbrev pub bsd_forms : List Form
+bsd_forms = bsd_form ∷ iso_forms
+
+abbrev pub procurve_forms : List Form
+procurve_forms = procurve_form ∷ bsd_forms
+
+abbrev pub esxi_forms : List Form
+esxi_forms = esxi_form ∷ procurve_forms
+
+abbrev pub container_forms : List Form
+container_forms = container_form ∷ esxi_forms
+
+abbrev pub xr_forms : List Form
+xr_forms = xr_form ∷ container_forms
+
+abbrev pub later_forms : List Form
+later_forms = filed_forms ++ xr_forms
+
+abbrev pub all_dated : List Form
+all_dated = cisco_forms ++ later_forms

@@ -1,0 +1,16 @@
+pub mod Cisco
+pub mod CiscoViews
+pub mod Container
+pub mod Dated
+pub mod DatedForms
+pub mod Esxi
+pub mod Filed
+pub mod IosXr
+pub mod NetScaler
+pub mod NetScalerViews
+pub mod OpenWrt
+pub mod ProCurve
+pub mod SophosUtm
+pub mod Tail
+pub mod TailViews
+pub mod UnixSeconds

@@ -1,0 +1,35 @@
+-- Lines of Citrix NetScaler: `03/02/2026:06:33:04 GMT ns1 0-PPE-0 : text`. 47 is `/`, 58 `:`.
+use Rattle.std.specs.Prelude.{◌≡◌, List, [], ◌∷◌, Some}
+use Rattle.std.specs.Option.{option_flatten}
+use Rattle.syslog_pieces.specs.Pieces.Class.{Class, Values, Row, run, optional, mapped, after}
+use Rattle.syslog_pieces.specs.Text.{is_blank}
+use Rattle.syslog_pieces.specs.Timestamp.Rfc3339.{pair, year}
+use Rattle.syslog_dated_forms.specs.Dated.{dated_sent}
+use Rattle.syslog_sent.specs.Sent.{Form}
+use Rattle.syslog_dated_forms.specs.Tail.{wide_tail}
+use Rattle.syslog_sent.specs.Zone.{zone}
+use Rattle.syslog_sent.specs.declared.dialect.Dialect.TheVariants.{NetScaler}
+use Rattle.syslog_sent.specs.declared.sent.SentDate.{SentDate}
+
+-- month, day and year with slashes, a colon, and the clock
+abbrev pub slashed_row : List Class
+slashed_row =
+    pair 100 ∷ after 47 (pair 100) ∷ after 47 year ∷ after 58 (pair 100) ∷ after 58 (pair 100) ∷ after 58 (pair 100)
+    ∷ optional zone ∷ []
+
+abbrev pub slashed_of : Values slashed_row → SentDate
+slashed_of (m, (d, (y, (h, (mi, (s, (z, _))))))) = record {
+  date = record { year = Some y; month = m; day = d; hour = h; minute = mi; second = s };
+  nanosecond = 0;
+  offset = option_flatten z;
+}
+
+abbrev pub slashed_date : Class
+slashed_date = mapped (Row slashed_row) SentDate slashed_of
+
+abbrev pub netscaler_row : List Class
+netscaler_row = run is_blank ∷ slashed_date ∷ wide_tail ∷ []
+
+abbrev pub netscaler_form : Form
+netscaler_form =
+    record { dialect = NetScaler; row = netscaler_row; Means = λ v sent. sent ≡ dated_sent v.1.0 v.1.1.0 }

@@ -1,0 +1,85 @@
+//! Container log files in the format of Kubernetes (CRI): `2026-03-02T06:33:04.123456789Z stdout F text`.
+//!
+//! **Rule.** The stream and the mark of a full or a partial line name no host and no program, so they stay before the
+//! message. (Kubernetes, "CRI logging": a timestamp of RFC 3339, `stdout` or `stderr`, `F` or `P`, each before a
+//! space.)
+ghost use Rattle.std.specs.Prelude.{◌≡◌, ◌∷◌, [], chars, true, MatchBool};
+ghost use Rattle.syslog_pieces.specs.Pieces.Class.{Front, Row, Text, exactly, run};
+ghost use Rattle.syslog_pieces.specs.Pieces.Rules.{such_that};
+ghost use Rattle.syslog_pieces.specs.Pieces.View.{Recognises};
+ghost use Rattle.syslog_pieces.specs.Text.{is_blank};
+ghost use Rattle.syslog_sent.specs.Date.{iso_date};
+ghost use Rattle.syslog_sent.specs.Sent.{Sends};
+ghost use Rattle.syslog_sent.specs.Zone.{bare_word as any_word};
+ghost use Rattle.syslog_dated_forms.specs.Container as spec;
+
+use syslog_pieces::text::literal;
+use syslog_sent::sent::{Sent, SentDate};
+use syslog_sent::zone::{bare_word, is_one_of};
+
+const STREAMS: [&str; 2] = ["stdout", "stderr"];
+
+const MARKS: [&str; 2] = ["F", "P"];
+
+fn is_stream(word: &str) -> bool
+    ensures { MatchBool result (spec.IsStream (chars word.now)) (spec.IsStream (chars word.now) → ⊥) }
+{
+    is_one_of(&STREAMS, word)
+}
+
+fn is_mark(word: &str) -> bool
+    ensures { MatchBool result (spec.IsMark (chars word.now)) (spec.IsMark (chars word.now) → ⊥) }
+{
+    is_one_of(&MARKS, word)
+}
+
+fn stream(text: &str) -> Option<&str>
+    ensures { Recognises (such_that any_word spec.IsStream) (chars text.now) result }
+{
+    let (word, rest) = bare_word(text)?;
+    if !is_stream(word) {
+        return None;
+    }
+    Some(rest)
+}
+
+fn mark(text: &str) -> Option<&str>
+    ensures { Recognises (such_that any_word spec.IsMark) (chars text.now) result }
+{
+    let (word, rest) = bare_word(text)?;
+    if !is_mark(word) {
+        return None;
+    }
+    Some(rest)
+}
+
+fn space(text: &str) -> Option<&str>
+    ensures { Recognises (exactly (32 ∷ [])) (chars text.now) result }
+{
+    literal(text, ' ')
+}
+
+// Returns the text after the stream, a space and the mark.
+fn past_stream(text: &str) -> Option<&str>
+    ensures { Recognises (Row spec.stream_row) (chars text.now) result }
+{
+    stream(text).and_then(space).and_then(mark)
+}
+
+/// Returns what a line of a container's log file says, which begins with this date, and has `rest` after it.
+pub(crate) fn read_container(date: SentDate, rest: &str) -> Option<Sent<'_>>
+    ensures { (text at : Text) → Front (run is_blank) text at tt → Front iso_date at (chars rest.now) date
+        → Sends spec.container_form text result }
+{
+    let msg = space(rest)?;
+    let _ = past_stream(msg)?;
+    Some(Sent {
+        version: None,
+        date: Some(date),
+        hostname: None,
+        appname: None,
+        process: None,
+        msgid: None,
+        msg,
+    })
+}

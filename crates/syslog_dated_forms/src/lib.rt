@@ -1,0 +1,20 @@
+//! The forms of lines that are recognised by their date: those of Cisco's systems, of containers and journals, and
+//! others whose date the port does not read.
+//!
+//! A text is of the first form whose row divides it, in the order of `dated_forms`. The rule of each form is at the
+//! head of its module and of its file in `specs/`, with its vendor's document.
+#![tactic(auto)]
+
+mod cisco;
+mod container;
+mod dated;
+pub mod dated_forms;
+mod esxi;
+mod filed;
+mod ios_xr;
+mod netscaler;
+mod open_wrt;
+mod procurve;
+mod sophos_utm;
+mod tail;
+mod unix_seconds;

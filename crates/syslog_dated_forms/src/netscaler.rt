@@ -1,0 +1,96 @@
+//! Lines of Citrix NetScaler (ADC): `03/02/2026:06:33:04 GMT ns1 0-PPE-0 : default TCP CONN_TERMINATE ..`.
+//!
+//! **Rule.** The month comes first, as in the appliance's default setting (Citrix, "Audit logging": date format
+//! MMDDYYYY). What follows is read as the port reads it.
+ghost use Rattle.std.specs.Prelude.{◌≡◌, chars};
+ghost use Rattle.syslog_pieces.specs.Pieces.Class.{Row, after};
+ghost use Rattle.syslog_pieces.specs.Pieces.View.{Reads};
+ghost use Rattle.syslog_pieces.specs.Timestamp.Rfc3339.{year as any_year};
+ghost use Rattle.syslog_sent.specs.Sent.{Sends};
+ghost use Rattle.syslog_dated_forms.specs.NetScalerViews.{slashed_values};
+ghost use Rattle.syslog_dated_forms.specs.NetScaler as spec;
+
+use crate::dated::says;
+use crate::tail::read_wide_tail;
+use syslog_pieces::text::{blanks, literal};
+use syslog_pieces::timestamp::MonthDate;
+use syslog_pieces::timestamp::pairs::{pair, pair_after, year};
+use syslog_sent::date::optional_zone;
+use syslog_sent::sent::{Sent, SentDate};
+
+// Returns a year after a slash, and the text after it.
+fn slashed_year(text: &str) -> Option<(u16, &str)>
+    ensures { Reads (after 47 any_year) (λ y. y) (chars text.now) result }
+{
+    let rest = literal(text, '/')?;
+    year(rest)
+}
+
+/// The numbers of a date with slashes.
+#[derive(Clone, Copy)]
+struct SlashedDate {
+    month: u32,
+    day: u32,
+    year: u16,
+    hour: u32,
+    minute: u32,
+    second: u32,
+    zone: Option<Option<i32>>,
+}
+
+impl SlashedDate {
+    fn sent(self) -> SentDate
+        ensures { result ≡ spec.slashed_of (slashed_values self) }
+    {
+        let date = MonthDate {
+            year: Some(u32::from(self.year)),
+            month: self.month,
+            day: self.day,
+            hour: self.hour,
+            minute: self.minute,
+            second: self.second,
+        };
+        SentDate {
+            date,
+            nanosecond: 0,
+            offset: self.zone.flatten(),
+        }
+    }
+}
+
+fn slashed(text: &str) -> Option<(SlashedDate, &str)>
+    ensures { Reads (Row spec.slashed_row) slashed_values (chars text.now) result }
+{
+    let (month, rest) = pair(text, 100)?;
+    let (day, rest) = pair_after(rest, '/', 100)?;
+    let (year, rest) = slashed_year(rest)?;
+    let (hour, rest) = pair_after(rest, ':', 100)?;
+    let (minute, rest) = pair_after(rest, ':', 100)?;
+    let (second, rest) = pair_after(rest, ':', 100)?;
+    let (zone, rest) = optional_zone(rest);
+    let shown = SlashedDate {
+        month,
+        day,
+        year,
+        hour,
+        minute,
+        second,
+        zone,
+    };
+    Some((shown, rest))
+}
+
+fn slashed_date(text: &str) -> Option<(SentDate, &str)>
+    ensures { Reads spec.slashed_date (λ d. d) (chars text.now) result }
+{
+    let (date, rest) = slashed(text)?;
+    Some((date.sent(), rest))
+}
+
+/// Returns what a line of NetScaler says.
+pub(crate) fn read_netscaler(text: &str) -> Option<Sent<'_>>
+    ensures { Sends spec.netscaler_form (chars text.now) result }
+{
+    let (date, rest) = slashed_date(blanks(text))?;
+    Some(says(date, read_wide_tail(rest)))
+}

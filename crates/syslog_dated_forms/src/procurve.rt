@@ -1,0 +1,38 @@
+//! Lines of HP's ProCurve and ArubaOS-Switch: `Mar  2 06:33:04 10.0.0.5 00076 ports: port 1 is now on-line`.
+//!
+//! **Rule.** The number of the event, which is before the module, names no program: the module does. (HP, "Event log
+//! message reference": severity, date, event number, system module.)
+ghost use Rattle.std.specs.Prelude.{◌≡◌, chars};
+ghost use Rattle.syslog_pieces.specs.Pieces.Class.{Front, Text, run};
+ghost use Rattle.syslog_pieces.specs.Text.{is_blank};
+ghost use Rattle.syslog_sent.specs.Date.{any_date};
+ghost use Rattle.syslog_sent.specs.Sent.{Sends};
+ghost use Rattle.syslog_dated_forms.specs.ProCurve as spec;
+
+use crate::cisco::{colon, digits, gap, origin};
+use syslog_pieces::text::blanks;
+use syslog_sent::sent::{Sent, SentDate};
+use syslog_sent::zone::bare_word;
+
+/// Returns what a line of ProCurve says, which begins with this date, and has `rest` after it.
+pub(crate) fn read_procurve(date: SentDate, rest: &str) -> Option<Sent<'_>>
+    ensures { (text at : Text) → Front (run is_blank) text at tt → Front any_date at (chars rest.now) date
+        → Sends spec.procurve_form text result }
+{
+    let before_host = gap(rest)?;
+    let (host, after_host) = origin(before_host)?;
+    let before_number = gap(after_host)?;
+    let after_number = digits(before_number)?;
+    let before_module = gap(after_number)?;
+    let (app, after_module) = bare_word(before_module)?;
+    let after_colon = colon(after_module)?;
+    Some(Sent {
+        version: None,
+        date: Some(date),
+        hostname: Some(host),
+        appname: Some(app),
+        process: None,
+        msgid: None,
+        msg: blanks(after_colon),
+    })
+}

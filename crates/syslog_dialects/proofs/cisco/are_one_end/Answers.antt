@@ -1,8 +1,0 @@
-use Rattle.std.proofs.Common.{◌≡◌, length, arith}
-use Rattle.std.proofs.lemmas.Bool.Decides.{nat_tests}
-use Rattle.syslog_dialects.proofs.LedLemmas.{one_end}
-use Rattle.syslog_dialects.proofs.cisco.are_one_end.Goals as goal
-
-pub returns : goal.returns
-returns c told p q e = let same : length c.args.a.now ≡ length c.args.b.now = grind (arith, nat_tests) in
-    one_end p q c.args.a.now c.args.b.now c.utf8.a c.utf8.b same e

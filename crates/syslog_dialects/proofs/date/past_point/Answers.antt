@@ -1,7 +1,0 @@
-use Rattle.std.proofs.Common.{Some}
-use Rattle.syslog_pieces.proofs.PieceLemmas.Class.{optional_some}
-use Rattle.syslog_dialects.specs.Date.{point}
-use Rattle.syslog_dialects.proofs.date.past_point.Goals as goal
-
-pub returns-in-Some : goal.returns-in-Some
-returns-in-Some c = let (v, f) = c.in-Some.ensures in (Some v, optional_some point f)

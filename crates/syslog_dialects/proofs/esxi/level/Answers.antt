@@ -1,9 +1,0 @@
-use Rattle.std.proofs.Common.{refl}
-use Rattle.syslog_dialects.proofs.NamedLemmas.{told}
-use Rattle.syslog_dialects.specs.Esxi.{is_level}
-use Rattle.syslog_dialects.specs.Runs.{is_plain_char}
-use Rattle.syslog_dialects.proofs.esxi.level.Goals as goal
-
-pub returns : goal.returns
-returns c = told is_plain_char is_level refl c.split.result.0 c.split.result.1 _ _ c.split.ensures
-    c.is_level.ensures c.then_some.ensures

@@ -1,8 +1,0 @@
-use Rattle.syslog_pieces.specs.Pieces.View.{shown}
-use Rattle.syslog_dialects.specs.PairViews.{notes_value}
-use Rattle.syslog_dialects.proofs.PairLemmas.{unnoted}
-use Rattle.syslog_dialects.proofs.pairs.noted_more.Goals as goal
-
-pub returns-then-not-may_be_noted : goal.returns-then-not-may_be_noted
-returns-then-not-may_be_noted c = unnoted (notes_value c.args.notes) (shown c.args.pair.key) (shown c.args.pair.value)
-    c.if-not-may_be_noted.ensures

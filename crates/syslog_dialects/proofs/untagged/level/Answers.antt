@@ -1,9 +1,0 @@
-use Rattle.std.proofs.Common.{refl}
-use Rattle.std.specs.Char.{is_not_whitespace}
-use Rattle.syslog_dialects.proofs.NamedLemmas.{told}
-use Rattle.syslog_dialects.specs.Untagged.{is_level}
-use Rattle.syslog_dialects.proofs.untagged.level.Goals as goal
-
-pub returns : goal.returns
-returns c = told is_not_whitespace is_level refl c.split_run.result.0 c.split_run.result.1 _ _ c.split_run.ensures
-    c.is_level.ensures c.then_some.ensures

@@ -1,9 +1,0 @@
-use Rattle.std.proofs.Common.{[], ◌∷◌}
-use Rattle.syslog_pieces.proofs.PieceLemmas.{Class.◌also◌, Rules.row_reads}
-use Rattle.syslog_dialects.{proofs.UntaggedLemmas.pair_det, specs.Untagged.pair_row}
-use Rattle.syslog_dialects.proofs.untagged.pair_start.Goals as goal
-
-pub returns : goal.returns
-returns c = row_reads pair_row pair_det c.args.text
-    (c.key.result ∷ c.and_then.result ∷ [])
-    (c.key.ensures also c.and_then.ensures also tt)

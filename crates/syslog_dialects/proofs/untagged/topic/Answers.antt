@@ -1,8 +1,0 @@
-use Rattle.std.proofs.Common.{[], ◌∷◌}
-use Rattle.syslog_pieces.proofs.PieceLemmas.{Class.◌also◌, Rules.row_reads}
-use Rattle.syslog_dialects.{proofs.UntaggedLemmas.topic_det, specs.Untagged.topic_row}
-use Rattle.syslog_dialects.proofs.untagged.topic.Goals as goal
-
-pub returns : goal.returns
-returns c = row_reads topic_row topic_det c.args.text (c.topic_word.result ∷ c.and_then.result ∷ [])
-    (c.topic_word.ensures also c.and_then.ensures also tt)

@@ -1,8 +1,0 @@
-use Rattle.std.proofs.Common.{[], ◌∷◌}
-use Rattle.syslog_pieces.proofs.PieceLemmas.{Class.◌also◌, Rules.row_reads}
-use Rattle.syslog_dialects.{proofs.UntaggedLemmas.topics_det, specs.Untagged.topics_row}
-use Rattle.syslog_dialects.proofs.untagged.topics.Goals as goal
-
-pub returns : goal.returns
-returns c = row_reads topics_row topics_det c.args.text (c.topic.result ∷ c.and_then.result ∷ [])
-    (c.topic.ensures also c.and_then.ensures also tt)

@@ -1,7 +1,0 @@
--- How clauses see the struct of `netscaler`.
-use Rattle.syslog_pieces.specs.Pieces.Class.{Values}
-use Rattle.syslog_dialects.specs.NetScaler.{slashed_row}
-use Rattle.syslog_dialects.specs.declared.netscaler.SlashedDate.{SlashedDate}
-
-abbrev pub slashed_values : SlashedDate → Values slashed_row
-slashed_values d = (d.month, (d.day, (d.year, (d.hour, (d.minute, (d.second, (d.zone, tt)))))))

@@ -1,0 +1,60 @@
+-- A text has one division into each row of a program's line.
+use Rattle.syslog_pieces.proofs.PieceLemmas.Class.{AllDeterministic, ◌also◌, exactly_det}
+use Rattle.syslog_pieces.specs.Text.{is_blank}
+use Rattle.syslog_pieces.proofs.PieceLemmas.Class.{rest_det, run_det, some_run_det}
+use Rattle.syslog_pieces.proofs.TextLemmas.Words.{host_det}
+use Rattle.syslog_named_forms.specs.Programs.{serial_row}
+use Rattle.syslog_sent.specs.Runs.{is_plain_char}
+use Rattle.syslog_sent.proofs.NamedLemmas.{program_det}
+use Rattle.syslog_sent.proofs.DateLemmas.{iso_date_det}
+use Rattle.syslog_pieces.specs.Pieces.Class.{IsDeterministic, Row, some_run}
+use Rattle.syslog_pieces.specs.Pieces.Class.{texted}
+use Rattle.syslog_pieces.proofs.PieceLemmas.Class.{mapped_det}
+use Rattle.syslog_pieces.proofs.PieceLemmas.Class.{texted_det, row_det}
+use Rattle.syslog_pieces.proofs.PieceLemmas.Rules.{such_det}
+use Rattle.syslog_sent.specs.Named.{BeginsWith}
+use Rattle.syslog_sent.specs.Runs.{is_word_char}
+use Rattle.syslog_sent.specs.Named.{NamedTexts, is_letter}
+use Rattle.syslog_named_forms.specs.Programs.{words, words_row, worded_row, forwarded_row, forwarded_of, passed_on}
+use Rattle.syslog_pieces.proofs.PieceLemmas.Class.{after_det}
+use Rattle.syslog_pieces.proofs.PieceLemmas.Lists.{many_det}
+use Rattle.syslog_pieces.specs.Pieces.Class.{spaced}
+use Rattle.syslog_pieces.specs.Text.{is_tag_char}
+use Rattle.syslog_named_forms.specs.Programs.{grade, hostless_row}
+use Rattle.syslog_sent.specs.Selector.{selector_row}
+use Rattle.syslog_named_forms.specs.Programs.{severity_row}
+use Rattle.syslog_sent.proofs.NamedLemmas.{otherwise_det, id_det, severity_word_det, selector_det}
+
+pub serial_det : AllDeterministic serial_row
+serial_det = host_det also some_run_det is_blank also some_run_det is_plain_char also exactly_det _ also exactly_det _
+    also iso_date_det also exactly_det _ also some_run_det is_blank also program_det also run_det is_blank also
+    rest_det also tt
+
+pub hostless_det : AllDeterministic hostless_row
+hostless_det = program_det also some_run_det is_blank also rest_det also tt
+
+grade_det : IsDeterministic grade
+grade_det = otherwise_det severity_word_det (row_det selector_row selector_det)
+
+pub severity_det : AllDeterministic severity_row
+severity_det = host_det also some_run_det is_blank also grade_det also some_run_det is_blank also program_det
+    also run_det is_blank also rest_det also tt
+
+pub words_row_det : AllDeterministic words_row
+words_row_det = some_run_det is_word_char also many_det (spaced (some_run is_word_char))
+    (after_det (some_run is_word_char) (some_run_det is_word_char)) also tt
+
+words_det : IsDeterministic words
+words_det = such_det (texted (Row words_row)) (BeginsWith is_letter)
+    (texted_det (Row words_row) (row_det words_row words_row_det))
+
+pub worded_det : AllDeterministic worded_row
+worded_det = host_det also some_run_det is_blank also words_det also id_det also exactly_det _ also run_det is_blank
+    also rest_det also tt
+
+pub forwarded_det : AllDeterministic forwarded_row
+forwarded_det = exactly_det _ also texted_det (some_run is_tag_char) (some_run_det is_tag_char) also exactly_det _
+    also run_det is_blank also program_det also run_det is_blank also rest_det also tt
+
+pub passed_on_det : IsDeterministic passed_on
+passed_on_det = mapped_det (Row forwarded_row) NamedTexts forwarded_of (row_det forwarded_row forwarded_det)

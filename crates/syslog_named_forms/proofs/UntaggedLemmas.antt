@@ -1,0 +1,267 @@
+-- A text has one front of each class of marks.
+use Rattle.std.proofs.Common.{◌≡◌, inl, inr, ℕ, Bool, true, false, List, [], ◌∷◌, ◌++◌, Some, None, refl, sym, ap}
+use Rattle.std.proofs.Common.{subst, ◌∙◌, arith}
+use Rattle.std.proofs.lemmas.Bool.Decides.{nat_tests}
+use Rattle.std.specs.Char.{is_not_whitespace}
+use Rattle.std.specs.Prelude.{◌&&◌, chars, codes, nat_le}
+use Rattle.syslog_pieces.specs.Pieces.Class.{Text, Class, Ends, Front, NoFront, Row, Values, after, exactly, join}
+use Rattle.syslog_pieces.specs.Bodies.Scan.{SplitsRun}
+use Rattle.syslog_pieces.specs.Pieces.Class.{optional, run}
+use Rattle.syslog_pieces.proofs.PieceLemmas.Class.{each_map, front_of, front_same, heads, no_mapped, row_none_here}
+use Rattle.syslog_pieces.proofs.PieceLemmas.Class.{row_pieces, rows_none_here, rows_none_later}
+use Rattle.syslog_pieces.proofs.PieceLemmas.Lists.{Begins, begins as begins_with_it}
+use Rattle.syslog_pieces.proofs.PieceLemmas.Rules.{Opens, row_opens}
+use Rattle.syslog_pieces.proofs.TextLemmas.Words.{host_det}
+use Rattle.syslog_sent.specs.Named.{◌otherwise◌, NamedTexts, beginning}
+use Rattle.syslog_named_forms.specs.Untagged.{begins, here, host_row, is_level, mark_class, repeated_row, repeats}
+use Rattle.syslog_named_forms.specs.declared.untagged.Mark.{Mark}
+use Rattle.syslog_named_forms.specs.declared.untagged.Mark.TheVariants.{Cef, Leef, Repeated, PaloAlto, Pair, Json}
+use Rattle.syslog_named_forms.specs.declared.untagged.Mark.TheVariants.{Idrac}
+use Rattle.syslog_named_forms.specs.declared.untagged.Mark.TheVariants.{Level}
+use Rattle.syslog_named_forms.specs.declared.untagged.Mark.TheVariants.{Bracket, Topics}
+use Rattle.std.specs.Char.{is_ascii_digit}
+use Rattle.syslog_pieces.specs.Text.{is_blank}
+use Rattle.syslog_pieces.specs.Timestamp.Rfc3339.{pair, year}
+use Rattle.syslog_pieces.proofs.PieceLemmas.Class.{AllDeterministic, ◌also◌, after_det, exactly_det, run_det}
+use Rattle.syslog_pieces.proofs.PieceLemmas.Class.{some_run_det}
+use Rattle.syslog_pieces.proofs.TimestampLemmas.Rfc3339.{pair_det as two_det, year_det}
+use Rattle.syslog_pieces.specs.Pieces.Class.{IsDeterministic, some_run, texted}
+use Rattle.std.specs.Prelude.{IsTrue}
+use Rattle.syslog_pieces.proofs.PieceLemmas.Class.{row_det, texted_det}
+use Rattle.syslog_pieces.proofs.PieceLemmas.Rules.{such_det}
+use Rattle.syslog_sent.proofs.NamedLemmas.{no_beginning, no_otherwise, otherwise_det}
+use Rattle.syslog_sent.specs.Runs.{is_either_char, is_plain_char, is_word_char}
+use Rattle.syslog_named_forms.specs.Untagged.{cef_row, leef_row, pair_row, palo_alto_row, repeated_tail, repeats_row}
+use Rattle.syslog_named_forms.specs.Untagged.{is_main_topic, later_topic_row, main_topic, number_row, topic_row}
+use Rattle.syslog_named_forms.specs.Untagged.{IsNoMessage, IsUnmarked, begins_mark, ends_list, marked, marked_of}
+use Rattle.syslog_named_forms.specs.Untagged.{topics_row}
+
+pub cef_det : AllDeterministic cef_row
+cef_det = exactly_det _ also run_det is_blank also some_run_det is_ascii_digit also exactly_det _ also tt
+
+pub leef_det : AllDeterministic leef_row
+leef_det = exactly_det _ also run_det is_blank also some_run_det is_ascii_digit also exactly_det _
+    also some_run_det is_ascii_digit also exactly_det _ also tt
+
+pub repeated_det : AllDeterministic repeated_tail
+repeated_det = exactly_det _ also some_run_det is_ascii_digit also exactly_det _ also tt
+
+pub palo_alto_det : AllDeterministic palo_alto_row
+palo_alto_det =
+    let two = two_det 100 (omega arith) in
+    some_run_det is_ascii_digit also exactly_det _ also year_det also after_det (pair 100) two also after_det
+    (pair 100) two
+    also exactly_det _ also two also after_det (pair 100) two also after_det (pair 100) two also exactly_det _ also tt
+
+pub pair_det : AllDeterministic pair_row
+pair_det = some_run_det is_word_char also exactly_det _ also tt
+
+pub repeats_det : AllDeterministic repeats_row
+repeats_det = otherwise_det (exactly_det _) (exactly_det _) also some_run_det is_ascii_digit also exactly_det _ also tt
+
+pub topic_det : AllDeterministic topic_row
+topic_det = some_run_det is_plain_char also exactly_det _ also tt
+
+main_topic_det : IsDeterministic main_topic
+main_topic_det = such_det (texted (some_run is_plain_char)) (λ t. IsTrue (is_main_topic t))
+    (texted_det (some_run is_plain_char) (some_run_det is_plain_char))
+
+pub later_topic_det : AllDeterministic later_topic_row
+later_topic_det = row_det topic_row topic_det also main_topic_det also tt
+
+pub topics_det : AllDeterministic topics_row
+topics_det = row_det topic_row topic_det also otherwise_det main_topic_det (row_det later_topic_row later_topic_det)
+    also tt
+
+pub number_row_det : AllDeterministic number_row
+number_row_det = exactly_det _ also some_run_det is_ascii_digit also exactly_det _ also tt
+
+pub host_row_det : AllDeterministic host_row
+host_row_det = host_det also some_run_det is_blank also tt
+
+-- ---- what a mark begins with
+
+-- a text of the class begins with a character that passes the test
+abbrev Starts : Class → (ℕ → Bool) → Type 0
+Starts C test = Opens C (λ c. test c ≡ true)
+
+run_starts : (test : ℕ → Bool) → Starts (some_run test) test
+run_starts test [] q v (h, e, f) = absurd (omega (arith, h))
+run_starts test (c ∷ p) q v (h, e, f) = (c, p, refl, e.0)
+
+first_optional : (C : Class) (Cs : List Class) (H : ℕ → Type 0) → Opens C H → Opens (Row Cs) H
+    → Opens (Row (optional C ∷ Cs)) H
+first_optional C Cs H o k p q vs ([], e, h) = absurd h
+first_optional C Cs H o k p q (None, vs) (a ∷ ps, e, (n, h)) =
+    let (c, t, f, g) = k (join ps) q vs (ps, refl, h) in (c, t, e ∙ ap (λ (x : Text). x ++ join ps) n.0 ∙ f, g)
+first_optional C Cs H o k p q (Some v, vs) (a ∷ ps, e, (n, h)) =
+    let (c, t, f, g) = o a (join ps ++ q) v n in (c, t ++ join ps, e ∙ ap (λ (x : Text). x ++ join ps) f, g)
+
+otherwise_opens : {C D : Class} (H : ℕ → Type 0) → Opens C H → Opens D H → Opens (C otherwise D) H
+otherwise_opens H o k p q (inl v) h = o p q v h
+otherwise_opens H o k p q (inr w) h = k p q w h.1
+
+level_starts : (c : ℕ) (t : Text) → IsTrue (is_level (c ∷ t)) → IsTrue (nat_le 68 c && nat_le c 87)
+level_starts c t h = grind (arith, nat_tests)
+
+abbrev after_comma : List Class
+after_comma =
+    year ∷ after 47 (pair 100) ∷ after 47 (pair 100) ∷ exactly (32 ∷ []) ∷ pair 100 ∷ after 58 (pair 100)
+    ∷ after 58 (pair 100) ∷ exactly (44 ∷ []) ∷ []
+
+abbrev more_of_palo_alto : List Class
+more_of_palo_alto = exactly (44 ∷ []) ∷ after_comma
+
+-- the text that it is begins with the character
+exact : (c : ℕ) (t : Text) (test : ℕ → Bool) → test c ≡ true → Starts (exactly (c ∷ t)) test
+exact c t test h p q v e = (c, t, e, h)
+
+opens : (m : Mark) → Starts (mark_class m) (begins m)
+opens Cef = row_opens (exactly (codes "CEF:")) (run is_blank ∷ some_run is_ascii_digit ∷ exactly (124 ∷ []) ∷ [])
+    (λ c. begins Cef c ≡ true) (exact 67 (codes "EF:") (begins Cef) refl)
+opens Leef = row_opens (exactly (codes "LEEF:"))
+    (run is_blank ∷ some_run is_ascii_digit ∷ exactly (46 ∷ []) ∷ some_run is_ascii_digit ∷ exactly (124 ∷ []) ∷ [])
+    (λ c. begins Leef c ≡ true) (exact 76 (codes "EEF:") (begins Leef) refl)
+opens Repeated = otherwise_opens {C = Row repeated_row} {D = Row repeats_row otherwise here} (λ c. begins Repeated
+    c ≡ true)
+    (first_optional (exactly (codes "last ")) repeated_tail (λ c. begins Repeated c ≡ true)
+    (exact 108 (codes "ast ") (begins Repeated) refl)
+    (row_opens (exactly (codes "message repeated ")) (some_run is_ascii_digit ∷ exactly (codes " time") ∷ [])
+    (λ c. begins Repeated c ≡ true) (exact 109 (codes "essage repeated ") (begins Repeated) refl)))
+    (otherwise_opens {C = Row repeats_row} {D = here} (λ c. begins Repeated c ≡ true)
+    (row_opens repeats (some_run is_ascii_digit ∷ exactly (codes " time") ∷ []) (λ c. begins Repeated c ≡ true)
+    (otherwise_opens {C = exactly (codes "--- last message repeated ")} {D = exactly (codes "above message repeats ")}
+    (λ c. begins Repeated c ≡ true) (exact 45 (codes "-- last message repeated ") (begins Repeated) refl)
+    (exact 97 (codes "bove message repeats ") (begins Repeated) refl)))
+    (exact 45 (codes "- MARK --") (begins Repeated) refl))
+opens PaloAlto = row_opens (some_run is_ascii_digit) more_of_palo_alto (λ c. begins PaloAlto c ≡ true)
+    (run_starts is_ascii_digit)
+opens Pair = row_opens (some_run is_word_char) (exactly (61 ∷ []) ∷ []) (λ c. begins Pair c ≡ true)
+    (run_starts is_word_char)
+opens Json = exact 123 (34 ∷ []) (begins Json) refl
+opens Idrac = exact 83 (codes "everity: ") (begins Idrac) refl
+opens Level = λ p q v ((u, h, e), k). let (c, t, f, g) = run_starts is_not_whitespace p q u h in
+    (c, t, f, level_starts c t (subst (λ (x : Text). IsTrue (is_level x)) (e ∙ f) k))
+opens Topics = row_opens (Row topic_row) ((main_topic otherwise Row later_topic_row) ∷ []) (λ c. begins Topics c ≡ true)
+    (row_opens (some_run is_plain_char) (exactly (44 ∷ []) ∷ []) (λ c. begins Topics c ≡ true)
+    (run_starts is_plain_char))
+opens Bracket = λ p q v h. (91, [], h.1, refl)
+
+-- a text that begins otherwise has none
+pub no_mark : (m : Mark) {t more : Text} {c : ℕ} → t ≡ c ∷ more → false ≡ begins m c → NoFront (mark_class m) t
+no_mark m {more = more} {c = c} e fails p q v f h = let (d, r, g, k) = opens m p q v h in
+    let same : c ≡ d = heads c d more (r ++ q) (sym e ∙ f ∙ ap (λ (x : Text). x ++ q) g) in
+    let bad : true ≡ false = sym k ∙ ap (begins m) (sym same) ∙ sym fails in cc
+
+pub no_mark_empty : (m : Mark) {t : Text} → t ≡ [] → NoFront (mark_class m) t
+no_mark_empty m e p q v f h = let (d, r, g, k) = opens m p q v h in
+    let bad : [] ≡ d ∷ (r ++ q) = sym e ∙ f ∙ ap (λ (x : Text). x ++ q) g in cc
+
+-- ---- what follows a key, a number or a topic
+
+-- a run before a character that the wider run lacks: the wider run ends before it too
+run_ends : (test wide : ℕ → Bool) (d : ℕ) (Cs : List Class) → ((c : ℕ) → test c ≡ true → wide c ≡ true)
+    → wide d ≡ false → {t u r : Text} {vs : Values (some_run test ∷ exactly (d ∷ []) ∷ Cs)} → Front (run wide) t u tt
+    → Front (Row (some_run test ∷ exactly (d ∷ []) ∷ Cs)) t r vs → Begins (λ c. c ≡ d) u
+run_ends test wide d Cs among stops {u = u} w f =
+    let (a, x, (b, y, more)) = row_pieces (some_run test ∷ exactly (d ∷ []) ∷ Cs) f in
+    let is = begins_with_it d a b y in
+    let at_sign : Ends wide a = rw is stops in
+    let same = (front_same (run wide) (run_det wide)
+    (front_of x.piece x.whole (each_map test wide among x.piece x.is.1, at_sign)) w).0 in
+    subst (λ (z : Text). Begins (λ c. c ≡ d) z) same (rw is refl)
+
+word_either : (c : ℕ) → is_word_char c ≡ true → is_either_char c ≡ true
+word_either c h = grind (arith, nat_tests, h)
+
+plain_either : (c : ℕ) → is_plain_char c ≡ true → is_either_char c ≡ true
+plain_either c h = grind (arith, nat_tests, h)
+
+digit_either : (c : ℕ) → is_ascii_digit c ≡ true → is_either_char c ≡ true
+digit_either c h = grind (arith, nat_tests, h)
+
+module _ {t u : Text} (w : Front (run is_either_char) t u tt) where
+  no_pair : (Begins (λ c. c ≡ 61) u → ⊥) → NoFront (Row pair_row) t
+  no_pair n p q vs e h = n (run_ends is_word_char is_either_char 61 [] word_either refl w (front_of p e h))
+
+  no_topics : (Begins (λ c. c ≡ 44) u → ⊥) → NoFront (Row topics_row) t
+  no_topics n p q vs e h = let (a, f, more) = row_pieces topics_row (front_of p e h) in
+      n (run_ends is_plain_char is_either_char 44 [] plain_either refl w f)
+
+  no_palo_alto : (Begins (λ c. c ≡ 44) u → ⊥) → NoFront (Row palo_alto_row) t
+  no_palo_alto n p q vs e h =
+      n (run_ends is_ascii_digit is_either_char 44 after_comma digit_either refl w (front_of p e h))
+
+  pub no_list : (Begins (λ c. c ≡ 61) u → ⊥) → (Begins (λ c. c ≡ 44) u → ⊥) → NoFront (Row pair_row) t
+      × (NoFront (Row topics_row) t × NoFront (Row palo_alto_row) t)
+  no_list n k = (no_pair n, (no_topics k, no_palo_alto k))
+
+-- what the character after the run says
+either_run : {bs xs ys : List ℕ} → SplitsRun is_either_char bs xs ys → Front (run is_either_char) (chars bs)
+    (chars ys) tt
+either_run {xs = xs} s = front_of (chars xs) s.characters (s.each, s.ends)
+
+not_begun : (c d : ℕ) (t more : Text) → t ≡ c ∷ more → (c ≡ d → ⊥) → Begins (λ x. x ≡ d) t → ⊥
+not_begun c d t more e n b = n (rw e at b)
+
+pub list_told : {bs xs ys : List ℕ} {c : ℕ} {more : Text} → SplitsRun is_either_char bs xs ys → chars ys ≡ c ∷ more
+    → ends_list c ≡ false
+    → NoFront (Row pair_row) (chars bs) × (NoFront (Row topics_row) (chars bs) × NoFront (Row palo_alto_row) (chars bs))
+list_told {ys = ys} {c = c} {more = more} s e h = no_list (either_run s)
+    (not_begun c 61 (chars ys) more e (λ is. grind (arith, nat_tests, h, is)))
+    (not_begun c 44 (chars ys) more e (λ is. grind (arith, nat_tests, h, is)))
+
+pub no_list_end : {bs xs ys : List ℕ} → SplitsRun is_either_char bs xs ys → chars ys ≡ []
+    → NoFront (Row pair_row) (chars bs) × (NoFront (Row topics_row) (chars bs) × NoFront (Row palo_alto_row) (chars bs))
+no_list_end s e = no_list (either_run s) (λ b. rw e at b) (λ b. rw e at b)
+
+-- with none of the characters of `begins_mark` begins one of these
+no_cef : (c : ℕ) → begins_mark c ≡ false → false ≡ begins Cef c
+no_cef c h = grind (arith, nat_tests, h)
+
+no_leef : (c : ℕ) → begins_mark c ≡ false → false ≡ begins Leef c
+no_leef c h = grind (arith, nat_tests, h)
+
+no_repeated : (c : ℕ) → begins_mark c ≡ false → false ≡ begins Repeated c
+no_repeated c h = grind (arith, nat_tests, h)
+
+no_json : (c : ℕ) → begins_mark c ≡ false → false ≡ begins Json c
+no_json c h = grind (arith, nat_tests, h)
+
+no_idrac : (c : ℕ) → begins_mark c ≡ false → false ≡ begins Idrac c
+no_idrac c h = grind (arith, nat_tests, h)
+
+no_level : (c : ℕ) → begins_mark c ≡ false → false ≡ begins Level c
+no_level c h = grind (arith, nat_tests, h)
+
+no_bracket : (c : ℕ) → begins_mark c ≡ false → false ≡ begins Bracket c
+no_bracket c h = grind (arith, nat_tests, h)
+
+-- a text that begins otherwise has no mark
+pub unmarked : {t more : Text} {c : ℕ} → t ≡ c ∷ more → begins_mark c ≡ false
+    → NoFront (Row pair_row) t × (NoFront (Row topics_row) t × NoFront (Row palo_alto_row) t) → IsUnmarked t
+unmarked e h n Pair = n.0
+unmarked e h n Topics = n.1.0
+unmarked e h n PaloAlto = n.1.1
+unmarked {c = c} e h n Cef = no_mark Cef e (no_cef c h)
+unmarked {c = c} e h n Leef = no_mark Leef e (no_leef c h)
+unmarked {c = c} e h n Repeated = no_mark Repeated e (no_repeated c h)
+unmarked {c = c} e h n Json = no_mark Json e (no_json c h)
+unmarked {c = c} e h n Idrac = no_mark Idrac e (no_idrac c h)
+unmarked {c = c} e h n Level = no_mark Level e (no_level c h)
+unmarked {c = c} e h n Bracket = no_mark Bracket e (no_bracket c h)
+
+-- ---- no message begins a text, with a host before it or without
+
+abbrev begun : Mark → Class
+begun m = beginning (mark_class m)
+
+pub no_message_alone : {t : Text} → NoFront (Row host_row) t → IsUnmarked t → IsNoMessage t
+no_message_alone h n m = no_mapped (marked m) NamedTexts marked_of
+    (no_otherwise (no_beginning (n m)) (rows_none_here host_row (begun m ∷ []) h))
+
+pub no_message : {t u : Text} {vs : Values host_row} → Front (Row host_row) t u vs → IsUnmarked t → IsUnmarked u
+    → IsNoMessage t
+no_message h n k m = no_mapped (marked m) NamedTexts marked_of
+    (no_otherwise (no_beginning (n m)) (rows_none_later host_row (begun m ∷ []) host_row_det h
+    (row_none_here (begun m) [] (no_beginning (k m)))))

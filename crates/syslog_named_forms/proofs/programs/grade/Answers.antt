@@ -1,0 +1,11 @@
+use Rattle.std.proofs.Common.{inr}
+use Rattle.syslog_pieces.proofs.PieceLemmas.Class.{match_map}
+use Rattle.syslog_sent.proofs.NamedLemmas.{first_front, no_otherwise, second_front}
+use Rattle.syslog_named_forms.proofs.programs.grade.Goals as goal
+
+pub returns-in-Some : goal.returns-in-Some
+returns-in-Some c = (_, first_front c.in-Some.ensures)
+
+pub returns : goal.returns
+returns c = match_map c.selector.result (λ n. no_otherwise c.in_default.ensures n)
+    (λ x (v, f). (inr v, second_front c.in_default.ensures f)) c.selector.ensures

@@ -1,0 +1,18 @@
+use Rattle.std.proofs.Common.{[], ◌∷◌, ◌++◌}
+use Rattle.syslog_pieces.proofs.PieceLemmas.Rules.{after_shorter, no_run, runs_all, runs_more}
+use Rattle.syslog_pieces.specs.Pieces.Class.{some_run}
+use Rattle.syslog_sent.specs.Runs.{is_word_char}
+use Rattle.syslog_named_forms.proofs.programs.more_words.Goals as goal
+
+pub words-init : goal.words-init
+words-init c = (c.utf8.text, ([], no_run))
+
+pub words-preserved : goal.words-preserved
+words-preserved c = let (ps, r) = c.words.invariant.1 in let (p, f) = c.in-Some.ensures.reads in
+    (c.in-Some.ensures.utf8, (ps ++ p ∷ [], runs_more r f))
+
+pub words-smaller : goal.words-smaller
+words-smaller c = after_shorter 32 (some_run is_word_char) c.in-Some.ensures.reads.1
+
+pub returns : goal.returns
+returns c = let (ps, r) = c.words.invariant.1 in (ps, runs_all r c.in_default.ensures.reads)

@@ -1,0 +1,13 @@
+use Rattle.std.proofs.Common.{[], ◌∷◌}
+use Rattle.syslog_pieces.proofs.PieceLemmas.{Class.◌also◌, Rules.always_on, Rules.row_reads}
+use Rattle.syslog_pieces.specs.Pieces.Class.{some_run, spaced}
+use Rattle.syslog_pieces.specs.Pieces.Lists.{many}
+use Rattle.syslog_named_forms.specs.Programs.{words_row}
+use Rattle.syslog_sent.specs.Runs.{is_word_char}
+use Rattle.syslog_named_forms.proofs.ProgramLemmas.{words_row_det}
+use Rattle.syslog_named_forms.proofs.programs.words_end.Goals as goal
+
+pub returns : goal.returns
+returns c = row_reads words_row words_row_det c.args.text (c.word.result ∷ c.map.result ∷ [])
+    (c.word.ensures.reads
+    also always_on (many (spaced (some_run is_word_char))) c.word.result c.map.result c.map.ensures.cases also tt)

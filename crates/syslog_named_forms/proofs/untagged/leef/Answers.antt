@@ -1,0 +1,13 @@
+use Rattle.std.proofs.Common.{[], ◌∷◌}
+use Rattle.syslog_pieces.proofs.PieceLemmas.{Class.◌also◌, Rules.always_on, Rules.row_reads}
+use Rattle.syslog_pieces.specs.Pieces.Class.{run}
+use Rattle.syslog_pieces.specs.Text.{is_blank}
+use Rattle.syslog_named_forms.{proofs.UntaggedLemmas.leef_det, specs.Untagged.leef_row}
+use Rattle.syslog_named_forms.proofs.untagged.leef.Goals as goal
+
+pub returns : goal.returns
+returns c = row_reads leef_row leef_det c.args.text
+    (c.leef_word.result ∷ c.map.result ∷ c.and_then.result ∷ c.and_then-2.result ∷ c.and_then-3.result
+    ∷ c.and_then-4.result ∷ [])
+    (c.leef_word.ensures also always_on (run is_blank) c.leef_word.result c.map.result c.map.ensures.cases also
+    c.and_then.ensures also c.and_then-2.ensures also c.and_then-3.ensures also c.and_then-4.ensures also tt)

@@ -1,0 +1,37 @@
+use Rattle.std.proofs.Common.{[], ◌∷◌}
+use Rattle.syslog_pieces.specs.Pieces.Class.{Class}
+use Rattle.syslog_pieces.proofs.PieceLemmas.Class.{mapped_front, no_mapped, row_cons, row_nil, row_none_here, rows_join}
+use Rattle.syslog_pieces.proofs.PieceLemmas.Class.{rows_none_here, rows_none_later}
+use Rattle.syslog_sent.proofs.NamedLemmas.{beginning_front, first_front, no_beginning, no_otherwise, second_front}
+use Rattle.syslog_named_forms.proofs.UntaggedLemmas.{host_row_det}
+use Rattle.syslog_sent.specs.Named.{NamedTexts, beginning}
+use Rattle.syslog_named_forms.specs.Untagged.{host_row, mark_class}
+use Rattle.syslog_named_forms.specs.Untagged.{marked}
+use Rattle.syslog_named_forms.specs.Untagged.{marked_of}
+use Rattle.syslog_named_forms.specs.declared.untagged.Mark.{Mark}
+use Rattle.syslog_named_forms.proofs.untagged.message.Goals as goal
+
+abbrev begun : Mark → Class
+begun m = beginning (mark_class m)
+
+pub returns-in-Some : goal.returns-in-Some
+returns-in-Some c after = let (v, f) = c.in-Some.ensures in
+    rw c.untagged.ensures (mapped_front (marked c.args.mark) NamedTexts marked_of (first_front (beginning_front f)))
+
+pub returns-in_err-hostname : goal.returns-in_err-hostname
+returns-in_err-hostname c after = rw c.from_residual.ensures (no_mapped (marked c.args.mark) NamedTexts marked_of
+    (no_otherwise (no_beginning c.in_default.ensures)
+    (rows_none_here host_row (begun c.args.mark ∷ []) (rw c.in_err-hostname.was at after))))
+
+pub returns-in_err-mark_end : goal.returns-in_err-mark_end
+returns-in_err-mark_end c after = rw c.from_residual-in_err-mark_end.ensures
+    (no_mapped (marked c.args.mark) NamedTexts marked_of
+    (no_otherwise (no_beginning c.in_default.ensures) (rows_none_later host_row (begun c.args.mark ∷ []) host_row_det
+    (rw c.in_ok-hostname.was at after) (row_none_here (begun c.args.mark) []
+    (no_beginning c.in_err-mark_end.ensures)))))
+
+pub returns : goal.returns
+returns c after = let (v, f) = c.in_ok-mark_end.ensures in
+    rw c.untagged-2.ensures (mapped_front (marked c.args.mark) NamedTexts marked_of
+    (second_front (no_beginning c.in_default.ensures) (rows_join host_row (begun c.args.mark ∷ [])
+    (rw c.in_ok-hostname.was at after) (row_cons (begun c.args.mark) [] (beginning_front f) (row_nil [])))))

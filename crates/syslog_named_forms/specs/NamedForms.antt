@@ -1,0 +1,102 @@
+-- The forms that are recognised by what follows the date, in the order in which they are tried.
+use Rattle.std.specs.Prelude.{◌≡◌, List, [], ◌∷◌, ◌++◌, Some, None}
+use Rattle.syslog_pieces.specs.Pieces.Class.{Class, Values, Row, run, some_run, mapped}
+use Rattle.syslog_pieces.specs.Text.{is_blank}
+use Rattle.syslog_sent.specs.Date.{any_date}
+use Rattle.syslog_sent.specs.Named.{NamedTexts, beginning, hosted}
+use Rattle.syslog_named_forms.specs.Header.{header_form}
+use Rattle.syslog_named_forms.specs.Pairs.{pairs_form}
+use Rattle.syslog_named_forms.specs.Programs as programs
+use Rattle.syslog_sent.specs.Sent.{Form, SentValue, loose}
+use Rattle.syslog_named_forms.specs.Untagged.{mark_class, marked, marked_of}
+use Rattle.syslog_sent.specs.declared.dialect.Dialect.{Dialect}
+use Rattle.syslog_sent.specs.declared.dialect.Dialect.TheVariants as dialect
+use Rattle.syslog_sent.specs.declared.sent.SentDate.{SentDate}
+use Rattle.syslog_named_forms.specs.declared.untagged.Mark.{Mark}
+use Rattle.syslog_named_forms.specs.declared.untagged.Mark.TheVariants as mark
+
+-- blanks or none, a date, and blanks
+abbrev pub front_row : List Class
+front_row = run is_blank ∷ any_date ∷ some_run is_blank ∷ []
+
+-- what names and a message after a date say
+abbrev pub says : SentDate → NamedTexts → SentValue
+says d n = loose (Some d) n.hostname n.appname n.process n.msg
+
+-- a date, and a piece of the class after it
+abbrev pub dated_row : (C : Class) → (C.Value → NamedTexts) → List Class
+dated_row C names = front_row ++ mapped C NamedTexts names ∷ []
+
+abbrev pub Says : (C : Class) (names : C.Value → NamedTexts) → Values (dated_row C names) → SentValue → Type 0
+Says C names (_, (d, (_, (n, _)))) s = s ≡ says d n
+
+abbrev pub dated_form : Dialect → (C : Class) → (C.Value → NamedTexts) → Form
+dated_form dialect C names = record { dialect = dialect; row = dated_row C names; Means = Says C names }
+
+-- ---- lists of such forms
+
+-- a dialect, and what follows the date in it
+pub record Tail : Type 1 where
+  pub dialect : Dialect
+  pub after : Class
+  pub names : after.Value → NamedTexts
+
+abbrev pub tail_forms : List Tail → List Form
+tail_forms [] = []
+tail_forms (T ∷ Ts) = dated_form T.dialect T.after T.names ∷ tail_forms Ts
+
+abbrev pub marked_tail : Dialect → Mark → Tail
+marked_tail dialect m = record { dialect = dialect; after = marked m; names = marked_of }
+
+-- messages without a program
+abbrev pub message_tails : List Tail
+message_tails =
+    marked_tail dialect.Repeated mark.Repeated ∷ marked_tail dialect.Cef mark.Cef ∷ marked_tail dialect.Leef mark.Leef
+    ∷ marked_tail dialect.PaloAlto mark.PaloAlto ∷ marked_tail dialect.KeyValue mark.Pair ∷ marked_tail dialect.Json
+    mark.Json
+    ∷ marked_tail dialect.Idrac mark.Idrac ∷ marked_tail dialect.Log4j mark.Level
+    ∷ marked_tail dialect.MikroTik mark.Topics ∷ marked_tail dialect.Bracketed mark.Bracket ∷ []
+
+-- lines of programs
+abbrev pub forwarded_tail : Tail
+forwarded_tail =
+    record { dialect = dialect.Forwarded; after = hosted programs.passed_on; names = programs.relayed_of }
+
+abbrev pub severity_tail : Tail
+severity_tail =
+    record { dialect = dialect.SeverityFirst; after = Row programs.severity_row; names = programs.severity_of }
+
+abbrev pub worded_tail : Tail
+worded_tail = record { dialect = dialect.SpacedName; after = Row programs.worded_row; names = programs.worded_of }
+
+abbrev pub hostless_tail : Tail
+hostless_tail = record { dialect = dialect.NoHost; after = Row programs.hostless_row; names = programs.hostless_of }
+
+abbrev pub serial_tail : Tail
+serial_tail = record { dialect = dialect.WatchGuard; after = Row programs.serial_row; names = programs.serial_of }
+
+abbrev pub program_tails : List Tail
+program_tails = forwarded_tail ∷ severity_tail ∷ worded_tail ∷ hostless_tail ∷ serial_tail ∷ []
+
+-- ---- a message without a date
+
+abbrev pub undated_row : Mark → List Class
+undated_row m = run is_blank ∷ beginning (mark_class m) ∷ []
+
+abbrev pub UndatedSays : (m : Mark) → Values (undated_row m) → SentValue → Type 0
+UndatedSays m (_, (t, _)) s = s ≡ loose None None None None t
+
+abbrev pub undated_form : Dialect → Mark → Form
+undated_form dialect m =
+    record { dialect = dialect; row = undated_row m; Means = UndatedSays m }
+
+abbrev pub undated_forms : List Form
+undated_forms = undated_form dialect.Cef mark.Cef ∷ undated_form dialect.Leef mark.Leef ∷ pairs_form ∷ header_form ∷ []
+
+-- ---- all of them
+
+abbrev pub program_forms : List Form
+program_forms = tail_forms program_tails ++ undated_forms
+
+abbrev pub all_named : List Form
+all_named = tail_forms message_tails ++ program_forms

@@ -1,0 +1,94 @@
+-- What a program's line says, in the forms that are recognised by what is between the date and the program's name. 32
+-- is a space, 40 `(`, 41 `)`, 46 `.`.
+use Rattle.std.specs.Prelude.{◌⊎◌, List, [], ◌∷◌, Option, Some, None, codes}
+use Rattle.syslog_pieces.specs.Pieces.Class.{Text, Class, Values, Row, run, some_run, exactly, rest, mapped, texted}
+use Rattle.syslog_pieces.specs.Pieces.Class.{spaced}
+use Rattle.syslog_pieces.specs.Pieces.Lists.{many}
+use Rattle.syslog_pieces.specs.Pieces.Rules.{such_that}
+use Rattle.syslog_pieces.specs.Text.{colon, host, is_blank}
+use Rattle.syslog_pieces.specs.Text.{is_tag_char}
+use Rattle.syslog_sent.specs.Date.{iso_date}
+use Rattle.syslog_sent.specs.Named.{◌otherwise◌, NamedTexts, BeginsWith, hosted, is_letter, process_id, program}
+use Rattle.syslog_sent.specs.Named.{tagged}
+use Rattle.syslog_sent.specs.Runs.{is_plain_char, is_word_char}
+use Rattle.std.proofs.Common.{inl, inr}
+use Rattle.syslog_sent.specs.Selector.{severity, selector_row}
+
+-- ---- no host: `filterlog[52211]: text`
+
+abbrev pub hostless_row : List Class
+hostless_row = program ∷ some_run is_blank ∷ rest ∷ []
+
+abbrev pub hostless_of : Values hostless_row → NamedTexts
+hostless_of (p, (_, (m, _))) = tagged None p m
+
+abbrev pub hostless : Class
+hostless = mapped (Row hostless_row) NamedTexts hostless_of
+
+-- ---- the severity before the program: `bigip1 notice mcpd[5555]: text`, `alpine1 daemon.info udhcpc[411]: text`
+
+-- a severity, or a facility and a severity
+abbrev pub grade : Class
+grade = severity otherwise Row selector_row
+
+abbrev pub severity_row : List Class
+severity_row = host ∷ some_run is_blank ∷ grade ∷ some_run is_blank ∷ program ∷ run is_blank ∷ rest ∷ []
+
+abbrev pub severity_of : Values severity_row → NamedTexts
+severity_of (h, (_, (_, (_, (p, (_, (m, _))))))) = tagged h p m
+
+abbrev pub severity_first : Class
+severity_first = mapped (Row severity_row) NamedTexts severity_of
+
+-- ---- the serial number and the time before the program: `fb1 80DA02F9E3C1B (2026-03-02T05:33:04) https-proxy[2345]:
+-- text`
+
+-- WatchGuard's Fireboxes ("Configure Syslog Server Settings": the serial number and the time stamp are sent)
+abbrev pub serial_row : List Class
+serial_row = host ∷ some_run is_blank ∷ some_run is_plain_char ∷ exactly (32 ∷ []) ∷ exactly (40 ∷ []) ∷ iso_date
+    ∷ exactly (41 ∷ []) ∷ some_run is_blank ∷ program ∷ run is_blank ∷ rest ∷ []
+
+abbrev pub serial_of : Values serial_row → NamedTexts
+serial_of (h, (_, (_, (_, (_, (_, (_, (_, (p, (_, (m, _))))))))))) = tagged h p m
+
+abbrev pub after_serial : Class
+after_serial = mapped (Row serial_row) NamedTexts serial_of
+
+-- ---- a name of several words: `nas1 Plex Media Server[811]: text`
+
+-- words with one space between two
+abbrev pub words_row : List Class
+words_row = some_run is_word_char ∷ many (spaced (some_run is_word_char)) ∷ []
+
+abbrev pub words : Class
+words = such_that (texted (Row words_row)) (BeginsWith is_letter)
+
+abbrev pub worded_row : List Class
+worded_row = host ∷ some_run is_blank ∷ words ∷ process_id ∷ exactly colon ∷ run is_blank ∷ rest ∷ []
+
+abbrev pub worded_of : Values worded_row → NamedTexts
+worded_of (h, (_, (name, (id, (_, (_, (m, _))))))) = tagged h (record { name = name; process = Some id }) m
+
+abbrev pub worded : Class
+worded = mapped (Row worded_row) NamedTexts worded_of
+
+-- ---- forwarded: `Message forwarded from aix01: sshd[123]: text`
+
+abbrev pub forwarded_row : List Class
+forwarded_row =
+    exactly (codes "Message forwarded from ") ∷ texted (some_run is_tag_char) ∷ exactly colon ∷ run is_blank
+    ∷ program ∷ run is_blank ∷ rest ∷ []
+
+abbrev pub forwarded_of : Values forwarded_row → NamedTexts
+forwarded_of (_, (h, (_, (_, (p, (_, (m, _))))))) = tagged (Some h) p m
+
+abbrev pub passed_on : Class
+passed_on = mapped (Row forwarded_row) NamedTexts forwarded_of
+
+-- it may follow the name of the host that passes it on, which is left out
+abbrev pub relayed_of : NamedTexts ⊎ (Option Text × (Unit {0} × (NamedTexts × Unit {0}))) → NamedTexts
+relayed_of (inl n) = n
+relayed_of (inr (_, (_, (n, _)))) = n
+
+abbrev pub forwarded : Class
+forwarded = mapped (hosted passed_on) NamedTexts relayed_of

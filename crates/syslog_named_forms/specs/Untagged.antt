@@ -1,0 +1,145 @@
+-- Messages that have no program's name before them: they are recognised by what they begin with.
+--
+-- 32 is a space, 44 `,`, 46 `.`, 47 `/`, 58 `:`, 61 `=`, 91 `[`, 123 `{`, 124 `|`.
+use Rattle.std.proofs.Common.{inl, inr}
+use Rattle.std.specs.Prelude.{◌⊎◌, ◌||◌, ◌&&◌, ℕ, nat_eq, nat_le, Option, Bool, IsTrue, List, [], ◌∷◌, None, codes}
+use Rattle.std.specs.Char.{is_ascii_digit, is_not_whitespace}
+use Rattle.syslog_pieces.specs.Pieces.Class.{Text, Class, NoFront, Row, run, some_run, exactly, optional, after, mapped}
+use Rattle.syslog_pieces.specs.Pieces.Class.{texted}
+use Rattle.syslog_pieces.specs.Pieces.Rules.{such_that}
+use Rattle.syslog_pieces.specs.Pieces.View.{text_eq}
+use Rattle.syslog_pieces.specs.Text.{host, is_blank}
+use Rattle.syslog_pieces.specs.Timestamp.Rfc3339.{pair, year}
+use Rattle.syslog_sent.specs.Date.{unless}
+use Rattle.syslog_sent.specs.Named.{◌otherwise◌, NamedTexts, beginning, hosted, untagged}
+use Rattle.syslog_sent.specs.Runs.{is_plain_char, is_word_char}
+use Rattle.syslog_named_forms.specs.declared.untagged.Mark.{Mark}
+use Rattle.syslog_named_forms.specs.declared.untagged.Mark.TheVariants.{Cef, Leef, Repeated, PaloAlto, Pair, Json}
+use Rattle.syslog_named_forms.specs.declared.untagged.Mark.TheVariants.{Idrac}
+use Rattle.syslog_named_forms.specs.declared.untagged.Mark.TheVariants.{Level}
+use Rattle.syslog_named_forms.specs.declared.untagged.Mark.TheVariants.{Bracket, Topics}
+
+abbrev pub some_digits : Class
+some_digits = some_run is_ascii_digit
+
+-- `CEF:0|`
+abbrev pub cef_row : List Class
+cef_row = exactly (codes "CEF:") ∷ run is_blank ∷ some_digits ∷ exactly (124 ∷ []) ∷ []
+
+-- `LEEF:1.0|`
+abbrev pub leef_row : List Class
+leef_row =
+    exactly (codes "LEEF:") ∷ run is_blank ∷ some_digits ∷ exactly (46 ∷ []) ∷ some_digits ∷ exactly (124 ∷ []) ∷ []
+
+-- `last message repeated 3 times`, `message repeated 2 times: [ .. ]`
+abbrev pub repeated_tail : List Class
+repeated_tail = exactly (codes "message repeated ") ∷ some_digits ∷ exactly (codes " time") ∷ []
+
+abbrev pub repeated_row : List Class
+repeated_row = optional (exactly (codes "last ")) ∷ repeated_tail
+
+-- `--- last message repeated 3 times ---` (macOS), `above message repeats 2 times` (HP-UX)
+abbrev pub repeats : Class
+repeats = exactly (codes "--- last message repeated ") otherwise exactly (codes "above message repeats ")
+
+abbrev pub repeats_row : List Class
+repeats_row = repeats ∷ some_digits ∷ exactly (codes " time") ∷ []
+
+-- `-- MARK --`, by which a daemon says that it is running (sysklogd's `-m`, the module immark of rsyslog)
+abbrev pub here : Class
+here = exactly (codes "-- MARK --")
+
+-- `1,2026/03/02 06:33:04,`
+abbrev pub palo_alto_row : List Class
+palo_alto_row =
+    some_digits ∷ exactly (44 ∷ []) ∷ year ∷ after 47 (pair 100) ∷ after 47 (pair 100) ∷ exactly (32 ∷ []) ∷ pair 100
+    ∷ after 58 (pair 100) ∷ after 58 (pair 100) ∷ exactly (44 ∷ []) ∷ []
+
+-- `key=`
+abbrev pub pair_row : List Class
+pair_row = some_run is_word_char ∷ exactly (61 ∷ []) ∷ []
+
+abbrev pub is_level : Text → Bool
+is_level t = text_eq t (codes "TRACE") || (text_eq t (codes "DEBUG") || (text_eq t (codes "INFO")
+    || (text_eq t (codes "WARN") || (text_eq t (codes "ERROR") || text_eq t (codes "FATAL")))))
+
+-- a topic of RouterOS, and a comma
+abbrev pub topic_row : List Class
+topic_row = some_run is_plain_char ∷ exactly (44 ∷ []) ∷ []
+
+-- the topics that each message has one of (RouterOS, Log: topics)
+abbrev pub is_main_topic : Text → Bool
+is_main_topic t = text_eq t (codes "critical") || (text_eq t (codes "error") || (text_eq t (codes "warning")
+    || (text_eq t (codes "info") || (text_eq t (codes "debug") || text_eq t (codes "packet")))))
+
+abbrev pub main_topic : Class
+main_topic = such_that (texted (some_run is_plain_char)) (λ t. IsTrue (is_main_topic t))
+
+abbrev pub later_topic_row : List Class
+later_topic_row = Row topic_row ∷ main_topic ∷ []
+
+-- `system,info`, `pptp,ppp,info`: one of them is the second or the third
+abbrev pub topics_row : List Class
+topics_row = Row topic_row ∷ (main_topic otherwise Row later_topic_row) ∷ []
+
+-- `[12]:`, the process of a program that is not named
+abbrev pub number_row : List Class
+number_row = exactly (91 ∷ []) ∷ some_digits ∷ exactly (codes "]:") ∷ []
+
+-- what begins such a message
+abbrev pub mark_class : Mark → Class
+mark_class Cef = Row cef_row
+mark_class Leef = Row leef_row
+mark_class Repeated = Row repeated_row otherwise (Row repeats_row otherwise here)
+mark_class PaloAlto = Row palo_alto_row
+mark_class Pair = Row pair_row
+mark_class Json = exactly (codes "{\"")
+mark_class Idrac = exactly (codes "Severity: ")
+mark_class Level = such_that (texted (some_run is_not_whitespace)) (λ t. IsTrue (is_level t))
+mark_class Topics = Row topics_row
+mark_class Bracket = unless (Row number_row) (exactly (91 ∷ []))
+
+-- the character may begin such a message
+abbrev pub begins : Mark → ℕ → Bool
+begins Cef c = nat_eq c 67
+begins Leef c = nat_eq c 76
+begins Repeated c = nat_eq c 108 || (nat_eq c 109 || (nat_eq c 45 || nat_eq c 97))
+begins PaloAlto c = is_ascii_digit c
+begins Pair c = is_word_char c
+begins Json c = nat_eq c 123
+begins Idrac c = nat_eq c 83
+begins Level c = nat_le 68 c && nat_le c 87
+begins Topics c = is_plain_char c
+begins Bracket c = nat_eq c 91
+
+-- the character may begin such a message, unless a key, a number or a topic does
+abbrev pub begins_mark : ℕ → Bool
+begins_mark c = (nat_le 67 c && nat_le c 87)
+    || (nat_eq c 97 || (nat_eq c 108 || (nat_eq c 109 || (nat_eq c 45 || (nat_eq c 123 || nat_eq c 91)))))
+
+-- `=` or a comma, which a key, a number or a topic ends at
+abbrev pub ends_list : ℕ → Bool
+ends_list c = nat_eq c 61 || nat_eq c 44
+
+-- none begins the text
+abbrev pub IsUnmarked : Text → Type 0
+IsUnmarked t = (m : Mark) → NoFront (mark_class m) t
+
+-- a host, and the blanks after it
+abbrev pub host_row : List Class
+host_row = host ∷ some_run is_blank ∷ []
+
+-- such a message, or a host before it
+abbrev pub marked : Mark → Class
+marked m = hosted (beginning (mark_class m))
+
+abbrev pub marked_of : Text ⊎ (Option Text × (Unit {0} × (Text × Unit {0}))) → NamedTexts
+marked_of (inl t) = untagged None t
+marked_of (inr (h, (_, (t, _)))) = untagged h t
+
+abbrev pub message : Mark → Class
+message m = mapped (marked m) NamedTexts marked_of
+
+-- the text begins with none of them
+abbrev pub IsNoMessage : Text → Type 0
+IsNoMessage t = (m : Mark) → NoFront (message m) t

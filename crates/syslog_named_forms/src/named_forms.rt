@@ -1,0 +1,181 @@
+//! The forms that are recognised by what follows the date, in the order in which they are tried.
+ghost use Rattle.std.specs.Prelude.{◌≡◌, None, chars};
+ghost use Rattle.syslog_pieces.specs.Pieces.Class.{Row};
+ghost use Rattle.syslog_pieces.specs.Pieces.View.{Reads, seen};
+ghost use Rattle.syslog_sent.specs.Forms.{Finds};
+ghost use Rattle.syslog_sent.specs.Led.{IsFront, IsLed};
+ghost use Rattle.syslog_named_forms.specs.NamedFinds.{FindsAfter};
+ghost use Rattle.syslog_named_forms.specs.NamedForms as spec;
+ghost use Rattle.syslog_sent.specs.Sent.{loose, sent_value};
+ghost use Rattle.syslog_named_forms.specs.Untagged.{host_row};
+ghost use Rattle.syslog_sent.specs.Views.{named_value};
+
+use crate::header::read_header;
+use crate::pairs::read_pairs;
+use crate::programs::{after_serial, forwarded, hostless, severity_first, worded};
+use crate::untagged::{Mark, mark_end, may_be_message, message, past_host};
+use syslog_pieces::text::{blanks, some_blanks};
+use syslog_sent::dialect::Dialect;
+use syslog_sent::led::Led;
+use syslog_sent::named::Named;
+use syslog_sent::sent::{Sent, SentDate};
+
+// Returns what a line says that has this date, and these names and this message after it.
+#[inline(always)]
+fn sent<'a>(date: SentDate, named: Named<'a>) -> Sent<'a>
+    ensures { sent_value result ≡ spec.says date (named_value named.entry) }
+{
+    Sent {
+        version: None,
+        date: Some(date),
+        hostname: named.hostname,
+        appname: named.appname,
+        process: named.process,
+        msgid: None,
+        msg: named.msg,
+    }
+}
+
+// Returns what a line says that is a message alone.
+#[inline(always)]
+fn bare(msg: &str) -> Sent<'_>
+    ensures { sent_value result ≡ loose None None None None (chars msg.now) }
+{
+    Sent {
+        version: None,
+        date: None,
+        hostname: None,
+        appname: None,
+        process: None,
+        msgid: None,
+        msg,
+    }
+}
+
+// Reads a message that has no date before it.
+fn undated(text: &str) -> Option<(Dialect, Sent<'_>)>
+    ensures { Finds spec.undated_forms (chars text.now) result }
+{
+    let msg = blanks(text);
+    if let Some(_) = mark_end(msg, Mark::Cef) {
+        return Some((Dialect::Cef, bare(msg)));
+    }
+    if let Some(_) = mark_end(msg, Mark::Leef) {
+        return Some((Dialect::Leef, bare(msg)));
+    }
+    if let Some(sent) = read_pairs(text) {
+        return Some((Dialect::KeyValue, sent));
+    }
+    if let Some(sent) = read_header(text) {
+        return Some((Dialect::Heroku, sent));
+    }
+    None
+}
+
+// Reads a program's line after its date. `after_host` is what `past_host` returned for what follows the date.
+#[inline(always)]
+fn of_program<'a>(
+    date: SentDate,
+    rest: &'a str,
+    after_host: Option<(Option<&'a str>, &'a str)>,
+    text: &'a str,
+) -> Option<(Dialect, Sent<'a>)>
+    ensures { Reads (Row host_row) (λ h. (seen h, (tt, tt))) (chars rest.entry.now) after_host.entry
+        → FindsAfter spec.program_forms date (chars rest.entry.now) (chars text.entry.now) result }
+{
+    if let Some(named) = forwarded(rest, after_host) {
+        return Some((Dialect::Forwarded, sent(date, named)));
+    }
+    if let Some(named) = severity_first(after_host) {
+        return Some((Dialect::SeverityFirst, sent(date, named)));
+    }
+    if let Some(named) = worded(after_host) {
+        return Some((Dialect::SpacedName, sent(date, named)));
+    }
+    if let Some(named) = hostless(rest) {
+        return Some((Dialect::NoHost, sent(date, named)));
+    }
+    if let Some(named) = after_serial(after_host) {
+        return Some((Dialect::WatchGuard, sent(date, named)));
+    }
+    undated(text)
+}
+
+// Reads a message without a program, after its date. `after_host` is what `past_host` returned for what follows the
+// date.
+fn of_mark<'a>(
+    date: SentDate,
+    rest: &'a str,
+    after_host: Option<(Option<&'a str>, &'a str)>,
+    text: &'a str,
+) -> Option<(Dialect, Sent<'a>)>
+    ensures { Reads (Row host_row) (λ h. (seen h, (tt, tt))) (chars rest.entry.now) after_host.entry
+        → FindsAfter spec.all_named date (chars rest.entry.now) (chars text.entry.now) result }
+{
+    if let Some(named) = message(rest, after_host, Mark::Repeated) {
+        return Some((Dialect::Repeated, sent(date, named)));
+    }
+    if let Some(named) = message(rest, after_host, Mark::Cef) {
+        return Some((Dialect::Cef, sent(date, named)));
+    }
+    if let Some(named) = message(rest, after_host, Mark::Leef) {
+        return Some((Dialect::Leef, sent(date, named)));
+    }
+    if let Some(named) = message(rest, after_host, Mark::PaloAlto) {
+        return Some((Dialect::PaloAlto, sent(date, named)));
+    }
+    if let Some(named) = message(rest, after_host, Mark::Pair) {
+        return Some((Dialect::KeyValue, sent(date, named)));
+    }
+    if let Some(named) = message(rest, after_host, Mark::Json) {
+        return Some((Dialect::Json, sent(date, named)));
+    }
+    if let Some(named) = message(rest, after_host, Mark::Idrac) {
+        return Some((Dialect::Idrac, sent(date, named)));
+    }
+    if let Some(named) = message(rest, after_host, Mark::Level) {
+        return Some((Dialect::Log4j, sent(date, named)));
+    }
+    if let Some(named) = message(rest, after_host, Mark::Topics) {
+        return Some((Dialect::MikroTik, sent(date, named)));
+    }
+    if let Some(named) = message(rest, after_host, Mark::Bracket) {
+        return Some((Dialect::Bracketed, sent(date, named)));
+    }
+    of_program(date, rest, after_host, text)
+}
+
+// Reads what follows a date and blanks.
+#[inline(always)]
+fn of_message<'a>(date: SentDate, rest: &'a str, text: &'a str) -> Option<(Dialect, Sent<'a>)>
+    ensures { FindsAfter spec.all_named date (chars rest.entry.now) (chars text.entry.now) result }
+{
+    let after_host = past_host(rest);
+    if may_be_message(rest, after_host) {
+        of_mark(date, rest, after_host, text)
+    } else {
+        of_program(date, rest, after_host, text)
+    }
+}
+
+// Reads what follows a date that begins the text.
+#[inline(always)]
+fn of_led<'a>(led: Led<'a>, text: &'a str) -> Option<(Dialect, Sent<'a>)>
+    ensures { IsLed (chars text.entry.now) led.entry → Finds spec.all_named (chars text.entry.now) result }
+{
+    match some_blanks(led.rest) {
+        Some(rest) => of_message(led.sent, rest, text),
+        None => undated(text),
+    }
+}
+
+/// Returns the dialect that the text after a priority is in by what follows the date, and what the text says. `front`
+/// is what `read_front` returned for it.
+pub fn read<'a>(text: &'a str, front: Option<Led<'a>>) -> Option<(Dialect, Sent<'a>)>
+    ensures { IsFront (chars text.entry.now) front.entry → Finds spec.all_named (chars text.entry.now) result }
+{
+    match front {
+        Some(led) => of_led(led, text),
+        None => undated(text),
+    }
+}

@@ -1,0 +1,186 @@
+//! Lines of programs that are recognised by what is between the date and the program's name.
+ghost use Rattle.std.specs.Prelude.{◌∷◌, [], IfSome, IsUtf8, List, chars, codes};
+ghost use Rattle.syslog_pieces.specs.Pieces.Class.{Front, Row, Text, exactly, some_run, spaced, texted};
+ghost use Rattle.syslog_pieces.specs.Pieces.Lists.{many};
+ghost use Rattle.syslog_pieces.specs.Pieces.View.{Reads, Recognises, seen, shown};
+ghost use Rattle.syslog_pieces.specs.Text.{is_tag_char};
+ghost use Rattle.syslog_sent.specs.Runs.{is_word_char};
+ghost use Rattle.syslog_named_forms.specs.Programs as spec;
+ghost use Rattle.syslog_named_forms.specs.Untagged.{host_row};
+ghost use Rattle.syslog_sent.specs.Views.{Names, named_value};
+
+use crate::untagged::topic_word;
+use syslog_pieces::text::verbatim::before;
+use syslog_pieces::text::{CharClass, blanks, literal, some_blanks, split_run};
+use syslog_sent::date::iso_date;
+use syslog_sent::named::{Named, Program, is_letter, past, process_id, read_program, tagged};
+use syslog_sent::runs::{Run, split};
+use syslog_sent::selector::{selector, severity};
+
+/// Reads a line without a host.
+#[inline(always)]
+pub(crate) fn hostless(text: &str) -> Option<Named<'_>>
+    ensures { Names spec.hostless named_value (chars text.now) result }
+{
+    let (program, rest) = read_program(text)?;
+    let msg = some_blanks(rest)?;
+    Some(tagged(None, program, msg))
+}
+
+// Returns the text after a severity, or after a facility and a severity.
+fn grade(text: &str) -> Option<&str>
+    ensures { Recognises spec.grade (chars text.now) result }
+{
+    if let Some((_, rest)) = severity(text) {
+        return Some(rest);
+    }
+    selector(text)
+}
+
+/// Reads a line with the severity before the program. `after_host` is what `past_host` returned for the line.
+#[inline(always)]
+pub(crate) fn severity_first<'a>(
+    after_host: Option<(Option<&'a str>, &'a str)>,
+) -> Option<Named<'a>>
+    ensures { (text : Text) → Reads (Row host_row) (λ h. (seen h, (tt, tt))) text after_host.entry
+        → Names spec.severity_first named_value text result }
+{
+    let (hostname, rest) = after_host?;
+    let rest = grade(rest)?;
+    let rest = some_blanks(rest)?;
+    let (program, rest) = read_program(rest)?;
+    Some(tagged(hostname, program, blanks(rest)))
+}
+
+/// Reads a line with the serial number and the time of a Firebox before the program. `after_host` is what `past_host`
+/// returned for the line.
+#[inline(always)]
+pub(crate) fn after_serial<'a>(after_host: Option<(Option<&'a str>, &'a str)>) -> Option<Named<'a>>
+    ensures { (text : Text) → Reads (Row host_row) (λ h. (seen h, (tt, tt))) text after_host.entry
+        → Names spec.after_serial named_value text result }
+{
+    let (hostname, before_serial) = after_host?;
+    let serial_end = topic_word(before_serial)?;
+    let before_bracket = literal(serial_end, ' ')?;
+    let before_date = literal(before_bracket, '(')?;
+    let (_, date_end) = iso_date(before_date)?;
+    let after_bracket = literal(date_end, ')')?;
+    let before_program = some_blanks(after_bracket)?;
+    let (program, rest) = read_program(before_program)?;
+    Some(tagged(hostname, program, blanks(rest)))
+}
+
+// Returns the text after a word.
+fn word(text: &str) -> Option<&str>
+    ensures reads { Recognises (some_run is_word_char) (chars text.now) result }
+    ensures utf8 { IfSome result (λ rest. IsUtf8 rest.now) }
+{
+    let (run, rest) = split(text, Run::Word);
+    if run.is_empty() { None } else { Some(rest) }
+}
+
+// Returns the text after a space and a word.
+fn spaced_word(text: &str) -> Option<&str>
+    ensures reads { Recognises (spaced (some_run is_word_char)) (chars text.now) result }
+    ensures utf8 { IfSome result (λ rest. IsUtf8 rest.now) }
+{
+    let rest = literal(text, ' ')?;
+    word(rest)
+}
+
+// Returns the text after any number of further words, each after a space.
+fn more_words(text: &str) -> &str
+    ensures { (vs : List (Unit {0}))
+        × Front (many (spaced (some_run is_word_char))) (chars text.now) (shown result) vs }
+{
+    let mut rest = text;
+    'words: while let Some(more) = spaced_word(rest) {
+        rest = more;
+    }
+    rest
+}
+
+// Returns the text after words that have one space between each two.
+fn words_end(text: &str) -> Option<&str>
+    ensures { Recognises (Row spec.words_row) (chars text.now) result }
+{
+    word(text).map(more_words)
+}
+
+// Returns a name of several words at the front, and the text after it.
+fn words(text: &str) -> Option<(&str, &str)>
+    ensures { Reads spec.words (λ t. shown t) (chars text.now) result }
+{
+    let rest = words_end(text)?;
+    let name = before(text, rest);
+    if is_letter(name) {
+        Some((name, rest))
+    } else {
+        None
+    }
+}
+
+/// Reads a line whose program has a name of several words. `after_host` is what `past_host` returned for the line.
+#[inline(always)]
+pub(crate) fn worded<'a>(after_host: Option<(Option<&'a str>, &'a str)>) -> Option<Named<'a>>
+    ensures { (text : Text) → Reads (Row host_row) (λ h. (seen h, (tt, tt))) text after_host.entry
+        → Names spec.worded named_value text result }
+{
+    let (hostname, rest) = after_host?;
+    let (name, rest) = words(rest)?;
+    let (id, rest) = process_id(rest)?;
+    let rest = literal(rest, ':')?;
+    let program = Program {
+        name,
+        process: Some(id),
+    };
+    Some(tagged(hostname, program, blanks(rest)))
+}
+
+// Returns a host before a colon, and the text after these.
+fn origin(text: &str) -> Option<(&str, &str)>
+    ensures { Reads (texted (some_run is_tag_char)) (λ t. shown t) (chars text.now) result }
+{
+    let (run, rest) = split_run(text, CharClass::Tag);
+    if run.is_empty() {
+        None
+    } else {
+        Some((run, rest))
+    }
+}
+
+fn forwarded_words(text: &str) -> Option<&str>
+    ensures { Recognises (exactly (codes "Message forwarded from ")) (chars text.now) result }
+{
+    let _ = literal(text, 'M')?;
+    past(text, "Message forwarded from ")
+}
+
+// Reads a line that was forwarded, from `Message forwarded from` on.
+#[inline(always)]
+fn passed_on(text: &str) -> Option<Named<'_>>
+    ensures { Names spec.passed_on named_value (chars text.now) result }
+{
+    let rest = forwarded_words(text)?;
+    let (hostname, rest) = origin(rest)?;
+    let rest = literal(rest, ':')?;
+    let (program, rest) = read_program(blanks(rest))?;
+    Some(tagged(Some(hostname), program, blanks(rest)))
+}
+
+/// Reads a line that was forwarded, after the name of the host that forwarded it, if that is shown. `after_host` is
+/// what `past_host` returned for the line.
+#[inline(always)]
+pub(crate) fn forwarded<'a>(
+    text: &'a str,
+    after_host: Option<(Option<&'a str>, &'a str)>,
+) -> Option<Named<'a>>
+    ensures { Reads (Row host_row) (λ h. (seen h, (tt, tt))) (chars text.entry.now) after_host.entry
+        → Names spec.forwarded named_value (chars text.entry.now) result }
+{
+    if let Some(named) = passed_on(text) {
+        return Some(named);
+    }
+    let (_, rest) = after_host?;
+    passed_on(rest)
+}

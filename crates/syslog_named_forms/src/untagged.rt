@@ -1,0 +1,504 @@
+//! Messages that have no program's name before them: they are recognised by what they begin with.
+ghost use Rattle.std.specs.Prelude.{◌≡◌, ◌∷◌, [], ◌||◌, Option, chars, codes, false};
+ghost use Rattle.syslog_pieces.specs.Pieces.Class.{Front, NoFront, Row, after, exactly, optional, run, some_run};
+ghost use Rattle.syslog_pieces.specs.Pieces.View.{Reads, Recognises, seen, shown};
+ghost use Rattle.syslog_pieces.specs.Timestamp.Rfc3339.{pair as pair_class, year as year_class};
+ghost use Rattle.syslog_pieces.specs.Text.{is_blank};
+ghost use Rattle.syslog_sent.specs.Runs.{is_plain_char, is_word_char};
+ghost use Rattle.syslog_named_forms.specs.declared.untagged.Mark.TheVariants.{Bracket, Level, Repeated};
+ghost use Rattle.syslog_sent.specs.Named.{◌otherwise◌};
+ghost use Rattle.syslog_named_forms.specs.Untagged as spec;
+ghost use Rattle.syslog_sent.specs.Views.{Names, named_value};
+
+use syslog_pieces::text::{CharClass, blanks, first, host, literal, some_blanks, split_run};
+use syslog_pieces::timestamp::pairs::{pair, pair_after, year};
+use syslog_sent::named::{Named, is_word, past, untagged};
+use syslog_sent::runs::{Run, split};
+
+/// What a message without a program begins with.
+#[derive(Clone, Copy)]
+pub enum Mark {
+    /// `CEF:0|`.
+    Cef,
+    /// `LEEF:1.0|`.
+    Leef,
+    /// `last message repeated 3 times`, `-- MARK --`.
+    Repeated,
+    /// `1,2026/03/02 06:33:04,`.
+    PaloAlto,
+    /// `key=`.
+    Pair,
+    /// `{"`.
+    Json,
+    /// `Severity: `.
+    Idrac,
+    /// `INFO`.
+    Level,
+    /// `system,info`.
+    Topics,
+    /// `[`.
+    Bracket,
+}
+
+fn digits(text: &str) -> Option<&str>
+    ensures { Recognises spec.some_digits (chars text.now) result }
+{
+    let (run, rest) = split_run(text, CharClass::Digit);
+    if run.is_empty() { None } else { Some(rest) }
+}
+
+// Returns the text after any blanks.
+fn past_blanks(text: &str) -> &str
+    ensures { (v : Unit {0}) × Front (run is_blank) (chars text.now) (shown result) v }
+{
+    blanks(text)
+}
+
+fn bar(text: &str) -> Option<&str>
+    ensures { Recognises (exactly (124 ∷ [])) (chars text.now) result }
+{
+    literal(text, '|')
+}
+
+fn dot(text: &str) -> Option<&str>
+    ensures { Recognises (exactly (46 ∷ [])) (chars text.now) result }
+{
+    literal(text, '.')
+}
+
+fn comma(text: &str) -> Option<&str>
+    ensures { Recognises (exactly (44 ∷ [])) (chars text.now) result }
+{
+    literal(text, ',')
+}
+
+fn space(text: &str) -> Option<&str>
+    ensures { Recognises (exactly (32 ∷ [])) (chars text.now) result }
+{
+    literal(text, ' ')
+}
+
+fn cef_word(text: &str) -> Option<&str>
+    ensures { Recognises (exactly (codes "CEF:")) (chars text.now) result }
+{
+    past(text, "CEF:")
+}
+
+fn leef_word(text: &str) -> Option<&str>
+    ensures { Recognises (exactly (codes "LEEF:")) (chars text.now) result }
+{
+    past(text, "LEEF:")
+}
+
+fn repeated_words(text: &str) -> Option<&str>
+    ensures { Recognises (exactly (codes "message repeated ")) (chars text.now) result }
+{
+    past(text, "message repeated ")
+}
+
+fn times(text: &str) -> Option<&str>
+    ensures { Recognises (exactly (codes " time")) (chars text.now) result }
+{
+    past(text, " time")
+}
+
+// Returns the text after `last `, and all of it if it does not begin so.
+fn past_last(text: &str) -> &str
+    ensures { (v : Option (Unit {0})) × Front (optional (exactly (codes "last "))) (chars text.now) (shown result) v }
+{
+    match past(text, "last ") {
+        Some(rest) => rest,
+        None => text,
+    }
+}
+
+fn cef(text: &str) -> Option<&str>
+    ensures { Recognises (Row spec.cef_row) (chars text.now) result }
+{
+    cef_word(text)
+        .map(past_blanks)
+        .and_then(digits)
+        .and_then(bar)
+}
+
+fn leef(text: &str) -> Option<&str>
+    ensures { Recognises (Row spec.leef_row) (chars text.now) result }
+{
+    leef_word(text)
+        .map(past_blanks)
+        .and_then(digits)
+        .and_then(dot)
+        .and_then(digits)
+        .and_then(bar)
+}
+
+fn last_repeated(text: &str) -> Option<&str>
+    ensures { Recognises (Row spec.repeated_row) (chars text.now) result }
+{
+    repeated_words(past_last(text))
+        .and_then(digits)
+        .and_then(times)
+}
+
+fn last_words(text: &str) -> Option<&str>
+    ensures { Recognises (exactly (codes "--- last message repeated ")) (chars text.now) result }
+{
+    past(text, "--- last message repeated ")
+}
+
+fn above_words(text: &str) -> Option<&str>
+    ensures { Recognises (exactly (codes "above message repeats ")) (chars text.now) result }
+{
+    past(text, "above message repeats ")
+}
+
+fn repeats_words(text: &str) -> Option<&str>
+    ensures { Recognises spec.repeats (chars text.now) result }
+{
+    if let Some(rest) = last_words(text) {
+        return Some(rest);
+    }
+    above_words(text)
+}
+
+fn repeats(text: &str) -> Option<&str>
+    ensures { Recognises (Row spec.repeats_row) (chars text.now) result }
+{
+    repeats_words(text).and_then(digits).and_then(times)
+}
+
+fn here(text: &str) -> Option<&str>
+    ensures { Recognises spec.here (chars text.now) result }
+{
+    past(text, "-- MARK --")
+}
+
+// Returns the text after what a daemon says of itself.
+fn repeated(text: &str) -> Option<&str>
+    ensures { Recognises (spec.mark_class Repeated) (chars text.now) result }
+{
+    if let Some(rest) = last_repeated(text) {
+        return Some(rest);
+    }
+    if let Some(rest) = repeats(text) {
+        return Some(rest);
+    }
+    here(text)
+}
+
+fn four_digits(text: &str) -> Option<&str>
+    ensures { Recognises year_class (chars text.now) result }
+{
+    let (_, rest) = year(text)?;
+    Some(rest)
+}
+
+fn two_digits(text: &str) -> Option<&str>
+    ensures { Recognises (pair_class 100) (chars text.now) result }
+{
+    let (_, rest) = pair(text, 100)?;
+    Some(rest)
+}
+
+fn after_slash(text: &str) -> Option<&str>
+    ensures { Recognises (after 47 (pair_class 100)) (chars text.now) result }
+{
+    let (_, rest) = pair_after(text, '/', 100)?;
+    Some(rest)
+}
+
+fn after_colon(text: &str) -> Option<&str>
+    ensures { Recognises (after 58 (pair_class 100)) (chars text.now) result }
+{
+    let (_, rest) = pair_after(text, ':', 100)?;
+    Some(rest)
+}
+
+fn palo_alto(text: &str) -> Option<&str>
+    ensures { Recognises (Row spec.palo_alto_row) (chars text.now) result }
+{
+    digits(text)
+        .and_then(comma)
+        .and_then(four_digits)
+        .and_then(after_slash)
+        .and_then(after_slash)
+        .and_then(space)
+        .and_then(two_digits)
+        .and_then(after_colon)
+        .and_then(after_colon)
+        .and_then(comma)
+}
+
+fn key(text: &str) -> Option<&str>
+    ensures { Recognises (some_run is_word_char) (chars text.now) result }
+{
+    let (run, rest) = split(text, Run::Word);
+    if run.is_empty() { None } else { Some(rest) }
+}
+
+fn equals(text: &str) -> Option<&str>
+    ensures { Recognises (exactly (61 ∷ [])) (chars text.now) result }
+{
+    literal(text, '=')
+}
+
+fn pair_start(text: &str) -> Option<&str>
+    ensures { Recognises (Row spec.pair_row) (chars text.now) result }
+{
+    key(text).and_then(equals)
+}
+
+fn json(text: &str) -> Option<&str>
+    ensures { Recognises (exactly (codes "{\"")) (chars text.now) result }
+{
+    past(text, "{\"")
+}
+
+fn idrac(text: &str) -> Option<&str>
+    ensures { Recognises (exactly (codes "Severity: ")) (chars text.now) result }
+{
+    past(text, "Severity: ")
+}
+
+fn is_level(word: &str) -> bool
+    ensures { result ≡ spec.is_level (chars word.now) }
+{
+    is_word(word, "TRACE")
+        || (is_word(word, "DEBUG")
+            || (is_word(word, "INFO")
+                || (is_word(word, "WARN") || (is_word(word, "ERROR") || is_word(word, "FATAL")))))
+}
+
+fn level(text: &str) -> Option<&str>
+    ensures { Recognises (spec.mark_class Level) (chars text.now) result }
+{
+    let (word, rest) = split_run(text, CharClass::Visible);
+    is_level(word).then_some(rest)
+}
+
+/// Returns the text after letters, digits, `!` and `-`.
+pub(crate) fn topic_word(text: &str) -> Option<&str>
+    ensures { Recognises (some_run is_plain_char) (chars text.now) result }
+{
+    let (run, rest) = split(text, Run::Plain);
+    if run.is_empty() { None } else { Some(rest) }
+}
+
+fn topic(text: &str) -> Option<&str>
+    ensures { Recognises (Row spec.topic_row) (chars text.now) result }
+{
+    topic_word(text).and_then(comma)
+}
+
+fn is_main_topic(word: &str) -> bool
+    ensures { result ≡ spec.is_main_topic (chars word.now) }
+{
+    is_word(word, "critical")
+        || (is_word(word, "error")
+            || (is_word(word, "warning")
+                || (is_word(word, "info") || (is_word(word, "debug") || is_word(word, "packet")))))
+}
+
+fn main_topic(text: &str) -> Option<&str>
+    ensures { Recognises spec.main_topic (chars text.now) result }
+{
+    let (word, rest) = split(text, Run::Plain);
+    is_main_topic(word).then_some(rest)
+}
+
+fn later_topic(text: &str) -> Option<&str>
+    ensures { Recognises (Row spec.later_topic_row) (chars text.now) result }
+{
+    topic(text).and_then(main_topic)
+}
+
+// The text after such a topic, or after a topic and such a one.
+fn either_topic(text: &str) -> Option<&str>
+    ensures { Recognises (spec.main_topic otherwise Row spec.later_topic_row) (chars text.now) result }
+{
+    if let Some(rest) = main_topic(text) {
+        return Some(rest);
+    }
+    later_topic(text)
+}
+
+fn topics(text: &str) -> Option<&str>
+    ensures { Recognises (Row spec.topics_row) (chars text.now) result }
+{
+    topic(text).and_then(either_topic)
+}
+
+fn bracket(text: &str) -> Option<&str>
+    ensures { Recognises (exactly (91 ∷ [])) (chars text.now) result }
+{
+    literal(text, '[')
+}
+
+fn closing(text: &str) -> Option<&str>
+    ensures { Recognises (exactly (codes "]:")) (chars text.now) result }
+{
+    past(text, "]:")
+}
+
+// The text after a number in brackets and a colon.
+fn number(text: &str) -> Option<&str>
+    ensures { Recognises (Row spec.number_row) (chars text.now) result }
+{
+    bracket(text).and_then(digits).and_then(closing)
+}
+
+// The text after a bracket that begins no such number.
+fn open_bracket(text: &str) -> Option<&str>
+    ensures { Recognises (spec.mark_class Bracket) (chars text.now) result }
+{
+    if let Some(_) = number(text) {
+        return None;
+    }
+    bracket(text)
+}
+
+impl Mark {
+    // Whether the mark may begin with this character.
+    #[inline(always)]
+    fn begins(self, c: char) -> bool
+        ensures { result ≡ spec.begins self c }
+    {
+        match self {
+            Mark::Cef => c == 'C',
+            Mark::Leef => c == 'L',
+            Mark::Repeated => c == 'l' || (c == 'm' || (c == '-' || c == 'a')),
+            Mark::PaloAlto => c.is_ascii_digit(),
+            Mark::Pair => Run::Word.has(c),
+            Mark::Json => c == '{',
+            Mark::Idrac => c == 'S',
+            Mark::Level => 'D' <= c && c <= 'W',
+            Mark::Topics => Run::Plain.has(c),
+            Mark::Bracket => c == '[',
+        }
+    }
+}
+
+/// Returns the text after the mark, where it begins the text.
+#[inline(always)]
+pub(crate) fn mark_end(text: &str, mark: Mark) -> Option<&str>
+    ensures { Recognises (spec.mark_class mark) (chars text.now) result }
+{
+    let (c, _) = first(text)?;
+    if mark.begins(c) {
+        read_mark(text, mark)
+    } else {
+        None
+    }
+}
+
+// The text after the mark.
+fn read_mark(text: &str, mark: Mark) -> Option<&str>
+    ensures { Recognises (spec.mark_class mark) (chars text.now) result }
+{
+    match mark {
+        Mark::Cef => cef(text),
+        Mark::Leef => leef(text),
+        Mark::Repeated => repeated(text),
+        Mark::PaloAlto => palo_alto(text),
+        Mark::Pair => pair_start(text),
+        Mark::Json => json(text),
+        Mark::Idrac => idrac(text),
+        Mark::Level => level(text),
+        Mark::Topics => topics(text),
+        Mark::Bracket => open_bracket(text),
+    }
+}
+
+// Whether a mark that is no key, no number and no topic may begin with this character.
+#[inline(always)]
+fn begins_mark(c: char) -> bool
+    ensures { result ≡ spec.begins_mark c }
+{
+    ('C' <= c && c <= 'W')
+        || (c == 'a' || (c == 'l' || (c == 'm' || (c == '-' || (c == '{' || c == '[')))))
+}
+
+// Whether the character ends a key, a number or a topic.
+#[inline(always)]
+fn ends_list(c: char) -> bool
+    ensures { result ≡ spec.ends_list c }
+{
+    c == '=' || c == ','
+}
+
+// Whether `=` or a comma follows the characters that keys, numbers and topics are made of.
+fn may_be_list(text: &str) -> bool
+    ensures { (result ≡ false) → NoFront (Row spec.pair_row) (chars text.now)
+        × (NoFront (Row spec.topics_row) (chars text.now) × NoFront (Row spec.palo_alto_row) (chars text.now)) }
+{
+    let (_, rest) = split(text, Run::Either);
+    match first(rest) {
+        Some((c, _)) => ends_list(c),
+        None => false,
+    }
+}
+
+// Whether a mark may begin the text.
+fn may_be_marked(text: &str) -> bool
+    ensures { (result ≡ false) → spec.IsUnmarked (chars text.now) }
+{
+    let Some((c, _)) = first(text) else {
+        return false;
+    };
+    if begins_mark(c) {
+        return true;
+    }
+    may_be_list(text)
+}
+
+// Whether a mark may begin one of the two. Most messages follow a host, so the text after it is looked at first.
+fn may_one_be_marked(text: &str, after_host: &str) -> bool
+    ensures { (result ≡ false) → spec.IsUnmarked (chars text.now) × spec.IsUnmarked (chars after_host.now) }
+{
+    if may_be_marked(after_host) {
+        return true;
+    }
+    may_be_marked(text)
+}
+
+/// Returns whether a message without a program may begin the text. `after_host` is what `past_host` returned for it. Of
+/// most texts only two words are looked at.
+pub(crate) fn may_be_message<'a>(
+    text: &'a str,
+    after_host: Option<(Option<&'a str>, &'a str)>,
+) -> bool
+    ensures { Reads (Row spec.host_row) (λ h. (seen h, (tt, tt))) (chars text.entry.now) after_host.entry
+        → (result ≡ false) → spec.IsNoMessage (chars text.entry.now) }
+{
+    match after_host {
+        Some((_, rest)) => may_one_be_marked(text, rest),
+        None => may_be_marked(text),
+    }
+}
+
+/// Returns the host at the front, if there is one, and the text after it and the blanks that follow it.
+pub(crate) fn past_host(text: &str) -> Option<(Option<&str>, &str)>
+    ensures { Reads (Row spec.host_row) (λ h. (seen h, (tt, tt))) (chars text.now) result }
+{
+    let (hostname, rest) = host(text)?;
+    let rest = some_blanks(rest)?;
+    Some((hostname, rest))
+}
+
+/// Returns a message that the mark begins, or a host and such a message.
+#[inline(always)]
+pub(crate) fn message<'a>(
+    text: &'a str,
+    after_host: Option<(Option<&'a str>, &'a str)>,
+    mark: Mark,
+) -> Option<Named<'a>>
+    ensures { Reads (Row spec.host_row) (λ h. (seen h, (tt, tt))) (chars text.entry.now) after_host.entry
+        → Names (spec.message mark) named_value (chars text.entry.now) result }
+{
+    if let Some(_) = mark_end(text, mark) {
+        return Some(untagged(None, text));
+    }
+    let (hostname, rest) = after_host?;
+    let _ = mark_end(rest, mark)?;
+    Some(untagged(hostname, rest))
+}

@@ -1,0 +1,7 @@
+pub mod DateLemmas
+pub mod DialectLemmas
+pub mod FormLemmas
+pub mod LedLemmas
+pub mod NamedLemmas
+pub mod RunLemmas
+pub mod ZoneLemmas

@@ -1,0 +1,11 @@
+pub mod Date
+pub mod DateViews
+pub mod Dialect
+pub mod Forms
+pub mod Led
+pub mod Named
+pub mod Runs
+pub mod Selector
+pub mod Sent
+pub mod Views
+pub mod Zone
