@@ -3,7 +3,7 @@ use Rattle.std.proofs.Common.{◌≡◌, ◌⊎◌, inl, inr, ℕ, Bool, List, O
 use Rattle.std.proofs.Common.{sym, ◌∙◌}
 use Rattle.std.specs.declared.alloc.AllocError.{AllocError}
 use Rattle.std.specs.Prelude.{◌↔◌, IfOk, IsUtf8, MatchResult}
-use Rattle.syslog_pieces.specs.Pieces.Class.{Text}
+use Rattle.syslog_text.specs.Pieces.Class.{Text}
 use Rattle.syslog_choice.specs.Chosen.{IsChosen}
 use Rattle.syslog_choice.specs.declared.Choice.{Choice}
 use Rattle.syslog_dialects.proofs.SentReadingLemmas.{read_once}

@@ -6,7 +6,7 @@ use Rattle.std.{proofs.Math.Seq.drop-append-add, proofs.Math.Seq.take-append-add
 use Rattle.std.{proofs.lemmas.Grind.flat_map-append, specs.List.AllZip, specs.Prelude.sum_by}
 use Rattle.std.proofs.lemmas.List.{length-map, map-append, take_more, take_more_set, drop-set-lt, drop-drop}
 use borrow.Rule.Slice.PartMut.{mid_of, post_of, put_mid}
-use Rattle.syslog_pieces.specs.StructuredData.Element.{ElementValue}
+use Rattle.syslog_elements.specs.StructuredData.Element.{ElementValue}
 
 zip_append : {A B : Type 0} (R : A → B → Type 0) (xs ys : List A) (us vs : List B) → AllZip R xs us → AllZip R ys vs
     → AllZip R (xs ++ ys) (us ++ vs)

@@ -4,7 +4,7 @@ use Rattle.syslog_c.proofs.Words.{◌≡◌, ◌⊎◌, ◌<◌, ◌≤◌, ℕ,
 use Rattle.syslog_c.proofs.Words.{◌∙◌, [], inl, inr, sym, subst, IsBegun, Outcome, Rules}
 use Rattle.std.proofs.lemmas.Bool.{cases_lt}
 use Rattle.std.specs.Prelude.{Bool, MatchBool}
-use Rattle.syslog_pieces.specs.StructuredData.Element.{ElementValue}
+use Rattle.syslog_elements.specs.StructuredData.Element.{ElementValue}
 use Rattle.syslog_loose.specs.Reading.{IsUnreadable}
 use Rattle.syslog_loose.specs.Visit.{IsLineOf, Made}
 use Rattle.syslog_loose.specs.declared.line.Line.{Line}

@@ -4,7 +4,7 @@ use Rattle.syslog_c.proofs.Words.{IsStamp, List, [], MessageValue, OffsetTimesta
 use Rattle.syslog_c.proofs.Words.{inr, list_elements, NoReading, Outcome}
 use Rattle.std.specs.Prelude.{Bool, true, false}
 use Rattle.std.specs.Int.{from_bool}
-use Rattle.syslog_pieces.specs.StructuredData.Element.{ElementValue}
+use Rattle.syslog_elements.specs.StructuredData.Element.{ElementValue}
 use Rattle.syslog_loose.specs.Reading.{IsUnreadable}
 use Rattle.syslog_loose.specs.Visit.{IsLineOf}
 use Rattle.syslog_loose.specs.declared.line.Line.{Line}

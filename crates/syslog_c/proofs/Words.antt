@@ -12,11 +12,11 @@ pub use Rattle.syslog_loose.specs.Reckoning.{dating_in}
 pub use Rattle.syslog_loose.specs.declared.fault.ParseFault.{ParseFault}
 pub use Rattle.syslog_loose.specs.declared.variant.Variant.{Variant}
 pub use Rattle.syslog_pieces.proofs.Names.{chars-nil}
-pub use Rattle.syslog_pieces.specs.Pieces.Class.{Text}
-pub use Rattle.syslog_pieces.specs.Pieces.View.{shown}
-pub use Rattle.syslog_pieces.specs.StructuredData.Element.{param_value}
-pub use Rattle.syslog_pieces.specs.StructuredData.Escapes.{pair_meaning}
-pub use Rattle.syslog_pieces.specs.StructuredData.Visited.{element_seen, list_elements, params_left}
+pub use Rattle.syslog_text.specs.Pieces.Class.{Text}
+pub use Rattle.syslog_text.specs.Pieces.View.{shown}
+pub use Rattle.syslog_elements.specs.StructuredData.Element.{param_value}
+pub use Rattle.syslog_elements.specs.StructuredData.Escapes.{pair_meaning}
+pub use Rattle.syslog_elements.specs.StructuredData.Visited.{element_seen, list_elements, params_left}
 pub use Rattle.syslog_pieces.specs.Timestamp.Zone.{Dating}
 pub use Rattle.syslog_pieces.specs.declared.timestamp.OffsetTimestamp.{OffsetTimestamp}
 pub use Rattle.syslog_c.specs.Fields.{IsElement, IsBegun, IsParam, IsStamp, all_params}

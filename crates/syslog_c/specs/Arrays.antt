@@ -1,6 +1,6 @@
 -- What the caller's arrays hold while the elements of a line are put into them.
 use Rattle.std.specs.Prelude.{◌≡◌, ◌≤◌, List, length}
-use Rattle.syslog_pieces.specs.StructuredData.Element.{ElementValue}
+use Rattle.syslog_elements.specs.StructuredData.Element.{ElementValue}
 use Rattle.syslog_c.specs.Fields.{IsBegun, IsElement, IsParam, all_params}
 use Rattle.syslog_c.specs.declared.arrays.Arrays.{Arrays}
 

@@ -4,9 +4,9 @@ use Rattle.std.specs.Prelude.{Some}
 use Rattle.std.specs.Int.{int_div_euclid, int_rem_euclid}
 use Rattle.std.specs.List.{AllZip, flat_map}
 use Rattle.std.specs.Str.{chars, IsUtf8}
-use Rattle.syslog_pieces.specs.Pieces.Class.{Text as Chars}
+use Rattle.syslog_text.specs.Pieces.Class.{Text as Chars}
 use Rattle.syslog_pieces.specs.Pri.{facility_number, severity_number}
-use Rattle.syslog_pieces.specs.StructuredData.Element.{ElementValue}
+use Rattle.syslog_elements.specs.StructuredData.Element.{ElementValue}
 use Rattle.syslog_pieces.specs.declared.pri.SyslogFacility.{SyslogFacility}
 use Rattle.syslog_pieces.specs.declared.pri.SyslogSeverity.{SyslogSeverity}
 use Rattle.syslog_pieces.specs.declared.procid.ProcId.{ProcId}

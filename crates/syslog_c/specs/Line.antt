@@ -1,7 +1,7 @@
 -- How a call over a line ends.
 use Rattle.std.specs.Prelude.{◌≡◌, ◌⊎◌, ℕ, List}
 use Rattle.std.specs.Str.{chars, IsUtf8}
-use Rattle.syslog_pieces.specs.Pieces.Class.{Text}
+use Rattle.syslog_text.specs.Pieces.Class.{Text}
 use Rattle.syslog_pieces.specs.Timestamp.Zone.{Dating}
 use Rattle.syslog_loose.specs.Dates.{IsDated}
 use Rattle.syslog_loose.specs.Reading.{IsUnreadable}

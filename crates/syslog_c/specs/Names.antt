@@ -2,7 +2,7 @@
 -- `syslog_pieces`.)
 use Rattle.std.specs.Prelude.{◌≡◌, ◌⊎◌, ℕ, codes, List, [], ◌∷◌}
 use Rattle.std.specs.Str.{chars}
-use Rattle.syslog_pieces.specs.Pieces.Class.{Text as Chars}
+use Rattle.syslog_text.specs.Pieces.Class.{Text as Chars}
 use Rattle.syslog_sent.specs.Dialect.{dialect_name, dialect_number}
 use Rattle.syslog_sent.specs.declared.dialect.Dialect.{Dialect}
 use Rattle.syslog_c.specs.Fields.{IsNoText, IsText}

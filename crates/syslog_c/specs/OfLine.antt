@@ -1,7 +1,7 @@
 -- What C gets of a line.
 use Rattle.std.specs.Prelude.{Option}
-use Rattle.syslog_pieces.specs.Pieces.Class.{Text}
-use Rattle.syslog_pieces.specs.StructuredData.Unparsed.{if_any}
+use Rattle.syslog_text.specs.Pieces.Class.{Text}
+use Rattle.syslog_elements.specs.StructuredData.Unparsed.{if_any}
 use Rattle.syslog_loose.specs.Line.{line_value}
 use Rattle.syslog_loose.specs.Unparsed.{IsLeftUnparsed}
 use Rattle.syslog_loose.specs.declared.line.Line.{Line}

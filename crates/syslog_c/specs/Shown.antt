@@ -1,6 +1,6 @@
 -- What a line shows of its date: whether a year, and whether an offset.
 use Rattle.std.specs.Prelude.{◌≡◌, ◌⊎◌, ℕ, Bool, true, false, Option, Some, None, MatchOption}
-use Rattle.syslog_pieces.specs.Pieces.Class.{Text as Chars}
+use Rattle.syslog_text.specs.Pieces.Class.{Text as Chars}
 use Rattle.syslog_pieces.specs.Timestamp.Rfc3164.{ShowsMonthDate}
 use Rattle.syslog_pieces.specs.declared.timestamp.month_date.MonthDate.{MonthDate}
 use Rattle.syslog_pieces.specs.Timestamp.Zone.{Dating}

@@ -1,7 +1,7 @@
 -- What `syslog_to_rfc5424` leaves, in the words of the call of `syslog_strict_sent`.
 use Rattle.std.specs.Prelude.{◌≡◌, ◌⊎◌, ℕ, List, Result, MatchResult}
 use Rattle.std.specs.Str.{chars, IsUtf8}
-use Rattle.syslog_pieces.specs.Pieces.Class.{Text}
+use Rattle.syslog_text.specs.Pieces.Class.{Text}
 use Rattle.syslog_loose.specs.declared.fault.ParseFault.{ParseFault}
 use Rattle.syslog_strict.specs.Call.{Copies}
 use Rattle.syslog_strict_sent.specs.Converted.{ConvertsSent}

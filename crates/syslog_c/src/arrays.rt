@@ -1,16 +1,16 @@
 //! The caller's arrays, into which the elements of a line and their parameters are written while the line is read.
 ghost use Rattle.std.specs.Prelude.{◌≡◌, ◌+◌, ◌<◌, ◌≤◌, MatchBool, length, map};
-ghost use Rattle.syslog_pieces.specs.Pieces.View.{shown};
-ghost use Rattle.syslog_pieces.specs.StructuredData.Collected.{HasNoted};
-ghost use Rattle.syslog_pieces.specs.StructuredData.Element.{param_value};
-ghost use Rattle.syslog_pieces.specs.StructuredData.Visited.{element_seen};
+ghost use Rattle.syslog_text.specs.Pieces.View.{shown};
+ghost use Rattle.syslog_elements.specs.StructuredData.Collected.{HasNoted};
+ghost use Rattle.syslog_elements.specs.StructuredData.Element.{param_value};
+ghost use Rattle.syslog_elements.specs.StructuredData.Visited.{element_seen};
 ghost use Rattle.syslog_c.specs.Arrays.{HasPut};
 ghost use Rattle.syslog_c.specs.Fields.{IsBegun, IsElement, IsParam};
 
 use crate::convert::text_of;
 use crate::fields::{Element, Param};
-use syslog_pieces::structured_data as data;
-use syslog_pieces::structured_data::{ElementVisitor, FewParams};
+use syslog_elements::structured_data as data;
+use syslog_elements::structured_data::{ElementVisitor, FewParams};
 
 /// The visitor that writes elements and their parameters into the caller's arrays. What does not fit is left out: then
 /// `count` or `filled` is less than the number in the line.

@@ -1,7 +1,7 @@
 //! The names of facilities, severities and dialects, and the texts of outcomes.
 ghost use Rattle.std.specs.Prelude.{◌≡◌, slice_get};
 ghost use Rattle.std.specs.Option.{option_map};
-ghost use Rattle.syslog_pieces.specs.Pieces.View.{seen};
+ghost use Rattle.syslog_text.specs.Pieces.View.{seen};
 ghost use Rattle.syslog_pieces.specs.Pri.{facilities, facility_name, severities, severity_name};
 ghost use Rattle.syslog_c.specs.Fields.{IsOptionalText};
 ghost use Rattle.syslog_c.specs.Names.{IsDialectName, outcome_texts};

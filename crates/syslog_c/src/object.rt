@@ -1,6 +1,6 @@
 //! The JSON object of a line, in a buffer of the caller's.
 ghost use Rattle.std.specs.Prelude.{◌≡◌};
-ghost use Rattle.syslog_pieces.specs.Pieces.View.{seen};
+ghost use Rattle.syslog_text.specs.Pieces.View.{seen};
 ghost use Rattle.syslog_loose.specs.Line.{line_value};
 ghost use Rattle.syslog_loose.specs.Unparsed.{IsLeftUnparsed};
 ghost use Rattle.syslog_c.specs.Line.{OnLine};

@@ -2,11 +2,12 @@
 //! fail.
 ghost use Rattle.std.specs.Fmt.{signed_decimal};
 ghost use Rattle.std.specs.Prelude.{◌∷◌, chars, encode_utf8_all, option_map};
-ghost use Rattle.syslog_pieces.specs.Pieces.View.{seen, shown};
+ghost use Rattle.syslog_text.specs.Pieces.View.{seen, shown};
 ghost use Rattle.syslog_pieces.specs.ProcId.{procid_text, procid_value, process_text};
-ghost use Rattle.syslog_pieces.specs.StructuredData.Element.{element_text, elements_text, joined_elements, param_text};
-ghost use Rattle.syslog_pieces.specs.StructuredData.Visited.{element_seen, list_elements};
-ghost use Rattle.syslog_pieces.specs.Text.{name_text};
+ghost use Rattle.syslog_elements.specs.StructuredData.Element.{element_text, elements_text, joined_elements};
+ghost use Rattle.syslog_elements.specs.StructuredData.Element.{param_text};
+ghost use Rattle.syslog_elements.specs.StructuredData.Visited.{element_seen, list_elements};
+ghost use Rattle.syslog_text.specs.Text.{name_text};
 ghost use Rattle.syslog_loose.specs.Line.{line_value};
 ghost use Rattle.syslog_loose.specs.Printed.{printed, rest_3164, rest_5424, rest_text, spaced_elements, tag_text};
 ghost use Rattle.syslog_c.specs.Room.{Takes, TakesText};

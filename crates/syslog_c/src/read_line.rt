@@ -1,6 +1,6 @@
 //! Reads a line of bytes by the options.
 ghost use Rattle.std.specs.Prelude.{◌≡◌, MatchResult, ⊤};
-ghost use Rattle.syslog_pieces.specs.Pieces.View.{shown};
+ghost use Rattle.syslog_text.specs.Pieces.View.{shown};
 ghost use Rattle.syslog_loose.specs.Today.{IsYearIn};
 ghost use Rattle.syslog_loose.specs.Line.{line_value};
 ghost use Rattle.syslog_loose.specs.Reading.{IsOnlyRead};

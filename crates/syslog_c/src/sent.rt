@@ -4,8 +4,8 @@
 //! one. A dialect's line is made afterwards.
 ghost use Rattle.std.specs.Prelude.{◌≡◌, [], None, Some, MatchBool};
 ghost use Rattle.std.specs.Str.{chars};
-ghost use Rattle.syslog_pieces.specs.Pieces.Class.{Text as AnyText};
-ghost use Rattle.syslog_pieces.specs.StructuredData.Visited.{list_elements};
+ghost use Rattle.syslog_text.specs.Pieces.Class.{Text as AnyText};
+ghost use Rattle.syslog_elements.specs.StructuredData.Visited.{list_elements};
 ghost use Rattle.syslog_pieces.specs.Timestamp.Zone.{Dating};
 ghost use Rattle.syslog_loose.specs.Line.{line_value};
 ghost use Rattle.syslog_loose.specs.Reading.{IsUnreadable};

@@ -7,9 +7,9 @@ ghost use Rattle.syslog_c.specs.Shown.{AreFlags, IsShown, ShowsDate, flag_number
 
 use crate::fields::Stamp;
 use syslog_pieces::pri::optional_priority;
-use syslog_pieces::text::{blanks, trimmed};
 use syslog_pieces::timestamp::MonthDate;
 use syslog_pieces::timestamp::month_date::month_date;
+use syslog_text::text::{blanks, trimmed};
 
 /// Returns the timestamp of a line that the port reads by this protocol, with what its text shows of it. No line of RFC
 /// 5424 has a month date.

@@ -1,14 +1,14 @@
 //! The value of a parameter without its escapes, in a buffer of the caller's.
 ghost use Rattle.std.specs.Str.{chars};
-ghost use Rattle.syslog_pieces.specs.Pieces.Class.{Text};
-ghost use Rattle.syslog_pieces.specs.StructuredData.Escapes.{IsUnescaped};
+ghost use Rattle.syslog_text.specs.Pieces.Class.{Text};
+ghost use Rattle.syslog_elements.specs.StructuredData.Escapes.{IsUnescaped};
 ghost use Rattle.syslog_c.specs.Outcome.{IsCodeOf};
 ghost use Rattle.syslog_c.specs.Room.{TakesText};
 ghost use Rattle.syslog_c.specs.Texts.{Unescaped};
 
 use crate::outcome::Outcome;
 use crate::room::Buffer;
-use syslog_pieces::structured_data::next_unescaped;
+use syslog_elements::structured_data::next_unescaped;
 use syslog_utf8::from_utf8;
 
 /// Writes the value with its escapes removed to the front of `room`, and its length in bytes to `needed`. If it is

@@ -10,8 +10,8 @@ ghost use Rattle.syslog_loose.specs.declared.variant.Variant.TheVariants.{Either
 ghost use Rattle.syslog_dialects.specs.SentReading.{IsSentAnswer};
 
 use syslog_dialects::{SentLine, sent_line, unread_line};
+use syslog_elements::structured_data::NoElements;
 use syslog_loose::{Dates, IncompleteDate, Line, LineVisitor, Variant, visit_line};
-use syslog_pieces::structured_data::NoElements;
 
 /// The visitor that returns the line, as `Itself` of `syslog_loose` does. It is for a filter's second way of reading: a
 /// reader that is compiled for two callers is compiled into neither.

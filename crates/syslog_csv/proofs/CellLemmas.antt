@@ -21,7 +21,7 @@ use Rattle.syslog_object.specs.Object.{refused_json}
 use Rattle.syslog_object.specs.Object.{structured_json, text_json, timestamp_json, version_json}
 use Rattle.std.specs.Option.{unwrap_or}
 use Rattle.syslog_pieces.specs.Front.{clock_text}
-use Rattle.syslog_pieces.specs.StructuredData.Element.{ElementValue}
+use Rattle.syslog_elements.specs.StructuredData.Element.{ElementValue}
 use Rattle.syslog_pieces.specs.Timestamp.{stamp_seen}
 use Rattle.syslog_pieces.specs.declared.timestamp.clock.ClockStamp.{ClockStamp}
 use Rattle.syslog_loose.specs.Line.{protocol_of}

@@ -3,7 +3,7 @@ ghost use Rattle.std.specs.Prelude.{◌≡◌, [], Some, encode_utf8_all};
 ghost use Rattle.std.specs.Option.{option_map, unwrap_or};
 ghost use Rattle.std.specs.Str.{chars};
 ghost use Rattle.syslog_pieces.specs.Front.{ascii_bytes, clock_text};
-ghost use Rattle.syslog_pieces.specs.Pieces.View.{seen, shown};
+ghost use Rattle.syslog_text.specs.Pieces.View.{seen, shown};
 ghost use Rattle.syslog_pieces.specs.Pri.{facility_name, facility_number, severity_name, severity_number};
 ghost use Rattle.syslog_pieces.specs.ProcId.{named_process, procid_text};
 ghost use Rattle.syslog_loose.specs.Line.{protocol_of};

@@ -1,12 +1,12 @@
 //! The row of a line.
 ghost use Rattle.std.specs.Prelude.{◌≡◌, ◌++◌, ◌∷◌, [], IfOk, OnOk, encode_utf8_all};
 ghost use Rattle.std.specs.Option.{option_map};
-ghost use Rattle.syslog_pieces.specs.Pieces.Class.{Text};
-ghost use Rattle.syslog_pieces.specs.Pieces.View.{seen};
+ghost use Rattle.syslog_text.specs.Pieces.Class.{Text};
+ghost use Rattle.syslog_text.specs.Pieces.View.{seen};
 ghost use Rattle.syslog_pieces.specs.Pri.{facility_name, facility_number, severity_name, severity_number};
 ghost use Rattle.syslog_pieces.specs.ProcId.{procid_text};
-ghost use Rattle.syslog_pieces.specs.StructuredData.Unparsed.{if_any};
-ghost use Rattle.syslog_pieces.specs.StructuredData.Visited.{list_elements};
+ghost use Rattle.syslog_elements.specs.StructuredData.Unparsed.{if_any};
+ghost use Rattle.syslog_elements.specs.StructuredData.Visited.{list_elements};
 ghost use Rattle.syslog_loose.specs.Line.{line_value, protocol_of};
 ghost use Rattle.syslog_loose.specs.Unparsed.{IsLeftUnparsed};
 ghost use Rattle.syslog_object.specs.Object.{beside_line, message_json, number_json, protocol_text, refused_json};

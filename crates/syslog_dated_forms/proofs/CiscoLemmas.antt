@@ -1,16 +1,16 @@
 -- A text has one front of each class of a line of Cisco's.
 use Rattle.std.proofs.Common.{◌≡◌, ℕ, [], ◌∷◌, ◌++◌, Option, refl, arith, append_assoc, ap, subst, sym, ◌∙◌}
 use Rattle.std.specs.Char.{is_ascii_digit}
-use Rattle.syslog_pieces.specs.Pieces.Class.{Text, Values, Front, NoFront, NoDivision, IsDeterministic, Row, exactly}
-use Rattle.syslog_pieces.specs.Pieces.Class.{optional, run, some_run}
-use Rattle.syslog_pieces.specs.Pieces.Rules.{such_that}
-use Rattle.syslog_pieces.specs.Text.{is_blank, colon}
-use Rattle.syslog_pieces.proofs.PieceLemmas.Class.{AllDeterministic, ◌also◌, exactly_det, optional_det, mapped_det}
-use Rattle.syslog_pieces.proofs.PieceLemmas.Class.{row_det}
-use Rattle.syslog_pieces.proofs.PieceLemmas.Class.{run_det, some_run_det, rest_det, ◌then◌, no_row_division}
-use Rattle.syslog_pieces.proofs.PieceLemmas.Class.{row_none_here, row_of}
-use Rattle.syslog_pieces.proofs.PieceLemmas.Rules.{exactly_apart, or_det, such_det, no_such_front, no_such_meaning}
-use Rattle.syslog_pieces.proofs.PieceLemmas.Rules.{such_front}
+use Rattle.syslog_text.specs.Pieces.Class.{Text, Values, Front, NoFront, NoDivision, IsDeterministic, Row, exactly}
+use Rattle.syslog_text.specs.Pieces.Class.{optional, run, some_run}
+use Rattle.syslog_text.specs.Pieces.Rules.{such_that}
+use Rattle.syslog_text.specs.Text.{is_blank, colon}
+use Rattle.syslog_text.proofs.PieceLemmas.Class.{AllDeterministic, ◌also◌, exactly_det, optional_det, mapped_det}
+use Rattle.syslog_text.proofs.PieceLemmas.Class.{row_det}
+use Rattle.syslog_text.proofs.PieceLemmas.Class.{run_det, some_run_det, rest_det, ◌then◌, no_row_division}
+use Rattle.syslog_text.proofs.PieceLemmas.Class.{row_none_here, row_of}
+use Rattle.syslog_text.proofs.PieceLemmas.Rules.{exactly_apart, or_det, such_det, no_such_front, no_such_meaning}
+use Rattle.syslog_text.proofs.PieceLemmas.Rules.{such_front}
 use Rattle.syslog_pieces.proofs.TimestampLemmas.Rfc3339.{year_det}
 use Rattle.syslog_dated_forms.specs.Cisco.{begins_host, IsMnemonic, origin, mnemonic, counter_row, label_row, label}
 use Rattle.syslog_dated_forms.specs.Cisco.{task_row, mark, start_row, labelled, start, front_year_row, front_year}

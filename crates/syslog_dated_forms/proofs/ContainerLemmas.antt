@@ -1,10 +1,10 @@
 -- A text has one division into the row of a container's log file.
 use Rattle.std.proofs.Common.{◌≡◌, [], ◌++◌, refl, sym, ap, subst, ◌∙◌, append-nil}
-use Rattle.syslog_pieces.specs.Pieces.Class.{Text, Values, Front, NoFront, IsDeterministic, Row}
-use Rattle.syslog_pieces.specs.Text.{is_blank}
-use Rattle.syslog_pieces.proofs.PieceLemmas.Class.{AllDeterministic, ◌also◌, exactly_det, front_of, no_front_no}
-use Rattle.syslog_pieces.proofs.PieceLemmas.Class.{run_det}
-use Rattle.syslog_pieces.proofs.PieceLemmas.Rules.{such_det}
+use Rattle.syslog_text.specs.Pieces.Class.{Text, Values, Front, NoFront, IsDeterministic, Row}
+use Rattle.syslog_text.specs.Text.{is_blank}
+use Rattle.syslog_text.proofs.PieceLemmas.Class.{AllDeterministic, ◌also◌, exactly_det, front_of, no_front_no}
+use Rattle.syslog_text.proofs.PieceLemmas.Class.{run_det}
+use Rattle.syslog_text.proofs.PieceLemmas.Rules.{such_det}
 use Rattle.syslog_dated_forms.specs.Container.{IsMark, IsStream, container_row, output, stream_row}
 use Rattle.syslog_sent.specs.Zone.{bare_word}
 use Rattle.syslog_sent.proofs.DateLemmas.{iso_date_det}

@@ -1,7 +1,7 @@
 -- A text has one division into each row of a date and what follows it.
-use Rattle.syslog_pieces.specs.Text.{is_blank}
-use Rattle.syslog_pieces.proofs.PieceLemmas.Class.{AllDeterministic, ◌also◌, run_det, some_run_det}
-use Rattle.syslog_pieces.proofs.PieceLemmas.Rules.{such_det}
+use Rattle.syslog_text.specs.Text.{is_blank}
+use Rattle.syslog_text.proofs.PieceLemmas.Class.{AllDeterministic, ◌also◌, run_det, some_run_det}
+use Rattle.syslog_text.proofs.PieceLemmas.Rules.{such_det}
 use Rattle.syslog_sent.specs.Date.{IsDay}
 use Rattle.syslog_dated_forms.specs.Dated.{bsd_row, iso_row, journal_row}
 use Rattle.syslog_sent.specs.Zone.{bare_word}

@@ -1,12 +1,12 @@
 -- A text has one division into the row of a line of ESXi.
 use Rattle.std.specs.Char.{is_ascii_digit}
 use Rattle.std.specs.Prelude.{IsTrue}
-use Rattle.syslog_pieces.specs.Pieces.Class.{Front, NoDivision, NoFront, Text, run, some_run, texted}
-use Rattle.syslog_pieces.specs.Text.{is_blank}
-use Rattle.syslog_pieces.proofs.PieceLemmas.Class.{AllDeterministic, ◌also◌, ◌past◌, exactly_det, no_row}
-use Rattle.syslog_pieces.proofs.PieceLemmas.Class.{no_row_division, rest_det, row_det, run_det, some_run_det}
-use Rattle.syslog_pieces.proofs.PieceLemmas.Class.{texted_det}
-use Rattle.syslog_pieces.proofs.PieceLemmas.Rules.{such_det}
+use Rattle.syslog_text.specs.Pieces.Class.{Front, NoDivision, NoFront, Text, run, some_run, texted}
+use Rattle.syslog_text.specs.Text.{is_blank}
+use Rattle.syslog_text.proofs.PieceLemmas.Class.{AllDeterministic, ◌also◌, ◌past◌, exactly_det, no_row}
+use Rattle.syslog_text.proofs.PieceLemmas.Class.{no_row_division, rest_det, row_det, run_det, some_run_det}
+use Rattle.syslog_text.proofs.PieceLemmas.Class.{texted_det}
+use Rattle.syslog_text.proofs.PieceLemmas.Rules.{such_det}
 use Rattle.std.proofs.Common.{inl}
 use Rattle.syslog_sent.specs.Date.{iso_date}
 use Rattle.syslog_dated_forms.specs.Esxi.{esxi_row, is_level, mark_row}

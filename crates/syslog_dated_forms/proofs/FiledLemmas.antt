@@ -1,13 +1,13 @@
 -- What is found of lines that a collector files: by whether such a line is there, and of which system it is.
 use Rattle.std.proofs.Common.{◌≡◌, [], ◌∷◌, sym, ap, ◌∙◌}
-use Rattle.syslog_pieces.specs.Pieces.Class.{Text, Class, Values, Front, NoFront, Row, Division, NoDivision}
-use Rattle.syslog_pieces.specs.Pieces.Rules.{such_that}
-use Rattle.syslog_pieces.specs.Text.{is_blank}
-use Rattle.syslog_pieces.proofs.PieceLemmas.Class.{AllDeterministic, ◌also◌, all_joined, front_division}
-use Rattle.syslog_pieces.proofs.PieceLemmas.Class.{no_row_division}
-use Rattle.syslog_pieces.proofs.PieceLemmas.Class.{row_cons, row_det, row_nil, row_none_here, rows_join, rows_none_here}
-use Rattle.syslog_pieces.proofs.PieceLemmas.Class.{rows_none_later, run_det, some_run_det, unique_division}
-use Rattle.syslog_pieces.proofs.PieceLemmas.Rules.{no_such_front, no_such_meaning, such_det, such_front}
+use Rattle.syslog_text.specs.Pieces.Class.{Text, Class, Values, Front, NoFront, Row, Division, NoDivision}
+use Rattle.syslog_text.specs.Pieces.Rules.{such_that}
+use Rattle.syslog_text.specs.Text.{is_blank}
+use Rattle.syslog_text.proofs.PieceLemmas.Class.{AllDeterministic, ◌also◌, all_joined, front_division}
+use Rattle.syslog_text.proofs.PieceLemmas.Class.{no_row_division}
+use Rattle.syslog_text.proofs.PieceLemmas.Class.{row_cons, row_det, row_nil, row_none_here, rows_join, rows_none_here}
+use Rattle.syslog_text.proofs.PieceLemmas.Class.{rows_none_later, run_det, some_run_det, unique_division}
+use Rattle.syslog_text.proofs.PieceLemmas.Rules.{no_such_front, no_such_meaning, such_det, such_front}
 use Rattle.syslog_dated_forms.specs.Cisco.{IsAsa, IsNxOs, cisco_row}
 use Rattle.syslog_sent.specs.Forms.{IsOfNone, IsOnlyOf}
 use Rattle.syslog_dated_forms.specs.Filed.{IsAny, filed_form, filed_forms, filed_front, filed_row, filed_sent}

@@ -1,11 +1,11 @@
 -- Texts that begin with no date of a form are not of that form.
 use Rattle.std.proofs.Common.{inl}
-use Rattle.syslog_pieces.specs.Pieces.Class.{Text, Front, NoFront, NoDivision, Row, run}
-use Rattle.syslog_pieces.specs.Pieces.Rules.{such_that}
-use Rattle.syslog_pieces.specs.Text.{is_blank}
+use Rattle.syslog_text.specs.Pieces.Class.{Text, Front, NoFront, NoDivision, Row, run}
+use Rattle.syslog_text.specs.Pieces.Rules.{such_that}
+use Rattle.syslog_text.specs.Text.{is_blank}
 use Rattle.syslog_pieces.specs.Timestamp.{header_stamp}
-use Rattle.syslog_pieces.proofs.PieceLemmas.Class.{◌past◌, no_mapped, no_row, no_row_division}
-use Rattle.syslog_pieces.proofs.PieceLemmas.Rules.{no_such_front}
+use Rattle.syslog_text.proofs.PieceLemmas.Class.{◌past◌, no_mapped, no_row, no_row_division}
+use Rattle.syslog_text.proofs.PieceLemmas.Rules.{no_such_front}
 use Rattle.syslog_dated_forms.specs.Container.{container_row}
 use Rattle.syslog_sent.specs.Date.{IsOdd, any_date, bsd_of, bsd_row, iso_date, iso_row}
 use Rattle.syslog_dated_forms.specs.Dated as dated

@@ -8,9 +8,9 @@ use Rattle.std.proofs.lemmas.List.{get_or-append-add}
 use Rattle.std.proofs.lemmas.Str.{encodes-chars}
 use Rattle.std.specs.Char.{encode_utf8}
 use Rattle.std.specs.Str.{IsUtf8, chars, encode_utf8_all}
-use Rattle.syslog_pieces.specs.Pieces.Class.{Text, Class, Values, Each, Front, NoDivision, NoFront, Row}
-use Rattle.syslog_pieces.specs.Pieces.Rules.{such_that}
-use Rattle.syslog_pieces.proofs.PieceLemmas.Class.{division_front, each_after, each_front, front_of, row_pieces}
+use Rattle.syslog_text.specs.Pieces.Class.{Text, Class, Values, Each, Front, NoDivision, NoFront, Row}
+use Rattle.syslog_text.specs.Pieces.Rules.{such_that}
+use Rattle.syslog_text.proofs.PieceLemmas.Class.{division_front, each_after, each_front, front_of, row_pieces}
 use Rattle.syslog_dated_forms.specs.Cisco.{IsAsa, IsMnemonic, IsNxOs, cisco_forms, cisco_row, is_unmarked, message_row}
 use Rattle.syslog_sent.specs.Forms.{IsOfNone}
 use Rattle.syslog_dated_forms.specs.Filed.{IsAny, filed_forms, filed_row}

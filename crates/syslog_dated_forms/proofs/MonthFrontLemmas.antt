@@ -11,20 +11,20 @@ use Rattle.std.specs.Cmp.Lexicographic.{same_text}
 use Rattle.std.specs.Prelude.{◌&&◌, ◌||◌, IsTrue, is_none, nat_le, nat_lt, not}
 use Rattle.std.specs.Str.{chars}
 use Rattle.syslog_pieces.specs.Bodies.MonthReading.{small_month}
-use Rattle.syslog_pieces.specs.Pieces.Class.{Text, Class, Values, Each, Ends, Front, NoDivision, NoFront, Row, exactly}
-use Rattle.syslog_pieces.specs.Pieces.Class.{optional}
-use Rattle.syslog_pieces.specs.Pieces.Class.{run, some_run}
-use Rattle.syslog_pieces.specs.Pieces.View.{text_eq}
-use Rattle.syslog_pieces.specs.Text.{is_blank, is_tag_char, colon, number}
+use Rattle.syslog_text.specs.Pieces.Class.{Text, Class, Values, Each, Ends, Front, NoDivision, NoFront, Row, exactly}
+use Rattle.syslog_text.specs.Pieces.Class.{optional}
+use Rattle.syslog_text.specs.Pieces.Class.{run, some_run}
+use Rattle.syslog_text.specs.Pieces.View.{text_eq}
+use Rattle.syslog_text.specs.Text.{is_blank, is_tag_char, colon, number}
 use Rattle.syslog_pieces.specs.Timestamp.MonthDate.{clock_row, month, month_date, short_number}
 use Rattle.syslog_pieces.specs.Timestamp.Rfc3339.{pair, year}
 use Rattle.syslog_pieces.specs.declared.timestamp.month_date.MonthDate.{MonthDate}
-use Rattle.syslog_pieces.proofs.PieceLemmas.Class.{◌past◌, ◌then◌, front_of, front_same, mapped_front, no_mapped}
-use Rattle.syslog_pieces.proofs.PieceLemmas.Class.{each_map, no_row, no_row_division, optional_some}
-use Rattle.syslog_pieces.proofs.PieceLemmas.Class.{optional_none, row_of, row_pieces}
-use Rattle.syslog_pieces.proofs.PieceLemmas.Lists.{Begins, begins, begins_apart}
-use Rattle.syslog_pieces.proofs.PieceLemmas.Rules.{no_such_front, such_front}
-use Rattle.syslog_pieces.proofs.TextLemmas.Runs.{no_run}
+use Rattle.syslog_text.proofs.PieceLemmas.Class.{◌past◌, ◌then◌, front_of, front_same, mapped_front, no_mapped}
+use Rattle.syslog_text.proofs.PieceLemmas.Class.{each_map, no_row, no_row_division, optional_some}
+use Rattle.syslog_text.proofs.PieceLemmas.Class.{optional_none, row_of, row_pieces}
+use Rattle.syslog_text.proofs.PieceLemmas.Lists.{Begins, begins, begins_apart}
+use Rattle.syslog_text.proofs.PieceLemmas.Rules.{no_such_front, such_front}
+use Rattle.syslog_text.proofs.TextLemmas.Runs.{no_run}
 use Rattle.syslog_pieces.proofs.TimestampLemmas.MonthDate.{IsBlank, IsLetter, blank_low, blanks_begin, month_letters}
 use Rattle.syslog_dated_forms.specs.Cisco.{IsMnemonic, begins_host, counter_row, front_year, front_year_row, label}
 use Rattle.syslog_dated_forms.specs.Cisco.{label_row}

@@ -1,14 +1,14 @@
 -- A text has one division into each row of IOS-XR, NetScaler, ProCurve, Sophos UTM and OpenWrt.
 use Rattle.std.proofs.Common.{Option, arith}
 use Rattle.std.specs.Char.{is_ascii_digit}
-use Rattle.syslog_pieces.specs.Pieces.Class.{Text, Row, exactly, some_run}
-use Rattle.syslog_pieces.specs.Text.{is_blank, colon}
-use Rattle.syslog_pieces.specs.Text.CharClass.{is_label_char}
+use Rattle.syslog_text.specs.Pieces.Class.{Text, Row, exactly, some_run}
+use Rattle.syslog_text.specs.Text.{is_blank, colon}
+use Rattle.syslog_text.specs.Text.CharClass.{is_label_char}
 use Rattle.syslog_pieces.specs.Timestamp.Rfc3339.{pair, year}
-use Rattle.syslog_pieces.proofs.PieceLemmas.Class.{AllDeterministic, ◌also◌, after_det, exactly_det, mapped_det}
-use Rattle.syslog_pieces.proofs.PieceLemmas.Class.{optional_det}
-use Rattle.syslog_pieces.proofs.PieceLemmas.Class.{rest_det, row_det, run_det, some_run_det, texted_det}
-use Rattle.syslog_pieces.proofs.PieceLemmas.Rules.{such_det}
+use Rattle.syslog_text.proofs.PieceLemmas.Class.{AllDeterministic, ◌also◌, after_det, exactly_det, mapped_det}
+use Rattle.syslog_text.proofs.PieceLemmas.Class.{optional_det}
+use Rattle.syslog_text.proofs.PieceLemmas.Class.{rest_det, row_det, run_det, some_run_det, texted_det}
+use Rattle.syslog_text.proofs.PieceLemmas.Rules.{such_det}
 use Rattle.syslog_pieces.proofs.TimestampLemmas.Rfc3339.{pair_det, year_det}
 use Rattle.syslog_dated_forms.specs.Cisco.{counter_row, date_row}
 use Rattle.syslog_dated_forms.specs.IosXr.{IsNode, card_row, host, host_in, host_row, process_in, process_row, xr_row}

@@ -3,14 +3,14 @@ use Rattle.std.proofs.Common.{◌≡◌, ℕ, ℤ, pos, ◌*◌, ◌*ℤ◌, ◌
 use Rattle.syslog_pieces.proofs.Names.{signed_arith}
 use Rattle.jiff.specs.Types.{DateTime}
 use Rattle.jiff.specs.Words.{civil_nanos, nanos_of_seconds}
-use Rattle.syslog_pieces.specs.Pieces.Class.{IsDeterministic, Row}
-use Rattle.syslog_pieces.specs.Text.{is_blank, number}
+use Rattle.syslog_text.specs.Pieces.Class.{IsDeterministic, Row}
+use Rattle.syslog_text.specs.Text.{is_blank, number}
 use Rattle.syslog_pieces.specs.Timestamp.Fields.{fields_of}
 use Rattle.syslog_pieces.specs.Timestamp.Printed.{civil_fields}
-use Rattle.syslog_pieces.proofs.PieceLemmas.Class.{AllDeterministic, ◌also◌, exactly_det, mapped_det, rest_det, row_det}
-use Rattle.syslog_pieces.proofs.PieceLemmas.Class.{run_det, some_run_det}
-use Rattle.syslog_pieces.proofs.PieceLemmas.Rules.{such_det}
-use Rattle.syslog_pieces.proofs.TextLemmas.Words.{host_det, number_det}
+use Rattle.syslog_text.proofs.PieceLemmas.Class.{AllDeterministic, ◌also◌, exactly_det, mapped_det, rest_det, row_det}
+use Rattle.syslog_text.proofs.PieceLemmas.Class.{run_det, some_run_det}
+use Rattle.syslog_text.proofs.PieceLemmas.Rules.{such_det}
+use Rattle.syslog_text.proofs.TextLemmas.Words.{host_det, number_det}
 use Rattle.syslog_pieces.proofs.TimestampLemmas.Civil.{civil_fields-is}
 use Rattle.syslog_sent.specs.Date.{fraction_row}
 use Rattle.syslog_dated_forms.specs.UnixSeconds.{IsLate, meraki_row, short_row, unix_date, unix_of, unix_row}

@@ -8,10 +8,10 @@ use Rattle.std.specs.Prelude.{◌≡◌, ◌⊎◌, ◌||◌, ◌&&◌, ℕ, nat
 use Rattle.std.specs.Prelude.{codes, not}
 use Rattle.std.specs.Option.{is_some}
 use Rattle.std.specs.Char.{is_ascii_digit}
-use Rattle.syslog_pieces.specs.Pieces.Class.{Text, Class, Values, Front, Row, run, some_run, exactly, rest, optional}
-use Rattle.syslog_pieces.specs.Pieces.Class.{mapped}
-use Rattle.syslog_pieces.specs.Pieces.Rules.{◌or◌, such_that}
-use Rattle.syslog_pieces.specs.Text.{is_blank, colon}
+use Rattle.syslog_text.specs.Pieces.Class.{Text, Class, Values, Front, Row, run, some_run, exactly, rest, optional}
+use Rattle.syslog_text.specs.Pieces.Class.{mapped}
+use Rattle.syslog_text.specs.Pieces.Rules.{◌or◌, such_that}
+use Rattle.syslog_text.specs.Text.{is_blank, colon}
 use Rattle.syslog_pieces.specs.Timestamp.Rfc3339.{year}
 use Rattle.syslog_sent.specs.Date.{any_date, in_year}
 use Rattle.syslog_sent.specs.Named.{BeginsWith, is_letter}

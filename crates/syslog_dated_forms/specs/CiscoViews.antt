@@ -1,6 +1,6 @@
 -- How clauses see the structs of Cisco's lines.
-use Rattle.syslog_pieces.specs.Pieces.Class.{Text, Values}
-use Rattle.syslog_pieces.specs.Pieces.View.{seen, shown}
+use Rattle.syslog_text.specs.Pieces.Class.{Text, Values}
+use Rattle.syslog_text.specs.Pieces.View.{seen, shown}
 use Rattle.syslog_dated_forms.specs.Cisco.{cisco_row, message_row}
 use Rattle.syslog_dated_forms.specs.declared.cisco.Cisco.{Cisco}
 

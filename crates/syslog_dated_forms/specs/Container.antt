@@ -1,9 +1,9 @@
 -- Container log files in the format of Kubernetes (CRI): a timestamp, the stream, `F` or `P` for a full or a partial
 -- line, and the text. The stream is no host, so that it stays before the message.
 use Rattle.std.specs.Prelude.{◌≡◌, true, List, [], ◌∷◌, Some, None, codes, map, chars}
-use Rattle.syslog_pieces.specs.Pieces.Class.{Text, Class, Front, Values, Row, run, exactly}
-use Rattle.syslog_pieces.specs.Pieces.Rules.{such_that}
-use Rattle.syslog_pieces.specs.Text.{is_blank}
+use Rattle.syslog_text.specs.Pieces.Class.{Text, Class, Front, Values, Row, run, exactly}
+use Rattle.syslog_text.specs.Pieces.Rules.{such_that}
+use Rattle.syslog_text.specs.Text.{is_blank}
 use Rattle.syslog_sent.specs.Date.{iso_date}
 use Rattle.syslog_sent.specs.Sent.{Form, loose}
 use Rattle.syslog_sent.specs.Zone.{bare_word, is_among}

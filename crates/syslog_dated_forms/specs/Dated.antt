@@ -1,7 +1,7 @@
 -- The dialects whose date alone differs from what the port reads: a date of theirs, and what the port reads after one.
 use Rattle.std.specs.Prelude.{◌≡◌, List, [], ◌∷◌, Some}
-use Rattle.syslog_pieces.specs.Pieces.Class.{Class, run, some_run}
-use Rattle.syslog_pieces.specs.Text.{is_blank}
+use Rattle.syslog_text.specs.Pieces.Class.{Class, run, some_run}
+use Rattle.syslog_text.specs.Text.{is_blank}
 use Rattle.syslog_sent.specs.Date.{odd_bsd_date, odd_iso_date, iso_date}
 use Rattle.syslog_sent.specs.Sent.{Form, SentValue, loose}
 use Rattle.syslog_dated_forms.specs.Tail.{TailValue, wide_tail}

@@ -2,10 +2,10 @@
 -- level with the priority in brackets, and the program. 40 is `(`, 41 `)`.
 use Rattle.std.specs.Prelude.{◌≡◌, ◌||◌, Bool, IsTrue, List, [], ◌∷◌, Some, None, codes}
 use Rattle.std.specs.Char.{is_ascii_digit}
-use Rattle.syslog_pieces.specs.Pieces.Class.{Text, Class, Values, Row, run, some_run, exactly, rest, texted}
-use Rattle.syslog_pieces.specs.Pieces.Rules.{such_that}
-use Rattle.syslog_pieces.specs.Pieces.View.{text_eq}
-use Rattle.syslog_pieces.specs.Text.{is_blank}
+use Rattle.syslog_text.specs.Pieces.Class.{Text, Class, Values, Row, run, some_run, exactly, rest, texted}
+use Rattle.syslog_text.specs.Pieces.Rules.{such_that}
+use Rattle.syslog_text.specs.Pieces.View.{text_eq}
+use Rattle.syslog_text.specs.Text.{is_blank}
 use Rattle.syslog_sent.specs.Date.{iso_date}
 use Rattle.syslog_sent.specs.Named.{program}
 use Rattle.syslog_sent.specs.Runs.{is_plain_char}

@@ -1,9 +1,9 @@
 -- Lines of Cisco's systems as a collector files them (rsyslog, syslog-ng). The collector's date and the name of the
 -- device come first, and then the line as the device sent it, with a date of its own.
 use Rattle.std.specs.Prelude.{◌≡◌, List, [], ◌∷◌, ◌++◌, Some, None}
-use Rattle.syslog_pieces.specs.Pieces.Class.{Text, Class, Values, Row, run, some_run}
-use Rattle.syslog_pieces.specs.Pieces.Rules.{such_that}
-use Rattle.syslog_pieces.specs.Text.{is_blank}
+use Rattle.syslog_text.specs.Pieces.Class.{Text, Class, Values, Row, run, some_run}
+use Rattle.syslog_text.specs.Pieces.Rules.{such_that}
+use Rattle.syslog_text.specs.Text.{is_blank}
 use Rattle.syslog_dated_forms.specs.Cisco.{IsAsa, IsNxOs, cisco_row, dated_in, either_host, origin}
 use Rattle.syslog_sent.specs.Date.{any_date}
 use Rattle.syslog_sent.specs.Sent.{Form, SentValue, loose}

@@ -2,11 +2,11 @@
 -- message with its code. ("System Monitoring", the format of system log messages.) 91 is `[`, 93 `]`.
 use Rattle.std.specs.Prelude.{◌≡◌, ◌⊎◌, ◌||◌, ℕ, nat_eq, Bool, List, [], ◌∷◌, Option, Some, codes}
 use Rattle.std.specs.Char.{is_ascii_digit}
-use Rattle.syslog_pieces.specs.Pieces.Class.{Text, Class, Values, Row, run, some_run, exactly, rest, optional, mapped}
-use Rattle.syslog_pieces.specs.Pieces.Class.{texted}
-use Rattle.syslog_pieces.specs.Pieces.Rules.{such_that}
-use Rattle.syslog_pieces.specs.Text.{is_blank, colon}
-use Rattle.syslog_pieces.specs.Text.CharClass.{is_label_char}
+use Rattle.syslog_text.specs.Pieces.Class.{Text, Class, Values, Row, run, some_run, exactly, rest, optional, mapped}
+use Rattle.syslog_text.specs.Pieces.Class.{texted}
+use Rattle.syslog_text.specs.Pieces.Rules.{such_that}
+use Rattle.syslog_text.specs.Text.{is_blank, colon}
+use Rattle.syslog_text.specs.Text.CharClass.{is_label_char}
 use Rattle.syslog_dated_forms.specs.Cisco.{Starts, counter_row, date_row, dated_in, origin}
 use Rattle.syslog_sent.specs.Sent.{Form, SentValue, loose}
 use Rattle.syslog_sent.specs.Zone.{bare_word}

@@ -1,8 +1,8 @@
 -- Lines of Citrix NetScaler: `03/02/2026:06:33:04 GMT ns1 0-PPE-0 : text`. 47 is `/`, 58 `:`.
 use Rattle.std.specs.Prelude.{◌≡◌, List, [], ◌∷◌, Some}
 use Rattle.std.specs.Option.{option_flatten}
-use Rattle.syslog_pieces.specs.Pieces.Class.{Class, Values, Row, run, optional, mapped, after}
-use Rattle.syslog_pieces.specs.Text.{is_blank}
+use Rattle.syslog_text.specs.Pieces.Class.{Class, Values, Row, run, optional, mapped, after}
+use Rattle.syslog_text.specs.Text.{is_blank}
 use Rattle.syslog_pieces.specs.Timestamp.Rfc3339.{pair, year}
 use Rattle.syslog_dated_forms.specs.Dated.{dated_sent}
 use Rattle.syslog_sent.specs.Sent.{Form}

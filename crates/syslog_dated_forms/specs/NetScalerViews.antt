@@ -1,5 +1,5 @@
 -- How clauses see the struct of `netscaler`.
-use Rattle.syslog_pieces.specs.Pieces.Class.{Values}
+use Rattle.syslog_text.specs.Pieces.Class.{Values}
 use Rattle.syslog_dated_forms.specs.NetScaler.{slashed_row}
 use Rattle.syslog_dated_forms.specs.declared.netscaler.SlashedDate.{SlashedDate}
 

@@ -1,8 +1,8 @@
 -- Lines of OpenWrt's `logread`: the day of the week, the date and the year, the facility and the severity, and no host.
 -- (`log/logread.c` of ubox.)
 use Rattle.std.specs.Prelude.{◌≡◌, List, [], ◌∷◌, Some, None}
-use Rattle.syslog_pieces.specs.Pieces.Class.{Class, Values, Row, run, some_run, rest}
-use Rattle.syslog_pieces.specs.Text.{is_blank}
+use Rattle.syslog_text.specs.Pieces.Class.{Class, Values, Row, run, some_run, rest}
+use Rattle.syslog_text.specs.Text.{is_blank}
 use Rattle.syslog_sent.specs.Date.{any_date}
 use Rattle.syslog_sent.specs.Date.{weekday}
 use Rattle.syslog_sent.specs.Named.{program}

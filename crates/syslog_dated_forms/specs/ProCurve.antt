@@ -1,8 +1,8 @@
 -- Lines of HP's ProCurve and ArubaOS-Switch: a date, the switch, the number of the event, the module and a colon.
 use Rattle.std.specs.Prelude.{◌≡◌, List, [], ◌∷◌, Some, None}
 use Rattle.std.specs.Char.{is_ascii_digit}
-use Rattle.syslog_pieces.specs.Pieces.Class.{Class, Values, run, some_run, exactly, rest}
-use Rattle.syslog_pieces.specs.Text.{is_blank, colon}
+use Rattle.syslog_text.specs.Pieces.Class.{Class, Values, run, some_run, exactly, rest}
+use Rattle.syslog_text.specs.Text.{is_blank, colon}
 use Rattle.syslog_dated_forms.specs.Cisco.{origin}
 use Rattle.syslog_sent.specs.Date.{any_date}
 use Rattle.syslog_sent.specs.Sent.{Form, SentValue, loose}

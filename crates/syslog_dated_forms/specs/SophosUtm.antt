@@ -1,7 +1,7 @@
 -- Lines of Sophos UTM: `2026:03:02-06:33:04 utm9 ulogd[4567]: text`. 45 is `-`, 58 `:`.
 use Rattle.std.specs.Prelude.{◌≡◌, List, [], ◌∷◌, Some, None}
-use Rattle.syslog_pieces.specs.Pieces.Class.{Class, Values, Row, run, mapped, after}
-use Rattle.syslog_pieces.specs.Text.{is_blank}
+use Rattle.syslog_text.specs.Pieces.Class.{Class, Values, Row, run, mapped, after}
+use Rattle.syslog_text.specs.Text.{is_blank}
 use Rattle.syslog_pieces.specs.Timestamp.Rfc3339.{pair, year}
 use Rattle.syslog_dated_forms.specs.Dated.{dated_sent}
 use Rattle.syslog_sent.specs.Sent.{Form}

@@ -1,6 +1,6 @@
 -- What follows a date as the port reads it: a host field, a tag field, a colon, and the message. 32 is a space.
 use Rattle.std.specs.Prelude.{◌≡◌, List, [], ◌∷◌, ◌++◌, Option}
-use Rattle.syslog_pieces.specs.Pieces.Class.{Text, Class, Row, exactly, mapped, optional, rest}
+use Rattle.syslog_text.specs.Pieces.Class.{Text, Class, Row, exactly, mapped, optional, rest}
 use Rattle.syslog_loose.specs.Rows.{fields_row}
 use Rattle.syslog_loose.specs.Rfc3164.{Names3164, Resolves, HasProcess}
 use Rattle.syslog_sent.specs.Zone.{ended}

@@ -1,6 +1,6 @@
 -- How clauses see the structs of `tail`.
 use Rattle.std.specs.Prelude.{option_map}
-use Rattle.syslog_pieces.specs.Pieces.View.{seen, shown}
+use Rattle.syslog_text.specs.Pieces.View.{seen, shown}
 use Rattle.syslog_pieces.specs.ProcId.{named_process}
 use Rattle.syslog_loose.specs.Rfc3164.{Names3164, names}
 use Rattle.syslog_dated_forms.specs.Tail.{TailValue}

@@ -5,9 +5,9 @@
 use Rattle.std.specs.Prelude.{◌≡◌, ℕ, ◌≤◌, ◌*◌, pos, unsigned_abs, List, [], ◌∷◌, Option, Some, None, MatchOption}
 use Rattle.jiff.specs.Types.{DateTime}
 use Rattle.syslog_pieces.specs.Timestamp.Fields.{fields_of}
-use Rattle.syslog_pieces.specs.Pieces.Class.{Class, Values, Row, run, some_run, exactly, rest, mapped}
-use Rattle.syslog_pieces.specs.Pieces.Rules.{such_that}
-use Rattle.syslog_pieces.specs.Text.{host, is_blank, number}
+use Rattle.syslog_text.specs.Pieces.Class.{Class, Values, Row, run, some_run, exactly, rest, mapped}
+use Rattle.syslog_text.specs.Pieces.Rules.{such_that}
+use Rattle.syslog_text.specs.Text.{host, is_blank, number}
 use Rattle.syslog_pieces.specs.Timestamp.Printed.{civil_fields}
 use Rattle.syslog_pieces.specs.declared.timestamp.fields.CivilFields.{CivilFields}
 use Rattle.syslog_dated_forms.specs.Cisco.{origin}

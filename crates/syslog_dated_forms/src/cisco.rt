@@ -10,9 +10,9 @@
 //! text`.
 ghost use Rattle.std.specs.Prelude.{◌≡◌, ◌++◌, ◌∷◌, [], chars, IsTrue, MatchBool, MatchOption, Option, Some, ℕ};
 ghost use Rattle.std.specs.Char.{is_ascii_digit};
-ghost use Rattle.syslog_pieces.specs.Pieces.Class.{Front, NoFront, Row, Text, exactly, optional, run, some_run};
-ghost use Rattle.syslog_pieces.specs.Pieces.View.{Reads, Recognises, seen, shown};
-ghost use Rattle.syslog_pieces.specs.Text.{colon as any_colon, is_blank};
+ghost use Rattle.syslog_text.specs.Pieces.Class.{Front, NoFront, Row, Text, exactly, optional, run, some_run};
+ghost use Rattle.syslog_text.specs.Pieces.View.{Reads, Recognises, seen, shown};
+ghost use Rattle.syslog_text.specs.Text.{colon as any_colon, is_blank};
 ghost use Rattle.syslog_sent.specs.Date.{any_date as date_class};
 ghost use Rattle.syslog_dated_forms.specs.CiscoViews.{cisco_values, message_values};
 ghost use Rattle.syslog_sent.specs.Forms.{Finds};
@@ -23,9 +23,6 @@ ghost use Rattle.syslog_sent.specs.Sent.{Sends, sent_value};
 ghost use Rattle.syslog_sent.specs.Zone.{bare_word as any_word};
 ghost use Rattle.syslog_dated_forms.specs.Cisco as spec;
 
-use syslog_pieces::text::{
-    CharClass, begins_with_digit, blanks, first, literal, past_colon, some_blanks, split_run,
-};
 use syslog_pieces::timestamp::MonthDate;
 use syslog_pieces::timestamp::pairs::year;
 use syslog_sent::date::any_date;
@@ -34,6 +31,9 @@ use syslog_sent::led::{LeadingDate, Led};
 use syslog_sent::named::past;
 use syslog_sent::sent::{Sent, SentDate};
 use syslog_sent::zone::bare_word;
+use syslog_text::text::{
+    CharClass, begins_with_digit, blanks, first, literal, past_colon, some_blanks, split_run,
+};
 
 // Whether a host's name may begin with this character: a letter or a digit.
 fn begins_host(c: char) -> bool

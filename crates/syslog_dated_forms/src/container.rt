@@ -4,18 +4,18 @@
 //! message. (Kubernetes, "CRI logging": a timestamp of RFC 3339, `stdout` or `stderr`, `F` or `P`, each before a
 //! space.)
 ghost use Rattle.std.specs.Prelude.{◌≡◌, ◌∷◌, [], chars, true, MatchBool};
-ghost use Rattle.syslog_pieces.specs.Pieces.Class.{Front, Row, Text, exactly, run};
-ghost use Rattle.syslog_pieces.specs.Pieces.Rules.{such_that};
-ghost use Rattle.syslog_pieces.specs.Pieces.View.{Recognises};
-ghost use Rattle.syslog_pieces.specs.Text.{is_blank};
+ghost use Rattle.syslog_text.specs.Pieces.Class.{Front, Row, Text, exactly, run};
+ghost use Rattle.syslog_text.specs.Pieces.Rules.{such_that};
+ghost use Rattle.syslog_text.specs.Pieces.View.{Recognises};
+ghost use Rattle.syslog_text.specs.Text.{is_blank};
 ghost use Rattle.syslog_sent.specs.Date.{iso_date};
 ghost use Rattle.syslog_sent.specs.Sent.{Sends};
 ghost use Rattle.syslog_sent.specs.Zone.{bare_word as any_word};
 ghost use Rattle.syslog_dated_forms.specs.Container as spec;
 
-use syslog_pieces::text::literal;
 use syslog_sent::sent::{Sent, SentDate};
 use syslog_sent::zone::{bare_word, is_one_of};
+use syslog_text::text::literal;
 
 const STREAMS: [&str; 2] = ["stdout", "stderr"];
 

@@ -9,8 +9,8 @@
 //!   ..`
 //! - `journalctl -o short-full`: `Mon 2026-03-02 06:33:04 CET h app[1]: text`
 ghost use Rattle.std.specs.Prelude.{◌≡◌, chars, true};
-ghost use Rattle.syslog_pieces.specs.Pieces.Class.{Front, Row, Text, run};
-ghost use Rattle.syslog_pieces.specs.Text.{is_blank};
+ghost use Rattle.syslog_text.specs.Pieces.Class.{Front, Row, Text, run};
+ghost use Rattle.syslog_text.specs.Text.{is_blank};
 ghost use Rattle.syslog_sent.specs.Date.{bsd_row as date_row, iso_date as date_class};
 ghost use Rattle.syslog_sent.specs.DateViews.{bsd_values};
 ghost use Rattle.syslog_sent.specs.Sent.{Sends, sent_value};
@@ -18,10 +18,10 @@ ghost use Rattle.syslog_dated_forms.specs.TailViews.{tail_value};
 ghost use Rattle.syslog_dated_forms.specs.Dated as spec;
 
 use crate::tail::{Tail, read_wide_tail};
-use syslog_pieces::text::{blanks, some_blanks};
 use syslog_pieces::timestamp::header_stamp;
 use syslog_sent::date::{BsdDate, iso_date, weekday};
 use syslog_sent::sent::{Sent, SentDate};
+use syslog_text::text::{blanks, some_blanks};
 
 /// Returns what a line says that has this date and this text after it.
 pub(crate) fn says<'a>(date: SentDate, tail: Tail<'a>) -> Sent<'a>

@@ -1,7 +1,7 @@
 //! The forms that are recognised by their date, in the order in which they are tried.
 ghost use Rattle.std.specs.Prelude.{◌≡◌, ◌++◌, chars, false};
-ghost use Rattle.syslog_pieces.specs.Pieces.Class.{Each, Front, NoFront, Row, Text, run};
-ghost use Rattle.syslog_pieces.specs.Text.{is_blank};
+ghost use Rattle.syslog_text.specs.Pieces.Class.{Each, Front, NoFront, Row, Text, run};
+ghost use Rattle.syslog_text.specs.Text.{is_blank};
 ghost use Rattle.syslog_dated_forms.specs.Cisco.{cisco_forms, is_unmarked};
 ghost use Rattle.syslog_dated_forms.specs.Container.{container_form};
 ghost use Rattle.syslog_sent.specs.Date.{bsd_row, iso_date};

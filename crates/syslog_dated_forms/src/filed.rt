@@ -4,9 +4,9 @@
 //! **Rule.** The date of the message is the device's own. The host is what the device calls itself, or otherwise what
 //! the collector calls it. (rsyslog and syslog-ng write their date and the sender before the message as it came.)
 ghost use Rattle.std.specs.Prelude.{◌≡◌, [], MatchOption, chars};
-ghost use Rattle.syslog_pieces.specs.Pieces.Class.{Front, NoFront, Row, Text, run};
-ghost use Rattle.syslog_pieces.specs.Text.{is_blank};
-ghost use Rattle.syslog_pieces.specs.Pieces.View.{shown};
+ghost use Rattle.syslog_text.specs.Pieces.Class.{Front, NoFront, Row, Text, run};
+ghost use Rattle.syslog_text.specs.Text.{is_blank};
+ghost use Rattle.syslog_text.specs.Pieces.View.{shown};
 ghost use Rattle.syslog_sent.specs.Date.{any_date as date_class};
 ghost use Rattle.syslog_dated_forms.specs.CiscoViews.{cisco_values};
 ghost use Rattle.syslog_sent.specs.Forms.{Finds};

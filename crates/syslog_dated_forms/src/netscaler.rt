@@ -3,8 +3,8 @@
 //! **Rule.** The month comes first, as in the appliance's default setting (Citrix, "Audit logging": date format
 //! MMDDYYYY). What follows is read as the port reads it.
 ghost use Rattle.std.specs.Prelude.{◌≡◌, chars};
-ghost use Rattle.syslog_pieces.specs.Pieces.Class.{Row, after};
-ghost use Rattle.syslog_pieces.specs.Pieces.View.{Reads};
+ghost use Rattle.syslog_text.specs.Pieces.Class.{Row, after};
+ghost use Rattle.syslog_text.specs.Pieces.View.{Reads};
 ghost use Rattle.syslog_pieces.specs.Timestamp.Rfc3339.{year as any_year};
 ghost use Rattle.syslog_sent.specs.Sent.{Sends};
 ghost use Rattle.syslog_dated_forms.specs.NetScalerViews.{slashed_values};
@@ -12,11 +12,11 @@ ghost use Rattle.syslog_dated_forms.specs.NetScaler as spec;
 
 use crate::dated::says;
 use crate::tail::read_wide_tail;
-use syslog_pieces::text::{blanks, literal};
 use syslog_pieces::timestamp::MonthDate;
 use syslog_pieces::timestamp::pairs::{pair, pair_after, year};
 use syslog_sent::date::optional_zone;
 use syslog_sent::sent::{Sent, SentDate};
+use syslog_text::text::{blanks, literal};
 
 // Returns a year after a slash, and the text after it.
 fn slashed_year(text: &str) -> Option<(u16, &str)>

@@ -3,16 +3,16 @@
 //! **Rule.** The number of the event, which is before the module, names no program: the module does. (HP, "Event log
 //! message reference": severity, date, event number, system module.)
 ghost use Rattle.std.specs.Prelude.{◌≡◌, chars};
-ghost use Rattle.syslog_pieces.specs.Pieces.Class.{Front, Text, run};
-ghost use Rattle.syslog_pieces.specs.Text.{is_blank};
+ghost use Rattle.syslog_text.specs.Pieces.Class.{Front, Text, run};
+ghost use Rattle.syslog_text.specs.Text.{is_blank};
 ghost use Rattle.syslog_sent.specs.Date.{any_date};
 ghost use Rattle.syslog_sent.specs.Sent.{Sends};
 ghost use Rattle.syslog_dated_forms.specs.ProCurve as spec;
 
 use crate::cisco::{colon, digits, gap, origin};
-use syslog_pieces::text::blanks;
 use syslog_sent::sent::{Sent, SentDate};
 use syslog_sent::zone::bare_word;
+use syslog_text::text::blanks;
 
 /// Returns what a line of ProCurve says, which begins with this date, and has `rest` after it.
 pub(crate) fn read_procurve(date: SentDate, rest: &str) -> Option<Sent<'_>>

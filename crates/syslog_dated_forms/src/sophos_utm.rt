@@ -4,16 +4,16 @@
 //! Guide, "Logging & Reporting"; its remote syslog sends the lines of its own files). What follows is read as the port
 //! reads it.
 ghost use Rattle.std.specs.Prelude.{◌≡◌, chars};
-ghost use Rattle.syslog_pieces.specs.Pieces.View.{Reads};
+ghost use Rattle.syslog_text.specs.Pieces.View.{Reads};
 ghost use Rattle.syslog_sent.specs.Sent.{Sends};
 ghost use Rattle.syslog_dated_forms.specs.SophosUtm as spec;
 
 use crate::dated::says;
 use crate::tail::read_wide_tail;
-use syslog_pieces::text::blanks;
 use syslog_pieces::timestamp::MonthDate;
 use syslog_pieces::timestamp::pairs::{pair_after, year};
 use syslog_sent::sent::{Sent, SentDate};
+use syslog_text::text::blanks;
 
 // The date with these numbers.
 fn date_of(year: u16, month: u32, day: u32, hour: u32, minute: u32, second: u32) -> SentDate

@@ -3,19 +3,19 @@
 //! **Rule.** It is that of the port (`rfc3164` of `syslog_loose`). A tag of the form `tag[id]` is a program and its
 //! process, and a lone word that is not of that form is the host. A list of elements is left in the message.
 ghost use Rattle.std.specs.Prelude.{◌≡◌, MatchOption, Option, chars, []};
-ghost use Rattle.syslog_pieces.specs.Pieces.Class.{Front, optional};
-ghost use Rattle.syslog_pieces.specs.Pieces.View.{Recognises, seen, shown};
-ghost use Rattle.syslog_pieces.specs.Text.{field_seen};
+ghost use Rattle.syslog_text.specs.Pieces.Class.{Front, optional};
+ghost use Rattle.syslog_text.specs.Pieces.View.{Recognises, seen, shown};
+ghost use Rattle.syslog_text.specs.Text.{field_seen};
 ghost use Rattle.syslog_loose.specs.Bodies.View3164.{NamesHost, NamesProgram};
 ghost use Rattle.syslog_loose.specs.Rfc3164.{HasProcess, Resolves};
 ghost use Rattle.syslog_loose.specs.TagForm.{IsForm, IsIdOf, IsNoForm};
 ghost use Rattle.syslog_dated_forms.specs.TailViews.{tail_names, tail_value};
 ghost use Rattle.syslog_dated_forms.specs.Tail as spec;
 
-use syslog_pieces::text::{
+use syslog_sent::zone::ends_word;
+use syslog_text::text::{
     CharClass, Field, blanks, host_field, literal, past_colon, split_run, tag_field,
 };
-use syslog_sent::zone::ends_word;
 
 /// The names and the message that follow a date.
 #[derive(Clone, Copy)]

@@ -4,7 +4,7 @@
 //! **Rule.** The date is what a clock in UTC shows at that second. Ten digits at least are such a date. Meraki's
 //! message begins with its type, which is no program.
 ghost use Rattle.std.specs.Prelude.{◌≡◌, chars};
-ghost use Rattle.syslog_pieces.specs.Pieces.View.{Reads};
+ghost use Rattle.syslog_text.specs.Pieces.View.{Reads};
 ghost use Rattle.syslog_pieces.specs.Timestamp.Fields.{fields_of};
 ghost use Rattle.syslog_sent.specs.Sent.{Sends};
 ghost use Rattle.syslog_dated_forms.specs.UnixSeconds as spec;
@@ -13,11 +13,11 @@ use crate::cisco::{gap, origin};
 use jiff::Timestamp;
 use jiff::civil::DateTime;
 use jiff::tz::Offset;
-use syslog_pieces::text::{blanks, host, literal, number};
 use syslog_pieces::timestamp::MonthDate;
 use syslog_sent::date::fraction;
 use syslog_sent::named::read_program;
 use syslog_sent::sent::{Sent, SentDate};
+use syslog_text::text::{blanks, host, literal, number};
 
 // Returns what a clock in UTC shows so many seconds after 1970 began.
 fn shown_at(seconds: u32) -> Option<DateTime>

@@ -2,16 +2,16 @@
 use Rattle.std.proofs.Common.{◌≡◌, ◌⊎◌, inl, inr, ℕ, Bool, true, false, List, [], ◌∷◌, ◌++◌, Option, Some, None}
 use Rattle.std.proofs.Common.{refl, sym, ap, subst, ◌∙◌, append_assoc, drop, if◌then◌else◌, take}
 use Rattle.std.specs.Char.{is_ascii_digit}
-use Rattle.syslog_pieces.specs.Pieces.Class.{Text, Class, Each, Values, Front, Row, exactly, mapped, optional, rest}
-use Rattle.syslog_pieces.specs.Pieces.Class.{run}
-use Rattle.syslog_pieces.specs.Pieces.Class.{some_run, spaced, texted}
-use Rattle.syslog_pieces.specs.Pieces.Lists.{many}
-use Rattle.syslog_pieces.specs.Pieces.Rules.{such_that}
-use Rattle.syslog_pieces.specs.Text.{host, is_blank, is_tag_char, number, tag_word, trimmed}
-use Rattle.syslog_pieces.specs.Text.CharClass.{is_label_char}
-use Rattle.syslog_pieces.proofs.PieceLemmas.Class.{◌also◌, ◌then◌, division_front, front_of, present_front, row_head}
-use Rattle.syslog_pieces.proofs.PieceLemmas.Class.{firsts, lasts, row_of, rows_split}
-use Rattle.syslog_pieces.proofs.PieceLemmas.Lists.{many_parts}
+use Rattle.syslog_text.specs.Pieces.Class.{Text, Class, Each, Values, Front, Row, exactly, mapped, optional, rest}
+use Rattle.syslog_text.specs.Pieces.Class.{run}
+use Rattle.syslog_text.specs.Pieces.Class.{some_run, spaced, texted}
+use Rattle.syslog_text.specs.Pieces.Lists.{many}
+use Rattle.syslog_text.specs.Pieces.Rules.{such_that}
+use Rattle.syslog_text.specs.Text.{host, is_blank, is_tag_char, number, tag_word, trimmed}
+use Rattle.syslog_text.specs.Text.CharClass.{is_label_char}
+use Rattle.syslog_text.proofs.PieceLemmas.Class.{◌also◌, ◌then◌, division_front, front_of, present_front, row_head}
+use Rattle.syslog_text.proofs.PieceLemmas.Class.{firsts, lasts, row_of, rows_split}
+use Rattle.syslog_text.proofs.PieceLemmas.Lists.{many_parts}
 use Rattle.syslog_loose.specs.Message.{MessageValue}
 use Rattle.syslog_loose.specs.Rfc3164.{HasProcess, Names3164, NamesByForm, Resolves, names}
 use Rattle.syslog_loose.specs.TagForm.{IsForm, IsIdOf}

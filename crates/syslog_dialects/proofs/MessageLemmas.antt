@@ -5,15 +5,15 @@ use Rattle.std.proofs.lemmas.List.{append-nil}
 use Rattle.std.specs.Char.{is_not_whitespace}
 use Rattle.std.specs.Prelude.{IfSome, option_map}
 use Rattle.std.specs.Str.{skip_leading_whitespace}
-use Rattle.syslog_pieces.specs.Pieces.Class.{Text, Class, Values, Front, Row, Ends, mapped, rest, run, some_run}
-use Rattle.syslog_pieces.specs.Pieces.Rules.{such_that}
+use Rattle.syslog_text.specs.Pieces.Class.{Text, Class, Values, Front, Row, Ends, mapped, rest, run, some_run}
+use Rattle.syslog_text.specs.Pieces.Rules.{such_that}
 use Rattle.syslog_pieces.specs.ProcId.{IsBoundedProcess, NamesProcess, named_process}
-use Rattle.syslog_pieces.specs.Text.{host, is_blank, trimmed}
-use Rattle.syslog_pieces.specs.Text.Canonical.{EndsVisibly}
+use Rattle.syslog_text.specs.Text.{host, is_blank, trimmed}
+use Rattle.syslog_text.specs.Text.Canonical.{EndsVisibly}
 use Rattle.syslog_pieces.specs.declared.procid.ProcId.{ProcId}
 use Rattle.syslog_pieces.specs.declared.procid.ProcId.TheVariants.{PID, Name}
-use Rattle.syslog_pieces.proofs.PieceLemmas.Class.{◌also◌, division_front, each_left, front_of, lasts, nil_front}
-use Rattle.syslog_pieces.proofs.PieceLemmas.Class.{row_head, rows_split}
+use Rattle.syslog_text.proofs.PieceLemmas.Class.{◌also◌, division_front, each_left, front_of, lasts, nil_front}
+use Rattle.syslog_text.proofs.PieceLemmas.Class.{row_head, rows_split}
 use Rattle.syslog_pieces.proofs.ProcIdLemmas.{named_names}
 use Rattle.syslog_loose.proofs.PrintedLemmas.{drop_ends, visible_ends_blanks}
 use Rattle.syslog_loose.specs.Message.{MessageValue}

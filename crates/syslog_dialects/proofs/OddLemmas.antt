@@ -6,8 +6,8 @@ use Rattle.std.proofs.lemmas.Bool.Decides.{nat_tests}
 use Rattle.std.proofs.lemmas.Str.Ascii.{IsAscii-cons, IsAscii-nil}
 use Rattle.std.specs.Prelude.{nat_eq, slice_index, ◌&&◌, IsTrue}
 use Rattle.std.specs.Str.{IsUtf8, chars, encode_utf8_all}
-use Rattle.syslog_pieces.specs.Pieces.Class.{Text}
-use Rattle.syslog_pieces.proofs.TextLemmas.Runs.{ascii_ahead, chars_nonempty, one_ascii}
+use Rattle.syslog_text.specs.Pieces.Class.{Text}
+use Rattle.syslog_text.proofs.TextLemmas.Runs.{ascii_ahead, chars_nonempty, one_ascii}
 use Rattle.syslog_sent.specs.Named.{is_letter}
 use Rattle.syslog_dialects.specs.Ordinary.{BeginsPlainly, begins_oddly, has_bracket, is_level_mark, is_odd_app}
 

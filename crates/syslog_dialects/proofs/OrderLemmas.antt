@@ -2,13 +2,13 @@
 use Rattle.std.proofs.Common.{◌≡◌, ◌||◌, inl, inr, ℕ, nat_eq, true, List, [], ◌∷◌, ◌++◌, Option, Some, None}
 use Rattle.std.proofs.Common.{refl, sym, ap, subst, ◌∙◌, append_assoc, MatchOption}
 use Rattle.std.proofs.lemmas.Bool.{or_left}
-use Rattle.syslog_pieces.specs.Pieces.Class.{Text, Class, Each, Values, Front, Row, join}
-use Rattle.syslog_pieces.specs.Pieces.Class.{exactly, mapped, optional, rest, run, some_run, spaced, texted}
-use Rattle.syslog_pieces.specs.Pieces.Rules.{such_that}
-use Rattle.syslog_pieces.specs.Text.{IsHost, Names, colon, dash, host, is_blank, is_tag_char, tag_word, word}
-use Rattle.syslog_pieces.specs.Text.CharClass.{is_id_char, is_label_char}
-use Rattle.syslog_pieces.proofs.PieceLemmas.Class.{◌also◌, absent_stays, each_map, firsts, front_of, lasts, nil_front}
-use Rattle.syslog_pieces.proofs.PieceLemmas.Class.{present_front, rest_whole, row_head, rows_split, spaced_parts}
+use Rattle.syslog_text.specs.Pieces.Class.{Text, Class, Each, Values, Front, Row, join}
+use Rattle.syslog_text.specs.Pieces.Class.{exactly, mapped, optional, rest, run, some_run, spaced, texted}
+use Rattle.syslog_text.specs.Pieces.Rules.{such_that}
+use Rattle.syslog_text.specs.Text.{IsHost, Names, colon, dash, host, is_blank, is_tag_char, tag_word, word}
+use Rattle.syslog_text.specs.Text.CharClass.{is_id_char, is_label_char}
+use Rattle.syslog_text.proofs.PieceLemmas.Class.{◌also◌, absent_stays, each_map, firsts, front_of, lasts, nil_front}
+use Rattle.syslog_text.proofs.PieceLemmas.Class.{present_front, rest_whole, row_head, rows_split, spaced_parts}
 use Rattle.syslog_dialects.specs.Found.{Date, IsDateOf, IsLeftOut, Name, Part, Says, Tells, if_there, is_sign}
 use Rattle.syslog_sent.specs.Named.{BeginsWith, ProgramText, begins_name, id_of, id_row, name, process_id}
 use Rattle.syslog_sent.specs.Named.{program, program_of, program_row}

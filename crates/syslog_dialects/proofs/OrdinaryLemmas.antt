@@ -9,19 +9,19 @@ use Rattle.std.specs.Str.{IsUtf8, chars, encode_utf8_all}
 use Rattle.std.specs.Str.Pattern.{FindsTextPrefix, StripsPrefix}
 use Rattle.std.proofs.Common.{nat_eq, length}
 use Rattle.std.specs.Char.{is_ascii_digit}
-use Rattle.syslog_pieces.specs.Bodies.Scan.{SplitsRun}
-use Rattle.syslog_pieces.proofs.TextLemmas.Words.{end_told}
-use Rattle.syslog_pieces.specs.Pieces.Class.{Each, Ends, Text, NoFront, IsDeterministic, Row, exactly}
-use Rattle.syslog_pieces.specs.Pieces.View.{Skips, seen, shown}
+use Rattle.syslog_text.specs.Bodies.Scan.{SplitsRun}
+use Rattle.syslog_text.proofs.TextLemmas.Words.{end_told}
+use Rattle.syslog_text.specs.Pieces.Class.{Each, Ends, Text, NoFront, IsDeterministic, Row, exactly}
+use Rattle.syslog_text.specs.Pieces.View.{Skips, seen, shown}
 use Rattle.syslog_pieces.specs.ProcId.{procid_text}
 use Rattle.syslog_pieces.specs.Timestamp.{stamp_seen}
 use Rattle.syslog_pieces.specs.Timestamp.Zone.{Dating}
 use Rattle.syslog_pieces.specs.declared.procid.ProcId.{ProcId}
 use Rattle.syslog_pieces.specs.declared.timestamp.clock.ClockStamp.{ClockStamp}
-use Rattle.syslog_pieces.proofs.PieceLemmas.Class.{AllDeterministic, ◌also◌, ◌then◌, exactly_det, front_of}
-use Rattle.syslog_pieces.proofs.PieceLemmas.Class.{front_same, heads, no_front_no, piece_front}
-use Rattle.syslog_pieces.proofs.PieceLemmas.Class.{row_det, row_of}
-use Rattle.syslog_pieces.proofs.TextLemmas.Runs.{chars_cut}
+use Rattle.syslog_text.proofs.PieceLemmas.Class.{AllDeterministic, ◌also◌, ◌then◌, exactly_det, front_of}
+use Rattle.syslog_text.proofs.PieceLemmas.Class.{front_same, heads, no_front_no, piece_front}
+use Rattle.syslog_text.proofs.PieceLemmas.Class.{row_det, row_of}
+use Rattle.syslog_text.proofs.TextLemmas.Runs.{chars_cut}
 use Rattle.syslog_loose.proofs.LineLemmas.{line_rest}
 use Rattle.syslog_loose.proofs.Rfc3164Lemmas.{stamped_det}
 use Rattle.syslog_loose.specs.Rows.{stamped_row}

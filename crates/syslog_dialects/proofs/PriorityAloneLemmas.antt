@@ -2,17 +2,17 @@
 use Rattle.std.proofs.Common.{◌≡◌, inl, None, Bool, true, false, List, not, nat_eq, ℕ, length, refl, sym, ap, ◌∙◌}
 use Rattle.std.specs.Prelude.{MatchBool}
 use Rattle.std.specs.Str.{IsUtf8, chars}
-use Rattle.syslog_pieces.specs.Pieces.Class.{Text, Front, NoFront, Division, NoDivision, Row, Values, rest, run}
-use Rattle.syslog_pieces.specs.Text.{is_blank}
+use Rattle.syslog_text.specs.Pieces.Class.{Text, Front, NoFront, Division, NoDivision, Row, Values, rest, run}
+use Rattle.syslog_text.specs.Text.{is_blank}
 use Rattle.syslog_pieces.specs.Timestamp.MonthDate.{month_date}
-use Rattle.syslog_pieces.proofs.PieceLemmas.Class.{AllDeterministic, ◌also◌, ◌past◌, ◌then◌, front_division, no_row}
-use Rattle.syslog_pieces.proofs.PieceLemmas.Class.{no_row_division, rest_det, rest_front, row_of, run_det}
-use Rattle.syslog_pieces.proofs.PieceLemmas.Class.{some_run_det, unique_division}
-use Rattle.syslog_pieces.proofs.PieceLemmas.Rules.{no_such_meaning, such_det, such_front}
-use Rattle.syslog_pieces.proofs.TextLemmas.Words.{end_told, number_det}
+use Rattle.syslog_text.proofs.PieceLemmas.Class.{AllDeterministic, ◌also◌, ◌past◌, ◌then◌, front_division, no_row}
+use Rattle.syslog_text.proofs.PieceLemmas.Class.{no_row_division, rest_det, rest_front, row_of, run_det}
+use Rattle.syslog_text.proofs.PieceLemmas.Class.{some_run_det, unique_division}
+use Rattle.syslog_text.proofs.PieceLemmas.Rules.{no_such_meaning, such_det, such_front}
+use Rattle.syslog_text.proofs.TextLemmas.Words.{end_told, number_det}
 use Rattle.std.specs.Char.{is_ascii_digit}
-use Rattle.syslog_pieces.proofs.PieceLemmas.Class.{exactly_det, texted_det}
-use Rattle.syslog_pieces.specs.Pieces.Class.{some_run}
+use Rattle.syslog_text.proofs.PieceLemmas.Class.{exactly_det, texted_det}
+use Rattle.syslog_text.specs.Pieces.Class.{some_run}
 use Rattle.syslog_sent.proofs.NamedLemmas.{name_det}
 use Rattle.syslog_dialects.specs.PriorityAlone.{IsAlone, alone_form, alone_row, program_row, version_row}
 use Rattle.syslog_sent.specs.Sent.{IsOnlySent, SentValue, loose}

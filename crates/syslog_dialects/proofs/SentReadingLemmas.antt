@@ -2,13 +2,13 @@
 use Rattle.std.proofs.Common.{◌≡◌, ◌≢◌, inl, inr, ℕ, Bool, true, false, List, [], ◌∷◌, Option, Some, None}
 use Rattle.std.proofs.Common.{refl, sym, ap, subst, ◌∙◌}
 use Rattle.std.specs.Prelude.{◌↔◌, IfSome, IsTrue, MatchOption}
-use Rattle.syslog_pieces.specs.Pieces.Class.{Text, optional}
+use Rattle.syslog_text.specs.Pieces.Class.{Text, optional}
 use Rattle.syslog_pieces.specs.Pri.{priority}
-use Rattle.syslog_pieces.specs.StructuredData.Visited.{list_elements, list_text}
-use Rattle.syslog_pieces.specs.Text.{trimmed}
+use Rattle.syslog_elements.specs.StructuredData.Visited.{list_elements, list_text}
+use Rattle.syslog_text.specs.Text.{trimmed}
 use Rattle.syslog_pieces.specs.Timestamp.Zone.{Dating}
 use Rattle.syslog_pieces.specs.declared.timestamp.OffsetTimestamp.{OffsetTimestamp}
-use Rattle.syslog_pieces.proofs.PieceLemmas.Class.{front_same, optional_det}
+use Rattle.syslog_text.proofs.PieceLemmas.Class.{front_same, optional_det}
 use Rattle.syslog_pieces.proofs.PriLemmas.{priority_det}
 use Rattle.syslog_loose.specs.Bodies.Start.{IsAfterPriority}
 use Rattle.syslog_loose.specs.Line.{line_value}
@@ -17,7 +17,7 @@ use Rattle.syslog_loose.specs.Reading.{IsOnlyRead, IsUnreadable}
 use Rattle.syslog_loose.specs.Unparsed.{IsLeftUnparsed}
 use Rattle.syslog_loose.specs.Visit.{IsLineOf}
 use Rattle.syslog_loose.proofs.UnparsedLemmas.{leaves_of, leaves_same}
-use Rattle.syslog_pieces.proofs.StructuredDataLemmas.Unparsed.{nothing_leaves, unparsed_same}
+use Rattle.syslog_elements.proofs.StructuredDataLemmas.Unparsed.{nothing_leaves, unparsed_same}
 use Rattle.syslog_loose.specs.declared.dates.Dates.{Dates}
 use Rattle.syslog_loose.specs.declared.line.Line.{Line}
 use Rattle.syslog_loose.specs.declared.variant.Variant.{Variant}

@@ -3,10 +3,10 @@
 -- 40 is `(`, 41 `)`, 45 `-`, 49 `1`, 58 `:`, 91 `[`, 93 `]`.
 use Rattle.std.specs.Prelude.{◌≡◌, ◌⊎◌, ◌||◌, ℕ, nat_eq, Bool, List, [], ◌∷◌, ◌++◌, Option, Some, None, codes}
 use Rattle.std.specs.Char.{is_ascii_digit}
-use Rattle.syslog_pieces.specs.Pieces.Class.{Text, Class, Each, Front, Row, join, exactly, mapped, some_run, spaced}
-use Rattle.syslog_pieces.specs.Pieces.Lists.{many}
-use Rattle.syslog_pieces.specs.Pieces.Rules.{such_that}
-use Rattle.syslog_pieces.specs.Text.{host, is_blank, number, tag_word}
+use Rattle.syslog_text.specs.Pieces.Class.{Text, Class, Each, Front, Row, join, exactly, mapped, some_run, spaced}
+use Rattle.syslog_text.specs.Pieces.Lists.{many}
+use Rattle.syslog_text.specs.Pieces.Rules.{such_that}
+use Rattle.syslog_text.specs.Text.{host, is_blank, number, tag_word}
 use Rattle.syslog_loose.specs.Bodies.Start.{IsAfterPriority}
 use Rattle.syslog_loose.specs.Message.{MessageValue}
 use Rattle.syslog_loose.specs.declared.dates.Dates.{Dates}

@@ -4,9 +4,9 @@
 use Rattle.std.specs.Prelude.{◌≡◌, ◌≢◌, ◌⊎◌, ◌∷◌, ◌&&◌, ◌||◌, ℕ, nat_eq, Bool, true, false, List, [], Some, IsSome}
 use Rattle.std.specs.Prelude.{◌<◌, codes, nat_lt, length, slice_index}
 use Rattle.std.specs.Char.{is_ascii_digit}
-use Rattle.syslog_pieces.specs.Pieces.Class.{Text, Class, Front, Row, exactly}
-use Rattle.syslog_pieces.specs.Pieces.View.{seen, shown, text_eq}
-use Rattle.syslog_pieces.specs.StructuredData.Visited.{list_elements}
+use Rattle.syslog_text.specs.Pieces.Class.{Text, Class, Front, Row, exactly}
+use Rattle.syslog_text.specs.Pieces.View.{seen, shown, text_eq}
+use Rattle.syslog_elements.specs.StructuredData.Visited.{list_elements}
 use Rattle.syslog_loose.specs.declared.line.Line.{Line}
 use Rattle.syslog_sent.specs.Named.{is_letter}
 

@@ -2,9 +2,9 @@
 -- write. 91 is `[`, 93 `]`.
 use Rattle.std.specs.Prelude.{◌≡◌, ◌≢◌, List, [], ◌∷◌, Some, None}
 use Rattle.std.specs.Char.{is_ascii_digit}
-use Rattle.syslog_pieces.specs.Pieces.Class.{Text, Class, Values, NoFront, Row, exactly, run, some_run, rest, texted}
-use Rattle.syslog_pieces.specs.Pieces.Rules.{such_that}
-use Rattle.syslog_pieces.specs.Text.{colon, is_blank, number}
+use Rattle.syslog_text.specs.Pieces.Class.{Text, Class, Values, NoFront, Row, exactly, run, some_run, rest, texted}
+use Rattle.syslog_text.specs.Pieces.Rules.{such_that}
+use Rattle.syslog_text.specs.Text.{colon, is_blank, number}
 use Rattle.syslog_pieces.specs.Timestamp.MonthDate.{month_date}
 use Rattle.syslog_sent.specs.Named.{name}
 use Rattle.syslog_sent.specs.Sent.{Form, SentValue, loose}

@@ -2,9 +2,9 @@
 use Rattle.std.specs.Prelude.{◌≡◌, ℕ, ℤ, pos, [], Option, Some, None, option_map}
 use Rattle.jiff.specs.Types.{Offset}
 use Rattle.jiff.specs.Words.{plain_zone}
-use Rattle.syslog_pieces.specs.Pieces.View.{seen}
+use Rattle.syslog_text.specs.Pieces.View.{seen}
 use Rattle.syslog_pieces.specs.ProcId.{named_process}
-use Rattle.syslog_pieces.specs.StructuredData.Visited.{list_text}
+use Rattle.syslog_elements.specs.StructuredData.Visited.{list_text}
 use Rattle.syslog_pieces.specs.Timestamp.Fields.{IsStampOfClock}
 use Rattle.syslog_pieces.specs.Timestamp.Zone.{IsStampOfFields}
 use Rattle.syslog_pieces.specs.declared.timestamp.OffsetTimestamp.{OffsetTimestamp}

@@ -3,7 +3,7 @@
 ghost use Rattle.std.specs.Prelude.{◌≡◌, ◌↔◌, IsTrue, chars};
 ghost use Rattle.syslog_dialects.specs.SentReading as spec;
 
-use syslog_pieces::text::{first, trimmed};
+use syslog_text::text::{first, trimmed};
 
 #[inline(always)]
 fn is_capital(c: char) -> bool

@@ -1,9 +1,9 @@
 //! Which lines keep the port's reading, and where a dialect's texts are found, as laws over the definitions alone: each
 //! function does nothing, and its contract is the law.
 ghost use Rattle.std.specs.Prelude.{◌≡◌, ◌++◌, ℕ, Bool, None, Option, Some};
-ghost use Rattle.syslog_pieces.specs.Pieces.Class.{Ends, Text};
-ghost use Rattle.syslog_pieces.specs.Text.{is_blank, trimmed};
-ghost use Rattle.syslog_pieces.specs.Text.Canonical.{EndsVisibly};
+ghost use Rattle.syslog_text.specs.Pieces.Class.{Ends, Text};
+ghost use Rattle.syslog_text.specs.Text.{is_blank, trimmed};
+ghost use Rattle.syslog_text.specs.Text.Canonical.{EndsVisibly};
 ghost use Rattle.syslog_pieces.specs.Timestamp.Zone.{Dating};
 ghost use Rattle.syslog_loose.specs.Line.{line_value};
 ghost use Rattle.syslog_loose.specs.Message.{MessageValue};

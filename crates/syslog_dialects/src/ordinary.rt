@@ -4,15 +4,15 @@
 //! that a colon or a process id ends, as section 5.4 has them, and one with a strict element. So no dialect is tried
 //! for most lines, and none can change them.
 ghost use Rattle.std.specs.Prelude.{◌≡◌, None, IsTrue, MatchBool, chars};
-ghost use Rattle.syslog_pieces.specs.Pieces.Class.{Row, exactly};
-ghost use Rattle.syslog_pieces.specs.Pieces.View.{Skips, seen, shown};
+ghost use Rattle.syslog_text.specs.Pieces.Class.{Row, exactly};
+ghost use Rattle.syslog_text.specs.Pieces.View.{Skips, seen, shown};
 ghost use Rattle.syslog_loose.specs.Line.{KnowsForm};
 ghost use Rattle.syslog_dialects.specs.Ordinary.{IsOrdinary, IsTag, IsTagged, mark, tag_row};
 ghost use Rattle.syslog_dialects.specs.Ordinary as spec;
 
 use syslog_loose::Line;
-use syslog_pieces::text::{CharClass, begins_with_digit, first, literal, split_run};
 use syslog_sent::named::is_word;
+use syslog_text::text::{CharClass, begins_with_digit, first, literal, split_run};
 
 // Returns the text after `front`, if that begins it.
 fn past<'a>(text: &'a str, front: &str) -> Option<&'a str>

@@ -4,15 +4,15 @@
 //! message alone, as MikroTik's routers write (RouterOS, Log: `remote` without `bsd-syslog`). A text that begins with a
 //! month date or with a version fails to be of another form, so it does not parse.
 ghost use Rattle.std.specs.Prelude.{◌∷◌, MatchBool, chars};
-ghost use Rattle.syslog_pieces.specs.Pieces.Class.{Row};
-ghost use Rattle.syslog_pieces.specs.Pieces.View.{Recognises};
+ghost use Rattle.syslog_text.specs.Pieces.Class.{Row};
+ghost use Rattle.syslog_text.specs.Pieces.View.{Recognises};
 ghost use Rattle.syslog_dialects.specs.PriorityAlone as spec;
 ghost use Rattle.syslog_sent.specs.Sent.{Sends};
 
-use syslog_pieces::text::{blanks, literal, number, some_blanks};
 use syslog_pieces::timestamp::month_date::month_date;
 use syslog_sent::named::{name, number as number_text};
 use syslog_sent::sent::Sent;
+use syslog_text::text::{blanks, literal, number, some_blanks};
 
 // Returns the text after a number and blanks.
 fn past_version(text: &str) -> Option<&str>

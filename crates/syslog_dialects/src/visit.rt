@@ -3,8 +3,8 @@
 //! The port reads the text once. If its line is ordinary, it is kept. Otherwise, and if there is no line, the dialects
 //! are tried by a call of its own. So an ordinary line only pays for a look at a few of its fields.
 ghost use Rattle.std.specs.Prelude.{◌≡◌, ◌↔◌, [], false, true, IfSome, IsTrue, MatchOption, chars};
-ghost use Rattle.syslog_pieces.specs.Pieces.Class.{Text};
-ghost use Rattle.syslog_pieces.specs.StructuredData.Visited.{list_elements};
+ghost use Rattle.syslog_text.specs.Pieces.Class.{Text};
+ghost use Rattle.syslog_elements.specs.StructuredData.Visited.{list_elements};
 ghost use Rattle.syslog_pieces.specs.Timestamp.Zone.{Dating};
 ghost use Rattle.syslog_loose.specs.Dates.{IsDated};
 ghost use Rattle.syslog_loose.specs.Line.{KnowsForm, line_value};
@@ -21,9 +21,9 @@ use crate::line::line_of;
 use crate::ordinary::is_ordinary;
 use syslog_loose::{Dates, IncompleteDate, Line, Variant, parse_line};
 use syslog_pieces::pri::optional_priority;
-use syslog_pieces::text::trimmed;
 use syslog_sent::dialect::Dialect;
 use syslog_sent::sent::SentDate;
+use syslog_text::text::trimmed;
 
 /// A line as its sender meant it, and the dialect that it was read in, if any.
 #[derive(Clone, Copy)]
@@ -40,7 +40,7 @@ pub struct SentLine<'a> {
 
 impl<'a> SentLine<'a> {
     ghost use Rattle.std.specs.Prelude.{◌≡◌};
-    ghost use Rattle.syslog_pieces.specs.Pieces.View.{seen};
+    ghost use Rattle.syslog_text.specs.Pieces.View.{seen};
     ghost use Rattle.syslog_sent.specs.Dialect.{dialect_text};
     ghost use Rattle.syslog_dialects.specs.SentReading as spec;
 

@@ -6,4 +6,4 @@ pub use Rattle.json.specs.Json.{Json}
 pub use Rattle.syslog_loose.specs.Line.{line_value}
 pub use Rattle.syslog_object.specs.Object.{message_json}
 pub use Rattle.syslog_object.specs.Written.{IsTextOf}
-pub use Rattle.syslog_pieces.specs.Pieces.Class.{Text}
+pub use Rattle.syslog_text.specs.Pieces.Class.{Text}

@@ -7,7 +7,7 @@ use Rattle.std.specs.Str.{bytes_eq}
 use Rattle.json.specs.Find.{get, get_member, later_or}
 use Rattle.json.specs.Json.{boolean, object, Members, no_members, member}
 use Rattle.json.specs.Print.{print_from}
-use Rattle.syslog_pieces.proofs.PieceLemmas.Class.{◌also◌}
+use Rattle.syslog_text.proofs.PieceLemmas.Class.{◌also◌}
 use Rattle.syslog_object.specs.Gathered.{members_of}
 use Rattle.syslog_object.specs.Object.{fields_of, present}
 use Rattle.syslog_csv.proofs.CellLemmas.{absent, row_made}

@@ -1,8 +1,8 @@
 //! The rows of CSV. They are written by calls of their own, so that a line of JSON pays for one test alone.
 ghost use Rattle.std.specs.Prelude.{◌≡◌, ◌++◌, List, ℕ, OnErr, OnOk};
 ghost use Rattle.std.specs.Str.{chars};
-ghost use Rattle.syslog_pieces.specs.Pieces.View.{seen};
-ghost use Rattle.syslog_pieces.specs.StructuredData.Visited.{list_elements};
+ghost use Rattle.syslog_text.specs.Pieces.View.{seen};
+ghost use Rattle.syslog_elements.specs.StructuredData.Visited.{list_elements};
 ghost use Rattle.syslog_object.specs.Object.{refused_json};
 ghost use Rattle.syslog_object.specs.Writer.{HasWritten};
 ghost use Rattle.syslog_csv.specs.Rows.{IsRowOf};

@@ -7,32 +7,32 @@ use Rattle.std.specs.Option.{option_and_then, option_map}
 use Rattle.std.specs.Prelude.{codes, slice_get}
 use Rattle.json.specs.Find.{get}
 use Rattle.json.specs.Json.{Json, string}
-use Rattle.syslog_pieces.specs.Pieces.Class.{Division, Front, Text, Values, after, exactly, optional}
-use Rattle.syslog_pieces.specs.Pieces.Lists.{many}
+use Rattle.syslog_text.specs.Pieces.Class.{Division, Front, Text, Values, after, exactly, optional}
+use Rattle.syslog_text.specs.Pieces.Lists.{many}
 use Rattle.syslog_pieces.specs.Pri.{facilities, facility_of, facility_number, severities, severity_of, severity_number}
 use Rattle.syslog_pieces.specs.Pri as pri_of
 use Rattle.syslog_pieces.specs.ProcId.{IsProcessWord, NamesProcess, procid_text}
-use Rattle.syslog_pieces.specs.StructuredData.{element, forgiving, item, strict}
-use Rattle.syslog_pieces.specs.StructuredData.Element.{ElementValue}
-use Rattle.syslog_pieces.specs.StructuredData.Rfc3164List.{rfc3164_list}
-use Rattle.syslog_pieces.specs.StructuredData.Unparsed.{IsUnparsed, if_any}
-use Rattle.syslog_pieces.specs.Text.{dash, host, name_text, number, tag_word, trimmed}
+use Rattle.syslog_elements.specs.StructuredData.{element, forgiving, item, strict}
+use Rattle.syslog_elements.specs.StructuredData.Element.{ElementValue}
+use Rattle.syslog_elements.specs.StructuredData.Rfc3164List.{rfc3164_list}
+use Rattle.syslog_elements.specs.StructuredData.Unparsed.{IsUnparsed, if_any}
+use Rattle.syslog_text.specs.Text.{dash, host, name_text, number, tag_word, trimmed}
 use Rattle.syslog_pieces.specs.Timestamp.{IsHeaderStamp}
 use Rattle.syslog_pieces.specs.Timestamp.Printed.{printed_stamp}
 use Rattle.syslog_pieces.specs.Timestamp.Rfc3164.{rfc3164_stamp}
 use Rattle.syslog_pieces.specs.Timestamp.Zone.{Dating}
 use Rattle.syslog_pieces.specs.declared.procid.ProcId.{ProcId}
-use Rattle.syslog_pieces.specs.declared.structured_data.rfc3164_list.DashRule.{DashRule}
+use Rattle.syslog_elements.specs.declared.structured_data.rfc3164_list.DashRule.{DashRule}
 use Rattle.syslog_pieces.specs.declared.timestamp.OffsetTimestamp.{OffsetTimestamp}
-use Rattle.syslog_pieces.proofs.PieceLemmas.Class.{division_front, front_division, front_of, row_of, row_pieces}
-use Rattle.syslog_pieces.proofs.PieceLemmas.Class.{unique_division}
-use Rattle.syslog_pieces.proofs.PieceLemmas.Class.{◌also◌, ◌then◌}
-use Rattle.syslog_pieces.proofs.PieceLemmas.Rules.{Runs, no_run, one_run, runs_left}
+use Rattle.syslog_text.proofs.PieceLemmas.Class.{division_front, front_division, front_of, row_of, row_pieces}
+use Rattle.syslog_text.proofs.PieceLemmas.Class.{unique_division}
+use Rattle.syslog_text.proofs.PieceLemmas.Class.{◌also◌, ◌then◌}
+use Rattle.syslog_text.proofs.PieceLemmas.Rules.{Runs, no_run, one_run, runs_left}
 use Rattle.syslog_pieces.proofs.PriLemmas.{priority_composed}
-use Rattle.syslog_pieces.proofs.StructuredDataLemmas.Elements.{element_item, item_begins, item_det, strict_append}
-use Rattle.syslog_pieces.proofs.StructuredDataLemmas.Elements.{strict_some}
-use Rattle.syslog_pieces.proofs.StructuredDataLemmas.Walk.{items_alone}
-use Rattle.syslog_pieces.proofs.TextLemmas.Runs.{host_text, names_text}
+use Rattle.syslog_elements.proofs.StructuredDataLemmas.Elements.{element_item, item_begins, item_det, strict_append}
+use Rattle.syslog_elements.proofs.StructuredDataLemmas.Elements.{strict_some}
+use Rattle.syslog_elements.proofs.StructuredDataLemmas.Walk.{items_alone}
+use Rattle.syslog_text.proofs.TextLemmas.Runs.{host_text, names_text}
 use Rattle.syslog_pieces.proofs.TimestampLemmas.Rfc3339.{printed_stamp_back}
 use Rattle.syslog_loose.specs.Message.{MessageValue, message_of_parts}
 use Rattle.syslog_loose.specs.Reading.{IsRead, dash_rule}

@@ -8,10 +8,10 @@ use Rattle.std.specs.Option.{option_map}
 use Rattle.std.specs.Prelude.{codes}
 use Rattle.json.specs.Find.{get, get_member, later_or}
 use Rattle.json.specs.Json.{Json, string}
-use Rattle.syslog_pieces.specs.Pieces.Class.{Text}
-use Rattle.syslog_pieces.specs.StructuredData.Element.{ElementValue}
-use Rattle.syslog_pieces.specs.StructuredData.Escapes.{IsUnescaped, unit_meaning}
-use Rattle.syslog_pieces.proofs.StructuredDataLemmas.Units.{split_there}
+use Rattle.syslog_text.specs.Pieces.Class.{Text}
+use Rattle.syslog_elements.specs.StructuredData.Element.{ElementValue}
+use Rattle.syslog_elements.specs.StructuredData.Escapes.{IsUnescaped, unit_meaning}
+use Rattle.syslog_elements.proofs.StructuredDataLemmas.Units.{split_there}
 use Rattle.syslog_object.specs.Gathered.{first_keys, gathered, members_of, one_or_all, values_at}
 use Rattle.syslog_object.specs.Object.{Field, element_pair, object_of, param_pair, structured_json, text_json}
 use Rattle.syslog_object.specs.Object.{Beside, fields_of, message_json, number_json, protocol_text, timestamp_json}

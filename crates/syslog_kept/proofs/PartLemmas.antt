@@ -5,14 +5,14 @@ use Rattle.std.proofs.lemmas.Bool.{and_parts, cases_Bool, eqb-true}
 use Rattle.std.proofs.lemmas.List.{nil_from_length}
 use Rattle.std.specs.Char.{is_whitespace}
 use Rattle.std.specs.Str.{drop_trailing_whitespace, skip_leading_whitespace}
-use Rattle.syslog_pieces.specs.Pieces.Class.{Class, Divides, Front, Text, Values, join}
-use Rattle.syslog_pieces.specs.Pieces.Lists.{IsList, IsMany}
-use Rattle.syslog_pieces.specs.StructuredData.{element_row, param_row}
-use Rattle.syslog_pieces.specs.StructuredData as data_of
-use Rattle.syslog_pieces.specs.StructuredData.Element.{ElementValue}
-use Rattle.syslog_pieces.specs.StructuredData.Rfc3164List.{full_element}
-use Rattle.syslog_pieces.specs.Text.{trimmed}
-use Rattle.syslog_pieces.proofs.PieceLemmas.Class.{◌also◌}
+use Rattle.syslog_text.specs.Pieces.Class.{Class, Divides, Front, Text, Values, join}
+use Rattle.syslog_text.specs.Pieces.Lists.{IsList, IsMany}
+use Rattle.syslog_elements.specs.StructuredData.{element_row, param_row}
+use Rattle.syslog_elements.specs.StructuredData as data_of
+use Rattle.syslog_elements.specs.StructuredData.Element.{ElementValue}
+use Rattle.syslog_elements.specs.StructuredData.Rfc3164List.{full_element}
+use Rattle.syslog_text.specs.Text.{trimmed}
+use Rattle.syslog_text.proofs.PieceLemmas.Class.{◌also◌}
 use Rattle.syslog_kept.specs.Part.{AreParts, Part, blanks, this, white_space}
 use Rattle.syslog_kept.specs.Elements.{element, elements, param, params}
 

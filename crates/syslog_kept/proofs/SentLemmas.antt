@@ -5,7 +5,7 @@ use Rattle.std.specs.Option.{option_map}
 use Rattle.std.specs.Prelude.{ℕ, codes}
 use Rattle.json.specs.Find.{get}
 use Rattle.json.specs.Json.{Json}
-use Rattle.syslog_pieces.specs.Pieces.Class.{Text}
+use Rattle.syslog_text.specs.Pieces.Class.{Text}
 use Rattle.syslog_pieces.specs.ProcId.{named_process, procid_text}
 use Rattle.syslog_pieces.specs.declared.timestamp.OffsetTimestamp.{OffsetTimestamp}
 use Rattle.syslog_pieces.proofs.ProcIdLemmas.{named_names}

@@ -4,9 +4,9 @@ use Rattle.std.specs.List.{AllZip}
 use Rattle.json.specs.Find.{get}
 use Rattle.json.specs.Json.{Json, array}
 use Rattle.json.specs.Value.{items_of}
-use Rattle.syslog_pieces.specs.Pieces.Class.{Text}
-use Rattle.syslog_pieces.specs.StructuredData.Element.{ElementValue}
-use Rattle.syslog_pieces.specs.StructuredData.Escapes.{IsUnescaped}
+use Rattle.syslog_text.specs.Pieces.Class.{Text}
+use Rattle.syslog_elements.specs.StructuredData.Element.{ElementValue}
+use Rattle.syslog_elements.specs.StructuredData.Escapes.{IsUnescaped}
 use Rattle.syslog_object.specs.Gathered.{values_at}
 use Rattle.syslog_object.specs.Object.{text_json}
 use Rattle.syslog_kept.specs.Part.{AreParts, Part, blanks, dash_at, either, maybe, text_at, this}

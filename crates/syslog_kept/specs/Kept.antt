@@ -4,9 +4,9 @@ use Rattle.std.specs.Char.{is_ascii_digit, is_not_whitespace}
 use Rattle.std.specs.Str.Parse.{digits_value}
 use Rattle.json.specs.Find.{get}
 use Rattle.json.specs.Json.{Json, string}
-use Rattle.syslog_pieces.specs.Pieces.Class.{Text, Each}
+use Rattle.syslog_text.specs.Pieces.Class.{Text, Each}
 use Rattle.syslog_pieces.specs.ProcId.{NamesProcess, procid_text}
-use Rattle.syslog_pieces.specs.Text.{colon}
+use Rattle.syslog_text.specs.Text.{colon}
 use Rattle.syslog_pieces.specs.Timestamp.{IsStampText}
 use Rattle.syslog_pieces.specs.Timestamp.Canonical.{IsCanonicalStamp}
 use Rattle.syslog_pieces.specs.Timestamp.MonthDate.{month_date}

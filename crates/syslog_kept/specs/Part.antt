@@ -1,8 +1,8 @@
 -- The parts of a text: each is left out of an object, or is found in it.
 use Rattle.std.specs.Prelude.{◌≡◌, ◌⊎◌, ℕ, List, [], ◌∷◌, ◌++◌, Some, None}
 use Rattle.std.specs.Char.{is_whitespace}
-use Rattle.syslog_pieces.specs.Pieces.Class.{Text, Each}
-use Rattle.syslog_pieces.specs.Text.{dash, is_blank}
+use Rattle.syslog_text.specs.Pieces.Class.{Text, Each}
+use Rattle.syslog_text.specs.Text.{dash, is_blank}
 use Rattle.json.specs.Json.{Json}
 use Rattle.json.specs.Find.{get}
 use Rattle.syslog_object.specs.Object.{text_json}

@@ -14,7 +14,7 @@ use Rattle.syslog_loose.proofs.Names.{IsNearlyCanonical, MessageValue, each_left
 use Rattle.syslog_loose.proofs.Names.{IfSome_then, SyslogFacility, SyslogSeverity, trim_end, NonePass, same_chars}
 use Rattle.syslog_loose.proofs.Names.{end_trimmed_chars, no_list_is, dash_ascii}
 use Rattle.syslog_pieces.proofs.Names.{common_steps}
-use Rattle.syslog_pieces.proofs.TextLemmas.Runs.{from_not_true}
+use Rattle.syslog_text.proofs.TextLemmas.Runs.{from_not_true}
 use Rattle.std.proofs.lemmas.Bool.{and_from, and_parts}
 use Rattle.syslog_loose.proofs.PrintedLemmas.{drop_none, drop_ends}
 use Rattle.std.proofs.lemmas.Str.{chars-append, encodes-IsAscii, IsCharBoundary-at_seam, IsUtf8-from_ascii, IsUtf8-take}

@@ -11,7 +11,7 @@ use Rattle.syslog_loose.proofs.Names.{all_joined, rows_split, absent_stays, piec
 use Rattle.syslog_loose.proofs.Names.{full_begins, no_rfc3164_list, rfc3164_list_det, Protocol, Variant, Either}
 use Rattle.syslog_loose.proofs.Names.{RFC5424, IsCanonicalFor, IsCanonical, MessageValue, Names3164, Resolves}
 use Rattle.syslog_loose.proofs.Names.{rfc3164_row, IsRead3164, stamped_row, fields_row, Divides, IsReadUnder}
-use Rattle.syslog_pieces.proofs.PieceLemmas.Class.{firsts, lasts}
+use Rattle.syslog_text.proofs.PieceLemmas.Class.{firsts, lasts}
 use Rattle.std.proofs.Math.Seq.{drop-append_seam}
 use Rattle.syslog_loose.specs.Bodies.View3164.{FieldsAreRead}
 use Rattle.syslog_loose.specs.declared.variant.Variant.TheVariants.{RFC3164}

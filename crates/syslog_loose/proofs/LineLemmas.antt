@@ -1,7 +1,7 @@
 -- What a line has of its text.
 use Rattle.syslog_loose.proofs.Names.{◌≡◌, ◌++◌, ◌∙◌, sym, subst, append_cancel_right, Text, Class, Front, texted}
 use Rattle.syslog_loose.proofs.Names.{None, inl, inr, Dating, Line, IsLineOf, shown, trimmed}
-use Rattle.syslog_pieces.proofs.PieceLemmas.Class.{texted_front}
+use Rattle.syslog_text.proofs.PieceLemmas.Class.{texted_front}
 use Rattle.syslog_loose.specs.Rows.{IsAfterStamp}
 use Rattle.syslog_loose.specs.declared.variant.Variant.{Variant}
 

@@ -25,25 +25,26 @@ pub use Rattle.std.proofs.lemmas.Grind.{put_two, put_five, put_four}
 pub use Rattle.std.proofs.Output.{has_written_of_eq}
 pub use denote.Shadow.{shadow}
 pub use denote.Text.{Utf8}
-pub use Rattle.syslog_pieces.specs.Pieces.Class.{Text, NoFront, Class, Values, Front, join, Row, Ends, optional, run}
-pub use Rattle.syslog_pieces.specs.Pieces.Class.{Each, some_run, exactly, Division, spaced, rest, texted, Divides}
+pub use Rattle.syslog_text.specs.Pieces.Class.{Text, NoFront, Class, Values, Front, join, Row, Ends, optional, run}
+pub use Rattle.syslog_text.specs.Pieces.Class.{Each, some_run, exactly, Division, spaced, rest, texted, Divides}
 pub use Rattle.syslog_pieces.specs.Timestamp.Zone.{Dating, dating_of}
-pub use Rattle.syslog_pieces.specs.StructuredData.Rfc3164List.{BeginsNoList, rfc3164_list, IsDashBefore, IsRfc3164List}
-pub use Rattle.syslog_pieces.specs.StructuredData.Rfc3164List.{elements_or, full_element}
-pub use Rattle.syslog_pieces.specs.declared.structured_data.rfc3164_list.DashRule.{DashRule}
-pub use Rattle.syslog_pieces.specs.Text.Canonical.{EndsVisibly, IsCanonicalWord}
-pub use Rattle.syslog_pieces.specs.Pieces.View.{shown, text_of, seen, Skips}
-pub use Rattle.syslog_pieces.specs.StructuredData.Element.{ElementValue, joined_elements, elements_text, param_text}
-pub use Rattle.syslog_pieces.specs.StructuredData.Element.{element_text, element_texts, element_value, param_value}
-pub use Rattle.syslog_pieces.specs.Text.{trimmed, is_blank, dash, colon, EndsInColon, number, host, word, name_text}
-pub use Rattle.syslog_pieces.specs.Text.{IsHost, tag_word, is_tag_char, field_seen}
-pub use Rattle.syslog_pieces.specs.declared.structured_data.rfc3164_list.DashRule.TheVariants.{BeforeAnything}
-pub use Rattle.syslog_pieces.specs.declared.structured_data.rfc3164_list.DashRule.TheVariants.{BeforeBlank}
-pub use Rattle.syslog_pieces.specs.Pieces.Format.{Format, classes, printed_row}
+pub use Rattle.syslog_elements.specs.StructuredData.Rfc3164List.{BeginsNoList, rfc3164_list, IsDashBefore}
+pub use Rattle.syslog_elements.specs.StructuredData.Rfc3164List.{IsRfc3164List}
+pub use Rattle.syslog_elements.specs.StructuredData.Rfc3164List.{elements_or, full_element}
+pub use Rattle.syslog_elements.specs.declared.structured_data.rfc3164_list.DashRule.{DashRule}
+pub use Rattle.syslog_text.specs.Text.Canonical.{EndsVisibly, IsCanonicalWord}
+pub use Rattle.syslog_text.specs.Pieces.View.{shown, text_of, seen, Skips}
+pub use Rattle.syslog_elements.specs.StructuredData.Element.{ElementValue, joined_elements, elements_text, param_text}
+pub use Rattle.syslog_elements.specs.StructuredData.Element.{element_text, element_texts, element_value, param_value}
+pub use Rattle.syslog_text.specs.Text.{trimmed, is_blank, dash, colon, EndsInColon, number, host, word, name_text}
+pub use Rattle.syslog_text.specs.Text.{IsHost, tag_word, is_tag_char, field_seen}
+pub use Rattle.syslog_elements.specs.declared.structured_data.rfc3164_list.DashRule.TheVariants.{BeforeAnything}
+pub use Rattle.syslog_elements.specs.declared.structured_data.rfc3164_list.DashRule.TheVariants.{BeforeBlank}
+pub use Rattle.syslog_text.specs.Pieces.Format.{Format, classes, printed_row}
 pub use Rattle.syslog_pieces.specs.ProcId.{process_word, process_text, NamesProcess, named_process, procid_text}
 pub use Rattle.syslog_pieces.specs.Timestamp.{header_stamp, clock_value, stamp_seen}
 pub use Rattle.syslog_pieces.specs.Timestamp.Canonical.{IsCanonicalStamp, own_year}
-pub use Rattle.syslog_pieces.specs.Pieces.Parts.{IsPart, AreInPieces, text_list}
+pub use Rattle.syslog_text.specs.Pieces.Parts.{IsPart, AreInPieces, text_list}
 pub use Rattle.syslog_pieces.specs.declared.procid.ProcId.{ProcId}
 pub use Rattle.syslog_pieces.specs.declared.procid.ProcId.TheVariants.{PID, Name}
 pub use Rattle.syslog_pieces.specs.declared.timestamp.OffsetTimestamp.{OffsetTimestamp}
@@ -58,33 +59,33 @@ pub use Rattle.syslog_pieces.specs.declared.pri.SyslogSeverity.TheVariants.{SEV_
 pub use Rattle.syslog_pieces.specs.Timestamp.Rfc3164.{rfc3164_stamp, ShowsMonthDate, ShowsYearless}
 pub use Rattle.syslog_pieces.specs.Timestamp.MonthDate.{month_date, month, yearless_date}
 pub use Rattle.syslog_pieces.specs.ProcId.{IsBareWord, process_texts}
-pub use Rattle.syslog_pieces.specs.Pieces.Lists.{IsMany}
-pub use Rattle.syslog_pieces.specs.Text.CharClass.{is_label_char, is_open_char, is_id_char, is_name_char}
-pub use Rattle.syslog_pieces.specs.Bodies.Closing.{start_row, start, opening_row}
-pub use Rattle.syslog_pieces.specs.StructuredData.Visited.{list_elements, elements_left}
-pub use Rattle.syslog_pieces.proofs.PieceLemmas.Class.{AllDeterministic, heads, front_same, row_det, optional_none}
-pub use Rattle.syslog_pieces.proofs.PieceLemmas.Class.{optional_some, row_cons, row_head, rows_join, division_front}
-pub use Rattle.syslog_pieces.proofs.PieceLemmas.Class.{optional_det, both_values, all_joined, rows_split, run_det}
-pub use Rattle.syslog_pieces.proofs.PieceLemmas.Class.{run_same, rest_same, front_division, spaced_parts, rest_whole}
-pub use Rattle.syslog_pieces.proofs.PieceLemmas.Class.{◌also◌, rest_front, spaced_front, no_spaced_piece}
-pub use Rattle.syslog_pieces.proofs.PieceLemmas.Class.{no_row_division, rows_none_here, exactly_det, unique_division}
-pub use Rattle.syslog_pieces.proofs.PieceLemmas.Class.{rest_det, some_run_det, no_texted, no_spaced_space, absent_stays}
-pub use Rattle.syslog_pieces.proofs.PieceLemmas.Class.{piece_front, step, rows_step, front_longer, absent_none}
-pub use Rattle.syslog_pieces.proofs.PieceLemmas.Class.{present_front, step_value, each_map, each_front, each_after}
-pub use Rattle.syslog_pieces.proofs.PieceLemmas.Class.{all_left, all_right, each_append, each_both, each_left}
-pub use Rattle.syslog_pieces.proofs.PieceLemmas.Class.{each_right, all_map, ◌then◌, row_of, row_pieces, no_row, ◌past◌}
-pub use Rattle.syslog_pieces.proofs.StructuredDataLemmas.Units.{decide, optional_rfc3164_list_quotes}
-pub use Rattle.syslog_pieces.proofs.StructuredDataLemmas.Walk.{dash_rfc3164_list, full_begins, no_rfc3164_list}
-pub use Rattle.syslog_pieces.proofs.StructuredDataLemmas.Walk.{rfc3164_list_det, begins_no_list, no_full_nil}
-pub use Rattle.syslog_pieces.proofs.StructuredDataLemmas.Walk.{no_full_start, no_full_opening, full_shorter}
-pub use Rattle.syslog_pieces.proofs.StructuredDataLemmas.Walk.{visits_none, no_list_is}
-pub use Rattle.syslog_pieces.proofs.TextLemmas.Words.{false_is, no_truth, last_is, colon_ascii, host_det, tag_word_det}
-pub use Rattle.syslog_pieces.proofs.TextLemmas.Words.{decimal_digits, number_back, host_back, digits_visible}
-pub use Rattle.syslog_pieces.proofs.TextLemmas.Words.{encodes-decimal, encodes_shown, encodes_step, flat_map-map}
-pub use Rattle.syslog_pieces.proofs.TextLemmas.Words.{dash_ascii}
-pub use Rattle.syslog_pieces.proofs.PieceLemmas.Lists.{begins, part_joined, Quoted, row_quotes, silent, rest_quotes}
-pub use Rattle.syslog_pieces.proofs.PieceLemmas.Lists.{Begins, begins_apart, begins_more, begins_with}
-pub use Rattle.syslog_pieces.proofs.TextLemmas.Quotes.{host_quotes}
+pub use Rattle.syslog_text.specs.Pieces.Lists.{IsMany}
+pub use Rattle.syslog_text.specs.Text.CharClass.{is_label_char, is_open_char, is_id_char, is_name_char}
+pub use Rattle.syslog_elements.specs.Bodies.Closing.{start_row, start, opening_row}
+pub use Rattle.syslog_elements.specs.StructuredData.Visited.{list_elements, elements_left}
+pub use Rattle.syslog_text.proofs.PieceLemmas.Class.{AllDeterministic, heads, front_same, row_det, optional_none}
+pub use Rattle.syslog_text.proofs.PieceLemmas.Class.{optional_some, row_cons, row_head, rows_join, division_front}
+pub use Rattle.syslog_text.proofs.PieceLemmas.Class.{optional_det, both_values, all_joined, rows_split, run_det}
+pub use Rattle.syslog_text.proofs.PieceLemmas.Class.{run_same, rest_same, front_division, spaced_parts, rest_whole}
+pub use Rattle.syslog_text.proofs.PieceLemmas.Class.{◌also◌, rest_front, spaced_front, no_spaced_piece}
+pub use Rattle.syslog_text.proofs.PieceLemmas.Class.{no_row_division, rows_none_here, exactly_det, unique_division}
+pub use Rattle.syslog_text.proofs.PieceLemmas.Class.{rest_det, some_run_det, no_texted, no_spaced_space, absent_stays}
+pub use Rattle.syslog_text.proofs.PieceLemmas.Class.{piece_front, step, rows_step, front_longer, absent_none}
+pub use Rattle.syslog_text.proofs.PieceLemmas.Class.{present_front, step_value, each_map, each_front, each_after}
+pub use Rattle.syslog_text.proofs.PieceLemmas.Class.{all_left, all_right, each_append, each_both, each_left}
+pub use Rattle.syslog_text.proofs.PieceLemmas.Class.{each_right, all_map, ◌then◌, row_of, row_pieces, no_row, ◌past◌}
+pub use Rattle.syslog_elements.proofs.StructuredDataLemmas.Units.{decide, optional_rfc3164_list_quotes}
+pub use Rattle.syslog_elements.proofs.StructuredDataLemmas.Walk.{dash_rfc3164_list, full_begins, no_rfc3164_list}
+pub use Rattle.syslog_elements.proofs.StructuredDataLemmas.Walk.{rfc3164_list_det, begins_no_list, no_full_nil}
+pub use Rattle.syslog_elements.proofs.StructuredDataLemmas.Walk.{no_full_start, no_full_opening, full_shorter}
+pub use Rattle.syslog_elements.proofs.StructuredDataLemmas.Walk.{visits_none, no_list_is}
+pub use Rattle.syslog_text.proofs.TextLemmas.Words.{false_is, no_truth, last_is, colon_ascii, host_det, tag_word_det}
+pub use Rattle.syslog_text.proofs.TextLemmas.Words.{decimal_digits, number_back, host_back, digits_visible}
+pub use Rattle.syslog_text.proofs.TextLemmas.Words.{encodes-decimal, encodes_shown, encodes_step, flat_map-map}
+pub use Rattle.syslog_text.proofs.TextLemmas.Words.{dash_ascii}
+pub use Rattle.syslog_text.proofs.PieceLemmas.Lists.{begins, part_joined, Quoted, row_quotes, silent, rest_quotes}
+pub use Rattle.syslog_text.proofs.PieceLemmas.Lists.{Begins, begins_apart, begins_more, begins_with}
+pub use Rattle.syslog_text.proofs.TextLemmas.Quotes.{host_quotes}
 pub use Rattle.syslog_pieces.proofs.TimestampLemmas.Rfc3339.{printed_stamp-bytes, printed_stamp-characters}
 pub use Rattle.syslog_pieces.proofs.TimestampLemmas.Rfc3339.{stamp_text_canonical, printed_stamp-begins}
 pub use Rattle.syslog_pieces.proofs.TimestampLemmas.Rfc3339.{printed_stamp_back, printed_stamp-visible, stamp_text-year}
@@ -93,10 +94,10 @@ pub use Rattle.syslog_pieces.proofs.PriLemmas.{priority_det, priority_composed, 
 pub use Rattle.syslog_pieces.proofs.PriLemmas.{severity_composed}
 pub use Rattle.syslog_pieces.proofs.TimestampLemmas.MonthDate.{month_date_begins, IsLow, rfc3164_stamp_det}
 pub use Rattle.syslog_pieces.proofs.TimestampLemmas.MonthDate.{stamped_date_begins, IsLetter}
-pub use Rattle.syslog_pieces.proofs.TextLemmas.Runs.{some_front_run, one_ascii, nonempty_is, text_is, chars_nonempty}
-pub use Rattle.syslog_pieces.proofs.TextLemmas.Runs.{same_chars, end_trimmed_chars, no_some_run, chars_empty}
-pub use Rattle.syslog_pieces.proofs.TextLemmas.Runs.{empty_is, text_is_not, no_number}
-pub use Rattle.syslog_pieces.proofs.StructuredDataLemmas.Elements.{opening_det}
+pub use Rattle.syslog_text.proofs.TextLemmas.Runs.{some_front_run, one_ascii, nonempty_is, text_is, chars_nonempty}
+pub use Rattle.syslog_text.proofs.TextLemmas.Runs.{same_chars, end_trimmed_chars, no_some_run, chars_empty}
+pub use Rattle.syslog_text.proofs.TextLemmas.Runs.{empty_is, text_is_not, no_number}
+pub use Rattle.syslog_elements.proofs.StructuredDataLemmas.Elements.{opening_det}
 pub use Rattle.syslog_loose.specs.Canonical.{IsBounded, IsCanonicalFor, IsCanonical, IsBoundedProcess, IsCanonicalHost}
 pub use Rattle.syslog_loose.specs.Canonical.{IsVisible, IsBracketedProcess, is_process_char, AreCanonicalNames}
 pub use Rattle.syslog_loose.specs.Canonical.{IsCanonical3164, IsCanonicalElement, IsCanonicalInBoth, fields_value}

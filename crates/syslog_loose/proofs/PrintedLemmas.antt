@@ -13,7 +13,7 @@ use Rattle.syslog_loose.proofs.Names.{decimal, priority, facility_number, severi
 use Rattle.syslog_loose.proofs.Names.{SyslogSeverity, number_back, encodes-append, encode_utf8_all, encodes-decimal}
 use Rattle.syslog_loose.proofs.Names.{spaced_elements, ◌≢◌, clock_value, stamp_seen, ClockStamp, printed_stamp-bytes}
 use Rattle.syslog_loose.proofs.Names.{line_value, protocol_of, printed, rest_text, Line, RFC3164, encode_utf8}
-use Rattle.syslog_pieces.proofs.PieceLemmas.Lists.{printed_more}
+use Rattle.syslog_text.proofs.PieceLemmas.Lists.{printed_more}
 use Rattle.syslog_pieces.proofs.PriLemmas.{as_priority, facility_low, severity_low}
 use Rattle.syslog_loose.specs.Canonical.{EndsVisibly}
 unfoldable pub use Rattle.syslog_loose.specs.Bodies.Jumps.{message_end}

@@ -20,16 +20,16 @@ use Rattle.syslog_loose.specs.declared.variant.Variant.TheVariants.{RFC3164}
 use Rattle.syslog_loose.specs.declared.message.Message.{Message}
 use Rattle.syslog_loose.proofs.Rfc3164Lemmas.{other_read, shown_apart, not_read, date_has_month, shows_month_date}
 use Rattle.syslog_loose.proofs.Rfc3164Lemmas.{shown_once, shown_parts, shows, stamped_det}
-use Rattle.syslog_pieces.specs.Pieces.View.{Reads}
+use Rattle.syslog_text.specs.Pieces.View.{Reads}
 use Rattle.syslog_pieces.specs.Timestamp.{IsAnswer}
 use Rattle.syslog_pieces.specs.Timestamp.Zone.{IsMonthStamp}
 use Rattle.syslog_pieces.proofs.TimestampLemmas.MonthDate.{date_front, header_front, header_stamp_begins, no_date}
 use Rattle.syslog_pieces.proofs.TimestampLemmas.MonthDate.{no_stamp_of_date}
 use Rattle.syslog_loose.specs.Bodies.Start.{BeginsWith}
 use Rattle.syslog_loose.specs.Rows.{IsAfterStamp}
-use Rattle.syslog_pieces.specs.StructuredData.Visited.{Visits}
-use Rattle.syslog_pieces.specs.StructuredData.Collected.{HasCollected}
-use Rattle.syslog_pieces.specs.declared.structured_data.collect.Collect.{Collect}
+use Rattle.syslog_elements.specs.StructuredData.Visited.{Visits}
+use Rattle.syslog_elements.specs.StructuredData.Collected.{HasCollected}
+use Rattle.syslog_elements.specs.declared.structured_data.collect.Collect.{Collect}
 use Rattle.syslog_loose.specs.Message.{with_elements}
 use Rattle.syslog_loose.specs.LineTexts.{IsLine3164, IsLine5424}
 use Rattle.syslog_loose.specs.Visit.{IsCompleted}

@@ -24,21 +24,21 @@ use Rattle.syslog_loose.proofs.Names.{texted, IsForm, no_row, Option, ProcId, If
 use Rattle.syslog_loose.proofs.Names.{number, Begins, IsPart, Quoted, silent, IsMany, chars, Class, Front, names, colon}
 use Rattle.syslog_loose.proofs.Names.{subst, month, false, List, refl, Text, Some, None, Name, rest, host, true, Each}
 use Rattle.syslog_loose.proofs.Names.{Bool, cond, ◌<◌, ◌∷◌, ◌∙◌, Row, run, ◌⊎◌, inl, inr, sym, PID, ◌↔◌, map, ◌≤◌}
-use Rattle.syslog_pieces.proofs.PieceLemmas.Class.{texted_det, after_det, Fails, all_append, append_more}
+use Rattle.syslog_text.proofs.PieceLemmas.Class.{texted_det, after_det, Fails, all_append, append_more}
 use Rattle.syslog_loose.specs.Rfc3164.{NamesByForm}
-use Rattle.syslog_pieces.proofs.PieceLemmas.Lists.{first_kind, each_begins, texted_quotes, part_left}
-use Rattle.syslog_pieces.proofs.TextLemmas.Quotes.{tag_word_quotes}
-use Rattle.syslog_pieces.proofs.PieceLemmas.Lists.{optional_quotes, optional_texts, spaced_quotes, part_right}
+use Rattle.syslog_text.proofs.PieceLemmas.Lists.{first_kind, each_begins, texted_quotes, part_left}
+use Rattle.syslog_text.proofs.TextLemmas.Quotes.{tag_word_quotes}
+use Rattle.syslog_text.proofs.PieceLemmas.Lists.{optional_quotes, optional_texts, spaced_quotes, part_right}
 use Rattle.syslog_pieces.proofs.TimestampLemmas.MonthDate.{month_date_det, dated_date, IsBlank, blanks_begin, blank_low}
-use Rattle.syslog_pieces.specs.Bodies.Scan.{SplitsRun}
-use Rattle.syslog_pieces.specs.Pieces.Class.{NoDivision}
+use Rattle.syslog_text.specs.Bodies.Scan.{SplitsRun}
+use Rattle.syslog_text.specs.Pieces.Class.{NoDivision}
 use Rattle.syslog_pieces.specs.Timestamp.MonthDate.{month_names, short_number, clock_row, yearless_row}
 use Rattle.std.proofs.lemmas.Option.{slice_get_within}
 use Rattle.syslog_pieces.specs.Bodies.MonthReading.{BeginsWithDate, showing_row}
 use Rattle.syslog_loose.specs.Printed.{printed_3164}
 use Rattle.syslog_loose.specs.declared.message.Protocol.TheVariants.{RFC5424}
 use Rattle.syslog_loose.proofs.PrintedLemmas.{priority_low, priority_front, priority_trimmed}
-use Rattle.syslog_pieces.specs.Pieces.Parts.{IsInPieces}
+use Rattle.syslog_text.specs.Pieces.Parts.{IsInPieces}
 
 -- ---- the form `tag[id]`: a text is of it in one way
 

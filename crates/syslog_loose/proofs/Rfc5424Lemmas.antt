@@ -20,22 +20,23 @@ use Rattle.syslog_loose.proofs.Names.{printed_stamp_back, stamp_text_canonical, 
 use Rattle.syslog_loose.proofs.Names.{IsCanonicalInBoth, IsCanonicalFor, IsCanonical, priority_of, Quotes5424, composed}
 use Rattle.syslog_loose.proofs.Names.{AllByRecursion, Bool, Class, IsTrue, Line, append_cancel_right, true, ◌↔◌}
 use Rattle.syslog_loose.specs.Bodies.View5424.{FitsNames, names_before}
-use Rattle.syslog_pieces.proofs.PieceLemmas.Class.{front_of}
-use Rattle.syslog_pieces.proofs.PieceLemmas.Lists.{AllSound, row_back}
-use Rattle.syslog_pieces.proofs.TextLemmas.Quotes.{word_quotes, process_quotes}
-use Rattle.syslog_pieces.proofs.TextLemmas.Words.{number_det, word_det, word_back, word_canonical, host_canonical}
-use Rattle.syslog_pieces.proofs.TextLemmas.Words.{NoColonNext, blanks_next}
-use Rattle.syslog_pieces.proofs.StructuredDataLemmas.Elements.{forgiving_det, forgiving_back, forgiving_canonical}
-use Rattle.syslog_pieces.proofs.StructuredDataLemmas.Elements.{no_item_nil, no_item_before}
-use Rattle.syslog_pieces.proofs.StructuredDataLemmas.Units.{forgiving_quotes}
+use Rattle.syslog_text.proofs.PieceLemmas.Class.{front_of}
+use Rattle.syslog_text.proofs.PieceLemmas.Lists.{AllSound, row_back}
+use Rattle.syslog_text.proofs.TextLemmas.Quotes.{word_quotes}
+use Rattle.syslog_pieces.proofs.ProcIdLemmas.{process_quotes}
+use Rattle.syslog_text.proofs.TextLemmas.Words.{number_det, word_det, word_back, word_canonical, host_canonical}
+use Rattle.syslog_text.proofs.TextLemmas.Words.{NoColonNext, blanks_next}
+use Rattle.syslog_elements.proofs.StructuredDataLemmas.Elements.{forgiving_det, forgiving_back, forgiving_canonical}
+use Rattle.syslog_elements.proofs.StructuredDataLemmas.Elements.{no_item_nil, no_item_before}
+use Rattle.syslog_elements.proofs.StructuredDataLemmas.Units.{forgiving_quotes}
 use Rattle.syslog_pieces.proofs.ProcIdLemmas.{process_word_det, process_back, process_canonical, process_bounded}
 use Rattle.syslog_pieces.proofs.TimestampLemmas.Rfc3339.{header_stamp_det}
 use Rattle.syslog_pieces.specs.ProcId.{IsCanonicalProcess, IsBoundedProcess}
-use Rattle.syslog_pieces.specs.Text.Canonical.{IsCanonicalHost, IsVisible}
-use Rattle.syslog_pieces.specs.Pieces.Format.{IsSound, RowReadsBack}
-use Rattle.syslog_pieces.specs.StructuredData.{forgiving, item}
-use Rattle.syslog_pieces.specs.StructuredData.Unparsed.{leaving}
-use Rattle.syslog_pieces.proofs.StructuredDataLemmas.Unparsed.{leaving_back}
+use Rattle.syslog_text.specs.Text.Canonical.{IsCanonicalHost, IsVisible}
+use Rattle.syslog_text.specs.Pieces.Format.{IsSound, RowReadsBack}
+use Rattle.syslog_elements.specs.StructuredData.{forgiving, item}
+use Rattle.syslog_elements.specs.StructuredData.Unparsed.{leaving}
+use Rattle.syslog_elements.proofs.StructuredDataLemmas.Unparsed.{leaving_back}
 use Rattle.syslog_loose.specs.Canonical.{IsCanonical5424}
 use Rattle.syslog_loose.specs.Unparsed.{Leaves5424, leaving_row}
 use Rattle.syslog_loose.specs.Printed.{printed_5424}

@@ -9,9 +9,9 @@ use Rattle.syslog_loose.proofs.Names.{IsLineOf, named_process, named_names, rfc3
 use Rattle.syslog_loose.specs.Words.{forgiving, list_text}
 use Rattle.syslog_loose.proofs.Names.{ElementValue, names_row, front_row, header_row}
 use Rattle.syslog_pieces.proofs.ProcIdLemmas.{absent_front, process_front}
-use Rattle.syslog_pieces.proofs.StructuredDataLemmas.Unparsed.{IsBracketed, full_leaves, leaving_det}
-use Rattle.syslog_pieces.proofs.StructuredDataLemmas.Unparsed.{left_bracketed, nothing_leaves, unparsed_same}
-use Rattle.syslog_pieces.specs.StructuredData.Unparsed.{IsUnparsed, leaving}
+use Rattle.syslog_elements.proofs.StructuredDataLemmas.Unparsed.{IsBracketed, full_leaves, leaving_det}
+use Rattle.syslog_elements.proofs.StructuredDataLemmas.Unparsed.{left_bracketed, nothing_leaves, unparsed_same}
+use Rattle.syslog_elements.specs.StructuredData.Unparsed.{IsUnparsed, leaving}
 use Rattle.syslog_loose.specs.Rows.{words_row}
 use Rattle.syslog_loose.specs.LineTexts.{IsLine3164, IsLine5424}
 use Rattle.syslog_loose.specs.Reading.{dash_rule}

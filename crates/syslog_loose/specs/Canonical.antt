@@ -6,8 +6,8 @@ use Rattle.syslog_loose.specs.Words.{IfSome, IsSome, AllByRecursion, option_map,
 use Rattle.syslog_loose.specs.Words.{ElementValue, BeginsNoList, is_blank, is_tag_char, dash, is_label_char, ProcId}
 use Rattle.syslog_loose.specs.Words.{PID, Name, DashRule}
 pub use Rattle.syslog_pieces.specs.ProcId.{IsBoundedProcess, IsNoI32Text, IsCanonicalProcess}
-pub use Rattle.syslog_pieces.specs.StructuredData.Canonical.{IsCanonicalElement}
-pub use Rattle.syslog_pieces.specs.Text.Canonical.{IsVisible, IsCanonicalHost, IsCanonicalWord, EndsVisibly}
+pub use Rattle.syslog_elements.specs.StructuredData.Canonical.{IsCanonicalElement}
+pub use Rattle.syslog_text.specs.Text.Canonical.{IsVisible, IsCanonicalHost, IsCanonicalWord, EndsVisibly}
 pub use Rattle.syslog_pieces.specs.Timestamp.Canonical.{IsCanonicalStamp}
 use Rattle.syslog_loose.specs.declared.message.canonical.CheckedFields.{CheckedFields}
 use Rattle.syslog_loose.specs.declared.message.Protocol.{Protocol}

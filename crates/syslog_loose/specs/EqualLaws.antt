@@ -2,7 +2,7 @@
 use Rattle.syslog_loose.specs.Words.{facility_number, severity_number, nat_list_eq_equiv, options_equiv, lists_equiv}
 use Rattle.std.specs.Cmp.{IsEquivalence, on_equiv, and_equiv, int_eq_equiv, nat_eq_equiv}
 use Rattle.syslog_pieces.specs.ProcId.EqualLaws.{procid_equivalence}
-use Rattle.syslog_pieces.specs.StructuredData.EqualLaws.{element_equivalence}
+use Rattle.syslog_elements.specs.StructuredData.EqualLaws.{element_equivalence}
 use Rattle.syslog_loose.specs.Equal.{message_eq}
 
 pub message_equivalence : IsEquivalence message_eq

@@ -2,10 +2,10 @@
 use Rattle.std.specs.Prelude.{◌+◌, ◌*◌, ◌∷◌, ◌++◌, decimal}
 use Rattle.syslog_loose.specs.Words.{ℕ, List, [], Option, None, Some, option_map_or, flat_map, Text, ElementValue}
 use Rattle.syslog_loose.specs.Words.{facility_number, severity_number, dash, ProcId, OffsetTimestamp, element_text}
-pub use Rattle.syslog_pieces.specs.StructuredData.Element.{joined_elements, elements_text}
+pub use Rattle.syslog_elements.specs.StructuredData.Element.{joined_elements, elements_text}
 use Rattle.syslog_pieces.specs.ProcId.{procid_text}
 pub use Rattle.syslog_pieces.specs.ProcId.{process_text}
-pub use Rattle.syslog_pieces.specs.Text.{name_text}
+pub use Rattle.syslog_text.specs.Text.{name_text}
 use Rattle.syslog_pieces.specs.Timestamp.Printed.{printed_stamp}
 use Rattle.syslog_loose.specs.declared.message.Protocol.TheVariants.{RFC3164, RFC5424}
 use Rattle.syslog_loose.specs.Message.{MessageValue}

@@ -12,8 +12,8 @@ use crate::variant::{IncompleteDate, Variant};
 use crate::visit::parse_line;
 use jiff::tz::TimeZone;
 use std::alloc::{AllocError, Global};
-use syslog_pieces::structured_data::NoElements;
-use syslog_pieces::text::{CharClass, first, literal};
+use syslog_elements::structured_data::NoElements;
+use syslog_text::text::{CharClass, first, literal};
 
 /// Returns whether the Rust crate would drop a leading `-` that is kept here as the beginning of `msg`.
 ///

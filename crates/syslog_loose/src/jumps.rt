@@ -15,9 +15,9 @@ ghost use Rattle.syslog_loose.specs.Clauses.{EndsOnce, IsLater, IsRead, Variant}
 use crate::line::{Line, has_quiet_names, print_line};
 use std::alloc::AllocError;
 use std::fmt::Write;
-use syslog_pieces::structured_data::ElementList;
-use syslog_pieces::text::{literal, some_blanks};
+use syslog_elements::structured_data::ElementList;
 use syslog_pieces::timestamp::canonical::is_canonical_clock;
+use syslog_text::text::{literal, some_blanks};
 
 // What is passed, cut or written at once of a long run, thirty-two bytes each.
 const COLONS: &str = "::::::::::::::::::::::::::::::::";

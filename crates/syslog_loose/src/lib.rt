@@ -46,15 +46,15 @@ pub use reading::{
 pub use reckoning::{latest_year, reckon_year, zone_ahead, zone_of_rule};
 pub use rounds::normalise;
 pub use settling::{settle, settle_into};
-pub use syslog_pieces::VERSION;
-pub use syslog_pieces::as_str::AsStr;
-pub use syslog_pieces::pri::{SyslogFacility, SyslogSeverity, decompose_pri};
-pub use syslog_pieces::procid::ProcId;
-pub use syslog_pieces::structured_data::{
+pub use syslog_elements::structured_data::{
     Collect, Element, ElementList, ElementVisitor, Elements, NoElements, NoNotes, ParamNotes,
     Params, ParamsIter, StructuredElement,
 };
+pub use syslog_pieces::VERSION;
+pub use syslog_pieces::pri::{SyslogFacility, SyslogSeverity, decompose_pri};
+pub use syslog_pieces::procid::ProcId;
 pub use syslog_pieces::timestamp::{ClockStamp, OffsetTimestamp};
+pub use syslog_text::as_str::AsStr;
 pub use today::Today;
 pub use variant::{IncompleteDate, Variant};
 pub use visit::{Itself, LineVisitor, parse_line, visit_line};

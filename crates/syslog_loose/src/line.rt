@@ -10,9 +10,9 @@ use crate::message::{CheckedFields, Message, Protocol, are_canonical_fields};
 pub(crate) use printing::print_line;
 pub(crate) use quirks::{has_no_quirk, has_quiet_names};
 use std::alloc::{AllocError, Global};
+use syslog_elements::structured_data::{ElementList, Elements, StructuredElement};
 use syslog_pieces::pri::{SyslogFacility, SyslogSeverity, parts};
 use syslog_pieces::procid::ProcId;
-use syslog_pieces::structured_data::{ElementList, Elements, StructuredElement};
 use syslog_pieces::timestamp::{ClockStamp, OffsetTimestamp, stamp_of};
 
 /// A line as it was parsed, by RFC 5424 or RFC 3164. Its texts are slices of the input, so it is `Copy` and holds no
@@ -117,7 +117,7 @@ impl<'a> Line<'a> {
     /// Returns whether the printed text of the line's message is parsed as the same message by its own protocol.
     ///
     /// It looks at the fields alone, does not allocate, and takes time linear in the line.
-    #[tactic(auto, using(syslog_pieces::proofs::StructuredDataLemmas::Elements::are_canonical))]
+    #[tactic(auto, using(syslog_elements::proofs::StructuredDataLemmas::Elements::are_canonical))]
     pub fn is_canonical(&self) -> bool
         ensures { IsTrue result ↔ IsCanonical dash_rule (line_value self.now) }
     {

@@ -16,11 +16,11 @@ pub(crate) use printing::{
     printed_priority, write_elements, write_name, write_process, write_tag, write_timestamp,
 };
 use std::fmt;
-use syslog_pieces::as_str::AsStr;
+use syslog_elements::structured_data::StructuredElement;
 use syslog_pieces::pri::{SyslogFacility, SyslogSeverity, write_priority};
 use syslog_pieces::procid::ProcId;
-use syslog_pieces::structured_data::StructuredElement;
 use syslog_pieces::timestamp::OffsetTimestamp;
+use syslog_text::as_str::AsStr;
 
 /// The protocol that a message is written in: RFC 3164, or RFC 5424 with its version.
 #[derive(Clone, Copy, Debug, PartialEq, Eq)]

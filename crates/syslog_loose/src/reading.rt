@@ -5,7 +5,7 @@
 ghost use Rattle.std.specs.Prelude.{◌≡◌};
 ghost use Rattle.syslog_loose.specs.Words.{List, [], IfOk, None, chars, plain_zone, shown, dating_of, ElementValue};
 ghost use Rattle.syslog_pieces.specs.Timestamp.Zone.{IsYearAt};
-ghost use Rattle.syslog_pieces.specs.StructuredData.Collected.{HasCollected};
+ghost use Rattle.syslog_elements.specs.StructuredData.Collected.{HasCollected};
 ghost use Rattle.syslog_pieces.specs.Timestamp.Zone as zone;
 ghost use Rattle.syslog_loose.specs.Reading as spec;
 ghost use Rattle.syslog_loose.specs.Clauses.{line_value, message_value, with_elements, IsCompleted, AnswersItself};
@@ -20,7 +20,7 @@ use crate::visit::{LineVisitor, visit_line};
 use jiff::Timestamp;
 use jiff::tz::TimeZone;
 use std::alloc::{AllocError, Global};
-use syslog_pieces::structured_data::Collect;
+use syslog_elements::structured_data::Collect;
 use syslog_pieces::timestamp::year_at;
 
 /// Returns the message of the text, read by the variant. A date without a year is of the year of `now` in the local

@@ -2,7 +2,7 @@
 //! timestamp at the front can fail.
 //!
 //! `read_3164` returns the line of the one division of a text, after the pieces that can fail have been read. It reads
-//! the pieces from the left, by the readers of `syslog_pieces`. `resolve` says what the host field and the tag field
+//! the pieces from the left, by the readers of the crates below. `resolve` says what the host field and the tag field
 //! mean together.
 ghost use Rattle.std.specs.Prelude.{◌≡◌};
 ghost use Rattle.syslog_loose.specs.Words.{chars, Text, seen, list_elements, Visits};
@@ -14,11 +14,11 @@ ghost use Rattle.syslog_loose.specs.Clauses.{names_value, NamesHost, NamesProgra
 use crate::line::Line;
 use crate::rfc5424::{are_all, is_bare};
 use crate::tag_form::tag_form;
-use syslog_pieces::structured_data::rfc3164_list::DASH_RULE;
-use syslog_pieces::structured_data::{ElementVisitor, visit_rfc3164_list};
-use syslog_pieces::text::verbatim::before;
-use syslog_pieces::text::{Field, blanks, host_field, past_colon, tag_field};
+use syslog_elements::structured_data::rfc3164_list::DASH_RULE;
+use syslog_elements::structured_data::{ElementVisitor, visit_rfc3164_list};
 use syslog_pieces::timestamp::ClockStamp;
+use syslog_text::text::verbatim::before;
+use syslog_text::text::{Field, blanks, host_field, past_colon, tag_field};
 
 /// The names that the header of a line shows.
 #[derive(Clone, Copy)]

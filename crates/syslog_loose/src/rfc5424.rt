@@ -1,21 +1,21 @@
 //! The header of RFC 5424 (section 6): sixteen pieces, from the priority to the message.
 //!
 //! `read_5424` returns the line of the one division of a trimmed text, or none if there is no division. It reads the
-//! pieces from the left, by the readers of `syslog_pieces`.
+//! pieces from the left, by the readers of the crates below.
 ghost use Rattle.std.specs.Prelude.{◌≡◌, ◌↔◌};
 ghost use Rattle.syslog_loose.specs.Words.{[], ℕ, IfSome, IsTrue, MatchOption, Some, AllByRecursion, chars, IsUtf8};
 ghost use Rattle.syslog_loose.specs.Words.{Text, seen, shown, list_elements, Visits, trimmed};
 ghost use Rattle.syslog_pieces.specs.ProcId.{IsBareWord};
 ghost use Rattle.syslog_loose.specs.Clauses.{KnowsForm, IsNot5424, IsLine5424, IsAfterPriority};
 ghost use Rattle.syslog_loose.specs.Clauses.{FitsNames, FitsSpaced, ReadsHeader, ReadsNames5424, ReadsSpaced};
-ghost use Rattle.syslog_pieces.specs.Text as spec;
+ghost use Rattle.syslog_text.specs.Text as spec;
 
 use crate::line::Line;
+use syslog_elements::structured_data::{ElementList, ElementVisitor, visit_forgiving_list};
 use syslog_pieces::procid::is_bare_word;
-use syslog_pieces::structured_data::{ElementList, ElementVisitor, visit_forgiving_list};
-use syslog_pieces::text::verbatim::is_one_space;
-use syslog_pieces::text::{blanks, host, number, some_blanks, word};
 use syslog_pieces::timestamp::{ClockStamp, header_stamp};
+use syslog_text::text::verbatim::is_one_space;
+use syslog_text::text::{blanks, host, number, some_blanks, word};
 
 /// Whether all five are true, tested at once.
 #[inline(always)]

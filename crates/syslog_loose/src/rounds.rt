@@ -18,10 +18,10 @@ use crate::variant::{IncompleteDate, Variant};
 use crate::visit::{LineVisitor, parse_line, visit_line, visit_undated};
 use jiff::tz::TimeZone;
 use std::alloc::{AllocError, Global};
+use syslog_elements::structured_data::NoElements;
 use syslog_pieces::pri::optional_priority;
-use syslog_pieces::structured_data::NoElements;
-use syslog_pieces::text::trimmed;
 use syslog_pieces::timestamp::canonical::is_canonical_clock;
+use syslog_text::text::trimmed;
 
 /// Returns the printed text of the message that `parse_message_with_year_exact_tz` returns, in a new `String`. For a
 /// text that does not parse it returns `Invalid`, and never `Memory`.

@@ -3,7 +3,7 @@
 ghost use Rattle.syslog_loose.specs.Words.{MatchOption, chars, shown};
 ghost use Rattle.syslog_loose.specs.TagForm.{IsForm, IsNoForm};
 
-use syslog_pieces::text::{CharClass, literal, split_run};
+use syslog_text::text::{CharClass, literal, split_run};
 
 /// Returns the tag and the id of a text of the form `tag[id]`; none for any other text.
 #[inline(always)]

@@ -5,7 +5,7 @@
 ghost use Rattle.std.specs.Prelude.{◌≡◌, ◌≢◌};
 ghost use Rattle.syslog_loose.specs.Words.{IfSome, IsSome, MatchOption, None, chars, Text, shown, list_elements};
 ghost use Rattle.syslog_loose.specs.Words.{Visits, header_stamp, stamp_seen, dating_of, MonthDate, month_date};
-ghost use Rattle.syslog_pieces.specs.Text.{trimmed as trimmed_text};
+ghost use Rattle.syslog_text.specs.Text.{trimmed as trimmed_text};
 ghost use Rattle.syslog_pieces.specs.Timestamp.Zone.{Dating as AnyDating};
 ghost use Rattle.syslog_loose.specs.declared.variant.Variant.TheVariants.{RFC3164};
 ghost use Rattle.syslog_loose.specs.Clauses.{KnowsForm, AnswersEachMonth, InYear, IsUnreadable};
@@ -19,12 +19,12 @@ use crate::rfc5424::read_5424;
 use crate::variant::{IncompleteDate, Variant};
 use jiff::tz::TimeZone;
 use std::mem::drop;
+use syslog_elements::structured_data::{ElementVisitor, NoElements};
 use syslog_pieces::pri::optional_priority;
-use syslog_pieces::structured_data::{ElementVisitor, NoElements};
-use syslog_pieces::text::{begins_with_digit, blanks, trimmed};
 use syslog_pieces::timestamp::month_date::{MonthDate, month_date};
 use syslog_pieces::timestamp::zone::{Dating, month_stamp};
 use syslog_pieces::timestamp::{ClockStamp, header_stamp};
+use syslog_text::text::{begins_with_digit, blanks, trimmed};
 
 /// Makes something of a line. The result is returned from where the line was read, so that few fields of the line need
 /// to be kept in memory.

@@ -1,11 +1,11 @@
 -- A header without structured data: one front of each class, and what a text with one says.
 use Rattle.std.proofs.Common.{◌≡◌, [], sym, ap, ◌∙◌}
-use Rattle.syslog_pieces.specs.Pieces.Class.{Text, Values, Front, Row}
-use Rattle.syslog_pieces.specs.Text.{is_blank}
-use Rattle.syslog_pieces.proofs.PieceLemmas.Class.{AllDeterministic, ◌also◌, exactly_det, front_division, rest_det}
-use Rattle.syslog_pieces.proofs.PieceLemmas.Class.{some_run_det}
-use Rattle.syslog_pieces.proofs.PieceLemmas.Class.{unique_division}
-use Rattle.syslog_pieces.proofs.TextLemmas.Words.{host_det, number_det, word_det}
+use Rattle.syslog_text.specs.Pieces.Class.{Text, Values, Front, Row}
+use Rattle.syslog_text.specs.Text.{is_blank}
+use Rattle.syslog_text.proofs.PieceLemmas.Class.{AllDeterministic, ◌also◌, exactly_det, front_division, rest_det}
+use Rattle.syslog_text.proofs.PieceLemmas.Class.{some_run_det}
+use Rattle.syslog_text.proofs.PieceLemmas.Class.{unique_division}
+use Rattle.syslog_text.proofs.TextLemmas.Words.{host_det, number_det, word_det}
 use Rattle.syslog_sent.proofs.DateLemmas.{iso_date_det}
 use Rattle.syslog_named_forms.specs.Header.{header_form, header_row, header_says}
 use Rattle.syslog_sent.specs.Sent.{IsOnlySent, SentValue}

@@ -1,14 +1,14 @@
 -- What is found in a list of forms, and what forms after a date say.
 use Rattle.std.proofs.Common.{◌≡◌, inl, List, [], ◌∷◌, Option, None, refl, sym, ap, ◌∙◌}
-use Rattle.syslog_pieces.specs.Pieces.Class.{Text, Class, Values, Front, NoFront, IsDeterministic, Division}
-use Rattle.syslog_pieces.specs.Pieces.Class.{NoDivision, Row}
-use Rattle.syslog_pieces.specs.Pieces.Class.{run, mapped}
-use Rattle.syslog_pieces.specs.Text.{is_blank}
-use Rattle.syslog_pieces.proofs.PieceLemmas.Class.{AllDeterministic, ◌also◌, all_joined, front_division, mapped_det}
-use Rattle.syslog_pieces.proofs.PieceLemmas.Class.{row_cons}
-use Rattle.syslog_pieces.proofs.PieceLemmas.Class.{row_nil, rows_join, rows_none_here, rows_none_later, row_none_here}
-use Rattle.syslog_pieces.proofs.PieceLemmas.Class.{row_of, no_row, ◌past◌, ◌then◌}
-use Rattle.syslog_pieces.proofs.PieceLemmas.Class.{no_row_division, run_det, some_run_det, unique_division}
+use Rattle.syslog_text.specs.Pieces.Class.{Text, Class, Values, Front, NoFront, IsDeterministic, Division}
+use Rattle.syslog_text.specs.Pieces.Class.{NoDivision, Row}
+use Rattle.syslog_text.specs.Pieces.Class.{run, mapped}
+use Rattle.syslog_text.specs.Text.{is_blank}
+use Rattle.syslog_text.proofs.PieceLemmas.Class.{AllDeterministic, ◌also◌, all_joined, front_division, mapped_det}
+use Rattle.syslog_text.proofs.PieceLemmas.Class.{row_cons}
+use Rattle.syslog_text.proofs.PieceLemmas.Class.{row_nil, rows_join, rows_none_here, rows_none_later, row_none_here}
+use Rattle.syslog_text.proofs.PieceLemmas.Class.{row_of, no_row, ◌past◌, ◌then◌}
+use Rattle.syslog_text.proofs.PieceLemmas.Class.{no_row_division, run_det, some_run_det, unique_division}
 use Rattle.syslog_sent.proofs.DateLemmas.{any_date_det}
 use Rattle.syslog_named_forms.proofs.ProgramLemmas.{serial_det}
 use Rattle.syslog_sent.proofs.DialectLemmas.{here}
@@ -30,7 +30,7 @@ use Rattle.syslog_sent.specs.Named.{beginning, hosted}
 use Rattle.syslog_named_forms.specs.Programs.{hostless_row, passed_on, serial_row, severity_row, worded_row}
 use Rattle.syslog_sent.proofs.NamedLemmas.{hosted_det}
 use Rattle.syslog_named_forms.proofs.ProgramLemmas.{hostless_det, passed_on_det, severity_det, worded_det}
-use Rattle.syslog_pieces.proofs.PieceLemmas.Class.{row_det}
+use Rattle.syslog_text.proofs.PieceLemmas.Class.{row_det}
 use Rattle.syslog_sent.proofs.FormLemmas.{found_later}
 use Rattle.syslog_sent.proofs.FormLemmas.{found_after, found_after}
 

@@ -6,21 +6,21 @@ use Rattle.std.proofs.lemmas.Bool.{cases_Bool}
 use Rattle.std.proofs.lemmas.Bool.Decides.{nat_tests}
 use Rattle.std.specs.Char.{is_not_whitespace}
 use Rattle.std.specs.Str.{chars}
-use Rattle.syslog_pieces.specs.Bodies.Scan.{SplitsRun}
-use Rattle.syslog_pieces.specs.Pieces.Class.{Text, Class, Values, Front, NoFront, IsDeterministic, Division}
-use Rattle.syslog_pieces.specs.Pieces.Class.{NoDivision, Row}
-use Rattle.syslog_pieces.specs.Pieces.Class.{run, some_run, exactly, texted}
-use Rattle.syslog_pieces.specs.Pieces.Lists.{many}
-use Rattle.syslog_pieces.specs.Text.{is_blank}
+use Rattle.syslog_text.specs.Bodies.Scan.{SplitsRun}
+use Rattle.syslog_text.specs.Pieces.Class.{Text, Class, Values, Front, NoFront, IsDeterministic, Division}
+use Rattle.syslog_text.specs.Pieces.Class.{NoDivision, Row}
+use Rattle.syslog_text.specs.Pieces.Class.{run, some_run, exactly, texted}
+use Rattle.syslog_text.specs.Pieces.Lists.{many}
+use Rattle.syslog_text.specs.Text.{is_blank}
 use Rattle.syslog_pieces.specs.Timestamp.Rfc3339.{pair as two, seconds_of, sign}
-use Rattle.syslog_pieces.proofs.PieceLemmas.Class.{AllDeterministic, ◌also◌, ◌past◌, ◌then◌, after_det}
-use Rattle.syslog_pieces.proofs.PieceLemmas.Class.{division_front, exactly_det}
-use Rattle.syslog_pieces.proofs.PieceLemmas.Class.{front_division, front_longer, front_of, front_same, mapped_det}
-use Rattle.syslog_pieces.proofs.PieceLemmas.Class.{no_row}
-use Rattle.syslog_pieces.proofs.PieceLemmas.Class.{no_row_division, row_det, row_head, row_of, run_det, some_run_det}
-use Rattle.syslog_pieces.proofs.PieceLemmas.Class.{texted_det}
-use Rattle.syslog_pieces.proofs.PieceLemmas.Class.{heads, unique_division}
-use Rattle.syslog_pieces.proofs.PieceLemmas.Lists.{many_det}
+use Rattle.syslog_text.proofs.PieceLemmas.Class.{AllDeterministic, ◌also◌, ◌past◌, ◌then◌, after_det}
+use Rattle.syslog_text.proofs.PieceLemmas.Class.{division_front, exactly_det}
+use Rattle.syslog_text.proofs.PieceLemmas.Class.{front_division, front_longer, front_of, front_same, mapped_det}
+use Rattle.syslog_text.proofs.PieceLemmas.Class.{no_row}
+use Rattle.syslog_text.proofs.PieceLemmas.Class.{no_row_division, row_det, row_head, row_of, run_det, some_run_det}
+use Rattle.syslog_text.proofs.PieceLemmas.Class.{texted_det}
+use Rattle.syslog_text.proofs.PieceLemmas.Class.{heads, unique_division}
+use Rattle.syslog_text.proofs.PieceLemmas.Lists.{many_det}
 use Rattle.syslog_pieces.proofs.TimestampLemmas.Rfc3339.{pair_det as two_det, year_det}
 use Rattle.syslog_sent.specs.Named.{◌otherwise◌}
 use Rattle.syslog_named_forms.specs.Pairs.{pair, pair_row, pair_of, quoted, quoted_row, quoted_of, bare, value}
@@ -37,7 +37,7 @@ use Rattle.syslog_sent.specs.declared.sent.SentDate.{SentDate}
 use Rattle.syslog_sent.proofs.NamedLemmas.{otherwise_det}
 use Rattle.syslog_sent.proofs.DateLemmas.{fraction_row_det, iso_date_det}
 use Rattle.syslog_sent.specs.Date.{fraction, fraction_row, iso_date}
-use Rattle.syslog_pieces.proofs.PieceLemmas.Class.{optional_det}
+use Rattle.syslog_text.proofs.PieceLemmas.Class.{optional_det}
 
 -- ---- runs
 

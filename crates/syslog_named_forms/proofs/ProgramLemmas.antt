@@ -1,25 +1,25 @@
 -- A text has one division into each row of a program's line.
-use Rattle.syslog_pieces.proofs.PieceLemmas.Class.{AllDeterministic, ◌also◌, exactly_det}
-use Rattle.syslog_pieces.specs.Text.{is_blank}
-use Rattle.syslog_pieces.proofs.PieceLemmas.Class.{rest_det, run_det, some_run_det}
-use Rattle.syslog_pieces.proofs.TextLemmas.Words.{host_det}
+use Rattle.syslog_text.proofs.PieceLemmas.Class.{AllDeterministic, ◌also◌, exactly_det}
+use Rattle.syslog_text.specs.Text.{is_blank}
+use Rattle.syslog_text.proofs.PieceLemmas.Class.{rest_det, run_det, some_run_det}
+use Rattle.syslog_text.proofs.TextLemmas.Words.{host_det}
 use Rattle.syslog_named_forms.specs.Programs.{serial_row}
 use Rattle.syslog_sent.specs.Runs.{is_plain_char}
 use Rattle.syslog_sent.proofs.NamedLemmas.{program_det}
 use Rattle.syslog_sent.proofs.DateLemmas.{iso_date_det}
-use Rattle.syslog_pieces.specs.Pieces.Class.{IsDeterministic, Row, some_run}
-use Rattle.syslog_pieces.specs.Pieces.Class.{texted}
-use Rattle.syslog_pieces.proofs.PieceLemmas.Class.{mapped_det}
-use Rattle.syslog_pieces.proofs.PieceLemmas.Class.{texted_det, row_det}
-use Rattle.syslog_pieces.proofs.PieceLemmas.Rules.{such_det}
+use Rattle.syslog_text.specs.Pieces.Class.{IsDeterministic, Row, some_run}
+use Rattle.syslog_text.specs.Pieces.Class.{texted}
+use Rattle.syslog_text.proofs.PieceLemmas.Class.{mapped_det}
+use Rattle.syslog_text.proofs.PieceLemmas.Class.{texted_det, row_det}
+use Rattle.syslog_text.proofs.PieceLemmas.Rules.{such_det}
 use Rattle.syslog_sent.specs.Named.{BeginsWith}
 use Rattle.syslog_sent.specs.Runs.{is_word_char}
 use Rattle.syslog_sent.specs.Named.{NamedTexts, is_letter}
 use Rattle.syslog_named_forms.specs.Programs.{words, words_row, worded_row, forwarded_row, forwarded_of, passed_on}
-use Rattle.syslog_pieces.proofs.PieceLemmas.Class.{after_det}
-use Rattle.syslog_pieces.proofs.PieceLemmas.Lists.{many_det}
-use Rattle.syslog_pieces.specs.Pieces.Class.{spaced}
-use Rattle.syslog_pieces.specs.Text.{is_tag_char}
+use Rattle.syslog_text.proofs.PieceLemmas.Class.{after_det}
+use Rattle.syslog_text.proofs.PieceLemmas.Lists.{many_det}
+use Rattle.syslog_text.specs.Pieces.Class.{spaced}
+use Rattle.syslog_text.specs.Text.{is_tag_char}
 use Rattle.syslog_named_forms.specs.Programs.{grade, hostless_row}
 use Rattle.syslog_sent.specs.Selector.{selector_row}
 use Rattle.syslog_named_forms.specs.Programs.{severity_row}

@@ -4,14 +4,14 @@ use Rattle.std.proofs.Common.{subst, ◌∙◌, arith}
 use Rattle.std.proofs.lemmas.Bool.Decides.{nat_tests}
 use Rattle.std.specs.Char.{is_not_whitespace}
 use Rattle.std.specs.Prelude.{◌&&◌, chars, codes, nat_le}
-use Rattle.syslog_pieces.specs.Pieces.Class.{Text, Class, Ends, Front, NoFront, Row, Values, after, exactly, join}
-use Rattle.syslog_pieces.specs.Bodies.Scan.{SplitsRun}
-use Rattle.syslog_pieces.specs.Pieces.Class.{optional, run}
-use Rattle.syslog_pieces.proofs.PieceLemmas.Class.{each_map, front_of, front_same, heads, no_mapped, row_none_here}
-use Rattle.syslog_pieces.proofs.PieceLemmas.Class.{row_pieces, rows_none_here, rows_none_later}
-use Rattle.syslog_pieces.proofs.PieceLemmas.Lists.{Begins, begins as begins_with_it}
-use Rattle.syslog_pieces.proofs.PieceLemmas.Rules.{Opens, row_opens}
-use Rattle.syslog_pieces.proofs.TextLemmas.Words.{host_det}
+use Rattle.syslog_text.specs.Pieces.Class.{Text, Class, Ends, Front, NoFront, Row, Values, after, exactly, join}
+use Rattle.syslog_text.specs.Bodies.Scan.{SplitsRun}
+use Rattle.syslog_text.specs.Pieces.Class.{optional, run}
+use Rattle.syslog_text.proofs.PieceLemmas.Class.{each_map, front_of, front_same, heads, no_mapped, row_none_here}
+use Rattle.syslog_text.proofs.PieceLemmas.Class.{row_pieces, rows_none_here, rows_none_later}
+use Rattle.syslog_text.proofs.PieceLemmas.Lists.{Begins, begins as begins_with_it}
+use Rattle.syslog_text.proofs.PieceLemmas.Rules.{Opens, row_opens}
+use Rattle.syslog_text.proofs.TextLemmas.Words.{host_det}
 use Rattle.syslog_sent.specs.Named.{◌otherwise◌, NamedTexts, beginning}
 use Rattle.syslog_named_forms.specs.Untagged.{begins, here, host_row, is_level, mark_class, repeated_row, repeats}
 use Rattle.syslog_named_forms.specs.declared.untagged.Mark.{Mark}
@@ -20,15 +20,15 @@ use Rattle.syslog_named_forms.specs.declared.untagged.Mark.TheVariants.{Idrac}
 use Rattle.syslog_named_forms.specs.declared.untagged.Mark.TheVariants.{Level}
 use Rattle.syslog_named_forms.specs.declared.untagged.Mark.TheVariants.{Bracket, Topics}
 use Rattle.std.specs.Char.{is_ascii_digit}
-use Rattle.syslog_pieces.specs.Text.{is_blank}
+use Rattle.syslog_text.specs.Text.{is_blank}
 use Rattle.syslog_pieces.specs.Timestamp.Rfc3339.{pair, year}
-use Rattle.syslog_pieces.proofs.PieceLemmas.Class.{AllDeterministic, ◌also◌, after_det, exactly_det, run_det}
-use Rattle.syslog_pieces.proofs.PieceLemmas.Class.{some_run_det}
+use Rattle.syslog_text.proofs.PieceLemmas.Class.{AllDeterministic, ◌also◌, after_det, exactly_det, run_det}
+use Rattle.syslog_text.proofs.PieceLemmas.Class.{some_run_det}
 use Rattle.syslog_pieces.proofs.TimestampLemmas.Rfc3339.{pair_det as two_det, year_det}
-use Rattle.syslog_pieces.specs.Pieces.Class.{IsDeterministic, some_run, texted}
+use Rattle.syslog_text.specs.Pieces.Class.{IsDeterministic, some_run, texted}
 use Rattle.std.specs.Prelude.{IsTrue}
-use Rattle.syslog_pieces.proofs.PieceLemmas.Class.{row_det, texted_det}
-use Rattle.syslog_pieces.proofs.PieceLemmas.Rules.{such_det}
+use Rattle.syslog_text.proofs.PieceLemmas.Class.{row_det, texted_det}
+use Rattle.syslog_text.proofs.PieceLemmas.Rules.{such_det}
 use Rattle.syslog_sent.proofs.NamedLemmas.{no_beginning, no_otherwise, otherwise_det}
 use Rattle.syslog_sent.specs.Runs.{is_either_char, is_plain_char, is_word_char}
 use Rattle.syslog_named_forms.specs.Untagged.{cef_row, leef_row, pair_row, palo_alto_row, repeated_tail, repeats_row}

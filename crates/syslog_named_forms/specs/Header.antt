@@ -1,7 +1,7 @@
 -- A header of RFC 5424 that no structured data follow, not even `-`, as Heroku and Cloud Foundry write.
 use Rattle.std.specs.Prelude.{◌≡◌, List, [], ◌∷◌, Some, None}
-use Rattle.syslog_pieces.specs.Pieces.Class.{Class, Values, some_run, exactly, rest}
-use Rattle.syslog_pieces.specs.Text.{dash, host, is_blank, number, word}
+use Rattle.syslog_text.specs.Pieces.Class.{Class, Values, some_run, exactly, rest}
+use Rattle.syslog_text.specs.Text.{dash, host, is_blank, number, word}
 use Rattle.syslog_sent.specs.Date.{iso_date}
 use Rattle.syslog_sent.specs.Sent.{Form, SentValue}
 use Rattle.syslog_sent.specs.declared.dialect.Dialect.TheVariants.{Heroku}

@@ -1,6 +1,6 @@
 -- What the readers of forms after a date return.
 use Rattle.std.specs.Prelude.{List, Option}
-use Rattle.syslog_pieces.specs.Pieces.Class.{Text, Front, Row}
+use Rattle.syslog_text.specs.Pieces.Class.{Text, Front, Row}
 use Rattle.syslog_sent.specs.Forms.{Finds}
 use Rattle.syslog_named_forms.specs.NamedForms.{front_row}
 use Rattle.syslog_sent.specs.Sent.{Form}

@@ -1,7 +1,7 @@
 -- The forms that are recognised by what follows the date, in the order in which they are tried.
 use Rattle.std.specs.Prelude.{◌≡◌, List, [], ◌∷◌, ◌++◌, Some, None}
-use Rattle.syslog_pieces.specs.Pieces.Class.{Class, Values, Row, run, some_run, mapped}
-use Rattle.syslog_pieces.specs.Text.{is_blank}
+use Rattle.syslog_text.specs.Pieces.Class.{Class, Values, Row, run, some_run, mapped}
+use Rattle.syslog_text.specs.Text.{is_blank}
 use Rattle.syslog_sent.specs.Date.{any_date}
 use Rattle.syslog_sent.specs.Named.{NamedTexts, beginning, hosted}
 use Rattle.syslog_named_forms.specs.Header.{header_form}

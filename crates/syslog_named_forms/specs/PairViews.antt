@@ -1,6 +1,6 @@
 -- How clauses see what the readers of pairs return.
-use Rattle.syslog_pieces.specs.Pieces.Class.{Text, Values}
-use Rattle.syslog_pieces.specs.Pieces.View.{seen, shown}
+use Rattle.syslog_text.specs.Pieces.Class.{Text, Values}
+use Rattle.syslog_text.specs.Pieces.View.{seen, shown}
 use Rattle.syslog_named_forms.specs.Pairs.{Noted, clock_row, day_row}
 use Rattle.syslog_named_forms.specs.declared.pairs.Clock.{Clock}
 use Rattle.syslog_named_forms.specs.declared.pairs.Day.{Day}

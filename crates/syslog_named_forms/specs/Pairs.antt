@@ -3,11 +3,11 @@ use Rattle.std.proofs.Common.{inl, inr}
 use Rattle.std.specs.Prelude.{◌≡◌, ◌⊎◌, ◌||◌, ℤ, Bool, true, false, if◌then◌else◌, List, [], ◌∷◌, Option, Some, None}
 use Rattle.std.specs.Prelude.{MatchOption, codes, min, nat_eq, unwrap_or}
 use Rattle.std.specs.Char.{is_not_whitespace}
-use Rattle.syslog_pieces.specs.Pieces.Class.{Text, Class, Values, Front, Division, NoDivision, Row, run, some_run}
-use Rattle.syslog_pieces.specs.Pieces.Class.{exactly, after, mapped, optional, texted}
-use Rattle.syslog_pieces.specs.Pieces.Lists.{many}
-use Rattle.syslog_pieces.specs.Pieces.View.{text_eq}
-use Rattle.syslog_pieces.specs.Text.{is_blank}
+use Rattle.syslog_text.specs.Pieces.Class.{Text, Class, Values, Front, Division, NoDivision, Row, run, some_run}
+use Rattle.syslog_text.specs.Pieces.Class.{exactly, after, mapped, optional, texted}
+use Rattle.syslog_text.specs.Pieces.Lists.{many}
+use Rattle.syslog_text.specs.Pieces.View.{text_eq}
+use Rattle.syslog_text.specs.Text.{is_blank}
 use Rattle.syslog_pieces.specs.Timestamp.Rfc3339.{pair as two, seconds_of, sign, year}
 use Rattle.syslog_sent.specs.Date.{fraction, iso_date}
 use Rattle.syslog_sent.specs.Named.{◌otherwise◌}

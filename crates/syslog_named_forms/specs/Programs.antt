@@ -1,12 +1,12 @@
 -- What a program's line says, in the forms that are recognised by what is between the date and the program's name. 32
 -- is a space, 40 `(`, 41 `)`, 46 `.`.
 use Rattle.std.specs.Prelude.{◌⊎◌, List, [], ◌∷◌, Option, Some, None, codes}
-use Rattle.syslog_pieces.specs.Pieces.Class.{Text, Class, Values, Row, run, some_run, exactly, rest, mapped, texted}
-use Rattle.syslog_pieces.specs.Pieces.Class.{spaced}
-use Rattle.syslog_pieces.specs.Pieces.Lists.{many}
-use Rattle.syslog_pieces.specs.Pieces.Rules.{such_that}
-use Rattle.syslog_pieces.specs.Text.{colon, host, is_blank}
-use Rattle.syslog_pieces.specs.Text.{is_tag_char}
+use Rattle.syslog_text.specs.Pieces.Class.{Text, Class, Values, Row, run, some_run, exactly, rest, mapped, texted}
+use Rattle.syslog_text.specs.Pieces.Class.{spaced}
+use Rattle.syslog_text.specs.Pieces.Lists.{many}
+use Rattle.syslog_text.specs.Pieces.Rules.{such_that}
+use Rattle.syslog_text.specs.Text.{colon, host, is_blank}
+use Rattle.syslog_text.specs.Text.{is_tag_char}
 use Rattle.syslog_sent.specs.Date.{iso_date}
 use Rattle.syslog_sent.specs.Named.{◌otherwise◌, NamedTexts, BeginsWith, hosted, is_letter, process_id, program}
 use Rattle.syslog_sent.specs.Named.{tagged}

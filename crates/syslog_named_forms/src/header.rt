@@ -6,9 +6,9 @@ ghost use Rattle.std.specs.Prelude.{chars};
 ghost use Rattle.syslog_named_forms.specs.Header as spec;
 ghost use Rattle.syslog_sent.specs.Sent.{Sends};
 
-use syslog_pieces::text::{host, literal, number, some_blanks, word};
 use syslog_sent::date::iso_date;
 use syslog_sent::sent::Sent;
+use syslog_text::text::{host, literal, number, some_blanks, word};
 
 /// Returns what a line with such a header says.
 pub(crate) fn read_header(text: &str) -> Option<Sent<'_>>

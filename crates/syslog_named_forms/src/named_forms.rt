@@ -1,7 +1,7 @@
 //! The forms that are recognised by what follows the date, in the order in which they are tried.
 ghost use Rattle.std.specs.Prelude.{◌≡◌, None, chars};
-ghost use Rattle.syslog_pieces.specs.Pieces.Class.{Row};
-ghost use Rattle.syslog_pieces.specs.Pieces.View.{Reads, seen};
+ghost use Rattle.syslog_text.specs.Pieces.Class.{Row};
+ghost use Rattle.syslog_text.specs.Pieces.View.{Reads, seen};
 ghost use Rattle.syslog_sent.specs.Forms.{Finds};
 ghost use Rattle.syslog_sent.specs.Led.{IsFront, IsLed};
 ghost use Rattle.syslog_named_forms.specs.NamedFinds.{FindsAfter};
@@ -14,11 +14,11 @@ use crate::header::read_header;
 use crate::pairs::read_pairs;
 use crate::programs::{after_serial, forwarded, hostless, severity_first, worded};
 use crate::untagged::{Mark, mark_end, may_be_message, message, past_host};
-use syslog_pieces::text::{blanks, some_blanks};
 use syslog_sent::dialect::Dialect;
 use syslog_sent::led::Led;
 use syslog_sent::named::Named;
 use syslog_sent::sent::{Sent, SentDate};
+use syslog_text::text::{blanks, some_blanks};
 
 // Returns what a line says that has this date, and these names and this message after it.
 #[inline(always)]

@@ -6,22 +6,22 @@
 //! both and the offset in `timestamp="2026-03-02T06:33:04+0100"`. The first pair of a key counts. The name of a zone is
 //! left out.
 ghost use Rattle.std.specs.Prelude.{◌≡◌, ◌<◌, ◌∷◌, [], IfSome, IsUtf8, List, MatchOption, Some, chars};
-ghost use Rattle.syslog_pieces.specs.Pieces.Class.{Division, Front, NoDivision, Row, Text, exactly};
-ghost use Rattle.syslog_pieces.specs.Pieces.Lists.{many};
-ghost use Rattle.syslog_pieces.specs.Pieces.View.{Reads, Recognises, seen, shown};
+ghost use Rattle.syslog_text.specs.Pieces.Class.{Division, Front, NoDivision, Row, Text, exactly};
+ghost use Rattle.syslog_text.specs.Pieces.Lists.{many};
+ghost use Rattle.syslog_text.specs.Pieces.View.{Reads, Recognises, seen, shown};
 ghost use Rattle.syslog_pieces.specs.Timestamp.Rfc3339.{seconds_of, sign as sign_class};
 ghost use Rattle.syslog_named_forms.specs.PairViews.{clock_values, day_values, notes_value, pair_value};
 ghost use Rattle.syslog_named_forms.specs.Pairs as spec;
 ghost use Rattle.syslog_sent.specs.Sent.{Sends};
 ghost use Rattle.syslog_sent.specs.declared.sent.SentDate.{SentDate as Date};
 
-use syslog_pieces::text::{CharClass, blanks, first, literal, split_run};
 use syslog_pieces::timestamp::MonthDate;
 use syslog_pieces::timestamp::pairs::{pair, pair_after, year};
 use syslog_sent::date::{iso_date, optional_fraction};
 use syslog_sent::named::is_word;
 use syslog_sent::runs::{Run, split};
 use syslog_sent::sent::{Sent, SentDate};
+use syslog_text::text::{CharClass, blanks, first, literal, split_run};
 
 /// A key and its value, without quotes.
 #[derive(Clone, Copy)]

@@ -1,21 +1,21 @@
 //! Lines of programs that are recognised by what is between the date and the program's name.
 ghost use Rattle.std.specs.Prelude.{◌∷◌, [], IfSome, IsUtf8, List, chars, codes};
-ghost use Rattle.syslog_pieces.specs.Pieces.Class.{Front, Row, Text, exactly, some_run, spaced, texted};
-ghost use Rattle.syslog_pieces.specs.Pieces.Lists.{many};
-ghost use Rattle.syslog_pieces.specs.Pieces.View.{Reads, Recognises, seen, shown};
-ghost use Rattle.syslog_pieces.specs.Text.{is_tag_char};
+ghost use Rattle.syslog_text.specs.Pieces.Class.{Front, Row, Text, exactly, some_run, spaced, texted};
+ghost use Rattle.syslog_text.specs.Pieces.Lists.{many};
+ghost use Rattle.syslog_text.specs.Pieces.View.{Reads, Recognises, seen, shown};
+ghost use Rattle.syslog_text.specs.Text.{is_tag_char};
 ghost use Rattle.syslog_sent.specs.Runs.{is_word_char};
 ghost use Rattle.syslog_named_forms.specs.Programs as spec;
 ghost use Rattle.syslog_named_forms.specs.Untagged.{host_row};
 ghost use Rattle.syslog_sent.specs.Views.{Names, named_value};
 
 use crate::untagged::topic_word;
-use syslog_pieces::text::verbatim::before;
-use syslog_pieces::text::{CharClass, blanks, literal, some_blanks, split_run};
 use syslog_sent::date::iso_date;
 use syslog_sent::named::{Named, Program, is_letter, past, process_id, read_program, tagged};
 use syslog_sent::runs::{Run, split};
 use syslog_sent::selector::{selector, severity};
+use syslog_text::text::verbatim::before;
+use syslog_text::text::{CharClass, blanks, literal, some_blanks, split_run};
 
 /// Reads a line without a host.
 #[inline(always)]

@@ -1,19 +1,19 @@
 //! Messages that have no program's name before them: they are recognised by what they begin with.
 ghost use Rattle.std.specs.Prelude.{◌≡◌, ◌∷◌, [], ◌||◌, Option, chars, codes, false};
-ghost use Rattle.syslog_pieces.specs.Pieces.Class.{Front, NoFront, Row, after, exactly, optional, run, some_run};
-ghost use Rattle.syslog_pieces.specs.Pieces.View.{Reads, Recognises, seen, shown};
+ghost use Rattle.syslog_text.specs.Pieces.Class.{Front, NoFront, Row, after, exactly, optional, run, some_run};
+ghost use Rattle.syslog_text.specs.Pieces.View.{Reads, Recognises, seen, shown};
 ghost use Rattle.syslog_pieces.specs.Timestamp.Rfc3339.{pair as pair_class, year as year_class};
-ghost use Rattle.syslog_pieces.specs.Text.{is_blank};
+ghost use Rattle.syslog_text.specs.Text.{is_blank};
 ghost use Rattle.syslog_sent.specs.Runs.{is_plain_char, is_word_char};
 ghost use Rattle.syslog_named_forms.specs.declared.untagged.Mark.TheVariants.{Bracket, Level, Repeated};
 ghost use Rattle.syslog_sent.specs.Named.{◌otherwise◌};
 ghost use Rattle.syslog_named_forms.specs.Untagged as spec;
 ghost use Rattle.syslog_sent.specs.Views.{Names, named_value};
 
-use syslog_pieces::text::{CharClass, blanks, first, host, literal, some_blanks, split_run};
 use syslog_pieces::timestamp::pairs::{pair, pair_after, year};
 use syslog_sent::named::{Named, is_word, past, untagged};
 use syslog_sent::runs::{Run, split};
+use syslog_text::text::{CharClass, blanks, first, host, literal, some_blanks, split_run};
 
 /// What a message without a program begins with.
 #[derive(Clone, Copy)]

@@ -16,7 +16,7 @@ use Rattle.std.specs.Int.{trailing_zeros, bit_not}
 use lib.Bits.{bit_and}
 use lib.Lanes.{chunk, mask_l, put_chunk, top}
 use Rattle.json.specs.Run.{is_stop}
-use Rattle.syslog_pieces.proofs.TextLemmas.Runs.{IsLanes}
+use Rattle.syslog_text.proofs.TextLemmas.Runs.{IsLanes}
 use Rattle.syslog_object.specs.Blocks.{AreStops, in_json}
 use Rattle.syslog_object.proofs.EscapeLemmas.{Plain, plain_escape, plain_front, plain_unescaped, escape-append}
 use Rattle.std.proofs.lemmas.List.{take-append-drop, length-take, length-drop, length-append, take-take, drop-drop}
@@ -26,7 +26,7 @@ use Rattle.std.proofs.lemmas.Simd.{length-replicate}
 use Rattle.std.proofs.lemmas.List.{take-append-le, drop_all, drop-replicate}
 use Rattle.std.specs.Prelude.{replicate}
 use Rattle.syslog_object.specs.Object.{after_backslash}
-use Rattle.syslog_pieces.specs.StructuredData.Escapes.{pair_meaning}
+use Rattle.syslog_elements.specs.StructuredData.Escapes.{pair_meaning}
 use Rattle.std.proofs.lemmas.Bool.{cases_Bool}
 use Rattle.std.proofs.Common.{add-one}
 use Rattle.json.specs.Print.{escape_byte}

@@ -17,8 +17,8 @@ use Rattle.std.proofs.lemmas.{List.Elements.filter-append, Map.Text.btree_map_up
 use Rattle.std.proofs.lemmas.Simd.{map-map}
 use Rattle.std.specs.BTreeMap.{BTreeMap, UpdatesBy, get_by}
 use Rattle.std.specs.{Cmp.Lexicographic.slice_cmp, Option.unwrap_or}
-use Rattle.syslog_pieces.specs.Pieces.View.{shown}
-use Rattle.syslog_pieces.specs.StructuredData.Element.{param_value}
+use Rattle.syslog_text.specs.Pieces.View.{shown}
+use Rattle.syslog_elements.specs.StructuredData.Element.{param_value}
 use Rattle.syslog_object.specs.Parts.{later_text, member_text, open_text}
 use Rattle.syslog_object.specs.Places.{ArePlaces, before_member, begun, place}
 

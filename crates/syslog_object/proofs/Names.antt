@@ -10,9 +10,10 @@ pub use Rattle.std.proofs.lemmas.List.{map-append, drop_more, nil_from_length, l
 pub use Rattle.json.{proofs.Printed.Plain.plain_from_lanes, specs.Json.Json, specs.Json.string, specs.Print.quoted}
 pub use Rattle.json.specs.{Print.escape, Run.is_plain, Value.items_of, Written.PlainBetween}
 pub use Rattle.syslog_loose.specs.{Line.line_value, Message.MessageValue, declared.message.Protocol.Protocol}
-pub use Rattle.syslog_pieces.specs.{Pieces.Class.Text, Pieces.View.seen, ProcId.procid_text}
-pub use Rattle.syslog_pieces.specs.StructuredData.{Element.ElementValue, Visited.list_elements}
-pub use Rattle.syslog_pieces.specs.StructuredData.Visited.{params_left, element_seen}
+pub use Rattle.syslog_text.specs.{Pieces.Class.Text, Pieces.View.seen}
+pub use Rattle.syslog_pieces.specs.{ProcId.procid_text}
+pub use Rattle.syslog_elements.specs.StructuredData.{Element.ElementValue, Visited.list_elements}
+pub use Rattle.syslog_elements.specs.StructuredData.Visited.{params_left, element_seen}
 pub use Rattle.syslog_object.specs.Gathered.{values_at, first_keys, one_or_all, gathered}
 pub use Rattle.syslog_object.specs.Object.{element_pair, message_json, structured_json, version_json, timestamp_json}
 pub use Rattle.syslog_object.specs.Object.{text_json, unescaped, Field, element_json, param_pair}

@@ -7,9 +7,9 @@ use Rattle.std.proofs.lemmas.Bool.{cases_lt, ne_eqb}
 use Rattle.std.proofs.lemmas.Str.{encode_ascii, inside_one, encodes-append, length-le-encodes}
 use Rattle.std.specs.List.{flat_map, AllByRecursion}
 use lib.Utf8.{encode, encodes}
-use Rattle.syslog_pieces.specs.Pieces.Class.{Text}
-use Rattle.syslog_pieces.specs.StructuredData.Escapes.{TextUnit, pair, single, unit_text, unit_meaning, pair_meaning}
-use Rattle.syslog_pieces.specs.StructuredData.Escapes.{IsUnit, IsUnescaped, is_escaped, lone_backslash}
+use Rattle.syslog_text.specs.Pieces.Class.{Text}
+use Rattle.syslog_elements.specs.StructuredData.Escapes.{TextUnit, pair, single, unit_text, unit_meaning, pair_meaning}
+use Rattle.syslog_elements.specs.StructuredData.Escapes.{IsUnit, IsUnescaped, is_escaped, lone_backslash}
 use Rattle.syslog_object.specs.Object.{unescaped, after_backslash}
 
 -- no byte is a backslash

@@ -1,6 +1,6 @@
 -- The text of the object of elements.
 use Rattle.std.specs.Prelude.{◌≡◌, ℕ, List, [], ◌∷◌, MatchOption, map}
-use Rattle.syslog_pieces.specs.StructuredData.Element.{ElementValue}
+use Rattle.syslog_elements.specs.StructuredData.Element.{ElementValue}
 use Rattle.syslog_object.specs.Gathered.{gathered}
 use Rattle.syslog_object.specs.Object.{element_pair, structured_json}
 use Rattle.syslog_object.specs.Parts.{compact_text}

@@ -2,12 +2,12 @@
 use Rattle.std.specs.Prelude.{ℕ, nat_eq, if◌then◌else◌, true, List, [], ◌∷◌, ◌++◌, Option, Some, None, codes, map}
 use Rattle.std.specs.Prelude.{decimal, encode_utf8_all}
 use Rattle.std.specs.Option.{option_map}
-use Rattle.syslog_pieces.specs.Pieces.Class.{Text}
+use Rattle.syslog_text.specs.Pieces.Class.{Text}
 use Rattle.syslog_pieces.specs.Pri.{facility_name, facility_number, severity_name, severity_number}
 use Rattle.syslog_pieces.specs.ProcId.{procid_text}
-use Rattle.syslog_pieces.specs.StructuredData.Element.{ElementValue}
-use Rattle.syslog_pieces.specs.StructuredData.Escapes.{pair_meaning}
-use Rattle.syslog_pieces.specs.StructuredData.Unparsed.{if_any}
+use Rattle.syslog_elements.specs.StructuredData.Element.{ElementValue}
+use Rattle.syslog_elements.specs.StructuredData.Escapes.{pair_meaning}
+use Rattle.syslog_elements.specs.StructuredData.Unparsed.{if_any}
 use Rattle.syslog_pieces.specs.Timestamp.Printed.{printed_stamp}
 use Rattle.syslog_pieces.specs.declared.timestamp.OffsetTimestamp.{OffsetTimestamp}
 use Rattle.syslog_loose.specs.declared.message.Protocol.{Protocol}

@@ -4,7 +4,7 @@ use Rattle.std.specs.Prelude.{Option, Some, None, codes, encode_utf8_all}
 use Rattle.std.specs.List.{AllByRecursion}
 use Rattle.std.specs.Str.{bytes_eq}
 use Rattle.std.specs.Option.{option_map}
-use Rattle.syslog_pieces.specs.Pieces.Class.{Text}
+use Rattle.syslog_text.specs.Pieces.Class.{Text}
 use Rattle.syslog_pieces.specs.ProcId.{procid_text}
 use Rattle.syslog_loose.specs.Message.{MessageValue}
 use Rattle.syslog_pieces.specs.Pri.{facility_name, facility_number, severity_name, severity_number}

@@ -1,6 +1,6 @@
 -- What a writer has written of the elements that it was given.
 use Rattle.std.specs.Prelude.{◌≡◌, List, ℕ, IsTrue, length, map, take}
-use Rattle.syslog_pieces.specs.StructuredData.Element.{ElementValue}
+use Rattle.syslog_elements.specs.StructuredData.Element.{ElementValue}
 use Rattle.syslog_object.specs.Object.{element_pair}
 use Rattle.syslog_object.specs.Parts.{AreDistinct, open_text}
 use Rattle.syslog_object.specs.declared.writer.ObjectWriter.{ObjectWriter}

@@ -1,6 +1,6 @@
 //! The object of the elements of a line: for each id, the object of its parameters' names and values.
 ghost use Rattle.std.specs.Prelude.{◌≡◌, ◌≤◌, ◌++◌, length, OnOk, map};
-ghost use Rattle.syslog_pieces.specs.StructuredData.Visited.{element_seen, list_elements};
+ghost use Rattle.syslog_elements.specs.StructuredData.Visited.{element_seen, list_elements};
 ghost use Rattle.syslog_object.specs.Gathered.{gathered};
 ghost use Rattle.syslog_object.specs.Object.{element_json, element_pair};
 ghost use Rattle.syslog_object.specs.Parts.{compact_text};
@@ -30,8 +30,8 @@ fn value<'a>(param: &(&'a str, &'a str)) -> &'a str
 
 // A parameter as a member: its name is the key, and its raw value the value.
 impl<'a> Member<'a> for (&'a str, &'a str) {
-    ghost use Rattle.syslog_pieces.specs.Pieces.View.{shown};
-    ghost use Rattle.syslog_pieces.specs.StructuredData.Element.{param_value};
+    ghost use Rattle.syslog_text.specs.Pieces.View.{shown};
+    ghost use Rattle.syslog_elements.specs.StructuredData.Element.{param_value};
     ghost use Rattle.syslog_object.specs.Object.{param_pair};
 
     ghost key_of = { λ param. (param_pair (param_value (λ s. shown s) param)).0 };
@@ -51,7 +51,7 @@ impl<'a> Member<'a> for (&'a str, &'a str) {
 
 impl<'a> Member<'a> for Element<'a> {
     ghost use Rattle.std.specs.Prelude.{encode_utf8_all};
-    ghost use Rattle.syslog_pieces.specs.StructuredData.Visited.{element_seen};
+    ghost use Rattle.syslog_elements.specs.StructuredData.Visited.{element_seen};
     ghost use Rattle.syslog_object.specs.Object.{element_json};
 
     ghost key_of = { λ element. encode_utf8_all (element_seen element).id };

@@ -1,7 +1,7 @@
 //! A law of the object's definitions: the function does nothing, and its contract is the law.
 ghost use Rattle.std.specs.Prelude.{◌≡◌, encode_utf8_all};
-ghost use Rattle.syslog_pieces.specs.Pieces.Class.{Text};
-ghost use Rattle.syslog_pieces.specs.StructuredData.Escapes.{IsUnescaped};
+ghost use Rattle.syslog_text.specs.Pieces.Class.{Text};
+ghost use Rattle.syslog_elements.specs.StructuredData.Escapes.{IsUnescaped};
 ghost use Rattle.syslog_object.specs.Object.{unescaped};
 
 /// Removing the escapes from the bytes of a value and from its characters gives the same text. Both are defined by the

@@ -1,9 +1,9 @@
 //! The object of a line.
 ghost use Rattle.std.specs.Prelude.{◌≡◌, ◌++◌, IfOk, OnOk, codes};
-ghost use Rattle.syslog_pieces.specs.Pieces.View.{seen};
+ghost use Rattle.syslog_text.specs.Pieces.View.{seen};
 ghost use Rattle.syslog_loose.specs.Line.{line_value};
-ghost use Rattle.syslog_pieces.specs.StructuredData.Visited.{list_elements};
-ghost use Rattle.syslog_pieces.specs.Pieces.Class.{Text};
+ghost use Rattle.syslog_elements.specs.StructuredData.Visited.{list_elements};
+ghost use Rattle.syslog_text.specs.Pieces.Class.{Text};
 ghost use Rattle.syslog_loose.specs.Unparsed.{IsLeftUnparsed};
 ghost use Rattle.syslog_object.specs.Object.{beside_line, message_json, refused_json, structured_json};
 ghost use Rattle.syslog_object.specs.Parts.{IsSmallVersion, back_fields, compact_text};

@@ -3,12 +3,12 @@ ghost use Rattle.std.specs.Prelude.{◌≡◌, ◌≢◌, ◌≤◌, ◌++◌, �
 ghost use Rattle.std.specs.Prelude.{codes, cond, length, map, take};
 ghost use Rattle.std.specs.Bool.{OnTrue};
 ghost use Rattle.json.specs.Print.{quoted};
-ghost use Rattle.syslog_pieces.specs.Pieces.View.{seen, shown};
-ghost use Rattle.syslog_pieces.specs.StructuredData.Collected.{HasNoted};
-ghost use Rattle.syslog_pieces.specs.StructuredData.Element.{ElementValue, param_value};
-ghost use Rattle.syslog_pieces.specs.StructuredData.Visited.{element_seen, list_elements};
+ghost use Rattle.syslog_text.specs.Pieces.View.{seen, shown};
+ghost use Rattle.syslog_elements.specs.StructuredData.Collected.{HasNoted};
+ghost use Rattle.syslog_elements.specs.StructuredData.Element.{ElementValue, param_value};
+ghost use Rattle.syslog_elements.specs.StructuredData.Visited.{element_seen, list_elements};
 ghost use Rattle.syslog_loose.specs.Line.{line_value};
-ghost use Rattle.syslog_pieces.specs.Pieces.Class.{Text};
+ghost use Rattle.syslog_text.specs.Pieces.Class.{Text};
 ghost use Rattle.syslog_loose.specs.Unparsed.{IsLeftUnparsed};
 ghost use Rattle.syslog_object.specs.Elements.{IsStructuredText, elements_text};
 ghost use Rattle.syslog_object.specs.Object.{beside_line, message_json, param_pair, structured_json};
@@ -22,8 +22,8 @@ use crate::gather::{are_distinct, push_each, push_key};
 use crate::object::{push_back, push_front, push_list};
 use crate::output::Output;
 use std::alloc::{AllocError, Global};
+use syslog_elements::structured_data::{Element, ElementVisitor, FewParams};
 use syslog_loose::{ElementList, Line};
-use syslog_pieces::structured_data::{Element, ElementVisitor, FewParams};
 
 /// How many elements are written while the line is read.
 const IDS: usize = 8;

@@ -8,8 +8,8 @@ use Rattle.syslog_pieces.specs.Pri.{facility_number, severity_number, facilities
 use Rattle.syslog_pieces.specs.Pri.{composed}
 use Rattle.syslog_pieces.specs.declared.pri.SyslogFacility.{SyslogFacility}
 use Rattle.syslog_pieces.specs.declared.pri.SyslogSeverity.{SyslogSeverity}
-use Rattle.syslog_pieces.proofs.PieceLemmas.Class.{Fails}
-use Rattle.syslog_pieces.proofs.TextLemmas.Words.{one_digit, two_digits, three_digits, number_det}
+use Rattle.syslog_text.proofs.PieceLemmas.Class.{Fails}
+use Rattle.syslog_text.proofs.TextLemmas.Words.{one_digit, two_digits, three_digits, number_det}
 
 pub priority_row_det : AllDeterministic priority_row
 priority_row_det = (exactly_det (60 ∷ []), (number_det 255, (exactly_det (62 ∷ []), tt)))

@@ -12,11 +12,13 @@ use Rattle.syslog_pieces.proofs.Names.{inr, w32, ◌∷◌, Err, sym, ◌∙◌,
 use Rattle.syslog_pieces.proofs.Names.{◌≢◌, ◌^◌, zero, decimal_digit, nat_tests}
 use Rattle.std.proofs.lemmas.Fmt.{decimal_is_IsNumeral, first_decimal}
 use Rattle.std.proofs.lemmas.Str.Parse.{IsNumeralModel, numerals_by_value}
-use Rattle.syslog_pieces.specs.Bodies.Looks.{BeginsNegative}
+use Rattle.syslog_text.specs.Bodies.Looks.{BeginsNegative}
 use Rattle.syslog_pieces.specs.ProcId.{procid_text, has_32_bits, is_signed_text, named_process, IsNoI32Text, IsBareWord}
-use Rattle.syslog_pieces.proofs.TextLemmas.Runs.{digits_ascii, ascii_ahead, ascii_chars}
-use Rattle.syslog_pieces.proofs.TextLemmas.Words.{own, word_det, false_is, last_is, decimal_digits, digits_visible}
-use Rattle.syslog_pieces.proofs.TextLemmas.Words.{word_back, word_canonical}
+use Rattle.syslog_pieces.specs.ProcId.{process_texts}
+use Rattle.syslog_text.proofs.PieceLemmas.Lists.{Quotes, part_same}
+use Rattle.syslog_text.proofs.TextLemmas.Runs.{digits_ascii, ascii_ahead, ascii_chars}
+use Rattle.syslog_text.proofs.TextLemmas.Words.{own, word_det, false_is, last_is, decimal_digits, digits_visible}
+use Rattle.syslog_text.proofs.TextLemmas.Words.{word_back, word_canonical}
 
 -- ---- a text writes one number
 
@@ -308,3 +310,9 @@ pub name_told : (bytes text : List ℕ) (process : ProcId Text) (w number : Bool
     → IsTrue number ↔ (IsNoI32Text (chars bytes) → ⊥) → IsTrue (not number) ↔ IsCanonicalProcess process
 name_told bytes text process w number e p canonical is number_told =
     rw (p, ← e) (last_is (not number) (canonical.0 is) (no_number_told (chars bytes) number number_told))
+
+-- ---- the text that a process id means is a part of its piece
+pub process_quotes : Quotes process_word process_texts
+process_quotes p q None h = tt
+process_quotes p q (Some (PID n)) h = tt
+process_quotes p q (Some (Name t)) (u, w, k) = (part_same p t (k.1 ∙ w.4.0), tt)

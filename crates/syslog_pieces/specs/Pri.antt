@@ -1,8 +1,8 @@
 -- The priority, and the facility and the severity that it is composed of (RFC 5424 section 6.2.1).
 use Rattle.std.specs.Prelude.{ℕ, Bool, codes, nat_eq, ◌+◌, ◌*◌, ◌/◌, ◌%◌, List, [], ◌∷◌, ◌++◌, Option, slice_get}
 use Rattle.std.specs.Fmt.{decimal}
-use Rattle.syslog_pieces.specs.Pieces.Class.{Text, Class, Row, exactly}
-use Rattle.syslog_pieces.specs.Text.{number}
+use Rattle.syslog_text.specs.Pieces.Class.{Text, Class, Row, exactly}
+use Rattle.syslog_text.specs.Text.{number}
 use Rattle.syslog_pieces.specs.declared.pri.SyslogFacility.{SyslogFacility}
 use Rattle.syslog_pieces.specs.declared.pri.SyslogFacility.TheVariants.{LOG_KERN, LOG_USER, LOG_MAIL, LOG_DAEMON}
 use Rattle.syslog_pieces.specs.declared.pri.SyslogFacility.TheVariants.{LOG_AUTH, LOG_SYSLOG, LOG_LPR, LOG_NEWS}

@@ -8,9 +8,9 @@ use Rattle.std.specs.Int.{w32}
 use Rattle.std.specs.Char.{is_ascii_digit}
 use Rattle.std.specs.Fmt.{signed_decimal}
 use Rattle.std.specs.Str.Parse.{IsNumeral, signed_digits_value, without_leading_sign}
-use Rattle.syslog_pieces.specs.Pieces.Class.{Text, Class}
-use Rattle.syslog_pieces.specs.Text.{word, dash}
-use Rattle.syslog_pieces.specs.Text.Canonical.{IsCanonicalWord}
+use Rattle.syslog_text.specs.Pieces.Class.{Text, Class}
+use Rattle.syslog_text.specs.Text.{word, dash}
+use Rattle.syslog_text.specs.Text.Canonical.{IsCanonicalWord}
 use Rattle.syslog_pieces.specs.declared.procid.ProcId.{ProcId}
 use Rattle.syslog_pieces.specs.declared.procid.ProcId.TheVariants.{PID, Name}
 

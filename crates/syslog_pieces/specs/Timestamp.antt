@@ -9,8 +9,8 @@ pub mod Zone
 use Rattle.std.specs.Prelude.{◌≡◌, ◌-ℤ◌, ℕ, List, [], ◌∷◌, Option, Some, None, MatchOption}
 use Rattle.std.specs.Option.{option_map}
 use Rattle.jiff.specs.Words.{nanos_of_seconds}
-use Rattle.syslog_pieces.specs.Pieces.Class.{Text, Class}
-use Rattle.syslog_pieces.specs.Text.{dash}
+use Rattle.syslog_text.specs.Pieces.Class.{Text, Class}
+use Rattle.syslog_text.specs.Text.{dash}
 use Rattle.syslog_pieces.specs.declared.timestamp.OffsetTimestamp.{OffsetTimestamp}
 use Rattle.syslog_pieces.specs.declared.timestamp.clock.ClockStamp.{ClockStamp}
 use Rattle.syslog_pieces.specs.declared.timestamp.rfc3339_text.Rfc3339Fields.{Rfc3339Fields}

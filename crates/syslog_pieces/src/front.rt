@@ -11,11 +11,11 @@ ghost use Rattle.syslog_pieces.specs.Pri.{priority_text};
 ghost use Rattle.syslog_pieces.specs.Timestamp.Fields.{AreCivil};
 ghost use Rattle.syslog_pieces.specs.Timestamp.Printed.{date_time_text, fraction_text, offset_text, printed_stamp};
 
-use crate::text::write_ascii::{ascii_digit, three_digits, two_digits};
 use crate::timestamp::fields::{CivilFields, datetime_fields};
 use crate::timestamp::{ClockStamp, OffsetTimestamp};
 use jiff::tz::Offset;
 use std::{fmt, str};
+use syslog_text::text::write_ascii::{ascii_digit, three_digits, two_digits};
 
 /// A text of at most 64 ASCII characters, held in an array.
 #[derive(Clone, Copy)]
@@ -83,7 +83,7 @@ impl Ascii {
     }
 
     // Appends a number in decimal digits.
-    #[tactic(auto, using(crate::proofs::TextLemmas::Words::decimal_steps))]
+    #[tactic(auto, using(syslog_text::proofs::TextLemmas::Words::decimal_steps))]
     fn push_number(&mut self, number: u32)
         requires room { self.old.length + length (decimal number) ≤ 64 }
         ensures text { ascii_bytes self.new ≡ ascii_bytes self.old ++ decimal number }
@@ -98,7 +98,7 @@ impl Ascii {
     }
 
     // Appends the version of RFC 5424, if there is one.
-    #[tactic(auto, using(crate::proofs::TextLemmas::Words::ten_digits))]
+    #[tactic(auto, using(syslog_text::proofs::TextLemmas::Words::ten_digits))]
     #[inline(always)]
     fn push_version(&mut self, version: Option<u32>)
         requires room { self.old.length + 10 ≤ 64 }

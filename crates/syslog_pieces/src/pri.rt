@@ -7,8 +7,8 @@ ghost use Rattle.syslog_pieces.specs.Words.{WritesOnOk, Front, optional, shown, 
 ghost use Rattle.syslog_pieces.specs.Pri.{priority_text};
 ghost use Rattle.syslog_pieces.specs.Pri as spec;
 
-use crate::text::{literal, number};
 use std::fmt;
+use syslog_text::text::{literal, number};
 
 /// The facility: which part of a system a message comes from. Its number is the discriminant.
 #[derive(Clone, Copy, Debug, PartialEq, Eq, PartialOrd, Ord)]

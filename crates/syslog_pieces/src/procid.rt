@@ -9,11 +9,11 @@ ghost use Rattle.syslog_pieces.specs.ProcId.Equal.{procid_eq};
 ghost use Rattle.syslog_pieces.specs.ProcId.EqualLaws.{procid_equivalence};
 ghost use Rattle.syslog_pieces.specs.ProcId as spec;
 
-use crate::as_str::{AsStr, is_same_text};
-use crate::text::canonical::is_canonical_word;
-use crate::text::{begins_negative, leads_bare};
 use std::alloc::{AllocError, Global};
 use std::fmt;
+use syslog_text::as_str::{AsStr, is_same_text};
+use syslog_text::text::canonical::is_canonical_word;
+use syslog_text::text::{begins_negative, leads_bare};
 
 /// The process that a message is from, by number or by name.
 #[derive(Debug, Drop)]

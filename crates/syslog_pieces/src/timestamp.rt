@@ -29,7 +29,6 @@ pub mod pairs;
 mod rfc3339_text;
 pub mod zone;
 
-use crate::text::literal;
 pub use clock::ClockStamp;
 pub use fields::CivilFields;
 pub use instant::{clock_stamp, stamp_of};
@@ -37,6 +36,7 @@ use jiff::Timestamp;
 use jiff::tz::Offset;
 pub use month_date::MonthDate;
 use std::cmp::Ordering;
+use syslog_text::text::literal;
 pub use zone::year_at;
 
 /// An instant, and how far the clock that showed it is ahead of UTC.

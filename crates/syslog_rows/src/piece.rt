@@ -6,16 +6,16 @@ use crate::setting::Setting;
 use std::alloc::Global;
 use std::io;
 use std::io::Write;
+use syslog_elements::structured_data::rfc3164_list::{DashRule, begins_list};
+use syslog_elements::structured_data::{NoElements, visit_forgiving_list, visit_rfc3164_list};
 use syslog_loose::{ElementList, ProcId};
 use syslog_pieces::pri::optional_priority;
-use syslog_pieces::structured_data::rfc3164_list::{DashRule, begins_list};
-use syslog_pieces::structured_data::{NoElements, visit_forgiving_list, visit_rfc3164_list};
-use syslog_pieces::text::{
-    Field, blanks, host, host_field, number, some_blanks, tag_field, tag_word, trimmed, word,
-};
 use syslog_pieces::timestamp::month_date::{MonthDate, month_date};
 use syslog_pieces::timestamp::zone::{Dating, month_stamp};
 use syslog_pieces::timestamp::{ClockStamp, header_stamp};
+use syslog_text::text::{
+    Field, blanks, host, host_field, number, some_blanks, tag_field, tag_word, trimmed, word,
+};
 
 //// A text at whose front a piece is read, and the part that its block repeats.
 #[derive(Clone, Copy)]

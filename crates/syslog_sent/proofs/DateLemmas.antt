@@ -1,15 +1,15 @@
 -- A text has one front of each class of a date.
 use Rattle.std.proofs.Common.{◌≡◌, ℕ, Bool, true, false, [], ◌∷◌, sym, subst, ◌∙◌, arith}
-use Rattle.syslog_pieces.specs.Pieces.Class.{Text, Class, Front, NoFront, IsDeterministic, Row, exactly}
-use Rattle.syslog_pieces.specs.Pieces.Rules.{◌or◌, such_that}
-use Rattle.syslog_pieces.specs.Text.{number}
+use Rattle.syslog_text.specs.Pieces.Class.{Text, Class, Front, NoFront, IsDeterministic, Row, exactly}
+use Rattle.syslog_text.specs.Pieces.Rules.{◌or◌, such_that}
+use Rattle.syslog_text.specs.Text.{number}
 use Rattle.syslog_pieces.specs.Timestamp.{header_stamp}
 use Rattle.syslog_pieces.specs.Timestamp.Rfc3339.{pair, year}
-use Rattle.syslog_pieces.proofs.PieceLemmas.Class.{AllDeterministic, ◌also◌, exactly_det, optional_det, mapped_det}
-use Rattle.syslog_pieces.proofs.PieceLemmas.Class.{row_det, after_det}
-use Rattle.syslog_pieces.proofs.PieceLemmas.Class.{front_of, no_front_no}
-use Rattle.syslog_pieces.proofs.PieceLemmas.Rules.{exactly_apart, or_det, such_det}
-use Rattle.syslog_pieces.proofs.TextLemmas.Words.{number_det}
+use Rattle.syslog_text.proofs.PieceLemmas.Class.{AllDeterministic, ◌also◌, exactly_det, optional_det, mapped_det}
+use Rattle.syslog_text.proofs.PieceLemmas.Class.{row_det, after_det}
+use Rattle.syslog_text.proofs.PieceLemmas.Class.{front_of, no_front_no}
+use Rattle.syslog_text.proofs.PieceLemmas.Rules.{exactly_apart, or_det, such_det}
+use Rattle.syslog_text.proofs.TextLemmas.Words.{number_det}
 use Rattle.syslog_pieces.proofs.TimestampLemmas.MonthDate.{month_date_det}
 use Rattle.syslog_pieces.proofs.TimestampLemmas.Rfc3339.{pair_det, year_det, decimals_det}
 use Rattle.syslog_sent.specs.Date.{point, fraction_row, fraction, late_fraction_row, late_fraction, year_after}

@@ -1,7 +1,7 @@
 -- The forms of a list: the first one of them that divides a text.
 use Rattle.std.proofs.Common.{◌≡◌, inl, inr, refl, subst, sym}
 use Rattle.std.specs.Prelude.{List, [], ◌∷◌, ◌++◌, Option, Some, None}
-use Rattle.syslog_pieces.specs.Pieces.Class.{Text, NoDivision}
+use Rattle.syslog_text.specs.Pieces.Class.{Text, NoDivision}
 use Rattle.syslog_sent.specs.Forms.{Finds, IsOfFirst, IsOfNone, IsOnlyOf}
 use Rattle.syslog_sent.specs.Sent.{Form, IsOnlySent, SentValue, sent_value}
 use Rattle.syslog_sent.specs.declared.dialect.Dialect.{Dialect}

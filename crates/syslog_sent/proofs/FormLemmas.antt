@@ -1,7 +1,7 @@
 -- What the readers of forms return.
 use Rattle.std.proofs.Common.{◌≡◌, List, [], ◌∷◌, Option, sym, ap, ◌∙◌}
-use Rattle.syslog_pieces.specs.Pieces.Class.{Text, Class, Values, Front, Row, NoDivision}
-use Rattle.syslog_pieces.proofs.PieceLemmas.Class.{AllDeterministic, front_division, match_map, unique_division}
+use Rattle.syslog_text.specs.Pieces.Class.{Text, Class, Values, Front, Row, NoDivision}
+use Rattle.syslog_text.proofs.PieceLemmas.Class.{AllDeterministic, front_division, match_map, unique_division}
 use Rattle.syslog_sent.specs.Forms.{Finds}
 use Rattle.syslog_sent.specs.Sent.{Form, IsOnlySent, SentValue, sent_value}
 use Rattle.syslog_sent.specs.declared.sent.Sent.{Sent}

@@ -3,11 +3,11 @@ use Rattle.std.proofs.Common.{◌≡◌, inl, inr, ℕ, ◌<◌, ◌≤◌, List
 use Rattle.std.proofs.Common.{arith, length-append}
 use Rattle.std.proofs.lemmas.Str.{encodes-append, encodes-chars, length-le-encodes}
 use Rattle.std.specs.Str.{IsUtf8, chars, encode_utf8_all}
-use Rattle.syslog_pieces.specs.Pieces.Class.{Text, Values, Front, NoFront, Row}
+use Rattle.syslog_text.specs.Pieces.Class.{Text, Values, Front, NoFront, Row}
 use Rattle.syslog_pieces.specs.Timestamp.Rfc3339.{year}
-use Rattle.syslog_pieces.proofs.PieceLemmas.Class.{front_of, mapped_front, no_mapped}
-use Rattle.syslog_pieces.proofs.PieceLemmas.Class.{row_pieces}
-use Rattle.syslog_pieces.proofs.PieceLemmas.Lists.{Begins, begins_apart}
+use Rattle.syslog_text.proofs.PieceLemmas.Class.{front_of, mapped_front, no_mapped}
+use Rattle.syslog_text.proofs.PieceLemmas.Class.{row_pieces}
+use Rattle.syslog_text.proofs.PieceLemmas.Lists.{Begins, begins_apart}
 use Rattle.syslog_pieces.proofs.TimestampLemmas.MonthDate.{IsLetter, month_date_begins}
 use Rattle.syslog_sent.specs.Date.{any_date, bsd_date, bsd_of, bsd_row, iso_date, iso_row, one_of_dates}
 use Rattle.syslog_sent.specs.Led.{IsDate, date_of}

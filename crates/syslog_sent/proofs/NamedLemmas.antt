@@ -11,25 +11,25 @@ use Rattle.std.specs.Borrow.{Bor}
 use Rattle.std.specs.Prelude.{IsTrue, nat_lt}
 use Rattle.std.specs.Str.{IsAscii, IsUtf8, encode_utf8_all, NoCharPasses, NonePass}
 use Rattle.std.specs.Str.Pattern.{FindsTextPrefix, StripsPrefix}
-use Rattle.syslog_pieces.specs.Pieces.Class.{Each}
-use Rattle.syslog_pieces.specs.Pieces.View.{Reads, Recognises, Skips, shown, text_eq}
+use Rattle.syslog_text.specs.Pieces.Class.{Each}
+use Rattle.syslog_text.specs.Pieces.View.{Reads, Recognises, Skips, shown, text_eq}
 use Rattle.std.specs.Str.{chars}
 use Rattle.std.specs.Char.{is_not_whitespace}
-use Rattle.syslog_pieces.specs.Bodies.Scan.{SplitsRun}
-use Rattle.syslog_pieces.specs.Pieces.Class.{Text, Class, Values, Front, NoFront, IsDeterministic, Row, some_run}
-use Rattle.syslog_pieces.specs.Pieces.Class.{exactly}
-use Rattle.syslog_pieces.specs.Pieces.Class.{mapped, texted}
-use Rattle.syslog_pieces.specs.Pieces.Rules.{such_that}
-use Rattle.syslog_pieces.specs.Text.{is_blank}
-use Rattle.syslog_pieces.specs.Text.CharClass.{is_id_char, is_label_char}
-use Rattle.syslog_pieces.proofs.PieceLemmas.Class.{AllDeterministic, ◌also◌, exactly_det, rest_det, optional_det}
-use Rattle.syslog_pieces.proofs.PieceLemmas.Class.{mapped_det}
-use Rattle.syslog_pieces.proofs.PieceLemmas.Class.{texted_det, row_det, some_run_det, front_of, no_front_no}
-use Rattle.syslog_pieces.proofs.PieceLemmas.Class.{Fails}
-use Rattle.syslog_pieces.proofs.PieceLemmas.Class.{no_row, no_mapped}
-use Rattle.syslog_pieces.proofs.PieceLemmas.Rules.{such_det}
-use Rattle.syslog_pieces.proofs.TextLemmas.Runs.{ascii_ahead, ascii_front, chars_nonempty, run_is}
-use Rattle.syslog_pieces.proofs.TextLemmas.Words.{host_det}
+use Rattle.syslog_text.specs.Bodies.Scan.{SplitsRun}
+use Rattle.syslog_text.specs.Pieces.Class.{Text, Class, Values, Front, NoFront, IsDeterministic, Row, some_run}
+use Rattle.syslog_text.specs.Pieces.Class.{exactly}
+use Rattle.syslog_text.specs.Pieces.Class.{mapped, texted}
+use Rattle.syslog_text.specs.Pieces.Rules.{such_that}
+use Rattle.syslog_text.specs.Text.{is_blank}
+use Rattle.syslog_text.specs.Text.CharClass.{is_id_char, is_label_char}
+use Rattle.syslog_text.proofs.PieceLemmas.Class.{AllDeterministic, ◌also◌, exactly_det, rest_det, optional_det}
+use Rattle.syslog_text.proofs.PieceLemmas.Class.{mapped_det}
+use Rattle.syslog_text.proofs.PieceLemmas.Class.{texted_det, row_det, some_run_det, front_of, no_front_no}
+use Rattle.syslog_text.proofs.PieceLemmas.Class.{Fails}
+use Rattle.syslog_text.proofs.PieceLemmas.Class.{no_row, no_mapped}
+use Rattle.syslog_text.proofs.PieceLemmas.Rules.{such_det}
+use Rattle.syslog_text.proofs.TextLemmas.Runs.{ascii_ahead, ascii_front, chars_nonempty, run_is}
+use Rattle.syslog_text.proofs.TextLemmas.Words.{host_det}
 use Rattle.syslog_sent.specs.Named.{◌otherwise◌, after_row, beginning, hosted, BeginsWith, begins_name, name}
 use Rattle.syslog_sent.specs.Named.{id_row, id_of, process_id}
 use Rattle.syslog_sent.specs.Named.{program_row, program_of, program, ProgramText}

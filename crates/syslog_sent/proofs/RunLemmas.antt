@@ -7,9 +7,9 @@ use Rattle.std.proofs.lemmas.Bool.Decides.{nat_tests}
 use Rattle.std.proofs.lemmas.List.{get_or-take}
 use Rattle.std.proofs.lemmas.Str.{IsUtf8-drop, chars-IsAscii, chars_from_encodes}
 use Rattle.std.specs.Str.{IsUtf8, NoCharPasses, NonePass, chars}
-use Rattle.syslog_pieces.specs.Bodies.Scan.{EndsRun}
-use Rattle.syslog_pieces.specs.Pieces.Class.{Each, Text}
-use Rattle.syslog_pieces.proofs.TextLemmas.Runs.{ascii_cut, ends_by_byte, ends_run, first_left, low_ascii}
+use Rattle.syslog_text.specs.Bodies.Scan.{EndsRun}
+use Rattle.syslog_text.specs.Pieces.Class.{Each, Text}
+use Rattle.syslog_text.proofs.TextLemmas.Runs.{ascii_cut, ends_by_byte, ends_run, first_left, low_ascii}
 use Rattle.syslog_sent.specs.Runs.{is_either_char, is_plain_char, is_unquoted, is_word_char}
 
 each_by_place : (h : ℕ → Bool) (bs : List ℕ) → ((k : ℕ) → k < length bs → h (get_or bs k 0) ≡ true) → Each h bs

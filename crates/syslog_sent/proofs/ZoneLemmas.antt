@@ -1,14 +1,14 @@
 -- A text has one front of each class of a zone.
 use Rattle.std.proofs.Common.{◌≡◌, ◌∙◌, ◌++◌, ℕ, ℤ, Bool, true, false, List, [], ◌∷◌, Option, refl, sym, subst, arith}
-use Rattle.syslog_pieces.specs.Pieces.Class.{Text, Class, Front, NoFront, IsDeterministic, Row, Ends, exactly}
-use Rattle.syslog_pieces.specs.Pieces.Class.{optional, some_run}
-use Rattle.syslog_pieces.specs.Text.{is_tag_char, is_blank, colon}
+use Rattle.syslog_text.specs.Pieces.Class.{Text, Class, Front, NoFront, IsDeterministic, Row, Ends, exactly}
+use Rattle.syslog_text.specs.Pieces.Class.{optional, some_run}
+use Rattle.syslog_text.specs.Text.{is_tag_char, is_blank, colon}
 use Rattle.syslog_pieces.specs.Timestamp.Rfc3339.{sign, seconds_of}
-use Rattle.syslog_pieces.proofs.PieceLemmas.Class.{AllDeterministic, ◌also◌, exactly_det, optional_det, mapped_det}
-use Rattle.syslog_pieces.proofs.PieceLemmas.Class.{texted_det, row_det}
-use Rattle.syslog_pieces.proofs.PieceLemmas.Class.{some_run_det, run_det, front_of, front_same, Fails, no_row}
-use Rattle.syslog_pieces.proofs.PieceLemmas.Class.{no_mapped}
-use Rattle.syslog_pieces.proofs.PieceLemmas.Rules.{such_det}
+use Rattle.syslog_text.proofs.PieceLemmas.Class.{AllDeterministic, ◌also◌, exactly_det, optional_det, mapped_det}
+use Rattle.syslog_text.proofs.PieceLemmas.Class.{texted_det, row_det}
+use Rattle.syslog_text.proofs.PieceLemmas.Class.{some_run_det, run_det, front_of, front_same, Fails, no_row}
+use Rattle.syslog_text.proofs.PieceLemmas.Class.{no_mapped}
+use Rattle.syslog_text.proofs.PieceLemmas.Rules.{such_det}
 use Rattle.syslog_pieces.proofs.TimestampLemmas.Rfc3339.{pair_det, numeric_det}
 use Rattle.syslog_sent.specs.Zone.{bare_word, ended, minutes_row, minutes, offset_row}
 use Rattle.syslog_sent.specs.Named.{◌otherwise◌, BeginsWith}
@@ -20,8 +20,8 @@ use Rattle.std.proofs.lemmas.Str.{IsUtf8-from_ascii, chars-IsAscii}
 use Rattle.std.specs.Cmp.Lexicographic.{same_text}
 use Rattle.std.specs.Prelude.{◌&&◌, ◌||◌, IsTrue}
 use Rattle.std.specs.Str.{IsUtf8, chars}
-use Rattle.syslog_pieces.specs.Pieces.View.{text_eq}
-use Rattle.syslog_pieces.proofs.TextLemmas.Runs.{same_chars}
+use Rattle.syslog_text.specs.Pieces.View.{text_eq}
+use Rattle.syslog_text.proofs.TextLemmas.Runs.{same_chars}
 use Rattle.syslog_sent.specs.Runs.{are_ascii}
 use Rattle.syslog_sent.specs.Date.{IsDay, day_words}
 use Rattle.syslog_sent.specs.Zone.{has_shape, is_among, is_capital, zone_words}

@@ -6,9 +6,9 @@ use Rattle.std.proofs.Common.{inl, inr}
 use Rattle.std.specs.Prelude.{◌≡◌, ◌⊎◌, ℕ, min, ◌&&◌, Bool, false, List, [], ◌∷◌, ◌++◌, Option, Some, None}
 use Rattle.std.specs.Prelude.{unwrap_or, is_none}
 use Rattle.std.specs.Option.{option_flatten}
-use Rattle.syslog_pieces.specs.Pieces.Class.{Class, Values, Row, NoFront, exactly, optional, mapped, after, spaced}
-use Rattle.syslog_pieces.specs.Pieces.Rules.{◌or◌, such_that}
-use Rattle.syslog_pieces.specs.Text.{number}
+use Rattle.syslog_text.specs.Pieces.Class.{Class, Values, Row, NoFront, exactly, optional, mapped, after, spaced}
+use Rattle.syslog_text.specs.Pieces.Rules.{◌or◌, such_that}
+use Rattle.syslog_text.specs.Text.{number}
 use Rattle.syslog_pieces.specs.Timestamp.{header_stamp}
 use Rattle.syslog_pieces.specs.Timestamp.MonthDate.{month_date}
 use Rattle.syslog_pieces.specs.Timestamp.Rfc3339.{pair, year, decimals}
@@ -17,7 +17,7 @@ use Rattle.syslog_sent.specs.Named.{◌otherwise◌}
 use Rattle.syslog_sent.specs.Zone.{ended, zone}
 use Rattle.syslog_sent.specs.declared.sent.SentDate.{SentDate}
 use Rattle.std.specs.Prelude.{true, codes, map, chars}
-use Rattle.syslog_pieces.specs.Pieces.Class.{Text}
+use Rattle.syslog_text.specs.Pieces.Class.{Text}
 use Rattle.syslog_sent.specs.Zone.{bare_word, is_among}
 
 -- ---- fractions

@@ -1,5 +1,5 @@
 -- How clauses see the structs of the readers.
-use Rattle.syslog_pieces.specs.Pieces.Class.{Values}
+use Rattle.syslog_text.specs.Pieces.Class.{Values}
 use Rattle.syslog_sent.specs.Date.{bsd_row, iso_row}
 use Rattle.syslog_sent.specs.declared.date.BsdDate.{BsdDate}
 use Rattle.syslog_sent.specs.declared.date.IsoDate.{IsoDate}

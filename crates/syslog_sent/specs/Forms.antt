@@ -1,6 +1,6 @@
 -- Lists of forms: a text is of the first one that divides it.
 use Rattle.std.specs.Prelude.{◌≡◌, ◌⊎◌, List, [], ◌∷◌, Option, MatchOption}
-use Rattle.syslog_pieces.specs.Pieces.Class.{Text, NoDivision}
+use Rattle.syslog_text.specs.Pieces.Class.{Text, NoDivision}
 use Rattle.syslog_sent.specs.Sent.{Form, IsSent, SentValue, sent_value}
 use Rattle.syslog_sent.specs.declared.dialect.Dialect.{Dialect}
 use Rattle.syslog_sent.specs.declared.sent.Sent.{Sent}

@@ -2,9 +2,9 @@
 use Rattle.std.specs.Prelude.{◌≡◌, Option, MatchOption}
 use Rattle.std.specs.Borrow.{Bor}
 use Rattle.std.specs.Prelude.{List, ℕ}
-use Rattle.syslog_pieces.specs.Pieces.Class.{Text, Front, NoFront, Row, run}
-use Rattle.syslog_pieces.specs.Pieces.View.{shown}
-use Rattle.syslog_pieces.specs.Text.{is_blank}
+use Rattle.syslog_text.specs.Pieces.Class.{Text, Front, NoFront, Row, run}
+use Rattle.syslog_text.specs.Pieces.View.{shown}
+use Rattle.syslog_text.specs.Text.{is_blank}
 use Rattle.syslog_sent.specs.Date.{any_date, bsd_of, bsd_row, iso_date}
 use Rattle.syslog_sent.specs.DateViews.{bsd_values}
 use Rattle.syslog_sent.specs.declared.led.Led.{Led}

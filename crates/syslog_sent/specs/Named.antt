@@ -2,11 +2,11 @@
 use Rattle.std.proofs.Common.{inl, inr}
 use Rattle.std.specs.Prelude.{◌≡◌, ◌⊎◌, ℕ, Bool, true, nat_eq, ◌||◌, List, [], ◌∷◌, ◌++◌, Option, Some, None}
 use Rattle.std.specs.Char.{is_ascii_alphabetic}
-use Rattle.syslog_pieces.specs.Pieces.Class.{Text, Class, Values, Front, NoFront, Row, some_run, exactly, optional}
-use Rattle.syslog_pieces.specs.Pieces.Class.{mapped, texted}
-use Rattle.syslog_pieces.specs.Pieces.Rules.{such_that}
-use Rattle.syslog_pieces.specs.Text.{colon, host, is_blank}
-use Rattle.syslog_pieces.specs.Text.CharClass.{is_id_char, is_label_char}
+use Rattle.syslog_text.specs.Pieces.Class.{Text, Class, Values, Front, NoFront, Row, some_run, exactly, optional}
+use Rattle.syslog_text.specs.Pieces.Class.{mapped, texted}
+use Rattle.syslog_text.specs.Pieces.Rules.{such_that}
+use Rattle.syslog_text.specs.Text.{colon, host, is_blank}
+use Rattle.syslog_text.specs.Text.CharClass.{is_id_char, is_label_char}
 
 -- ---- words of the theory
 

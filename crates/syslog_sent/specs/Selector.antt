@@ -1,9 +1,9 @@
 -- The severity as a word before a program, and the facility before it: `daemon.info`. 46 is `.`.
 use Rattle.std.specs.Prelude.{Bool, IsTrue, ◌||◌, List, [], ◌∷◌, codes}
 use Rattle.std.specs.Char.{is_not_whitespace}
-use Rattle.syslog_pieces.specs.Pieces.Class.{Text, Class, some_run, exactly, texted}
-use Rattle.syslog_pieces.specs.Pieces.Rules.{such_that}
-use Rattle.syslog_pieces.specs.Pieces.View.{text_eq}
+use Rattle.syslog_text.specs.Pieces.Class.{Text, Class, some_run, exactly, texted}
+use Rattle.syslog_text.specs.Pieces.Rules.{such_that}
+use Rattle.syslog_text.specs.Pieces.View.{text_eq}
 use Rattle.syslog_sent.specs.Runs.{is_plain_char}
 
 abbrev pub is_grave : Text → Bool

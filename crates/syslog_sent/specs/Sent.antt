@@ -1,7 +1,7 @@
 -- What a line says, but for its priority, and the forms that say it: each is a row of pieces and what they mean.
 use Rattle.std.specs.Prelude.{◌≡◌, ℕ, List, Option, None, MatchOption}
-use Rattle.syslog_pieces.specs.Pieces.Class.{Text, Class, Values, Division, NoDivision}
-use Rattle.syslog_pieces.specs.Pieces.View.{seen, shown}
+use Rattle.syslog_text.specs.Pieces.Class.{Text, Class, Values, Division, NoDivision}
+use Rattle.syslog_text.specs.Pieces.View.{seen, shown}
 use Rattle.syslog_sent.specs.declared.dialect.Dialect.{Dialect}
 use Rattle.syslog_sent.specs.declared.sent.Sent.{Sent}
 use Rattle.syslog_sent.specs.declared.sent.SentDate.{SentDate}

@@ -1,7 +1,7 @@
 -- How clauses see what the readers of names return.
 use Rattle.std.specs.Prelude.{[], Option, MatchOption}
-use Rattle.syslog_pieces.specs.Pieces.Class.{Text, Class, Front, NoFront}
-use Rattle.syslog_pieces.specs.Pieces.View.{seen, shown}
+use Rattle.syslog_text.specs.Pieces.Class.{Text, Class, Front, NoFront}
+use Rattle.syslog_text.specs.Pieces.View.{seen, shown}
 use Rattle.syslog_sent.specs.Named.{NamedTexts, ProgramText}
 use Rattle.syslog_sent.specs.declared.named.Named.{Named}
 use Rattle.syslog_sent.specs.declared.named.Program.{Program}

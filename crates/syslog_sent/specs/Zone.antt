@@ -6,10 +6,10 @@ use Rattle.std.proofs.Common.{inl, inr}
 use Rattle.std.specs.Prelude.{◌≡◌, ◌⊎◌, ◌||◌, ℕ, ℤ, pos, Bool, true, false, if◌then◌else◌, List, [], ◌∷◌, Option}
 use Rattle.std.specs.Prelude.{Some, None}
 use Rattle.std.specs.Prelude.{◌&&◌, codes, length, nat_le, nat_lt, slice_index, unwrap_or, map, chars}
-use Rattle.syslog_pieces.specs.Pieces.Class.{Text, Class, Row, Ends, run, some_run, exactly, optional, mapped, texted}
-use Rattle.syslog_pieces.specs.Pieces.Rules.{such_that}
-use Rattle.syslog_pieces.specs.Pieces.View.{text_eq}
-use Rattle.syslog_pieces.specs.Text.{is_blank, is_tag_char, colon}
+use Rattle.syslog_text.specs.Pieces.Class.{Text, Class, Row, Ends, run, some_run, exactly, optional, mapped, texted}
+use Rattle.syslog_text.specs.Pieces.Rules.{such_that}
+use Rattle.syslog_text.specs.Pieces.View.{text_eq}
+use Rattle.syslog_text.specs.Text.{is_blank, is_tag_char, colon}
 use Rattle.syslog_pieces.specs.Timestamp.Rfc3339.{pair, sign, seconds_of}
 use Rattle.syslog_sent.specs.Named.{◌otherwise◌}
 

@@ -5,9 +5,9 @@
 //! offset may lack the colon or the minutes, be the name of a zone, or be absent. Second 60 counts as 59 there, as the
 //! port has it.
 ghost use Rattle.std.specs.Prelude.{◌≡◌, ◌<◌, chars, ℕ, Option, false, MatchBool, option_map, true};
-ghost use Rattle.syslog_pieces.specs.Pieces.Class.{Front, Row, after, optional};
-ghost use Rattle.syslog_pieces.specs.Pieces.View.{Reads, Recognises, Skips, shown};
-ghost use Rattle.syslog_pieces.specs.Text.{number as any_number};
+ghost use Rattle.syslog_text.specs.Pieces.Class.{Front, Row, after, optional};
+ghost use Rattle.syslog_text.specs.Pieces.View.{Reads, Recognises, Skips, shown};
+ghost use Rattle.syslog_text.specs.Text.{number as any_number};
 ghost use Rattle.syslog_pieces.specs.Timestamp.Rfc3339.{year as any_year};
 ghost use Rattle.syslog_sent.specs.DateViews.{bsd_values, iso_values};
 ghost use Rattle.syslog_sent.specs.Zone.{ended, zone as any_zone};
@@ -15,10 +15,10 @@ ghost use Rattle.syslog_sent.specs.Date as spec;
 
 use crate::sent::SentDate;
 use crate::zone::{bare_word, begins_with_capital, ends_word, has_shape, is_one_of, zone};
-use syslog_pieces::text::{literal, number};
 use syslog_pieces::timestamp::MonthDate;
 use syslog_pieces::timestamp::month_date::month_date;
 use syslog_pieces::timestamp::pairs::{decimals, pair, pair_after, year};
+use syslog_text::text::{literal, number};
 
 /// A month date, and what follows it: a fraction in nanoseconds, a zone with its offset where that is known, and a
 /// year.

@@ -4,7 +4,7 @@ ghost use Rattle.syslog_sent.specs.Led.{IsFront, IsLeading, date_of};
 
 use crate::date::{BsdDate, bsd, iso_date};
 use crate::sent::SentDate;
-use syslog_pieces::text::blanks;
+use syslog_text::text::blanks;
 
 /// A date as it begins a line: a month date with what follows it, or a date that is nearly one of RFC 3339.
 #[derive(Clone, Copy)]

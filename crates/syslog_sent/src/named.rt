@@ -1,14 +1,14 @@
 //! What comes after a date: a host, a program's name and the message.
 ghost use Rattle.std.specs.Prelude.{◌≡◌, ◌≢◌, ◌∷◌, [], IsTrue, MatchBool, Option, chars, false};
 ghost use Rattle.std.specs.Char.{is_ascii_digit};
-ghost use Rattle.syslog_pieces.specs.Pieces.Class.{Front, exactly, optional, some_run, texted};
-ghost use Rattle.syslog_pieces.specs.Pieces.View.{Reads, Skips, seen, shown, text_eq};
+ghost use Rattle.syslog_text.specs.Pieces.Class.{Front, exactly, optional, some_run, texted};
+ghost use Rattle.syslog_text.specs.Pieces.View.{Reads, Skips, seen, shown, text_eq};
 ghost use Rattle.syslog_sent.specs.Runs.{are_ascii};
 ghost use Rattle.syslog_sent.specs.Views.{named_value, program_seen};
 ghost use Rattle.syslog_sent.specs.Named as spec;
 
-use syslog_pieces::as_str::is_same_text;
-use syslog_pieces::text::{CharClass, first, literal, split_run};
+use syslog_text::as_str::is_same_text;
+use syslog_text::text::{CharClass, first, literal, split_run};
 
 /// A program's name, and the id of its process if one is shown.
 #[derive(Clone, Copy)]

@@ -1,6 +1,6 @@
 //! Runs of the characters that the names of programs and the keys and values of pairs are made of.
 ghost use Rattle.std.specs.Prelude.{◌≡◌, ◌<◌, ◌≤◌, ℕ, false, length, slice_index, true};
-ghost use Rattle.syslog_pieces.specs.Bodies.Scan.{EndsRun, SplitsRun};
+ghost use Rattle.syslog_text.specs.Bodies.Scan.{EndsRun, SplitsRun};
 ghost use Rattle.syslog_sent.specs.Runs.{is_of, is_unquoted};
 
 /// A class of characters.

@@ -1,12 +1,12 @@
 //! The severity as a word before a program's name, and the facility before it: `daemon.info`.
 ghost use Rattle.std.specs.Prelude.{◌≡◌, ◌||◌, chars};
-ghost use Rattle.syslog_pieces.specs.Pieces.Class.{Row};
-ghost use Rattle.syslog_pieces.specs.Pieces.View.{Reads, Recognises, shown};
+ghost use Rattle.syslog_text.specs.Pieces.Class.{Row};
+ghost use Rattle.syslog_text.specs.Pieces.View.{Reads, Recognises, shown};
 ghost use Rattle.syslog_sent.specs.Selector as spec;
 
 use crate::named::is_word;
 use crate::runs::{Run, split};
-use syslog_pieces::text::{CharClass, literal, split_run};
+use syslog_text::text::{CharClass, literal, split_run};
 
 fn is_grave(word: &str) -> bool
     ensures { result ≡ spec.is_grave (chars word.now) }

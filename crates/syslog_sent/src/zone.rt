@@ -3,16 +3,16 @@
 //! **Rule.** `UTC`, `GMT` and `Z` are offset 0. Any other name of the IANA time zone database is left out, since most
 //! names mean several zones. Then the date is in the zone of dates that show none.
 ghost use Rattle.std.specs.Prelude.{◌≡◌, ◌<◌, ◌∷◌, [], chars, ℕ, List, Option, true, MatchBool, map, unwrap_or};
-ghost use Rattle.syslog_pieces.specs.Pieces.Class.{Ends, Front};
-ghost use Rattle.syslog_pieces.specs.Pieces.View.{Reads, shown};
-ghost use Rattle.syslog_pieces.specs.Text.{is_tag_char};
+ghost use Rattle.syslog_text.specs.Pieces.Class.{Ends, Front};
+ghost use Rattle.syslog_text.specs.Pieces.View.{Reads, shown};
+ghost use Rattle.syslog_text.specs.Text.{is_tag_char};
 ghost use Rattle.syslog_pieces.specs.Timestamp.Rfc3339 as rfc3339;
 ghost use Rattle.syslog_sent.specs.Named.{BeginsWith};
 ghost use Rattle.syslog_sent.specs.Zone as spec;
 
-use syslog_pieces::as_str::is_same_text;
-use syslog_pieces::text::{CharClass, blanks, first, literal, past_colon, split_run};
 use syslog_pieces::timestamp::pairs::pair;
+use syslog_text::as_str::is_same_text;
+use syslog_text::text::{CharClass, blanks, first, literal, past_colon, split_run};
 
 /// The names of zones that are recognised: first those of offset 0, then those that are left out.
 const ZONE_NAMES: [&str; 51] = [

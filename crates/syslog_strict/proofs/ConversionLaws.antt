@@ -21,19 +21,20 @@ use Rattle.syslog_strict.specs.{Call.NoSyslogMsg, Conversion.converted_value}
 use Rattle.syslog_strict.proofs.GrammarLemmas.{IsParamValue, IsSdName, IsSomeOf, IsStrictElement, IsStrictParam}
 use Rattle.syslog_strict.proofs.GrammarLemmas.{elements_prints, no_element}
 use Rattle.syslog_strict.specs.Grammar.{IsAll, IsValueUnit, body, header, pri, prival, sd_elements, sp, version}
-use Rattle.syslog_pieces.specs.Pieces.{Class.Row, Class.exactly, Class.rest, Class.spaced, Rules.short_run}
-use Rattle.syslog_pieces.specs.StructuredData.Escapes.{TextUnit, pair, single, unit_text}
-use Rattle.syslog_pieces.proofs.PieceLemmas.Class.{◌then◌, front_division, optional_some, piece_front, rest_front}
-use Rattle.syslog_pieces.proofs.PieceLemmas.Class.{row_of}
-use Rattle.syslog_pieces.proofs.PieceLemmas.Class.{rows_join, spaced_front}
-use Rattle.syslog_pieces.proofs.TextLemmas.Bounded.{numeral_back}
+use Rattle.syslog_text.specs.Pieces.{Class.Row, Class.exactly, Class.rest, Class.spaced, Rules.short_run}
+use Rattle.syslog_elements.specs.StructuredData.Escapes.{TextUnit, pair, single, unit_text}
+use Rattle.syslog_text.proofs.PieceLemmas.Class.{◌then◌, front_division, optional_some, piece_front, rest_front}
+use Rattle.syslog_text.proofs.PieceLemmas.Class.{row_of}
+use Rattle.syslog_text.proofs.PieceLemmas.Class.{rows_join, spaced_front}
+use Rattle.syslog_text.proofs.TextLemmas.Bounded.{numeral_back}
 use Rattle.syslog_strict.proofs.ElementLemmas.{elements_some, other_if, same_if}
 use Rattle.std.proofs.Common.{◌&&◌, nat_lt}
 use Rattle.std.proofs.lemmas.{Bool.or_from}
 use Rattle.std.specs.Bool.{◌==◌}
-use Rattle.syslog_pieces.specs.{ProcId.IsBareWord, Timestamp.Zone.Dating, Text.Canonical.EndsVisibly}
-use Rattle.syslog_pieces.proofs.StructuredDataLemmas.Elements.{forgiving_back}
-use Rattle.syslog_pieces.proofs.StructuredDataLemmas.Elements.{forgiving_det, no_item_nil}
+use Rattle.syslog_pieces.specs.{ProcId.IsBareWord, Timestamp.Zone.Dating}
+use Rattle.syslog_text.specs.{Text.Canonical.EndsVisibly}
+use Rattle.syslog_elements.proofs.StructuredDataLemmas.Elements.{forgiving_back}
+use Rattle.syslog_elements.proofs.StructuredDataLemmas.Elements.{forgiving_det, no_item_nil}
 use Rattle.syslog_loose.specs.{Printed.printed, Printed.printed_5424, declared.variant.Variant.Variant}
 use Rattle.syslog_loose.specs.{declared.variant.Variant.TheVariants.Either, Canonical.IsBounded, Canonical.IsCanonical}
 use Rattle.syslog_loose.specs.declared.fault.ParseFault.{ParseFault}
@@ -49,7 +50,7 @@ use Rattle.syslog_strict.proofs.NameLaws.{colonless_passes, lone_other, lone_pas
 use Rattle.syslog_strict.proofs.NameLaws.{elements_is}
 use Rattle.syslog_strict.proofs.TextLemmas.{cleaned_passes, cleaned_same, cleaned_short, colonless_same, text_eq_true}
 use Rattle.syslog_strict.proofs.StampLemmas.{by_choice, stamp_back, stamp_is}
-use Rattle.syslog_pieces.proofs.StructuredDataLemmas.Unparsed.{EndsIn, IsBracketed}
+use Rattle.syslog_elements.proofs.StructuredDataLemmas.Unparsed.{EndsIn, IsBracketed}
 use Rattle.syslog_loose.specs.Unparsed.{Leaves}
 use Rattle.syslog_loose.proofs.ReadingLemmas.{invalid_or_memory}
 use Rattle.syslog_loose.proofs.UnparsedLemmas.{leaves_of, leaves_same, leaves_shape}

@@ -11,7 +11,8 @@ use Rattle.syslog_strict.proofs.Words.{HasJoined, joined_text, text_or_none, tex
 use Rattle.std.proofs.lemmas.{Bool.or_parts, Grind.flat_map-append}
 use Rattle.std.specs.{Global.Global, Prelude.String, Prelude.is_some}
 use Rattle.syslog_strict.{specs.Joined.firsts, specs.declared.joined.Joined.Joined, proofs.TextLemmas.text_eq_true}
-use Rattle.syslog_pieces.proofs.{Names.one_answer, TextLemmas.Runs.same_chars}
+use Rattle.syslog_pieces.proofs.{Names.one_answer}
+use Rattle.syslog_text.proofs.{TextLemmas.Runs.same_chars}
 
 -- ---- values that are escaped, and elements that are joined
 pub chars_mark : chars (63 ∷ []) ≡ 63 ∷ []

@@ -8,18 +8,18 @@ use Rattle.syslog_strict.proofs.Words.{ElementValue, elements_text, joined_eleme
 use Rattle.syslog_strict.proofs.Words.{is_ascii_digit}
 use Rattle.std.proofs.lemmas.List.{append_cancel_right, length-append}
 use Rattle.std.specs.Prelude.{◌↔◌}
-use Rattle.syslog_pieces.specs.Pieces.Class.{Class, Front, NoFront, IsDeterministic, Row, exactly, after, spaced}
-use Rattle.syslog_pieces.specs.Pieces.Class.{texted, rest}
-use Rattle.syslog_pieces.specs.Pieces.Lists.{many}
-use Rattle.syslog_pieces.specs.StructuredData.Escapes.{TextUnit, pair, single, unit_text}
-use Rattle.syslog_pieces.proofs.PieceLemmas.Class.{AllDeterministic, ◌also◌, exactly_det, rest_det, optional_det}
-use Rattle.syslog_pieces.proofs.PieceLemmas.Class.{mapped_det}
-use Rattle.syslog_pieces.proofs.PieceLemmas.Class.{texted_det, row_det, after_det, row_pieces, piece_front, front_of}
-use Rattle.syslog_pieces.proofs.PieceLemmas.Lists.{many_det}
-use Rattle.syslog_pieces.proofs.PieceLemmas.Rules.{Opens, Prints, after_prints, exactly_apart, many_prints, or_det}
-use Rattle.syslog_pieces.proofs.PieceLemmas.Rules.{row_opens}
-use Rattle.syslog_pieces.proofs.PieceLemmas.Rules.{short_run_det, such_det, none_left}
-use Rattle.syslog_pieces.proofs.TextLemmas.Bounded.{numeral_det}
+use Rattle.syslog_text.specs.Pieces.Class.{Class, Front, NoFront, IsDeterministic, Row, exactly, after, spaced}
+use Rattle.syslog_text.specs.Pieces.Class.{texted, rest}
+use Rattle.syslog_text.specs.Pieces.Lists.{many}
+use Rattle.syslog_elements.specs.StructuredData.Escapes.{TextUnit, pair, single, unit_text}
+use Rattle.syslog_text.proofs.PieceLemmas.Class.{AllDeterministic, ◌also◌, exactly_det, rest_det, optional_det}
+use Rattle.syslog_text.proofs.PieceLemmas.Class.{mapped_det}
+use Rattle.syslog_text.proofs.PieceLemmas.Class.{texted_det, row_det, after_det, row_pieces, piece_front, front_of}
+use Rattle.syslog_text.proofs.PieceLemmas.Lists.{many_det}
+use Rattle.syslog_text.proofs.PieceLemmas.Rules.{Opens, Prints, after_prints, exactly_apart, many_prints, or_det}
+use Rattle.syslog_text.proofs.PieceLemmas.Rules.{row_opens}
+use Rattle.syslog_text.proofs.PieceLemmas.Rules.{short_run_det, such_det, none_left}
+use Rattle.syslog_text.proofs.TextLemmas.Bounded.{numeral_det}
 use Rattle.syslog_pieces.proofs.TimestampLemmas.Rfc3339.{pair_det, year_det}
 use Rattle.syslog_pieces.specs.Timestamp.Rfc3339.{pair as two_digits, year}
 use Rattle.syslog_strict.specs.Grammar as grammar

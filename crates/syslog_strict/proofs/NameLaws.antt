@@ -15,15 +15,17 @@ use Rattle.syslog_strict.proofs.Words.{AreDistinct, is_escaped, is_sd_char, Fron
 use Rattle.syslog_strict.proofs.GrammarLemmas.{IsParamValue, IsSdName, IsSomeOf, IsStrictElement, IsStrictParam}
 use Rattle.syslog_strict.proofs.GrammarLemmas.{data_front}
 use Rattle.syslog_strict.specs.Grammar.{IsValueUnit as IsStrictUnit, sd_element, structured_data}
-use Rattle.syslog_pieces.specs.Pieces.Class.{NoFront}
+use Rattle.syslog_text.specs.Pieces.Class.{NoFront}
 use Rattle.std.proofs.Common.{◌^◌, FitsSigned, w32}
 use Rattle.std.specs.Char.{is_not_whitespace}
-use Rattle.syslog_pieces.specs.{ProcId.IsCanonicalProcess, Text.Canonical.IsCanonicalHost}
-use Rattle.syslog_pieces.specs.{Text.Canonical.IsCanonicalWord, StructuredData.IsValue, StructuredData.IsValueUnit}
-use Rattle.syslog_pieces.specs.StructuredData.Canonical.{IsCanonicalParam, BeginsUnblank}
-use Rattle.syslog_pieces.specs.Text.CharClass.{is_id_char, is_name_char}
-use Rattle.syslog_pieces.proofs.{PieceLemmas.Class.each_map, TextLemmas.Words.ten_long, TextLemmas.Words.decimal_digits}
-use Rattle.syslog_pieces.specs.StructuredData.Escapes.{TextUnit, pair, single, unit_text}
+use Rattle.syslog_pieces.specs.{ProcId.IsCanonicalProcess}
+use Rattle.syslog_text.specs.{Text.Canonical.IsCanonicalHost}
+use Rattle.syslog_text.specs.{Text.Canonical.IsCanonicalWord}
+use Rattle.syslog_elements.specs.{StructuredData.IsValue, StructuredData.IsValueUnit}
+use Rattle.syslog_elements.specs.StructuredData.Canonical.{IsCanonicalParam, BeginsUnblank}
+use Rattle.syslog_text.specs.Text.CharClass.{is_id_char, is_name_char}
+use Rattle.syslog_text.proofs.{PieceLemmas.Class.each_map, TextLemmas.Words.ten_long, TextLemmas.Words.decimal_digits}
+use Rattle.syslog_elements.specs.StructuredData.Escapes.{TextUnit, pair, single, unit_text}
 use Rattle.syslog_strict.specs.{Joined.firsts}
 use Rattle.syslog_strict.proofs.ElementLemmas.{firsts_new, not_last}
 use Rattle.syslog_strict.proofs.TextLemmas.{cleaned_passes, cleaned_short, kept_as, lost_as, cleaned_some, text_eq_true}

@@ -12,7 +12,7 @@ use Rattle.syslog_strict.specs.Pushing.{data_text}
 use Rattle.std.proofs.Common.{zero, take, Result, Ok, Err, OnOk, MatchBool, is_some}
 use Rattle.std.specs.Borrow.{Bor}
 use Rattle.std.specs.Option.{option_and_then}
-use Rattle.syslog_pieces.specs.Pieces.View.{seen}
+use Rattle.syslog_text.specs.Pieces.View.{seen}
 use Rattle.std.proofs.lemmas.List.{take_all, drop_all, length-map, length-take}
 use Rattle.std.proofs.lemmas.Str.{chars_past_char, IsUtf8-encode}
 use Rattle.std.specs.{Char.IsScalar, Result.is_ok}

@@ -9,12 +9,12 @@ use Rattle.std.proofs.Common.{is_eq}
 use Rattle.std.proofs.lemmas.{Bool.or_from, Bool.or_parts, Map.Text.is_eq-slice_cmp}
 use Rattle.std.specs.{BTreeSet.contains, Cmp.Lexicographic.slice_cmp, Ordering.nat_cmp, Prelude.not, Prelude.MatchBool}
 use Rattle.std.specs.Prelude.{◌↔◌}
-use Rattle.syslog_pieces.specs.Pieces.Class.{Front, NoFront}
-use Rattle.syslog_pieces.specs.Pieces.Lists.{many}
-use Rattle.syslog_pieces.specs.StructuredData.Escapes.{TextUnit, pair, single}
+use Rattle.syslog_text.specs.Pieces.Class.{Front, NoFront}
+use Rattle.syslog_text.specs.Pieces.Lists.{many}
+use Rattle.syslog_elements.specs.StructuredData.Escapes.{TextUnit, pair, single}
 use Rattle.syslog_pieces.proofs.Names.{not-false, not-true}
-use Rattle.syslog_pieces.proofs.PieceLemmas.Class.{front_of, piece_front}
-use Rattle.syslog_pieces.proofs.PieceLemmas.Rules.{Runs, many_left, no_run, one_run, runs_left}
+use Rattle.syslog_text.proofs.PieceLemmas.Class.{front_of, piece_front}
+use Rattle.syslog_text.proofs.PieceLemmas.Rules.{Runs, many_left, no_run, one_run, runs_left}
 use Rattle.syslog_strict.specs.Grammar.{escape, sd_element, sd_elements, value_unit}
 use Rattle.syslog_strict.proofs.GrammarLemmas.{element_det}
 use Rattle.syslog_strict.proofs.{ElementLemmas.bytes_text, NameLaws.no_text, NameLaws.no_text_eq}

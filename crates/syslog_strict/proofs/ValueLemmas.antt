@@ -3,10 +3,10 @@ use Rattle.std.proofs.Common.{◌≡◌, ◌⊎◌, ◌∷◌, ◌||◌, ◌∙�
 use Rattle.std.proofs.Common.{append-nil, sym, if◌then◌else◌}
 use Rattle.std.proofs.lemmas.Bool.{ne_eqb, cases_eq}
 use Rattle.std.specs.List.{flat_map, AllByRecursion}
-use Rattle.syslog_pieces.specs.Pieces.Class.{Text}
-use Rattle.syslog_pieces.specs.StructuredData.Escapes.{TextUnit, pair, single, unit_text, unit_meaning, IsUnit}
-use Rattle.syslog_pieces.specs.StructuredData.Escapes.{IsUnescaped}
-use Rattle.syslog_pieces.specs.StructuredData.Escapes.{is_escaped, pair_meaning}
+use Rattle.syslog_text.specs.Pieces.Class.{Text}
+use Rattle.syslog_elements.specs.StructuredData.Escapes.{TextUnit, pair, single, unit_text, unit_meaning, IsUnit}
+use Rattle.syslog_elements.specs.StructuredData.Escapes.{IsUnescaped}
+use Rattle.syslog_elements.specs.StructuredData.Escapes.{is_escaped, pair_meaning}
 use Rattle.syslog_strict.specs.Conversion.{converted_value, escaped_from}
 use Rattle.syslog_strict.specs.Value.{meaning, meant_from}
 

@@ -1,6 +1,6 @@
 -- What the call writes for a text.
 use Rattle.std.specs.Prelude.{◌≡◌, ◌↔◌, [], Result, MatchResult}
-use Rattle.syslog_pieces.specs.Pieces.Class.{Text}
+use Rattle.syslog_text.specs.Pieces.Class.{Text}
 use Rattle.syslog_pieces.specs.Timestamp.Zone.{Dating}
 use Rattle.syslog_loose.specs.Line.{line_value}
 use Rattle.syslog_loose.specs.Message.{MessageValue}

@@ -7,14 +7,14 @@ use Rattle.std.specs.Prelude.{List, [], ◌∷◌, ◌++◌, length, map}
 use Rattle.std.specs.Char.{is_ascii_digit}
 use Rattle.std.specs.List.{AllByRecursion}
 use Rattle.jiff_core.specs.Calendar.{IsCivilDate}
-use Rattle.syslog_pieces.specs.Pieces.Class.{Text, Class, Values, Division, Row, exactly, optional, rest, mapped}
-use Rattle.syslog_pieces.specs.Pieces.Class.{texted}
-use Rattle.syslog_pieces.specs.Pieces.Class.{after, spaced}
-use Rattle.syslog_pieces.specs.Pieces.Lists.{many}
-use Rattle.syslog_pieces.specs.Pieces.Rules.{short_run, ◌or◌, such_that}
-use Rattle.syslog_pieces.specs.StructuredData.Element.{ElementValue}
-use Rattle.syslog_pieces.specs.StructuredData.Escapes.{TextUnit, pair, single, unit_text}
-use Rattle.syslog_pieces.specs.Text.Bounded.{numeral}
+use Rattle.syslog_text.specs.Pieces.Class.{Text, Class, Values, Division, Row, exactly, optional, rest, mapped}
+use Rattle.syslog_text.specs.Pieces.Class.{texted}
+use Rattle.syslog_text.specs.Pieces.Class.{after, spaced}
+use Rattle.syslog_text.specs.Pieces.Lists.{many}
+use Rattle.syslog_text.specs.Pieces.Rules.{short_run, ◌or◌, such_that}
+use Rattle.syslog_elements.specs.StructuredData.Element.{ElementValue}
+use Rattle.syslog_elements.specs.StructuredData.Escapes.{TextUnit, pair, single, unit_text}
+use Rattle.syslog_text.specs.Text.Bounded.{numeral}
 use Rattle.syslog_pieces.specs.Timestamp.Rfc3339.{year, pair as two_digits}
 
 -- ---- characters and names

@@ -5,8 +5,8 @@ use Rattle.std.specs.BTreeSet.{contains}
 use Rattle.std.specs.Cmp.Lexicographic.{slice_cmp}
 use Rattle.std.specs.Ordering.{nat_cmp}
 use Rattle.std.specs.Str.{IsUtf8}
-use Rattle.syslog_pieces.specs.Pieces.Class.{Text}
-use Rattle.syslog_pieces.specs.Pieces.View.{shown}
+use Rattle.syslog_text.specs.Pieces.Class.{Text}
+use Rattle.syslog_text.specs.Pieces.View.{shown}
 use Rattle.syslog_strict.specs.Conversion.{is_among}
 use Rattle.syslog_strict.specs.declared.ids.Ids.{Ids}
 

@@ -5,8 +5,8 @@ use Rattle.std.specs.Global.{Global}
 use Rattle.std.specs.List.{flat_map}
 use Rattle.std.specs.Prelude.{ℕ, if◌then◌else◌}
 use Rattle.std.specs.Str.{chars, IsUtf8}
-use Rattle.syslog_pieces.specs.Pieces.Class.{Text}
-use Rattle.syslog_pieces.specs.StructuredData.Element.{ElementValue, param_text}
+use Rattle.syslog_text.specs.Pieces.Class.{Text}
+use Rattle.syslog_elements.specs.StructuredData.Element.{ElementValue, param_text}
 use Rattle.syslog_strict.specs.Conversion.{is_among, params_of}
 use Rattle.syslog_strict.specs.Pushing.{text_in}
 use Rattle.syslog_strict.specs.declared.joined.Joined.{Joined}

@@ -5,8 +5,8 @@ use Rattle.std.specs.Fmt.{decimal}
 use Rattle.std.specs.Str.{chars}
 use Rattle.syslog_loose.specs.Message.{MessageValue}
 use Rattle.syslog_loose.specs.Printed.{elements_text}
-use Rattle.syslog_pieces.specs.Pieces.Class.{Text}
-use Rattle.syslog_pieces.specs.Text.{name_text}
+use Rattle.syslog_text.specs.Pieces.Class.{Text}
+use Rattle.syslog_text.specs.Text.{name_text}
 use Rattle.syslog_pieces.specs.declared.timestamp.OffsetTimestamp.{OffsetTimestamp}
 use Rattle.syslog_strict.specs.Conversion.{micros}
 use Rattle.syslog_strict.specs.Grammar.{is_printusascii, is_sd_char}

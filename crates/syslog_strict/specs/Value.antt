@@ -1,7 +1,7 @@
 -- What the RFC reads of a value (6.3.3).
 use Rattle.std.specs.Prelude.{nat_eq, if◌then◌else◌, Bool, true, false, [], ◌∷◌}
-use Rattle.syslog_pieces.specs.Pieces.Class.{Text}
-use Rattle.syslog_pieces.specs.StructuredData.Escapes.{is_escaped}
+use Rattle.syslog_text.specs.Pieces.Class.{Text}
+use Rattle.syslog_elements.specs.StructuredData.Escapes.{is_escaped}
 
 -- A backslash before a backslash, a quote or a closing bracket is left out; before any other character, and at the end,
 -- it is itself. Whether a backslash was read before comes first.

@@ -1,9 +1,9 @@
 //! Writes a line as strict RFC 5424.
 ghost use Rattle.std.specs.Prelude.{◌≡◌, ◌∷◌, MatchResult, OnOk, ℕ};
 ghost use Rattle.std.specs.Str.{chars};
-ghost use Rattle.syslog_pieces.specs.Pieces.Class.{Text};
-ghost use Rattle.syslog_pieces.specs.Pieces.View.{seen};
-ghost use Rattle.syslog_pieces.specs.StructuredData.Unparsed.{if_any};
+ghost use Rattle.syslog_text.specs.Pieces.Class.{Text};
+ghost use Rattle.syslog_text.specs.Pieces.View.{seen};
+ghost use Rattle.syslog_elements.specs.StructuredData.Unparsed.{if_any};
 ghost use Rattle.syslog_loose.specs.Line.{line_value};
 ghost use Rattle.syslog_loose.specs.declared.fault.ParseFault.TheVariants.{Memory};
 ghost use Rattle.syslog_strict.specs.Call.{IsLineText};
@@ -16,7 +16,7 @@ use crate::stamp::push_front;
 use crate::text::{push_char, push_text};
 use std::alloc::{AllocError, Global};
 use syslog_loose::{Line, ParseFault};
-use syslog_pieces::text::first;
+use syslog_text::text::first;
 
 // How many bytes a converted line may have beyond the rest of the line.
 const MORE: usize = 96;

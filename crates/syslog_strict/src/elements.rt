@@ -2,8 +2,8 @@
 ghost use Rattle.std.specs.Prelude.{◌≡◌, [], ◌∷◌, OnOk, map, if◌then◌else◌};
 ghost use Rattle.std.specs.List.{flat_map};
 ghost use Rattle.std.specs.Str.{chars};
-ghost use Rattle.syslog_pieces.specs.StructuredData.Element.{param_text};
-ghost use Rattle.syslog_pieces.specs.StructuredData.Visited.{element_seen};
+ghost use Rattle.syslog_elements.specs.StructuredData.Element.{param_text};
+ghost use Rattle.syslog_elements.specs.StructuredData.Visited.{element_seen};
 ghost use Rattle.syslog_strict.specs.Conversion.{converted_name, converted_param};
 ghost use Rattle.syslog_strict.specs.Conversion.{converted_value, or_mark};
 ghost use Rattle.syslog_strict.specs.Grammar.{is_escaped};
@@ -12,7 +12,7 @@ ghost use Rattle.syslog_strict.specs.Pushing.{Appends};
 use crate::text::{Kept, push_char, push_cleaned, push_text};
 use std::alloc::AllocError;
 use syslog_loose::Element;
-use syslog_pieces::text::{CharClass, first, split_run};
+use syslog_text::text::{CharClass, first, split_run};
 
 // How many characters an id or a name has at most.
 const NAME: usize = 32;

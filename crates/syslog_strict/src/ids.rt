@@ -1,15 +1,15 @@
 //! The ids of the elements before. The first few are compared one by one, without allocating.
 ghost use Rattle.std.specs.Prelude.{◌≡◌, ◌++◌, ◌∷◌, [], false, true, IfOk, List, MatchBool, map};
 ghost use Rattle.std.specs.Str.{chars};
-ghost use Rattle.syslog_pieces.specs.Pieces.Class.{Text};
-ghost use Rattle.syslog_pieces.specs.Pieces.View.{shown};
+ghost use Rattle.syslog_text.specs.Pieces.Class.{Text};
+ghost use Rattle.syslog_text.specs.Pieces.View.{shown};
 ghost use Rattle.syslog_strict.specs.Conversion.{is_among};
 ghost use Rattle.syslog_strict.specs.Ids.{HasSeen};
 
 use arrayvec::ArrayVec;
 use std::alloc::{AllocError, Global};
 use std::collections::BTreeSet;
-use syslog_pieces::as_str::is_same_text;
+use syslog_text::as_str::is_same_text;
 
 /// The ids of the elements before.
 #[derive(Drop)]

@@ -3,8 +3,8 @@ ghost use Rattle.std.specs.Prelude.{◌≡◌, ◌++◌, ◌∷◌, [], ℕ, con
 ghost use Rattle.std.specs.Prelude.{string_bytes};
 ghost use Rattle.std.specs.BTreeMap.{get_by_text};
 ghost use Rattle.std.specs.Str.{bytes_eq};
-ghost use Rattle.syslog_pieces.specs.StructuredData.Element.{ElementValue, elements_text, joined_elements};
-ghost use Rattle.syslog_pieces.specs.StructuredData.Visited.{element_seen, list_elements};
+ghost use Rattle.syslog_elements.specs.StructuredData.Element.{ElementValue, elements_text, joined_elements};
+ghost use Rattle.syslog_elements.specs.StructuredData.Visited.{element_seen, list_elements};
 ghost use Rattle.syslog_strict.specs.Conversion.{converted_element, converted_elements};
 ghost use Rattle.syslog_strict.specs.Joined.{HasJoined, joined_text, text_or_none};
 ghost use Rattle.syslog_strict.specs.Pushing.{Appends, text_in};

@@ -1,9 +1,9 @@
 //! Laws of the grammar and of the conversion, over their definitions alone: each function does nothing, and its
 //! contract is the law.
 ghost use Rattle.std.specs.Prelude.{◌≡◌, ◌⊎◌, [], IfSome};
-ghost use Rattle.syslog_pieces.specs.Pieces.Class.{Text};
+ghost use Rattle.syslog_text.specs.Pieces.Class.{Text};
 ghost use Rattle.syslog_pieces.specs.ProcId.{IsBoundedProcess};
-ghost use Rattle.syslog_pieces.specs.StructuredData.Escapes.{IsUnescaped};
+ghost use Rattle.syslog_elements.specs.StructuredData.Escapes.{IsUnescaped};
 ghost use Rattle.syslog_pieces.specs.Timestamp.Zone.{Dating};
 ghost use Rattle.syslog_loose.specs.Canonical.{IsCanonical};
 ghost use Rattle.syslog_loose.specs.Message.{MessageValue};

@@ -3,9 +3,9 @@ ghost use Rattle.std.specs.Prelude.{◌≡◌, ◌≢◌, ◌⊎◌, ◌<◌, []
 ghost use Rattle.std.specs.Option.{option_and_then, option_map};
 ghost use Rattle.std.specs.Fmt.{signed_decimal};
 ghost use Rattle.std.specs.Str.{chars};
-ghost use Rattle.syslog_pieces.specs.Pieces.View.{seen};
+ghost use Rattle.syslog_text.specs.Pieces.View.{seen};
 ghost use Rattle.syslog_pieces.specs.ProcId.{named_process, procid_text, process_text};
-ghost use Rattle.syslog_pieces.specs.Text.{name_text};
+ghost use Rattle.syslog_text.specs.Text.{name_text};
 ghost use Rattle.syslog_strict.specs.Conversion.{converted_host, converted_process, converted_word, kept_char};
 ghost use Rattle.syslog_strict.specs.Conversion.{no_colon};
 ghost use Rattle.syslog_strict.specs.Grammar.{is_printusascii};
@@ -13,9 +13,9 @@ ghost use Rattle.syslog_strict.specs.Pushing.{Appends};
 
 use crate::text::{Kept, is_kept, push_char, push_cleaned, push_text};
 use std::alloc::{AllocError, Global};
-use syslog_pieces::as_str::is_same_text;
 use syslog_pieces::procid::{ProcId, is_bare_word};
-use syslog_pieces::text::{ends_in_colon, first};
+use syslog_text::as_str::is_same_text;
+use syslog_text::text::{ends_in_colon, first};
 
 // How many characters a host has at most, and a process id too.
 const HOST: usize = 255;

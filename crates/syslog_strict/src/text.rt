@@ -5,7 +5,7 @@ ghost use Rattle.syslog_strict.specs.Conversion.{cleaned as cleaned_text, kept_c
 ghost use Rattle.syslog_strict.specs.Pushing.{Appends, keeps};
 
 use std::alloc::AllocError;
-use syslog_pieces::text::first;
+use syslog_text::text::first;
 
 /// A class of characters that a name keeps.
 #[derive(Clone, Copy)]

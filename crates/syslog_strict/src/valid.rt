@@ -4,8 +4,8 @@
 //! `specs/Grammar.antt`, or none if the text does not begin with one.
 ghost use Rattle.std.specs.Prelude.{◌↔◌, ◌∷◌, [], IsTrue};
 ghost use Rattle.std.specs.Str.{chars};
-ghost use Rattle.syslog_pieces.specs.Pieces.Class.{Row, exactly, optional, rest as rest_class, spaced};
-ghost use Rattle.syslog_pieces.specs.Pieces.View.{Recognises};
+ghost use Rattle.syslog_text.specs.Pieces.Class.{Row, exactly, optional, rest as rest_class, spaced};
+ghost use Rattle.syslog_text.specs.Pieces.View.{Recognises};
 ghost use Rattle.syslog_strict.specs.Grammar as grammar;
 
 mod structured_data;
@@ -14,8 +14,8 @@ mod timestamp;
 use std::alloc::Global;
 pub(crate) use structured_data::are_elements;
 use structured_data::structured_data;
-use syslog_pieces::text::bounded::{numeral, short_run};
-use syslog_pieces::text::{CharClass, first, literal};
+use syslog_text::text::bounded::{numeral, short_run};
+use syslog_text::text::{CharClass, first, literal};
 use timestamp::timestamp;
 
 #[inline(always)]

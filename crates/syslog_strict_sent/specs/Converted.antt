@@ -1,6 +1,6 @@
 -- What the call writes for a text that it reads as its sender meant it.
 use Rattle.std.specs.Prelude.{◌≡◌, ◌↔◌, Bool, Option, Result, MatchResult}
-use Rattle.syslog_pieces.specs.Pieces.Class.{Text}
+use Rattle.syslog_text.specs.Pieces.Class.{Text}
 use Rattle.syslog_pieces.specs.Timestamp.Zone.{Dating}
 use Rattle.syslog_loose.specs.Message.{MessageValue}
 use Rattle.syslog_loose.specs.declared.dates.Dates.{Dates}

@@ -13,7 +13,7 @@ use Rattle.syslog_loose.proofs.Names.{AreNamesButQuirks, HasQuirksAlone, IsNearl
 use Rattle.syslog_loose.proofs.Names.{Resolves, names, rfc3164_row, IsRead3164, stamped_row, fields_row, NamesProgram}
 use Rattle.syslog_loose.proofs.Names.{fields_before, form_row, IsForm, each_after, each_both, each_left, each_front}
 use Rattle.syslog_loose.proofs.Names.{each_right, begins, row_pieces, IsOfMonthDate}
-use Rattle.syslog_pieces.proofs.StructuredDataLemmas.Elements.{element_canonical}
+use Rattle.syslog_elements.proofs.StructuredDataLemmas.Elements.{element_canonical}
 use Rattle.syslog_loose.proofs.Rfc3164Lemmas.{of_names, shows, one_form}
 use Rattle.syslog_loose.proofs.PrintedLemmas.{drop_ends, last_ends, severity_beside}
 use Rattle.syslog_loose.specs.TagForm.{IsIdOf}
@@ -21,7 +21,7 @@ use Rattle.syslog_loose.proofs.Names.{append_cancel_right, decimal, decimal_digi
 use Rattle.syslog_loose.proofs.Names.{named_names, nat_tests, negsuc, pos, process_same, procid_text, rest_same}
 use Rattle.syslog_loose.proofs.Names.{run_same, suc}
 use Rattle.std.proofs.lemmas.List.{append_cancel_left}
-use Rattle.syslog_pieces.proofs.TextLemmas.Runs as verbatim
+use Rattle.syslog_text.proofs.TextLemmas.Runs as verbatim
 
 -- ---- elements
 

@@ -27,7 +27,7 @@ use Rattle.syslog_loose.proofs.PrintedLemmas.{joined_last, LastVisible, last_app
 use Rattle.syslog_loose.proofs.PrintedLemmas.{priority_low, priority_front, stamp_unblank, message_end, message_blanks}
 use Rattle.syslog_loose.proofs.PrintedLemmas.{priority_small, parts_back, severity_beside}
 pub use Rattle.syslog_loose.specs.Bodies.Jumps.{tail_text}
-use Rattle.syslog_pieces.proofs.StructuredDataLemmas.Elements.{element_back}
+use Rattle.syslog_elements.proofs.StructuredDataLemmas.Elements.{element_back}
 use Rattle.syslog_loose.proofs.Rfc3164Lemmas.{list_none, from_blanks, to_stamp, to_colon, from_stamp, told, digit_range}
 use Rattle.syslog_loose.proofs.Rfc3164Lemmas.{printed_3164_is, from_list, from_tag_end, from_tag, to_stamp_det}
 use Rattle.syslog_loose.proofs.Rfc3164Lemmas.{to_colon_det}

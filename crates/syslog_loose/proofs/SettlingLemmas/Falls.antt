@@ -28,7 +28,7 @@ use Rattle.syslog_loose.proofs.SettlingLemmas.Weights.{free, paid, at_most, list
 use Rattle.syslog_loose.proofs.Rfc3164Lemmas.{resolves_once, from_blanks, to_colon, to_colon_det, IsDigit, digit_range}
 use Rattle.syslog_loose.proofs.Rfc3164Lemmas.{rfc3164_bounded, printed_3164_is, to_stamp, to_stamp_det, from_stamp}
 use Rattle.syslog_loose.proofs.Rfc3164Lemmas.{body_det, told}
-use Rattle.syslog_pieces.proofs.PieceLemmas.Class.{firsts}
+use Rattle.syslog_text.proofs.PieceLemmas.Class.{firsts}
 use Rattle.syslog_loose.proofs.CanonicalLemmas.{canonical_names}
 use Rattle.syslog_loose.proofs.Rfc3164Lemmas.ReadBack.{program_field, resolved, no_tag_colon, names_back, tagged}
 use Rattle.syslog_loose.proofs.Rfc3164Lemmas.ReadBack.{host_field_back, program_text, stamp_low, body_back, stamp_back}

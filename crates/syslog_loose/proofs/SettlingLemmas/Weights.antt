@@ -16,20 +16,20 @@ use Rattle.syslog_loose.proofs.Names.{begins, nat_eq, no_row, Option, IfSome, Va
 use Rattle.syslog_loose.proofs.Names.{Dating, heads, Class, Front, start, colon, Costs, month, ◌++◌, zero, Bool, true}
 use Rattle.syslog_loose.proofs.Names.{List, refl, Text, Each, Ends, None, Some, dash, Name, step, join, host, ◌≡◌, ◌≤◌}
 use Rattle.syslog_loose.proofs.Names.{◌⊎◌, ◌∷◌, ◌∙◌, suc, inl, inr, sym, Row, run, ◌<◌, not, ◌+◌, ◌%◌, pos, PID, [], ap}
-use Rattle.syslog_pieces.proofs.PieceLemmas.Class.{row_nil, row_none_here, row_none_later, texted_front, no_front_no}
-use Rattle.syslog_pieces.proofs.PieceLemmas.Class.{Meets, meets_here, meets_none}
-use Rattle.syslog_pieces.proofs.PieceLemmas.Lists.{no_more, no_more_after}
-use Rattle.syslog_pieces.proofs.StructuredDataLemmas.Elements.{start_det, value_here, unit_goes}
-use Rattle.syslog_pieces.proofs.StructuredDataLemmas.Closing.{no_closing, closing_goes, quoted_goes}
-use Rattle.syslog_pieces.proofs.StructuredDataLemmas.Closing.{no_opening, no_quoted_short, passes_here, value_ends}
-use Rattle.syslog_pieces.proofs.StructuredDataLemmas.Closing.{value_breaks, value_goes}
-use Rattle.syslog_pieces.proofs.StructuredDataLemmas.Walk.{full_goes}
+use Rattle.syslog_text.proofs.PieceLemmas.Class.{row_nil, row_none_here, row_none_later, texted_front, no_front_no}
+use Rattle.syslog_text.proofs.PieceLemmas.Class.{Meets, meets_here, meets_none}
+use Rattle.syslog_text.proofs.PieceLemmas.Lists.{no_more, no_more_after}
+use Rattle.syslog_elements.proofs.StructuredDataLemmas.Elements.{start_det, value_here, unit_goes}
+use Rattle.syslog_elements.proofs.StructuredDataLemmas.Closing.{no_closing, closing_goes, quoted_goes}
+use Rattle.syslog_elements.proofs.StructuredDataLemmas.Closing.{no_opening, no_quoted_short, passes_here, value_ends}
+use Rattle.syslog_elements.proofs.StructuredDataLemmas.Closing.{value_breaks, value_goes}
+use Rattle.syslog_elements.proofs.StructuredDataLemmas.Walk.{full_goes}
 use Rattle.syslog_pieces.proofs.TimestampLemmas.MonthDate.{month_begins}
 use Rattle.std.proofs.lemmas.Bool.Decides.{not_from_Decides}
-use Rattle.syslog_pieces.specs.Bodies.Closing.{opening, quoted_row, quoted, closing}
+use Rattle.syslog_elements.specs.Bodies.Closing.{opening, quoted_row, quoted, closing}
 use Rattle.std.specs.Bool.{Decides}
-use Rattle.syslog_pieces.specs.StructuredData.Escapes.{pair, single}
-use Rattle.syslog_pieces.specs.StructuredData.{param}
+use Rattle.syslog_elements.specs.StructuredData.Escapes.{pair, single}
+use Rattle.syslog_elements.specs.StructuredData.{param}
 use Rattle.syslog_loose.proofs.PrintedLemmas.{visible_no_blank}
 use Rattle.std.proofs.lemmas.List.{reverse-append}
 use Rattle.std.proofs.lemmas.Int.{ints, by_lt_z}

@@ -5,7 +5,7 @@ use Rattle.syslog_loose.specs.Words.{ℕ, zero, suc, List, [], length, Some, Non
 use Rattle.syslog_loose.specs.Words.{facility_of, severity_of, ElementValue, is_blank, EndsInColon, IsCanonicalStamp}
 use Rattle.syslog_loose.specs.Words.{colon}
 use Rattle.std.specs.List.{repeat}
-use Rattle.syslog_pieces.specs.StructuredData.Element.{joined_elements}
+use Rattle.syslog_elements.specs.StructuredData.Element.{joined_elements}
 use Rattle.syslog_loose.specs.Message.{MessageValue}
 use Rattle.syslog_loose.specs.Printed.{priority_of}
 use Rattle.syslog_loose.specs.Rfc3164.{Names3164, names}

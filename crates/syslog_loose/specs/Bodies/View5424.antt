@@ -3,7 +3,7 @@ use Rattle.std.specs.Prelude.{◌≡◌, ◌⊎◌, ◌↔◌, ◌∷◌, ◌++�
 use Rattle.syslog_loose.specs.Words.{ℕ, Bool, IsTrue, Option, Some, IfSome, MatchOption, Bor, List, option_map, Text}
 use Rattle.syslog_loose.specs.Words.{Class, Front, NoFront, Row, some_run, is_blank}
 use Rattle.syslog_loose.specs.Words.{Values, seen, shown, named_process, stamp_seen, process_text}
-use Rattle.syslog_pieces.specs.Text.{name_text}
+use Rattle.syslog_text.specs.Text.{name_text}
 use Rattle.syslog_pieces.specs.declared.timestamp.clock.ClockStamp.{ClockStamp}
 use Rattle.syslog_loose.specs.Bodies.Rows.{header_row, names_row}
 use Rattle.syslog_loose.specs.Rows.{front_row, front_values, word_values, words_row}

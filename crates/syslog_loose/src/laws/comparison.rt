@@ -4,7 +4,7 @@ ghost use Rattle.syslog_loose.specs.Words.{IsTrue, text_of};
 ghost use Rattle.syslog_loose.specs.Clauses.{message_eq, MessageValue, message_value, Message, Protocol};
 
 use crate::message::{Message, Protocol};
-use syslog_pieces::as_str::AsStr;
+use syslog_text::as_str::AsStr;
 
 /// Equality of messages is an equivalence for every type of texts, and messages with the same value are equal. It does
 /// not depend on the protocol.

@@ -13,9 +13,9 @@ use crate::message::{printed_priority, write_name, write_program, write_spaced, 
 use std::alloc::AllocError;
 use std::fmt;
 use std::fmt::{Display, Write};
-use syslog_pieces::as_str::AsStr;
+use syslog_elements::structured_data::ElementList;
 use syslog_pieces::front::Ascii;
-use syslog_pieces::structured_data::ElementList;
+use syslog_text::as_str::AsStr;
 
 // How many bytes a printed line may have beyond its rest: a priority, a version and a timestamp, and the dashes of
 // absent fields.

@@ -9,8 +9,8 @@ ghost use Rattle.syslog_loose.specs.Clauses.{line_value, dash_rule};
 use super::Line;
 use crate::message::begins_no_list;
 use syslog_pieces::procid::ProcId;
-use syslog_pieces::text::ends_in_colon;
 use syslog_pieces::timestamp::canonical::is_canonical_clock;
+use syslog_text::text::ends_in_colon;
 
 /// Whether the line has no quirk.
 pub(crate) fn has_no_quirk(line: &Line<'_>) -> bool

@@ -8,18 +8,18 @@ ghost use Rattle.syslog_loose.specs.Clauses.{AreElements, fields_value, message_
 
 use super::{Message, Protocol};
 use crate::tag_form::tag_form;
-use syslog_pieces::as_str::AsStr;
+use syslog_elements::structured_data::StructuredElement;
+use syslog_elements::structured_data::canonical::are_canonical_elements;
+use syslog_elements::structured_data::rfc3164_list::{DASH_RULE, begins_list};
 use syslog_pieces::pri::{SyslogFacility, SyslogSeverity};
 use syslog_pieces::procid::{ProcId, is_canonical_process, names_number};
-use syslog_pieces::structured_data::StructuredElement;
-use syslog_pieces::structured_data::canonical::are_canonical_elements;
-use syslog_pieces::structured_data::rfc3164_list::{DASH_RULE, begins_list};
-use syslog_pieces::text::CharClass;
-use syslog_pieces::text::canonical::{
-    begins_unblank, is_canonical_host, is_canonical_tag, is_canonical_word, is_only, is_some_of,
-};
 use syslog_pieces::timestamp::OffsetTimestamp;
 use syslog_pieces::timestamp::canonical::is_canonical_stamp;
+use syslog_text::as_str::AsStr;
+use syslog_text::text::CharClass;
+use syslog_text::text::canonical::{
+    begins_unblank, is_canonical_host, is_canonical_tag, is_canonical_word, is_only, is_some_of,
+};
 
 /// What the written condition depends on: the fields of a message, and two facts about its elements.
 #[derive(Drop)]

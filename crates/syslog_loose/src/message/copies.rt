@@ -6,9 +6,9 @@ ghost use Rattle.syslog_loose.specs.Message.{message_value};
 
 use super::Message;
 use std::alloc::{AllocError, Global};
-use syslog_pieces::as_str::AsStr;
+use syslog_elements::structured_data::StructuredElement;
 use syslog_pieces::procid::ProcId;
-use syslog_pieces::structured_data::StructuredElement;
+use syslog_text::as_str::AsStr;
 
 impl<S: AsStr + Clone> Message<S> {
     /// Returns a copy that is the same in each field, with elements and parameters in the same order. It fails only if

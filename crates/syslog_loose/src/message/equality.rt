@@ -5,8 +5,8 @@ ghost use Rattle.std.specs.Cmp.{on_per, partial_equiv_from_equiv};
 ghost use Rattle.syslog_loose.specs.Clauses.{message_eq, message_equivalence, message_value};
 
 use super::Message;
-use syslog_pieces::as_str::{AsStr, is_same_text};
 use syslog_pieces::pri::{SyslogFacility, SyslogSeverity};
+use syslog_text::as_str::{AsStr, is_same_text};
 
 impl<S: AsStr> PartialEq for Message<S> {
     ghost eq = { on (message_value (text_of S.text)) message_eq };

@@ -8,11 +8,11 @@ ghost use Rattle.syslog_loose.specs.Printed as spec;
 use super::priority;
 use std::fmt;
 use std::fmt::Display;
-use syslog_pieces::as_str::AsStr;
+use syslog_elements::structured_data::StructuredElement;
 use syslog_pieces::pri::parts;
 use syslog_pieces::procid::ProcId;
-use syslog_pieces::structured_data::StructuredElement;
 use syslog_pieces::timestamp::OffsetTimestamp;
+use syslog_text::as_str::AsStr;
 
 /// Returns the priority that is printed for the priority of a line, which may be absent or above 191.
 #[inline(always)]

@@ -3,8 +3,8 @@ use Rattle.syslog_pieces.proofs.Names.{◌≡◌, ℕ, ◌<◌, List, [], ◌∷
 use Rattle.syslog_pieces.proofs.Names.{length-append, chars, is_ascii_digit, Text, Each, Front, NoFront, SplitsRun}
 use Rattle.syslog_pieces.proofs.Names.{decimals}
 use Rattle.syslog_pieces.proofs.Names.{fraction_value, front_same, no_front_no}
-use Rattle.syslog_pieces.proofs.PieceLemmas.Class.{front_of}
-use Rattle.syslog_pieces.proofs.TextLemmas.Runs.{ascii_chars, digits_ascii, chars_nonempty, no_run_front}
+use Rattle.syslog_text.proofs.PieceLemmas.Class.{front_of}
+use Rattle.syslog_text.proofs.TextLemmas.Runs.{ascii_chars, digits_ascii, chars_nonempty, no_run_front}
 use Rattle.syslog_pieces.proofs.TimestampLemmas.Rfc3339.{decimals_det}
 
 -- digits alone are decimals

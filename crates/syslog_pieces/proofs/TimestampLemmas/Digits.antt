@@ -12,7 +12,7 @@ use Rattle.jiff_fmt.proofs.ReaderLemmas.{fraction_value-drop, tenth}
 use Rattle.jiff_fmt.specs.Reader.{fraction_value}
 use Rattle.syslog_pieces.specs.Timestamp.Rfc3339.{pair, year}
 use Rattle.syslog_pieces.specs.Timestamp.Printed.{fraction_text}
-use Rattle.syslog_pieces.proofs.TextLemmas.Runs.{ascii_ahead, after_chars, after_cut, after_is, low_ascii, no_run}
+use Rattle.syslog_text.proofs.TextLemmas.Runs.{ascii_ahead, after_chars, after_cut, after_is, low_ascii, no_run}
 
 -- ---- classes of ASCII pieces, at the front of bytes
 module _ (C : Class) (alone : IsAlone C) (ascii : (p q : Text) (v : C.Value) → C.Is p q v → IsAscii p) (bs : List ℕ)

@@ -24,11 +24,11 @@ use Rattle.syslog_pieces.specs.Timestamp.Rfc3164.{ShowsYearless}
 use Rattle.syslog_pieces.specs.Bodies.Clock.{zone_of, civil_of, year_of}
 use Rattle.syslog_pieces.specs.Timestamp.Zone.{IsStampOfFields}
 use Rattle.syslog_pieces.specs.Timestamp.Zone.{earlier, IsStampOf, IsStampInGap, IsStampInAny}
-use Rattle.syslog_pieces.proofs.TextLemmas.Runs.{one_ascii}
-use Rattle.syslog_pieces.proofs.PieceLemmas.Class.{all_joined, rest_det, optional_det, unique_division, rows_split}
-use Rattle.syslog_pieces.proofs.PieceLemmas.Lists.{each_begins}
+use Rattle.syslog_text.proofs.TextLemmas.Runs.{one_ascii}
+use Rattle.syslog_text.proofs.PieceLemmas.Class.{all_joined, rest_det, optional_det, unique_division, rows_split}
+use Rattle.syslog_text.proofs.PieceLemmas.Lists.{each_begins}
 use Rattle.syslog_pieces.proofs.PriLemmas.{priority_det}
-use Rattle.syslog_pieces.proofs.TextLemmas.Words.{number_det}
+use Rattle.syslog_text.proofs.TextLemmas.Words.{number_det}
 use Rattle.syslog_pieces.proofs.TimestampLemmas.Rfc3339.{answer_same, same_timestamp, same_offset, header_stamp_det}
 use Rattle.syslog_pieces.proofs.TimestampLemmas.Rfc3339.{writes-first}
 use Rattle.syslog_pieces.proofs.TimestampLemmas.Civil.{civil_nanos-fields, civil-fields, datetime_of, has_fields}

@@ -19,8 +19,8 @@ use Rattle.jiff_core.specs.Calendar.{IsWithin}
 use Rattle.syslog_pieces.specs.Timestamp.Rfc3339.{pair, HasRfc3339Stamp}
 use Rattle.syslog_pieces.specs.Timestamp.Printed.{printed_stamp, date_time_text, offset_text, offset_sign}
 use Rattle.syslog_pieces.specs.Timestamp.Canonical.{IsCanonicalStamp, BeginsWithYear, own_year}
-use Rattle.syslog_pieces.proofs.PieceLemmas.Class.{IsFilled, closed_alone, closed_filled, after_det, spaced_parts}
-use Rattle.syslog_pieces.proofs.PieceLemmas.Class.{AllSteady, Fails, no_row}
+use Rattle.syslog_text.proofs.PieceLemmas.Class.{IsFilled, closed_alone, closed_filled, after_det, spaced_parts}
+use Rattle.syslog_text.proofs.PieceLemmas.Class.{AllSteady, Fails, no_row}
 use Rattle.syslog_pieces.proofs.TimestampLemmas.Civil.{civil-fields, civil_nanos-fields, datetime_of, has_fields}
 use Rattle.syslog_pieces.proofs.TimestampLemmas.Civil.{is_datetime, civil_fields_exist, in_range-at_offset}
 use Rattle.syslog_pieces.proofs.TimestampLemmas.Civil.{shows_fields, from_start}

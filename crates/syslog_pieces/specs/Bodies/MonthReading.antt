@@ -1,8 +1,8 @@
 -- In which parts a month date is read.
 use Rattle.std.specs.Prelude.{◌≡◌, ℕ, ◌-◌, ◌≤◌, ◌==◌, ◌&&◌, if◌then◌else◌, List, [], ◌∷◌, Option, Some, None, slice_get}
-use Rattle.syslog_pieces.specs.Pieces.Class.{Class, Division, Text, Values, optional, rest, run, some_run}
+use Rattle.syslog_text.specs.Pieces.Class.{Class, Division, Text, Values, optional, rest, run, some_run}
 use Rattle.syslog_pieces.specs.Pri.{priority}
-use Rattle.syslog_pieces.specs.Text.{is_blank, number}
+use Rattle.syslog_text.specs.Text.{is_blank, number}
 use Rattle.syslog_pieces.specs.Timestamp.MonthDate.{month, month_names, short_number, clock_row}
 use Rattle.syslog_pieces.specs.declared.timestamp.month_date.MonthDate.{MonthDate}
 use Rattle.syslog_pieces.specs.declared.timestamp.month_date.MonthDay.{MonthDay}

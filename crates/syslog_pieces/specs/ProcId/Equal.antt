@@ -1,8 +1,8 @@
 -- When two process ids are equal: both are one number, or both are names with one text. A number is no name.
 use Rattle.std.specs.Prelude.{Bool, false}
 use Rattle.std.specs.Ordering.{int_eq}
-use Rattle.syslog_pieces.specs.Pieces.Class.{Text}
-use Rattle.syslog_pieces.specs.Pieces.View.{text_eq}
+use Rattle.syslog_text.specs.Pieces.Class.{Text}
+use Rattle.syslog_text.specs.Pieces.View.{text_eq}
 use Rattle.syslog_pieces.specs.declared.procid.ProcId.{ProcId}
 use Rattle.syslog_pieces.specs.declared.procid.ProcId.TheVariants.{PID, Name}
 

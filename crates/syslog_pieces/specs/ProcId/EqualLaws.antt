@@ -2,7 +2,7 @@
 use Rattle.std.specs.Prelude.{◌≡◌, true, refl}
 use Rattle.std.specs.Cmp.{IsEquivalence, int_eq_equiv}
 use Rattle.std.specs.Cmp.Lexicographic.{nat_list_eq_equiv}
-use Rattle.syslog_pieces.specs.Pieces.Class.{Text}
+use Rattle.syslog_text.specs.Pieces.Class.{Text}
 use Rattle.syslog_pieces.specs.ProcId.Equal.{procid_eq}
 use Rattle.syslog_pieces.specs.declared.procid.ProcId.{ProcId}
 use Rattle.syslog_pieces.specs.declared.procid.ProcId.TheVariants.{PID, Name}

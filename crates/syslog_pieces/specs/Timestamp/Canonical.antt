@@ -2,7 +2,7 @@
 use Rattle.std.specs.Prelude.{◌≡◌, ◌⊎◌, ℕ, ℤ, pos, ◌%◌, ◌<◌, ◌+ℤ◌, ◌≤ℤ◌, unsigned_abs, true, ◌∷◌}
 use Rattle.std.specs.Char.{is_ascii_digit}
 use Rattle.jiff.specs.Words.{nanos_of_seconds}
-use Rattle.syslog_pieces.specs.Pieces.Class.{Text}
+use Rattle.syslog_text.specs.Pieces.Class.{Text}
 use Rattle.syslog_pieces.specs.declared.timestamp.OffsetTimestamp.{OffsetTimestamp}
 use Rattle.syslog_pieces.specs.Timestamp.Printed.{civil_fields}
 

@@ -2,8 +2,8 @@
 -- of them; the year, the blanks and the last colon are this project's own choice.)
 use Rattle.std.specs.Prelude.{◌≡◌, ℕ, ◌+◌, List, [], ◌∷◌, Some, None, codes, map, slice_get}
 use Rattle.std.specs.Char.{to_ascii_lowercase}
-use Rattle.syslog_pieces.specs.Pieces.Class.{Text, Class, Values, Row, some_run, exactly, optional, mapped, either}
-use Rattle.syslog_pieces.specs.Text.{is_blank, number, colon}
+use Rattle.syslog_text.specs.Pieces.Class.{Text, Class, Values, Row, some_run, exactly, optional, mapped, either}
+use Rattle.syslog_text.specs.Text.{is_blank, number, colon}
 use Rattle.syslog_pieces.specs.declared.timestamp.month_date.MonthDate.{MonthDate}
 
 -- the names of the months in small letters

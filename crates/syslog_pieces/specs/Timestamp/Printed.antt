@@ -7,6 +7,7 @@ use Rattle.jiff_core.specs.Calendar.{days_of_months, days_from_civil}
 use Rattle.jiff.specs.Words.{nanos_of_seconds}
 use Rattle.jiff_tz.specs.Year.{year_of_day}
 use Rattle.jiff_fmt.specs.Text.{pad2, pad4}
+use Rattle.syslog_text.specs.Text.Digits.{pad3}
 use Rattle.syslog_pieces.specs.declared.timestamp.fields.CivilFields.{CivilFields}
 
 -- the most months, at most n, from January on that fit in that many days of the year
@@ -36,10 +37,6 @@ civil_fields nanos =
     let year = year_of_day day in
     place_fields year (unsigned_abs (day -ℤ days_from_civil year 1 1))
     (unsigned_abs (int_rem_euclid nanos (pos 86_400_000_000_000)))
-
--- a number below 1000, in three digits
-abbrev pub pad3 : ℕ → List ℕ
-pad3 n = (48 + n / 100) ∷ (48 + n / 10 % 10) ∷ (48 + n % 10) ∷ []
 
 -- 0, 3, 6 or 9 decimals, the least that is exact
 unfoldable pub fraction_text : ℕ → List ℕ

@@ -1,8 +1,8 @@
 -- The timestamp of a header of RFC 3164, and the month date that a text shows.
 use Rattle.std.specs.Prelude.{ℕ, [], ◌∷◌, Option, MatchOption}
-use Rattle.syslog_pieces.specs.Pieces.Class.{Text, Class, Division, run, rest, optional, either}
+use Rattle.syslog_text.specs.Pieces.Class.{Text, Class, Division, run, rest, optional, either}
 use Rattle.syslog_pieces.specs.Pri.{priority}
-use Rattle.syslog_pieces.specs.Text.{trimmed, is_blank}
+use Rattle.syslog_text.specs.Text.{trimmed, is_blank}
 use Rattle.syslog_pieces.specs.Timestamp.{header_stamp}
 use Rattle.syslog_pieces.specs.Timestamp.MonthDate.{month_date, yearless_date}
 use Rattle.syslog_pieces.specs.Timestamp.Zone.{Dating, IsMonthStamp}

@@ -7,7 +7,7 @@ use Rattle.jiff.specs.Types.{DateTime}
 use Rattle.jiff.specs.Words.{IsTimestampNanos, civil_nanos, nanos_of_seconds}
 use Rattle.jiff_fmt.specs.Reader.{fraction_value}
 use Rattle.jiff_fmt.specs.Text.{pad2, pad4}
-use Rattle.syslog_pieces.specs.Pieces.Class.{Text, Class, Values, Row, Ends, some_run, after, either, mapped, texted}
+use Rattle.syslog_text.specs.Pieces.Class.{Text, Class, Values, Row, Ends, some_run, after, either, mapped, texted}
 use Rattle.syslog_pieces.specs.declared.timestamp.rfc3339_text.Rfc3339Fields.{Rfc3339Fields}
 use Rattle.syslog_pieces.specs.Timestamp.Fields.{IsDateTime}
 

@@ -4,7 +4,7 @@ ghost use Rattle.syslog_pieces.specs.Words.{prefix_len, is_ascii_digit, IsAsciiD
 ghost use Rattle.syslog_pieces.specs.Words.{ReadsBytes, pad3};
 ghost use Rattle.syslog_pieces.specs.Timestamp.Rfc3339 as spec;
 
-use crate::text::begins_with_digit;
+use syslog_text::text::begins_with_digit;
 
 // Returns the number that an ASCII digit writes. It has 32 bits, since each sum of 8 bits would be widened once more.
 #[inline(always)]

@@ -7,7 +7,7 @@ ghost use Rattle.syslog_pieces.specs.Words.{Front, NoFront, Row, Text, shown, Re
 ghost use Rattle.syslog_pieces.specs.Bodies.MonthReading as parts;
 ghost use Rattle.syslog_pieces.specs.Timestamp.MonthDate as spec;
 
-use crate::text::{literal, number, past_colon, some_blanks};
+use syslog_text::text::{literal, number, past_colon, some_blanks};
 
 /// The numbers that a month date shows. There may be no such date, as for `Feb 30`.
 #[derive(Clone, Copy, Debug)]

@@ -6,7 +6,7 @@ ghost use Rattle.syslog_pieces.specs.Words.{Reads, after};
 ghost use Rattle.syslog_pieces.specs.Timestamp.Rfc3339 as spec;
 
 use super::digits;
-use crate::text::{CharClass, literal, split_run};
+use syslog_text::text::{CharClass, literal, split_run};
 
 /// Returns the number that two digits at the front write, if it is below the limit, and the text after them.
 #[inline(always)]

@@ -1,19 +1,19 @@
 //! STRUCTURED-DATA of RFC 5424 (section 6.3). The functions are named after its rules.
 ghost use Rattle.std.specs.Prelude.{◌≡◌, ◌∷◌, [], ◌<◌, IfOk, IfSome, IsTrue, List, MatchOption, map, length, true};
 ghost use Rattle.std.specs.Str.{chars, IsUtf8};
-ghost use Rattle.syslog_pieces.specs.Pieces.Class.{Front, NoFront, Text, exactly, spaced, texted};
-ghost use Rattle.syslog_pieces.specs.Pieces.Lists.{many};
-ghost use Rattle.syslog_pieces.specs.Pieces.View.{Recognises, shown};
-ghost use Rattle.syslog_pieces.specs.StructuredData.Element.{ElementValue};
-ghost use Rattle.syslog_pieces.specs.StructuredData.Escapes.{TextUnit};
+ghost use Rattle.syslog_text.specs.Pieces.Class.{Front, NoFront, Text, exactly, spaced, texted};
+ghost use Rattle.syslog_text.specs.Pieces.Lists.{many};
+ghost use Rattle.syslog_text.specs.Pieces.View.{Recognises, shown};
+ghost use Rattle.syslog_elements.specs.StructuredData.Element.{ElementValue};
+ghost use Rattle.syslog_elements.specs.StructuredData.Escapes.{TextUnit};
 ghost use Rattle.syslog_strict.specs.Conversion.{is_among};
 ghost use Rattle.syslog_strict.specs.Grammar as grammar;
 
 use crate::ids::Ids;
 use std::alloc::{AllocError, Global};
-use syslog_pieces::as_str::is_same_text;
-use syslog_pieces::text::bounded::short_run;
-use syslog_pieces::text::{CharClass, first, literal, split_run};
+use syslog_text::as_str::is_same_text;
+use syslog_text::text::bounded::short_run;
+use syslog_text::text::{CharClass, first, literal, split_run};
 
 // Returns the text after this character. It is no `literal`, so that its clauses say that the text is UTF-8.
 #[inline(always)]

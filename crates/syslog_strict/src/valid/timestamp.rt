@@ -2,14 +2,14 @@
 ghost use Rattle.std.specs.Prelude.{◌∷◌, ◌<◌, [], MatchBool, Option, pos};
 ghost use Rattle.std.specs.Str.{chars};
 ghost use Rattle.jiff_core.specs.Calendar.{IsCivilDate};
-ghost use Rattle.syslog_pieces.specs.Pieces.Class.{Front, Row, after, exactly, optional};
-ghost use Rattle.syslog_pieces.specs.Pieces.View.{Recognises, shown};
+ghost use Rattle.syslog_text.specs.Pieces.Class.{Front, Row, after, exactly, optional};
+ghost use Rattle.syslog_text.specs.Pieces.View.{Recognises, shown};
 ghost use Rattle.syslog_strict.specs.Grammar as grammar;
 
 use jiff::civil::Date;
-use syslog_pieces::text::bounded::short_run;
-use syslog_pieces::text::{CharClass, literal};
 use syslog_pieces::timestamp::pairs::{pair, pair_after, year};
+use syslog_text::text::bounded::short_run;
+use syslog_text::text::{CharClass, literal};
 
 // Whether the calendar has the date.
 #[inline(always)]

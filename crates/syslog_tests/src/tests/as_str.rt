@@ -1,6 +1,6 @@
 //! A text, as a generic caller may use it.
 use super::checks::{check, comes_before};
-use syslog_pieces::as_str::AsStr;
+use syslog_text::as_str::AsStr;
 
 // What a generic caller may use: the text, the equality and the order.
 fn has_text<S: AsStr>(one: &S, want: &str) -> bool {

@@ -5,7 +5,7 @@ use super::pieces::is_element;
 use super::rows::{answer_of, text_of};
 use std::alloc::Global;
 use std::process::Abort;
-use syslog_pieces::structured_data::StructuredElement;
+use syslog_elements::structured_data::StructuredElement;
 
 fn has_equal_copy(alloc: Global, owned: &StructuredElement<String>, printed: &str) -> bool {
     match owned.try_clone(alloc) {

@@ -4,7 +4,7 @@ use super::pieces::are_elements;
 use super::rows::{answer_of, is_text, left_of, text_of};
 use std::alloc::{AllocError, Global};
 use std::process::Abort;
-use syslog_pieces::structured_data::{
+use syslog_elements::structured_data::{
     Collect, Element, ElementList, ElementVisitor, NoNotes, StructuredElement, visit_forgiving_list,
 };
 

@@ -1,7 +1,7 @@
 //! Elements that tests build and print.
 use std::alloc::{AllocError, Global};
-use syslog_pieces::as_str::AsStr;
-use syslog_pieces::structured_data::StructuredElement;
+use syslog_elements::structured_data::StructuredElement;
+use syslog_text::as_str::AsStr;
 
 /// The element of a line, built by hand: its id, then the name and the value of each parameter, with bars between.
 pub(super) fn element_of<'a>(

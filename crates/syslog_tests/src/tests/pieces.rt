@@ -3,12 +3,12 @@ use super::checks::check;
 use super::rows::{answer_of, is_text, left_of};
 use std::alloc::{AllocError, Global};
 use std::process::Abort;
-use syslog_pieces::as_str::AsStr;
-use syslog_pieces::procid::ProcId;
-use syslog_pieces::structured_data::rfc3164_list::DashRule;
-use syslog_pieces::structured_data::{
+use syslog_elements::structured_data::rfc3164_list::DashRule;
+use syslog_elements::structured_data::{
     Collect, StructuredElement, visit_forgiving_list, visit_rfc3164_list,
 };
+use syslog_pieces::procid::ProcId;
+use syslog_text::as_str::AsStr;
 
 pub(super) type List<'a> = Option<(Vec<StructuredElement<&'a str>>, &'a str)>;
 

@@ -4,8 +4,8 @@ use super::pieces::{has_equal_copy, is_name};
 use super::rows::{answer_of, left_of, text_of};
 use std::alloc::Global;
 use std::process::Abort;
-use syslog_pieces::as_str::AsStr;
 use syslog_pieces::procid::ProcId;
+use syslog_text::as_str::AsStr;
 
 // The second cell of a row is the process id: `pid` and a number, or `name` and a name.
 fn reads_as_process<S: AsStr>(row: &str, procid: &ProcId<S>) -> bool {

@@ -2,7 +2,7 @@
 use super::checks::check;
 use std::alloc::{AllocError, Global};
 use std::process::Abort;
-use syslog_pieces::text::{CharClass, first, run_end, split_run};
+use syslog_text::text::{CharClass, first, run_end, split_run};
 
 /// The longest text that is cut.
 const LONGEST: usize = 70;

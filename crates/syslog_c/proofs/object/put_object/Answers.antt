@@ -1,5 +1,5 @@
 use Rattle.syslog_c.proofs.Words.{Option, inl, subst, Text, line_value}
-use Rattle.syslog_pieces.specs.Pieces.View.{seen}
+use Rattle.syslog_text.specs.Pieces.View.{seen}
 use Rattle.syslog_object.specs.Object.{beside_line, message_json}
 use Rattle.syslog_object.specs.Written.{IsTextOf}
 use Rattle.syslog_c.proofs.object.put_object.Goals as goal

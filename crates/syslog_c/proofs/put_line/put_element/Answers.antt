@@ -1,7 +1,7 @@
 use Rattle.syslog_c.proofs.Words.{◌∙◌, ◌∷◌, [], ap, sym, append-nil, append_assoc, Text, shown, param_value}
 use Rattle.syslog_c.proofs.Words.{element_seen, params_left}
 use Rattle.std.specs.List.{flat_map}
-use Rattle.syslog_pieces.specs.StructuredData.Element.{param_text}
+use Rattle.syslog_elements.specs.StructuredData.Element.{param_text}
 use Rattle.syslog_pieces.proofs.Names.{YieldsList-end, YieldsList-from_first}
 use Rattle.syslog_c.proofs.TextLemmas.{chars_of_literals, more_text, text_after, text_along}
 use Rattle.syslog_c.proofs.put_line.put_element.Goals as goal

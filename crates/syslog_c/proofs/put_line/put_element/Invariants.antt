@@ -1,6 +1,6 @@
 use Rattle.syslog_c.proofs.Words.{map, ◌∷◌, ◌++◌, TakesText, element_seen, param_value, shown}
 use Rattle.std.specs.List.{flat_map}
-use Rattle.syslog_pieces.specs.StructuredData.Element.{param_text}
+use Rattle.syslog_elements.specs.StructuredData.Element.{param_text}
 use Rattle.syslog_c.proofs.put_line.put_element.Given as goal
 
 abbrev pub invariant-loop-name : goal.invariant-loop-name

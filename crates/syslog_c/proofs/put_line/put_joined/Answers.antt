@@ -1,5 +1,5 @@
 use Rattle.syslog_c.proofs.Words.{[], element_seen}
-use Rattle.syslog_pieces.specs.StructuredData.Element.{element_text}
+use Rattle.syslog_elements.specs.StructuredData.Element.{element_text}
 use Rattle.syslog_c.proofs.TextLemmas.{more_text, text_after, text_along, text_none}
 use Rattle.syslog_c.proofs.put_line.put_joined.Goals as goal
 

@@ -1,5 +1,5 @@
 use Rattle.syslog_c.proofs.Words.{map, TakesText, element_seen}
-use Rattle.syslog_pieces.specs.StructuredData.Element.{joined_elements}
+use Rattle.syslog_elements.specs.StructuredData.Element.{joined_elements}
 use Rattle.syslog_c.proofs.put_line.put_joined.Given as goal
 
 abbrev pub invariant-loop-element : goal.invariant-loop-element

@@ -1,6 +1,6 @@
 use Rattle.syslog_c.proofs.Words.{◌≡◌, List, [], ◌∷◌, ◌++◌, refl, chars-nil}
 use Rattle.std.specs.Prelude.{◌≢◌}
-use Rattle.syslog_pieces.specs.StructuredData.Element.{ElementValue, joined_elements}
+use Rattle.syslog_elements.specs.StructuredData.Element.{ElementValue, joined_elements}
 use Rattle.syslog_loose.specs.Printed.{spaced_elements}
 use Rattle.syslog_c.proofs.TextLemmas.{chars_of_literals, text_after, text_along}
 use Rattle.syslog_c.proofs.put_line.put_spaced_list.Goals as goal

@@ -1,10 +1,10 @@
 use Rattle.syslog_c.proofs.Words.{◌∙◌, sym}
 use Rattle.std.specs.Str.{chars}
-use Rattle.syslog_pieces.specs.Pieces.Class.{optional, run}
+use Rattle.syslog_text.specs.Pieces.Class.{optional, run}
 use Rattle.syslog_pieces.specs.Pri.{priority}
-use Rattle.syslog_pieces.specs.Text.{is_blank, trimmed}
+use Rattle.syslog_text.specs.Text.{is_blank, trimmed}
 use Rattle.syslog_pieces.specs.Timestamp.MonthDate.{month_date}
-use Rattle.syslog_pieces.proofs.PieceLemmas.Class.{front_same, optional_det, run_det}
+use Rattle.syslog_text.proofs.PieceLemmas.Class.{front_same, optional_det, run_det}
 use Rattle.syslog_pieces.proofs.PriLemmas.{priority_det}
 use Rattle.syslog_loose.proofs.Rfc3164Lemmas.{shown_parts, shows}
 use Rattle.syslog_c.proofs.shown.shown_date.Goals as goal

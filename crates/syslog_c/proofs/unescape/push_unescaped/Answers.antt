@@ -1,6 +1,6 @@
 use Rattle.syslog_c.{proofs.TextLemmas.text_after, proofs.TextLemmas.text_none}
 use Rattle.syslog_pieces.proofs.Names.{rules, refl, [], ◌++◌, chars}
-use Rattle.syslog_pieces.proofs.StructuredDataLemmas.Units.{means_all, means_here, means_more}
+use Rattle.syslog_elements.proofs.StructuredDataLemmas.Units.{means_all, means_here, means_more}
 use Rattle.syslog_c.proofs.unescape.push_unescaped.Goals as goal
 
 pub texts-init : goal.texts-init

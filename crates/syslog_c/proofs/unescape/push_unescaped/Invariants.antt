@@ -1,6 +1,7 @@
 use Rattle.syslog_c.proofs.Words.{length, Text, TakesText}
 use Rattle.std.specs.Str.{chars}
-use Rattle.syslog_pieces.{proofs.Names.shadow, proofs.Names.Utf8, specs.StructuredData.Escapes.MeansFirst}
+use Rattle.syslog_pieces.{proofs.Names.shadow, proofs.Names.Utf8}
+use Rattle.syslog_elements.{specs.StructuredData.Escapes.MeansFirst}
 use Rattle.syslog_c.proofs.unescape.push_unescaped.Given as goal
 
 -- what was put up to here

@@ -1,6 +1,6 @@
 use Rattle.syslog_c.proofs.Words.{◌∙◌, ℕ, List, [], inl, rules, sym, subst, Text}
 use Rattle.std.specs.Str.{chars}
-use Rattle.syslog_pieces.specs.StructuredData.Escapes.{IsUnescaped}
+use Rattle.syslog_elements.specs.StructuredData.Escapes.{IsUnescaped}
 use Rattle.syslog_c.specs.Texts.{IsUnescapedValue, Unescaped}
 use Rattle.syslog_c.proofs.TextLemmas.{taken_none, told, with_room}
 use Rattle.syslog_c.proofs.unescape.unescaped.Goals as goal

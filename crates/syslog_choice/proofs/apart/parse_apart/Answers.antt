@@ -1,5 +1,5 @@
 use Rattle.std.proofs.Common.{refl}
-use Rattle.syslog_pieces.proofs.PieceLemmas.Class.{match_map}
+use Rattle.syslog_text.proofs.PieceLemmas.Class.{match_map}
 use Rattle.syslog_loose.proofs.ReadingLemmas.{in_year_map, in_year_told}
 use Rattle.syslog_choice.proofs.apart.parse_apart.Goals as goal
 

@@ -1,6 +1,6 @@
 use Rattle.std.proofs.Common.{◌≡◌, ◌∙◌, ◌++◌, ◌∷◌, [], ℕ, List, ap, option_map, sym}
-use Rattle.syslog_pieces.specs.Pieces.View.{seen}
-use Rattle.syslog_pieces.specs.StructuredData.Visited.{list_elements}
+use Rattle.syslog_text.specs.Pieces.View.{seen}
+use Rattle.syslog_elements.specs.StructuredData.Visited.{list_elements}
 use Rattle.syslog_loose.specs.Line.{line_value}
 use Rattle.syslog_object.specs.Object.{beside_line, message_json, protocol_text, text_json, version_json}
 use Rattle.syslog_csv.proofs.CellLemmas.{cells_of_message, cells_with, elements_same, from_empty, message_cells}

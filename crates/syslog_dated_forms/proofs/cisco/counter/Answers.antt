@@ -1,10 +1,10 @@
 use Rattle.std.proofs.Common.{[], ◌∷◌, inl}
 use Rattle.std.specs.Char.{is_ascii_digit}
 use Rattle.std.specs.Str.{chars}
-use Rattle.syslog_pieces.specs.Pieces.Class.{some_run}
-use Rattle.syslog_pieces.proofs.TextLemmas.Runs.{ends_digits, no_run}
-use Rattle.syslog_pieces.proofs.PieceLemmas.Class.{◌also◌, no_row}
-use Rattle.syslog_pieces.proofs.PieceLemmas.Rules.{row_reads}
+use Rattle.syslog_text.specs.Pieces.Class.{some_run}
+use Rattle.syslog_text.proofs.TextLemmas.Runs.{ends_digits, no_run}
+use Rattle.syslog_text.proofs.PieceLemmas.Class.{◌also◌, no_row}
+use Rattle.syslog_text.proofs.PieceLemmas.Rules.{row_reads}
 use Rattle.syslog_dated_forms.specs.Cisco.{counter_row}
 use Rattle.syslog_dated_forms.proofs.CiscoLemmas.{counter_row_det}
 use Rattle.syslog_dated_forms.proofs.cisco.counter.Goals as goal

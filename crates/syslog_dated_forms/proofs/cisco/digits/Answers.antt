@@ -1,6 +1,6 @@
-use Rattle.syslog_pieces.proofs.TextLemmas.Runs.{chars_nonempty, empty_is, nonempty_is, no_run_front}
+use Rattle.syslog_text.proofs.TextLemmas.Runs.{chars_nonempty, empty_is, nonempty_is, no_run_front}
 use Rattle.std.specs.Char.{is_ascii_digit}
-use Rattle.syslog_pieces.specs.Pieces.Class.{some_run}
+use Rattle.syslog_text.specs.Pieces.Class.{some_run}
 use Rattle.syslog_dated_forms.proofs.cisco.digits.Goals as goal
 
 pub returns-then-is_empty : goal.returns-then-is_empty

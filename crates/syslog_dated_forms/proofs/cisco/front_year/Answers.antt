@@ -1,6 +1,6 @@
 use Rattle.std.proofs.Common.{ℕ, inl, refl}
-use Rattle.syslog_pieces.proofs.PieceLemmas.Class.{◌past◌, ◌then◌, mapped_front, no_mapped, no_row, row_of}
-use Rattle.syslog_pieces.specs.Pieces.Class.{Row}
+use Rattle.syslog_text.proofs.PieceLemmas.Class.{◌past◌, ◌then◌, mapped_front, no_mapped, no_row, row_of}
+use Rattle.syslog_text.specs.Pieces.Class.{Row}
 use Rattle.syslog_dated_forms.specs.Cisco.{front_year_row}
 use Rattle.syslog_dated_forms.proofs.CiscoLemmas.{front_year_row_det}
 use Rattle.syslog_dated_forms.proofs.cisco.front_year.Goals as goal

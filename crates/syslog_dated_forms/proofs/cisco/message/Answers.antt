@@ -1,5 +1,5 @@
 use Rattle.std.proofs.Common.{inl, refl}
-use Rattle.syslog_pieces.proofs.PieceLemmas.Class.{◌past◌, ◌then◌, no_row, rest_front, row_of}
+use Rattle.syslog_text.proofs.PieceLemmas.Class.{◌past◌, ◌then◌, no_row, rest_front, row_of}
 use Rattle.syslog_dated_forms.specs.Cisco.{message_row}
 use Rattle.syslog_dated_forms.proofs.CiscoLemmas.{message_row_det}
 use Rattle.syslog_dated_forms.proofs.cisco.message.Goals as goal

@@ -1,8 +1,8 @@
 use Rattle.std.proofs.Common.{[], ◌∷◌, ◌++◌, nat_eq, subst}
 use Rattle.std.proofs.lemmas.Bool.{and_parts}
 use Rattle.std.specs.Prelude.{◌||◌}
-use Rattle.syslog_pieces.specs.Pieces.Class.{Text}
-use Rattle.syslog_pieces.proofs.PieceLemmas.Rules.{no_such_front, no_such_meaning, such_front}
+use Rattle.syslog_text.specs.Pieces.Class.{Text}
+use Rattle.syslog_text.proofs.PieceLemmas.Rules.{no_such_front, no_such_meaning, such_front}
 use Rattle.syslog_dated_forms.specs.Cisco.{IsMnemonic, begins_mnemonic}
 use Rattle.syslog_sent.specs.Named.{BeginsWith, is_letter}
 use Rattle.syslog_sent.specs.Zone.{bare_word}

@@ -1,4 +1,4 @@
-use Rattle.syslog_pieces.proofs.PieceLemmas.Rules.{no_such_front, no_such_meaning, such_front}
+use Rattle.syslog_text.proofs.PieceLemmas.Rules.{no_such_front, no_such_meaning, such_front}
 use Rattle.syslog_dated_forms.specs.Cisco.{begins_host}
 use Rattle.syslog_sent.specs.Named.{BeginsWith}
 use Rattle.syslog_sent.specs.Zone.{bare_word}

@@ -1,5 +1,5 @@
 use Rattle.std.proofs.Common.{Some}
-use Rattle.syslog_pieces.proofs.PieceLemmas.Class.{optional_some}
+use Rattle.syslog_text.proofs.PieceLemmas.Class.{optional_some}
 use Rattle.syslog_dated_forms.specs.Cisco.{mark}
 use Rattle.syslog_dated_forms.proofs.cisco.past_mark.Goals as goal
 

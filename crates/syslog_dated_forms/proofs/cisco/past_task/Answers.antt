@@ -1,6 +1,6 @@
 use Rattle.std.proofs.Common.{Some}
-use Rattle.syslog_pieces.proofs.PieceLemmas.Class.{optional_some}
-use Rattle.syslog_pieces.specs.Pieces.Class.{Row}
+use Rattle.syslog_text.proofs.PieceLemmas.Class.{optional_some}
+use Rattle.syslog_text.specs.Pieces.Class.{Row}
 use Rattle.syslog_dated_forms.specs.Cisco.{task_row}
 use Rattle.syslog_dated_forms.proofs.cisco.past_task.Goals as goal
 

@@ -1,6 +1,6 @@
 use Rattle.std.proofs.Common.{Option, refl}
-use Rattle.syslog_pieces.proofs.PieceLemmas.Class.{◌then◌, mapped_front, row_of}
-use Rattle.syslog_pieces.specs.Pieces.Class.{Row, Text}
+use Rattle.syslog_text.proofs.PieceLemmas.Class.{◌then◌, mapped_front, row_of}
+use Rattle.syslog_text.specs.Pieces.Class.{Row, Text}
 use Rattle.syslog_dated_forms.specs.Cisco.{labelled, start_row}
 use Rattle.syslog_dated_forms.proofs.cisco.start.Goals as goal
 

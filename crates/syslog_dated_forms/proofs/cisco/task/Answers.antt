@@ -1,6 +1,6 @@
 use Rattle.std.proofs.Common.{[], ◌∷◌}
-use Rattle.syslog_pieces.proofs.PieceLemmas.Class.{◌also◌}
-use Rattle.syslog_pieces.proofs.PieceLemmas.Rules.{row_reads}
+use Rattle.syslog_text.proofs.PieceLemmas.Class.{◌also◌}
+use Rattle.syslog_text.proofs.PieceLemmas.Rules.{row_reads}
 use Rattle.syslog_dated_forms.specs.Cisco.{task_row}
 use Rattle.syslog_dated_forms.proofs.CiscoLemmas.{task_row_det}
 use Rattle.syslog_dated_forms.proofs.cisco.task.Goals as goal

@@ -1,5 +1,5 @@
 use Rattle.std.proofs.Common.{Some, None, inl, refl}
-use Rattle.syslog_pieces.proofs.PieceLemmas.Class.{◌past◌, ◌then◌, no_row, no_row_division, row_of}
+use Rattle.syslog_text.proofs.PieceLemmas.Class.{◌past◌, ◌then◌, no_row, no_row_division, row_of}
 use Rattle.syslog_dated_forms.specs.Container.{container_row}
 use Rattle.syslog_sent.specs.Sent.{loose}
 use Rattle.syslog_dated_forms.proofs.ContainerLemmas.{container_row_det, no_output, output_front}

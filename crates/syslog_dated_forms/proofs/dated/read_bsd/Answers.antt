@@ -1,9 +1,9 @@
 use Rattle.std.proofs.Common.{inl, refl}
-use Rattle.syslog_pieces.proofs.PieceLemmas.Class.{◌past◌, ◌then◌, mapped_front, no_mapped, no_row, no_row_division}
-use Rattle.syslog_pieces.proofs.PieceLemmas.Class.{row_det, row_of}
-use Rattle.syslog_pieces.proofs.PieceLemmas.Rules.{no_such_meaning, such_front}
-use Rattle.syslog_pieces.specs.Pieces.Class.{Row}
-use Rattle.syslog_pieces.specs.Pieces.Rules.{such_that}
+use Rattle.syslog_text.proofs.PieceLemmas.Class.{◌past◌, ◌then◌, mapped_front, no_mapped, no_row, no_row_division}
+use Rattle.syslog_text.proofs.PieceLemmas.Class.{row_det, row_of}
+use Rattle.syslog_text.proofs.PieceLemmas.Rules.{no_such_meaning, such_front}
+use Rattle.syslog_text.specs.Pieces.Class.{Row}
+use Rattle.syslog_text.specs.Pieces.Rules.{such_that}
 use Rattle.syslog_sent.specs.Date.{IsOdd, bsd_of}
 use Rattle.syslog_sent.specs.Date.{bsd_row as date_row}
 use Rattle.syslog_dated_forms.specs.Dated.{dated_sent, bsd_row}

@@ -1,5 +1,5 @@
 use Rattle.std.proofs.Common.{inl}
-use Rattle.syslog_pieces.proofs.PieceLemmas.Class.{◌past◌, no_row}
+use Rattle.syslog_text.proofs.PieceLemmas.Class.{◌past◌, no_row}
 use Rattle.syslog_dated_forms.specs.Filed.{filed_front}
 use Rattle.syslog_dated_forms.proofs.FiledLemmas.{filed_front_det, unfiled}
 use Rattle.syslog_sent.proofs.LedLemmas.{any_front}

@@ -1,6 +1,6 @@
 use Rattle.std.proofs.Common.{Option, inl, refl}
-use Rattle.syslog_pieces.proofs.PieceLemmas.Class.{◌past◌, ◌then◌, mapped_front, no_mapped, no_row, row_of}
-use Rattle.syslog_pieces.specs.Pieces.Class.{Row, Text}
+use Rattle.syslog_text.proofs.PieceLemmas.Class.{◌past◌, ◌then◌, mapped_front, no_mapped, no_row, row_of}
+use Rattle.syslog_text.specs.Pieces.Class.{Row, Text}
 use Rattle.syslog_dated_forms.specs.IosXr.{card_row, host_in}
 use Rattle.syslog_dated_forms.proofs.OtherDateLemmas.{card_row_det}
 use Rattle.syslog_dated_forms.proofs.ios_xr.card.Goals as goal

@@ -1,7 +1,7 @@
 use Rattle.std.proofs.Common.{◌≡◌, inl, inr, ℕ, true, ◌∷◌, ◌++◌, refl, subst}
 use Rattle.std.specs.Prelude.{codes}
-use Rattle.syslog_pieces.specs.Pieces.Class.{Text}
-use Rattle.syslog_pieces.proofs.PieceLemmas.Rules.{no_such_front, no_such_meaning, such_front}
+use Rattle.syslog_text.specs.Pieces.Class.{Text}
+use Rattle.syslog_text.proofs.PieceLemmas.Rules.{no_such_front, no_such_meaning, such_front}
 use Rattle.syslog_dated_forms.specs.Cisco.{Starts}
 use Rattle.syslog_dated_forms.specs.IosXr.{IsNode, begins_node}
 use Rattle.syslog_sent.specs.Named.{BeginsWith}

@@ -1,5 +1,5 @@
 use Rattle.std.proofs.Common.{inl, refl}
-use Rattle.syslog_pieces.proofs.PieceLemmas.Class.{◌past◌, ◌then◌, no_row, no_row_division, row_of}
+use Rattle.syslog_text.proofs.PieceLemmas.Class.{◌past◌, ◌then◌, no_row, no_row_division, row_of}
 use Rattle.syslog_dated_forms.specs.Cisco.{date_row}
 use Rattle.syslog_dated_forms.specs.IosXr.{xr_row, xr_sent}
 use Rattle.syslog_dated_forms.proofs.CiscoLemmas.{date_row_det}

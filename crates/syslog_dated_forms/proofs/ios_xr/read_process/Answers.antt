@@ -1,6 +1,6 @@
 use Rattle.std.proofs.Common.{inl, refl}
-use Rattle.syslog_pieces.proofs.PieceLemmas.Class.{◌past◌, ◌then◌, mapped_front, no_mapped, no_row, rest_front, row_of}
-use Rattle.syslog_pieces.specs.Pieces.Class.{Row, Text}
+use Rattle.syslog_text.proofs.PieceLemmas.Class.{◌past◌, ◌then◌, mapped_front, no_mapped, no_row, rest_front, row_of}
+use Rattle.syslog_text.specs.Pieces.Class.{Row, Text}
 use Rattle.syslog_dated_forms.specs.IosXr.{process_in, process_row}
 use Rattle.syslog_dated_forms.proofs.OtherDateLemmas.{process_row_det}
 use Rattle.syslog_dated_forms.proofs.ios_xr.read_process.Goals as goal

@@ -1,5 +1,5 @@
 use Rattle.std.proofs.Common.{inl, refl}
-use Rattle.syslog_pieces.proofs.PieceLemmas.Class.{◌past◌, ◌then◌, no_row, row_of}
+use Rattle.syslog_text.proofs.PieceLemmas.Class.{◌past◌, ◌then◌, no_row, row_of}
 use Rattle.syslog_dated_forms.specs.NetScaler.{slashed_row}
 use Rattle.syslog_dated_forms.proofs.OtherDateLemmas.{slashed_row_det}
 use Rattle.syslog_dated_forms.proofs.netscaler.slashed.Goals as goal

@@ -1,4 +1,4 @@
-use Rattle.syslog_pieces.proofs.PieceLemmas.Class.{match_map, no_spaced_piece, no_spaced_space, spaced_front}
+use Rattle.syslog_text.proofs.PieceLemmas.Class.{match_map, no_spaced_piece, no_spaced_space, spaced_front}
 use Rattle.syslog_pieces.specs.Timestamp.Rfc3339.{year}
 use Rattle.syslog_dated_forms.proofs.netscaler.slashed_year.Goals as goal
 

@@ -1,5 +1,5 @@
 use Rattle.std.proofs.Common.{Some, None}
-use Rattle.syslog_pieces.proofs.PieceLemmas.Class.{optional_none, optional_some}
+use Rattle.syslog_text.proofs.PieceLemmas.Class.{optional_none, optional_some}
 use Rattle.syslog_dated_forms.specs.Tail.{spare}
 use Rattle.syslog_dated_forms.proofs.tail.narrowed.Goals as goal
 

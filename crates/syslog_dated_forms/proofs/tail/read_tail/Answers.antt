@@ -1,5 +1,5 @@
 use Rattle.std.proofs.Common.{refl}
-use Rattle.syslog_pieces.proofs.PieceLemmas.Class.{◌then◌, rest_front, row_of}
+use Rattle.syslog_text.proofs.PieceLemmas.Class.{◌then◌, rest_front, row_of}
 use Rattle.syslog_dated_forms.specs.Tail.{tail_row}
 use Rattle.syslog_dated_forms.specs.TailViews.{tail_names}
 use Rattle.syslog_dated_forms.proofs.tail.read_tail.Goals as goal

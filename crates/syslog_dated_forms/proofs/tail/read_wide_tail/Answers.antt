@@ -1,6 +1,6 @@
 use Rattle.std.proofs.Common.{refl}
-use Rattle.syslog_pieces.proofs.PieceLemmas.Class.{◌then◌, mapped_front, row_of}
-use Rattle.syslog_pieces.specs.Pieces.Class.{Row, Values}
+use Rattle.syslog_text.proofs.PieceLemmas.Class.{◌then◌, mapped_front, row_of}
+use Rattle.syslog_text.specs.Pieces.Class.{Row, Values}
 use Rattle.syslog_dated_forms.specs.Tail.{TailValue, wide_row}
 use Rattle.syslog_dated_forms.proofs.tail.read_wide_tail.Goals as goal
 

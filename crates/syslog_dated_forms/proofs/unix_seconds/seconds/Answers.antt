@@ -1,6 +1,6 @@
-use Rattle.syslog_pieces.proofs.PieceLemmas.Rules.{no_such_front, no_such_meaning, such_front}
-use Rattle.syslog_pieces.proofs.TextLemmas.Words.{number_det}
-use Rattle.syslog_pieces.specs.Text.{number}
+use Rattle.syslog_text.proofs.PieceLemmas.Rules.{no_such_front, no_such_meaning, such_front}
+use Rattle.syslog_text.proofs.TextLemmas.Words.{number_det}
+use Rattle.syslog_text.specs.Text.{number}
 use Rattle.std.proofs.Common.{arith}
 use Rattle.syslog_dated_forms.specs.UnixSeconds.{IsLate}
 use Rattle.syslog_dated_forms.proofs.unix_seconds.seconds.Goals as goal

@@ -1,6 +1,6 @@
 use Rattle.std.proofs.Common.{ap, ◌∙◌, inl, refl}
-use Rattle.syslog_pieces.proofs.PieceLemmas.Class.{◌past◌, ◌then◌, mapped_front, row_of}
-use Rattle.syslog_pieces.specs.Pieces.Class.{Row}
+use Rattle.syslog_text.proofs.PieceLemmas.Class.{◌past◌, ◌then◌, mapped_front, row_of}
+use Rattle.syslog_text.specs.Pieces.Class.{Row}
 use Rattle.syslog_pieces.specs.declared.timestamp.fields.CivilFields.{CivilFields}
 use Rattle.syslog_dated_forms.specs.UnixSeconds.{in_utc, unix_of, unix_row}
 use Rattle.syslog_sent.proofs.NamedLemmas.{unread}

@@ -1,4 +1,4 @@
-use Rattle.syslog_pieces.proofs.TextLemmas.Runs.{ends_digits}
+use Rattle.syslog_text.proofs.TextLemmas.Runs.{ends_digits}
 use Rattle.syslog_dialects.proofs.OrdinaryLemmas.{digits_told, no_digits_told}
 use Rattle.syslog_dialects.proofs.ordinary.are_digits.Goals as goal
 

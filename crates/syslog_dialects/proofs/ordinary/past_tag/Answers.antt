@@ -1,6 +1,6 @@
 use Rattle.std.proofs.Common.{inl, refl}
 use Rattle.std.specs.Str.{chars}
-use Rattle.syslog_pieces.proofs.PieceLemmas.Class.{◌past◌, ◌then◌, match_map, no_row, row_of}
+use Rattle.syslog_text.proofs.PieceLemmas.Class.{◌past◌, ◌then◌, match_map, no_row, row_of}
 use Rattle.syslog_dialects.proofs.OrdinaryLemmas.{tag_det}
 use Rattle.syslog_dialects.specs.Ordinary.{tag_row}
 use Rattle.syslog_dialects.proofs.ordinary.past_tag.Goals as goal

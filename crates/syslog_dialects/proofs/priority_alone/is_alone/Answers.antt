@@ -1,5 +1,5 @@
-use Rattle.syslog_pieces.proofs.PieceLemmas.Class.{no_front_no}
-use Rattle.syslog_pieces.specs.Pieces.Class.{Row}
+use Rattle.syslog_text.proofs.PieceLemmas.Class.{no_front_no}
+use Rattle.syslog_text.specs.Pieces.Class.{Row}
 use Rattle.syslog_pieces.specs.Timestamp.MonthDate.{month_date}
 use Rattle.syslog_dialects.specs.PriorityAlone.{version_row}
 use Rattle.syslog_dialects.proofs.PriorityAloneLemmas.{alone_told}

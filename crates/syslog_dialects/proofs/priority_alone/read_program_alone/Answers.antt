@@ -1,5 +1,5 @@
 use Rattle.std.proofs.Common.{inl, refl}
-use Rattle.syslog_pieces.proofs.PieceLemmas.Class.{◌past◌, ◌then◌, no_row, no_row_division, rest_front, row_of}
+use Rattle.syslog_text.proofs.PieceLemmas.Class.{◌past◌, ◌then◌, no_row, no_row_division, rest_front, row_of}
 use Rattle.syslog_dialects.specs.PriorityAlone.{program_row, program_sent}
 use Rattle.syslog_sent.proofs.FormLemmas.{says_once}
 use Rattle.syslog_dialects.proofs.PriorityAloneLemmas.{program_alone_det}

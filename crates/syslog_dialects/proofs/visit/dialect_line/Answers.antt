@@ -1,6 +1,6 @@
 use Rattle.std.proofs.Common.{sym, ap, subst, ◌∙◌}
 use Rattle.std.specs.Str.{chars}
-use Rattle.syslog_pieces.specs.StructuredData.Visited.{list_elements, list_text}
+use Rattle.syslog_elements.specs.StructuredData.Visited.{list_elements, list_text}
 use Rattle.syslog_loose.specs.{Line.KnowsForm, Line.line_value, Message.MessageValue, declared.line.Line.Line}
 use Rattle.syslog_dialects.proofs.SentReadingLemmas.{no_stamp, unformed}
 use Rattle.syslog_sent.specs.Sent.{sent_value}

@@ -1,4 +1,4 @@
-use Rattle.syslog_pieces.proofs.PieceLemmas.Class.{match_map}
+use Rattle.syslog_text.proofs.PieceLemmas.Class.{match_map}
 use Rattle.syslog_dialects.proofs.visit.line_instead.Goals as goal
 
 pub returns : goal.returns

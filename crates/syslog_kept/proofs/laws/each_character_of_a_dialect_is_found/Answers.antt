@@ -1,5 +1,5 @@
 use Rattle.std.proofs.Common.{Some, sym, subst}
-use Rattle.syslog_pieces.specs.Pieces.Class.{Text}
+use Rattle.syslog_text.specs.Pieces.Class.{Text}
 use Rattle.syslog_object.specs.Object.{beside_line, message_json}
 use Rattle.syslog_sent.specs.Dialect.{dialect_text}
 use Rattle.syslog_kept.specs.Sent.{AccountsForSent}

@@ -4,7 +4,7 @@ use Rattle.syslog_loose.proofs.Names.{HasQuietNames, fields_row, fields_before, 
 use Rattle.std.specs.Borrow.{Bor}
 use Rattle.std.specs.Option.{is_some, option_flatten}
 use Rattle.std.proofs.lemmas.Str.Ascii.{IsAscii-cons}
-use Rattle.syslog_pieces.proofs.TextLemmas.Runs.{text_same}
+use Rattle.syslog_text.proofs.TextLemmas.Runs.{text_same}
 use Rattle.syslog_loose.proofs.Names.{field_seen, rules}
 use Rattle.syslog_loose.proofs.Rfc3164Lemmas.Near.{fields_known, fields_bare}
 use Rattle.syslog_loose.proofs.rfc3164.read_fields.Goals as goal

@@ -2,8 +2,8 @@ use Rattle.syslog_loose.proofs.Names.{[], List, Class, run, rest, texted, is_bla
 use Rattle.syslog_loose.proofs.Names.{inl, refl, sym, no_row, row_of, trimmed}
 use Rattle.syslog_loose.proofs.Names.{rest_front, rows_join, rows_none_here, Text, shown, elements_text, list_elements}
 use Rattle.syslog_loose.proofs.Names.{header_row, data_row, rfc5424_row, no_row_division, front_division}
-use Rattle.syslog_pieces.proofs.PieceLemmas.Class.{rows_none_later}
-use Rattle.syslog_pieces.specs.StructuredData.{forgiving}
+use Rattle.syslog_text.proofs.PieceLemmas.Class.{rows_none_later}
+use Rattle.syslog_elements.specs.StructuredData.{forgiving}
 use Rattle.syslog_loose.proofs.LineLemmas.{texted_as}
 use Rattle.syslog_loose.proofs.Rfc5424Lemmas.{data_det, header_det, rest_fits}
 use Rattle.syslog_loose.proofs.rfc5424.read_5424.Goals as goal

@@ -1,7 +1,7 @@
 use Rattle.syslog_loose.proofs.Names.{◌≡◌, ◌then◌, ◌past◌, Option, None, inl, refl, Text, row_of, no_row, header_row}
 use Rattle.syslog_loose.proofs.Names.{front_row, names_row, rows_join, Bor, List, ℕ, Line, IfSome, MatchOption, Some}
 use Rattle.syslog_loose.proofs.Names.{shown, subst, sym}
-use Rattle.syslog_pieces.proofs.PieceLemmas.Class.{Fails, match_map, rows_none_later}
+use Rattle.syslog_text.proofs.PieceLemmas.Class.{Fails, match_map, rows_none_later}
 use Rattle.syslog_loose.specs.Bodies.View5424.{FitsNames, ReadsHeader}
 use Rattle.syslog_loose.proofs.Rfc5424Lemmas.{front_det, header_det}
 use Rattle.syslog_loose.proofs.rfc5424.read_header.Goals as goal

@@ -4,10 +4,10 @@ use Rattle.syslog_loose.proofs.Names.{named_process, process_text, process_word,
 use Rattle.syslog_loose.proofs.Names.{row_of, no_row, names_row, seen, shown, some_run, is_blank, is_not_whitespace}
 use Rattle.syslog_loose.proofs.Names.{[], append_cancel_right, front_same, some_run_det, Ends, NoFront}
 use Rattle.std.proofs.lemmas.List.{append_cancel_left}
-use Rattle.syslog_pieces.proofs.PieceLemmas.Class.{front_of}
+use Rattle.syslog_text.proofs.PieceLemmas.Class.{front_of}
 use Rattle.syslog_pieces.proofs.ProcIdLemmas.{absent_front, process_front, no_process}
 use Rattle.syslog_pieces.proofs.ProcIdLemmas.{process_back, process_bounded, process_canonical, process_word_det}
-use Rattle.syslog_pieces.proofs.TextLemmas.Runs.{host_stands, host_text, names_text, word_stands}
+use Rattle.syslog_text.proofs.TextLemmas.Runs.{host_stands, host_text, names_text, word_stands}
 use Rattle.syslog_loose.proofs.PrintedLemmas.{visible_ends_blanks}
 use Rattle.syslog_loose.proofs.Rfc5424Lemmas.{names_det, process_unblank}
 use Rattle.syslog_loose.specs.Rows.{words_row}

@@ -1,7 +1,7 @@
 use Rattle.syslog_loose.proofs.Names.{◌past◌, no_row, inl, refl, rows_none_here, no_row_division}
 use Rattle.syslog_loose.proofs.Names.{visits_none, data_row, header_row, no_number, rfc5424_row}
 use Rattle.syslog_loose.proofs.Rfc5424Lemmas.{header_det}
-use Rattle.syslog_pieces.proofs.PieceLemmas.Class.{match_map}
+use Rattle.syslog_text.proofs.PieceLemmas.Class.{match_map}
 use Rattle.syslog_loose.proofs.visit.visit_5424.Goals as goal
 
 pub returns-then-not-reads_rfc5424 : goal.returns-then-not-reads_rfc5424

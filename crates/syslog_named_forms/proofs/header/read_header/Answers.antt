@@ -1,5 +1,5 @@
 use Rattle.std.proofs.Common.{inl, refl}
-use Rattle.syslog_pieces.proofs.PieceLemmas.Class.{◌past◌, ◌then◌, no_row, no_row_division, rest_front, row_of}
+use Rattle.syslog_text.proofs.PieceLemmas.Class.{◌past◌, ◌then◌, no_row, no_row_division, rest_front, row_of}
 use Rattle.syslog_named_forms.{proofs.HeaderLemmas.header_det, proofs.HeaderLemmas.header_said, specs.Header.header_row}
 use Rattle.syslog_named_forms.proofs.header.read_header.Goals as goal
 

@@ -1,5 +1,5 @@
 use Rattle.std.proofs.Common.{inl, refl}
-use Rattle.syslog_pieces.proofs.PieceLemmas.Class.{◌past◌, ◌then◌, no_row, row_of}
+use Rattle.syslog_text.proofs.PieceLemmas.Class.{◌past◌, ◌then◌, no_row, row_of}
 use Rattle.syslog_sent.proofs.LedLemmas.{any_front}
 use Rattle.syslog_named_forms.proofs.NamedFormLemmas.{front_det, none_named}
 use Rattle.syslog_named_forms.specs.NamedForms.{front_row}

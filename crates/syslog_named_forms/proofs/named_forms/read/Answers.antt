@@ -1,5 +1,5 @@
 use Rattle.std.proofs.Common.{inl}
-use Rattle.syslog_pieces.proofs.PieceLemmas.Class.{◌past◌, no_row}
+use Rattle.syslog_text.proofs.PieceLemmas.Class.{◌past◌, no_row}
 use Rattle.syslog_named_forms.proofs.NamedFormLemmas.{front_det, none_named}
 use Rattle.syslog_named_forms.specs.NamedForms.{front_row}
 use Rattle.syslog_named_forms.proofs.named_forms.read.Goals as goal

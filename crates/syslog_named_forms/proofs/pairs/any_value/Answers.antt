@@ -1,6 +1,6 @@
 use Rattle.std.specs.Char.{is_not_whitespace}
-use Rattle.syslog_pieces.proofs.PieceLemmas.Class.{mapped_front}
-use Rattle.syslog_pieces.specs.Pieces.Class.{Text}
+use Rattle.syslog_text.proofs.PieceLemmas.Class.{mapped_front}
+use Rattle.syslog_text.specs.Pieces.Class.{Text}
 use Rattle.syslog_sent.proofs.NamedLemmas.{first_front, second_front}
 use Rattle.syslog_named_forms.proofs.PairLemmas.{run_texted}
 use Rattle.syslog_sent.specs.Named.{◌otherwise◌}

@@ -1,6 +1,6 @@
 use Rattle.std.proofs.Common.{inl, refl}
-use Rattle.syslog_pieces.proofs.PieceLemmas.Class.{◌past◌, ◌then◌, mapped_front, row_of}
-use Rattle.syslog_pieces.specs.Pieces.Class.{Row, Text}
+use Rattle.syslog_text.proofs.PieceLemmas.Class.{◌past◌, ◌then◌, mapped_front, row_of}
+use Rattle.syslog_text.specs.Pieces.Class.{Row, Text}
 use Rattle.syslog_sent.proofs.NamedLemmas.{unread}
 use Rattle.syslog_named_forms.proofs.PairLemmas.{quoted_det, run_texted}
 use Rattle.syslog_named_forms.specs.Pairs.{quoted_of, quoted_row}

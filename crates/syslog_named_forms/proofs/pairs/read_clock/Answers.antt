@@ -1,5 +1,5 @@
 use Rattle.std.proofs.Common.{inl, refl}
-use Rattle.syslog_pieces.proofs.PieceLemmas.Class.{◌past◌, ◌then◌, no_row, row_of}
+use Rattle.syslog_text.proofs.PieceLemmas.Class.{◌past◌, ◌then◌, no_row, row_of}
 use Rattle.syslog_named_forms.{proofs.PairLemmas.clock_det, specs.Pairs.clock_row}
 use Rattle.syslog_named_forms.proofs.pairs.read_clock.Goals as goal
 

@@ -1,7 +1,7 @@
 use Rattle.std.proofs.Common.{inl, refl}
-use Rattle.syslog_pieces.proofs.PieceLemmas.Class.{◌past◌, ◌then◌, mapped_front, no_mapped, no_row, no_texted, row_of}
-use Rattle.syslog_pieces.proofs.TextLemmas.Runs.{empty_is, nonempty_is, no_some_run}
-use Rattle.syslog_pieces.specs.Pieces.Class.{Row, Text, some_run}
+use Rattle.syslog_text.proofs.PieceLemmas.Class.{◌past◌, ◌then◌, mapped_front, no_mapped, no_row, no_texted, row_of}
+use Rattle.syslog_text.proofs.TextLemmas.Runs.{empty_is, nonempty_is, no_some_run}
+use Rattle.syslog_text.specs.Pieces.Class.{Row, Text, some_run}
 use Rattle.syslog_sent.proofs.NamedLemmas.{run_text, unread}
 use Rattle.syslog_named_forms.proofs.PairLemmas.{pair_row_det}
 use Rattle.syslog_named_forms.specs.Pairs.{pair_of, pair_row}

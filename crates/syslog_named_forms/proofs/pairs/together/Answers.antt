@@ -1,5 +1,5 @@
 use Rattle.std.proofs.Common.{[], ◌∷◌, inl, refl}
-use Rattle.syslog_pieces.proofs.PieceLemmas.Class.{◌then◌, no_row, no_row_division, row_of}
+use Rattle.syslog_text.proofs.PieceLemmas.Class.{◌then◌, no_row, no_row_division, row_of}
 use Rattle.syslog_named_forms.proofs.PairLemmas.{not_whole, together_det, whole_is}
 use Rattle.syslog_sent.specs.Date.{iso_date}
 use Rattle.syslog_named_forms.proofs.pairs.together.Goals as goal

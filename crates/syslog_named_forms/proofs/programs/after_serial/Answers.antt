@@ -1,7 +1,7 @@
 use Rattle.std.proofs.Common.{List, [], ◌∷◌, inl, refl}
-use Rattle.syslog_pieces.specs.Pieces.Class.{Class, Row, exactly, rest, run, some_run}
-use Rattle.syslog_pieces.specs.Text.{is_blank}
-use Rattle.syslog_pieces.proofs.PieceLemmas.Class.{
+use Rattle.syslog_text.specs.Pieces.Class.{Class, Row, exactly, rest, run, some_run}
+use Rattle.syslog_text.specs.Text.{is_blank}
+use Rattle.syslog_text.proofs.PieceLemmas.Class.{
   ◌past◌,
   ◌then◌,
   mapped_front,
@@ -10,7 +10,7 @@ use Rattle.syslog_pieces.proofs.PieceLemmas.Class.{
   rest_front,
   row_of,
 }
-use Rattle.syslog_pieces.proofs.PieceLemmas.Class.{rows_join, rows_none_here, rows_none_later}
+use Rattle.syslog_text.proofs.PieceLemmas.Class.{rows_join, rows_none_here, rows_none_later}
 use Rattle.syslog_named_forms.proofs.ProgramLemmas.{serial_det}
 use Rattle.syslog_named_forms.proofs.UntaggedLemmas.{host_row_det}
 use Rattle.syslog_sent.specs.{Date.iso_date, Named.NamedTexts, Named.program}

@@ -1,6 +1,6 @@
 use Rattle.std.proofs.Common.{[], ◌∷◌}
-use Rattle.syslog_pieces.proofs.PieceLemmas.Class.{mapped_front, match_map, no_mapped, row_cons, row_nil, row_none_here}
-use Rattle.syslog_pieces.proofs.PieceLemmas.Class.{rows_join, rows_none_here, rows_none_later}
+use Rattle.syslog_text.proofs.PieceLemmas.Class.{mapped_front, match_map, no_mapped, row_cons, row_nil, row_none_here}
+use Rattle.syslog_text.proofs.PieceLemmas.Class.{rows_join, rows_none_here, rows_none_later}
 use Rattle.syslog_sent.proofs.NamedLemmas.{first_front, no_otherwise, second_front}
 use Rattle.syslog_named_forms.proofs.UntaggedLemmas.{host_row_det}
 use Rattle.syslog_sent.specs.Named.{NamedTexts, hosted}

@@ -1,5 +1,5 @@
 use Rattle.std.proofs.Common.{inr}
-use Rattle.syslog_pieces.proofs.PieceLemmas.Class.{match_map}
+use Rattle.syslog_text.proofs.PieceLemmas.Class.{match_map}
 use Rattle.syslog_sent.proofs.NamedLemmas.{first_front, no_otherwise, second_front}
 use Rattle.syslog_named_forms.proofs.programs.grade.Goals as goal
 

@@ -1,6 +1,6 @@
 use Rattle.std.proofs.Common.{[], ◌∷◌, ◌++◌}
-use Rattle.syslog_pieces.proofs.PieceLemmas.Rules.{after_shorter, no_run, runs_all, runs_more}
-use Rattle.syslog_pieces.specs.Pieces.Class.{some_run}
+use Rattle.syslog_text.proofs.PieceLemmas.Rules.{after_shorter, no_run, runs_all, runs_more}
+use Rattle.syslog_text.specs.Pieces.Class.{some_run}
 use Rattle.syslog_sent.specs.Runs.{is_word_char}
 use Rattle.syslog_named_forms.proofs.programs.more_words.Goals as goal
 

@@ -2,8 +2,8 @@ use denote.Text.{Utf8}
 use denote.Shadow.{shadow}
 use Rattle.std.proofs.Common.{List, length}
 use Rattle.std.specs.Str.{chars}
-use Rattle.syslog_pieces.proofs.PieceLemmas.Rules.{Runs}
-use Rattle.syslog_pieces.specs.Pieces.Class.{some_run, spaced}
+use Rattle.syslog_text.proofs.PieceLemmas.Rules.{Runs}
+use Rattle.syslog_text.specs.Pieces.Class.{some_run, spaced}
 use Rattle.syslog_sent.specs.Runs.{is_word_char}
 use Rattle.syslog_named_forms.proofs.programs.more_words.Given as goal
 

@@ -1,7 +1,7 @@
-use Rattle.syslog_pieces.proofs.PieceLemmas.Class.{no_texted}
-use Rattle.syslog_pieces.proofs.TextLemmas.Runs.{empty_is, nonempty_is, no_some_run}
-use Rattle.syslog_pieces.specs.Pieces.Class.{some_run}
-use Rattle.syslog_pieces.specs.Text.{is_tag_char}
+use Rattle.syslog_text.proofs.PieceLemmas.Class.{no_texted}
+use Rattle.syslog_text.proofs.TextLemmas.Runs.{empty_is, nonempty_is, no_some_run}
+use Rattle.syslog_text.specs.Pieces.Class.{some_run}
+use Rattle.syslog_text.specs.Text.{is_tag_char}
 use Rattle.syslog_sent.proofs.NamedLemmas.{run_text}
 use Rattle.syslog_named_forms.proofs.programs.origin.Goals as goal
 

@@ -1,5 +1,5 @@
-use Rattle.syslog_pieces.proofs.PieceLemmas.Class.{◌past◌, ◌then◌, mapped_front, rest_front, row_of}
-use Rattle.syslog_pieces.specs.Pieces.Class.{Row}
+use Rattle.syslog_text.proofs.PieceLemmas.Class.{◌past◌, ◌then◌, mapped_front, rest_front, row_of}
+use Rattle.syslog_text.specs.Pieces.Class.{Row}
 use Rattle.std.proofs.Common.{inl, refl}
 use Rattle.syslog_named_forms.proofs.ProgramLemmas.{forwarded_det}
 use Rattle.syslog_sent.proofs.NamedLemmas.{unread}

@@ -1,8 +1,8 @@
 use Rattle.std.proofs.Common.{List, [], ◌∷◌, inl, refl}
-use Rattle.syslog_pieces.specs.Pieces.Class.{Class, Row, rest, run, some_run}
-use Rattle.syslog_pieces.specs.Text.{is_blank}
-use Rattle.syslog_pieces.proofs.PieceLemmas.Class.{◌past◌, ◌then◌, mapped_front, no_mapped, no_row, rest_front, row_of}
-use Rattle.syslog_pieces.proofs.PieceLemmas.Class.{rows_join, rows_none_here, rows_none_later}
+use Rattle.syslog_text.specs.Pieces.Class.{Class, Row, rest, run, some_run}
+use Rattle.syslog_text.specs.Text.{is_blank}
+use Rattle.syslog_text.proofs.PieceLemmas.Class.{◌past◌, ◌then◌, mapped_front, no_mapped, no_row, rest_front, row_of}
+use Rattle.syslog_text.proofs.PieceLemmas.Class.{rows_join, rows_none_here, rows_none_later}
 use Rattle.syslog_named_forms.proofs.ProgramLemmas.{severity_det}
 use Rattle.syslog_named_forms.proofs.UntaggedLemmas.{host_row_det}
 use Rattle.syslog_sent.specs.Named.{NamedTexts, program}

@@ -1,5 +1,5 @@
-use Rattle.syslog_pieces.proofs.PieceLemmas.Class.{match_map, no_spaced_piece, no_spaced_space, spaced_front}
-use Rattle.syslog_pieces.specs.Pieces.Class.{some_run}
+use Rattle.syslog_text.proofs.PieceLemmas.Class.{match_map, no_spaced_piece, no_spaced_space, spaced_front}
+use Rattle.syslog_text.specs.Pieces.Class.{some_run}
 use Rattle.syslog_sent.specs.Runs.{is_word_char}
 use Rattle.syslog_named_forms.proofs.programs.spaced_word.Goals as goal
 

@@ -1,8 +1,8 @@
 use Rattle.std.proofs.Common.{List, [], ◌∷◌, inl, refl}
-use Rattle.syslog_pieces.specs.Pieces.Class.{Class, Row, exactly, rest, run}
-use Rattle.syslog_pieces.specs.Text.{colon, is_blank}
-use Rattle.syslog_pieces.proofs.PieceLemmas.Class.{◌past◌, ◌then◌, mapped_front, no_mapped, no_row, rest_front, row_of}
-use Rattle.syslog_pieces.proofs.PieceLemmas.Class.{rows_join, rows_none_here, rows_none_later}
+use Rattle.syslog_text.specs.Pieces.Class.{Class, Row, exactly, rest, run}
+use Rattle.syslog_text.specs.Text.{colon, is_blank}
+use Rattle.syslog_text.proofs.PieceLemmas.Class.{◌past◌, ◌then◌, mapped_front, no_mapped, no_row, rest_front, row_of}
+use Rattle.syslog_text.proofs.PieceLemmas.Class.{rows_join, rows_none_here, rows_none_later}
 use Rattle.syslog_named_forms.proofs.ProgramLemmas.{worded_det}
 use Rattle.syslog_named_forms.proofs.UntaggedLemmas.{host_row_det}
 use Rattle.syslog_sent.specs.Named.{NamedTexts, process_id}

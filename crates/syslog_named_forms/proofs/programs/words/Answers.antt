@@ -1,8 +1,8 @@
 use Rattle.std.proofs.Common.{◌≡◌, ◌++◌, sym, ◌∙◌, subst}
 use Rattle.std.proofs.lemmas.List.{append_cancel_right}
-use Rattle.syslog_pieces.proofs.PieceLemmas.Class.{no_texted, row_det, texted_det, texted_front}
-use Rattle.syslog_pieces.proofs.PieceLemmas.Rules.{no_such_front, no_such_meaning, such_front}
-use Rattle.syslog_pieces.specs.Pieces.Class.{Class, Front, Row, Text, texted}
+use Rattle.syslog_text.proofs.PieceLemmas.Class.{no_texted, row_det, texted_det, texted_front}
+use Rattle.syslog_text.proofs.PieceLemmas.Rules.{no_such_front, no_such_meaning, such_front}
+use Rattle.syslog_text.specs.Pieces.Class.{Class, Front, Row, Text, texted}
 use Rattle.syslog_sent.specs.Named.{BeginsWith, is_letter}
 use Rattle.syslog_named_forms.specs.Programs.{words_row}
 use Rattle.syslog_named_forms.proofs.ProgramLemmas.{words_row_det}

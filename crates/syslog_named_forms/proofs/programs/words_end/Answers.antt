@@ -1,7 +1,7 @@
 use Rattle.std.proofs.Common.{[], ◌∷◌}
-use Rattle.syslog_pieces.proofs.PieceLemmas.{Class.◌also◌, Rules.always_on, Rules.row_reads}
-use Rattle.syslog_pieces.specs.Pieces.Class.{some_run, spaced}
-use Rattle.syslog_pieces.specs.Pieces.Lists.{many}
+use Rattle.syslog_text.proofs.PieceLemmas.{Class.◌also◌, Rules.always_on, Rules.row_reads}
+use Rattle.syslog_text.specs.Pieces.Class.{some_run, spaced}
+use Rattle.syslog_text.specs.Pieces.Lists.{many}
 use Rattle.syslog_named_forms.specs.Programs.{words_row}
 use Rattle.syslog_sent.specs.Runs.{is_word_char}
 use Rattle.syslog_named_forms.proofs.ProgramLemmas.{words_row_det}

@@ -1,9 +1,9 @@
 use Rattle.std.proofs.Common.{[], ◌∷◌}
 use Rattle.std.specs.Prelude.{codes}
-use Rattle.syslog_pieces.specs.Pieces.Class.{Class, exactly, optional}
-use Rattle.syslog_pieces.proofs.PieceLemmas.Class.{◌also◌, exactly_det, match_map, optional_det, row_cons}
-use Rattle.syslog_pieces.proofs.PieceLemmas.Class.{row_none_later}
-use Rattle.syslog_pieces.proofs.PieceLemmas.Rules.{row_reads}
+use Rattle.syslog_text.specs.Pieces.Class.{Class, exactly, optional}
+use Rattle.syslog_text.proofs.PieceLemmas.Class.{◌also◌, exactly_det, match_map, optional_det, row_cons}
+use Rattle.syslog_text.proofs.PieceLemmas.Class.{row_none_later}
+use Rattle.syslog_text.proofs.PieceLemmas.Rules.{row_reads}
 use Rattle.syslog_named_forms.{proofs.UntaggedLemmas.repeated_det, specs.Untagged.repeated_tail}
 use Rattle.syslog_named_forms.proofs.untagged.last_repeated.Goals as goal
 

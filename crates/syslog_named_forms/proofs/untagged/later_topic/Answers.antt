@@ -1,5 +1,5 @@
 use Rattle.std.proofs.Common.{[], ◌∷◌}
-use Rattle.syslog_pieces.proofs.PieceLemmas.{Class.◌also◌, Rules.row_reads}
+use Rattle.syslog_text.proofs.PieceLemmas.{Class.◌also◌, Rules.row_reads}
 use Rattle.syslog_named_forms.{proofs.UntaggedLemmas.later_topic_det, specs.Untagged.later_topic_row}
 use Rattle.syslog_named_forms.proofs.untagged.later_topic.Goals as goal
 

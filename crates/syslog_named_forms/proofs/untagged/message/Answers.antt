@@ -1,7 +1,7 @@
 use Rattle.std.proofs.Common.{[], ◌∷◌}
-use Rattle.syslog_pieces.specs.Pieces.Class.{Class}
-use Rattle.syslog_pieces.proofs.PieceLemmas.Class.{mapped_front, no_mapped, row_cons, row_nil, row_none_here, rows_join}
-use Rattle.syslog_pieces.proofs.PieceLemmas.Class.{rows_none_here, rows_none_later}
+use Rattle.syslog_text.specs.Pieces.Class.{Class}
+use Rattle.syslog_text.proofs.PieceLemmas.Class.{mapped_front, no_mapped, row_cons, row_nil, row_none_here, rows_join}
+use Rattle.syslog_text.proofs.PieceLemmas.Class.{rows_none_here, rows_none_later}
 use Rattle.syslog_sent.proofs.NamedLemmas.{beginning_front, first_front, no_beginning, no_otherwise, second_front}
 use Rattle.syslog_named_forms.proofs.UntaggedLemmas.{host_row_det}
 use Rattle.syslog_sent.specs.Named.{NamedTexts, beginning}

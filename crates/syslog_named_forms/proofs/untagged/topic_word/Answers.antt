@@ -1,4 +1,4 @@
-use Rattle.syslog_pieces.proofs.TextLemmas.Runs.{empty_is, nonempty_is, no_some_run, some_run_front}
+use Rattle.syslog_text.proofs.TextLemmas.Runs.{empty_is, nonempty_is, no_some_run, some_run_front}
 use Rattle.syslog_named_forms.proofs.untagged.topic_word.Goals as goal
 
 pub returns-then-is_empty : goal.returns-then-is_empty

@@ -1,7 +1,7 @@
 use Rattle.syslog_object.proofs.Names.{◌≡◌, ◌==◌, ◌||◌, Bool, arith, cond, nat_lt, refl}
 use Rattle.std.proofs.Common.{bit_or}
 use lib.Lanes.{top}
-use Rattle.syslog_pieces.proofs.TextLemmas.Runs.{joined, lanes}
+use Rattle.syslog_text.proofs.TextLemmas.Runs.{joined, lanes}
 use Rattle.syslog_object.proofs.BlockLemmas.{stops_found}
 use Rattle.syslog_object.proofs.blocks.stops.Goals as goal
 

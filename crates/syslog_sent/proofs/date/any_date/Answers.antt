@@ -1,4 +1,4 @@
-use Rattle.syslog_pieces.proofs.PieceLemmas.Class.{match_map, mapped_front, no_mapped}
+use Rattle.syslog_text.proofs.PieceLemmas.Class.{match_map, mapped_front, no_mapped}
 use Rattle.syslog_sent.specs.Date.{bsd_date, iso_date, one_of_dates}
 use Rattle.syslog_sent.specs.Named.{◌otherwise◌}
 use Rattle.syslog_sent.proofs.NamedLemmas.{first_front, no_otherwise, second_front}

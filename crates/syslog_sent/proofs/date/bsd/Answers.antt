@@ -1,5 +1,5 @@
 use Rattle.std.proofs.Common.{inl, refl}
-use Rattle.syslog_pieces.proofs.PieceLemmas.Class.{◌then◌, no_row, row_of}
+use Rattle.syslog_text.proofs.PieceLemmas.Class.{◌then◌, no_row, row_of}
 use Rattle.syslog_sent.specs.Date.{bsd_row}
 use Rattle.syslog_sent.proofs.DateLemmas.{bsd_det}
 use Rattle.syslog_sent.proofs.date.bsd.Goals as goal

@@ -1,5 +1,5 @@
-use Rattle.syslog_pieces.proofs.PieceLemmas.Class.{mapped_front, no_mapped}
-use Rattle.syslog_pieces.specs.Pieces.Class.{Row}
+use Rattle.syslog_text.proofs.PieceLemmas.Class.{mapped_front, no_mapped}
+use Rattle.syslog_text.specs.Pieces.Class.{Row}
 use Rattle.syslog_sent.specs.Date.{bsd_of, bsd_row}
 use Rattle.syslog_sent.specs.declared.sent.SentDate.{SentDate}
 use Rattle.syslog_sent.proofs.date.bsd_date.Goals as goal

@@ -1,5 +1,5 @@
 use Rattle.std.proofs.Common.{inl, refl}
-use Rattle.syslog_pieces.proofs.PieceLemmas.Class.{◌past◌, ◌then◌, no_row, row_of}
+use Rattle.syslog_text.proofs.PieceLemmas.Class.{◌past◌, ◌then◌, no_row, row_of}
 use Rattle.syslog_sent.specs.Date.{iso_row}
 use Rattle.syslog_sent.proofs.DateLemmas.{iso_det}
 use Rattle.syslog_sent.proofs.date.iso.Goals as goal

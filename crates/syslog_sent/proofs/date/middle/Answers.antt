@@ -1,8 +1,8 @@
 use Rattle.std.proofs.Common.{[], ◌∷◌}
-use Rattle.syslog_pieces.proofs.PieceLemmas.Class.{match_map, mapped_front, no_mapped}
-use Rattle.syslog_pieces.proofs.PieceLemmas.Rules.{first_of, second_of, skips}
-use Rattle.syslog_pieces.specs.Pieces.Class.{exactly}
-use Rattle.syslog_pieces.specs.Pieces.Rules.{◌or◌}
+use Rattle.syslog_text.proofs.PieceLemmas.Class.{match_map, mapped_front, no_mapped}
+use Rattle.syslog_text.proofs.PieceLemmas.Rules.{first_of, second_of, skips}
+use Rattle.syslog_text.specs.Pieces.Class.{exactly}
+use Rattle.syslog_text.specs.Pieces.Rules.{◌or◌}
 use Rattle.syslog_sent.proofs.date.middle.Goals as goal
 
 pub returns-in-Some : goal.returns-in-Some

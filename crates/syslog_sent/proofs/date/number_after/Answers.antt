@@ -1,5 +1,5 @@
-use Rattle.syslog_pieces.proofs.PieceLemmas.Class.{match_map, no_spaced_piece, no_spaced_space, spaced_front}
-use Rattle.syslog_pieces.specs.Text.{number}
+use Rattle.syslog_text.proofs.PieceLemmas.Class.{match_map, no_spaced_piece, no_spaced_space, spaced_front}
+use Rattle.syslog_text.specs.Text.{number}
 use Rattle.syslog_sent.proofs.date.number_after.Goals as goal
 
 pub returns-in_err-rest : goal.returns-in_err-rest

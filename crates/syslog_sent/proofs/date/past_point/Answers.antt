@@ -1,5 +1,5 @@
 use Rattle.std.proofs.Common.{Some}
-use Rattle.syslog_pieces.proofs.PieceLemmas.Class.{optional_some}
+use Rattle.syslog_text.proofs.PieceLemmas.Class.{optional_some}
 use Rattle.syslog_sent.specs.Date.{point}
 use Rattle.syslog_sent.proofs.date.past_point.Goals as goal
 

@@ -1,6 +1,6 @@
 use Rattle.std.proofs.Common.{◌++◌, subst}
-use Rattle.syslog_pieces.specs.Pieces.Class.{Text}
-use Rattle.syslog_pieces.proofs.PieceLemmas.Rules.{no_such_front, no_such_meaning, such_front}
+use Rattle.syslog_text.specs.Pieces.Class.{Text}
+use Rattle.syslog_text.proofs.PieceLemmas.Rules.{no_such_front, no_such_meaning, such_front}
 use Rattle.syslog_sent.specs.Date.{IsDay}
 use Rattle.syslog_sent.specs.Named.{BeginsWith}
 use Rattle.syslog_sent.specs.Zone.{bare_word, is_capital}

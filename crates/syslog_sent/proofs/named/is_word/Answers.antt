@@ -1,8 +1,8 @@
 use Rattle.std.proofs.Common.{ap, ◌∙◌, refl}
 use Rattle.std.proofs.lemmas.Str.{chars-IsAscii}
 use Rattle.std.specs.Str.{chars}
-use Rattle.syslog_pieces.specs.Pieces.Class.{Text}
-use Rattle.syslog_pieces.specs.Pieces.View.{text_eq}
+use Rattle.syslog_text.specs.Pieces.Class.{Text}
+use Rattle.syslog_text.specs.Pieces.View.{text_eq}
 use Rattle.syslog_sent.proofs.NamedLemmas.{ascii_told, other_word}
 use Rattle.syslog_sent.proofs.named.is_word.Goals as goal
 

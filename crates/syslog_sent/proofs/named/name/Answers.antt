@@ -1,6 +1,6 @@
 use Rattle.syslog_sent.proofs.NamedLemmas.{begins_some, such_run, no_such_run}
 use Rattle.syslog_sent.specs.Named.{BeginsWith, begins_name}
-use Rattle.syslog_pieces.specs.Text.CharClass.{is_label_char}
+use Rattle.syslog_text.specs.Text.CharClass.{is_label_char}
 use Rattle.syslog_sent.proofs.named.name.Goals as goal
 
 pub returns-then-is_name : goal.returns-then-is_name

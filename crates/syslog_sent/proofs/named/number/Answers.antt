@@ -1,7 +1,7 @@
 use Rattle.std.proofs.Common.{refl}
-use Rattle.syslog_pieces.proofs.TextLemmas.Runs.{chars_nonempty, empty_is, nonempty_is, no_run_front}
+use Rattle.syslog_text.proofs.TextLemmas.Runs.{chars_nonempty, empty_is, nonempty_is, no_run_front}
 use Rattle.std.specs.Char.{is_ascii_digit}
-use Rattle.syslog_pieces.specs.Pieces.Class.{some_run, texted}
+use Rattle.syslog_text.specs.Pieces.Class.{some_run, texted}
 use Rattle.syslog_sent.proofs.named.number.Goals as goal
 
 pub returns-then-is_empty : goal.returns-then-is_empty

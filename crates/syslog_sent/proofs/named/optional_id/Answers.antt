@@ -1,4 +1,4 @@
-use Rattle.syslog_pieces.proofs.PieceLemmas.Class.{optional_none, optional_some}
+use Rattle.syslog_text.proofs.PieceLemmas.Class.{optional_none, optional_some}
 use Rattle.syslog_sent.specs.Named.{process_id}
 use Rattle.syslog_sent.proofs.named.optional_id.Goals as goal
 

@@ -1,8 +1,8 @@
-use Rattle.syslog_pieces.proofs.PieceLemmas.Class.{◌past◌, ◌then◌, mapped_front, no_mapped, no_row, row_of}
-use Rattle.syslog_pieces.proofs.TextLemmas.Runs.{empty_is, nonempty_is, no_some_run}
-use Rattle.syslog_pieces.proofs.PieceLemmas.Class.{no_texted}
-use Rattle.syslog_pieces.specs.Pieces.Class.{Row, some_run, Text}
-use Rattle.syslog_pieces.specs.Text.CharClass.{is_id_char}
+use Rattle.syslog_text.proofs.PieceLemmas.Class.{◌past◌, ◌then◌, mapped_front, no_mapped, no_row, row_of}
+use Rattle.syslog_text.proofs.TextLemmas.Runs.{empty_is, nonempty_is, no_some_run}
+use Rattle.syslog_text.proofs.PieceLemmas.Class.{no_texted}
+use Rattle.syslog_text.specs.Pieces.Class.{Row, some_run, Text}
+use Rattle.syslog_text.specs.Text.CharClass.{is_id_char}
 use Rattle.std.proofs.Common.{inl, refl}
 use Rattle.syslog_sent.proofs.NamedLemmas.{id_row_det, run_text, unread}
 use Rattle.syslog_sent.specs.Named.{id_of, id_row}

@@ -1,7 +1,7 @@
 use Rattle.std.proofs.Common.{length, take, drop, arith, refl}
 use Rattle.std.proofs.lemmas.List.{take_all, drop_all}
 use Rattle.std.proofs.lemmas.Str.{IsCharBoundary-end, IsUtf8-take, IsUtf8-drop, chars_past_char, chars-nil}
-use Rattle.syslog_pieces.proofs.TextLemmas.Runs.{ends_run}
+use Rattle.syslog_text.proofs.TextLemmas.Runs.{ends_run}
 use Rattle.syslog_sent.proofs.RunLemmas.{each_unquoted}
 use Rattle.syslog_sent.specs.Runs.{is_unquoted}
 use Rattle.syslog_sent.proofs.runs.unquoted_end.Goals as goal

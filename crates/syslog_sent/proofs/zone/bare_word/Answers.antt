@@ -1,5 +1,5 @@
 use Rattle.std.proofs.Common.{refl}
-use Rattle.syslog_pieces.proofs.TextLemmas.Runs.{chars_nonempty, empty_is, nonempty_is, no_run_front}
+use Rattle.syslog_text.proofs.TextLemmas.Runs.{chars_nonempty, empty_is, nonempty_is, no_run_front}
 use Rattle.syslog_sent.specs.Zone.{bare_word}
 use Rattle.syslog_sent.proofs.zone.bare_word.Goals as goal
 

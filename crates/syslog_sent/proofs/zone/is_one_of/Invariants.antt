@@ -1,5 +1,5 @@
 use Rattle.std.proofs.Common.{◌≡◌, drop, map, chars}
-use Rattle.syslog_pieces.specs.Pieces.View.{shown}
+use Rattle.syslog_text.specs.Pieces.View.{shown}
 use Rattle.syslog_sent.specs.Zone.{is_among}
 use Rattle.syslog_sent.proofs.zone.is_one_of.Given as goal
 

@@ -1,7 +1,7 @@
 use Rattle.std.proofs.Common.{ℤ, FitsSigned, w32, inl, refl, rules}
 use Rattle.std.proofs.lemmas.Int.{to_z-of_z}
-use Rattle.syslog_pieces.proofs.PieceLemmas.Class.{◌past◌, ◌then◌, mapped_front, row_of}
-use Rattle.syslog_pieces.specs.Pieces.Class.{Row}
+use Rattle.syslog_text.proofs.PieceLemmas.Class.{◌past◌, ◌then◌, mapped_front, row_of}
+use Rattle.syslog_text.specs.Pieces.Class.{Row}
 use Rattle.syslog_pieces.specs.Timestamp.Rfc3339.{seconds_of}
 use Rattle.syslog_sent.specs.Zone.{mapped_offset, offset_row}
 use Rattle.syslog_sent.proofs.ZoneLemmas.{ended_front, no_offset, not_ended, seconds_det}

@@ -1,6 +1,6 @@
 use Rattle.std.proofs.Common.{ℕ, unwrap_or}
-use Rattle.syslog_pieces.proofs.PieceLemmas.Class.{mapped_front, optional_some}
-use Rattle.syslog_pieces.specs.Pieces.Class.{optional}
+use Rattle.syslog_text.proofs.PieceLemmas.Class.{mapped_front, optional_some}
+use Rattle.syslog_text.specs.Pieces.Class.{optional}
 use Rattle.syslog_sent.specs.Zone.{minutes}
 use Rattle.syslog_sent.proofs.zone.some_minutes.Goals as goal
 

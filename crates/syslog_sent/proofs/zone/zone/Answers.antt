@@ -1,6 +1,6 @@
 use Rattle.std.proofs.Common.{ℤ, Option, inl, refl}
-use Rattle.syslog_pieces.proofs.PieceLemmas.Class.{◌past◌, ◌then◌, match_map, mapped_front, no_mapped, no_row, row_of}
-use Rattle.syslog_pieces.specs.Pieces.Class.{Row}
+use Rattle.syslog_text.proofs.PieceLemmas.Class.{◌past◌, ◌then◌, match_map, mapped_front, no_mapped, no_row, row_of}
+use Rattle.syslog_text.specs.Pieces.Class.{Row}
 use Rattle.syslog_sent.specs.Zone.{zone_row}
 use Rattle.syslog_sent.proofs.ZoneLemmas.{zone_row_det}
 use Rattle.syslog_sent.proofs.zone.zone.Goals as goal

@@ -1,6 +1,6 @@
 use Rattle.std.proofs.Common.{ℤ, FitsSigned, Option, rules, w32}
 use Rattle.std.proofs.lemmas.Int.{to_z-of_z}
-use Rattle.syslog_pieces.proofs.PieceLemmas.Class.{mapped_front, no_mapped}
+use Rattle.syslog_text.proofs.PieceLemmas.Class.{mapped_front, no_mapped}
 use Rattle.syslog_sent.specs.{Named.◌otherwise◌, Zone.numeric_offset, Zone.offset_of, Zone.zone_name}
 use Rattle.syslog_sent.proofs.NamedLemmas.{first_front, no_otherwise, second_front}
 use Rattle.syslog_sent.proofs.zone.zone_mark.Goals as goal

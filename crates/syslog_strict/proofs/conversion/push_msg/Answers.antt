@@ -1,5 +1,5 @@
 use Rattle.syslog_strict.proofs.Words.{ap, sym, Text, chars}
-use Rattle.syslog_pieces.proofs.StructuredDataLemmas.Unparsed.{any_none, any_some}
+use Rattle.syslog_elements.proofs.StructuredDataLemmas.Unparsed.{any_none, any_some}
 use Rattle.syslog_strict.specs.Conversion.{spaced_before}
 use Rattle.syslog_strict.proofs.TextLemmas.{appended}
 use Rattle.syslog_strict.proofs.conversion.push_msg.Goals as goal

@@ -1,5 +1,5 @@
 use Rattle.syslog_strict.proofs.Words.{◌≡◌, ◌++◌, map, flat_map, param_text, element_seen, converted_param, text_in}
-use Rattle.syslog_pieces.specs.StructuredData.Visited.{params_left}
+use Rattle.syslog_elements.specs.StructuredData.Visited.{params_left}
 use Rattle.syslog_strict.proofs.elements.push_params.Given as goal
 
 abbrev pub invariant-loop-name : goal.invariant-loop-name

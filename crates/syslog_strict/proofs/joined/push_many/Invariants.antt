@@ -1,5 +1,5 @@
 use Rattle.syslog_strict.proofs.Words.{◌≡◌, ◌++◌, List, map, ElementValue, list_elements, converted_element, HasJoined}
-use Rattle.syslog_pieces.specs.StructuredData.Visited.{elements_left}
+use Rattle.syslog_elements.specs.StructuredData.Visited.{elements_left}
 use Rattle.syslog_strict.proofs.joined.push_many.Given as goal
 
 abbrev pub invariant-loop-element : goal.invariant-loop-element

@@ -1,6 +1,6 @@
 use Rattle.syslog_strict.proofs.Words.{◌++◌, ap, ◌∙◌, to_z-of_z, IsUtf8-string_bytes, chars-append, chars-IsAscii}
 use Rattle.syslog_strict.proofs.Words.{signed_decimal, chars, text_in}
-use Rattle.syslog_pieces.proofs.TextLemmas.Words.{signed_ascii}
+use Rattle.syslog_text.proofs.TextLemmas.Words.{signed_ascii}
 use Rattle.syslog_strict.proofs.names.push_number.Goals as goal
 
 pub returns : goal.returns

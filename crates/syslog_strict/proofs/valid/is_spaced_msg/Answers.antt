@@ -1,7 +1,7 @@
 use Rattle.syslog_strict.proofs.Words.{◌≡◌, ℕ, [], ◌∷◌, ◌++◌, Some, None, refl, sym, ap, ◌∙◌, nat_eq, arith}
 use Rattle.syslog_strict.proofs.Words.{nat_tests, Text, heads}
 use Rattle.std.specs.Prelude.{◌↔◌, IsTrue}
-use Rattle.syslog_pieces.specs.Pieces.Class.{optional, rest, spaced}
+use Rattle.syslog_text.specs.Pieces.Class.{optional, rest, spaced}
 use Rattle.syslog_strict.specs.Grammar.{IsAll}
 use Rattle.syslog_strict.proofs.valid.is_spaced_msg.Goals as goal
 

@@ -1,5 +1,5 @@
 use Rattle.syslog_strict.proofs.Words.{[], ◌∷◌}
-use Rattle.syslog_pieces.proofs.PieceLemmas.{Class.◌also◌, Rules.row_reads}
+use Rattle.syslog_text.proofs.PieceLemmas.{Class.◌also◌, Rules.row_reads}
 use Rattle.syslog_strict.{proofs.GrammarLemmas.pri_det, specs.Grammar.pri}
 use Rattle.syslog_strict.proofs.valid.pri.Goals as goal
 

@@ -1,5 +1,5 @@
 use Rattle.std.specs.Str.{chars}
-use Rattle.syslog_pieces.proofs.PieceLemmas.Class.{match_map}
+use Rattle.syslog_text.proofs.PieceLemmas.Class.{match_map}
 use Rattle.syslog_dialects.proofs.SentReadingLemmas.{kept_reading, left_read}
 use Rattle.syslog_strict_sent.proofs.convert.convert_before.Goals as goal
 

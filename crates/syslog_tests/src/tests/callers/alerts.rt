@@ -2,14 +2,14 @@
 ghost use Rattle.std.specs.Prelude.{◌≡◌, ◌↔◌, false, IfOk, IsTrue};
 ghost use Rattle.std.specs.List.{AllByRecursion};
 ghost use Rattle.std.specs.Str.{chars};
-ghost use Rattle.syslog_pieces.specs.Pieces.View.{shown};
-ghost use Rattle.syslog_pieces.specs.StructuredData.Element.{element_value};
-ghost use Rattle.syslog_pieces.specs.StructuredData.Escapes.{IsUnescaped};
+ghost use Rattle.syslog_text.specs.Pieces.View.{shown};
+ghost use Rattle.syslog_elements.specs.StructuredData.Element.{element_value};
+ghost use Rattle.syslog_elements.specs.StructuredData.Escapes.{IsUnescaped};
 
 use crate::tests::checks::check;
 use std::alloc::{AllocError, Global};
 use syslog_loose::{StructuredElement, TimeZone, Variant, parse_message_with_year};
-use syslog_pieces::as_str::is_same_text;
+use syslog_text::as_str::is_same_text;
 
 /// An element has this parameter.
 #[derive(Clone, Copy)]

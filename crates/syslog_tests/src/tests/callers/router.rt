@@ -1,7 +1,7 @@
 //! A router by severity and host, as a caller of this crate writes it: it takes no memory. `CALLING.md` shows it.
 ghost use Rattle.std.specs.Prelude.{◌≡◌, ◌≢◌, ◌↔◌, ◌<◌, ◌≤◌, IfSome, IsSomeAnd, IsTrue, None, Some};
 ghost use Rattle.std.specs.Str.{chars};
-ghost use Rattle.syslog_pieces.specs.Pieces.View.{seen};
+ghost use Rattle.syslog_text.specs.Pieces.View.{seen};
 ghost use Rattle.syslog_pieces.specs.Pri.{severity_number};
 ghost use Rattle.syslog_pieces.specs.Timestamp.Zone.{dating_of};
 ghost use Rattle.syslog_loose.specs.Reading.{OnReading};
@@ -11,7 +11,7 @@ ghost use Rattle.syslog_tests.specs.declared.tests.callers.router.Destination.Th
 
 use crate::tests::checks::check;
 use syslog_loose::{IncompleteDate, SyslogSeverity, TimeZone, Variant, parse_line};
-use syslog_pieces::as_str::is_same_text;
+use syslog_text::as_str::is_same_text;
 
 /// Where a line goes.
 #[derive(Clone, Copy, Debug, PartialEq, Eq)]

@@ -2,7 +2,7 @@
 ghost use Rattle.std.specs.Prelude.{◌≡◌, ◌↔◌, ◌≤ℤ◌, ◌<ℤ◌, false, IfOk, IsSomeAnd, IsTrue, None, Some};
 ghost use Rattle.std.specs.Option.{option_map};
 ghost use Rattle.std.specs.Str.{chars};
-ghost use Rattle.syslog_pieces.specs.Pieces.View.{shown};
+ghost use Rattle.syslog_text.specs.Pieces.View.{shown};
 ghost use Rattle.syslog_pieces.specs.Timestamp.Zone.{dating_of};
 ghost use Rattle.syslog_loose.specs.Message.{message_value};
 ghost use Rattle.syslog_loose.specs.Reading.{OnReading};
@@ -14,7 +14,7 @@ use syslog_loose::{
     IncompleteDate, Message, OffsetTimestamp, ParseFault, TimeZone, Timestamp, Variant,
     parse_message_with_year_exact_tz,
 };
-use syslog_pieces::as_str::is_same_text;
+use syslog_text::as_str::is_same_text;
 
 /// What is asked for: messages of a host, from one instant on and before another.
 #[derive(Clone, Copy)]

@@ -5,7 +5,7 @@ use crate::tests::checks::check;
 use crate::tests::pieces::{is_element, only};
 use std::alloc::{AllocError, Global};
 use std::process::Abort;
-use syslog_pieces::structured_data::StructuredElement;
+use syslog_elements::structured_data::StructuredElement;
 
 fn check_clone(rt: &impl Abort, alloc: Global, element: &StructuredElement<&str>, tries: Tries) {
     let copy = match element.try_clone(alloc) {

@@ -8,8 +8,8 @@ use crate::tests::pieces::{
 use crate::tests::rows::text_of;
 use std::alloc::{AllocError, Global};
 use std::process::Abort;
-use syslog_pieces::structured_data::StructuredElement;
-use syslog_pieces::structured_data::rfc3164_list::DashRule;
+use syslog_elements::structured_data::StructuredElement;
+use syslog_elements::structured_data::rfc3164_list::DashRule;
 
 /// An element with its id and parameters, the last of which has an escape.
 pub(super) const ELEMENT: &str = "[id a=\"b\" c=\"\" d=\"\\]\"]";

@@ -1,5 +1,5 @@
 use Rattle.syslog_loose.proofs.Names.{◌<◌, length, arith, text_of, element_value, false_is, nat_tests, param_value}
-use Rattle.syslog_pieces.proofs.StructuredDataLemmas.Closing.{all_at}
+use Rattle.syslog_elements.proofs.StructuredDataLemmas.Closing.{all_at}
 use Rattle.syslog_loose.proofs.CanonicalLemmas.{some_params}
 use Rattle.syslog_loose.proofs.message.canonical.have_params.Goals as goal
 

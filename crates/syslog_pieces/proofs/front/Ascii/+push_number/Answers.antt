@@ -1,5 +1,5 @@
 use Rattle.syslog_pieces.proofs.Names.{arith, common_steps}
-use Rattle.syslog_pieces.proofs.TextLemmas.Words.{last_of_more}
+use Rattle.syslog_text.proofs.TextLemmas.Words.{last_of_more}
 use Rattle.syslog_pieces.proofs.front.Ascii.+push_number.Goals as goal
 
 pub returns-clause-text : goal.returns-clause-text

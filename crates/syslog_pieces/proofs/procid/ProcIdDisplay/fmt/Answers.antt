@@ -1,5 +1,5 @@
 use Rattle.syslog_pieces.proofs.Names.{encodes-chars}
-use Rattle.syslog_pieces.proofs.TextLemmas.Words.{encodes-signed}
+use Rattle.syslog_text.proofs.TextLemmas.Words.{encodes-signed}
 use Rattle.syslog_pieces.proofs.procid.ProcIdDisplay.fmt.Goals as goal
 
 pub returns-in-PID-clause-writes : goal.returns-in-PID-clause-writes

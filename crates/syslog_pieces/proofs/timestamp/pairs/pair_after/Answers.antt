@@ -1,5 +1,5 @@
 use Rattle.syslog_pieces.proofs.Names.{match_map, no_spaced_piece, spaced_front}
-use Rattle.syslog_pieces.proofs.PieceLemmas.Class.{no_spaced_space}
+use Rattle.syslog_text.proofs.PieceLemmas.Class.{no_spaced_space}
 use Rattle.syslog_pieces.specs.Timestamp.Rfc3339.{pair}
 use Rattle.syslog_pieces.proofs.timestamp.pairs.pair_after.Goals as goal
 

@@ -1,6 +1,6 @@
 use Rattle.syslog_strict.proofs.Words.{ap, sym, ◌∙◌, chars, chars-nil, empty_is}
 use Rattle.std.proofs.lemmas.List.{nil_from_length}
-use Rattle.syslog_pieces.proofs.PieceLemmas.Rules.{all_of}
+use Rattle.syslog_text.proofs.PieceLemmas.Rules.{all_of}
 use Rattle.syslog_strict.proofs.valid.structured_data.are_elements.Goals as goal
 
 pub returns-in-Ok-Some : goal.returns-in-Ok-Some

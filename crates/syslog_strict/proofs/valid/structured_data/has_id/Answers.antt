@@ -1,8 +1,8 @@
 use Rattle.syslog_strict.proofs.Words.{◌≡◌, refl, sym, ap, ◌∙◌, ◌||◌, Bool, true, false, List, ElementValue, Front}
 use Rattle.syslog_strict.proofs.Words.{Text}
 use Rattle.syslog_strict.proofs.Words.{chars, is_among, text_eq}
-use Rattle.syslog_pieces.specs.Pieces.Lists.{many}
-use Rattle.syslog_pieces.proofs.PieceLemmas.Rules.{many_left, none_left}
+use Rattle.syslog_text.specs.Pieces.Lists.{many}
+use Rattle.syslog_text.proofs.PieceLemmas.Rules.{many_left, none_left}
 use Rattle.syslog_strict.proofs.GrammarLemmas.{element_det, element_shorter}
 use Rattle.syslog_strict.{proofs.ValidLemmas.ids_of, specs.Grammar.sd_element}
 use Rattle.syslog_strict.proofs.valid.structured_data.has_id.Goals as goal

@@ -1,7 +1,7 @@
 use denote.Text.{Utf8}
 use denote.Shadow.{shadow}
 use Rattle.syslog_strict.proofs.Words.{◌≡◌, List, length, chars, Text, ElementValue, Front, is_among}
-use Rattle.syslog_pieces.specs.Pieces.Lists.{many}
+use Rattle.syslog_text.specs.Pieces.Lists.{many}
 use Rattle.syslog_strict.{proofs.ValidLemmas.ids_of, specs.Grammar.sd_element}
 use Rattle.syslog_strict.proofs.valid.structured_data.has_id.Given as goal
 

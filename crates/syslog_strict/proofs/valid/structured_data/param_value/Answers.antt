@@ -1,7 +1,7 @@
 use Rattle.syslog_strict.proofs.Words.{[], ◌∷◌, ◌++◌}
-use Rattle.syslog_pieces.proofs.PieceLemmas.Class.{front_of}
-use Rattle.syslog_pieces.proofs.PieceLemmas.Rules.{no_run, runs_all, runs_joined, runs_more}
-use Rattle.syslog_pieces.specs.StructuredData.Escapes.{pair}
+use Rattle.syslog_text.proofs.PieceLemmas.Class.{front_of}
+use Rattle.syslog_text.proofs.PieceLemmas.Rules.{no_run, runs_all, runs_joined, runs_more}
+use Rattle.syslog_elements.specs.StructuredData.Escapes.{pair}
 use Rattle.syslog_strict.proofs.ValidLemmas.{no_unit_after, split_runs}
 use Rattle.syslog_strict.proofs.valid.structured_data.param_value.Goals as goal
 

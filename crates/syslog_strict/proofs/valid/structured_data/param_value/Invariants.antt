@@ -1,8 +1,8 @@
 use denote.Text.{Utf8}
 use denote.Shadow.{shadow}
 use Rattle.syslog_strict.proofs.Words.{List, length, chars}
-use Rattle.syslog_pieces.proofs.PieceLemmas.Rules.{Runs}
-use Rattle.syslog_pieces.specs.StructuredData.Escapes.{TextUnit}
+use Rattle.syslog_text.proofs.PieceLemmas.Rules.{Runs}
+use Rattle.syslog_elements.specs.StructuredData.Escapes.{TextUnit}
 use Rattle.syslog_strict.specs.Grammar.{value_unit}
 use Rattle.syslog_strict.proofs.valid.structured_data.param_value.Given as goal
 

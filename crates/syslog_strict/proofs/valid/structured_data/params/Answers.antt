@@ -1,5 +1,5 @@
 use Rattle.syslog_strict.proofs.Words.{[], ◌∷◌, ◌++◌}
-use Rattle.syslog_pieces.proofs.PieceLemmas.Rules.{after_shorter, no_run, runs_all, runs_more}
+use Rattle.syslog_text.proofs.PieceLemmas.Rules.{after_shorter, no_run, runs_all, runs_more}
 use Rattle.syslog_strict.specs.Grammar.{sd_param}
 use Rattle.syslog_strict.proofs.valid.structured_data.params.Goals as goal
 

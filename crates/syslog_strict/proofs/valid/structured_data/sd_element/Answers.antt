@@ -1,6 +1,6 @@
 use Rattle.syslog_strict.proofs.Words.{inl, refl, ElementValue}
-use Rattle.syslog_pieces.proofs.PieceLemmas.Class.{◌past◌, ◌then◌, mapped_front, no_mapped, no_row, row_of}
-use Rattle.syslog_pieces.specs.Pieces.Class.{Row}
+use Rattle.syslog_text.proofs.PieceLemmas.Class.{◌past◌, ◌then◌, mapped_front, no_mapped, no_row, row_of}
+use Rattle.syslog_text.specs.Pieces.Class.{Row}
 use Rattle.syslog_strict.proofs.GrammarLemmas.{element_row_det}
 use Rattle.syslog_strict.specs.Grammar.{element_of, element_row}
 use Rattle.syslog_strict.proofs.valid.structured_data.sd_element.Goals as goal

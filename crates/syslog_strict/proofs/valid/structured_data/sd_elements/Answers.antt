@@ -1,6 +1,6 @@
 use Rattle.syslog_strict.proofs.Words.{sym, ap, subst, ◌∙◌, is_among, [], ◌∷◌, ◌++◌, arith, Text, HasSeen}
-use Rattle.syslog_pieces.proofs.PieceLemmas.Rules.{no_run, one_run, runs_all, runs_more, such_front}
-use Rattle.syslog_pieces.specs.Pieces.Lists.{many}
+use Rattle.syslog_text.proofs.PieceLemmas.Rules.{no_run, one_run, runs_all, runs_more, such_front}
+use Rattle.syslog_text.specs.Pieces.Lists.{many}
 use Rattle.syslog_strict.proofs.GrammarLemmas.{element_shorter, no_elements}
 use Rattle.syslog_strict.proofs.ValidLemmas.{came, distinct_more, first_seen, ids_more, ids_of, still_some}
 use Rattle.syslog_strict.specs.Grammar.{AreElements, sd_element}

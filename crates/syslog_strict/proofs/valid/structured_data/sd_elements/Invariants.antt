@@ -1,7 +1,7 @@
 use denote.Text.{Utf8}
 use denote.Shadow.{shadow}
 use Rattle.syslog_strict.proofs.Words.{List, length, ◌<◌, chars, ElementValue, AreDistinct, HasSeen}
-use Rattle.syslog_pieces.proofs.PieceLemmas.Rules.{Runs}
+use Rattle.syslog_text.proofs.PieceLemmas.Rules.{Runs}
 use Rattle.syslog_strict.{proofs.ValidLemmas.ids_of, specs.Grammar.sd_element}
 use Rattle.syslog_strict.proofs.valid.structured_data.sd_elements.Given as goal
 

@@ -1,7 +1,7 @@
 use Rattle.syslog_strict.proofs.Words.{[], ◌∷◌, Text}
-use Rattle.syslog_pieces.proofs.PieceLemmas.Class.{◌also◌, match_map}
-use Rattle.syslog_pieces.proofs.PieceLemmas.Rules.{always_on, mapped_reads, row_reads, texted_on}
-use Rattle.syslog_pieces.specs.Pieces.Class.{Row}
+use Rattle.syslog_text.proofs.PieceLemmas.Class.{◌also◌, match_map}
+use Rattle.syslog_text.proofs.PieceLemmas.Rules.{always_on, mapped_reads, row_reads, texted_on}
+use Rattle.syslog_text.specs.Pieces.Class.{Row}
 use Rattle.syslog_strict.proofs.GrammarLemmas.{param_det}
 use Rattle.syslog_strict.specs.Grammar.{param_of, param_row, param_value}
 use Rattle.syslog_strict.proofs.valid.structured_data.sd_param.Goals as goal

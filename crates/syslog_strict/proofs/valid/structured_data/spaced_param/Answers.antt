@@ -1,4 +1,4 @@
-use Rattle.syslog_pieces.proofs.PieceLemmas.Class.{match_map, no_spaced_piece, no_spaced_space, spaced_front}
+use Rattle.syslog_text.proofs.PieceLemmas.Class.{match_map, no_spaced_piece, no_spaced_space, spaced_front}
 use Rattle.syslog_strict.specs.Grammar.{sd_param}
 use Rattle.syslog_strict.proofs.valid.structured_data.spaced_param.Goals as goal
 

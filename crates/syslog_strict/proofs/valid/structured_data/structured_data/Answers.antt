@@ -1,4 +1,4 @@
-use Rattle.syslog_pieces.proofs.PieceLemmas.Rules.{first_of, second_of}
+use Rattle.syslog_text.proofs.PieceLemmas.Rules.{first_of, second_of}
 use Rattle.syslog_strict.specs.Grammar.{nilvalue, sd_elements}
 use Rattle.syslog_strict.proofs.valid.structured_data.structured_data.Goals as goal
 

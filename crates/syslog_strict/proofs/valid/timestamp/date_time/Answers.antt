@@ -1,5 +1,5 @@
 use Rattle.syslog_strict.proofs.Words.{[], ◌∷◌}
-use Rattle.syslog_pieces.proofs.PieceLemmas.{Class.◌also◌, Rules.row_reads}
+use Rattle.syslog_text.proofs.PieceLemmas.{Class.◌also◌, Rules.row_reads}
 use Rattle.syslog_strict.{proofs.GrammarLemmas.date_time_det, specs.Grammar.date_time}
 use Rattle.syslog_strict.proofs.valid.timestamp.date_time.Goals as goal
 

@@ -1,5 +1,5 @@
 use Rattle.syslog_strict.proofs.Words.{Some, None}
-use Rattle.syslog_pieces.proofs.PieceLemmas.Class.{optional_none, optional_some}
+use Rattle.syslog_text.proofs.PieceLemmas.Class.{optional_none, optional_some}
 use Rattle.syslog_strict.specs.Grammar.{time_secfrac}
 use Rattle.syslog_strict.proofs.valid.timestamp.secfrac.Goals as goal
 

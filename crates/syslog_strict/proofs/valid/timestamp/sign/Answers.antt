@@ -1,6 +1,6 @@
 use Rattle.syslog_strict.proofs.Words.{[], ◌∷◌}
-use Rattle.syslog_pieces.proofs.PieceLemmas.Rules.{first_of, second_of, skips}
-use Rattle.syslog_pieces.specs.Pieces.Class.{exactly}
+use Rattle.syslog_text.proofs.PieceLemmas.Rules.{first_of, second_of, skips}
+use Rattle.syslog_text.specs.Pieces.Class.{exactly}
 use Rattle.syslog_strict.proofs.valid.timestamp.sign.Goals as goal
 
 pub returns-in-Some : goal.returns-in-Some

@@ -1,5 +1,5 @@
 use Rattle.syslog_strict.proofs.Words.{[], ◌∷◌}
-use Rattle.syslog_pieces.proofs.PieceLemmas.{Class.◌also◌, Rules.row_reads}
+use Rattle.syslog_text.proofs.PieceLemmas.{Class.◌also◌, Rules.row_reads}
 use Rattle.syslog_strict.{proofs.GrammarLemmas.numoffset_det, specs.Grammar.time_numoffset}
 use Rattle.syslog_strict.proofs.valid.timestamp.time_numoffset.Goals as goal
 

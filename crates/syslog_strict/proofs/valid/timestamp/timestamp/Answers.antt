@@ -1,5 +1,5 @@
-use Rattle.syslog_pieces.proofs.PieceLemmas.Rules.{first_of, second_of}
-use Rattle.syslog_pieces.specs.Pieces.Class.{Row}
+use Rattle.syslog_text.proofs.PieceLemmas.Rules.{first_of, second_of}
+use Rattle.syslog_text.specs.Pieces.Class.{Row}
 use Rattle.syslog_strict.specs.Grammar.{date_time, nilvalue}
 use Rattle.syslog_strict.proofs.valid.timestamp.timestamp.Goals as goal
 

@@ -5,11 +5,11 @@ use Rattle.std.specs.Global.{Global}
 use Rattle.std.specs.List.{AllByRecursion}
 use Rattle.std.specs.Str.{chars}
 use Rattle.std.specs.declared.alloc.AllocError.{AllocError}
-use Rattle.syslog_pieces.specs.Pieces.Class.{Text}
-use Rattle.syslog_pieces.specs.Pieces.View.{shown}
-use Rattle.syslog_pieces.specs.StructuredData.Element.{param_value}
-use Rattle.syslog_pieces.specs.StructuredData.Params.{IsParamItem, NextParam}
-use Rattle.syslog_pieces.proofs.StructuredDataLemmas.Units.{unescaped_one}
+use Rattle.syslog_text.specs.Pieces.Class.{Text}
+use Rattle.syslog_text.specs.Pieces.View.{shown}
+use Rattle.syslog_elements.specs.StructuredData.Element.{param_value}
+use Rattle.syslog_elements.specs.StructuredData.Params.{IsParamItem, NextParam}
+use Rattle.syslog_elements.proofs.StructuredDataLemmas.Units.{unescaped_one}
 use Rattle.syslog_tests.proofs.tests.callers.alerts.fires.Invariants.{IsOther}
 use Rattle.syslog_tests.proofs.tests.callers.alerts.fires.Goals as goal
 

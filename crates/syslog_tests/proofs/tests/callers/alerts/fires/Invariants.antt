@@ -1,10 +1,10 @@
 use Rattle.std.proofs.Common.{◌≡◌, ◌↔◌, map}
 use Rattle.std.specs.List.{AllByRecursion}
 use Rattle.std.specs.Str.{chars}
-use Rattle.syslog_pieces.specs.Pieces.Class.{Text}
-use Rattle.syslog_pieces.specs.Pieces.View.{shown}
-use Rattle.syslog_pieces.specs.StructuredData.Element.{element_value, param_value}
-use Rattle.syslog_pieces.specs.StructuredData.Escapes.{IsUnescaped}
+use Rattle.syslog_text.specs.Pieces.Class.{Text}
+use Rattle.syslog_text.specs.Pieces.View.{shown}
+use Rattle.syslog_elements.specs.StructuredData.Element.{element_value, param_value}
+use Rattle.syslog_elements.specs.StructuredData.Escapes.{IsUnescaped}
 use Rattle.syslog_tests.proofs.tests.callers.alerts.fires.Given as goal
 
 -- the parameter is another than that of the rule

@@ -1,0 +1,12 @@
+use Rattle.syslog_elements.proofs.Names.{refl, sym, chars-nil, [], ◌∙◌}
+use Rattle.syslog_elements.proofs.StructuredDataLemmas.Elements.{no_items_here}
+use Rattle.syslog_elements.proofs.structured_data.recognised.ElementList.none.Goals as goal
+
+pub new-requires : goal.new-requires
+new-requires c = (_, ([], no_items_here _ chars-nil, refl, refl, tt, (λ e. (let k = sym chars-nil ∙ e in cc))))
+
+pub returns-clause-elements : goal.returns-clause-elements
+returns-clause-elements c = c.new.ensures.elements _ [] (no_items_here _ chars-nil)
+
+pub returns-clause-text : goal.returns-clause-text
+returns-clause-text c = c.new.ensures.text ∙ chars-nil

@@ -1,0 +1,25 @@
+-- What is left unparsed of a list (this project's own choice).
+use Rattle.std.specs.Prelude.{◌≡◌, ◌≢◌, ◌⊎◌, List, [], ◌∷◌, Option, Some, None}
+use Rattle.syslog_text.specs.Pieces.Class.{Text, Class, Front}
+use Rattle.syslog_text.specs.Pieces.Lists.{many}
+use Rattle.syslog_elements.specs.StructuredData.{element, forgiving}
+use Rattle.syslog_elements.specs.StructuredData.Element.{ElementValue}
+use Rattle.syslog_text.specs.Text.{dash}
+
+-- What is left of a list's own text after the strict elements that begin it: nothing where each element is strict, and
+-- nothing of `-`. So each broken element is in it, and so is a strict one after the first of them, which is parsed too.
+abbrev pub IsUnparsed : Text → Text → Type 0
+IsUnparsed list unparsed = ((list ≡ dash) × (unparsed ≡ []))
+    ⊎ ((list ≢ dash) × ((es : List ElementValue) × Front (many element) list unparsed es))
+
+-- the list that forgives broken elements, which means what is left unparsed of it
+abbrev pub leaving : Class
+leaving = record {
+  Value = Text;
+  Is = λ p q unparsed. ((es : List ElementValue) × forgiving.Is p q es) × IsUnparsed p unparsed;
+}
+
+-- a text, absent where it is empty
+abbrev pub if_any : Text → Option Text
+if_any [] = None
+if_any (c ∷ t) = Some (c ∷ t)

@@ -1,0 +1,157 @@
+//! Elements and lists that were recognised and not collected: they are `Copy`, and hold no memory of their own.
+ghost use Rattle.std.specs.Prelude.{◌≡◌, ◌≢◌, ◌++◌, IfNone, IfSome, drop, length, sum_by, chars, IsUtf8};
+ghost use Rattle.std.proofs.Props.{props};
+ghost use Rattle.syslog_elements.specs.Bodies.Closing.{inside as inside_class};
+ghost use Rattle.syslog_text.specs.Pieces.Lists.{many};
+ghost use Rattle.syslog_text.specs.Pieces.View.{shown};
+ghost use Rattle.syslog_elements.specs.StructuredData.{item as item_class, strict as strict_of};
+ghost use Rattle.syslog_elements.specs.StructuredData.Element.{elements_text};
+ghost use Rattle.syslog_elements.specs.StructuredData.Recognised.{OneMeaning, OneInside-prop, OneItems-prop, one_value};
+
+/// A strict element, as a slice of the text. Its parameters are walked when they are asked for.
+#[derive(Clone, Copy)]
+pub struct Element<'a> {
+    id: &'a str,
+    // the text from its first parameter on, or from its `]` on
+    pub(super) inside: &'a str,
+    count: usize,
+    ghost id_utf8: { IsUtf8 id.now } by { Prim.hlevel props },
+    ghost utf8: { IsUtf8 inside.now } by { Prim.hlevel props },
+    pub ghost meaning: { OneMeaning inside_class (chars inside.now) } by { OneInside-prop (chars inside.now) },
+    ghost counted: { count ≡ length (one_value meaning).0 },
+}
+
+impl<'a> Element<'a> {
+    ghost use Rattle.std.specs.Prelude.{List};
+    ghost use Rattle.syslog_elements.specs.Words.{Text, Front, element_seen};
+
+    // Returns the element with this id, whose `count` parameters are in the text `inside`.
+    #[inline(always)]
+    pub(super) fn new(id: &'a str, inside: &'a str, count: usize) -> Element<'a>
+        requires { (q : Text) × ((ps : List (Text × Text))
+            × Front inside_class (chars inside.now) q (ps, (tt, tt)) × (count ≡ length ps)) }
+        ensures { (q : Text) (ps : List (Text × Text)) → Front inside_class (chars inside.now) q (ps, (tt, tt))
+            → element_seen result ≡ record { id = chars id.now; params = ps } }
+    {
+        Element { id, inside, count }
+    }
+
+    /// Returns the id of the element.
+    pub fn id(&self) -> &'a str
+        ensures { shown result ≡ (element_seen self.now).id }
+    {
+        self.id
+    }
+
+    /// Returns how many parameters the element has.
+    pub fn params_len(&self) -> usize
+        ensures { result ≡ length (element_seen self.now).params }
+    {
+        self.count
+    }
+}
+
+/// A list of elements, as a slice of the text: `-`, or strict and broken elements, or nothing.
+#[derive(Clone, Copy)]
+pub struct ElementList<'a> {
+    pub(super) text: &'a str,
+    // the printed text of the strict elements, where it begins the list's own text; always where it is all of that
+    printed: Option<&'a str>,
+    elements: usize,
+    params: usize,
+    ghost utf8: { IsUtf8 text.now } by { Prim.hlevel props },
+    pub ghost meaning: { OneMeaning (many item_class) (chars text.now) } by { OneItems-prop (chars text.now) },
+    ghost counted: { elements ≡ length (strict_of (one_value meaning)) },
+    ghost params_counted: { params ≡ sum_by (λ e. length e.params) (strict_of (one_value meaning)) },
+    ghost printed_utf8: { IfSome printed (λ p. IsUtf8 p.now) } by { Prim.hlevel props },
+    ghost prints: { IfSome printed (λ p. shown p
+        ≡ elements_text (strict_of (one_value meaning))) } by { Prim.hlevel props },
+    ghost begins: { IfSome printed (λ p. chars text.now ≡ shown p
+        ++ drop (length (shown p)) (chars text.now)) } by { Prim.hlevel props },
+    ghost differs: { IfNone printed (chars text.now ≢ elements_text (strict_of (one_value meaning))) } by { Prim.hlevel props },
+}
+
+impl<'a> ElementList<'a> {
+    ghost use Rattle.std.specs.Prelude.{◌↔◌, List, Option, [], IsTrue, MatchBool};
+    ghost use Rattle.syslog_elements.specs.Words.{Text, Front, ElementValue, list_elements, list_text};
+
+    // Returns the list of this text, with its printed text and the numbers of its elements and of their parameters.
+    #[inline(always)]
+    pub(super) fn new(
+        text: &'a str,
+        printed: Option<&'a str>,
+        elements: usize,
+        params: usize,
+    ) -> ElementList<'a>
+        requires { (q : Text) × ((vs : List (Option ElementValue)) × Front (many item_class) (chars text.now) q vs
+            × (elements ≡ length (strict_of vs)) × (params ≡ sum_by (λ e. length e.params) (strict_of vs))
+            × IfSome printed (λ p. IsUtf8 p.now × (shown p ≡ elements_text (strict_of vs))
+            × ((left : Text) × (chars text.now ≡ shown p ++ left)))
+            × IfNone printed (chars text.now ≢ elements_text (strict_of vs))) }
+        ensures elements { (q : Text) (vs : List (Option ElementValue)) → Front (many item_class) (chars text.now) q vs
+            → list_elements result ≡ strict_of vs }
+        ensures text { list_text result ≡ chars text.now }
+    {
+        ElementList {
+            text,
+            printed,
+            elements,
+            params,
+        }
+    }
+
+    /// Returns the list of a line that has none: its text is empty, and it has no elements.
+    pub fn none() -> ElementList<'a>
+        ensures elements { list_elements result ≡ [] }
+        ensures text { list_text result ≡ [] }
+    {
+        ElementList::new("", None, 0, 0)
+    }
+
+    /// Returns the text of the list.
+    pub fn text(&self) -> &'a str
+        ensures { shown result ≡ list_text self.now }
+    {
+        self.text
+    }
+
+    /// Returns the printed text of the list's elements, or `-` if there are none, if the list's own text begins with
+    /// that. It may be none even then.
+    pub fn printed(&self) -> Option<&'a str>
+        ensures prints { IfSome result (λ p. shown p ≡ elements_text (list_elements self.now)) }
+        ensures begins { IfSome result (λ p. (left : Text) × (list_text self.now ≡ shown p ++ left)) }
+    {
+        self.printed
+    }
+
+    /// Returns whether the list's text is already the printed text of its elements.
+    pub fn is_printed(&self) -> bool
+        ensures { IsTrue result ↔ (list_text self.now ≡ elements_text (list_elements self.now)) }
+    {
+        match self.printed {
+            Some(printed) => printed.len() == self.text.len(),
+            None => false,
+        }
+    }
+
+    /// Returns how many strict elements the list has.
+    pub fn len(&self) -> usize
+        ensures { result ≡ length (list_elements self.now) }
+    {
+        self.elements
+    }
+
+    /// Returns whether the list has no strict element.
+    pub fn is_empty(&self) -> bool
+        ensures { MatchBool result (list_elements self.now ≡ []) (list_elements self.now ≢ []) }
+    {
+        self.len() == 0
+    }
+
+    /// Returns how many parameters the strict elements of the list have in all.
+    pub fn params_len(&self) -> usize
+        ensures { result ≡ sum_by (λ e. length e.params) (list_elements self.now) }
+    {
+        self.params
+    }
+}

@@ -1,0 +1,115 @@
+//! The elements of a recognised list, and the parameters of a recognised element, one after the other.
+ghost use Rattle.std.specs.Prelude.{◌≡◌, ◌⊎◌, [], ◌∷◌, chars, IsUtf8};
+ghost use Rattle.std.proofs.Props.{props};
+ghost use Rattle.syslog_elements.specs.Bodies.Closing.{inside as inside_class, IsDead};
+ghost use Rattle.syslog_text.specs.Pieces.Class.{NoFront, exactly};
+ghost use Rattle.syslog_text.specs.Pieces.Lists.{many};
+ghost use Rattle.syslog_elements.specs.StructuredData.{item as item_class};
+ghost use Rattle.syslog_elements.specs.StructuredData.Recognised.{OneMeaning, OneInside-prop, OneItems-prop};
+
+use super::recognise::{after_bracketed, param};
+use super::recognised::{Element, ElementList};
+use super::visit::NoNotes;
+use super::walk::walk_element;
+use syslog_text::text::literal;
+
+// Returns the text after the space at the front, and the whole text if there is none. It is a function of its own, so
+// that its clause separates the two cases for `next`.
+fn past_separator(text: &str) -> &str
+    ensures { (chars text.now ≡ 32 ∷ chars result.now)
+        ⊎ (NoFront (exactly (32 ∷ [])) (chars text.now) × (chars text.now ≡ chars result.now)) }
+{
+    literal(text, ' ').unwrap_or(text)
+}
+
+/// An iterator over the names and the raw values of an element's parameters, in order.
+#[derive(Clone, Copy)]
+pub struct Params<'a> {
+    rest: &'a str,
+    ghost utf8: { IsUtf8 rest.now } by { Prim.hlevel props },
+    pub ghost meaning: { OneMeaning inside_class (chars rest.now) } by { OneInside-prop (chars rest.now) },
+}
+
+impl<'a> Iterator for Params<'a> {
+    ghost use Rattle.syslog_elements.specs.Words.{YieldsFirstBy, item_count, shown, param_value, params_left};
+
+    type Item = (&'a str, &'a str);
+
+    ghost next_gives = { YieldsFirstBy (param_value (λ s. shown s)) params_left };
+
+    ghost remaining = { item_count params_left };
+
+    fn next(&mut self) -> Option<(&'a str, &'a str)> {
+        if let Some(_) = literal(self.rest, ']') {
+            return None;
+        }
+        let (found, after) = param(self.rest)?;
+        self.rest = past_separator(after);
+        Some(found)
+    }
+}
+
+/// An iterator over the strict elements of a list, in order. Walking the whole list takes time linear in its text.
+#[derive(Clone, Copy)]
+pub struct Elements<'a> {
+    rest: &'a str,
+    // the number of `walk_element`, for the rest
+    dead: usize,
+    ghost utf8: { IsUtf8 rest.now } by { Prim.hlevel props },
+    ghost is_dead: { IsDead (chars rest.now) dead },
+    pub ghost meaning: { OneMeaning (many item_class) (chars rest.now) } by { OneItems-prop (chars rest.now) },
+}
+
+impl<'a> Iterator for Elements<'a> {
+    ghost use Rattle.syslog_elements.specs.Words.{YieldsFirstBy, item_count, element_seen, elements_left};
+
+    type Item = Element<'a>;
+
+    ghost next_gives = { YieldsFirstBy element_seen elements_left };
+
+    ghost remaining = { item_count elements_left };
+
+    fn next(&mut self) -> Option<Element<'a>> {
+        let mut rest = self.rest;
+        let mut dead = self.dead;
+        'items: loop {
+            match walk_element(rest, dead, &mut NoNotes) {
+                Ok(found) => {
+                    self.rest = found.rest;
+                    self.dead = dead;
+                    return Some(found.element);
+                }
+                Err(failed) => {
+                    rest = after_bracketed(rest)?;
+                    dead = failed.min(dead);
+                }
+            }
+        }
+    }
+}
+
+impl<'a> Element<'a> {
+    ghost use Rattle.syslog_elements.specs.Words.{element_seen, params_left};
+
+    /// Returns an iterator over the names and the raw values of the element's parameters, in order.
+    #[tactic(auto, using(crate::proofs::StructuredDataLemmas::Walk::inside_same))]
+    pub fn params(&self) -> Params<'a>
+        ensures { params_left result ≡ (element_seen self.now).params }
+    {
+        Params { rest: self.inside }
+    }
+}
+
+impl<'a> ElementList<'a> {
+    ghost use Rattle.syslog_elements.specs.Words.{elements_left, list_elements};
+
+    /// Returns an iterator over the strict elements of the list, in order.
+    pub fn elements(&self) -> Elements<'a>
+        ensures { elements_left result ≡ list_elements self.now }
+    {
+        Elements {
+            rest: self.text,
+            dead: self.text.len(),
+        }
+    }
+}

@@ -1,6 +1,0 @@
-use Rattle.syslog_pieces.proofs.Names.{escaped}
-use Rattle.syslog_pieces.proofs.StructuredDataLemmas.Units.{escaped_there, unescaped_one}
-use Rattle.syslog_pieces.proofs.laws.escapes_are_removed.Goals as goal
-
-pub returns-clause-one : goal.returns-clause-one
-returns-clause-one c text other i = unescaped_one (escaped text) other text i (escaped_there text)

@@ -1,8 +1,0 @@
-use Rattle.syslog_pieces.proofs.Names.{length, shadow, Utf8, chars, quoted, Meets}
-use Rattle.syslog_pieces.proofs.structured_data.recognise.after_value.Given as goal
-
-abbrev pub invariant-units : goal.invariant-units
-invariant-units l = shadow (Utf8 l.rest) × Meets quoted (chars l.text) quoted (chars l.rest)
-
-abbrev pub decreases-units : goal.decreases-units
-decreases-units l = length (chars l.rest)

@@ -1,9 +1,0 @@
-use Rattle.syslog_pieces.proofs.Names.{length, shadow, Utf8, chars, quoted, IsDead, Meets}
-use Rattle.syslog_pieces.proofs.structured_data.recognise.live_value.Given as goal
-
-abbrev pub invariant-units : goal.invariant-units
-invariant-units l =
-    shadow (Utf8 l.rest) × Meets quoted (chars l.text) quoted (chars l.rest) × IsDead (chars l.rest) l.dead
-
-abbrev pub decreases-units : goal.decreases-units
-decreases-units l = length (chars l.rest)

@@ -1,5 +1,0 @@
-use Rattle.syslog_pieces.proofs.Names.{◌≡◌, map, element_value, shown, element_seen}
-use Rattle.syslog_pieces.proofs.structured_data.recognised.ElementList.collect.Given as goal
-
-abbrev pub invariant-loop-element : goal.invariant-loop-element
-invariant-loop-element l = map (element_value (λ s. shown s)) l.elements.items ≡ map element_seen l.yielded

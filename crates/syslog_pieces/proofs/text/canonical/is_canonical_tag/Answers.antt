@@ -1,5 +1,0 @@
-use Rattle.syslog_pieces.proofs.TextLemmas.Words.{tag_told}
-use Rattle.syslog_pieces.proofs.text.canonical.is_canonical_tag.Goals as goal
-
-pub returns : goal.returns
-returns c = tag_told _ _ _ c.tag_word.ensures c.is_whole.ensures

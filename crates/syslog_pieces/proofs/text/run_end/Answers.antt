@@ -1,8 +1,0 @@
-use Rattle.syslog_pieces.proofs.Names.{rules}
-use Rattle.syslog_pieces.proofs.TextLemmas.Runs.{all_end, ascii_run}
-use Rattle.syslog_pieces.proofs.text.run_end.Goals as goal
-
-pub returns-then-is_cut : goal.returns-then-is_cut
-returns-then-is_cut c =
-    let end = ascii_run _ _ _ c.utf8.text (rw c.as_bytes.ensures.value at c.ascii_run-end.ensures) in
-    all_end _ _ _ c.utf8.text end (search rules)

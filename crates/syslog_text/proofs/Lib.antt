@@ -1,0 +1,3 @@
+pub mod Names
+pub mod PieceLemmas
+pub mod TextLemmas

@@ -1,0 +1,4 @@
+pub mod Bodies
+pub mod Pieces
+pub mod Text
+pub mod Words
