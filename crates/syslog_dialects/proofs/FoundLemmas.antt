@@ -485,13 +485,15 @@ xr_all =
     also said dialect.Container container_row (λ v. loose (Some v.1.0) None None None v.1.1.1.0) container_found
     also said dialect.Esxi esxi_row esxi_sent esxi_found
     also said dialect.ProCurve procurve_row procurve_sent procurve_found
-    also said dialect.BsdDate bsd_row (λ v. dated_sent v.1.0 v.1.1.0) (λ h. dated_found (beside h []) odd_bsd_date an_odd_bsd_date)
+    also said dialect.BsdDate bsd_row (λ v. dated_sent v.1.0 v.1.1.0)
+    (λ h. dated_found (beside h []) odd_bsd_date an_odd_bsd_date)
     also said dialect.NearlyRfc3339 iso_row (λ v. dated_sent v.1.0 v.1.1.0)
     (λ h. dated_found (beside h []) odd_iso_date an_odd_iso_date)
     also said dialect.Journal journal_row (λ v. dated_sent v.1.1.1.0 v.1.1.1.1.0) journal_found
     also said dialect.NetScaler netscaler_row (λ v. dated_sent v.1.0 v.1.1.0)
     (λ h. dated_found (beside h []) slashed_date a_slashed_date)
-    also said dialect.SophosUtm utm_row (λ v. dated_sent v.1.0 v.1.1.0) (λ h. dated_found (beside h []) colon_date a_colon_date)
+    also said dialect.SophosUtm utm_row (λ v. dated_sent v.1.0 v.1.1.0)
+    (λ h. dated_found (beside h []) colon_date a_colon_date)
     also said dialect.SeverityFirst logread_row logread_sent logread_found
     also said dialect.UnixSeconds meraki_row meraki_sent meraki_found
     also said dialect.UnixSeconds short_row short_sent short_found

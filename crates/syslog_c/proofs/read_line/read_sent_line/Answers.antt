@@ -16,4 +16,5 @@ returns-in-Some c = tried_line _ _ _ _ _ (c.take.ensures.taken c.if-not-take.fal
 pub returns-in-None : goal.returns-in-None
 returns-in-None c =
     inr (inr (tried_line (λ rules dating text. RefusesSent rules dating text NoReading) _ _ _ _
-    (c.take.ensures.taken c.if-not-take.false) c.in-Ok.ensures (in_year_map (λ year none. (refl, none)) c.in-None.ensures.reads)))
+    (c.take.ensures.taken c.if-not-take.false) c.in-Ok.ensures
+    (in_year_map (λ year none. (refl, none)) c.in-None.ensures.reads)))
