@@ -7,7 +7,7 @@ use Rattle.syslog_pieces.specs.Timestamp.{header_stamp}
 use Rattle.syslog_text.proofs.PieceLemmas.Class.{◌past◌, no_mapped, no_row, no_row_division}
 use Rattle.syslog_text.proofs.PieceLemmas.Rules.{no_such_front}
 use Rattle.syslog_dated_forms.specs.Container.{container_row}
-use Rattle.syslog_sent.specs.Date.{IsOdd, any_date, bsd_of, bsd_row, iso_date, iso_row}
+use Rattle.syslog_sent.specs.Date.{IsOdd, any_date, bsd_of, bsd_row, iso_date}
 use Rattle.syslog_dated_forms.specs.Dated as dated
 use Rattle.syslog_dated_forms.specs.ProCurve.{procurve_row}
 use Rattle.syslog_sent.specs.declared.sent.SentDate.{SentDate}

@@ -18,7 +18,6 @@ mod recognise;
 mod recognised;
 mod recognised_items;
 pub mod rfc3164_list;
-mod unparsed;
 mod visit;
 mod walk;
 

@@ -1,5 +1,5 @@
 -- Each piece of a line is a part that its object accounts for.
-use Rattle.std.proofs.Common.{◌≡◌, ◌≢◌, ◌≤◌, ◌∙◌, ◌/◌, ◌%◌, inl, inr, ℕ, List, [], ◌∷◌, ◌++◌, Option, Some, None}
+use Rattle.std.proofs.Common.{◌≡◌, ◌≤◌, ◌∙◌, ◌/◌, ◌%◌, inl, inr, ℕ, List, [], ◌∷◌, ◌++◌, Option, Some, None}
 use Rattle.std.proofs.Common.{refl, sym, ap, subst, append_assoc, append-nil, arith, map, unwrap_or}
 use Rattle.std.proofs.lemmas.Bool.{cases_lt}
 use Rattle.std.proofs.lemmas.Option.{slice_get_past}
@@ -8,15 +8,14 @@ use Rattle.std.specs.Prelude.{codes, slice_get}
 use Rattle.json.specs.Find.{get}
 use Rattle.json.specs.Json.{Json, string}
 use Rattle.syslog_text.specs.Pieces.Class.{Division, Front, Text, Values, after, exactly, optional}
-use Rattle.syslog_text.specs.Pieces.Lists.{many}
 use Rattle.syslog_pieces.specs.Pri.{facilities, facility_of, facility_number, severities, severity_of, severity_number}
 use Rattle.syslog_pieces.specs.Pri as pri_of
 use Rattle.syslog_pieces.specs.ProcId.{IsProcessWord, NamesProcess, procid_text}
-use Rattle.syslog_elements.specs.StructuredData.{element, forgiving, item, strict}
+use Rattle.syslog_elements.specs.StructuredData.{forgiving, strict}
 use Rattle.syslog_elements.specs.StructuredData.Element.{ElementValue}
 use Rattle.syslog_elements.specs.StructuredData.Rfc3164List.{rfc3164_list}
 use Rattle.syslog_elements.specs.StructuredData.Unparsed.{IsUnparsed, if_any}
-use Rattle.syslog_text.specs.Text.{dash, host, name_text, number, tag_word, trimmed}
+use Rattle.syslog_text.specs.Text.{host, name_text, number, tag_word, trimmed}
 use Rattle.syslog_pieces.specs.Timestamp.{IsHeaderStamp}
 use Rattle.syslog_pieces.specs.Timestamp.Printed.{printed_stamp}
 use Rattle.syslog_pieces.specs.Timestamp.Rfc3164.{rfc3164_stamp}
@@ -27,11 +26,10 @@ use Rattle.syslog_pieces.specs.declared.timestamp.OffsetTimestamp.{OffsetTimesta
 use Rattle.syslog_text.proofs.PieceLemmas.Class.{division_front, front_division, front_of, row_of, row_pieces}
 use Rattle.syslog_text.proofs.PieceLemmas.Class.{unique_division}
 use Rattle.syslog_text.proofs.PieceLemmas.Class.{◌also◌, ◌then◌}
-use Rattle.syslog_text.proofs.PieceLemmas.Rules.{Runs, no_run, one_run, runs_left}
+use Rattle.syslog_elements.proofs.StructuredDataLemmas.Unparsed.{left_of_items}
 use Rattle.syslog_pieces.proofs.PriLemmas.{priority_composed}
-use Rattle.syslog_elements.proofs.StructuredDataLemmas.Elements.{element_item, item_begins, item_det, strict_append}
+use Rattle.syslog_elements.proofs.StructuredDataLemmas.Elements.{strict_append}
 use Rattle.syslog_elements.proofs.StructuredDataLemmas.Elements.{strict_some}
-use Rattle.syslog_elements.proofs.StructuredDataLemmas.Walk.{items_alone}
 use Rattle.syslog_text.proofs.TextLemmas.Runs.{host_text, names_text}
 use Rattle.syslog_pieces.proofs.TimestampLemmas.Rfc3339.{printed_stamp_back}
 use Rattle.syslog_loose.specs.Message.{MessageValue, message_of_parts}
@@ -143,56 +141,30 @@ loose_stamp_part dating o p q (Some s) there (inr (date, is, at)) =
 
 -- ---- structured data
 
-elements_run : (t u : Text) (es : List ElementValue) → Front (many element) t u es → Runs item t (map Some es) u
-elements_run t u [] f = subst (λ (x : Text). Runs item x [] u) (sym (f.whole ∙ ap (λ (x : Text). x ++ u) f.is.0)) no_run
-elements_run t u (e ∷ es) f =
-    let (a, b, w, is, more) = f.is in
-    let whole = f.whole ∙ ap (λ (x : Text). x ++ u) w ∙ append_assoc a b u in
-    one_run (element_item t (b ++ u) e (front_of a whole is)) (elements_run (b ++ u) u es (front_of b refl more))
-
--- the strict elements that begin a list are the first of its elements
-strict_first : (p q u : Text) (es fs : List ElementValue) → forgiving.Is p q es → p ≢ dash → Front (many element) p u fs
-    → (more : List ElementValue) × (es ≡ fs ++ more)
-strict_first p q u es fs (inl (d, none)) other f = absurd (other d)
-strict_first p q u es fs (inr (vs, some, are, same)) other f =
-    let own : Front (many item) p [] vs = front_of p (sym (append-nil p)) (items_alone p q vs are) in
-    let (ws, split, left) = runs_left item_det vs (elements_run p u fs f) own in (
-      strict ws,
-      same ∙ ap strict split ∙ strict_append (map Some fs) ws
-          ∙ ap (λ (x : List ElementValue). x ++ strict ws) (sym (strict_some fs)),
-    )
-
 -- what is left unparsed, which is nothing or found
 unparsed_part : (o : Json) (u : Text) → get (codes "unparsed_structured_data") o ≡ option_map text_json (if_any u)
     → maybe (text_at o (codes "unparsed_structured_data")) u
 unparsed_part o [] there = inl refl
 unparsed_part o (c ∷ u) there = inr there
 
-dash_elements : (p q : Text) (es : List ElementValue) → p ≡ dash → forgiving.Is p q es → es ≡ []
-dash_elements p q es d (inl (same, none)) = none
-dash_elements p q es d (inr ([], some, are, same)) = same
-dash_elements p q es d (inr (v ∷ vs, some, (a, b, w, is, more), same)) =
-    let (r, e) = item_begins a (b ++ q) v is in
-    absurd (no_bracket q r (sym (ap (λ (x : Text). x ++ q) d) ∙ ap (λ (x : Text). x ++ q) w ∙ append_assoc a b q ∙ e))
-  where
-    no_bracket : (q r : Text) → dash ++ q ≡ 91 ∷ r → ⊥
-    no_bracket q r e = cc
-
 strict_part : (o : Json) (p q u : Text) (es : List ElementValue)
     → get (codes "structured_data") o ≡ structured_json es
     → get (codes "unparsed_structured_data") o ≡ option_map text_json (if_any u)
     → forgiving.Is p q es → IsUnparsed p u → structured_data o p
-strict_part o p q u es there left is (inl (d, none)) =
-    inl (d, there ∙ ap structured_json (dash_elements p q es d is))
-strict_part o p q u es there left is (inr (other, (fs, f))) =
-    let (more, same) = strict_first p q u es fs is other f in
+strict_part o p q u es there left (inl (d, none)) is = inl (d, there ∙ ap structured_json none)
+strict_part o p q u es there left (inr (vs, some, are, same)) is =
+    let (at, e) = left_of_items p q u vs are is in
+    let fs = at.strict_ones in
+    let split = same ∙ ap strict at.split ∙ strict_append (map Some fs) at.others
+    ∙ ap (λ (x : List ElementValue). x ++ strict at.others) (sym (strict_some fs)) in
     inr (
       fs,
-      more,
-      subst (HasElements o) same (elements_there o es there),
-      subst (AreParts (elements fs ∷ maybe (text_at o (codes "unparsed_structured_data")) ∷ [])) (sym f.whole)
-          (two_parts (elements fs) (maybe (text_at o (codes "unparsed_structured_data"))) f.piece u
-          (many_parts f.piece u fs f.is) (unparsed_part o u left)),
+      strict at.others,
+      subst (HasElements o) split (elements_there o es there),
+      subst (AreParts (elements fs ∷ maybe (text_at o (codes "unparsed_structured_data")) ∷ [])) (sym at.front.whole)
+          (two_parts (elements fs) (maybe (text_at o (codes "unparsed_structured_data"))) at.front.piece at.unparsed
+          (many_parts at.front.piece at.unparsed fs at.front.is)
+          (unparsed_part o at.unparsed (left ∙ ap (λ x. option_map text_json (if_any x)) e))),
     )
 
 -- all elements are found

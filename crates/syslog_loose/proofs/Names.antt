@@ -78,7 +78,8 @@ pub use Rattle.syslog_elements.proofs.StructuredDataLemmas.Units.{decide, option
 pub use Rattle.syslog_elements.proofs.StructuredDataLemmas.Walk.{dash_rfc3164_list, full_begins, no_rfc3164_list}
 pub use Rattle.syslog_elements.proofs.StructuredDataLemmas.Walk.{rfc3164_list_det, begins_no_list, no_full_nil}
 pub use Rattle.syslog_elements.proofs.StructuredDataLemmas.Walk.{no_full_start, no_full_opening, full_shorter}
-pub use Rattle.syslog_elements.proofs.StructuredDataLemmas.Walk.{visits_none, no_list_is}
+pub use Rattle.syslog_elements.proofs.StructuredDataLemmas.Walk.{no_list_is}
+pub use Rattle.syslog_elements.proofs.StructuredDataLemmas.Tallies.{visits_none}
 pub use Rattle.syslog_text.proofs.TextLemmas.Words.{false_is, no_truth, last_is, colon_ascii, host_det, tag_word_det}
 pub use Rattle.syslog_text.proofs.TextLemmas.Words.{decimal_digits, number_back, host_back, digits_visible}
 pub use Rattle.syslog_text.proofs.TextLemmas.Words.{encodes-decimal, encodes_shown, encodes_step, flat_map-map}

@@ -117,7 +117,7 @@ apart {m = m} r s =
 loose_list : (rule : DashRule) (p q : Text) (v : Option (List ElementValue)) → (optional (rfc3164_list rule)).Is p q v
     → IsUnparsed p []
 loose_list rule p q None h = nothing_leaves p h.0
-loose_list rule p q (Some es) (inl (d, before, none)) = inl (d, refl)
+loose_list rule p q (Some es) (inl (d, before, none)) = ∣ inl (d, refl) ∣₁
 loose_list rule p q (Some es) (inr (some, h)) = full_leaves p q es some h
 
 -- a list of RFC 3164 is strict

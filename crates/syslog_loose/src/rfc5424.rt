@@ -31,7 +31,10 @@ pub(crate) fn are_all(tests: [bool; 5]) -> bool
 pub(crate) fn is_bare(process: Option<&str>) -> bool
     ensures { IsTrue result ↔ IfSome (seen process.entry) IsBareWord }
 {
-    process.is_none_or(is_bare_word)
+    match process {
+        None => true,
+        Some(word) => is_bare_word(word),
+    }
 }
 
 // Returns a host after blanks, the text after it, and whether the blanks are one space.

@@ -3,7 +3,7 @@ use Rattle.syslog_object.proofs.Names.{append_assoc, nat_lt, ElementValue, Messa
 use Rattle.syslog_object.proofs.Names.{append-nil, cases_Bool, element_json, element_pair, message_json, version_json}
 use Rattle.syslog_object.proofs.Names.{bytes_eq, option_map, items_text, first_keys, one_or_all, values_at, param_pair}
 use Rattle.syslog_object.proofs.Names.{Bool, false, subst, Option, string, quoted, escape, Protocol, items_of, gathered}
-use Rattle.syslog_object.proofs.Names.{◌≡◌, true, List, [], ◌∷◌, ◌++◌, refl, ◌==◌, arith, Some, None, Json, Text, Field}
+use Rattle.syslog_object.proofs.Names.{◌≡◌, true, List, [], ◌∷◌, ◌++◌, refl, ◌==◌, arith, Some, None, Json, Field}
 use Rattle.syslog_object.proofs.Names.{ℕ, sym, ap, ◌∙◌, suc, ◌<◌, ◌≤◌, map, inl, inr}
 use Rattle.std.proofs.Common.{zero, ◌/◌, ◌%◌, decimal}
 use Rattle.std.proofs.{DigitsParse.digits_onto-nil, lemmas.Bool.cond_both, lemmas.Grind.common_steps}

@@ -1,7 +1,10 @@
 -- What is left unparsed of a list: one text, which is nothing or goes from a bracket to a bracket.
+use mathlib.Core.HLevel.{Σ_prop_path}
+use Rattle.syslog_elements.proofs.Names.{shown}
+use Rattle.syslog_elements.proofs.Names.{Bor, props, ∥∥₁_elim, many_cons, many_here, append_more, append_cancel_right, strict}
 use Rattle.syslog_elements.proofs.Names.{◌≡◌, ◌≢◌, ◌⊎◌, ◌<◌, inl, inr, ℕ, List, [], ◌∷◌, ◌++◌, Option, Some, None, refl}
 use Rattle.syslog_elements.proofs.Names.{sym}
-use Rattle.syslog_elements.proofs.Names.{ap, subst, ◌∙◌, map, arith, length, chars, chars-nil, nil_from_length}
+use Rattle.syslog_elements.proofs.Names.{ap, subst, ◌∙◌, map, arith, length}
 use Rattle.syslog_elements.proofs.Names.{append_assoc, append-nil, Text, Class, Values}
 use Rattle.syslog_elements.proofs.Names.{Front, NoFront, IsDeterministic, exactly, texted, run, some_run, many, IsMany}
 use Rattle.syslog_elements.proofs.Names.{list_before, param, element, full_element, item, forgiving, dash, ElementValue}
@@ -10,12 +13,14 @@ use Rattle.syslog_elements.proofs.Names.{is_open_char, is_id_char}
 use Rattle.std.specs.List.{AllByRecursion}
 use Rattle.syslog_text.specs.Pieces.Class.{Divides, join}
 use Rattle.syslog_elements.specs.StructuredData.Canonical.{IsCanonicalElement}
-use Rattle.syslog_elements.specs.StructuredData.Unparsed.{IsUnparsed, if_any, leaving}
+use Rattle.syslog_elements.specs.StructuredData.Unparsed.{FollowsStrict, IsUnparsed, if_any, leaving}
+use Rattle.syslog_elements.specs.StructuredData.Visited.{LeavesBroken}
+use Rattle.syslog_elements.specs.declared.structured_data.line_list.Tally.{Tally}
+use Rattle.syslog_elements.proofs.StructuredDataLemmas.Tallies.{Gone, Unbroken, gone_all, no_dash_items, own_items}
 use Rattle.syslog_text.proofs.PieceLemmas.Class.{front_of}
-use Rattle.syslog_text.proofs.PieceLemmas.Rules.{Runs, no_run, one_run, runs_left}
-use Rattle.syslog_elements.proofs.StructuredDataLemmas.Elements.{element_back, element_det, element_item, forgiving_det}
-use Rattle.syslog_elements.proofs.StructuredDataLemmas.Elements.{item_begins, item_det, no_item_nil}
-use Rattle.syslog_elements.proofs.StructuredDataLemmas.Walk.{element_alone, full_begins, items_alone}
+use Rattle.syslog_elements.proofs.StructuredDataLemmas.Elements.{element_back, element_det, forgiving_det}
+use Rattle.syslog_elements.proofs.StructuredDataLemmas.Elements.{item_begins, no_item_nil}
+use Rattle.syslog_elements.proofs.StructuredDataLemmas.Walk.{are_full_items, are_items, element_alone, full_begins, items_alone}
 
 -- ---- a text that may be empty
 
@@ -43,24 +48,21 @@ no_dash e es same = cc
 -- leaves nothing
 pub printed_leaves : (list : Text) (es : List ElementValue) → AllByRecursion IsCanonicalElement es
     → list ≡ elements_text es → IsUnparsed list []
-printed_leaves list [] each e = inl (e, refl)
-printed_leaves list (x ∷ es) each e = inr (
+printed_leaves list [] each e = ∣ inl (e, refl) ∣₁
+printed_leaves list (x ∷ es) each e = ∣ inr (
   (λ d. no_dash x es (sym e ∙ d)),
   (
     x ∷ es,
     subst (λ (t : Text). Front (many element) t [] (x ∷ es)) (sym e)
         (front_of (joined_elements (x ∷ es)) (sym (append-nil (joined_elements (x ∷ es)))) (many_back (x ∷ es) each)),
   ),
-)
+) ∣₁
 
 pub nothing_leaves : (list : Text) → list ≡ [] → IsUnparsed list []
-nothing_leaves list e = inr (
+nothing_leaves list e = ∣ inr (
   (λ d. (let k = sym e ∙ d in absurd cc)),
   ([], subst (λ (t : Text). Front (many element) t [] []) (sym e) (front_of [] refl (refl, no_element_nil))),
-)
-
-pub no_bytes_leave : (bs : List ℕ) → length bs ≡ 0 → IsUnparsed (chars bs) []
-no_bytes_leave bs none = nothing_leaves (chars bs) (ap chars (nil_from_length bs none) ∙ chars-nil)
+) ∣₁
 
 -- nor does a list of elements with parameters
 
@@ -80,16 +82,35 @@ full_no_dash p q e es (a, b, w, is, more) d =
 pub full_leaves : (p q : Text) (es : List ElementValue) → 0 < length es → IsMany full_element p q es → IsUnparsed p []
 full_leaves p q [] some h = absurd (omega arith)
 full_leaves p q (e ∷ es) some h =
-    inr (full_no_dash p q e es h, (e ∷ es, front_of p (sym (append-nil p)) (elements_alone p q (e ∷ es) h)))
+    ∣ inr (full_no_dash p q e es h, (e ∷ es, front_of p (sym (append-nil p)) (elements_alone p q (e ∷ es) h))) ∣₁
 
 -- ---- one text
 
-pub unparsed_same : (list u w : Text) → IsUnparsed list u → IsUnparsed list w → u ≡ w
-unparsed_same list u w (inl (d, e)) (inl (c, f)) = e ∙ sym f
-unparsed_same list u w (inl (d, e)) (inr (n, f)) = absurd (n d)
-unparsed_same list u w (inr (n, f)) (inl (d, e)) = absurd (n d)
-unparsed_same list u w (inr (n, (es, f))) (inr (m, (fs, g))) =
+follows_same : (list u w : Text) → FollowsStrict list u → FollowsStrict list w → u ≡ w
+follows_same list u w (inl (d, e)) (inl (c, f)) = e ∙ sym f
+follows_same list u w (inl (d, e)) (inr (n, f)) = absurd (n d)
+follows_same list u w (inr (n, f)) (inl (d, e)) = absurd (n d)
+follows_same list u w (inr (n, (es, f))) (inr (m, (fs, g))) =
     (front_same (many element) (many_det element element_det) f g).0
+
+text_set : IsSet Text
+text_set = Prim.hlevel props
+
+pub unparsed_same : (list u w : Text) → IsUnparsed list u → IsUnparsed list w → u ≡ w
+unparsed_same list u w a b =
+    ∥∥₁_elim a (text_set u w) (λ f. ∥∥₁_elim b (text_set u w) (λ g. follows_same list u w f g))
+
+-- which is at the end of the list
+pub unparsed_ends : (list u : Text) → IsUnparsed list u → (front : Text) × (list ≡ front ++ u)
+unparsed_ends list u left = ∥∥₁_elim left ends_prop (λ f. ends f)
+  where
+    ends_prop : IsProp ((front : Text) × (list ≡ front ++ u))
+    ends_prop x y = Σ_prop_path (λ front. text_set list (front ++ u))
+        (append_cancel_right x.0 y.0 u (sym x.1 ∙ y.1))
+
+    ends : FollowsStrict list u → (front : Text) × (list ≡ front ++ u)
+    ends (inl (d, none)) = (list, sym (append-nil list) ∙ ap (λ (x : Text). list ++ x) (sym none))
+    ends (inr (n, (es, f))) = (f.piece, f.whole)
 
 pub leaving_det : IsDeterministic leaving
 leaving_det p q p' q' u w e ((es, f), left) ((fs, g), right) =
@@ -155,16 +176,140 @@ items_bracketed u (v ∷ vs) f =
       ends = (front, own ∙ last);
     })
 
-elements_run : (t u : Text) (es : List ElementValue) → Front (many element) t u es → Runs item t (map Some es) u
-elements_run t u [] f = subst (λ (x : Text). Runs item x [] u) (sym (f.whole ∙ ap (λ (x : Text). x ++ u) f.is.0)) no_run
-elements_run t u (e ∷ es) f =
-    let (a, b, w, is, more) = f.is in
-    let whole = f.whole ∙ ap (λ (x : Text). x ++ u) w ∙ append_assoc a b u in
-    one_run (element_item t (b ++ u) e (front_of a whole is)) (elements_run (b ++ u) u es (front_of b refl more))
+-- the strict items at the front, and those that are left
+pub record LeftOfItems (p : Text) (vs : List (Option ElementValue)) : Type 0 where
+  pub unparsed : Text
+  pub strict_ones : List ElementValue
+  pub others : List (Option ElementValue)
+  pub split : vs ≡ map Some strict_ones ++ others
+  pub front : Front (many element) p unparsed strict_ones
+  pub left : Front (many item) unparsed [] others
+
+pub items_leave : (p : Text) (vs : List (Option ElementValue)) → IsMany item p [] vs → LeftOfItems p vs
+items_leave p [] h = record {
+  unparsed = [];
+  strict_ones = [];
+  others = [];
+  split = refl;
+  front = subst (λ (t : Text). Front (many element) t [] []) (sym h.0) (front_of [] refl (refl, no_element_nil));
+  left = front_of [] refl (refl, no_item_nil);
+}
+items_leave p (Some e ∷ vs) (a, b, w, is, more) =
+    let rest = items_leave b vs more in
+    record {
+      unparsed = rest.unparsed;
+      strict_ones = e ∷ rest.strict_ones;
+      others = rest.others;
+      split = ap (λ (x : List (Option ElementValue)). Some e ∷ x) rest.split;
+      front = many_cons element (front_of a w (element_alone a (b ++ []) b e is)) rest.front;
+      left = rest.left;
+    }
+items_leave p (None ∷ vs) h =
+    let (a, b, w, is, more) = h in
+    let whole : p ≡ a ++ (b ++ []) = w ∙ ap (λ (x : Text). a ++ x) (sym (append-nil b)) in
+    record {
+      unparsed = p;
+      strict_ones = [];
+      others = None ∷ vs;
+      split = refl;
+      front = many_here element p (subst (λ (x : Text). NoFront element x) (sym whole) is.0);
+      left = front_of p (sym (append-nil p)) h;
+    }
+
+-- which are what is left unparsed
+pub left_of_items : (p q u : Text) (vs : List (Option ElementValue)) → IsMany item p q vs → IsUnparsed p u
+    → (at : LeftOfItems p vs) × (u ≡ at.unparsed)
+left_of_items p q u vs are left =
+    let own = items_alone p q vs are in
+    let at = items_leave p vs own in
+    let no_dash = no_dash_items vs (front_of p (sym (append-nil p)) own) in
+    (at, unparsed_same p u at.unparsed left ∣ inr (no_dash, (at.strict_ones, at.front)) ∣₁)
 
 pub left_bracketed : (p q u : Text) → leaving.Is p q u → (u ≡ []) ⊎ IsBracketed u
-left_bracketed p q u (is, inl (d, e)) = inl e
-left_bracketed p q u ((es, inl (d, e)), inr (n, f)) = absurd (n d)
-left_bracketed p q u ((es, inr (vs, some, are, same)), inr (n, (fs, f))) =
-    let own : Front (many item) p [] vs = front_of p (sym (append-nil p)) (items_alone p q vs are) in
-    let (ws, split, left) = runs_left item_det vs (elements_run p u fs f) own in items_bracketed u ws left
+left_bracketed p q u ((es, inl (d, e)), left) = inl (unparsed_same p u [] left ∣ inl (d, refl) ∣₁)
+left_bracketed p q u ((es, inr (vs, some, are, same)), left) =
+    let (at, e) = left_of_items p q u vs are left in
+    subst (λ (x : Text). (x ≡ []) ⊎ IsBracketed x) (sym e) (items_bracketed at.unparsed at.others at.left)
+
+-- ---- what the walk marks as broken
+
+-- elements stay elements where another text follows
+many_alone : (p q r : Text) (es : List ElementValue) → IsMany element p q es → NoFront element r
+    → IsMany element p r es
+many_alone p q r [] h none = (h.0, none)
+many_alone p q r (e ∷ es) (a, b, w, is, more) none =
+    (a, b, w, element_alone a (b ++ q) (b ++ r) e is, many_alone b q r es more none)
+
+-- what is left of the items that were walked
+module _ {V : Type 0} {given : V → V → List ElementValue → Type 0} {text rest : Text} {old new : V} {tally : Tally}
+    (s : Gone item (λ vs. strict vs) given text rest old new tally) (n : NoFront item rest) where
+  all_items : Front (many item) text rest s.vs
+  all_items = gone_all _ _ _ s n
+
+  not_dash : (p : Text) → text ≡ p ++ rest → p ≢ dash
+  not_dash p w d = no_dash_items s.vs (own_items all_items.whole (are_items all_items))
+      (append_cancel_right all_items.piece p rest (sym all_items.whole ∙ w) ∙ d)
+
+  leaves_by : (broken : Option (Bor (List ℕ))) → Unbroken text rest s.es broken → LeavesBroken text rest broken
+  leaves_by None read =
+      let f = read rest [] (many_here element rest (λ p q e w is. n p q (Some e) w is)) in
+      record {
+        piece = f.piece;
+        whole = f.whole;
+        unparsed = [];
+        left = ∣ inr (
+          not_dash f.piece f.whole,
+          (
+            _,
+            front_of f.piece (sym (append-nil f.piece))
+                (many_alone f.piece rest [] _ f.is no_element_nil),
+          ),
+        ) ∣₁;
+        is = (tt, refl);
+      }
+  leaves_by (Some b) (utf8, none, (fs, read), (u, e)) =
+      let f = read (shown b) [] (many_here element (shown b) none) in
+      let whole : text ≡ (f.piece ++ u) ++ rest =
+      f.whole ∙ ap (λ (x : Text). f.piece ++ x) e ∙ sym (append_assoc f.piece u rest) in
+      let no_element : NoFront element u = λ p r x w is. none p (r ++ rest) x (e ∙ append_more u p r rest w)
+      (element_alone p r (r ++ rest) x is) in
+      record {
+        piece = f.piece ++ u;
+        whole = whole;
+        unparsed = u;
+        left = ∣ inr (
+          not_dash (f.piece ++ u) whole,
+          (
+            _,
+            front_of f.piece refl
+                (many_alone f.piece (shown b) u _ f.is no_element),
+          ),
+        ) ∣₁;
+        is = (utf8, e);
+      }
+
+  pub gone_leaves : LeavesBroken text rest tally.broken
+  gone_leaves = leaves_by tally.broken s.unbroken
+
+-- nothing is left of elements with a parameter
+pub full_leaves_none : {text rest : Text} {es : List ElementValue} (broken : Option (Bor (List ℕ))) → broken ≡ None
+    → Front (many full_element) text rest es → LeavesBroken text rest broken
+full_leaves_none {text = text} {rest = rest} {es = es} broken none f =
+    subst (LeavesBroken text rest) (sym none) (record {
+      piece = f.piece;
+      whole = f.whole;
+      unparsed = [];
+      left = ∣ inr (
+        no_dash_items (map Some es) (own_items f.whole (are_full_items f)),
+        (
+          es,
+          front_of f.piece
+              (sym (append-nil f.piece)) (elements_alone f.piece rest es f.is),
+        ),
+      ) ∣₁;
+      is = (tt, refl);
+    })
+
+pub any_of_some : (u : Text) → 0 < length u → Some u ≡ if_any u
+any_of_some [] some = absurd (omega arith)
+any_of_some (c ∷ u) some = refl

@@ -32,8 +32,7 @@ use Rattle.syslog_elements.proofs.Names.{many, dash, Bool, ◌&&◌, item, true,
 use Rattle.syslog_elements.proofs.Names.{◌⊎◌}
 use Rattle.syslog_elements.proofs.Names.{map, run, ap, ◌then◌}
 use Rattle.syslog_elements.specs.StructuredData.Recognised.{OneInside-prop, OneItems-prop, params_set, items_set}
-use Rattle.syslog_elements.specs.StructuredData.Visited.{IsTallied, AreItems}
-use Rattle.syslog_elements.specs.declared.structured_data.line_list.Tally.{Tally}
+use Rattle.syslog_elements.specs.StructuredData.Visited.{AreItems}
 use Rattle.syslog_elements.proofs.StructuredDataLemmas.Closing.{passes_opening, element_starts, passes_quoted}
 use Rattle.syslog_elements.proofs.StructuredDataLemmas.Closing.{start_shut}
 use Rattle.syslog_elements.proofs.StructuredDataLemmas.Closing.{element_read, value_breaks, passes_here, param_opens}
@@ -44,7 +43,7 @@ use Rattle.syslog_elements.proofs.StructuredDataLemmas.Elements.{space_is_no_clo
 use Rattle.syslog_elements.proofs.StructuredDataLemmas.Elements.{item_shorter, element_det, item_begins, quoted_text}
 use Rattle.syslog_elements.proofs.StructuredDataLemmas.Elements.{no_item_nil, dash_apart, quoted_det, inside_det}
 use Rattle.syslog_elements.proofs.StructuredDataLemmas.Elements.{no_blanks, param_det, start_det, item_det}
-use Rattle.syslog_elements.proofs.StructuredDataLemmas.Elements.{element_back, element_canonical, element_with}
+use Rattle.syslog_elements.proofs.StructuredDataLemmas.Elements.{element_canonical, element_with}
 use Rattle.std.proofs.lemmas.List.{append_cancel_left}
 use Rattle.std.specs.List.{AllByRecursion}
 use Rattle.syslog_text.specs.Pieces.Class.{Divides, Each, Ends}
@@ -572,198 +571,6 @@ are_items {q = q} {vs = vs} f = are_of f (items_alone f.piece q vs f.is)
 pub are_full_items : {t q : Text} {es : List ElementValue} → Front (many full_element) t q es
     → AreItems t q (map Some es)
 are_full_items {q = q} {es = es} f = are_of f (full_alone f.piece q es f.is)
-
--- ---- the own text of a list
-module _ {t rest own : Text} (cut : t ≡ own ++ rest) where
-  pub own_items : {vs : List (Option ElementValue)} → AreItems t rest vs → Front (many item) own [] vs
-  own_items {vs = vs} a = subst (λ (x : Text). Front (many item) x [] vs)
-      (append_cancel_right a.piece own rest (sym a.whole ∙ cut)) a.items
-
-  pub own_printed : {end printed joined : Text} → (between : Text) × (end ≡ between ++ rest) → t ≡ joined ++ end
-      → t ≡ printed ++ end → (printed ≡ joined) × ((left : Text) × (own ≡ printed ++ left))
-  own_printed {end = end} {printed = printed} {joined = joined} (between, e) f g =
-      let same = sym cut ∙ g ∙ ap (λ (x : Text). printed ++ x) e ∙ sym (append_assoc printed between rest) in
-      append_cancel_right printed joined end (sym g ∙ f)
-      also (between, append_cancel_right own (printed ++ between) rest same)
-
--- such a list is no dash
-no_dash_items : {own : Text} (vs : List (Option ElementValue)) → Front (many item) own [] vs → own ≢ dash
-no_dash_items [] f d = let k = ap length (sym d ∙ f.whole ∙ ap (λ (x : Text). x ++ []) f.is.0) in omega (arith, k)
-no_dash_items (v ∷ vs) f d =
-    let (u, first, rest) = many_parts item f in
-    let (r, e) = item_begins first.piece u v first.is in
-    let t = heads 45 91 [] r (sym d ∙ first.whole ∙ e) in omega (arith, t)
-
--- where the mark says otherwise, or there is no element, it is not in printed form
-pub own_differs : {t rest own : Text} {vs : List (Option ElementValue)} {tally : Tally} → t ≡ own ++ rest
-    → AreItems t rest vs → IsTallied t rest (strict vs) tally
-    → ((tally.prints ≡ true) × (tally.elements ≤ 0)) ⊎ (tally.prints ≡ false) → own ≢ elements_text (strict vs)
-own_differs {t = t} {rest = rest} {own = own} {vs = vs} {tally = tally} cut items tallied unmarked =
-    by_elements (strict vs) tallied
-  where
-    by_elements : (es : List ElementValue) → IsTallied t rest es tally → own ≢ elements_text es
-    by_elements [] k e = no_dash_items vs (own_items cut items) e
-    by_elements (x ∷ es) k e = elim k.lost [
-      | inl marked ↦ elim unmarked [
-        | inl (_, none) ↦ omega (arith, k.elements, none)
-        | inr other ↦ cc
-      ]
-      | inr never ↦ never rest (cut ∙ ap (λ (x : Text). x ++ rest) e)
-    ]
-
-pub some_joined : (es : List ElementValue) → 0 < length es → joined_elements es ≡ elements_text es
-some_joined [] l = absurd (omega arith)
-some_joined (e ∷ es) l = refl
-
--- ---- a list as far as it was walked: its pieces, their elements and counts, and what a visitor was given of them.
--- Where the second mark says so, nothing was left out; elsewhere a broken element follows the last strict one.
-pub record Gone (C : Class) (view : List C.Value → List ElementValue) {V : Type 0}
-    (given : V → V → List ElementValue → Type 0) (text rest : Text) (old new : V) (tally : Tally) (strict : Bool)
-    : Type 0 where
-  pub vs : List C.Value
-  pub es : List ElementValue
-  pub same : es ≡ view vs
-  pub read : HasRead C text vs rest
-  pub tallied : IsTallied text rest es tally
-  pub level : IsTrue strict → shown tally.end ≡ rest
-  pub broken : IsTrue tally.prints → IsTrue strict ⊎ NoFront element (shown tally.end)
-  pub elements : tally.elements + length rest ≤ length text
-  pub params : tally.params + length rest ≤ length text
-  pub visits : Visits given old es new
-
-pub visits_none : {V : Type 0} (given : V → V → List ElementValue → Type 0) (v : V) → Visits given v [] v
-visits_none given v first ds h = subst (λ (x : List ElementValue). given first v x) (sym (append-nil ds)) h
-
-module _ (C : Class) (view : List C.Value → List ElementValue) {V : Type 0}
-    (given : V → V → List ElementValue → Type 0) where
-  pub gone_none : (text : Text) (v : V) (tally : Tally) → [] ≡ view [] → IsUtf8 tally.end.now → tally.elements ≡ 0
-      → tally.params ≡ 0 → shown tally.end ≡ text → IsTrue tally.prints → Gone C view given text text v v tally true
-  gone_none text v tally z u e p s marked = record {
-    vs = [];
-    es = [];
-    same = z;
-    read = λ q ws f. f;
-    tallied = record { utf8 = u; elements = e; params = p; after = ([], s); prints = λ t. sym s; lost = inl marked };
-    level = λ t. s;
-    broken = λ t. inl refl;
-    elements = omega (arith, e);
-    params = omega (arith, p);
-    visits = visits_none given v;
-  }
-
-  module _ {text rest : Text} {old mid : V} {tally : Tally} {strict : Bool}
-      (s : Gone C view given text rest old mid tally strict) where
-    -- the pieces in all, where none is left
-    pub gone_all : NoFront C rest → Front (many C) text rest s.vs
-    gone_all n = subst (λ (x : List C.Value). Front (many C) text rest x) (append-nil s.vs)
-        (s.read rest [] (many_here C rest n))
-
-    module _ {w : Walked} (k : IsWalked rest w) where
-      shorter : length (shown w.rest) < length rest
-      shorter = element_shorter rest (shown w.rest) (element_seen w.element) k.front
-
-      -- the counts stay within the text
-      pub gone_within : (bytes : List ℕ) → IsUtf8 bytes → text ≡ chars bytes → (tally.elements + 1 ≤ length bytes)
-          × (tally.params + length (element_seen w.element).params ≤ length bytes)
-      gone_within bytes u e =
-          let l = chars_length bytes u in
-          let m = ap length e in
-          (omega (arith, l, m, shorter, s.elements), omega (arith, l, m, s.params, k.few))
-
-      -- an element more, whose mark is that of the walk and of the list
-      pub gone_on : {tally' : Tally} {new : V} (v : C.Value)
-          → view (s.vs ++ (v ∷ [])) ≡ view s.vs ++ (element_seen w.element ∷ []) → C.Is k.front.piece (shown w.rest) v
-          → tally'.elements ≡ tally.elements + 1
-          → tally'.params ≡ tally.params + length (element_seen w.element).params → tally'.end ≡ w.rest
-          → IsTrue tally'.prints ↔ IsTrue ((tally.prints && w.prints) && strict)
-          → Visits given mid (element_seen w.element ∷ []) new
-          → Gone C view given text (shown w.rest) old new tally' strict
-      gone_on {tally' = tally'} {new = new} v z is n m e p step =
-          let t = s.tallied in
-          let x = element_seen w.element in
-          let same : shown tally'.end ≡ shown w.rest = ap (λ r. shown r) e in
-          let back : (more : Text) → element.Is (element_text x) more x = λ more.
-          element_back x more (element_canonical k.front.piece (shown w.rest) x k.front.is) in
-          let after : IsTrue tally.prints → (more : Text) → text ≡ joined_elements (s.es ++ (x ∷ [])) ++ more
-          → shown tally.end ≡ element_text x ++ more = λ marked more e.
-          append_cancel_left (joined_elements s.es) (shown tally.end) (element_text x ++ more)
-          (sym (t.prints marked) ∙ e ∙ flat_map_more element_text s.es x more) in
-          record {
-            vs = s.vs ++ (v ∷ []);
-            es = s.es ++ (x ∷ []);
-            same = ap (λ (es : List ElementValue). es ++ (x ∷ [])) s.same ∙ sym z;
-            read = has_read_more C text rest (shown w.rest) s.vs v s.read (front_of k.front.piece k.front.whole is);
-            tallied = record {
-              utf8 = subst (λ r. IsUtf8 r.now) (sym e) k.utf8;
-              elements = omega (arith, n, t.elements, length-append s.es (x ∷ []));
-              params = m ∙ omega (arith, t.params, sum_by_push (λ d. length d.params) s.es x);
-              after = ([], same);
-              prints = λ all. (
-                  let (both, d) = and_parts _ _ (p.0 all) in
-                  let (a, b) = and_parts _ _ both in
-                  t.prints a ∙ ap (λ (y : Text). joined_elements s.es ++ y) (s.level d ∙ k.prints.0 b)
-                  ∙ sym (flat_map_more element_text s.es x (shown w.rest))
-                  ∙ ap (λ (y : Text). joined_elements (s.es ++ (x ∷ [])) ++ y) (sym same));
-              lost = elim t.lost [
-                | inr never ↦ inr (λ more e.
-                    never (element_text x ++ more) (e ∙ flat_map_more element_text s.es x more))
-                | inl marked ↦ elim (s.broken marked) [
-                  | inr none ↦ inr (λ more e. none (element_text x) more x (after marked more e) (back more))
-                  | inl d ↦ elim (cases_Bool w.prints) [
-                    | inl b ↦ inl (p.1 (and_from _ _ (and_from _ _ marked b) d))
-                    | inr unmarked ↦ inr (λ more e.
-                        let here = sym (s.level d) ∙ after marked more e in
-                        let other = front_of (element_text x) here (back more) in
-                        let there = front_same element element_det k.front other in
-                        let marked = k.prints.1 (here ∙ ap (λ (y : Text). element_text x ++ y) (sym there.0)) in cc)
-                  ]
-                ]
-              ];
-            };
-            level = λ d. same;
-            broken = λ all. inl (and_parts _ _ (p.0 all)).1;
-            elements = omega (arith, s.elements, n, shorter);
-            params = omega (arith, s.params, m, k.few);
-            visits = λ first ds h. subst (λ (y : List ElementValue). given first new y) (append_assoc ds s.es (x ∷ []))
-                (step first (ds ++ s.es) (s.visits first ds h));
-          }
-
-    -- a piece more that is no element
-    pub gone_past : {next : Text} → NoFront element rest → (v : C.Value) → view (s.vs ++ (v ∷ [])) ≡ view s.vs
-        → Front C rest next v → Gone C view given text next old mid tally false
-    gone_past {next = next} n v z f = record {
-      vs = s.vs ++ (v ∷ []);
-      es = s.es;
-      same = s.same ∙ sym z;
-      read = has_read_more C text rest next s.vs v s.read f;
-      tallied = record {
-        utf8 = s.tallied.utf8;
-        elements = s.tallied.elements;
-        params = s.tallied.params;
-        after = let (a, e) = s.tallied.after in
-            (a ++ f.piece, e ∙ ap (λ (y : Text). a ++ y) f.whole ∙ sym (append_assoc a f.piece next));
-        prints = s.tallied.prints;
-        lost = s.tallied.lost;
-      };
-      level = λ t. cc;
-      broken = λ marked. elim (s.broken marked) [
-        | inl d ↦ inr (subst (λ (y : Text). NoFront element y) (sym (s.level d)) n)
-        | inr none ↦ inr none
-      ];
-      elements = omega (arith, s.elements, front_longer C f);
-      params = omega (arith, s.params, front_longer C f);
-      visits = s.visits;
-    }
-
--- what holds of the elements of the pieces
-module _ {C : Class} {view : List C.Value → List ElementValue} {V : Type 0} {given : V → V → List ElementValue → Type 0}
-    {text rest : Text} {old new : V} {tally : Tally} {strict : Bool}
-    (s : Gone C view given text rest old new tally strict) {ds : List ElementValue} (e : view s.vs ≡ ds) where
-  pub gone_tallied : IsTallied text rest ds tally
-  gone_tallied = subst (λ (x : List ElementValue). IsTallied text rest x tally) (s.same ∙ e) s.tallied
-
-  pub gone_visits : Visits given old ds new
-  gone_visits = subst (λ (x : List ElementValue). Visits given old x new) (s.same ∙ e) s.visits
 
 -- ---- whether there is a list
 pub items_none : {t q : Text} (own : List ℕ) (vs : List (Option ElementValue)) → Front (many item) t q vs

@@ -6,11 +6,16 @@ use Rattle.syslog_elements.specs.StructuredData.{element, forgiving}
 use Rattle.syslog_elements.specs.StructuredData.Element.{ElementValue}
 use Rattle.syslog_text.specs.Text.{dash}
 
+-- strict elements begin the list's own text, as many as there are, and this is after them; nothing is left of `-`
+abbrev pub FollowsStrict : Text → Text → Type 0
+FollowsStrict list unparsed = ((list ≡ dash) × (unparsed ≡ []))
+    ⊎ ((list ≢ dash) × ((es : List ElementValue) × Front (many element) list unparsed es))
+
 -- What is left of a list's own text after the strict elements that begin it: nothing where each element is strict, and
 -- nothing of `-`. So each broken element is in it, and so is a strict one after the first of them, which is parsed too.
+-- (It says that there are such elements, not which.)
 abbrev pub IsUnparsed : Text → Text → Type 0
-IsUnparsed list unparsed = ((list ≡ dash) × (unparsed ≡ []))
-    ⊎ ((list ≢ dash) × ((es : List ElementValue) × Front (many element) list unparsed es))
+IsUnparsed list unparsed = ∥ FollowsStrict list unparsed ∥₁
 
 -- the list that forgives broken elements, which means what is left unparsed of it
 abbrev pub leaving : Class

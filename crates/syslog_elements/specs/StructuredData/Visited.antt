@@ -1,5 +1,7 @@
 -- What recognised elements and lists mean, and what a visitor was given of them.
-use Rattle.std.specs.Prelude.{◌≡◌, ◌≢◌, ◌⊎◌, ◌↔◌, List, [], ◌++◌, ◌+◌, ◌≤◌, Option, IsTrue, length, sum_by}
+use Rattle.std.specs.Prelude.{◌≡◌, ◌≢◌, ◌⊎◌, ◌↔◌, ℕ, List, [], ◌++◌, ◌+◌, ◌≤◌, Option, Some, None, IfSome, IsTrue, length}
+use Rattle.std.specs.Prelude.{sum_by}
+use Rattle.std.specs.Borrow.{Bor}
 use Rattle.std.specs.Str.{IsUtf8}
 use Rattle.syslog_text.specs.Pieces.Class.{Text, Front}
 use Rattle.syslog_text.specs.Pieces.Lists.{many}
@@ -7,6 +9,7 @@ use Rattle.syslog_text.specs.Pieces.View.{shown}
 use Rattle.syslog_elements.specs.StructuredData.{strict, element, item}
 use Rattle.syslog_elements.specs.StructuredData.Element.{ElementValue, element_text, joined_elements}
 use Rattle.syslog_elements.specs.StructuredData.Recognised.{one_value}
+use Rattle.syslog_elements.specs.StructuredData.Unparsed.{IsUnparsed}
 use Rattle.syslog_elements.specs.declared.structured_data.recognised.Element.{Element}
 use Rattle.syslog_elements.specs.declared.structured_data.recognised.ElementList.{ElementList}
 use Rattle.syslog_elements.specs.declared.structured_data.recognised_items.Elements.{Elements}
@@ -46,14 +49,17 @@ pub record IsWalked (text : Text) (w : Walked) : Type 0 where
   pub prints : IsTrue w.prints ↔ (text ≡ element_text (element_seen w.element) ++ shown w.rest)
   pub few : length (element_seen w.element).params + length (shown w.rest) ≤ length text
 
--- The elements that are in the text before the rest were counted. Where the mark says so, they are in printed form up
--- to the end, and a part of the list may follow; elsewhere their printed form does not begin the text.
+-- the text from the first item on that is not strict, or else the rest
+abbrev pub strict_end : Option (Bor (List ℕ)) → Text → Text
+strict_end None rest = rest
+strict_end (Some b) rest = shown b
+
+-- The elements that are in the text before the rest were counted. Where the mark says so, their printed form is all of
+-- it up to the first item that is not strict; elsewhere it does not begin the text.
 pub record IsTallied (text rest : Text) (es : List ElementValue) (tally : Tally) : Type 0 where
-  pub utf8 : IsUtf8 tally.end.now
   pub elements : tally.elements ≡ length es
   pub params : tally.params ≡ sum_by (λ e. length e.params) es
-  pub after : (between : Text) × (shown tally.end ≡ between ++ rest)
-  pub prints : IsTrue tally.prints → text ≡ joined_elements es ++ shown tally.end
+  pub prints : IsTrue tally.prints → text ≡ joined_elements es ++ strict_end tally.broken rest
   pub lost : IsTrue tally.prints ⊎ ((more : Text) → text ≢ joined_elements es ++ more)
 
 -- the items are all of a piece of the text before the rest
@@ -61,3 +67,15 @@ pub record AreItems (text rest : Text) (vs : List (Option ElementValue)) : Type 
   pub piece : Text
   pub whole : text ≡ piece ++ rest
   pub items : Front (many item) piece [] vs
+
+-- this is before the rest, from the first item on that is not strict
+abbrev pub IsBroken : Option (Bor (List ℕ)) → Text → Text → Type 0
+IsBroken broken unparsed rest = IfSome broken (λ b. IsUtf8 b.now) × (strict_end broken rest ≡ unparsed ++ rest)
+
+-- and it is what is left unparsed of the items that are in the text before the rest
+pub record LeavesBroken (text rest : Text) (broken : Option (Bor (List ℕ))) : Type 0 where
+  pub piece : Text
+  pub whole : text ≡ piece ++ rest
+  pub unparsed : Text
+  pub left : IsUnparsed piece unparsed
+  pub is : IsBroken broken unparsed rest

@@ -1,9 +1,10 @@
 //! The list of a line, recognised and not collected. A visitor is given its strict elements while the list is read.
-ghost use Rattle.std.specs.Prelude.{◌≡◌, ◌++◌, [], ◌∷◌, List, Option, IfSome, MatchOption, chars};
-ghost use Rattle.syslog_elements.specs.Words.{Front, NoFront, optional, many, shown, forgiving, ElementValue};
+ghost use Rattle.std.specs.Prelude.{◌≡◌, ◌<◌, ◌≤◌, ◌++◌, [], ◌∷◌, List, Option, IfSome, IsTrue, MatchOption, chars};
+ghost use Rattle.syslog_elements.specs.Words.{Front, NoFront, optional, many, shown, forgiving, ElementValue, Text};
 ghost use Rattle.syslog_elements.specs.Words.{elements_or, full_element, rfc3164_list, list_elements};
 ghost use Rattle.syslog_elements.specs.Words.{list_text, AreItems, IsTallied, Visits};
 ghost use Rattle.syslog_elements.specs.StructuredData.{item as item_class, strict as strict_of};
+ghost use Rattle.syslog_elements.specs.StructuredData.Visited.{IsBroken, LeavesBroken};
 
 use super::recognise::after_bracketed;
 use super::recognised::ElementList;
@@ -18,10 +19,10 @@ use syslog_text::text::verbatim::before;
 struct Tally<'a> {
     elements: usize,
     params: usize,
-    // the text after the last strict element
-    end: &'a str,
-    // whether the text up to there is the printed text of the elements
+    // whether the text up to the first item that is not strict is the printed text of the strict elements
     prints: bool,
+    // the text from that item on
+    broken: Option<&'a str>,
 }
 
 // Returns the list that is `-`.
@@ -32,25 +33,44 @@ fn dash_list<'a>(text: &'a str, rest: &str) -> ElementList<'a>
     ensures text { list_text result ≡ 45 ∷ [] }
 {
     let dash = before(text, rest);
-    ElementList::new(dash, Some(dash), 0, 0)
+    ElementList::new(dash, "", 1, 0, 0)
+}
+
+// Returns the part of the list from the first item on that is not strict, which is before the rest.
+#[inline(always)]
+fn broken_part<'a>(broken: Option<&'a str>, rest: &str) -> &'a str
+    requires { (unparsed : Text) × IsBroken broken unparsed (chars rest.now) }
+    ensures { (unparsed : Text) → IsBroken broken.entry unparsed (chars rest.now) → shown result ≡ unparsed }
+{
+    match broken {
+        Some(from) => before(from, rest),
+        None => "",
+    }
+}
+
+// Returns the number if the elements that it counts are printed, otherwise 0.
+#[inline(always)]
+fn counted_if(prints: bool, elements: usize) -> usize
+    ensures printed { 0 < result → IsTrue prints × (0 < elements) }
+    ensures unprinted { result ≡ 0 → IsTrue prints → elements ≤ 0 }
+{
+    if prints { elements } else { 0 }
 }
 
 // Returns the list of the items before a rest of the text.
 #[inline(always)]
 fn item_list<'a>(text: &'a str, rest: &str, tally: Tally<'a>) -> ElementList<'a>
     requires { (vs : List (Option ElementValue)) × AreItems (chars text.now) (chars rest.now) vs
-        × IsTallied (chars text.now) (chars rest.now) (strict_of vs) tally }
+        × IsTallied (chars text.now) (chars rest.now) (strict_of vs) tally
+        × LeavesBroken (chars text.now) (chars rest.now) tally.broken }
     ensures elements { (vs : List (Option ElementValue)) → AreItems (chars text.now) (chars rest.now) vs
         → list_elements result ≡ strict_of vs }
     ensures text { chars text.now ≡ list_text result ++ chars rest.now }
 {
     let own = before(text, rest);
-    if tally.prints && tally.elements > 0 {
-        let printed = before(text, tally.end);
-        ElementList::new(own, Some(printed), tally.elements, tally.params)
-    } else {
-        ElementList::new(own, None, tally.elements, tally.params)
-    }
+    let unparsed = broken_part(tally.broken, rest);
+    let printed = counted_if(tally.prints, tally.elements);
+    ElementList::new(own, unparsed, printed, tally.elements, tally.params)
 }
 
 // Visits the strict and broken elements at the front, as many as there are, and returns the text after them.
@@ -68,27 +88,25 @@ fn visit_items<'a, V: ElementVisitor<'a>>(
     let mut tally = Tally {
         elements: 0,
         params: 0,
-        end: text,
         prints: true,
+        broken: None,
     };
     let mut rest = text;
     let mut dead = text.len();
-    let mut is_strict = true;
     'items: loop {
         match walk_element(rest, dead, &mut notes) {
             Ok(found) => {
                 visitor.element(found.element, &notes);
                 tally.elements += 1;
                 tally.params += found.element.params_len();
-                tally.prints = tally.prints & found.prints & is_strict;
-                tally.end = found.rest;
+                tally.prints = tally.prints & found.prints & tally.broken.is_none();
                 rest = found.rest;
             }
             Err(failed) => {
                 let Some(after) = after_bracketed(rest) else {
                     return (item_list(text, rest, tally), rest);
                 };
-                is_strict = false;
+                tally.broken = tally.broken.or(Some(rest));
                 dead = failed.min(dead);
                 rest = after;
             }
@@ -110,8 +128,8 @@ fn visit_full_elements<'a, V: ElementVisitor<'a>>(
     let mut tally = Tally {
         elements: 0,
         params: 0,
-        end: text,
         prints: true,
+        broken: None,
     };
     let mut rest = text;
     'elements: while let Some(found) = walk_full_element(rest, &mut notes) {
@@ -119,7 +137,6 @@ fn visit_full_elements<'a, V: ElementVisitor<'a>>(
         tally.elements += 1;
         tally.params += found.element.params_len();
         tally.prints &= found.prints;
-        tally.end = found.rest;
         rest = found.rest;
     }
     (item_list(text, rest, tally), rest)

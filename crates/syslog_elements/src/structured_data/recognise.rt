@@ -112,6 +112,41 @@ pub(super) fn live_value(text: &str, dead: usize) -> Result<&str, usize>
         (λ rest. (v : quoted_class.Value) × Front quoted_class (chars text.now) (shown rest) v)
         (λ d. NoFront closing (chars text.now) × IsDead (chars text.now) d) }
 {
+    // (Only a list with a broken element is looked at for brackets.)
+    if text.len() > dead {
+        return other_value(text, dead);
+    }
+    match after_value(text) {
+        Some(past_quote) => Ok(past_quote),
+        None => Err(0),
+    }
+}
+
+// Returns what `value_before_dead` does. Its answer is taken apart here, since the space for it is cleared where this
+// begins, and not for each value.
+#[inline(always)]
+fn other_value(text: &str, dead: usize) -> Result<&str, usize>
+    requires { IsDead (chars text.now) dead }
+    ensures { MatchResult result
+        (λ rest. (v : quoted_class.Value) × Front quoted_class (chars text.now) (shown rest) v)
+        (λ d. NoFront closing (chars text.now) × IsDead (chars text.now) d) }
+{
+    match value_before_dead(text, dead) {
+        Ok(rest) => Ok(rest),
+        Err(dead) => Err(dead),
+    }
+}
+
+// Returns what `live_value` does for a text with brackets that may leave so many bytes. It is a call of its own, since
+// few lists have broken elements.
+#[cold]
+#[inline(never)]
+fn value_before_dead(text: &str, dead: usize) -> Result<&str, usize>
+    requires { IsDead (chars text.now) dead }
+    ensures { MatchResult result
+        (λ rest. (v : quoted_class.Value) × Front quoted_class (chars text.now) (shown rest) v)
+        (λ d. NoFront closing (chars text.now) × IsDead (chars text.now) d) }
+{
     let mut rest = text;
     'units: while rest.len() > dead {
         let (_, after) = split_run(rest, CharClass::Inert);
@@ -133,7 +168,7 @@ pub(super) fn live_value(text: &str, dead: usize) -> Result<&str, usize>
     }
 }
 
-// The text after the bracketed text at the front.
+// Returns the text after the bracketed text at the front.
 pub(super) fn after_bracketed(text: &str) -> Option<&str>
     ensures { Recognises bracketed_class (chars text.now) result }
 {

@@ -1,12 +1,16 @@
 //! Elements and lists that were recognised and not collected: they are `Copy`, and hold no memory of their own.
-ghost use Rattle.std.specs.Prelude.{◌≡◌, ◌≢◌, ◌++◌, IfNone, IfSome, drop, length, sum_by, chars, IsUtf8};
+ghost use Rattle.std.specs.Prelude.{◌≡◌, ◌≢◌, ◌++◌, ◌<◌, IfSome, IsTrue, length, sum_by, chars, IsUtf8};
 ghost use Rattle.std.proofs.Props.{props};
 ghost use Rattle.syslog_elements.specs.Bodies.Closing.{inside as inside_class};
+ghost use Rattle.syslog_text.specs.Pieces.Class.{Text};
 ghost use Rattle.syslog_text.specs.Pieces.Lists.{many};
-ghost use Rattle.syslog_text.specs.Pieces.View.{shown};
+ghost use Rattle.syslog_text.specs.Pieces.View.{seen, shown};
 ghost use Rattle.syslog_elements.specs.StructuredData.{item as item_class, strict as strict_of};
 ghost use Rattle.syslog_elements.specs.StructuredData.Element.{elements_text};
+ghost use Rattle.syslog_elements.specs.StructuredData.Unparsed.{IsUnparsed, if_any as any_of};
 ghost use Rattle.syslog_elements.specs.StructuredData.Recognised.{OneMeaning, OneInside-prop, OneItems-prop, one_value};
+
+use syslog_text::text::verbatim::before;
 
 /// A strict element, as a slice of the text. Its parameters are walked when they are asked for.
 #[derive(Clone, Copy)]
@@ -55,45 +59,50 @@ impl<'a> Element<'a> {
 #[derive(Clone, Copy)]
 pub struct ElementList<'a> {
     pub(super) text: &'a str,
-    // the printed text of the strict elements, where it begins the list's own text; always where it is all of that
-    printed: Option<&'a str>,
+    // its text from the first element on that is not strict; empty if each is strict
+    unparsed: &'a str,
+    // 0, unless the text before that is the printed text of all strict elements, or the text is `-` (a number, since the
+    // compiler clears the bytes beside a `bool` one by one)
+    printed: usize,
     elements: usize,
     params: usize,
     ghost utf8: { IsUtf8 text.now } by { Prim.hlevel props },
     pub ghost meaning: { OneMeaning (many item_class) (chars text.now) } by { OneItems-prop (chars text.now) },
     ghost counted: { elements ≡ length (strict_of (one_value meaning)) },
     ghost params_counted: { params ≡ sum_by (λ e. length e.params) (strict_of (one_value meaning)) },
-    ghost printed_utf8: { IfSome printed (λ p. IsUtf8 p.now) } by { Prim.hlevel props },
-    ghost prints: { IfSome printed (λ p. shown p
-        ≡ elements_text (strict_of (one_value meaning))) } by { Prim.hlevel props },
-    ghost begins: { IfSome printed (λ p. chars text.now ≡ shown p
-        ++ drop (length (shown p)) (chars text.now)) } by { Prim.hlevel props },
-    ghost differs: { IfNone printed (chars text.now ≢ elements_text (strict_of (one_value meaning))) } by { Prim.hlevel props },
+    ghost unparsed_utf8: { IsUtf8 unparsed.now } by { Prim.hlevel props },
+    ghost left: { IsUnparsed (chars text.now) (chars unparsed.now) },
+    ghost prints: { 0 < printed → chars text.now
+        ≡ elements_text (strict_of (one_value meaning)) ++ chars unparsed.now } by { Prim.hlevel props },
+    ghost differs: { printed ≡ 0 → chars text.now ≢ elements_text (strict_of (one_value meaning)) } by { Prim.hlevel props },
 }
 
 impl<'a> ElementList<'a> {
-    ghost use Rattle.std.specs.Prelude.{◌↔◌, List, Option, [], IsTrue, MatchBool};
+    ghost use Rattle.std.specs.Prelude.{◌↔◌, List, Option, [], MatchBool};
     ghost use Rattle.syslog_elements.specs.Words.{Text, Front, ElementValue, list_elements, list_text};
 
-    // Returns the list of this text, with its printed text and the numbers of its elements and of their parameters.
+    // Returns the list of this text, with what is left unparsed of it, whether its text before that is printed, and the
+    // numbers of its elements and of their parameters.
     #[inline(always)]
     pub(super) fn new(
         text: &'a str,
-        printed: Option<&'a str>,
+        unparsed: &'a str,
+        printed: usize,
         elements: usize,
         params: usize,
     ) -> ElementList<'a>
         requires { (q : Text) × ((vs : List (Option ElementValue)) × Front (many item_class) (chars text.now) q vs
             × (elements ≡ length (strict_of vs)) × (params ≡ sum_by (λ e. length e.params) (strict_of vs))
-            × IfSome printed (λ p. IsUtf8 p.now × (shown p ≡ elements_text (strict_of vs))
-            × ((left : Text) × (chars text.now ≡ shown p ++ left)))
-            × IfNone printed (chars text.now ≢ elements_text (strict_of vs))) }
+            × IsUnparsed (chars text.now) (chars unparsed.now)
+            × (0 < printed → chars text.now ≡ elements_text (strict_of vs) ++ chars unparsed.now)
+            × (printed ≡ 0 → chars text.now ≢ elements_text (strict_of vs))) }
         ensures elements { (q : Text) (vs : List (Option ElementValue)) → Front (many item_class) (chars text.now) q vs
             → list_elements result ≡ strict_of vs }
         ensures text { list_text result ≡ chars text.now }
     {
         ElementList {
             text,
+            unparsed,
             printed,
             elements,
             params,
@@ -105,7 +114,7 @@ impl<'a> ElementList<'a> {
         ensures elements { list_elements result ≡ [] }
         ensures text { list_text result ≡ [] }
     {
-        ElementList::new("", None, 0, 0)
+        ElementList::new("", "", 0, 0, 0)
     }
 
     /// Returns the text of the list.
@@ -121,16 +130,28 @@ impl<'a> ElementList<'a> {
         ensures prints { IfSome result (λ p. shown p ≡ elements_text (list_elements self.now)) }
         ensures begins { IfSome result (λ p. (left : Text) × (list_text self.now ≡ shown p ++ left)) }
     {
-        self.printed
+        if self.printed > 0 {
+            Some(before(self.text, self.unparsed))
+        } else {
+            None
+        }
     }
 
     /// Returns whether the list's text is already the printed text of its elements.
     pub fn is_printed(&self) -> bool
         ensures { IsTrue result ↔ (list_text self.now ≡ elements_text (list_elements self.now)) }
     {
-        match self.printed {
-            Some(printed) => printed.len() == self.text.len(),
-            None => false,
+        self.printed > 0 && self.unparsed.is_empty()
+    }
+
+    /// Returns the text of the list from the first element on that is not strict; none if each is strict.
+    pub fn unparsed(&self) -> Option<&'a str>
+        ensures { (unparsed : Text) × IsUnparsed (list_text self.now) unparsed × (seen result ≡ any_of unparsed) }
+    {
+        if self.unparsed.is_empty() {
+            None
+        } else {
+            Some(self.unparsed)
         }
     }
 

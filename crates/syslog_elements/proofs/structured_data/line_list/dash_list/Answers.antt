@@ -1,5 +1,6 @@
-use Rattle.syslog_elements.proofs.Names.{rules, refl, sym, ◌≡◌, ◌∙◌, ◌++◌, [], ◌∷◌, append_cancel_right, append-nil}
-use Rattle.syslog_elements.proofs.Names.{Text}
+use Rattle.syslog_elements.proofs.Names.{arith}
+use Rattle.syslog_elements.proofs.Names.{refl, sym, ◌≡◌, ◌∙◌, ◌++◌, [], ◌∷◌, append_cancel_right}
+use Rattle.syslog_elements.proofs.Names.{Text, inl, ap, chars-nil}
 use Rattle.syslog_elements.proofs.StructuredDataLemmas.Elements.{dash_items}
 use Rattle.syslog_elements.proofs.structured_data.line_list.dash_list.Goals as goal
 
@@ -11,8 +12,18 @@ before-dash-requires c = (45 ∷ [], c.requires)
 
 pub new-requires : goal.new-requires
 new-requires c =
-    let e = own_dash _ _ _ c.before-dash.ensures c.requires in
-    (_, ([], dash_items _ e, refl, refl, (search rules, e, ([], sym (append-nil _))), tt))
+    let e = own_dash _ _ _ c.before-dash.ensures c.requires in (
+      _,
+      (
+        [],
+        dash_items _ e,
+        refl,
+        refl,
+        ∣ inl (e, chars-nil) ∣₁,
+        (λ flag. e ∙ ap (λ (x : Text). 45 ∷ x) (sym chars-nil)),
+        (λ none. absurd (let k = none in omega (arith, k))),
+      ),
+    )
 
 pub returns-clause-elements : goal.returns-clause-elements
 returns-clause-elements c =

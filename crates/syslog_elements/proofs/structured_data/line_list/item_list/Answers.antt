@@ -1,22 +1,35 @@
-use Rattle.syslog_elements.proofs.Names.{rules, arith, ◌∙◌, strict}
-use Rattle.syslog_elements.proofs.StructuredDataLemmas.Walk.{own_differs, own_items, own_printed, some_joined}
+use Rattle.syslog_elements.proofs.Names.{◌≡◌}
+use Rattle.syslog_elements.proofs.Names.{subst, append_cancel_right, ◌∙◌, sym, strict, Text}
+use Rattle.syslog_elements.proofs.Names.{ap, elements_text, ◌++◌}
+use Rattle.syslog_elements.specs.StructuredData.Unparsed.{IsUnparsed}
+use Rattle.syslog_elements.proofs.StructuredDataLemmas.Tallies.{own_differs, own_items, own_prints}
 use Rattle.syslog_elements.proofs.structured_data.line_list.item_list.Goals as goal
+
+pub broken_part-unparsed-requires : goal.broken_part-unparsed-requires
+broken_part-unparsed-requires c = let (vs, items, t, left) = c.requires in (left.unparsed, left.is)
+
+own_left : (piece own u w rest t : Text) → t ≡ piece ++ rest → t ≡ own ++ rest → w ≡ u → IsUnparsed piece u
+    → IsUnparsed own w
+own_left piece own u w rest t e cut same left = subst (λ (x : Text). IsUnparsed own x) (sym same)
+    (subst (λ (x : Text). IsUnparsed x u) (append_cancel_right piece own rest (sym e ∙ cut)) left)
 
 pub new-requires : goal.new-requires
 new-requires c =
-    let (vs, items, t) = c.requires in
-    let p = own_printed c.before-own.ensures t.after (t.prints c.if-tally.true) c.before-printed.ensures in
-    let whole = p.0 ∙ some_joined (strict vs) (omega (arith, t.elements, c.if-tally-gt0.true)) in
-    (_, (vs, own_items c.before-own.ensures items, t.elements, t.params, (search rules, whole, p.1), tt))
+    let (vs, items, t, left) = c.requires in
+    let cut = c.before-own.ensures in
+    let is = c.broken_part-unparsed.ensures left.unparsed left.is in (
+      _,
+      (
+        vs,
+        own_items cut items,
+        t.elements,
+        t.params,
+        own_left _ _ _ _ _ _ left.whole cut is left.left,
+        (λ some. (let (marked, many) = c.counted_if-printed.ensures.printed some in
+            own_prints _ left.unparsed vs cut t left.is.1 marked many ∙ ap (λ (x : Text). elements_text (strict vs) ++ x) (sym is))),
+        (λ none. own_differs cut items t (c.counted_if-printed.ensures.unprinted none)),
+      ),
+    )
 
-pub new-requires-else-tally : goal.new-requires-else-tally
-new-requires-else-tally c =
-    let (vs, items, t) = c.requires in
-    let differs = own_differs c.before-own.ensures items t c.else-tally.either in
-    (_, (vs, own_items c.before-own.ensures items, t.elements, t.params, tt, differs))
-
-pub returns-then-tally-gt0-clause-elements : goal.returns-then-tally-gt0-clause-elements
-returns-then-tally-gt0-clause-elements c vs a = c.new.ensures.elements _ vs (own_items c.before-own.ensures a)
-
-pub returns-else-tally-clause-elements : goal.returns-else-tally-clause-elements
-returns-else-tally-clause-elements c vs a = c.new-else-tally.ensures.elements _ vs (own_items c.before-own.ensures a)
+pub returns-clause-elements : goal.returns-clause-elements
+returns-clause-elements c vs a = c.new.ensures.elements _ vs (own_items c.before-own.ensures a)

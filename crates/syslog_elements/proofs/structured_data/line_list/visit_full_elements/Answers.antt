@@ -1,20 +1,27 @@
-use Rattle.syslog_elements.proofs.Names.{◌also◌, rules, refl, sym, ap, ◌∙◌, ◌+◌, ℕ, full_element, and_from, and_parts}
+use Rattle.syslog_elements.proofs.Names.{rules, refl, sym, ap, ◌∙◌, ◌+◌, ℕ, full_element, and_from, and_parts}
 use Rattle.syslog_elements.proofs.Names.{map, Some}
 use Rattle.syslog_elements.proofs.StructuredDataLemmas.Elements.{strict_some, element_shorter}
-use Rattle.syslog_elements.proofs.StructuredDataLemmas.Walk.{are_full_items, gone_none, gone_all, gone_within, gone_on}
-use Rattle.syslog_elements.proofs.StructuredDataLemmas.Walk.{gone_tallied, gone_visits}
+use Rattle.syslog_elements.proofs.StructuredDataLemmas.Walk.{are_full_items}
+use Rattle.syslog_elements.proofs.StructuredDataLemmas.Tallies.{gone_none, gone_all, gone_within, gone_on}
+use Rattle.syslog_elements.proofs.StructuredDataLemmas.Tallies.{gone_tallied, gone_visits}
+use Rattle.syslog_elements.proofs.StructuredDataLemmas.Unparsed.{full_leaves_none}
+use Rattle.syslog_elements.proofs.Names.{true}
 use Rattle.syslog_elements.proofs.structured_data.line_list.visit_full_elements.Goals as goal
 
 pub elements-init : goal.elements-init
 elements-init g c =
     let given = g.V.ElementVisitor.was_given in
-    (search rules, gone_none full_element (λ es. es) given _ _ _ refl (search rules) refl refl refl refl)
+    (search rules, gone_none full_element (λ es. es) given _ _ _ refl refl refl refl refl, refl)
 
 pub item_list-requires : goal.item_list-requires
 item_list-requires g c =
     let s = c.elements.invariant.1 in
-    let all = gone_all _ _ _ s (rw c.in_default.is at c.walk_full_element.ensures.walked) in
-    (map Some s.vs, are_full_items all, gone_tallied s (strict_some s.vs))
+    let all = gone_all _ _ _ s (rw c.in_default.is at c.walk_full_element.ensures.walked) in (
+      map Some s.vs,
+      are_full_items all,
+      gone_tallied s (strict_some s.vs),
+      full_leaves_none _ c.elements.invariant.2 all,
+    )
 
 pub returns-clause-list : goal.returns-clause-list
 returns-clause-list g c =
@@ -42,9 +49,13 @@ overflow_add-tally-in-Some g c =
 pub elements-preserved : goal.elements-preserved
 elements-preserved g c =
     let (w, some) = c.in-Some.ensures.walked in
-    let params = ap (λ (n : ℕ). c.elements.tally.params + n) c.params_len.ensures in
-    w.utf8 also gone_on _ _ _ c.elements.invariant.1 w _ refl (w.front.is, some) refl params refl
-    ((λ all. and_from _ _ all refl), (λ all. (and_parts _ _ all).0)) c.element.ensures
+    let params = ap (λ (n : ℕ). c.elements.tally.params + n) c.params_len.ensures in (
+      w.utf8,
+      gone_on _ _ _ c.elements.invariant.1 w _ refl (w.front.is, some) refl params refl true
+          ((λ t. c.elements.invariant.2), (λ e. refl))
+          ((λ all. and_from _ _ all refl), (λ all. (and_parts _ _ all).0)) c.element.ensures,
+      c.elements.invariant.2,
+    )
 
 pub elements-smaller : goal.elements-smaller
 elements-smaller g c = let (w, some) = c.in-Some.ensures.walked in element_shorter _ _ _ w.front

@@ -1,11 +1,19 @@
-use Rattle.syslog_elements.proofs.Names.{[], refl, rules}
-use Rattle.syslog_elements.proofs.StructuredDataLemmas.Elements.{are_canonical}
-use Rattle.syslog_elements.proofs.StructuredDataLemmas.Unparsed.{no_bytes_leave, printed_leaves}
+use Rattle.syslog_elements.proofs.Names.{rules, refl, chars, [], subst, nil_from_length}
+use Rattle.syslog_text.proofs.TextLemmas.Runs.{chars_empty, chars_nonempty}
+use Rattle.syslog_elements.specs.StructuredData.Unparsed.{IsUnparsed}
+use Rattle.syslog_elements.proofs.StructuredDataLemmas.Unparsed.{any_of_some}
 use Rattle.syslog_elements.proofs.structured_data.recognised.ElementList.unparsed.Goals as goal
 
 pub returns-then-is_empty : goal.returns-then-is_empty
-returns-then-is_empty c = ([], no_bytes_leave _ (search rules), refl)
+returns-then-is_empty c =
+    let list = c.args.self.now in
+    let none = nil_from_length _ (chars_empty list.unparsed.now (search rules)) in
+    ([], subst (IsUnparsed (chars list.text.now)) none list.left, refl)
 
-pub returns-then-is_printed : goal.returns-then-is_printed
-returns-then-is_printed c =
-    ([], printed_leaves _ _ (are_canonical c.args.self.now) (c.if-is_printed.ensures.0 refl), refl)
+pub returns-else-is_empty : goal.returns-else-is_empty
+returns-else-is_empty c =
+    let list = c.args.self.now in (
+      chars list.unparsed.now,
+      list.left,
+      any_of_some _ (chars_nonempty list.unparsed.now list.unparsed_utf8 (search rules)),
+    )

@@ -1,5 +1,5 @@
 use Rattle.syslog_elements.proofs.Names.{length, shadow, Utf8, chars, quoted, IsDead, Meets}
-use Rattle.syslog_elements.proofs.structured_data.recognise.live_value.Given as goal
+use Rattle.syslog_elements.proofs.structured_data.recognise.value_before_dead.Given as goal
 
 abbrev pub invariant-units : goal.invariant-units
 invariant-units l =
