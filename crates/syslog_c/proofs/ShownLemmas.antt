@@ -47,6 +47,18 @@ flagged text s t there e f g h flags (Some at) is = (
   inr (h ∙ is.present, flags),
 )
 
+-- the same of a text that shows no month date
+pub flagged_strict : (text : Text) (s t : Stamp) → ShowsNoDate text → t.seconds ≡ s.seconds
+    → t.nanoseconds ≡ s.nanoseconds → t.offset ≡ s.offset → t.present ≡ s.present → t.shows_year ≡ s.present
+    → t.shows_offset ≡ s.present → (at : Option OffsetTimestamp) → IsStamp s at → IsStamp t at × IsShown text t
+flagged_strict text s t none e f g h y o None is = (
+  (h ∙ is.0, e ∙ is.1, f ∙ is.2, g ∙ is.3, y ∙ is.0, o ∙ is.0),
+  inl (h ∙ is.0, y ∙ is.0, o ∙ is.0),
+)
+flagged_strict text s t none e f g h y o (Some at) is =
+    flagged text s t (λ absent. omega (arith, absent, is.present)) e f g h
+    (None, none, y ∙ is.present, o ∙ is.present) (Some at) is
+
 -- the fields say what the message is with another timestamp too that does
 restamped : (f : Fields) (s : Stamp) (dialect : Option Dialect) (m : MessageValue) → AreFields f dialect m
     → IsStamp s m.timestamp → AreFields (record f { timestamp = s }) dialect m

@@ -1,5 +1,5 @@
 //! What the options of a caller in C mean.
-ghost use Rattle.std.specs.Prelude.{◌≡◌, ◌↔◌, ◌<◌, ◌≤◌, IsTrue, MatchOption, length, pos};
+ghost use Rattle.std.specs.Prelude.{◌≡◌, ◌↔◌, ◌<◌, ◌≤◌, IsTrue, MatchBool, MatchOption, length, pos};
 ghost use Rattle.jiff.specs.Types.{Date as AnyDate, TimeZone as AnyZone};
 ghost use Rattle.jiff.specs.Words.{IsYmd, plain_zone};
 ghost use Rattle.jiff_core.specs.Calendar.{IsYear};
@@ -17,8 +17,8 @@ use syslog_utf8::from_utf8;
 /// How a line is read: by which variant, how its dates are completed, and whether in the dialect that it is in.
 #[derive(Drop)]
 pub(crate) struct Rules {
-    pub(crate) variant: Variant,
     pub(crate) dates: Dates,
+    pub(crate) variant: Variant,
     pub(crate) dialects: bool,
 }
 
@@ -58,19 +58,27 @@ impl Rules {
         if options.day == 0 && options.zone[0] == 0 {
             return true;
         }
-        match dates_of(options) {
-            Some(dates) => {
-                self.dates = dates;
-                true
-            }
-            None => false,
-        }
+        take_dates(options, &mut self.dates)
     }
 }
 
-// Returns how the options, which may have a day or the rule of a zone, say that dates are completed.
+// Takes the dates that the options say, which may have a day or the rule of a zone, and returns true; returns false if
+// they say none. (Space for dates that are returned would be cleared for each line.)
 #[cold]
 #[inline(never)]
+fn take_dates(options: &Options, dates: &mut Dates) -> bool
+    ensures { MatchBool result (AreDates options.now dates.new) ((dates : AllDates) → AreDates options.now dates → ⊥) }
+{
+    match dates_of(options) {
+        Some(found) => {
+            *dates = found;
+            true
+        }
+        None => false,
+    }
+}
+
+// Returns how the options say that dates are completed.
 fn dates_of(options: &Options) -> Option<Dates>
     ensures { MatchOption result ((dates : AllDates) → AreDates options.now dates → ⊥)
         (λ dates. AreDates options.now dates) }

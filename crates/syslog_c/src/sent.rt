@@ -22,7 +22,7 @@ ghost use Rattle.syslog_c.specs.declared.rules.Rules.{Rules as AnyRules};
 use crate::convert::fields_of;
 use crate::fields::Fields;
 use crate::rules::Rules;
-use crate::shown::{with_flags, with_shown};
+use crate::shown::{show, with_flags};
 use syslog_dialects::{SentLine, line_instead, unread_line};
 
 /// Completes the fields of the port's line. If that line keeps its reading, they get what the text shows of its date;
@@ -42,6 +42,17 @@ pub(crate) fn take_read<'a>(
     if is_ordinary {
         return show_port(text, fields);
     }
+    take_instead(text, rules, fields)
+}
+
+// Takes the fields of a dialect's line in the place of the port's, which are completed if there is none. It is a call of
+// its own, since the space for such a line would otherwise be cleared for each line.
+#[inline(never)]
+fn take_instead<'a>(text: &'a str, rules: &Rules, fields: &mut Fields<'a>)
+    ensures { (dating : Dating) (line : AnyLine) → IsLineOf rules.now.variant dating (chars text.entry.now) line
+        → AreOfLine fields.old None line → (IsOrdinary line → ⊥)
+        → AreMeant rules.now dating (chars text.entry.now) (list_elements line.list) fields.new }
+{
     match line_instead(text, &rules.dates, rules.variant, rules.dialects) {
         Some(sent) => *fields = fields_sent(&sent),
         None => show_port(text, fields),
@@ -71,7 +82,8 @@ fn show_port(text: &str, fields: &mut Fields<'_>)
         → AreOfLine fields.new None line
         × IsShownIn rules dating (chars text.entry.now) None (line_value line) fields.new.timestamp }
 {
-    fields.timestamp = with_shown(text, fields.protocol, fields.timestamp);
+    let protocol = fields.protocol;
+    show(text, protocol, &mut fields.timestamp);
 }
 
 // The fields of a dialect's line, with what it shows of its date.

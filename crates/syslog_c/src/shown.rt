@@ -11,29 +11,25 @@ use syslog_pieces::timestamp::MonthDate;
 use syslog_pieces::timestamp::month_date::month_date;
 use syslog_text::text::{blanks, trimmed};
 
-/// Returns the timestamp of a line that the port reads by this protocol, with what its text shows of it. No line of RFC
-/// 5424 has a month date.
+/// Adds to the timestamp of a line that the port reads by this protocol what its text shows of it. No line of RFC 5424
+/// has a month date.
 #[inline(always)]
-pub(crate) fn with_shown(text: &str, protocol: u32, stamp: Stamp) -> Stamp
-    ensures { (at : Option OffsetTimestamp) → IsStamp stamp at → (protocol ≡ 5424 → ShowsNoDate (chars text.entry.now))
-        → IsStamp result at × IsShown (chars text.entry.now) result }
+pub(crate) fn show(text: &str, protocol: u32, stamp: &mut Stamp)
+    ensures { (at : Option OffsetTimestamp) → IsStamp stamp.old at
+        → (protocol ≡ 5424 → ShowsNoDate (chars text.entry.now))
+        → IsStamp stamp.new at × IsShown (chars text.entry.now) stamp.new }
 {
-    if stamp.present == 0 {
-        return stamp;
-    }
     if protocol == 5424 {
-        return Stamp {
-            shows_year: 1,
-            shows_offset: 1,
-            ..stamp
-        };
+        stamp.shows_year = stamp.present;
+        stamp.shows_offset = stamp.present;
+        return;
+    }
+    if stamp.present == 0 {
+        return;
     }
     let (shows_year, shows_offset) = flags_of(text);
-    Stamp {
-        shows_year,
-        shows_offset,
-        ..stamp
-    }
+    stamp.shows_year = shows_year;
+    stamp.shows_offset = shows_offset;
 }
 
 // Whether the text shows a year, and whether an offset.

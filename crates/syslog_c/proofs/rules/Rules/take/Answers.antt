@@ -1,3 +1,5 @@
+use Rattle.std.specs.Prelude.{Bool, true, false, MatchBool, IsTrue}
+use Rattle.syslog_c.proofs.Words.{refl}
 use Rattle.syslog_c.proofs.Words.{◌≡◌, arith, length, of_z, rules, to_z, w32}
 use Rattle.syslog_c.proofs.OptionLemmas.{zone_ahead_of}
 use Rattle.syslog_c.proofs.rules.Rules.take.Goals as goal
@@ -18,5 +20,9 @@ returns-then-options-eq0-2-clause-taken c = λ yes.
       dialects = search rules;
     }
 
-pub returns-in-None-clause-refused : goal.returns-in-None-clause-refused
-returns-in-None-clause-refused c = λ no taken. c.in-None.ensures taken.0.dates taken.1.dates
+refused : (P Q : Type 0) (told : Bool) → MatchBool told P Q → ¬ (IsTrue told) → Q
+refused P Q true p = λ no. absurd (no refl)
+refused P Q false q = λ no. q
+
+pub returns-clause-refused : goal.returns-clause-refused
+returns-clause-refused c = λ no taken. refused _ _ _ c.take_dates.ensures no taken.0.dates taken.1.dates
