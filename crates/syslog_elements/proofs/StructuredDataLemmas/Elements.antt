@@ -2,18 +2,18 @@
 -- Canonical elements are read back from their print, and what is read is canonical.
 use Rattle.syslog_elements.proofs.Names.{AllByRecursion-prop, IsCanonicalElement, AllDeterministic, IsCanonicalParam}
 use Rattle.syslog_elements.proofs.Names.{◌≡◌}
-use Rattle.syslog_elements.proofs.Names.{drop-append_seam, encode_utf8_all, nil_from_length, bare_param_text}
+use Rattle.syslog_elements.proofs.Names.{drop-append_seam, bare_param_text}
 use Rattle.syslog_elements.proofs.Names.{exactly_det}
-use Rattle.syslog_elements.proofs.Names.{IsDeterministic, joined_elements, encodes-append, AllByRecursion}
+use Rattle.syslog_elements.proofs.Names.{IsDeterministic, joined_elements, AllByRecursion}
 use Rattle.syslog_elements.proofs.Names.{BeginsUnblank}
-use Rattle.syslog_elements.proofs.Names.{elements_text, encodes-chars, is_prop→PathP, list_elements, length-append}
+use Rattle.syslog_elements.proofs.Names.{elements_text, is_prop→PathP, list_elements, length-append}
 use Rattle.syslog_elements.proofs.Names.{Class}
 use Rattle.syslog_elements.proofs.Names.{append_assoc, is_name_char, is_open_char, ElementValue, some_run_det}
 use Rattle.syslog_elements.proofs.Names.{is_id_char}
 use Rattle.syslog_elements.proofs.Names.{element_text, one_value-is, list_before, IsValueUnit, element_row, opening_row}
 use Rattle.syslog_elements.proofs.Names.{element_of, texted_det, front_same, mapped_det, param_text, row_pieces}
 use Rattle.syslog_elements.proofs.Names.{param_of}
-use Rattle.syslog_elements.proofs.Names.{quoted_row, append-nil, OneMeaning, inside_row, nat_tests, forgiving}
+use Rattle.syslog_elements.proofs.Names.{quoted_row, OneMeaning, inside_row, nat_tests, forgiving}
 use Rattle.syslog_elements.proofs.Names.{many_here}
 use Rattle.syslog_elements.proofs.Names.{one_value, unit_text, param_row, bracketed, start_row, is_blank, many_det}
 use Rattle.syslog_elements.proofs.Names.{value}
@@ -21,9 +21,9 @@ use Rattle.syslog_elements.proofs.Names.{∥∥₁_elim, flat_map, list_any, som
 use Rattle.syslog_elements.proofs.Names.{◌≢◌}
 use Rattle.syslog_elements.proofs.Names.{is_none, IsValue, NoFront, exactly, Divides, IsMany, IsList, IsMore, quoted}
 use Rattle.syslog_elements.proofs.Names.{◌<◌}
-use Rattle.syslog_elements.proofs.Names.{inside, IsUtf8, length, Option, single, strict, append_more, ◌also◌, begins}
+use Rattle.syslog_elements.proofs.Names.{inside, length, Option, single, strict, append_more, ◌also◌, begins}
 use Rattle.syslog_elements.proofs.Names.{Values}
-use Rattle.syslog_elements.proofs.Names.{param, heads, Meets, props, chars, false, arith, subst, Front, Each, pair}
+use Rattle.syslog_elements.proofs.Names.{param, heads, Meets, props, false, arith, subst, Front, Each, pair}
 use Rattle.syslog_elements.proofs.Names.{many}
 use Rattle.syslog_elements.proofs.Names.{item, dash, Ends, Bool, drop, Some, None, refl, Text, join, true, ◌++◌, List}
 use Rattle.syslog_elements.proofs.Names.{ap}
@@ -357,16 +357,6 @@ items_are m f = ap strict (one_value-is m f)
 -- a front of a text, and what the text is after it
 pub left_out : (t p left : Text) → t ≡ p ++ left → t ≡ p ++ drop (length p) t
 left_out t p left e = e ∙ ap (λ (x : Text). p ++ x) (sym (ap (drop (length p)) e ∙ drop-append_seam p left))
-
--- a front of as many bytes is the text
-pub same_front : (t p : List ℕ) → IsUtf8 t → IsUtf8 p → (left : Text) → chars t ≡ chars p ++ left → length p ≡ length t
-    → chars t ≡ chars p
-same_front t p u z left e l =
-    let w = sym (encodes-chars t u) ∙ ap encode_utf8_all e ∙ encodes-append (chars p) left
-    ∙ ap (λ (x : List ℕ). x ++ encode_utf8_all left) (encodes-chars p z) in
-    let none : encode_utf8_all left ≡ [] =
-    nil_from_length (encode_utf8_all left) (omega (arith, l, ap length w, length-append p (encode_utf8_all left))) in
-    ap chars (rw (none, append-nil) at w)
 
 -- `-`, which is no item
 pub dash_items : (t : Text) → t ≡ 45 ∷ [] → Front (many item) t t []

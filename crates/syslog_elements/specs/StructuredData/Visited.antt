@@ -49,7 +49,7 @@ pub record IsWalked (text : Text) (w : Walked) : Type 0 where
   pub prints : IsTrue w.prints ↔ (text ≡ element_text (element_seen w.element) ++ shown w.rest)
   pub few : length (element_seen w.element).params + length (shown w.rest) ≤ length text
 
--- the text from the first item on that is not strict, or else the rest
+-- the text from the first item on that is not strict; the rest, if each is strict
 abbrev pub strict_end : Option (Bor (List ℕ)) → Text → Text
 strict_end None rest = rest
 strict_end (Some b) rest = shown b
