@@ -50,7 +50,20 @@ pub fn month_date(text: &str) -> Option<(MonthDate, &str)>
     let (day, rest) = read_day(text)?;
     match read_clock(rest) {
         Some((clock, after)) => Some((date_of(None, day, clock), after)),
-        None => dated(day, rest),
+        None => date_with_year(day, rest),
+    }
+}
+
+// Returns what `dated` does. Its answer is taken apart here, since the space for it is cleared where this begins, and
+// not for each text.
+#[inline(always)]
+fn date_with_year(day: MonthDay, text: &str) -> Option<(MonthDate, &str)>
+    ensures { (whole : Text) → Front (Row parts.day_row) whole (chars text.now) (parts.day_values day)
+        → NoFront (Row spec.clock_row) (chars text.now) → Reads spec.month_date (λ d. d) whole result }
+{
+    match dated(day, text) {
+        Some((date, rest)) => Some((date, rest)),
+        None => None,
     }
 }
 
