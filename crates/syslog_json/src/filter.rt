@@ -3,9 +3,7 @@ ghost use Rattle.std.specs.Prelude.{◌≡◌, ◌++◌, ◌∷◌, [], List, �
 ghost use Rattle.std.specs.Str.{chars};
 ghost use Rattle.syslog_loose.specs.Today.{IsYearIn};
 ghost use Rattle.syslog_lines.specs.Pump.{FailedAs};
-ghost use Rattle.syslog_object.specs.Object.{refused_json};
 ghost use Rattle.syslog_object.specs.Writer.{HasWritten};
-ghost use Rattle.syslog_object.specs.Written.{IsTextOf};
 ghost use Rattle.syslog_json.specs.Marked.{mark_text, marked_output};
 ghost use Rattle.syslog_json.specs.Objects.{IsLineRead, IsOutputOf, IsValueText, StopsEarly, WritesObjects};
 ghost use Rattle.syslog_json.specs.Objects.{answer_of, objects};
@@ -14,12 +12,11 @@ use crate::objects::Objects;
 use crate::rows::write_refused_row;
 use std::alloc::{AllocError, Global};
 use std::io::{Read, Write};
-use std::mem;
 use syslog_dialects::{SentLine, sent_line, unread_line};
 use syslog_lines::pump::pump;
 use syslog_lines::{Frames, LineCounts, LineFilter, RunFault, Watched};
 use syslog_loose::{IncompleteDate, Itself, Variant, visit_line};
-use syslog_object::{ObjectWriter, refused_object};
+use syslog_object::ObjectWriter;
 use syslog_utf8::decode;
 
 /// Reads lines to the end of the input, and writes each as one JSON object on one line: that of its message, or one
@@ -85,55 +82,46 @@ impl Objects<'_> {
         }
     }
 
-    // Adds the output of the line without its line feed, or nothing if an allocation fails. Returns the memory that was
-    // used, and whether the line is a message.
+    // Adds the output of the line without its line feed, or nothing if an allocation fails. Returns whether the line is a
+    // message.
     #[inline(always)]
     fn write_line(
         &self,
         alloc: Global,
         line: &str,
-        memory: Vec<u8>,
         output: &mut Vec<u8>,
-    ) -> Result<(Vec<u8>, bool), AllocError>
-        ensures ok { IfOk result (λ x. (bytes : List ℕ)
-            × IsValueText (IsOutputOf self.now.csv) self.now false line.now (answer_of x.1 bytes)
+    ) -> Result<bool, AllocError>
+        ensures ok { IfOk result (λ message. (bytes : List ℕ)
+            × IsValueText (IsOutputOf self.now.csv) self.now false line.now (answer_of message bytes)
             × (output.new.items ≡ output.old.items ++ bytes)) }
         ensures err { OnErr result (output.new.items ≡ output.old.items) }
     {
-        let mut writer = ObjectWriter::new(alloc, memory);
+        let mut writer = ObjectWriter::new(alloc, self.memory.replace(Vec::new(alloc)));
         let raw = self.raw.then_some(line);
         match self.read(line, &mut writer) {
             Some(found) => {
                 if self.csv {
                     self.write_row(alloc, line, &found, &mut writer, output)?;
-                    return Ok((writer.into_memory(), true));
+                    self.memory.set(writer.into_memory());
+                    return Ok(true);
                 }
                 let dialect = found.dialect_name();
                 writer.write(&found.line, dialect, raw, output)?;
-                Ok((writer.into_memory(), true))
+                self.memory.set(writer.into_memory());
+                Ok(true)
             }
             None => {
-                let memory = writer.into_memory();
                 if self.csv {
                     write_refused_row(alloc, line, output)?;
-                    return Ok((memory, false));
+                    self.memory.set(writer.into_memory());
+                    return Ok(false);
                 }
-                Ok((write_refused(memory, line, output)?, false))
+                writer.write_refused(line, output)?;
+                self.memory.set(writer.into_memory());
+                Ok(false)
             }
         }
     }
-}
-
-// Adds the JSON object of a line that is no message, or nothing if an allocation fails. Returns the memory that was
-// used.
-fn write_refused(memory: Vec<u8>, line: &str, output: &mut Vec<u8>) -> Result<Vec<u8>, AllocError>
-    ensures ok { IfOk result (λ _. (bytes : List ℕ) × IsTextOf (refused_json line.now) bytes
-        × (output.new.items ≡ output.old.items ++ bytes)) }
-    ensures err { OnErr result (output.new.items ≡ output.old.items) }
-{
-    let object = refused_object(memory, line)?;
-    output.extend_from_slice(object.as_slice())?;
-    Ok(object)
 }
 
 impl LineFilter for Objects<'_> {
@@ -149,10 +137,10 @@ impl LineFilter for Objects<'_> {
         if let Some(is_message) = self.left_out(line) {
             return Ok(is_message);
         }
+        // (the objects have memory of their own)
+        let _ = text;
         let before = output.len();
-        let memory = mem::replace(text, String::new(alloc)).into_bytes();
-        let (memory, is_message) = self.write_line(alloc, line, memory, output)?;
-        give_back(memory, text);
+        let is_message = self.write_line(alloc, line, output)?;
         if output.push(b'\n').is_err() {
             output.truncate(before);
             return Err(AllocError);
@@ -198,13 +186,5 @@ fn mark_line(csv: bool) -> &'static [u8]
         b"true\r\n"
     } else {
         b",\"invalid_utf8\":true}\n"
-    }
-}
-
-// Gives the memory of a text back.
-fn give_back(mut memory: Vec<u8>, text: &mut String) {
-    memory.clear();
-    if let Ok(empty) = String::from_utf8(memory) {
-        *text = empty;
     }
 }

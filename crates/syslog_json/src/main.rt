@@ -16,6 +16,7 @@ mod rows;
 use filter::write_objects;
 use objects::Objects;
 use report::{HELP, USAGE};
+use std::cell::Cell;
 use std::process::ExitCode;
 use syslog_choice::Choice;
 use syslog_command_line::report::{report_lines, say, say_version};
@@ -78,6 +79,7 @@ fn run(rt: &HostRuntime, words: &[String]) -> u8 {
                 latin1: options.latin1,
                 dates: options.dates,
                 choice,
+                memory: Cell::new(Vec::new(rt.alloc())),
             };
             filter_input(rt, frames, &filter)
         }

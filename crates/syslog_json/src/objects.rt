@@ -1,5 +1,6 @@
 //! What a filter writes of each line: how lines are read, and in which form their objects are written.
 
+use std::cell::Cell;
 use syslog_choice::Choice;
 use syslog_loose::Dates;
 
@@ -18,4 +19,7 @@ pub struct Objects<'a> {
     pub dates: Dates,
     /// Which messages are written. If it is absent, all lines are.
     pub choice: Option<Choice<'a>>,
+    /// Memory in which an object is written before it is added to the output. It is kept from line to line, with what it
+    /// holds.
+    pub memory: Cell<Vec<u8>>,
 }

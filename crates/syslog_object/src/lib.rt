@@ -13,5 +13,5 @@ mod object;
 mod output;
 mod writer;
 
-pub use object::{line_object, refused_object};
+pub use object::line_object;
 pub use writer::ObjectWriter;

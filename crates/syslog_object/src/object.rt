@@ -5,7 +5,7 @@ ghost use Rattle.syslog_loose.specs.Line.{line_value};
 ghost use Rattle.syslog_elements.specs.StructuredData.Visited.{list_elements};
 ghost use Rattle.syslog_text.specs.Pieces.Class.{Text};
 ghost use Rattle.syslog_loose.specs.Unparsed.{IsLeftUnparsed};
-ghost use Rattle.syslog_object.specs.Object.{beside_line, message_json, refused_json, structured_json};
+ghost use Rattle.syslog_object.specs.Object.{beside_line, message_json, structured_json};
 ghost use Rattle.syslog_object.specs.Parts.{IsSmallVersion, back_fields, compact_text};
 ghost use Rattle.syslog_object.specs.Parts.{field_text, front_text, rest_text};
 ghost use Rattle.syslog_object.specs.Written.{IsTextOf};
@@ -116,15 +116,5 @@ pub fn line_object(
 {
     let mut text = Output::over(memory);
     push_fields(alloc, &mut text, line, dialect, raw)?;
-    Ok(text.into_bytes())
-}
-
-/// Returns the JSON object of a line that is no message, as `{"message":"..","refused":true}`, written into the
-/// vector's memory. The call allocates if that is too little.
-pub fn refused_object(memory: Vec<u8>, line: &str) -> Result<Vec<u8>, AllocError>
-    ensures { IfOk result (λ object. IsTextOf (refused_json line.now) object.items) }
-{
-    let mut text = Output::over(memory);
-    text.push_text(b"{\"message\":\"", line, b"\",\"refused\":true}")?;
     Ok(text.into_bytes())
 }

@@ -58,6 +58,13 @@ impl Output {
         bytes
     }
 
+    /// Returns the vector with all that it holds.
+    #[inline(always)]
+    pub(crate) fn into_memory(self) -> Vec<u8> {
+        let Output { bytes, .. } = self;
+        bytes
+    }
+
     #[inline(always)]
     pub(crate) fn len(&self) -> usize
         ensures { result ≡ length self.now }

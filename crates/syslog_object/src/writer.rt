@@ -11,7 +11,7 @@ ghost use Rattle.syslog_loose.specs.Line.{line_value};
 ghost use Rattle.syslog_text.specs.Pieces.Class.{Text};
 ghost use Rattle.syslog_loose.specs.Unparsed.{IsLeftUnparsed};
 ghost use Rattle.syslog_object.specs.Elements.{IsStructuredText, elements_text};
-ghost use Rattle.syslog_object.specs.Object.{beside_line, message_json, param_pair, structured_json};
+ghost use Rattle.syslog_object.specs.Object.{beside_line, message_json, param_pair, refused_json, structured_json};
 ghost use Rattle.syslog_object.specs.Parts.{IsNewKey, field_text, object_text};
 ghost use Rattle.syslog_object.specs.Places.{before_member};
 ghost use Rattle.syslog_object.specs.Written.{IsTextOf};
@@ -44,7 +44,7 @@ pub struct ObjectWriter<'a> {
 }
 
 impl<'a> ObjectWriter<'a> {
-    /// Returns a writer that was given no element. It uses the vector's memory, and clears what that holds.
+    /// Returns a writer that was given no element. It writes over what the vector holds.
     #[inline(always)]
     pub fn new(alloc: Global, memory: Vec<u8>) -> ObjectWriter<'a>
         ensures { HasWritten result [] }
@@ -115,6 +115,19 @@ impl<'a> ObjectWriter<'a> {
         output.extend_from_slice(&text.as_slice()[start..])
     }
 
+    /// Appends the JSON object of a line that is no message, as `{"message":"..","refused":true}`, to `output`, or nothing
+    /// if an allocation fails. The call may grow its own memory and `output`.
+    pub fn write_refused(&mut self, line: &str, output: &mut Vec<u8>) -> Result<(), AllocError>
+        ensures ok { OnOk result ((bytes : List ℕ) × IsTextOf (refused_json line.now) bytes
+            × (output.new.items ≡ output.old.items ++ bytes)) }
+        ensures err { OnErr result (output.new.items ≡ output.old.items) }
+    {
+        let text = &mut self.text;
+        let start = text.len();
+        text.push_text(b"{\"message\":\"", line, b"\",\"refused\":true}")?;
+        output.extend_from_slice(&text.as_slice()[start..])
+    }
+
     /// Returns the JSON object of the elements that it was given, as the object of their line has it; nothing if there
     /// are none. It is written into the vector that the writer was given or grew. It allocates as `write` does.
     pub fn into_elements(self, list: &ElementList<'_>) -> Result<Vec<u8>, AllocError>
@@ -135,11 +148,12 @@ impl<'a> ObjectWriter<'a> {
         Ok(text.into_bytes())
     }
 
-    /// Returns the vector that the writer was given or grew, for another writer. What that holds doesn't count.
+    /// Returns the vector that the writer was given or grew, for another writer. What that holds doesn't count, but the
+    /// longer it is, the less the other writer has to clear.
     #[inline(always)]
     pub fn into_memory(self) -> Vec<u8> {
         let ObjectWriter { text, .. } = self;
-        text.into_bytes()
+        text.into_memory()
     }
 }
 

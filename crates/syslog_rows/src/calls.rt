@@ -7,7 +7,7 @@ use syslog_loose::{
     parse_message_with_year, parse_message_with_year_exact, parse_message_with_year_exact_tz,
     parse_message_with_year_tz, settle,
 };
-use syslog_object::{line_object, refused_object};
+use syslog_object::{ObjectWriter, line_object};
 use syslog_strict::to_rfc5424;
 
 /// A text and how it is read.
@@ -132,7 +132,14 @@ impl<'a> Row<'a> {
         let line = parse_line(self.text, year, self.tz(), setting.variant, &setting.local);
         match line {
             Some(line) => line_object(alloc, Vec::new(alloc), &line, None, None),
-            None => refused_object(Vec::new(alloc), self.text),
+            None => self.refused(alloc),
         }
+    }
+
+    // The object of a line that is no message.
+    fn refused(&self, alloc: Global) -> Result<Vec<u8>, AllocError> {
+        let mut object = Vec::new(alloc);
+        ObjectWriter::new(alloc, Vec::new(alloc)).write_refused(self.text, &mut object)?;
+        Ok(object)
     }
 }
