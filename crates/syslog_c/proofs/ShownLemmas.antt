@@ -1,11 +1,11 @@
 -- A line of RFC 5424 shows no month date.
-use Rattle.syslog_c.proofs.Words.{◌≡◌, ◌∙◌, ap, ℕ, Text, Dating, Variant, inl, inr, arith, Option, None, Some}
+use Rattle.syslog_c.proofs.Words.{◌≡◌, ◌∙◌, ap, refl, ℕ, Text, Dating, Variant, inl, inr, arith, Option, None, Some}
 use Rattle.syslog_c.proofs.Words.{IsStamp, MessageValue, OffsetTimestamp, ShowsNoDate, Stamp}
 use Rattle.syslog_loose.specs.Reading.{IsRead, dash_rule}
 use Rattle.syslog_loose.specs.Rfc3164.{IsRead3164}
-use Rattle.syslog_loose.specs.Rfc5424.{IsRead5424}
 use Rattle.syslog_loose.specs.declared.variant.Variant.TheVariants.{Either, RFC3164, RFC5424}
-use Rattle.syslog_loose.proofs.Rfc3164Lemmas.{shown_apart}
+use Rattle.syslog_loose.specs.declared.date_form.DateForm.TheVariants.{Whole}
+use Rattle.syslog_loose.proofs.ReadingLemmas as reading
 use Rattle.syslog_sent.specs.declared.dialect.Dialect.{Dialect}
 use Rattle.syslog_c.specs.Fields.{AreFields, protocol_number}
 use Rattle.syslog_c.specs.OfLine.{AreOfLine}
@@ -13,9 +13,6 @@ use Rattle.syslog_loose.specs.Line.{line_value}
 use Rattle.syslog_loose.specs.declared.line.Line.{Line}
 use Rattle.syslog_c.specs.declared.fields.Fields.{Fields}
 use Rattle.syslog_c.specs.Shown.{AreFlags, IsShown}
-
-shows_none : (text : Text) (m : MessageValue) → IsRead5424 text m → ShowsNoDate text
-shows_none text m r = λ date shown. shown_apart text date shown r.values r.division
 
 -- a message of RFC 3164 has another number
 is_loose : (dating : Dating) (text : Text) (m : MessageValue) → IsRead3164 dash_rule dating text m
@@ -27,9 +24,9 @@ not_both n e f = omega arith
 
 pub strict_shows_none : (variant : Variant) (dating : Dating) (text : Text) (m : MessageValue)
     → IsRead variant dating text m → protocol_number m.protocol ≡ 5424 → ShowsNoDate text
-strict_shows_none RFC5424 dating text m r e = shows_none text m r
+strict_shows_none RFC5424 dating text m r e = reading.strict_shows_none text m r
 strict_shows_none RFC3164 dating text m r e = absurd (not_both _ (is_loose dating text m r) e)
-strict_shows_none Either dating text m (inl r) e = shows_none text m r
+strict_shows_none Either dating text m (inl r) e = reading.strict_shows_none text m r
 strict_shows_none Either dating text m (inr (none, r)) e = absurd (not_both _ (is_loose dating text m r) e)
 
 -- a timestamp of the same instant, with the flags of the text
@@ -57,7 +54,7 @@ flagged_strict text s t none e f g h y o None is = (
 )
 flagged_strict text s t none e f g h y o (Some at) is =
     flagged text s t (λ absent. omega (arith, absent, is.present)) e f g h
-    (None, none, y ∙ is.present, o ∙ is.present) (Some at) is
+    (Whole, (None, none, refl), y ∙ is.present, o ∙ is.present) (Some at) is
 
 -- the fields say what the message is with another timestamp too that does
 restamped : (f : Fields) (s : Stamp) (dialect : Option Dialect) (m : MessageValue) → AreFields f dialect m

@@ -7,7 +7,7 @@ pub use Rattle.std.specs.Str.{encode_utf8_all, IsUtf8}
 pub use Rattle.syslog_loose.proofs.ReadingLemmas.{in_year_map, in_year_told}
 pub use Rattle.syslog_loose.specs.Line.{line_value}
 pub use Rattle.syslog_loose.specs.Message.{MessageValue}
-pub use Rattle.syslog_loose.specs.Passes.{ShowsNoDate}
+pub use Rattle.syslog_loose.specs.DateForm.{ShowsNoDate}
 pub use Rattle.syslog_loose.specs.Reckoning.{dating_in}
 pub use Rattle.syslog_loose.specs.declared.fault.ParseFault.{ParseFault}
 pub use Rattle.syslog_loose.specs.declared.variant.Variant.{Variant}

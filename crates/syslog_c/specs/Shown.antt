@@ -1,34 +1,32 @@
 -- What a line shows of its date: whether a year, and whether an offset.
-use Rattle.std.specs.Prelude.{◌≡◌, ◌⊎◌, ℕ, Bool, true, false, Option, Some, None, MatchOption}
+use Rattle.std.specs.Prelude.{◌≡◌, ◌⊎◌, ℕ, Bool, true, false, Option, Some, None}
 use Rattle.syslog_text.specs.Pieces.Class.{Text as Chars}
-use Rattle.syslog_pieces.specs.Timestamp.Rfc3164.{ShowsMonthDate}
-use Rattle.syslog_pieces.specs.declared.timestamp.month_date.MonthDate.{MonthDate}
 use Rattle.syslog_pieces.specs.Timestamp.Zone.{Dating}
 use Rattle.syslog_loose.specs.Message.{MessageValue}
-use Rattle.syslog_loose.specs.Passes.{ShowsNoDate}
+use Rattle.syslog_loose.specs.DateForm.{HasDateForm}
+use Rattle.syslog_loose.specs.declared.date_form.DateForm.{DateForm}
+use Rattle.syslog_loose.specs.declared.date_form.DateForm.TheVariants.{Yearless, Dated, Whole}
 use Rattle.syslog_dialects.specs.SentReading.{HasFlags}
 use Rattle.syslog_sent.specs.declared.dialect.Dialect.{Dialect}
 use Rattle.syslog_c.specs.declared.fields.Stamp.{Stamp}
 use Rattle.syslog_c.specs.declared.rules.Rules.{Rules}
 
--- the month date that the text shows, if it shows one
-abbrev pub ShowsDate : Chars → Option MonthDate → Type 0
-ShowsDate text date = MatchOption date (ShowsNoDate text) (λ d. ShowsMonthDate text d)
+-- 1 where a date of this form shows a year
+abbrev pub year_flag : DateForm → ℕ
+year_flag Yearless = 0
+year_flag Dated = 1
+year_flag Whole = 1
 
--- 1 where the date shows a year: a month date may have one, and any other date has one
-abbrev pub year_flag : Option MonthDate → ℕ
-year_flag None = 1
-year_flag (Some date) = elim date.year [ Some _ ↦ 1 | None ↦ 0 ]
-
--- 1 where it shows an offset: a month date has none, and any other date has one
-abbrev pub offset_flag : Option MonthDate → ℕ
-offset_flag None = 1
-offset_flag (Some date) = 0
+-- 1 where it shows an offset
+abbrev pub offset_flag : DateForm → ℕ
+offset_flag Yearless = 0
+offset_flag Dated = 0
+offset_flag Whole = 1
 
 -- they are the two flags of the date that the text shows
 abbrev pub AreFlags : Chars → ℕ → ℕ → Type 0
-AreFlags text year offset = (date : Option MonthDate) × ShowsDate text date × (year ≡ year_flag date)
-    × (offset ≡ offset_flag date)
+AreFlags text year offset = (form : DateForm) × HasDateForm text form × (year ≡ year_flag form)
+    × (offset ≡ offset_flag form)
 
 -- the timestamp says what the text shows of it, and of an absent one that it shows nothing
 abbrev pub IsShown : Chars → Stamp → Type 0

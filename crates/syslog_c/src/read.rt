@@ -15,7 +15,8 @@ use crate::options::Options;
 use crate::outcome::Outcome;
 use crate::rules::Rules;
 use crate::sent::{take_read, take_unread};
-use syslog_loose::{IncompleteDate, LineVisitor, parse_line, visit_line};
+use syslog_elements::structured_data::NoElements;
+use syslog_loose::{DateForm, IncompleteDate, Itself, LineVisitor, visit_dated_line};
 use syslog_utf8::from_utf8;
 
 /// Reads the line: its fields into `fields`, and its elements and their parameters into the two arrays.
@@ -67,7 +68,8 @@ fn read_into<'a>(
     let get_year = |date: IncompleteDate| -> i32
         ensures { IsYearIn dates.entry.now.today date result }
     { dates.year_of(date) };
-    let Some(is_ordinary) = visit_line(
+    let mut form = DateForm::Whole;
+    let Some(is_ordinary) = visit_dated_line(
         text,
         get_year,
         None,
@@ -75,10 +77,11 @@ fn read_into<'a>(
         &dates.zone,
         &mut arrays,
         fields,
+        &mut form,
     ) else {
         return read_unread(text, &rules, fields);
     };
-    take_read(text, &rules, is_ordinary, fields);
+    take_read(text, &rules, is_ordinary, form, fields);
     if arrays.have_space(fields.elements, fields.params) {
         Outcome::Done
     } else {
@@ -129,10 +132,20 @@ pub(crate) fn read_fields<'a>(line: &'a [u8], options: &Options, fields: &mut Fi
         ensures { IsYearIn dates.entry.now.today date result }
     { dates.year_of(date) };
     // (by the visitor alone LLVM inlines neither of the two readings)
-    let Some(line) = parse_line(text, get_year, None, rules.variant, &dates.zone) else {
+    let mut form = DateForm::Whole;
+    let Some(line) = visit_dated_line(
+        text,
+        get_year,
+        None,
+        rules.variant,
+        &dates.zone,
+        &mut NoElements,
+        &mut Itself,
+        &mut form,
+    ) else {
         return read_unread(text, &rules, fields);
     };
     let is_ordinary = fields.line(&line);
-    take_read(text, &rules, is_ordinary, fields);
+    take_read(text, &rules, is_ordinary, form, fields);
     Outcome::Done
 }

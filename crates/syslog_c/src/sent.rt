@@ -7,6 +7,7 @@ ghost use Rattle.std.specs.Str.{chars};
 ghost use Rattle.syslog_text.specs.Pieces.Class.{Text as AnyText};
 ghost use Rattle.syslog_elements.specs.StructuredData.Visited.{list_elements};
 ghost use Rattle.syslog_pieces.specs.Timestamp.Zone.{Dating};
+ghost use Rattle.syslog_loose.specs.DateForm.{HasDateForm};
 ghost use Rattle.syslog_loose.specs.Line.{line_value};
 ghost use Rattle.syslog_loose.specs.Reading.{IsUnreadable};
 ghost use Rattle.syslog_loose.specs.Visit.{IsLineOf};
@@ -24,38 +25,42 @@ use crate::fields::Fields;
 use crate::rules::Rules;
 use crate::shown::{show, with_flags};
 use syslog_dialects::{SentLine, line_instead, unread_line};
+use syslog_loose::DateForm;
 
-/// Completes the fields of the port's line. If that line keeps its reading, they get what the text shows of its date;
-/// otherwise those of a dialect's line replace them.
+/// Completes the fields of the port's line, whose date has this form. If that line keeps its reading, they get what the
+/// text shows of the date; otherwise those of a dialect's line replace them.
 #[inline(always)]
 pub(crate) fn take_read<'a>(
     text: &'a str,
     rules: &Rules,
     is_ordinary: bool,
+    form: DateForm,
     fields: &mut Fields<'a>,
 )
-    ensures { (dating : Dating) (line : AnyLine) → IsLineOf rules.now.variant dating (chars text.entry.now) line
+    ensures { HasDateForm (chars text.entry.now) form → (dating : Dating) (line : AnyLine)
+        → IsLineOf rules.now.variant dating (chars text.entry.now) line
         → AreOfLine fields.old None line
         → MatchBool is_ordinary (IsOrdinary line) (IsOrdinary line → ⊥)
         → AreMeant rules.now dating (chars text.entry.now) (list_elements line.list) fields.new }
 {
     if is_ordinary {
-        return show_port(text, fields);
+        return show_port(form, fields);
     }
-    take_instead(text, rules, fields)
+    take_instead(text, rules, form, fields)
 }
 
 // Takes the fields of a dialect's line in the place of the port's, which are completed if there is none. It is a call of
 // its own, since the space for such a line would otherwise be cleared for each line.
 #[inline(never)]
-fn take_instead<'a>(text: &'a str, rules: &Rules, fields: &mut Fields<'a>)
-    ensures { (dating : Dating) (line : AnyLine) → IsLineOf rules.now.variant dating (chars text.entry.now) line
+fn take_instead<'a>(text: &'a str, rules: &Rules, form: DateForm, fields: &mut Fields<'a>)
+    ensures { HasDateForm (chars text.entry.now) form → (dating : Dating) (line : AnyLine)
+        → IsLineOf rules.now.variant dating (chars text.entry.now) line
         → AreOfLine fields.old None line → (IsOrdinary line → ⊥)
         → AreMeant rules.now dating (chars text.entry.now) (list_elements line.list) fields.new }
 {
     match line_instead(text, &rules.dates, rules.variant, rules.dialects) {
         Some(sent) => *fields = fields_sent(&sent),
-        None => show_port(text, fields),
+        None => show_port(form, fields),
     }
 }
 
@@ -74,16 +79,15 @@ pub(crate) fn take_unread<'a>(text: &'a str, rules: &Rules, fields: &mut Fields<
     true
 }
 
-// Completes the fields of the port's line by what the text shows of its date.
+// Completes the fields of the port's line by what its text shows of the date, which has this form.
 #[inline(always)]
-fn show_port(text: &str, fields: &mut Fields<'_>)
-    ensures { (rules : AnyRules) (dating : Dating) (line : AnyLine)
-        → IsLineOf rules.variant dating (chars text.entry.now) line → AreOfLine fields.old None line
-        → AreOfLine fields.new None line
-        × IsShownIn rules dating (chars text.entry.now) None (line_value line) fields.new.timestamp }
+fn show_port(form: DateForm, fields: &mut Fields<'_>)
+    ensures { (text : AnyText) → HasDateForm text form → (rules : AnyRules) (dating : Dating) (line : AnyLine)
+        → IsLineOf rules.variant dating text line → AreOfLine fields.old None line
+        → AreOfLine fields.new None line × IsShownIn rules dating text None (line_value line) fields.new.timestamp }
 {
     let protocol = fields.protocol;
-    show(text, protocol, &mut fields.timestamp);
+    show(form, protocol, &mut fields.timestamp);
 }
 
 // The fields of a dialect's line, with what it shows of its date.

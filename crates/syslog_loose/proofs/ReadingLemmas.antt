@@ -26,6 +26,7 @@ use Rattle.syslog_pieces.specs.Timestamp.Zone.{IsMonthStamp}
 use Rattle.syslog_pieces.proofs.TimestampLemmas.MonthDate.{date_front, header_front, header_stamp_begins, no_date}
 use Rattle.syslog_pieces.proofs.TimestampLemmas.MonthDate.{no_stamp_of_date}
 use Rattle.syslog_loose.specs.Bodies.Start.{BeginsWith}
+use Rattle.syslog_loose.specs.DateForm.{ShowsNoDate}
 use Rattle.syslog_loose.specs.Rows.{IsAfterStamp}
 use Rattle.syslog_elements.specs.StructuredData.Visited.{Visits}
 use Rattle.syslog_elements.specs.StructuredData.Collected.{HasCollected}
@@ -199,7 +200,7 @@ answer_in_any year other tz local d (Some c) some k = stamp_in_any year other tz
 module _ (variant : Variant) (text : Text) {follows : Text} {p : Option ℕ}
     (f : IsAfterPriority (trimmed text) p follows) where
   module _ {q : Text} (d : MonthDate) (b : BeginsWith month_date variant follows d q) where
-    shows_date : ShowsMonthDate text d
+    pub shows_date : ShowsMonthDate text d
     shows_date = shows month_date f b.gap b.front
 
     -- its year is asked for where it shows none
@@ -266,6 +267,13 @@ module _ (variant : Variant) (text : Text) {follows : Text} {p : Option ℕ}
         let same = (front_same (optional priority) (optional_det priority priority_det) f' f).0 in
         without reads u (rw same at gap) g.piece q d g.whole (inl g.is)
 
+    -- and the text shows none
+    pub shows_none : ReadsProtocol variant protocol.RFC3164 → ShowsNoDate text
+    shows_none reads d shown =
+        let (_, t, u, q, f', gap, g) = shown_parts month_date (trimmed text) d shown in
+        let same = (front_same (optional priority) (optional_det priority priority_det) f' f).0 in
+        without reads u (rw same at gap) g.piece q d g.whole g.is
+
     -- and no other timestamp
     pub undated_invalid : BeginsWithout header_stamp variant follows → (variant ≢ RFC3164 → IsNot5424 text)
         → (dating : Dating) → Answers variant dating text (Err Invalid)
@@ -290,6 +298,10 @@ read_by RFC3164 dating text m (inl (n, r)) = absurd (n refl)
 read_by RFC3164 dating text m (inr (left, r)) = r
 read_by Either dating text m (inl (n, r)) = inl r
 read_by Either dating text m (inr both) = inr both
+
+-- a text that is read by RFC 5424 shows no month date
+pub strict_shows_none : (text : Text) (m : MessageValue) → IsRead5424 text m → ShowsNoDate text
+strict_shows_none text m r = λ date shown. shown_apart text date shown r.values r.division
 
 -- a line of RFC 5424 has a version
 pub versioned : {text : Text} (line : Line) → IsRead5424 text (line_value line) → line.version ≡ None → ⊥

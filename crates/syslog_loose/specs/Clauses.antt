@@ -9,6 +9,7 @@ pub use Rattle.syslog_loose.specs.Bodies.View5424.{FitsNames, FitsSpaced, ReadsH
 pub use Rattle.syslog_loose.specs.Canonical.{AreElements, IsBounded, IsCanonical, fields_value}
 pub use Rattle.syslog_loose.specs.DashChange.{BeginsDashChange, HasDashChange, ReadsDifferently, WasCanonical}
 pub use Rattle.syslog_loose.specs.DashChange.{WasUnreadable}
+pub use Rattle.syslog_loose.specs.DateForm.{HasDateForm}
 pub use Rattle.syslog_loose.specs.Equal.{message_eq, stamp_eq}
 pub use Rattle.syslog_loose.specs.EqualLaws.{message_equivalence}
 pub use Rattle.syslog_loose.specs.Quirks.{HasQuirksAlone, HasNoColon, HasNoQuirk, IsNearlyCanonical}
@@ -19,7 +20,7 @@ pub use Rattle.syslog_loose.specs.Message.{MessageValue, message_value, with_ele
 pub use Rattle.syslog_loose.specs.OneLine.{IsOneLine}
 pub use Rattle.syslog_loose.specs.Passes.{AnswersPass, EndsOnce, HasRank, IsStable, IsLater, PassesLead, Prints}
 pub use Rattle.syslog_loose.specs.Passes.{ReachesRank}
-pub use Rattle.syslog_loose.specs.Passes.{ShowsNoDate, WritesRound, round_answer}
+pub use Rattle.syslog_loose.specs.Passes.{WritesRound, round_answer}
 pub use Rattle.syslog_loose.specs.Printed.{elements_text, printed, rest_3164, rest_5424, rest_text, spaced_elements}
 pub use Rattle.syslog_loose.specs.ReadBack.{AnswersAgain, AnswersItself, FieldsAsRead, ReadsProtocol}
 pub use Rattle.syslog_loose.specs.Reading.{Answers, AnswersEachMonth, AnswersOrWhole, AsksYear, InYear, IsOnlyRead}

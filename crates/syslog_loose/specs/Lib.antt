@@ -1,6 +1,7 @@
 pub mod Bodies
 pub mod Canonical
 pub mod DashChange
+pub mod DateForm
 pub mod Dates
 pub mod Equal
 pub mod EqualLaws

@@ -3,7 +3,7 @@
 use Rattle.std.specs.Prelude.{◌≡◌, ◌⊎◌, ◌++◌}
 use Rattle.syslog_loose.specs.Words.{⊤, ℕ, zero, suc, List, [], Bool, MatchBool, Option, Some, None, IfSome, Result, Ok}
 use Rattle.syslog_loose.specs.Words.{Err, MatchResult, chars, AllocError, Text, colon, EndsInColon, IsCanonicalStamp}
-use Rattle.syslog_loose.specs.Words.{ShowsMonthDate, Dating, MonthDate}
+use Rattle.syslog_loose.specs.Words.{Dating}
 use Rattle.syslog_loose.specs.Quirks.{HasNoQuirk, HasNoNameQuirk}
 use Rattle.syslog_loose.specs.Bodies.Jumps.{IsDashed}
 use Rattle.syslog_loose.specs.Line.{line_value}
@@ -102,10 +102,6 @@ abbrev pub round_answer : Option (Result Bool AllocError) → Result Bool ParseF
 round_answer None = Err Invalid
 round_answer (Some (Ok settled)) = Ok settled
 round_answer (Some (Err _)) = Err Memory
-
--- the text shows no month date
-abbrev pub ShowsNoDate : Text → Type 0
-ShowsNoDate text = (date : MonthDate) → ShowsMonthDate text date → ⊥
 
 -- this is a round of the text from round 1 on, before which none is settled, and what is read of it has this rank
 pub record ReachesRank (variant : Variant) (dating : Dating) (text : Text) (rank : ℕ) (u : Text) : Type 0 where

@@ -14,6 +14,7 @@
 #![tactic(auto)]
 
 mod dash_change;
+mod date_form;
 mod dates;
 mod fault;
 mod jumps;
@@ -32,6 +33,7 @@ mod variant;
 mod visit;
 
 pub use dash_change::reads_differently;
+pub use date_form::DateForm;
 pub use dates::Dates;
 pub use fault::ParseFault;
 pub use jiff::Timestamp;
@@ -57,4 +59,4 @@ pub use syslog_pieces::timestamp::{ClockStamp, OffsetTimestamp};
 pub use syslog_text::as_str::AsStr;
 pub use today::Today;
 pub use variant::{IncompleteDate, Variant};
-pub use visit::{Itself, LineVisitor, parse_line, visit_line};
+pub use visit::{Itself, LineVisitor, parse_line, visit_dated_line, visit_line};

@@ -11,8 +11,9 @@ ghost use Rattle.syslog_loose.specs.declared.variant.Variant.TheVariants.{RFC316
 ghost use Rattle.syslog_loose.specs.Clauses.{KnowsForm, AnswersEachMonth, InYear, IsUnreadable};
 ghost use Rattle.syslog_loose.specs.Clauses.{IsLine3164, IsLine5424, IsNot5424, BeginsWith, BeginsWithout};
 ghost use Rattle.syslog_loose.specs.Clauses.{IsAfterPriority, IsAfterStamp, IsLineOf, Made, Line, Variant};
-ghost use Rattle.syslog_loose.specs.Clauses.{incomplete, MadeOf};
+ghost use Rattle.syslog_loose.specs.Clauses.{incomplete, HasDateForm, MadeOf};
 
+use crate::date_form::{DateForm, form_of};
 use crate::line::Line;
 use crate::rfc3164::read_3164;
 use crate::rfc5424::read_5424;
@@ -181,13 +182,45 @@ pub fn visit_line<'a, F: FnOnce(IncompleteDate) -> i32, E: ElementVisitor<'a>, V
         (dating_of year tz.entry local.entry) (chars input.entry.now)
         visitor.old elements.old result visitor.new elements.new) }
 {
+    let mut form = DateForm::Whole;
+    visit_dated_line(
+        input, get_year, tz, variant, local, elements, visitor, &mut form,
+    )
+}
+
+/// Returns what `visit_line` does, and sets `form` to the form of the date that the text shows. The other arguments are
+/// those of `visit_line`.
+#[inline(always)]
+pub fn visit_dated_line<
+    'a,
+    F: FnOnce(IncompleteDate) -> i32,
+    E: ElementVisitor<'a>,
+    V: LineVisitor<'a>,
+>(
+    input: &'a str,
+    get_year: F,
+    tz: Option<&TimeZone<'_>>,
+    variant: Variant,
+    local: &TimeZone<'_>,
+    elements: &mut E,
+    visitor: &mut V,
+    form: &mut DateForm,
+) -> Option<V::Answer>
+    requires { AnswersEachMonth (F.pre get_year) }
+    ensures makes { InYear (F.post get_year) variant (chars input.entry.now) (λ year. Made V.makes E.was_given variant
+        (dating_of year tz.entry local.entry) (chars input.entry.now)
+        visitor.old elements.old result visitor.new elements.new) }
+    ensures form { IfSome result (λ _. HasDateForm (chars input.entry.now) form.new) }
+{
     let (priority, after_priority) = optional_priority(trimmed(input));
+    *form = DateForm::Whole;
     let (timestamp, rest) = match front_date(after_priority, variant) {
         Some((date, rest)) => {
             let year = asked_numbers(date).map(get_year);
             let Some(stamp) = month_stamp(date, &Dating { year, tz, local }) else {
                 return None;
             };
+            *form = form_of(date);
             (Some(stamp), rest)
         }
         None => {

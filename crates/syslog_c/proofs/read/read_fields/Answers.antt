@@ -9,16 +9,22 @@ pub returns-in_default : goal.returns-in_default
 returns-in_default c = not_text _ _ _ _ (c.take.ensures.taken c.if-not-take.false) c.in_default.ensures
     (search rules) (search rules)
 
-pub returns-in_default-parse_line : goal.returns-in_default-parse_line
-returns-in_default-parse_line c =
+pub returns-in_default-visit_dated_line : goal.returns-in_default-visit_dated_line
+returns-in_default-visit_dated_line c =
     let a = c.args in
     let by = c.take.new.self in
     let text = chars c.in-Ok.text.now in
     inr (inr (tried_line (λ are dating text. ReportsFields are dating text a.fields.now c.read_unread.new.fields
     c.read_unread.result) _ _ _ _ (c.take.ensures.taken c.if-not-take.false) c.in-Ok.ensures
     (in_year_told (in_year_map (λ year none. unread_reported by (dating_in _ year) text a.fields.now a.fields.now
-    c.read_unread.new.fields c.read_unread.result refl (c.read_unread.ensures (dating_in _ year) none))
-    c.in_default-parse_line.ensures.reads) (λ date year is. is.1))))
+    c.read_unread.new.fields c.read_unread.result refl (c.read_unread.ensures (dating_in _ year) none.0))
+    c.in_default-visit_dated_line.ensures.makes) (λ date year is. is.1))))
+
+pub line-is_ordinary-requires : goal.line-is_ordinary-requires
+line-is_ordinary-requires c =
+    let in_year = c.in-Some.ensures.makes in
+    let made = in_year.holds in_year.answered (λ date asks. refl) in
+    record { form = rw made.2.0 made.2.1 }
 
 pub returns : goal.returns
 returns c =
@@ -26,7 +32,7 @@ returns c =
     let by = c.take.new.self in
     let text = chars c.in-Ok.text.now in
     inr (inr (tried_line _ _ _ _ _ (c.take.ensures.taken c.if-not-take.false) c.in-Ok.ensures
-    (in_year_told (in_year_map (λ year of. reported by (dating_in _ year) text _ a.fields.now c.take_read.new.fields
-    (c.take_read.ensures (dating_in _ year) c.in-Some.line of c.line-is_ordinary.ensures.0
-    c.line-is_ordinary.ensures.1))
-    c.in-Some.ensures.reads) (λ date year is. is.1))))
+    (in_year_told (in_year_map (λ year made. reported by (dating_in _ year) text _ a.fields.now c.take_read.new.fields
+    (c.take_read.ensures c.in-Some.ensures.form (dating_in _ year) c.in-Some.line (rw made.2.0 made.1)
+    c.line-is_ordinary.ensures.0 c.line-is_ordinary.ensures.1))
+    c.in-Some.ensures.makes) (λ date year is. is.1))))

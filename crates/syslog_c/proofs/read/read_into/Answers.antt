@@ -10,15 +10,15 @@ pub returns-in_default : goal.returns-in_default
 returns-in_default c = not_text _ _ _ _ (c.take.ensures.taken c.if-not-take.false) c.in_default.ensures
     (search rules) (search rules)
 
-pub returns-in_default-visit_line : goal.returns-in_default-visit_line
-returns-in_default-visit_line c =
+pub returns-in_default-visit_dated_line : goal.returns-in_default-visit_dated_line
+returns-in_default-visit_dated_line c =
     let a = c.args in
     let by = c.take.new.self in
     let text = chars c.in-Ok.text.now in
-    let in_year = c.in_default-visit_line.ensures in
-    let arrays = c.visit_line.new.elements in
+    let in_year = c.in_default-visit_dated_line.ensures.makes in
+    let arrays = c.visit_dated_line.new.elements in
     let fields = c.read_unread.new.fields in
-    let held = kept by (dating_in _ in_year.answered) text a.fields.now c.visit_line.new.visitor fields _ arrays
+    let held = kept by (dating_in _ in_year.answered) text a.fields.now c.visit_dated_line.new.visitor fields _ arrays
     refl refl None (in_year.holds in_year.answered (λ date asks. refl)) in
     with_arrays (λ es ps. OnLine a.options.now a.line.now c.read_unread.result
     ((fields ≡ a.fields.now) × (es ≡ a.elements.now) × (ps ≡ a.params.now))
@@ -27,7 +27,7 @@ returns-in_default-visit_line c =
     (inr (inr (tried_line (λ are dating text. ReadsInto are dating text a.fields.now fields a.elements.now
     arrays.elements.now a.params.now arrays.params.now c.read_unread.result) _ _ _ _
     (c.take.ensures.taken c.if-not-take.false) c.in-Ok.ensures
-    (in_year_told (in_year_map (λ year h. unread by (dating_in _ year) text a.fields.now c.visit_line.new.visitor fields
+    (in_year_told (in_year_map (λ year h. unread by (dating_in _ year) text a.fields.now c.visit_dated_line.new.visitor fields
     _ arrays refl refl c.read_unread.result h (c.read_unread.ensures (dating_in _ year))) in_year)
     (λ date year is. is.1)))))
 
@@ -36,10 +36,10 @@ returns-then-have_space c =
     let a = c.args in
     let by = c.take.new.self in
     let text = chars c.in-Ok.text.now in
-    let in_year = c.in-Some.ensures in
-    let arrays = c.visit_line.new.elements in
+    let in_year = c.in-Some.ensures.makes in
+    let arrays = c.visit_dated_line.new.elements in
     let fields = c.take_read.new.fields in
-    let held = kept by (dating_in _ in_year.answered) text a.fields.now c.visit_line.new.visitor fields _ arrays
+    let held = kept by (dating_in _ in_year.answered) text a.fields.now c.visit_dated_line.new.visitor fields _ arrays
     refl refl (Some c.in-Some.is_ordinary) (in_year.holds in_year.answered (λ date asks. refl)) in
     with_arrays (λ es ps. OnLine a.options.now a.line.now Done
     ((fields ≡ a.fields.now) × (es ≡ a.elements.now) × (ps ≡ a.params.now))
@@ -48,8 +48,8 @@ returns-then-have_space c =
     (inr (inr (tried_line (λ are dating text. ReadsInto are dating text a.fields.now fields a.elements.now
     arrays.elements.now a.params.now arrays.params.now Done) _ _ _ _
     (c.take.ensures.taken c.if-not-take.false) c.in-Ok.ensures
-    (in_year_told (in_year_map (λ year h. all_read by (dating_in _ year) text a.fields.now c.visit_line.new.visitor
-    fields _ arrays refl refl c.in-Some.is_ordinary h (c.take_read.ensures (dating_in _ year))
+    (in_year_told (in_year_map (λ year h. all_read by (dating_in _ year) text a.fields.now c.visit_dated_line.new.visitor
+    fields _ arrays refl refl c.in-Some.is_ordinary h (c.take_read.ensures c.in-Some.ensures.form (dating_in _ year))
     c.if-have_space.ensures.0 c.if-have_space.ensures.1) in_year) (λ date year is. is.1)))))
 
 pub returns-else-have_space : goal.returns-else-have_space
@@ -57,10 +57,10 @@ returns-else-have_space c =
     let a = c.args in
     let by = c.take.new.self in
     let text = chars c.in-Ok.text.now in
-    let in_year = c.in-Some.ensures in
-    let arrays = c.visit_line.new.elements in
+    let in_year = c.in-Some.ensures.makes in
+    let arrays = c.visit_dated_line.new.elements in
     let fields = c.take_read.new.fields in
-    let held = kept by (dating_in _ in_year.answered) text a.fields.now c.visit_line.new.visitor fields _ arrays
+    let held = kept by (dating_in _ in_year.answered) text a.fields.now c.visit_dated_line.new.visitor fields _ arrays
     refl refl (Some c.in-Some.is_ordinary) (in_year.holds in_year.answered (λ date asks. refl)) in
     with_arrays (λ es ps. OnLine a.options.now a.line.now NoRoom
     ((fields ≡ a.fields.now) × (es ≡ a.elements.now) × (ps ≡ a.params.now))
@@ -70,5 +70,5 @@ returns-else-have_space c =
     arrays.elements.now a.params.now arrays.params.now NoRoom) _ _ _ _
     (c.take.ensures.taken c.if-not-take.false) c.in-Ok.ensures
     (in_year_told (in_year_map (λ year h. too_much_read by (dating_in _ year) text a.fields.now
-    c.visit_line.new.visitor fields _ arrays refl refl c.in-Some.is_ordinary h
-    (c.take_read.ensures (dating_in _ year)) (λ e p. c.if-have_space.ensures e p)) in_year) (λ date year is. is.1)))))
+    c.visit_dated_line.new.visitor fields _ arrays refl refl c.in-Some.is_ordinary h
+    (c.take_read.ensures c.in-Some.ensures.form (dating_in _ year)) (λ e p. c.if-have_space.ensures e p)) in_year) (λ date year is. is.1)))))

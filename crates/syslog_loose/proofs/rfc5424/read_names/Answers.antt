@@ -1,4 +1,4 @@
-use Rattle.syslog_loose.proofs.Names.{◌≡◌, ◌⊎◌, ◌∙◌, ◌<◌, ◌∷◌, ◌++◌, ◌then◌, ◌past◌, length, Option, Some, None, IfSome}
+use Rattle.syslog_loose.proofs.Names.{◌≡◌, ◌⊎◌, ◌∙◌, ◌∷◌, ◌++◌, ◌then◌, ◌past◌, Option, Some, None, IfSome}
 use Rattle.syslog_loose.proofs.Names.{sym, ap, arith, inl, inr, refl, option_map, IsBareWord, Text, Class, Front}
 use Rattle.syslog_loose.proofs.Names.{named_process, process_text, process_word, named_names, host, word, name_text}
 use Rattle.syslog_loose.proofs.Names.{row_of, no_row, names_row, seen, shown, some_run, is_blank, is_not_whitespace}
