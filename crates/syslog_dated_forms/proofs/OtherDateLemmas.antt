@@ -9,6 +9,7 @@ use Rattle.syslog_text.proofs.PieceLemmas.Class.{AllDeterministic, ◌also◌, a
 use Rattle.syslog_text.proofs.PieceLemmas.Class.{optional_det}
 use Rattle.syslog_text.proofs.PieceLemmas.Class.{rest_det, row_det, run_det, some_run_det, texted_det}
 use Rattle.syslog_text.proofs.PieceLemmas.Rules.{such_det}
+use Rattle.syslog_sent.specs.Named.{BeginsWith, is_letter}
 use Rattle.syslog_pieces.proofs.TimestampLemmas.Rfc3339.{pair_det, year_det}
 use Rattle.syslog_dated_forms.specs.Cisco.{counter_row, date_row}
 use Rattle.syslog_dated_forms.specs.IosXr.{IsNode, card_row, host, host_in, host_row, process_in, process_row, xr_row}
@@ -60,8 +61,8 @@ netscaler_row_det = run_det is_blank also mapped_det (Row slashed_row) SentDate 
 pub procurve_row_det : AllDeterministic procurve_row
 procurve_row_det = run_det is_blank also any_date_det also some_run_det is_blank also origin_det also some_run_det
     is_blank
-    also some_run_det is_ascii_digit also some_run_det is_blank also bare_word_det also exactly_det _ also run_det
-    is_blank
+    also some_run_det is_ascii_digit also some_run_det is_blank
+    also such_det bare_word (BeginsWith is_letter) bare_word_det also exactly_det _ also run_det is_blank
     also rest_det also tt
 
 pub colon_row_det : AllDeterministic colon_row

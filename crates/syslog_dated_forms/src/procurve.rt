@@ -1,18 +1,32 @@
 //! Lines of HP's ProCurve and ArubaOS-Switch: `Mar  2 06:33:04 10.0.0.5 00076 ports: port 1 is now on-line`.
 //!
-//! **Rule.** The number of the event, which is before the module, names no program: the module does. (HP, "Event log
+//! **Rule.** The number of the event, which is before the module, names no program: the module does, and it begins
+//! with a letter. (HP, "Event log
 //! message reference": severity, date, event number, system module.)
 ghost use Rattle.std.specs.Prelude.{◌≡◌, chars};
 ghost use Rattle.syslog_text.specs.Pieces.Class.{Front, Text, run};
+ghost use Rattle.syslog_text.specs.Pieces.View.{Reads, shown};
 ghost use Rattle.syslog_text.specs.Text.{is_blank};
 ghost use Rattle.syslog_sent.specs.Date.{any_date};
 ghost use Rattle.syslog_sent.specs.Sent.{Sends};
 ghost use Rattle.syslog_dated_forms.specs.ProCurve as spec;
 
 use crate::cisco::{colon, digits, gap, origin};
+use syslog_sent::named::is_letter;
 use syslog_sent::sent::{Sent, SentDate};
 use syslog_sent::zone::bare_word;
 use syslog_text::text::blanks;
+
+// Returns the name of a module at the front, and the text after it.
+fn system_module(text: &str) -> Option<(&str, &str)>
+    ensures { Reads spec.system_module (λ word. shown word) (chars text.now) result }
+{
+    let (word, rest) = bare_word(text)?;
+    if !is_letter(word) {
+        return None;
+    }
+    Some((word, rest))
+}
 
 /// Returns what a line of ProCurve says, which begins with this date, and has `rest` after it.
 pub(crate) fn read_procurve(date: SentDate, rest: &str) -> Option<Sent<'_>>
@@ -24,7 +38,7 @@ pub(crate) fn read_procurve(date: SentDate, rest: &str) -> Option<Sent<'_>>
     let before_number = gap(after_host)?;
     let after_number = digits(before_number)?;
     let before_module = gap(after_number)?;
-    let (app, after_module) = bare_word(before_module)?;
+    let (app, after_module) = system_module(before_module)?;
     let after_colon = colon(after_module)?;
     Some(Sent {
         version: None,

@@ -42,8 +42,10 @@ use Rattle.syslog_dated_forms.specs.IosXr.{xr_sent}
 use Rattle.syslog_dated_forms.specs.IosXr as xr
 use Rattle.syslog_sent.specs.Named.{BeginsWith, NamedTexts, after_row, beginning, hosted, is_letter}
 use Rattle.syslog_sent.specs.Named.{◌otherwise◌}
-use Rattle.syslog_named_forms.specs.NamedForms.{Tail, dated_form, dated_row, forwarded_tail, front_row, hostless_tail}
-use Rattle.syslog_named_forms.specs.NamedForms.{marked_tail, message_tails, program_forms, program_tails, says}
+use Rattle.syslog_named_forms.specs.NamedForms.{Tail, access_tail, dated_form, dated_row, forwarded_tail}
+use Rattle.syslog_named_forms.specs.NamedForms.{front_row, hostless_tail}
+use Rattle.syslog_named_forms.specs.NamedForms.{marked_tail, marked_tails, message_tails, program_forms}
+use Rattle.syslog_named_forms.specs.NamedForms.{program_tails, says, untagged_tail}
 use Rattle.syslog_named_forms.specs.NamedForms.{serial_tail}
 use Rattle.syslog_named_forms.specs.NamedForms.{severity_tail, tail_forms, undated_form, undated_forms, undated_row}
 use Rattle.syslog_named_forms.specs.NamedForms.{worded_tail}
@@ -55,14 +57,15 @@ use Rattle.syslog_dialects.specs.PriorityAlone.{IsAlone, alone_row, program_row,
 use Rattle.syslog_dated_forms.specs.ProCurve.{procurve_row, procurve_sent}
 use Rattle.syslog_named_forms.specs.Programs.{forwarded_of, forwarded_row, grade, hostless_row, passed_on}
 use Rattle.syslog_sent.specs.Selector.{selector_row}
-use Rattle.syslog_named_forms.specs.Programs.{serial_row, severity_row, worded_row, words_row}
+use Rattle.syslog_named_forms.specs.Programs.{access_row, point_row, serial_row, severity_row, worded_row}
+use Rattle.syslog_named_forms.specs.Programs.{number_word, untagged_row, words_row}
 use Rattle.syslog_sent.specs.Runs.{is_unquoted, is_word_char}
 use Rattle.syslog_sent.specs.Sent.{Form, IsSent, SentValue, loose}
 use Rattle.syslog_dialects.specs.SentReading.{IsSentIn}
 use Rattle.syslog_dated_forms.specs.SophosUtm.{colon_date, utm_row}
 use Rattle.syslog_dated_forms.specs.Tail.{TailValue, spare, tail, tail_row, wide_row, wide_tail}
 use Rattle.syslog_dated_forms.specs.UnixSeconds.{meraki_row, meraki_sent, short_row, short_sent, unix_date}
-use Rattle.syslog_named_forms.specs.Untagged.{mark_class, marked, marked_of}
+use Rattle.syslog_named_forms.specs.Untagged.{dialect_of, mark_class, marked, marked_of, marks}
 use Rattle.syslog_sent.specs.declared.dialect.Dialect.{Dialect}
 use Rattle.syslog_sent.specs.declared.dialect.Dialect.TheVariants as dialect
 use Rattle.syslog_sent.specs.declared.sent.SentDate.{SentDate}
@@ -457,7 +460,7 @@ procurve_found : RowFound dialect.ProCurve procurve_row procurve_sent
 procurve_found h = before_rest (left_of dialect.ProCurve h) (take 10 procurve_row)
     (blanks also an_any_date also a_gap also an_origin also a_gap
     also passed (some_run is_ascii_digit) (λ p q v is. inr (inl (v, is))) also a_gap
-    also text_of (some_run is_tag_char) also a_colon also blanks also tt)
+    also bare_text (BeginsWith is_letter) also a_colon also blanks also tt)
 
 logread_found : RowFound dialect.SeverityFirst logread_row logread_sent
 logread_found h = before_rest (left_of dialect.SeverityFirst h) (take 9 logread_row)
@@ -530,17 +533,13 @@ marked_found left D t (inr w) f = last_found left (take 2 (after_row (beginning 
     (a_host also a_gap also tt) (beginning D) (λ x. []) (λ x. x)
     (whole_found left (beginning D) (λ x. x) (λ p x is. is.1)) t w (front_of f.piece f.whole f.is.1)
 
-mark_found : (it : Dialect) (m : Mark) → IsFoundForm (dated_form it (marked m) marked_of)
-mark_found it m = tail_of (marked_tail it m)
-    (λ t v f. marked_found (left_of it (marked_of v).hostname) (mark_class m) t v f)
+mark_found : (m : Mark) → IsFoundForm (dated_form (dialect_of m) (marked m) marked_of)
+mark_found m = tail_of (marked_tail m)
+    (λ t v f. marked_found (left_of (dialect_of m) (marked_of v).hostname) (mark_class m) t v f)
 
-messages_all : AllFound (tail_forms message_tails)
-messages_all =
-    mark_found dialect.Repeated mark_of.Repeated also mark_found dialect.Cef mark_of.Cef
-    also mark_found dialect.Leef mark_of.Leef also mark_found dialect.PaloAlto mark_of.PaloAlto
-    also mark_found dialect.KeyValue mark_of.Pair also mark_found dialect.Json mark_of.Json
-    also mark_found dialect.Idrac mark_of.Idrac also mark_found dialect.Log4j mark_of.Level
-    also mark_found dialect.MikroTik mark_of.Topics also mark_found dialect.Bracketed mark_of.Bracket also tt
+messages_all : (ms : List Mark) → AllFound (tail_forms (marked_tails ms))
+messages_all [] = tt
+messages_all (m ∷ ms) = (mark_found m, messages_all ms)
 
 -- ---- programs
 
@@ -582,6 +581,10 @@ worded_found t v = before_rest (left_of dialect.SpacedName v.0) (take 6 worded_r
     (a_host also a_gap also such (texted (Row words_row)) (BeginsWith is_letter) (text_of (Row words_row)) also an_id
     also a_colon also blanks also tt) t v
 
+access_found : TailFound access_tail
+access_found t v = before_rest (left_of dialect.UniFi (Some v.0)) (take 5 access_row)
+    (text_of (Row point_row) also a_colon also a_gap also a_program also blanks also tt) t v
+
 hostless_found : TailFound hostless_tail
 hostless_found = before_rest (left_of dialect.NoHost None) (take 2 hostless_row) (a_program also a_gap also tt)
 
@@ -596,11 +599,17 @@ serial_found t v f =
     (before_rest left (take 3 (drop 7 serial_row)) (a_gap also a_program also blanks also tt) w
     (lasts serial (drop 7 serial_row) v.1.1) d))
 
+untagged_found : TailFound untagged_tail
+untagged_found t v = last_found (left_of dialect.Untagged v.0) (take 2 untagged_row) (a_host also a_gap also tt)
+    (beginning number_word) (λ x. []) (λ x. x) (whole_found (left_of dialect.Untagged v.0) (beginning number_word)
+    (λ x. x) (λ p x is. is.1)) t v
+
 programs_all : AllFound (tail_forms program_tails)
 programs_all =
     tail_of forwarded_tail forwarded_found also tail_of severity_tail severity_found
-    also tail_of worded_tail worded_found also tail_of hostless_tail hostless_found
-    also tail_of serial_tail serial_found also tt
+    also tail_of worded_tail worded_found also tail_of access_tail access_found
+    also tail_of hostless_tail hostless_found
+    also tail_of serial_tail serial_found also tail_of untagged_tail untagged_found also tt
 
 -- ---- pairs, whose names are in the message
 
@@ -700,7 +709,7 @@ undated_all =
     also said dialect.Heroku header_row header_says header_found also tt
 
 named_all : AllFound named_forms
-named_all = both_found (tail_forms message_tails) program_forms messages_all
+named_all = both_found (tail_forms message_tails) program_forms (messages_all marks)
     (both_found (tail_forms program_tails) undated_forms programs_all undated_all)
 
 program_alone : RowFound dialect.NoHost program_row program_sent

@@ -30,8 +30,10 @@ use Rattle.syslog_dated_forms.specs.Filed.{IsAny, filed_form, filed_forms, filed
 use Rattle.syslog_named_forms.specs.Header.{header_row, header_says}
 use Rattle.syslog_dated_forms.specs.IosXr.{process, process_in, process_row, xr_row, xr_sent}
 use Rattle.syslog_sent.specs.Named.{NamedTexts, after_row, beginning, hosted}
-use Rattle.syslog_named_forms.specs.NamedForms.{Tail, dated_form, dated_row, front_row, marked_tail, message_tails}
-use Rattle.syslog_named_forms.specs.NamedForms.{forwarded_tail, hostless_tail, program_forms, program_tails, says}
+use Rattle.syslog_named_forms.specs.NamedForms.{Tail, dated_form, dated_row, front_row, marked_tail}
+use Rattle.syslog_named_forms.specs.NamedForms.{marked_tails, message_tails}
+use Rattle.syslog_named_forms.specs.NamedForms.{access_tail, forwarded_tail, hostless_tail, program_forms}
+use Rattle.syslog_named_forms.specs.NamedForms.{program_tails, says, untagged_tail}
 use Rattle.syslog_named_forms.specs.NamedForms.{serial_tail, severity_tail, tail_forms, undated_form, undated_forms}
 use Rattle.syslog_named_forms.specs.NamedForms.{undated_row, worded_tail}
 use Rattle.syslog_dated_forms.specs.NetScaler.{netscaler_row}
@@ -39,22 +41,23 @@ use Rattle.syslog_dated_forms.specs.OpenWrt.{logread_row, logread_sent}
 use Rattle.syslog_named_forms.specs.Pairs.{paired, pairs_row}
 use Rattle.syslog_dialects.specs.PriorityAlone.{IsAlone, alone_row, program_row, program_sent}
 use Rattle.syslog_dated_forms.specs.ProCurve.{procurve_row, procurve_sent}
-use Rattle.syslog_named_forms.specs.Programs.{forwarded_of, forwarded_row, hostless_row, passed_on, serial_row}
+use Rattle.syslog_named_forms.specs.Programs.{access_row, forwarded_of, forwarded_row, hostless_row}
+use Rattle.syslog_named_forms.specs.Programs.{number_word, passed_on, serial_row}
 use Rattle.syslog_named_forms.specs.Programs.{severity_row, worded_row}
 use Rattle.syslog_sent.specs.Sent.{Form, IsSent, SentValue, loose}
 use Rattle.syslog_dialects.specs.SentReading.{IsSentIn}
 use Rattle.syslog_dated_forms.specs.SophosUtm.{utm_row}
 use Rattle.syslog_dated_forms.specs.Tail.{TailValue, tail, tail_row, wide_row, wide_tail}
 use Rattle.syslog_dated_forms.specs.UnixSeconds.{meraki_row, meraki_sent, short_row, short_sent}
-use Rattle.syslog_named_forms.specs.Untagged.{mark_class, marked, marked_of}
+use Rattle.syslog_named_forms.specs.Untagged.{dialect_of, mark_class, marked, marked_of, marks}
 use Rattle.syslog_sent.specs.Zone.{bare_word}
 use Rattle.syslog_sent.specs.declared.dialect.Dialect.{Dialect}
 use Rattle.syslog_sent.specs.declared.dialect.Dialect.TheVariants.{PriorityAlone, BsdDate, NearlyRfc3339, Journal}
 use Rattle.syslog_sent.specs.declared.dialect.Dialect.TheVariants.{CiscoIos, CiscoNxOs, CiscoAsa, CiscoUndated}
 use Rattle.syslog_sent.specs.declared.dialect.Dialect.TheVariants.{Container, CiscoIosXr, NetScaler, ProCurve}
-use Rattle.syslog_sent.specs.declared.dialect.Dialect.TheVariants.{Repeated, Cef, Leef, PaloAlto, KeyValue, Json}
-use Rattle.syslog_sent.specs.declared.dialect.Dialect.TheVariants.{Idrac, Log4j, SeverityFirst, NoHost, Heroku}
-use Rattle.syslog_sent.specs.declared.dialect.Dialect.TheVariants.{Bracketed, MikroTik, SophosUtm, UnixSeconds}
+use Rattle.syslog_sent.specs.declared.dialect.Dialect.TheVariants.{Cef, Leef, KeyValue}
+use Rattle.syslog_sent.specs.declared.dialect.Dialect.TheVariants.{SeverityFirst, NoHost, Heroku}
+use Rattle.syslog_sent.specs.declared.dialect.Dialect.TheVariants.{SophosUtm, UnixSeconds}
 use Rattle.syslog_sent.specs.declared.dialect.Dialect.TheVariants.{Esxi}
 use Rattle.syslog_named_forms.specs.declared.untagged.Mark.{Mark}
 use Rattle.syslog_named_forms.specs.declared.untagged.Mark.TheVariants as mark
@@ -274,15 +277,12 @@ marked_ends D t (inl msg) ends f = all_of t msg (f.is.1 ∙ whole_of (hosted (be
 marked_ends D t (inr w) ends f =
     some_run_ends (beginning D) (λ x. x) (λ p x is. is.1) (host ∷ []) t w (front_of f.piece f.whole f.is.1)
 
-mark_of : (dialect : Dialect) (m : Mark) → EndsInMsg (dated_form dialect (marked m) marked_of)
-mark_of dialect m = tail_of (marked_tail dialect m) (marked_ends (mark_class m))
+mark_ends : (m : Mark) → EndsInMsg (dated_form (dialect_of m) (marked m) marked_of)
+mark_ends m = tail_of (marked_tail m) (marked_ends (mark_class m))
 
-messages_end : AllEnd (tail_forms message_tails)
-messages_end =
-    mark_of Repeated mark.Repeated also mark_of Cef mark.Cef also mark_of Leef mark.Leef
-    also mark_of PaloAlto mark.PaloAlto also mark_of KeyValue mark.Pair also mark_of Json mark.Json
-    also mark_of Idrac mark.Idrac also mark_of Log4j mark.Level also mark_of MikroTik mark.Topics
-    also mark_of Bracketed mark.Bracket also tt
+messages_end : (ms : List Mark) → AllEnd (tail_forms (marked_tails ms))
+messages_end [] = tt
+messages_end (m ∷ ms) = (mark_ends m, messages_end ms)
 
 -- ---- programs
 
@@ -299,8 +299,11 @@ programs_end =
     tail_of forwarded_tail forwarded_ends
     also tail_of severity_tail (λ t v ends f. rest_ends (take 5 severity_row) t v f)
     also tail_of worded_tail (λ t v ends f. rest_ends (take 5 worded_row) t v f)
+    also tail_of access_tail (λ t v ends f. rest_ends (take 4 access_row) t v f)
     also tail_of hostless_tail (λ t v ends f. spaced_rest_ends (take 1 hostless_row) t v f)
-    also tail_of serial_tail (λ t v ends f. rest_ends (take 9 serial_row) t v f) also tt
+    also tail_of serial_tail (λ t v ends f. rest_ends (take 9 serial_row) t v f)
+    also tail_of untagged_tail (λ t v ends f. some_run_ends (beginning number_word) (λ x. x) (λ p x is. is.1) (host ∷ [])
+    t v f) also tt
 
 -- ---- without a date
 
@@ -316,7 +319,7 @@ undated_end =
     also said Heroku header_row header_says (spaced_rest_ends (take 11 header_row)) also tt
 
 named_end : AllEnd named_forms
-named_end = both_end (tail_forms message_tails) program_forms messages_end
+named_end = both_end (tail_forms message_tails) program_forms (messages_end marks)
     (both_end (tail_forms program_tails) undated_forms programs_end undated_end)
 
 last_end : AllEnd last_forms

@@ -4,18 +4,27 @@ use Rattle.std.proofs.Common.{arith}
 use Rattle.std.proofs.lemmas.Bool.{and_parts, cases_Bool}
 use Rattle.std.proofs.lemmas.Bool.Decides.{nat_tests}
 use Rattle.std.proofs.lemmas.Str.Ascii.{IsAscii-cons, IsAscii-nil}
+use Rattle.std.specs.Char.{is_ascii_digit}
 use Rattle.std.specs.Prelude.{nat_eq, slice_index, ◌&&◌, IsTrue}
 use Rattle.std.specs.Str.{IsUtf8, chars, encode_utf8_all}
 use Rattle.syslog_text.specs.Pieces.Class.{Text}
 use Rattle.syslog_text.proofs.TextLemmas.Runs.{ascii_ahead, chars_nonempty, one_ascii}
 use Rattle.syslog_sent.specs.Named.{is_letter}
 use Rattle.syslog_dialects.specs.Ordinary.{BeginsPlainly, begins_oddly, has_bracket, is_level_mark, is_odd_app}
+use Rattle.syslog_dialects.specs.Ordinary.{opens_day}
 
 oddly_low : (c : ℕ) → begins_oddly c ≡ true → c < 128
 oddly_low c h = grind (arith, nat_tests)
 
+no_day : (c : ℕ) (t : Text) → is_ascii_digit c ≡ false → opens_day (c ∷ t) ≡ false
+no_day c [] h = refl
+no_day c (b ∷ []) h = refl
+no_day c (b ∷ d ∷ []) h = refl
+no_day c (b ∷ d ∷ e ∷ []) h = refl
+no_day c (b ∷ d ∷ e ∷ f ∷ t) h = rw h refl
+
 plain_begins : (c : ℕ) (t : Text) → begins_oddly c ≡ false → is_odd_app (c ∷ t) ≡ false
-plain_begins c t h = grind (arith, nat_tests)
+plain_begins c t h = grind (arith, nat_tests, no_day)
 
 -- the first character of an odd app name is its first byte
 odd_first : (bs : List ℕ) (c : ℕ) (t : Text) → IsUtf8 bs → chars bs ≡ c ∷ t → begins_oddly c ≡ true

@@ -7,11 +7,7 @@ use Rattle.std.specs.Option.{is_some}
 use Rattle.std.specs.Prelude.{IsSome, IsTrue, MatchBool}
 use Rattle.std.specs.Str.{IsUtf8, chars, encode_utf8_all}
 use Rattle.std.specs.Str.Pattern.{FindsTextPrefix, StripsPrefix}
-use Rattle.std.proofs.Common.{nat_eq, length}
-use Rattle.std.specs.Char.{is_ascii_digit}
-use Rattle.syslog_text.specs.Bodies.Scan.{SplitsRun}
-use Rattle.syslog_text.proofs.TextLemmas.Words.{end_told}
-use Rattle.syslog_text.specs.Pieces.Class.{Each, Ends, Text, NoFront, IsDeterministic, Row, exactly}
+use Rattle.syslog_text.specs.Pieces.Class.{Text, NoFront, IsDeterministic, Row, exactly}
 use Rattle.syslog_text.specs.Pieces.View.{Skips, seen, shown}
 use Rattle.syslog_pieces.specs.ProcId.{procid_text}
 use Rattle.syslog_pieces.specs.Timestamp.{stamp_seen}
@@ -31,7 +27,7 @@ use Rattle.syslog_loose.specs.Printed.{rest_text, spaced_elements, tag_text}
 use Rattle.syslog_loose.specs.Visit.{IsLineOf}
 use Rattle.syslog_loose.specs.declared.line.Line.{Line}
 use Rattle.syslog_loose.specs.declared.variant.Variant.{Variant}
-use Rattle.syslog_dialects.specs.Ordinary.{IsOrdinary, IsTag, IsTagged, are_digits, is_odd, mark, tag_row}
+use Rattle.syslog_dialects.specs.Ordinary.{IsOrdinary, IsTag, IsTagged, is_odd, mark, tag_row}
 
 -- ---- what `strip_prefix` gives
 
@@ -43,26 +39,6 @@ prefix_told words bytes w u None n = λ p q v e h. n (encode_utf8_all q)
     ∙ ap (λ (x : Text). x ++ encode_utf8_all q) (encodes-chars words w))
 prefix_told words bytes w u (Some x) (k, (long, whole, cut), is, fits) = front_of (chars words)
     (chars_cut bytes words x.now (whole ∙ ap (λ (y : List ℕ). words ++ y) (sym is)) w) refl
-
--- ---- digits alone
-
-all_digits : (p q : Text) → Each is_ascii_digit p → Ends is_ascii_digit q → (b : Bool) → (IsTrue b → q ≡ [])
-    → (q ≡ [] → IsTrue b)
-    → b ≡ are_digits (p ++ q)
-all_digits [] [] h e b f g = g refl
-all_digits [] (c ∷ q) h e true f g = absurd (let none = f refl in cc)
-all_digits [] (c ∷ q) h e false f g = rw e refl
-all_digits (c ∷ p) q h e b f g = rw h.0 (all_digits p q h.1 e b f g)
-
-pub digits_told : (bs xs ys : List ℕ) (b : Bool) → SplitsRun is_ascii_digit bs xs ys → b ≡ nat_eq (length ys) 0
-    → b ≡ are_digits (chars bs)
-digits_told bs xs ys b s e = let told = end_told ys b s.back_utf8 e in
-    rw s.characters (all_digits (chars xs) (chars ys) s.each s.ends b told.0 told.1)
-
-pub no_digits_told : (bs : List ℕ) (b : Bool) → IsUtf8 bs → Ends is_ascii_digit (chars bs) → b ≡ nat_eq (length bs) 0
-    → b ≡ are_digits (chars bs)
-no_digits_told bs b u ends e =
-    let told = end_told bs b u e in all_digits [] (chars bs) tt ends b told.0 told.1
 
 -- ---- tags
 

@@ -1,6 +1,5 @@
--- The lines of the port that keep their reading, by their fields alone: this project's own choice. 32 is a space, 58
--- `:`,
--- 40 `(`, 91 `[`, 123 `{`.
+-- The lines of the port that keep their reading, by their fields alone: this project's own choice. 32 is a space,
+-- 34 `"`, 40 `(`, 45 `-`, 47 `/`, 58 `:`, 91 `[`, 123 `{`.
 use Rattle.std.specs.Prelude.{◌≡◌, ◌≢◌, ◌⊎◌, ◌∷◌, ◌&&◌, ◌||◌, ℕ, nat_eq, Bool, true, false, List, [], Some, IsSome}
 use Rattle.std.specs.Prelude.{◌<◌, codes, nat_lt, length, slice_index}
 use Rattle.std.specs.Char.{is_ascii_digit}
@@ -8,7 +7,7 @@ use Rattle.syslog_text.specs.Pieces.Class.{Text, Class, Front, Row, exactly}
 use Rattle.syslog_text.specs.Pieces.View.{seen, shown, text_eq}
 use Rattle.syslog_elements.specs.StructuredData.Visited.{list_elements}
 use Rattle.syslog_loose.specs.declared.line.Line.{Line}
-use Rattle.syslog_sent.specs.Named.{is_letter}
+use Rattle.syslog_sent.specs.Named.{is_letter, is_number}
 
 -- a colon, or the bracket before a process id
 abbrev pub mark : Class
@@ -22,25 +21,31 @@ tag_row host app = exactly (32 ∷ []) ∷ exactly host ∷ exactly (32 ∷ []) 
 abbrev pub IsTag : Text → Text → Text → Type 0
 IsTag host app text = (more : Text) × Front (Row (tag_row host app)) text more (tt, (tt, (tt, (tt, (tt, tt)))))
 
--- digits alone, or nothing
-abbrev pub are_digits : Text → Bool
-are_digits [] = true
-are_digits (c ∷ cs) = is_ascii_digit c && are_digits cs
+abbrev pub is_nothing : Text → Bool
+is_nothing [] = true
+is_nothing (c ∷ cs) = false
 
--- an object of JSON
-abbrev pub opens_object : Text → Bool
-opens_object [] = false
-opens_object (c ∷ cs) = nat_eq c 123
+-- an object of JSON, a bracket, or a quote
+abbrev pub opens_brackets : Text → Bool
+opens_brackets [] = false
+opens_brackets (c ∷ cs) = nat_eq c 123 || (nat_eq c 91 || nat_eq c 34)
 
--- what begins a message and the port takes for an app name: a number before a colon, a bracket, an object, or one of
--- these words
+-- a year, and `-` or a slash
+abbrev pub opens_day : Text → Bool
+opens_day (a ∷ b ∷ c ∷ d ∷ e ∷ more) = ((is_ascii_digit a && is_ascii_digit b) && (is_ascii_digit c && is_ascii_digit d))
+    && (nat_eq e 45 || nat_eq e 47)
+opens_day _ = false
+
+-- what begins a message and the port takes for an app name: nothing, a number, a bracket, a quote, an object, a date,
+-- or one of these words
 abbrev pub is_odd_app : Text → Bool
-is_odd_app app = are_digits app || (opens_object app
-    || (text_eq app (codes "CEF") || (text_eq app (codes "LEEF") || text_eq app (codes "Severity"))))
+is_odd_app app = is_nothing app || (is_number app || (opens_brackets app || (opens_day app
+    || (text_eq app (codes "CEF") || (text_eq app (codes "LEEF") || text_eq app (codes "Severity"))))))
 
 -- with these they begin
 abbrev pub begins_oddly : ℕ → Bool
-begins_oddly c = is_ascii_digit c || (nat_eq c 123 || (nat_eq c 67 || (nat_eq c 76 || nat_eq c 83)))
+begins_oddly c = is_ascii_digit c || (nat_eq c 123 || (nat_eq c 91 || (nat_eq c 34 || (nat_eq c 67 || (nat_eq c 76
+    || nat_eq c 83)))))
 
 -- the first byte is there, and is none of these
 abbrev pub BeginsPlainly : List ℕ → Type 0

@@ -11,8 +11,8 @@ ghost use Rattle.syslog_dialects.specs.Ordinary.{IsOrdinary, IsTag, IsTagged, ma
 ghost use Rattle.syslog_dialects.specs.Ordinary as spec;
 
 use syslog_loose::Line;
-use syslog_sent::named::is_word;
-use syslog_text::text::{CharClass, begins_with_digit, first, literal, split_run};
+use syslog_sent::named::{is_number, is_word};
+use syslog_text::text::{first, literal};
 
 // Returns the text after `front`, if that begins it.
 fn past<'a>(text: &'a str, front: &str) -> Option<&'a str>
@@ -53,37 +53,64 @@ fn begins_with_tag(text: &str, host: &str, app: &str) -> bool
     past_tag(text, host, app).is_some()
 }
 
-// Whether the text has only digits, or is empty.
-#[inline(always)]
-fn are_digits(text: &str) -> bool
-    ensures { result ≡ spec.are_digits (chars text.now) }
-{
-    if !begins_with_digit(text.as_bytes()) {
-        return text.is_empty();
-    }
-    let (_, rest) = split_run(text, CharClass::Digit);
-    rest.is_empty()
-}
-
-// Whether the text begins as an object of JSON.
-fn opens_object(app: &str) -> bool
-    ensures { result ≡ spec.opens_object (chars app.now) }
+fn is_nothing(app: &str) -> bool
+    ensures { result ≡ spec.is_nothing (chars app.now) }
 {
     match first(app) {
-        Some((c, _)) => c == '{',
+        Some(_) => false,
+        None => true,
+    }
+}
+
+// Whether the text begins as an object of JSON, with a bracket or with a quote.
+fn opens_brackets(app: &str) -> bool
+    ensures { result ≡ spec.opens_brackets (chars app.now) }
+{
+    match first(app) {
+        Some((c, _)) => c == '{' || (c == '[' || c == '"'),
         None => false,
     }
 }
 
-// Whether the app name is a number, empty, or the beginning of a message. It is a call of its own, since few begin so.
+// Whether the text begins with a year and `-` or a slash, as a date does.
+fn opens_day(app: &str) -> bool
+    ensures { result ≡ spec.opens_day (chars app.now) }
+{
+    let Some((a, after_a)) = first(app) else {
+        return false;
+    };
+    let Some((b, after_b)) = first(after_a) else {
+        return false;
+    };
+    let Some((c, after_c)) = first(after_b) else {
+        return false;
+    };
+    let Some((d, after_d)) = first(after_c) else {
+        return false;
+    };
+    match first(after_d) {
+        Some((e, _)) => {
+            ((a.is_ascii_digit() && b.is_ascii_digit())
+                && (c.is_ascii_digit() && d.is_ascii_digit()))
+                && (e == '-' || e == '/')
+        }
+        None => false,
+    }
+}
+
+// Whether the app name is no program's: nothing, a number, or what begins a message. It is a call of its own, since few
+// begin so.
 #[cold]
 #[inline(never)]
 fn is_odd_word(app: &str) -> bool
     ensures { result ≡ spec.is_odd_app (chars app.now) }
 {
-    are_digits(app)
-        || (opens_object(app)
-            || (is_word(app, "CEF") || (is_word(app, "LEEF") || is_word(app, "Severity"))))
+    is_nothing(app)
+        || (is_number(app)
+            || (opens_brackets(app)
+                || (opens_day(app)
+                    || (is_word(app, "CEF")
+                        || (is_word(app, "LEEF") || is_word(app, "Severity"))))))
 }
 
 // Whether an app name that is no program's may begin with the byte.
@@ -91,7 +118,9 @@ fn is_odd_word(app: &str) -> bool
 fn begins_oddly(byte: u8) -> bool
     ensures { result ≡ spec.begins_oddly byte }
 {
-    byte.is_ascii_digit() || (byte == b'{' || (byte == b'C' || (byte == b'L' || byte == b'S')))
+    byte.is_ascii_digit()
+        || (byte == b'{'
+            || (byte == b'[' || (byte == b'"' || (byte == b'C' || (byte == b'L' || byte == b'S')))))
 }
 
 // Whether a byte with which no odd app name begins is at the front. Most app names begin so, and need no further look.

@@ -10,13 +10,13 @@ use Rattle.syslog_text.proofs.PieceLemmas.Class.{row_nil, rows_join, rows_none_h
 use Rattle.syslog_text.proofs.PieceLemmas.Class.{row_of, no_row, ◌past◌, ◌then◌}
 use Rattle.syslog_text.proofs.PieceLemmas.Class.{no_row_division, run_det, some_run_det, unique_division}
 use Rattle.syslog_sent.proofs.DateLemmas.{any_date_det}
-use Rattle.syslog_named_forms.proofs.ProgramLemmas.{serial_det}
+use Rattle.syslog_named_forms.proofs.ProgramLemmas.{access_det, serial_det, untagged_det}
 use Rattle.syslog_sent.proofs.DialectLemmas.{here}
 use Rattle.syslog_sent.specs.Forms.{Finds, IsOfNone, IsOnlyOf}
 use Rattle.syslog_sent.specs.Named.{NamedTexts}
 use Rattle.syslog_sent.proofs.NamedLemmas.{beginning_det, beginning_front, no_beginning}
 use Rattle.syslog_named_forms.specs.NamedForms.{Tail, dated_form, dated_row, front_row, says, tail_forms, undated_form}
-use Rattle.syslog_named_forms.specs.NamedForms.{undated_row}
+use Rattle.syslog_named_forms.specs.NamedForms.{marked_tails, undated_row}
 use Rattle.syslog_named_forms.specs.NamedForms.{all_named, message_tails, program_forms, program_tails, undated_forms}
 use Rattle.syslog_sent.specs.Sent.{Form, IsOnlySent, SentValue, loose}
 use Rattle.syslog_sent.specs.declared.dialect.Dialect.{Dialect}
@@ -24,9 +24,9 @@ use Rattle.syslog_sent.specs.declared.dialect.Dialect.TheVariants as dialect
 use Rattle.syslog_sent.specs.declared.sent.Sent.{Sent}
 use Rattle.syslog_sent.specs.declared.sent.SentDate.{SentDate}
 use Rattle.syslog_named_forms.specs.declared.untagged.Mark.{Mark}
-use Rattle.syslog_named_forms.specs.declared.untagged.Mark.TheVariants as mark
-use Rattle.syslog_named_forms.specs.Untagged.{IsNoMessage, mark_class, marked, marked_of}
+use Rattle.syslog_named_forms.specs.Untagged.{IsNoMessage, mark_class, marked, marked_of, marks}
 use Rattle.syslog_sent.specs.Named.{beginning, hosted}
+use Rattle.syslog_named_forms.specs.Programs.{access_row, untagged_row}
 use Rattle.syslog_named_forms.specs.Programs.{hostless_row, passed_on, serial_row, severity_row, worded_row}
 use Rattle.syslog_sent.proofs.NamedLemmas.{hosted_det}
 use Rattle.syslog_named_forms.proofs.ProgramLemmas.{hostless_det, passed_on_det, severity_det, worded_det}
@@ -131,6 +131,12 @@ worded_tail_det = row_det worded_row worded_det
 pub hostless_tail_det : IsDeterministic (Row hostless_row)
 hostless_tail_det = row_det hostless_row hostless_det
 
+pub access_tail_det : IsDeterministic (Row access_row)
+access_tail_det = row_det access_row access_det
+
+pub untagged_tail_det : IsDeterministic (Row untagged_row)
+untagged_tail_det = row_det untagged_row untagged_det
+
 pub serial_tail_det : IsDeterministic (Row serial_row)
 serial_tail_det = row_det serial_row serial_det
 
@@ -138,37 +144,12 @@ not_marked : (m : Mark) {text rest : Text} {d : SentDate} → Front (Row front_r
     → IsNoMessage rest → NoDivision (dated_row (marked m) marked_of) text
 not_marked m f n = none_after dialect.Repeated (marked m) marked_of (marked_det m) f (n m)
 
+none_of_marks : (ms : List Mark) {text rest : Text} {d : SentDate}
+    → Front (Row front_row) text rest (tt, (d, (tt, tt))) → IsNoMessage rest → IsOfNone (tail_forms (marked_tails ms)) text
+none_of_marks [] f n = tt
+none_of_marks (m ∷ ms) f n = (not_marked m f n, none_of_marks ms f n)
+
 -- where no message without a program begins what follows the date, the text is of none of their forms
 pub none_marked : {text rest : Text} {d : SentDate} → Front (Row front_row) text rest (tt, (d, (tt, tt)))
     → IsNoMessage rest → IsOfNone (tail_forms message_tails) text
-none_marked f n = (
-  not_marked mark.Repeated f n,
-  (
-    not_marked mark.Cef f n,
-    (
-      not_marked mark.Leef f n,
-      (
-        not_marked mark.PaloAlto f n,
-        (
-          not_marked mark.Pair f n,
-          (
-            not_marked mark.Json f n,
-            (
-              not_marked mark.Idrac f n,
-              (
-                not_marked mark.Level f n,
-                (
-                  not_marked mark.Topics f n,
-                  (
-                    not_marked mark.Bracket f n,
-                    tt,
-                  ),
-                ),
-              ),
-            ),
-          ),
-        ),
-      ),
-    ),
-  ),
-)
+none_marked f n = none_of_marks marks f n

@@ -7,7 +7,10 @@ use Rattle.syslog_named_forms.specs.Programs.{serial_row}
 use Rattle.syslog_sent.specs.Runs.{is_plain_char}
 use Rattle.syslog_sent.proofs.NamedLemmas.{program_det}
 use Rattle.syslog_sent.proofs.DateLemmas.{iso_date_det}
-use Rattle.syslog_text.specs.Pieces.Class.{IsDeterministic, Row, some_run}
+use Rattle.std.proofs.Common.{◌≡◌, ◌++◌, sym, ◌∙◌, subst}
+use Rattle.std.proofs.lemmas.List.{append_cancel_right}
+use Rattle.syslog_text.proofs.PieceLemmas.Class.{texted_front}
+use Rattle.syslog_text.specs.Pieces.Class.{Class, Front, IsDeterministic, Row, Text, some_run}
 use Rattle.syslog_text.specs.Pieces.Class.{texted}
 use Rattle.syslog_text.proofs.PieceLemmas.Class.{mapped_det}
 use Rattle.syslog_text.proofs.PieceLemmas.Class.{texted_det, row_det}
@@ -22,8 +25,10 @@ use Rattle.syslog_text.specs.Pieces.Class.{spaced}
 use Rattle.syslog_text.specs.Text.{is_tag_char}
 use Rattle.syslog_named_forms.specs.Programs.{grade, hostless_row}
 use Rattle.syslog_sent.specs.Selector.{selector_row}
-use Rattle.syslog_named_forms.specs.Programs.{severity_row}
-use Rattle.syslog_sent.proofs.NamedLemmas.{otherwise_det, id_det, severity_word_det, selector_det}
+use Rattle.syslog_named_forms.specs.Programs.{access_row, number_word, point_row, severity_row, untagged_row}
+use Rattle.syslog_named_forms.specs.Untagged.{topic_row}
+use Rattle.syslog_named_forms.proofs.UntaggedLemmas.{topic_det}
+use Rattle.syslog_sent.proofs.NamedLemmas.{beginning_det, otherwise_det, id_det, severity_word_det, selector_det}
 
 pub serial_det : AllDeterministic serial_row
 serial_det = host_det also some_run_det is_blank also some_run_det is_plain_char also exactly_det _ also exactly_det _
@@ -52,9 +57,27 @@ pub worded_det : AllDeterministic worded_row
 worded_det = host_det also some_run_det is_blank also words_det also id_det also exactly_det _ also run_det is_blank
     also rest_det also tt
 
+pub point_det : AllDeterministic point_row
+point_det = row_det topic_row topic_det also row_det topic_row topic_det also exactly_det _ also some_run_det
+    is_tag_char
+    also tt
+
+pub access_det : AllDeterministic access_row
+access_det = texted_det (Row point_row) (row_det point_row point_det) also exactly_det _ also some_run_det is_blank
+    also program_det also run_det is_blank also rest_det also tt
+
+pub untagged_det : AllDeterministic untagged_row
+untagged_det = host_det also some_run_det is_blank also beginning_det number_word also tt
+
 pub forwarded_det : AllDeterministic forwarded_row
 forwarded_det = exactly_det _ also texted_det (some_run is_tag_char) (some_run_det is_tag_char) also exactly_det _
     also run_det is_blank also program_det also run_det is_blank also rest_det also tt
 
 pub passed_on_det : IsDeterministic passed_on
 passed_on_det = mapped_det (Row forwarded_row) NamedTexts forwarded_of (row_det forwarded_row forwarded_det)
+
+-- what is before the rest is the piece
+pub named : (C : Class) {t q name : Text} {v : C.Value} → (f : Front C t q v) → t ≡ name ++ q
+    → Front (texted C) t q name
+named C {t} {q} {name} f e = subst (λ (x : Text). Front (texted C) t q x)
+    (append_cancel_right f.piece name q (sym f.whole ∙ e)) (texted_front C f)

@@ -3,7 +3,7 @@ use Rattle.std.proofs.Common.{◌≡◌, inl, inr, ℕ, Bool, true, false, List,
 use Rattle.std.proofs.Common.{subst, ◌∙◌, arith}
 use Rattle.std.proofs.lemmas.Bool.Decides.{nat_tests}
 use Rattle.std.specs.Char.{is_not_whitespace}
-use Rattle.std.specs.Prelude.{◌&&◌, chars, codes, nat_le}
+use Rattle.std.specs.Prelude.{◌&&◌, ◌+◌, ◌/◌, chars, codes, drop, nat_le}
 use Rattle.syslog_text.specs.Pieces.Class.{Text, Class, Ends, Front, NoFront, Row, Values, after, exactly, join}
 use Rattle.syslog_text.specs.Bodies.Scan.{SplitsRun}
 use Rattle.syslog_text.specs.Pieces.Class.{optional, run}
@@ -18,7 +18,7 @@ use Rattle.syslog_named_forms.specs.declared.untagged.Mark.{Mark}
 use Rattle.syslog_named_forms.specs.declared.untagged.Mark.TheVariants.{Cef, Leef, Repeated, PaloAlto, Pair, Json}
 use Rattle.syslog_named_forms.specs.declared.untagged.Mark.TheVariants.{Idrac}
 use Rattle.syslog_named_forms.specs.declared.untagged.Mark.TheVariants.{Level}
-use Rattle.syslog_named_forms.specs.declared.untagged.Mark.TheVariants.{Bracket, Topics}
+use Rattle.syslog_named_forms.specs.declared.untagged.Mark.TheVariants.{Bracket, Dated, Topics}
 use Rattle.std.specs.Char.{is_ascii_digit}
 use Rattle.syslog_text.specs.Text.{is_blank}
 use Rattle.syslog_pieces.specs.Timestamp.Rfc3339.{pair, year}
@@ -34,7 +34,7 @@ use Rattle.syslog_sent.specs.Runs.{is_either_char, is_plain_char, is_word_char}
 use Rattle.syslog_named_forms.specs.Untagged.{cef_row, leef_row, pair_row, palo_alto_row, repeated_tail, repeats_row}
 use Rattle.syslog_named_forms.specs.Untagged.{is_main_topic, later_topic_row, main_topic, number_row, topic_row}
 use Rattle.syslog_named_forms.specs.Untagged.{IsNoMessage, IsUnmarked, begins_mark, ends_list, marked, marked_of}
-use Rattle.syslog_named_forms.specs.Untagged.{topics_row}
+use Rattle.syslog_named_forms.specs.Untagged.{clock_row, dashed_row, day, slashed_row, topics_row}
 
 pub cef_det : AllDeterministic cef_row
 cef_det = exactly_det _ also run_det is_blank also some_run_det is_ascii_digit also exactly_det _ also tt
@@ -52,6 +52,22 @@ palo_alto_det =
     some_run_det is_ascii_digit also exactly_det _ also year_det also after_det (pair 100) two also after_det
     (pair 100) two
     also exactly_det _ also two also after_det (pair 100) two also after_det (pair 100) two also exactly_det _ also tt
+
+pub dashed_det : AllDeterministic dashed_row
+dashed_det =
+    let two = after_det (pair 100) (two_det 100 (omega arith)) in
+    year_det also two also two also tt
+
+pub slashed_det : AllDeterministic slashed_row
+slashed_det =
+    let two = after_det (pair 100) (two_det 100 (omega arith)) in
+    year_det also two also two also tt
+
+pub clock_det : AllDeterministic clock_row
+clock_det =
+    let two = two_det 100 (omega arith) in
+    otherwise_det (row_det dashed_row dashed_det) (row_det slashed_row slashed_det)
+    also otherwise_det (exactly_det _) (exactly_det _) also two also after_det (pair 100) two also tt
 
 pub pair_det : AllDeterministic pair_row
 pair_det = some_run_det is_word_char also exactly_det _ also tt
@@ -116,6 +132,9 @@ more_of_palo_alto = exactly (44 ∷ []) ∷ after_comma
 exact : (c : ℕ) (t : Text) (test : ℕ → Bool) → test c ≡ true → Starts (exactly (c ∷ t)) test
 exact c t test h p q v e = (c, t, e, h)
 
+year_starts : Starts year is_ascii_digit
+year_starts p q n (e, fits) = (48 + n / 100 / 10, _, e, grind (arith, nat_tests, fits))
+
 opens : (m : Mark) → Starts (mark_class m) (begins m)
 opens Cef = row_opens (exactly (codes "CEF:")) (run is_blank ∷ some_run is_ascii_digit ∷ exactly (124 ∷ []) ∷ [])
     (λ c. begins Cef c ≡ true) (exact 67 (codes "EF:") (begins Cef) refl)
@@ -146,6 +165,10 @@ opens Topics = row_opens (Row topic_row) ((main_topic otherwise Row later_topic_
     (row_opens (some_run is_plain_char) (exactly (44 ∷ []) ∷ []) (λ c. begins Topics c ≡ true)
     (run_starts is_plain_char))
 opens Bracket = λ p q v h. (91, [], h.1, refl)
+opens Dated = row_opens day (drop 1 clock_row) (λ c. begins Dated c ≡ true)
+    (otherwise_opens {C = Row dashed_row} {D = Row slashed_row} (λ c. begins Dated c ≡ true)
+    (row_opens year (drop 1 dashed_row) (λ c. begins Dated c ≡ true) year_starts)
+    (row_opens year (drop 1 slashed_row) (λ c. begins Dated c ≡ true) year_starts))
 
 -- a text that begins otherwise has none
 pub no_mark : (m : Mark) {t more : Text} {c : ℕ} → t ≡ c ∷ more → false ≡ begins m c → NoFront (mark_class m) t
@@ -239,17 +262,19 @@ no_bracket c h = grind (arith, nat_tests, h)
 
 -- a text that begins otherwise has no mark
 pub unmarked : {t more : Text} {c : ℕ} → t ≡ c ∷ more → begins_mark c ≡ false
+    → NoFront (Row clock_row) t
     → NoFront (Row pair_row) t × (NoFront (Row topics_row) t × NoFront (Row palo_alto_row) t) → IsUnmarked t
-unmarked e h n Pair = n.0
-unmarked e h n Topics = n.1.0
-unmarked e h n PaloAlto = n.1.1
-unmarked {c = c} e h n Cef = no_mark Cef e (no_cef c h)
-unmarked {c = c} e h n Leef = no_mark Leef e (no_leef c h)
-unmarked {c = c} e h n Repeated = no_mark Repeated e (no_repeated c h)
-unmarked {c = c} e h n Json = no_mark Json e (no_json c h)
-unmarked {c = c} e h n Idrac = no_mark Idrac e (no_idrac c h)
-unmarked {c = c} e h n Level = no_mark Level e (no_level c h)
-unmarked {c = c} e h n Bracket = no_mark Bracket e (no_bracket c h)
+unmarked e h d n Dated = d
+unmarked e h d n Pair = n.0
+unmarked e h d n Topics = n.1.0
+unmarked e h d n PaloAlto = n.1.1
+unmarked {c = c} e h d n Cef = no_mark Cef e (no_cef c h)
+unmarked {c = c} e h d n Leef = no_mark Leef e (no_leef c h)
+unmarked {c = c} e h d n Repeated = no_mark Repeated e (no_repeated c h)
+unmarked {c = c} e h d n Json = no_mark Json e (no_json c h)
+unmarked {c = c} e h d n Idrac = no_mark Idrac e (no_idrac c h)
+unmarked {c = c} e h d n Level = no_mark Level e (no_level c h)
+unmarked {c = c} e h d n Bracket = no_mark Bracket e (no_bracket c h)
 
 -- ---- no message begins a text, with a host before it or without
 

@@ -8,7 +8,7 @@ use Rattle.syslog_named_forms.specs.Header.{header_form}
 use Rattle.syslog_named_forms.specs.Pairs.{pairs_form}
 use Rattle.syslog_named_forms.specs.Programs as programs
 use Rattle.syslog_sent.specs.Sent.{Form, SentValue, loose}
-use Rattle.syslog_named_forms.specs.Untagged.{mark_class, marked, marked_of}
+use Rattle.syslog_named_forms.specs.Untagged.{dialect_of, mark_class, marked, marked_of, marks}
 use Rattle.syslog_sent.specs.declared.dialect.Dialect.{Dialect}
 use Rattle.syslog_sent.specs.declared.dialect.Dialect.TheVariants as dialect
 use Rattle.syslog_sent.specs.declared.sent.SentDate.{SentDate}
@@ -45,17 +45,16 @@ abbrev pub tail_forms : List Tail → List Form
 tail_forms [] = []
 tail_forms (T ∷ Ts) = dated_form T.dialect T.after T.names ∷ tail_forms Ts
 
-abbrev pub marked_tail : Dialect → Mark → Tail
-marked_tail dialect m = record { dialect = dialect; after = marked m; names = marked_of }
-
 -- messages without a program
+abbrev pub marked_tail : Mark → Tail
+marked_tail m = record { dialect = dialect_of m; after = marked m; names = marked_of }
+
+abbrev pub marked_tails : List Mark → List Tail
+marked_tails [] = []
+marked_tails (m ∷ ms) = marked_tail m ∷ marked_tails ms
+
 abbrev pub message_tails : List Tail
-message_tails =
-    marked_tail dialect.Repeated mark.Repeated ∷ marked_tail dialect.Cef mark.Cef ∷ marked_tail dialect.Leef mark.Leef
-    ∷ marked_tail dialect.PaloAlto mark.PaloAlto ∷ marked_tail dialect.KeyValue mark.Pair ∷ marked_tail dialect.Json
-    mark.Json
-    ∷ marked_tail dialect.Idrac mark.Idrac ∷ marked_tail dialect.Log4j mark.Level
-    ∷ marked_tail dialect.MikroTik mark.Topics ∷ marked_tail dialect.Bracketed mark.Bracket ∷ []
+message_tails = marked_tails marks
 
 -- lines of programs
 abbrev pub forwarded_tail : Tail
@@ -75,8 +74,16 @@ hostless_tail = record { dialect = dialect.NoHost; after = Row programs.hostless
 abbrev pub serial_tail : Tail
 serial_tail = record { dialect = dialect.WatchGuard; after = Row programs.serial_row; names = programs.serial_of }
 
+abbrev pub access_tail : Tail
+access_tail = record { dialect = dialect.UniFi; after = Row programs.access_row; names = programs.access_of }
+
+abbrev pub untagged_tail : Tail
+untagged_tail =
+    record { dialect = dialect.Untagged; after = Row programs.untagged_row; names = programs.untagged_of }
+
 abbrev pub program_tails : List Tail
-program_tails = forwarded_tail ∷ severity_tail ∷ worded_tail ∷ hostless_tail ∷ serial_tail ∷ []
+program_tails =
+    forwarded_tail ∷ severity_tail ∷ worded_tail ∷ access_tail ∷ hostless_tail ∷ serial_tail ∷ untagged_tail ∷ []
 
 -- ---- a message without a date
 

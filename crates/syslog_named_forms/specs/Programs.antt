@@ -1,6 +1,7 @@
--- What a program's line says, in the forms that are recognised by what is between the date and the program's name. 32
--- is a space, 40 `(`, 41 `)`, 46 `.`.
-use Rattle.std.specs.Prelude.{◌⊎◌, List, [], ◌∷◌, Option, Some, None, codes}
+-- What a program's line says, in the forms that are recognised by what is between the date and the program's name, and
+-- what a message says that begins with a number. 32 is a space, 40 `(`, 41 `)`, 46 `.`, 118 `v`.
+use Rattle.std.specs.Prelude.{◌⊎◌, IsTrue, List, [], ◌∷◌, Option, Some, None, codes}
+use Rattle.std.specs.Char.{is_not_whitespace}
 use Rattle.syslog_text.specs.Pieces.Class.{Text, Class, Values, Row, run, some_run, exactly, rest, mapped, texted}
 use Rattle.syslog_text.specs.Pieces.Class.{spaced}
 use Rattle.syslog_text.specs.Pieces.Lists.{many}
@@ -9,10 +10,11 @@ use Rattle.syslog_text.specs.Text.{colon, host, is_blank}
 use Rattle.syslog_text.specs.Text.{is_tag_char}
 use Rattle.syslog_sent.specs.Date.{iso_date}
 use Rattle.syslog_sent.specs.Named.{◌otherwise◌, NamedTexts, BeginsWith, hosted, is_letter, process_id, program}
-use Rattle.syslog_sent.specs.Named.{tagged}
+use Rattle.syslog_sent.specs.Named.{after_row, beginning, is_number, tagged, untagged}
 use Rattle.syslog_sent.specs.Runs.{is_plain_char, is_word_char}
 use Rattle.std.proofs.Common.{inl, inr}
 use Rattle.syslog_sent.specs.Selector.{severity, selector_row}
+use Rattle.syslog_named_forms.specs.Untagged.{topic_row}
 
 -- ---- no host: `filterlog[52211]: text`
 
@@ -54,6 +56,22 @@ serial_of (h, (_, (_, (_, (_, (_, (_, (_, (p, (_, (m, _))))))))))) = tagged h p 
 abbrev pub after_serial : Class
 after_serial = mapped (Row serial_row) NamedTexts serial_of
 
+-- ---- model, address and version before the program: `U7PG2,788a2056a1b2,v4.0.80.10875: hostapd: text`
+
+-- UniFi access points (Ubiquiti, "Remote syslog")
+abbrev pub point_row : List Class
+point_row = Row topic_row ∷ Row topic_row ∷ exactly (118 ∷ []) ∷ some_run is_tag_char ∷ []
+
+abbrev pub access_row : List Class
+access_row =
+    texted (Row point_row) ∷ exactly colon ∷ some_run is_blank ∷ program ∷ run is_blank ∷ rest ∷ []
+
+abbrev pub access_of : Values access_row → NamedTexts
+access_of (h, (_, (_, (p, (_, (m, _)))))) = tagged (Some h) p m
+
+abbrev pub access_point : Class
+access_point = mapped (Row access_row) NamedTexts access_of
+
 -- ---- a name of several words: `nas1 Plex Media Server[811]: text`
 
 -- words with one space between two
@@ -71,6 +89,21 @@ worded_of (h, (_, (name, (id, (_, (_, (m, _))))))) = tagged h (record { name = n
 
 abbrev pub worded : Class
 worded = mapped (Row worded_row) NamedTexts worded_of
+
+-- ---- a message that begins with a number: `h 06:33:04.123 INFO text`
+
+abbrev pub number_word : Class
+number_word = such_that (texted (some_run is_not_whitespace)) (λ t. IsTrue (is_number t))
+
+-- it names no program
+abbrev pub untagged_row : List Class
+untagged_row = after_row (beginning number_word)
+
+abbrev pub untagged_of : Values untagged_row → NamedTexts
+untagged_of (h, (_, (m, _))) = untagged h m
+
+abbrev pub untagged_message : Class
+untagged_message = mapped (Row untagged_row) NamedTexts untagged_of
 
 -- ---- forwarded: `Message forwarded from aix01: sshd[123]: text`
 

@@ -1,6 +1,6 @@
 -- Messages that have no program's name before them: they are recognised by what they begin with.
 --
--- 32 is a space, 44 `,`, 46 `.`, 47 `/`, 58 `:`, 61 `=`, 91 `[`, 123 `{`, 124 `|`.
+-- 32 is a space, 44 `,`, 45 `-`, 46 `.`, 47 `/`, 58 `:`, 61 `=`, 84 `T`, 91 `[`, 123 `{`, 124 `|`.
 use Rattle.std.proofs.Common.{inl, inr}
 use Rattle.std.specs.Prelude.{◌⊎◌, ◌||◌, ◌&&◌, ℕ, nat_eq, nat_le, Option, Bool, IsTrue, List, [], ◌∷◌, None, codes}
 use Rattle.std.specs.Char.{is_ascii_digit, is_not_whitespace}
@@ -17,7 +17,9 @@ use Rattle.syslog_named_forms.specs.declared.untagged.Mark.{Mark}
 use Rattle.syslog_named_forms.specs.declared.untagged.Mark.TheVariants.{Cef, Leef, Repeated, PaloAlto, Pair, Json}
 use Rattle.syslog_named_forms.specs.declared.untagged.Mark.TheVariants.{Idrac}
 use Rattle.syslog_named_forms.specs.declared.untagged.Mark.TheVariants.{Level}
-use Rattle.syslog_named_forms.specs.declared.untagged.Mark.TheVariants.{Bracket, Topics}
+use Rattle.syslog_named_forms.specs.declared.untagged.Mark.TheVariants.{Bracket, Dated, Topics}
+use Rattle.syslog_sent.specs.declared.dialect.Dialect.{Dialect}
+use Rattle.syslog_sent.specs.declared.dialect.Dialect.TheVariants as dialect
 
 abbrev pub some_digits : Class
 some_digits = some_run is_ascii_digit
@@ -54,6 +56,23 @@ abbrev pub palo_alto_row : List Class
 palo_alto_row =
     some_digits ∷ exactly (44 ∷ []) ∷ year ∷ after 47 (pair 100) ∷ after 47 (pair 100) ∷ exactly (32 ∷ []) ∷ pair 100
     ∷ after 58 (pair 100) ∷ after 58 (pair 100) ∷ exactly (44 ∷ []) ∷ []
+
+-- `2026-03-02`, `2026/03/02`
+abbrev pub dashed_row : List Class
+dashed_row = year ∷ after 45 (pair 100) ∷ after 45 (pair 100) ∷ []
+
+abbrev pub slashed_row : List Class
+slashed_row = year ∷ after 47 (pair 100) ∷ after 47 (pair 100) ∷ []
+
+abbrev pub day : Class
+day = Row dashed_row otherwise Row slashed_row
+
+abbrev pub day_end : Class
+day_end = exactly (84 ∷ []) otherwise exactly (32 ∷ [])
+
+-- `2026-03-02 06:33`, `2026/03/02T06:33`
+abbrev pub clock_row : List Class
+clock_row = day ∷ day_end ∷ pair 100 ∷ after 58 (pair 100) ∷ []
 
 -- `key=`
 abbrev pub pair_row : List Class
@@ -98,6 +117,25 @@ mark_class Idrac = exactly (codes "Severity: ")
 mark_class Level = such_that (texted (some_run is_not_whitespace)) (λ t. IsTrue (is_level t))
 mark_class Topics = Row topics_row
 mark_class Bracket = unless (Row number_row) (exactly (91 ∷ []))
+mark_class Dated = Row clock_row
+
+-- the marks, in the order in which they are tried
+abbrev pub marks : List Mark
+marks = Repeated ∷ Cef ∷ Leef ∷ PaloAlto ∷ Pair ∷ Json ∷ Idrac ∷ Level ∷ Topics ∷ Bracket ∷ Dated ∷ []
+
+-- the dialect of the messages that the mark begins
+abbrev pub dialect_of : Mark → Dialect
+dialect_of Cef = dialect.Cef
+dialect_of Leef = dialect.Leef
+dialect_of Repeated = dialect.Repeated
+dialect_of PaloAlto = dialect.PaloAlto
+dialect_of Pair = dialect.KeyValue
+dialect_of Json = dialect.Json
+dialect_of Idrac = dialect.Idrac
+dialect_of Level = dialect.Log4j
+dialect_of Topics = dialect.MikroTik
+dialect_of Bracket = dialect.Bracketed
+dialect_of Dated = dialect.DatedMessage
 
 -- the character may begin such a message
 abbrev pub begins : Mark → ℕ → Bool
@@ -111,8 +149,9 @@ begins Idrac c = nat_eq c 83
 begins Level c = nat_le 68 c && nat_le c 87
 begins Topics c = is_plain_char c
 begins Bracket c = nat_eq c 91
+begins Dated c = is_ascii_digit c
 
--- the character may begin such a message, unless a key, a number or a topic does
+-- the character may begin such a message, unless a key, a number, a date or a topic does
 abbrev pub begins_mark : ℕ → Bool
 begins_mark c = (nat_le 67 c && nat_le c 87)
     || (nat_eq c 97 || (nat_eq c 108 || (nat_eq c 109 || (nat_eq c 45 || (nat_eq c 123 || nat_eq c 91)))))

@@ -1,5 +1,5 @@
 //! The forms that are recognised by what follows the date, in the order in which they are tried.
-ghost use Rattle.std.specs.Prelude.{◌≡◌, None, chars};
+ghost use Rattle.std.specs.Prelude.{◌≡◌, ◌++◌, None, chars};
 ghost use Rattle.syslog_text.specs.Pieces.Class.{Row};
 ghost use Rattle.syslog_text.specs.Pieces.View.{Reads, seen};
 ghost use Rattle.syslog_sent.specs.Forms.{Finds};
@@ -12,8 +12,10 @@ ghost use Rattle.syslog_sent.specs.Views.{named_value};
 
 use crate::header::read_header;
 use crate::pairs::read_pairs;
-use crate::programs::{after_serial, forwarded, hostless, severity_first, worded};
-use crate::untagged::{Mark, mark_end, may_be_message, message, past_host};
+use crate::programs::{
+    after_serial, forwarded, hostless, of_access_point, severity_first, untagged_message, worded,
+};
+use crate::untagged::{MARKS, Mark, mark_end, may_be_message, message, past_host};
 use syslog_sent::dialect::Dialect;
 use syslog_sent::led::Led;
 use syslog_sent::named::Named;
@@ -92,55 +94,38 @@ fn of_program<'a>(
     if let Some(named) = worded(after_host) {
         return Some((Dialect::SpacedName, sent(date, named)));
     }
+    if let Some(named) = of_access_point(rest) {
+        return Some((Dialect::UniFi, sent(date, named)));
+    }
     if let Some(named) = hostless(rest) {
         return Some((Dialect::NoHost, sent(date, named)));
     }
     if let Some(named) = after_serial(after_host) {
         return Some((Dialect::WatchGuard, sent(date, named)));
     }
+    if let Some(named) = untagged_message(after_host) {
+        return Some((Dialect::Untagged, sent(date, named)));
+    }
     undated(text)
 }
 
-// Reads a message without a program, after its date. `after_host` is what `past_host` returned for what follows the
-// date.
-fn of_mark<'a>(
+// Reads what follows a date: a message that one of these marks begins, or a program's line. `after_host` is what
+// `past_host` returned for it.
+fn of_marks<'a>(
+    marks: &[Mark],
     date: SentDate,
     rest: &'a str,
     after_host: Option<(Option<&'a str>, &'a str)>,
     text: &'a str,
 ) -> Option<(Dialect, Sent<'a>)>
     ensures { Reads (Row host_row) (λ h. (seen h, (tt, tt))) (chars rest.entry.now) after_host.entry
-        → FindsAfter spec.all_named date (chars rest.entry.now) (chars text.entry.now) result }
+        → FindsAfter (spec.tail_forms (spec.marked_tails marks.now) ++ spec.program_forms) date
+        (chars rest.entry.now) (chars text.entry.now) result }
 {
-    if let Some(named) = message(rest, after_host, Mark::Repeated) {
-        return Some((Dialect::Repeated, sent(date, named)));
-    }
-    if let Some(named) = message(rest, after_host, Mark::Cef) {
-        return Some((Dialect::Cef, sent(date, named)));
-    }
-    if let Some(named) = message(rest, after_host, Mark::Leef) {
-        return Some((Dialect::Leef, sent(date, named)));
-    }
-    if let Some(named) = message(rest, after_host, Mark::PaloAlto) {
-        return Some((Dialect::PaloAlto, sent(date, named)));
-    }
-    if let Some(named) = message(rest, after_host, Mark::Pair) {
-        return Some((Dialect::KeyValue, sent(date, named)));
-    }
-    if let Some(named) = message(rest, after_host, Mark::Json) {
-        return Some((Dialect::Json, sent(date, named)));
-    }
-    if let Some(named) = message(rest, after_host, Mark::Idrac) {
-        return Some((Dialect::Idrac, sent(date, named)));
-    }
-    if let Some(named) = message(rest, after_host, Mark::Level) {
-        return Some((Dialect::Log4j, sent(date, named)));
-    }
-    if let Some(named) = message(rest, after_host, Mark::Topics) {
-        return Some((Dialect::MikroTik, sent(date, named)));
-    }
-    if let Some(named) = message(rest, after_host, Mark::Bracket) {
-        return Some((Dialect::Bracketed, sent(date, named)));
+    for mark in marks {
+        if let Some(named) = message(rest, after_host, *mark) {
+            return Some((mark.dialect(), sent(date, named)));
+        }
     }
     of_program(date, rest, after_host, text)
 }
@@ -152,7 +137,7 @@ fn of_message<'a>(date: SentDate, rest: &'a str, text: &'a str) -> Option<(Diale
 {
     let after_host = past_host(rest);
     if may_be_message(rest, after_host) {
-        of_mark(date, rest, after_host, text)
+        of_marks(&MARKS, date, rest, after_host, text)
     } else {
         of_program(date, rest, after_host, text)
     }

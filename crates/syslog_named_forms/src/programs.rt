@@ -1,4 +1,5 @@
-//! Lines of programs that are recognised by what is between the date and the program's name.
+//! Lines of programs that are recognised by what is between the date and the program's name. A message that begins with
+//! a number after the host has no program.
 ghost use Rattle.std.specs.Prelude.{◌∷◌, [], IfSome, IsUtf8, List, chars, codes};
 ghost use Rattle.syslog_text.specs.Pieces.Class.{Front, Row, Text, exactly, some_run, spaced, texted};
 ghost use Rattle.syslog_text.specs.Pieces.Lists.{many};
@@ -9,9 +10,11 @@ ghost use Rattle.syslog_named_forms.specs.Programs as spec;
 ghost use Rattle.syslog_named_forms.specs.Untagged.{host_row};
 ghost use Rattle.syslog_sent.specs.Views.{Names, named_value};
 
-use crate::untagged::topic_word;
+use crate::untagged::{topic, topic_word};
 use syslog_sent::date::iso_date;
-use syslog_sent::named::{Named, Program, is_letter, past, process_id, read_program, tagged};
+use syslog_sent::named::{
+    Named, Program, is_letter, is_number, past, process_id, read_program, tagged, untagged,
+};
 use syslog_sent::runs::{Run, split};
 use syslog_sent::selector::{selector, severity};
 use syslog_text::text::verbatim::before;
@@ -135,6 +138,71 @@ pub(crate) fn worded<'a>(after_host: Option<(Option<&'a str>, &'a str)>) -> Opti
         process: Some(id),
     };
     Some(tagged(hostname, program, blanks(rest)))
+}
+
+fn letter_v(text: &str) -> Option<&str>
+    ensures { Recognises (exactly (118 ∷ [])) (chars text.now) result }
+{
+    literal(text, 'v')
+}
+
+fn version(text: &str) -> Option<&str>
+    ensures { Recognises (some_run is_tag_char) (chars text.now) result }
+{
+    let (_, rest) = origin(text)?;
+    Some(rest)
+}
+
+// Returns the text after the model, the address and the version of an access point.
+fn point_end(text: &str) -> Option<&str>
+    ensures { Recognises (Row spec.point_row) (chars text.now) result }
+{
+    topic(text)
+        .and_then(topic)
+        .and_then(letter_v)
+        .and_then(version)
+}
+
+// Returns the three as one name, and the text after it.
+fn point(text: &str) -> Option<(&str, &str)>
+    ensures { Reads (texted (Row spec.point_row)) (λ t. shown t) (chars text.now) result }
+{
+    let rest = point_end(text)?;
+    let name = before(text, rest);
+    Some((name, rest))
+}
+
+/// Reads a line of an access point, whose model, address and version are taken for the host.
+#[inline(always)]
+pub(crate) fn of_access_point(text: &str) -> Option<Named<'_>>
+    ensures { Names spec.access_point named_value (chars text.now) result }
+{
+    let (host, after_host) = point(text)?;
+    let after_colon = literal(after_host, ':')?;
+    let before_program = some_blanks(after_colon)?;
+    let (program, rest) = read_program(before_program)?;
+    Some(tagged(Some(host), program, blanks(rest)))
+}
+
+// Returns the text after a word that is a number.
+fn number_word(text: &str) -> Option<&str>
+    ensures { Recognises spec.number_word (chars text.now) result }
+{
+    let (word, rest) = split_run(text, CharClass::Visible);
+    is_number(word).then_some(rest)
+}
+
+/// Reads a message that begins with a number. `after_host` is what `past_host` returned for the line.
+#[inline(always)]
+pub(crate) fn untagged_message<'a>(
+    after_host: Option<(Option<&'a str>, &'a str)>,
+) -> Option<Named<'a>>
+    ensures { (text : Text) → Reads (Row host_row) (λ h. (seen h, (tt, tt))) text after_host.entry
+        → Names spec.untagged_message named_value text result }
+{
+    let (hostname, msg) = after_host?;
+    let _ = number_word(msg)?;
+    Some(untagged(hostname, msg))
 }
 
 // Returns a host before a colon, and the text after these.

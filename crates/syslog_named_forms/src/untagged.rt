@@ -11,6 +11,7 @@ ghost use Rattle.syslog_named_forms.specs.Untagged as spec;
 ghost use Rattle.syslog_sent.specs.Views.{Names, named_value};
 
 use syslog_pieces::timestamp::pairs::{pair, pair_after, year};
+use syslog_sent::dialect::Dialect;
 use syslog_sent::named::{Named, is_word, past, untagged};
 use syslog_sent::runs::{Run, split};
 use syslog_text::text::{CharClass, blanks, first, host, literal, some_blanks, split_run};
@@ -38,7 +39,24 @@ pub enum Mark {
     Topics,
     /// `[`.
     Bracket,
+    /// `2026-03-02 06:33`.
+    Dated,
 }
+
+/// All marks, in the order in which they are tried.
+pub(crate) const MARKS: [Mark; 11] = [
+    Mark::Repeated,
+    Mark::Cef,
+    Mark::Leef,
+    Mark::PaloAlto,
+    Mark::Pair,
+    Mark::Json,
+    Mark::Idrac,
+    Mark::Level,
+    Mark::Topics,
+    Mark::Bracket,
+    Mark::Dated,
+];
 
 fn digits(text: &str) -> Option<&str>
     ensures { Recognises spec.some_digits (chars text.now) result }
@@ -229,6 +247,61 @@ fn palo_alto(text: &str) -> Option<&str>
         .and_then(comma)
 }
 
+fn after_dash(text: &str) -> Option<&str>
+    ensures { Recognises (after 45 (pair_class 100)) (chars text.now) result }
+{
+    let (_, rest) = pair_after(text, '-', 100)?;
+    Some(rest)
+}
+
+fn dashed(text: &str) -> Option<&str>
+    ensures { Recognises (Row spec.dashed_row) (chars text.now) result }
+{
+    four_digits(text).and_then(after_dash).and_then(after_dash)
+}
+
+fn slashed(text: &str) -> Option<&str>
+    ensures { Recognises (Row spec.slashed_row) (chars text.now) result }
+{
+    four_digits(text)
+        .and_then(after_slash)
+        .and_then(after_slash)
+}
+
+// Returns the text after a year, a month and a day with dashes or slashes between them.
+fn day(text: &str) -> Option<&str>
+    ensures { Recognises spec.day (chars text.now) result }
+{
+    if let Some(rest) = dashed(text) {
+        return Some(rest);
+    }
+    slashed(text)
+}
+
+fn letter_t(text: &str) -> Option<&str>
+    ensures { Recognises (exactly (84 ∷ [])) (chars text.now) result }
+{
+    literal(text, 'T')
+}
+
+fn day_end(text: &str) -> Option<&str>
+    ensures { Recognises spec.day_end (chars text.now) result }
+{
+    if let Some(rest) = letter_t(text) {
+        return Some(rest);
+    }
+    space(text)
+}
+
+fn dated(text: &str) -> Option<&str>
+    ensures { Recognises (Row spec.clock_row) (chars text.now) result }
+{
+    day(text)
+        .and_then(day_end)
+        .and_then(two_digits)
+        .and_then(after_colon)
+}
+
 fn key(text: &str) -> Option<&str>
     ensures { Recognises (some_run is_word_char) (chars text.now) result }
 {
@@ -284,7 +357,8 @@ pub(crate) fn topic_word(text: &str) -> Option<&str>
     if run.is_empty() { None } else { Some(rest) }
 }
 
-fn topic(text: &str) -> Option<&str>
+/// Returns the text after such a word and a comma.
+pub(crate) fn topic(text: &str) -> Option<&str>
     ensures { Recognises (Row spec.topic_row) (chars text.now) result }
 {
     topic_word(text).and_then(comma)
@@ -358,6 +432,25 @@ fn open_bracket(text: &str) -> Option<&str>
 }
 
 impl Mark {
+    /// Returns the dialect of messages that the mark begins.
+    pub(crate) fn dialect(self) -> Dialect
+        ensures { result ≡ spec.dialect_of self }
+    {
+        match self {
+            Mark::Cef => Dialect::Cef,
+            Mark::Leef => Dialect::Leef,
+            Mark::Repeated => Dialect::Repeated,
+            Mark::PaloAlto => Dialect::PaloAlto,
+            Mark::Pair => Dialect::KeyValue,
+            Mark::Json => Dialect::Json,
+            Mark::Idrac => Dialect::Idrac,
+            Mark::Level => Dialect::Log4j,
+            Mark::Topics => Dialect::MikroTik,
+            Mark::Bracket => Dialect::Bracketed,
+            Mark::Dated => Dialect::DatedMessage,
+        }
+    }
+
     // Whether the mark may begin with this character.
     #[inline(always)]
     fn begins(self, c: char) -> bool
@@ -367,7 +460,7 @@ impl Mark {
             Mark::Cef => c == 'C',
             Mark::Leef => c == 'L',
             Mark::Repeated => c == 'l' || (c == 'm' || (c == '-' || c == 'a')),
-            Mark::PaloAlto => c.is_ascii_digit(),
+            Mark::PaloAlto | Mark::Dated => c.is_ascii_digit(),
             Mark::Pair => Run::Word.has(c),
             Mark::Json => c == '{',
             Mark::Idrac => c == 'S',
@@ -406,10 +499,11 @@ fn read_mark(text: &str, mark: Mark) -> Option<&str>
         Mark::Level => level(text),
         Mark::Topics => topics(text),
         Mark::Bracket => open_bracket(text),
+        Mark::Dated => dated(text),
     }
 }
 
-// Whether a mark that is no key, no number and no topic may begin with this character.
+// Whether a mark that is no key, no number, no date and no topic may begin with this character.
 #[inline(always)]
 fn begins_mark(c: char) -> bool
     ensures { result ≡ spec.begins_mark c }
@@ -438,6 +532,16 @@ fn may_be_list(text: &str) -> bool
     }
 }
 
+// Whether a date begins the text.
+fn begins_with_day(text: &str) -> bool
+    ensures { (result ≡ false) → NoFront (Row spec.clock_row) (chars text.now) }
+{
+    match day(text) {
+        Some(_) => true,
+        None => false,
+    }
+}
+
 // Whether a mark may begin the text.
 fn may_be_marked(text: &str) -> bool
     ensures { (result ≡ false) → spec.IsUnmarked (chars text.now) }
@@ -448,7 +552,7 @@ fn may_be_marked(text: &str) -> bool
     if begins_mark(c) {
         return true;
     }
-    may_be_list(text)
+    begins_with_day(text) || may_be_list(text)
 }
 
 // Whether a mark may begin one of the two. Most messages follow a host, so the text after it is looked at first.

@@ -9,7 +9,7 @@ use Rattle.syslog_sent.specs.declared.dialect.Dialect.TheVariants.{Repeated, Cef
 use Rattle.syslog_sent.specs.declared.dialect.Dialect.TheVariants.{Idrac, Log4j, Forwarded, SeverityFirst}
 use Rattle.syslog_sent.specs.declared.dialect.Dialect.TheVariants.{SpacedName, NoHost, Heroku}
 use Rattle.syslog_sent.specs.declared.dialect.Dialect.TheVariants.{Bracketed, MikroTik, SophosUtm, UnixSeconds}
-use Rattle.syslog_sent.specs.declared.dialect.Dialect.TheVariants.{Esxi, WatchGuard}
+use Rattle.syslog_sent.specs.declared.dialect.Dialect.TheVariants.{Esxi, WatchGuard, DatedMessage, UniFi, Untagged}
 
 -- the name of a dialect, in ASCII
 abbrev pub dialect_name : Dialect → List ℕ
@@ -36,9 +36,12 @@ dialect_name Idrac = codes "idrac"
 dialect_name Log4j = codes "log4j"
 dialect_name MikroTik = codes "mikrotik"
 dialect_name Bracketed = codes "bracketed"
+dialect_name DatedMessage = codes "dated-message"
 dialect_name UnixSeconds = codes "unix-seconds"
 dialect_name SophosUtm = codes "sophos-utm"
 dialect_name WatchGuard = codes "watchguard"
+dialect_name UniFi = codes "unifi"
+dialect_name Untagged = codes "untagged"
 dialect_name Forwarded = codes "forwarded"
 dialect_name SeverityFirst = codes "severity-first"
 dialect_name SpacedName = codes "spaced-name"
@@ -74,9 +77,12 @@ dialect_number Idrac = 46
 dialect_number Log4j = 47
 dialect_number MikroTik = 53
 dialect_number Bracketed = 54
+dialect_number DatedMessage = 56
 dialect_number UnixSeconds = 32
 dialect_number SophosUtm = 31
 dialect_number WatchGuard = 55
+dialect_number UniFi = 57
+dialect_number Untagged = 58
 dialect_number Forwarded = 48
 dialect_number SeverityFirst = 49
 dialect_number SpacedName = 50

@@ -1,7 +1,7 @@
 -- What follows a date: a host, a program's name and the message. 37 is `%`, 40 `(`, 47 `/`, 91 `[`, 93 `]`, 95 `_`.
 use Rattle.std.proofs.Common.{inl, inr}
-use Rattle.std.specs.Prelude.{◌≡◌, ◌⊎◌, ℕ, Bool, true, nat_eq, ◌||◌, List, [], ◌∷◌, ◌++◌, Option, Some, None}
-use Rattle.std.specs.Char.{is_ascii_alphabetic}
+use Rattle.std.specs.Prelude.{◌≡◌, ◌⊎◌, ◌&&◌, ℕ, Bool, false, nat_lt, not, true, nat_eq, ◌||◌, List, [], ◌∷◌, ◌++◌, Option, Some, None}
+use Rattle.std.specs.Char.{is_ascii_alphabetic, is_ascii_digit}
 use Rattle.syslog_text.specs.Pieces.Class.{Text, Class, Values, Front, NoFront, Row, some_run, exactly, optional}
 use Rattle.syslog_text.specs.Pieces.Class.{mapped, texted}
 use Rattle.syslog_text.specs.Pieces.Rules.{such_that}
@@ -39,6 +39,16 @@ BeginsWith test (c ∷ more) = test c ≡ true
 
 abbrev pub is_letter : ℕ → Bool
 is_letter c = is_ascii_alphabetic c
+
+-- characters of ASCII that are no letters
+abbrev pub has_no_letter : Text → Bool
+has_no_letter [] = true
+has_no_letter (c ∷ cs) = (nat_lt c 128 && not (is_letter c)) && has_no_letter cs
+
+-- a digit, and no letter after it
+abbrev pub is_number : Text → Bool
+is_number [] = false
+is_number (c ∷ cs) = is_ascii_digit c && has_no_letter cs
 
 -- a letter, `%`, `(`, `/` or `_`: with these the names of programs begin
 abbrev pub begins_name : ℕ → Bool

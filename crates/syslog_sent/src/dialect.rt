@@ -56,14 +56,20 @@ pub enum Dialect {
     MikroTik,
     /// A message that begins with a bracket.
     Bracketed,
+    /// A message that begins with a date of its own, as programs of Java and VMware write.
+    DatedMessage,
     /// A line that AIX forwarded, as it writes `Message forwarded from`.
     Forwarded,
     /// The severity before the program's name, as F5's BIG-IP writes.
     SeverityFirst,
     /// The serial number and the time before the program's name, as WatchGuard's Fireboxes write.
     WatchGuard,
+    /// Model, address and version before the program's name, as UniFi access points write.
+    UniFi,
     /// A program's name of several words.
     SpacedName,
+    /// A message that begins with a number after the host, and so with no program's name.
+    Untagged,
     /// A program's line without a host.
     NoHost,
     /// A header of RFC 5424 without structured data, as Heroku writes.
@@ -99,9 +105,12 @@ impl Dialect {
             Dialect::Log4j => "log4j",
             Dialect::MikroTik => "mikrotik",
             Dialect::Bracketed => "bracketed",
+            Dialect::DatedMessage => "dated-message",
             Dialect::UnixSeconds => "unix-seconds",
             Dialect::SophosUtm => "sophos-utm",
             Dialect::WatchGuard => "watchguard",
+            Dialect::UniFi => "unifi",
+            Dialect::Untagged => "untagged",
             Dialect::Forwarded => "forwarded",
             Dialect::SeverityFirst => "severity-first",
             Dialect::SpacedName => "spaced-name",
@@ -138,9 +147,12 @@ impl Dialect {
             Dialect::Log4j => 47,
             Dialect::MikroTik => 53,
             Dialect::Bracketed => 54,
+            Dialect::DatedMessage => 56,
             Dialect::UnixSeconds => 32,
             Dialect::SophosUtm => 31,
             Dialect::WatchGuard => 55,
+            Dialect::UniFi => 57,
+            Dialect::Untagged => 58,
             Dialect::Forwarded => 48,
             Dialect::SeverityFirst => 49,
             Dialect::SpacedName => 50,
@@ -177,10 +189,13 @@ impl Dialect {
             47 => Some(Dialect::Log4j),
             53 => Some(Dialect::MikroTik),
             54 => Some(Dialect::Bracketed),
+            56 => Some(Dialect::DatedMessage),
             31 => Some(Dialect::SophosUtm),
             32 => Some(Dialect::UnixSeconds),
             33 => Some(Dialect::Esxi),
             55 => Some(Dialect::WatchGuard),
+            57 => Some(Dialect::UniFi),
+            58 => Some(Dialect::Untagged),
             48 => Some(Dialect::Forwarded),
             49 => Some(Dialect::SeverityFirst),
             50 => Some(Dialect::SpacedName),

@@ -99,6 +99,30 @@ fn begins_name(c: char) -> bool
     c.is_ascii_alphabetic() || (c == '%' || (c == '(' || (c == '/' || c == '_')))
 }
 
+// Whether the text has only characters of ASCII that are no letters.
+fn has_no_letter(text: &str) -> bool
+    ensures { result ≡ spec.has_no_letter (chars text.now) }
+{
+    let mut rest = text;
+    'characters: while let Some((c, more)) = first(rest) {
+        if !(c < '\u{80}' && !c.is_ascii_alphabetic()) {
+            return false;
+        }
+        rest = more;
+    }
+    true
+}
+
+/// Returns whether a digit begins the text, and only characters of ASCII that are no letters follow it.
+pub fn is_number(text: &str) -> bool
+    ensures { result ≡ spec.is_number (chars text.now) }
+{
+    match first(text) {
+        Some((c, rest)) => c.is_ascii_digit() && has_no_letter(rest),
+        None => false,
+    }
+}
+
 /// Returns whether a letter begins the text.
 pub fn is_letter(text: &str) -> bool
     ensures { MatchBool result (spec.BeginsWith spec.is_letter (chars text.now))

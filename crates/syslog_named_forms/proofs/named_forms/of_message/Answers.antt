@@ -5,7 +5,7 @@ use Rattle.syslog_named_forms.specs.NamedForms.{message_tails, program_forms, ta
 use Rattle.syslog_named_forms.proofs.named_forms.of_message.Goals as goal
 
 pub returns-then-may_be_message : goal.returns-then-may_be_message
-returns-then-may_be_message c front = c.of_mark.ensures c.past_host-after_host.ensures front
+returns-then-may_be_message c front = c.of_marks.ensures c.past_host-after_host.ensures front
 
 pub returns-else-may_be_message : goal.returns-else-may_be_message
 returns-else-may_be_message c front = found_after (tail_forms message_tails) program_forms _ c.of_program.result

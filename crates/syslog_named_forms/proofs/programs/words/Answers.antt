@@ -1,11 +1,9 @@
-use Rattle.std.proofs.Common.{◌≡◌, ◌++◌, sym, ◌∙◌, subst}
-use Rattle.std.proofs.lemmas.List.{append_cancel_right}
-use Rattle.syslog_text.proofs.PieceLemmas.Class.{no_texted, row_det, texted_det, texted_front}
+use Rattle.syslog_text.proofs.PieceLemmas.Class.{no_texted, row_det, texted_det}
 use Rattle.syslog_text.proofs.PieceLemmas.Rules.{no_such_front, no_such_meaning, such_front}
-use Rattle.syslog_text.specs.Pieces.Class.{Class, Front, Row, Text, texted}
+use Rattle.syslog_text.specs.Pieces.Class.{Class, Row, Text, texted}
 use Rattle.syslog_sent.specs.Named.{BeginsWith, is_letter}
 use Rattle.syslog_named_forms.specs.Programs.{words_row}
-use Rattle.syslog_named_forms.proofs.ProgramLemmas.{words_row_det}
+use Rattle.syslog_named_forms.proofs.ProgramLemmas.{named, words_row_det}
 use Rattle.syslog_named_forms.proofs.programs.words.Goals as goal
 
 abbrev text : Class
@@ -13,12 +11,6 @@ text = texted (Row words_row)
 
 abbrev Fits : Text → Type 0
 Fits = BeginsWith is_letter
-
--- the name is the piece
-named : {t q name : Text} {v : (Row words_row).Value} → (f : Front (Row words_row) t q v) → t ≡ name ++ q
-    → Front text t q name
-named {t} {q} {name} f e = subst (λ (x : Text). Front text t q x)
-    (append_cancel_right f.piece name q (sym f.whole ∙ e)) (texted_front (Row words_row) f)
 
 pub returns-in_err-rest : goal.returns-in_err-rest
 returns-in_err-rest c =
@@ -29,10 +21,10 @@ before-name-requires c = let (v, f) = c.in_ok-rest.ensures in (f.piece, f.whole)
 
 pub returns-then-is_letter : goal.returns-then-is_letter
 returns-then-is_letter c = let (v, f) = c.in_ok-rest.ensures in
-    such_front text Fits (named f c.before-name.ensures) c.if-is_letter.ensures
+    such_front text Fits (named (Row words_row) f c.before-name.ensures) c.if-is_letter.ensures
 
 pub returns-else-is_letter : goal.returns-else-is_letter
 returns-else-is_letter c = let (v, f) = c.in_ok-rest.ensures in
     no_such_meaning text Fits (texted_det (Row words_row) (row_det words_row words_row_det))
-    (named f c.before-name.ensures)
+    (named (Row words_row) f c.before-name.ensures)
     c.if-is_letter.ensures

@@ -29,3 +29,6 @@ returns-in-Topics c = rw c.in-Topics.is c.topics.ensures
 
 pub returns-in-Bracket : goal.returns-in-Bracket
 returns-in-Bracket c = rw c.in-Bracket.is c.open_bracket.ensures
+
+pub returns-in-Dated : goal.returns-in-Dated
+returns-in-Dated c = rw c.in-Dated.is c.dated.ensures
