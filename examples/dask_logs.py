@@ -18,7 +18,7 @@ import syslog_loose
 from dask.distributed import Client
 
 # The worker that gets the last block of all works alone for that long. With smaller blocks dask itself takes longer.
-BLOCK = "4 MiB"
+BLOCK = "8 MiB"
 
 
 def count(block, year):
