@@ -1,7 +1,7 @@
 -- What a program's line says, in the forms that are recognised by what is between the date and the program's name, and
 -- what a message says that begins with a number. 32 is a space, 40 `(`, 41 `)`, 46 `.`, 118 `v`.
-use Rattle.std.specs.Prelude.{◌⊎◌, IsTrue, List, [], ◌∷◌, Option, Some, None, codes}
-use Rattle.std.specs.Char.{is_not_whitespace}
+use Rattle.std.specs.Prelude.{◌⊎◌, ◌&&◌, Bool, IsTrue, List, [], ◌∷◌, Option, Some, None, codes, false, nat_eq, not}
+use Rattle.std.specs.Char.{is_ascii_digit, is_not_whitespace}
 use Rattle.syslog_text.specs.Pieces.Class.{Text, Class, Values, Row, run, some_run, exactly, rest, mapped, texted}
 use Rattle.syslog_text.specs.Pieces.Class.{spaced}
 use Rattle.syslog_text.specs.Pieces.Lists.{many}
@@ -92,8 +92,18 @@ worded = mapped (Row worded_row) NamedTexts worded_of
 
 -- ---- a message that begins with a number: `h 06:33:04.123 INFO text`
 
+-- digits, and a colon at the end: the counter of a line may be one
+abbrev pub is_counter : Text → Bool
+is_counter [] = false
+is_counter (c ∷ []) = nat_eq c 58
+is_counter (c ∷ d ∷ cs) = is_ascii_digit c && is_counter (d ∷ cs)
+
+-- a number that is no counter
+abbrev pub names_none : Text → Bool
+names_none t = is_number t && not (is_counter t)
+
 abbrev pub number_word : Class
-number_word = such_that (texted (some_run is_not_whitespace)) (λ t. IsTrue (is_number t))
+number_word = such_that (texted (some_run is_not_whitespace)) (λ t. IsTrue (names_none t))
 
 -- it names no program
 abbrev pub untagged_row : List Class

@@ -1,6 +1,6 @@
 //! Lines of programs that are recognised by what is between the date and the program's name. A message that begins with
 //! a number after the host has no program.
-ghost use Rattle.std.specs.Prelude.{◌∷◌, [], IfSome, IsUtf8, List, chars, codes};
+ghost use Rattle.std.specs.Prelude.{◌≡◌, ◌∷◌, [], IfSome, IsUtf8, List, chars, codes};
 ghost use Rattle.syslog_text.specs.Pieces.Class.{Front, Row, Text, exactly, some_run, spaced, texted};
 ghost use Rattle.syslog_text.specs.Pieces.Lists.{many};
 ghost use Rattle.syslog_text.specs.Pieces.View.{Reads, Recognises, seen, shown};
@@ -18,7 +18,7 @@ use syslog_sent::named::{
 use syslog_sent::runs::{Run, split};
 use syslog_sent::selector::{selector, severity};
 use syslog_text::text::verbatim::before;
-use syslog_text::text::{CharClass, blanks, literal, some_blanks, split_run};
+use syslog_text::text::{CharClass, blanks, first, literal, some_blanks, split_run};
 
 /// Reads a line without a host.
 #[inline(always)]
@@ -184,12 +184,36 @@ pub(crate) fn of_access_point(text: &str) -> Option<Named<'_>>
     Some(tagged(Some(host), program, blanks(rest)))
 }
 
-// Returns the text after a word that is a number.
+// Whether the text is digits, and a colon at its end.
+fn is_counter(text: &str) -> bool
+    ensures { result ≡ spec.is_counter (chars text.now) }
+{
+    let mut rest = text;
+    'characters: while let Some((c, more)) = first(rest) {
+        if first(more).is_none() {
+            return c == ':';
+        }
+        if !c.is_ascii_digit() {
+            return false;
+        }
+        rest = more;
+    }
+    false
+}
+
+// Whether the word is a number and no counter, and so no program's name.
+fn names_none(word: &str) -> bool
+    ensures { result ≡ spec.names_none (chars word.now) }
+{
+    is_number(word) && !is_counter(word)
+}
+
+// Returns the text after such a word.
 fn number_word(text: &str) -> Option<&str>
     ensures { Recognises spec.number_word (chars text.now) result }
 {
     let (word, rest) = split_run(text, CharClass::Visible);
-    is_number(word).then_some(rest)
+    names_none(word).then_some(rest)
 }
 
 /// Reads a message that begins with a number. `after_host` is what `past_host` returned for the line.
