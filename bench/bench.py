@@ -71,8 +71,8 @@ NO_STRING_INSTRUCTIONS = ":".join(
 class Filter:
     """A program that reads lines and writes lines."""
 
-    def __init__(self, path, year, by_processor=False):
-        self.words = [os.path.abspath(path), str(year)]
+    def __init__(self, path, year, by_processor=False, more=()):
+        self.words = [os.path.abspath(path), str(year), *more]
         self.environment = {**os.environ, "TZ": "UTC"}
         self.by_processor = by_processor
 
@@ -242,6 +242,11 @@ def hostile(chosen):
     return corpora.HOSTILE_JSON if chosen.json else corpora.HOSTILE
 
 
+def compared(own, peer, *reading):
+    """How many times as much the peer takes, and also without what both take to read lines, if that is given."""
+    return ["%.2f" % ((peer - it) / (own - it)) for it in (0, *reading)]
+
+
 def time_corpora(filters, chosen, folder):
     files, sizes = [], []
     for name, lines in corpora.corpora(chosen.lines):
@@ -250,11 +255,10 @@ def time_corpora(filters, chosen, folder):
             sizes.append((len(lines), corpora.write_lines(files[-1], lines) / 1e6))
     times = least(filters, files, chosen.runs)
     more = ["peer's lines/s", "times the peer's speed"] * (len(filters) > 1)
+    more += ["the same without reading lines"] * (len(filters) > 2)
     table = head("corpus", "lines/s", "MB/s", *more)
     for file, (count, size), (own, *others) in zip(files, sizes, times):
-        more = []
-        for it in others:
-            more += ["{:,.0f}".format(count / it), "%.2f" % (it / own)]
+        more = ["{:,.0f}".format(count / others[0]), *compared(own, *others)] if others else []
         speeds = ["{:,.0f}".format(count / own), "%.0f" % (size / own)]
         row(table, os.path.basename(file), *speeds, *more)
         os.remove(file)
@@ -357,6 +361,7 @@ def time_cores(it, chosen, folder):
 def count_corpora(filters, chosen):
     """The instructions of each filter for one line more."""
     more = ["peer's instructions", "the peer's over ours"] * (len(filters) > 1)
+    more += ["the same without reading lines"] * (len(filters) > 2)
     more += ["lines whose sums differ"] * (len(filters) > 1 and chosen.sums)
     table = head("corpus", "instructions a line", *more)
     for name, lines in corpora.corpora(4000):
@@ -364,9 +369,9 @@ def count_corpora(filters, chosen):
         if chosen.only not in name or len(lines) < 800:
             continue
         own, *others = [it.instructions_a_line(lines, len(lines) // 4) for it in filters]
-        more = [cell for it in others for cell in ("{:,.0f}".format(it), "%.2f" % (it / own))]
+        more = ["{:,.0f}".format(others[0]), *compared(own, *others)] if others else []
         if others and chosen.sums:
-            more.append(len(differences(filters, lines, len(lines))))
+            more.append(len(differences(filters[:2], lines, len(lines))))
         row(table, name, "{:,.0f}".format(own), *more)
     return table
 
@@ -530,6 +535,8 @@ def main():
     if chosen.rust and chosen.peer == "crates.io":
         paths[1] = built_over_the_crate()
     filters = [Filter(path, chosen.year, chosen.processor) for path in paths]
+    if chosen.rust and chosen.peer and not chosen.check:
+        filters.append(Filter(paths[0], chosen.year, chosen.processor, ["--lines-only"]))
     if chosen.check:
         compare = check_objects if chosen.json else check
         sys.exit(1 if compare(filters, chosen) else 0)

@@ -1,4 +1,4 @@
-"""What the senders of lines of samples/ mean, for tests/json."""
+"""What the senders of lines of samples/ mean, for tests/json and tests/support/collectors."""
 from objects import rfc3164, rfc5424
 
 # Lines of samples/ that the port misreads, with what their senders mean: how they begin, how much of that is no
@@ -26,6 +26,9 @@ SENT = {
     "<189>Nov 25 06:31:01 10.0.0.1 1234: Nov 25 06:31:00.123 UTC: %LINEPROTO-5-UPDOWN: ": (82, {
         "dialect": "cisco-ios", **LOCAL7, "timestamp": "2026-11-25T06:31:00.123+00:00", "hostname": "10.0.0.1",
         "appname": "%LINEPROTO-5-UPDOWN"}),
+    "<189>Mar  2 06:33:04 core-sw1.example.net 4211: %LINK-3-UPDOWN: ": (64, {
+        "dialect": "cisco-undated", **LOCAL7, "timestamp": "2026-03-02T06:33:04+00:00",
+        "hostname": "core-sw1.example.net", "appname": "%LINK-3-UPDOWN"}),
     "<189>date=2026-11-25 time=06:31:06 devname=": (5, {
         "dialect": "key-value", **LOCAL7, "timestamp": "2026-11-25T06:31:06+00:00", "hostname": "FG100"}),
 }

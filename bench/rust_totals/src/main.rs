@@ -1,5 +1,6 @@
 //! Reads each line of standard input by the interface of the Rust crate and prints what it read, added up, as the
-//! program of bench/totals/ does: a program for measurement. The argument is the year of dates that show none.
+//! program of bench/totals/ does: a program for measurement. The argument is the year of dates that show none. With
+//! `--lines-only` after it the lines are read from standard input and not parsed, to measure what that alone takes.
 use chrono::Local;
 use std::env;
 use std::io::{self, BufRead, BufReader};
@@ -39,12 +40,15 @@ impl Totals {
 
 fn main() {
     let year = env::args().nth(1).and_then(|it| it.parse().ok()).expect("a year");
+    let parses = env::args().nth(2).is_none();
     let (mut totals, mut lines) = (Totals::default(), 0);
     let (mut reader, mut line) = (BufReader::with_capacity(65_536, io::stdin().lock()), String::new());
     while reader.read_line(&mut line).expect("lines in UTF-8") > 0 {
         let text = line.strip_suffix('\n').unwrap_or(&line);
-        if let Ok(message) = parse_message_with_year_exact_tz::<_, Local>(text, |_| year, None, Variant::Either) {
-            totals.add(&message);
+        if parses {
+            if let Ok(message) = parse_message_with_year_exact_tz::<_, Local>(text, |_| year, None, Variant::Either) {
+                totals.add(&message);
+            }
         }
         lines += 1;
         line.clear();

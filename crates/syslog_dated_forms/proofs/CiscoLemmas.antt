@@ -15,7 +15,7 @@ use Rattle.syslog_pieces.proofs.TimestampLemmas.Rfc3339.{year_det}
 use Rattle.syslog_dated_forms.specs.Cisco.{begins_host, IsMnemonic, origin, mnemonic, counter_row, label_row, label}
 use Rattle.syslog_dated_forms.specs.Cisco.{task_row, mark, start_row, labelled, start, front_year_row, front_year}
 use Rattle.syslog_dated_forms.specs.Cisco.{date_row}
-use Rattle.syslog_dated_forms.specs.Cisco.{place_row, place, message_row, cisco_row, IsAsa, IsNxOs, undated_row}
+use Rattle.syslog_dated_forms.specs.Cisco.{place_row, place, message_row, cisco_row, IsAsa, IsNxOs}
 use Rattle.syslog_dated_forms.specs.Cisco.{IsDated, asa_form, cisco_forms, cisco_sent, ios_form, nx_os_form}
 use Rattle.syslog_sent.specs.Forms.{IsOfNone, IsOnlyOf}
 use Rattle.syslog_sent.specs.Sent.{SentValue}
@@ -50,7 +50,7 @@ counter_row_det = some_run_det is_ascii_digit also colon_det also gap_det also t
 pub label_row_det : AllDeterministic label_row
 label_row_det = origin_det also colon_det also gap_det also tt
 
-label_det : IsDeterministic label
+pub label_det : IsDeterministic label
 label_det = mapped_det (Row label_row) Text _ (row_det label_row label_row_det)
 
 pub task_row_det : AllDeterministic task_row
@@ -97,11 +97,6 @@ asa_row_det = such_det (Row cisco_row) IsAsa (row_det cisco_row cisco_row_det) a
 
 pub nx_os_row_det : AllDeterministic (such_that (Row cisco_row) IsNxOs ∷ [])
 nx_os_row_det = such_det (Row cisco_row) IsNxOs (row_det cisco_row cisco_row_det) also tt
-
-pub undated_row_det : AllDeterministic undated_row
-undated_row_det = blanks_det also optional_det (exactly colon) colon_det also blanks_det
-    also optional_det (Row counter_row) (row_det counter_row counter_row_det) also row_det message_row message_row_det
-    also tt
 
 -- ---- the forms of lines with a date: by whether such a line is there, and of which system it is
 

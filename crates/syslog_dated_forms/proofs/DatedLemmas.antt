@@ -3,9 +3,9 @@ use Rattle.syslog_text.specs.Text.{is_blank}
 use Rattle.syslog_text.proofs.PieceLemmas.Class.{AllDeterministic, ◌also◌, run_det, some_run_det}
 use Rattle.syslog_text.proofs.PieceLemmas.Rules.{such_det}
 use Rattle.syslog_sent.specs.Date.{IsDay}
-use Rattle.syslog_dated_forms.specs.Dated.{bsd_row, iso_row, journal_row}
+use Rattle.syslog_dated_forms.specs.Dated.{bsd_row, ctime_row, iso_row, journal_row}
 use Rattle.syslog_sent.specs.Zone.{bare_word}
-use Rattle.syslog_sent.proofs.DateLemmas.{iso_date_det, odd_bsd_date_det, odd_iso_date_det}
+use Rattle.syslog_sent.proofs.DateLemmas.{bsd_date_det, iso_date_det, odd_bsd_date_det, odd_iso_date_det}
 use Rattle.syslog_dated_forms.proofs.TailLemmas.{wide_tail_det}
 use Rattle.syslog_sent.proofs.ZoneLemmas.{bare_word_det}
 
@@ -14,6 +14,11 @@ bsd_line_det = run_det is_blank also odd_bsd_date_det also wide_tail_det also tt
 
 pub iso_line_det : AllDeterministic iso_row
 iso_line_det = run_det is_blank also odd_iso_date_det also wide_tail_det also tt
+
+pub ctime_line_det : AllDeterministic ctime_row
+ctime_line_det = run_det is_blank also such_det bare_word IsDay bare_word_det also some_run_det is_blank also
+    bsd_date_det
+    also wide_tail_det also tt
 
 pub journal_line_det : AllDeterministic journal_row
 journal_line_det = run_det is_blank also such_det bare_word IsDay bare_word_det also some_run_det is_blank also

@@ -8,4 +8,5 @@ pub mod MarkLemmas
 pub mod MonthFrontLemmas
 pub mod OtherDateLemmas
 pub mod TailLemmas
+pub mod UndatedLemmas
 pub mod UnixLemmas

@@ -13,7 +13,9 @@ use Rattle.syslog_text.specs.Pieces.Rules.{such_that}
 use Rattle.syslog_text.proofs.PieceLemmas.Class.{division_front, each_after, each_front, front_of, row_pieces}
 use Rattle.syslog_dated_forms.specs.Cisco.{IsAsa, IsMnemonic, IsNxOs, cisco_forms, cisco_row, is_unmarked, message_row}
 use Rattle.syslog_sent.specs.Forms.{IsOfNone}
+use Rattle.syslog_dated_forms.specs.DatedForms.{timed_forms}
 use Rattle.syslog_dated_forms.specs.Filed.{IsAny, filed_forms, filed_row}
+use Rattle.syslog_dated_forms.specs.Undated.{timed_row}
 use Rattle.syslog_dated_forms.proofs.CiscoLemmas.{none_cisco}
 
 -- ---- what a search of the bytes says
@@ -65,14 +67,17 @@ word_marked (c ∷ d ∷ more) e h = grind (arith, nat_tests, e.0, h)
 left : {C : Class} {t u : Text} {v : C.Value} → Front C t u v → Each is_unmarked t → Each is_unmarked u
 left {u = u} f e = each_after is_unmarked f.piece u (subst (λ (x : Text). Each is_unmarked x) f.whole e)
 
+no_message : {t : Text} → Each is_unmarked t → NoFront (Row message_row) t
+no_message each p q vs e h =
+    let (z, n, rest) = row_pieces message_row (front_of p e h) in
+    let ((k, r, is), mnemonic) = n.is in
+    let word = each_front is_unmarked n.piece z (subst (λ (i : Text). Each is_unmarked i) n.whole each) in
+    word_marked _ (subst (λ (i : Text). Each is_unmarked i) (sym is) word) mnemonic
+
 no_line : {t : Text} → Each is_unmarked t → NoFront (Row cisco_row) t
 no_line {t} each p q vs e h =
     let (u, s, (w, d, (x, l, (y, m, more)))) = row_pieces cisco_row (front_of p e h) in
-    let (z, n, rest) = row_pieces message_row m in
-    let ((k, r, is), mnemonic) = n.is in
-    let at_word = left l (left d (left s each)) in
-    let word = each_front is_unmarked n.piece z (subst (λ (i : Text). Each is_unmarked i) n.whole at_word) in
-    word_marked _ (subst (λ (i : Text). Each is_unmarked i) (sym is) word) mnemonic
+    no_message (left l (left d (left s each))) m.piece y _ m.whole m.is
 
 pub unmarked_cisco : {t : Text} → Each is_unmarked t → IsOfNone cisco_forms t
 unmarked_cisco each = none_cisco (no_line each)
@@ -86,3 +91,11 @@ not_filed P each vs d =
 
 pub unmarked_filed : {t : Text} → Each is_unmarked t → IsOfNone filed_forms t
 unmarked_filed each = (not_filed IsAsa each, (not_filed IsNxOs each, (not_filed IsAny each, tt)))
+
+pub unmarked_timed : {t : Text} → Each is_unmarked t → IsOfNone timed_forms t
+unmarked_timed each = (
+  λ vs d. (let (a, f, (b, g, (c, h, (e, i, (k, j, (l, m, (n, o, (r, s, (u, w, more))))))))) = row_pieces timed_row
+      (division_front timed_row d) in
+      no_message (left s (left o (left m (left j (left i (left h (left g (left f each)))))))) w.piece u _ w.whole w.is),
+  tt,
+)

@@ -23,16 +23,18 @@ use Rattle.syslog_text.proofs.PieceLemmas.Class.{◌past◌, ◌then◌, front_o
 use Rattle.syslog_text.proofs.PieceLemmas.Class.{each_map, no_row, no_row_division, optional_some}
 use Rattle.syslog_text.proofs.PieceLemmas.Class.{optional_none, row_of, row_pieces}
 use Rattle.syslog_text.proofs.PieceLemmas.Lists.{Begins, begins, begins_apart}
+use Rattle.syslog_sent.proofs.NamedLemmas.{no_otherwise}
 use Rattle.syslog_text.proofs.PieceLemmas.Rules.{no_such_front, such_front}
 use Rattle.syslog_text.proofs.TextLemmas.Runs.{no_run}
 use Rattle.syslog_pieces.proofs.TimestampLemmas.MonthDate.{IsBlank, IsLetter, blank_low, blanks_begin, month_letters}
 use Rattle.syslog_dated_forms.specs.Cisco.{IsMnemonic, begins_host, counter_row, front_year, front_year_row, label}
 use Rattle.syslog_dated_forms.specs.Cisco.{label_row}
 use Rattle.syslog_dated_forms.specs.Cisco.{labelled, mark, mnemonic}
-use Rattle.syslog_dated_forms.specs.Cisco.{message_row, start, start_row, task_row, undated_row}
+use Rattle.syslog_dated_forms.specs.Cisco.{message_row, start, start_row, task_row}
+use Rattle.syslog_dated_forms.specs.Undated.{IsName, IsUptime, name_label, run_clock_row, run_word_row, undated_row, uptime}
 use Rattle.syslog_sent.specs.Date.{bsd_row}
 use Rattle.syslog_sent.specs.Date.{IsDay, day_words, weekday}
-use Rattle.syslog_dated_forms.specs.Dated.{journal_row}
+use Rattle.syslog_dated_forms.specs.Dated.{ctime_row, journal_row}
 use Rattle.syslog_dated_forms.specs.DatedForms.{journal_forms}
 use Rattle.syslog_sent.specs.Forms.{IsOfNone}
 use Rattle.syslog_dated_forms.specs.IosXr.{IsNode, card_row, host, host_in, host_row, node, xr_row}
@@ -45,8 +47,8 @@ use Rattle.syslog_dated_forms.specs.UnixSeconds.{IsLate, meraki_row, seconds, sh
 use Rattle.syslog_sent.specs.Zone.{bare_word, is_among}
 use Rattle.syslog_sent.specs.declared.sent.SentDate.{SentDate}
 use Rattle.syslog_dated_forms.proofs.CiscoLemmas.{counter_row_det, front_year_row_det, message_row_det, task_row_det}
-use Rattle.syslog_dated_forms.proofs.CiscoLemmas.{undated_row_det}
-use Rattle.syslog_dated_forms.proofs.DatedLemmas.{journal_line_det}
+use Rattle.syslog_dated_forms.proofs.UndatedLemmas.{run_clock_row_det, run_word_row_det, undated_row_det}
+use Rattle.syslog_dated_forms.proofs.DatedLemmas.{ctime_line_det, journal_line_det}
 use Rattle.syslog_sent.proofs.LedLemmas.{year_begins}
 use Rattle.syslog_sent.proofs.NamedLemmas.{ascii_told}
 use Rattle.syslog_dated_forms.proofs.OtherDateLemmas.{card_row_det, colon_row_det, logread_row_det, netscaler_row_det}
@@ -171,6 +173,13 @@ day_no_node w e (inl (q, f)) = let d = rw (f.whole, f.is) at e in let bad : fals
 day_no_node w e (inr (inl (q, f))) = let d = rw (f.whole, f.is) at e in let bad : false ≡ true = d.0 in cc
 day_no_node w e (inr (inr (q, f))) = let d = rw (f.whole, f.is) at e in let bad : false ≡ true = d.1.0 in cc
 
+-- a month is no such word
+month_no_uptime : (w : Text) → IsWord w → IsUptime w → ⊥
+month_no_uptime w m is = let s = small_letters _ _ _ _ m.names in
+    let large = (small_low m.a (s.0, s.1)).0 in
+    let told = rw m.is at is in
+    grind (arith, nat_tests, large, told)
+
 module _ {t : Text} (m : HasMonth t) where
   first_letter : (c : ℕ) × (more : Text) × (t ≡ c ∷ more) × (65 ≤ c)
   first_letter = let s = small_letters _ _ _ _ m.word.names in
@@ -218,6 +227,12 @@ module _ {t : Text} (m : HasMonth t) where
       begins_apart {H = IsBlank} {K = λ d. d ≡ 58} u (λ d k l. let b : is_blank 58 ≡ true = rw l at k in
       let f : false ≡ true = b in cc)
       (rw same m.blank) (rw (begins 58 u w c) refl)
+
+  no_uptime : NoFront uptime t
+  no_uptime = no_otherwise
+      (no_row run_clock_row run_clock_row_det (inl (no_digits (some_run is_ascii_digit) (λ p q v h. (h.0, h.1)))))
+      (no_row run_word_row run_word_row_det (inl (λ p q v e h. month_no_uptime m.p m.word
+      (subst IsUptime (front_same bare_word bare_word_det (front_of p e h.0) month_word).1 h.1))))
 
   no_task : NoFront (Row task_row) t
   no_task = no_row task_row task_row_det (inl (no_char 42 (omega arith)))
@@ -339,16 +354,22 @@ module _ {text t : Text} (gap : Front (run is_blank) text t tt) (m : HasMonth t)
         (
           no_row_division logread_row (no_row logread_row logread_row_det (gap past inl no_weekday)),
           (
-            no_row_division meraki_row (no_row meraki_row meraki_row_det (gap past inl (no_char m 49 (omega arith)))),
+            no_row_division ctime_row (no_row ctime_row ctime_line_det (gap past inl no_weekday)),
             (
-              no_row_division short_row (no_row short_row short_row_det (gap past inl
-                  (no_mapped (Row unix_row) SentDate unix_of (no_row unix_row unix_row_det (inl no_unix))))),
+              no_row_division meraki_row (no_row meraki_row meraki_row_det (gap past inl (no_char m 49 (omega arith)))),
               (
-                no_row_division undated_row (no_row undated_row undated_row_det (gap
-                    past optional_none (exactly colon) (no_char m 58 (omega arith)) past no_blank m
-                    past optional_none (Row counter_row) (no_counter m)
-                    past inl (no_row message_row message_row_det (inl no_mnemonic)))),
-                tt,
+                no_row_division short_row (no_row short_row short_row_det (gap past inl
+                    (no_mapped (Row unix_row) SentDate unix_of (no_row unix_row unix_row_det (inl no_unix))))),
+                (
+                  no_row_division undated_row (no_row undated_row undated_row_det (gap
+                      past optional_none (exactly colon) (no_char m 58 (omega arith)) past no_blank m
+                      past optional_none (Row counter_row) (no_counter m)
+                      past optional_none (Row counter_row) (no_counter m)
+                      past optional_none name_label (no_such_front label IsName (no_label m))
+                      past optional_none uptime (no_uptime m)
+                      past inl (no_row message_row message_row_det (inl no_mnemonic)))),
+                  tt,
+                ),
               ),
             ),
           ),

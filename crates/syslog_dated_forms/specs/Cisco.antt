@@ -17,7 +17,7 @@ use Rattle.syslog_sent.specs.Date.{any_date, in_year}
 use Rattle.syslog_sent.specs.Named.{BeginsWith, is_letter}
 use Rattle.syslog_sent.specs.Sent.{Form, SentValue, loose}
 use Rattle.syslog_sent.specs.Zone.{bare_word}
-use Rattle.syslog_sent.specs.declared.dialect.Dialect.TheVariants.{CiscoAsa, CiscoIos, CiscoNxOs, CiscoUndated}
+use Rattle.syslog_sent.specs.declared.dialect.Dialect.TheVariants.{CiscoAsa, CiscoIos, CiscoNxOs}
 use Rattle.syslog_sent.specs.declared.sent.SentDate.{SentDate}
 
 -- ---- words
@@ -164,14 +164,3 @@ ios_form = record { dialect = CiscoIos; row = cisco_row; Means = λ v sent. sent
 -- those of lines with a date
 abbrev pub cisco_forms : List Form
 cisco_forms = asa_form ∷ nx_os_form ∷ ios_form ∷ []
-
--- a line without a date: a counter or none, and the message
-abbrev pub undated_row : List Class
-undated_row =
-    run is_blank ∷ optional (exactly colon) ∷ run is_blank ∷ optional (Row counter_row) ∷ Row message_row ∷ []
-
-abbrev pub undated_sent : Values undated_row → SentValue
-undated_sent (_, (_, (_, (_, ((tag, (_, (_, (_, (msg, _))))), _))))) = loose None None (Some tag) None msg
-
-abbrev pub undated_form : Form
-undated_form = record { dialect = CiscoUndated; row = undated_row; Means = λ v sent. sent ≡ undated_sent v }

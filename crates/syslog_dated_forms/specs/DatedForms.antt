@@ -1,8 +1,8 @@
 -- The forms that are recognised by their date, in the order in which they are tried.
 use Rattle.std.specs.Prelude.{List, [], ◌∷◌, ◌++◌}
-use Rattle.syslog_dated_forms.specs.Cisco.{cisco_forms, undated_form}
+use Rattle.syslog_dated_forms.specs.Cisco.{cisco_forms}
 use Rattle.syslog_dated_forms.specs.Container.{container_form}
-use Rattle.syslog_dated_forms.specs.Dated.{bsd_form, iso_form, journal_form}
+use Rattle.syslog_dated_forms.specs.Dated.{bsd_form, ctime_form, iso_form, journal_form}
 use Rattle.syslog_dated_forms.specs.Esxi.{esxi_form}
 use Rattle.syslog_dated_forms.specs.Filed.{filed_forms}
 use Rattle.syslog_dated_forms.specs.IosXr.{xr_form}
@@ -11,6 +11,7 @@ use Rattle.syslog_dated_forms.specs.OpenWrt.{logread_form}
 use Rattle.syslog_dated_forms.specs.ProCurve.{procurve_form}
 use Rattle.syslog_sent.specs.Sent.{Form}
 use Rattle.syslog_dated_forms.specs.SophosUtm.{utm_form}
+use Rattle.syslog_dated_forms.specs.Undated.{timed_form, undated_form}
 use Rattle.syslog_dated_forms.specs.UnixSeconds.{meraki_form, short_form}
 
 abbrev pub undated_forms : List Form
@@ -22,8 +23,11 @@ short_forms = short_form ∷ undated_forms
 abbrev pub meraki_forms : List Form
 meraki_forms = meraki_form ∷ short_forms
 
+abbrev pub ctime_forms : List Form
+ctime_forms = ctime_form ∷ meraki_forms
+
 abbrev pub logread_forms : List Form
-logread_forms = logread_form ∷ meraki_forms
+logread_forms = logread_form ∷ ctime_forms
 
 abbrev pub utm_forms : List Form
 utm_forms = utm_form ∷ logread_forms
@@ -34,14 +38,8 @@ netscaler_forms = netscaler_form ∷ utm_forms
 abbrev pub journal_forms : List Form
 journal_forms = journal_form ∷ netscaler_forms
 
-abbrev pub iso_forms : List Form
-iso_forms = iso_form ∷ journal_forms
-
-abbrev pub bsd_forms : List Form
-bsd_forms = bsd_form ∷ iso_forms
-
 abbrev pub procurve_forms : List Form
-procurve_forms = procurve_form ∷ bsd_forms
+procurve_forms = procurve_form ∷ journal_forms
 
 abbrev pub esxi_forms : List Form
 esxi_forms = esxi_form ∷ procurve_forms
@@ -52,8 +50,16 @@ container_forms = container_form ∷ esxi_forms
 abbrev pub xr_forms : List Form
 xr_forms = xr_form ∷ container_forms
 
-abbrev pub later_forms : List Form
-later_forms = filed_forms ++ xr_forms
+abbrev pub timed_forms : List Form
+timed_forms = timed_form ∷ []
+
+-- those of Cisco's with a date
+abbrev pub marked_forms : List Form
+marked_forms = cisco_forms ++ (filed_forms ++ timed_forms)
 
 abbrev pub all_dated : List Form
-all_dated = cisco_forms ++ later_forms
+all_dated = marked_forms ++ xr_forms
+
+-- The forms that have nothing of their own after the date. They are tried after those that are recognised by that.
+abbrev pub plain_forms : List Form
+plain_forms = bsd_form ∷ iso_form ∷ []

@@ -13,4 +13,5 @@ pub mod ProCurve
 pub mod SophosUtm
 pub mod Tail
 pub mod TailViews
+pub mod Undated
 pub mod UnixSeconds

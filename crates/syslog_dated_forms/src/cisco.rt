@@ -170,8 +170,8 @@ pub(crate) fn past_counter(text: &str) -> &str
     }
 }
 
-// Returns a host's name before a colon and blanks, and the text after these.
-fn label(text: &str) -> Option<(&str, &str)>
+/// Returns a host's name before a colon and blanks, and the text after these.
+pub(crate) fn label(text: &str) -> Option<(&str, &str)>
     ensures { Reads spec.label (λ word. shown word) (chars text.now) result }
 {
     let (host, rest) = origin(text)?;
@@ -280,8 +280,8 @@ fn place(text: &str) -> (Option<&str>, &str)
     (host, blanks(past_colon(blanks(rest))))
 }
 
-// Reads a mnemonic, a colon and the message: returns the mnemonic and the message.
-fn message(text: &str) -> Option<(&str, &str)>
+/// Reads a mnemonic, a colon and the message: returns the mnemonic and the message.
+pub(crate) fn message(text: &str) -> Option<(&str, &str)>
     ensures { MatchOption result (NoFront (Row spec.message_row) (chars text.now))
         (λ x. Front (Row spec.message_row) (chars text.now) [] (message_values (shown x.0) (shown x.1))) }
 {
@@ -452,24 +452,4 @@ pub(crate) fn read_cisco<'a>(text: &'a str, front: Option<Led<'a>>) -> Option<(D
 {
     let line = shown(text, front)?;
     Some(by_system(&line))
-}
-
-/// Returns what a line of Cisco's systems says that shows no date.
-pub(crate) fn read_undated(text: &str) -> Option<Sent<'_>>
-    ensures { Sends spec.undated_form (chars text.now) result }
-{
-    let after_gap = blanks(text);
-    let after_colon = past_colon(after_gap);
-    let begun = blanks(after_colon);
-    let rest = past_counter(begun);
-    let (tag, msg) = message(rest)?;
-    Some(Sent {
-        version: None,
-        date: None,
-        hostname: None,
-        appname: Some(tag),
-        process: None,
-        msgid: None,
-        msg,
-    })
 }

@@ -7,6 +7,7 @@
 //! - H3C and ArubaOS: `Mar  2 06:33:04 2026 h app: text`
 //! - `journalctl -o short-iso`, Huawei and log4j: `2026-03-02T06:33:04+0100 h app[1]: text`, `2026-03-02 06:33:04,123 h
 //!   ..`
+//! - programs that write dates by `ctime`: `Mon Mar  2 06:33:04 2026 h app: text`
 //! - `journalctl -o short-full`: `Mon 2026-03-02 06:33:04 CET h app[1]: text`
 ghost use Rattle.std.specs.Prelude.{◌≡◌, chars, true};
 ghost use Rattle.syslog_text.specs.Pieces.Class.{Front, Row, Text, run};
@@ -19,7 +20,7 @@ ghost use Rattle.syslog_dated_forms.specs.Dated as spec;
 
 use crate::tail::{Tail, read_wide_tail};
 use syslog_pieces::timestamp::header_stamp;
-use syslog_sent::date::{BsdDate, iso_date, weekday};
+use syslog_sent::date::{BsdDate, bsd_date, iso_date, weekday};
 use syslog_sent::sent::{Sent, SentDate};
 use syslog_text::text::{blanks, some_blanks};
 
@@ -67,5 +68,15 @@ pub(crate) fn read_journal(text: &str) -> Option<Sent<'_>>
     let after_day = weekday(blanks(text))?;
     let after_gap = some_blanks(after_day)?;
     let (date, rest) = iso_date(after_gap)?;
+    Some(says(date, read_wide_tail(rest)))
+}
+
+/// Returns what a line says whose month date follows the day of the week.
+pub(crate) fn read_ctime(text: &str) -> Option<Sent<'_>>
+    ensures { Sends spec.ctime_form (chars text.now) result }
+{
+    let after_day = weekday(blanks(text))?;
+    let after_gap = some_blanks(after_day)?;
+    let (date, rest) = bsd_date(after_gap)?;
     Some(says(date, read_wide_tail(rest)))
 }

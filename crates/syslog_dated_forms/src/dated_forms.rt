@@ -14,9 +14,9 @@ ghost use Rattle.syslog_sent.specs.Led.{IsFront, IsLed, IsUnled};
 ghost use Rattle.syslog_sent.specs.Sent.{Sends};
 ghost use Rattle.syslog_dated_forms.specs.DatedForms as spec;
 
-use crate::cisco::{read_cisco, read_undated};
+use crate::cisco::read_cisco;
 use crate::container::read_container;
-use crate::dated::{read_bsd, read_iso, read_journal};
+use crate::dated::{read_bsd, read_ctime, read_iso, read_journal};
 use crate::esxi::read_esxi;
 use crate::filed::read_filed;
 use crate::ios_xr::read_ios_xr;
@@ -24,6 +24,7 @@ use crate::netscaler::read_netscaler;
 use crate::open_wrt::read_logread;
 use crate::procurve::read_procurve;
 use crate::sophos_utm::read_utm;
+use crate::undated::{read_timed, read_undated};
 use crate::unix_seconds::{read_meraki, read_short};
 use memchr::memchr2;
 use syslog_sent::date::BsdDate;
@@ -58,12 +59,21 @@ fn from_meraki(text: &str) -> Option<(Dialect, Sent<'_>)>
     }
 }
 
+fn from_ctime(text: &str) -> Option<(Dialect, Sent<'_>)>
+    ensures { Finds spec.ctime_forms (chars text.now) result }
+{
+    match read_ctime(text) {
+        Some(sent) => Some((Dialect::BsdDate, sent)),
+        None => from_meraki(text),
+    }
+}
+
 fn from_logread(text: &str) -> Option<(Dialect, Sent<'_>)>
     ensures { Finds spec.logread_forms (chars text.now) result }
 {
     match read_logread(text) {
         Some(sent) => Some((Dialect::SeverityFirst, sent)),
-        None => from_meraki(text),
+        None => from_ctime(text),
     }
 }
 
@@ -94,40 +104,13 @@ fn from_journal(text: &str) -> Option<(Dialect, Sent<'_>)>
     }
 }
 
-// Tries the forms that have a month date, and those after them, on a text that begins with one.
-fn after_month(date: BsdDate, rest: &str) -> Option<(Dialect, Sent<'_>)>
-    ensures { (text at : Text) → Front (run is_blank) text at tt
-        → Front (Row bsd_row) at (chars rest.now) (bsd_values date) → Finds spec.bsd_forms text result }
-{
-    let sent = read_bsd(date, rest)?;
-    Some((Dialect::BsdDate, sent))
-}
-
-// Tries the forms that have a date that is nearly one of RFC 3339, and those after them, on a text that begins with
-// one.
-fn after_iso<'a>(
-    text: &'a str,
-    begun: &'a str,
-    date: SentDate,
-    rest: &'a str,
-) -> Option<(Dialect, Sent<'a>)>
-    ensures { Front (run is_blank) (chars text.entry.now) (chars begun.entry.now) tt
-        → NoFront (Row bsd_row) (chars begun.entry.now)
-        → Front iso_date (chars begun.entry.now) (chars rest.entry.now) date
-        → Finds spec.bsd_forms (chars text.entry.now) result }
-{
-    match read_iso(begun, date, rest) {
-        Some(sent) => Some((Dialect::NearlyRfc3339, sent)),
-        None => from_journal(text),
-    }
-}
-
-fn from_bsd<'a>(text: &'a str, led: Led<'a>) -> Option<(Dialect, Sent<'a>)>
-    ensures { IsLed (chars text.entry.now) led.entry → Finds spec.bsd_forms (chars text.entry.now) result }
+// Tries the forms that begin otherwise on a text that begins with a date. None of them begins with a month date.
+fn past_led<'a>(text: &'a str, led: Led<'a>) -> Option<(Dialect, Sent<'a>)>
+    ensures { IsLed (chars text.entry.now) led.entry → Finds spec.journal_forms (chars text.entry.now) result }
 {
     match led.date {
-        LeadingDate::Month(date) => after_month(date, led.rest),
-        LeadingDate::Iso(date) => after_iso(text, led.text, date, led.rest),
+        LeadingDate::Month(_) => None,
+        LeadingDate::Iso(_) => from_journal(text),
     }
 }
 
@@ -136,7 +119,7 @@ fn from_procurve<'a>(text: &'a str, led: Led<'a>) -> Option<(Dialect, Sent<'a>)>
 {
     match read_procurve(led.sent, led.rest) {
         Some(sent) => Some((Dialect::ProCurve, sent)),
-        None => from_bsd(text, led),
+        None => past_led(text, led),
     }
 }
 
@@ -218,14 +201,32 @@ fn from_xr<'a>(text: &'a str, front: Option<Led<'a>>) -> Option<(Dialect, Sent<'
     }
 }
 
+// Returns what a filed line says that begins with this date.
+fn filed_after(led: Led<'_>) -> Option<(Dialect, Sent<'_>)>
+    ensures { (text : Text) → IsLed text led.entry → Finds (filed_forms ++ spec.timed_forms) text result }
+{
+    match read_filed(led.sent, led.rest) {
+        Some(found) => Some(found),
+        None => from_timed(led),
+    }
+}
+
 // Returns what a filed line says, which begins with a date.
 fn of_filed(front: Option<Led<'_>>) -> Option<(Dialect, Sent<'_>)>
-    ensures { (text : Text) → IsFront text front.entry → Finds filed_forms text result }
+    ensures { (text : Text) → IsFront text front.entry → Finds (filed_forms ++ spec.timed_forms) text result }
 {
     match front {
-        Some(led) => read_filed(led.sent, led.rest),
+        Some(led) => filed_after(led),
         None => None,
     }
+}
+
+// Returns what a line says that a collector files and that shows no date of the device.
+fn from_timed(led: Led<'_>) -> Option<(Dialect, Sent<'_>)>
+    ensures { (text : Text) → IsLed text led.entry → Finds spec.timed_forms text result }
+{
+    let sent = read_timed(led.sent, led.rest)?;
+    Some((Dialect::CiscoUndated, sent))
 }
 
 // Whether the text has `%` or `#`. Each line of Cisco's with a date has one of them, and few other lines have.
@@ -241,7 +242,7 @@ fn is_marked(text: &str) -> bool
 // Returns the system of a line of Cisco's with a date, and what the line says, also where a collector files it.
 fn of_cisco<'a>(text: &'a str, front: Option<Led<'a>>) -> Option<(Dialect, Sent<'a>)>
     ensures { IsFront (chars text.entry.now) front.entry
-        → Finds (cisco_forms ++ filed_forms) (chars text.entry.now) result }
+        → Finds spec.marked_forms (chars text.entry.now) result }
 {
     if !is_marked(text) {
         return None;
@@ -260,5 +261,45 @@ pub fn read<'a>(text: &'a str, front: Option<Led<'a>>) -> Option<(Dialect, Sent<
     match of_cisco(text, front) {
         Some(found) => Some(found),
         None => from_xr(text, front),
+    }
+}
+
+// Returns what a line says that has this month date and no form of its own after it.
+fn after_month(date: BsdDate, rest: &str) -> Option<(Dialect, Sent<'_>)>
+    ensures { (text at : Text) → Front (run is_blank) text at tt
+        → Front (Row bsd_row) at (chars rest.now) (bsd_values date) → Finds spec.plain_forms text result }
+{
+    let sent = read_bsd(date, rest)?;
+    Some((Dialect::BsdDate, sent))
+}
+
+// Returns what a line says that has this date, which is nearly one of RFC 3339, and no form of its own after it.
+fn after_iso<'a>(begun: &'a str, date: SentDate, rest: &'a str) -> Option<(Dialect, Sent<'a>)>
+    ensures { (text : Text) → Front (run is_blank) text (chars begun.entry.now) tt
+        → NoFront (Row bsd_row) (chars begun.entry.now)
+        → Front iso_date (chars begun.entry.now) (chars rest.entry.now) date → Finds spec.plain_forms text result }
+{
+    let sent = read_iso(begun, date, rest)?;
+    Some((Dialect::NearlyRfc3339, sent))
+}
+
+// Reads a line that begins with this date and has no form of its own after it.
+fn after_date(led: Led<'_>) -> Option<(Dialect, Sent<'_>)>
+    ensures { (text : Text) → IsLed text led.entry → Finds spec.plain_forms text result }
+{
+    match led.date {
+        LeadingDate::Month(date) => after_month(date, led.rest),
+        LeadingDate::Iso(date) => after_iso(led.text, date, led.rest),
+    }
+}
+
+/// Returns the dialect of a line that begins with a date and has no form of its own after it, and what the line says.
+/// `front` is what `read_front` returned for it.
+pub fn read_plain(front: Option<Led<'_>>) -> Option<(Dialect, Sent<'_>)>
+    ensures { (text : Text) → IsFront text front.entry → Finds spec.plain_forms text result }
+{
+    match front {
+        Some(led) => after_date(led),
+        None => None,
     }
 }

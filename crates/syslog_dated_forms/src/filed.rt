@@ -17,16 +17,16 @@ use crate::cisco::{Cisco, dated_in, gap, origin, shown_line};
 use syslog_sent::dialect::Dialect;
 use syslog_sent::sent::{Sent, SentDate};
 
-// What a collector writes before the line of a device, and that line.
+/// What a collector writes before the line of a device, and that line.
 #[derive(Clone, Copy)]
-struct Filed<'a> {
-    date: SentDate,
-    device: &'a str,
-    line: &'a str,
+pub(crate) struct Filed<'a> {
+    pub(crate) date: SentDate,
+    pub(crate) device: &'a str,
+    pub(crate) line: &'a str,
 }
 
-// Reads what a collector writes before the line of a device, after this date.
-fn past_front(date: SentDate, rest: &str) -> Option<Filed<'_>>
+/// Reads what a collector writes before the line of a device, after this date.
+pub(crate) fn past_front(date: SentDate, rest: &str) -> Option<Filed<'_>>
     ensures { (text at : Text) → Front (run is_blank) text at tt → Front date_class at (chars rest.now) date
         → MatchOption result (NoFront (Row spec.filed_front) text) (λ x. Front (Row spec.filed_front)
         text (shown x.line) (tt, (x.date, (tt, (shown x.device, (tt, tt)))))) }

@@ -17,4 +17,5 @@ mod open_wrt;
 mod procurve;
 mod sophos_utm;
 mod tail;
+mod undated;
 mod unix_seconds;

@@ -1,3 +1,4 @@
+pub mod DatedFoundLemmas
 pub mod FoundLemmas
 pub mod MessageLemmas
 pub mod OddLemmas

@@ -19,23 +19,25 @@ use Rattle.syslog_loose.proofs.PrintedLemmas.{drop_ends, visible_ends_blanks}
 use Rattle.syslog_loose.specs.Message.{MessageValue}
 use Rattle.syslog_loose.specs.declared.dates.Dates.{Dates}
 use Rattle.syslog_dated_forms.specs.Cisco.{IsAsa, IsNxOs, cisco_forms, cisco_row, cisco_sent, message_row}
-use Rattle.syslog_dated_forms.specs.Cisco as cisco
+use Rattle.syslog_dated_forms.specs.Undated as undated
 use Rattle.syslog_dated_forms.specs.Container.{IsStream, container_row, output, stream_row}
-use Rattle.syslog_dated_forms.specs.Dated.{bsd_row, dated_sent, iso_row, journal_row}
-use Rattle.syslog_dated_forms.specs.DatedForms.{later_forms, xr_forms}
+use Rattle.syslog_dated_forms.specs.Dated.{bsd_row, ctime_row, dated_sent, iso_row, journal_row}
+use Rattle.syslog_dated_forms.specs.DatedForms.{marked_forms, timed_forms, xr_forms}
 use Rattle.syslog_sent.specs.Forms.{IsOfFirst}
-use Rattle.syslog_dialects.specs.Dialects.{dated_forms, forms_of, last_forms, late_forms, named_forms}
+use Rattle.syslog_dialects.specs.Dialects.{dated_forms, early_forms, forms_of, last_forms, late_forms, named_forms, plain_forms}
 use Rattle.syslog_dated_forms.specs.Esxi.{esxi_row, esxi_sent}
 use Rattle.syslog_dated_forms.specs.Filed.{IsAny, filed_form, filed_forms, filed_front, filed_row, filed_sent}
 use Rattle.syslog_named_forms.specs.Header.{header_row, header_says}
 use Rattle.syslog_dated_forms.specs.IosXr.{process, process_in, process_row, xr_row, xr_sent}
 use Rattle.syslog_sent.specs.Named.{NamedTexts, after_row, beginning, hosted}
+use Rattle.syslog_named_forms.specs.Monotonic.{monotonic_row, monotonic_says}
+use Rattle.syslog_named_forms.specs.NearHeader.{bare_row, bare_says, nil_row, nil_says, tag_row, tag_says}
 use Rattle.syslog_named_forms.specs.NamedForms.{Tail, dated_form, dated_row, front_row, marked_tail}
 use Rattle.syslog_named_forms.specs.NamedForms.{marked_tails, message_tails}
 use Rattle.syslog_named_forms.specs.NamedForms.{access_tail, forwarded_tail, hostless_tail, program_forms}
 use Rattle.syslog_named_forms.specs.NamedForms.{program_tails, says, untagged_tail}
 use Rattle.syslog_named_forms.specs.NamedForms.{serial_tail, severity_tail, tail_forms, undated_form, undated_forms}
-use Rattle.syslog_named_forms.specs.NamedForms.{undated_row, worded_tail}
+use Rattle.syslog_named_forms.specs.NamedForms.{header_forms, spread_tail, undated_row, worded_tail}
 use Rattle.syslog_dated_forms.specs.NetScaler.{netscaler_row}
 use Rattle.syslog_dated_forms.specs.OpenWrt.{logread_row, logread_sent}
 use Rattle.syslog_named_forms.specs.Pairs.{paired, pairs_row}
@@ -43,7 +45,7 @@ use Rattle.syslog_dialects.specs.PriorityAlone.{IsAlone, alone_row, program_row,
 use Rattle.syslog_dated_forms.specs.ProCurve.{procurve_row, procurve_sent}
 use Rattle.syslog_named_forms.specs.Programs.{access_row, forwarded_of, forwarded_row, hostless_row}
 use Rattle.syslog_named_forms.specs.Programs.{number_word, passed_on, serial_row}
-use Rattle.syslog_named_forms.specs.Programs.{severity_row, worded_row}
+use Rattle.syslog_named_forms.specs.Programs.{severity_row, spread_row, worded_row}
 use Rattle.syslog_sent.specs.Sent.{Form, IsSent, SentValue, loose}
 use Rattle.syslog_dialects.specs.SentReading.{IsSentIn}
 use Rattle.syslog_dated_forms.specs.SophosUtm.{utm_row}
@@ -52,6 +54,7 @@ use Rattle.syslog_dated_forms.specs.UnixSeconds.{meraki_row, meraki_sent, short_
 use Rattle.syslog_named_forms.specs.Untagged.{dialect_of, mark_class, marked, marked_of, marks}
 use Rattle.syslog_sent.specs.Zone.{bare_word}
 use Rattle.syslog_sent.specs.declared.dialect.Dialect.{Dialect}
+use Rattle.syslog_sent.specs.declared.dialect.Dialect.TheVariants.{Monotonic, NearlyRfc5424}
 use Rattle.syslog_sent.specs.declared.dialect.Dialect.TheVariants.{PriorityAlone, BsdDate, NearlyRfc3339, Journal}
 use Rattle.syslog_sent.specs.declared.dialect.Dialect.TheVariants.{CiscoIos, CiscoNxOs, CiscoAsa, CiscoUndated}
 use Rattle.syslog_sent.specs.declared.dialect.Dialect.TheVariants.{Container, CiscoIosXr, NetScaler, ProCurve}
@@ -196,8 +199,12 @@ filed dialect P = said dialect (filed_row (such_that (Row cisco_row) P)) (λ v. 
 filed_end : AllEnd filed_forms
 filed_end = filed CiscoAsa IsAsa also filed CiscoNxOs IsNxOs also filed CiscoIos IsAny also tt
 
-undated_cisco_ends : RowEnds cisco.undated_row cisco.undated_sent
-undated_cisco_ends = last_ends (take 4 cisco.undated_row) (Row message_row) (λ v. v.1.1.1.1.0) message_ends
+undated_cisco_ends : RowEnds undated.undated_row undated.undated_sent
+undated_cisco_ends = last_ends (take 7 undated.undated_row) (Row message_row) (λ v. v.1.1.1.1.0) message_ends
+
+timed_end : AllEnd timed_forms
+timed_end = said CiscoUndated undated.timed_row undated.timed_sent
+    (last_ends (take 8 undated.timed_row) (Row message_row) (λ v. v.1.1.1.1.0) message_ends) also tt
 
 process_ends : PieceEnds process (λ v. v.1.1)
 process_ends =
@@ -240,18 +247,19 @@ xr_end =
     also said Container container_row (λ v. loose (Some v.1.0) None None None v.1.1.1.0) container_ends
     also said Esxi esxi_row esxi_sent (rest_ends (take 6 esxi_row))
     also said ProCurve procurve_row procurve_sent (rest_ends (take 9 procurve_row))
-    also said BsdDate bsd_row (λ v. dated_sent v.1.0 v.1.1.0) (tailed (take 2 bsd_row))
-    also said NearlyRfc3339 iso_row (λ v. dated_sent v.1.0 v.1.1.0) (tailed (take 2 iso_row))
     also said Journal journal_row (λ v. dated_sent v.1.1.1.0 v.1.1.1.1.0) (tailed (take 4 journal_row))
     also said NetScaler netscaler_row (λ v. dated_sent v.1.0 v.1.1.0) (tailed (take 2 netscaler_row))
     also said SophosUtm utm_row (λ v. dated_sent v.1.0 v.1.1.0) (tailed (take 2 utm_row))
     also said SeverityFirst logread_row logread_sent (rest_ends (take 8 logread_row))
+    also said BsdDate ctime_row (λ v. dated_sent v.1.1.1.0 v.1.1.1.1.0) (tailed (take 4 ctime_row))
     also said UnixSeconds meraki_row meraki_sent (spaced_rest_ends (take 6 meraki_row))
     also said UnixSeconds short_row short_sent (rest_ends (take 6 short_row))
-    also said CiscoUndated cisco.undated_row cisco.undated_sent undated_cisco_ends also tt
+    also said CiscoUndated undated.undated_row undated.undated_sent undated_cisco_ends also tt
 
 dated_end : AllEnd dated_forms
-dated_end = both_end cisco_forms later_forms cisco_end (both_end filed_forms xr_forms filed_end xr_end)
+dated_end = both_end marked_forms xr_forms
+    (both_end cisco_forms (filed_forms ++ timed_forms) cisco_end (both_end filed_forms timed_forms filed_end timed_end))
+    xr_end
 
 -- ---- what follows the date
 
@@ -311,16 +319,32 @@ marked_alone : (dialect : Dialect) (m : Mark) → EndsInMsg (undated_form dialec
 marked_alone dialect m = said dialect (undated_row m) (λ v. loose None None None None v.1.0)
     (run_ends (beginning (mark_class m)) (λ t. t) (λ p t is. is.1) [])
 
+headers_end : AllEnd header_forms
+headers_end =
+    said NearlyRfc5424 nil_row nil_says (rest_ends (take 13 nil_row))
+    also said NearlyRfc5424 tag_row tag_says (rest_ends (take 7 tag_row))
+    also said Heroku header_row header_says (spaced_rest_ends (take 11 header_row))
+    also said NearlyRfc5424 bare_row bare_says (spaced_rest_ends (take 11 bare_row))
+    also said Monotonic monotonic_row monotonic_says (rest_ends (take 5 monotonic_row)) also tt
+
 undated_end : AllEnd undated_forms
 undated_end =
     marked_alone Cef mark.Cef also marked_alone Leef mark.Leef
     also said KeyValue pairs_row (λ v. loose (Some v.1.0.0) v.1.0.1 None None v.1.0.2)
-    (run_ends paired (λ v. v.2) (λ p v is. is.1) [])
-    also said Heroku header_row header_says (spaced_rest_ends (take 11 header_row)) also tt
+    (run_ends paired (λ v. v.2) (λ p v is. is.1) []) also headers_end
 
 named_end : AllEnd named_forms
 named_end = both_end (tail_forms message_tails) program_forms (messages_end marks)
     (both_end (tail_forms program_tails) undated_forms programs_end undated_end)
+
+plain_end : AllEnd plain_forms
+plain_end =
+    said BsdDate bsd_row (λ v. dated_sent v.1.0 v.1.1.0) (tailed (take 2 bsd_row))
+    also said NearlyRfc3339 iso_row (λ v. dated_sent v.1.0 v.1.1.0) (tailed (take 2 iso_row))
+    also tail_of spread_tail (λ t v ends f. rest_ends (take 5 spread_row) t v f) also tt
+
+early_end : AllEnd early_forms
+early_end = both_end dated_forms (named_forms ++ plain_forms) dated_end (both_end named_forms plain_forms named_end plain_end)
 
 last_end : AllEnd last_forms
 last_end =
@@ -351,8 +375,7 @@ visible_after before msg text e visible front c same =
 pub sent_end : (dates : Dates) (is_read : Bool) (text : Text) (dialect : Dialect) (m : MessageValue)
     → IsSentIn dates is_read text dialect m → EndsIn (trimmed text) m.msg
 sent_end dates is_read text dialect m is =
-    let forms = both_end (dated_forms ++ named_forms) (late_forms is_read is.priority)
-    (both_end dated_forms named_forms dated_end named_end) (late_end is_read is.priority) in
+    let forms = both_end early_forms (late_forms is_read is.priority) early_end (late_end is_read is.priority) in
     let end = first_ends (forms_of is_read is.priority) forms is.follows dialect is.sent is.form.first in
     subst (EndsIn (trimmed text)) (sym (ap (λ (n : MessageValue). n.msg) is.says.2))
     (later is.front.piece is.follows (trimmed text) is.sent.msg is.front.whole end)

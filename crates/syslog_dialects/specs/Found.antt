@@ -17,12 +17,14 @@ use Rattle.syslog_sent.specs.Date.{weekday}
 use Rattle.syslog_dated_forms.specs.Esxi.{mark_row}
 use Rattle.syslog_dated_forms.specs.IosXr.{node}
 use Rattle.syslog_dated_forms.specs.NetScaler.{slashed_date}
+use Rattle.syslog_named_forms.specs.Monotonic.{seconds_row}
 use Rattle.syslog_named_forms.specs.Pairs.{IsShown, noted, pair}
 use Rattle.syslog_sent.specs.Selector.{selector_row, severity}
 use Rattle.syslog_sent.specs.Runs.{is_plain_char}
 use Rattle.syslog_sent.specs.Sent.{SentValue}
 use Rattle.syslog_dialects.specs.SentLine.{IsMessageSent}
 use Rattle.syslog_dated_forms.specs.SophosUtm.{colon_date}
+use Rattle.syslog_dated_forms.specs.Undated.{uptime}
 use Rattle.syslog_dated_forms.specs.UnixSeconds.{unix_date}
 use Rattle.syslog_sent.specs.declared.dialect.Dialect.{Dialect}
 use Rattle.syslog_sent.specs.declared.dialect.Dialect.TheVariants.{BsdDate, CiscoAsa, CiscoIos, CiscoIosXr}
@@ -30,7 +32,7 @@ use Rattle.syslog_sent.specs.declared.dialect.Dialect.TheVariants.{CiscoNxOs, Ci
 use Rattle.syslog_sent.specs.declared.dialect.Dialect.TheVariants.{Journal}
 use Rattle.syslog_sent.specs.declared.dialect.Dialect.TheVariants.{KeyValue, NearlyRfc3339, NetScaler, ProCurve}
 use Rattle.syslog_sent.specs.declared.dialect.Dialect.TheVariants.{SeverityFirst, SophosUtm, UnixSeconds}
-use Rattle.syslog_sent.specs.declared.dialect.Dialect.TheVariants.{WatchGuard}
+use Rattle.syslog_sent.specs.declared.dialect.Dialect.TheVariants.{Monotonic, WatchGuard}
 use Rattle.syslog_sent.specs.declared.sent.SentDate.{SentDate}
 
 -- ---- what is left out
@@ -79,14 +81,15 @@ abbrev pub cisco_left_out : List Class
 cisco_left_out = Row counter_row ∷ Row task_row ∷ mark ∷ filed_date ∷ []
 
 -- What a dialect leaves out besides. These are IOS-XR's card, a day of the week, a facility and a severity in words,
--- ESXi's level with its number, the number of ProCurve's event, and Meraki's `1`. In the others it is nothing.
+-- ESXi's level with its number, the number of ProCurve's event, Meraki's `1`, and how long a device or
+-- a system has run. In the others it is nothing.
 abbrev pub left_out : Dialect → List Class
 left_out CiscoIos = cisco_left_out
 left_out CiscoNxOs = cisco_left_out
 left_out CiscoAsa = cisco_left_out
-left_out CiscoUndated = Row counter_row ∷ []
+left_out CiscoUndated = Row counter_row ∷ uptime ∷ []
 left_out CiscoIosXr = Row counter_row ∷ node ∷ []
-left_out BsdDate = host_alone ∷ []
+left_out BsdDate = host_alone ∷ weekday ∷ []
 left_out NearlyRfc3339 = host_alone ∷ []
 left_out NetScaler = host_alone ∷ []
 left_out SophosUtm = host_alone ∷ []
@@ -97,6 +100,7 @@ left_out ProCurve = some_run is_ascii_digit ∷ []
 left_out UnixSeconds = exactly (49 ∷ []) ∷ []
 left_out Forwarded = forwarded_words ∷ []
 left_out WatchGuard = Row serial ∷ []
+left_out Monotonic = Row seconds_row ∷ []
 left_out _ = []
 
 -- the other hosts that a line shows beside the one that it says

@@ -1,5 +1,5 @@
 -- The lines of the port that keep their reading, by their fields alone: this project's own choice. 32 is a space,
--- 34 `"`, 40 `(`, 45 `-`, 47 `/`, 58 `:`, 91 `[`, 123 `{`.
+-- 34 `"`, 60 `<`, 40 `(`, 45 `-`, 47 `/`, 58 `:`, 91 `[`, 123 `{`.
 use Rattle.std.specs.Prelude.{◌≡◌, ◌≢◌, ◌⊎◌, ◌∷◌, ◌&&◌, ◌||◌, ℕ, nat_eq, Bool, true, false, List, [], Some, IsSome}
 use Rattle.std.specs.Prelude.{◌<◌, codes, nat_lt, length, slice_index}
 use Rattle.std.specs.Char.{is_ascii_digit}
@@ -25,10 +25,10 @@ abbrev pub is_nothing : Text → Bool
 is_nothing [] = true
 is_nothing (c ∷ cs) = false
 
--- an object of JSON, a bracket, or a quote
+-- an object of JSON, a bracket of either kind, or a quote
 abbrev pub opens_brackets : Text → Bool
 opens_brackets [] = false
-opens_brackets (c ∷ cs) = nat_eq c 123 || (nat_eq c 91 || nat_eq c 34)
+opens_brackets (c ∷ cs) = nat_eq c 123 || (nat_eq c 91 || (nat_eq c 34 || nat_eq c 60))
 
 -- a year, and `-` or a slash
 abbrev pub opens_day : Text → Bool
@@ -44,8 +44,8 @@ is_odd_app app = is_nothing app || (is_number app || (opens_brackets app || (ope
 
 -- with these they begin
 abbrev pub begins_oddly : ℕ → Bool
-begins_oddly c = is_ascii_digit c || (nat_eq c 123 || (nat_eq c 91 || (nat_eq c 34 || (nat_eq c 67 || (nat_eq c 76
-    || nat_eq c 83)))))
+begins_oddly c = is_ascii_digit c || (nat_eq c 123 || (nat_eq c 91 || (nat_eq c 34 || (nat_eq c 60 || (nat_eq c 67
+    || (nat_eq c 76 || nat_eq c 83))))))
 
 -- the first byte is there, and is none of these
 abbrev pub BeginsPlainly : List ℕ → Type 0

@@ -4,13 +4,16 @@
 //! is missing.
 ghost use Rattle.std.specs.Prelude.{chars, ◌++◌};
 ghost use Rattle.syslog_sent.specs.Forms.{Finds};
-ghost use Rattle.syslog_dialects.specs.Dialects.{dated_forms, forms_of, last_forms, late_forms, named_forms};
+ghost use Rattle.syslog_text.specs.Pieces.Class.{Text};
+ghost use Rattle.syslog_sent.specs.Led.{IsFront};
+ghost use Rattle.syslog_dialects.specs.Dialects.{early_forms, forms_of, last_forms, late_forms};
+ghost use Rattle.syslog_dialects.specs.Dialects.{named_forms, plain_forms};
 
 use crate::priority_alone::{read_alone, read_program_alone};
 use syslog_dated_forms::dated_forms;
 use syslog_named_forms::named_forms;
 use syslog_sent::dialect::Dialect;
-use syslog_sent::led::read_front;
+use syslog_sent::led::{Led, read_front};
 use syslog_sent::sent::Sent;
 
 // Returns the dialect of a text that has a priority and that the port does not parse, and what the text says.
@@ -24,14 +27,35 @@ fn read_last(text: &str) -> Option<(Dialect, Sent<'_>)>
     Some((Dialect::PriorityAlone, sent))
 }
 
+// Returns the dialect of a text that has nothing of its own after its date, and what the text says.
+fn read_plain(front: Option<Led<'_>>) -> Option<(Dialect, Sent<'_>)>
+    ensures { (text : Text) → IsFront text front.entry → Finds plain_forms text result }
+{
+    match dated_forms::read_plain(front) {
+        Some(found) => Some(found),
+        None => named_forms::read_spread(front),
+    }
+}
+
+// Returns the dialect of the text by what follows its date, and what the text says.
+fn read_named<'a>(text: &'a str, front: Option<Led<'a>>) -> Option<(Dialect, Sent<'a>)>
+    ensures { IsFront (chars text.entry.now) front.entry
+        → Finds (named_forms ++ plain_forms) (chars text.entry.now) result }
+{
+    match named_forms::read(text, front) {
+        Some(found) => Some(found),
+        None => read_plain(front),
+    }
+}
+
 // Returns the dialect of the text after a priority, by its date or by what follows that, and what the text says.
 fn read_early(text: &str) -> Option<(Dialect, Sent<'_>)>
-    ensures { Finds (dated_forms ++ named_forms) (chars text.now) result }
+    ensures { Finds early_forms (chars text.now) result }
 {
     let front = read_front(text);
     match dated_forms::read(text, front) {
         Some(found) => Some(found),
-        None => named_forms::read(text, front),
+        None => read_named(text, front),
     }
 }
 

@@ -62,12 +62,12 @@ fn is_nothing(app: &str) -> bool
     }
 }
 
-// Whether the text begins as an object of JSON, with a bracket or with a quote.
+// Whether the text begins as an object of JSON, with a bracket of either kind or with a quote.
 fn opens_brackets(app: &str) -> bool
     ensures { result ≡ spec.opens_brackets (chars app.now) }
 {
     match first(app) {
-        Some((c, _)) => c == '{' || (c == '[' || c == '"'),
+        Some((c, _)) => c == '{' || (c == '[' || (c == '"' || c == '<')),
         None => false,
     }
 }
@@ -120,7 +120,9 @@ fn begins_oddly(byte: u8) -> bool
 {
     byte.is_ascii_digit()
         || (byte == b'{'
-            || (byte == b'[' || (byte == b'"' || (byte == b'C' || (byte == b'L' || byte == b'S')))))
+            || (byte == b'['
+                || (byte == b'"'
+                    || (byte == b'<' || (byte == b'C' || (byte == b'L' || byte == b'S'))))))
 }
 
 // Whether a byte with which no odd app name begins is at the front. Most app names begin so, and need no further look.

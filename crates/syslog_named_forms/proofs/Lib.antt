@@ -1,5 +1,7 @@
 pub mod HeaderLemmas
+pub mod MonotonicLemmas
 pub mod NamedFormLemmas
+pub mod NearHeaderLemmas
 pub mod PairLemmas
 pub mod ProgramLemmas
 pub mod UntaggedLemmas

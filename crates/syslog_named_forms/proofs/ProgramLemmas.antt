@@ -25,10 +25,10 @@ use Rattle.syslog_text.specs.Pieces.Class.{spaced}
 use Rattle.syslog_text.specs.Text.{is_tag_char}
 use Rattle.syslog_named_forms.specs.Programs.{grade, hostless_row}
 use Rattle.syslog_sent.specs.Selector.{selector_row}
-use Rattle.syslog_named_forms.specs.Programs.{access_row, number_word, point_row, severity_row, untagged_row}
+use Rattle.syslog_named_forms.specs.Programs.{access_row, number_word, point_row, severity_row, untagged_row, spread_row}
 use Rattle.syslog_named_forms.specs.Untagged.{topic_row}
 use Rattle.syslog_named_forms.proofs.UntaggedLemmas.{topic_det}
-use Rattle.syslog_sent.proofs.NamedLemmas.{beginning_det, otherwise_det, id_det, severity_word_det, selector_det}
+use Rattle.syslog_sent.proofs.NamedLemmas.{beginning_det, name_det, otherwise_det, id_det, severity_word_det, selector_det}
 
 pub serial_det : AllDeterministic serial_row
 serial_det = host_det also some_run_det is_blank also some_run_det is_plain_char also exactly_det _ also exactly_det _
@@ -45,9 +45,12 @@ pub severity_det : AllDeterministic severity_row
 severity_det = host_det also some_run_det is_blank also grade_det also some_run_det is_blank also program_det
     also run_det is_blank also rest_det also tt
 
+spaced_det : IsDeterministic (spaced (some_run is_word_char))
+spaced_det = after_det (some_run is_word_char) (some_run_det is_word_char)
+
 pub words_row_det : AllDeterministic words_row
-words_row_det = some_run_det is_word_char also many_det (spaced (some_run is_word_char))
-    (after_det (some_run is_word_char) (some_run_det is_word_char)) also tt
+words_row_det = some_run_det is_word_char also spaced_det also many_det (spaced (some_run is_word_char)) spaced_det
+    also tt
 
 words_det : IsDeterministic words
 words_det = such_det (texted (Row words_row)) (BeginsWith is_letter)
@@ -68,6 +71,10 @@ access_det = texted_det (Row point_row) (row_det point_row point_det) also exact
 
 pub untagged_det : AllDeterministic untagged_row
 untagged_det = host_det also some_run_det is_blank also beginning_det number_word also tt
+
+pub spread_det : AllDeterministic spread_row
+spread_det = host_det also some_run_det is_blank also name_det also id_det also exactly_det _ also run_det is_blank
+    also rest_det also tt
 
 pub forwarded_det : AllDeterministic forwarded_row
 forwarded_det = exactly_det _ also texted_det (some_run is_tag_char) (some_run_det is_tag_char) also exactly_det _

@@ -32,9 +32,10 @@ use Rattle.syslog_text.proofs.PieceLemmas.Rules.{such_det}
 use Rattle.syslog_sent.proofs.NamedLemmas.{no_beginning, no_otherwise, otherwise_det}
 use Rattle.syslog_sent.specs.Runs.{is_either_char, is_plain_char, is_word_char}
 use Rattle.syslog_named_forms.specs.Untagged.{cef_row, leef_row, pair_row, palo_alto_row, repeated_tail, repeats_row}
+use Rattle.syslog_sent.specs.Date.{unless}
 use Rattle.syslog_named_forms.specs.Untagged.{is_main_topic, later_topic_row, main_topic, number_row, topic_row}
 use Rattle.syslog_named_forms.specs.Untagged.{IsNoMessage, IsUnmarked, begins_mark, ends_list, marked, marked_of}
-use Rattle.syslog_named_forms.specs.Untagged.{clock_row, dashed_row, day, slashed_row, topics_row}
+use Rattle.syslog_named_forms.specs.Untagged.{angle, clock_row, dashed_row, day, is_month, month_row, month_word, slashed_row, topics_row}
 
 pub cef_det : AllDeterministic cef_row
 cef_det = exactly_det _ also run_det is_blank also some_run_det is_ascii_digit also exactly_det _ also tt
@@ -68,6 +69,13 @@ clock_det =
     let two = two_det 100 (omega arith) in
     otherwise_det (row_det dashed_row dashed_det) (row_det slashed_row slashed_det)
     also otherwise_det (exactly_det _) (exactly_det _) also two also after_det (pair 100) two also tt
+
+pub month_det : AllDeterministic month_row
+month_det =
+    let two = two_det 100 (omega arith) in
+    such_det (texted (some_run is_plain_char)) (λ t. IsTrue (is_month t))
+    (texted_det (some_run is_plain_char) (some_run_det is_plain_char)) also some_run_det is_blank
+    also some_run_det is_ascii_digit also some_run_det is_blank also two also after_det (pair 100) two also tt
 
 pub pair_det : AllDeterministic pair_row
 pair_det = some_run_det is_word_char also exactly_det _ also tt
@@ -117,6 +125,24 @@ otherwise_opens : {C D : Class} (H : ℕ → Type 0) → Opens C H → Opens D H
 otherwise_opens H o k p q (inl v) h = o p q v h
 otherwise_opens H o k p q (inr w) h = k p q w h.1
 
+-- a capital letter up to S
+abbrev IsInitial : ℕ → Type 0
+IsInitial c = IsTrue (nat_le 65 c && nat_le c 83)
+
+month_starts : (c : ℕ) (t : Text) → IsTrue (is_month (c ∷ t)) → IsInitial c
+month_starts c t h = grind (arith, nat_tests)
+
+month_opens : Opens (Row month_row) IsInitial
+month_opens = row_opens month_word (drop 1 month_row) IsInitial (λ p q v ((u, h, e), k).
+    let (c, t, f, g) = run_starts is_plain_char p q u h in
+    (c, t, f, month_starts c t (subst (λ (x : Text). IsTrue (is_month x)) (e ∙ f) k)))
+
+initial_begins : (c : ℕ) → IsInitial c → begins Dated c ≡ true
+initial_begins c h = grind (arith, nat_tests, h)
+
+capital_begins : (c : ℕ) → IsInitial c → begins_mark c ≡ true
+capital_begins c h = grind (arith, nat_tests, h)
+
 level_starts : (c : ℕ) (t : Text) → IsTrue (is_level (c ∷ t)) → IsTrue (nat_le 68 c && nat_le c 87)
 level_starts c t h = grind (arith, nat_tests)
 
@@ -134,6 +160,15 @@ exact c t test h p q v e = (c, t, e, h)
 
 year_starts : Starts year is_ascii_digit
 year_starts p q n (e, fits) = (48 + n / 100 / 10, _, e, grind (arith, nat_tests, fits))
+
+clock_opens : Starts (Row clock_row) is_ascii_digit
+clock_opens = row_opens day (drop 1 clock_row) (λ c. is_ascii_digit c ≡ true)
+    (otherwise_opens {C = Row dashed_row} {D = Row slashed_row} (λ c. is_ascii_digit c ≡ true)
+    (row_opens year (drop 1 dashed_row) (λ c. is_ascii_digit c ≡ true) year_starts)
+    (row_opens year (drop 1 slashed_row) (λ c. is_ascii_digit c ≡ true) year_starts))
+
+digit_begins : (c : ℕ) → is_ascii_digit c ≡ true → begins Dated c ≡ true
+digit_begins c h = grind (arith, nat_tests, h)
 
 opens : (m : Mark) → Starts (mark_class m) (begins m)
 opens Cef = row_opens (exactly (codes "CEF:")) (run is_blank ∷ some_run is_ascii_digit ∷ exactly (124 ∷ []) ∷ [])
@@ -164,11 +199,13 @@ opens Level = λ p q v ((u, h, e), k). let (c, t, f, g) = run_starts is_not_whit
 opens Topics = row_opens (Row topic_row) ((main_topic otherwise Row later_topic_row) ∷ []) (λ c. begins Topics c ≡ true)
     (row_opens (some_run is_plain_char) (exactly (44 ∷ []) ∷ []) (λ c. begins Topics c ≡ true)
     (run_starts is_plain_char))
-opens Bracket = λ p q v h. (91, [], h.1, refl)
-opens Dated = row_opens day (drop 1 clock_row) (λ c. begins Dated c ≡ true)
-    (otherwise_opens {C = Row dashed_row} {D = Row slashed_row} (λ c. begins Dated c ≡ true)
-    (row_opens year (drop 1 dashed_row) (λ c. begins Dated c ≡ true) year_starts)
-    (row_opens year (drop 1 slashed_row) (λ c. begins Dated c ≡ true) year_starts))
+opens Bracket = otherwise_opens {C = unless (Row number_row) (exactly (91 ∷ []))} {D = angle}
+    (λ c. begins Bracket c ≡ true) (λ p q v h. (91, [], h.1, refl))
+    (otherwise_opens {C = exactly (60 ∷ [])} {D = exactly (34 ∷ [])} (λ c. begins Bracket c ≡ true)
+    (exact 60 [] (begins Bracket) refl) (exact 34 [] (begins Bracket) refl))
+opens Dated = otherwise_opens {C = Row clock_row} {D = Row month_row} (λ c. begins Dated c ≡ true)
+    (λ p q v h. let (c, t, f, g) = clock_opens p q v h in (c, t, f, digit_begins c g))
+    (λ p q v h. let (c, t, f, g) = month_opens p q v h in (c, t, f, initial_begins c g))
 
 -- a text that begins otherwise has none
 pub no_mark : (m : Mark) {t more : Text} {c : ℕ} → t ≡ c ∷ more → false ≡ begins m c → NoFront (mark_class m) t
@@ -260,11 +297,17 @@ no_level c h = grind (arith, nat_tests, h)
 no_bracket : (c : ℕ) → begins_mark c ≡ false → false ≡ begins Bracket c
 no_bracket c h = grind (arith, nat_tests, h)
 
+no_month : {t more : Text} {c : ℕ} → t ≡ c ∷ more → begins_mark c ≡ false → NoFront (Row month_row) t
+no_month {more = more} {c = c} e low p q v f h =
+    let (d, r, g, k) = month_opens p q v h in
+    let same : c ≡ d = heads c d more (r ++ q) (sym e ∙ f ∙ ap (λ (x : Text). x ++ q) g) in
+    let bad : true ≡ false = sym (capital_begins d k) ∙ ap begins_mark (sym same) ∙ low in cc
+
 -- a text that begins otherwise has no mark
 pub unmarked : {t more : Text} {c : ℕ} → t ≡ c ∷ more → begins_mark c ≡ false
     → NoFront (Row clock_row) t
     → NoFront (Row pair_row) t × (NoFront (Row topics_row) t × NoFront (Row palo_alto_row) t) → IsUnmarked t
-unmarked e h d n Dated = d
+unmarked {c = c} e h d n Dated = no_otherwise d (no_month e h)
 unmarked e h d n Pair = n.0
 unmarked e h d n Topics = n.1.0
 unmarked e h d n PaloAlto = n.1.1

@@ -1,4 +1,7 @@
 pub mod Header
+pub mod Monotonic
+pub mod NearHeader
+pub mod NearHeaderViews
 pub mod NamedFinds
 pub mod NamedForms
 pub mod PairViews

@@ -5,6 +5,8 @@ use Rattle.syslog_text.specs.Text.{is_blank}
 use Rattle.syslog_sent.specs.Date.{any_date}
 use Rattle.syslog_sent.specs.Named.{NamedTexts, beginning, hosted}
 use Rattle.syslog_named_forms.specs.Header.{header_form}
+use Rattle.syslog_named_forms.specs.Monotonic.{monotonic_form}
+use Rattle.syslog_named_forms.specs.NearHeader.{bare_form, nil_form, tag_form}
 use Rattle.syslog_named_forms.specs.Pairs.{pairs_form}
 use Rattle.syslog_named_forms.specs.Programs as programs
 use Rattle.syslog_sent.specs.Sent.{Form, SentValue, loose}
@@ -81,6 +83,10 @@ abbrev pub untagged_tail : Tail
 untagged_tail =
     record { dialect = dialect.Untagged; after = Row programs.untagged_row; names = programs.untagged_of }
 
+-- it is tried after the forms that have nothing of their own after the date
+abbrev pub spread_tail : Tail
+spread_tail = record { dialect = dialect.SpacedName; after = Row programs.spread_row; names = programs.spread_of }
+
 abbrev pub program_tails : List Tail
 program_tails =
     forwarded_tail ∷ severity_tail ∷ worded_tail ∷ access_tail ∷ hostless_tail ∷ serial_tail ∷ untagged_tail ∷ []
@@ -97,8 +103,12 @@ abbrev pub undated_form : Dialect → Mark → Form
 undated_form dialect m =
     record { dialect = dialect; row = undated_row m; Means = UndatedSays m }
 
+-- headers, and the seconds since the start
+abbrev pub header_forms : List Form
+header_forms = nil_form ∷ tag_form ∷ header_form ∷ bare_form ∷ monotonic_form ∷ []
+
 abbrev pub undated_forms : List Form
-undated_forms = undated_form dialect.Cef mark.Cef ∷ undated_form dialect.Leef mark.Leef ∷ pairs_form ∷ header_form ∷ []
+undated_forms = undated_form dialect.Cef mark.Cef ∷ undated_form dialect.Leef mark.Leef ∷ pairs_form ∷ header_forms
 
 -- ---- all of them
 
@@ -107,3 +117,6 @@ program_forms = tail_forms program_tails ++ undated_forms
 
 abbrev pub all_named : List Form
 all_named = tail_forms message_tails ++ program_forms
+
+abbrev pub spread_forms : List Form
+spread_forms = tail_forms (spread_tail ∷ [])

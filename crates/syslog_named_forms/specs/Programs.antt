@@ -9,7 +9,7 @@ use Rattle.syslog_text.specs.Pieces.Rules.{such_that}
 use Rattle.syslog_text.specs.Text.{colon, host, is_blank}
 use Rattle.syslog_text.specs.Text.{is_tag_char}
 use Rattle.syslog_sent.specs.Date.{iso_date}
-use Rattle.syslog_sent.specs.Named.{◌otherwise◌, NamedTexts, BeginsWith, hosted, is_letter, process_id, program}
+use Rattle.syslog_sent.specs.Named.{◌otherwise◌, NamedTexts, BeginsWith, hosted, is_letter, name, process_id, program}
 use Rattle.syslog_sent.specs.Named.{after_row, beginning, is_number, tagged, untagged}
 use Rattle.syslog_sent.specs.Runs.{is_plain_char, is_word_char}
 use Rattle.std.proofs.Common.{inl, inr}
@@ -74,9 +74,9 @@ access_point = mapped (Row access_row) NamedTexts access_of
 
 -- ---- a name of several words: `nas1 Plex Media Server[811]: text`
 
--- words with one space between two
+-- two or more words with one space between each two
 abbrev pub words_row : List Class
-words_row = some_run is_word_char ∷ many (spaced (some_run is_word_char)) ∷ []
+words_row = some_run is_word_char ∷ spaced (some_run is_word_char) ∷ many (spaced (some_run is_word_char)) ∷ []
 
 abbrev pub words : Class
 words = such_that (texted (Row words_row)) (BeginsWith is_letter)
@@ -89,6 +89,18 @@ worded_of (h, (_, (name, (id, (_, (_, (m, _))))))) = tagged h (record { name = n
 
 abbrev pub worded : Class
 worded = mapped (Row worded_row) NamedTexts worded_of
+
+-- ---- more blanks than one before the host or the program: `nas1  smbd[811]: text`
+
+abbrev pub spread_row : List Class
+spread_row =
+    host ∷ some_run is_blank ∷ name ∷ process_id ∷ exactly colon ∷ run is_blank ∷ rest ∷ []
+
+abbrev pub spread_of : Values spread_row → NamedTexts
+spread_of (h, (_, (app, (id, (_, (_, (m, _))))))) = tagged h (record { name = app; process = Some id }) m
+
+abbrev pub spread : Class
+spread = mapped (Row spread_row) NamedTexts spread_of
 
 -- ---- a message that begins with a number: `h 06:33:04.123 INFO text`
 

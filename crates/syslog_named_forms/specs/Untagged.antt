@@ -105,6 +105,26 @@ topics_row = Row topic_row ∷ (main_topic otherwise Row later_topic_row) ∷ []
 abbrev pub number_row : List Class
 number_row = exactly (91 ∷ []) ∷ some_digits ∷ exactly (codes "]:") ∷ []
 
+-- a bracket that begins no such number, a second priority's `<`, or a quote
+abbrev pub angle : Class
+angle = exactly (60 ∷ []) otherwise exactly (34 ∷ [])
+
+abbrev pub open_bracket : Class
+open_bracket = unless (Row number_row) (exactly (91 ∷ [])) otherwise angle
+
+-- `Mar  2 06:33`, as a line that is passed on begins
+abbrev pub is_month : Text → Bool
+is_month t = text_eq t (codes "Jan") || (text_eq t (codes "Feb") || (text_eq t (codes "Mar") || (text_eq t
+    (codes "Apr") || (text_eq t (codes "May") || (text_eq t (codes "Jun") || (text_eq t (codes "Jul") || (text_eq t
+    (codes "Aug") || (text_eq t (codes "Sep") || (text_eq t (codes "Oct") || (text_eq t (codes "Nov") || (text_eq t
+    (codes "Dec"))))))))))))
+
+abbrev pub month_word : Class
+month_word = such_that (texted (some_run is_plain_char)) (λ t. IsTrue (is_month t))
+
+abbrev pub month_row : List Class
+month_row = month_word ∷ some_run is_blank ∷ some_digits ∷ some_run is_blank ∷ pair 100 ∷ after 58 (pair 100) ∷ []
+
 -- what begins such a message
 abbrev pub mark_class : Mark → Class
 mark_class Cef = Row cef_row
@@ -116,8 +136,8 @@ mark_class Json = exactly (codes "{\"")
 mark_class Idrac = exactly (codes "Severity: ")
 mark_class Level = such_that (texted (some_run is_not_whitespace)) (λ t. IsTrue (is_level t))
 mark_class Topics = Row topics_row
-mark_class Bracket = unless (Row number_row) (exactly (91 ∷ []))
-mark_class Dated = Row clock_row
+mark_class Bracket = open_bracket
+mark_class Dated = Row clock_row otherwise Row month_row
 
 -- the marks, in the order in which they are tried
 abbrev pub marks : List Mark
@@ -148,13 +168,14 @@ begins Json c = nat_eq c 123
 begins Idrac c = nat_eq c 83
 begins Level c = nat_le 68 c && nat_le c 87
 begins Topics c = is_plain_char c
-begins Bracket c = nat_eq c 91
-begins Dated c = is_ascii_digit c
+begins Bracket c = nat_eq c 91 || (nat_eq c 60 || nat_eq c 34)
+begins Dated c = is_ascii_digit c || (nat_le 65 c && nat_le c 83)
 
 -- the character may begin such a message, unless a key, a number, a date or a topic does
 abbrev pub begins_mark : ℕ → Bool
-begins_mark c = (nat_le 67 c && nat_le c 87)
-    || (nat_eq c 97 || (nat_eq c 108 || (nat_eq c 109 || (nat_eq c 45 || (nat_eq c 123 || nat_eq c 91)))))
+begins_mark c = (nat_le 65 c && nat_le c 87)
+    || (nat_eq c 97 || (nat_eq c 108 || (nat_eq c 109 || (nat_eq c 45 || (nat_eq c 123 || (nat_eq c 91 || (nat_eq c 60
+    || nat_eq c 34)))))))
 
 -- `=` or a comma, which a key, a number or a topic ends at
 abbrev pub ends_list : ℕ → Bool

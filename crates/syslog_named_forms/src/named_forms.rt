@@ -1,26 +1,30 @@
 //! The forms that are recognised by what follows the date, in the order in which they are tried.
-ghost use Rattle.std.specs.Prelude.{◌≡◌, ◌++◌, None, chars};
-ghost use Rattle.syslog_text.specs.Pieces.Class.{Row};
+ghost use Rattle.std.specs.Prelude.{◌≡◌, ◌∷◌, ◌++◌, [], None, chars};
+ghost use Rattle.syslog_text.specs.Pieces.Class.{Row, Text};
 ghost use Rattle.syslog_text.specs.Pieces.View.{Reads, seen};
 ghost use Rattle.syslog_sent.specs.Forms.{Finds};
 ghost use Rattle.syslog_sent.specs.Led.{IsFront, IsLed};
 ghost use Rattle.syslog_named_forms.specs.NamedFinds.{FindsAfter};
+ghost use Rattle.syslog_named_forms.specs.Monotonic.{monotonic_form};
 ghost use Rattle.syslog_named_forms.specs.NamedForms as spec;
 ghost use Rattle.syslog_sent.specs.Sent.{loose, sent_value};
 ghost use Rattle.syslog_named_forms.specs.Untagged.{host_row};
 ghost use Rattle.syslog_sent.specs.Views.{named_value};
 
 use crate::header::read_header;
+use crate::monotonic::read_monotonic;
+use crate::near_header::{read_bare, read_nil, read_tag};
 use crate::pairs::read_pairs;
 use crate::programs::{
-    after_serial, forwarded, hostless, of_access_point, severity_first, untagged_message, worded,
+    after_serial, forwarded, hostless, of_access_point, severity_first, spread, untagged_message,
+    worded,
 };
 use crate::untagged::{MARKS, Mark, mark_end, may_be_message, message, past_host};
 use syslog_sent::dialect::Dialect;
 use syslog_sent::led::Led;
 use syslog_sent::named::Named;
 use syslog_sent::sent::{Sent, SentDate};
-use syslog_text::text::{blanks, some_blanks};
+use syslog_text::text::{blanks, number, some_blanks};
 
 // Returns what a line says that has this date, and these names and this message after it.
 #[inline(always)]
@@ -54,6 +58,43 @@ fn bare(msg: &str) -> Sent<'_>
     }
 }
 
+// Reads a line with the seconds since the start.
+fn of_seconds(text: &str) -> Option<(Dialect, Sent<'_>)>
+    ensures { Finds (monotonic_form ∷ []) (chars text.now) result }
+{
+    let sent = read_monotonic(text)?;
+    Some((Dialect::Monotonic, sent))
+}
+
+// Reads a header that begins with a version.
+fn of_version(text: &str) -> Option<(Dialect, Sent<'_>)>
+    ensures { Finds spec.header_forms (chars text.now) result }
+{
+    if let Some(sent) = read_nil(text) {
+        return Some((Dialect::NearlyRfc5424, sent));
+    }
+    if let Some(sent) = read_tag(text) {
+        return Some((Dialect::NearlyRfc5424, sent));
+    }
+    if let Some(sent) = read_header(text) {
+        return Some((Dialect::Heroku, sent));
+    }
+    if let Some(sent) = read_bare(text) {
+        return Some((Dialect::NearlyRfc5424, sent));
+    }
+    of_seconds(text)
+}
+
+// Reads a header, or a line with the seconds since the start. Few texts begin with a version.
+fn of_header(text: &str) -> Option<(Dialect, Sent<'_>)>
+    ensures { Finds spec.header_forms (chars text.now) result }
+{
+    match number(text, u32::MAX) {
+        Some(_) => of_version(text),
+        None => of_seconds(text),
+    }
+}
+
 // Reads a message that has no date before it.
 fn undated(text: &str) -> Option<(Dialect, Sent<'_>)>
     ensures { Finds spec.undated_forms (chars text.now) result }
@@ -68,10 +109,7 @@ fn undated(text: &str) -> Option<(Dialect, Sent<'_>)>
     if let Some(sent) = read_pairs(text) {
         return Some((Dialect::KeyValue, sent));
     }
-    if let Some(sent) = read_header(text) {
-        return Some((Dialect::Heroku, sent));
-    }
-    None
+    of_header(text)
 }
 
 // Reads a program's line after its date. `after_host` is what `past_host` returned for what follows the date.
@@ -162,5 +200,32 @@ pub fn read<'a>(text: &'a str, front: Option<Led<'a>>) -> Option<(Dialect, Sent<
     match front {
         Some(led) => of_led(led, text),
         None => undated(text),
+    }
+}
+
+// Reads what follows a date and blanks where nothing but the blanks is unusual.
+fn of_spread(date: SentDate, rest: &str) -> Option<(Dialect, Sent<'_>)>
+    ensures { (text : Text) → FindsAfter spec.spread_forms date (chars rest.now) text result }
+{
+    let named = spread(past_host(rest))?;
+    Some((Dialect::SpacedName, sent(date, named)))
+}
+
+// Reads what follows a date that begins the text.
+fn of_spread_led(led: Led<'_>) -> Option<(Dialect, Sent<'_>)>
+    ensures { (text : Text) → IsLed text led.entry → Finds spec.spread_forms text result }
+{
+    let rest = some_blanks(led.rest)?;
+    of_spread(led.sent, rest)
+}
+
+/// Returns the dialect of a line that has a program's name after its date and any number of blanks, and what the line
+/// says. It is tried last. `front` is what `read_front` returned for the line.
+pub fn read_spread(front: Option<Led<'_>>) -> Option<(Dialect, Sent<'_>)>
+    ensures { (text : Text) → IsFront text front.entry → Finds spec.spread_forms text result }
+{
+    match front {
+        Some(led) => of_spread_led(led),
+        None => None,
     }
 }

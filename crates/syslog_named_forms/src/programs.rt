@@ -13,7 +13,7 @@ ghost use Rattle.syslog_sent.specs.Views.{Names, named_value};
 use crate::untagged::{topic, topic_word};
 use syslog_sent::date::iso_date;
 use syslog_sent::named::{
-    Named, Program, is_letter, is_number, past, process_id, read_program, tagged, untagged,
+    Named, Program, is_letter, is_number, name, past, process_id, read_program, tagged, untagged,
 };
 use syslog_sent::runs::{Run, split};
 use syslog_sent::selector::{selector, severity};
@@ -103,11 +103,11 @@ fn more_words(text: &str) -> &str
     rest
 }
 
-// Returns the text after words that have one space between each two.
+// Returns the text after two or more words that have one space between each two.
 fn words_end(text: &str) -> Option<&str>
     ensures { Recognises (Row spec.words_row) (chars text.now) result }
 {
-    word(text).map(more_words)
+    word(text).and_then(spaced_word).map(more_words)
 }
 
 // Returns a name of several words at the front, and the text after it.
@@ -227,6 +227,24 @@ pub(crate) fn untagged_message<'a>(
     let (hostname, msg) = after_host?;
     let _ = number_word(msg)?;
     Some(untagged(hostname, msg))
+}
+
+/// Reads a line of a program with a process id that has blanks where the port takes one space. `after_host` is what
+/// `past_host` returned for the line.
+#[inline(always)]
+pub(crate) fn spread<'a>(after_host: Option<(Option<&'a str>, &'a str)>) -> Option<Named<'a>>
+    ensures { (text : Text) → Reads (Row host_row) (λ h. (seen h, (tt, tt))) text after_host.entry
+        → Names spec.spread named_value text result }
+{
+    let (hostname, before_name) = after_host?;
+    let (name, after_name) = name(before_name)?;
+    let (id, after_id) = process_id(after_name)?;
+    let rest = literal(after_id, ':')?;
+    let program = Program {
+        name,
+        process: Some(id),
+    };
+    Some(tagged(hostname, program, blanks(rest)))
 }
 
 // Returns a host before a colon, and the text after these.

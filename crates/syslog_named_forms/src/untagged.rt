@@ -4,8 +4,9 @@ ghost use Rattle.syslog_text.specs.Pieces.Class.{Front, NoFront, Row, after, exa
 ghost use Rattle.syslog_text.specs.Pieces.View.{Reads, Recognises, seen, shown};
 ghost use Rattle.syslog_pieces.specs.Timestamp.Rfc3339.{pair as pair_class, year as year_class};
 ghost use Rattle.syslog_text.specs.Text.{is_blank};
+ghost use Rattle.syslog_sent.specs.Date.{unless};
 ghost use Rattle.syslog_sent.specs.Runs.{is_plain_char, is_word_char};
-ghost use Rattle.syslog_named_forms.specs.declared.untagged.Mark.TheVariants.{Bracket, Level, Repeated};
+ghost use Rattle.syslog_named_forms.specs.declared.untagged.Mark.TheVariants.{Bracket, Dated, Level, Repeated};
 ghost use Rattle.syslog_sent.specs.Named.{◌otherwise◌};
 ghost use Rattle.syslog_named_forms.specs.Untagged as spec;
 ghost use Rattle.syslog_sent.specs.Views.{Names, named_value};
@@ -37,9 +38,9 @@ pub enum Mark {
     Level,
     /// `system,info`.
     Topics,
-    /// `[`.
+    /// `[`, `<` or a quote.
     Bracket,
-    /// `2026-03-02 06:33`.
+    /// `2026-03-02 06:33`, or `Mar  2 06:33`.
     Dated,
 }
 
@@ -58,15 +59,16 @@ pub(crate) const MARKS: [Mark; 11] = [
     Mark::Dated,
 ];
 
-fn digits(text: &str) -> Option<&str>
+/// Returns the text after digits.
+pub(crate) fn digits(text: &str) -> Option<&str>
     ensures { Recognises spec.some_digits (chars text.now) result }
 {
     let (run, rest) = split_run(text, CharClass::Digit);
     if run.is_empty() { None } else { Some(rest) }
 }
 
-// Returns the text after any blanks.
-fn past_blanks(text: &str) -> &str
+/// Returns the text after any blanks.
+pub(crate) fn past_blanks(text: &str) -> &str
     ensures { (v : Unit {0}) × Front (run is_blank) (chars text.now) (shown result) v }
 {
     blanks(text)
@@ -78,7 +80,8 @@ fn bar(text: &str) -> Option<&str>
     literal(text, '|')
 }
 
-fn dot(text: &str) -> Option<&str>
+/// Returns the text after a dot.
+pub(crate) fn dot(text: &str) -> Option<&str>
     ensures { Recognises (exactly (46 ∷ [])) (chars text.now) result }
 {
     literal(text, '.')
@@ -293,13 +296,64 @@ fn day_end(text: &str) -> Option<&str>
     space(text)
 }
 
-fn dated(text: &str) -> Option<&str>
+fn clock(text: &str) -> Option<&str>
     ensures { Recognises (Row spec.clock_row) (chars text.now) result }
 {
     day(text)
         .and_then(day_end)
         .and_then(two_digits)
         .and_then(after_colon)
+}
+
+fn is_month(word: &str) -> bool
+    ensures { result ≡ spec.is_month (chars word.now) }
+{
+    is_word(word, "Jan")
+        || (is_word(word, "Feb")
+            || (is_word(word, "Mar")
+                || (is_word(word, "Apr")
+                    || (is_word(word, "May")
+                        || (is_word(word, "Jun")
+                            || (is_word(word, "Jul")
+                                || (is_word(word, "Aug")
+                                    || (is_word(word, "Sep")
+                                        || (is_word(word, "Oct")
+                                            || (is_word(word, "Nov")
+                                                || (is_word(word, "Dec"))))))))))))
+}
+
+fn month_word(text: &str) -> Option<&str>
+    ensures { Recognises spec.month_word (chars text.now) result }
+{
+    let (word, rest) = split(text, Run::Plain);
+    is_month(word).then_some(rest)
+}
+
+fn gap(text: &str) -> Option<&str>
+    ensures { Recognises (some_run is_blank) (chars text.now) result }
+{
+    some_blanks(text)
+}
+
+fn month(text: &str) -> Option<&str>
+    ensures { Recognises (Row spec.month_row) (chars text.now) result }
+{
+    month_word(text)
+        .and_then(gap)
+        .and_then(digits)
+        .and_then(gap)
+        .and_then(two_digits)
+        .and_then(after_colon)
+}
+
+// Returns the text after a date and the time to the minute.
+fn dated(text: &str) -> Option<&str>
+    ensures { Recognises (spec.mark_class Dated) (chars text.now) result }
+{
+    if let Some(rest) = clock(text) {
+        return Some(rest);
+    }
+    month(text)
 }
 
 fn key(text: &str) -> Option<&str>
@@ -402,7 +456,8 @@ fn topics(text: &str) -> Option<&str>
     topic(text).and_then(either_topic)
 }
 
-fn bracket(text: &str) -> Option<&str>
+/// Returns the text after an opening bracket.
+pub(crate) fn bracket(text: &str) -> Option<&str>
     ensures { Recognises (exactly (91 ∷ [])) (chars text.now) result }
 {
     literal(text, '[')
@@ -422,13 +477,44 @@ fn number(text: &str) -> Option<&str>
 }
 
 // The text after a bracket that begins no such number.
-fn open_bracket(text: &str) -> Option<&str>
-    ensures { Recognises (spec.mark_class Bracket) (chars text.now) result }
+fn square(text: &str) -> Option<&str>
+    ensures { Recognises (unless (Row spec.number_row) (exactly (91 ∷ []))) (chars text.now) result }
 {
     if let Some(_) = number(text) {
         return None;
     }
     bracket(text)
+}
+
+fn less(text: &str) -> Option<&str>
+    ensures { Recognises (exactly (60 ∷ [])) (chars text.now) result }
+{
+    literal(text, '<')
+}
+
+fn quote(text: &str) -> Option<&str>
+    ensures { Recognises (exactly (34 ∷ [])) (chars text.now) result }
+{
+    literal(text, '"')
+}
+
+fn angle(text: &str) -> Option<&str>
+    ensures { Recognises spec.angle (chars text.now) result }
+{
+    if let Some(rest) = less(text) {
+        return Some(rest);
+    }
+    quote(text)
+}
+
+// The text after such a bracket, after `<`, or after a quote.
+fn open_bracket(text: &str) -> Option<&str>
+    ensures { Recognises (spec.mark_class Bracket) (chars text.now) result }
+{
+    if let Some(rest) = square(text) {
+        return Some(rest);
+    }
+    angle(text)
 }
 
 impl Mark {
@@ -460,13 +546,14 @@ impl Mark {
             Mark::Cef => c == 'C',
             Mark::Leef => c == 'L',
             Mark::Repeated => c == 'l' || (c == 'm' || (c == '-' || c == 'a')),
-            Mark::PaloAlto | Mark::Dated => c.is_ascii_digit(),
+            Mark::PaloAlto => c.is_ascii_digit(),
+            Mark::Dated => c.is_ascii_digit() || ('A' <= c && c <= 'S'),
             Mark::Pair => Run::Word.has(c),
             Mark::Json => c == '{',
             Mark::Idrac => c == 'S',
             Mark::Level => 'D' <= c && c <= 'W',
             Mark::Topics => Run::Plain.has(c),
-            Mark::Bracket => c == '[',
+            Mark::Bracket => c == '[' || (c == '<' || c == '"'),
         }
     }
 }
@@ -508,8 +595,10 @@ fn read_mark(text: &str, mark: Mark) -> Option<&str>
 fn begins_mark(c: char) -> bool
     ensures { result ≡ spec.begins_mark c }
 {
-    ('C' <= c && c <= 'W')
-        || (c == 'a' || (c == 'l' || (c == 'm' || (c == '-' || (c == '{' || c == '[')))))
+    ('A' <= c && c <= 'W')
+        || (c == 'a'
+            || (c == 'l'
+                || (c == 'm' || (c == '-' || (c == '{' || (c == '[' || (c == '<' || c == '"')))))))
 }
 
 // Whether the character ends a key, a number or a topic.

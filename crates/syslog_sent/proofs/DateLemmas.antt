@@ -12,6 +12,9 @@ use Rattle.syslog_text.proofs.PieceLemmas.Rules.{exactly_apart, or_det, such_det
 use Rattle.syslog_text.proofs.TextLemmas.Words.{number_det}
 use Rattle.syslog_pieces.proofs.TimestampLemmas.MonthDate.{month_date_det}
 use Rattle.syslog_pieces.proofs.TimestampLemmas.Rfc3339.{pair_det, year_det, decimals_det}
+use Rattle.syslog_text.specs.Pieces.Class.{after}
+use Rattle.syslog_sent.specs.Named.{◌otherwise◌}
+use Rattle.syslog_sent.specs.Date.{date_part, one_of_numbers}
 use Rattle.syslog_sent.specs.Date.{point, fraction_row, fraction, late_fraction_row, late_fraction, year_after}
 use Rattle.syslog_sent.specs.Date.{bsd_row, bsd_of}
 use Rattle.syslog_sent.specs.Date.{bsd_date, IsOdd, odd_bsd_date, middle, iso_row, iso_of, iso_date, unless}
@@ -40,7 +43,7 @@ bsd_det = month_date_det
     ℕ _ (row_det late_fraction_row late_fraction_row_det))
     also optional_det zone zone_det also optional_det year_after (after_det (ended year) ended_year_det) also tt
 
-bsd_date_det : IsDeterministic bsd_date
+pub bsd_date_det : IsDeterministic bsd_date
 bsd_date_det = mapped_det (Row bsd_row) SentDate bsd_of (row_det bsd_row bsd_det)
 
 pub odd_bsd_date_det : IsDeterministic odd_bsd_date
@@ -51,8 +54,12 @@ middle_det : IsDeterministic middle
 middle_det = mapped_det (exactly (84 ∷ []) or exactly (32 ∷ [])) (Unit {0}) _ (or_det (exactly_det _) (exactly_det _)
     (exactly_apart 84 (exactly (32 ∷ [])) (λ p q v h. (32, [], h, omega arith))))
 
+date_part_det : IsDeterministic date_part
+date_part_det = mapped_det (after 45 (number 99) otherwise after 47 (number 99)) ℕ one_of_numbers
+    (otherwise_det (after_det (number 99) (number_det 99)) (after_det (number 99) (number_det 99)))
+
 pub iso_det : AllDeterministic iso_row
-iso_det = year_det also after_det (number 99) (number_det 99) also after_det (number 99) (number_det 99) also middle_det
+iso_det = year_det also date_part_det also date_part_det also middle_det
     also pair_det 100 (omega arith) also after_det (pair 100) (pair_det 100 (omega arith))
     also after_det (pair 61) (pair_det 61 (omega arith))
     also optional_det fraction (mapped_det (Row fraction_row) ℕ _ (row_det fraction_row fraction_row_det))

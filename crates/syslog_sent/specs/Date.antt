@@ -86,10 +86,18 @@ odd_bsd_date = mapped (such_that (Row bsd_row) IsOdd) SentDate bsd_of
 abbrev pub middle : Class
 middle = mapped (exactly (84 ∷ []) or exactly (32 ∷ [])) (Unit {0}) (λ _. tt)
 
--- `YYYY-M-D` and `HH:MM:SS`, and perhaps a fraction and a zone
+abbrev pub one_of_numbers : ℕ ⊎ ℕ → ℕ
+one_of_numbers (inl n) = n
+one_of_numbers (inr n) = n
+
+-- a month or a day, after a dash or a slash
+abbrev pub date_part : Class
+date_part = mapped (after 45 (number 99) otherwise after 47 (number 99)) ℕ one_of_numbers
+
+-- `YYYY-M-D` or `YYYY/M/D`, and `HH:MM:SS`, and perhaps a fraction and a zone
 abbrev pub iso_row : List Class
 iso_row =
-    year ∷ after 45 (number 99) ∷ after 45 (number 99) ∷ middle ∷ pair 100 ∷ after 58 (pair 100) ∷ after 58 (pair 61)
+    year ∷ date_part ∷ date_part ∷ middle ∷ pair 100 ∷ after 58 (pair 100) ∷ after 58 (pair 61)
     ∷ optional fraction ∷ optional zone ∷ []
 
 -- second 60 is taken as 59

@@ -7,7 +7,7 @@ use Rattle.syslog_sent.specs.declared.dialect.Dialect.TheVariants.{CiscoIos, Cis
 use Rattle.syslog_sent.specs.declared.dialect.Dialect.TheVariants.{Container, CiscoIosXr, NetScaler, ProCurve}
 use Rattle.syslog_sent.specs.declared.dialect.Dialect.TheVariants.{Repeated, Cef, Leef, PaloAlto, KeyValue, Json}
 use Rattle.syslog_sent.specs.declared.dialect.Dialect.TheVariants.{Idrac, Log4j, Forwarded, SeverityFirst}
-use Rattle.syslog_sent.specs.declared.dialect.Dialect.TheVariants.{SpacedName, NoHost, Heroku}
+use Rattle.syslog_sent.specs.declared.dialect.Dialect.TheVariants.{SpacedName, NoHost, Heroku, Monotonic, NearlyRfc5424}
 use Rattle.syslog_sent.specs.declared.dialect.Dialect.TheVariants.{Bracketed, MikroTik, SophosUtm, UnixSeconds}
 use Rattle.syslog_sent.specs.declared.dialect.Dialect.TheVariants.{Esxi, WatchGuard, DatedMessage, UniFi, Untagged}
 
@@ -47,6 +47,8 @@ dialect_name SeverityFirst = codes "severity-first"
 dialect_name SpacedName = codes "spaced-name"
 dialect_name NoHost = codes "no-host"
 dialect_name Heroku = codes "heroku"
+dialect_name Monotonic = codes "journalctl-monotonic"
+dialect_name NearlyRfc5424 = codes "nearly-rfc5424"
 
 -- the name of the dialect, where there is one
 abbrev pub dialect_text : Option Dialect → Option Text
@@ -88,3 +90,5 @@ dialect_number SeverityFirst = 49
 dialect_number SpacedName = 50
 dialect_number NoHost = 51
 dialect_number Heroku = 52
+dialect_number Monotonic = 59
+dialect_number NearlyRfc5424 = 60

@@ -203,12 +203,31 @@ fn middle(text: &str) -> Option<&str>
     }
 }
 
-// Returns a month or a day after a dash, and the text after it.
-fn number_after(text: &str) -> Option<(u32, &str)>
+// Returns a number after a dash, and the text after it.
+fn dashed(text: &str) -> Option<(u32, &str)>
     ensures { Reads (after 45 (any_number 99)) (λ n. n) (chars text.now) result }
 {
     let rest = literal(text, '-')?;
     number(rest, 99)
+}
+
+// Returns a number after a slash, and the text after it.
+fn slashed(text: &str) -> Option<(u32, &str)>
+    ensures { Reads (after 47 (any_number 99)) (λ n. n) (chars text.now) result }
+{
+    let rest = literal(text, '/')?;
+    number(rest, 99)
+}
+
+// Returns a month or a day after a dash or a slash, and the text after it.
+#[inline(always)]
+fn date_part(text: &str) -> Option<(u32, &str)>
+    ensures { Reads spec.date_part (λ n. n) (chars text.now) result }
+{
+    match dashed(text) {
+        Some(read) => Some(read),
+        None => slashed(text),
+    }
 }
 
 impl IsoDate {
@@ -237,8 +256,8 @@ fn iso(text: &str) -> Option<(IsoDate, &str)>
     ensures { Reads (Row spec.iso_row) iso_values (chars text.now) result }
 {
     let (year, rest) = year(text)?;
-    let (month, rest) = number_after(rest)?;
-    let (day, rest) = number_after(rest)?;
+    let (month, rest) = date_part(rest)?;
+    let (day, rest) = date_part(rest)?;
     let rest = middle(rest)?;
     let (hour, rest) = pair(rest, 100)?;
     let (minute, rest) = pair_after(rest, ':', 100)?;

@@ -74,6 +74,10 @@ pub enum Dialect {
     NoHost,
     /// A header of RFC 5424 without structured data, as Heroku writes.
     Heroku,
+    /// A header nearly of RFC 5424: with a date that RFC 5424 does not have, without structured data, or with a tag.
+    NearlyRfc5424,
+    /// The seconds since the start in the place of a date, as journalctl's `short-monotonic` writes.
+    Monotonic,
 }
 
 impl Dialect {
@@ -116,6 +120,8 @@ impl Dialect {
             Dialect::SpacedName => "spaced-name",
             Dialect::NoHost => "no-host",
             Dialect::Heroku => "heroku",
+            Dialect::NearlyRfc5424 => "nearly-rfc5424",
+            Dialect::Monotonic => "journalctl-monotonic",
         }
     }
 
@@ -158,6 +164,8 @@ impl Dialect {
             Dialect::SpacedName => 50,
             Dialect::NoHost => 51,
             Dialect::Heroku => 52,
+            Dialect::NearlyRfc5424 => 60,
+            Dialect::Monotonic => 59,
         }
     }
 
@@ -201,6 +209,8 @@ impl Dialect {
             50 => Some(Dialect::SpacedName),
             51 => Some(Dialect::NoHost),
             52 => Some(Dialect::Heroku),
+            60 => Some(Dialect::NearlyRfc5424),
+            59 => Some(Dialect::Monotonic),
             _ => None,
         }
     }

@@ -1,5 +1,5 @@
 use Rattle.syslog_sent.proofs.DialectLemmas.{here}
-use Rattle.syslog_dated_forms.specs.Cisco.{undated_form}
+use Rattle.syslog_dated_forms.specs.Undated.{undated_form}
 use Rattle.std.proofs.Common.{[]}
 use Rattle.syslog_dated_forms.proofs.dated_forms.from_undated.Goals as goal
 

@@ -1,19 +1,23 @@
 use Rattle.syslog_sent.proofs.DialectLemmas.{found_early, found_late}
-use Rattle.syslog_dated_forms.proofs.MarkLemmas.{unmarked_cisco, unmarked_filed}
+use Rattle.syslog_dated_forms.proofs.MarkLemmas.{unmarked_cisco, unmarked_filed, unmarked_timed}
 use Rattle.syslog_sent.proofs.FormLemmas.{found_after}
 use Rattle.std.proofs.Common.{None, refl}
 use Rattle.syslog_dated_forms.specs.Cisco.{cisco_forms}
+use Rattle.std.proofs.Common.{◌++◌}
+use Rattle.syslog_dated_forms.specs.DatedForms.{timed_forms}
 use Rattle.syslog_dated_forms.specs.Filed.{filed_forms}
 use Rattle.syslog_dated_forms.proofs.dated_forms.of_cisco.Goals as goal
 
 pub returns-then-not-is_marked : goal.returns-then-not-is_marked
 returns-then-not-is_marked c front =
     let none = c.if-not-is_marked.ensures refl in
-    found_after cisco_forms filed_forms _ None (unmarked_cisco none) (unmarked_filed none)
+    found_after cisco_forms (filed_forms ++ timed_forms) _ None (unmarked_cisco none)
+    (found_after filed_forms timed_forms _ None (unmarked_filed none) (unmarked_timed none))
 
 pub returns-in-Some : goal.returns-in-Some
-returns-in-Some c front = found_early cisco_forms filed_forms _ c.in-Some.found (c.in-Some.ensures front)
+returns-in-Some c front =
+    found_early cisco_forms (filed_forms ++ timed_forms) _ c.in-Some.found (c.in-Some.ensures front)
 
 pub returns-in-None : goal.returns-in-None
-returns-in-None c front =
-    found_late cisco_forms filed_forms _ c.of_filed.result (c.in-None.ensures front) (c.of_filed.ensures _ front)
+returns-in-None c front = found_late cisco_forms (filed_forms ++ timed_forms) _ c.of_filed.result
+    (c.in-None.ensures front) (c.of_filed.ensures _ front)

@@ -1,14 +1,10 @@
-use Rattle.std.proofs.Common.{◌++◌}
 use Rattle.syslog_sent.proofs.DialectLemmas.{found_early, found_late}
-use Rattle.syslog_dated_forms.specs.Cisco.{cisco_forms}
-use Rattle.syslog_dated_forms.specs.DatedForms.{xr_forms}
-use Rattle.syslog_dated_forms.specs.Filed.{filed_forms}
+use Rattle.syslog_dated_forms.specs.DatedForms.{marked_forms, xr_forms}
 use Rattle.syslog_dated_forms.proofs.dated_forms.read.Goals as goal
 
 pub returns-in-Some : goal.returns-in-Some
-returns-in-Some c front =
-    found_early (cisco_forms ++ filed_forms) xr_forms _ c.in-Some.found (c.in-Some.ensures front)
+returns-in-Some c front = found_early marked_forms xr_forms _ c.in-Some.found (c.in-Some.ensures front)
 
 pub returns-in-None : goal.returns-in-None
-returns-in-None c front = found_late (cisco_forms ++ filed_forms) xr_forms _ c.from_xr.result
-    (c.in-None.ensures front) (c.from_xr.ensures front)
+returns-in-None c front =
+    found_late marked_forms xr_forms _ c.from_xr.result (c.in-None.ensures front) (c.from_xr.ensures front)

@@ -1,9 +1,11 @@
-use Rattle.std.proofs.Common.{[], ◌∷◌}
-use Rattle.syslog_text.proofs.PieceLemmas.{Class.◌also◌, Rules.row_reads}
-use Rattle.syslog_named_forms.{proofs.UntaggedLemmas.clock_det, specs.Untagged.clock_row}
+use Rattle.std.proofs.Common.{inl, inr}
+use Rattle.syslog_text.proofs.PieceLemmas.Class.{match_map}
+use Rattle.syslog_sent.proofs.NamedLemmas.{first_front, no_otherwise, second_front}
 use Rattle.syslog_named_forms.proofs.untagged.dated.Goals as goal
 
+pub returns-in-Some : goal.returns-in-Some
+returns-in-Some c = let (v, f) = c.in-Some.ensures in (inl v, first_front f)
+
 pub returns : goal.returns
-returns c = row_reads clock_row clock_det c.args.text
-    (c.day.result ∷ c.and_then.result ∷ c.and_then-2.result ∷ c.and_then-3.result ∷ [])
-    (c.day.ensures also c.and_then.ensures also c.and_then-2.ensures also c.and_then-3.ensures also tt)
+returns c = match_map c.month.result (λ n. no_otherwise c.in_default.ensures n)
+    (λ x (v, f). (inr v, second_front c.in_default.ensures f)) c.month.ensures

@@ -1,13 +1,11 @@
-use Rattle.std.proofs.Common.{[], ◌∷◌}
-use Rattle.syslog_text.specs.Pieces.Class.{Row, exactly}
+use Rattle.std.proofs.Common.{inr}
 use Rattle.syslog_text.proofs.PieceLemmas.Class.{match_map}
-use Rattle.syslog_sent.proofs.DateLemmas.{no_unless, no_unless_later, unless_front}
-use Rattle.syslog_named_forms.specs.Untagged.{number_row}
+use Rattle.syslog_sent.proofs.NamedLemmas.{first_front, no_otherwise, second_front}
 use Rattle.syslog_named_forms.proofs.untagged.open_bracket.Goals as goal
 
 pub returns-in-Some : goal.returns-in-Some
-returns-in-Some c = let (v, f) = c.in-Some.ensures in no_unless (Row number_row) (exactly (91 ∷ [])) f
+returns-in-Some c = let (v, f) = c.in-Some.ensures in (_, first_front f)
 
 pub returns : goal.returns
-returns c = match_map c.bracket.result (λ n. no_unless_later (Row number_row) (exactly (91 ∷ [])) n)
-    (λ x (v, f). (v, unless_front (Row number_row) (exactly (91 ∷ [])) c.in_default.ensures f)) c.bracket.ensures
+returns c = match_map c.angle.result (λ n. no_otherwise c.in_default.ensures n)
+    (λ x (v, f). (inr v, second_front c.in_default.ensures f)) c.angle.ensures

@@ -1,0 +1,16 @@
+use Rattle.std.proofs.Common.{◌∙◌, sym}
+use Rattle.std.specs.Prelude.{◌≡◌, false, true}
+use Rattle.syslog_text.proofs.PieceLemmas.Rules.{no_such_front, no_such_meaning, such_front}
+use Rattle.syslog_dated_forms.proofs.CiscoLemmas.{label_det}
+use Rattle.syslog_dated_forms.specs.{Cisco.label, Undated.IsName}
+use Rattle.syslog_dated_forms.proofs.undated.name_label.Goals as goal
+
+pub returns-in_err-name : goal.returns-in_err-name
+returns-in_err-name c = rw c.from_residual.ensures (no_such_front label IsName c.in_err-name.ensures)
+
+pub returns-then-is_uptime : goal.returns-then-is_uptime
+returns-then-is_uptime c = no_such_meaning label IsName label_det c.in_ok-name.ensures
+    (λ not. (let bad : true ≡ false = c.if-is_uptime.ensures ∙ not in cc))
+
+pub returns : goal.returns
+returns c = such_front label IsName c.in_ok-name.ensures (sym c.if-is_uptime.ensures)

@@ -1,0 +1,38 @@
+-- Headers nearly of RFC 5424: one front of each class.
+use Rattle.syslog_text.specs.Text.{dash, is_blank}
+use Rattle.syslog_text.specs.Pieces.Class.{IsDeterministic, exactly}
+use Rattle.syslog_text.proofs.PieceLemmas.Class.{AllDeterministic, ◌also◌, all_joined, exactly_det, rest_det, run_det}
+use Rattle.syslog_text.proofs.PieceLemmas.Class.{some_run_det}
+use Rattle.syslog_text.proofs.TextLemmas.Words.{host_det, number_det, word_det}
+use Rattle.syslog_sent.proofs.DateLemmas.{any_date_det}
+use Rattle.syslog_sent.proofs.NamedLemmas.{program_det}
+use Rattle.syslog_sent.proofs.ZoneLemmas.{ended_det}
+use Rattle.syslog_named_forms.specs.NearHeader.{bare_more, bare_row, head_row, nil, nil_more, nil_row, tag_more, tag_row}
+
+pub head_det : AllDeterministic head_row
+head_det = number_det 4294967295 also some_run_det is_blank also any_date_det also some_run_det is_blank also host_det
+    also some_run_det is_blank also tt
+
+nil_class_det : IsDeterministic nil
+nil_class_det = ended_det (exactly dash) (exactly_det _)
+
+pub nil_more_det : AllDeterministic nil_more
+nil_more_det = let gap = some_run_det is_blank in
+    word_det also gap also word_det also gap also word_det also gap also nil_class_det also run_det is_blank also rest_det
+    also tt
+
+pub tag_more_det : AllDeterministic tag_more
+tag_more_det = program_det also run_det is_blank also rest_det also tt
+
+pub bare_more_det : AllDeterministic bare_more
+bare_more_det = let gap = some_run_det is_blank in
+    word_det also gap also word_det also gap also word_det also gap also rest_det also tt
+
+pub nil_det : AllDeterministic nil_row
+nil_det = all_joined head_row nil_more head_det nil_more_det
+
+pub tag_det : AllDeterministic tag_row
+tag_det = all_joined head_row tag_more head_det tag_more_det
+
+pub bare_det : AllDeterministic bare_row
+bare_det = all_joined head_row bare_more head_det bare_more_det

@@ -1,0 +1,74 @@
+-- Headers that are nearly of RFC 5424: a version, a date of another form, and what follows in one of three ways.
+use Rattle.std.specs.Prelude.{◌≡◌, ℕ, List, [], ◌∷◌, ◌++◌, Option, Some, None}
+use Rattle.syslog_text.specs.Pieces.Class.{Text, Class, Values, exactly, rest, run, some_run}
+use Rattle.syslog_text.specs.Text.{dash, host, is_blank, number, word}
+use Rattle.syslog_sent.specs.Date.{any_date}
+use Rattle.syslog_sent.specs.Named.{program}
+use Rattle.syslog_sent.specs.Sent.{Form, SentValue}
+use Rattle.syslog_sent.specs.Zone.{ended}
+use Rattle.syslog_sent.specs.declared.dialect.Dialect.TheVariants.{NearlyRfc5424}
+use Rattle.syslog_sent.specs.declared.sent.SentDate.{SentDate}
+
+-- a version, a date and a host, with blanks after each
+abbrev pub head_row : List Class
+head_row =
+    number 4294967295 ∷ some_run is_blank ∷ any_date ∷ some_run is_blank ∷ host ∷ some_run is_blank ∷ []
+
+abbrev pub said : ℕ → SentDate → Option Text → Option Text → Option Text → Option Text → Text → SentValue
+said version date hostname appname process msgid msg = record {
+  version = Some version;
+  date = Some date;
+  hostname = hostname;
+  appname = appname;
+  process = process;
+  msgid = msgid;
+  msg = msg;
+}
+
+-- ---- `-` for the structured data: `1 2026-03-02T06:33:04+0100 h app 12 ID - text`
+
+abbrev pub nil : Class
+nil = ended (exactly dash)
+
+abbrev pub nil_more : List Class
+nil_more = word ∷ some_run is_blank ∷ word ∷ some_run is_blank ∷ word ∷ some_run is_blank ∷ nil ∷ run is_blank ∷ rest ∷ []
+
+abbrev pub nil_row : List Class
+nil_row = head_row ++ nil_more
+
+abbrev pub nil_says : Values nil_row → SentValue
+nil_says (version, (_, (date, (_, (h, (_, (app, (_, (process, (_, (id, (_, (_, (_, (msg, _))))))))))))))) =
+    said version date h app process id msg
+
+abbrev pub nil_form : Form
+nil_form = record { dialect = NearlyRfc5424; row = nil_row; Means = λ values s. s ≡ nil_says values }
+
+-- ---- a tag, as RFC 3164 has it: `1 2026-03-02T06:33:04Z h app[12]: text`
+
+abbrev pub tag_more : List Class
+tag_more = program ∷ run is_blank ∷ rest ∷ []
+
+abbrev pub tag_row : List Class
+tag_row = head_row ++ tag_more
+
+abbrev pub tag_says : Values tag_row → SentValue
+tag_says (version, (_, (date, (_, (h, (_, (p, (_, (msg, _))))))))) =
+    said version date h (Some p.name) p.process None msg
+
+abbrev pub tag_form : Form
+tag_form = record { dialect = NearlyRfc5424; row = tag_row; Means = λ values s. s ≡ tag_says values }
+
+-- ---- the message at once, elements included: `1 2026-03-02 06:33:04 h app 12 ID [a b="c"] text`
+
+abbrev pub bare_more : List Class
+bare_more = word ∷ some_run is_blank ∷ word ∷ some_run is_blank ∷ word ∷ some_run is_blank ∷ rest ∷ []
+
+abbrev pub bare_row : List Class
+bare_row = head_row ++ bare_more
+
+abbrev pub bare_says : Values bare_row → SentValue
+bare_says (version, (_, (date, (_, (h, (_, (app, (_, (process, (_, (id, (_, (msg, _))))))))))))) =
+    said version date h app process id msg
+
+abbrev pub bare_form : Form
+bare_form = record { dialect = NearlyRfc5424; row = bare_row; Means = λ values s. s ≡ bare_says values }
