@@ -1,5 +1,4 @@
 -- Lines of Cisco's systems without a date of the device: one front of each class.
-use Rattle.std.proofs.Common.{[], ◌∷◌}
 use Rattle.std.specs.Char.{is_ascii_digit}
 use Rattle.syslog_text.specs.Pieces.Class.{IsDeterministic, Row, exactly}
 use Rattle.syslog_text.specs.Text.{colon, is_blank}

@@ -20,7 +20,7 @@ use Rattle.syslog_dialects.specs.Found.{AreFound, AreInOrder, IsFoundIn, Part}
 use Rattle.syslog_dialects.specs.Found.{Tells, Version, beside}
 use Rattle.syslog_dialects.specs.Found.{forwarded_words}
 use Rattle.syslog_dialects.specs.Found.{left_of, left_out, relay, serial}
-use Rattle.syslog_named_forms.specs.Header.{header_row, header_says}
+use Rattle.syslog_named_forms.specs.NearHeader.{heroku_row, heroku_says, vendor_row, vendor_says}
 use Rattle.syslog_sent.specs.Named.{program}
 use Rattle.std.specs.Prelude.{IsTrue}
 use Rattle.syslog_sent.specs.Named.{BeginsWith, NamedTexts, after_row, beginning, hosted, is_letter}
@@ -30,7 +30,9 @@ use Rattle.syslog_named_forms.specs.Monotonic.{is_service, monotonic_row, monoto
 use Rattle.syslog_named_forms.specs.NamedForms.{Tail, access_tail, dated_form, dated_row, forwarded_tail}
 use Rattle.syslog_named_forms.specs.NamedForms.{front_row, hostless_tail}
 use Rattle.syslog_named_forms.specs.NamedForms.{marked_tail, marked_tails, message_tails, program_forms}
-use Rattle.syslog_named_forms.specs.NamedForms.{program_tails, says, untagged_tail}
+use Rattle.syslog_named_forms.specs.NamedForms.{program_tails, says, unified_tail, untagged_tail}
+use Rattle.syslog_named_forms.specs.Unified.{log_of, log_row, thread_row}
+use Rattle.syslog_named_forms.specs.Untagged.{some_digits}
 use Rattle.syslog_named_forms.specs.NamedForms.{serial_tail}
 use Rattle.syslog_named_forms.specs.NamedForms.{severity_tail, tail_forms, undated_form, undated_forms, undated_row}
 use Rattle.syslog_named_forms.specs.NamedForms.{spread_forms, spread_tail, worded_tail}
@@ -57,7 +59,7 @@ use Rattle.syslog_dialects.proofs.OrderLemmas.{row_more, shown, such}
 use Rattle.syslog_dialects.proofs.OrderLemmas.{text_of}
 use Rattle.syslog_dialects.proofs.OrderLemmas.{IsOut, whole_found}
 use Rattle.syslog_dialects.proofs.DatedFoundLemmas.{IsFoundForm, AllFound, both_found, RowFound, said_so, said}
-use Rattle.syslog_dialects.proofs.DatedFoundLemmas.{an_any_date, an_iso_date, three, dated_all, plain_dated_all}
+use Rattle.syslog_dialects.proofs.DatedFoundLemmas.{an_any_date, three, dated_all, plain_dated_all}
 
 -- ---- what follows the date
 
@@ -153,6 +155,27 @@ serial_found t v f =
     (before_rest left (take 3 (drop 7 serial_row)) (a_gap also a_program also blanks also tt) w
     (lasts serial (drop 7 serial_row) v.1.1) d))
 
+-- the process comes before the program
+abbrev columns_of : NamedTexts → List Part
+columns_of n = three n.hostname n.process n.appname
+
+columns_found : Ending (left_of dialect.UnifiedLog None) (Row log_row) (λ v. columns_of (log_of v)) (λ v. (log_of v).msg)
+columns_found = before_rest (left_of dialect.UnifiedLog None) (take 8 log_row)
+    (passed (Row thread_row) (λ p q v is. inr (inl (v, is))) also text_of some_digits also a_gap
+    also passed some_digits (λ p q v is. inr (inr (inl (v, is)))) also a_gap also a_name also a_colon also blanks also tt)
+
+unified_found : IsFoundForm (dated_form unified_tail.dialect unified_tail.after unified_tail.names)
+unified_found text sent s =
+    let C = mapped (Row log_row) NamedTexts log_of in
+    let f = division_front (dated_row (Row log_row) log_of) s.division in
+    let (u, a, b) = rows_split front_row (C ∷ []) f in
+    let it = end_of C b in
+    let (w, is, same) = it.is in
+    let told = subst (λ (n : NamedTexts). Tells (left_of dialect.UnifiedLog n.hostname) u (columns_of n) n.msg) (sym same)
+    (columns_found u w (front_of it.piece it.whole is)) in
+    subst (AreFound dialect.UnifiedLog text) (sym s.means)
+    (inr (inr (refl, row_more front_row (blanks also an_any_date also a_gap also tt) a told)))
+
 untagged_found : TailFound untagged_tail
 untagged_found t v = last_found (left_of dialect.Untagged v.0) (take 2 untagged_row) (a_host also a_gap also tt)
     (beginning number_word) (λ x. []) (λ x. x) (whole_found (left_of dialect.Untagged v.0) (beginning number_word)
@@ -163,7 +186,8 @@ programs_all =
     tail_of forwarded_tail forwarded_found also tail_of severity_tail severity_found
     also tail_of worded_tail worded_found also tail_of access_tail access_found
     also tail_of hostless_tail hostless_found
-    also tail_of serial_tail serial_found also tail_of untagged_tail untagged_found also tt
+    also tail_of serial_tail serial_found also unified_found
+    also tail_of untagged_tail untagged_found also tt
 
 -- ---- pairs, whose names are in the message
 
@@ -243,7 +267,7 @@ pairs_found text sent s =
     let told = out_more (run is_blank) gap (inl (blank_signs gap.piece gap.is.0))
     (subst (λ (x : Text). Tells [] x [] v.2) (same ∙ whole_of paired it) (nothing_more [] v.2)) in
     subst (AreFound dialect.KeyValue text) (sym s.means)
-    (inr (refl, (told, found, (v.0, refl, (ps, r, pairs, shows)))))
+    (inr (inl (refl, (told, found, (v.0, refl, (ps, r, pairs, shows))))))
 
 -- ---- without a date
 
@@ -252,9 +276,15 @@ marked_alone it m = said it (undated_row m) (λ v. loose None None None None v.1
     (λ h. last_found (left_of it h) (run is_blank ∷ []) (blanks also tt) (beginning (mark_class m)) (λ x. []) (λ x. x)
     (whole_found (left_of it h) (beginning (mark_class m)) (λ x. x) (λ p x is. is.1)))
 
-header_found : RowFound dialect.Heroku header_row header_says
-header_found h = before_rest (left_of dialect.Heroku h) (take 12 header_row)
-    (shown (number 4294967295) Version (λ p q n is. is) also a_gap also an_iso_date also a_gap also a_host also a_gap
+vendor_found : (it : Dialect) (m : Mark) → RowFound it (vendor_row m) (vendor_says m)
+vendor_found it m h = last_found (left_of it h) (take 6 (vendor_row m))
+    (shown (number 999) Version (λ p q n is. is) also a_gap also an_any_date also a_gap also a_host also a_gap
+    also tt) (beginning (mark_class m)) (λ x. []) (λ x. x)
+    (whole_found (left_of it h) (beginning (mark_class m)) (λ x. x) (λ p x is. is.1))
+
+heroku_found : RowFound dialect.Heroku heroku_row heroku_says
+heroku_found h = before_rest (left_of dialect.Heroku h) (take 12 heroku_row)
+    (shown (number 999) Version (λ p q n is. is) also a_gap also an_any_date also a_gap also a_host also a_gap
     also a_word also a_gap also a_word also a_gap also a_sign 45 refl also a_gap also tt)
 
 monotonic_found : RowFound dialect.Monotonic monotonic_row monotonic_says
@@ -264,26 +294,29 @@ monotonic_found h = before_rest (left_of dialect.Monotonic h) (take 6 monotonic_
 
 nil_found : RowFound dialect.NearlyRfc5424 nil_row nil_says
 nil_found h = before_rest (left_of dialect.NearlyRfc5424 h) (take 14 nil_row)
-    (shown (number 4294967295) Version (λ p q n is. is) also a_gap also an_any_date also a_gap also a_host also a_gap
+    (shown (number 999) Version (λ p q n is. is) also a_gap also an_any_date also a_gap also a_host also a_gap
     also a_word also a_gap also a_word also a_gap also a_word also a_gap
     also passed nil (λ p q v is. inl (rw is.0 (refl, tt))) also blanks also tt)
 
 headed_found : RowFound dialect.NearlyRfc5424 tag_row tag_says
 headed_found h = before_rest (left_of dialect.NearlyRfc5424 h) (take 8 tag_row)
-    (shown (number 4294967295) Version (λ p q n is. is) also a_gap also an_any_date also a_gap also a_host also a_gap
+    (shown (number 999) Version (λ p q n is. is) also a_gap also an_any_date also a_gap also a_host also a_gap
     also a_program also blanks also tt)
 
 bare_found : RowFound dialect.NearlyRfc5424 bare_row bare_says
 bare_found h = before_rest (left_of dialect.NearlyRfc5424 h) (take 12 bare_row)
-    (shown (number 4294967295) Version (λ p q n is. is) also a_gap also an_any_date also a_gap also a_host also a_gap
+    (shown (number 999) Version (λ p q n is. is) also a_gap also an_any_date also a_gap also a_host also a_gap
     also a_word also a_gap also a_word also a_gap also a_word also a_gap also tt)
 
 undated_all : AllFound undated_forms
 undated_all =
     marked_alone dialect.Cef mark_of.Cef also marked_alone dialect.Leef mark_of.Leef also pairs_found
+    also said dialect.Cef (vendor_row mark_of.Cef) (vendor_says mark_of.Cef) (vendor_found dialect.Cef mark_of.Cef)
+    also said dialect.Leef (vendor_row mark_of.Leef) (vendor_says mark_of.Leef)
+    (vendor_found dialect.Leef mark_of.Leef)
     also said dialect.NearlyRfc5424 nil_row nil_says nil_found
     also said dialect.NearlyRfc5424 tag_row tag_says headed_found
-    also said dialect.Heroku header_row header_says header_found
+    also said dialect.Heroku heroku_row heroku_says heroku_found
     also said dialect.NearlyRfc5424 bare_row bare_says bare_found
     also said dialect.Monotonic monotonic_row monotonic_says monotonic_found also tt
 

@@ -27,7 +27,7 @@ use Rattle.syslog_sent.specs.Forms.{IsOfFirst}
 use Rattle.syslog_dialects.specs.Dialects.{dated_forms, early_forms, forms_of, last_forms, late_forms, named_forms, plain_forms}
 use Rattle.syslog_dated_forms.specs.Esxi.{esxi_row, esxi_sent}
 use Rattle.syslog_dated_forms.specs.Filed.{IsAny, filed_form, filed_forms, filed_front, filed_row, filed_sent}
-use Rattle.syslog_named_forms.specs.Header.{header_row, header_says}
+use Rattle.syslog_named_forms.specs.NearHeader.{head_row, heroku_row, heroku_says, vendor_row, vendor_says}
 use Rattle.syslog_dated_forms.specs.IosXr.{process, process_in, process_row, xr_row, xr_sent}
 use Rattle.syslog_sent.specs.Named.{NamedTexts, after_row, beginning, hosted}
 use Rattle.syslog_named_forms.specs.Monotonic.{monotonic_row, monotonic_says}
@@ -35,7 +35,8 @@ use Rattle.syslog_named_forms.specs.NearHeader.{bare_row, bare_says, nil_row, ni
 use Rattle.syslog_named_forms.specs.NamedForms.{Tail, dated_form, dated_row, front_row, marked_tail}
 use Rattle.syslog_named_forms.specs.NamedForms.{marked_tails, message_tails}
 use Rattle.syslog_named_forms.specs.NamedForms.{access_tail, forwarded_tail, hostless_tail, program_forms}
-use Rattle.syslog_named_forms.specs.NamedForms.{program_tails, says, untagged_tail}
+use Rattle.syslog_named_forms.specs.NamedForms.{program_tails, says, unified_tail, untagged_tail}
+use Rattle.syslog_named_forms.specs.Unified.{log_row}
 use Rattle.syslog_named_forms.specs.NamedForms.{serial_tail, severity_tail, tail_forms, undated_form, undated_forms}
 use Rattle.syslog_named_forms.specs.NamedForms.{header_forms, spread_tail, undated_row, worded_tail}
 use Rattle.syslog_dated_forms.specs.NetScaler.{netscaler_row}
@@ -310,6 +311,7 @@ programs_end =
     also tail_of access_tail (λ t v ends f. rest_ends (take 4 access_row) t v f)
     also tail_of hostless_tail (λ t v ends f. spaced_rest_ends (take 1 hostless_row) t v f)
     also tail_of serial_tail (λ t v ends f. rest_ends (take 9 serial_row) t v f)
+    also tail_of unified_tail (λ t v ends f. rest_ends (take 7 log_row) t v f)
     also tail_of untagged_tail (λ t v ends f. some_run_ends (beginning number_word) (λ x. x) (λ p x is. is.1) (host ∷ [])
     t v f) also tt
 
@@ -319,11 +321,16 @@ marked_alone : (dialect : Dialect) (m : Mark) → EndsInMsg (undated_form dialec
 marked_alone dialect m = said dialect (undated_row m) (λ v. loose None None None None v.1.0)
     (run_ends (beginning (mark_class m)) (λ t. t) (λ p t is. is.1) [])
 
+vendor_ends : (m : Mark) → RowEnds (vendor_row m) (vendor_says m)
+vendor_ends m = some_run_ends (beginning (mark_class m)) (λ t. t) (λ p t is. is.1) (take 5 head_row)
+
 headers_end : AllEnd header_forms
 headers_end =
-    said NearlyRfc5424 nil_row nil_says (rest_ends (take 13 nil_row))
+    said Cef (vendor_row mark.Cef) (vendor_says mark.Cef) (vendor_ends mark.Cef)
+    also said Leef (vendor_row mark.Leef) (vendor_says mark.Leef) (vendor_ends mark.Leef)
+    also said NearlyRfc5424 nil_row nil_says (rest_ends (take 13 nil_row))
     also said NearlyRfc5424 tag_row tag_says (rest_ends (take 7 tag_row))
-    also said Heroku header_row header_says (spaced_rest_ends (take 11 header_row))
+    also said Heroku heroku_row heroku_says (spaced_rest_ends (take 11 heroku_row))
     also said NearlyRfc5424 bare_row bare_says (spaced_rest_ends (take 11 bare_row))
     also said Monotonic monotonic_row monotonic_says (rest_ends (take 5 monotonic_row)) also tt
 

@@ -7,7 +7,7 @@ use Rattle.std.specs.Option.{is_some}
 use Rattle.std.specs.Prelude.{IsSome, IsTrue, MatchBool}
 use Rattle.std.specs.Str.{IsUtf8, chars, encode_utf8_all}
 use Rattle.std.specs.Str.Pattern.{FindsTextPrefix, StripsPrefix}
-use Rattle.syslog_text.specs.Pieces.Class.{Text, NoFront, IsDeterministic, Row, exactly}
+use Rattle.syslog_text.specs.Pieces.Class.{Front, Text, NoFront, IsDeterministic, Row, exactly}
 use Rattle.syslog_text.specs.Pieces.View.{Skips, seen, shown}
 use Rattle.syslog_pieces.specs.ProcId.{procid_text}
 use Rattle.syslog_pieces.specs.Timestamp.{stamp_seen}
@@ -19,6 +19,7 @@ use Rattle.syslog_text.proofs.PieceLemmas.Class.{front_same, heads, no_front_no,
 use Rattle.syslog_text.proofs.PieceLemmas.Class.{row_det, row_of}
 use Rattle.syslog_text.proofs.TextLemmas.Runs.{chars_cut}
 use Rattle.syslog_loose.proofs.LineLemmas.{line_rest}
+use Rattle.syslog_sent.specs.Zone.{ended}
 use Rattle.syslog_loose.proofs.Rfc3164Lemmas.{stamped_det}
 use Rattle.syslog_loose.specs.Rows.{stamped_row}
 use Rattle.syslog_loose.specs.Line.{KnowsForm, line_value, protocol_of}
@@ -51,11 +52,11 @@ mark_det : IsDeterministic mark
 mark_det p q p' q' v v' e h k = (
   elim h as (λ _. p ≡ p') [
     | inl h ↦ elim k as (λ _. p ≡ p') [
-      | inl k ↦ mark_same p q p' q' 58 58 h k e
-      | inr k ↦ mark_same p q p' q' 58 91 h k e
+      | inl k ↦ mark_same p q p' q' 58 58 h.0 k.0 e
+      | inr k ↦ mark_same p q p' q' 58 91 h.0 k e
     ]
     | inr h ↦ elim k as (λ _. p ≡ p') [
-      | inl k ↦ mark_same p q p' q' 91 58 h k e
+      | inl k ↦ mark_same p q p' q' 91 58 h k.0 e
       | inr k ↦ mark_same p q p' q' 91 91 h k e
     ]
   ],
@@ -82,7 +83,7 @@ printed_tag : (host app more : Text) (id : Option (ProcId Text))
     → IsTag host app (32 ∷ (host ++ (32 ∷ (tag_text (Some app) id ++ more))))
 printed_tag host app more None =
     subst (λ (t : Text). IsTag host app (32 ∷ (host ++ (32 ∷ t)))) (sym (append_assoc app (58 ∷ 32 ∷ []) more))
-    (tag_front host app 58 (32 ∷ more) (inl refl))
+    (tag_front host app 58 (32 ∷ more) (inl (refl, refl)))
 printed_tag host app more (Some id) =
     subst (λ (t : Text). IsTag host app (32 ∷ (host ++ (32 ∷ t))))
     (sym (append_assoc app (91 ∷ (procid_text id ++ (93 ∷ 58 ∷ 32 ∷ []))) more))
@@ -150,7 +151,10 @@ module _ (variant : Variant) (dating : Dating) (text : Text) (line other : Line)
   ordinary_too (inr (inr is)) = loose_too line.version other.version refl refl is
 
 -- ---- what ends a tag
-pub mark_second : (t : Text) (r : Option (Bor (List ℕ))) → NoFront (exactly (58 ∷ [])) t
+pub mark_first : {t q : Text} → Front (ended (exactly (58 ∷ []))) t q tt → Front mark t q tt
+mark_first f = front_of f.piece f.whole (inl f.is)
+
+pub mark_second : (t : Text) (r : Option (Bor (List ℕ))) → NoFront (ended (exactly (58 ∷ []))) t
     → Skips (exactly (91 ∷ [])) tt t r
     → Skips mark tt t r
 mark_second t None no_colon none = λ p q v e h. elim h [ inl k ↦ no_colon p q tt e k | inr k ↦ none p q tt e k ]

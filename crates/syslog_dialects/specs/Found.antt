@@ -18,6 +18,8 @@ use Rattle.syslog_dated_forms.specs.Esxi.{mark_row}
 use Rattle.syslog_dated_forms.specs.IosXr.{node}
 use Rattle.syslog_dated_forms.specs.NetScaler.{slashed_date}
 use Rattle.syslog_named_forms.specs.Monotonic.{seconds_row}
+use Rattle.syslog_named_forms.specs.Unified.{thread_row}
+use Rattle.syslog_named_forms.specs.Untagged.{some_digits}
 use Rattle.syslog_named_forms.specs.Pairs.{IsShown, noted, pair}
 use Rattle.syslog_sent.specs.Selector.{selector_row, severity}
 use Rattle.syslog_sent.specs.Runs.{is_plain_char}
@@ -32,7 +34,7 @@ use Rattle.syslog_sent.specs.declared.dialect.Dialect.TheVariants.{CiscoNxOs, Ci
 use Rattle.syslog_sent.specs.declared.dialect.Dialect.TheVariants.{Journal}
 use Rattle.syslog_sent.specs.declared.dialect.Dialect.TheVariants.{KeyValue, NearlyRfc3339, NetScaler, ProCurve}
 use Rattle.syslog_sent.specs.declared.dialect.Dialect.TheVariants.{SeverityFirst, SophosUtm, UnixSeconds}
-use Rattle.syslog_sent.specs.declared.dialect.Dialect.TheVariants.{Monotonic, WatchGuard}
+use Rattle.syslog_sent.specs.declared.dialect.Dialect.TheVariants.{Monotonic, UnifiedLog, WatchGuard}
 use Rattle.syslog_sent.specs.declared.sent.SentDate.{SentDate}
 
 -- ---- what is left out
@@ -81,8 +83,8 @@ abbrev pub cisco_left_out : List Class
 cisco_left_out = Row counter_row ∷ Row task_row ∷ mark ∷ filed_date ∷ []
 
 -- What a dialect leaves out besides. These are IOS-XR's card, a day of the week, a facility and a severity in words,
--- ESXi's level with its number, the number of ProCurve's event, Meraki's `1`, and how long a device or
--- a system has run. In the others it is nothing.
+-- ESXi's level with its number, the number of ProCurve's event, Meraki's `1`, how long a device or
+-- a system has run, and the columns of macOS's log. In the others it is nothing.
 abbrev pub left_out : Dialect → List Class
 left_out CiscoIos = cisco_left_out
 left_out CiscoNxOs = cisco_left_out
@@ -101,6 +103,7 @@ left_out UnixSeconds = exactly (49 ∷ []) ∷ []
 left_out Forwarded = forwarded_words ∷ []
 left_out WatchGuard = Row serial ∷ []
 left_out Monotonic = Row seconds_row ∷ []
+left_out UnifiedLog = Row thread_row ∷ some_digits ∷ []
 left_out _ = []
 
 -- the other hosts that a line shows beside the one that it says
@@ -151,7 +154,7 @@ IsDateOf p q d = bsd_date.Is p q d ⊎ (iso_date.Is p q d ⊎ (cisco_date.Is p q
 
 -- the piece, before the text that follows it, says this
 abbrev pub Says : Text → Text → Part → Type 0
-Says p q (Version n) = (number 4294967295).Is p q n
+Says p q (Version n) = (number 999).Is p q n
 Says p q (Date d) = IsDateOf p q d
 Says p q (Name t) = p ≡ t
 
@@ -187,6 +190,11 @@ abbrev pub host_first : SentValue → List Part
 host_first sent = if_there Version sent.version (if_there Name sent.hostname
     (if_there Date sent.date (later_names sent)))
 
+-- as macOS's log has them, the process before the program
+abbrev pub process_first : SentValue → List Part
+process_first sent = if_there Version sent.version (if_there Date sent.date (if_there Name sent.hostname
+    (if_there Name sent.process (if_there Name sent.appname (if_there Name sent.msgid [])))))
+
 abbrev pub IsTold : List Class → Text → SentValue → Type 0
 IsTold left text sent = Tells left text (date_first sent) sent.msg ⊎ Tells left text (host_first sent) sent.msg
 
@@ -217,7 +225,8 @@ AreInPairs text sent = Tells [] text [] sent.msg × AreInOrder (names_of sent) s
 -- each character of the text, which follows a priority or none, is accounted for
 abbrev pub AreFound : Dialect → Text → SentValue → Type 0
 AreFound dialect text sent =
-    IsTold (left_of dialect sent.hostname) text sent ⊎ ((dialect ≡ KeyValue) × AreInPairs text sent)
+    IsTold (left_of dialect sent.hostname) text sent ⊎ (((dialect ≡ KeyValue) × AreInPairs text sent)
+    ⊎ ((dialect ≡ UnifiedLog) × Tells (left_of dialect sent.hostname) text (process_first sent) sent.msg))
 
 -- The text is a priority or none, and a text of which each character is accounted for. The message is that of what the
 -- text says: by `IsMessageSent` its timestamp is that of the date, and its facility and severity those of the priority.

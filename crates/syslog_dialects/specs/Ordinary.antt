@@ -3,15 +3,16 @@
 use Rattle.std.specs.Prelude.{◌≡◌, ◌≢◌, ◌⊎◌, ◌∷◌, ◌&&◌, ◌||◌, ℕ, nat_eq, Bool, true, false, List, [], Some, IsSome}
 use Rattle.std.specs.Prelude.{◌<◌, codes, nat_lt, length, slice_index}
 use Rattle.std.specs.Char.{is_ascii_digit}
-use Rattle.syslog_text.specs.Pieces.Class.{Text, Class, Front, Row, exactly}
+use Rattle.syslog_text.specs.Pieces.Class.{Ends, Text, Class, Front, Row, exactly}
 use Rattle.syslog_text.specs.Pieces.View.{seen, shown, text_eq}
+use Rattle.syslog_text.specs.Text.{is_tag_char}
 use Rattle.syslog_elements.specs.StructuredData.Visited.{list_elements}
 use Rattle.syslog_loose.specs.declared.line.Line.{Line}
 use Rattle.syslog_sent.specs.Named.{is_letter, is_number}
 
--- a colon, or the bracket before a process id
+-- a colon that no word follows at once, as one does in `src="10.0.0.5:51234"`, or the bracket before a process id
 abbrev pub mark : Class
-mark = record { Value = Unit {0}; Is = λ p q _. (p ≡ 58 ∷ []) ⊎ (p ≡ 91 ∷ []) }
+mark = record { Value = Unit {0}; Is = λ p q _. ((p ≡ 58 ∷ []) × Ends is_tag_char q) ⊎ (p ≡ 91 ∷ []) }
 
 -- a space, the host, a space and the app name, and what ends a tag
 abbrev pub tag_row : Text → Text → List Class

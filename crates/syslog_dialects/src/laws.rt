@@ -52,8 +52,9 @@ pub fn messages_end_their_lines()
 {}
 
 /// Each character of a dialect's line is of a text or of the date that the line says, or is left out by the lists of
-/// `left_out`. Host, app name, process and message id come in this order before the message, and the date before the
-/// host or after it. The timestamp is that of this date. Those of a line of pairs may be in the message.
+/// `left_out`. Host, app name, process and message id come in this order before the message, but for macOS's log, which
+/// has the process before the app name. The date comes before the host or after it, and the timestamp is that of this
+/// date. Those of a line of pairs may be in the message.
 pub fn texts_of_a_dialect_are_found_in_order()
     ensures said { (is_read : Bool) (priority : Option ℕ) (text : Text) (dialect : Dialect) (sent : SentValue)
         → IsOfFirst (forms_of is_read priority) text dialect sent → AreFound dialect text sent }

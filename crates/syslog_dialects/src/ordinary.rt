@@ -1,17 +1,20 @@
 //! The lines of the port that keep their reading.
 //!
 //! **Rule.** A line of RFC 5424 is read as the port reads it. So is a line of RFC 3164 with a date, a host and a tag
-//! that a colon or a process id ends, as section 5.4 has them, and one with a strict element. So no dialect is tried
+//! that a colon or a process id ends, as section 5.4 has them, and one with a strict element. A word follows the colon
+//! of no tag at once. So no dialect is tried
 //! for most lines, and none can change them.
-ghost use Rattle.std.specs.Prelude.{◌≡◌, None, IsTrue, MatchBool, chars};
+ghost use Rattle.std.specs.Prelude.{◌≡◌, ◌∷◌, [], None, IsTrue, MatchBool, chars};
 ghost use Rattle.syslog_text.specs.Pieces.Class.{Row, exactly};
 ghost use Rattle.syslog_text.specs.Pieces.View.{Skips, seen, shown};
 ghost use Rattle.syslog_loose.specs.Line.{KnowsForm};
+ghost use Rattle.syslog_sent.specs.Zone.{ended};
 ghost use Rattle.syslog_dialects.specs.Ordinary.{IsOrdinary, IsTag, IsTagged, mark, tag_row};
 ghost use Rattle.syslog_dialects.specs.Ordinary as spec;
 
 use syslog_loose::Line;
 use syslog_sent::named::{is_number, is_word};
+use syslog_sent::zone::ends_word;
 use syslog_text::text::{first, literal};
 
 // Returns the text after `front`, if that begins it.
@@ -21,11 +24,22 @@ fn past<'a>(text: &'a str, front: &str) -> Option<&'a str>
     text.strip_prefix(front)
 }
 
-// Returns the text after a colon or a bracket.
+// Returns the text after a colon that no word follows at once.
+fn past_colon(text: &str) -> Option<&str>
+    ensures { Skips (ended (exactly (58 ∷ []))) tt (chars text.now) result }
+{
+    let rest = literal(text, ':')?;
+    if !ends_word(rest) {
+        return None;
+    }
+    Some(rest)
+}
+
+// Returns the text after such a colon or a bracket.
 fn past_mark(text: &str) -> Option<&str>
     ensures { Skips mark tt (chars text.now) result }
 {
-    match literal(text, ':') {
+    match past_colon(text) {
         Some(rest) => Some(rest),
         None => literal(text, '['),
     }

@@ -1,4 +1,3 @@
-pub mod HeaderLemmas
 pub mod MonotonicLemmas
 pub mod NamedFormLemmas
 pub mod NearHeaderLemmas

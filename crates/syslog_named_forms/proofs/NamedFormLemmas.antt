@@ -29,7 +29,8 @@ use Rattle.syslog_sent.specs.Named.{beginning, hosted}
 use Rattle.syslog_named_forms.specs.Programs.{access_row, untagged_row}
 use Rattle.syslog_named_forms.specs.Programs.{hostless_row, passed_on, serial_row, severity_row, worded_row}
 use Rattle.syslog_sent.proofs.NamedLemmas.{hosted_det}
-use Rattle.syslog_named_forms.proofs.ProgramLemmas.{hostless_det, passed_on_det, severity_det, worded_det}
+use Rattle.syslog_named_forms.proofs.ProgramLemmas.{hostless_det, log_det, passed_on_det, severity_det, worded_det}
+use Rattle.syslog_named_forms.specs.Unified.{log_row}
 use Rattle.syslog_text.proofs.PieceLemmas.Class.{row_det}
 use Rattle.syslog_sent.proofs.FormLemmas.{found_later}
 use Rattle.syslog_sent.proofs.FormLemmas.{found_after, found_after}
@@ -136,6 +137,9 @@ access_tail_det = row_det access_row access_det
 
 pub untagged_tail_det : IsDeterministic (Row untagged_row)
 untagged_tail_det = row_det untagged_row untagged_det
+
+pub unified_tail_det : IsDeterministic (Row log_row)
+unified_tail_det = row_det log_row log_det
 
 pub serial_tail_det : IsDeterministic (Row serial_row)
 serial_tail_det = row_det serial_row serial_det

@@ -5,12 +5,15 @@ use Rattle.syslog_text.proofs.PieceLemmas.Class.{AllDeterministic, ◌also◌, a
 use Rattle.syslog_text.proofs.PieceLemmas.Class.{some_run_det}
 use Rattle.syslog_text.proofs.TextLemmas.Words.{host_det, number_det, word_det}
 use Rattle.syslog_sent.proofs.DateLemmas.{any_date_det}
-use Rattle.syslog_sent.proofs.NamedLemmas.{program_det}
+use Rattle.syslog_sent.proofs.NamedLemmas.{beginning_det, program_det}
 use Rattle.syslog_sent.proofs.ZoneLemmas.{ended_det}
 use Rattle.syslog_named_forms.specs.NearHeader.{bare_more, bare_row, head_row, nil, nil_more, nil_row, tag_more, tag_row}
+use Rattle.syslog_named_forms.specs.NearHeader.{heroku_more, heroku_row, vendor_more, vendor_row}
+use Rattle.syslog_named_forms.specs.Untagged.{mark_class}
+use Rattle.syslog_named_forms.specs.declared.untagged.Mark.{Mark}
 
 pub head_det : AllDeterministic head_row
-head_det = number_det 4294967295 also some_run_det is_blank also any_date_det also some_run_det is_blank also host_det
+head_det = number_det 999 also some_run_det is_blank also any_date_det also some_run_det is_blank also host_det
     also some_run_det is_blank also tt
 
 nil_class_det : IsDeterministic nil
@@ -28,6 +31,13 @@ pub bare_more_det : AllDeterministic bare_more
 bare_more_det = let gap = some_run_det is_blank in
     word_det also gap also word_det also gap also word_det also gap also rest_det also tt
 
+pub heroku_more_det : AllDeterministic heroku_more
+heroku_more_det = let gap = some_run_det is_blank in
+    word_det also gap also word_det also gap also exactly_det _ also gap also rest_det also tt
+
+pub vendor_more_det : (m : Mark) → AllDeterministic (vendor_more m)
+vendor_more_det m = beginning_det (mark_class m) also tt
+
 pub nil_det : AllDeterministic nil_row
 nil_det = all_joined head_row nil_more head_det nil_more_det
 
@@ -36,3 +46,9 @@ tag_det = all_joined head_row tag_more head_det tag_more_det
 
 pub bare_det : AllDeterministic bare_row
 bare_det = all_joined head_row bare_more head_det bare_more_det
+
+pub heroku_det : AllDeterministic heroku_row
+heroku_det = all_joined head_row heroku_more head_det heroku_more_det
+
+pub vendor_det : (m : Mark) → AllDeterministic (vendor_row m)
+vendor_det m = all_joined head_row (vendor_more m) head_det (vendor_more_det m)

@@ -26,7 +26,9 @@ use Rattle.syslog_text.specs.Text.{is_tag_char}
 use Rattle.syslog_named_forms.specs.Programs.{grade, hostless_row}
 use Rattle.syslog_sent.specs.Selector.{selector_row}
 use Rattle.syslog_named_forms.specs.Programs.{access_row, number_word, point_row, severity_row, untagged_row, spread_row}
-use Rattle.syslog_named_forms.specs.Untagged.{topic_row}
+use Rattle.syslog_named_forms.specs.Unified.{log_row, thread_row}
+use Rattle.syslog_named_forms.specs.Untagged.{some_digits, topic_row}
+use Rattle.std.specs.Char.{is_ascii_digit}
 use Rattle.syslog_named_forms.proofs.UntaggedLemmas.{topic_det}
 use Rattle.syslog_sent.proofs.NamedLemmas.{beginning_det, name_det, otherwise_det, id_det, severity_word_det, selector_det}
 
@@ -68,6 +70,15 @@ point_det = row_det topic_row topic_det also row_det topic_row topic_det also ex
 pub access_det : AllDeterministic access_row
 access_det = texted_det (Row point_row) (row_det point_row point_det) also exactly_det _ also some_run_det is_blank
     also program_det also run_det is_blank also rest_det also tt
+
+pub thread_det : AllDeterministic thread_row
+thread_det = let gap = some_run_det is_blank in let word = some_run_det is_plain_char in
+    exactly_det _ also word also gap also word also gap also exactly_det _ also word also gap also tt
+
+pub log_det : AllDeterministic log_row
+log_det = row_det thread_row thread_det also texted_det some_digits (some_run_det is_ascii_digit)
+    also some_run_det is_blank also some_run_det is_ascii_digit also some_run_det is_blank also name_det
+    also exactly_det _ also run_det is_blank also rest_det also tt
 
 pub untagged_det : AllDeterministic untagged_row
 untagged_det = host_det also some_run_det is_blank also beginning_det number_word also tt

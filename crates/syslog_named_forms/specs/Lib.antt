@@ -1,4 +1,3 @@
-pub mod Header
 pub mod Monotonic
 pub mod NearHeader
 pub mod NearHeaderViews
@@ -7,4 +6,5 @@ pub mod NamedForms
 pub mod PairViews
 pub mod Pairs
 pub mod Programs
+pub mod Unified
 pub mod Untagged

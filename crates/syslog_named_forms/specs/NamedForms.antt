@@ -4,12 +4,12 @@ use Rattle.syslog_text.specs.Pieces.Class.{Class, Values, Row, run, some_run, ma
 use Rattle.syslog_text.specs.Text.{is_blank}
 use Rattle.syslog_sent.specs.Date.{any_date}
 use Rattle.syslog_sent.specs.Named.{NamedTexts, beginning, hosted}
-use Rattle.syslog_named_forms.specs.Header.{header_form}
 use Rattle.syslog_named_forms.specs.Monotonic.{monotonic_form}
-use Rattle.syslog_named_forms.specs.NearHeader.{bare_form, nil_form, tag_form}
+use Rattle.syslog_named_forms.specs.NearHeader.{bare_form, heroku_form, nil_form, tag_form, vendor_form}
 use Rattle.syslog_named_forms.specs.Pairs.{pairs_form}
 use Rattle.syslog_named_forms.specs.Programs as programs
 use Rattle.syslog_sent.specs.Sent.{Form, SentValue, loose}
+use Rattle.syslog_named_forms.specs.Unified as unified
 use Rattle.syslog_named_forms.specs.Untagged.{dialect_of, mark_class, marked, marked_of, marks}
 use Rattle.syslog_sent.specs.declared.dialect.Dialect.{Dialect}
 use Rattle.syslog_sent.specs.declared.dialect.Dialect.TheVariants as dialect
@@ -79,6 +79,9 @@ serial_tail = record { dialect = dialect.WatchGuard; after = Row programs.serial
 abbrev pub access_tail : Tail
 access_tail = record { dialect = dialect.UniFi; after = Row programs.access_row; names = programs.access_of }
 
+abbrev pub unified_tail : Tail
+unified_tail = record { dialect = dialect.UnifiedLog; after = Row unified.log_row; names = unified.log_of }
+
 abbrev pub untagged_tail : Tail
 untagged_tail =
     record { dialect = dialect.Untagged; after = Row programs.untagged_row; names = programs.untagged_of }
@@ -89,7 +92,8 @@ spread_tail = record { dialect = dialect.SpacedName; after = Row programs.spread
 
 abbrev pub program_tails : List Tail
 program_tails =
-    forwarded_tail ∷ severity_tail ∷ worded_tail ∷ access_tail ∷ hostless_tail ∷ serial_tail ∷ untagged_tail ∷ []
+    forwarded_tail ∷ severity_tail ∷ worded_tail ∷ access_tail ∷ hostless_tail ∷ serial_tail ∷ unified_tail
+    ∷ untagged_tail ∷ []
 
 -- ---- a message without a date
 
@@ -105,7 +109,8 @@ undated_form dialect m =
 
 -- headers, and the seconds since the start
 abbrev pub header_forms : List Form
-header_forms = nil_form ∷ tag_form ∷ header_form ∷ bare_form ∷ monotonic_form ∷ []
+header_forms = vendor_form mark.Cef ∷ vendor_form mark.Leef ∷ nil_form ∷ tag_form ∷ heroku_form ∷ bare_form
+    ∷ monotonic_form ∷ []
 
 abbrev pub undated_forms : List Form
 undated_forms = undated_form dialect.Cef mark.Cef ∷ undated_form dialect.Leef mark.Leef ∷ pairs_form ∷ header_forms

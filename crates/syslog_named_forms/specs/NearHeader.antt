@@ -1,18 +1,21 @@
--- Headers that are nearly of RFC 5424: a version, a date of another form, and what follows in one of three ways.
+-- Headers that are nearly of RFC 5424: a version, a date that may be of another form, and what follows in one of five
+-- ways.
 use Rattle.std.specs.Prelude.{◌≡◌, ℕ, List, [], ◌∷◌, ◌++◌, Option, Some, None}
 use Rattle.syslog_text.specs.Pieces.Class.{Text, Class, Values, exactly, rest, run, some_run}
 use Rattle.syslog_text.specs.Text.{dash, host, is_blank, number, word}
 use Rattle.syslog_sent.specs.Date.{any_date}
-use Rattle.syslog_sent.specs.Named.{program}
+use Rattle.syslog_sent.specs.Named.{beginning, program}
 use Rattle.syslog_sent.specs.Sent.{Form, SentValue}
 use Rattle.syslog_sent.specs.Zone.{ended}
-use Rattle.syslog_sent.specs.declared.dialect.Dialect.TheVariants.{NearlyRfc5424}
+use Rattle.syslog_sent.specs.declared.dialect.Dialect.TheVariants.{Heroku, NearlyRfc5424}
 use Rattle.syslog_sent.specs.declared.sent.SentDate.{SentDate}
+use Rattle.syslog_named_forms.specs.Untagged.{dialect_of, mark_class}
+use Rattle.syslog_named_forms.specs.declared.untagged.Mark.{Mark}
 
--- a version, a date and a host, with blanks after each
+-- a version of up to three digits (RFC 5424 §6.2.2), a date and a host, with blanks after each
 abbrev pub head_row : List Class
 head_row =
-    number 4294967295 ∷ some_run is_blank ∷ any_date ∷ some_run is_blank ∷ host ∷ some_run is_blank ∷ []
+    number 999 ∷ some_run is_blank ∷ any_date ∷ some_run is_blank ∷ host ∷ some_run is_blank ∷ []
 
 abbrev pub said : ℕ → SentDate → Option Text → Option Text → Option Text → Option Text → Text → SentValue
 said version date hostname appname process msgid msg = record {
@@ -24,6 +27,20 @@ said version date hostname appname process msgid msg = record {
   msgid = msgid;
   msg = msg;
 }
+
+-- ---- a message of CEF or LEEF: `1 2026-03-02T06:33:04Z h CEF:0|..`
+
+abbrev pub vendor_more : Mark → List Class
+vendor_more m = beginning (mark_class m) ∷ []
+
+abbrev pub vendor_row : Mark → List Class
+vendor_row m = head_row ++ vendor_more m
+
+abbrev pub vendor_says : (m : Mark) → Values (vendor_row m) → SentValue
+vendor_says m (version, (_, (date, (_, (h, (_, (msg, _))))))) = said version date h None None None msg
+
+abbrev pub vendor_form : Mark → Form
+vendor_form m = record { dialect = dialect_of m; row = vendor_row m; Means = λ values s. s ≡ vendor_says m values }
 
 -- ---- `-` for the structured data: `1 2026-03-02T06:33:04+0100 h app 12 ID - text`
 
@@ -57,6 +74,22 @@ tag_says (version, (_, (date, (_, (h, (_, (p, (_, (msg, _))))))))) =
 
 abbrev pub tag_form : Form
 tag_form = record { dialect = NearlyRfc5424; row = tag_row; Means = λ values s. s ≡ tag_says values }
+
+-- ---- no structured data, not even `-`: `1 2026-03-02T06:33:04+00:00 h app web.3 - text`
+
+-- Heroku (Logplex) and Cloud Foundry write so
+abbrev pub heroku_more : List Class
+heroku_more = word ∷ some_run is_blank ∷ word ∷ some_run is_blank ∷ exactly dash ∷ some_run is_blank ∷ rest ∷ []
+
+abbrev pub heroku_row : List Class
+heroku_row = head_row ++ heroku_more
+
+abbrev pub heroku_says : Values heroku_row → SentValue
+heroku_says (version, (_, (date, (_, (h, (_, (app, (_, (process, (_, (_, (_, (msg, _))))))))))))) =
+    said version date h app process None msg
+
+abbrev pub heroku_form : Form
+heroku_form = record { dialect = Heroku; row = heroku_row; Means = λ values s. s ≡ heroku_says values }
 
 -- ---- the message at once, elements included: `1 2026-03-02 06:33:04 h app 12 ID [a b="c"] text`
 

@@ -5,12 +5,12 @@
 //! head of its module and of its file in `specs/`.
 #![tactic(auto)]
 
-mod header;
 mod monotonic;
 pub mod named_forms;
 mod near_header;
 mod pairs;
 mod programs;
+mod unified;
 mod untagged;
 
 pub use untagged::Mark;

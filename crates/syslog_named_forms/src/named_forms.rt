@@ -1,30 +1,32 @@
 //! The forms that are recognised by what follows the date, in the order in which they are tried.
 ghost use Rattle.std.specs.Prelude.{◌≡◌, ◌∷◌, ◌++◌, [], None, chars};
-ghost use Rattle.syslog_text.specs.Pieces.Class.{Row, Text};
+ghost use Rattle.syslog_text.specs.Pieces.Class.{Front, Row, Text};
 ghost use Rattle.syslog_text.specs.Pieces.View.{Reads, seen};
 ghost use Rattle.syslog_sent.specs.Forms.{Finds};
 ghost use Rattle.syslog_sent.specs.Led.{IsFront, IsLed};
 ghost use Rattle.syslog_named_forms.specs.NamedFinds.{FindsAfter};
 ghost use Rattle.syslog_named_forms.specs.Monotonic.{monotonic_form};
 ghost use Rattle.syslog_named_forms.specs.NamedForms as spec;
+ghost use Rattle.syslog_named_forms.specs.NearHeader.{head_row};
+ghost use Rattle.syslog_named_forms.specs.NearHeaderViews.{head_values};
 ghost use Rattle.syslog_sent.specs.Sent.{loose, sent_value};
 ghost use Rattle.syslog_named_forms.specs.Untagged.{host_row};
 ghost use Rattle.syslog_sent.specs.Views.{named_value};
 
-use crate::header::read_header;
 use crate::monotonic::read_monotonic;
-use crate::near_header::{read_bare, read_nil, read_tag};
+use crate::near_header::{Start, head, read_bare, read_heroku, read_nil, read_tag, read_vendor};
 use crate::pairs::read_pairs;
 use crate::programs::{
     after_serial, forwarded, hostless, of_access_point, severity_first, spread, untagged_message,
     worded,
 };
+use crate::unified::unified;
 use crate::untagged::{MARKS, Mark, mark_end, may_be_message, message, past_host};
 use syslog_sent::dialect::Dialect;
 use syslog_sent::led::Led;
 use syslog_sent::named::Named;
 use syslog_sent::sent::{Sent, SentDate};
-use syslog_text::text::{blanks, number, some_blanks};
+use syslog_text::text::{blanks, some_blanks};
 
 // Returns what a line says that has this date, and these names and this message after it.
 #[inline(always)]
@@ -66,31 +68,38 @@ fn of_seconds(text: &str) -> Option<(Dialect, Sent<'_>)>
     Some((Dialect::Monotonic, sent))
 }
 
-// Reads a header that begins with a version.
-fn of_version(text: &str) -> Option<(Dialect, Sent<'_>)>
-    ensures { Finds spec.header_forms (chars text.now) result }
+// Reads a header that begins with a version, a date and a host.
+fn of_start<'a>(start: Start<'a>, rest: &'a str, text: &'a str) -> Option<(Dialect, Sent<'a>)>
+    ensures { Front (Row head_row) (chars text.entry.now) (chars rest.entry.now) (head_values start.entry)
+        → Finds spec.header_forms (chars text.entry.now) result }
 {
-    if let Some(sent) = read_nil(text) {
+    if let Some(sent) = read_vendor(start, rest, Mark::Cef) {
+        return Some((Dialect::Cef, sent));
+    }
+    if let Some(sent) = read_vendor(start, rest, Mark::Leef) {
+        return Some((Dialect::Leef, sent));
+    }
+    if let Some(sent) = read_nil(start, rest) {
         return Some((Dialect::NearlyRfc5424, sent));
     }
-    if let Some(sent) = read_tag(text) {
+    if let Some(sent) = read_tag(start, rest) {
         return Some((Dialect::NearlyRfc5424, sent));
     }
-    if let Some(sent) = read_header(text) {
+    if let Some(sent) = read_heroku(start, rest) {
         return Some((Dialect::Heroku, sent));
     }
-    if let Some(sent) = read_bare(text) {
+    if let Some(sent) = read_bare(start, rest) {
         return Some((Dialect::NearlyRfc5424, sent));
     }
     of_seconds(text)
 }
 
-// Reads a header, or a line with the seconds since the start. Few texts begin with a version.
+// Reads a header, or a line with the seconds since the start.
 fn of_header(text: &str) -> Option<(Dialect, Sent<'_>)>
     ensures { Finds spec.header_forms (chars text.now) result }
 {
-    match number(text, u32::MAX) {
-        Some(_) => of_version(text),
+    match head(text) {
+        Some((start, rest)) => of_start(start, rest, text),
         None => of_seconds(text),
     }
 }
@@ -140,6 +149,9 @@ fn of_program<'a>(
     }
     if let Some(named) = after_serial(after_host) {
         return Some((Dialect::WatchGuard, sent(date, named)));
+    }
+    if let Some(named) = unified(rest) {
+        return Some((Dialect::UnifiedLog, sent(date, named)));
     }
     if let Some(named) = untagged_message(after_host) {
         return Some((Dialect::Untagged, sent(date, named)));

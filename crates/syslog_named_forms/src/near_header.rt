@@ -1,14 +1,15 @@
 //! Headers that are nearly of RFC 5424: a version, and a date that RFC 5424 does not have, or no structured data.
 //!
 //! **Rule.** Programs write `1` and a date by `strftime`, whose offset has no colon, or no offset at all; others write
-//! the tag of RFC 3164 after such a header. Elements stay in the message.
+//! the tag of RFC 3164 after such a header, or a message of CEF or LEEF. Elements stay in the message.
 ghost use Rattle.std.specs.Prelude.{chars};
-ghost use Rattle.syslog_text.specs.Pieces.Class.{Row};
+ghost use Rattle.syslog_text.specs.Pieces.Class.{Front, Row, Text};
 ghost use Rattle.syslog_text.specs.Pieces.View.{Reads, Recognises};
 ghost use Rattle.syslog_named_forms.specs.NearHeader as spec;
 ghost use Rattle.syslog_named_forms.specs.NearHeaderViews.{head_values};
 ghost use Rattle.syslog_sent.specs.Sent.{Sends};
 
+use crate::untagged::{Mark, mark_end};
 use syslog_sent::date::any_date;
 use syslog_sent::named::read_program;
 use syslog_sent::sent::{Sent, SentDate};
@@ -17,17 +18,17 @@ use syslog_text::text::{blanks, host, literal, number, some_blanks, word};
 
 /// The front of such a header.
 #[derive(Clone, Copy)]
-struct Start<'a> {
+pub(crate) struct Start<'a> {
     version: u32,
     date: SentDate,
     hostname: Option<&'a str>,
 }
 
-// Returns the front of a header, up to the host and the blanks after it, and the text after that.
-fn head(text: &str) -> Option<(Start<'_>, &str)>
+/// Returns the front of a header, up to the host and the blanks after it, and the text after that.
+pub(crate) fn head(text: &str) -> Option<(Start<'_>, &str)>
     ensures { Reads (Row spec.head_row) head_values (chars text.now) result }
 {
-    let (version, after_version) = number(text, u32::MAX)?;
+    let (version, after_version) = number(text, 999)?;
     let at_date = some_blanks(after_version)?;
     let (date, after_date) = any_date(at_date)?;
     let at_host = some_blanks(after_date)?;
@@ -52,18 +53,35 @@ fn nil(text: &str) -> Option<&str>
     Some(rest)
 }
 
-/// Returns what a line says whose header has `-` for the structured data.
-pub(crate) fn read_nil(text: &str) -> Option<Sent<'_>>
-    ensures { Sends spec.nil_form (chars text.now) result }
+/// Returns what a line says that has a message of CEF or LEEF after the front of its header.
+pub(crate) fn read_vendor<'a>(head: Start<'a>, rest: &'a str, mark: Mark) -> Option<Sent<'a>>
+    ensures { (text : Text) → Front (Row spec.head_row) text (chars rest.entry.now) (head_values head.entry)
+        → Sends (spec.vendor_form mark) text result }
 {
-    let (head, at_app) = head(text)?;
-    let (appname, after_app) = word(at_app)?;
+    let _ = mark_end(rest, mark)?;
+    Some(Sent {
+        version: Some(head.version),
+        date: Some(head.date),
+        hostname: head.hostname,
+        appname: None,
+        process: None,
+        msgid: None,
+        msg: rest,
+    })
+}
+
+/// Returns what a line says whose header has `-` for the structured data.
+pub(crate) fn read_nil<'a>(head: Start<'a>, rest: &'a str) -> Option<Sent<'a>>
+    ensures { (text : Text) → Front (Row spec.head_row) text (chars rest.entry.now) (head_values head.entry)
+        → Sends spec.nil_form text result }
+{
+    let (appname, after_app) = word(rest)?;
     let at_process = some_blanks(after_app)?;
     let (process, after_process) = word(at_process)?;
     let at_id = some_blanks(after_process)?;
     let (msgid, after_id) = word(at_id)?;
     let at_nil = some_blanks(after_id)?;
-    let rest = nil(at_nil)?;
+    let after_nil = nil(at_nil)?;
     Some(Sent {
         version: Some(head.version),
         date: Some(head.date),
@@ -71,16 +89,16 @@ pub(crate) fn read_nil(text: &str) -> Option<Sent<'_>>
         appname,
         process,
         msgid,
-        msg: blanks(rest),
+        msg: blanks(after_nil),
     })
 }
 
 /// Returns what a line says that has a tag of RFC 3164 after the host.
-pub(crate) fn read_tag(text: &str) -> Option<Sent<'_>>
-    ensures { Sends spec.tag_form (chars text.now) result }
+pub(crate) fn read_tag<'a>(head: Start<'a>, rest: &'a str) -> Option<Sent<'a>>
+    ensures { (text : Text) → Front (Row spec.head_row) text (chars rest.entry.now) (head_values head.entry)
+        → Sends spec.tag_form text result }
 {
-    let (head, at_program) = head(text)?;
-    let (program, rest) = read_program(at_program)?;
+    let (program, after_program) = read_program(rest)?;
     Some(Sent {
         version: Some(head.version),
         date: Some(head.date),
@@ -88,16 +106,38 @@ pub(crate) fn read_tag(text: &str) -> Option<Sent<'_>>
         appname: Some(program.name),
         process: program.process,
         msgid: None,
-        msg: blanks(rest),
+        msg: blanks(after_program),
+    })
+}
+
+/// Returns what a line says whose message follows `-` for the message id.
+pub(crate) fn read_heroku<'a>(head: Start<'a>, rest: &'a str) -> Option<Sent<'a>>
+    ensures { (text : Text) → Front (Row spec.head_row) text (chars rest.entry.now) (head_values head.entry)
+        → Sends spec.heroku_form text result }
+{
+    let (appname, after_app) = word(rest)?;
+    let at_process = some_blanks(after_app)?;
+    let (process, after_process) = word(at_process)?;
+    let at_id = some_blanks(after_process)?;
+    let after_id = literal(at_id, '-')?;
+    let msg = some_blanks(after_id)?;
+    Some(Sent {
+        version: Some(head.version),
+        date: Some(head.date),
+        hostname: head.hostname,
+        appname,
+        process,
+        msgid: None,
+        msg,
     })
 }
 
 /// Returns what a line says whose message follows the message id.
-pub(crate) fn read_bare(text: &str) -> Option<Sent<'_>>
-    ensures { Sends spec.bare_form (chars text.now) result }
+pub(crate) fn read_bare<'a>(head: Start<'a>, rest: &'a str) -> Option<Sent<'a>>
+    ensures { (text : Text) → Front (Row spec.head_row) text (chars rest.entry.now) (head_values head.entry)
+        → Sends spec.bare_form text result }
 {
-    let (head, at_app) = head(text)?;
-    let (appname, after_app) = word(at_app)?;
+    let (appname, after_app) = word(rest)?;
     let at_process = some_blanks(after_app)?;
     let (process, after_process) = word(at_process)?;
     let at_id = some_blanks(after_process)?;

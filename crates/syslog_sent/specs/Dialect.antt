@@ -9,7 +9,8 @@ use Rattle.syslog_sent.specs.declared.dialect.Dialect.TheVariants.{Repeated, Cef
 use Rattle.syslog_sent.specs.declared.dialect.Dialect.TheVariants.{Idrac, Log4j, Forwarded, SeverityFirst}
 use Rattle.syslog_sent.specs.declared.dialect.Dialect.TheVariants.{SpacedName, NoHost, Heroku, Monotonic, NearlyRfc5424}
 use Rattle.syslog_sent.specs.declared.dialect.Dialect.TheVariants.{Bracketed, MikroTik, SophosUtm, UnixSeconds}
-use Rattle.syslog_sent.specs.declared.dialect.Dialect.TheVariants.{Esxi, WatchGuard, DatedMessage, UniFi, Untagged}
+use Rattle.syslog_sent.specs.declared.dialect.Dialect.TheVariants.{Esxi, WatchGuard, DatedMessage, UniFi, UnifiedLog}
+use Rattle.syslog_sent.specs.declared.dialect.Dialect.TheVariants.{Untagged}
 
 -- the name of a dialect, in ASCII
 abbrev pub dialect_name : Dialect → List ℕ
@@ -49,6 +50,7 @@ dialect_name NoHost = codes "no-host"
 dialect_name Heroku = codes "heroku"
 dialect_name Monotonic = codes "journalctl-monotonic"
 dialect_name NearlyRfc5424 = codes "nearly-rfc5424"
+dialect_name UnifiedLog = codes "macos-log"
 
 -- the name of the dialect, where there is one
 abbrev pub dialect_text : Option Dialect → Option Text
@@ -92,3 +94,4 @@ dialect_number NoHost = 51
 dialect_number Heroku = 52
 dialect_number Monotonic = 59
 dialect_number NearlyRfc5424 = 60
+dialect_number UnifiedLog = 61

@@ -78,6 +78,8 @@ pub enum Dialect {
     NearlyRfc5424,
     /// The seconds since the start in the place of a date, as journalctl's `short-monotonic` writes.
     Monotonic,
+    /// The columns of the unified log, as macOS's `log show` writes.
+    UnifiedLog,
 }
 
 impl Dialect {
@@ -122,6 +124,7 @@ impl Dialect {
             Dialect::Heroku => "heroku",
             Dialect::NearlyRfc5424 => "nearly-rfc5424",
             Dialect::Monotonic => "journalctl-monotonic",
+            Dialect::UnifiedLog => "macos-log",
         }
     }
 
@@ -166,6 +169,7 @@ impl Dialect {
             Dialect::Heroku => 52,
             Dialect::NearlyRfc5424 => 60,
             Dialect::Monotonic => 59,
+            Dialect::UnifiedLog => 61,
         }
     }
 
@@ -211,6 +215,7 @@ impl Dialect {
             52 => Some(Dialect::Heroku),
             60 => Some(Dialect::NearlyRfc5424),
             59 => Some(Dialect::Monotonic),
+            61 => Some(Dialect::UnifiedLog),
             _ => None,
         }
     }

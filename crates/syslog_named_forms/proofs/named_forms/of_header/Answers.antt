@@ -1,25 +1,32 @@
-use Rattle.std.proofs.Common.{[], ◌∷◌, inl}
-use Rattle.syslog_text.proofs.PieceLemmas.Class.{no_row, no_row_division}
+use Rattle.std.proofs.Common.{List, [], ◌∷◌}
+use Rattle.syslog_text.specs.Pieces.Class.{Class}
+use Rattle.syslog_text.proofs.PieceLemmas.Class.{no_row_division, rows_none_here}
 use Rattle.syslog_sent.proofs.FormLemmas.{found_after}
-use Rattle.syslog_named_forms.proofs.HeaderLemmas.{header_det}
-use Rattle.syslog_named_forms.proofs.NearHeaderLemmas.{bare_det, nil_det, tag_det}
-use Rattle.syslog_named_forms.specs.Header.{header_form, header_row}
 use Rattle.syslog_named_forms.specs.Monotonic.{monotonic_form}
-use Rattle.syslog_named_forms.specs.NearHeader.{bare_form, bare_row, nil_form, nil_row, tag_form, tag_row}
+use Rattle.syslog_named_forms.specs.NearHeader as header
+use Rattle.syslog_named_forms.specs.declared.untagged.Mark.TheVariants as mark
 use Rattle.syslog_named_forms.proofs.named_forms.of_header.Goals as goal
 
 pub returns-in-Some : goal.returns-in-Some
-returns-in-Some c = c.of_version.ensures
+returns-in-Some c = c.of_start.ensures c.in-Some.ensures
 
 pub returns-in-None : goal.returns-in-None
-returns-in-None c = found_after (nil_form ∷ tag_form ∷ header_form ∷ bare_form ∷ []) (monotonic_form ∷ []) _
-    c.of_seconds.result (
-      no_row_division nil_row (no_row nil_row nil_det (inl c.in-None.ensures)),
+returns-in-None c =
+    let none = λ (more : List Class). rows_none_here header.head_row more c.in-None.ensures in
+    found_after (header.vendor_form mark.Cef ∷ header.vendor_form mark.Leef ∷ header.nil_form ∷ header.tag_form
+    ∷ header.heroku_form ∷ header.bare_form ∷ []) (monotonic_form ∷ []) _ c.of_seconds.result (
+      no_row_division (header.vendor_row mark.Cef) (none (header.vendor_more mark.Cef)),
       (
-        no_row_division tag_row (no_row tag_row tag_det (inl c.in-None.ensures)),
+        no_row_division (header.vendor_row mark.Leef) (none (header.vendor_more mark.Leef)),
         (
-          no_row_division header_row (no_row header_row header_det (inl c.in-None.ensures)),
-          (no_row_division bare_row (no_row bare_row bare_det (inl c.in-None.ensures)), tt),
+          no_row_division header.nil_row (none header.nil_more),
+          (
+            no_row_division header.tag_row (none header.tag_more),
+            (
+              no_row_division header.heroku_row (none header.heroku_more),
+              (no_row_division header.bare_row (none header.bare_more), tt),
+            ),
+          ),
         ),
       ),
     )

@@ -2,10 +2,10 @@ use Rattle.std.proofs.Common.{List, [], ◌∷◌, ◌++◌, Option, Some}
 use Rattle.syslog_text.specs.Pieces.Class.{Front, NoFront, Row, Text, mapped}
 use Rattle.syslog_named_forms.proofs.NamedFormLemmas.{tail_here, tail_later, forwarded_tail_det, severity_tail_det}
 use Rattle.syslog_named_forms.proofs.NamedFormLemmas.{access_tail_det, hostless_tail_det, serial_tail_det}
-use Rattle.syslog_named_forms.proofs.NamedFormLemmas.{untagged_tail_det, worded_tail_det}
+use Rattle.syslog_named_forms.proofs.NamedFormLemmas.{unified_tail_det, untagged_tail_det, worded_tail_det}
 use Rattle.syslog_named_forms.specs.NamedForms.{forwarded_tail, severity_tail, worded_tail, hostless_tail}
 use Rattle.syslog_named_forms.specs.NamedForms.{access_tail, front_row, program_forms, serial_tail}
-use Rattle.syslog_named_forms.specs.NamedForms.{tail_forms, undated_forms, untagged_tail}
+use Rattle.syslog_named_forms.specs.NamedForms.{tail_forms, undated_forms, unified_tail, untagged_tail}
 use Rattle.syslog_sent.specs.Forms.{Finds}
 use Rattle.syslog_sent.specs.Named.{NamedTexts}
 use Rattle.syslog_sent.specs.Sent.{Form}
@@ -18,23 +18,26 @@ use Rattle.syslog_named_forms.proofs.named_forms.of_program.Goals as goal
 abbrev after_untagged : List Form
 after_untagged = undated_forms
 
+abbrev after_unified : List Form
+after_unified = tail_forms (untagged_tail ∷ []) ++ undated_forms
+
 abbrev after_serial : List Form
-after_serial = tail_forms (untagged_tail ∷ []) ++ undated_forms
+after_serial = tail_forms (unified_tail ∷ untagged_tail ∷ []) ++ undated_forms
 
 abbrev after_hostless : List Form
-after_hostless = tail_forms (serial_tail ∷ untagged_tail ∷ []) ++ undated_forms
+after_hostless = tail_forms (serial_tail ∷ unified_tail ∷ untagged_tail ∷ []) ++ undated_forms
 
 abbrev after_access : List Form
-after_access = tail_forms (hostless_tail ∷ serial_tail ∷ untagged_tail ∷ []) ++ undated_forms
+after_access = tail_forms (hostless_tail ∷ serial_tail ∷ unified_tail ∷ untagged_tail ∷ []) ++ undated_forms
 
 abbrev after_worded : List Form
-after_worded = tail_forms (access_tail ∷ hostless_tail ∷ serial_tail ∷ untagged_tail ∷ []) ++ undated_forms
+after_worded = tail_forms (access_tail ∷ hostless_tail ∷ serial_tail ∷ unified_tail ∷ untagged_tail ∷ []) ++ undated_forms
 
 abbrev after_severity : List Form
-after_severity = tail_forms (worded_tail ∷ access_tail ∷ hostless_tail ∷ serial_tail ∷ untagged_tail ∷ []) ++ undated_forms
+after_severity = tail_forms (worded_tail ∷ access_tail ∷ hostless_tail ∷ serial_tail ∷ unified_tail ∷ untagged_tail ∷ []) ++ undated_forms
 
 abbrev after_forwarded : List Form
-after_forwarded = tail_forms (severity_tail ∷ worded_tail ∷ access_tail ∷ hostless_tail ∷ serial_tail ∷ untagged_tail ∷ []) ++ undated_forms
+after_forwarded = tail_forms (severity_tail ∷ worded_tail ∷ access_tail ∷ hostless_tail ∷ serial_tail ∷ unified_tail ∷ untagged_tail ∷ []) ++ undated_forms
 
 -- and what they find, where it is none of that one
 module _ {text rest : Text} {d : SentDate} (front : Front (Row front_row) text rest (tt, (d, (tt, tt))))
@@ -63,8 +66,12 @@ module _ {text rest : Text} {d : SentDate} (front : Front (Row front_row) text r
       → Finds after_hostless text r
   no_serial = tail_later serial_tail after_serial serial_tail_det front r
 
-  no_untagged : NoFront (mapped untagged_tail.after NamedTexts untagged_tail.names) rest → Finds after_untagged text r
+  no_unified : NoFront (mapped unified_tail.after NamedTexts unified_tail.names) rest → Finds after_unified text r
       → Finds after_serial text r
+  no_unified = tail_later unified_tail after_unified unified_tail_det front r
+
+  no_untagged : NoFront (mapped untagged_tail.after NamedTexts untagged_tail.names) rest → Finds after_untagged text r
+      → Finds after_unified text r
   no_untagged = tail_later untagged_tail after_untagged untagged_tail_det front r
 
 pub returns-in-Some : goal.returns-in-Some
@@ -106,6 +113,16 @@ returns-in-Some-after_serial c after front =
     (no_hostless front (Some (_, c.sent-in-Some-after_serial.result)) c.in_default-hostless.ensures
     (tail_here serial_tail after_serial serial_tail_det front (c.in-Some-after_serial.ensures _ after) c.sent-in-Some-after_serial.ensures))))))
 
+pub returns-in-Some-unified : goal.returns-in-Some-unified
+returns-in-Some-unified c after front =
+    (no_forwarded front (Some (_, c.sent-in-Some-unified.result)) (c.in_default.ensures after)
+    (no_severity front (Some (_, c.sent-in-Some-unified.result)) (c.in_default-severity_first.ensures _ after)
+    (no_worded front (Some (_, c.sent-in-Some-unified.result)) (c.in_default-worded.ensures _ after)
+    (no_access front (Some (_, c.sent-in-Some-unified.result)) c.in_default-of_access_point.ensures
+    (no_hostless front (Some (_, c.sent-in-Some-unified.result)) c.in_default-hostless.ensures
+    (no_serial front (Some (_, c.sent-in-Some-unified.result)) (c.in_default-after_serial.ensures _ after)
+    (tail_here unified_tail after_unified unified_tail_det front c.in-Some-unified.ensures c.sent-in-Some-unified.ensures)))))))
+
 pub returns-in-Some-untagged_message : goal.returns-in-Some-untagged_message
 returns-in-Some-untagged_message c after front =
     (no_forwarded front (Some (_, c.sent-in-Some-untagged_message.result)) (c.in_default.ensures after)
@@ -114,7 +131,8 @@ returns-in-Some-untagged_message c after front =
     (no_access front (Some (_, c.sent-in-Some-untagged_message.result)) c.in_default-of_access_point.ensures
     (no_hostless front (Some (_, c.sent-in-Some-untagged_message.result)) c.in_default-hostless.ensures
     (no_serial front (Some (_, c.sent-in-Some-untagged_message.result)) (c.in_default-after_serial.ensures _ after)
-    (tail_here untagged_tail after_untagged untagged_tail_det front (c.in-Some-untagged_message.ensures _ after) c.sent-in-Some-untagged_message.ensures)))))))
+    (no_unified front (Some (_, c.sent-in-Some-untagged_message.result)) c.in_default-unified.ensures
+    (tail_here untagged_tail after_untagged untagged_tail_det front (c.in-Some-untagged_message.ensures _ after) c.sent-in-Some-untagged_message.ensures))))))))
 
 pub returns : goal.returns
 returns c after front =
@@ -124,5 +142,6 @@ returns c after front =
     (no_access front c.undated.result c.in_default-of_access_point.ensures
     (no_hostless front c.undated.result c.in_default-hostless.ensures
     (no_serial front c.undated.result (c.in_default-after_serial.ensures _ after)
+    (no_unified front c.undated.result c.in_default-unified.ensures
     (no_untagged front c.undated.result (c.in_default-untagged_message.ensures _ after)
-    c.undated.ensures)))))))
+    c.undated.ensures))))))))

@@ -1,4 +1,4 @@
-use Rattle.std.proofs.Common.{List, [], ◌∷◌, Some, None}
+use Rattle.std.proofs.Common.{List, ◌∷◌, Some}
 use Rattle.syslog_sent.proofs.DialectLemmas.{here}
 use Rattle.syslog_named_forms.proofs.NamedFormLemmas.{undated_here, undated_later}
 use Rattle.syslog_named_forms.specs.NamedForms.{header_forms, undated_form}

@@ -1,0 +1,47 @@
+use Rattle.syslog_text.proofs.PieceLemmas.Class.{◌past◌, ◌then◌, mapped_front, rest_front, row_of}
+use Rattle.syslog_text.specs.Pieces.Class.{Row}
+use Rattle.std.proofs.Common.{inl, refl}
+use Rattle.syslog_named_forms.proofs.ProgramLemmas.{log_det}
+use Rattle.syslog_sent.proofs.NamedLemmas.{unread}
+use Rattle.syslog_sent.specs.Named.{NamedTexts}
+use Rattle.syslog_named_forms.specs.Unified.{log_of, log_row}
+use Rattle.syslog_named_forms.proofs.unified.unified.Goals as goal
+
+pub returns-in_err-at_id : goal.returns-in_err-at_id
+returns-in_err-at_id c = rw c.from_residual.ensures (unread log_row log_det NamedTexts log_of
+    (inl c.in_err-at_id.ensures))
+
+pub returns-in_err-process : goal.returns-in_err-process
+returns-in_err-process c = rw c.from_residual-in_err-process.ensures (unread log_row log_det NamedTexts log_of
+    (c.in_ok-at_id.ensures.1 past inl c.in_err-process.ensures))
+
+pub returns-in_err-at_kept : goal.returns-in_err-at_kept
+returns-in_err-at_kept c = rw c.from_residual-in_err-at_kept.ensures (unread log_row log_det NamedTexts log_of
+    (c.in_ok-at_id.ensures.1 past c.in_ok-process.ensures past inl c.in_err-at_kept.ensures))
+
+pub returns-in_err-after_kept : goal.returns-in_err-after_kept
+returns-in_err-after_kept c = rw c.from_residual-in_err-after_kept.ensures (unread log_row log_det NamedTexts log_of
+    (c.in_ok-at_id.ensures.1 past c.in_ok-process.ensures past c.in_ok-at_kept.ensures past
+    inl c.in_err-after_kept.ensures))
+
+pub returns-in_err-at_name : goal.returns-in_err-at_name
+returns-in_err-at_name c = rw c.from_residual-in_err-at_name.ensures (unread log_row log_det NamedTexts log_of
+    (c.in_ok-at_id.ensures.1 past c.in_ok-process.ensures past c.in_ok-at_kept.ensures past
+    c.in_ok-after_kept.ensures.1 past inl c.in_err-at_name.ensures))
+
+pub returns-in_err-name : goal.returns-in_err-name
+returns-in_err-name c = rw c.from_residual-in_err-name.ensures (unread log_row log_det NamedTexts log_of
+    (c.in_ok-at_id.ensures.1 past c.in_ok-process.ensures past c.in_ok-at_kept.ensures past
+    c.in_ok-after_kept.ensures.1 past c.in_ok-at_name.ensures past inl c.in_err-name.ensures))
+
+pub returns-in_err-rest : goal.returns-in_err-rest
+returns-in_err-rest c = rw c.from_residual-in_err-rest.ensures (unread log_row log_det NamedTexts log_of
+    (c.in_ok-at_id.ensures.1 past c.in_ok-process.ensures past c.in_ok-at_kept.ensures past
+    c.in_ok-after_kept.ensures.1 past c.in_ok-at_name.ensures past c.in_ok-name.ensures past
+    inl c.in_err-rest.ensures))
+
+pub returns : goal.returns
+returns c = rw c.tagged.ensures (mapped_front (Row log_row) NamedTexts log_of (row_of log_row
+    (c.in_ok-at_id.ensures.1 then c.in_ok-process.ensures then c.in_ok-at_kept.ensures then
+    c.in_ok-after_kept.ensures.1 then c.in_ok-at_name.ensures then c.in_ok-name.ensures then
+    c.in_ok-rest.ensures then c.blanks.ensures then rest_front _ then refl)))
