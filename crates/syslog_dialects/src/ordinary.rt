@@ -2,8 +2,7 @@
 //!
 //! **Rule.** A line of RFC 5424 is read as the port reads it. So is a line of RFC 3164 with a date, a host and a tag
 //! that a colon or a process id ends, as section 5.4 has them, and one with a strict element. A word follows the colon
-//! of no tag at once. So no dialect is tried
-//! for most lines, and none can change them.
+//! of no tag at once. So no dialect is tried for most lines, and none can change them.
 ghost use Rattle.std.specs.Prelude.{◌≡◌, ◌∷◌, [], None, IsTrue, MatchBool, chars};
 ghost use Rattle.syslog_text.specs.Pieces.Class.{Row, exactly};
 ghost use Rattle.syslog_text.specs.Pieces.View.{Skips, seen, shown};
