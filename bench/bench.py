@@ -255,6 +255,7 @@ def time_corpora(filters, chosen, folder):
             sizes.append((len(lines), corpora.write_lines(files[-1], lines) / 1e6))
     times = least(filters, files, chosen.runs)
     more = ["peer's lines/s", "times the peer's speed"] * (len(filters) > 1)
+    more += ["the same without reading lines"] * (len(filters) > 2)
     table = head("corpus", "lines/s", "MB/s", *more)
     for file, (count, size), (own, *others) in zip(files, sizes, times):
         more = ["{:,.0f}".format(count / others[0]), *compared(own, *others)] if others else []
@@ -534,8 +535,7 @@ def main():
     if chosen.rust and chosen.peer == "crates.io":
         paths[1] = built_over_the_crate()
     filters = [Filter(path, chosen.year, chosen.processor) for path in paths]
-    # Times of long lines differ by the caches more than by what reading them takes.
-    if chosen.rust and chosen.peer and chosen.instructions:
+    if chosen.rust and chosen.peer:
         filters.append(Filter(paths[0], chosen.year, chosen.processor, ["--lines-only"]))
     if chosen.check:
         compare = check_objects if chosen.json else check

@@ -17,6 +17,7 @@
  *   - No pointer is null, also where its length is 0.
  *   - A pointer with a length n points to n bytes (or n structs), any other one to one value; n is below 2^63 bytes.
  *   - What a call writes to overlaps nothing else that it is given, and no other thread touches it meanwhile.
+ *   - The line of syslog_read_utf8 is UTF-8.
  *   - Each syslog_message, syslog_row, syslog_element, syslog_param and syslog_text is set before the first call that
  *     writes to it, by SYSLOG_MESSAGE_INIT and the like. (No call looks at what it was set to.)
  *   - The texts of a message lie in the line: they last as long as its bytes do, unchanged.
@@ -76,8 +77,9 @@ struct syslog_options {
 };
 
 /* A dialect is a form of lines of senders that follow neither protocol, as Cisco's switches and FortiGate's firewalls
- * write them: docs/SENDERS.md has them all. Where the variant and no_dialects are 0, syslog_read, syslog_read_fields,
- * syslog_read_lines, syslog_json and syslog_to_rfc5424 read a line in its dialect. Its message has no structured data.
+ * write them: docs/SENDERS.md has them all. Where the variant and no_dialects are 0, syslog_read, syslog_read_utf8,
+ * syslog_read_fields, syslog_read_lines, syslog_json and syslog_to_rfc5424 read a line in its dialect. Its message has
+ * no structured data.
  *
  * syslog_normalise, syslog_settle and syslog_is_canonical read each line by the protocols alone. A line of a dialect
  * may be no message for them. */
@@ -162,6 +164,13 @@ struct syslog_param {
 uint32_t syslog_read(const char *line, size_t length, const struct syslog_options *options,
                      struct syslog_message *message, struct syslog_element *elements, size_t element_room,
                      struct syslog_param *params, size_t param_room);
+
+/* Reads a line that the caller knows to be UTF-8, as syslog_read does, and does not look whether it is: a caller whose
+ * texts are UTF-8 by their type saves that look. A line that is none would be read as if it were, past its end perhaps.
+ */
+uint32_t syslog_read_utf8(const char *line, size_t length, const struct syslog_options *options,
+                          struct syslog_message *message, struct syslog_element *elements, size_t element_room,
+                          struct syslog_param *params, size_t param_room);
 
 /* Reads the fields alone, and no structured data: the message has the numbers of elements and of parameters.
  *

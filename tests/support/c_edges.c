@@ -100,17 +100,8 @@ static void untouched(const struct place *place, size_t elements, size_t params)
         CHECK(same_text(&place->params[i].name, &text) && same_text(&place->params[i].value, &text));
 }
 
-/* The fields alone are those that are read with the arrays. */
-static void fields_alone(const char *line, size_t length, const struct syslog_message *whole, uint32_t outcome)
+static void same_fields(const struct syslog_message *it, const struct syslog_message *whole)
 {
-    static struct place place;
-    const struct syslog_message *it = &place.message;
-    set(&place);
-    CHECK(syslog_read_fields(line, length, &OPTIONS, &place.message) == outcome);
-    if (outcome != SYSLOG_DONE) {
-        CHECK(is_set(&place));
-        return;
-    }
     CHECK(it->protocol == whole->protocol && it->version == whole->version);
     CHECK(it->facility == whole->facility && it->severity == whole->severity);
     CHECK(it->timestamp.seconds == whole->timestamp.seconds && it->timestamp.offset == whole->timestamp.offset);
@@ -122,12 +113,39 @@ static void fields_alone(const char *line, size_t length, const struct syslog_me
     CHECK(same_text(&it->unparsed, &whole->unparsed));
 }
 
+/* The fields alone are those that are read with the arrays. */
+static void fields_alone(const char *line, size_t length, const struct syslog_message *whole, uint32_t outcome)
+{
+    static struct place place;
+    set(&place);
+    CHECK(syslog_read_fields(line, length, &OPTIONS, &place.message) == outcome);
+    if (outcome == SYSLOG_DONE)
+        same_fields(&place.message, whole);
+    else
+        CHECK(is_set(&place));
+}
+
+/* A line that is known to be UTF-8 is read as any line. */
+static void known_as_utf8(const char *line, size_t length, const struct place *whole, uint32_t outcome)
+{
+    static struct place place;
+    set(&place);
+    CHECK(syslog_read_utf8(line, length, &OPTIONS, &place.message, place.elements, MOST, place.params, MOST)
+          == outcome);
+    if (outcome == SYSLOG_DONE)
+        same_fields(&place.message, &whole->message);
+    else
+        CHECK(is_set(&place));
+    CHECK(elements_put(&place) == elements_put(whole) && params_put(&place) == params_put(whole));
+}
+
 static void each_array(const char *line, size_t length)
 {
     static struct place whole, place;
     set(&whole);
     uint32_t outcome = syslog_read(line, length, &OPTIONS, &whole.message, whole.elements, MOST, whole.params, MOST);
     fields_alone(line, length, &whole.message, outcome);
+    known_as_utf8(line, length, &whole, outcome);
     if (outcome != SYSLOG_DONE) {
         CHECK(outcome == SYSLOG_NO_READING && is_set(&whole) && !elements_put(&whole) && !params_put(&whole));
         return;

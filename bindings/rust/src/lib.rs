@@ -265,9 +265,9 @@ fn read(
 ) -> u32 {
     let options = options.raw();
     // SAFETY: each pointer comes from a reference, with the length of its slice, so it isn't null; what is written to
-    // overlaps nothing else, and is set. The library keeps none of them.
+    // overlaps nothing else, and is set. The library keeps none of them. A `str` is UTF-8.
     unsafe {
-        raw::syslog_read(
+        raw::syslog_read_utf8(
             line.as_ptr(),
             line.len(),
             &options,

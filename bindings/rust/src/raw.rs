@@ -137,7 +137,7 @@ pub type Writer = unsafe extern "C" fn(*const u8, usize, *const Options, *mut u8
 
 extern "C" {
     pub fn syslog_version() -> u32;
-    pub fn syslog_read(
+    pub fn syslog_read_utf8(
         line: *const u8,
         length: usize,
         options: *const Options,

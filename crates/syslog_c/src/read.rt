@@ -1,13 +1,15 @@
 //! The fields of a line, with its elements and without them.
-ghost use Rattle.std.specs.Prelude.{◌≡◌};
+ghost use Rattle.std.specs.Prelude.{◌≡◌, ◌⊎◌, IsUtf8};
 ghost use Rattle.std.specs.Str.{chars};
 ghost use Rattle.syslog_pieces.specs.Timestamp.Zone.{Dating};
 ghost use Rattle.syslog_loose.specs.Dates.{IsDated};
 ghost use Rattle.syslog_loose.specs.Today.{IsYearIn};
 ghost use Rattle.syslog_loose.specs.Reading.{IsUnreadable};
 ghost use Rattle.syslog_c.specs.Line.{OnLine};
+ghost use Rattle.syslog_c.specs.Options.{IsTaken};
 ghost use Rattle.syslog_c.specs.Outcome.{IsCodeOf};
 ghost use Rattle.syslog_c.specs.Reported.{MeansOnly, ReadsInto, ReportsFields};
+ghost use Rattle.syslog_c.specs.declared.outcome.Outcome.TheVariants.{BadArgument, NotUtf8};
 
 use crate::arrays::Arrays;
 use crate::fields::{Element, Fields, Param};
@@ -36,17 +38,76 @@ pub extern "C" fn syslog_read<'a>(
         (λ rules dating text. ReadsInto rules dating text
         fields.old fields.new elements.old elements.new params.old params.new outcome)) }
 {
-    read_into(line, options, fields, elements, params) as u32
+    match from_utf8(line) {
+        Ok(text) => read_text(text, options, fields, elements, params),
+        Err(_) => refused(options) as u32,
+    }
 }
 
-fn read_into<'a>(
+/// Reads a line that is known to be UTF-8, as `syslog_read` does, and does not look whether it is.
+#[unsafe(no_mangle)]
+pub extern "C" fn syslog_read_utf8<'a>(
     line: &'a [u8],
     options: &Options,
     fields: &mut Fields<'a>,
     elements: &mut [Element<'a>],
     params: &mut [Param<'a>],
+) -> u32
+    requires { IsUtf8 line.now }
+    ensures { IsCodeOf result (λ outcome. OnLine options.now line.now outcome
+        ((fields.new ≡ fields.old) × (elements.new ≡ elements.old) × (params.new ≡ params.old))
+        (λ rules dating text. ReadsInto rules dating text
+        fields.old fields.new elements.old elements.new params.old params.new outcome)) }
+{
+    read_text(
+        unsafe { str::from_utf8_unchecked(line) },
+        options,
+        fields,
+        elements,
+        params,
+    )
+}
+
+// How reading a line ends that is not UTF-8.
+#[cold]
+#[inline(never)]
+fn refused(options: &Options) -> Outcome
+    ensures { ((result ≡ BadArgument) × (IsTaken options.now → ⊥)) ⊎ ((result ≡ NotUtf8) × IsTaken options.now) }
+{
+    let mut rules = Rules::new();
+    if rules.take(options) {
+        Outcome::NotUtf8
+    } else {
+        Outcome::BadArgument
+    }
+}
+
+// (It takes and returns what the two calls do, so they end in a jump to it.)
+#[inline(never)]
+fn read_text<'a>(
+    text: &'a str,
+    options: &Options,
+    fields: &mut Fields<'a>,
+    elements: &mut [Element<'a>],
+    params: &mut [Param<'a>],
+) -> u32
+    ensures { IsCodeOf result (λ outcome. OnLine options.now text.now outcome
+        ((fields.new ≡ fields.old) × (elements.new ≡ elements.old) × (params.new ≡ params.old))
+        (λ rules dating text. ReadsInto rules dating text
+        fields.old fields.new elements.old elements.new params.old params.new outcome)) }
+{
+    read_into(text, options, fields, elements, params) as u32
+}
+
+#[inline(always)]
+fn read_into<'a>(
+    text: &'a str,
+    options: &Options,
+    fields: &mut Fields<'a>,
+    elements: &mut [Element<'a>],
+    params: &mut [Param<'a>],
 ) -> Outcome
-    ensures { OnLine options.now line.now result
+    ensures { OnLine options.now text.now result
         ((fields.new ≡ fields.old) × (elements.new ≡ elements.old) × (params.new ≡ params.old))
         (λ rules dating text. ReadsInto rules dating text
         fields.old fields.new elements.old elements.new params.old params.new result) }
@@ -55,9 +116,6 @@ fn read_into<'a>(
     if !rules.take(options) {
         return Outcome::BadArgument;
     }
-    let Ok(text) = from_utf8(line) else {
-        return Outcome::NotUtf8;
-    };
     let mut arrays = Arrays {
         elements,
         params,
