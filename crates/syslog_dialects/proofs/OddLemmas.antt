@@ -1,6 +1,6 @@
 -- What an odd app name begins with, and a host that is the level of a line of ESXi.
 use Rattle.std.proofs.Common.{◌≡◌, ◌<◌, ℕ, true, false, List, [], ◌∷◌, ◌++◌, length, refl, sym, ap, ◌∙◌, inl, inr}
-use Rattle.std.proofs.Common.{arith}
+use Rattle.std.proofs.Common.{arith, ◌⊎◌, subst}
 use Rattle.std.proofs.lemmas.Bool.{and_parts, cases_Bool}
 use Rattle.std.proofs.lemmas.Bool.Decides.{nat_tests}
 use Rattle.std.proofs.lemmas.Str.Ascii.{IsAscii-cons, IsAscii-nil}
@@ -10,7 +10,8 @@ use Rattle.std.specs.Str.{IsUtf8, chars, encode_utf8_all}
 use Rattle.syslog_text.specs.Pieces.Class.{Text}
 use Rattle.syslog_text.proofs.TextLemmas.Runs.{ascii_ahead, chars_nonempty, one_ascii}
 use Rattle.syslog_sent.specs.Named.{is_letter}
-use Rattle.syslog_dialects.specs.Ordinary.{BeginsPlainly, begins_oddly, has_bracket, is_level_mark, is_odd_app}
+use Rattle.syslog_dialects.specs.Ordinary.{BeginsPlainly, begin_no_word, begins_oddly, has_bracket, is_level_mark}
+use Rattle.syslog_dialects.specs.Ordinary.{is_odd_app}
 use Rattle.syslog_dialects.specs.Ordinary.{opens_day}
 
 oddly_low : (c : ℕ) → begins_oddly c ≡ true → c < 128
@@ -26,19 +27,61 @@ no_day c (b ∷ d ∷ e ∷ f ∷ t) h = rw h refl
 plain_begins : (c : ℕ) (t : Text) → begins_oddly c ≡ false → is_odd_app (c ∷ t) ≡ false
 plain_begins c t h = grind (arith, nat_tests, no_day)
 
--- the first character of an odd app name is its first byte
-odd_first : (bs : List ℕ) (c : ℕ) (t : Text) → IsUtf8 bs → chars bs ≡ c ∷ t → begins_oddly c ≡ true
-    → begins_oddly (slice_index bs 0) ≡ true
-odd_first bs c t u e h =
-    let bytes : bs ≡ (c ∷ []) ++ encode_utf8_all t = ascii_ahead (c ∷ []) t bs u (one_ascii c (oddly_low c h)) e in
-    rw bytes h
+-- an odd app name that begins as one of the words goes on as that word
+word_alone : (c x : ℕ) → begin_no_word c x ≡ true → is_odd_app (c ∷ []) ≡ false
+word_alone c x w = grind (arith, nat_tests)
+
+after_c : (d : ℕ) (t : Text) → is_odd_app (67 ∷ d ∷ t) ≡ true → d ≡ 69
+after_c d t h = grind (arith, nat_tests, h, no_day 67 (d ∷ t) refl)
+
+after_l : (d : ℕ) (t : Text) → is_odd_app (76 ∷ d ∷ t) ≡ true → d ≡ 69
+after_l d t h = grind (arith, nat_tests, h, no_day 76 (d ∷ t) refl)
+
+after_s : (d : ℕ) (t : Text) → is_odd_app (83 ∷ d ∷ t) ≡ true → d ≡ 101
+after_s d t h = grind (arith, nat_tests, h, no_day 83 (d ∷ t) refl)
+
+word_first : (c x : ℕ) → begin_no_word c x ≡ true → (c ≡ 67) ⊎ ((c ≡ 76) ⊎ (c ≡ 83))
+word_first c x w = elim (cases_Bool (nat_eq c 67)) [
+  | inl is ↦ inl (grind (arith, nat_tests, is))
+  | inr not_c ↦ (elim (cases_Bool (nat_eq c 76)) [
+      | inl is ↦ inr (inl (grind (arith, nat_tests, is)))
+      | inr not_l ↦ inr (inr (grind (arith, nat_tests, w, not_c, not_l)))
+    ])
+]
+
+word_next : (c d x : ℕ) (t : Text) → begin_no_word c x ≡ true → is_odd_app (c ∷ d ∷ t) ≡ true
+    → (d < 128) × (begin_no_word c d ≡ false)
+word_next c d x t w h = elim (word_first c x w) [
+  | inl is ↦ (let e = after_c d t (subst (λ (k : ℕ). is_odd_app (k ∷ d ∷ t) ≡ true) is h) in (rw e (omega arith), rw (is, e) refl))
+  | inr (inl is) ↦ (let e = after_l d t (subst (λ (k : ℕ). is_odd_app (k ∷ d ∷ t) ≡ true) is h) in (rw e (omega arith), rw (is, e) refl))
+  | inr (inr is) ↦ (let e = after_s d t (subst (λ (k : ℕ). is_odd_app (k ∷ d ∷ t) ≡ true) is h) in (rw e (omega arith), rw (is, e) refl))
+]
+
+word_not_odd : (bs : List ℕ) (c : ℕ) (t : Text) → IsUtf8 bs → chars bs ≡ c ∷ t → c < 128
+    → begin_no_word c (slice_index bs 1) ≡ true → is_odd_app (c ∷ t) ≡ false
+word_not_odd bs c [] u e low w = word_alone c _ w
+word_not_odd bs c (d ∷ t) u e low w = elim (cases_Bool (is_odd_app (c ∷ d ∷ t))) [
+  | inl odd ↦ (
+      let (low_d, other) = word_next c d _ t w odd in
+      let bytes : bs ≡ (c ∷ d ∷ []) ++ encode_utf8_all t = ascii_ahead (c ∷ d ∷ []) t bs u
+      (IsAscii-cons c (d ∷ []) low (one_ascii d low_d)) e in
+      let second : slice_index bs 1 ≡ d = rw bytes refl in
+      let bad : true ≡ false = sym w ∙ (rw second other) in cc
+    )
+  | inr not ↦ not
+]
 
 not_odd : (bs : List ℕ) (t : Text) → IsUtf8 bs → chars bs ≡ t → BeginsPlainly bs → is_odd_app t ≡ false
 not_odd bs [] u e (some, plain) =
-    absurd (let long = chars_nonempty bs u some in omega (arith, long, ap length e))
+    absurd (let long = chars_nonempty bs u (omega (arith, some)) in omega (arith, long, ap length e))
 not_odd bs (c ∷ t) u e (some, plain) = elim (cases_Bool (begins_oddly c)) [
-  | inl odd ↦ (let bad : true ≡ false = sym (odd_first bs c t u e odd) ∙ plain in cc)
-  | inr not ↦ plain_begins c t not
+  | inl odd ↦ (
+      let low = oddly_low c odd in
+      let bytes : bs ≡ (c ∷ []) ++ encode_utf8_all t = ascii_ahead (c ∷ []) t bs u (one_ascii c low) e in
+      let first : slice_index bs 0 ≡ c = rw bytes refl in
+      word_not_odd bs c t u e low (grind (arith, nat_tests, first, odd, plain))
+    )
+  | inr other ↦ plain_begins c t other
 ]
 
 -- an app name that begins with another byte is none

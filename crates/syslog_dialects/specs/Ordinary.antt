@@ -1,7 +1,7 @@
 -- The lines of the port that keep their reading, by their fields alone: this project's own choice. 32 is a space,
 -- 34 `"`, 60 `<`, 40 `(`, 45 `-`, 47 `/`, 58 `:`, 91 `[`, 123 `{`.
 use Rattle.std.specs.Prelude.{◌≡◌, ◌≢◌, ◌⊎◌, ◌∷◌, ◌&&◌, ◌||◌, ℕ, nat_eq, Bool, true, false, List, [], Some, IsSome}
-use Rattle.std.specs.Prelude.{◌<◌, codes, nat_lt, length, slice_index}
+use Rattle.std.specs.Prelude.{◌<◌, IsTrue, codes, nat_lt, not, length, slice_index}
 use Rattle.std.specs.Char.{is_ascii_digit}
 use Rattle.syslog_text.specs.Pieces.Class.{Ends, Text, Class, Front, Row, exactly}
 use Rattle.syslog_text.specs.Pieces.View.{seen, shown, text_eq}
@@ -48,9 +48,14 @@ abbrev pub begins_oddly : ℕ → Bool
 begins_oddly c = is_ascii_digit c || (nat_eq c 123 || (nat_eq c 91 || (nat_eq c 34 || (nat_eq c 60 || (nat_eq c 67
     || (nat_eq c 76 || nat_eq c 83))))))
 
--- the first byte is there, and is none of these
+-- the first is that of one of the words, and the second is not that of the same word
+abbrev pub begin_no_word : ℕ → ℕ → Bool
+begin_no_word c d = ((nat_eq c 67 || nat_eq c 76) && not (nat_eq d 69)) || (nat_eq c 83 && not (nat_eq d 101))
+
+-- the first two bytes are there, and no odd app name begins with them
 abbrev pub BeginsPlainly : List ℕ → Type 0
-BeginsPlainly bytes = (0 < length bytes) × (begins_oddly (slice_index bytes 0) ≡ false)
+BeginsPlainly bytes = (1 < length bytes)
+    × IsTrue (not (begins_oddly (slice_index bytes 0)) || begin_no_word (slice_index bytes 0) (slice_index bytes 1))
 
 -- what the port takes for a host and is the level of a line of ESXi: two letters and a bracket, as in `In(182)`
 abbrev pub is_level_mark : Text → Bool

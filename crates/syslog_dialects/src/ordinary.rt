@@ -24,6 +24,7 @@ fn past<'a>(text: &'a str, front: &str) -> Option<&'a str>
 }
 
 // Returns the text after a colon that no word follows at once.
+#[inline(always)]
 fn past_colon(text: &str) -> Option<&str>
     ensures { Skips (ended (exactly (58 ∷ []))) tt (chars text.now) result }
 {
@@ -35,6 +36,7 @@ fn past_colon(text: &str) -> Option<&str>
 }
 
 // Returns the text after such a colon or a bracket.
+#[inline(always)]
 fn past_mark(text: &str) -> Option<&str>
     ensures { Skips mark tt (chars text.now) result }
 {
@@ -126,24 +128,44 @@ fn is_odd_word(app: &str) -> bool
                         || (is_word(app, "LEEF") || is_word(app, "Severity"))))))
 }
 
+// 1 for each byte with which an app name that is no program's may begin. The clause of `begins_oddly` says that each
+// entry is right.
+static ODD: [u8; 256] = [
+    0, 0, 0, 0, 0, 0, 0, 0, 0, 0, 0, 0, 0, 0, 0, 0, 0, 0, 0, 0, 0, 0, 0, 0, 0, 0, 0, 0, 0, 0, 0, 0,
+    0, 0, 1, 0, 0, 0, 0, 0, 0, 0, 0, 0, 0, 0, 0, 0, 1, 1, 1, 1, 1, 1, 1, 1, 1, 1, 0, 0, 1, 0, 0, 0,
+    0, 0, 0, 1, 0, 0, 0, 0, 0, 0, 0, 0, 1, 0, 0, 0, 0, 0, 0, 1, 0, 0, 0, 0, 0, 0, 0, 1, 0, 0, 0, 0,
+    0, 0, 0, 0, 0, 0, 0, 0, 0, 0, 0, 0, 0, 0, 0, 0, 0, 0, 0, 0, 0, 0, 0, 0, 0, 0, 0, 1, 0, 0, 0, 0,
+    0, 0, 0, 0, 0, 0, 0, 0, 0, 0, 0, 0, 0, 0, 0, 0, 0, 0, 0, 0, 0, 0, 0, 0, 0, 0, 0, 0, 0, 0, 0, 0,
+    0, 0, 0, 0, 0, 0, 0, 0, 0, 0, 0, 0, 0, 0, 0, 0, 0, 0, 0, 0, 0, 0, 0, 0, 0, 0, 0, 0, 0, 0, 0, 0,
+    0, 0, 0, 0, 0, 0, 0, 0, 0, 0, 0, 0, 0, 0, 0, 0, 0, 0, 0, 0, 0, 0, 0, 0, 0, 0, 0, 0, 0, 0, 0, 0,
+    0, 0, 0, 0, 0, 0, 0, 0, 0, 0, 0, 0, 0, 0, 0, 0, 0, 0, 0, 0, 0, 0, 0, 0, 0, 0, 0, 0, 0, 0, 0, 0,
+];
+
 // Whether an app name that is no program's may begin with the byte.
 #[inline(always)]
 fn begins_oddly(byte: u8) -> bool
     ensures { result ≡ spec.begins_oddly byte }
 {
-    byte.is_ascii_digit()
-        || (byte == b'{'
-            || (byte == b'['
-                || (byte == b'"'
-                    || (byte == b'<' || (byte == b'C' || (byte == b'L' || byte == b'S'))))))
+    ODD[byte as usize] != 0
 }
 
-// Whether a byte with which no odd app name begins is at the front. Most app names begin so, and need no further look.
+// Whether the first byte is that of `CEF`, `LEEF` or `Severity`, and the second is not that of the same word.
+#[inline(always)]
+fn begin_no_word(first: u8, second: u8) -> bool
+    ensures { result ≡ spec.begin_no_word first second }
+{
+    ((first == b'C' || first == b'L') && second != b'E') || (first == b'S' && second != b'e')
+}
+
+// Whether no odd app name begins with the two bytes at the front. Most app names begin so, and need no further look.
 #[inline(always)]
 fn begins_plainly(app: &[u8]) -> bool
     ensures { IsTrue result → spec.BeginsPlainly app.now }
 {
-    matches!(app, [first, ..] if !begins_oddly(*first))
+    match app {
+        [first, second, ..] => !begins_oddly(*first) || begin_no_word(*first, *second),
+        _ => false,
+    }
 }
 
 #[inline(always)]
