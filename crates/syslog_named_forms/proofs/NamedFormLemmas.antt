@@ -1,30 +1,33 @@
 -- What is found in a list of forms, and what forms after a date say.
-use Rattle.std.proofs.Common.{◌≡◌, inl, List, [], ◌∷◌, Option, None, refl, sym, ap, ◌∙◌}
+use Rattle.std.proofs.Common.{◌≡◌, inl, List, [], ◌∷◌, ◌++◌, Option, Some, None, refl, sym, ap, ◌∙◌}
 use Rattle.syslog_text.specs.Pieces.Class.{Text, Class, Values, Front, NoFront, IsDeterministic, Division}
 use Rattle.syslog_text.specs.Pieces.Class.{NoDivision, Row}
 use Rattle.syslog_text.specs.Pieces.Class.{run, mapped}
 use Rattle.syslog_text.specs.Text.{is_blank}
 use Rattle.syslog_text.proofs.PieceLemmas.Class.{AllDeterministic, ◌also◌, all_joined, front_division, mapped_det}
-use Rattle.syslog_text.proofs.PieceLemmas.Class.{row_cons}
+use Rattle.syslog_text.proofs.PieceLemmas.Class.{match_map, row_cons}
 use Rattle.syslog_text.proofs.PieceLemmas.Class.{row_nil, rows_join, rows_none_here, rows_none_later, row_none_here}
 use Rattle.syslog_text.proofs.PieceLemmas.Class.{row_of, no_row, ◌past◌, ◌then◌}
 use Rattle.syslog_text.proofs.PieceLemmas.Class.{no_row_division, run_det, some_run_det, unique_division}
 use Rattle.syslog_sent.proofs.DateLemmas.{any_date_det}
 use Rattle.syslog_named_forms.proofs.ProgramLemmas.{access_det, serial_det, untagged_det}
-use Rattle.syslog_sent.proofs.DialectLemmas.{here}
+use Rattle.syslog_sent.proofs.DialectLemmas.{here, in_first, in_second, later, none_joined}
 use Rattle.syslog_sent.specs.Forms.{Finds, IsOfNone, IsOnlyOf}
 use Rattle.syslog_sent.specs.Named.{NamedTexts}
 use Rattle.syslog_sent.proofs.NamedLemmas.{beginning_det, beginning_front, no_beginning}
 use Rattle.syslog_named_forms.specs.NamedForms.{Tail, dated_form, dated_row, front_row, says, tail_forms, undated_form}
 use Rattle.syslog_named_forms.specs.NamedForms.{marked_tails, undated_row}
-use Rattle.syslog_named_forms.specs.NamedForms.{all_named, message_tails, program_forms, program_tails, undated_forms}
+use Rattle.syslog_named_forms.specs.NamedForms.{dated_forms, message_tails, program_tails}
+use Rattle.syslog_named_forms.specs.NamedFinds.{FindsSaid}
+use Rattle.syslog_sent.specs.Views.{named_value}
+use Rattle.syslog_sent.specs.declared.named.Named.{Named}
 use Rattle.syslog_sent.specs.Sent.{Form, IsOnlySent, SentValue, loose}
 use Rattle.syslog_sent.specs.declared.dialect.Dialect.{Dialect}
 use Rattle.syslog_sent.specs.declared.dialect.Dialect.TheVariants as dialect
 use Rattle.syslog_sent.specs.declared.sent.Sent.{Sent}
 use Rattle.syslog_sent.specs.declared.sent.SentDate.{SentDate}
 use Rattle.syslog_named_forms.specs.declared.untagged.Mark.{Mark}
-use Rattle.syslog_named_forms.specs.Untagged.{IsNoMessage, mark_class, marked, marked_of, marks}
+use Rattle.syslog_named_forms.specs.Untagged.{mark_class, marked, marked_of, message}
 use Rattle.syslog_sent.specs.Named.{beginning, hosted}
 use Rattle.syslog_named_forms.specs.Programs.{access_row, untagged_row}
 use Rattle.syslog_named_forms.specs.Programs.{hostless_row, passed_on, serial_row, severity_row, worded_row}
@@ -33,7 +36,6 @@ use Rattle.syslog_named_forms.proofs.ProgramLemmas.{hostless_det, log_det, passe
 use Rattle.syslog_named_forms.specs.Unified.{log_row}
 use Rattle.syslog_text.proofs.PieceLemmas.Class.{row_det}
 use Rattle.syslog_sent.proofs.FormLemmas.{found_later}
-use Rattle.syslog_sent.proofs.FormLemmas.{found_after, found_after}
 
 -- ---- forms after a date
 
@@ -71,12 +73,6 @@ none_undated (T ∷ Ts) n = (
   no_row_division (dated_row T.after T.names) (rows_none_here front_row (mapped T.after NamedTexts T.names ∷ []) n),
   none_undated Ts n,
 )
-
--- then the forms of texts without a date are tried
-pub none_named : {text : Text} (r : Option (Dialect × Sent)) → NoFront (Row front_row) text → Finds undated_forms text r
-    → Finds all_named text r
-none_named {text} r n h = found_after (tail_forms message_tails) program_forms text r (none_undated message_tails n)
-    (found_after (tail_forms program_tails) undated_forms text r (none_undated program_tails n) h)
 
 module _ (T : Tail) (Fs : List Form) (det : IsDeterministic T.after) {text rest : Text} {d : SentDate}
     (f : Front (Row front_row) text rest (tt, (d, (tt, tt)))) where
@@ -145,15 +141,38 @@ pub serial_tail_det : IsDeterministic (Row serial_row)
 serial_tail_det = row_det serial_row serial_det
 
 not_marked : (m : Mark) {text rest : Text} {d : SentDate} → Front (Row front_row) text rest (tt, (d, (tt, tt)))
-    → IsNoMessage rest → NoDivision (dated_row (marked m) marked_of) text
-not_marked m f n = none_after dialect.Repeated (marked m) marked_of (marked_det m) f (n m)
-
-none_of_marks : (ms : List Mark) {text rest : Text} {d : SentDate}
-    → Front (Row front_row) text rest (tt, (d, (tt, tt))) → IsNoMessage rest → IsOfNone (tail_forms (marked_tails ms)) text
-none_of_marks [] f n = tt
-none_of_marks (m ∷ ms) f n = (not_marked m f n, none_of_marks ms f n)
+    → NoFront (message m) rest → NoDivision (dated_row (marked m) marked_of) text
+not_marked m f n = none_after dialect.Repeated (marked m) marked_of (marked_det m) f n
 
 -- where no message without a program begins what follows the date, the text is of none of their forms
-pub none_marked : {text rest : Text} {d : SentDate} → Front (Row front_row) text rest (tt, (d, (tt, tt)))
-    → IsNoMessage rest → IsOfNone (tail_forms message_tails) text
-none_marked f n = none_of_marks marks f n
+pub none_of_marks : (ms : List Mark) {text rest : Text} {d : SentDate}
+    → Front (Row front_row) text rest (tt, (d, (tt, tt))) → ((m : Mark) → NoFront (message m) rest)
+    → IsOfNone (tail_forms (marked_tails ms)) text
+none_of_marks [] f n = tt
+none_of_marks (m ∷ ms) f n = (not_marked m f (n m), none_of_marks ms f n)
+
+-- ---- what is found after a date, as names
+
+module _ (T : Tail) (Fs : List Form) (det : IsDeterministic T.after) {text rest : Text} {d : SentDate}
+    (f : Front (Row front_row) text rest (tt, (d, (tt, tt)))) where
+  -- by a form after the first one
+  pub named_later : (r : Option (Dialect × Named)) → NoFront (mapped T.after NamedTexts T.names) rest
+      → FindsSaid Fs d text r → FindsSaid (dated_form T.dialect T.after T.names ∷ Fs) d text r
+  named_later r n = let none = none_after T.dialect T.after T.names det f n in
+      match_map r (λ more. (none, more)) (λ x is. later (dated_form T.dialect T.after T.names) Fs text x.0
+      (says d (named_value x.1)) none is)
+
+-- by the forms of two lists
+pub named_early : (Fs Gs : List Form) (d : SentDate) (text : Text) (x : Dialect × Named) → FindsSaid Fs d text (Some x)
+    → FindsSaid (Fs ++ Gs) d text (Some x)
+named_early Fs Gs d text x is = in_first Fs Gs text x.0 (says d (named_value x.1)) is
+
+pub named_late : (Fs Gs : List Form) (d : SentDate) (text : Text) (r : Option (Dialect × Named)) → IsOfNone Fs text
+    → FindsSaid Gs d text r → FindsSaid (Fs ++ Gs) d text r
+named_late Fs Gs d text None none more = none_joined Fs Gs text none more
+named_late Fs Gs d text (Some x) none is = in_second Fs Gs text x.0 (says d (named_value x.1)) none is
+
+-- where there is no such date
+pub none_dated : {text : Text} → NoFront (Row front_row) text → IsOfNone dated_forms text
+none_dated {text} n = none_joined (tail_forms message_tails) (tail_forms program_tails) text
+    (none_undated message_tails n) (none_undated program_tails n)

@@ -1,11 +1,12 @@
 -- A text has one front of each class of marks.
 use Rattle.std.proofs.Common.{◌≡◌, inl, inr, ℕ, Bool, true, false, List, [], ◌∷◌, ◌++◌, Some, None, refl, sym, ap}
-use Rattle.std.proofs.Common.{subst, ◌∙◌, arith}
+use Rattle.std.proofs.Common.{Bor, Option, subst, ◌∙◌, arith}
 use Rattle.std.proofs.lemmas.Bool.Decides.{nat_tests}
 use Rattle.std.specs.Char.{is_not_whitespace}
-use Rattle.std.specs.Prelude.{◌&&◌, ◌+◌, ◌/◌, chars, codes, drop, nat_le}
+use Rattle.std.specs.Prelude.{◌&&◌, ◌+◌, ◌/◌, chars, codes, drop, nat_le, nat_lt}
 use Rattle.syslog_text.specs.Pieces.Class.{Text, Class, Ends, Front, NoFront, Row, Values, after, exactly, join}
 use Rattle.syslog_text.specs.Bodies.Scan.{SplitsRun}
+use Rattle.syslog_text.specs.Pieces.View.{Reads, seen}
 use Rattle.syslog_text.specs.Pieces.Class.{optional, run}
 use Rattle.syslog_text.proofs.PieceLemmas.Class.{each_map, front_of, front_same, heads, no_mapped, row_none_here}
 use Rattle.syslog_text.proofs.PieceLemmas.Class.{row_pieces, rows_none_here, rows_none_later}
@@ -34,7 +35,9 @@ use Rattle.syslog_sent.specs.Runs.{is_either_char, is_plain_char, is_word_char}
 use Rattle.syslog_named_forms.specs.Untagged.{cef_row, leef_row, pair_row, palo_alto_row, repeated_tail, repeats_row}
 use Rattle.syslog_sent.specs.Date.{unless}
 use Rattle.syslog_named_forms.specs.Untagged.{is_main_topic, later_topic_row, main_topic, number_row, topic_row}
-use Rattle.syslog_named_forms.specs.Untagged.{IsNoMessage, IsUnmarked, begins_mark, ends_list, marked, marked_of}
+use Rattle.syslog_named_forms.specs.declared.untagged.MessageMarks.{MessageMarks}
+use Rattle.syslog_named_forms.specs.Untagged.{AreAll, AreMarks, begins_other, ends_list, holds, marked}
+use Rattle.syslog_named_forms.specs.Untagged.{marked_of, message}
 use Rattle.syslog_named_forms.specs.Untagged.{angle, clock_row, dashed_row, day, is_month, month_row, month_word, slashed_row, topics_row}
 
 pub cef_det : AllDeterministic cef_row
@@ -139,9 +142,6 @@ month_opens = row_opens month_word (drop 1 month_row) IsInitial (λ p q v ((u, h
 
 initial_begins : (c : ℕ) → IsInitial c → begins Dated c ≡ true
 initial_begins c h = grind (arith, nat_tests, h)
-
-capital_begins : (c : ℕ) → IsInitial c → begins_mark c ≡ true
-capital_begins c h = grind (arith, nat_tests, h)
 
 level_starts : (c : ℕ) (t : Text) → IsTrue (is_level (c ∷ t)) → IsTrue (nat_le 68 c && nat_le c 87)
 level_starts c t h = grind (arith, nat_tests)
@@ -275,61 +275,80 @@ pub no_list_end : {bs xs ys : List ℕ} → SplitsRun is_either_char bs xs ys �
     → NoFront (Row pair_row) (chars bs) × (NoFront (Row topics_row) (chars bs) × NoFront (Row palo_alto_row) (chars bs))
 no_list_end s e = no_list (either_run s) (λ b. rw e at b) (λ b. rw e at b)
 
--- with none of the characters of `begins_mark` begins one of these
-no_cef : (c : ℕ) → begins_mark c ≡ false → false ≡ begins Cef c
-no_cef c h = grind (arith, nat_tests, h)
+-- ---- sets of marks
 
-no_leef : (c : ℕ) → begins_mark c ≡ false → false ≡ begins Leef c
-no_leef c h = grind (arith, nat_tests, h)
+-- the set that is empty
+pub none_held : (bits : ℕ) → bits ≡ 0 → (m : Mark) → holds bits m ≡ false
+none_held bits e Cef = rw e refl
+none_held bits e Leef = rw e refl
+none_held bits e Repeated = rw e refl
+none_held bits e PaloAlto = rw e refl
+none_held bits e Pair = rw e refl
+none_held bits e Json = rw e refl
+none_held bits e Idrac = rw e refl
+none_held bits e Level = rw e refl
+none_held bits e Topics = rw e refl
+none_held bits e Bracket = rw e refl
+none_held bits e Dated = rw e refl
 
-no_repeated : (c : ℕ) → begins_mark c ≡ false → false ≡ begins Repeated c
-no_repeated c h = grind (arith, nat_tests, h)
+-- no mark begins with a character past ASCII
+pub high_begins : (m : Mark) (c : ℕ) → (nat_lt c 128 ≡ false) → begins m c ≡ false
+high_begins Cef c h = grind (arith, nat_tests, h)
+high_begins Leef c h = grind (arith, nat_tests, h)
+high_begins Repeated c h = grind (arith, nat_tests, h)
+high_begins PaloAlto c h = grind (arith, nat_tests, h)
+high_begins Pair c h = grind (arith, nat_tests, h)
+high_begins Json c h = grind (arith, nat_tests, h)
+high_begins Idrac c h = grind (arith, nat_tests, h)
+high_begins Level c h = grind (arith, nat_tests, h)
+high_begins Topics c h = grind (arith, nat_tests, h)
+high_begins Bracket c h = grind (arith, nat_tests, h)
+high_begins Dated c h = grind (arith, nat_tests, h)
 
-no_json : (c : ℕ) → begins_mark c ≡ false → false ≡ begins Json c
-no_json c h = grind (arith, nat_tests, h)
+pub all_empty : (bits : ℕ) {t : Text} → t ≡ [] → AreAll bits t
+all_empty bits e m h = no_mark_empty m e
 
-no_idrac : (c : ℕ) → begins_mark c ≡ false → false ≡ begins Idrac c
-no_idrac c h = grind (arith, nat_tests, h)
+-- those that may begin with the first character
+pub all_begun : (bits : ℕ) {t more : Text} {c : ℕ} → t ≡ c ∷ more → ((m : Mark) → holds bits m ≡ begins m c)
+    → AreAll bits t
+all_begun bits e h m n = no_mark m e (sym n ∙ h m)
 
-no_level : (c : ℕ) → begins_mark c ≡ false → false ≡ begins Level c
-no_level c h = grind (arith, nat_tests, h)
-
-no_bracket : (c : ℕ) → begins_mark c ≡ false → false ≡ begins Bracket c
-no_bracket c h = grind (arith, nat_tests, h)
-
-no_month : {t more : Text} {c : ℕ} → t ≡ c ∷ more → begins_mark c ≡ false → NoFront (Row month_row) t
-no_month {more = more} {c = c} e low p q v f h =
-    let (d, r, g, k) = month_opens p q v h in
-    let same : c ≡ d = heads c d more (r ++ q) (sym e ∙ f ∙ ap (λ (x : Text). x ++ q) g) in
-    let bad : true ≡ false = sym (capital_begins d k) ∙ ap begins_mark (sym same) ∙ low in cc
-
--- a text that begins otherwise has no mark
-pub unmarked : {t more : Text} {c : ℕ} → t ≡ c ∷ more → begins_mark c ≡ false
-    → NoFront (Row clock_row) t
-    → NoFront (Row pair_row) t × (NoFront (Row topics_row) t × NoFront (Row palo_alto_row) t) → IsUnmarked t
-unmarked {c = c} e h d n Dated = no_otherwise d (no_month e h)
-unmarked e h d n Pair = n.0
-unmarked e h d n Topics = n.1.0
-unmarked e h d n PaloAlto = n.1.1
-unmarked {c = c} e h d n Cef = no_mark Cef e (no_cef c h)
-unmarked {c = c} e h d n Leef = no_mark Leef e (no_leef c h)
-unmarked {c = c} e h d n Repeated = no_mark Repeated e (no_repeated c h)
-unmarked {c = c} e h d n Json = no_mark Json e (no_json c h)
-unmarked {c = c} e h d n Idrac = no_mark Idrac e (no_idrac c h)
-unmarked {c = c} e h d n Level = no_mark Level e (no_level c h)
-unmarked {c = c} e h d n Bracket = no_mark Bracket e (no_bracket c h)
+-- and of these only the others, in a text that begins with no key, no number and no topic
+pub all_others : (bits : ℕ) {t more : Text} {c : ℕ} → t ≡ c ∷ more
+    → ((m : Mark) → holds bits m ≡ begins_other m c)
+    → NoFront (Row pair_row) t × (NoFront (Row topics_row) t × NoFront (Row palo_alto_row) t) → AreAll bits t
+all_others bits e h n Pair k = n.0
+all_others bits e h n Topics k = n.1.0
+all_others bits e h n PaloAlto k = n.1.1
+all_others bits e h n Cef k = no_mark Cef e (sym k ∙ h Cef)
+all_others bits e h n Leef k = no_mark Leef e (sym k ∙ h Leef)
+all_others bits e h n Repeated k = no_mark Repeated e (sym k ∙ h Repeated)
+all_others bits e h n Json k = no_mark Json e (sym k ∙ h Json)
+all_others bits e h n Idrac k = no_mark Idrac e (sym k ∙ h Idrac)
+all_others bits e h n Level k = no_mark Level e (sym k ∙ h Level)
+all_others bits e h n Bracket k = no_mark Bracket e (sym k ∙ h Bracket)
+all_others bits e h n Dated k = no_mark Dated e (sym k ∙ h Dated)
 
 -- ---- no message begins a text, with a host before it or without
 
 abbrev begun : Mark → Class
 begun m = beginning (mark_class m)
 
-pub no_message_alone : {t : Text} → NoFront (Row host_row) t → IsUnmarked t → IsNoMessage t
-no_message_alone h n m = no_mapped (marked m) NamedTexts marked_of
-    (no_otherwise (no_beginning (n m)) (rows_none_here host_row (begun m ∷ []) h))
+pub no_message_alone : (m : Mark) {t : Text} → NoFront (Row host_row) t → NoFront (mark_class m) t
+    → NoFront (message m) t
+no_message_alone m h n = no_mapped (marked m) NamedTexts marked_of
+    (no_otherwise (no_beginning n) (rows_none_here host_row (begun m ∷ []) h))
 
-pub no_message : {t u : Text} {vs : Values host_row} → Front (Row host_row) t u vs → IsUnmarked t → IsUnmarked u
-    → IsNoMessage t
-no_message h n k m = no_mapped (marked m) NamedTexts marked_of
-    (no_otherwise (no_beginning (n m)) (rows_none_later host_row (begun m ∷ []) host_row_det h
-    (row_none_here (begun m) [] (no_beginning (k m)))))
+pub no_message : (m : Mark) {t u : Text} {vs : Values host_row} → Front (Row host_row) t u vs
+    → NoFront (mark_class m) t → NoFront (mark_class m) u → NoFront (message m) t
+no_message m h n k = no_mapped (marked m) NamedTexts marked_of
+    (no_otherwise (no_beginning n) (rows_none_later host_row (begun m ∷ []) host_row_det h
+    (row_none_here (begun m) [] (no_beginning k))))
+
+-- where no mark may begin either
+pub no_messages : (marks : MessageMarks) {t : Text} (after : Option (Option (Bor (List ℕ)) × Bor (List ℕ)))
+    → Reads (Row host_row) (λ h. (seen h, (tt, tt))) t after → AreMarks marks t after
+    → ((m : Mark) → holds marks.own.bits m ≡ false) → ((m : Mark) → holds marks.later.bits m ≡ false) → (m : Mark)
+    → NoFront (message m) t
+no_messages marks None h are own later m = no_message_alone m h (are.0 m (own m))
+no_messages marks (Some x) h are own later m = no_message m h (are.0 m (own m)) (are.1 m (later m))

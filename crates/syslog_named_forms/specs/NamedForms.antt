@@ -123,5 +123,9 @@ program_forms = tail_forms program_tails ++ undated_forms
 abbrev pub all_named : List Form
 all_named = tail_forms message_tails ++ program_forms
 
+-- those of them that begin with a date
+abbrev pub dated_forms : List Form
+dated_forms = tail_forms message_tails ++ tail_forms program_tails
+
 abbrev pub spread_forms : List Form
 spread_forms = tail_forms (spread_tail ∷ [])

@@ -2,18 +2,21 @@
 --
 -- 32 is a space, 44 `,`, 45 `-`, 46 `.`, 47 `/`, 58 `:`, 61 `=`, 84 `T`, 91 `[`, 123 `{`, 124 `|`.
 use Rattle.std.proofs.Common.{inl, inr}
-use Rattle.std.specs.Prelude.{◌⊎◌, ◌||◌, ◌&&◌, ℕ, nat_eq, nat_le, Option, Bool, IsTrue, List, [], ◌∷◌, None, codes}
+use Rattle.std.specs.Prelude.{◌≡◌, ◌⊎◌, ◌||◌, ◌&&◌, ℕ, bit_and, nat_eq, nat_le, not, Option, Bool, true, false}
+use Rattle.std.specs.Prelude.{IsTrue, List, [], ◌∷◌, MatchOption, None, codes}
+use Rattle.std.specs.Borrow.{Bor}
 use Rattle.std.specs.Char.{is_ascii_digit, is_not_whitespace}
 use Rattle.syslog_text.specs.Pieces.Class.{Text, Class, NoFront, Row, run, some_run, exactly, optional, after, mapped}
 use Rattle.syslog_text.specs.Pieces.Class.{texted}
 use Rattle.syslog_text.specs.Pieces.Rules.{such_that}
-use Rattle.syslog_text.specs.Pieces.View.{text_eq}
+use Rattle.syslog_text.specs.Pieces.View.{shown, text_eq}
 use Rattle.syslog_text.specs.Text.{host, is_blank}
 use Rattle.syslog_pieces.specs.Timestamp.Rfc3339.{pair, year}
 use Rattle.syslog_sent.specs.Date.{unless}
 use Rattle.syslog_sent.specs.Named.{◌otherwise◌, NamedTexts, beginning, hosted, untagged}
 use Rattle.syslog_sent.specs.Runs.{is_plain_char, is_word_char}
 use Rattle.syslog_named_forms.specs.declared.untagged.Mark.{Mark}
+use Rattle.syslog_named_forms.specs.declared.untagged.MessageMarks.{MessageMarks}
 use Rattle.syslog_named_forms.specs.declared.untagged.Mark.TheVariants.{Cef, Leef, Repeated, PaloAlto, Pair, Json}
 use Rattle.syslog_named_forms.specs.declared.untagged.Mark.TheVariants.{Idrac}
 use Rattle.syslog_named_forms.specs.declared.untagged.Mark.TheVariants.{Level}
@@ -171,19 +174,47 @@ begins Topics c = is_plain_char c
 begins Bracket c = nat_eq c 91 || (nat_eq c 60 || nat_eq c 34)
 begins Dated c = is_ascii_digit c || (nat_le 65 c && nat_le c 83)
 
--- the character may begin such a message, unless a key, a number, a date or a topic does
-abbrev pub begins_mark : ℕ → Bool
-begins_mark c = (nat_le 65 c && nat_le c 87)
-    || (nat_eq c 97 || (nat_eq c 108 || (nat_eq c 109 || (nat_eq c 45 || (nat_eq c 123 || (nat_eq c 91 || (nat_eq c 60
-    || nat_eq c 34)))))))
+-- the bit of each mark in a set of them
+abbrev pub bit_of : Mark → ℕ
+bit_of Cef = 1
+bit_of Leef = 2
+bit_of Repeated = 4
+bit_of PaloAlto = 8
+bit_of Pair = 16
+bit_of Json = 32
+bit_of Idrac = 64
+bit_of Level = 128
+bit_of Topics = 256
+bit_of Bracket = 512
+bit_of Dated = 1024
+
+-- the set has the mark
+abbrev pub holds : ℕ → Mark → Bool
+holds bits m = not (nat_eq (bit_and bits (bit_of m)) 0)
+
+-- a key, a number or a topic
+abbrev pub is_listed : Mark → Bool
+is_listed PaloAlto = true
+is_listed Pair = true
+is_listed Topics = true
+is_listed _ = false
+
+-- the character may begin such a message, which none of these three begins
+abbrev pub begins_other : Mark → ℕ → Bool
+begins_other m c = not (is_listed m) && begins m c
 
 -- `=` or a comma, which a key, a number or a topic ends at
 abbrev pub ends_list : ℕ → Bool
 ends_list c = nat_eq c 61 || nat_eq c 44
 
--- none begins the text
-abbrev pub IsUnmarked : Text → Type 0
-IsUnmarked t = (m : Mark) → NoFront (mark_class m) t
+-- no mark that the set lacks begins the text
+abbrev pub AreAll : ℕ → Text → Type 0
+AreAll bits t = (m : Mark) → holds bits m ≡ false → NoFront (mark_class m) t
+
+-- the marks that may begin a text, and those that may begin what `past_host` left of it
+abbrev pub AreMarks : MessageMarks → Text → Option (Option (Bor (List ℕ)) × Bor (List ℕ)) → Type 0
+AreMarks marks text after_host = AreAll marks.own.bits text
+    × MatchOption after_host ((m : Mark) → holds marks.later.bits m ≡ false) (λ x. AreAll marks.later.bits (shown x.1))
 
 -- a host, and the blanks after it
 abbrev pub host_row : List Class
@@ -199,7 +230,3 @@ marked_of (inr (h, (_, (t, _)))) = untagged h t
 
 abbrev pub message : Mark → Class
 message m = mapped (marked m) NamedTexts marked_of
-
--- the text begins with none of them
-abbrev pub IsNoMessage : Text → Type 0
-IsNoMessage t = (m : Mark) → NoFront (message m) t

@@ -4,13 +4,13 @@ ghost use Rattle.syslog_text.specs.Pieces.Class.{Front, Row, Text};
 ghost use Rattle.syslog_text.specs.Pieces.View.{Reads, seen};
 ghost use Rattle.syslog_sent.specs.Forms.{Finds};
 ghost use Rattle.syslog_sent.specs.Led.{IsFront, IsLed};
-ghost use Rattle.syslog_named_forms.specs.NamedFinds.{FindsAfter};
+ghost use Rattle.syslog_named_forms.specs.NamedFinds.{FindsAfter, FindsNamed};
 ghost use Rattle.syslog_named_forms.specs.Monotonic.{monotonic_form};
 ghost use Rattle.syslog_named_forms.specs.NamedForms as spec;
 ghost use Rattle.syslog_named_forms.specs.NearHeader.{head_row};
 ghost use Rattle.syslog_named_forms.specs.NearHeaderViews.{head_values};
 ghost use Rattle.syslog_sent.specs.Sent.{loose, sent_value};
-ghost use Rattle.syslog_named_forms.specs.Untagged.{host_row};
+ghost use Rattle.syslog_named_forms.specs.Untagged.{AreMarks, host_row};
 ghost use Rattle.syslog_sent.specs.Views.{named_value};
 
 use crate::monotonic::read_monotonic;
@@ -21,7 +21,7 @@ use crate::programs::{
     worded,
 };
 use crate::unified::unified;
-use crate::untagged::{MARKS, Mark, mark_end, may_be_message, message, past_host};
+use crate::untagged::{MARKS, Mark, MessageMarks, mark_end, message, past_host};
 use syslog_sent::dialect::Dialect;
 use syslog_sent::led::Led;
 use syslog_sent::named::Named;
@@ -124,83 +124,93 @@ fn undated(text: &str) -> Option<(Dialect, Sent<'_>)>
 // Reads a program's line after its date. `after_host` is what `past_host` returned for what follows the date.
 #[inline(always)]
 fn of_program<'a>(
-    date: SentDate,
     rest: &'a str,
     after_host: Option<(Option<&'a str>, &'a str)>,
-    text: &'a str,
-) -> Option<(Dialect, Sent<'a>)>
+) -> Option<(Dialect, Named<'a>)>
     ensures { Reads (Row host_row) (λ h. (seen h, (tt, tt))) (chars rest.entry.now) after_host.entry
-        → FindsAfter spec.program_forms date (chars rest.entry.now) (chars text.entry.now) result }
+        → FindsNamed (spec.tail_forms spec.program_tails) (chars rest.entry.now) result }
 {
     if let Some(named) = forwarded(rest, after_host) {
-        return Some((Dialect::Forwarded, sent(date, named)));
+        return Some((Dialect::Forwarded, named));
     }
     if let Some(named) = severity_first(after_host) {
-        return Some((Dialect::SeverityFirst, sent(date, named)));
+        return Some((Dialect::SeverityFirst, named));
     }
     if let Some(named) = worded(after_host) {
-        return Some((Dialect::SpacedName, sent(date, named)));
+        return Some((Dialect::SpacedName, named));
     }
     if let Some(named) = of_access_point(rest) {
-        return Some((Dialect::UniFi, sent(date, named)));
+        return Some((Dialect::UniFi, named));
     }
     if let Some(named) = hostless(rest) {
-        return Some((Dialect::NoHost, sent(date, named)));
+        return Some((Dialect::NoHost, named));
     }
     if let Some(named) = after_serial(after_host) {
-        return Some((Dialect::WatchGuard, sent(date, named)));
+        return Some((Dialect::WatchGuard, named));
     }
     if let Some(named) = unified(rest) {
-        return Some((Dialect::UnifiedLog, sent(date, named)));
+        return Some((Dialect::UnifiedLog, named));
     }
     if let Some(named) = untagged_message(after_host) {
-        return Some((Dialect::Untagged, sent(date, named)));
+        return Some((Dialect::Untagged, named));
     }
-    undated(text)
+    None
 }
 
-// Reads what follows a date: a message that one of these marks begins, or a program's line. `after_host` is what
-// `past_host` returned for it.
+// Reads what follows a date, if one of these marks begins a message there. `after_host` and `begun` are what `past_host`
+// and `MessageMarks::of` returned for it.
 fn of_marks<'a>(
     marks: &[Mark],
-    date: SentDate,
+    begun: MessageMarks,
     rest: &'a str,
     after_host: Option<(Option<&'a str>, &'a str)>,
-    text: &'a str,
-) -> Option<(Dialect, Sent<'a>)>
+) -> Option<(Dialect, Named<'a>)>
     ensures { Reads (Row host_row) (λ h. (seen h, (tt, tt))) (chars rest.entry.now) after_host.entry
-        → FindsAfter (spec.tail_forms (spec.marked_tails marks.now) ++ spec.program_forms) date
-        (chars rest.entry.now) (chars text.entry.now) result }
+        → AreMarks begun (chars rest.entry.now) after_host.entry
+        → FindsNamed (spec.tail_forms (spec.marked_tails marks.now)) (chars rest.entry.now) result }
 {
+    if begun.is_empty() {
+        return None;
+    }
     for mark in marks {
-        if let Some(named) = message(rest, after_host, *mark) {
-            return Some((mark.dialect(), sent(date, named)));
+        if let Some(named) = message(rest, after_host, begun, *mark) {
+            return Some((mark.dialect(), named));
         }
     }
-    of_program(date, rest, after_host, text)
+    None
 }
 
-// Reads what follows a date and blanks.
+// Reads what follows a date and blanks: a message that a mark begins, or a program's line.
 #[inline(always)]
-fn of_message<'a>(date: SentDate, rest: &'a str, text: &'a str) -> Option<(Dialect, Sent<'a>)>
-    ensures { FindsAfter spec.all_named date (chars rest.entry.now) (chars text.entry.now) result }
+fn of_message(rest: &str) -> Option<(Dialect, Named<'_>)>
+    ensures { FindsNamed spec.dated_forms (chars rest.now) result }
 {
     let after_host = past_host(rest);
-    if may_be_message(rest, after_host) {
-        of_marks(&MARKS, date, rest, after_host, text)
-    } else {
-        of_program(date, rest, after_host, text)
+    let begun = MessageMarks::of(rest, after_host);
+    if let Some(found) = of_marks(&MARKS, begun, rest, after_host) {
+        return Some(found);
     }
+    of_program(rest, after_host)
 }
 
-// Reads what follows a date that begins the text.
+// Reads what follows a date that begins a line.
 #[inline(always)]
-fn of_led<'a>(led: Led<'a>, text: &'a str) -> Option<(Dialect, Sent<'a>)>
-    ensures { IsLed (chars text.entry.now) led.entry → Finds spec.all_named (chars text.entry.now) result }
+fn after_led(led: Led<'_>) -> Option<(Dialect, Sent<'_>)>
+    ensures { (text : Text) → IsLed text led.entry → Finds spec.dated_forms text result }
 {
-    match some_blanks(led.rest) {
-        Some(rest) => of_message(led.sent, rest, text),
-        None => undated(text),
+    let rest = some_blanks(led.rest)?;
+    let (dialect, named) = of_message(rest)?;
+    Some((dialect, sent(led.sent, named)))
+}
+
+// Reads a line that begins with a date. `front` is what `read_front` returned for it.
+#[inline(always)]
+fn of_front(front: Option<Led<'_>>) -> Option<(Dialect, Sent<'_>)>
+    ensures { (text : Text) → IsFront text front.entry → Finds spec.dated_forms text result }
+{
+    match front {
+        Some(led) => after_led(led),
+        None => None,
     }
 }
 
@@ -209,10 +219,10 @@ fn of_led<'a>(led: Led<'a>, text: &'a str) -> Option<(Dialect, Sent<'a>)>
 pub fn read<'a>(text: &'a str, front: Option<Led<'a>>) -> Option<(Dialect, Sent<'a>)>
     ensures { IsFront (chars text.entry.now) front.entry → Finds spec.all_named (chars text.entry.now) result }
 {
-    match front {
-        Some(led) => of_led(led, text),
-        None => undated(text),
+    if let Some(found) = of_front(front) {
+        return Some(found);
     }
+    undated(text)
 }
 
 // Reads what follows a date and blanks where nothing but the blanks is unusual.

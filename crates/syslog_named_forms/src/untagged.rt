@@ -1,5 +1,5 @@
 //! Messages that have no program's name before them: they are recognised by what they begin with.
-ghost use Rattle.std.specs.Prelude.{◌≡◌, ◌∷◌, [], ◌||◌, Option, chars, codes, false};
+ghost use Rattle.std.specs.Prelude.{◌≡◌, ◌∷◌, [], ◌||◌, MatchOption, Option, chars, codes, false, true};
 ghost use Rattle.syslog_text.specs.Pieces.Class.{Front, NoFront, Row, after, exactly, optional, run, some_run};
 ghost use Rattle.syslog_text.specs.Pieces.View.{Reads, Recognises, seen, shown};
 ghost use Rattle.syslog_pieces.specs.Timestamp.Rfc3339.{pair as pair_class, year as year_class};
@@ -537,23 +537,23 @@ impl Mark {
         }
     }
 
-    // Whether the mark may begin with this character.
+    // Returns the bit of the mark.
     #[inline(always)]
-    fn begins(self, c: char) -> bool
-        ensures { result ≡ spec.begins self c }
+    fn bit(self) -> u16
+        ensures { result ≡ spec.bit_of self }
     {
         match self {
-            Mark::Cef => c == 'C',
-            Mark::Leef => c == 'L',
-            Mark::Repeated => c == 'l' || (c == 'm' || (c == '-' || c == 'a')),
-            Mark::PaloAlto => c.is_ascii_digit(),
-            Mark::Dated => c.is_ascii_digit() || ('A' <= c && c <= 'S'),
-            Mark::Pair => Run::Word.has(c),
-            Mark::Json => c == '{',
-            Mark::Idrac => c == 'S',
-            Mark::Level => 'D' <= c && c <= 'W',
-            Mark::Topics => Run::Plain.has(c),
-            Mark::Bracket => c == '[' || (c == '<' || c == '"'),
+            Mark::Cef => 1,
+            Mark::Leef => 2,
+            Mark::Repeated => 4,
+            Mark::PaloAlto => 8,
+            Mark::Pair => 16,
+            Mark::Json => 32,
+            Mark::Idrac => 64,
+            Mark::Level => 128,
+            Mark::Topics => 256,
+            Mark::Bracket => 512,
+            Mark::Dated => 1024,
         }
     }
 }
@@ -564,7 +564,10 @@ pub(crate) fn mark_end(text: &str, mark: Mark) -> Option<&str>
     ensures { Recognises (spec.mark_class mark) (chars text.now) result }
 {
     let (c, _) = first(text)?;
-    if mark.begins(c) {
+    let marks = Marks {
+        bits: bits_in_list(c),
+    };
+    if marks.has(mark) {
         read_mark(text, mark)
     } else {
         None
@@ -590,17 +593,6 @@ fn read_mark(text: &str, mark: Mark) -> Option<&str>
     }
 }
 
-// Whether a mark that is no key, no number, no date and no topic may begin with this character.
-#[inline(always)]
-fn begins_mark(c: char) -> bool
-    ensures { result ≡ spec.begins_mark c }
-{
-    ('A' <= c && c <= 'W')
-        || (c == 'a'
-            || (c == 'l'
-                || (c == 'm' || (c == '-' || (c == '{' || (c == '[' || (c == '<' || c == '"')))))))
-}
-
 // Whether the character ends a key, a number or a topic.
 #[inline(always)]
 fn ends_list(c: char) -> bool
@@ -621,51 +613,86 @@ fn may_be_list(text: &str) -> bool
     }
 }
 
-// Whether a date begins the text.
-fn begins_with_day(text: &str) -> bool
-    ensures { (result ≡ false) → NoFront (Row spec.clock_row) (chars text.now) }
+// The bits of the marks that may begin with each character of ASCII. The clause of `bits_in_list` says that each entry is
+// right.
+static IN_LIST: [u16; 128] = [
+    0, 0, 0, 0, 0, 0, 0, 0, 0, 0, 0, 0, 0, 0, 0, 0, 0, 0, 0, 0, 0, 0, 0, 0, 0, 0, 0, 0, 0, 0, 0, 0,
+    0, 256, 512, 0, 0, 0, 0, 0, 0, 0, 0, 0, 0, 276, 16, 16, 1304, 1304, 1304, 1304, 1304, 1304,
+    1304, 1304, 1304, 1304, 0, 0, 512, 0, 0, 0, 0, 1296, 1296, 1297, 1424, 1424, 1424, 1424, 1424,
+    1424, 1424, 1424, 1426, 1424, 1424, 1424, 1424, 1424, 1424, 1488, 400, 400, 400, 400, 272, 272,
+    272, 512, 0, 0, 0, 16, 0, 276, 272, 272, 272, 272, 272, 272, 272, 272, 272, 272, 276, 276, 272,
+    272, 272, 272, 272, 272, 272, 272, 272, 272, 272, 272, 272, 32, 0, 0, 0, 0,
+];
+
+// Those of the marks that are no key, no number and no topic. The clause of `other_bits` says that each entry is right.
+static OTHERS: [u16; 128] = [
+    0, 0, 0, 0, 0, 0, 0, 0, 0, 0, 0, 0, 0, 0, 0, 0, 0, 0, 0, 0, 0, 0, 0, 0, 0, 0, 0, 0, 0, 0, 0, 0,
+    0, 0, 512, 0, 0, 0, 0, 0, 0, 0, 0, 0, 0, 4, 0, 0, 1024, 1024, 1024, 1024, 1024, 1024, 1024,
+    1024, 1024, 1024, 0, 0, 512, 0, 0, 0, 0, 1024, 1024, 1025, 1152, 1152, 1152, 1152, 1152, 1152,
+    1152, 1152, 1154, 1152, 1152, 1152, 1152, 1152, 1152, 1216, 128, 128, 128, 128, 0, 0, 0, 512,
+    0, 0, 0, 0, 0, 4, 0, 0, 0, 0, 0, 0, 0, 0, 0, 0, 4, 4, 0, 0, 0, 0, 0, 0, 0, 0, 0, 0, 0, 0, 0,
+    32, 0, 0, 0, 0,
+];
+
+// Returns the bits of the marks that may begin with the character.
+#[inline(always)]
+fn bits_in_list(c: char) -> u16
+    ensures { (m : Mark) → spec.holds result m ≡ spec.begins m c }
 {
-    match day(text) {
-        Some(_) => true,
-        None => false,
-    }
+    if c < '\u{80}' { IN_LIST[c as usize] } else { 0 }
 }
 
-// Whether a mark may begin the text.
-fn may_be_marked(text: &str) -> bool
-    ensures { (result ≡ false) → spec.IsUnmarked (chars text.now) }
+// Returns the bits of those that are no key, no number and no topic.
+#[inline(always)]
+fn other_bits(c: char) -> u16
+    ensures { (m : Mark) → spec.holds result m ≡ spec.begins_other m c }
 {
-    let Some((c, _)) = first(text) else {
-        return false;
-    };
-    if begins_mark(c) {
-        return true;
-    }
-    begins_with_day(text) || may_be_list(text)
+    if c < '\u{80}' { OTHERS[c as usize] } else { 0 }
 }
 
-// Whether a mark may begin one of the two. Most messages follow a host, so the text after it is looked at first.
-fn may_one_be_marked(text: &str, after_host: &str) -> bool
-    ensures { (result ≡ false) → spec.IsUnmarked (chars text.now) × spec.IsUnmarked (chars after_host.now) }
-{
-    if may_be_marked(after_host) {
-        return true;
-    }
-    may_be_marked(text)
+/// The marks that may begin a text.
+#[derive(Clone, Copy)]
+pub(crate) struct Marks {
+    pub(crate) bits: u16,
 }
 
-/// Returns whether a message without a program may begin the text. `after_host` is what `past_host` returned for it. Of
-/// most texts only two words are looked at.
-pub(crate) fn may_be_message<'a>(
-    text: &'a str,
-    after_host: Option<(Option<&'a str>, &'a str)>,
-) -> bool
-    ensures { Reads (Row spec.host_row) (λ h. (seen h, (tt, tt))) (chars text.entry.now) after_host.entry
-        → (result ≡ false) → spec.IsNoMessage (chars text.entry.now) }
-{
-    match after_host {
-        Some((_, rest)) => may_one_be_marked(text, rest),
-        None => may_be_marked(text),
+impl Marks {
+    // No mark.
+    const NONE: Marks = Marks { bits: 0 };
+
+    /// Returns whether the mark is one of them.
+    #[inline(always)]
+    fn has(self, mark: Mark) -> bool
+        ensures { result ≡ spec.holds self.bits mark }
+    {
+        self.bits & mark.bit() != 0
+    }
+
+    /// Returns whether there is none.
+    #[inline(always)]
+    pub(crate) fn is_empty(self) -> bool
+        ensures { (result ≡ true) → (m : Mark) → spec.holds self.bits m ≡ false }
+    {
+        self.bits == 0
+    }
+
+    /// Returns the marks that may begin the text, by its first character and by what ends its first word.
+    #[inline(always)]
+    fn of(text: &str) -> Marks
+        ensures { spec.AreAll result.bits (chars text.now) }
+    {
+        let Some((c, _)) = first(text) else {
+            return Marks::NONE;
+        };
+        let bits = bits_in_list(c);
+        let others = other_bits(c);
+        if bits == others {
+            return Marks { bits };
+        }
+        if may_be_list(text) {
+            return Marks { bits };
+        }
+        Marks { bits: others }
     }
 }
 
@@ -678,20 +705,80 @@ pub(crate) fn past_host(text: &str) -> Option<(Option<&str>, &str)>
     Some((hostname, rest))
 }
 
-/// Returns a message that the mark begins, or a host and such a message.
+/// The marks that may begin a text, and those that may begin what follows its host.
+#[derive(Clone, Copy)]
+pub(crate) struct MessageMarks {
+    pub(crate) own: Marks,
+    pub(crate) later: Marks,
+}
+
+// Returns the marks that may begin what follows a host; none if there is no host.
+#[inline(always)]
+fn later_marks<'a>(after_host: Option<(Option<&'a str>, &'a str)>) -> Marks
+    ensures { MatchOption after_host.entry ((m : Mark) → spec.holds result.bits m ≡ false)
+        (λ x. spec.AreAll result.bits (shown x.1)) }
+{
+    match after_host {
+        Some((_, rest)) => Marks::of(rest),
+        None => Marks::NONE,
+    }
+}
+
+impl MessageMarks {
+    /// Returns the marks of a text. `after_host` is what `past_host` returned for it. Of most texts only two words are
+    /// looked at.
+    #[inline(always)]
+    pub(crate) fn of<'a>(
+        text: &'a str,
+        after_host: Option<(Option<&'a str>, &'a str)>,
+    ) -> MessageMarks
+        ensures { spec.AreMarks result (chars text.entry.now) after_host.entry }
+    {
+        MessageMarks {
+            own: Marks::of(text),
+            later: later_marks(after_host),
+        }
+    }
+
+    /// Returns whether there is none.
+    #[inline(always)]
+    pub(crate) fn is_empty(self) -> bool
+        ensures { (result ≡ true) → ((m : Mark) → spec.holds self.own.bits m ≡ false)
+            × ((m : Mark) → spec.holds self.later.bits m ≡ false) }
+    {
+        self.own.is_empty() && self.later.is_empty()
+    }
+}
+
+// The text after the mark, which is looked for only if it is one of these.
+#[inline(always)]
+fn end_of(text: &str, marks: Marks, mark: Mark) -> Option<&str>
+    ensures { spec.AreAll marks.bits (chars text.now) → Recognises (spec.mark_class mark) (chars text.now) result }
+{
+    if marks.has(mark) {
+        read_mark(text, mark)
+    } else {
+        None
+    }
+}
+
+/// Returns a message that the mark begins, or a host and such a message. `marks` is what `MessageMarks::of` returned for
+/// the text.
 #[inline(always)]
 pub(crate) fn message<'a>(
     text: &'a str,
     after_host: Option<(Option<&'a str>, &'a str)>,
+    marks: MessageMarks,
     mark: Mark,
 ) -> Option<Named<'a>>
     ensures { Reads (Row spec.host_row) (λ h. (seen h, (tt, tt))) (chars text.entry.now) after_host.entry
+        → spec.AreMarks marks (chars text.entry.now) after_host.entry
         → Names (spec.message mark) named_value (chars text.entry.now) result }
 {
-    if let Some(_) = mark_end(text, mark) {
+    if let Some(_) = end_of(text, marks.own, mark) {
         return Some(untagged(None, text));
     }
     let (hostname, rest) = after_host?;
-    let _ = mark_end(rest, mark)?;
+    let _ = end_of(rest, marks.later, mark)?;
     Some(untagged(hostname, rest))
 }

@@ -1,23 +1,28 @@
-use Rattle.std.proofs.Common.{Some, drop, ◌+◌, ◌++◌}
+use Rattle.std.proofs.Common.{None, Some, drop, ◌+◌, refl}
 use Rattle.std.proofs.Common.{drop_of_length-le}
 use Rattle.std.proofs.lemmas.List.{drop_more}
 use Rattle.syslog_named_forms.specs.declared.untagged.Mark.TheVariants as mark
-use Rattle.syslog_named_forms.proofs.NamedFormLemmas.{marked_det, tail_here, tail_later}
-use Rattle.syslog_named_forms.specs.NamedForms.{marked_tail, marked_tails, program_forms, tail_forms}
+use Rattle.syslog_named_forms.proofs.NamedFormLemmas.{marked_det, named_later, none_of_marks, tail_here}
+use Rattle.syslog_named_forms.proofs.UntaggedLemmas.{no_messages}
+use Rattle.syslog_named_forms.specs.NamedForms.{marked_tail, marked_tails, tail_forms}
 use Rattle.syslog_named_forms.proofs.named_forms.of_marks.Goals as goal
 
+pub returns-then-is_empty : goal.returns-then-is_empty
+returns-then-is_empty c after are d text front = let (own, later) = c.if-is_empty.ensures refl in
+    none_of_marks c.args.marks.now front (no_messages c.args.begun c.args.after_host after are own later)
+
 pub returns-in-Some : goal.returns-in-Some
-returns-in-Some c after = c.loop-mark.invariant after (Some (c.dialect.result, c.sent.result))
-    (λ front. rw (drop_more c.args.marks.now c.loop-mark.mark-index mark.Cef c.loop-mark-test.true, c.dialect.ensures)
-    (tail_here (marked_tail _) (tail_forms (marked_tails (drop (c.loop-mark.mark-index + 1) c.args.marks.now))
-    ++ program_forms) (marked_det _) front (c.in-Some.ensures after) c.sent.ensures))
+returns-in-Some c after are = c.loop-mark.invariant after are (Some (c.dialect.result, c.in-Some.named))
+    (λ d text front. rw (drop_more c.args.marks.now c.loop-mark.mark-index mark.Cef c.loop-mark-test.true, c.dialect.ensures)
+    (tail_here (marked_tail _) (tail_forms (marked_tails (drop (c.loop-mark.mark-index + 1) c.args.marks.now)))
+    (marked_det _) front (c.in-Some.ensures after are) refl))
 
 pub loop-mark-preserved : goal.loop-mark-preserved
-loop-mark-preserved c after r h = c.loop-mark.invariant after r
-    (λ front. rw (drop_more c.args.marks.now c.loop-mark.mark-index mark.Cef c.loop-mark-test.true)
-    (tail_later (marked_tail _) (tail_forms (marked_tails (drop (c.loop-mark.mark-index + 1) c.args.marks.now))
-    ++ program_forms) (marked_det _) front r (c.in_default.ensures after) (h front)))
+loop-mark-preserved c after are r h = c.loop-mark.invariant after are r
+    (λ d text front. rw (drop_more c.args.marks.now c.loop-mark.mark-index mark.Cef c.loop-mark-test.true)
+    (named_later (marked_tail _) (tail_forms (marked_tails (drop (c.loop-mark.mark-index + 1) c.args.marks.now)))
+    (marked_det _) front r (c.in_default.ensures after are) (h d text front)))
 
 pub returns : goal.returns
-returns c after = c.loop-mark.invariant after c.of_program.result
-    (rw (drop_of_length-le c.args.marks.now c.loop-mark-test.false) (c.of_program.ensures after))
+returns c after are = c.loop-mark.invariant after are None
+    (rw (drop_of_length-le c.args.marks.now c.loop-mark-test.false) (λ d text front. tt))

@@ -1,13 +1,12 @@
-use Rattle.std.proofs.Common.{refl}
-use Rattle.syslog_sent.proofs.FormLemmas.{found_after}
-use Rattle.syslog_named_forms.proofs.NamedFormLemmas.{none_marked}
-use Rattle.syslog_named_forms.specs.NamedForms.{message_tails, program_forms, tail_forms}
+use Rattle.syslog_named_forms.proofs.NamedFormLemmas.{named_early, named_late}
+use Rattle.syslog_named_forms.specs.NamedForms.{message_tails, program_tails, tail_forms}
 use Rattle.syslog_named_forms.proofs.named_forms.of_message.Goals as goal
 
-pub returns-then-may_be_message : goal.returns-then-may_be_message
-returns-then-may_be_message c front = c.of_marks.ensures c.past_host-after_host.ensures front
+pub returns-in-Some : goal.returns-in-Some
+returns-in-Some c d text front = named_early (tail_forms message_tails) (tail_forms program_tails) d text
+    c.in-Some.found (c.in-Some.ensures c.past_host-after_host.ensures c.of-begun.ensures d text front)
 
-pub returns-else-may_be_message : goal.returns-else-may_be_message
-returns-else-may_be_message c front = found_after (tail_forms message_tails) program_forms _ c.of_program.result
-    (none_marked front (c.if-may_be_message.ensures c.past_host-after_host.ensures refl))
-    (c.of_program.ensures c.past_host-after_host.ensures front)
+pub returns : goal.returns
+returns c d text front = named_late (tail_forms message_tails) (tail_forms program_tails) d text c.of_program.result
+    (c.in_default.ensures c.past_host-after_host.ensures c.of-begun.ensures d text front)
+    (c.of_program.ensures c.past_host-after_host.ensures d text front)

@@ -15,23 +15,23 @@ abbrev begun : Mark → Class
 begun m = beginning (mark_class m)
 
 pub returns-in-Some : goal.returns-in-Some
-returns-in-Some c after = let (v, f) = c.in-Some.ensures in
+returns-in-Some c after marks = let (v, f) = c.in-Some.ensures marks.0 in
     rw c.untagged.ensures (mapped_front (marked c.args.mark) NamedTexts marked_of (first_front (beginning_front f)))
 
 pub returns-in_err-hostname : goal.returns-in_err-hostname
-returns-in_err-hostname c after = rw c.from_residual.ensures (no_mapped (marked c.args.mark) NamedTexts marked_of
-    (no_otherwise (no_beginning c.in_default.ensures)
+returns-in_err-hostname c after marks = rw c.from_residual.ensures (no_mapped (marked c.args.mark) NamedTexts marked_of
+    (no_otherwise (no_beginning (c.in_default.ensures marks.0))
     (rows_none_here host_row (begun c.args.mark ∷ []) (rw c.in_err-hostname.was at after))))
 
-pub returns-in_err-mark_end : goal.returns-in_err-mark_end
-returns-in_err-mark_end c after = rw c.from_residual-in_err-mark_end.ensures
+pub returns-in_err-end_of : goal.returns-in_err-end_of
+returns-in_err-end_of c after marks = rw c.from_residual-in_err-end_of.ensures
     (no_mapped (marked c.args.mark) NamedTexts marked_of
-    (no_otherwise (no_beginning c.in_default.ensures) (rows_none_later host_row (begun c.args.mark ∷ []) host_row_det
+    (no_otherwise (no_beginning (c.in_default.ensures marks.0)) (rows_none_later host_row (begun c.args.mark ∷ []) host_row_det
     (rw c.in_ok-hostname.was at after) (row_none_here (begun c.args.mark) []
-    (no_beginning c.in_err-mark_end.ensures)))))
+    (no_beginning (c.in_err-end_of.ensures (rw c.in_ok-hostname.was at marks.1)))))))
 
 pub returns : goal.returns
-returns c after = let (v, f) = c.in_ok-mark_end.ensures in
+returns c after marks = let (v, f) = c.in_ok-end_of.ensures (rw c.in_ok-hostname.was at marks.1) in
     rw c.untagged-2.ensures (mapped_front (marked c.args.mark) NamedTexts marked_of
-    (second_front (no_beginning c.in_default.ensures) (rows_join host_row (begun c.args.mark ∷ [])
+    (second_front (no_beginning (c.in_default.ensures marks.0)) (rows_join host_row (begun c.args.mark ∷ [])
     (rw c.in_ok-hostname.was at after) (row_cons (begun c.args.mark) [] (beginning_front f) (row_nil [])))))
