@@ -31,14 +31,20 @@ use Rattle.syslog_named_forms.specs.NamedForms.{Tail, access_tail, dated_form, d
 use Rattle.syslog_named_forms.specs.NamedForms.{front_row, hostless_tail}
 use Rattle.syslog_named_forms.specs.NamedForms.{marked_tail, marked_tails, message_tails, program_forms}
 use Rattle.syslog_named_forms.specs.NamedForms.{program_tails, says, unified_tail, untagged_tail}
-use Rattle.syslog_named_forms.specs.Unified.{log_of, log_row, thread_row}
+use Rattle.syslog_named_forms.specs.NamedForms.{addressed_tail, compact_tail, device_forms, device_tails, graded_tail}
+use Rattle.syslog_named_forms.specs.NamedForms.{graded_tails, leveled_tail, marked_forms, titled_tail}
+use Rattle.syslog_named_forms.specs.Devices.{addressed_row, point_word, title_row, titled_row}
+use Rattle.syslog_named_forms.specs.Graded.{grade_row, graded_row, level_row, leveled_row}
+use Rattle.syslog_named_forms.specs.Unified.{close_row, compact_row, kind, log_of, log_row, thread_row}
 use Rattle.syslog_named_forms.specs.Untagged.{some_digits}
 use Rattle.syslog_named_forms.specs.NamedForms.{serial_tail}
 use Rattle.syslog_named_forms.specs.NamedForms.{severity_tail, tail_forms, undated_form, undated_forms, undated_row}
 use Rattle.syslog_named_forms.specs.NamedForms.{spread_forms, spread_tail, worded_tail}
 use Rattle.syslog_named_forms.specs.Pairs.{bare, either_text, first_value, is_host_key, pair, pair_row, paired, value}
 use Rattle.syslog_named_forms.specs.Pairs.{pairs_form, pairs_row, quoted, quoted_row}
-use Rattle.syslog_dialects.specs.PriorityAlone.{IsAlone, alone_row, program_row, program_sent}
+use Rattle.syslog_dialects.specs.PriorityAlone.{IsAlone, alone_row, point_row as point_alone_row, point_sent}
+use Rattle.syslog_dialects.specs.PriorityAlone.{program_row}
+use Rattle.syslog_dialects.specs.PriorityAlone.{program_sent}
 use Rattle.syslog_named_forms.specs.Programs.{forwarded_of, forwarded_row, grade, hostless_row, passed_on}
 use Rattle.syslog_named_forms.specs.Programs.{access_row, point_row, serial_row, severity_row, worded_row}
 use Rattle.syslog_named_forms.specs.Programs.{number_word, spread_row, untagged_row, words_row}
@@ -189,6 +195,42 @@ programs_all =
     also tail_of serial_tail serial_found also unified_found
     also tail_of untagged_tail untagged_found also tt
 
+-- ---- devices
+
+addressed_found : TailFound addressed_tail
+addressed_found t v = before_rest (left_of dialect.UniFi v.0) (take 7 addressed_row)
+    (a_host also a_gap also passed point_word (λ p q w is. inr (inl (w, is))) also a_colon also a_gap also a_program
+    also blanks also tt) t v
+
+titled_found : TailFound titled_tail
+titled_found t v = before_rest (left_of dialect.SpacedName v.0) (take 5 titled_row)
+    (a_host also a_gap also text_of (Row title_row) also a_colon also blanks also tt) t v
+
+compact_found : TailFound compact_tail
+compact_found = before_rest (left_of dialect.UnifiedLog None) (take 7 compact_row)
+    (passed kind (λ p q w is. inr (inr (inr (inl (w, is))))) also a_gap also a_name also a_sign 91 refl
+    also text_of some_digits also passed (Row close_row) (λ p q w is. inr (inr (inr (inr (inl (w, is)))))) also a_gap
+    also tt)
+
+devices_all : AllFound (tail_forms device_tails)
+devices_all = tail_of addressed_tail addressed_found also tail_of titled_tail titled_found
+    also tail_of compact_tail compact_found also tt
+
+-- ---- severities in angles or in brackets
+
+graded_found : TailFound graded_tail
+graded_found t v = before_rest (left_of dialect.SeverityFirst v.1.1.0) (take 6 graded_row)
+    (passed (Row grade_row) (λ p q w is. inr (inr (inr (inr (inl (w, is)))))) also a_gap also a_host also a_gap
+    also a_program also blanks also tt) t v
+
+leveled_found : TailFound leveled_tail
+leveled_found t v = before_rest (left_of dialect.SeverityFirst v.0) (take 6 leveled_row)
+    (a_host also a_gap also passed (Row level_row) (λ p q w is. inr (inr (inr (inr (inr (inl (w, is))))))) also a_gap
+    also a_program also blanks also tt) t v
+
+graded_all : AllFound (tail_forms graded_tails)
+graded_all = tail_of graded_tail graded_found also tail_of leveled_tail leveled_found also tt
+
 -- ---- pairs, whose names are in the message
 
 -- one text, as a list of names
@@ -321,8 +363,10 @@ undated_all =
     also said dialect.Monotonic monotonic_row monotonic_says monotonic_found also tt
 
 named_all : AllFound named_forms
-named_all = both_found (tail_forms message_tails) program_forms (messages_all marks)
-    (both_found (tail_forms program_tails) undated_forms programs_all undated_all)
+named_all = both_found (tail_forms graded_tails) marked_forms graded_all
+    (both_found (tail_forms message_tails) program_forms (messages_all marks)
+    (both_found (tail_forms program_tails) device_forms programs_all
+    (both_found (tail_forms device_tails) undated_forms devices_all undated_all)))
 
 spread_found : TailFound spread_tail
 spread_found t v = before_rest (left_of dialect.SpacedName v.0) (take 6 spread_row)
@@ -340,6 +384,11 @@ program_alone h = before_rest (left_of dialect.NoHost h) (take 7 program_row)
     (blanks also a_name also a_sign 91 refl also text_of (some_run is_ascii_digit) also a_sign 93 refl also a_colon
     also blanks also tt)
 
+point_alone : RowFound dialect.UniFi point_alone_row point_sent
+point_alone h = before_rest (left_of dialect.UniFi h) (take 8 point_alone_row)
+    (blanks also a_host also a_gap also passed point_word (λ p q w is. inr (inl (w, is))) also a_colon also a_gap
+    also a_program also blanks also tt)
+
 alone_found : RowFound dialect.PriorityAlone alone_row (λ v. loose None None None None v.1.0)
 alone_found h = last_found (left_of dialect.PriorityAlone h) (run is_blank ∷ []) (blanks also tt)
     (such_that rest IsAlone) (λ x. []) (λ x. x)
@@ -348,6 +397,7 @@ alone_found h = last_found (left_of dialect.PriorityAlone h) (run is_blank ∷ [
 last_all : AllFound last_forms
 last_all =
     said dialect.NoHost program_row program_sent program_alone
+    also said dialect.UniFi point_alone_row point_sent point_alone
     also said dialect.PriorityAlone alone_row (λ v. loose None None None None v.1.0) alone_found also tt
 
 -- ---- each form

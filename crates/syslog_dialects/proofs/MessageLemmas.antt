@@ -36,13 +36,17 @@ use Rattle.syslog_named_forms.specs.NamedForms.{Tail, dated_form, dated_row, fro
 use Rattle.syslog_named_forms.specs.NamedForms.{marked_tails, message_tails}
 use Rattle.syslog_named_forms.specs.NamedForms.{access_tail, forwarded_tail, hostless_tail, program_forms}
 use Rattle.syslog_named_forms.specs.NamedForms.{program_tails, says, unified_tail, untagged_tail}
-use Rattle.syslog_named_forms.specs.Unified.{log_row}
+use Rattle.syslog_named_forms.specs.NamedForms.{addressed_tail, compact_tail, device_forms, device_tails, graded_tail}
+use Rattle.syslog_named_forms.specs.NamedForms.{graded_tails, leveled_tail, marked_forms as message_forms, titled_tail}
+use Rattle.syslog_named_forms.specs.Devices.{addressed_row, titled_row}
+use Rattle.syslog_named_forms.specs.Graded.{graded_row, leveled_row}
+use Rattle.syslog_named_forms.specs.Unified.{compact_row, log_row}
 use Rattle.syslog_named_forms.specs.NamedForms.{serial_tail, severity_tail, tail_forms, undated_form, undated_forms}
 use Rattle.syslog_named_forms.specs.NamedForms.{header_forms, spread_tail, undated_row, worded_tail}
 use Rattle.syslog_dated_forms.specs.NetScaler.{netscaler_row}
 use Rattle.syslog_dated_forms.specs.OpenWrt.{logread_row, logread_sent}
 use Rattle.syslog_named_forms.specs.Pairs.{paired, pairs_row}
-use Rattle.syslog_dialects.specs.PriorityAlone.{IsAlone, alone_row, program_row, program_sent}
+use Rattle.syslog_dialects.specs.PriorityAlone.{IsAlone, alone_row, point_row, point_sent, program_row, program_sent}
 use Rattle.syslog_dated_forms.specs.ProCurve.{procurve_row, procurve_sent}
 use Rattle.syslog_named_forms.specs.Programs.{access_row, forwarded_of, forwarded_row, hostless_row}
 use Rattle.syslog_named_forms.specs.Programs.{number_word, passed_on, serial_row}
@@ -60,7 +64,7 @@ use Rattle.syslog_sent.specs.declared.dialect.Dialect.TheVariants.{PriorityAlone
 use Rattle.syslog_sent.specs.declared.dialect.Dialect.TheVariants.{CiscoIos, CiscoNxOs, CiscoAsa, CiscoUndated}
 use Rattle.syslog_sent.specs.declared.dialect.Dialect.TheVariants.{Container, CiscoIosXr, NetScaler, ProCurve}
 use Rattle.syslog_sent.specs.declared.dialect.Dialect.TheVariants.{Cef, Leef, KeyValue}
-use Rattle.syslog_sent.specs.declared.dialect.Dialect.TheVariants.{SeverityFirst, NoHost, Heroku}
+use Rattle.syslog_sent.specs.declared.dialect.Dialect.TheVariants.{SeverityFirst, NoHost, Heroku, UniFi}
 use Rattle.syslog_sent.specs.declared.dialect.Dialect.TheVariants.{SophosUtm, UnixSeconds}
 use Rattle.syslog_sent.specs.declared.dialect.Dialect.TheVariants.{Esxi}
 use Rattle.syslog_named_forms.specs.declared.untagged.Mark.{Mark}
@@ -315,6 +319,17 @@ programs_end =
     also tail_of untagged_tail (λ t v ends f. some_run_ends (beginning number_word) (λ x. x) (λ p x is. is.1) (host ∷ [])
     t v f) also tt
 
+devices_end : AllEnd (tail_forms device_tails)
+devices_end =
+    tail_of addressed_tail (λ t v ends f. rest_ends (take 6 addressed_row) t v f)
+    also tail_of titled_tail (λ t v ends f. rest_ends (take 4 titled_row) t v f)
+    also tail_of compact_tail (λ t v ends f. spaced_rest_ends (take 6 compact_row) t v f) also tt
+
+graded_end : AllEnd (tail_forms graded_tails)
+graded_end =
+    tail_of graded_tail (λ t v ends f. rest_ends (take 5 graded_row) t v f)
+    also tail_of leveled_tail (λ t v ends f. rest_ends (take 5 leveled_row) t v f) also tt
+
 -- ---- without a date
 
 marked_alone : (dialect : Dialect) (m : Mark) → EndsInMsg (undated_form dialect m)
@@ -341,8 +356,10 @@ undated_end =
     (run_ends paired (λ v. v.2) (λ p v is. is.1) []) also headers_end
 
 named_end : AllEnd named_forms
-named_end = both_end (tail_forms message_tails) program_forms (messages_end marks)
-    (both_end (tail_forms program_tails) undated_forms programs_end undated_end)
+named_end = both_end (tail_forms graded_tails) message_forms graded_end
+    (both_end (tail_forms message_tails) program_forms (messages_end marks)
+    (both_end (tail_forms program_tails) device_forms programs_end
+    (both_end (tail_forms device_tails) undated_forms devices_end undated_end)))
 
 plain_end : AllEnd plain_forms
 plain_end =
@@ -356,6 +373,7 @@ early_end = both_end dated_forms (named_forms ++ plain_forms) dated_end (both_en
 last_end : AllEnd last_forms
 last_end =
     said NoHost program_row program_sent (rest_ends (take 6 program_row))
+    also said UniFi point_row point_sent (rest_ends (take 7 point_row))
     also said PriorityAlone alone_row (λ v. loose None None None None v.1.0)
     (run_ends (such_that rest IsAlone) (λ t. t) (λ p t is. is.0.1) []) also tt
 

@@ -1,18 +1,20 @@
--- What an odd app name begins with, and a host that is the level of a line of ESXi.
-use Rattle.std.proofs.Common.{◌≡◌, ◌<◌, ℕ, true, false, List, [], ◌∷◌, ◌++◌, length, refl, sym, ap, ◌∙◌, inl, inr}
-use Rattle.std.proofs.Common.{arith, ◌⊎◌, subst}
+-- What an odd app name begins with, a host that is the level of a line of ESXi, and the address of an access point.
+use Rattle.std.proofs.Common.{◌≡◌, ◌<◌, ◌≤◌, ℕ, true, false, List, [], ◌∷◌, ◌++◌, length, refl, sym, ap, ◌∙◌, inl, inr}
+use Rattle.std.proofs.Common.{◌+◌, append_assoc, arith, length-append, suc, subst}
+use Rattle.std.proofs.Common.{inl, inr, ◌⊎◌}
+use Rattle.std.proofs.Math.Seq.{get_or-append_seam}
 use Rattle.std.proofs.lemmas.Bool.{and_parts, cases_Bool}
 use Rattle.std.proofs.lemmas.Bool.Decides.{nat_tests}
-use Rattle.std.proofs.lemmas.Str.Ascii.{IsAscii-cons, IsAscii-nil}
+use Rattle.std.proofs.lemmas.Str.Ascii.{IsAscii-cons, IsAscii-nil, IsAscii-push}
 use Rattle.std.specs.Char.{is_ascii_digit}
 use Rattle.std.specs.Prelude.{nat_eq, slice_index, ◌&&◌, IsTrue}
-use Rattle.std.specs.Str.{IsUtf8, chars, encode_utf8_all}
+use Rattle.std.specs.Str.{IsAscii, IsUtf8, chars, encode_utf8_all}
 use Rattle.syslog_text.specs.Pieces.Class.{Text}
 use Rattle.syslog_text.proofs.TextLemmas.Runs.{ascii_ahead, chars_nonempty, one_ascii}
 use Rattle.syslog_sent.specs.Named.{is_letter}
 use Rattle.syslog_dialects.specs.Ordinary.{BeginsPlainly, begin_no_word, begins_oddly, has_bracket, is_level_mark}
-use Rattle.syslog_dialects.specs.Ordinary.{is_odd_app}
-use Rattle.syslog_dialects.specs.Ordinary.{opens_day}
+use Rattle.syslog_dialects.specs.Ordinary.{has_comma, is_odd_app, opens_day}
+use Rattle.syslog_named_forms.specs.Devices.{goes_on, is_hex, opens_address}
 
 oddly_low : (c : ℕ) → begins_oddly c ≡ true → c < 128
 oddly_low c h = grind (arith, nat_tests)
@@ -129,5 +131,62 @@ level_bytes bs u l =
 pub no_level : (bs : List ℕ) → IsUtf8 bs → false ≡ has_bracket bs → is_level_mark (chars bs) ≡ false
 no_level bs u n = elim (cases_Bool (is_level_mark (chars bs))) [
   | inl is ↦ (let bad : false ≡ true = n ∙ level_bytes bs u (level_of (chars bs) is) in cc)
+  | inr not ↦ not
+]
+
+-- ---- an address
+
+hex_low : (c : ℕ) → IsTrue (is_hex c) → c < 128
+hex_low c h = grind (arith, nat_tests)
+
+-- the digits that are left of an address, and the comma after them
+record HasComma (n : ℕ) (t : Text) : Type 0 where
+  digits : Text
+  more : Text
+  is : t ≡ digits ++ (44 ∷ more)
+  ascii : IsAscii digits
+  all : n + length digits ≡ 12
+
+comma_of : (n : ℕ) (t : Text) → n ≤ 12 → goes_on n t ≡ true → HasComma n t
+comma_of n [] l g = absurd (let f : false ≡ true = g in cc)
+comma_of n (c ∷ cs) l g = elim (cases_Bool (nat_eq n 12)) [
+  | inl e ↦ (let comma : nat_eq c 44 ≡ true = rw e at g in
+      let same : c ≡ 44 = grind (arith, nat_tests, comma) in record {
+        digits = [];
+        more = cs;
+        is = ap (λ (x : ℕ). x ∷ cs) same;
+        ascii = IsAscii-nil;
+        all = grind (arith, nat_tests, e);
+      })
+  | inr e ↦ (let (hex, on) = and_parts (is_hex c) (goes_on (suc n) cs) (rw e at g) in
+      let low : n < 12 = grind (arith, nat_tests, l, e) in
+      let it = comma_of (suc n) cs (omega (arith, low)) on in record {
+        digits = c ∷ it.digits;
+        more = it.more;
+        is = ap (λ (x : Text). c ∷ x) it.is;
+        ascii = IsAscii-cons c it.digits (hex_low c hex) it.ascii;
+        all = omega (arith, it.all);
+      })
+]
+
+comma_bytes : (bs : List ℕ) → IsUtf8 bs → HasComma 0 (chars bs) → has_comma bs ≡ true
+comma_bytes bs u it =
+    let front = it.digits ++ 44 ∷ [] in
+    let bytes : bs ≡ front ++ encode_utf8_all it.more = ascii_ahead front it.more bs u
+    (IsAscii-push it.digits 44 it.ascii (omega arith)) (it.is ∙ sym (append_assoc it.digits (44 ∷ []) it.more)) in
+    let whole : bs ≡ it.digits ++ (44 ∷ encode_utf8_all it.more) =
+    bytes ∙ append_assoc it.digits (44 ∷ []) (encode_utf8_all it.more) in
+    let twelve : length it.digits ≡ 12 = omega (arith, it.all) in
+    let there : slice_index bs 12 ≡ 44 = rw whole
+    (subst (λ (n : ℕ). slice_index (it.digits ++ (44 ∷ encode_utf8_all it.more)) n ≡ 44) twelve
+    (get_or-append_seam it.digits 44 (encode_utf8_all it.more) 0)) in
+    let long : 12 < length bs =
+    omega (arith, ap length whole, length-append it.digits (44 ∷ encode_utf8_all it.more), twelve) in
+    grind (arith, nat_tests, there, long)
+
+-- where the byte after twelve is no comma, no address begins the text
+pub no_address : (bs : List ℕ) → IsUtf8 bs → false ≡ has_comma bs → opens_address (chars bs) ≡ false
+no_address bs u n = elim (cases_Bool (opens_address (chars bs))) [
+  | inl is ↦ (let bad : false ≡ true = n ∙ comma_bytes bs u (comma_of 0 (chars bs) (omega arith) is) in cc)
   | inr not ↦ not
 ]

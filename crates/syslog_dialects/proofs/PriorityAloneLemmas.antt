@@ -9,12 +9,14 @@ use Rattle.syslog_text.proofs.PieceLemmas.Class.{AllDeterministic, ◌also◌, �
 use Rattle.syslog_text.proofs.PieceLemmas.Class.{no_row_division, rest_det, rest_front, row_of, run_det}
 use Rattle.syslog_text.proofs.PieceLemmas.Class.{some_run_det, unique_division}
 use Rattle.syslog_text.proofs.PieceLemmas.Rules.{no_such_meaning, such_det, such_front}
-use Rattle.syslog_text.proofs.TextLemmas.Words.{end_told, number_det}
+use Rattle.syslog_text.proofs.TextLemmas.Words.{end_told, host_det, number_det}
 use Rattle.std.specs.Char.{is_ascii_digit}
 use Rattle.syslog_text.proofs.PieceLemmas.Class.{exactly_det, texted_det}
 use Rattle.syslog_text.specs.Pieces.Class.{some_run}
-use Rattle.syslog_sent.proofs.NamedLemmas.{name_det}
-use Rattle.syslog_dialects.specs.PriorityAlone.{IsAlone, alone_form, alone_row, program_row, version_row}
+use Rattle.syslog_named_forms.proofs.DeviceLemmas.{point_word_det}
+use Rattle.syslog_sent.proofs.NamedLemmas.{name_det, program_det}
+use Rattle.syslog_dialects.specs.PriorityAlone.{IsAlone, alone_form, alone_row, point_row, program_row}
+use Rattle.syslog_dialects.specs.PriorityAlone.{version_row}
 use Rattle.syslog_sent.specs.Sent.{IsOnlySent, SentValue, loose}
 
 pub version_det : AllDeterministic version_row
@@ -24,6 +26,10 @@ pub program_alone_det : AllDeterministic program_row
 program_alone_det = run_det is_blank also name_det also exactly_det _
     also texted_det (some_run is_ascii_digit) (some_run_det is_ascii_digit) also exactly_det _ also exactly_det _
     also run_det is_blank also rest_det also tt
+
+pub point_alone_det : AllDeterministic point_row
+point_alone_det = run_det is_blank also host_det also some_run_det is_blank also point_word_det also exactly_det _
+    also some_run_det is_blank also program_det also run_det is_blank also rest_det also tt
 
 pub alone_det : AllDeterministic alone_row
 alone_det = run_det is_blank also such_det rest IsAlone rest_det also tt

@@ -2,7 +2,7 @@
 use Rattle.std.specs.Prelude.{ℕ, Bool, true, false, List, [], ◌∷◌, ◌++◌, Option, Some, None}
 use Rattle.syslog_dated_forms.specs.DatedForms as dated
 use Rattle.syslog_named_forms.specs.NamedForms as named
-use Rattle.syslog_dialects.specs.PriorityAlone.{alone_form, program_form}
+use Rattle.syslog_dialects.specs.PriorityAlone.{alone_form, point_form, program_form}
 use Rattle.syslog_sent.specs.Sent.{Form}
 
 -- the forms that are recognised by their date
@@ -23,7 +23,7 @@ early_forms = dated_forms ++ (named_forms ++ plain_forms)
 
 -- the forms of texts that the port does not parse, after a priority
 abbrev pub last_forms : List Form
-last_forms = program_form ∷ alone_form ∷ []
+last_forms = program_form ∷ point_form ∷ alone_form ∷ []
 
 -- those that are tried last of a text after this priority, which the port parses, or not
 abbrev pub late_forms : Bool → Option ℕ → List Form

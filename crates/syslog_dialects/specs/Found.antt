@@ -17,8 +17,10 @@ use Rattle.syslog_sent.specs.Date.{weekday}
 use Rattle.syslog_dated_forms.specs.Esxi.{mark_row}
 use Rattle.syslog_dated_forms.specs.IosXr.{node}
 use Rattle.syslog_dated_forms.specs.NetScaler.{slashed_date}
+use Rattle.syslog_named_forms.specs.Devices.{point_word}
+use Rattle.syslog_named_forms.specs.Graded.{grade_row, level_row}
 use Rattle.syslog_named_forms.specs.Monotonic.{seconds_row}
-use Rattle.syslog_named_forms.specs.Unified.{thread_row}
+use Rattle.syslog_named_forms.specs.Unified.{close_row, kind, thread_row}
 use Rattle.syslog_named_forms.specs.Untagged.{some_digits}
 use Rattle.syslog_named_forms.specs.Pairs.{IsShown, noted, pair}
 use Rattle.syslog_sent.specs.Selector.{selector_row, severity}
@@ -34,7 +36,7 @@ use Rattle.syslog_sent.specs.declared.dialect.Dialect.TheVariants.{CiscoNxOs, Ci
 use Rattle.syslog_sent.specs.declared.dialect.Dialect.TheVariants.{Journal}
 use Rattle.syslog_sent.specs.declared.dialect.Dialect.TheVariants.{KeyValue, NearlyRfc3339, NetScaler, ProCurve}
 use Rattle.syslog_sent.specs.declared.dialect.Dialect.TheVariants.{SeverityFirst, SophosUtm, UnixSeconds}
-use Rattle.syslog_sent.specs.declared.dialect.Dialect.TheVariants.{Monotonic, UnifiedLog, WatchGuard}
+use Rattle.syslog_sent.specs.declared.dialect.Dialect.TheVariants.{Monotonic, UniFi, UnifiedLog, WatchGuard}
 use Rattle.syslog_sent.specs.declared.sent.SentDate.{SentDate}
 
 -- ---- what is left out
@@ -82,9 +84,10 @@ serial = some_run is_plain_char ∷ exactly (32 ∷ []) ∷ exactly (40 ∷ []) 
 abbrev pub cisco_left_out : List Class
 cisco_left_out = Row counter_row ∷ Row task_row ∷ mark ∷ filed_date ∷ []
 
--- What a dialect leaves out besides. These are IOS-XR's card, a day of the week, a facility and a severity in words,
--- ESXi's level with its number, the number of ProCurve's event, Meraki's `1`, how long a device or
--- a system has run, and the columns of macOS's log. In the others it is nothing.
+-- What a dialect leaves out besides. These are IOS-XR's card, a day of the week, a facility and a severity in words, in
+-- angles or in brackets, ESXi's level with its number, the number of ProCurve's event, Meraki's `1`, how long a device
+-- or a system has run, the address and version of an access point, and the columns of macOS's log. In the others it is
+-- nothing.
 abbrev pub left_out : Dialect → List Class
 left_out CiscoIos = cisco_left_out
 left_out CiscoNxOs = cisco_left_out
@@ -96,14 +99,15 @@ left_out NearlyRfc3339 = host_alone ∷ []
 left_out NetScaler = host_alone ∷ []
 left_out SophosUtm = host_alone ∷ []
 left_out Journal = host_alone ∷ weekday ∷ []
-left_out SeverityFirst = weekday ∷ severity ∷ Row selector_row ∷ []
+left_out SeverityFirst = weekday ∷ severity ∷ Row selector_row ∷ Row grade_row ∷ Row level_row ∷ []
 left_out Esxi = Row mark_row ∷ []
 left_out ProCurve = some_run is_ascii_digit ∷ []
 left_out UnixSeconds = exactly (49 ∷ []) ∷ []
 left_out Forwarded = forwarded_words ∷ []
 left_out WatchGuard = Row serial ∷ []
 left_out Monotonic = Row seconds_row ∷ []
-left_out UnifiedLog = Row thread_row ∷ some_digits ∷ []
+left_out UnifiedLog = Row thread_row ∷ some_digits ∷ kind ∷ Row close_row ∷ []
+left_out UniFi = point_word ∷ []
 left_out _ = []
 
 -- the other hosts that a line shows beside the one that it says

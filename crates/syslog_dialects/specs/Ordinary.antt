@@ -8,6 +8,7 @@ use Rattle.syslog_text.specs.Pieces.View.{seen, shown, text_eq}
 use Rattle.syslog_text.specs.Text.{is_tag_char}
 use Rattle.syslog_elements.specs.StructuredData.Visited.{list_elements}
 use Rattle.syslog_loose.specs.declared.line.Line.{Line}
+use Rattle.syslog_named_forms.specs.Devices.{opens_address}
 use Rattle.syslog_sent.specs.Named.{is_letter, is_number}
 
 -- a colon that no word follows at once, as one does in `src="10.0.0.5:51234"`, or the bracket before a process id
@@ -66,9 +67,13 @@ is_level_mark _ = false
 abbrev pub has_bracket : List ℕ → Bool
 has_bracket bytes = nat_lt 2 (length bytes) && nat_eq (slice_index bytes 2) 40
 
+-- the byte after the twelve digits of an address is a comma
+abbrev pub has_comma : List ℕ → Bool
+has_comma bytes = nat_lt 12 (length bytes) && nat_eq (slice_index bytes 12) 44
+
 -- the two together are no host and no tag
 abbrev pub is_odd : Text → Text → Bool
-is_odd host app = is_odd_app app || is_level_mark host
+is_odd host app = is_odd_app app || (opens_address app || is_level_mark host)
 
 -- the line has a timestamp, and after it its host and its app name, as a tag, which are a host and a tag
 pub record IsTagged (line : Line) : Type 0 where

@@ -9,7 +9,7 @@ ghost use Rattle.syslog_sent.specs.Led.{IsFront};
 ghost use Rattle.syslog_dialects.specs.Dialects.{early_forms, forms_of, last_forms, late_forms};
 ghost use Rattle.syslog_dialects.specs.Dialects.{named_forms, plain_forms};
 
-use crate::priority_alone::{read_alone, read_program_alone};
+use crate::priority_alone::{read_alone, read_point_alone, read_program_alone};
 use syslog_dated_forms::dated_forms;
 use syslog_named_forms::named_forms;
 use syslog_sent::dialect::Dialect;
@@ -22,6 +22,9 @@ fn read_last(text: &str) -> Option<(Dialect, Sent<'_>)>
 {
     if let Some(sent) = read_program_alone(text) {
         return Some((Dialect::NoHost, sent));
+    }
+    if let Some(sent) = read_point_alone(text) {
+        return Some((Dialect::UniFi, sent));
     }
     let sent = read_alone(text)?;
     Some((Dialect::PriorityAlone, sent))

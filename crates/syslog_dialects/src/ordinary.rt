@@ -10,8 +10,10 @@ ghost use Rattle.syslog_loose.specs.Line.{KnowsForm};
 ghost use Rattle.syslog_sent.specs.Zone.{ended};
 ghost use Rattle.syslog_dialects.specs.Ordinary.{IsOrdinary, IsTag, IsTagged, mark, tag_row};
 ghost use Rattle.syslog_dialects.specs.Ordinary as spec;
+ghost use Rattle.syslog_named_forms.specs.Devices.{opens_address as opens_address_text};
 
 use syslog_loose::Line;
+use syslog_named_forms::devices::opens_address;
 use syslog_sent::named::{is_number, is_word};
 use syslog_sent::zone::ends_word;
 use syslog_text::text::{first, literal};
@@ -217,12 +219,41 @@ fn is_level_mark(host: &str) -> bool
     }
 }
 
+// Whether the app name begins with the address of an access point. It is a call of its own, since few have a comma
+// there.
+#[cold]
+#[inline(never)]
+fn is_point(app: &str) -> bool
+    ensures { result ≡ opens_address_text (chars app.now) }
+{
+    opens_address(app)
+}
+
+// Whether the byte after the twelve digits of an address is a comma.
+#[inline(always)]
+fn has_comma(app: &[u8]) -> bool
+    ensures { result ≡ spec.has_comma app.now }
+{
+    12 < app.len() && app[12] == b','
+}
+
+#[inline(always)]
+fn is_address(app: &str) -> bool
+    ensures { result ≡ opens_address_text (chars app.now) }
+{
+    if has_comma(app.as_bytes()) {
+        is_point(app)
+    } else {
+        false
+    }
+}
+
 // Whether the two are not a host and a tag.
 #[inline(always)]
 fn is_odd(host: &str, app: &str) -> bool
     ensures { result ≡ spec.is_odd (chars host.now) (chars app.now) }
 {
-    is_odd_app(app) || is_level_mark(host)
+    is_odd_app(app) || (is_address(app) || is_level_mark(host))
 }
 
 // Whether the line of RFC 3164 has a timestamp, a host and a tag.

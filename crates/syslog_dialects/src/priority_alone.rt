@@ -1,18 +1,19 @@
 //! A priority, and a text of no other form.
 //!
-//! **Rule.** It is a program's line without a date (Python's SysLogHandler with an ident, older OpenWrt). Or it is a
-//! message alone, as MikroTik's routers write (RouterOS, Log: `remote` without `bsd-syslog`). A text that begins with a
-//! month date or with a version fails to be of another form, so it does not parse.
+//! **Rule.** It is a program's line without a date (Python's SysLogHandler with an ident, older OpenWrt, access points
+//! of UniFi). Or it is a message alone, as MikroTik's routers write (RouterOS, Log: `remote` without `bsd-syslog`). A
+//! text that begins with a month date or with a version fails to be of another form, so it does not parse.
 ghost use Rattle.std.specs.Prelude.{◌∷◌, MatchBool, chars};
 ghost use Rattle.syslog_text.specs.Pieces.Class.{Row};
 ghost use Rattle.syslog_text.specs.Pieces.View.{Recognises};
 ghost use Rattle.syslog_dialects.specs.PriorityAlone as spec;
 ghost use Rattle.syslog_sent.specs.Sent.{Sends};
 
+use syslog_named_forms::devices::point_word;
 use syslog_pieces::timestamp::month_date::month_date;
-use syslog_sent::named::{name, number as number_text};
+use syslog_sent::named::{name, number as number_text, read_program};
 use syslog_sent::sent::Sent;
-use syslog_text::text::{blanks, literal, number, some_blanks};
+use syslog_text::text::{blanks, host, literal, number, some_blanks};
 
 // Returns the text after a number and blanks.
 fn past_version(text: &str) -> Option<&str>
@@ -52,6 +53,28 @@ pub(crate) fn read_program_alone(text: &str) -> Option<Sent<'_>>
         process: Some(id),
         msgid: None,
         msg: blanks(after_tag),
+    })
+}
+
+/// Returns what a line of an access point without a date says.
+pub(crate) fn read_point_alone(text: &str) -> Option<Sent<'_>>
+    ensures { Sends spec.point_form (chars text.now) result }
+{
+    let begun = blanks(text);
+    let (hostname, after_host) = host(begun)?;
+    let at_point = some_blanks(after_host)?;
+    let after_point = point_word(at_point)?;
+    let after_colon = literal(after_point, ':')?;
+    let before_program = some_blanks(after_colon)?;
+    let (program, rest) = read_program(before_program)?;
+    Some(Sent {
+        version: None,
+        date: None,
+        hostname,
+        appname: Some(program.name),
+        process: program.process,
+        msgid: None,
+        msg: blanks(rest),
     })
 }
 

@@ -1,3 +1,4 @@
+pub mod DeviceLemmas
 pub mod MonotonicLemmas
 pub mod NamedFormLemmas
 pub mod NearHeaderLemmas

@@ -17,7 +17,8 @@ use Rattle.syslog_sent.specs.Named.{NamedTexts}
 use Rattle.syslog_sent.proofs.NamedLemmas.{beginning_det, beginning_front, no_beginning}
 use Rattle.syslog_named_forms.specs.NamedForms.{Tail, dated_form, dated_row, front_row, says, tail_forms, undated_form}
 use Rattle.syslog_named_forms.specs.NamedForms.{marked_tails, undated_row}
-use Rattle.syslog_named_forms.specs.NamedForms.{dated_forms, message_tails, program_tails}
+use Rattle.syslog_named_forms.specs.NamedForms.{dated_forms, dated_marked_forms, dated_program_forms, device_tails}
+use Rattle.syslog_named_forms.specs.NamedForms.{graded_tails, message_tails, program_tails}
 use Rattle.syslog_named_forms.specs.NamedFinds.{FindsSaid}
 use Rattle.syslog_sent.specs.Views.{named_value}
 use Rattle.syslog_sent.specs.declared.named.Named.{Named}
@@ -33,7 +34,10 @@ use Rattle.syslog_named_forms.specs.Programs.{access_row, untagged_row}
 use Rattle.syslog_named_forms.specs.Programs.{hostless_row, passed_on, serial_row, severity_row, worded_row}
 use Rattle.syslog_sent.proofs.NamedLemmas.{hosted_det}
 use Rattle.syslog_named_forms.proofs.ProgramLemmas.{hostless_det, log_det, passed_on_det, severity_det, worded_det}
-use Rattle.syslog_named_forms.specs.Unified.{log_row}
+use Rattle.syslog_named_forms.specs.Unified.{compact_row, log_row}
+use Rattle.syslog_named_forms.specs.Devices.{addressed_row, titled_row}
+use Rattle.syslog_named_forms.specs.Graded.{graded_row, leveled_row}
+use Rattle.syslog_named_forms.proofs.DeviceLemmas.{addressed_det, compact_det, graded_det, leveled_det, titled_det}
 use Rattle.syslog_text.proofs.PieceLemmas.Class.{row_det}
 use Rattle.syslog_sent.proofs.FormLemmas.{found_later}
 
@@ -140,6 +144,21 @@ unified_tail_det = row_det log_row log_det
 pub serial_tail_det : IsDeterministic (Row serial_row)
 serial_tail_det = row_det serial_row serial_det
 
+pub addressed_tail_det : IsDeterministic (Row addressed_row)
+addressed_tail_det = row_det addressed_row addressed_det
+
+pub titled_tail_det : IsDeterministic (Row titled_row)
+titled_tail_det = row_det titled_row titled_det
+
+pub compact_tail_det : IsDeterministic (Row compact_row)
+compact_tail_det = row_det compact_row compact_det
+
+pub graded_tail_det : IsDeterministic (Row graded_row)
+graded_tail_det = row_det graded_row graded_det
+
+pub leveled_tail_det : IsDeterministic (Row leveled_row)
+leveled_tail_det = row_det leveled_row leveled_det
+
 not_marked : (m : Mark) {text rest : Text} {d : SentDate} → Front (Row front_row) text rest (tt, (d, (tt, tt)))
     → NoFront (message m) rest → NoDivision (dated_row (marked m) marked_of) text
 not_marked m f n = none_after dialect.Repeated (marked m) marked_of (marked_det m) f n
@@ -174,5 +193,7 @@ named_late Fs Gs d text (Some x) none is = in_second Fs Gs text x.0 (says d (nam
 
 -- where there is no such date
 pub none_dated : {text : Text} → NoFront (Row front_row) text → IsOfNone dated_forms text
-none_dated {text} n = none_joined (tail_forms message_tails) (tail_forms program_tails) text
-    (none_undated message_tails n) (none_undated program_tails n)
+none_dated {text} n = none_joined (tail_forms graded_tails) dated_marked_forms text (none_undated graded_tails n)
+    (none_joined (tail_forms message_tails) dated_program_forms text (none_undated message_tails n)
+    (none_joined (tail_forms program_tails) (tail_forms device_tails) text (none_undated program_tails n)
+    (none_undated device_tails n)))

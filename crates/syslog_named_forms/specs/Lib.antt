@@ -1,3 +1,5 @@
+pub mod Devices
+pub mod Graded
 pub mod Monotonic
 pub mod NearHeader
 pub mod NearHeaderViews

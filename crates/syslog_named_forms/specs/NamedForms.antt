@@ -4,6 +4,8 @@ use Rattle.syslog_text.specs.Pieces.Class.{Class, Values, Row, run, some_run, ma
 use Rattle.syslog_text.specs.Text.{is_blank}
 use Rattle.syslog_sent.specs.Date.{any_date}
 use Rattle.syslog_sent.specs.Named.{NamedTexts, beginning, hosted}
+use Rattle.syslog_named_forms.specs.Devices as devices
+use Rattle.syslog_named_forms.specs.Graded as graded
 use Rattle.syslog_named_forms.specs.Monotonic.{monotonic_form}
 use Rattle.syslog_named_forms.specs.NearHeader.{bare_form, heroku_form, nil_form, tag_form, vendor_form}
 use Rattle.syslog_named_forms.specs.Pairs.{pairs_form}
@@ -86,6 +88,29 @@ abbrev pub untagged_tail : Tail
 untagged_tail =
     record { dialect = dialect.Untagged; after = Row programs.untagged_row; names = programs.untagged_of }
 
+-- lines of devices
+abbrev pub addressed_tail : Tail
+addressed_tail = record { dialect = dialect.UniFi; after = Row devices.addressed_row; names = devices.addressed_of }
+
+abbrev pub titled_tail : Tail
+titled_tail = record { dialect = dialect.SpacedName; after = Row devices.titled_row; names = devices.titled_of }
+
+abbrev pub compact_tail : Tail
+compact_tail = record { dialect = dialect.UnifiedLog; after = Row unified.compact_row; names = unified.compact_of }
+
+abbrev pub device_tails : List Tail
+device_tails = addressed_tail ∷ titled_tail ∷ compact_tail ∷ []
+
+-- these begin with a bracket, so they are tried before the messages that do
+abbrev pub graded_tail : Tail
+graded_tail = record { dialect = dialect.SeverityFirst; after = Row graded.graded_row; names = graded.graded_of }
+
+abbrev pub leveled_tail : Tail
+leveled_tail = record { dialect = dialect.SeverityFirst; after = Row graded.leveled_row; names = graded.leveled_of }
+
+abbrev pub graded_tails : List Tail
+graded_tails = graded_tail ∷ leveled_tail ∷ []
+
 -- it is tried after the forms that have nothing of their own after the date
 abbrev pub spread_tail : Tail
 spread_tail = record { dialect = dialect.SpacedName; after = Row programs.spread_row; names = programs.spread_of }
@@ -117,15 +142,27 @@ undated_forms = undated_form dialect.Cef mark.Cef ∷ undated_form dialect.Leef 
 
 -- ---- all of them
 
+abbrev pub device_forms : List Form
+device_forms = tail_forms device_tails ++ undated_forms
+
 abbrev pub program_forms : List Form
-program_forms = tail_forms program_tails ++ undated_forms
+program_forms = tail_forms program_tails ++ device_forms
+
+abbrev pub marked_forms : List Form
+marked_forms = tail_forms message_tails ++ program_forms
 
 abbrev pub all_named : List Form
-all_named = tail_forms message_tails ++ program_forms
+all_named = tail_forms graded_tails ++ marked_forms
 
 -- those of them that begin with a date
+abbrev pub dated_program_forms : List Form
+dated_program_forms = tail_forms program_tails ++ tail_forms device_tails
+
+abbrev pub dated_marked_forms : List Form
+dated_marked_forms = tail_forms message_tails ++ dated_program_forms
+
 abbrev pub dated_forms : List Form
-dated_forms = tail_forms message_tails ++ tail_forms program_tails
+dated_forms = tail_forms graded_tails ++ dated_marked_forms
 
 abbrev pub spread_forms : List Form
 spread_forms = tail_forms (spread_tail ∷ [])

@@ -1,9 +1,12 @@
--- The columns that macOS's `log show` writes after the date: `0x74d Default 0x0 123 0 app: text`.
-use Rattle.std.specs.Prelude.{List, [], ◌∷◌, None, Some, codes}
-use Rattle.syslog_text.specs.Pieces.Class.{Class, Values, Row, exactly, mapped, rest, run, some_run, texted}
+-- The columns that macOS's `log show` writes after the date: `0x74d Default 0x0 123 0 app: text`, and those of its
+-- style `compact`: `Df app[123:74d] text`. 91 is `[`, 93 `]`.
+use Rattle.std.specs.Prelude.{◌&&◌, Bool, IsTrue, false, List, [], ◌∷◌, None, Some, codes}
+use Rattle.syslog_text.specs.Pieces.Class.{Text, Class, Values, Row, exactly, mapped, rest, run, some_run, texted}
+use Rattle.syslog_text.specs.Pieces.Rules.{such_that}
 use Rattle.syslog_text.specs.Text.{colon, is_blank}
-use Rattle.syslog_sent.specs.Named.{NamedTexts, name, tagged}
+use Rattle.syslog_sent.specs.Named.{NamedTexts, is_letter, name, tagged}
 use Rattle.syslog_sent.specs.Runs.{is_plain_char}
+use Rattle.syslog_sent.specs.Zone.{is_capital}
 use Rattle.syslog_named_forms.specs.Untagged.{some_digits}
 
 -- the thread, the type and the activity, with blanks after each
@@ -22,3 +25,29 @@ log_of (_, (id, (_, (_, (_, (app, (_, (_, (msg, _))))))))) = tagged None (record
 
 abbrev pub unified : Class
 unified = mapped (Row log_row) NamedTexts log_of
+
+-- ---- compact
+
+-- the type of an entry: a capital letter, or it and one letter more
+abbrev pub is_kind : Text → Bool
+is_kind [] = false
+is_kind (c ∷ []) = is_capital c
+is_kind (c ∷ d ∷ []) = is_capital c && is_letter d
+is_kind (c ∷ d ∷ e ∷ more) = false
+
+abbrev pub kind : Class
+kind = such_that (texted (some_run is_plain_char)) (λ t. IsTrue (is_kind t))
+
+-- the thread, and the bracket after it
+abbrev pub close_row : List Class
+close_row = exactly colon ∷ some_run is_plain_char ∷ exactly (93 ∷ []) ∷ []
+
+abbrev pub compact_row : List Class
+compact_row = kind ∷ some_run is_blank ∷ name ∷ exactly (91 ∷ []) ∷ texted some_digits ∷ Row close_row
+    ∷ some_run is_blank ∷ rest ∷ []
+
+abbrev pub compact_of : Values compact_row → NamedTexts
+compact_of (_, (_, (app, (_, (id, (_, (_, (msg, _)))))))) = tagged None (record { name = app; process = Some id }) msg
+
+abbrev pub compact : Class
+compact = mapped (Row compact_row) NamedTexts compact_of

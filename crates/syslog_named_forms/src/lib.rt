@@ -5,6 +5,8 @@
 //! head of its module and of its file in `specs/`.
 #![tactic(auto)]
 
+pub mod devices;
+mod graded;
 mod monotonic;
 pub mod named_forms;
 mod near_header;

@@ -13,6 +13,8 @@ ghost use Rattle.syslog_sent.specs.Sent.{loose, sent_value};
 ghost use Rattle.syslog_named_forms.specs.Untagged.{AreMarks, host_row};
 ghost use Rattle.syslog_sent.specs.Views.{named_value};
 
+use crate::devices::{addressed, titled};
+use crate::graded::{graded, leveled};
 use crate::monotonic::read_monotonic;
 use crate::near_header::{Start, head, read_bare, read_heroku, read_nil, read_tag, read_vendor};
 use crate::pairs::read_pairs;
@@ -20,7 +22,7 @@ use crate::programs::{
     after_serial, forwarded, hostless, of_access_point, severity_first, spread, untagged_message,
     worded,
 };
-use crate::unified::unified;
+use crate::unified::{compact, unified};
 use crate::untagged::{MARKS, Mark, MessageMarks, mark_end, message, past_host};
 use syslog_sent::dialect::Dialect;
 use syslog_sent::led::Led;
@@ -157,6 +159,41 @@ fn of_program<'a>(
     None
 }
 
+// Reads a line of a device after its date. `after_host` is what `past_host` returned for what follows the date.
+fn of_device<'a>(
+    rest: &'a str,
+    after_host: Option<(Option<&'a str>, &'a str)>,
+) -> Option<(Dialect, Named<'a>)>
+    ensures { Reads (Row host_row) (λ h. (seen h, (tt, tt))) (chars rest.entry.now) after_host.entry
+        → FindsNamed (spec.tail_forms spec.device_tails) (chars rest.entry.now) result }
+{
+    if let Some(named) = addressed(after_host) {
+        return Some((Dialect::UniFi, named));
+    }
+    if let Some(named) = titled(after_host) {
+        return Some((Dialect::SpacedName, named));
+    }
+    if let Some(named) = compact(rest) {
+        return Some((Dialect::UnifiedLog, named));
+    }
+    None
+}
+
+// Reads a line of a program or a device after its date. `after_host` is what `past_host` returned for what follows it.
+#[inline(always)]
+fn of_program_or_device<'a>(
+    rest: &'a str,
+    after_host: Option<(Option<&'a str>, &'a str)>,
+) -> Option<(Dialect, Named<'a>)>
+    ensures { Reads (Row host_row) (λ h. (seen h, (tt, tt))) (chars rest.entry.now) after_host.entry
+        → FindsNamed spec.dated_program_forms (chars rest.entry.now) result }
+{
+    if let Some(found) = of_program(rest, after_host) {
+        return Some(found);
+    }
+    of_device(rest, after_host)
+}
+
 // Reads what follows a date, if one of these marks begins a message there. `after_host` and `begun` are what `past_host`
 // and `MessageMarks::of` returned for it.
 fn of_marks<'a>(
@@ -180,17 +217,36 @@ fn of_marks<'a>(
     None
 }
 
-// Reads what follows a date and blanks: a message that a mark begins, or a program's line.
+// Reads what follows a date: a message that a mark begins, or a line of a program or a device. `after_host` is what
+// `past_host` returned for it.
 #[inline(always)]
-fn of_message(rest: &str) -> Option<(Dialect, Named<'_>)>
-    ensures { FindsNamed spec.dated_forms (chars rest.now) result }
+fn of_message<'a>(
+    rest: &'a str,
+    after_host: Option<(Option<&'a str>, &'a str)>,
+) -> Option<(Dialect, Named<'a>)>
+    ensures { Reads (Row host_row) (λ h. (seen h, (tt, tt))) (chars rest.entry.now) after_host.entry
+        → FindsNamed spec.dated_marked_forms (chars rest.entry.now) result }
 {
-    let after_host = past_host(rest);
     let begun = MessageMarks::of(rest, after_host);
     if let Some(found) = of_marks(&MARKS, begun, rest, after_host) {
         return Some(found);
     }
-    of_program(rest, after_host)
+    of_program_or_device(rest, after_host)
+}
+
+// Reads what follows a date and blanks.
+#[inline(always)]
+fn of_dated(rest: &str) -> Option<(Dialect, Named<'_>)>
+    ensures { FindsNamed spec.dated_forms (chars rest.now) result }
+{
+    let after_host = past_host(rest);
+    if let Some(named) = graded(rest) {
+        return Some((Dialect::SeverityFirst, named));
+    }
+    if let Some(named) = leveled(after_host) {
+        return Some((Dialect::SeverityFirst, named));
+    }
+    of_message(rest, after_host)
 }
 
 // Reads what follows a date that begins a line.
@@ -199,7 +255,7 @@ fn after_led(led: Led<'_>) -> Option<(Dialect, Sent<'_>)>
     ensures { (text : Text) → IsLed text led.entry → Finds spec.dated_forms text result }
 {
     let rest = some_blanks(led.rest)?;
-    let (dialect, named) = of_message(rest)?;
+    let (dialect, named) = of_dated(rest)?;
     Some((dialect, sent(led.sent, named)))
 }
 

@@ -1,18 +1,21 @@
-//! Lines of macOS's unified log after the date: `0x74d Default 0x0 123 0 app: text`.
+//! Lines of macOS's unified log after the date: `0x74d Default 0x0 123 0 app: text`, `Df app[123:74d] text`.
 //!
 //! **Rule.** `log show` writes these columns in its default style (log(1)): thread, type, activity, process id, and how
-//! long the entry is kept. They name no host.
-ghost use Rattle.std.specs.Prelude.{chars, codes};
+//! long the entry is kept. In its style `compact` these are the type, the program, the process id and the thread. They
+//! name no host.
+ghost use Rattle.std.specs.Prelude.{◌≡◌, ◌∷◌, [], chars, codes};
 ghost use Rattle.syslog_text.specs.Pieces.Class.{Row, exactly, some_run, texted};
-ghost use Rattle.syslog_text.specs.Text.{is_blank};
+ghost use Rattle.syslog_text.specs.Text.{colon as colon_text, is_blank};
 ghost use Rattle.syslog_text.specs.Pieces.View.{Reads, Recognises, shown};
 ghost use Rattle.syslog_named_forms.specs.Unified as spec;
 ghost use Rattle.syslog_named_forms.specs.Untagged.{some_digits};
 ghost use Rattle.syslog_sent.specs.Views.{Names, named_value};
+ghost use Rattle.syslog_sent.specs.Zone.{is_capital as is_capital_char};
 
 use crate::untagged::{digits, topic_word};
 use syslog_sent::named::{Named, Program, name, past, tagged};
-use syslog_text::text::{CharClass, blanks, literal, some_blanks, split_run};
+use syslog_sent::runs::{Run, split};
+use syslog_text::text::{CharClass, blanks, first, literal, some_blanks, split_run};
 
 fn hex_mark(text: &str) -> Option<&str>
     ensures { Recognises (exactly (codes "0x")) (chars text.now) result }
@@ -69,4 +72,72 @@ pub(crate) fn unified(text: &str) -> Option<Named<'_>>
         process: Some(process),
     };
     Some(tagged(None, program, blanks(rest)))
+}
+
+fn is_capital(c: char) -> bool
+    ensures { result ≡ is_capital_char c }
+{
+    'A' <= c && c <= 'Z'
+}
+
+// Whether the word is a capital letter, or it and one letter more.
+fn is_kind(word: &str) -> bool
+    ensures { result ≡ spec.is_kind (chars word.now) }
+{
+    let Some((c, after_c)) = first(word) else {
+        return false;
+    };
+    let Some((d, after_d)) = first(after_c) else {
+        return is_capital(c);
+    };
+    match first(after_d) {
+        Some(_) => false,
+        None => is_capital(c) && d.is_ascii_alphabetic(),
+    }
+}
+
+// Returns the text after the type of an entry.
+fn kind(text: &str) -> Option<&str>
+    ensures { Recognises spec.kind (chars text.now) result }
+{
+    let (word, rest) = split(text, Run::Plain);
+    is_kind(word).then_some(rest)
+}
+
+fn colon(text: &str) -> Option<&str>
+    ensures { Recognises (exactly colon_text) (chars text.now) result }
+{
+    literal(text, ':')
+}
+
+fn close_bracket(text: &str) -> Option<&str>
+    ensures { Recognises (exactly (93 ∷ [])) (chars text.now) result }
+{
+    literal(text, ']')
+}
+
+// Returns the text after a thread and the bracket that follows it.
+fn thread_close(text: &str) -> Option<&str>
+    ensures { Recognises (Row spec.close_row) (chars text.now) result }
+{
+    colon(text).and_then(topic_word).and_then(close_bracket)
+}
+
+/// Reads a line of the unified log in the style `compact`, from its type on.
+#[inline(always)]
+pub(crate) fn compact(text: &str) -> Option<Named<'_>>
+    ensures { Names spec.compact named_value (chars text.now) result }
+{
+    let after_kind = kind(text)?;
+    let at_name = some_blanks(after_kind)?;
+    let (name, after_name) = name(at_name)?;
+    let at_id = literal(after_name, '[')?;
+    let (process, after_id) = id(at_id)?;
+    let after_thread = thread_close(after_id)?;
+    let msg = some_blanks(after_thread)?;
+    let program = Program {
+        name,
+        process: Some(process),
+    };
+    Some(tagged(None, program, msg))
 }

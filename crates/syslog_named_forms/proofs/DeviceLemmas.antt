@@ -1,0 +1,59 @@
+-- A text has one division into each row of a device's line, and of a line with a severity in brackets or in angles.
+use Rattle.std.specs.Char.{is_ascii_digit}
+use Rattle.std.specs.Prelude.{IsTrue}
+use Rattle.syslog_text.specs.Pieces.Class.{IsDeterministic, Row, some_run, texted}
+use Rattle.syslog_text.specs.Text.{is_blank, is_tag_char}
+use Rattle.syslog_text.proofs.PieceLemmas.Class.{AllDeterministic, ◌also◌, exactly_det, rest_det, row_det, run_det}
+use Rattle.syslog_text.proofs.PieceLemmas.Class.{some_run_det, texted_det}
+use Rattle.syslog_text.proofs.PieceLemmas.Rules.{such_det}
+use Rattle.syslog_text.proofs.TextLemmas.Words.{host_det}
+use Rattle.syslog_sent.proofs.NamedLemmas.{name_det, program_det}
+use Rattle.syslog_sent.specs.Runs.{is_plain_char}
+use Rattle.syslog_sent.specs.Zone.{bare_word}
+use Rattle.syslog_named_forms.specs.Devices.{addressed_row, opens_address, point_word, title_row, titled_row}
+use Rattle.syslog_named_forms.specs.Graded.{grade_row, graded_row, level_row, leveled_row}
+use Rattle.syslog_named_forms.specs.Unified.{close_row, compact_row, is_kind, kind}
+use Rattle.syslog_named_forms.specs.Untagged.{some_digits}
+
+pub point_word_det : IsDeterministic point_word
+point_word_det = such_det bare_word (λ t. IsTrue (opens_address t))
+    (texted_det (some_run is_tag_char) (some_run_det is_tag_char))
+
+pub addressed_det : AllDeterministic addressed_row
+addressed_det = host_det also some_run_det is_blank also point_word_det also exactly_det _ also some_run_det is_blank
+    also program_det also run_det is_blank also rest_det also tt
+
+pub title_det : AllDeterministic title_row
+title_det = exactly_det _ also some_run_det is_ascii_digit also tt
+
+pub titled_det : AllDeterministic titled_row
+titled_det = host_det also some_run_det is_blank also texted_det (Row title_row) (row_det title_row title_det)
+    also exactly_det _ also run_det is_blank also rest_det also tt
+
+kind_det : IsDeterministic kind
+kind_det = such_det (texted (some_run is_plain_char)) (λ t. IsTrue (is_kind t))
+    (texted_det (some_run is_plain_char) (some_run_det is_plain_char))
+
+pub close_det : AllDeterministic close_row
+close_det = exactly_det _ also some_run_det is_plain_char also exactly_det _ also tt
+
+pub compact_det : AllDeterministic compact_row
+compact_det = kind_det also some_run_det is_blank also name_det also exactly_det _
+    also texted_det some_digits (some_run_det is_ascii_digit) also row_det close_row close_det
+    also some_run_det is_blank
+    also rest_det also tt
+
+pub grade_det : AllDeterministic grade_row
+grade_det = exactly_det _ also some_run_det is_plain_char also exactly_det _ also some_run_det is_plain_char
+    also exactly_det _ also tt
+
+pub graded_det : AllDeterministic graded_row
+graded_det = row_det grade_row grade_det also some_run_det is_blank also host_det also some_run_det is_blank
+    also program_det also run_det is_blank also rest_det also tt
+
+pub level_det : AllDeterministic level_row
+level_det = exactly_det _ also some_run_det is_plain_char also run_det is_blank also exactly_det _ also tt
+
+pub leveled_det : AllDeterministic leveled_row
+leveled_det = host_det also some_run_det is_blank also row_det level_row level_det also some_run_det is_blank
+    also program_det also run_det is_blank also rest_det also tt

@@ -1,0 +1,101 @@
+//! Lines of devices that write more than a program's name between the host and the message.
+//!
+//! **Rule.** UniFi access points from version 6 on write address, model and version after their name (Ubiquiti, "Remote
+//! syslog"): `U6-Pro 788a20a1b2c3,U6-Pro-6.5.28+14491: hostapd[1234]: text`. HPE's management boards name themselves
+//! with their generation (iLO User Guide, "Remote Syslog"): `ilo7 #ILO 5: text`.
+ghost use Rattle.std.specs.Prelude.{◌≡◌, chars, codes};
+ghost use Rattle.syslog_text.specs.Pieces.Class.{Row, Text, exactly, texted};
+ghost use Rattle.syslog_text.specs.Pieces.View.{Reads, Recognises, seen, shown};
+ghost use Rattle.syslog_named_forms.specs.Devices as spec;
+ghost use Rattle.syslog_named_forms.specs.Untagged.{host_row};
+ghost use Rattle.syslog_sent.specs.Views.{Names, named_value};
+
+use crate::untagged::digits;
+use syslog_sent::named::{Named, Program, past, read_program, tagged};
+use syslog_text::text::verbatim::before;
+use syslog_text::text::{CharClass, blanks, first, literal, some_blanks, split_run};
+
+fn is_hex(c: char) -> bool
+    ensures { result ≡ spec.is_hex c }
+{
+    c.is_ascii_digit() || (('A' <= c && c <= 'F') || ('a' <= c && c <= 'f'))
+}
+
+/// Returns whether twelve hexadecimal digits and a comma begin the text, as the address of an access point.
+pub fn opens_address(text: &str) -> bool
+    ensures { result ≡ spec.opens_address (chars text.now) }
+{
+    let mut rest = text;
+    let mut seen = 0_u32;
+    'characters: while let Some((c, more)) = first(rest) {
+        if seen == 12 {
+            return c == ',';
+        }
+        if !is_hex(c) {
+            return false;
+        }
+        seen += 1;
+        rest = more;
+    }
+    false
+}
+
+/// Returns the text after the address, the model and the version of an access point.
+pub fn point_word(text: &str) -> Option<&str>
+    ensures { Recognises spec.point_word (chars text.now) result }
+{
+    let (word, rest) = split_run(text, CharClass::Tag);
+    opens_address(word).then_some(rest)
+}
+
+/// Reads a line of an access point after its name. `after_host` is what `past_host` returned for the line.
+#[inline(always)]
+pub(crate) fn addressed<'a>(after_host: Option<(Option<&'a str>, &'a str)>) -> Option<Named<'a>>
+    ensures { (text : Text) → Reads (Row host_row) (λ h. (seen h, (tt, tt))) text after_host.entry
+        → Names spec.addressed named_value text result }
+{
+    let (hostname, at_point) = after_host?;
+    let after_point = point_word(at_point)?;
+    let after_colon = literal(after_point, ':')?;
+    let before_program = some_blanks(after_colon)?;
+    let (program, rest) = read_program(before_program)?;
+    Some(tagged(hostname, program, blanks(rest)))
+}
+
+fn board(text: &str) -> Option<&str>
+    ensures { Recognises (exactly (codes "#ILO ")) (chars text.now) result }
+{
+    past(text, "#ILO ")
+}
+
+// Returns the text after the name of a management board.
+fn title_end(text: &str) -> Option<&str>
+    ensures { Recognises (Row spec.title_row) (chars text.now) result }
+{
+    board(text).and_then(digits)
+}
+
+// Returns that name, and the text after it.
+fn title(text: &str) -> Option<(&str, &str)>
+    ensures { Reads (texted (Row spec.title_row)) (λ t. shown t) (chars text.now) result }
+{
+    let rest = title_end(text)?;
+    let name = before(text, rest);
+    Some((name, rest))
+}
+
+/// Reads a line of a management board. `after_host` is what `past_host` returned for the line.
+#[inline(always)]
+pub(crate) fn titled<'a>(after_host: Option<(Option<&'a str>, &'a str)>) -> Option<Named<'a>>
+    ensures { (text : Text) → Reads (Row host_row) (λ h. (seen h, (tt, tt))) text after_host.entry
+        → Names spec.titled named_value text result }
+{
+    let (hostname, at_title) = after_host?;
+    let (name, after_title) = title(at_title)?;
+    let rest = literal(after_title, ':')?;
+    let program = Program {
+        name,
+        process: None,
+    };
+    Some(tagged(hostname, program, blanks(rest)))
+}
