@@ -6,6 +6,7 @@ use Rattle.syslog_text.specs.Pieces.Class.{optional, run, some_run}
 use Rattle.syslog_text.specs.Pieces.Rules.{such_that}
 use Rattle.syslog_text.specs.Text.{is_blank, colon}
 use Rattle.syslog_text.proofs.PieceLemmas.Class.{AllDeterministic, ◌also◌, exactly_det, optional_det, mapped_det}
+use Rattle.syslog_text.proofs.PieceLemmas.Class.{front_of, front_same}
 use Rattle.syslog_text.proofs.PieceLemmas.Class.{row_det}
 use Rattle.syslog_text.proofs.PieceLemmas.Class.{run_det, some_run_det, rest_det, ◌then◌, no_row_division}
 use Rattle.syslog_text.proofs.PieceLemmas.Class.{row_none_here, row_of}
@@ -13,6 +14,7 @@ use Rattle.syslog_text.proofs.PieceLemmas.Rules.{exactly_apart, or_det, such_det
 use Rattle.syslog_text.proofs.PieceLemmas.Rules.{such_front}
 use Rattle.syslog_pieces.proofs.TimestampLemmas.Rfc3339.{year_det}
 use Rattle.syslog_dated_forms.specs.Cisco.{begins_host, IsMnemonic, origin, mnemonic, counter_row, label_row, label}
+use Rattle.syslog_dated_forms.specs.Cisco.{begins_mnemonic, unit, unit_row}
 use Rattle.syslog_dated_forms.specs.Cisco.{task_row, mark, start_row, labelled, start, front_year_row, front_year}
 use Rattle.syslog_dated_forms.specs.Cisco.{date_row}
 use Rattle.syslog_dated_forms.specs.Cisco.{place_row, place, message_row, cisco_row, IsAsa, IsNxOs}
@@ -21,6 +23,7 @@ use Rattle.syslog_sent.specs.Forms.{IsOfNone, IsOnlyOf}
 use Rattle.syslog_sent.specs.Sent.{SentValue}
 use Rattle.syslog_sent.specs.declared.dialect.Dialect.TheVariants.{CiscoAsa, CiscoIos, CiscoNxOs}
 use Rattle.syslog_sent.specs.Named.{BeginsWith}
+use Rattle.syslog_sent.specs.Runs.{is_plain_char}
 use Rattle.syslog_sent.specs.Zone.{bare_word}
 use Rattle.syslog_sent.proofs.DateLemmas.{any_date_det}
 use Rattle.syslog_sent.proofs.DialectLemmas.{here, later}
@@ -77,10 +80,30 @@ pub date_row_det : AllDeterministic date_row
 date_row_det = optional_det front_year (mapped_det (Row front_year_row) ℕ _ (row_det front_year_row front_year_row_det))
     also any_date_det also tt
 
+pub unit_row_det : AllDeterministic unit_row
+unit_row_det = exactly_det _ also some_run_det is_plain_char also colon_det also some_run_det is_plain_char also gap_det
+    also tt
+
+unit_det : IsDeterministic unit
+unit_det p q p' q' v v' e h h' = row_det unit_row unit_row_det p q p' q' v v' e h.0 h'.0
+
+pub unit_front : {t q : Text} {v : Values unit_row} → Front (Row unit_row) t q v → BeginsWith begins_mnemonic q
+    → Front unit t q v
+unit_front f begins = front_of f.piece f.whole (f.is, begins)
+
+pub no_unit : {t : Text} → NoFront (Row unit_row) t → NoFront unit t
+no_unit n p q v e h = n p q v e h.0
+
+-- where something else follows
+pub not_unit : {t q : Text} {v : Values unit_row} → Front (Row unit_row) t q v → (BeginsWith begins_mnemonic q → ⊥)
+    → NoFront unit t
+not_unit f n p q v e h = n (subst (λ (x : Text). BeginsWith begins_mnemonic x)
+    (front_same (Row unit_row) (row_det unit_row unit_row_det) (front_of p e h.0) f).0 h.1)
+
 place_row_det : AllDeterministic place_row
 place_row_det = blanks_det also optional_det origin origin_det also blanks_det also optional_det (exactly colon)
     colon_det
-    also blanks_det also tt
+    also blanks_det also optional_det unit unit_det also tt
 
 place_det : IsDeterministic place
 place_det = mapped_det (Row place_row) (Option Text) _ (row_det place_row place_row_det)

@@ -34,7 +34,9 @@ use Rattle.syslog_dated_forms.specs.Cisco.{message_row, start, start_row, task_r
 use Rattle.syslog_dated_forms.specs.Undated.{IsName, IsUptime, name_label, run_clock_row, run_word_row, undated_row, uptime}
 use Rattle.syslog_sent.specs.Date.{bsd_row}
 use Rattle.syslog_sent.specs.Date.{IsDay, day_words, weekday}
-use Rattle.syslog_dated_forms.specs.Dated.{ctime_row, journal_row}
+use Rattle.syslog_dated_forms.specs.Dated.{ctime_message_row, ctime_row, journal_row, year_date, year_date_row}
+use Rattle.syslog_dated_forms.specs.Dated.{year_row}
+use Rattle.syslog_dated_forms.specs.Cisco.{dated_in}
 use Rattle.syslog_dated_forms.specs.DatedForms.{journal_forms}
 use Rattle.syslog_sent.specs.Forms.{IsOfNone}
 use Rattle.syslog_dated_forms.specs.IosXr.{IsNode, card_row, host, host_in, host_row, node, xr_row}
@@ -48,7 +50,8 @@ use Rattle.syslog_sent.specs.Zone.{bare_word, is_among}
 use Rattle.syslog_sent.specs.declared.sent.SentDate.{SentDate}
 use Rattle.syslog_dated_forms.proofs.CiscoLemmas.{counter_row_det, front_year_row_det, message_row_det, task_row_det}
 use Rattle.syslog_dated_forms.proofs.UndatedLemmas.{run_clock_row_det, run_word_row_det, undated_row_det}
-use Rattle.syslog_dated_forms.proofs.DatedLemmas.{ctime_line_det, journal_line_det}
+use Rattle.syslog_dated_forms.proofs.DatedLemmas.{ctime_line_det, ctime_message_det, journal_line_det, year_date_det}
+use Rattle.syslog_dated_forms.proofs.DatedLemmas.{year_line_det}
 use Rattle.syslog_sent.proofs.LedLemmas.{year_begins}
 use Rattle.syslog_sent.proofs.NamedLemmas.{ascii_told}
 use Rattle.syslog_dated_forms.proofs.OtherDateLemmas.{card_row_det, colon_row_det, logread_row_det, netscaler_row_det}
@@ -336,6 +339,11 @@ module _ {text t : Text} (gap : Front (run is_blank) text t tt) (m : HasMonth t)
   no_unix = no_such_front (number 4294967295) IsLate
       (no_digits m (number 4294967295) (λ p q v h. (h.0, h.1)))
 
+  no_year_date : NoFront year_date t
+  no_year_date = no_mapped (Row year_date_row) SentDate (λ v. dated_in (Some v.0) v.1.0)
+      (no_row year_date_row year_date_det
+      (inl (no_mapped (Row front_year_row) ℕ _ (no_row front_year_row front_year_row_det (inl (no_year m))))))
+
   pub no_xr : NoDivision xr_row text
   no_xr = no_row_division xr_row (no_row xr_row xr_row_det (inl (no_mapped (Row card_row) (Option Text) host_in
       (no_row card_row card_row_det (gap past optional_none (Row counter_row) (no_counter m)
@@ -354,21 +362,27 @@ module _ {text t : Text} (gap : Front (run is_blank) text t tt) (m : HasMonth t)
         (
           no_row_division logread_row (no_row logread_row logread_row_det (gap past inl no_weekday)),
           (
-            no_row_division ctime_row (no_row ctime_row ctime_line_det (gap past inl no_weekday)),
+            no_row_division ctime_message_row (no_row ctime_message_row ctime_message_det (gap past inl no_weekday)),
             (
-              no_row_division meraki_row (no_row meraki_row meraki_row_det (gap past inl (no_char m 49 (omega arith)))),
+              no_row_division ctime_row (no_row ctime_row ctime_line_det (gap past inl no_weekday)),
               (
-                no_row_division short_row (no_row short_row short_row_det (gap past inl
-                    (no_mapped (Row unix_row) SentDate unix_of (no_row unix_row unix_row_det (inl no_unix))))),
+                no_row_division year_row (no_row year_row year_line_det (gap past inl no_year_date)),
                 (
-                  no_row_division undated_row (no_row undated_row undated_row_det (gap
-                      past optional_none (exactly colon) (no_char m 58 (omega arith)) past no_blank m
-                      past optional_none (Row counter_row) (no_counter m)
-                      past optional_none (Row counter_row) (no_counter m)
-                      past optional_none name_label (no_such_front label IsName (no_label m))
-                      past optional_none uptime (no_uptime m)
-                      past inl (no_row message_row message_row_det (inl no_mnemonic)))),
-                  tt,
+                  no_row_division meraki_row (no_row meraki_row meraki_row_det (gap past inl (no_char m 49 (omega arith)))),
+                  (
+                    no_row_division short_row (no_row short_row short_row_det (gap past inl
+                        (no_mapped (Row unix_row) SentDate unix_of (no_row unix_row unix_row_det (inl no_unix))))),
+                    (
+                      no_row_division undated_row (no_row undated_row undated_row_det (gap
+                          past optional_none (exactly colon) (no_char m 58 (omega arith)) past no_blank m
+                          past optional_none (Row counter_row) (no_counter m)
+                          past optional_none (Row counter_row) (no_counter m)
+                          past optional_none name_label (no_such_front label IsName (no_label m))
+                          past optional_none uptime (no_uptime m)
+                          past inl (no_row message_row message_row_det (inl no_mnemonic)))),
+                      tt,
+                    ),
+                  ),
                 ),
               ),
             ),

@@ -2,8 +2,8 @@
 --
 -- Each ends in `%FACILITY-SEVERITY-MNEMONIC: text` ("System Message Format" in the guides of IOS, NX-OS and ASA).
 -- Before it come, if the system is so configured: a counter, a sequence number, the host, the task (WLC), a mark, the
--- date, and the host (ASA, FTD). The mark is `*` for a clock that was never set, and `.` for one that has lost its
--- server. NX-OS has the year before the month.
+-- date, the host (ASA, FTD), and a unit (Dell's OS9, which writes as IOS does). The mark is `*` for a clock that was
+-- never set, and `.` for one that has lost its server. NX-OS has the year before the month.
 use Rattle.std.specs.Prelude.{◌≡◌, ◌⊎◌, ◌||◌, ◌&&◌, ℕ, nat_eq, Bool, true, List, [], ◌∷◌, Option, Some, None}
 use Rattle.std.specs.Prelude.{codes, not}
 use Rattle.std.specs.Option.{is_some}
@@ -15,6 +15,7 @@ use Rattle.syslog_text.specs.Text.{is_blank, colon}
 use Rattle.syslog_pieces.specs.Timestamp.Rfc3339.{year}
 use Rattle.syslog_sent.specs.Date.{any_date, in_year}
 use Rattle.syslog_sent.specs.Named.{BeginsWith, is_letter}
+use Rattle.syslog_sent.specs.Runs.{is_plain_char}
 use Rattle.syslog_sent.specs.Sent.{Form, SentValue, loose}
 use Rattle.syslog_sent.specs.Zone.{bare_word}
 use Rattle.syslog_sent.specs.declared.dialect.Dialect.TheVariants.{CiscoAsa, CiscoIos, CiscoNxOs}
@@ -92,8 +93,18 @@ date_row = optional front_year ∷ any_date ∷ []
 
 -- ---- after the date
 
+-- a unit of Dell's OS9, where a mnemonic may follow it: `%STKUNIT0-M:CP `
+abbrev pub unit_row : List Class
+unit_row = exactly (37 ∷ []) ∷ some_run is_plain_char ∷ exactly colon ∷ some_run is_plain_char ∷ some_run is_blank ∷ []
+
+abbrev pub unit : Class
+unit = record {
+  Value = Values unit_row;
+  Is = λ p q v. (Row unit_row).Is p q v × BeginsWith begins_mnemonic q;
+}
+
 abbrev pub place_row : List Class
-place_row = run is_blank ∷ optional origin ∷ run is_blank ∷ optional (exactly colon) ∷ run is_blank ∷ []
+place_row = run is_blank ∷ optional origin ∷ run is_blank ∷ optional (exactly colon) ∷ run is_blank ∷ optional unit ∷ []
 
 -- the host, where it comes after the date
 abbrev pub place : Class

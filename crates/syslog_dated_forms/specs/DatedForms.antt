@@ -2,7 +2,7 @@
 use Rattle.std.specs.Prelude.{List, [], ◌∷◌, ◌++◌}
 use Rattle.syslog_dated_forms.specs.Cisco.{cisco_forms}
 use Rattle.syslog_dated_forms.specs.Container.{container_form}
-use Rattle.syslog_dated_forms.specs.Dated.{bsd_form, ctime_form, iso_form, journal_form}
+use Rattle.syslog_dated_forms.specs.Dated.{bsd_form, ctime_form, ctime_message_form, iso_form, journal_form, year_form}
 use Rattle.syslog_dated_forms.specs.Esxi.{esxi_form}
 use Rattle.syslog_dated_forms.specs.Filed.{filed_forms}
 use Rattle.syslog_dated_forms.specs.IosXr.{xr_form}
@@ -23,11 +23,17 @@ short_forms = short_form ∷ undated_forms
 abbrev pub meraki_forms : List Form
 meraki_forms = meraki_form ∷ short_forms
 
+abbrev pub year_forms : List Form
+year_forms = year_form ∷ meraki_forms
+
 abbrev pub ctime_forms : List Form
-ctime_forms = ctime_form ∷ meraki_forms
+ctime_forms = ctime_form ∷ year_forms
+
+abbrev pub ctime_message_forms : List Form
+ctime_message_forms = ctime_message_form ∷ ctime_forms
 
 abbrev pub logread_forms : List Form
-logread_forms = logread_form ∷ ctime_forms
+logread_forms = logread_form ∷ ctime_message_forms
 
 abbrev pub utm_forms : List Form
 utm_forms = utm_form ∷ logread_forms

@@ -1,4 +1,4 @@
-//! Lines of Cisco's systems: IOS, IOS-XE, NX-OS, ASA, FTD and WLC.
+//! Lines of Cisco's systems: IOS, IOS-XE, NX-OS, ASA, FTD and WLC. Dell's OS9 writes as IOS does, and names a unit.
 //!
 //! **Rule.** The app name is `%FACILITY-SEVERITY-MNEMONIC`, and the message is what follows its colon. Counters,
 //! sequence numbers, tasks and the mark of a clock that is not right are left out. The host is the name before the
@@ -7,7 +7,7 @@
 //!
 //! `<189>29: *Mar  1 18:48:50.483: %SYS-5-CONFIG_I: text`, `<187>4211: core-sw1: Mar  1 18:48:50 CET: %LINK-3-UPDOWN:
 //! text`, `<189>: 2026 Mar  1 18:48:50 CET: %ETHPORT-5-IF_DOWN: text`, `<166>Mar 01 2026 18:48:50 asa1 : %ASA-6-302013:
-//! text`.
+//! text`, `<189>Mar  2 06:33:04 s4810 %STKUNIT0-M:CP %SEC-5-LOGIN_SUCCESS: text`.
 ghost use Rattle.std.specs.Prelude.{◌≡◌, ◌++◌, ◌∷◌, [], chars, IsTrue, MatchBool, MatchOption, Option, Some, ℕ};
 ghost use Rattle.std.specs.Char.{is_ascii_digit};
 ghost use Rattle.syslog_text.specs.Pieces.Class.{Front, NoFront, Row, Text, exactly, optional, run, some_run};
@@ -18,7 +18,7 @@ ghost use Rattle.syslog_dated_forms.specs.CiscoViews.{cisco_values, message_valu
 ghost use Rattle.syslog_sent.specs.Forms.{Finds};
 ghost use Rattle.syslog_sent.specs.Led.{IsFront, IsLed};
 ghost use Rattle.syslog_sent.specs.Named.{BeginsWith};
-ghost use Rattle.syslog_sent.specs.Runs.{are_ascii};
+ghost use Rattle.syslog_sent.specs.Runs.{are_ascii, is_plain_char};
 ghost use Rattle.syslog_sent.specs.Sent.{Sends, sent_value};
 ghost use Rattle.syslog_sent.specs.Zone.{bare_word as any_word};
 ghost use Rattle.syslog_dated_forms.specs.Cisco as spec;
@@ -29,6 +29,7 @@ use syslog_sent::date::any_date;
 use syslog_sent::dialect::Dialect;
 use syslog_sent::led::{LeadingDate, Led};
 use syslog_sent::named::past;
+use syslog_sent::runs::{Run, split};
 use syslog_sent::sent::{Sent, SentDate};
 use syslog_sent::zone::bare_word;
 use syslog_text::text::{
@@ -255,7 +256,7 @@ fn start(text: &str) -> (Option<&str>, &str)
 }
 
 // Returns a year before blanks, and the text after these.
-fn front_year(text: &str) -> Option<(u16, &str)>
+pub(crate) fn front_year(text: &str) -> Option<(u16, &str)>
     ensures { Reads spec.front_year (λ y. y) (chars text.now) result }
 {
     let (year, rest) = year(text)?;
@@ -272,12 +273,57 @@ pub(crate) fn optional_front_year(text: &str) -> (Option<u16>, &str)
     }
 }
 
+fn percent(text: &str) -> Option<&str>
+    ensures { Recognises (exactly (37 ∷ [])) (chars text.now) result }
+{
+    literal(text, '%')
+}
+
+fn plain(text: &str) -> Option<&str>
+    ensures { Recognises (some_run is_plain_char) (chars text.now) result }
+{
+    let (run, rest) = split(text, Run::Plain);
+    if run.is_empty() { None } else { Some(rest) }
+}
+
+// Returns the text after a unit and blanks.
+fn unit_end(text: &str) -> Option<&str>
+    ensures { Recognises (Row spec.unit_row) (chars text.now) result }
+{
+    percent(text)
+        .and_then(plain)
+        .and_then(colon)
+        .and_then(plain)
+        .and_then(gap)
+}
+
+// Returns the text after a unit, where a mnemonic may follow it.
+fn unit(text: &str) -> Option<&str>
+    ensures { Recognises spec.unit (chars text.now) result }
+{
+    let rest = unit_end(text)?;
+    if !begins_with_mark(rest) {
+        return None;
+    }
+    Some(rest)
+}
+
+// Returns the text after a unit, and all of it if it begins with none.
+fn past_unit(text: &str) -> &str
+    ensures { (v : (optional spec.unit).Value) × Front (optional spec.unit) (chars text.now) (shown result) v }
+{
+    match unit(text) {
+        Some(rest) => rest,
+        None => text,
+    }
+}
+
 // Reads what comes after the date: returns the host, if it comes there, and the text after it.
 fn place(text: &str) -> (Option<&str>, &str)
     ensures { Front spec.place (chars text.now) (shown result.1) (seen result.0) }
 {
     let (host, rest) = optional_origin(blanks(text));
-    (host, blanks(past_colon(blanks(rest))))
+    (host, past_unit(blanks(past_colon(blanks(rest)))))
 }
 
 /// Reads a mnemonic, a colon and the message: returns the mnemonic and the message.

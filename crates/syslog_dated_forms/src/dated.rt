@@ -7,10 +7,13 @@
 //! - H3C and ArubaOS: `Mar  2 06:33:04 2026 h app: text`
 //! - `journalctl -o short-iso`, Huawei and log4j: `2026-03-02T06:33:04+0100 h app[1]: text`, `2026-03-02 06:33:04,123 h
 //!   ..`
-//! - programs that write dates by `ctime`: `Mon Mar  2 06:33:04 2026 h app: text`
+//! - programs that write dates by `ctime`: `Mon Mar  2 06:33:04 2026 h app: text`; a message may begin with a bracket at
+//!   once, as Apache's `[info] text`
+//! - the log files of NX-OS: `2026 Mar  2 06:33:04 h app: text`
 //! - `journalctl -o short-full`: `Mon 2026-03-02 06:33:04 CET h app[1]: text`
 ghost use Rattle.std.specs.Prelude.{◌≡◌, chars, true};
 ghost use Rattle.syslog_text.specs.Pieces.Class.{Front, Row, Text, run};
+ghost use Rattle.syslog_text.specs.Pieces.View.{Reads};
 ghost use Rattle.syslog_text.specs.Text.{is_blank};
 ghost use Rattle.syslog_sent.specs.Date.{bsd_row as date_row, iso_date as date_class};
 ghost use Rattle.syslog_sent.specs.DateViews.{bsd_values};
@@ -18,11 +21,12 @@ ghost use Rattle.syslog_sent.specs.Sent.{Sends, sent_value};
 ghost use Rattle.syslog_dated_forms.specs.TailViews.{tail_value};
 ghost use Rattle.syslog_dated_forms.specs.Dated as spec;
 
+use crate::cisco::{dated_in, front_year};
 use crate::tail::{Tail, read_wide_tail};
 use syslog_pieces::timestamp::header_stamp;
-use syslog_sent::date::{BsdDate, bsd_date, iso_date, weekday};
+use syslog_sent::date::{BsdDate, any_date, bsd_date, iso_date, weekday};
 use syslog_sent::sent::{Sent, SentDate};
-use syslog_text::text::{blanks, some_blanks};
+use syslog_text::text::{blanks, literal, some_blanks};
 
 /// Returns what a line says that has this date and this text after it.
 pub(crate) fn says<'a>(date: SentDate, tail: Tail<'a>) -> Sent<'a>
@@ -78,5 +82,42 @@ pub(crate) fn read_ctime(text: &str) -> Option<Sent<'_>>
     let after_day = weekday(blanks(text))?;
     let after_gap = some_blanks(after_day)?;
     let (date, rest) = bsd_date(after_gap)?;
+    Some(says(date, read_wide_tail(rest)))
+}
+
+/// Returns what a line says whose message begins with a bracket after such a date.
+pub(crate) fn read_ctime_message(text: &str) -> Option<Sent<'_>>
+    ensures { Sends spec.ctime_message_form (chars text.now) result }
+{
+    let after_day = weekday(blanks(text))?;
+    let after_gap = some_blanks(after_day)?;
+    let (date, after_date) = bsd_date(after_gap)?;
+    let msg = some_blanks(after_date)?;
+    let _ = literal(msg, '[')?;
+    Some(Sent {
+        version: None,
+        date: Some(date),
+        hostname: None,
+        appname: None,
+        process: None,
+        msgid: None,
+        msg,
+    })
+}
+
+// Returns a date after its year, and the text after it.
+fn year_date(text: &str) -> Option<(SentDate, &str)>
+    ensures { Reads spec.year_date (λ d. d) (chars text.now) result }
+{
+    let (year, at_date) = front_year(text)?;
+    let (date, rest) = any_date(at_date)?;
+    Some((dated_in(Some(year), date), rest))
+}
+
+/// Returns what a line says that begins with such a date.
+pub(crate) fn read_year(text: &str) -> Option<Sent<'_>>
+    ensures { Sends spec.year_form (chars text.now) result }
+{
+    let (date, rest) = year_date(blanks(text))?;
     Some(says(date, read_wide_tail(rest)))
 }

@@ -16,7 +16,7 @@ ghost use Rattle.syslog_dated_forms.specs.DatedForms as spec;
 
 use crate::cisco::read_cisco;
 use crate::container::read_container;
-use crate::dated::{read_bsd, read_ctime, read_iso, read_journal};
+use crate::dated::{read_bsd, read_ctime, read_ctime_message, read_iso, read_journal, read_year};
 use crate::esxi::read_esxi;
 use crate::filed::read_filed;
 use crate::ios_xr::read_ios_xr;
@@ -59,12 +59,30 @@ fn from_meraki(text: &str) -> Option<(Dialect, Sent<'_>)>
     }
 }
 
+fn from_year(text: &str) -> Option<(Dialect, Sent<'_>)>
+    ensures { Finds spec.year_forms (chars text.now) result }
+{
+    match read_year(text) {
+        Some(sent) => Some((Dialect::BsdDate, sent)),
+        None => from_meraki(text),
+    }
+}
+
 fn from_ctime(text: &str) -> Option<(Dialect, Sent<'_>)>
     ensures { Finds spec.ctime_forms (chars text.now) result }
 {
     match read_ctime(text) {
         Some(sent) => Some((Dialect::BsdDate, sent)),
-        None => from_meraki(text),
+        None => from_year(text),
+    }
+}
+
+fn from_ctime_message(text: &str) -> Option<(Dialect, Sent<'_>)>
+    ensures { Finds spec.ctime_message_forms (chars text.now) result }
+{
+    match read_ctime_message(text) {
+        Some(sent) => Some((Dialect::Bracketed, sent)),
+        None => from_ctime(text),
     }
 }
 
@@ -73,7 +91,7 @@ fn from_logread(text: &str) -> Option<(Dialect, Sent<'_>)>
 {
     match read_logread(text) {
         Some(sent) => Some((Dialect::SeverityFirst, sent)),
-        None => from_ctime(text),
+        None => from_ctime_message(text),
     }
 }
 

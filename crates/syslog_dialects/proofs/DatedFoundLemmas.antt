@@ -18,12 +18,14 @@ use Rattle.syslog_loose.proofs.Rfc3164Lemmas.Near.{form_parts}
 use Rattle.syslog_dated_forms.specs.Cisco.{IsAsa, IsMnemonic, IsNxOs, cisco_forms, cisco_row, cisco_sent}
 use Rattle.syslog_dated_forms.specs.Cisco.{counter_row, date_row, begins_host, dated_in, label, label_row, labelled}
 use Rattle.syslog_dated_forms.specs.Cisco.{mark, message_row, mnemonic, origin, place, place_row, start, start_row}
+use Rattle.syslog_dated_forms.specs.Cisco.{unit}
 use Rattle.syslog_dated_forms.specs.Cisco.{task_row}
 use Rattle.syslog_dated_forms.specs.Undated as undated
 use Rattle.syslog_dated_forms.specs.Undated.{IsName, name_label, uptime}
 use Rattle.syslog_dated_forms.specs.Container.{container_row, output}
 use Rattle.syslog_sent.specs.Date.{any_date, bsd_date, iso_date, odd_bsd_date, odd_iso_date}
-use Rattle.syslog_dated_forms.specs.Dated.{bsd_row, ctime_row, dated_sent, iso_row, journal_row}
+use Rattle.syslog_dated_forms.specs.Dated.{bsd_row, ctime_message_row, ctime_message_sent, ctime_row, dated_sent}
+use Rattle.syslog_dated_forms.specs.Dated.{iso_row, journal_row, year_date, year_date_row, year_row}
 use Rattle.syslog_sent.specs.Date.{weekday}
 use Rattle.syslog_dated_forms.specs.DatedForms as dated
 use Rattle.syslog_dated_forms.specs.DatedForms.{xr_forms}
@@ -37,7 +39,8 @@ use Rattle.syslog_dialects.specs.Found.{is_sign, left_of, left_out, second_place
 use Rattle.syslog_dated_forms.specs.IosXr.{card, card_row, host_in, node, process, process_in, process_row, xr_row}
 use Rattle.syslog_dated_forms.specs.IosXr.{xr_sent}
 use Rattle.syslog_dated_forms.specs.IosXr as xr
-use Rattle.syslog_sent.specs.Named.{BeginsWith, is_letter}
+use Rattle.syslog_named_forms.specs.Graded.{source_row}
+use Rattle.syslog_sent.specs.Named.{BeginsWith, beginning, is_letter}
 use Rattle.syslog_dated_forms.specs.NetScaler.{netscaler_row, slashed_date}
 use Rattle.syslog_dated_forms.specs.OpenWrt.{logread_row, logread_sent}
 use Rattle.syslog_dated_forms.specs.ProCurve.{procurve_row, procurve_sent}
@@ -143,10 +146,10 @@ filed_date_out : (Cs : List Class) → IsOut (cisco_left_out ++ Cs) filed_date
 filed_date_out Cs p q v is = inr (inr (inr (inr (inl (v, is)))))
 
 second_out : IsOut (cisco_left_out ++ cisco_hosts) second_place
-second_out p q v is = inr (inr (inr (inr (inr (inl (v, is))))))
+second_out p q v is = inr (inr (inr (inr (inr (inr (inl (v, is)))))))
 
 device_out : IsOut (cisco_left_out ++ cisco_hosts) filed_device
-device_out p q v is = inr (inr (inr (inr (inr (inr (inl (v, is)))))))
+device_out p q v is = inr (inr (inr (inr (inr (inr (inr (inl (v, is))))))))
 
 abbrev a_label : {left : List Class} → Shows left label
 a_label {left} = meant (Row label_row) Text (λ v. v.0) (λ t parts. Name t ∷ parts)
@@ -160,9 +163,13 @@ a_start Cs = meant (Row start_row) (Option Text) labelled (if_there Name) (row_h
     also maybe (Row counter_row) (counter_out Cs) also maybe (Row task_row) (task_out Cs)
     also maybe mark (mark_out Cs) also tt))
 
-abbrev a_place : {left : List Class} → Shows left place
-a_place {left} = meant (Row place_row) (Option Text) (λ v. v.1.0) (if_there Name) (row_has left place_row
-    (blanks also perhaps origin Name (an_origin {left = left}).has also blanks also maybe_colon also blanks also tt))
+unit_out : (Cs : List Class) → IsOut (cisco_left_out ++ Cs) unit
+unit_out Cs p q v is = inr (inr (inr (inr (inr (inl (v, is))))))
+
+abbrev a_place : (Cs : List Class) → Shows (cisco_left_out ++ Cs) place
+a_place Cs = meant (Row place_row) (Option Text) (λ v. v.1.0) (if_there Name) (row_has (cisco_left_out ++ Cs) place_row
+    (blanks also perhaps origin Name (an_origin {left = cisco_left_out ++ Cs}).has also blanks also maybe_colon
+    also blanks also maybe unit (unit_out Cs) also tt))
 
 -- the tag, and nothing else
 tag_found : (left : List Class) → Ending left (Row message_row) (λ v. Name v.0 ∷ []) (λ v. v.1.1.1.1.0)
@@ -179,7 +186,7 @@ cisco_parts (Some h, ((y, (date, _)), (other, ((tag, _), _)))) = Name h ∷ Date
 led_found : (Cs : List Class) (t : Text) (v : Values (drop 1 cisco_row)) → Front (Row cisco_row) t [] (None, v)
     → Tells (cisco_left_out ++ Cs) t (cisco_parts (None, v)) (cisco_sent (None, v)).msg
 led_found Cs t v f = last_found (cisco_left_out ++ Cs) (take 3 cisco_row)
-    (a_start Cs also a_cisco_date also a_place also tt) (Row message_row) (λ w. Name w.0 ∷ []) (λ w. w.1.1.1.1.0)
+    (a_start Cs also a_cisco_date also a_place Cs also tt) (Row message_row) (λ w. Name w.0 ∷ []) (λ w. w.1.1.1.1.0)
     (tag_found (cisco_left_out ++ Cs)) t (None, v) f
 
 -- where one does, the second is left out
@@ -479,7 +486,23 @@ journal_found h = last_found (left_of dialect.Journal h) (take 4 journal_row)
 ctime_found : RowFound dialect.BsdDate ctime_row (λ v. dated_sent v.1.1.1.0 v.1.1.1.1.0)
 ctime_found h = last_found (left_of dialect.BsdDate h) (take 4 ctime_row)
     (blanks also passed weekday (λ p q v is. inr (inr (inl (v, is)))) also a_gap also a_bsd_date also tt) wide_tail
-    tail_parts (λ v. v.msg) (wide_found (weekday ∷ beside h []))
+    tail_parts (λ v. v.msg) (wide_found (weekday ∷ Row source_row ∷ beside h []))
+
+ctime_message_found : RowFound dialect.Bracketed ctime_message_row ctime_message_sent
+ctime_message_found h = last_found (left_of dialect.Bracketed h) (take 5 ctime_message_row)
+    (blanks also passed weekday (λ p q v is. inr (inl (v, is))) also a_gap also a_bsd_date also a_gap also tt)
+    (beginning (exactly (91 ∷ []))) (λ x. []) (λ x. x)
+    (whole_found (left_of dialect.Bracketed h) (beginning (exactly (91 ∷ []))) (λ x. x) (λ p x is. is.1))
+
+-- a year and a date are such as Cisco's may be
+year_shown : (p q : Text) (v : Values year_date_row) → (Row year_date_row).Is p q v
+    → (Row date_row).Is p q (Some v.0, v.1)
+year_shown p q (y, vs) ([], e, h) = absurd h
+year_shown p q (y, vs) (a ∷ ps, e, (n, h)) = (a ∷ ps, e, (n, h))
+
+abbrev a_year_date : {left : List Class} → Shows left year_date
+a_year_date = a_date year_date (λ d. d)
+    (λ p q d (v, is, same). inr (inr (inl ((Some v.0, v.1), year_shown p q v is, same))))
 
 xr_all : AllFound xr_forms
 xr_all =
@@ -493,7 +516,10 @@ xr_all =
     also said dialect.SophosUtm utm_row (λ v. dated_sent v.1.0 v.1.1.0)
     (λ h. dated_found (beside h []) colon_date a_colon_date)
     also said dialect.SeverityFirst logread_row logread_sent logread_found
+    also said dialect.Bracketed ctime_message_row ctime_message_sent ctime_message_found
     also said dialect.BsdDate ctime_row (λ v. dated_sent v.1.1.1.0 v.1.1.1.1.0) ctime_found
+    also said dialect.BsdDate year_row (λ v. dated_sent v.1.0 v.1.1.0)
+    (λ h. dated_found (weekday ∷ Row source_row ∷ beside h []) year_date a_year_date)
     also said dialect.UnixSeconds meraki_row meraki_sent meraki_found
     also said dialect.UnixSeconds short_row short_sent short_found
     also said dialect.CiscoUndated undated.undated_row undated.undated_sent undated_cisco also tt
@@ -506,6 +532,6 @@ dated_all = both_found dated.marked_forms xr_forms
 pub plain_dated_all : AllFound dated.plain_forms
 plain_dated_all =
     said dialect.BsdDate bsd_row (λ v. dated_sent v.1.0 v.1.1.0)
-    (λ h. dated_found (weekday ∷ beside h []) odd_bsd_date an_odd_bsd_date)
+    (λ h. dated_found (weekday ∷ Row source_row ∷ beside h []) odd_bsd_date an_odd_bsd_date)
     also said dialect.NearlyRfc3339 iso_row (λ v. dated_sent v.1.0 v.1.1.0)
     (λ h. dated_found (beside h []) odd_iso_date an_odd_iso_date) also tt

@@ -32,9 +32,11 @@ use Rattle.syslog_named_forms.specs.NamedForms.{front_row, hostless_tail}
 use Rattle.syslog_named_forms.specs.NamedForms.{marked_tail, marked_tails, message_tails, program_forms}
 use Rattle.syslog_named_forms.specs.NamedForms.{program_tails, says, unified_tail, untagged_tail}
 use Rattle.syslog_named_forms.specs.NamedForms.{addressed_tail, compact_tail, device_forms, device_tails, graded_tail}
-use Rattle.syslog_named_forms.specs.NamedForms.{graded_tails, leveled_tail, marked_forms, titled_tail}
+use Rattle.syslog_named_forms.specs.NamedForms.{event_tail, graded_tails, leveled_tail, marked_forms, sourced_tail}
+use Rattle.syslog_named_forms.specs.NamedForms.{titled_tail}
 use Rattle.syslog_named_forms.specs.Devices.{addressed_row, point_word, title_row, titled_row}
-use Rattle.syslog_named_forms.specs.Graded.{grade_row, graded_row, level_row, leveled_row}
+use Rattle.syslog_named_forms.specs.Graded.{event_end_row, event_row, grade_row, graded_row, level_row, leveled_row}
+use Rattle.syslog_named_forms.specs.Graded.{source_row, sourced_row}
 use Rattle.syslog_named_forms.specs.Unified.{close_row, compact_row, kind, log_of, log_row, thread_row}
 use Rattle.syslog_named_forms.specs.Untagged.{some_digits}
 use Rattle.syslog_named_forms.specs.NamedForms.{serial_tail}
@@ -48,7 +50,7 @@ use Rattle.syslog_dialects.specs.PriorityAlone.{program_sent}
 use Rattle.syslog_named_forms.specs.Programs.{forwarded_of, forwarded_row, grade, hostless_row, passed_on}
 use Rattle.syslog_named_forms.specs.Programs.{access_row, point_row, serial_row, severity_row, worded_row}
 use Rattle.syslog_named_forms.specs.Programs.{number_word, spread_row, untagged_row, words_row}
-use Rattle.syslog_sent.specs.Runs.{is_unquoted, is_word_char}
+use Rattle.syslog_sent.specs.Runs.{is_plain_char, is_unquoted, is_word_char}
 use Rattle.syslog_sent.specs.Sent.{Form, SentValue, loose}
 use Rattle.syslog_dialects.specs.SentReading.{IsSentIn}
 use Rattle.syslog_named_forms.specs.Untagged.{dialect_of, mark_class, marked, marked_of, marks}
@@ -228,8 +230,20 @@ leveled_found t v = before_rest (left_of dialect.SeverityFirst v.0) (take 6 leve
     (a_host also a_gap also passed (Row level_row) (λ p q w is. inr (inr (inr (inr (inr (inl (w, is))))))) also a_gap
     also a_program also blanks also tt) t v
 
+event_found : TailFound event_tail
+event_found t v = before_rest (left_of dialect.Bracketed (Some v.1.0)) (take 7 event_row)
+    (a_sign 91 refl also text_of (some_run is_plain_char) also a_colon also blanks also text_of (some_run is_word_char)
+    also passed (Row event_end_row) (λ p q w is. inr (inr (inl (w, is)))) also blanks also tt) t v
+
+sourced_found : TailFound sourced_tail
+sourced_found t v = before_rest (left_of dialect.BsdDate v.0) (take 6 sourced_row)
+    (a_host also a_gap also passed (Row source_row) (λ p q w is. inr (inr (inr (inl (w, is))))) also a_gap
+    also a_program also blanks also tt) t v
+
 graded_all : AllFound (tail_forms graded_tails)
-graded_all = tail_of graded_tail graded_found also tail_of leveled_tail leveled_found also tt
+graded_all = tail_of graded_tail graded_found also tail_of leveled_tail leveled_found
+    also tail_of event_tail event_found
+    also tail_of sourced_tail sourced_found also tt
 
 -- ---- pairs, whose names are in the message
 

@@ -5,7 +5,7 @@ use Rattle.std.proofs.lemmas.List.{append-nil}
 use Rattle.std.specs.Char.{is_not_whitespace}
 use Rattle.std.specs.Prelude.{IfSome, option_map}
 use Rattle.std.specs.Str.{skip_leading_whitespace}
-use Rattle.syslog_text.specs.Pieces.Class.{Text, Class, Values, Front, Row, Ends, mapped, rest, run, some_run}
+use Rattle.syslog_text.specs.Pieces.Class.{Text, Class, Values, Front, Row, Ends, exactly, mapped, rest, run, some_run}
 use Rattle.syslog_text.specs.Pieces.Rules.{such_that}
 use Rattle.syslog_pieces.specs.ProcId.{IsBoundedProcess, NamesProcess, named_process}
 use Rattle.syslog_text.specs.Text.{host, is_blank, trimmed}
@@ -21,7 +21,8 @@ use Rattle.syslog_loose.specs.declared.dates.Dates.{Dates}
 use Rattle.syslog_dated_forms.specs.Cisco.{IsAsa, IsNxOs, cisco_forms, cisco_row, cisco_sent, message_row}
 use Rattle.syslog_dated_forms.specs.Undated as undated
 use Rattle.syslog_dated_forms.specs.Container.{IsStream, container_row, output, stream_row}
-use Rattle.syslog_dated_forms.specs.Dated.{bsd_row, ctime_row, dated_sent, iso_row, journal_row}
+use Rattle.syslog_dated_forms.specs.Dated.{bsd_row, ctime_message_row, ctime_message_sent, ctime_row, dated_sent}
+use Rattle.syslog_dated_forms.specs.Dated.{iso_row, journal_row, year_row}
 use Rattle.syslog_dated_forms.specs.DatedForms.{marked_forms, timed_forms, xr_forms}
 use Rattle.syslog_sent.specs.Forms.{IsOfFirst}
 use Rattle.syslog_dialects.specs.Dialects.{dated_forms, early_forms, forms_of, last_forms, late_forms, named_forms, plain_forms}
@@ -37,9 +38,10 @@ use Rattle.syslog_named_forms.specs.NamedForms.{marked_tails, message_tails}
 use Rattle.syslog_named_forms.specs.NamedForms.{access_tail, forwarded_tail, hostless_tail, program_forms}
 use Rattle.syslog_named_forms.specs.NamedForms.{program_tails, says, unified_tail, untagged_tail}
 use Rattle.syslog_named_forms.specs.NamedForms.{addressed_tail, compact_tail, device_forms, device_tails, graded_tail}
-use Rattle.syslog_named_forms.specs.NamedForms.{graded_tails, leveled_tail, marked_forms as message_forms, titled_tail}
+use Rattle.syslog_named_forms.specs.NamedForms.{event_tail, graded_tails, leveled_tail, marked_forms as message_forms}
+use Rattle.syslog_named_forms.specs.NamedForms.{sourced_tail, titled_tail}
 use Rattle.syslog_named_forms.specs.Devices.{addressed_row, titled_row}
-use Rattle.syslog_named_forms.specs.Graded.{graded_row, leveled_row}
+use Rattle.syslog_named_forms.specs.Graded.{event_row, graded_row, leveled_row, sourced_row}
 use Rattle.syslog_named_forms.specs.Unified.{compact_row, log_row}
 use Rattle.syslog_named_forms.specs.NamedForms.{serial_tail, severity_tail, tail_forms, undated_form, undated_forms}
 use Rattle.syslog_named_forms.specs.NamedForms.{header_forms, spread_tail, undated_row, worded_tail}
@@ -60,7 +62,8 @@ use Rattle.syslog_named_forms.specs.Untagged.{dialect_of, mark_class, marked, ma
 use Rattle.syslog_sent.specs.Zone.{bare_word}
 use Rattle.syslog_sent.specs.declared.dialect.Dialect.{Dialect}
 use Rattle.syslog_sent.specs.declared.dialect.Dialect.TheVariants.{Monotonic, NearlyRfc5424}
-use Rattle.syslog_sent.specs.declared.dialect.Dialect.TheVariants.{PriorityAlone, BsdDate, NearlyRfc3339, Journal}
+use Rattle.syslog_sent.specs.declared.dialect.Dialect.TheVariants.{PriorityAlone, Bracketed, BsdDate}
+use Rattle.syslog_sent.specs.declared.dialect.Dialect.TheVariants.{NearlyRfc3339, Journal}
 use Rattle.syslog_sent.specs.declared.dialect.Dialect.TheVariants.{CiscoIos, CiscoNxOs, CiscoAsa, CiscoUndated}
 use Rattle.syslog_sent.specs.declared.dialect.Dialect.TheVariants.{Container, CiscoIosXr, NetScaler, ProCurve}
 use Rattle.syslog_sent.specs.declared.dialect.Dialect.TheVariants.{Cef, Leef, KeyValue}
@@ -256,7 +259,10 @@ xr_end =
     also said NetScaler netscaler_row (λ v. dated_sent v.1.0 v.1.1.0) (tailed (take 2 netscaler_row))
     also said SophosUtm utm_row (λ v. dated_sent v.1.0 v.1.1.0) (tailed (take 2 utm_row))
     also said SeverityFirst logread_row logread_sent (rest_ends (take 8 logread_row))
+    also said Bracketed ctime_message_row ctime_message_sent
+    (some_run_ends (beginning (exactly (91 ∷ []))) (λ t. t) (λ p t is. is.1) (take 4 ctime_message_row))
     also said BsdDate ctime_row (λ v. dated_sent v.1.1.1.0 v.1.1.1.1.0) (tailed (take 4 ctime_row))
+    also said BsdDate year_row (λ v. dated_sent v.1.0 v.1.1.0) (tailed (take 2 year_row))
     also said UnixSeconds meraki_row meraki_sent (spaced_rest_ends (take 6 meraki_row))
     also said UnixSeconds short_row short_sent (rest_ends (take 6 short_row))
     also said CiscoUndated undated.undated_row undated.undated_sent undated_cisco_ends also tt
@@ -328,7 +334,9 @@ devices_end =
 graded_end : AllEnd (tail_forms graded_tails)
 graded_end =
     tail_of graded_tail (λ t v ends f. rest_ends (take 5 graded_row) t v f)
-    also tail_of leveled_tail (λ t v ends f. rest_ends (take 5 leveled_row) t v f) also tt
+    also tail_of leveled_tail (λ t v ends f. rest_ends (take 5 leveled_row) t v f)
+    also tail_of event_tail (λ t v ends f. rest_ends (take 6 event_row) t v f)
+    also tail_of sourced_tail (λ t v ends f. rest_ends (take 5 sourced_row) t v f) also tt
 
 -- ---- without a date
 

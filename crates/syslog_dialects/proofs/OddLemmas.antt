@@ -13,7 +13,7 @@ use Rattle.syslog_text.specs.Pieces.Class.{Text}
 use Rattle.syslog_text.proofs.TextLemmas.Runs.{ascii_ahead, chars_nonempty, one_ascii}
 use Rattle.syslog_sent.specs.Named.{is_letter}
 use Rattle.syslog_dialects.specs.Ordinary.{BeginsPlainly, begin_no_word, begins_oddly, has_bracket, is_level_mark}
-use Rattle.syslog_dialects.specs.Ordinary.{has_comma, is_odd_app, opens_day}
+use Rattle.syslog_dialects.specs.Ordinary.{has_comma, has_percent, is_odd_app, opens_day, opens_mnemonic}
 use Rattle.syslog_named_forms.specs.Devices.{goes_on, is_hex, opens_address}
 
 oddly_low : (c : ℕ) → begins_oddly c ≡ true → c < 128
@@ -190,3 +190,24 @@ no_address bs u n = elim (cases_Bool (opens_address (chars bs))) [
   | inl is ↦ (let bad : false ≡ true = n ∙ comma_bytes bs u (comma_of 0 (chars bs) (omega arith) is) in cc)
   | inr not ↦ not
 ]
+
+-- ---- a mnemonic
+
+percent_bytes : (bs : List ℕ) (t : Text) → IsUtf8 bs → chars bs ≡ 37 ∷ t → has_percent bs ≡ true
+percent_bytes bs t u e =
+    let bytes : bs ≡ (37 ∷ []) ++ encode_utf8_all t = ascii_ahead (37 ∷ []) t bs u (one_ascii 37 (omega arith)) e in
+    let some : 0 < length bs = rw bytes (omega arith) in
+    let first : slice_index bs 0 ≡ 37 = rw bytes refl in
+    grind (arith, nat_tests, some, first)
+
+percent_of : (bs : List ℕ) (t : Text) → IsUtf8 bs → chars bs ≡ t → false ≡ has_percent bs → opens_mnemonic t ≡ false
+percent_of bs [] u e n = refl
+percent_of bs (c ∷ t) u e n = elim (cases_Bool (nat_eq c 37)) [
+  | inl is ↦ (let same : c ≡ 37 = grind (arith, nat_tests, is) in
+      let bad : false ≡ true = n ∙ percent_bytes bs t u (e ∙ ap (λ (x : ℕ). x ∷ t) same) in cc)
+  | inr not ↦ not
+]
+
+-- where the first byte is another, no mnemonic begins the text
+pub no_percent : (bs : List ℕ) → IsUtf8 bs → false ≡ has_percent bs → opens_mnemonic (chars bs) ≡ false
+no_percent bs u n = percent_of bs (chars bs) u refl n

@@ -11,14 +11,14 @@ use Rattle.syslog_loose.specs.Bodies.Start.{IsAfterPriority}
 use Rattle.syslog_loose.specs.Message.{MessageValue}
 use Rattle.syslog_loose.specs.declared.dates.Dates.{Dates}
 use Rattle.syslog_dated_forms.specs.Cisco.{cisco_row, counter_row, date_row, dated_in, mark, mnemonic, origin, place}
-use Rattle.syslog_dated_forms.specs.Cisco.{task_row}
+use Rattle.syslog_dated_forms.specs.Cisco.{task_row, unit}
 use Rattle.syslog_sent.specs.Date.{any_date, bsd_date, iso_date}
 use Rattle.syslog_sent.specs.Date.{weekday}
 use Rattle.syslog_dated_forms.specs.Esxi.{mark_row}
 use Rattle.syslog_dated_forms.specs.IosXr.{node}
 use Rattle.syslog_dated_forms.specs.NetScaler.{slashed_date}
 use Rattle.syslog_named_forms.specs.Devices.{point_word}
-use Rattle.syslog_named_forms.specs.Graded.{grade_row, level_row}
+use Rattle.syslog_named_forms.specs.Graded.{event_end_row, grade_row, level_row, source_row}
 use Rattle.syslog_named_forms.specs.Monotonic.{seconds_row}
 use Rattle.syslog_named_forms.specs.Unified.{close_row, kind, thread_row}
 use Rattle.syslog_named_forms.specs.Untagged.{some_digits}
@@ -31,7 +31,7 @@ use Rattle.syslog_dated_forms.specs.SophosUtm.{colon_date}
 use Rattle.syslog_dated_forms.specs.Undated.{uptime}
 use Rattle.syslog_dated_forms.specs.UnixSeconds.{unix_date}
 use Rattle.syslog_sent.specs.declared.dialect.Dialect.{Dialect}
-use Rattle.syslog_sent.specs.declared.dialect.Dialect.TheVariants.{BsdDate, CiscoAsa, CiscoIos, CiscoIosXr}
+use Rattle.syslog_sent.specs.declared.dialect.Dialect.TheVariants.{Bracketed, BsdDate, CiscoAsa, CiscoIos, CiscoIosXr}
 use Rattle.syslog_sent.specs.declared.dialect.Dialect.TheVariants.{CiscoNxOs, CiscoUndated, Esxi, Forwarded}
 use Rattle.syslog_sent.specs.declared.dialect.Dialect.TheVariants.{Journal}
 use Rattle.syslog_sent.specs.declared.dialect.Dialect.TheVariants.{KeyValue, NearlyRfc3339, NetScaler, ProCurve}
@@ -80,21 +80,21 @@ relay = host followed_by Row (some_run is_blank ∷ forwarded_words ∷ [])
 abbrev pub serial : List Class
 serial = some_run is_plain_char ∷ exactly (32 ∷ []) ∷ exactly (40 ∷ []) ∷ iso_date ∷ exactly (41 ∷ []) ∷ []
 
--- counters and sequence numbers, the task, the mark of a clock, and a collector's date
+-- counters and sequence numbers, the task, the mark of a clock, a collector's date, and a unit
 abbrev pub cisco_left_out : List Class
-cisco_left_out = Row counter_row ∷ Row task_row ∷ mark ∷ filed_date ∷ []
+cisco_left_out = Row counter_row ∷ Row task_row ∷ mark ∷ filed_date ∷ unit ∷ []
 
 -- What a dialect leaves out besides. These are IOS-XR's card, a day of the week, a facility and a severity in words, in
 -- angles or in brackets, ESXi's level with its number, the number of ProCurve's event, Meraki's `1`, how long a device
--- or a system has run, the address and version of an access point, and the columns of macOS's log. In the others it is
--- nothing.
+-- or a system has run, the address and version of an access point, the addresses of another in angles, the severity of
+-- an event, and the columns of macOS's log. In the others it is nothing.
 abbrev pub left_out : Dialect → List Class
 left_out CiscoIos = cisco_left_out
 left_out CiscoNxOs = cisco_left_out
 left_out CiscoAsa = cisco_left_out
 left_out CiscoUndated = Row counter_row ∷ uptime ∷ []
 left_out CiscoIosXr = Row counter_row ∷ node ∷ []
-left_out BsdDate = host_alone ∷ weekday ∷ []
+left_out BsdDate = host_alone ∷ weekday ∷ Row source_row ∷ []
 left_out NearlyRfc3339 = host_alone ∷ []
 left_out NetScaler = host_alone ∷ []
 left_out SophosUtm = host_alone ∷ []
@@ -108,6 +108,7 @@ left_out WatchGuard = Row serial ∷ []
 left_out Monotonic = Row seconds_row ∷ []
 left_out UnifiedLog = Row thread_row ∷ some_digits ∷ kind ∷ Row close_row ∷ []
 left_out UniFi = point_word ∷ []
+left_out Bracketed = weekday ∷ Row event_end_row ∷ []
 left_out _ = []
 
 -- the other hosts that a line shows beside the one that it says

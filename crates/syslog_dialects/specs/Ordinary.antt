@@ -1,5 +1,5 @@
 -- The lines of the port that keep their reading, by their fields alone: this project's own choice. 32 is a space,
--- 34 `"`, 60 `<`, 40 `(`, 45 `-`, 47 `/`, 58 `:`, 91 `[`, 123 `{`.
+-- 34 `"`, 37 `%`, 60 `<`, 40 `(`, 45 `-`, 47 `/`, 58 `:`, 91 `[`, 123 `{`.
 use Rattle.std.specs.Prelude.{◌≡◌, ◌≢◌, ◌⊎◌, ◌∷◌, ◌&&◌, ◌||◌, ℕ, nat_eq, Bool, true, false, List, [], Some, IsSome}
 use Rattle.std.specs.Prelude.{◌<◌, IsTrue, codes, nat_lt, not, length, slice_index}
 use Rattle.std.specs.Char.{is_ascii_digit}
@@ -71,9 +71,18 @@ has_bracket bytes = nat_lt 2 (length bytes) && nat_eq (slice_index bytes 2) 40
 abbrev pub has_comma : List ℕ → Bool
 has_comma bytes = nat_lt 12 (length bytes) && nat_eq (slice_index bytes 12) 44
 
+-- with `%` begins a mnemonic of Cisco's, or a unit of Dell's, and no host
+abbrev pub opens_mnemonic : Text → Bool
+opens_mnemonic [] = false
+opens_mnemonic (c ∷ cs) = nat_eq c 37
+
+-- the first byte is `%`
+abbrev pub has_percent : List ℕ → Bool
+has_percent bytes = nat_lt 0 (length bytes) && nat_eq (slice_index bytes 0) 37
+
 -- the two together are no host and no tag
 abbrev pub is_odd : Text → Text → Bool
-is_odd host app = is_odd_app app || (opens_address app || is_level_mark host)
+is_odd host app = is_odd_app app || (opens_address app || (opens_mnemonic host || is_level_mark host))
 
 -- the line has a timestamp, and after it its host and its app name, as a tag, which are a host and a tag
 pub record IsTagged (line : Line) : Type 0 where

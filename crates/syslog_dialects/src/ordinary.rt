@@ -248,12 +248,44 @@ fn is_address(app: &str) -> bool
     }
 }
 
+// Whether `%` begins the text, as it begins a mnemonic of Cisco's and a unit of Dell's, and no host. It is a call of its
+// own, since few hosts begin so.
+#[cold]
+#[inline(never)]
+fn opens_mnemonic(host: &str) -> bool
+    ensures { result ≡ spec.opens_mnemonic (chars host.now) }
+{
+    match first(host) {
+        Some((c, _)) => c == '%',
+        None => false,
+    }
+}
+
+// Whether the first byte is `%`.
+#[inline(always)]
+fn has_percent(host: &[u8]) -> bool
+    ensures { result ≡ spec.has_percent host.now }
+{
+    0 < host.len() && host[0] == b'%'
+}
+
+#[inline(always)]
+fn is_mnemonic(host: &str) -> bool
+    ensures { result ≡ spec.opens_mnemonic (chars host.now) }
+{
+    if has_percent(host.as_bytes()) {
+        opens_mnemonic(host)
+    } else {
+        false
+    }
+}
+
 // Whether the two are not a host and a tag.
 #[inline(always)]
 fn is_odd(host: &str, app: &str) -> bool
     ensures { result ≡ spec.is_odd (chars host.now) (chars app.now) }
 {
-    is_odd_app(app) || (is_address(app) || is_level_mark(host))
+    is_odd_app(app) || (is_address(app) || (is_mnemonic(host) || is_level_mark(host)))
 }
 
 // Whether the line of RFC 3164 has a timestamp, a host and a tag.

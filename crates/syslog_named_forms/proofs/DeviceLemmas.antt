@@ -8,10 +8,11 @@ use Rattle.syslog_text.proofs.PieceLemmas.Class.{some_run_det, texted_det}
 use Rattle.syslog_text.proofs.PieceLemmas.Rules.{such_det}
 use Rattle.syslog_text.proofs.TextLemmas.Words.{host_det}
 use Rattle.syslog_sent.proofs.NamedLemmas.{name_det, program_det}
-use Rattle.syslog_sent.specs.Runs.{is_plain_char}
+use Rattle.syslog_sent.specs.Runs.{is_plain_char, is_word_char}
 use Rattle.syslog_sent.specs.Zone.{bare_word}
 use Rattle.syslog_named_forms.specs.Devices.{addressed_row, opens_address, point_word, title_row, titled_row}
-use Rattle.syslog_named_forms.specs.Graded.{grade_row, graded_row, level_row, leveled_row}
+use Rattle.syslog_named_forms.specs.Graded.{event_end_row, event_row, grade_row, graded_row, hardware_row, level_row}
+use Rattle.syslog_named_forms.specs.Graded.{leveled_row, source_row, sourced_row}
 use Rattle.syslog_named_forms.specs.Unified.{close_row, compact_row, is_kind, kind}
 use Rattle.syslog_named_forms.specs.Untagged.{some_digits}
 
@@ -56,4 +57,25 @@ level_det = exactly_det _ also some_run_det is_plain_char also run_det is_blank 
 
 pub leveled_det : AllDeterministic leveled_row
 leveled_det = host_det also some_run_det is_blank also row_det level_row level_det also some_run_det is_blank
+    also program_det also run_det is_blank also rest_det also tt
+
+pub event_end_det : AllDeterministic event_end_row
+event_end_det = exactly_det _ also some_run_det is_plain_char also exactly_det _ also tt
+
+pub event_det : AllDeterministic event_row
+event_det = exactly_det _ also texted_det (some_run is_plain_char) (some_run_det is_plain_char) also exactly_det _
+    also run_det is_blank also texted_det (some_run is_word_char) (some_run_det is_word_char)
+    also row_det event_end_row event_end_det also run_det is_blank also rest_det also tt
+
+pub hardware_det : AllDeterministic hardware_row
+hardware_det = let two = some_run_det is_plain_char in
+    two also exactly_det _ also two also exactly_det _ also two also exactly_det _ also two also exactly_det _ also two
+    also exactly_det _ also two also tt
+
+pub source_det : AllDeterministic source_row
+source_det = exactly_det _ also some_run_det is_word_char also some_run_det is_blank
+    also row_det hardware_row hardware_det also exactly_det _ also tt
+
+pub sourced_det : AllDeterministic sourced_row
+sourced_det = host_det also some_run_det is_blank also row_det source_row source_det also some_run_det is_blank
     also program_det also run_det is_blank also rest_det also tt

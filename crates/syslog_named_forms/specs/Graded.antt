@@ -1,10 +1,10 @@
--- Facility and severity in angles before the host, and the severity in brackets before the program. 46 is `.`, 60 `<`,
--- 62 `>`, 93 `]`.
-use Rattle.std.specs.Prelude.{List, [], ◌∷◌, codes}
-use Rattle.syslog_text.specs.Pieces.Class.{Class, Values, Row, exactly, mapped, rest, run, some_run}
-use Rattle.syslog_text.specs.Text.{host, is_blank}
+-- What is in angles or in brackets before the message: facility and severity, an event, or where a line is from. 46 is
+-- `.`, 60 `<`, 62 `>`, 91 `[`, 93 `]`.
+use Rattle.std.specs.Prelude.{List, [], ◌∷◌, None, Some, codes}
+use Rattle.syslog_text.specs.Pieces.Class.{Class, Values, Row, exactly, mapped, rest, run, some_run, texted}
+use Rattle.syslog_text.specs.Text.{colon, host, is_blank}
 use Rattle.syslog_sent.specs.Named.{NamedTexts, program, tagged}
-use Rattle.syslog_sent.specs.Runs.{is_plain_char}
+use Rattle.syslog_sent.specs.Runs.{is_plain_char, is_word_char}
 
 -- ---- `<auth.info> gate sshd[811]: text`, `<4.6> gate sshd[811]: text`
 
@@ -36,3 +36,40 @@ leveled_of (h, (_, (_, (_, (p, (_, (m, _))))))) = tagged h p m
 
 abbrev pub leveled : Class
 leveled = mapped (Row leveled_row) NamedTexts leveled_of
+
+-- ---- `[cluster1-01:wafl.vol.autoSize.done:notice]: text`
+
+-- NetApp's ONTAP: the node, the event, and the severity
+abbrev pub event_end_row : List Class
+event_end_row = exactly colon ∷ some_run is_plain_char ∷ exactly (codes "]:") ∷ []
+
+abbrev pub event_row : List Class
+event_row = exactly (91 ∷ []) ∷ texted (some_run is_plain_char) ∷ exactly colon ∷ run is_blank
+    ∷ texted (some_run is_word_char) ∷ Row event_end_row ∷ run is_blank ∷ rest ∷ []
+
+abbrev pub event_of : Values event_row → NamedTexts
+event_of (_, (node, (_, (_, (event, (_, (_, (m, _)))))))) =
+    tagged (Some node) (record { name = event; process = None }) m
+
+abbrev pub event : Class
+event = mapped (Row event_row) NamedTexts event_of
+
+-- ---- `192.0.2.2 <192.0.2.2 02:00:00:00:00:01> stm[2112]: text`
+
+-- Aruba Instant: the address of the access point twice, and that of its hardware
+abbrev pub hardware_row : List Class
+hardware_row = some_run is_plain_char ∷ exactly colon ∷ some_run is_plain_char ∷ exactly colon ∷ some_run is_plain_char
+    ∷ exactly colon ∷ some_run is_plain_char ∷ exactly colon ∷ some_run is_plain_char ∷ exactly colon
+    ∷ some_run is_plain_char ∷ []
+
+abbrev pub source_row : List Class
+source_row = exactly (60 ∷ []) ∷ some_run is_word_char ∷ some_run is_blank ∷ Row hardware_row ∷ exactly (62 ∷ []) ∷ []
+
+abbrev pub sourced_row : List Class
+sourced_row = host ∷ some_run is_blank ∷ Row source_row ∷ some_run is_blank ∷ program ∷ run is_blank ∷ rest ∷ []
+
+abbrev pub sourced_of : Values sourced_row → NamedTexts
+sourced_of (h, (_, (_, (_, (p, (_, (m, _))))))) = tagged h p m
+
+abbrev pub sourced : Class
+sourced = mapped (Row sourced_row) NamedTexts sourced_of

@@ -108,8 +108,14 @@ graded_tail = record { dialect = dialect.SeverityFirst; after = Row graded.grade
 abbrev pub leveled_tail : Tail
 leveled_tail = record { dialect = dialect.SeverityFirst; after = Row graded.leveled_row; names = graded.leveled_of }
 
+abbrev pub event_tail : Tail
+event_tail = record { dialect = dialect.Bracketed; after = Row graded.event_row; names = graded.event_of }
+
+abbrev pub sourced_tail : Tail
+sourced_tail = record { dialect = dialect.BsdDate; after = Row graded.sourced_row; names = graded.sourced_of }
+
 abbrev pub graded_tails : List Tail
-graded_tails = graded_tail ∷ leveled_tail ∷ []
+graded_tails = graded_tail ∷ leveled_tail ∷ event_tail ∷ sourced_tail ∷ []
 
 -- it is tried after the forms that have nothing of their own after the date
 abbrev pub spread_tail : Tail

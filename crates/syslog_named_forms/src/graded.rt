@@ -1,17 +1,23 @@
-//! Lines with facility and severity in angles before the host, or with the severity in brackets before the program.
+//! Lines with something in angles or in brackets before the message.
 //!
 //! **Rule.** FreeBSD's syslogd writes both before the host if it runs with `-v` (syslogd(8)), by number, or by name if
 //! it is given twice; so does Isilon's OneFS: `<auth.info> gate sshd[811]: text`. Axis cameras write the severity in
-//! brackets, filled up with spaces (AXIS OS, "Remote syslog"): `axis-accc8e1a2b3c [ INFO    ] systemd[1]: text`.
+//! brackets, filled up with spaces (AXIS OS, "Remote syslog"): `axis-accc8e1a2b3c [ INFO    ] systemd[1]: text`. NetApp's
+//! ONTAP writes node, event and severity (its format `legacy-netapp`): `[cluster1-01:wafl.vol.autoSize.done:notice]:
+//! text`; the event is the app name, as a mnemonic of Cisco's is. Aruba Instant writes its address and that of its
+//! hardware after its name (Aruba Instant Syslog Messages): `192.0.2.2 <192.0.2.2 02:00:00:00:00:01> stm[2112]: text`.
 ghost use Rattle.std.specs.Prelude.{◌∷◌, [], chars, codes};
-ghost use Rattle.syslog_text.specs.Pieces.Class.{Row, Text, exactly};
-ghost use Rattle.syslog_text.specs.Pieces.View.{Reads, Recognises, seen};
+ghost use Rattle.syslog_text.specs.Pieces.Class.{Row, Text, exactly, some_run, texted};
+ghost use Rattle.syslog_text.specs.Pieces.View.{Reads, Recognises, seen, shown};
+ghost use Rattle.syslog_text.specs.Text.{colon as colon_text, is_blank};
+ghost use Rattle.syslog_sent.specs.Runs.{is_plain_char, is_word_char};
 ghost use Rattle.syslog_named_forms.specs.Graded as spec;
 ghost use Rattle.syslog_named_forms.specs.Untagged.{host_row};
 ghost use Rattle.syslog_sent.specs.Views.{Names, named_value};
 
-use crate::untagged::{dot, past_blanks, topic_word};
-use syslog_sent::named::{Named, past, read_program, tagged};
+use crate::untagged::{dot, key, past_blanks, topic_word};
+use syslog_sent::named::{Named, Program, past, read_program, tagged};
+use syslog_sent::runs::{Run, split};
 use syslog_text::text::{blanks, host, literal, some_blanks};
 
 fn open_angle(text: &str) -> Option<&str>
@@ -81,6 +87,113 @@ pub(crate) fn leveled<'a>(after_host: Option<(Option<&'a str>, &'a str)>) -> Opt
     let (hostname, at_level) = after_host?;
     let after_level = level(at_level)?;
     let at_program = some_blanks(after_level)?;
+    let (program, rest) = read_program(at_program)?;
+    Some(tagged(hostname, program, blanks(rest)))
+}
+
+fn colon(text: &str) -> Option<&str>
+    ensures { Recognises (exactly colon_text) (chars text.now) result }
+{
+    literal(text, ':')
+}
+
+fn close_event(text: &str) -> Option<&str>
+    ensures { Recognises (exactly (codes "]:")) (chars text.now) result }
+{
+    past(text, "]:")
+}
+
+// Returns the text after the severity of an event and the bracket that ends it.
+fn event_end(text: &str) -> Option<&str>
+    ensures { Recognises (Row spec.event_end_row) (chars text.now) result }
+{
+    colon(text).and_then(topic_word).and_then(close_event)
+}
+
+// Returns the name of a node, and the text after it.
+fn node(text: &str) -> Option<(&str, &str)>
+    ensures { Reads (texted (some_run is_plain_char)) (λ t. shown t) (chars text.now) result }
+{
+    let (run, rest) = split(text, Run::Plain);
+    if run.is_empty() {
+        None
+    } else {
+        Some((run, rest))
+    }
+}
+
+// Returns the name of an event, and the text after it.
+fn event_name(text: &str) -> Option<(&str, &str)>
+    ensures { Reads (texted (some_run is_word_char)) (λ t. shown t) (chars text.now) result }
+{
+    let (run, rest) = split(text, Run::Word);
+    if run.is_empty() {
+        None
+    } else {
+        Some((run, rest))
+    }
+}
+
+/// Reads an event of a node.
+#[inline(always)]
+pub(crate) fn event(text: &str) -> Option<Named<'_>>
+    ensures { Names spec.event named_value (chars text.now) result }
+{
+    let at_node = literal(text, '[')?;
+    let (node, after_node) = node(at_node)?;
+    let after_colon = literal(after_node, ':')?;
+    let (name, after_name) = event_name(blanks(after_colon))?;
+    let rest = event_end(after_name)?;
+    let program = Program {
+        name,
+        process: None,
+    };
+    Some(tagged(Some(node), program, blanks(rest)))
+}
+
+fn gap(text: &str) -> Option<&str>
+    ensures { Recognises (some_run is_blank) (chars text.now) result }
+{
+    some_blanks(text)
+}
+
+// Returns the text after the address of hardware.
+fn hardware(text: &str) -> Option<&str>
+    ensures { Recognises (Row spec.hardware_row) (chars text.now) result }
+{
+    topic_word(text)
+        .and_then(colon)
+        .and_then(topic_word)
+        .and_then(colon)
+        .and_then(topic_word)
+        .and_then(colon)
+        .and_then(topic_word)
+        .and_then(colon)
+        .and_then(topic_word)
+        .and_then(colon)
+        .and_then(topic_word)
+}
+
+// Returns the text after the two addresses of an access point in angles.
+fn source(text: &str) -> Option<&str>
+    ensures { Recognises (Row spec.source_row) (chars text.now) result }
+{
+    open_angle(text)
+        .and_then(key)
+        .and_then(gap)
+        .and_then(hardware)
+        .and_then(close_angle)
+}
+
+/// Reads a line of an access point that shows them. `after_host` is what `past_host` returned for the line.
+#[inline(always)]
+pub(crate) fn sourced<'a>(after_host: Option<(Option<&'a str>, &'a str)>) -> Option<Named<'a>>
+    ensures { (text : Text) → Reads (Row host_row) (λ h. (seen h, (tt, tt))) text after_host.entry
+        → Names spec.sourced named_value text result }
+{
+    let (hostname, at_source) = after_host?;
+    let after_source = source(at_source)?;
+    let at_program = some_blanks(after_source)?;
     let (program, rest) = read_program(at_program)?;
     Some(tagged(hostname, program, blanks(rest)))
 }

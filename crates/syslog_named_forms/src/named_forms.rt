@@ -14,7 +14,7 @@ ghost use Rattle.syslog_named_forms.specs.Untagged.{AreMarks, host_row};
 ghost use Rattle.syslog_sent.specs.Views.{named_value};
 
 use crate::devices::{addressed, titled};
-use crate::graded::{graded, leveled};
+use crate::graded::{event, graded, leveled, sourced};
 use crate::monotonic::read_monotonic;
 use crate::near_header::{Start, head, read_bare, read_heroku, read_nil, read_tag, read_vendor};
 use crate::pairs::read_pairs;
@@ -245,6 +245,12 @@ fn of_dated(rest: &str) -> Option<(Dialect, Named<'_>)>
     }
     if let Some(named) = leveled(after_host) {
         return Some((Dialect::SeverityFirst, named));
+    }
+    if let Some(named) = event(rest) {
+        return Some((Dialect::Bracketed, named));
+    }
+    if let Some(named) = sourced(after_host) {
+        return Some((Dialect::BsdDate, named));
     }
     of_message(rest, after_host)
 }

@@ -356,7 +356,8 @@ fn dated(text: &str) -> Option<&str>
     month(text)
 }
 
-fn key(text: &str) -> Option<&str>
+/// Returns the text after the characters of a key.
+pub(crate) fn key(text: &str) -> Option<&str>
     ensures { Recognises (some_run is_word_char) (chars text.now) result }
 {
     let (run, rest) = split(text, Run::Word);

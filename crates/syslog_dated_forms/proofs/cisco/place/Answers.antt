@@ -6,5 +6,5 @@ use Rattle.syslog_dated_forms.proofs.cisco.place.Goals as goal
 
 pub returns : goal.returns
 returns c = mapped_front (Row place_row) (Option Text) (λ v. v.1.0) (row_of place_row (c.blanks.ensures
-    then c.optional_origin.ensures then c.blanks-2.ensures then c.past_colon.ensures.1 then c.blanks-3.ensures then
-    refl))
+    then c.optional_origin.ensures then c.blanks-2.ensures then c.past_colon.ensures.1 then c.blanks-3.ensures
+    then c.past_unit.ensures.1 then refl))

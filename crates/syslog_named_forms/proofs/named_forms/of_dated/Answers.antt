@@ -1,25 +1,73 @@
-use Rattle.std.proofs.Common.{List, [], ◌∷◌, ◌++◌, Some, refl}
-use Rattle.syslog_named_forms.proofs.NamedFormLemmas.{graded_tail_det, leveled_tail_det, named_later, tail_here}
-use Rattle.syslog_named_forms.specs.NamedForms.{dated_marked_forms, graded_tail, leveled_tail, tail_forms}
+use Rattle.std.proofs.Common.{List, [], ◌∷◌, ◌++◌, Option, Some, refl}
+use Rattle.syslog_text.specs.Pieces.Class.{Front, NoFront, Row, Text, mapped}
+use Rattle.syslog_named_forms.proofs.NamedFormLemmas.{event_tail_det, graded_tail_det, leveled_tail_det, tail_here}
+use Rattle.syslog_named_forms.proofs.NamedFormLemmas.{sourced_tail_det, named_later}
+use Rattle.syslog_named_forms.specs.NamedForms.{dated_forms, event_tail, front_row, graded_tail, leveled_tail}
+use Rattle.syslog_named_forms.specs.NamedForms.{dated_marked_forms, sourced_tail, tail_forms}
+use Rattle.syslog_sent.specs.declared.named.Named.{Named}
+use Rattle.syslog_named_forms.specs.NamedFinds.{FindsSaid}
+use Rattle.syslog_sent.specs.Named.{NamedTexts}
 use Rattle.syslog_sent.specs.Sent.{Form}
+use Rattle.syslog_sent.specs.declared.dialect.Dialect.{Dialect}
+use Rattle.syslog_sent.specs.declared.sent.SentDate.{SentDate}
 use Rattle.syslog_named_forms.proofs.named_forms.of_dated.Goals as goal
 
--- the forms after the first
+-- the forms after each one
+abbrev after_event : List Form
+after_event = tail_forms (sourced_tail ∷ []) ++ dated_marked_forms
+
+abbrev after_leveled : List Form
+after_leveled = tail_forms (event_tail ∷ sourced_tail ∷ []) ++ dated_marked_forms
+
 abbrev after_graded : List Form
-after_graded = tail_forms (leveled_tail ∷ []) ++ dated_marked_forms
+after_graded = tail_forms (leveled_tail ∷ event_tail ∷ sourced_tail ∷ []) ++ dated_marked_forms
+
+-- and what they find, where it is none of that one
+module _ {text rest : Text} {d : SentDate} (front : Front (Row front_row) text rest (tt, (d, (tt, tt))))
+    (r : Option (Dialect × Named)) where
+  no_graded : NoFront (mapped graded_tail.after NamedTexts graded_tail.names) rest → FindsSaid after_graded d text r
+      → FindsSaid dated_forms d text r
+  no_graded = named_later graded_tail after_graded graded_tail_det front r
+
+  no_leveled : NoFront (mapped leveled_tail.after NamedTexts leveled_tail.names) rest → FindsSaid after_leveled d text r
+      → FindsSaid after_graded d text r
+  no_leveled = named_later leveled_tail after_leveled leveled_tail_det front r
+
+  no_event : NoFront (mapped event_tail.after NamedTexts event_tail.names) rest → FindsSaid after_event d text r
+      → FindsSaid after_leveled d text r
+  no_event = named_later event_tail after_event event_tail_det front r
+
+  no_sourced : NoFront (mapped sourced_tail.after NamedTexts sourced_tail.names) rest → FindsSaid dated_marked_forms d text r
+      → FindsSaid after_event d text r
+  no_sourced = named_later sourced_tail dated_marked_forms sourced_tail_det front r
 
 pub returns-in-Some : goal.returns-in-Some
 returns-in-Some c d text front =
     tail_here graded_tail after_graded graded_tail_det front c.in-Some.ensures refl
 
 pub returns-in-Some-leveled : goal.returns-in-Some-leveled
-returns-in-Some-leveled c d text front =
-    named_later graded_tail after_graded graded_tail_det front (Some (_, c.in-Some-leveled.named)) c.in_default.ensures
-    (tail_here leveled_tail dated_marked_forms leveled_tail_det front
-    (c.in-Some-leveled.ensures _ c.past_host-after_host.ensures) refl)
+returns-in-Some-leveled c d text front = let after = c.past_host-after_host.ensures in
+    no_graded front (Some (_, c.in-Some-leveled.named)) c.in_default.ensures
+    (tail_here leveled_tail after_leveled leveled_tail_det front (c.in-Some-leveled.ensures _ after)
+    refl)
+
+pub returns-in-Some-event : goal.returns-in-Some-event
+returns-in-Some-event c d text front = let after = c.past_host-after_host.ensures in
+    no_graded front (Some (_, c.in-Some-event.named)) c.in_default.ensures
+    (no_leveled front (Some (_, c.in-Some-event.named)) (c.in_default-leveled.ensures _ after)
+    (tail_here event_tail after_event event_tail_det front c.in-Some-event.ensures refl))
+
+pub returns-in-Some-sourced : goal.returns-in-Some-sourced
+returns-in-Some-sourced c d text front = let after = c.past_host-after_host.ensures in
+    no_graded front (Some (_, c.in-Some-sourced.named)) c.in_default.ensures
+    (no_leveled front (Some (_, c.in-Some-sourced.named)) (c.in_default-leveled.ensures _ after)
+    (no_event front (Some (_, c.in-Some-sourced.named)) c.in_default-event.ensures
+    (tail_here sourced_tail dated_marked_forms sourced_tail_det front (c.in-Some-sourced.ensures _ after)
+    refl)))
 
 pub returns : goal.returns
 returns c d text front = let after = c.past_host-after_host.ensures in
-    named_later graded_tail after_graded graded_tail_det front c.of_message.result c.in_default.ensures
-    (named_later leveled_tail dated_marked_forms leveled_tail_det front c.of_message.result
-    (c.in_default-leveled.ensures _ after) (c.of_message.ensures after d text front))
+    no_graded front c.of_message.result c.in_default.ensures
+    (no_leveled front c.of_message.result (c.in_default-leveled.ensures _ after)
+    (no_event front c.of_message.result c.in_default-event.ensures
+    (no_sourced front c.of_message.result (c.in_default-sourced.ensures _ after) (c.of_message.ensures after d text front))))
