@@ -14,6 +14,15 @@ use Rattle.syslog_sent.specs.declared.sent.SentDate.{SentDate}
 use Rattle.syslog_dated_forms.proofs.ContainerLemmas.{container_row_det}
 use Rattle.syslog_dated_forms.proofs.DatedLemmas.{bsd_line_det, iso_line_det}
 use Rattle.syslog_sent.proofs.DateLemmas.{no_unless_later}
+use Rattle.syslog_sent.specs.Forms.{IsOfNone}
+use Rattle.syslog_sent.specs.Led.{IsDate, IsLed}
+use Rattle.syslog_sent.specs.declared.led.Led.{Led}
+use Rattle.syslog_sent.specs.declared.led.LeadingDate.{LeadingDate}
+use Rattle.syslog_sent.specs.declared.led.LeadingDate.TheVariants.{Month, Iso}
+use Rattle.syslog_dated_forms.specs.DatedForms.{journal_forms}
+use Rattle.syslog_dated_forms.specs.IosXr.{xr_row}
+use Rattle.syslog_dated_forms.proofs.IsoFrontLemmas.{has_iso, iso_no_other, iso_no_xr}
+use Rattle.syslog_dated_forms.proofs.MonthFrontLemmas.{has_month, no_other, no_xr}
 use Rattle.syslog_dated_forms.proofs.OtherDateLemmas.{procurve_row_det}
 
 pub no_odd_month : {t u : Text} → Front (run is_blank) t u tt → NoFront (Row bsd_row) u → NoDivision dated.bsd_row t
@@ -29,3 +38,19 @@ no_container g n = no_row_division container_row (no_row container_row container
 
 pub no_procurve : {t u : Text} → Front (run is_blank) t u tt → NoFront any_date u → NoDivision procurve_row t
 no_procurve g n = no_row_division procurve_row (no_row procurve_row procurve_row_det (g past inl n))
+
+-- a line that begins with a date is of no form with another beginning
+xr_at : (d : LeadingDate) {text t : Text} (r : Text) → Front (run is_blank) text t tt → IsDate d t r → NoDivision xr_row text
+xr_at (Month d) r g f = no_xr g (has_month f)
+xr_at (Iso d) r g (n, f) = iso_no_xr g (has_iso f)
+
+pub no_led_xr : {text : Text} {led : Led} → IsLed text led → NoDivision xr_row text
+no_led_xr {led = led} is = xr_at led.date _ is.gap is.date
+
+other_at : (d : LeadingDate) {text t : Text} (r : Text) → Front (run is_blank) text t tt → IsDate d t r
+    → IsOfNone journal_forms text
+other_at (Month d) r g f = no_other g (has_month f)
+other_at (Iso d) r g (n, f) = iso_no_other g (has_iso f)
+
+pub no_led_other : {text : Text} {led : Led} → IsLed text led → IsOfNone journal_forms text
+no_led_other {led = led} is = other_at led.date _ is.gap is.date

@@ -84,7 +84,7 @@ tag_letter : (c : ℕ) → IsSmall c → is_tag_char c ≡ true
 tag_letter c h = let (large, low) = small_low c h in
     grind (arith, nat_tests, agree_below_at (λ k. nat_lt k 65 || is_tag_char k) (λ k. true) 123 c refl low)
 
-tag_digit : (c : ℕ) → is_ascii_digit c ≡ true → is_tag_char c ≡ true
+pub tag_digit : (c : ℕ) → is_ascii_digit c ≡ true → is_tag_char c ≡ true
 tag_digit c h = let low : c < 58 = grind (arith, nat_tests, h) in
     grind (arith, nat_tests, h, agree_below_at (λ k. nat_lt k 48 || is_tag_char k) (λ k. true) 58 c refl low)
 

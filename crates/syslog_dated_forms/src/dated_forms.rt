@@ -9,7 +9,6 @@ ghost use Rattle.syslog_sent.specs.DateViews.{bsd_values};
 ghost use Rattle.syslog_sent.specs.Forms.{Finds};
 ghost use Rattle.syslog_dated_forms.specs.Esxi.{esxi_form};
 ghost use Rattle.syslog_dated_forms.specs.Filed.{filed_forms};
-ghost use Rattle.syslog_dated_forms.specs.IosXr.{xr_form};
 ghost use Rattle.syslog_sent.specs.Led.{IsFront, IsLed, IsUnled};
 ghost use Rattle.syslog_sent.specs.Sent.{Sends};
 ghost use Rattle.syslog_dated_forms.specs.DatedForms as spec;
@@ -32,113 +31,44 @@ use syslog_sent::dialect::Dialect;
 use syslog_sent::led::{LeadingDate, Led};
 use syslog_sent::sent::{Sent, SentDate};
 
-fn from_undated(text: &str) -> Option<(Dialect, Sent<'_>)>
-    ensures { Finds spec.undated_forms (chars text.now) result }
+// Tries the forms that need not begin with a date on a text that begins with none.
+fn from_unled(text: &str) -> Option<(Dialect, Sent<'_>)>
+    ensures { IsUnled (chars text.now) → Finds spec.xr_forms (chars text.now) result }
 {
-    match read_undated(text) {
-        Some(sent) => Some((Dialect::CiscoUndated, sent)),
-        None => None,
+    if let Some(sent) = read_ios_xr(text) {
+        return Some((Dialect::CiscoIosXr, sent));
     }
-}
-
-fn from_short(text: &str) -> Option<(Dialect, Sent<'_>)>
-    ensures { Finds spec.short_forms (chars text.now) result }
-{
-    match read_short(text) {
-        Some(sent) => Some((Dialect::UnixSeconds, sent)),
-        None => from_undated(text),
+    if let Some(sent) = read_journal(text) {
+        return Some((Dialect::Journal, sent));
     }
-}
-
-fn from_meraki(text: &str) -> Option<(Dialect, Sent<'_>)>
-    ensures { Finds spec.meraki_forms (chars text.now) result }
-{
-    match read_meraki(text) {
-        Some(sent) => Some((Dialect::UnixSeconds, sent)),
-        None => from_short(text),
+    if let Some(sent) = read_netscaler(text) {
+        return Some((Dialect::NetScaler, sent));
     }
-}
-
-fn from_year(text: &str) -> Option<(Dialect, Sent<'_>)>
-    ensures { Finds spec.year_forms (chars text.now) result }
-{
-    match read_year(text) {
-        Some(sent) => Some((Dialect::BsdDate, sent)),
-        None => from_meraki(text),
+    if let Some(sent) = read_utm(text) {
+        return Some((Dialect::SophosUtm, sent));
     }
-}
-
-fn from_ctime(text: &str) -> Option<(Dialect, Sent<'_>)>
-    ensures { Finds spec.ctime_forms (chars text.now) result }
-{
-    match read_ctime(text) {
-        Some(sent) => Some((Dialect::BsdDate, sent)),
-        None => from_year(text),
+    if let Some(sent) = read_logread(text) {
+        return Some((Dialect::SeverityFirst, sent));
     }
-}
-
-fn from_ctime_message(text: &str) -> Option<(Dialect, Sent<'_>)>
-    ensures { Finds spec.ctime_message_forms (chars text.now) result }
-{
-    match read_ctime_message(text) {
-        Some(sent) => Some((Dialect::Bracketed, sent)),
-        None => from_ctime(text),
+    if let Some(sent) = read_ctime_message(text) {
+        return Some((Dialect::Bracketed, sent));
     }
-}
-
-fn from_logread(text: &str) -> Option<(Dialect, Sent<'_>)>
-    ensures { Finds spec.logread_forms (chars text.now) result }
-{
-    match read_logread(text) {
-        Some(sent) => Some((Dialect::SeverityFirst, sent)),
-        None => from_ctime_message(text),
+    if let Some(sent) = read_ctime(text) {
+        return Some((Dialect::BsdDate, sent));
     }
-}
-
-fn from_utm(text: &str) -> Option<(Dialect, Sent<'_>)>
-    ensures { Finds spec.utm_forms (chars text.now) result }
-{
-    match read_utm(text) {
-        Some(sent) => Some((Dialect::SophosUtm, sent)),
-        None => from_logread(text),
+    if let Some(sent) = read_year(text) {
+        return Some((Dialect::BsdDate, sent));
     }
-}
-
-fn from_netscaler(text: &str) -> Option<(Dialect, Sent<'_>)>
-    ensures { Finds spec.netscaler_forms (chars text.now) result }
-{
-    match read_netscaler(text) {
-        Some(sent) => Some((Dialect::NetScaler, sent)),
-        None => from_utm(text),
+    if let Some(sent) = read_meraki(text) {
+        return Some((Dialect::UnixSeconds, sent));
     }
-}
-
-fn from_journal(text: &str) -> Option<(Dialect, Sent<'_>)>
-    ensures { Finds spec.journal_forms (chars text.now) result }
-{
-    match read_journal(text) {
-        Some(sent) => Some((Dialect::Journal, sent)),
-        None => from_netscaler(text),
+    if let Some(sent) = read_short(text) {
+        return Some((Dialect::UnixSeconds, sent));
     }
-}
-
-// Tries the forms that begin otherwise on a text that begins with a date. None of them begins with a month date.
-fn past_led<'a>(text: &'a str, led: Led<'a>) -> Option<(Dialect, Sent<'a>)>
-    ensures { IsLed (chars text.entry.now) led.entry → Finds spec.journal_forms (chars text.entry.now) result }
-{
-    match led.date {
-        LeadingDate::Month(_) => None,
-        LeadingDate::Iso(_) => from_journal(text),
+    if let Some(sent) = read_undated(text) {
+        return Some((Dialect::CiscoUndated, sent));
     }
-}
-
-fn from_procurve<'a>(text: &'a str, led: Led<'a>) -> Option<(Dialect, Sent<'a>)>
-    ensures { IsLed (chars text.entry.now) led.entry → Finds spec.procurve_forms (chars text.entry.now) result }
-{
-    match read_procurve(led.sent, led.rest) {
-        Some(sent) => Some((Dialect::ProCurve, sent)),
-        None => past_led(text, led),
-    }
+    None
 }
 
 // Returns what a line of ESXi says, which never begins with a month date.
@@ -148,15 +78,6 @@ fn of_esxi(led: Led<'_>) -> Option<Sent<'_>>
     match led.date {
         LeadingDate::Month(_) => None,
         LeadingDate::Iso(date) => read_esxi(date, led.rest),
-    }
-}
-
-fn from_esxi<'a>(text: &'a str, led: Led<'a>) -> Option<(Dialect, Sent<'a>)>
-    ensures { IsLed (chars text.entry.now) led.entry → Finds spec.esxi_forms (chars text.entry.now) result }
-{
-    match of_esxi(led) {
-        Some(sent) => Some((Dialect::Esxi, sent)),
-        None => from_procurve(text, led),
     }
 }
 
@@ -170,43 +91,21 @@ fn of_container(led: Led<'_>) -> Option<Sent<'_>>
     }
 }
 
-fn from_container<'a>(text: &'a str, led: Led<'a>) -> Option<(Dialect, Sent<'a>)>
-    ensures { IsLed (chars text.entry.now) led.entry → Finds spec.container_forms (chars text.entry.now) result }
+// Tries the forms that begin with a date on a text that begins with this one. No form with another beginning divides
+// it.
+fn from_led(led: Led<'_>) -> Option<(Dialect, Sent<'_>)>
+    ensures { (text : Text) → IsLed text led.entry → Finds spec.xr_forms text result }
 {
-    match of_container(led) {
-        Some(sent) => Some((Dialect::Container, sent)),
-        None => from_esxi(text, led),
+    if let Some(sent) = of_container(led) {
+        return Some((Dialect::Container, sent));
     }
-}
-
-// Returns what a line of IOS-XR says, which never begins with a month date.
-fn of_xr<'a>(text: &'a str, led: Led<'a>) -> Option<Sent<'a>>
-    ensures { IsLed (chars text.entry.now) led.entry → Sends xr_form (chars text.entry.now) result }
-{
-    match led.date {
-        LeadingDate::Month(_) => None,
-        LeadingDate::Iso(_) => read_ios_xr(text),
+    if let Some(sent) = of_esxi(led) {
+        return Some((Dialect::Esxi, sent));
     }
-}
-
-// Tries the forms that need not begin with a date, and those after them, on a text that begins with one.
-fn from_led<'a>(text: &'a str, led: Led<'a>) -> Option<(Dialect, Sent<'a>)>
-    ensures { IsLed (chars text.entry.now) led.entry → Finds spec.xr_forms (chars text.entry.now) result }
-{
-    match of_xr(text, led) {
-        Some(sent) => Some((Dialect::CiscoIosXr, sent)),
-        None => from_container(text, led),
+    if let Some(sent) = read_procurve(led.sent, led.rest) {
+        return Some((Dialect::ProCurve, sent));
     }
-}
-
-// Tries the forms that need not begin with a date on a text that begins with none.
-fn from_unled(text: &str) -> Option<(Dialect, Sent<'_>)>
-    ensures { IsUnled (chars text.now) → Finds spec.xr_forms (chars text.now) result }
-{
-    match read_ios_xr(text) {
-        Some(sent) => Some((Dialect::CiscoIosXr, sent)),
-        None => from_journal(text),
-    }
+    None
 }
 
 // Tries the forms that need not begin with a date, and those after them.
@@ -214,7 +113,7 @@ fn from_xr<'a>(text: &'a str, front: Option<Led<'a>>) -> Option<(Dialect, Sent<'
     ensures { IsFront (chars text.entry.now) front.entry → Finds spec.xr_forms (chars text.entry.now) result }
 {
     match front {
-        Some(led) => from_led(text, led),
+        Some(led) => from_led(led),
         None => from_unled(text),
     }
 }
@@ -223,10 +122,10 @@ fn from_xr<'a>(text: &'a str, front: Option<Led<'a>>) -> Option<(Dialect, Sent<'
 fn filed_after(led: Led<'_>) -> Option<(Dialect, Sent<'_>)>
     ensures { (text : Text) → IsLed text led.entry → Finds (filed_forms ++ spec.timed_forms) text result }
 {
-    match read_filed(led.sent, led.rest) {
-        Some(found) => Some(found),
-        None => from_timed(led),
+    if let Some(found) = read_filed(led.sent, led.rest) {
+        return Some(found);
     }
+    from_timed(led)
 }
 
 // Returns what a filed line says, which begins with a date.
@@ -265,10 +164,10 @@ fn of_cisco<'a>(text: &'a str, front: Option<Led<'a>>) -> Option<(Dialect, Sent<
     if !is_marked(text) {
         return None;
     }
-    match read_cisco(text, front) {
-        Some(found) => Some(found),
-        None => of_filed(front),
+    if let Some(found) = read_cisco(text, front) {
+        return Some(found);
     }
+    of_filed(front)
 }
 
 /// Returns the dialect that the text after a priority is in by its date, and what the text says. `front` is what
@@ -276,10 +175,10 @@ fn of_cisco<'a>(text: &'a str, front: Option<Led<'a>>) -> Option<(Dialect, Sent<
 pub fn read<'a>(text: &'a str, front: Option<Led<'a>>) -> Option<(Dialect, Sent<'a>)>
     ensures { IsFront (chars text.entry.now) front.entry → Finds spec.all_dated (chars text.entry.now) result }
 {
-    match of_cisco(text, front) {
-        Some(found) => Some(found),
-        None => from_xr(text, front),
+    if let Some(found) = of_cisco(text, front) {
+        return Some(found);
     }
+    from_xr(text, front)
 }
 
 // Returns what a line says that has this month date and no form of its own after it.

@@ -7,6 +7,6 @@ pub returns-in-Some : goal.returns-in-Some
 returns-in-Some c text led = found_early filed_forms timed_forms _ c.in-Some.found
     (c.in-Some.ensures _ _ led.gap (rw led.sent (any_front c.args.led.date led.date)))
 
-pub returns-in-None : goal.returns-in-None
-returns-in-None c text led = found_late filed_forms timed_forms _ c.from_timed.result
-    (c.in-None.ensures _ _ led.gap (rw led.sent (any_front c.args.led.date led.date))) (c.from_timed.ensures text led)
+pub returns : goal.returns
+returns c text led = found_late filed_forms timed_forms _ c.from_timed.result
+    (c.in_default.ensures _ _ led.gap (rw led.sent (any_front c.args.led.date led.date))) (c.from_timed.ensures text led)

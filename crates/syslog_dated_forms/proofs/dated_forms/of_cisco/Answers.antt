@@ -18,6 +18,6 @@ pub returns-in-Some : goal.returns-in-Some
 returns-in-Some c front =
     found_early cisco_forms (filed_forms ++ timed_forms) _ c.in-Some.found (c.in-Some.ensures front)
 
-pub returns-in-None : goal.returns-in-None
-returns-in-None c front = found_late cisco_forms (filed_forms ++ timed_forms) _ c.of_filed.result
-    (c.in-None.ensures front) (c.of_filed.ensures _ front)
+pub returns : goal.returns
+returns c front = found_late cisco_forms (filed_forms ++ timed_forms) _ c.of_filed.result
+    (c.in_default.ensures front) (c.of_filed.ensures _ front)

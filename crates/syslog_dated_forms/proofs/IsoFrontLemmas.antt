@@ -1,0 +1,469 @@
+-- A text that begins with a date that is nearly one of RFC 3339: no form with another beginning divides it.
+use Rattle.std.proofs.Common.{◌≡◌, ◌⊎◌, inl, inr, ℕ, ◌<◌, true, false, [], ◌∷◌, ◌++◌, length, Option, Some}
+use Rattle.std.proofs.Common.{refl, sym, ap, subst, ◌∙◌, arith, get_or, drop}
+use Rattle.std.proofs.lemmas.Bool.Decides.{nat_tests}
+use Rattle.std.specs.Char.{is_ascii_digit}
+use Rattle.syslog_text.specs.Pieces.Class.{Text, Each, Ends, Front, NoDivision, NoFront, Row, exactly}
+use Rattle.syslog_text.specs.Pieces.Class.{run, some_run}
+use Rattle.syslog_text.specs.Text.{is_blank, is_tag_char, colon}
+use Rattle.syslog_pieces.specs.Timestamp.Rfc3339.{pair, year}
+use Rattle.syslog_text.proofs.PieceLemmas.Class.{◌past◌, ◌then◌, each_map, front_of, front_same, mapped_front, no_mapped}
+use Rattle.syslog_text.proofs.PieceLemmas.Class.{no_row, no_row_division, optional_none, optional_some, row_of, row_pieces}
+use Rattle.syslog_text.proofs.PieceLemmas.Class.{◌also◌, row_cons, row_nil, rows_none_later, run_det, some_run_det}
+use Rattle.syslog_text.proofs.PieceLemmas.Lists.{Begins, begins}
+use Rattle.syslog_text.proofs.PieceLemmas.Rules.{no_such_front, such_front}
+use Rattle.syslog_text.proofs.TextLemmas.Runs.{no_run}
+use Rattle.syslog_pieces.proofs.TimestampLemmas.MonthDate.{IsBlank, blanks_begin}
+use Rattle.syslog_dated_forms.specs.Cisco.{IsMnemonic, begins_host, counter_row, label, label_row, message_row, mnemonic}
+use Rattle.syslog_dated_forms.specs.Undated.{IsName, name_label, run_clock_row, run_word_row, undated_row, uptime}
+use Rattle.syslog_sent.specs.Date.{date_part, fraction_row, iso_date, iso_row, middle, point, weekday}
+use Rattle.syslog_dated_forms.specs.Dated.{ctime_message_row, ctime_row, journal_row, year_date, year_date_row}
+use Rattle.syslog_dated_forms.specs.Dated.{year_row}
+use Rattle.syslog_dated_forms.specs.Cisco.{dated_in, front_year_row}
+use Rattle.syslog_dated_forms.specs.DatedForms.{journal_forms}
+use Rattle.syslog_sent.specs.Forms.{IsOfNone}
+use Rattle.syslog_dated_forms.specs.IosXr.{card_row, host, host_in, host_row, node, xr_row}
+use Rattle.syslog_sent.specs.Named.{BeginsWith}
+use Rattle.syslog_dated_forms.specs.NetScaler.{netscaler_row, slashed_of, slashed_row}
+use Rattle.syslog_dated_forms.specs.OpenWrt.{logread_row}
+use Rattle.syslog_dated_forms.specs.SophosUtm.{colon_of, colon_row, utm_row}
+use Rattle.syslog_dated_forms.specs.UnixSeconds.{meraki_row, short_row, unix_of, unix_row}
+use Rattle.syslog_sent.specs.Zone.{bare_word, is_capital}
+use Rattle.syslog_sent.specs.declared.sent.SentDate.{SentDate}
+use Rattle.syslog_dated_forms.proofs.CiscoLemmas.{counter_row_det, message_row_det}
+use Rattle.syslog_dated_forms.proofs.DatedLemmas.{ctime_line_det, ctime_message_det, journal_line_det, year_date_det}
+use Rattle.syslog_dated_forms.proofs.DatedLemmas.{year_line_det}
+use Rattle.syslog_dated_forms.proofs.MonthFrontLemmas.{tag_digit}
+use Rattle.syslog_dated_forms.proofs.OtherDateLemmas.{card_row_det, host_row_det, logread_row_det, netscaler_row_det}
+use Rattle.syslog_dated_forms.proofs.OtherDateLemmas.{utm_row_det, xr_row_det}
+use Rattle.syslog_dated_forms.proofs.UndatedLemmas.{run_clock_row_det, undated_row_det}
+use Rattle.syslog_dated_forms.proofs.UnixLemmas.{short_row_det}
+use Rattle.syslog_sent.proofs.NamedLemmas.{no_otherwise}
+use Rattle.syslog_sent.proofs.ZoneLemmas.{bare_word_det, day_capital}
+
+-- ---- the word that such a date begins with
+
+-- characters of a word before it are of the word
+longer : (p : Text) {u r w : Text} → Each is_tag_char p → Front bare_word u r w → Front bare_word (p ++ u) r (p ++ w)
+longer [] e f = f
+longer (c ∷ p) e f = let g = longer p e.1 f in let (v, (some, each, ends), is) = g.is in
+    front_of (c ∷ g.piece) (ap (λ (x : Text). c ∷ x) g.whole)
+    ((tt, (omega arith, (e.0, each), ends), ap (λ (x : Text). c ∷ x) is))
+
+-- after it comes a colon and a digit, where the date has a `T`
+pub record IsTied (u : Text) : Type 0 where
+  pub x : ℕ
+  pub more : Text
+  pub is : u ≡ 58 ∷ x ∷ more
+  pub digit : is_ascii_digit x ≡ true
+
+-- and otherwise a space and the hour
+pub record IsSpaced (u : Text) : Type 0 where
+  pub x : ℕ
+  pub y : ℕ
+  pub more : Text
+  pub is : u ≡ 32 ∷ x ∷ y ∷ 58 ∷ more
+  pub first : is_ascii_digit x ≡ true
+  pub second : is_ascii_digit y ≡ true
+
+-- the year, the mark after it, and the word
+pub record HasIso (t : Text) : Type 0 where
+  pub a : ℕ
+  pub b : ℕ
+  pub c : ℕ
+  pub d : ℕ
+  pub e : ℕ
+  pub more : Text
+  pub is : t ≡ a ∷ b ∷ c ∷ d ∷ e ∷ more
+  pub digits : Each is_ascii_digit (a ∷ b ∷ c ∷ d ∷ [])
+  pub part : (e ≡ 45) ⊎ (e ≡ 47)
+  pub word : Text
+  pub left : Text
+  pub found : Front bare_word t left word
+  pub ends : IsTied left ⊎ IsSpaced left
+
+-- two digits
+record IsPair (p : Text) : Type 0 where
+  x : ℕ
+  y : ℕ
+  is : p ≡ x ∷ y ∷ []
+  first : is_ascii_digit x ≡ true
+  second : is_ascii_digit y ≡ true
+
+pair_digits : (p q : Text) (n : ℕ) → (pair 100).Is p q n → IsPair p
+pair_digits p q n (e, fits) = record {
+  x = _;
+  y = _;
+  is = e;
+  first = grind (arith, nat_tests, fits);
+  second = grind (arith, nat_tests, fits);
+}
+
+record IsYear (p : Text) : Type 0 where
+  a : ℕ
+  b : ℕ
+  c : ℕ
+  d : ℕ
+  is : p ≡ a ∷ b ∷ c ∷ d ∷ []
+  digits : Each is_ascii_digit (a ∷ b ∷ c ∷ d ∷ [])
+
+year_digits : (p q : Text) (n : ℕ) → year.Is p q n → IsYear p
+year_digits p q n (e, fits) = record {
+  a = _;
+  b = _;
+  c = _;
+  d = _;
+  is = e;
+  digits = (
+    grind (arith, nat_tests, fits),
+    (grind (arith, nat_tests, fits), (grind (arith, nat_tests, fits), (grind (arith, nat_tests, fits), tt))),
+  );
+}
+
+-- a month or a day: its mark, and digits
+record IsPart (p : Text) : Type 0 where
+  e : ℕ
+  some : Text
+  is : p ≡ e ∷ some
+  mark : (e ≡ 45) ⊎ (e ≡ 47)
+  tags : Each is_tag_char p
+
+digits_tag : (p : Text) → Each is_ascii_digit p → Each is_tag_char p
+digits_tag = each_map is_ascii_digit is_tag_char tag_digit
+
+part_told : (p q : Text) (n : ℕ) → date_part.Is p q n → IsPart p
+part_told p q n (inl k, (t, is, h), i) =
+    record { e = 45; some = t; is = is; mark = inl refl; tags = rw is (refl, digits_tag t h.1) }
+part_told p q n (inr k, (none, (t, is, h)), i) =
+    record { e = 47; some = t; is = is; mark = inr refl; tags = rw is (refl, digits_tag t h.1) }
+
+word_of : (p q : Text) → 0 < length p → Each is_tag_char p → Ends is_tag_char q → Front bare_word (p ++ q) q p
+word_of p q some each ends = front_of p refl ((tt, (some, each, ends), refl))
+
+-- ---- what follows the month and the day
+
+-- the word of a date with a `T` goes on to the hour, and one with a space ends before it
+record IsWord (u : Text) : Type 0 where
+  word : Text
+  left : Text
+  found : Front bare_word u left word
+  ends : IsTied left ⊎ IsSpaced left
+
+-- the hour, and a colon and the minutes after it
+record IsClock (u : Text) : Type 0 where
+  h : Text
+  v : Text
+  whole : u ≡ h ++ v
+  hour : IsPair h
+  x : ℕ
+  more : Text
+  minutes : v ≡ 58 ∷ x ∷ more
+  digit : is_ascii_digit x ≡ true
+
+pair_tags : (p : Text) (q : Text) → IsPair p → (0 < length p) × (Each is_tag_char p)
+pair_tags p q h = rw h.is (omega arith, (tag_digit h.x h.first, (tag_digit h.y h.second, tt)))
+
+after_mid : (d mid : Text) {u3 u4 : Text} → Each is_tag_char d → 0 < length d → u3 ≡ mid ++ u4
+    → (mid ≡ 84 ∷ []) ⊎ (mid ≡ 32 ∷ []) → IsClock u4 → IsWord (d ++ u3)
+after_mid d mid {u3} {u4} each some whole (inl tied) k =
+    let (long, tags) = pair_tags k.h k.v k.hour in
+    let hour : Front bare_word u4 k.v k.h = subst (λ (z : Text). Front bare_word z k.v k.h) (sym k.whole)
+    (word_of k.h k.v long tags (rw k.minutes refl)) in
+    let t : u3 ≡ 84 ∷ u4 = whole ∙ ap (λ (z : Text). z ++ u4) tied in
+    record {
+      word = d ++ (84 ∷ k.h);
+      left = k.v;
+      found = longer d each (subst (λ (z : Text). Front bare_word z k.v (84 ∷ k.h)) (sym t)
+          (longer (84 ∷ []) (refl, tt) hour));
+      ends = inl (record { x = k.x; more = k.more; is = k.minutes; digit = k.digit });
+    }
+after_mid d mid {u3} {u4} each some whole (inr spaced) k =
+    let t : u3 ≡ 32 ∷ u4 = whole ∙ ap (λ (z : Text). z ++ u4) spaced in
+    let hour : u4 ≡ k.hour.x ∷ k.hour.y ∷ 58 ∷ k.x ∷ k.more = k.whole ∙ ap (λ (z : Text). z ++ k.v) k.hour.is
+    ∙ ap (λ (z : Text). k.hour.x ∷ k.hour.y ∷ z) k.minutes in
+    record {
+      word = d;
+      left = u3;
+      found = word_of d u3 some each (rw t refl);
+      ends = inr (record {
+        x = k.hour.x;
+        y = k.hour.y;
+        more = k.x ∷ k.more;
+        is = t ∙ ap (λ (z : Text). 32 ∷ z) hour;
+        first = k.hour.first;
+        second = k.hour.second;
+      });
+    }
+
+mid_told : (p q : Text) (v : middle.Value) → middle.Is p q v → (p ≡ 84 ∷ []) ⊎ (p ≡ 32 ∷ [])
+mid_told p q v (inl w, h, i) = inl h
+mid_told p q v (inr w, h, i) = inr h
+
+part_long : (p : Text) → IsPart p → 0 < length p
+part_long p h = rw h.is (omega arith)
+
+with_year : (y m : Text) {t u1 u2 : Text} → t ≡ y ++ u1 → u1 ≡ m ++ u2 → IsYear y → IsPart m → IsWord u2 → HasIso t
+with_year y m {t} {u1} {u2} at_year at_month year month w =
+    let tags : Each is_tag_char y = rw year.is (digits_tag (year.a ∷ year.b ∷ year.c ∷ year.d ∷ []) year.digits) in
+    let later : Front bare_word u1 w.left (m ++ w.word) = subst (λ (z : Text). Front bare_word z w.left (m ++ w.word))
+    (sym at_month) (longer m month.tags w.found) in
+    record {
+      a = year.a;
+      b = year.b;
+      c = year.c;
+      d = year.d;
+      e = month.e;
+      more = month.some ++ u2;
+      is = at_year ∙ ap (λ (z : Text). z ++ u1) year.is ∙ ap (λ (z : Text). year.a ∷ year.b ∷ year.c ∷ year.d ∷ z)
+          (at_month ∙ ap (λ (z : Text). z ++ u2) month.is);
+      digits = year.digits;
+      part = month.mark;
+      word = y ++ (m ++ w.word);
+      left = w.left;
+      found = subst (λ (z : Text). Front bare_word z w.left (y ++ (m ++ w.word))) (sym at_year) (longer y tags later);
+      ends = w.ends;
+    }
+
+pub has_iso : {t r : Text} {d : SentDate} → Front iso_date t r d → HasIso t
+has_iso f =
+    let (vs, h, i) = f.is in
+    let (u1, y, (u2, m, (u3, d, (u4, mid, (u5, hour, (u6, minute, more)))))) = row_pieces iso_row
+    (front_of f.piece f.whole h) in
+    let day = part_told d.piece u3 _ d.is in
+    let (digits, is, fits) = minute.is in
+    let two = pair_digits digits u6 _ fits in
+    let clock : IsClock u4 = record {
+      h = hour.piece;
+      v = u5;
+      whole = hour.whole;
+      hour = pair_digits hour.piece u5 _ hour.is;
+      x = two.x;
+      more = two.y ∷ u6;
+      minutes = minute.whole ∙ ap (λ (z : Text). z ++ u6) (is ∙ ap (λ (z : Text). 58 ∷ z) two.is);
+      digit = two.first;
+    } in
+    let at_day : IsWord u2 = subst IsWord (sym d.whole) (after_mid d.piece mid.piece day.tags (part_long d.piece day)
+    mid.whole (mid_told mid.piece u4 _ mid.is) clock) in
+    with_year y.piece m.piece y.whole m.whole (year_digits y.piece u1 _ y.is) (part_told m.piece u2 _ m.is) at_day
+
+-- ---- what does not begin the text
+
+-- neither of the two is a dot, a comma or a colon
+mark_apart : (e c : ℕ) → (e ≡ 45) ⊎ (e ≡ 47) → (c ≡ 44) ⊎ ((c ≡ 46) ⊎ (c ≡ 58)) → e ≡ c → ⊥
+mark_apart e c (inl p) (inl q) is = omega (arith, p, q, is)
+mark_apart e c (inl p) (inr (inl q)) is = omega (arith, p, q, is)
+mark_apart e c (inl p) (inr (inr q)) is = omega (arith, p, q, is)
+mark_apart e c (inr p) (inl q) is = omega (arith, p, q, is)
+mark_apart e c (inr p) (inr (inl q)) is = omega (arith, p, q, is)
+mark_apart e c (inr p) (inr (inr q)) is = omega (arith, p, q, is)
+
+mark_no_blank : (e : ℕ) → (e ≡ 45) ⊎ (e ≡ 47) → is_blank e ≡ false
+mark_no_blank e (inl p) = rw p refl
+mark_no_blank e (inr p) = rw p refl
+
+mark_no_digit : (e : ℕ) → (e ≡ 45) ⊎ (e ≡ 47) → is_ascii_digit e ≡ false
+mark_no_digit e (inl p) = rw p refl
+mark_no_digit e (inr p) = rw p refl
+
+digit_no_blank : (c : ℕ) → is_ascii_digit c ≡ true → is_blank c ≡ false
+digit_no_blank c h = grind (arith, nat_tests, h)
+
+digit_host : (c : ℕ) → is_ascii_digit c ≡ true → begins_host c ≡ true
+digit_host c h = grind (arith, nat_tests, h)
+
+digit_is : (c k : ℕ) → is_ascii_digit c ≡ true → is_ascii_digit k ≡ false → c ≡ k → ⊥
+digit_is c k h n is = let bad : true ≡ false = sym h ∙ ap is_ascii_digit is ∙ n in cc
+
+-- the character at a place of two texts that are one
+at : (n : ℕ) {s t : Text} → s ≡ t → get_or s n 0 ≡ get_or t n 0
+at n e = ap (λ (x : Text). get_or x n 0) e
+
+-- two digits begin no node
+no_node_at : (a b : ℕ) (more : Text) → is_ascii_digit a ≡ true → is_ascii_digit b ≡ true → NoFront node (a ∷ b ∷ more)
+no_node_at a b more h k p q v e ((w, g, is), inl (r, f)) =
+    digit_is a 82 h refl (at 0 (e ∙ ap (λ (x : Text). x ++ q) (sym is ∙ f.whole ∙ ap (λ (x : Text). x ++ r) f.is)))
+no_node_at a b more h k p q v e ((w, g, is), inr (inl (r, f))) =
+    digit_is a 76 h refl (at 0 (e ∙ ap (λ (x : Text). x ++ q) (sym is ∙ f.whole ∙ ap (λ (x : Text). x ++ r) f.is)))
+no_node_at a b more h k p q v e ((w, g, is), inr (inr (r, f))) =
+    digit_is b 47 k refl (at 1 (e ∙ ap (λ (x : Text). x ++ q) (sym is ∙ f.whole ∙ ap (λ (x : Text). x ++ r) f.is)))
+
+word_mnemonic : (a : ℕ) (p q more : Text) → is_ascii_digit a ≡ true → a ∷ more ≡ p ++ q → IsMnemonic p → ⊥
+word_mnemonic a [] q more h e m = m
+word_mnemonic a (c ∷ []) q more h e m = m
+word_mnemonic a (c ∷ d ∷ p) q more h e m =
+    let same : a ≡ c = at 0 e in grind (arith, nat_tests, h, same, m)
+
+word_host : (a : ℕ) (p v q : Text) {more : Text} → a ∷ more ≡ p ++ q → bare_word.Is p q v → is_ascii_digit a ≡ true
+    → BeginsWith begins_host v
+word_host a [] v q e (w, h, is) k = absurd (let some = h.0 in omega (arith, some))
+word_host a (c ∷ p) v q e (w, h, is) k = let same : a ≡ c = at 0 e in
+    rw is (digit_host c (subst (λ (x : ℕ). is_ascii_digit x ≡ true) same k))
+
+no_capital : (a : ℕ) (more : Text) → is_ascii_digit a ≡ true → BeginsWith is_capital (a ∷ more) → ⊥
+no_capital a more h k = grind (arith, nat_tests, h, k)
+
+module _ {t : Text} (m : HasIso t) where
+  year_front : Front (some_run is_ascii_digit) t (m.e ∷ m.more) tt
+  year_front = front_of (m.a ∷ m.b ∷ m.c ∷ m.d ∷ []) m.is (omega arith, m.digits, mark_no_digit m.e m.part)
+
+  no_colon : NoFront (exactly (58 ∷ [])) (m.e ∷ m.more)
+  no_colon p q v e h = mark_apart m.e 58 m.part (inr (inr refl)) (at 0 (e ∙ ap (λ (x : Text). x ++ q) h))
+
+  iso_no_counter : NoFront (Row counter_row) t
+  iso_no_counter = no_row counter_row counter_row_det (year_front past inl no_colon)
+
+  no_char : (c : ℕ) → is_ascii_digit c ≡ false → NoFront (exactly (c ∷ [])) t
+  no_char c n p q v e h = digit_is m.a c m.digits.0 n (at 0 (sym m.is ∙ e ∙ ap (λ (x : Text). x ++ q) h))
+
+  no_blank : Front (run is_blank) t t tt
+  no_blank = record { piece = []; whole = refl; is = (tt, rw m.is (digit_no_blank m.a m.digits.0)) }
+
+  -- no colon with blanks after it follows the word
+  no_colon_gap : {u w : Text} → Front (exactly (58 ∷ [])) m.left u tt → Front (some_run is_blank) u w tt → ⊥
+  no_colon_gap {u} c g = elim m.ends [
+    | inl tied ↦ (
+        let is : tied.x ∷ tied.more ≡ u = ap (λ (x : Text). drop 1 x) (sym tied.is ∙ begins 58 m.left u c) in
+        let blank : Begins IsBlank (tied.x ∷ tied.more) = subst (λ (x : Text). Begins IsBlank x) (sym is)
+        (blanks_begin g) in
+        let visible = digit_no_blank tied.x tied.digit in
+        let bad : false ≡ true = sym visible ∙ blank in cc
+        )
+    | inr spaced ↦ (let bad : 32 ≡ 58 = at 0 (sym spaced.is ∙ begins 58 m.left u c) in omega (arith, bad))
+  ]
+
+  iso_no_label : NoFront label t
+  iso_no_label p q v e (vs, h, is) =
+      let (u, o, (w, c, (x, g, more))) = row_pieces label_row (front_of p e h) in
+      let same = (front_same bare_word bare_word_det (front_of o.piece o.whole o.is.0) m.found).0 in
+      no_colon_gap (subst (λ (y : Text). Front (exactly (58 ∷ [])) y w tt) same c) g
+
+  iso_no_uptime : NoFront uptime t
+  iso_no_uptime = no_otherwise (no_row run_clock_row run_clock_row_det (year_front past inl no_colon))
+      (λ p q vs e h. let (u, o, (w, c, (x, g, more))) = row_pieces run_word_row (front_of p e h) in
+      let same = (front_same bare_word bare_word_det (front_of o.piece o.whole o.is.0) m.found).0 in
+      no_colon_gap (subst (λ (y : Text). Front (exactly (58 ∷ [])) y w tt) same c) g)
+
+  iso_no_mnemonic : NoFront mnemonic t
+  iso_no_mnemonic p q v e ((w, h, is), k) =
+      word_mnemonic m.a p q _ m.digits.0 (sym m.is ∙ e) (subst IsMnemonic is k)
+
+  iso_no_weekday : NoFront weekday t
+  iso_no_weekday p q v e ((w, h, is), k) = no_capital m.a (m.b ∷ m.c ∷ m.d ∷ m.e ∷ m.more) m.digits.0 (subst (λ (x : Text). BeginsWith is_capital x)
+      (ap (λ (x : Text). x ++ q) is ∙ sym e ∙ m.is) (day_capital v q k))
+
+  no_slashed : NoFront (Row slashed_row) t
+  no_slashed p q vs e h = let (u, x, (w, y, more)) = row_pieces slashed_row (front_of p e h) in
+      let (n, is, fits) = y.is in
+      let two = pair_digits x.piece u _ x.is in
+      digit_is m.c 47 m.digits.1.1.0 refl (at 2 (sym m.is ∙ x.whole ∙ ap (λ (z : Text). z ++ u) two.is
+      ∙ ap (λ (z : Text). two.x ∷ two.y ∷ z) (y.whole ∙ ap (λ (z : Text). z ++ w) is)))
+
+  no_colon_date : NoFront (Row colon_row) t
+  no_colon_date p q vs e h = let (u, x, (w, y, more)) = row_pieces colon_row (front_of p e h) in
+      let (n, is, fits) = y.is in
+      let y4 = year_digits x.piece u _ x.is in
+      mark_apart m.e 58 m.part (inr (inr refl)) (at 4 (sym m.is ∙ x.whole ∙ ap (λ (z : Text). z ++ u) y4.is
+      ∙ ap (λ (z : Text). y4.a ∷ y4.b ∷ y4.c ∷ y4.d ∷ z) (y.whole ∙ ap (λ (z : Text). z ++ w) is)))
+
+  iso_no_year : NoFront year_date t
+  iso_no_year = no_mapped (Row year_date_row) SentDate (λ v. dated_in (Some v.0) v.1.0)
+      (no_row year_date_row year_date_det
+      (inl (no_mapped (Row front_year_row) ℕ _ no_year_first))) where
+    no_year_first : NoFront (Row front_year_row) t
+    no_year_first p q vs e h = let (u, x, (w, y, more)) = row_pieces front_year_row (front_of p e h) in
+        let y4 = year_digits x.piece u _ x.is in
+        let is : m.e ∷ m.more ≡ u = ap (λ (z : Text). drop 4 z) (sym m.is ∙ x.whole ∙ ap (λ (z : Text). z ++ u) y4.is) in
+        let blank : Begins IsBlank (m.e ∷ m.more) = subst (λ (z : Text). Begins IsBlank z) (sym is) (blanks_begin y) in
+        let bad : false ≡ true = sym (mark_no_blank m.e m.part) ∙ blank in cc
+
+  no_unix : NoFront (Row unix_row) t
+  no_unix p q vs e h = let (u, s, (w, f, more)) = row_pieces unix_row (front_of p e h) in
+      let same : u ≡ m.e ∷ m.more = (front_same (some_run is_ascii_digit) (some_run_det is_ascii_digit)
+      (front_of s.piece s.whole (s.is.0.0, s.is.0.1, s.is.0.2)) year_front).0 in
+      let (ks, k, i) = f.is in
+      let (v, o, rest) = row_pieces fraction_row (front_of f.piece f.whole k) in
+      no_point o.piece v _ (sym same ∙ o.whole) o.is where
+        no_point : NoFront point (m.e ∷ m.more)
+        no_point p q (inl v) e h = mark_apart m.e 46 m.part (inr (inl refl)) (at 0 (e ∙ ap (λ (x : Text). x ++ q) h))
+        no_point p q (inr v) e h = mark_apart m.e 44 m.part (inl refl) (at 0 (e ∙ ap (λ (x : Text). x ++ q) h))
+
+  begins_a : (v : Text) → Front bare_word t m.left v → BeginsWith begins_host v
+  begins_a v f = word_host m.a f.piece v m.left (sym m.is ∙ f.whole) f.is m.digits.0
+
+  no_meraki : NoFront (Row (drop 1 meraki_row)) t
+  no_meraki p q vs e h = let (u, c, (w, g, more)) = row_pieces (drop 1 meraki_row) (front_of p e h) in
+      let is : m.b ∷ m.c ∷ m.d ∷ m.e ∷ m.more ≡ u = ap (λ (x : Text). drop 1 x) (sym m.is ∙ begins 49 t u c) in
+      let blank : Begins IsBlank (m.b ∷ m.c ∷ m.d ∷ m.e ∷ m.more) = subst (λ (x : Text). Begins IsBlank x) (sym is)
+      (blanks_begin g) in
+      let visible = digit_no_blank m.b m.digits.1.0 in
+      let bad : false ≡ true = sym visible ∙ blank in cc
+
+-- ---- the forms with another beginning
+
+module _ {text t : Text} (gap : Front (run is_blank) text t tt) (m : HasIso t) where
+  -- a name and blanks are before the hour, where the date has a space, and no node is there
+  no_card : NoFront (Row card_row) text
+  no_card = elim m.ends [
+    | inl tied ↦ no_row card_row card_row_det (gap past optional_none (Row counter_row) (iso_no_counter m)
+        past optional_none host (no_mapped (Row host_row) Text _ (no_row host_row host_row_det
+        (such_front bare_word (BeginsWith begins_host) m.found (begins_a m m.word m.found) past inl (no_gap tied))))
+        past inl (subst (λ (x : Text). NoFront node x) (sym m.is)
+        (no_node_at m.a m.b _ m.digits.0 m.digits.1.0)))
+    | inr spaced ↦ no_row card_row card_row_det (gap past optional_none (Row counter_row) (iso_no_counter m)
+        past optional_some host (mapped_front (Row host_row) Text (λ v. v.0) (row_of host_row
+        (such_front bare_word (BeginsWith begins_host) m.found (begins_a m m.word m.found) then one_gap spaced then refl)))
+        past inl (no_node_at spaced.x spaced.y _ spaced.first spaced.second))
+  ] where
+    no_gap : (tied : IsTied m.left) → NoFront (some_run is_blank) m.left
+    no_gap tied = no_run is_blank m.left (rw tied.is refl) (some_run is_blank) (λ p q v h. (h.0, h.1))
+
+    one_gap : (spaced : IsSpaced m.left)
+        → Front (some_run is_blank) m.left (spaced.x ∷ spaced.y ∷ 58 ∷ spaced.more) tt
+    one_gap spaced = front_of (32 ∷ []) spaced.is (omega arith, (refl, tt), digit_no_blank spaced.x spaced.first)
+
+  pub iso_no_xr : NoDivision xr_row text
+  iso_no_xr = no_row_division xr_row (no_row xr_row xr_row_det (inl (no_mapped (Row card_row) (Option Text) host_in
+      no_card)))
+
+  pub iso_no_other : IsOfNone journal_forms text
+  iso_no_other = (
+    no_row_division journal_row (no_row journal_row journal_line_det (gap past inl (iso_no_weekday m))),
+    (
+      no_row_division netscaler_row (no_row netscaler_row netscaler_row_det (gap past inl
+          (no_mapped (Row slashed_row) SentDate slashed_of (no_slashed m)))),
+      (
+        no_row_division utm_row (no_row utm_row utm_row_det (gap past inl
+            (no_mapped (Row colon_row) SentDate colon_of (no_colon_date m)))),
+        (
+          no_row_division logread_row (no_row logread_row logread_row_det (gap past inl (iso_no_weekday m))),
+          (
+            no_row_division ctime_message_row (no_row ctime_message_row ctime_message_det (gap past inl (iso_no_weekday m))),
+            (
+            no_row_division ctime_row (no_row ctime_row ctime_line_det (gap past inl (iso_no_weekday m))),
+            (
+            no_row_division year_row (no_row year_row year_line_det (gap past inl (iso_no_year m))),
+            (
+              no_row_division meraki_row (rows_none_later (run is_blank ∷ []) (drop 1 meraki_row)
+                  (run_det is_blank also tt) (row_cons (run is_blank) [] gap (row_nil _)) (no_meraki m)),
+              (
+                no_row_division short_row (no_row short_row short_row_det (gap past inl
+                    (no_mapped (Row unix_row) SentDate unix_of (no_unix m)))),
+                (
+                  no_row_division undated_row (no_row undated_row undated_row_det (gap
+                      past optional_none (exactly colon) (no_char m 58 refl) past no_blank m
+                      past optional_none (Row counter_row) (iso_no_counter m)
+                      past optional_none (Row counter_row) (iso_no_counter m)
+                      past optional_none name_label (no_such_front label IsName (iso_no_label m))
+                      past optional_none uptime (iso_no_uptime m)
+                      past inl (no_row message_row message_row_det (inl (iso_no_mnemonic m))))),
+                  tt,
+                ),
+              ),
+            ),
+            ),
+            ),
+          ),
+        ),
+      ),
+    ),
+  )
