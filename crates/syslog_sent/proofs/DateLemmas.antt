@@ -1,5 +1,5 @@
 -- A text has one front of each class of a date.
-use Rattle.std.proofs.Common.{◌≡◌, ℕ, Bool, true, false, [], ◌∷◌, sym, subst, ◌∙◌, arith}
+use Rattle.std.proofs.Common.{◌≡◌, inl, inr, ℕ, Bool, true, false, [], ◌∷◌, sym, subst, ◌∙◌, arith}
 use Rattle.syslog_text.specs.Pieces.Class.{Text, Class, Front, NoFront, IsDeterministic, Row, exactly}
 use Rattle.syslog_text.specs.Pieces.Rules.{◌or◌, such_that}
 use Rattle.syslog_text.specs.Text.{number}
@@ -13,7 +13,9 @@ use Rattle.syslog_text.proofs.TextLemmas.Words.{number_det}
 use Rattle.syslog_pieces.proofs.TimestampLemmas.MonthDate.{month_date_det}
 use Rattle.syslog_pieces.proofs.TimestampLemmas.Rfc3339.{pair_det, year_det, decimals_det}
 use Rattle.syslog_text.specs.Pieces.Class.{after}
-use Rattle.syslog_sent.specs.Named.{◌otherwise◌}
+use Rattle.syslog_sent.specs.Named.{◌otherwise◌, BeginsWith}
+use Rattle.std.proofs.lemmas.Bool.{cases_Bool}
+use Rattle.syslog_text.specs.Pieces.Class.{Ends}
 use Rattle.syslog_sent.specs.Date.{date_part, one_of_numbers}
 use Rattle.syslog_sent.specs.Date.{point, fraction_row, fraction, late_fraction_row, late_fraction, year_after}
 use Rattle.syslog_sent.specs.Date.{bsd_row, bsd_of}
@@ -93,3 +95,8 @@ not_plain b e h = let f : true ≡ false = e ∙ h in cc
 
 pub odd_told : (b : Bool) → false ≡ b → b ≡ false
 odd_told b e = sym e
+
+-- no run begins with a character that fails the test
+pub not_begun : (test : ℕ → Bool) (t : Text) → (BeginsWith test t → ⊥) → Ends test t
+not_begun test [] n = tt
+not_begun test (c ∷ cs) n = elim (cases_Bool (test c)) [ inl is ↦ absurd (n is) | inr other ↦ other ]

@@ -14,7 +14,7 @@ use Rattle.syslog_sent.specs.Zone.{bare_word, ended, minutes_row, minutes, offse
 use Rattle.syslog_sent.specs.Named.{◌otherwise◌, BeginsWith}
 use Rattle.syslog_sent.specs.Zone.{mapped_offset, numeric_offset}
 use Rattle.syslog_sent.specs.Zone.{IsZoneName, zone_name, offset_of, zone_mark, zone_row, zone}
-use Rattle.std.proofs.Common.{map}
+use Rattle.std.proofs.Common.{map, inl}
 use Rattle.std.proofs.lemmas.Bool.{and_parts}
 use Rattle.std.proofs.lemmas.Str.{IsUtf8-from_ascii, chars-IsAscii}
 use Rattle.std.specs.Cmp.Lexicographic.{same_text}
@@ -24,8 +24,9 @@ use Rattle.syslog_text.specs.Pieces.View.{text_eq}
 use Rattle.syslog_text.proofs.TextLemmas.Runs.{same_chars}
 use Rattle.syslog_sent.specs.Runs.{are_ascii}
 use Rattle.syslog_sent.specs.Date.{IsDay, day_words}
-use Rattle.syslog_sent.specs.Zone.{has_shape, is_among, is_capital, zone_words}
-use Rattle.syslog_sent.proofs.NamedLemmas.{ascii_told, otherwise_det}
+use Rattle.syslog_sent.specs.Zone.{begins_zone, has_shape, is_among, is_capital, zone_words}
+use Rattle.syslog_sent.proofs.NamedLemmas.{ascii_told, no_otherwise, otherwise_det}
+use Rattle.std.proofs.lemmas.Bool.Decides.{nat_tests}
 
 -- ---- a piece that ends a word
 pub ended_det : (C : Class) → IsDeterministic C → IsDeterministic (ended C)
@@ -172,3 +173,19 @@ days_capital = refl
 -- and one with the name of a day
 pub day_capital : (t q : Text) → IsDay t → BeginsWith is_capital (t ++ q)
 day_capital t q is = among_capital t q day_words days_capital is
+
+-- ---- a zone begins with a sign or with such a letter
+
+sign_zone : (p q : Text) (behind : Bool) → sign.Is p q behind → BeginsWith begins_zone (p ++ q)
+sign_zone p q true h = rw h refl
+sign_zone p q false h = rw h refl
+
+capital_zone : (t : Text) → BeginsWith is_capital t → BeginsWith begins_zone t
+capital_zone [] h = elim h [ ]
+capital_zone (c ∷ more) h = grind (arith, nat_tests, h)
+
+pub no_zone_begun : {t : Text} → (BeginsWith begins_zone t → ⊥) → NoFront zone_mark t
+no_zone_begun {t} n = no_mapped (numeric_offset otherwise zone_name) (Option ℤ) offset_of
+    (no_otherwise (no_offset (inl (λ p q v e h. n (subst (λ (x : Text). BeginsWith begins_zone x) (sym e)
+    (sign_zone p q v h))))) (λ p q v e ((u, h, is), k). n (subst (λ (x : Text). BeginsWith begins_zone x) (sym e)
+    (capital_zone (p ++ q) (subst (λ (x : Text). BeginsWith is_capital (x ++ q)) is (zone_capital v q k))))))

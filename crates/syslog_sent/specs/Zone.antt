@@ -5,7 +5,7 @@
 use Rattle.std.proofs.Common.{inl, inr}
 use Rattle.std.specs.Prelude.{◌≡◌, ◌⊎◌, ◌||◌, ℕ, ℤ, pos, Bool, true, false, if◌then◌else◌, List, [], ◌∷◌, Option}
 use Rattle.std.specs.Prelude.{Some, None}
-use Rattle.std.specs.Prelude.{◌&&◌, codes, length, nat_le, nat_lt, slice_index, unwrap_or, map, chars}
+use Rattle.std.specs.Prelude.{◌&&◌, codes, length, nat_eq, nat_le, nat_lt, slice_index, unwrap_or, map, chars}
 use Rattle.syslog_text.specs.Pieces.Class.{Text, Class, Row, Ends, run, some_run, exactly, optional, mapped, texted}
 use Rattle.syslog_text.specs.Pieces.Rules.{such_that}
 use Rattle.syslog_text.specs.Pieces.View.{text_eq}
@@ -98,6 +98,10 @@ offset_of (inr name) = name_offset name
 
 abbrev pub zone_mark : Class
 zone_mark = mapped (numeric_offset otherwise zone_name) (Option ℤ) offset_of
+
+-- a sign or a capital letter, with which a zone begins
+abbrev pub begins_zone : ℕ → Bool
+begins_zone c = nat_eq c 43 || (nat_eq c 45 || is_capital c)
 
 -- blanks or none before it
 abbrev pub zone_row : List Class

@@ -10,6 +10,8 @@ ghost use Rattle.syslog_text.specs.Pieces.View.{Reads, Recognises, Skips, shown}
 ghost use Rattle.syslog_text.specs.Text.{number as any_number};
 ghost use Rattle.syslog_pieces.specs.Timestamp.Rfc3339.{year as any_year};
 ghost use Rattle.syslog_sent.specs.DateViews.{bsd_values, iso_values};
+ghost use Rattle.std.specs.Char.{is_ascii_digit};
+ghost use Rattle.syslog_sent.specs.Named.{BeginsWith};
 ghost use Rattle.syslog_sent.specs.Zone.{ended, zone as any_zone};
 ghost use Rattle.syslog_sent.specs.Date as spec;
 
@@ -18,7 +20,7 @@ use crate::zone::{bare_word, begins_with_capital, ends_word, has_shape, is_one_o
 use syslog_pieces::timestamp::MonthDate;
 use syslog_pieces::timestamp::month_date::month_date;
 use syslog_pieces::timestamp::pairs::{decimals, pair, pair_after, year};
-use syslog_text::text::{literal, number};
+use syslog_text::text::{first, literal, number};
 
 /// A month date, and what follows it: a fraction in nanoseconds, a zone with its offset where that is known, and a
 /// year.
@@ -66,6 +68,7 @@ fn past_point(text: &str) -> &str
 // Returns the fraction at the front, in nanoseconds, and the text after it. A fraction is a dot or a comma, and
 // decimals.
 /// Returns the fraction at the front, in nanoseconds, and the text after it.
+#[inline(always)]
 pub fn fraction(text: &str) -> Option<(u32, &str)>
     ensures { Reads spec.fraction (λ n. n) (chars text.now) result }
 {
@@ -74,6 +77,7 @@ pub fn fraction(text: &str) -> Option<(u32, &str)>
 }
 
 /// Returns the fraction at the front in nanoseconds, if there is one, and the text after it.
+#[inline(always)]
 pub fn optional_fraction(text: &str) -> (Option<u32>, &str)
     ensures { Front (optional spec.fraction) (chars text.now) (shown result.1) result.0 }
 {
@@ -83,13 +87,29 @@ pub fn optional_fraction(text: &str) -> (Option<u32>, &str)
     }
 }
 
+// Whether a digit begins the text. No decimals begin otherwise, so few texts are read further.
+#[inline(always)]
+fn begins_digit(text: &str) -> bool
+    ensures { MatchBool result (BeginsWith is_ascii_digit (chars text.now))
+        (BeginsWith is_ascii_digit (chars text.now) → ⊥) }
+{
+    match first(text) {
+        Some((c, _)) => c.is_ascii_digit(),
+        None => false,
+    }
+}
+
 // Returns the decimals after a month date, in nanoseconds, and the text after them. A digit right after the seconds is
 // only there if the date ends in a colon, as H3C writes.
 #[inline(always)]
 fn late_fraction(text: &str) -> Option<(u32, &str)>
     ensures { Reads spec.late_fraction (λ n. n) (chars text.now) result }
 {
-    decimals(past_point(text))
+    let digits = past_point(text);
+    if !begins_digit(digits) {
+        return None;
+    }
+    decimals(digits)
 }
 
 #[inline(always)]
@@ -204,6 +224,7 @@ fn middle(text: &str) -> Option<&str>
 }
 
 // Returns a number after a dash, and the text after it.
+#[inline(always)]
 fn dashed(text: &str) -> Option<(u32, &str)>
     ensures { Reads (after 45 (any_number 99)) (λ n. n) (chars text.now) result }
 {

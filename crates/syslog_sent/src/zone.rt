@@ -164,6 +164,18 @@ fn name_offset(name: &str) -> Option<i32>
     if is_universal(name) { Some(0) } else { None }
 }
 
+// Whether a sign or a capital letter begins the text. No zone begins otherwise, so few texts are read further.
+#[inline(always)]
+fn begins_zone(text: &str) -> bool
+    ensures { MatchBool result (BeginsWith spec.begins_zone (chars text.now))
+        (BeginsWith spec.begins_zone (chars text.now) → ⊥) }
+{
+    match first(text) {
+        Some((c, _)) => c == '+' || (c == '-' || ('A' <= c && c <= 'Z')),
+        None => false,
+    }
+}
+
 // The offset or the name of a zone at the front.
 fn zone_mark(text: &str) -> Option<(Option<i32>, &str)>
     ensures { Reads spec.zone_mark (λ offset. offset) (chars text.now) result }
@@ -177,8 +189,13 @@ fn zone_mark(text: &str) -> Option<(Option<i32>, &str)>
 
 /// Returns the zone at the front, after blanks or none, and the text after it. The zone is its offset in seconds, if
 /// that is known.
+#[inline(always)]
 pub fn zone(text: &str) -> Option<(Option<i32>, &str)>
     ensures { Reads spec.zone (λ offset. offset) (chars text.now) result }
 {
-    zone_mark(blanks(text))
+    let mark = blanks(text);
+    if !begins_zone(mark) {
+        return None;
+    }
+    zone_mark(mark)
 }
