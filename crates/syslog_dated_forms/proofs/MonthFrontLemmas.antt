@@ -368,7 +368,8 @@ module _ {text t : Text} (gap : Front (run is_blank) text t tt) (m : HasMonth t)
               (
                 no_row_division year_row (no_row year_row year_line_det (gap past inl no_year_date)),
                 (
-                  no_row_division meraki_row (no_row meraki_row meraki_row_det (gap past inl (no_char m 49 (omega arith)))),
+                  no_row_division meraki_row (no_row meraki_row meraki_row_det (gap
+                      past inl (no_char m 49 (omega arith)))),
                   (
                     no_row_division short_row (no_row short_row short_row_det (gap past inl
                         (no_mapped (Row unix_row) SentDate unix_of (no_row unix_row unix_row_det (inl no_unix))))),

@@ -7,8 +7,8 @@
 //! - H3C and ArubaOS: `Mar  2 06:33:04 2026 h app: text`
 //! - `journalctl -o short-iso`, Huawei and log4j: `2026-03-02T06:33:04+0100 h app[1]: text`, `2026-03-02 06:33:04,123 h
 //!   ..`
-//! - programs that write dates by `ctime`: `Mon Mar  2 06:33:04 2026 h app: text`; a message may begin with a bracket at
-//!   once, as Apache's `[info] text`
+//! - programs that write dates by `ctime`: `Mon Mar  2 06:33:04 2026 h app: text`; a message may begin with a bracket
+//!   at once, as Apache's `[info] text`
 //! - the log files of NX-OS: `2026 Mar  2 06:33:04 h app: text`
 //! - `journalctl -o short-full`: `Mon 2026-03-02 06:33:04 CET h app[1]: text`
 ghost use Rattle.std.specs.Prelude.{◌≡◌, chars, true};

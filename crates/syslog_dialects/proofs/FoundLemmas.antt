@@ -2,7 +2,9 @@
 use Rattle.std.proofs.Common.{◌≡◌, ◌⊎◌, inl, inr, ℕ, Bool, true, false, List, [], ◌∷◌, ◌++◌, Option, Some, None}
 use Rattle.std.proofs.Common.{refl, sym, ap, subst, ◌∙◌, append_assoc, drop, if◌then◌else◌, take}
 use Rattle.std.specs.Char.{is_ascii_digit}
-use Rattle.syslog_text.specs.Pieces.Class.{Text, Class, Front, Row, exactly, mapped, rest}
+use Rattle.syslog_text.specs.Pieces.Class.{Text, Class, Each, Front, Row, exactly, mapped, rest}
+use Rattle.std.specs.Prelude.{codes}
+use Rattle.syslog_dialects.specs.Found.{is_sign}
 use Rattle.syslog_text.specs.Pieces.Class.{run}
 use Rattle.syslog_text.specs.Pieces.Class.{some_run, texted}
 use Rattle.syslog_text.specs.Pieces.Lists.{many}
@@ -33,17 +35,18 @@ use Rattle.syslog_named_forms.specs.NamedForms.{marked_tail, marked_tails, messa
 use Rattle.syslog_named_forms.specs.NamedForms.{program_tails, says, unified_tail, untagged_tail}
 use Rattle.syslog_named_forms.specs.NamedForms.{addressed_tail, compact_tail, device_forms, device_tails, graded_tail}
 use Rattle.syslog_named_forms.specs.NamedForms.{event_tail, graded_tails, leveled_tail, marked_forms, sourced_tail}
-use Rattle.syslog_named_forms.specs.NamedForms.{titled_tail}
+use Rattle.syslog_named_forms.specs.NamedForms.{threaded_tail, titled_tail}
 use Rattle.syslog_named_forms.specs.Devices.{addressed_row, point_word, title_row, titled_row}
 use Rattle.syslog_named_forms.specs.Graded.{event_end_row, event_row, grade_row, graded_row, level_row, leveled_row}
-use Rattle.syslog_named_forms.specs.Graded.{source_row, sourced_row}
+use Rattle.syslog_named_forms.specs.Graded.{source_row, sourced_row, threaded_row, threads_row}
 use Rattle.syslog_named_forms.specs.Unified.{close_row, compact_row, kind, log_of, log_row, thread_row}
 use Rattle.syslog_named_forms.specs.Untagged.{some_digits}
 use Rattle.syslog_named_forms.specs.NamedForms.{serial_tail}
 use Rattle.syslog_named_forms.specs.NamedForms.{severity_tail, tail_forms, undated_form, undated_forms, undated_row}
 use Rattle.syslog_named_forms.specs.NamedForms.{spread_forms, spread_tail, worded_tail}
 use Rattle.syslog_named_forms.specs.Pairs.{bare, either_text, first_value, is_host_key, pair, pair_row, paired, value}
-use Rattle.syslog_named_forms.specs.Pairs.{pairs_form, pairs_row, quoted, quoted_row}
+use Rattle.syslog_named_forms.specs.Pairs.{listed, pairs_form, pairs_row, quoted, quoted_row, unquoted}
+use Rattle.syslog_text.specs.Pieces.Class.{optional}
 use Rattle.syslog_dialects.specs.PriorityAlone.{IsAlone, alone_row, point_row as point_alone_row, point_sent}
 use Rattle.syslog_dialects.specs.PriorityAlone.{program_row}
 use Rattle.syslog_dialects.specs.PriorityAlone.{program_sent}
@@ -134,7 +137,8 @@ forwarded_found t (inr w) f =
 
 grade_out : (Cs : List Class) → IsOut (left_out dialect.SeverityFirst ++ Cs) grade
 grade_out Cs p q (inl v) is = inr (inr (inl (v, is)))
-grade_out Cs p q (inr v) is = inr (inr (inr (inl (v, is.1))))
+grade_out Cs p q (inr (inl v)) is = inr (inr (inr (inl (v, is.1))))
+grade_out Cs p q (inr (inr v)) is = inr (inr (inr (inr (inr (inr (inl (v, is.1.1)))))))
 
 severity_found : TailFound severity_tail
 severity_found t v = before_rest (left_of dialect.SeverityFirst v.0) (take 6 severity_row)
@@ -240,10 +244,15 @@ sourced_found t v = before_rest (left_of dialect.BsdDate v.0) (take 6 sourced_ro
     (a_host also a_gap also passed (Row source_row) (λ p q w is. inr (inr (inr (inl (w, is))))) also a_gap
     also a_program also blanks also tt) t v
 
+threaded_found : TailFound threaded_tail
+threaded_found = before_rest (left_of dialect.NoHost None) (take 6 threaded_row)
+    (a_name also a_gap also a_sign 91 refl also text_of (Row threads_row) also passed (exactly (codes "]:"))
+    (λ p q v is. inl (subst (Each is_sign) (sym is) (refl, (refl, tt)))) also blanks also tt)
+
 graded_all : AllFound (tail_forms graded_tails)
 graded_all = tail_of graded_tail graded_found also tail_of leveled_tail leveled_found
     also tail_of event_tail event_found
-    also tail_of sourced_tail sourced_found also tt
+    also tail_of sourced_tail sourced_found also tail_of threaded_tail threaded_found also tt
 
 -- ---- pairs, whose names are in the message
 
@@ -275,15 +284,26 @@ quoted_in {t} {q} x f =
     subst (λ (y : Text). AreInOrder (only (Some y)) t) (sym same)
     (sooner_front (only (Some vs.1.0)) opened (text_in vs.1.0 inside inside.is.2))
 
-either_in : {t q : Text} (w : Text ⊎ Text) → Front (quoted otherwise bare) t q w
+bare_in : {t q : Text} (w : Text ⊎ Text) → Front (listed otherwise bare) t q w
+    → AreInOrder (only (Some (either_text w))) t
+bare_in (inl x) f = text_in x f f.is.0.2
+bare_in (inr x) f = text_in x f f.is.1.2
+
+unquoted_in : {t q : Text} (x : Text) → Front unquoted t q x → AreInOrder (only (Some x)) t
+unquoted_in {t} {q} x f =
+    let (w, is, same) = f.is in
+    let it : Front (listed otherwise bare) t q w = front_of f.piece f.whole is in
+    subst (λ (y : Text). AreInOrder (only (Some y)) t) (sym same) (bare_in w it)
+
+either_in : {t q : Text} (w : Text ⊎ Text) → Front (quoted otherwise unquoted) t q w
     → AreInOrder (only (Some (either_text w))) t
 either_in (inl x) f = quoted_in x (front_of f.piece f.whole f.is)
-either_in (inr x) f = text_in x f f.is.1.2
+either_in (inr x) f = unquoted_in x (front_of f.piece f.whole f.is.1)
 
 value_in : {t q : Text} (x : Text) → Front value t q x → AreInOrder (only (Some x)) t
 value_in {t} {q} x f =
     let (w, is, same) = f.is in
-    let it : Front (quoted otherwise bare) t q w = front_of f.piece f.whole is in
+    let it : Front (quoted otherwise unquoted) t q w = front_of f.piece f.whole is in
     subst (λ (y : Text). AreInOrder (only (Some y)) t) (sym same) (either_in w it)
 
 pair_in : {t q : Text} (key x : Text) → Front pair t q (key, x) → AreInOrder (only (Some x)) t
@@ -291,12 +311,14 @@ pair_in {t} {q} key x f =
     let (vs, is, same) = f.is in
     let row : Front (Row pair_row) t q vs = front_of f.piece f.whole is in
     let (a, gap, f1) = row_head (run is_blank) (drop 1 pair_row) row in
-    let (b, word, f2) = row_head (texted (some_run is_word_char)) (drop 2 pair_row) f1 in
-    let (c, equals, f3) = row_head (exactly (61 ∷ [])) (drop 3 pair_row) f2 in
+    let (o, comma, f0) = row_head (optional (exactly (44 ∷ []))) (drop 2 pair_row) f1 in
+    let (b, word, f2) = row_head (texted (some_run is_word_char)) (drop 3 pair_row) f0 in
+    let (c, equals, f3) = row_head (exactly (61 ∷ [])) (drop 4 pair_row) f2 in
     let (d, it, ends) = row_head value [] f3 in
-    let ts = only (Some vs.1.1.1.0) in
+    let ts = only (Some vs.1.1.1.1.0) in
     subst (λ (y : Text × Text). AreInOrder (only (Some y.1)) t) (sym same)
-    (sooner_front ts gap (sooner_front ts word (sooner_front ts equals (value_in vs.1.1.1.0 it))))
+    (sooner_front ts gap (sooner_front ts comma (sooner_front ts word (sooner_front ts equals
+    (value_in vs.1.1.1.1.0 it)))))
 
 one_of_two : (b : Bool) (v : Text) (o : Option Text) (text : Text) → AreInOrder (only (Some v)) text
     → AreInOrder (only o) text → AreInOrder (only (if b then Some v else o)) text

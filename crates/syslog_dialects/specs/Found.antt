@@ -20,6 +20,7 @@ use Rattle.syslog_dated_forms.specs.NetScaler.{slashed_date}
 use Rattle.syslog_named_forms.specs.Devices.{point_word}
 use Rattle.syslog_named_forms.specs.Graded.{event_end_row, grade_row, level_row, source_row}
 use Rattle.syslog_named_forms.specs.Monotonic.{seconds_row}
+use Rattle.syslog_named_forms.specs.Programs.{aix_row}
 use Rattle.syslog_named_forms.specs.Unified.{close_row, kind, thread_row}
 use Rattle.syslog_named_forms.specs.Untagged.{some_digits}
 use Rattle.syslog_named_forms.specs.Pairs.{IsShown, noted, pair}
@@ -99,7 +100,8 @@ left_out NearlyRfc3339 = host_alone ∷ []
 left_out NetScaler = host_alone ∷ []
 left_out SophosUtm = host_alone ∷ []
 left_out Journal = host_alone ∷ weekday ∷ []
-left_out SeverityFirst = weekday ∷ severity ∷ Row selector_row ∷ Row grade_row ∷ Row level_row ∷ []
+left_out SeverityFirst = weekday ∷ severity ∷ Row selector_row ∷ Row grade_row ∷ Row level_row ∷ Row aix_row
+    ∷ []
 left_out Esxi = Row mark_row ∷ []
 left_out ProCurve = some_run is_ascii_digit ∷ []
 left_out UnixSeconds = exactly (49 ∷ []) ∷ []

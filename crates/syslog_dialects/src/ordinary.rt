@@ -248,8 +248,8 @@ fn is_address(app: &str) -> bool
     }
 }
 
-// Whether `%` begins the text, as it begins a mnemonic of Cisco's and a unit of Dell's, and no host. It is a call of its
-// own, since few hosts begin so.
+// Whether `%` begins the text, as it begins a mnemonic of Cisco's and a unit of Dell's, and no host. It is a call of
+// its own, since few hosts begin so.
 #[cold]
 #[inline(never)]
 fn opens_mnemonic(host: &str) -> bool

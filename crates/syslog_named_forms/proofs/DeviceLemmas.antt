@@ -12,7 +12,7 @@ use Rattle.syslog_sent.specs.Runs.{is_plain_char, is_word_char}
 use Rattle.syslog_sent.specs.Zone.{bare_word}
 use Rattle.syslog_named_forms.specs.Devices.{addressed_row, opens_address, point_word, title_row, titled_row}
 use Rattle.syslog_named_forms.specs.Graded.{event_end_row, event_row, grade_row, graded_row, hardware_row, level_row}
-use Rattle.syslog_named_forms.specs.Graded.{leveled_row, source_row, sourced_row}
+use Rattle.syslog_named_forms.specs.Graded.{leveled_row, source_row, sourced_row, threaded_row, threads_row}
 use Rattle.syslog_named_forms.specs.Unified.{close_row, compact_row, is_kind, kind}
 use Rattle.syslog_named_forms.specs.Untagged.{some_digits}
 
@@ -79,3 +79,11 @@ source_det = exactly_det _ also some_run_det is_word_char also some_run_det is_b
 pub sourced_det : AllDeterministic sourced_row
 sourced_det = host_det also some_run_det is_blank also row_det source_row source_det also some_run_det is_blank
     also program_det also run_det is_blank also rest_det also tt
+
+pub threads_det : AllDeterministic threads_row
+threads_det = some_run_det is_ascii_digit also exactly_det _ also some_run_det is_ascii_digit also tt
+
+pub threaded_det : AllDeterministic threaded_row
+threaded_det = name_det also some_run_det is_blank also exactly_det _
+    also texted_det (Row threads_row) (row_det threads_row threads_det) also exactly_det _ also run_det is_blank
+    also rest_det also tt

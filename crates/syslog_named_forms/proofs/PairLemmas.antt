@@ -24,7 +24,10 @@ use Rattle.syslog_text.proofs.PieceLemmas.Lists.{many_det}
 use Rattle.syslog_pieces.proofs.TimestampLemmas.Rfc3339.{pair_det as two_det, year_det}
 use Rattle.syslog_sent.specs.Named.{◌otherwise◌}
 use Rattle.syslog_named_forms.specs.Pairs.{pair, pair_row, pair_of, quoted, quoted_row, quoted_of, bare, value}
-use Rattle.syslog_named_forms.specs.Pairs.{either_text}
+use Rattle.syslog_named_forms.specs.Pairs.{either_text, listed, listed_row, next_row, part_row, unquoted}
+use Rattle.std.proofs.Common.{drop}
+use Rattle.syslog_text.specs.Pieces.Class.{optional}
+use Rattle.syslog_text.proofs.PieceLemmas.Class.{no_front_no, no_texted}
 use Rattle.syslog_named_forms.specs.Pairs.{first_value, may_be_noted, or_value, noted, noted_more, Noted, day_row}
 use Rattle.syslog_named_forms.specs.Pairs.{clock_row}
 use Rattle.syslog_named_forms.specs.Pairs.{offset_row, IsApart, IsTogether}
@@ -51,13 +54,47 @@ run_texted test {xs = xs} s = front_of (chars xs) s.characters (tt, (s.each, s.e
 pub quoted_det : AllDeterministic quoted_row
 quoted_det = exactly_det _ also texted_det (run is_unquoted) (run_det is_unquoted) also exactly_det _ also tt
 
-pub value_det : IsDeterministic value
-value_det = mapped_det (quoted otherwise bare) Text either_text (otherwise_det
-    (mapped_det (Row quoted_row) Text quoted_of (row_det quoted_row quoted_det))
+pub part_det : AllDeterministic part_row
+part_det = exactly_det _ also some_run_det is_word_char also tt
+
+pub listed_row_det : AllDeterministic listed_row
+listed_row_det = let more = optional_det (Row part_row) (row_det part_row part_det) in
+    some_run_det is_word_char also more also more also tt
+
+pub next_det : AllDeterministic next_row
+next_det = exactly_det _ also some_run_det is_word_char also exactly_det _ also tt
+
+listed_text_det : IsDeterministic (texted (Row listed_row))
+listed_text_det = texted_det (Row listed_row) (row_det listed_row listed_row_det)
+
+listed_det : IsDeterministic listed
+listed_det p q p' q' v v' e h h' = listed_text_det p q p' q' v v' e h.0 h'.0
+
+pub listed_front : {t q r v : Text} {w : Values next_row} → Front (texted (Row listed_row)) t q v
+    → Front (Row next_row) q r w → Front listed t q v
+listed_front {r = r} {w = w} f g = front_of f.piece f.whole (f.is, (r, w, g))
+
+pub no_listed : {t : Text} → NoFront (Row listed_row) t → NoFront listed t
+no_listed n p q v e h = no_texted (Row listed_row) n p q v e h.0
+
+-- where no pair follows it
+pub not_listed : {t q : Text} {v : Values listed_row} → Front (Row listed_row) t q v → NoFront (Row next_row) q
+    → NoFront listed t
+not_listed f n p q v e ((u, is, same), (r, w, g)) =
+    let one = (front_same (Row listed_row) (row_det listed_row listed_row_det) (front_of p e is) f).0 in
+    no_front_no (Row next_row) n (subst (λ (x : Text). Front (Row next_row) x r w) one g)
+
+pub unquoted_det : IsDeterministic unquoted
+unquoted_det = mapped_det (listed otherwise bare) Text either_text (otherwise_det listed_det
     (texted_det (run is_not_whitespace) (run_det is_not_whitespace)))
 
+pub value_det : IsDeterministic value
+value_det = mapped_det (quoted otherwise unquoted) Text either_text (otherwise_det
+    (mapped_det (Row quoted_row) Text quoted_of (row_det quoted_row quoted_det)) unquoted_det)
+
 pub pair_row_det : AllDeterministic pair_row
-pair_row_det = run_det is_blank also texted_det (some_run is_word_char) (some_run_det is_word_char) also exactly_det _
+pair_row_det = run_det is_blank also optional_det (exactly (44 ∷ [])) (exactly_det _)
+    also texted_det (some_run is_word_char) (some_run_det is_word_char) also exactly_det _
     also value_det also tt
 
 pub pair_det : IsDeterministic pair
@@ -101,9 +138,16 @@ some_shorter {q = q} f = omega (arith, ap length f.whole, length-append f.piece 
 pub pair_shorter : {t q : Text} {v : Text × Text} → Front pair t q v → length q < length t
 pair_shorter {t} {q} f =
     let g : Front (Row pair_row) t q f.is.0 = front_of f.piece f.whole f.is.1 in
-    let (u, a, g1) = row_head (run is_blank) (texted (some_run is_word_char) ∷ exactly (61 ∷ []) ∷ value ∷ []) g in
-    let (s, b, g2) = row_head (texted (some_run is_word_char)) (exactly (61 ∷ []) ∷ value ∷ []) g1 in
-    omega (arith, front_longer (run is_blank) a, some_shorter b, front_longer (Row (exactly (61 ∷ []) ∷ value ∷ [])) g2)
+    let (u, a, g1) = row_head (run is_blank) (drop 1 pair_row) g in
+    let (w, o, g2) = row_head (optional (exactly (44 ∷ []))) (drop 2 pair_row) g1 in
+    let (s, b, g3) = row_head (texted (some_run is_word_char)) (exactly (61 ∷ []) ∷ value ∷ []) g2 in
+    omega (
+      arith,
+      front_longer (run is_blank) a,
+      front_longer (optional (exactly (44 ∷ []))) o,
+      some_shorter b,
+      front_longer (Row (exactly (61 ∷ []) ∷ value ∷ [])) g3,
+    )
 
 -- ---- what is noted
 

@@ -23,7 +23,10 @@ use Rattle.syslog_text.proofs.PieceLemmas.Class.{after_det}
 use Rattle.syslog_text.proofs.PieceLemmas.Lists.{many_det}
 use Rattle.syslog_text.specs.Pieces.Class.{spaced}
 use Rattle.syslog_text.specs.Text.{is_tag_char}
-use Rattle.syslog_named_forms.specs.Programs.{grade, hostless_row}
+use Rattle.syslog_named_forms.specs.Programs.{aix_row, grade, hostless_row}
+use Rattle.syslog_text.proofs.PieceLemmas.Class.{optional_det}
+use Rattle.syslog_text.specs.Pieces.Class.{exactly}
+use Rattle.std.specs.Prelude.{codes}
 use Rattle.syslog_sent.specs.Selector.{selector_row}
 use Rattle.syslog_named_forms.specs.Programs.{access_row, number_word, point_row, severity_row, untagged_row, spread_row}
 use Rattle.syslog_named_forms.specs.Unified.{log_row, thread_row}
@@ -40,8 +43,13 @@ serial_det = host_det also some_run_det is_blank also some_run_det is_plain_char
 pub hostless_det : AllDeterministic hostless_row
 hostless_det = program_det also some_run_det is_blank also rest_det also tt
 
+pub aix_det : AllDeterministic aix_row
+aix_det = some_run_det is_plain_char also optional_det (exactly (codes "|security")) (exactly_det _) also exactly_det _
+    also severity_word_det also tt
+
 grade_det : IsDeterministic grade
-grade_det = otherwise_det severity_word_det (row_det selector_row selector_det)
+grade_det = otherwise_det severity_word_det (otherwise_det (row_det selector_row selector_det)
+    (row_det aix_row aix_det))
 
 pub severity_det : AllDeterministic severity_row
 severity_det = host_det also some_run_det is_blank also grade_det also some_run_det is_blank also program_det

@@ -3,7 +3,8 @@
 use Rattle.std.specs.Prelude.{List, [], ◌∷◌, None, Some, codes}
 use Rattle.syslog_text.specs.Pieces.Class.{Class, Values, Row, exactly, mapped, rest, run, some_run, texted}
 use Rattle.syslog_text.specs.Text.{colon, host, is_blank}
-use Rattle.syslog_sent.specs.Named.{NamedTexts, program, tagged}
+use Rattle.std.specs.Char.{is_ascii_digit}
+use Rattle.syslog_sent.specs.Named.{NamedTexts, name, program, tagged}
 use Rattle.syslog_sent.specs.Runs.{is_plain_char, is_word_char}
 
 -- ---- `<auth.info> gate sshd[811]: text`, `<4.6> gate sshd[811]: text`
@@ -73,3 +74,19 @@ sourced_of (h, (_, (_, (_, (p, (_, (m, _))))))) = tagged h p m
 
 abbrev pub sourced : Class
 sourced = mapped (Row sourced_row) NamedTexts sourced_of
+
+-- ---- `sua [768:871]: text`
+
+-- phones of Yealink: process and thread after a blank
+abbrev pub threads_row : List Class
+threads_row = some_run is_ascii_digit ∷ exactly colon ∷ some_run is_ascii_digit ∷ []
+
+abbrev pub threaded_row : List Class
+threaded_row = name ∷ some_run is_blank ∷ exactly (91 ∷ []) ∷ texted (Row threads_row) ∷ exactly (codes "]:")
+    ∷ run is_blank ∷ rest ∷ []
+
+abbrev pub threaded_of : Values threaded_row → NamedTexts
+threaded_of (app, (_, (_, (id, (_, (_, (m, _))))))) = tagged None (record { name = app; process = Some id }) m
+
+abbrev pub threaded : Class
+threaded = mapped (Row threaded_row) NamedTexts threaded_of

@@ -114,8 +114,11 @@ event_tail = record { dialect = dialect.Bracketed; after = Row graded.event_row;
 abbrev pub sourced_tail : Tail
 sourced_tail = record { dialect = dialect.BsdDate; after = Row graded.sourced_row; names = graded.sourced_of }
 
+abbrev pub threaded_tail : Tail
+threaded_tail = record { dialect = dialect.NoHost; after = Row graded.threaded_row; names = graded.threaded_of }
+
 abbrev pub graded_tails : List Tail
-graded_tails = graded_tail ∷ leveled_tail ∷ event_tail ∷ sourced_tail ∷ []
+graded_tails = graded_tail ∷ leveled_tail ∷ event_tail ∷ sourced_tail ∷ threaded_tail ∷ []
 
 -- it is tried after the forms that have nothing of their own after the date
 abbrev pub spread_tail : Tail

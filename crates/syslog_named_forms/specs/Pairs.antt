@@ -1,4 +1,4 @@
--- Lines that are pairs of a key and a value, time and host among them. 34 is `"`, 45 `-`, 58 `:`, 61 `=`.
+-- Lines that are pairs of a key and a value, time and host among them. 34 is `"`, 44 a comma, 45 `-`, 58 `:`, 61 `=`.
 use Rattle.std.proofs.Common.{inl, inr}
 use Rattle.std.specs.Prelude.{◌≡◌, ◌⊎◌, ◌||◌, ℤ, Bool, true, false, if◌then◌else◌, List, [], ◌∷◌, Option, Some, None}
 use Rattle.std.specs.Prelude.{MatchOption, codes, min, nat_eq, unwrap_or}
@@ -7,7 +7,7 @@ use Rattle.syslog_text.specs.Pieces.Class.{Text, Class, Values, Front, Division,
 use Rattle.syslog_text.specs.Pieces.Class.{exactly, after, mapped, optional, texted}
 use Rattle.syslog_text.specs.Pieces.Lists.{many}
 use Rattle.syslog_text.specs.Pieces.View.{text_eq}
-use Rattle.syslog_text.specs.Text.{is_blank}
+use Rattle.syslog_text.specs.Text.{colon, is_blank}
 use Rattle.syslog_pieces.specs.Timestamp.Rfc3339.{pair as two, seconds_of, sign, year}
 use Rattle.syslog_sent.specs.Date.{fraction, iso_date}
 use Rattle.syslog_sent.specs.Named.{◌otherwise◌}
@@ -36,15 +36,34 @@ abbrev pub either_text : Text ⊎ Text → Text
 either_text (inl t) = t
 either_text (inr t) = t
 
-abbrev pub value : Class
-value = mapped (quoted otherwise bare) Text either_text
+-- or one that a comma, a key and `=` follow, as FortiGate's are with `set format csv`: a date, a time, a number
+abbrev pub part_row : List Class
+part_row = exactly colon ∷ some_run is_word_char ∷ []
 
--- `key=value`, after blanks or none
+abbrev pub listed_row : List Class
+listed_row = some_run is_word_char ∷ optional (Row part_row) ∷ optional (Row part_row) ∷ []
+
+abbrev pub next_row : List Class
+next_row = exactly (44 ∷ []) ∷ some_run is_word_char ∷ exactly (61 ∷ []) ∷ []
+
+abbrev pub listed : Class
+listed = record {
+  Value = Text;
+  Is = λ p q t. (texted (Row listed_row)).Is p q t × ((r : Text) × (v : Values next_row) × Front (Row next_row) q r v);
+}
+
+abbrev pub unquoted : Class
+unquoted = mapped (listed otherwise bare) Text either_text
+
+abbrev pub value : Class
+value = mapped (quoted otherwise unquoted) Text either_text
+
+-- `key=value`, after blanks or none, and after a comma or none
 abbrev pub pair_row : List Class
-pair_row = run is_blank ∷ texted (some_run is_word_char) ∷ exactly (61 ∷ []) ∷ value ∷ []
+pair_row = run is_blank ∷ optional (exactly (44 ∷ [])) ∷ texted (some_run is_word_char) ∷ exactly (61 ∷ []) ∷ value ∷ []
 
 abbrev pub pair_of : Values pair_row → Text × Text
-pair_of (_, (key, (_, (v, _)))) = (key, v)
+pair_of (_, (_, (key, (_, (v, _))))) = (key, v)
 
 abbrev pub pair : Class
 pair = mapped (Row pair_row) (Text × Text) pair_of

@@ -2,8 +2,8 @@
 -- what a message says that begins with a number. 32 is a space, 40 `(`, 41 `)`, 46 `.`, 118 `v`.
 use Rattle.std.specs.Prelude.{◌⊎◌, ◌&&◌, Bool, IsTrue, List, [], ◌∷◌, Option, Some, None, codes, false, nat_eq, not}
 use Rattle.std.specs.Char.{is_ascii_digit, is_not_whitespace}
-use Rattle.syslog_text.specs.Pieces.Class.{Text, Class, Values, Row, run, some_run, exactly, rest, mapped, texted}
-use Rattle.syslog_text.specs.Pieces.Class.{spaced}
+use Rattle.syslog_text.specs.Pieces.Class.{Text, Class, Values, Row, run, some_run, exactly, optional, rest, mapped}
+use Rattle.syslog_text.specs.Pieces.Class.{spaced, texted}
 use Rattle.syslog_text.specs.Pieces.Lists.{many}
 use Rattle.syslog_text.specs.Pieces.Rules.{such_that}
 use Rattle.syslog_text.specs.Text.{colon, host, is_blank}
@@ -27,11 +27,16 @@ hostless_of (p, (_, (m, _))) = tagged None p m
 abbrev pub hostless : Class
 hostless = mapped (Row hostless_row) NamedTexts hostless_of
 
--- ---- the severity before the program: `bigip1 notice mcpd[5555]: text`, `alpine1 daemon.info udhcpc[411]: text`
+-- ---- the severity before the program: `bigip1 notice mcpd[5555]: text`, `alpine1 daemon.info udhcpc[411]: text`,
+-- `aix1 auth|security:info sshd[411]: text`
+
+-- facility and severity as AIX's syslogd writes them into its files
+abbrev pub aix_row : List Class
+aix_row = some_run is_plain_char ∷ optional (exactly (codes "|security")) ∷ exactly colon ∷ severity ∷ []
 
 -- a severity, or a facility and a severity
 abbrev pub grade : Class
-grade = severity otherwise Row selector_row
+grade = severity otherwise (Row selector_row otherwise Row aix_row)
 
 abbrev pub severity_row : List Class
 severity_row = host ∷ some_run is_blank ∷ grade ∷ some_run is_blank ∷ program ∷ run is_blank ∷ rest ∷ []

@@ -2,10 +2,11 @@
 //!
 //! **Rule.** FreeBSD's syslogd writes both before the host if it runs with `-v` (syslogd(8)), by number, or by name if
 //! it is given twice; so does Isilon's OneFS: `<auth.info> gate sshd[811]: text`. Axis cameras write the severity in
-//! brackets, filled up with spaces (AXIS OS, "Remote syslog"): `axis-accc8e1a2b3c [ INFO    ] systemd[1]: text`. NetApp's
-//! ONTAP writes node, event and severity (its format `legacy-netapp`): `[cluster1-01:wafl.vol.autoSize.done:notice]:
+//! brackets, filled up with spaces (AXIS OS, "Remote syslog"): `axis-accc8e1a2b3c [ INFO    ] systemd[1]: text`.
+//! NetApp's ONTAP writes node, event and severity (its format `legacy-netapp`): `[cluster1-01:wafl.vol.full:notice]:
 //! text`; the event is the app name, as a mnemonic of Cisco's is. Aruba Instant writes its address and that of its
 //! hardware after its name (Aruba Instant Syslog Messages): `192.0.2.2 <192.0.2.2 02:00:00:00:00:01> stm[2112]: text`.
+//! Phones of Yealink write process and thread after a blank, and no host: `sua [768:871]: text`.
 ghost use Rattle.std.specs.Prelude.{◌∷◌, [], chars, codes};
 ghost use Rattle.syslog_text.specs.Pieces.Class.{Row, Text, exactly, some_run, texted};
 ghost use Rattle.syslog_text.specs.Pieces.View.{Reads, Recognises, seen, shown};
@@ -15,9 +16,10 @@ ghost use Rattle.syslog_named_forms.specs.Graded as spec;
 ghost use Rattle.syslog_named_forms.specs.Untagged.{host_row};
 ghost use Rattle.syslog_sent.specs.Views.{Names, named_value};
 
-use crate::untagged::{dot, key, past_blanks, topic_word};
-use syslog_sent::named::{Named, Program, past, read_program, tagged};
+use crate::untagged::{digits, dot, key, past_blanks, topic_word};
+use syslog_sent::named::{Named, Program, name, past, read_program, tagged};
 use syslog_sent::runs::{Run, split};
+use syslog_text::text::verbatim::before;
 use syslog_text::text::{blanks, host, literal, some_blanks};
 
 fn open_angle(text: &str) -> Option<&str>
@@ -196,4 +198,37 @@ pub(crate) fn sourced<'a>(after_host: Option<(Option<&'a str>, &'a str)>) -> Opt
     let at_program = some_blanks(after_source)?;
     let (program, rest) = read_program(at_program)?;
     Some(tagged(hostname, program, blanks(rest)))
+}
+
+// Returns the text after the numbers of a process and its thread.
+fn threads_end(text: &str) -> Option<&str>
+    ensures { Recognises (Row spec.threads_row) (chars text.now) result }
+{
+    digits(text).and_then(colon).and_then(digits)
+}
+
+// Returns the two as one text, and the text after them.
+fn threads(text: &str) -> Option<(&str, &str)>
+    ensures { Reads (texted (Row spec.threads_row)) (λ t. shown t) (chars text.now) result }
+{
+    let rest = threads_end(text)?;
+    let id = before(text, rest);
+    Some((id, rest))
+}
+
+/// Reads a line that has a blank between the program and its process.
+#[inline(always)]
+pub(crate) fn threaded(text: &str) -> Option<Named<'_>>
+    ensures { Names spec.threaded named_value (chars text.now) result }
+{
+    let (name, after_name) = name(text)?;
+    let at_open = some_blanks(after_name)?;
+    let at_id = literal(at_open, '[')?;
+    let (id, after_id) = threads(at_id)?;
+    let rest = close_event(after_id)?;
+    let program = Program {
+        name,
+        process: Some(id),
+    };
+    Some(tagged(None, program, blanks(rest)))
 }

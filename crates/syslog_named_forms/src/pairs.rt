@@ -4,9 +4,10 @@
 //! also an offset, `tz="+0100"`. Sophos (SFOS syslog guide) has date and time in the same way. SonicWall (SonicOS Log
 //! Events Reference) has both in `time="2026-03-02 06:33:04"`, with ` UTC` if it is so configured. SFOS from 18 on has
 //! both and the offset in `timestamp="2026-03-02T06:33:04+0100"`. The first pair of a key counts. The name of a zone is
-//! left out.
+//! left out. With `set format csv` FortiGate separates its pairs by commas.
 ghost use Rattle.std.specs.Prelude.{◌≡◌, ◌<◌, ◌∷◌, [], IfSome, IsUtf8, List, MatchOption, Some, chars};
-ghost use Rattle.syslog_text.specs.Pieces.Class.{Division, Front, NoDivision, Row, Text, exactly};
+ghost use Rattle.syslog_text.specs.Pieces.Class.{Division, Front, NoDivision, Row, Text, exactly, optional};
+ghost use Rattle.syslog_text.specs.Text.{colon as colon_text};
 ghost use Rattle.syslog_text.specs.Pieces.Lists.{many};
 ghost use Rattle.syslog_text.specs.Pieces.View.{Reads, Recognises, seen, shown};
 ghost use Rattle.syslog_pieces.specs.Timestamp.Rfc3339.{seconds_of, sign as sign_class};
@@ -15,12 +16,14 @@ ghost use Rattle.syslog_named_forms.specs.Pairs as spec;
 ghost use Rattle.syslog_sent.specs.Sent.{Sends};
 ghost use Rattle.syslog_sent.specs.declared.sent.SentDate.{SentDate as Date};
 
+use crate::untagged::{comma, equals, key};
 use syslog_pieces::timestamp::MonthDate;
 use syslog_pieces::timestamp::pairs::{pair, pair_after, year};
 use syslog_sent::date::{iso_date, optional_fraction};
 use syslog_sent::named::is_word;
 use syslog_sent::runs::{Run, split};
 use syslog_sent::sent::{Sent, SentDate};
+use syslog_text::text::verbatim::before;
 use syslog_text::text::{CharClass, blanks, first, literal, split_run};
 
 /// A key and its value, without quotes.
@@ -77,14 +80,89 @@ fn quoted(text: &str) -> Option<(&str, &str)>
     Some((value, rest))
 }
 
-// Returns a value in quotes, or otherwise one without white space, and the text after it.
+fn colon(text: &str) -> Option<&str>
+    ensures { Recognises (exactly colon_text) (chars text.now) result }
+{
+    literal(text, ':')
+}
+
+fn part(text: &str) -> Option<&str>
+    ensures { Recognises (Row spec.part_row) (chars text.now) result }
+{
+    colon(text).and_then(key)
+}
+
+// Returns the text after a colon and a word, and all of it if it does not begin so.
+fn past_part(text: &str) -> &str
+    ensures { (v : (optional (Row spec.part_row)).Value)
+        × Front (optional (Row spec.part_row)) (chars text.now) (shown result) v }
+{
+    match part(text) {
+        Some(rest) => rest,
+        None => text,
+    }
+}
+
+// Returns the text after a word, or after a time of day.
+fn listed_end(text: &str) -> Option<&str>
+    ensures reads { Recognises (Row spec.listed_row) (chars text.now) result }
+    ensures utf8 { IfSome result (λ rest. IsUtf8 rest.now) }
+{
+    let (run, rest) = split(text, Run::Word);
+    if run.is_empty() {
+        return None;
+    }
+    Some(past_part(past_part(rest)))
+}
+
+// Returns the text after a comma, a key and its sign.
+fn next(text: &str) -> Option<&str>
+    ensures { Recognises (Row spec.next_row) (chars text.now) result }
+{
+    comma(text).and_then(key).and_then(equals)
+}
+
+// Returns a value that another pair follows after a comma, and the text after it.
+fn listed(text: &str) -> Option<(&str, &str)>
+    ensures reads { Reads spec.listed (λ t. shown t) (chars text.now) result }
+    ensures utf8 { IfSome result (λ x. IsUtf8 x.1.now) }
+{
+    let rest = listed_end(text)?;
+    let _ = next(rest)?;
+    let value = before(text, rest);
+    Some((value, rest))
+}
+
+// Returns such a value, or otherwise one without white space, and the text after it.
+fn unquoted(text: &str) -> (&str, &str)
+    ensures reads { Front spec.unquoted (chars text.now) (shown result.1) (shown result.0) }
+    ensures utf8 { IsUtf8 result.1.now }
+{
+    match listed(text) {
+        Some((value, rest)) => (value, rest),
+        None => split_run(text, CharClass::Visible),
+    }
+}
+
+// Returns a value in quotes, or otherwise one without them, and the text after it.
 fn any_value(text: &str) -> (&str, &str)
     ensures reads { Front spec.value (chars text.now) (shown result.1) (shown result.0) }
     ensures utf8 { IsUtf8 result.1.now }
 {
     match quoted(text) {
         Some((value, rest)) => (value, rest),
-        None => split_run(text, CharClass::Visible),
+        None => unquoted(text),
+    }
+}
+
+// Returns the text after a comma, and all of it if it begins with none.
+fn past_comma(text: &str) -> &str
+    ensures { (v : (optional (exactly (44 ∷ []))).Value)
+        × Front (optional (exactly (44 ∷ []))) (chars text.now) (shown result) v }
+{
+    match comma(text) {
+        Some(rest) => rest,
+        None => text,
     }
 }
 
@@ -93,7 +171,7 @@ fn read_pair(text: &str) -> Option<(Pair<'_>, &str)>
     ensures reads { Reads spec.pair pair_value (chars text.now) result }
     ensures utf8 { IfSome result (λ x. IsUtf8 x.1.now) }
 {
-    let (key, after_key) = split(blanks(text), Run::Word);
+    let (key, after_key) = split(past_comma(blanks(text)), Run::Word);
     if key.is_empty() {
         return None;
     }

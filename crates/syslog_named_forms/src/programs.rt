@@ -1,10 +1,12 @@
 //! Lines of programs that are recognised by what is between the date and the program's name. A message that begins with
 //! a number after the host has no program.
 ghost use Rattle.std.specs.Prelude.{◌≡◌, ◌∷◌, [], IfSome, IsUtf8, List, chars, codes};
-ghost use Rattle.syslog_text.specs.Pieces.Class.{Front, Row, Text, exactly, some_run, spaced, texted};
+ghost use Rattle.syslog_text.specs.Pieces.Class.{Front, Row, Text, exactly, optional, some_run, spaced, texted};
 ghost use Rattle.syslog_text.specs.Pieces.Lists.{many};
 ghost use Rattle.syslog_text.specs.Pieces.View.{Reads, Recognises, seen, shown};
-ghost use Rattle.syslog_text.specs.Text.{is_tag_char};
+ghost use Rattle.syslog_text.specs.Text.{colon as colon_text, is_tag_char};
+ghost use Rattle.syslog_sent.specs.Named.{◌otherwise◌};
+ghost use Rattle.syslog_sent.specs.Selector.{selector_row, severity as severity_class};
 ghost use Rattle.syslog_sent.specs.Runs.{is_word_char};
 ghost use Rattle.syslog_named_forms.specs.Programs as spec;
 ghost use Rattle.syslog_named_forms.specs.Untagged.{host_row};
@@ -30,6 +32,50 @@ pub(crate) fn hostless(text: &str) -> Option<Named<'_>>
     Some(tagged(None, program, msg))
 }
 
+// Returns the text after `|security`, and all of it if it does not begin so.
+fn past_security(text: &str) -> &str
+    ensures { (v : (optional (exactly (codes "|security"))).Value)
+        × Front (optional (exactly (codes "|security"))) (chars text.now) (shown result) v }
+{
+    match past(text, "|security") {
+        Some(rest) => rest,
+        None => text,
+    }
+}
+
+fn colon(text: &str) -> Option<&str>
+    ensures { Recognises (exactly colon_text) (chars text.now) result }
+{
+    literal(text, ':')
+}
+
+fn severity_word(text: &str) -> Option<&str>
+    ensures { Recognises severity_class (chars text.now) result }
+{
+    let (_, rest) = severity(text)?;
+    Some(rest)
+}
+
+// Returns the text after facility and severity of AIX.
+fn aix(text: &str) -> Option<&str>
+    ensures { Recognises (Row spec.aix_row) (chars text.now) result }
+{
+    topic_word(text)
+        .map(past_security)
+        .and_then(colon)
+        .and_then(severity_word)
+}
+
+// Returns the text after a facility and a severity.
+fn pair(text: &str) -> Option<&str>
+    ensures { Recognises (Row selector_row otherwise Row spec.aix_row) (chars text.now) result }
+{
+    if let Some(rest) = selector(text) {
+        return Some(rest);
+    }
+    aix(text)
+}
+
 // Returns the text after a severity, or after a facility and a severity.
 fn grade(text: &str) -> Option<&str>
     ensures { Recognises spec.grade (chars text.now) result }
@@ -37,7 +83,7 @@ fn grade(text: &str) -> Option<&str>
     if let Some((_, rest)) = severity(text) {
         return Some(rest);
     }
-    selector(text)
+    pair(text)
 }
 
 /// Reads a line with the severity before the program. `after_host` is what `past_host` returned for the line.

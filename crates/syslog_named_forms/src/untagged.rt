@@ -87,7 +87,7 @@ pub(crate) fn dot(text: &str) -> Option<&str>
     literal(text, '.')
 }
 
-fn comma(text: &str) -> Option<&str>
+pub(crate) fn comma(text: &str) -> Option<&str>
     ensures { Recognises (exactly (44 ∷ [])) (chars text.now) result }
 {
     literal(text, ',')
@@ -364,7 +364,7 @@ pub(crate) fn key(text: &str) -> Option<&str>
     if run.is_empty() { None } else { Some(rest) }
 }
 
-fn equals(text: &str) -> Option<&str>
+pub(crate) fn equals(text: &str) -> Option<&str>
     ensures { Recognises (exactly (61 ∷ [])) (chars text.now) result }
 {
     literal(text, '=')

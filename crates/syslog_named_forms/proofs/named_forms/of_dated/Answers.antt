@@ -1,9 +1,9 @@
 use Rattle.std.proofs.Common.{List, [], ◌∷◌, ◌++◌, Option, Some, refl}
 use Rattle.syslog_text.specs.Pieces.Class.{Front, NoFront, Row, Text, mapped}
 use Rattle.syslog_named_forms.proofs.NamedFormLemmas.{event_tail_det, graded_tail_det, leveled_tail_det, tail_here}
-use Rattle.syslog_named_forms.proofs.NamedFormLemmas.{sourced_tail_det, named_later}
+use Rattle.syslog_named_forms.proofs.NamedFormLemmas.{sourced_tail_det, named_later, threaded_tail_det}
 use Rattle.syslog_named_forms.specs.NamedForms.{dated_forms, event_tail, front_row, graded_tail, leveled_tail}
-use Rattle.syslog_named_forms.specs.NamedForms.{dated_marked_forms, sourced_tail, tail_forms}
+use Rattle.syslog_named_forms.specs.NamedForms.{dated_marked_forms, sourced_tail, tail_forms, threaded_tail}
 use Rattle.syslog_sent.specs.declared.named.Named.{Named}
 use Rattle.syslog_named_forms.specs.NamedFinds.{FindsSaid}
 use Rattle.syslog_sent.specs.Named.{NamedTexts}
@@ -13,14 +13,17 @@ use Rattle.syslog_sent.specs.declared.sent.SentDate.{SentDate}
 use Rattle.syslog_named_forms.proofs.named_forms.of_dated.Goals as goal
 
 -- the forms after each one
+abbrev after_sourced : List Form
+after_sourced = tail_forms (threaded_tail ∷ []) ++ dated_marked_forms
+
 abbrev after_event : List Form
-after_event = tail_forms (sourced_tail ∷ []) ++ dated_marked_forms
+after_event = tail_forms (sourced_tail ∷ threaded_tail ∷ []) ++ dated_marked_forms
 
 abbrev after_leveled : List Form
-after_leveled = tail_forms (event_tail ∷ sourced_tail ∷ []) ++ dated_marked_forms
+after_leveled = tail_forms (event_tail ∷ sourced_tail ∷ threaded_tail ∷ []) ++ dated_marked_forms
 
 abbrev after_graded : List Form
-after_graded = tail_forms (leveled_tail ∷ event_tail ∷ sourced_tail ∷ []) ++ dated_marked_forms
+after_graded = tail_forms (leveled_tail ∷ event_tail ∷ sourced_tail ∷ threaded_tail ∷ []) ++ dated_marked_forms
 
 -- and what they find, where it is none of that one
 module _ {text rest : Text} {d : SentDate} (front : Front (Row front_row) text rest (tt, (d, (tt, tt))))
@@ -37,9 +40,13 @@ module _ {text rest : Text} {d : SentDate} (front : Front (Row front_row) text r
       → FindsSaid after_leveled d text r
   no_event = named_later event_tail after_event event_tail_det front r
 
-  no_sourced : NoFront (mapped sourced_tail.after NamedTexts sourced_tail.names) rest → FindsSaid dated_marked_forms d text r
+  no_sourced : NoFront (mapped sourced_tail.after NamedTexts sourced_tail.names) rest → FindsSaid after_sourced d text r
       → FindsSaid after_event d text r
-  no_sourced = named_later sourced_tail dated_marked_forms sourced_tail_det front r
+  no_sourced = named_later sourced_tail after_sourced sourced_tail_det front r
+
+  no_threaded : NoFront (mapped threaded_tail.after NamedTexts threaded_tail.names) rest → FindsSaid dated_marked_forms d text r
+      → FindsSaid after_sourced d text r
+  no_threaded = named_later threaded_tail dated_marked_forms threaded_tail_det front r
 
 pub returns-in-Some : goal.returns-in-Some
 returns-in-Some c d text front =
@@ -62,12 +69,22 @@ returns-in-Some-sourced c d text front = let after = c.past_host-after_host.ensu
     no_graded front (Some (_, c.in-Some-sourced.named)) c.in_default.ensures
     (no_leveled front (Some (_, c.in-Some-sourced.named)) (c.in_default-leveled.ensures _ after)
     (no_event front (Some (_, c.in-Some-sourced.named)) c.in_default-event.ensures
-    (tail_here sourced_tail dated_marked_forms sourced_tail_det front (c.in-Some-sourced.ensures _ after)
+    (tail_here sourced_tail after_sourced sourced_tail_det front (c.in-Some-sourced.ensures _ after)
     refl)))
+
+pub returns-in-Some-threaded : goal.returns-in-Some-threaded
+returns-in-Some-threaded c d text front = let after = c.past_host-after_host.ensures in
+    no_graded front (Some (_, c.in-Some-threaded.named)) c.in_default.ensures
+    (no_leveled front (Some (_, c.in-Some-threaded.named)) (c.in_default-leveled.ensures _ after)
+    (no_event front (Some (_, c.in-Some-threaded.named)) c.in_default-event.ensures
+    (no_sourced front (Some (_, c.in-Some-threaded.named)) (c.in_default-sourced.ensures _ after)
+    (tail_here threaded_tail dated_marked_forms threaded_tail_det front c.in-Some-threaded.ensures
+    refl))))
 
 pub returns : goal.returns
 returns c d text front = let after = c.past_host-after_host.ensures in
     no_graded front c.of_message.result c.in_default.ensures
     (no_leveled front c.of_message.result (c.in_default-leveled.ensures _ after)
     (no_event front c.of_message.result c.in_default-event.ensures
-    (no_sourced front c.of_message.result (c.in_default-sourced.ensures _ after) (c.of_message.ensures after d text front))))
+    (no_sourced front c.of_message.result (c.in_default-sourced.ensures _ after)
+    (no_threaded front c.of_message.result c.in_default-threaded.ensures (c.of_message.ensures after d text front)))))

@@ -1,16 +1,14 @@
-use Rattle.std.specs.Char.{is_not_whitespace}
 use Rattle.syslog_text.proofs.PieceLemmas.Class.{mapped_front}
 use Rattle.syslog_text.specs.Pieces.Class.{Text}
 use Rattle.syslog_sent.proofs.NamedLemmas.{first_front, second_front}
-use Rattle.syslog_named_forms.proofs.PairLemmas.{run_texted}
 use Rattle.syslog_sent.specs.Named.{◌otherwise◌}
-use Rattle.syslog_named_forms.specs.Pairs.{bare, either_text, quoted}
+use Rattle.syslog_named_forms.specs.Pairs.{either_text, quoted, unquoted}
 use Rattle.syslog_named_forms.proofs.pairs.any_value.Goals as goal
 
 pub returns-in-Some-clause-reads : goal.returns-in-Some-clause-reads
-returns-in-Some-clause-reads c = mapped_front (quoted otherwise bare) Text either_text
+returns-in-Some-clause-reads c = mapped_front (quoted otherwise unquoted) Text either_text
     (first_front c.in-Some.ensures.reads)
 
 pub returns-in-None-clause-reads : goal.returns-in-None-clause-reads
-returns-in-None-clause-reads c = mapped_front (quoted otherwise bare) Text either_text
-    (second_front c.in-None.ensures.reads (run_texted is_not_whitespace c.split_run.ensures))
+returns-in-None-clause-reads c = mapped_front (quoted otherwise unquoted) Text either_text
+    (second_front c.in-None.ensures.reads c.unquoted.ensures.reads)

@@ -7,5 +7,5 @@ pub returns-in-Some : goal.returns-in-Some
 returns-in-Some c = (_, first_front c.in-Some.ensures)
 
 pub returns : goal.returns
-returns c = match_map c.selector.result (λ n. no_otherwise c.in_default.ensures n)
-    (λ x (v, f). (inr v, second_front c.in_default.ensures f)) c.selector.ensures
+returns c = match_map c.pair.result (λ n. no_otherwise c.in_default.ensures n)
+    (λ x (v, f). (inr v, second_front c.in_default.ensures f)) c.pair.ensures

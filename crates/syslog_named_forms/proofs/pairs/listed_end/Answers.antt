@@ -1,0 +1,18 @@
+use Rattle.std.proofs.Common.{inl, refl}
+use Rattle.syslog_text.proofs.PieceLemmas.Class.{◌then◌, no_row, row_of}
+use Rattle.syslog_text.proofs.TextLemmas.Runs.{empty_is, nonempty_is, no_some_run, some_run_front}
+use Rattle.syslog_named_forms.proofs.PairLemmas.{listed_row_det}
+use Rattle.syslog_named_forms.specs.Pairs.{listed_row}
+use Rattle.syslog_named_forms.proofs.pairs.listed_end.Goals as goal
+
+pub returns-then-is_empty-clause-reads : goal.returns-then-is_empty-clause-reads
+returns-then-is_empty-clause-reads c = no_row listed_row listed_row_det
+    (inl (no_some_run _ _ _ _ c.split.ensures (empty_is _ c.if-is_empty.ensures)))
+
+pub returns-clause-reads : goal.returns-clause-reads
+returns-clause-reads c = (
+  _,
+  row_of listed_row
+      (some_run_front _ _ _ _ c.split.ensures (nonempty_is _ c.if-is_empty.ensures)
+      then c.past_part.ensures.1 then c.past_part-2.ensures.1 then refl),
+)

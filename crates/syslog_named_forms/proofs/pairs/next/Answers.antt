@@ -1,0 +1,8 @@
+use Rattle.std.proofs.Common.{[], ◌∷◌}
+use Rattle.syslog_text.proofs.PieceLemmas.{Class.◌also◌, Rules.row_reads}
+use Rattle.syslog_named_forms.{proofs.PairLemmas.next_det, specs.Pairs.next_row}
+use Rattle.syslog_named_forms.proofs.pairs.next.Goals as goal
+
+pub returns : goal.returns
+returns c = row_reads next_row next_det c.args.text (c.comma.result ∷ c.and_then.result ∷ c.and_then-2.result ∷ [])
+    (c.comma.ensures also c.and_then.ensures also c.and_then-2.ensures also tt)

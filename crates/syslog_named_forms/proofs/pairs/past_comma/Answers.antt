@@ -1,0 +1,7 @@
+use Rattle.std.proofs.Common.{[], ◌∷◌, Some}
+use Rattle.syslog_text.proofs.PieceLemmas.Class.{optional_some}
+use Rattle.syslog_text.specs.Pieces.Class.{exactly}
+use Rattle.syslog_named_forms.proofs.pairs.past_comma.Goals as goal
+
+pub returns-in-Some : goal.returns-in-Some
+returns-in-Some c = let (v, f) = c.in-Some.ensures in (Some v, optional_some (exactly (44 ∷ [])) f)
