@@ -35,7 +35,8 @@ use Rattle.syslog_named_forms.specs.NamedForms.{marked_tail, marked_tails, messa
 use Rattle.syslog_named_forms.specs.NamedForms.{program_tails, says, unified_tail, untagged_tail}
 use Rattle.syslog_named_forms.specs.NamedForms.{addressed_tail, compact_tail, device_forms, device_tails, graded_tail}
 use Rattle.syslog_named_forms.specs.NamedForms.{event_tail, graded_tails, leveled_tail, marked_forms, sourced_tail}
-use Rattle.syslog_named_forms.specs.NamedForms.{threaded_tail, titled_tail}
+use Rattle.syslog_named_forms.specs.NamedForms.{counted_tail, numbered_tail, threaded_tail, titled_tail}
+use Rattle.syslog_named_forms.specs.Graded.{counted_row, numbered_row}
 use Rattle.syslog_named_forms.specs.Devices.{addressed_row, point_word, title_row, titled_row}
 use Rattle.syslog_named_forms.specs.Graded.{event_end_row, event_row, grade_row, graded_row, level_row, leveled_row}
 use Rattle.syslog_named_forms.specs.Graded.{source_row, sourced_row, threaded_row, threads_row}
@@ -249,10 +250,18 @@ threaded_found = before_rest (left_of dialect.NoHost None) (take 6 threaded_row)
     (a_name also a_gap also a_sign 91 refl also text_of (Row threads_row) also passed (exactly (codes "]:"))
     (λ p q v is. inl (subst (Each is_sign) (sym is) (refl, (refl, tt)))) also blanks also tt)
 
+numbered_found : TailFound numbered_tail
+numbered_found = before_rest (left_of dialect.Bracketed None) (take 4 numbered_row)
+    (a_sign 91 refl also text_of (some_run is_ascii_digit) also a_sign 93 refl also a_gap also tt)
+
+counted_found : TailFound counted_tail
+counted_found = whole_found (left_of dialect.Bracketed None) (beginning (Row counted_row)) (λ x. x) (λ p x is. is.1)
+
 graded_all : AllFound (tail_forms graded_tails)
 graded_all = tail_of graded_tail graded_found also tail_of leveled_tail leveled_found
     also tail_of event_tail event_found
-    also tail_of sourced_tail sourced_found also tail_of threaded_tail threaded_found also tt
+    also tail_of sourced_tail sourced_found also tail_of threaded_tail threaded_found
+    also tail_of numbered_tail numbered_found also tail_of counted_tail counted_found also tt
 
 -- ---- pairs, whose names are in the message
 

@@ -39,7 +39,8 @@ use Rattle.syslog_named_forms.specs.NamedForms.{access_tail, forwarded_tail, hos
 use Rattle.syslog_named_forms.specs.NamedForms.{program_tails, says, unified_tail, untagged_tail}
 use Rattle.syslog_named_forms.specs.NamedForms.{addressed_tail, compact_tail, device_forms, device_tails, graded_tail}
 use Rattle.syslog_named_forms.specs.NamedForms.{event_tail, graded_tails, leveled_tail, marked_forms as message_forms}
-use Rattle.syslog_named_forms.specs.NamedForms.{sourced_tail, threaded_tail, titled_tail}
+use Rattle.syslog_named_forms.specs.NamedForms.{counted_tail, numbered_tail, sourced_tail, threaded_tail, titled_tail}
+use Rattle.syslog_named_forms.specs.Graded.{counted_row, numbered_row}
 use Rattle.syslog_named_forms.specs.Devices.{addressed_row, titled_row}
 use Rattle.syslog_named_forms.specs.Graded.{event_row, graded_row, leveled_row, sourced_row, threaded_row}
 use Rattle.syslog_named_forms.specs.Unified.{compact_row, log_row}
@@ -337,7 +338,10 @@ graded_end =
     also tail_of leveled_tail (λ t v ends f. rest_ends (take 5 leveled_row) t v f)
     also tail_of event_tail (λ t v ends f. rest_ends (take 6 event_row) t v f)
     also tail_of sourced_tail (λ t v ends f. rest_ends (take 5 sourced_row) t v f)
-    also tail_of threaded_tail (λ t v ends f. rest_ends (take 5 threaded_row) t v f) also tt
+    also tail_of threaded_tail (λ t v ends f. rest_ends (take 5 threaded_row) t v f)
+    also tail_of numbered_tail (λ t v ends f. spaced_rest_ends (take 3 numbered_row) t v f)
+    also tail_of counted_tail (λ t v ends f. all_of t v (f.is.1 ∙ whole_of (beginning (Row counted_row)) f) ends)
+    also tt
 
 -- ---- without a date
 

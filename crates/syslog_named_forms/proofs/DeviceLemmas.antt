@@ -13,6 +13,7 @@ use Rattle.syslog_sent.specs.Zone.{bare_word}
 use Rattle.syslog_named_forms.specs.Devices.{addressed_row, opens_address, point_word, title_row, titled_row}
 use Rattle.syslog_named_forms.specs.Graded.{event_end_row, event_row, grade_row, graded_row, hardware_row, level_row}
 use Rattle.syslog_named_forms.specs.Graded.{leveled_row, source_row, sourced_row, threaded_row, threads_row}
+use Rattle.syslog_named_forms.specs.Graded.{counted_row, numbered_row}
 use Rattle.syslog_named_forms.specs.Unified.{close_row, compact_row, is_kind, kind}
 use Rattle.syslog_named_forms.specs.Untagged.{some_digits}
 
@@ -87,3 +88,10 @@ pub threaded_det : AllDeterministic threaded_row
 threaded_det = name_det also some_run_det is_blank also exactly_det _
     also texted_det (Row threads_row) (row_det threads_row threads_det) also exactly_det _ also run_det is_blank
     also rest_det also tt
+
+pub numbered_det : AllDeterministic numbered_row
+numbered_det = exactly_det _ also texted_det (some_run is_ascii_digit) (some_run_det is_ascii_digit) also exactly_det _
+    also some_run_det is_blank also rest_det also tt
+
+pub counted_det : AllDeterministic counted_row
+counted_det = some_run_det is_ascii_digit also some_run_det is_blank also exactly_det _ also tt

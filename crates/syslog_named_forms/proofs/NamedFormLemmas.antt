@@ -36,9 +36,10 @@ use Rattle.syslog_sent.proofs.NamedLemmas.{hosted_det}
 use Rattle.syslog_named_forms.proofs.ProgramLemmas.{hostless_det, log_det, passed_on_det, severity_det, worded_det}
 use Rattle.syslog_named_forms.specs.Unified.{compact_row, log_row}
 use Rattle.syslog_named_forms.specs.Devices.{addressed_row, titled_row}
-use Rattle.syslog_named_forms.specs.Graded.{event_row, graded_row, leveled_row, sourced_row, threaded_row}
+use Rattle.syslog_named_forms.specs.Graded.{counted_row, event_row, graded_row, leveled_row, numbered_row}
+use Rattle.syslog_named_forms.specs.Graded.{sourced_row, threaded_row}
 use Rattle.syslog_named_forms.proofs.DeviceLemmas.{addressed_det, compact_det, event_det, graded_det, leveled_det}
-use Rattle.syslog_named_forms.proofs.DeviceLemmas.{sourced_det, threaded_det, titled_det}
+use Rattle.syslog_named_forms.proofs.DeviceLemmas.{numbered_det, sourced_det, threaded_det, titled_det}
 use Rattle.syslog_text.proofs.PieceLemmas.Class.{row_det}
 use Rattle.syslog_sent.proofs.FormLemmas.{found_later}
 
@@ -168,6 +169,12 @@ sourced_tail_det = row_det sourced_row sourced_det
 
 pub threaded_tail_det : IsDeterministic (Row threaded_row)
 threaded_tail_det = row_det threaded_row threaded_det
+
+pub numbered_tail_det : IsDeterministic (Row numbered_row)
+numbered_tail_det = row_det numbered_row numbered_det
+
+pub counted_tail_det : IsDeterministic (beginning (Row counted_row))
+counted_tail_det = beginning_det (Row counted_row)
 
 not_marked : (m : Mark) {text rest : Text} {d : SentDate} → Front (Row front_row) text rest (tt, (d, (tt, tt)))
     → NoFront (message m) rest → NoDivision (dated_row (marked m) marked_of) text

@@ -1,10 +1,10 @@
 -- What is in angles or in brackets before the message: facility and severity, an event, or where a line is from. 46 is
 -- `.`, 60 `<`, 62 `>`, 91 `[`, 93 `]`.
 use Rattle.std.specs.Prelude.{List, [], ◌∷◌, None, Some, codes}
-use Rattle.syslog_text.specs.Pieces.Class.{Class, Values, Row, exactly, mapped, rest, run, some_run, texted}
+use Rattle.syslog_text.specs.Pieces.Class.{Text, Class, Values, Row, exactly, mapped, rest, run, some_run, texted}
 use Rattle.syslog_text.specs.Text.{colon, host, is_blank}
 use Rattle.std.specs.Char.{is_ascii_digit}
-use Rattle.syslog_sent.specs.Named.{NamedTexts, name, program, tagged}
+use Rattle.syslog_sent.specs.Named.{NamedTexts, beginning, name, program, tagged, untagged}
 use Rattle.syslog_sent.specs.Runs.{is_plain_char, is_word_char}
 
 -- ---- `<auth.info> gate sshd[811]: text`, `<4.6> gate sshd[811]: text`
@@ -90,3 +90,27 @@ threaded_of (app, (_, (_, (id, (_, (_, (m, _))))))) = tagged None (record { name
 
 abbrev pub threaded : Class
 threaded = mapped (Row threaded_row) NamedTexts threaded_of
+
+-- ---- `[1133] LOG:  text`
+
+-- PostgreSQL: the process, by the prefix of its lines that is set unless another is
+abbrev pub numbered_row : List Class
+numbered_row = exactly (91 ∷ []) ∷ texted (some_run is_ascii_digit) ∷ exactly (93 ∷ []) ∷ some_run is_blank ∷ rest ∷ []
+
+abbrev pub numbered_of : Values numbered_row → NamedTexts
+numbered_of (_, (id, (_, (_, (m, _))))) = record { hostname = None; appname = None; process = Some id; msg = m }
+
+abbrev pub numbered : Class
+numbered = mapped (Row numbered_row) NamedTexts numbered_of
+
+-- ---- `0 [System] [MY-010931] [Server] text`
+
+-- MySQL and MariaDB: the number of a thread begins the message, and is no host
+abbrev pub counted_row : List Class
+counted_row = some_run is_ascii_digit ∷ some_run is_blank ∷ exactly (91 ∷ []) ∷ []
+
+abbrev pub counted_of : Text → NamedTexts
+counted_of t = untagged None t
+
+abbrev pub counted : Class
+counted = mapped (beginning (Row counted_row)) NamedTexts counted_of

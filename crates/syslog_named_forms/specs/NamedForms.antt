@@ -117,8 +117,16 @@ sourced_tail = record { dialect = dialect.BsdDate; after = Row graded.sourced_ro
 abbrev pub threaded_tail : Tail
 threaded_tail = record { dialect = dialect.NoHost; after = Row graded.threaded_row; names = graded.threaded_of }
 
+abbrev pub numbered_tail : Tail
+numbered_tail = record { dialect = dialect.Bracketed; after = Row graded.numbered_row; names = graded.numbered_of }
+
+abbrev pub counted_tail : Tail
+counted_tail =
+    record { dialect = dialect.Bracketed; after = beginning (Row graded.counted_row); names = graded.counted_of }
+
 abbrev pub graded_tails : List Tail
-graded_tails = graded_tail ∷ leveled_tail ∷ event_tail ∷ sourced_tail ∷ threaded_tail ∷ []
+graded_tails = graded_tail ∷ leveled_tail ∷ event_tail ∷ sourced_tail ∷ threaded_tail ∷ numbered_tail
+    ∷ counted_tail ∷ []
 
 -- it is tried after the forms that have nothing of their own after the date
 abbrev pub spread_tail : Tail

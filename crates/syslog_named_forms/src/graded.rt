@@ -1,12 +1,14 @@
 //! Lines with something in angles or in brackets before the message.
 //!
-//! **Rule.** FreeBSD's syslogd writes both before the host if it runs with `-v` (syslogd(8)), by number, or by name if
-//! it is given twice; so does Isilon's OneFS: `<auth.info> gate sshd[811]: text`. Axis cameras write the severity in
-//! brackets, filled up with spaces (AXIS OS, "Remote syslog"): `axis-accc8e1a2b3c [ INFO    ] systemd[1]: text`.
-//! NetApp's ONTAP writes node, event and severity (its format `legacy-netapp`): `[cluster1-01:wafl.vol.full:notice]:
-//! text`; the event is the app name, as a mnemonic of Cisco's is. Aruba Instant writes its address and that of its
-//! hardware after its name (Aruba Instant Syslog Messages): `192.0.2.2 <192.0.2.2 02:00:00:00:00:01> stm[2112]: text`.
-//! Phones of Yealink write process and thread after a blank, and no host: `sua [768:871]: text`.
+//! **Rule.** FreeBSD's syslogd writes facility and severity before the host if it runs with `-v` (syslogd(8)), by
+//! number, or by name if it is given twice; so does Isilon's OneFS: `<auth.info> gate sshd[811]: text`. Axis cameras
+//! write the severity in brackets, filled up with spaces (AXIS OS, "Remote syslog"): `axis-accc8e1a2b3c [ INFO    ]
+//! systemd[1]: text`. NetApp's ONTAP writes node, event and severity (its format `legacy-netapp`):
+//! `[cluster1-01:wafl.vol.full:notice]: text`; the event is the app name, as a mnemonic of Cisco's is. Aruba Instant
+//! writes its address and that of its hardware after its name (Aruba Instant Syslog Messages): `192.0.2.2 <192.0.2.2
+//! 02:00:00:00:00:01> stm[2112]: text`. Phones of Yealink write process and thread after a blank, and no host: `sua
+//! [768:871]: text`. The error logs of PostgreSQL begin with the process after the date (`log_line_prefix` is `%m [%p]
+//! `): `[1133] LOG:  text`; those of MySQL with the number of a thread: `0 [System] [MY-010931] [Server] text`.
 ghost use Rattle.std.specs.Prelude.{◌∷◌, [], chars, codes};
 ghost use Rattle.syslog_text.specs.Pieces.Class.{Row, Text, exactly, some_run, texted};
 ghost use Rattle.syslog_text.specs.Pieces.View.{Reads, Recognises, seen, shown};
@@ -16,8 +18,8 @@ ghost use Rattle.syslog_named_forms.specs.Graded as spec;
 ghost use Rattle.syslog_named_forms.specs.Untagged.{host_row};
 ghost use Rattle.syslog_sent.specs.Views.{Names, named_value};
 
-use crate::untagged::{digits, dot, key, past_blanks, topic_word};
-use syslog_sent::named::{Named, Program, name, past, read_program, tagged};
+use crate::untagged::{bracket, digits, dot, key, past_blanks, topic_word};
+use syslog_sent::named::{Named, Program, name, number, past, read_program, tagged, untagged};
 use syslog_sent::runs::{Run, split};
 use syslog_text::text::verbatim::before;
 use syslog_text::text::{blanks, host, literal, some_blanks};
@@ -231,4 +233,37 @@ pub(crate) fn threaded(text: &str) -> Option<Named<'_>>
         process: Some(id),
     };
     Some(tagged(None, program, blanks(rest)))
+}
+
+/// Reads a line that shows the number of a process in brackets, and no program.
+#[inline(always)]
+pub(crate) fn numbered(text: &str) -> Option<Named<'_>>
+    ensures { Names spec.numbered named_value (chars text.now) result }
+{
+    let at_id = literal(text, '[')?;
+    let (id, after_id) = number(at_id)?;
+    let after_close = literal(after_id, ']')?;
+    let msg = some_blanks(after_close)?;
+    Some(Named {
+        hostname: None,
+        appname: None,
+        process: Some(id),
+        msg,
+    })
+}
+
+// Returns the text after a number, blanks and a bracket.
+fn counted_end(text: &str) -> Option<&str>
+    ensures { Recognises (Row spec.counted_row) (chars text.now) result }
+{
+    digits(text).and_then(gap).and_then(bracket)
+}
+
+/// Reads a message that begins with a number and a bracket.
+#[inline(always)]
+pub(crate) fn counted(text: &str) -> Option<Named<'_>>
+    ensures { Names spec.counted named_value (chars text.now) result }
+{
+    let _ = counted_end(text)?;
+    Some(untagged(None, text))
 }

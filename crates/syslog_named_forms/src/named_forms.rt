@@ -14,7 +14,7 @@ ghost use Rattle.syslog_named_forms.specs.Untagged.{AreMarks, host_row};
 ghost use Rattle.syslog_sent.specs.Views.{named_value};
 
 use crate::devices::{addressed, titled};
-use crate::graded::{event, graded, leveled, sourced, threaded};
+use crate::graded::{counted, event, graded, leveled, numbered, sourced, threaded};
 use crate::monotonic::read_monotonic;
 use crate::near_header::{Start, head, read_bare, read_heroku, read_nil, read_tag, read_vendor};
 use crate::pairs::read_pairs;
@@ -254,6 +254,12 @@ fn of_dated(rest: &str) -> Option<(Dialect, Named<'_>)>
     }
     if let Some(named) = threaded(rest) {
         return Some((Dialect::NoHost, named));
+    }
+    if let Some(named) = numbered(rest) {
+        return Some((Dialect::Bracketed, named));
+    }
+    if let Some(named) = counted(rest) {
+        return Some((Dialect::Bracketed, named));
     }
     of_message(rest, after_host)
 }
