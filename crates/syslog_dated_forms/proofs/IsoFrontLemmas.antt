@@ -7,14 +7,17 @@ use Rattle.syslog_text.specs.Pieces.Class.{Text, Each, Ends, Front, NoDivision, 
 use Rattle.syslog_text.specs.Pieces.Class.{run, some_run}
 use Rattle.syslog_text.specs.Text.{is_blank, is_tag_char, colon}
 use Rattle.syslog_pieces.specs.Timestamp.Rfc3339.{pair, year}
-use Rattle.syslog_text.proofs.PieceLemmas.Class.{◌past◌, ◌then◌, each_map, front_of, front_same, mapped_front, no_mapped}
-use Rattle.syslog_text.proofs.PieceLemmas.Class.{no_row, no_row_division, optional_none, optional_some, row_of, row_pieces}
+use Rattle.syslog_text.proofs.PieceLemmas.Class.{◌past◌, ◌then◌, each_map, front_of, front_same, mapped_front}
+use Rattle.syslog_text.proofs.PieceLemmas.Class.{no_mapped}
+use Rattle.syslog_text.proofs.PieceLemmas.Class.{no_row, no_row_division, optional_none, optional_some, row_of}
+use Rattle.syslog_text.proofs.PieceLemmas.Class.{row_pieces}
 use Rattle.syslog_text.proofs.PieceLemmas.Class.{◌also◌, row_cons, row_nil, rows_none_later, run_det, some_run_det}
 use Rattle.syslog_text.proofs.PieceLemmas.Lists.{Begins, begins}
 use Rattle.syslog_text.proofs.PieceLemmas.Rules.{no_such_front, such_front}
 use Rattle.syslog_text.proofs.TextLemmas.Runs.{no_run}
 use Rattle.syslog_pieces.proofs.TimestampLemmas.MonthDate.{IsBlank, blanks_begin}
-use Rattle.syslog_dated_forms.specs.Cisco.{IsMnemonic, begins_host, counter_row, label, label_row, message_row, mnemonic}
+use Rattle.syslog_dated_forms.specs.Cisco.{IsMnemonic, begins_host, counter_row, label, label_row, message_row}
+use Rattle.syslog_dated_forms.specs.Cisco.{mnemonic}
 use Rattle.syslog_dated_forms.specs.Undated.{IsName, name_label, run_clock_row, run_word_row, undated_row, uptime}
 use Rattle.syslog_sent.specs.Date.{date_part, fraction_row, iso_date, iso_row, middle, point, weekday}
 use Rattle.syslog_dated_forms.specs.Dated.{ctime_message_row, ctime_row, journal_row, year_date, year_date_row}
@@ -348,7 +351,8 @@ module _ {t : Text} (m : HasIso t) where
       word_mnemonic m.a p q _ m.digits.0 (sym m.is ∙ e) (subst IsMnemonic is k)
 
   iso_no_weekday : NoFront weekday t
-  iso_no_weekday p q v e ((w, h, is), k) = no_capital m.a (m.b ∷ m.c ∷ m.d ∷ m.e ∷ m.more) m.digits.0 (subst (λ (x : Text). BeginsWith is_capital x)
+  iso_no_weekday p q v e ((w, h, is), k) = no_capital m.a (m.b ∷ m.c ∷ m.d ∷ m.e ∷ m.more) m.digits.0 (subst (λ (x :
+      Text). BeginsWith is_capital x)
       (ap (λ (x : Text). x ++ q) is ∙ sym e ∙ m.is) (day_capital v q k))
 
   no_slashed : NoFront (Row slashed_row) t
@@ -411,7 +415,8 @@ module _ {text t : Text} (gap : Front (run is_blank) text t tt) (m : HasIso t) w
         (no_node_at m.a m.b _ m.digits.0 m.digits.1.0)))
     | inr spaced ↦ no_row card_row card_row_det (gap past optional_none (Row counter_row) (iso_no_counter m)
         past optional_some host (mapped_front (Row host_row) Text (λ v. v.0) (row_of host_row
-        (such_front bare_word (BeginsWith begins_host) m.found (begins_a m m.word m.found) then one_gap spaced then refl)))
+        (such_front bare_word (BeginsWith begins_host) m.found (begins_a m m.word m.found) then one_gap spaced then
+        refl)))
         past inl (no_node_at spaced.x spaced.y _ spaced.first spaced.second))
   ] where
     no_gap : (tied : IsTied m.left) → NoFront (some_run is_blank) m.left

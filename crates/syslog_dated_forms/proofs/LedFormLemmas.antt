@@ -40,7 +40,8 @@ pub no_procurve : {t u : Text} → Front (run is_blank) t u tt → NoFront any_d
 no_procurve g n = no_row_division procurve_row (no_row procurve_row procurve_row_det (g past inl n))
 
 -- a line that begins with a date is of no form with another beginning
-xr_at : (d : LeadingDate) {text t : Text} (r : Text) → Front (run is_blank) text t tt → IsDate d t r → NoDivision xr_row text
+xr_at : (d : LeadingDate) {text t : Text} (r : Text) → Front (run is_blank) text t tt → IsDate d t r → NoDivision
+    xr_row text
 xr_at (Month d) r g f = no_xr g (has_month f)
 xr_at (Iso d) r g (n, f) = iso_no_xr g (has_iso f)
 

@@ -31,7 +31,8 @@ use Rattle.syslog_dated_forms.specs.Cisco.{IsMnemonic, begins_host, counter_row,
 use Rattle.syslog_dated_forms.specs.Cisco.{label_row}
 use Rattle.syslog_dated_forms.specs.Cisco.{labelled, mark, mnemonic}
 use Rattle.syslog_dated_forms.specs.Cisco.{message_row, start, start_row, task_row}
-use Rattle.syslog_dated_forms.specs.Undated.{IsName, IsUptime, name_label, run_clock_row, run_word_row, undated_row, uptime}
+use Rattle.syslog_dated_forms.specs.Undated.{IsName, IsUptime, name_label, run_clock_row, run_word_row, undated_row}
+use Rattle.syslog_dated_forms.specs.Undated.{uptime}
 use Rattle.syslog_sent.specs.Date.{bsd_row}
 use Rattle.syslog_sent.specs.Date.{IsDay, day_words, weekday}
 use Rattle.syslog_dated_forms.specs.Dated.{ctime_message_row, ctime_row, journal_row, year_date, year_date_row}

@@ -84,6 +84,7 @@ fn is_asa_tag(tag: &str) -> bool
 }
 
 // Returns a host's name at the front, and the text after it.
+#[inline(always)]
 pub(crate) fn origin(text: &str) -> Option<(&str, &str)>
     ensures { Reads spec.origin (λ word. shown word) (chars text.now) result }
 {

@@ -54,9 +54,21 @@ word_first c x w = elim (cases_Bool (nat_eq c 67)) [
 word_next : (c d x : ℕ) (t : Text) → begin_no_word c x ≡ true → is_odd_app (c ∷ d ∷ t) ≡ true
     → (d < 128) × (begin_no_word c d ≡ false)
 word_next c d x t w h = elim (word_first c x w) [
-  | inl is ↦ (let e = after_c d t (subst (λ (k : ℕ). is_odd_app (k ∷ d ∷ t) ≡ true) is h) in (rw e (omega arith), rw (is, e) refl))
-  | inr (inl is) ↦ (let e = after_l d t (subst (λ (k : ℕ). is_odd_app (k ∷ d ∷ t) ≡ true) is h) in (rw e (omega arith), rw (is, e) refl))
-  | inr (inr is) ↦ (let e = after_s d t (subst (λ (k : ℕ). is_odd_app (k ∷ d ∷ t) ≡ true) is h) in (rw e (omega arith), rw (is, e) refl))
+  | inl is ↦ (let e = after_c d t (subst (λ (k : ℕ). is_odd_app (k ∷ d ∷ t) ≡ true) is h) in (
+    rw e (omega arith),
+    rw
+        (is, e) refl,
+  ))
+  | inr (inl is) ↦ (let e = after_l d t (subst (λ (k : ℕ). is_odd_app (k ∷ d ∷ t) ≡ true) is h) in (
+    rw e (omega
+        arith),
+    rw (is, e) refl,
+  ))
+  | inr (inr is) ↦ (let e = after_s d t (subst (λ (k : ℕ). is_odd_app (k ∷ d ∷ t) ≡ true) is h) in (
+    rw e (omega
+        arith),
+    rw (is, e) refl,
+  ))
 ]
 
 word_not_odd : (bs : List ℕ) (c : ℕ) (t : Text) → IsUtf8 bs → chars bs ≡ c ∷ t → c < 128

@@ -34,7 +34,8 @@ opens_brackets (c ∷ cs) = nat_eq c 123 || (nat_eq c 91 || (nat_eq c 34 || nat_
 
 -- a year, and `-` or a slash
 abbrev pub opens_day : Text → Bool
-opens_day (a ∷ b ∷ c ∷ d ∷ e ∷ more) = ((is_ascii_digit a && is_ascii_digit b) && (is_ascii_digit c && is_ascii_digit d))
+opens_day (a ∷ b ∷ c ∷ d ∷ e ∷ more) = ((is_ascii_digit a && is_ascii_digit b) && (is_ascii_digit c && is_ascii_digit
+    d))
     && (nat_eq e 45 || nat_eq e 47)
 opens_day _ = false
 

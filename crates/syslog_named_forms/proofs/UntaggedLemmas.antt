@@ -38,7 +38,8 @@ use Rattle.syslog_named_forms.specs.Untagged.{is_main_topic, later_topic_row, ma
 use Rattle.syslog_named_forms.specs.declared.untagged.MessageMarks.{MessageMarks}
 use Rattle.syslog_named_forms.specs.Untagged.{AreAll, AreMarks, begins_other, ends_list, holds, marked}
 use Rattle.syslog_named_forms.specs.Untagged.{marked_of, message}
-use Rattle.syslog_named_forms.specs.Untagged.{angle, clock_row, dashed_row, day, is_month, month_row, month_word, slashed_row, topics_row}
+use Rattle.syslog_named_forms.specs.Untagged.{angle, clock_row, dashed_row, day, is_month, month_row, month_word}
+use Rattle.syslog_named_forms.specs.Untagged.{slashed_row, topics_row}
 
 pub cef_det : AllDeterministic cef_row
 cef_det = exactly_det _ also run_det is_blank also some_run_det is_ascii_digit also exactly_det _ also tt

@@ -63,6 +63,7 @@ fn bare(msg: &str) -> Sent<'_>
 }
 
 // Reads a line with the seconds since the start.
+#[inline(always)]
 fn of_seconds(text: &str) -> Option<(Dialect, Sent<'_>)>
     ensures { Finds (monotonic_form ∷ []) (chars text.now) result }
 {
@@ -194,8 +195,8 @@ fn of_program_or_device<'a>(
     of_device(rest, after_host)
 }
 
-// Reads what follows a date, if one of these marks begins a message there. `after_host` and `begun` are what `past_host`
-// and `MessageMarks::of` returned for it.
+// Reads what follows a date, if one of these marks begins a message there. `after_host` and `begun` are what
+// `past_host` and `MessageMarks::of` returned for it.
 fn of_marks<'a>(
     marks: &[Mark],
     begun: MessageMarks,

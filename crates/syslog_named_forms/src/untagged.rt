@@ -614,8 +614,8 @@ fn may_be_list(text: &str) -> bool
     }
 }
 
-// The bits of the marks that may begin with each character of ASCII. The clause of `bits_in_list` says that each entry is
-// right.
+// The bits of the marks that may begin with each character of ASCII. The clause of `bits_in_list` says that each
+// entry is right.
 static IN_LIST: [u16; 128] = [
     0, 0, 0, 0, 0, 0, 0, 0, 0, 0, 0, 0, 0, 0, 0, 0, 0, 0, 0, 0, 0, 0, 0, 0, 0, 0, 0, 0, 0, 0, 0, 0,
     0, 256, 512, 0, 0, 0, 0, 0, 0, 0, 0, 0, 0, 276, 16, 16, 1304, 1304, 1304, 1304, 1304, 1304,
@@ -698,6 +698,7 @@ impl Marks {
 }
 
 /// Returns the host at the front, if there is one, and the text after it and the blanks that follow it.
+#[inline(always)]
 pub(crate) fn past_host(text: &str) -> Option<(Option<&str>, &str)>
     ensures { Reads (Row spec.host_row) (λ h. (seen h, (tt, tt))) (chars text.now) result }
 {
@@ -763,8 +764,8 @@ fn end_of(text: &str, marks: Marks, mark: Mark) -> Option<&str>
     }
 }
 
-/// Returns a message that the mark begins, or a host and such a message. `marks` is what `MessageMarks::of` returned for
-/// the text.
+/// Returns a message that the mark begins, or a host and such a message. `marks` is what `MessageMarks::of` returned
+/// for the text.
 #[inline(always)]
 pub(crate) fn message<'a>(
     text: &'a str,

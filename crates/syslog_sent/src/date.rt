@@ -328,6 +328,7 @@ fn is_day(word: &str) -> bool
 }
 
 /// Returns the text after the day of the week, if that begins it.
+#[inline(always)]
 pub fn weekday(text: &str) -> Option<&str>
     ensures { Recognises spec.weekday (chars text.now) result }
 {

@@ -9,4 +9,5 @@ returns-in-Some c text led = found_early filed_forms timed_forms _ c.in-Some.fou
 
 pub returns : goal.returns
 returns c text led = found_late filed_forms timed_forms _ c.from_timed.result
-    (c.in_default.ensures _ _ led.gap (rw led.sent (any_front c.args.led.date led.date))) (c.from_timed.ensures text led)
+    (c.in_default.ensures _ _ led.gap (rw led.sent (any_front c.args.led.date led.date))) (c.from_timed.ensures text
+    led)

@@ -13,7 +13,10 @@ returns-then-is_empty c after are d text front = let (own, later) = c.if-is_empt
 
 pub returns-in-Some : goal.returns-in-Some
 returns-in-Some c after are = c.loop-mark.invariant after are (Some (c.dialect.result, c.in-Some.named))
-    (λ d text front. rw (drop_more c.args.marks.now c.loop-mark.mark-index mark.Cef c.loop-mark-test.true, c.dialect.ensures)
+    (λ d text front. rw (
+      drop_more c.args.marks.now c.loop-mark.mark-index mark.Cef c.loop-mark-test.true,
+      c.dialect.ensures,
+    )
     (tail_here (marked_tail _) (tail_forms (marked_tails (drop (c.loop-mark.mark-index + 1) c.args.marks.now)))
     (marked_det _) front (c.in-Some.ensures after are) refl))
 

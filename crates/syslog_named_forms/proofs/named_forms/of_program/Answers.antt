@@ -34,19 +34,23 @@ abbrev after_worded : List Form
 after_worded = tail_forms (access_tail ∷ hostless_tail ∷ serial_tail ∷ unified_tail ∷ untagged_tail ∷ [])
 
 abbrev after_severity : List Form
-after_severity = tail_forms (worded_tail ∷ access_tail ∷ hostless_tail ∷ serial_tail ∷ unified_tail ∷ untagged_tail ∷ [])
+after_severity = tail_forms (worded_tail ∷ access_tail ∷ hostless_tail ∷ serial_tail ∷ unified_tail ∷ untagged_tail ∷
+    [])
 
 abbrev after_forwarded : List Form
-after_forwarded = tail_forms (severity_tail ∷ worded_tail ∷ access_tail ∷ hostless_tail ∷ serial_tail ∷ unified_tail ∷ untagged_tail ∷ [])
+after_forwarded = tail_forms (severity_tail ∷ worded_tail ∷ access_tail ∷ hostless_tail ∷ serial_tail ∷ unified_tail ∷
+    untagged_tail ∷ [])
 
 -- and what they find, where it is none of that one
 module _ {text rest : Text} {d : SentDate} (front : Front (Row front_row) text rest (tt, (d, (tt, tt))))
     (r : Option (Dialect × Named)) where
-  no_forwarded : NoFront (mapped forwarded_tail.after NamedTexts forwarded_tail.names) rest → FindsSaid after_forwarded d text r
+  no_forwarded : NoFront (mapped forwarded_tail.after NamedTexts forwarded_tail.names) rest → FindsSaid
+      after_forwarded d text r
       → FindsSaid (tail_forms program_tails) d text r
   no_forwarded = named_later forwarded_tail after_forwarded forwarded_tail_det front r
 
-  no_severity : NoFront (mapped severity_tail.after NamedTexts severity_tail.names) rest → FindsSaid after_severity d text r
+  no_severity : NoFront (mapped severity_tail.after NamedTexts severity_tail.names) rest → FindsSaid after_severity d
+      text r
       → FindsSaid after_forwarded d text r
   no_severity = named_later severity_tail after_severity severity_tail_det front r
 
@@ -58,7 +62,8 @@ module _ {text rest : Text} {d : SentDate} (front : Front (Row front_row) text r
       → FindsSaid after_worded d text r
   no_access = named_later access_tail after_access access_tail_det front r
 
-  no_hostless : NoFront (mapped hostless_tail.after NamedTexts hostless_tail.names) rest → FindsSaid after_hostless d text r
+  no_hostless : NoFront (mapped hostless_tail.after NamedTexts hostless_tail.names) rest → FindsSaid after_hostless d
+      text r
       → FindsSaid after_access d text r
   no_hostless = named_later hostless_tail after_hostless hostless_tail_det front r
 
@@ -70,7 +75,8 @@ module _ {text rest : Text} {d : SentDate} (front : Front (Row front_row) text r
       → FindsSaid after_serial d text r
   no_unified = named_later unified_tail after_unified unified_tail_det front r
 
-  no_untagged : NoFront (mapped untagged_tail.after NamedTexts untagged_tail.names) rest → FindsSaid after_untagged d text r
+  no_untagged : NoFront (mapped untagged_tail.after NamedTexts untagged_tail.names) rest → FindsSaid after_untagged d
+      text r
       → FindsSaid after_unified d text r
   no_untagged = named_later untagged_tail after_untagged untagged_tail_det front r
 
@@ -132,7 +138,8 @@ returns-in-Some-untagged_message c after d text front =
     (no_hostless front (Some (_, c.in-Some-untagged_message.named)) c.in_default-hostless.ensures
     (no_serial front (Some (_, c.in-Some-untagged_message.named)) (c.in_default-after_serial.ensures _ after)
     (no_unified front (Some (_, c.in-Some-untagged_message.named)) c.in_default-unified.ensures
-    (tail_here untagged_tail after_untagged untagged_tail_det front (c.in-Some-untagged_message.ensures _ after) refl))))))))
+    (tail_here untagged_tail after_untagged untagged_tail_det front (c.in-Some-untagged_message.ensures _ after)
+    refl))))))))
 
 pub returns : goal.returns
 returns c after d text front =

@@ -26,7 +26,8 @@ returns-in_err-hostname c after marks = rw c.from_residual.ensures (no_mapped (m
 pub returns-in_err-end_of : goal.returns-in_err-end_of
 returns-in_err-end_of c after marks = rw c.from_residual-in_err-end_of.ensures
     (no_mapped (marked c.args.mark) NamedTexts marked_of
-    (no_otherwise (no_beginning (c.in_default.ensures marks.0)) (rows_none_later host_row (begun c.args.mark ∷ []) host_row_det
+    (no_otherwise (no_beginning (c.in_default.ensures marks.0)) (rows_none_later host_row (begun c.args.mark ∷ [])
+    host_row_det
     (rw c.in_ok-hostname.was at after) (row_none_here (begun c.args.mark) []
     (no_beginning (c.in_err-end_of.ensures (rw c.in_ok-hostname.was at marks.1)))))))
 

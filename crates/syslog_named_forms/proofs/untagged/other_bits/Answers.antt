@@ -22,5 +22,6 @@ agrees Bracket = refl
 agrees Dated = refl
 
 pub returns-then-c-lt128 : goal.returns-then-c-lt128
-returns-then-c-lt128 c m = agree_below_at (λ (k : ℕ). holds (get_or OTHERS k 0) m) (begins_other m) 128 c.args.c (agrees m)
+returns-then-c-lt128 c m = agree_below_at (λ (k : ℕ). holds (get_or OTHERS k 0) m) (begins_other m) 128 c.args.c
+    (agrees m)
     (omega arith)

@@ -7,8 +7,10 @@ use Rattle.syslog_sent.proofs.zone.zone.Goals as goal
 
 pub returns : goal.returns
 returns c = match_map c.zone_mark.result
-    (λ n. no_mapped (Row zone_row) (Option ℤ) (λ v. v.1.0) (no_row zone_row zone_row_det (c.blanks-mark.ensures past inl n)))
-    (λ x f. mapped_front (Row zone_row) (Option ℤ) (λ v. v.1.0) (row_of zone_row (c.blanks-mark.ensures then f then refl)))
+    (λ n. no_mapped (Row zone_row) (Option ℤ) (λ v. v.1.0) (no_row zone_row zone_row_det (c.blanks-mark.ensures past
+    inl n)))
+    (λ x f. mapped_front (Row zone_row) (Option ℤ) (λ v. v.1.0) (row_of zone_row (c.blanks-mark.ensures then f then
+    refl)))
     c.zone_mark.ensures
 
 pub returns-then-not-begins_zone : goal.returns-then-not-begins_zone
