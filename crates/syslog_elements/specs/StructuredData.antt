@@ -7,6 +7,7 @@ pub mod Escapes
 pub mod Recognised
 pub mod Rfc3164List
 pub mod Params
+pub mod Pairs
 pub mod Canonical
 pub mod Collected
 pub mod Unparsed

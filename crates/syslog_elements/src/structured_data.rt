@@ -13,6 +13,8 @@ mod equality;
 mod escapes;
 mod few_params;
 mod line_list;
+mod pair_list;
+mod pairs;
 mod params;
 mod recognise;
 mod recognised;
@@ -25,13 +27,15 @@ pub use collect::Collect;
 pub use escapes::{next_unescaped, unescape};
 pub use few_params::FewParams;
 pub use line_list::{visit_forgiving_list, visit_rfc3164_list};
+pub use pair_list::paired_list;
+pub use pairs::Notation;
 pub use params::ParamsIter;
 pub use recognised::{Element, ElementList};
 pub use recognised_items::{Elements, Params};
 use std::alloc::Global;
 use std::fmt;
 use syslog_text::as_str::AsStr;
-pub use visit::{ElementVisitor, NoElements, NoNotes, ParamNotes};
+pub use visit::{ElementVisitor, NoElements, NoNotes, ParamNotes, visit_list};
 
 /// An element of structured data: its id, and the names and the raw values of its parameters, in order. It is printed
 /// with one space before each parameter, and values are printed raw: with the escapes that they have, and no others.

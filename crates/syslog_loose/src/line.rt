@@ -117,7 +117,7 @@ impl<'a> Line<'a> {
     /// Returns whether the printed text of the line's message is parsed as the same message by its own protocol.
     ///
     /// It looks at the fields alone, does not allocate, and takes time linear in the line.
-    #[tactic(auto, using(syslog_elements::proofs::StructuredDataLemmas::Elements::are_canonical))]
+    #[tactic(auto, using(syslog_elements::proofs::StructuredDataLemmas::Pairs::are_canonical))]
     pub fn is_canonical(&self) -> bool
         ensures { IsTrue result ↔ IsCanonical dash_rule (line_value self.now) }
     {

@@ -6,7 +6,7 @@ use Rattle.syslog_elements.proofs.Names.{drop-append_seam, bare_param_text}
 use Rattle.syslog_elements.proofs.Names.{exactly_det}
 use Rattle.syslog_elements.proofs.Names.{IsDeterministic, joined_elements, AllByRecursion}
 use Rattle.syslog_elements.proofs.Names.{BeginsUnblank}
-use Rattle.syslog_elements.proofs.Names.{elements_text, is_prop→PathP, list_elements, length-append}
+use Rattle.syslog_elements.proofs.Names.{elements_text, is_prop→PathP, length-append}
 use Rattle.syslog_elements.proofs.Names.{Class}
 use Rattle.syslog_elements.proofs.Names.{append_assoc, is_name_char, is_open_char, ElementValue, some_run_det}
 use Rattle.syslog_elements.proofs.Names.{is_id_char}
@@ -17,7 +17,7 @@ use Rattle.syslog_elements.proofs.Names.{quoted_row, OneMeaning, inside_row, nat
 use Rattle.syslog_elements.proofs.Names.{many_here}
 use Rattle.syslog_elements.proofs.Names.{one_value, unit_text, param_row, bracketed, start_row, is_blank, many_det}
 use Rattle.syslog_elements.proofs.Names.{value}
-use Rattle.syslog_elements.proofs.Names.{∥∥₁_elim, flat_map, list_any, some_run, TextUnit, element, run_det, row_det}
+use Rattle.syslog_elements.proofs.Names.{flat_map, list_any, some_run, TextUnit, element, run_det, row_det}
 use Rattle.syslog_elements.proofs.Names.{◌≢◌}
 use Rattle.syslog_elements.proofs.Names.{is_none, IsValue, NoFront, exactly, Divides, IsMany, IsList, IsMore, quoted}
 use Rattle.syslog_elements.proofs.Names.{◌<◌}
@@ -29,7 +29,6 @@ use Rattle.syslog_elements.proofs.Names.{item, dash, Ends, Bool, drop, Some, Non
 use Rattle.syslog_elements.proofs.Names.{ap}
 use Rattle.syslog_elements.proofs.Names.{inl, inr, ◌∷◌, sym, ◌∙◌, map, Row, run, [], ℕ}
 use Rattle.std.proofs.lemmas.List.Elements.{filter_map-append}
-use Rattle.syslog_elements.specs.declared.structured_data.recognised.ElementList.{ElementList}
 use Rattle.syslog_text.proofs.PieceLemmas.Lists.{list_before_det}
 use Rattle.syslog_elements.proofs.StructuredDataLemmas.Units.{unit_same, units_same}
 use Rattle.syslog_text.proofs.PieceLemmas.Class.{all_joined, front_of}
@@ -396,13 +395,8 @@ unblank_prop : (ps : List (Text × Text)) → IsProp (BeginsUnblank ps)
 unblank_prop [] = Prim.hlevel props
 unblank_prop (p ∷ ps) = ends_prop is_blank p.0
 
-element_prop : (e : ElementValue) → IsProp (IsCanonicalElement e)
+pub element_prop : (e : ElementValue) → IsProp (IsCanonicalElement e)
 element_prop e =
     let params = AllByRecursion-prop IsCanonicalParam
     (λ p. Prim.hlevel (props, each_prop is_name_char p.0, value_prop p.1)) e.params in
     Prim.hlevel (props, each_prop is_id_char e.id, params, unblank_prop e.params)
-
-pub are_canonical : (l : ElementList) → AllByRecursion IsCanonicalElement (list_elements l)
-are_canonical l = ∥∥₁_elim l.meaning.1.0 (AllByRecursion-prop IsCanonicalElement element_prop (list_elements l)) (λ f.
-    subst (λ (vs : List (Option ElementValue)). AllByRecursion IsCanonicalElement (strict vs))
-    (sym (one_value-is l.meaning f.1)) (items_canonical f.1.piece f.0 _ f.1.is))

@@ -32,7 +32,10 @@ use Rattle.syslog_elements.proofs.Names.{many, dash, Bool, ◌&&◌, item, true,
 use Rattle.syslog_elements.proofs.Names.{◌⊎◌}
 use Rattle.syslog_elements.proofs.Names.{map, run, ap, ◌then◌}
 use Rattle.syslog_elements.specs.StructuredData.Recognised.{OneInside-prop, OneItems-prop, params_set, items_set}
+use Rattle.syslog_elements.specs.StructuredData.Pairs.{IsNext, inside_of}
 use Rattle.syslog_elements.specs.StructuredData.Visited.{AreItems}
+use Rattle.syslog_elements.specs.declared.structured_data.pairs.Notation.{Notation}
+use Rattle.syslog_elements.specs.declared.structured_data.pairs.Notation.TheVariants.{Equals}
 use Rattle.syslog_elements.proofs.StructuredDataLemmas.Closing.{passes_opening, element_starts, passes_quoted}
 use Rattle.syslog_elements.proofs.StructuredDataLemmas.Closing.{start_shut}
 use Rattle.syslog_elements.proofs.StructuredDataLemmas.Closing.{element_read, value_breaks, passes_here, param_opens}
@@ -471,8 +474,8 @@ module _ {text inner at id : Text} {ps : List (Text × Text)} {count : ℕ} {mar
             }
 
 -- ---- what is left of a recognised element and of a recognised list, one parameter or one item less
-pub inside_same : {t : Text} (m n : OneMeaning inside t) → (one_value m).0 ≡ (one_value n).0
-inside_same {t = t} m n = ap (λ (x : OneMeaning inside t). (one_value x).0) (OneInside-prop t m n)
+pub inside_same : (n : Notation) {t : Text} (m k : OneMeaning (inside_of n) t) → (one_value m).0 ≡ (one_value k).0
+inside_same n {t = t} m k = ap (λ (x : OneMeaning (inside_of n) t). (one_value x).0) (OneInside-prop n t m k)
 
 pub items_same : {t : Text} (m n : OneMeaning (many item) t) → one_value m ≡ one_value n
 items_same {t = t} m n = ap (λ (x : OneMeaning (many item) t). one_value x) (OneItems-prop t m n)
@@ -486,11 +489,7 @@ pub not_inside : {t : Text} → OneMeaning inside t → NoFront (exactly (93 ∷
 not_inside {t = t} m n k = ∥∥₁_elim m.1.0 ⊥_prop
     (λ f. no_front_no inside (row_none_here _ (exactly (93 ∷ []) ∷ []) (no_list param 32 93 t n k)) f.1)
 
--- the text after the first parameter and the separator after it
-abbrev pub IsNext : Text → Text → Type 0
-IsNext u z = (u ≡ 32 ∷ z) ⊎ (NoFront (exactly (32 ∷ [])) u × (u ≡ z))
-
--- and the parameters that are left there
+-- the parameters that are left after the first one and its separator
 next_list : {u z q : Text} (ws : List (Text × Text)) → IsNext u z → Front (more_before param 32 93) u q ws
     → Front (list_before param 32 93) z q ws
 next_list {z = z} {q = q} [] (inl e) g =
@@ -504,7 +503,7 @@ next_list {q = q} (w ∷ ws) (inr (n, e)) g =
 pub params_less : {t u z : Text} {v : Text × Text} (m : OneMeaning inside t) → NoFront (exactly (93 ∷ [])) t
     → Front param t u v → IsNext u z → (k : OneMeaning inside z) × ((one_value m).0 ≡ v ∷ (one_value k).0)
 params_less {t = t} {u = u} {z = z} {v = v} m n f e = ∥∥₁_elim m.1.0
-    (Σ_prop (OneInside-prop z) (λ k. params_set (one_value m).0 (v ∷ (one_value k).0))) (λ x.
+    (Σ_prop (OneInside-prop Equals z) (λ k. params_set (one_value m).0 (v ∷ (one_value k).0))) (λ x.
     let end = exactly (93 ∷ []) ∷ [] in
     let (s, list, close) = row_head (list_before param 32 93) end x.1 in
     let (w, ws, (r, g, more)) = some_parts param 32 93 _ n list in

@@ -7,7 +7,9 @@ use Rattle.syslog_text.specs.Pieces.Class.{Text, Class, Front}
 use Rattle.syslog_elements.specs.StructuredData.Element.{ElementValue}
 use Rattle.syslog_elements.specs.StructuredData.{item}
 use Rattle.syslog_text.specs.Pieces.Lists.{many}
-use Rattle.syslog_elements.specs.Bodies.Closing.{inside}
+use Rattle.syslog_text.specs.Pieces.Class.{optional}
+use Rattle.syslog_elements.specs.StructuredData.Pairs.{inside_of, pairs}
+use Rattle.syslog_elements.specs.declared.structured_data.pairs.Notation.{Notation}
 use Rattle.std.proofs.Props.{props}
 
 -- a meaning of the front of the class that begins the text, and that there is no other
@@ -40,8 +42,11 @@ params_set = Prim.hlevel props
 pub items_set : IsSet (List (Option ElementValue))
 items_set = Prim.hlevel (props, ElementValue-set)
 
-pub OneInside-prop : (text : Text) → IsProp (OneMeaning inside text)
-OneInside-prop text = OneMeaning-prop inside (Prim.hlevel props) text
+pub OneInside-prop : (notation : Notation) (text : Text) → IsProp (OneMeaning (inside_of notation) text)
+OneInside-prop notation text = OneMeaning-prop (inside_of notation) (Prim.hlevel props) text
+
+pub OnePairs-prop : (text : Text) → IsProp (OneMeaning (optional pairs) text)
+OnePairs-prop text = OneMeaning-prop (optional pairs) (Prim.hlevel props) text
 
 pub OneItems-prop : (text : Text) → IsProp (OneMeaning (many item) text)
 OneItems-prop text = OneMeaning-prop (many item) items_set text

@@ -8,6 +8,7 @@ use Rattle.syslog_text.specs.Pieces.Lists.{many}
 use Rattle.syslog_text.specs.Pieces.View.{shown}
 use Rattle.syslog_elements.specs.StructuredData.{strict, element, item}
 use Rattle.syslog_elements.specs.StructuredData.Element.{ElementValue, element_text, joined_elements}
+use Rattle.syslog_elements.specs.StructuredData.Pairs.{with_pairs}
 use Rattle.syslog_elements.specs.StructuredData.Recognised.{one_value}
 use Rattle.syslog_elements.specs.StructuredData.Unparsed.{IsUnparsed}
 use Rattle.syslog_elements.specs.declared.structured_data.recognised.Element.{Element}
@@ -21,11 +22,11 @@ use Rattle.syslog_elements.specs.declared.structured_data.line_list.Tally.{Tally
 abbrev pub element_seen : Element → ElementValue
 element_seen e = record { id = shown e.id; params = (one_value e.meaning).0 }
 
--- the strict elements of a recognised list, in order
+-- the elements of a recognised list, in order: those of its text that are strict, or that of Check Point's pairs
 abbrev pub list_elements : ElementList → List ElementValue
-list_elements l = strict (one_value l.meaning)
+list_elements l = with_pairs (one_value l.paired) (strict (one_value l.meaning))
 
--- the text of a recognised list
+-- the text of a recognised list; pairs are none of it
 abbrev pub list_text : ElementList → Text
 list_text l = shown l.text
 
@@ -38,9 +39,9 @@ Visits {V = V} was_given old es new =
 abbrev pub params_left : Params → List (Text × Text)
 params_left it = (one_value it.meaning).0
 
--- the strict elements that are left of a list
+-- the elements that are left of a list
 abbrev pub elements_left : Elements → List ElementValue
-elements_left it = strict (one_value it.meaning)
+elements_left it = with_pairs (one_value it.paired) (strict (one_value it.meaning))
 
 -- the element that was walked begins the text, and the rest follows; the mark says whether it is in printed form
 pub record IsWalked (text : Text) (w : Walked) : Type 0 where

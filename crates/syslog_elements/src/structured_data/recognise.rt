@@ -86,7 +86,7 @@ pub(super) fn value_before<'a>(text: &'a str, rest: &str) -> &'a str
 
 // Returns the value at the front, and the text after the quote that closes it.
 #[inline(always)]
-fn quoted(text: &str) -> Option<(&str, &str)>
+pub(super) fn quoted(text: &str) -> Option<(&str, &str)>
     ensures { Reads quoted_class (λ v. (shown v, (tt, tt))) (chars text.now) result }
 {
     let rest = after_value(text)?;

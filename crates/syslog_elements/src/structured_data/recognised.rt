@@ -2,15 +2,22 @@
 ghost use Rattle.std.specs.Prelude.{◌≡◌, ◌≢◌, ◌++◌, ◌<◌, IfSome, IsTrue, length, sum_by, chars, IsUtf8};
 ghost use Rattle.std.proofs.Props.{props};
 ghost use Rattle.syslog_elements.specs.Bodies.Closing.{inside as inside_class};
-ghost use Rattle.syslog_text.specs.Pieces.Class.{Text};
+ghost use Rattle.syslog_text.specs.Pieces.Class.{Text, optional};
 ghost use Rattle.syslog_text.specs.Pieces.Lists.{many};
 ghost use Rattle.syslog_text.specs.Pieces.View.{seen, shown};
 ghost use Rattle.syslog_elements.specs.StructuredData.{item as item_class, strict as strict_of};
 ghost use Rattle.syslog_elements.specs.StructuredData.Element.{elements_text};
 ghost use Rattle.syslog_elements.specs.StructuredData.Unparsed.{IsUnparsed, if_any as any_of};
-ghost use Rattle.syslog_elements.specs.StructuredData.Recognised.{OneMeaning, OneInside-prop, OneItems-prop, one_value};
+ghost use Rattle.syslog_elements.specs.StructuredData.Pairs.{inside_of, left_in, paired_element, pairs as pairs_class};
+ghost use Rattle.syslog_elements.specs.StructuredData.Pairs.{pairs_in, with_pairs};
+ghost use Rattle.syslog_elements.specs.StructuredData.Recognised.{OneMeaning, OneInside-prop, OneItems-prop};
+ghost use Rattle.syslog_elements.specs.StructuredData.Recognised.{OnePairs-prop, one_value};
 
+use super::pairs::Notation;
 use syslog_text::text::verbatim::before;
+
+/// The id of Check Point's element, which has none: its maker's number is 2620 (IANA's enterprise numbers).
+const PAIR_ID: &str = "checkpoint@2620";
 
 /// A strict element, as a slice of the text. Its parameters are walked when they are asked for.
 #[derive(Clone, Copy)]
@@ -19,9 +26,10 @@ pub struct Element<'a> {
     // the text from its first parameter on, or from its `]` on
     pub(super) inside: &'a str,
     count: usize,
+    pub(super) notation: Notation,
     ghost id_utf8: { IsUtf8 id.now } by { Prim.hlevel props },
     ghost utf8: { IsUtf8 inside.now } by { Prim.hlevel props },
-    pub ghost meaning: { OneMeaning inside_class (chars inside.now) } by { OneInside-prop (chars inside.now) },
+    pub ghost meaning: { OneMeaning (inside_of notation) (chars inside.now) } by { OneInside-prop notation (chars inside.now) },
     ghost counted: { count ≡ length (one_value meaning).0 },
 }
 
@@ -37,7 +45,27 @@ impl<'a> Element<'a> {
         ensures { (q : Text) (ps : List (Text × Text)) → Front inside_class (chars inside.now) q (ps, (tt, tt))
             → element_seen result ≡ record { id = chars id.now; params = ps } }
     {
-        Element { id, inside, count }
+        Element {
+            id,
+            inside,
+            count,
+            notation: Notation::Equals,
+        }
+    }
+
+    // Returns the element of Check Point's pairs, of which `count` are in the text `inside`.
+    pub(super) fn of_pairs(inside: &'a str, count: usize) -> Element<'a>
+        requires { (q : Text) × ((ps : List (Text × Text))
+            × Front pairs_class (chars inside.now) q (ps, (tt, tt)) × (count ≡ length ps)) }
+        ensures { (q : Text) (ps : List (Text × Text)) → Front pairs_class (chars inside.now) q (ps, (tt, tt))
+            → element_seen result ≡ paired_element ps }
+    {
+        Element {
+            id: PAIR_ID,
+            inside,
+            count,
+            notation: Notation::Colons,
+        }
     }
 
     /// Returns the id of the element.
@@ -59,7 +87,8 @@ impl<'a> Element<'a> {
 #[derive(Clone, Copy)]
 pub struct ElementList<'a> {
     pub(super) text: &'a str,
-    // its text from the first element on that is not strict; empty if each is strict
+    // Its text from the first element on that is not strict; empty if each is strict. If `text` is empty, these are
+    // Check Point's pairs, from the first one on (in this place, since a field more would be copied with each line).
     unparsed: &'a str,
     // 0, unless the text before that is the printed text of all strict elements, or the text is `-` (a number, since the
     // compiler clears the bytes beside a `bool` one by one)
@@ -68,17 +97,20 @@ pub struct ElementList<'a> {
     params: usize,
     ghost utf8: { IsUtf8 text.now } by { Prim.hlevel props },
     pub ghost meaning: { OneMeaning (many item_class) (chars text.now) } by { OneItems-prop (chars text.now) },
-    ghost counted: { elements ≡ length (strict_of (one_value meaning)) },
-    ghost params_counted: { params ≡ sum_by (λ e. length e.params) (strict_of (one_value meaning)) },
+    pub ghost paired: { OneMeaning (optional pairs_class) (pairs_in text.now unparsed.now) } by { OnePairs-prop (pairs_in text.now unparsed.now) },
+    ghost counted: { elements ≡ length (with_pairs (one_value paired) (strict_of (one_value meaning))) },
+    ghost params_counted: { params
+        ≡ sum_by (λ e. length e.params) (with_pairs (one_value paired) (strict_of (one_value meaning))) },
     ghost unparsed_utf8: { IsUtf8 unparsed.now } by { Prim.hlevel props },
-    ghost left: { IsUnparsed (chars text.now) (chars unparsed.now) },
+    ghost left: { IsUnparsed (chars text.now) (left_in text.now unparsed.now) },
     ghost prints: { 0 < printed → chars text.now
-        ≡ elements_text (strict_of (one_value meaning)) ++ chars unparsed.now } by { Prim.hlevel props },
-    ghost differs: { printed ≡ 0 → chars text.now ≢ elements_text (strict_of (one_value meaning)) } by { Prim.hlevel props },
+        ≡ elements_text (with_pairs (one_value paired) (strict_of (one_value meaning))) ++ chars unparsed.now } by { Prim.hlevel props },
+    ghost differs: { printed ≡ 0 → chars text.now
+        ≢ elements_text (with_pairs (one_value paired) (strict_of (one_value meaning))) } by { Prim.hlevel props },
 }
 
 impl<'a> ElementList<'a> {
-    ghost use Rattle.std.specs.Prelude.{◌↔◌, List, Option, [], MatchBool};
+    ghost use Rattle.std.specs.Prelude.{◌↔◌, List, Option, [], ◌∷◌, MatchBool};
     ghost use Rattle.syslog_elements.specs.Words.{Text, Front, ElementValue, list_elements, list_text};
 
     // Returns the list of this text, with what is left unparsed of it, whether its text before that is printed, and the
@@ -106,6 +138,34 @@ impl<'a> ElementList<'a> {
             printed,
             elements,
             params,
+        }
+    }
+
+    // Returns the list of Check Point's pairs, of which `count` are in the text `inside`: one element, and no text.
+    pub(super) fn of_pairs(inside: &'a str, count: usize) -> ElementList<'a>
+        requires { (q : Text) × ((ps : List (Text × Text))
+            × Front pairs_class (chars inside.now) q (ps, (tt, tt)) × (count ≡ length ps)) }
+        ensures elements { (q : Text) (ps : List (Text × Text)) → Front pairs_class (chars inside.now) q (ps, (tt, tt))
+            → list_elements result ≡ paired_element ps ∷ [] }
+        ensures text { list_text result ≡ [] }
+    {
+        ElementList {
+            text: "",
+            unparsed: inside,
+            printed: 0,
+            elements: 1,
+            params: count,
+        }
+    }
+
+    // Returns Check Point's pairs, from the first one on; nothing if the list has none.
+    pub(super) fn pairs(&self) -> &'a str
+        ensures { chars result.now ≡ pairs_in self.now.text.now self.now.unparsed.now }
+    {
+        if self.text.is_empty() {
+            self.unparsed
+        } else {
+            ""
         }
     }
 
@@ -149,6 +209,9 @@ impl<'a> ElementList<'a> {
         ensures { (unparsed : Text) × IsUnparsed (list_text self.now) unparsed × (seen result ≡ any_of unparsed) }
     {
         if self.unparsed.is_empty() {
+            return None;
+        }
+        if self.text.is_empty() {
             None
         } else {
             Some(self.unparsed)

@@ -1,33 +1,28 @@
 //! The elements of a recognised list, and the parameters of a recognised element, one after the other.
-ghost use Rattle.std.specs.Prelude.{◌≡◌, ◌⊎◌, [], ◌∷◌, chars, IsUtf8};
+ghost use Rattle.std.specs.Prelude.{◌≡◌, chars, IsUtf8};
 ghost use Rattle.std.proofs.Props.{props};
-ghost use Rattle.syslog_elements.specs.Bodies.Closing.{inside as inside_class, IsDead};
-ghost use Rattle.syslog_text.specs.Pieces.Class.{NoFront, exactly};
+ghost use Rattle.syslog_elements.specs.Bodies.Closing.{IsDead};
+ghost use Rattle.syslog_text.specs.Pieces.Class.{optional};
 ghost use Rattle.syslog_text.specs.Pieces.Lists.{many};
 ghost use Rattle.syslog_elements.specs.StructuredData.{item as item_class};
+ghost use Rattle.syslog_elements.specs.StructuredData.Pairs.{inside_of, pairs as pairs_class};
 ghost use Rattle.syslog_elements.specs.StructuredData.Recognised.{OneMeaning, OneInside-prop, OneItems-prop};
+ghost use Rattle.syslog_elements.specs.StructuredData.Recognised.{OnePairs-prop};
 
-use super::recognise::{after_bracketed, param};
+use super::pairs::{Notation, pairs_len};
+use super::recognise::after_bracketed;
 use super::recognised::{Element, ElementList};
 use super::visit::NoNotes;
 use super::walk::walk_element;
 use syslog_text::text::literal;
 
-// Returns the text after the space at the front, and the whole text if there is none. It is a function of its own, so
-// that its clause separates the two cases for `next`.
-fn past_separator(text: &str) -> &str
-    ensures { (chars text.now ≡ 32 ∷ chars result.now)
-        ⊎ (NoFront (exactly (32 ∷ [])) (chars text.now) × (chars text.now ≡ chars result.now)) }
-{
-    literal(text, ' ').unwrap_or(text)
-}
-
 /// An iterator over the names and the raw values of an element's parameters, in order.
 #[derive(Clone, Copy)]
 pub struct Params<'a> {
     rest: &'a str,
+    notation: Notation,
     ghost utf8: { IsUtf8 rest.now } by { Prim.hlevel props },
-    pub ghost meaning: { OneMeaning inside_class (chars rest.now) } by { OneInside-prop (chars rest.now) },
+    pub ghost meaning: { OneMeaning (inside_of notation) (chars rest.now) } by { OneInside-prop notation (chars rest.now) },
 }
 
 impl<'a> Iterator for Params<'a> {
@@ -43,8 +38,8 @@ impl<'a> Iterator for Params<'a> {
         if let Some(_) = literal(self.rest, ']') {
             return None;
         }
-        let (found, after) = param(self.rest)?;
-        self.rest = past_separator(after);
+        let (found, rest) = self.notation.next_param(self.rest)?;
+        self.rest = rest;
         Some(found)
     }
 }
@@ -55,9 +50,13 @@ pub struct Elements<'a> {
     rest: &'a str,
     // the number of `walk_element`, for the rest
     dead: usize,
+    // Check Point's pairs, which come first; most lists have none
+    pairs: &'a str,
     ghost utf8: { IsUtf8 rest.now } by { Prim.hlevel props },
+    ghost pairs_utf8: { IsUtf8 pairs.now } by { Prim.hlevel props },
     ghost is_dead: { IsDead (chars rest.now) dead },
     pub ghost meaning: { OneMeaning (many item_class) (chars rest.now) } by { OneItems-prop (chars rest.now) },
+    pub ghost paired: { OneMeaning (optional pairs_class) (chars pairs.now) } by { OnePairs-prop (chars pairs.now) },
 }
 
 impl<'a> Iterator for Elements<'a> {
@@ -70,6 +69,11 @@ impl<'a> Iterator for Elements<'a> {
     ghost remaining = { item_count elements_left };
 
     fn next(&mut self) -> Option<Element<'a>> {
+        if let Some(count) = pairs_len(self.pairs) {
+            let element = Element::of_pairs(self.pairs, count);
+            self.pairs = "";
+            return Some(element);
+        }
         let mut rest = self.rest;
         let mut dead = self.dead;
         'items: loop {
@@ -96,7 +100,10 @@ impl<'a> Element<'a> {
     pub fn params(&self) -> Params<'a>
         ensures { params_left result ≡ (element_seen self.now).params }
     {
-        Params { rest: self.inside }
+        Params {
+            rest: self.inside,
+            notation: self.notation,
+        }
     }
 }
 
@@ -110,6 +117,7 @@ impl<'a> ElementList<'a> {
         Elements {
             rest: self.text,
             dead: self.text.len(),
+            pairs: self.pairs(),
         }
     }
 }

@@ -24,7 +24,7 @@ pub const DASH_RULE: DashRule = DashRule::BeforeBlank;
 
 impl DashRule {
     // Whether a dash is a list before this text.
-    fn allows(self, rest: &str) -> bool
+    pub(super) fn allows(self, rest: &str) -> bool
         ensures { MatchBool result (IsDashBefore self (chars rest.now)) (IsDashBefore self (chars rest.now) → ⊥) }
     {
         match self {

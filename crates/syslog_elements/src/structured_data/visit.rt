@@ -2,9 +2,9 @@
 ghost use Rattle.std.specs.Prelude.{List, [], ◌∷◌, ◌++◌, chars};
 ghost use Rattle.syslog_text.specs.Pieces.Class.{Text};
 ghost use Rattle.syslog_elements.specs.StructuredData.Element.{ElementValue};
-ghost use Rattle.syslog_elements.specs.StructuredData.Visited.{element_seen};
+ghost use Rattle.syslog_elements.specs.StructuredData.Visited.{Visits, element_seen, list_elements};
 
-use super::recognised::Element;
+use super::recognised::{Element, ElementList};
 
 /// Notes the parameters of an element while the element is walked.
 pub trait ParamNotes<'a>: Drop {
@@ -73,4 +73,25 @@ impl<'a> ElementVisitor<'a> for NoElements {
 
     #[inline(always)]
     fn element(&mut self, _: Element<'a>, _: &NoNotes) {}
+}
+
+// Notes the parameters of an element that was recognised before.
+fn notes_of<'a, N: ParamNotes<'a>>(element: &Element<'a>) -> N
+    ensures { N.noted result (element_seen element.now).params }
+{
+    let mut notes = N::new();
+    for (name, value) in element.params() {
+        notes.push(name, value);
+    }
+    notes
+}
+
+/// Gives the visitor the elements of a list that was recognised before.
+pub fn visit_list<'a, V: ElementVisitor<'a>>(list: &ElementList<'a>, visitor: &mut V)
+    ensures { Visits V.was_given visitor.old (list_elements list.now) visitor.new }
+{
+    for element in list.elements() {
+        let notes = notes_of::<V::Notes>(&element);
+        visitor.element(element, &notes);
+    }
 }

@@ -2,7 +2,7 @@ use Rattle.syslog_strict.proofs.Words.{refl, sym, subst, ◌∙◌, list_element
 use Rattle.syslog_strict.specs.Grammar.{IsAll, sd_elements}
 use Rattle.syslog_strict.proofs.{ConversionLaws.strict_stay, ElementLemmas.converted_some, ElementLemmas.elements_some}
 use Rattle.syslog_strict.proofs.TextLemmas.{appended}
-use Rattle.syslog_elements.proofs.StructuredDataLemmas.Elements.{are_canonical}
+use Rattle.syslog_elements.proofs.StructuredDataLemmas.Pairs.{are_canonical}
 use Rattle.syslog_strict.proofs.joined.push_list.Goals as goal
 
 pub returns-then-are_elements : goal.returns-then-are_elements
