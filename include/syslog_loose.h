@@ -79,12 +79,13 @@ struct syslog_options {
 /* A dialect is a form of lines of senders that follow neither protocol, as Cisco's switches and FortiGate's firewalls
  * write them: docs/SENDERS.md has them all. Where the variant and no_dialects are 0, syslog_read, syslog_read_utf8,
  * syslog_read_fields, syslog_read_lines, syslog_json and syslog_to_rfc5424 read a line in its dialect. Its message has
- * no structured data.
+ * structured data in check-point alone: one element, whose id, checkpoint@2620, is no piece of the line but a text of
+ * the library.
  *
  * syslog_normalise, syslog_settle and syslog_is_canonical read each line by the protocols alone. A line of a dialect
  * may be no message for them. */
 
-/* A piece of the line, in UTF-8. No zero byte ends it. An absent one has the length 0. */
+/* A piece of the line (but for the id above), in UTF-8. No zero byte ends it. An absent one has the length 0. */
 struct syslog_text {
     const char *start;
     size_t length;

@@ -450,6 +450,26 @@ static void dialects(void)
     CHECK(needed == sizeof strict_text - 1 && !memcmp(room, strict_text, needed));
     CHECK(syslog_to_rfc5424(from_switch, length, &without, room, ROOM, &needed) == SYSLOG_NO_READING && !needed);
     CHECK(syslog_to_rfc5424(from_switch, length, &loose, room, ROOM, &needed) == SYSLOG_NO_READING && !needed);
+    /* The only dialect with an element: its id is the library's text. */
+    static const char paired[] =
+        "<134>1 2026-03-02T06:33:04+00:00 h CheckPoint 12 - [src:\"10.0.0.3\"; rule:\"a\\]b\"] text";
+    static const char equal[] =
+        "<134>1 2026-03-02T06:33:04+00:00 h CheckPoint 12 - [checkpoint@2620 src=\"10.0.0.3\" rule=\"a\\]b\"] text";
+    struct syslog_param params[2] = { SYSLOG_PARAM_INIT, SYSLOG_PARAM_INIT };
+    length = sizeof paired - 1;
+    CHECK(syslog_read(paired, length, &OPTIONS, &m, &element, 0, params, 2) == SYSLOG_NO_ROOM);
+    CHECK(m.elements == 1 && m.params == 2);
+    CHECK(syslog_read(paired, length, &OPTIONS, &m, &element, 1, params, 1) == SYSLOG_NO_ROOM);
+    CHECK(syslog_read(paired, length, &OPTIONS, &m, &element, 1, params, 2) == SYSLOG_DONE && m.dialect == 62);
+    CHECK(m.elements == 1 && m.params == 2 && element.params == 2);
+    says(element.id, "checkpoint@2620"), says(m.msg, "text"), says(m.unparsed, NULL);
+    says(params[0].name, "src"), says(params[0].value, "10.0.0.3");
+    says(params[1].name, "rule"), says(params[1].value, "a\\]b");
+    CHECK(params[1].value.start > paired && params[1].value.start < paired + length);
+    CHECK(syslog_to_rfc5424(paired, length, &OPTIONS, room, ROOM, &needed) == SYSLOG_DONE);
+    CHECK(needed == sizeof equal - 1 && !memcmp(room, equal, needed));
+    CHECK(syslog_read(paired, length, &without, &m, &element, 0, params, 0) == SYSLOG_DONE && m.dialect == 0);
+    CHECK(!m.elements && !m.params);
     /* What prints a line has no dialects. */
     CHECK(syslog_normalise(line, sizeof line - 1, &OPTIONS, room, ROOM, &needed) == SYSLOG_DONE);
     CHECK(syslog_normalise(line, sizeof line - 1, &without, other, ROOM, &again) == SYSLOG_DONE);

@@ -75,6 +75,18 @@ static void print_text(const char *key, const struct syslog_text *text)
     print_bytes(text->start, text->length);
 }
 
+/* An element's id: a piece of the line, but for the one that a dialect has for an element without one. */
+static void print_id(const struct syslog_text *id)
+{
+    static const char given[] = "checkpoint@2620";
+    if (id->present == 1 && (id->start < begin || id->start >= end) && id->length == sizeof given - 1
+        && !memcmp(id->start, given, sizeof given - 1)) {
+        printf(",\"id\":");
+        print_bytes(id->start, id->length);
+    } else
+        print_text("id", id);
+}
+
 typedef uint32_t writer(const char *, size_t, const struct syslog_options *, char *, size_t, size_t *);
 
 /* What the call writes, at the end of a key; null where the line has no reading. */
@@ -126,7 +138,7 @@ static void print_elements(const struct syslog_message *message, const struct sy
             putchar('}');
         }
         putchar(']');
-        print_text("id", &elements[i].id);
+        print_id(&elements[i].id);
         putchar('}');
     }
     putchar(']');

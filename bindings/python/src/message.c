@@ -66,6 +66,15 @@ static PyObject *text_of(const struct line *line, const struct syslog_text *text
     return PyUnicode_Substring(line->text, at, at + (Py_ssize_t)text->length);
 }
 
+/* The id of an element: a text of the line, but for the one that a dialect gives an element without one. */
+static PyObject *id_of(const struct line *line, const struct syslog_text *text)
+{
+    uintptr_t at = (uintptr_t)text->start, start = (uintptr_t)line->start;
+    if (at < start || at - start >= (uintptr_t)line->length)
+        return PyUnicode_FromStringAndSize(text->start, (Py_ssize_t)text->length);
+    return text_of(line, text);
+}
+
 /* The year, the month and the day of so many days since 1970. */
 static void date_of(int64_t days, int *year, int *month, int *day)
 {
@@ -198,7 +207,7 @@ static PyObject *elements_of(const struct line *line, const struct syslog_elemen
     for (size_t i = 0; list && i < count; i++) {
         PyObject *element = new_tuple(given.element, 2);
         if (element) {
-            PyTuple_SetItem(element, 0, text_of(line, &elements[i].id));
+            PyTuple_SetItem(element, 0, id_of(line, &elements[i].id));
             PyTuple_SetItem(element, 1, params_of(line, params, elements[i].params));
         }
         params += elements[i].params;

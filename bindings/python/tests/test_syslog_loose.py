@@ -289,6 +289,18 @@ class Dates(unittest.TestCase):
             with self.assertRaises(TypeError):
                 call(LINE, year=2026, **options)
 
+    def test_element_of_check_point(self):
+        start, pairs = "<134>1 2026-03-02T06:33:04+00:00 gw CheckPoint 12 - ", r'[src:"10.0.0.3"; rule:"a\]b"; ] '
+        for text in ("text", "Gr\u00fc\u00dfe"):
+            m = parse(start + pairs + text, year=2026)
+            self.assertEqual((m.dialect, m.message, m.unparsed_structured_data), ("check-point", text, None))
+            self.assertEqual(m.structured_data, (("checkpoint@2620", (("src", "10.0.0.3"), ("rule", "a]b"))),))
+            self.assertEqual(
+                to_rfc5424(start + pairs + text, year=2026),
+                start + r'[checkpoint@2620 src="10.0.0.3" rule="a\]b"] ' + text,
+            )
+        self.assertEqual(parse(start + pairs, year=2026, dialects=False).structured_data, ())
+
     def test_strict_lines_of_dialects(self):
         self.assertEqual(
             to_rfc5424(SWITCH, year=2026),

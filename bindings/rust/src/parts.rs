@@ -129,8 +129,9 @@ impl<'a: 'r, 'r> Parts<'a, 'r> {
 
     #[inline]
     fn piece(&self, text: &raw::Text) -> &'a str {
-        // SAFETY: each text that the library reads is a piece of the line, in UTF-8 (its clause AreFields). By `of`
-        // these are of the line that is borrowed for 'a.
+        // SAFETY: each text that the library reads is a piece of the line, in UTF-8 (its clause AreFields), but for the
+        // id of a dialect's element, which is a text of the library, as long as the program. By `of` these are of the
+        // line that is borrowed for 'a.
         unsafe { text.as_str() }
     }
 }

@@ -16,7 +16,7 @@ pub struct Options {
     pub zone: [u8; ZONE],
 }
 
-/// A piece of the line, in UTF-8.
+/// A piece of the line, in UTF-8, or the library's id of a dialect's element.
 #[repr(C)]
 #[derive(Clone, Copy)]
 pub struct Text {

@@ -1,16 +1,19 @@
 -- A line that is read into the caller's arrays.
 use Rattle.syslog_c.proofs.Words.{List, list_elements, IsElement, all_params, ReadsInto, NoReading}
 use Rattle.syslog_c.proofs.Words.{◌≡◌, ◌⊎◌, ◌<◌, ◌≤◌, ℕ, Option, None, Some, refl, arith, length, Text, Dating, IsParam}
-use Rattle.syslog_c.proofs.Words.{◌∙◌, [], inl, inr, sym, subst, IsBegun, Outcome, Rules}
+use Rattle.syslog_c.proofs.Words.{◌∙◌, [], inl, inr, sym, subst, Outcome, Rules}
 use Rattle.std.proofs.lemmas.Bool.{cases_lt}
-use Rattle.std.specs.Prelude.{Bool, MatchBool}
+use Rattle.std.specs.Prelude.{Bool, MatchBool, MatchOption}
 use Rattle.syslog_elements.specs.StructuredData.Element.{ElementValue}
 use Rattle.syslog_loose.specs.Reading.{IsUnreadable}
 use Rattle.syslog_loose.specs.Visit.{IsLineOf, Made}
 use Rattle.syslog_loose.specs.declared.line.Line.{Line}
 use Rattle.syslog_dialects.specs.Ordinary.{IsOrdinary}
-use Rattle.syslog_c.{specs.Arrays.HasPut, specs.declared.fields.Fields.Fields}
-use Rattle.syslog_c.specs.Reported.{AreMeant, MeansOnly}
+use Rattle.syslog_dialects.specs.SentReading.{IsUnsent}
+use Rattle.syslog_c.{specs.Arrays.HasPut, specs.Arrays.IsFilled, specs.declared.fields.Fields.Fields}
+use Rattle.syslog_c.specs.Reported.{AreMeant, AreTaken}
+use Rattle.syslog_elements.specs.StructuredData.Visited.{Visits}
+use Rattle.syslog_elements.specs.declared.structured_data.recognised.ElementList.{ElementList}
 use Rattle.syslog_c.{specs.OfLine.AreOfLine, specs.declared.arrays.Arrays.Arrays, specs.declared.fields.Element.Element}
 use Rattle.syslog_c.{proofs.ArrayLemmas.begun_none, proofs.ArrayLemmas.begun_nothing, specs.declared.fields.Param.Param}
 use Rattle.syslog_c.specs.declared.outcome.Outcome.TheVariants.{Done, NotUtf8, NoMemory, NoRoom, BadArgument}
@@ -45,34 +48,38 @@ pub with_arrays : (P : List Element → List Param → Type 0) (es fs : List Ele
     → qs ≡ ps → P es ps → P fs qs
 with_arrays P es fs ps qs e p h = rw (e, p) h
 
-module _ (rules : Rules) (dating : Dating) (text : Text) (old mid new : Fields) (before after : Arrays)
+module _ (rules : Rules) (dating : Dating) (text : Text) (old mid new : Fields) (before after last : Arrays)
     (none_put : before.count ≡ 0) (none_filled : before.filled ≡ 0) where
   abbrev Reads : Option Bool → Type 0
   Reads found = Made (λ (_ : Fields) line (made : Bool) now.
       AreOfLine now None line × MatchBool made (IsOrdinary line) (IsOrdinary line → ⊥))
       (λ (first now : Arrays) es. HasPut first now es) rules.variant dating text old before found mid after
 
+  -- the elements of a dialect's line were put, if there is one
+  abbrev pub PutsOwn : Option ElementList → Type 0
+  PutsOwn own = MatchOption own (last ≡ after)
+      (λ list. Visits (λ (first now : Arrays) es. HasPut first now es) after (list_elements list) last)
+
   -- the arrays stay the caller's
-  pub kept : (found : Option Bool) → Reads found
-      → (after.elements.ghost_name ≡ before.elements.ghost_name) × (after.params.ghost_name ≡ before.params.ghost_name)
-  kept None (none, same, v) =
-      let put = v before [] (start before none_put none_filled) in (put.same_elements, put.same_params)
-  kept (Some is_ordinary) (line, of, made, v) =
-      let put = v before [] (start before none_put none_filled) in (put.same_elements, put.same_params)
+  abbrev Stay : Type 0
+  Stay = (last.elements.ghost_name ≡ before.elements.ghost_name) × (last.params.ghost_name ≡ before.params.ghost_name)
 
   abbrev Into : Outcome → Type 0
-  Into outcome = ReadsInto rules dating text old new before.elements.now after.elements.now
-      before.params.now after.params.now outcome
+  Into outcome = ReadsInto rules dating text old new before.elements.now last.elements.now
+      before.params.now last.params.now outcome
 
-  -- where the port reads no line, it is of a dialect and has no elements, or there is none, and all is as it was
-  pub unread : (outcome : Outcome) → Reads None
-      → (IsUnreadable rules.variant dating text → MeansOnly rules dating text mid new outcome) → Into outcome
-  unread Done (none, same, v) says =
-      let meant = says none in
-      let put = (v before [] (start before none_put none_filled)).put record {
-        elements = omega arith;
-        params = omega arith;
+  -- where there is space for the elements, they are there; where there is too little, their numbers are
+  into : (outcome : Outcome) (es : List ElementValue) → AreMeant rules dating text es new → HasPut before last es
+      → IsFilled last new outcome → Into outcome
+  into Done es meant given (e, p) =
+      let all = subst (λ (xs : List ElementValue). HasPut before last xs) (sym meant.elements) given in
+      let put = all.put record {
+        elements = omega (arith, e, meant.are.elements);
+        params = omega (arith, p, meant.are.params);
       } in
+      inl (meant.dialect, meant.message, meant.only, meant.shown, meant.leaves, (meant.are, put.elements, put.params))
+  into NoRoom es meant given over =
+      let all = meant.message.structured_data in
       inl (
         meant.dialect,
         meant.message,
@@ -81,15 +88,72 @@ module _ (rules : Rules) (dating : Dating) (text : Text) (old mid new : Fields) 
         meant.leaves,
         (
           meant.are,
-          subst (λ (es : List ElementValue). IsBegun IsElement es before.elements.now after.elements.now)
-              (sym meant.elements) put.elements,
-          subst (λ (es : List ElementValue). IsBegun IsParam (all_params es) before.params.now after.params.now)
-              (sym meant.elements) put.params,
+          too_few (length all) (length (all_params all)) (length last.elements.now) (length last.params.now)
+              (λ e p. over (omega (arith, e, meant.are.elements)) (omega (arith, p, meant.are.params))),
         ),
       )
-  unread NoReading (none, same, v) says =
+  into NoReading es meant given none = absurd none
+  into NotUtf8 es meant given none = absurd none
+  into NoMemory es meant given none = absurd none
+  into BadArgument es meant given none = absurd none
+
+  put_own : (own : Option ElementList) (port es : List ElementValue) → HasPut before after port
+      → MatchOption own (es ≡ port) (λ list. (port ≡ []) × (es ≡ list_elements list)) → PutsOwn own
+      → HasPut before last es
+  put_own None port es has same kept =
+      subst (λ (a : Arrays). HasPut before a es) (sym kept) (subst (HasPut before after) (sym same) has)
+  put_own (Some list) port es has (none, same) gives =
+      subst (HasPut before last) (sym same) (gives before [] (subst (HasPut before after) none has))
+
+  -- what the line of the port that was read gives
+  abbrev pub Takes : Bool → Option ElementList → Type 0
+  Takes is_ordinary own = (line : Line) → IsLineOf rules.variant dating text line
+      → AreOfLine mid None line → MatchBool is_ordinary (IsOrdinary line) (IsOrdinary line → ⊥)
+      → AreTaken rules dating text (list_elements line.list) own new
+
+  read_taken : (is_ordinary : Bool) (own : Option ElementList) → Reads (Some is_ordinary) → Takes is_ordinary own
+      → PutsOwn own → (es : List ElementValue) × AreMeant rules dating text es new × HasPut before last es
+  read_taken is_ordinary own (line, of, (are, keeps), v) says puts =
+      let (es, meant, which) = says line of are keeps in
+      (es, meant, put_own own (list_elements line.list) es (v before [] (start before none_put none_filled)) which puts)
+
+  pub read_stay : (is_ordinary : Bool) (own : Option ElementList) → Reads (Some is_ordinary) → Takes is_ordinary own
+      → PutsOwn own → Stay
+  read_stay is_ordinary own reads says puts =
+      let (es, meant, put) = read_taken is_ordinary own reads says puts in (put.same_elements, put.same_params)
+
+  pub read_into : (is_ordinary : Bool) (own : Option ElementList) (outcome : Outcome) → Reads (Some is_ordinary)
+      → Takes is_ordinary own → PutsOwn own → IsFilled last new outcome → Into outcome
+  read_into is_ordinary own outcome reads says puts filled =
+      let (es, meant, put) = read_taken is_ordinary own reads says puts in into outcome es meant put filled
+
+  -- where the port reads no line, it is of a dialect
+  unread_taken : (list : ElementList) → Reads None → PutsOwn (Some list) → HasPut before last (list_elements list)
+  unread_taken list (none, same, v) puts =
+      puts before [] (v before [] (start before none_put none_filled))
+
+  pub unread_stay : (list : ElementList) → Reads None → PutsOwn (Some list) → Stay
+  unread_stay list reads puts = let put = unread_taken list reads puts in (put.same_elements, put.same_params)
+
+  pub unread_into : (list : ElementList) (outcome : Outcome) → Reads None
+      → (IsUnreadable rules.variant dating text → AreMeant rules dating text (list_elements list) new)
+      → PutsOwn (Some list) → IsFilled last new outcome → Into outcome
+  unread_into list outcome (none, same, v) says puts filled =
+      into outcome (list_elements list) (says none) (unread_taken list (none, same, v) puts) filled
+
+  -- or there is none, and all is as it was
+  nothing_put : Reads None → last ≡ after → HasPut before last []
+  nothing_put (none, same, v) kept =
+      subst (λ (a : Arrays). HasPut before a []) (sym kept) (v before [] (start before none_put none_filled))
+
+  pub none_stay : Reads None → last ≡ after → Stay
+  none_stay reads kept = let put = nothing_put reads kept in (put.same_elements, put.same_params)
+
+  pub none_into : Reads None → last ≡ after → (IsUnreadable rules.variant dating text
+      → IsUnsent rules.dates dating rules.dialects rules.variant text × (new ≡ mid)) → Into NoReading
+  none_into (none, same, v) kept says =
       let (unsent, is) = says none in
-      let put = (v before [] (start before none_put none_filled)).put record {
+      let put = (nothing_put (none, same, v) kept).put record {
         elements = omega arith;
         params = omega arith;
       } in
@@ -98,47 +162,4 @@ module _ (rules : Rules) (dating : Dating) (text : Text) (old mid new : Fields) 
         is ∙ same,
         begun_nothing IsElement _ _ put.elements,
         begun_nothing IsParam _ _ put.params,
-      )
-  unread NotUtf8 (none, same, v) says = absurd (says none)
-  unread NoMemory (none, same, v) says = absurd (says none)
-  unread NoRoom (none, same, v) says = absurd (says none)
-  unread BadArgument (none, same, v) says = absurd (says none)
-
-  -- what the line of the port that was read gives
-  abbrev pub Takes : Bool → Type 0
-  Takes is_ordinary = (line : Line) → IsLineOf rules.variant dating text line
-      → AreOfLine mid None line
-      → MatchBool is_ordinary (IsOrdinary line) (IsOrdinary line → ⊥)
-      → AreMeant rules dating text (list_elements line.list) new
-
-  -- where there is space for its elements, they are there
-  pub all_read : (is_ordinary : Bool) → Reads (Some is_ordinary) → Takes is_ordinary
-      → new.elements ≤ length after.elements.now → new.params ≤ length after.params.now → Into Done
-  all_read is_ordinary (line, of, (are, keeps), v) says e p =
-      let meant = says line of are keeps in
-      let given = subst (λ (es : List ElementValue). HasPut before after es) (sym meant.elements)
-      (v before [] (start before none_put none_filled)) in
-      let put = given.put record {
-        elements = omega (arith, e, meant.are.elements);
-        params = omega (arith, p, meant.are.params);
-      } in
-      inl (meant.dialect, meant.message, meant.only, meant.shown, meant.leaves, (meant.are, put.elements, put.params))
-
-  -- where there is too little, its numbers are there
-  pub too_much_read : (is_ordinary : Bool) → Reads (Some is_ordinary) → Takes is_ordinary
-      → (new.elements ≤ length after.elements.now → new.params ≤ length after.params.now → ⊥) → Into NoRoom
-  too_much_read is_ordinary (line, of, (are, keeps), v) says over =
-      let meant = says line of are keeps in
-      let es = meant.message.structured_data in
-      inl (
-        meant.dialect,
-        meant.message,
-        meant.only,
-        meant.shown,
-        meant.leaves,
-        (
-          meant.are,
-          too_few (length es) (length (all_params es)) (length after.elements.now) (length after.params.now)
-              (λ e p. over (omega (arith, e, meant.are.elements)) (omega (arith, p, meant.are.params))),
-        ),
       )

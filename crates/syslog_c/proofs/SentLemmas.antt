@@ -1,6 +1,6 @@
 -- A line that is read as its sender meant it, and what its timestamp shows.
 use Rattle.syslog_c.proofs.Words.{◌≡◌, ◌∙◌, Option, None, Some, ap, inl, refl, sym, subst, Text, Dating, line_value}
-use Rattle.syslog_c.proofs.Words.{IsStamp, List, [], MessageValue, OffsetTimestamp, Rules, ShowsNoDate, Stamp}
+use Rattle.syslog_c.proofs.Words.{IsStamp, List, MessageValue, OffsetTimestamp, Rules, ShowsNoDate, Stamp}
 use Rattle.syslog_c.proofs.Words.{inr, list_elements, NoReading, Outcome}
 use Rattle.std.specs.Prelude.{Bool, true, false}
 use Rattle.std.specs.Int.{from_bool}
@@ -8,7 +8,7 @@ use Rattle.syslog_elements.specs.StructuredData.Element.{ElementValue}
 use Rattle.syslog_loose.specs.Reading.{IsUnreadable}
 use Rattle.syslog_loose.specs.Visit.{IsLineOf}
 use Rattle.syslog_loose.specs.declared.line.Line.{Line}
-use Rattle.syslog_dialects.proofs.SentReadingLemmas.{flags, in_dialect, left_read, read_once, same_elements}
+use Rattle.syslog_dialects.proofs.SentReadingLemmas.{flags, in_dialect, left_read, odd_elements, read_once}
 use Rattle.syslog_dialects.proofs.SentReadingLemmas.{dialect_leaves, undated}
 use Rattle.syslog_loose.proofs.UnparsedLemmas.{leaves_of}
 use Rattle.syslog_loose.specs.Unparsed.{IsLeftUnparsed}
@@ -20,7 +20,7 @@ use Rattle.syslog_dialects.specs.declared.visit.SentLine.{SentLine}
 use Rattle.syslog_c.specs.OfLine.{AreOfLine}
 use Rattle.syslog_c.specs.Sent.{IsMeant, IsOnlyMeant}
 use Rattle.syslog_c.specs.Shown.{IsShown, IsShownIn, flag_number}
-use Rattle.syslog_c.specs.Reported.{AreMeant, MeansOnly, ReportsFields}
+use Rattle.syslog_c.specs.Reported.{AreMeant, AreTaken, MeansOnly, ReportsFields}
 use Rattle.syslog_c.specs.declared.fields.Fields.{Fields}
 use Rattle.syslog_c.specs.declared.outcome.Outcome.TheVariants.{Done, NotUtf8, NoMemory, NoRoom, BadArgument}
 use Rattle.syslog_c.proofs.ShownLemmas.{restamped_line, strict_shows_none}
@@ -133,7 +133,7 @@ module _ (rules : Rules) (dating : Dating) (text : Text) (line : Line) (new : Fi
       → ((dialect : Dialect) → it.dialect ≡ Some dialect → Shows rules.dates dating rules.variant text it
       → AreOfLine new it.dialect it.line
       × IsShownIn rules dating text it.dialect (line_value it.line) new.timestamp)
-      → AreMeant rules dating text (list_elements line.list) new
+      → AreMeant rules dating text (list_elements it.line.list) new
   instead_meant it odd ((asked, may), is) says =
       let left : IsLeft rules.variant dating text true = ((line, of, odd), may) in
       let are = says is.dialect is.named
@@ -150,18 +150,29 @@ module _ (rules : Rules) (dating : Dating) (text : Text) (line : Line) (new : Fi
           dialect_leaves rules.dates true rules.variant text it are.0.unparsed is are.0.left,
           are.0.has,
         );
-        elements = same_elements rules.dates text line it odd is;
+        elements = refl;
       }
+
+  -- and the port's has no elements
+  pub instead_taken : (it : SentLine) → (IsOrdinary line → ⊥) → AreMeant rules dating text (list_elements it.line.list)
+      new
+      → AreTaken rules dating text (list_elements line.list) (Some it.line.list) new
+  instead_taken it odd meant = (list_elements it.line.list, meant, (odd_elements line odd, refl))
+
+  pub port_taken : AreMeant rules dating text (list_elements line.list) new
+      → AreTaken rules dating text (list_elements line.list) None new
+  port_taken meant = (list_elements line.list, meant, refl)
 
 -- where the port reads none, the line is of a dialect
 pub unread_meant : (rules : Rules) (dating : Dating) (text : Text) (it : SentLine) (new : Fields)
     → IsUnreadable rules.variant dating text → IsMeant rules dating text it.dialect (line_value it.line)
-    → Shows rules.dates dating rules.variant text it → list_elements it.line.list ≡ []
+    → Shows rules.dates dating rules.variant text it
     → ((u : Text) → IsLeftUnparsed it.line u → LeavesSent it.dialect rules.variant text u)
     → ((dialect : Dialect) → it.dialect ≡ Some dialect → Shows rules.dates dating rules.variant text it
     → AreOfLine new it.dialect it.line
-    × IsShownIn rules dating text it.dialect (line_value it.line) new.timestamp) → AreMeant rules dating text [] new
-unread_meant rules dating text it new none read shown no_list leaves says =
+    × IsShownIn rules dating text it.dialect (line_value it.line) new.timestamp)
+    → AreMeant rules dating text (list_elements it.line.list) new
+unread_meant rules dating text it new none read shown leaves says =
     let (dialect, named) = which it.dialect refl in
     let are = says dialect named shown in
     record {
@@ -171,7 +182,7 @@ unread_meant rules dating text it new none read shown no_list leaves says =
       are = are.0.are;
       shown = are.1;
       leaves = (are.0.unparsed, leaves are.0.unparsed are.0.left, are.0.has);
-      elements = no_list;
+      elements = refl;
     }
   where
     which : (d : Option Dialect) → it.dialect ≡ d → (dialect : Dialect) × (it.dialect ≡ Some dialect)
@@ -187,7 +198,7 @@ reported rules dating text es old new meant =
 
 pub unread_reported : (rules : Rules) (dating : Dating) (text : Text) (old mid new : Fields) (outcome : Outcome)
     → mid ≡ old → MeansOnly rules dating text mid new outcome → ReportsFields rules dating text old new outcome
-unread_reported rules dating text old mid new Done same meant = reported rules dating text [] old new meant
+unread_reported rules dating text old mid new Done same (es, meant) = reported rules dating text es old new meant
 unread_reported rules dating text old mid new NoReading same (unsent, is) = inr ((refl, unsent), is ∙ same)
 unread_reported rules dating text old mid new NotUtf8 same none = absurd none
 unread_reported rules dating text old mid new NoMemory same none = absurd none

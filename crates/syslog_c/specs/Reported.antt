@@ -1,7 +1,9 @@
 -- What `syslog_read`, `syslog_read_fields` and `syslog_is_canonical` leave.
-use Rattle.std.specs.Prelude.{◌≡◌, ◌⊎◌, ℕ, ◌<◌, List, [], length, Option}
+use Rattle.std.specs.Prelude.{◌≡◌, ◌⊎◌, ℕ, ◌<◌, List, [], length, Option, MatchOption}
 use Rattle.syslog_text.specs.Pieces.Class.{Text}
 use Rattle.syslog_elements.specs.StructuredData.Element.{ElementValue}
+use Rattle.syslog_elements.specs.StructuredData.Visited.{list_elements}
+use Rattle.syslog_elements.specs.declared.structured_data.recognised.ElementList.{ElementList}
 use Rattle.syslog_pieces.specs.Timestamp.Zone.{Dating}
 use Rattle.syslog_loose.specs.Canonical.{IsCanonical}
 use Rattle.syslog_loose.specs.Message.{MessageValue}
@@ -53,9 +55,15 @@ pub record AreMeant (rules : Rules) (dating : Dating) (text : Text) (es : List E
   pub leaves : HasUnparsed rules text dialect fields
   pub elements : message.structured_data ≡ es
 
--- the fields are those of a message without elements; or there is none, and they are as they were
+-- the fields are those of the one message, whose elements are those that the port's line has; or the port's has none,
+-- and they are those of a dialect's line
+abbrev pub AreTaken : Rules → Dating → Text → List ElementValue → Option ElementList → Fields → Type 0
+AreTaken rules dating text port own fields = (es : List ElementValue) × AreMeant rules dating text es fields
+    × MatchOption own (es ≡ port) (λ list. (port ≡ []) × (es ≡ list_elements list))
+
+-- the fields are those of a message; or there is none, and they are as they were
 abbrev pub MeansOnly : Rules → Dating → Text → Fields → Fields → Outcome → Type 0
-MeansOnly rules dating text old new Done = AreMeant rules dating text [] new
+MeansOnly rules dating text old new Done = (es : List ElementValue) × AreMeant rules dating text es new
 MeansOnly rules dating text old new NoReading =
     IsUnsent rules.dates dating rules.dialects rules.variant text × (new ≡ old)
 MeansOnly rules dating text old new outcome = ⊥

@@ -1,10 +1,12 @@
 //! The fields of a line, with its elements and without them.
-ghost use Rattle.std.specs.Prelude.{◌≡◌, ◌⊎◌, IsUtf8};
+ghost use Rattle.std.specs.Prelude.{◌≡◌, ◌⊎◌, IsUtf8, MatchOption};
 ghost use Rattle.std.specs.Str.{chars};
 ghost use Rattle.syslog_pieces.specs.Timestamp.Zone.{Dating};
 ghost use Rattle.syslog_loose.specs.Dates.{IsDated};
 ghost use Rattle.syslog_loose.specs.Today.{IsYearIn};
 ghost use Rattle.syslog_loose.specs.Reading.{IsUnreadable};
+ghost use Rattle.syslog_elements.specs.StructuredData.Visited.{Visits, list_elements};
+ghost use Rattle.syslog_c.specs.Arrays.{HasPut, IsFilled};
 ghost use Rattle.syslog_c.specs.Line.{OnLine};
 ghost use Rattle.syslog_c.specs.Options.{IsTaken};
 ghost use Rattle.syslog_c.specs.Outcome.{IsCodeOf};
@@ -17,8 +19,8 @@ use crate::options::Options;
 use crate::outcome::Outcome;
 use crate::rules::Rules;
 use crate::sent::{take_read, take_unread};
-use syslog_elements::structured_data::NoElements;
-use syslog_loose::{DateForm, IncompleteDate, Itself, LineVisitor, visit_dated_line};
+use syslog_elements::structured_data::{NoElements, visit_list};
+use syslog_loose::{DateForm, ElementList, IncompleteDate, Itself, LineVisitor, visit_dated_line};
 use syslog_utf8::from_utf8;
 
 /// Reads the line: its fields into `fields`, and its elements and their parameters into the two arrays.
@@ -137,9 +139,30 @@ fn read_into<'a>(
         fields,
         &mut form,
     ) else {
-        return read_unread(text, &rules, fields);
+        let Some(own) = take_unread(text, &rules, fields) else {
+            return Outcome::NoReading;
+        };
+        return put_own(Some(own), fields, &mut arrays);
     };
-    take_read(text, &rules, is_ordinary, form, fields);
+    let own = take_read(text, &rules, is_ordinary, form, fields);
+    put_own(own, fields, &mut arrays)
+}
+
+// Puts the elements of a dialect's line into the arrays, if there is one. Returns whether the arrays have space for
+// what these fields say, as an outcome.
+#[inline(always)]
+fn put_own<'a>(
+    own: Option<ElementList<'a>>,
+    fields: &Fields<'a>,
+    arrays: &mut Arrays<'a, '_>,
+) -> Outcome
+    ensures given { MatchOption own.entry (arrays.new ≡ arrays.old)
+        (λ list. Visits (λ first now es. HasPut first now es) arrays.old (list_elements list) arrays.new) }
+    ensures filled { IsFilled arrays.new fields.now result }
+{
+    if let Some(list) = own {
+        visit_list(&list, arrays);
+    }
     if arrays.have_space(fields.elements, fields.params) {
         Outcome::Done
     } else {
@@ -147,16 +170,15 @@ fn read_into<'a>(
     }
 }
 
-// Takes the fields of a dialect's line, which has no elements, for a text that the port does not parse.
+// Takes the fields of a dialect's line for a text that the port does not parse.
 #[inline(always)]
 fn read_unread<'a>(text: &'a str, rules: &Rules, fields: &mut Fields<'a>) -> Outcome
     ensures { (dating : Dating) → IsUnreadable rules.now.variant dating (chars text.entry.now)
         → MeansOnly rules.now dating (chars text.entry.now) fields.old fields.new result }
 {
-    if take_unread(text, rules, fields) {
-        Outcome::Done
-    } else {
-        Outcome::NoReading
+    match take_unread(text, rules, fields) {
+        Some(_) => Outcome::Done,
+        None => Outcome::NoReading,
     }
 }
 
@@ -204,6 +226,6 @@ pub(crate) fn read_fields<'a>(line: &'a [u8], options: &Options, fields: &mut Fi
         return read_unread(text, &rules, fields);
     };
     let is_ordinary = fields.line(&line);
-    take_read(text, &rules, is_ordinary, form, fields);
+    let _ = take_read(text, &rules, is_ordinary, form, fields);
     Outcome::Done
 }

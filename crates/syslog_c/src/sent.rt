@@ -2,7 +2,7 @@
 //!
 //! A visitor takes the fields of the port's line at once, so that an ordinary line only costs a look at whether it is
 //! one. A dialect's line is made afterwards.
-ghost use Rattle.std.specs.Prelude.{◌≡◌, [], None, Some, MatchBool};
+ghost use Rattle.std.specs.Prelude.{◌≡◌, None, Some, MatchBool, MatchOption};
 ghost use Rattle.std.specs.Str.{chars};
 ghost use Rattle.syslog_text.specs.Pieces.Class.{Text as AnyText};
 ghost use Rattle.syslog_elements.specs.StructuredData.Visited.{list_elements};
@@ -17,7 +17,7 @@ ghost use Rattle.syslog_dialects.specs.SentReading.{IsUnsent, Shows};
 ghost use Rattle.syslog_sent.specs.declared.dialect.Dialect.{Dialect};
 ghost use Rattle.syslog_c.specs.OfLine.{AreOfLine};
 ghost use Rattle.syslog_c.specs.Shown.{IsShownIn};
-ghost use Rattle.syslog_c.specs.Reported.{AreMeant};
+ghost use Rattle.syslog_c.specs.Reported.{AreMeant, AreTaken};
 ghost use Rattle.syslog_c.specs.declared.rules.Rules.{Rules as AnyRules};
 
 use crate::convert::fields_of;
@@ -25,10 +25,10 @@ use crate::fields::Fields;
 use crate::rules::Rules;
 use crate::shown::{show, with_flags};
 use syslog_dialects::{SentLine, line_instead, unread_line};
-use syslog_loose::DateForm;
+use syslog_loose::{DateForm, ElementList};
 
 /// Completes the fields of the port's line, whose date has this form. If that line keeps its reading, they get what the
-/// text shows of the date; otherwise those of a dialect's line replace them.
+/// text shows of the date; otherwise those of a dialect's line replace them, whose elements are returned.
 #[inline(always)]
 pub(crate) fn take_read<'a>(
     text: &'a str,
@@ -36,47 +36,60 @@ pub(crate) fn take_read<'a>(
     is_ordinary: bool,
     form: DateForm,
     fields: &mut Fields<'a>,
-)
+) -> Option<ElementList<'a>>
     ensures { HasDateForm (chars text.entry.now) form → (dating : Dating) (line : AnyLine)
         → IsLineOf rules.now.variant dating (chars text.entry.now) line
         → AreOfLine fields.old None line
         → MatchBool is_ordinary (IsOrdinary line) (IsOrdinary line → ⊥)
-        → AreMeant rules.now dating (chars text.entry.now) (list_elements line.list) fields.new }
+        → AreTaken rules.now dating (chars text.entry.now) (list_elements line.list) result fields.new }
 {
     if is_ordinary {
-        return show_port(form, fields);
+        show_port(form, fields);
+        return None;
     }
     take_instead(text, rules, form, fields)
 }
 
-// Takes the fields of a dialect's line in the place of the port's, which are completed if there is none. It is a call of
-// its own, since the space for such a line would otherwise be cleared for each line.
+// Takes the fields of a dialect's line in the place of the port's, which are completed if there is none, and returns
+// its elements. It is a call of its own, since the space for such a line would otherwise be cleared for each line.
 #[inline(never)]
-fn take_instead<'a>(text: &'a str, rules: &Rules, form: DateForm, fields: &mut Fields<'a>)
+fn take_instead<'a>(
+    text: &'a str,
+    rules: &Rules,
+    form: DateForm,
+    fields: &mut Fields<'a>,
+) -> Option<ElementList<'a>>
     ensures { HasDateForm (chars text.entry.now) form → (dating : Dating) (line : AnyLine)
         → IsLineOf rules.now.variant dating (chars text.entry.now) line
         → AreOfLine fields.old None line → (IsOrdinary line → ⊥)
-        → AreMeant rules.now dating (chars text.entry.now) (list_elements line.list) fields.new }
+        → AreTaken rules.now dating (chars text.entry.now) (list_elements line.list) result fields.new }
 {
-    match line_instead(text, &rules.dates, rules.variant, rules.dialects) {
-        Some(sent) => *fields = fields_sent(&sent),
-        None => show_port(form, fields),
-    }
-}
-
-/// Takes the fields of a dialect's line, for a text that the port does not parse. Returns whether there is such a line.
-#[inline(always)]
-pub(crate) fn take_unread<'a>(text: &'a str, rules: &Rules, fields: &mut Fields<'a>) -> bool
-    ensures { (dating : Dating) → IsUnreadable rules.now.variant dating (chars text.entry.now) → MatchBool result
-        (AreMeant rules.now dating (chars text.entry.now) [] fields.new)
-        (IsUnsent rules.now.dates dating rules.now.dialects rules.now.variant (chars text.entry.now)
-        × (fields.new ≡ fields.old)) }
-{
-    let Some(sent) = unread_line(text, &rules.dates, rules.variant, rules.dialects) else {
-        return false;
+    let Some(sent) = line_instead(text, &rules.dates, rules.variant, rules.dialects) else {
+        show_port(form, fields);
+        return None;
     };
     *fields = fields_sent(&sent);
-    true
+    Some(sent.line.list)
+}
+
+/// Takes the fields of a dialect's line, for a text that the port does not parse, and returns its elements; none if
+/// there is no such line.
+#[inline(always)]
+pub(crate) fn take_unread<'a>(
+    text: &'a str,
+    rules: &Rules,
+    fields: &mut Fields<'a>,
+) -> Option<ElementList<'a>>
+    ensures { (dating : Dating) → IsUnreadable rules.now.variant dating (chars text.entry.now) → MatchOption result
+        (IsUnsent rules.now.dates dating rules.now.dialects rules.now.variant (chars text.entry.now)
+        × (fields.new ≡ fields.old))
+        (λ list. AreMeant rules.now dating (chars text.entry.now) (list_elements list) fields.new) }
+{
+    let Some(sent) = unread_line(text, &rules.dates, rules.variant, rules.dialects) else {
+        return None;
+    };
+    *fields = fields_sent(&sent);
+    Some(sent.line.list)
 }
 
 // Completes the fields of the port's line by what its text shows of the date, which has this form.

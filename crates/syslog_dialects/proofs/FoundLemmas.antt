@@ -27,6 +27,8 @@ use Rattle.syslog_sent.specs.Named.{program}
 use Rattle.std.specs.Prelude.{IsTrue}
 use Rattle.syslog_sent.specs.Named.{BeginsWith, NamedTexts, after_row, beginning, hosted, is_letter}
 use Rattle.syslog_sent.specs.Named.{◌otherwise◌}
+use Rattle.syslog_elements.specs.StructuredData.Pairs.{paired as element}
+use Rattle.syslog_named_forms.specs.NearHeader as near
 use Rattle.syslog_named_forms.specs.NearHeader.{bare_row, bare_says, nil, nil_row, nil_says, tag_row, tag_says}
 use Rattle.syslog_named_forms.specs.Monotonic.{is_service, monotonic_row, monotonic_says, seconds_row}
 use Rattle.syslog_named_forms.specs.NamedForms.{Tail, access_tail, dated_form, dated_row, forwarded_tail}
@@ -390,6 +392,12 @@ headed_found h = before_rest (left_of dialect.NearlyRfc5424 h) (take 8 tag_row)
     (shown (number 999) Version (λ p q n is. is) also a_gap also an_any_date also a_gap also a_host also a_gap
     also a_program also blanks also tt)
 
+paired_found : RowFound dialect.CheckPoint near.paired_row near.paired_says
+paired_found h = last_found (left_of dialect.CheckPoint h) (take 12 near.paired_row)
+    (shown (number 999) Version (λ p q n is. is) also a_gap also an_any_date also a_gap also a_host also a_gap
+    also a_word also a_gap also a_word also a_gap also a_word also a_gap also tt) (beginning element) (λ x. []) (λ x. x)
+    (whole_found (left_of dialect.CheckPoint h) (beginning element) (λ x. x) (λ p x is. is.1))
+
 bare_found : RowFound dialect.NearlyRfc5424 bare_row bare_says
 bare_found h = before_rest (left_of dialect.NearlyRfc5424 h) (take 12 bare_row)
     (shown (number 999) Version (λ p q n is. is) also a_gap also an_any_date also a_gap also a_host also a_gap
@@ -401,6 +409,7 @@ undated_all =
     also said dialect.Cef (vendor_row mark_of.Cef) (vendor_says mark_of.Cef) (vendor_found dialect.Cef mark_of.Cef)
     also said dialect.Leef (vendor_row mark_of.Leef) (vendor_says mark_of.Leef)
     (vendor_found dialect.Leef mark_of.Leef)
+    also said dialect.CheckPoint near.paired_row near.paired_says paired_found
     also said dialect.NearlyRfc5424 nil_row nil_says nil_found
     also said dialect.NearlyRfc5424 tag_row tag_says headed_found
     also said dialect.Heroku heroku_row heroku_says heroku_found
@@ -474,5 +483,7 @@ read_found dates is_read text it m is = record {
   sent = is.sent;
   front = is.front;
   found = said_found is_read is.priority is.follows it is.sent is.form.first;
+  whole = is.whole;
   says = is.says;
+  opened = is.opened;
 }

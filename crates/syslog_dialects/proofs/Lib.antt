@@ -4,6 +4,7 @@ pub mod MessageLemmas
 pub mod OddLemmas
 pub mod OrderLemmas
 pub mod OrdinaryLemmas
+pub mod PairedLemmas
 pub mod PriorityAloneLemmas
 pub mod SentLemmas
 pub mod SentReadingLemmas

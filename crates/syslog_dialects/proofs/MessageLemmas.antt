@@ -1,6 +1,6 @@
 -- The message of a dialect's line is the end of the text, and begins with no blank.
 use Rattle.std.proofs.Common.{◌≡◌, ◌⊎◌, inl, inr, ℕ, Bool, true, false, List, [], ◌∷◌, ◌++◌, Option, Some, None}
-use Rattle.std.proofs.Common.{sym, ap, subst, ◌∙◌, append_assoc, drop, nat_eq, not, take}
+use Rattle.std.proofs.Common.{refl, sym, ap, subst, ◌∙◌, append_assoc, drop, nat_eq, not, take}
 use Rattle.std.proofs.lemmas.List.{append-nil}
 use Rattle.std.specs.Char.{is_not_whitespace}
 use Rattle.std.specs.Prelude.{IfSome, option_map}
@@ -32,6 +32,10 @@ use Rattle.syslog_named_forms.specs.NearHeader.{head_row, heroku_row, heroku_say
 use Rattle.syslog_dated_forms.specs.IosXr.{process, process_in, process_row, xr_row, xr_sent}
 use Rattle.syslog_sent.specs.Named.{NamedTexts, after_row, beginning, hosted}
 use Rattle.syslog_named_forms.specs.Monotonic.{monotonic_row, monotonic_says}
+use Rattle.syslog_elements.specs.StructuredData.Pairs.{paired as element}
+use Rattle.syslog_dialects.specs.Paired.{IsOpened, opened_row}
+use Rattle.syslog_dialects.proofs.PairedLemmas.{opened_keeps}
+use Rattle.syslog_named_forms.specs.NearHeader as near
 use Rattle.syslog_named_forms.specs.NearHeader.{bare_row, bare_says, nil_row, nil_says, tag_row, tag_says}
 use Rattle.syslog_named_forms.specs.NamedForms.{Tail, dated_form, dated_row, front_row, marked_tail}
 use Rattle.syslog_named_forms.specs.NamedForms.{marked_tails, message_tails}
@@ -62,7 +66,7 @@ use Rattle.syslog_dated_forms.specs.UnixSeconds.{meraki_row, meraki_sent, short_
 use Rattle.syslog_named_forms.specs.Untagged.{dialect_of, mark_class, marked, marked_of, marks}
 use Rattle.syslog_sent.specs.Zone.{bare_word}
 use Rattle.syslog_sent.specs.declared.dialect.Dialect.{Dialect}
-use Rattle.syslog_sent.specs.declared.dialect.Dialect.TheVariants.{Monotonic, NearlyRfc5424}
+use Rattle.syslog_sent.specs.declared.dialect.Dialect.TheVariants.{CheckPoint, Monotonic, NearlyRfc5424}
 use Rattle.syslog_sent.specs.declared.dialect.Dialect.TheVariants.{PriorityAlone, Bracketed, BsdDate}
 use Rattle.syslog_sent.specs.declared.dialect.Dialect.TheVariants.{NearlyRfc3339, Journal}
 use Rattle.syslog_sent.specs.declared.dialect.Dialect.TheVariants.{CiscoIos, CiscoNxOs, CiscoAsa, CiscoUndated}
@@ -356,6 +360,8 @@ headers_end : AllEnd header_forms
 headers_end =
     said Cef (vendor_row mark.Cef) (vendor_says mark.Cef) (vendor_ends mark.Cef)
     also said Leef (vendor_row mark.Leef) (vendor_says mark.Leef) (vendor_ends mark.Leef)
+    also said CheckPoint near.paired_row near.paired_says
+    (some_run_ends (beginning element) (λ t. t) (λ p t is. is.1) (take 11 near.paired_row))
     also said NearlyRfc5424 nil_row nil_says (rest_ends (take 13 nil_row))
     also said NearlyRfc5424 tag_row tag_says (rest_ends (take 7 tag_row))
     also said Heroku heroku_row heroku_says (spaced_rest_ends (take 11 heroku_row))
@@ -409,14 +415,26 @@ visible_after : (before msg text : Text) → text ≡ before ++ msg → EndsVisi
 visible_after before msg text e visible front c same =
     visible (before ++ front) c (e ∙ ap (λ (x : Text). before ++ x) same ∙ sym (append_assoc before front (c ∷ [])))
 
+-- what follows an element ends what ends in it
+opened_end : (text : Text) (dialect : Dialect) (whole m : MessageValue) → IsOpened dialect whole m
+    → EndsIn text whole.msg → EndsIn text m.msg
+opened_end text dialect whole m (inr (never, same)) ends =
+    subst (EndsIn text) (sym (ap (λ (n : MessageValue). n.msg) same)) ends
+opened_end text dialect whole m (inl (is, it)) ends =
+    let end = rest_ends (element ∷ []) whole.msg (it.elements, (tt, (it.msg, tt)))
+    (division_front opened_row it.division) in
+    subst (EndsIn text) (sym (ap (λ (n : MessageValue). n.msg) it.same))
+    (later ends.before whole.msg text it.msg ends.whole end)
+
 -- it is the end of the trimmed text
 pub sent_end : (dates : Dates) (is_read : Bool) (text : Text) (dialect : Dialect) (m : MessageValue)
     → IsSentIn dates is_read text dialect m → EndsIn (trimmed text) m.msg
 sent_end dates is_read text dialect m is =
     let forms = both_end early_forms (late_forms is_read is.priority) early_end (late_end is_read is.priority) in
     let end = first_ends (forms_of is_read is.priority) forms is.follows dialect is.sent is.form.first in
-    subst (EndsIn (trimmed text)) (sym (ap (λ (n : MessageValue). n.msg) is.says.2))
-    (later is.front.piece is.follows (trimmed text) is.sent.msg is.front.whole end)
+    opened_end (trimmed text) dialect is.whole m is.opened
+    (subst (EndsIn (trimmed text)) (sym (ap (λ (n : MessageValue). n.msg) is.says.2))
+    (later is.front.piece is.follows (trimmed text) is.sent.msg is.front.whole end))
 
 -- so it begins with no blank and ends visibly
 pub sent_msg : (dates : Dates) (is_read : Bool) (text : Text) (dialect : Dialect) (m : MessageValue)
@@ -437,4 +455,6 @@ optional_bounded (Some t) = named_bounded (named_process t) t (named_names t)
 pub sent_process : (dates : Dates) (is_read : Bool) (text : Text) (dialect : Dialect) (m : MessageValue)
     → IsSentIn dates is_read text dialect m → IfSome m.procid IsBoundedProcess
 sent_process dates is_read text dialect m is =
-    subst (λ (n : MessageValue). IfSome n.procid IsBoundedProcess) (sym is.says.2) (optional_bounded is.sent.process)
+    subst (λ (p : Option (ProcId Text)). IfSome p IsBoundedProcess)
+    (sym (opened_keeps (λ (n : MessageValue). n.procid) (λ n es msg. refl) dialect is.whole m is.opened
+    ∙ ap (λ (n : MessageValue). n.procid) is.says.2)) (optional_bounded is.sent.process)

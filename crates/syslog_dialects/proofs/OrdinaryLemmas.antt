@@ -29,6 +29,7 @@ use Rattle.syslog_loose.specs.Visit.{IsLineOf}
 use Rattle.syslog_loose.specs.declared.line.Line.{Line}
 use Rattle.syslog_loose.specs.declared.variant.Variant.{Variant}
 use Rattle.syslog_dialects.specs.Ordinary.{IsOrdinary, IsTag, IsTagged, is_odd, mark, tag_row}
+use Rattle.syslog_dialects.proofs.PairedLemmas.{paired_too}
 
 -- ---- what `strip_prefix` gives
 
@@ -115,6 +116,11 @@ versions_too (Some v) (Some w) e is = is
 versions_too (Some v) None e is = absurd (let same = e in cc)
 versions_too None w e is = absurd (let none = is in cc)
 
+none_too : (v w : Option ℕ) → protocol_of v ≡ protocol_of w → v ≡ None → w ≡ None
+none_too v None e none = refl
+none_too None (Some w) e none = absurd (let same = e in cc)
+none_too (Some v) (Some w) e none = absurd cc
+
 module _ (variant : Variant) (dating : Dating) (text : Text) (line other : Line)
     (of : IsLineOf variant dating text line)
     (too : IsLineOf variant dating text other) where
@@ -136,19 +142,20 @@ module _ (variant : Variant) (dating : Dating) (text : Text) (line other : Line)
         tag = subst (IsTag is.host is.app) rests.0 is.tag;
       }
 
-  loose_too : (v w : Option ℕ) → line.version ≡ v → other.version ≡ w → IsTagged line → IsOrdinary other
-  loose_too v (Some n) e f is = inl (rw f refl)
-  loose_too (Some n) None e f is = inl (versions_too line.version other.version
-      (ap (λ (m : MessageValue). m.protocol) same_message) (rw e refl))
-  loose_too None None e f is = inr (inr (tagged_too e f is))
+  no_version_too : line.version ≡ None → other.version ≡ None
+  no_version_too none = none_too line.version other.version
+      (ap (λ (m : MessageValue). m.protocol) same_message) none
 
   -- where one line of a text is ordinary, each is
   pub ordinary_too : IsOrdinary line → IsOrdinary other
-  ordinary_too (inl is) = inl (versions_too line.version other.version
-      (ap (λ (m : MessageValue). m.protocol) same_message) is)
-  ordinary_too (inr (inl some)) =
-      inr (inl (λ none. some (ap (λ (m : MessageValue). m.structured_data) same_message ∙ none)))
-  ordinary_too (inr (inr is)) = loose_too line.version other.version refl refl is
+  ordinary_too (inl (is, unpaired)) =
+      let is_too = versions_too line.version other.version (ap (λ (m : MessageValue). m.protocol) same_message) is in
+      inl (is_too, λ paired. unpaired (paired_too variant dating text line other of too same_message is is_too paired))
+  ordinary_too (inr (none, inl some)) = inr (
+    no_version_too none,
+    inl (λ nothing. some (ap (λ (m : MessageValue). m.structured_data) same_message ∙ nothing)),
+  )
+  ordinary_too (inr (none, inr is)) = inr (no_version_too none, inr (tagged_too none (no_version_too none) is))
 
 -- ---- what ends a tag
 pub mark_first : {t q : Text} → Front (ended (exactly (58 ∷ []))) t q tt → Front mark t q tt

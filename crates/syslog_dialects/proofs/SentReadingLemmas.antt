@@ -1,10 +1,11 @@
 -- A text has one dialect and one message, and what the readers of lines return.
-use Rattle.std.proofs.Common.{◌≡◌, ◌≢◌, inl, inr, ℕ, Bool, true, false, List, [], ◌∷◌, Option, Some, None}
+use Rattle.std.proofs.Common.{◌≡◌, ◌≢◌, inl, inr, ℕ, Bool, true, false, List, [], Option, Some, None}
 use Rattle.std.proofs.Common.{refl, sym, ap, subst, ◌∙◌}
-use Rattle.std.specs.Prelude.{◌↔◌, IfSome, IsTrue, MatchOption}
+use Rattle.std.specs.Prelude.{◌↔◌, IfSome, IsSome, IsTrue, MatchOption}
+use Rattle.syslog_elements.specs.StructuredData.Element.{ElementValue}
 use Rattle.syslog_text.specs.Pieces.Class.{Text, optional}
 use Rattle.syslog_pieces.specs.Pri.{priority}
-use Rattle.syslog_elements.specs.StructuredData.Visited.{list_elements, list_text}
+use Rattle.syslog_elements.specs.StructuredData.Visited.{Visits, list_elements, list_text}
 use Rattle.syslog_text.specs.Text.{trimmed}
 use Rattle.syslog_pieces.specs.Timestamp.Zone.{Dating}
 use Rattle.syslog_pieces.specs.declared.timestamp.OffsetTimestamp.{OffsetTimestamp}
@@ -28,13 +29,15 @@ use Rattle.syslog_sent.specs.Sent.{SentValue}
 use Rattle.syslog_dialects.specs.SentLine.{HasNoStamp, HasStamp, sent_message}
 use Rattle.syslog_dialects.specs.SentReading.{AreAsked, IsDialectLine, IsInNone, IsLeft}
 use Rattle.syslog_dialects.specs.SentReading.{HasFlags, IsReadSent, IsSentAnswer, IsSentIn, LeavesSent, MayBegin}
-use Rattle.syslog_dialects.specs.SentReading.{Shows, Stands, shows_offset, shows_year}
+use Rattle.syslog_dialects.specs.SentReading.{GivesOwn, HasElementsOf, Shows, Stands, shows_offset, shows_year}
 use Rattle.syslog_sent.specs.declared.dialect.Dialect.{Dialect}
 use Rattle.syslog_sent.specs.declared.sent.SentDate.{SentDate}
 use Rattle.syslog_dialects.specs.declared.visit.SentLine.{SentLine}
 use Rattle.syslog_sent.proofs.DialectLemmas.{none_first}
 use Rattle.syslog_dialects.proofs.OrdinaryLemmas.{ordinary_too}
+use Rattle.syslog_dialects.proofs.PairedLemmas.{no_list, opened_keeps, opened_once}
 use Rattle.syslog_dialects.proofs.SentLemmas.{stamp_once}
+use Rattle.syslog_dialects.specs.Paired.{IsOpened}
 
 -- ---- the dialect of a text
 module _ (dates : Dates) (is_read : Bool) (text : Text) where
@@ -71,13 +74,12 @@ module _ (dates : Dates) (is_read : Bool) (text : Text) where
       let stamps : too.says.0 ≡ is.says.0 = stamp_once dates is.sent.date too.says.0 is.says.0 has is.says.1 in
       let message : sent_message too.priority too.says.0 too.sent ≡ sent_message is.priority is.says.0 is.sent =
       rw (e, stamps, same.1) refl in
-      (same.0, too.says.2 ∙ message ∙ sym is.says.2)
+      let whole : too.whole ≡ is.whole = too.says.2 ∙ message ∙ sym is.says.2 in
+      let opened = subst (λ (d : Dialect). IsOpened d is.whole n) same.0
+      (subst (λ (w : MessageValue). IsOpened other w n) whole too.opened) in
+      (same.0, opened_once dialect is.whole m n is.opened opened)
 
 -- ---- what the readers return
-
-no_list : {A : Type 0} (es : List A) → (es ≢ [] → ⊥) → es ≡ []
-no_list [] none = refl
-no_list (e ∷ es) none = absurd (none (λ same. cc))
 
 module _ (dates : Dates) (dating : Dating) (dialects : Bool) (variant : Variant) (text : Text) where
   -- no text is left in two ways
@@ -182,16 +184,44 @@ pub undated : (dates : Dates) (dating : Dating) (variant : Variant) (text : Text
     (year offset : Bool) → HasFlags dates dating variant text (Some dialect) m year offset → m.timestamp ≡ None
     → (year ≡ false) × (offset ≡ false)
 undated dates dating variant text dialect m year offset (is_read, left, (is, y, o)) none =
-    unset dates is.sent.date is.says.0 is.says.1 (sym (ap (λ (n : MessageValue). n.timestamp) is.says.2) ∙ none)
+    unset dates is.sent.date is.says.0 is.says.1 (sym (opened_keeps (λ (n : MessageValue). n.timestamp)
+    (λ n es msg. refl) dialect is.whole m is.opened ∙ ap (λ (n : MessageValue). n.timestamp) is.says.2) ∙ none)
     year offset y o
 
 -- ---- the elements of the line
 
--- an odd line has no elements, as a dialect's
-pub same_elements : (dates : Dates) (text : Text) (line : Line) (it : SentLine) → (IsOrdinary line → ⊥)
-    → IsDialectLine dates true text it → list_elements it.line.list ≡ list_elements line.list
-same_elements dates text line it odd says =
-    says.no_elements ∙ sym (no_list (list_elements line.list) (λ some. odd (inr (inl some))))
+-- an odd line has no elements
+odd_version : (v : Option ℕ) (line : Line) → line.version ≡ v → (IsOrdinary line → ⊥) → list_elements line.list ≢ [] → ⊥
+odd_version (Some n) line e odd some = odd (inl (rw e refl, (λ paired. some paired.1.0)))
+odd_version None line e odd some = odd (inr (e, inl some))
+
+pub odd_elements : (line : Line) → (IsOrdinary line → ⊥) → list_elements line.list ≡ []
+odd_elements line odd = no_list (list_elements line.list) (odd_version line.version line refl odd)
+
+-- a visitor that was given those of the port's line is then given those of the line
+own_of : {V : Type 0} (was_given : V → V → List ElementValue → Type 0) (dialect : Option Dialect)
+    (own es : List ElementValue) (old new first : V) → MatchOption dialect (own ≡ es) (λ _. es ≡ [])
+    → MatchOption dialect (new ≡ old) (λ _. Visits was_given old own new) → was_given first old es
+    → was_given first new own
+own_of was_given None own es old new first same kept given =
+    subst (λ v. was_given first v own) (sym kept) (subst (was_given first old) (sym same) given)
+own_of was_given (Some dialect) own es old new first none gives given =
+    gives first [] (subst (was_given first old) none given)
+
+pub own_given : {V : Type 0} (was_given : V → V → List ElementValue → Type 0) (it : SentLine) (es : List ElementValue)
+    (old new : V) → HasElementsOf it es → GivesOwn was_given old it new → (first : V) → was_given first old es
+    → was_given first new (list_elements it.line.list)
+own_given was_given it es old new has gives first given =
+    own_of was_given it.dialect (list_elements it.line.list) es old new first has gives given
+
+-- where the port reads none, it has none
+none_of : (dialect : Option Dialect) (own : List ElementValue) → IsSome dialect
+    → MatchOption dialect (own ≡ []) (λ _. ◌≡◌ {A = List ElementValue} [] [])
+none_of None own is = absurd (let none = is in cc)
+none_of (Some dialect) own is = refl
+
+pub of_one : (it : SentLine) → IsSome it.dialect → HasElementsOf it []
+of_one it is = none_of it.dialect (list_elements it.line.list) is
 
 -- ---- what is left unparsed
 

@@ -27,6 +27,7 @@ use Rattle.syslog_named_forms.specs.Pairs.{IsShown, noted, pair}
 use Rattle.syslog_sent.specs.Selector.{selector_row, severity}
 use Rattle.syslog_sent.specs.Runs.{is_plain_char}
 use Rattle.syslog_sent.specs.Sent.{SentValue}
+use Rattle.syslog_dialects.specs.Paired.{IsOpened}
 use Rattle.syslog_dialects.specs.SentLine.{IsMessageSent}
 use Rattle.syslog_dated_forms.specs.SophosUtm.{colon_date}
 use Rattle.syslog_dated_forms.specs.Undated.{uptime}
@@ -237,10 +238,13 @@ AreFound dialect text sent =
 
 -- The text is a priority or none, and a text of which each character is accounted for. The message is that of what the
 -- text says: by `IsMessageSent` its timestamp is that of the date, and its facility and severity those of the priority.
+-- Check Point's element, which begins the message, is the structured data; the message is what follows it.
 pub record IsFoundIn (dates : Dates) (dialect : Dialect) (text : Text) (m : MessageValue) : Type 0 where
   pub priority : Option ℕ
   pub follows : Text
   pub sent : SentValue
   pub front : IsAfterPriority text priority follows
   pub found : AreFound dialect follows sent
-  pub says : IsMessageSent dates priority sent m
+  pub whole : MessageValue
+  pub says : IsMessageSent dates priority sent whole
+  pub opened : IsOpened dialect whole m

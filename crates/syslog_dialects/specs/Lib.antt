@@ -1,6 +1,7 @@
 pub mod Dialects
 pub mod Found
 pub mod Ordinary
+pub mod Paired
 pub mod PriorityAlone
 pub mod SentLine
 pub mod SentReading

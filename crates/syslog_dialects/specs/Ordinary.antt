@@ -1,7 +1,7 @@
 -- The lines of the port that keep their reading, by their fields alone: this project's own choice. 32 is a space,
 -- 34 `"`, 37 `%`, 60 `<`, 40 `(`, 45 `-`, 47 `/`, 58 `:`, 91 `[`, 123 `{`.
-use Rattle.std.specs.Prelude.{◌≡◌, ◌≢◌, ◌⊎◌, ◌∷◌, ◌&&◌, ◌||◌, ℕ, nat_eq, Bool, true, false, List, [], Some, IsSome}
-use Rattle.std.specs.Prelude.{◌<◌, IsTrue, codes, nat_lt, not, length, slice_index}
+use Rattle.std.specs.Prelude.{◌≡◌, ◌≢◌, ◌⊎◌, ◌∷◌, ◌&&◌, ◌||◌, ℕ, nat_eq, Bool, true, false, List, [], None, Some}
+use Rattle.std.specs.Prelude.{◌<◌, IsSome, IsTrue, codes, nat_lt, not, length, slice_index}
 use Rattle.std.specs.Char.{is_ascii_digit}
 use Rattle.syslog_text.specs.Pieces.Class.{Ends, Text, Class, Front, Row, exactly}
 use Rattle.syslog_text.specs.Pieces.View.{seen, shown, text_eq}
@@ -9,6 +9,7 @@ use Rattle.syslog_text.specs.Text.{is_tag_char}
 use Rattle.syslog_elements.specs.StructuredData.Visited.{list_elements}
 use Rattle.syslog_loose.specs.declared.line.Line.{Line}
 use Rattle.syslog_named_forms.specs.Devices.{opens_address}
+use Rattle.syslog_dialects.specs.Paired.{IsPaired}
 use Rattle.syslog_sent.specs.Named.{is_letter, is_number}
 
 -- a colon that no word follows at once, as one does in `src="10.0.0.5:51234"`, or the bracket before a process id
@@ -95,6 +96,7 @@ pub record IsTagged (line : Line) : Type 0 where
   pub plain : is_odd host app ≡ false
   pub tag : IsTag host app (shown line.rest)
 
--- of RFC 5424, or with a strict element, or with a timestamp, a host and a tag
+-- of RFC 5424 and without Check Point's element; or else with a strict element, or with a timestamp, a host and a tag
 abbrev pub IsOrdinary : Line → Type 0
-IsOrdinary line = IsSome line.version ⊎ ((list_elements line.list ≢ []) ⊎ IsTagged line)
+IsOrdinary line = (IsSome line.version × (IsPaired line → ⊥))
+    ⊎ ((line.version ≡ None) × ((list_elements line.list ≢ []) ⊎ IsTagged line))

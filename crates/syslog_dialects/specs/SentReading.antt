@@ -1,10 +1,12 @@
 -- How a text is read as its sender meant it: in a dialect, or as the port reads it.
-use Rattle.std.specs.Prelude.{◌≡◌, ◌||◌, ◌&&◌, ℕ, Bool, true, false, nat_eq, nat_le, IsTrue, [], ◌∷◌, Option, Some}
+use Rattle.std.specs.Prelude.{◌≡◌, ◌||◌, ◌&&◌, ℕ, Bool, true, false, nat_eq, nat_le, IsTrue, List, [], ◌∷◌, Option}
+use Rattle.std.specs.Prelude.{Some}
 use Rattle.std.specs.Prelude.{None}
 use Rattle.std.specs.Prelude.{MatchOption, is_some}
 use Rattle.std.specs.Char.{is_ascii_digit}
 use Rattle.syslog_text.specs.Pieces.Class.{Text}
-use Rattle.syslog_elements.specs.StructuredData.Visited.{list_elements, list_text}
+use Rattle.syslog_elements.specs.StructuredData.Visited.{Visits, list_elements, list_text}
+use Rattle.syslog_elements.specs.StructuredData.Element.{ElementValue}
 use Rattle.syslog_text.specs.Text.{trimmed}
 use Rattle.syslog_pieces.specs.Timestamp.Zone.{Dating}
 use Rattle.syslog_loose.specs.Bodies.Start.{IsAfterPriority}
@@ -21,6 +23,7 @@ use Rattle.syslog_sent.specs.Forms.{IsOnlyOf}
 use Rattle.syslog_dialects.specs.Dialects.{forms_of}
 use Rattle.syslog_sent.specs.Named.{is_letter}
 use Rattle.syslog_dialects.specs.Ordinary.{IsOrdinary}
+use Rattle.syslog_dialects.specs.Paired.{IsOpened}
 use Rattle.syslog_sent.specs.Sent.{SentValue}
 use Rattle.syslog_dialects.specs.SentLine.{IsMessageSent}
 pub use Rattle.syslog_sent.specs.Zone.{is_capital}
@@ -95,15 +98,17 @@ IsLeft variant dating text true =
     ((line : Line) × IsLineOf variant dating text line × (IsOrdinary line → ⊥)) × MayBegin text
 IsLeft variant dating text false = IsUnreadable variant dating text × MayBegin text
 
--- The trimmed text is a priority or none, and a text of this dialect alone, and this is its message. Whether the port
--- reads the text says which forms are tried.
+-- The trimmed text is a priority or none, and a text of this dialect alone, and this is its message: what the form
+-- says, but for Check Point's element. Whether the port reads the text says which forms are tried.
 pub record IsSentIn (dates : Dates) (is_read : Bool) (text : Text) (dialect : Dialect) (m : MessageValue) : Type 0 where
   pub priority : Option ℕ
   pub follows : Text
   pub sent : SentValue
   pub front : IsAfterPriority (trimmed text) priority follows
   pub form : IsOnlyOf (forms_of is_read priority) follows dialect sent
-  pub says : IsMessageSent dates priority sent m
+  pub whole : MessageValue
+  pub says : IsMessageSent dates priority sent whole
+  pub opened : IsOpened dialect whole m
 
 -- the text is of no dialect, or its date does not exist
 abbrev pub IsInNone : Dates → Bool → Text → Type 0
@@ -137,6 +142,15 @@ IsSentAnswer dates dating dialects variant text result = MatchOption result
     (IsUnsent dates dating dialects variant text)
     (λ it. IsReadSent dates dating dialects variant text it.dialect (line_value it.line))
 
+-- the line has these elements of the port's line; or it is of a dialect, and the port's has none
+abbrev pub HasElementsOf : SentLine → List ElementValue → Type 0
+HasElementsOf it es = MatchOption it.dialect (list_elements it.line.list ≡ es) (λ _. es ≡ [])
+
+-- a visitor was given the elements of the line, if that is of a dialect
+abbrev pub GivesOwn : {V : Type 0} → (V → V → List ElementValue → Type 0) → V → SentLine → V → Type 0
+GivesOwn was_given old it new =
+    MatchOption it.dialect (new ≡ old) (λ _. Visits was_given old (list_elements it.line.list) new)
+
 -- whether the date shows its year, and its offset
 abbrev pub shows_year : Option SentDate → Bool
 shows_year None = false
@@ -165,6 +179,5 @@ pub record IsDialectLine (dates : Dates) (is_read : Bool) (text : Text) (it : Se
   pub sent : IsSentIn dates is_read text dialect (line_value it.line)
   pub year : it.shows_year ≡ shows_year sent.sent.date
   pub offset : it.shows_offset ≡ shows_offset sent.sent.date
-  pub no_elements : list_elements it.line.list ≡ []
   pub no_list : list_text it.line.list ≡ []
   pub form : KnowsForm it.line

@@ -14,6 +14,7 @@ mod dialects;
 pub mod laws;
 mod line;
 mod ordinary;
+mod paired;
 mod priority_alone;
 mod visit;
 

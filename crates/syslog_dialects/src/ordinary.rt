@@ -12,6 +12,7 @@ ghost use Rattle.syslog_dialects.specs.Ordinary.{IsOrdinary, IsTag, IsTagged, ma
 ghost use Rattle.syslog_dialects.specs.Ordinary as spec;
 ghost use Rattle.syslog_named_forms.specs.Devices.{opens_address as opens_address_text};
 
+use crate::paired::is_paired;
 use syslog_loose::Line;
 use syslog_named_forms::devices::opens_address;
 use syslog_sent::named::{is_number, is_word};
@@ -318,7 +319,7 @@ pub fn is_ordinary(line: &Line<'_>) -> bool
     ensures { MatchBool result (IsOrdinary line.now) (IsOrdinary line.now → ⊥) }
 {
     if line.version.is_some() {
-        return true;
+        return line.list.unparsed().is_none() || !is_paired(line);
     }
     !line.list.is_empty() || is_tagged(line)
 }

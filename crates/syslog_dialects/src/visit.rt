@@ -2,7 +2,7 @@
 //!
 //! The port reads the text once. If its line is ordinary, it is kept. Otherwise, and if there is no line, the dialects
 //! are tried by a call of its own. So an ordinary line only pays for a look at a few of its fields.
-ghost use Rattle.std.specs.Prelude.{◌≡◌, ◌↔◌, [], false, true, IfSome, IsTrue, MatchOption, chars};
+ghost use Rattle.std.specs.Prelude.{◌≡◌, ◌↔◌, [], false, true, IfSome, IsSome, IsTrue, MatchOption, chars};
 ghost use Rattle.syslog_text.specs.Pieces.Class.{Text};
 ghost use Rattle.syslog_elements.specs.StructuredData.Visited.{list_elements};
 ghost use Rattle.syslog_pieces.specs.Timestamp.Zone.{Dating};
@@ -19,6 +19,8 @@ use crate::beginning::may_be_sent;
 use crate::dialects::read_dialect;
 use crate::line::line_of;
 use crate::ordinary::is_ordinary;
+use crate::paired::opened;
+use syslog_elements::structured_data::{ElementVisitor, visit_list};
 use syslog_loose::{Dates, IncompleteDate, Line, Variant, parse_line};
 use syslog_pieces::pri::optional_priority;
 use syslog_sent::dialect::Dialect;
@@ -39,8 +41,9 @@ pub struct SentLine<'a> {
 }
 
 impl<'a> SentLine<'a> {
-    ghost use Rattle.std.specs.Prelude.{◌≡◌};
+    ghost use Rattle.std.specs.Prelude.{◌≡◌, MatchOption};
     ghost use Rattle.syslog_text.specs.Pieces.View.{seen};
+    ghost use Rattle.syslog_elements.specs.StructuredData.Visited.{Visits, list_elements};
     ghost use Rattle.syslog_sent.specs.Dialect.{dialect_text};
     ghost use Rattle.syslog_dialects.specs.SentReading as spec;
 
@@ -58,6 +61,19 @@ impl<'a> SentLine<'a> {
             dialect,
             shows_year: shows_year(date),
             shows_offset: shows_offset(date),
+        }
+    }
+
+    /// Gives a visitor the elements of a dialect's line. It gives none if the line is the port's, whose elements the
+    /// visitor was given while the line was read.
+    #[inline(always)]
+    pub fn visit_own<E: ElementVisitor<'a>>(&self, elements: &mut E)
+        ensures { spec.GivesOwn E.was_given elements.old self.now elements.new }
+    {
+        if self.dialect.is_some() {
+            // A copy, so that the line stays out of memory.
+            let list = self.line.list;
+            visit_list(&list, elements);
         }
     }
 
@@ -108,7 +124,7 @@ fn dialect_line<'a>(is_read: bool, input: &'a str, dates: &Dates) -> Option<Sent
     let Some(line) = line_of(priority, &sent, dates) else {
         return None;
     };
-    Some(SentLine::of(&line, Some(dialect), sent.date))
+    Some(SentLine::of(&opened(dialect, &line), Some(dialect), sent.date))
 }
 
 // Returns the line of a dialect instead of the port's line, which is not ordinary, if dialects are asked for.
@@ -156,7 +172,7 @@ fn last_line<'a>(input: &'a str, dates: &Dates, are_asked: bool) -> Option<SentL
 }
 
 /// Returns the line of a dialect instead of the port's line of the text, which is not ordinary, and none if the text is
-/// in no dialect. It does not allocate, and the line has no elements.
+/// in no dialect. It does not allocate.
 ///
 /// It is for callers that have made something of the port's line already; `sent_line` returns either line.
 #[inline(always)]
@@ -186,8 +202,8 @@ pub fn line_instead<'a>(
 /// If `dialects` is true and the variant is `Either`, the line of a dialect that the text is in comes before the
 /// port's, unless that is ordinary. Otherwise the line is the port's.
 ///
-/// A dialect's line has no elements, and a line of the port that has some is never replaced by one. So what a visitor
-/// was given of the elements holds of the returned line. Nothing of a dialect's line is left unparsed as structured
+/// A line of the port that has elements is never replaced by a dialect's. A visitor that was given those of the port's
+/// line is given those of the returned one by `visit_own`. Nothing of a dialect's line is left unparsed as structured
 /// data.
 #[inline(always)]
 pub fn sent_line<'a>(
@@ -203,7 +219,7 @@ pub fn sent_line<'a>(
         result.dialect (line_value result.line) }
     ensures shown { (dating : Dating) → IsLineOf variant dating (chars input.entry.now) line.now
         → spec.Shows dates.now dating variant (chars input.entry.now) result }
-    ensures elements { list_elements result.line.list ≡ list_elements line.now.list }
+    ensures elements { spec.HasElementsOf result (list_elements line.now.list) }
     ensures leaves { (dating : Dating) (unparsed : Text) → IsLineOf variant dating (chars input.entry.now) line.now
         → IsLeftUnparsed result.line unparsed
         → spec.LeavesSent result.dialect variant (chars input.entry.now) unparsed }
@@ -216,7 +232,7 @@ pub fn sent_line<'a>(
 }
 
 /// Returns the line of a text that the port does not parse, as its sender meant it; none if the text is no message. It
-/// does not allocate, and the line has no elements.
+/// does not allocate.
 #[inline(always)]
 pub fn unread_line<'a>(
     input: &'a str,
@@ -228,7 +244,7 @@ pub fn unread_line<'a>(
         → spec.IsSentAnswer dates.now dating dialects variant (chars input.entry.now) result }
     ensures shown { (dating : Dating) → IsUnreadable variant dating (chars input.entry.now)
         → IfSome result (λ it. spec.Shows dates.now dating variant (chars input.entry.now) it) }
-    ensures elements { IfSome result (λ it. list_elements it.line.list ≡ []) }
+    ensures dialect { IfSome result (λ it. IsSome it.dialect) }
     ensures leaves { IfSome result (λ it. (unparsed : Text) → IsLeftUnparsed it.line unparsed
         → spec.LeavesSent it.dialect variant (chars input.entry.now) unparsed) }
     ensures form { IfSome result (λ it. KnowsForm it.line) }

@@ -8,12 +8,12 @@ use Rattle.syslog_loose.specs.Reading.{IncompleteDate, InYear, IsUnreadable}
 use Rattle.syslog_loose.{proofs.ReckoningLemmas.one_dating, specs.Today.IsYearIn, specs.Reckoning.dating_in}
 use Rattle.syslog_loose.{specs.Clauses.KnowsForm, specs.Visit.IsLineOf, specs.Visit.Made}
 use Rattle.syslog_pieces.specs.Timestamp.Zone.{Dating}
-use Rattle.syslog_dialects.proofs.SentReadingLemmas.{leaves_once, read_once}
-use Rattle.syslog_dialects.specs.SentReading.{IsReadSent, IsSentAnswer, LeavesSent}
+use Rattle.syslog_dialects.proofs.SentReadingLemmas.{leaves_once, of_one, own_given, read_once}
+use Rattle.syslog_dialects.specs.SentReading.{GivesOwn, HasElementsOf, IsReadSent, IsSentAnswer, LeavesSent}
 use Rattle.syslog_sent.specs.declared.dialect.Dialect.{Dialect}
 use Rattle.syslog_loose.specs.Unparsed.{IsLeftUnparsed}
 use Rattle.syslog_dialects.specs.declared.visit.SentLine.{SentLine}
-use Rattle.std.specs.Prelude.{IfSome}
+use Rattle.std.specs.Prelude.{IsSome}
 use Rattle.syslog_loose.specs.declared.variant.Variant.TheVariants.{Either}
 use Rattle.syslog_elements.specs.StructuredData.Visited.{list_elements}
 use Rattle.syslog_lines.specs.Output.{answer_bytes, is_answered}
@@ -80,18 +80,19 @@ module _ {V : Type 0} {post : IncompleteDate → ℤ → Type 0} (filter : Objec
     pub line_read : (made : Line) → InYear post Either text
         (IsMade V (plain_zone filter.dates.zone) text old (Some made) new)
         → ((date : IncompleteDate) (y : ℤ) → post date y → IsYearIn filter.dates.today date y) → HasWritten old []
-        → (it : SentLine) → ((dating : Dating) → IsLineOf Either dating text made
+        → (it : SentLine) (last : ObjectWriter) → ((dating : Dating) → IsLineOf Either dating text made
         → IsReadSent filter.dates dating filter.dialects Either text it.dialect (line_value it.line))
-        → list_elements it.line.list ≡ list_elements made.list
+        → HasElementsOf it (list_elements made.list) → GivesOwn (λ (first w : ObjectWriter) es. HasWritten w es) new it
+        last
         → ((dating : Dating) (u : Text) → IsLineOf Either dating text made
-        → IsLeftUnparsed it.line u → LeavesSent it.dialect Either text u) → IsLineRead filter text (Some it) new
-    line_read made h tells empty it reads elements leaves = (
+        → IsLeftUnparsed it.line u → LeavesSent it.dialect Either text u) → IsLineRead filter text (Some it) last
+    line_read made h tells empty it last reads elements own leaves = (
       reading.in_year_told (reading.in_year_map (λ year is.
           reads (dating_in (plain_zone filter.dates.zone) year)
           (line_made (plain_zone filter.dates.zone) text old new made year is)) h) tells,
       let (v, w, (line, of, same, given)) = h.holds h.answered (λ date asks. refl) in
-          subst (HasWritten new) (ap (λ (l : Line). list_elements l.list) (sym same.0) ∙ sym elements)
-          (given old [] empty),
+          own_given (λ (first w : ObjectWriter) es. HasWritten w es) it (list_elements made.list) new last elements own
+          old (subst (HasWritten new) (ap (λ (l : Line). list_elements l.list) (sym same.0)) (given old [] empty)),
       λ u left. leaves (dating_in (plain_zone filter.dates.zone) h.answered) u
           (line_made (plain_zone filter.dates.zone) text old new made h.answered
           (h.holds h.answered (λ date asks. refl))) left,
@@ -104,18 +105,24 @@ module _ {V : Type 0} {post : IncompleteDate → ℤ → Type 0} (filter : Objec
     -- or one that the port does not read
     pub line_unread : InYear post Either text (IsMade V (plain_zone filter.dates.zone) text old None new)
         → ((date : IncompleteDate) (y : ℤ) → post date y → IsYearIn filter.dates.today date y) → HasWritten old []
-        → (result : Option SentLine) → ((dating : Dating) → IsUnreadable Either dating text
-        → IsSentAnswer filter.dates dating filter.dialects Either text result)
-        → IfSome result (λ it. list_elements it.line.list ≡ [])
-        → IfSome result (λ it. (u : Text) → IsLeftUnparsed it.line u → LeavesSent it.dialect Either text u)
-        → IsLineRead filter text result new
-    line_unread h tells empty None reads elements leaves =
+        → ((dating : Dating) → IsUnreadable Either dating text
+        → IsSentAnswer filter.dates dating filter.dialects Either text None) → IsLineRead filter text None new
+    line_unread h tells empty reads =
         reading.in_year_told (reading.in_year_map (λ year is. reads (dating_in (plain_zone filter.dates.zone) year)
         is.2.0) h) tells
-    line_unread h tells empty (Some it) reads elements leaves = (
+
+    pub line_sent : InYear post Either text (IsMade V (plain_zone filter.dates.zone) text old None new)
+        → ((date : IncompleteDate) (y : ℤ) → post date y → IsYearIn filter.dates.today date y) → HasWritten old []
+        → (it : SentLine) (last : ObjectWriter) → ((dating : Dating) → IsUnreadable Either dating text
+        → IsSentAnswer filter.dates dating filter.dialects Either text (Some it))
+        → IsSome it.dialect → GivesOwn (λ (first w : ObjectWriter) es. HasWritten w es) new it last
+        → ((u : Text) → IsLeftUnparsed it.line u → LeavesSent it.dialect Either text u)
+        → IsLineRead filter text (Some it) last
+    line_sent h tells empty it last reads in_one own leaves = (
       reading.in_year_told (reading.in_year_map (λ year is. reads (dating_in (plain_zone filter.dates.zone) year)
           is.2.0) h) tells,
-      subst (HasWritten new) (sym elements) (none_written h empty),
+      own_given (λ (first w : ObjectWriter) es. HasWritten w es) it [] new last (of_one it in_one) own old
+          (none_written h empty),
       leaves,
     )
 

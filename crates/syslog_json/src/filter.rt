@@ -77,8 +77,18 @@ impl Objects<'_> {
             writer,
             &mut Itself,
         ) {
-            Some(found) => Some(sent_line(&found, line, dates, Variant::Either, self.dialects)),
-            None => unread_line(line, dates, Variant::Either, self.dialects),
+            Some(found) => {
+                let sent = sent_line(&found, line, dates, Variant::Either, self.dialects);
+                sent.visit_own(writer);
+                Some(sent)
+            }
+            None => {
+                let Some(sent) = unread_line(line, dates, Variant::Either, self.dialects) else {
+                    return None;
+                };
+                sent.visit_own(writer);
+                Some(sent)
+            }
         }
     }
 

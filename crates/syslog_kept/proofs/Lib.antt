@@ -1,4 +1,5 @@
 mod PartLemmas
 mod ObjectLemmas
 pub mod KeptLemmas
+mod PairedLemmas
 pub mod SentLemmas

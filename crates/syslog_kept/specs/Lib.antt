@@ -1,4 +1,5 @@
 pub mod Part
 pub mod Elements
 pub mod Kept
+pub mod Paired
 pub mod Sent

@@ -8,7 +8,9 @@ use Rattle.syslog_sent.proofs.DateLemmas.{any_date_det}
 use Rattle.syslog_sent.proofs.NamedLemmas.{beginning_det, program_det}
 use Rattle.syslog_sent.proofs.ZoneLemmas.{ended_det}
 use Rattle.syslog_named_forms.specs.NearHeader.{bare_more, bare_row, head_row, nil, nil_more, nil_row, tag_more, tag_row}
-use Rattle.syslog_named_forms.specs.NearHeader.{heroku_more, heroku_row, vendor_more, vendor_row}
+use Rattle.syslog_named_forms.specs.NearHeader.{heroku_more, heroku_row, paired_more, paired_row, vendor_more}
+use Rattle.syslog_named_forms.specs.NearHeader.{vendor_row}
+use Rattle.syslog_elements.specs.StructuredData.Pairs.{paired}
 use Rattle.syslog_named_forms.specs.Untagged.{mark_class}
 use Rattle.syslog_named_forms.specs.declared.untagged.Mark.{Mark}
 
@@ -31,6 +33,10 @@ pub bare_more_det : AllDeterministic bare_more
 bare_more_det = let gap = some_run_det is_blank in
     word_det also gap also word_det also gap also word_det also gap also rest_det also tt
 
+pub paired_more_det : AllDeterministic paired_more
+paired_more_det = let gap = some_run_det is_blank in
+    word_det also gap also word_det also gap also word_det also gap also beginning_det paired also tt
+
 pub heroku_more_det : AllDeterministic heroku_more
 heroku_more_det = let gap = some_run_det is_blank in
     word_det also gap also word_det also gap also exactly_det _ also gap also rest_det also tt
@@ -46,6 +52,9 @@ tag_det = all_joined head_row tag_more head_det tag_more_det
 
 pub bare_det : AllDeterministic bare_row
 bare_det = all_joined head_row bare_more head_det bare_more_det
+
+pub paired_det : AllDeterministic paired_row
+paired_det = all_joined head_row paired_more head_det paired_more_det
 
 pub heroku_det : AllDeterministic heroku_row
 heroku_det = all_joined head_row heroku_more head_det heroku_more_det

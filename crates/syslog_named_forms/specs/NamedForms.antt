@@ -7,7 +7,7 @@ use Rattle.syslog_sent.specs.Named.{NamedTexts, beginning, hosted}
 use Rattle.syslog_named_forms.specs.Devices as devices
 use Rattle.syslog_named_forms.specs.Graded as graded
 use Rattle.syslog_named_forms.specs.Monotonic.{monotonic_form}
-use Rattle.syslog_named_forms.specs.NearHeader.{bare_form, heroku_form, nil_form, tag_form, vendor_form}
+use Rattle.syslog_named_forms.specs.NearHeader.{bare_form, heroku_form, nil_form, paired_form, tag_form, vendor_form}
 use Rattle.syslog_named_forms.specs.Pairs.{pairs_form}
 use Rattle.syslog_named_forms.specs.Programs as programs
 use Rattle.syslog_sent.specs.Sent.{Form, SentValue, loose}
@@ -151,8 +151,8 @@ undated_form dialect m =
 
 -- headers, and the seconds since the start
 abbrev pub header_forms : List Form
-header_forms = vendor_form mark.Cef ∷ vendor_form mark.Leef ∷ nil_form ∷ tag_form ∷ heroku_form ∷ bare_form
-    ∷ monotonic_form ∷ []
+header_forms = vendor_form mark.Cef ∷ vendor_form mark.Leef ∷ paired_form ∷ nil_form ∷ tag_form ∷ heroku_form
+    ∷ bare_form ∷ monotonic_form ∷ []
 
 abbrev pub undated_forms : List Form
 undated_forms = undated_form dialect.Cef mark.Cef ∷ undated_form dialect.Leef mark.Leef ∷ pairs_form ∷ header_forms

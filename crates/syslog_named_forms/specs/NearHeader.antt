@@ -1,4 +1,4 @@
--- Headers that are nearly of RFC 5424: a version, a date that may be of another form, and what follows in one of five
+-- Headers that are nearly of RFC 5424: a version, a date that may be of another form, and what follows in one of six
 -- ways.
 use Rattle.std.specs.Prelude.{◌≡◌, ℕ, List, [], ◌∷◌, ◌++◌, Option, Some, None}
 use Rattle.syslog_text.specs.Pieces.Class.{Text, Class, Values, exactly, rest, run, some_run}
@@ -7,7 +7,8 @@ use Rattle.syslog_sent.specs.Date.{any_date}
 use Rattle.syslog_sent.specs.Named.{beginning, program}
 use Rattle.syslog_sent.specs.Sent.{Form, SentValue}
 use Rattle.syslog_sent.specs.Zone.{ended}
-use Rattle.syslog_sent.specs.declared.dialect.Dialect.TheVariants.{Heroku, NearlyRfc5424}
+use Rattle.syslog_elements.specs.StructuredData.Pairs.{paired}
+use Rattle.syslog_sent.specs.declared.dialect.Dialect.TheVariants.{CheckPoint, Heroku, NearlyRfc5424}
 use Rattle.syslog_sent.specs.declared.sent.SentDate.{SentDate}
 use Rattle.syslog_named_forms.specs.Untagged.{dialect_of, mark_class}
 use Rattle.syslog_named_forms.specs.declared.untagged.Mark.{Mark}
@@ -41,6 +42,21 @@ vendor_says m (version, (_, (date, (_, (h, (_, (msg, _))))))) = said version dat
 
 abbrev pub vendor_form : Mark → Form
 vendor_form m = record { dialect = dialect_of m; row = vendor_row m; Means = λ values s. s ≡ vendor_says m values }
+
+-- ---- Check Point's element, which begins the message: `1 2026-03-02T06:33:04Z h CheckPoint 12 - [src:"10.0.0.3"]`
+
+abbrev pub paired_more : List Class
+paired_more = word ∷ some_run is_blank ∷ word ∷ some_run is_blank ∷ word ∷ some_run is_blank ∷ beginning paired ∷ []
+
+abbrev pub paired_row : List Class
+paired_row = head_row ++ paired_more
+
+abbrev pub paired_says : Values paired_row → SentValue
+paired_says (version, (_, (date, (_, (h, (_, (app, (_, (process, (_, (id, (_, (msg, _))))))))))))) =
+    said version date h app process id msg
+
+abbrev pub paired_form : Form
+paired_form = record { dialect = CheckPoint; row = paired_row; Means = λ values s. s ≡ paired_says values }
 
 -- ---- `-` for the structured data: `1 2026-03-02T06:33:04+0100 h app 12 ID - text`
 

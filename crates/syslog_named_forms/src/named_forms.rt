@@ -16,7 +16,9 @@ ghost use Rattle.syslog_sent.specs.Views.{named_value};
 use crate::devices::{addressed, titled};
 use crate::graded::{counted, event, graded, leveled, numbered, sourced, threaded};
 use crate::monotonic::read_monotonic;
-use crate::near_header::{Start, head, read_bare, read_heroku, read_nil, read_tag, read_vendor};
+use crate::near_header::{
+    Start, head, read_bare, read_heroku, read_nil, read_paired, read_tag, read_vendor,
+};
 use crate::pairs::read_pairs;
 use crate::programs::{
     after_serial, forwarded, hostless, of_access_point, severity_first, spread, untagged_message,
@@ -81,6 +83,9 @@ fn of_start<'a>(start: Start<'a>, rest: &'a str, text: &'a str) -> Option<(Diale
     }
     if let Some(sent) = read_vendor(start, rest, Mark::Leef) {
         return Some((Dialect::Leef, sent));
+    }
+    if let Some(sent) = read_paired(start, rest) {
+        return Some((Dialect::CheckPoint, sent));
     }
     if let Some(sent) = read_nil(start, rest) {
         return Some((Dialect::NearlyRfc5424, sent));

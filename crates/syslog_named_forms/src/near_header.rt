@@ -10,6 +10,7 @@ ghost use Rattle.syslog_named_forms.specs.NearHeaderViews.{head_values};
 ghost use Rattle.syslog_sent.specs.Sent.{Sends};
 
 use crate::untagged::{Mark, mark_end};
+use syslog_elements::structured_data::paired_list;
 use syslog_sent::date::any_date;
 use syslog_sent::named::read_program;
 use syslog_sent::sent::{Sent, SentDate};
@@ -67,6 +68,29 @@ pub(crate) fn read_vendor<'a>(head: Start<'a>, rest: &'a str, mark: Mark) -> Opt
         process: None,
         msgid: None,
         msg: rest,
+    })
+}
+
+/// Returns what a line says that has Check Point's element after the message id. It begins the message.
+pub(crate) fn read_paired<'a>(head: Start<'a>, rest: &'a str) -> Option<Sent<'a>>
+    ensures { (text : Text) → Front (Row spec.head_row) text (chars rest.entry.now) (head_values head.entry)
+        → Sends spec.paired_form text result }
+{
+    let (appname, after_app) = word(rest)?;
+    let at_process = some_blanks(after_app)?;
+    let (process, after_process) = word(at_process)?;
+    let at_id = some_blanks(after_process)?;
+    let (msgid, after_id) = word(at_id)?;
+    let msg = some_blanks(after_id)?;
+    let _ = paired_list(msg)?;
+    Some(Sent {
+        version: Some(head.version),
+        date: Some(head.date),
+        hostname: head.hostname,
+        appname,
+        process,
+        msgid,
+        msg,
     })
 }
 

@@ -10,7 +10,7 @@ use Rattle.syslog_sent.specs.declared.dialect.Dialect.TheVariants.{Idrac, Log4j,
 use Rattle.syslog_sent.specs.declared.dialect.Dialect.TheVariants.{SpacedName, NoHost, Heroku, Monotonic, NearlyRfc5424}
 use Rattle.syslog_sent.specs.declared.dialect.Dialect.TheVariants.{Bracketed, MikroTik, SophosUtm, UnixSeconds}
 use Rattle.syslog_sent.specs.declared.dialect.Dialect.TheVariants.{Esxi, WatchGuard, DatedMessage, UniFi, UnifiedLog}
-use Rattle.syslog_sent.specs.declared.dialect.Dialect.TheVariants.{Untagged}
+use Rattle.syslog_sent.specs.declared.dialect.Dialect.TheVariants.{CheckPoint, Untagged}
 
 -- the name of a dialect, in ASCII
 abbrev pub dialect_name : Dialect → List ℕ
@@ -51,6 +51,7 @@ dialect_name Heroku = codes "heroku"
 dialect_name Monotonic = codes "journalctl-monotonic"
 dialect_name NearlyRfc5424 = codes "nearly-rfc5424"
 dialect_name UnifiedLog = codes "macos-log"
+dialect_name CheckPoint = codes "check-point"
 
 -- the name of the dialect, where there is one
 abbrev pub dialect_text : Option Dialect → Option Text
@@ -95,3 +96,4 @@ dialect_number Heroku = 52
 dialect_number Monotonic = 59
 dialect_number NearlyRfc5424 = 60
 dialect_number UnifiedLog = 61
+dialect_number CheckPoint = 62

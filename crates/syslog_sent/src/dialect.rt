@@ -80,6 +80,8 @@ pub enum Dialect {
     Monotonic,
     /// The columns of the unified log, as macOS's `log show` writes.
     UnifiedLog,
+    /// Check Point's element, whose names have a colon after them, in a header of RFC 5424.
+    CheckPoint,
 }
 
 impl Dialect {
@@ -125,6 +127,7 @@ impl Dialect {
             Dialect::NearlyRfc5424 => "nearly-rfc5424",
             Dialect::Monotonic => "journalctl-monotonic",
             Dialect::UnifiedLog => "macos-log",
+            Dialect::CheckPoint => "check-point",
         }
     }
 
@@ -170,6 +173,7 @@ impl Dialect {
             Dialect::NearlyRfc5424 => 60,
             Dialect::Monotonic => 59,
             Dialect::UnifiedLog => 61,
+            Dialect::CheckPoint => 62,
         }
     }
 
@@ -216,6 +220,7 @@ impl Dialect {
             60 => Some(Dialect::NearlyRfc5424),
             59 => Some(Dialect::Monotonic),
             61 => Some(Dialect::UnifiedLog),
+            62 => Some(Dialect::CheckPoint),
             _ => None,
         }
     }

@@ -34,5 +34,5 @@ returns c =
     inr (inr (tried_line _ _ _ _ _ (c.take.ensures.taken c.if-not-take.false) c.in-Ok.ensures
     (in_year_told (in_year_map (λ year made. reported by (dating_in _ year) text _ a.fields.now c.take_read.new.fields
     (c.take_read.ensures c.in-Some.ensures.form (dating_in _ year) c.in-Some.line (rw made.2.0 made.1)
-    c.line-is_ordinary.ensures.0 c.line-is_ordinary.ensures.1))
+    c.line-is_ordinary.ensures.0 c.line-is_ordinary.ensures.1).1)
     c.in-Some.ensures.makes) (λ date year is. is.1))))

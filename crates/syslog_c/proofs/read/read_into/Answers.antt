@@ -1,10 +1,34 @@
-use Rattle.syslog_c.proofs.Words.{◌≡◌, None, Some, inr, refl, rules, in_year_map, in_year_told, dating_in, OnLine}
+use Rattle.syslog_c.proofs.Words.{◌≡◌, inr, refl, rules, in_year_map, in_year_told, dating_in, OnLine}
 use Rattle.syslog_c.proofs.Words.{ReadsInto}
 use Rattle.std.specs.Str.{chars}
-use Rattle.syslog_c.specs.declared.outcome.Outcome.TheVariants.{Done, NoRoom}
+use Rattle.syslog_c.specs.declared.outcome.Outcome.TheVariants.{NoReading}
 use Rattle.syslog_c.proofs.LineLemmas.{tried_line}
-use Rattle.syslog_c.proofs.ReadLemmas.{all_read, kept, too_much_read, unread, with_arrays}
+use Rattle.syslog_c.proofs.ReadLemmas.{none_into, none_stay, read_into, read_stay, unread_into, unread_stay}
+use Rattle.syslog_c.proofs.ReadLemmas.{with_arrays}
 use Rattle.syslog_c.proofs.read.read_into.Goals as goal
+
+pub returns-in_default-take_unread : goal.returns-in_default-take_unread
+returns-in_default-take_unread c =
+    let a = c.args in
+    let by = c.take.new.self in
+    let text = chars a.text.now in
+    let in_year = c.in_default.ensures.makes in
+    let mid = c.visit_dated_line.new.elements in
+    let arrays = c.visit_dated_line.new.elements in
+    let fields = c.take_unread.new.fields in
+    let held = none_stay by (dating_in _ in_year.answered) text a.fields.now c.visit_dated_line.new.visitor fields _ mid
+    arrays refl refl (in_year.holds in_year.answered (λ date asks. refl)) refl in
+    with_arrays (λ es ps. OnLine a.options.now a.text.now NoReading
+    ((fields ≡ a.fields.now) × (es ≡ a.elements.now) × (ps ≡ a.params.now))
+    (λ are dating text. ReadsInto are dating text a.fields.now fields a.elements.now es a.params.now ps NoReading))
+    arrays.elements.now _ arrays.params.now _ (search rules) (search rules)
+    (inr (inr (tried_line (λ are dating text. ReadsInto are dating text a.fields.now fields a.elements.now
+    arrays.elements.now a.params.now arrays.params.now NoReading) _ _ _ _
+    (c.take.ensures.taken c.if-not-take.false) (refl, c.utf8.text)
+    (in_year_told (in_year_map (λ year h. none_into by (dating_in _ year) text a.fields.now
+    c.visit_dated_line.new.visitor fields _ mid arrays refl refl h refl
+    (λ none. c.in_default-take_unread.ensures (dating_in _ year) none)) in_year)
+    (λ date year is. is.1)))))
 
 pub returns-in_default : goal.returns-in_default
 returns-in_default c =
@@ -12,59 +36,50 @@ returns-in_default c =
     let by = c.take.new.self in
     let text = chars a.text.now in
     let in_year = c.in_default.ensures.makes in
-    let arrays = c.visit_dated_line.new.elements in
-    let fields = c.read_unread.new.fields in
-    let held = kept by (dating_in _ in_year.answered) text a.fields.now c.visit_dated_line.new.visitor fields _ arrays
-    refl refl None (in_year.holds in_year.answered (λ date asks. refl)) in
-    with_arrays (λ es ps. OnLine a.options.now a.text.now c.read_unread.result
+    let mid = c.visit_dated_line.new.elements in
+    let arrays = c.put_own.new.arrays in
+    let fields = c.take_unread.new.fields in
+    let held = unread_stay by (dating_in _ in_year.answered) text a.fields.now c.visit_dated_line.new.visitor fields _
+    mid
+    arrays refl refl c.in-Some-take_unread.own
+    (in_year.holds in_year.answered (λ date asks. refl)) c.put_own.ensures.given in
+    with_arrays (λ es ps. OnLine a.options.now a.text.now c.put_own.result
     ((fields ≡ a.fields.now) × (es ≡ a.elements.now) × (ps ≡ a.params.now))
     (λ are dating text. ReadsInto are dating text a.fields.now fields a.elements.now es a.params.now ps
-    c.read_unread.result)) arrays.elements.now _ arrays.params.now _ (search rules) (search rules)
+    c.put_own.result))
+    arrays.elements.now _ arrays.params.now _ (search rules) (search rules)
     (inr (inr (tried_line (λ are dating text. ReadsInto are dating text a.fields.now fields a.elements.now
-    arrays.elements.now a.params.now arrays.params.now c.read_unread.result) _ _ _ _
+    arrays.elements.now a.params.now arrays.params.now c.put_own.result) _ _ _ _
     (c.take.ensures.taken c.if-not-take.false) (refl, c.utf8.text)
-    (in_year_told (in_year_map (λ year h. unread by (dating_in _ year) text a.fields.now c.visit_dated_line.new.visitor fields
-    _ arrays refl refl c.read_unread.result h (c.read_unread.ensures (dating_in _ year))) in_year)
+    (in_year_told (in_year_map (λ year h. unread_into by (dating_in _ year) text a.fields.now
+    c.visit_dated_line.new.visitor fields _ mid arrays refl refl c.in-Some-take_unread.own
+    c.put_own.result h (λ none. c.in-Some-take_unread.ensures (dating_in _ year) none) c.put_own.ensures.given
+    c.put_own.ensures.filled) in_year)
     (λ date year is. is.1)))))
 
-pub returns-then-have_space : goal.returns-then-have_space
-returns-then-have_space c =
+pub returns : goal.returns
+returns c =
     let a = c.args in
     let by = c.take.new.self in
     let text = chars a.text.now in
     let in_year = c.in-Some.ensures.makes in
-    let arrays = c.visit_dated_line.new.elements in
-    let fields = c.take_read.new.fields in
-    let held = kept by (dating_in _ in_year.answered) text a.fields.now c.visit_dated_line.new.visitor fields _ arrays
-    refl refl (Some c.in-Some.is_ordinary) (in_year.holds in_year.answered (λ date asks. refl)) in
-    with_arrays (λ es ps. OnLine a.options.now a.text.now Done
+    let mid = c.visit_dated_line.new.elements in
+    let arrays = c.put_own-2.new.arrays in
+    let fields = c.take_read-own.new.fields in
+    let held = read_stay by (dating_in _ in_year.answered) text a.fields.now c.visit_dated_line.new.visitor fields _ mid
+    arrays refl refl c.in-Some.is_ordinary c.take_read-own.result
+    (in_year.holds in_year.answered (λ date asks. refl))
+    (c.take_read-own.ensures c.in-Some.ensures.form (dating_in _ in_year.answered)) c.put_own-2.ensures.given in
+    with_arrays (λ es ps. OnLine a.options.now a.text.now c.put_own-2.result
     ((fields ≡ a.fields.now) × (es ≡ a.elements.now) × (ps ≡ a.params.now))
-    (λ are dating text. ReadsInto are dating text a.fields.now fields a.elements.now es a.params.now ps Done))
+    (λ are dating text. ReadsInto are dating text a.fields.now fields a.elements.now es a.params.now ps
+    c.put_own-2.result))
     arrays.elements.now _ arrays.params.now _ (search rules) (search rules)
     (inr (inr (tried_line (λ are dating text. ReadsInto are dating text a.fields.now fields a.elements.now
-    arrays.elements.now a.params.now arrays.params.now Done) _ _ _ _
+    arrays.elements.now a.params.now arrays.params.now c.put_own-2.result) _ _ _ _
     (c.take.ensures.taken c.if-not-take.false) (refl, c.utf8.text)
-    (in_year_told (in_year_map (λ year h. all_read by (dating_in _ year) text a.fields.now c.visit_dated_line.new.visitor
-    fields _ arrays refl refl c.in-Some.is_ordinary h (c.take_read.ensures c.in-Some.ensures.form (dating_in _ year))
-    c.if-have_space.ensures.0 c.if-have_space.ensures.1) in_year) (λ date year is. is.1)))))
-
-pub returns-else-have_space : goal.returns-else-have_space
-returns-else-have_space c =
-    let a = c.args in
-    let by = c.take.new.self in
-    let text = chars a.text.now in
-    let in_year = c.in-Some.ensures.makes in
-    let arrays = c.visit_dated_line.new.elements in
-    let fields = c.take_read.new.fields in
-    let held = kept by (dating_in _ in_year.answered) text a.fields.now c.visit_dated_line.new.visitor fields _ arrays
-    refl refl (Some c.in-Some.is_ordinary) (in_year.holds in_year.answered (λ date asks. refl)) in
-    with_arrays (λ es ps. OnLine a.options.now a.text.now NoRoom
-    ((fields ≡ a.fields.now) × (es ≡ a.elements.now) × (ps ≡ a.params.now))
-    (λ are dating text. ReadsInto are dating text a.fields.now fields a.elements.now es a.params.now ps NoRoom))
-    arrays.elements.now _ arrays.params.now _ (search rules) (search rules)
-    (inr (inr (tried_line (λ are dating text. ReadsInto are dating text a.fields.now fields a.elements.now
-    arrays.elements.now a.params.now arrays.params.now NoRoom) _ _ _ _
-    (c.take.ensures.taken c.if-not-take.false) (refl, c.utf8.text)
-    (in_year_told (in_year_map (λ year h. too_much_read by (dating_in _ year) text a.fields.now
-    c.visit_dated_line.new.visitor fields _ arrays refl refl c.in-Some.is_ordinary h
-    (c.take_read.ensures c.in-Some.ensures.form (dating_in _ year)) (λ e p. c.if-have_space.ensures e p)) in_year) (λ date year is. is.1)))))
+    (in_year_told (in_year_map (λ year h. read_into by (dating_in _ year) text a.fields.now
+    c.visit_dated_line.new.visitor fields _ mid arrays refl refl c.in-Some.is_ordinary
+    c.take_read-own.result c.put_own-2.result h (c.take_read-own.ensures c.in-Some.ensures.form (dating_in _ year))
+    c.put_own-2.ensures.given c.put_own-2.ensures.filled) in_year)
+    (λ date year is. is.1)))))

@@ -9,6 +9,6 @@ returns-in_default c dating none = (c.in_default.ensures.reads dating none, refl
 pub returns : goal.returns
 returns c dating none =
     unread_meant c.args.rules.now dating (chars c.args.text.now) c.in-Some.sent c.fields_sent.result none
-    (c.in-Some.ensures.reads dating none) (c.in-Some.ensures.shown dating none) c.in-Some.ensures.elements
+    (c.in-Some.ensures.reads dating none) (c.in-Some.ensures.shown dating none)
     c.in-Some.ensures.leaves
     (c.fields_sent.ensures c.args.rules.now dating (chars c.args.text.now))

@@ -1,10 +1,10 @@
 use Rattle.std.proofs.Common.{sym, ap, subst, ◌∙◌}
 use Rattle.std.specs.Str.{chars}
-use Rattle.syslog_elements.specs.StructuredData.Visited.{list_elements, list_text}
-use Rattle.syslog_loose.specs.{Line.KnowsForm, Line.line_value, Message.MessageValue, declared.line.Line.Line}
+use Rattle.syslog_elements.specs.StructuredData.Visited.{list_text}
+use Rattle.syslog_loose.specs.{Line.KnowsForm, Line.line_value, declared.line.Line.Line}
 use Rattle.syslog_dialects.proofs.SentReadingLemmas.{no_stamp, unformed}
 use Rattle.syslog_sent.specs.Sent.{sent_value}
-use Rattle.syslog_dialects.specs.SentLine.{IsMessageSent}
+use Rattle.syslog_dialects.specs.Paired.{IsOpened}
 use Rattle.syslog_dialects.proofs.visit.dialect_line.Goals as goal
 
 pub returns-in_err-dialect : goal.returns-in_err-dialect
@@ -24,6 +24,7 @@ returns c =
     let front = rw c.trimmed.ensures at c.optional_priority-priority.ensures in
     let is = c.in-Some.ensures.line in
     let same = c.of.ensures.0 in
+    let opened = c.opened.ensures in
     let sent = sent_value c.in_ok-dialect.sent in
     let number = c.optional_priority-priority.result.0 in
     record {
@@ -35,12 +36,13 @@ returns c =
         sent = sent;
         front = front;
         form = c.in_ok-dialect.ensures;
-        says = subst (λ (l : Line). IsMessageSent c.args.dates.now number sent (line_value l)) (sym same) is.means;
+        whole = line_value c.in-Some.line;
+        says = is.means;
+        opened = subst (λ (l : Line). IsOpened c.in_ok-dialect.dialect (line_value c.in-Some.line) (line_value l))
+            (sym same) opened.opened;
       };
       year = c.of.ensures.2;
       offset = c.of.ensures.3;
-      no_elements = ap (λ (l : Line). list_elements l.list) same
-          ∙ ap (λ (m : MessageValue). m.structured_data) is.means.2;
-      no_list = ap (λ (l : Line). list_text l.list) same ∙ is.list;
-      form = subst (λ (l : Line). KnowsForm l) (sym same) c.in-Some.ensures.form;
+      no_list = ap (λ (l : Line). list_text l.list) same ∙ opened.text is.list;
+      form = subst (λ (l : Line). KnowsForm l) (sym same) opened.form;
     }

@@ -1,7 +1,7 @@
 use Rattle.std.proofs.Common.{true}
 use Rattle.std.specs.Str.{chars}
 use Rattle.syslog_dialects.proofs.SentReadingLemmas.{dialect_before, dialect_leaves, flags, no_flags, port_leaves}
-use Rattle.syslog_dialects.proofs.SentReadingLemmas.{port_stands, same_elements}
+use Rattle.syslog_dialects.proofs.SentReadingLemmas.{odd_elements, port_stands}
 use Rattle.syslog_dialects.proofs.visit.sent_line.Goals as goal
 
 pub returns-in-Some-clause-reads : goal.returns-in-Some-clause-reads
@@ -18,8 +18,7 @@ returns-in-Some-clause-shown c dating of =
 
 pub returns-in-Some-clause-elements : goal.returns-in-Some-clause-elements
 returns-in-Some-clause-elements c =
-    same_elements c.args.dates.now (chars c.args.input.now) c.args.line.now c.in-Some.sent c.in-Some.ensures.1.0
-    c.in-Some.ensures.2
+    rw c.in-Some.ensures.2.named (odd_elements c.args.line.now c.in-Some.ensures.1.0)
 
 pub returns-in-Some-clause-leaves : goal.returns-in-Some-clause-leaves
 returns-in-Some-clause-leaves c dating unparsed of left =

@@ -13,18 +13,21 @@ returns-in-Some c = c.of_start.ensures c.in-Some.ensures
 pub returns-in-None : goal.returns-in-None
 returns-in-None c =
     let none = λ (more : List Class). rows_none_here header.head_row more c.in-None.ensures in
-    found_after (header.vendor_form mark.Cef ∷ header.vendor_form mark.Leef ∷ header.nil_form ∷ header.tag_form
-    ∷ header.heroku_form ∷ header.bare_form ∷ []) (monotonic_form ∷ []) _ c.of_seconds.result (
+    found_after (header.vendor_form mark.Cef ∷ header.vendor_form mark.Leef ∷ header.paired_form ∷ header.nil_form
+    ∷ header.tag_form ∷ header.heroku_form ∷ header.bare_form ∷ []) (monotonic_form ∷ []) _ c.of_seconds.result (
       no_row_division (header.vendor_row mark.Cef) (none (header.vendor_more mark.Cef)),
       (
         no_row_division (header.vendor_row mark.Leef) (none (header.vendor_more mark.Leef)),
         (
-          no_row_division header.nil_row (none header.nil_more),
+          no_row_division header.paired_row (none header.paired_more),
           (
-            no_row_division header.tag_row (none header.tag_more),
+            no_row_division header.nil_row (none header.nil_more),
             (
-              no_row_division header.heroku_row (none header.heroku_more),
-              (no_row_division header.bare_row (none header.bare_more), tt),
+              no_row_division header.tag_row (none header.tag_more),
+              (
+                no_row_division header.heroku_row (none header.heroku_more),
+                (no_row_division header.bare_row (none header.bare_more), tt),
+              ),
             ),
           ),
         ),
