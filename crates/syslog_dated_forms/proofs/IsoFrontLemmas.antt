@@ -36,6 +36,8 @@ use Rattle.syslog_sent.specs.declared.sent.SentDate.{SentDate}
 use Rattle.syslog_dated_forms.proofs.CiscoLemmas.{counter_row_det, message_row_det}
 use Rattle.syslog_dated_forms.proofs.DatedLemmas.{ctime_line_det, ctime_message_det, journal_line_det, year_date_det}
 use Rattle.syslog_dated_forms.proofs.DatedLemmas.{year_line_det}
+use Rattle.syslog_dated_forms.specs.InBrackets.{in_brackets_row}
+use Rattle.syslog_dated_forms.proofs.InBracketsLemmas.{in_brackets_det}
 use Rattle.syslog_dated_forms.proofs.MonthFrontLemmas.{tag_digit}
 use Rattle.syslog_dated_forms.proofs.OtherDateLemmas.{card_row_det, host_row_det, logread_row_det, netscaler_row_det}
 use Rattle.syslog_dated_forms.proofs.OtherDateLemmas.{utm_row_det, xr_row_det}
@@ -461,7 +463,11 @@ module _ {text t : Text} (gap : Front (run is_blank) text t tt) (m : HasIso t) w
                       past optional_none name_label (no_such_front label IsName (iso_no_label m))
                       past optional_none uptime (iso_no_uptime m)
                       past inl (no_row message_row message_row_det (inl (iso_no_mnemonic m))))),
-                  tt,
+                  (
+                    no_row_division in_brackets_row (no_row in_brackets_row in_brackets_det (gap
+                        past inl (no_char m 91 refl))),
+                    tt,
+                  ),
                 ),
               ),
             ),

@@ -3,6 +3,7 @@ pub mod ContainerLemmas
 pub mod DatedLemmas
 pub mod EsxiLemmas
 pub mod FiledLemmas
+pub mod InBracketsLemmas
 pub mod IsoFrontLemmas
 pub mod LedFormLemmas
 pub mod MarkLemmas

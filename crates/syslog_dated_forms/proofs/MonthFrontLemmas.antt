@@ -20,7 +20,9 @@ use Rattle.syslog_pieces.specs.Timestamp.MonthDate.{clock_row, month, month_date
 use Rattle.syslog_pieces.specs.Timestamp.Rfc3339.{pair, year}
 use Rattle.syslog_pieces.specs.declared.timestamp.month_date.MonthDate.{MonthDate}
 use Rattle.syslog_text.proofs.PieceLemmas.Class.{◌past◌, ◌then◌, front_of, front_same, mapped_front, no_mapped}
-use Rattle.syslog_text.proofs.PieceLemmas.Class.{each_map, no_row, no_row_division, optional_some}
+use Rattle.syslog_text.proofs.PieceLemmas.Class.{each_map, heads, no_row, no_row_division, optional_some}
+use Rattle.syslog_dated_forms.specs.InBrackets.{in_brackets_row}
+use Rattle.syslog_dated_forms.proofs.InBracketsLemmas.{in_brackets_det}
 use Rattle.syslog_text.proofs.PieceLemmas.Class.{optional_none, row_of, row_pieces}
 use Rattle.syslog_text.proofs.PieceLemmas.Lists.{Begins, begins, begins_apart}
 use Rattle.syslog_sent.proofs.NamedLemmas.{no_otherwise}
@@ -283,6 +285,17 @@ module _ {t : Text} (m : HasMonth t) where
   bare_year = optional_none front_year (no_mapped (Row front_year_row)
       ℕ _ (no_row front_year_row front_year_row_det (inl no_year)))
 
+-- ---- no bracket begins it
+
+no_bracket : {t : Text} → HasMonth t → NoFront (exactly (91 ∷ [])) t
+no_bracket m p q v e h =
+    let s = small_letters _ _ _ _ m.word.names in
+    let more = m.word.b ∷ m.word.c ∷ m.q in
+    let whole : m.word.a ∷ more ≡ 91 ∷ q =
+    sym (m.whole ∙ ap (λ (x : Text). x ++ m.q) m.word.is) ∙ e ∙ ap (λ (x : Text). x ++ q) h in
+    let small : 97 ≤ 91 = subst (λ (x : ℕ). 97 ≤ to_ascii_lowercase x) (heads m.word.a 91 more q whole) s.0 in
+    omega (arith, small)
+
 -- ---- it is no day of the week
 
 month_of : List ℕ → Option ℕ
@@ -382,7 +395,11 @@ module _ {text t : Text} (gap : Front (run is_blank) text t tt) (m : HasMonth t)
                           past optional_none name_label (no_such_front label IsName (no_label m))
                           past optional_none uptime (no_uptime m)
                           past inl (no_row message_row message_row_det (inl no_mnemonic)))),
-                      tt,
+                      (
+                        no_row_division in_brackets_row (no_row in_brackets_row in_brackets_det (gap
+                            past inl (no_bracket m))),
+                        tt,
+                      ),
                     ),
                   ),
                 ),

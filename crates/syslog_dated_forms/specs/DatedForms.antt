@@ -5,6 +5,7 @@ use Rattle.syslog_dated_forms.specs.Container.{container_form}
 use Rattle.syslog_dated_forms.specs.Dated.{bsd_form, ctime_form, ctime_message_form, iso_form, journal_form, year_form}
 use Rattle.syslog_dated_forms.specs.Esxi.{esxi_form}
 use Rattle.syslog_dated_forms.specs.Filed.{filed_forms}
+use Rattle.syslog_dated_forms.specs.InBrackets.{in_brackets_form}
 use Rattle.syslog_dated_forms.specs.IosXr.{xr_form}
 use Rattle.syslog_dated_forms.specs.NetScaler.{netscaler_form}
 use Rattle.syslog_dated_forms.specs.OpenWrt.{logread_form}
@@ -14,8 +15,11 @@ use Rattle.syslog_dated_forms.specs.SophosUtm.{utm_form}
 use Rattle.syslog_dated_forms.specs.Undated.{timed_form, undated_form}
 use Rattle.syslog_dated_forms.specs.UnixSeconds.{meraki_form, short_form}
 
+abbrev pub in_brackets_forms : List Form
+in_brackets_forms = in_brackets_form ∷ []
+
 abbrev pub undated_forms : List Form
-undated_forms = undated_form ∷ []
+undated_forms = undated_form ∷ in_brackets_forms
 
 abbrev pub short_forms : List Form
 short_forms = short_form ∷ undated_forms

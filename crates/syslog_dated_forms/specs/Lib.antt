@@ -5,6 +5,7 @@ pub mod Dated
 pub mod DatedForms
 pub mod Esxi
 pub mod Filed
+pub mod InBrackets
 pub mod IosXr
 pub mod NetScaler
 pub mod NetScalerViews

@@ -18,6 +18,7 @@ use crate::container::read_container;
 use crate::dated::{read_bsd, read_ctime, read_ctime_message, read_iso, read_journal, read_year};
 use crate::esxi::read_esxi;
 use crate::filed::read_filed;
+use crate::in_brackets::read_in_brackets;
 use crate::ios_xr::read_ios_xr;
 use crate::netscaler::read_netscaler;
 use crate::open_wrt::read_logread;
@@ -67,6 +68,9 @@ fn from_unled(text: &str) -> Option<(Dialect, Sent<'_>)>
     }
     if let Some(sent) = read_undated(text) {
         return Some((Dialect::CiscoUndated, sent));
+    }
+    if let Some(sent) = read_in_brackets(text) {
+        return Some((Dialect::Bracketed, sent));
     }
     None
 }

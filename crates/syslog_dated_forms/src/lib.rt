@@ -11,6 +11,7 @@ mod dated;
 pub mod dated_forms;
 mod esxi;
 mod filed;
+mod in_brackets;
 mod ios_xr;
 mod netscaler;
 mod open_wrt;

@@ -32,6 +32,7 @@ use Rattle.syslog_dated_forms.specs.DatedForms.{xr_forms}
 use Rattle.syslog_dialects.specs.Dialects.{dated_forms}
 use Rattle.syslog_dated_forms.specs.Esxi.{esxi_row, esxi_sent, mark_row}
 use Rattle.syslog_dated_forms.specs.Filed.{IsAny, filed_forms, filed_row, filed_sent}
+use Rattle.syslog_dated_forms.specs.InBrackets.{in_brackets_row, in_brackets_sent, stamp}
 use Rattle.syslog_dialects.specs.Found.{AreFound, Date, IsDateOf, IsTold, Name, Part}
 use Rattle.syslog_dialects.specs.Found.{Tells, beside, cisco_hosts, cisco_left_out, date_first, filed_date}
 use Rattle.syslog_dialects.specs.Found.{filed_device, filed_rest, host_alone, host_first, if_there}
@@ -126,7 +127,10 @@ abbrev a_colon_date : {left : List Class} → Shows left colon_date
 a_colon_date = a_date colon_date (λ d. d) (λ p q d is. inr (inr (inr (inr (inl is)))))
 
 abbrev a_unix_date : {left : List Class} → Shows left unix_date
-a_unix_date = a_date unix_date (λ d. d) (λ p q d is. inr (inr (inr (inr (inr is)))))
+a_unix_date = a_date unix_date (λ d. d) (λ p q d is. inr (inr (inr (inr (inr (inl is))))))
+
+abbrev a_stamp : {left : List Class} → Shows left stamp
+a_stamp = a_date stamp (λ v. v.1.0) (λ p q v is. inr (inr (inr (inr (inr (inr (v, is, refl)))))))
 
 -- ---- Cisco
 
@@ -504,6 +508,10 @@ abbrev a_year_date : {left : List Class} → Shows left year_date
 a_year_date = a_date year_date (λ d. d)
     (λ p q d (v, is, same). inr (inr (inl ((Some v.0, v.1), year_shown p q v is, same))))
 
+in_brackets_found : RowFound dialect.Bracketed in_brackets_row in_brackets_sent
+in_brackets_found h = before_rest (left_of dialect.Bracketed h) (take 5 in_brackets_row)
+    (blanks also a_sign 91 refl also a_stamp also a_sign 93 refl also blanks also tt)
+
 xr_all : AllFound xr_forms
 xr_all =
     said_so dialect.CiscoIosXr xr_row xr_sent xr_found
@@ -522,7 +530,8 @@ xr_all =
     (λ h. dated_found (weekday ∷ Row source_row ∷ beside h []) year_date a_year_date)
     also said dialect.UnixSeconds meraki_row meraki_sent meraki_found
     also said dialect.UnixSeconds short_row short_sent short_found
-    also said dialect.CiscoUndated undated.undated_row undated.undated_sent undated_cisco also tt
+    also said dialect.CiscoUndated undated.undated_row undated.undated_sent undated_cisco
+    also said dialect.Bracketed in_brackets_row in_brackets_sent in_brackets_found also tt
 
 pub dated_all : AllFound dated_forms
 dated_all = both_found dated.marked_forms xr_forms

@@ -29,6 +29,7 @@ use Rattle.syslog_dialects.specs.Dialects.{dated_forms, early_forms, forms_of, l
 use Rattle.syslog_dated_forms.specs.Esxi.{esxi_row, esxi_sent}
 use Rattle.syslog_dated_forms.specs.Filed.{IsAny, filed_form, filed_forms, filed_front, filed_row, filed_sent}
 use Rattle.syslog_named_forms.specs.NearHeader.{head_row, heroku_row, heroku_says, vendor_row, vendor_says}
+use Rattle.syslog_dated_forms.specs.InBrackets.{in_brackets_row, in_brackets_sent}
 use Rattle.syslog_dated_forms.specs.IosXr.{process, process_in, process_row, xr_row, xr_sent}
 use Rattle.syslog_sent.specs.Named.{NamedTexts, after_row, beginning, hosted}
 use Rattle.syslog_named_forms.specs.Monotonic.{monotonic_row, monotonic_says}
@@ -270,7 +271,8 @@ xr_end =
     also said BsdDate year_row (λ v. dated_sent v.1.0 v.1.1.0) (tailed (take 2 year_row))
     also said UnixSeconds meraki_row meraki_sent (spaced_rest_ends (take 6 meraki_row))
     also said UnixSeconds short_row short_sent (rest_ends (take 6 short_row))
-    also said CiscoUndated undated.undated_row undated.undated_sent undated_cisco_ends also tt
+    also said CiscoUndated undated.undated_row undated.undated_sent undated_cisco_ends
+    also said Bracketed in_brackets_row in_brackets_sent (rest_ends (take 4 in_brackets_row)) also tt
 
 dated_end : AllEnd dated_forms
 dated_end = both_end marked_forms xr_forms

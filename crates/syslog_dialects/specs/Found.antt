@@ -15,6 +15,7 @@ use Rattle.syslog_dated_forms.specs.Cisco.{task_row, unit}
 use Rattle.syslog_sent.specs.Date.{any_date, bsd_date, iso_date}
 use Rattle.syslog_sent.specs.Date.{weekday}
 use Rattle.syslog_dated_forms.specs.Esxi.{mark_row}
+use Rattle.syslog_dated_forms.specs.InBrackets.{stamp_date}
 use Rattle.syslog_dated_forms.specs.IosXr.{node}
 use Rattle.syslog_dated_forms.specs.NetScaler.{slashed_date}
 use Rattle.syslog_named_forms.specs.Devices.{point_word}
@@ -155,10 +156,11 @@ pub data Part : Type 0 where
 abbrev pub cisco_date : Class
 cisco_date = mapped (Row date_row) SentDate (λ v. dated_in v.0 v.1.0)
 
--- The piece is the date, by one of the forms. A zone's name that says no offset is of the date.
+-- The piece is the date, by one of the forms. A zone's name that says no offset is of the date, and so is the day of
+-- the week in brackets.
 abbrev pub IsDateOf : Text → Text → SentDate → Type 0
 IsDateOf p q d = bsd_date.Is p q d ⊎ (iso_date.Is p q d ⊎ (cisco_date.Is p q d
-    ⊎ (slashed_date.Is p q d ⊎ (colon_date.Is p q d ⊎ unix_date.Is p q d))))
+    ⊎ (slashed_date.Is p q d ⊎ (colon_date.Is p q d ⊎ (unix_date.Is p q d ⊎ stamp_date.Is p q d)))))
 
 -- the piece, before the text that follows it, says this
 abbrev pub Says : Text → Text → Part → Type 0

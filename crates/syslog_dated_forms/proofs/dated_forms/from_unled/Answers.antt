@@ -16,6 +16,8 @@ use Rattle.syslog_dated_forms.specs.Dated.{ctime_form, ctime_message_form, journ
 use Rattle.syslog_dated_forms.specs.UnixSeconds.{meraki_form, short_form}
 use Rattle.syslog_dated_forms.specs.DatedForms.{container_forms, ctime_forms, esxi_forms, journal_forms, logread_forms}
 use Rattle.syslog_dated_forms.specs.DatedForms.{meraki_forms, netscaler_forms, procurve_forms, short_forms}
+use Rattle.syslog_dated_forms.specs.InBrackets.{in_brackets_form}
+use Rattle.syslog_dated_forms.specs.DatedForms.{in_brackets_forms}
 use Rattle.syslog_dated_forms.specs.DatedForms.{ctime_message_forms, undated_forms, utm_forms, xr_forms, year_forms}
 use Rattle.syslog_sent.specs.declared.dialect.Dialect.TheVariants as dialect
 use Rattle.syslog_dated_forms.proofs.dated_forms.from_unled.Goals as goal
@@ -125,11 +127,26 @@ returns-in-Some-read_undated c none = let r = Some (dialect.CiscoUndated, c.in-S
     (found_later year_form meraki_forms _ r c.in_default-read_year.ensures
     (found_later meraki_form short_forms _ r c.in_default-read_meraki.ensures
     (found_later short_form undated_forms _ r c.in_default-read_short.ensures
-    (here undated_form [] _ _ c.in-Some-read_undated.ensures))))))))))
+    (here undated_form in_brackets_forms _ _ c.in-Some-read_undated.ensures))))))))))
+
+pub returns-in-Some-read_in_brackets : goal.returns-in-Some-read_in_brackets
+returns-in-Some-read_in_brackets c none = let r = Some (dialect.Bracketed, c.in-Some-read_in_brackets.sent) in
+    past_dated r none c.in_default.ensures
+    (found_later journal_form netscaler_forms _ r c.in_default-read_journal.ensures
+    (found_later netscaler_form utm_forms _ r c.in_default-read_netscaler.ensures
+    (found_later utm_form logread_forms _ r c.in_default-read_utm.ensures
+    (found_later logread_form ctime_message_forms _ r c.in_default-read_logread.ensures
+    (found_later ctime_message_form ctime_forms _ r c.in_default-read_ctime_message.ensures
+    (found_later ctime_form year_forms _ r c.in_default-read_ctime.ensures
+    (found_later year_form meraki_forms _ r c.in_default-read_year.ensures
+    (found_later meraki_form short_forms _ r c.in_default-read_meraki.ensures
+    (found_later short_form undated_forms _ r c.in_default-read_short.ensures
+    (found_later undated_form in_brackets_forms _ r c.in_default-read_undated.ensures
+    (here in_brackets_form [] _ _ c.in-Some-read_in_brackets.ensures)))))))))))
 
 pub returns : goal.returns
 returns c none = past_dated None none c.in_default.ensures
     (c.in_default-read_journal.ensures, (c.in_default-read_netscaler.ensures, (c.in_default-read_utm.ensures,
     (c.in_default-read_logread.ensures, (c.in_default-read_ctime_message.ensures, (c.in_default-read_ctime.ensures,
     (c.in_default-read_year.ensures, (c.in_default-read_meraki.ensures, (c.in_default-read_short.ensures,
-    (c.in_default-read_undated.ensures, tt))))))))))
+    (c.in_default-read_undated.ensures, (c.in_default-read_in_brackets.ensures, tt)))))))))))

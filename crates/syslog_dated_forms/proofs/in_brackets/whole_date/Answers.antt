@@ -1,0 +1,17 @@
+use Rattle.std.proofs.Common.{inl, refl}
+use Rattle.syslog_text.proofs.PieceLemmas.Class.{◌past◌, ◌then◌, no_row, no_row_division, row_of}
+use Rattle.syslog_dated_forms.specs.InBrackets.{stamp_row}
+use Rattle.syslog_dated_forms.proofs.InBracketsLemmas.{not_whole, stamp_row_det, whole_is}
+use Rattle.syslog_dated_forms.proofs.in_brackets.whole_date.Goals as goal
+
+pub returns-in_err-date : goal.returns-in_err-date
+returns-in_err-date c = rw c.from_residual.ensures (no_row_division stamp_row
+    (no_row stamp_row stamp_row_det (c.past_day.ensures.1 past inl c.in_err-date.ensures)))
+
+pub returns-in-Some : goal.returns-in-Some
+returns-in-Some c = not_whole (row_of stamp_row (c.past_day.ensures.1 then c.in_ok-date.ensures then refl))
+    c.in-Some.ensures.0
+
+pub returns-in-None : goal.returns-in-None
+returns-in-None c =
+    (_, whole_is (row_of stamp_row (c.past_day.ensures.1 then c.in_ok-date.ensures then refl)) c.in-None.ensures, refl)
