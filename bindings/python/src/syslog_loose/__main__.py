@@ -123,7 +123,7 @@ def write_files(names: list[str], out: BinaryIO, table: bool, options: dict[str,
     for name in names:
         with sys.stdin.buffer if name == "-" else open(name, "rb") as lines:
             told = write_lines(lines, out, as_record if table else as_object, options)
-        counts = Counts(*map(sum, zip(counts, told)))
+        counts = Counts(*(a + b for a, b in zip(counts, told)))
     out.flush()
     return counts
 
