@@ -375,12 +375,12 @@ module _ {t : Text} (m : HasIso t) where
   iso_no_year = no_mapped (Row year_date_row) SentDate (λ v. dated_in (Some v.0) v.1.0)
       (no_row year_date_row year_date_det
       (inl (no_mapped (Row front_year_row) ℕ _ no_year_first))) where
-    no_year_first : NoFront (Row front_year_row) t
-    no_year_first p q vs e h = let (u, x, (w, y, more)) = row_pieces front_year_row (front_of p e h) in
-        let y4 = year_digits x.piece u _ x.is in
-        let is : m.e ∷ m.more ≡ u = ap (λ (z : Text). drop 4 z) (sym m.is ∙ x.whole ∙ ap (λ (z : Text). z ++ u) y4.is) in
-        let blank : Begins IsBlank (m.e ∷ m.more) = subst (λ (z : Text). Begins IsBlank z) (sym is) (blanks_begin y) in
-        let bad : false ≡ true = sym (mark_no_blank m.e m.part) ∙ blank in cc
+        no_year_first : NoFront (Row front_year_row) t
+        no_year_first p q vs e h = let (u, x, (w, y, more)) = row_pieces front_year_row (front_of p e h) in
+            let y4 = year_digits x.piece u _ x.is in
+            let is : m.e ∷ m.more ≡ u = ap (λ (z : Text). drop 4 z) (sym m.is ∙ x.whole ∙ ap (λ (z : Text). z ++ u) y4.is) in
+            let blank : Begins IsBlank (m.e ∷ m.more) = subst (λ (z : Text). Begins IsBlank z) (sym is) (blanks_begin y) in
+            let bad : false ≡ true = sym (mark_no_blank m.e m.part) ∙ blank in cc
 
   no_unix : NoFront (Row unix_row) t
   no_unix p q vs e h = let (u, s, (w, f, more)) = row_pieces unix_row (front_of p e h) in
@@ -446,32 +446,32 @@ module _ {text t : Text} (gap : Front (run is_blank) text t tt) (m : HasIso t) w
           (
             no_row_division ctime_message_row (no_row ctime_message_row ctime_message_det (gap past inl (iso_no_weekday m))),
             (
-            no_row_division ctime_row (no_row ctime_row ctime_line_det (gap past inl (iso_no_weekday m))),
-            (
-            no_row_division year_row (no_row year_row year_line_det (gap past inl (iso_no_year m))),
-            (
-              no_row_division meraki_row (rows_none_later (run is_blank ∷ []) (drop 1 meraki_row)
-                  (run_det is_blank also tt) (row_cons (run is_blank) [] gap (row_nil _)) (no_meraki m)),
+              no_row_division ctime_row (no_row ctime_row ctime_line_det (gap past inl (iso_no_weekday m))),
               (
-                no_row_division short_row (no_row short_row short_row_det (gap past inl
-                    (no_mapped (Row unix_row) SentDate unix_of (no_unix m)))),
+                no_row_division year_row (no_row year_row year_line_det (gap past inl (iso_no_year m))),
                 (
-                  no_row_division undated_row (no_row undated_row undated_row_det (gap
-                      past optional_none (exactly colon) (no_char m 58 refl) past no_blank m
-                      past optional_none (Row counter_row) (iso_no_counter m)
-                      past optional_none (Row counter_row) (iso_no_counter m)
-                      past optional_none name_label (no_such_front label IsName (iso_no_label m))
-                      past optional_none uptime (iso_no_uptime m)
-                      past inl (no_row message_row message_row_det (inl (iso_no_mnemonic m))))),
+                  no_row_division meraki_row (rows_none_later (run is_blank ∷ []) (drop 1 meraki_row)
+                      (run_det is_blank also tt) (row_cons (run is_blank) [] gap (row_nil _)) (no_meraki m)),
                   (
-                    no_row_division in_brackets_row (no_row in_brackets_row in_brackets_det (gap
-                        past inl (no_char m 91 refl))),
-                    tt,
+                    no_row_division short_row (no_row short_row short_row_det (gap past inl
+                        (no_mapped (Row unix_row) SentDate unix_of (no_unix m)))),
+                    (
+                      no_row_division undated_row (no_row undated_row undated_row_det (gap
+                          past optional_none (exactly colon) (no_char m 58 refl) past no_blank m
+                          past optional_none (Row counter_row) (iso_no_counter m)
+                          past optional_none (Row counter_row) (iso_no_counter m)
+                          past optional_none name_label (no_such_front label IsName (iso_no_label m))
+                          past optional_none uptime (iso_no_uptime m)
+                          past inl (no_row message_row message_row_det (inl (iso_no_mnemonic m))))),
+                      (
+                        no_row_division in_brackets_row (no_row in_brackets_row in_brackets_det (gap
+                            past inl (no_char m 91 refl))),
+                        tt,
+                      ),
+                    ),
                   ),
                 ),
               ),
-            ),
-            ),
             ),
           ),
         ),

@@ -46,9 +46,9 @@ word_first : (c x : ℕ) → begin_no_word c x ≡ true → (c ≡ 67) ⊎ ((c �
 word_first c x w = elim (cases_Bool (nat_eq c 67)) [
   | inl is ↦ inl (grind (arith, nat_tests, is))
   | inr not_c ↦ (elim (cases_Bool (nat_eq c 76)) [
-      | inl is ↦ inr (inl (grind (arith, nat_tests, is)))
-      | inr not_l ↦ inr (inr (grind (arith, nat_tests, w, not_c, not_l)))
-    ])
+    | inl is ↦ inr (inl (grind (arith, nat_tests, is)))
+    | inr not_l ↦ inr (inr (grind (arith, nat_tests, w, not_c, not_l)))
+  ])
 ]
 
 word_next : (c d x : ℕ) (t : Text) → begin_no_word c x ≡ true → is_odd_app (c ∷ d ∷ t) ≡ true
@@ -81,7 +81,7 @@ word_not_odd bs c (d ∷ t) u e low w = elim (cases_Bool (is_odd_app (c ∷ d �
       (IsAscii-cons c (d ∷ []) low (one_ascii d low_d)) e in
       let second : slice_index bs 1 ≡ d = rw bytes refl in
       let bad : true ≡ false = sym w ∙ (rw second other) in cc
-    )
+      )
   | inr not ↦ not
 ]
 
@@ -94,7 +94,7 @@ not_odd bs (c ∷ t) u e (some, plain) = elim (cases_Bool (begins_oddly c)) [
       let bytes : bs ≡ (c ∷ []) ++ encode_utf8_all t = ascii_ahead (c ∷ []) t bs u (one_ascii c low) e in
       let first : slice_index bs 0 ≡ c = rw bytes refl in
       word_not_odd bs c t u e low (grind (arith, nat_tests, first, odd, plain))
-    )
+      )
   | inr other ↦ plain_begins c t other
 ]
 

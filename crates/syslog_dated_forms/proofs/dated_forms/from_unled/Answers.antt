@@ -145,8 +145,31 @@ returns-in-Some-read_in_brackets c none = let r = Some (dialect.Bracketed, c.in-
     (here in_brackets_form [] _ _ c.in-Some-read_in_brackets.ensures)))))))))))
 
 pub returns : goal.returns
-returns c none = past_dated None none c.in_default.ensures
-    (c.in_default-read_journal.ensures, (c.in_default-read_netscaler.ensures, (c.in_default-read_utm.ensures,
-    (c.in_default-read_logread.ensures, (c.in_default-read_ctime_message.ensures, (c.in_default-read_ctime.ensures,
-    (c.in_default-read_year.ensures, (c.in_default-read_meraki.ensures, (c.in_default-read_short.ensures,
-    (c.in_default-read_undated.ensures, (c.in_default-read_in_brackets.ensures, tt)))))))))))
+returns c none = past_dated None none c.in_default.ensures (
+  c.in_default-read_journal.ensures,
+  (
+    c.in_default-read_netscaler.ensures,
+    (
+      c.in_default-read_utm.ensures,
+      (
+        c.in_default-read_logread.ensures,
+        (
+          c.in_default-read_ctime_message.ensures,
+          (
+            c.in_default-read_ctime.ensures,
+            (
+              c.in_default-read_year.ensures,
+              (
+                c.in_default-read_meraki.ensures,
+                (
+                  c.in_default-read_short.ensures,
+                  (c.in_default-read_undated.ensures, (c.in_default-read_in_brackets.ensures, tt)),
+                ),
+              ),
+            ),
+          ),
+        ),
+      ),
+    ),
+  ),
+)
