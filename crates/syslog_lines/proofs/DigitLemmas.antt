@@ -7,7 +7,7 @@ use Rattle.std.proofs.Common.{length-append, length-take, ◌⊎◌, suc, zero}
 use Rattle.std.proofs.Math.Seq.{get_or-append_seam, take-append_seam, drop-append_seam}
 use Rattle.std.proofs.lemmas.Bool.{cases_lt}
 use Rattle.std.proofs.Common.{◌*◌, ◌^◌, add-one}
-use Rattle.std.proofs.Math.Nat.{pow-le-pow_right, pow-suc}
+use Rattle.std.proofs.Math.Nat.{pow-suc}
 use Rattle.std.proofs.lemmas.List.{get_or-take, get_or_append_left, drop_more}
 use Rattle.std.proofs.lemmas.List.Elements.{All-cons, All-get_or}
 use Rattle.std.specs.List.{All}
@@ -22,12 +22,6 @@ pub number_after-push : (before : ℕ) (digits : List ℕ) (digit : ℕ)
     → number_after before (digits ++ digit ∷ []) ≡ number_after before digits * 10 + (digit - 48)
 number_after-push before [] digit = refl
 number_after-push before (first ∷ digits) digit = number_after-push (before * 10 + (first - 48)) digits digit
-
--- the number of up to eight digits, and of one more
-pub small_number : (octets size : ℕ) → size < 9 → octets < 10 ^ size → octets < 100000000
-small_number octets size few small = let most : 10 ^ size ≤ 10 ^ 8 = pow-le-pow_right {n = 10}
-    (omega arith) {i = size} {j = 8} (omega arith) in
-    omega (arith, most)
 
 pub larger_number : (octets size digit : ℕ) → IsDigit digit → octets < 10 ^ size
     → octets * 10 + (digit - 48) < 10 ^ (size + 1)

@@ -2,9 +2,9 @@
 use Rattle.syslog_lines.proofs.Names.{List, append-nil, cases_eq, take-append-drop, All-append, IsFirstLine, EndsInFeed}
 use Rattle.syslog_lines.proofs.Names.{◌≡◌, length, get_or, eq-eqb, eqb-true, All-nil, NoFeed, IsLines, Nowhere, is_byte}
 use Rattle.syslog_lines.proofs.Names.{◌≢◌, ◌+◌, ◌-◌, ◌<◌, ◌∷◌, ◌++◌, take, drop, refl, sym, ◌∙◌, subst, arith, Passes}
-use Rattle.syslog_lines.proofs.Names.{◌≤◌, ℕ, [], ap, inl, inr, length-drop, slice_index}
+use Rattle.syslog_lines.proofs.Names.{◌≤◌, ℕ, [], ap, inl, inr, slice_index}
 use Rattle.std.{proofs.Common.length-append, proofs.Math.Seq.drop-append_seam, proofs.Math.Seq.take-append_seam}
-use Rattle.std.proofs.lemmas.List.{get_or-append-add, get_or-drop, drop_more, get_or-take, length-take, append_assoc}
+use Rattle.std.proofs.lemmas.List.{get_or-append-add, drop_more, get_or-take, length-take, append_assoc}
 use Rattle.std.proofs.lemmas.List.{take_all, take-append-le}
 use Rattle.std.proofs.lemmas.List.Elements.{All-from_get_or, All-cons, All-head, All-tail, All-drop, All-push, All-take}
 use Rattle.std.specs.List.{All}
@@ -40,14 +40,6 @@ IsFirstLine-whole bytes none = (
   All-from_get_or IsOther bytes 0 (λ k within is. none k (omega arith) within (eq-eqb _ 10 is)),
   inr (refl, refl),
 )
-
--- the bytes between two places, where none of those in between is a line feed
-pub NoFeed-between : (start end : ℕ) (bytes : List ℕ)
-    → ((k : ℕ) → start ≤ k → k < end → slice_index bytes k ≢ 10) → NoFeed (drop start (take end bytes))
-NoFeed-between start end bytes free = All-from_get_or IsOther (drop start (take end bytes)) 0 (λ k below is.
-    let within : start + k < end = omega (arith, length-drop start (take end bytes), length-take end bytes) in
-    free (start + k) (omega arith) within (sym (get_or-take end bytes (start + k) 0 within)
-    ∙ sym (get_or-drop start (take end bytes) k 0) ∙ is))
 
 pub all_front : {X : Type 0} (P : X → Type 0) (xs ys : List X) → All P (xs ++ ys) → All P xs
 all_front P xs ys all = subst (All P) (take-append_seam xs ys) (All-take P (length xs) (xs ++ ys) all)

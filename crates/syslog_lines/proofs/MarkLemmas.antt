@@ -15,13 +15,6 @@ module _ (bytes : List ℕ) (k : ℕ) (within : k < length bytes) (inside : k < 
   pub no_mark : HasMark bytes 0
   no_mark = (omega arith, λ more. inr (refl, unmarked more))
 
-pub whole_mark : (bytes : List ℕ) → 2 < length bytes → slice_index bytes 0 ≡ 0xEF → slice_index bytes 1 ≡ 0xBB
-    → slice_index bytes 2 ≡ 0xBF → HasMark bytes 3
-whole_mark [] long a b c = absurd (omega arith)
-whole_mark (x ∷ []) long a b c = absurd (omega arith)
-whole_mark (x ∷ y ∷ []) long a b c = absurd (omega arith)
-whole_mark (x ∷ y ∷ z ∷ rest) long a b c = (omega arith, λ more. rw (a, b, c) (inl refl))
-
 pub mark_front : (bytes : List ℕ) → length bytes ≤ 2 → (0 < length bytes → slice_index bytes 0 ≡ 0xEF)
     → (1 < length bytes → slice_index bytes 1 ≡ 0xBB) → IsMarkFront bytes
 mark_front [] short a b = inl refl

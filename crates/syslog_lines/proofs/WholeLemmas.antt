@@ -132,9 +132,6 @@ one_frame framing bytes message size is =
 
 -- ---- a message that is too long
 
-long_here : (frames : Frames) (front : List ℕ) → IsLongFront frames front → is_too_long frames front ≡ true
-long_here frames front long = rw append-nil at (long [])
-
 -- it ends in these bytes
 pub long_ended : (frames : Frames) (bytes : List ℕ) (end : ℕ) → NoByte (ending_of frames.framing) (take end bytes)
     × (bytes ≡ take end bytes ++ ending_of frames.framing ∷ drop (end + 1) bytes) → (input : List ℕ)

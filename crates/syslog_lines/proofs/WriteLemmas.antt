@@ -41,14 +41,6 @@ WroteSoFar-front old mid new bytes rest so_far unchanged = (
       (Appends-kept old mid new so_far.written so_far.appended unchanged),
 )
 
--- so it is always a front of all
-pub WroteSoFar-begun : (old new : Option (List ℕ)) (bytes rest : List ℕ) → WroteSoFar old new bytes rest
-    → (size : ℕ) × Appends old new (take size bytes)
-WroteSoFar-begun old new bytes rest so_far = (
-  length so_far.written,
-  rw (← so_far.whole, take_at so_far.written rest (length so_far.written) refl) so_far.appended,
-)
-
 -- ---- what was written to one writer, as written to another
 
 -- output that was collected, and is then written

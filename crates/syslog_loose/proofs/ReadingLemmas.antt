@@ -18,7 +18,7 @@ use Rattle.syslog_loose.proofs.Names.{protocol_of, IsRead3164, IsLineOf, Made, P
 use Rattle.std.proofs.lemmas.Int.{to_z-of_z}
 use Rattle.syslog_loose.specs.declared.variant.Variant.TheVariants.{RFC3164}
 use Rattle.syslog_loose.specs.declared.message.Message.{Message}
-use Rattle.syslog_loose.proofs.Rfc3164Lemmas.{other_read, shown_apart, not_read, date_has_month, shows_month_date}
+use Rattle.syslog_loose.proofs.Rfc3164Lemmas.{shown_apart, not_read, date_has_month, shows_month_date}
 use Rattle.syslog_loose.proofs.Rfc3164Lemmas.{shown_once, shown_parts, shows, stamped_det}
 use Rattle.syslog_text.specs.Pieces.View.{Reads}
 use Rattle.syslog_pieces.specs.Timestamp.{IsAnswer}
@@ -72,16 +72,6 @@ pub unasked : {post : IncompleteDate → ℤ → Type 0} {variant : Variant} {te
     → ((date : MonthDate) → AsksYear variant text date → ⊥) → ((year : Option ℤ) → Holds year)
     → InYear post variant text Holds
 unasked never h = record { answered = None; is_answered = never; holds = λ year agrees. h year }
-
--- what holds in the year that the closure answered, and in each year where it holds in none that is asked for
-pub in_answered_year : (post : IncompleteDate → ℤ → Type 0) (variant : Variant) (text : Text)
-    (Holds : Option ℤ → Type 0) (year : Option ℤ) → IsYearAnswered post variant text year
-    → (((date : MonthDate) → AsksYear variant text date → ⊥) → (other : Option ℤ) → Holds None → Holds other)
-    → Holds year → InYear post variant text Holds
-in_answered_year post variant text Holds None is any h =
-    record { answered = None; is_answered = is; holds = λ other agrees. any is other h }
-in_answered_year post variant text Holds (Some year) is any h =
-    record { answered = Some year; is_answered = is; holds = λ other agrees. subst Holds (sym (agrees is.0 is.1)) h }
 
 -- what holds in each year that agrees holds in that year
 pub in_year_map : {post : IncompleteDate → ℤ → Type 0} {variant : Variant} {text : Text} {Holds More : Option ℤ → Type

@@ -3,7 +3,7 @@ use Rattle.std.proofs.Common.{◌≡◌, inl, inr, ℕ, Bool, true, false, List,
 use Rattle.std.proofs.Common.{Bor, Option, subst, ◌∙◌, arith}
 use Rattle.std.proofs.lemmas.Bool.Decides.{nat_tests}
 use Rattle.std.specs.Char.{is_not_whitespace}
-use Rattle.std.specs.Prelude.{◌&&◌, ◌+◌, ◌/◌, chars, codes, drop, nat_le, nat_lt}
+use Rattle.std.specs.Prelude.{◌&&◌, ◌+◌, ◌/◌, chars, codes, drop, nat_le}
 use Rattle.syslog_text.specs.Pieces.Class.{Text, Class, Ends, Front, NoFront, Row, Values, after, exactly, join}
 use Rattle.syslog_text.specs.Bodies.Scan.{SplitsRun}
 use Rattle.syslog_text.specs.Pieces.View.{Reads, seen}
@@ -291,23 +291,6 @@ none_held bits e Level = rw e refl
 none_held bits e Topics = rw e refl
 none_held bits e Bracket = rw e refl
 none_held bits e Dated = rw e refl
-
--- no mark begins with a character past ASCII
-pub high_begins : (m : Mark) (c : ℕ) → (nat_lt c 128 ≡ false) → begins m c ≡ false
-high_begins Cef c h = grind (arith, nat_tests, h)
-high_begins Leef c h = grind (arith, nat_tests, h)
-high_begins Repeated c h = grind (arith, nat_tests, h)
-high_begins PaloAlto c h = grind (arith, nat_tests, h)
-high_begins Pair c h = grind (arith, nat_tests, h)
-high_begins Json c h = grind (arith, nat_tests, h)
-high_begins Idrac c h = grind (arith, nat_tests, h)
-high_begins Level c h = grind (arith, nat_tests, h)
-high_begins Topics c h = grind (arith, nat_tests, h)
-high_begins Bracket c h = grind (arith, nat_tests, h)
-high_begins Dated c h = grind (arith, nat_tests, h)
-
-pub all_empty : (bits : ℕ) {t : Text} → t ≡ [] → AreAll bits t
-all_empty bits e m h = no_mark_empty m e
 
 -- those that may begin with the first character
 pub all_begun : (bits : ℕ) {t more : Text} {c : ℕ} → t ≡ c ∷ more → ((m : Mark) → holds bits m ≡ begins m c)

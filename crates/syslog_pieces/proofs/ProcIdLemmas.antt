@@ -226,10 +226,6 @@ negative_prints (c ∷ q) m is (long, minus, low, high) =
     subst (λ (x : ℕ). signed_decimal m ≡ x ∷ q) (sym minus)
     (negative_written q m (subst (λ (x : ℕ). IsI32Text (x ∷ q) m) minus is) low)
 
-long_number : (t : Text) → IsNumeral 10 (without_leading_sign t) → 0 < length t
-long_number [] h = h.0
-long_number (c ∷ t) h = omega arith
-
 -- the text of a number, by its bytes
 pub number_bare : (bs : List ℕ) → IsUtf8 bs → (m : ℤ) → IsI32Text (chars bs) m
     → IsBareWord (chars bs) ↔ (LeadsBare bs ⊎ BeginsNegative bs)

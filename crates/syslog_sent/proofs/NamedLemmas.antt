@@ -193,7 +193,3 @@ after_row_det C d = host_det also some_run_det is_blank also d also tt
 
 pub hosted_det : (C : Class) → IsDeterministic C → IsDeterministic (hosted C)
 hosted_det C d = otherwise_det d (row_det (after_row C) (after_row_det C d))
-
-pub hosted_none : (C : Class) → IsDeterministic C → {t : Text} → NoFront C t → Fails (after_row C) t
-    → NoFront (hosted C) t
-hosted_none C d n h = no_otherwise n (no_row (after_row C) (after_row_det C d) h)

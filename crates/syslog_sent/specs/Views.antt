@@ -20,7 +20,3 @@ named_value n = record {
 -- the names and the message that the whole text has by this class, or that it has none
 abbrev pub Names : (C : Class) → (Named → C.Value) → Text → Option Named → Type 0
 Names C view text r = MatchOption r (NoFront C text) (λ n. Front C text [] (view n))
-
--- the same of a message without a program
-abbrev pub untagged_value : Named → NamedTexts
-untagged_value n = named_value n

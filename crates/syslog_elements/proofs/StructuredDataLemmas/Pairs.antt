@@ -35,7 +35,7 @@ use Rattle.syslog_elements.specs.declared.structured_data.rfc3164_list.DashRule.
 use Rattle.syslog_text.proofs.PieceLemmas.Class.{present_front}
 use Rattle.syslog_elements.specs.StructuredData.Pairs.{pair_id}
 use Rattle.syslog_elements.specs.declared.structured_data.recognised.ElementList.{ElementList}
-use Rattle.syslog_elements.proofs.StructuredDataLemmas.Elements.{element_prop, element_with, inside_det, items_are}
+use Rattle.syslog_elements.proofs.StructuredDataLemmas.Elements.{element_prop, element_with, items_are}
 use Rattle.syslog_elements.proofs.StructuredDataLemmas.Elements.{items_canonical}
 use Rattle.syslog_elements.proofs.StructuredDataLemmas.Elements.{no_items_here, quoted_det}
 use Rattle.syslog_elements.proofs.StructuredDataLemmas.Unparsed.{nothing_leaves, unparsed_same}
@@ -170,10 +170,6 @@ pairs_less {z = z} {v = v} m f = ∥∥₁_elim m.1.0
     (k, ap (λ y. y.0) (one_value-is m x.1) ∙ e ∙ ap (λ y. v ∷ y.0) (sym (one_value-is k rest))))
 
 -- ---- in one notation or the other
-
-pub inside_of_det : (n : Notation) → IsDeterministic (inside_of n)
-inside_of_det Equals = inside_det
-inside_of_det Colons = pairs_det
 
 pub none_next : (n : Notation) {t q : Text} (m : OneMeaning (inside_of n) t) → Front (exactly (93 ∷ [])) t q tt
     → (one_value m).0 ≡ []

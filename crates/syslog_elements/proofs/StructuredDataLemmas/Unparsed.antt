@@ -1,5 +1,4 @@
 -- What is left unparsed of a list: one text, which is nothing or goes from a bracket to a bracket.
-use mathlib.Core.HLevel.{Σ_prop_path}
 use Rattle.syslog_elements.proofs.Names.{shown}
 use Rattle.syslog_elements.proofs.Names.{Bor, props, ∥∥₁_elim, many_cons, many_here, append_more, append_cancel_right, strict}
 use Rattle.syslog_elements.proofs.Names.{◌≡◌, ◌≢◌, ◌⊎◌, ◌<◌, inl, inr, ℕ, List, [], ◌∷◌, ◌++◌, Option, Some, None, refl}
@@ -99,18 +98,6 @@ text_set = Prim.hlevel props
 pub unparsed_same : (list u w : Text) → IsUnparsed list u → IsUnparsed list w → u ≡ w
 unparsed_same list u w a b =
     ∥∥₁_elim a (text_set u w) (λ f. ∥∥₁_elim b (text_set u w) (λ g. follows_same list u w f g))
-
--- which is at the end of the list
-pub unparsed_ends : (list u : Text) → IsUnparsed list u → (front : Text) × (list ≡ front ++ u)
-unparsed_ends list u left = ∥∥₁_elim left ends_prop (λ f. ends f)
-  where
-    ends_prop : IsProp ((front : Text) × (list ≡ front ++ u))
-    ends_prop x y = Σ_prop_path (λ front. text_set list (front ++ u))
-        (append_cancel_right x.0 y.0 u (sym x.1 ∙ y.1))
-
-    ends : FollowsStrict list u → (front : Text) × (list ≡ front ++ u)
-    ends (inl (d, none)) = (list, sym (append-nil list) ∙ ap (λ (x : Text). list ++ x) (sym none))
-    ends (inr (n, (es, f))) = (f.piece, f.whole)
 
 pub leaving_det : IsDeterministic leaving
 leaving_det p q p' q' u w e ((es, f), left) ((fs, g), right) =
