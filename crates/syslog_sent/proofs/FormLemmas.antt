@@ -1,11 +1,11 @@
 -- What the readers of forms return.
-use Rattle.std.proofs.Common.{◌≡◌, List, [], ◌∷◌, Option, sym, ap, ◌∙◌}
+use Rattle.std.proofs.Common.{◌≡◌, List, [], ◌∷◌, Option, None, Some, sym, ap, ◌∙◌}
 use Rattle.syslog_text.specs.Pieces.Class.{Text, Class, Values, Front, Row, NoDivision}
 use Rattle.syslog_text.proofs.PieceLemmas.Class.{AllDeterministic, front_division, match_map, unique_division}
 use Rattle.syslog_sent.specs.Forms.{Finds}
 use Rattle.syslog_sent.specs.Sent.{Form, IsOnlySent, SentValue, sent_value}
 use Rattle.syslog_sent.specs.declared.sent.Sent.{Sent}
-use Rattle.syslog_sent.proofs.DialectLemmas.{later}
+use Rattle.syslog_sent.proofs.DialectLemmas.{here, later}
 use Rattle.syslog_sent.specs.declared.dialect.Dialect.{Dialect}
 use Rattle.std.proofs.Common.{◌++◌}
 use Rattle.syslog_sent.specs.Forms.{IsOfNone}
@@ -33,3 +33,27 @@ pub found_after : (Fs Gs : List Form) (text : Text) (r : Option (Dialect × Sent
     → Finds Gs text r → Finds (Fs ++ Gs) text r
 found_after [] Gs text r n h = h
 found_after (F ∷ Fs) Gs text r n h = found_later F (Fs ++ Gs) text r n.0 (found_after Fs Gs text r n.1 h)
+
+-- ---- forms that are tried one after the other
+
+-- what is found in a list of them; a record, so that the goal tells which forms these are
+pub record Found (Fs : List Form) (text : Text) (r : Option (Dialect × Sent)) : Type 0 where
+  pub finds : Finds Fs text r
+
+-- the text is of the first form
+pub first : {F : Form} {Fs : List Form} {text : Text} (sent : Sent) → IsOnlySent F text (sent_value sent)
+    → Found (F ∷ Fs) text (Some (F.dialect, sent))
+first {F} {Fs} {text} sent is = record { finds = here F Fs text (sent_value sent) is }
+
+-- or it is not, and the others are tried
+infixr 20 ◌before◌
+pub ◌before◌ : {F : Form} {Fs : List Form} {text : Text} {r : Option (Dialect × Sent)} → NoDivision F.row text
+    → Found Fs text r → Found (F ∷ Fs) text r
+◌before◌ {F} {Fs} {text} {r} none h = record { finds = found_later F Fs text r none h.finds }
+
+pub no_form : {text : Text} → Found [] text None
+no_form = record { finds = tt }
+
+-- what the readers of the forms return, then
+pub found : (Fs : List Form) {text : Text} {r : Option (Dialect × Sent)} → Found Fs text r → Finds Fs text r
+found Fs h = h.finds

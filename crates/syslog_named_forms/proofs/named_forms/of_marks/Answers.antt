@@ -18,13 +18,13 @@ returns-in-Some c after are = c.loop-mark.invariant after are (Some (c.dialect.r
       c.dialect.ensures,
     )
     (tail_here (marked_tail _) (tail_forms (marked_tails (drop (c.loop-mark.mark-index + 1) c.args.marks.now)))
-    (marked_det _) front (c.in-Some.ensures after are) refl))
+    front (marked_det _) (c.in-Some.ensures after are) refl))
 
 pub loop-mark-preserved : goal.loop-mark-preserved
 loop-mark-preserved c after are r h = c.loop-mark.invariant after are r
     (λ d text front. rw (drop_more c.args.marks.now c.loop-mark.mark-index mark.Cef c.loop-mark-test.true)
     (named_later (marked_tail _) (tail_forms (marked_tails (drop (c.loop-mark.mark-index + 1) c.args.marks.now)))
-    (marked_det _) front r (c.in_default.ensures after are) (h d text front)))
+    front r (c.in_default.ensures after are) (h d text front)))
 
 pub returns : goal.returns
 returns c after are = c.loop-mark.invariant after are None
