@@ -8,10 +8,11 @@ use proofs.Names.{escape}
 use proofs.Names.{◌≡◌, ℕ, zero, suc, ◌+◌, ◌<◌, ◌≤◌, not, ◌∷◌, map, refl, sym, ◌∙◌, cond, inl, inr, ◌||◌, ◌==◌, Bor}
 use proofs.Names.{Json}
 use proofs.Names.{Text, Option, Some, arith}
-use Rattle.std.proofs.Common.{◌≢◌, nat_cmp, slice_set, drop_of_length-le}
-use Rattle.std.proofs.lemmas.Bool.{cases_eq, ne_eqb, true≢false}
+use Rattle.std.proofs.Common.{◌≢◌, ◌-◌, nat_cmp, nat_lt, replicate, slice_set, drop_of_length-le}
+use Rattle.std.proofs.lemmas.Bool.{cases_eq, ne_eqb, true≢false, Decides.nat_tests}
 use Rattle.std.proofs.lemmas.List.{drop-drop, drop_all, get_or-drop, get_or-map, get_or-set_other, get_or-set_same}
-use Rattle.std.proofs.lemmas.List.{get_or_default, length-drop, length-map, length-set, length-take, take_all}
+use Rattle.std.proofs.lemmas.List.{get_or_default, length-drop, length-map, length-replicate, length-set}
+use Rattle.std.proofs.lemmas.List.{length-take, take_all}
 use Rattle.std.proofs.lemmas.List.{take_more}
 use Rattle.std.proofs.lemmas.{List.Elements.filter-append, Map.Text.btree_map_updates_str, Slice.Eq.bytes_eq-Decides}
 use Rattle.std.proofs.lemmas.Simd.{map-map}
@@ -20,7 +21,7 @@ use Rattle.std.specs.{Cmp.Lexicographic.slice_cmp, Option.unwrap_or}
 use Rattle.syslog_text.specs.Pieces.View.{shown}
 use Rattle.syslog_elements.specs.StructuredData.Element.{param_value}
 use Rattle.syslog_object.specs.Parts.{later_text, member_text, open_text}
-use Rattle.syslog_object.specs.Places.{ArePlaces, before_member, begun, place}
+use Rattle.syslog_object.specs.Places.{AreNext, ArePlaces, IsMarked, before_member, begun, place}
 
 -- a key and its value
 abbrev pub Pair : Type 0
@@ -247,25 +248,101 @@ next_values ps i n p within is next =
 
 -- ---- the places are found from the last member to the first
 
-pub no_places : (ps : List Pair) (at : ℕ) (firsts : BTreeMap (Bor (List ℕ)) ℕ) (nexts : List ℕ) → at ≡ length ps
-    → firsts.entries ≡ [] → length nexts ≡ length ps → ArePlaces ps at firsts nexts
-no_places ps at firsts nexts end empty sized = record {
+-- The map has the first place of each key from `at` on. The lists are those of `ArePlaces` for the pairs from there on.
+pub record AreLater (ps : List Pair) (at : ℕ) (firsts : BTreeMap (Bor (List ℕ)) ℕ) (nexts : List ℕ)
+    (agains : List Bool) : Type 0 where
+  pub within : at ≤ length ps
+  pub first : (key : List ℕ)
+      → unwrap_or (get_by (λ k. slice_cmp nat_cmp key k.now) firsts) (length ps) ≡ at + place key (drop at ps)
+  pub next : AreNext ps at nexts
+  pub sized : length agains ≡ length ps
+  pub unset : (i : ℕ) → i ≤ at → get_or agains i false ≡ false
+  pub again : (i : ℕ) (p : Pair) → at ≤ i → i < length ps → p ≡ get_or ps i p
+      → get_or agains i false ≡ nat_lt (at + place p.0 (drop at ps)) i
+
+all_unset : (n i : ℕ) → get_or (replicate n false) i false ≡ false
+all_unset zero i = refl
+all_unset (suc n) zero = refl
+all_unset (suc n) (suc i) = all_unset n i
+
+pub no_places : (ps : List Pair) (at : ℕ) (firsts : BTreeMap (Bor (List ℕ)) ℕ) (nexts : List ℕ) (agains : List Bool)
+    → at ≡ length ps → firsts.entries ≡ [] → length nexts ≡ length ps → agains ≡ replicate (length ps) false
+    → AreLater ps at firsts nexts agains
+no_places ps at firsts nexts agains end empty sized none = record {
   within = omega arith;
   first = λ key. let none : place key (drop at ps) ≡ 0 = ap (place key) (drop_all at ps (omega arith)) in
       rw empty (omega (arith, none));
   next = record { sized = sized; each = λ i p low high is. absurd (omega arith) };
+  sized = ap length none ∙ length-replicate (length ps) false;
+  unset = λ i low. rw none (all_unset (length ps) i);
+  again = λ i p low high is. absurd (omega arith);
 }
 
+-- a key that is at a place has its first place there or before
+place_by : (key : List ℕ) (ps : List Pair) (i : ℕ) (q : Pair) → i < length ps → q ≡ get_or ps i q → q.0 ≡ key
+    → place key ps ≤ i
+place_by key [] i q within is same = absurd (omega arith)
+place_by key (p ∷ ps) zero q within is same =
+    let e : bytes_eq key p.0 ≡ true = (bytes_eq-Decides key p.0).1 (sym same ∙ ap (λ (x : Pair). x.0) is) in
+    rw e (omega arith)
+place_by key (p ∷ ps) (suc i) q within is same = elim (cases_Bool (bytes_eq key p.0)) [
+  | inl e ↦ rw e (omega arith)
+  | inr e ↦ rw e (omega (arith, place_by key ps i q (omega arith) is same))
+]
+
+-- the flags from `at` on, where the next place of the key there was set
+again_at : (ps : List Pair) (at : ℕ) (p : Pair) (agains now : List Bool) (next : ℕ) → at < length ps
+    → p ≡ get_or ps at p → next ≡ at + 1 + place p.0 (drop (at + 1) ps)
+    → ((i : ℕ) (q : Pair) → at + 1 ≤ i → i < length ps → q ≡ get_or ps i q
+    → get_or agains i false ≡ nat_lt (at + 1 + place q.0 (drop (at + 1) ps)) i)
+    → get_or now at false ≡ false → (next < length ps → get_or now next false ≡ true)
+    → ((i : ℕ) → i ≢ next → get_or now i false ≡ get_or agains i false)
+    → (i : ℕ) (q : Pair) → at ≤ i → i < length ps → q ≡ get_or ps i q
+    → get_or now i false ≡ nat_lt (at + place q.0 (drop at ps)) i
+again_at ps at p agains now next within is found held unset set kept i q low high at_i =
+    let rest = drop (at + 1) ps in
+    let whole : place q.0 (drop at ps) ≡ place q.0 (p ∷ rest) = ap (place q.0) (at_place ps at p within is) in
+    elim (cases_eq i at) [
+      | inl e ↦
+          let one : q ≡ p = at_i ∙ ap (λ (j : ℕ). get_or ps j q) e ∙ get_or_default ps at q p within ∙ sym is in
+          let same : bytes_eq q.0 p.0 ≡ true = (bytes_eq-Decides q.0 p.0).1 (ap (λ (x : Pair). x.0) one) in
+          rw (e, whole, same, unset) (grind (arith, nat_tests))
+      | inr n ↦ elim (cases_Bool (bytes_eq q.0 p.0)) [
+        | inl same ↦ rw (whole, same) (elim (cases_eq i next) [
+          | inl e ↦
+              let told = set (omega (arith, e, high)) in
+              rw (e, told) (grind (arith, nat_tests, found))
+          | inr other ↦
+              let key : q.0 ≡ p.0 = (bytes_eq-Decides q.0 p.0).0 same in
+              let apart : at + 1 + (i - (at + 1)) ≡ i = omega (arith, n, low) in
+              let here : q ≡ get_or rest (i - (at + 1)) q =
+              at_i ∙ ap (λ (j : ℕ). get_or ps j q) (sym apart) ∙ sym (get_or-drop (at + 1) ps (i - (at + 1)) q) in
+              let by = place_by p.0 rest (i - (at + 1)) q (omega (arith, n, low, high, length-drop (at + 1) ps)) here key in
+              let told = kept i other ∙ held i q (omega (arith, n, low)) high at_i in
+              rw (told, key) (grind (arith, nat_tests, found, by, other, n, low))
+        ])
+        | inr e ↦
+            let apart : i ≢ next = λ same. let key = next_key ps at next p q found (omega (arith, same, high))
+            (at_i ∙ ap (λ (j : ℕ). get_or ps j q) same) in
+            true≢false (sym ((bytes_eq-Decides q.0 p.0).1 key) ∙ e) in
+            let told = kept i apart ∙ held i q (omega (arith, n, low)) high at_i in
+            rw (whole, e, told) (grind (arith, nat_tests))
+      ]
+    ]
+
 pub one_place : (ps : List Pair) (at : ℕ) (p : Pair) (k : Bor (List ℕ)) (firsts now : BTreeMap (Bor (List ℕ)) ℕ)
-    (nexts : List ℕ) (old : Option ℕ) (next : ℕ) → ArePlaces ps (at + 1) firsts nexts → p ≡ get_or ps at p → k.now ≡ p.0
-    → old ≡ get_by (λ y. slice_cmp nat_cmp k.now y.now) firsts
+    (nexts : List ℕ) (agains flags : List Bool) (old : Option ℕ) (next : ℕ) → AreLater ps (at + 1) firsts nexts agains
+    → p ≡ get_or ps at p → k.now ≡ p.0 → old ≡ get_by (λ y. slice_cmp nat_cmp k.now y.now) firsts
     → UpdatesBy (λ x y. slice_cmp nat_cmp x.now y.now) (λ y. slice_cmp nat_cmp k.now y.now) firsts now (Some at)
-    → next ≡ unwrap_or old (length ps) → ArePlaces ps at now (slice_set nexts at next)
-one_place ps at p k firsts now nexts old next places is same was updates set =
+    → next ≡ unwrap_or old (length ps) → IsMarked next agains flags
+    → AreLater ps at now (slice_set nexts at next) flags
+one_place ps at p k firsts now nexts agains flags old next places is same was updates set_to marked =
     let within : at + 1 ≤ length ps = places.within in
     let found : next ≡ at + 1 + place p.0 (drop (at + 1) ps) =
-    set ∙ ap (λ o. unwrap_or o (length ps)) was ∙ places.first k.now
+    set_to ∙ ap (λ o. unwrap_or o (length ps)) was ∙ places.first k.now
     ∙ ap (λ key. at + 1 + place key (drop (at + 1) ps)) same in
+    let unset : (i : ℕ) → i ≤ at → get_or flags i false ≡ false =
+    λ i low. marked.kept i (λ e. omega (arith, found, e, low)) ∙ places.unset i (omega (arith, low)) in
     record {
       within = omega arith;
       first = λ key. let held = btree_map_updates_str k.now firsts now (Some at) updates key in
@@ -286,19 +363,30 @@ one_place ps at p k firsts now nexts old next places is same was updates set =
           | inr n ↦ get_or-set_other nexts at i next 0 n ∙ places.next.each i q (omega (arith, n)) high at_i
         ];
       };
+      sized = marked.sized ∙ places.sized;
+      unset = unset;
+      again = again_at ps at p agains flags next (omega arith) is found places.again (unset at (omega arith))
+          (λ low. marked.set (omega (arith, places.sized))) marked.kept;
     }
 
--- ---- the values of a key, and then the next key
+-- where all were found
+pub all_places : (ps : List Pair) (firsts : BTreeMap (Bor (List ℕ)) ℕ) (nexts : List ℕ) (agains : List Bool)
+    → AreLater ps 0 firsts nexts agains → ArePlaces ps nexts agains
+all_places ps firsts nexts agains places = record {
+  next = places.next;
+  sized = places.sized;
+  again = λ i p high is. let first : 0 + place p.0 ps ≡ place p.0 ps = omega arith in
+      places.again i p (omega arith) high is ∙ ap (λ (n : ℕ). nat_lt n i) first;
+}
 
-pub place_found : (ps : List Pair) (firsts : BTreeMap (Bor (List ℕ)) ℕ) (nexts key : List ℕ)
-    (old : Option ℕ) (end first : ℕ)
-    → ArePlaces ps 0 firsts nexts → old ≡ get_by (λ y. slice_cmp nat_cmp key y.now) firsts → end ≡ length ps
-    → first ≡ unwrap_or old end → first ≡ place key ps
-place_found ps firsts nexts key old end first places was all is =
-    let found = is ∙ ap (λ o. unwrap_or o end) was
-    ∙ ap (λ (n : ℕ). unwrap_or (get_by (λ y. slice_cmp nat_cmp key y.now) firsts) n) all
-    ∙ places.first key in
-    omega arith
+-- the flag of a place says whether its key has one before it
+pub flagged : (ps : List Pair) (nexts : List ℕ) (agains : List Bool) (i : ℕ) (p : Pair) (flag : Bool)
+    → ArePlaces ps nexts agains → i < length ps → p ≡ get_or ps i p → flag ≡ get_or agains i flag
+    → flag ≡ nat_lt (place p.0 ps) i
+flagged ps nexts agains i p flag places within is read =
+    read ∙ get_or_default agains i flag false (omega (arith, places.sized)) ∙ places.again i p within is
+
+-- ---- the values of a key, and then the next key
 
 keys_taken : (ps : List Pair) (i : ℕ) (p : Pair) (present : Bool) → i < length ps → p ≡ get_or ps i p
     → is_present p.0 (take i ps) ≡ present

@@ -6,7 +6,7 @@ ghost use Rattle.json.specs.Json.{Json};
 ghost use Rattle.json.specs.Print.{quoted};
 ghost use Rattle.syslog_object.specs.Gathered.{gathered, one_or_all, values_at};
 ghost use Rattle.syslog_object.specs.Parts.{AreDistinct, IsNewKey, compact_text, object_text, open_text};
-ghost use Rattle.syslog_object.specs.Places.{AreNext, ArePlaces, before_member, begun};
+ghost use Rattle.syslog_object.specs.Places.{AreNext, ArePlaces, IsMarked, before_member, begun};
 
 use crate::output::Output;
 use std::alloc::{AllocError, Global};
@@ -103,28 +103,40 @@ pub(crate) fn push_each<'a, M: Member<'a>>(
 
 /// The places of keys among members.
 #[derive(Drop)]
-struct Places<'a> {
-    // the first place of each key
-    first: BTreeMap<&'a str, usize>,
+struct Places {
     // for each place the next one of its key, or the end
     next: Vec<usize>,
+    // for each place whether its key has a place before it
+    again: Vec<bool>,
+}
+
+// Sets the flag of a place; of the end, which has none, it does nothing.
+fn mark(flags: &mut Vec<bool>, place: usize)
+    ensures { IsMarked place flags.old.items flags.new.items }
+{
+    if place < flags.len() {
+        flags[place] = true;
+    }
 }
 
 // Finds the places from the last member to the first, in time n log n.
-fn find_places<'a, M: Member<'a>>(alloc: Global, members: &[M]) -> Result<Places<'a>, AllocError>
-    ensures { IfOk result (λ places. ArePlaces (map (λ m. (M.key_of m, M.json m)) members.now) 0
-        places.first places.next.items) }
+fn find_places<'a, M: Member<'a>>(alloc: Global, members: &[M]) -> Result<Places, AllocError>
+    ensures { IfOk result (λ places. ArePlaces (map (λ m. (M.key_of m, M.json m)) members.now)
+        places.next.items places.again.items) }
 {
     let end = members.len();
+    // the first place of each key from `at` on
     let mut first = BTreeMap::new(alloc);
     let mut next = vec![in alloc; end; end]?;
+    let mut again = vec![in alloc; false; end]?;
     let mut at = end;
     'members: while at > 0 {
         at -= 1;
-        let later = first.insert(members[at].key(), at)?;
-        next[at] = later.unwrap_or(end);
+        let later = first.insert(members[at].key(), at)?.unwrap_or(end);
+        next[at] = later;
+        mark(&mut again, later);
     }
-    Ok(Places { first, next })
+    Ok(Places { next, again })
 }
 
 // Appends the values of a key from its first place on: a single one as it is, and several in an array.
@@ -160,22 +172,21 @@ fn push_group<'a, M: Member<'a>>(
     alloc: Global,
     out: &mut Output,
     members: &[M],
-    places: &Places<'a>,
+    places: &Places,
     at: usize,
 ) -> Result<(), AllocError>
     requires within { at < length members.now }
-    requires places { ArePlaces (map (λ m. (M.key_of m, M.json m)) members.now) 0
-        places.now.first places.now.next.items }
+    requires places { ArePlaces (map (λ m. (M.key_of m, M.json m)) members.now)
+        places.now.next.items places.now.again.items }
     ensures { OnOk result ((before : List ℕ)
         → out.old ≡ before ++ open_text (begun (map (λ m. (M.key_of m, M.json m)) members.now) at)
         → out.new ≡ before ++ open_text (begun (map (λ m. (M.key_of m, M.json m)) members.now) (at + 1))) }
 {
-    let key = members[at].key();
-    let first = places.first.get(key).copied().unwrap_or(members.len());
-    if first < at {
+    let member = members[at];
+    if places.again[at] {
         return Ok(());
     }
-    push_key(out, at, key)?;
+    push_key(out, at, member.key())?;
     push_values(alloc, out, members, places.next.as_slice(), at)
 }
 

@@ -1,19 +1,18 @@
 use Rattle.syslog_object.proofs.Names.{◌++◌, ◌∙◌, ap, arith, on_ok_weaker, refl, sym}
-use Rattle.syslog_object.specs.{Parts.open_text, Places.place}
-use Rattle.syslog_object.proofs.GatherLemmas.{group_added, group_came, pair_at, pairs_long, pairs_of, place_found}
+use Rattle.std.proofs.lemmas.Bool.Decides.{nat_tests}
+use Rattle.syslog_object.specs.Parts.{open_text}
+use Rattle.syslog_object.proofs.GatherLemmas.{flagged, group_added, group_came, pair_at, pairs_long, pairs_of}
 use Rattle.syslog_object.proofs.gather.push_group.Goals as goal
 
-pub returns-then-first-at : goal.returns-then-first-at
-returns-then-first-at g c =
+pub returns-then-index : goal.returns-then-index
+returns-then-index g c =
     let members = c.args.members.now in
     let pairs = pairs_of g.M.Member.key_of g.M.Member.json members in
     let long = pairs_long g.M.Member.key_of g.M.Member.json members in
     let here = pair_at g.M.Member.key_of g.M.Member.json members c.args.at _ c.requires.within c.index-members-at.is in
-    let found = place_found pairs _ _ c.key-key.result.now _ _ _ c.requires.places (c.copied.ensures ∙
-    c.get.ensures.value)
-    (sym long) c.unwrap_or-first.ensures ∙ ap (λ k. place k pairs) c.key-key.ensures in
+    let flag = flagged pairs _ _ c.args.at _ _ c.requires.places (omega (arith, long)) here c.index.ensures in
     λ before held. held ∙ ap (λ bs. before ++ open_text bs)
-    (sym (group_came pairs c.args.at _ (omega (arith, long)) here (omega (arith, found, c.if-first-at.true))))
+    (sym (group_came pairs c.args.at _ (omega (arith, long)) here (grind (arith, nat_tests, flag, c.if-index.true))))
 
 pub push_values-requires : goal.push_values-requires
 push_values-requires g c =
@@ -25,10 +24,8 @@ returns g c =
     let pairs = pairs_of g.M.Member.key_of g.M.Member.json members in
     let long = pairs_long g.M.Member.key_of g.M.Member.json members in
     let here = pair_at g.M.Member.key_of g.M.Member.json members c.args.at _ c.requires.within c.index-members-at.is in
-    let found = place_found pairs _ _ c.key-key.result.now _ _ _ c.requires.places (c.copied.ensures ∙
-    c.get.ensures.value)
-    (sym long) c.unwrap_or-first.ensures ∙ ap (λ k. place k pairs) c.key-key.ensures in
+    let flag = flagged pairs _ _ c.args.at _ _ c.requires.places (omega (arith, long)) here c.index.ensures in
     on_ok_weaker c.push_values.result
     (λ e before held. group_added pairs c.args.at _ before c.args.out.now _ _ _ (omega (arith, long)) here
-    c.key-key.ensures
-    (omega (arith, found, c.if-first-at.false)) held c.in_ok-push_key.ensures (e _ here)) c.push_values.ensures
+    c.key.ensures (grind (arith, nat_tests, flag, c.if-index.false)) held c.in_ok-push_key.ensures (e _ here))
+    c.push_values.ensures
