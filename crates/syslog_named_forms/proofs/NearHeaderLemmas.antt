@@ -1,18 +1,19 @@
 -- Headers nearly of RFC 5424: one front of each class.
-use Rattle.syslog_text.specs.Text.{dash, is_blank}
-use Rattle.syslog_text.specs.Pieces.Class.{IsDeterministic, exactly}
-use Rattle.syslog_text.proofs.PieceLemmas.Class.{AllDeterministic, ◌also◌, all_joined, exactly_det, rest_det, run_det}
-use Rattle.syslog_text.proofs.PieceLemmas.Class.{some_run_det}
+use Rattle.std.proofs.Common.{◌≡◌, inl, inr, List, [], ◌∷◌, ◌++◌}
+use Rattle.syslog_text.specs.Text.{dash, is_blank, word}
+use Rattle.syslog_text.specs.Pieces.Class.{Class, Front, IsDeterministic, NoDivision, NoFront, Row, Text, Values}
+use Rattle.syslog_text.specs.Pieces.Class.{exactly, some_run}
+use Rattle.syslog_text.proofs.PieceLemmas.Class.{AllDeterministic, Fails, ◌also◌, all_joined, both_values}
+use Rattle.syslog_text.proofs.PieceLemmas.Class.{exactly_det, no_row, no_row_division, rest_det, rows_join}
+use Rattle.syslog_text.proofs.PieceLemmas.Class.{rows_none_here, rows_none_later, run_det, some_run_det}
 use Rattle.syslog_text.proofs.TextLemmas.Words.{host_det, number_det, word_det}
 use Rattle.syslog_sent.proofs.DateLemmas.{any_date_det}
-use Rattle.syslog_sent.proofs.NamedLemmas.{beginning_det, program_det}
+use Rattle.syslog_sent.proofs.FormLemmas.{says_once}
+use Rattle.syslog_sent.proofs.NamedLemmas.{program_det}
 use Rattle.syslog_sent.proofs.ZoneLemmas.{ended_det}
-use Rattle.syslog_named_forms.specs.NearHeader.{bare_more, bare_row, head_row, nil, nil_more, nil_row, tag_more, tag_row}
-use Rattle.syslog_named_forms.specs.NearHeader.{heroku_more, heroku_row, paired_more, paired_row, vendor_more}
-use Rattle.syslog_named_forms.specs.NearHeader.{vendor_row}
-use Rattle.syslog_elements.specs.StructuredData.Pairs.{paired}
-use Rattle.syslog_named_forms.specs.Untagged.{mark_class}
-use Rattle.syslog_named_forms.specs.declared.untagged.Mark.{Mark}
+use Rattle.syslog_sent.specs.Sent.{IsOnlySent, SentValue}
+use Rattle.syslog_sent.specs.declared.dialect.Dialect.{Dialect}
+use Rattle.syslog_named_forms.specs.NearHeader.{head_row, heroku_last, ids_row, nil, nil_last, source_row, tag_more}
 
 pub head_det : AllDeterministic head_row
 head_det = number_det 999 also some_run_det is_blank also any_date_det also some_run_det is_blank also host_det
@@ -21,43 +22,46 @@ head_det = number_det 999 also some_run_det is_blank also any_date_det also some
 nil_class_det : IsDeterministic nil
 nil_class_det = ended_det (exactly dash) (exactly_det _)
 
-pub nil_more_det : AllDeterministic nil_more
-nil_more_det = let gap = some_run_det is_blank in
-    word_det also gap also word_det also gap also word_det also gap also nil_class_det also run_det is_blank also rest_det
-    also tt
+pub source_det : AllDeterministic source_row
+source_det = let gap = some_run_det is_blank in word_det also gap also word_det also gap also tt
+
+pub ids_det : AllDeterministic ids_row
+ids_det = all_joined source_row (word ∷ some_run is_blank ∷ []) source_det (word_det also some_run_det is_blank also tt)
+
+pub nil_last_det : AllDeterministic nil_last
+nil_last_det = nil_class_det also run_det is_blank also rest_det also tt
+
+pub heroku_last_det : AllDeterministic heroku_last
+heroku_last_det = exactly_det _ also some_run_det is_blank also rest_det also tt
 
 pub tag_more_det : AllDeterministic tag_more
 tag_more_det = program_det also run_det is_blank also rest_det also tt
 
-pub bare_more_det : AllDeterministic bare_more
-bare_more_det = let gap = some_run_det is_blank in
-    word_det also gap also word_det also gap also word_det also gap also rest_det also tt
+-- ---- what follows the front of the header
 
-pub paired_more_det : AllDeterministic paired_more
-paired_more_det = let gap = some_run_det is_blank in
-    word_det also gap also word_det also gap also word_det also gap also beginning_det paired also tt
+-- the line is not of the form
+pub unsaid : (more : List Class) {text rest : Text} {vs : Values head_row} → Front (Row head_row) text rest vs
+    → NoFront (Row more) rest → NoDivision (head_row ++ more) text
+unsaid more f n = no_row_division (head_row ++ more) (rows_none_later head_row more head_det f n)
 
-pub heroku_more_det : AllDeterministic heroku_more
-heroku_more_det = let gap = some_run_det is_blank in
-    word_det also gap also word_det also gap also exactly_det _ also gap also rest_det also tt
+-- or it says this
+pub said_of : (dialect : Dialect) (more : List Class) (says : Values (head_row ++ more) → SentValue)
+    → AllDeterministic more → {text rest : Text} {vs : Values head_row} {ws : Values more} {s : SentValue}
+    → Front (Row head_row) text rest vs → Front (Row more) rest [] ws → s ≡ says (both_values head_row more vs ws)
+    → IsOnlySent (record { dialect = dialect; row = head_row ++ more; Means = λ vs s. s ≡ says vs }) text s
+said_of dialect more says d f g e =
+    says_once dialect (head_row ++ more) says (all_joined head_row more head_det d) (rows_join head_row more f g) e
 
-pub vendor_more_det : (m : Mark) → AllDeterministic (vendor_more m)
-vendor_more_det m = beginning_det (mark_class m) also tt
+-- names, and what may follow them
+module _ (Bs Cs : List Class) (b : AllDeterministic Bs) (c : AllDeterministic Cs) {text rest : Text}
+    {vs : Values head_row} (f : Front (Row head_row) text rest vs) where
+  pub unnamed : Fails (Row Bs ∷ Cs) rest → NoDivision (head_row ++ (Bs ++ Cs)) text
+  unnamed (inl n) = unsaid (Bs ++ Cs) f (rows_none_here Bs Cs n)
+  unnamed (inr (u, v, g, h)) = unsaid (Bs ++ Cs) f (rows_none_later Bs Cs b g (no_row Cs c h))
 
-pub nil_det : AllDeterministic nil_row
-nil_det = all_joined head_row nil_more head_det nil_more_det
-
-pub tag_det : AllDeterministic tag_row
-tag_det = all_joined head_row tag_more head_det tag_more_det
-
-pub bare_det : AllDeterministic bare_row
-bare_det = all_joined head_row bare_more head_det bare_more_det
-
-pub paired_det : AllDeterministic paired_row
-paired_det = all_joined head_row paired_more head_det paired_more_det
-
-pub heroku_det : AllDeterministic heroku_row
-heroku_det = all_joined head_row heroku_more head_det heroku_more_det
-
-pub vendor_det : (m : Mark) → AllDeterministic (vendor_row m)
-vendor_det m = all_joined head_row (vendor_more m) head_det (vendor_more_det m)
+  pub named : (dialect : Dialect) (says : Values (head_row ++ (Bs ++ Cs)) → SentValue) {u : Text} {bs : Values Bs}
+      {cs : Values Cs} {s : SentValue} → Front (Row Bs) rest u bs → Front (Row Cs) u [] cs
+      → s ≡ says (both_values head_row (Bs ++ Cs) vs (both_values Bs Cs bs cs))
+      → IsOnlySent (record { dialect = dialect; row = head_row ++ (Bs ++ Cs); Means = λ vs s. s ≡ says vs }) text s
+  named dialect says g p e =
+      said_of dialect (Bs ++ Cs) says (all_joined Bs Cs b c) f (rows_join Bs Cs g p) e

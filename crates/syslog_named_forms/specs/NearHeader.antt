@@ -18,6 +18,13 @@ abbrev pub head_row : List Class
 head_row =
     number 999 ∷ some_run is_blank ∷ any_date ∷ some_run is_blank ∷ host ∷ some_run is_blank ∷ []
 
+-- the program and the process after the host, and the message id, with blanks after each
+abbrev pub source_row : List Class
+source_row = word ∷ some_run is_blank ∷ word ∷ some_run is_blank ∷ []
+
+abbrev pub ids_row : List Class
+ids_row = source_row ++ word ∷ some_run is_blank ∷ []
+
 abbrev pub said : ℕ → SentDate → Option Text → Option Text → Option Text → Option Text → Text → SentValue
 said version date hostname appname process msgid msg = record {
   version = Some version;
@@ -46,7 +53,7 @@ vendor_form m = record { dialect = dialect_of m; row = vendor_row m; Means = λ 
 -- ---- Check Point's element, which begins the message: `1 2026-03-02T06:33:04Z h CheckPoint 12 - [src:"10.0.0.3"]`
 
 abbrev pub paired_more : List Class
-paired_more = word ∷ some_run is_blank ∷ word ∷ some_run is_blank ∷ word ∷ some_run is_blank ∷ beginning paired ∷ []
+paired_more = ids_row ++ beginning paired ∷ []
 
 abbrev pub paired_row : List Class
 paired_row = head_row ++ paired_more
@@ -63,8 +70,11 @@ paired_form = record { dialect = CheckPoint; row = paired_row; Means = λ values
 abbrev pub nil : Class
 nil = ended (exactly dash)
 
+abbrev pub nil_last : List Class
+nil_last = nil ∷ run is_blank ∷ rest ∷ []
+
 abbrev pub nil_more : List Class
-nil_more = word ∷ some_run is_blank ∷ word ∷ some_run is_blank ∷ word ∷ some_run is_blank ∷ nil ∷ run is_blank ∷ rest ∷ []
+nil_more = ids_row ++ nil_last
 
 abbrev pub nil_row : List Class
 nil_row = head_row ++ nil_more
@@ -94,8 +104,11 @@ tag_form = record { dialect = NearlyRfc5424; row = tag_row; Means = λ values s.
 -- ---- no structured data, not even `-`: `1 2026-03-02T06:33:04+00:00 h app web.3 - text`
 
 -- Heroku (Logplex) and Cloud Foundry write so
+abbrev pub heroku_last : List Class
+heroku_last = exactly dash ∷ some_run is_blank ∷ rest ∷ []
+
 abbrev pub heroku_more : List Class
-heroku_more = word ∷ some_run is_blank ∷ word ∷ some_run is_blank ∷ exactly dash ∷ some_run is_blank ∷ rest ∷ []
+heroku_more = source_row ++ heroku_last
 
 abbrev pub heroku_row : List Class
 heroku_row = head_row ++ heroku_more
@@ -110,7 +123,7 @@ heroku_form = record { dialect = Heroku; row = heroku_row; Means = λ values s. 
 -- ---- the message at once, elements included: `1 2026-03-02 06:33:04 h app 12 ID [a b="c"] text`
 
 abbrev pub bare_more : List Class
-bare_more = word ∷ some_run is_blank ∷ word ∷ some_run is_blank ∷ word ∷ some_run is_blank ∷ rest ∷ []
+bare_more = ids_row ++ rest ∷ []
 
 abbrev pub bare_row : List Class
 bare_row = head_row ++ bare_more

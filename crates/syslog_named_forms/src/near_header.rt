@@ -2,12 +2,12 @@
 //!
 //! **Rule.** Programs write `1` and a date by `strftime`, whose offset has no colon, or no offset at all; others write
 //! the tag of RFC 3164 after such a header, or a message of CEF or LEEF. Elements stay in the message.
-ghost use Rattle.std.specs.Prelude.{chars};
+ghost use Rattle.std.specs.Prelude.{◌≡◌, chars};
 ghost use Rattle.syslog_text.specs.Pieces.Class.{Front, Row, Text};
-ghost use Rattle.syslog_text.specs.Pieces.View.{Reads, Recognises};
+ghost use Rattle.syslog_text.specs.Pieces.View.{Reads, Recognises, seen};
 ghost use Rattle.syslog_named_forms.specs.NearHeader as spec;
-ghost use Rattle.syslog_named_forms.specs.NearHeaderViews.{head_values};
-ghost use Rattle.syslog_sent.specs.Sent.{Sends};
+ghost use Rattle.syslog_named_forms.specs.NearHeaderViews.{head_values, ids_values, source_values};
+ghost use Rattle.syslog_sent.specs.Sent.{Sends, sent_value};
 
 use crate::untagged::{Mark, mark_end};
 use syslog_elements::structured_data::paired_list;
@@ -54,21 +54,76 @@ fn nil(text: &str) -> Option<&str>
     Some(rest)
 }
 
+/// The names that may follow the front.
+#[derive(Clone, Copy)]
+struct Names<'a> {
+    appname: Option<&'a str>,
+    process: Option<&'a str>,
+    msgid: Option<&'a str>,
+}
+
+// Returns the program and the process, and the text after them and blanks.
+#[inline(always)]
+fn source(text: &str) -> Option<(Names<'_>, &str)>
+    ensures { Reads (Row spec.source_row) source_values (chars text.now) result }
+{
+    let (appname, after_app) = word(text)?;
+    let at_process = some_blanks(after_app)?;
+    let (process, after_process) = word(at_process)?;
+    let rest = some_blanks(after_process)?;
+    let names = Names {
+        appname,
+        process,
+        msgid: None,
+    };
+    Some((names, rest))
+}
+
+// Returns these and the message id, and the text after them and blanks.
+#[inline(always)]
+fn ids(text: &str) -> Option<(Names<'_>, &str)>
+    ensures { Reads (Row spec.ids_row) ids_values (chars text.now) result }
+{
+    let (source, at_id) = source(text)?;
+    let (msgid, after_id) = word(at_id)?;
+    let rest = some_blanks(after_id)?;
+    let names = Names {
+        appname: source.appname,
+        process: source.process,
+        msgid,
+    };
+    Some((names, rest))
+}
+
+// Returns what a line says that has these names and this message.
+#[inline(always)]
+fn sent<'a>(head: Start<'a>, names: Names<'a>, msg: &'a str) -> Sent<'a>
+    ensures { sent_value result ≡ spec.said head.entry.version head.entry.date (seen head.entry.hostname)
+        (seen names.entry.appname) (seen names.entry.process) (seen names.entry.msgid) (chars msg.entry.now) }
+{
+    Sent {
+        version: Some(head.version),
+        date: Some(head.date),
+        hostname: head.hostname,
+        appname: names.appname,
+        process: names.process,
+        msgid: names.msgid,
+        msg,
+    }
+}
+
 /// Returns what a line says that has a message of CEF or LEEF after the front of its header.
 pub(crate) fn read_vendor<'a>(head: Start<'a>, rest: &'a str, mark: Mark) -> Option<Sent<'a>>
     ensures { (text : Text) → Front (Row spec.head_row) text (chars rest.entry.now) (head_values head.entry)
         → Sends (spec.vendor_form mark) text result }
 {
     let _ = mark_end(rest, mark)?;
-    Some(Sent {
-        version: Some(head.version),
-        date: Some(head.date),
-        hostname: head.hostname,
+    let names = Names {
         appname: None,
         process: None,
         msgid: None,
-        msg: rest,
-    })
+    };
+    Some(sent(head, names, rest))
 }
 
 /// Returns what a line says that has Check Point's element after the message id. It begins the message.
@@ -76,22 +131,9 @@ pub(crate) fn read_paired<'a>(head: Start<'a>, rest: &'a str) -> Option<Sent<'a>
     ensures { (text : Text) → Front (Row spec.head_row) text (chars rest.entry.now) (head_values head.entry)
         → Sends spec.paired_form text result }
 {
-    let (appname, after_app) = word(rest)?;
-    let at_process = some_blanks(after_app)?;
-    let (process, after_process) = word(at_process)?;
-    let at_id = some_blanks(after_process)?;
-    let (msgid, after_id) = word(at_id)?;
-    let msg = some_blanks(after_id)?;
+    let (names, msg) = ids(rest)?;
     let _ = paired_list(msg)?;
-    Some(Sent {
-        version: Some(head.version),
-        date: Some(head.date),
-        hostname: head.hostname,
-        appname,
-        process,
-        msgid,
-        msg,
-    })
+    Some(sent(head, names, msg))
 }
 
 /// Returns what a line says whose header has `-` for the structured data.
@@ -99,22 +141,9 @@ pub(crate) fn read_nil<'a>(head: Start<'a>, rest: &'a str) -> Option<Sent<'a>>
     ensures { (text : Text) → Front (Row spec.head_row) text (chars rest.entry.now) (head_values head.entry)
         → Sends spec.nil_form text result }
 {
-    let (appname, after_app) = word(rest)?;
-    let at_process = some_blanks(after_app)?;
-    let (process, after_process) = word(at_process)?;
-    let at_id = some_blanks(after_process)?;
-    let (msgid, after_id) = word(at_id)?;
-    let at_nil = some_blanks(after_id)?;
+    let (names, at_nil) = ids(rest)?;
     let after_nil = nil(at_nil)?;
-    Some(Sent {
-        version: Some(head.version),
-        date: Some(head.date),
-        hostname: head.hostname,
-        appname,
-        process,
-        msgid,
-        msg: blanks(after_nil),
-    })
+    Some(sent(head, names, blanks(after_nil)))
 }
 
 /// Returns what a line says that has a tag of RFC 3164 after the host.
@@ -123,15 +152,12 @@ pub(crate) fn read_tag<'a>(head: Start<'a>, rest: &'a str) -> Option<Sent<'a>>
         → Sends spec.tag_form text result }
 {
     let (program, after_program) = read_program(rest)?;
-    Some(Sent {
-        version: Some(head.version),
-        date: Some(head.date),
-        hostname: head.hostname,
+    let names = Names {
         appname: Some(program.name),
         process: program.process,
         msgid: None,
-        msg: blanks(after_program),
-    })
+    };
+    Some(sent(head, names, blanks(after_program)))
 }
 
 /// Returns what a line says whose message follows `-` for the message id.
@@ -139,21 +165,15 @@ pub(crate) fn read_heroku<'a>(head: Start<'a>, rest: &'a str) -> Option<Sent<'a>
     ensures { (text : Text) → Front (Row spec.head_row) text (chars rest.entry.now) (head_values head.entry)
         → Sends spec.heroku_form text result }
 {
-    let (appname, after_app) = word(rest)?;
-    let at_process = some_blanks(after_app)?;
-    let (process, after_process) = word(at_process)?;
-    let at_id = some_blanks(after_process)?;
+    let (source, at_id) = source(rest)?;
     let after_id = literal(at_id, '-')?;
     let msg = some_blanks(after_id)?;
-    Some(Sent {
-        version: Some(head.version),
-        date: Some(head.date),
-        hostname: head.hostname,
-        appname,
-        process,
+    let names = Names {
+        appname: source.appname,
+        process: source.process,
         msgid: None,
-        msg,
-    })
+    };
+    Some(sent(head, names, msg))
 }
 
 /// Returns what a line says whose message follows the message id.
@@ -161,19 +181,6 @@ pub(crate) fn read_bare<'a>(head: Start<'a>, rest: &'a str) -> Option<Sent<'a>>
     ensures { (text : Text) → Front (Row spec.head_row) text (chars rest.entry.now) (head_values head.entry)
         → Sends spec.bare_form text result }
 {
-    let (appname, after_app) = word(rest)?;
-    let at_process = some_blanks(after_app)?;
-    let (process, after_process) = word(at_process)?;
-    let at_id = some_blanks(after_process)?;
-    let (msgid, after_id) = word(at_id)?;
-    let msg = some_blanks(after_id)?;
-    Some(Sent {
-        version: Some(head.version),
-        date: Some(head.date),
-        hostname: head.hostname,
-        appname,
-        process,
-        msgid,
-        msg,
-    })
+    let (names, msg) = ids(rest)?;
+    Some(sent(head, names, msg))
 }

@@ -1,46 +1,25 @@
 use Rattle.std.proofs.Common.{inl, refl}
-use Rattle.syslog_text.proofs.PieceLemmas.Class.{◌past◌, ◌then◌, no_row, no_row_division, rest_front, row_of, rows_join}
-use Rattle.syslog_text.proofs.PieceLemmas.Class.{rows_none_later}
-use Rattle.syslog_named_forms.specs.NearHeader.{heroku_more, heroku_row, heroku_says, head_row}
-use Rattle.syslog_named_forms.proofs.NearHeaderLemmas.{heroku_det, heroku_more_det, head_det}
-use Rattle.syslog_sent.proofs.FormLemmas.{says_once}
+use Rattle.syslog_text.proofs.PieceLemmas.Class.{◌past◌, ◌then◌, rest_front, row_of}
 use Rattle.syslog_sent.specs.declared.dialect.Dialect.TheVariants.{Heroku}
+use Rattle.syslog_named_forms.specs.NearHeader.{heroku_last, heroku_says, source_row}
+use Rattle.syslog_named_forms.proofs.NearHeaderLemmas.{heroku_last_det, named, source_det, unnamed}
 use Rattle.syslog_named_forms.proofs.near_header.read_heroku.Goals as goal
 
-pub returns-in_err-appname : goal.returns-in_err-appname
-returns-in_err-appname c text front = rw c.from_residual.ensures (no_row_division heroku_row
-    (rows_none_later head_row heroku_more head_det front (no_row heroku_more heroku_more_det
-    (inl c.in_err-appname.ensures))))
-
-pub returns-in_err-at_process : goal.returns-in_err-at_process
-returns-in_err-at_process c text front = rw c.from_residual-in_err-at_process.ensures (no_row_division heroku_row
-    (rows_none_later head_row heroku_more head_det front (no_row heroku_more heroku_more_det
-    (c.in_ok-appname.ensures past inl c.in_err-at_process.ensures))))
-
-pub returns-in_err-process : goal.returns-in_err-process
-returns-in_err-process c text front = rw c.from_residual-in_err-process.ensures (no_row_division heroku_row
-    (rows_none_later head_row heroku_more head_det front (no_row heroku_more heroku_more_det
-    (c.in_ok-appname.ensures past c.in_ok-at_process.ensures past inl c.in_err-process.ensures))))
-
-pub returns-in_err-at_id : goal.returns-in_err-at_id
-returns-in_err-at_id c text front = rw c.from_residual-in_err-at_id.ensures (no_row_division heroku_row
-    (rows_none_later head_row heroku_more head_det front (no_row heroku_more heroku_more_det
-    (c.in_ok-appname.ensures past c.in_ok-at_process.ensures past c.in_ok-process.ensures past
-    inl c.in_err-at_id.ensures))))
+pub returns-in_err-source : goal.returns-in_err-source
+returns-in_err-source c text front = rw c.from_residual.ensures
+    (unnamed source_row heroku_last source_det heroku_last_det front (inl c.in_err-source.ensures))
 
 pub returns-in_err-after_id : goal.returns-in_err-after_id
-returns-in_err-after_id c text front = rw c.from_residual-in_err-after_id.ensures (no_row_division heroku_row
-    (rows_none_later head_row heroku_more head_det front (no_row heroku_more heroku_more_det
-    (c.in_ok-appname.ensures past c.in_ok-at_process.ensures past c.in_ok-process.ensures past
-    c.in_ok-at_id.ensures past inl c.in_err-after_id.ensures))))
+returns-in_err-after_id c text front = rw c.from_residual-in_err-after_id.ensures
+    (unnamed source_row heroku_last source_det heroku_last_det front
+    (c.in_ok-source.ensures past inl c.in_err-after_id.ensures))
 
 pub returns-in_err-msg : goal.returns-in_err-msg
-returns-in_err-msg c text front = rw c.from_residual-in_err-msg.ensures (no_row_division heroku_row
-    (rows_none_later head_row heroku_more head_det front (no_row heroku_more heroku_more_det
-    (c.in_ok-appname.ensures past c.in_ok-at_process.ensures past c.in_ok-process.ensures past
-    c.in_ok-at_id.ensures past c.in_ok-after_id.ensures past inl c.in_err-msg.ensures))))
+returns-in_err-msg c text front = rw c.from_residual-in_err-msg.ensures
+    (unnamed source_row heroku_last source_det heroku_last_det front
+    (c.in_ok-source.ensures past c.in_ok-after_id.ensures past inl c.in_err-msg.ensures))
 
 pub returns : goal.returns
-returns c text front = says_once Heroku heroku_row heroku_says heroku_det (rows_join head_row heroku_more front
-    (row_of heroku_more (c.in_ok-appname.ensures then c.in_ok-at_process.ensures then c.in_ok-process.ensures then
-    c.in_ok-at_id.ensures then c.in_ok-after_id.ensures then c.in_ok-msg.ensures then rest_front _ then refl))) refl
+returns c text front = named source_row heroku_last source_det heroku_last_det front Heroku heroku_says
+    c.in_ok-source.ensures
+    (row_of heroku_last (c.in_ok-after_id.ensures then c.in_ok-msg.ensures then rest_front _ then refl)) c.sent.ensures
