@@ -1,4 +1,5 @@
 pub mod DeviceLemmas
+pub mod HostLemmas
 pub mod MonotonicLemmas
 pub mod NamedFormLemmas
 pub mod NearHeaderLemmas

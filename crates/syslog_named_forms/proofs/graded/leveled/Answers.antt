@@ -1,13 +1,11 @@
 use Rattle.std.proofs.Common.{List, [], ◌∷◌, inl, refl}
 use Rattle.syslog_text.specs.Pieces.Class.{Class, Row, rest, run, some_run}
 use Rattle.syslog_text.specs.Text.{is_blank}
-use Rattle.syslog_sent.specs.Named.{NamedTexts, program}
-use Rattle.syslog_text.proofs.PieceLemmas.Class.{◌past◌, ◌then◌, mapped_front, no_mapped, no_row, rest_front, row_of}
-use Rattle.syslog_text.proofs.PieceLemmas.Class.{rows_join, rows_none_here, rows_none_later}
+use Rattle.syslog_sent.specs.Named.{program}
+use Rattle.syslog_text.proofs.PieceLemmas.Class.{◌past◌, ◌then◌, rest_front, row_of}
 use Rattle.syslog_named_forms.proofs.DeviceLemmas.{leveled_det}
-use Rattle.syslog_named_forms.proofs.UntaggedLemmas.{host_row_det}
-use Rattle.syslog_named_forms.specs.Graded.{level_row, leveled_of, leveled_row}
-use Rattle.syslog_named_forms.specs.Untagged.{host_row}
+use Rattle.syslog_named_forms.proofs.HostLemmas.{no_host, not_past_host, past_host}
+use Rattle.syslog_named_forms.specs.Graded.{level_row, leveled_of}
 use Rattle.syslog_named_forms.proofs.graded.leveled.Goals as goal
 
 -- what follows the host
@@ -15,30 +13,24 @@ abbrev more : List Class
 more = Row level_row ∷ some_run is_blank ∷ program ∷ run is_blank ∷ rest ∷ []
 
 pub returns-in_err-hostname : goal.returns-in_err-hostname
-returns-in_err-hostname c text after = rw c.from_residual.ensures (no_mapped (Row leveled_row) NamedTexts leveled_of
-    (rows_none_here host_row more (rw c.in_err-hostname.was at after)))
+returns-in_err-hostname c text after = rw c.from_residual.ensures
+    (no_host more leveled_det.1.1 leveled_of after c.in_err-hostname.was)
 
 pub returns-in_err-after_level : goal.returns-in_err-after_level
 returns-in_err-after_level c text after = rw c.from_residual-in_err-after_level.ensures
-    (no_mapped (Row leveled_row) NamedTexts leveled_of
-    (rows_none_later host_row more host_row_det (rw c.in_ok-hostname.was at after)
-    (no_row more leveled_det.1.1 (inl c.in_err-after_level.ensures))))
+    (not_past_host more leveled_det.1.1 leveled_of after c.in_ok-hostname.was (inl c.in_err-after_level.ensures))
 
 pub returns-in_err-at_program : goal.returns-in_err-at_program
 returns-in_err-at_program c text after = rw c.from_residual-in_err-at_program.ensures
-    (no_mapped (Row leveled_row) NamedTexts leveled_of
-    (rows_none_later host_row more host_row_det (rw c.in_ok-hostname.was at after)
-    (no_row more leveled_det.1.1 (c.in_ok-after_level.ensures.1 past inl c.in_err-at_program.ensures))))
+    (not_past_host more leveled_det.1.1 leveled_of after c.in_ok-hostname.was (c.in_ok-after_level.ensures.1 past inl
+    c.in_err-at_program.ensures))
 
 pub returns-in_err-program : goal.returns-in_err-program
 returns-in_err-program c text after = rw c.from_residual-in_err-program.ensures
-    (no_mapped (Row leveled_row) NamedTexts leveled_of
-    (rows_none_later host_row more host_row_det (rw c.in_ok-hostname.was at after)
-    (no_row more leveled_det.1.1 (c.in_ok-after_level.ensures.1 past c.in_ok-at_program.ensures
-    past inl c.in_err-program.ensures))))
+    (not_past_host more leveled_det.1.1 leveled_of after c.in_ok-hostname.was (c.in_ok-after_level.ensures.1 past
+    c.in_ok-at_program.ensures past inl c.in_err-program.ensures))
 
 pub returns : goal.returns
-returns c text after = rw c.tagged.ensures (mapped_front (Row leveled_row) NamedTexts leveled_of
-    (rows_join host_row more (rw c.in_ok-hostname.was at after) (row_of more
-    (c.in_ok-after_level.ensures.1 then c.in_ok-at_program.ensures then c.in_ok-program.ensures
-    then c.blanks.ensures then rest_front _ then refl))))
+returns c text after = rw c.tagged.ensures
+    (past_host more leveled_det.1.1 leveled_of after c.in_ok-hostname.was (row_of more (c.in_ok-after_level.ensures.1
+    then c.in_ok-at_program.ensures then c.in_ok-program.ensures then c.blanks.ensures then rest_front _ then refl)))
