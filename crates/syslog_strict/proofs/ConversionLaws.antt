@@ -149,35 +149,28 @@ mark_same (c ∷ t) h = refl
 name_same : (t : Text) → IsSdName t → converted_name t ≡ t
 name_same t is = ap (cleaned is_sd_char 32) (mark_same t is.0) ∙ cleaned_same is_sd_char 32 t is.2 is.1
 
-plain_char : (c : ℕ) → is_escaped c ≡ false → nat_eq c 92 ≡ false
-plain_char c h = grind (arith, nat_tests)
-
 units_same : (units : List TextUnit) → AllByRecursion IsValueUnit units
     → escaped_from false (flat_map unit_text units) ≡ flat_map unit_text units
 units_same [] each = refl
 units_same (pair c ∷ units) each =
     same_if (is_escaped c) _ _ each.0 ∙ ap (λ (x : Text). 92 ∷ c ∷ x) (units_same units each.1)
-units_same (single c ∷ units) each = other_if (nat_eq c 92) _ _ (plain_char c each.0)
+units_same (single c ∷ units) each = other_if (nat_eq c 92) _ _ (grind (arith, nat_tests, each.0))
     ∙ other_if (is_escaped c) _ _ each.0 ∙ ap (λ (x : Text). c ∷ x) (units_same units each.1)
 
 value_same : (t : Text) → IsParamValue t → converted_value t ≡ t
 value_same t (units, e, each) = ap (escaped_from false) e ∙ units_same units each ∙ sym e
 
-pair_same : {A B : Type 0} (x y : A × B) → x.0 ≡ y.0 → x.1 ≡ y.1 → x ≡ y
-pair_same (a, b) (c, d) e f = cc
-
 params_same : (ps : List (Text × Text)) → AllByRecursion IsStrictParam ps → map converted_param ps ≡ ps
 params_same [] each = refl
-params_same (p ∷ ps) each = ap₂ (λ (x : Text × Text) (y : List (Text × Text)). x ∷ y)
-    (pair_same (converted_param p) p (name_same p.0 each.0.0) (value_same p.1 each.0.1)) (params_same ps each.1)
+params_same (p ∷ ps) each =
+    λ i. (name_same p.0 each.0.0 i, value_same p.1 each.0.1 i) ∷ params_same ps each.1 i
 
 element_same : (e : ElementValue) → IsStrictElement e → converted_element e ≡ e
 element_same e is = λ i. record { id = name_same e.id is.0 i; params = params_same e.params is.1 i }
 
 elements_same : (es : List ElementValue) → AllByRecursion IsStrictElement es → map converted_element es ≡ es
 elements_same [] each = refl
-elements_same (e ∷ es) each =
-    ap₂ (λ (x : ElementValue) (y : List ElementValue). x ∷ y) (element_same e each.0) (elements_same es each.1)
+elements_same (e ∷ es) each = λ i. element_same e each.0 i ∷ elements_same es each.1 i
 
 -- no parameters of an id that none of the elements has
 no_params : (id : Text) (es : List ElementValue) → AllByRecursion (λ u. u ≢ id) (map (λ (e : ElementValue). e.id) es)
@@ -323,18 +316,13 @@ converted_strict m b =
 
 -- ---- read back
 
--- a text without its first character
-abbrev tail_of : Text → Text
-tail_of [] = []
-tail_of (c ∷ t) = t
-
 no_lone : (p : Text) (c : ℕ) (t : Text) → p ++ (c ∷ t) ≡ [] → ⊥
 no_lone [] c t e = cc
 no_lone (d ∷ p) c t e = cc
 
 one_visible : EndsVisibly (93 ∷ [])
 one_visible [] c e = let same : 93 ≡ c = cc in subst (λ (x : ℕ). is_not_whitespace x ≡ true) same refl
-one_visible (d ∷ front) c e = absurd (no_lone front c [] (sym (ap tail_of e)))
+one_visible (d ∷ front) c e = absurd (no_lone front c [] (cc))
 
 -- the message part is that of a message that was read
 pub record HasReadMsg (m : MessageValue) : Type 0 where
@@ -344,20 +332,13 @@ pub record HasReadMsg (m : MessageValue) : Type 0 where
 
 pub read_msg : (variant : Variant) (dating : Dating) (text : Text) (m : MessageValue) → IsRead variant dating text m
     → HasReadMsg m
-read_msg variant dating text m r = elim (read_as variant dating text m r) [
-  | inl s ↦ (let (canonical, _) = read_completed dash_rule text m s in
-      record {
-        front = canonical.0.msg_front;
-        end = canonical.0.msg_end;
-        process = (read_bounded variant dating text m r).procid;
-      })
-  | inr s ↦ (let near = read_near dash_rule dating text m s in
-      record {
-        front = near.msg_front;
-        end = near.msg_end;
-        process = (read_bounded variant dating text m r).procid;
-      })
-]
+read_msg variant dating text m r = let bounded = (read_bounded variant dating text m r).procid in
+    elim (read_as variant dating text m r) [
+      | inl s ↦ (let (is, _) = read_completed dash_rule text m s in
+          record { front = is.0.msg_front; end = is.0.msg_end; process = bounded })
+      | inr s ↦ (let near = read_near dash_rule dating text m s in
+          record { front = near.msg_front; end = near.msg_end; process = bounded })
+    ]
 
 -- with what was left unparsed before it, it is such a message part still
 begins_unblank : (u msg : Text) → (r : Text) × (u ≡ 91 ∷ r) → Ends is_blank (spaced_before u msg)
@@ -365,8 +346,8 @@ begins_unblank u msg (r, e) = subst (λ (x : Text). Ends is_blank (spaced_before
 
 ends_more : (p : Text) (c : ℕ) (t : Text) → EndsVisibly (c ∷ t) → EndsVisibly (p ++ (c ∷ t))
 ends_more [] c t h front x e = h front x e
-ends_more (d ∷ p) c t h [] x e = absurd (no_lone p c t (ap tail_of e))
-ends_more (d ∷ p) c t h (y ∷ front) x e = ends_more p c t h front x (ap tail_of e)
+ends_more (d ∷ p) c t h [] x e = absurd (no_lone p c t (cc))
+ends_more (d ∷ p) c t h (y ∷ front) x e = ends_more p c t h front x (cc)
 
 bracket_visible : (u : Text) → EndsIn 93 u → EndsVisibly u
 bracket_visible u (s, e) = subst EndsVisibly (sym e) (ends_more s 93 [] one_visible)
@@ -378,11 +359,8 @@ ends_visibly (c ∷ u) [] in_bracket visible =
 ends_visibly (c ∷ u) (d ∷ msg) in_bracket visible = ends_more (c ∷ u) 32 (d ∷ msg) (ends_more (32 ∷ []) d msg visible)
 
 pub whole_msg : (m : MessageValue) (u : Text) → HasReadMsg m → (u ≡ []) ⊎ IsBracketed u → HasReadMsg (whole m u)
-whole_msg m u has (inl e) = subst (λ (x : Text). HasReadMsg (whole m x)) (sym e) (record {
-  front = has.front;
-  end = has.end;
-  process = has.process;
-})
+whole_msg m u has (inl e) = subst (λ (x : Text). HasReadMsg (whole m x)) (sym e)
+    (record { front = has.front; end = has.end; process = has.process })
 whole_msg m u has (inr b) = record {
   front = begins_unblank u m.msg b.begins;
   end = ends_visibly u m.msg b.ends has.end;

@@ -18,27 +18,21 @@ use Rattle.syslog_text.proofs.{TextLemmas.Runs.same_chars}
 pub chars_mark : chars (63 ∷ []) ≡ 63 ∷ []
 chars_mark = chars-IsAscii (63 ∷ []) (IsAscii-cons 63 [] (omega arith) IsAscii-nil)
 
-inert_no_backslash : (c : ℕ) → is_inert_char c ≡ true → nat_eq c 92 ≡ false
-inert_no_backslash c h = grind (arith, nat_tests)
-
-pub inert_plain : (c : ℕ) → is_inert_char c ≡ true → is_escaped c ≡ false
-inert_plain c h = grind (arith, nat_tests)
+inert_plain : (c : ℕ) → is_inert_char c ≡ true → (is_escaped c ≡ false) × (nat_eq c 92 ≡ false)
+inert_plain c h = (grind (arith, nat_tests), grind (arith, nat_tests))
 
 pub value_run : (w t : Text) → Each is_inert_char w → escaped_from false (w ++ t) ≡ w ++ escaped_from false t
 value_run [] t each = refl
 value_run (c ∷ w) t each =
-    rw (inert_plain c each.0, inert_no_backslash c each.0) (ap (λ (x : Text). c ∷ x) (value_run w t each.1))
-
-no_backslash : (c : ℕ) → is_inert_char c ≡ false → c ≢ 92 → nat_eq c 92 ≡ false
-no_backslash c h other = grind (arith, nat_tests)
-
-inert_not : (c : ℕ) → is_inert_char c ≡ false → is_escaped c ≡ true
-inert_not c h = grind (arith, nat_tests)
+    let plain = inert_plain c each.0 in rw (plain.0, plain.1) (ap (λ (x : Text). c ∷ x) (value_run w t each.1))
 
 -- a quote or a closing bracket
 pub value_other : (c : ℕ) (t : Text) → is_inert_char c ≡ false → c ≢ 92
     → escaped_from false (c ∷ t) ≡ 92 ∷ c ∷ escaped_from false t
-value_other c t h other = rw (inert_not c h, no_backslash c h other) refl
+value_other c t h other =
+    let slash : nat_eq c 92 ≡ false = grind (arith, nat_tests) in
+    let mark : is_escaped c ≡ true = grind (arith, nat_tests) in
+    rw (mark, slash) refl
 
 -- a backslash and another character
 abbrev pub pair_text : ℕ → Text
@@ -211,12 +205,7 @@ module _ (joined : Joined) (seen : List ElementValue) (h : HasJoined joined seen
       ∙ ap (flat_map element_text) (sym (joined_by_id [] seen))
 
 known_bool : (A B k : Bool) → (B ≡ true → A ≡ k) → cond B true A ≡ (A || (if k then false else (B || false)))
-known_bool true true k f = refl
-known_bool true false k f = refl
-known_bool false true true f = sym (f refl)
-known_bool false true false f = refl
-known_bool false false true f = refl
-known_bool false false false f = refl
+known_bool A B k f = grind (arith, f)
 
 some_cond : (b : Bool) (s : String Global) (o : Option (String Global))
     → is_some (cond b (Some s) o) ≡ cond b true (is_some o)

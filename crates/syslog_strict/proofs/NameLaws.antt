@@ -88,11 +88,8 @@ word_is most (Some t) h = word_text_is most t h
 
 -- ---- process ids
 
-digit_prints : (c : ℕ) → is_ascii_digit c ≡ true → is_printusascii c ≡ true
-digit_prints c h = grind (arith, nat_tests)
-
 digits_print : (t : Text) → Each is_ascii_digit t → Each is_printusascii t
-digits_print t each = each_map is_ascii_digit is_printusascii digit_prints t each
+digits_print t each = each_map is_ascii_digit is_printusascii (λ c h. grind (arith, nat_tests)) t each
 
 number_is : (n : ℤ) → FitsSigned w32 n → IsSomeOf is_printusascii 128 (signed_decimal n)
 number_is (pos n) h =
@@ -125,11 +122,8 @@ process_is (Some (Name t)) b = word_process_is (converted_word 128 t) (word_text
 
 -- ---- read back
 
-pub print_visible : (c : ℕ) → is_printusascii c ≡ true → is_not_whitespace c ≡ true
-print_visible c h = grind (arith, nat_tests)
-
 prints_visible : (t : Text) → Each is_printusascii t → Each is_not_whitespace t
-prints_visible t each = each_map is_printusascii is_not_whitespace print_visible t each
+prints_visible t each = each_map is_printusascii is_not_whitespace (λ c h. grind (arith, nat_tests)) t each
 
 pub no_text_eq : (t u : Text) → text_eq t u ≡ false → t ≢ u
 no_text_eq t u e same = let yes = (bytes_decides t u).1 same in absurd (let no : true ≡ false = sym yes ∙ e in cc)
@@ -149,14 +143,8 @@ pub some_long : (t : Text) → t ≢ [] → 0 < length t
 some_long [] some = absurd (some refl)
 some_long (c ∷ t) some = omega arith
 
-not_colon : (c : ℕ) → no_colon c ≡ true → c ≢ 58
-not_colon c h = grind (arith, nat_tests)
-
 no_colon_kept : (c : ℕ) → kept_char no_colon c ≡ 58 → ⊥
-no_colon_kept c e = elim (cases_Bool (no_colon c)) [
-  | inl h ↦ not_colon c h (sym (kept_as no_colon c h) ∙ e)
-  | inr h ↦ (let mark = lost_as no_colon c h in absurd (omega arith))
-]
+no_colon_kept c e = grind (arith, nat_tests)
 
 pub colonless_end : (t front : Text) → without_last_colon t ≡ front ++ colon → ⊥
 colonless_end [] [] e = cc
@@ -178,12 +166,9 @@ host_back (Some t) =
       λ h. colonless_end u h.0 h.1,
     ))
 
-mark_no_colon : 63 ∷ [] ≢ colon
-mark_no_colon e = let k : ◌≡◌ {A = ℕ} 63 58 = heads 63 58 [] [] e in absurd (omega (arith, k))
-
 pub lone_other : (t : Text) → without_lone_colon t ≢ colon
 lone_other t = elim (cases_Bool (text_eq t colon)) [
-  | inl e ↦ rw e mark_no_colon
+  | inl e ↦ rw e (λ k. absurd (omega (arith, heads 63 58 [] [] k)))
   | inr e ↦ rw e (no_text_eq t colon e)
 ]
 
@@ -268,10 +253,7 @@ escaped_is true (c ∷ t) = after_backslash c (escaped_from false t) (escaped_is
 -- a unit of the grammar is one of a value that is read
 strict_unit : (u : TextUnit) → IsStrictUnit u → IsValueUnit u
 strict_unit (pair c) h = tt
-strict_unit (single c) h = (plain c h)
-  where
-    plain : (c : ℕ) → is_escaped c ≡ false → (c ≢ 92) × (c ≢ 34)
-    plain c h = (grind (arith, nat_tests), grind (arith, nat_tests))
+strict_unit (single c) h = (grind (arith, nat_tests), grind (arith, nat_tests))
 
 value_back : (t : Text) → IsParamValue t → IsValue t
 value_back t (units, e, each) = (units, e, all_map strict_unit units each)
@@ -338,21 +320,13 @@ elements_is es q n = data_front (converted_elements es) q (converted_are es) (co
 
 -- ---- read back
 
-sd_id : (c : ℕ) → is_sd_char c ≡ true → is_id_char c ≡ true
-sd_id c h = grind (arith, nat_tests)
-
-sd_name : (c : ℕ) → is_sd_char c ≡ true → is_name_char c ≡ true
-sd_name c h = grind (arith, nat_tests)
-
-sd_unblank : (c : ℕ) → is_sd_char c ≡ true → is_blank c ≡ false
-sd_unblank c h = grind (arith, nat_tests)
-
 param_back : (p : Text × Text) → IsStrictParam p → IsCanonicalParam p
-param_back p is = (is.0.0, each_map is_sd_char is_name_char sd_name p.0 is.0.2, value_back p.1 is.1)
+param_back p is =
+    (is.0.0, each_map is_sd_char is_name_char (λ c h. grind (arith, nat_tests)) p.0 is.0.2, value_back p.1 is.1)
 
 begins_unblank : (t : Text) → Each is_sd_char t → Ends is_blank t
 begins_unblank [] each = tt
-begins_unblank (c ∷ t) each = sd_unblank c each.0
+begins_unblank (c ∷ t) each = grind (arith, nat_tests, each.0)
 
 params_unblank : (ps : List (Text × Text)) → AllByRecursion IsStrictParam ps → BeginsUnblank ps
 params_unblank [] each = tt
@@ -361,7 +335,7 @@ params_unblank (p ∷ ps) each = begins_unblank p.0 each.0.0.2
 pub element_back : (e : ElementValue) → IsStrictElement e → IsCanonicalElement e
 element_back e is = (
   is.0.0,
-  each_map is_sd_char is_id_char sd_id e.id is.0.2,
+  each_map is_sd_char is_id_char (λ c h. grind (arith, nat_tests)) e.id is.0.2,
   all_map param_back e.params is.1,
   params_unblank e.params is.1,
 )

@@ -3,7 +3,8 @@ use Rattle.syslog_strict.proofs.Words.{◌≡◌, ℕ, suc, ◌-◌, ◌<◌, �
 use Rattle.syslog_strict.proofs.Words.{Option, Some, None, ◌≢◌, ◌⊎◌, inl, inr, drop, refl, sym, ap, ap₂, subst, ◌∙◌}
 use Rattle.syslog_strict.proofs.Words.{arith, append-nil, append_assoc, cond, if◌then◌else◌, cases_Bool, nat_tests}
 use Rattle.syslog_strict.proofs.Words.{chars-append, chars-IsAscii, chars-nil, IsAscii-cons, IsAscii-nil, encode_utf8}
-use Rattle.syslog_strict.proofs.Words.{chars, IsUtf8, IsAscii, bytes_decides, option_map, decimal, Text, Each, text_eq}
+use Rattle.std.specs.Str.{chars}
+use Rattle.syslog_strict.proofs.Words.{IsUtf8, IsAscii, bytes_decides, option_map, decimal, Text, Each, text_eq}
 use Rattle.syslog_strict.proofs.Words.{named_process, procid_text, process_text, colon, dash, name_text, heads}
 use Rattle.syslog_strict.proofs.Words.{MessageValue, priority_of, timestamp_text, cleaned, kept_char, named, no_colon}
 use Rattle.syslog_strict.proofs.Words.{without_last_colon, without_lone_colon, converted_host, converted_word}
@@ -229,26 +230,17 @@ cleaned_short test most t = rw (length-map, length-take) (omega arith)
 abbrev space : Text
 space = 32 ∷ []
 
-data_pieces : (t id elements : Text) → ((((t ++ space) ++ id) ++ space) ++ elements) ++ space
-    ≡ t ++ (32 ∷ (id ++ (32 ∷ (elements ++ space))))
-data_pieces t id elements = simp append_assoc refl
-
 -- the message id and the elements, piece by piece
 pub data_joined : (m : MessageValue) (t0 t1 t2 t3 t4 t5 : Text) → t1 ≡ t0 ++ space → t2 ≡ t1 ++ name_text m.msgid
     → t3 ≡ t2 ++ space → t4 ≡ t3 ++ elements_text m.structured_data → t5 ≡ t4 ++ space → t5 ≡ t0 ++ data_text m
 data_joined m t0 t1 t2 t3 t4 t5 e1 e2 e3 e4 e5 =
-    rw (e5, e4, e3, e2, e1) (data_pieces t0 (name_text m.msgid) (elements_text m.structured_data))
+    rw (e5, e4, e3, e2, e1) (simp append_assoc)
 
 -- ` - - `
-dashes_ascii : IsAscii (32 ∷ 45 ∷ 32 ∷ 45 ∷ 32 ∷ [])
-dashes_ascii =
-    IsAscii-cons 32 (45 ∷ 32 ∷ 45 ∷ 32 ∷ []) (omega arith) (IsAscii-cons 45 (32 ∷ 45 ∷ 32 ∷ []) (omega arith)
-    (IsAscii-cons 32 (45 ∷ 32 ∷ []) (omega arith) (IsAscii-cons 45 (32 ∷ []) (omega arith)
-    (IsAscii-cons 32 [] (omega arith) IsAscii-nil))))
-
 pub no_data : (m : MessageValue) → m.msgid ≡ None → m.structured_data ≡ []
     → chars (32 ∷ 45 ∷ 32 ∷ 45 ∷ 32 ∷ []) ≡ data_text m
-no_data m id elements = chars-IsAscii (32 ∷ 45 ∷ 32 ∷ 45 ∷ 32 ∷ []) dashes_ascii ∙ rw (id, elements) refl
+unfolding chars
+no_data m id elements = rw (id, elements) refl
 
 -- an absent message id stays absent
 pub no_word : (word : Option (Bor (List ℕ))) → is_some word ≡ false

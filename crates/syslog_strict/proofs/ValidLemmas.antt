@@ -139,15 +139,10 @@ last_among : (t id : Text) (seen : List Text) → is_among t
 last_among t id seen = list_any-append (λ u. text_eq u t) seen (id ∷ [])
 
 put : (a b e : Bool) → (a || cond e true b) ≡ ((a || b) || (e || false))
-put true b e = refl
-put false true true = refl
-put false true false = refl
-put false false true = refl
-put false false false = refl
+put a b e = grind arith
 
 right_is : (a b c : Bool) → (a || b) ≡ c → a ≡ false → b ≡ c
-right_is false b c e f = e
-right_is true b c e f = cc
+right_is a b c e f = grind arith
 
 pub seen_none : (ids : Ids) → ids.few.items ≡ [] → ids.many.keys ≡ [] → HasSeen ids []
 seen_none ids e f = record { first = λ few. f; same = λ id u. rw (e, f) refl }
