@@ -1,38 +1,26 @@
 -- The walk over an element: its steps, why a bracket inside a value decides it, and a value cut by bytes.
 use Rattle.syslog_elements.proofs.Names.{append_cancel_right, IsUtf8-from_ascii, is_unescaped_char, is_not_whitespace}
-use Rattle.syslog_elements.proofs.Names.{[]}
-use Rattle.syslog_elements.proofs.Names.{chars_past_char, encodes-append, AllByRecursion, IsCharBoundary}
-use Rattle.syslog_elements.proofs.Names.{rows_none_here}
-use Rattle.syslog_elements.proofs.Names.{length-append, encodes-chars, row_none_here, IsUtf8-append, is_inert_char}
-use Rattle.syslog_elements.proofs.Names.{start}
-use Rattle.syslog_elements.proofs.Names.{is_name_char, is_open_char, ElementValue, mapped_front, mapped_meets}
-use Rattle.syslog_elements.proofs.Names.{byte_count}
-use Rattle.syslog_elements.proofs.Names.{append_assoc, element_row, no_front_no, more_before, each_after, opening_row}
-use Rattle.syslog_elements.proofs.Names.{ℕ}
-use Rattle.syslog_elements.proofs.Names.{IsValueUnit, element_of, meets_none, meets_here, inside_row, name_alone}
-use Rattle.syslog_elements.proofs.Names.{exactly}
-use Rattle.syslog_elements.proofs.Names.{quoted_row, param_row, nil_front, SplitsRun, more_here, rows_join, no_mapped}
-use Rattle.syslog_elements.proofs.Names.{ap}
-use Rattle.syslog_elements.proofs.Names.{row_first, last_char, unit_text, more_goes, and_parts, eqb_tells, nat_tests}
-use Rattle.syslog_elements.proofs.Names.{◌≡◌}
-use Rattle.syslog_elements.proofs.Names.{start_row, id_alone, row_goes, false_is, TextUnit, param_of, flat_map}
-use Rattle.syslog_elements.proofs.Names.{is_blank}
-use Rattle.syslog_elements.proofs.Names.{meets_on, each_map, tail_row, row_head, opening, closing, escaped, IsValue}
-use Rattle.syslog_elements.proofs.Names.{◌++◌}
-use Rattle.syslog_elements.proofs.Names.{element, NoFront, single, ◌also◌, row_of, ◌then◌, begins, get_or, length}
-use Rattle.syslog_elements.proofs.Names.{IsUtf8}
-use Rattle.syslog_elements.proofs.Names.{Values, inside, quoted, IsDead, IsTrue, value, param, Meets, arith, chars}
-use Rattle.syslog_elements.proofs.Names.{Class}
-use Rattle.syslog_elements.proofs.Names.{Front, false, subst, refl, take, Text, Each, pair, zero, Bool, true, List, ◌≢◌}
-use Rattle.syslog_elements.proofs.Names.{◌<◌, ◌⊎◌, inl, inr, ◌∷◌, sym, ◌∙◌, ◌≤◌, ◌+◌, ◌-◌, Row, min, suc, map, ◌↔◌}
+use Rattle.syslog_elements.proofs.Names.{[], chars_past_char, encodes-append, AllByRecursion, IsCharBoundary}
+use Rattle.syslog_elements.proofs.Names.{rows_none_here, length-append, encodes-chars, row_none_here, IsUtf8-append}
+use Rattle.syslog_elements.proofs.Names.{is_inert_char, start, is_name_char, is_open_char, ElementValue, mapped_front}
+use Rattle.syslog_elements.proofs.Names.{mapped_meets, byte_count, append_assoc, element_row, no_front_no, more_before}
+use Rattle.syslog_elements.proofs.Names.{each_after, opening_row, ℕ, IsValueUnit, element_of, meets_none, meets_here}
+use Rattle.syslog_elements.proofs.Names.{inside_row, name_alone, exactly, quoted_row, param_row, nil_front, SplitsRun}
+use Rattle.syslog_elements.proofs.Names.{more_here, rows_join, no_mapped, ap, row_first, last_char, unit_text}
+use Rattle.syslog_elements.proofs.Names.{more_goes, and_parts, eqb_tells, nat_tests, ◌≡◌, start_row, id_alone, row_goes}
+use Rattle.syslog_elements.proofs.Names.{false_is, TextUnit, param_of, flat_map, is_blank, meets_on, each_map, tail_row}
+use Rattle.syslog_elements.proofs.Names.{row_head, opening, closing, escaped, IsValue, ◌++◌, element, NoFront, single}
+use Rattle.syslog_elements.proofs.Names.{◌also◌, row_of, ◌then◌, begins, get_or, length, IsUtf8, Values, inside, quoted}
+use Rattle.syslog_elements.proofs.Names.{IsDead, IsTrue, value, param, Meets, arith, chars, Class, Front, false, subst}
+use Rattle.syslog_elements.proofs.Names.{refl, take, Text, Each, pair, zero, Bool, true, List, ◌≢◌, ◌<◌, ◌⊎◌, inl, inr}
+use Rattle.syslog_elements.proofs.Names.{◌∷◌, sym, ◌∙◌, ◌≤◌, ◌+◌, ◌-◌, Row, min, suc, map, ◌↔◌}
 use Rattle.std.specs.Char.{encode_utf8}
-use Rattle.syslog_text.proofs.PieceLemmas.Class.{row_cons, row_none_later, meets_none_on, rows_go, each_right}
+use Rattle.syslog_text.proofs.PieceLemmas.Class.{row_cons, row_none_later, meets_none_on, rows_go, each_right, front_of}
 use Rattle.syslog_elements.proofs.StructuredDataLemmas.Elements.{space_is_no_close, no_unit_at_end, no_quote_unit}
 use Rattle.syslog_elements.proofs.StructuredDataLemmas.Elements.{opening_det, quoted_text, value_here, quoted_det}
 use Rattle.syslog_elements.proofs.StructuredDataLemmas.Elements.{unit_goes, start_det}
 use Rattle.syslog_text.proofs.TextLemmas.Runs.{one_ascii, rest_shorter, front_chars, front_cut}
 use Rattle.syslog_elements.proofs.StructuredDataLemmas.Units.{unit_same}
-use Rattle.syslog_text.proofs.PieceLemmas.Class.{front_of}
 
 -- ---- bytes, and where a bracket is in two joined texts
 pub byte_count_slice : (bs : Text) → IsUtf8 bs → byte_count (chars bs) ≡ length bs

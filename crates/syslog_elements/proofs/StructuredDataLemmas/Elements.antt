@@ -1,33 +1,20 @@
 -- Values, parameters, elements and items: a text has one of each at its front.
 -- Canonical elements are read back from their print, and what is read is canonical.
 use Rattle.syslog_elements.proofs.Names.{AllByRecursion-prop, IsCanonicalElement, AllDeterministic, IsCanonicalParam}
-use Rattle.syslog_elements.proofs.Names.{◌≡◌}
-use Rattle.syslog_elements.proofs.Names.{drop-append_seam, bare_param_text}
-use Rattle.syslog_elements.proofs.Names.{exactly_det}
-use Rattle.syslog_elements.proofs.Names.{IsDeterministic, joined_elements, AllByRecursion}
-use Rattle.syslog_elements.proofs.Names.{BeginsUnblank}
-use Rattle.syslog_elements.proofs.Names.{elements_text, is_prop→PathP, length-append}
-use Rattle.syslog_elements.proofs.Names.{Class}
-use Rattle.syslog_elements.proofs.Names.{append_assoc, is_name_char, is_open_char, ElementValue, some_run_det}
-use Rattle.syslog_elements.proofs.Names.{is_id_char}
-use Rattle.syslog_elements.proofs.Names.{element_text, one_value-is, list_before, IsValueUnit, element_row, opening_row}
-use Rattle.syslog_elements.proofs.Names.{element_of, texted_det, front_same, mapped_det, param_text, row_pieces}
-use Rattle.syslog_elements.proofs.Names.{param_of}
-use Rattle.syslog_elements.proofs.Names.{quoted_row, OneMeaning, inside_row, nat_tests, forgiving}
-use Rattle.syslog_elements.proofs.Names.{many_here}
-use Rattle.syslog_elements.proofs.Names.{one_value, unit_text, param_row, bracketed, start_row, is_blank, many_det}
-use Rattle.syslog_elements.proofs.Names.{value}
-use Rattle.syslog_elements.proofs.Names.{flat_map, list_any, some_run, TextUnit, element, run_det, row_det}
-use Rattle.syslog_elements.proofs.Names.{◌≢◌}
-use Rattle.syslog_elements.proofs.Names.{is_none, IsValue, NoFront, exactly, Divides, IsMany, IsList, IsMore, quoted}
-use Rattle.syslog_elements.proofs.Names.{◌<◌}
-use Rattle.syslog_elements.proofs.Names.{inside, length, Option, single, strict, append_more, ◌also◌, begins}
-use Rattle.syslog_elements.proofs.Names.{Values}
-use Rattle.syslog_elements.proofs.Names.{param, heads, Meets, props, false, arith, subst, Front, Each, pair}
-use Rattle.syslog_elements.proofs.Names.{many}
-use Rattle.syslog_elements.proofs.Names.{item, dash, Ends, Bool, drop, Some, None, refl, Text, join, true, ◌++◌, List}
-use Rattle.syslog_elements.proofs.Names.{ap}
-use Rattle.syslog_elements.proofs.Names.{inl, inr, ◌∷◌, sym, ◌∙◌, map, Row, run, [], ℕ}
+use Rattle.syslog_elements.proofs.Names.{◌≡◌, drop-append_seam, bare_param_text, exactly_det, IsDeterministic}
+use Rattle.syslog_elements.proofs.Names.{joined_elements, AllByRecursion, BeginsUnblank, elements_text, is_prop→PathP}
+use Rattle.syslog_elements.proofs.Names.{length-append, Class, append_assoc, is_name_char, is_open_char, ElementValue}
+use Rattle.syslog_elements.proofs.Names.{some_run_det, is_id_char, element_text, one_value-is, list_before, IsValueUnit}
+use Rattle.syslog_elements.proofs.Names.{element_row, opening_row, element_of, texted_det, front_same, mapped_det}
+use Rattle.syslog_elements.proofs.Names.{param_text, row_pieces, param_of, quoted_row, OneMeaning, inside_row}
+use Rattle.syslog_elements.proofs.Names.{nat_tests, forgiving, many_here, one_value, unit_text, param_row, bracketed}
+use Rattle.syslog_elements.proofs.Names.{start_row, is_blank, many_det, value, flat_map, list_any, some_run, TextUnit}
+use Rattle.syslog_elements.proofs.Names.{element, run_det, row_det, ◌≢◌, is_none, IsValue, NoFront, exactly, Divides}
+use Rattle.syslog_elements.proofs.Names.{IsMany, IsList, IsMore, quoted, ◌<◌, inside, length, Option, single, strict}
+use Rattle.syslog_elements.proofs.Names.{append_more, ◌also◌, begins, Values, param, heads, Meets, props, false, arith}
+use Rattle.syslog_elements.proofs.Names.{subst, Front, Each, pair, many, item, dash, Ends, Bool, drop, Some, None, refl}
+use Rattle.syslog_elements.proofs.Names.{Text, join, ◌++◌, List, ap, inl, inr, ◌∷◌, sym, ◌∙◌, map, Row, run, []}
+use Rattle.syslog_elements.proofs.Names.{ℕ}
 use Rattle.std.proofs.lemmas.List.Elements.{filter_map-append}
 use Rattle.syslog_text.proofs.PieceLemmas.Lists.{list_before_det}
 use Rattle.syslog_elements.proofs.StructuredDataLemmas.Units.{unit_same, units_same}
@@ -89,13 +76,10 @@ pub param_det : IsDeterministic param
 param_det = mapped_det (Row param_row) (Text × Text) param_of
     (row_det param_row (all_joined opening_row quoted_row opening_det quoted_row_det))
 
-name_no_close : (c : ℕ) → is_name_char c ≡ true → c ≢ 93
-name_no_close c h = grind (arith, nat_tests)
-
 -- a nonempty run of such characters doesn't begin with a bracket
 pub run_no_close : (w q r : Text) → 0 < length w → Each is_name_char w → w ++ q ≡ 93 ∷ r → ⊥
 run_no_close [] q r l h e = omega arith
-run_no_close (c ∷ w) q r l h e = name_no_close c h.0 (cc)
+run_no_close (c ∷ w) q r l h e = let other : c ≢ 93 = grind (arith, nat_tests, h.0) in other (cc)
 
 param_apart : (p q : Text) (v : Text × Text) (r : Text) → param.Is p q v → p ++ q ≡ 93 ∷ r → ⊥
 param_apart p q v r (vs, ([], f, h), g) e = h

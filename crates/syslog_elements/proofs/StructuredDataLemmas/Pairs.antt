@@ -3,40 +3,32 @@ use Rattle.std.proofs.lemmas.List.{append_cancel_left}
 use Rattle.std.proofs.Math.Logic.{∥∥₁_elim}
 use Rattle.syslog_elements.proofs.Names.{◌≡◌, ◌<◌, inl, inr, ℕ, List, [], ◌∷◌, ◌++◌, Option, Some, None, refl, sym, ap}
 use Rattle.syslog_elements.proofs.Names.{subst, ◌∙◌, arith, length, length-append, nat_tests, true, chars, chars-nil}
-use Rattle.syslog_elements.proofs.Names.{Text, Values, Front, NoFront, IsDeterministic, exactly, optional, many}
-use Rattle.syslog_elements.proofs.Names.{Row, run, some_run, texted, Each, Ends, Σ_prop, ⊥_prop, OneMeaning, one_value}
-use Rattle.syslog_elements.proofs.Names.{one_value-is}
-use Rattle.syslog_elements.proofs.Names.{AllDeterministic, ◌also◌, ◌then◌, exactly_det, some_run_det, texted_det}
-use Rattle.syslog_elements.proofs.Names.{mapped_det}
-use Rattle.syslog_elements.proofs.Names.{row_det, row_of, row_pieces, row_head, many_det, many_here, run_det}
-use Rattle.syslog_elements.proofs.Names.{begins, heads, optional_none, optional_some, quoted, ElementValue, strict}
-use Rattle.syslog_elements.proofs.Names.{item}
+use Rattle.syslog_elements.proofs.Names.{Text, Values, Front, NoFront, IsDeterministic, exactly, optional, many, Row}
+use Rattle.syslog_elements.proofs.Names.{run, some_run, texted, Each, Ends, Σ_prop, ⊥_prop, OneMeaning, one_value}
+use Rattle.syslog_elements.proofs.Names.{one_value-is, AllDeterministic, ◌also◌, ◌then◌, exactly_det, some_run_det}
+use Rattle.syslog_elements.proofs.Names.{texted_det, mapped_det, row_det, row_of, row_pieces, row_head, many_det}
+use Rattle.syslog_elements.proofs.Names.{many_here, run_det, begins, heads, optional_none, optional_some, quoted}
+use Rattle.syslog_elements.proofs.Names.{ElementValue, strict, item, AllByRecursion, AllByRecursion-prop}
+use Rattle.syslog_elements.proofs.Names.{BeginsUnblank, IsCanonicalElement, IsCanonicalParam, IsMany, IsValue, each_map}
+use Rattle.syslog_elements.proofs.Names.{is_id_char, is_name_char, list_elements, quoted_row, Bool, IsDashBefore}
+use Rattle.syslog_elements.proofs.Names.{front_same}
 use Rattle.syslog_elements.specs.StructuredData.Recognised.{OneInside-prop, OnePairs-prop, params_set}
 use Rattle.syslog_elements.specs.StructuredData.Unparsed.{IsUnparsed}
 use Rattle.syslog_text.specs.Text.{is_blank, is_tag_char}
 use Rattle.syslog_text.specs.Text.CharClass.{is_sd_name_char}
-use Rattle.syslog_text.proofs.PieceLemmas.Class.{front_longer, front_of, row_cons}
+use Rattle.syslog_text.proofs.PieceLemmas.Class.{front_longer, front_of, row_cons, present_front}
 use Rattle.syslog_text.proofs.PieceLemmas.Rules.{many_left, none_left, such_det}
-use Rattle.syslog_elements.specs.StructuredData.Pairs.{EndsPair, IsNextParam, IsSdName, NoNextParam, inside_of}
-use Rattle.syslog_elements.specs.StructuredData.Pairs.{left_in, pair, pair_end, pair_name, pair_of, pair_row, pairs}
-use Rattle.syslog_elements.specs.StructuredData.Pairs.{pairs_in}
-use Rattle.syslog_elements.specs.StructuredData.Pairs.{open_row, paired, paired_element, pairs_row, with_pairs}
+use Rattle.syslog_elements.specs.StructuredData.Pairs.{EndsPair, IsNextParam, IsSdName, NoNextParam, inside_of, left_in}
+use Rattle.syslog_elements.specs.StructuredData.Pairs.{pair, pair_end, pair_name, pair_of, pair_row, pairs, pairs_in}
+use Rattle.syslog_elements.specs.StructuredData.Pairs.{open_row, paired, paired_element, pairs_row, with_pairs, pair_id}
 use Rattle.syslog_elements.specs.declared.structured_data.pairs.Notation.{Notation}
 use Rattle.syslog_elements.specs.declared.structured_data.pairs.Notation.TheVariants.{Colons, Equals}
-use Rattle.syslog_elements.proofs.Names.{false, AllByRecursion, AllByRecursion-prop, BeginsUnblank, IsCanonicalElement}
-use Rattle.syslog_elements.proofs.Names.{IsCanonicalParam, IsMany, IsValue, each_map, is_id_char, is_name_char}
-use Rattle.syslog_elements.proofs.Names.{list_elements}
-use Rattle.syslog_elements.proofs.Names.{quoted_row}
 use Rattle.std.specs.Prelude.{◌+◌, nat_lt}
 use Rattle.std.specs.Str.{IsAscii}
 use Rattle.syslog_text.proofs.TextLemmas.Runs.{low_ascii}
-use Rattle.syslog_elements.proofs.Names.{Bool, IsDashBefore, front_same}
 use Rattle.syslog_elements.specs.declared.structured_data.rfc3164_list.DashRule.TheVariants.{BeforeBlank}
-use Rattle.syslog_text.proofs.PieceLemmas.Class.{present_front}
-use Rattle.syslog_elements.specs.StructuredData.Pairs.{pair_id}
 use Rattle.syslog_elements.specs.declared.structured_data.recognised.ElementList.{ElementList}
-use Rattle.syslog_elements.proofs.StructuredDataLemmas.Elements.{element_prop, element_with, items_are}
-use Rattle.syslog_elements.proofs.StructuredDataLemmas.Elements.{items_canonical}
+use Rattle.syslog_elements.proofs.StructuredDataLemmas.Elements.{element_prop, element_with, items_are, items_canonical}
 use Rattle.syslog_elements.proofs.StructuredDataLemmas.Elements.{no_items_here, quoted_det}
 use Rattle.syslog_elements.proofs.StructuredDataLemmas.Unparsed.{nothing_leaves, unparsed_same}
 use Rattle.syslog_elements.proofs.StructuredDataLemmas.Walk.{items_same, no_params, not_inside, one_meaning}
@@ -335,15 +327,9 @@ some_left_in (b ∷ bs) us some = refl
 
 -- ---- the elements of a list are canonical
 
-sd_name : (c : ℕ) → is_sd_name_char c ≡ true → is_name_char c ≡ true
-sd_name c h = grind (arith, nat_tests)
-
-sd_name_unblank : (c : ℕ) → is_sd_name_char c ≡ true → is_blank c ≡ false
-sd_name_unblank c h = grind (arith, nat_tests)
-
 name_unblank : (w : Text) → 0 < length w → Each is_sd_name_char w → Ends is_blank w
 name_unblank [] l each = tt
-name_unblank (c ∷ w) l each = sd_name_unblank c each.0
+name_unblank (c ∷ w) l each = grind (arith, nat_tests, each.0)
 
 -- a pair is a canonical parameter, whose name does not begin with a blank
 pair_canonical : (p q : Text) (v : Text × Text) → pair.Is p q v → IsCanonicalParam v × Ends is_blank v.0
@@ -354,7 +340,11 @@ pair_canonical p q v (vs, row, same) =
     let each : Each is_sd_name_char vs.0 = name.is.1 in
     let long : 0 < length vs.0 = subst (λ (x : Text). 0 < length x) (sym is) run.0 in
     rw same (
-      (long, each_map is_sd_name_char is_name_char sd_name vs.0 each, subst IsValue (sym it.is.2) it.is.0),
+      (
+        long,
+        each_map is_sd_name_char is_name_char (λ c h. grind (arith, nat_tests)) vs.0 each,
+        subst IsValue (sym it.is.2) it.is.0,
+      ),
       name_unblank vs.0 long each,
     )
 

@@ -2,40 +2,18 @@
 use Rattle.std.specs.Prelude.{MatchOption, is_some, not}
 use Rattle.std.specs.Option.{option_or}
 use Rattle.syslog_elements.proofs.StructuredDataLemmas.Walk.{chars_length, flat_map_more}
-use Rattle.syslog_elements.proofs.Names.{Bor}
-use Rattle.syslog_elements.proofs.Names.{append_cancel_right}
-use Rattle.syslog_elements.proofs.Names.{length}
-use Rattle.syslog_elements.proofs.Names.{joined_elements, length-append}
-use Rattle.syslog_elements.proofs.Names.{elements_text, has_read_more}
-use Rattle.syslog_elements.proofs.Names.{Class}
-use Rattle.syslog_elements.proofs.Names.{append_assoc}
-use Rattle.syslog_elements.proofs.Names.{ElementValue, element_text, element_seen}
-use Rattle.syslog_elements.proofs.Names.{ℕ}
-use Rattle.syslog_elements.proofs.Names.{sum_by_push}
-use Rattle.syslog_elements.proofs.Names.{IsUtf8}
-use Rattle.syslog_elements.proofs.Names.{append-nil, front_same}
-use Rattle.syslog_elements.proofs.Names.{and_parts}
-use Rattle.syslog_elements.proofs.Names.{◌≡◌}
-use Rattle.syslog_elements.proofs.Names.{many_here}
-use Rattle.syslog_elements.proofs.Names.{◌<◌}
-use Rattle.syslog_elements.proofs.Names.{IsWalked, NoFront}
-use Rattle.syslog_elements.proofs.Names.{inl}
-use Rattle.syslog_elements.proofs.Names.{element, HasRead, IsTrue}
-use Rattle.syslog_elements.proofs.Names.{[]}
-use Rattle.syslog_elements.proofs.Names.{strict, Visits}
-use Rattle.syslog_elements.proofs.Names.{Walked, Option, heads, false, subst}
-use Rattle.syslog_elements.proofs.Names.{Some}
-use Rattle.syslog_elements.proofs.Names.{arith, Front, shown, chars, None, List, ◌++◌, refl, Text}
-use Rattle.syslog_elements.proofs.Names.{many, dash, Bool, ◌&&◌, item, true, inr, ◌∷◌, sym, ◌∙◌, ◌↔◌, ◌+◌, ◌≤◌}
-use Rattle.syslog_elements.proofs.Names.{◌⊎◌}
-use Rattle.syslog_elements.proofs.Names.{ap}
+use Rattle.syslog_elements.proofs.Names.{Bor, append_cancel_right, length, joined_elements, length-append}
+use Rattle.syslog_elements.proofs.Names.{elements_text, has_read_more, Class, append_assoc, ElementValue, element_text}
+use Rattle.syslog_elements.proofs.Names.{element_seen, ℕ, sum_by_push, IsUtf8, append-nil, front_same, and_parts, ◌≡◌}
+use Rattle.syslog_elements.proofs.Names.{many_here, ◌<◌, IsWalked, NoFront, inl, element, HasRead, IsTrue, [], strict}
+use Rattle.syslog_elements.proofs.Names.{Visits, Walked, Option, heads, false, subst, Some, arith, Front, shown, chars}
+use Rattle.syslog_elements.proofs.Names.{None, List, ◌++◌, refl, Text, many, dash, Bool, ◌&&◌, item, true, inr, ◌∷◌}
+use Rattle.syslog_elements.proofs.Names.{sym, ◌∙◌, ◌↔◌, ◌+◌, ◌≤◌, ◌⊎◌, ap, ◌≢◌, cases_Bool, and_from}
 use Rattle.syslog_elements.specs.StructuredData.Visited.{IsTallied, AreItems, strict_end}
 use Rattle.syslog_elements.specs.declared.structured_data.line_list.Tally.{Tally}
-use Rattle.syslog_elements.proofs.StructuredDataLemmas.Elements.{element_shorter}
-use Rattle.syslog_elements.proofs.StructuredDataLemmas.Elements.{element_det, item_begins}
+use Rattle.syslog_elements.proofs.StructuredDataLemmas.Elements.{element_shorter, element_det, item_begins}
 use Rattle.syslog_elements.proofs.StructuredDataLemmas.Elements.{element_back, element_canonical}
 use Rattle.std.proofs.lemmas.List.{append_cancel_left}
-use Rattle.syslog_elements.proofs.Names.{◌≢◌, cases_Bool, and_from}
 use Rattle.syslog_text.proofs.PieceLemmas.Lists.{many_parts}
 use Rattle.syslog_text.proofs.TextLemmas.Runs.{bytes}
 use Rattle.syslog_text.proofs.PieceLemmas.Class.{front_longer, front_of}

@@ -1,26 +1,18 @@
 -- Texts split into units in one way, escapes, and the texts and the equality of elements.
 use Rattle.syslog_elements.proofs.Names.{◌≡◌, Bool, true, cond, List, ◌++◌, refl, arith, IfOk, chars, is_ok, Class}
-use Rattle.syslog_elements.proofs.Names.{param}
-use Rattle.syslog_elements.proofs.Names.{◌≢◌, inl, inr, ◌∷◌, sym, Text, Each, Ends, pair, item, Some, None, take, drop}
-use Rattle.syslog_elements.proofs.Names.{ℕ, eqb_tells, nat_tests, unit_text, SplitsRun, param_row, map-append}
-use Rattle.syslog_elements.proofs.Names.{one_answer}
-use Rattle.syslog_elements.proofs.Names.{false, Result, IsUtf8, single, String, Option, Values, exactly, element}
-use Rattle.syslog_elements.proofs.Names.{all_map}
-use Rattle.syslog_elements.proofs.Names.{[], element_row, elements_or, length-drop, param_value, param_count}
-use Rattle.syslog_elements.proofs.Names.{same_params}
-use Rattle.syslog_elements.proofs.Names.{ap, chars-nil, ◌∙◌, Err, Ok, ◌↔◌, Bor, Row, run, ◌+◌, ◌<◌, map, ◌-◌}
-use Rattle.syslog_elements.proofs.Names.{subst, mapped, IsMany, IsMore, IsList, strict, ◌also◌, length, get_or, nat_eq}
-use Rattle.syslog_elements.proofs.Names.{append_assoc, append-nil, chars-append, is_name_char, ElementValue}
-use Rattle.syslog_elements.proofs.Names.{full_element}
-use Rattle.syslog_elements.proofs.Names.{flat_map, TextUnit, some_run, optional, forgiving, param_of, is_blank}
-use Rattle.syslog_elements.proofs.Names.{take_more}
-use Rattle.syslog_elements.proofs.Names.{AllByRecursion, take-append-drop, sum_by-append, element_texts}
-use Rattle.syslog_elements.proofs.Names.{escaped, all_append, cases_Bool, is_id_char, element_of, length-map}
-use Rattle.syslog_elements.proofs.Names.{sum_by-cons}
-use Rattle.syslog_elements.proofs.Names.{IsUnescaped, IsValueUnit, rfc3164_list, counts_agree, list_all-map}
-use Rattle.syslog_elements.proofs.Names.{is_bare_char}
-use Rattle.syslog_elements.proofs.Names.{IsValue, DashRule, count_by, take_all, list_all, param_eq}
-use Rattle.syslog_elements.proofs.Names.{encode_utf8_all, encodes-append, param_text}
+use Rattle.syslog_elements.proofs.Names.{param, ◌≢◌, inl, inr, ◌∷◌, sym, Text, Each, Ends, pair, item, Some, None, take}
+use Rattle.syslog_elements.proofs.Names.{drop, ℕ, eqb_tells, nat_tests, unit_text, SplitsRun, param_row, map-append}
+use Rattle.syslog_elements.proofs.Names.{one_answer, false, Result, IsUtf8, single, String, Option, Values, exactly}
+use Rattle.syslog_elements.proofs.Names.{element, all_map, [], element_row, elements_or, length-drop, param_value}
+use Rattle.syslog_elements.proofs.Names.{param_count, same_params, ap, chars-nil, ◌∙◌, Err, Ok, ◌↔◌, Bor, Row, run, ◌+◌}
+use Rattle.syslog_elements.proofs.Names.{◌<◌, map, ◌-◌, subst, mapped, IsMany, IsMore, IsList, strict, ◌also◌, length}
+use Rattle.syslog_elements.proofs.Names.{get_or, nat_eq, append_assoc, append-nil, chars-append, is_name_char}
+use Rattle.syslog_elements.proofs.Names.{ElementValue, full_element, flat_map, TextUnit, some_run, optional, forgiving}
+use Rattle.syslog_elements.proofs.Names.{param_of, is_blank, take_more, AllByRecursion, take-append-drop, sum_by-append}
+use Rattle.syslog_elements.proofs.Names.{element_texts, escaped, all_append, cases_Bool, is_id_char, element_of}
+use Rattle.syslog_elements.proofs.Names.{length-map, sum_by-cons, IsUnescaped, IsValueUnit, rfc3164_list, counts_agree}
+use Rattle.syslog_elements.proofs.Names.{list_all-map, is_bare_char, IsValue, DashRule, count_by, take_all, list_all}
+use Rattle.syslog_elements.proofs.Names.{param_eq, encode_utf8_all, encodes-append, param_text}
 use Rattle.std.specs.Char.{encode_utf8}
 use Rattle.std.specs.Global.{Global}
 use Rattle.std.specs.Iterator.{Drains}
@@ -59,9 +51,6 @@ module _ (P : TextUnit → Type 0) (bare : (c : ℕ) → P (single c) → c ≢ 
         let j = units_same us vs s t h.1 k.1 x y i.1 in
         (let a = i.0 in let b = j.0 in cc, j.1)
 
-lone_same : (k l : Bool) → lone_backslash k ≡ lone_backslash l → k ≡ l
-lone_same k l e = grind arith
-
 abbrev IsLone : Text → Type 0
 IsLone t = (k : Bool) × (t ≡ lone_backslash k)
 
@@ -76,7 +65,7 @@ pub split_one : (text : Text) (us vs : List TextUnit) (k l : Bool) → SplitsUni
 split_one text us vs k l s t =
     let (units, rest) = units_same IsUnit (λ c h. h) IsLone no_lone_unit us vs _ _ s.each t.each (k, refl) (l, refl)
     (sym s.whole ∙ t.whole) in
-    (units, lone_same k l rest)
+    (units, grind (arith, rest))
 
 split_cons : (u : TextUnit) {text : Text} (us : List TextUnit) (k : Bool) → IsUnit u → SplitsUnits text us k
     → SplitsUnits (unit_text u ++ text) (u ∷ us) k
@@ -104,9 +93,6 @@ split_there (c ∷ d ∷ text) = elim (eqb_tells c 92) [
 ]
 
 -- ---- escaped texts
-not_backslash : (c : ℕ) → is_escaped c ≡ false → c ≢ 92
-not_backslash c e = grind (arith, nat_tests)
-
 escaped_pair : (c : ℕ) → is_escaped c ≡ true → pair_meaning c ≡ c ∷ []
 escaped_pair c e = grind (arith, nat_tests)
 
@@ -123,7 +109,7 @@ pub escaped_there : (t : Text) → IsUnescaped (escaped t) t
 escaped_there [] = record { units = []; lone = false; split = record { whole = refl; each = tt }; means = refl }
 escaped_there (c ∷ t) = elim (cases_Bool (is_escaped c)) [
   | inl e ↦ (let i = rw (escaped_pair c e) at (unescaped_on (pair c) tt (escaped_there t)) in rw e i)
-  | inr e ↦ rw e (unescaped_on (single c) (not_backslash c e) (escaped_there t))
+  | inr e ↦ rw e (unescaped_on (single c) (grind (arith, nat_tests, e)) (escaped_there t))
 ]
 
 pub unescaped_one : (t v w : Text) → IsUnescaped t v → IsUnescaped t w → v ≡ w
@@ -173,15 +159,12 @@ means_nothing : {t : Text} (lone : Bool) → t ≡ lone_backslash lone → IsUne
 means_nothing lone e =
     record { units = []; lone = lone; split = record { whole = e; each = tt }; means = refl }
 
-bare_is : (c : ℕ) → is_bare_char c ≡ true → c ≢ 92
-bare_is c e = grind (arith, nat_tests)
-
 bare_not : (c : ℕ) → is_bare_char c ≡ false → c ≡ 92
 bare_not c e = grind (arith, nat_tests)
 
 unescaped_run : (xs t w : Text) → Each is_bare_char xs → IsUnescaped t w → IsUnescaped (xs ++ t) (xs ++ w)
 unescaped_run [] t w h i = i
-unescaped_run (c ∷ xs) t w h i = unescaped_on (single c) (bare_is c h.0) (unescaped_run xs t w h.1 i)
+unescaped_run (c ∷ xs) t w h i = unescaped_on (single c) (grind (arith, nat_tests, h.0)) (unescaped_run xs t w h.1 i)
 
 -- what a text means that begins with a character which is no backslash
 single_first : (d : ℕ) (q w : Text) → d ≢ 92 → IsUnescaped (d ∷ q) w

@@ -1,14 +1,12 @@
 -- What is left unparsed of a list: one text, which is nothing or goes from a bracket to a bracket.
-use Rattle.syslog_elements.proofs.Names.{shown}
-use Rattle.syslog_elements.proofs.Names.{Bor, props, ∥∥₁_elim, many_cons, many_here, append_more, append_cancel_right, strict}
-use Rattle.syslog_elements.proofs.Names.{◌≡◌, ◌≢◌, ◌⊎◌, ◌<◌, inl, inr, ℕ, List, [], ◌∷◌, ◌++◌, Option, Some, None, refl}
-use Rattle.syslog_elements.proofs.Names.{sym}
-use Rattle.syslog_elements.proofs.Names.{ap, subst, ◌∙◌, map, arith, length}
-use Rattle.syslog_elements.proofs.Names.{append_assoc, append-nil, Text, Class, Values}
-use Rattle.syslog_elements.proofs.Names.{Front, NoFront, IsDeterministic, exactly, texted, run, some_run, many, IsMany}
-use Rattle.syslog_elements.proofs.Names.{list_before, param, element, full_element, item, forgiving, dash, ElementValue}
-use Rattle.syslog_elements.proofs.Names.{elements_text, joined_elements, element_text, front_same, many_det, is_blank}
-use Rattle.syslog_elements.proofs.Names.{is_open_char, is_id_char}
+use Rattle.syslog_elements.proofs.Names.{shown, Bor, props, ∥∥₁_elim, many_cons, many_here, append_more}
+use Rattle.syslog_elements.proofs.Names.{append_cancel_right, strict, ◌≡◌, ◌≢◌, ◌⊎◌, ◌<◌, inl, inr, ℕ, List, [], ◌∷◌}
+use Rattle.syslog_elements.proofs.Names.{◌++◌, Option, Some, None, refl, sym, ap, subst, ◌∙◌, map, arith, length}
+use Rattle.syslog_elements.proofs.Names.{append_assoc, append-nil, Text, Class, Values, Front, NoFront, IsDeterministic}
+use Rattle.syslog_elements.proofs.Names.{exactly, texted, run, some_run, many, IsMany, list_before, param, element}
+use Rattle.syslog_elements.proofs.Names.{full_element, item, forgiving, dash, ElementValue, elements_text}
+use Rattle.syslog_elements.proofs.Names.{joined_elements, element_text, front_same, many_det, is_blank, is_open_char}
+use Rattle.syslog_elements.proofs.Names.{is_id_char}
 use Rattle.std.specs.List.{AllByRecursion}
 use Rattle.syslog_text.specs.Pieces.Class.{Divides, join}
 use Rattle.syslog_elements.specs.StructuredData.Canonical.{IsCanonicalElement}

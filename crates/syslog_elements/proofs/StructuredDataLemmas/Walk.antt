@@ -1,47 +1,32 @@
 -- The walk over lists: where an element ends, what is left, and the counts; and the list of RFC 3164.
-use Rattle.syslog_elements.proofs.Names.{append_cancel_right, length-le-encodes, IsDeterministic, nil_from_length}
-use Rattle.syslog_elements.proofs.Names.{length}
-use Rattle.syslog_elements.proofs.Names.{encode_utf8_all, joined_elements, flat_map-append, length-append}
-use Rattle.syslog_elements.proofs.Names.{row_none_here}
-use Rattle.syslog_elements.proofs.Names.{elements_text, optional_some, optional_none, encodes-chars, has_read_more}
-use Rattle.syslog_elements.proofs.Names.{Class}
-use Rattle.syslog_elements.proofs.Names.{full_element, IsDashBefore, rfc3164_list, BeginsNoList, append_assoc}
-use Rattle.syslog_elements.proofs.Names.{inside_row}
-use Rattle.syslog_elements.proofs.Names.{ElementValue, is_name_char, element_text, element_seen, one_value-is}
-use Rattle.syslog_elements.proofs.Names.{param_text}
-use Rattle.syslog_elements.proofs.Names.{is_open_char, opening_row, list_before, element_row, more_before, no_front_no}
-use Rattle.syslog_elements.proofs.Names.{ℕ}
-use Rattle.syslog_elements.proofs.Names.{elements_or, sum_by_push, meets_none, name_alone, OneMeaning, element_of}
-use Rattle.syslog_elements.proofs.Names.{IsUtf8}
-use Rattle.syslog_elements.proofs.Names.{is_id_char, no_many_no, row_pieces, append-nil, byte_count, front_same}
-use Rattle.syslog_elements.proofs.Names.{row_goes}
-use Rattle.syslog_elements.proofs.Names.{start_row, many_cons, many_none, rows_step, and_parts, list_here, list_goes}
-use Rattle.syslog_elements.proofs.Names.{◌≡◌}
-use Rattle.syslog_elements.proofs.Names.{more_goes, row_first, more_here, many_here, one_value, forgiving, bracketed}
-use Rattle.syslog_elements.proofs.Names.{◌<◌}
-use Rattle.syslog_elements.proofs.Names.{∥∥₁_elim, row_head, param_of, is_blank, optional, DashRule, many_det, flat_map}
-use Rattle.syslog_elements.proofs.Names.{some_run, id_alone, meets_on, tail_row, IsWalked, opening, closing, NoFront}
-use Rattle.syslog_elements.proofs.Names.{inl}
-use Rattle.syslog_elements.proofs.Names.{exactly, element, no_more, no_list, IsAlone, HasRead, IsTrue, texted, IsMany}
-use Rattle.syslog_elements.proofs.Names.{[]}
-use Rattle.syslog_elements.proofs.Names.{strict, Visits, Values, append_more, inside, quoted, IsDead, Leaves, row_of}
-use Rattle.syslog_elements.proofs.Names.{◌also◌, begins, Walked, Option, Σ_prop, ⊥_prop, heads, false, value, subst}
-use Rattle.syslog_elements.proofs.Names.{Some}
-use Rattle.syslog_elements.proofs.Names.{arith, start, Front, param, Meets, shown, chars, None, List, ◌++◌, refl, Text}
-use Rattle.syslog_elements.proofs.Names.{many, dash, Bool, ◌&&◌, item, true, inr, ◌∷◌, sym, ◌∙◌, Row, ◌↔◌, ◌+◌, ◌≤◌}
-use Rattle.syslog_elements.proofs.Names.{◌⊎◌}
-use Rattle.syslog_elements.proofs.Names.{map, run, ap, ◌then◌}
+use Rattle.syslog_elements.proofs.Names.{length-le-encodes, IsDeterministic, nil_from_length}
+use Rattle.syslog_elements.proofs.Names.{length, encode_utf8_all, flat_map-append, length-append}
+use Rattle.syslog_elements.proofs.Names.{row_none_here, optional_some, optional_none, encodes-chars}
+use Rattle.syslog_elements.proofs.Names.{Class, full_element, IsDashBefore, rfc3164_list, BeginsNoList}
+use Rattle.syslog_elements.proofs.Names.{append_assoc, inside_row, ElementValue, is_name_char, element_text}
+use Rattle.syslog_elements.proofs.Names.{element_seen, one_value-is, param_text, is_open_char, opening_row, list_before}
+use Rattle.syslog_elements.proofs.Names.{element_row, more_before, no_front_no, ℕ, elements_or, meets_none}
+use Rattle.syslog_elements.proofs.Names.{name_alone, OneMeaning, element_of, IsUtf8, is_id_char, no_many_no, row_pieces}
+use Rattle.syslog_elements.proofs.Names.{append-nil, byte_count, front_same, row_goes, start_row, many_cons, many_none}
+use Rattle.syslog_elements.proofs.Names.{rows_step, and_parts, list_here, list_goes, ◌≡◌, more_goes, row_first}
+use Rattle.syslog_elements.proofs.Names.{more_here, many_here, one_value, forgiving, bracketed, ◌<◌, ∥∥₁_elim, row_head}
+use Rattle.syslog_elements.proofs.Names.{param_of, is_blank, optional, DashRule, many_det, flat_map, some_run, id_alone}
+use Rattle.syslog_elements.proofs.Names.{meets_on, tail_row, IsWalked, opening, closing, NoFront, inl, exactly, element}
+use Rattle.syslog_elements.proofs.Names.{no_more, no_list, IsAlone, IsTrue, texted, IsMany, [], strict}
+use Rattle.syslog_elements.proofs.Names.{Values, append_more, inside, quoted, IsDead, Leaves, row_of, ◌also◌, begins}
+use Rattle.syslog_elements.proofs.Names.{Walked, Option, Σ_prop, ⊥_prop, heads, value, subst, Some, arith, start}
+use Rattle.syslog_elements.proofs.Names.{Front, param, Meets, shown, chars, None, List, ◌++◌, refl, Text, many, dash}
+use Rattle.syslog_elements.proofs.Names.{Bool, ◌&&◌, item, inr, ◌∷◌, sym, ◌∙◌, Row, ◌↔◌, ◌+◌, ◌≤◌, ◌⊎◌, map, run}
+use Rattle.syslog_elements.proofs.Names.{ap, ◌then◌, ◌≢◌, cases_Bool, and_from, bare_param_text, row_det}
 use Rattle.syslog_elements.specs.StructuredData.Recognised.{OneInside-prop, OneItems-prop, params_set, items_set}
 use Rattle.syslog_elements.specs.StructuredData.Pairs.{IsNext, inside_of}
 use Rattle.syslog_elements.specs.StructuredData.Visited.{AreItems}
 use Rattle.syslog_elements.specs.declared.structured_data.pairs.Notation.{Notation}
 use Rattle.syslog_elements.specs.declared.structured_data.pairs.Notation.TheVariants.{Equals}
 use Rattle.syslog_elements.proofs.StructuredDataLemmas.Closing.{passes_opening, element_starts, passes_quoted}
-use Rattle.syslog_elements.proofs.StructuredDataLemmas.Closing.{start_shut}
-use Rattle.syslog_elements.proofs.StructuredDataLemmas.Closing.{element_read, value_breaks, passes_here, param_opens}
-use Rattle.syslog_elements.proofs.StructuredDataLemmas.Closing.{passes_shut, param_read, dead_whole, no_opening}
-use Rattle.syslog_elements.proofs.StructuredDataLemmas.Closing.{no_start}
-use Rattle.syslog_elements.proofs.StructuredDataLemmas.Closing.{passes_row, one_shut, Passes}
+use Rattle.syslog_elements.proofs.StructuredDataLemmas.Closing.{start_shut, element_read, value_breaks, passes_here}
+use Rattle.syslog_elements.proofs.StructuredDataLemmas.Closing.{param_opens, passes_shut, param_read, dead_whole}
+use Rattle.syslog_elements.proofs.StructuredDataLemmas.Closing.{no_opening, no_start, passes_row, one_shut, Passes}
 use Rattle.syslog_elements.proofs.StructuredDataLemmas.Elements.{space_is_no_close, element_shorter, run_no_close}
 use Rattle.syslog_elements.proofs.StructuredDataLemmas.Elements.{item_shorter, element_det, item_begins, quoted_text}
 use Rattle.syslog_elements.proofs.StructuredDataLemmas.Elements.{no_item_nil, dash_apart, quoted_det, inside_det}
@@ -51,10 +36,8 @@ use Rattle.std.proofs.lemmas.List.{append_cancel_left}
 use Rattle.std.specs.List.{AllByRecursion}
 use Rattle.syslog_text.specs.Pieces.Class.{Divides, Each, Ends}
 use Rattle.syslog_elements.specs.StructuredData.Canonical.{BeginsUnblank, IsCanonicalParam}
-use Rattle.syslog_elements.proofs.Names.{◌≢◌, cases_Bool, and_from, bare_param_text, row_det}
-use Rattle.syslog_text.proofs.TextLemmas.Runs.{same_bytes}
+use Rattle.syslog_text.proofs.TextLemmas.Runs.{same_bytes, chars_empty, bytes}
 use Rattle.syslog_text.proofs.PieceLemmas.Lists.{list_cons, more_cons, list_parts, many_parts, more_parts, some_parts}
-use Rattle.syslog_text.proofs.TextLemmas.Runs.{chars_empty, bytes}
 use Rattle.syslog_text.proofs.PieceLemmas.Class.{list_before_steady, texted_steady, closed_steady, mapped_alone}
 use Rattle.syslog_text.proofs.PieceLemmas.Class.{front_longer, row_alone, row_cons, front_of}
 

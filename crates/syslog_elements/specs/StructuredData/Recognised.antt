@@ -3,11 +3,10 @@ use Rattle.std.specs.Prelude.{◌≡◌, List, Option}
 use Rattle.std.proofs.Common.{sym}
 use Rattle.std.proofs.Math.Logic.{∥∥₁_elim, ∥∥₁_prop}
 use mathlib.Core.HLevel.{Σ_prop_path, Σ_prop, Π_prop}
-use Rattle.syslog_text.specs.Pieces.Class.{Text, Class, Front}
+use Rattle.syslog_text.specs.Pieces.Class.{Text, Class, Front, optional}
 use Rattle.syslog_elements.specs.StructuredData.Element.{ElementValue}
 use Rattle.syslog_elements.specs.StructuredData.{item}
 use Rattle.syslog_text.specs.Pieces.Lists.{many}
-use Rattle.syslog_text.specs.Pieces.Class.{optional}
 use Rattle.syslog_elements.specs.StructuredData.Pairs.{inside_of, pairs}
 use Rattle.syslog_elements.specs.declared.structured_data.pairs.Notation.{Notation}
 use Rattle.std.proofs.Props.{props}

@@ -1,9 +1,7 @@
 use Rattle.syslog_elements.proofs.Names.{refl, ◌∙◌, ap, sym, [], ◌∷◌, ◌++◌, append_assoc, take_all, flat_map, Text}
 use Rattle.syslog_elements.proofs.Names.{param_text, param_value, text_of, put_two}
-use Rattle.syslog_text.proofs.TextLemmas.Words.{encodes_shown, encodes_step}
-use Rattle.syslog_elements.proofs.StructuredDataLemmas.Units.{encodes_param, encodes_opening}
-use Rattle.syslog_elements.proofs.StructuredDataLemmas.Units.{encodes_closed}
-use Rattle.syslog_text.proofs.TextLemmas.Words.{flat_map-map}
+use Rattle.syslog_text.proofs.TextLemmas.Words.{encodes_shown, encodes_step, flat_map-map}
+use Rattle.syslog_elements.proofs.StructuredDataLemmas.Units.{encodes_param, encodes_opening, encodes_closed}
 use Rattle.syslog_elements.proofs.structured_data.StructuredElementDisplay.fmt.Goals as goal
 
 pub loop-name-init : goal.loop-name-init

@@ -1,6 +1,5 @@
-use Rattle.syslog_elements.proofs.Names.{◌≡◌}
-use Rattle.syslog_elements.proofs.Names.{subst, append_cancel_right, ◌∙◌, sym, strict, Text}
-use Rattle.syslog_elements.proofs.Names.{ap, elements_text, ◌++◌}
+use Rattle.syslog_elements.proofs.Names.{◌≡◌, subst, append_cancel_right, ◌∙◌, sym, strict, Text, ap, elements_text}
+use Rattle.syslog_elements.proofs.Names.{◌++◌}
 use Rattle.syslog_elements.specs.StructuredData.Unparsed.{IsUnparsed}
 use Rattle.syslog_elements.proofs.StructuredDataLemmas.Tallies.{own_differs, own_items, own_prints}
 use Rattle.syslog_elements.proofs.structured_data.line_list.item_list.Goals as goal

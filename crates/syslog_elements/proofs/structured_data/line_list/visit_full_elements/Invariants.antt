@@ -1,5 +1,4 @@
-use Rattle.syslog_elements.proofs.Names.{◌≡◌, None}
-use Rattle.syslog_elements.proofs.Names.{length, shadow, Utf8, chars, full_element}
+use Rattle.syslog_elements.proofs.Names.{◌≡◌, None, length, shadow, Utf8, chars, full_element}
 use Rattle.syslog_elements.proofs.StructuredDataLemmas.Tallies.{Gone}
 use Rattle.syslog_elements.proofs.structured_data.line_list.visit_full_elements.Given as goal
 

@@ -2,8 +2,7 @@ use Rattle.syslog_elements.proofs.Names.{refl, ◌∙◌, ap, sym, [], ◌∷◌
 use Rattle.syslog_elements.proofs.Names.{encode_utf8_all, param_value, shown, put_two, YieldsList-end}
 use Rattle.syslog_elements.proofs.Names.{YieldsList-from_first, element_seen, params_left}
 use Rattle.syslog_elements.proofs.StructuredDataLemmas.Units.{encodes_closed, encodes_opening, encodes_param}
-use Rattle.syslog_text.proofs.TextLemmas.Words.{encodes_more}
-use Rattle.syslog_text.proofs.TextLemmas.Words.{encodes_shown}
+use Rattle.syslog_text.proofs.TextLemmas.Words.{encodes_more, encodes_shown}
 use Rattle.syslog_elements.proofs.structured_data.display.ElementDisplay.fmt.Goals as goal
 
 pub loop-name-init : goal.loop-name-init

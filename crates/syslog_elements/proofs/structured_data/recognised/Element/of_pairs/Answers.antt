@@ -1,8 +1,7 @@
 use Rattle.syslog_elements.proofs.Names.{rules, ap, length, ◌∙◌, sym, one_value-is}
-use Rattle.syslog_elements.specs.StructuredData.Pairs.{inside_of}
+use Rattle.syslog_elements.specs.StructuredData.Pairs.{inside_of, pair_id}
 use Rattle.syslog_elements.specs.declared.structured_data.pairs.Notation.TheVariants.{Colons}
 use Rattle.std.proofs.lemmas.Str.{chars-IsAscii}
-use Rattle.syslog_elements.specs.StructuredData.Pairs.{pair_id}
 use Rattle.syslog_elements.proofs.StructuredDataLemmas.Pairs.{ascii_id, pairs_det, seen_pairs}
 use Rattle.syslog_elements.proofs.StructuredDataLemmas.Walk.{one_meaning}
 use Rattle.syslog_elements.proofs.structured_data.recognised.Element.of_pairs.Goals as goal

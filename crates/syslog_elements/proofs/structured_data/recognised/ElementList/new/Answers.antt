@@ -1,6 +1,5 @@
 use Rattle.std.specs.Prelude.{chars}
-use Rattle.syslog_elements.proofs.Names.{◌++◌}
-use Rattle.syslog_elements.proofs.Names.{rules, List, length, ap, sym, ◌∙◌, many, item, optional, optional_none}
+use Rattle.syslog_elements.proofs.Names.{◌++◌, rules, List, length, ap, sym, ◌∙◌, many, item, optional, optional_none}
 use Rattle.syslog_elements.proofs.Names.{many_det, ElementValue, sum_by, elements_text}
 use Rattle.syslog_text.proofs.PieceLemmas.Class.{optional_det}
 use Rattle.syslog_elements.specs.StructuredData.Pairs.{pairs}
