@@ -1,20 +1,19 @@
 -- What was converted is converted to the same text again; its text is in the grammar, and is read back.
 use Rattle.syslog_strict.proofs.Words.{◌≡◌, ◌≢◌, ◌⊎◌, inl, inr, ℕ, ℤ, ◌<◌, ◌+ℤ◌, Bool, true, false, List, [], ◌∷◌, ◌++◌}
 use Rattle.syslog_strict.proofs.Words.{length, map, nat_eq, Option, Some, None, refl, sym, subst, ap, ap₂, ◌∙◌, arith}
-use Rattle.syslog_strict.proofs.Words.{append-nil, ◌%◌, unsigned_abs, IfSome, cases_Bool, nat_tests}
-use Rattle.syslog_strict.proofs.Words.{AllByRecursion, option_and_then, option_map, decimal, signed_arith}
-use Rattle.syslog_strict.proofs.Words.{int_rem_euclid-parts, Text, Ends, text_eq, NamesProcess, named_process}
-use Rattle.syslog_strict.proofs.Words.{process_text, IsBoundedProcess, IsCanonicalElement, all_map, named_names}
-use Rattle.syslog_strict.proofs.Words.{nanos_of_seconds, civil_fields, printed_stamp, OffsetTimestamp, MessageValue}
-use Rattle.syslog_strict.proofs.Words.{timestamp_text, priority_of, ElementValue, elements_text, colon, dash, is_blank}
-use Rattle.syslog_strict.proofs.Words.{ProcId, PID, Name, converted, converted_stamp, cut_stamp, has_text, in_utc}
-use Rattle.syslog_strict.proofs.Words.{is_four_digits, micros, cleaned, converted_element, converted_elements}
-use Rattle.syslog_strict.proofs.Words.{converted_host, converted_name, converted_param, converted_process}
-use Rattle.syslog_strict.proofs.Words.{converted_word, escaped_from, is_among, joined_past, named, or_mark, params_of}
-use Rattle.syslog_strict.proofs.Words.{without_last_colon, without_lone_colon, AreDistinct, Front}
-use Rattle.syslog_strict.proofs.Words.{IsSyslogMsg, is_escaped, is_printusascii, is_sd_char}
+use Rattle.syslog_strict.proofs.Words.{append-nil, ◌%◌, unsigned_abs, IfSome, cases_Bool, nat_tests, AllByRecursion}
+use Rattle.syslog_strict.proofs.Words.{option_and_then, option_map, decimal, signed_arith, int_rem_euclid-parts, Text}
+use Rattle.syslog_strict.proofs.Words.{Ends, text_eq, NamesProcess, named_process, process_text, IsBoundedProcess}
+use Rattle.syslog_strict.proofs.Words.{IsCanonicalElement, all_map, named_names, nanos_of_seconds, civil_fields}
+use Rattle.syslog_strict.proofs.Words.{printed_stamp, OffsetTimestamp, MessageValue, timestamp_text, priority_of}
+use Rattle.syslog_strict.proofs.Words.{ElementValue, elements_text, colon, dash, is_blank, ProcId, PID, Name, converted}
+use Rattle.syslog_strict.proofs.Words.{converted_stamp, cut_stamp, has_text, in_utc, is_four_digits, micros, cleaned}
+use Rattle.syslog_strict.proofs.Words.{converted_element, converted_elements, converted_host, converted_name}
+use Rattle.syslog_strict.proofs.Words.{converted_param, converted_process, converted_word, escaped_from, is_among}
+use Rattle.syslog_strict.proofs.Words.{joined_past, named, or_mark, params_of, without_last_colon, without_lone_colon}
+use Rattle.syslog_strict.proofs.Words.{AreDistinct, Front, IsSyslogMsg, is_escaped, is_printusascii, is_sd_char}
 use Rattle.syslog_strict.proofs.Words.{list_any-append, flat_map, ◌≤◌}
-use Rattle.std.proofs.Common.{Result, Ok, Err}
+use Rattle.std.proofs.Common.{Result, Ok, Err, ◌&&◌, nat_lt}
 use Rattle.std.specs.Prelude.{MatchResult}
 use Rattle.syslog_strict.specs.{Call.Converts, Call.IsConvertedText, Call.IsLineText, Call.IsStrictText}
 use Rattle.syslog_strict.specs.{Call.NoSyslogMsg, Conversion.converted_value}
@@ -23,18 +22,15 @@ use Rattle.syslog_strict.proofs.GrammarLemmas.{elements_prints, no_element}
 use Rattle.syslog_strict.specs.Grammar.{IsAll, IsValueUnit, body, header, pri, prival, sd_elements, sp, version}
 use Rattle.syslog_text.specs.Pieces.{Class.Row, Class.exactly, Class.rest, Class.spaced, Rules.short_run}
 use Rattle.syslog_elements.specs.StructuredData.Escapes.{TextUnit, pair, single, unit_text}
-use Rattle.syslog_text.proofs.PieceLemmas.Class.{◌then◌, front_division, optional_some, piece_front, rest_front}
-use Rattle.syslog_text.proofs.PieceLemmas.Class.{row_of}
+use Rattle.syslog_text.proofs.PieceLemmas.Class.{◌then◌, front_division, optional_some, piece_front, rest_front, row_of}
 use Rattle.syslog_text.proofs.PieceLemmas.Class.{rows_join, spaced_front}
 use Rattle.syslog_text.proofs.TextLemmas.Bounded.{numeral_back}
 use Rattle.syslog_strict.proofs.ElementLemmas.{elements_some, other_if, same_if}
-use Rattle.std.proofs.Common.{◌&&◌, nat_lt}
 use Rattle.std.proofs.lemmas.{Bool.or_from}
 use Rattle.std.specs.Bool.{◌==◌}
 use Rattle.syslog_pieces.specs.{ProcId.IsBareWord, Timestamp.Zone.Dating}
 use Rattle.syslog_text.specs.{Text.Canonical.EndsVisibly}
-use Rattle.syslog_elements.proofs.StructuredDataLemmas.Elements.{forgiving_back}
-use Rattle.syslog_elements.proofs.StructuredDataLemmas.Elements.{forgiving_det, no_item_nil}
+use Rattle.syslog_elements.proofs.StructuredDataLemmas.Elements.{forgiving_back, forgiving_det, no_item_nil}
 use Rattle.syslog_loose.specs.{Printed.printed, Printed.printed_5424, declared.variant.Variant.Variant}
 use Rattle.syslog_loose.specs.{declared.variant.Variant.TheVariants.Either, Canonical.IsBounded, Canonical.IsCanonical}
 use Rattle.syslog_loose.specs.declared.fault.ParseFault.{ParseFault}
@@ -44,10 +40,9 @@ use Rattle.syslog_loose.proofs.{PrintedLemmas.priority_small, Rfc5424Lemmas.read
 use Rattle.std.specs.Char.{is_not_whitespace}
 use Rattle.syslog_loose.proofs.Rfc3164Lemmas.Near.{read_near}
 use Rattle.syslog_loose.specs.Reading.{IsOnlyRead, IsRead, dash_rule}
-use Rattle.syslog_strict.proofs.NameLaws.{converted_are, converted_distinct, elements_is}
-use Rattle.syslog_strict.proofs.NameLaws.{element_back, no_text, colonless_end, colonless_length}
-use Rattle.syslog_strict.proofs.NameLaws.{colonless_passes, lone_other, lone_passes, lone_short, elements_back}
-use Rattle.syslog_strict.proofs.NameLaws.{elements_is}
+use Rattle.syslog_strict.proofs.NameLaws.{converted_are, converted_distinct, elements_is, element_back, no_text}
+use Rattle.syslog_strict.proofs.NameLaws.{colonless_end, colonless_length, colonless_passes, lone_other, lone_passes}
+use Rattle.syslog_strict.proofs.NameLaws.{lone_short, elements_back}
 use Rattle.syslog_strict.proofs.TextLemmas.{cleaned_passes, cleaned_same, cleaned_short, colonless_same, text_eq_true}
 use Rattle.syslog_strict.proofs.StampLemmas.{by_choice, stamp_back, stamp_is}
 use Rattle.syslog_elements.proofs.StructuredDataLemmas.Unparsed.{EndsIn, IsBracketed}
@@ -433,8 +428,5 @@ line_written variant dating input text line (Ok x) other of (u, left, e) = (
 )
 line_written variant dating input text line (Err fault) other of memory = (
   other,
-  (
-    λ invalid. absurd (invalid_or_memory (sym memory ∙ invalid)),
-    λ none. absurd (none (line_value line) of.only.read),
-  ),
+  (λ invalid. absurd (invalid_or_memory (sym memory ∙ invalid)), λ none. absurd (none (line_value line) of.only.read)),
 )

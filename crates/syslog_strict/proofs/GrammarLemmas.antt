@@ -1,24 +1,20 @@
 -- A text has one front of each class of the grammar; and elements of the grammar are what elements with such names and
 -- values print.
 use Rattle.syslog_strict.proofs.Words.{◌≡◌, ◌≢◌, inl, inr, ℕ, ◌+◌, ◌/◌, ◌<◌, ◌≤◌, Bool, true, false, List, [], ◌∷◌}
-use Rattle.syslog_strict.proofs.Words.{◌++◌}
-use Rattle.syslog_strict.proofs.Words.{length, map, refl, sym, ap, ◌∙◌, arith, append_assoc, AllByRecursion}
-use Rattle.syslog_strict.proofs.Words.{Text, Ends, Each, heads, AreDistinct, is_escaped, is_sd_char, flat_map}
-use Rattle.syslog_strict.proofs.Words.{ElementValue, elements_text, joined_elements, element_text, param_text}
-use Rattle.syslog_strict.proofs.Words.{is_ascii_digit}
+use Rattle.syslog_strict.proofs.Words.{◌++◌, length, map, refl, sym, ap, ◌∙◌, arith, append_assoc, AllByRecursion, Text}
+use Rattle.syslog_strict.proofs.Words.{Ends, Each, heads, AreDistinct, is_escaped, is_sd_char, flat_map, ElementValue}
+use Rattle.syslog_strict.proofs.Words.{elements_text, joined_elements, element_text, param_text, is_ascii_digit}
 use Rattle.std.proofs.lemmas.List.{append_cancel_right, length-append}
 use Rattle.std.specs.Prelude.{◌↔◌}
 use Rattle.syslog_text.specs.Pieces.Class.{Class, Front, NoFront, IsDeterministic, Row, exactly, after, spaced}
 use Rattle.syslog_text.specs.Pieces.Class.{texted, rest}
 use Rattle.syslog_text.specs.Pieces.Lists.{many}
 use Rattle.syslog_elements.specs.StructuredData.Escapes.{TextUnit, pair, single, unit_text}
-use Rattle.syslog_text.proofs.PieceLemmas.Class.{AllDeterministic, ◌also◌, exactly_det, rest_det, optional_det}
-use Rattle.syslog_text.proofs.PieceLemmas.Class.{mapped_det}
-use Rattle.syslog_text.proofs.PieceLemmas.Class.{texted_det, row_det, after_det, row_pieces, piece_front, front_of}
+use Rattle.syslog_text.proofs.PieceLemmas.Class.{AllDeterministic, exactly_det, optional_det, mapped_det, piece_front}
+use Rattle.syslog_text.proofs.PieceLemmas.Class.{◌also◌, rest_det, texted_det, row_det, after_det, row_pieces, front_of}
 use Rattle.syslog_text.proofs.PieceLemmas.Lists.{many_det}
 use Rattle.syslog_text.proofs.PieceLemmas.Rules.{Opens, Prints, after_prints, exactly_apart, many_prints, or_det}
-use Rattle.syslog_text.proofs.PieceLemmas.Rules.{row_opens}
-use Rattle.syslog_text.proofs.PieceLemmas.Rules.{short_run_det, such_det, none_left}
+use Rattle.syslog_text.proofs.PieceLemmas.Rules.{row_opens, short_run_det, such_det, none_left}
 use Rattle.syslog_text.proofs.TextLemmas.Bounded.{numeral_det}
 use Rattle.syslog_pieces.proofs.TimestampLemmas.Rfc3339.{pair_det, year_det}
 use Rattle.syslog_pieces.specs.Timestamp.Rfc3339.{pair as two_digits, year}
@@ -80,18 +76,15 @@ timestamp_det = or_det (exactly_det _) (row_det date_time date_time_det) (exactl
 name_det : IsDeterministic (texted sd_name)
 name_det = texted_det sd_name (short_run_det is_sd_char 32)
 
+plain_first : (d : ℕ) → is_escaped d ≡ false → 92 ≡ d → ⊥
+plain_first d k e = let same = ap is_escaped e in cc
+
 unit_det : IsDeterministic value_unit
 unit_det p q p' q' (pair c) (pair d) e (f, a) (g, b) = (let h = rw (f, g) at e in cc, let h = rw (f, g) at e in cc)
-unit_det p q p' q' (pair c) (single d) e (f, a) (g, b) = absurd
-    (plain_first 92 d refl b (heads _ _ _ _ (rw (f, g) at e)))
-  where
-    plain_first : (c d : ℕ) → is_escaped c ≡ true → is_escaped d ≡ false → c ≡ d → ⊥
-    plain_first c d h k e = let same = ap is_escaped e in cc
-unit_det p q p' q' (single c) (pair d) e (f, a) (g, b) = absurd
-    (plain_first 92 c refl a (sym (heads _ _ _ _ (rw (f, g) at e))))
-  where
-    plain_first : (c d : ℕ) → is_escaped c ≡ true → is_escaped d ≡ false → c ≡ d → ⊥
-    plain_first c d h k e = let same = ap is_escaped e in cc
+unit_det p q p' q' (pair c) (single d) e (f, a) (g, b) =
+    absurd (plain_first d b (heads _ _ _ _ (rw (f, g) at e)))
+unit_det p q p' q' (single c) (pair d) e (f, a) (g, b) =
+    absurd (plain_first c a (sym (heads _ _ _ _ (rw (f, g) at e))))
 unit_det p q p' q' (single c) (single d) e (f, a) (g, b) = (let h = rw (f, g) at e in cc, let h = rw (f, g) at e in cc)
 
 pub param_det : AllDeterministic param_row
@@ -170,10 +163,7 @@ param_prints p q v = (
           refl,
           (
             refl,
-            (
-              (units, (value_prints v.1 (34 ∷ q) units).1 (f, are, no_unit 34 q (omega arith) refl), refl),
-              (refl, tt),
-            ),
+            ((units, (value_prints v.1 (34 ∷ q) units).1 (f, are, no_unit 34 q (omega arith) refl), refl), (refl, tt)),
           ),
         ),
       ),

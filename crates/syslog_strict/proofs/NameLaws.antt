@@ -1,13 +1,12 @@
 -- Converted names and elements are in the grammar, and are read back from their printed text.
 use Rattle.syslog_strict.proofs.Words.{◌≡◌, ◌≢◌, inl, inr, ℕ, ℤ, pos, negsuc, suc, ◌<◌, ◌≤◌, true, false, [], ◌∷◌, ◌++◌}
 use Rattle.syslog_strict.proofs.Words.{length, Option, Some, None, IfSome, refl, sym, ap, ◌∙◌, arith, Bool, List, map}
-use Rattle.syslog_strict.proofs.Words.{nat_eq, if◌then◌else◌, cases_Bool, nat_tests, is_ascii_digit}
-use Rattle.syslog_strict.proofs.Words.{bytes_decides, decimal, signed_decimal, option_and_then, option_map}
-use Rattle.syslog_strict.proofs.Words.{AllByRecursion, Text, Each, Ends, text_eq, IsBoundedProcess}
-use Rattle.syslog_strict.proofs.Words.{NamesProcess, named_process, procid_text, process_text, colon, dash, name_text}
-use Rattle.syslog_strict.proofs.Words.{is_blank, ProcId, PID, Name, heads, all_append, all_map, named_names}
-use Rattle.syslog_strict.proofs.Words.{IsCanonicalElement, ElementValue, elements_text}
-use Rattle.syslog_strict.proofs.Words.{cleaned, converted_host, converted_process, converted_word}
+use Rattle.syslog_strict.proofs.Words.{nat_eq, if◌then◌else◌, cases_Bool, nat_tests, is_ascii_digit, bytes_decides}
+use Rattle.syslog_strict.proofs.Words.{decimal, signed_decimal, option_and_then, option_map, AllByRecursion, Text, Each}
+use Rattle.syslog_strict.proofs.Words.{Ends, text_eq, IsBoundedProcess, NamesProcess, named_process, procid_text}
+use Rattle.syslog_strict.proofs.Words.{process_text, colon, dash, name_text, is_blank, ProcId, PID, Name, heads}
+use Rattle.syslog_strict.proofs.Words.{all_append, all_map, named_names, IsCanonicalElement, ElementValue}
+use Rattle.syslog_strict.proofs.Words.{elements_text, cleaned, converted_host, converted_process, converted_word}
 use Rattle.syslog_strict.proofs.Words.{kept_char, named, no_colon, without_last_colon, without_lone_colon}
 use Rattle.syslog_strict.proofs.Words.{converted_element, converted_elements, converted_name, converted_param}
 use Rattle.syslog_strict.proofs.Words.{escaped_from, is_among, joined_past, or_mark, params_of, is_printusascii}
@@ -19,8 +18,7 @@ use Rattle.syslog_text.specs.Pieces.Class.{NoFront}
 use Rattle.std.proofs.Common.{◌^◌, FitsSigned, w32}
 use Rattle.std.specs.Char.{is_not_whitespace}
 use Rattle.syslog_pieces.specs.{ProcId.IsCanonicalProcess}
-use Rattle.syslog_text.specs.{Text.Canonical.IsCanonicalHost}
-use Rattle.syslog_text.specs.{Text.Canonical.IsCanonicalWord}
+use Rattle.syslog_text.specs.{Text.Canonical.IsCanonicalHost, Text.Canonical.IsCanonicalWord}
 use Rattle.syslog_elements.specs.{StructuredData.IsValue, StructuredData.IsValueUnit}
 use Rattle.syslog_elements.specs.StructuredData.Canonical.{IsCanonicalParam, BeginsUnblank}
 use Rattle.syslog_text.specs.Text.CharClass.{is_id_char, is_name_char}
@@ -28,7 +26,7 @@ use Rattle.syslog_text.proofs.{PieceLemmas.Class.each_map, TextLemmas.Words.ten_
 use Rattle.syslog_elements.specs.StructuredData.Escapes.{TextUnit, pair, single, unit_text}
 use Rattle.syslog_strict.specs.{Joined.firsts}
 use Rattle.syslog_strict.proofs.ElementLemmas.{firsts_new, not_last}
-use Rattle.syslog_strict.proofs.TextLemmas.{cleaned_passes, cleaned_short, kept_as, lost_as, cleaned_some, text_eq_true}
+use Rattle.syslog_strict.proofs.TextLemmas.{cleaned_passes, cleaned_short, cleaned_some, text_eq_true}
 
 -- ---- converted names are in the grammar, and are read back from their printed text
 

@@ -13,12 +13,11 @@ use Rattle.syslog_text.specs.{Bodies.Looks.is_dot}
 use Rattle.syslog_pieces.specs.{Timestamp.Rfc3339.pair, Timestamp.Rfc3339.year as year_class}
 use Rattle.syslog_text.specs.Pieces.{Class.Class, Class.Front, Class.Row, Class.after, Class.exactly, Class.optional}
 use Rattle.syslog_text.specs.Pieces.Rules.{short_run}
-use Rattle.syslog_text.proofs.PieceLemmas.Class.{◌then◌, front_of, no_spaced_space, optional_none, piece_front}
-use Rattle.syslog_text.proofs.PieceLemmas.Class.{row_of}
+use Rattle.syslog_text.proofs.PieceLemmas.Class.{◌then◌, front_of, no_spaced_space, optional_none, piece_front, row_of}
+use Rattle.syslog_text.proofs.PieceLemmas.Class.{each_append}
 use Rattle.syslog_text.proofs.PieceLemmas.Rules.{second_front, such_front}
-use Rattle.std.proofs.Common.{length}
+use Rattle.std.proofs.Common.{length, ◌-ℤ◌, ◌*ℤ◌}
 use Rattle.jiff_core.proofs.CalendarLemmas.{days_in_month_bounds}
-use Rattle.std.proofs.Common.{◌-ℤ◌, ◌*ℤ◌}
 use Rattle.std.proofs.lemmas.{Bool.Decides.eqb_tells, Str.IsAscii-append, Bool.and_parts}
 use Rattle.std.specs.Fmt.{digits}
 use Rattle.syslog_pieces.specs.Front.{clock_text, front_text as printed_front}
@@ -30,7 +29,6 @@ use Rattle.syslog_text.proofs.{TextLemmas.Words.decimal_ascii}
 use Rattle.syslog_pieces.proofs.{TimestampLemmas.Digits.each_ascii}
 use Rattle.syslog_pieces.proofs.TimestampLemmas.Rfc3339.{printed_stamp-characters}
 use Rattle.syslog_pieces.proofs.TimestampLemmas.Civil.{civil_fields_exist, in_range-at_offset}
-use Rattle.syslog_text.proofs.PieceLemmas.Class.{each_append}
 use Rattle.syslog_pieces.specs.Timestamp.Printed.{printed_stamp, civil_fields, date_time_text, fraction_text}
 use Rattle.syslog_pieces.specs.Timestamp.Printed.{offset_text, place_fields}
 use Rattle.syslog_text.specs.Text.Digits.{pad3}

@@ -1,14 +1,13 @@
 -- Texts that are appended: cleaned, cut, one character after the other, and the pieces of a line.
-use Rattle.syslog_strict.proofs.Words.{◌≡◌, ℕ, suc, ◌-◌, ◌<◌, ◌≤◌, Bool, true, false, List, [], ◌∷◌, ◌++◌, length, map}
-use Rattle.syslog_strict.proofs.Words.{Option, Some, None, ◌≢◌, ◌⊎◌, inl, inr, drop, refl, sym, ap, ap₂, subst, ◌∙◌}
-use Rattle.syslog_strict.proofs.Words.{arith, append-nil, append_assoc, cond, if◌then◌else◌, cases_Bool, nat_tests}
-use Rattle.syslog_strict.proofs.Words.{chars-append, chars-IsAscii, chars-nil, IsAscii-cons, IsAscii-nil, encode_utf8}
+use Rattle.syslog_strict.proofs.Words.{IsAscii, timestamp_text, without_last_colon, without_lone_colon, is_printusascii}
+use Rattle.syslog_strict.proofs.Words.{◌≡◌, if◌then◌else◌, chars-IsAscii, bytes_decides, converted_host, converted_word}
+use Rattle.syslog_strict.proofs.Words.{append_assoc, nat_tests, chars-append, IsAscii-cons, named_process, process_text}
+use Rattle.syslog_strict.proofs.Words.{[], append-nil, IsAscii-nil, encode_utf8, procid_text, MessageValue, priority_of}
+use Rattle.syslog_strict.proofs.Words.{ℕ, cases_Bool, chars-nil, option_map, name_text, kept_char, no_colon, front_text}
+use Rattle.syslog_strict.proofs.Words.{false, length, Option, subst, arith, IsUtf8, decimal, text_eq, colon, cleaned}
+use Rattle.syslog_strict.proofs.Words.{Bool, true, List, ◌++◌, Some, None, drop, refl, cond, Text, heads, named, keeps}
+use Rattle.syslog_strict.proofs.Words.{suc, ◌-◌, ◌<◌, ◌≤◌, ◌∷◌, map, ◌≢◌, ◌⊎◌, inl, inr, sym, ap, ap₂, ◌∙◌, Each, dash}
 use Rattle.std.specs.Str.{chars}
-use Rattle.syslog_strict.proofs.Words.{IsUtf8, IsAscii, bytes_decides, option_map, decimal, Text, Each, text_eq}
-use Rattle.syslog_strict.proofs.Words.{named_process, procid_text, process_text, colon, dash, name_text, heads}
-use Rattle.syslog_strict.proofs.Words.{MessageValue, priority_of, timestamp_text, cleaned, kept_char, named, no_colon}
-use Rattle.syslog_strict.proofs.Words.{without_last_colon, without_lone_colon, converted_host, converted_word}
-use Rattle.syslog_strict.proofs.Words.{is_printusascii, keeps, front_text}
 use Rattle.syslog_strict.specs.Pushing.{data_text}
 use Rattle.std.proofs.Common.{zero, take, Result, Ok, Err, OnOk, MatchBool, is_some}
 use Rattle.std.specs.Borrow.{Bor}

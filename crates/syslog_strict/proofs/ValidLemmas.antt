@@ -1,10 +1,9 @@
 -- Values, ids of elements, and the ids that were seen.
-use Rattle.syslog_strict.proofs.Words.{◌≡◌, ◌≢◌, inl, inr, ℕ, ◌<◌, ◌≤◌, Bool, true, false, List, [], ◌∷◌, ◌++◌}
-use Rattle.syslog_strict.proofs.Words.{length, map}
-use Rattle.syslog_strict.proofs.Words.{refl, sym, ap, ap₂, subst, ◌∙◌, arith, cond, Bor, IsUtf8, AllByRecursion}
-use Rattle.syslog_strict.proofs.Words.{AreDistinct}
-use Rattle.syslog_strict.proofs.Words.{list_any-append, ◌||◌, nat_tests, Text, Each, Ends, shown, text_eq, ElementValue}
-use Rattle.syslog_strict.proofs.Words.{chars, SplitsRun, is_inert_char, is_among, HasSeen, is_escaped, cases_Bool}
+use Rattle.syslog_strict.proofs.Words.{◌≡◌, ◌≢◌, inl, inr, ℕ, ◌<◌, ◌≤◌, Bool, true, false, List, [], ◌∷◌, ◌++◌, length}
+use Rattle.syslog_strict.proofs.Words.{map, refl, sym, ap, ap₂, subst, ◌∙◌, arith, cond, Bor, IsUtf8, AllByRecursion}
+use Rattle.syslog_strict.proofs.Words.{AreDistinct, list_any-append, ◌||◌, nat_tests, Text, Each, Ends, shown, text_eq}
+use Rattle.syslog_strict.proofs.Words.{ElementValue, chars, SplitsRun, is_inert_char, is_among, HasSeen, is_escaped}
+use Rattle.syslog_strict.proofs.Words.{cases_Bool}
 use Rattle.std.proofs.Common.{is_eq}
 use Rattle.std.proofs.lemmas.{Bool.or_from, Bool.or_parts, Map.Text.is_eq-slice_cmp}
 use Rattle.std.specs.{BTreeSet.contains, Cmp.Lexicographic.slice_cmp, Ordering.nat_cmp, Prelude.not, Prelude.MatchBool}
@@ -27,10 +26,8 @@ plain_runs : (w t : Text) → Each is_inert_char w → (units : List TextUnit) �
 plain_runs [] t each = ([], no_run)
 plain_runs (c ∷ w) t each =
     let (units, r) = plain_runs w t each.1 in
-    (single c ∷ units, one_run (piece_front value_unit (c ∷ []) (w ++ t) (single c) (refl, plain c each.0)) r)
-  where
-    plain : (c : ℕ) → is_inert_char c ≡ true → is_escaped c ≡ false
-    plain c h = grind (arith, nat_tests)
+    let plain : is_escaped c ≡ false = grind (arith, nat_tests, each.0) in
+    (single c ∷ units, one_run (piece_front value_unit (c ∷ []) (w ++ t) (single c) (refl, plain)) r)
 
 pub split_runs : {bs xs ys : List ℕ} → SplitsRun is_inert_char bs xs ys
     → (units : List TextUnit) × Runs value_unit (chars bs) units (chars ys)
@@ -39,11 +36,9 @@ split_runs {xs = xs} {ys = ys} s = let (units, r) = plain_runs (chars xs) (chars
 
 pub no_unit_after : (t : Text) → Ends is_inert_char t → NoFront escape t → NoFront value_unit t
 no_unit_after t ends n p q (pair d) e h = n p q d e h
-no_unit_after t ends n p q (single d) e (f, is) = other d is
-    (subst (Ends is_inert_char) (e ∙ ap (λ (x : Text). x ++ q) f) ends)
-  where
-    other : (c : ℕ) → is_escaped c ≡ false → is_inert_char c ≡ false → ⊥
-    other c h k = grind (arith, nat_tests)
+no_unit_after t ends n p q (single d) e (f, is) =
+    let other : is_inert_char d ≡ false = subst (Ends is_inert_char) (e ∙ ap (λ (x : Text). x ++ q) f) ends in
+    grind (arith, nat_tests)
 
 -- ---- ids
 

@@ -1,33 +1,28 @@
 -- What a converted value means.
-use Rattle.std.proofs.Common.{◌≡◌, ◌⊎◌, ◌∷◌, ◌||◌, ◌∙◌, inl, inr, refl, ap, Bool, true, false, nat_eq, ℕ, List, []}
+use Rattle.std.proofs.Common.{◌≡◌, ◌∷◌, ◌||◌, ◌∙◌, inl, inr, refl, ap, Bool, true, false, nat_eq, ℕ, List, []}
 use Rattle.std.proofs.Common.{append-nil, sym, if◌then◌else◌}
-use Rattle.std.proofs.lemmas.Bool.{ne_eqb, cases_eq}
+use Rattle.std.proofs.lemmas.Bool.{ne_eqb, cases_Bool, cases_eq}
 use Rattle.std.specs.List.{flat_map, AllByRecursion}
 use Rattle.syslog_text.specs.Pieces.Class.{Text}
 use Rattle.syslog_elements.specs.StructuredData.Escapes.{TextUnit, pair, single, unit_text, unit_meaning, IsUnit}
-use Rattle.syslog_elements.specs.StructuredData.Escapes.{IsUnescaped}
-use Rattle.syslog_elements.specs.StructuredData.Escapes.{is_escaped, pair_meaning}
+use Rattle.syslog_elements.specs.StructuredData.Escapes.{IsUnescaped, is_escaped, pair_meaning}
 use Rattle.syslog_strict.specs.Conversion.{converted_value, escaped_from}
 use Rattle.syslog_strict.specs.Value.{meaning, meant_from}
-
-told : (b : Bool) → (b ≡ true) ⊎ (b ≡ false)
-told true = inl refl
-told false = inr refl
 
 -- it means what the value meant
 keeps : (before : Bool) (t : Text) → meant_from false (escaped_from before t) ≡ meant_from before t
 keeps false [] = refl
 keeps true [] = refl
-keeps false (c ∷ t) = elim (told (nat_eq c 92)) [
+keeps false (c ∷ t) = elim (cases_Bool (nat_eq c 92)) [
   | inl slash ↦ rw slash (keeps true t)
-  | inr other ↦ elim (told (nat_eq c 34 || nat_eq c 93)) [
+  | inr other ↦ elim (cases_Bool (nat_eq c 34 || nat_eq c 93)) [
     | inl mark ↦ simp (other, mark) (ap (λ (x : Text). c ∷ x) (keeps false t))
     | inr none ↦ simp (other, none) (ap (λ (x : Text). c ∷ x) (keeps false t))
   ]
 ]
-keeps true (c ∷ t) = elim (told (nat_eq c 92)) [
+keeps true (c ∷ t) = elim (cases_Bool (nat_eq c 92)) [
   | inl slash ↦ simp slash (ap (λ (x : Text). c ∷ x) (keeps false t))
-  | inr other ↦ elim (told (nat_eq c 34 || nat_eq c 93)) [
+  | inr other ↦ elim (cases_Bool (nat_eq c 34 || nat_eq c 93)) [
     | inl mark ↦ simp (other, mark) (ap (λ (x : Text). c ∷ x) (keeps false t))
     | inr none ↦ simp (other, none) (ap (λ (x : Text). 92 ∷ c ∷ x) (keeps false t))
   ]
@@ -78,16 +73,16 @@ with_single c h s = record {
 splits : (before : Bool) (t : Text) → Splits (escaped_from before t) (meant_from before t) (units_from before t)
 splits false [] = record { whole = refl; says = refl; each = tt }
 splits true [] = record { whole = refl; says = refl; each = (tt, tt) }
-splits false (c ∷ t) = elim (told (nat_eq c 92)) [
+splits false (c ∷ t) = elim (cases_Bool (nat_eq c 92)) [
   | inl slash ↦ rw slash (splits true t)
-  | inr other ↦ elim (told (nat_eq c 34 || nat_eq c 93)) [
+  | inr other ↦ elim (cases_Bool (nat_eq c 34 || nat_eq c 93)) [
     | inl mark ↦ simp (other, mark) (with_pair c (simp (other, mark)) (splits false t))
     | inr none ↦ simp (other, none) (with_single c other (splits false t))
   ]
 ]
-splits true (c ∷ t) = elim (told (nat_eq c 92)) [
+splits true (c ∷ t) = elim (cases_Bool (nat_eq c 92)) [
   | inl slash ↦ simp slash (with_pair c (simp slash) (splits false t))
-  | inr other ↦ elim (told (nat_eq c 34 || nat_eq c 93)) [
+  | inr other ↦ elim (cases_Bool (nat_eq c 34 || nat_eq c 93)) [
     | inl mark ↦ simp (other, mark) (with_pair c (simp (other, mark)) (splits false t))
     | inr none ↦ simp (other, none) (with_pair 92 refl (with_single c other (splits false t)))
   ]

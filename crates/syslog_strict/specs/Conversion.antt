@@ -1,8 +1,7 @@
 -- The conversion of a message to RFC 5424, field by field: what the grammar takes stays as it is. 45 is `-`, 58 `:`, 63
 -- `?`, 92 a backslash.
-use Rattle.std.specs.Prelude.{ℕ, ℤ, pos, negsuc, ◌%◌, ◌-ℤ◌, ◌&&◌, not, nat_eq, nat_le, nat_lt, ◌==◌, Bool, true, false}
-use Rattle.std.specs.Prelude.{if◌then◌else◌, List, [], ◌∷◌, ◌++◌, map, take, Option, Some, None, unwrap_or}
-use Rattle.std.specs.Prelude.{unsigned_abs}
+use Rattle.std.specs.Prelude.{negsuc, nat_eq, nat_le, nat_lt, false, if◌then◌else◌, [], Option, unwrap_or, unsigned_abs}
+use Rattle.std.specs.Prelude.{ℕ, ℤ, pos, ◌%◌, ◌-ℤ◌, ◌&&◌, not, ◌==◌, Bool, true, List, ◌∷◌, ◌++◌, map, take, Some, None}
 use Rattle.std.specs.List.{list_any}
 use Rattle.std.specs.Int.{int_rem_euclid}
 use Rattle.std.specs.Option.{option_and_then, option_map}

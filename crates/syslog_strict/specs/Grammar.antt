@@ -7,8 +7,7 @@ use Rattle.std.specs.Prelude.{List, [], ◌∷◌, ◌++◌, length, map}
 use Rattle.std.specs.Char.{is_ascii_digit}
 use Rattle.std.specs.List.{AllByRecursion}
 use Rattle.jiff_core.specs.Calendar.{IsCivilDate}
-use Rattle.syslog_text.specs.Pieces.Class.{Text, Class, Values, Division, Row, exactly, optional, rest, mapped}
-use Rattle.syslog_text.specs.Pieces.Class.{texted}
+use Rattle.syslog_text.specs.Pieces.Class.{Text, Class, Values, Division, Row, exactly, optional, rest, mapped, texted}
 use Rattle.syslog_text.specs.Pieces.Class.{after, spaced}
 use Rattle.syslog_text.specs.Pieces.Lists.{many}
 use Rattle.syslog_text.specs.Pieces.Rules.{short_run, ◌or◌, such_that}

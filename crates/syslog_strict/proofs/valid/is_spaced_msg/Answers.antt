@@ -9,11 +9,7 @@ spaced_is : (t : Text) (c : ℕ) (more : Text) → t ≡ c ∷ more → IsTrue (
 spaced_is t c more e = (
   (λ h. (
     Some more,
-    (
-      more,
-      (let same : c ≡ 32 = grind (arith, nat_tests) in e ∙ ap (λ (x : ℕ). x ∷ more) same),
-      (refl, refl),
-    ),
+    (more, (let same : c ≡ 32 = grind (arith, nat_tests) in e ∙ ap (λ (x : ℕ). x ∷ more) same), (refl, refl)),
   )),
   (λ (v, is). back v is),
 )
@@ -29,11 +25,7 @@ pub returns-in-None : goal.returns-in-None
 returns-in-None c = (
   (λ h. (
     None,
-    (
-      c.in-None.ensures,
-      (λ p q v e (u, f, h). let w : [] ≡ 32 ∷ (u ++ q) = e
-          ∙ ap (λ (x : Text). x ++ q) f in cc),
-    ),
+    (c.in-None.ensures, (λ p q v e (u, f, h). let w : [] ≡ 32 ∷ (u ++ q) = e ∙ ap (λ (x : Text). x ++ q) f in cc)),
   )),
   (λ h. refl),
 )

@@ -1,10 +1,8 @@
 use Rattle.syslog_strict.proofs.Words.{[], ◌∷◌, ◌++◌, refl, sym, append-nil, Text, Front}
 use Rattle.std.specs.Prelude.{◌↔◌}
-use Rattle.syslog_text.proofs.PieceLemmas.Class.{◌then◌, division_front, false_is, front_division, front_of}
-use Rattle.syslog_text.proofs.PieceLemmas.Class.{nil_front}
+use Rattle.syslog_text.proofs.PieceLemmas.Class.{◌then◌, division_front, false_is, front_division, front_of, nil_front}
 use Rattle.syslog_text.proofs.PieceLemmas.Class.{no_front_no, row_head, row_none_here, row_of, rows_join}
-use Rattle.syslog_text.proofs.PieceLemmas.Class.{rows_none_here}
-use Rattle.syslog_text.proofs.PieceLemmas.Class.{rows_none_later, rows_step, step}
+use Rattle.syslog_text.proofs.PieceLemmas.Class.{rows_none_here, rows_none_later, rows_step, step}
 use Rattle.syslog_text.proofs.PieceLemmas.Rules.{all_of}
 use Rattle.syslog_text.specs.Pieces.Class.{NoFront, Row, Values, optional, rest, spaced}
 use Rattle.syslog_strict.proofs.GrammarLemmas.{data_det, header_det}

@@ -1,6 +1,5 @@
 use Rattle.syslog_strict.proofs.Words.{◌≡◌, refl, sym, ap, ◌∙◌, ◌||◌, Bool, true, false, List, ElementValue, Front}
-use Rattle.syslog_strict.proofs.Words.{Text}
-use Rattle.syslog_strict.proofs.Words.{chars, is_among, text_eq}
+use Rattle.syslog_strict.proofs.Words.{Text, chars, is_among, text_eq}
 use Rattle.syslog_text.specs.Pieces.Lists.{many}
 use Rattle.syslog_text.proofs.PieceLemmas.Rules.{many_left, none_left}
 use Rattle.syslog_strict.proofs.GrammarLemmas.{element_det, element_shorter}

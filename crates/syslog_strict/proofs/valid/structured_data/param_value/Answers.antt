@@ -23,8 +23,5 @@ units-preserved c =
     let (more, plain) = split_runs c.split_run.ensures in
     let (d, f) = c.in-Some.ensures.reads in (
       c.in-Some.ensures.utf8,
-      (
-        (units ++ more) ++ pair d ∷ [],
-        runs_more (runs_joined r plain) (front_of f.piece f.whole f.is),
-      ),
+      ((units ++ more) ++ pair d ∷ [], runs_more (runs_joined r plain) (front_of f.piece f.whole f.is)),
     )
