@@ -1,18 +1,17 @@
 -- What is printed: what trimming leaves of it, the priority that it begins with, and its bytes.
-use Rattle.syslog_loose.proofs.Names.{IsSome, ◌*◌, ◌+◌, no_truth, facility_of, severity_of, facility_composed}
-use Rattle.syslog_loose.proofs.Names.{severity_composed, option_and_then, severity_there, ◌≡◌, ◌<◌, ◌&&◌, ◌∷◌, ◌++◌}
-use Rattle.syslog_loose.proofs.Names.{◌∙◌, ℕ, inl, inr, Bool, true, false, cond, not, nat_eq}
-use Rattle.syslog_loose.proofs.Names.{Option, Some, None, List, [], length, refl, sym, ap, subst, arith, append_assoc}
-use Rattle.syslog_loose.proofs.Names.{append-nil, flat_map, nat_tests, is_whitespace, is_not_whitespace}
-use Rattle.syslog_loose.proofs.Names.{drop_trailing_whitespace, Text, Class, Values, Front, Row, Each, Ends, run, rest}
-use Rattle.syslog_loose.proofs.Names.{classes, printed_row, Format, ElementValue, param_text, element_text}
-use Rattle.syslog_loose.proofs.Names.{joined_elements, elements_text, OffsetTimestamp, row_head, rest_whole, row_pieces}
-use Rattle.syslog_loose.proofs.Names.{printed_stamp-visible, printed_stamp-begins, timestamp_text, is_blank, ◌≤◌}
-use Rattle.syslog_loose.proofs.Names.{◌then◌, row_of, option_map_or, exactly, piece_front, MessageValue, priority_of}
-use Rattle.syslog_loose.proofs.Names.{decimal, priority, facility_number, severity_number, number, SyslogFacility}
-use Rattle.syslog_loose.proofs.Names.{SyslogSeverity, number_back, encodes-append, encode_utf8_all, encodes-decimal}
-use Rattle.syslog_loose.proofs.Names.{spaced_elements, ◌≢◌, clock_value, stamp_seen, ClockStamp, printed_stamp-bytes}
-use Rattle.syslog_loose.proofs.Names.{line_value, protocol_of, printed, rest_text, Line, RFC3164, encode_utf8}
+use Rattle.syslog_loose.proofs.Names.{append-nil, drop_trailing_whitespace, printed_stamp-visible, printed_stamp-begins}
+use Rattle.syslog_loose.proofs.Names.{◌*◌, facility_composed, severity_composed, is_not_whitespace, printed_stamp-bytes}
+use Rattle.syslog_loose.proofs.Names.{option_and_then, is_whitespace, joined_elements, OffsetTimestamp, facility_number}
+use Rattle.syslog_loose.proofs.Names.{elements_text, severity_number, encode_utf8_all, encodes-decimal, spaced_elements}
+use Rattle.syslog_loose.proofs.Names.{severity_there, ℕ, timestamp_text, SyslogFacility, SyslogSeverity, encodes-append}
+use Rattle.syslog_loose.proofs.Names.{append_assoc, ElementValue, param_text, element_text, option_map_or, MessageValue}
+use Rattle.syslog_loose.proofs.Names.{◌+◌, facility_of, severity_of, printed_row, piece_front, priority_of, number_back}
+use Rattle.syslog_loose.proofs.Names.{IsSome, rest_whole, row_pieces, clock_value, stamp_seen, protocol_of, encode_utf8}
+use Rattle.syslog_loose.proofs.Names.{no_truth, false, flat_map, nat_tests, row_head, ClockStamp, line_value, rest_text}
+use Rattle.syslog_loose.proofs.Names.{nat_eq, Option, classes, is_blank, exactly, decimal, priority, printed, RFC3164}
+use Rattle.syslog_loose.proofs.Names.{◌&&◌, length, subst, arith, Class, Values, Front, Format, ◌then◌, row_of, number}
+use Rattle.syslog_loose.proofs.Names.{◌≡◌, ◌++◌, Bool, true, cond, Some, None, List, refl, Text, Each, Ends, rest, Line}
+use Rattle.syslog_loose.proofs.Names.{◌<◌, ◌∷◌, ◌∙◌, inl, inr, not, [], sym, ap, Row, run, ◌≤◌, ◌≢◌}
 use Rattle.syslog_text.proofs.PieceLemmas.Lists.{printed_more}
 use Rattle.syslog_pieces.proofs.PriLemmas.{as_priority, facility_low, severity_low}
 use Rattle.syslog_loose.specs.Canonical.{EndsVisibly}

@@ -21,7 +21,7 @@ use Rattle.syslog_loose.proofs.Names.{IsLetter, printed_stamp-visible, digits_vi
 use Rattle.syslog_loose.proofs.Names.{row_head, rest, rows_step, division_front, shown}
 use Rattle.syslog_loose.specs.declared.variant.Variant.TheVariants.{RFC3164}
 use Rattle.syslog_loose.proofs.Rfc5424Lemmas.{read_completed, completed, priority_same, printed_is}
-use Rattle.syslog_loose.proofs.Rfc3164Lemmas.{rfc3164_bounded, printed_3164_is, printed_apart, digit_range, quotes}
+use Rattle.syslog_loose.proofs.Rfc3164Lemmas.{rfc3164_bounded, printed_3164_is, digit_range, quotes}
 use Rattle.syslog_loose.proofs.Rfc3164Lemmas.{shows_month_date, to_stamp, to_stamp_det, told, printed_unlike}
 use Rattle.syslog_loose.specs.Printed.{printed_3164, process_text, printed_5424}
 use Rattle.syslog_loose.proofs.CanonicalLemmas.{near_completed}

@@ -1,8 +1,7 @@
 -- How a text is read: what the pieces at its front say, what is made of it by way of its line, and what the calls
 -- return.
 use Rattle.syslog_loose.proofs.Names.{◌⊎◌, ◌≡◌, ◌≢◌, ◌∙◌, inl, inr, ℕ, ℤ, List, Option, Some, None, w32, to_z, of_z}
-use Rattle.syslog_loose.proofs.Names.{refl}
-use Rattle.syslog_loose.proofs.Names.{sym, ap, subst, MatchOption, IsSomeAnd, Bor, TimeZone, Text, shown, Dating}
+use Rattle.syslog_loose.proofs.Names.{refl, sym, ap, subst, MatchOption, IsSomeAnd, Bor, TimeZone, Text, shown, Dating}
 use Rattle.syslog_loose.proofs.Names.{dating_of, MonthDate, MessageValue, message_value, dash_rule, IsRead, IsOnlyRead}
 use Rattle.syslog_loose.proofs.Names.{IncompleteDate, AsksYear, IsYearAnswered, InYear, IsQuoted, incomplete}
 use Rattle.syslog_loose.proofs.Names.{IsRead5424, Invalid, Memory, Variant, Either, RFC5424, ◌↔◌, ◌then◌, ◌past◌, Err}
@@ -12,9 +11,9 @@ use Rattle.syslog_loose.proofs.Names.{ShowsYearless, ShowsMonthDate, yearless_da
 use Rattle.syslog_loose.proofs.Names.{optional_det, run_det, Begins, begins_apart, priority_det, some_front_run}
 use Rattle.syslog_loose.proofs.Names.{month_date_begins, IsLetter, IsLow, ReadsProtocol, Answers, IsLeftTo3164}
 use Rattle.syslog_loose.proofs.Names.{HasMonth, stamped_row, IsNot3164, pos, no_truth, OffsetTimestamp, IsNot5424}
-use Rattle.syslog_loose.proofs.Names.{IsAfterPriority, BeginsWithout, []}
-use Rattle.syslog_loose.proofs.Names.{Result, Ok, append-nil, ElementValue, list_elements, DashRule, line_value}
-use Rattle.syslog_loose.proofs.Names.{protocol_of, IsRead3164, IsLineOf, Made, ParseFault, Line, SFits}
+use Rattle.syslog_loose.proofs.Names.{IsAfterPriority, BeginsWithout, [], Result, Ok, append-nil, ElementValue}
+use Rattle.syslog_loose.proofs.Names.{list_elements, DashRule, line_value, protocol_of, IsRead3164, IsLineOf, Made}
+use Rattle.syslog_loose.proofs.Names.{ParseFault, Line, SFits}
 use Rattle.std.proofs.lemmas.Int.{to_z-of_z}
 use Rattle.syslog_loose.specs.declared.variant.Variant.TheVariants.{RFC3164}
 use Rattle.syslog_loose.specs.declared.message.Message.{Message}

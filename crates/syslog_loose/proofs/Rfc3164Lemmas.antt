@@ -9,21 +9,21 @@ use Rattle.syslog_loose.proofs.Names.{stamp_text-year, division_front, front_div
 use Rattle.syslog_loose.proofs.Names.{ShowsMonthDate, is_ascii_digit, chars_nonempty, is_label_char, rfc3164_stamp, ◌≡◌}
 use Rattle.syslog_loose.proofs.Names.{optional_none, ShowsYearless, yearless_date, optional_some, process_texts, ◌also◌}
 use Rattle.syslog_loose.proofs.Names.{element_texts, length-append, NamesProcess, process_same, MessageValue, no_texted}
-use Rattle.syslog_loose.proofs.Names.{optional_det, rfc3164_list, priority_det, append_assoc, header_stamp, exactly_det}
+use Rattle.syslog_loose.proofs.Names.{optional_det, rfc3164_list, priority_det, exactly_det}
 use Rattle.syslog_loose.proofs.Names.{begins_apart, printed_5424, tag_word_det, full_element, full_shorter, elements_or}
-use Rattle.syslog_loose.proofs.Names.{ElementValue, rfc3164_row, stamped_row, begins_more, begins_with, rfc5424_row, []}
+use Rattle.syslog_loose.proofs.Names.{ElementValue, rfc3164_row, stamped_row, begins_more, rfc5424_row, []}
 use Rattle.syslog_loose.proofs.Names.{priority_of, AreInPieces, rest_quotes, host_quotes, part_joined, no_some_run, ◌≢◌}
 use Rattle.syslog_loose.proofs.Names.{absent_none, all_joined, row_pieces, IsRead3164, rest_front, fields_row, form_row}
-use Rattle.syslog_loose.proofs.Names.{month_date, incomplete, front_same, row_quotes, Quotes3164, rows_split, rows_step}
-use Rattle.syslog_loose.proofs.Names.{one_ascii, unwrap_or, Names3164, IsBounded, Means3164, IsNot3164, rows_join, ◌++◌}
+use Rattle.syslog_loose.proofs.Names.{month_date, incomplete, front_same, row_quotes, Quotes3164, rows_step}
+use Rattle.syslog_loose.proofs.Names.{unwrap_or, Names3164, IsBounded, Means3164, rows_join, ◌++◌}
 use Rattle.syslog_loose.proofs.Names.{MonthDate, nat_tests, rest_same, IsNot5424, text_list, all_right, IsNoForm, arith}
 use Rattle.syslog_loose.proofs.Names.{Resolves, DashRule, optional, is_blank, tag_word, priority, host_det, body_row, ℕ}
 use Rattle.syslog_loose.proofs.Names.{rest_det, row_cons, HasMonth, Division, run_same, Protocol, flat_map, all_left}
-use Rattle.syslog_loose.proofs.Names.{run_det, NoFront, exactly, RFC3164, trimmed, printed, IsAscii, length, Values, ap}
+use Rattle.syslog_loose.proofs.Names.{run_det, NoFront, exactly, RFC3164, trimmed, printed, length, Values, ap}
 use Rattle.syslog_loose.proofs.Names.{texted, IsForm, no_row, Option, ProcId, IfSome, Dating, ◌then◌, row_of, spaced}
 use Rattle.syslog_loose.proofs.Names.{number, Begins, IsPart, Quoted, silent, IsMany, chars, Class, Front, names, colon}
 use Rattle.syslog_loose.proofs.Names.{subst, month, false, List, refl, Text, Some, None, Name, rest, host, true, Each}
-use Rattle.syslog_loose.proofs.Names.{Bool, cond, ◌<◌, ◌∷◌, ◌∙◌, Row, run, ◌⊎◌, inl, inr, sym, PID, ◌↔◌, map, ◌≤◌}
+use Rattle.syslog_loose.proofs.Names.{Bool, cond, ◌<◌, ◌∷◌, ◌∙◌, Row, run, inl, inr, sym, PID, ◌↔◌, map, ◌≤◌}
 use Rattle.syslog_text.proofs.PieceLemmas.Class.{texted_det, after_det, Fails, all_append, append_more}
 use Rattle.syslog_loose.specs.Rfc3164.{NamesByForm}
 use Rattle.syslog_text.proofs.PieceLemmas.Lists.{first_kind, each_begins, texted_quotes, part_left}
@@ -411,12 +411,7 @@ pub versioned : (text q : Text) (p : Option ℕ) (vs : Values rfc5424_row) → D
 versioned text q p vs d f =
     let (_, g1, (t2, g2, (_, g3, _))) = row_pieces rfc5424_row (division_front rfc5424_row d) in
     let e = (front_same (optional priority) (optional_det priority priority_det) g1 f).0 in
-    record {
-      value = vs.1.0;
-      after = t2;
-      number = rw e at g2;
-      blank = blanks_begin g3;
-    }
+    record { value = vs.1.0; after = t2; number = rw e at g2; blank = blanks_begin g3 }
 
 -- and blanks after the priority are none there
 moved : {t q : Text} → Front (run is_blank) t q tt → Versioned t → Versioned q

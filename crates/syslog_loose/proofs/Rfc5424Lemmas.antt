@@ -41,10 +41,9 @@ use Rattle.syslog_loose.specs.Canonical.{IsCanonical5424}
 use Rattle.syslog_loose.specs.Unparsed.{Leaves5424, leaving_row}
 use Rattle.syslog_loose.specs.Printed.{printed_5424}
 use Rattle.syslog_loose.specs.declared.message.Protocol.TheVariants.{RFC5424}
-use Rattle.syslog_loose.proofs.PrintedLemmas.{parts_back, severity_beside, priority_front, priority_trimmed}
-use Rattle.syslog_loose.proofs.PrintedLemmas.{priority_small, priority_low}
-use Rattle.syslog_loose.proofs.PrintedLemmas.{visible_ends_blanks, stamp_unblank, last_append, elements_last}
-use Rattle.syslog_loose.proofs.PrintedLemmas.{row_trimmed, last_ends, drop_ends, message_end, message_blanks}
+use Rattle.syslog_loose.proofs.PrintedLemmas.{severity_beside, priority_front, priority_trimmed, visible_ends_blanks}
+use Rattle.syslog_loose.proofs.PrintedLemmas.{priority_small, stamp_unblank, last_append, elements_last, message_blanks}
+use Rattle.syslog_loose.proofs.PrintedLemmas.{parts_back, priority_low, row_trimmed, last_ends, drop_ends, message_end}
 
 pub front_det : AllDeterministic front_row
 front_det =
@@ -226,10 +225,7 @@ values_of version m =
 abbrev line_values : ℕ → MessageValue → Values rfc5424_row
 line_values version m = (
   Some (priority_of m),
-  both_values (classes fields) data_row (values_of version m) (
-    tt,
-    (m.structured_data, (tt, (m.msg, tt))),
-  ),
+  both_values (classes fields) data_row (values_of version m) (tt, (m.structured_data, (tt, (m.msg, tt)))),
 )
 
 -- what trimming leaves of it

@@ -1,13 +1,12 @@
 -- What is left unparsed of a text: one text, which is that of its line, and nothing of a printed message.
 use Rattle.syslog_loose.proofs.Names.{◌≡◌, ◌⊎◌, inl, inr, ◌∷◌, ◌++◌, ◌∙◌, ◌also◌, ◌then◌, [], refl, sym, ap, subst}
 use Rattle.syslog_loose.proofs.Names.{List, Option, Some, None, option_map, Text, Class, Values, Front, Row, Division}
-use Rattle.syslog_loose.proofs.Names.{AllDeterministic, all_joined, run_det, rest_det, run, rest, texted}
-use Rattle.syslog_loose.proofs.Names.{optional, trimmed, number, is_blank, word, process_word}
-use Rattle.syslog_loose.proofs.Names.{unique_division, front_division, division_front, row_pieces, row_of, rows_join}
-use Rattle.syslog_loose.proofs.Names.{MessageValue, rfc5424_row, IsRead5424, IsRead3164, DashRule, Dating, Line}
-use Rattle.syslog_loose.proofs.Names.{IsLineOf, named_process, named_names, rfc3164_list}
+use Rattle.syslog_loose.proofs.Names.{AllDeterministic, all_joined, run_det, rest_det, run, rest, texted, optional}
+use Rattle.syslog_loose.proofs.Names.{trimmed, number, is_blank, word, process_word, unique_division, front_division}
+use Rattle.syslog_loose.proofs.Names.{division_front, row_pieces, row_of, rows_join, MessageValue, rfc5424_row}
+use Rattle.syslog_loose.proofs.Names.{IsRead5424, IsRead3164, DashRule, Dating, Line, IsLineOf, named_process}
+use Rattle.syslog_loose.proofs.Names.{named_names, rfc3164_list, ElementValue, names_row, front_row, header_row}
 use Rattle.syslog_loose.specs.Words.{forgiving, list_text}
-use Rattle.syslog_loose.proofs.Names.{ElementValue, names_row, front_row, header_row}
 use Rattle.syslog_pieces.proofs.ProcIdLemmas.{absent_front, process_front}
 use Rattle.syslog_elements.proofs.StructuredDataLemmas.Unparsed.{IsBracketed, full_leaves, leaving_det}
 use Rattle.syslog_elements.proofs.StructuredDataLemmas.Unparsed.{left_bracketed, nothing_leaves, unparsed_same}

@@ -13,8 +13,7 @@ use Rattle.syslog_elements.proofs.Names.{element, run_det, row_det, ◌≢◌, i
 use Rattle.syslog_elements.proofs.Names.{IsMany, IsList, IsMore, quoted, ◌<◌, inside, length, Option, single, strict}
 use Rattle.syslog_elements.proofs.Names.{append_more, ◌also◌, begins, Values, param, heads, Meets, props, false, arith}
 use Rattle.syslog_elements.proofs.Names.{subst, Front, Each, pair, many, item, dash, Ends, Bool, drop, Some, None, refl}
-use Rattle.syslog_elements.proofs.Names.{Text, join, ◌++◌, List, ap, inl, inr, ◌∷◌, sym, ◌∙◌, map, Row, run, []}
-use Rattle.syslog_elements.proofs.Names.{ℕ}
+use Rattle.syslog_elements.proofs.Names.{Text, join, ◌++◌, List, ap, inl, inr, ◌∷◌, sym, ◌∙◌, map, Row, run, [], ℕ}
 use Rattle.std.proofs.lemmas.List.Elements.{filter_map-append}
 use Rattle.syslog_text.proofs.PieceLemmas.Lists.{list_before_det}
 use Rattle.syslog_elements.proofs.StructuredDataLemmas.Units.{unit_same, units_same}

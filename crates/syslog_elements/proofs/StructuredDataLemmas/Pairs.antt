@@ -8,10 +8,9 @@ use Rattle.syslog_elements.proofs.Names.{run, some_run, texted, Each, Ends, Σ_p
 use Rattle.syslog_elements.proofs.Names.{one_value-is, AllDeterministic, ◌also◌, ◌then◌, exactly_det, some_run_det}
 use Rattle.syslog_elements.proofs.Names.{texted_det, mapped_det, row_det, row_of, row_pieces, row_head, many_det}
 use Rattle.syslog_elements.proofs.Names.{many_here, run_det, begins, heads, optional_none, optional_some, quoted}
-use Rattle.syslog_elements.proofs.Names.{ElementValue, strict, item, AllByRecursion, AllByRecursion-prop}
-use Rattle.syslog_elements.proofs.Names.{BeginsUnblank, IsCanonicalElement, IsCanonicalParam, IsMany, IsValue, each_map}
-use Rattle.syslog_elements.proofs.Names.{is_id_char, is_name_char, list_elements, quoted_row, Bool, IsDashBefore}
-use Rattle.syslog_elements.proofs.Names.{front_same}
+use Rattle.syslog_elements.proofs.Names.{ElementValue, strict, item, AllByRecursion, AllByRecursion-prop, BeginsUnblank}
+use Rattle.syslog_elements.proofs.Names.{IsCanonicalElement, IsCanonicalParam, IsMany, IsValue, each_map, is_id_char}
+use Rattle.syslog_elements.proofs.Names.{is_name_char, list_elements, quoted_row, Bool, IsDashBefore, front_same}
 use Rattle.syslog_elements.specs.StructuredData.Recognised.{OneInside-prop, OnePairs-prop, params_set}
 use Rattle.syslog_elements.specs.StructuredData.Unparsed.{IsUnparsed}
 use Rattle.syslog_text.specs.Text.{is_blank, is_tag_char}
@@ -277,25 +276,7 @@ each_low = (
   refl,
   (
     refl,
-    (
-      refl,
-      (
-        refl,
-        (
-          refl,
-          (
-            refl,
-            (
-              refl,
-              (
-                refl,
-                (refl, (refl, (refl, (refl, (refl, (refl, (refl, tt))))))),
-              ),
-            ),
-          ),
-        ),
-      ),
-    ),
+    (refl, (refl, (refl, (refl, (refl, (refl, (refl, (refl, (refl, (refl, (refl, (refl, (refl, tt))))))))))))),
   ),
 )
 
@@ -362,16 +343,7 @@ id_canonical = (
     refl,
     (
       refl,
-      (
-        refl,
-        (
-          refl,
-          (
-            refl,
-            (refl, (refl, (refl, (refl, (refl, (refl, (refl, (refl, (refl, (refl, tt)))))))))),
-          ),
-        ),
-      ),
+      (refl, (refl, (refl, (refl, (refl, (refl, (refl, (refl, (refl, (refl, (refl, (refl, (refl, tt))))))))))))),
     ),
   ),
 )

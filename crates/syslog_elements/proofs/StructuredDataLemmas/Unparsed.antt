@@ -1,12 +1,11 @@
 -- What is left unparsed of a list: one text, which is nothing or goes from a bracket to a bracket.
-use Rattle.syslog_elements.proofs.Names.{shown, Bor, props, ∥∥₁_elim, many_cons, many_here, append_more}
-use Rattle.syslog_elements.proofs.Names.{append_cancel_right, strict, ◌≡◌, ◌≢◌, ◌⊎◌, ◌<◌, inl, inr, ℕ, List, [], ◌∷◌}
-use Rattle.syslog_elements.proofs.Names.{◌++◌, Option, Some, None, refl, sym, ap, subst, ◌∙◌, map, arith, length}
-use Rattle.syslog_elements.proofs.Names.{append_assoc, append-nil, Text, Class, Values, Front, NoFront, IsDeterministic}
-use Rattle.syslog_elements.proofs.Names.{exactly, texted, run, some_run, many, IsMany, list_before, param, element}
-use Rattle.syslog_elements.proofs.Names.{full_element, item, forgiving, dash, ElementValue, elements_text}
-use Rattle.syslog_elements.proofs.Names.{joined_elements, element_text, front_same, many_det, is_blank, is_open_char}
-use Rattle.syslog_elements.proofs.Names.{is_id_char}
+use Rattle.syslog_elements.proofs.Names.{∥∥₁_elim, append_cancel_right, IsDeterministic, elements_text, joined_elements}
+use Rattle.syslog_elements.proofs.Names.{append_assoc, some_run, full_element, ElementValue, element_text, is_open_char}
+use Rattle.syslog_elements.proofs.Names.{shown, many_cons, append_more, append-nil, list_before, front_same, is_id_char}
+use Rattle.syslog_elements.proofs.Names.{many_here, strict, ℕ, NoFront, exactly, element, forgiving, many_det, is_blank}
+use Rattle.syslog_elements.proofs.Names.{Bor, props, Option, subst, arith, length, Class, Values, Front, texted, IsMany}
+use Rattle.syslog_elements.proofs.Names.{◌≡◌, ◌≢◌, ◌⊎◌, List, [], ◌++◌, Some, None, refl, Text, many, param, item, dash}
+use Rattle.syslog_elements.proofs.Names.{◌<◌, inl, inr, ◌∷◌, sym, ap, ◌∙◌, map, run}
 use Rattle.std.specs.List.{AllByRecursion}
 use Rattle.syslog_text.specs.Pieces.Class.{Divides, join}
 use Rattle.syslog_elements.specs.StructuredData.Canonical.{IsCanonicalElement}
@@ -244,11 +243,7 @@ module _ {V : Type 0} {given : V → V → List ElementValue → Type 0} {text r
         unparsed = [];
         left = ∣ inr (
           not_dash f.piece f.whole,
-          (
-            _,
-            front_of f.piece (sym (append-nil f.piece))
-                (many_alone f.piece rest [] _ f.is no_element_nil),
-          ),
+          (_, front_of f.piece (sym (append-nil f.piece)) (many_alone f.piece rest [] _ f.is no_element_nil)),
         ) ∣₁;
         is = (tt, refl);
       }
@@ -264,11 +259,7 @@ module _ {V : Type 0} {given : V → V → List ElementValue → Type 0} {text r
         unparsed = u;
         left = ∣ inr (
           not_dash (f.piece ++ u) whole,
-          (
-            _,
-            front_of f.piece refl
-                (many_alone f.piece (shown b) u _ f.is no_element),
-          ),
+          (_, front_of f.piece refl (many_alone f.piece (shown b) u _ f.is no_element)),
         ) ∣₁;
         is = (utf8, e);
       }
@@ -286,11 +277,7 @@ full_leaves_none {text = text} {rest = rest} {es = es} broken none f =
       unparsed = [];
       left = ∣ inr (
         no_dash_items (map Some es) (own_items f.whole (are_full_items f)),
-        (
-          es,
-          front_of f.piece
-              (sym (append-nil f.piece)) (elements_alone f.piece rest es f.is),
-        ),
+        (es, front_of f.piece (sym (append-nil f.piece)) (elements_alone f.piece rest es f.is)),
       ) ∣₁;
       is = (tt, refl);
     })

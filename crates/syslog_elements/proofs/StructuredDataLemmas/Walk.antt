@@ -1,23 +1,22 @@
 -- The walk over lists: where an element ends, what is left, and the counts; and the list of RFC 3164.
-use Rattle.syslog_elements.proofs.Names.{length-le-encodes, IsDeterministic, nil_from_length}
-use Rattle.syslog_elements.proofs.Names.{length, encode_utf8_all, flat_map-append, length-append}
-use Rattle.syslog_elements.proofs.Names.{row_none_here, optional_some, optional_none, encodes-chars}
-use Rattle.syslog_elements.proofs.Names.{Class, full_element, IsDashBefore, rfc3164_list, BeginsNoList}
+use Rattle.syslog_elements.proofs.Names.{length-le-encodes, IsDeterministic, nil_from_length, length, encode_utf8_all}
+use Rattle.syslog_elements.proofs.Names.{flat_map-append, length-append, row_none_here, optional_some, optional_none}
+use Rattle.syslog_elements.proofs.Names.{encodes-chars, Class, full_element, IsDashBefore, rfc3164_list, BeginsNoList}
 use Rattle.syslog_elements.proofs.Names.{append_assoc, inside_row, ElementValue, is_name_char, element_text}
 use Rattle.syslog_elements.proofs.Names.{element_seen, one_value-is, param_text, is_open_char, opening_row, list_before}
-use Rattle.syslog_elements.proofs.Names.{element_row, more_before, no_front_no, ℕ, elements_or, meets_none}
-use Rattle.syslog_elements.proofs.Names.{name_alone, OneMeaning, element_of, IsUtf8, is_id_char, no_many_no, row_pieces}
-use Rattle.syslog_elements.proofs.Names.{append-nil, byte_count, front_same, row_goes, start_row, many_cons, many_none}
-use Rattle.syslog_elements.proofs.Names.{rows_step, and_parts, list_here, list_goes, ◌≡◌, more_goes, row_first}
-use Rattle.syslog_elements.proofs.Names.{more_here, many_here, one_value, forgiving, bracketed, ◌<◌, ∥∥₁_elim, row_head}
-use Rattle.syslog_elements.proofs.Names.{param_of, is_blank, optional, DashRule, many_det, flat_map, some_run, id_alone}
-use Rattle.syslog_elements.proofs.Names.{meets_on, tail_row, IsWalked, opening, closing, NoFront, inl, exactly, element}
-use Rattle.syslog_elements.proofs.Names.{no_more, no_list, IsAlone, IsTrue, texted, IsMany, [], strict}
-use Rattle.syslog_elements.proofs.Names.{Values, append_more, inside, quoted, IsDead, Leaves, row_of, ◌also◌, begins}
-use Rattle.syslog_elements.proofs.Names.{Walked, Option, Σ_prop, ⊥_prop, heads, value, subst, Some, arith, start}
-use Rattle.syslog_elements.proofs.Names.{Front, param, Meets, shown, chars, None, List, ◌++◌, refl, Text, many, dash}
-use Rattle.syslog_elements.proofs.Names.{Bool, ◌&&◌, item, inr, ◌∷◌, sym, ◌∙◌, Row, ◌↔◌, ◌+◌, ◌≤◌, ◌⊎◌, map, run}
-use Rattle.syslog_elements.proofs.Names.{ap, ◌then◌, ◌≢◌, cases_Bool, and_from, bare_param_text, row_det}
+use Rattle.syslog_elements.proofs.Names.{element_row, more_before, no_front_no, ℕ, elements_or, meets_none, name_alone}
+use Rattle.syslog_elements.proofs.Names.{OneMeaning, element_of, IsUtf8, is_id_char, no_many_no, row_pieces, append-nil}
+use Rattle.syslog_elements.proofs.Names.{byte_count, front_same, row_goes, start_row, many_cons, many_none, rows_step}
+use Rattle.syslog_elements.proofs.Names.{and_parts, list_here, list_goes, ◌≡◌, more_goes, row_first, more_here}
+use Rattle.syslog_elements.proofs.Names.{many_here, one_value, forgiving, bracketed, ◌<◌, ∥∥₁_elim, row_head, param_of}
+use Rattle.syslog_elements.proofs.Names.{is_blank, optional, DashRule, many_det, flat_map, some_run, id_alone, meets_on}
+use Rattle.syslog_elements.proofs.Names.{tail_row, IsWalked, opening, closing, NoFront, inl, exactly, element, no_more}
+use Rattle.syslog_elements.proofs.Names.{no_list, IsAlone, IsTrue, texted, IsMany, [], strict, Values, append_more}
+use Rattle.syslog_elements.proofs.Names.{inside, quoted, IsDead, Leaves, row_of, ◌also◌, begins, Walked, Option, Σ_prop}
+use Rattle.syslog_elements.proofs.Names.{⊥_prop, heads, value, subst, Some, arith, start, Front, param, Meets, shown}
+use Rattle.syslog_elements.proofs.Names.{chars, None, List, ◌++◌, refl, Text, many, dash, Bool, ◌&&◌, item, inr, ◌∷◌}
+use Rattle.syslog_elements.proofs.Names.{sym, ◌∙◌, Row, ◌↔◌, ◌+◌, ◌≤◌, ◌⊎◌, map, run, ap, ◌then◌, ◌≢◌, cases_Bool}
+use Rattle.syslog_elements.proofs.Names.{and_from, bare_param_text, row_det}
 use Rattle.syslog_elements.specs.StructuredData.Recognised.{OneInside-prop, OneItems-prop, params_set, items_set}
 use Rattle.syslog_elements.specs.StructuredData.Pairs.{IsNext, inside_of}
 use Rattle.syslog_elements.specs.StructuredData.Visited.{AreItems}

@@ -12,14 +12,13 @@ use Rattle.syslog_loose.proofs.Names.{HasQuietNames, is_no_colon, HasNoColon, Is
 use Rattle.syslog_loose.proofs.Names.{AreNamesButQuirks, HasQuirksAlone, IsNearlyCanonical, tag_text, Names3164}
 use Rattle.syslog_loose.proofs.Names.{Resolves, names, rfc3164_row, IsRead3164, stamped_row, fields_row, NamesProgram}
 use Rattle.syslog_loose.proofs.Names.{fields_before, form_row, IsForm, each_after, each_both, each_left, each_front}
-use Rattle.syslog_loose.proofs.Names.{each_right, begins, row_pieces, IsOfMonthDate}
+use Rattle.syslog_loose.proofs.Names.{each_right, begins, row_pieces, IsOfMonthDate, append_cancel_right, decimal}
+use Rattle.syslog_loose.proofs.Names.{decimal_digits, each_map, is_ascii_digit, name_text, named_names, nat_tests}
+use Rattle.syslog_loose.proofs.Names.{negsuc, pos, process_same, procid_text, rest_same, run_same, suc}
 use Rattle.syslog_elements.proofs.StructuredDataLemmas.Elements.{element_canonical}
 use Rattle.syslog_loose.proofs.Rfc3164Lemmas.{of_names, shows, one_form}
 use Rattle.syslog_loose.proofs.PrintedLemmas.{drop_ends, last_ends, severity_beside}
 use Rattle.syslog_loose.specs.TagForm.{IsIdOf}
-use Rattle.syslog_loose.proofs.Names.{append_cancel_right, decimal, decimal_digits, each_map, is_ascii_digit, name_text}
-use Rattle.syslog_loose.proofs.Names.{named_names, nat_tests, negsuc, pos, process_same, procid_text, rest_same}
-use Rattle.syslog_loose.proofs.Names.{run_same, suc}
 use Rattle.std.proofs.lemmas.List.{append_cancel_left}
 use Rattle.syslog_text.proofs.TextLemmas.Runs as verbatim
 

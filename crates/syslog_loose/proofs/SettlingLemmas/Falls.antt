@@ -361,10 +361,7 @@ host_is None x e n = tt
 host_is (Some y) x e n = λ ends. n (subst EndsInColon e ends)
 
 no_end : (t : Text) → t ≡ [] → BeginsNoList dash_rule t
-no_end t e = (
-  (λ q f before. let z : [] ≡ 45 ∷ q = sym e ∙ f in cc),
-  λ p q v f h. no_full_nil p q v (sym e ∙ f) h,
-)
+no_end t e = ((λ q f before. let z : [] ≡ 45 ∷ q = sym e ∙ f in cc), λ p q v f h. no_full_nil p q v (sym e ∙ f) h)
 
 module _ (rule : DashRule) (first second : Dating) (text : Text) (m n : MessageValue) (r : IsRead3164 rule first text m)
     (s : IsRead3164 rule second (printed m) n) (dashes : (rule ≡ BeforeBlank) ⊎ IfSome m.procid HasNoColon) where

@@ -1,25 +1,24 @@
 -- Rounds of a text: one is stable first, or one is missing; and the rounds that are skipped, with what is written of
 -- them.
-use Rattle.syslog_loose.proofs.Names.{◌≡◌, ◌<◌, ◌⊎◌, ◌∙◌, ℕ, zero, suc, inl, inr, refl, sym, ap, subst, arith, Text, []}
-use Rattle.syslog_loose.proofs.Names.{leb_tells, Dating, printed, IsUnreadable, IsNext, IsRound, IsSettled, NoneSettled}
-use Rattle.syslog_loose.proofs.Names.{Reaches, IsFirstSettled, Variant, ◌≤◌, ◌∷◌, ◌++◌, length, true, Option, None, ◌+◌}
-use Rattle.syslog_loose.proofs.Names.{Some, append_assoc, is_not_whitespace, Front, is_blank, trimmed, MessageValue, Ok}
-use Rattle.syslog_loose.proofs.Names.{priority_of, dash_rule, IsRead, ShowsMonthDate, month_date, optional_some, Either}
-use Rattle.syslog_loose.proofs.Names.{ReadsProtocol, Protocol, RFC5424, ◌↔◌, Bool, false, List, chars_from_encodes, Err}
-use Rattle.syslog_loose.proofs.Names.{chars, IsUtf8, encode_utf8_all, IsCanonical, HasNoQuirk, IsRead3164, Weighs}
-use Rattle.syslog_loose.proofs.Names.{ParseFault, Invalid, Memory, IsFixed, HasRank, IsLater, IsReportedRound, Result}
-use Rattle.syslog_loose.proofs.Names.{IfOk}
-use Rattle.syslog_loose.proofs.Names.{string_bytes, Global, String, ElementValue, line_value, BeginsWithout, Made, Row}
-use Rattle.syslog_loose.proofs.Names.{IsAfterPriority, row_of, ◌then◌, piece_front, rest, run, IfSome, length-append}
-use Rattle.syslog_loose.proofs.Names.{Values, rfc3164_list, colon, EndsInColon, rfc3164_stamp, IsCanonicalStamp, colons}
-use Rattle.syslog_loose.proofs.Names.{BeforeBlank, each_front, IsBoundedProcess, HasQuirksAlone, HasNoNameQuirk}
-use Rattle.syslog_loose.proofs.Names.{colons_before, past_colons, EndsColons, IsDashed, PassesDashes, with_msg, names}
-use Rattle.syslog_loose.proofs.Names.{tail_text, Names3164, Resolves, rfc3164_row, body_row, facility_of, severity_of}
-use Rattle.syslog_loose.proofs.Names.{row_cons, rows_join, rest_front, front_division, dash_rfc3164_list, EndsOnce, ◌-◌}
-use Rattle.syslog_loose.proofs.Names.{Prints, append-nil, nil_from_length, Bor, encodes-append, encodes-chars, exactly}
-use Rattle.syslog_loose.proofs.Names.{some_run, shown, CutsColons, joined_elements, elements_text, MatchOption, begins}
-use Rattle.syslog_loose.proofs.Names.{front_same, run_det, encode_utf8, Skips, chars_empty, Ends, is_some, ◌*◌, IsAscii}
-use Rattle.syslog_loose.proofs.Names.{chars-IsAscii, colon_ascii}
+use Rattle.syslog_loose.proofs.Names.{subst, is_not_whitespace, chars_from_encodes, IsCanonicalStamp, dash_rfc3164_list}
+use Rattle.syslog_loose.proofs.Names.{IsUnreadable, encode_utf8_all, IsReportedRound, IsAfterPriority, IsBoundedProcess}
+use Rattle.syslog_loose.proofs.Names.{IsFirstSettled, ShowsMonthDate, HasQuirksAlone, nil_from_length, joined_elements}
+use Rattle.syslog_loose.proofs.Names.{◌≡◌, optional_some, ReadsProtocol, HasNoNameQuirk, front_division, encodes-append}
+use Rattle.syslog_loose.proofs.Names.{Dating, BeginsWithout, length-append, rfc3164_stamp, colons_before, encodes-chars}
+use Rattle.syslog_loose.proofs.Names.{leb_tells, append_assoc, MessageValue, string_bytes, elements_text, chars-IsAscii}
+use Rattle.syslog_loose.proofs.Names.{NoneSettled, priority_of, IsCanonical, ElementValue, rfc3164_list, PassesDashes}
+use Rattle.syslog_loose.proofs.Names.{◌<◌, piece_front, EndsInColon, BeforeBlank, past_colons, rfc3164_row, facility_of}
+use Rattle.syslog_loose.proofs.Names.{zero, month_date, severity_of, MatchOption, encode_utf8, chars_empty, colon_ascii}
+use Rattle.syslog_loose.proofs.Names.{IsSettled, HasNoQuirk, IsRead3164, ParseFault, line_value, each_front, EndsColons}
+use Rattle.syslog_loose.proofs.Names.{dash_rule, tail_text, Names3164, rest_front, append-nil, CutsColons, front_same}
+use Rattle.syslog_loose.proofs.Names.{is_blank, Protocol, IsDashed, with_msg, Resolves, body_row, row_cons, rows_join}
+use Rattle.syslog_loose.proofs.Names.{printed, IsRound, Reaches, Variant, trimmed, RFC5424, Invalid, EndsOnce, some_run}
+use Rattle.syslog_loose.proofs.Names.{ap, IsNext, length, IsFixed, HasRank, IsLater, exactly, run_det, is_some, IsAscii}
+use Rattle.syslog_loose.proofs.Names.{ℕ, Option, IsRead, Either, IsUtf8, Weighs, Memory, Result, Global, String, row_of}
+use Rattle.syslog_loose.proofs.Names.{arith, Front, false, chars, ◌then◌, IfSome, Values, colon, colons, Prints, begins}
+use Rattle.syslog_loose.proofs.Names.{refl, Text, ◌++◌, true, None, Some, Bool, List, IfOk, Made, names, shown, Skips}
+use Rattle.syslog_loose.proofs.Names.{◌⊎◌, ◌∙◌, suc, inl, inr, sym, ◌≤◌, ◌∷◌, ◌+◌, ◌↔◌, Err, Row, rest, run, ◌-◌, Ends}
+use Rattle.syslog_loose.proofs.Names.{[], Ok, Bor, ◌*◌}
 use Rattle.syslog_loose.proofs.ReadingLemmas.{read_once, invalid_or_memory}
 use Rattle.syslog_loose.specs.Printed.{printed_3164}
 use Rattle.syslog_loose.specs.declared.variant.Variant.TheVariants.{RFC3164}
@@ -290,11 +289,7 @@ module _ (variant : Variant) (dating : Dating) where
         (
           k,
           refl,
-          record {
-            before = j;
-            reaches = more;
-            ranked = λ m s. told.lower k m s (ranked told.message told.read);
-          },
+          record { before = j; reaches = more; ranked = λ m s. told.lower k m s (ranked told.message told.read) },
         ),
       )
 

@@ -377,13 +377,7 @@ module _ (rule : DashRule) where
   )
   leaves {t = t} {q = q} (Some es) left b g gap = inr (
     λ n. no_front_no (rfc3164_list rule) (no_rfc3164_list rule t n) (present_front (rfc3164_list rule) g),
-    omega (
-      arith,
-      list_some g.piece q es g.is,
-      front_longer _ gap,
-      ap length g.whole,
-      length-append g.piece q,
-    ),
+    omega (arith, list_some g.piece q es g.is, front_longer _ gap, ap length g.whole, length-append g.piece q),
     λ e. elim g.is [
       | inl (d, before, _) ↦ (q, g.whole ∙ ap (λ (x : Text). x ++ q) d, before, gap)
       | inr (l, _) ↦ absurd (omega (arith, l, ap length e))

@@ -1,9 +1,8 @@
 -- Rounds whose texts are known before they are read: those in which a host loses a colon each time, and those in which
 -- a message part loses a dash. (All of it is this project's own.)
 use Rattle.std.specs.Prelude.{◌≡◌, ◌<◌, ◌∷◌, ◌++◌}
-use Rattle.syslog_loose.specs.Words.{ℕ, zero, suc, List, [], length, Some, None, IfSome, Text, Each, Ends}
-use Rattle.syslog_loose.specs.Words.{facility_of, severity_of, ElementValue, is_blank, EndsInColon, IsCanonicalStamp}
-use Rattle.syslog_loose.specs.Words.{colon}
+use Rattle.syslog_loose.specs.Words.{ℕ, zero, suc, List, [], length, Some, None, IfSome, Text, Each, Ends, facility_of}
+use Rattle.syslog_loose.specs.Words.{severity_of, ElementValue, is_blank, EndsInColon, IsCanonicalStamp, colon}
 use Rattle.std.specs.List.{repeat}
 use Rattle.syslog_elements.specs.StructuredData.Element.{joined_elements}
 use Rattle.syslog_loose.specs.Message.{MessageValue}

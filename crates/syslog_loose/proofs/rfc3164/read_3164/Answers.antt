@@ -1,12 +1,11 @@
 use Rattle.syslog_loose.proofs.Names.{◌≡◌, ◌∙◌, ◌++◌, ◌then◌, List, [], Option, refl, sym, ap, arith, Text, Ends, Front}
 use Rattle.syslog_loose.proofs.Names.{ElementValue, elements_or, rfc3164_list, is_blank, front_same, run_det, rows_join}
 use Rattle.syslog_loose.proofs.Names.{rest_front, begins_no_list, dash_rule, row_of, spaced_elements, optional, run}
-use Rattle.syslog_loose.proofs.Names.{shown, stamped_row, fields_row, body_row, fields_before, names_value}
-use Rattle.syslog_loose.proofs.Names.{◌∷◌, Class, rest, texted, front_division, BeginsNoList, chars_empty}
-use Rattle.syslog_loose.proofs.Names.{nil_from_length, empty_is, length, IsTrue, ◌&&◌}
+use Rattle.syslog_loose.proofs.Names.{shown, stamped_row, fields_row, body_row, fields_before, names_value, ◌∷◌, Class}
+use Rattle.syslog_loose.proofs.Names.{rest, texted, front_division, BeginsNoList, chars_empty, nil_from_length}
+use Rattle.syslog_loose.proofs.Names.{empty_is, length, IsTrue, ◌&&◌, encode_utf8_all, encodes-chars}
 use Rattle.std.proofs.Common.{eq-eqb}
 use Rattle.std.proofs.lemmas.Bool.{and_from, and_parts}
-use Rattle.syslog_loose.proofs.Names.{encode_utf8_all, encodes-chars}
 use Rattle.syslog_loose.proofs.LineLemmas.{texted_as}
 use Rattle.syslog_loose.proofs.Rfc3164Lemmas.{is_read, from_list, list_none}
 use Rattle.syslog_loose.proofs.rfc3164.read_3164.Goals as goal

@@ -1,7 +1,6 @@
-use Rattle.syslog_loose.proofs.Names.{[], List, Class, run, rest, texted, is_blank, ◌∷◌, ◌∙◌, ◌past◌, ◌then◌}
-use Rattle.syslog_loose.proofs.Names.{inl, refl, sym, no_row, row_of, trimmed}
-use Rattle.syslog_loose.proofs.Names.{rest_front, rows_join, rows_none_here}
-use Rattle.syslog_loose.proofs.Names.{header_row, data_row, rfc5424_row, no_row_division, front_division}
+use Rattle.syslog_loose.proofs.Names.{[], List, Class, run, rest, texted, is_blank, ◌∷◌, ◌∙◌, ◌past◌, ◌then◌, inl, refl}
+use Rattle.syslog_loose.proofs.Names.{sym, no_row, row_of, trimmed, rest_front, rows_join, rows_none_here, header_row}
+use Rattle.syslog_loose.proofs.Names.{data_row, rfc5424_row, no_row_division, front_division}
 use Rattle.syslog_text.proofs.PieceLemmas.Class.{rows_none_later}
 use Rattle.syslog_elements.specs.StructuredData.{forgiving}
 use Rattle.syslog_loose.proofs.LineLemmas.{texted_as}

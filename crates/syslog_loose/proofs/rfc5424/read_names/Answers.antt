@@ -160,13 +160,7 @@ returns-clause-prints g c =
           let (ends, after) = word_peeled id.reads after_process in (
             c.are_all-is_printed.ensures.1 (
               host.fits.1 starts,
-              (
-                app.fits.1 follows,
-                (
-                  word.fits.1 named,
-                  (c.is_bare.ensures.1 bare, (id.fits.1 ends, tt)),
-                ),
-              ),
+              (app.fits.1 follows, (word.fits.1 named, (c.is_bare.ensures.1 bare, (id.fits.1 ends, tt)))),
             ),
             sym after,
           ));

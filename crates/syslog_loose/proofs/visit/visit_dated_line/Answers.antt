@@ -1,8 +1,7 @@
 use Rattle.syslog_loose.proofs.Names.{◌∙◌, Some, None, refl, sym, chars, dating_of, visits_none}
-use Rattle.syslog_loose.proofs.ReadingLemmas.{asked_month, asks_none, dated_in, dated_front, dated_invalid}
-use Rattle.syslog_loose.proofs.ReadingLemmas.{dated_left, left_to_try, other_front, undated_invalid, in_year_map}
-use Rattle.syslog_loose.proofs.ReadingLemmas.{line_3164, line_5424, shows_date, shows_none, strict_shows_none, unasked}
-use Rattle.syslog_loose.proofs.ReadingLemmas.{visits_after}
+use Rattle.syslog_loose.proofs.ReadingLemmas.{dated_in, dated_invalid, undated_invalid, strict_shows_none, visits_after}
+use Rattle.syslog_loose.proofs.ReadingLemmas.{asked_month, dated_front, left_to_try, other_front, in_year_map, unasked}
+use Rattle.syslog_loose.proofs.ReadingLemmas.{asks_none, dated_left, line_3164, line_5424, shows_date, shows_none}
 use Rattle.syslog_loose.proofs.visit.visit_dated_line.Goals.{in-Some+in-Some-month_stamp}
 use Rattle.syslog_loose.proofs.visit.visit_dated_line.Goals.{in-None+in_default-visit_5424+in-Some-front_stamp}
 use Rattle.syslog_loose.proofs.visit.visit_dated_line.Goals as goal
