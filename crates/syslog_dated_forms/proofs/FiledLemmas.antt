@@ -1,12 +1,12 @@
 -- What is found of lines that a collector files: by whether such a line is there, and of which system it is.
-use Rattle.std.proofs.Common.{◌≡◌, [], ◌∷◌, sym, ap, ◌∙◌}
-use Rattle.syslog_text.specs.Pieces.Class.{Text, Class, Values, Front, NoFront, Row, Division, NoDivision}
+use Rattle.std.proofs.Common.{◌≡◌, [], ◌∷◌}
+use Rattle.syslog_text.specs.Pieces.Class.{Text, Class, Values, Front, NoFront, Row, NoDivision}
 use Rattle.syslog_text.specs.Pieces.Rules.{such_that}
 use Rattle.syslog_text.specs.Text.{is_blank}
-use Rattle.syslog_text.proofs.PieceLemmas.Class.{AllDeterministic, ◌also◌, all_joined, front_division}
+use Rattle.syslog_text.proofs.PieceLemmas.Class.{AllDeterministic, ◌also◌, all_joined}
 use Rattle.syslog_text.proofs.PieceLemmas.Class.{no_row_division}
 use Rattle.syslog_text.proofs.PieceLemmas.Class.{row_cons, row_det, row_nil, row_none_here, rows_join, rows_none_here}
-use Rattle.syslog_text.proofs.PieceLemmas.Class.{rows_none_later, run_det, some_run_det, unique_division}
+use Rattle.syslog_text.proofs.PieceLemmas.Class.{rows_none_later, run_det, some_run_det}
 use Rattle.syslog_text.proofs.PieceLemmas.Rules.{no_such_front, no_such_meaning, such_det, such_front}
 use Rattle.syslog_dated_forms.specs.Cisco.{IsAsa, IsNxOs, cisco_row}
 use Rattle.syslog_sent.specs.Forms.{IsOfNone, IsOnlyOf}
@@ -18,6 +18,7 @@ use Rattle.syslog_sent.specs.declared.sent.SentDate.{SentDate}
 use Rattle.syslog_dated_forms.proofs.CiscoLemmas.{cisco_row_det, origin_det}
 use Rattle.syslog_sent.proofs.DateLemmas.{any_date_det}
 use Rattle.syslog_sent.proofs.DialectLemmas.{here, later}
+use Rattle.syslog_sent.proofs.FormLemmas.{says_once}
 
 pub filed_front_det : AllDeterministic filed_front
 filed_front_det = run_det is_blank also any_date_det also some_run_det is_blank also origin_det also some_run_det
@@ -54,19 +55,11 @@ module _ {t line device : Text} {d : SentDate} (f : Front (Row filed_front) t li
     not_one : (P : Values cisco_row → Type 0) → (P vs → ⊥) → NoDivision (filed_row (one P)) t
     not_one P n = no_line P (no_such_meaning (Row cisco_row) P (row_det cisco_row cisco_row_det) g n)
 
-    divided : (P : Values cisco_row → Type 0) → P vs
-        → Division (filed_row (one P)) t (tt, (d, (tt, (device, (tt, (vs, tt))))))
-    divided P is = front_division (filed_row (one P)) (rows_join filed_front (one P ∷ []) f
-        (row_cons (one P) [] (such_front (Row cisco_row) P g is) (row_nil [])))
-
     says_one : (dialect : Dialect) (P : Values cisco_row → Type 0) → P vs → IsOnlySent (filed_form dialect P) t sent
-    says_one dialect P is = record {
-      says = record { values = (tt, (d, (tt, (device, (tt, (vs, tt)))))); division = divided P is; means = e };
-      only = λ other k.
-          (let same = (unique_division (filed_row (one P)) (all_joined filed_front (one P ∷ []) filed_front_det
-          (such_det (Row cisco_row) P (row_det cisco_row cisco_row_det) also tt)) k.division (divided P is)).1 in
-          k.means ∙ ap (λ (v : Values (filed_row (one P))). filed_sent v.1.1.1.0 v.1.1.1.1.1.0) same ∙ sym e);
-    }
+    says_one dialect P is = says_once dialect (filed_row (one P)) (λ vs. filed_sent vs.1.1.1.0 vs.1.1.1.1.1.0)
+        (all_joined filed_front (one P ∷ []) filed_front_det
+        (such_det (Row cisco_row) P (row_det cisco_row cisco_row_det) also tt))
+        (rows_join filed_front (one P ∷ []) f (row_cons (one P) [] (such_front (Row cisco_row) P g is) (row_nil []))) e
 
     pub of_asa : IsAsa vs → IsOnlyOf filed_forms t CiscoAsa sent
     of_asa is = here (filed_form CiscoAsa IsAsa) (filed_form CiscoNxOs IsNxOs ∷ filed_form CiscoIos IsAny ∷ []) t sent

@@ -1,7 +1,7 @@
 -- Pairs of a key and a value: one front of each class, what is noted of them, and the date that they show.
 use Rattle.std.proofs.Common.{◌≡◌, inl, inr, ℕ, ℤ, ◌<◌, Bool, true, false, List, [], ◌∷◌, ◌++◌, length, Option, Some}
 use Rattle.std.proofs.Common.{None}
-use Rattle.std.proofs.Common.{refl, sym, ap, subst, ◌∙◌, arith, length-append, append-nil, if◌then◌else◌}
+use Rattle.std.proofs.Common.{refl, sym, ap, subst, ◌∙◌, arith, length-append, append-nil}
 use Rattle.std.proofs.lemmas.Bool.{cases_Bool}
 use Rattle.std.proofs.lemmas.Bool.Decides.{nat_tests}
 use Rattle.std.specs.Char.{is_not_whitespace}
@@ -36,6 +36,8 @@ use Rattle.syslog_named_forms.specs.Pairs.{is_date_key, is_time_key}
 use Rattle.syslog_named_forms.specs.Pairs.{is_zone_key, is_host_key, is_stamp_key}
 use Rattle.syslog_sent.specs.Runs.{is_unquoted, is_word_char}
 use Rattle.syslog_sent.specs.Sent.{IsOnlySent, SentValue, loose}
+use Rattle.syslog_sent.proofs.FormLemmas.{says_once}
+use Rattle.syslog_sent.specs.declared.dialect.Dialect.TheVariants.{KeyValue}
 use Rattle.syslog_sent.specs.declared.sent.SentDate.{SentDate}
 use Rattle.syslog_sent.proofs.NamedLemmas.{otherwise_det}
 use Rattle.syslog_sent.proofs.DateLemmas.{fraction_row_det, iso_date_det}
@@ -271,10 +273,5 @@ module _ {text msg : Text} (gap : Front (run is_blank) text msg tt) {ps : List (
   pairs_said {d} {s} h e =
       let line : Front paired msg [] (d, (noted ps).hostname, msg) = front_of msg (sym (append-nil msg))
       (refl, refl, (ps, r, f, h, refl)) in
-      let whole : Division pairs_row text (tt, ((d, (noted ps).hostname, msg), tt)) = front_division pairs_row
-      (row_of pairs_row (gap then line then refl)) in
-      record {
-        says = record { values = (tt, ((d, (noted ps).hostname, msg), tt)); division = whole; means = e };
-        only = λ other k. (let same = (unique_division pairs_row pairs_det k.division whole).1 in
-            k.means ∙ ap (λ (vs : Values pairs_row). loose (Some vs.1.0.0) vs.1.0.1 None None vs.1.0.2) same ∙ sym e);
-      }
+      says_once KeyValue pairs_row (λ vs. loose (Some vs.1.0.0) vs.1.0.1 None None vs.1.0.2) pairs_det
+      (row_of pairs_row (gap then line then refl)) e
