@@ -71,9 +71,12 @@ impl<'a> SentLine<'a> {
         ensures { spec.GivesOwn E.was_given elements.old self.now elements.new }
     {
         if self.dialect.is_some() {
-            // A copy, so that the line stays out of memory.
+            // A copy, so that the line stays out of memory. Only Check Point's lines have elements, so for most lines
+            // no walk over them is begun.
             let list = self.line.list;
-            visit_list(&list, elements);
+            if !list.is_empty() {
+                visit_list(&list, elements);
+            }
         }
     }
 
@@ -127,6 +130,16 @@ fn dialect_line<'a>(is_read: bool, input: &'a str, dates: &Dates) -> Option<Sent
     Some(SentLine::of(&opened(dialect, &line), Some(dialect), sent.date))
 }
 
+// Returns what `dialect_line` returns. A function clears the memory of its results when it is entered, so that for this
+// call is only cleared where a dialect is tried.
+#[inline(always)]
+fn tried_line<'a>(is_read: bool, input: &'a str, dates: &Dates) -> Option<SentLine<'a>>
+    ensures { MatchOption result (spec.IsInNone dates.now is_read (chars input.entry.now))
+        (spec.IsDialectLine dates.now is_read (chars input.entry.now)) }
+{
+    dialect_line(is_read, input, dates)
+}
+
 // Returns the line of a dialect instead of the port's line, which is not ordinary, if dialects are asked for.
 #[inline(always)]
 fn other_line<'a>(
@@ -151,7 +164,7 @@ fn other_line<'a>(
     if !may_be_sent(input) {
         return None;
     }
-    dialect_line(true, input, dates)
+    tried_line(true, input, dates)
 }
 
 // Returns the line of a dialect for a text that the port does not parse, if dialects are asked for.
@@ -168,7 +181,7 @@ fn last_line<'a>(input: &'a str, dates: &Dates, are_asked: bool) -> Option<SentL
     if !may_be_sent(input) {
         return None;
     }
-    dialect_line(false, input, dates)
+    tried_line(false, input, dates)
 }
 
 /// Returns the line of a dialect instead of the port's line of the text, which is not ordinary, and none if the text is
@@ -194,7 +207,7 @@ pub fn line_instead<'a>(
     if !may_be_sent(input) {
         return None;
     }
-    dialect_line(true, input, dates)
+    tried_line(true, input, dates)
 }
 
 /// Returns the line of the text as its sender meant it, given the port's line. It does not allocate.

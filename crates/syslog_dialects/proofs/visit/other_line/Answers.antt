@@ -3,7 +3,7 @@ use Rattle.syslog_dialects.proofs.visit.other_line.Goals as goal
 
 pub returns : goal.returns
 returns c =
-    match_map c.dialect_line.result (λ none asked odd may. none)
+    match_map c.tried_line.result (λ none asked odd may. none)
     (λ it is. (
       c.if-not-are_asked.false,
       (
@@ -11,4 +11,4 @@ returns c =
         c.may_be_sent.ensures.0 c.if-not-may_be_sent.false,
       ),
       is,
-    )) c.dialect_line.ensures
+    )) c.tried_line.ensures
