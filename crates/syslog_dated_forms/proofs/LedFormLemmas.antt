@@ -1,5 +1,5 @@
 -- Texts that begin with no date of a form are not of that form.
-use Rattle.std.proofs.Common.{inl}
+use Rattle.std.proofs.Common.{inl, List, ◌++◌, Option, Some, None}
 use Rattle.syslog_text.specs.Pieces.Class.{Text, Front, NoFront, NoDivision, Row, run}
 use Rattle.syslog_text.specs.Pieces.Rules.{such_that}
 use Rattle.syslog_text.specs.Text.{is_blank}
@@ -14,7 +14,11 @@ use Rattle.syslog_sent.specs.declared.sent.SentDate.{SentDate}
 use Rattle.syslog_dated_forms.proofs.ContainerLemmas.{container_row_det}
 use Rattle.syslog_dated_forms.proofs.DatedLemmas.{bsd_line_det, iso_line_det}
 use Rattle.syslog_sent.proofs.DateLemmas.{no_unless_later}
-use Rattle.syslog_sent.specs.Forms.{IsOfNone}
+use Rattle.syslog_sent.proofs.DialectLemmas.{found_early, none_joined}
+use Rattle.syslog_sent.specs.Forms.{Finds, IsOfNone}
+use Rattle.syslog_sent.specs.Sent.{Form}
+use Rattle.syslog_sent.specs.declared.dialect.Dialect.{Dialect}
+use Rattle.syslog_sent.specs.declared.sent.Sent.{Sent}
 use Rattle.syslog_sent.specs.Led.{IsDate, IsLed}
 use Rattle.syslog_sent.specs.declared.led.Led.{Led}
 use Rattle.syslog_sent.specs.declared.led.LeadingDate.{LeadingDate}
@@ -55,3 +59,9 @@ other_at (Iso d) r g (n, f) = iso_no_other g (has_iso f)
 
 pub no_led_other : {text : Text} {led : Led} → IsLed text led → IsOfNone journal_forms text
 no_led_other {led = led} is = other_at led.date _ is.gap is.date
+
+-- ---- what the readers of the first of two lists return, where the text is of none of the second
+pub found_alone : (Fs Gs : List Form) (text : Text) (r : Option (Dialect × Sent)) → IsOfNone Gs text → Finds Fs text r
+    → Finds (Fs ++ Gs) text r
+found_alone Fs Gs text None none more = none_joined Fs Gs text more none
+found_alone Fs Gs text (Some x) none is = found_early Fs Gs text x is

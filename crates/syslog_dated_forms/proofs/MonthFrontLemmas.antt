@@ -68,7 +68,7 @@ use Rattle.syslog_sent.proofs.ZoneLemmas.{bare_word_det, either_told}
 abbrev pub IsSmall : ℕ → Type 0
 IsSmall c = (97 ≤ to_ascii_lowercase c) × (to_ascii_lowercase c < 123)
 
-small_letters : (a b c n : ℕ) → small_month a b c ≡ Some n → (97 ≤ a) × (a < 123) × (97 ≤ b) × (b < 123) × (97 ≤ c)
+pub small_letters : (a b c n : ℕ) → small_month a b c ≡ Some n → (97 ≤ a) × (a < 123) × (97 ≤ b) × (b < 123) × (97 ≤ c)
     × (c < 123)
 unfolding small_month
 small_letters a b c n m = (
@@ -80,7 +80,7 @@ small_letters a b c n m = (
   grind (arith, nat_tests),
 )
 
-small_low : (c : ℕ) → IsSmall c → (65 ≤ c) × (c < 123)
+pub small_low : (c : ℕ) → IsSmall c → (65 ≤ c) × (c < 123)
 small_low c h = grind (arith, lowercase_is c)
 
 tag_letter : (c : ℕ) → IsSmall c → is_tag_char c ≡ true
@@ -187,7 +187,7 @@ month_no_uptime w m is = let s = small_letters _ _ _ _ m.names in
     grind (arith, nat_tests, large, told)
 
 module _ {t : Text} (m : HasMonth t) where
-  first_letter : (c : ℕ) × (more : Text) × (t ≡ c ∷ more) × (65 ≤ c)
+  pub first_letter : (c : ℕ) × (more : Text) × (t ≡ c ∷ more) × (65 ≤ c)
   first_letter = let s = small_letters _ _ _ _ m.word.names in
       let large = (small_low m.word.a (s.0, s.1)).0 in
       (m.word.a, m.word.b ∷ m.word.c ∷ m.q, m.whole ∙ ap (λ (x : Text). x ++ m.q) m.word.is, large)
@@ -215,12 +215,12 @@ module _ {t : Text} (m : HasMonth t) where
   no_low C low p q v e h = let (c, more, is, large) = first_letter in
       begins_apart {H = IsLetter} {K = λ d. d < 65} t (λ d k l. omega (arith, k, l)) (rw is large) (rw e (low p q v h))
 
-  no_digits : (C : Class) → ((p q : Text) (v : C.Value) → C.Is p q v → (0 < length p) × Each is_ascii_digit p)
+  pub no_digits : (C : Class) → ((p q : Text) (v : C.Value) → C.Is p q v → (0 < length p) × Each is_ascii_digit p)
       → NoFront C t
   no_digits C digits = let (c, more, is, large) = first_letter in
       no_run is_ascii_digit t (rw is (grind (arith, nat_tests, large))) C digits
 
-  no_char : (d : ℕ) → d < 65 → NoFront (exactly (d ∷ [])) t
+  pub no_char : (d : ℕ) → d < 65 → NoFront (exactly (d ∷ [])) t
   no_char d low = no_low (exactly (d ∷ [])) (λ p q v h. rw h low)
 
   no_counter : NoFront (Row counter_row) t
@@ -247,7 +247,7 @@ module _ {t : Text} (m : HasMonth t) where
   no_mark p q (inl v) e h = no_char 42 (omega arith) p q v e h
   no_mark p q (inr v) e h = no_char 46 (omega arith) p q v e h
 
-  no_blank : Front (run is_blank) t t tt
+  pub no_blank : Front (run is_blank) t t tt
   no_blank = let (c, more, is, large) = first_letter in record {
     piece = [];
     whole = refl;
@@ -287,7 +287,7 @@ module _ {t : Text} (m : HasMonth t) where
 
 -- ---- no bracket begins it
 
-no_bracket : {t : Text} → HasMonth t → NoFront (exactly (91 ∷ [])) t
+pub no_bracket : {t : Text} → HasMonth t → NoFront (exactly (91 ∷ [])) t
 no_bracket m p q v e h =
     let s = small_letters _ _ _ _ m.word.names in
     let more = m.word.b ∷ m.word.c ∷ m.q in

@@ -16,7 +16,7 @@ ghost use Rattle.syslog_text.specs.Text.{colon as any_colon, is_blank};
 ghost use Rattle.syslog_sent.specs.Date.{any_date as date_class};
 ghost use Rattle.syslog_dated_forms.specs.CiscoViews.{cisco_values, message_values};
 ghost use Rattle.syslog_sent.specs.Forms.{Finds};
-ghost use Rattle.syslog_sent.specs.Led.{IsFront, IsLed};
+ghost use Rattle.syslog_sent.specs.Led.{IsLed};
 ghost use Rattle.syslog_sent.specs.Named.{BeginsWith};
 ghost use Rattle.syslog_sent.specs.Runs.{are_ascii, is_plain_char};
 ghost use Rattle.syslog_sent.specs.Sent.{Sends, sent_value};
@@ -407,8 +407,8 @@ fn are_one_end(a: &str, b: &str) -> bool
 
 // Returns what a line shows that begins with this date, after blanks or none. A date of RFC 3339 is read again only if
 // a name or a counter comes before it; neither comes before a month date.
-fn shown_led<'a>(text: &'a str, led: Led<'a>) -> Option<Cisco<'a>>
-    ensures { IsLed (chars text.entry.now) led.entry
+fn shown_led<'a>(text: &'a str, led: &Led<'a>) -> Option<Cisco<'a>>
+    ensures { IsLed (chars text.entry.now) led.now
         → MatchOption result (NoFront (Row spec.cisco_row) (chars text.entry.now))
         (λ x. Front (Row spec.cisco_row) (chars text.entry.now) [] (cisco_values x)) }
 {
@@ -481,22 +481,18 @@ fn by_system<'a>(line: &Cisco<'a>) -> (Dialect, Sent<'a>)
     (Dialect::CiscoIos, sent)
 }
 
-// Returns what a line shows that begins with this front.
-fn shown<'a>(text: &'a str, front: Option<Led<'a>>) -> Option<Cisco<'a>>
-    ensures { IsFront (chars text.entry.now) front.entry
-        → MatchOption result (NoFront (Row spec.cisco_row) (chars text.entry.now))
-        (λ x. Front (Row spec.cisco_row) (chars text.entry.now) [] (cisco_values x)) }
+/// Returns the system of a line with a date that it does not begin with, and what the line says.
+pub(crate) fn read_cisco(text: &str) -> Option<(Dialect, Sent<'_>)>
+    ensures { Finds spec.cisco_forms (chars text.now) result }
 {
-    match front {
-        Some(led) => shown_led(text, led),
-        None => shown_line(text),
-    }
+    let line = shown_line(text)?;
+    Some(by_system(&line))
 }
 
-/// Returns the system of a line with a date, and what the line says. `front` is what `read_front` returned for it.
-pub(crate) fn read_cisco<'a>(text: &'a str, front: Option<Led<'a>>) -> Option<(Dialect, Sent<'a>)>
-    ensures { IsFront (chars text.entry.now) front.entry → Finds spec.cisco_forms (chars text.entry.now) result }
+/// Returns the system of a line that begins with this date, and what the line says.
+pub(crate) fn read_led<'a>(text: &'a str, led: &Led<'a>) -> Option<(Dialect, Sent<'a>)>
+    ensures { IsLed (chars text.entry.now) led.now → Finds spec.cisco_forms (chars text.entry.now) result }
 {
-    let line = shown(text, front)?;
+    let line = shown_led(text, led)?;
     Some(by_system(&line))
 }

@@ -9,10 +9,11 @@ ghost use Rattle.syslog_sent.specs.DateViews.{bsd_values};
 ghost use Rattle.syslog_sent.specs.Forms.{Finds};
 ghost use Rattle.syslog_dated_forms.specs.Esxi.{esxi_form};
 ghost use Rattle.syslog_dated_forms.specs.Filed.{filed_forms};
-ghost use Rattle.syslog_sent.specs.Led.{IsFront, IsLed, IsUnled};
+ghost use Rattle.syslog_sent.specs.Led.{IsLed, IsUnled};
 ghost use Rattle.syslog_sent.specs.Sent.{Sends};
 ghost use Rattle.syslog_dated_forms.specs.DatedForms as spec;
 
+use crate::cisco;
 use crate::cisco::read_cisco;
 use crate::container::read_container;
 use crate::dated::{read_bsd, read_ctime, read_ctime_message, read_iso, read_journal, read_year};
@@ -76,8 +77,8 @@ fn from_unled(text: &str) -> Option<(Dialect, Sent<'_>)>
 }
 
 // Returns what a line of ESXi says, which never begins with a month date.
-fn of_esxi(led: Led<'_>) -> Option<Sent<'_>>
-    ensures { (text : Text) → IsLed text led.entry → Sends esxi_form text result }
+fn of_esxi<'a>(led: &Led<'a>) -> Option<Sent<'a>>
+    ensures { (text : Text) → IsLed text led.now → Sends esxi_form text result }
 {
     match led.date {
         LeadingDate::Month(_) => None,
@@ -86,8 +87,8 @@ fn of_esxi(led: Led<'_>) -> Option<Sent<'_>>
 }
 
 // Returns what a line of a container's log file says, which never begins with a month date.
-fn of_container(led: Led<'_>) -> Option<Sent<'_>>
-    ensures { (text : Text) → IsLed text led.entry → Sends container_form text result }
+fn of_container<'a>(led: &Led<'a>) -> Option<Sent<'a>>
+    ensures { (text : Text) → IsLed text led.now → Sends container_form text result }
 {
     match led.date {
         LeadingDate::Month(_) => None,
@@ -97,8 +98,8 @@ fn of_container(led: Led<'_>) -> Option<Sent<'_>>
 
 // Tries the forms that begin with a date on a text that begins with this one. No form with another beginning divides
 // it.
-fn from_led(led: Led<'_>) -> Option<(Dialect, Sent<'_>)>
-    ensures { (text : Text) → IsLed text led.entry → Finds spec.xr_forms text result }
+fn from_led<'a>(led: &Led<'a>) -> Option<(Dialect, Sent<'a>)>
+    ensures { (text : Text) → IsLed text led.now → Finds spec.xr_forms text result }
 {
     if let Some(sent) = of_container(led) {
         return Some((Dialect::Container, sent));
@@ -112,19 +113,9 @@ fn from_led(led: Led<'_>) -> Option<(Dialect, Sent<'_>)>
     None
 }
 
-// Tries the forms that need not begin with a date, and those after them.
-fn from_xr<'a>(text: &'a str, front: Option<Led<'a>>) -> Option<(Dialect, Sent<'a>)>
-    ensures { IsFront (chars text.entry.now) front.entry → Finds spec.xr_forms (chars text.entry.now) result }
-{
-    match front {
-        Some(led) => from_led(led),
-        None => from_unled(text),
-    }
-}
-
 // Returns what a filed line says that begins with this date.
-fn filed_after(led: Led<'_>) -> Option<(Dialect, Sent<'_>)>
-    ensures { (text : Text) → IsLed text led.entry → Finds (filed_forms ++ spec.timed_forms) text result }
+fn filed_after<'a>(led: &Led<'a>) -> Option<(Dialect, Sent<'a>)>
+    ensures { (text : Text) → IsLed text led.now → Finds (filed_forms ++ spec.timed_forms) text result }
 {
     if let Some(found) = read_filed(led.sent, led.rest) {
         return Some(found);
@@ -132,19 +123,9 @@ fn filed_after(led: Led<'_>) -> Option<(Dialect, Sent<'_>)>
     from_timed(led)
 }
 
-// Returns what a filed line says, which begins with a date.
-fn of_filed(front: Option<Led<'_>>) -> Option<(Dialect, Sent<'_>)>
-    ensures { (text : Text) → IsFront text front.entry → Finds (filed_forms ++ spec.timed_forms) text result }
-{
-    match front {
-        Some(led) => filed_after(led),
-        None => None,
-    }
-}
-
 // Returns what a line says that a collector files and that shows no date of the device.
-fn from_timed(led: Led<'_>) -> Option<(Dialect, Sent<'_>)>
-    ensures { (text : Text) → IsLed text led.entry → Finds spec.timed_forms text result }
+fn from_timed<'a>(led: &Led<'a>) -> Option<(Dialect, Sent<'a>)>
+    ensures { (text : Text) → IsLed text led.now → Finds spec.timed_forms text result }
 {
     let sent = read_timed(led.sent, led.rest)?;
     Some((Dialect::CiscoUndated, sent))
@@ -160,29 +141,48 @@ fn is_marked(text: &str) -> bool
     }
 }
 
-// Returns the system of a line of Cisco's with a date, and what the line says, also where a collector files it.
-fn of_cisco<'a>(text: &'a str, front: Option<Led<'a>>) -> Option<(Dialect, Sent<'a>)>
-    ensures { IsFront (chars text.entry.now) front.entry
-        → Finds spec.marked_forms (chars text.entry.now) result }
+// Returns the system of a line of Cisco's that begins with this date, and what the line says, also where a collector
+// files it.
+fn of_cisco<'a>(text: &'a str, led: &Led<'a>) -> Option<(Dialect, Sent<'a>)>
+    ensures { IsLed (chars text.entry.now) led.now → Finds spec.marked_forms (chars text.entry.now) result }
 {
     if !is_marked(text) {
         return None;
     }
-    if let Some(found) = read_cisco(text, front) {
+    if let Some(found) = cisco::read_led(text, led) {
         return Some(found);
     }
-    of_filed(front)
+    filed_after(led)
 }
 
-/// Returns the dialect that the text after a priority is in by its date, and what the text says. `front` is what
-/// `read_front` returned for it.
-pub fn read<'a>(text: &'a str, front: Option<Led<'a>>) -> Option<(Dialect, Sent<'a>)>
-    ensures { IsFront (chars text.entry.now) front.entry → Finds spec.all_dated (chars text.entry.now) result }
+// Returns the system of a line of Cisco's that begins with no date, and what the line says.
+fn of_unled_cisco(text: &str) -> Option<(Dialect, Sent<'_>)>
+    ensures { IsUnled (chars text.now) → Finds spec.marked_forms (chars text.now) result }
 {
-    if let Some(found) = of_cisco(text, front) {
+    if !is_marked(text) {
+        return None;
+    }
+    read_cisco(text)
+}
+
+/// Returns the dialect that the text after a priority is in by this date, which begins it, and what the text says.
+pub fn read_led<'a>(text: &'a str, led: &Led<'a>) -> Option<(Dialect, Sent<'a>)>
+    ensures { IsLed (chars text.entry.now) led.now → Finds spec.all_dated (chars text.entry.now) result }
+{
+    if let Some(found) = of_cisco(text, led) {
         return Some(found);
     }
-    from_xr(text, front)
+    from_led(led)
+}
+
+/// Returns the dialect that a text which begins with no date is in by its date, and what the text says.
+pub fn read_unled(text: &str) -> Option<(Dialect, Sent<'_>)>
+    ensures { IsUnled (chars text.now) → Finds spec.all_dated (chars text.now) result }
+{
+    if let Some(found) = of_unled_cisco(text) {
+        return Some(found);
+    }
+    from_unled(text)
 }
 
 // Returns what a line says that has this month date and no form of its own after it.
@@ -204,23 +204,12 @@ fn after_iso<'a>(begun: &'a str, date: SentDate, rest: &'a str) -> Option<(Diale
     Some((Dialect::NearlyRfc3339, sent))
 }
 
-// Reads a line that begins with this date and has no form of its own after it.
-fn after_date(led: Led<'_>) -> Option<(Dialect, Sent<'_>)>
-    ensures { (text : Text) → IsLed text led.entry → Finds spec.plain_forms text result }
+/// Returns the dialect of a line that begins with this date and has no form of its own after it, and what the line says.
+pub fn read_plain<'a>(led: &Led<'a>) -> Option<(Dialect, Sent<'a>)>
+    ensures { (text : Text) → IsLed text led.now → Finds spec.plain_forms text result }
 {
     match led.date {
         LeadingDate::Month(date) => after_month(date, led.rest),
         LeadingDate::Iso(date) => after_iso(led.text, date, led.rest),
-    }
-}
-
-/// Returns the dialect of a line that begins with a date and has no form of its own after it, and what the line says.
-/// `front` is what `read_front` returned for it.
-pub fn read_plain(front: Option<Led<'_>>) -> Option<(Dialect, Sent<'_>)>
-    ensures { (text : Text) → IsFront text front.entry → Finds spec.plain_forms text result }
-{
-    match front {
-        Some(led) => after_date(led),
-        None => None,
     }
 }

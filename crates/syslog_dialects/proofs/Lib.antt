@@ -8,3 +8,4 @@ pub mod PairedLemmas
 pub mod PriorityAloneLemmas
 pub mod SentLemmas
 pub mod SentReadingLemmas
+pub mod UndatedLemmas

@@ -2,18 +2,19 @@
 //!
 //! Few lines come here. No reader scans the text more than a few times, and each of them stops at the first piece that
 //! is missing.
-ghost use Rattle.std.specs.Prelude.{chars, ◌++◌};
+ghost use Rattle.std.specs.Prelude.{chars};
 ghost use Rattle.syslog_sent.specs.Forms.{Finds};
 ghost use Rattle.syslog_text.specs.Pieces.Class.{Text};
-ghost use Rattle.syslog_sent.specs.Led.{IsFront};
+ghost use Rattle.syslog_sent.specs.Led.{IsLed, IsUnled};
 ghost use Rattle.syslog_dialects.specs.Dialects.{early_forms, forms_of, last_forms, late_forms};
-ghost use Rattle.syslog_dialects.specs.Dialects.{named_forms, plain_forms};
+ghost use Rattle.syslog_dialects.specs.Dialects.{plain_forms};
+ghost use Rattle.syslog_named_forms.specs.NamedForms.{undated_forms};
 
 use crate::priority_alone::{read_alone, read_point_alone, read_program_alone};
 use syslog_dated_forms::dated_forms;
 use syslog_named_forms::named_forms;
 use syslog_sent::dialect::Dialect;
-use syslog_sent::led::{Led, read_front};
+use syslog_sent::led::{LeadingDate, Led, read_front};
 use syslog_sent::sent::Sent;
 
 // Returns the dialect of a text that has a priority and that the port does not parse, and what the text says.
@@ -30,24 +31,49 @@ fn read_last(text: &str) -> Option<(Dialect, Sent<'_>)>
     Some((Dialect::PriorityAlone, sent))
 }
 
-// Returns the dialect of a text that has nothing of its own after its date, and what the text says.
-fn read_plain(front: Option<Led<'_>>) -> Option<(Dialect, Sent<'_>)>
-    ensures { (text : Text) → IsFront text front.entry → Finds plain_forms text result }
+// Returns the dialect of a text that has nothing of its own after this date, which begins it, and what the text says.
+fn read_plain<'a>(led: &Led<'a>) -> Option<(Dialect, Sent<'a>)>
+    ensures { (text : Text) → IsLed text led.now → Finds plain_forms text result }
 {
-    match dated_forms::read_plain(front) {
+    match dated_forms::read_plain(led) {
         Some(found) => Some(found),
-        None => named_forms::read_spread(front),
+        None => named_forms::read_spread(led),
     }
 }
 
-// Returns the dialect of the text by what follows its date, and what the text says.
-fn read_named<'a>(text: &'a str, front: Option<Led<'a>>) -> Option<(Dialect, Sent<'a>)>
-    ensures { IsFront (chars text.entry.now) front.entry
-        → Finds (named_forms ++ plain_forms) (chars text.entry.now) result }
+// Tries the forms that need no date on a text that begins with this one. No text of them begins with a month date.
+fn read_undated<'a>(text: &'a str, led: &Led<'a>) -> Option<(Dialect, Sent<'a>)>
+    ensures { IsLed (chars text.entry.now) led.now → Finds undated_forms (chars text.entry.now) result }
 {
-    match named_forms::read(text, front) {
+    match led.date {
+        LeadingDate::Month(_) => None,
+        LeadingDate::Iso(_) => named_forms::read_undated(text),
+    }
+}
+
+// Returns the dialect of a text that begins with this date, and what the text says.
+fn read_led<'a>(text: &'a str, led: &Led<'a>) -> Option<(Dialect, Sent<'a>)>
+    ensures { IsLed (chars text.entry.now) led.now → Finds early_forms (chars text.entry.now) result }
+{
+    if let Some(found) = dated_forms::read_led(text, led) {
+        return Some(found);
+    }
+    if let Some(found) = named_forms::read_led(led) {
+        return Some(found);
+    }
+    if let Some(found) = read_undated(text, led) {
+        return Some(found);
+    }
+    read_plain(led)
+}
+
+// Returns the dialect of a text that begins with no date, and what the text says.
+fn read_unled(text: &str) -> Option<(Dialect, Sent<'_>)>
+    ensures { IsUnled (chars text.now) → Finds early_forms (chars text.now) result }
+{
+    match dated_forms::read_unled(text) {
         Some(found) => Some(found),
-        None => read_plain(front),
+        None => named_forms::read_undated(text),
     }
 }
 
@@ -55,10 +81,9 @@ fn read_named<'a>(text: &'a str, front: Option<Led<'a>>) -> Option<(Dialect, Sen
 fn read_early(text: &str) -> Option<(Dialect, Sent<'_>)>
     ensures { Finds early_forms (chars text.now) result }
 {
-    let front = read_front(text);
-    match dated_forms::read(text, front) {
-        Some(found) => Some(found),
-        None => read_named(text, front),
+    match read_front(text) {
+        Some(led) => read_led(text, &led),
+        None => read_unled(text),
     }
 }
 

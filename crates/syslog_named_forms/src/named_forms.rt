@@ -3,7 +3,7 @@ ghost use Rattle.std.specs.Prelude.{◌≡◌, ◌∷◌, ◌++◌, [], None, ch
 ghost use Rattle.syslog_text.specs.Pieces.Class.{Front, Row, Text};
 ghost use Rattle.syslog_text.specs.Pieces.View.{Reads, seen};
 ghost use Rattle.syslog_sent.specs.Forms.{Finds};
-ghost use Rattle.syslog_sent.specs.Led.{IsFront, IsLed};
+ghost use Rattle.syslog_sent.specs.Led.{IsLed};
 ghost use Rattle.syslog_named_forms.specs.NamedFinds.{FindsAfter, FindsNamed};
 ghost use Rattle.syslog_named_forms.specs.Monotonic.{monotonic_form};
 ghost use Rattle.syslog_named_forms.specs.NamedForms as spec;
@@ -112,8 +112,8 @@ fn of_header(text: &str) -> Option<(Dialect, Sent<'_>)>
     }
 }
 
-// Reads a message that has no date before it.
-fn undated(text: &str) -> Option<(Dialect, Sent<'_>)>
+/// Returns the dialect of a text that begins with no date and is in none by its date, and what the text says.
+pub fn read_undated(text: &str) -> Option<(Dialect, Sent<'_>)>
     ensures { Finds spec.undated_forms (chars text.now) result }
 {
     let msg = blanks(text);
@@ -270,36 +270,13 @@ fn of_dated(rest: &str) -> Option<(Dialect, Named<'_>)>
     of_message(rest, after_host)
 }
 
-// Reads what follows a date that begins a line.
-#[inline(always)]
-fn after_led(led: Led<'_>) -> Option<(Dialect, Sent<'_>)>
-    ensures { (text : Text) → IsLed text led.entry → Finds spec.dated_forms text result }
+/// Returns the dialect that a text which begins with this date is in by what follows the date, and what the text says.
+pub fn read_led<'a>(led: &Led<'a>) -> Option<(Dialect, Sent<'a>)>
+    ensures { (text : Text) → IsLed text led.now → Finds spec.dated_forms text result }
 {
     let rest = some_blanks(led.rest)?;
     let (dialect, named) = of_dated(rest)?;
     Some((dialect, sent(led.sent, named)))
-}
-
-// Reads a line that begins with a date. `front` is what `read_front` returned for it.
-#[inline(always)]
-fn of_front(front: Option<Led<'_>>) -> Option<(Dialect, Sent<'_>)>
-    ensures { (text : Text) → IsFront text front.entry → Finds spec.dated_forms text result }
-{
-    match front {
-        Some(led) => after_led(led),
-        None => None,
-    }
-}
-
-/// Returns the dialect that the text after a priority is in by what follows the date, and what the text says. `front`
-/// is what `read_front` returned for it.
-pub fn read<'a>(text: &'a str, front: Option<Led<'a>>) -> Option<(Dialect, Sent<'a>)>
-    ensures { IsFront (chars text.entry.now) front.entry → Finds spec.all_named (chars text.entry.now) result }
-{
-    if let Some(found) = of_front(front) {
-        return Some(found);
-    }
-    undated(text)
 }
 
 // Reads what follows a date and blanks where nothing but the blanks is unusual.
@@ -310,21 +287,11 @@ fn of_spread(date: SentDate, rest: &str) -> Option<(Dialect, Sent<'_>)>
     Some((Dialect::SpacedName, sent(date, named)))
 }
 
-// Reads what follows a date that begins the text.
-fn of_spread_led(led: Led<'_>) -> Option<(Dialect, Sent<'_>)>
-    ensures { (text : Text) → IsLed text led.entry → Finds spec.spread_forms text result }
+/// Returns the dialect of a line that has a program's name after this date, which begins it, and any number of blanks,
+/// and what the line says. It is tried last.
+pub fn read_spread<'a>(led: &Led<'a>) -> Option<(Dialect, Sent<'a>)>
+    ensures { (text : Text) → IsLed text led.now → Finds spec.spread_forms text result }
 {
     let rest = some_blanks(led.rest)?;
     of_spread(led.sent, rest)
-}
-
-/// Returns the dialect of a line that has a program's name after its date and any number of blanks, and what the line
-/// says. It is tried last. `front` is what `read_front` returned for the line.
-pub fn read_spread(front: Option<Led<'_>>) -> Option<(Dialect, Sent<'_>)>
-    ensures { (text : Text) → IsFront text front.entry → Finds spec.spread_forms text result }
-{
-    match front {
-        Some(led) => of_spread_led(led),
-        None => None,
-    }
 }

@@ -2,7 +2,7 @@ use Rattle.syslog_dated_forms.proofs.CiscoLemmas.{none_cisco}
 use Rattle.syslog_dated_forms.proofs.cisco.read_cisco.Goals as goal
 
 pub returns-in_err-line : goal.returns-in_err-line
-returns-in_err-line c front = rw c.from_residual.ensures (none_cisco (c.in_err-line.ensures front))
+returns-in_err-line c = rw c.from_residual.ensures (none_cisco c.in_err-line.ensures)
 
 pub returns : goal.returns
-returns c front = c.by_system.ensures _ (c.in_ok-line.ensures front)
+returns c = c.by_system.ensures _ c.in_ok-line.ensures

@@ -6,8 +6,8 @@ use Rattle.syslog_dated_forms.proofs.dated_forms.from_timed.Goals as goal
 
 pub returns-in_err-sent : goal.returns-in_err-sent
 returns-in_err-sent c text led = rw c.from_residual.ensures
-    (c.in_err-sent.ensures _ _ led.gap (rw led.sent (any_front c.args.led.date led.date)), tt)
+    (c.in_err-sent.ensures _ _ led.gap (rw led.sent (any_front c.args.led.now.date led.date)), tt)
 
 pub returns : goal.returns
 returns c text led = here timed_form [] _ _
-    (c.in_ok-sent.ensures _ _ led.gap (rw led.sent (any_front c.args.led.date led.date)))
+    (c.in_ok-sent.ensures _ _ led.gap (rw led.sent (any_front c.args.led.now.date led.date)))

@@ -9,15 +9,15 @@ use Rattle.syslog_dated_forms.specs.Filed.{filed_forms}
 use Rattle.syslog_dated_forms.proofs.dated_forms.of_cisco.Goals as goal
 
 pub returns-then-not-is_marked : goal.returns-then-not-is_marked
-returns-then-not-is_marked c front =
+returns-then-not-is_marked c led =
     let none = c.if-not-is_marked.ensures refl in
     found_after cisco_forms (filed_forms ++ timed_forms) _ None (unmarked_cisco none)
     (found_after filed_forms timed_forms _ None (unmarked_filed none) (unmarked_timed none))
 
 pub returns-in-Some : goal.returns-in-Some
-returns-in-Some c front =
-    found_early cisco_forms (filed_forms ++ timed_forms) _ c.in-Some.found (c.in-Some.ensures front)
+returns-in-Some c led =
+    found_early cisco_forms (filed_forms ++ timed_forms) _ c.in-Some.found (c.in-Some.ensures led)
 
 pub returns : goal.returns
-returns c front = found_late cisco_forms (filed_forms ++ timed_forms) _ c.of_filed.result
-    (c.in_default.ensures front) (c.of_filed.ensures _ front)
+returns c led = found_late cisco_forms (filed_forms ++ timed_forms) _ c.filed_after.result
+    (c.in_default.ensures led) (c.filed_after.ensures _ led)

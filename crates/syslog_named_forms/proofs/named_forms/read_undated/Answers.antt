@@ -3,7 +3,7 @@ use Rattle.syslog_sent.specs.declared.dialect.Dialect.TheVariants as dialect
 use Rattle.syslog_named_forms.proofs.NamedFormLemmas.{no_undated, undated_said}
 use Rattle.syslog_named_forms.specs.NamedForms.{undated_forms}
 use Rattle.syslog_named_forms.specs.declared.untagged.Mark.TheVariants as mark
-use Rattle.syslog_named_forms.proofs.named_forms.undated.Goals as goal
+use Rattle.syslog_named_forms.proofs.named_forms.read_undated.Goals as goal
 
 pub returns-in-Some : goal.returns-in-Some
 returns-in-Some c = found undated_forms (first c.bare.result

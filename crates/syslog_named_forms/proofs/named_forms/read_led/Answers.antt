@@ -3,18 +3,18 @@ use Rattle.syslog_text.proofs.PieceLemmas.Class.{◌past◌, ◌then◌, no_row,
 use Rattle.syslog_sent.proofs.LedLemmas.{any_front}
 use Rattle.syslog_named_forms.proofs.NamedFormLemmas.{front_det, none_dated}
 use Rattle.syslog_named_forms.specs.NamedForms.{front_row}
-use Rattle.syslog_named_forms.proofs.named_forms.after_led.Goals as goal
+use Rattle.syslog_named_forms.proofs.named_forms.read_led.Goals as goal
 
 pub returns-in_err-rest : goal.returns-in_err-rest
 returns-in_err-rest c text led = rw c.from_residual.ensures (none_dated (no_row front_row front_det (led.gap
-    past any_front c.args.led.date led.date past inl c.in_err-rest.ensures)))
+    past any_front c.args.led.now.date led.date past inl c.in_err-rest.ensures)))
 
 pub returns-in_err-dialect : goal.returns-in_err-dialect
 returns-in_err-dialect c text led = rw c.from_residual-in_err-dialect.ensures
-    (c.in_err-dialect.ensures c.args.led.sent text (row_of front_row (led.gap
-    then rw led.sent (any_front c.args.led.date led.date) then c.in_ok-rest.ensures then refl)))
+    (c.in_err-dialect.ensures c.args.led.now.sent text (row_of front_row (led.gap
+    then rw led.sent (any_front c.args.led.now.date led.date) then c.in_ok-rest.ensures then refl)))
 
 pub returns : goal.returns
 returns c text led = rw c.sent.ensures
-    (c.in_ok-dialect.ensures c.args.led.sent text (row_of front_row (led.gap
-    then rw led.sent (any_front c.args.led.date led.date) then c.in_ok-rest.ensures then refl)))
+    (c.in_ok-dialect.ensures c.args.led.now.sent text (row_of front_row (led.gap
+    then rw led.sent (any_front c.args.led.now.date led.date) then c.in_ok-rest.ensures then refl)))

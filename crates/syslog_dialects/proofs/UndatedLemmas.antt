@@ -1,0 +1,187 @@
+-- Texts that begin with a date, and texts that begin with none: which forms divide neither of them.
+use Rattle.std.proofs.Common.{◌≡◌, inl, ℕ, true, false, [], ◌∷◌, ◌++◌, refl, sym, ap, ◌∙◌, arith, get_or}
+use Rattle.std.proofs.lemmas.Bool.{agree_below_at}
+use Rattle.std.proofs.lemmas.Bool.Decides.{nat_tests}
+use Rattle.std.specs.Char.{is_ascii_digit, to_ascii_lowercase}
+use Rattle.std.specs.Prelude.{◌&&◌, ◌||◌, nat_le, nat_lt, not}
+use Rattle.syslog_text.specs.Pieces.Class.{Text, Each, Ends, Front, NoFront, Row, exactly, run}
+use Rattle.syslog_text.specs.Text.{is_blank, number}
+use Rattle.syslog_text.proofs.PieceLemmas.Class.{◌past◌, front_of, no_mapped, no_row, no_row_division}
+use Rattle.syslog_text.proofs.PieceLemmas.Class.{optional_none, rows_none_here}
+use Rattle.syslog_text.proofs.PieceLemmas.Lists.{Begins, many_here}
+use Rattle.syslog_text.proofs.TextLemmas.Runs.{no_run}
+use Rattle.syslog_pieces.proofs.TimestampLemmas.MonthDate.{IsBlank}
+use Rattle.syslog_sent.proofs.DialectLemmas.{none_joined}
+use Rattle.syslog_sent.proofs.LedLemmas.{not_iso, not_month}
+use Rattle.syslog_sent.proofs.NamedLemmas.{no_beginning}
+use Rattle.syslog_sent.specs.Forms.{IsOfNone}
+use Rattle.syslog_sent.specs.Led.{IsUnled}
+use Rattle.syslog_sent.specs.Runs.{is_word_char}
+use Rattle.syslog_dated_forms.specs.DatedForms as dated
+use Rattle.syslog_dated_forms.proofs.LedFormLemmas.{no_odd_iso, no_odd_month}
+use Rattle.syslog_dated_forms.proofs.MonthFrontLemmas.{HasMonth, IsSmall, first_letter, no_blank, no_bracket, no_char}
+use Rattle.syslog_dated_forms.proofs.MonthFrontLemmas.{small_letters, small_low}
+use Rattle.syslog_named_forms.specs.Monotonic.{monotonic_row, seconds_row}
+use Rattle.syslog_named_forms.specs.NamedForms.{dated_forms, front_row, header_forms, spread_forms, spread_tail}
+use Rattle.syslog_named_forms.specs.NamedForms.{undated_forms, undated_row}
+use Rattle.syslog_named_forms.specs.NearHeader.{bare_more, bare_row, head_row, heroku_more, heroku_row, nil_more, nil_row}
+use Rattle.syslog_named_forms.specs.NearHeader.{paired_more, paired_row, tag_more, tag_row, vendor_more, vendor_row}
+use Rattle.syslog_named_forms.specs.Pairs.{pair, pair_row}
+use Rattle.syslog_named_forms.specs.Untagged.{cef_row, leef_row}
+use Rattle.syslog_named_forms.specs.declared.untagged.Mark.TheVariants as mark
+use Rattle.syslog_named_forms.proofs.MonotonicLemmas.{monotonic_det, seconds_det}
+use Rattle.syslog_named_forms.proofs.NamedFormLemmas.{front_det, none_dated, none_undated, undated_det}
+use Rattle.syslog_named_forms.proofs.NearHeaderLemmas.{head_det}
+use Rattle.syslog_named_forms.proofs.PairLemmas.{no_pairs, pair_row_det}
+use Rattle.syslog_named_forms.proofs.UntaggedLemmas.{cef_det, leef_det}
+use Rattle.syslog_dialects.specs.Dialects.{plain_forms}
+
+-- ---- a text that begins with no date
+
+no_front : {text : Text} → IsUnled text → NoFront (Row front_row) text
+no_front none = no_row front_row front_det (none.gap past inl none.undated)
+
+pub unled_no_named : {text : Text} → IsUnled text → IsOfNone dated_forms text
+unled_no_named none = none_dated (no_front none)
+
+pub unled_no_plain : {text : Text} → IsUnled text → IsOfNone plain_forms text
+unled_no_plain {text} none = none_joined dated.plain_forms spread_forms text
+    (no_odd_month none.gap (not_month none.undated), (no_odd_iso none.gap (not_iso none.undated), tt))
+    (none_undated (spread_tail ∷ []) (no_front none))
+
+-- ---- a text that begins with a month date
+
+blank_no_word : (c : ℕ) → is_blank c ≡ true → is_word_char c ≡ false
+blank_no_word c h = grind (arith, nat_tests, h)
+
+word_letter : (c : ℕ) → IsSmall c → is_word_char c ≡ true
+word_letter c h = let (large, low) = small_low c h in
+    let small : (nat_le 97 (to_ascii_lowercase c) && nat_lt (to_ascii_lowercase c) 123) ≡ true =
+    grind (arith, nat_tests, h.0, h.1) in
+    grind (
+      arith,
+      nat_tests,
+      small,
+      agree_below_at (λ k. not (nat_le 97 (to_ascii_lowercase k) && nat_lt (to_ascii_lowercase k) 123) || is_word_char k)
+          (λ k. true) 123 c refl low,
+    )
+
+-- the character at a place of two texts that are one
+at : (n : ℕ) {s t : Text} → s ≡ t → get_or s n 0 ≡ get_or t n 0
+at n e = ap (λ (x : Text). get_or x n 0) e
+
+-- a blank follows the three letters
+record HasBlank (t : Text) : Type 0 where
+  a : ℕ
+  b : ℕ
+  c : ℕ
+  d : ℕ
+  more : Text
+  is : t ≡ a ∷ b ∷ c ∷ d ∷ more
+  blank : is_blank d ≡ true
+
+blank_at : (a b c : ℕ) (t q : Text) → t ≡ a ∷ b ∷ c ∷ q → Begins IsBlank q → HasBlank t
+blank_at a b c t [] e h = absurd h
+blank_at a b c t (d ∷ q) e h = record { a = a; b = b; c = c; d = d; more = q; is = e; blank = h }
+
+no_blank_is : (d k : ℕ) → is_blank d ≡ true → is_blank k ≡ false → d ≡ k → ⊥
+no_blank_is d k h n is = let bad : true ≡ false = sym h ∙ ap is_blank is ∙ n in cc
+
+ends_word : (q : Text) → Begins IsBlank q → Ends is_word_char q
+ends_word [] h = tt
+ends_word (c ∷ q) h = blank_no_word c h
+
+no_equals : (t : Text) → Begins IsBlank t → NoFront (exactly (61 ∷ [])) t
+no_equals [] h p q v e k = absurd h
+no_equals (c ∷ t) h p q v e k = no_blank_is c 61 h refl (at 0 (e ∙ ap (λ (x : Text). x ++ q) k))
+
+-- no digit begins blanks and a text that it does not begin
+ends_over : (g t : Text) → Each is_blank g → Ends is_ascii_digit t → Ends is_ascii_digit (g ++ t)
+ends_over [] t e h = h
+ends_over (c ∷ g) t e h = let blank = e.0 in grind (arith, nat_tests, blank)
+
+no_bracket_over : (g t : Text) → Each is_blank g → NoFront (exactly (91 ∷ [])) t → NoFront (exactly (91 ∷ [])) (g ++ t)
+no_bracket_over [] t e n p q v w h = n p q v w h
+no_bracket_over (c ∷ g) t e n p q v w h = no_blank_is c 91 e.0 refl (at 0 (w ∙ ap (λ (x : Text). x ++ q) h))
+
+module _ {text t : Text} (gap : Front (run is_blank) text t tt) (m : HasMonth t) where
+  has_blank : HasBlank t
+  has_blank = blank_at m.word.a m.word.b m.word.c t m.q (m.whole ∙ ap (λ (x : Text). x ++ m.q) m.word.is) m.blank
+
+  no_cef : NoFront (Row cef_row) t
+  no_cef = let h = has_blank in no_row cef_row cef_det (inl (λ p q v e k.
+      no_blank_is h.d 58 h.blank refl (at 3 (sym h.is ∙ e ∙ ap (λ (x : Text). x ++ q) k))))
+
+  no_leef : NoFront (Row leef_row) t
+  no_leef = let h = has_blank in no_row leef_row leef_det (inl (λ p q v e k.
+      no_blank_is h.d 70 h.blank refl (at 3 (sym h.is ∙ e ∙ ap (λ (x : Text). x ++ q) k))))
+
+  no_pair : NoFront pair t
+  no_pair = let s = small_letters _ _ _ _ m.word.names in no_mapped (Row pair_row) (Text × Text) _
+      (no_row pair_row pair_row_det (no_blank m past optional_none (exactly (44 ∷ [])) (no_char m 44 (omega arith))
+      past front_of m.p m.whole
+      ((
+        tt,
+        (
+          rw m.word.is (omega arith),
+          rw m.word.is (
+            word_letter m.word.a (s.0, s.1),
+            (
+              word_letter m.word.b (s.2, s.3),
+              (word_letter m.word.c (s.4, s.5), tt),
+            ),
+          ),
+          ends_word m.q m.blank,
+        ),
+        refl,
+      ))
+      past inl (no_equals m.q m.blank)))
+
+  no_digit : Ends is_ascii_digit t
+  no_digit = let (c, more, is, large) = first_letter m in rw is (grind (arith, nat_tests, large))
+
+  no_version : NoFront (number 999) text
+  no_version = no_run is_ascii_digit text
+      (rw gap.whole (ends_over gap.piece t gap.is.0 no_digit)) (number 999) (λ p q v h. (h.0, h.1))
+
+  no_head : NoFront (Row head_row) text
+  no_head = no_row head_row head_det (inl no_version)
+
+  no_seconds : NoFront (Row seconds_row) text
+  no_seconds = no_row seconds_row seconds_det (inl (rw gap.whole (no_bracket_over gap.piece t gap.is.0 (no_bracket m))))
+
+  no_header : IsOfNone header_forms text
+  no_header = (
+    no_row_division (vendor_row mark.Cef) (rows_none_here head_row (vendor_more mark.Cef) no_head),
+    (
+      no_row_division (vendor_row mark.Leef) (rows_none_here head_row (vendor_more mark.Leef) no_head),
+      (
+        no_row_division paired_row (rows_none_here head_row paired_more no_head),
+        (
+          no_row_division nil_row (rows_none_here head_row nil_more no_head),
+          (
+            no_row_division tag_row (rows_none_here head_row tag_more no_head),
+            (
+              no_row_division heroku_row (rows_none_here head_row heroku_more no_head),
+              (
+                no_row_division bare_row (rows_none_here head_row bare_more no_head),
+                (no_row_division monotonic_row (no_row monotonic_row monotonic_det (inl no_seconds)), tt),
+              ),
+            ),
+          ),
+        ),
+      ),
+    ),
+  )
+
+  -- no form of a text without a date divides it
+  pub month_no_undated : IsOfNone undated_forms text
+  month_no_undated = (
+    no_row_division (undated_row mark.Cef) (no_row (undated_row mark.Cef) (undated_det mark.Cef) (gap
+        past inl (no_beginning no_cef))),
+    (
+      no_row_division (undated_row mark.Leef) (no_row (undated_row mark.Leef) (undated_det mark.Leef) (gap
+          past inl (no_beginning no_leef))),
+      (no_pairs gap (many_here pair t no_pair) (λ d shown. shown.moment), no_header),
+    ),
+  )
