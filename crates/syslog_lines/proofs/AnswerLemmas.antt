@@ -4,7 +4,7 @@ use Rattle.syslog_lines.proofs.Names.{◌≡◌, eqb-true, held_count, output_of
 use Rattle.syslog_lines.proofs.Names.{length, false, Option, Result, subst, arith, rules, Keeps, Tally, Filter, Wrote}
 use Rattle.syslog_lines.proofs.Names.{◌+◌, ◌<◌, cond, List, ◌∷◌, ◌++◌, take, Bool, true, eqb, Some, Err, sym, refl, ◌∙◌}
 use Rattle.syslog_lines.proofs.Names.{ℕ, [], Ok}
-use Rattle.std.proofs.Common.{OnErr, IfErr, IsErr, IsErrAnd}
+use Rattle.std.proofs.Common.{OnErr, IfErr, IsErr, IsErrAnd, None, inl, inr}
 use Rattle.std.{proofs.lemmas.Bool.Decides.nat_tests, proofs.lemmas.List.Concat.flat_map-append, specs.List.AllZip}
 use Rattle.std.{proofs.KnownBytes.Appends-nil, proofs.Math.Seq.take-append-add}
 use Rattle.std.proofs.KnownBytes.{Keeps-refl}
@@ -12,7 +12,6 @@ use Rattle.syslog_lines.specs.Frames.{is_above, is_too_long, line_of}
 use Rattle.syslog_lines.specs.Output.{AddsAnswer, Answer, Omitted, answer_bytes, limited, stripping, taken}
 use Rattle.syslog_lines.specs.Place.{CountsLong, Skips}
 use Rattle.syslog_lines.specs.declared.framing.Frames.{Frames}
-use Rattle.std.proofs.Common.{None, inl, inr}
 use Rattle.syslog_lines.proofs.CountLemmas.{Counts-append, Counts-invalid, Counts-long, Counts-none, Counts-valid}
 use Rattle.syslog_lines.specs.Write.{WroteBefore}
 use Rattle.std.specs.Prelude.{IsUtf8}

@@ -1,8 +1,7 @@
 -- Counts of lines.
 use Rattle.syslog_lines.proofs.Names.{[], length, count_by, held_count, Filter, HasCounted, is_answered, is_skipped}
 use Rattle.syslog_lines.proofs.Names.{◌≡◌, ℕ, ◌+◌, List, ◌∷◌, ◌++◌, Bool, true, false, refl, cond, arith, Tally, ap}
-use Rattle.syslog_lines.proofs.Names.{◌∙◌}
-use Rattle.syslog_lines.proofs.Names.{inl, inr}
+use Rattle.syslog_lines.proofs.Names.{◌∙◌, inl, inr}
 use Rattle.std.proofs.lemmas.Bool.{cases_Bool}
 use Rattle.std.{proofs.lemmas.List.Sums.sum_by-append, proofs.lemmas.Slice.Zip.AllZip-long, specs.Prelude.not}
 use Rattle.std.proofs.lemmas.Str.{is_utf8-from_IsUtf8, IsUtf8-from_is_utf8}

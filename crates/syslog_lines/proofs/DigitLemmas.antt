@@ -1,12 +1,10 @@
 -- The digits that bytes begin with, and the count that they may be.
 use Rattle.syslog_lines.proofs.Names.{◌≡◌, ◌≢◌, ◌+◌, ◌-◌, ◌<◌, ◌≤◌, ℕ, List, [], ◌∷◌, ◌++◌, length, take, drop}
-use Rattle.syslog_lines.proofs.Names.{slice_index}
-use Rattle.syslog_lines.proofs.Names.{inl, inr, refl, sym, ◌∙◌, ap, subst, arith, cases_eq, All-nil}
+use Rattle.syslog_lines.proofs.Names.{slice_index, inl, inr, refl, sym, ◌∙◌, ap, subst, arith, cases_eq, All-nil}
 use Rattle.syslog_lines.proofs.Names.{take-append-drop, append_assoc}
-use Rattle.std.proofs.Common.{length-append, length-take, ◌⊎◌, suc, zero}
+use Rattle.std.proofs.Common.{length-append, length-take, ◌⊎◌, suc, zero, ◌*◌, ◌^◌, add-one}
 use Rattle.std.proofs.Math.Seq.{get_or-append_seam, take-append_seam, drop-append_seam}
 use Rattle.std.proofs.lemmas.Bool.{cases_lt}
-use Rattle.std.proofs.Common.{◌*◌, ◌^◌, add-one}
 use Rattle.std.proofs.Math.Nat.{pow-suc}
 use Rattle.std.proofs.lemmas.List.{get_or-take, get_or_append_left, drop_more}
 use Rattle.std.proofs.lemmas.List.Elements.{All-cons, All-get_or}

@@ -1,7 +1,6 @@
 -- From the bytes that come next at a place to the first frame.
-use Rattle.syslog_lines.proofs.Names.{◌≡◌, ◌+◌, ◌-◌, ◌<◌, ◌≤◌, ℕ, List, [], ◌∷◌, length, take, drop, Tally}
-use Rattle.syslog_lines.proofs.Names.{inl, inr, refl, sym, subst, arith, append-nil, is_byte, Passes}
-use Rattle.syslog_lines.proofs.Names.{Nowhere}
+use Rattle.syslog_lines.proofs.Names.{◌≡◌, ◌+◌, ◌-◌, ◌<◌, ◌≤◌, ℕ, List, [], ◌∷◌, length, take, drop, Tally, inl, inr}
+use Rattle.syslog_lines.proofs.Names.{refl, sym, subst, arith, append-nil, is_byte, Passes, Nowhere}
 use Rattle.std.proofs.Math.Seq.{drop-length}
 use Rattle.memchr.specs.Find.{NoneBefore}
 use Rattle.syslog_lines.specs.Frames.{IsOpen, ending_of}

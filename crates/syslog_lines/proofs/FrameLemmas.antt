@@ -1,14 +1,11 @@
 -- Frames: bytes in two, more bytes after them, and that all bytes have them.
 use Rattle.syslog_lines.proofs.Names.{◌≡◌, ◌≢◌, ◌+◌, ◌-◌, ◌<◌, ◌≤◌, ℕ, List, [], ◌∷◌, ◌++◌, length, take, drop}
-use Rattle.syslog_lines.proofs.Names.{slice_index}
-use Rattle.syslog_lines.proofs.Names.{inl, inr, refl, sym, ◌∙◌, ap, subst, arith, append_assoc, cases_eq}
-use Rattle.syslog_lines.proofs.Names.{All-nil}
-use Rattle.syslog_lines.proofs.Names.{take-append-drop}
+use Rattle.syslog_lines.proofs.Names.{slice_index, inl, inr, refl, sym, ◌∙◌, ap, subst, arith, append_assoc, cases_eq}
+use Rattle.syslog_lines.proofs.Names.{All-nil, take-append-drop}
 use Rattle.std.proofs.Common.{length-append, length-take, ◌⊎◌, suc, zero}
 use Rattle.std.proofs.Math.Seq.{take-append_seam, take-append-add}
 use Rattle.std.proofs.lemmas.List.Elements.{All-cons, All-head}
-use Rattle.syslog_lines.specs.Frames.{AreFrames, IsCounted, IsDigit, IsFrame, IsOpen, IsUncounted}
-use Rattle.syslog_lines.specs.Frames.{NoByte, ending_of}
+use Rattle.syslog_lines.specs.Frames.{AreFrames, IsCounted, IsDigit, IsFrame, IsOpen, IsUncounted, NoByte, ending_of}
 use Rattle.syslog_lines.specs.declared.framing.Framing.{Framing}
 use Rattle.syslog_lines.specs.declared.framing.Framing.TheVariants.{LineFeeds, Nuls, OctetCounts}
 use Rattle.syslog_lines.proofs.DigitLemmas.{count_or_not, le_or_lt}

@@ -1,8 +1,8 @@
 -- What the bytes give that are read, from a place on.
 use Rattle.syslog_lines.proofs.Names.{◌≡◌, ◌<◌, ◌≤◌, ℕ, List, [], ◌∷◌, ◌++◌, Option, length, take, drop, Tally, Keeps}
 use Rattle.syslog_lines.proofs.Names.{inl, inr, refl, sym, ◌∙◌, ap, subst, arith, append_assoc, append-nil, Filter}
-use Rattle.syslog_lines.proofs.Names.{Answered}
-use Rattle.syslog_lines.proofs.Names.{Appends-kept, output_of, Bool, true, eqb, eqb-true}
+use Rattle.syslog_lines.proofs.Names.{Answered, Appends-kept, output_of, Bool, true, eqb, eqb-true, ◌+◌, ◌-◌}
+use Rattle.syslog_lines.proofs.Names.{length-drop}
 use Rattle.syslog_lines.proofs.AnswerLemmas.{Answered-after, Answered-long, Answered-none, Answered-skips, Wrote-none}
 use Rattle.syslog_lines.proofs.AnswerLemmas.{WroteBefore-after}
 use Rattle.syslog_lines.proofs.FrameLemmas.{AreFrames-append, some_frames}
@@ -10,7 +10,6 @@ use Rattle.syslog_lines.proofs.PlaceLemmas.{Opened-frames, Opened-ready, Ready, 
 use Rattle.syslog_lines.proofs.PlaceLemmas.{open_front}
 use Rattle.std.proofs.KnownBytes.{Keeps-refl}
 use Rattle.std.proofs.Common.{◌⊎◌, OnErr, OnOk, Result, Ok, Err}
-use Rattle.syslog_lines.proofs.Names.{◌+◌, ◌-◌, length-drop}
 use Rattle.syslog_lines.proofs.WholeLemmas.{drop_twice, rest_is}
 use Rattle.syslog_lines.specs.Frames.{AreFrames, HasAllFrames, IsCutFrame, IsOpen}
 use Rattle.syslog_lines.specs.Output.{taken}

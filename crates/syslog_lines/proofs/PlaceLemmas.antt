@@ -1,7 +1,6 @@
 -- The place of the bytes that come next, as more is read and as frames end.
-use Rattle.syslog_lines.proofs.Names.{◌≡◌, ◌≢◌, ◌<◌, ◌≤◌, ℕ, List, [], ◌∷◌, ◌++◌, length, take}
-use Rattle.syslog_lines.proofs.Names.{inl, inr, refl, sym, ◌∙◌, ap, subst, arith, append_assoc, append-nil, All-nil}
-use Rattle.syslog_lines.proofs.Names.{Bool, true}
+use Rattle.syslog_lines.proofs.Names.{◌≡◌, ◌≢◌, ◌<◌, ◌≤◌, ℕ, List, [], ◌∷◌, ◌++◌, length, take, inl, inr, refl, sym}
+use Rattle.syslog_lines.proofs.Names.{◌∙◌, ap, subst, arith, append_assoc, append-nil, All-nil, Bool, true}
 use Rattle.std.proofs.Common.{length-append}
 use Rattle.std.proofs.Math.Seq.{take-append_seam}
 use Rattle.std.proofs.lemmas.List.Elements.{All-cons}
@@ -13,8 +12,7 @@ use Rattle.syslog_lines.specs.declared.framing.Framing.TheVariants.{LineFeeds, N
 use Rattle.syslog_lines.specs.declared.framing.Frames.{Frames}
 use Rattle.syslog_lines.specs.declared.place.Place.{Place}
 use Rattle.syslog_lines.specs.declared.place.Place.TheVariants.{Head, Frame, Ending, Octets}
-use Rattle.syslog_lines.proofs.FrameLemmas.{AreFrames-append, AreFrames-more, IsOpen-nil}
-use Rattle.syslog_lines.proofs.FrameLemmas.{uncounted_byte}
+use Rattle.syslog_lines.proofs.FrameLemmas.{AreFrames-append, AreFrames-more, IsOpen-nil, uncounted_byte}
 
 -- ---- more frames, and more bytes
 

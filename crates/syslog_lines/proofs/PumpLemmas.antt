@@ -1,8 +1,7 @@
 -- How a filter is pumped over its input, block by block.
 use Rattle.syslog_lines.proofs
-use proofs.Names.{append-nil, RunFault, Option, subst, Memory, Filter, Answered}
-use proofs.Names.{◌≡◌, ℕ, Bool, List, [], ◌++◌, inl, inr, refl, arith, Keeps, Tally, Write}
-use proofs.Names.{true, false}
+use proofs.Names.{append-nil, RunFault, Option, subst, Memory, Filter, Answered, ◌≡◌, ℕ, Bool, List, [], ◌++◌, inl, inr}
+use proofs.Names.{refl, arith, Keeps, Tally, Write, true, false}
 use Rattle.std.specs.Io.KnownBytes.{Consumes, IsAtEnd}
 use Rattle.std.proofs.KnownBytes.{Consumes-kept, Consumes-nil, Consumes-trans, Keeps-refl}
 use Rattle.syslog_lines.{specs.Block.StopsReading, specs.declared.summary.RunFault.TheVariants.Read}

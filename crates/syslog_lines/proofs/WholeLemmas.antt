@@ -1,10 +1,8 @@
 -- The first frame of bytes, by the first ending among them or by a count.
 use Rattle.syslog_lines.proofs.Names.{◌≡◌, ◌≢◌, ◌+◌, ◌-◌, ◌<◌, ◌≤◌, ℕ, List, [], ◌∷◌, ◌++◌, length, take, drop}
-use Rattle.syslog_lines.proofs.Names.{slice_index}
-use Rattle.syslog_lines.proofs.Names.{inl, inr, refl, sym, ◌∙◌, ap, subst, arith, append_assoc, append-nil}
-use Rattle.syslog_lines.proofs.Names.{All-append, get_or}
-use Rattle.syslog_lines.proofs.Names.{take-append-drop, length-drop, take_at, take_all, eq-eqb, eqb-true, Passes}
-use Rattle.syslog_lines.proofs.Names.{Nowhere, is_byte}
+use Rattle.syslog_lines.proofs.Names.{slice_index, inl, inr, refl, sym, ◌∙◌, ap, subst, arith, append_assoc, append-nil}
+use Rattle.syslog_lines.proofs.Names.{All-append, get_or, take-append-drop, length-drop, take_at, take_all, eq-eqb}
+use Rattle.syslog_lines.proofs.Names.{eqb-true, Passes, Nowhere, is_byte}
 use Rattle.std.proofs.Common.{length-append, length-take, None, Some, true}
 use Rattle.std.proofs.Math.Seq.{take-add, drop-append-add}
 use Rattle.std.proofs.lemmas.List.{drop_more, get_or-take, get_or-drop}

@@ -1,9 +1,8 @@
 -- Bytes that are written in several steps.
-use Rattle.syslog_lines.proofs.Names.{subst, append_assoc, Appends-kept, Appends-trans, take-append-drop}
-use Rattle.syslog_lines.proofs.Names.{length-drop, append-nil, take_at, output_of}
-use Rattle.syslog_lines.proofs.Names.{◌≡◌, length, Option, Result, arith, take_all, Filter, WroteCut, RunFault}
-use Rattle.syslog_lines.proofs.Names.{Bool, true, ◌-◌, List, ◌++◌, take, drop, Some, refl, Keeps, Wrote, Tally, Write}
-use Rattle.syslog_lines.proofs.Names.{ℕ, ◌≤◌, [], ◌∷◌, Ok, Err, sym, ◌∙◌, ap}
+use Rattle.syslog_lines.proofs.Names.{subst, append_assoc, Appends-kept, Appends-trans, take-append-drop, length-drop}
+use Rattle.syslog_lines.proofs.Names.{append-nil, take_at, output_of, ◌≡◌, length, Option, Result, arith, take_all}
+use Rattle.syslog_lines.proofs.Names.{Filter, WroteCut, RunFault, Bool, true, ◌-◌, List, ◌++◌, take, drop, Some, refl}
+use Rattle.syslog_lines.proofs.Names.{Keeps, Wrote, Tally, Write, ℕ, ◌≤◌, [], ◌∷◌, Ok, Err, sym, ◌∙◌, ap}
 use Rattle.std.specs.Io.KnownBytes.{Appends}
 use Rattle.std.proofs.Common.{OnErr, OnOk, IfOk}
 use Rattle.syslog_lines.proofs.PlaceLemmas.{HasRead-held}

@@ -1,6 +1,5 @@
 -- What is written for some lines.
-use Rattle.std.specs.Prelude.{◌≡◌, ℕ, List, ◌∷◌, ◌++◌, Option, Some}
-use Rattle.std.specs.Prelude.{Result, Ok, Err, take}
+use Rattle.std.specs.Prelude.{◌≡◌, ℕ, List, ◌∷◌, ◌++◌, Option, Some, Result, Ok, Err, take}
 use Rattle.std.specs.Io.KnownBytes.{Appends}
 use Rattle.syslog_lines.specs.Frames.{AreFrames, IsOpen}
 use Rattle.syslog_lines.specs.Lines.{IsLines}

@@ -1,17 +1,19 @@
 -- Texts in JSON by blocks of sixteen bytes.
 use Rattle.syslog_object.proofs.Names.{[], append_assoc, append-nil, is_plain, PlainBetween, unescaped, cond, bit_at}
-use Rattle.syslog_object.proofs.Names.{w64}
-use Rattle.syslog_object.proofs.Names.{true, false, List, ◌++◌, length, take, drop, refl, arith, escape, get_or}
+use Rattle.syslog_object.proofs.Names.{w64, true, false, List, ◌++◌, length, take, drop, refl, arith, escape, get_or}
 use Rattle.syslog_object.proofs.Names.{◌≡◌, ℕ, suc, zero, ◌<◌, ◌≤◌, ◌∷◌, sym, ap, ◌∙◌, ◌+◌, ◌-◌, ◌%◌, ◌^◌, ◌*◌, Bool}
 use Rattle.syslog_object.proofs.Names.{not, map, inl, inr, subst, OnTrue, ◌⊎◌, Result, Ok, Err}
-use Rattle.std.specs.Prelude.{IfOk}
+use Rattle.std.proofs.lemmas.Bool.Decides.{nat_tests}
+use Rattle.std.specs.Prelude.{IfOk, replicate}
 use Rattle.std.proofs.lemmas.Simd.{length-put_chunk, length-chunk, take_more_put_chunk, bit_mask_l, get_or-chunk}
-use Rattle.std.proofs.lemmas.Simd.{mask_l-lt, mask_l-mod, map-map}
+use Rattle.std.proofs.lemmas.Simd.{mask_l-lt, mask_l-mod, map-map, length-replicate}
 use Rattle.std.proofs.lemmas.Nat.Bits.{bit_at-trailing_zeros, bit_at_clear_same, bit_at_clear_other, bit_at_above}
 use Rattle.std.proofs.lemmas.Nat.Bits.{bit_at-zero}
-use Rattle.std.proofs.lemmas.List.{get_or-map, length-map}
+use Rattle.std.proofs.lemmas.List.{get_or-map, length-map, take-append-drop, length-take, length-drop, length-append}
+use Rattle.std.proofs.lemmas.List.{take-take, drop-drop, length-take-le, take_all, take-append-le, drop_all}
+use Rattle.std.proofs.lemmas.List.{drop-replicate}
 use Rattle.std.proofs.lemmas.Nat.{and_le_l}
-use Rattle.std.proofs.lemmas.Bool.{cases_lt, cases_eq, ne_eqb, false≢true, le-ltb}
+use Rattle.std.proofs.lemmas.Bool.{cases_lt, ne_eqb, cases_Bool}
 use Rattle.std.specs.Int.{trailing_zeros, bit_not}
 use lib.Bits.{bit_and}
 use lib.Lanes.{chunk, mask_l, put_chunk, top}
@@ -19,18 +21,11 @@ use Rattle.json.specs.Run.{is_stop}
 use Rattle.syslog_text.proofs.TextLemmas.Runs.{IsLanes}
 use Rattle.syslog_object.specs.Blocks.{AreStops, in_json}
 use Rattle.syslog_object.proofs.EscapeLemmas.{Plain, plain_escape, plain_front, plain_unescaped, escape-append}
-use Rattle.std.proofs.lemmas.List.{take-append-drop, length-take, length-drop, length-append, take-take, drop-drop}
-use Rattle.std.proofs.lemmas.List.{length-take-le, take_all}
 use Rattle.std.proofs.Math.Seq.{take-append-add, take-append_seam, take-add, drop-cons, drop-append-add}
-use Rattle.std.proofs.lemmas.Simd.{length-replicate}
-use Rattle.std.proofs.lemmas.List.{take-append-le, drop_all, drop-replicate}
-use Rattle.std.specs.Prelude.{replicate}
 use Rattle.syslog_object.specs.Object.{after_backslash}
 use Rattle.syslog_elements.specs.StructuredData.Escapes.{pair_meaning}
-use Rattle.std.proofs.lemmas.Bool.{cases_Bool}
-use Rattle.std.proofs.Common.{add-one}
+use Rattle.std.proofs.Common.{add-one, get_or-take, get_or-drop, nat_eq}
 use Rattle.json.specs.Print.{escape_byte}
-use Rattle.std.proofs.Common.{get_or-take, get_or-drop, nat_eq}
 
 -- sixteen bytes of a text were stored
 pub stored : (at : ℕ) (room : List ℕ) (first : ℕ) (text : List ℕ) → at + 16 ≤ length room → first + 16 ≤ length text
@@ -123,12 +118,10 @@ pub record IsStopAt (text : List ℕ) (first passed at : ℕ) : Type 0 where
   pub plain : (i : ℕ) → passed ≤ i → i < at → is_stop (get_or text (first + i) 0) ≡ false
 
 bit_on : (b : Bool) → ◌≡◌ {A = ℕ} (cond b 1 0) 1 → b ≡ true
-bit_on true e = refl
-bit_on false e = absurd (omega arith)
+bit_on b e = grind arith
 
 bit_off : (b : Bool) → ◌≡◌ {A = ℕ} (cond b 1 0) 0 → b ≡ false
-bit_off true e = absurd (omega arith)
-bit_off false e = refl
+bit_off b e = grind arith
 
 pub no_stop : {text : List ℕ} {first passed left : ℕ} → AreStops text first passed left → left ≡ 0
     → (i : ℕ) → passed ≤ i → i < 16 → is_stop (get_or text (first + i) 0) ≡ false
@@ -339,13 +332,7 @@ pub next_byte : (text : List ℕ) (n : ℕ) → n < length text → drop n text 
 next_byte text n within = drop-cons text n 0 within ∙ ap (λ (k : ℕ). get_or text n 0 ∷ drop k text) (sym (add-one n))
 
 stop_is : (b : ℕ) → is_stop b ≡ true → 32 ≤ b → (b ≡ 34) ⊎ (b ≡ 92)
-stop_is b stop high = elim (cases_eq b 34) [
-  | inl e ↦ inl e
-  | inr n ↦ elim (cases_eq b 92) [
-    | inl e ↦ inr e
-    | inr m ↦ absurd (false≢true (rw (ne_eqb b 34 n, ne_eqb b 92 m, le-ltb b 32 high) at stop))
-  ]
-]
+stop_is b stop high = grind (arith, nat_tests)
 
 escaped : (b : ℕ) → (b ≡ 34) ⊎ (b ≡ 92) → escape_byte b ≡ 92 ∷ b ∷ []
 unfolding escape_byte

@@ -2,8 +2,7 @@
 use Rattle.syslog_object.proofs
 use Rattle.syslog_object.specs
 use proofs.Names.{◌≡◌, ℕ, [], ◌∷◌, ◌++◌, Bool, List, OnTrue, ElementValue, true, false, ap, refl, ◌∙◌, arith}
-use proofs.Names.{compact_text, cond}
-use proofs.Names.{element_pair, gathered, map, subst, sym}
+use proofs.Names.{compact_text, cond, element_pair, gathered, map, subst, sym}
 use Rattle.std.proofs.Common.{◌≢◌}
 use specs.{Elements.IsStructuredText, Elements.elements_text, Writer.AreWritten, Writer.HasWritten, Written.IsTextOf}
 use specs.declared.writer.ObjectWriter.{ObjectWriter}

@@ -1,7 +1,6 @@
 -- Texts with JSON's escapes, a piece after the other.
-use Rattle.syslog_object.proofs.Names.{[], is_plain, PlainBetween, unescaped}
-use Rattle.syslog_object.proofs.Names.{◌==◌, true, false, List, ◌++◌, length, take, refl, arith, escape}
-use Rattle.syslog_object.proofs.Names.{◌≡◌, ℕ, suc, ◌<◌, ◌≤◌, ◌∷◌, ap, ◌∙◌}
+use Rattle.syslog_object.proofs.Names.{[], is_plain, PlainBetween, unescaped, ◌==◌, true, false, List, ◌++◌, length}
+use Rattle.syslog_object.proofs.Names.{take, refl, arith, escape, ◌≡◌, ℕ, suc, ◌<◌, ◌≤◌, ◌∷◌, ap, ◌∙◌}
 use Rattle.std.proofs.{Common.nat_eq, Common.get_or-take, lemmas.Grind.flat_map-append}
 use Rattle.std.{proofs.lemmas.Bool.or_parts, proofs.lemmas.Bool.not-true}
 use Rattle.std.{proofs.lemmas.List.length-take, specs.Fmt.digits, specs.Prelude.⊤}

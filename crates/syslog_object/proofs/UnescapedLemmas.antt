@@ -1,8 +1,6 @@
 -- Escapes are removed from bytes as from characters.
-use Rattle.std.proofs.Common.{◌≡◌, ◌≢◌, ◌<◌, ◌∙◌, ◌∷◌, ◌++◌, ℕ, suc, Bool, true, false, nat_eq, List}
-use Rattle.std.proofs.Common.{[]}
-use Rattle.std.proofs.Common.{if◌then◌else◌, length, get_or, inl, inr, refl, sym, ap, ap₂, arith}
-use Rattle.std.proofs.Common.{append-nil}
+use Rattle.std.proofs.Common.{◌≡◌, ◌≢◌, ◌<◌, ◌∙◌, ◌∷◌, ◌++◌, ℕ, suc, Bool, true, false, nat_eq, List, [], if◌then◌else◌}
+use Rattle.std.proofs.Common.{length, get_or, inl, inr, refl, sym, ap, ap₂, arith, append-nil}
 use Rattle.std.proofs.lemmas.Bool.{cases_lt, ne_eqb}
 use Rattle.std.proofs.lemmas.Str.{encode_ascii, inside_one, encodes-append, length-le-encodes}
 use Rattle.std.specs.List.{flat_map, AllByRecursion}

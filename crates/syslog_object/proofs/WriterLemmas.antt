@@ -1,13 +1,12 @@
 -- The fields of an object, and the object of the elements that a writer was given.
 use Rattle.syslog_object.proofs
 use Rattle.syslog_object.specs
-use proofs.Names.{encode_utf8_all, structured_json, facility_fields, protocol_fields, severity_fields, append_assoc}
-use proofs.Names.{ElementValue, MessageValue, element_pair, timestamp_json, Option}
-use proofs.Names.{procid_text, message_json, version_json, element_json, back_fields, compact_text, AreDistinct, List}
-use proofs.Names.{option_map, map-append, param_pair, field_text, front_text, text_field, object_text}
-use proofs.Names.{length, bytes_eq, Result, OnTrue, Protocol, quoted, gathered, text_json, rest_text, IsNewKey}
-use proofs.Names.{◌++◌, Some, None, codes, refl, Bool, true, false, cond, take, drop, arith, OnOk, string, Field, ◌≡◌}
-use proofs.Names.{ℕ, [], ◌∷◌, sym, ap, ◌∙◌, map, ◌+◌, ◌<◌, Ok, Err, Bor, Text, Json}
+use proofs.Names.{encode_utf8_all, structured_json, facility_fields, protocol_fields, severity_fields, timestamp_json}
+use proofs.Names.{append_assoc, ElementValue, MessageValue, element_pair, message_json, version_json, element_json, ◌≡◌}
+use proofs.Names.{procid_text, back_fields, compact_text, AreDistinct, option_map, map-append, param_pair, object_text}
+use proofs.Names.{field_text, front_text, text_field, bytes_eq, Protocol, gathered, text_json, rest_text, IsNewKey, ◌∷◌}
+use proofs.Names.{Option, List, length, Result, OnTrue, quoted, ◌++◌, Some, None, codes, false, arith, string, Field, ℕ}
+use proofs.Names.{refl, Bool, true, cond, take, drop, OnOk, [], sym, ap, ◌∙◌, map, ◌+◌, ◌<◌, Ok, Err, Bor, Text, Json}
 use Rattle.std.proofs.Common.{◌≢◌, if◌then◌else◌, slice_set}
 use Rattle.std.specs.Result.{is_ok}
 use Rattle.std.{proofs.Math.Seq.drop-append_seam, proofs.lemmas.List.take_more_set, specs.Result.is_err}
@@ -17,8 +16,7 @@ use Rattle.json.specs.Print.{escape_byte}
 use specs.{Object.Beside, Object.object_of, Object.protocol_text, Parts.open_text, Places.before_member}
 use specs.{Writer.AreWritten, Writer.HasWritten, Writer.element_keys, declared.writer.ObjectWriter.ObjectWriter}
 use proofs.GatherLemmas.{Param, differs_back, distinct_gathered, open_closed, open_more, pairs_of, param_json}
-use proofs.GatherLemmas.{param_key}
-use proofs.GatherLemmas.{param_seen, seen_text}
+use proofs.GatherLemmas.{param_key, param_seen, seen_text}
 
 -- ---- the fields of an object, one after the other
 

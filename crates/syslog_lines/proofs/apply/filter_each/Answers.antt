@@ -1,5 +1,4 @@
-use Rattle.syslog_lines.proofs.Names.{◌≡◌, ◌+◌, List, ℕ, drop, arith}
-use Rattle.syslog_lines.proofs.Names.{length-drop}
+use Rattle.syslog_lines.proofs.Names.{◌≡◌, ◌+◌, List, ℕ, drop, arith, length-drop}
 use Rattle.syslog_lines.proofs.AnswerLemmas.{OnErr-any}
 use Rattle.syslog_lines.proofs.FrameLemmas.{IsOpen-nil}
 use Rattle.syslog_lines.proofs.HeldLemmas.{stops_here, whole_more, whole_start}

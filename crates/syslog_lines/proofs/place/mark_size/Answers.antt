@@ -1,9 +1,8 @@
 use Rattle.syslog_lines.proofs.Names.{arith}
 use Rattle.syslog_lines.proofs.MarkLemmas.{mark_front}
-use Rattle.syslog_lines.proofs.place.mark_size.Goals.{else-size-gt0-via-then-size-gt0+else-bytes}
-use Rattle.syslog_lines.proofs.place.mark_size.Goals.{else-size-gt0-via-else-size-gt0}
 use Rattle.syslog_lines.proofs.place.mark_size.Goals.{else-size-gt1-via-then-size-gt1+else-bytes-2}
-use Rattle.syslog_lines.proofs.place.mark_size.Goals.{else-size-gt1-via-else-size-gt1}
+use Rattle.syslog_lines.proofs.place.mark_size.Goals.{else-size-gt0-via-then-size-gt0+else-bytes}
+use Rattle.syslog_lines.proofs.place.mark_size.Goals.{else-size-gt0-via-else-size-gt0, else-size-gt1-via-else-size-gt1}
 use Rattle.syslog_lines.proofs.place.mark_size.Goals as goal
 
 pub returns : goal.returns

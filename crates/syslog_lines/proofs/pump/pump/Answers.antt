@@ -5,8 +5,7 @@ use Rattle.std.proofs.Common.{length-append}
 use Rattle.syslog_lines.proofs.AnswerLemmas.{IfErr-passed}
 use Rattle.syslog_lines.proofs.PlaceLemmas.{IsSeen-held}
 use Rattle.syslog_lines.proofs.PumpLemmas.{EndsEarly-last, EndsEarly-more, EndsEarly-stopped, EndsEarly-unbegun}
-use Rattle.syslog_lines.proofs.PumpLemmas.{held_last}
-use Rattle.syslog_lines.proofs.PumpLemmas.{PumpedSoFar-more, PumpedSoFar-start, PumpsAll-last}
+use Rattle.syslog_lines.proofs.PumpLemmas.{held_last, PumpedSoFar-more, PumpedSoFar-start, PumpsAll-last}
 use Rattle.syslog_lines.proofs.WriteLemmas.{Goes-answered, cut_answered}
 use Rattle.syslog_lines.proofs.pump.pump.Goals as goal
 
