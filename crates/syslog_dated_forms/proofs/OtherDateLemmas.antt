@@ -2,13 +2,14 @@
 use Rattle.std.proofs.Common.{Option, arith}
 use Rattle.std.specs.Char.{is_ascii_digit}
 use Rattle.syslog_text.specs.Pieces.Class.{Text, Row, exactly, some_run}
-use Rattle.syslog_text.specs.Text.{is_blank, colon}
+use Rattle.syslog_text.specs.Text.{is_blank, colon, host as any_host}
 use Rattle.syslog_text.specs.Text.CharClass.{is_label_char}
 use Rattle.syslog_pieces.specs.Timestamp.Rfc3339.{pair, year}
 use Rattle.syslog_text.proofs.PieceLemmas.Class.{AllDeterministic, ◌also◌, after_det, exactly_det, mapped_det}
 use Rattle.syslog_text.proofs.PieceLemmas.Class.{optional_det}
 use Rattle.syslog_text.proofs.PieceLemmas.Class.{rest_det, row_det, run_det, some_run_det, texted_det}
 use Rattle.syslog_text.proofs.PieceLemmas.Rules.{such_det}
+use Rattle.syslog_text.proofs.TextLemmas.Words.{host_det}
 use Rattle.syslog_sent.specs.Named.{BeginsWith, is_letter}
 use Rattle.syslog_pieces.proofs.TimestampLemmas.Rfc3339.{pair_det, year_det}
 use Rattle.syslog_dated_forms.specs.Cisco.{counter_row, date_row}
@@ -17,7 +18,7 @@ use Rattle.syslog_dated_forms.specs.NetScaler.{netscaler_row, slashed_of, slashe
 use Rattle.syslog_sent.specs.Date.{IsDay}
 use Rattle.syslog_dated_forms.specs.OpenWrt.{logread_row}
 use Rattle.syslog_sent.specs.Selector.{selector_row}
-use Rattle.syslog_dated_forms.specs.ProCurve.{procurve_row}
+use Rattle.syslog_dated_forms.specs.ProCurve.{IsSwitch, procurve_row}
 use Rattle.syslog_dated_forms.specs.SophosUtm.{colon_of, colon_row, utm_row}
 use Rattle.syslog_sent.proofs.NamedLemmas.{program_det, selector_det}
 use Rattle.syslog_sent.specs.Zone.{bare_word, zone}
@@ -59,9 +60,9 @@ netscaler_row_det = run_det is_blank also mapped_det (Row slashed_row) SentDate 
     also wide_tail_det also tt
 
 pub procurve_row_det : AllDeterministic procurve_row
-procurve_row_det = run_det is_blank also any_date_det also some_run_det is_blank also origin_det also some_run_det
-    is_blank
-    also some_run_det is_ascii_digit also some_run_det is_blank
+procurve_row_det = run_det is_blank also any_date_det also some_run_det is_blank
+    also such_det any_host IsSwitch host_det also some_run_det is_blank also some_run_det is_ascii_digit
+    also some_run_det is_blank
     also such_det bare_word (BeginsWith is_letter) bare_word_det also exactly_det _ also run_det is_blank
     also rest_det also tt
 

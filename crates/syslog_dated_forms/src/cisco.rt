@@ -43,7 +43,8 @@ fn begins_host(c: char) -> bool
     c.is_ascii_digit() || c.is_ascii_alphabetic()
 }
 
-fn is_host(word: &str) -> bool
+/// Returns whether the word begins as a host does.
+pub(crate) fn is_host(word: &str) -> bool
     ensures { MatchBool result (BeginsWith spec.begins_host (chars word.now))
         (BeginsWith spec.begins_host (chars word.now) → ⊥) }
 {

@@ -3,19 +3,19 @@
 //! **Rule.** The number of the event, which is before the module, names no program: the module does, and it begins
 //! with a letter. (HP, "Event log
 //! message reference": severity, date, event number, system module.)
-ghost use Rattle.std.specs.Prelude.{◌≡◌, chars};
+ghost use Rattle.std.specs.Prelude.{◌≡◌, MatchBool, chars};
 ghost use Rattle.syslog_text.specs.Pieces.Class.{Front, Text, run};
-ghost use Rattle.syslog_text.specs.Pieces.View.{Reads, shown};
+ghost use Rattle.syslog_text.specs.Pieces.View.{Reads, seen, shown};
 ghost use Rattle.syslog_text.specs.Text.{is_blank};
 ghost use Rattle.syslog_sent.specs.Date.{any_date};
 ghost use Rattle.syslog_sent.specs.Sent.{Sends};
 ghost use Rattle.syslog_dated_forms.specs.ProCurve as spec;
 
-use crate::cisco::{colon, digits, gap, origin};
+use crate::cisco::{colon, digits, gap, is_host};
 use syslog_sent::named::is_letter;
 use syslog_sent::sent::{Sent, SentDate};
 use syslog_sent::zone::bare_word;
-use syslog_text::text::blanks;
+use syslog_text::text::{blanks, host};
 
 // Returns the name of a module at the front, and the text after it.
 fn system_module(text: &str) -> Option<(&str, &str)>
@@ -28,13 +28,33 @@ fn system_module(text: &str) -> Option<(&str, &str)>
     Some((word, rest))
 }
 
+fn is_switch(name: Option<&str>) -> bool
+    ensures { MatchBool result (spec.IsSwitch (seen name.entry)) (spec.IsSwitch (seen name.entry) → ⊥) }
+{
+    match name {
+        Some(word) => is_host(word),
+        None => false,
+    }
+}
+
+// Returns the name or the address of a switch at the front, and the text after it.
+fn switch(text: &str) -> Option<(Option<&str>, &str)>
+    ensures { Reads spec.switch (λ name. seen name) (chars text.now) result }
+{
+    let (name, rest) = host(text)?;
+    if !is_switch(name) {
+        return None;
+    }
+    Some((name, rest))
+}
+
 /// Returns what a line of ProCurve says, which begins with this date, and has `rest` after it.
 pub(crate) fn read_procurve(date: SentDate, rest: &str) -> Option<Sent<'_>>
     ensures { (text at : Text) → Front (run is_blank) text at tt → Front any_date at (chars rest.now) date
         → Sends spec.procurve_form text result }
 {
     let before_host = gap(rest)?;
-    let (host, after_host) = origin(before_host)?;
+    let (hostname, after_host) = switch(before_host)?;
     let before_number = gap(after_host)?;
     let after_number = digits(before_number)?;
     let before_module = gap(after_number)?;
@@ -43,7 +63,7 @@ pub(crate) fn read_procurve(date: SentDate, rest: &str) -> Option<Sent<'_>>
     Some(Sent {
         version: None,
         date: Some(date),
-        hostname: Some(host),
+        hostname,
         appname: Some(app),
         process: None,
         msgid: None,

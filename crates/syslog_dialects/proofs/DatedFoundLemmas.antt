@@ -44,7 +44,7 @@ use Rattle.syslog_named_forms.specs.Graded.{source_row}
 use Rattle.syslog_sent.specs.Named.{BeginsWith, beginning, is_letter}
 use Rattle.syslog_dated_forms.specs.NetScaler.{netscaler_row, slashed_date}
 use Rattle.syslog_dated_forms.specs.OpenWrt.{logread_row, logread_sent}
-use Rattle.syslog_dated_forms.specs.ProCurve.{procurve_row, procurve_sent}
+use Rattle.syslog_dated_forms.specs.ProCurve.{IsSwitch, procurve_row, procurve_sent}
 use Rattle.syslog_sent.specs.Selector.{selector_row}
 use Rattle.syslog_sent.specs.Sent.{Form, IsSent, SentValue, loose}
 use Rattle.syslog_dated_forms.specs.SophosUtm.{colon_date, utm_row}
@@ -463,7 +463,7 @@ esxi_found h = before_rest (left_of dialect.Esxi h) (take 7 esxi_row)
 
 procurve_found : RowFound dialect.ProCurve procurve_row procurve_sent
 procurve_found h = before_rest (left_of dialect.ProCurve h) (take 10 procurve_row)
-    (blanks also an_any_date also a_gap also an_origin also a_gap
+    (blanks also an_any_date also a_gap also such host IsSwitch a_host also a_gap
     also passed (some_run is_ascii_digit) (λ p q v is. inr (inl (v, is))) also a_gap
     also bare_text (BeginsWith is_letter) also a_colon also blanks also tt)
 

@@ -4,7 +4,7 @@ use Rattle.syslog_text.specs.Pieces.Class.{Text, Class, Front, NoFront, IsDeterm
 use Rattle.syslog_text.specs.Pieces.Rules.{◌or◌, such_that}
 use Rattle.syslog_text.specs.Text.{number}
 use Rattle.syslog_pieces.specs.Timestamp.{header_stamp}
-use Rattle.syslog_pieces.specs.Timestamp.Rfc3339.{pair, year}
+use Rattle.syslog_pieces.specs.Timestamp.Rfc3339.{pair}
 use Rattle.syslog_text.proofs.PieceLemmas.Class.{AllDeterministic, ◌also◌, exactly_det, optional_det, mapped_det}
 use Rattle.syslog_text.proofs.PieceLemmas.Class.{row_det, after_det}
 use Rattle.syslog_text.proofs.PieceLemmas.Class.{front_of, no_front_no}
@@ -18,13 +18,14 @@ use Rattle.std.proofs.lemmas.Bool.{cases_Bool}
 use Rattle.syslog_text.specs.Pieces.Class.{Ends}
 use Rattle.syslog_sent.specs.Date.{date_part, one_of_numbers}
 use Rattle.syslog_sent.specs.Date.{point, fraction_row, fraction, late_fraction_row, late_fraction, year_after}
+use Rattle.syslog_sent.specs.Date.{whole_year}
 use Rattle.syslog_sent.specs.Date.{bsd_row, bsd_of}
 use Rattle.syslog_sent.specs.Date.{bsd_date, IsOdd, odd_bsd_date, middle, iso_row, iso_of, iso_date, unless}
 use Rattle.syslog_sent.specs.Date.{odd_iso_date}
 use Rattle.syslog_sent.specs.Date.{any_date, one_of_dates}
-use Rattle.syslog_sent.specs.{Named.◌otherwise◌, Zone.ended, Zone.zone}
+use Rattle.syslog_sent.specs.{Named.◌otherwise◌, Zone.zone}
 use Rattle.syslog_sent.specs.declared.sent.SentDate.{SentDate}
-use Rattle.syslog_sent.proofs.{NamedLemmas.otherwise_det, ZoneLemmas.ended_det, ZoneLemmas.zone_det}
+use Rattle.syslog_sent.proofs.{NamedLemmas.otherwise_det, ZoneLemmas.zone_det}
 
 point_det : IsDeterministic point
 point_det = or_det (exactly_det _) (exactly_det _)
@@ -36,14 +37,14 @@ fraction_row_det = point_det also decimals_det also tt
 pub late_fraction_row_det : AllDeterministic late_fraction_row
 late_fraction_row_det = optional_det point point_det also decimals_det also tt
 
-pub ended_year_det : IsDeterministic (ended year)
-ended_year_det = ended_det year year_det
+whole_year_det : IsDeterministic whole_year
+whole_year_det p q p' q' v v' e h h' = year_det p q p' q' v v' e h.0 h'.0
 
 pub bsd_det : AllDeterministic bsd_row
 bsd_det = month_date_det
     also optional_det late_fraction (mapped_det (Row late_fraction_row)
     ℕ _ (row_det late_fraction_row late_fraction_row_det))
-    also optional_det zone zone_det also optional_det year_after (after_det (ended year) ended_year_det) also tt
+    also optional_det zone zone_det also optional_det year_after (after_det whole_year whole_year_det) also tt
 
 pub bsd_date_det : IsDeterministic bsd_date
 bsd_date_det = mapped_det (Row bsd_row) SentDate bsd_of (row_det bsd_row bsd_det)

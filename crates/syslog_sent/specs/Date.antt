@@ -4,9 +4,10 @@
 -- 32 is a space, 44 `,`, 45 `-`, 46 `.`, 47 `/`, 58 `:`, 84 `T`.
 use Rattle.std.proofs.Common.{inl, inr}
 use Rattle.std.specs.Prelude.{◌≡◌, ◌⊎◌, ℕ, min, ◌&&◌, Bool, false, List, [], ◌∷◌, ◌++◌, Option, Some, None}
-use Rattle.std.specs.Prelude.{unwrap_or, is_none}
+use Rattle.std.specs.Prelude.{unwrap_or, is_none, if◌then◌else◌, nat_eq}
+use Rattle.std.specs.Char.{is_not_whitespace}
 use Rattle.std.specs.Option.{option_flatten}
-use Rattle.syslog_text.specs.Pieces.Class.{Class, Values, Row, NoFront, exactly, optional, mapped, after, spaced}
+use Rattle.syslog_text.specs.Pieces.Class.{Class, Values, Row, NoFront, Ends, exactly, optional, mapped, after, spaced}
 use Rattle.syslog_text.specs.Pieces.Rules.{◌or◌, such_that}
 use Rattle.syslog_text.specs.Text.{number}
 use Rattle.syslog_pieces.specs.Timestamp.{header_stamp}
@@ -14,7 +15,7 @@ use Rattle.syslog_pieces.specs.Timestamp.MonthDate.{month_date}
 use Rattle.syslog_pieces.specs.Timestamp.Rfc3339.{pair, year, decimals}
 use Rattle.syslog_pieces.specs.declared.timestamp.month_date.MonthDate.{MonthDate}
 use Rattle.syslog_sent.specs.Named.{◌otherwise◌}
-use Rattle.syslog_sent.specs.Zone.{ended, zone}
+use Rattle.syslog_sent.specs.Zone.{zone}
 use Rattle.syslog_sent.specs.declared.sent.SentDate.{SentDate}
 use Rattle.std.specs.Prelude.{true, codes, map, chars}
 use Rattle.syslog_text.specs.Pieces.Class.{Text}
@@ -42,9 +43,21 @@ late_fraction = mapped (Row late_fraction_row) ℕ (λ v. v.1.0)
 
 -- ---- month dates
 
+-- the text after a colon, if one begins it
+abbrev pub after_mark : Text → Text
+after_mark [] = []
+after_mark (c ∷ cs) = if nat_eq c 58 then cs else c ∷ cs
+
+-- White space follows, or the end, or a colon before one of these. After `2001` in an address of IPv6 a word goes on.
+abbrev pub IsOver : Text → Type 0
+IsOver t = Ends is_not_whitespace (after_mark t)
+
+abbrev pub whole_year : Class
+whole_year = record { Value = ℕ; Is = λ p q y. year.Is p q y × IsOver q }
+
 -- a year after a space
 abbrev pub year_after : Class
-year_after = spaced (ended year)
+year_after = spaced whole_year
 
 -- a month date, and what may follow it: a fraction, a zone, a year
 abbrev pub bsd_row : List Class

@@ -5,18 +5,17 @@
 //! offset may lack the colon or the minutes, be the name of a zone, or be absent. Second 60 counts as 59 there, as the
 //! port has it.
 ghost use Rattle.std.specs.Prelude.{◌≡◌, ◌<◌, chars, ℕ, Option, false, MatchBool, option_map, true};
-ghost use Rattle.syslog_text.specs.Pieces.Class.{Front, Row, after, optional};
+ghost use Rattle.syslog_text.specs.Pieces.Class.{Ends, Front, Row, after, optional};
 ghost use Rattle.syslog_text.specs.Pieces.View.{Reads, Recognises, Skips, shown};
 ghost use Rattle.syslog_text.specs.Text.{number as any_number};
-ghost use Rattle.syslog_pieces.specs.Timestamp.Rfc3339.{year as any_year};
 ghost use Rattle.syslog_sent.specs.DateViews.{bsd_values, iso_values};
-ghost use Rattle.std.specs.Char.{is_ascii_digit};
+ghost use Rattle.std.specs.Char.{is_ascii_digit, is_not_whitespace};
 ghost use Rattle.syslog_sent.specs.Named.{BeginsWith};
-ghost use Rattle.syslog_sent.specs.Zone.{ended, zone as any_zone};
+ghost use Rattle.syslog_sent.specs.Zone.{zone as any_zone};
 ghost use Rattle.syslog_sent.specs.Date as spec;
 
 use crate::sent::SentDate;
-use crate::zone::{bare_word, begins_with_capital, ends_word, has_shape, is_one_of, zone};
+use crate::zone::{bare_word, begins_with_capital, has_shape, is_one_of, zone};
 use syslog_pieces::timestamp::MonthDate;
 use syslog_pieces::timestamp::month_date::month_date;
 use syslog_pieces::timestamp::pairs::{decimals, pair, pair_after, year};
@@ -133,20 +132,46 @@ pub fn optional_zone(text: &str) -> (Option<Option<i32>>, &str)
     }
 }
 
-// Returns a year that is a whole word, and the text after it.
-fn ended_year(text: &str) -> Option<(u16, &str)>
-    ensures { Reads (ended any_year) (λ y. y) (chars text.now) result }
+// Whether the text is empty or begins with white space.
+#[inline(always)]
+fn ends_run(text: &str) -> bool
+    ensures { MatchBool result (Ends is_not_whitespace (chars text.now))
+        (Ends is_not_whitespace (chars text.now) → ⊥) }
+{
+    match first(text) {
+        Some((c, _)) => c.is_whitespace(),
+        None => true,
+    }
+}
+
+// Whether a year has ended before the text. A colon and a word after it are an address of IPv6, as `2001:db8::12`.
+// It is a call of its own, since few dates have a year there.
+#[inline(never)]
+fn is_over(text: &str) -> bool
+    ensures { MatchBool result (spec.IsOver (chars text.now)) (spec.IsOver (chars text.now) → ⊥) }
+{
+    match first(text) {
+        Some((':', rest)) => ends_run(rest),
+        _ => ends_run(text),
+    }
+}
+
+// Returns a year that nothing goes on from, and the text after it.
+#[inline(always)]
+fn whole_year(text: &str) -> Option<(u16, &str)>
+    ensures { Reads spec.whole_year (λ y. y) (chars text.now) result }
 {
     let (year, rest) = year(text)?;
-    ends_word(rest).then_some((year, rest))
+    is_over(rest).then_some((year, rest))
 }
 
 // Returns a year after a space, and the text after it.
+#[inline(always)]
 fn year_after(text: &str) -> Option<(u16, &str)>
     ensures { Reads spec.year_after (λ y. y) (chars text.now) result }
 {
     let rest = literal(text, ' ')?;
-    ended_year(rest)
+    whole_year(rest)
 }
 
 #[inline(always)]
