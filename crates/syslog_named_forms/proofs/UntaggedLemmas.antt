@@ -39,7 +39,7 @@ use Rattle.syslog_named_forms.specs.declared.untagged.MessageMarks.{MessageMarks
 use Rattle.syslog_named_forms.specs.Untagged.{AreAll, AreMarks, begins_other, ends_list, holds, marked}
 use Rattle.syslog_named_forms.specs.Untagged.{marked_of, message}
 use Rattle.syslog_named_forms.specs.Untagged.{angle, clock_row, dashed_row, day, is_month, month_row, month_word}
-use Rattle.syslog_named_forms.specs.Untagged.{slashed_row, topics_row}
+use Rattle.syslog_named_forms.specs.Untagged.{name_or_end, object_row, slashed_row, topics_row}
 
 pub cef_det : AllDeterministic cef_row
 cef_det = exactly_det _ also run_det is_blank also some_run_det is_ascii_digit also exactly_det _ also tt
@@ -103,6 +103,9 @@ topics_det = row_det topic_row topic_det also otherwise_det main_topic_det (row_
 
 pub number_row_det : AllDeterministic number_row
 number_row_det = exactly_det _ also some_run_det is_ascii_digit also exactly_det _ also tt
+
+pub object_det : AllDeterministic object_row
+object_det = exactly_det _ also run_det is_blank also otherwise_det (exactly_det _) (exactly_det _) also tt
 
 pub host_row_det : AllDeterministic host_row
 host_row_det = host_det also some_run_det is_blank also tt
@@ -193,7 +196,8 @@ opens PaloAlto = row_opens (some_run is_ascii_digit) more_of_palo_alto (λ c. be
     (run_starts is_ascii_digit)
 opens Pair = row_opens (some_run is_word_char) (exactly (61 ∷ []) ∷ []) (λ c. begins Pair c ≡ true)
     (run_starts is_word_char)
-opens Json = exact 123 (34 ∷ []) (begins Json) refl
+opens Json = row_opens (exactly (123 ∷ [])) (run is_blank ∷ name_or_end ∷ []) (λ c. begins Json c ≡ true)
+    (exact 123 [] (begins Json) refl)
 opens Idrac = exact 83 (codes "everity: ") (begins Idrac) refl
 opens Level = λ p q v ((u, h, e), k). let (c, t, f, g) = run_starts is_not_whitespace p q u h in
     (c, t, f, level_starts c t (subst (λ (x : Text). IsTrue (is_level x)) (e ∙ f) k))

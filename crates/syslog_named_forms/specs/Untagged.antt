@@ -1,6 +1,6 @@
 -- Messages that have no program's name before them: they are recognised by what they begin with.
 --
--- 32 is a space, 44 `,`, 45 `-`, 46 `.`, 47 `/`, 58 `:`, 61 `=`, 84 `T`, 91 `[`, 123 `{`, 124 `|`.
+-- 32 is a space, 34 `"`, 44 `,`, 45 `-`, 46 `.`, 47 `/`, 58 `:`, 61 `=`, 84 `T`, 91 `[`, 123 `{`, 124 `|`, 125 `}`.
 use Rattle.std.proofs.Common.{inl, inr}
 use Rattle.std.specs.Prelude.{◌≡◌, ◌⊎◌, ◌||◌, ◌&&◌, ℕ, bit_and, nat_eq, nat_le, not, Option, Bool, true, false}
 use Rattle.std.specs.Prelude.{IsTrue, List, [], ◌∷◌, MatchOption, None, codes}
@@ -128,6 +128,13 @@ month_word = such_that (texted (some_run is_plain_char)) (λ t. IsTrue (is_month
 abbrev pub month_row : List Class
 month_row = month_word ∷ some_run is_blank ∷ some_digits ∷ some_run is_blank ∷ pair 100 ∷ after 58 (pair 100) ∷ []
 
+-- `{"`, `{ "`, `{}`: an object of JSON, of which a name or the end comes first, after blanks or none
+abbrev pub name_or_end : Class
+name_or_end = exactly (34 ∷ []) otherwise exactly (125 ∷ [])
+
+abbrev pub object_row : List Class
+object_row = exactly (123 ∷ []) ∷ run is_blank ∷ name_or_end ∷ []
+
 -- what begins such a message
 abbrev pub mark_class : Mark → Class
 mark_class Cef = Row cef_row
@@ -135,7 +142,7 @@ mark_class Leef = Row leef_row
 mark_class Repeated = Row repeated_row otherwise (Row repeats_row otherwise here)
 mark_class PaloAlto = Row palo_alto_row
 mark_class Pair = Row pair_row
-mark_class Json = exactly (codes "{\"")
+mark_class Json = Row object_row
 mark_class Idrac = exactly (codes "Severity: ")
 mark_class Level = such_that (texted (some_run is_not_whitespace)) (λ t. IsTrue (is_level t))
 mark_class Topics = Row topics_row

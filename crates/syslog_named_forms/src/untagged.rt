@@ -30,7 +30,7 @@ pub enum Mark {
     PaloAlto,
     /// `key=`.
     Pair,
-    /// `{"`.
+    /// `{"`, or `{}`, with blanks between the two or none.
     Json,
     /// `Severity: `.
     Idrac,
@@ -376,10 +376,21 @@ fn pair_start(text: &str) -> Option<&str>
     key(text).and_then(equals)
 }
 
-fn json(text: &str) -> Option<&str>
-    ensures { Recognises (exactly (codes "{\"")) (chars text.now) result }
+fn name_or_end(text: &str) -> Option<&str>
+    ensures { Recognises spec.name_or_end (chars text.now) result }
 {
-    past(text, "{\"")
+    if let Some(rest) = quote(text) {
+        return Some(rest);
+    }
+    literal(text, '}')
+}
+
+// Returns the text after the brace of an object, and the quote or the brace that comes first in it.
+fn json(text: &str) -> Option<&str>
+    ensures { Recognises (Row spec.object_row) (chars text.now) result }
+{
+    let inner = literal(text, '{')?;
+    name_or_end(blanks(inner))
 }
 
 fn idrac(text: &str) -> Option<&str>
