@@ -11,7 +11,7 @@ use Rattle.syslog_text.specs.Pieces.Lists.{many}
 use Rattle.syslog_text.specs.Pieces.Rules.{such_that}
 use Rattle.syslog_text.specs.Text.{host, is_blank, is_tag_char, number, trimmed}
 use Rattle.syslog_text.proofs.PieceLemmas.Class.{◌also◌, ◌then◌, division_front, front_of, row_head}
-use Rattle.syslog_text.proofs.PieceLemmas.Class.{firsts, lasts, row_of, rows_split}
+use Rattle.syslog_text.proofs.PieceLemmas.Class.{firsts, lasts, present_front, row_of, rows_split}
 use Rattle.syslog_text.proofs.PieceLemmas.Lists.{many_parts}
 use Rattle.syslog_loose.specs.Message.{MessageValue}
 use Rattle.syslog_loose.specs.declared.dates.Dates.{Dates}
@@ -19,7 +19,7 @@ use Rattle.syslog_dated_forms.specs.DatedForms as dated
 use Rattle.syslog_sent.specs.Forms.{IsOfFirst}
 use Rattle.syslog_dialects.specs.Dialects.{dated_forms, early_forms, forms_of, last_forms, late_forms, named_forms, plain_forms}
 use Rattle.syslog_dialects.specs.Found.{AreFound, AreInOrder, IsFoundIn, Part}
-use Rattle.syslog_dialects.specs.Found.{Tells, Version, beside}
+use Rattle.syslog_dialects.specs.Found.{Name, Tells, Version, beside, if_there}
 use Rattle.syslog_dialects.specs.Found.{forwarded_words}
 use Rattle.syslog_dialects.specs.Found.{left_of, left_out, relay, serial}
 use Rattle.syslog_named_forms.specs.NearHeader.{heroku_row, heroku_says, vendor_row, vendor_says}
@@ -53,7 +53,8 @@ use Rattle.syslog_text.specs.Pieces.Class.{optional}
 use Rattle.syslog_dialects.specs.PriorityAlone.{IsAlone, alone_row, point_row as point_alone_row, point_sent}
 use Rattle.syslog_dialects.specs.PriorityAlone.{program_row}
 use Rattle.syslog_dialects.specs.PriorityAlone.{program_sent}
-use Rattle.syslog_named_forms.specs.Programs.{forwarded_of, forwarded_row, grade, hostless_row, passed_on}
+use Rattle.syslog_named_forms.specs.Programs.{forwarded_of, forwarded_row, grade, hostless_row, name_in, passed_on}
+use Rattle.syslog_named_forms.specs.Programs.{process_in}
 use Rattle.syslog_named_forms.specs.Programs.{access_row, point_row, serial_row, severity_row, worded_row}
 use Rattle.syslog_named_forms.specs.Programs.{number_word, spread_row, untagged_row, words_row}
 use Rattle.syslog_sent.specs.Runs.{is_plain_char, is_unquoted, is_word_char}
@@ -65,10 +66,10 @@ use Rattle.syslog_sent.specs.declared.dialect.Dialect.TheVariants as dialect
 use Rattle.syslog_named_forms.specs.declared.untagged.Mark.{Mark}
 use Rattle.syslog_named_forms.specs.declared.untagged.Mark.TheVariants as mark_of
 use Rattle.syslog_dialects.proofs.MessageLemmas.{end_of, whole_of}
-use Rattle.syslog_dialects.proofs.OrderLemmas.{Ending, a_colon, a_gap, a_host, a_name, a_program, a_sign}
+use Rattle.syslog_dialects.proofs.OrderLemmas.{Ending, Has, Shows, a_colon, a_gap, a_host, a_name, a_program, a_sign}
 use Rattle.syslog_dialects.proofs.OrderLemmas.{a_word, an_id, before_rest, blank_signs, blanks}
 use Rattle.syslog_dialects.proofs.OrderLemmas.{last_found, mapped_found}
-use Rattle.syslog_dialects.proofs.OrderLemmas.{nothing_more, out_more, passed}
+use Rattle.syslog_dialects.proofs.OrderLemmas.{no_field, nothing_more, out_more, passed}
 use Rattle.syslog_dialects.proofs.OrderLemmas.{row_more, shown, such}
 use Rattle.syslog_dialects.proofs.OrderLemmas.{text_of}
 use Rattle.syslog_dialects.proofs.OrderLemmas.{IsOut, whole_found}
@@ -113,11 +114,24 @@ messages_all (m ∷ ms) = (mark_found m, messages_all ms)
 
 -- ---- programs
 
+-- a program's name and the id of its process, or neither
+maybe_program : (left : List Class)
+    → Has left (optional program) (λ p parts. if_there Name (name_in p) (if_there Name (process_in p) parts))
+maybe_program left t q None f parts msg told = no_field program f told
+maybe_program left t q (Some p) f parts msg told =
+    (a_program {left = left}).has t q p (present_front program f) parts msg told
+
+abbrev a_program_or_none : {left : List Class} → Shows left (optional program)
+a_program_or_none {left} = record {
+  adds = λ p parts. if_there Name (name_in p) (if_there Name (process_in p) parts);
+  has = maybe_program left;
+}
+
 line_passed : (Cs : List Class) → Ending (left_out dialect.Forwarded ++ Cs) (Row forwarded_row)
     (λ v. texts_of (forwarded_of v)) (λ v. (forwarded_of v).msg)
 line_passed Cs = before_rest (left_out dialect.Forwarded ++ Cs) (take 6 forwarded_row)
     (passed forwarded_words (λ p q v is. inr (inl (v, is))) also text_of (some_run is_tag_char)
-    also a_colon also blanks also a_program also blanks also tt)
+    also a_colon also blanks also a_program_or_none also blanks also tt)
 
 -- with its host another one is left out
 forwarded_found : TailFound forwarded_tail

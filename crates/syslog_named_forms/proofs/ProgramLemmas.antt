@@ -15,7 +15,7 @@ use Rattle.syslog_text.specs.Pieces.Class.{texted}
 use Rattle.syslog_text.proofs.PieceLemmas.Class.{mapped_det}
 use Rattle.syslog_text.proofs.PieceLemmas.Class.{texted_det, row_det}
 use Rattle.syslog_text.proofs.PieceLemmas.Rules.{such_det}
-use Rattle.syslog_sent.specs.Named.{BeginsWith}
+use Rattle.syslog_sent.specs.Named.{BeginsWith, program}
 use Rattle.syslog_sent.specs.Runs.{is_word_char}
 use Rattle.syslog_sent.specs.Named.{NamedTexts, is_letter}
 use Rattle.syslog_named_forms.specs.Programs.{words, words_row, worded_row, forwarded_row, forwarded_of, passed_on}
@@ -97,7 +97,7 @@ spread_det = host_det also some_run_det is_blank also name_det also id_det also 
 
 pub forwarded_det : AllDeterministic forwarded_row
 forwarded_det = exactly_det _ also texted_det (some_run is_tag_char) (some_run_det is_tag_char) also exactly_det _
-    also run_det is_blank also program_det also run_det is_blank also rest_det also tt
+    also run_det is_blank also optional_det program program_det also run_det is_blank also rest_det also tt
 
 pub passed_on_det : IsDeterministic passed_on
 passed_on_det = mapped_det (Row forwarded_row) NamedTexts forwarded_of (row_det forwarded_row forwarded_det)

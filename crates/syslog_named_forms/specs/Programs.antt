@@ -9,7 +9,8 @@ use Rattle.syslog_text.specs.Pieces.Rules.{such_that}
 use Rattle.syslog_text.specs.Text.{colon, host, is_blank}
 use Rattle.syslog_text.specs.Text.{is_tag_char}
 use Rattle.syslog_sent.specs.Date.{iso_date}
-use Rattle.syslog_sent.specs.Named.{◌otherwise◌, NamedTexts, BeginsWith, hosted, is_letter, name, process_id, program}
+use Rattle.syslog_sent.specs.Named.{◌otherwise◌, NamedTexts, ProgramText, BeginsWith, hosted, is_letter, name}
+use Rattle.syslog_sent.specs.Named.{process_id, program}
 use Rattle.syslog_sent.specs.Named.{after_row, beginning, is_number, tagged, untagged}
 use Rattle.syslog_sent.specs.Runs.{is_plain_char, is_word_char}
 use Rattle.std.proofs.Common.{inl, inr}
@@ -132,15 +133,27 @@ untagged_of (h, (_, (m, _))) = untagged h m
 abbrev pub untagged_message : Class
 untagged_message = mapped (Row untagged_row) NamedTexts untagged_of
 
--- ---- forwarded: `Message forwarded from aix01: sshd[123]: text`
+-- ---- forwarded: `Message forwarded from aix01: sshd[123]: text`, or `Message forwarded from aix01: text`
 
 abbrev pub forwarded_row : List Class
 forwarded_row =
     exactly (codes "Message forwarded from ") ∷ texted (some_run is_tag_char) ∷ exactly colon ∷ run is_blank
-    ∷ program ∷ run is_blank ∷ rest ∷ []
+    ∷ optional program ∷ run is_blank ∷ rest ∷ []
+
+-- the name of a program, and the id of its process, where a program is shown
+abbrev pub name_in : Option ProgramText → Option Text
+name_in None = None
+name_in (Some p) = Some p.name
+
+abbrev pub process_in : Option ProgramText → Option Text
+process_in None = None
+process_in (Some p) = p.process
+
+abbrev pub sent_at : Text → Option ProgramText → Text → NamedTexts
+sent_at h p m = record { hostname = Some h; appname = name_in p; process = process_in p; msg = m }
 
 abbrev pub forwarded_of : Values forwarded_row → NamedTexts
-forwarded_of (_, (h, (_, (_, (p, (_, (m, _))))))) = tagged (Some h) p m
+forwarded_of (_, (h, (_, (_, (p, (_, (m, _))))))) = sent_at h p m
 
 abbrev pub passed_on : Class
 passed_on = mapped (Row forwarded_row) NamedTexts forwarded_of

@@ -1,16 +1,17 @@
 //! Lines of programs that are recognised by what is between the date and the program's name. A message that begins with
 //! a number after the host has no program.
 ghost use Rattle.std.specs.Prelude.{◌≡◌, ◌∷◌, [], IfSome, IsUtf8, List, chars, codes};
+ghost use Rattle.std.specs.Option.{option_map};
 ghost use Rattle.syslog_text.specs.Pieces.Class.{Front, Row, Text, exactly, optional, some_run, spaced, texted};
 ghost use Rattle.syslog_text.specs.Pieces.Lists.{many};
 ghost use Rattle.syslog_text.specs.Pieces.View.{Reads, Recognises, seen, shown};
 ghost use Rattle.syslog_text.specs.Text.{colon as colon_text, is_tag_char};
-ghost use Rattle.syslog_sent.specs.Named.{◌otherwise◌};
+ghost use Rattle.syslog_sent.specs.Named.{◌otherwise◌, program as program_class};
 ghost use Rattle.syslog_sent.specs.Selector.{selector_row, severity as severity_class};
 ghost use Rattle.syslog_sent.specs.Runs.{is_word_char};
 ghost use Rattle.syslog_named_forms.specs.Programs as spec;
 ghost use Rattle.syslog_named_forms.specs.Untagged.{host_row};
-ghost use Rattle.syslog_sent.specs.Views.{Names, named_value};
+ghost use Rattle.syslog_sent.specs.Views.{Names, named_value, program_seen};
 
 use crate::untagged::{topic, topic_word};
 use syslog_sent::date::iso_date;
@@ -312,6 +313,27 @@ fn forwarded_words(text: &str) -> Option<&str>
     past(text, "Message forwarded from ")
 }
 
+// Returns the program at the front, if there is one, and the text after it.
+fn optional_program(text: &str) -> (Option<Program<'_>>, &str)
+    ensures { Front (optional program_class) (chars text.now) (shown result.1) (option_map program_seen result.0) }
+{
+    match read_program(text) {
+        Some((program, rest)) => (Some(program), rest),
+        None => (None, text),
+    }
+}
+
+// Returns the message of this host's program, or of none.
+fn sent_at<'a>(hostname: &'a str, program: Option<Program<'a>>, msg: &'a str) -> Named<'a>
+    ensures { named_value result
+        ≡ spec.sent_at (shown hostname.entry) (option_map program_seen program.entry) (shown msg.entry) }
+{
+    match program {
+        Some(program) => tagged(Some(hostname), program, msg),
+        None => untagged(Some(hostname), msg),
+    }
+}
+
 // Reads a line that was forwarded, from `Message forwarded from` on.
 #[inline(always)]
 fn passed_on(text: &str) -> Option<Named<'_>>
@@ -320,8 +342,8 @@ fn passed_on(text: &str) -> Option<Named<'_>>
     let rest = forwarded_words(text)?;
     let (hostname, rest) = origin(rest)?;
     let rest = literal(rest, ':')?;
-    let (program, rest) = read_program(blanks(rest))?;
-    Some(tagged(Some(hostname), program, blanks(rest)))
+    let (program, rest) = optional_program(blanks(rest));
+    Some(sent_at(hostname, program, blanks(rest)))
 }
 
 /// Reads a line that was forwarded, after the name of the host that forwarded it, if that is shown. `after_host` is

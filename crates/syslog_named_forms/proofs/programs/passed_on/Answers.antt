@@ -21,13 +21,7 @@ returns-in_err-rest-2 c = rw c.from_residual-in_err-rest-2.ensures
     (unread forwarded_row forwarded_det NamedTexts forwarded_of
     (c.in_ok-rest.ensures.1 past c.in_ok-hostname.ensures past inl c.in_err-rest-2.ensures))
 
-pub returns-in_err-program : goal.returns-in_err-program
-returns-in_err-program c = rw c.from_residual-in_err-program.ensures
-    (unread forwarded_row forwarded_det NamedTexts forwarded_of
-    (c.in_ok-rest.ensures.1 past c.in_ok-hostname.ensures past c.in_ok-rest-2.ensures past c.blanks.ensures
-    past inl c.in_err-program.ensures))
-
 pub returns : goal.returns
-returns c = rw c.tagged.ensures (mapped_front (Row forwarded_row) NamedTexts forwarded_of
+returns c = rw c.sent_at.ensures (mapped_front (Row forwarded_row) NamedTexts forwarded_of
     (row_of forwarded_row (c.in_ok-rest.ensures.1 then c.in_ok-hostname.ensures then c.in_ok-rest-2.ensures then
-    c.blanks.ensures then c.in_ok-program.ensures then c.blanks-2.ensures then rest_front _ then refl)))
+    c.blanks.ensures then c.optional_program.ensures then c.blanks-2.ensures then rest_front _ then refl)))
