@@ -23,7 +23,7 @@ use Rattle.syslog_text.proofs.PieceLemmas.Class.{after_det}
 use Rattle.syslog_text.proofs.PieceLemmas.Lists.{many_det}
 use Rattle.syslog_text.specs.Pieces.Class.{spaced}
 use Rattle.syslog_text.specs.Text.{is_tag_char}
-use Rattle.syslog_named_forms.specs.Programs.{aix_row, grade, hostless_row}
+use Rattle.syslog_named_forms.specs.Programs.{aix_row, enclosed_row, grade, hostless_row, later_word}
 use Rattle.syslog_text.proofs.PieceLemmas.Class.{optional_det}
 use Rattle.syslog_text.specs.Pieces.Class.{exactly}
 use Rattle.std.specs.Prelude.{codes}
@@ -55,11 +55,17 @@ pub severity_det : AllDeterministic severity_row
 severity_det = host_det also some_run_det is_blank also grade_det also some_run_det is_blank also program_det
     also run_det is_blank also rest_det also tt
 
-spaced_det : IsDeterministic (spaced (some_run is_word_char))
-spaced_det = after_det (some_run is_word_char) (some_run_det is_word_char)
+pub enclosed_det : AllDeterministic enclosed_row
+enclosed_det = exactly_det _ also some_run_det is_word_char also exactly_det _ also tt
+
+later_det : IsDeterministic later_word
+later_det = otherwise_det (some_run_det is_word_char) (row_det enclosed_row enclosed_det)
+
+spaced_det : IsDeterministic (spaced later_word)
+spaced_det = after_det later_word later_det
 
 pub words_row_det : AllDeterministic words_row
-words_row_det = some_run_det is_word_char also spaced_det also many_det (spaced (some_run is_word_char)) spaced_det
+words_row_det = some_run_det is_word_char also spaced_det also many_det (spaced later_word) spaced_det
     also tt
 
 words_det : IsDeterministic words

@@ -78,11 +78,18 @@ access_of (h, (_, (_, (p, (_, (m, _)))))) = tagged (Some h) p m
 abbrev pub access_point : Class
 access_point = mapped (Row access_row) NamedTexts access_of
 
--- ---- a name of several words: `nas1 Plex Media Server[811]: text`
+-- ---- a name of several words: `nas1 Plex Media Server[811]: text`, `mac9 Slack Helper (Renderer)[811]: text`
 
--- two or more words with one space between each two
+-- a word in parentheses, by which macOS tells the helpers of a program apart: `(Renderer)`
+abbrev pub enclosed_row : List Class
+enclosed_row = exactly (40 ∷ []) ∷ some_run is_word_char ∷ exactly (41 ∷ []) ∷ []
+
+abbrev pub later_word : Class
+later_word = some_run is_word_char otherwise Row enclosed_row
+
+-- two or more words with one space between each two, of which any but the first may be in parentheses
 abbrev pub words_row : List Class
-words_row = some_run is_word_char ∷ spaced (some_run is_word_char) ∷ many (spaced (some_run is_word_char)) ∷ []
+words_row = some_run is_word_char ∷ spaced later_word ∷ many (spaced later_word) ∷ []
 
 abbrev pub words : Class
 words = such_that (texted (Row words_row)) (BeginsWith is_letter)

@@ -129,19 +129,51 @@ fn word(text: &str) -> Option<&str>
     if run.is_empty() { None } else { Some(rest) }
 }
 
+// Returns the text after a closing parenthesis.
+fn closing(text: &str) -> Option<&str>
+    ensures reads { Recognises (exactly (41 ∷ [])) (chars text.now) result }
+    ensures utf8 { IfSome result (λ rest. IsUtf8 rest.now) }
+{
+    match first(text) {
+        Some((')', rest)) => Some(rest),
+        _ => None,
+    }
+}
+
+// Returns the text after a word in parentheses.
+fn enclosed(text: &str) -> Option<&str>
+    ensures reads { Recognises (Row spec.enclosed_row) (chars text.now) result }
+    ensures utf8 { IfSome result (λ rest. IsUtf8 rest.now) }
+{
+    let inner = literal(text, '(')?;
+    let end = word(inner)?;
+    closing(end)
+}
+
+// Returns the text after a word, or after one in parentheses.
+fn later_word(text: &str) -> Option<&str>
+    ensures reads { Recognises spec.later_word (chars text.now) result }
+    ensures utf8 { IfSome result (λ rest. IsUtf8 rest.now) }
+{
+    if let Some(rest) = word(text) {
+        return Some(rest);
+    }
+    enclosed(text)
+}
+
 // Returns the text after a space and a word.
 fn spaced_word(text: &str) -> Option<&str>
-    ensures reads { Recognises (spaced (some_run is_word_char)) (chars text.now) result }
+    ensures reads { Recognises (spaced spec.later_word) (chars text.now) result }
     ensures utf8 { IfSome result (λ rest. IsUtf8 rest.now) }
 {
     let rest = literal(text, ' ')?;
-    word(rest)
+    later_word(rest)
 }
 
 // Returns the text after any number of further words, each after a space.
 fn more_words(text: &str) -> &str
-    ensures { (vs : List (Unit {0}))
-        × Front (many (spaced (some_run is_word_char))) (chars text.now) (shown result) vs }
+    ensures { (vs : List spec.later_word.Value)
+        × Front (many (spaced spec.later_word)) (chars text.now) (shown result) vs }
 {
     let mut rest = text;
     'words: while let Some(more) = spaced_word(rest) {

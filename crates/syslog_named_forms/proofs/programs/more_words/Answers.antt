@@ -1,7 +1,6 @@
 use Rattle.std.proofs.Common.{[], ◌∷◌, ◌++◌}
 use Rattle.syslog_text.proofs.PieceLemmas.Rules.{after_shorter, no_run, runs_all, runs_more}
-use Rattle.syslog_text.specs.Pieces.Class.{some_run}
-use Rattle.syslog_sent.specs.Runs.{is_word_char}
+use Rattle.syslog_named_forms.specs.Programs.{later_word}
 use Rattle.syslog_named_forms.proofs.programs.more_words.Goals as goal
 
 pub words-init : goal.words-init
@@ -12,7 +11,7 @@ words-preserved c = let (ps, r) = c.words.invariant.1 in let (p, f) = c.in-Some.
     (c.in-Some.ensures.utf8, (ps ++ p ∷ [], runs_more r f))
 
 pub words-smaller : goal.words-smaller
-words-smaller c = after_shorter 32 (some_run is_word_char) c.in-Some.ensures.reads.1
+words-smaller c = after_shorter 32 later_word c.in-Some.ensures.reads.1
 
 pub returns : goal.returns
 returns c = let (ps, r) = c.words.invariant.1 in (ps, runs_all r c.in_default.ensures.reads)

@@ -1,9 +1,8 @@
 use Rattle.std.proofs.Common.{[], ◌∷◌}
 use Rattle.syslog_text.proofs.PieceLemmas.{Class.◌also◌, Class.match_map, Rules.always_on, Rules.row_reads}
-use Rattle.syslog_text.specs.Pieces.Class.{some_run, spaced}
+use Rattle.syslog_text.specs.Pieces.Class.{spaced}
 use Rattle.syslog_text.specs.Pieces.Lists.{many}
-use Rattle.syslog_named_forms.specs.Programs.{words_row}
-use Rattle.syslog_sent.specs.Runs.{is_word_char}
+use Rattle.syslog_named_forms.specs.Programs.{later_word, words_row}
 use Rattle.syslog_named_forms.proofs.ProgramLemmas.{words_row_det}
 use Rattle.syslog_named_forms.proofs.programs.words_end.Goals as goal
 
@@ -12,4 +11,4 @@ returns c = row_reads words_row words_row_det c.args.text
     (c.word.result ∷ c.and_then.result ∷ c.map.result ∷ [])
     (c.word.ensures.reads
     also match_map c.word.result (λ e. e) (λ x h. h.0) c.and_then.ensures
-    also always_on (many (spaced (some_run is_word_char))) c.and_then.result c.map.result c.map.ensures.cases also tt)
+    also always_on (many (spaced later_word)) c.and_then.result c.map.result c.map.ensures.cases also tt)
