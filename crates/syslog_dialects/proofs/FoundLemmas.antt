@@ -21,7 +21,7 @@ use Rattle.syslog_dialects.specs.Dialects.{dated_forms, early_forms, forms_of, l
 use Rattle.syslog_dialects.specs.Found.{AreFound, AreInOrder, IsFoundIn, Part}
 use Rattle.syslog_dialects.specs.Found.{Name, Tells, Version, beside, if_there}
 use Rattle.syslog_dialects.specs.Found.{forwarded_words}
-use Rattle.syslog_dialects.specs.Found.{left_of, left_out, relay, serial}
+use Rattle.syslog_dialects.specs.Found.{first_serial, left_of, left_out, relay, serial}
 use Rattle.syslog_named_forms.specs.NearHeader.{heroku_row, heroku_says, vendor_row, vendor_says}
 use Rattle.syslog_sent.specs.Named.{program}
 use Rattle.std.specs.Prelude.{IsTrue}
@@ -55,7 +55,8 @@ use Rattle.syslog_dialects.specs.PriorityAlone.{program_row}
 use Rattle.syslog_dialects.specs.PriorityAlone.{program_sent}
 use Rattle.syslog_named_forms.specs.Programs.{forwarded_of, forwarded_row, grade, hostless_row, name_in, passed_on}
 use Rattle.syslog_named_forms.specs.Programs.{process_in}
-use Rattle.syslog_named_forms.specs.Programs.{access_row, point_row, serial_row, severity_row, worded_row}
+use Rattle.syslog_named_forms.specs.Programs.{access_row, box_of, box_row, point_row, serial_of, serial_row}
+use Rattle.syslog_named_forms.specs.Programs.{severity_row, worded_row}
 use Rattle.syslog_named_forms.specs.Programs.{number_word, spread_row, untagged_row, words_row}
 use Rattle.syslog_sent.specs.Runs.{is_plain_char, is_unquoted, is_word_char}
 use Rattle.syslog_sent.specs.Sent.{Form, SentValue, loose}
@@ -174,15 +175,30 @@ hostless_found : TailFound hostless_tail
 hostless_found = before_rest (left_of dialect.NoHost None) (take 2 hostless_row) (a_program also a_gap also tt)
 
 -- the serial number and the date in brackets are left out as one piece
-serial_found : TailFound serial_tail
-serial_found t v f =
-    let left = left_of dialect.WatchGuard v.0 in
+number_found : (h : Option Text) → Ending (left_of dialect.WatchGuard h) (Row serial_row)
+    (λ v. texts_of (serial_of v)) (λ v. (serial_of v).msg)
+number_found h t v f =
+    let left = left_of dialect.WatchGuard h in
     let (u, a, b) = rows_split (take 2 serial_row) (drop 2 serial_row) f in
     let (w, c, d) = rows_split serial (drop 7 serial_row) b in
     row_more (take 2 serial_row) (a_host also a_gap also tt) a
     (out_more (Row serial) c (inr (inl (firsts serial (drop 7 serial_row) v.1.1, c.is)))
     (before_rest left (take 3 (drop 7 serial_row)) (a_gap also a_program also blanks also tt) w
     (lasts serial (drop 7 serial_row) v.1.1) d))
+
+box_found : (h : Option Text) → Ending (left_of dialect.WatchGuard h) (Row box_row) (λ v. texts_of (box_of v))
+    (λ v. (box_of v).msg)
+box_found h t v f =
+    let (u, a, b) = rows_split first_serial (drop 5 box_row) f in
+    out_more (Row first_serial) a (inr (inr (inl (firsts first_serial (drop 5 box_row) v, a.is))))
+    (before_rest (left_of dialect.WatchGuard h) (take 3 (drop 5 box_row)) (a_gap also a_program also blanks also tt) u
+    (lasts first_serial (drop 5 box_row) v) b)
+
+serial_found : TailFound serial_tail
+serial_found t (inl n) f = mapped_found (left_of dialect.WatchGuard n.hostname) (Row serial_row) NamedTexts serial_of
+    texts_of (λ x. x.msg) (number_found n.hostname) t n (front_of f.piece f.whole f.is)
+serial_found t (inr n) f = mapped_found (left_of dialect.WatchGuard n.hostname) (Row box_row) NamedTexts box_of
+    texts_of (λ x. x.msg) (box_found n.hostname) t n (front_of f.piece f.whole f.is.1)
 
 -- the process comes before the program
 abbrev columns_of : NamedTexts → List Part

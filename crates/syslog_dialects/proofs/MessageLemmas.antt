@@ -57,7 +57,7 @@ use Rattle.syslog_named_forms.specs.Pairs.{paired, pairs_row}
 use Rattle.syslog_dialects.specs.PriorityAlone.{IsAlone, alone_row, point_row, point_sent, program_row, program_sent}
 use Rattle.syslog_dated_forms.specs.ProCurve.{procurve_row, procurve_sent}
 use Rattle.syslog_named_forms.specs.Programs.{access_row, forwarded_of, forwarded_row, hostless_row}
-use Rattle.syslog_named_forms.specs.Programs.{number_word, passed_on, serial_row}
+use Rattle.syslog_named_forms.specs.Programs.{box_of, box_row, number_word, passed_on, serial_of, serial_row}
 use Rattle.syslog_named_forms.specs.Programs.{severity_row, spread_row, worded_row}
 use Rattle.syslog_sent.specs.Sent.{Form, IsSent, SentValue, loose}
 use Rattle.syslog_dialects.specs.SentReading.{IsSentIn}
@@ -320,6 +320,12 @@ forwarded_ends t (inl n) ends f = passed_ends t n (front_of f.piece f.whole f.is
 forwarded_ends t (inr w) ends f =
     last_ends (take 2 (after_row passed_on)) passed_on (λ n. n.msg) passed_ends t w (front_of f.piece f.whole f.is.1)
 
+serial_ends : TailEnds serial_tail
+serial_ends t (inl n) ends f = mapped_ends (Row serial_row) NamedTexts serial_of (λ x. x.msg)
+    (rest_ends (take 9 serial_row)) t n (front_of f.piece f.whole f.is)
+serial_ends t (inr n) ends f = mapped_ends (Row box_row) NamedTexts box_of (λ x. x.msg)
+    (rest_ends (take 7 box_row)) t n (front_of f.piece f.whole f.is.1)
+
 programs_end : AllEnd (tail_forms program_tails)
 programs_end =
     tail_of forwarded_tail forwarded_ends
@@ -327,7 +333,7 @@ programs_end =
     also tail_of worded_tail (λ t v ends f. rest_ends (take 5 worded_row) t v f)
     also tail_of access_tail (λ t v ends f. rest_ends (take 4 access_row) t v f)
     also tail_of hostless_tail (λ t v ends f. spaced_rest_ends (take 1 hostless_row) t v f)
-    also tail_of serial_tail (λ t v ends f. rest_ends (take 9 serial_row) t v f)
+    also tail_of serial_tail serial_ends
     also tail_of unified_tail (λ t v ends f. rest_ends (take 7 log_row) t v f)
     also tail_of untagged_tail (λ t v ends f. some_run_ends (beginning number_word) (λ x. x) (λ p x is. is.1) (host ∷ [])
     t v f) also tt

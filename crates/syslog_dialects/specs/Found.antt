@@ -21,7 +21,7 @@ use Rattle.syslog_dated_forms.specs.NetScaler.{slashed_date}
 use Rattle.syslog_named_forms.specs.Devices.{point_word}
 use Rattle.syslog_named_forms.specs.Graded.{event_end_row, grade_row, level_row, source_row}
 use Rattle.syslog_named_forms.specs.Monotonic.{seconds_row}
-use Rattle.syslog_named_forms.specs.Programs.{aix_row}
+use Rattle.syslog_named_forms.specs.Programs.{IsSerial, aix_row}
 use Rattle.syslog_named_forms.specs.Unified.{close_row, kind, thread_row}
 use Rattle.syslog_named_forms.specs.Untagged.{some_digits}
 use Rattle.syslog_named_forms.specs.Pairs.{IsShown, noted, pair}
@@ -79,9 +79,12 @@ forwarded_words = exactly (codes "Message forwarded from ")
 abbrev pub relay : Class
 relay = host followed_by Row (some_run is_blank ∷ forwarded_words ∷ [])
 
--- the number of a Firebox, and its date in brackets
+-- the number of a Firebox, after a host or without one, and its date in brackets
 abbrev pub serial : List Class
 serial = some_run is_plain_char ∷ exactly (32 ∷ []) ∷ exactly (40 ∷ []) ∷ iso_date ∷ exactly (41 ∷ []) ∷ []
+
+abbrev pub first_serial : List Class
+first_serial = such_that host IsSerial ∷ some_run is_blank ∷ exactly (40 ∷ []) ∷ iso_date ∷ exactly (41 ∷ []) ∷ []
 
 -- counters and sequence numbers, the task, the mark of a clock, a collector's date, and a unit
 abbrev pub cisco_left_out : List Class
@@ -108,7 +111,7 @@ left_out Esxi = Row mark_row ∷ []
 left_out ProCurve = some_run is_ascii_digit ∷ []
 left_out UnixSeconds = exactly (49 ∷ []) ∷ []
 left_out Forwarded = forwarded_words ∷ []
-left_out WatchGuard = Row serial ∷ []
+left_out WatchGuard = Row serial ∷ Row first_serial ∷ []
 left_out Monotonic = Row seconds_row ∷ []
 left_out UnifiedLog = Row thread_row ∷ some_digits ∷ kind ∷ Row close_row ∷ []
 left_out UniFi = point_word ∷ []

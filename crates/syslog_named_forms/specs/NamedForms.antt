@@ -3,7 +3,7 @@ use Rattle.std.specs.Prelude.{◌≡◌, List, [], ◌∷◌, ◌++◌, Some, No
 use Rattle.syslog_text.specs.Pieces.Class.{Class, Values, Row, run, some_run, mapped}
 use Rattle.syslog_text.specs.Text.{is_blank}
 use Rattle.syslog_sent.specs.Date.{any_date}
-use Rattle.syslog_sent.specs.Named.{NamedTexts, beginning, hosted}
+use Rattle.syslog_sent.specs.Named.{◌otherwise◌, NamedTexts, beginning, hosted}
 use Rattle.syslog_named_forms.specs.Devices as devices
 use Rattle.syslog_named_forms.specs.Graded as graded
 use Rattle.syslog_named_forms.specs.Monotonic.{monotonic_form}
@@ -76,7 +76,11 @@ abbrev pub hostless_tail : Tail
 hostless_tail = record { dialect = dialect.NoHost; after = Row programs.hostless_row; names = programs.hostless_of }
 
 abbrev pub serial_tail : Tail
-serial_tail = record { dialect = dialect.WatchGuard; after = Row programs.serial_row; names = programs.serial_of }
+serial_tail = record {
+  dialect = dialect.WatchGuard;
+  after = programs.serial otherwise programs.box;
+  names = programs.one_of_names;
+}
 
 abbrev pub access_tail : Tail
 access_tail = record { dialect = dialect.UniFi; after = Row programs.access_row; names = programs.access_of }

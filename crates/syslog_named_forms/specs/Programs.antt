@@ -1,6 +1,7 @@
 -- What a program's line says, in the forms that are recognised by what is between the date and the program's name, and
 -- what a message says that begins with a number. 32 is a space, 40 `(`, 41 `)`, 46 `.`, 118 `v`.
 use Rattle.std.specs.Prelude.{◌⊎◌, ◌&&◌, Bool, IsTrue, List, [], ◌∷◌, Option, Some, None, codes, false, nat_eq, not}
+use Rattle.std.specs.Prelude.{MatchOption, true}
 use Rattle.std.specs.Char.{is_ascii_digit, is_not_whitespace}
 use Rattle.syslog_text.specs.Pieces.Class.{Text, Class, Values, Row, run, some_run, exactly, optional, rest, mapped}
 use Rattle.syslog_text.specs.Pieces.Class.{spaced, texted}
@@ -49,7 +50,7 @@ abbrev pub severity_first : Class
 severity_first = mapped (Row severity_row) NamedTexts severity_of
 
 -- ---- the serial number and the time before the program: `fb1 80DA02F9E3C1B (2026-03-02T05:33:04) https-proxy[2345]:
--- text`
+-- text`, or without a host
 
 -- WatchGuard's Fireboxes ("Configure Syslog Server Settings": the serial number and the time stamp are sent)
 abbrev pub serial_row : List Class
@@ -59,8 +60,33 @@ serial_row = host ∷ some_run is_blank ∷ some_run is_plain_char ∷ exactly (
 abbrev pub serial_of : Values serial_row → NamedTexts
 serial_of (h, (_, (_, (_, (_, (_, (_, (_, (p, (_, (m, _))))))))))) = tagged h p m
 
+abbrev pub serial : Class
+serial = mapped (Row serial_row) NamedTexts serial_of
+
+-- the serial number, where it is the first word after the date
+abbrev pub is_serial : Text → Bool
+is_serial [] = true
+is_serial (c ∷ cs) = is_plain_char c && is_serial cs
+
+abbrev pub IsSerial : Option Text → Type 0
+IsSerial word = MatchOption word ⊥ (λ t. IsTrue (is_serial t))
+
+abbrev pub box_row : List Class
+box_row = such_that host IsSerial ∷ some_run is_blank ∷ exactly (40 ∷ []) ∷ iso_date ∷ exactly (41 ∷ [])
+    ∷ some_run is_blank ∷ program ∷ run is_blank ∷ rest ∷ []
+
+abbrev pub box_of : Values box_row → NamedTexts
+box_of (_, (_, (_, (_, (_, (_, (p, (_, (m, _))))))))) = tagged None p m
+
+abbrev pub box : Class
+box = mapped (Row box_row) NamedTexts box_of
+
+abbrev pub one_of_names : NamedTexts ⊎ NamedTexts → NamedTexts
+one_of_names (inl n) = n
+one_of_names (inr n) = n
+
 abbrev pub after_serial : Class
-after_serial = mapped (Row serial_row) NamedTexts serial_of
+after_serial = mapped (serial otherwise box) NamedTexts one_of_names
 
 -- ---- model, address and version before the program: `U7PG2,788a2056a1b2,v4.0.80.10875: hostapd: text`
 

@@ -1,6 +1,6 @@
 //! Lines of programs that are recognised by what is between the date and the program's name. A message that begins with
 //! a number after the host has no program.
-ghost use Rattle.std.specs.Prelude.{◌≡◌, ◌∷◌, [], IfSome, IsUtf8, List, chars, codes};
+ghost use Rattle.std.specs.Prelude.{◌≡◌, ◌∷◌, [], IfSome, IsUtf8, List, MatchBool, chars, codes};
 ghost use Rattle.std.specs.Option.{option_map};
 ghost use Rattle.syslog_text.specs.Pieces.Class.{Front, Row, Text, exactly, optional, some_run, spaced, texted};
 ghost use Rattle.syslog_text.specs.Pieces.Lists.{many};
@@ -102,14 +102,12 @@ pub(crate) fn severity_first<'a>(
     Some(tagged(hostname, program, blanks(rest)))
 }
 
-/// Reads a line with the serial number and the time of a Firebox before the program. `after_host` is what `past_host`
-/// returned for the line.
+// Reads a line from the serial number of a Firebox on, which follows this host and blanks.
 #[inline(always)]
-pub(crate) fn after_serial<'a>(after_host: Option<(Option<&'a str>, &'a str)>) -> Option<Named<'a>>
-    ensures { (text : Text) → Reads (Row host_row) (λ h. (seen h, (tt, tt))) text after_host.entry
-        → Names spec.after_serial named_value text result }
+fn with_host<'a>(hostname: Option<&'a str>, before_serial: &'a str) -> Option<Named<'a>>
+    ensures { (text : Text) → Front (Row host_row) text (chars before_serial.entry.now) (seen hostname.entry, (tt, tt))
+        → Names spec.serial named_value text result }
 {
-    let (hostname, before_serial) = after_host?;
     let serial_end = topic_word(before_serial)?;
     let before_bracket = literal(serial_end, ' ')?;
     let before_date = literal(before_bracket, '(')?;
@@ -118,6 +116,62 @@ pub(crate) fn after_serial<'a>(after_host: Option<(Option<&'a str>, &'a str)>) -
     let before_program = some_blanks(after_bracket)?;
     let (program, rest) = read_program(before_program)?;
     Some(tagged(hostname, program, blanks(rest)))
+}
+
+// Whether the text has only characters of a serial number.
+fn is_serial(text: &str) -> bool
+    ensures { result ≡ spec.is_serial (chars text.now) }
+{
+    let mut rest = text;
+    'characters: while let Some((c, more)) = first(rest) {
+        if !Run::Plain.has(c) {
+            return false;
+        }
+        rest = more;
+    }
+    true
+}
+
+// Whether the word after the date is a serial number.
+fn is_serial_word(word: Option<&str>) -> bool
+    ensures { MatchBool result (spec.IsSerial (seen word.entry)) (spec.IsSerial (seen word.entry) → ⊥) }
+{
+    match word {
+        Some(text) => is_serial(text),
+        None => false,
+    }
+}
+
+// Reads a line from the date of a Firebox on, whose serial number is this word. It is a call of its own, since few
+// lines have a parenthesis there.
+#[cold]
+#[inline(never)]
+fn without_host<'a>(word: Option<&'a str>, before_date: &'a str) -> Option<Named<'a>>
+    ensures { (text rest : Text) → Front (Row host_row) text rest (seen word.entry, (tt, tt))
+        → Front (exactly (40 ∷ [])) rest (chars before_date.entry.now) tt → Names spec.box named_value text result }
+{
+    if !is_serial_word(word) {
+        return None;
+    }
+    let (_, date_end) = iso_date(before_date)?;
+    let after_bracket = literal(date_end, ')')?;
+    let before_program = some_blanks(after_bracket)?;
+    let (program, rest) = read_program(before_program)?;
+    Some(tagged(None, program, blanks(rest)))
+}
+
+/// Reads a line with the serial number and the time of a Firebox before the program, after a host or without one.
+/// `after_host` is what `past_host` returned for the line.
+#[inline(always)]
+pub(crate) fn after_serial<'a>(after_host: Option<(Option<&'a str>, &'a str)>) -> Option<Named<'a>>
+    ensures { (text : Text) → Reads (Row host_row) (λ h. (seen h, (tt, tt))) text after_host.entry
+        → Names spec.after_serial named_value text result }
+{
+    let (hostname, rest) = after_host?;
+    match literal(rest, '(') {
+        Some(before_date) => without_host(hostname, before_date),
+        None => with_host(hostname, rest),
+    }
 }
 
 // Returns the text after a word.

@@ -2,11 +2,11 @@ use Rattle.std.proofs.Common.{[]}
 use Rattle.syslog_sent.proofs.NamedLemmas.{hosted_det}
 use Rattle.syslog_text.proofs.PieceLemmas.Class.{row_det}
 use Rattle.syslog_named_forms.proofs.NamedFormLemmas.{◌before◌, first_tail, found_after, no_tail}
-use Rattle.syslog_named_forms.proofs.ProgramLemmas.{access_det, hostless_det, log_det, passed_on_det, serial_det}
+use Rattle.syslog_named_forms.proofs.ProgramLemmas.{access_det, either_box_det, hostless_det, log_det, passed_on_det}
 use Rattle.syslog_named_forms.proofs.ProgramLemmas.{severity_det, untagged_det}
 use Rattle.syslog_named_forms.proofs.ProgramLemmas.{worded_det}
 use Rattle.syslog_named_forms.specs.NamedForms.{program_tails}
-use Rattle.syslog_named_forms.specs.Programs.{access_row, hostless_row, passed_on, serial_row, severity_row}
+use Rattle.syslog_named_forms.specs.Programs.{access_row, hostless_row, passed_on, severity_row}
 use Rattle.syslog_named_forms.specs.Programs.{untagged_row, worded_row}
 use Rattle.syslog_named_forms.specs.Unified.{log_row}
 use Rattle.syslog_named_forms.proofs.named_forms.of_program.Goals as goal
@@ -43,7 +43,7 @@ returns-in-Some-after_serial c after = found_after program_tails []
     (c.in_default.ensures after before c.in_default-severity_first.ensures _ after before
     c.in_default-worded.ensures _ after before c.in_default-of_access_point.ensures before
     c.in_default-hostless.ensures before
-    first_tail (row_det serial_row serial_det) c.in-Some-after_serial.named (c.in-Some-after_serial.ensures _ after))
+    first_tail either_box_det c.in-Some-after_serial.named (c.in-Some-after_serial.ensures _ after))
 
 pub returns-in-Some-unified : goal.returns-in-Some-unified
 returns-in-Some-unified c after = found_after program_tails []

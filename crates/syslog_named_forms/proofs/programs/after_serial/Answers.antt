@@ -1,63 +1,30 @@
-use Rattle.std.proofs.Common.{List, [], ◌∷◌, inl, refl}
-use Rattle.syslog_text.specs.Pieces.Class.{Class, exactly, rest, run, some_run}
-use Rattle.syslog_text.specs.Text.{is_blank}
-use Rattle.syslog_text.proofs.PieceLemmas.Class.{◌past◌, ◌then◌, rest_front, row_of}
-use Rattle.syslog_named_forms.proofs.ProgramLemmas.{serial_det}
-use Rattle.syslog_named_forms.proofs.HostLemmas.{no_host, not_past_host, past_host}
-use Rattle.syslog_sent.specs.{Date.iso_date, Named.program}
-use Rattle.syslog_named_forms.specs.Programs.{serial_of}
-use Rattle.syslog_sent.specs.Runs.{is_plain_char}
+use Rattle.syslog_text.specs.Pieces.Class.{Row}
+use Rattle.syslog_text.proofs.PieceLemmas.Class.{mapped_front, match_map, no_mapped, rows_none_here}
+use Rattle.syslog_sent.proofs.NamedLemmas.{first_front, no_otherwise, second_front}
+use Rattle.syslog_sent.specs.Named.{◌otherwise◌, NamedTexts}
+use Rattle.syslog_named_forms.proofs.ProgramLemmas.{after_host, no_box_alone, no_box_open, no_serial_open}
+use Rattle.syslog_named_forms.specs.Programs.{box, box_of, box_row, one_of_names, serial, serial_of, serial_row}
+use Rattle.syslog_named_forms.specs.Untagged.{host_row}
 use Rattle.syslog_named_forms.proofs.programs.after_serial.Goals as goal
 
--- what follows the host
-abbrev more : List Class
-more = some_run is_plain_char ∷ exactly (32 ∷ []) ∷ exactly (40 ∷ []) ∷ iso_date ∷ exactly (41 ∷ [])
-    ∷ some_run is_blank ∷ program ∷ run is_blank ∷ rest ∷ []
-
 pub returns-in_err-hostname : goal.returns-in_err-hostname
-returns-in_err-hostname c text after = rw c.from_residual.ensures
-    (no_host more serial_det.1.1 serial_of after c.in_err-hostname.was)
+returns-in_err-hostname c text after = let none = rw c.in_err-hostname.was at after in
+    rw c.from_residual.ensures (no_mapped (serial otherwise box) NamedTexts one_of_names (no_otherwise
+    (no_mapped (Row serial_row) NamedTexts serial_of (rows_none_here host_row after_host none))
+    (no_mapped (Row box_row) NamedTexts box_of (no_box_alone none))))
 
-pub returns-in_err-serial_end : goal.returns-in_err-serial_end
-returns-in_err-serial_end c text after = rw c.from_residual-in_err-serial_end.ensures
-    (not_past_host more serial_det.1.1 serial_of after c.in_ok-hostname.was (inl c.in_err-serial_end.ensures))
+pub returns-in-Some : goal.returns-in-Some
+returns-in-Some c text after = let host = rw c.in_ok-hostname.was at after in
+    let no_serial = no_mapped (Row serial_row) NamedTexts serial_of (no_serial_open host c.in-Some.ensures) in
+    match_map c.without_host.result
+    (λ n. no_mapped (serial otherwise box) NamedTexts one_of_names (no_otherwise no_serial n))
+    (λ x f. mapped_front (serial otherwise box) NamedTexts one_of_names (second_front no_serial f))
+    (c.without_host.ensures text _ host c.in-Some.ensures)
 
-pub returns-in_err-before_bracket : goal.returns-in_err-before_bracket
-returns-in_err-before_bracket c text after = rw c.from_residual-in_err-before_bracket.ensures
-    (not_past_host more serial_det.1.1 serial_of after c.in_ok-hostname.was (c.in_ok-serial_end.ensures.1 past inl
-    c.in_err-before_bracket.ensures))
-
-pub returns-in_err-before_date : goal.returns-in_err-before_date
-returns-in_err-before_date c text after = rw c.from_residual-in_err-before_date.ensures
-    (not_past_host more serial_det.1.1 serial_of after c.in_ok-hostname.was (c.in_ok-serial_end.ensures.1 past
-    c.in_ok-before_bracket.ensures past inl c.in_err-before_date.ensures))
-
-pub returns-in_err-date_end : goal.returns-in_err-date_end
-returns-in_err-date_end c text after = rw c.from_residual-in_err-date_end.ensures
-    (not_past_host more serial_det.1.1 serial_of after c.in_ok-hostname.was (c.in_ok-serial_end.ensures.1 past
-    c.in_ok-before_bracket.ensures past c.in_ok-before_date.ensures past inl c.in_err-date_end.ensures))
-
-pub returns-in_err-after_bracket : goal.returns-in_err-after_bracket
-returns-in_err-after_bracket c text after = rw c.from_residual-in_err-after_bracket.ensures
-    (not_past_host more serial_det.1.1 serial_of after c.in_ok-hostname.was (c.in_ok-serial_end.ensures.1 past
-    c.in_ok-before_bracket.ensures past c.in_ok-before_date.ensures past c.in_ok-date_end.ensures past inl
-    c.in_err-after_bracket.ensures))
-
-pub returns-in_err-before_program : goal.returns-in_err-before_program
-returns-in_err-before_program c text after = rw c.from_residual-in_err-before_program.ensures
-    (not_past_host more serial_det.1.1 serial_of after c.in_ok-hostname.was (c.in_ok-serial_end.ensures.1 past
-    c.in_ok-before_bracket.ensures past c.in_ok-before_date.ensures past c.in_ok-date_end.ensures past
-    c.in_ok-after_bracket.ensures past inl c.in_err-before_program.ensures))
-
-pub returns-in_err-program : goal.returns-in_err-program
-returns-in_err-program c text after = rw c.from_residual-in_err-program.ensures
-    (not_past_host more serial_det.1.1 serial_of after c.in_ok-hostname.was (c.in_ok-serial_end.ensures.1 past
-    c.in_ok-before_bracket.ensures past c.in_ok-before_date.ensures past c.in_ok-date_end.ensures past
-    c.in_ok-after_bracket.ensures past c.in_ok-before_program.ensures past inl c.in_err-program.ensures))
-
-pub returns : goal.returns
-returns c text after = rw c.tagged.ensures
-    (past_host more serial_det.1.1 serial_of after c.in_ok-hostname.was (row_of more (c.in_ok-serial_end.ensures.1 then
-    c.in_ok-before_bracket.ensures then c.in_ok-before_date.ensures then c.in_ok-date_end.ensures then
-    c.in_ok-after_bracket.ensures then c.in_ok-before_program.ensures then c.in_ok-program.ensures then c.blanks.ensures
-    then rest_front _ then refl)))
+pub returns-in-None : goal.returns-in-None
+returns-in-None c text after = let host = rw c.in_ok-hostname.was at after in
+    let no_box = no_mapped (Row box_row) NamedTexts box_of (no_box_open host c.in-None.ensures) in
+    match_map c.with_host.result
+    (λ n. no_mapped (serial otherwise box) NamedTexts one_of_names (no_otherwise n no_box))
+    (λ x f. mapped_front (serial otherwise box) NamedTexts one_of_names (first_front f))
+    (c.with_host.ensures text host)
