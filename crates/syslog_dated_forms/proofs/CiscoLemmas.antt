@@ -14,7 +14,7 @@ use Rattle.syslog_text.proofs.PieceLemmas.Rules.{exactly_apart, or_det, such_det
 use Rattle.syslog_text.proofs.PieceLemmas.Rules.{such_front}
 use Rattle.syslog_pieces.proofs.TimestampLemmas.Rfc3339.{year_det}
 use Rattle.syslog_dated_forms.specs.Cisco.{begins_host, IsMnemonic, origin, mnemonic, counter_row, label_row, label}
-use Rattle.syslog_dated_forms.specs.Cisco.{begins_mnemonic, unit, unit_row}
+use Rattle.syslog_dated_forms.specs.Cisco.{begins_mnemonic, context_row, dell_row, unit, unit_row}
 use Rattle.syslog_dated_forms.specs.Cisco.{task_row, mark, start_row, labelled, start, front_year_row, front_year}
 use Rattle.syslog_dated_forms.specs.Cisco.{date_row}
 use Rattle.syslog_dated_forms.specs.Cisco.{place_row, place, message_row, cisco_row, IsAsa, IsNxOs}
@@ -28,6 +28,7 @@ use Rattle.syslog_sent.specs.Zone.{bare_word}
 use Rattle.syslog_sent.proofs.DateLemmas.{any_date_det}
 use Rattle.syslog_sent.proofs.DialectLemmas.{here, later}
 use Rattle.syslog_sent.proofs.FormLemmas.{says_once}
+use Rattle.syslog_sent.proofs.NamedLemmas.{otherwise_det}
 use Rattle.syslog_sent.specs.Date.{any_date}
 use Rattle.syslog_sent.specs.declared.sent.SentDate.{SentDate}
 use Rattle.syslog_sent.proofs.ZoneLemmas.{bare_word_det}
@@ -80,9 +81,16 @@ pub date_row_det : AllDeterministic date_row
 date_row_det = optional_det front_year (mapped_det (Row front_year_row) ℕ _ (row_det front_year_row front_year_row_det))
     also any_date_det also tt
 
+pub dell_row_det : AllDeterministic dell_row
+dell_row_det = some_run_det is_plain_char also colon_det also some_run_det is_plain_char also gap_det also tt
+
+pub context_row_det : AllDeterministic context_row
+context_row_det = exactly_det _ also exactly_det _ also some_run_det is_plain_char also exactly_det _ also exactly_det _
+    also exactly_det _ also gap_det also tt
+
 pub unit_row_det : AllDeterministic unit_row
-unit_row_det = exactly_det _ also some_run_det is_plain_char also colon_det also some_run_det is_plain_char also gap_det
-    also tt
+unit_row_det = exactly_det _
+    also otherwise_det (row_det dell_row dell_row_det) (row_det context_row context_row_det) also tt
 
 unit_det : IsDeterministic unit
 unit_det p q p' q' v v' e h h' = row_det unit_row unit_row_det p q p' q' v v' e h.0 h'.0

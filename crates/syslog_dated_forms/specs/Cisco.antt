@@ -1,9 +1,9 @@
--- Lines of Cisco's systems. 35 is `#`, 37 `%`, 42 `*`, 46 `.`.
+-- Lines of Cisco's systems. 32 is a space, 35 `#`, 36 `$`, 37 `%`, 42 `*`, 46 `.`.
 --
 -- Each ends in `%FACILITY-SEVERITY-MNEMONIC: text` ("System Message Format" in the guides of IOS, NX-OS and ASA).
 -- Before it come, if the system is so configured: a counter, a sequence number, the host, the task (WLC), a mark, the
--- date, the host (ASA, FTD), and a unit (Dell's OS9, which writes as IOS does). The mark is `*` for a clock that was
--- never set, and `.` for one that has lost its server. NX-OS has the year before the month.
+-- date, the host (ASA, FTD), and a unit (Dell's OS9, which writes as IOS does) or a virtual device (NX-OS). The mark
+-- is `*` for a clock that was never set, and `.` for one that has lost its server. NX-OS has the year before the month.
 use Rattle.std.specs.Prelude.{◌≡◌, ◌⊎◌, ◌||◌, ◌&&◌, ℕ, nat_eq, Bool, true, List, [], ◌∷◌, Option, Some, None}
 use Rattle.std.specs.Prelude.{codes, not}
 use Rattle.std.specs.Option.{is_some}
@@ -14,7 +14,7 @@ use Rattle.syslog_text.specs.Pieces.Rules.{◌or◌, such_that}
 use Rattle.syslog_text.specs.Text.{is_blank, colon}
 use Rattle.syslog_pieces.specs.Timestamp.Rfc3339.{year}
 use Rattle.syslog_sent.specs.Date.{any_date, in_year}
-use Rattle.syslog_sent.specs.Named.{BeginsWith, is_letter}
+use Rattle.syslog_sent.specs.Named.{◌otherwise◌, BeginsWith, is_letter}
 use Rattle.syslog_sent.specs.Runs.{is_plain_char}
 use Rattle.syslog_sent.specs.Sent.{Form, SentValue, loose}
 use Rattle.syslog_sent.specs.Zone.{bare_word}
@@ -93,10 +93,20 @@ date_row = optional front_year ∷ any_date ∷ []
 
 -- ---- after the date
 
--- a unit of Dell's OS9, where a mnemonic may follow it: `%STKUNIT0-M:CP `
-abbrev pub unit_row : List Class
-unit_row = exactly (37 ∷ []) ∷ some_run is_plain_char ∷ exactly colon ∷ some_run is_plain_char ∷ some_run is_blank ∷ []
+-- a unit of Dell's OS9: `%STKUNIT0-M:CP `
+abbrev pub dell_row : List Class
+dell_row = some_run is_plain_char ∷ exactly colon ∷ some_run is_plain_char ∷ some_run is_blank ∷ []
 
+-- the virtual device context of NX-OS: `%$ VDC-1 %$ `
+abbrev pub context_row : List Class
+context_row =
+    exactly (36 ∷ []) ∷ exactly (32 ∷ []) ∷ some_run is_plain_char ∷ exactly (32 ∷ []) ∷ exactly (37 ∷ [])
+    ∷ exactly (36 ∷ []) ∷ some_run is_blank ∷ []
+
+abbrev pub unit_row : List Class
+unit_row = exactly (37 ∷ []) ∷ (Row dell_row otherwise Row context_row) ∷ []
+
+-- either, where a mnemonic may follow it
 abbrev pub unit : Class
 unit = record {
   Value = Values unit_row;

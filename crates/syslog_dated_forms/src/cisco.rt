@@ -1,13 +1,14 @@
 //! Lines of Cisco's systems: IOS, IOS-XE, NX-OS, ASA, FTD and WLC. Dell's OS9 writes as IOS does, and names a unit.
 //!
 //! **Rule.** The app name is `%FACILITY-SEVERITY-MNEMONIC`, and the message is what follows its colon. Counters,
-//! sequence numbers, tasks and the mark of a clock that is not right are left out. The host is the name before the
-//! date, or otherwise the one after it; a line that has neither has no host. (Cisco, "System Message Format": IOS
-//! System Messages Guide; NX-OS System Messages Reference; ASA Syslog Messages.)
+//! sequence numbers, tasks, the virtual device of NX-OS and the mark of a clock that is not right are left out. The
+//! host is the name before the date, or otherwise the one after it; a line that has neither has no host. (Cisco,
+//! "System Message Format": IOS System Messages Guide; NX-OS System Messages Reference; ASA Syslog Messages.)
 //!
 //! `<189>29: *Mar  1 18:48:50.483: %SYS-5-CONFIG_I: text`, `<187>4211: core-sw1: Mar  1 18:48:50 CET: %LINK-3-UPDOWN:
 //! text`, `<189>: 2026 Mar  1 18:48:50 CET: %ETHPORT-5-IF_DOWN: text`, `<166>Mar 01 2026 18:48:50 asa1 : %ASA-6-302013:
-//! text`, `<189>Mar  2 06:33:04 s4810 %STKUNIT0-M:CP %SEC-5-LOGIN_SUCCESS: text`.
+//! text`, `<189>Mar  2 06:33:04 s4810 %STKUNIT0-M:CP %SEC-5-LOGIN_SUCCESS: text`, `<189>: 2026 Mar  1 18:48:50 UTC: %$
+//! VDC-1 %$ %ETHPORT-5-IF_UP: text`.
 ghost use Rattle.std.specs.Prelude.{◌≡◌, ◌++◌, ◌∷◌, [], chars, IsTrue, MatchBool, MatchOption, Option, Some, ℕ};
 ghost use Rattle.std.specs.Char.{is_ascii_digit};
 ghost use Rattle.syslog_text.specs.Pieces.Class.{Front, NoFront, Row, Text, exactly, optional, run, some_run};
@@ -17,7 +18,7 @@ ghost use Rattle.syslog_sent.specs.Date.{any_date as date_class};
 ghost use Rattle.syslog_dated_forms.specs.CiscoViews.{cisco_values, message_values};
 ghost use Rattle.syslog_sent.specs.Forms.{Finds};
 ghost use Rattle.syslog_sent.specs.Led.{IsLed};
-ghost use Rattle.syslog_sent.specs.Named.{BeginsWith};
+ghost use Rattle.syslog_sent.specs.Named.{◌otherwise◌, BeginsWith};
 ghost use Rattle.syslog_sent.specs.Runs.{are_ascii, is_plain_char};
 ghost use Rattle.syslog_sent.specs.Sent.{Sends, sent_value};
 ghost use Rattle.syslog_sent.specs.Zone.{bare_word as any_word};
@@ -288,18 +289,56 @@ fn plain(text: &str) -> Option<&str>
     if run.is_empty() { None } else { Some(rest) }
 }
 
-// Returns the text after a unit and blanks.
-fn unit_end(text: &str) -> Option<&str>
-    ensures { Recognises (Row spec.unit_row) (chars text.now) result }
+fn dollar(text: &str) -> Option<&str>
+    ensures { Recognises (exactly (36 ∷ [])) (chars text.now) result }
 {
-    percent(text)
+    literal(text, '$')
+}
+
+fn space(text: &str) -> Option<&str>
+    ensures { Recognises (exactly (32 ∷ [])) (chars text.now) result }
+{
+    literal(text, ' ')
+}
+
+// Returns the text after Dell's unit and blanks.
+fn dell_end(text: &str) -> Option<&str>
+    ensures { Recognises (Row spec.dell_row) (chars text.now) result }
+{
+    plain(text).and_then(colon).and_then(plain).and_then(gap)
+}
+
+// Returns the text after a virtual device context and blanks.
+fn context_end(text: &str) -> Option<&str>
+    ensures { Recognises (Row spec.context_row) (chars text.now) result }
+{
+    dollar(text)
+        .and_then(space)
         .and_then(plain)
-        .and_then(colon)
-        .and_then(plain)
+        .and_then(space)
+        .and_then(percent)
+        .and_then(dollar)
         .and_then(gap)
 }
 
-// Returns the text after a unit, where a mnemonic may follow it.
+// Returns the text after a unit or a virtual device context, but for its `%`.
+fn unit_name(text: &str) -> Option<&str>
+    ensures { Recognises (Row spec.dell_row otherwise Row spec.context_row) (chars text.now) result }
+{
+    if let Some(rest) = dell_end(text) {
+        return Some(rest);
+    }
+    context_end(text)
+}
+
+// Returns the text after either.
+fn unit_end(text: &str) -> Option<&str>
+    ensures { Recognises (Row spec.unit_row) (chars text.now) result }
+{
+    percent(text).and_then(unit_name)
+}
+
+// Returns the text after either, where a mnemonic may follow it.
 fn unit(text: &str) -> Option<&str>
     ensures { Recognises spec.unit (chars text.now) result }
 {

@@ -86,7 +86,7 @@ serial = some_run is_plain_char ∷ exactly (32 ∷ []) ∷ exactly (40 ∷ []) 
 abbrev pub first_serial : List Class
 first_serial = such_that host IsSerial ∷ some_run is_blank ∷ exactly (40 ∷ []) ∷ iso_date ∷ exactly (41 ∷ []) ∷ []
 
--- counters and sequence numbers, the task, the mark of a clock, a collector's date, and a unit
+-- counters and sequence numbers, the task, the mark of a clock, a collector's date, and a unit or a virtual device
 abbrev pub cisco_left_out : List Class
 cisco_left_out = Row counter_row ∷ Row task_row ∷ mark ∷ filed_date ∷ unit ∷ []
 

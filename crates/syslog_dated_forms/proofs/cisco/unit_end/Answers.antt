@@ -5,6 +5,5 @@ use Rattle.syslog_dated_forms.proofs.cisco.unit_end.Goals as goal
 
 pub returns : goal.returns
 returns c = row_reads unit_row unit_row_det c.args.text
-    (c.percent.result ∷ c.and_then.result ∷ c.and_then-2.result ∷ c.and_then-3.result ∷ c.and_then-4.result ∷ [])
-    (c.percent.ensures also c.and_then.ensures also c.and_then-2.ensures also c.and_then-3.ensures
-    also c.and_then-4.ensures also tt)
+    (c.percent.result ∷ c.and_then.result ∷ [])
+    (c.percent.ensures also c.and_then.ensures also tt)
