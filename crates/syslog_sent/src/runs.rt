@@ -61,19 +61,34 @@ fn is_in(b: u8, run: Run) -> bool
     CLASSES[b as usize] & (1 << run as u8) != 0
 }
 
-// How many bytes at the front are characters of the class.
+// How many bytes at the front are characters of the class. It looks at four in each turn of its loop, since half of what
+// a byte takes is the loop itself.
 #[inline(always)]
 fn run_len(bytes: &[u8], run: Run) -> usize
     ensures within { result ≤ length bytes.now }
     ensures pass { (k : ℕ) → k < result → is_of run (slice_index bytes.now k) ≡ true }
     ensures stop { result < length bytes.now → is_of run (slice_index bytes.now result) ≡ false }
 {
-    for (i, byte) in bytes.iter().enumerate() {
-        if !is_in(*byte, run) {
-            return i;
+    let mut end = 0;
+    'fours: while bytes.len() - end >= 4 {
+        if !is_in(bytes[end], run) {
+            return end;
         }
+        if !is_in(bytes[end + 1], run) {
+            return end + 1;
+        }
+        if !is_in(bytes[end + 2], run) {
+            return end + 2;
+        }
+        if !is_in(bytes[end + 3], run) {
+            return end + 3;
+        }
+        end += 4;
     }
-    bytes.len()
+    'tail: while end < bytes.len() && is_in(bytes[end], run) {
+        end += 1;
+    }
+    end
 }
 
 // The place after the maximal run at the front that has no quote, in bytes.
