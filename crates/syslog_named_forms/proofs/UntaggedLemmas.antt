@@ -333,10 +333,16 @@ no_message m h n k = no_mapped (marked m) NamedTexts marked_of
     (no_otherwise (no_beginning n) (rows_none_later host_row (begun m ∷ []) host_row_det h
     (row_none_here (begun m) [] (no_beginning k))))
 
+-- where this mark may begin neither
+pub no_message_of : (marks : MessageMarks) {t : Text} (after : Option (Option (Bor (List ℕ)) × Bor (List ℕ)))
+    → Reads (Row host_row) (λ h. (seen h, (tt, tt))) t after → AreMarks marks t after → (m : Mark)
+    → holds marks.own.bits m ≡ false → holds marks.later.bits m ≡ false → NoFront (message m) t
+no_message_of marks None h are m own later = no_message_alone m h (are.0 m own)
+no_message_of marks (Some x) h are m own later = no_message m h (are.0 m own) (are.1 m later)
+
 -- where no mark may begin either
 pub no_messages : (marks : MessageMarks) {t : Text} (after : Option (Option (Bor (List ℕ)) × Bor (List ℕ)))
     → Reads (Row host_row) (λ h. (seen h, (tt, tt))) t after → AreMarks marks t after
     → ((m : Mark) → holds marks.own.bits m ≡ false) → ((m : Mark) → holds marks.later.bits m ≡ false) → (m : Mark)
     → NoFront (message m) t
-no_messages marks None h are own later m = no_message_alone m h (are.0 m (own m))
-no_messages marks (Some x) h are own later m = no_message m h (are.0 m (own m)) (are.1 m (later m))
+no_messages marks after h are own later m = no_message_of marks after h are m (own m) (later m)

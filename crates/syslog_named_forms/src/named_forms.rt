@@ -216,8 +216,10 @@ fn of_marks<'a>(
         return None;
     }
     for mark in marks {
-        if let Some(named) = message(rest, after_host, begun, *mark) {
-            return Some((mark.dialect(), named));
+        if begun.has(*mark) {
+            if let Some(named) = message(rest, after_host, begun, *mark) {
+                return Some((mark.dialect(), named));
+            }
         }
     }
     None

@@ -3,8 +3,9 @@ use Rattle.std.proofs.Common.{drop_of_length-le}
 use Rattle.std.proofs.lemmas.List.{drop_more}
 use Rattle.syslog_named_forms.specs.declared.untagged.Mark.TheVariants as mark
 use Rattle.syslog_named_forms.proofs.NamedFormLemmas.{marked_det, named_later, none_of_marks, tail_here}
-use Rattle.syslog_named_forms.proofs.UntaggedLemmas.{no_messages}
+use Rattle.syslog_named_forms.proofs.UntaggedLemmas.{no_message_of, no_messages}
 use Rattle.syslog_named_forms.specs.NamedForms.{marked_tail, marked_tails, tail_forms}
+use Rattle.syslog_named_forms.proofs.named_forms.of_marks.Goals.{then-has+in_default, else-has}
 use Rattle.syslog_named_forms.proofs.named_forms.of_marks.Goals as goal
 
 pub returns-then-is_empty : goal.returns-then-is_empty
@@ -24,7 +25,11 @@ pub loop-mark-preserved : goal.loop-mark-preserved
 loop-mark-preserved c after are r h = c.loop-mark.invariant after are r
     (λ d text front. rw (drop_more c.args.marks.now c.loop-mark.mark-index mark.Cef c.loop-mark-test.true)
     (named_later (marked_tail _) (tail_forms (marked_tails (drop (c.loop-mark.mark-index + 1) c.args.marks.now)))
-    front r (c.in_default.ensures after are) (h d text front)))
+    (marked_det _) front r (elim c.if-has.branch [
+      | then-has+in_default w ↦ w.in_default.ensures after are
+      | else-has w ↦ (let (own, later) = w.if-has.ensures refl in
+          no_message_of c.args.begun c.args.after_host after are _ own later)
+    ]) (h d text front)))
 
 pub returns : goal.returns
 returns c after are = c.loop-mark.invariant after are None
