@@ -7,7 +7,7 @@ use Rattle.syslog_text.specs.Pieces.Class.{Text, Each, Ends, Front, NoDivision, 
 use Rattle.syslog_text.specs.Pieces.Class.{run, some_run}
 use Rattle.syslog_text.specs.Text.{is_blank, is_tag_char, colon}
 use Rattle.syslog_pieces.specs.Timestamp.Rfc3339.{pair, year}
-use Rattle.syslog_text.proofs.PieceLemmas.Class.{◌past◌, ◌then◌, each_map, front_of, front_same, mapped_front}
+use Rattle.syslog_text.proofs.PieceLemmas.Class.{◌past◌, ◌then◌, each_append, each_map, front_of, front_same, mapped_front}
 use Rattle.syslog_text.proofs.PieceLemmas.Class.{no_mapped}
 use Rattle.syslog_text.proofs.PieceLemmas.Class.{no_row, no_row_division, optional_none, optional_some, row_of}
 use Rattle.syslog_text.proofs.PieceLemmas.Class.{row_pieces}
@@ -31,6 +31,7 @@ use Rattle.syslog_dated_forms.specs.NetScaler.{netscaler_row, slashed_of, slashe
 use Rattle.syslog_dated_forms.specs.OpenWrt.{logread_row}
 use Rattle.syslog_dated_forms.specs.SophosUtm.{colon_of, colon_row, utm_row}
 use Rattle.syslog_dated_forms.specs.UnixSeconds.{meraki_row, short_row, unix_of, unix_row}
+use Rattle.syslog_sent.specs.Runs.{is_word_char}
 use Rattle.syslog_sent.specs.Zone.{bare_word, is_capital}
 use Rattle.syslog_sent.specs.declared.sent.SentDate.{SentDate}
 use Rattle.syslog_dated_forms.proofs.CiscoLemmas.{counter_row_det, message_row_det}
@@ -85,6 +86,7 @@ pub record HasIso (t : Text) : Type 0 where
   pub word : Text
   pub left : Text
   pub found : Front bare_word t left word
+  pub words : Each is_word_char word
   pub ends : IsTied left ⊎ IsSpaced left
 
 -- two digits
@@ -132,15 +134,22 @@ record IsPart (p : Text) : Type 0 where
   is : p ≡ e ∷ some
   mark : (e ≡ 45) ⊎ (e ≡ 47)
   tags : Each is_tag_char p
+  words : Each is_word_char p
 
 digits_tag : (p : Text) → Each is_ascii_digit p → Each is_tag_char p
 digits_tag = each_map is_ascii_digit is_tag_char tag_digit
 
+digit_word : (c : ℕ) → is_ascii_digit c ≡ true → is_word_char c ≡ true
+digit_word c h = grind (arith, nat_tests, h)
+
+digits_word : (p : Text) → Each is_ascii_digit p → Each is_word_char p
+digits_word = each_map is_ascii_digit is_word_char digit_word
+
 part_told : (p q : Text) (n : ℕ) → date_part.Is p q n → IsPart p
 part_told p q n (inl k, (t, is, h), i) =
-    record { e = 45; some = t; is = is; mark = inl refl; tags = rw is (refl, digits_tag t h.1) }
+    record { e = 45; some = t; is = is; mark = inl refl; tags = rw is (refl, digits_tag t h.1); words = rw is (refl, digits_word t h.1) }
 part_told p q n (inr k, (none, (t, is, h)), i) =
-    record { e = 47; some = t; is = is; mark = inr refl; tags = rw is (refl, digits_tag t h.1) }
+    record { e = 47; some = t; is = is; mark = inr refl; tags = rw is (refl, digits_tag t h.1); words = rw is (refl, digits_word t h.1) }
 
 word_of : (p q : Text) → 0 < length p → Each is_tag_char p → Ends is_tag_char q → Front bare_word (p ++ q) q p
 word_of p q some each ends = front_of p refl ((tt, (some, each, ends), refl))
@@ -152,6 +161,7 @@ record IsWord (u : Text) : Type 0 where
   word : Text
   left : Text
   found : Front bare_word u left word
+  words : Each is_word_char word
   ends : IsTied left ⊎ IsSpaced left
 
 -- the hour, and a colon and the minutes after it
@@ -168,9 +178,12 @@ record IsClock (u : Text) : Type 0 where
 pair_tags : (p : Text) (q : Text) → IsPair p → (0 < length p) × (Each is_tag_char p)
 pair_tags p q h = rw h.is (omega arith, (tag_digit h.x h.first, (tag_digit h.y h.second, tt)))
 
-after_mid : (d mid : Text) {u3 u4 : Text} → Each is_tag_char d → 0 < length d → u3 ≡ mid ++ u4
+pair_words : (p : Text) → IsPair p → Each is_word_char p
+pair_words p h = rw h.is (digit_word h.x h.first, (digit_word h.y h.second, tt))
+
+after_mid : (d mid : Text) {u3 u4 : Text} → Each is_tag_char d → Each is_word_char d → 0 < length d → u3 ≡ mid ++ u4
     → (mid ≡ 84 ∷ []) ⊎ (mid ≡ 32 ∷ []) → IsClock u4 → IsWord (d ++ u3)
-after_mid d mid {u3} {u4} each some whole (inl tied) k =
+after_mid d mid {u3} {u4} each words some whole (inl tied) k =
     let (long, tags) = pair_tags k.h k.v k.hour in
     let hour : Front bare_word u4 k.v k.h = subst (λ (z : Text). Front bare_word z k.v k.h) (sym k.whole)
     (word_of k.h k.v long tags (rw k.minutes refl)) in
@@ -180,9 +193,10 @@ after_mid d mid {u3} {u4} each some whole (inl tied) k =
       left = k.v;
       found = longer d each (subst (λ (z : Text). Front bare_word z k.v (84 ∷ k.h)) (sym t)
           (longer (84 ∷ []) (refl, tt) hour));
+      words = each_append is_word_char d (84 ∷ k.h) words (refl, pair_words k.h k.hour);
       ends = inl (record { x = k.x; more = k.more; is = k.minutes; digit = k.digit });
     }
-after_mid d mid {u3} {u4} each some whole (inr spaced) k =
+after_mid d mid {u3} {u4} each words some whole (inr spaced) k =
     let t : u3 ≡ 32 ∷ u4 = whole ∙ ap (λ (z : Text). z ++ u4) spaced in
     let hour : u4 ≡ k.hour.x ∷ k.hour.y ∷ 58 ∷ k.x ∷ k.more = k.whole ∙ ap (λ (z : Text). z ++ k.v) k.hour.is
     ∙ ap (λ (z : Text). k.hour.x ∷ k.hour.y ∷ z) k.minutes in
@@ -190,6 +204,7 @@ after_mid d mid {u3} {u4} each some whole (inr spaced) k =
       word = d;
       left = u3;
       found = word_of d u3 some each (rw t refl);
+      words = words;
       ends = inr (record {
         x = k.hour.x;
         y = k.hour.y;
@@ -226,6 +241,9 @@ with_year y m {t} {u1} {u2} at_year at_month year month w =
       word = y ++ (m ++ w.word);
       left = w.left;
       found = subst (λ (z : Text). Front bare_word z w.left (y ++ (m ++ w.word))) (sym at_year) (longer y tags later);
+      words = each_append is_word_char y (m ++ w.word)
+          (rw year.is (digits_word (year.a ∷ year.b ∷ year.c ∷ year.d ∷ []) year.digits))
+          (each_append is_word_char m w.word month.words w.words);
       ends = w.ends;
     }
 
@@ -247,7 +265,7 @@ has_iso f =
       minutes = minute.whole ∙ ap (λ (z : Text). z ++ u6) (is ∙ ap (λ (z : Text). 58 ∷ z) two.is);
       digit = two.first;
     } in
-    let at_day : IsWord u2 = subst IsWord (sym d.whole) (after_mid d.piece mid.piece day.tags (part_long d.piece day)
+    let at_day : IsWord u2 = subst IsWord (sym d.whole) (after_mid d.piece mid.piece day.tags day.words (part_long d.piece day)
     mid.whole (mid_told mid.piece u4 _ mid.is) clock) in
     with_year y.piece m.piece y.whole m.whole (year_digits y.piece u1 _ y.is) (part_told m.piece u2 _ m.is) at_day
 
@@ -262,7 +280,7 @@ mark_apart e c (inr p) (inl q) is = omega (arith, p, q, is)
 mark_apart e c (inr p) (inr (inl q)) is = omega (arith, p, q, is)
 mark_apart e c (inr p) (inr (inr q)) is = omega (arith, p, q, is)
 
-mark_no_blank : (e : ℕ) → (e ≡ 45) ⊎ (e ≡ 47) → is_blank e ≡ false
+pub mark_no_blank : (e : ℕ) → (e ≡ 45) ⊎ (e ≡ 47) → is_blank e ≡ false
 mark_no_blank e (inl p) = rw p refl
 mark_no_blank e (inr p) = rw p refl
 
@@ -276,7 +294,7 @@ digit_no_blank c h = grind (arith, nat_tests, h)
 digit_host : (c : ℕ) → is_ascii_digit c ≡ true → begins_host c ≡ true
 digit_host c h = grind (arith, nat_tests, h)
 
-digit_is : (c k : ℕ) → is_ascii_digit c ≡ true → is_ascii_digit k ≡ false → c ≡ k → ⊥
+pub digit_is : (c k : ℕ) → is_ascii_digit c ≡ true → is_ascii_digit k ≡ false → c ≡ k → ⊥
 digit_is c k h n is = let bad : true ≡ false = sym h ∙ ap is_ascii_digit is ∙ n in cc
 
 -- the character at a place of two texts that are one
@@ -308,7 +326,7 @@ no_capital : (a : ℕ) (more : Text) → is_ascii_digit a ≡ true → BeginsWit
 no_capital a more h k = grind (arith, nat_tests, h, k)
 
 module _ {t : Text} (m : HasIso t) where
-  year_front : Front (some_run is_ascii_digit) t (m.e ∷ m.more) tt
+  pub year_front : Front (some_run is_ascii_digit) t (m.e ∷ m.more) tt
   year_front = front_of (m.a ∷ m.b ∷ m.c ∷ m.d ∷ []) m.is (omega arith, m.digits, mark_no_digit m.e m.part)
 
   no_colon : NoFront (exactly (58 ∷ [])) (m.e ∷ m.more)
@@ -317,10 +335,10 @@ module _ {t : Text} (m : HasIso t) where
   iso_no_counter : NoFront (Row counter_row) t
   iso_no_counter = no_row counter_row counter_row_det (year_front past inl no_colon)
 
-  no_char : (c : ℕ) → is_ascii_digit c ≡ false → NoFront (exactly (c ∷ [])) t
+  pub no_char : (c : ℕ) → is_ascii_digit c ≡ false → NoFront (exactly (c ∷ [])) t
   no_char c n p q v e h = digit_is m.a c m.digits.0 n (at 0 (sym m.is ∙ e ∙ ap (λ (x : Text). x ++ q) h))
 
-  no_blank : Front (run is_blank) t t tt
+  pub no_blank : Front (run is_blank) t t tt
   no_blank = record { piece = []; whole = refl; is = (tt, rw m.is (digit_no_blank m.a m.digits.0)) }
 
   -- no colon with blanks after it follows the word

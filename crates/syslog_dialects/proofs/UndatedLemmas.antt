@@ -1,25 +1,31 @@
 -- Texts that begin with a date, and texts that begin with none: which forms divide neither of them.
-use Rattle.std.proofs.Common.{◌≡◌, inl, ℕ, true, false, [], ◌∷◌, ◌++◌, refl, sym, ap, ◌∙◌, arith, get_or}
+use Rattle.std.proofs.Common.{◌≡◌, inl, inr, ℕ, true, false, [], ◌∷◌, ◌++◌, refl, sym, ap, subst, ◌∙◌, arith, get_or}
 use Rattle.std.proofs.lemmas.Bool.{agree_below_at}
 use Rattle.std.proofs.lemmas.Bool.Decides.{nat_tests}
 use Rattle.std.specs.Char.{is_ascii_digit, to_ascii_lowercase}
 use Rattle.std.specs.Prelude.{◌&&◌, ◌||◌, nat_le, nat_lt, not}
-use Rattle.syslog_text.specs.Pieces.Class.{Text, Each, Ends, Front, NoFront, Row, exactly, run}
+use Rattle.syslog_text.specs.Pieces.Class.{Text, Each, Ends, Front, NoFront, Row, exactly, run, some_run, texted}
 use Rattle.syslog_text.specs.Text.{is_blank, number}
-use Rattle.syslog_text.proofs.PieceLemmas.Class.{◌past◌, front_of, no_mapped, no_row, no_row_division}
-use Rattle.syslog_text.proofs.PieceLemmas.Class.{optional_none, rows_none_here}
+use Rattle.syslog_text.proofs.PieceLemmas.Class.{◌past◌, front_of, front_same, no_mapped, no_row, no_row_division}
+use Rattle.syslog_text.proofs.PieceLemmas.Class.{optional_none, row_pieces, rows_none_here, some_run_det}
 use Rattle.syslog_text.proofs.PieceLemmas.Lists.{Begins, many_here}
 use Rattle.syslog_text.proofs.TextLemmas.Runs.{no_run}
-use Rattle.syslog_pieces.proofs.TimestampLemmas.MonthDate.{IsBlank}
+use Rattle.syslog_pieces.proofs.TimestampLemmas.MonthDate.{IsBlank, blanks_begin}
 use Rattle.syslog_sent.proofs.DialectLemmas.{none_joined}
 use Rattle.syslog_sent.proofs.LedLemmas.{not_iso, not_month}
 use Rattle.syslog_sent.proofs.NamedLemmas.{no_beginning}
 use Rattle.syslog_sent.specs.Forms.{IsOfNone}
-use Rattle.syslog_sent.specs.Led.{IsUnled}
+use Rattle.syslog_sent.specs.Led.{IsDate, IsLed, IsUnled}
 use Rattle.syslog_sent.specs.Runs.{is_word_char}
+use Rattle.syslog_sent.specs.declared.led.Led.{Led}
+use Rattle.syslog_sent.specs.declared.led.LeadingDate.{LeadingDate}
+use Rattle.syslog_sent.specs.declared.led.LeadingDate.TheVariants.{Month, Iso}
 use Rattle.syslog_dated_forms.specs.DatedForms as dated
 use Rattle.syslog_dated_forms.proofs.LedFormLemmas.{no_odd_iso, no_odd_month}
-use Rattle.syslog_dated_forms.proofs.MonthFrontLemmas.{HasMonth, IsSmall, first_letter, no_blank, no_bracket, no_char}
+use Rattle.syslog_dated_forms.proofs.IsoFrontLemmas as iso
+use Rattle.syslog_dated_forms.proofs.IsoFrontLemmas.{HasIso, digit_is, has_iso, mark_no_blank, year_front}
+use Rattle.syslog_dated_forms.proofs.MonthFrontLemmas.{HasMonth, IsSmall, first_letter, has_month, no_blank}
+use Rattle.syslog_dated_forms.proofs.MonthFrontLemmas.{no_bracket, no_char}
 use Rattle.syslog_dated_forms.proofs.MonthFrontLemmas.{small_letters, small_low}
 use Rattle.syslog_named_forms.specs.Monotonic.{monotonic_row, seconds_row}
 use Rattle.syslog_named_forms.specs.NamedForms.{dated_forms, front_row, header_forms, spread_forms, spread_tail}
@@ -48,6 +54,44 @@ pub unled_no_plain : {text : Text} → IsUnled text → IsOfNone plain_forms tex
 unled_no_plain {text} none = none_joined dated.plain_forms spread_forms text
     (no_odd_month none.gap (not_month none.undated), (no_odd_iso none.gap (not_iso none.undated), tt))
     (none_undated (spread_tail ∷ []) (no_front none))
+
+-- ---- what the forms of a text without a date begin with
+
+header_none : {text : Text} → NoFront (Row head_row) text → NoFront (Row seconds_row) text → IsOfNone header_forms text
+header_none head seconds = (
+  no_row_division (vendor_row mark.Cef) (rows_none_here head_row (vendor_more mark.Cef) head),
+  (
+    no_row_division (vendor_row mark.Leef) (rows_none_here head_row (vendor_more mark.Leef) head),
+    (
+      no_row_division paired_row (rows_none_here head_row paired_more head),
+      (
+        no_row_division nil_row (rows_none_here head_row nil_more head),
+        (
+          no_row_division tag_row (rows_none_here head_row tag_more head),
+          (
+            no_row_division heroku_row (rows_none_here head_row heroku_more head),
+            (
+              no_row_division bare_row (rows_none_here head_row bare_more head),
+              (no_row_division monotonic_row (no_row monotonic_row monotonic_det (inl seconds)), tt),
+            ),
+          ),
+        ),
+      ),
+    ),
+  ),
+)
+
+undated_none : {text t : Text} → Front (run is_blank) text t tt → NoFront (Row cef_row) t → NoFront (Row leef_row) t
+    → NoFront pair t → IsOfNone header_forms text → IsOfNone undated_forms text
+undated_none {t = t} gap cef leef no_pair header = (
+  no_row_division (undated_row mark.Cef) (no_row (undated_row mark.Cef) (undated_det mark.Cef) (gap
+      past inl (no_beginning cef))),
+  (
+    no_row_division (undated_row mark.Leef) (no_row (undated_row mark.Leef) (undated_det mark.Leef) (gap
+        past inl (no_beginning leef))),
+    (no_pairs gap (many_here pair t no_pair) (λ d shown. shown.moment), header),
+  ),
+)
 
 -- ---- a text that begins with a month date
 
@@ -150,38 +194,62 @@ module _ {text t : Text} (gap : Front (run is_blank) text t tt) (m : HasMonth t)
   no_seconds : NoFront (Row seconds_row) text
   no_seconds = no_row seconds_row seconds_det (inl (rw gap.whole (no_bracket_over gap.piece t gap.is.0 (no_bracket m))))
 
-  no_header : IsOfNone header_forms text
-  no_header = (
-    no_row_division (vendor_row mark.Cef) (rows_none_here head_row (vendor_more mark.Cef) no_head),
-    (
-      no_row_division (vendor_row mark.Leef) (rows_none_here head_row (vendor_more mark.Leef) no_head),
-      (
-        no_row_division paired_row (rows_none_here head_row paired_more no_head),
-        (
-          no_row_division nil_row (rows_none_here head_row nil_more no_head),
-          (
-            no_row_division tag_row (rows_none_here head_row tag_more no_head),
-            (
-              no_row_division heroku_row (rows_none_here head_row heroku_more no_head),
-              (
-                no_row_division bare_row (rows_none_here head_row bare_more no_head),
-                (no_row_division monotonic_row (no_row monotonic_row monotonic_det (inl no_seconds)), tt),
-              ),
-            ),
-          ),
-        ),
-      ),
-    ),
-  )
+  month_no_undated : IsOfNone undated_forms text
+  month_no_undated = undated_none gap no_cef no_leef no_pair (header_none no_head no_seconds)
 
-  -- no form of a text without a date divides it
-  pub month_no_undated : IsOfNone undated_forms text
-  month_no_undated = (
-    no_row_division (undated_row mark.Cef) (no_row (undated_row mark.Cef) (undated_det mark.Cef) (gap
-        past inl (no_beginning no_cef))),
-    (
-      no_row_division (undated_row mark.Leef) (no_row (undated_row mark.Leef) (undated_det mark.Leef) (gap
-          past inl (no_beginning no_leef))),
-      (no_pairs gap (many_here pair t no_pair) (λ d shown. shown.moment), no_header),
-    ),
-  )
+-- ---- a text that begins with a date of RFC 3339, or nearly one
+
+module _ {text t : Text} (gap : Front (run is_blank) text t tt) (m : HasIso t) where
+  no_letter : (c : ℕ) (more : Text) → is_ascii_digit c ≡ false → NoFront (exactly (c ∷ more)) t
+  no_letter c more n p q v e h =
+      digit_is m.a c m.digits.0 n (at 0 (sym m.is ∙ e ∙ ap (λ (x : Text). x ++ q) h))
+
+  iso_ends : Ends is_word_char m.left
+  iso_ends = elim m.ends as (λ _. Ends is_word_char m.left) [
+    | inl tied ↦ rw tied.is refl
+    | inr spaced ↦ rw spaced.is refl
+  ]
+
+  iso_word : Front (texted (some_run is_word_char)) t m.left m.word
+  iso_word = let (v, (some, each, ends), is) = m.found.is in front_of m.found.piece m.found.whole
+      ((tt, (some, subst (λ (x : Text). Each is_word_char x) is m.words, iso_ends), is))
+
+  iso_no_equals : NoFront (exactly (61 ∷ [])) m.left
+  iso_no_equals p q v e h = elim m.ends [
+    | inl tied ↦ (let bad : 58 ≡ 61 = at 0 (sym tied.is ∙ e ∙ ap (λ (x : Text). x ++ q) h) in omega (arith, bad))
+    | inr spaced ↦ (let bad : 32 ≡ 61 = at 0 (sym spaced.is ∙ e ∙ ap (λ (x : Text). x ++ q) h) in omega (arith, bad))
+  ]
+
+  iso_no_pair : NoFront pair t
+  iso_no_pair = no_mapped (Row pair_row) (Text × Text) _ (no_row pair_row pair_row_det (iso.no_blank m
+      past optional_none (exactly (44 ∷ [])) (iso.no_char m 44 refl) past iso_word past inl iso_no_equals))
+
+  -- no blank follows the year, and no digit begins blanks before it
+  iso_no_head : (g : Text) → Each is_blank g → NoFront (Row head_row) (g ++ t)
+  iso_no_head [] e p q vs f h =
+      let (u, n, (w, b, more)) = row_pieces head_row (front_of p f h) in
+      let same : u ≡ m.e ∷ m.more = (front_same (some_run is_ascii_digit) (some_run_det is_ascii_digit)
+      (front_of n.piece n.whole (n.is.0, n.is.1, n.is.2)) (year_front m)).0 in
+      let blank : Begins IsBlank (m.e ∷ m.more) = subst (λ (x : Text). Begins IsBlank x) same (blanks_begin b) in
+      let bad : false ≡ true = sym (mark_no_blank m.e m.part) ∙ blank in cc
+  iso_no_head (c ∷ g) e p q vs f h = no_row head_row head_det (inl (no_run is_ascii_digit (c ∷ (g ++ t))
+      (let blank = e.0 in grind (arith, nat_tests, blank)) (number 999) (λ p q v h. (h.0, h.1)))) p q vs f h
+
+  iso_no_seconds : NoFront (Row seconds_row) text
+  iso_no_seconds = no_row seconds_row seconds_det
+      (inl (rw gap.whole (no_bracket_over gap.piece t gap.is.0 (iso.no_char m 91 refl))))
+
+  iso_no_undated : IsOfNone undated_forms text
+  iso_no_undated = undated_none gap (no_row cef_row cef_det (inl (no_letter 67 (69 ∷ 70 ∷ 58 ∷ []) refl)))
+      (no_row leef_row leef_det (inl (no_letter 76 (69 ∷ 69 ∷ 70 ∷ 58 ∷ []) refl))) iso_no_pair
+      (header_none (rw gap.whole (iso_no_head gap.piece gap.is.0)) iso_no_seconds)
+
+-- ---- a text that begins with either
+
+undated_at : (d : LeadingDate) {text t : Text} (r : Text) → Front (run is_blank) text t tt → IsDate d t r
+    → IsOfNone undated_forms text
+undated_at (Month d) r g f = month_no_undated g (has_month f)
+undated_at (Iso d) r g (n, f) = iso_no_undated g (has_iso f)
+
+pub led_no_undated : {text : Text} {led : Led} → IsLed text led → IsOfNone undated_forms text
+led_no_undated {led = led} is = undated_at led.date _ is.gap is.date

@@ -8,13 +8,12 @@ ghost use Rattle.syslog_text.specs.Pieces.Class.{Text};
 ghost use Rattle.syslog_sent.specs.Led.{IsLed, IsUnled};
 ghost use Rattle.syslog_dialects.specs.Dialects.{early_forms, forms_of, last_forms, late_forms};
 ghost use Rattle.syslog_dialects.specs.Dialects.{plain_forms};
-ghost use Rattle.syslog_named_forms.specs.NamedForms.{undated_forms};
 
 use crate::priority_alone::{read_alone, read_point_alone, read_program_alone};
 use syslog_dated_forms::dated_forms;
 use syslog_named_forms::named_forms;
 use syslog_sent::dialect::Dialect;
-use syslog_sent::led::{LeadingDate, Led, read_front};
+use syslog_sent::led::{Led, read_front};
 use syslog_sent::sent::Sent;
 
 // Returns the dialect of a text that has a priority and that the port does not parse, and what the text says.
@@ -41,17 +40,8 @@ fn read_plain<'a>(led: &Led<'a>) -> Option<(Dialect, Sent<'a>)>
     }
 }
 
-// Tries the forms that need no date on a text that begins with this one. No text of them begins with a month date.
-fn read_undated<'a>(text: &'a str, led: &Led<'a>) -> Option<(Dialect, Sent<'a>)>
-    ensures { IsLed (chars text.entry.now) led.now → Finds undated_forms (chars text.entry.now) result }
-{
-    match led.date {
-        LeadingDate::Month(_) => None,
-        LeadingDate::Iso(_) => named_forms::read_undated(text),
-    }
-}
-
-// Returns the dialect of a text that begins with this date, and what the text says.
+// Returns the dialect of a text that begins with this date, and what the text says. No form of a text without a date
+// divides it.
 fn read_led<'a>(text: &'a str, led: &Led<'a>) -> Option<(Dialect, Sent<'a>)>
     ensures { IsLed (chars text.entry.now) led.now → Finds early_forms (chars text.entry.now) result }
 {
@@ -59,9 +49,6 @@ fn read_led<'a>(text: &'a str, led: &Led<'a>) -> Option<(Dialect, Sent<'a>)>
         return Some(found);
     }
     if let Some(found) = named_forms::read_led(led) {
-        return Some(found);
-    }
-    if let Some(found) = read_undated(text, led) {
         return Some(found);
     }
     read_plain(led)

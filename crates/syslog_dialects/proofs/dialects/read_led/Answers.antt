@@ -1,5 +1,6 @@
 use Rattle.std.proofs.Common.{◌++◌, Some}
 use Rattle.syslog_sent.proofs.DialectLemmas.{found_early, found_late}
+use Rattle.syslog_dialects.proofs.UndatedLemmas.{led_no_undated}
 use Rattle.syslog_dialects.specs.Dialects.{named_forms, plain_forms}
 use Rattle.syslog_dialects.specs.Dialects as dialects
 use Rattle.syslog_named_forms.specs.NamedForms.{dated_forms, undated_forms}
@@ -14,14 +15,8 @@ returns-in-Some-read_led c led = let found = c.in-Some-read_led.found in
     found_late dialects.dated_forms (named_forms ++ plain_forms) _ (Some found) (c.in_default.ensures led)
     (found_early dated_forms (undated_forms ++ plain_forms) _ found (c.in-Some-read_led.ensures _ led))
 
-pub returns-in-Some-read_undated : goal.returns-in-Some-read_undated
-returns-in-Some-read_undated c led = let found = c.in-Some-read_undated.found in
-    found_late dialects.dated_forms (named_forms ++ plain_forms) _ (Some found) (c.in_default.ensures led)
-    (found_late dated_forms (undated_forms ++ plain_forms) _ (Some found) (c.in_default-read_led.ensures _ led)
-    (found_early undated_forms plain_forms _ found (c.in-Some-read_undated.ensures led)))
-
 pub returns : goal.returns
 returns c led = let r = c.read_plain.result in
     found_late dialects.dated_forms (named_forms ++ plain_forms) _ r (c.in_default.ensures led)
     (found_late dated_forms (undated_forms ++ plain_forms) _ r (c.in_default-read_led.ensures _ led)
-    (found_late undated_forms plain_forms _ r (c.in_default-read_undated.ensures led) (c.read_plain.ensures _ led)))
+    (found_late undated_forms plain_forms _ r (led_no_undated led) (c.read_plain.ensures _ led)))

@@ -25,7 +25,7 @@ pub loop-mark-preserved : goal.loop-mark-preserved
 loop-mark-preserved c after are r h = c.loop-mark.invariant after are r
     (λ d text front. rw (drop_more c.args.marks.now c.loop-mark.mark-index mark.Cef c.loop-mark-test.true)
     (named_later (marked_tail _) (tail_forms (marked_tails (drop (c.loop-mark.mark-index + 1) c.args.marks.now)))
-    (marked_det _) front r (elim c.if-has.branch [
+    front r (elim c.if-has.branch [
       | then-has+in_default w ↦ w.in_default.ensures after are
       | else-has w ↦ (let (own, later) = w.if-has.ensures refl in
           no_message_of c.args.begun c.args.after_host after are _ own later)
