@@ -1,7 +1,6 @@
 -- The program's arguments as words.
 use Rattle.syslog_command_line.proofs.Names.{List, length, get_or, MatchOption, Option, Some, subst, arith, IsYear}
-use Rattle.syslog_command_line.proofs.Names.{end_word}
-use Rattle.syslog_command_line.proofs.Names.{◌≡◌, ℕ, ℤ, Bor, [], ◌∷◌, map, None, ap, inl, inr, pos, sym, true}
+use Rattle.syslog_command_line.proofs.Names.{end_word, ◌≡◌, ℕ, ℤ, Bor, [], ◌∷◌, map, None, ap, inl, inr, pos, sym, true}
 use Rattle.std.proofs.Common.{◌↔◌, nat_eq}
 use Rattle.std.{specs.Cmp.Lexicographic.bytes_decides, specs.Cmp.Lexicographic.pointwise, specs.Str.Parse.digits_value}
 use Rattle.syslog_command_line.specs.Arguments.{AreYearWords}

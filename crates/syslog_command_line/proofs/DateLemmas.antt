@@ -1,8 +1,7 @@
 -- The word of a date.
 use Rattle.syslog_command_line.proofs.Names.{length, get_or, MatchOption, Option, arith, subst, IsInRange, IsYear}
-use Rattle.syslog_command_line.proofs.Names.{NamesDate}
-use Rattle.syslog_command_line.proofs.Names.{◌≡◌, ◌≢◌, ◌∙◌, ℕ, ℤ, ◌<◌, ◌≤◌, Bor, List, [], ◌∷◌, ◌++◌, Some, None}
-use Rattle.syslog_command_line.proofs.Names.{refl, sym}
+use Rattle.syslog_command_line.proofs.Names.{NamesDate, ◌≡◌, ◌≢◌, ◌∙◌, ℕ, ℤ, ◌<◌, ◌≤◌, Bor, List, [], ◌∷◌, ◌++◌, Some}
+use Rattle.syslog_command_line.proofs.Names.{None, refl, sym}
 use Rattle.std.proofs.Common.{suc, zero, ◌/◌, ◌%◌, ◌+◌, ◌↔◌, Result, Ok, Err, ap, pos, true≢false}
 use Rattle.std.proofs.lemmas.Int.{ints}
 use Rattle.std.specs.Prelude.{IfOk, IsOk}

@@ -9,9 +9,8 @@ use Rattle.syslog_command_line.specs.Flags.{IsValue, flag_number, flag_word, tak
 use Rattle.syslog_command_line.specs.Options.{GivenFlag, given_words, value_words}
 use Rattle.syslog_command_line.specs.Words.{AreDateWords}
 use Rattle.syslog_command_line.specs.declared.flags.Flag.{Flag}
-use Rattle.syslog_command_line.specs.declared.flags.Flag.TheVariants.{Raw, NoDialects, Latin1, Offset, Zone}
-use Rattle.syslog_command_line.specs.declared.flags.Flag.TheVariants.{Nul, OctetCounted}
-use Rattle.syslog_command_line.specs.declared.flags.Flag.TheVariants.{MaxLine, Severity, Host, App, Csv}
+use Rattle.syslog_command_line.specs.declared.flags.Flag.TheVariants.{Raw, NoDialects, Latin1, Offset, Zone, Nul}
+use Rattle.syslog_command_line.specs.declared.flags.Flag.TheVariants.{OctetCounted, MaxLine, Severity, Host, App, Csv}
 
 -- ---- each flag is known by its number and by its word
 
@@ -111,10 +110,3 @@ pub value_missing : (flag : Flag) (words : List (List ℕ)) → takes_value flag
     → (value : List ℕ) (rest : List (List ℕ)) → words ≡ value_words flag value ++ rest → ⊥
 value_missing flag words takes none value rest listed =
     let both : [] ≡ value ∷ rest = rw takes at (sym none ∙ listed) in (cc)
-
-pub value_wrong : (flag : Flag) (text : List ℕ) (words tail : List (List ℕ)) → takes_value flag ≡ true
-    → words ≡ text ∷ tail → (IsValue flag text → ⊥) → (value : List ℕ) (rest : List (List ℕ)) → IsValue flag value
-    → words ≡ value_words flag value ++ rest → ⊥
-value_wrong flag text words tail takes first wrong value rest is listed =
-    let both : value ∷ rest ≡ text ∷ tail = rw takes at (sym listed ∙ first) in
-    wrong (subst (λ (v : List ℕ). IsValue flag v) (ap (λ (ws : List (List ℕ)). get_or ws 0 []) both) is)

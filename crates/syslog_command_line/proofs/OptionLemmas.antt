@@ -1,8 +1,7 @@
 -- Flags in any order before a date.
 use Rattle.syslog_command_line.proofs.Names.{◌≡◌, ◌≢◌, ◌<◌, ◌∷◌, ◌++◌, ◌∙◌, ℕ, ℤ, [], List, MatchOption, None, Option}
-use Rattle.syslog_command_line.proofs.Names.{Some}
-use Rattle.syslog_command_line.proofs.Names.{append_assoc, ap, arith, get_or, inl, inr, length, pos, refl, subst, sym}
-use Rattle.syslog_command_line.proofs.Names.{true, false}
+use Rattle.syslog_command_line.proofs.Names.{Some, append_assoc, ap, arith, get_or, inl, inr, length, pos, refl, subst}
+use Rattle.syslog_command_line.proofs.Names.{sym, true, false}
 use Rattle.std.proofs.Common.{All, Bool, Bor, Contains, IsSomeAnd, flat_map, is_some, replicate, set, unwrap_or, ◌⊎◌}
 use Rattle.std.proofs.lemmas.{Bool.cases_eq, List.flat_map_more, List.length-append, List.length-set}
 use Rattle.std.proofs.lemmas.List.{get_or_append_left, get_or-replicate, get_or-set_other, get_or-set_same}
@@ -23,8 +22,7 @@ use Rattle.syslog_command_line.specs.Arguments.{NamesOffset}
 use Rattle.syslog_command_line.specs.Flags.{IsValue, flag_number, flag_word, rival}
 use Rattle.syslog_command_line.specs.Given.{AreNoFlagsAndDate, BeginsWith, BeginsWithNone, Holds, SplitsWords, value_at}
 use Rattle.syslog_command_line.specs.Options.{AreFlagsAndDate, AsksForOptions, ByFlag, CanBeGiven, GivenFlag}
-use Rattle.syslog_command_line.specs.Options.{GoTogether, IsZoneGiven}
-use Rattle.syslog_command_line.specs.Options.{IsGivenAs, IsLeftOut, given_words, value_words}
+use Rattle.syslog_command_line.specs.Options.{GoTogether, IsZoneGiven, IsGivenAs, IsLeftOut, given_words, value_words}
 use Rattle.syslog_command_line.specs.Words.{AreDateWords, IsAmong}
 use Rattle.syslog_command_line.specs.declared.flags.Flag.{Flag}
 use Rattle.syslog_command_line.specs.declared.flags.Flag.TheVariants.{Offset, Zone}
@@ -140,29 +138,6 @@ this_flag offered held flag words tail one rest first begins =
     same_by_word one.flag flag (ap (λ (ws : List (List ℕ)). get_or ws 0 []) both) in
     let after : value_words one.flag one.value ++ rest ≡ tail = cc in
     (same, sym (subst (λ (f : Flag). value_words f one.value ++ rest ≡ tail) same after))
-
-pub none_without_words : (offered : List Flag) (held : Given) (words : List (List ℕ)) → words ≡ []
-    → BeginsWithNone offered held words
-none_without_words offered held words none one rest begins =
-    let both : [] ≡ flag_word one.flag ∷ (value_words one.flag one.value ++ rest) = sym none ∙ begins.listed in (cc)
-
-pub none_offered : (offered : List Flag) (held : Given) (words : List (List ℕ)) (word : List ℕ) (tail : List (List ℕ))
-    → words ≡ word ∷ tail → All (λ flag. flag_word flag ≢ word) offered → BeginsWithNone offered held words
-none_offered offered held words word tail first all one rest begins =
-    let (k, within, is) = begins.known in
-    let both : flag_word one.flag ∷ (value_words one.flag one.value ++ rest) ≡ word ∷ tail =
-    sym begins.listed ∙ first in
-    all k one.flag within (ap flag_word is ∙ ap (λ (ws : List (List ℕ)). get_or ws 0 []) both)
-
-pub none_allowed : (offered : List Flag) (held : Given) (flag : Flag) (words tail : List (List ℕ))
-    → words ≡ flag_word flag ∷ tail → ((value_at held flag ≡ None) × (value_at held (rival flag) ≡ None) → ⊥)
-    → BeginsWithNone offered held words
-none_allowed offered held flag words tail first not_so one rest begins =
-    let (same, after) = this_flag offered held flag words tail one rest first begins in
-    not_so (
-      subst (λ (f : Flag). value_at held f ≡ None) same begins.new,
-      subst (λ (f : Flag). value_at held (rival f) ≡ None) same begins.unopposed,
-    )
 
 pub none_valued : (offered : List Flag) (held : Given) (flag : Flag) (words tail : List (List ℕ))
     → words ≡ flag_word flag ∷ tail

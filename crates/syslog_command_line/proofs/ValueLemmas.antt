@@ -1,8 +1,7 @@
 -- Numbers of bytes in decimal digits, and zones by their rules.
-use Rattle.syslog_command_line.proofs.Names.{◌≡◌, ◌<◌, ◌≤◌, ◌∙◌, ℕ, List, Ok, Err, Result, arith, get_or, length}
-use Rattle.syslog_command_line.proofs.Names.{refl, sym}
-use Rattle.syslog_command_line.proofs.Names.{IsInRange, numerals_by_value, tells_by_index}
-use Rattle.syslog_command_line.proofs.Names.{Bool, MatchOption, None, Option, Some, true}
+use Rattle.syslog_command_line.proofs.Names.{◌≡◌, ◌<◌, ◌≤◌, ◌∙◌, ℕ, List, Ok, Err, Result, arith, get_or, length, refl}
+use Rattle.syslog_command_line.proofs.Names.{sym, IsInRange, numerals_by_value, tells_by_index, Bool, MatchOption, None}
+use Rattle.syslog_command_line.proofs.Names.{Option, Some, true}
 use Rattle.std.proofs.Common.{All, IsSomeAnd, is_some, subst, ◌^◌, ◌↔◌}
 use Rattle.std.proofs.lemmas.Str.Parse.{parse_digits}
 use Rattle.std.specs.Char.{IsAsciiDigit}

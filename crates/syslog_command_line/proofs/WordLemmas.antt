@@ -1,9 +1,8 @@
 -- The words that a filter with dates is called with.
-use Rattle.syslog_command_line.proofs.Names.{digits_value_short, numerals_by_value, tells_by_index, NamesOffset}
-use Rattle.syslog_command_line.proofs.Names.{[], length, get_or, IsInRange, NamesDate, end_word}
-use Rattle.syslog_command_line.proofs.Names.{◌≡◌, List, ◌++◌, append-nil, arith}
-use Rattle.syslog_command_line.proofs.Names.{ℕ, ℤ, ◌<◌, ◌≤◌, ◌∷◌, pos, ap, inl, inr, sym, ◌∙◌}
-use Rattle.std.proofs.Common.{◌≤ℤ◌, negsuc}
+use Rattle.syslog_command_line.proofs.Names.{digits_value_short, numerals_by_value, tells_by_index, [], length, get_or}
+use Rattle.syslog_command_line.proofs.Names.{IsInRange, NamesDate, end_word, ◌≡◌, List, ◌++◌, append-nil, arith, ℕ, ℤ}
+use Rattle.syslog_command_line.proofs.Names.{◌<◌, ◌≤◌, ◌∷◌, pos, ap, inl, inr, sym, ◌∙◌}
+use Rattle.std.proofs.Common.{◌≤ℤ◌}
 use Rattle.std.{proofs.lemmas.Int.ints, proofs.lemmas.List.Elements.Contains-append_right}
 use Rattle.jiff.specs.Words.{IsYear as IsCalendarYear}
 use Rattle.syslog_loose.specs.Today.{HasYear}
@@ -30,19 +29,6 @@ pub date_has_year : (words : List (List ℕ)) (today : Today) → AreDateWords w
 date_has_year words (Year year) (word, listed, named) = named_year word year named
 date_has_year words (Month year month) (word, listed, named) = named_year named.0 year named.1
 date_has_year words (Day day) dated = tt
-
-pub signed_in_range : (text : List ℕ) (seconds : ℤ) → NamesOffset text seconds
-    → (negsuc 86_339 ≤ℤ seconds) × (seconds ≤ℤ pos 86_340)
-signed_in_range text seconds named = elim (named.signed) [
-  | inl east ↦ rw (east.1) (
-    omega (arith, ints, named.within_day, named.within_hour),
-    omega (arith, ints, named.within_day, named.within_hour),
-  )
-  | inr west ↦ rw (west.1) (
-    omega (arith, ints, named.within_day, named.within_hour),
-    omega (arith, ints, named.within_day, named.within_hour),
-  )
-]
 
 -- ---- flags are no dates
 

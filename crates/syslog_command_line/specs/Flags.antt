@@ -9,9 +9,8 @@ use Rattle.syslog_pieces.specs.declared.pri.SyslogSeverity.TheVariants.{SEV_EMER
 use Rattle.syslog_pieces.specs.Pri.{severity_name}
 use Rattle.syslog_command_line.specs.Arguments.{NamesOffset}
 use Rattle.syslog_command_line.specs.declared.flags.Flag.{Flag}
-use Rattle.syslog_command_line.specs.declared.flags.Flag.TheVariants.{Raw, NoDialects, Latin1, Offset, Zone}
-use Rattle.syslog_command_line.specs.declared.flags.Flag.TheVariants.{Nul, OctetCounted}
-use Rattle.syslog_command_line.specs.declared.flags.Flag.TheVariants.{MaxLine, Severity, Host, App, Csv}
+use Rattle.syslog_command_line.specs.declared.flags.Flag.TheVariants.{Raw, NoDialects, Latin1, Offset, Zone, Nul}
+use Rattle.syslog_command_line.specs.declared.flags.Flag.TheVariants.{OctetCounted, MaxLine, Severity, Host, App, Csv}
 
 -- its word
 abbrev pub flag_word : Flag → List ℕ

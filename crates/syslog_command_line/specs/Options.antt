@@ -12,9 +12,8 @@ use Rattle.syslog_command_line.specs.Arguments.{NamesOffset}
 use Rattle.syslog_command_line.specs.Flags.{IsValue, NamesSeverity, NamesSize, flag_word, rival, takes_value}
 use Rattle.syslog_command_line.specs.Words.{AreDateWords}
 use Rattle.syslog_command_line.specs.declared.flags.Flag.{Flag}
-use Rattle.syslog_command_line.specs.declared.flags.Flag.TheVariants.{Raw, NoDialects, Latin1, Offset, Zone}
-use Rattle.syslog_command_line.specs.declared.flags.Flag.TheVariants.{Nul, OctetCounted}
-use Rattle.syslog_command_line.specs.declared.flags.Flag.TheVariants.{MaxLine, Severity, Host, App, Csv}
+use Rattle.syslog_command_line.specs.declared.flags.Flag.TheVariants.{Raw, NoDialects, Latin1, Offset, Zone, Nul}
+use Rattle.syslog_command_line.specs.declared.flags.Flag.TheVariants.{OctetCounted, MaxLine, Severity, Host, App, Csv}
 use Rattle.syslog_command_line.specs.declared.options.Options.{Options}
 
 -- a flag that was given, and its value, which is empty if it takes none

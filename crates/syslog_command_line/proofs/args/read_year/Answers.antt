@@ -1,6 +1,5 @@
 use Rattle.syslog_command_line.proofs.Names.{length, get_or, digits_value_short, numerals_by_value, tells_by_index}
-use Rattle.syslog_command_line.proofs.Names.{IsInRange}
-use Rattle.syslog_command_line.proofs.Names.{ℕ, ◌<◌, arith, rules, refl, w32, IsYear}
+use Rattle.syslog_command_line.proofs.Names.{IsInRange, ℕ, ◌<◌, arith, rules, refl, w32, IsYear}
 use Rattle.std.{proofs.lemmas.Result.Ok-from_Ok_iff, proofs.lemmas.Str.Parse.parse_signed_digits}
 use Rattle.syslog_command_line.proofs.args.read_year.Goals as goal
 

@@ -1,6 +1,5 @@
-use Rattle.syslog_command_line.proofs.Names.{◌≡◌, List, ◌∷◌, ◌++◌, MatchOption, Option, Some, None, arith, drop}
-use Rattle.syslog_command_line.proofs.Names.{length, refl}
-use Rattle.syslog_command_line.proofs.Names.{ℕ, [], ◌∙◌}
+use Rattle.syslog_command_line.proofs.Names.{◌≡◌, List, ◌∷◌, ◌++◌, MatchOption, Option, Some, None, arith, drop, length}
+use Rattle.syslog_command_line.proofs.Names.{refl, ℕ, [], ◌∙◌}
 use Rattle.std.{proofs.lemmas.Iterator.Adapters.YieldsList-from_vec, proofs.lemmas.Iterator.items_from_collect}
 use Rattle.std.{proofs.lemmas.Result.IfOk-weaker, specs.Option.option_to_list}
 use Rattle.syslog_command_line.proofs.words.after_name.Goals as goal
