@@ -451,48 +451,26 @@ module _ {text t : Text} (gap : Front (run is_blank) text t tt) (m : HasIso t) w
       no_card)))
 
   pub iso_no_other : IsOfNone journal_forms text
-  iso_no_other = (
-    no_row_division journal_row (no_row journal_row journal_line_det (gap past inl (iso_no_weekday m))),
-    (
+  iso_no_other =
+      no_row_division journal_row (no_row journal_row journal_line_det (gap past inl (iso_no_weekday m))) also
       no_row_division netscaler_row (no_row netscaler_row netscaler_row_det (gap past inl
-          (no_mapped (Row slashed_row) SentDate slashed_of (no_slashed m)))),
-      (
-        no_row_division utm_row (no_row utm_row utm_row_det (gap past inl
-            (no_mapped (Row colon_row) SentDate colon_of (no_colon_date m)))),
-        (
-          no_row_division logread_row (no_row logread_row logread_row_det (gap past inl (iso_no_weekday m))),
-          (
-            no_row_division ctime_message_row (no_row ctime_message_row ctime_message_det (gap past inl (iso_no_weekday m))),
-            (
-              no_row_division ctime_row (no_row ctime_row ctime_line_det (gap past inl (iso_no_weekday m))),
-              (
-                no_row_division year_row (no_row year_row year_line_det (gap past inl (iso_no_year m))),
-                (
-                  no_row_division meraki_row (rows_none_later (run is_blank ∷ []) (drop 1 meraki_row)
-                      (run_det is_blank also tt) (row_cons (run is_blank) [] gap (row_nil _)) (no_meraki m)),
-                  (
-                    no_row_division short_row (no_row short_row short_row_det (gap past inl
-                        (no_mapped (Row unix_row) SentDate unix_of (no_unix m)))),
-                    (
-                      no_row_division undated_row (no_row undated_row undated_row_det (gap
-                          past optional_none (exactly colon) (no_char m 58 refl) past no_blank m
-                          past optional_none (Row counter_row) (iso_no_counter m)
-                          past optional_none (Row counter_row) (iso_no_counter m)
-                          past optional_none name_label (no_such_front label IsName (iso_no_label m))
-                          past optional_none uptime (iso_no_uptime m)
-                          past inl (no_row message_row message_row_det (inl (iso_no_mnemonic m))))),
-                      (
-                        no_row_division in_brackets_row (no_row in_brackets_row in_brackets_det (gap
-                            past inl (no_char m 91 refl))),
-                        tt,
-                      ),
-                    ),
-                  ),
-                ),
-              ),
-            ),
-          ),
-        ),
-      ),
-    ),
-  )
+      (no_mapped (Row slashed_row) SentDate slashed_of (no_slashed m)))) also
+      no_row_division utm_row (no_row utm_row utm_row_det (gap past inl
+      (no_mapped (Row colon_row) SentDate colon_of (no_colon_date m)))) also
+      no_row_division logread_row (no_row logread_row logread_row_det (gap past inl (iso_no_weekday m))) also
+      no_row_division ctime_message_row (no_row ctime_message_row ctime_message_det
+      (gap past inl (iso_no_weekday m))) also
+      no_row_division ctime_row (no_row ctime_row ctime_line_det (gap past inl (iso_no_weekday m))) also
+      no_row_division year_row (no_row year_row year_line_det (gap past inl (iso_no_year m))) also
+      no_row_division meraki_row (rows_none_later (run is_blank ∷ []) (drop 1 meraki_row)
+      (run_det is_blank also tt) (row_cons (run is_blank) [] gap (row_nil _)) (no_meraki m)) also
+      no_row_division short_row (no_row short_row short_row_det (gap past inl
+      (no_mapped (Row unix_row) SentDate unix_of (no_unix m)))) also
+      no_row_division undated_row (no_row undated_row undated_row_det (gap
+      past optional_none (exactly colon) (no_char m 58 refl) past no_blank m
+      past optional_none (Row counter_row) (iso_no_counter m) past optional_none (Row counter_row) (iso_no_counter m)
+      past optional_none name_label (no_such_front label IsName (iso_no_label m))
+      past optional_none uptime (iso_no_uptime m) past inl (no_row message_row message_row_det
+      (inl (iso_no_mnemonic m))))) also
+      no_row_division in_brackets_row (no_row in_brackets_row in_brackets_det
+      (gap past inl (no_char m 91 refl))) also tt

@@ -19,6 +19,7 @@ use Rattle.syslog_text.specs.Text.{is_blank, is_tag_char, colon, number}
 use Rattle.syslog_pieces.specs.Timestamp.MonthDate.{clock_row, month, month_date, short_number}
 use Rattle.syslog_pieces.specs.Timestamp.Rfc3339.{pair, year}
 use Rattle.syslog_pieces.specs.declared.timestamp.month_date.MonthDate.{MonthDate}
+use Rattle.syslog_text.proofs.PieceLemmas.Class.{◌also◌}
 use Rattle.syslog_text.proofs.PieceLemmas.Class.{◌past◌, ◌then◌, front_of, front_same, mapped_front, no_mapped}
 use Rattle.syslog_text.proofs.PieceLemmas.Class.{each_map, heads, no_row, no_row_division, optional_some}
 use Rattle.syslog_dated_forms.specs.InBrackets.{in_brackets_row}
@@ -364,49 +365,22 @@ module _ {text t : Text} (gap : Front (run is_blank) text t tt) (m : HasMonth t)
       past optional_some host (month_host m) past inl (no_node m))))))
 
   pub no_other : IsOfNone journal_forms text
-  no_other = (
-    no_row_division journal_row (no_row journal_row journal_line_det (gap past inl no_weekday)),
-    (
+  no_other = no_row_division journal_row (no_row journal_row journal_line_det (gap past inl no_weekday)) also
       no_row_division netscaler_row (no_row netscaler_row netscaler_row_det (gap past inl
-          (no_mapped (Row slashed_row) SentDate slashed_of (no_row slashed_row slashed_row_det
-          (inl (no_low m (pair 100) (λ p q v h. rw h.0 (omega (arith, h.1))))))))),
-      (
-        no_row_division utm_row (no_row utm_row utm_row_det (gap past inl
-            (no_mapped (Row colon_row) SentDate colon_of (no_row colon_row colon_row_det (inl (no_year m)))))),
-        (
-          no_row_division logread_row (no_row logread_row logread_row_det (gap past inl no_weekday)),
-          (
-            no_row_division ctime_message_row (no_row ctime_message_row ctime_message_det (gap past inl no_weekday)),
-            (
-              no_row_division ctime_row (no_row ctime_row ctime_line_det (gap past inl no_weekday)),
-              (
-                no_row_division year_row (no_row year_row year_line_det (gap past inl no_year_date)),
-                (
-                  no_row_division meraki_row (no_row meraki_row meraki_row_det (gap
-                      past inl (no_char m 49 (omega arith)))),
-                  (
-                    no_row_division short_row (no_row short_row short_row_det (gap past inl
-                        (no_mapped (Row unix_row) SentDate unix_of (no_row unix_row unix_row_det (inl no_unix))))),
-                    (
-                      no_row_division undated_row (no_row undated_row undated_row_det (gap
-                          past optional_none (exactly colon) (no_char m 58 (omega arith)) past no_blank m
-                          past optional_none (Row counter_row) (no_counter m)
-                          past optional_none (Row counter_row) (no_counter m)
-                          past optional_none name_label (no_such_front label IsName (no_label m))
-                          past optional_none uptime (no_uptime m)
-                          past inl (no_row message_row message_row_det (inl no_mnemonic)))),
-                      (
-                        no_row_division in_brackets_row (no_row in_brackets_row in_brackets_det (gap
-                            past inl (no_bracket m))),
-                        tt,
-                      ),
-                    ),
-                  ),
-                ),
-              ),
-            ),
-          ),
-        ),
-      ),
-    ),
-  )
+      (no_mapped (Row slashed_row) SentDate slashed_of (no_row slashed_row slashed_row_det
+      (inl (no_low m (pair 100) (λ p q v h. rw h.0 (omega (arith, h.1))))))))) also
+      no_row_division utm_row (no_row utm_row utm_row_det (gap past inl
+      (no_mapped (Row colon_row) SentDate colon_of (no_row colon_row colon_row_det (inl (no_year m)))))) also
+      no_row_division logread_row (no_row logread_row logread_row_det (gap past inl no_weekday)) also
+      no_row_division ctime_message_row (no_row ctime_message_row ctime_message_det (gap past inl no_weekday)) also
+      no_row_division ctime_row (no_row ctime_row ctime_line_det (gap past inl no_weekday)) also
+      no_row_division year_row (no_row year_row year_line_det (gap past inl no_year_date)) also
+      no_row_division meraki_row (no_row meraki_row meraki_row_det (gap past inl (no_char m 49 (omega arith)))) also
+      no_row_division short_row (no_row short_row short_row_det (gap past inl
+      (no_mapped (Row unix_row) SentDate unix_of (no_row unix_row unix_row_det (inl no_unix))))) also
+      no_row_division undated_row (no_row undated_row undated_row_det (gap
+      past optional_none (exactly colon) (no_char m 58 (omega arith)) past no_blank m
+      past optional_none (Row counter_row) (no_counter m) past optional_none (Row counter_row) (no_counter m)
+      past optional_none name_label (no_such_front label IsName (no_label m)) past optional_none uptime (no_uptime m)
+      past inl (no_row message_row message_row_det (inl no_mnemonic)))) also
+      no_row_division in_brackets_row (no_row in_brackets_row in_brackets_det (gap past inl (no_bracket m))) also tt
