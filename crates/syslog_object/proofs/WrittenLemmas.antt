@@ -19,6 +19,7 @@ use Rattle.syslog_pieces.proofs.PriLemmas.{facility_low, severity_low}
 use Rattle.syslog_loose.specs.declared.message.Protocol.TheVariants.{RFC3164, RFC5424}
 use Rattle.syslog_object.specs.{Parts.comma_if, Parts.members_text, Parts.IsSmallVersion, Gathered.members_of}
 use Rattle.syslog_object.specs.Written.{HasSmallNumbers, ItemsHaveSmallNumbers, MembersHaveSmallNumbers, IsTextOf}
+use Rattle.syslog_text.proofs.PieceLemmas.Class.{◌also◌}
 use Rattle.syslog_object.specs.Object.{Beside, fields_of, present, refused_json}
 
 -- ---- the numbers are numbers of JSON
@@ -232,49 +233,17 @@ flat_fields ((key, None) ∷ fields) each = flat_fields fields each.1
 flat_fields ((key, Some value) ∷ fields) each = (each.0, flat_fields fields each.1)
 
 pub flat_message : (m : MessageValue) (b : Beside) → IsSmallVersion m.protocol → IsFlat 5 (message_json m b)
-flat_message m b small = flat_object 4 (present (fields_of m b)) (flat_fields (fields_of m b) (
-  (tt, omega arith),
-  (
-    flat_version m.protocol small,
-    (
-      flat_optional _ (λ t. (tt, omega arith)) b.dialect,
-      (
-        flat_optional _ (λ f. (tt, omega arith)) m.facility,
-        (
-          flat_optional _ (λ f. ((_, omega (arith, facility_low f), refl), omega arith)) m.facility,
-          (
-            flat_optional _ (λ s. (tt, omega arith)) m.severity,
-            (
-              flat_optional _ (λ s. ((_, omega (arith, severity_low s), refl), omega arith)) m.severity,
-              (
-                flat_optional _ (λ t. (tt, omega arith)) m.timestamp,
-                (
-                  flat_optional _ (λ t. (tt, omega arith)) m.hostname,
-                  (
-                    flat_optional _ (λ t. (tt, omega arith)) m.appname,
-                    (
-                      flat_optional _ (λ t. (tt, omega arith)) m.procid,
-                      (
-                        flat_optional _ (λ t. (tt, omega arith)) m.msgid,
-                        (
-                          flat_structured m.structured_data,
-                          (
-                            flat_optional _ (λ t. (tt, omega arith)) b.unparsed,
-                            ((tt, omega arith), (flat_optional _ (λ t. (tt, omega arith)) b.raw, tt)),
-                          ),
-                        ),
-                      ),
-                    ),
-                  ),
-                ),
-              ),
-            ),
-          ),
-        ),
-      ),
-    ),
-  ),
-))
+flat_message m b small = flat_object 4 (present (fields_of m b)) (flat_fields (fields_of m b) ((tt, omega arith) also
+    flat_version m.protocol small also flat_optional _ (λ t. (tt, omega arith)) b.dialect also
+    flat_optional _ (λ t. (tt, omega arith)) m.facility also
+    flat_optional _ (λ f. ((_, omega (arith, facility_low f), refl), omega arith)) m.facility also
+    flat_optional _ (λ t. (tt, omega arith)) m.severity also
+    flat_optional _ (λ f. ((_, omega (arith, severity_low f), refl), omega arith)) m.severity also
+    flat_optional _ (λ t. (tt, omega arith)) m.timestamp also flat_optional _ (λ t. (tt, omega arith)) m.hostname also
+    flat_optional _ (λ t. (tt, omega arith)) m.appname also flat_optional _ (λ t. (tt, omega arith)) m.procid also
+    flat_optional _ (λ t. (tt, omega arith)) m.msgid also flat_structured m.structured_data also
+    flat_optional _ (λ t. (tt, omega arith)) b.unparsed also (tt, omega arith) also
+    flat_optional _ (λ t. (tt, omega arith)) b.raw also tt))
 
 -- ---- what was written is the text of its value
 pub text_of_small : (j : Json) → HasSmallNumbers j → depth j ≤ 5 → IsTextOf j (compact_text j)
