@@ -157,16 +157,8 @@ param_prints p q v = (
     (
       v.0 ∷ (61 ∷ []) ∷ (34 ∷ []) ∷ v.1 ∷ (34 ∷ []) ∷ [],
       e,
-      (
-        (tt, (name.0, name.1, name.2, refl), refl),
-        (
-          refl,
-          (
-            refl,
-            ((units, (value_prints v.1 (34 ∷ q) units).1 (f, are, no_unit 34 q (omega arith) refl), refl), (refl, tt)),
-          ),
-        ),
-      ),
+      (tt, (name.0, name.1, name.2, refl), refl) also refl also refl also
+          (units, (value_prints v.1 (34 ∷ q) units).1 (f, are, no_unit 34 q (omega arith) refl), refl) also refl also tt,
     ),
     refl,
   )),
@@ -204,17 +196,10 @@ element_prints p q e = (
     (
       (91 ∷ []) ∷ e.id ∷ flat_map param_text e.params ∷ (93 ∷ []) ∷ [],
       w,
-      (
-        refl,
-        (
-          (tt, (name.0, name.1, name.2, params_end e.params q), refl),
-          (
-            (params_prints (flat_map param_text e.params) (93 ∷ q) e.params).1
-                (refl, are, (λ p' q' v f (t, g, k). let h = heads 93 32 q (t ++ q') (rw g at f) in omega arith)),
-            (refl, tt),
-          ),
-        ),
-      ),
+      refl also (tt, (name.0, name.1, name.2, params_end e.params q), refl) also
+          (params_prints (flat_map param_text e.params) (93 ∷ q) e.params).1
+          (refl, are, (λ p' q' v f (t, g, k). let h = heads 93 32 q (t ++ q') (rw g at f) in omega arith)) also
+          refl also tt,
     ),
     refl,
   )),
