@@ -35,7 +35,7 @@ use Rattle.syslog_sent.specs.Runs.{is_either_char, is_plain_char, is_word_char}
 use Rattle.syslog_named_forms.specs.Untagged.{cef_row, leef_row, pair_row, palo_alto_row, repeated_tail, repeats_row}
 use Rattle.syslog_sent.specs.Date.{unless}
 use Rattle.syslog_named_forms.specs.Untagged.{is_main_topic, later_topic_row, main_topic, number_row, topic_row}
-use Rattle.syslog_named_forms.specs.declared.untagged.MessageMarks.{MessageMarks}
+use Rattle.syslog_named_forms.specs.declared.marks.MessageMarks.{MessageMarks}
 use Rattle.syslog_named_forms.specs.Untagged.{AreAll, AreMarks, begins_other, ends_list, holds, marked}
 use Rattle.syslog_named_forms.specs.Untagged.{marked_of, message}
 use Rattle.syslog_named_forms.specs.Untagged.{angle, clock_row, dashed_row, day, is_month, month_row, month_word}

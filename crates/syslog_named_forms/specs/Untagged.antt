@@ -16,7 +16,7 @@ use Rattle.syslog_sent.specs.Date.{unless}
 use Rattle.syslog_sent.specs.Named.{◌otherwise◌, NamedTexts, beginning, hosted, untagged}
 use Rattle.syslog_sent.specs.Runs.{is_plain_char, is_word_char}
 use Rattle.syslog_named_forms.specs.declared.untagged.Mark.{Mark}
-use Rattle.syslog_named_forms.specs.declared.untagged.MessageMarks.{MessageMarks}
+use Rattle.syslog_named_forms.specs.declared.marks.MessageMarks.{MessageMarks}
 use Rattle.syslog_named_forms.specs.declared.untagged.Mark.TheVariants.{Cef, Leef, Repeated, PaloAlto, Pair, Json}
 use Rattle.syslog_named_forms.specs.declared.untagged.Mark.TheVariants.{Idrac}
 use Rattle.syslog_named_forms.specs.declared.untagged.Mark.TheVariants.{Level}

@@ -15,6 +15,7 @@ ghost use Rattle.syslog_sent.specs.Views.{named_value};
 
 use crate::devices::{addressed, titled};
 use crate::graded::{counted, event, graded, leveled, numbered, sourced, threaded};
+use crate::marks::{MessageMarks, mark_end, message, past_host};
 use crate::monotonic::read_monotonic;
 use crate::near_header::{
     Start, head, read_bare, read_heroku, read_nil, read_paired, read_tag, read_vendor,
@@ -25,7 +26,7 @@ use crate::programs::{
     worded,
 };
 use crate::unified::{compact, unified};
-use crate::untagged::{MARKS, Mark, MessageMarks, mark_end, message, past_host};
+use crate::untagged::{MARKS, Mark};
 use syslog_sent::dialect::Dialect;
 use syslog_sent::led::Led;
 use syslog_sent::named::Named;

@@ -9,7 +9,8 @@ ghost use Rattle.syslog_named_forms.specs.NearHeader as spec;
 ghost use Rattle.syslog_named_forms.specs.NearHeaderViews.{head_values, ids_values, source_values};
 ghost use Rattle.syslog_sent.specs.Sent.{Sends, sent_value};
 
-use crate::untagged::{Mark, mark_end};
+use crate::marks::mark_end;
+use crate::untagged::Mark;
 use syslog_elements::structured_data::paired_list;
 use syslog_sent::date::any_date;
 use syslog_sent::named::read_program;

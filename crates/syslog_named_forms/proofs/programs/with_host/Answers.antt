@@ -1,6 +1,5 @@
-use Rattle.std.proofs.Common.{List, [], ◌∷◌, inl, refl}
-use Rattle.syslog_text.specs.Pieces.Class.{Class, Row, exactly, rest, run, some_run}
-use Rattle.syslog_text.specs.Text.{is_blank}
+use Rattle.std.proofs.Common.{inl, refl}
+use Rattle.syslog_text.specs.Pieces.Class.{Row}
 use Rattle.syslog_text.proofs.PieceLemmas.Class.{
   ◌past◌,
   ◌then◌,
@@ -10,13 +9,12 @@ use Rattle.syslog_text.proofs.PieceLemmas.Class.{
   rest_front,
   row_of,
 }
-use Rattle.syslog_text.proofs.PieceLemmas.Class.{rows_join, rows_none_here, rows_none_later}
+use Rattle.syslog_text.proofs.PieceLemmas.Class.{rows_join, rows_none_later}
 use Rattle.syslog_named_forms.proofs.ProgramLemmas.{after_host, serial_det}
 use Rattle.syslog_named_forms.proofs.UntaggedLemmas.{host_row_det}
-use Rattle.syslog_sent.specs.{Date.iso_date, Named.NamedTexts, Named.program}
+use Rattle.syslog_sent.specs.{Named.NamedTexts}
 use Rattle.syslog_named_forms.specs.Programs.{serial_of}
 use Rattle.syslog_named_forms.specs.{Programs.serial_row, Untagged.host_row}
-use Rattle.syslog_sent.specs.Runs.{is_plain_char}
 use Rattle.syslog_named_forms.proofs.programs.with_host.Goals as goal
 
 pub returns-in_err-serial_end : goal.returns-in_err-serial_end

@@ -1,6 +1,6 @@
 use Rattle.std.proofs.Common.{refl}
 use Rattle.syslog_named_forms.proofs.UntaggedLemmas.{all_begun, all_others, no_mark_empty}
-use Rattle.syslog_named_forms.proofs.untagged.Marks.of.Goals as goal
+use Rattle.syslog_named_forms.proofs.marks.Marks.of.Goals as goal
 
 pub returns-in_default : goal.returns-in_default
 returns-in_default c m n = no_mark_empty m c.in_default.ensures

@@ -2,7 +2,7 @@ use Rattle.std.proofs.Common.{inl, refl}
 use Rattle.syslog_text.proofs.PieceLemmas.Class.{◌past◌, ◌then◌, no_row, row_of}
 use Rattle.syslog_named_forms.specs.Untagged.{host_row}
 use Rattle.syslog_named_forms.proofs.UntaggedLemmas.{host_row_det}
-use Rattle.syslog_named_forms.proofs.untagged.past_host.Goals as goal
+use Rattle.syslog_named_forms.proofs.marks.past_host.Goals as goal
 
 pub returns-in_err-hostname : goal.returns-in_err-hostname
 returns-in_err-hostname c = rw c.from_residual.ensures (no_row host_row host_row_det (inl c.in_err-hostname.ensures))

@@ -1,6 +1,6 @@
 use Rattle.std.proofs.Common.{sym, ◌∙◌}
 use Rattle.syslog_named_forms.proofs.UntaggedLemmas.{list_told, no_list_end}
-use Rattle.syslog_named_forms.proofs.untagged.may_be_list.Goals as goal
+use Rattle.syslog_named_forms.proofs.marks.may_be_list.Goals as goal
 
 pub returns-in-Some : goal.returns-in-Some
 returns-in-Some c h = list_told c.split.ensures c.in-Some.ensures.0 (sym c.ends_list.ensures ∙ h)

@@ -1,14 +1,14 @@
 -- The table is held against the definition at each character of ASCII, by computing.
 use Rattle.std.proofs.Common.{◌≡◌, ℕ, true, refl, arith, get_or}
 use Rattle.std.proofs.lemmas.Bool.{agree_below, agree_below_at}
-use Rattle.syslog_named_forms.specs.Untagged.{begins, holds}
+use Rattle.syslog_named_forms.specs.Untagged.{begins_other, holds}
 use Rattle.syslog_named_forms.specs.declared.untagged.Mark.{Mark}
 use Rattle.syslog_named_forms.specs.declared.untagged.Mark.TheVariants.{Cef, Leef, Repeated, PaloAlto, Pair, Json}
 use Rattle.syslog_named_forms.specs.declared.untagged.Mark.TheVariants.{Idrac, Level, Topics, Bracket, Dated}
-use Rattle.syslog_named_forms.specs.declared.untagged.TheConstants.{IN_LIST}
-use Rattle.syslog_named_forms.proofs.untagged.bits_in_list.Goals as goal
+use Rattle.syslog_named_forms.specs.declared.marks.TheConstants.{OTHERS}
+use Rattle.syslog_named_forms.proofs.marks.other_bits.Goals as goal
 
-agrees : (m : Mark) → agree_below (λ (k : ℕ). holds (get_or IN_LIST k 0) m) (begins m) 128 ≡ true
+agrees : (m : Mark) → agree_below (λ (k : ℕ). holds (get_or OTHERS k 0) m) (begins_other m) 128 ≡ true
 agrees Cef = refl
 agrees Leef = refl
 agrees Repeated = refl
@@ -22,5 +22,6 @@ agrees Bracket = refl
 agrees Dated = refl
 
 pub returns-then-c-lt128 : goal.returns-then-c-lt128
-returns-then-c-lt128 c m = agree_below_at (λ (k : ℕ). holds (get_or IN_LIST k 0) m) (begins m) 128 c.args.c (agrees m)
+returns-then-c-lt128 c m = agree_below_at (λ (k : ℕ). holds (get_or OTHERS k 0) m) (begins_other m) 128 c.args.c
+    (agrees m)
     (omega arith)

@@ -9,7 +9,7 @@ use Rattle.syslog_named_forms.specs.Untagged.{host_row, mark_class}
 use Rattle.syslog_named_forms.specs.Untagged.{marked}
 use Rattle.syslog_named_forms.specs.Untagged.{marked_of}
 use Rattle.syslog_named_forms.specs.declared.untagged.Mark.{Mark}
-use Rattle.syslog_named_forms.proofs.untagged.message.Goals as goal
+use Rattle.syslog_named_forms.proofs.marks.message.Goals as goal
 
 abbrev begun : Mark → Class
 begun m = beginning (mark_class m)

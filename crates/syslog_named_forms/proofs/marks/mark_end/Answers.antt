@@ -1,6 +1,6 @@
 use Rattle.std.proofs.Common.{◌∙◌}
 use Rattle.syslog_named_forms.proofs.UntaggedLemmas.{no_mark, no_mark_empty}
-use Rattle.syslog_named_forms.proofs.untagged.mark_end.Goals as goal
+use Rattle.syslog_named_forms.proofs.marks.mark_end.Goals as goal
 
 pub returns-in_err-c : goal.returns-in_err-c
 returns-in_err-c c = rw c.from_residual.ensures (no_mark_empty c.args.mark c.in_err-c.ensures)
