@@ -113,7 +113,9 @@ fn of_header(text: &str) -> Option<(Dialect, Sent<'_>)>
     }
 }
 
-/// Returns the dialect of a text that begins with no date and is in none by its date, and what the text says.
+/// Returns the dialect of a text that begins with no date and is in none by its date, and what the text says. It is a
+/// call, since a text that begins with a date does not come here, and memory would be cleared for it too.
+#[inline(never)]
 pub fn read_undated(text: &str) -> Option<(Dialect, Sent<'_>)>
     ensures { Finds spec.undated_forms (chars text.now) result }
 {
