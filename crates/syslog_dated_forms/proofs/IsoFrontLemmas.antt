@@ -7,8 +7,8 @@ use Rattle.syslog_text.specs.Pieces.Class.{Text, Each, Ends, Front, NoDivision, 
 use Rattle.syslog_text.specs.Pieces.Class.{run, some_run}
 use Rattle.syslog_text.specs.Text.{is_blank, is_tag_char, colon}
 use Rattle.syslog_pieces.specs.Timestamp.Rfc3339.{pair, year}
-use Rattle.syslog_text.proofs.PieceLemmas.Class.{◌past◌, ◌then◌, each_append, each_map, front_of, front_same, mapped_front}
-use Rattle.syslog_text.proofs.PieceLemmas.Class.{no_mapped}
+use Rattle.syslog_text.proofs.PieceLemmas.Class.{◌past◌, ◌then◌, each_append, each_map, front_of, front_same}
+use Rattle.syslog_text.proofs.PieceLemmas.Class.{mapped_front, no_mapped}
 use Rattle.syslog_text.proofs.PieceLemmas.Class.{no_row, no_row_division, optional_none, optional_some, row_of}
 use Rattle.syslog_text.proofs.PieceLemmas.Class.{row_pieces}
 use Rattle.syslog_text.proofs.PieceLemmas.Class.{◌also◌, row_cons, row_nil, rows_none_later, run_det, some_run_det}
@@ -147,9 +147,23 @@ digits_word = each_map is_ascii_digit is_word_char digit_word
 
 part_told : (p q : Text) (n : ℕ) → date_part.Is p q n → IsPart p
 part_told p q n (inl k, (t, is, h), i) =
-    record { e = 45; some = t; is = is; mark = inl refl; tags = rw is (refl, digits_tag t h.1); words = rw is (refl, digits_word t h.1) }
+    record {
+      e = 45;
+      some = t;
+      is = is;
+      mark = inl refl;
+      tags = rw is (refl, digits_tag t h.1);
+      words = rw is (refl, digits_word t h.1);
+    }
 part_told p q n (inr k, (none, (t, is, h)), i) =
-    record { e = 47; some = t; is = is; mark = inr refl; tags = rw is (refl, digits_tag t h.1); words = rw is (refl, digits_word t h.1) }
+    record {
+      e = 47;
+      some = t;
+      is = is;
+      mark = inr refl;
+      tags = rw is (refl, digits_tag t h.1);
+      words = rw is (refl, digits_word t h.1);
+    }
 
 word_of : (p q : Text) → 0 < length p → Each is_tag_char p → Ends is_tag_char q → Front bare_word (p ++ q) q p
 word_of p q some each ends = front_of p refl ((tt, (some, each, ends), refl))
@@ -265,7 +279,8 @@ has_iso f =
       minutes = minute.whole ∙ ap (λ (z : Text). z ++ u6) (is ∙ ap (λ (z : Text). 58 ∷ z) two.is);
       digit = two.first;
     } in
-    let at_day : IsWord u2 = subst IsWord (sym d.whole) (after_mid d.piece mid.piece day.tags day.words (part_long d.piece day)
+    let at_day : IsWord u2 = subst IsWord (sym d.whole)
+    (after_mid d.piece mid.piece day.tags day.words (part_long d.piece day)
     mid.whole (mid_told mid.piece u4 _ mid.is) clock) in
     with_year y.piece m.piece y.whole m.whole (year_digits y.piece u1 _ y.is) (part_told m.piece u2 _ m.is) at_day
 

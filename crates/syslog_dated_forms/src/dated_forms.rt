@@ -204,7 +204,8 @@ fn after_iso<'a>(begun: &'a str, date: SentDate, rest: &'a str) -> Option<(Diale
     Some((Dialect::NearlyRfc3339, sent))
 }
 
-/// Returns the dialect of a line that begins with this date and has no form of its own after it, and what the line says.
+/// Returns the dialect of a line that begins with this date and has no form of its own after it, and what the line
+/// says.
 pub fn read_plain<'a>(led: &Led<'a>) -> Option<(Dialect, Sent<'a>)>
     ensures { (text : Text) → IsLed text led.now → Finds spec.plain_forms text result }
 {

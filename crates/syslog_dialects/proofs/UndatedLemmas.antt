@@ -30,7 +30,8 @@ use Rattle.syslog_dated_forms.proofs.MonthFrontLemmas.{small_letters, small_low}
 use Rattle.syslog_named_forms.specs.Monotonic.{monotonic_row, seconds_row}
 use Rattle.syslog_named_forms.specs.NamedForms.{dated_forms, front_row, header_forms, spread_forms, spread_tail}
 use Rattle.syslog_named_forms.specs.NamedForms.{undated_forms, undated_row}
-use Rattle.syslog_named_forms.specs.NearHeader.{bare_more, bare_row, head_row, heroku_more, heroku_row, nil_more, nil_row}
+use Rattle.syslog_named_forms.specs.NearHeader.{bare_more, bare_row, head_row, heroku_more, heroku_row, nil_more}
+use Rattle.syslog_named_forms.specs.NearHeader.{nil_row}
 use Rattle.syslog_named_forms.specs.NearHeader.{paired_more, paired_row, tag_more, tag_row, vendor_more, vendor_row}
 use Rattle.syslog_named_forms.specs.Pairs.{pair, pair_row}
 use Rattle.syslog_named_forms.specs.Untagged.{cef_row, leef_row}
@@ -106,7 +107,8 @@ word_letter c h = let (large, low) = small_low c h in
       arith,
       nat_tests,
       small,
-      agree_below_at (λ k. not (nat_le 97 (to_ascii_lowercase k) && nat_lt (to_ascii_lowercase k) 123) || is_word_char k)
+      agree_below_at
+          (λ k. not (nat_le 97 (to_ascii_lowercase k) && nat_lt (to_ascii_lowercase k) 123) || is_word_char k)
           (λ k. true) 123 c refl low,
     )
 

@@ -162,7 +162,8 @@ impl MessageMarks {
     /// Returns whether the mark is one of either.
     #[inline(always)]
     pub(crate) fn has(self, mark: Mark) -> bool
-        ensures { (result ≡ false) → (spec.holds self.own.bits mark ≡ false) × (spec.holds self.later.bits mark ≡ false) }
+        ensures { (result ≡ false) → (spec.holds self.own.bits mark ≡ false)
+            × (spec.holds self.later.bits mark ≡ false) }
     {
         self.own.has(mark) || self.later.has(mark)
     }

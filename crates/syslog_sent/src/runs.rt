@@ -61,8 +61,8 @@ fn is_in(b: u8, run: Run) -> bool
     CLASSES[b as usize] & (1 << run as u8) != 0
 }
 
-// How many bytes at the front are characters of the class. It looks at four in each turn of its loop, since half of what
-// a byte takes is the loop itself.
+// How many bytes at the front are characters of the class. It looks at four in each turn of its loop, since half of
+// what a byte takes is the loop itself.
 #[inline(always)]
 fn run_len(bytes: &[u8], run: Run) -> usize
     ensures within { result ≤ length bytes.now }
