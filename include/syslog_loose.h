@@ -80,7 +80,7 @@ struct syslog_options {
  * write them: docs/SENDERS.md has them all. Where the variant and no_dialects are 0, syslog_read, syslog_read_utf8,
  * syslog_read_fields, syslog_read_lines, syslog_json and syslog_to_rfc5424 read a line in its dialect. Its message has
  * structured data in check-point alone: one element, whose id, checkpoint@2620, is no piece of the line but a text of
- * the library.
+ * the library. What journalctl writes between messages, as `-- Reboot --`, is then no message.
  *
  * syslog_normalise, syslog_settle and syslog_is_canonical read each line by the protocols alone. A line of a dialect
  * may be no message for them. */

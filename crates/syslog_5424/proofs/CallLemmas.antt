@@ -6,7 +6,7 @@ use Rattle.std.specs.Prelude.{◌↔◌, IfOk, IsUtf8, MatchResult}
 use Rattle.syslog_text.specs.Pieces.Class.{Text}
 use Rattle.syslog_choice.specs.Chosen.{IsChosen}
 use Rattle.syslog_choice.specs.declared.Choice.{Choice}
-use Rattle.syslog_dialects.proofs.SentReadingLemmas.{read_once}
+use Rattle.syslog_dialects.proofs.SentReadingLemmas.{read_not_unsent, read_once}
 use Rattle.syslog_dialects.specs.SentReading.{IsReadSent, IsUnsent}
 use Rattle.syslog_sent.specs.declared.dialect.Dialect.{Dialect}
 use Rattle.syslog_dialects.specs.declared.visit.SentLine.{SentLine}
@@ -20,7 +20,6 @@ use Rattle.syslog_loose.specs.declared.fault.ParseFault.TheVariants.{Invalid}
 use Rattle.syslog_loose.specs.declared.variant.Variant.TheVariants.{Either}
 use Rattle.syslog_lines.specs.Output.{AddsAnswer}
 use Rattle.syslog_strict.specs.{Call.Copies, Call.NoSyslogMsg, Grammar.IsSyslogMsg}
-use Rattle.syslog_strict_sent.proofs.ConvertLemmas.{read_not_unsent}
 use Rattle.syslog_strict_sent.specs.Converted.{ConvertsSent, IsSentText}
 use Rattle.syslog_utf8.specs.Decoded.{decoded}
 use Rattle.syslog_5424.specs.Conversions.{IsAskedFor, IsRefused, IsWritten, conversions}

@@ -1,24 +1,33 @@
 -- A line that is read as its sender meant it, and what its timestamp shows.
 use Rattle.syslog_c.proofs.Words.{◌≡◌, ◌∙◌, Option, None, Some, ap, inl, refl, sym, subst, Text, Dating, line_value}
 use Rattle.syslog_c.proofs.Words.{IsStamp, List, MessageValue, OffsetTimestamp, Rules, ShowsNoDate, Stamp}
-use Rattle.syslog_c.proofs.Words.{inr, list_elements, NoReading, Outcome}
-use Rattle.std.specs.Prelude.{Bool, true, false}
+use Rattle.syslog_c.proofs.Words.{dating_in, in_year_map, inr, list_elements, NoReading, Outcome}
+use Rattle.std.proofs.Common.{ℤ}
+use Rattle.syslog_c.proofs.Words.{[], ◌∷◌, ◌++◌}
+use Rattle.std.specs.Prelude.{Bool, true, false, codes}
+use Rattle.syslog_text.specs.Pieces.Class.{NoFront, exactly}
+use Rattle.syslog_text.specs.Text.{trimmed}
+use Rattle.syslog_dialects.specs.Note.{IsNote}
 use Rattle.std.specs.Int.{from_bool}
 use Rattle.syslog_elements.specs.StructuredData.Element.{ElementValue}
-use Rattle.syslog_loose.specs.Reading.{IsUnreadable}
+use Rattle.jiff.specs.Words.{plain_zone}
+use Rattle.syslog_loose.proofs.ReckoningLemmas.{one_dating}
+use Rattle.syslog_loose.specs.Reading.{AsksYear, InYear, IsUnreadable}
+use Rattle.syslog_loose.specs.Today.{IsYearIn}
+use Rattle.syslog_pieces.specs.declared.timestamp.month_date.MonthDate.{MonthDate}
 use Rattle.syslog_loose.specs.Visit.{IsLineOf}
 use Rattle.syslog_loose.specs.declared.line.Line.{Line}
 use Rattle.syslog_dialects.proofs.SentReadingLemmas.{flags, in_dialect, left_read, odd_elements, read_once}
-use Rattle.syslog_dialects.proofs.SentReadingLemmas.{dialect_leaves, undated}
+use Rattle.syslog_dialects.proofs.SentReadingLemmas.{dialect_leaves, read_not_unsent, undated}
 use Rattle.syslog_loose.proofs.UnparsedLemmas.{leaves_of}
 use Rattle.syslog_loose.specs.Unparsed.{IsLeftUnparsed}
 use Rattle.syslog_dialects.specs.Ordinary.{IsOrdinary}
-use Rattle.syslog_dialects.specs.SentReading.{AreAsked, HasFlags, IsDialectLine, IsInNone, IsLeft, MayBegin}
+use Rattle.syslog_dialects.specs.SentReading.{AreAsked, HasFlags, IsDialectLine, IsLeft, IsNone, MayBegin}
 use Rattle.syslog_dialects.specs.SentReading.{LeavesSent, Shows, Stands}
 use Rattle.syslog_sent.specs.declared.dialect.Dialect.{Dialect}
 use Rattle.syslog_dialects.specs.declared.visit.SentLine.{SentLine}
 use Rattle.syslog_c.specs.OfLine.{AreOfLine}
-use Rattle.syslog_c.specs.Sent.{IsMeant, IsOnlyMeant}
+use Rattle.syslog_c.specs.Sent.{IsMeant, IsNoNote, IsOnlyMeant, IsUnnoted}
 use Rattle.syslog_c.specs.Shown.{IsShown, IsShownIn, flag_number}
 use Rattle.syslog_c.specs.Reported.{AreMeant, AreTaken, MeansOnly, ReportsFields}
 use Rattle.syslog_c.specs.declared.fields.Fields.{Fields}
@@ -33,6 +42,41 @@ only_meant rules dating text dialect m read = record {
   only = λ other n is.
       read_once rules.dates dating rules.dialects rules.variant text dialect other m n read is;
 }
+
+-- ---- what is no line between messages
+
+-- a text that is read is none
+pub read_unnoted : (rules : Rules) (dating : Dating) (text : Text) (dialect : Option Dialect) (m : MessageValue)
+    → IsMeant rules dating text dialect m → IsUnnoted rules dating text
+read_unnoted rules dating text dialect m read asked noted =
+    read_not_unsent rules.dates dating rules.dialects rules.variant text dialect m read (inr (asked, noted))
+
+-- a text without a dash at its front is none
+pub not_dashed : (text t : Text) → t ≡ trimmed text → NoFront (exactly (45 ∷ [])) t → IsNote text → ⊥
+not_dashed text t same none (inner, is, b) =
+    none (45 ∷ []) (45 ∷ 32 ∷ inner ++ codes " --") tt (same ∙ is) refl
+
+-- what holds in the year of the text holds beside that
+pub with_unnoted : (rules : Rules) (text : Text) {Holds : Option ℤ → Type 0} → IsNoNote rules text
+    → InYear (λ date year. IsYearIn rules.dates.today date year) rules.variant text Holds
+    → InYear (λ date year. IsYearIn rules.dates.today date year) rules.variant text
+    (λ year. Holds year × IsUnnoted rules (dating_in (plain_zone rules.dates.zone) year) text)
+with_unnoted rules text (inl none) h = in_year_map (λ year is. (is, λ asked noted. none noted.1)) h
+with_unnoted rules text (inr never) h =
+    let (dating, this, that) =
+    one_dating {Holds = λ d. (date : MonthDate) → AsksYear rules.variant text date → d.year ≡ h.answered}
+    {More = λ d. (date : MonthDate) → AsksYear rules.variant text date → d.year ≡ never.answered}
+    rules.dates rules.variant text
+    (record { answered = h.answered; is_answered = h.is_answered; holds = λ year agrees. agrees })
+    (record { answered = never.answered; is_answered = never.is_answered; holds = λ year agrees. agrees }) in
+    record {
+      answered = h.answered;
+      is_answered = h.is_answered;
+      holds = λ year agrees. (
+        h.holds year agrees,
+        never.holds year (λ date asks. agrees date asks ∙ sym (this date asks) ∙ that date asks),
+      );
+    }
 
 -- ---- the flags of a timestamp
 
@@ -118,14 +162,13 @@ module _ (rules : Rules) (dating : Dating) (text : Text) (line : Line) (new : Fi
   pub ordinary_meant : IsOrdinary line → AreOfLine new None line × IsShown text new.timestamp
       → AreMeant rules dating text (list_elements line.list) new
   ordinary_meant is = port_meant
-      (left_read rules.dates dating rules.dialects rules.variant text line of (λ odd may. absurd (odd is)))
+      (left_read rules.dates dating rules.dialects rules.variant text line of (λ odd. absurd (odd is)))
 
-  pub left_meant : (AreAsked rules.dialects rules.variant → MayBegin text → IsInNone rules.dates true text)
+  pub left_meant : (AreAsked rules.dialects rules.variant → IsNone rules.dates text)
       → AreOfLine new None line × IsShown text new.timestamp
       → AreMeant rules dating text (list_elements line.list) new
   left_meant none = port_meant
-      (λ asked. left_read rules.dates dating rules.dialects rules.variant text line of
-      (λ odd may. none asked may) asked)
+      (λ asked. left_read rules.dates dating rules.dialects rules.variant text line of (λ odd. none asked) asked)
 
   -- a dialect's line comes before it
   pub instead_meant : (it : SentLine) → (IsOrdinary line → ⊥)

@@ -18,7 +18,7 @@ use crate::fields::{Element, Fields, Param};
 use crate::options::Options;
 use crate::outcome::Outcome;
 use crate::rules::Rules;
-use crate::sent::{take_read, take_unread};
+use crate::sent::{is_note, take_read, take_unread};
 use syslog_elements::structured_data::{NoElements, visit_list};
 use syslog_loose::{DateForm, ElementList, IncompleteDate, Itself, LineVisitor, visit_dated_line};
 use syslog_utf8::from_utf8;
@@ -118,6 +118,9 @@ fn read_into<'a>(
     if !rules.take(options) {
         return Outcome::BadArgument;
     }
+    if is_note(text, &rules) {
+        return Outcome::NoReading;
+    }
     let mut arrays = Arrays {
         elements,
         params,
@@ -207,6 +210,9 @@ pub(crate) fn read_fields<'a>(line: &'a [u8], options: &Options, fields: &mut Fi
     let Ok(text) = from_utf8(line) else {
         return Outcome::NotUtf8;
     };
+    if is_note(text, &rules) {
+        return Outcome::NoReading;
+    }
     let dates = &rules.dates;
     let get_year = |date: IncompleteDate| -> i32
         ensures { IsYearIn dates.entry.now.today date result }

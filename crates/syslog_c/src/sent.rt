@@ -8,6 +8,7 @@ ghost use Rattle.syslog_text.specs.Pieces.Class.{Text as AnyText};
 ghost use Rattle.syslog_elements.specs.StructuredData.Visited.{list_elements};
 ghost use Rattle.syslog_pieces.specs.Timestamp.Zone.{Dating};
 ghost use Rattle.syslog_loose.specs.DateForm.{HasDateForm};
+ghost use Rattle.syslog_loose.specs.Dates.{IsDated};
 ghost use Rattle.syslog_loose.specs.Line.{line_value};
 ghost use Rattle.syslog_loose.specs.Reading.{IsUnreadable};
 ghost use Rattle.syslog_loose.specs.Visit.{IsLineOf};
@@ -18,17 +19,55 @@ ghost use Rattle.syslog_sent.specs.declared.dialect.Dialect.{Dialect};
 ghost use Rattle.syslog_c.specs.OfLine.{AreOfLine};
 ghost use Rattle.syslog_c.specs.Shown.{IsShownIn};
 ghost use Rattle.syslog_c.specs.Reported.{AreMeant, AreTaken};
+ghost use Rattle.syslog_c.specs.Sent.{IsNoNote, IsUnnoted};
 ghost use Rattle.syslog_c.specs.declared.rules.Rules.{Rules as AnyRules};
 
 use crate::convert::fields_of;
 use crate::fields::Fields;
 use crate::rules::Rules;
 use crate::shown::{show, with_flags};
-use syslog_dialects::{SentLine, line_instead, unread_line};
+use syslog_dialects::{Instead, SentLine, line_instead, may_be_note, parse_sent_line, unread_line};
 use syslog_loose::{DateForm, ElementList};
+use syslog_text::text::{literal, trimmed};
+
+/// Returns whether the text is no message, where it may be a line that journalctl writes between messages.
+///
+/// For such a line nothing is to be written, and the fields of the port's line are written before it is known whether
+/// that is ordinary. So this is asked first. Most lines are told by their first byte.
+#[inline(always)]
+pub(crate) fn is_note(text: &str, rules: &Rules) -> bool
+    ensures { MatchBool result
+        (IsDated rules.now.dates rules.now.variant (chars text.now) (λ dating.
+        IsUnsent rules.now.dates dating rules.now.dialects rules.now.variant (chars text.now)))
+        (IsNoNote rules.now (chars text.now)) }
+{
+    if !may_be_note(text) {
+        return false;
+    }
+    is_unsent(text, rules)
+}
+
+// Returns whether the text is no message, where it begins with a dash. Few lines begin so that this is asked of them.
+#[cold]
+#[inline(never)]
+fn is_unsent(text: &str, rules: &Rules) -> bool
+    ensures { MatchBool result
+        (IsDated rules.now.dates rules.now.variant (chars text.now) (λ dating.
+        IsUnsent rules.now.dates dating rules.now.dialects rules.now.variant (chars text.now)))
+        (IsNoNote rules.now (chars text.now)) }
+{
+    let Some(_rest) = literal(trimmed(text), '-') else {
+        return false;
+    };
+    match parse_sent_line(text, &rules.dates, rules.variant, rules.dialects) {
+        Some(_sent) => false,
+        None => true,
+    }
+}
 
 /// Completes the fields of the port's line, whose date has this form. If that line keeps its reading, they get what the
-/// text shows of the date; otherwise those of a dialect's line replace them, whose elements are returned.
+/// text shows of the date; otherwise those of a dialect's line replace them, whose elements are returned. The text is
+/// no line between messages.
 #[inline(always)]
 pub(crate) fn take_read<'a>(
     text: &'a str,
@@ -41,6 +80,7 @@ pub(crate) fn take_read<'a>(
         → IsLineOf rules.now.variant dating (chars text.entry.now) line
         → AreOfLine fields.old None line
         → MatchBool is_ordinary (IsOrdinary line) (IsOrdinary line → ⊥)
+        → IsUnnoted rules.now dating (chars text.entry.now)
         → AreTaken rules.now dating (chars text.entry.now) (list_elements line.list) result fields.new }
 {
     if is_ordinary {
@@ -61,15 +101,21 @@ fn take_instead<'a>(
 ) -> Option<ElementList<'a>>
     ensures { HasDateForm (chars text.entry.now) form → (dating : Dating) (line : AnyLine)
         → IsLineOf rules.now.variant dating (chars text.entry.now) line
-        → AreOfLine fields.old None line → (IsOrdinary line → ⊥)
+        → AreOfLine fields.old None line → (IsOrdinary line → ⊥) → IsUnnoted rules.now dating (chars text.entry.now)
         → AreTaken rules.now dating (chars text.entry.now) (list_elements line.list) result fields.new }
 {
-    let Some(sent) = line_instead(text, &rules.dates, rules.variant, rules.dialects) else {
-        show_port(form, fields);
-        return None;
-    };
-    *fields = fields_sent(&sent);
-    Some(sent.line.list)
+    match line_instead(text, &rules.dates, rules.variant, rules.dialects) {
+        Instead::Kept => {
+            show_port(form, fields);
+            None
+        }
+        // (such a text was refused before)
+        Instead::Note => None,
+        Instead::Sent(sent) => {
+            *fields = fields_sent(&sent);
+            Some(sent.line.list)
+        }
+    }
 }
 
 /// Takes the fields of a dialect's line, for a text that the port does not parse, and returns its elements; none if

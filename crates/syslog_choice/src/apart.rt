@@ -62,7 +62,7 @@ pub fn sent_apart<'a>(input: &'a str, dates: &Dates, dialects: bool) -> Option<S
         IsSentAnswer dates.now dating dialects Either (chars input.entry.now) result) }
 {
     match parse_apart(input, dates) {
-        Some(found) => Some(sent_line(&found, input, dates, Variant::Either, dialects)),
+        Some(found) => sent_line(&found, input, dates, Variant::Either, dialects),
         None => unread_line(input, dates, Variant::Either, dialects),
     }
 }

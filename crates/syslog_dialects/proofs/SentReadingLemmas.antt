@@ -24,16 +24,20 @@ use Rattle.syslog_loose.specs.declared.line.Line.{Line}
 use Rattle.syslog_loose.specs.declared.variant.Variant.{Variant}
 use Rattle.syslog_sent.specs.Forms.{IsOfFirst, IsOfNone, IsOnlyOf}
 use Rattle.syslog_dialects.specs.Dialects.{forms_of}
+use Rattle.syslog_dialects.specs.Note.{IsNote}
 use Rattle.syslog_dialects.specs.Ordinary.{IsOrdinary}
 use Rattle.syslog_sent.specs.Sent.{SentValue}
 use Rattle.syslog_dialects.specs.SentLine.{HasNoStamp, HasStamp, sent_message}
-use Rattle.syslog_dialects.specs.SentReading.{AreAsked, IsDialectLine, IsInNone, IsLeft}
+use Rattle.syslog_dialects.specs.SentReading.{AreAsked, IsDialectLine, IsInNone, IsInstead, IsLeft, IsNone, IsUnsent}
 use Rattle.syslog_dialects.specs.SentReading.{HasFlags, IsReadSent, IsSentAnswer, IsSentIn, LeavesSent, MayBegin}
 use Rattle.syslog_dialects.specs.SentReading.{GivesOwn, HasElementsOf, Shows, Stands, shows_offset, shows_year}
 use Rattle.syslog_sent.specs.declared.dialect.Dialect.{Dialect}
 use Rattle.syslog_sent.specs.declared.sent.SentDate.{SentDate}
+use Rattle.syslog_dialects.specs.declared.visit.Instead.{Instead}
+use Rattle.syslog_dialects.specs.declared.visit.Instead.TheVariants.{Kept, Note, Sent}
 use Rattle.syslog_dialects.specs.declared.visit.SentLine.{SentLine}
 use Rattle.syslog_sent.proofs.DialectLemmas.{none_first}
+use Rattle.syslog_dialects.proofs.NoteLemmas.{note_begins_none}
 use Rattle.syslog_dialects.proofs.OrdinaryLemmas.{ordinary_too}
 use Rattle.syslog_dialects.proofs.PairedLemmas.{no_list, opened_keeps, opened_once}
 use Rattle.syslog_dialects.proofs.SentLemmas.{stamp_once}
@@ -83,16 +87,30 @@ module _ (dates : Dates) (is_read : Bool) (text : Text) where
 
 module _ (dates : Dates) (dating : Dating) (dialects : Bool) (variant : Variant) (text : Text) where
   -- no text is left in two ways
+  in_none_unread : IsUnreadable variant dating text → (MayBegin text → IsInNone dates false text) → (is_read : Bool)
+      → IsLeft variant dating text is_read → IsInNone dates is_read text
+  in_none_unread none never true ((line, of, odd), may) = absurd (none (line_value line) of.only.read)
+  in_none_unread none never false left = never left.1
+
   pub left_unread : IsUnreadable variant dating text → (MayBegin text → IsInNone dates false text)
       → Stands dates dating dialects variant text
-  left_unread none never asked true ((line, of, odd), may) = absurd (none (line_value line) of.only.read)
-  left_unread none never asked false left = never left.1
+  left_unread none never asked = (
+    in_none_unread none never,
+    λ ((line, of, odd), note). none (line_value line) of.only.read,
+  )
 
-  pub left_read : (line : Line) → IsLineOf variant dating text line
-      → ((IsOrdinary line → ⊥) → MayBegin text → IsInNone dates true text) → Stands dates dating dialects variant text
-  left_read line of never asked true ((other, too, odd), may) =
-      never (λ is. odd (ordinary_too variant dating text line other of too is)) may
-  left_read line of never asked false left = absurd (left.0 (line_value line) of.only.read)
+  in_none_read : (line : Line) → IsLineOf variant dating text line → ((IsOrdinary line → ⊥) → IsNone dates text)
+      → (is_read : Bool) → IsLeft variant dating text is_read → IsInNone dates is_read text
+  in_none_read line of never true ((other, too, odd), may) =
+      (never (λ is. odd (ordinary_too variant dating text line other of too is))).0 may
+  in_none_read line of never false left = absurd (left.0 (line_value line) of.only.read)
+
+  pub left_read : (line : Line) → IsLineOf variant dating text line → ((IsOrdinary line → ⊥) → IsNone dates text)
+      → Stands dates dating dialects variant text
+  left_read line of never asked = (
+    in_none_read line of never,
+    λ ((other, too, odd), note). (never (λ is. odd (ordinary_too variant dating text line other of too is))).1 note,
+  )
 
   pub in_dialect : AreAsked dialects variant → (is_read : Bool) (it : SentLine) → IsLeft variant dating text is_read
       → IsDialectLine dates is_read text it → IsSentAnswer dates dating dialects variant text (Some it)
@@ -104,13 +122,12 @@ module _ (dates : Dates) (dating : Dating) (dialects : Bool) (variant : Variant)
   -- the port's line is kept
   pub port_stands : (asked : Bool) → IsTrue asked ↔ AreAsked dialects variant → (line : Line) (it : SentLine)
       → it.line ≡ line → it.dialect ≡ None
-      → (IsTrue asked → (IsOrdinary line → ⊥) → MayBegin text → IsInNone dates true text)
-      → IsLineOf variant dating text line
+      → (IsTrue asked × (IsOrdinary line → ⊥) → IsNone dates text) → IsLineOf variant dating text line
       → IsReadSent dates dating dialects variant text it.dialect (line_value it.line)
   port_stands asked is line it same plain never of =
       subst (λ (d : Option Dialect). IsReadSent dates dating dialects variant text d (line_value it.line)) (sym plain) (
         subst (λ (l : Line). IsOnlyRead variant dating text (line_value l)) (sym same) of.only,
-        λ asks. left_read line of (never (is.1 asks)) asks,
+        λ asks. left_read line of (λ odd. never (is.1 asks, odd)) asks,
       )
 
   -- a dialect's line comes before it
@@ -125,7 +142,7 @@ module _ (dates : Dates) (dating : Dating) (dialects : Bool) (variant : Variant)
       → MatchOption result (IsTrue asked → MayBegin text → IsInNone dates false text)
       (λ it. IsTrue asked × MayBegin text × IsDialectLine dates false text it) → IsUnreadable variant dating text
       → IsSentAnswer dates dating dialects variant text result
-  unread asked is None never none = (none, λ asks. left_unread none (never (is.1 asks)) asks)
+  unread asked is None never none = inl (none, λ asks. left_unread none (never (is.1 asks)) asks)
   unread asked is (Some it) says none = in_dialect (is.0 says.0) false it (none, says.1) says.2
 
   -- and the flags of its date
@@ -161,12 +178,34 @@ module _ (dates : Dates) (dating : Dating) (dialects : Bool) (variant : Variant)
       → IsReadSent dates dating dialects variant text dialect m → IsReadSent dates dating dialects variant text other n
       → (other ≡ dialect) × (n ≡ m)
   read_once None None m n is too = (refl, is.0.only n too.0.read)
-  read_once None (Some e) m n is (asked, (is_read, left, sent)) = absurd (is.1 asked is_read left e n sent)
-  read_once (Some d) None m n (asked, (is_read, left, sent)) too = absurd (too.1 asked is_read left d m sent)
+  read_once None (Some e) m n is (asked, (is_read, left, sent)) = absurd ((is.1 asked).0 is_read left e n sent)
+  read_once (Some d) None m n (asked, (is_read, left, sent)) too = absurd ((too.1 asked).0 is_read left d m sent)
   read_once (Some d) (Some e) m n (asked, (is_read, left, sent)) (again, (other, more, too)) =
       let same = sent_once dates is_read text d e m n sent
       (subst (λ (b : Bool). IsSentIn dates b text e n) (left_once is_read other left more) too) in
       (ap Some same.0, same.1)
+
+  none_begins : (is_read : Bool) → IsLeft variant dating text is_read → IsNote text → ⊥
+  none_begins true left note = note_begins_none text left.1 note
+  none_begins false left note = note_begins_none text left.1 note
+
+  -- a text that is read is a message
+  pub read_not_unsent : (dialect : Option Dialect) (m : MessageValue)
+      → IsReadSent dates dating dialects variant text dialect m → IsUnsent dates dating dialects variant text → ⊥
+  read_not_unsent None m (only, kept) (inl (none, stands)) = none m only.read
+  read_not_unsent None m (only, kept) (inr (asked, noted)) = (kept asked).1 noted
+  read_not_unsent (Some dialect) m (asked, (is_read, left, is)) (inl (none, stands)) =
+      (stands asked).0 is_read left dialect m is
+  read_not_unsent (Some dialect) m (asked, (is_read, left, is)) (inr (again, noted)) = none_begins is_read left noted.1
+
+-- ---- what becomes of the port's line
+
+-- under a condition that holds
+pub instead_given : (Asks : Type 0) → Asks → (dates : Dates) (text : Text) (it : Instead)
+    → IsInstead (Unit {0}) dates text it → IsInstead Asks dates text it
+instead_given Asks asks dates text Kept none = λ again. none tt
+instead_given Asks asks dates text Note note = (asks, note.1)
+instead_given Asks asks dates text (Sent it) is = ((asks, is.0.1), is.1)
 
 -- ---- the flags of an absent date
 
@@ -263,7 +302,7 @@ pub kept_reading : (dates : Dates) (dating : Dating) (dialects : Bool) (variant 
     → IsReadSent dates dating dialects variant text None (line_value line)
 kept_reading dates dating dialects variant text line of is = (
   of.only,
-  λ asked. left_read dates dating dialects variant text line of (λ odd may. absurd (odd is)) asked,
+  λ asked. left_read dates dating dialects variant text line of (λ odd. absurd (odd is)) asked,
 )
 
 pub no_dialect : (dates : Dates) (dating : Dating) (dialects : Bool) (variant : Variant) (text : Text) (line : Line)

@@ -1,5 +1,6 @@
 pub mod Dialects
 pub mod Found
+pub mod Note
 pub mod Ordinary
 pub mod Paired
 pub mod PriorityAlone

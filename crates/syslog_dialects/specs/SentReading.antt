@@ -1,5 +1,5 @@
 -- How a text is read as its sender meant it: in a dialect, or as the port reads it.
-use Rattle.std.specs.Prelude.{◌≡◌, ◌||◌, ◌&&◌, ℕ, Bool, true, false, nat_eq, nat_le, IsTrue, List, [], ◌∷◌, Option}
+use Rattle.std.specs.Prelude.{◌≡◌, ◌⊎◌, ◌||◌, ◌&&◌, ℕ, Bool, true, false, nat_eq, nat_le, IsTrue, List, [], ◌∷◌, Option}
 use Rattle.std.specs.Prelude.{Some}
 use Rattle.std.specs.Prelude.{None}
 use Rattle.std.specs.Prelude.{MatchOption, is_some}
@@ -22,6 +22,7 @@ use Rattle.syslog_loose.specs.declared.variant.Variant.TheVariants.{Either}
 use Rattle.syslog_sent.specs.Forms.{IsOnlyOf}
 use Rattle.syslog_dialects.specs.Dialects.{forms_of}
 use Rattle.syslog_sent.specs.Named.{is_letter}
+use Rattle.syslog_dialects.specs.Note.{IsNote}
 use Rattle.syslog_dialects.specs.Ordinary.{IsOrdinary}
 use Rattle.syslog_dialects.specs.Paired.{IsOpened}
 use Rattle.syslog_sent.specs.Sent.{SentValue}
@@ -29,6 +30,8 @@ use Rattle.syslog_dialects.specs.SentLine.{IsMessageSent}
 pub use Rattle.syslog_sent.specs.Zone.{is_capital}
 use Rattle.syslog_sent.specs.declared.dialect.Dialect.{Dialect}
 use Rattle.syslog_sent.specs.declared.sent.SentDate.{SentDate}
+use Rattle.syslog_dialects.specs.declared.visit.Instead.{Instead}
+use Rattle.syslog_dialects.specs.declared.visit.Instead.TheVariants.{Kept, Note, Sent}
 use Rattle.syslog_dialects.specs.declared.visit.SentLine.{SentLine}
 
 -- the dialects are asked: they are wanted, and either protocol is read
@@ -114,10 +117,16 @@ pub record IsSentIn (dates : Dates) (is_read : Bool) (text : Text) (dialect : Di
 abbrev pub IsInNone : Dates → Bool → Text → Type 0
 IsInNone dates is_read text = (dialect : Dialect) (m : MessageValue) → IsSentIn dates is_read text dialect m → ⊥
 
--- the port's reading is kept
+-- the text is a line that journalctl writes between messages, and the port reads a line of it that is not ordinary
+abbrev pub IsNoted : Variant → Dating → Text → Type 0
+IsNoted variant dating text =
+    ((line : Line) × IsLineOf variant dating text line × (IsOrdinary line → ⊥)) × IsNote text
+
+-- the port's reading is kept: the text is of no dialect, and no line that is written between messages
 abbrev pub Stands : Dates → Dating → Bool → Variant → Text → Type 0
-Stands dates dating dialects variant text = AreAsked dialects variant → (is_read : Bool)
-    → IsLeft variant dating text is_read → IsInNone dates is_read text
+Stands dates dating dialects variant text = AreAsked dialects variant
+    → ((is_read : Bool) → IsLeft variant dating text is_read → IsInNone dates is_read text)
+    × (IsNoted variant dating text → ⊥)
 
 -- the text is read as this message: as the port reads it, or in a dialect
 abbrev pub IsReadSent : Dates → Dating → Bool → Variant → Text → Option Dialect → MessageValue → Type 0
@@ -126,10 +135,11 @@ IsReadSent dates dating dialects variant text None m =
 IsReadSent dates dating dialects variant text (Some dialect) m = AreAsked dialects variant
     × ((is_read : Bool) × IsLeft variant dating text is_read × IsSentIn dates is_read text dialect m)
 
--- the text is no message
+-- the text is no message: the port does not parse it, and it is of no dialect; or it is a line between messages
 abbrev pub IsUnsent : Dates → Dating → Bool → Variant → Text → Type 0
 IsUnsent dates dating dialects variant text =
-    IsUnreadable variant dating text × Stands dates dating dialects variant text
+    (IsUnreadable variant dating text × Stands dates dating dialects variant text)
+    ⊎ (AreAsked dialects variant × IsNoted variant dating text)
 
 -- this is left unparsed of the text's structured data: nothing in a dialect
 abbrev pub LeavesSent : Option Dialect → Variant → Text → Text → Type 0
@@ -181,3 +191,13 @@ pub record IsDialectLine (dates : Dates) (is_read : Bool) (text : Text) (it : Se
   pub offset : it.shows_offset ≡ shows_offset sent.sent.date
   pub no_list : list_text it.line.list ≡ []
   pub form : KnowsForm it.line
+
+-- the text is of no dialect that may come before the port's line, and no line between messages
+abbrev pub IsNone : Dates → Text → Type 0
+IsNone dates text = (MayBegin text → IsInNone dates true text) × (IsNote text → ⊥)
+
+-- what becomes of the port's line of the text under this condition, which says among others that dialects are asked
+abbrev pub IsInstead : Type 0 → Dates → Text → Instead → Type 0
+IsInstead Asks dates text Kept = Asks → IsNone dates text
+IsInstead Asks dates text Note = Asks × IsNote text
+IsInstead Asks dates text (Sent it) = (Asks × MayBegin text) × IsDialectLine dates true text it

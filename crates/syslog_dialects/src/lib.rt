@@ -13,12 +13,14 @@ mod beginning;
 mod dialects;
 pub mod laws;
 mod line;
+mod note;
 mod ordinary;
 mod paired;
 mod priority_alone;
 mod visit;
 
 pub use beginning::may_be_sent;
+pub use note::may_be_note;
 pub use ordinary::is_ordinary;
 pub use syslog_sent::dialect::Dialect;
-pub use visit::{SentLine, line_instead, parse_sent_line, sent_line, unread_line};
+pub use visit::{Instead, SentLine, line_instead, parse_sent_line, sent_line, unread_line};

@@ -1,8 +1,9 @@
 //! The way from a text to a line, in a dialect or as the port reads it.
 //!
 //! The port reads the text once. If its line is ordinary, it is kept. Otherwise, and if there is no line, the dialects
-//! are tried by a call of its own. So an ordinary line only pays for a look at a few of its fields.
-ghost use Rattle.std.specs.Prelude.{◌≡◌, ◌↔◌, [], false, true, IfSome, IsSome, IsTrue, MatchOption, chars};
+//! are tried by a call of its own. So an ordinary line only pays for a look at a few of its fields. What journalctl
+//! writes between messages is looked for only where no dialect may begin, and only if the port's line is not ordinary.
+ghost use Rattle.std.specs.Prelude.{◌≡◌, ◌↔◌, ⊤, [], false, true, IfSome, IsSome, IsTrue, MatchOption, chars};
 ghost use Rattle.syslog_text.specs.Pieces.Class.{Text};
 ghost use Rattle.syslog_elements.specs.StructuredData.Visited.{list_elements};
 ghost use Rattle.syslog_pieces.specs.Timestamp.Zone.{Dating};
@@ -18,6 +19,7 @@ ghost use Rattle.syslog_dialects.specs.SentReading as spec;
 use crate::beginning::may_be_sent;
 use crate::dialects::read_dialect;
 use crate::line::line_of;
+use crate::note::is_note;
 use crate::ordinary::is_ordinary;
 use crate::paired::opened;
 use syslog_elements::structured_data::{ElementVisitor, visit_list};
@@ -38,6 +40,17 @@ pub struct SentLine<'a> {
     pub shows_year: bool,
     /// Whether the date of a dialect's line shows its offset. It is false if the line is the port's.
     pub shows_offset: bool,
+}
+
+/// What becomes of the port's line of a text, if it is not ordinary.
+#[derive(Clone, Copy)]
+pub enum Instead<'a> {
+    /// It is kept.
+    Kept,
+    /// It is dropped: the text is no message, but a line that journalctl writes between messages.
+    Note,
+    /// The line of the dialect that the text is in replaces it.
+    Sent(SentLine<'a>),
 }
 
 impl<'a> SentLine<'a> {
@@ -140,31 +153,37 @@ fn tried_line<'a>(is_read: bool, input: &'a str, dates: &Dates) -> Option<SentLi
     dialect_line(is_read, input, dates)
 }
 
-// Returns the line of a dialect instead of the port's line, which is not ordinary, if dialects are asked for.
+// What becomes of the port's line of a text, where dialects are asked for and that line is not ordinary.
 #[inline(always)]
-fn other_line<'a>(
-    line: &Line<'a>,
-    input: &'a str,
-    dates: &Dates,
-    are_asked: bool,
-) -> Option<SentLine<'a>>
+fn odd_line<'a>(input: &'a str, dates: &Dates) -> Instead<'a>
+    ensures { spec.IsInstead ⊤ dates.now (chars input.entry.now) result }
+{
+    if may_be_sent(input) {
+        return match tried_line(true, input, dates) {
+            Some(sent) => Instead::Sent(sent),
+            None => Instead::Kept,
+        };
+    }
+    if is_note(input) {
+        Instead::Note
+    } else {
+        Instead::Kept
+    }
+}
+
+// What becomes of the port's line: it is kept if no dialects are asked for, or it is ordinary.
+#[inline(always)]
+fn other_line<'a>(line: &Line<'a>, input: &'a str, dates: &Dates, are_asked: bool) -> Instead<'a>
     requires { KnowsForm line.now }
-    ensures { MatchOption result
-        (IsTrue are_asked → (IsOrdinary line.now → ⊥) → spec.MayBegin (chars input.entry.now)
-        → spec.IsInNone dates.now true (chars input.entry.now))
-        (λ it. IsTrue are_asked × ((IsOrdinary line.now → ⊥) × spec.MayBegin (chars input.entry.now))
-        × spec.IsDialectLine dates.now true (chars input.entry.now) it) }
+    ensures { spec.IsInstead (IsTrue are_asked × (IsOrdinary line.now → ⊥)) dates.now (chars input.entry.now) result }
 {
     if !are_asked {
-        return None;
+        return Instead::Kept;
     }
     if is_ordinary(line) {
-        return None;
+        return Instead::Kept;
     }
-    if !may_be_sent(input) {
-        return None;
-    }
-    tried_line(true, input, dates)
+    odd_line(input, dates)
 }
 
 // Returns the line of a dialect for a text that the port does not parse, if dialects are asked for.
@@ -184,8 +203,7 @@ fn last_line<'a>(input: &'a str, dates: &Dates, are_asked: bool) -> Option<SentL
     tried_line(false, input, dates)
 }
 
-/// Returns the line of a dialect instead of the port's line of the text, which is not ordinary, and none if the text is
-/// in no dialect. It does not allocate.
+/// Returns what becomes of the port's line of the text, which is not ordinary. It does not allocate.
 ///
 /// It is for callers that have made something of the port's line already; `sent_line` returns either line.
 #[inline(always)]
@@ -194,26 +212,21 @@ pub fn line_instead<'a>(
     dates: &Dates,
     variant: Variant,
     dialects: bool,
-) -> Option<SentLine<'a>>
-    ensures { MatchOption result
-        (spec.AreAsked dialects variant → spec.MayBegin (chars input.entry.now)
-        → spec.IsInNone dates.now true (chars input.entry.now))
-        (λ it. (spec.AreAsked dialects variant × spec.MayBegin (chars input.entry.now))
-        × spec.IsDialectLine dates.now true (chars input.entry.now) it) }
+) -> Instead<'a>
+    ensures { spec.IsInstead (spec.AreAsked dialects variant) dates.now (chars input.entry.now) result }
 {
     if !asks_dialects(variant, dialects) {
-        return None;
+        return Instead::Kept;
     }
-    if !may_be_sent(input) {
-        return None;
-    }
-    tried_line(true, input, dates)
+    odd_line(input, dates)
 }
 
-/// Returns the line of the text as its sender meant it, given the port's line. It does not allocate.
+/// Returns the line of the text as its sender meant it, given the port's line; none if the text is no message. It does
+/// not allocate.
 ///
 /// If `dialects` is true and the variant is `Either`, the line of a dialect that the text is in comes before the
-/// port's, unless that is ordinary. Otherwise the line is the port's.
+/// port's, unless that is ordinary, and what journalctl writes between messages is none. Otherwise the line is the
+/// port's.
 ///
 /// A line of the port that has elements is never replaced by a dialect's. A visitor that was given those of the port's
 /// line is given those of the returned one by `visit_own`. Nothing of a dialect's line is left unparsed as structured
@@ -225,22 +238,22 @@ pub fn sent_line<'a>(
     dates: &Dates,
     variant: Variant,
     dialects: bool,
-) -> SentLine<'a>
+) -> Option<SentLine<'a>>
     requires { KnowsForm line.now }
     ensures reads { (dating : Dating) → IsLineOf variant dating (chars input.entry.now) line.now
-        → spec.IsReadSent dates.now dating dialects variant (chars input.entry.now)
-        result.dialect (line_value result.line) }
+        → spec.IsSentAnswer dates.now dating dialects variant (chars input.entry.now) result }
     ensures shown { (dating : Dating) → IsLineOf variant dating (chars input.entry.now) line.now
-        → spec.Shows dates.now dating variant (chars input.entry.now) result }
-    ensures elements { spec.HasElementsOf result (list_elements line.now.list) }
-    ensures leaves { (dating : Dating) (unparsed : Text) → IsLineOf variant dating (chars input.entry.now) line.now
-        → IsLeftUnparsed result.line unparsed
-        → spec.LeavesSent result.dialect variant (chars input.entry.now) unparsed }
-    ensures form { KnowsForm result.line }
+        → IfSome result (λ it. spec.Shows dates.now dating variant (chars input.entry.now) it) }
+    ensures elements { IfSome result (λ it. spec.HasElementsOf it (list_elements line.now.list)) }
+    ensures leaves { IfSome result (λ it. (dating : Dating) (unparsed : Text)
+        → IsLineOf variant dating (chars input.entry.now) line.now → IsLeftUnparsed it.line unparsed
+        → spec.LeavesSent it.dialect variant (chars input.entry.now) unparsed) }
+    ensures form { IfSome result (λ it. KnowsForm it.line) }
 {
     match other_line(line, input, dates, asks_dialects(variant, dialects)) {
-        Some(sent) => sent,
-        None => SentLine::of(line, None, None),
+        Instead::Kept => Some(SentLine::of(line, None, None)),
+        Instead::Note => None,
+        Instead::Sent(sent) => Some(sent),
     }
 }
 
@@ -293,7 +306,7 @@ pub fn parse_sent_line<'a>(
         ensures { IsYearIn dates.entry.now.today date result }
     { dates.year_of(date) };
     match parse_line(input, get_year, None, variant, &dates.zone) {
-        Some(line) => Some(sent_line(&line, input, dates, variant, dialects)),
+        Some(line) => sent_line(&line, input, dates, variant, dialects),
         None => unread_line(input, dates, variant, dialects),
     }
 }

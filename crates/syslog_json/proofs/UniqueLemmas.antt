@@ -98,6 +98,16 @@ module _ {V : Type 0} {post : IncompleteDate → ℤ → Type 0} (filter : Objec
           (h.holds h.answered (λ date asks. refl))) left,
     )
 
+    -- or no line, where the text is no message
+    pub line_refused : (made : Line) → InYear post Either text
+        (IsMade V (plain_zone filter.dates.zone) text old (Some made) new)
+        → ((date : IncompleteDate) (y : ℤ) → post date y → IsYearIn filter.dates.today date y)
+        → ((dating : Dating) → IsLineOf Either dating text made
+        → IsSentAnswer filter.dates dating filter.dialects Either text None) → IsLineRead filter text None new
+    line_refused made h tells reads =
+        reading.in_year_told (reading.in_year_map (λ year is. reads (dating_in (plain_zone filter.dates.zone) year)
+        (line_made (plain_zone filter.dates.zone) text old new made year is)) h) tells
+
     none_written : InYear post Either text (IsMade V (plain_zone filter.dates.zone) text old None new)
         → HasWritten old [] → HasWritten new []
     none_written h empty = let (v, w, none) = h.holds h.answered (λ date asks. refl) in none.2 old [] empty

@@ -78,7 +78,10 @@ impl Objects<'_> {
             &mut Itself,
         ) {
             Some(found) => {
-                let sent = sent_line(&found, line, dates, Variant::Either, self.dialects);
+                let Some(sent) = sent_line(&found, line, dates, Variant::Either, self.dialects)
+                else {
+                    return None;
+                };
                 sent.visit_own(writer);
                 Some(sent)
             }

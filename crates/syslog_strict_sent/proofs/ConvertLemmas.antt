@@ -14,8 +14,8 @@ use Rattle.syslog_loose.specs.declared.fault.ParseFault.TheVariants.{Memory}
 use Rattle.syslog_loose.specs.declared.line.Line.{Line}
 use Rattle.syslog_loose.specs.declared.variant.Variant.{Variant}
 use Rattle.syslog_dialects.proofs.MessageLemmas.{sent_msg, sent_process}
-use Rattle.syslog_dialects.proofs.SentReadingLemmas.{read_once}
-use Rattle.syslog_dialects.specs.SentReading.{IsReadSent, IsSentIn, IsUnsent, LeavesSent}
+use Rattle.syslog_dialects.proofs.SentReadingLemmas.{read_not_unsent, read_once}
+use Rattle.syslog_dialects.specs.SentReading.{IsReadSent, IsSentIn, LeavesSent}
 use Rattle.syslog_sent.specs.declared.dialect.Dialect.{Dialect}
 use Rattle.syslog_strict.proofs.ConversionLaws.{HasReadMsg, read_whole, strict_text}
 use Rattle.syslog_strict.specs.{Call.IsLineText, Call.NoSyslogMsg, Conversion.converted, Conversion.whole}
@@ -50,12 +50,6 @@ module _ (dates : Dates) (dating : Dating) (dialects : Bool) (variant : Variant)
     is = strict_text (whole m u) text (read_msg_sent dialect m u read leaves) e;
   }
 
-  -- a text that is read is a message
-  pub read_not_unsent : (dialect : Option Dialect) (m : MessageValue)
-      → IsReadSent dates dating dialects variant input dialect m → IsUnsent dates dating dialects variant input → ⊥
-  read_not_unsent None m (only, kept) unsent = unsent.0 m only.read
-  read_not_unsent (Some dialect) m (asked, (is_read, left, is)) unsent = unsent.1 asked is_read left dialect m is
-
   -- the line as which the text is read, written
   pub line_converts : (text : Text) (dialect : Option Dialect) (line : Line) (r : Result (Unit {0}) ParseFault)
       → NoSyslogMsg input → IsReadSent dates dating dialects variant input dialect (line_value line)
@@ -68,6 +62,6 @@ module _ (dates : Dates) (dating : Dating) (dialects : Bool) (variant : Variant)
     other,
     (
       λ invalid. absurd (invalid_or_memory (sym memory ∙ invalid)),
-      λ unsent. absurd (read_not_unsent dialect (line_value line) read unsent),
+      λ unsent. absurd (read_not_unsent dates dating dialects variant input dialect (line_value line) read unsent),
     ),
   )

@@ -12,13 +12,13 @@ ghost use Rattle.syslog_loose.specs.Visit.{IsLineOf};
 ghost use Rattle.syslog_loose.specs.declared.fault.ParseFault.TheVariants.{Memory};
 ghost use Rattle.syslog_loose.specs.declared.line.Line.{Line as AnyLine};
 ghost use Rattle.syslog_dialects.specs.Ordinary.{IsOrdinary};
-ghost use Rattle.syslog_dialects.specs.SentReading.{AreAsked, IsInNone, IsReadSent, MayBegin};
+ghost use Rattle.syslog_dialects.specs.SentReading.{AreAsked, IsNone, IsReadSent};
 ghost use Rattle.syslog_strict.specs.Call.{Copies, IsLineText, NoSyslogMsg};
 ghost use Rattle.syslog_strict.specs.Pushing.{text_in};
 ghost use Rattle.syslog_strict_sent.specs.Converted.{ConvertsSent};
 
 use std::alloc::Global;
-use syslog_dialects::{is_ordinary, line_instead, may_be_sent, unread_line};
+use syslog_dialects::{Instead, is_ordinary, line_instead, may_be_sent, unread_line};
 use syslog_loose::{Dates, IncompleteDate, Line, ParseFault, Variant, parse_line};
 use syslog_strict::{convert_line, copy_text, is_syslog_msg};
 
@@ -74,8 +74,8 @@ fn convert_sent(
     }
 }
 
-// Writes the converted message of the dialect that comes before the port's line of a text; returns none if the port's
-// line is kept.
+// Writes the converted message of the dialect that comes before the port's line of a text, or refuses a text that is no
+// message; returns none if the port's line is kept.
 #[inline(always)]
 fn convert_before(
     alloc: Global,
@@ -142,7 +142,7 @@ fn convert_last(
 }
 
 // Writes the converted message of the dialect that the text is in, instead of that of the port's line, which is not
-// ordinary; returns none if it is in none.
+// ordinary, or refuses what journalctl writes between messages; returns none if the port's line is kept.
 #[cold]
 #[inline(never)]
 fn convert_instead(
@@ -155,14 +155,15 @@ fn convert_instead(
 ) -> Option<Result<(), ParseFault>>
     requires { NoSyslogMsg (chars input.now) }
     ensures { MatchOption result
-        (AreAsked dialects variant → MayBegin (chars input.entry.now) → IsInNone dates.now true (chars input.entry.now))
+        (AreAsked dialects variant → IsNone dates.now (chars input.entry.now))
         (λ r. (dating : Dating) (line : AnyLine) → IsLineOf variant dating (chars input.entry.now) line
         → (IsOrdinary line → ⊥)
         → ConvertsSent dates.now dating dialects variant (chars input.entry.now) r (text_in text.new)) }
 {
     match line_instead(input, dates, variant, dialects) {
-        Some(sent) => Some(convert_apart(alloc, text, &sent.line)),
-        None => None,
+        Instead::Kept => None,
+        Instead::Note => Some(Err(ParseFault::Invalid)),
+        Instead::Sent(sent) => Some(convert_apart(alloc, text, &sent.line)),
     }
 }
 

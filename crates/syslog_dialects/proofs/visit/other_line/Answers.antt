@@ -1,14 +1,11 @@
-use Rattle.syslog_text.proofs.PieceLemmas.Class.{match_map}
+use Rattle.std.specs.Prelude.{IsTrue}
+use Rattle.std.specs.Str.{chars}
+use Rattle.syslog_dialects.proofs.SentReadingLemmas.{instead_given}
+use Rattle.syslog_dialects.specs.Ordinary.{IsOrdinary}
 use Rattle.syslog_dialects.proofs.visit.other_line.Goals as goal
 
 pub returns : goal.returns
 returns c =
-    match_map c.tried_line.result (λ none asked odd may. none)
-    (λ it is. (
-      c.if-not-are_asked.false,
-      (
-        c.if-is_ordinary.ensures,
-        c.may_be_sent.ensures.0 c.if-not-may_be_sent.false,
-      ),
-      is,
-    )) c.tried_line.ensures
+    instead_given (IsTrue c.args.are_asked × (IsOrdinary c.args.line.now → ⊥))
+    (c.if-not-are_asked.false, c.if-is_ordinary.ensures) c.args.dates.now (chars c.args.input.now) c.odd_line.result
+    c.odd_line.ensures

@@ -14,6 +14,6 @@ returns c dating of =
     (λ none. (
       of.only,
       λ asked. left_read c.args.dates.now dating c.args.dialects c.args.variant (chars c.args.input.now)
-          c.args.line.now of (λ odd may. none asked may) asked,
+          c.args.line.now of (λ odd. none asked) asked,
     ))
     (λ r converts. converts dating c.args.line.now of c.if-is_ordinary.ensures) c.convert_instead.ensures
