@@ -51,10 +51,9 @@ pub read_unnoted : (rules : Rules) (dating : Dating) (text : Text) (dialect : Op
 read_unnoted rules dating text dialect m read asked noted =
     read_not_unsent rules.dates dating rules.dialects rules.variant text dialect m read (inr (asked, noted))
 
--- a text without a dash at its front is none
-pub not_dashed : (text t : Text) → t ≡ trimmed text → NoFront (exactly (45 ∷ [])) t → IsNote text → ⊥
-not_dashed text t same none (inner, is, b) =
-    none (45 ∷ []) (45 ∷ 32 ∷ inner ++ codes " --") tt (same ∙ is) refl
+-- a text without two dashes and a space at its front is none
+pub not_dashed : (text t : Text) → t ≡ trimmed text → NoFront (exactly (codes "-- ")) t → IsNote text → ⊥
+not_dashed text t same none (inner, is, b) = none (codes "-- ") (inner ++ codes " --") tt (same ∙ is) refl
 
 -- what holds in the year of the text holds beside that
 pub with_unnoted : (rules : Rules) (text : Text) {Holds : Option ℤ → Type 0} → IsNoNote rules text

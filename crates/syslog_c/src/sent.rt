@@ -28,7 +28,8 @@ use crate::rules::Rules;
 use crate::shown::{show, with_flags};
 use syslog_dialects::{Instead, SentLine, line_instead, may_be_note, parse_sent_line, unread_line};
 use syslog_loose::{DateForm, ElementList};
-use syslog_text::text::{literal, trimmed};
+use syslog_sent::named::past;
+use syslog_text::text::trimmed;
 
 /// Returns whether the text is no message, where it may be a line that journalctl writes between messages.
 ///
@@ -47,7 +48,7 @@ pub(crate) fn is_note(text: &str, rules: &Rules) -> bool
     is_unsent(text, rules)
 }
 
-// Returns whether the text is no message, where it begins with a dash. Few lines begin so that this is asked of them.
+// Returns whether the text is no message, if it begins with two dashes and a space. Any other is read only once.
 #[cold]
 #[inline(never)]
 fn is_unsent(text: &str, rules: &Rules) -> bool
@@ -56,7 +57,7 @@ fn is_unsent(text: &str, rules: &Rules) -> bool
         IsUnsent rules.now.dates dating rules.now.dialects rules.now.variant (chars text.now)))
         (IsNoNote rules.now (chars text.now)) }
 {
-    let Some(_rest) = literal(trimmed(text), '-') else {
+    let Some(_rest) = past(trimmed(text), "-- ") else {
         return false;
     };
     match parse_sent_line(text, &rules.dates, rules.variant, rules.dialects) {
