@@ -283,7 +283,7 @@ KINDS = [
     ("plain_5424", plain_5424, 1.0),
     ("elements_5424", elements_5424, 1.0),
     ("plain_3164", plain_3164, 1.0),
-    ("long_5424", long_5424, 0.02),
+    ("long_5424", long_5424, 0.1),
     ("non_ascii_5424", non_ascii_5424, 1.0),
     ("mixed", mixed, 1.0),
     ("refused", refused, 1.0),
