@@ -9,18 +9,18 @@
 //! text`, `<189>: 2026 Mar  1 18:48:50 CET: %ETHPORT-5-IF_DOWN: text`, `<166>Mar 01 2026 18:48:50 asa1 : %ASA-6-302013:
 //! text`, `<189>Mar  2 06:33:04 s4810 %STKUNIT0-M:CP %SEC-5-LOGIN_SUCCESS: text`, `<189>: 2026 Mar  1 18:48:50 UTC: %$
 //! VDC-1 %$ %ETHPORT-5-IF_UP: text`.
-ghost use Rattle.std.specs.Prelude.{◌≡◌, ◌++◌, ◌∷◌, [], chars, IsTrue, MatchBool, MatchOption, Option, Some, ℕ};
+ghost use Rattle.std.specs.Prelude.{◌≡◌, ◌++◌, ◌∷◌, [], chars, IsTrue, MatchBool, MatchOption, Option, Some};
 ghost use Rattle.std.specs.Char.{is_ascii_digit};
-ghost use Rattle.syslog_text.specs.Pieces.Class.{Front, NoFront, Row, Text, exactly, optional, run, some_run};
+ghost use Rattle.syslog_text.specs.Pieces.Class.{Front, NoFront, Row, Text, exactly, optional, run};
 ghost use Rattle.syslog_text.specs.Pieces.View.{Reads, Recognises, seen, shown};
-ghost use Rattle.syslog_text.specs.Text.{colon as any_colon, is_blank};
+ghost use Rattle.syslog_text.specs.Text.{is_blank};
 ghost use Rattle.syslog_sent.specs.Date.{any_date as date_class};
 ghost use Rattle.syslog_dated_forms.specs.CiscoViews.{cisco_values, message_values};
 ghost use Rattle.syslog_sent.specs.Forms.{Finds};
 ghost use Rattle.syslog_sent.specs.Led.{IsLed};
 ghost use Rattle.syslog_sent.specs.Named.{◌otherwise◌, BeginsWith};
-ghost use Rattle.syslog_sent.specs.Runs.{are_ascii, is_plain_char};
-ghost use Rattle.syslog_sent.specs.Sent.{Sends, sent_value};
+ghost use Rattle.syslog_sent.specs.Runs.{are_ascii};
+ghost use Rattle.syslog_sent.specs.Sent.{sent_value};
 ghost use Rattle.syslog_sent.specs.Zone.{bare_word as any_word};
 ghost use Rattle.syslog_dated_forms.specs.Cisco as spec;
 
@@ -30,12 +30,10 @@ use syslog_sent::date::any_date;
 use syslog_sent::dialect::Dialect;
 use syslog_sent::led::{LeadingDate, Led};
 use syslog_sent::named::past;
-use syslog_sent::runs::{Run, split};
 use syslog_sent::sent::{Sent, SentDate};
+use syslog_sent::skips::{colon, digits, gap, plain_word, space};
 use syslog_sent::zone::bare_word;
-use syslog_text::text::{
-    CharClass, begins_with_digit, blanks, first, literal, past_colon, some_blanks, split_run,
-};
+use syslog_text::text::{begins_with_digit, blanks, first, literal, past_colon};
 
 // Whether a host's name may begin with this character: a letter or a digit.
 fn begins_host(c: char) -> bool
@@ -130,28 +128,6 @@ fn mnemonic(text: &str) -> Option<(&str, &str)>
         return None;
     }
     Some((word, rest))
-}
-
-pub(crate) fn digits(text: &str) -> Option<&str>
-    ensures { Recognises (some_run is_ascii_digit) (chars text.now) result }
-{
-    let (run, rest) = split_run(text, CharClass::Digit);
-    if run.is_empty() {
-        return None;
-    }
-    Some(rest)
-}
-
-pub(crate) fn colon(text: &str) -> Option<&str>
-    ensures { Recognises (exactly any_colon) (chars text.now) result }
-{
-    literal(text, ':')
-}
-
-pub(crate) fn gap(text: &str) -> Option<&str>
-    ensures { Recognises (some_run is_blank) (chars text.now) result }
-{
-    some_blanks(text)
 }
 
 fn counter(text: &str) -> Option<&str>
@@ -282,30 +258,20 @@ fn percent(text: &str) -> Option<&str>
     literal(text, '%')
 }
 
-fn plain(text: &str) -> Option<&str>
-    ensures { Recognises (some_run is_plain_char) (chars text.now) result }
-{
-    let (run, rest) = split(text, Run::Plain);
-    if run.is_empty() { None } else { Some(rest) }
-}
-
 fn dollar(text: &str) -> Option<&str>
     ensures { Recognises (exactly (36 ∷ [])) (chars text.now) result }
 {
     literal(text, '$')
 }
 
-fn space(text: &str) -> Option<&str>
-    ensures { Recognises (exactly (32 ∷ [])) (chars text.now) result }
-{
-    literal(text, ' ')
-}
-
 // Returns the text after Dell's unit and blanks.
 fn dell_end(text: &str) -> Option<&str>
     ensures { Recognises (Row spec.dell_row) (chars text.now) result }
 {
-    plain(text).and_then(colon).and_then(plain).and_then(gap)
+    plain_word(text)
+        .and_then(colon)
+        .and_then(plain_word)
+        .and_then(gap)
 }
 
 // Returns the text after a virtual device context and blanks.
@@ -314,7 +280,7 @@ fn context_end(text: &str) -> Option<&str>
 {
     dollar(text)
         .and_then(space)
-        .and_then(plain)
+        .and_then(plain_word)
         .and_then(space)
         .and_then(percent)
         .and_then(dollar)

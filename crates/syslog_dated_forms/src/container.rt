@@ -3,8 +3,8 @@
 //! **Rule.** The stream and the mark of a full or a partial line name no host and no program, so they stay before the
 //! message. (Kubernetes, "CRI logging": a timestamp of RFC 3339, `stdout` or `stderr`, `F` or `P`, each before a
 //! space.)
-ghost use Rattle.std.specs.Prelude.{◌≡◌, ◌∷◌, [], chars, true, MatchBool};
-ghost use Rattle.syslog_text.specs.Pieces.Class.{Front, Row, Text, exactly, run};
+ghost use Rattle.std.specs.Prelude.{chars, MatchBool};
+ghost use Rattle.syslog_text.specs.Pieces.Class.{Front, Row, Text, run};
 ghost use Rattle.syslog_text.specs.Pieces.Rules.{such_that};
 ghost use Rattle.syslog_text.specs.Pieces.View.{Recognises};
 ghost use Rattle.syslog_text.specs.Text.{is_blank};
@@ -14,6 +14,7 @@ ghost use Rattle.syslog_sent.specs.Zone.{bare_word as any_word};
 ghost use Rattle.syslog_dated_forms.specs.Container as spec;
 
 use syslog_sent::sent::{Sent, SentDate};
+use syslog_sent::skips::space;
 use syslog_sent::zone::{bare_word, is_one_of};
 use syslog_text::text::literal;
 
@@ -51,12 +52,6 @@ fn mark(text: &str) -> Option<&str>
         return None;
     }
     Some(rest)
-}
-
-fn space(text: &str) -> Option<&str>
-    ensures { Recognises (exactly (32 ∷ [])) (chars text.now) result }
-{
-    literal(text, ' ')
 }
 
 // Returns the text after the stream, a space and the mark.

@@ -3,18 +3,17 @@
 //! **Rule.** The level and the priority in brackets name no host; the program follows them. (VMware, "ESXi Log Files":
 //! from 8.0 on a line has the level and the priority after its timestamp.)
 ghost use Rattle.std.specs.Prelude.{◌≡◌, ◌∷◌, [], chars};
-ghost use Rattle.std.specs.Char.{is_ascii_digit};
-ghost use Rattle.syslog_text.specs.Pieces.Class.{Front, Row, Text, exactly, run, some_run};
+ghost use Rattle.syslog_text.specs.Pieces.Class.{Front, Row, Text, exactly, run};
 ghost use Rattle.syslog_text.specs.Pieces.View.{Recognises};
 ghost use Rattle.syslog_text.specs.Text.{is_blank};
 ghost use Rattle.syslog_sent.specs.Date.{iso_date};
 ghost use Rattle.syslog_sent.specs.Sent.{Sends};
 ghost use Rattle.syslog_dated_forms.specs.Esxi as spec;
 
-use crate::cisco::{digits, gap};
 use syslog_sent::named::{is_word, read_program};
 use syslog_sent::runs::{Run, split};
 use syslog_sent::sent::{Sent, SentDate};
+use syslog_sent::skips::{digits, gap};
 use syslog_text::text::{blanks, literal};
 
 fn is_grave(word: &str) -> bool

@@ -3,7 +3,7 @@
 //!
 //! **Rule.** The date of the message is the device's own. The host is what the device calls itself, or otherwise what
 //! the collector calls it. (rsyslog and syslog-ng write their date and the sender before the message as it came.)
-ghost use Rattle.std.specs.Prelude.{◌≡◌, [], MatchOption, chars};
+ghost use Rattle.std.specs.Prelude.{◌≡◌, MatchOption, chars};
 ghost use Rattle.syslog_text.specs.Pieces.Class.{Front, NoFront, Row, Text, run};
 ghost use Rattle.syslog_text.specs.Text.{is_blank};
 ghost use Rattle.syslog_text.specs.Pieces.View.{shown};
@@ -13,9 +13,10 @@ ghost use Rattle.syslog_sent.specs.Forms.{Finds};
 ghost use Rattle.syslog_sent.specs.Sent.{sent_value};
 ghost use Rattle.syslog_dated_forms.specs.Filed as spec;
 
-use crate::cisco::{Cisco, dated_in, gap, origin, shown_line};
+use crate::cisco::{Cisco, dated_in, origin, shown_line};
 use syslog_sent::dialect::Dialect;
 use syslog_sent::sent::{Sent, SentDate};
+use syslog_sent::skips::gap;
 
 /// What a collector writes before the line of a device, and that line.
 #[derive(Clone, Copy)]

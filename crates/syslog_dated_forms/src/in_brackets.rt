@@ -2,16 +2,16 @@
 //!
 //! **Rule.** All after the brackets is the message. Apache's error log (httpd, "Log Files"), `dmesg -T` (dmesg(1)),
 //! Kafka (its log4j.properties), Slurm and Asterisk write such lines.
-ghost use Rattle.std.specs.Prelude.{◌≡◌, ◌∷◌, [], MatchOption, chars};
+ghost use Rattle.std.specs.Prelude.{◌≡◌, MatchOption, chars};
 ghost use Rattle.syslog_text.specs.Bodies.Scan.{EndsRun, SplitsRun};
 ghost use Rattle.syslog_text.specs.Pieces.Class.{Division, Front, NoDivision, Row, Values, optional};
 ghost use Rattle.syslog_text.specs.Pieces.View.{Recognises, shown};
 ghost use Rattle.syslog_sent.specs.Sent.{Sends};
 ghost use Rattle.syslog_dated_forms.specs.InBrackets as spec;
 
-use crate::cisco::gap;
 use syslog_sent::date::{any_date, weekday};
 use syslog_sent::sent::{Sent, SentDate};
+use syslog_sent::skips::gap;
 use syslog_text::text::{blanks, first, literal};
 
 // The place of the bracket that closes, in bytes.

@@ -2,19 +2,19 @@
 //!
 //! **Rule.** The process is the program, and the message begins with its code. The node is no host; a name before it
 //! is. (Cisco, "System Monitoring": the format of system log messages.)
-ghost use Rattle.std.specs.Prelude.{◌≡◌, ◌∷◌, [], chars, MatchBool, MatchOption};
-ghost use Rattle.syslog_text.specs.Pieces.Class.{Front, NoFront, Row, exactly, optional, some_run, texted};
+ghost use Rattle.std.specs.Prelude.{[], chars, MatchBool, MatchOption};
+ghost use Rattle.syslog_text.specs.Pieces.Class.{Front, NoFront, optional, some_run, texted};
 ghost use Rattle.syslog_text.specs.Pieces.View.{Reads, Recognises, seen, shown};
 ghost use Rattle.syslog_text.specs.Text.CharClass.{is_label_char};
 ghost use Rattle.syslog_sent.specs.Named.{BeginsWith};
 ghost use Rattle.syslog_sent.specs.Sent.{Sends};
-ghost use Rattle.syslog_dated_forms.specs.Cisco.{dated_in as date_in};
 ghost use Rattle.syslog_dated_forms.specs.IosXr as spec;
 
-use crate::cisco::{colon, dated_in, gap, optional_front_year, origin, past_counter, starts};
+use crate::cisco::{dated_in, optional_front_year, origin, past_counter, starts};
 use syslog_sent::date::any_date;
 use syslog_sent::named::number;
 use syslog_sent::sent::Sent;
+use syslog_sent::skips::{colon, gap};
 use syslog_sent::zone::bare_word;
 use syslog_text::text::{CharClass, blanks, first, literal, past_colon, split_run};
 

@@ -5,11 +5,11 @@ ghost use Rattle.std.specs.Prelude.{chars};
 ghost use Rattle.syslog_sent.specs.Sent.{Sends};
 ghost use Rattle.syslog_dated_forms.specs.OpenWrt as spec;
 
-use crate::cisco::gap;
 use syslog_sent::date::{any_date, weekday};
 use syslog_sent::named::read_program;
 use syslog_sent::selector::selector;
 use syslog_sent::sent::Sent;
+use syslog_sent::skips::gap;
 use syslog_text::text::blanks;
 
 /// Returns what a line of `logread` says.

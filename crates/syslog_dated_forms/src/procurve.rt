@@ -3,7 +3,7 @@
 //! **Rule.** The number of the event, which is before the module, names no program: the module does, and it begins
 //! with a letter. (HP, "Event log
 //! message reference": severity, date, event number, system module.)
-ghost use Rattle.std.specs.Prelude.{◌≡◌, MatchBool, chars};
+ghost use Rattle.std.specs.Prelude.{MatchBool, chars};
 ghost use Rattle.syslog_text.specs.Pieces.Class.{Front, Text, run};
 ghost use Rattle.syslog_text.specs.Pieces.View.{Reads, seen, shown};
 ghost use Rattle.syslog_text.specs.Text.{is_blank};
@@ -11,9 +11,10 @@ ghost use Rattle.syslog_sent.specs.Date.{any_date};
 ghost use Rattle.syslog_sent.specs.Sent.{Sends};
 ghost use Rattle.syslog_dated_forms.specs.ProCurve as spec;
 
-use crate::cisco::{colon, digits, gap, is_host};
+use crate::cisco::is_host;
 use syslog_sent::named::is_letter;
 use syslog_sent::sent::{Sent, SentDate};
+use syslog_sent::skips::{colon, digits, gap};
 use syslog_sent::zone::bare_word;
 use syslog_text::text::{blanks, host};
 

@@ -13,10 +13,11 @@ ghost use Rattle.syslog_sent.specs.Sent.{Sends};
 ghost use Rattle.syslog_sent.specs.Zone.{bare_word as any_word};
 ghost use Rattle.syslog_dated_forms.specs.Undated as spec;
 
-use crate::cisco::{colon, digits, gap, label, message, past_counter};
+use crate::cisco::{label, message, past_counter};
 use crate::filed::past_front;
 use syslog_sent::named::is_number;
 use syslog_sent::sent::{Sent, SentDate};
+use syslog_sent::skips::{colon, digits, gap};
 use syslog_sent::zone::bare_word;
 use syslog_text::text::{blanks, first, past_colon};
 

@@ -9,7 +9,7 @@ ghost use Rattle.syslog_pieces.specs.Timestamp.Fields.{fields_of};
 ghost use Rattle.syslog_sent.specs.Sent.{Sends};
 ghost use Rattle.syslog_dated_forms.specs.UnixSeconds as spec;
 
-use crate::cisco::{gap, origin};
+use crate::cisco::origin;
 use jiff::Timestamp;
 use jiff::civil::DateTime;
 use jiff::tz::Offset;
@@ -17,6 +17,7 @@ use syslog_pieces::timestamp::MonthDate;
 use syslog_sent::date::fraction;
 use syslog_sent::named::read_program;
 use syslog_sent::sent::{Sent, SentDate};
+use syslog_sent::skips::gap;
 use syslog_text::text::{blanks, host, literal, number};
 
 // Returns what a clock in UTC shows so many seconds after 1970 began.

@@ -46,6 +46,7 @@ pub use reading::{
     parse_message_with_year_exact_tz, parse_message_with_year_tz,
 };
 pub use reckoning::{latest_year, reckon_year, zone_ahead, zone_of_rule};
+pub use rfc3164::{HeaderNames, resolve};
 pub use rounds::normalise;
 pub use settling::{settle, settle_into};
 pub use syslog_elements::structured_data::{

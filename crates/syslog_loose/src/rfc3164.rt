@@ -22,16 +22,18 @@ use syslog_text::text::{Field, blanks, host_field, past_colon, tag_field};
 
 /// The names that the header of a line shows.
 #[derive(Clone, Copy)]
-pub(crate) struct Names<'a> {
-    pub(crate) hostname: Option<&'a str>,
-    pub(crate) appname: Option<&'a str>,
+pub struct HeaderNames<'a> {
+    /// The host.
+    pub hostname: Option<&'a str>,
+    /// The name of the program.
+    pub appname: Option<&'a str>,
     /// The text that names the process.
-    pub(crate) process: Option<&'a str>,
+    pub process: Option<&'a str>,
 }
 
-impl Names<'_> {
+impl HeaderNames<'_> {
     // All of them absent.
-    const NONE: Names<'static> = Names {
+    const NONE: HeaderNames<'static> = HeaderNames {
         hostname: None,
         appname: None,
         process: None,
@@ -41,17 +43,17 @@ impl Names<'_> {
 // Returns the names of a line that has this host and a program's name.
 #[inline(always)]
 #[tactic(auto, using(syslog_pieces::proofs::ProcIdLemmas::named_names))]
-fn program<'a>(hostname: Option<&'a str>, name: &'a str) -> Names<'a>
+fn program<'a>(hostname: Option<&'a str>, name: &'a str) -> HeaderNames<'a>
     ensures names { NamesProgram (seen hostname.entry) (chars name.entry.now) (names_value result) }
     ensures process { IsIdOf (chars name.entry.now) (seen result.process) }
 {
     match tag_form(name) {
-        Some((tag, id)) => Names {
+        Some((tag, id)) => HeaderNames {
             hostname,
             appname: Some(tag),
             process: Some(id),
         },
-        None => Names {
+        None => HeaderNames {
             hostname,
             appname: Some(name),
             process: None,
@@ -63,17 +65,17 @@ fn program<'a>(hostname: Option<&'a str>, name: &'a str) -> Names<'a>
 // call of its own, since such lines are few.
 #[inline(never)]
 #[tactic(auto, using(syslog_pieces::proofs::ProcIdLemmas::named_names))]
-fn lone<'a>(name: &'a str) -> Names<'a>
+fn lone<'a>(name: &'a str) -> HeaderNames<'a>
     ensures names { NamesHost (chars name.entry.now) (names_value result) }
     ensures process { IsIdOf (chars name.entry.now) (seen result.process) }
 {
     match tag_form(name) {
-        Some((tag, id)) => Names {
+        Some((tag, id)) => HeaderNames {
             hostname: None,
             appname: Some(tag),
             process: Some(id),
         },
-        None => Names {
+        None => HeaderNames {
             hostname: Some(name),
             appname: None,
             process: None,
@@ -81,18 +83,19 @@ fn lone<'a>(name: &'a str) -> Names<'a>
     }
 }
 
-/// Returns what the host field and the tag field mean together.
+/// Returns what the host field and the tag field mean together. Each type `C` has a copy of its own, as callers that
+/// compile it in need.
 #[inline(always)]
-pub(crate) fn resolve<'a, C>(host: Field<'a>, tag: Field<'a>) -> Names<'a>
+pub fn resolve<'a, C>(host: Field<'a>, tag: Field<'a>) -> HeaderNames<'a>
     ensures names { spec.Resolves (field_seen host.entry) (field_seen tag.entry) (names_value result) }
     ensures process { spec.HasProcess (field_seen host.entry) (field_seen tag.entry) (seen result.process) }
 {
     match tag {
         Field::Missing => match host {
             Field::Name(name) => lone(name),
-            _ => Names::NONE,
+            _ => HeaderNames::NONE,
         },
-        Field::Dash => Names::NONE,
+        Field::Dash => HeaderNames::NONE,
         Field::Name(name) => program(host.name(), name),
     }
 }
@@ -100,7 +103,7 @@ pub(crate) fn resolve<'a, C>(host: Field<'a>, tag: Field<'a>) -> Names<'a>
 /// The fields of names after the timestamp.
 #[derive(Clone, Copy)]
 pub(crate) struct NameFields<'a> {
-    names: Names<'a>,
+    names: HeaderNames<'a>,
     // whether they and what ends them are already in printed form, a host field among them
     are_printed: bool,
     /// The rest, where a list may begin.
@@ -146,7 +149,7 @@ pub(crate) fn read_3164<'a, C, E: ElementVisitor<'a>>(
     ensures visited { Visits E.was_given elements.old (list_elements result.list) elements.new }
 {
     let fields = read_fields::<C>(text);
-    let Names {
+    let HeaderNames {
         hostname,
         appname,
         process,

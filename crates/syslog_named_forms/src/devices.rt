@@ -10,8 +10,8 @@ ghost use Rattle.syslog_named_forms.specs.Devices as spec;
 ghost use Rattle.syslog_named_forms.specs.Untagged.{host_row};
 ghost use Rattle.syslog_sent.specs.Views.{Names, named_value};
 
-use crate::untagged::digits;
 use syslog_sent::named::{Named, Program, past, read_program, tagged};
+use syslog_sent::skips::digits;
 use syslog_text::text::verbatim::before;
 use syslog_text::text::{CharClass, blanks, first, literal, some_blanks, split_run};
 

@@ -9,41 +9,30 @@
 //! 02:00:00:00:00:01> stm[2112]: text`. Phones of Yealink write process and thread after a blank, and no host: `sua
 //! [768:871]: text`. The error logs of PostgreSQL begin with the process after the date (`log_line_prefix` is `%m [%p]
 //! `): `[1133] LOG:  text`; those of MySQL with the number of a thread: `0 [System] [MY-010931] [Server] text`.
-ghost use Rattle.std.specs.Prelude.{◌∷◌, [], chars, codes};
-ghost use Rattle.syslog_text.specs.Pieces.Class.{Row, Text, exactly, some_run, texted};
+ghost use Rattle.std.specs.Prelude.{chars, codes};
+ghost use Rattle.syslog_text.specs.Pieces.Class.{Row, Text, exactly, texted};
 ghost use Rattle.syslog_text.specs.Pieces.View.{Reads, Recognises, seen, shown};
-ghost use Rattle.syslog_text.specs.Text.{colon as colon_text, is_blank};
-ghost use Rattle.syslog_sent.specs.Runs.{is_plain_char, is_word_char};
 ghost use Rattle.syslog_named_forms.specs.Graded as spec;
 ghost use Rattle.syslog_named_forms.specs.Untagged.{host_row};
 ghost use Rattle.syslog_sent.specs.Views.{Names, named_value};
 
-use crate::untagged::{bracket, digits, dot, key, past_blanks, topic_word};
 use syslog_sent::named::{Named, Program, name, number, past, read_program, tagged, untagged};
-use syslog_sent::runs::{Run, split};
+use syslog_sent::runs::{Run, split_some};
+use syslog_sent::skips::{
+    bracket, close_angle, close_bracket, close_tag, colon, digits, dot, gap, name_word, open_angle,
+    past_blanks, plain_word,
+};
 use syslog_text::text::verbatim::before;
 use syslog_text::text::{blanks, host, literal, some_blanks};
-
-fn open_angle(text: &str) -> Option<&str>
-    ensures { Recognises (exactly (60 ∷ [])) (chars text.now) result }
-{
-    literal(text, '<')
-}
-
-fn close_angle(text: &str) -> Option<&str>
-    ensures { Recognises (exactly (62 ∷ [])) (chars text.now) result }
-{
-    literal(text, '>')
-}
 
 // Returns the text after facility and severity in angles.
 fn grade(text: &str) -> Option<&str>
     ensures { Recognises (Row spec.grade_row) (chars text.now) result }
 {
     open_angle(text)
-        .and_then(topic_word)
+        .and_then(plain_word)
         .and_then(dot)
-        .and_then(topic_word)
+        .and_then(plain_word)
         .and_then(close_angle)
 }
 
@@ -66,20 +55,14 @@ fn open_square(text: &str) -> Option<&str>
     past(text, "[ ")
 }
 
-fn close_square(text: &str) -> Option<&str>
-    ensures { Recognises (exactly (93 ∷ [])) (chars text.now) result }
-{
-    literal(text, ']')
-}
-
 // Returns the text after a severity in brackets.
 fn level(text: &str) -> Option<&str>
     ensures { Recognises (Row spec.level_row) (chars text.now) result }
 {
     open_square(text)
-        .and_then(topic_word)
+        .and_then(plain_word)
         .map(past_blanks)
-        .and_then(close_square)
+        .and_then(close_bracket)
 }
 
 /// Reads a line with the severity in brackets. `after_host` is what `past_host` returned for the line.
@@ -95,47 +78,11 @@ pub(crate) fn leveled<'a>(after_host: Option<(Option<&'a str>, &'a str)>) -> Opt
     Some(tagged(hostname, program, blanks(rest)))
 }
 
-fn colon(text: &str) -> Option<&str>
-    ensures { Recognises (exactly colon_text) (chars text.now) result }
-{
-    literal(text, ':')
-}
-
-fn close_event(text: &str) -> Option<&str>
-    ensures { Recognises (exactly (codes "]:")) (chars text.now) result }
-{
-    past(text, "]:")
-}
-
 // Returns the text after the severity of an event and the bracket that ends it.
 fn event_end(text: &str) -> Option<&str>
     ensures { Recognises (Row spec.event_end_row) (chars text.now) result }
 {
-    colon(text).and_then(topic_word).and_then(close_event)
-}
-
-// Returns the name of a node, and the text after it.
-fn node(text: &str) -> Option<(&str, &str)>
-    ensures { Reads (texted (some_run is_plain_char)) (λ t. shown t) (chars text.now) result }
-{
-    let (run, rest) = split(text, Run::Plain);
-    if run.is_empty() {
-        None
-    } else {
-        Some((run, rest))
-    }
-}
-
-// Returns the name of an event, and the text after it.
-fn event_name(text: &str) -> Option<(&str, &str)>
-    ensures { Reads (texted (some_run is_word_char)) (λ t. shown t) (chars text.now) result }
-{
-    let (run, rest) = split(text, Run::Word);
-    if run.is_empty() {
-        None
-    } else {
-        Some((run, rest))
-    }
+    colon(text).and_then(plain_word).and_then(close_tag)
 }
 
 /// Reads an event of a node.
@@ -144,9 +91,9 @@ pub(crate) fn event(text: &str) -> Option<Named<'_>>
     ensures { Names spec.event named_value (chars text.now) result }
 {
     let at_node = literal(text, '[')?;
-    let (node, after_node) = node(at_node)?;
+    let (node, after_node) = split_some(at_node, Run::Plain)?;
     let after_colon = literal(after_node, ':')?;
-    let (name, after_name) = event_name(blanks(after_colon))?;
+    let (name, after_name) = split_some(blanks(after_colon), Run::Word)?;
     let rest = event_end(after_name)?;
     let program = Program {
         name,
@@ -155,27 +102,21 @@ pub(crate) fn event(text: &str) -> Option<Named<'_>>
     Some(tagged(Some(node), program, blanks(rest)))
 }
 
-fn gap(text: &str) -> Option<&str>
-    ensures { Recognises (some_run is_blank) (chars text.now) result }
-{
-    some_blanks(text)
-}
-
 // Returns the text after the address of hardware.
 fn hardware(text: &str) -> Option<&str>
     ensures { Recognises (Row spec.hardware_row) (chars text.now) result }
 {
-    topic_word(text)
+    plain_word(text)
         .and_then(colon)
-        .and_then(topic_word)
+        .and_then(plain_word)
         .and_then(colon)
-        .and_then(topic_word)
+        .and_then(plain_word)
         .and_then(colon)
-        .and_then(topic_word)
+        .and_then(plain_word)
         .and_then(colon)
-        .and_then(topic_word)
+        .and_then(plain_word)
         .and_then(colon)
-        .and_then(topic_word)
+        .and_then(plain_word)
 }
 
 // Returns the text after the two addresses of an access point in angles.
@@ -183,7 +124,7 @@ fn source(text: &str) -> Option<&str>
     ensures { Recognises (Row spec.source_row) (chars text.now) result }
 {
     open_angle(text)
-        .and_then(key)
+        .and_then(name_word)
         .and_then(gap)
         .and_then(hardware)
         .and_then(close_angle)
@@ -227,7 +168,7 @@ pub(crate) fn threaded(text: &str) -> Option<Named<'_>>
     let at_open = some_blanks(after_name)?;
     let at_id = literal(at_open, '[')?;
     let (id, after_id) = threads(at_id)?;
-    let rest = close_event(after_id)?;
+    let rest = close_tag(after_id)?;
     let program = Program {
         name,
         process: Some(id),

@@ -2,23 +2,17 @@
 //!
 //! **Rule.** `journalctl -o short-monotonic` writes so. A line of the kernel's own log (`dmesg`) has no host there: it is
 //! told by its program, which is neither the kernel nor has the id of a process. The line says no date.
-ghost use Rattle.std.specs.Prelude.{◌≡◌, ◌∷◌, [], chars};
-ghost use Rattle.syslog_text.specs.Pieces.Class.{Row, exactly};
+ghost use Rattle.std.specs.Prelude.{◌≡◌, chars};
+ghost use Rattle.syslog_text.specs.Pieces.Class.{Row};
 ghost use Rattle.syslog_text.specs.Pieces.View.{Reads, Recognises};
 ghost use Rattle.syslog_named_forms.specs.Monotonic as spec;
 ghost use Rattle.syslog_sent.specs.Sent.{Sends};
 ghost use Rattle.syslog_sent.specs.Views.{program_seen};
 
-use crate::untagged::{bracket, digits, dot, past_blanks};
 use syslog_sent::named::{Program, is_word, read_program};
 use syslog_sent::sent::Sent;
-use syslog_text::text::{blanks, host, literal, some_blanks};
-
-fn closing(text: &str) -> Option<&str>
-    ensures { Recognises (exactly (93 ∷ [])) (chars text.now) result }
-{
-    literal(text, ']')
-}
+use syslog_sent::skips::{bracket, close_bracket, digits, dot, past_blanks};
+use syslog_text::text::{blanks, host, some_blanks};
 
 // Returns the text after the seconds in brackets.
 fn seconds(text: &str) -> Option<&str>
@@ -29,7 +23,7 @@ fn seconds(text: &str) -> Option<&str>
         .and_then(digits)
         .and_then(dot)
         .and_then(digits)
-        .and_then(closing)
+        .and_then(close_bracket)
 }
 
 // Whether the program is the kernel, or has a process id.

@@ -7,7 +7,6 @@
 //! left out. With `set format csv` FortiGate separates its pairs by commas.
 ghost use Rattle.std.specs.Prelude.{◌≡◌, ◌<◌, ◌∷◌, [], IfSome, IsUtf8, List, MatchOption, Some, chars};
 ghost use Rattle.syslog_text.specs.Pieces.Class.{Division, Front, NoDivision, Row, Text, exactly, optional};
-ghost use Rattle.syslog_text.specs.Text.{colon as colon_text};
 ghost use Rattle.syslog_text.specs.Pieces.Lists.{many};
 ghost use Rattle.syslog_text.specs.Pieces.View.{Reads, Recognises, seen, shown};
 ghost use Rattle.syslog_pieces.specs.Timestamp.Rfc3339.{seconds_of, sign as sign_class};
@@ -16,13 +15,14 @@ ghost use Rattle.syslog_named_forms.specs.Pairs as spec;
 ghost use Rattle.syslog_sent.specs.Sent.{Sends};
 ghost use Rattle.syslog_sent.specs.declared.sent.SentDate.{SentDate as Date};
 
-use crate::untagged::{comma, equals, key};
+use crate::untagged::equals;
 use syslog_pieces::timestamp::MonthDate;
 use syslog_pieces::timestamp::pairs::{pair, pair_after, year};
 use syslog_sent::date::{iso_date, optional_fraction};
 use syslog_sent::named::is_word;
 use syslog_sent::runs::{Run, split};
 use syslog_sent::sent::{Sent, SentDate};
+use syslog_sent::skips::{colon, comma, name_word};
 use syslog_text::text::verbatim::before;
 use syslog_text::text::{CharClass, blanks, first, literal, split_run};
 
@@ -80,16 +80,10 @@ fn quoted(text: &str) -> Option<(&str, &str)>
     Some((value, rest))
 }
 
-fn colon(text: &str) -> Option<&str>
-    ensures { Recognises (exactly colon_text) (chars text.now) result }
-{
-    literal(text, ':')
-}
-
 fn part(text: &str) -> Option<&str>
     ensures { Recognises (Row spec.part_row) (chars text.now) result }
 {
-    colon(text).and_then(key)
+    colon(text).and_then(name_word)
 }
 
 // Returns the text after a colon and a word, and all of it if it does not begin so.
@@ -119,7 +113,7 @@ fn listed_end(text: &str) -> Option<&str>
 fn next(text: &str) -> Option<&str>
     ensures { Recognises (Row spec.next_row) (chars text.now) result }
 {
-    comma(text).and_then(key).and_then(equals)
+    comma(text).and_then(name_word).and_then(equals)
 }
 
 // Returns a value that another pair follows after a comma, and the text after it.

@@ -5,7 +5,7 @@ ghost use Rattle.std.specs.Option.{option_map};
 ghost use Rattle.syslog_text.specs.Pieces.Class.{Front, Row, Text, exactly, optional, some_run, spaced, texted};
 ghost use Rattle.syslog_text.specs.Pieces.Lists.{many};
 ghost use Rattle.syslog_text.specs.Pieces.View.{Reads, Recognises, seen, shown};
-ghost use Rattle.syslog_text.specs.Text.{colon as colon_text, is_tag_char};
+ghost use Rattle.syslog_text.specs.Text.{is_tag_char};
 ghost use Rattle.syslog_sent.specs.Named.{◌otherwise◌, program as program_class};
 ghost use Rattle.syslog_sent.specs.Selector.{selector_row, severity as severity_class};
 ghost use Rattle.syslog_sent.specs.Runs.{is_word_char};
@@ -13,13 +13,14 @@ ghost use Rattle.syslog_named_forms.specs.Programs as spec;
 ghost use Rattle.syslog_named_forms.specs.Untagged.{host_row};
 ghost use Rattle.syslog_sent.specs.Views.{Names, named_value, program_seen};
 
-use crate::untagged::{topic, topic_word};
+use crate::untagged::topic;
 use syslog_sent::date::iso_date;
 use syslog_sent::named::{
     Named, Program, is_letter, is_number, name, past, process_id, read_program, tagged, untagged,
 };
 use syslog_sent::runs::{Run, split};
 use syslog_sent::selector::{selector, severity};
+use syslog_sent::skips::{colon, plain_word};
 use syslog_text::text::verbatim::before;
 use syslog_text::text::{CharClass, blanks, first, literal, some_blanks, split_run};
 
@@ -44,12 +45,6 @@ fn past_security(text: &str) -> &str
     }
 }
 
-fn colon(text: &str) -> Option<&str>
-    ensures { Recognises (exactly colon_text) (chars text.now) result }
-{
-    literal(text, ':')
-}
-
 fn severity_word(text: &str) -> Option<&str>
     ensures { Recognises severity_class (chars text.now) result }
 {
@@ -61,7 +56,7 @@ fn severity_word(text: &str) -> Option<&str>
 fn aix(text: &str) -> Option<&str>
     ensures { Recognises (Row spec.aix_row) (chars text.now) result }
 {
-    topic_word(text)
+    plain_word(text)
         .map(past_security)
         .and_then(colon)
         .and_then(severity_word)
@@ -108,7 +103,7 @@ fn with_host<'a>(hostname: Option<&'a str>, before_serial: &'a str) -> Option<Na
     ensures { (text : Text) → Front (Row host_row) text (chars before_serial.entry.now) (seen hostname.entry, (tt, tt))
         → Names spec.serial named_value text result }
 {
-    let serial_end = topic_word(before_serial)?;
+    let serial_end = plain_word(before_serial)?;
     let before_bracket = literal(serial_end, ' ')?;
     let before_date = literal(before_bracket, '(')?;
     let (_, date_end) = iso_date(before_date)?;

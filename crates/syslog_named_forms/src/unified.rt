@@ -3,19 +3,17 @@
 //! **Rule.** `log show` writes these columns in its default style (log(1)): thread, type, activity, process id, and how
 //! long the entry is kept. In its style `compact` these are the type, the program, the process id and the thread. They
 //! name no host.
-ghost use Rattle.std.specs.Prelude.{◌≡◌, ◌∷◌, [], chars, codes};
-ghost use Rattle.syslog_text.specs.Pieces.Class.{Row, exactly, some_run, texted};
-ghost use Rattle.syslog_text.specs.Text.{colon as colon_text, is_blank};
-ghost use Rattle.syslog_text.specs.Pieces.View.{Reads, Recognises, shown};
+ghost use Rattle.std.specs.Prelude.{◌≡◌, chars, codes};
+ghost use Rattle.syslog_text.specs.Pieces.Class.{Row, exactly};
+ghost use Rattle.syslog_text.specs.Pieces.View.{Reads, Recognises};
 ghost use Rattle.syslog_named_forms.specs.Unified as spec;
-ghost use Rattle.syslog_named_forms.specs.Untagged.{some_digits};
 ghost use Rattle.syslog_sent.specs.Views.{Names, named_value};
 ghost use Rattle.syslog_sent.specs.Zone.{is_capital as is_capital_char};
 
-use crate::untagged::{digits, topic_word};
-use syslog_sent::named::{Named, Program, name, past, tagged};
+use syslog_sent::named::{Named, Program, name, number, past, tagged};
 use syslog_sent::runs::{Run, split};
-use syslog_text::text::{CharClass, blanks, first, literal, some_blanks, split_run};
+use syslog_sent::skips::{close_bracket, colon, digits, gap, plain_word};
+use syslog_text::text::{blanks, first, literal, some_blanks};
 
 fn hex_mark(text: &str) -> Option<&str>
     ensures { Recognises (exactly (codes "0x")) (chars text.now) result }
@@ -23,36 +21,18 @@ fn hex_mark(text: &str) -> Option<&str>
     past(text, "0x")
 }
 
-fn gap(text: &str) -> Option<&str>
-    ensures { Recognises (some_run is_blank) (chars text.now) result }
-{
-    some_blanks(text)
-}
-
 // Returns the text after the thread, the type and the activity.
 fn thread_end(text: &str) -> Option<&str>
     ensures { Recognises (Row spec.thread_row) (chars text.now) result }
 {
     hex_mark(text)
-        .and_then(topic_word)
+        .and_then(plain_word)
         .and_then(gap)
-        .and_then(topic_word)
+        .and_then(plain_word)
         .and_then(gap)
         .and_then(hex_mark)
-        .and_then(topic_word)
+        .and_then(plain_word)
         .and_then(gap)
-}
-
-// Returns a process id, and the text after it.
-fn id(text: &str) -> Option<(&str, &str)>
-    ensures { Reads (texted some_digits) (λ t. shown t) (chars text.now) result }
-{
-    let (run, rest) = split_run(text, CharClass::Digit);
-    if run.is_empty() {
-        None
-    } else {
-        Some((run, rest))
-    }
 }
 
 /// Reads a line of the unified log, from the thread on.
@@ -61,7 +41,7 @@ pub(crate) fn unified(text: &str) -> Option<Named<'_>>
     ensures { Names spec.unified named_value (chars text.now) result }
 {
     let at_id = thread_end(text)?;
-    let (process, after_id) = id(at_id)?;
+    let (process, after_id) = number(at_id)?;
     let at_kept = some_blanks(after_id)?;
     let after_kept = digits(at_kept)?;
     let at_name = some_blanks(after_kept)?;
@@ -104,23 +84,11 @@ fn kind(text: &str) -> Option<&str>
     is_kind(word).then_some(rest)
 }
 
-fn colon(text: &str) -> Option<&str>
-    ensures { Recognises (exactly colon_text) (chars text.now) result }
-{
-    literal(text, ':')
-}
-
-fn close_bracket(text: &str) -> Option<&str>
-    ensures { Recognises (exactly (93 ∷ [])) (chars text.now) result }
-{
-    literal(text, ']')
-}
-
 // Returns the text after a thread and the bracket that follows it.
 fn thread_close(text: &str) -> Option<&str>
     ensures { Recognises (Row spec.close_row) (chars text.now) result }
 {
-    colon(text).and_then(topic_word).and_then(close_bracket)
+    colon(text).and_then(plain_word).and_then(close_bracket)
 }
 
 /// Reads a line of the unified log in the style `compact`, from its type on.
@@ -132,7 +100,7 @@ pub(crate) fn compact(text: &str) -> Option<Named<'_>>
     let at_name = some_blanks(after_kind)?;
     let (name, after_name) = name(at_name)?;
     let at_id = literal(after_name, '[')?;
-    let (process, after_id) = id(at_id)?;
+    let (process, after_id) = number(at_id)?;
     let after_thread = thread_close(after_id)?;
     let msg = some_blanks(after_thread)?;
     let program = Program {

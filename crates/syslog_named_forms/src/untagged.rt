@@ -1,11 +1,9 @@
 //! Messages that have no program's name before them: they are recognised by what they begin with.
-ghost use Rattle.std.specs.Prelude.{◌≡◌, ◌∷◌, [], ◌||◌, Option, chars, codes, false, true};
-ghost use Rattle.syslog_text.specs.Pieces.Class.{Front, Row, after, exactly, optional, run, some_run};
+ghost use Rattle.std.specs.Prelude.{◌≡◌, ◌∷◌, [], ◌||◌, Option, chars, codes};
+ghost use Rattle.syslog_text.specs.Pieces.Class.{Front, Row, after, exactly, optional};
 ghost use Rattle.syslog_text.specs.Pieces.View.{Recognises, shown};
 ghost use Rattle.syslog_pieces.specs.Timestamp.Rfc3339.{pair as pair_class, year as year_class};
-ghost use Rattle.syslog_text.specs.Text.{is_blank};
 ghost use Rattle.syslog_sent.specs.Date.{unless};
-ghost use Rattle.syslog_sent.specs.Runs.{is_plain_char, is_word_char};
 ghost use Rattle.syslog_named_forms.specs.declared.untagged.Mark.TheVariants.{Bracket, Dated, Level, Repeated};
 ghost use Rattle.syslog_sent.specs.Named.{◌otherwise◌};
 ghost use Rattle.syslog_named_forms.specs.Untagged as spec;
@@ -14,7 +12,11 @@ use syslog_pieces::timestamp::pairs::{pair, pair_after, year};
 use syslog_sent::dialect::Dialect;
 use syslog_sent::named::{is_word, past};
 use syslog_sent::runs::{Run, split};
-use syslog_text::text::{CharClass, blanks, first, literal, some_blanks, split_run};
+use syslog_sent::skips::{
+    bracket, close_tag, comma, digits, dot, gap, name_word, open_angle, past_blanks, plain_word,
+    space,
+};
+use syslog_text::text::{CharClass, blanks, first, literal, split_run};
 
 /// What a message without a program begins with.
 #[derive(Clone, Copy)]
@@ -58,44 +60,10 @@ pub(crate) const MARKS: [Mark; 11] = [
     Mark::Dated,
 ];
 
-/// Returns the text after digits.
-pub(crate) fn digits(text: &str) -> Option<&str>
-    ensures { Recognises spec.some_digits (chars text.now) result }
-{
-    let (run, rest) = split_run(text, CharClass::Digit);
-    if run.is_empty() { None } else { Some(rest) }
-}
-
-/// Returns the text after any blanks.
-pub(crate) fn past_blanks(text: &str) -> &str
-    ensures { (v : Unit {0}) × Front (run is_blank) (chars text.now) (shown result) v }
-{
-    blanks(text)
-}
-
 fn bar(text: &str) -> Option<&str>
     ensures { Recognises (exactly (124 ∷ [])) (chars text.now) result }
 {
     literal(text, '|')
-}
-
-/// Returns the text after a dot.
-pub(crate) fn dot(text: &str) -> Option<&str>
-    ensures { Recognises (exactly (46 ∷ [])) (chars text.now) result }
-{
-    literal(text, '.')
-}
-
-pub(crate) fn comma(text: &str) -> Option<&str>
-    ensures { Recognises (exactly (44 ∷ [])) (chars text.now) result }
-{
-    literal(text, ',')
-}
-
-fn space(text: &str) -> Option<&str>
-    ensures { Recognises (exactly (32 ∷ [])) (chars text.now) result }
-{
-    literal(text, ' ')
 }
 
 fn cef_word(text: &str) -> Option<&str>
@@ -328,12 +296,6 @@ fn month_word(text: &str) -> Option<&str>
     is_month(word).then_some(rest)
 }
 
-fn gap(text: &str) -> Option<&str>
-    ensures { Recognises (some_run is_blank) (chars text.now) result }
-{
-    some_blanks(text)
-}
-
 fn month(text: &str) -> Option<&str>
     ensures { Recognises (Row spec.month_row) (chars text.now) result }
 {
@@ -355,14 +317,6 @@ fn dated(text: &str) -> Option<&str>
     month(text)
 }
 
-/// Returns the text after the characters of a key.
-pub(crate) fn key(text: &str) -> Option<&str>
-    ensures { Recognises (some_run is_word_char) (chars text.now) result }
-{
-    let (run, rest) = split(text, Run::Word);
-    if run.is_empty() { None } else { Some(rest) }
-}
-
 pub(crate) fn equals(text: &str) -> Option<&str>
     ensures { Recognises (exactly (61 ∷ [])) (chars text.now) result }
 {
@@ -372,7 +326,7 @@ pub(crate) fn equals(text: &str) -> Option<&str>
 fn pair_start(text: &str) -> Option<&str>
     ensures { Recognises (Row spec.pair_row) (chars text.now) result }
 {
-    key(text).and_then(equals)
+    name_word(text).and_then(equals)
 }
 
 fn name_or_end(text: &str) -> Option<&str>
@@ -414,19 +368,11 @@ fn level(text: &str) -> Option<&str>
     is_level(word).then_some(rest)
 }
 
-/// Returns the text after letters, digits, `!` and `-`.
-pub(crate) fn topic_word(text: &str) -> Option<&str>
-    ensures { Recognises (some_run is_plain_char) (chars text.now) result }
-{
-    let (run, rest) = split(text, Run::Plain);
-    if run.is_empty() { None } else { Some(rest) }
-}
-
 /// Returns the text after such a word and a comma.
 pub(crate) fn topic(text: &str) -> Option<&str>
     ensures { Recognises (Row spec.topic_row) (chars text.now) result }
 {
-    topic_word(text).and_then(comma)
+    plain_word(text).and_then(comma)
 }
 
 fn is_main_topic(word: &str) -> bool
@@ -467,24 +413,11 @@ fn topics(text: &str) -> Option<&str>
     topic(text).and_then(either_topic)
 }
 
-/// Returns the text after an opening bracket.
-pub(crate) fn bracket(text: &str) -> Option<&str>
-    ensures { Recognises (exactly (91 ∷ [])) (chars text.now) result }
-{
-    literal(text, '[')
-}
-
-fn closing(text: &str) -> Option<&str>
-    ensures { Recognises (exactly (codes "]:")) (chars text.now) result }
-{
-    past(text, "]:")
-}
-
 // The text after a number in brackets and a colon.
 fn number(text: &str) -> Option<&str>
     ensures { Recognises (Row spec.number_row) (chars text.now) result }
 {
-    bracket(text).and_then(digits).and_then(closing)
+    bracket(text).and_then(digits).and_then(close_tag)
 }
 
 // The text after a bracket that begins no such number.
@@ -497,12 +430,6 @@ fn square(text: &str) -> Option<&str>
     bracket(text)
 }
 
-fn less(text: &str) -> Option<&str>
-    ensures { Recognises (exactly (60 ∷ [])) (chars text.now) result }
-{
-    literal(text, '<')
-}
-
 fn quote(text: &str) -> Option<&str>
     ensures { Recognises (exactly (34 ∷ [])) (chars text.now) result }
 {
@@ -512,7 +439,7 @@ fn quote(text: &str) -> Option<&str>
 fn angle(text: &str) -> Option<&str>
     ensures { Recognises spec.angle (chars text.now) result }
 {
-    if let Some(rest) = less(text) {
+    if let Some(rest) = open_angle(text) {
         return Some(rest);
     }
     quote(text)

@@ -11,4 +11,5 @@ pub mod named;
 pub mod runs;
 pub mod selector;
 pub mod sent;
+pub mod skips;
 pub mod zone;

@@ -1,5 +1,7 @@
 //! Runs of the characters that the names of programs and the keys and values of pairs are made of.
-ghost use Rattle.std.specs.Prelude.{◌≡◌, ◌<◌, ◌≤◌, ℕ, false, length, slice_index, true};
+ghost use Rattle.std.specs.Prelude.{◌≡◌, ◌<◌, ◌≤◌, ℕ, chars, false, length, slice_index, true};
+ghost use Rattle.syslog_text.specs.Pieces.Class.{some_run, texted};
+ghost use Rattle.syslog_text.specs.Pieces.View.{Reads, shown};
 ghost use Rattle.syslog_text.specs.Bodies.Scan.{EndsRun, SplitsRun};
 ghost use Rattle.syslog_sent.specs.Runs.{is_of, is_unquoted};
 
@@ -118,4 +120,15 @@ pub fn split(text: &str, run: Run) -> (&str, &str)
     ensures { SplitsRun (is_of run) text.now result.0.now result.1.now }
 {
     text.split_at(run_end(text, run))
+}
+
+/// Returns the maximal run of the class at the front, if it is not empty, and the text after it.
+pub fn split_some(text: &str, run: Run) -> Option<(&str, &str)>
+    ensures { Reads (texted (some_run (is_of run))) (λ t. shown t) (chars text.now) result }
+{
+    let (word, rest) = split(text, run);
+    if word.is_empty() {
+        return None;
+    }
+    Some((word, rest))
 }

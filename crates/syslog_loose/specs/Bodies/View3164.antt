@@ -7,10 +7,10 @@ use Rattle.syslog_loose.specs.Quirks.{HasQuietNames}
 use Rattle.syslog_loose.specs.Printed.{name_text, tag_text}
 use Rattle.syslog_loose.specs.Rfc3164.{HasProcess, Names3164, names, NamesByForm}
 use Rattle.syslog_loose.specs.declared.rfc3164.NameFields.{NameFields}
-use Rattle.syslog_loose.specs.declared.rfc3164.Names.{Names}
+use Rattle.syslog_loose.specs.declared.rfc3164.HeaderNames.{HeaderNames}
 use Rattle.syslog_loose.specs.Bodies.Rows.{ReadsNames}
 
-abbrev pub names_value : Names → Names3164
+abbrev pub names_value : HeaderNames → Names3164
 names_value n = names (seen n.hostname) (seen n.appname) (option_map named_process (seen n.process))
 
 -- a program's name beside this host

@@ -1,7 +1,7 @@
 use Rattle.std.proofs.Common.{refl}
 use Rattle.syslog_text.proofs.PieceLemmas.Class.{◌then◌, rest_front, row_of}
 use Rattle.syslog_dated_forms.specs.Tail.{tail_row}
-use Rattle.syslog_dated_forms.specs.TailViews.{tail_names}
+use Rattle.syslog_loose.specs.Bodies.View3164.{names_value}
 use Rattle.syslog_dated_forms.proofs.tail.read_tail.Goals as goal
 
 pub returns : goal.returns
@@ -16,7 +16,7 @@ returns c =
         _,
         _,
         _,
-        tail_names c.resolve-names.result,
+        names_value c.resolve-names.result,
         f.is,
         c.resolve-names.ensures.names,
         refl,

@@ -6,6 +6,6 @@ use Rattle.syslog_named_forms.proofs.programs.aix.Goals as goal
 
 pub returns : goal.returns
 returns c = row_reads aix_row aix_det c.args.text
-    (c.topic_word.result ∷ c.map.result ∷ c.and_then.result ∷ c.and_then-2.result ∷ [])
-    (c.topic_word.ensures also always_on (optional (exactly (codes "|security"))) c.topic_word.result c.map.result
+    (c.plain_word.result ∷ c.map.result ∷ c.and_then.result ∷ c.and_then-2.result ∷ [])
+    (c.plain_word.ensures also always_on (optional (exactly (codes "|security"))) c.plain_word.result c.map.result
     c.map.ensures.cases also c.and_then.ensures also c.and_then-2.ensures also tt)

@@ -5,5 +5,5 @@ use Rattle.syslog_named_forms.proofs.untagged.pair_start.Goals as goal
 
 pub returns : goal.returns
 returns c = row_reads pair_row pair_det c.args.text
-    (c.key.result ∷ c.and_then.result ∷ [])
-    (c.key.ensures also c.and_then.ensures also tt)
+    (c.name_word.result ∷ c.and_then.result ∷ [])
+    (c.name_word.ensures also c.and_then.ensures also tt)

@@ -4,5 +4,5 @@ use Rattle.syslog_named_forms.{proofs.UntaggedLemmas.topic_det, specs.Untagged.t
 use Rattle.syslog_named_forms.proofs.untagged.topic.Goals as goal
 
 pub returns : goal.returns
-returns c = row_reads topic_row topic_det c.args.text (c.topic_word.result ∷ c.and_then.result ∷ [])
-    (c.topic_word.ensures also c.and_then.ensures also tt)
+returns c = row_reads topic_row topic_det c.args.text (c.plain_word.result ∷ c.and_then.result ∷ [])
+    (c.plain_word.ensures also c.and_then.ensures also tt)
