@@ -1,6 +1,6 @@
 //! Which marks may begin a text, told by its first character and by what ends its first word, and the messages that
 //! begin with one. So few marks are looked for.
-ghost use Rattle.std.specs.Prelude.{◌≡◌, MatchOption, chars, false, true};
+ghost use Rattle.std.specs.Prelude.{◌≡◌, ◌||◌, MatchOption, chars, false, true};
 ghost use Rattle.syslog_text.specs.Pieces.Class.{NoFront, Row};
 ghost use Rattle.syslog_text.specs.Pieces.View.{Reads, Recognises, seen, shown};
 ghost use Rattle.syslog_named_forms.specs.Untagged as spec;
@@ -162,8 +162,7 @@ impl MessageMarks {
     /// Returns whether the mark is one of either.
     #[inline(always)]
     pub(crate) fn has(self, mark: Mark) -> bool
-        ensures { (result ≡ false) → (spec.holds self.own.bits mark ≡ false)
-            × (spec.holds self.later.bits mark ≡ false) }
+        ensures { result ≡ (spec.holds self.own.bits mark || spec.holds self.later.bits mark) }
     {
         self.own.has(mark) || self.later.has(mark)
     }

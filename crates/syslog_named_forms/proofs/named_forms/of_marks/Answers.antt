@@ -1,4 +1,5 @@
-use Rattle.std.proofs.Common.{None, Some, drop, ◌+◌, refl}
+use Rattle.std.proofs.Common.{None, Some, drop, ◌+◌, refl, sym}
+use Rattle.std.proofs.lemmas.Bool.{or_parts}
 use Rattle.std.proofs.Common.{drop_of_length-le}
 use Rattle.std.proofs.lemmas.List.{drop_more}
 use Rattle.syslog_named_forms.specs.declared.untagged.Mark.TheVariants as mark
@@ -27,7 +28,7 @@ loop-mark-preserved c after are r h = c.loop-mark.invariant after are r
     (named_later (marked_tail _) (tail_forms (marked_tails (drop (c.loop-mark.mark-index + 1) c.args.marks.now)))
     front r (elim c.if-has.branch [
       | then-has+in_default w ↦ w.in_default.ensures after are
-      | else-has w ↦ (let (own, later) = w.if-has.ensures refl in
+      | else-has w ↦ (let (own, later) = or_parts _ _ (sym w.if-has.ensures) in
           no_message_of c.args.begun c.args.after_host after are _ own later)
     ]) (h d text front)))
 
