@@ -7,81 +7,81 @@ ghost use Rattle.syslog_sent.specs.declared.dialect.Dialect.{Dialect as AnyDiale
 #[derive(Clone, Copy, Debug)]
 pub enum Dialect {
     /// A priority and a text that shows no date, as MikroTik's routers write.
-    PriorityAlone,
+    PriorityAlone = 1,
     /// A month date that a fraction, a zone or a year follows.
-    BsdDate,
+    BsdDate = 20,
     /// A date that is nearly one of RFC 3339.
-    NearlyRfc3339,
+    NearlyRfc3339 = 21,
     /// The day of the week before a date that is nearly one of RFC 3339, as `journalctl -o short-full` writes.
-    Journal,
+    Journal = 22,
     /// Cisco's IOS, IOS-XE and WLC.
-    CiscoIos,
+    CiscoIos = 23,
     /// Cisco's NX-OS.
-    CiscoNxOs,
+    CiscoNxOs = 24,
     /// Cisco's ASA and FTD.
-    CiscoAsa,
+    CiscoAsa = 25,
     /// Lines of Cisco's systems that show no date.
-    CiscoUndated,
+    CiscoUndated = 26,
     /// Container log files of Kubernetes.
-    Container,
+    Container = 27,
     /// Cisco's IOS-XR.
-    CiscoIosXr,
+    CiscoIosXr = 28,
     /// VMware ESXi from 8.0 on: the level and the priority after the date.
-    Esxi,
+    Esxi = 33,
     /// Citrix NetScaler.
-    NetScaler,
+    NetScaler = 29,
     /// Seconds since 1970 instead of a date, as Cisco Meraki and `journalctl -o short-unix` write.
-    UnixSeconds,
+    UnixSeconds = 32,
     /// Sophos UTM.
-    SophosUtm,
+    SophosUtm = 31,
     /// HP's ProCurve and ArubaOS-Switch.
-    ProCurve,
+    ProCurve = 30,
     /// What a daemon says of itself: that the last message was repeated, or that it is still running.
-    Repeated,
+    Repeated = 40,
     /// The Common Event Format of ArcSight.
-    Cef,
+    Cef = 41,
     /// The Log Event Extended Format of QRadar.
-    Leef,
+    Leef = 42,
     /// Palo Alto's PAN-OS: values with commas between them.
-    PaloAlto,
+    PaloAlto = 43,
     /// Pairs of a key and a value, as FortiGate, SonicWall and Sophos write.
-    KeyValue,
+    KeyValue = 44,
     /// An object of JSON after the host.
-    Json,
+    Json = 45,
     /// Dell's iDRAC.
-    Idrac,
+    Idrac = 46,
     /// A level of log4j after the host.
-    Log4j,
+    Log4j = 47,
     /// Topics of RouterOS with commas between them, as MikroTik's routers write.
-    MikroTik,
+    MikroTik = 53,
     /// A message that begins with a bracket.
-    Bracketed,
+    Bracketed = 54,
     /// A message that begins with a date of its own, as programs of Java and VMware write.
-    DatedMessage,
+    DatedMessage = 56,
     /// A line that AIX forwarded, as it writes `Message forwarded from`.
-    Forwarded,
+    Forwarded = 48,
     /// The severity before the program's name, as F5's BIG-IP writes.
-    SeverityFirst,
+    SeverityFirst = 49,
     /// The serial number and the time before the program's name, as WatchGuard's Fireboxes write.
-    WatchGuard,
+    WatchGuard = 55,
     /// Model, address and version before the program's name, as UniFi access points write.
-    UniFi,
+    UniFi = 57,
     /// A program's name of several words.
-    SpacedName,
+    SpacedName = 50,
     /// A message that begins with a number after the host, and so with no program's name.
-    Untagged,
+    Untagged = 58,
     /// A program's line without a host.
-    NoHost,
+    NoHost = 51,
     /// A header of RFC 5424 without structured data, as Heroku writes.
-    Heroku,
+    Heroku = 52,
     /// A header nearly of RFC 5424: with a date that RFC 5424 does not have, without structured data, or with a tag.
-    NearlyRfc5424,
+    NearlyRfc5424 = 60,
     /// The seconds since the start in the place of a date, as journalctl's `short-monotonic` writes.
-    Monotonic,
+    Monotonic = 59,
     /// The columns of the unified log, as macOS's `log show` writes.
-    UnifiedLog,
+    UnifiedLog = 61,
     /// Check Point's element, whose names have a colon after them, in a header of RFC 5424.
-    CheckPoint,
+    CheckPoint = 62,
 }
 
 impl Dialect {
@@ -135,46 +135,7 @@ impl Dialect {
     pub fn number(self) -> u32
         ensures { result ≡ dialect_number self }
     {
-        match self {
-            Dialect::PriorityAlone => 1,
-            Dialect::BsdDate => 20,
-            Dialect::NearlyRfc3339 => 21,
-            Dialect::Journal => 22,
-            Dialect::CiscoIos => 23,
-            Dialect::CiscoNxOs => 24,
-            Dialect::CiscoAsa => 25,
-            Dialect::CiscoUndated => 26,
-            Dialect::Container => 27,
-            Dialect::CiscoIosXr => 28,
-            Dialect::Esxi => 33,
-            Dialect::NetScaler => 29,
-            Dialect::ProCurve => 30,
-            Dialect::Repeated => 40,
-            Dialect::Cef => 41,
-            Dialect::Leef => 42,
-            Dialect::PaloAlto => 43,
-            Dialect::KeyValue => 44,
-            Dialect::Json => 45,
-            Dialect::Idrac => 46,
-            Dialect::Log4j => 47,
-            Dialect::MikroTik => 53,
-            Dialect::Bracketed => 54,
-            Dialect::DatedMessage => 56,
-            Dialect::UnixSeconds => 32,
-            Dialect::SophosUtm => 31,
-            Dialect::WatchGuard => 55,
-            Dialect::UniFi => 57,
-            Dialect::Untagged => 58,
-            Dialect::Forwarded => 48,
-            Dialect::SeverityFirst => 49,
-            Dialect::SpacedName => 50,
-            Dialect::NoHost => 51,
-            Dialect::Heroku => 52,
-            Dialect::NearlyRfc5424 => 60,
-            Dialect::Monotonic => 59,
-            Dialect::UnifiedLog => 61,
-            Dialect::CheckPoint => 62,
-        }
+        self as u32
     }
 
     /// Returns the dialect that has this number, if one has.
