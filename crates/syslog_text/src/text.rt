@@ -403,13 +403,19 @@ pub fn trimmed(text: &str) -> &str
     }
 }
 
-// Trims any text. It is a call, since few lines have white space or a character past ASCII at an end.
+// Trims any text. It is a call, since few lines have white space or a character past ASCII at an end. White space of
+// ASCII is left out first, since few lines have any other there.
 #[tactic(auto, using(crate::proofs::TextLemmas::Runs::trimmed_chars))]
 #[inline(never)]
 fn trim(text: &str) -> &str
     ensures { shown result ≡ spec.trimmed (chars text.now) }
 {
-    text.trim()
+    let inner = text.trim_ascii();
+    if is_bare(inner.as_bytes()) {
+        inner
+    } else {
+        text.trim()
+    }
 }
 
 // Whether the first and the last byte are ASCII and not white space.

@@ -22,6 +22,9 @@ use Rattle.std.proofs.lemmas.Bool.{le-ltb, not_from_true, and_right}
 use Rattle.std.specs.Int.RustNames.{bit_xor}
 use Rattle.std.proofs.lemmas.Simd.{first_set_mask_l, run_in_chunk_fails, run_in_chunk_le, run_in_chunk_stops, map-map}
 use Rattle.std.proofs.lemmas.Simd.{mask_l-mod, length-chunk, zip2_of_maps, zip2_splat, splat_is_map}
+use Rattle.std.specs.Char.{is_ascii_whitespace}
+use Rattle.std.specs.Str.{IsTrimAscii}
+use Rattle.std.specs.Prelude.{slice_index}
 use Rattle.std.specs.Str.{all_scalars, trim, trim_start, trim_end, skip_leading_whitespace, drop_trailing_whitespace}
 use mir.Val.{bool_byte}
 use lib.Lanes.{chunk, zip2, mask_l, top}
@@ -532,3 +535,59 @@ module _ (bs : List ℕ) (u : IsUtf8 bs) (h : IsBare bs) where
   bare_trimmed =
       rw text_split (sym (ap drop_trailing_whitespace (start_stays h.first (chars h.middle ++ (h.last ∷ [])) head.1)
       ∙ end_stays (h.first ∷ chars h.middle) h.last last.1))
+
+-- ---- between white space of ASCII
+abbrev AreWhite : List ℕ → Type 0
+AreWhite ws = (i : ℕ) → i < length ws → is_ascii_whitespace (slice_index ws i) ≡ true
+
+white_low : (c : ℕ) → is_ascii_whitespace c ≡ true → (c < 128) × (is_whitespace c ≡ true)
+white_low c h = (grind (arith, nat_tests), grind (arith, nat_tests))
+
+white_ascii : (ws : List ℕ) → AreWhite ws → IsAscii ws
+white_ascii [] h = IsAscii-nil
+white_ascii (c ∷ ws) h =
+    IsAscii-cons c ws (white_low c (h 0 (omega arith))).0 (white_ascii ws (λ i l. h (suc i) (omega (arith, l))))
+
+skip_white : (ws t : Text) → AreWhite ws → skip_leading_whitespace (ws ++ t) ≡ skip_leading_whitespace t
+skip_white [] t h = refl
+skip_white (c ∷ ws) t h = rw (white_low c (h 0 (omega arith))).1 (skip_white ws t (λ i l. h (suc i) (omega (arith, l))))
+
+all_white : (vs : Text) → AreWhite vs → drop_trailing_whitespace vs ≡ []
+all_white [] h = refl
+all_white (c ∷ vs) h =
+    rw (all_white vs (λ i l. h (suc i) (omega (arith, l))), (white_low c (h 0 (omega arith))).1) refl
+
+drop_white : (t vs : Text) → AreWhite vs → drop_trailing_whitespace (t ++ vs) ≡ drop_trailing_whitespace t
+drop_white [] vs h = all_white vs h
+drop_white (c ∷ t) vs h = rw (drop_white t vs h) refl
+
+module _ (bs : List ℕ) (u : IsUtf8 bs) (h : IsBare bs) where
+  abbrev after_first : Text
+  after_first = chars h.middle ++ (h.last ∷ [])
+
+  -- a bare text between white space is what is left without that
+  between : (all ws vs : List ℕ) → AreWhite ws → AreWhite vs → all ≡ ws ++ (bs ++ vs) → chars bs ≡ trimmed (chars all)
+  between all ws vs w v e =
+      let whole : chars all ≡ ws ++ (chars bs ++ vs) = ascii_front ws (bs ++ vs) all (white_ascii ws w) e
+      ∙ ap (λ (x : Text). ws ++ x) (chars-append bs vs u ∙ ap (λ (x : Text). chars bs ++ x)
+      (chars-IsAscii vs (white_ascii vs v))) in
+      let split : chars bs ≡ h.first ∷ after_first = text_split bs u h in
+      let start : skip_leading_whitespace (chars bs ++ vs) ≡ chars bs ++ vs = rw split
+      (start_stays h.first (after_first ++ vs) (head bs u h).1) in
+      let bare : skip_leading_whitespace (chars bs) ≡ chars bs = rw split
+      (start_stays h.first after_first (head bs u h).1) in
+      bare_trimmed bs u h ∙ rw bare (sym (ap trimmed whole ∙ ap drop_trailing_whitespace
+      (skip_white ws (chars bs ++ vs) w ∙ start) ∙ drop_white (chars bs) vs v))
+
+-- what is left without white space of ASCII at either end is left without any, if it is bare
+pub bare_inside : (all bs : List ℕ) → IsUtf8 bs → IsTrimAscii all bs → IsBare bs → chars bs ≡ trimmed (chars all)
+bare_inside all bs u (m, is, below, _, from, _) h =
+    let rest = drop m all in
+    let inner : rest ≡ bs ++ drop (length bs) rest =
+    sym (take-append-drop (length bs) rest) ∙ ap (λ (x : List ℕ). x ++ drop (length bs) rest) (sym is) in
+    let whole : all ≡ take m all ++ (bs ++ drop (length bs) rest) =
+    sym (take-append-drop m all) ∙ ap (λ (x : List ℕ). take m all ++ x) inner in
+    between bs u h all (take m all) (drop (length bs) rest)
+    (λ i l. let low : i < m = omega (arith, l, length-take m all) in rw (get_or-take m all i 0 low) (below i low))
+    (λ i l. rw (get_or-drop (length bs) rest i 0) (from (length bs + i) (omega arith)
+    (omega (arith, l, length-drop (length bs) rest)))) whole
