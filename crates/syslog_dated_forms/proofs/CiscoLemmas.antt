@@ -1,13 +1,21 @@
 -- A text has one front of each class of a line of Cisco's.
-use Rattle.std.proofs.Common.{◌≡◌, ℕ, [], ◌∷◌, ◌++◌, Option, refl, arith, append_assoc, ap, subst, sym, ◌∙◌}
+use Rattle.std.proofs.Common.{◌≡◌, ℕ, [], ◌∷◌, ◌++◌, Option, Some, refl, arith, append_assoc, ap, subst, sym, ◌∙◌}
+use Rattle.std.proofs.Common.{drop, false, get_or, inl, inr, true}
+use Rattle.std.proofs.lemmas.Bool.{and_parts, not-true, or_parts}
+use Rattle.std.proofs.lemmas.Bool.Decides.{nat_tests}
+use Rattle.std.proofs.Common.{length}
+use Rattle.std.specs.Prelude.{◌&&◌}
+use Rattle.std.specs.Prelude.{nat_eq, not}
+use Rattle.syslog_dated_forms.specs.Address.{address, are_address_chars, has_pair, is_address_char, is_hex, may_begin}
 use Rattle.std.specs.Char.{is_ascii_digit}
 use Rattle.syslog_text.specs.Pieces.Class.{Text, Values, Front, NoFront, NoDivision, IsDeterministic, Row, exactly}
-use Rattle.syslog_text.specs.Pieces.Class.{optional, run, some_run}
+use Rattle.syslog_text.specs.Pieces.Class.{Each, optional, run, some_run}
 use Rattle.syslog_text.specs.Pieces.Rules.{such_that}
-use Rattle.syslog_text.specs.Text.{is_blank, colon}
+use Rattle.syslog_text.specs.Text.{IsHost, is_blank, colon}
+use Rattle.syslog_text.proofs.TextLemmas.Words.{host_det}
 use Rattle.syslog_text.proofs.PieceLemmas.Class.{AllDeterministic, ◌also◌, exactly_det, optional_det, mapped_det}
 use Rattle.syslog_text.proofs.PieceLemmas.Class.{front_of, front_same}
-use Rattle.syslog_text.proofs.PieceLemmas.Class.{row_det}
+use Rattle.syslog_text.proofs.PieceLemmas.Class.{mapped_front, row_det}
 use Rattle.syslog_text.proofs.PieceLemmas.Class.{run_det, some_run_det, rest_det, ◌then◌, no_row_division}
 use Rattle.syslog_text.proofs.PieceLemmas.Class.{row_none_here, row_of}
 use Rattle.syslog_text.proofs.PieceLemmas.Rules.{exactly_apart, or_det, such_det, no_such_front, no_such_meaning}
@@ -16,22 +24,30 @@ use Rattle.syslog_pieces.proofs.TimestampLemmas.Rfc3339.{year_det}
 use Rattle.syslog_dated_forms.specs.Cisco.{begins_host, IsMnemonic, origin, mnemonic, counter_row, label_row, label}
 use Rattle.syslog_dated_forms.specs.Cisco.{begins_mnemonic, context_row, dell_row, unit, unit_row}
 use Rattle.syslog_dated_forms.specs.Cisco.{task_row, mark, start_row, labelled, start, front_year_row, front_year}
-use Rattle.syslog_dated_forms.specs.Cisco.{date_row}
+use Rattle.syslog_dated_forms.specs.Cisco.{date_row, host_of, word_origin}
 use Rattle.syslog_dated_forms.specs.Cisco.{place_row, place, message_row, cisco_row, IsAsa, IsNxOs}
 use Rattle.syslog_dated_forms.specs.Cisco.{IsDated, asa_form, cisco_forms, cisco_sent, ios_form, nx_os_form}
 use Rattle.syslog_sent.specs.Forms.{IsOfNone, IsOnlyOf}
 use Rattle.syslog_sent.specs.Sent.{SentValue}
 use Rattle.syslog_sent.specs.declared.dialect.Dialect.TheVariants.{CiscoAsa, CiscoIos, CiscoNxOs}
-use Rattle.syslog_sent.specs.Named.{BeginsWith}
+use Rattle.syslog_sent.specs.Named.{◌otherwise◌, BeginsWith}
 use Rattle.syslog_sent.specs.Runs.{is_plain_char}
 use Rattle.syslog_sent.specs.Zone.{bare_word}
 use Rattle.syslog_sent.proofs.DateLemmas.{any_date_det}
 use Rattle.syslog_sent.proofs.DialectLemmas.{here, later}
 use Rattle.syslog_sent.proofs.FormLemmas.{says_once}
-use Rattle.syslog_sent.proofs.NamedLemmas.{otherwise_det}
+use Rattle.syslog_sent.proofs.NamedLemmas.{otherwise_det, second_front}
 use Rattle.syslog_sent.specs.Date.{any_date}
 use Rattle.syslog_sent.specs.declared.sent.SentDate.{SentDate}
 use Rattle.syslog_sent.proofs.ZoneLemmas.{bare_word_det}
+
+some_is : (s t : Text) → Some s ≡ Some t → s ≡ t
+some_is s t e = cc
+
+-- an address is its piece
+pub address_is : (p q t : Text) → IsHost p q (Some t) → t ≡ p
+address_is p q t (some, each, inl (no_colon, ends, is)) = is.0
+address_is p q t (some, each, inr (s, follows, ends, same)) = some_is t p same
 
 colon_det : IsDeterministic (exactly colon)
 colon_det = exactly_det colon
@@ -42,8 +58,13 @@ gap_det = some_run_det is_blank
 blanks_det : IsDeterministic (run is_blank)
 blanks_det = run_det is_blank
 
+address_det : IsDeterministic address
+address_det p q p' q' t t' e h h' =
+    let r = host_det p q p' q' (Some t) (Some t') e h.0 h'.0 in (r.0, some_is t t' r.1)
+
 pub origin_det : IsDeterministic origin
-origin_det = such_det bare_word (BeginsWith begins_host) bare_word_det
+origin_det = mapped_det (address otherwise word_origin) Text host_of
+    (otherwise_det address_det (such_det bare_word (BeginsWith begins_host) bare_word_det))
 
 mnemonic_det : IsDeterministic mnemonic
 mnemonic_det = such_det bare_word IsMnemonic bare_word_det
@@ -56,6 +77,58 @@ label_row_det = origin_det also colon_det also gap_det also tt
 
 pub label_det : IsDeterministic label
 label_det = mapped_det (Row label_row) Text _ (row_det label_row label_row_det)
+
+at : (n : ℕ) {s t : Text} → s ≡ t → get_or s n 0 ≡ get_or t n 0
+at n e = ap (λ (x : Text). get_or x n 0) e
+
+-- an address has two colons in a row, so it goes past other characters but a few at the front of a text
+no_pair_before : (ws : Text) (x : ℕ) (rest p q : Text) → Each (λ c. not (nat_eq c 58)) ws → is_address_char x ≡ false
+    → are_address_chars p ≡ true → p ++ q ≡ ws ++ (x ∷ rest) → has_pair p ≡ false
+no_pair_before ws x rest [] q w n a e = refl
+no_pair_before [] x rest (c ∷ p) q w n a e = let same : c ≡ x = at 0 e in
+    absurd (let here = (and_parts (is_address_char c) (are_address_chars p) a).0 in
+    let bad : true ≡ false = sym here ∙ rw same n in cc)
+no_pair_before (d ∷ ws) x rest (c ∷ p) q w n a e =
+    let same : c ≡ d = at 0 e in
+    let later = no_pair_before ws x rest p q w.1 n (and_parts (is_address_char c) (are_address_chars p) a).1
+    (ap (λ (t : Text). drop 1 t) e) in
+    let here : nat_eq c 58 ≡ false = rw same (not-true (nat_eq d 58) w.0) in
+    rw (here, later) refl
+
+not_begun : (t p q : Text) → may_begin t ≡ false → are_address_chars p ≡ true → t ≡ p ++ q → has_pair p ≡ false
+not_begun t [] q n a e = refl
+not_begun [] (c ∷ p) q n a e = absurd (omega (arith, ap length e))
+not_begun (d ∷ t) (c ∷ p) q n a e =
+    let same : d ≡ c = at 0 e in
+    let (colon_no, more) = or_parts (nat_eq d 58) (is_hex d && may_begin t) n in
+    let parts = and_parts (is_address_char c) (are_address_chars p) a in
+    let hex : is_hex d ≡ true = grind (arith, nat_tests, same, colon_no, parts.0) in
+    let later = not_begun t p q (rw hex at more) parts.1 (ap (λ (x : Text). drop 1 x) e) in
+    let here : nat_eq c 58 ≡ false = rw same at colon_no in
+    rw (here, later) refl
+
+-- where none may begin, there is no address
+pub none_begun : {t : Text} → may_begin t ≡ false → NoFront address t
+none_begun {t} n p q w e (is, h) =
+    let same : w ≡ p = address_is p q w is in
+    let (all, pair) = and_parts (are_address_chars w) (has_pair w) h in
+    let bad = not_begun t p q n (rw same at all) e in
+    let f : true ≡ false = sym (rw same at pair) ∙ bad in cc
+
+-- where there is no address, a word is
+pub word_is_origin : {t q w : Text} → NoFront address t → Front bare_word t q w → BeginsWith begins_host w
+    → Front origin t q w
+word_is_origin n f b = mapped_front (address otherwise word_origin) Text host_of
+    (second_front n (such_front bare_word (BeginsWith begins_host) f b))
+
+-- where so many characters are no colons, and the next one is of no address, no address is
+pub no_address : (ws : Text) (x : ℕ) (rest : Text) → Each (λ c. not (nat_eq c 58)) ws → is_address_char x ≡ false
+    → NoFront address (ws ++ (x ∷ rest))
+no_address ws x rest w n p q t e (is, h) =
+    let same : t ≡ p = address_is p q t is in
+    let (all, pair) = and_parts (are_address_chars t) (has_pair t) h in
+    let bad = no_pair_before ws x rest p q w n (rw same at all) (sym e) in
+    let f : true ≡ false = sym (rw same at pair) ∙ bad in cc
 
 pub task_row_det : AllDeterministic task_row
 task_row_det = exactly_det _ also bare_word_det also colon_det also gap_det also tt

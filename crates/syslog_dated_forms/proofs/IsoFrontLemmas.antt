@@ -13,7 +13,7 @@ use Rattle.syslog_text.proofs.PieceLemmas.Class.{no_row, no_row_division, option
 use Rattle.syslog_text.proofs.PieceLemmas.Class.{row_pieces}
 use Rattle.syslog_text.proofs.PieceLemmas.Class.{◌also◌, row_cons, row_nil, rows_none_later, run_det, some_run_det}
 use Rattle.syslog_text.proofs.PieceLemmas.Lists.{Begins, begins}
-use Rattle.syslog_text.proofs.PieceLemmas.Rules.{no_such_front, such_front}
+use Rattle.syslog_text.proofs.PieceLemmas.Rules.{no_such_front}
 use Rattle.syslog_text.proofs.TextLemmas.Runs.{no_run}
 use Rattle.syslog_pieces.proofs.TimestampLemmas.MonthDate.{IsBlank, blanks_begin}
 use Rattle.syslog_dated_forms.specs.Cisco.{IsMnemonic, begins_host, counter_row, label, label_row, message_row}
@@ -45,6 +45,10 @@ use Rattle.syslog_dated_forms.proofs.OtherDateLemmas.{utm_row_det, xr_row_det}
 use Rattle.syslog_dated_forms.proofs.UndatedLemmas.{run_clock_row_det, undated_row_det}
 use Rattle.syslog_dated_forms.proofs.UnixLemmas.{short_row_det}
 use Rattle.syslog_sent.proofs.NamedLemmas.{no_otherwise}
+use Rattle.std.specs.Prelude.{nat_eq, not}
+use Rattle.syslog_dated_forms.specs.Address.{address}
+use Rattle.syslog_dated_forms.specs.Cisco.{origin}
+use Rattle.syslog_dated_forms.proofs.CiscoLemmas.{no_address, origin_det, word_is_origin}
 use Rattle.syslog_sent.proofs.ZoneLemmas.{bare_word_det, day_capital}
 
 -- ---- the word that such a date begins with
@@ -340,6 +344,9 @@ word_host a (c ∷ p) v q e (w, h, is) k = let same : a ≡ c = at 0 e in
 no_capital : (a : ℕ) (more : Text) → is_ascii_digit a ≡ true → BeginsWith is_capital (a ∷ more) → ⊥
 no_capital a more h k = grind (arith, nat_tests, h, k)
 
+digit_no_colon : (c : ℕ) → is_ascii_digit c ≡ true → not (nat_eq c 58) ≡ true
+digit_no_colon c h = grind (arith, nat_tests, h)
+
 module _ {t : Text} (m : HasIso t) where
   pub year_front : Front (some_run is_ascii_digit) t (m.e ∷ m.more) tt
   year_front = front_of (m.a ∷ m.b ∷ m.c ∷ m.d ∷ []) m.is (omega arith, m.digits, mark_no_digit m.e m.part)
@@ -369,10 +376,20 @@ module _ {t : Text} (m : HasIso t) where
     | inr spaced ↦ (let bad : 32 ≡ 58 = at 0 (sym spaced.is ∙ begins 58 m.left u c) in omega (arith, bad))
   ]
 
+  iso_no_address : NoFront address t
+  iso_no_address = rw m.is (no_address (m.a ∷ m.b ∷ m.c ∷ m.d ∷ []) m.e m.more
+      (each_map is_ascii_digit (λ c. not (nat_eq c 58)) digit_no_colon (m.a ∷ m.b ∷ m.c ∷ m.d ∷ []) m.digits)
+      (elim m.part [ inl dash ↦ rw dash refl | inr slash ↦ rw slash refl ]))
+
+  -- the day of the month ends the name of a device
+  pub iso_origin : Front origin t m.left m.word
+  iso_origin = word_is_origin iso_no_address m.found
+      (word_host m.a m.found.piece m.word m.left (sym m.is ∙ m.found.whole) m.found.is m.digits.0)
+
   iso_no_label : NoFront label t
   iso_no_label p q v e (vs, h, is) =
       let (u, o, (w, c, (x, g, more))) = row_pieces label_row (front_of p e h) in
-      let same = (front_same bare_word bare_word_det (front_of o.piece o.whole o.is.0) m.found).0 in
+      let same = (front_same origin origin_det o iso_origin).0 in
       no_colon_gap (subst (λ (y : Text). Front (exactly (58 ∷ [])) y w tt) same c) g
 
   iso_no_uptime : NoFront uptime t
@@ -426,9 +443,6 @@ module _ {t : Text} (m : HasIso t) where
         no_point p q (inl v) e h = mark_apart m.e 46 m.part (inr (inl refl)) (at 0 (e ∙ ap (λ (x : Text). x ++ q) h))
         no_point p q (inr v) e h = mark_apart m.e 44 m.part (inl refl) (at 0 (e ∙ ap (λ (x : Text). x ++ q) h))
 
-  begins_a : (v : Text) → Front bare_word t m.left v → BeginsWith begins_host v
-  begins_a v f = word_host m.a f.piece v m.left (sym m.is ∙ f.whole) f.is m.digits.0
-
   no_meraki : NoFront (Row (drop 1 meraki_row)) t
   no_meraki p q vs e h = let (u, c, (w, g, more)) = row_pieces (drop 1 meraki_row) (front_of p e h) in
       let is : m.b ∷ m.c ∷ m.d ∷ m.e ∷ m.more ≡ u = ap (λ (x : Text). drop 1 x) (sym m.is ∙ begins 49 t u c) in
@@ -445,13 +459,12 @@ module _ {text t : Text} (gap : Front (run is_blank) text t tt) (m : HasIso t) w
   no_card = elim m.ends [
     | inl tied ↦ no_row card_row card_row_det (gap past optional_none (Row counter_row) (iso_no_counter m)
         past optional_none host (no_mapped (Row host_row) Text _ (no_row host_row host_row_det
-        (such_front bare_word (BeginsWith begins_host) m.found (begins_a m m.word m.found) past inl (no_gap tied))))
+        (iso_origin m past inl (no_gap tied))))
         past inl (subst (λ (x : Text). NoFront node x) (sym m.is)
         (no_node_at m.a m.b _ m.digits.0 m.digits.1.0)))
     | inr spaced ↦ no_row card_row card_row_det (gap past optional_none (Row counter_row) (iso_no_counter m)
         past optional_some host (mapped_front (Row host_row) Text (λ v. v.0) (row_of host_row
-        (such_front bare_word (BeginsWith begins_host) m.found (begins_a m m.word m.found) then one_gap spaced then
-        refl)))
+        (iso_origin m then one_gap spaced then refl)))
         past inl (no_node_at spaced.x spaced.y _ spaced.first spaced.second))
   ] where
     no_gap : (tied : IsTied m.left) → NoFront (some_run is_blank) m.left

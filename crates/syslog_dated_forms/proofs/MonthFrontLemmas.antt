@@ -27,7 +27,12 @@ use Rattle.syslog_dated_forms.proofs.InBracketsLemmas.{in_brackets_det}
 use Rattle.syslog_text.proofs.PieceLemmas.Class.{optional_none, row_of, row_pieces}
 use Rattle.syslog_text.proofs.PieceLemmas.Lists.{Begins, begins, begins_apart}
 use Rattle.syslog_sent.proofs.NamedLemmas.{no_otherwise}
-use Rattle.syslog_text.proofs.PieceLemmas.Rules.{no_such_front, such_front}
+use Rattle.std.proofs.lemmas.Bool.{and_parts}
+use Rattle.std.specs.Prelude.{nat_eq, not}
+use Rattle.syslog_dated_forms.specs.Address.{address, is_address_char}
+use Rattle.syslog_dated_forms.specs.Cisco.{origin}
+use Rattle.syslog_dated_forms.proofs.CiscoLemmas.{no_address, origin_det, word_is_origin}
+use Rattle.syslog_text.proofs.PieceLemmas.Rules.{no_such_front}
 use Rattle.syslog_text.proofs.TextLemmas.Runs.{no_run}
 use Rattle.syslog_pieces.proofs.TimestampLemmas.MonthDate.{IsBlank, IsLetter, blank_low, blanks_begin, month_letters}
 use Rattle.syslog_dated_forms.specs.Cisco.{IsMnemonic, begins_host, counter_row, front_year, front_year_row, label}
@@ -44,7 +49,6 @@ use Rattle.syslog_dated_forms.specs.Cisco.{dated_in}
 use Rattle.syslog_dated_forms.specs.DatedForms.{journal_forms}
 use Rattle.syslog_sent.specs.Forms.{IsOfNone}
 use Rattle.syslog_dated_forms.specs.IosXr.{IsNode, card_row, host, host_in, host_row, node, xr_row}
-use Rattle.syslog_sent.specs.Named.{BeginsWith}
 use Rattle.syslog_dated_forms.specs.NetScaler.{netscaler_row, slashed_of, slashed_row}
 use Rattle.syslog_dated_forms.specs.OpenWrt.{logread_row}
 use Rattle.syslog_sent.specs.Runs.{are_ascii}
@@ -187,6 +191,20 @@ month_no_uptime w m is = let s = small_letters _ _ _ _ m.names in
     let told = rw m.is at is in
     grind (arith, nat_tests, large, told)
 
+-- a month and a blank are no address of IPv6
+blank_no_address : (x : ℕ) → IsBlank x → is_address_char x ≡ false
+blank_no_address x b = grind (arith, nat_tests, b)
+
+word_no_colon : (p : Text) → IsWord p → Each (λ c. not (nat_eq c 58)) p
+word_no_colon p w = let s = small_letters _ _ _ _ w.names in rw w.is (
+  (and_parts _ _ (tag_letter w.a (s.0, s.1))).1,
+  ((and_parts _ _ (tag_letter w.b (s.2, s.3))).1, ((and_parts _ _ (tag_letter w.c (s.4, s.5))).1, tt)),
+)
+
+month_no_address : (p q : Text) → IsWord p → Begins IsBlank q → NoFront address (p ++ q)
+month_no_address p [] w b = absurd b
+month_no_address p (x ∷ rest) w b = no_address p x rest (word_no_colon p w) (blank_no_address x b)
+
 module _ {t : Text} (m : HasMonth t) where
   pub first_letter : (c : ℕ) × (more : Text) × (t ≡ c ∷ more) × (65 ≤ c)
   first_letter = let s = small_letters _ _ _ _ m.word.names in
@@ -227,10 +245,15 @@ module _ {t : Text} (m : HasMonth t) where
   no_counter : NoFront (Row counter_row) t
   no_counter = no_row counter_row counter_row_det (inl (no_digits (some_run is_ascii_digit) (λ p q v h. (h.0, h.1))))
 
+  month_origin : Front origin t m.q m.p
+  month_origin = let s = small_letters _ _ _ _ m.word.names in
+      word_is_origin (rw m.whole (month_no_address m.p m.q m.word m.blank)) month_word
+      (rw m.word.is (host_letter m.word.a (s.0, s.1)))
+
   no_label : NoFront label t
   no_label p q v e (vs, h, is) =
       let (u, o, (w, c, more)) = row_pieces label_row (front_of p e h) in
-      let same = (front_same bare_word bare_word_det (front_of o.piece o.whole o.is.0) month_word).0 in
+      let same = (front_same origin origin_det o month_origin).0 in
       begins_apart {H = IsBlank} {K = λ d. d ≡ 58} u (λ d k l. let b : is_blank 58 ≡ true = rw l at k in
       let f : false ≡ true = b in cc)
       (rw same m.blank) (rw (begins 58 u w c) refl)
@@ -265,10 +288,7 @@ module _ {t : Text} (m : HasMonth t) where
 
   -- a name, and blanks after it
   month_host : Front host t m.at_day m.p
-  month_host = let s = small_letters _ _ _ _ m.word.names in
-      mapped_front (Row host_row) Text (λ v. v.0) (row_of host_row
-      (such_front bare_word (BeginsWith begins_host) month_word (rw m.word.is (host_letter m.word.a (s.0, s.1)))
-      then m.gap then refl))
+  month_host = mapped_front (Row host_row) Text (λ v. v.0) (row_of host_row (month_origin then m.gap then refl))
 
   day_word : Front bare_word m.at_day m.after_day m.day
   day_word = front_of m.day m.shown

@@ -6,6 +6,7 @@
 -- is `*` for a clock that was never set, and `.` for one that has lost its server. NX-OS has the year before the month.
 use Rattle.std.specs.Prelude.{◌≡◌, ◌⊎◌, ◌||◌, ◌&&◌, ℕ, nat_eq, Bool, true, List, [], ◌∷◌, Option, Some, None}
 use Rattle.std.specs.Prelude.{codes, not}
+use Rattle.std.proofs.Common.{inl, inr}
 use Rattle.std.specs.Option.{is_some}
 use Rattle.std.specs.Char.{is_ascii_digit}
 use Rattle.syslog_text.specs.Pieces.Class.{Text, Class, Values, Front, Row, run, some_run, exactly, rest, optional}
@@ -13,6 +14,7 @@ use Rattle.syslog_text.specs.Pieces.Class.{mapped}
 use Rattle.syslog_text.specs.Pieces.Rules.{◌or◌, such_that}
 use Rattle.syslog_text.specs.Text.{is_blank, colon}
 use Rattle.syslog_pieces.specs.Timestamp.Rfc3339.{year}
+use Rattle.syslog_dated_forms.specs.Address.{address}
 use Rattle.syslog_sent.specs.Date.{any_date, in_year}
 use Rattle.syslog_sent.specs.Named.{◌otherwise◌, BeginsWith, is_letter}
 use Rattle.syslog_sent.specs.Runs.{is_plain_char}
@@ -27,8 +29,16 @@ use Rattle.syslog_sent.specs.declared.sent.SentDate.{SentDate}
 abbrev pub begins_host : ℕ → Bool
 begins_host c = is_ascii_digit c || is_letter c
 
+abbrev pub word_origin : Class
+word_origin = such_that bare_word (BeginsWith begins_host)
+
+abbrev pub host_of : Text ⊎ Text → Text
+host_of (inl t) = t
+host_of (inr t) = t
+
+-- the name of a device: an address of IPv6, or a word up to its first colon
 abbrev pub origin : Class
-origin = such_that bare_word (BeginsWith begins_host)
+origin = mapped (address otherwise word_origin) Text host_of
 
 -- `%`, or `#` (WLC of before 8.0), and then a letter
 abbrev pub IsMnemonic : Text → Type 0

@@ -1,3 +1,4 @@
+pub mod Address
 pub mod Cisco
 pub mod CiscoViews
 pub mod Container

@@ -5,6 +5,7 @@ use Rattle.std.specs.Char.{is_ascii_digit}
 use Rattle.syslog_text.specs.Pieces.Class.{Text, Class, Values, Row, exactly, optional, run, some_run}
 use Rattle.syslog_text.specs.Pieces.Rules.{such_that}
 use Rattle.syslog_text.specs.Text.{is_blank, colon}
+use Rattle.syslog_dated_forms.specs.Address.{has_pair}
 use Rattle.syslog_dated_forms.specs.Cisco.{counter_row, label, message_row}
 use Rattle.syslog_dated_forms.specs.Filed.{filed_front}
 use Rattle.syslog_sent.specs.Named.{◌otherwise◌, is_number}
@@ -38,8 +39,12 @@ uptime = Row run_clock_row otherwise Row run_word_row
 
 -- ---- a line: counters, the device's own name and how long it has run, if they are shown, and the message
 
+-- how long a device has run, and no address of IPv6
+abbrev pub is_no_name : Text → Bool
+is_no_name t = is_uptime t && not (has_pair t)
+
 abbrev pub IsName : Text → Type 0
-IsName t = is_uptime t ≡ false
+IsName t = is_no_name t ≡ false
 
 abbrev pub name_label : Class
 name_label = such_that label IsName

@@ -24,6 +24,7 @@ ghost use Rattle.syslog_sent.specs.Sent.{sent_value};
 ghost use Rattle.syslog_sent.specs.Zone.{bare_word as any_word};
 ghost use Rattle.syslog_dated_forms.specs.Cisco as spec;
 
+use crate::address::address;
 use syslog_pieces::timestamp::MonthDate;
 use syslog_pieces::timestamp::pairs::year;
 use syslog_sent::date::any_date;
@@ -83,16 +84,25 @@ fn is_asa_tag(tag: &str) -> bool
     starts(tag, "%ASA-") || starts(tag, "%FTD-")
 }
 
-// Returns a host's name at the front, and the text after it.
-#[inline(always)]
-pub(crate) fn origin(text: &str) -> Option<(&str, &str)>
-    ensures { Reads spec.origin (λ word. shown word) (chars text.now) result }
+// Returns a word at the front that begins as a host's name does, and the text after it.
+fn word_origin(text: &str) -> Option<(&str, &str)>
+    ensures { Reads spec.word_origin (λ word. shown word) (chars text.now) result }
 {
     let (word, rest) = bare_word(text)?;
     if !is_host(word) {
         return None;
     }
     Some((word, rest))
+}
+
+/// Returns a host's name at the front, or its address of IPv6, and the text after it.
+pub(crate) fn origin(text: &str) -> Option<(&str, &str)>
+    ensures { Reads spec.origin (λ word. shown word) (chars text.now) result }
+{
+    if let Some(found) = address(text) {
+        return Some(found);
+    }
+    word_origin(text)
 }
 
 fn optional_origin(text: &str) -> (Option<&str>, &str)
@@ -151,6 +161,7 @@ pub(crate) fn past_counter(text: &str) -> &str
 }
 
 /// Returns a host's name before a colon and blanks, and the text after these.
+/// Returns the name of a device before a colon and blanks, and the text after these.
 pub(crate) fn label(text: &str) -> Option<(&str, &str)>
     ensures { Reads spec.label (λ word. shown word) (chars text.now) result }
 {

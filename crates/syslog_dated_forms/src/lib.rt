@@ -5,6 +5,7 @@
 //! head of its module and of its file in `specs/`, with its vendor's document.
 #![tactic(auto)]
 
+mod address;
 mod cisco;
 mod container;
 mod dated;

@@ -13,6 +13,7 @@ ghost use Rattle.syslog_sent.specs.Sent.{Sends};
 ghost use Rattle.syslog_sent.specs.Zone.{bare_word as any_word};
 ghost use Rattle.syslog_dated_forms.specs.Undated as spec;
 
+use crate::address::has_pair;
 use crate::cisco::{label, message, past_counter};
 use crate::filed::past_front;
 use syslog_sent::named::is_number;
@@ -81,12 +82,19 @@ fn past_uptime(text: &str) -> &str
     }
 }
 
+// Whether the word says how long the device has run, and is no address of IPv6.
+fn is_no_name(word: &str) -> bool
+    ensures { result ≡ spec.is_no_name (chars word.now) }
+{
+    is_uptime(word) && !has_pair(word)
+}
+
 // Returns the name of the device before a colon and blanks, and the text after these.
 fn name_label(text: &str) -> Option<(&str, &str)>
     ensures { Reads spec.name_label (λ word. shown word) (chars text.now) result }
 {
     let (name, rest) = label(text)?;
-    if is_uptime(name) {
+    if is_no_name(name) {
         return None;
     }
     Some((name, rest))

@@ -18,7 +18,9 @@ use Rattle.syslog_loose.proofs.Rfc3164Lemmas.Near.{form_parts}
 use Rattle.syslog_dated_forms.specs.Cisco.{IsAsa, IsMnemonic, IsNxOs, cisco_forms, cisco_row, cisco_sent}
 use Rattle.syslog_dated_forms.specs.Cisco.{counter_row, date_row, begins_host, dated_in, label, label_row, labelled}
 use Rattle.syslog_dated_forms.specs.Cisco.{mark, message_row, mnemonic, origin, place, place_row, start, start_row}
-use Rattle.syslog_dated_forms.specs.Cisco.{unit}
+use Rattle.syslog_dated_forms.specs.Cisco.{host_of, unit, word_origin}
+use Rattle.syslog_dated_forms.specs.Address.{address}
+use Rattle.syslog_dated_forms.proofs.CiscoLemmas.{address_is}
 use Rattle.syslog_dated_forms.specs.Cisco.{task_row}
 use Rattle.syslog_dated_forms.specs.Undated as undated
 use Rattle.syslog_dated_forms.specs.Undated.{IsName, name_label, uptime}
@@ -41,7 +43,7 @@ use Rattle.syslog_dated_forms.specs.IosXr.{card, card_row, host_in, node, proces
 use Rattle.syslog_dated_forms.specs.IosXr.{xr_sent}
 use Rattle.syslog_dated_forms.specs.IosXr as xr
 use Rattle.syslog_named_forms.specs.Graded.{source_row}
-use Rattle.syslog_sent.specs.Named.{BeginsWith, beginning, is_letter}
+use Rattle.syslog_sent.specs.Named.{◌otherwise◌, BeginsWith, beginning, is_letter}
 use Rattle.syslog_dated_forms.specs.NetScaler.{netscaler_row, slashed_date}
 use Rattle.syslog_dated_forms.specs.OpenWrt.{logread_row, logread_sent}
 use Rattle.syslog_dated_forms.specs.ProCurve.{IsSwitch, procurve_row, procurve_sent}
@@ -59,7 +61,7 @@ use Rattle.syslog_dialects.proofs.OrderLemmas.{bare as bare_text, before_rest, b
 use Rattle.syslog_dialects.proofs.OrderLemmas.{dash_field, host_named, last_found, mapped_found, maybe, maybe_colon}
 use Rattle.syslog_dialects.proofs.OrderLemmas.{meant, name_before, no_field, out_more, passed, perhaps}
 use Rattle.syslog_dialects.proofs.OrderLemmas.{row_has, row_more, signs_before, tag_named, text_field}
-use Rattle.syslog_dialects.proofs.OrderLemmas.{text_of}
+use Rattle.syslog_dialects.proofs.OrderLemmas.{Has, shown, text_of}
 use Rattle.syslog_dialects.proofs.OrderLemmas.{IsOut, such, whole_found}
 
 -- ---- forms
@@ -134,8 +136,14 @@ a_stamp = a_date stamp (λ v. v.1.0) (λ p q v is. inr (inr (inr (inr (inr (inr 
 
 -- ---- Cisco
 
+a_device : (left : List Class) → Has left (address otherwise word_origin) (λ v parts. Name (host_of v) ∷ parts)
+a_device left t q (inl v) f =
+    (shown {left = left} address Name (λ p r w is. sym (address_is p r w is.0))).has t q v (front_of f.piece f.whole f.is)
+a_device left t q (inr v) f =
+    (bare_text {left = left} (BeginsWith begins_host)).has t q v (front_of f.piece f.whole f.is.1)
+
 abbrev an_origin : {left : List Class} → Shows left origin
-an_origin = bare_text (BeginsWith begins_host)
+an_origin {left} = meant (address otherwise word_origin) Text host_of (λ t parts. Name t ∷ parts) (a_device left)
 
 counter_out : (Cs : List Class) → IsOut (cisco_left_out ++ Cs) (Row counter_row)
 counter_out Cs p q v is = inr (inl (v, is))

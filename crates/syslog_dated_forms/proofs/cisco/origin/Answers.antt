@@ -1,17 +1,18 @@
-use Rattle.syslog_text.proofs.PieceLemmas.Rules.{no_such_front, no_such_meaning, such_front}
-use Rattle.syslog_dated_forms.specs.Cisco.{begins_host}
-use Rattle.syslog_sent.specs.Named.{BeginsWith}
-use Rattle.syslog_sent.specs.Zone.{bare_word}
-use Rattle.syslog_sent.proofs.ZoneLemmas.{bare_word_det}
+use Rattle.std.proofs.Common.{inl}
+use Rattle.syslog_text.proofs.PieceLemmas.Class.{front_of, mapped_front, match_map, no_mapped}
+use Rattle.syslog_text.specs.Pieces.Class.{Text}
+use Rattle.syslog_sent.specs.Named.{◌otherwise◌}
+use Rattle.syslog_sent.proofs.NamedLemmas.{no_otherwise, second_front}
+use Rattle.syslog_dated_forms.specs.Address.{address}
+use Rattle.syslog_dated_forms.specs.Cisco.{host_of, word_origin}
 use Rattle.syslog_dated_forms.proofs.cisco.origin.Goals as goal
 
-pub returns-in_err-word : goal.returns-in_err-word
-returns-in_err-word c = rw c.from_residual.ensures
-    (no_such_front bare_word (BeginsWith begins_host) c.in_err-word.ensures)
-
-pub returns-then-not-is_host : goal.returns-then-not-is_host
-returns-then-not-is_host c = no_such_meaning bare_word (BeginsWith begins_host) bare_word_det c.in_ok-word.ensures
-    c.if-not-is_host.ensures
+pub returns-in-Some : goal.returns-in-Some
+returns-in-Some c = let f = c.in-Some.ensures in mapped_front (address otherwise word_origin) Text host_of
+    {v = inl _} (front_of f.piece f.whole f.is)
 
 pub returns : goal.returns
-returns c = such_front bare_word (BeginsWith begins_host) c.in_ok-word.ensures c.if-not-is_host.ensures
+returns c = match_map c.word_origin.result
+    (λ n. no_mapped (address otherwise word_origin) Text host_of (no_otherwise c.in_default.ensures n))
+    (λ x f. mapped_front (address otherwise word_origin) Text host_of (second_front c.in_default.ensures f))
+    c.word_origin.ensures

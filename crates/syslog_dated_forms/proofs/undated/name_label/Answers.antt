@@ -8,9 +8,9 @@ use Rattle.syslog_dated_forms.proofs.undated.name_label.Goals as goal
 pub returns-in_err-name : goal.returns-in_err-name
 returns-in_err-name c = rw c.from_residual.ensures (no_such_front label IsName c.in_err-name.ensures)
 
-pub returns-then-is_uptime : goal.returns-then-is_uptime
-returns-then-is_uptime c = no_such_meaning label IsName label_det c.in_ok-name.ensures
-    (λ not. (let bad : true ≡ false = c.if-is_uptime.ensures ∙ not in cc))
+pub returns-then-is_no_name : goal.returns-then-is_no_name
+returns-then-is_no_name c = no_such_meaning label IsName label_det c.in_ok-name.ensures
+    (λ not. (let bad : true ≡ false = c.if-is_no_name.ensures ∙ not in cc))
 
 pub returns : goal.returns
-returns c = such_front label IsName c.in_ok-name.ensures (sym c.if-is_uptime.ensures)
+returns c = such_front label IsName c.in_ok-name.ensures (sym c.if-is_no_name.ensures)

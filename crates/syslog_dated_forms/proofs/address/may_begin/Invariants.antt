@@ -1,0 +1,12 @@
+use denote.Text.{Utf8}
+use denote.Shadow.{shadow}
+use Rattle.std.proofs.Common.{◌≡◌, length}
+use Rattle.std.specs.Str.{chars}
+use Rattle.syslog_dated_forms.specs.Address.{may_begin}
+use Rattle.syslog_dated_forms.proofs.address.may_begin.Given as goal
+
+abbrev pub invariant-characters : goal.invariant-characters
+invariant-characters l = shadow (Utf8 l.rest) × (may_begin (chars l.text) ≡ may_begin (chars l.rest))
+
+abbrev pub decreases-characters : goal.decreases-characters
+decreases-characters l = length (chars l.rest)
