@@ -78,7 +78,8 @@ label_row_det = origin_det also colon_det also gap_det also tt
 pub label_det : IsDeterministic label
 label_det = mapped_det (Row label_row) Text _ (row_det label_row label_row_det)
 
-at : (n : ℕ) {s t : Text} → s ≡ t → get_or s n 0 ≡ get_or t n 0
+-- the character at a place of two texts that are one
+pub at : (n : ℕ) {s t : Text} → s ≡ t → get_or s n 0 ≡ get_or t n 0
 at n e = ap (λ (x : Text). get_or x n 0) e
 
 -- an address has two colons in a row, so it goes past other characters but a few at the front of a text

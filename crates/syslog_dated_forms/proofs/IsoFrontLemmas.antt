@@ -48,7 +48,7 @@ use Rattle.syslog_sent.proofs.NamedLemmas.{no_otherwise}
 use Rattle.std.specs.Prelude.{nat_eq, not}
 use Rattle.syslog_dated_forms.specs.Address.{address}
 use Rattle.syslog_dated_forms.specs.Cisco.{origin}
-use Rattle.syslog_dated_forms.proofs.CiscoLemmas.{no_address, origin_det, word_is_origin}
+use Rattle.syslog_dated_forms.proofs.CiscoLemmas.{at, no_address, origin_det, word_is_origin}
 use Rattle.syslog_sent.proofs.ZoneLemmas.{bare_word_det, day_capital}
 
 -- ---- the word that such a date begins with
@@ -315,10 +315,6 @@ digit_host c h = grind (arith, nat_tests, h)
 
 pub digit_is : (c k : ℕ) → is_ascii_digit c ≡ true → is_ascii_digit k ≡ false → c ≡ k → ⊥
 digit_is c k h n is = let bad : true ≡ false = sym h ∙ ap is_ascii_digit is ∙ n in cc
-
--- the character at a place of two texts that are one
-at : (n : ℕ) {s t : Text} → s ≡ t → get_or s n 0 ≡ get_or t n 0
-at n e = ap (λ (x : Text). get_or x n 0) e
 
 -- two digits begin no node
 no_node_at : (a b : ℕ) (more : Text) → is_ascii_digit a ≡ true → is_ascii_digit b ≡ true → NoFront node (a ∷ b ∷ more)

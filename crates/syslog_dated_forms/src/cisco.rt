@@ -2,8 +2,9 @@
 //!
 //! **Rule.** The app name is `%FACILITY-SEVERITY-MNEMONIC`, and the message is what follows its colon. Counters,
 //! sequence numbers, tasks, the virtual device of NX-OS and the mark of a clock that is not right are left out. The
-//! host is the name before the date, or otherwise the one after it; a line that has neither has no host. (Cisco,
-//! "System Message Format": IOS System Messages Guide; NX-OS System Messages Reference; ASA Syslog Messages.)
+//! host is the name before the date, or otherwise the one after it; a line that has neither has no host. A name is a
+//! word up to its first colon, or an address of IPv6 with `::`. (Cisco, "System Message Format": IOS System Messages
+//! Guide; NX-OS System Messages Reference; ASA Syslog Messages.)
 //!
 //! `<189>29: *Mar  1 18:48:50.483: %SYS-5-CONFIG_I: text`, `<187>4211: core-sw1: Mar  1 18:48:50 CET: %LINK-3-UPDOWN:
 //! text`, `<189>: 2026 Mar  1 18:48:50 CET: %ETHPORT-5-IF_DOWN: text`, `<166>Mar 01 2026 18:48:50 asa1 : %ASA-6-302013:

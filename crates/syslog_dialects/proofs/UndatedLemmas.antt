@@ -1,5 +1,5 @@
 -- Texts that begin with a date, and texts that begin with none: which forms divide neither of them.
-use Rattle.std.proofs.Common.{◌≡◌, inl, inr, ℕ, true, false, [], ◌∷◌, ◌++◌, refl, sym, ap, subst, ◌∙◌, arith, get_or}
+use Rattle.std.proofs.Common.{◌≡◌, inl, inr, ℕ, true, false, [], ◌∷◌, ◌++◌, refl, sym, ap, subst, ◌∙◌, arith}
 use Rattle.std.proofs.lemmas.Bool.{agree_below_at}
 use Rattle.std.proofs.lemmas.Bool.Decides.{nat_tests}
 use Rattle.std.specs.Char.{is_ascii_digit, to_ascii_lowercase}
@@ -20,6 +20,7 @@ use Rattle.syslog_sent.specs.Runs.{is_word_char}
 use Rattle.syslog_sent.specs.declared.led.Led.{Led}
 use Rattle.syslog_sent.specs.declared.led.LeadingDate.{LeadingDate}
 use Rattle.syslog_sent.specs.declared.led.LeadingDate.TheVariants.{Month, Iso}
+use Rattle.syslog_dated_forms.proofs.CiscoLemmas.{at}
 use Rattle.syslog_dated_forms.specs.DatedForms as dated
 use Rattle.syslog_dated_forms.proofs.LedFormLemmas.{no_odd_iso, no_odd_month}
 use Rattle.syslog_dated_forms.proofs.IsoFrontLemmas as iso
@@ -111,10 +112,6 @@ word_letter c h = let (large, low) = small_low c h in
           (λ k. not (nat_le 97 (to_ascii_lowercase k) && nat_lt (to_ascii_lowercase k) 123) || is_word_char k)
           (λ k. true) 123 c refl low,
     )
-
--- the character at a place of two texts that are one
-at : (n : ℕ) {s t : Text} → s ≡ t → get_or s n 0 ≡ get_or t n 0
-at n e = ap (λ (x : Text). get_or x n 0) e
 
 -- a blank follows the three letters
 record HasBlank (t : Text) : Type 0 where

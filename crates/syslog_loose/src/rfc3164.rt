@@ -83,8 +83,8 @@ fn lone<'a>(name: &'a str) -> HeaderNames<'a>
     }
 }
 
-/// Returns what the host field and the tag field mean together. Each type `C` has a copy of its own, as callers that
-/// compile it in need.
+/// Returns what the host field and the tag field mean together. A caller that gives a type of its own for `C` has a copy
+/// of its own, which is compiled into it.
 #[inline(always)]
 pub fn resolve<'a, C>(host: Field<'a>, tag: Field<'a>) -> HeaderNames<'a>
     ensures names { spec.Resolves (field_seen host.entry) (field_seen tag.entry) (names_value result) }
