@@ -1,4 +1,4 @@
--- Texts in JSON by blocks of sixteen bytes.
+-- Texts in JSON by blocks of 16 or 32 bytes.
 use Rattle.syslog_object.proofs.Names.{[], append_assoc, append-nil, is_plain, PlainBetween, unescaped, cond, bit_at}
 use Rattle.syslog_object.proofs.Names.{w64, true, false, List, ◌++◌, length, take, drop, refl, arith, escape, get_or}
 use Rattle.syslog_object.proofs.Names.{◌≡◌, ℕ, suc, zero, ◌<◌, ◌≤◌, ◌∷◌, sym, ap, ◌∙◌, ◌+◌, ◌-◌, ◌%◌, ◌^◌, ◌*◌, Bool}
@@ -17,6 +17,7 @@ use Rattle.std.proofs.lemmas.Bool.{cases_lt, ne_eqb, cases_Bool}
 use Rattle.std.specs.Int.{trailing_zeros, bit_not}
 use lib.Bits.{bit_and}
 use lib.Lanes.{chunk, mask_l, put_chunk, top}
+use lib.Pow.{pow_mono}
 use Rattle.json.specs.Run.{is_stop}
 use Rattle.syslog_text.proofs.TextLemmas.Runs.{IsLanes}
 use Rattle.syslog_object.specs.Blocks.{AreStops, in_json}
@@ -24,14 +25,14 @@ use Rattle.syslog_object.proofs.EscapeLemmas.{Plain, plain_escape, plain_front, 
 use Rattle.std.proofs.Math.Seq.{take-append-add, take-append_seam, take-add, drop-cons, drop-append-add}
 use Rattle.syslog_object.specs.Object.{after_backslash}
 use Rattle.syslog_elements.specs.StructuredData.Escapes.{pair_meaning}
-use Rattle.std.proofs.Common.{add-one, get_or-take, get_or-drop, nat_eq}
+use Rattle.std.proofs.Common.{add-one, eqb-true, get_or-take, get_or-drop, nat_eq}
 use Rattle.json.specs.Print.{escape_byte}
 
--- sixteen bytes of a text were stored
-pub stored : (at : ℕ) (room : List ℕ) (first : ℕ) (text : List ℕ) → at + 16 ≤ length room → first + 16 ≤ length text
-    → take (at + 16) (put_chunk at room (chunk first 16 text)) ≡ take at room ++ take 16 (drop first text)
-stored at room first text fits more =
-    take_more_put_chunk at room (chunk first 16 text) (at + 16) (omega (arith, length-chunk first 16 text more)) fits
+-- `n` bytes of a text were stored
+pub stored : (n at : ℕ) (room : List ℕ) (first : ℕ) (text : List ℕ) → at + n ≤ length room → first + n ≤ length text
+    → take (at + n) (put_chunk at room (chunk first n text)) ≡ take at room ++ take n (drop first text)
+stored n at room first text fits more =
+    take_more_put_chunk at room (chunk first n text) (at + n) (omega (arith, length-chunk first n text more)) fits
 
 shorter : (at n : ℕ) (room : List ℕ) (m : ℕ) (text : List ℕ) → n ≤ m → at ≤ length room
     → take (at + n) (take at room ++ take m text) ≡ take at room ++ take n text
@@ -39,30 +40,6 @@ shorter at n room m text less within =
     let long : at + n ≡ length (take at room) + n = omega (arith, length-take-le at room within) in
     ap (λ (k : ℕ). take k (take at room ++ take m text)) long ∙ take-append-add (take at room) (take m text) n
     ∙ ap (λ xs. take at room ++ xs) (take-take n m text less)
-
--- a text of eight to sixteen bytes was, by two stores
-pub stored_twice : (at : ℕ) (room text : List ℕ) → at + length text ≤ length room → 8 ≤ length text → length text ≤ 16
-    → take (at + length text)
-    (put_chunk (at + length text - 8) (put_chunk at room (chunk 0 8 text)) (chunk (length text - 8) 8 text))
-    ≡ take at room ++ text
-stored_twice at room text fits long short =
-    let n = length text - 8 in
-    let first = chunk 0 8 text in
-    let held = put_chunk at room first in
-    let eight : length first ≡ 8 = length-chunk 0 8 text long in
-    let last : length (chunk n 8 text) ≡ 8 = length-chunk n 8 text (omega arith) in
-    let same : length held ≡ length room = length-put_chunk at room first in
-    let place : at + length text - 8 ≡ at + n = omega arith in
-    let front : take (at + n) held ≡ take at room ++ take n text =
-    sym (take-take (at + n) (at + 8) held (omega arith))
-    ∙ ap (take (at + n)) (take_more_put_chunk at room first (at + 8) (omega (arith, eight)) (omega arith))
-    ∙ shorter at n room 8 text (omega arith) (omega arith) in
-    take_more_put_chunk (at + length text - 8) held (chunk n 8 text) (at + length text) (omega (arith, last))
-    (omega (arith, same))
-    ∙ ap (λ (k : ℕ). take k held ++ chunk n 8 text) place ∙ ap (λ xs. xs ++ chunk n 8 text) front
-    ∙ append_assoc (take at room) (take n text) (chunk n 8 text)
-    ∙ ap (λ xs. take at room ++ (take n text ++ xs)) (take_all 8 (drop n text) (omega (arith, length-drop n text)))
-    ∙ ap (λ xs. take at room ++ xs) (take-append-drop n text)
 
 -- sixteen more bytes of a text were stored
 pub stored_more : (at seen : ℕ) (old room now text : List ℕ) → take (at + seen) room ≡ take at old ++ take seen text
@@ -80,6 +57,22 @@ pub stored_less : (at n m : ℕ) (old now text : List ℕ) → take (at + m) now
 stored_less at n m old now text held less within =
     sym (take-take (at + n) (at + m) now (omega arith)) ∙ ap (take (at + n)) held ∙ shorter at n old m text less within
 
+-- a text of eight to sixteen bytes was stored by two stores
+pub stored_twice : (at : ℕ) (old mid now text : List ℕ) → at ≤ length old → 8 ≤ length text → length text ≤ 16
+    → take (at + 8) mid ≡ take at old ++ take 8 text
+    → take (at + length text - 8 + 8) now ≡ take (at + length text - 8) mid ++ take 8 (drop (length text - 8) text)
+    → take (at + length text) now ≡ take at old ++ text
+stored_twice at old mid now text within long short first second =
+    let n = length text - 8 in
+    let last = drop n text in
+    let place : at + length text - 8 ≡ at + n = omega arith in
+    let end : at + length text ≡ at + length text - 8 + 8 = omega arith in
+    ap (λ (k : ℕ). take k now) end ∙ second ∙ ap (λ (k : ℕ). take k mid ++ take 8 last) place
+    ∙ ap (λ xs. xs ++ take 8 last) (stored_less at n 8 old mid text first (omega arith) within)
+    ∙ append_assoc (take at old) (take n text) (take 8 last)
+    ∙ ap (λ xs. take at old ++ (take n text ++ xs)) (take_all 8 last (omega (arith, length-drop n text)))
+    ∙ ap (λ xs. take at old ++ xs) (take-append-drop n text)
+
 -- no byte up to there needs an escape
 pub plain_to : (text : List ℕ) (seen n : ℕ) → PlainBetween text 0 seen
     → ((i : ℕ) → 0 ≤ i → i < n → is_stop (get_or text (seen + i) 0) ≡ false) → PlainBetween text 0 (seen + n)
@@ -93,27 +86,27 @@ plain_to text seen n before none k low high = elim (cases_lt k seen) [
 -- ---- the bytes that need an escape
 
 -- the mask of a load, where a lane stops just where a byte needs an escape
-pub stops_found : {d : List ℕ} {i r : ℕ} {z : List ℕ} {f : ℕ → ℕ} → i + 16 ≤ length d
-    → r ≡ mask_l (map (top 7) z) % 2 ^ 64 → IsLanes (chunk i 16 d) z f → ((x : ℕ) → top 7 (f x) ≡ is_stop x)
-    → AreStops d i 0 r
-stops_found {d = d} {i = i} {r = r} {z = z} {f = f} room found by_lanes all =
-    let v = chunk i 16 d in
+pub stops_found : {n : ℕ} {d : List ℕ} {i r : ℕ} {z : List ℕ} {f : ℕ → ℕ} → n ≤ 64 → i + n ≤ length d
+    → r ≡ mask_l (map (top 7) z) % 2 ^ 64 → IsLanes n (chunk i n d) z f → ((x : ℕ) → top 7 (f x) ≡ is_stop x)
+    → AreStops n d i 0 r
+stops_found {n = n} {d = d} {i = i} {r = r} {z = z} {f = f} wide room found by_lanes all =
+    let v = chunk i n d in
     let stops : ℕ → Bool = λ x. top 7 (f x) in
-    let long = length-chunk i 16 d room in
+    let long = length-chunk i n d room in
     let mask = found ∙ ap (λ l. mask_l l % 2 ^ 64) (ap (map (top 7)) (by_lanes.same long) ∙ map-map (top 7) f v)
     ∙ mask_l-mod (map stops v) 64 (omega (arith, length-map v stops, long)) in
-    let few : mask_l (map stops v) < 2 ^ 16 = rw (length-map v stops, long) at (mask_l-lt (map stops v)) in record {
+    let few : mask_l (map stops v) < 2 ^ n = rw (length-map v stops, long) at (mask_l-lt (map stops v)) in record {
       few = rw mask few;
       before = λ k low. absurd (omega arith);
       each = λ k low high. let within : k < length v = omega (arith, long, high) in rw mask (bit_mask_l (map stops v) k
           ∙ ap (λ (b : Bool). cond b 1 0) (get_or-map stops v k 0 false within ∙ all _
-          ∙ ap is_stop (get_or-chunk i 16 d k 0 high)));
+          ∙ ap is_stop (get_or-chunk i n d k 0 high)));
     }
 
 -- the first byte that needs an escape, of those that are not passed
-pub record IsStopAt (text : List ℕ) (first passed at : ℕ) : Type 0 where
+pub record IsStopAt (n : ℕ) (text : List ℕ) (first passed at : ℕ) : Type 0 where
   pub after : passed ≤ at
-  pub within : at < 16
+  pub within : at < n
   pub here : is_stop (get_or text (first + at) 0) ≡ true
   pub plain : (i : ℕ) → passed ≤ i → i < at → is_stop (get_or text (first + i) 0) ≡ false
 
@@ -123,23 +116,34 @@ bit_on b e = grind arith
 bit_off : (b : Bool) → ◌≡◌ {A = ℕ} (cond b 1 0) 0 → b ≡ false
 bit_off b e = grind arith
 
-pub no_stop : {text : List ℕ} {first passed left : ℕ} → AreStops text first passed left → left ≡ 0
-    → (i : ℕ) → passed ≤ i → i < 16 → is_stop (get_or text (first + i) 0) ≡ false
+pub no_stop : {n : ℕ} {text : List ℕ} {first passed left : ℕ} → AreStops n text first passed left → left ≡ 0
+    → (i : ℕ) → passed ≤ i → i < n → is_stop (get_or text (first + i) 0) ≡ false
 no_stop {left = left} stops none i low high = bit_off _ (sym (stops.each i low high) ∙ rw none (bit_at-zero i))
 
-pub first_stop : {text : List ℕ} {first passed left : ℕ} → AreStops text first passed left → 0 < left
-    → IsStopAt text first passed (trailing_zeros w64 left)
-first_stop {text = text} {first = first} {passed = passed} {left = left} stops some =
-    let few : left < 2 ^ 16 = stops.few in
-    let (fits, on, below) = bit_at-trailing_zeros w64 left some (omega (arith, few)) in
+-- no byte does where no bit is set
+pub none_stop : {n : ℕ} {text : List ℕ} {first left : ℕ} → AreStops n text first 0 left
+    → OnTrue (nat_eq left 0) (PlainBetween text first (first + n))
+none_stop {n = n} {text = text} {first = first} {left = left} stops = elim (cases_Bool (nat_eq left 0)) [
+  | inl is ↦ rw is (λ k low high.
+      let place : first + (k - first) ≡ k = omega arith in
+      ap (λ (j : ℕ). not (is_stop (get_or text j 0))) (sym place)
+      ∙ ap not (no_stop stops (eqb-true left 0 is) (k - first) (omega arith) (omega arith)))
+  | inr some ↦ rw some tt
+]
+
+pub first_stop : {n : ℕ} {text : List ℕ} {first passed left : ℕ} → n ≤ 64 → AreStops n text first passed left
+    → 0 < left → IsStopAt n text first passed (trailing_zeros w64 left)
+first_stop {n = n} {text = text} {first = first} {passed = passed} {left = left} wide stops some =
+    let few : left < 2 ^ n = stops.few in
+    let (fits, on, below) = bit_at-trailing_zeros w64 left some (omega (arith, few, pow_mono wide)) in
     let at = trailing_zeros w64 left in
     let after : passed ≤ at = elim (cases_lt at passed) [
       | inl low ↦ absurd (omega (arith, sym on ∙ stops.before at low))
       | inr high ↦ high
     ] in
-    let within : at < 16 = elim (cases_lt at 16) [
+    let within : at < n = elim (cases_lt at n) [
       | inl low ↦ low
-      | inr high ↦ absurd (omega (arith, sym on ∙ bit_at_above left 16 at few high))
+      | inr high ↦ absurd (omega (arith, sym on ∙ bit_at_above left n at few high))
     ] in record {
       after = after;
       within = within;
@@ -147,20 +151,20 @@ first_stop {text = text} {first = first} {passed = passed} {left = left} stops s
       plain = λ i low high. bit_off _ (sym (stops.each i low (omega arith)) ∙ below i high);
     }
 
-bit_below : {text : List ℕ} {first passed left : ℕ} (at : ℕ) → AreStops text first passed left
-    → IsStopAt text first passed at → (i : ℕ) → i < at → bit_at left i ≡ 0
-bit_below {passed = passed} at stops stop i less = elim (cases_lt i passed) [
+bit_below : {n : ℕ} {text : List ℕ} {first passed left : ℕ} (at : ℕ) → AreStops n text first passed left
+    → IsStopAt n text first passed at → (i : ℕ) → i < at → bit_at left i ≡ 0
+bit_below {n = n} {passed = passed} at stops stop i less = elim (cases_lt i passed) [
   | inl low ↦ stops.before i low
   | inr high ↦ let none = stop.plain i high less in
-      let within : i < 16 = omega (arith, stop.within, less) in
+      let within : i < n = omega (arith, stop.within, less) in
       stops.each i high within ∙ rw none refl
 ]
 
 -- the bit of a byte is cleared, where none before it is set
-pub cleared : {text : List ℕ} {first passed left : ℕ} (at : ℕ) → AreStops text first passed left → passed ≤ at → at < 16
-    → ((i : ℕ) → i < at → bit_at left i ≡ 0)
-    → AreStops text first (at + 1) (bit_and left (bit_not w64 (1 * 2 ^ at % 2 ^ 64)))
-cleared {left = left} at stops after within below =
+pub cleared : {n : ℕ} {text : List ℕ} {first passed left : ℕ} (at : ℕ) → n ≤ 64 → AreStops n text first passed left
+    → passed ≤ at → at < n → ((i : ℕ) → i < at → bit_at left i ≡ 0)
+    → AreStops n text first (at + 1) (bit_and left (bit_not w64 (1 * 2 ^ at % 2 ^ 64)))
+cleared {left = left} at lanes stops after within below =
     let wide : at < 64 = omega arith in record {
       few = omega (arith, stops.few, and_le_l left (bit_not w64 (1 * 2 ^ at % 2 ^ 64)));
       before = λ i low. elim (cases_lt i at) [
@@ -171,9 +175,10 @@ cleared {left = left} at stops after within below =
           ∙ stops.each i (omega arith) high;
     }
 
-pub stop_cleared : {text : List ℕ} {first passed left : ℕ} (at : ℕ) → AreStops text first passed left
-    → IsStopAt text first passed at → AreStops text first (at + 1) (bit_and left (bit_not w64 (1 * 2 ^ at % 2 ^ 64)))
-stop_cleared at stops stop = cleared at stops stop.after stop.within (bit_below at stops stop)
+pub stop_cleared : {n : ℕ} {text : List ℕ} {first passed left : ℕ} (at : ℕ) → n ≤ 64
+    → AreStops n text first passed left → IsStopAt n text first passed at
+    → AreStops n text first (at + 1) (bit_and left (bit_not w64 (1 * 2 ^ at % 2 ^ 64)))
+stop_cleared at lanes stops stop = cleared at lanes stops stop.after stop.within (bit_below at stops stop)
 
 -- ---- a block, a byte that needs an escape after the other
 
@@ -192,96 +197,98 @@ in_json_plain true xs ys plain =
     ap escape (plain_unescaped xs ys plain) ∙ escape-append xs (unescaped ys)
     ∙ ap (λ zs. zs ++ escape (unescaped ys)) (plain_escape xs plain)
 
--- so many of the block's sixteen bytes are done with, and what they are in JSON is written; the others follow that
-pub record InBlock (raw : Bool) (base text : List ℕ) (at first : ℕ) (room : List ℕ) (end passed : ℕ) : Type 0 where
-  pub done : List ℕ
-  pub few : passed ≤ 16
-  pub copied : take end room ≡ done ++ take (16 - passed) (drop (first + passed) text)
-  pub placed : end ≡ length done + (16 - passed)
-  pub same : done ++ in_json raw (drop (first + passed) text) ≡ base ++ in_json raw (drop first text)
-  pub bound : end ≤ at + 16 + 5 * passed
+-- so many of the block's `n` bytes are done with, and what they are in JSON is written; the others follow that
+pub record InBlock (n : ℕ) (raw : Bool) (base text : List ℕ) (at first : ℕ) (room : List ℕ) (end passed : ℕ) : Type 0
+  where
+    pub done : List ℕ
+    pub few : passed ≤ n
+    pub copied : take end room ≡ done ++ take (n - passed) (drop (first + passed) text)
+    pub placed : end ≡ length done + (n - passed)
+    pub same : done ++ in_json raw (drop (first + passed) text) ≡ base ++ in_json raw (drop first text)
+    pub bound : end ≤ at + n + 5 * passed
 
 -- none are at the beginning
-pub block_begins : (raw : Bool) (at first : ℕ) (old room text : List ℕ) → at ≤ length old
-    → take (at + 16) room ≡ take at old ++ take 16 (drop first text)
-    → InBlock raw (take at old) text at first room (at + 16) 0
-block_begins raw at first old room text within stored =
-    let none : first + 0 ≡ first = omega arith in record {
+pub block_begins : (n : ℕ) (raw : Bool) (at first : ℕ) (old room text : List ℕ) → at ≤ length old
+    → take (at + n) room ≡ take at old ++ take n (drop first text)
+    → InBlock n raw (take at old) text at first room (at + n) 0
+block_begins n raw at first old room text within stored =
+    let none : first + 0 ≡ first = omega arith in
+    let all : n - 0 ≡ n = omega arith in record {
       done = take at old;
       few = omega arith;
-      copied = rw none stored;
+      copied = rw (all, none) stored;
       placed = omega (arith, length-take-le at old within);
       same = rw none refl;
       bound = omega arith;
     }
 
 -- so many more bytes stay as they are
-stay : {raw : Bool} {base text : List ℕ} {at first : ℕ} {room : List ℕ} {end passed : ℕ} (n : ℕ)
-    → InBlock raw base text at first room end passed → passed + n ≤ 16 → first + 16 ≤ length text
+stay : {n : ℕ} {raw : Bool} {base text : List ℕ} {at first : ℕ} {room : List ℕ} {end passed : ℕ} (m : ℕ)
+    → InBlock n raw base text at first room end passed → passed + m ≤ n → first + n ≤ length text
     → in_json raw (drop (first + passed) text)
-    ≡ take n (drop (first + passed) text) ++ in_json raw (drop (first + (passed + n)) text)
-    → InBlock raw base text at first room end (passed + n)
-stay {text = text} {first = first} {passed = passed} n b few more kept =
+    ≡ take m (drop (first + passed) text) ++ in_json raw (drop (first + (passed + m)) text)
+    → InBlock n raw base text at first room end (passed + m)
+stay {n = n} {text = text} {first = first} {passed = passed} m b few more kept =
     let rest = drop (first + passed) text in
-    let next : drop n rest ≡ drop (first + (passed + n)) text =
-    drop-drop n (first + passed) text ∙ ap (λ (k : ℕ). drop k text) (omega arith) in
-    let left : 16 - passed ≡ n + (16 - (passed + n)) = omega arith in
-    let long : length (take n rest) ≡ n =
-    length-take-le n rest (omega (arith, more, length-drop (first + passed) text)) in
-    let split : take (16 - passed) rest ≡ take n rest ++ take (16 - (passed + n)) (drop (first + (passed + n)) text) =
-    ap (λ (k : ℕ). take k rest) left ∙ take-add n (16 - (passed + n)) rest
-    ∙ ap (λ xs. take n rest ++ take (16 - (passed + n)) xs) next in
+    let next : drop m rest ≡ drop (first + (passed + m)) text =
+    drop-drop m (first + passed) text ∙ ap (λ (k : ℕ). drop k text) (omega arith) in
+    let left : n - passed ≡ m + (n - (passed + m)) = omega arith in
+    let long : length (take m rest) ≡ m =
+    length-take-le m rest (omega (arith, more, length-drop (first + passed) text)) in
+    let split : take (n - passed) rest ≡ take m rest ++ take (n - (passed + m)) (drop (first + (passed + m)) text) =
+    ap (λ (k : ℕ). take k rest) left ∙ take-add m (n - (passed + m)) rest
+    ∙ ap (λ xs. take m rest ++ take (n - (passed + m)) xs) next in
     record {
-      done = b.done ++ take n rest;
+      done = b.done ++ take m rest;
       few = few;
-      copied = b.copied ∙ ap (λ xs. b.done ++ xs) split ∙ sym (append_assoc b.done (take n rest) _);
-      placed = omega (arith, b.placed, length-append b.done (take n rest), long);
-      same = append_assoc b.done (take n rest) _ ∙ ap (λ xs. b.done ++ xs) (sym kept) ∙ b.same;
+      copied = b.copied ∙ ap (λ xs. b.done ++ xs) split ∙ sym (append_assoc b.done (take m rest) _);
+      placed = omega (arith, b.placed, length-append b.done (take m rest), long);
+      same = append_assoc b.done (take m rest) _ ∙ ap (λ xs. b.done ++ xs) (sym kept) ∙ b.same;
       bound = omega (arith, b.bound);
     }
 
 -- those up to a place do, where none needs an escape
-stay_plain : {raw : Bool} {base text : List ℕ} {at first : ℕ} {room : List ℕ} {end passed : ℕ} (stop : ℕ)
-    → InBlock raw base text at first room end passed → passed ≤ stop → stop ≤ 16 → first + 16 ≤ length text
+stay_plain : {n : ℕ} {raw : Bool} {base text : List ℕ} {at first : ℕ} {room : List ℕ} {end passed : ℕ} (stop : ℕ)
+    → InBlock n raw base text at first room end passed → passed ≤ stop → stop ≤ n → first + n ≤ length text
     → ((i : ℕ) → passed ≤ i → i < stop → is_stop (get_or text (first + i) 0) ≡ false)
-    → InBlock raw base text at first room end stop
-stay_plain {raw = raw} {base = base} {text = text} {at = at} {first = first} {room = room} {end = end} {passed = passed}
-    stop b after few more plain =
-    let n = stop - passed in
+    → InBlock n raw base text at first room end stop
+stay_plain {n = n} {raw = raw} {base = base} {text = text} {at = at} {first = first} {room = room} {end = end}
+    {passed = passed} stop b after few more plain =
+    let m = stop - passed in
     let rest = drop (first + passed) text in
-    let run = plain_part text (first + passed) n (λ i less.
+    let run = plain_part text (first + passed) m (λ i less.
     let same : first + passed + i ≡ first + (passed + i) = omega arith in
     rw same (plain (passed + i) (omega arith) (omega arith))) in
-    let next : drop n rest ≡ drop (first + (passed + n)) text =
-    drop-drop n (first + passed) text ∙ ap (λ (k : ℕ). drop k text) (omega arith) in
-    let kept = ap (in_json raw) (sym (take-append-drop n rest)) ∙ in_json_plain raw (take n rest) (drop n rest) run
-    ∙ ap (λ xs. take n rest ++ in_json raw xs) next in
-    let there : passed + n ≡ stop = omega arith in
-    subst (λ (k : ℕ). InBlock raw base text at first room end k) there (stay n b (omega arith) more kept)
+    let next : drop m rest ≡ drop (first + (passed + m)) text =
+    drop-drop m (first + passed) text ∙ ap (λ (k : ℕ). drop k text) (omega arith) in
+    let kept = ap (in_json raw) (sym (take-append-drop m rest)) ∙ in_json_plain raw (take m rest) (drop m rest) run
+    ∙ ap (λ xs. take m rest ++ in_json raw xs) next in
+    let there : passed + m ≡ stop = omega arith in
+    subst (λ (k : ℕ). InBlock n raw base text at first room end k) there (stay m b (omega arith) more kept)
 
 -- what is written before the next byte
-pub before_next : {raw : Bool} {base text : List ℕ} {at first : ℕ} {room : List ℕ} {end passed : ℕ}
-    (b : InBlock raw base text at first room end passed) → take (end + passed - 16) room ≡ b.done
-before_next {room = room} {end = end} {passed = passed} b =
-    let place : end + passed - 16 ≡ length b.done = omega (arith, b.placed, b.few) in
+pub before_next : {n : ℕ} {raw : Bool} {base text : List ℕ} {at first : ℕ} {room : List ℕ} {end passed : ℕ}
+    (b : InBlock n raw base text at first room end passed) → take (end + passed - n) room ≡ b.done
+before_next {n = n} {room = room} {end = end} {passed = passed} b =
+    let place : end + passed - n ≡ length b.done = omega (arith, b.placed, b.few) in
     ap (λ (k : ℕ). take k room) place ∙ sym (take-take (length b.done) end room (omega (arith, b.placed)))
     ∙ ap (take (length b.done)) b.copied ∙ take-append_seam b.done _
 
 -- the next byte was written as these, and at least the rest of the block copied after them
-pub byte_written : {raw : Bool} {base text : List ℕ} {at first : ℕ} {room : List ℕ} {end stop : ℕ}
-    (w now : List ℕ) (place k later : ℕ) → (b : InBlock raw base text at first room end stop) → stop < 16
-    → take place now ≡ take (end + stop - 16) room ++ (w ++ take k (drop (first + stop + 1) text))
-    → place ≡ end + stop - 16 + length w + k → 15 - stop ≤ k → later + 1 ≡ end + length w → length w ≤ 6
+pub byte_written : {n : ℕ} {raw : Bool} {base text : List ℕ} {at first : ℕ} {room : List ℕ} {end stop : ℕ}
+    (w now : List ℕ) (place k later : ℕ) → (b : InBlock n raw base text at first room end stop) → stop < n
+    → take place now ≡ take (end + stop - n) room ++ (w ++ take k (drop (first + stop + 1) text))
+    → place ≡ end + stop - n + length w + k → n ≤ stop + 1 + k → later + 1 ≡ end + length w → length w ≤ 6
     → in_json raw (drop (first + stop) text) ≡ w ++ in_json raw (drop (first + stop + 1) text)
-    → InBlock raw base text at first now later (stop + 1)
-byte_written {raw = raw} {text = text} {first = first} {room = room} {end = end} {stop = stop}
+    → InBlock n raw base text at first now later (stop + 1)
+byte_written {n = n} {raw = raw} {text = text} {first = first} {room = room} {end = end} {stop = stop}
     w now place k later b within written placed enough moved short is =
     let there : first + stop + 1 ≡ first + (stop + 1) = omega arith in
     let rest = drop (first + (stop + 1)) text in
-    let left = 16 - (stop + 1) in
+    let left = n - (stop + 1) in
     let front = b.done ++ w in
     let all : take place now ≡ front ++ take k rest =
-    written ∙ ap (λ (n : ℕ). take (end + stop - 16) room ++ (w ++ take k (drop n text))) there
+    written ∙ ap (λ (m : ℕ). take (end + stop - n) room ++ (w ++ take k (drop m text))) there
     ∙ ap (λ xs. xs ++ (w ++ take k rest)) (before_next b) ∙ sym (append_assoc b.done w (take k rest)) in
     let ends : later ≡ length front + left = omega (arith, b.placed, length-append b.done w) in
     record {
@@ -391,11 +398,11 @@ other_at raw text at is within first bracket letter quote backslash =
     ∙ ap (λ (b : ℕ). 92 ∷ b ∷ in_json true (c ∷ rest)) (sym first)
     ∙ ap (λ xs. 92 ∷ get_or text at 0 ∷ in_json true xs) (sym one))
 
--- an escape was written, and sixteen bytes after it
-pub control_written : (at n : ℕ) (old room now piece escape text : List ℕ)
+-- an escape was written, and `m` bytes after it
+pub control_written : (m at n : ℕ) (old room now piece escape text : List ℕ)
     → take (at + 8) room ≡ take at old ++ piece → take n piece ≡ escape → n ≤ 8 → at ≤ length old
-    → take (at + n + 16) now ≡ take (at + n) room ++ text → take (at + n + 16) now ≡ take at old ++ (escape ++ text)
-control_written at n old room now piece escape text held is few within written =
+    → take (at + n + m) now ≡ take (at + n) room ++ text → take (at + n + m) now ≡ take at old ++ (escape ++ text)
+control_written m at n old room now piece escape text held is few within written =
     let place : at + n ≡ length (take at old) + n = omega (arith, length-take-le at old within) in
     let front : take (at + n) room ≡ take at old ++ escape =
     sym (take-take (at + n) (at + 8) room (omega arith)) ∙ ap (take (at + n)) held
@@ -405,46 +412,57 @@ control_written at n old room now piece escape text held is few within written =
 
 -- ---- a loop over the bytes of a block that need an escape
 
-pub record AtStop (raw : Bool) (base text : List ℕ) (at first : ℕ) (room : List ℕ) (end left stop : ℕ) : Type 0 where
-  pub within : stop < 16
-  pub block : InBlock raw base text at first room end stop
+pub record AtStop (n : ℕ) (raw : Bool) (base text : List ℕ) (at first : ℕ) (room : List ℕ) (end left stop : ℕ)
+    : Type 0 where
+  pub within : stop < n
+  pub block : InBlock n raw base text at first room end stop
   pub here : is_stop (get_or text (first + stop) 0) ≡ true
-  pub rest : AreStops text first (stop + 1) (bit_and left (bit_not w64 (1 * 2 ^ stop % 2 ^ 64)))
+  pub rest : AreStops n text first (stop + 1) (bit_and left (bit_not w64 (1 * 2 ^ stop % 2 ^ 64)))
   pub falls : bit_and left (bit_not w64 (1 * 2 ^ stop % 2 ^ 64)) < left
 
 other_bit : (a b k : ℕ) → bit_at a k ≡ 0 → bit_at b k ≡ 1 → a ≡ b → ⊥
 other_bit a b k off on same = omega (arith, sym off ∙ ap (λ (n : ℕ). bit_at n k) same ∙ on)
 
--- what is known of the stops that are left of a block: where the next one is, or that none is
-pub record AreLeft (raw : Bool) (base text : List ℕ) (at first : ℕ) (room : List ℕ) (end left : ℕ) : Type 0 where
-  pub within : 0 < left → trailing_zeros w64 left < 16
-  pub placed : 0 < left → 16 ≤ end + trailing_zeros w64 left
-  pub bound : 0 < left → end ≤ at + 16 + 5 * trailing_zeros w64 left
-  pub most : end ≤ at + 96
-  pub falls : 0 < left → bit_and left (bit_not w64 (1 * 2 ^ trailing_zeros w64 left % 2 ^ 64)) < left
-  pub next : 0 < left → AtStop raw base text at first room end left (trailing_zeros w64 left)
-  pub ends : left ≡ 0 → take end room ++ in_json raw (drop (first + 16) text) ≡ base ++ in_json raw (drop first text)
+-- all of a block is done with
+copied_all : {n : ℕ} {raw : Bool} {base text : List ℕ} {at first : ℕ} {room : List ℕ} {end : ℕ}
+    (b : InBlock n raw base text at first room end n) → take end room ≡ b.done
+copied_all {n = n} {text = text} {first = first} b =
+    let none : n - n ≡ 0 = omega arith in
+    b.copied ∙ ap (λ (k : ℕ). b.done ++ take k (drop (first + n) text)) none ∙ append-nil b.done
 
-pub are_left : {raw : Bool} {base text : List ℕ} {at first : ℕ} {room : List ℕ} {end left : ℕ} (passed : ℕ)
-    → AreStops text first passed left → InBlock raw base text at first room end passed → first + 32 ≤ length text
-    → AreLeft raw base text at first room end left
-are_left {raw = raw} {base = base} {text = text} {at = begin} {first = first} {room = room} {end = end} {left = left}
-    passed stops block more = record {
+-- what is known of the stops that are left of a block: where the next one is, or that none is
+pub record AreLeft (n : ℕ) (raw : Bool) (base text : List ℕ) (at first : ℕ) (room : List ℕ) (end left : ℕ)
+    : Type 0 where
+  pub within : 0 < left → trailing_zeros w64 left < n
+  pub placed : 0 < left → n ≤ end + trailing_zeros w64 left
+  pub bound : 0 < left → end ≤ at + n + 5 * trailing_zeros w64 left
+  pub most : end ≤ at + 6 * n
+  pub falls : 0 < left → bit_and left (bit_not w64 (1 * 2 ^ trailing_zeros w64 left % 2 ^ 64)) < left
+  pub next : 0 < left → AtStop n raw base text at first room end left (trailing_zeros w64 left)
+  pub ends : left ≡ 0 → take end room ++ in_json raw (drop (first + n) text) ≡ base ++ in_json raw (drop first text)
+
+pub are_left : {n : ℕ} {raw : Bool} {base text : List ℕ} {at first : ℕ} {room : List ℕ} {end left : ℕ} (passed : ℕ) →
+    n ≤ 64
+    → AreStops n text first passed left → InBlock n raw base text at first room end passed
+    → first + 2 * n ≤ length text
+    → AreLeft n raw base text at first room end left
+are_left {n = n} {raw = raw} {base = base} {text = text} {at = begin} {first = first} {room = room} {end = end}
+    {left = left} passed lanes stops block more = record {
       within = λ some. (next some).within;
       placed = λ some. let a = next some in omega (arith, a.within, a.block.placed);
       bound = λ some. (next some).block.bound;
       most = omega (arith, block.bound, block.few);
       falls = λ some. (next some).falls;
       next = next;
-      ends = λ none. let b = stay_plain 16 block block.few (omega arith) (omega arith) (no_stop stops none) in
-          ap (λ xs. xs ++ in_json raw (drop (first + 16) text)) (b.copied ∙ append-nil b.done) ∙ b.same;
+      ends = λ none. let b = stay_plain n block block.few (omega arith) (omega arith) (no_stop stops none) in
+          ap (λ xs. xs ++ in_json raw (drop (first + n) text)) (copied_all b) ∙ b.same;
     }
   where
-    next : 0 < left → AtStop raw base text begin first room end left (trailing_zeros w64 left)
+    next : 0 < left → AtStop n raw base text begin first room end left (trailing_zeros w64 left)
     next some =
-        let stop = first_stop stops some in
+        let stop = first_stop lanes stops some in
         let at = trailing_zeros w64 left in
-        let rest = stop_cleared at stops stop in
+        let rest = stop_cleared at lanes stops stop in
         let on : bit_at left at ≡ 1 = (stops.each at stop.after stop.within) ∙ rw (stop.here) refl in
         let below : at < at + 1 = omega arith in
         let less = and_le_l left (bit_not w64 (1 * 2 ^ at % 2 ^ 64)) in
@@ -457,68 +475,76 @@ are_left {raw = raw} {base = base} {text = text} {at = begin} {first = first} {r
         }
 
 -- a pair goes past its end
-pub pair_ends : {raw : Bool} {base text : List ℕ} {at first : ℕ} {room : List ℕ} {end : ℕ} (stop : ℕ) (now : List ℕ)
-    → (b : InBlock raw base text at first room end stop) → stop ≡ 15 → first + 32 ≤ length text
+pub pair_ends : {n : ℕ} {raw : Bool} {base text : List ℕ} {at first : ℕ} {room : List ℕ} {end : ℕ} (stop : ℕ) (now :
+    List ℕ)
+    → (b : InBlock n raw base text at first room end stop) → stop + 1 ≡ n
+    → first + 2 * n ≤ length text
     → in_json raw (drop (first + stop) text)
     ≡ take 2 (drop (first + stop) text) ++ in_json raw (drop (first + stop + 2) text)
     → take (end + 1) now ≡ take end room ++ get_or text (first + stop + 1) 0 ∷ []
-    → take (end + 1) now ++ in_json raw (drop (first + 17) text) ≡ base ++ in_json raw (drop first text)
-pair_ends {raw = raw} {text = text} {first = first} {room = room} {end = end} stop now b last more kept written =
+    → take (end + 1) now ++ in_json raw (drop (first + n + 1) text) ≡ base ++ in_json raw (drop first text)
+pair_ends {n = n} {raw = raw} {text = text} {first = first} {room = room} {end = end} stop now b last more kept
+    written =
     let rest = drop (first + stop) text in
     let one = next_byte text (first + stop) (omega arith) in
     let two = next_byte text (first + stop + 1) (omega arith) in
     let x = get_or text (first + stop) 0 in
     let y = get_or text (first + stop + 1) 0 in
-    let left : 16 - stop ≡ 1 = omega arith in
-    let end_of : first + stop + 2 ≡ first + 17 = omega arith in
+    let left : n - stop ≡ 1 = omega arith in
+    let end_of : first + stop + 2 ≡ first + n + 1 = omega arith in
     let both : take 2 rest ≡ x ∷ y ∷ [] = ap (take 2) (one ∙ ap (λ xs. x ∷ xs) two) in
     let held : take end room ≡ b.done ++ x ∷ [] =
     b.copied ∙ ap (λ (k : ℕ). b.done ++ take k rest) left ∙ ap (λ xs. b.done ++ take 1 xs) one in
     let all : take (end + 1) now ≡ b.done ++ x ∷ y ∷ [] =
     written ∙ ap (λ xs. xs ++ y ∷ []) held ∙ append_assoc b.done (x ∷ []) (y ∷ []) in
-    ap (λ xs. xs ++ in_json raw (drop (first + 17) text)) all ∙ append_assoc b.done (x ∷ y ∷ []) _
-    ∙ ap (λ xs. b.done ++ (xs ++ in_json raw (drop (first + 17) text))) (sym both)
+    ap (λ xs. xs ++ in_json raw (drop (first + n + 1) text)) all ∙ append_assoc b.done (x ∷ y ∷ []) _
+    ∙ ap (λ xs. b.done ++ (xs ++ in_json raw (drop (first + n + 1) text))) (sym both)
     ∙ ap (λ (k : ℕ). b.done ++ (take 2 rest ++ in_json raw (drop k text))) (sym end_of)
     ∙ ap (λ xs. b.done ++ xs) (sym kept) ∙ b.same
 
 -- and a pair within it is passed
-pub pair_passed : {raw : Bool} {base text : List ℕ} {at first : ℕ} {room : List ℕ} {end left stop : ℕ}
-    → AtStop raw base text at first room end left stop → (stop ≡ 15 → ⊥)
-    → AreStops text first (stop + 2) (bit_and (bit_and left (bit_not w64 (1 * 2 ^ stop % 2 ^ 64)))
+pub pair_passed : {n : ℕ} {raw : Bool} {base text : List ℕ} {at first : ℕ} {room : List ℕ} {end left stop : ℕ}
+    → AtStop n raw base text at first room end left stop → (stop + 1 ≡ n → ⊥) → n ≤ 64
+    → AreStops n text first (stop + 2) (bit_and (bit_and left (bit_not w64 (1 * 2 ^ stop % 2 ^ 64)))
     (bit_not w64 (1 * 2 ^ (stop + 1) % 2 ^ 64)))
     × (bit_and (bit_and left (bit_not w64 (1 * 2 ^ stop % 2 ^ 64))) (bit_not w64 (1 * 2 ^ (stop + 1) % 2 ^ 64)) < left)
-pair_passed {text = text} {first = first} {left = left} {stop = stop} a other =
+pair_passed {n = n} {text = text} {first = first} {left = left} {stop = stop} a other lanes =
     let next = bit_and left (bit_not w64 (1 * 2 ^ stop % 2 ^ 64)) in
     let last = bit_and next (bit_not w64 (1 * 2 ^ (stop + 1) % 2 ^ 64)) in
     let two : stop + 1 + 1 ≡ stop + 2 = omega arith in
-    let within : stop < 16 = a.within in
+    let within : stop < n = a.within in
     let less = and_le_l next (bit_not w64 (1 * 2 ^ (stop + 1) % 2 ^ 64)) in
     let fewer : next < left = a.falls in
-    let rest : AreStops text first (stop + 1 + 1) last =
-    cleared (stop + 1) a.rest (omega arith) (omega (arith, other)) a.rest.before in
-    (subst (λ (n : ℕ). AreStops text first n last) two rest, omega (arith, less, fewer))
+    let rest : AreStops n text first (stop + 1 + 1) last =
+    cleared (stop + 1) lanes a.rest (omega arith) (omega (arith, other)) a.rest.before in
+    (subst (λ (k : ℕ). AreStops n text first k last) two rest, omega (arith, less, fewer))
 
-pub pair_stays : {raw : Bool} {base text : List ℕ} {at first : ℕ} {room : List ℕ} {end left stop : ℕ}
-    → AtStop raw base text at first room end left stop → (stop ≡ 15 → ⊥) → first + 32 ≤ length text
+pub pair_stays : {n : ℕ} {raw : Bool} {base text : List ℕ} {at first : ℕ} {room : List ℕ} {end left stop : ℕ}
+    → AtStop n raw base text at first room end left stop → (stop + 1 ≡ n → ⊥)
+    → first + 2 * n ≤ length text
     → in_json raw (drop (first + stop) text)
     ≡ take 2 (drop (first + stop) text) ++ in_json raw (drop (first + stop + 2) text)
-    → InBlock raw base text at first room end (stop + 2)
+    → InBlock n raw base text at first room end (stop + 2)
 pair_stays {raw = raw} {text = text} {first = first} {stop = stop} a other more kept =
     let there : first + stop + 2 ≡ first + (stop + 2) = omega arith in
     stay 2 a.block (omega (arith, other, a.within)) (omega arith)
     (kept ∙ ap (λ (k : ℕ). take 2 (drop (first + stop) text) ++ in_json raw (drop k text)) there)
 
--- a backslash was written, and sixteen bytes from the byte on
-pub backslash_written : {raw : Bool} {base text : List ℕ} {at first : ℕ} {room : List ℕ} {end left stop : ℕ}
-    (now : List ℕ) → AtStop raw base text at first room end left stop → first + 32 ≤ length text
-    → take (end + stop - 16 + 17) now ≡ take (end + stop - 16) room ++ (92 ∷ take 16 (drop (first + stop) text))
+-- a backslash was written, and `n` bytes from the byte on
+pub backslash_written : {n : ℕ} {raw : Bool} {base text : List ℕ} {at first : ℕ} {room : List ℕ} {end left stop : ℕ}
+    (now : List ℕ) (k : ℕ) → AtStop n raw base text at first room end left stop → k + 1 ≡ n
+    → first + 2 * n ≤ length text
+    → take (end + stop - n + 1 + n) now ≡ take (end + stop - n) room ++ (92 ∷ take n (drop (first + stop) text))
     → in_json raw (drop (first + stop) text)
     ≡ 92 ∷ get_or text (first + stop) 0 ∷ in_json raw (drop (first + stop + 1) text)
-    → InBlock raw base text at first now (end + 1) (stop + 1)
-backslash_written {text = text} {first = first} {room = room} {end = end} {stop = stop} now a more written is =
+    → InBlock n raw base text at first now (end + 1) (stop + 1)
+backslash_written {n = n} {text = text} {first = first} {room = room} {end = end} {stop = stop} now k a is_n more
+    written is =
     let here = next_byte text (first + stop) (omega (arith, a.within)) in
-    byte_written (92 ∷ get_or text (first + stop) 0 ∷ []) now (end + stop - 16 + 17) 15 (end + 1) a.block a.within
-    (written ∙ ap (λ xs. take (end + stop - 16) room ++ (92 ∷ take 16 xs)) here)
+    let next = get_or text (first + stop) 0 ∷ drop (first + stop + 1) text in
+    byte_written (92 ∷ get_or text (first + stop) 0 ∷ []) now (end + stop - n + 1 + n) k (end + 1) a.block a.within
+    (written ∙ ap (λ xs. take (end + stop - n) room ++ (92 ∷ take n xs)) here
+    ∙ ap (λ (m : ℕ). take (end + stop - n) room ++ (92 ∷ take m next)) (sym is_n ∙ add-one k))
     (omega arith) (omega arith) (omega arith) (omega arith) is
 
 -- ---- the last blocks of a text, from a copy with brackets after it
@@ -559,44 +585,45 @@ only_brackets true k = ap escape (unescape_brackets k) ∙ escape_brackets k
 
 -- they are taken off
 pub brackets_off : (raw : Bool) (text out base padded : List ℕ) (at next : ℕ)
-    → padded ≡ text ++ replicate (64 - length text) 93 → length text ≤ 32 → length text ≤ next → next ≤ 64
+    → padded ≡ text ++ drop (length text) (replicate 96 93) → length text ≤ 64 → length text ≤ next → next ≤ 96
     → at ≤ length out → take at out ++ in_json raw (drop next padded) ≡ base ++ in_json raw padded
     → (next - length text ≤ at) × (take (at - (next - length text)) out ≡ base ++ in_json raw text)
-brackets_off raw text out base padded at next is few after most within held =
+brackets_off raw text out base padded at next copied few after most within held =
     let n = length text in
-    let more = 63 - n in
-    let count : 64 - n ≡ suc more = omega arith in
-    let whole : in_json raw padded ≡ in_json raw text ++ replicate (64 - n) 93 =
+    let is : padded ≡ text ++ replicate (96 - n) 93 = copied ∙ ap (λ xs. text ++ xs) (drop-replicate n 96 93) in
+    let more = 95 - n in
+    let count : 96 - n ≡ suc more = omega arith in
+    let whole : in_json raw padded ≡ in_json raw text ++ replicate (96 - n) 93 =
     ap (in_json raw) (is ∙ ap (λ (k : ℕ). text ++ replicate k 93) count) ∙ in_json_brackets raw text more
     ∙ ap (λ (k : ℕ). in_json raw text ++ replicate k 93) (sym count) in
     let place : next ≡ n + (next - n) = omega arith in
-    let fewer : 64 - n - (next - n) ≡ 64 - next = omega arith in
-    let left : in_json raw (drop next padded) ≡ replicate (64 - next) 93 =
+    let fewer : 96 - n - (next - n) ≡ 96 - next = omega arith in
+    let left : in_json raw (drop next padded) ≡ replicate (96 - next) 93 =
     ap (λ xs. in_json raw (drop next xs)) is
-    ∙ ap (λ (k : ℕ). in_json raw (drop k (text ++ replicate (64 - n) 93))) place
-    ∙ ap (in_json raw) (drop-append-add text (replicate (64 - n) 93) (next - n) ∙ drop-replicate (next - n) (64 - n) 93
-    ∙ ap (λ (k : ℕ). replicate k 93) fewer) ∙ only_brackets raw (64 - next) in
+    ∙ ap (λ (k : ℕ). in_json raw (drop k (text ++ replicate (96 - n) 93))) place
+    ∙ ap (in_json raw) (drop-append-add text (replicate (96 - n) 93) (next - n) ∙ drop-replicate (next - n) (96 - n) 93
+    ∙ ap (λ (k : ℕ). replicate k 93) fewer) ∙ only_brackets raw (96 - next) in
     let wanted = base ++ in_json raw text in
-    let both : take at out ++ replicate (64 - next) 93 ≡ wanted ++ replicate (64 - n) 93 =
+    let both : take at out ++ replicate (96 - next) 93 ≡ wanted ++ replicate (96 - n) 93 =
     ap (λ xs. take at out ++ xs) (sym left) ∙ held ∙ ap (λ xs. base ++ xs) whole
-    ∙ sym (append_assoc base (in_json raw text) (replicate (64 - n) 93)) in
+    ∙ sym (append_assoc base (in_json raw text) (replicate (96 - n) 93)) in
     let front : length (take at out) ≡ at = length-take-le at out within in
-    let long : at + (64 - next) ≡ length wanted + (64 - n) =
+    let long : at + (96 - next) ≡ length wanted + (96 - n) =
     omega (
       arith,
       front,
       ap length both,
-      length-append (take at out) (replicate (64 - next) 93),
-      length-append wanted (replicate (64 - n) 93),
-      length-replicate {A = ℕ} (64 - next) 93,
-      length-replicate {A = ℕ} (64 - n) 93,
+      length-append (take at out) (replicate (96 - next) 93),
+      length-append wanted (replicate (96 - n) 93),
+      length-replicate {A = ℕ} (96 - next) 93,
+      length-replicate {A = ℕ} (96 - n) 93,
     ) in
     let size : at - (next - n) ≡ length wanted = omega arith in
     let shorter : length wanted ≤ length (take at out) = omega arith in (
       omega arith,
       ap (λ (k : ℕ). take k out) size ∙ sym (take-take (length wanted) at out (omega arith))
-          ∙ sym (take-append-le (length wanted) (take at out) (replicate (64 - next) 93) shorter)
-          ∙ ap (take (length wanted)) both ∙ take-append_seam wanted (replicate (64 - n) 93),
+          ∙ sym (take-append-le (length wanted) (take at out) (replicate (96 - next) 93) shorter)
+          ∙ ap (take (length wanted)) both ∙ take-append_seam wanted (replicate (96 - n) 93),
     )
 
 -- ---- a text, whose first bytes need no escape

@@ -317,7 +317,8 @@ again_at ps at p agains now next within is found held unset set kept i q low hig
               let apart : at + 1 + (i - (at + 1)) ≡ i = omega (arith, n, low) in
               let here : q ≡ get_or rest (i - (at + 1)) q =
               at_i ∙ ap (λ (j : ℕ). get_or ps j q) (sym apart) ∙ sym (get_or-drop (at + 1) ps (i - (at + 1)) q) in
-              let by = place_by p.0 rest (i - (at + 1)) q (omega (arith, n, low, high, length-drop (at + 1) ps)) here key in
+              let by = place_by p.0 rest (i - (at + 1)) q (omega (arith, n, low, high, length-drop (at + 1) ps)) here
+              key in
               let told = kept i other ∙ held i q (omega (arith, n, low)) high at_i in
               rw (told, key) (grind (arith, nat_tests, found, by, other, n, low))
         ])

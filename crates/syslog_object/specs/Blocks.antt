@@ -1,4 +1,4 @@
--- Texts in JSON, by blocks of sixteen bytes: what private clauses cite.
+-- Texts in JSON, by blocks of 16 or 32 bytes: what private clauses cite.
 use Rattle.std.specs.Prelude.{◌≡◌, ◌≤◌, ◌<◌, ◌+◌, ◌^◌, Bool, false, true, ℕ, List, ◌∷◌, ◌++◌, cond, drop, slice_index}
 use Rattle.std.specs.Prelude.{take}
 use Rattle.std.specs.Int.{bit_at}
@@ -22,8 +22,8 @@ IsEscapeAt raw text at Pair = in_json raw (drop at text) ≡ take 2 (drop at tex
 IsEscapeAt raw text at Backslash =
     in_json raw (drop at text) ≡ 92 ∷ slice_index text at ∷ in_json raw (drop (at + 1) text)
 
--- of the sixteen bytes from the first on, those that need an escape have a bit in `left`, but for some that are passed
-pub record AreStops (text : List ℕ) (first passed left : ℕ) : Type 0 where
-  pub few : left < 2 ^ 16
+-- of the `n` bytes from the first on, those that need an escape have a bit in `left`, but for some that are passed
+pub record AreStops (n : ℕ) (text : List ℕ) (first passed left : ℕ) : Type 0 where
+  pub few : left < 2 ^ n
   pub before : (i : ℕ) → i < passed → bit_at left i ≡ 0
-  pub each : (i : ℕ) → passed ≤ i → i < 16 → bit_at left i ≡ cond (is_stop (slice_index text (first + i))) 1 0
+  pub each : (i : ℕ) → passed ≤ i → i < n → bit_at left i ≡ cond (is_stop (slice_index text (first + i))) 1 0

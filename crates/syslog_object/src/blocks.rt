@@ -1,7 +1,7 @@
-//! Texts with JSON's escapes, by blocks of sixteen bytes: each block is copied whole, and what comes after a byte that
+//! Texts with JSON's escapes, by blocks of 16 or 32 bytes: each block is copied whole, and what comes after a byte that
 //! needs an escape is copied again to its new place.
 
-ghost use Rattle.std.specs.Prelude.{◌≡◌, ◌+◌, ◌++◌, ◌∷◌, ◌≤◌, ◌<◌, true, length, slice_index, take, drop};
+ghost use Rattle.std.specs.Prelude.{◌≡◌, ◌+◌, ◌*◌, ◌++◌, ◌∷◌, ◌≤◌, ◌<◌, true, length, slice_index, take, drop};
 ghost use Rattle.std.specs.Bool.{OnTrue};
 ghost use Rattle.json.specs.Print.{escape_byte};
 ghost use Rattle.json.specs.Run.{is_stop};
@@ -9,10 +9,6 @@ ghost use Rattle.json.specs.Written.{PlainBetween};
 ghost use Rattle.syslog_object.specs.Blocks.{AreStops, IsEscapeAt, in_json};
 
 use std::simd::prelude::*;
-
-/// How many bytes from its first place on a block may write: six for each of sixteen bytes, a byte more if a pair ends
-/// after them, and sixteen that are copied again.
-pub(crate) const BLOCK_ROOM: usize = 128;
 
 // Writes the bytes to the front. (An array is stored as a whole, while `copy_from_slice` would ask first whether the
 // two overlap.)
@@ -37,26 +33,28 @@ pub(crate) fn put<const N: usize>(room: &mut [u8], at: usize, piece: &[u8; N]) -
     at + N
 }
 
-// Writes sixteen bytes of the text at the place.
+// Writes `N` bytes of the text at the place.
 #[inline(always)]
-fn put_lanes(room: &mut [u8], at: usize, text: &[u8], first: usize)
-    requires room { at + 16 ≤ length room.old }
-    requires more { first + 16 ≤ length text.now }
-    ensures { take (at + 16) room.new ≡ take at room.old ++ take 16 (drop first text.now) }
+fn put_lanes<const N: usize>(room: &mut [u8], at: usize, text: &[u8], first: usize)
+    requires room { at + N ≤ length room.old }
+    requires more { first + N ≤ length text.now }
+    ensures { take (at + N) room.new ≡ take at room.old ++ take N (drop first text.now) }
 {
-    u8x16::from_slice(&text[first..]).copy_to_slice(&mut room[at..]);
+    let lanes: Simd<u8, N> = Simd::from_slice(&text[first..]);
+    lanes.copy_to_slice(&mut room[at..]);
 }
 
-// Returns which of sixteen bytes need an escape.
+// Returns which of `N` bytes need an escape.
 #[inline(always)]
-fn stops(text: &[u8], first: usize) -> u64
-    requires { first + 16 ≤ length text.now }
-    ensures { AreStops text.now first 0 result }
+fn stops<const N: usize>(text: &[u8], first: usize) -> u64
+    requires few { N ≤ 32 }
+    requires more { first + N ≤ length text.now }
+    ensures { AreStops N text.now first 0 result }
 {
-    let v = u8x16::from_slice(&text[first..]);
-    (v.simd_eq(u8x16::splat(b'"'))
-        | v.simd_eq(u8x16::splat(b'\\'))
-        | v.simd_lt(u8x16::splat(0x20))).to_bitmask()
+    let lanes: Simd<u8, N> = Simd::from_slice(&text[first..]);
+    (lanes.simd_eq(Simd::splat(b'"'))
+        | lanes.simd_eq(Simd::splat(b'\\'))
+        | lanes.simd_lt(Simd::splat(0x20))).to_bitmask()
 }
 
 #[inline(always)]
@@ -71,11 +69,7 @@ fn is_plain_8(text: &[u8], first: usize) -> bool
     requires { first + 8 ≤ length text.now }
     ensures { OnTrue result (PlainBetween text.now first (first + 8)) }
 {
-    let v = u8x8::from_slice(&text[first..]);
-    (v.simd_eq(u8x8::splat(b'"'))
-        | v.simd_eq(u8x8::splat(b'\\'))
-        | v.simd_lt(u8x8::splat(0x20))).to_bitmask()
-        == 0
+    stops::<8>(text, first) == 0
 }
 
 // Writes a text of eight to sixteen bytes, by two stores that overlap.
@@ -85,8 +79,8 @@ fn put_by_8(room: &mut [u8], at: usize, text: &[u8])
     requires sized { (8 ≤ length text.now) × (length text.now ≤ 16) }
     ensures { take (at + length text.now) room.new ≡ take at room.old ++ text.now }
 {
-    u8x8::from_slice(text).copy_to_slice(&mut room[at..]);
-    u8x8::from_slice(&text[text.len() - 8..]).copy_to_slice(&mut room[at + text.len() - 8..]);
+    put_lanes::<8>(room, at, text, 0);
+    put_lanes::<8>(room, at + text.len() - 8, text, text.len() - 8);
 }
 
 /// Writes the bytes at the front of the text of which none needs an escape, and returns how many it wrote.
@@ -140,8 +134,8 @@ fn put_plain_blocks(room: &mut [u8], at: usize, text: &[u8]) -> usize
     let length = text.len();
     let mut seen = 0;
     'blocks: loop {
-        put_lanes(room, at + seen, text, seen);
-        let stops = stops(text, seen);
+        put_lanes::<16>(room, at + seen, text, seen);
+        let stops = stops::<16>(text, seen);
         if stops != 0 {
             return seen + stops.trailing_zeros() as usize;
         }
@@ -188,83 +182,93 @@ fn escape_at(text: &[u8], at: usize, is_raw: bool) -> Escape
     Escape::Backslash
 }
 
-// Writes the escape of a control character at the place, and after it sixteen bytes of the text. Returns the length of
-// the escape.
+// Writes the escape of a control character at the place, and after it `N` bytes of the text. Returns the length of the
+// escape.
 #[inline(always)]
-fn put_control(room: &mut [u8], at: usize, byte: u8, text: &[u8], next: usize) -> usize
+fn put_control<const N: usize>(
+    room: &mut [u8],
+    at: usize,
+    byte: u8,
+    text: &[u8],
+    next: usize,
+) -> usize
     requires byte { byte < 32 }
-    requires room { at + 24 ≤ length room.old }
-    requires more { next + 16 ≤ length text.now }
-    ensures text { take (at + result + 16) room.new
-        ≡ take at room.old ++ (escape_byte byte ++ take 16 (drop next text.now)) }
+    requires room { at + 8 + N ≤ length room.old }
+    requires more { next + N ≤ length text.now }
+    ensures text { take (at + result + N) room.new
+        ≡ take at room.old ++ (escape_byte byte ++ take N (drop next text.now)) }
     ensures length { result ≡ length (escape_byte byte) }
     ensures few { (2 ≤ result) × (result ≤ 6) }
 {
     let escape = control(byte);
     let length = escape[7] as usize;
     put(room, at, escape);
-    put_lanes(room, at + length, text, next);
+    put_lanes::<N>(room, at + length, text, next);
     length
 }
 
-// Writes a backslash at the place, and after it sixteen bytes of the text.
+// Writes a backslash at the place, and after it `N` bytes of the text.
 #[inline(always)]
-fn put_backslash(room: &mut [u8], at: usize, text: &[u8], next: usize)
-    requires room { at + 17 ≤ length room.old }
-    requires more { next + 16 ≤ length text.now }
-    ensures { take (at + 17) room.new ≡ take at room.old ++ (92 ∷ take 16 (drop next text.now)) }
+fn put_backslash<const N: usize>(room: &mut [u8], at: usize, text: &[u8], next: usize)
+    requires room { at + 1 + N ≤ length room.old }
+    requires more { next + N ≤ length text.now }
+    ensures { take (at + 1 + N) room.new ≡ take at room.old ++ (92 ∷ take N (drop next text.now)) }
 {
     put(room, at, b"\\");
-    put_lanes(room, at + 1, text, next);
+    put_lanes::<N>(room, at + 1, text, next);
 }
 
-/// Writes the next sixteen bytes of the text, or seventeen if a pair goes past their end. Returns the place after what
-/// was written, and the place after what was read.
+/// Writes the next `N` bytes of the text, or one more if a pair goes past their end. Returns the place after what was
+/// written, and the place after what was read.
+///
+/// It needs space for six bytes for each of the `N`, for one more if a pair ends after them, and for `N` that are
+/// copied again.
 #[inline(always)]
-pub(crate) fn put_block(
+pub(crate) fn put_block<const N: usize>(
     room: &mut [u8],
     at: usize,
     text: &[u8],
     first: usize,
     is_raw: bool,
 ) -> (usize, usize)
-    requires room { at + 128 ≤ length room.old }
-    requires more { first + 32 ≤ length text.now }
+    requires lanes { (8 ≤ N) × (N ≤ 32) }
+    requires room { at + 8 * N ≤ length room.old }
+    requires more { first + 2 * N ≤ length text.now }
     ensures text { take result.0 room.new ++ in_json is_raw (drop result.1 text.now)
         ≡ take at room.old ++ in_json is_raw (drop first text.now) }
-    ensures end { result.0 ≤ at + 97 }
-    ensures next { (first < result.1) × (result.1 ≤ first + 17) }
+    ensures end { result.0 ≤ at + 6 * N + 1 }
+    ensures next { (first < result.1) × (result.1 ≤ first + N + 1) }
 {
-    put_lanes(room, at, text, first);
-    let mut end = at + 16;
-    let mut left = stops(text, first);
+    put_lanes::<N>(room, at, text, first);
+    let mut end = at + N;
+    let mut left = stops::<N>(text, first);
     'stops: while left != 0 {
         let stop = left.trailing_zeros() as usize;
         left &= !(1 << stop as u32);
-        let place = end + stop - 16;
+        let place = end + stop - N;
         let from = first + stop;
         match escape_at(text, from, is_raw) {
             Escape::Control => {
-                end += put_control(room, place, text[from], text, from + 1) - 1;
+                end += put_control::<N>(room, place, text[from], text, from + 1) - 1;
             }
             Escape::Nothing => {
-                put_lanes(room, place, text, from + 1);
+                put_lanes::<N>(room, place, text, from + 1);
                 end -= 1;
             }
             Escape::Pair => {
-                if stop == 15 {
+                if stop == N - 1 {
                     room[end] = text[from + 1];
-                    return (end + 1, first + 17);
+                    return (end + 1, first + N + 1);
                 }
                 left &= !(1 << (stop + 1) as u32);
             }
             Escape::Backslash => {
-                put_backslash(room, place, text, from);
+                put_backslash::<N>(room, place, text, from);
                 end += 1;
             }
         }
     }
-    (end, first + 16)
+    (end, first + N)
 }
 
 // Returns the escape of a control character, whose length is its last byte.

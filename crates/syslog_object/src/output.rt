@@ -1,17 +1,22 @@
 //! The bytes of an object, while they are written.
 
-ghost use Rattle.std.specs.Prelude.{◌≡◌, ◌+◌, ◌-◌, ◌++◌, ◌≤◌, [], List, ℕ, IfOk, IsUtf8, OnOk, drop, length, replicate};
+ghost use Rattle.std.specs.Prelude.{◌≡◌, ◌+◌, ◌-◌, ◌++◌, ◌≤◌, [], List, ℕ, IfOk, IsUtf8, OnOk, drop, length};
 ghost use Rattle.std.specs.Prelude.{take, vec_len};
 ghost use Rattle.json.specs.Print.{escape};
 ghost use Rattle.json.specs.Written.{PlainBetween};
 ghost use Rattle.syslog_object.specs.Blocks.{in_json};
 
-use crate::blocks::{BLOCK_ROOM, put, put_block, put_plain};
+use crate::blocks::{put, put_block, put_plain};
 use std::alloc::AllocError;
 use std::marker::Model;
 
 /// How many bytes of spare space each text leaves after it.
 const ROOM: usize = 64;
+
+/// How many bytes a block has, and how many if the text ends soon.
+const WIDE: usize = 32;
+
+const NARROW: usize = 16;
 
 /// Bytes that are written one after the other into the elements of a vector, whose elements after them are spare space.
 #[derive(Drop)]
@@ -227,9 +232,9 @@ fn put_escaped(
 {
     let mut at = start;
     let mut next = 0;
-    'blocks: while text.len() - next > 32 {
-        reserve(bytes, at, BLOCK_ROOM)?;
-        (at, next) = put_block(bytes.as_mut_slice(), at, text, next, is_raw);
+    'blocks: while text.len() - next > 2 * WIDE {
+        reserve(bytes, at, 8 * WIDE)?;
+        (at, next) = put_block::<WIDE>(bytes.as_mut_slice(), at, text, next, is_raw);
     }
     put_last(bytes, at, &text[next..], is_raw)
 }
@@ -242,32 +247,22 @@ fn put_last(
     is_raw: bool,
 ) -> Result<usize, AllocError>
     requires place { start ≤ vec_len bytes.old }
-    requires few { length text.now ≤ 32 }
+    requires few { length text.now ≤ 64 }
     ensures text { IfOk result (λ end. take end bytes.new.items
         ≡ take start bytes.old.items ++ in_json is_raw text.now) }
     ensures room { IfOk result (λ end. end + 64 ≤ vec_len bytes.new) }
     ensures longer { vec_len bytes.old ≤ vec_len bytes.new }
 {
-    let padded = padded(text);
+    let mut padded = [b']'; 96];
+    copy_to_front(&mut padded, text);
     let mut at = start;
     let mut next = 0;
     'blocks: while next < text.len() {
-        reserve(bytes, at, BLOCK_ROOM)?;
-        (at, next) = put_block(bytes.as_mut_slice(), at, &padded, next, is_raw);
+        reserve(bytes, at, 8 * NARROW)?;
+        (at, next) = put_block::<NARROW>(bytes.as_mut_slice(), at, &padded, next, is_raw);
     }
     reserve(bytes, at, ROOM)?;
     Ok(at - (next - text.len()))
-}
-
-// Returns the text, and brackets after it.
-#[inline(always)]
-fn padded(text: &[u8]) -> [u8; 64]
-    requires { length text.now ≤ 32 }
-    ensures { result ≡ text.now ++ replicate (64 - length text.now) 93 }
-{
-    let mut padded = [b']'; 64];
-    copy_to_front(&mut padded, text);
-    padded
 }
 
 #[inline(always)]

@@ -115,8 +115,8 @@ impl<'a> ObjectWriter<'a> {
         output.extend_from_slice(&text.as_slice()[start..])
     }
 
-    /// Appends the JSON object of a line that is no message, as `{"message":"..","refused":true}`, to `output`, or nothing
-    /// if an allocation fails. The call may grow its own memory and `output`.
+    /// Appends the JSON object of a line that is no message, as `{"message":"..","refused":true}`, to `output`, or
+    /// nothing if an allocation fails. The call may grow its own memory and `output`.
     pub fn write_refused(&mut self, line: &str, output: &mut Vec<u8>) -> Result<(), AllocError>
         ensures ok { OnOk result ((bytes : List ℕ) × IsTextOf (refused_json line.now) bytes
             × (output.new.items ≡ output.old.items ++ bytes)) }

@@ -405,22 +405,22 @@ ends_digits (b ∷ bs) u h = ends_by_byte is_ascii_digit (b ∷ bs) u (λ l c by
 pub no_number : (limit : ℕ) (bs : List ℕ) → IsUtf8 bs → Ends is_ascii_digit bs → NoFront (number limit) (chars bs)
 no_number limit bs u h = no_run is_ascii_digit (chars bs) (ends_digits bs u h) (number limit) (λ p q v k. (k.0, k.1))
 
--- ---- vectors that are computed lane by lane from a load v of sixteen bytes
-pub record IsLanes (v z : List ℕ) (f : ℕ → ℕ) : Type 0 where
-  pub same : length v ≡ 16 → z ≡ map f v
+-- ---- vectors that are computed lane by lane from a load v of so many bytes
+pub record IsLanes (count : ℕ) (v z : List ℕ) (f : ℕ → ℕ) : Type 0 where
+  pub same : length v ≡ count → z ≡ map f v
 
-module _ {v : List ℕ} where
+module _ {count : ℕ} {v : List ℕ} where
   -- each lane with one number
-  pub lanes : (h : ℕ → ℕ → ℕ) (n : ℕ) → IsLanes v (zip2 h v (replicate 16 n)) (λ x. h x n)
-  lanes h n = record { same = λ long. zip2_splat h v 16 n long }
+  pub lanes : (h : ℕ → ℕ → ℕ) (n : ℕ) → IsLanes count v (zip2 h v (replicate count n)) (λ x. h x n)
+  lanes h n = record { same = λ long. zip2_splat h v count n long }
 
-  pub joined : (h : ℕ → ℕ → ℕ) {y z : List ℕ} {f g : ℕ → ℕ} → IsLanes v y f → IsLanes v z g
-      → IsLanes v (zip2 h y z) (λ x. h (f x) (g x))
+  pub joined : (h : ℕ → ℕ → ℕ) {y z : List ℕ} {f g : ℕ → ℕ} → IsLanes count v y f → IsLanes count v z g
+      → IsLanes count v (zip2 h y z) (λ x. h (f x) (g x))
   joined h {f = f} {g = g} a b = record { same = λ long. zip2_of_maps h f g v (a.same long) (b.same long) }
 
   -- one number in each lane
-  pub splat : (n : ℕ) → IsLanes v (replicate 16 n) (λ _. n)
-  splat n = record { same = splat_is_map v 16 n }
+  pub splat : (n : ℕ) → IsLanes count v (replicate count n) (λ _. n)
+  splat n = record { same = splat_is_map v count n }
 
 -- a lane of the kernel of a set stops where the set lacks it, by the results of the comparisons
 pub mask_tests : (r a b c l p : Bool) → top 7 (bit_or (bit_xor (bit_or (cond r 255 0)
@@ -430,7 +430,8 @@ mask_tests r a b c l p = grind arith
 
 -- a lane stops just where q fails
 pub run_in : {q : ℕ → Bool} {d : List ℕ} {i r : ℕ} {z : List ℕ} {f : ℕ → ℕ} → i + 16 ≤ length d → r ≡ first_set (mask_l
-    (map (top 7) z) % 2 ^ 64) → IsLanes (chunk i 16 d) z f → ((x : ℕ) → top 7 (f x) ≡ not (q x)) → IsRunIn q d i r
+    (map (top 7) z) % 2 ^ 64) → IsLanes 16 (chunk i 16 d) z f → ((x : ℕ) → top 7 (f x) ≡ not (q x))
+    → IsRunIn q d i r
 run_in {q = q} {d = d} {i = i} {r = r} {z = z} {f = f} room found by_lanes all =
     let v = chunk i 16 d in
     let stops : ℕ → Bool = λ x. top 7 (f x) in

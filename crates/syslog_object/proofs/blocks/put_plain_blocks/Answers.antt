@@ -4,17 +4,17 @@ use Rattle.syslog_object.proofs.blocks.put_plain_blocks.Goals as goal
 
 pub returns-then-stops-ne0-clause-within : goal.returns-then-stops-ne0-clause-within
 returns-then-stops-ne0-clause-within c =
-    let stop = first_stop c.stops-stops.ensures (omega arith) in
+    let stop = first_stop (omega arith) c.stops-stops.ensures (omega arith) in
     omega (arith, stop.within, c.blocks-2.invariant.0)
 
 pub returns-then-stops-ne0-clause-plain : goal.returns-then-stops-ne0-clause-plain
 returns-then-stops-ne0-clause-plain c =
-    let stop = first_stop c.stops-stops.ensures (omega arith) in
+    let stop = first_stop (omega arith) c.stops-stops.ensures (omega arith) in
     plain_to c.args.text.now c.blocks-2.seen _ c.blocks-2.invariant.1 stop.plain
 
 pub returns-then-stops-ne0-clause-text : goal.returns-then-stops-ne0-clause-text
 returns-then-stops-ne0-clause-text c =
-    let stop = first_stop c.stops-stops.ensures (omega arith) in
+    let stop = first_stop (omega arith) c.stops-stops.ensures (omega arith) in
     stored_less c.args.at _ (c.blocks-2.seen + 16) c.args.room.now c.put_lanes.new.room c.args.text.now
     (stored_more c.args.at c.blocks-2.seen _ _ _ _ c.blocks-2.invariant.2 c.put_lanes.ensures)
     (omega (arith, stop.within)) (omega arith)

@@ -10,5 +10,6 @@ tests : (a b c : Bool) → top 7 (bit_or (bit_or (cond a 255 0) (cond b 255 0)) 
 tests a b c = grind arith
 
 pub returns : goal.returns
-returns c = stops_found c.requires refl (joined _ (joined _ (lanes _ _) (lanes _ _)) (lanes _ _))
+returns g c = stops_found (omega (arith, c.requires.few)) c.requires.more refl (joined _ (joined _ (lanes _ _) (lanes
+    _ _)) (lanes _ _))
     (λ x. tests (x == 34) (x == 92) (nat_lt x 32))

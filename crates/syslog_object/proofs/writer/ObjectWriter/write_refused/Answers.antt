@@ -1,5 +1,6 @@
 use Rattle.syslog_object.proofs
-use proofs.Names.{append_assoc, [], List, ℕ, ◌++◌, ◌∷◌, ◌≡◌, ◌∙◌, ap, drop, escape, length, on_ok_weaker, refl, compact_text}
+use proofs.Names.{append_assoc, [], List, ℕ, ◌++◌, ◌∷◌, ◌≡◌, ◌∙◌, ap, drop, escape, length, on_ok_weaker, refl}
+use proofs.Names.{compact_text}
 use Rattle.std.proofs.{Math.Seq.drop-append_seam, lemmas.List.take_rest}
 use Rattle.json.specs.Print.{escape_byte}
 use Rattle.syslog_object.specs.Object.{refused_json}
