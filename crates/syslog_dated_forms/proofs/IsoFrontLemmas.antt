@@ -27,10 +27,10 @@ use Rattle.syslog_dated_forms.specs.DatedForms.{journal_forms}
 use Rattle.syslog_sent.specs.Forms.{IsOfNone}
 use Rattle.syslog_dated_forms.specs.IosXr.{card_row, host, host_in, host_row, node, xr_row}
 use Rattle.syslog_sent.specs.Named.{BeginsWith}
-use Rattle.syslog_dated_forms.specs.NetScaler.{netscaler_row, slashed_of, slashed_row}
+use Rattle.syslog_dated_forms.specs.NetScaler.{netscaler_row, slashed_date, slashed_of, slashed_row, unnamed_row}
 use Rattle.syslog_dated_forms.specs.OpenWrt.{logread_row}
 use Rattle.syslog_dated_forms.specs.SophosUtm.{colon_of, colon_row, utm_row}
-use Rattle.syslog_dated_forms.specs.UnixSeconds.{meraki_row, short_row, unix_of, unix_row}
+use Rattle.syslog_dated_forms.specs.UnixSeconds.{meraki_row, short_row, typed_row, unix_date, unix_of, unix_row}
 use Rattle.syslog_sent.specs.Runs.{is_word_char}
 use Rattle.syslog_sent.specs.Zone.{bare_word, is_capital}
 use Rattle.syslog_sent.specs.declared.sent.SentDate.{SentDate}
@@ -41,9 +41,11 @@ use Rattle.syslog_dated_forms.specs.InBrackets.{in_brackets_row}
 use Rattle.syslog_dated_forms.proofs.InBracketsLemmas.{in_brackets_det}
 use Rattle.syslog_dated_forms.proofs.MonthFrontLemmas.{tag_digit}
 use Rattle.syslog_dated_forms.proofs.OtherDateLemmas.{card_row_det, host_row_det, logread_row_det, netscaler_row_det}
-use Rattle.syslog_dated_forms.proofs.OtherDateLemmas.{utm_row_det, xr_row_det}
+use Rattle.syslog_dated_forms.proofs.OtherDateLemmas.{unnamed_row_det, utm_row_det, xr_row_det}
 use Rattle.syslog_dated_forms.proofs.UndatedLemmas.{run_clock_row_det, undated_row_det}
-use Rattle.syslog_dated_forms.proofs.UnixLemmas.{short_row_det}
+use Rattle.syslog_dated_forms.specs.Ucm.{ucm_row}
+use Rattle.syslog_dated_forms.proofs.UcmLemmas.{ucm_row_det}
+use Rattle.syslog_dated_forms.proofs.UnixLemmas.{short_row_det, typed_row_det}
 use Rattle.syslog_sent.proofs.NamedLemmas.{no_otherwise}
 use Rattle.std.specs.Prelude.{nat_eq, not}
 use Rattle.syslog_dated_forms.specs.Address.{address}
@@ -403,12 +405,13 @@ module _ {t : Text} (m : HasIso t) where
       Text). BeginsWith is_capital x)
       (ap (λ (x : Text). x ++ q) is ∙ sym e ∙ m.is) (day_capital v q k))
 
-  no_slashed : NoFront (Row slashed_row) t
-  no_slashed p q vs e h = let (u, x, (w, y, more)) = row_pieces slashed_row (front_of p e h) in
+  no_slashed_date : NoFront slashed_date t
+  no_slashed_date = no_mapped (Row slashed_row) SentDate slashed_of (λ p q vs e h.
+      let (u, x, (w, y, more)) = row_pieces slashed_row (front_of p e h) in
       let (n, is, fits) = y.is in
       let two = pair_digits x.piece u _ x.is in
       digit_is m.c 47 m.digits.1.1.0 refl (at 2 (sym m.is ∙ x.whole ∙ ap (λ (z : Text). z ++ u) two.is
-      ∙ ap (λ (z : Text). two.x ∷ two.y ∷ z) (y.whole ∙ ap (λ (z : Text). z ++ w) is)))
+      ∙ ap (λ (z : Text). two.x ∷ two.y ∷ z) (y.whole ∙ ap (λ (z : Text). z ++ w) is))))
 
   no_colon_date : NoFront (Row colon_row) t
   no_colon_date p q vs e h = let (u, x, (w, y, more)) = row_pieces colon_row (front_of p e h) in
@@ -424,20 +427,24 @@ module _ {t : Text} (m : HasIso t) where
         no_year_first : NoFront (Row front_year_row) t
         no_year_first p q vs e h = let (u, x, (w, y, more)) = row_pieces front_year_row (front_of p e h) in
             let y4 = year_digits x.piece u _ x.is in
-            let is : m.e ∷ m.more ≡ u = ap (λ (z : Text). drop 4 z) (sym m.is ∙ x.whole ∙ ap (λ (z : Text). z ++ u) y4.is) in
-            let blank : Begins IsBlank (m.e ∷ m.more) = subst (λ (z : Text). Begins IsBlank z) (sym is) (blanks_begin y) in
+            let is : m.e ∷ m.more ≡ u = ap (λ (z : Text). drop 4 z) (sym m.is ∙ x.whole ∙ ap (λ (z : Text). z ++ u)
+            y4.is) in
+            let blank : Begins IsBlank (m.e ∷ m.more) = subst (λ (z : Text). Begins IsBlank z) (sym is) (blanks_begin
+            y) in
             let bad : false ≡ true = sym (mark_no_blank m.e m.part) ∙ blank in cc
 
-  no_unix : NoFront (Row unix_row) t
-  no_unix p q vs e h = let (u, s, (w, f, more)) = row_pieces unix_row (front_of p e h) in
-      let same : u ≡ m.e ∷ m.more = (front_same (some_run is_ascii_digit) (some_run_det is_ascii_digit)
-      (front_of s.piece s.whole (s.is.0.0, s.is.0.1, s.is.0.2)) year_front).0 in
-      let (ks, k, i) = f.is in
-      let (v, o, rest) = row_pieces fraction_row (front_of f.piece f.whole k) in
-      no_point o.piece v _ (sym same ∙ o.whole) o.is where
-        no_point : NoFront point (m.e ∷ m.more)
-        no_point p q (inl v) e h = mark_apart m.e 46 m.part (inr (inl refl)) (at 0 (e ∙ ap (λ (x : Text). x ++ q) h))
-        no_point p q (inr v) e h = mark_apart m.e 44 m.part (inl refl) (at 0 (e ∙ ap (λ (x : Text). x ++ q) h))
+  no_unix_date : NoFront unix_date t
+  no_unix_date = no_mapped (Row unix_row) SentDate unix_of no_unix where
+    no_unix : NoFront (Row unix_row) t
+    no_unix p q vs e h = let (u, s, (w, f, more)) = row_pieces unix_row (front_of p e h) in
+        let same : u ≡ m.e ∷ m.more = (front_same (some_run is_ascii_digit) (some_run_det is_ascii_digit)
+        (front_of s.piece s.whole (s.is.0.0, s.is.0.1, s.is.0.2)) year_front).0 in
+        let (ks, k, i) = f.is in
+        let (v, o, rest) = row_pieces fraction_row (front_of f.piece f.whole k) in
+        no_point o.piece v _ (sym same ∙ o.whole) o.is where
+          no_point : NoFront point (m.e ∷ m.more)
+          no_point p q (inl v) e h = mark_apart m.e 46 m.part (inr (inl refl)) (at 0 (e ∙ ap (λ (x : Text). x ++ q) h))
+          no_point p q (inr v) e h = mark_apart m.e 44 m.part (inl refl) (at 0 (e ∙ ap (λ (x : Text). x ++ q) h))
 
   no_meraki : NoFront (Row (drop 1 meraki_row)) t
   no_meraki p q vs e h = let (u, c, (w, g, more)) = row_pieces (drop 1 meraki_row) (front_of p e h) in
@@ -477,8 +484,9 @@ module _ {text t : Text} (gap : Front (run is_blank) text t tt) (m : HasIso t) w
   pub iso_no_other : IsOfNone journal_forms text
   iso_no_other =
       no_row_division journal_row (no_row journal_row journal_line_det (gap past inl (iso_no_weekday m))) also
-      no_row_division netscaler_row (no_row netscaler_row netscaler_row_det (gap past inl
-      (no_mapped (Row slashed_row) SentDate slashed_of (no_slashed m)))) also
+      no_row_division ucm_row (no_row ucm_row ucm_row_det (gap past inl (iso_no_counter m))) also
+      no_row_division unnamed_row (no_row unnamed_row unnamed_row_det (gap past inl (no_slashed_date m))) also
+      no_row_division netscaler_row (no_row netscaler_row netscaler_row_det (gap past inl (no_slashed_date m))) also
       no_row_division utm_row (no_row utm_row utm_row_det (gap past inl
       (no_mapped (Row colon_row) SentDate colon_of (no_colon_date m)))) also
       no_row_division logread_row (no_row logread_row logread_row_det (gap past inl (iso_no_weekday m))) also
@@ -488,8 +496,8 @@ module _ {text t : Text} (gap : Front (run is_blank) text t tt) (m : HasIso t) w
       no_row_division year_row (no_row year_row year_line_det (gap past inl (iso_no_year m))) also
       no_row_division meraki_row (rows_none_later (run is_blank ∷ []) (drop 1 meraki_row)
       (run_det is_blank also tt) (row_cons (run is_blank) [] gap (row_nil _)) (no_meraki m)) also
-      no_row_division short_row (no_row short_row short_row_det (gap past inl
-      (no_mapped (Row unix_row) SentDate unix_of (no_unix m)))) also
+      no_row_division short_row (no_row short_row short_row_det (gap past inl (no_unix_date m))) also
+      no_row_division typed_row (no_row typed_row typed_row_det (gap past inl (no_unix_date m))) also
       no_row_division undated_row (no_row undated_row undated_row_det (gap
       past optional_none (exactly colon) (no_char m 58 refl) past no_blank m
       past optional_none (Row counter_row) (iso_no_counter m) past optional_none (Row counter_row) (iso_no_counter m)

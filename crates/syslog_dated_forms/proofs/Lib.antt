@@ -10,5 +10,6 @@ pub mod MarkLemmas
 pub mod MonthFrontLemmas
 pub mod OtherDateLemmas
 pub mod TailLemmas
+pub mod UcmLemmas
 pub mod UndatedLemmas
 pub mod UnixLemmas

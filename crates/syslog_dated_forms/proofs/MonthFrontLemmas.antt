@@ -49,11 +49,11 @@ use Rattle.syslog_dated_forms.specs.Cisco.{dated_in}
 use Rattle.syslog_dated_forms.specs.DatedForms.{journal_forms}
 use Rattle.syslog_sent.specs.Forms.{IsOfNone}
 use Rattle.syslog_dated_forms.specs.IosXr.{IsNode, card_row, host, host_in, host_row, node, xr_row}
-use Rattle.syslog_dated_forms.specs.NetScaler.{netscaler_row, slashed_of, slashed_row}
+use Rattle.syslog_dated_forms.specs.NetScaler.{netscaler_row, slashed_date, slashed_of, slashed_row, unnamed_row}
 use Rattle.syslog_dated_forms.specs.OpenWrt.{logread_row}
 use Rattle.syslog_sent.specs.Runs.{are_ascii}
 use Rattle.syslog_dated_forms.specs.SophosUtm.{colon_of, colon_row, utm_row}
-use Rattle.syslog_dated_forms.specs.UnixSeconds.{IsLate, meraki_row, seconds, short_row, unix_of, unix_row}
+use Rattle.syslog_dated_forms.specs.UnixSeconds.{IsLate, meraki_row, short_row, typed_row, unix_date, unix_of, unix_row}
 use Rattle.syslog_sent.specs.Zone.{bare_word, is_among}
 use Rattle.syslog_sent.specs.declared.sent.SentDate.{SentDate}
 use Rattle.syslog_dated_forms.proofs.CiscoLemmas.{counter_row_det, front_year_row_det, message_row_det, task_row_det}
@@ -63,8 +63,10 @@ use Rattle.syslog_dated_forms.proofs.DatedLemmas.{year_line_det}
 use Rattle.syslog_sent.proofs.LedLemmas.{year_begins}
 use Rattle.syslog_sent.proofs.NamedLemmas.{ascii_told}
 use Rattle.syslog_dated_forms.proofs.OtherDateLemmas.{card_row_det, colon_row_det, logread_row_det, netscaler_row_det}
-use Rattle.syslog_dated_forms.proofs.OtherDateLemmas.{slashed_row_det, utm_row_det, xr_row_det}
-use Rattle.syslog_dated_forms.proofs.UnixLemmas.{meraki_row_det, short_row_det, unix_row_det}
+use Rattle.syslog_dated_forms.proofs.OtherDateLemmas.{slashed_row_det, unnamed_row_det, utm_row_det, xr_row_det}
+use Rattle.syslog_dated_forms.specs.Ucm.{ucm_row}
+use Rattle.syslog_dated_forms.proofs.UcmLemmas.{ucm_row_det}
+use Rattle.syslog_dated_forms.proofs.UnixLemmas.{meraki_row_det, short_row_det, typed_row_det, unix_row_det}
 use Rattle.syslog_sent.proofs.ZoneLemmas.{bare_word_det, either_told}
 
 -- ---- the word that a month is
@@ -370,9 +372,13 @@ module _ {text t : Text} (gap : Front (run is_blank) text t tt) (m : HasMonth t)
   no_mnemonic p q v e h = let same = front_same bare_word bare_word_det (front_of p e h.0) (month_word m) in
       month_no_mnemonic m.p m.word (subst IsMnemonic same.1 h.1)
 
-  no_unix : NoFront seconds t
-  no_unix = no_such_front (number 4294967295) IsLate
-      (no_digits m (number 4294967295) (λ p q v h. (h.0, h.1)))
+  no_unix_date : NoFront unix_date t
+  no_unix_date = no_mapped (Row unix_row) SentDate unix_of (no_row unix_row unix_row_det
+      (inl (no_such_front (number 4294967295) IsLate (no_digits m (number 4294967295) (λ p q v h. (h.0, h.1))))))
+
+  no_slashed_date : NoFront slashed_date t
+  no_slashed_date = no_mapped (Row slashed_row) SentDate slashed_of (no_row slashed_row slashed_row_det
+      (inl (no_low m (pair 100) (λ p q v h. rw h.0 (omega (arith, h.1))))))
 
   no_year_date : NoFront year_date t
   no_year_date = no_mapped (Row year_date_row) SentDate (λ v. dated_in (Some v.0) v.1.0)
@@ -386,9 +392,9 @@ module _ {text t : Text} (gap : Front (run is_blank) text t tt) (m : HasMonth t)
 
   pub no_other : IsOfNone journal_forms text
   no_other = no_row_division journal_row (no_row journal_row journal_line_det (gap past inl no_weekday)) also
-      no_row_division netscaler_row (no_row netscaler_row netscaler_row_det (gap past inl
-      (no_mapped (Row slashed_row) SentDate slashed_of (no_row slashed_row slashed_row_det
-      (inl (no_low m (pair 100) (λ p q v h. rw h.0 (omega (arith, h.1))))))))) also
+      no_row_division ucm_row (no_row ucm_row ucm_row_det (gap past inl (no_counter m))) also
+      no_row_division unnamed_row (no_row unnamed_row unnamed_row_det (gap past inl no_slashed_date)) also
+      no_row_division netscaler_row (no_row netscaler_row netscaler_row_det (gap past inl no_slashed_date)) also
       no_row_division utm_row (no_row utm_row utm_row_det (gap past inl
       (no_mapped (Row colon_row) SentDate colon_of (no_row colon_row colon_row_det (inl (no_year m)))))) also
       no_row_division logread_row (no_row logread_row logread_row_det (gap past inl no_weekday)) also
@@ -396,8 +402,8 @@ module _ {text t : Text} (gap : Front (run is_blank) text t tt) (m : HasMonth t)
       no_row_division ctime_row (no_row ctime_row ctime_line_det (gap past inl no_weekday)) also
       no_row_division year_row (no_row year_row year_line_det (gap past inl no_year_date)) also
       no_row_division meraki_row (no_row meraki_row meraki_row_det (gap past inl (no_char m 49 (omega arith)))) also
-      no_row_division short_row (no_row short_row short_row_det (gap past inl
-      (no_mapped (Row unix_row) SentDate unix_of (no_row unix_row unix_row_det (inl no_unix))))) also
+      no_row_division short_row (no_row short_row short_row_det (gap past inl no_unix_date)) also
+      no_row_division typed_row (no_row typed_row typed_row_det (gap past inl no_unix_date)) also
       no_row_division undated_row (no_row undated_row undated_row_det (gap
       past optional_none (exactly colon) (no_char m 58 (omega arith)) past no_blank m
       past optional_none (Row counter_row) (no_counter m) past optional_none (Row counter_row) (no_counter m)

@@ -1,7 +1,7 @@
 -- A text has one division into each row of IOS-XR, NetScaler, ProCurve, Sophos UTM and OpenWrt.
 use Rattle.std.proofs.Common.{Option, arith}
 use Rattle.std.specs.Char.{is_ascii_digit}
-use Rattle.syslog_text.specs.Pieces.Class.{Text, Row, exactly, some_run}
+use Rattle.syslog_text.specs.Pieces.Class.{IsDeterministic, Text, Row, exactly, some_run}
 use Rattle.syslog_text.specs.Text.{is_blank, colon, host as any_host}
 use Rattle.syslog_text.specs.Text.CharClass.{is_label_char}
 use Rattle.syslog_pieces.specs.Timestamp.Rfc3339.{pair, year}
@@ -14,7 +14,7 @@ use Rattle.syslog_sent.specs.Named.{BeginsWith, is_letter}
 use Rattle.syslog_pieces.proofs.TimestampLemmas.Rfc3339.{pair_det, year_det}
 use Rattle.syslog_dated_forms.specs.Cisco.{counter_row, date_row}
 use Rattle.syslog_dated_forms.specs.IosXr.{IsNode, card_row, host, host_in, host_row, process_in, process_row, xr_row}
-use Rattle.syslog_dated_forms.specs.NetScaler.{netscaler_row, slashed_of, slashed_row}
+use Rattle.syslog_dated_forms.specs.NetScaler.{netscaler_row, slashed_date, slashed_of, slashed_row, unnamed_row}
 use Rattle.syslog_sent.specs.Date.{IsDay}
 use Rattle.syslog_dated_forms.specs.OpenWrt.{logread_row}
 use Rattle.syslog_sent.specs.Selector.{selector_row}
@@ -54,10 +54,16 @@ slashed_row_det =
     also after_det (pair 100) (pair_det 100 (omega arith)) also after_det (pair 100) (pair_det 100 (omega arith))
     also after_det (pair 100) (pair_det 100 (omega arith)) also optional_det zone zone_det also tt
 
+slashed_date_det : IsDeterministic slashed_date
+slashed_date_det = mapped_det (Row slashed_row) SentDate slashed_of (row_det slashed_row slashed_row_det)
+
 pub netscaler_row_det : AllDeterministic netscaler_row
-netscaler_row_det = run_det is_blank also mapped_det (Row slashed_row) SentDate slashed_of
-    (row_det slashed_row slashed_row_det)
-    also wide_tail_det also tt
+netscaler_row_det = run_det is_blank also slashed_date_det also wide_tail_det also tt
+
+pub unnamed_row_det : AllDeterministic unnamed_row
+unnamed_row_det = run_det is_blank also slashed_date_det also exactly_det _
+    also texted_det (some_run is_label_char) (some_run_det is_label_char) also some_run_det is_blank
+    also exactly_det _ also run_det is_blank also rest_det also tt
 
 pub procurve_row_det : AllDeterministic procurve_row
 procurve_row_det = run_det is_blank also any_date_det also some_run_det is_blank

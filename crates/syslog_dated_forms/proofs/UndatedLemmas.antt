@@ -2,7 +2,8 @@
 use Rattle.std.specs.Char.{is_ascii_digit}
 use Rattle.syslog_text.specs.Pieces.Class.{IsDeterministic, Row, exactly}
 use Rattle.syslog_text.specs.Text.{colon, is_blank}
-use Rattle.syslog_text.proofs.PieceLemmas.Class.{AllDeterministic, ◌also◌, all_joined, exactly_det, optional_det, row_det}
+use Rattle.syslog_text.proofs.PieceLemmas.Class.{AllDeterministic, ◌also◌, all_joined, exactly_det, optional_det}
+use Rattle.syslog_text.proofs.PieceLemmas.Class.{row_det}
 use Rattle.syslog_text.proofs.PieceLemmas.Class.{run_det, some_run_det}
 use Rattle.syslog_text.proofs.PieceLemmas.Rules.{such_det}
 use Rattle.syslog_sent.proofs.NamedLemmas.{otherwise_det}
@@ -10,7 +11,8 @@ use Rattle.syslog_sent.proofs.ZoneLemmas.{bare_word_det}
 use Rattle.syslog_sent.specs.Zone.{bare_word}
 use Rattle.syslog_dated_forms.specs.Cisco.{counter_row, label, message_row}
 use Rattle.syslog_dated_forms.specs.Filed.{filed_front}
-use Rattle.syslog_dated_forms.specs.Undated.{IsName, IsUptime, run_clock_row, filed_more, name_label, timed_row, undated_row}
+use Rattle.syslog_dated_forms.specs.Undated.{IsName, IsUptime, run_clock_row, filed_more, name_label, timed_row}
+use Rattle.syslog_dated_forms.specs.Undated.{undated_row}
 use Rattle.syslog_dated_forms.specs.Undated.{uptime, run_word_row}
 use Rattle.syslog_dated_forms.proofs.CiscoLemmas.{counter_row_det, label_det, message_row_det}
 use Rattle.syslog_dated_forms.proofs.FiledLemmas.{filed_front_det}

@@ -4,6 +4,7 @@ use Rattle.syslog_pieces.proofs.Names.{signed_arith}
 use Rattle.jiff.specs.Types.{DateTime}
 use Rattle.jiff.specs.Words.{civil_nanos, nanos_of_seconds}
 use Rattle.syslog_text.specs.Pieces.Class.{IsDeterministic, Row}
+use Rattle.syslog_text.specs.Pieces.Rules.{such_that}
 use Rattle.syslog_text.specs.Text.{is_blank, number}
 use Rattle.syslog_pieces.specs.Timestamp.Fields.{fields_of}
 use Rattle.syslog_pieces.specs.Timestamp.Printed.{civil_fields}
@@ -13,11 +14,14 @@ use Rattle.syslog_text.proofs.PieceLemmas.Rules.{such_det}
 use Rattle.syslog_text.proofs.TextLemmas.Words.{host_det, number_det}
 use Rattle.syslog_pieces.proofs.TimestampLemmas.Civil.{civil_fields-is}
 use Rattle.syslog_sent.specs.Date.{fraction_row}
-use Rattle.syslog_dated_forms.specs.UnixSeconds.{IsLate, meraki_row, short_row, unix_date, unix_of, unix_row}
+use Rattle.syslog_dated_forms.specs.UnixSeconds.{IsEventType, IsLate, meraki_row, short_row, typed_row, unix_date}
+use Rattle.syslog_dated_forms.specs.UnixSeconds.{unix_of}
+use Rattle.syslog_dated_forms.specs.UnixSeconds.{unix_row}
 use Rattle.syslog_sent.specs.declared.sent.SentDate.{SentDate}
 use Rattle.syslog_dated_forms.proofs.CiscoLemmas.{origin_det}
 use Rattle.syslog_sent.proofs.DateLemmas.{fraction_row_det}
-use Rattle.syslog_sent.proofs.NamedLemmas.{program_det}
+use Rattle.syslog_sent.proofs.NamedLemmas.{beginning_det, program_det}
+use Rattle.syslog_sent.specs.Zone.{bare_word}
 
 -- what a clock in UTC shows then has these fields
 pub shown_fields : (dt : DateTime) (n : ℕ) (i : ℤ) → i ≡ pos n *ℤ pos 1_000_000_000
@@ -39,3 +43,8 @@ meraki_row_det = run_det is_blank also exactly_det _ also some_run_det is_blank 
 pub short_row_det : AllDeterministic short_row
 short_row_det = run_det is_blank also unix_date_det also some_run_det is_blank also host_det also some_run_det is_blank
     also program_det also run_det is_blank also rest_det also tt
+
+pub typed_row_det : AllDeterministic typed_row
+typed_row_det = run_det is_blank also unix_date_det also some_run_det is_blank also origin_det also some_run_det
+    is_blank
+    also beginning_det (such_that bare_word IsEventType) also tt

@@ -7,13 +7,14 @@ use Rattle.syslog_dated_forms.specs.Esxi.{esxi_form}
 use Rattle.syslog_dated_forms.specs.Filed.{filed_forms}
 use Rattle.syslog_dated_forms.specs.InBrackets.{in_brackets_form}
 use Rattle.syslog_dated_forms.specs.IosXr.{xr_form}
-use Rattle.syslog_dated_forms.specs.NetScaler.{netscaler_form}
+use Rattle.syslog_dated_forms.specs.NetScaler.{netscaler_form, unnamed_form}
 use Rattle.syslog_dated_forms.specs.OpenWrt.{logread_form}
 use Rattle.syslog_dated_forms.specs.ProCurve.{procurve_form}
 use Rattle.syslog_sent.specs.Sent.{Form}
 use Rattle.syslog_dated_forms.specs.SophosUtm.{utm_form}
+use Rattle.syslog_dated_forms.specs.Ucm.{ucm_form}
 use Rattle.syslog_dated_forms.specs.Undated.{timed_form, undated_form}
-use Rattle.syslog_dated_forms.specs.UnixSeconds.{meraki_form, short_form}
+use Rattle.syslog_dated_forms.specs.UnixSeconds.{meraki_form, short_form, typed_form}
 
 abbrev pub in_brackets_forms : List Form
 in_brackets_forms = in_brackets_form ∷ []
@@ -21,8 +22,11 @@ in_brackets_forms = in_brackets_form ∷ []
 abbrev pub undated_forms : List Form
 undated_forms = undated_form ∷ in_brackets_forms
 
+abbrev pub typed_forms : List Form
+typed_forms = typed_form ∷ undated_forms
+
 abbrev pub short_forms : List Form
-short_forms = short_form ∷ undated_forms
+short_forms = short_form ∷ typed_forms
 
 abbrev pub meraki_forms : List Form
 meraki_forms = meraki_form ∷ short_forms
@@ -45,8 +49,14 @@ utm_forms = utm_form ∷ logread_forms
 abbrev pub netscaler_forms : List Form
 netscaler_forms = netscaler_form ∷ utm_forms
 
+abbrev pub unnamed_forms : List Form
+unnamed_forms = unnamed_form ∷ netscaler_forms
+
+abbrev pub ucm_forms : List Form
+ucm_forms = ucm_form ∷ unnamed_forms
+
 abbrev pub journal_forms : List Form
-journal_forms = journal_form ∷ netscaler_forms
+journal_forms = journal_form ∷ ucm_forms
 
 abbrev pub procurve_forms : List Form
 procurve_forms = procurve_form ∷ journal_forms

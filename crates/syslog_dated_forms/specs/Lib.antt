@@ -15,5 +15,7 @@ pub mod ProCurve
 pub mod SophosUtm
 pub mod Tail
 pub mod TailViews
+pub mod Ucm
+pub mod UcmViews
 pub mod Undated
 pub mod UnixSeconds

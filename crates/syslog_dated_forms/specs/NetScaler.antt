@@ -1,11 +1,14 @@
--- Lines of Citrix NetScaler: `03/02/2026:06:33:04 GMT ns1 0-PPE-0 : text`. 47 is `/`, 58 `:`.
-use Rattle.std.specs.Prelude.{◌≡◌, List, [], ◌∷◌, Some}
+-- Lines of Citrix NetScaler: `03/02/2026:06:33:04 GMT ns1 0-PPE-0 : text`, and `.. GMT  0-PPE-0 : text`, where it has
+-- no name. 32 is a space, 47 `/`, 58 `:`.
+use Rattle.std.specs.Prelude.{◌≡◌, List, [], ◌∷◌, None, Some}
 use Rattle.std.specs.Option.{option_flatten}
-use Rattle.syslog_text.specs.Pieces.Class.{Class, Values, Row, run, optional, mapped, after}
-use Rattle.syslog_text.specs.Text.{is_blank}
+use Rattle.syslog_text.specs.Pieces.Class.{Class, Values, Row, run, some_run, exactly, optional, mapped, after, rest}
+use Rattle.syslog_text.specs.Pieces.Class.{texted}
+use Rattle.syslog_text.specs.Text.{colon, is_blank}
+use Rattle.syslog_text.specs.Text.CharClass.{is_label_char}
 use Rattle.syslog_pieces.specs.Timestamp.Rfc3339.{pair, year}
 use Rattle.syslog_dated_forms.specs.Dated.{dated_sent}
-use Rattle.syslog_sent.specs.Sent.{Form}
+use Rattle.syslog_sent.specs.Sent.{Form, SentValue, loose}
 use Rattle.syslog_dated_forms.specs.Tail.{wide_tail}
 use Rattle.syslog_sent.specs.Zone.{zone}
 use Rattle.syslog_sent.specs.declared.dialect.Dialect.TheVariants.{NetScaler}
@@ -33,3 +36,14 @@ netscaler_row = run is_blank ∷ slashed_date ∷ wide_tail ∷ []
 abbrev pub netscaler_form : Form
 netscaler_form =
     record { dialect = NetScaler; row = netscaler_row; Means = λ v sent. sent ≡ dated_sent v.1.0 v.1.1.0 }
+
+-- two spaces, where the host would be between them, and the packet engine as the program
+abbrev pub unnamed_row : List Class
+unnamed_row = run is_blank ∷ slashed_date ∷ exactly (32 ∷ 32 ∷ []) ∷ texted (some_run is_label_char) ∷ some_run is_blank
+    ∷ exactly colon ∷ run is_blank ∷ rest ∷ []
+
+abbrev pub unnamed_sent : Values unnamed_row → SentValue
+unnamed_sent (_, (date, (_, (engine, (_, (_, (_, (msg, _)))))))) = loose (Some date) None (Some engine) None msg
+
+abbrev pub unnamed_form : Form
+unnamed_form = record { dialect = NetScaler; row = unnamed_row; Means = λ v sent. sent ≡ unnamed_sent v }

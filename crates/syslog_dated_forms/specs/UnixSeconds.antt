@@ -1,19 +1,21 @@
 -- Lines whose date is the seconds since 1970-01-01T00:00:00Z and a fraction. Those of Cisco Meraki have the version of
--- RFC 5424 before it ("Syslog Event Types and Log Samples"), those of `journalctl -o short-unix` a host and a program
--- after it.
+-- RFC 5424 before it, or else one of its types of messages ("Syslog Event Types and Log Samples"). Those of
+-- `journalctl -o short-unix` have a host and a program after it.
 -- 49 is `1`.
-use Rattle.std.specs.Prelude.{◌≡◌, ℕ, ◌≤◌, ◌*◌, pos, unsigned_abs, List, [], ◌∷◌, Option, Some, None, MatchOption}
+use Rattle.std.specs.Prelude.{◌≡◌, ℕ, ◌≤◌, ◌*◌, pos, true, unsigned_abs, List, [], ◌∷◌, Option, Some, None, MatchOption}
+use Rattle.std.specs.Prelude.{chars, codes, map}
 use Rattle.jiff.specs.Types.{DateTime}
 use Rattle.syslog_pieces.specs.Timestamp.Fields.{fields_of}
-use Rattle.syslog_text.specs.Pieces.Class.{Class, Values, Row, run, some_run, exactly, rest, mapped}
+use Rattle.syslog_text.specs.Pieces.Class.{Text, Class, Values, Row, run, some_run, exactly, rest, mapped}
 use Rattle.syslog_text.specs.Pieces.Rules.{such_that}
 use Rattle.syslog_text.specs.Text.{host, is_blank, number}
 use Rattle.syslog_pieces.specs.Timestamp.Printed.{civil_fields}
 use Rattle.syslog_pieces.specs.declared.timestamp.fields.CivilFields.{CivilFields}
 use Rattle.syslog_dated_forms.specs.Cisco.{origin}
 use Rattle.syslog_sent.specs.Date.{fraction}
-use Rattle.syslog_sent.specs.Named.{program}
+use Rattle.syslog_sent.specs.Named.{beginning, program}
 use Rattle.syslog_sent.specs.Sent.{Form, SentValue, loose}
+use Rattle.syslog_sent.specs.Zone.{bare_word, is_among}
 use Rattle.syslog_sent.specs.declared.dialect.Dialect.TheVariants.{UnixSeconds}
 use Rattle.syslog_sent.specs.declared.sent.SentDate.{SentDate}
 
@@ -73,3 +75,24 @@ short_sent (_, (date, (_, (hostname, (_, (p, (_, (msg, _)))))))) = loose (Some d
 
 abbrev pub short_form : Form
 short_form = record { dialect = UnixSeconds; row = short_row; Means = λ v sent. sent ≡ short_sent v }
+
+-- ---- Meraki's without the version
+
+abbrev pub event_types : List Text
+event_types = map chars (codes "events" ∷ codes "flows" ∷ codes "urls" ∷ codes "ids-alerts" ∷ codes "security_event"
+    ∷ codes "airmarshal_events" ∷ codes "firewall" ∷ codes "cellular_firewall" ∷ codes "vpn_firewall"
+    ∷ codes "ip_flow_start" ∷ codes "ip_flow_end" ∷ [])
+
+abbrev pub IsEventType : Text → Type 0
+IsEventType t = is_among t event_types ≡ true
+
+-- The message begins with its type. Squid's access log has numbers and addresses there.
+abbrev pub typed_row : List Class
+typed_row = run is_blank ∷ unix_date ∷ some_run is_blank ∷ origin ∷ some_run is_blank
+    ∷ beginning (such_that bare_word IsEventType) ∷ []
+
+abbrev pub typed_sent : Values typed_row → SentValue
+typed_sent (_, (date, (_, (device, (_, (msg, _)))))) = loose (Some date) (Some device) None None msg
+
+abbrev pub typed_form : Form
+typed_form = record { dialect = UnixSeconds; row = typed_row; Means = λ v sent. sent ≡ typed_sent v }

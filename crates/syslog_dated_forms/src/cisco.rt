@@ -141,7 +141,8 @@ fn mnemonic(text: &str) -> Option<(&str, &str)>
     Some((word, rest))
 }
 
-fn counter(text: &str) -> Option<&str>
+/// Returns the text after a counter, a colon and blanks.
+pub(crate) fn counter(text: &str) -> Option<&str>
     ensures { Recognises (Row spec.counter_row) (chars text.now) result }
 {
     if !begins_with_digit(text.as_bytes()) {
@@ -161,7 +162,6 @@ pub(crate) fn past_counter(text: &str) -> &str
     }
 }
 
-/// Returns a host's name before a colon and blanks, and the text after these.
 /// Returns the name of a device before a colon and blanks, and the text after these.
 pub(crate) fn label(text: &str) -> Option<(&str, &str)>
     ensures { Reads spec.label (λ word. shown word) (chars text.now) result }
@@ -172,7 +172,8 @@ pub(crate) fn label(text: &str) -> Option<(&str, &str)>
     Some((host, rest))
 }
 
-fn optional_label(text: &str) -> (Option<&str>, &str)
+/// Returns such a name, if the text begins with one, and the text after it.
+pub(crate) fn optional_label(text: &str) -> (Option<&str>, &str)
     ensures { Front (optional spec.label) (chars text.now) (shown result.1) (seen result.0) }
 {
     match label(text) {

@@ -21,12 +21,13 @@ use crate::esxi::read_esxi;
 use crate::filed::read_filed;
 use crate::in_brackets::read_in_brackets;
 use crate::ios_xr::read_ios_xr;
-use crate::netscaler::read_netscaler;
+use crate::netscaler::{read_netscaler, read_unnamed};
 use crate::open_wrt::read_logread;
 use crate::procurve::read_procurve;
 use crate::sophos_utm::read_utm;
+use crate::ucm::read_ucm;
 use crate::undated::{read_timed, read_undated};
-use crate::unix_seconds::{read_meraki, read_short};
+use crate::unix_seconds::{read_meraki, read_short, read_typed};
 use memchr::memchr2;
 use syslog_sent::date::BsdDate;
 use syslog_sent::dialect::Dialect;
@@ -42,6 +43,12 @@ fn from_unled(text: &str) -> Option<(Dialect, Sent<'_>)>
     }
     if let Some(sent) = read_journal(text) {
         return Some((Dialect::Journal, sent));
+    }
+    if let Some(sent) = read_ucm(text) {
+        return Some((Dialect::CiscoIos, sent));
+    }
+    if let Some(sent) = read_unnamed(text) {
+        return Some((Dialect::NetScaler, sent));
     }
     if let Some(sent) = read_netscaler(text) {
         return Some((Dialect::NetScaler, sent));
@@ -65,6 +72,9 @@ fn from_unled(text: &str) -> Option<(Dialect, Sent<'_>)>
         return Some((Dialect::UnixSeconds, sent));
     }
     if let Some(sent) = read_short(text) {
+        return Some((Dialect::UnixSeconds, sent));
+    }
+    if let Some(sent) = read_typed(text) {
         return Some((Dialect::UnixSeconds, sent));
     }
     if let Some(sent) = read_undated(text) {

@@ -79,8 +79,8 @@ fn card(text: &str) -> Option<(Option<&str>, &str)>
     Some((name, rest))
 }
 
-// Returns a program's name, and the text after it.
-fn name(text: &str) -> Option<(&str, &str)>
+/// Returns a program's name, which has no white space, colon or `[`, and the text after it.
+pub(crate) fn name(text: &str) -> Option<(&str, &str)>
     ensures { Reads (texted (some_run is_label_char)) (λ run. shown run) (chars text.now) result }
 {
     let (run, rest) = split_run(text, CharClass::Label);

@@ -19,5 +19,6 @@ mod open_wrt;
 mod procurve;
 mod sophos_utm;
 mod tail;
+mod ucm;
 mod undated;
 mod unix_seconds;

@@ -1,21 +1,25 @@
 //! Lines of Citrix NetScaler (ADC): `03/02/2026:06:33:04 GMT ns1 0-PPE-0 : default TCP CONN_TERMINATE ..`.
 //!
 //! **Rule.** The month comes first, as in the appliance's default setting (Citrix, "Audit logging": date format
-//! MMDDYYYY). What follows is read as the port reads it.
-ghost use Rattle.std.specs.Prelude.{◌≡◌, chars};
-ghost use Rattle.syslog_text.specs.Pieces.Class.{Row, after};
-ghost use Rattle.syslog_text.specs.Pieces.View.{Reads};
+//! MMDDYYYY). Two spaces after the date are around the name of an appliance that has none; then the packet engine is
+//! the program. Otherwise what follows is read as the port reads it.
+ghost use Rattle.std.specs.Prelude.{◌≡◌, ◌∷◌, [], chars};
+ghost use Rattle.syslog_text.specs.Pieces.Class.{Row, after, exactly};
+ghost use Rattle.syslog_text.specs.Pieces.View.{Reads, Recognises};
 ghost use Rattle.syslog_pieces.specs.Timestamp.Rfc3339.{year as any_year};
 ghost use Rattle.syslog_sent.specs.Sent.{Sends};
 ghost use Rattle.syslog_dated_forms.specs.NetScalerViews.{slashed_values};
 ghost use Rattle.syslog_dated_forms.specs.NetScaler as spec;
 
 use crate::dated::says;
+use crate::ios_xr::name;
 use crate::tail::read_wide_tail;
 use syslog_pieces::timestamp::MonthDate;
 use syslog_pieces::timestamp::pairs::{pair, pair_after, year};
 use syslog_sent::date::optional_zone;
+use syslog_sent::named::past;
 use syslog_sent::sent::{Sent, SentDate};
+use syslog_sent::skips::{colon, gap};
 use syslog_text::text::{blanks, literal};
 
 // Returns a year after a slash, and the text after it.
@@ -93,4 +97,30 @@ pub(crate) fn read_netscaler(text: &str) -> Option<Sent<'_>>
 {
     let (date, rest) = slashed_date(blanks(text))?;
     Some(says(date, read_wide_tail(rest)))
+}
+
+fn two_spaces(text: &str) -> Option<&str>
+    ensures { Recognises (exactly (32 ∷ 32 ∷ [])) (chars text.now) result }
+{
+    past(text, "  ")
+}
+
+/// Returns what a line of a NetScaler without a name says.
+pub(crate) fn read_unnamed(text: &str) -> Option<Sent<'_>>
+    ensures { Sends spec.unnamed_form (chars text.now) result }
+{
+    let (date, after_date) = slashed_date(blanks(text))?;
+    let at_engine = two_spaces(after_date)?;
+    let (engine, after_engine) = name(at_engine)?;
+    let at_colon = gap(after_engine)?;
+    let rest = colon(at_colon)?;
+    Some(Sent {
+        version: None,
+        date: Some(date),
+        hostname: None,
+        appname: Some(engine),
+        process: None,
+        msgid: None,
+        msg: blanks(rest),
+    })
 }

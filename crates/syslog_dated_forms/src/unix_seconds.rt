@@ -2,11 +2,14 @@
 //! `1772433184.123456 web1 sshd[811]: text` of `journalctl -o short-unix`.
 //!
 //! **Rule.** The date is what a clock in UTC shows at that second. Ten digits at least are such a date. Meraki's
-//! message begins with its type, which is no program.
-ghost use Rattle.std.specs.Prelude.{◌≡◌, chars};
-ghost use Rattle.syslog_text.specs.Pieces.View.{Reads};
+//! message begins with its type, which is no program. Without the `1` a line is Meraki's if its type is one that is
+//! documented.
+ghost use Rattle.std.specs.Prelude.{◌≡◌, MatchBool, chars};
+ghost use Rattle.syslog_text.specs.Pieces.Rules.{such_that};
+ghost use Rattle.syslog_text.specs.Pieces.View.{Reads, Recognises};
 ghost use Rattle.syslog_pieces.specs.Timestamp.Fields.{fields_of};
 ghost use Rattle.syslog_sent.specs.Sent.{Sends};
+ghost use Rattle.syslog_sent.specs.Zone.{bare_word as any_word};
 ghost use Rattle.syslog_dated_forms.specs.UnixSeconds as spec;
 
 use crate::cisco::origin;
@@ -18,6 +21,7 @@ use syslog_sent::date::fraction;
 use syslog_sent::named::read_program;
 use syslog_sent::sent::{Sent, SentDate};
 use syslog_sent::skips::gap;
+use syslog_sent::zone::{bare_word, is_one_of};
 use syslog_text::text::{blanks, host, literal, number};
 
 // Returns what a clock in UTC shows so many seconds after 1970 began.
@@ -107,5 +111,56 @@ pub(crate) fn read_short(text: &str) -> Option<Sent<'_>>
         process: program.process,
         msgid: None,
         msg: blanks(after_program),
+    })
+}
+
+const EVENT_TYPES: [&str; 11] = [
+    "events",
+    "flows",
+    "urls",
+    "ids-alerts",
+    "security_event",
+    "airmarshal_events",
+    "firewall",
+    "cellular_firewall",
+    "vpn_firewall",
+    "ip_flow_start",
+    "ip_flow_end",
+];
+
+fn is_event_type(word: &str) -> bool
+    ensures { MatchBool result (spec.IsEventType (chars word.now)) (spec.IsEventType (chars word.now) → ⊥) }
+{
+    is_one_of(&EVENT_TYPES, word)
+}
+
+// Returns the text after a type of Meraki's messages.
+fn event_type(text: &str) -> Option<&str>
+    ensures { Recognises (such_that any_word spec.IsEventType) (chars text.now) result }
+{
+    let (word, rest) = bare_word(text)?;
+    if !is_event_type(word) {
+        return None;
+    }
+    Some(rest)
+}
+
+/// Returns what a line of Meraki without the version says.
+pub(crate) fn read_typed(text: &str) -> Option<Sent<'_>>
+    ensures { Sends spec.typed_form (chars text.now) result }
+{
+    let (date, after_date) = unix_date(blanks(text))?;
+    let before_device = gap(after_date)?;
+    let (device, after_device) = origin(before_device)?;
+    let msg = gap(after_device)?;
+    let _ = event_type(msg)?;
+    Some(Sent {
+        version: None,
+        date: Some(date),
+        hostname: Some(device),
+        appname: None,
+        process: None,
+        msgid: None,
+        msg,
     })
 }

@@ -23,6 +23,7 @@ use Rattle.syslog_dated_forms.specs.Address.{address}
 use Rattle.syslog_dated_forms.proofs.CiscoLemmas.{address_is}
 use Rattle.syslog_dated_forms.specs.Cisco.{task_row}
 use Rattle.syslog_dated_forms.specs.Undated as undated
+use Rattle.syslog_dated_forms.specs.Ucm.{half_date, ucm_row, ucm_sent}
 use Rattle.syslog_dated_forms.specs.Undated.{IsName, name_label, uptime}
 use Rattle.syslog_dated_forms.specs.Container.{container_row, output}
 use Rattle.syslog_sent.specs.Date.{any_date, bsd_date, iso_date, odd_bsd_date, odd_iso_date}
@@ -44,14 +45,16 @@ use Rattle.syslog_dated_forms.specs.IosXr.{xr_sent}
 use Rattle.syslog_dated_forms.specs.IosXr as xr
 use Rattle.syslog_named_forms.specs.Graded.{source_row}
 use Rattle.syslog_sent.specs.Named.{◌otherwise◌, BeginsWith, beginning, is_letter}
-use Rattle.syslog_dated_forms.specs.NetScaler.{netscaler_row, slashed_date}
+use Rattle.syslog_dated_forms.specs.NetScaler.{netscaler_row, slashed_date, unnamed_row, unnamed_sent}
 use Rattle.syslog_dated_forms.specs.OpenWrt.{logread_row, logread_sent}
 use Rattle.syslog_dated_forms.specs.ProCurve.{IsSwitch, procurve_row, procurve_sent}
 use Rattle.syslog_sent.specs.Selector.{selector_row}
 use Rattle.syslog_sent.specs.Sent.{Form, IsSent, SentValue, loose}
 use Rattle.syslog_dated_forms.specs.SophosUtm.{colon_date, utm_row}
 use Rattle.syslog_dated_forms.specs.Tail.{TailValue, spare, tail, tail_row, wide_row, wide_tail}
-use Rattle.syslog_dated_forms.specs.UnixSeconds.{meraki_row, meraki_sent, short_row, short_sent, unix_date}
+use Rattle.syslog_dated_forms.specs.UnixSeconds.{IsEventType, meraki_row, meraki_sent, short_row, short_sent, typed_row}
+use Rattle.syslog_dated_forms.specs.UnixSeconds.{typed_sent, unix_date}
+use Rattle.syslog_sent.specs.Zone.{bare_word}
 use Rattle.syslog_sent.specs.declared.dialect.Dialect.{Dialect}
 use Rattle.syslog_sent.specs.declared.dialect.Dialect.TheVariants as dialect
 use Rattle.syslog_sent.specs.declared.sent.SentDate.{SentDate}
@@ -132,13 +135,18 @@ abbrev a_unix_date : {left : List Class} → Shows left unix_date
 a_unix_date = a_date unix_date (λ d. d) (λ p q d is. inr (inr (inr (inr (inr (inl is))))))
 
 abbrev a_stamp : {left : List Class} → Shows left stamp
-a_stamp = a_date stamp (λ v. v.1.0) (λ p q v is. inr (inr (inr (inr (inr (inr (v, is, refl)))))))
+a_stamp = a_date stamp (λ v. v.1.0) (λ p q v is. inr (inr (inr (inr (inr (inr (inl (v, is, refl))))))))
+
+-- with a clock of twelve hours
+abbrev a_half_date : {left : List Class} → Shows left half_date
+a_half_date = a_date half_date (λ d. d) (λ p q d is. inr (inr (inr (inr (inr (inr (inr is)))))))
 
 -- ---- Cisco
 
 a_device : (left : List Class) → Has left (address otherwise word_origin) (λ v parts. Name (host_of v) ∷ parts)
 a_device left t q (inl v) f =
-    (shown {left = left} address Name (λ p r w is. sym (address_is p r w is.0))).has t q v (front_of f.piece f.whole f.is)
+    (shown {left = left} address Name (λ p r w is. sym (address_is p r w is.0))).has t q v (front_of f.piece f.whole
+    f.is)
 a_device left t q (inr v) f =
     (bare_text {left = left} (BeginsWith begins_host)).has t q v (front_of f.piece f.whole f.is.1)
 
@@ -312,7 +320,8 @@ undated_cisco h = last_found (left_of dialect.CiscoUndated h) (take 7 undated.un
 
 timed_cisco : RowFound dialect.CiscoUndated undated.timed_row undated.timed_sent
 timed_cisco h = last_found (left_of dialect.CiscoUndated h) (take 8 undated.timed_row)
-    (blanks also an_any_date also a_gap also an_origin also a_gap also a_count h also a_count h also an_uptime h also tt)
+    (blanks also an_any_date also a_gap also an_origin also a_gap also a_count h also a_count h also an_uptime h also
+    tt)
     (Row message_row) (λ v. Name v.0 ∷ []) (λ v. v.1.1.1.1.0) (tag_found (left_of dialect.CiscoUndated h))
 
 process_found : (left : List Class) → Ending left process (λ v. Name v.0 ∷ Name v.1.0 ∷ []) (λ v. v.1.1)
@@ -337,6 +346,14 @@ xr_found t v f =
     let left = left_of dialect.CiscoIosXr v.0 in
     inr (last_found left (take 2 xr_row) (a_card (beside v.0 []) also a_cisco_date also tt) process
     (λ w. Name w.0 ∷ Name w.1.0 ∷ []) (λ w. w.1.1) (process_found left) t v f)
+
+ucm_found : RowTold dialect.CiscoIos ucm_row ucm_sent
+ucm_found t v f =
+    let left = left_of dialect.CiscoIos v.1.1.0 in
+    inr (last_found left (take 7 ucm_row)
+    (blanks also passed (Row counter_row) (λ p q w is. inr (inl (w, is)))
+    also perhaps label Name (a_label {left = left}).has also a_half_date also blanks also a_colon also blanks also tt)
+    (Row message_row) (λ w. Name w.0 ∷ []) (λ w. w.1.1.1.1.0) (tag_found left) t v f)
 
 -- ---- what the port reads after a date
 
@@ -486,6 +503,19 @@ meraki_found h = before_rest (left_of dialect.UnixSeconds h) (take 7 meraki_row)
     (blanks also passed (exactly (49 ∷ [])) (λ p q v is. inr (inl (v, is))) also a_gap also a_unix_date also a_gap
     also an_origin also a_gap also tt)
 
+typed_found : RowFound dialect.UnixSeconds typed_row typed_sent
+typed_found h = last_found (left_of dialect.UnixSeconds h) (take 5 typed_row)
+    (blanks also a_unix_date also a_gap also an_origin also a_gap also tt)
+    (beginning (such_that bare_word IsEventType)) (λ x. []) (λ x. x)
+    (whole_found (left_of dialect.UnixSeconds h) (beginning (such_that bare_word IsEventType)) (λ x. x) (λ p x is.
+    is.1))
+
+unnamed_found : RowFound dialect.NetScaler unnamed_row unnamed_sent
+unnamed_found h = before_rest (left_of dialect.NetScaler h) (take 7 unnamed_row)
+    (blanks also a_slashed_date
+    also passed (exactly (32 ∷ 32 ∷ [])) (λ p q v is. inl (subst (Each is_sign) (sym is) (refl, (refl, tt))))
+    also text_of (some_run is_label_char) also a_gap also a_colon also blanks also tt)
+
 short_found : RowFound dialect.UnixSeconds short_row short_sent
 short_found h = before_rest (left_of dialect.UnixSeconds h) (take 7 short_row)
     (blanks also a_unix_date also a_gap also a_host also a_gap also a_program also blanks also tt)
@@ -527,6 +557,8 @@ xr_all =
     also said dialect.Esxi esxi_row esxi_sent esxi_found
     also said dialect.ProCurve procurve_row procurve_sent procurve_found
     also said dialect.Journal journal_row (λ v. dated_sent v.1.1.1.0 v.1.1.1.1.0) journal_found
+    also said_so dialect.CiscoIos ucm_row ucm_sent ucm_found
+    also said dialect.NetScaler unnamed_row unnamed_sent unnamed_found
     also said dialect.NetScaler netscaler_row (λ v. dated_sent v.1.0 v.1.1.0)
     (λ h. dated_found (beside h []) slashed_date a_slashed_date)
     also said dialect.SophosUtm utm_row (λ v. dated_sent v.1.0 v.1.1.0)
@@ -538,12 +570,14 @@ xr_all =
     (λ h. dated_found (weekday ∷ Row source_row ∷ beside h []) year_date a_year_date)
     also said dialect.UnixSeconds meraki_row meraki_sent meraki_found
     also said dialect.UnixSeconds short_row short_sent short_found
+    also said dialect.UnixSeconds typed_row typed_sent typed_found
     also said dialect.CiscoUndated undated.undated_row undated.undated_sent undated_cisco
     also said dialect.Bracketed in_brackets_row in_brackets_sent in_brackets_found also tt
 
 pub dated_all : AllFound dated_forms
 dated_all = both_found dated.marked_forms xr_forms
-    (both_found cisco_forms (filed_forms ++ dated.timed_forms) cisco_all (both_found filed_forms dated.timed_forms filed_all
+    (both_found cisco_forms (filed_forms ++ dated.timed_forms) cisco_all (both_found filed_forms dated.timed_forms
+    filed_all
     (said dialect.CiscoUndated undated.timed_row undated.timed_sent timed_cisco also tt))) xr_all
 
 pub plain_dated_all : AllFound dated.plain_forms

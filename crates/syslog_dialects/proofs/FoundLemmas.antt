@@ -17,7 +17,8 @@ use Rattle.syslog_loose.specs.Message.{MessageValue}
 use Rattle.syslog_loose.specs.declared.dates.Dates.{Dates}
 use Rattle.syslog_dated_forms.specs.DatedForms as dated
 use Rattle.syslog_sent.specs.Forms.{IsOfFirst}
-use Rattle.syslog_dialects.specs.Dialects.{dated_forms, early_forms, forms_of, last_forms, late_forms, named_forms, plain_forms}
+use Rattle.syslog_dialects.specs.Dialects.{dated_forms, early_forms, forms_of, last_forms, late_forms, named_forms}
+use Rattle.syslog_dialects.specs.Dialects.{plain_forms}
 use Rattle.syslog_dialects.specs.Found.{AreFound, AreInOrder, IsFoundIn, Part}
 use Rattle.syslog_dialects.specs.Found.{Name, Tells, Version, beside, if_there}
 use Rattle.syslog_dialects.specs.Found.{forwarded_words}
@@ -42,7 +43,8 @@ use Rattle.syslog_named_forms.specs.Graded.{counted_row, numbered_row}
 use Rattle.syslog_named_forms.specs.Devices.{addressed_row, point_word, title_row, titled_row}
 use Rattle.syslog_named_forms.specs.Graded.{event_end_row, event_row, grade_row, graded_row, level_row, leveled_row}
 use Rattle.syslog_named_forms.specs.Graded.{source_row, sourced_row, threaded_row, threads_row}
-use Rattle.syslog_named_forms.specs.Unified.{close_row, compact_row, kind, log_of, log_row, thread_row}
+use Rattle.syslog_named_forms.specs.Unified.{close_row, compact_row, entry_name, kept_row, kind, log_of, log_row}
+use Rattle.syslog_named_forms.specs.Unified.{thread_row}
 use Rattle.syslog_named_forms.specs.Untagged.{some_digits}
 use Rattle.syslog_named_forms.specs.NamedForms.{serial_tail}
 use Rattle.syslog_named_forms.specs.NamedForms.{severity_tail, tail_forms, undated_form, undated_forms, undated_row}
@@ -70,7 +72,7 @@ use Rattle.syslog_dialects.proofs.MessageLemmas.{end_of, whole_of}
 use Rattle.syslog_dialects.proofs.OrderLemmas.{Ending, Has, Shows, a_colon, a_gap, a_host, a_name, a_program, a_sign}
 use Rattle.syslog_dialects.proofs.OrderLemmas.{a_word, an_id, before_rest, blank_signs, blanks}
 use Rattle.syslog_dialects.proofs.OrderLemmas.{last_found, mapped_found}
-use Rattle.syslog_dialects.proofs.OrderLemmas.{no_field, nothing_more, out_more, passed}
+use Rattle.syslog_dialects.proofs.OrderLemmas.{maybe, no_field, nothing_more, out_more, passed}
 use Rattle.syslog_dialects.proofs.OrderLemmas.{row_more, shown, such}
 use Rattle.syslog_dialects.proofs.OrderLemmas.{text_of}
 use Rattle.syslog_dialects.proofs.OrderLemmas.{IsOut, whole_found}
@@ -204,10 +206,19 @@ serial_found t (inr n) f = mapped_found (left_of dialect.WatchGuard n.hostname) 
 abbrev columns_of : NamedTexts → List Part
 columns_of n = three n.hostname n.process n.appname
 
-columns_found : Ending (left_of dialect.UnifiedLog None) (Row log_row) (λ v. columns_of (log_of v)) (λ v. (log_of v).msg)
-columns_found = before_rest (left_of dialect.UnifiedLog None) (take 8 log_row)
+entry_name_is : (p q : Text) (t : Text) → entry_name.Is p q t → p ≡ t
+entry_name_is p q t (inl v, is, same) = sym (is.0.2) ∙ sym same
+entry_name_is p q t (inr v, is, same) = sym (is.1.0.2) ∙ sym same
+
+-- a name of several words or of one
+abbrev an_entry_name : {left : List Class} → Shows left entry_name
+an_entry_name = shown entry_name Name entry_name_is
+
+columns_found : Ending (left_of dialect.UnifiedLog None) (Row log_row) (λ v. columns_of (log_of v)) (λ v. (log_of
+    v).msg)
+columns_found = before_rest (left_of dialect.UnifiedLog None) (take 7 log_row)
     (passed (Row thread_row) (λ p q v is. inr (inl (v, is))) also text_of some_digits also a_gap
-    also passed some_digits (λ p q v is. inr (inr (inl (v, is)))) also a_gap also a_name also a_colon also blanks also tt)
+    also maybe (Row kept_row) (λ p q v is. inr (inr (inl (v, is)))) also an_entry_name also a_colon also blanks also tt)
 
 unified_found : IsFoundForm (dated_form unified_tail.dialect unified_tail.after unified_tail.names)
 unified_found text sent s =
@@ -216,7 +227,8 @@ unified_found text sent s =
     let (u, a, b) = rows_split front_row (C ∷ []) f in
     let it = end_of C b in
     let (w, is, same) = it.is in
-    let told = subst (λ (n : NamedTexts). Tells (left_of dialect.UnifiedLog n.hostname) u (columns_of n) n.msg) (sym same)
+    let told = subst (λ (n : NamedTexts). Tells (left_of dialect.UnifiedLog n.hostname) u (columns_of n) n.msg) (sym
+    same)
     (columns_found u w (front_of it.piece it.whole is)) in
     subst (AreFound dialect.UnifiedLog text) (sym s.means)
     (inr (inr (refl, row_more front_row (blanks also an_any_date also a_gap also tt) a told)))
@@ -247,7 +259,7 @@ titled_found t v = before_rest (left_of dialect.SpacedName v.0) (take 5 titled_r
 
 compact_found : TailFound compact_tail
 compact_found = before_rest (left_of dialect.UnifiedLog None) (take 7 compact_row)
-    (passed kind (λ p q w is. inr (inr (inr (inl (w, is))))) also a_gap also a_name also a_sign 91 refl
+    (passed kind (λ p q w is. inr (inr (inr (inl (w, is))))) also a_gap also an_entry_name also a_sign 91 refl
     also text_of some_digits also passed (Row close_row) (λ p q w is. inr (inr (inr (inr (inl (w, is)))))) also a_gap
     also tt)
 

@@ -25,7 +25,8 @@ use Rattle.syslog_dated_forms.specs.Dated.{bsd_row, ctime_message_row, ctime_mes
 use Rattle.syslog_dated_forms.specs.Dated.{iso_row, journal_row, year_row}
 use Rattle.syslog_dated_forms.specs.DatedForms.{marked_forms, timed_forms, xr_forms}
 use Rattle.syslog_sent.specs.Forms.{IsOfFirst}
-use Rattle.syslog_dialects.specs.Dialects.{dated_forms, early_forms, forms_of, last_forms, late_forms, named_forms, plain_forms}
+use Rattle.syslog_dialects.specs.Dialects.{dated_forms, early_forms, forms_of, last_forms, late_forms, named_forms}
+use Rattle.syslog_dialects.specs.Dialects.{plain_forms}
 use Rattle.syslog_dated_forms.specs.Esxi.{esxi_row, esxi_sent}
 use Rattle.syslog_dated_forms.specs.Filed.{IsAny, filed_form, filed_forms, filed_front, filed_row, filed_sent}
 use Rattle.syslog_named_forms.specs.NearHeader.{head_row, heroku_row, heroku_says, vendor_row, vendor_says}
@@ -51,7 +52,7 @@ use Rattle.syslog_named_forms.specs.Graded.{event_row, graded_row, leveled_row, 
 use Rattle.syslog_named_forms.specs.Unified.{compact_row, log_row}
 use Rattle.syslog_named_forms.specs.NamedForms.{serial_tail, severity_tail, tail_forms, undated_form, undated_forms}
 use Rattle.syslog_named_forms.specs.NamedForms.{header_forms, spread_tail, undated_row, worded_tail}
-use Rattle.syslog_dated_forms.specs.NetScaler.{netscaler_row}
+use Rattle.syslog_dated_forms.specs.NetScaler.{netscaler_row, unnamed_row, unnamed_sent}
 use Rattle.syslog_dated_forms.specs.OpenWrt.{logread_row, logread_sent}
 use Rattle.syslog_named_forms.specs.Pairs.{paired, pairs_row}
 use Rattle.syslog_dialects.specs.PriorityAlone.{IsAlone, alone_row, point_row, point_sent, program_row, program_sent}
@@ -63,7 +64,9 @@ use Rattle.syslog_sent.specs.Sent.{Form, IsSent, SentValue, loose}
 use Rattle.syslog_dialects.specs.SentReading.{IsSentIn}
 use Rattle.syslog_dated_forms.specs.SophosUtm.{utm_row}
 use Rattle.syslog_dated_forms.specs.Tail.{TailValue, tail, tail_row, wide_row, wide_tail}
-use Rattle.syslog_dated_forms.specs.UnixSeconds.{meraki_row, meraki_sent, short_row, short_sent}
+use Rattle.syslog_dated_forms.specs.Ucm.{ucm_row, ucm_sent}
+use Rattle.syslog_dated_forms.specs.UnixSeconds.{IsEventType, meraki_row, meraki_sent, short_row, short_sent, typed_row}
+use Rattle.syslog_dated_forms.specs.UnixSeconds.{typed_sent}
 use Rattle.syslog_named_forms.specs.Untagged.{dialect_of, mark_class, marked, marked_of, marks}
 use Rattle.syslog_sent.specs.Zone.{bare_word}
 use Rattle.syslog_sent.specs.declared.dialect.Dialect.{Dialect}
@@ -262,6 +265,9 @@ xr_end =
     also said Esxi esxi_row esxi_sent (rest_ends (take 6 esxi_row))
     also said ProCurve procurve_row procurve_sent (rest_ends (take 9 procurve_row))
     also said Journal journal_row (λ v. dated_sent v.1.1.1.0 v.1.1.1.1.0) (tailed (take 4 journal_row))
+    also said CiscoIos ucm_row ucm_sent
+    (last_ends (take 7 ucm_row) (Row message_row) (λ v. v.1.1.1.1.0) message_ends)
+    also said NetScaler unnamed_row unnamed_sent (rest_ends (take 6 unnamed_row))
     also said NetScaler netscaler_row (λ v. dated_sent v.1.0 v.1.1.0) (tailed (take 2 netscaler_row))
     also said SophosUtm utm_row (λ v. dated_sent v.1.0 v.1.1.0) (tailed (take 2 utm_row))
     also said SeverityFirst logread_row logread_sent (rest_ends (take 8 logread_row))
@@ -271,6 +277,8 @@ xr_end =
     also said BsdDate year_row (λ v. dated_sent v.1.0 v.1.1.0) (tailed (take 2 year_row))
     also said UnixSeconds meraki_row meraki_sent (spaced_rest_ends (take 6 meraki_row))
     also said UnixSeconds short_row short_sent (rest_ends (take 6 short_row))
+    also said UnixSeconds typed_row typed_sent
+    (some_run_ends (beginning (such_that bare_word IsEventType)) (λ t. t) (λ p t is. is.1) (take 4 typed_row))
     also said CiscoUndated undated.undated_row undated.undated_sent undated_cisco_ends
     also said Bracketed in_brackets_row in_brackets_sent (rest_ends (take 4 in_brackets_row)) also tt
 
@@ -334,8 +342,9 @@ programs_end =
     also tail_of access_tail (λ t v ends f. rest_ends (take 4 access_row) t v f)
     also tail_of hostless_tail (λ t v ends f. spaced_rest_ends (take 1 hostless_row) t v f)
     also tail_of serial_tail serial_ends
-    also tail_of unified_tail (λ t v ends f. rest_ends (take 7 log_row) t v f)
-    also tail_of untagged_tail (λ t v ends f. some_run_ends (beginning number_word) (λ x. x) (λ p x is. is.1) (host ∷ [])
+    also tail_of unified_tail (λ t v ends f. rest_ends (take 6 log_row) t v f)
+    also tail_of untagged_tail (λ t v ends f. some_run_ends (beginning number_word) (λ x. x) (λ p x is. is.1) (host ∷
+    [])
     t v f) also tt
 
 devices_end : AllEnd (tail_forms device_tails)
@@ -395,7 +404,8 @@ plain_end =
     also tail_of spread_tail (λ t v ends f. rest_ends (take 5 spread_row) t v f) also tt
 
 early_end : AllEnd early_forms
-early_end = both_end dated_forms (named_forms ++ plain_forms) dated_end (both_end named_forms plain_forms named_end plain_end)
+early_end = both_end dated_forms (named_forms ++ plain_forms) dated_end (both_end named_forms plain_forms named_end
+    plain_end)
 
 last_end : AllEnd last_forms
 last_end =

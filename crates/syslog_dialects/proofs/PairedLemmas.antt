@@ -103,7 +103,8 @@ module _ (variant : Variant) (dating : Dating) (text : Text) (line other : Line)
       _,
       line.list.left,
       λ nothing. some (leaves_same variant text unparsed _
-          (leaves_of variant dating text other unparsed too left) (leaves_of variant dating text line _ of line.list.left)
+          (leaves_of variant dating text other unparsed too left) (leaves_of variant dating text line _ of
+          line.list.left)
           ∙ nothing),
     ),
     (ap (λ (m : MessageValue). m.structured_data) same ∙ none, subst NamesPairs (sym (rests is is_too)) names),

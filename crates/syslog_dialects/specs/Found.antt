@@ -22,8 +22,7 @@ use Rattle.syslog_named_forms.specs.Devices.{point_word}
 use Rattle.syslog_named_forms.specs.Graded.{event_end_row, grade_row, level_row, source_row}
 use Rattle.syslog_named_forms.specs.Monotonic.{seconds_row}
 use Rattle.syslog_named_forms.specs.Programs.{IsSerial, aix_row}
-use Rattle.syslog_named_forms.specs.Unified.{close_row, kind, thread_row}
-use Rattle.syslog_named_forms.specs.Untagged.{some_digits}
+use Rattle.syslog_named_forms.specs.Unified.{close_row, kept_row, kind, thread_row}
 use Rattle.syslog_named_forms.specs.Pairs.{IsShown, noted, pair}
 use Rattle.syslog_sent.specs.Selector.{selector_row, severity}
 use Rattle.syslog_sent.specs.Runs.{is_plain_char}
@@ -31,6 +30,7 @@ use Rattle.syslog_sent.specs.Sent.{SentValue}
 use Rattle.syslog_dialects.specs.Paired.{IsOpened}
 use Rattle.syslog_dialects.specs.SentLine.{IsMessageSent}
 use Rattle.syslog_dated_forms.specs.SophosUtm.{colon_date}
+use Rattle.syslog_dated_forms.specs.Ucm.{half_date}
 use Rattle.syslog_dated_forms.specs.Undated.{uptime}
 use Rattle.syslog_dated_forms.specs.UnixSeconds.{unix_date}
 use Rattle.syslog_sent.specs.declared.dialect.Dialect.{Dialect}
@@ -113,7 +113,7 @@ left_out UnixSeconds = exactly (49 ∷ []) ∷ []
 left_out Forwarded = forwarded_words ∷ []
 left_out WatchGuard = Row serial ∷ Row first_serial ∷ []
 left_out Monotonic = Row seconds_row ∷ []
-left_out UnifiedLog = Row thread_row ∷ some_digits ∷ kind ∷ Row close_row ∷ []
+left_out UnifiedLog = Row thread_row ∷ Row kept_row ∷ kind ∷ Row close_row ∷ []
 left_out UniFi = point_word ∷ []
 left_out Bracketed = weekday ∷ Row event_end_row ∷ []
 left_out _ = []
@@ -163,7 +163,8 @@ cisco_date = mapped (Row date_row) SentDate (λ v. dated_in v.0 v.1.0)
 -- the week in brackets.
 abbrev pub IsDateOf : Text → Text → SentDate → Type 0
 IsDateOf p q d = bsd_date.Is p q d ⊎ (iso_date.Is p q d ⊎ (cisco_date.Is p q d
-    ⊎ (slashed_date.Is p q d ⊎ (colon_date.Is p q d ⊎ (unix_date.Is p q d ⊎ stamp_date.Is p q d)))))
+    ⊎ (slashed_date.Is p q d ⊎ (colon_date.Is p q d ⊎ (unix_date.Is p q d ⊎ (stamp_date.Is p q d
+    ⊎ half_date.Is p q d))))))
 
 -- the piece, before the text that follows it, says this
 abbrev pub Says : Text → Text → Part → Type 0

@@ -1,5 +1,6 @@
 -- A text has one division into each row of a device's line, and of a line with a severity in brackets or in angles.
-use Rattle.std.specs.Char.{is_ascii_digit}
+use Rattle.std.specs.Char.{is_ascii_digit, is_not_whitespace}
+use Rattle.std.specs.Prelude.{[], ◌∷◌}
 use Rattle.std.specs.Prelude.{IsTrue}
 use Rattle.syslog_text.specs.Pieces.Class.{IsDeterministic, Row, some_run, texted}
 use Rattle.syslog_text.specs.Text.{is_blank, is_tag_char}
@@ -7,15 +8,16 @@ use Rattle.syslog_text.proofs.PieceLemmas.Class.{AllDeterministic, ◌also◌, e
 use Rattle.syslog_text.proofs.PieceLemmas.Class.{some_run_det, texted_det}
 use Rattle.syslog_text.proofs.PieceLemmas.Rules.{such_det}
 use Rattle.syslog_text.proofs.TextLemmas.Words.{host_det}
-use Rattle.syslog_sent.proofs.NamedLemmas.{name_det, program_det}
+use Rattle.syslog_sent.proofs.NamedLemmas.{name_det, otherwise_det, program_det}
 use Rattle.syslog_sent.specs.Runs.{is_plain_char, is_word_char}
 use Rattle.syslog_sent.specs.Zone.{bare_word}
 use Rattle.syslog_named_forms.specs.Devices.{addressed_row, opens_address, point_word, title_row, titled_row}
 use Rattle.syslog_named_forms.specs.Graded.{event_end_row, event_row, grade_row, graded_row, hardware_row, level_row}
 use Rattle.syslog_named_forms.specs.Graded.{leveled_row, source_row, sourced_row, threaded_row, threads_row}
-use Rattle.syslog_named_forms.specs.Graded.{counted_row, numbered_row}
+use Rattle.syslog_named_forms.specs.Graded.{bracket_or_level, counted_row, numbered_row}
 use Rattle.syslog_named_forms.specs.Unified.{close_row, compact_row, is_kind, kind}
-use Rattle.syslog_named_forms.specs.Untagged.{some_digits}
+use Rattle.syslog_named_forms.specs.Untagged.{is_level, some_digits}
+use Rattle.syslog_named_forms.proofs.ProgramLemmas.{entry_name_det}
 
 pub point_word_det : IsDeterministic point_word
 point_word_det = such_det bare_word (λ t. IsTrue (opens_address t))
@@ -40,7 +42,7 @@ pub close_det : AllDeterministic close_row
 close_det = exactly_det _ also some_run_det is_plain_char also exactly_det _ also tt
 
 pub compact_det : AllDeterministic compact_row
-compact_det = kind_det also some_run_det is_blank also name_det also exactly_det _
+compact_det = kind_det also some_run_det is_blank also entry_name_det also exactly_det _
     also texted_det some_digits (some_run_det is_ascii_digit) also row_det close_row close_det
     also some_run_det is_blank
     also rest_det also tt
@@ -93,5 +95,9 @@ pub numbered_det : AllDeterministic numbered_row
 numbered_det = exactly_det _ also texted_det (some_run is_ascii_digit) (some_run_det is_ascii_digit) also exactly_det _
     also some_run_det is_blank also rest_det also tt
 
+bracket_or_level_det : IsDeterministic bracket_or_level
+bracket_or_level_det = otherwise_det (exactly_det (91 ∷ [])) (such_det (texted (some_run is_not_whitespace))
+    (λ t. IsTrue (is_level t)) (texted_det (some_run is_not_whitespace) (some_run_det is_not_whitespace)))
+
 pub counted_det : AllDeterministic counted_row
-counted_det = some_run_det is_ascii_digit also some_run_det is_blank also exactly_det _ also tt
+counted_det = some_run_det is_ascii_digit also some_run_det is_blank also bracket_or_level_det also tt

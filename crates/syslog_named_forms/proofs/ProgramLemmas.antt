@@ -21,7 +21,7 @@ use Rattle.syslog_text.proofs.PieceLemmas.Rules.{no_such_meaning, such_det, such
 use Rattle.syslog_text.proofs.TextLemmas.Runs.{no_run}
 use Rattle.syslog_text.specs.Pieces.Rules.{such_that}
 use Rattle.syslog_sent.specs.Date.{iso_date}
-use Rattle.syslog_sent.specs.Named.{◌otherwise◌, BeginsWith, program}
+use Rattle.syslog_sent.specs.Named.{◌otherwise◌, BeginsWith, name, program}
 use Rattle.syslog_sent.specs.Runs.{is_word_char}
 use Rattle.syslog_sent.specs.Named.{NamedTexts, is_letter}
 use Rattle.syslog_named_forms.specs.Programs.{words, words_row, worded_row, forwarded_row, forwarded_of, passed_on}
@@ -29,17 +29,20 @@ use Rattle.syslog_text.proofs.PieceLemmas.Class.{after_det}
 use Rattle.syslog_text.proofs.PieceLemmas.Lists.{many_det}
 use Rattle.syslog_text.specs.Pieces.Class.{spaced}
 use Rattle.syslog_text.specs.Text.{is_tag_char}
-use Rattle.syslog_named_forms.specs.Programs.{aix_row, enclosed_row, grade, hostless_row, later_word}
+use Rattle.syslog_named_forms.specs.Programs.{aix_row, aix_severity, enclosed_row, grade, hostless_row}
+use Rattle.syslog_named_forms.specs.Programs.{is_double_severity, later_word}
 use Rattle.syslog_text.proofs.PieceLemmas.Class.{optional_det}
 use Rattle.syslog_text.specs.Pieces.Class.{exactly}
-use Rattle.std.specs.Prelude.{IsTrue, MatchBool, codes}
-use Rattle.syslog_sent.specs.Selector.{selector_row}
-use Rattle.syslog_named_forms.specs.Programs.{access_row, number_word, point_row, severity_row, untagged_row, spread_row}
-use Rattle.syslog_named_forms.specs.Unified.{log_row, thread_row}
+use Rattle.std.specs.Prelude.{◌||◌, IsTrue, MatchBool, codes}
+use Rattle.syslog_sent.specs.Selector.{is_severity, selector_row}
+use Rattle.syslog_named_forms.specs.Programs.{access_row, number_word, point_row, severity_row, untagged_row}
+use Rattle.syslog_named_forms.specs.Programs.{spread_row}
+use Rattle.syslog_named_forms.specs.Unified.{either_name, entry_name, kept_row, log_row, thread_row}
 use Rattle.syslog_named_forms.specs.Untagged.{some_digits, topic_row}
-use Rattle.std.specs.Char.{is_ascii_digit}
+use Rattle.std.specs.Char.{is_ascii_digit, is_not_whitespace}
 use Rattle.syslog_named_forms.proofs.UntaggedLemmas.{host_row_det, topic_det}
-use Rattle.syslog_sent.proofs.NamedLemmas.{beginning_det, name_det, otherwise_det, id_det, severity_word_det, selector_det}
+use Rattle.syslog_sent.proofs.NamedLemmas.{beginning_det, name_det, otherwise_det, id_det, severity_word_det}
+use Rattle.syslog_sent.proofs.NamedLemmas.{selector_det}
 
 pub serial_det : AllDeterministic serial_row
 serial_det = host_det also some_run_det is_blank also some_run_det is_plain_char also exactly_det _ also exactly_det _
@@ -114,9 +117,13 @@ test_told false x e = λ h. let bad : false ≡ true = e ∙ h in cc
 pub hostless_det : AllDeterministic hostless_row
 hostless_det = program_det also some_run_det is_blank also rest_det also tt
 
+aix_severity_det : IsDeterministic aix_severity
+aix_severity_det = such_det (texted (some_run is_not_whitespace)) (λ t. IsTrue (is_severity t || is_double_severity t))
+    (texted_det (some_run is_not_whitespace) (some_run_det is_not_whitespace))
+
 pub aix_det : AllDeterministic aix_row
 aix_det = some_run_det is_plain_char also optional_det (exactly (codes "|security")) (exactly_det _) also exactly_det _
-    also severity_word_det also tt
+    also aix_severity_det also tt
 
 grade_det : IsDeterministic grade
 grade_det = otherwise_det severity_word_det (otherwise_det (row_det selector_row selector_det)
@@ -139,7 +146,7 @@ pub words_row_det : AllDeterministic words_row
 words_row_det = some_run_det is_word_char also spaced_det also many_det (spaced later_word) spaced_det
     also tt
 
-words_det : IsDeterministic words
+pub words_det : IsDeterministic words
 words_det = such_det (texted (Row words_row)) (BeginsWith is_letter)
     (texted_det (Row words_row) (row_det words_row words_row_det))
 
@@ -160,9 +167,15 @@ pub thread_det : AllDeterministic thread_row
 thread_det = let gap = some_run_det is_blank in let word = some_run_det is_plain_char in
     exactly_det _ also word also gap also word also gap also exactly_det _ also word also gap also tt
 
+pub kept_det : AllDeterministic kept_row
+kept_det = some_run_det is_ascii_digit also some_run_det is_blank also tt
+
+pub entry_name_det : IsDeterministic entry_name
+entry_name_det = mapped_det (words otherwise name) Text either_name (otherwise_det words_det name_det)
+
 pub log_det : AllDeterministic log_row
 log_det = row_det thread_row thread_det also texted_det some_digits (some_run_det is_ascii_digit)
-    also some_run_det is_blank also some_run_det is_ascii_digit also some_run_det is_blank also name_det
+    also some_run_det is_blank also optional_det (Row kept_row) (row_det kept_row kept_det) also entry_name_det
     also exactly_det _ also run_det is_blank also rest_det also tt
 
 pub untagged_det : AllDeterministic untagged_row

@@ -147,7 +147,7 @@ month_opens = row_opens month_word (drop 1 month_row) IsInitial (λ p q v ((u, h
 initial_begins : (c : ℕ) → IsInitial c → begins Dated c ≡ true
 initial_begins c h = grind (arith, nat_tests, h)
 
-level_starts : (c : ℕ) (t : Text) → IsTrue (is_level (c ∷ t)) → IsTrue (nat_le 68 c && nat_le c 87)
+level_starts : (c : ℕ) (t : Text) → IsTrue (is_level (c ∷ t)) → IsTrue (nat_le 67 c && nat_le c 87)
 level_starts c t h = grind (arith, nat_tests)
 
 abbrev after_comma : List Class

@@ -4,8 +4,10 @@ use Rattle.std.specs.Prelude.{List, [], ◌∷◌, None, Some, codes}
 use Rattle.syslog_text.specs.Pieces.Class.{Text, Class, Values, Row, exactly, mapped, rest, run, some_run, texted}
 use Rattle.syslog_text.specs.Text.{colon, host, is_blank}
 use Rattle.std.specs.Char.{is_ascii_digit}
-use Rattle.syslog_sent.specs.Named.{NamedTexts, beginning, name, program, tagged, untagged}
+use Rattle.syslog_sent.specs.Named.{◌otherwise◌, NamedTexts, beginning, name, program, tagged, untagged}
 use Rattle.syslog_sent.specs.Runs.{is_plain_char, is_word_char}
+use Rattle.syslog_named_forms.specs.Untagged.{mark_class}
+use Rattle.syslog_named_forms.specs.declared.untagged.Mark.TheVariants.{Level}
 
 -- ---- `<auth.info> gate sshd[811]: text`, `<4.6> gate sshd[811]: text`
 
@@ -105,9 +107,12 @@ numbered = mapped (Row numbered_row) NamedTexts numbered_of
 
 -- ---- `0 [System] [MY-010931] [Server] text`
 
--- MySQL and MariaDB: the number of a thread begins the message, and is no host
+-- MySQL, MariaDB and OpenStack: the number of a thread or a process begins the message, and is no host
+abbrev pub bracket_or_level : Class
+bracket_or_level = exactly (91 ∷ []) otherwise mark_class Level
+
 abbrev pub counted_row : List Class
-counted_row = some_run is_ascii_digit ∷ some_run is_blank ∷ exactly (91 ∷ []) ∷ []
+counted_row = some_run is_ascii_digit ∷ some_run is_blank ∷ bracket_or_level ∷ []
 
 abbrev pub counted_of : Text → NamedTexts
 counted_of t = untagged None t

@@ -1,7 +1,7 @@
 -- What a program's line says, in the forms that are recognised by what is between the date and the program's name, and
 -- what a message says that begins with a number. 32 is a space, 40 `(`, 41 `)`, 46 `.`, 118 `v`.
-use Rattle.std.specs.Prelude.{◌⊎◌, ◌&&◌, Bool, IsTrue, List, [], ◌∷◌, Option, Some, None, codes, false, nat_eq, not}
-use Rattle.std.specs.Prelude.{MatchOption, true}
+use Rattle.std.specs.Prelude.{◌⊎◌, ◌&&◌, ◌||◌, Bool, IsTrue, List, [], ◌∷◌, Option, Some, None, codes, false}
+use Rattle.std.specs.Prelude.{MatchOption, nat_eq, not, true}
 use Rattle.std.specs.Char.{is_ascii_digit, is_not_whitespace}
 use Rattle.syslog_text.specs.Pieces.Class.{Text, Class, Values, Row, run, some_run, exactly, optional, rest, mapped}
 use Rattle.syslog_text.specs.Pieces.Class.{spaced, texted}
@@ -15,7 +15,8 @@ use Rattle.syslog_sent.specs.Named.{process_id, program}
 use Rattle.syslog_sent.specs.Named.{after_row, beginning, is_number, tagged, untagged}
 use Rattle.syslog_sent.specs.Runs.{is_plain_char, is_word_char}
 use Rattle.std.proofs.Common.{inl, inr}
-use Rattle.syslog_sent.specs.Selector.{severity, selector_row}
+use Rattle.syslog_sent.specs.Selector.{is_severity, severity, selector_row}
+use Rattle.syslog_text.specs.Pieces.View.{text_eq}
 use Rattle.syslog_named_forms.specs.Untagged.{topic_row}
 
 -- ---- no host: `filterlog[52211]: text`
@@ -32,9 +33,18 @@ hostless = mapped (Row hostless_row) NamedTexts hostless_of
 -- ---- the severity before the program: `bigip1 notice mcpd[5555]: text`, `alpine1 daemon.info udhcpc[411]: text`,
 -- `aix1 auth|security:info sshd[411]: text`
 
+-- a severity that AIX's syslogd writes by both of its names
+abbrev pub is_double_severity : Text → Bool
+is_double_severity t = text_eq t (codes "emerg|panic") || (text_eq t (codes "err|error")
+    || (text_eq t (codes "warn|warning") || text_eq t (codes "warning|warn")))
+
+abbrev pub aix_severity : Class
+aix_severity =
+    such_that (texted (some_run is_not_whitespace)) (λ t. IsTrue (is_severity t || is_double_severity t))
+
 -- facility and severity as AIX's syslogd writes them into its files
 abbrev pub aix_row : List Class
-aix_row = some_run is_plain_char ∷ optional (exactly (codes "|security")) ∷ exactly colon ∷ severity ∷ []
+aix_row = some_run is_plain_char ∷ optional (exactly (codes "|security")) ∷ exactly colon ∷ aix_severity ∷ []
 
 -- a severity, or a facility and a severity
 abbrev pub grade : Class

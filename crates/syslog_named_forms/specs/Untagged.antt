@@ -81,9 +81,14 @@ clock_row = day ∷ day_end ∷ pair 100 ∷ after 58 (pair 100) ∷ []
 abbrev pub pair_row : List Class
 pair_row = some_run is_word_char ∷ exactly (61 ∷ []) ∷ []
 
-abbrev pub is_level : Text → Bool
-is_level t = text_eq t (codes "TRACE") || (text_eq t (codes "DEBUG") || (text_eq t (codes "INFO")
+-- the levels of log4j, and those that Python's logging and java.util.logging have besides
+abbrev pub is_log4j_level : Text → Bool
+is_log4j_level t = text_eq t (codes "TRACE") || (text_eq t (codes "DEBUG") || (text_eq t (codes "INFO")
     || (text_eq t (codes "WARN") || (text_eq t (codes "ERROR") || text_eq t (codes "FATAL")))))
+
+abbrev pub is_level : Text → Bool
+is_level t = is_log4j_level t || (text_eq t (codes "WARNING") || (text_eq t (codes "CRITICAL")
+    || (text_eq t (codes "SEVERE") || text_eq t (codes "NOTICE"))))
 
 -- a topic of RouterOS, and a comma
 abbrev pub topic_row : List Class
@@ -176,7 +181,7 @@ begins PaloAlto c = is_ascii_digit c
 begins Pair c = is_word_char c
 begins Json c = nat_eq c 123
 begins Idrac c = nat_eq c 83
-begins Level c = nat_le 68 c && nat_le c 87
+begins Level c = nat_le 67 c && nat_le c 87
 begins Topics c = is_plain_char c
 begins Bracket c = nat_eq c 91 || (nat_eq c 60 || nat_eq c 34)
 begins Dated c = is_ascii_digit c || (nat_le 65 c && nat_le c 83)

@@ -8,7 +8,8 @@
 //! writes its address and that of its hardware after its name (Aruba Instant Syslog Messages): `192.0.2.2 <192.0.2.2
 //! 02:00:00:00:00:01> stm[2112]: text`. Phones of Yealink write process and thread after a blank, and no host: `sua
 //! [768:871]: text`. The error logs of PostgreSQL begin with the process after the date (`log_line_prefix` is `%m [%p]
-//! `): `[1133] LOG:  text`; those of MySQL with the number of a thread: `0 [System] [MY-010931] [Server] text`.
+//! `): `[1133] LOG:  text`; those of MySQL with the number of a thread: `0 [System] [MY-010931] [Server] text`. Those
+//! of OpenStack have the process there, and then a level (oslo.log): `2345 INFO nova.compute.manager text`.
 ghost use Rattle.std.specs.Prelude.{chars, codes};
 ghost use Rattle.syslog_text.specs.Pieces.Class.{Row, Text, exactly, texted};
 ghost use Rattle.syslog_text.specs.Pieces.View.{Reads, Recognises, seen, shown};
@@ -16,6 +17,7 @@ ghost use Rattle.syslog_named_forms.specs.Graded as spec;
 ghost use Rattle.syslog_named_forms.specs.Untagged.{host_row};
 ghost use Rattle.syslog_sent.specs.Views.{Names, named_value};
 
+use crate::untagged::level as level_word;
 use syslog_sent::named::{Named, Program, name, number, past, read_program, tagged, untagged};
 use syslog_sent::runs::{Run, split_some};
 use syslog_sent::skips::{
@@ -193,14 +195,24 @@ pub(crate) fn numbered(text: &str) -> Option<Named<'_>>
     })
 }
 
-// Returns the text after a number, blanks and a bracket.
+// Returns the text after a bracket or a level.
+fn bracket_or_level(text: &str) -> Option<&str>
+    ensures { Recognises spec.bracket_or_level (chars text.now) result }
+{
+    if let Some(rest) = bracket(text) {
+        return Some(rest);
+    }
+    level_word(text)
+}
+
+// Returns the text after a number, blanks, and a bracket or a level.
 fn counted_end(text: &str) -> Option<&str>
     ensures { Recognises (Row spec.counted_row) (chars text.now) result }
 {
-    digits(text).and_then(gap).and_then(bracket)
+    digits(text).and_then(gap).and_then(bracket_or_level)
 }
 
-/// Reads a message that begins with a number and a bracket.
+/// Reads a message that begins with a number, and a bracket or a level.
 #[inline(always)]
 pub(crate) fn counted(text: &str) -> Option<Named<'_>>
     ensures { Names spec.counted named_value (chars text.now) result }

@@ -1,7 +1,7 @@
 //! A line of the journal with the seconds since the start in the place of a date: `[12345.678901] pi4 sshd[811]: text`.
 //!
-//! **Rule.** `journalctl -o short-monotonic` writes so. A line of the kernel's own log (`dmesg`) has no host there: it is
-//! told by its program, which is neither the kernel nor has the id of a process. The line says no date.
+//! **Rule.** `journalctl -o short-monotonic` writes so. A line of the kernel's own log (`dmesg`) has no host there: it
+//! is told by its program, which is neither the kernel nor has the id of a process. The line says no date.
 ghost use Rattle.std.specs.Prelude.{◌≡◌, chars};
 ghost use Rattle.syslog_text.specs.Pieces.Class.{Row};
 ghost use Rattle.syslog_text.specs.Pieces.View.{Reads, Recognises};

@@ -1,13 +1,13 @@
 //! Lines of programs that are recognised by what is between the date and the program's name. A message that begins with
 //! a number after the host has no program.
-ghost use Rattle.std.specs.Prelude.{◌≡◌, ◌∷◌, [], IfSome, IsUtf8, List, MatchBool, chars, codes};
+ghost use Rattle.std.specs.Prelude.{◌≡◌, ◌∷◌, ◌||◌, [], IfSome, IsUtf8, List, MatchBool, chars, codes};
 ghost use Rattle.std.specs.Option.{option_map};
 ghost use Rattle.syslog_text.specs.Pieces.Class.{Front, Row, Text, exactly, optional, some_run, spaced, texted};
 ghost use Rattle.syslog_text.specs.Pieces.Lists.{many};
 ghost use Rattle.syslog_text.specs.Pieces.View.{Reads, Recognises, seen, shown};
 ghost use Rattle.syslog_text.specs.Text.{is_tag_char};
 ghost use Rattle.syslog_sent.specs.Named.{◌otherwise◌, program as program_class};
-ghost use Rattle.syslog_sent.specs.Selector.{selector_row, severity as severity_class};
+ghost use Rattle.syslog_sent.specs.Selector.{is_severity as is_severity_text, selector_row};
 ghost use Rattle.syslog_sent.specs.Runs.{is_word_char};
 ghost use Rattle.syslog_named_forms.specs.Programs as spec;
 ghost use Rattle.syslog_named_forms.specs.Untagged.{host_row};
@@ -16,10 +16,11 @@ ghost use Rattle.syslog_sent.specs.Views.{Names, named_value, program_seen};
 use crate::untagged::topic;
 use syslog_sent::date::iso_date;
 use syslog_sent::named::{
-    Named, Program, is_letter, is_number, name, past, process_id, read_program, tagged, untagged,
+    Named, Program, is_letter, is_number, is_word, name, past, process_id, read_program, tagged,
+    untagged,
 };
 use syslog_sent::runs::{Run, split};
-use syslog_sent::selector::{selector, severity};
+use syslog_sent::selector::{is_severity, selector, severity};
 use syslog_sent::skips::{colon, plain_word};
 use syslog_text::text::verbatim::before;
 use syslog_text::text::{CharClass, blanks, first, literal, some_blanks, split_run};
@@ -45,11 +46,26 @@ fn past_security(text: &str) -> &str
     }
 }
 
-fn severity_word(text: &str) -> Option<&str>
-    ensures { Recognises severity_class (chars text.now) result }
+fn is_double_severity(word: &str) -> bool
+    ensures { result ≡ spec.is_double_severity (chars word.now) }
 {
-    let (_, rest) = severity(text)?;
-    Some(rest)
+    is_word(word, "emerg|panic")
+        || (is_word(word, "err|error")
+            || (is_word(word, "warn|warning") || is_word(word, "warning|warn")))
+}
+
+fn is_aix_severity(word: &str) -> bool
+    ensures { result ≡ (is_severity_text (chars word.now) || spec.is_double_severity (chars word.now)) }
+{
+    is_severity(word) || is_double_severity(word)
+}
+
+// Returns the text after a severity of AIX.
+fn aix_severity(text: &str) -> Option<&str>
+    ensures { Recognises spec.aix_severity (chars text.now) result }
+{
+    let (word, rest) = split_run(text, CharClass::Visible);
+    is_aix_severity(word).then_some(rest)
 }
 
 // Returns the text after facility and severity of AIX.
@@ -59,7 +75,7 @@ fn aix(text: &str) -> Option<&str>
     plain_word(text)
         .map(past_security)
         .and_then(colon)
-        .and_then(severity_word)
+        .and_then(aix_severity)
 }
 
 // Returns the text after a facility and a severity.
@@ -238,8 +254,8 @@ fn words_end(text: &str) -> Option<&str>
     word(text).and_then(spaced_word).map(more_words)
 }
 
-// Returns a name of several words at the front, and the text after it.
-fn words(text: &str) -> Option<(&str, &str)>
+/// Returns a name of several words at the front, and the text after it.
+pub(crate) fn words(text: &str) -> Option<(&str, &str)>
     ensures { Reads spec.words (λ t. shown t) (chars text.now) result }
 {
     let rest = words_end(text)?;

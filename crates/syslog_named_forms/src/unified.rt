@@ -1,15 +1,16 @@
 //! Lines of macOS's unified log after the date: `0x74d Default 0x0 123 0 app: text`, `Df app[123:74d] text`.
 //!
 //! **Rule.** `log show` writes these columns in its default style (log(1)): thread, type, activity, process id, and how
-//! long the entry is kept. In its style `compact` these are the type, the program, the process id and the thread. They
-//! name no host.
+//! long the entry is kept, which macOS 10.12 leaves out. In its style `compact` these are the type, the program, the
+//! process id and the thread. They name no host. A program's name may have spaces, as `Google Chrome`.
 ghost use Rattle.std.specs.Prelude.{◌≡◌, chars, codes};
-ghost use Rattle.syslog_text.specs.Pieces.Class.{Row, exactly};
-ghost use Rattle.syslog_text.specs.Pieces.View.{Reads, Recognises};
+ghost use Rattle.syslog_text.specs.Pieces.Class.{Front, Row, exactly, optional};
+ghost use Rattle.syslog_text.specs.Pieces.View.{Reads, Recognises, shown};
 ghost use Rattle.syslog_named_forms.specs.Unified as spec;
 ghost use Rattle.syslog_sent.specs.Views.{Names, named_value};
 ghost use Rattle.syslog_sent.specs.Zone.{is_capital as is_capital_char};
 
+use crate::programs::words;
 use syslog_sent::named::{Named, Program, name, number, past, tagged};
 use syslog_sent::runs::{Run, split};
 use syslog_sent::skips::{close_bracket, colon, digits, gap, plain_word};
@@ -35,6 +36,33 @@ fn thread_end(text: &str) -> Option<&str>
         .and_then(gap)
 }
 
+// Returns the text after the number of days that an entry is kept, and blanks.
+fn kept(text: &str) -> Option<&str>
+    ensures { Recognises (Row spec.kept_row) (chars text.now) result }
+{
+    digits(text).and_then(gap)
+}
+
+fn past_kept(text: &str) -> &str
+    ensures { (v : (optional (Row spec.kept_row)).Value)
+        × Front (optional (Row spec.kept_row)) (chars text.now) (shown result) v }
+{
+    match kept(text) {
+        Some(rest) => rest,
+        None => text,
+    }
+}
+
+// Returns a program's name, of several words or of one, and the text after it.
+fn entry_name(text: &str) -> Option<(&str, &str)>
+    ensures { Reads spec.entry_name (λ t. shown t) (chars text.now) result }
+{
+    match words(text) {
+        Some(read) => Some(read),
+        None => name(text),
+    }
+}
+
 /// Reads a line of the unified log, from the thread on.
 #[inline(always)]
 pub(crate) fn unified(text: &str) -> Option<Named<'_>>
@@ -43,9 +71,7 @@ pub(crate) fn unified(text: &str) -> Option<Named<'_>>
     let at_id = thread_end(text)?;
     let (process, after_id) = number(at_id)?;
     let at_kept = some_blanks(after_id)?;
-    let after_kept = digits(at_kept)?;
-    let at_name = some_blanks(after_kept)?;
-    let (name, after_name) = name(at_name)?;
+    let (name, after_name) = entry_name(past_kept(at_kept))?;
     let rest = literal(after_name, ':')?;
     let program = Program {
         name,
@@ -98,7 +124,7 @@ pub(crate) fn compact(text: &str) -> Option<Named<'_>>
 {
     let after_kind = kind(text)?;
     let at_name = some_blanks(after_kind)?;
-    let (name, after_name) = name(at_name)?;
+    let (name, after_name) = entry_name(at_name)?;
     let at_id = literal(after_name, '[')?;
     let (process, after_id) = number(at_id)?;
     let after_thread = thread_close(after_id)?;

@@ -352,8 +352,8 @@ fn idrac(text: &str) -> Option<&str>
     past(text, "Severity: ")
 }
 
-fn is_level(word: &str) -> bool
-    ensures { result ≡ spec.is_level (chars word.now) }
+fn is_log4j_level(word: &str) -> bool
+    ensures { result ≡ spec.is_log4j_level (chars word.now) }
 {
     is_word(word, "TRACE")
         || (is_word(word, "DEBUG")
@@ -361,7 +361,16 @@ fn is_level(word: &str) -> bool
                 || (is_word(word, "WARN") || (is_word(word, "ERROR") || is_word(word, "FATAL")))))
 }
 
-fn level(text: &str) -> Option<&str>
+fn is_level(word: &str) -> bool
+    ensures { result ≡ spec.is_level (chars word.now) }
+{
+    is_log4j_level(word)
+        || (is_word(word, "WARNING")
+            || (is_word(word, "CRITICAL") || (is_word(word, "SEVERE") || is_word(word, "NOTICE"))))
+}
+
+/// Returns the text after a level.
+pub(crate) fn level(text: &str) -> Option<&str>
     ensures { Recognises (spec.mark_class Level) (chars text.now) result }
 {
     let (word, rest) = split_run(text, CharClass::Visible);

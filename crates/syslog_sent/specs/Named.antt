@@ -1,6 +1,7 @@
 -- What follows a date: a host, a program's name and the message. 37 is `%`, 40 `(`, 47 `/`, 91 `[`, 93 `]`, 95 `_`.
 use Rattle.std.proofs.Common.{inl, inr}
-use Rattle.std.specs.Prelude.{◌≡◌, ◌⊎◌, ◌&&◌, ℕ, Bool, false, nat_lt, not, true, nat_eq, ◌||◌, List, [], ◌∷◌, ◌++◌, Option, Some, None}
+use Rattle.std.specs.Prelude.{◌≡◌, ◌⊎◌, ◌&&◌, ℕ, Bool, false, nat_lt, not, true, nat_eq, ◌||◌, List, [], ◌∷◌, ◌++◌}
+use Rattle.std.specs.Prelude.{Option, Some, None}
 use Rattle.std.specs.Char.{is_ascii_alphabetic, is_ascii_digit}
 use Rattle.syslog_text.specs.Pieces.Class.{Text, Class, Values, Front, NoFront, Row, some_run, exactly, optional}
 use Rattle.syslog_text.specs.Pieces.Class.{mapped, texted}

@@ -64,9 +64,8 @@ fn past_point(text: &str) -> &str
     }
 }
 
-// Returns the fraction at the front, in nanoseconds, and the text after it. A fraction is a dot or a comma, and
-// decimals.
-/// Returns the fraction at the front, in nanoseconds, and the text after it.
+/// Returns the fraction at the front, in nanoseconds, and the text after it. A fraction is a dot or a comma, and
+/// decimals.
 #[inline(always)]
 pub fn fraction(text: &str) -> Option<(u32, &str)>
     ensures { Reads spec.fraction (λ n. n) (chars text.now) result }

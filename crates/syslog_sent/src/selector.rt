@@ -24,7 +24,8 @@ fn is_mild(word: &str) -> bool
             || (is_word(word, "notice") || (is_word(word, "info") || is_word(word, "debug"))))
 }
 
-fn is_severity(word: &str) -> bool
+/// Returns whether the word is a severity.
+pub fn is_severity(word: &str) -> bool
     ensures { result ≡ spec.is_severity (chars word.now) }
 {
     is_grave(word) || is_mild(word)

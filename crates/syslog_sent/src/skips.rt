@@ -1,5 +1,5 @@
-//! Readers of the small pieces between words: each returns the text after its piece, and none if the text does not begin
-//! with it. The forms are made of them and of the readers of names and dates.
+//! Readers of the small pieces between words: each returns the text after its piece, and none if the text does not
+//! begin with it. The forms are made of them and of the readers of names and dates.
 ghost use Rattle.std.specs.Prelude.{◌∷◌, [], chars, codes};
 ghost use Rattle.std.specs.Char.{is_ascii_digit};
 ghost use Rattle.syslog_text.specs.Pieces.Class.{Front, exactly, run, some_run};

@@ -22,11 +22,13 @@ returns-in_err-at_host c = rw c.from_residual-in_err-at_host.ensures (no_row hea
 
 pub returns-in_err-hostname : goal.returns-in_err-hostname
 returns-in_err-hostname c = rw c.from_residual-in_err-hostname.ensures (no_row head_row head_det
-    (c.in_ok-version.ensures past c.in_ok-at_date.ensures past c.in_ok-date.ensures past c.in_ok-at_host.ensures past inl c.in_err-hostname.ensures))
+    (c.in_ok-version.ensures past c.in_ok-at_date.ensures past c.in_ok-date.ensures past c.in_ok-at_host.ensures past
+    inl c.in_err-hostname.ensures))
 
 pub returns-in_err-rest : goal.returns-in_err-rest
 returns-in_err-rest c = rw c.from_residual-in_err-rest.ensures (no_row head_row head_det
-    (c.in_ok-version.ensures past c.in_ok-at_date.ensures past c.in_ok-date.ensures past c.in_ok-at_host.ensures past c.in_ok-hostname.ensures past inl c.in_err-rest.ensures))
+    (c.in_ok-version.ensures past c.in_ok-at_date.ensures past c.in_ok-date.ensures past c.in_ok-at_host.ensures past
+    c.in_ok-hostname.ensures past inl c.in_err-rest.ensures))
 
 pub returns : goal.returns
 returns c = row_of head_row (c.in_ok-version.ensures then c.in_ok-at_date.ensures then c.in_ok-date.ensures then

@@ -19,29 +19,18 @@ pub returns-in_err-at_kept : goal.returns-in_err-at_kept
 returns-in_err-at_kept c = rw c.from_residual-in_err-at_kept.ensures (unread log_row log_det NamedTexts log_of
     (c.in_ok-at_id.ensures.1 past c.in_ok-process.ensures past inl c.in_err-at_kept.ensures))
 
-pub returns-in_err-after_kept : goal.returns-in_err-after_kept
-returns-in_err-after_kept c = rw c.from_residual-in_err-after_kept.ensures (unread log_row log_det NamedTexts log_of
-    (c.in_ok-at_id.ensures.1 past c.in_ok-process.ensures past c.in_ok-at_kept.ensures past
-    inl c.in_err-after_kept.ensures))
-
-pub returns-in_err-at_name : goal.returns-in_err-at_name
-returns-in_err-at_name c = rw c.from_residual-in_err-at_name.ensures (unread log_row log_det NamedTexts log_of
-    (c.in_ok-at_id.ensures.1 past c.in_ok-process.ensures past c.in_ok-at_kept.ensures past
-    c.in_ok-after_kept.ensures.1 past inl c.in_err-at_name.ensures))
-
 pub returns-in_err-name : goal.returns-in_err-name
 returns-in_err-name c = rw c.from_residual-in_err-name.ensures (unread log_row log_det NamedTexts log_of
     (c.in_ok-at_id.ensures.1 past c.in_ok-process.ensures past c.in_ok-at_kept.ensures past
-    c.in_ok-after_kept.ensures.1 past c.in_ok-at_name.ensures past inl c.in_err-name.ensures))
+    c.past_kept.ensures.1 past inl c.in_err-name.ensures))
 
 pub returns-in_err-rest : goal.returns-in_err-rest
 returns-in_err-rest c = rw c.from_residual-in_err-rest.ensures (unread log_row log_det NamedTexts log_of
     (c.in_ok-at_id.ensures.1 past c.in_ok-process.ensures past c.in_ok-at_kept.ensures past
-    c.in_ok-after_kept.ensures.1 past c.in_ok-at_name.ensures past c.in_ok-name.ensures past
-    inl c.in_err-rest.ensures))
+    c.past_kept.ensures.1 past c.in_ok-name.ensures past inl c.in_err-rest.ensures))
 
 pub returns : goal.returns
 returns c = rw c.tagged.ensures (mapped_front (Row log_row) NamedTexts log_of (row_of log_row
     (c.in_ok-at_id.ensures.1 then c.in_ok-process.ensures then c.in_ok-at_kept.ensures then
-    c.in_ok-after_kept.ensures.1 then c.in_ok-at_name.ensures then c.in_ok-name.ensures then
-    c.in_ok-rest.ensures then c.blanks.ensures then rest_front _ then refl)))
+    c.past_kept.ensures.1 then c.in_ok-name.ensures then c.in_ok-rest.ensures then c.blanks.ensures
+    then rest_front _ then refl)))
