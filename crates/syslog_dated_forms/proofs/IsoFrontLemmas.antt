@@ -1,13 +1,14 @@
 -- A text that begins with a date that is nearly one of RFC 3339: no form with another beginning divides it.
 use Rattle.std.proofs.Common.{◌≡◌, ◌⊎◌, inl, inr, ℕ, ◌<◌, true, false, [], ◌∷◌, ◌++◌, length, Option, Some}
-use Rattle.std.proofs.Common.{refl, sym, ap, subst, ◌∙◌, arith, get_or, drop}
+use Rattle.std.proofs.Common.{Bool, refl, sym, ap, subst, ◌∙◌, arith, drop}
+use Rattle.std.specs.Prelude.{◌||◌}
 use Rattle.std.proofs.lemmas.Bool.Decides.{nat_tests}
 use Rattle.std.specs.Char.{is_ascii_digit}
-use Rattle.syslog_text.specs.Pieces.Class.{Text, Each, Ends, Front, NoDivision, NoFront, Row, exactly}
+use Rattle.syslog_text.specs.Pieces.Class.{Text, Values, Each, Ends, Front, NoDivision, NoFront, Row, after, exactly}
 use Rattle.syslog_text.specs.Pieces.Class.{run, some_run}
 use Rattle.syslog_text.specs.Text.{is_blank, is_tag_char, colon}
 use Rattle.syslog_pieces.specs.Timestamp.Rfc3339.{pair, year}
-use Rattle.syslog_text.proofs.PieceLemmas.Class.{◌past◌, ◌then◌, each_append, each_map, front_of, front_same}
+use Rattle.syslog_text.proofs.PieceLemmas.Class.{◌past◌, ◌then◌, each_after, each_append, each_map, front_of, front_same}
 use Rattle.syslog_text.proofs.PieceLemmas.Class.{mapped_front, no_mapped}
 use Rattle.syslog_text.proofs.PieceLemmas.Class.{no_row, no_row_division, optional_none, optional_some, row_of}
 use Rattle.syslog_text.proofs.PieceLemmas.Class.{row_pieces}
@@ -27,7 +28,8 @@ use Rattle.syslog_dated_forms.specs.DatedForms.{journal_forms}
 use Rattle.syslog_sent.specs.Forms.{IsOfNone}
 use Rattle.syslog_dated_forms.specs.IosXr.{card_row, host, host_in, host_row, node, xr_row}
 use Rattle.syslog_sent.specs.Named.{BeginsWith}
-use Rattle.syslog_dated_forms.specs.NetScaler.{netscaler_row, slashed_date, slashed_of, slashed_row, unnamed_row}
+use Rattle.syslog_dated_forms.specs.NetScaler.{month_first_row, netscaler_row, slashed_date, slashed_day, slashed_of}
+use Rattle.syslog_dated_forms.specs.NetScaler.{slashed_row, unnamed_row, year_first_row}
 use Rattle.syslog_dated_forms.specs.OpenWrt.{logread_row}
 use Rattle.syslog_dated_forms.specs.SophosUtm.{colon_of, colon_row, utm_row}
 use Rattle.syslog_dated_forms.specs.UnixSeconds.{meraki_row, short_row, typed_row, unix_date, unix_of, unix_row}
@@ -78,7 +80,14 @@ pub record IsSpaced (u : Text) : Type 0 where
   pub first : is_ascii_digit x ≡ true
   pub second : is_ascii_digit y ≡ true
 
--- the year, the mark after it, and the word
+-- digits and slashes
+abbrev is_slashed : ℕ → Bool
+is_slashed c = is_ascii_digit c || nat_eq c 47
+
+no_mark : is_slashed 84 ≡ true → ⊥
+no_mark h = absurd (let k : false ≡ true = h in cc)
+
+-- the year, the mark after it, and the word, in which a `T` is if a colon follows it
 pub record HasIso (t : Text) : Type 0 where
   pub a : ℕ
   pub b : ℕ
@@ -94,6 +103,7 @@ pub record HasIso (t : Text) : Type 0 where
   pub found : Front bare_word t left word
   pub words : Each is_word_char word
   pub ends : IsTied left ⊎ IsSpaced left
+  marked : IsTied left → Each is_slashed word → ⊥
 
 -- two digits
 record IsPair (p : Text) : Type 0 where
@@ -183,6 +193,7 @@ record IsWord (u : Text) : Type 0 where
   found : Front bare_word u left word
   words : Each is_word_char word
   ends : IsTied left ⊎ IsSpaced left
+  marked : IsTied left → Each is_slashed word → ⊥
 
 -- the hour, and a colon and the minutes after it
 record IsClock (u : Text) : Type 0 where
@@ -215,6 +226,7 @@ after_mid d mid {u3} {u4} each words some whole (inl tied) k =
           (longer (84 ∷ []) (refl, tt) hour));
       words = each_append is_word_char d (84 ∷ k.h) words (refl, pair_words k.h k.hour);
       ends = inl (record { x = k.x; more = k.more; is = k.minutes; digit = k.digit });
+      marked = λ tied each. no_mark (each_after is_slashed d (84 ∷ k.h) each).0;
     }
 after_mid d mid {u3} {u4} each words some whole (inr spaced) k =
     let t : u3 ≡ 32 ∷ u4 = whole ∙ ap (λ (z : Text). z ++ u4) spaced in
@@ -233,6 +245,7 @@ after_mid d mid {u3} {u4} each words some whole (inr spaced) k =
         first = k.hour.first;
         second = k.hour.second;
       });
+      marked = λ tied each. absurd (omega (arith, at 0 (sym t ∙ tied.is)));
     }
 
 mid_told : (p q : Text) (v : middle.Value) → middle.Is p q v → (p ≡ 84 ∷ []) ⊎ (p ≡ 32 ∷ [])
@@ -265,6 +278,7 @@ with_year y m {t} {u1} {u2} at_year at_month year month w =
           (rw year.is (digits_word (year.a ∷ year.b ∷ year.c ∷ year.d ∷ []) year.digits))
           (each_append is_word_char m w.word month.words w.words);
       ends = w.ends;
+      marked = λ tied each. w.marked tied (each_after is_slashed m w.word (each_after is_slashed y (m ++ w.word) each));
     }
 
 pub has_iso : {t r : Text} {d : SentDate} → Front iso_date t r d → HasIso t
@@ -289,6 +303,24 @@ has_iso f =
     (after_mid d.piece mid.piece day.tags day.words (part_long d.piece day)
     mid.whole (mid_told mid.piece u4 _ mid.is) clock) in
     with_year y.piece m.piece y.whole m.whole (year_digits y.piece u1 _ y.is) (part_told m.piece u2 _ m.is) at_day
+
+-- ---- days with slashes
+
+digits_slashed : (t : Text) → Each is_ascii_digit t → Each is_slashed t
+digits_slashed = each_map is_ascii_digit is_slashed (λ c h. grind (arith, nat_tests, h))
+
+slashed_tags : (t : Text) → Each is_slashed t → Each is_tag_char t
+slashed_tags = each_map is_slashed is_tag_char (λ c h. grind (arith, nat_tests, h))
+
+slashed_two : (p q : Text) (n : ℕ) → (after 47 (pair 100)).Is p q n → Each is_slashed p
+slashed_two p q n (t, is, h) =
+    let two = pair_digits t q n h in
+    let digits : Each is_slashed t = subst (λ (x : Text). Each is_slashed x) (sym two.is)
+    (digits_slashed (two.x ∷ two.y ∷ []) (two.first, (two.second, tt))) in
+    rw is (refl, digits)
+
+two_long : (p q : Text) (n : ℕ) → (after 47 (pair 100)).Is p q n → 0 < length p
+two_long p q n (t, is, h) = rw is (omega arith)
 
 -- ---- what does not begin the text
 
@@ -405,13 +437,46 @@ module _ {t : Text} (m : HasIso t) where
       Text). BeginsWith is_capital x)
       (ap (λ (x : Text). x ++ q) is ∙ sym e ∙ m.is) (day_capital v q k))
 
+  month_not_first : NoFront (Row month_first_row) t
+  month_not_first p q vs e h =
+      let (u, x, (w, y, more)) = row_pieces month_first_row (front_of p e h) in
+      let (n, is, fits) = y.is in
+      let two = pair_digits x.piece u _ x.is in
+      digit_is m.c 47 m.digits.1.1.0 refl (at 2 (sym m.is ∙ x.whole ∙ ap (λ (z : Text). z ++ u) two.is
+      ∙ ap (λ (z : Text). two.x ∷ two.y ∷ z) (y.whole ∙ ap (λ (z : Text). z ++ w) is)))
+
+  -- a day with slashes has no `T` before the colon, and no space
+  year_not_first : (s q : Text) {vs : Values year_first_row} → q ≡ 58 ∷ s → Front (Row year_first_row) t q vs → ⊥
+  year_not_first s q follows f =
+      let (u, x, (v, y, (w, z, ends))) = row_pieces year_first_row f in
+      let y4 = year_digits x.piece u _ x.is in
+      let year : Each is_slashed x.piece = rw y4.is (digits_slashed (y4.a ∷ y4.b ∷ y4.c ∷ y4.d ∷ []) y4.digits) in
+      let month = slashed_two y.piece v _ y.is in
+      let day = slashed_two z.piece w _ z.is in
+      let left : w ≡ 58 ∷ s = ends ∙ follows in
+      let at_day : Front bare_word v w z.piece = subst (λ (k : Text). Front bare_word k w z.piece) (sym z.whole)
+      (word_of z.piece w (two_long z.piece w _ z.is) (slashed_tags z.piece day) (rw left refl)) in
+      let at_month : Front bare_word u w (y.piece ++ z.piece) = subst
+      (λ (k : Text). Front bare_word k w (y.piece ++ z.piece)) (sym y.whole)
+      (longer y.piece (slashed_tags y.piece month) at_day) in
+      let found : Front bare_word t w (x.piece ++ (y.piece ++ z.piece)) = subst
+      (λ (k : Text). Front bare_word k w (x.piece ++ (y.piece ++ z.piece))) (sym x.whole)
+      (longer x.piece (slashed_tags x.piece year) at_month) in
+      let same = front_same bare_word bare_word_det found m.found in
+      elim m.ends [
+        | inl tied ↦ m.marked tied (subst (λ (k : Text). Each is_slashed k) same.1
+            (each_append is_slashed x.piece _ year (each_append is_slashed y.piece z.piece month day)))
+        | inr spaced ↦ absurd (omega (arith, at 0 (sym left ∙ same.0 ∙ spaced.is)))
+      ]
+
   no_slashed_date : NoFront slashed_date t
   no_slashed_date = no_mapped (Row slashed_row) SentDate slashed_of (λ p q vs e h.
       let (u, x, (w, y, more)) = row_pieces slashed_row (front_of p e h) in
       let (n, is, fits) = y.is in
-      let two = pair_digits x.piece u _ x.is in
-      digit_is m.c 47 m.digits.1.1.0 refl (at 2 (sym m.is ∙ x.whole ∙ ap (λ (z : Text). z ++ u) two.is
-      ∙ ap (λ (z : Text). two.x ∷ two.y ∷ z) (y.whole ∙ ap (λ (z : Text). z ++ w) is))))
+      no_slashed_day x.piece u (n ++ w) (y.whole ∙ ap (λ (z : Text). z ++ w) is) x.whole x.is) where
+        no_slashed_day : (p q s : Text) {v : slashed_day.Value} → q ≡ 58 ∷ s → t ≡ p ++ q → slashed_day.Is p q v → ⊥
+        no_slashed_day p q s follows e (inl v, h, i) = month_not_first p q v e h
+        no_slashed_day p q s follows e (inr v, (n, h), i) = year_not_first s q follows (front_of p e h)
 
   no_colon_date : NoFront (Row colon_row) t
   no_colon_date p q vs e h = let (u, x, (w, y, more)) = row_pieces colon_row (front_of p e h) in

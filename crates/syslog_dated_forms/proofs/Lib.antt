@@ -5,6 +5,7 @@ pub mod EsxiLemmas
 pub mod FiledLemmas
 pub mod InBracketsLemmas
 pub mod IsoFrontLemmas
+pub mod KiwiLemmas
 pub mod LedFormLemmas
 pub mod MarkLemmas
 pub mod MonthFrontLemmas

@@ -27,6 +27,7 @@ use Rattle.syslog_dated_forms.proofs.InBracketsLemmas.{in_brackets_det}
 use Rattle.syslog_text.proofs.PieceLemmas.Class.{optional_none, row_of, row_pieces}
 use Rattle.syslog_text.proofs.PieceLemmas.Lists.{Begins, begins, begins_apart}
 use Rattle.syslog_sent.proofs.NamedLemmas.{no_otherwise}
+use Rattle.syslog_sent.specs.Named.{◌otherwise◌}
 use Rattle.std.proofs.lemmas.Bool.{and_parts}
 use Rattle.std.specs.Prelude.{nat_eq, not}
 use Rattle.syslog_dated_forms.specs.Address.{address, is_address_char}
@@ -49,7 +50,8 @@ use Rattle.syslog_dated_forms.specs.Cisco.{dated_in}
 use Rattle.syslog_dated_forms.specs.DatedForms.{journal_forms}
 use Rattle.syslog_sent.specs.Forms.{IsOfNone}
 use Rattle.syslog_dated_forms.specs.IosXr.{IsNode, card_row, host, host_in, host_row, node, xr_row}
-use Rattle.syslog_dated_forms.specs.NetScaler.{netscaler_row, slashed_date, slashed_of, slashed_row, unnamed_row}
+use Rattle.syslog_dated_forms.specs.NetScaler.{day_of, month_first_row, netscaler_row, slashed_date, slashed_of}
+use Rattle.syslog_dated_forms.specs.NetScaler.{slashed_row, unnamed_row, year_first_row}
 use Rattle.syslog_dated_forms.specs.OpenWrt.{logread_row}
 use Rattle.syslog_sent.specs.Runs.{are_ascii}
 use Rattle.syslog_dated_forms.specs.SophosUtm.{colon_of, colon_row, utm_row}
@@ -63,7 +65,8 @@ use Rattle.syslog_dated_forms.proofs.DatedLemmas.{year_line_det}
 use Rattle.syslog_sent.proofs.LedLemmas.{year_begins}
 use Rattle.syslog_sent.proofs.NamedLemmas.{ascii_told}
 use Rattle.syslog_dated_forms.proofs.OtherDateLemmas.{card_row_det, colon_row_det, logread_row_det, netscaler_row_det}
-use Rattle.syslog_dated_forms.proofs.OtherDateLemmas.{slashed_row_det, unnamed_row_det, utm_row_det, xr_row_det}
+use Rattle.syslog_dated_forms.proofs.OtherDateLemmas.{month_first_row_det, slashed_row_det, unnamed_row_det}
+use Rattle.syslog_dated_forms.proofs.OtherDateLemmas.{utm_row_det, xr_row_det, year_first_row_det}
 use Rattle.syslog_dated_forms.specs.Ucm.{ucm_row}
 use Rattle.syslog_dated_forms.proofs.UcmLemmas.{ucm_row_det}
 use Rattle.syslog_dated_forms.proofs.UnixLemmas.{meraki_row_det, short_row_det, typed_row_det, unix_row_det}
@@ -378,7 +381,9 @@ module _ {text t : Text} (gap : Front (run is_blank) text t tt) (m : HasMonth t)
 
   no_slashed_date : NoFront slashed_date t
   no_slashed_date = no_mapped (Row slashed_row) SentDate slashed_of (no_row slashed_row slashed_row_det
-      (inl (no_low m (pair 100) (λ p q v h. rw h.0 (omega (arith, h.1))))))
+      (inl (no_mapped (Row month_first_row otherwise Row year_first_row) (ℕ × (ℕ × ℕ)) day_of (no_otherwise
+      (no_row month_first_row month_first_row_det (inl (no_low m (pair 100) (λ p q v h. rw h.0 (omega (arith, h.1))))))
+      (no_row year_first_row year_first_row_det (inl (no_year m)))))))
 
   no_year_date : NoFront year_date t
   no_year_date = no_mapped (Row year_date_row) SentDate (λ v. dated_in (Some v.0) v.1.0)

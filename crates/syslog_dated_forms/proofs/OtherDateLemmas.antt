@@ -1,5 +1,5 @@
 -- A text has one division into each row of IOS-XR, NetScaler, ProCurve, Sophos UTM and OpenWrt.
-use Rattle.std.proofs.Common.{Option, arith}
+use Rattle.std.proofs.Common.{Option, ℕ, arith}
 use Rattle.std.specs.Char.{is_ascii_digit}
 use Rattle.syslog_text.specs.Pieces.Class.{IsDeterministic, Text, Row, exactly, some_run}
 use Rattle.syslog_text.specs.Text.{is_blank, colon, host as any_host}
@@ -10,17 +10,18 @@ use Rattle.syslog_text.proofs.PieceLemmas.Class.{optional_det}
 use Rattle.syslog_text.proofs.PieceLemmas.Class.{rest_det, row_det, run_det, some_run_det, texted_det}
 use Rattle.syslog_text.proofs.PieceLemmas.Rules.{such_det}
 use Rattle.syslog_text.proofs.TextLemmas.Words.{host_det}
-use Rattle.syslog_sent.specs.Named.{BeginsWith, is_letter}
+use Rattle.syslog_sent.specs.Named.{◌otherwise◌, BeginsWith, is_letter}
 use Rattle.syslog_pieces.proofs.TimestampLemmas.Rfc3339.{pair_det, year_det}
 use Rattle.syslog_dated_forms.specs.Cisco.{counter_row, date_row}
 use Rattle.syslog_dated_forms.specs.IosXr.{IsNode, card_row, host, host_in, host_row, process_in, process_row, xr_row}
-use Rattle.syslog_dated_forms.specs.NetScaler.{netscaler_row, slashed_date, slashed_of, slashed_row, unnamed_row}
+use Rattle.syslog_dated_forms.specs.NetScaler.{day_of, month_first_row, netscaler_row, slashed_date, slashed_of}
+use Rattle.syslog_dated_forms.specs.NetScaler.{slashed_row, unnamed_row, year_first_row}
 use Rattle.syslog_sent.specs.Date.{IsDay}
 use Rattle.syslog_dated_forms.specs.OpenWrt.{logread_row}
 use Rattle.syslog_sent.specs.Selector.{selector_row}
 use Rattle.syslog_dated_forms.specs.ProCurve.{IsSwitch, procurve_row}
 use Rattle.syslog_dated_forms.specs.SophosUtm.{colon_of, colon_row, utm_row}
-use Rattle.syslog_sent.proofs.NamedLemmas.{program_det, selector_det}
+use Rattle.syslog_sent.proofs.NamedLemmas.{otherwise_det, program_det, selector_det}
 use Rattle.syslog_sent.specs.Zone.{bare_word, zone}
 use Rattle.syslog_sent.specs.declared.sent.SentDate.{SentDate}
 use Rattle.syslog_dated_forms.proofs.CiscoLemmas.{counter_row_det, date_row_det, origin_det}
@@ -47,10 +48,17 @@ xr_row_det = mapped_det (Row card_row) (Option Text) host_in (row_det card_row c
     also row_det date_row date_row_det
     also mapped_det (Row process_row) (Text × (Text × Text)) process_in (row_det process_row process_row_det) also tt
 
+pub month_first_row_det : AllDeterministic month_first_row
+month_first_row_det = pair_det 100 (omega arith) also after_det (pair 100) (pair_det 100 (omega arith))
+    also after_det year year_det also tt
+
+pub year_first_row_det : AllDeterministic year_first_row
+year_first_row_det = year_det also after_det (pair 100) (pair_det 100 (omega arith))
+    also after_det (pair 100) (pair_det 100 (omega arith)) also tt
+
 pub slashed_row_det : AllDeterministic slashed_row
-slashed_row_det =
-    let two = after_det (pair 100) (pair_det 100 (omega arith)) in
-    pair_det 100 (omega arith) also two also after_det year year_det
+slashed_row_det = mapped_det (Row month_first_row otherwise Row year_first_row) (ℕ × (ℕ × ℕ)) day_of
+    (otherwise_det (row_det month_first_row month_first_row_det) (row_det year_first_row year_first_row_det))
     also after_det (pair 100) (pair_det 100 (omega arith)) also after_det (pair 100) (pair_det 100 (omega arith))
     also after_det (pair 100) (pair_det 100 (omega arith)) also optional_det zone zone_det also tt
 

@@ -7,7 +7,7 @@ use Rattle.syslog_text.proofs.PieceLemmas.Class.{AllDeterministic, ◌also◌, e
 use Rattle.syslog_text.proofs.PieceLemmas.Class.{row_det, run_det}
 use Rattle.syslog_pieces.proofs.TimestampLemmas.MonthDate.{month_date_det}
 use Rattle.syslog_dated_forms.specs.Cisco.{counter_row, label, message_row}
-use Rattle.syslog_dated_forms.specs.Ucm.{afternoon, half, half_date, half_of, half_row, is_late, morning, ucm_row}
+use Rattle.syslog_dated_forms.specs.Ucm.{afternoon, half, half_of, half_row, is_late, morning, ucm_row}
 use Rattle.syslog_dated_forms.proofs.CiscoLemmas.{counter_row_det, label_det, message_row_det}
 use Rattle.syslog_sent.proofs.DateLemmas.{fraction_row_det}
 use Rattle.syslog_sent.proofs.NamedLemmas.{otherwise_det}

@@ -4,6 +4,7 @@ use Rattle.syslog_dated_forms.specs.Cisco.{cisco_forms}
 use Rattle.syslog_dated_forms.specs.Container.{container_form}
 use Rattle.syslog_dated_forms.specs.Dated.{bsd_form, ctime_form, ctime_message_form, iso_form, journal_form, year_form}
 use Rattle.syslog_dated_forms.specs.Esxi.{esxi_form}
+use Rattle.syslog_dated_forms.specs.Kiwi.{kiwi_form}
 use Rattle.syslog_dated_forms.specs.Filed.{filed_forms}
 use Rattle.syslog_dated_forms.specs.InBrackets.{in_brackets_form}
 use Rattle.syslog_dated_forms.specs.IosXr.{xr_form}
@@ -61,8 +62,11 @@ journal_forms = journal_form ∷ ucm_forms
 abbrev pub procurve_forms : List Form
 procurve_forms = procurve_form ∷ journal_forms
 
+abbrev pub kiwi_forms : List Form
+kiwi_forms = kiwi_form ∷ procurve_forms
+
 abbrev pub esxi_forms : List Form
-esxi_forms = esxi_form ∷ procurve_forms
+esxi_forms = esxi_form ∷ kiwi_forms
 
 abbrev pub container_forms : List Form
 container_forms = container_form ∷ esxi_forms

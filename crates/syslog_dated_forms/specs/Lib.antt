@@ -8,6 +8,7 @@ pub mod Esxi
 pub mod Filed
 pub mod InBrackets
 pub mod IosXr
+pub mod Kiwi
 pub mod NetScaler
 pub mod NetScalerViews
 pub mod OpenWrt

@@ -9,6 +9,7 @@ ghost use Rattle.syslog_sent.specs.DateViews.{bsd_values};
 ghost use Rattle.syslog_sent.specs.Forms.{Finds};
 ghost use Rattle.syslog_dated_forms.specs.Esxi.{esxi_form};
 ghost use Rattle.syslog_dated_forms.specs.Filed.{filed_forms};
+ghost use Rattle.syslog_dated_forms.specs.Kiwi.{kiwi_form};
 ghost use Rattle.syslog_sent.specs.Led.{IsLed, IsUnled};
 ghost use Rattle.syslog_sent.specs.Sent.{Sends};
 ghost use Rattle.syslog_dated_forms.specs.DatedForms as spec;
@@ -21,6 +22,7 @@ use crate::esxi::read_esxi;
 use crate::filed::read_filed;
 use crate::in_brackets::read_in_brackets;
 use crate::ios_xr::read_ios_xr;
+use crate::kiwi::read_kiwi;
 use crate::netscaler::{read_netscaler, read_unnamed};
 use crate::open_wrt::read_logread;
 use crate::procurve::read_procurve;
@@ -96,6 +98,16 @@ fn of_esxi<'a>(led: &Led<'a>) -> Option<Sent<'a>>
     }
 }
 
+// Returns what a line of Kiwi's says, which never begins with a month date.
+fn of_kiwi<'a>(led: &Led<'a>) -> Option<Sent<'a>>
+    ensures { (text : Text) → IsLed text led.now → Sends kiwi_form text result }
+{
+    match led.date {
+        LeadingDate::Month(_) => None,
+        LeadingDate::Iso(date) => read_kiwi(date, led.rest),
+    }
+}
+
 // Returns what a line of a container's log file says, which never begins with a month date.
 fn of_container<'a>(led: &Led<'a>) -> Option<Sent<'a>>
     ensures { (text : Text) → IsLed text led.now → Sends container_form text result }
@@ -116,6 +128,9 @@ fn from_led<'a>(led: &Led<'a>) -> Option<(Dialect, Sent<'a>)>
     }
     if let Some(sent) = of_esxi(led) {
         return Some((Dialect::Esxi, sent));
+    }
+    if let Some(sent) = of_kiwi(led) {
+        return Some((Dialect::SeverityFirst, sent));
     }
     if let Some(sent) = read_procurve(led.sent, led.rest) {
         return Some((Dialect::ProCurve, sent));

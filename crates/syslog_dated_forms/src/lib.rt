@@ -14,6 +14,7 @@ mod esxi;
 mod filed;
 mod in_brackets;
 mod ios_xr;
+mod kiwi;
 mod netscaler;
 mod open_wrt;
 mod procurve;

@@ -1,14 +1,14 @@
 //! Lines of Citrix NetScaler (ADC): `03/02/2026:06:33:04 GMT ns1 0-PPE-0 : default TCP CONN_TERMINATE ..`.
 //!
-//! **Rule.** The month comes first, as in the appliance's default setting (Citrix, "Audit logging": date format
-//! MMDDYYYY). Two spaces after the date are around the name of an appliance that has none; then the packet engine is
-//! the program. Otherwise what follows is read as the port reads it.
-ghost use Rattle.std.specs.Prelude.{◌≡◌, ◌∷◌, [], chars};
-ghost use Rattle.syslog_text.specs.Pieces.Class.{Row, after, exactly};
-ghost use Rattle.syslog_text.specs.Pieces.View.{Reads, Recognises};
+//! **Rule.** The month comes first, as in the appliance's default setting, or the year (Citrix, "Audit logging": date
+//! formats MMDDYYYY and YYYYMMDD; of DDMMYYYY nothing tells a line). Two spaces after the date are around the name of an
+//! appliance that has none; then the packet engine is the program. Otherwise what follows is read as the port reads it.
+ghost use Rattle.std.specs.Prelude.{◌≡◌, chars};
+ghost use Rattle.syslog_text.specs.Pieces.Class.{Row, after};
+ghost use Rattle.syslog_text.specs.Pieces.View.{Reads};
 ghost use Rattle.syslog_pieces.specs.Timestamp.Rfc3339.{year as any_year};
 ghost use Rattle.syslog_sent.specs.Sent.{Sends};
-ghost use Rattle.syslog_dated_forms.specs.NetScalerViews.{slashed_values};
+ghost use Rattle.syslog_dated_forms.specs.NetScalerViews.{day_value, month_first_values, slashed_values, year_first_values};
 ghost use Rattle.syslog_dated_forms.specs.NetScaler as spec;
 
 use crate::dated::says;
@@ -17,9 +17,8 @@ use crate::tail::read_wide_tail;
 use syslog_pieces::timestamp::MonthDate;
 use syslog_pieces::timestamp::pairs::{pair, pair_after, year};
 use syslog_sent::date::optional_zone;
-use syslog_sent::named::past;
 use syslog_sent::sent::{Sent, SentDate};
-use syslog_sent::skips::{colon, gap};
+use syslog_sent::skips::{colon, gap, two_spaces};
 use syslog_text::text::{blanks, literal};
 
 // Returns a year after a slash, and the text after it.
@@ -30,12 +29,45 @@ fn slashed_year(text: &str) -> Option<(u16, &str)>
     year(rest)
 }
 
+/// A day of the calendar.
+#[derive(Clone, Copy)]
+struct Day {
+    year: u16,
+    month: u32,
+    day: u32,
+}
+
+fn month_first(text: &str) -> Option<(Day, &str)>
+    ensures { Reads (Row spec.month_first_row) month_first_values (chars text.now) result }
+{
+    let (month, rest) = pair(text, 100)?;
+    let (day, rest) = pair_after(rest, '/', 100)?;
+    let (year, rest) = slashed_year(rest)?;
+    Some((Day { year, month, day }, rest))
+}
+
+fn year_first(text: &str) -> Option<(Day, &str)>
+    ensures { Reads (Row spec.year_first_row) year_first_values (chars text.now) result }
+{
+    let (year, rest) = year(text)?;
+    let (month, rest) = pair_after(rest, '/', 100)?;
+    let (day, rest) = pair_after(rest, '/', 100)?;
+    Some((Day { year, month, day }, rest))
+}
+
+fn slashed_day(text: &str) -> Option<(Day, &str)>
+    ensures { Reads spec.slashed_day day_value (chars text.now) result }
+{
+    if let Some(found) = month_first(text) {
+        return Some(found);
+    }
+    year_first(text)
+}
+
 /// The numbers of a date with slashes.
 #[derive(Clone, Copy)]
 struct SlashedDate {
-    month: u32,
-    day: u32,
-    year: u16,
+    day: Day,
     hour: u32,
     minute: u32,
     second: u32,
@@ -47,9 +79,9 @@ impl SlashedDate {
         ensures { result ≡ spec.slashed_of (slashed_values self) }
     {
         let date = MonthDate {
-            year: Some(u32::from(self.year)),
-            month: self.month,
-            day: self.day,
+            year: Some(u32::from(self.day.year)),
+            month: self.day.month,
+            day: self.day.day,
             hour: self.hour,
             minute: self.minute,
             second: self.second,
@@ -65,17 +97,13 @@ impl SlashedDate {
 fn slashed(text: &str) -> Option<(SlashedDate, &str)>
     ensures { Reads (Row spec.slashed_row) slashed_values (chars text.now) result }
 {
-    let (month, rest) = pair(text, 100)?;
-    let (day, rest) = pair_after(rest, '/', 100)?;
-    let (year, rest) = slashed_year(rest)?;
+    let (day, rest) = slashed_day(text)?;
     let (hour, rest) = pair_after(rest, ':', 100)?;
     let (minute, rest) = pair_after(rest, ':', 100)?;
     let (second, rest) = pair_after(rest, ':', 100)?;
     let (zone, rest) = optional_zone(rest);
     let shown = SlashedDate {
-        month,
         day,
-        year,
         hour,
         minute,
         second,
@@ -97,12 +125,6 @@ pub(crate) fn read_netscaler(text: &str) -> Option<Sent<'_>>
 {
     let (date, rest) = slashed_date(blanks(text))?;
     Some(says(date, read_wide_tail(rest)))
-}
-
-fn two_spaces(text: &str) -> Option<&str>
-    ensures { Recognises (exactly (32 ∷ 32 ∷ [])) (chars text.now) result }
-{
-    past(text, "  ")
 }
 
 /// Returns what a line of a NetScaler without a name says.

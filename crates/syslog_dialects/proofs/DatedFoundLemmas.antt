@@ -34,6 +34,7 @@ use Rattle.syslog_dated_forms.specs.DatedForms as dated
 use Rattle.syslog_dated_forms.specs.DatedForms.{xr_forms}
 use Rattle.syslog_dialects.specs.Dialects.{dated_forms}
 use Rattle.syslog_dated_forms.specs.Esxi.{esxi_row, esxi_sent, mark_row}
+use Rattle.syslog_dated_forms.specs.Kiwi.{kiwi_row, kiwi_sent, level_row}
 use Rattle.syslog_dated_forms.specs.Filed.{IsAny, filed_forms, filed_row, filed_sent}
 use Rattle.syslog_dated_forms.specs.InBrackets.{in_brackets_row, in_brackets_sent, stamp}
 use Rattle.syslog_dialects.specs.Found.{AreFound, Date, IsDateOf, IsTold, Name, Part}
@@ -486,6 +487,12 @@ esxi_found h = before_rest (left_of dialect.Esxi h) (take 7 esxi_row)
     (blanks also an_iso_date also a_gap also passed (Row mark_row) (λ p q v is. inr (inl (v, is))) also a_gap
     also a_program also blanks also tt)
 
+kiwi_found : RowFound dialect.SeverityFirst kiwi_row kiwi_sent
+kiwi_found h = before_rest (left_of dialect.SeverityFirst h) (take 6 kiwi_row)
+    (blanks also an_iso_date
+    also passed (Row level_row) (λ p q v is. inr (inr (inr (inr (inr (inr (inr (inl (v, is)))))))))
+    also a_host also a_sign 9 refl also blanks also tt)
+
 procurve_found : RowFound dialect.ProCurve procurve_row procurve_sent
 procurve_found h = before_rest (left_of dialect.ProCurve h) (take 10 procurve_row)
     (blanks also an_any_date also a_gap also such host IsSwitch a_host also a_gap
@@ -555,6 +562,7 @@ xr_all =
     said_so dialect.CiscoIosXr xr_row xr_sent xr_found
     also said dialect.Container container_row (λ v. loose (Some v.1.0) None None None v.1.1.1.0) container_found
     also said dialect.Esxi esxi_row esxi_sent esxi_found
+    also said dialect.SeverityFirst kiwi_row kiwi_sent kiwi_found
     also said dialect.ProCurve procurve_row procurve_sent procurve_found
     also said dialect.Journal journal_row (λ v. dated_sent v.1.1.1.0 v.1.1.1.1.0) journal_found
     also said_so dialect.CiscoIos ucm_row ucm_sent ucm_found

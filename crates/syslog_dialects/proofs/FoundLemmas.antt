@@ -38,11 +38,12 @@ use Rattle.syslog_named_forms.specs.NamedForms.{marked_tail, marked_tails, messa
 use Rattle.syslog_named_forms.specs.NamedForms.{program_tails, says, unified_tail, untagged_tail}
 use Rattle.syslog_named_forms.specs.NamedForms.{addressed_tail, compact_tail, device_forms, device_tails, graded_tail}
 use Rattle.syslog_named_forms.specs.NamedForms.{event_tail, graded_tails, leveled_tail, marked_forms, sourced_tail}
-use Rattle.syslog_named_forms.specs.NamedForms.{counted_tail, numbered_tail, threaded_tail, titled_tail}
+use Rattle.syslog_named_forms.specs.NamedForms.{counted_tail, numbered_tail, opened_tail, padded_tail, threaded_tail}
+use Rattle.syslog_named_forms.specs.NamedForms.{titled_tail}
 use Rattle.syslog_named_forms.specs.Graded.{counted_row, numbered_row}
 use Rattle.syslog_named_forms.specs.Devices.{addressed_row, point_word, title_row, titled_row}
 use Rattle.syslog_named_forms.specs.Graded.{event_end_row, event_row, grade_row, graded_row, level_row, leveled_row}
-use Rattle.syslog_named_forms.specs.Graded.{source_row, sourced_row, threaded_row, threads_row}
+use Rattle.syslog_named_forms.specs.Graded.{padded_row, source_row, sourced_row, threaded_row, threads_row}
 use Rattle.syslog_named_forms.specs.Unified.{close_row, compact_row, entry_name, kept_row, kind, log_of, log_row}
 use Rattle.syslog_named_forms.specs.Unified.{thread_row}
 use Rattle.syslog_named_forms.specs.Untagged.{some_digits}
@@ -294,6 +295,12 @@ threaded_found = before_rest (left_of dialect.NoHost None) (take 6 threaded_row)
     (a_name also a_gap also a_sign 91 refl also text_of (Row threads_row) also passed (exactly (codes "]:"))
     (λ p q v is. inl (subst (Each is_sign) (sym is) (refl, (refl, tt)))) also blanks also tt)
 
+padded_found : TailFound padded_tail
+padded_found = before_rest (left_of dialect.NoHost None) (take 7 padded_row)
+    (a_name also passed (exactly (32 ∷ 32 ∷ [])) (λ p q v is. inl (subst (Each is_sign) (sym is) (refl, (refl, tt))))
+    also blanks also a_sign 91 refl also text_of (some_run is_ascii_digit) also passed (exactly (codes "]:"))
+    (λ p q v is. inl (subst (Each is_sign) (sym is) (refl, (refl, tt)))) also blanks also tt)
+
 numbered_found : TailFound numbered_tail
 numbered_found = before_rest (left_of dialect.Bracketed None) (take 4 numbered_row)
     (a_sign 91 refl also text_of (some_run is_ascii_digit) also a_sign 93 refl also a_gap also tt)
@@ -301,11 +308,16 @@ numbered_found = before_rest (left_of dialect.Bracketed None) (take 4 numbered_r
 counted_found : TailFound counted_tail
 counted_found = whole_found (left_of dialect.Bracketed None) (beginning (Row counted_row)) (λ x. x) (λ p x is. is.1)
 
+opened_found : TailFound opened_tail
+opened_found = whole_found (left_of dialect.Bracketed None) (beginning (mark_class mark_of.Bracket)) (λ x. x) (λ p x is. is.1)
+
 graded_all : AllFound (tail_forms graded_tails)
 graded_all = tail_of graded_tail graded_found also tail_of leveled_tail leveled_found
     also tail_of event_tail event_found
     also tail_of sourced_tail sourced_found also tail_of threaded_tail threaded_found
-    also tail_of numbered_tail numbered_found also tail_of counted_tail counted_found also tt
+    also tail_of padded_tail padded_found
+    also tail_of numbered_tail numbered_found also tail_of counted_tail counted_found
+    also tail_of opened_tail opened_found also tt
 
 -- ---- pairs, whose names are in the message
 

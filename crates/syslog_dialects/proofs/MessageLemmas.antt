@@ -28,6 +28,7 @@ use Rattle.syslog_sent.specs.Forms.{IsOfFirst}
 use Rattle.syslog_dialects.specs.Dialects.{dated_forms, early_forms, forms_of, last_forms, late_forms, named_forms}
 use Rattle.syslog_dialects.specs.Dialects.{plain_forms}
 use Rattle.syslog_dated_forms.specs.Esxi.{esxi_row, esxi_sent}
+use Rattle.syslog_dated_forms.specs.Kiwi.{kiwi_row, kiwi_sent}
 use Rattle.syslog_dated_forms.specs.Filed.{IsAny, filed_form, filed_forms, filed_front, filed_row, filed_sent}
 use Rattle.syslog_named_forms.specs.NearHeader.{head_row, heroku_row, heroku_says, vendor_row, vendor_says}
 use Rattle.syslog_dated_forms.specs.InBrackets.{in_brackets_row, in_brackets_sent}
@@ -45,10 +46,12 @@ use Rattle.syslog_named_forms.specs.NamedForms.{access_tail, forwarded_tail, hos
 use Rattle.syslog_named_forms.specs.NamedForms.{program_tails, says, unified_tail, untagged_tail}
 use Rattle.syslog_named_forms.specs.NamedForms.{addressed_tail, compact_tail, device_forms, device_tails, graded_tail}
 use Rattle.syslog_named_forms.specs.NamedForms.{event_tail, graded_tails, leveled_tail, marked_forms as message_forms}
-use Rattle.syslog_named_forms.specs.NamedForms.{counted_tail, numbered_tail, sourced_tail, threaded_tail, titled_tail}
+use Rattle.syslog_named_forms.specs.NamedForms.{counted_tail, numbered_tail, opened_tail, padded_tail, sourced_tail}
+use Rattle.syslog_named_forms.specs.NamedForms.{threaded_tail, titled_tail}
 use Rattle.syslog_named_forms.specs.Graded.{counted_row, numbered_row}
 use Rattle.syslog_named_forms.specs.Devices.{addressed_row, titled_row}
-use Rattle.syslog_named_forms.specs.Graded.{event_row, graded_row, leveled_row, sourced_row, threaded_row}
+use Rattle.syslog_named_forms.specs.Graded.{event_row, graded_row, leveled_row, padded_row, sourced_row}
+use Rattle.syslog_named_forms.specs.Graded.{threaded_row}
 use Rattle.syslog_named_forms.specs.Unified.{compact_row, log_row}
 use Rattle.syslog_named_forms.specs.NamedForms.{serial_tail, severity_tail, tail_forms, undated_form, undated_forms}
 use Rattle.syslog_named_forms.specs.NamedForms.{header_forms, spread_tail, undated_row, worded_tail}
@@ -263,6 +266,7 @@ xr_end =
     said CiscoIosXr xr_row xr_sent xr_ends
     also said Container container_row (λ v. loose (Some v.1.0) None None None v.1.1.1.0) container_ends
     also said Esxi esxi_row esxi_sent (rest_ends (take 6 esxi_row))
+    also said SeverityFirst kiwi_row kiwi_sent (rest_ends (take 5 kiwi_row))
     also said ProCurve procurve_row procurve_sent (rest_ends (take 9 procurve_row))
     also said Journal journal_row (λ v. dated_sent v.1.1.1.0 v.1.1.1.1.0) (tailed (take 4 journal_row))
     also said CiscoIos ucm_row ucm_sent
@@ -360,8 +364,10 @@ graded_end =
     also tail_of event_tail (λ t v ends f. rest_ends (take 6 event_row) t v f)
     also tail_of sourced_tail (λ t v ends f. rest_ends (take 5 sourced_row) t v f)
     also tail_of threaded_tail (λ t v ends f. rest_ends (take 5 threaded_row) t v f)
+    also tail_of padded_tail (λ t v ends f. rest_ends (take 6 padded_row) t v f)
     also tail_of numbered_tail (λ t v ends f. spaced_rest_ends (take 3 numbered_row) t v f)
     also tail_of counted_tail (λ t v ends f. all_of t v (f.is.1 ∙ whole_of (beginning (Row counted_row)) f) ends)
+    also tail_of opened_tail (λ t v ends f. all_of t v (f.is.1 ∙ whole_of (beginning (mark_class mark.Bracket)) f) ends)
     also tt
 
 -- ---- without a date

@@ -15,6 +15,7 @@ use Rattle.syslog_dated_forms.specs.Cisco.{task_row, unit}
 use Rattle.syslog_sent.specs.Date.{any_date, bsd_date, iso_date}
 use Rattle.syslog_sent.specs.Date.{weekday}
 use Rattle.syslog_dated_forms.specs.Esxi.{mark_row}
+use Rattle.syslog_dated_forms.specs.Kiwi as kiwi
 use Rattle.syslog_dated_forms.specs.InBrackets.{stamp_date}
 use Rattle.syslog_dated_forms.specs.IosXr.{node}
 use Rattle.syslog_dated_forms.specs.NetScaler.{slashed_date}
@@ -91,9 +92,9 @@ abbrev pub cisco_left_out : List Class
 cisco_left_out = Row counter_row ∷ Row task_row ∷ mark ∷ filed_date ∷ unit ∷ []
 
 -- What a dialect leaves out besides. These are IOS-XR's card, a day of the week, a facility and a severity in words, in
--- angles or in brackets, ESXi's level with its number, the number of ProCurve's event, Meraki's `1`, how long a device
--- or a system has run, the address and version of an access point, the addresses of another in angles, the severity of
--- an event, and the columns of macOS's log. In the others it is nothing.
+-- angles, in brackets or between tabs, ESXi's level with its number, the number of ProCurve's event, Meraki's `1`, how
+-- long a device or a system has run, the address and version of an access point, the addresses of another in angles,
+-- the severity of an event, and the columns of macOS's log. In the others it is nothing.
 abbrev pub left_out : Dialect → List Class
 left_out CiscoIos = cisco_left_out
 left_out CiscoNxOs = cisco_left_out
@@ -106,7 +107,7 @@ left_out NetScaler = host_alone ∷ []
 left_out SophosUtm = host_alone ∷ []
 left_out Journal = host_alone ∷ weekday ∷ []
 left_out SeverityFirst = weekday ∷ severity ∷ Row selector_row ∷ Row grade_row ∷ Row level_row ∷ Row aix_row
-    ∷ []
+    ∷ Row kiwi.level_row ∷ []
 left_out Esxi = Row mark_row ∷ []
 left_out ProCurve = some_run is_ascii_digit ∷ []
 left_out UnixSeconds = exactly (49 ∷ []) ∷ []

@@ -13,6 +13,7 @@ use Rattle.syslog_sent.specs.Runs.{is_plain_char, is_word_char}
 use Rattle.syslog_sent.specs.Zone.{bare_word}
 use Rattle.syslog_named_forms.specs.Devices.{addressed_row, opens_address, point_word, title_row, titled_row}
 use Rattle.syslog_named_forms.specs.Graded.{event_end_row, event_row, grade_row, graded_row, hardware_row, level_row}
+use Rattle.syslog_named_forms.specs.Graded.{padded_row}
 use Rattle.syslog_named_forms.specs.Graded.{leveled_row, source_row, sourced_row, threaded_row, threads_row}
 use Rattle.syslog_named_forms.specs.Graded.{bracket_or_level, counted_row, numbered_row}
 use Rattle.syslog_named_forms.specs.Unified.{close_row, compact_row, is_kind, kind}
@@ -89,6 +90,11 @@ threads_det = some_run_det is_ascii_digit also exactly_det _ also some_run_det i
 pub threaded_det : AllDeterministic threaded_row
 threaded_det = name_det also some_run_det is_blank also exactly_det _
     also texted_det (Row threads_row) (row_det threads_row threads_det) also exactly_det _ also run_det is_blank
+    also rest_det also tt
+
+pub padded_det : AllDeterministic padded_row
+padded_det = name_det also exactly_det _ also run_det is_blank also exactly_det _
+    also texted_det (some_run is_ascii_digit) (some_run_det is_ascii_digit) also exactly_det _ also run_det is_blank
     also rest_det also tt
 
 pub numbered_det : AllDeterministic numbered_row

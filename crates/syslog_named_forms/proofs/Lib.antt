@@ -1,3 +1,4 @@
+pub mod BracketLemmas
 pub mod DeviceLemmas
 pub mod HostLemmas
 pub mod MonotonicLemmas

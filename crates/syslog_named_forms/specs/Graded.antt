@@ -7,7 +7,7 @@ use Rattle.std.specs.Char.{is_ascii_digit}
 use Rattle.syslog_sent.specs.Named.{◌otherwise◌, NamedTexts, beginning, name, program, tagged, untagged}
 use Rattle.syslog_sent.specs.Runs.{is_plain_char, is_word_char}
 use Rattle.syslog_named_forms.specs.Untagged.{mark_class}
-use Rattle.syslog_named_forms.specs.declared.untagged.Mark.TheVariants.{Level}
+use Rattle.syslog_named_forms.specs.declared.untagged.Mark.TheVariants.{Bracket, Level}
 
 -- ---- `<auth.info> gate sshd[811]: text`, `<4.6> gate sshd[811]: text`
 
@@ -93,6 +93,19 @@ threaded_of (app, (_, (_, (id, (_, (_, (m, _))))))) = tagged None (record { name
 abbrev pub threaded : Class
 threaded = mapped (Row threaded_row) NamedTexts threaded_of
 
+-- ---- `fail2ban.actions        [2188]: text`
+
+-- fail2ban: its name is filled up with spaces, here two or more, since one is after a host
+abbrev pub padded_row : List Class
+padded_row = name ∷ exactly (32 ∷ 32 ∷ []) ∷ run is_blank ∷ exactly (91 ∷ []) ∷ texted (some_run is_ascii_digit)
+    ∷ exactly (codes "]:") ∷ run is_blank ∷ rest ∷ []
+
+abbrev pub padded_of : Values padded_row → NamedTexts
+padded_of (app, (_, (_, (_, (id, (_, (_, (m, _)))))))) = tagged None (record { name = app; process = Some id }) m
+
+abbrev pub padded : Class
+padded = mapped (Row padded_row) NamedTexts padded_of
+
 -- ---- `[1133] LOG:  text`
 
 -- PostgreSQL: the process, by the prefix of its lines that is set unless another is
@@ -119,3 +132,12 @@ counted_of t = untagged None t
 
 abbrev pub counted : Class
 counted = mapped (beginning (Row counted_row)) NamedTexts counted_of
+
+-- ---- `[main] INFO  com.example.App - text`
+
+-- Logback and log4j: what a bracket, `<` or a quote begins at once after the date is a message, and shows no host
+abbrev pub opened_of : Text → NamedTexts
+opened_of t = untagged None t
+
+abbrev pub opened : Class
+opened = mapped (beginning (mark_class Bracket)) NamedTexts opened_of

@@ -121,6 +121,9 @@ sourced_tail = record { dialect = dialect.BsdDate; after = Row graded.sourced_ro
 abbrev pub threaded_tail : Tail
 threaded_tail = record { dialect = dialect.NoHost; after = Row graded.threaded_row; names = graded.threaded_of }
 
+abbrev pub padded_tail : Tail
+padded_tail = record { dialect = dialect.NoHost; after = Row graded.padded_row; names = graded.padded_of }
+
 abbrev pub numbered_tail : Tail
 numbered_tail = record { dialect = dialect.Bracketed; after = Row graded.numbered_row; names = graded.numbered_of }
 
@@ -128,9 +131,13 @@ abbrev pub counted_tail : Tail
 counted_tail =
     record { dialect = dialect.Bracketed; after = beginning (Row graded.counted_row); names = graded.counted_of }
 
+abbrev pub opened_tail : Tail
+opened_tail =
+    record { dialect = dialect.Bracketed; after = beginning (mark_class mark.Bracket); names = graded.opened_of }
+
 abbrev pub graded_tails : List Tail
-graded_tails = graded_tail ∷ leveled_tail ∷ event_tail ∷ sourced_tail ∷ threaded_tail ∷ numbered_tail
-    ∷ counted_tail ∷ []
+graded_tails = graded_tail ∷ leveled_tail ∷ event_tail ∷ sourced_tail ∷ threaded_tail ∷ padded_tail ∷ numbered_tail
+    ∷ counted_tail ∷ opened_tail ∷ []
 
 -- it is tried after the forms that have nothing of their own after the date
 abbrev pub spread_tail : Tail

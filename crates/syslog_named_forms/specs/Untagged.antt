@@ -3,7 +3,7 @@
 -- 32 is a space, 34 `"`, 44 `,`, 45 `-`, 46 `.`, 47 `/`, 58 `:`, 61 `=`, 84 `T`, 91 `[`, 123 `{`, 124 `|`, 125 `}`.
 use Rattle.std.proofs.Common.{inl, inr}
 use Rattle.std.specs.Prelude.{◌≡◌, ◌⊎◌, ◌||◌, ◌&&◌, ℕ, bit_and, nat_eq, nat_le, not, Option, Bool, true, false}
-use Rattle.std.specs.Prelude.{IsTrue, List, [], ◌∷◌, MatchOption, None, codes}
+use Rattle.std.specs.Prelude.{IsTrue, List, [], ◌∷◌, MatchOption, None, Some, codes}
 use Rattle.std.specs.Borrow.{Bor}
 use Rattle.std.specs.Char.{is_ascii_digit, is_not_whitespace}
 use Rattle.syslog_text.specs.Pieces.Class.{Text, Class, NoFront, Row, run, some_run, exactly, optional, after, mapped}
@@ -242,3 +242,13 @@ marked_of (inr (h, (_, (t, _)))) = untagged h t
 
 abbrev pub message : Mark → Class
 message m = mapped (marked m) NamedTexts marked_of
+
+-- whether a bracket begins the text
+abbrev pub opens_square : Text → Bool
+opens_square [] = false
+opens_square (c ∷ t) = nat_eq c 91
+
+-- whether one begins what `past_host` left of a text
+abbrev pub opens_bracket : Option (Option (Bor (List ℕ)) × Bor (List ℕ)) → Bool
+opens_bracket None = false
+opens_bracket (Some x) = opens_square (shown x.1)

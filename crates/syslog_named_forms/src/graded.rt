@@ -7,25 +7,29 @@
 //! `[cluster1-01:wafl.vol.full:notice]: text`; the event is the app name, as a mnemonic of Cisco's is. Aruba Instant
 //! writes its address and that of its hardware after its name (Aruba Instant Syslog Messages): `192.0.2.2 <192.0.2.2
 //! 02:00:00:00:00:01> stm[2112]: text`. Phones of Yealink write process and thread after a blank, and no host: `sua
-//! [768:871]: text`. The error logs of PostgreSQL begin with the process after the date (`log_line_prefix` is `%m [%p]
+//! [768:871]: text`. The log of fail2ban has the process after a name that is filled up with spaces, and no host:
+//! `fail2ban.actions        [2188]: text`. The error logs of PostgreSQL begin with the process after the date (`log_line_prefix` is `%m [%p]
 //! `): `[1133] LOG:  text`; those of MySQL with the number of a thread: `0 [System] [MY-010931] [Server] text`. Those
-//! of OpenStack have the process there, and then a level (oslo.log): `2345 INFO nova.compute.manager text`.
-ghost use Rattle.std.specs.Prelude.{chars, codes};
+//! of OpenStack have the process there, and then a level (oslo.log): `2345 INFO nova.compute.manager text`. Logback and
+//! log4j write a thread in brackets there (`%d [%thread] %-5level`): `[main] INFO  com.example.App - text`.
+ghost use Rattle.std.specs.Prelude.{◌≡◌, chars, codes};
 ghost use Rattle.syslog_text.specs.Pieces.Class.{Row, Text, exactly, texted};
 ghost use Rattle.syslog_text.specs.Pieces.View.{Reads, Recognises, seen, shown};
 ghost use Rattle.syslog_named_forms.specs.Graded as spec;
+ghost use Rattle.syslog_named_forms.specs.Untagged as untagged_spec;
 ghost use Rattle.syslog_named_forms.specs.Untagged.{host_row};
 ghost use Rattle.syslog_sent.specs.Views.{Names, named_value};
 
-use crate::untagged::level as level_word;
+use crate::marks::mark_end;
+use crate::untagged::{Mark, level as level_word};
 use syslog_sent::named::{Named, Program, name, number, past, read_program, tagged, untagged};
 use syslog_sent::runs::{Run, split_some};
 use syslog_sent::skips::{
     bracket, close_angle, close_bracket, close_tag, colon, digits, dot, gap, name_word, open_angle,
-    past_blanks, plain_word,
+    past_blanks, plain_word, two_spaces,
 };
 use syslog_text::text::verbatim::before;
-use syslog_text::text::{blanks, host, literal, some_blanks};
+use syslog_text::text::{blanks, first, host, literal, some_blanks};
 
 // Returns the text after facility and severity in angles.
 fn grade(text: &str) -> Option<&str>
@@ -161,15 +165,70 @@ fn threads(text: &str) -> Option<(&str, &str)>
     Some((id, rest))
 }
 
-/// Reads a line that has a blank between the program and its process.
-#[inline(always)]
-pub(crate) fn threaded(text: &str) -> Option<Named<'_>>
-    ensures { Names spec.threaded named_value (chars text.now) result }
+// Whether a bracket begins the text.
+fn opens_square(text: &str) -> bool
+    ensures { result ≡ untagged_spec.opens_square (chars text.now) }
 {
+    match first(text) {
+        Some((c, _)) => c == '[',
+        None => false,
+    }
+}
+
+// Whether a bracket follows the host and the blanks after it, as one follows a program's name in the next two forms. No
+// name is looked for in other lines.
+#[inline(always)]
+fn opens_bracket<'a>(after_host: Option<(Option<&'a str>, &'a str)>) -> bool
+    ensures { result ≡ untagged_spec.opens_bracket after_host.entry }
+{
+    match after_host {
+        Some((_, rest)) => opens_square(rest),
+        None => false,
+    }
+}
+
+/// Reads a line that has a blank between the program and its process. `after_host` is what `past_host` returned for the
+/// line.
+#[inline(always)]
+pub(crate) fn threaded<'a>(
+    text: &'a str,
+    after_host: Option<(Option<&'a str>, &'a str)>,
+) -> Option<Named<'a>>
+    ensures { Reads (Row host_row) (λ h. (seen h, (tt, tt))) (chars text.entry.now) after_host.entry
+        → Names spec.threaded named_value (chars text.entry.now) result }
+{
+    if !opens_bracket(after_host) {
+        return None;
+    }
     let (name, after_name) = name(text)?;
     let at_open = some_blanks(after_name)?;
     let at_id = literal(at_open, '[')?;
     let (id, after_id) = threads(at_id)?;
+    let rest = close_tag(after_id)?;
+    let program = Program {
+        name,
+        process: Some(id),
+    };
+    Some(tagged(None, program, blanks(rest)))
+}
+
+/// Reads a line whose program's name is filled up with spaces before the process. `after_host` is what `past_host`
+/// returned for the line.
+#[inline(always)]
+pub(crate) fn padded<'a>(
+    text: &'a str,
+    after_host: Option<(Option<&'a str>, &'a str)>,
+) -> Option<Named<'a>>
+    ensures { Reads (Row host_row) (λ h. (seen h, (tt, tt))) (chars text.entry.now) after_host.entry
+        → Names spec.padded named_value (chars text.entry.now) result }
+{
+    if !opens_bracket(after_host) {
+        return None;
+    }
+    let (name, after_name) = name(text)?;
+    let at_open = two_spaces(after_name)?;
+    let at_id = literal(blanks(at_open), '[')?;
+    let (id, after_id) = number(at_id)?;
     let rest = close_tag(after_id)?;
     let program = Program {
         name,
@@ -218,5 +277,14 @@ pub(crate) fn counted(text: &str) -> Option<Named<'_>>
     ensures { Names spec.counted named_value (chars text.now) result }
 {
     let _ = counted_end(text)?;
+    Some(untagged(None, text))
+}
+
+/// Reads a message that a bracket, `<` or a quote begins.
+#[inline(always)]
+pub(crate) fn opened(text: &str) -> Option<Named<'_>>
+    ensures { Names spec.opened named_value (chars text.now) result }
+{
+    let _ = mark_end(text, Mark::Bracket)?;
     Some(untagged(None, text))
 }

@@ -14,7 +14,7 @@ ghost use Rattle.syslog_named_forms.specs.Untagged.{AreMarks, host_row};
 ghost use Rattle.syslog_sent.specs.Views.{named_value};
 
 use crate::devices::{addressed, titled};
-use crate::graded::{counted, event, graded, leveled, numbered, sourced, threaded};
+use crate::graded::{counted, event, graded, leveled, numbered, opened, padded, sourced, threaded};
 use crate::marks::{MessageMarks, mark_end, message, past_host};
 use crate::monotonic::read_monotonic;
 use crate::near_header::{
@@ -263,13 +263,19 @@ fn of_dated(rest: &str) -> Option<(Dialect, Named<'_>)>
     if let Some(named) = sourced(after_host) {
         return Some((Dialect::BsdDate, named));
     }
-    if let Some(named) = threaded(rest) {
+    if let Some(named) = threaded(rest, after_host) {
+        return Some((Dialect::NoHost, named));
+    }
+    if let Some(named) = padded(rest, after_host) {
         return Some((Dialect::NoHost, named));
     }
     if let Some(named) = numbered(rest) {
         return Some((Dialect::Bracketed, named));
     }
     if let Some(named) = counted(rest) {
+        return Some((Dialect::Bracketed, named));
+    }
+    if let Some(named) = opened(rest) {
         return Some((Dialect::Bracketed, named));
     }
     of_message(rest, after_host)

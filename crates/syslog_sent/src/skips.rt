@@ -18,6 +18,13 @@ pub fn space(text: &str) -> Option<&str>
     literal(text, ' ')
 }
 
+/// Two spaces.
+pub fn two_spaces(text: &str) -> Option<&str>
+    ensures { Recognises (exactly (32 ∷ 32 ∷ [])) (chars text.now) result }
+{
+    past(text, "  ")
+}
+
 /// One blank or more.
 pub fn gap(text: &str) -> Option<&str>
     ensures { Recognises (some_run is_blank) (chars text.now) result }

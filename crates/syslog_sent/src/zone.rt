@@ -1,7 +1,8 @@
 //! The zone that a sender shows after the time: an offset in digits, as `+01:00`, `+0100` or `+01`, or a name.
 //!
 //! **Rule.** `UTC`, `GMT` and `Z` are offset 0. Any other name of the IANA time zone database is left out, since most
-//! names mean several zones. Then the date is in the zone of dates that show none.
+//! names mean several zones, and so is `DST`, which Huawei's devices show in summer (VRP, "Log format"). Then the date
+//! is in the zone of dates that show none.
 ghost use Rattle.std.specs.Prelude.{◌≡◌, ◌<◌, ◌∷◌, [], chars, ℕ, List, Option, true, MatchBool, map, unwrap_or};
 ghost use Rattle.syslog_text.specs.Pieces.Class.{Ends, Front};
 ghost use Rattle.syslog_text.specs.Pieces.View.{Reads, shown};
@@ -15,11 +16,12 @@ use syslog_text::as_str::is_same_text;
 use syslog_text::text::{CharClass, blanks, first, literal, past_colon, split_run};
 
 /// The names of zones that are recognised: first those of offset 0, then those that are left out.
-const ZONE_NAMES: [&str; 51] = [
+const ZONE_NAMES: [&str; 52] = [
     "UTC", "GMT", "Z", "CET", "CEST", "EST", "EDT", "CST", "CDT", "MST", "MDT", "PST", "PDT",
     "AKST", "AKDT", "HST", "HDT", "AST", "ADT", "NST", "NDT", "WET", "WEST", "BST", "IST", "MET",
     "MEST", "EET", "EEST", "MSK", "SAST", "WAT", "CAT", "EAT", "IDT", "PKT", "WIB", "WITA", "WIT",
     "HKT", "KST", "JST", "AWST", "ACST", "ACDT", "AEST", "AEDT", "NZST", "NZDT", "ChST", "SST",
+    "DST",
 ];
 
 const UNIVERSAL_NAMES: [&str; 3] = ["UTC", "GMT", "Z"];

@@ -9,6 +9,7 @@ use Rattle.syslog_sent.specs.Forms.{Finds}
 use Rattle.syslog_sent.specs.declared.dialect.Dialect.{Dialect}
 use Rattle.syslog_sent.specs.declared.sent.Sent.{Sent}
 use Rattle.syslog_dated_forms.proofs.EsxiLemmas.{no_esxi}
+use Rattle.syslog_dated_forms.proofs.KiwiLemmas.{no_kiwi}
 use Rattle.syslog_dated_forms.specs.{IosXr.xr_form, IosXr.xr_row}
 use Rattle.syslog_dated_forms.specs.DatedForms.{container_forms, journal_forms}
 use Rattle.syslog_dated_forms.specs.DatedForms.{xr_forms}
@@ -19,7 +20,7 @@ past_dated : {text : Text} {r : Option (Dialect × Sent)} → IsUnled text → N
     → Found journal_forms text r → Finds xr_forms text r
 past_dated {text} {r} none n h = let iso = not_iso none.undated in
     let all : Found xr_forms text r = n before no_container none.gap iso before no_esxi none.gap iso before
-    no_procurve none.gap none.undated before h in
+    no_kiwi none.gap iso before no_procurve none.gap none.undated before h in
     all.finds
 
 pub returns-in-Some : goal.returns-in-Some

@@ -2,11 +2,13 @@ use Rattle.syslog_sent.proofs.NamedLemmas.{beginning_det}
 use Rattle.syslog_text.proofs.PieceLemmas.Class.{row_det}
 use Rattle.syslog_text.specs.Pieces.Class.{Row}
 use Rattle.syslog_named_forms.proofs.DeviceLemmas.{event_det, graded_det, leveled_det, numbered_det, sourced_det}
-use Rattle.syslog_named_forms.proofs.DeviceLemmas.{threaded_det}
+use Rattle.syslog_named_forms.proofs.DeviceLemmas.{padded_det, threaded_det}
 use Rattle.syslog_named_forms.proofs.NamedFormLemmas.{◌before◌, first_tail, found_after}
 use Rattle.syslog_named_forms.specs.Graded.{counted_row, event_row, graded_row, leveled_row, numbered_row, sourced_row}
-use Rattle.syslog_named_forms.specs.Graded.{threaded_row}
+use Rattle.syslog_named_forms.specs.Graded.{padded_row, threaded_row}
 use Rattle.syslog_named_forms.specs.NamedForms.{dated_marked_forms, graded_tails}
+use Rattle.syslog_named_forms.specs.Untagged.{mark_class}
+use Rattle.syslog_named_forms.specs.declared.untagged.Mark.TheVariants.{Bracket}
 use Rattle.syslog_named_forms.proofs.named_forms.of_dated.Goals as goal
 
 pub returns-in-Some : goal.returns-in-Some
@@ -36,27 +38,46 @@ returns-in-Some-threaded c = let after = c.past_host-after_host.ensures in
     found_after graded_tails dated_marked_forms
     (c.in_default.ensures before c.in_default-leveled.ensures _ after before c.in_default-event.ensures before
     c.in_default-sourced.ensures _ after before
-    first_tail (row_det threaded_row threaded_det) c.in-Some-threaded.named c.in-Some-threaded.ensures)
+    first_tail (row_det threaded_row threaded_det) c.in-Some-threaded.named (c.in-Some-threaded.ensures after))
+
+pub returns-in-Some-padded : goal.returns-in-Some-padded
+returns-in-Some-padded c = let after = c.past_host-after_host.ensures in
+    found_after graded_tails dated_marked_forms
+    (c.in_default.ensures before c.in_default-leveled.ensures _ after before c.in_default-event.ensures before
+    c.in_default-sourced.ensures _ after before c.in_default-threaded.ensures after before
+    first_tail (row_det padded_row padded_det) c.in-Some-padded.named (c.in-Some-padded.ensures after))
 
 pub returns-in-Some-numbered : goal.returns-in-Some-numbered
 returns-in-Some-numbered c = let after = c.past_host-after_host.ensures in
     found_after graded_tails dated_marked_forms
     (c.in_default.ensures before c.in_default-leveled.ensures _ after before c.in_default-event.ensures before
-    c.in_default-sourced.ensures _ after before c.in_default-threaded.ensures before
+    c.in_default-sourced.ensures _ after before c.in_default-threaded.ensures after before
+    c.in_default-padded.ensures after before
     first_tail (row_det numbered_row numbered_det) c.in-Some-numbered.named c.in-Some-numbered.ensures)
 
 pub returns-in-Some-counted : goal.returns-in-Some-counted
 returns-in-Some-counted c = let after = c.past_host-after_host.ensures in
     found_after graded_tails dated_marked_forms
     (c.in_default.ensures before c.in_default-leveled.ensures _ after before c.in_default-event.ensures before
-    c.in_default-sourced.ensures _ after before c.in_default-threaded.ensures before
+    c.in_default-sourced.ensures _ after before c.in_default-threaded.ensures after before
+    c.in_default-padded.ensures after before
     c.in_default-numbered.ensures before
     first_tail (beginning_det (Row counted_row)) c.in-Some-counted.named c.in-Some-counted.ensures)
+
+pub returns-in-Some-opened : goal.returns-in-Some-opened
+returns-in-Some-opened c = let after = c.past_host-after_host.ensures in
+    found_after graded_tails dated_marked_forms
+    (c.in_default.ensures before c.in_default-leveled.ensures _ after before c.in_default-event.ensures before
+    c.in_default-sourced.ensures _ after before c.in_default-threaded.ensures after before
+    c.in_default-padded.ensures after before c.in_default-numbered.ensures before c.in_default-counted.ensures before
+    first_tail (beginning_det (mark_class Bracket)) c.in-Some-opened.named c.in-Some-opened.ensures)
 
 pub returns : goal.returns
 returns c = let after = c.past_host-after_host.ensures in
     found_after graded_tails dated_marked_forms
     (c.in_default.ensures before c.in_default-leveled.ensures _ after before c.in_default-event.ensures before
-    c.in_default-sourced.ensures _ after before c.in_default-threaded.ensures before
+    c.in_default-sourced.ensures _ after before c.in_default-threaded.ensures after before
+    c.in_default-padded.ensures after before
     c.in_default-numbered.ensures before c.in_default-counted.ensures before
+    c.in_default-opened.ensures before
     record { finds = c.of_message.ensures after })

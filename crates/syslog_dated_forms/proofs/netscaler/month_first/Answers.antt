@@ -1,0 +1,20 @@
+use Rattle.std.proofs.Common.{inl, refl}
+use Rattle.syslog_text.proofs.PieceLemmas.Class.{◌past◌, ◌then◌, no_row, row_of}
+use Rattle.syslog_dated_forms.specs.NetScaler.{month_first_row}
+use Rattle.syslog_dated_forms.proofs.OtherDateLemmas.{month_first_row_det}
+use Rattle.syslog_dated_forms.proofs.netscaler.month_first.Goals as goal
+
+pub returns-in_err-month : goal.returns-in_err-month
+returns-in_err-month c = rw c.from_residual.ensures (no_row month_first_row month_first_row_det
+    (inl c.in_err-month.ensures))
+
+pub returns-in_err-day : goal.returns-in_err-day
+returns-in_err-day c = rw c.from_residual-in_err-day.ensures (no_row month_first_row month_first_row_det
+    (c.in_ok-month.ensures past inl c.in_err-day.ensures))
+
+pub returns-in_err-year : goal.returns-in_err-year
+returns-in_err-year c = rw c.from_residual-in_err-year.ensures (no_row month_first_row month_first_row_det
+    (c.in_ok-month.ensures past c.in_ok-day.ensures past inl c.in_err-year.ensures))
+
+pub returns : goal.returns
+returns c = row_of month_first_row (c.in_ok-month.ensures then c.in_ok-day.ensures then c.in_ok-year.ensures then refl)

@@ -1,0 +1,20 @@
+use Rattle.std.proofs.Common.{inl, refl}
+use Rattle.syslog_text.proofs.PieceLemmas.Class.{◌past◌, ◌then◌, no_row, row_of}
+use Rattle.syslog_dated_forms.specs.NetScaler.{year_first_row}
+use Rattle.syslog_dated_forms.proofs.OtherDateLemmas.{year_first_row_det}
+use Rattle.syslog_dated_forms.proofs.netscaler.year_first.Goals as goal
+
+pub returns-in_err-year : goal.returns-in_err-year
+returns-in_err-year c = rw c.from_residual.ensures (no_row year_first_row year_first_row_det
+    (inl c.in_err-year.ensures))
+
+pub returns-in_err-month : goal.returns-in_err-month
+returns-in_err-month c = rw c.from_residual-in_err-month.ensures (no_row year_first_row year_first_row_det
+    (c.in_ok-year.ensures past inl c.in_err-month.ensures))
+
+pub returns-in_err-day : goal.returns-in_err-day
+returns-in_err-day c = rw c.from_residual-in_err-day.ensures (no_row year_first_row year_first_row_det
+    (c.in_ok-year.ensures past c.in_ok-month.ensures past inl c.in_err-day.ensures))
+
+pub returns : goal.returns
+returns c = row_of year_first_row (c.in_ok-year.ensures then c.in_ok-month.ensures then c.in_ok-day.ensures then refl)
