@@ -21,7 +21,7 @@ name_no_colon n each (front, e) =
     let last = (each_after is_label_char front colon (subst (λ (x : Text). Each is_label_char x) e each)).0 in
     absurd (let bad : false ≡ true = last in cc)
 
-name_visible : (n : Text) → Each is_label_char n → Each is_not_whitespace n
+pub name_visible : (n : Text) → Each is_label_char n → Each is_not_whitespace n
 name_visible n each = each_map is_label_char is_not_whitespace (λ c h. grind (arith, nat_tests, h)) n each
 
 name_no_dash : (n : Text) → BeginsWith begins_name n → n ≡ dash → ⊥
@@ -29,7 +29,7 @@ name_no_dash n begins e =
     let first : BeginsWith begins_name dash = subst (λ (x : Text). BeginsWith begins_name x) e begins in
     absurd (let bad : false ≡ true = first in cc)
 
-blank_ends : (b s : Text) → 0 < length b → Each is_blank b → Ends is_not_whitespace (b ++ s)
+pub blank_ends : (b s : Text) → 0 < length b → Each is_blank b → Ends is_not_whitespace (b ++ s)
 blank_ends [] s some each = absurd (omega (arith, some))
 blank_ends (c ∷ b) s some each = grind (arith, nat_tests, each.0)
 

@@ -1,4 +1,5 @@
 pub mod BracketLemmas
+pub mod ColonLemmas
 pub mod DeviceLemmas
 pub mod HostLemmas
 pub mod MonotonicLemmas

@@ -163,6 +163,11 @@ is_counter (c ∷ d ∷ cs) = is_ascii_digit c && is_counter (d ∷ cs)
 abbrev pub names_none : Text → Bool
 names_none t = is_number t && not (is_counter t)
 
+-- whether a digit begins the text, as each such word
+abbrev pub opens_number : Text → Bool
+opens_number [] = false
+opens_number (c ∷ t) = is_ascii_digit c
+
 abbrev pub number_word : Class
 number_word = such_that (texted (some_run is_not_whitespace)) (λ t. IsTrue (names_none t))
 

@@ -150,10 +150,10 @@ fn of_program<'a>(
     if let Some(named) = worded(after_host) {
         return Some((Dialect::SpacedName, named));
     }
-    if let Some(named) = of_access_point(rest) {
+    if let Some(named) = of_access_point(rest, after_host) {
         return Some((Dialect::UniFi, named));
     }
-    if let Some(named) = hostless(rest) {
+    if let Some(named) = hostless(rest, after_host) {
         return Some((Dialect::NoHost, named));
     }
     if let Some(named) = after_serial(after_host) {

@@ -25,14 +25,30 @@ use syslog_sent::skips::{colon, plain_word};
 use syslog_text::text::verbatim::before;
 use syslog_text::text::{CharClass, blanks, first, literal, some_blanks, split_run};
 
-/// Reads a line without a host.
+// Reads a program and the message after it.
 #[inline(always)]
-pub(crate) fn hostless(text: &str) -> Option<Named<'_>>
+fn program_first(text: &str) -> Option<Named<'_>>
     ensures { Names spec.hostless named_value (chars text.now) result }
 {
     let (program, rest) = read_program(text)?;
     let msg = some_blanks(rest)?;
     Some(tagged(None, program, msg))
+}
+
+/// Reads a line without a host. `after_host` is what `past_host` returned for the line: no host ends in the colon of a
+/// program's name, so where there is one, nothing is read.
+#[inline(always)]
+pub(crate) fn hostless<'a>(
+    text: &'a str,
+    after_host: Option<(Option<&'a str>, &'a str)>,
+) -> Option<Named<'a>>
+    ensures { Reads (Row host_row) (λ h. (seen h, (tt, tt))) (chars text.entry.now) after_host.entry
+        → Names spec.hostless named_value (chars text.entry.now) result }
+{
+    match after_host {
+        Some(_) => None,
+        None => program_first(text),
+    }
 }
 
 // Returns the text after `|security`, and all of it if it does not begin so.
@@ -316,9 +332,9 @@ fn point(text: &str) -> Option<(&str, &str)>
     Some((name, rest))
 }
 
-/// Reads a line of an access point, whose model, address and version are taken for the host.
+// Reads a line of an access point from its model, address and version on.
 #[inline(always)]
-pub(crate) fn of_access_point(text: &str) -> Option<Named<'_>>
+fn point_first(text: &str) -> Option<Named<'_>>
     ensures { Names spec.access_point named_value (chars text.now) result }
 {
     let (host, after_host) = point(text)?;
@@ -326,6 +342,22 @@ pub(crate) fn of_access_point(text: &str) -> Option<Named<'_>>
     let before_program = some_blanks(after_colon)?;
     let (program, rest) = read_program(before_program)?;
     Some(tagged(Some(host), program, blanks(rest)))
+}
+
+/// Reads a line of an access point, whose model, address and version are taken for the host. `after_host` is what
+/// `past_host` returned for the line: a colon ends the version, so where there is a host, nothing is read.
+#[inline(always)]
+pub(crate) fn of_access_point<'a>(
+    text: &'a str,
+    after_host: Option<(Option<&'a str>, &'a str)>,
+) -> Option<Named<'a>>
+    ensures { Reads (Row host_row) (λ h. (seen h, (tt, tt))) (chars text.entry.now) after_host.entry
+        → Names spec.access_point named_value (chars text.entry.now) result }
+{
+    match after_host {
+        Some(_) => None,
+        None => point_first(text),
+    }
 }
 
 // Whether the text is digits, and a colon at its end.
@@ -352,10 +384,23 @@ fn names_none(word: &str) -> bool
     is_number(word) && !is_counter(word)
 }
 
+// Whether a digit begins the text. No such word begins otherwise, so few are read.
+fn opens_number(text: &str) -> bool
+    ensures { result ≡ spec.opens_number (chars text.now) }
+{
+    match first(text) {
+        Some((c, _)) => c.is_ascii_digit(),
+        None => false,
+    }
+}
+
 // Returns the text after such a word.
 fn number_word(text: &str) -> Option<&str>
     ensures { Recognises spec.number_word (chars text.now) result }
 {
+    if !opens_number(text) {
+        return None;
+    }
     let (word, rest) = split_run(text, CharClass::Visible);
     names_none(word).then_some(rest)
 }

@@ -30,33 +30,34 @@ pub returns-in-Some-of_access_point : goal.returns-in-Some-of_access_point
 returns-in-Some-of_access_point c after = found_after program_tails []
     (c.in_default.ensures after before c.in_default-severity_first.ensures _ after before
     c.in_default-worded.ensures _ after before
-    first_tail (row_det access_row access_det) c.in-Some-of_access_point.named c.in-Some-of_access_point.ensures)
+    first_tail (row_det access_row access_det) c.in-Some-of_access_point.named
+    (c.in-Some-of_access_point.ensures after))
 
 pub returns-in-Some-hostless : goal.returns-in-Some-hostless
 returns-in-Some-hostless c after = found_after program_tails []
     (c.in_default.ensures after before c.in_default-severity_first.ensures _ after before
-    c.in_default-worded.ensures _ after before c.in_default-of_access_point.ensures before
-    first_tail (row_det hostless_row hostless_det) c.in-Some-hostless.named c.in-Some-hostless.ensures)
+    c.in_default-worded.ensures _ after before c.in_default-of_access_point.ensures after before
+    first_tail (row_det hostless_row hostless_det) c.in-Some-hostless.named (c.in-Some-hostless.ensures after))
 
 pub returns-in-Some-after_serial : goal.returns-in-Some-after_serial
 returns-in-Some-after_serial c after = found_after program_tails []
     (c.in_default.ensures after before c.in_default-severity_first.ensures _ after before
-    c.in_default-worded.ensures _ after before c.in_default-of_access_point.ensures before
-    c.in_default-hostless.ensures before
+    c.in_default-worded.ensures _ after before c.in_default-of_access_point.ensures after before
+    c.in_default-hostless.ensures after before
     first_tail either_box_det c.in-Some-after_serial.named (c.in-Some-after_serial.ensures _ after))
 
 pub returns-in-Some-unified : goal.returns-in-Some-unified
 returns-in-Some-unified c after = found_after program_tails []
     (c.in_default.ensures after before c.in_default-severity_first.ensures _ after before
-    c.in_default-worded.ensures _ after before c.in_default-of_access_point.ensures before
-    c.in_default-hostless.ensures before c.in_default-after_serial.ensures _ after before
+    c.in_default-worded.ensures _ after before c.in_default-of_access_point.ensures after before
+    c.in_default-hostless.ensures after before c.in_default-after_serial.ensures _ after before
     first_tail (row_det log_row log_det) c.in-Some-unified.named c.in-Some-unified.ensures)
 
 pub returns-in-Some-untagged_message : goal.returns-in-Some-untagged_message
 returns-in-Some-untagged_message c after = found_after program_tails []
     (c.in_default.ensures after before c.in_default-severity_first.ensures _ after before
-    c.in_default-worded.ensures _ after before c.in_default-of_access_point.ensures before
-    c.in_default-hostless.ensures before c.in_default-after_serial.ensures _ after before
+    c.in_default-worded.ensures _ after before c.in_default-of_access_point.ensures after before
+    c.in_default-hostless.ensures after before c.in_default-after_serial.ensures _ after before
     c.in_default-unified.ensures before
     first_tail (row_det untagged_row untagged_det) c.in-Some-untagged_message.named
     (c.in-Some-untagged_message.ensures _ after))
@@ -64,6 +65,6 @@ returns-in-Some-untagged_message c after = found_after program_tails []
 pub returns : goal.returns
 returns c after = found_after program_tails []
     (c.in_default.ensures after before c.in_default-severity_first.ensures _ after before
-    c.in_default-worded.ensures _ after before c.in_default-of_access_point.ensures before
-    c.in_default-hostless.ensures before c.in_default-after_serial.ensures _ after before
+    c.in_default-worded.ensures _ after before c.in_default-of_access_point.ensures after before
+    c.in_default-hostless.ensures after before c.in_default-after_serial.ensures _ after before
     c.in_default-unified.ensures before c.in_default-untagged_message.ensures _ after before no_tail)
