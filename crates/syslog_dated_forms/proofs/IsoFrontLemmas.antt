@@ -8,7 +8,8 @@ use Rattle.syslog_text.specs.Pieces.Class.{Text, Values, Each, Ends, Front, NoDi
 use Rattle.syslog_text.specs.Pieces.Class.{run, some_run}
 use Rattle.syslog_text.specs.Text.{is_blank, is_tag_char, colon}
 use Rattle.syslog_pieces.specs.Timestamp.Rfc3339.{pair, year}
-use Rattle.syslog_text.proofs.PieceLemmas.Class.{◌past◌, ◌then◌, each_after, each_append, each_map, front_of, front_same}
+use Rattle.syslog_text.proofs.PieceLemmas.Class.{◌past◌, ◌then◌, each_after, each_append, each_map, front_of}
+use Rattle.syslog_text.proofs.PieceLemmas.Class.{front_same}
 use Rattle.syslog_text.proofs.PieceLemmas.Class.{mapped_front, no_mapped}
 use Rattle.syslog_text.proofs.PieceLemmas.Class.{no_row, no_row_division, optional_none, optional_some, row_of}
 use Rattle.syslog_text.proofs.PieceLemmas.Class.{row_pieces}

@@ -1,14 +1,16 @@
 //! Lines of Citrix NetScaler (ADC): `03/02/2026:06:33:04 GMT ns1 0-PPE-0 : default TCP CONN_TERMINATE ..`.
 //!
 //! **Rule.** The month comes first, as in the appliance's default setting, or the year (Citrix, "Audit logging": date
-//! formats MMDDYYYY and YYYYMMDD; of DDMMYYYY nothing tells a line). Two spaces after the date are around the name of an
-//! appliance that has none; then the packet engine is the program. Otherwise what follows is read as the port reads it.
+//! formats MMDDYYYY and YYYYMMDD; nothing tells a line of DDMMYYYY). Two spaces after the date are around the name of
+//! an appliance that has none; then the packet engine is the program. Otherwise what follows is read as the port reads
+//! it.
 ghost use Rattle.std.specs.Prelude.{◌≡◌, chars};
 ghost use Rattle.syslog_text.specs.Pieces.Class.{Row, after};
 ghost use Rattle.syslog_text.specs.Pieces.View.{Reads};
 ghost use Rattle.syslog_pieces.specs.Timestamp.Rfc3339.{year as any_year};
 ghost use Rattle.syslog_sent.specs.Sent.{Sends};
-ghost use Rattle.syslog_dated_forms.specs.NetScalerViews.{day_value, month_first_values, slashed_values, year_first_values};
+ghost use Rattle.syslog_dated_forms.specs.NetScalerViews.{day_value, month_first_values, slashed_values};
+ghost use Rattle.syslog_dated_forms.specs.NetScalerViews.{year_first_values};
 ghost use Rattle.syslog_dated_forms.specs.NetScaler as spec;
 
 use crate::dated::says;

@@ -309,7 +309,8 @@ counted_found : TailFound counted_tail
 counted_found = whole_found (left_of dialect.Bracketed None) (beginning (Row counted_row)) (λ x. x) (λ p x is. is.1)
 
 opened_found : TailFound opened_tail
-opened_found = whole_found (left_of dialect.Bracketed None) (beginning (mark_class mark_of.Bracket)) (λ x. x) (λ p x is. is.1)
+opened_found = whole_found (left_of dialect.Bracketed None) (beginning (mark_class mark_of.Bracket)) (λ x. x)
+    (λ p x is. is.1)
 
 graded_all : AllFound (tail_forms graded_tails)
 graded_all = tail_of graded_tail graded_found also tail_of leveled_tail leveled_found

@@ -1,5 +1,5 @@
--- Lines that have blanks between a program's name and the bracket before its process: the name is what is read as a host,
--- so the bracket follows what is read before it.
+-- Lines that have blanks between a program's name and the bracket before its process. The name is what is read as a
+-- host, so the bracket follows what is read before it.
 use Rattle.std.proofs.Common.{◌≡◌, ℕ, ◌<◌, true, false, List, [], ◌∷◌, ◌++◌, length, Bor, Option, Some, None, sym}
 use Rattle.std.proofs.Common.{ap, subst, ◌∙◌, refl, arith}
 use Rattle.std.proofs.lemmas.Bool.Decides.{nat_tests}

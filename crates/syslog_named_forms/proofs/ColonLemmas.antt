@@ -7,7 +7,8 @@ use Rattle.syslog_text.specs.Pieces.Class.{Class, Each, Ends, Front, NoFront, Ro
 use Rattle.syslog_text.specs.Pieces.Class.{texted}
 use Rattle.syslog_text.specs.Text.{IsHost, colon, is_blank, is_tag_char}
 use Rattle.syslog_text.specs.Text.CharClass.{is_id_char}
-use Rattle.syslog_text.proofs.PieceLemmas.Class.{each_append, each_map, front_of, front_same, heads, no_mapped, row_pieces}
+use Rattle.syslog_text.proofs.PieceLemmas.Class.{each_append, each_map, front_of, front_same, heads}
+use Rattle.syslog_text.proofs.PieceLemmas.Class.{no_mapped, row_pieces}
 use Rattle.syslog_text.proofs.PieceLemmas.Class.{some_run_det, texted_det}
 use Rattle.syslog_sent.specs.Named.{NamedTexts, id_row, process_id, program, program_row}
 use Rattle.syslog_sent.specs.Runs.{is_plain_char}

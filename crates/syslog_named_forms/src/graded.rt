@@ -8,10 +8,11 @@
 //! writes its address and that of its hardware after its name (Aruba Instant Syslog Messages): `192.0.2.2 <192.0.2.2
 //! 02:00:00:00:00:01> stm[2112]: text`. Phones of Yealink write process and thread after a blank, and no host: `sua
 //! [768:871]: text`. The log of fail2ban has the process after a name that is filled up with spaces, and no host:
-//! `fail2ban.actions        [2188]: text`. The error logs of PostgreSQL begin with the process after the date (`log_line_prefix` is `%m [%p]
-//! `): `[1133] LOG:  text`; those of MySQL with the number of a thread: `0 [System] [MY-010931] [Server] text`. Those
-//! of OpenStack have the process there, and then a level (oslo.log): `2345 INFO nova.compute.manager text`. Logback and
-//! log4j write a thread in brackets there (`%d [%thread] %-5level`): `[main] INFO  com.example.App - text`.
+//! `fail2ban.actions        [2188]: text`. The error logs of PostgreSQL begin with the process after the date
+//! (`log_line_prefix` is `%m [%p] `): `[1133] LOG:  text`; those of MySQL with the number of a thread: `0 [System]
+//! [MY-010931] [Server] text`. Those of OpenStack have the process there, and then a level (oslo.log): `2345 INFO
+//! nova.compute.manager text`. Logback and log4j write a thread in brackets there (`%d [%thread] %-5level`): `[main]
+//! INFO  com.example.App - text`.
 ghost use Rattle.std.specs.Prelude.{◌≡◌, chars, codes};
 ghost use Rattle.syslog_text.specs.Pieces.Class.{Row, Text, exactly, texted};
 ghost use Rattle.syslog_text.specs.Pieces.View.{Reads, Recognises, seen, shown};

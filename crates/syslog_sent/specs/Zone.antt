@@ -1,8 +1,8 @@
 -- The zone that a sender shows after the time: an offset in digits, or a name. 46 is `.`, 58 `:`.
 --
 -- The names are the alphabetic abbreviations that the IANA time zone database (2024b) has for a zone today, `Z`, and
--- `DST`, which Huawei's devices show in summer (VRP, "Log format"). UTC, GMT and Z are offset 0. The others are not: IST
--- is the time of India, of Israel and of Ireland.
+-- `DST`, which Huawei's devices show in summer (VRP, "Log format"). UTC, GMT and Z are offset 0. The others are not:
+-- IST is the time of India, of Israel and of Ireland.
 use Rattle.std.proofs.Common.{inl, inr}
 use Rattle.std.specs.Prelude.{◌≡◌, ◌⊎◌, ◌||◌, ℕ, ℤ, pos, Bool, true, false, if◌then◌else◌, List, [], ◌∷◌, Option}
 use Rattle.std.specs.Prelude.{Some, None}

@@ -12,7 +12,8 @@ pub returns-then-not-opens_bracket : goal.returns-then-not-opens_bracket
 returns-then-not-opens_bracket c after = no_threaded _ after (sym c.if-not-opens_bracket.ensures)
 
 pub returns-in_err-name : goal.returns-in_err-name
-returns-in_err-name c after = rw c.from_residual.ensures (unread threaded_row threaded_det NamedTexts threaded_of
+returns-in_err-name c after = rw c.from_residual.ensures
+    (unread threaded_row threaded_det NamedTexts threaded_of
     (inl c.in_err-name.ensures))
 
 pub returns-in_err-at_open : goal.returns-in_err-at_open
@@ -26,11 +27,13 @@ returns-in_err-at_id c after = rw c.from_residual-in_err-at_id.ensures
     (c.in_ok-name.ensures past c.in_ok-at_open.ensures past inl c.in_err-at_id.ensures))
 
 pub returns-in_err-id : goal.returns-in_err-id
-returns-in_err-id c after = rw c.from_residual-in_err-id.ensures (unread threaded_row threaded_det NamedTexts threaded_of
+returns-in_err-id c after = rw c.from_residual-in_err-id.ensures
+    (unread threaded_row threaded_det NamedTexts threaded_of
     (c.in_ok-name.ensures past c.in_ok-at_open.ensures past c.in_ok-at_id.ensures past inl c.in_err-id.ensures))
 
 pub returns-in_err-rest : goal.returns-in_err-rest
-returns-in_err-rest c after = rw c.from_residual-in_err-rest.ensures (unread threaded_row threaded_det NamedTexts threaded_of
+returns-in_err-rest c after = rw c.from_residual-in_err-rest.ensures
+    (unread threaded_row threaded_det NamedTexts threaded_of
     (c.in_ok-name.ensures past c.in_ok-at_open.ensures past c.in_ok-at_id.ensures past c.in_ok-id.ensures
     past inl c.in_err-rest.ensures))
 
