@@ -1,15 +1,16 @@
 -- Each character of a line of a dialect that has a date of its own is of a text or of the date that it says, or is left
 -- out.
 use Rattle.std.proofs.Common.{◌≡◌, inl, inr, List, [], ◌∷◌, ◌++◌, Option, Some, None}
-use Rattle.std.proofs.Common.{refl, sym, ap, subst, ◌∙◌, append_assoc, drop, if◌then◌else◌, take}
-use Rattle.std.specs.Char.{is_ascii_digit}
-use Rattle.syslog_text.specs.Pieces.Class.{Text, Class, Each, Values, Front, Row, exactly, optional}
+use Rattle.std.proofs.Common.{refl, sym, ap, subst, ◌∙◌, append_assoc, drop, if◌then◌else◌, nat_eq, not, take}
+use Rattle.std.specs.Char.{is_ascii_digit, is_not_whitespace}
+use Rattle.syslog_text.specs.Pieces.Class.{Text, Class, Each, Ends, Values, Front, Row, exactly, optional}
 use Rattle.syslog_text.specs.Pieces.Class.{run}
 use Rattle.syslog_text.specs.Pieces.Class.{some_run, spaced}
 use Rattle.syslog_text.specs.Pieces.Rules.{such_that}
 use Rattle.syslog_text.specs.Text.{host, is_blank, number, tag_word}
 use Rattle.syslog_text.specs.Text.CharClass.{is_label_char}
-use Rattle.syslog_text.proofs.PieceLemmas.Class.{◌also◌, ◌then◌, division_front, front_of, present_front, row_head}
+use Rattle.syslog_text.proofs.PieceLemmas.Class.{◌also◌, ◌then◌, division_front, each_left, front_of, present_front}
+use Rattle.syslog_text.proofs.PieceLemmas.Class.{row_head}
 use Rattle.syslog_text.proofs.PieceLemmas.Class.{row_of}
 use Rattle.syslog_loose.specs.Rfc3164.{HasProcess, Names3164, NamesByForm, Resolves, names}
 use Rattle.syslog_loose.specs.TagForm.{IsForm, IsIdOf}
@@ -25,43 +26,46 @@ use Rattle.syslog_dated_forms.specs.Cisco.{task_row}
 use Rattle.syslog_dated_forms.specs.Undated as undated
 use Rattle.syslog_dated_forms.specs.Ucm.{half_date, ucm_row, ucm_sent}
 use Rattle.syslog_dated_forms.specs.Undated.{IsName, name_label, uptime}
-use Rattle.syslog_dated_forms.specs.Container.{container_row, output}
+use Rattle.syslog_dated_forms.specs.Container.{IsStream, container_form, container_row, output, stream_row}
 use Rattle.syslog_sent.specs.Date.{any_date, bsd_date, iso_date, odd_bsd_date, odd_iso_date}
-use Rattle.syslog_dated_forms.specs.Dated.{bsd_row, ctime_message_row, ctime_message_sent, ctime_row, dated_sent}
+use Rattle.syslog_dated_forms.specs.Dated.{bsd_row, ctime_form, ctime_message_form, ctime_message_row}
+use Rattle.syslog_dated_forms.specs.Dated.{ctime_message_sent, ctime_row, dated_sent, journal_form}
 use Rattle.syslog_dated_forms.specs.Dated.{iso_row, journal_row, year_date, year_date_row, year_row}
 use Rattle.syslog_sent.specs.Date.{weekday}
 use Rattle.syslog_dated_forms.specs.DatedForms as dated
 use Rattle.syslog_dated_forms.specs.DatedForms.{xr_forms}
 use Rattle.syslog_dialects.specs.Dialects.{dated_forms}
-use Rattle.syslog_dated_forms.specs.Esxi.{esxi_row, esxi_sent, mark_row}
-use Rattle.syslog_dated_forms.specs.Kiwi.{kiwi_row, kiwi_sent, level_row}
+use Rattle.syslog_dated_forms.specs.Esxi.{esxi_form, esxi_row, esxi_sent, mark_row}
+use Rattle.syslog_dated_forms.specs.Kiwi.{kiwi_form, kiwi_row, kiwi_sent, level_row}
 use Rattle.syslog_dated_forms.specs.Filed.{IsAny, filed_forms, filed_row, filed_sent}
-use Rattle.syslog_dated_forms.specs.InBrackets.{in_brackets_row, in_brackets_sent, stamp}
-use Rattle.syslog_dialects.specs.Found.{AreFound, Date, IsDateOf, IsTold, Name, Part}
-use Rattle.syslog_dialects.specs.Found.{Tells, beside, cisco_hosts, cisco_left_out, date_first, filed_date}
+use Rattle.syslog_dated_forms.specs.InBrackets.{in_brackets_form, in_brackets_row, in_brackets_sent, stamp}
+use Rattle.syslog_dialects.specs.Found.{AreFound, Date, IsDateOf, Name, Part}
+use Rattle.syslog_dialects.specs.Found.{beside, cisco_hosts, cisco_left_out, date_first, filed_date}
 use Rattle.syslog_dialects.specs.Found.{filed_device, filed_rest, host_alone, host_first, if_there}
 use Rattle.syslog_dialects.specs.Found.{is_sign, left_of, left_out, second_place}
 use Rattle.syslog_dated_forms.specs.IosXr.{card, card_row, host_in, node, process, process_in, process_row, xr_row}
 use Rattle.syslog_dated_forms.specs.IosXr.{xr_sent}
 use Rattle.syslog_dated_forms.specs.IosXr as xr
 use Rattle.syslog_named_forms.specs.Graded.{source_row}
-use Rattle.syslog_sent.specs.Named.{◌otherwise◌, BeginsWith, beginning, is_letter}
-use Rattle.syslog_dated_forms.specs.NetScaler.{netscaler_row, slashed_date, unnamed_row, unnamed_sent}
-use Rattle.syslog_dated_forms.specs.OpenWrt.{logread_row, logread_sent}
-use Rattle.syslog_dated_forms.specs.ProCurve.{IsSwitch, procurve_row, procurve_sent}
+use Rattle.syslog_sent.specs.Named.{◌otherwise◌, BeginsWith, is_letter}
+use Rattle.syslog_dated_forms.specs.NetScaler.{netscaler_row, slashed_date, unnamed_form, unnamed_row, unnamed_sent}
+use Rattle.syslog_dated_forms.specs.OpenWrt.{logread_form, logread_row, logread_sent}
+use Rattle.syslog_dated_forms.specs.ProCurve.{IsSwitch, procurve_form, procurve_row, procurve_sent}
 use Rattle.syslog_sent.specs.Selector.{selector_row}
 use Rattle.syslog_sent.specs.Sent.{Form, IsSent, SentValue, loose}
 use Rattle.syslog_dated_forms.specs.SophosUtm.{colon_date, utm_row}
 use Rattle.syslog_dated_forms.specs.Tail.{TailValue, spare, tail, tail_row, wide_row, wide_tail}
-use Rattle.syslog_dated_forms.specs.UnixSeconds.{IsEventType, meraki_row, meraki_sent, short_row, short_sent, typed_row}
-use Rattle.syslog_dated_forms.specs.UnixSeconds.{typed_sent, unix_date}
+use Rattle.syslog_dated_forms.specs.UnixSeconds.{IsEventType, meraki_form, meraki_row, meraki_sent, short_form}
+use Rattle.syslog_dated_forms.specs.UnixSeconds.{short_row, short_sent, typed_form, typed_row, typed_sent, unix_date}
 use Rattle.syslog_sent.specs.Zone.{bare_word}
 use Rattle.syslog_sent.specs.declared.dialect.Dialect.{Dialect}
 use Rattle.syslog_sent.specs.declared.dialect.Dialect.TheVariants as dialect
 use Rattle.syslog_sent.specs.declared.sent.SentDate.{SentDate}
-use Rattle.syslog_dialects.proofs.MessageLemmas.{end_of}
 use Rattle.syslog_dialects.proofs.OrderLemmas.{Ending, Shows, a_colon, a_date, a_gap, a_host, a_program, a_sign}
 use Rattle.syslog_dialects.proofs.OrderLemmas.{bare as bare_text, before_rest, blank_signs, blanks}
+use Rattle.syslog_dialects.proofs.OrderLemmas.{Told, ToldSo, before_message, before_spaced_rest, end_of, is_told}
+use Rattle.syslog_dialects.proofs.OrderLemmas.{whole_of}
+use Rattle.syslog_loose.proofs.PrintedLemmas.{visible_ends_blanks}
 use Rattle.syslog_dialects.proofs.OrderLemmas.{dash_field, host_named, last_found, mapped_found, maybe, maybe_colon}
 use Rattle.syslog_dialects.proofs.OrderLemmas.{meant, name_before, no_field, out_more, passed, perhaps}
 use Rattle.syslog_dialects.proofs.OrderLemmas.{row_has, row_more, signs_before, tag_named, text_field}
@@ -70,9 +74,10 @@ use Rattle.syslog_dialects.proofs.OrderLemmas.{IsOut, such, whole_found}
 
 -- ---- forms
 
--- of each text of the form each character is accounted for
+-- of each text of the form each character is accounted for, and no blank begins its message
 abbrev pub IsFoundForm : Form → Type 0
-IsFoundForm F = (text : Text) (sent : SentValue) → IsSent F text sent → AreFound F.dialect text sent
+IsFoundForm F = (text : Text) (sent : SentValue) → IsSent F text sent
+    → AreFound F.dialect text sent × Ends is_blank sent.msg
 
 abbrev pub AllFound : List Form → Type 0
 AllFound [] = Unit {0}
@@ -85,7 +90,7 @@ both_found (F ∷ As) Bs a b = (a.0, both_found As Bs a.1 b)
 -- the pieces of a row tell what they say
 abbrev RowTold : Dialect → (row : List Class) → (Values row → SentValue) → Type 0
 RowTold it row says_of = (t : Text) (v : Values row) → Front (Row row) t [] v
-    → IsTold (left_of it (says_of v).hostname) t (says_of v)
+    → ToldSo (left_of it (says_of v).hostname) t (says_of v)
 
 -- with the date before the host, whichever that is
 abbrev pub RowFound : Dialect → (row : List Class) → (Values row → SentValue) → Type 0
@@ -96,7 +101,8 @@ RowFound it row says_of = (h : Option Text)
 pub said_so : (it : Dialect) (row : List Class) (says_of : Values row → SentValue) → RowTold it row says_of
     → IsFoundForm (record { dialect = it; row = row; Means = λ v s. s ≡ says_of v })
 said_so it row says_of told text sent s =
-    subst (AreFound it text) (sym s.means) (inl (told text s.values (division_front row s.division)))
+    let (is, front) = is_told (says_of s.values) (told text s.values (division_front row s.division)) in
+    subst (λ (x : SentValue). AreFound it text x × Ends is_blank x.msg) (sym s.means) (inl is, front)
 
 pub said : (it : Dialect) (row : List Class) (says_of : Values row → SentValue) → RowFound it row says_of
     → IsFoundForm (record { dialect = it; row = row; Means = λ v s. s ≡ says_of v })
@@ -195,7 +201,8 @@ a_place Cs = meant (Row place_row) (Option Text) (λ v. v.1.0) (if_there Name) (
 -- the tag, and nothing else
 tag_found : (left : List Class) → Ending left (Row message_row) (λ v. Name v.0 ∷ []) (λ v. v.1.1.1.1.0)
 tag_found left =
-    before_rest left (take 4 message_row) (bare_text IsMnemonic also blanks also a_colon also blanks also tt)
+    before_rest left (take 3 message_row)
+    (bare_text IsMnemonic also blanks also a_colon also tt)
 
 -- the host, where it comes before the date, or after it
 abbrev cisco_parts : Values cisco_row → List Part
@@ -205,14 +212,14 @@ cisco_parts (Some h, ((y, (date, _)), (other, ((tag, _), _)))) = Name h ∷ Date
 
 -- where no host comes before the date
 led_found : (Cs : List Class) (t : Text) (v : Values (drop 1 cisco_row)) → Front (Row cisco_row) t [] (None, v)
-    → Tells (cisco_left_out ++ Cs) t (cisco_parts (None, v)) (cisco_sent (None, v)).msg
+    → Told (cisco_left_out ++ Cs) t (cisco_parts (None, v)) (cisco_sent (None, v)).msg
 led_found Cs t v f = last_found (cisco_left_out ++ Cs) (take 3 cisco_row)
     (a_start Cs also a_cisco_date also a_place Cs also tt) (Row message_row) (λ w. Name w.0 ∷ []) (λ w. w.1.1.1.1.0)
     (tag_found (cisco_left_out ++ Cs)) t (None, v) f
 
 -- where one does, the second is left out
 hosted_found : (t h : Text) (v : Values (drop 1 cisco_row)) → Front (Row cisco_row) t [] (Some h, v)
-    → Tells (cisco_left_out ++ cisco_hosts) t (cisco_parts (Some h, v)) (cisco_sent (Some h, v)).msg
+    → Told (cisco_left_out ++ cisco_hosts) t (cisco_parts (Some h, v)) (cisco_sent (Some h, v)).msg
 hosted_found t h v f =
     let (u, started, more) = row_head start (drop 1 cisco_row) f in
     let (w, dated, others) = row_head (Row date_row) (drop 2 cisco_row) more in
@@ -228,7 +235,7 @@ hosted_found t h v f =
 -- a row that says what a line of Cisco's does
 abbrev CiscoTold : (row : List Class) → (Values row → SentValue) → Type 0
 CiscoTold row says_of = (t : Text) (v : Values row) → Front (Row row) t [] v
-    → IsTold (cisco_left_out ++ beside (says_of v).hostname cisco_hosts) t (says_of v)
+    → ToldSo (cisco_left_out ++ beside (says_of v).hostname cisco_hosts) t (says_of v)
 
 cisco_told : CiscoTold cisco_row cisco_sent
 cisco_told t (None, v) f = inl (led_found (beside v.1.0 cisco_hosts) t v f)
@@ -250,21 +257,21 @@ cisco_all =
 
 -- the same parts of more text
 told_more : (left : List Class) {t u : Text} (sent : SentValue)
-    → ((parts : List Part) → Tells left u parts sent.msg → Tells left t parts sent.msg)
-    → IsTold left u sent → IsTold left t sent
+    → ((parts : List Part) → Told left u parts sent.msg → Told left t parts sent.msg)
+    → ToldSo left u sent → ToldSo left t sent
 told_more left sent more (inl told) = inl (more (date_first sent) told)
 told_more left sent more (inr told) = inr (more (host_first sent) told)
 
 line_found : (line : Values cisco_row) {t : Text} → Front (Row cisco_row) t [] line
-    → Tells (cisco_left_out ++ cisco_hosts) t (cisco_parts line) (cisco_sent line).msg
+    → Told (cisco_left_out ++ cisco_hosts) t (cisco_parts line) (cisco_sent line).msg
 line_found (None, v) {t} f = led_found cisco_hosts t v f
 line_found (Some h, v) {t} f = hosted_found t h v f
 
 -- the device is the host where the line shows none
 device_told : (device : Text) (line : Values cisco_row) {t u : Text} → Front origin t u device
     → Front (Row filed_rest) u [] (tt, (line, tt))
-    → Tells (cisco_left_out ++ cisco_hosts) u (cisco_parts line) (cisco_sent line).msg
-    → IsTold (cisco_left_out ++ beside (filed_sent device line).hostname cisco_hosts) t (filed_sent device line)
+    → Told (cisco_left_out ++ cisco_hosts) u (cisco_parts line) (cisco_sent line).msg
+    → ToldSo (cisco_left_out ++ beside (filed_sent device line).hostname cisco_hosts) t (filed_sent device line)
 device_told device (Some h, v) {u = u} f more told = inr (out_more origin f
     (device_out f.piece u device (f.is, ([], (tt, ((Some h, v), tt)), more))) told)
 device_told device (None, (d, (Some o, v))) {u = u} f more told = inl (out_more origin f
@@ -327,9 +334,9 @@ timed_cisco h = last_found (left_of dialect.CiscoUndated h) (take 8 undated.time
 
 process_found : (left : List Class) → Ending left process (λ v. Name v.0 ∷ Name v.1.0 ∷ []) (λ v. v.1.1)
 process_found left = mapped_found left (Row process_row) (Text × (Text × Text)) process_in
-    (λ v. Name v.0 ∷ Name v.1.0 ∷ []) (λ v. v.1.1) (before_rest left (take 9 process_row)
+    (λ v. Name v.0 ∷ Name v.1.0 ∷ []) (λ v. v.1.1) (before_rest left (take 8 process_row)
     (blanks also maybe_colon also blanks also text_of (some_run is_label_char) also a_sign 91 refl
-    also text_of (some_run is_ascii_digit) also a_sign 93 refl also a_colon also blanks also tt))
+    also text_of (some_run is_ascii_digit) also a_sign 93 refl also a_colon also tt))
 
 abbrev an_xr_host : {left : List Class} → Shows left xr.host
 an_xr_host {left} = meant (Row xr.host_row) Text (λ v. v.0) (λ t parts. Name t ∷ parts)
@@ -363,52 +370,52 @@ abbrev pub three : Option Text → Option Text → Option Text → List Part
 three host app id = if_there Name host (if_there Name app (if_there Name id []))
 
 -- a text of the form
-form_told : {left : List Class} (it tag id : Text) {u msg : Text} → IsForm it tag id → Tells left u [] msg
-    → Tells left (it ++ u) (Name tag ∷ Name id ∷ []) msg
+form_told : {left : List Class} (it tag id : Text) {u msg : Text} → IsForm it tag id → Told left u [] msg
+    → Told left (it ++ u) (Name tag ∷ Name id ∷ []) msg
 form_told {left} it tag id {u} {msg} form told =
     let same = ap (λ (x : Text). x ++ u) (form_parts it tag id form).whole
     ∙ append_assoc tag (91 ∷ (id ++ (93 ∷ []))) u
     ∙ ap (λ (x : Text). tag ++ (91 ∷ x)) (append_assoc id (93 ∷ []) u) in
-    subst (λ (x : Text). Tells left x (Name tag ∷ Name id ∷ []) msg) (sym same)
+    subst (λ (x : Text). Told left x (Name tag ∷ Name id ∷ []) msg) (sym same)
     (name_before tag (signs_before (91 ∷ []) (refl, tt) (name_before id (signs_before (93 ∷ []) (refl, tt) told))))
 
 id_told : {left : List Class} (it tag id : Text) (process : Option Text) {u msg : Text} → IsForm it tag id
-    → IsIdOf it process → Tells left u [] msg → Tells left (it ++ u) (Name tag ∷ if_there Name process []) msg
+    → IsIdOf it process → Told left u [] msg → Told left (it ++ u) (Name tag ∷ if_there Name process []) msg
 id_told it tag id None form is told = absurd (is (tag, (tt, (id, (tt, tt)))) form)
 id_told {left} it tag id (Some id') {u} {msg} form (tag', form') told =
-    subst (λ (x : Text). Tells left (it ++ u) (Name x ∷ Name id' ∷ []) msg)
+    subst (λ (x : Text). Told left (it ++ u) (Name x ∷ Name id' ∷ []) msg)
     (one_form it tag' id' tag id form' form).0 (form_told it tag' id' form' told)
 
 -- the name of a program, which follows what tells this host
 program_told : {left : List Class} (h : Option Text) (it : Text) (n : Names3164) (id : Option Text) {t u msg : Text}
-    → NamesByForm h it (names h (Some it) None) n → IsIdOf it id → Tells left u [] msg
-    → ((parts : List Part) → Tells left (it ++ u) parts msg → Tells left t (if_there Name h parts) msg)
-    → Tells left t (three n.hostname n.appname id) msg
+    → NamesByForm h it (names h (Some it) None) n → IsIdOf it id → Told left u [] msg
+    → ((parts : List Part) → Told left (it ++ u) parts msg → Told left t (if_there Name h parts) msg)
+    → Told left t (three n.hostname n.appname id) msg
 program_told {left} h it n id {t} {msg = msg} (inl (tag, number, of, form, named, e)) is told more =
-    subst (λ (x : Names3164). Tells left t (three x.hostname x.appname id) msg) (sym e)
+    subst (λ (x : Names3164). Told left t (three x.hostname x.appname id) msg) (sym e)
     (more (Name tag ∷ if_there Name id []) (id_told it tag number id form is told))
 program_told {left} h it n None {t} {msg = msg} (inr (no_form, e)) is told more =
-    subst (λ (x : Names3164). Tells left t (three x.hostname x.appname None) msg) (sym e)
+    subst (λ (x : Names3164). Told left t (three x.hostname x.appname None) msg) (sym e)
     (more (Name it ∷ []) (name_before it told))
 program_told h it n (Some id) (inr (no_form, e)) (tag, form) told more =
     absurd (no_form (tag, (tt, (id, (tt, tt)))) form)
 
 -- a lone name
 lone_told : {left : List Class} (it : Text) (n : Names3164) (id : Option Text) {u msg : Text}
-    → NamesByForm None it (names (Some it) None None) n → IsIdOf it id → Tells left u [] msg
-    → Tells left (it ++ u) (three n.hostname n.appname id) msg
+    → NamesByForm None it (names (Some it) None None) n → IsIdOf it id → Told left u [] msg
+    → Told left (it ++ u) (three n.hostname n.appname id) msg
 lone_told {left} it n id {u} {msg} (inl (tag, number, of, form, named, e)) is told =
-    subst (λ (x : Names3164). Tells left (it ++ u) (three x.hostname x.appname id) msg) (sym e)
+    subst (λ (x : Names3164). Told left (it ++ u) (three x.hostname x.appname id) msg) (sym e)
     (id_told it tag number id form is told)
 lone_told {left} it n None {u} {msg} (inr (no_form, e)) is told =
-    subst (λ (x : Names3164). Tells left (it ++ u) (three x.hostname x.appname None) msg) (sym e) (name_before it told)
+    subst (λ (x : Names3164). Told left (it ++ u) (three x.hostname x.appname None) msg) (sym e) (name_before it told)
 lone_told it n (Some id) (inr (no_form, e)) (tag, form) told = absurd (no_form (tag, (tt, (id, (tt, tt)))) form)
 
 no_names : {left : List Class} (n : Names3164) (id : Option Text) {t msg : Text} → n ≡ names None None None
-    → id ≡ None → Tells left t [] msg → Tells left t (three n.hostname n.appname id) msg
+    → id ≡ None → Told left t [] msg → Told left t (three n.hostname n.appname id) msg
 no_names {left} n id {t} {msg} e f told =
-    subst (λ (x : Names3164). Tells left t (three x.hostname x.appname id) msg) (sym e)
-    (subst (λ (x : Option Text). Tells left t (if_there Name x []) msg) (sym f) told)
+    subst (λ (x : Names3164). Told left t (three x.hostname x.appname id) msg) (sym e)
+    (subst (λ (x : Option Text). Told left t (if_there Name x []) msg) (sym f) told)
 
 abbrev tail_parts : TailValue → List Part
 tail_parts v = three v.hostname v.appname v.process
@@ -416,8 +423,8 @@ tail_parts v = three v.hostname v.appname v.process
 -- beside the tag `-` a host is left out
 module _ (Cs : List Class) where
   alone_told : {t u w msg : Text} (h : Text) → Front (optional (spaced host)) t u (Some (Some h))
-      → Front (optional (spaced tag_word)) u w (Some None) → Tells (host_alone ∷ Cs) w [] msg
-      → Tells (host_alone ∷ Cs) t [] msg
+      → Front (optional (spaced tag_word)) u w (Some None) → Told (host_alone ∷ Cs) w [] msg
+      → Told (host_alone ∷ Cs) t [] msg
   alone_told {w = w} h f g told =
       let it = present_front (spaced host) f in
       let tag = present_front (spaced tag_word) g in
@@ -429,8 +436,8 @@ module _ (Cs : List Class) where
   -- the names that the two fields mean
   fields_told : (origin program : Option (Option Text)) (n : Names3164) (id : Option Text) {t u w msg : Text}
       → Resolves origin program n → HasProcess origin program id → Front (optional (spaced host)) t u origin
-      → Front (optional (spaced tag_word)) u w program → Tells (host_alone ∷ Cs) w [] msg
-      → Tells (host_alone ∷ Cs) t (three n.hostname n.appname id) msg
+      → Front (optional (spaced tag_word)) u w program → Told (host_alone ∷ Cs) w [] msg
+      → Told (host_alone ∷ Cs) t (three n.hostname n.appname id) msg
   fields_told None None n id e is f g told =
       no_names n id e is (no_field (spaced host) f (no_field (spaced tag_word) g told))
   fields_told (Some None) None n id e is f g told =
@@ -456,10 +463,10 @@ module _ (Cs : List Class) where
       front_of f.piece f.whole row in
       let (u, a, others) = row_head (optional (spaced host)) (drop 1 tail_row) fields in
       let (w, b, ends) = row_head (optional (spaced tag_word)) (drop 2 tail_row) others in
-      let told = before_rest (host_alone ∷ Cs) (take 3 (drop 2 tail_row))
-      (blanks also maybe_colon also blanks also tt) w (tt, (m, (tt, (v.msg, tt)))) ends in
-      subst (λ (x : Option Text). Tells (host_alone ∷ Cs) t (three x v.appname v.process) v.msg) (sym same_host)
-      (subst (λ (x : Option Text). Tells (host_alone ∷ Cs) t (three n.hostname x v.process) v.msg) (sym same_app)
+      let told = before_rest (host_alone ∷ Cs) (take 2 (drop 2 tail_row))
+      (blanks also maybe_colon also tt) w (tt, (m, (tt, (v.msg, tt)))) ends in
+      subst (λ (x : Option Text). Told (host_alone ∷ Cs) t (three x v.appname v.process) v.msg) (sym same_host)
+      (subst (λ (x : Option Text). Told (host_alone ∷ Cs) t (three n.hostname x v.process) v.msg) (sym same_app)
       (fields_told o g n v.process by is a b told))
 
   wide_found : Ending (host_alone ∷ Cs) wide_tail tail_parts (λ v. v.msg)
@@ -477,71 +484,85 @@ module _ (Cs : List Class) where
 
 -- ---- other dates
 
-container_found : RowFound dialect.Container container_row (λ v. loose (Some v.1.0) None None None v.1.1.1.0)
-container_found h = last_found (left_of dialect.Container h) (take 3 container_row)
+-- the name of a stream begins the message, and is no blank
+output_found : (left : List Class) → Ending left output (λ v. []) (λ v. v)
+output_found left t v f =
+    let (r, words, stream) = f.is.2 in
+    let (q, word, more) = row_head (such_that bare_word IsStream) (drop 1 stream_row) stream in
+    let (u, is, e) = word.is.0 in
+    let visible = each_left is_not_whitespace (λ c. not (nat_eq c 58)) word.piece is.1 in
+    whole_found left output (λ x. x) (λ p x is. is.1) t v
+    (subst (Ends is_blank) (sym word.whole ∙ whole_of output f) (visible_ends_blanks word.piece q is.0 visible)) f
+
+container_found : IsFoundForm container_form
+container_found = said dialect.Container container_row (λ v. loose (Some v.1.0) None None None v.1.1.1.0)
+    (λ h. last_found (left_of dialect.Container h) (take 3 container_row)
     (blanks also an_iso_date also a_sign 32 refl also tt) output (λ v. []) (λ v. v)
-    (whole_found (left_of dialect.Container h) output (λ v. v) (λ p v is. is.1))
+    (output_found (left_of dialect.Container h)))
 
-esxi_found : RowFound dialect.Esxi esxi_row esxi_sent
-esxi_found h = before_rest (left_of dialect.Esxi h) (take 7 esxi_row)
+esxi_found : IsFoundForm esxi_form
+esxi_found = said dialect.Esxi esxi_row esxi_sent (λ h. before_rest (left_of dialect.Esxi h) (take 6 esxi_row)
     (blanks also an_iso_date also a_gap also passed (Row mark_row) (λ p q v is. inr (inl (v, is))) also a_gap
-    also a_program also blanks also tt)
+    also a_program also tt))
 
-kiwi_found : RowFound dialect.SeverityFirst kiwi_row kiwi_sent
-kiwi_found h = before_rest (left_of dialect.SeverityFirst h) (take 6 kiwi_row)
-    (blanks also an_iso_date
+kiwi_found : IsFoundForm kiwi_form
+kiwi_found = said dialect.SeverityFirst kiwi_row kiwi_sent
+    (λ h. before_rest (left_of dialect.SeverityFirst h) (take 5 kiwi_row) (blanks also an_iso_date
     also passed (Row level_row) (λ p q v is. inr (inr (inr (inr (inr (inr (inr (inl (v, is)))))))))
-    also a_host also a_sign 9 refl also blanks also tt)
+    also a_host also a_sign 9 refl also tt))
 
-procurve_found : RowFound dialect.ProCurve procurve_row procurve_sent
-procurve_found h = before_rest (left_of dialect.ProCurve h) (take 10 procurve_row)
+procurve_found : IsFoundForm procurve_form
+procurve_found = said dialect.ProCurve procurve_row procurve_sent
+    (λ h. before_rest (left_of dialect.ProCurve h) (take 9 procurve_row)
     (blanks also an_any_date also a_gap also such host IsSwitch a_host also a_gap
     also passed (some_run is_ascii_digit) (λ p q v is. inr (inl (v, is))) also a_gap
-    also bare_text (BeginsWith is_letter) also a_colon also blanks also tt)
+    also bare_text (BeginsWith is_letter) also a_colon also tt))
 
-logread_found : RowFound dialect.SeverityFirst logread_row logread_sent
-logread_found h = before_rest (left_of dialect.SeverityFirst h) (take 9 logread_row)
+logread_found : IsFoundForm logread_form
+logread_found = said dialect.SeverityFirst logread_row logread_sent
+    (λ h. before_rest (left_of dialect.SeverityFirst h) (take 8 logread_row)
     (blanks also passed weekday (λ p q v is. inr (inl (v, is))) also a_gap also an_any_date also a_gap
-    also passed (Row selector_row) (λ p q v is. inr (inr (inr (inl (v, is))))) also a_gap also a_program also blanks
-    also tt)
+    also passed (Row selector_row) (λ p q v is. inr (inr (inr (inl (v, is))))) also a_gap also a_program also tt))
 
-meraki_found : RowFound dialect.UnixSeconds meraki_row meraki_sent
-meraki_found h = before_rest (left_of dialect.UnixSeconds h) (take 7 meraki_row)
+meraki_found : IsFoundForm meraki_form
+meraki_found = said dialect.UnixSeconds meraki_row meraki_sent
+    (λ h. before_spaced_rest (left_of dialect.UnixSeconds h) (take 6 meraki_row)
     (blanks also passed (exactly (49 ∷ [])) (λ p q v is. inr (inl (v, is))) also a_gap also a_unix_date also a_gap
-    also an_origin also a_gap also tt)
+    also an_origin also tt))
 
-typed_found : RowFound dialect.UnixSeconds typed_row typed_sent
-typed_found h = last_found (left_of dialect.UnixSeconds h) (take 5 typed_row)
-    (blanks also a_unix_date also a_gap also an_origin also a_gap also tt)
-    (beginning (such_that bare_word IsEventType)) (λ x. []) (λ x. x)
-    (whole_found (left_of dialect.UnixSeconds h) (beginning (such_that bare_word IsEventType)) (λ x. x) (λ p x is.
-    is.1))
+typed_found : IsFoundForm typed_form
+typed_found = said dialect.UnixSeconds typed_row typed_sent
+    (λ h. before_message (left_of dialect.UnixSeconds h) (take 4 typed_row)
+    (blanks also a_unix_date also a_gap also an_origin also tt) (such_that bare_word IsEventType))
 
-unnamed_found : RowFound dialect.NetScaler unnamed_row unnamed_sent
-unnamed_found h = before_rest (left_of dialect.NetScaler h) (take 7 unnamed_row)
-    (blanks also a_slashed_date
+unnamed_found : IsFoundForm unnamed_form
+unnamed_found = said dialect.NetScaler unnamed_row unnamed_sent
+    (λ h. before_rest (left_of dialect.NetScaler h) (take 6 unnamed_row) (blanks also a_slashed_date
     also passed (exactly (32 ∷ 32 ∷ [])) (λ p q v is. inl (subst (Each is_sign) (sym is) (refl, (refl, tt))))
-    also text_of (some_run is_label_char) also a_gap also a_colon also blanks also tt)
+    also text_of (some_run is_label_char) also a_gap also a_colon also tt))
 
-short_found : RowFound dialect.UnixSeconds short_row short_sent
-short_found h = before_rest (left_of dialect.UnixSeconds h) (take 7 short_row)
-    (blanks also a_unix_date also a_gap also a_host also a_gap also a_program also blanks also tt)
+short_found : IsFoundForm short_form
+short_found = said dialect.UnixSeconds short_row short_sent
+    (λ h. before_rest (left_of dialect.UnixSeconds h) (take 6 short_row)
+    (blanks also a_unix_date also a_gap also a_host also a_gap also a_program also tt))
 
-journal_found : RowFound dialect.Journal journal_row (λ v. dated_sent v.1.1.1.0 v.1.1.1.1.0)
-journal_found h = last_found (left_of dialect.Journal h) (take 4 journal_row)
+journal_found : IsFoundForm journal_form
+journal_found = said dialect.Journal journal_row (λ v. dated_sent v.1.1.1.0 v.1.1.1.1.0)
+    (λ h. last_found (left_of dialect.Journal h) (take 4 journal_row)
     (blanks also passed weekday (λ p q v is. inr (inr (inl (v, is)))) also a_gap also an_iso_date also tt) wide_tail
-    tail_parts (λ v. v.msg) (wide_found (weekday ∷ beside h []))
+    tail_parts (λ v. v.msg) (wide_found (weekday ∷ beside h [])))
 
-ctime_found : RowFound dialect.BsdDate ctime_row (λ v. dated_sent v.1.1.1.0 v.1.1.1.1.0)
-ctime_found h = last_found (left_of dialect.BsdDate h) (take 4 ctime_row)
+ctime_found : IsFoundForm ctime_form
+ctime_found = said dialect.BsdDate ctime_row (λ v. dated_sent v.1.1.1.0 v.1.1.1.1.0)
+    (λ h. last_found (left_of dialect.BsdDate h) (take 4 ctime_row)
     (blanks also passed weekday (λ p q v is. inr (inr (inl (v, is)))) also a_gap also a_bsd_date also tt) wide_tail
-    tail_parts (λ v. v.msg) (wide_found (weekday ∷ Row source_row ∷ beside h []))
+    tail_parts (λ v. v.msg) (wide_found (weekday ∷ Row source_row ∷ beside h [])))
 
-ctime_message_found : RowFound dialect.Bracketed ctime_message_row ctime_message_sent
-ctime_message_found h = last_found (left_of dialect.Bracketed h) (take 5 ctime_message_row)
-    (blanks also passed weekday (λ p q v is. inr (inl (v, is))) also a_gap also a_bsd_date also a_gap also tt)
-    (beginning (exactly (91 ∷ []))) (λ x. []) (λ x. x)
-    (whole_found (left_of dialect.Bracketed h) (beginning (exactly (91 ∷ []))) (λ x. x) (λ p x is. is.1))
+ctime_message_found : IsFoundForm ctime_message_form
+ctime_message_found = said dialect.Bracketed ctime_message_row ctime_message_sent
+    (λ h. before_message (left_of dialect.Bracketed h) (take 4 ctime_message_row)
+    (blanks also passed weekday (λ p q v is. inr (inl (v, is))) also a_gap also a_bsd_date also tt)
+    (exactly (91 ∷ [])))
 
 -- a year and a date are such as Cisco's may be
 year_shown : (p q : Text) (v : Values year_date_row) → (Row year_date_row).Is p q v
@@ -553,34 +574,26 @@ abbrev a_year_date : {left : List Class} → Shows left year_date
 a_year_date = a_date year_date (λ d. d)
     (λ p q d (v, is, same). inr (inr (inl ((Some v.0, v.1), year_shown p q v is, same))))
 
-in_brackets_found : RowFound dialect.Bracketed in_brackets_row in_brackets_sent
-in_brackets_found h = before_rest (left_of dialect.Bracketed h) (take 5 in_brackets_row)
-    (blanks also a_sign 91 refl also a_stamp also a_sign 93 refl also blanks also tt)
+in_brackets_found : IsFoundForm in_brackets_form
+in_brackets_found = said dialect.Bracketed in_brackets_row in_brackets_sent
+    (λ h. before_rest (left_of dialect.Bracketed h) (take 4 in_brackets_row)
+    (blanks also a_sign 91 refl also a_stamp also a_sign 93 refl also tt))
 
 xr_all : AllFound xr_forms
 xr_all =
-    said_so dialect.CiscoIosXr xr_row xr_sent xr_found
-    also said dialect.Container container_row (λ v. loose (Some v.1.0) None None None v.1.1.1.0) container_found
-    also said dialect.Esxi esxi_row esxi_sent esxi_found
-    also said dialect.SeverityFirst kiwi_row kiwi_sent kiwi_found
-    also said dialect.ProCurve procurve_row procurve_sent procurve_found
-    also said dialect.Journal journal_row (λ v. dated_sent v.1.1.1.0 v.1.1.1.1.0) journal_found
-    also said_so dialect.CiscoIos ucm_row ucm_sent ucm_found
-    also said dialect.NetScaler unnamed_row unnamed_sent unnamed_found
+    said_so dialect.CiscoIosXr xr_row xr_sent xr_found also container_found also esxi_found also kiwi_found
+    also procurve_found also journal_found also said_so dialect.CiscoIos ucm_row ucm_sent ucm_found
+    also unnamed_found
     also said dialect.NetScaler netscaler_row (λ v. dated_sent v.1.0 v.1.1.0)
     (λ h. dated_found (beside h []) slashed_date a_slashed_date)
     also said dialect.SophosUtm utm_row (λ v. dated_sent v.1.0 v.1.1.0)
     (λ h. dated_found (beside h []) colon_date a_colon_date)
-    also said dialect.SeverityFirst logread_row logread_sent logread_found
-    also said dialect.Bracketed ctime_message_row ctime_message_sent ctime_message_found
-    also said dialect.BsdDate ctime_row (λ v. dated_sent v.1.1.1.0 v.1.1.1.1.0) ctime_found
+    also logread_found also ctime_message_found also ctime_found
     also said dialect.BsdDate year_row (λ v. dated_sent v.1.0 v.1.1.0)
     (λ h. dated_found (weekday ∷ Row source_row ∷ beside h []) year_date a_year_date)
-    also said dialect.UnixSeconds meraki_row meraki_sent meraki_found
-    also said dialect.UnixSeconds short_row short_sent short_found
-    also said dialect.UnixSeconds typed_row typed_sent typed_found
+    also meraki_found also short_found also typed_found
     also said dialect.CiscoUndated undated.undated_row undated.undated_sent undated_cisco
-    also said dialect.Bracketed in_brackets_row in_brackets_sent in_brackets_found also tt
+    also in_brackets_found also tt
 
 pub dated_all : AllFound dated_forms
 dated_all = both_found dated.marked_forms xr_forms

@@ -2,7 +2,7 @@
 use Rattle.std.proofs.Common.{◌≡◌, ◌⊎◌, inl, inr, ℕ, Bool, true, false, List, [], ◌∷◌, ◌++◌, Option, Some, None}
 use Rattle.std.proofs.Common.{refl, sym, ap, subst, ◌∙◌, append_assoc, drop, if◌then◌else◌, take}
 use Rattle.std.specs.Char.{is_ascii_digit}
-use Rattle.syslog_text.specs.Pieces.Class.{Text, Class, Each, Front, Row, exactly, mapped, rest}
+use Rattle.syslog_text.specs.Pieces.Class.{Text, Class, Each, Ends, Front, Row, Values, exactly, mapped, rest}
 use Rattle.std.specs.Prelude.{codes}
 use Rattle.syslog_dialects.specs.Found.{is_sign}
 use Rattle.syslog_text.specs.Pieces.Class.{run}
@@ -20,13 +20,13 @@ use Rattle.syslog_sent.specs.Forms.{IsOfFirst}
 use Rattle.syslog_dialects.specs.Dialects.{dated_forms, early_forms, forms_of, last_forms, late_forms, named_forms}
 use Rattle.syslog_dialects.specs.Dialects.{plain_forms}
 use Rattle.syslog_dialects.specs.Found.{AreFound, AreInOrder, IsFoundIn, Part}
-use Rattle.syslog_dialects.specs.Found.{Name, Tells, Version, beside, if_there}
+use Rattle.syslog_dialects.specs.Found.{Date, Name, Version, beside, if_there}
 use Rattle.syslog_dialects.specs.Found.{forwarded_words}
 use Rattle.syslog_dialects.specs.Found.{first_serial, left_of, left_out, relay, serial}
-use Rattle.syslog_named_forms.specs.NearHeader.{heroku_row, heroku_says, vendor_row, vendor_says}
+use Rattle.syslog_named_forms.specs.NearHeader.{head_row, heroku_row, heroku_says, vendor_row, vendor_says}
 use Rattle.syslog_sent.specs.Named.{program}
 use Rattle.std.specs.Prelude.{IsTrue}
-use Rattle.syslog_sent.specs.Named.{BeginsWith, NamedTexts, after_row, beginning, hosted, is_letter}
+use Rattle.syslog_sent.specs.Named.{BeginsWith, NamedTexts, after_row, beginning, is_letter}
 use Rattle.syslog_sent.specs.Named.{◌otherwise◌}
 use Rattle.syslog_elements.specs.StructuredData.Pairs.{paired as element}
 use Rattle.syslog_named_forms.specs.NearHeader as near
@@ -64,16 +64,16 @@ use Rattle.syslog_named_forms.specs.Programs.{number_word, spread_row, untagged_
 use Rattle.syslog_sent.specs.Runs.{is_plain_char, is_unquoted, is_word_char}
 use Rattle.syslog_sent.specs.Sent.{Form, SentValue, loose}
 use Rattle.syslog_dialects.specs.SentReading.{IsSentIn}
-use Rattle.syslog_named_forms.specs.Untagged.{dialect_of, mark_class, marked, marked_of, marks}
+use Rattle.syslog_named_forms.specs.Untagged.{dialect_of, mark_class, marks}
 use Rattle.syslog_sent.specs.declared.dialect.Dialect.{Dialect}
 use Rattle.syslog_sent.specs.declared.dialect.Dialect.TheVariants as dialect
 use Rattle.syslog_named_forms.specs.declared.untagged.Mark.{Mark}
 use Rattle.syslog_named_forms.specs.declared.untagged.Mark.TheVariants as mark_of
-use Rattle.syslog_dialects.proofs.MessageLemmas.{end_of, whole_of}
 use Rattle.syslog_dialects.proofs.OrderLemmas.{Ending, Has, Shows, a_colon, a_gap, a_host, a_name, a_program, a_sign}
 use Rattle.syslog_dialects.proofs.OrderLemmas.{a_word, an_id, before_rest, blank_signs, blanks}
-use Rattle.syslog_dialects.proofs.OrderLemmas.{last_found, mapped_found}
-use Rattle.syslog_dialects.proofs.OrderLemmas.{maybe, no_field, nothing_more, out_more, passed}
+use Rattle.syslog_dialects.proofs.OrderLemmas.{Told, after_gap, before_message, before_spaced_rest, end_of}
+use Rattle.syslog_dialects.proofs.OrderLemmas.{mapped_found, run_gap}
+use Rattle.syslog_dialects.proofs.OrderLemmas.{maybe, no_field, out_more, passed}
 use Rattle.syslog_dialects.proofs.OrderLemmas.{row_more, shown, such}
 use Rattle.syslog_dialects.proofs.OrderLemmas.{text_of}
 use Rattle.syslog_dialects.proofs.OrderLemmas.{IsOut, whole_found}
@@ -86,35 +86,51 @@ abbrev texts_of : NamedTexts → List Part
 texts_of n = three n.hostname n.appname n.process
 
 abbrev TailFound : Tail → Type 0
-TailFound T = (t : Text) (v : T.after.Value) → Front T.after t [] v
-    → Tells (left_of T.dialect (T.names v).hostname) t (texts_of (T.names v)) (T.names v).msg
+TailFound T = (t : Text) (v : T.after.Value) → Ends is_blank t → Front T.after t [] v
+    → Told (left_of T.dialect (T.names v).hostname) t (texts_of (T.names v)) (T.names v).msg
+
+-- a date and blanks before the text
+module _ (C : Class) (names : C.Value → NamedTexts) {t : Text} {v : Values (dated_row C names)}
+    (f : Front (Row (dated_row C names)) t [] v) where
+  abbrev After : Type 1
+  After = (q : Text) × (w : C.Value) × Ends is_blank q × Front C q [] w × (v.1.1.1.0 ≡ names w)
+      × ((left : List Class) (parts : List Part) (msg : Text) → Told left q parts msg
+      → Told left t (Date v.1.0 ∷ parts) msg)
+
+  after_date : After
+  after_date =
+      let (u, a, b) = rows_split (take 2 front_row) (some_run is_blank ∷ mapped C NamedTexts names ∷ []) f in
+      let (q, gap, more) = row_head (some_run is_blank) (mapped C NamedTexts names ∷ []) b in
+      let it = end_of (mapped C NamedTexts names) more in
+      let (w, is, same) = it.is in (
+        q,
+        w,
+        gap.is.2,
+        front_of it.piece it.whole is,
+        same,
+        λ left parts msg told.
+            row_more (take 2 front_row) (blanks also an_any_date also tt) a
+            (out_more (some_run is_blank) gap (inl (blank_signs gap.piece gap.is.1)) told),
+      )
 
 tail_of : (T : Tail) → TailFound T → IsFoundForm (dated_form T.dialect T.after T.names)
 tail_of T found = said_so T.dialect (dated_row T.after T.names) (λ v. says v.1.0 v.1.1.1.0) (λ t v f.
-    let C = mapped T.after NamedTexts T.names in
-    let (u, a, b) = rows_split front_row (C ∷ []) f in
-    let it = end_of C b in
-    let (w, is, same) = it.is in
-    let told = subst (λ (n : NamedTexts). Tells (left_of T.dialect n.hostname) u (texts_of n) n.msg) (sym same)
-    (found u w (front_of it.piece it.whole is)) in
-    inl (row_more front_row (blanks also an_any_date also a_gap also tt) a told))
+    let (q, w, front, it, same, more) = after_date T.after T.names f in
+    inl (more (left_of T.dialect v.1.1.1.0.hostname) (texts_of v.1.1.1.0) v.1.1.1.0.msg
+    (subst (λ (n : NamedTexts). Told (left_of T.dialect n.hostname) q (texts_of n) n.msg) (sym same)
+    (found q w front it))))
 
 -- a message by its mark, or a host before it
-marked_found : (left : List Class) (D : Class)
-    → Ending left (hosted (beginning D)) (λ v. texts_of (marked_of v)) (λ v. (marked_of v).msg)
-marked_found left D t (inl msg) f =
-    whole_found left (beginning D) (λ x. x) (λ p x is. is.1) t msg (front_of f.piece f.whole f.is)
-marked_found left D t (inr w) f = last_found left (take 2 (after_row (beginning D)))
-    (a_host also a_gap also tt) (beginning D) (λ x. []) (λ x. x)
-    (whole_found left (beginning D) (λ x. x) (λ p x is. is.1)) t w (front_of f.piece f.whole f.is.1)
-
-mark_found : (m : Mark) → IsFoundForm (dated_form (dialect_of m) (marked m) marked_of)
-mark_found m = tail_of (marked_tail m)
-    (λ t v f. marked_found (left_of (dialect_of m) (marked_of v).hostname) (mark_class m) t v f)
+marked_found : (m : Mark) → TailFound (marked_tail m)
+marked_found m t (inl msg) front f = whole_found (left_of (dialect_of m) None) (beginning (mark_class m)) (λ x. x)
+    (λ p x is. is.1) t msg front (front_of f.piece f.whole f.is)
+marked_found m t (inr w) front f = before_message (left_of (dialect_of m) w.0)
+    (take 1 (after_row (beginning (mark_class m)))) (a_host also tt) (mark_class m) t w
+    (front_of f.piece f.whole f.is.1)
 
 messages_all : (ms : List Mark) → AllFound (tail_forms (marked_tails ms))
 messages_all [] = tt
-messages_all (m ∷ ms) = (mark_found m, messages_all ms)
+messages_all (m ∷ ms) = (tail_of (marked_tail m) (marked_found m), messages_all ms)
 
 -- ---- programs
 
@@ -133,16 +149,16 @@ a_program_or_none {left} = record {
 
 line_passed : (Cs : List Class) → Ending (left_out dialect.Forwarded ++ Cs) (Row forwarded_row)
     (λ v. texts_of (forwarded_of v)) (λ v. (forwarded_of v).msg)
-line_passed Cs = before_rest (left_out dialect.Forwarded ++ Cs) (take 6 forwarded_row)
+line_passed Cs = before_rest (left_out dialect.Forwarded ++ Cs) (take 5 forwarded_row)
     (passed forwarded_words (λ p q v is. inr (inl (v, is))) also text_of (some_run is_tag_char)
-    also a_colon also blanks also a_program_or_none also blanks also tt)
+    also a_colon also blanks also a_program_or_none also tt)
 
 -- with its host another one is left out
 forwarded_found : TailFound forwarded_tail
-forwarded_found t (inl n) f = mapped_found (left_of dialect.Forwarded n.hostname) (Row forwarded_row) NamedTexts
+forwarded_found t (inl n) front f = mapped_found (left_of dialect.Forwarded n.hostname) (Row forwarded_row) NamedTexts
     forwarded_of texts_of (λ x. x.msg) (line_passed (beside n.hostname (relay ∷ []))) t n
     (front_of f.piece f.whole f.is)
-forwarded_found t (inr w) f =
+forwarded_found t (inr w) front f =
     let whole : Front (Row (after_row passed_on)) t [] w = front_of f.piece f.whole f.is.1 in
     let (u, relayed, more) = row_head host (drop 1 (after_row passed_on)) whole in
     let (x, gap, others) = row_head (some_run is_blank) (passed_on ∷ []) more in
@@ -152,7 +168,7 @@ forwarded_found t (inr w) f =
     let (y, words, ends) = row_head forwarded_words (drop 1 forwarded_row) line in
     let after : Front (Row (some_run is_blank ∷ forwarded_words ∷ [])) u y (tt, (tt, tt)) =
     row_of (some_run is_blank ∷ forwarded_words ∷ []) (gap then words then refl) in
-    subst (λ (n : NamedTexts). Tells (left_of dialect.Forwarded n.hostname) t (texts_of n) n.msg) (sym same)
+    subst (λ (n : NamedTexts). Told (left_of dialect.Forwarded n.hostname) t (texts_of n) n.msg) (sym same)
     (out_more host relayed (inr (inr (inl (w.0, (relayed.is, (y, (tt, (tt, tt)), after))))))
     (out_more (some_run is_blank) gap (inl (blank_signs gap.piece gap.is.1)) (line_passed (relay ∷ []) x vs line)))
 
@@ -162,20 +178,22 @@ grade_out Cs p q (inr (inl v)) is = inr (inr (inr (inl (v, is.1))))
 grade_out Cs p q (inr (inr v)) is = inr (inr (inr (inr (inr (inr (inl (v, is.1.1)))))))
 
 severity_found : TailFound severity_tail
-severity_found t v = before_rest (left_of dialect.SeverityFirst v.0) (take 6 severity_row)
-    (a_host also a_gap also passed grade (grade_out (beside v.0 [])) also a_gap also a_program also blanks also tt) t v
+severity_found t v front = before_rest (left_of dialect.SeverityFirst v.0) (take 5 severity_row)
+    (a_host also a_gap also passed grade (grade_out (beside v.0 [])) also a_gap also a_program also tt) t v
 
 worded_found : TailFound worded_tail
-worded_found t v = before_rest (left_of dialect.SpacedName v.0) (take 6 worded_row)
+worded_found t v front = before_rest (left_of dialect.SpacedName v.0) (take 5 worded_row)
     (a_host also a_gap also such (texted (Row words_row)) (BeginsWith is_letter) (text_of (Row words_row)) also an_id
-    also a_colon also blanks also tt) t v
+    also a_colon also tt) t v
 
 access_found : TailFound access_tail
-access_found t v = before_rest (left_of dialect.UniFi (Some v.0)) (take 5 access_row)
-    (text_of (Row point_row) also a_colon also a_gap also a_program also blanks also tt) t v
+access_found t v front = before_rest (left_of dialect.UniFi (Some v.0)) (take 4 access_row)
+    (text_of (Row point_row) also a_colon also a_gap
+    also a_program also tt) t v
 
 hostless_found : TailFound hostless_tail
-hostless_found = before_rest (left_of dialect.NoHost None) (take 2 hostless_row) (a_program also a_gap also tt)
+hostless_found t v front = before_spaced_rest (left_of dialect.NoHost None) (take 1 hostless_row)
+    (a_program also tt) t v
 
 -- the serial number and the date in brackets are left out as one piece
 number_found : (h : Option Text) → Ending (left_of dialect.WatchGuard h) (Row serial_row)
@@ -186,7 +204,8 @@ number_found h t v f =
     let (w, c, d) = rows_split serial (drop 7 serial_row) b in
     row_more (take 2 serial_row) (a_host also a_gap also tt) a
     (out_more (Row serial) c (inr (inl (firsts serial (drop 7 serial_row) v.1.1, c.is)))
-    (before_rest left (take 3 (drop 7 serial_row)) (a_gap also a_program also blanks also tt) w
+    (before_rest left (take 2 (drop 7 serial_row))
+    (a_gap also a_program also tt) w
     (lasts serial (drop 7 serial_row) v.1.1) d))
 
 box_found : (h : Option Text) → Ending (left_of dialect.WatchGuard h) (Row box_row) (λ v. texts_of (box_of v))
@@ -194,13 +213,14 @@ box_found : (h : Option Text) → Ending (left_of dialect.WatchGuard h) (Row box
 box_found h t v f =
     let (u, a, b) = rows_split first_serial (drop 5 box_row) f in
     out_more (Row first_serial) a (inr (inr (inl (firsts first_serial (drop 5 box_row) v, a.is))))
-    (before_rest (left_of dialect.WatchGuard h) (take 3 (drop 5 box_row)) (a_gap also a_program also blanks also tt) u
+    (before_rest (left_of dialect.WatchGuard h) (take 2 (drop 5 box_row))
+    (a_gap also a_program also tt) u
     (lasts first_serial (drop 5 box_row) v) b)
 
 serial_found : TailFound serial_tail
-serial_found t (inl n) f = mapped_found (left_of dialect.WatchGuard n.hostname) (Row serial_row) NamedTexts serial_of
-    texts_of (λ x. x.msg) (number_found n.hostname) t n (front_of f.piece f.whole f.is)
-serial_found t (inr n) f = mapped_found (left_of dialect.WatchGuard n.hostname) (Row box_row) NamedTexts box_of
+serial_found t (inl n) front f = mapped_found (left_of dialect.WatchGuard n.hostname) (Row serial_row) NamedTexts
+    serial_of texts_of (λ x. x.msg) (number_found n.hostname) t n (front_of f.piece f.whole f.is)
+serial_found t (inr n) front f = mapped_found (left_of dialect.WatchGuard n.hostname) (Row box_row) NamedTexts box_of
     texts_of (λ x. x.msg) (box_found n.hostname) t n (front_of f.piece f.whole f.is.1)
 
 -- the process comes before the program
@@ -217,27 +237,25 @@ an_entry_name = shown entry_name Name entry_name_is
 
 columns_found : Ending (left_of dialect.UnifiedLog None) (Row log_row) (λ v. columns_of (log_of v)) (λ v. (log_of
     v).msg)
-columns_found = before_rest (left_of dialect.UnifiedLog None) (take 7 log_row)
+columns_found = before_rest (left_of dialect.UnifiedLog None) (take 6 log_row)
     (passed (Row thread_row) (λ p q v is. inr (inl (v, is))) also text_of some_digits also a_gap
-    also maybe (Row kept_row) (λ p q v is. inr (inr (inl (v, is)))) also an_entry_name also a_colon also blanks also tt)
+    also maybe (Row kept_row) (λ p q v is. inr (inr (inl (v, is)))) also an_entry_name also a_colon also tt)
 
 unified_found : IsFoundForm (dated_form unified_tail.dialect unified_tail.after unified_tail.names)
 unified_found text sent s =
-    let C = mapped (Row log_row) NamedTexts log_of in
-    let f = division_front (dated_row (Row log_row) log_of) s.division in
-    let (u, a, b) = rows_split front_row (C ∷ []) f in
-    let it = end_of C b in
-    let (w, is, same) = it.is in
-    let told = subst (λ (n : NamedTexts). Tells (left_of dialect.UnifiedLog n.hostname) u (columns_of n) n.msg) (sym
-    same)
-    (columns_found u w (front_of it.piece it.whole is)) in
-    subst (AreFound dialect.UnifiedLog text) (sym s.means)
-    (inr (inr (refl, row_more front_row (blanks also an_any_date also a_gap also tt) a told)))
+    let v = s.values in
+    let (q, w, front, it, same, more) = after_date (Row log_row) log_of
+    (division_front (dated_row (Row log_row) log_of) s.division) in
+    let n = v.1.1.1.0 in
+    let told = more (left_of dialect.UnifiedLog n.hostname) (columns_of n) n.msg
+    (subst (λ (n : NamedTexts). Told (left_of dialect.UnifiedLog n.hostname) q (columns_of n) n.msg) (sym same)
+    (columns_found q w it)) in
+    subst (λ (x : SentValue). AreFound dialect.UnifiedLog text x × Ends is_blank x.msg) (sym s.means)
+    (inr (inr (refl, told.tells)), told.front)
 
 untagged_found : TailFound untagged_tail
-untagged_found t v = last_found (left_of dialect.Untagged v.0) (take 2 untagged_row) (a_host also a_gap also tt)
-    (beginning number_word) (λ x. []) (λ x. x) (whole_found (left_of dialect.Untagged v.0) (beginning number_word)
-    (λ x. x) (λ p x is. is.1)) t v
+untagged_found t v front =
+    before_message (left_of dialect.Untagged v.0) (take 1 untagged_row) (a_host also tt) number_word t v
 
 programs_all : AllFound (tail_forms program_tails)
 programs_all =
@@ -250,19 +268,18 @@ programs_all =
 -- ---- devices
 
 addressed_found : TailFound addressed_tail
-addressed_found t v = before_rest (left_of dialect.UniFi v.0) (take 7 addressed_row)
-    (a_host also a_gap also passed point_word (λ p q w is. inr (inl (w, is))) also a_colon also a_gap also a_program
-    also blanks also tt) t v
+addressed_found t v front = before_rest (left_of dialect.UniFi v.0) (take 6 addressed_row)
+    (a_host also a_gap also passed point_word (λ p q w is. inr (inl (w, is))) also a_colon also a_gap
+    also a_program also tt) t v
 
 titled_found : TailFound titled_tail
-titled_found t v = before_rest (left_of dialect.SpacedName v.0) (take 5 titled_row)
-    (a_host also a_gap also text_of (Row title_row) also a_colon also blanks also tt) t v
+titled_found t v front = before_rest (left_of dialect.SpacedName v.0) (take 4 titled_row)
+    (a_host also a_gap also text_of (Row title_row) also a_colon also tt) t v
 
 compact_found : TailFound compact_tail
-compact_found = before_rest (left_of dialect.UnifiedLog None) (take 7 compact_row)
+compact_found t v front = before_spaced_rest (left_of dialect.UnifiedLog None) (take 6 compact_row)
     (passed kind (λ p q w is. inr (inr (inr (inl (w, is))))) also a_gap also an_entry_name also a_sign 91 refl
-    also text_of some_digits also passed (Row close_row) (λ p q w is. inr (inr (inr (inr (inl (w, is)))))) also a_gap
-    also tt)
+    also text_of some_digits also passed (Row close_row) (λ p q w is. inr (inr (inr (inr (inl (w, is)))))) also tt) t v
 
 devices_all : AllFound (tail_forms device_tails)
 devices_all = tail_of addressed_tail addressed_found also tail_of titled_tail titled_found
@@ -271,42 +288,43 @@ devices_all = tail_of addressed_tail addressed_found also tail_of titled_tail ti
 -- ---- severities in angles or in brackets
 
 graded_found : TailFound graded_tail
-graded_found t v = before_rest (left_of dialect.SeverityFirst v.1.1.0) (take 6 graded_row)
+graded_found t v front = before_rest (left_of dialect.SeverityFirst v.1.1.0) (take 5 graded_row)
     (passed (Row grade_row) (λ p q w is. inr (inr (inr (inr (inl (w, is)))))) also a_gap also a_host also a_gap
-    also a_program also blanks also tt) t v
+    also a_program also tt) t v
 
 leveled_found : TailFound leveled_tail
-leveled_found t v = before_rest (left_of dialect.SeverityFirst v.0) (take 6 leveled_row)
+leveled_found t v front = before_rest (left_of dialect.SeverityFirst v.0) (take 5 leveled_row)
     (a_host also a_gap also passed (Row level_row) (λ p q w is. inr (inr (inr (inr (inr (inl (w, is))))))) also a_gap
-    also a_program also blanks also tt) t v
+    also a_program also tt) t v
 
 event_found : TailFound event_tail
-event_found t v = before_rest (left_of dialect.Bracketed (Some v.1.0)) (take 7 event_row)
+event_found t v front = before_rest (left_of dialect.Bracketed (Some v.1.0)) (take 6 event_row)
     (a_sign 91 refl also text_of (some_run is_plain_char) also a_colon also blanks also text_of (some_run is_word_char)
-    also passed (Row event_end_row) (λ p q w is. inr (inr (inl (w, is)))) also blanks also tt) t v
+    also passed (Row event_end_row) (λ p q w is. inr (inr (inl (w, is)))) also tt) t v
 
 sourced_found : TailFound sourced_tail
-sourced_found t v = before_rest (left_of dialect.BsdDate v.0) (take 6 sourced_row)
+sourced_found t v front = before_rest (left_of dialect.BsdDate v.0) (take 5 sourced_row)
     (a_host also a_gap also passed (Row source_row) (λ p q w is. inr (inr (inr (inl (w, is))))) also a_gap
-    also a_program also blanks also tt) t v
+    also a_program also tt) t v
 
 threaded_found : TailFound threaded_tail
-threaded_found = before_rest (left_of dialect.NoHost None) (take 6 threaded_row)
+threaded_found t v front = before_rest (left_of dialect.NoHost None) (take 5 threaded_row)
     (a_name also a_gap also a_sign 91 refl also text_of (Row threads_row) also passed (exactly (codes "]:"))
-    (λ p q v is. inl (subst (Each is_sign) (sym is) (refl, (refl, tt)))) also blanks also tt)
+    (λ p q v is. inl (subst (Each is_sign) (sym is) (refl, (refl, tt)))) also tt) t v
 
 padded_found : TailFound padded_tail
-padded_found = before_rest (left_of dialect.NoHost None) (take 7 padded_row)
+padded_found t v front = before_rest (left_of dialect.NoHost None) (take 6 padded_row)
     (a_name also passed (exactly (32 ∷ 32 ∷ [])) (λ p q v is. inl (subst (Each is_sign) (sym is) (refl, (refl, tt))))
     also blanks also a_sign 91 refl also text_of (some_run is_ascii_digit) also passed (exactly (codes "]:"))
-    (λ p q v is. inl (subst (Each is_sign) (sym is) (refl, (refl, tt)))) also blanks also tt)
+    (λ p q v is. inl (subst (Each is_sign) (sym is) (refl, (refl, tt)))) also tt) t v
 
 numbered_found : TailFound numbered_tail
-numbered_found = before_rest (left_of dialect.Bracketed None) (take 4 numbered_row)
-    (a_sign 91 refl also text_of (some_run is_ascii_digit) also a_sign 93 refl also a_gap also tt)
+numbered_found t v front = before_spaced_rest (left_of dialect.Bracketed None) (take 3 numbered_row)
+    (a_sign 91 refl also text_of (some_run is_ascii_digit) also a_sign 93 refl also tt) t v
 
 counted_found : TailFound counted_tail
-counted_found = whole_found (left_of dialect.Bracketed None) (beginning (Row counted_row)) (λ x. x) (λ p x is. is.1)
+counted_found =
+    whole_found (left_of dialect.Bracketed None) (beginning (Row counted_row)) (λ x. x) (λ p x is. is.1)
 
 opened_found : TailFound opened_tail
 opened_found = whole_found (left_of dialect.Bracketed None) (beginning (mark_class mark_of.Bracket)) (λ x. x)
@@ -409,54 +427,51 @@ pairs_found text sent s =
     let pairs = subst (λ (x : Text). Front (many pair) x r ps) (sym same) front in
     let found = subst (λ (x : Option Text). AreInOrder (only x) v.2) (sym device) (value_found is_host_key ps pairs) in
     let told = out_more (run is_blank) gap (inl (blank_signs gap.piece gap.is.0))
-    (subst (λ (x : Text). Tells [] x [] v.2) (same ∙ whole_of paired it) (nothing_more [] v.2)) in
-    subst (AreFound dialect.KeyValue text) (sym s.means)
-    (inr (inl (refl, (told, found, (v.0, refl, (ps, r, pairs, shows))))))
+    (whole_found [] paired (λ v. v.2) (λ p v is. is.1) q v gap.is.1 it) in
+    subst (λ (x : SentValue). AreFound dialect.KeyValue text x × Ends is_blank x.msg) (sym s.means)
+    (inr (inl (refl, (told.tells, found, (v.0, refl, (ps, r, pairs, shows))))), told.front)
 
 -- ---- without a date
 
 marked_alone : (it : Dialect) (m : Mark) → IsFoundForm (undated_form it m)
-marked_alone it m = said it (undated_row m) (λ v. loose None None None None v.1.0)
-    (λ h. last_found (left_of it h) (run is_blank ∷ []) (blanks also tt) (beginning (mark_class m)) (λ x. []) (λ x. x)
-    (whole_found (left_of it h) (beginning (mark_class m)) (λ x. x) (λ p x is. is.1)))
+marked_alone it m = said it (undated_row m) (λ v. loose None None None None v.1.0) (λ h.
+    after_gap (left_of it h) [] tt (run is_blank) run_gap (beginning (mark_class m)) (λ x. x) (λ p x is. is.1))
 
 vendor_found : (it : Dialect) (m : Mark) → RowFound it (vendor_row m) (vendor_says m)
-vendor_found it m h = last_found (left_of it h) (take 6 (vendor_row m))
-    (shown (number 999) Version (λ p q n is. is) also a_gap also an_any_date also a_gap also a_host also a_gap
-    also tt) (beginning (mark_class m)) (λ x. []) (λ x. x)
-    (whole_found (left_of it h) (beginning (mark_class m)) (λ x. x) (λ p x is. is.1))
+vendor_found it m h = before_message (left_of it h) (take 5 (vendor_row m))
+    (shown (number 999) Version (λ p q n is. is) also a_gap also an_any_date also a_gap also a_host also tt)
+    (mark_class m)
 
 heroku_found : RowFound dialect.Heroku heroku_row heroku_says
-heroku_found h = before_rest (left_of dialect.Heroku h) (take 12 heroku_row)
+heroku_found h = before_spaced_rest (left_of dialect.Heroku h) (take 11 heroku_row)
     (shown (number 999) Version (λ p q n is. is) also a_gap also an_any_date also a_gap also a_host also a_gap
-    also a_word also a_gap also a_word also a_gap also a_sign 45 refl also a_gap also tt)
+    also a_word also a_gap also a_word also a_gap also a_sign 45 refl also tt)
 
 monotonic_found : RowFound dialect.Monotonic monotonic_row monotonic_says
-monotonic_found h = before_rest (left_of dialect.Monotonic h) (take 6 monotonic_row)
+monotonic_found h = before_rest (left_of dialect.Monotonic h) (take 5 monotonic_row)
     (passed (Row seconds_row) (λ p q v is. inr (inl (v, is))) also a_gap also a_host also a_gap
-    also such program (λ p. IsTrue (is_service p)) a_program also blanks also tt)
+    also such program (λ p. IsTrue (is_service p)) a_program also tt)
 
 nil_found : RowFound dialect.NearlyRfc5424 nil_row nil_says
-nil_found h = before_rest (left_of dialect.NearlyRfc5424 h) (take 14 nil_row)
+nil_found h = before_rest (left_of dialect.NearlyRfc5424 h) (take 13 nil_row)
     (shown (number 999) Version (λ p q n is. is) also a_gap also an_any_date also a_gap also a_host also a_gap
     also a_word also a_gap also a_word also a_gap also a_word also a_gap
-    also passed nil (λ p q v is. inl (rw is.0 (refl, tt))) also blanks also tt)
+    also passed nil (λ p q v is. inl (rw is.0 (refl, tt))) also tt)
 
 headed_found : RowFound dialect.NearlyRfc5424 tag_row tag_says
-headed_found h = before_rest (left_of dialect.NearlyRfc5424 h) (take 8 tag_row)
+headed_found h = before_rest (left_of dialect.NearlyRfc5424 h) (take 7 tag_row)
     (shown (number 999) Version (λ p q n is. is) also a_gap also an_any_date also a_gap also a_host also a_gap
-    also a_program also blanks also tt)
+    also a_program also tt)
 
 paired_found : RowFound dialect.CheckPoint near.paired_row near.paired_says
-paired_found h = last_found (left_of dialect.CheckPoint h) (take 12 near.paired_row)
+paired_found h = before_message (left_of dialect.CheckPoint h) (take 11 near.paired_row)
     (shown (number 999) Version (λ p q n is. is) also a_gap also an_any_date also a_gap also a_host also a_gap
-    also a_word also a_gap also a_word also a_gap also a_word also a_gap also tt) (beginning element) (λ x. []) (λ x. x)
-    (whole_found (left_of dialect.CheckPoint h) (beginning element) (λ x. x) (λ p x is. is.1))
+    also a_word also a_gap also a_word also a_gap also a_word also tt) element
 
 bare_found : RowFound dialect.NearlyRfc5424 bare_row bare_says
-bare_found h = before_rest (left_of dialect.NearlyRfc5424 h) (take 12 bare_row)
+bare_found h = before_spaced_rest (left_of dialect.NearlyRfc5424 h) (take 11 bare_row)
     (shown (number 999) Version (λ p q n is. is) also a_gap also an_any_date also a_gap also a_host also a_gap
-    also a_word also a_gap also a_word also a_gap also a_word also a_gap also tt)
+    also a_word also a_gap also a_word also a_gap also a_word also tt)
 
 undated_all : AllFound undated_forms
 undated_all =
@@ -478,8 +493,8 @@ named_all = both_found (tail_forms graded_tails) marked_forms graded_all
     (both_found (tail_forms device_tails) undated_forms devices_all undated_all)))
 
 spread_found : TailFound spread_tail
-spread_found t v = before_rest (left_of dialect.SpacedName v.0) (take 6 spread_row)
-    (a_host also a_gap also a_name also an_id also a_colon also blanks also tt) t v
+spread_found t v front = before_rest (left_of dialect.SpacedName v.0) (take 5 spread_row)
+    (a_host also a_gap also a_name also an_id also a_colon also tt) t v
 
 plain_all : AllFound plain_forms
 plain_all = both_found dated.plain_forms spread_forms plain_dated_all (tail_of spread_tail spread_found also tt)
@@ -489,19 +504,18 @@ early_all = both_found dated_forms (named_forms ++ plain_forms) dated_all
     (both_found named_forms plain_forms named_all plain_all)
 
 program_alone : RowFound dialect.NoHost program_row program_sent
-program_alone h = before_rest (left_of dialect.NoHost h) (take 7 program_row)
-    (blanks also a_name also a_sign 91 refl also text_of (some_run is_ascii_digit) also a_sign 93 refl also a_colon
-    also blanks also tt)
+program_alone h = before_rest (left_of dialect.NoHost h) (take 6 program_row)
+    (blanks also a_name also a_sign 91 refl also text_of (some_run is_ascii_digit) also a_sign 93 refl
+    also a_colon also tt)
 
 point_alone : RowFound dialect.UniFi point_alone_row point_sent
-point_alone h = before_rest (left_of dialect.UniFi h) (take 8 point_alone_row)
+point_alone h = before_rest (left_of dialect.UniFi h) (take 7 point_alone_row)
     (blanks also a_host also a_gap also passed point_word (λ p q w is. inr (inl (w, is))) also a_colon also a_gap
-    also a_program also blanks also tt)
+    also a_program also tt)
 
 alone_found : RowFound dialect.PriorityAlone alone_row (λ v. loose None None None None v.1.0)
-alone_found h = last_found (left_of dialect.PriorityAlone h) (run is_blank ∷ []) (blanks also tt)
-    (such_that rest IsAlone) (λ x. []) (λ x. x)
-    (whole_found (left_of dialect.PriorityAlone h) (such_that rest IsAlone) (λ x. x) (λ p x is. is.0.1))
+alone_found h = after_gap (left_of dialect.PriorityAlone h) [] tt (run is_blank) run_gap (such_that rest IsAlone)
+    (λ x. x) (λ p x is. is.0.1)
 
 last_all : AllFound last_forms
 last_all =
@@ -517,17 +531,21 @@ late_all false None = tt
 late_all false (Some number) = last_all
 
 first_found : (Fs : List Form) → AllFound Fs → (text : Text) (it : Dialect) (sent : SentValue)
-    → IsOfFirst Fs text it sent → AreFound it text sent
+    → IsOfFirst Fs text it sent → AreFound it text sent × Ends is_blank sent.msg
 first_found [] all text it sent is = absurd is
 first_found (F ∷ Fs) all text it sent (inl (same, is)) =
-    subst (λ (x : Dialect). AreFound x text sent) (sym same) (all.0 text sent is)
+    subst (λ (x : Dialect). AreFound x text sent × Ends is_blank sent.msg) (sym same) (all.0 text sent is)
 first_found (F ∷ Fs) all text it sent (inr (none, more)) = first_found Fs all.1 text it sent more
 
--- of a text after its priority
+-- of a text after its priority each character is accounted for, and no blank begins the message
+pub said_visibly : (is_read : Bool) (priority : Option ℕ) (text : Text) (it : Dialect) (sent : SentValue)
+    → IsOfFirst (forms_of is_read priority) text it sent → AreFound it text sent × Ends is_blank sent.msg
+said_visibly is_read priority = first_found (forms_of is_read priority)
+    (both_found early_forms (late_forms is_read priority) early_all (late_all is_read priority))
+
 pub said_found : (is_read : Bool) (priority : Option ℕ) (text : Text) (it : Dialect) (sent : SentValue)
     → IsOfFirst (forms_of is_read priority) text it sent → AreFound it text sent
-said_found is_read priority = first_found (forms_of is_read priority)
-    (both_found early_forms (late_forms is_read priority) early_all (late_all is_read priority))
+said_found is_read priority text it sent is = (said_visibly is_read priority text it sent is).0
 
 -- of the whole line
 pub read_found : (dates : Dates) (is_read : Bool) (text : Text) (it : Dialect) (m : MessageValue)

@@ -1,22 +1,40 @@
 -- What a text tells, by the pieces of a row that tell it.
-use Rattle.std.proofs.Common.{◌≡◌, ◌||◌, inl, inr, ℕ, nat_eq, true, List, [], ◌∷◌, ◌++◌, Option, Some, None}
+use Rattle.std.proofs.Common.{◌≡◌, ◌⊎◌, ◌||◌, inl, inr, ℕ, nat_eq, true, List, [], ◌∷◌, ◌++◌, Option, Some, None}
 use Rattle.std.proofs.Common.{refl, sym, ap, subst, ◌∙◌, append_assoc, MatchOption}
 use Rattle.std.proofs.lemmas.Bool.{or_left}
-use Rattle.syslog_text.specs.Pieces.Class.{Text, Class, Each, Values, Front, Row, join}
+use Rattle.std.proofs.lemmas.List.{append-nil}
+use Rattle.syslog_text.specs.Pieces.Class.{Text, Class, Each, Ends, Values, Front, Row, join}
 use Rattle.syslog_text.specs.Pieces.Class.{exactly, mapped, optional, rest, run, some_run, spaced, texted}
 use Rattle.syslog_text.specs.Pieces.Rules.{such_that}
 use Rattle.syslog_text.specs.Text.{IsHost, Names, colon, dash, host, is_blank, is_tag_char, tag_word, word}
 use Rattle.syslog_text.specs.Text.CharClass.{is_id_char, is_label_char}
 use Rattle.syslog_text.proofs.PieceLemmas.Class.{◌also◌, absent_stays, each_map, firsts, front_of, lasts, nil_front}
-use Rattle.syslog_text.proofs.PieceLemmas.Class.{present_front, rest_whole, row_head, rows_split, spaced_parts}
-use Rattle.syslog_dialects.specs.Found.{Date, IsDateOf, IsLeftOut, Name, Part, Says, Tells, if_there, is_sign}
-use Rattle.syslog_sent.specs.Named.{BeginsWith, ProgramText, begins_name, id_of, id_row, name, process_id}
+use Rattle.syslog_text.proofs.PieceLemmas.Class.{present_front, row_head, rows_split, spaced_parts}
+use Rattle.syslog_dialects.specs.Found.{Date, IsDateOf, IsLeftOut, IsTold, Name, Part, Says, Tells, date_first}
+use Rattle.syslog_dialects.specs.Found.{host_first, if_there, is_sign}
+use Rattle.syslog_sent.specs.Named.{BeginsWith, ProgramText, beginning, begins_name, id_of, id_row, name, process_id}
 use Rattle.syslog_sent.specs.Named.{program, program_of, program_row}
+use Rattle.syslog_sent.specs.Sent.{SentValue}
 use Rattle.syslog_sent.specs.Zone.{bare_word}
 use Rattle.syslog_sent.specs.declared.sent.SentDate.{SentDate}
-use Rattle.syslog_dialects.proofs.MessageLemmas.{end_of, whole_of}
+
+-- ---- the end of a text
+
+-- a row of one class
+pub end_of : (C : Class) {t : Text} {v : Values (C ∷ [])} → Front (Row (C ∷ [])) t [] v → Front C t [] v.0
+end_of C {t = t} {v = v} f =
+    let (q, it, none) = row_head C [] f in subst (λ (x : Text). Front C t x v.0) (nil_front none) it
+
+-- a piece after which nothing is left is the text
+pub whole_of : (C : Class) {t : Text} {v : C.Value} → (f : Front C t [] v) → f.piece ≡ t
+whole_of C f = sym (f.whole ∙ append-nil f.piece)
 
 -- ---- a piece, and what is told after it
+
+-- the text tells these parts, and the message, which begins with no blank
+pub record Told (left : List Class) (text : Text) (parts : List Part) (msg : Text) : Type 0 where
+  pub tells : Tells left text parts msg
+  pub front : Ends is_blank msg
 
 whole_more : {C : Class} {t q : Text} {v : C.Value} (ps : List Text) (msg : Text) → (f : Front C t q v)
     → q ≡ join ps ++ msg → t ≡ join (f.piece ∷ ps) ++ msg
@@ -25,34 +43,51 @@ whole_more ps msg f same =
 
 -- a piece that is left out
 pub out_more : {left : List Class} (C : Class) {t q : Text} {v : C.Value} {parts : List Part} {msg : Text}
-    → (f : Front C t q v) → IsLeftOut left f.piece q → Tells left q parts msg → Tells left t parts msg
-out_more {left} C {msg = msg} f out told = record {
-  pieces = f.piece ∷ told.pieces;
-  whole = whole_more told.pieces msg f told.whole;
-  each = inl (subst (IsLeftOut left f.piece) told.whole out, told.each);
-}
+    → (f : Front C t q v) → IsLeftOut left f.piece q → Told left q parts msg → Told left t parts msg
+out_more {left} C {msg = msg} f out told =
+    let it = told.tells in record {
+      tells = record {
+        pieces = f.piece ∷ it.pieces;
+        whole = whole_more it.pieces msg f it.whole;
+        each = inl (subst (IsLeftOut left f.piece) it.whole out, it.each);
+      };
+      front = told.front;
+    }
 
 -- a piece that says the next part
 pub says_more : {left : List Class} (C : Class) {t q : Text} {v : C.Value} (x : Part) {parts : List Part} {msg : Text}
-    → (f : Front C t q v) → Says f.piece q x → Tells left q parts msg → Tells left t (x ∷ parts) msg
-says_more C x {parts} {msg} f says told = record {
-  pieces = f.piece ∷ told.pieces;
-  whole = whole_more told.pieces msg f told.whole;
-  each = inr (x, parts, refl, subst (λ (y : Text). Says f.piece y x) told.whole says, told.each);
-}
+    → (f : Front C t q v) → Says f.piece q x → Told left q parts msg → Told left t (x ∷ parts) msg
+says_more C x {parts} {msg} f says told =
+    let it = told.tells in record {
+      tells = record {
+        pieces = f.piece ∷ it.pieces;
+        whole = whole_more it.pieces msg f it.whole;
+        each = inr (x, parts, refl, subst (λ (y : Text). Says f.piece y x) it.whole says, it.each);
+      };
+      front = told.front;
+    }
 
 -- nothing more is told
-pub nothing_more : (left : List Class) (t : Text) → Tells left t [] t
-nothing_more left t = record { pieces = []; whole = refl; each = refl }
+pub nothing_more : (left : List Class) (t : Text) → Ends is_blank t → Told left t [] t
+nothing_more left t front = record { tells = record { pieces = []; whole = refl; each = refl }; front = front }
+
+-- what a line says is told, with the date before the host or after it
+abbrev pub ToldSo : List Class → Text → SentValue → Type 0
+ToldSo left text sent = Told left text (date_first sent) sent.msg ⊎ Told left text (host_first sent) sent.msg
+
+pub is_told : {left : List Class} {text : Text} (sent : SentValue) → ToldSo left text sent
+    → IsTold left text sent × Ends is_blank sent.msg
+is_told sent (inl told) = (inl told.tells, told.front)
+is_told sent (inr told) = (inr told.tells, told.front)
 
 -- ---- texts and signs
 
-pub name_before : {left : List Class} {q : Text} {parts : List Part} {msg : Text} (n : Text) → Tells left q parts msg
-    → Tells left (n ++ q) (Name n ∷ parts) msg
+pub name_before : {left : List Class} {q : Text} {parts : List Part} {msg : Text} (n : Text) → Told left q parts msg
+    → Told left (n ++ q) (Name n ∷ parts) msg
 name_before n told = says_more (exactly n) (Name n) (front_of n refl refl) refl told
 
 pub signs_before : {left : List Class} {q : Text} {parts : List Part} {msg : Text} (s : Text) → Each is_sign s
-    → Tells left q parts msg → Tells left (s ++ q) parts msg
+    → Told left q parts msg → Told left (s ++ q) parts msg
 signs_before s signs told = out_more (exactly s) (front_of s refl refl) (inl signs) told
 
 pub blank_signs : (p : Text) → Each is_blank p → Each is_sign p
@@ -64,8 +99,8 @@ abbrev pub IsNamed : Text → Option Text → Type 0
 IsNamed p v = MatchOption v (p ≡ dash) (λ t. t ≡ p)
 
 pub name_more : {left : List Class} (C : Class) {t q : Text} {w : C.Value} {parts : List Part} {msg : Text}
-    (v : Option Text) → (f : Front C t q w) → IsNamed f.piece v → Tells left q parts msg
-    → Tells left t (if_there Name v parts) msg
+    (v : Option Text) → (f : Front C t q w) → IsNamed f.piece v → Told left q parts msg
+    → Told left t (if_there Name v parts) msg
 name_more C None f is told = out_more C f (inl (subst (Each is_sign) (sym is) (refl, tt))) told
 name_more C (Some n) f is told = says_more C (Name n) f (sym is) told
 
@@ -81,8 +116,8 @@ host_named p q v (some, each, inr (s, follows, ends, same)) = subst (IsNamed p) 
 -- ---- what a piece of a class adds
 
 abbrev pub Has : (left : List Class) (C : Class) → (C.Value → List Part → List Part) → Type 0
-Has left C adds = (t q : Text) (v : C.Value) → Front C t q v → (parts : List Part) (msg : Text) → Tells left q parts msg
-    → Tells left t (adds v parts) msg
+Has left C adds = (t q : Text) (v : C.Value) → Front C t q v → (parts : List Part) (msg : Text) → Told left q parts msg
+    → Told left t (adds v parts) msg
 
 pub record Shows (left : List Class) (C : Class) : Type 0 where
   pub adds : C.Value → List Part → List Part
@@ -125,7 +160,7 @@ named C name_in is = record {
 pub optional_has : (left : List Class) (C : Class) (part : C.Value → Part) → Has left C (λ v parts. part v ∷ parts)
     → Has left (optional C) (λ o parts. if_there part o parts)
 optional_has left C part has t q None f parts msg told =
-    subst (λ (x : Text). Tells left x parts msg) (sym (absent_stays C f)) told
+    subst (λ (x : Text). Told left x parts msg) (sym (absent_stays C f)) told
 optional_has left C part has t q (Some v) f parts msg told = has t q v (present_front C f) parts msg told
 
 abbrev pub perhaps : {left : List Class} (C : Class) (part : C.Value → Part) → Has left C (λ v parts. part v ∷ parts)
@@ -147,7 +182,7 @@ pub mapped_has : (left : List Class) (C : Class) (B : Type 0) (meaning : C.Value
     (adds : B → List Part → List Part) → Has left C (λ v. adds (meaning v)) → Has left (mapped C B meaning) adds
 mapped_has left C B meaning adds has t q b f parts msg told =
     let (v, is, same) = f.is in
-    subst (λ (x : B). Tells left t (adds x parts) msg) (sym same)
+    subst (λ (x : B). Told left t (adds x parts) msg) (sym same)
     (has t q v (front_of f.piece f.whole is) parts msg told)
 
 abbrev pub meant : {left : List Class} (C : Class) (B : Type 0) (meaning : C.Value → B)
@@ -167,15 +202,15 @@ added left (C ∷ Cs) shows vs parts = shows.0.adds vs.0 (added left Cs shows.1 
 
 pub row_has : (left Cs : List Class) (shows : AllShow left Cs) → Has left (Row Cs) (added left Cs shows)
 row_has left [] shows t q vs f parts msg told =
-    subst (λ (x : Text). Tells left x parts msg) (sym (nil_front f)) told
+    subst (λ (x : Text). Told left x parts msg) (sym (nil_front f)) told
 row_has left (C ∷ Cs) shows t q vs f parts msg told =
     let (u, first, others) = row_head C Cs f in
     shows.0.has t u vs.0 first (added left Cs shows.1 vs.1 parts) msg
     (row_has left Cs shows.1 u q vs.1 others parts msg told)
 
 pub row_more : {left : List Class} (Cs : List Class) (shows : AllShow left Cs) {t q : Text} {vs : Values Cs}
-    {parts : List Part} {msg : Text} → Front (Row Cs) t q vs → Tells left q parts msg
-    → Tells left t (added left Cs shows vs parts) msg
+    {parts : List Part} {msg : Text} → Front (Row Cs) t q vs → Told left q parts msg
+    → Told left t (added left Cs shows vs parts) msg
 row_more {left} Cs shows {t} {q} {vs} {parts} {msg} f told = row_has left Cs shows t q vs f parts msg told
 
 -- ---- blanks and other signs
@@ -239,27 +274,27 @@ module _ (Is : Text → Text → Option Text → Type 0)
 
   -- `-` in a field is no text
   pub dash_field : {left : List Class} {t q : Text} {parts : List Part} {msg : Text}
-      → Front (optional (spaced NameClass)) t q (Some None) → Tells left q parts msg → Tells left t parts msg
+      → Front (optional (spaced NameClass)) t q (Some None) → Told left q parts msg → Told left t parts msg
   dash_field {left} {q = q} {parts = parts} {msg = msg} g told =
       let (r, whole, f) = spaced_parts NameClass (present_front (spaced NameClass) g) in
-      subst (λ (x : Text). Tells left x parts msg) (sym whole) (signs_before (32 ∷ []) (refl, tt)
+      subst (λ (x : Text). Told left x parts msg) (sym whole) (signs_before (32 ∷ []) (refl, tt)
       (name_more NameClass None f (is_named f.piece q None f.is) told))
 
   -- the text of a field, where it tells this
   pub text_field : {left : List Class} {t q : Text} {parts : List Part} {msg : Text} (h : Text)
-      → Front (optional (spaced NameClass)) t q (Some (Some h)) → Tells left (h ++ q) parts msg
-      → Tells left t parts msg
+      → Front (optional (spaced NameClass)) t q (Some (Some h)) → Told left (h ++ q) parts msg
+      → Told left t parts msg
   text_field {left} {q = q} {parts = parts} {msg = msg} h g told =
       let (r, whole, f) = spaced_parts NameClass (present_front (spaced NameClass) g) in
       let same = f.whole ∙ ap (λ (x : Text). x ++ q) (sym (is_named f.piece q (Some h) f.is)) in
-      subst (λ (x : Text). Tells left x parts msg) (sym whole) (signs_before (32 ∷ []) (refl, tt)
-      (subst (λ (x : Text). Tells left x parts msg) (sym same) told))
+      subst (λ (x : Text). Told left x parts msg) (sym whole) (signs_before (32 ∷ []) (refl, tt)
+      (subst (λ (x : Text). Told left x parts msg) (sym same) told))
 
 -- without a field
 pub no_field : {left : List Class} (C : Class) {t q : Text} {parts : List Part} {msg : Text}
-    → Front (optional C) t q None → Tells left q parts msg → Tells left t parts msg
+    → Front (optional C) t q None → Told left q parts msg → Told left t parts msg
 no_field {left} C {parts = parts} {msg = msg} g told =
-    subst (λ (x : Text). Tells left x parts msg) (sym (absent_stays C g)) told
+    subst (λ (x : Text). Told left x parts msg) (sym (absent_stays C g)) told
 
 pub tag_named : (p q : Text) (v : Option Text) → tag_word.Is p q v → IsNamed p v
 tag_named p q v is = names_named p v is.3
@@ -275,16 +310,16 @@ a_date C date_in is = shown C (λ v. Date (date_in v)) is
 
 -- a text that is a piece of the class tells these parts, and ends in the message
 abbrev pub Ending : (left : List Class) (C : Class) → (C.Value → List Part) → (C.Value → Text) → Type 0
-Ending left C parts msg = (t : Text) (v : C.Value) → Front C t [] v → Tells left t (parts v) (msg v)
+Ending left C parts msg = (t : Text) (v : C.Value) → Front C t [] v → Told left t (parts v) (msg v)
 
 -- the whole text is the message
 pub whole_found : (left : List Class) (C : Class) (msg : C.Value → Text)
-    → ((p : Text) (v : C.Value) → C.Is p [] v → msg v ≡ p) → Ending left C (λ v. []) msg
-whole_found left C msg is_whole t v f =
-    subst (λ (x : Text). Tells left x [] (msg v)) (is_whole f.piece v f.is ∙ whole_of C f) (nothing_more left (msg v))
-
-pub rest_found : (left : List Class) → Ending left rest (λ v. []) (λ v. v)
-rest_found left t v f = subst (λ (x : Text). Tells left x [] v) (sym (rest_whole f)) (nothing_more left v)
+    → ((p : Text) (v : C.Value) → C.Is p [] v → msg v ≡ p) → (t : Text) (v : C.Value) → Ends is_blank t
+    → Front C t [] v → Told left t [] (msg v)
+whole_found left C msg is_whole t v front f =
+    let same = is_whole f.piece v f.is ∙ whole_of C f in
+    subst (λ (x : Text). Told left x [] (msg v)) same
+    (nothing_more left (msg v) (subst (Ends is_blank) (sym same) front))
 
 -- a row whose last class ends so
 pub last_found : (left As : List Class) (shows : AllShow left As) (C : Class) (parts : C.Value → List Part)
@@ -297,15 +332,53 @@ last_found left As shows C parts msg ends t v f =
     let w = (lasts As (C ∷ []) v).0 in
     row_has left As shows t u (firsts As (C ∷ []) v) a (parts w) (msg w) (ends u w (end_of C b))
 
--- or is the rest
+-- all blanks that are there
+abbrev pub IsGap : Class → Type 0
+IsGap B = (p q : Text) (v : B.Value) → B.Is p q v → Each is_blank p × Ends is_blank q
+
+pub run_gap : IsGap (run is_blank)
+run_gap p q v is = is
+
+pub some_gap : IsGap (some_run is_blank)
+some_gap p q v is = (is.1, is.2)
+
+-- a row whose last class is all that follows blanks
+pub after_gap : (left As : List Class) (shows : AllShow left As) (B : Class) → IsGap B → (C : Class)
+    (msg : C.Value → Text) → ((p : Text) (v : C.Value) → C.Is p [] v → msg v ≡ p)
+    → Ending left (Row (As ++ (B ∷ C ∷ []))) (λ v. added left As shows (firsts As (B ∷ C ∷ []) v) [])
+    (λ v. msg (lasts As (B ∷ C ∷ []) v).1.0)
+after_gap left As shows B is_gap C msg is_whole t v f =
+    let (u, a, b) = rows_split As (B ∷ C ∷ []) f in
+    let w = lasts As (B ∷ C ∷ []) v in
+    let (q, gap, more) = row_head B (C ∷ []) b in
+    let (blank, front) = is_gap gap.piece q w.0 gap.is in
+    row_has left As shows t u (firsts As (B ∷ C ∷ []) v) a [] (msg w.1.0)
+    (out_more B gap (inl (blank_signs gap.piece blank)) (whole_found left C msg is_whole q w.1.0 front (end_of C more)))
+
+-- or the rest
 pub before_rest : (left As : List Class) (shows : AllShow left As)
-    → Ending left (Row (As ++ (rest ∷ []))) (λ v. added left As shows (firsts As (rest ∷ []) v) [])
-    (λ v. (lasts As (rest ∷ []) v).0)
-before_rest left As shows = last_found left As shows rest (λ v. []) (λ v. v) (rest_found left)
+    → Ending left (Row (As ++ (run is_blank ∷ rest ∷ [])))
+    (λ v. added left As shows (firsts As (run is_blank ∷ rest ∷ []) v) [])
+    (λ v. (lasts As (run is_blank ∷ rest ∷ []) v).1.0)
+before_rest left As shows = after_gap left As shows (run is_blank) run_gap rest (λ v. v) (λ p v is. is.1)
+
+pub before_spaced_rest : (left As : List Class) (shows : AllShow left As)
+    → Ending left (Row (As ++ (some_run is_blank ∷ rest ∷ [])))
+    (λ v. added left As shows (firsts As (some_run is_blank ∷ rest ∷ []) v) [])
+    (λ v. (lasts As (some_run is_blank ∷ rest ∷ []) v).1.0)
+before_spaced_rest left As shows = after_gap left As shows (some_run is_blank) some_gap rest (λ v. v) (λ p v is. is.1)
+
+-- or a message that a piece of the class begins
+pub before_message : (left As : List Class) (shows : AllShow left As) (D : Class)
+    → Ending left (Row (As ++ (some_run is_blank ∷ beginning D ∷ [])))
+    (λ v. added left As shows (firsts As (some_run is_blank ∷ beginning D ∷ []) v) [])
+    (λ v. (lasts As (some_run is_blank ∷ beginning D ∷ []) v).1.0)
+before_message left As shows D =
+    after_gap left As shows (some_run is_blank) some_gap (beginning D) (λ x. x) (λ p x is. is.1)
 
 pub mapped_found : (left : List Class) (C : Class) (B : Type 0) (meaning : C.Value → B) (parts : B → List Part)
     (msg : B → Text) → Ending left C (λ v. parts (meaning v)) (λ v. msg (meaning v))
     → Ending left (mapped C B meaning) parts msg
 mapped_found left C B meaning parts msg ends t b f =
     let (v, is, same) = f.is in
-    subst (λ (x : B). Tells left t (parts x) (msg x)) (sym same) (ends t v (front_of f.piece f.whole is))
+    subst (λ (x : B). Told left t (parts x) (msg x)) (sym same) (ends t v (front_of f.piece f.whole is))
