@@ -31,7 +31,7 @@ use Rattle.syslog_sent.specs.Named.{◌otherwise◌}
 use Rattle.syslog_elements.specs.StructuredData.Pairs.{paired as element}
 use Rattle.syslog_named_forms.specs.NearHeader as near
 use Rattle.syslog_named_forms.specs.NearHeader.{bare_row, bare_says, nil, nil_row, nil_says, tag_row, tag_says}
-use Rattle.syslog_named_forms.specs.Monotonic.{is_service, monotonic_row, monotonic_says, seconds_row}
+use Rattle.syslog_named_forms.specs.Monotonic.{is_service, monotonic_form, monotonic_row, monotonic_says, seconds_row}
 use Rattle.syslog_named_forms.specs.NamedForms.{Tail, access_tail, dated_form, dated_row, forwarded_tail}
 use Rattle.syslog_named_forms.specs.NamedForms.{front_row, hostless_tail}
 use Rattle.syslog_named_forms.specs.NamedForms.{marked_tail, marked_tails, message_tails, program_forms}
@@ -53,8 +53,8 @@ use Rattle.syslog_named_forms.specs.NamedForms.{spread_forms, spread_tail, worde
 use Rattle.syslog_named_forms.specs.Pairs.{bare, either_text, first_value, is_host_key, pair, pair_row, paired, value}
 use Rattle.syslog_named_forms.specs.Pairs.{listed, pairs_form, pairs_row, quoted, quoted_row, unquoted}
 use Rattle.syslog_text.specs.Pieces.Class.{optional}
-use Rattle.syslog_dialects.specs.PriorityAlone.{IsAlone, alone_row, point_row as point_alone_row, point_sent}
-use Rattle.syslog_dialects.specs.PriorityAlone.{program_row}
+use Rattle.syslog_dialects.specs.PriorityAlone.{IsAlone, alone_form, alone_row, point_form as point_alone_form}
+use Rattle.syslog_dialects.specs.PriorityAlone.{point_row as point_alone_row, point_sent, program_form, program_row}
 use Rattle.syslog_dialects.specs.PriorityAlone.{program_sent}
 use Rattle.syslog_named_forms.specs.Programs.{forwarded_of, forwarded_row, grade, hostless_row, name_in, passed_on}
 use Rattle.syslog_named_forms.specs.Programs.{process_in}
@@ -77,7 +77,7 @@ use Rattle.syslog_dialects.proofs.OrderLemmas.{maybe, no_field, out_more, passed
 use Rattle.syslog_dialects.proofs.OrderLemmas.{row_more, shown, such}
 use Rattle.syslog_dialects.proofs.OrderLemmas.{text_of}
 use Rattle.syslog_dialects.proofs.OrderLemmas.{IsOut, whole_found}
-use Rattle.syslog_dialects.proofs.DatedFoundLemmas.{IsFoundForm, AllFound, both_found, RowFound, said_so, said}
+use Rattle.syslog_dialects.proofs.DatedFoundLemmas.{IsFoundForm, AllFound, both_found, said_so, said}
 use Rattle.syslog_dialects.proofs.DatedFoundLemmas.{an_any_date, three, dated_all, plain_dated_all}
 
 -- ---- what follows the date
@@ -437,54 +437,48 @@ marked_alone : (it : Dialect) (m : Mark) → IsFoundForm (undated_form it m)
 marked_alone it m = said it (undated_row m) (λ v. loose None None None None v.1.0) (λ h.
     after_gap (left_of it h) [] tt (run is_blank) run_gap (beginning (mark_class m)) (λ x. x) (λ p x is. is.1))
 
-vendor_found : (it : Dialect) (m : Mark) → RowFound it (vendor_row m) (vendor_says m)
-vendor_found it m h = before_message (left_of it h) (take 5 (vendor_row m))
+vendor_found : (m : Mark) → IsFoundForm (near.vendor_form m)
+vendor_found m = said (dialect_of m) (vendor_row m) (vendor_says m) (λ h.
+    before_message (left_of (dialect_of m) h) (take 5 (vendor_row m))
     (shown (number 999) Version (λ p q n is. is) also a_gap also an_any_date also a_gap also a_host also tt)
-    (mark_class m)
+    (mark_class m))
 
-heroku_found : RowFound dialect.Heroku heroku_row heroku_says
-heroku_found h = before_spaced_rest (left_of dialect.Heroku h) (take 11 heroku_row)
+heroku_found : IsFoundForm near.heroku_form
+heroku_found = said dialect.Heroku heroku_row heroku_says (λ h. before_spaced_rest (left_of dialect.Heroku h) (take 11 heroku_row)
     (shown (number 999) Version (λ p q n is. is) also a_gap also an_any_date also a_gap also a_host also a_gap
-    also a_word also a_gap also a_word also a_gap also a_sign 45 refl also tt)
+    also a_word also a_gap also a_word also a_gap also a_sign 45 refl also tt))
 
-monotonic_found : RowFound dialect.Monotonic monotonic_row monotonic_says
-monotonic_found h = before_rest (left_of dialect.Monotonic h) (take 5 monotonic_row)
+monotonic_found : IsFoundForm monotonic_form
+monotonic_found = said dialect.Monotonic monotonic_row monotonic_says (λ h. before_rest (left_of dialect.Monotonic h) (take 5 monotonic_row)
     (passed (Row seconds_row) (λ p q v is. inr (inl (v, is))) also a_gap also a_host also a_gap
-    also such program (λ p. IsTrue (is_service p)) a_program also tt)
+    also such program (λ p. IsTrue (is_service p)) a_program also tt))
 
-nil_found : RowFound dialect.NearlyRfc5424 nil_row nil_says
-nil_found h = before_rest (left_of dialect.NearlyRfc5424 h) (take 13 nil_row)
+nil_found : IsFoundForm near.nil_form
+nil_found = said dialect.NearlyRfc5424 nil_row nil_says (λ h. before_rest (left_of dialect.NearlyRfc5424 h) (take 13 nil_row)
     (shown (number 999) Version (λ p q n is. is) also a_gap also an_any_date also a_gap also a_host also a_gap
     also a_word also a_gap also a_word also a_gap also a_word also a_gap
-    also passed nil (λ p q v is. inl (rw is.0 (refl, tt))) also tt)
+    also passed nil (λ p q v is. inl (rw is.0 (refl, tt))) also tt))
 
-headed_found : RowFound dialect.NearlyRfc5424 tag_row tag_says
-headed_found h = before_rest (left_of dialect.NearlyRfc5424 h) (take 7 tag_row)
+headed_found : IsFoundForm near.tag_form
+headed_found = said dialect.NearlyRfc5424 tag_row tag_says (λ h. before_rest (left_of dialect.NearlyRfc5424 h) (take 7 tag_row)
     (shown (number 999) Version (λ p q n is. is) also a_gap also an_any_date also a_gap also a_host also a_gap
-    also a_program also tt)
+    also a_program also tt))
 
-paired_found : RowFound dialect.CheckPoint near.paired_row near.paired_says
-paired_found h = before_message (left_of dialect.CheckPoint h) (take 11 near.paired_row)
+paired_found : IsFoundForm near.paired_form
+paired_found = said dialect.CheckPoint near.paired_row near.paired_says (λ h. before_message (left_of dialect.CheckPoint h) (take 11 near.paired_row)
     (shown (number 999) Version (λ p q n is. is) also a_gap also an_any_date also a_gap also a_host also a_gap
-    also a_word also a_gap also a_word also a_gap also a_word also tt) element
+    also a_word also a_gap also a_word also a_gap also a_word also tt) element)
 
-bare_found : RowFound dialect.NearlyRfc5424 bare_row bare_says
-bare_found h = before_spaced_rest (left_of dialect.NearlyRfc5424 h) (take 11 bare_row)
+bare_found : IsFoundForm near.bare_form
+bare_found = said dialect.NearlyRfc5424 bare_row bare_says (λ h. before_spaced_rest (left_of dialect.NearlyRfc5424 h) (take 11 bare_row)
     (shown (number 999) Version (λ p q n is. is) also a_gap also an_any_date also a_gap also a_host also a_gap
-    also a_word also a_gap also a_word also a_gap also a_word also tt)
+    also a_word also a_gap also a_word also a_gap also a_word also tt))
 
 undated_all : AllFound undated_forms
 undated_all =
     marked_alone dialect.Cef mark_of.Cef also marked_alone dialect.Leef mark_of.Leef also pairs_found
-    also said dialect.Cef (vendor_row mark_of.Cef) (vendor_says mark_of.Cef) (vendor_found dialect.Cef mark_of.Cef)
-    also said dialect.Leef (vendor_row mark_of.Leef) (vendor_says mark_of.Leef)
-    (vendor_found dialect.Leef mark_of.Leef)
-    also said dialect.CheckPoint near.paired_row near.paired_says paired_found
-    also said dialect.NearlyRfc5424 nil_row nil_says nil_found
-    also said dialect.NearlyRfc5424 tag_row tag_says headed_found
-    also said dialect.Heroku heroku_row heroku_says heroku_found
-    also said dialect.NearlyRfc5424 bare_row bare_says bare_found
-    also said dialect.Monotonic monotonic_row monotonic_says monotonic_found also tt
+    also vendor_found mark_of.Cef also vendor_found mark_of.Leef also paired_found also nil_found also headed_found
+    also heroku_found also bare_found also monotonic_found also tt
 
 named_all : AllFound named_forms
 named_all = both_found (tail_forms graded_tails) marked_forms graded_all
@@ -503,25 +497,25 @@ early_all : AllFound early_forms
 early_all = both_found dated_forms (named_forms ++ plain_forms) dated_all
     (both_found named_forms plain_forms named_all plain_all)
 
-program_alone : RowFound dialect.NoHost program_row program_sent
-program_alone h = before_rest (left_of dialect.NoHost h) (take 6 program_row)
+program_alone : IsFoundForm program_form
+program_alone = said dialect.NoHost program_row program_sent (λ h.
+    before_rest (left_of dialect.NoHost h) (take 6 program_row)
     (blanks also a_name also a_sign 91 refl also text_of (some_run is_ascii_digit) also a_sign 93 refl
-    also a_colon also tt)
+    also a_colon also tt))
 
-point_alone : RowFound dialect.UniFi point_alone_row point_sent
-point_alone h = before_rest (left_of dialect.UniFi h) (take 7 point_alone_row)
+point_alone : IsFoundForm point_alone_form
+point_alone = said dialect.UniFi point_alone_row point_sent (λ h.
+    before_rest (left_of dialect.UniFi h) (take 7 point_alone_row)
     (blanks also a_host also a_gap also passed point_word (λ p q w is. inr (inl (w, is))) also a_colon also a_gap
-    also a_program also tt)
+    also a_program also tt))
 
-alone_found : RowFound dialect.PriorityAlone alone_row (λ v. loose None None None None v.1.0)
-alone_found h = after_gap (left_of dialect.PriorityAlone h) [] tt (run is_blank) run_gap (such_that rest IsAlone)
-    (λ x. x) (λ p x is. is.0.1)
+message_alone : IsFoundForm alone_form
+message_alone = said dialect.PriorityAlone alone_row (λ v. loose None None None None v.1.0) (λ h.
+    after_gap (left_of dialect.PriorityAlone h) [] tt (run is_blank) run_gap (such_that rest IsAlone) (λ x. x)
+    (λ p x is. is.0.1))
 
 last_all : AllFound last_forms
-last_all =
-    said dialect.NoHost program_row program_sent program_alone
-    also said dialect.UniFi point_alone_row point_sent point_alone
-    also said dialect.PriorityAlone alone_row (λ v. loose None None None None v.1.0) alone_found also tt
+last_all = program_alone also point_alone also message_alone also tt
 
 -- ---- each form
 
