@@ -2,9 +2,8 @@
 use crate::bad_row;
 use crate::block::{Block, parts};
 use crate::calls::{Row, or_none};
-use crate::fields::write_line;
-use crate::row::write_row;
 use crate::setting::Setting;
+use crate::sheet::Sheet;
 use std::alloc::Global;
 use std::io;
 use std::io::Write;
@@ -136,32 +135,25 @@ fn yes_or_no(holds: bool) -> &'static str {
     if holds { "yes" } else { "no" }
 }
 
-fn write_message<W: Write>(
-    alloc: Global,
-    out: &mut W,
-    message: &Message<&str>,
-    setting: &Setting,
-    filling: &str,
-) -> io::Result<()> {
-    let printed = message.to_string(alloc)?;
-    let text = printed.as_str();
-    let canonical = yes_or_no(message.is_canonical());
-    let same = yes_or_no(is_read_back(alloc, Row { text, setting }, message)?);
-    writeln!(out, "built: canonical {canonical}")?;
-    writeln!(out, "read back: {same}")?;
-    write_line(out, "text", Some(text), filling)?;
-    write_row(alloc, out, Row { text, setting }, filling)
-}
+impl<W: Write> Sheet<'_, '_, W> {
+    fn write_own(&mut self, message: &Message<&str>, setting: &Setting) -> io::Result<()> {
+        let printed = message.to_string(self.alloc)?;
+        let text = printed.as_str();
+        let row = Row { text, setting };
+        let canonical = yes_or_no(message.is_canonical());
+        let same = yes_or_no(is_read_back(self.alloc, row, message)?);
+        writeln!(self.out, "built: canonical {canonical}")?;
+        writeln!(self.out, "read back: {same}")?;
+        self.line("text", Some(text))?;
+        self.write_row(row)
+    }
 
-/// Writes whether the message of the block is canonical and is read back, its printed text, and what that is read as.
-pub fn write_built<W: Write>(
-    alloc: Global,
-    out: &mut W,
-    block: &Block<'_>,
-    setting: &Setting,
-) -> io::Result<()> {
-    let values = values_of(alloc, block)?;
-    let protocol = protocol_of(block.line("protocol").unwrap_or(""))?;
-    let message = message_of(alloc, protocol, values.as_slice())?;
-    write_message(alloc, out, &message, setting, block.filling.as_str())
+    /// Writes whether the message of the block is canonical and is read back, its printed text, and what that is read
+    /// as.
+    pub fn write_built(&mut self, block: &Block<'_>, setting: &Setting) -> io::Result<()> {
+        let values = values_of(self.alloc, block)?;
+        let protocol = protocol_of(block.line("protocol").unwrap_or(""))?;
+        let message = message_of(self.alloc, protocol, values.as_slice())?;
+        self.write_own(&message, setting)
+    }
 }

@@ -31,6 +31,11 @@ impl<'a> Row<'a> {
         self.setting.tz.as_ref()
     }
 
+    // The variant and the local zone.
+    fn reading(&self) -> (Variant, &'a TimeZone<'static>) {
+        (self.setting.variant, &self.setting.local)
+    }
+
     /// By `parse_message_with_year_exact_tz`.
     pub fn exact(&self, alloc: Global, variant: Variant) -> Result<Message<&'a str>, ParseFault> {
         let setting = self.setting;
@@ -42,14 +47,8 @@ impl<'a> Row<'a> {
     pub fn plain(&self, alloc: Global) -> Result<Message<&'a str>, AllocError> {
         let setting = self.setting;
         let year = |date: IncompleteDate| setting.year_of(date);
-        parse_message_with_year_tz(
-            alloc,
-            self.text,
-            year,
-            self.tz(),
-            setting.variant,
-            &setting.local,
-        )
+        let (variant, local) = self.reading();
+        parse_message_with_year_tz(alloc, self.text, year, self.tz(), variant, local)
     }
 
     /// By `parse_message_with_year_exact`, which has no zone.
@@ -74,14 +73,8 @@ impl<'a> Row<'a> {
             asked = Some(date);
             setting.year_of(date)
         };
-        let _ = normalise(
-            alloc,
-            self.text,
-            year,
-            self.tz(),
-            setting.variant,
-            &setting.local,
-        );
+        let (variant, local) = self.reading();
+        let _ = normalise(alloc, self.text, year, self.tz(), variant, local);
         asked
     }
 
@@ -89,40 +82,35 @@ impl<'a> Row<'a> {
     pub fn normalised(&self, alloc: Global, text: &str) -> Result<String, ParseFault> {
         let setting = self.setting;
         let year = |date: IncompleteDate| setting.year_of(date);
-        normalise(
-            alloc,
-            text,
-            year,
-            self.tz(),
-            setting.variant,
-            &setting.local,
-        )
+        let (variant, local) = self.reading();
+        normalise(alloc, text, year, self.tz(), variant, local)
+    }
+
+    /// How often the text is normalised until it stays.
+    pub fn rounds(&self, alloc: Global) -> Result<usize, ParseFault> {
+        let mut last = self.normalised(alloc, self.text)?;
+        for round in 1..=self.text.len().saturating_add(1) {
+            let next = self.normalised(alloc, last.as_str())?;
+            if next == last {
+                return Ok(round);
+            }
+            last = next;
+        }
+        Err(ParseFault::Invalid)
     }
 
     pub fn settled(&self, alloc: Global) -> Result<String, ParseFault> {
         let setting = self.setting;
         let year = |date: IncompleteDate| setting.year_of(date);
-        settle(
-            alloc,
-            self.text,
-            year,
-            self.tz(),
-            setting.variant,
-            &setting.local,
-        )
+        let (variant, local) = self.reading();
+        settle(alloc, self.text, year, self.tz(), variant, local)
     }
 
     pub fn strict(&self, alloc: Global) -> Result<String, ParseFault> {
         let setting = self.setting;
         let year = |date: IncompleteDate| setting.year_of(date);
-        to_rfc5424(
-            alloc,
-            self.text,
-            year,
-            self.tz(),
-            setting.variant,
-            &setting.local,
-        )
+        let (variant, local) = self.reading();
+        to_rfc5424(alloc, self.text, year, self.tz(), variant, local)
     }
 
     /// The object of the line in JSON.

@@ -1,33 +1,9 @@
 //! Elements, a line for each id and each parameter.
-use crate::shown::Shown;
+use crate::sheet::Sheet;
 use std::alloc::Global;
 use std::io;
 use std::io::Write;
 use syslog_loose::StructuredElement;
-
-// A parameter as it is written, and below it the value without escapes, where that is another.
-fn write_param<W: Write>(
-    out: &mut W,
-    name: &str,
-    raw: &str,
-    plain: &str,
-    filling: &str,
-) -> io::Result<()> {
-    let name = Shown {
-        text: name,
-        filling,
-    };
-    let value = Shown { text: raw, filling };
-    writeln!(out, "param: {name}=\"{value}\"")?;
-    if raw != plain {
-        let plain = Shown {
-            text: plain,
-            filling,
-        };
-        writeln!(out, "plain: {plain}")?;
-    }
-    Ok(())
-}
 
 /// Lines that come again one after the other are written once, with how often they came below.
 #[derive(Drop)]
@@ -65,39 +41,41 @@ impl Repeats {
     }
 }
 
-fn write_element<W: Write>(
-    alloc: Global,
-    out: &mut W,
-    element: &StructuredElement<&str>,
-    filling: &str,
-) -> io::Result<()> {
-    let id = Shown {
-        text: element.id,
-        filling,
-    };
-    writeln!(out, "element: {id}")?;
-    let mut params = Repeats::new(alloc);
-    for (raw, item) in element.params.iter().zip(element.params(alloc)) {
-        let (name, plain) = item?;
-        let mut lines = Vec::new(alloc);
-        write_param(&mut lines, *name, raw.1, plain.as_str(), filling)?;
-        params.add(out, lines)?;
+impl<W: Write> Sheet<'_, '_, W> {
+    // A parameter as it is written, and below it the value without escapes, where that is another.
+    fn write_param(&mut self, name: &str, raw: &str, plain: &str) -> io::Result<()> {
+        let (name, value) = (self.shown(name), self.shown(raw));
+        writeln!(self.out, "param: {name}=\"{value}\"")?;
+        if raw != plain {
+            let plain = self.shown(plain);
+            writeln!(self.out, "plain: {plain}")?;
+        }
+        Ok(())
     }
-    params.end(out)
-}
 
-/// Writes the elements.
-pub fn write_elements<W: Write>(
-    alloc: Global,
-    out: &mut W,
-    elements: &[StructuredElement<&str>],
-    filling: &str,
-) -> io::Result<()> {
-    let mut all = Repeats::new(alloc);
-    for element in elements {
-        let mut lines = Vec::new(alloc);
-        write_element(alloc, &mut lines, element, filling)?;
-        all.add(out, lines)?;
+    fn write_element(&mut self, element: &StructuredElement<&str>) -> io::Result<()> {
+        let id = self.shown(element.id);
+        writeln!(self.out, "element: {id}")?;
+        let mut params = Repeats::new(self.alloc);
+        for (raw, item) in element.params.iter().zip(element.params(self.alloc)) {
+            let (name, plain) = item?;
+            let mut lines = Vec::new(self.alloc);
+            let mut sheet = self.beside(&mut lines);
+            sheet.write_param(*name, raw.1, plain.as_str())?;
+            params.add(self.out, lines)?;
+        }
+        params.end(self.out)
     }
-    all.end(out)
+
+    /// Writes the elements.
+    pub fn write_elements(&mut self, elements: &[StructuredElement<&str>]) -> io::Result<()> {
+        let mut all = Repeats::new(self.alloc);
+        for element in elements {
+            let mut lines = Vec::new(self.alloc);
+            let mut sheet = self.beside(&mut lines);
+            sheet.write_element(element)?;
+            all.add(self.out, lines)?;
+        }
+        all.end(self.out)
+    }
 }

@@ -10,15 +10,13 @@ mod lists;
 mod piece;
 mod row;
 mod setting;
+mod sheet;
 mod shown;
 
 use block::{Block, block_of, parts};
-use built::write_built;
 use calls::Row;
-use piece::{Front, write_piece};
-use row::write_row;
 use setting::{Setting, setting_of};
-use std::alloc::Global;
+use sheet::Sheet;
 use std::io;
 use std::io::{BufWriter, Write};
 use std::process::ExitCode;
@@ -28,38 +26,38 @@ pub fn bad_row() -> io::Error {
     io::Error::from(io::ErrorKind::InvalidInput)
 }
 
-// Writes what comes of the text that a line's value represents.
-fn write_answer<W: Write>(
-    alloc: Global,
-    out: &mut W,
-    block: &Block<'_>,
-    setting: &Setting,
-    value: &str,
-) -> io::Result<()> {
-    let text = block.text_of(alloc, value)?;
-    let text = text.as_str();
-    let filling = block.filling.as_str();
-    match block.line("piece") {
-        Some(piece) => write_piece(alloc, out, piece, Front { text, filling }, setting),
-        None => write_row(alloc, out, Row { text, setting }, filling),
-    }
-}
-
-// The lines of the block, below each text what comes of it; and below a message what comes of that.
-fn write_block<W: Write>(alloc: Global, out: &mut W, block: &Block<'_>) -> io::Result<()> {
-    let Some(setting) = setting_of(block) else {
-        return Err(bad_row());
-    };
-    for line in block.text.lines() {
-        writeln!(out, "{line}")?;
-        if let ("text", value) = parts(line) {
-            write_answer(alloc, out, block, &setting, value)?;
+impl<W: Write> Sheet<'_, '_, W> {
+    // Writes what comes of the text that a line's value represents.
+    fn write_answer(
+        &mut self,
+        block: &Block<'_>,
+        setting: &Setting,
+        value: &str,
+    ) -> io::Result<()> {
+        let text = block.text_of(self.alloc, value)?;
+        let text = text.as_str();
+        match block.line("piece") {
+            Some(piece) => self.write_piece(piece, text, setting),
+            None => self.write_row(Row { text, setting }),
         }
     }
-    if block.line("protocol").is_some() {
-        return write_built(alloc, out, block, &setting);
+
+    // The lines of the block, below each text what comes of it; and below a message what comes of that.
+    fn write_block(&mut self, block: &Block<'_>) -> io::Result<()> {
+        let Some(setting) = setting_of(block) else {
+            return Err(bad_row());
+        };
+        for line in block.text.lines() {
+            writeln!(self.out, "{line}")?;
+            if let ("text", value) = parts(line) {
+                self.write_answer(block, &setting, value)?;
+            }
+        }
+        if block.line("protocol").is_some() {
+            return self.write_built(block, &setting);
+        }
+        Ok(())
     }
-    Ok(())
 }
 
 fn write_blocks(rt: &HostRuntime) -> io::Result<()> {
@@ -70,7 +68,12 @@ fn write_blocks(rt: &HostRuntime) -> io::Result<()> {
             writeln!(out)?;
         }
         let block = block_of(rt.alloc(), text)?;
-        write_block(rt.alloc(), &mut out, &block)?;
+        let mut sheet = Sheet {
+            alloc: rt.alloc(),
+            out: &mut out,
+            filling: block.filling.as_str(),
+        };
+        sheet.write_block(&block)?;
     }
     out.flush()
 }

@@ -1,9 +1,7 @@
 //! What one piece of a line reads at the front of a text, and what it leaves.
 use crate::bad_row;
-use crate::fields::{write_line, write_process};
-use crate::lists::write_elements;
 use crate::setting::Setting;
-use std::alloc::Global;
+use crate::sheet::Sheet;
 use std::io;
 use std::io::Write;
 use syslog_elements::structured_data::rfc3164_list::{DashRule, begins_list};
@@ -17,86 +15,12 @@ use syslog_text::text::{
     Field, blanks, host, host_field, number, some_blanks, tag_field, tag_word, trimmed, word,
 };
 
-//// A text at whose front a piece is read, and the part that its block repeats.
-#[derive(Clone, Copy)]
-pub struct Front<'a> {
-    pub text: &'a str,
-    pub filling: &'a str,
-}
-
-// A word and what is left: a dash has neither a word nor nothing.
-fn write_word<W: Write>(
-    out: &mut W,
-    front: Front<'_>,
-    read: Option<(Option<&str>, &str)>,
-) -> io::Result<()> {
-    match read {
-        Some((Some(word), left)) => {
-            write_line(out, "reads", Some(word), front.filling)?;
-            write_line(out, "left", Some(left), front.filling)
-        }
-        Some((None, left)) => {
-            writeln!(out, "reads a dash")?;
-            write_line(out, "left", Some(left), front.filling)
-        }
-        None => writeln!(out, "no"),
-    }
-}
-
 fn word_of<'a>(read: (Field<'a>, &'a str)) -> Option<(Option<&'a str>, &'a str)> {
     match read.0 {
         Field::Name(name) => Some((Some(name), read.1)),
         Field::Dash => Some((None, read.1)),
         Field::Missing => None,
     }
-}
-
-fn write_left<W: Write>(out: &mut W, front: Front<'_>, left: Option<&str>) -> io::Result<()> {
-    match left {
-        Some(left) => write_line(out, "left", Some(left), front.filling),
-        None => writeln!(out, "no"),
-    }
-}
-
-fn write_priority<W: Write>(out: &mut W, front: Front<'_>) -> io::Result<()> {
-    match optional_priority(front.text) {
-        (Some(number), left) => {
-            writeln!(out, "reads: {number}")?;
-            write_line(out, "left", Some(left), front.filling)
-        }
-        (None, left) if left == front.text => writeln!(out, "no"),
-        _ => Err(bad_row()),
-    }
-}
-
-fn write_number<W: Write>(out: &mut W, front: Front<'_>, limit: &str) -> io::Result<()> {
-    match number(front.text, limit.parse().map_err(|_| bad_row())?) {
-        Some((number, left)) => {
-            writeln!(out, "reads: {number}")?;
-            write_line(out, "left", Some(left), front.filling)
-        }
-        None => writeln!(out, "no"),
-    }
-}
-
-fn write_date<W: Write>(out: &mut W, front: Front<'_>) -> io::Result<()> {
-    let Some((date, left)) = month_date(front.text) else {
-        return writeln!(out, "no");
-    };
-    let MonthDate {
-        year,
-        month,
-        day,
-        hour,
-        minute,
-        second,
-    } = date;
-    write!(out, "reads:")?;
-    if let Some(year) = year {
-        write!(out, " year {year},")?;
-    }
-    writeln!(out, " {month} {day} {hour} {minute} {second}")?;
-    write_line(out, "left", Some(left), front.filling)
 }
 
 // The timestamp at the front of a header of RFC 3164, as the calls read it.
@@ -113,106 +37,137 @@ fn stamp_at<'a>(text: &'a str, setting: &Setting) -> Option<(Option<ClockStamp>,
     Some((Some(month_stamp(date, &dating)?), left))
 }
 
-fn write_stamp<W: Write>(
-    out: &mut W,
-    front: Front<'_>,
-    clock: Option<ClockStamp>,
-    left: &str,
-) -> io::Result<()> {
-    match clock {
-        Some(clock) => {
-            let stamp = clock.stamp();
-            let seconds = stamp.instant.as_second();
-            writeln!(out, "reads: {stamp}, {seconds} seconds after 1970 began")?;
+impl<W: Write> Sheet<'_, '_, W> {
+    // What is left; or that nothing is read.
+    fn write_left(&mut self, left: Option<&str>) -> io::Result<()> {
+        match left {
+            Some(left) => self.line("left", Some(left)),
+            None => writeln!(self.out, "no"),
         }
-        None => writeln!(out, "reads a dash")?,
     }
-    write_line(out, "left", Some(left), front.filling)
-}
 
-fn write_header_stamp<W: Write>(out: &mut W, front: Front<'_>) -> io::Result<()> {
-    match header_stamp(front.text) {
-        Some((clock, left)) => write_stamp(out, front, clock, left),
-        None => writeln!(out, "no"),
+    // A word and what is left: a dash has neither a word nor nothing.
+    fn write_word(&mut self, read: Option<(Option<&str>, &str)>) -> io::Result<()> {
+        match read {
+            Some((Some(word), _)) => self.line("reads", Some(word))?,
+            Some((None, _)) => writeln!(self.out, "reads a dash")?,
+            None => (),
+        }
+        self.write_left(read.map(|it| it.1))
     }
-}
 
-fn write_dated_stamp<W: Write>(out: &mut W, front: Front<'_>, setting: &Setting) -> io::Result<()> {
-    match stamp_at(front.text, setting) {
-        Some((clock, left)) => write_stamp(out, front, clock, left),
-        None => writeln!(out, "no"),
+    fn write_priority(&mut self, text: &str) -> io::Result<()> {
+        match optional_priority(text) {
+            (Some(number), left) => self.write_number(Some((u32::from(number), left))),
+            (None, left) if left == text => self.write_left(None),
+            _ => Err(bad_row()),
+        }
     }
-}
 
-fn write_list<W: Write>(
-    alloc: Global,
-    out: &mut W,
-    front: Front<'_>,
-    list: &ElementList<'_>,
-    left: &str,
-) -> io::Result<()> {
-    let elements = list.collect(alloc)?;
-    write_elements(alloc, out, elements.as_slice(), front.filling)?;
-    let printed = list.to_string(alloc)?;
-    write_line(out, "prints", Some(printed.as_str()), front.filling)?;
-    if list.is_printed() {
-        writeln!(out, "in printed form: yes")?;
+    fn write_number(&mut self, read: Option<(u32, &str)>) -> io::Result<()> {
+        if let Some((number, _)) = read {
+            writeln!(self.out, "reads: {number}")?;
+        }
+        self.write_left(read.map(|it| it.1))
     }
-    write_line(out, "left", Some(left), front.filling)
-}
 
-fn write_forgiving<W: Write>(alloc: Global, out: &mut W, front: Front<'_>) -> io::Result<()> {
-    match visit_forgiving_list(front.text, &mut NoElements) {
-        Some((list, left)) => write_list(alloc, out, front, &list, left),
-        None => writeln!(out, "no"),
+    fn write_date(&mut self, text: &str) -> io::Result<()> {
+        let Some((date, left)) = month_date(text) else {
+            return self.write_left(None);
+        };
+        let MonthDate {
+            year,
+            month,
+            day,
+            hour,
+            minute,
+            second,
+        } = date;
+        write!(self.out, "reads:")?;
+        if let Some(year) = year {
+            write!(self.out, " year {year},")?;
+        }
+        writeln!(self.out, " {month} {day} {hour} {minute} {second}")?;
+        self.write_left(Some(left))
     }
-}
 
-fn write_optional<W: Write>(
-    alloc: Global,
-    out: &mut W,
-    front: Front<'_>,
-    rule: DashRule,
-) -> io::Result<()> {
-    let (list, left) = visit_rfc3164_list(front.text, rule, &mut NoElements);
-    if begins_list(front.text, rule) == list.text().is_empty() {
-        return Err(bad_row());
+    fn write_stamp(&mut self, clock: Option<ClockStamp>, left: &str) -> io::Result<()> {
+        match clock {
+            Some(clock) => {
+                let stamp = clock.stamp();
+                let seconds = stamp.instant.as_second();
+                writeln!(
+                    self.out,
+                    "reads: {stamp}, {seconds} seconds after 1970 began"
+                )?;
+            }
+            None => writeln!(self.out, "reads a dash")?,
+        }
+        self.write_left(Some(left))
     }
-    if list.text().is_empty() && left == front.text {
-        return writeln!(out, "no");
-    }
-    write_list(alloc, out, front, &list, left)
-}
 
-/// Writes what the piece reads at the front of a text.
-pub fn write_piece<W: Write>(
-    alloc: Global,
-    out: &mut W,
-    piece: &str,
-    front: Front<'_>,
-    setting: &Setting,
-) -> io::Result<()> {
-    let text = front.text;
-    if let Some(limit) = piece.strip_prefix("number up to ") {
-        return write_number(out, front, limit);
+    fn write_header_stamp(&mut self, text: &str) -> io::Result<()> {
+        match header_stamp(text) {
+            Some((clock, left)) => self.write_stamp(clock, left),
+            None => self.write_left(None),
+        }
     }
-    match piece {
-        "priority" => write_priority(out, front),
-        "trimmed" => write_left(out, front, Some(trimmed(text))),
-        "blanks or none" => write_left(out, front, Some(blanks(text))),
-        "blanks" => write_left(out, front, some_blanks(text)),
-        "host" => write_word(out, front, host(text)),
-        "word" => write_word(out, front, word(text)),
-        "tag word" => write_word(out, front, tag_word(text)),
-        "space and host" => write_word(out, front, word_of(host_field(text))),
-        "space and tag" => write_word(out, front, word_of(tag_field(text))),
-        "process id" => write_process(out, &ProcId::from(text), front.filling),
-        "month date" => write_date(out, front),
-        "timestamp" => write_header_stamp(out, front),
-        "timestamp of RFC 3164" => write_dated_stamp(out, front, setting),
-        "forgiving list" => write_forgiving(alloc, out, front),
-        "list of RFC 3164" => write_optional(alloc, out, front, DashRule::BeforeBlank),
-        "list of the Rust crate" => write_optional(alloc, out, front, DashRule::BeforeAnything),
-        _ => Err(bad_row()),
+
+    fn write_dated_stamp(&mut self, text: &str, setting: &Setting) -> io::Result<()> {
+        match stamp_at(text, setting) {
+            Some((clock, left)) => self.write_stamp(clock, left),
+            None => self.write_left(None),
+        }
+    }
+
+    fn write_list(&mut self, read: Option<(ElementList<'_>, &str)>) -> io::Result<()> {
+        let Some((list, left)) = read else {
+            return self.write_left(None);
+        };
+        let elements = list.collect(self.alloc)?;
+        self.write_elements(elements.as_slice())?;
+        let printed = list.to_string(self.alloc)?;
+        self.line("prints", Some(printed.as_str()))?;
+        if list.is_printed() {
+            writeln!(self.out, "in printed form: yes")?;
+        }
+        self.write_left(Some(left))
+    }
+
+    fn write_optional(&mut self, text: &str, rule: DashRule) -> io::Result<()> {
+        let (list, left) = visit_rfc3164_list(text, rule, &mut NoElements);
+        if begins_list(text, rule) == list.text().is_empty() {
+            return Err(bad_row());
+        }
+        if list.text().is_empty() && left == text {
+            return self.write_left(None);
+        }
+        self.write_list(Some((list, left)))
+    }
+
+    /// Writes what the piece reads at the front of a text.
+    pub fn write_piece(&mut self, piece: &str, text: &str, setting: &Setting) -> io::Result<()> {
+        if let Some(limit) = piece.strip_prefix("number up to ") {
+            return self.write_number(number(text, limit.parse().map_err(|_| bad_row())?));
+        }
+        match piece {
+            "priority" => self.write_priority(text),
+            "trimmed" => self.write_left(Some(trimmed(text))),
+            "blanks or none" => self.write_left(Some(blanks(text))),
+            "blanks" => self.write_left(some_blanks(text)),
+            "host" => self.write_word(host(text)),
+            "word" => self.write_word(word(text)),
+            "tag word" => self.write_word(tag_word(text)),
+            "space and host" => self.write_word(word_of(host_field(text))),
+            "space and tag" => self.write_word(word_of(tag_field(text))),
+            "process id" => self.write_process(&ProcId::from(text)),
+            "month date" => self.write_date(text),
+            "timestamp" => self.write_header_stamp(text),
+            "timestamp of RFC 3164" => self.write_dated_stamp(text, setting),
+            "forgiving list" => self.write_list(visit_forgiving_list(text, &mut NoElements)),
+            "list of RFC 3164" => self.write_optional(text, DashRule::BeforeBlank),
+            "list of the Rust crate" => self.write_optional(text, DashRule::BeforeAnything),
+            _ => Err(bad_row()),
+        }
     }
 }

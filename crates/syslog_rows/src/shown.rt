@@ -4,9 +4,9 @@ use std::fmt;
 /// A text on one line. A character that is neither of ASCII from the space to `~` nor a letter is written as
 /// `<U+00A0>`, and so is a space at either end. The part that a block repeats, if there is one, is written as `…`.
 #[derive(Clone, Copy)]
-pub struct Shown<'a> {
-    pub text: &'a str,
-    pub filling: &'a str,
+pub struct Shown<'t, 'f> {
+    pub text: &'t str,
+    pub filling: &'f str,
 }
 
 fn write_space<W: fmt::Write>(f: &mut fmt::Formatter<W>) -> fmt::Result {
@@ -42,7 +42,7 @@ fn write_plain<W: fmt::Write>(f: &mut fmt::Formatter<W>, text: &str) -> fmt::Res
     }
 }
 
-impl fmt::Display for Shown<'_> {
+impl fmt::Display for Shown<'_, '_> {
     fn fmt<W: fmt::Write>(&self, f: &mut fmt::Formatter<W>) -> fmt::Result {
         if self.filling.is_empty() {
             return write_plain(f, self.text);
