@@ -444,33 +444,39 @@ vendor_found m = said (dialect_of m) (vendor_row m) (vendor_says m) (λ h.
     (mark_class m))
 
 heroku_found : IsFoundForm near.heroku_form
-heroku_found = said dialect.Heroku heroku_row heroku_says (λ h. before_spaced_rest (left_of dialect.Heroku h) (take 11 heroku_row)
+heroku_found = said dialect.Heroku heroku_row heroku_says (λ h.
+    before_spaced_rest (left_of dialect.Heroku h) (take 11 heroku_row)
     (shown (number 999) Version (λ p q n is. is) also a_gap also an_any_date also a_gap also a_host also a_gap
     also a_word also a_gap also a_word also a_gap also a_sign 45 refl also tt))
 
 monotonic_found : IsFoundForm monotonic_form
-monotonic_found = said dialect.Monotonic monotonic_row monotonic_says (λ h. before_rest (left_of dialect.Monotonic h) (take 5 monotonic_row)
+monotonic_found = said dialect.Monotonic monotonic_row monotonic_says (λ h.
+    before_rest (left_of dialect.Monotonic h) (take 5 monotonic_row)
     (passed (Row seconds_row) (λ p q v is. inr (inl (v, is))) also a_gap also a_host also a_gap
     also such program (λ p. IsTrue (is_service p)) a_program also tt))
 
 nil_found : IsFoundForm near.nil_form
-nil_found = said dialect.NearlyRfc5424 nil_row nil_says (λ h. before_rest (left_of dialect.NearlyRfc5424 h) (take 13 nil_row)
+nil_found = said dialect.NearlyRfc5424 nil_row nil_says (λ h.
+    before_rest (left_of dialect.NearlyRfc5424 h) (take 13 nil_row)
     (shown (number 999) Version (λ p q n is. is) also a_gap also an_any_date also a_gap also a_host also a_gap
     also a_word also a_gap also a_word also a_gap also a_word also a_gap
     also passed nil (λ p q v is. inl (rw is.0 (refl, tt))) also tt))
 
 headed_found : IsFoundForm near.tag_form
-headed_found = said dialect.NearlyRfc5424 tag_row tag_says (λ h. before_rest (left_of dialect.NearlyRfc5424 h) (take 7 tag_row)
+headed_found = said dialect.NearlyRfc5424 tag_row tag_says (λ h.
+    before_rest (left_of dialect.NearlyRfc5424 h) (take 7 tag_row)
     (shown (number 999) Version (λ p q n is. is) also a_gap also an_any_date also a_gap also a_host also a_gap
     also a_program also tt))
 
 paired_found : IsFoundForm near.paired_form
-paired_found = said dialect.CheckPoint near.paired_row near.paired_says (λ h. before_message (left_of dialect.CheckPoint h) (take 11 near.paired_row)
+paired_found = said dialect.CheckPoint near.paired_row near.paired_says (λ h.
+    before_message (left_of dialect.CheckPoint h) (take 11 near.paired_row)
     (shown (number 999) Version (λ p q n is. is) also a_gap also an_any_date also a_gap also a_host also a_gap
     also a_word also a_gap also a_word also a_gap also a_word also tt) element)
 
 bare_found : IsFoundForm near.bare_form
-bare_found = said dialect.NearlyRfc5424 bare_row bare_says (λ h. before_spaced_rest (left_of dialect.NearlyRfc5424 h) (take 11 bare_row)
+bare_found = said dialect.NearlyRfc5424 bare_row bare_says (λ h.
+    before_spaced_rest (left_of dialect.NearlyRfc5424 h) (take 11 bare_row)
     (shown (number 999) Version (λ p q n is. is) also a_gap also an_any_date also a_gap also a_host also a_gap
     also a_word also a_gap also a_word also a_gap also a_word also tt))
 
