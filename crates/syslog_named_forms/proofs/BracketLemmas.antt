@@ -1,11 +1,10 @@
 -- Lines that have blanks between a program's name and the bracket before its process. The name is what is read as a
 -- host, so the bracket follows what is read before it.
-use Rattle.std.proofs.Common.{◌≡◌, ℕ, ◌<◌, true, false, List, [], ◌∷◌, ◌++◌, length, Bor, Option, Some, None, sym}
+use Rattle.std.proofs.Common.{◌≡◌, ◌<◌, true, false, [], ◌∷◌, ◌++◌, length, Option, Some, None, sym}
 use Rattle.std.proofs.Common.{ap, subst, ◌∙◌, refl, arith}
 use Rattle.std.proofs.lemmas.Bool.Decides.{nat_tests}
 use Rattle.std.specs.Char.{is_not_whitespace}
 use Rattle.syslog_text.specs.Pieces.Class.{Each, Ends, Front, NoFront, Row, Text, some_run}
-use Rattle.syslog_text.specs.Pieces.View.{Reads, seen}
 use Rattle.syslog_text.specs.Text.{EndsInColon, colon, dash, host, is_blank}
 use Rattle.syslog_text.specs.Text.CharClass.{is_label_char}
 use Rattle.syslog_text.proofs.PieceLemmas.Class.{◌then◌, each_after, each_map, front_of, front_same, no_front_no}
@@ -13,7 +12,9 @@ use Rattle.syslog_text.proofs.PieceLemmas.Class.{no_mapped, piece_front, row_det
 use Rattle.syslog_text.proofs.TextLemmas.Words.{host_back}
 use Rattle.syslog_sent.specs.Named.{BeginsWith, NamedTexts, begins_name}
 use Rattle.syslog_named_forms.specs.Graded.{padded, padded_of, padded_row, threaded, threaded_of, threaded_row}
-use Rattle.syslog_named_forms.specs.Untagged.{host_row, opens_bracket, opens_square}
+use Rattle.syslog_named_forms.specs.Hosts.{ReadsHost, host_row}
+use Rattle.syslog_named_forms.specs.declared.hosts.AfterHost.{AfterHost}
+use Rattle.syslog_named_forms.specs.Untagged.{opens_bracket, opens_square}
 use Rattle.syslog_named_forms.proofs.UntaggedLemmas.{host_row_det}
 
 name_no_colon : (n : Text) → Each is_label_char n → EndsInColon n → ⊥
@@ -42,8 +43,8 @@ bracket_next n b s begins long each some blank = row_of host_row
     then piece_front (some_run is_blank) b (91 ∷ s) tt (some, blank, refl) then refl)
 
 -- what was read before is of a text in which none follows
-not_open : (r : Option (Option (Bor (List ℕ)) × Bor (List ℕ))) {text : Text}
-    → Reads (Row host_row) (λ h. (seen h, (tt, tt))) text r → opens_bracket r ≡ false → (n b s : Text)
+not_open : (r : Option AfterHost) {text : Text}
+    → ReadsHost text r → opens_bracket r ≡ false → (n b s : Text)
     → BeginsWith begins_name n → 0 < length n → Each is_label_char n → 0 < length b → Each is_blank b
     → text ≡ n ++ (b ++ (91 ∷ s)) → ⊥
 not_open None after shut n b s begins long each some blank e = no_front_no (Row host_row) after
@@ -56,8 +57,8 @@ not_open (Some x) after shut n b s begins long each some blank e =
     let begun : opens_square (91 ∷ s) ≡ false = subst (λ (y : Text). opens_square y ≡ false) same shut in
     absurd (let bad : true ≡ false = begun in cc)
 
-module _ (r : Option (Option (Bor (List ℕ)) × Bor (List ℕ))) {text : Text}
-    (after : Reads (Row host_row) (λ h. (seen h, (tt, tt))) text r) (shut : opens_bracket r ≡ false) where
+module _ (r : Option AfterHost) {text : Text}
+    (after : ReadsHost text r) (shut : opens_bracket r ≡ false) where
   pub no_threaded : NoFront threaded text
   no_threaded = no_mapped (Row threaded_row) NamedTexts threaded_of (λ p q vs e h.
       let (u, n, (w, g, (x, o, more))) = row_pieces threaded_row (front_of p e h) in

@@ -14,7 +14,8 @@ use Rattle.syslog_sent.specs.Named.{NamedTexts, id_row, process_id, program, pro
 use Rattle.syslog_sent.specs.Runs.{is_plain_char}
 use Rattle.syslog_named_forms.specs.Programs.{access_of, access_point, access_row, hostless, hostless_of, hostless_row}
 use Rattle.syslog_named_forms.specs.Programs.{point_row}
-use Rattle.syslog_named_forms.specs.Untagged.{host_row, topic_row}
+use Rattle.syslog_named_forms.specs.Hosts.{host_row}
+use Rattle.syslog_named_forms.specs.Untagged.{topic_row}
 use Rattle.syslog_named_forms.proofs.BracketLemmas.{blank_ends, name_visible}
 
 -- ---- no host ends in the colon

@@ -7,4 +7,5 @@ pub mod NamedFormLemmas
 pub mod NearHeaderLemmas
 pub mod PairLemmas
 pub mod ProgramLemmas
+pub mod ReaderLemmas
 pub mod UntaggedLemmas

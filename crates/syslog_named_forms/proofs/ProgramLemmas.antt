@@ -4,7 +4,7 @@ use Rattle.syslog_text.specs.Text.{host, is_blank}
 use Rattle.syslog_text.proofs.PieceLemmas.Class.{rest_det, run_det, some_run_det}
 use Rattle.syslog_text.proofs.TextLemmas.Words.{host_det}
 use Rattle.syslog_named_forms.specs.Programs.{IsSerial, box, box_of, box_row, serial, serial_of, serial_row}
-use Rattle.syslog_named_forms.specs.Untagged.{host_row}
+use Rattle.syslog_named_forms.specs.Hosts.{host_row}
 use Rattle.syslog_sent.specs.Runs.{is_plain_char}
 use Rattle.syslog_sent.proofs.NamedLemmas.{program_det}
 use Rattle.syslog_sent.proofs.DateLemmas.{iso_date_det}

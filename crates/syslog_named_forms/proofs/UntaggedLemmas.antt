@@ -1,12 +1,11 @@
 -- A text has one front of each class of marks.
 use Rattle.std.proofs.Common.{◌≡◌, inl, inr, ℕ, Bool, true, false, List, [], ◌∷◌, ◌++◌, Some, None, refl, sym, ap}
-use Rattle.std.proofs.Common.{Bor, Option, subst, ◌∙◌, arith}
+use Rattle.std.proofs.Common.{Option, subst, ◌∙◌, arith}
 use Rattle.std.proofs.lemmas.Bool.Decides.{nat_tests}
 use Rattle.std.specs.Char.{is_not_whitespace}
 use Rattle.std.specs.Prelude.{◌&&◌, ◌+◌, ◌/◌, chars, codes, drop, nat_le}
 use Rattle.syslog_text.specs.Pieces.Class.{Text, Class, Ends, Front, NoFront, Row, Values, after, exactly, join}
 use Rattle.syslog_text.specs.Bodies.Scan.{SplitsRun}
-use Rattle.syslog_text.specs.Pieces.View.{Reads, seen}
 use Rattle.syslog_text.specs.Pieces.Class.{optional, run}
 use Rattle.syslog_text.proofs.PieceLemmas.Class.{each_map, front_of, front_same, heads, no_mapped, row_none_here}
 use Rattle.syslog_text.proofs.PieceLemmas.Class.{row_pieces, rows_none_here, rows_none_later}
@@ -14,7 +13,9 @@ use Rattle.syslog_text.proofs.PieceLemmas.Lists.{Begins, begins as begins_with_i
 use Rattle.syslog_text.proofs.PieceLemmas.Rules.{Opens, row_opens}
 use Rattle.syslog_text.proofs.TextLemmas.Words.{host_det}
 use Rattle.syslog_sent.specs.Named.{◌otherwise◌, NamedTexts, beginning}
-use Rattle.syslog_named_forms.specs.Untagged.{begins, here, host_row, is_level, mark_class, repeated_row, repeats}
+use Rattle.syslog_named_forms.specs.Hosts.{ReadsHost, host_row}
+use Rattle.syslog_named_forms.specs.declared.hosts.AfterHost.{AfterHost}
+use Rattle.syslog_named_forms.specs.Untagged.{begins, here, is_level, mark_class, repeated_row, repeats}
 use Rattle.syslog_named_forms.specs.declared.untagged.Mark.{Mark}
 use Rattle.syslog_named_forms.specs.declared.untagged.Mark.TheVariants.{Cef, Leef, Repeated, PaloAlto, Pair, Json}
 use Rattle.syslog_named_forms.specs.declared.untagged.Mark.TheVariants.{Idrac}
@@ -334,15 +335,15 @@ no_message m h n k = no_mapped (marked m) NamedTexts marked_of
     (row_none_here (begun m) [] (no_beginning k))))
 
 -- where this mark may begin neither
-pub no_message_of : (marks : MessageMarks) {t : Text} (after : Option (Option (Bor (List ℕ)) × Bor (List ℕ)))
-    → Reads (Row host_row) (λ h. (seen h, (tt, tt))) t after → AreMarks marks t after → (m : Mark)
+pub no_message_of : (marks : MessageMarks) {t : Text} (after : Option AfterHost)
+    → ReadsHost t after → AreMarks marks t after → (m : Mark)
     → holds marks.own.bits m ≡ false → holds marks.later.bits m ≡ false → NoFront (message m) t
 no_message_of marks None h are m own later = no_message_alone m h (are.0 m own)
 no_message_of marks (Some x) h are m own later = no_message m h (are.0 m own) (are.1 m later)
 
 -- where no mark may begin either
-pub no_messages : (marks : MessageMarks) {t : Text} (after : Option (Option (Bor (List ℕ)) × Bor (List ℕ)))
-    → Reads (Row host_row) (λ h. (seen h, (tt, tt))) t after → AreMarks marks t after
+pub no_messages : (marks : MessageMarks) {t : Text} (after : Option AfterHost)
+    → ReadsHost t after → AreMarks marks t after
     → ((m : Mark) → holds marks.own.bits m ≡ false) → ((m : Mark) → holds marks.later.bits m ≡ false) → (m : Mark)
     → NoFront (message m) t
 no_messages marks after h are own later m = no_message_of marks after h are m (own m) (later m)

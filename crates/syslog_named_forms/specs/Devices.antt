@@ -1,11 +1,12 @@
 -- What devices write between the host and the message. 44 is a comma.
-use Rattle.std.specs.Prelude.{◌&&◌, ◌||◌, ℕ, nat_eq, nat_le, Bool, IsTrue, false, if◌then◌else◌, List, [], ◌∷◌}
+use Rattle.std.specs.Prelude.{◌&&◌, ◌||◌, ℕ, nat_eq, nat_le, Bool, IsTrue, false, if◌then◌else◌, List, [], ◌∷◌, ◌++◌}
 use Rattle.std.specs.Prelude.{None, codes, suc}
 use Rattle.std.specs.Char.{is_ascii_digit}
-use Rattle.syslog_text.specs.Pieces.Class.{Text, Class, Values, Row, exactly, mapped, rest, run, some_run, texted}
+use Rattle.syslog_text.specs.Pieces.Class.{Text, Class, Values, Row, exactly, rest, run, some_run, texted}
 use Rattle.syslog_text.specs.Pieces.Rules.{such_that}
-use Rattle.syslog_text.specs.Text.{colon, host, is_blank}
-use Rattle.syslog_sent.specs.Named.{NamedTexts, program, tagged}
+use Rattle.syslog_text.specs.Text.{colon, is_blank}
+use Rattle.syslog_sent.specs.Named.{NamedTexts, tagged}
+use Rattle.syslog_named_forms.specs.Hosts.{host_row, program_said, program_tail}
 use Rattle.syslog_sent.specs.Zone.{bare_word}
 
 -- ---- address and version: `U6-Pro 788a20a1b2c3,U6-Pro-6.5.28+14491: hostapd[1234]: text`
@@ -28,14 +29,10 @@ point_word = such_that bare_word (λ t. IsTrue (opens_address t))
 
 -- UniFi access points from version 6 on
 abbrev pub addressed_row : List Class
-addressed_row = host ∷ some_run is_blank ∷ point_word ∷ exactly colon ∷ some_run is_blank ∷ program ∷ run is_blank
-    ∷ rest ∷ []
+addressed_row = host_row ++ point_word ∷ exactly colon ∷ some_run is_blank ∷ program_tail
 
 abbrev pub addressed_of : Values addressed_row → NamedTexts
-addressed_of (h, (_, (_, (_, (_, (p, (_, (m, _)))))))) = tagged h p m
-
-abbrev pub addressed : Class
-addressed = mapped (Row addressed_row) NamedTexts addressed_of
+addressed_of (h, (_, (_, (_, (_, tail))))) = program_said h tail
 
 -- ---- the name of a management board, with its generation: `ilo7 #ILO 5: text`
 
@@ -43,10 +40,7 @@ abbrev pub title_row : List Class
 title_row = exactly (codes "#ILO ") ∷ some_run is_ascii_digit ∷ []
 
 abbrev pub titled_row : List Class
-titled_row = host ∷ some_run is_blank ∷ texted (Row title_row) ∷ exactly colon ∷ run is_blank ∷ rest ∷ []
+titled_row = host_row ++ texted (Row title_row) ∷ exactly colon ∷ run is_blank ∷ rest ∷ []
 
 abbrev pub titled_of : Values titled_row → NamedTexts
 titled_of (h, (_, (name, (_, (_, (m, _)))))) = tagged h (record { name = name; process = None }) m
-
-abbrev pub titled : Class
-titled = mapped (Row titled_row) NamedTexts titled_of

@@ -1,11 +1,12 @@
 -- What is in angles or in brackets before the message: facility and severity, an event, or where a line is from. 46 is
 -- `.`, 60 `<`, 62 `>`, 91 `[`, 93 `]`.
-use Rattle.std.specs.Prelude.{List, [], ◌∷◌, None, Some, codes}
+use Rattle.std.specs.Prelude.{List, [], ◌∷◌, ◌++◌, None, Some, codes}
 use Rattle.syslog_text.specs.Pieces.Class.{Text, Class, Values, Row, exactly, mapped, rest, run, some_run, texted}
-use Rattle.syslog_text.specs.Text.{colon, host, is_blank}
+use Rattle.syslog_text.specs.Text.{colon, is_blank}
 use Rattle.std.specs.Char.{is_ascii_digit}
-use Rattle.syslog_sent.specs.Named.{◌otherwise◌, NamedTexts, beginning, name, program, tagged, untagged}
+use Rattle.syslog_sent.specs.Named.{◌otherwise◌, NamedTexts, beginning, name, tagged, untagged}
 use Rattle.syslog_sent.specs.Runs.{is_plain_char, is_word_char}
+use Rattle.syslog_named_forms.specs.Hosts.{host_row, program_said, program_tail}
 use Rattle.syslog_named_forms.specs.Untagged.{mark_class}
 use Rattle.syslog_named_forms.specs.declared.untagged.Mark.TheVariants.{Bracket, Level}
 
@@ -17,10 +18,10 @@ grade_row = exactly (60 ∷ []) ∷ some_run is_plain_char ∷ exactly (46 ∷ [
     ∷ []
 
 abbrev pub graded_row : List Class
-graded_row = Row grade_row ∷ some_run is_blank ∷ host ∷ some_run is_blank ∷ program ∷ run is_blank ∷ rest ∷ []
+graded_row = Row grade_row ∷ some_run is_blank ∷ host_row ++ program_tail
 
 abbrev pub graded_of : Values graded_row → NamedTexts
-graded_of (_, (_, (h, (_, (p, (_, (m, _))))))) = tagged h p m
+graded_of (_, (_, (h, (_, tail)))) = program_said h tail
 
 abbrev pub graded : Class
 graded = mapped (Row graded_row) NamedTexts graded_of
@@ -32,13 +33,10 @@ abbrev pub level_row : List Class
 level_row = exactly (codes "[ ") ∷ some_run is_plain_char ∷ run is_blank ∷ exactly (93 ∷ []) ∷ []
 
 abbrev pub leveled_row : List Class
-leveled_row = host ∷ some_run is_blank ∷ Row level_row ∷ some_run is_blank ∷ program ∷ run is_blank ∷ rest ∷ []
+leveled_row = host_row ++ Row level_row ∷ some_run is_blank ∷ program_tail
 
 abbrev pub leveled_of : Values leveled_row → NamedTexts
-leveled_of (h, (_, (_, (_, (p, (_, (m, _))))))) = tagged h p m
-
-abbrev pub leveled : Class
-leveled = mapped (Row leveled_row) NamedTexts leveled_of
+leveled_of (h, (_, (_, (_, tail)))) = program_said h tail
 
 -- ---- `[cluster1-01:wafl.vol.autoSize.done:notice]: text`
 
@@ -69,13 +67,10 @@ abbrev pub source_row : List Class
 source_row = exactly (60 ∷ []) ∷ some_run is_word_char ∷ some_run is_blank ∷ Row hardware_row ∷ exactly (62 ∷ []) ∷ []
 
 abbrev pub sourced_row : List Class
-sourced_row = host ∷ some_run is_blank ∷ Row source_row ∷ some_run is_blank ∷ program ∷ run is_blank ∷ rest ∷ []
+sourced_row = host_row ++ Row source_row ∷ some_run is_blank ∷ program_tail
 
 abbrev pub sourced_of : Values sourced_row → NamedTexts
-sourced_of (h, (_, (_, (_, (p, (_, (m, _))))))) = tagged h p m
-
-abbrev pub sourced : Class
-sourced = mapped (Row sourced_row) NamedTexts sourced_of
+sourced_of (h, (_, (_, (_, tail)))) = program_said h tail
 
 -- ---- `sua [768:871]: text`
 

@@ -1,5 +1,6 @@
 pub mod Devices
 pub mod Graded
+pub mod Hosts
 pub mod Monotonic
 pub mod NearHeader
 pub mod NearHeaderViews

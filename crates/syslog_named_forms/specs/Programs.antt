@@ -1,7 +1,7 @@
 -- What a program's line says, in the forms that are recognised by what is between the date and the program's name, and
 -- what a message says that begins with a number. 32 is a space, 40 `(`, 41 `)`, 46 `.`, 118 `v`.
 use Rattle.std.specs.Prelude.{◌⊎◌, ◌&&◌, ◌||◌, Bool, IsTrue, List, [], ◌∷◌, Option, Some, None, codes, false}
-use Rattle.std.specs.Prelude.{MatchOption, nat_eq, not, true}
+use Rattle.std.specs.Prelude.{◌++◌, MatchOption, nat_eq, not, true}
 use Rattle.std.specs.Char.{is_ascii_digit, is_not_whitespace}
 use Rattle.syslog_text.specs.Pieces.Class.{Text, Class, Values, Row, run, some_run, exactly, optional, rest, mapped}
 use Rattle.syslog_text.specs.Pieces.Class.{spaced, texted}
@@ -11,12 +11,13 @@ use Rattle.syslog_text.specs.Text.{colon, host, is_blank}
 use Rattle.syslog_text.specs.Text.{is_tag_char}
 use Rattle.syslog_sent.specs.Date.{iso_date}
 use Rattle.syslog_sent.specs.Named.{◌otherwise◌, NamedTexts, ProgramText, BeginsWith, hosted, is_letter, name}
-use Rattle.syslog_sent.specs.Named.{process_id, program}
-use Rattle.syslog_sent.specs.Named.{after_row, beginning, is_number, tagged, untagged}
+use Rattle.syslog_sent.specs.Named.{program}
+use Rattle.syslog_sent.specs.Named.{beginning, is_number, tagged, untagged}
 use Rattle.syslog_sent.specs.Runs.{is_plain_char, is_word_char}
 use Rattle.std.proofs.Common.{inl, inr}
 use Rattle.syslog_sent.specs.Selector.{is_severity, severity, selector_row}
 use Rattle.syslog_text.specs.Pieces.View.{text_eq}
+use Rattle.syslog_named_forms.specs.Hosts.{host_row, process_said, process_tail, program_said, program_tail}
 use Rattle.syslog_named_forms.specs.Untagged.{topic_row}
 
 -- ---- no host: `filterlog[52211]: text`
@@ -51,24 +52,23 @@ abbrev pub grade : Class
 grade = severity otherwise (Row selector_row otherwise Row aix_row)
 
 abbrev pub severity_row : List Class
-severity_row = host ∷ some_run is_blank ∷ grade ∷ some_run is_blank ∷ program ∷ run is_blank ∷ rest ∷ []
+severity_row = host_row ++ grade ∷ some_run is_blank ∷ program_tail
 
 abbrev pub severity_of : Values severity_row → NamedTexts
-severity_of (h, (_, (_, (_, (p, (_, (m, _))))))) = tagged h p m
-
-abbrev pub severity_first : Class
-severity_first = mapped (Row severity_row) NamedTexts severity_of
+severity_of (h, (_, (_, (_, tail)))) = program_said h tail
 
 -- ---- the serial number and the time before the program: `fb1 80DA02F9E3C1B (2026-03-02T05:33:04) https-proxy[2345]:
 -- text`, or without a host
 
 -- WatchGuard's Fireboxes ("Configure Syslog Server Settings": the serial number and the time stamp are sent)
+abbrev pub time_row : List Class
+time_row = iso_date ∷ exactly (41 ∷ []) ∷ some_run is_blank ∷ []
+
 abbrev pub serial_row : List Class
-serial_row = host ∷ some_run is_blank ∷ some_run is_plain_char ∷ exactly (32 ∷ []) ∷ exactly (40 ∷ []) ∷ iso_date
-    ∷ exactly (41 ∷ []) ∷ some_run is_blank ∷ program ∷ run is_blank ∷ rest ∷ []
+serial_row = host_row ++ some_run is_plain_char ∷ exactly (32 ∷ []) ∷ exactly (40 ∷ []) ∷ time_row ++ program_tail
 
 abbrev pub serial_of : Values serial_row → NamedTexts
-serial_of (h, (_, (_, (_, (_, (_, (_, (_, (p, (_, (m, _))))))))))) = tagged h p m
+serial_of (h, (_, (_, (_, (_, (_, (_, (_, tail)))))))) = program_said h tail
 
 abbrev pub serial : Class
 serial = mapped (Row serial_row) NamedTexts serial_of
@@ -82,11 +82,10 @@ abbrev pub IsSerial : Option Text → Type 0
 IsSerial word = MatchOption word ⊥ (λ t. IsTrue (is_serial t))
 
 abbrev pub box_row : List Class
-box_row = such_that host IsSerial ∷ some_run is_blank ∷ exactly (40 ∷ []) ∷ iso_date ∷ exactly (41 ∷ [])
-    ∷ some_run is_blank ∷ program ∷ run is_blank ∷ rest ∷ []
+box_row = such_that host IsSerial ∷ some_run is_blank ∷ exactly (40 ∷ []) ∷ time_row ++ program_tail
 
 abbrev pub box_of : Values box_row → NamedTexts
-box_of (_, (_, (_, (_, (_, (_, (p, (_, (m, _))))))))) = tagged None p m
+box_of (_, (_, (_, (_, (_, (_, tail)))))) = program_said None tail
 
 abbrev pub box : Class
 box = mapped (Row box_row) NamedTexts box_of
@@ -105,11 +104,10 @@ abbrev pub point_row : List Class
 point_row = Row topic_row ∷ Row topic_row ∷ exactly (118 ∷ []) ∷ some_run is_tag_char ∷ []
 
 abbrev pub access_row : List Class
-access_row =
-    texted (Row point_row) ∷ exactly colon ∷ some_run is_blank ∷ program ∷ run is_blank ∷ rest ∷ []
+access_row = texted (Row point_row) ∷ exactly colon ∷ some_run is_blank ∷ program_tail
 
 abbrev pub access_of : Values access_row → NamedTexts
-access_of (h, (_, (_, (p, (_, (m, _)))))) = tagged (Some h) p m
+access_of (h, (_, (_, tail))) = program_said (Some h) tail
 
 abbrev pub access_point : Class
 access_point = mapped (Row access_row) NamedTexts access_of
@@ -131,25 +129,18 @@ abbrev pub words : Class
 words = such_that (texted (Row words_row)) (BeginsWith is_letter)
 
 abbrev pub worded_row : List Class
-worded_row = host ∷ some_run is_blank ∷ words ∷ process_id ∷ exactly colon ∷ run is_blank ∷ rest ∷ []
+worded_row = host_row ++ words ∷ process_tail
 
 abbrev pub worded_of : Values worded_row → NamedTexts
-worded_of (h, (_, (name, (id, (_, (_, (m, _))))))) = tagged h (record { name = name; process = Some id }) m
-
-abbrev pub worded : Class
-worded = mapped (Row worded_row) NamedTexts worded_of
+worded_of (h, (_, (name, tail))) = process_said h name tail
 
 -- ---- more blanks than one before the host or the program: `nas1  smbd[811]: text`
 
 abbrev pub spread_row : List Class
-spread_row =
-    host ∷ some_run is_blank ∷ name ∷ process_id ∷ exactly colon ∷ run is_blank ∷ rest ∷ []
+spread_row = host_row ++ name ∷ process_tail
 
 abbrev pub spread_of : Values spread_row → NamedTexts
-spread_of (h, (_, (app, (id, (_, (_, (m, _))))))) = tagged h (record { name = app; process = Some id }) m
-
-abbrev pub spread : Class
-spread = mapped (Row spread_row) NamedTexts spread_of
+spread_of (h, (_, (app, tail))) = process_said h app tail
 
 -- ---- a message that begins with a number: `h 06:33:04.123 INFO text`
 
@@ -173,13 +164,10 @@ number_word = such_that (texted (some_run is_not_whitespace)) (λ t. IsTrue (nam
 
 -- it names no program
 abbrev pub untagged_row : List Class
-untagged_row = after_row (beginning number_word)
+untagged_row = host_row ++ beginning number_word ∷ []
 
 abbrev pub untagged_of : Values untagged_row → NamedTexts
 untagged_of (h, (_, (m, _))) = untagged h m
-
-abbrev pub untagged_message : Class
-untagged_message = mapped (Row untagged_row) NamedTexts untagged_of
 
 -- ---- forwarded: `Message forwarded from aix01: sshd[123]: text`, or `Message forwarded from aix01: text`
 

@@ -4,18 +4,18 @@
 use Rattle.std.proofs.Common.{inl, inr}
 use Rattle.std.specs.Prelude.{◌≡◌, ◌⊎◌, ◌||◌, ◌&&◌, ℕ, bit_and, nat_eq, nat_le, not, Option, Bool, true, false}
 use Rattle.std.specs.Prelude.{IsTrue, List, [], ◌∷◌, MatchOption, None, Some, codes}
-use Rattle.std.specs.Borrow.{Bor}
 use Rattle.std.specs.Char.{is_ascii_digit, is_not_whitespace}
 use Rattle.syslog_text.specs.Pieces.Class.{Text, Class, NoFront, Row, run, some_run, exactly, optional, after, mapped}
 use Rattle.syslog_text.specs.Pieces.Class.{texted}
 use Rattle.syslog_text.specs.Pieces.Rules.{such_that}
 use Rattle.syslog_text.specs.Pieces.View.{shown, text_eq}
-use Rattle.syslog_text.specs.Text.{host, is_blank}
+use Rattle.syslog_text.specs.Text.{is_blank}
 use Rattle.syslog_pieces.specs.Timestamp.Rfc3339.{pair, year}
 use Rattle.syslog_sent.specs.Date.{unless}
 use Rattle.syslog_sent.specs.Named.{◌otherwise◌, NamedTexts, beginning, hosted, untagged}
 use Rattle.syslog_sent.specs.Runs.{is_plain_char, is_word_char}
 use Rattle.syslog_named_forms.specs.declared.untagged.Mark.{Mark}
+use Rattle.syslog_named_forms.specs.declared.hosts.AfterHost.{AfterHost}
 use Rattle.syslog_named_forms.specs.declared.marks.MessageMarks.{MessageMarks}
 use Rattle.syslog_named_forms.specs.declared.untagged.Mark.TheVariants.{Cef, Leef, Repeated, PaloAlto, Pair, Json}
 use Rattle.syslog_named_forms.specs.declared.untagged.Mark.TheVariants.{Idrac}
@@ -224,13 +224,10 @@ abbrev pub AreAll : ℕ → Text → Type 0
 AreAll bits t = (m : Mark) → holds bits m ≡ false → NoFront (mark_class m) t
 
 -- the marks that may begin a text, and those that may begin what `past_host` left of it
-abbrev pub AreMarks : MessageMarks → Text → Option (Option (Bor (List ℕ)) × Bor (List ℕ)) → Type 0
+abbrev pub AreMarks : MessageMarks → Text → Option AfterHost → Type 0
 AreMarks marks text after_host = AreAll marks.own.bits text
-    × MatchOption after_host ((m : Mark) → holds marks.later.bits m ≡ false) (λ x. AreAll marks.later.bits (shown x.1))
-
--- a host, and the blanks after it
-abbrev pub host_row : List Class
-host_row = host ∷ some_run is_blank ∷ []
+    × MatchOption after_host ((m : Mark) → holds marks.later.bits m ≡ false)
+    (λ h. AreAll marks.later.bits (shown h.text))
 
 -- such a message, or a host before it
 abbrev pub marked : Mark → Class
@@ -249,6 +246,6 @@ opens_square [] = false
 opens_square (c ∷ t) = nat_eq c 91
 
 -- whether one begins what `past_host` left of a text
-abbrev pub opens_bracket : Option (Option (Bor (List ℕ)) × Bor (List ℕ)) → Bool
+abbrev pub opens_bracket : Option AfterHost → Bool
 opens_bracket None = false
-opens_bracket (Some x) = opens_square (shown x.1)
+opens_bracket (Some h) = opens_square (shown h.text)

@@ -4,16 +4,16 @@
 //! syslog"): `U6-Pro 788a20a1b2c3,U6-Pro-6.5.28+14491: hostapd[1234]: text`. HPE's management boards name themselves
 //! with their generation (iLO User Guide, "Remote Syslog"): `ilo7 #ILO 5: text`.
 ghost use Rattle.std.specs.Prelude.{◌≡◌, chars, codes};
-ghost use Rattle.syslog_text.specs.Pieces.Class.{Row, Text, exactly, texted};
-ghost use Rattle.syslog_text.specs.Pieces.View.{Reads, Recognises, seen, shown};
+ghost use Rattle.syslog_text.specs.Pieces.Class.{Row, exactly, texted};
+ghost use Rattle.syslog_text.specs.Pieces.View.{Reads, Recognises, shown};
 ghost use Rattle.syslog_named_forms.specs.Devices as spec;
-ghost use Rattle.syslog_named_forms.specs.Untagged.{host_row};
-ghost use Rattle.syslog_sent.specs.Views.{Names, named_value};
+ghost use Rattle.syslog_named_forms.specs.Hosts.{TellsBehind};
 
-use syslog_sent::named::{Named, Program, past, read_program, tagged};
-use syslog_sent::skips::digits;
+use crate::hosts::{AfterHost, program_from};
+use syslog_sent::named::{Named, Program, past, tagged};
+use syslog_sent::skips::{colon, digits, gap};
 use syslog_text::text::verbatim::before;
-use syslog_text::text::{CharClass, blanks, first, literal, some_blanks, split_run};
+use syslog_text::text::{CharClass, blanks, first, split_run};
 
 fn is_hex(c: char) -> bool
     ensures { result ≡ spec.is_hex c }
@@ -48,18 +48,14 @@ pub fn point_word(text: &str) -> Option<&str>
     opens_address(word).then_some(rest)
 }
 
-/// Reads a line of an access point after its name. `after_host` is what `past_host` returned for the line.
+/// Reads a line of an access point after its name.
 #[inline(always)]
-pub(crate) fn addressed<'a>(after_host: Option<(Option<&'a str>, &'a str)>) -> Option<Named<'a>>
-    ensures { (text : Text) → Reads (Row host_row) (λ h. (seen h, (tt, tt))) text after_host.entry
-        → Names spec.addressed named_value text result }
+pub(crate) fn addressed<'a>(after_host: Option<AfterHost<'a>>) -> Option<Named<'a>>
+    ensures { TellsBehind spec.addressed_row spec.addressed_of after_host.entry result }
 {
-    let (hostname, at_point) = after_host?;
-    let after_point = point_word(at_point)?;
-    let after_colon = literal(after_point, ':')?;
-    let before_program = some_blanks(after_colon)?;
-    let (program, rest) = read_program(before_program)?;
-    Some(tagged(hostname, program, blanks(rest)))
+    let host = after_host?;
+    let at_program = point_word(host.text).and_then(colon).and_then(gap);
+    program_from(host.hostname, at_program)
 }
 
 fn board(text: &str) -> Option<&str>
@@ -84,18 +80,17 @@ fn title(text: &str) -> Option<(&str, &str)>
     Some((name, rest))
 }
 
-/// Reads a line of a management board. `after_host` is what `past_host` returned for the line.
+/// Reads a line of a management board.
 #[inline(always)]
-pub(crate) fn titled<'a>(after_host: Option<(Option<&'a str>, &'a str)>) -> Option<Named<'a>>
-    ensures { (text : Text) → Reads (Row host_row) (λ h. (seen h, (tt, tt))) text after_host.entry
-        → Names spec.titled named_value text result }
+pub(crate) fn titled<'a>(after_host: Option<AfterHost<'a>>) -> Option<Named<'a>>
+    ensures { TellsBehind spec.titled_row spec.titled_of after_host.entry result }
 {
-    let (hostname, at_title) = after_host?;
-    let (name, after_title) = title(at_title)?;
-    let rest = literal(after_title, ':')?;
+    let host = after_host?;
+    let (name, after_title) = title(host.text)?;
+    let rest = colon(after_title)?;
     let program = Program {
         name,
         process: None,
     };
-    Some(tagged(hostname, program, blanks(rest)))
+    Some(tagged(host.hostname, program, blanks(rest)))
 }

@@ -14,16 +14,17 @@
 //! nova.compute.manager text`. Logback and log4j write a thread in brackets there (`%d [%thread] %-5level`): `[main]
 //! INFO  com.example.App - text`.
 ghost use Rattle.std.specs.Prelude.{◌≡◌, chars, codes};
-ghost use Rattle.syslog_text.specs.Pieces.Class.{Row, Text, exactly, texted};
-ghost use Rattle.syslog_text.specs.Pieces.View.{Reads, Recognises, seen, shown};
+ghost use Rattle.syslog_text.specs.Pieces.Class.{Row, exactly, texted};
+ghost use Rattle.syslog_text.specs.Pieces.View.{Reads, Recognises, shown};
 ghost use Rattle.syslog_named_forms.specs.Graded as spec;
 ghost use Rattle.syslog_named_forms.specs.Untagged as untagged_spec;
-ghost use Rattle.syslog_named_forms.specs.Untagged.{host_row};
+ghost use Rattle.syslog_named_forms.specs.Hosts.{ReadsHost, TellsBehind};
 ghost use Rattle.syslog_sent.specs.Views.{Names, named_value};
 
+use crate::hosts::{AfterHost, program_from, untagged_from};
 use crate::marks::mark_end;
 use crate::untagged::{Mark, level as level_word};
-use syslog_sent::named::{Named, Program, name, number, past, read_program, tagged, untagged};
+use syslog_sent::named::{Named, Program, name, number, past, read_program, tagged};
 use syslog_sent::runs::{Run, split_some};
 use syslog_sent::skips::{
     bracket, close_angle, close_bracket, close_tag, colon, digits, dot, gap, name_word, open_angle,
@@ -72,17 +73,13 @@ fn level(text: &str) -> Option<&str>
         .and_then(close_bracket)
 }
 
-/// Reads a line with the severity in brackets. `after_host` is what `past_host` returned for the line.
+/// Reads a line with the severity in brackets after the host.
 #[inline(always)]
-pub(crate) fn leveled<'a>(after_host: Option<(Option<&'a str>, &'a str)>) -> Option<Named<'a>>
-    ensures { (text : Text) → Reads (Row host_row) (λ h. (seen h, (tt, tt))) text after_host.entry
-        → Names spec.leveled named_value text result }
+pub(crate) fn leveled<'a>(after_host: Option<AfterHost<'a>>) -> Option<Named<'a>>
+    ensures { TellsBehind spec.leveled_row spec.leveled_of after_host.entry result }
 {
-    let (hostname, at_level) = after_host?;
-    let after_level = level(at_level)?;
-    let at_program = some_blanks(after_level)?;
-    let (program, rest) = read_program(at_program)?;
-    Some(tagged(hostname, program, blanks(rest)))
+    let host = after_host?;
+    program_from(host.hostname, level(host.text).and_then(gap))
 }
 
 // Returns the text after the severity of an event and the bracket that ends it.
@@ -137,17 +134,13 @@ fn source(text: &str) -> Option<&str>
         .and_then(close_angle)
 }
 
-/// Reads a line of an access point that shows them. `after_host` is what `past_host` returned for the line.
+/// Reads a line of an access point that shows them after its name.
 #[inline(always)]
-pub(crate) fn sourced<'a>(after_host: Option<(Option<&'a str>, &'a str)>) -> Option<Named<'a>>
-    ensures { (text : Text) → Reads (Row host_row) (λ h. (seen h, (tt, tt))) text after_host.entry
-        → Names spec.sourced named_value text result }
+pub(crate) fn sourced<'a>(after_host: Option<AfterHost<'a>>) -> Option<Named<'a>>
+    ensures { TellsBehind spec.sourced_row spec.sourced_of after_host.entry result }
 {
-    let (hostname, at_source) = after_host?;
-    let after_source = source(at_source)?;
-    let at_program = some_blanks(after_source)?;
-    let (program, rest) = read_program(at_program)?;
-    Some(tagged(hostname, program, blanks(rest)))
+    let host = after_host?;
+    program_from(host.hostname, source(host.text).and_then(gap))
 }
 
 // Returns the text after the numbers of a process and its thread.
@@ -179,11 +172,11 @@ fn opens_square(text: &str) -> bool
 // Whether a bracket follows the host and the blanks after it, as one follows a program's name in the next two forms. No
 // name is looked for in other lines.
 #[inline(always)]
-fn opens_bracket<'a>(after_host: Option<(Option<&'a str>, &'a str)>) -> bool
+fn opens_bracket<'a>(after_host: Option<AfterHost<'a>>) -> bool
     ensures { result ≡ untagged_spec.opens_bracket after_host.entry }
 {
     match after_host {
-        Some((_, rest)) => opens_square(rest),
+        Some(host) => opens_square(host.text),
         None => false,
     }
 }
@@ -191,11 +184,8 @@ fn opens_bracket<'a>(after_host: Option<(Option<&'a str>, &'a str)>) -> bool
 /// Reads a line that has a blank between the program and its process. `after_host` is what `past_host` returned for the
 /// line.
 #[inline(always)]
-pub(crate) fn threaded<'a>(
-    text: &'a str,
-    after_host: Option<(Option<&'a str>, &'a str)>,
-) -> Option<Named<'a>>
-    ensures { Reads (Row host_row) (λ h. (seen h, (tt, tt))) (chars text.entry.now) after_host.entry
+pub(crate) fn threaded<'a>(text: &'a str, after_host: Option<AfterHost<'a>>) -> Option<Named<'a>>
+    ensures { ReadsHost (chars text.entry.now) after_host.entry
         → Names spec.threaded named_value (chars text.entry.now) result }
 {
     if !opens_bracket(after_host) {
@@ -216,11 +206,8 @@ pub(crate) fn threaded<'a>(
 /// Reads a line whose program's name is filled up with spaces before the process. `after_host` is what `past_host`
 /// returned for the line.
 #[inline(always)]
-pub(crate) fn padded<'a>(
-    text: &'a str,
-    after_host: Option<(Option<&'a str>, &'a str)>,
-) -> Option<Named<'a>>
-    ensures { Reads (Row host_row) (λ h. (seen h, (tt, tt))) (chars text.entry.now) after_host.entry
+pub(crate) fn padded<'a>(text: &'a str, after_host: Option<AfterHost<'a>>) -> Option<Named<'a>>
+    ensures { ReadsHost (chars text.entry.now) after_host.entry
         → Names spec.padded named_value (chars text.entry.now) result }
 {
     if !opens_bracket(after_host) {
@@ -277,8 +264,7 @@ fn counted_end(text: &str) -> Option<&str>
 pub(crate) fn counted(text: &str) -> Option<Named<'_>>
     ensures { Names spec.counted named_value (chars text.now) result }
 {
-    let _ = counted_end(text)?;
-    Some(untagged(None, text))
+    untagged_from(None, text, counted_end(text))
 }
 
 /// Reads a message that a bracket, `<` or a quote begins.
@@ -286,6 +272,5 @@ pub(crate) fn counted(text: &str) -> Option<Named<'_>>
 pub(crate) fn opened(text: &str) -> Option<Named<'_>>
     ensures { Names spec.opened named_value (chars text.now) result }
 {
-    let _ = mark_end(text, Mark::Bracket)?;
-    Some(untagged(None, text))
+    untagged_from(None, text, mark_end(text, Mark::Bracket))
 }

@@ -7,6 +7,7 @@
 
 pub mod devices;
 mod graded;
+mod hosts;
 mod marks;
 mod monotonic;
 pub mod named_forms;

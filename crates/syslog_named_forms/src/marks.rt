@@ -2,14 +2,16 @@
 //! begin with one. So few marks are looked for.
 ghost use Rattle.std.specs.Prelude.{◌≡◌, ◌||◌, MatchOption, chars, false, true};
 ghost use Rattle.syslog_text.specs.Pieces.Class.{NoFront, Row};
-ghost use Rattle.syslog_text.specs.Pieces.View.{Reads, Recognises, seen, shown};
+ghost use Rattle.syslog_text.specs.Pieces.View.{Recognises, shown};
+ghost use Rattle.syslog_named_forms.specs.Hosts.{ReadsHost};
 ghost use Rattle.syslog_named_forms.specs.Untagged as spec;
 ghost use Rattle.syslog_sent.specs.Views.{Names, named_value};
 
+use crate::hosts::AfterHost;
 use crate::untagged::{Mark, read_mark};
 use syslog_sent::named::{Named, untagged};
 use syslog_sent::runs::{Run, split};
-use syslog_text::text::{first, host, some_blanks};
+use syslog_text::text::first;
 
 // Whether the character ends a key, a number or a topic.
 #[inline(always)]
@@ -114,16 +116,6 @@ impl Marks {
     }
 }
 
-/// Returns the host at the front, if there is one, and the text after it and the blanks that follow it.
-#[inline(always)]
-pub(crate) fn past_host(text: &str) -> Option<(Option<&str>, &str)>
-    ensures { Reads (Row spec.host_row) (λ h. (seen h, (tt, tt))) (chars text.now) result }
-{
-    let (hostname, rest) = host(text)?;
-    let rest = some_blanks(rest)?;
-    Some((hostname, rest))
-}
-
 /// The marks that may begin a text, and those that may begin what follows its host.
 #[derive(Clone, Copy)]
 pub(crate) struct MessageMarks {
@@ -133,12 +125,12 @@ pub(crate) struct MessageMarks {
 
 // Returns the marks that may begin what follows a host; none if there is no host.
 #[inline(always)]
-fn later_marks<'a>(after_host: Option<(Option<&'a str>, &'a str)>) -> Marks
+fn later_marks<'a>(after_host: Option<AfterHost<'a>>) -> Marks
     ensures { MatchOption after_host.entry ((m : Mark) → spec.holds result.bits m ≡ false)
-        (λ x. spec.AreAll result.bits (shown x.1)) }
+        (λ h. spec.AreAll result.bits (shown h.text)) }
 {
     match after_host {
-        Some((_, rest)) => Marks::of(rest),
+        Some(host) => Marks::of(host.text),
         None => Marks::NONE,
     }
 }
@@ -147,10 +139,7 @@ impl MessageMarks {
     /// Returns the marks of a text. `after_host` is what `past_host` returned for it. Of most texts only two words are
     /// looked at.
     #[inline(always)]
-    pub(crate) fn of<'a>(
-        text: &'a str,
-        after_host: Option<(Option<&'a str>, &'a str)>,
-    ) -> MessageMarks
+    pub(crate) fn of<'a>(text: &'a str, after_host: Option<AfterHost<'a>>) -> MessageMarks
         ensures { spec.AreMarks result (chars text.entry.now) after_host.entry }
     {
         MessageMarks {
@@ -210,18 +199,18 @@ fn end_of(text: &str, marks: Marks, mark: Mark) -> Option<&str>
 #[inline(always)]
 pub(crate) fn message<'a>(
     text: &'a str,
-    after_host: Option<(Option<&'a str>, &'a str)>,
+    after_host: Option<AfterHost<'a>>,
     marks: MessageMarks,
     mark: Mark,
 ) -> Option<Named<'a>>
-    ensures { Reads (Row spec.host_row) (λ h. (seen h, (tt, tt))) (chars text.entry.now) after_host.entry
+    ensures { ReadsHost (chars text.entry.now) after_host.entry
         → spec.AreMarks marks (chars text.entry.now) after_host.entry
         → Names (spec.message mark) named_value (chars text.entry.now) result }
 {
     if let Some(_) = end_of(text, marks.own, mark) {
         return Some(untagged(None, text));
     }
-    let (hostname, rest) = after_host?;
-    let _ = end_of(rest, marks.later, mark)?;
-    Some(untagged(hostname, rest))
+    let host = after_host?;
+    let _ = end_of(host.text, marks.later, mark)?;
+    Some(untagged(host.hostname, host.text))
 }

@@ -1,7 +1,7 @@
 //! The forms that are recognised by what follows the date, in the order in which they are tried.
 ghost use Rattle.std.specs.Prelude.{◌≡◌, ◌∷◌, ◌++◌, [], None, chars};
 ghost use Rattle.syslog_text.specs.Pieces.Class.{Front, Row, Text};
-ghost use Rattle.syslog_text.specs.Pieces.View.{Reads, seen};
+ghost use Rattle.syslog_text.specs.Pieces.View.{seen};
 ghost use Rattle.syslog_sent.specs.Forms.{Finds};
 ghost use Rattle.syslog_sent.specs.Led.{IsLed};
 ghost use Rattle.syslog_named_forms.specs.NamedFinds.{FindsAfter, FindsNamed};
@@ -10,12 +10,14 @@ ghost use Rattle.syslog_named_forms.specs.NamedForms as spec;
 ghost use Rattle.syslog_named_forms.specs.NearHeader.{head_row};
 ghost use Rattle.syslog_named_forms.specs.NearHeaderViews.{head_values};
 ghost use Rattle.syslog_sent.specs.Sent.{loose, sent_value};
-ghost use Rattle.syslog_named_forms.specs.Untagged.{AreMarks, host_row};
+ghost use Rattle.syslog_named_forms.specs.Untagged.{AreMarks};
+ghost use Rattle.syslog_named_forms.specs.Hosts.{ReadsHost};
 ghost use Rattle.syslog_sent.specs.Views.{named_value};
 
 use crate::devices::{addressed, titled};
 use crate::graded::{counted, event, graded, leveled, numbered, opened, padded, sourced, threaded};
-use crate::marks::{MessageMarks, mark_end, message, past_host};
+use crate::hosts::{AfterHost, past_host};
+use crate::marks::{MessageMarks, mark_end, message};
 use crate::monotonic::read_monotonic;
 use crate::near_header::{
     Start, head, read_bare, read_heroku, read_nil, read_paired, read_tag, read_vendor,
@@ -134,11 +136,8 @@ pub fn read_undated(text: &str) -> Option<(Dialect, Sent<'_>)>
 
 // Reads a program's line after its date. `after_host` is what `past_host` returned for what follows the date.
 #[inline(always)]
-fn of_program<'a>(
-    rest: &'a str,
-    after_host: Option<(Option<&'a str>, &'a str)>,
-) -> Option<(Dialect, Named<'a>)>
-    ensures { Reads (Row host_row) (λ h. (seen h, (tt, tt))) (chars rest.entry.now) after_host.entry
+fn of_program<'a>(rest: &'a str, after_host: Option<AfterHost<'a>>) -> Option<(Dialect, Named<'a>)>
+    ensures { ReadsHost (chars rest.entry.now) after_host.entry
         → FindsNamed (spec.tail_forms spec.program_tails) (chars rest.entry.now) result }
 {
     if let Some(named) = forwarded(rest, after_host) {
@@ -169,11 +168,9 @@ fn of_program<'a>(
 }
 
 // Reads a line of a device after its date. `after_host` is what `past_host` returned for what follows the date.
-fn of_device<'a>(
-    rest: &'a str,
-    after_host: Option<(Option<&'a str>, &'a str)>,
-) -> Option<(Dialect, Named<'a>)>
-    ensures { Reads (Row host_row) (λ h. (seen h, (tt, tt))) (chars rest.entry.now) after_host.entry
+#[inline(always)]
+fn of_device<'a>(rest: &'a str, after_host: Option<AfterHost<'a>>) -> Option<(Dialect, Named<'a>)>
+    ensures { ReadsHost (chars rest.entry.now) after_host.entry
         → FindsNamed (spec.tail_forms spec.device_tails) (chars rest.entry.now) result }
 {
     if let Some(named) = addressed(after_host) {
@@ -192,9 +189,9 @@ fn of_device<'a>(
 #[inline(always)]
 fn of_program_or_device<'a>(
     rest: &'a str,
-    after_host: Option<(Option<&'a str>, &'a str)>,
+    after_host: Option<AfterHost<'a>>,
 ) -> Option<(Dialect, Named<'a>)>
-    ensures { Reads (Row host_row) (λ h. (seen h, (tt, tt))) (chars rest.entry.now) after_host.entry
+    ensures { ReadsHost (chars rest.entry.now) after_host.entry
         → FindsNamed spec.dated_program_forms (chars rest.entry.now) result }
 {
     if let Some(found) = of_program(rest, after_host) {
@@ -209,9 +206,9 @@ fn of_marks<'a>(
     marks: &[Mark],
     begun: MessageMarks,
     rest: &'a str,
-    after_host: Option<(Option<&'a str>, &'a str)>,
+    after_host: Option<AfterHost<'a>>,
 ) -> Option<(Dialect, Named<'a>)>
-    ensures { Reads (Row host_row) (λ h. (seen h, (tt, tt))) (chars rest.entry.now) after_host.entry
+    ensures { ReadsHost (chars rest.entry.now) after_host.entry
         → AreMarks begun (chars rest.entry.now) after_host.entry
         → FindsNamed (spec.tail_forms (spec.marked_tails marks.now)) (chars rest.entry.now) result }
 {
@@ -231,11 +228,8 @@ fn of_marks<'a>(
 // Reads what follows a date: a message that a mark begins, or a line of a program or a device. `after_host` is what
 // `past_host` returned for it.
 #[inline(always)]
-fn of_message<'a>(
-    rest: &'a str,
-    after_host: Option<(Option<&'a str>, &'a str)>,
-) -> Option<(Dialect, Named<'a>)>
-    ensures { Reads (Row host_row) (λ h. (seen h, (tt, tt))) (chars rest.entry.now) after_host.entry
+fn of_message<'a>(rest: &'a str, after_host: Option<AfterHost<'a>>) -> Option<(Dialect, Named<'a>)>
+    ensures { ReadsHost (chars rest.entry.now) after_host.entry
         → FindsNamed spec.dated_marked_forms (chars rest.entry.now) result }
 {
     let begun = MessageMarks::of(rest, after_host);

@@ -1,6 +1,6 @@
 //! Lines of programs that are recognised by what is between the date and the program's name. A message that begins with
 //! a number after the host has no program.
-ghost use Rattle.std.specs.Prelude.{◌≡◌, ◌∷◌, ◌||◌, [], IfSome, IsUtf8, List, MatchBool, chars, codes};
+ghost use Rattle.std.specs.Prelude.{◌≡◌, ◌∷◌, ◌||◌, [], IfSome, IsUtf8, List, MatchBool, Some, chars, codes};
 ghost use Rattle.std.specs.Option.{option_map};
 ghost use Rattle.syslog_text.specs.Pieces.Class.{Front, Row, Text, exactly, optional, some_run, spaced, texted};
 ghost use Rattle.syslog_text.specs.Pieces.Lists.{many};
@@ -10,9 +10,11 @@ ghost use Rattle.syslog_sent.specs.Named.{◌otherwise◌, program as program_cl
 ghost use Rattle.syslog_sent.specs.Selector.{is_severity as is_severity_text, selector_row};
 ghost use Rattle.syslog_sent.specs.Runs.{is_word_char};
 ghost use Rattle.syslog_named_forms.specs.Programs as spec;
-ghost use Rattle.syslog_named_forms.specs.Untagged.{host_row};
+ghost use Rattle.syslog_named_forms.specs.Hosts.{ReadsHost, TellsBehind, host_row};
+ghost use Rattle.syslog_sent.specs.Date.{iso_date as iso_date_class};
 ghost use Rattle.syslog_sent.specs.Views.{Names, named_value, program_seen};
 
+use crate::hosts::{AfterHost, process_from, program_from, untagged_from};
 use crate::untagged::topic;
 use syslog_sent::date::iso_date;
 use syslog_sent::named::{
@@ -21,7 +23,7 @@ use syslog_sent::named::{
 };
 use syslog_sent::runs::{Run, split};
 use syslog_sent::selector::{is_severity, selector, severity};
-use syslog_sent::skips::{colon, plain_word};
+use syslog_sent::skips::{colon, gap, plain_word, space};
 use syslog_text::text::verbatim::before;
 use syslog_text::text::{CharClass, blanks, first, literal, some_blanks, split_run};
 
@@ -38,11 +40,8 @@ fn program_first(text: &str) -> Option<Named<'_>>
 /// Reads a line without a host. `after_host` is what `past_host` returned for the line: no host ends in the colon of a
 /// program's name, so where there is one, nothing is read.
 #[inline(always)]
-pub(crate) fn hostless<'a>(
-    text: &'a str,
-    after_host: Option<(Option<&'a str>, &'a str)>,
-) -> Option<Named<'a>>
-    ensures { Reads (Row host_row) (λ h. (seen h, (tt, tt))) (chars text.entry.now) after_host.entry
+pub(crate) fn hostless<'a>(text: &'a str, after_host: Option<AfterHost<'a>>) -> Option<Named<'a>>
+    ensures { ReadsHost (chars text.entry.now) after_host.entry
         → Names spec.hostless named_value (chars text.entry.now) result }
 {
     match after_host {
@@ -114,35 +113,40 @@ fn grade(text: &str) -> Option<&str>
     pair(text)
 }
 
-/// Reads a line with the severity before the program. `after_host` is what `past_host` returned for the line.
+/// Reads a line with the severity before the program.
 #[inline(always)]
-pub(crate) fn severity_first<'a>(
-    after_host: Option<(Option<&'a str>, &'a str)>,
-) -> Option<Named<'a>>
-    ensures { (text : Text) → Reads (Row host_row) (λ h. (seen h, (tt, tt))) text after_host.entry
-        → Names spec.severity_first named_value text result }
+pub(crate) fn severity_first<'a>(after_host: Option<AfterHost<'a>>) -> Option<Named<'a>>
+    ensures { TellsBehind spec.severity_row spec.severity_of after_host.entry result }
 {
-    let (hostname, rest) = after_host?;
-    let rest = grade(rest)?;
-    let rest = some_blanks(rest)?;
-    let (program, rest) = read_program(rest)?;
-    Some(tagged(hostname, program, blanks(rest)))
+    let host = after_host?;
+    program_from(host.hostname, grade(host.text).and_then(gap))
 }
 
-// Reads a line from the serial number of a Firebox on, which follows this host and blanks.
-#[inline(always)]
-fn with_host<'a>(hostname: Option<&'a str>, before_serial: &'a str) -> Option<Named<'a>>
-    ensures { (text : Text) → Front (Row host_row) text (chars before_serial.entry.now) (seen hostname.entry, (tt, tt))
-        → Names spec.serial named_value text result }
+fn open_parenthesis(text: &str) -> Option<&str>
+    ensures { Recognises (exactly (40 ∷ [])) (chars text.now) result }
 {
-    let serial_end = plain_word(before_serial)?;
-    let before_bracket = literal(serial_end, ' ')?;
-    let before_date = literal(before_bracket, '(')?;
-    let (_, date_end) = iso_date(before_date)?;
-    let after_bracket = literal(date_end, ')')?;
-    let before_program = some_blanks(after_bracket)?;
-    let (program, rest) = read_program(before_program)?;
-    Some(tagged(hostname, program, blanks(rest)))
+    literal(text, '(')
+}
+
+fn time(text: &str) -> Option<&str>
+    ensures { Recognises iso_date_class (chars text.now) result }
+{
+    let (_, rest) = iso_date(text)?;
+    Some(rest)
+}
+
+// Reads a line from the serial number of a Firebox on, which follows a host.
+#[inline(always)]
+fn with_host<'a>(host: AfterHost<'a>) -> Option<Named<'a>>
+    ensures { TellsBehind spec.serial_row spec.serial_of (Some host.entry) result }
+{
+    let at_program = plain_word(host.text)
+        .and_then(space)
+        .and_then(open_parenthesis)
+        .and_then(time)
+        .and_then(closing)
+        .and_then(gap);
+    program_from(host.hostname, at_program)
 }
 
 // Whether the text has only characters of a serial number.
@@ -180,24 +184,19 @@ fn without_host<'a>(word: Option<&'a str>, before_date: &'a str) -> Option<Named
     if !is_serial_word(word) {
         return None;
     }
-    let (_, date_end) = iso_date(before_date)?;
-    let after_bracket = literal(date_end, ')')?;
-    let before_program = some_blanks(after_bracket)?;
-    let (program, rest) = read_program(before_program)?;
-    Some(tagged(None, program, blanks(rest)))
+    program_from(None, time(before_date).and_then(closing).and_then(gap))
 }
 
 /// Reads a line with the serial number and the time of a Firebox before the program, after a host or without one.
 /// `after_host` is what `past_host` returned for the line.
 #[inline(always)]
-pub(crate) fn after_serial<'a>(after_host: Option<(Option<&'a str>, &'a str)>) -> Option<Named<'a>>
-    ensures { (text : Text) → Reads (Row host_row) (λ h. (seen h, (tt, tt))) text after_host.entry
-        → Names spec.after_serial named_value text result }
+pub(crate) fn after_serial<'a>(after_host: Option<AfterHost<'a>>) -> Option<Named<'a>>
+    ensures { (text : Text) → ReadsHost text after_host.entry → Names spec.after_serial named_value text result }
 {
-    let (hostname, rest) = after_host?;
-    match literal(rest, '(') {
-        Some(before_date) => without_host(hostname, before_date),
-        None => with_host(hostname, rest),
+    let host = after_host?;
+    match open_parenthesis(host.text) {
+        Some(before_date) => without_host(host.hostname, before_date),
+        None => with_host(host),
     }
 }
 
@@ -283,21 +282,13 @@ pub(crate) fn words(text: &str) -> Option<(&str, &str)>
     }
 }
 
-/// Reads a line whose program has a name of several words. `after_host` is what `past_host` returned for the line.
+/// Reads a line whose program has a name of several words.
 #[inline(always)]
-pub(crate) fn worded<'a>(after_host: Option<(Option<&'a str>, &'a str)>) -> Option<Named<'a>>
-    ensures { (text : Text) → Reads (Row host_row) (λ h. (seen h, (tt, tt))) text after_host.entry
-        → Names spec.worded named_value text result }
+pub(crate) fn worded<'a>(after_host: Option<AfterHost<'a>>) -> Option<Named<'a>>
+    ensures { TellsBehind spec.worded_row spec.worded_of after_host.entry result }
 {
-    let (hostname, rest) = after_host?;
-    let (name, rest) = words(rest)?;
-    let (id, rest) = process_id(rest)?;
-    let rest = literal(rest, ':')?;
-    let program = Program {
-        name,
-        process: Some(id),
-    };
-    Some(tagged(hostname, program, blanks(rest)))
+    let host = after_host?;
+    process_from(host.hostname, words(host.text))
 }
 
 fn letter_v(text: &str) -> Option<&str>
@@ -338,10 +329,7 @@ fn point_first(text: &str) -> Option<Named<'_>>
     ensures { Names spec.access_point named_value (chars text.now) result }
 {
     let (host, after_host) = point(text)?;
-    let after_colon = literal(after_host, ':')?;
-    let before_program = some_blanks(after_colon)?;
-    let (program, rest) = read_program(before_program)?;
-    Some(tagged(Some(host), program, blanks(rest)))
+    program_from(Some(host), colon(after_host).and_then(gap))
 }
 
 /// Reads a line of an access point, whose model, address and version are taken for the host. `after_host` is what
@@ -349,9 +337,9 @@ fn point_first(text: &str) -> Option<Named<'_>>
 #[inline(always)]
 pub(crate) fn of_access_point<'a>(
     text: &'a str,
-    after_host: Option<(Option<&'a str>, &'a str)>,
+    after_host: Option<AfterHost<'a>>,
 ) -> Option<Named<'a>>
-    ensures { Reads (Row host_row) (λ h. (seen h, (tt, tt))) (chars text.entry.now) after_host.entry
+    ensures { ReadsHost (chars text.entry.now) after_host.entry
         → Names spec.access_point named_value (chars text.entry.now) result }
 {
     match after_host {
@@ -405,35 +393,22 @@ fn number_word(text: &str) -> Option<&str>
     names_none(word).then_some(rest)
 }
 
-/// Reads a message that begins with a number. `after_host` is what `past_host` returned for the line.
+/// Reads a message that begins with a number.
 #[inline(always)]
-pub(crate) fn untagged_message<'a>(
-    after_host: Option<(Option<&'a str>, &'a str)>,
-) -> Option<Named<'a>>
-    ensures { (text : Text) → Reads (Row host_row) (λ h. (seen h, (tt, tt))) text after_host.entry
-        → Names spec.untagged_message named_value text result }
+pub(crate) fn untagged_message<'a>(after_host: Option<AfterHost<'a>>) -> Option<Named<'a>>
+    ensures { TellsBehind spec.untagged_row spec.untagged_of after_host.entry result }
 {
-    let (hostname, msg) = after_host?;
-    let _ = number_word(msg)?;
-    Some(untagged(hostname, msg))
+    let host = after_host?;
+    untagged_from(host.hostname, host.text, number_word(host.text))
 }
 
-/// Reads a line of a program with a process id that has blanks where the port takes one space. `after_host` is what
-/// `past_host` returned for the line.
+/// Reads a line of a program with a process id that has blanks where the port takes one space.
 #[inline(always)]
-pub(crate) fn spread<'a>(after_host: Option<(Option<&'a str>, &'a str)>) -> Option<Named<'a>>
-    ensures { (text : Text) → Reads (Row host_row) (λ h. (seen h, (tt, tt))) text after_host.entry
-        → Names spec.spread named_value text result }
+pub(crate) fn spread<'a>(after_host: Option<AfterHost<'a>>) -> Option<Named<'a>>
+    ensures { TellsBehind spec.spread_row spec.spread_of after_host.entry result }
 {
-    let (hostname, before_name) = after_host?;
-    let (name, after_name) = name(before_name)?;
-    let (id, after_id) = process_id(after_name)?;
-    let rest = literal(after_id, ':')?;
-    let program = Program {
-        name,
-        process: Some(id),
-    };
-    Some(tagged(hostname, program, blanks(rest)))
+    let host = after_host?;
+    process_from(host.hostname, name(host.text))
 }
 
 // Returns a host before a colon, and the text after these.
@@ -491,16 +466,13 @@ fn passed_on(text: &str) -> Option<Named<'_>>
 /// Reads a line that was forwarded, after the name of the host that forwarded it, if that is shown. `after_host` is
 /// what `past_host` returned for the line.
 #[inline(always)]
-pub(crate) fn forwarded<'a>(
-    text: &'a str,
-    after_host: Option<(Option<&'a str>, &'a str)>,
-) -> Option<Named<'a>>
-    ensures { Reads (Row host_row) (λ h. (seen h, (tt, tt))) (chars text.entry.now) after_host.entry
+pub(crate) fn forwarded<'a>(text: &'a str, after_host: Option<AfterHost<'a>>) -> Option<Named<'a>>
+    ensures { ReadsHost (chars text.entry.now) after_host.entry
         → Names spec.forwarded named_value (chars text.entry.now) result }
 {
     if let Some(named) = passed_on(text) {
         return Some(named);
     }
-    let (_, rest) = after_host?;
-    passed_on(rest)
+    let host = after_host?;
+    passed_on(host.text)
 }

@@ -1,36 +1,20 @@
-use Rattle.std.proofs.Common.{List, [], ◌∷◌, inl, refl}
-use Rattle.syslog_text.specs.Pieces.Class.{Class, Row, rest, run, some_run}
+use Rattle.std.proofs.Common.{[], ◌∷◌, drop, refl}
+use Rattle.syslog_text.proofs.PieceLemmas.Class.{◌also◌}
+use Rattle.syslog_text.specs.Pieces.Class.{Row, some_run}
 use Rattle.syslog_text.specs.Text.{is_blank}
-use Rattle.syslog_sent.specs.Named.{program}
-use Rattle.syslog_text.proofs.PieceLemmas.Class.{◌past◌, ◌then◌, rest_front, row_of}
+use Rattle.syslog_named_forms.specs.Graded.{level_row, leveled_of, leveled_row}
 use Rattle.syslog_named_forms.proofs.DeviceLemmas.{leveled_det}
-use Rattle.syslog_named_forms.proofs.HostLemmas.{no_host, not_past_host, past_host}
-use Rattle.syslog_named_forms.specs.Graded.{level_row, leveled_of}
+use Rattle.syslog_named_forms.proofs.ReaderLemmas.{passed}
+use Rattle.syslog_named_forms.specs.Hosts.{program_tail}
+use Rattle.syslog_named_forms.proofs.HostLemmas.{no_host, past_host}
 use Rattle.syslog_named_forms.proofs.graded.leveled.Goals as goal
 
--- what follows the host
-abbrev more : List Class
-more = Row level_row ∷ some_run is_blank ∷ program ∷ run is_blank ∷ rest ∷ []
-
-pub returns-in_err-hostname : goal.returns-in_err-hostname
-returns-in_err-hostname c text after = rw c.from_residual.ensures
-    (no_host more leveled_det.1.1 leveled_of after c.in_err-hostname.was)
-
-pub returns-in_err-after_level : goal.returns-in_err-after_level
-returns-in_err-after_level c text after = rw c.from_residual-in_err-after_level.ensures
-    (not_past_host more leveled_det.1.1 leveled_of after c.in_ok-hostname.was (inl c.in_err-after_level.ensures))
-
-pub returns-in_err-at_program : goal.returns-in_err-at_program
-returns-in_err-at_program c text after = rw c.from_residual-in_err-at_program.ensures
-    (not_past_host more leveled_det.1.1 leveled_of after c.in_ok-hostname.was (c.in_ok-after_level.ensures.1 past inl
-    c.in_err-at_program.ensures))
-
-pub returns-in_err-program : goal.returns-in_err-program
-returns-in_err-program c text after = rw c.from_residual-in_err-program.ensures
-    (not_past_host more leveled_det.1.1 leveled_of after c.in_ok-hostname.was (c.in_ok-after_level.ensures.1 past
-    c.in_ok-at_program.ensures past inl c.in_err-program.ensures))
+pub returns-in_err-host : goal.returns-in_err-host
+returns-in_err-host c text after = rw c.from_residual.ensures
+    (no_host (drop 2 leveled_row) leveled_of (rw c.in_err-host.was at after))
 
 pub returns : goal.returns
-returns c text after = rw c.tagged.ensures
-    (past_host more leveled_det.1.1 leveled_of after c.in_ok-hostname.was (row_of more (c.in_ok-after_level.ensures.1
-    then c.in_ok-at_program.ensures then c.in_ok-program.ensures then c.blanks.ensures then rest_front _ then refl)))
+returns c text after = past_host (drop 2 leveled_row) leveled_of c.in_ok-host.host (rw c.in_ok-host.was at after) _
+    (passed (Row level_row ∷ some_run is_blank ∷ []) program_tail leveled_det.1.1 _ _
+    (λ _ _. refl) c.in_ok-host.host.text (c.level.result ∷ c.and_then.result ∷ []) _
+    (c.level.ensures also c.and_then.ensures also tt) c.program_from.ensures)

@@ -5,7 +5,8 @@ use Rattle.syslog_text.proofs.PieceLemmas.Class.{rows_none_here, rows_none_later
 use Rattle.syslog_sent.proofs.NamedLemmas.{beginning_front, first_front, no_beginning, no_otherwise, second_front}
 use Rattle.syslog_named_forms.proofs.UntaggedLemmas.{host_row_det}
 use Rattle.syslog_sent.specs.Named.{NamedTexts, beginning}
-use Rattle.syslog_named_forms.specs.Untagged.{host_row, mark_class}
+use Rattle.syslog_named_forms.specs.Hosts.{host_row}
+use Rattle.syslog_named_forms.specs.Untagged.{mark_class}
 use Rattle.syslog_named_forms.specs.Untagged.{marked}
 use Rattle.syslog_named_forms.specs.Untagged.{marked_of}
 use Rattle.syslog_named_forms.specs.declared.untagged.Mark.{Mark}
@@ -18,21 +19,21 @@ pub returns-in-Some : goal.returns-in-Some
 returns-in-Some c after marks = let (v, f) = c.in-Some.ensures marks.0 in
     rw c.untagged.ensures (mapped_front (marked c.args.mark) NamedTexts marked_of (first_front (beginning_front f)))
 
-pub returns-in_err-hostname : goal.returns-in_err-hostname
-returns-in_err-hostname c after marks = rw c.from_residual.ensures (no_mapped (marked c.args.mark) NamedTexts marked_of
+pub returns-in_err-host : goal.returns-in_err-host
+returns-in_err-host c after marks = rw c.from_residual.ensures (no_mapped (marked c.args.mark) NamedTexts marked_of
     (no_otherwise (no_beginning (c.in_default.ensures marks.0))
-    (rows_none_here host_row (begun c.args.mark ∷ []) (rw c.in_err-hostname.was at after))))
+    (rows_none_here host_row (begun c.args.mark ∷ []) (rw c.in_err-host.was at after))))
 
 pub returns-in_err-end_of : goal.returns-in_err-end_of
 returns-in_err-end_of c after marks = rw c.from_residual-in_err-end_of.ensures
     (no_mapped (marked c.args.mark) NamedTexts marked_of
     (no_otherwise (no_beginning (c.in_default.ensures marks.0)) (rows_none_later host_row (begun c.args.mark ∷ [])
     host_row_det
-    (rw c.in_ok-hostname.was at after) (row_none_here (begun c.args.mark) []
-    (no_beginning (c.in_err-end_of.ensures (rw c.in_ok-hostname.was at marks.1)))))))
+    (rw c.in_ok-host.was at after) (row_none_here (begun c.args.mark) []
+    (no_beginning (c.in_err-end_of.ensures (rw c.in_ok-host.was at marks.1)))))))
 
 pub returns : goal.returns
-returns c after marks = let (v, f) = c.in_ok-end_of.ensures (rw c.in_ok-hostname.was at marks.1) in
+returns c after marks = let (v, f) = c.in_ok-end_of.ensures (rw c.in_ok-host.was at marks.1) in
     rw c.untagged-2.ensures (mapped_front (marked c.args.mark) NamedTexts marked_of
     (second_front (no_beginning (c.in_default.ensures marks.0)) (rows_join host_row (begun c.args.mark ∷ [])
-    (rw c.in_ok-hostname.was at after) (row_cons (begun c.args.mark) [] (beginning_front f) (row_nil [])))))
+    (rw c.in_ok-host.was at after) (row_cons (begun c.args.mark) [] (beginning_front f) (row_nil [])))))

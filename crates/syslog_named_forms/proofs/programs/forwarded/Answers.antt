@@ -5,21 +5,21 @@ use Rattle.syslog_sent.proofs.NamedLemmas.{first_front, no_otherwise, second_fro
 use Rattle.syslog_named_forms.proofs.UntaggedLemmas.{host_row_det}
 use Rattle.syslog_sent.specs.Named.{NamedTexts, hosted}
 use Rattle.syslog_named_forms.specs.Programs.{passed_on, relayed_of}
-use Rattle.syslog_named_forms.specs.Untagged.{host_row}
+use Rattle.syslog_named_forms.specs.Hosts.{host_row}
 use Rattle.syslog_named_forms.proofs.programs.forwarded.Goals as goal
 
 pub returns-in-Some : goal.returns-in-Some
 returns-in-Some c after = mapped_front (hosted passed_on) NamedTexts relayed_of (first_front c.in-Some.ensures)
 
-pub returns-in_err-rest : goal.returns-in_err-rest
-returns-in_err-rest c after = rw c.from_residual.ensures (no_mapped (hosted passed_on) NamedTexts relayed_of
-    (no_otherwise c.in_default.ensures (rows_none_here host_row (passed_on ∷ []) (rw c.in_err-rest.was at after))))
+pub returns-in_err-host : goal.returns-in_err-host
+returns-in_err-host c after = rw c.from_residual.ensures (no_mapped (hosted passed_on) NamedTexts relayed_of
+    (no_otherwise c.in_default.ensures (rows_none_here host_row (passed_on ∷ []) (rw c.in_err-host.was at after))))
 
 pub returns : goal.returns
 returns c after = match_map c.passed_on-2.result
     (λ n. no_mapped (hosted passed_on) NamedTexts relayed_of (no_otherwise c.in_default.ensures
-    (rows_none_later host_row (passed_on ∷ []) host_row_det (rw c.in_ok-rest.was at after)
+    (rows_none_later host_row (passed_on ∷ []) host_row_det (rw c.in_ok-host.was at after)
     (row_none_here passed_on [] n))))
     (λ x f. mapped_front (hosted passed_on) NamedTexts relayed_of (second_front c.in_default.ensures
-    (rows_join host_row (passed_on ∷ []) (rw c.in_ok-rest.was at after) (row_cons passed_on [] f (row_nil [])))))
+    (rows_join host_row (passed_on ∷ []) (rw c.in_ok-host.was at after) (row_cons passed_on [] f (row_nil [])))))
     c.passed_on-2.ensures

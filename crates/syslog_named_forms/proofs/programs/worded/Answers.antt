@@ -1,37 +1,16 @@
-use Rattle.std.proofs.Common.{List, [], ◌∷◌, inl, refl}
-use Rattle.syslog_text.specs.Pieces.Class.{Class, exactly, rest, run}
-use Rattle.syslog_text.specs.Text.{colon, is_blank}
-use Rattle.syslog_text.proofs.PieceLemmas.Class.{◌past◌, ◌then◌, rest_front, row_of}
+use Rattle.std.proofs.Common.{drop}
 use Rattle.syslog_named_forms.proofs.ProgramLemmas.{worded_det}
-use Rattle.syslog_named_forms.proofs.HostLemmas.{no_host, not_past_host, past_host}
-use Rattle.syslog_sent.specs.Named.{process_id}
-use Rattle.syslog_named_forms.specs.Programs.{worded_of}
-use Rattle.syslog_named_forms.specs.{Programs.words}
+use Rattle.syslog_named_forms.proofs.ReaderLemmas.{read}
+use Rattle.syslog_named_forms.specs.Hosts.{process_tail}
+use Rattle.syslog_named_forms.specs.Programs.{worded_of, worded_row, words}
+use Rattle.syslog_named_forms.proofs.HostLemmas.{no_host, past_host}
 use Rattle.syslog_named_forms.proofs.programs.worded.Goals as goal
 
--- what follows the host
-abbrev more : List Class
-more = words ∷ process_id ∷ exactly colon ∷ run is_blank ∷ rest ∷ []
-
-pub returns-in_err-hostname : goal.returns-in_err-hostname
-returns-in_err-hostname c text after = rw c.from_residual.ensures
-    (no_host more worded_det.1.1 worded_of after c.in_err-hostname.was)
-
-pub returns-in_err-name : goal.returns-in_err-name
-returns-in_err-name c text after = rw c.from_residual-in_err-name.ensures
-    (not_past_host more worded_det.1.1 worded_of after c.in_ok-hostname.was (inl c.in_err-name.ensures))
-
-pub returns-in_err-id : goal.returns-in_err-id
-returns-in_err-id c text after = rw c.from_residual-in_err-id.ensures
-    (not_past_host more worded_det.1.1 worded_of after c.in_ok-hostname.was (c.in_ok-name.ensures past inl
-    c.in_err-id.ensures))
-
-pub returns-in_err-rest : goal.returns-in_err-rest
-returns-in_err-rest c text after = rw c.from_residual-in_err-rest.ensures
-    (not_past_host more worded_det.1.1 worded_of after c.in_ok-hostname.was (c.in_ok-name.ensures past
-    c.in_ok-id.ensures past inl c.in_err-rest.ensures))
+pub returns-in_err-host : goal.returns-in_err-host
+returns-in_err-host c text after = rw c.from_residual.ensures
+    (no_host (drop 2 worded_row) worded_of (rw c.in_err-host.was at after))
 
 pub returns : goal.returns
-returns c text after = rw c.tagged.ensures
-    (past_host more worded_det.1.1 worded_of after c.in_ok-hostname.was (row_of more (c.in_ok-name.ensures then
-    c.in_ok-id.ensures then c.in_ok-rest.ensures then c.blanks.ensures then rest_front _ then refl)))
+returns c text after = past_host (drop 2 worded_row) worded_of c.in_ok-host.host (rw c.in_ok-host.was at after) _
+    (read words process_tail _ worded_det.1.1 _ _ c.words.result _ c.words.ensures
+    c.process_from.ensures)

@@ -1,0 +1,19 @@
+use Rattle.std.proofs.Common.{inl, refl}
+use Rattle.syslog_text.specs.Pieces.Class.{Row}
+use Rattle.syslog_text.specs.Pieces.View.{seen}
+use Rattle.syslog_text.proofs.PieceLemmas.Class.{◌then◌, mapped_front, rest_front, row_of}
+use Rattle.syslog_sent.proofs.NamedLemmas.{unread}
+use Rattle.syslog_sent.specs.Named.{NamedTexts}
+use Rattle.syslog_named_forms.specs.Hosts.{program_said, program_tail}
+use Rattle.syslog_named_forms.proofs.ReaderLemmas.{program_tail_det}
+use Rattle.syslog_named_forms.proofs.hosts.program_from.Goals as goal
+
+pub returns-in_err-program : goal.returns-in_err-program
+returns-in_err-program c = rw (c.in_ok-text.was, c.from_residual-in_err-program.ensures)
+    (unread program_tail program_tail_det NamedTexts (program_said (seen c.args.hostname))
+    (inl c.in_err-program.ensures))
+
+pub returns : goal.returns
+returns c = rw (c.in_ok-text.was, c.tagged.ensures) (mapped_front (Row program_tail) NamedTexts
+    (program_said (seen c.args.hostname))
+    (row_of program_tail (c.in_ok-program.ensures then c.blanks.ensures then rest_front _ then refl)))
