@@ -1,16 +1,18 @@
 -- What readers return that go on where others left the text.
-use Rattle.std.proofs.Common.{◌≡◌, ℕ, List, [], ◌∷◌, ◌++◌, Bor, Option, Some, None, MatchOption, refl, sym, subst, ◌∙◌}
+use Rattle.std.proofs.Common.{◌≡◌, inl, inr, ℕ, List, [], ◌∷◌, ◌++◌, Bor, Option, Some, None, MatchOption, refl, sym}
+use Rattle.std.proofs.Common.{subst, ◌∙◌}
 use Rattle.syslog_text.specs.Pieces.Class.{Text, Class, Values, Front, Row, mapped}
 use Rattle.syslog_text.specs.Pieces.View.{Reads, Recognises, shown}
 use Rattle.syslog_text.proofs.PieceLemmas.Class.{◌also◌, AllDeterministic, both_values, exactly_det, front_of}
-use Rattle.syslog_text.proofs.PieceLemmas.Class.{mapped_front, no_mapped, rest_det, row_cons, row_nil, row_none_here}
-use Rattle.syslog_text.proofs.PieceLemmas.Class.{rows_join, rows_none_here, rows_none_later, run_det}
+use Rattle.syslog_text.proofs.PieceLemmas.Class.{mapped_front, match_map, no_mapped, rest_det, row_cons, row_nil}
+use Rattle.syslog_text.proofs.PieceLemmas.Class.{row_none_here, rows_join, rows_none_here, rows_none_later, run_det}
 use Rattle.syslog_text.proofs.PieceLemmas.Rules.{Chained, last_of, row_reads}
-use Rattle.syslog_sent.specs.Named.{NamedTexts, beginning, untagged}
+use Rattle.syslog_sent.specs.Named.{◌otherwise◌, NamedTexts, beginning, untagged}
 use Rattle.syslog_sent.specs.Views.{Names, named_value}
 use Rattle.syslog_sent.specs.declared.named.Named.{Named}
 use Rattle.syslog_text.specs.Text.{is_blank}
-use Rattle.syslog_sent.proofs.NamedLemmas.{beginning_front, id_det, no_beginning, program_det}
+use Rattle.syslog_sent.proofs.NamedLemmas.{beginning_front, first_front, id_det, no_beginning, no_otherwise}
+use Rattle.syslog_sent.proofs.NamedLemmas.{program_det, second_front}
 use Rattle.syslog_named_forms.specs.Hosts.{IsUntagged, Tells, process_tail, program_tail}
 
 -- ---- how forms end
@@ -96,3 +98,11 @@ alone C of t (Some x) g =
     let (v, h, e) = g.is in
     let j = row_cons C [] (front_of g.piece g.whole h) (row_nil []) in
     front_of j.piece j.whole ((v, tt), j.is, e)
+
+-- ---- pieces of one of two classes
+
+-- what the readers of both return, the second of them where the first finds nothing
+pub either_reads : (C D : Class) (t : Text) (m : Option (Bor (List ℕ))) → (r : Option (Bor (List ℕ))) × Recognises C t r
+    × MatchOption r (Recognises D t m) (λ x. m ≡ Some x) → Recognises (C otherwise D) t m
+either_reads C D t m (None, n, h) = match_map m (no_otherwise n) (λ x (w, f). (inr w, second_front n f)) h
+either_reads C D t m (Some x, (v, f), e) = rw e (inl v, first_front f)

@@ -23,7 +23,7 @@ ghost use Rattle.syslog_sent.specs.Views.{Names, named_value};
 
 use crate::hosts::{AfterHost, program_from, untagged_from};
 use crate::marks::mark_end;
-use crate::untagged::{Mark, level as level_word};
+use crate::untagged::{Mark, either, level as level_word};
 use syslog_sent::named::{Named, Program, name, number, past, read_program, tagged};
 use syslog_sent::runs::{Run, split_some};
 use syslog_sent::skips::{
@@ -246,10 +246,7 @@ pub(crate) fn numbered(text: &str) -> Option<Named<'_>>
 fn bracket_or_level(text: &str) -> Option<&str>
     ensures { Recognises spec.bracket_or_level (chars text.now) result }
 {
-    if let Some(rest) = bracket(text) {
-        return Some(rest);
-    }
-    level_word(text)
+    either(text, bracket, level_word)
 }
 
 // Returns the text after a number, blanks, and a bracket or a level.

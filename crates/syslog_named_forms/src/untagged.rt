@@ -1,5 +1,6 @@
 //! Messages that have no program's name before them: they are recognised by what they begin with.
-ghost use Rattle.std.specs.Prelude.{◌≡◌, ◌∷◌, [], ◌||◌, Option, chars, codes};
+ghost use Rattle.std.specs.Borrow.{Bor};
+ghost use Rattle.std.specs.Prelude.{◌≡◌, ◌∷◌, [], ◌||◌, ℕ, List, MatchOption, Option, Some, chars, codes};
 ghost use Rattle.syslog_text.specs.Pieces.Class.{Front, Row, after, exactly, optional};
 ghost use Rattle.syslog_text.specs.Pieces.View.{Recognises, shown};
 ghost use Rattle.syslog_pieces.specs.Timestamp.Rfc3339.{pair as pair_class, year as year_class};
@@ -59,6 +60,23 @@ pub(crate) const MARKS: [Mark; 11] = [
     Mark::Bracket,
     Mark::Dated,
 ];
+
+/// Returns the text after a piece that the first reader takes, or else after one that the second takes.
+#[inline(always)]
+pub(crate) fn either<'a, F, G>(text: &'a str, first: F, second: G) -> Option<&'a str>
+where
+    F: FnOnce(&'a str) -> Option<&'a str>,
+    G: FnOnce(&'a str) -> Option<&'a str>,
+    requires one { F.IsAlwaysCallable first }
+    requires other { G.IsAlwaysCallable second }
+    ensures { (r : Option (Bor (List ℕ))) × F.post first text.entry r
+        × MatchOption r (G.post second text.entry result) (λ rest. result ≡ Some rest) }
+{
+    match first(text) {
+        Some(rest) => Some(rest),
+        None => second(text),
+    }
+}
 
 fn bar(text: &str) -> Option<&str>
     ensures { Recognises (exactly (124 ∷ [])) (chars text.now) result }
@@ -143,10 +161,7 @@ fn above_words(text: &str) -> Option<&str>
 fn repeats_words(text: &str) -> Option<&str>
     ensures { Recognises spec.repeats (chars text.now) result }
 {
-    if let Some(rest) = last_words(text) {
-        return Some(rest);
-    }
-    above_words(text)
+    either(text, last_words, above_words)
 }
 
 fn repeats(text: &str) -> Option<&str>
@@ -242,10 +257,7 @@ fn slashed(text: &str) -> Option<&str>
 fn day(text: &str) -> Option<&str>
     ensures { Recognises spec.day (chars text.now) result }
 {
-    if let Some(rest) = dashed(text) {
-        return Some(rest);
-    }
-    slashed(text)
+    either(text, dashed, slashed)
 }
 
 fn letter_t(text: &str) -> Option<&str>
@@ -257,10 +269,7 @@ fn letter_t(text: &str) -> Option<&str>
 fn day_end(text: &str) -> Option<&str>
     ensures { Recognises spec.day_end (chars text.now) result }
 {
-    if let Some(rest) = letter_t(text) {
-        return Some(rest);
-    }
-    space(text)
+    either(text, letter_t, space)
 }
 
 fn clock(text: &str) -> Option<&str>
@@ -311,10 +320,7 @@ fn month(text: &str) -> Option<&str>
 fn dated(text: &str) -> Option<&str>
     ensures { Recognises (spec.mark_class Dated) (chars text.now) result }
 {
-    if let Some(rest) = clock(text) {
-        return Some(rest);
-    }
-    month(text)
+    either(text, clock, month)
 }
 
 pub(crate) fn equals(text: &str) -> Option<&str>
@@ -410,10 +416,7 @@ fn later_topic(text: &str) -> Option<&str>
 fn either_topic(text: &str) -> Option<&str>
     ensures { Recognises (spec.main_topic otherwise Row spec.later_topic_row) (chars text.now) result }
 {
-    if let Some(rest) = main_topic(text) {
-        return Some(rest);
-    }
-    later_topic(text)
+    either(text, main_topic, later_topic)
 }
 
 fn topics(text: &str) -> Option<&str>
@@ -448,20 +451,14 @@ fn quote(text: &str) -> Option<&str>
 fn angle(text: &str) -> Option<&str>
     ensures { Recognises spec.angle (chars text.now) result }
 {
-    if let Some(rest) = open_angle(text) {
-        return Some(rest);
-    }
-    quote(text)
+    either(text, open_angle, quote)
 }
 
 // The text after such a bracket, after `<`, or after a quote.
 fn open_bracket(text: &str) -> Option<&str>
     ensures { Recognises (spec.mark_class Bracket) (chars text.now) result }
 {
-    if let Some(rest) = square(text) {
-        return Some(rest);
-    }
-    angle(text)
+    either(text, square, angle)
 }
 
 impl Mark {
