@@ -60,10 +60,11 @@ severity_of (h, (_, (_, (_, tail)))) = program_said h tail
 -- ---- the serial number and the time before the program: `fb1 80DA02F9E3C1B (2026-03-02T05:33:04) https-proxy[2345]:
 -- text`, or without a host
 
--- WatchGuard's Fireboxes ("Configure Syslog Server Settings": the serial number and the time stamp are sent)
+-- the time, up to the bracket that closes and the blanks after it
 abbrev pub time_row : List Class
 time_row = iso_date ∷ exactly (41 ∷ []) ∷ some_run is_blank ∷ []
 
+-- WatchGuard's Fireboxes ("Configure Syslog Server Settings": the serial number and the time stamp are sent)
 abbrev pub serial_row : List Class
 serial_row = host_row ++ some_run is_plain_char ∷ exactly (32 ∷ []) ∷ exactly (40 ∷ []) ∷ time_row ++ program_tail
 
