@@ -1,3 +1,4 @@
+pub mod ChainLemmas
 pub mod CiscoLemmas
 pub mod ContainerLemmas
 pub mod DatedLemmas

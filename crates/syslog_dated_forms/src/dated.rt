@@ -26,7 +26,8 @@ use crate::tail::{Tail, read_wide_tail};
 use syslog_pieces::timestamp::header_stamp;
 use syslog_sent::date::{BsdDate, any_date, bsd_date, iso_date, weekday};
 use syslog_sent::sent::{Sent, SentDate};
-use syslog_text::text::{blanks, literal, some_blanks};
+use syslog_sent::skips::{bracket, gap};
+use syslog_text::text::blanks;
 
 /// Returns what a line says that has this date and this text after it.
 pub(crate) fn says<'a>(date: SentDate, tail: Tail<'a>) -> Sent<'a>
@@ -69,9 +70,7 @@ pub(crate) fn read_iso<'a>(begun: &'a str, date: SentDate, rest: &'a str) -> Opt
 pub(crate) fn read_journal(text: &str) -> Option<Sent<'_>>
     ensures { Sends spec.journal_form (chars text.now) result }
 {
-    let after_day = weekday(blanks(text))?;
-    let after_gap = some_blanks(after_day)?;
-    let (date, rest) = iso_date(after_gap)?;
+    let (date, rest) = weekday(blanks(text)).and_then(gap).and_then(iso_date)?;
     Some(says(date, read_wide_tail(rest)))
 }
 
@@ -79,9 +78,7 @@ pub(crate) fn read_journal(text: &str) -> Option<Sent<'_>>
 pub(crate) fn read_ctime(text: &str) -> Option<Sent<'_>>
     ensures { Sends spec.ctime_form (chars text.now) result }
 {
-    let after_day = weekday(blanks(text))?;
-    let after_gap = some_blanks(after_day)?;
-    let (date, rest) = bsd_date(after_gap)?;
+    let (date, rest) = weekday(blanks(text)).and_then(gap).and_then(bsd_date)?;
     Some(says(date, read_wide_tail(rest)))
 }
 
@@ -89,11 +86,9 @@ pub(crate) fn read_ctime(text: &str) -> Option<Sent<'_>>
 pub(crate) fn read_ctime_message(text: &str) -> Option<Sent<'_>>
     ensures { Sends spec.ctime_message_form (chars text.now) result }
 {
-    let after_day = weekday(blanks(text))?;
-    let after_gap = some_blanks(after_day)?;
-    let (date, after_date) = bsd_date(after_gap)?;
-    let msg = some_blanks(after_date)?;
-    let _ = literal(msg, '[')?;
+    let (date, after_date) = weekday(blanks(text)).and_then(gap).and_then(bsd_date)?;
+    let msg = gap(after_date)?;
+    let _ = bracket(msg)?;
     Some(Sent {
         version: None,
         date: Some(date),

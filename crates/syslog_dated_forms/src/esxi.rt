@@ -69,10 +69,10 @@ pub(crate) fn read_esxi(date: SentDate, rest: &str) -> Option<Sent<'_>>
     ensures { (text at : Text) → Front (run is_blank) text at tt → Front iso_date at (chars rest.now) date
         → Sends spec.esxi_form text result }
 {
-    let before_mark = gap(rest)?;
-    let after_mark = mark(before_mark)?;
-    let before_program = gap(after_mark)?;
-    let (program, after_program) = read_program(before_program)?;
+    let (program, after_program) = gap(rest)
+        .and_then(mark)
+        .and_then(gap)
+        .and_then(read_program)?;
     Some(Sent {
         version: None,
         date: Some(date),

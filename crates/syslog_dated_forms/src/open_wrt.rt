@@ -16,13 +16,11 @@ use syslog_text::text::blanks;
 pub(crate) fn read_logread(text: &str) -> Option<Sent<'_>>
     ensures { Sends spec.logread_form (chars text.now) result }
 {
-    let after_day = weekday(blanks(text))?;
-    let before_date = gap(after_day)?;
-    let (date, after_date) = any_date(before_date)?;
-    let before_selector = gap(after_date)?;
-    let after_selector = selector(before_selector)?;
-    let before_program = gap(after_selector)?;
-    let (program, after_program) = read_program(before_program)?;
+    let (date, after_date) = weekday(blanks(text)).and_then(gap).and_then(any_date)?;
+    let (program, after_program) = gap(after_date)
+        .and_then(selector)
+        .and_then(gap)
+        .and_then(read_program)?;
     Some(Sent {
         version: None,
         date: Some(date),

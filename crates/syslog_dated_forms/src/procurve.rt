@@ -54,12 +54,11 @@ pub(crate) fn read_procurve(date: SentDate, rest: &str) -> Option<Sent<'_>>
     ensures { (text at : Text) → Front (run is_blank) text at tt → Front any_date at (chars rest.now) date
         → Sends spec.procurve_form text result }
 {
-    let before_host = gap(rest)?;
-    let (hostname, after_host) = switch(before_host)?;
-    let before_number = gap(after_host)?;
-    let after_number = digits(before_number)?;
-    let before_module = gap(after_number)?;
-    let (app, after_module) = system_module(before_module)?;
+    let (hostname, after_host) = gap(rest).and_then(switch)?;
+    let (app, after_module) = gap(after_host)
+        .and_then(digits)
+        .and_then(gap)
+        .and_then(system_module)?;
     let after_colon = colon(after_module)?;
     Some(Sent {
         version: None,

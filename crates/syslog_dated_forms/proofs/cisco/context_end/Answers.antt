@@ -1,11 +1,8 @@
-use Rattle.std.proofs.Common.{[], ◌∷◌}
-use Rattle.syslog_text.proofs.PieceLemmas.{Class.◌also◌, Rules.row_reads}
 use Rattle.syslog_dated_forms.{proofs.CiscoLemmas.context_row_det, specs.Cisco.context_row}
+use Rattle.syslog_dated_forms.proofs.ChainLemmas.{◌next◌, chain_row, end}
 use Rattle.syslog_dated_forms.proofs.cisco.context_end.Goals as goal
 
 pub returns : goal.returns
-returns c = row_reads context_row context_row_det c.args.text
-    (c.dollar.result ∷ c.and_then.result ∷ c.and_then-2.result ∷ c.and_then-3.result
-    ∷ c.and_then-4.result ∷ c.and_then-5.result ∷ c.and_then-6.result ∷ [])
-    (c.dollar.ensures also c.and_then.ensures also c.and_then-2.ensures also c.and_then-3.ensures
-    also c.and_then-4.ensures also c.and_then-5.ensures also c.and_then-6.ensures also tt)
+returns c = chain_row {Cs = context_row} {x = c.args.text} context_row_det
+    (c.dollar.ensures next c.and_then.ensures next c.and_then-2.ensures next c.and_then-3.ensures next
+    c.and_then-4.ensures next c.and_then-5.ensures next c.and_then-6.ensures next end)

@@ -1,18 +1,17 @@
-use Rattle.std.proofs.Common.{[], ◌∷◌, inl}
+use Rattle.std.proofs.Common.{inl}
 use Rattle.std.specs.Char.{is_ascii_digit}
 use Rattle.std.specs.Str.{chars}
 use Rattle.syslog_text.specs.Pieces.Class.{some_run}
 use Rattle.syslog_text.proofs.TextLemmas.Runs.{ends_digits, no_run}
-use Rattle.syslog_text.proofs.PieceLemmas.Class.{◌also◌, no_row}
-use Rattle.syslog_text.proofs.PieceLemmas.Rules.{row_reads}
+use Rattle.syslog_text.proofs.PieceLemmas.Class.{no_row}
 use Rattle.syslog_dated_forms.specs.Cisco.{counter_row}
 use Rattle.syslog_dated_forms.proofs.CiscoLemmas.{counter_row_det}
+use Rattle.syslog_dated_forms.proofs.ChainLemmas.{◌next◌, chain_row, end}
 use Rattle.syslog_dated_forms.proofs.cisco.counter.Goals as goal
 
 pub returns : goal.returns
-returns c = row_reads counter_row counter_row_det c.args.text
-    (c.digits.result ∷ c.and_then.result ∷ c.and_then-2.result ∷ [])
-    (c.digits.ensures also c.and_then.ensures also c.and_then-2.ensures also tt)
+returns c = chain_row {Cs = counter_row} {x = c.args.text} counter_row_det
+    (c.digits.ensures next c.and_then.ensures next c.and_then-2.ensures next end)
 
 pub returns-then-not-begins_with_digit : goal.returns-then-not-begins_with_digit
 returns-then-not-begins_with_digit c = no_row counter_row counter_row_det

@@ -1,38 +1,35 @@
-use Rattle.std.proofs.Common.{inl, refl}
-use Rattle.syslog_text.proofs.PieceLemmas.Class.{◌past◌, ◌then◌, no_row, no_row_division, row_of}
+use Rattle.std.proofs.Common.{drop, inl, refl, take}
+use Rattle.syslog_text.proofs.PieceLemmas.Class.{◌past◌, ◌then◌, row_of}
 use Rattle.syslog_dated_forms.specs.Dated.{ctime_message_row, ctime_message_sent}
+use Rattle.syslog_dated_forms.proofs.ChainLemmas.{◌next◌, chain_fails, chain_past, chain_reads, end, undivided}
 use Rattle.syslog_dated_forms.proofs.DatedLemmas.{ctime_message_det}
 use Rattle.syslog_sent.proofs.FormLemmas.{says_once}
 use Rattle.syslog_sent.proofs.NamedLemmas.{beginning_front, no_beginning}
+use Rattle.syslog_sent.specs.Date.{bsd_date}
 use Rattle.syslog_sent.specs.declared.dialect.Dialect.TheVariants.{Bracketed}
 use Rattle.syslog_dated_forms.proofs.dated.read_ctime_message.Goals as goal
 
-pub returns-in_err-after_day : goal.returns-in_err-after_day
-returns-in_err-after_day c = rw c.from_residual.ensures (no_row_division ctime_message_row
-    (no_row ctime_message_row ctime_message_det (c.blanks.ensures past inl c.in_err-after_day.ensures)))
-
-pub returns-in_err-after_gap : goal.returns-in_err-after_gap
-returns-in_err-after_gap c = rw c.from_residual-in_err-after_gap.ensures (no_row_division ctime_message_row
-    (no_row ctime_message_row ctime_message_det (c.blanks.ensures past c.in_ok-after_day.ensures.1
-    past inl c.in_err-after_gap.ensures)))
-
 pub returns-in_err-date : goal.returns-in_err-date
-returns-in_err-date c = rw c.from_residual-in_err-date.ensures (no_row_division ctime_message_row
-    (no_row ctime_message_row ctime_message_det (c.blanks.ensures past c.in_ok-after_day.ensures.1
-    past c.in_ok-after_gap.ensures past inl c.in_err-date.ensures)))
+returns-in_err-date c = rw c.from_residual.ensures (undivided ctime_message_row ctime_message_det
+    (c.blanks.ensures past chain_fails {Cs = take 2 (drop 1 ctime_message_row)} bsd_date (drop 4 ctime_message_row) _
+    {x = c.blanks.result} (c.weekday.ensures next c.and_then.ensures next end) c.in_err-date.ensures))
 
 pub returns-in_err-msg : goal.returns-in_err-msg
-returns-in_err-msg c = rw c.from_residual-in_err-msg.ensures (no_row_division ctime_message_row
-    (no_row ctime_message_row ctime_message_det (c.blanks.ensures past c.in_ok-after_day.ensures.1
-    past c.in_ok-after_gap.ensures past c.in_ok-date.ensures past inl c.in_err-msg.ensures)))
+returns-in_err-msg c = rw c.from_residual-in_err-msg.ensures (undivided ctime_message_row ctime_message_det
+    (c.blanks.ensures past chain_past {Cs = take 2 (drop 1 ctime_message_row)} bsd_date (drop 4 ctime_message_row) _ _
+    {x = c.blanks.result} (c.weekday.ensures next c.and_then.ensures next end) (λ e. cc) c.in_ok-date.ensures
+    (inl c.in_err-msg.ensures)))
 
-pub returns-in_err-literal : goal.returns-in_err-literal
-returns-in_err-literal c = rw c.from_residual-in_err-literal.ensures (no_row_division ctime_message_row
-    (no_row ctime_message_row ctime_message_det (c.blanks.ensures past c.in_ok-after_day.ensures.1
-    past c.in_ok-after_gap.ensures past c.in_ok-date.ensures past c.in_ok-msg.ensures
-    past inl (no_beginning c.in_err-literal.ensures))))
+pub returns-in_err-bracket : goal.returns-in_err-bracket
+returns-in_err-bracket c = rw c.from_residual-in_err-bracket.ensures (undivided ctime_message_row ctime_message_det
+    (c.blanks.ensures past chain_past {Cs = take 2 (drop 1 ctime_message_row)} bsd_date (drop 4 ctime_message_row) _ _
+    {x = c.blanks.result} (c.weekday.ensures next c.and_then.ensures next end) (λ e. cc) c.in_ok-date.ensures
+    (c.in_ok-msg.ensures.1 past inl (no_beginning c.in_err-bracket.ensures))))
 
 pub returns : goal.returns
-returns c = says_once Bracketed ctime_message_row ctime_message_sent ctime_message_det (row_of ctime_message_row
-    (c.blanks.ensures then c.in_ok-after_day.ensures.1 then c.in_ok-after_gap.ensures then c.in_ok-date.ensures
-    then c.in_ok-msg.ensures then beginning_front c.in_ok-literal.ensures then refl)) refl
+returns c =
+    let (us, p) = chain_reads {Cs = take 2 (drop 1 ctime_message_row)} bsd_date (drop 4 ctime_message_row) _ _ _ _
+    {x = c.blanks.result} (c.weekday.ensures next c.and_then.ensures next end) (λ e. cc) c.in_ok-date.ensures
+    (c.in_ok-msg.ensures.1 then beginning_front c.in_ok-bracket.ensures.1 then refl) in
+    says_once Bracketed ctime_message_row ctime_message_sent ctime_message_det
+    (row_of ctime_message_row (c.blanks.ensures then p)) refl

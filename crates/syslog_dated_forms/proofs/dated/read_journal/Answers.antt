@@ -1,27 +1,22 @@
-use Rattle.std.proofs.Common.{inl, refl}
-use Rattle.syslog_text.proofs.PieceLemmas.Class.{◌past◌, ◌then◌, no_row, no_row_division, row_of}
+use Rattle.std.proofs.Common.{drop, refl, take}
+use Rattle.syslog_text.proofs.PieceLemmas.Class.{◌past◌, ◌then◌, row_of}
 use Rattle.syslog_dated_forms.specs.Dated.{dated_sent, journal_row}
+use Rattle.syslog_dated_forms.proofs.ChainLemmas.{◌next◌, chain_fails, chain_reads, end, undivided}
 use Rattle.syslog_dated_forms.proofs.DatedLemmas.{journal_line_det}
 use Rattle.syslog_sent.proofs.FormLemmas.{says_once}
+use Rattle.syslog_sent.specs.Date.{iso_date}
 use Rattle.syslog_sent.specs.declared.dialect.Dialect.TheVariants.{Journal}
 use Rattle.syslog_dated_forms.proofs.dated.read_journal.Goals as goal
 
-pub returns-in_err-after_day : goal.returns-in_err-after_day
-returns-in_err-after_day c = rw c.from_residual.ensures
-    (no_row_division journal_row (no_row journal_row journal_line_det
-    (c.blanks.ensures past inl c.in_err-after_day.ensures)))
-
-pub returns-in_err-after_gap : goal.returns-in_err-after_gap
-returns-in_err-after_gap c = rw c.from_residual-in_err-after_gap.ensures
-    (no_row_division journal_row (no_row journal_row journal_line_det
-    (c.blanks.ensures past c.in_ok-after_day.ensures.1 past inl c.in_err-after_gap.ensures)))
-
 pub returns-in_err-date : goal.returns-in_err-date
-returns-in_err-date c = rw c.from_residual-in_err-date.ensures
-    (no_row_division journal_row (no_row journal_row journal_line_det
-    (c.blanks.ensures past c.in_ok-after_day.ensures.1 past c.in_ok-after_gap.ensures past inl c.in_err-date.ensures)))
+returns-in_err-date c = rw c.from_residual.ensures (undivided journal_row journal_line_det
+    (c.blanks.ensures past chain_fails {Cs = take 2 (drop 1 journal_row)} iso_date (drop 4 journal_row) _
+    {x = c.blanks.result} (c.weekday.ensures next c.and_then.ensures next end) c.in_err-date.ensures))
 
 pub returns : goal.returns
-returns c = says_once Journal journal_row (λ v. dated_sent v.1.1.1.0 v.1.1.1.1.0) journal_line_det
-    (row_of journal_row (c.blanks.ensures then c.in_ok-after_day.ensures.1 then c.in_ok-after_gap.ensures
-    then c.in_ok-date.ensures then c.read_wide_tail.ensures then refl)) c.says.ensures
+returns c =
+    let (us, p) = chain_reads {Cs = take 2 (drop 1 journal_row)} iso_date (drop 4 journal_row) _ _ _ _
+    {x = c.blanks.result} (c.weekday.ensures next c.and_then.ensures next end) (λ e. cc) c.in_ok-date.ensures
+    (c.read_wide_tail.ensures then refl) in
+    says_once Journal journal_row (λ v. dated_sent v.1.1.1.0 v.1.1.1.1.0) journal_line_det
+    (row_of journal_row (c.blanks.ensures then p)) c.says.ensures

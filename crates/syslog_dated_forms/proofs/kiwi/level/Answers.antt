@@ -1,12 +1,9 @@
-use Rattle.std.proofs.Common.{[], ◌∷◌}
-use Rattle.syslog_text.proofs.PieceLemmas.Class.{◌also◌}
-use Rattle.syslog_text.proofs.PieceLemmas.Rules.{row_reads}
 use Rattle.syslog_dated_forms.specs.Kiwi.{level_row}
 use Rattle.syslog_dated_forms.proofs.KiwiLemmas.{level_row_det}
+use Rattle.syslog_dated_forms.proofs.ChainLemmas.{◌next◌, chain_row, end}
 use Rattle.syslog_dated_forms.proofs.kiwi.level.Goals as goal
 
 pub returns : goal.returns
-returns c = row_reads level_row level_row_det c.args.text
-    (c.tab.result ∷ c.and_then.result ∷ c.and_then-2.result ∷ c.and_then-3.result ∷ c.and_then-4.result ∷ [])
-    (c.tab.ensures also c.and_then.ensures also c.and_then-2.ensures also c.and_then-3.ensures
-    also c.and_then-4.ensures also tt)
+returns c = chain_row {Cs = level_row} {x = c.args.text} level_row_det
+    (c.tab.ensures next c.and_then.ensures next c.and_then-2.ensures next c.and_then-3.ensures next
+    c.and_then-4.ensures next end)
