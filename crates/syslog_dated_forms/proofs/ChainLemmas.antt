@@ -93,20 +93,6 @@ pub chain_reads : {Cs : List Class} (D : Class) (Ds : List Class) (v : D.Value) 
     → (us : Values Cs) × Pieces (Cs ++ (D ∷ Ds)) (shown x) r (both_values Cs (D ∷ Ds) us (v, ws))
 chain_reads {Cs} D Ds v q r ws {N} {x} {l} k = reached Cs D Ds v q r ws N x l (steps k)
 
-left : (Cs Ds : List Class) (r : Text) (ws : Values Ds) (x y : Bor (List ℕ)) → Steps Cs (Some x) (Some y)
-    → Pieces Ds (shown y) r ws → (us : Values Cs) × Pieces (Cs ++ Ds) (shown x) r (both_values Cs Ds us ws)
-left [] Ds r ws x y e p = let same : y ≡ x = cc in
-    (tt, subst (λ (z : Bor (List ℕ)). Pieces Ds (shown z) r ws) same p)
-left (C ∷ Cs) Ds r ws x y (None, h, k) p = absurd (let e : Some y ≡ None = ended Cs (Some y) k in cc)
-left (C ∷ Cs) Ds r ws x y (Some z, (u, f), k) p =
-    let (us, more) = left Cs Ds r ws z y k p in ((u, us), (shown z, f, more))
-
--- it returned the text after its piece, which begins with the others
-pub chain_leaves : {Cs : List Class} (Ds : List Class) (r : Text) (ws : Values Ds) {x y : Bor (List ℕ)}
-    → Chain Cs (Some x) (Some y) → Pieces Ds (shown y) r ws
-    → (us : Values Cs) × Pieces (Cs ++ Ds) (shown x) r (both_values Cs Ds us ws)
-chain_leaves {Cs} Ds r ws {x} {y} k = left Cs Ds r ws x y (steps k)
-
 -- a text in which a piece is missing is not of the form
 pub undivided : (Cs : List Class) → AllDeterministic Cs → {t : Text} → Fails Cs t → NoDivision Cs t
 undivided Cs d h = no_row_division Cs (no_row Cs d h)

@@ -1,11 +1,9 @@
 -- A text has one front of each class of a line of Cisco's.
-use Rattle.std.proofs.Common.{◌≡◌, ℕ, [], ◌∷◌, ◌++◌, Option, Some, refl, arith, append_assoc, ap, subst, sym, ◌∙◌}
-use Rattle.std.proofs.Common.{drop, false, get_or, inl, inr, true}
+use Rattle.std.proofs.Common.{◌≡◌, ℕ, [], ◌∷◌, ◌++◌, Option, Some, refl, arith, append_assoc, ap, subst, sym, ◌∙◌, drop}
+use Rattle.std.proofs.Common.{false, get_or, inl, inr, true, length}
 use Rattle.std.proofs.lemmas.Bool.{and_parts, not-true, or_parts}
 use Rattle.std.proofs.lemmas.Bool.Decides.{nat_tests}
-use Rattle.std.proofs.Common.{length}
-use Rattle.std.specs.Prelude.{◌&&◌}
-use Rattle.std.specs.Prelude.{nat_eq, not}
+use Rattle.std.specs.Prelude.{◌&&◌, nat_eq, not}
 use Rattle.syslog_dated_forms.specs.Address.{address, are_address_chars, has_pair, is_address_char, is_hex, may_begin}
 use Rattle.std.specs.Char.{is_ascii_digit}
 use Rattle.syslog_text.specs.Pieces.Class.{Text, Values, Front, NoFront, NoDivision, IsDeterministic, Row, exactly}
@@ -14,28 +12,25 @@ use Rattle.syslog_text.specs.Pieces.Rules.{such_that}
 use Rattle.syslog_text.specs.Text.{IsHost, is_blank, colon}
 use Rattle.syslog_text.proofs.TextLemmas.Words.{host_det}
 use Rattle.syslog_text.proofs.PieceLemmas.Class.{AllDeterministic, ◌also◌, exactly_det, optional_det, mapped_det}
-use Rattle.syslog_text.proofs.PieceLemmas.Class.{front_of, front_same}
-use Rattle.syslog_text.proofs.PieceLemmas.Class.{mapped_front, row_det}
-use Rattle.syslog_text.proofs.PieceLemmas.Class.{run_det, some_run_det, rest_det, ◌then◌, no_row_division}
-use Rattle.syslog_text.proofs.PieceLemmas.Class.{row_none_here, row_of}
+use Rattle.syslog_text.proofs.PieceLemmas.Class.{front_of, front_same, mapped_front, row_det, run_det, some_run_det}
+use Rattle.syslog_text.proofs.PieceLemmas.Class.{rest_det, ◌then◌, no_row_division, row_none_here, row_of}
 use Rattle.syslog_text.proofs.PieceLemmas.Rules.{exactly_apart, or_det, such_det, no_such_front, no_such_meaning}
 use Rattle.syslog_text.proofs.PieceLemmas.Rules.{such_front}
 use Rattle.syslog_pieces.proofs.TimestampLemmas.Rfc3339.{year_det}
 use Rattle.syslog_dated_forms.specs.Cisco.{begins_host, IsMnemonic, origin, mnemonic, counter_row, label_row, label}
-use Rattle.syslog_dated_forms.specs.Cisco.{begins_mnemonic, context_row, dell_row, unit, unit_row}
-use Rattle.syslog_dated_forms.specs.Cisco.{task_row, mark, start_row, labelled, start, front_year_row, front_year}
-use Rattle.syslog_dated_forms.specs.Cisco.{date_row, host_of, word_origin}
-use Rattle.syslog_dated_forms.specs.Cisco.{place_row, place, message_row, cisco_row, IsAsa, IsNxOs}
-use Rattle.syslog_dated_forms.specs.Cisco.{IsDated, asa_form, cisco_forms, cisco_sent, ios_form, nx_os_form}
-use Rattle.syslog_sent.specs.Forms.{IsOfNone, IsOnlyOf}
-use Rattle.syslog_sent.specs.Sent.{SentValue}
+use Rattle.syslog_dated_forms.specs.Cisco.{begins_mnemonic, context_row, dell_row, unit, unit_row, task_row, mark}
+use Rattle.syslog_dated_forms.specs.Cisco.{start_row, labelled, start, front_year_row, front_year, date_row, host_of}
+use Rattle.syslog_dated_forms.specs.Cisco.{word_origin, place_row, place, message_row, cisco_row, IsAsa, IsNxOs}
+use Rattle.syslog_dated_forms.specs.Cisco.{IsDated, cisco_forms, cisco_sent}
+use Rattle.syslog_sent.specs.Forms.{Finds, IsOfNone}
+use Rattle.syslog_sent.specs.Sent.{sent_value}
+use Rattle.syslog_sent.specs.declared.sent.Sent.{Sent}
 use Rattle.syslog_sent.specs.declared.dialect.Dialect.TheVariants.{CiscoAsa, CiscoIos, CiscoNxOs}
 use Rattle.syslog_sent.specs.Named.{◌otherwise◌, BeginsWith}
 use Rattle.syslog_sent.specs.Runs.{is_plain_char}
 use Rattle.syslog_sent.specs.Zone.{bare_word}
 use Rattle.syslog_sent.proofs.DateLemmas.{any_date_det}
-use Rattle.syslog_sent.proofs.DialectLemmas.{here, later}
-use Rattle.syslog_sent.proofs.FormLemmas.{says_once}
+use Rattle.syslog_sent.proofs.FormLemmas.{◌before◌, first, found, says_once}
 use Rattle.syslog_sent.proofs.NamedLemmas.{otherwise_det, second_front}
 use Rattle.syslog_sent.specs.Date.{any_date}
 use Rattle.syslog_sent.specs.declared.sent.SentDate.{SentDate}
@@ -49,13 +44,13 @@ pub address_is : (p q t : Text) → IsHost p q (Some t) → t ≡ p
 address_is p q t (some, each, inl (no_colon, ends, is)) = is.0
 address_is p q t (some, each, inr (s, follows, ends, same)) = some_is t p same
 
-colon_det : IsDeterministic (exactly colon)
+pub colon_det : IsDeterministic (exactly colon)
 colon_det = exactly_det colon
 
-gap_det : IsDeterministic (some_run is_blank)
+pub gap_det : IsDeterministic (some_run is_blank)
 gap_det = some_run_det is_blank
 
-blanks_det : IsDeterministic (run is_blank)
+pub blanks_det : IsDeterministic (run is_blank)
 blanks_det = run_det is_blank
 
 address_det : IsDeterministic address
@@ -217,27 +212,26 @@ module _ {t : Text} (none : NoFront (Row cisco_row) t) where
     ),
   )
 
-module _ {t : Text} {vs : Values cisco_row} (f : Front (Row cisco_row) t [] vs) (sent : SentValue)
-    (e : sent ≡ cisco_sent vs) where
+module _ {t : Text} {vs : Values cisco_row} (f : Front (Row cisco_row) t [] vs) (sent : Sent)
+    (e : sent_value sent ≡ cisco_sent vs) where
   not_such : (P : Values cisco_row → Type 0) → (P vs → ⊥) → NoDivision (such_that (Row cisco_row) P ∷ []) t
   not_such P n = no_row_division (such_that (Row cisco_row) P ∷ []) (row_none_here (such_that (Row cisco_row) P) []
       (no_such_meaning (Row cisco_row) P (row_det cisco_row cisco_row_det) f n))
 
-  pub in_asa : IsAsa vs → IsOnlyOf cisco_forms t CiscoAsa sent
-  in_asa is = here asa_form (nx_os_form ∷ ios_form ∷ []) t sent
-      (says_once CiscoAsa (such_that (Row cisco_row) IsAsa ∷ []) (λ v. cisco_sent v.0) asa_row_det
-      (row_of (such_that (Row cisco_row) IsAsa ∷ []) (such_front (Row cisco_row) IsAsa f is then refl)) e)
+  such_front_row : (P : Values cisco_row → Type 0) → P vs → Front (Row (such_that (Row cisco_row) P ∷ [])) t [] (vs, tt)
+  such_front_row P is = row_of (such_that (Row cisco_row) P ∷ []) (such_front (Row cisco_row) P f is then refl)
 
-  pub in_nx_os : (IsAsa vs → ⊥) → IsNxOs vs → IsOnlyOf cisco_forms t CiscoNxOs sent
-  in_nx_os no_asa is = later asa_form (nx_os_form ∷ ios_form ∷ []) t CiscoNxOs sent (not_such IsAsa no_asa)
-      (here nx_os_form (ios_form ∷ []) t sent
-      (says_once CiscoNxOs (such_that (Row cisco_row) IsNxOs ∷ []) (λ v. cisco_sent v.0) nx_os_row_det
-      (row_of (such_that (Row cisco_row) IsNxOs ∷ []) (such_front (Row cisco_row) IsNxOs f is then refl)) e))
+  pub in_asa : IsAsa vs → Finds cisco_forms t (Some (CiscoAsa, sent))
+  in_asa is = found cisco_forms (first sent (says_once CiscoAsa (such_that (Row cisco_row) IsAsa ∷ [])
+      (λ v. cisco_sent v.0) asa_row_det (such_front_row IsAsa is) e))
 
-  pub in_ios : (IsAsa vs → ⊥) → (IsNxOs vs → ⊥) → IsOnlyOf cisco_forms t CiscoIos sent
-  in_ios no_asa no_nx_os = later asa_form (nx_os_form ∷ ios_form ∷ []) t CiscoIos sent (not_such IsAsa no_asa)
-      (later nx_os_form (ios_form ∷ []) t CiscoIos sent (not_such IsNxOs no_nx_os)
-      (here ios_form [] t sent (says_once CiscoIos cisco_row cisco_sent cisco_row_det f e)))
+  pub in_nx_os : (IsAsa vs → ⊥) → IsNxOs vs → Finds cisco_forms t (Some (CiscoNxOs, sent))
+  in_nx_os no_asa is = found cisco_forms (not_such IsAsa no_asa before first sent (says_once CiscoNxOs
+      (such_that (Row cisco_row) IsNxOs ∷ []) (λ v. cisco_sent v.0) nx_os_row_det (such_front_row IsNxOs is) e))
+
+  pub in_ios : (IsAsa vs → ⊥) → (IsNxOs vs → ⊥) → Finds cisco_forms t (Some (CiscoIos, sent))
+  in_ios no_asa no_nx_os = found cisco_forms (not_such IsAsa no_asa before not_such IsNxOs no_nx_os before
+      first sent (says_once CiscoIos cisco_row cisco_sent cisco_row_det f e))
 
 -- ---- a line whose date was read already
 

@@ -1,24 +1,23 @@
 -- What is found of lines that a collector files: by whether such a line is there, and of which system it is.
-use Rattle.std.proofs.Common.{◌≡◌, [], ◌∷◌}
+use Rattle.std.proofs.Common.{◌≡◌, [], ◌∷◌, Some}
 use Rattle.syslog_text.specs.Pieces.Class.{Text, Class, Values, Front, NoFront, Row, NoDivision}
 use Rattle.syslog_text.specs.Pieces.Rules.{such_that}
 use Rattle.syslog_text.specs.Text.{is_blank}
-use Rattle.syslog_text.proofs.PieceLemmas.Class.{AllDeterministic, ◌also◌, all_joined}
-use Rattle.syslog_text.proofs.PieceLemmas.Class.{no_row_division}
-use Rattle.syslog_text.proofs.PieceLemmas.Class.{row_cons, row_det, row_nil, row_none_here, rows_join, rows_none_here}
+use Rattle.syslog_text.proofs.PieceLemmas.Class.{AllDeterministic, ◌also◌, all_joined, no_row_division, row_cons}
+use Rattle.syslog_text.proofs.PieceLemmas.Class.{row_det, row_nil, row_none_here, rows_join, rows_none_here}
 use Rattle.syslog_text.proofs.PieceLemmas.Class.{rows_none_later, run_det, some_run_det}
 use Rattle.syslog_text.proofs.PieceLemmas.Rules.{no_such_front, no_such_meaning, such_det, such_front}
 use Rattle.syslog_dated_forms.specs.Cisco.{IsAsa, IsNxOs, cisco_row}
-use Rattle.syslog_sent.specs.Forms.{IsOfNone, IsOnlyOf}
+use Rattle.syslog_sent.specs.Forms.{Finds, IsOfNone}
 use Rattle.syslog_dated_forms.specs.Filed.{IsAny, filed_form, filed_forms, filed_front, filed_row, filed_sent}
-use Rattle.syslog_sent.specs.Sent.{IsOnlySent, SentValue}
+use Rattle.syslog_sent.specs.Sent.{IsOnlySent, sent_value}
+use Rattle.syslog_sent.specs.declared.sent.Sent.{Sent}
 use Rattle.syslog_sent.specs.declared.dialect.Dialect.{Dialect}
 use Rattle.syslog_sent.specs.declared.dialect.Dialect.TheVariants.{CiscoAsa, CiscoIos, CiscoNxOs}
 use Rattle.syslog_sent.specs.declared.sent.SentDate.{SentDate}
 use Rattle.syslog_dated_forms.proofs.CiscoLemmas.{cisco_row_det, origin_det}
 use Rattle.syslog_sent.proofs.DateLemmas.{any_date_det}
-use Rattle.syslog_sent.proofs.DialectLemmas.{here, later}
-use Rattle.syslog_sent.proofs.FormLemmas.{says_once}
+use Rattle.syslog_sent.proofs.FormLemmas.{◌before◌, first, found, says_once}
 
 pub filed_front_det : AllDeterministic filed_front
 filed_front_det = run_det is_blank also any_date_det also some_run_det is_blank also origin_det also some_run_det
@@ -50,30 +49,24 @@ module _ {t line device : Text} {d : SentDate} (f : Front (Row filed_front) t li
     ),
   )
 
-  module _ {vs : Values cisco_row} (g : Front (Row cisco_row) line [] vs) (sent : SentValue)
-      (e : sent ≡ filed_sent device vs) where
+  module _ {vs : Values cisco_row} (g : Front (Row cisco_row) line [] vs) (sent : Sent)
+      (e : sent_value sent ≡ filed_sent device vs) where
     not_one : (P : Values cisco_row → Type 0) → (P vs → ⊥) → NoDivision (filed_row (one P)) t
     not_one P n = no_line P (no_such_meaning (Row cisco_row) P (row_det cisco_row cisco_row_det) g n)
 
-    says_one : (dialect : Dialect) (P : Values cisco_row → Type 0) → P vs → IsOnlySent (filed_form dialect P) t sent
+    says_one : (dialect : Dialect) (P : Values cisco_row → Type 0) → P vs
+        → IsOnlySent (filed_form dialect P) t (sent_value sent)
     says_one dialect P is = says_once dialect (filed_row (one P)) (λ vs. filed_sent vs.1.1.1.0 vs.1.1.1.1.1.0)
         (all_joined filed_front (one P ∷ []) filed_front_det
         (such_det (Row cisco_row) P (row_det cisco_row cisco_row_det) also tt))
         (rows_join filed_front (one P ∷ []) f (row_cons (one P) [] (such_front (Row cisco_row) P g is) (row_nil []))) e
 
-    pub of_asa : IsAsa vs → IsOnlyOf filed_forms t CiscoAsa sent
-    of_asa is = here (filed_form CiscoAsa IsAsa) (filed_form CiscoNxOs IsNxOs ∷ filed_form CiscoIos IsAny ∷ []) t sent
-        (says_one CiscoAsa IsAsa is)
+    pub of_asa : IsAsa vs → Finds filed_forms t (Some (CiscoAsa, sent))
+    of_asa is = found filed_forms (first sent (says_one CiscoAsa IsAsa is))
 
-    pub of_nx_os : (IsAsa vs → ⊥) → IsNxOs vs → IsOnlyOf filed_forms t CiscoNxOs sent
-    of_nx_os no_asa is = later (filed_form CiscoAsa IsAsa)
-        (filed_form CiscoNxOs IsNxOs ∷ filed_form CiscoIos IsAny ∷ []) t
-        CiscoNxOs sent (not_one IsAsa no_asa)
-        (here (filed_form CiscoNxOs IsNxOs) (filed_form CiscoIos IsAny ∷ []) t sent (says_one CiscoNxOs IsNxOs is))
+    pub of_nx_os : (IsAsa vs → ⊥) → IsNxOs vs → Finds filed_forms t (Some (CiscoNxOs, sent))
+    of_nx_os no_asa is = found filed_forms (not_one IsAsa no_asa before first sent (says_one CiscoNxOs IsNxOs is))
 
-    pub of_ios : (IsAsa vs → ⊥) → (IsNxOs vs → ⊥) → IsOnlyOf filed_forms t CiscoIos sent
-    of_ios no_asa no_nx_os = later (filed_form CiscoAsa IsAsa)
-        (filed_form CiscoNxOs IsNxOs ∷ filed_form CiscoIos IsAny ∷ []) t
-        CiscoIos sent (not_one IsAsa no_asa)
-        (later (filed_form CiscoNxOs IsNxOs) (filed_form CiscoIos IsAny ∷ []) t CiscoIos sent (not_one IsNxOs no_nx_os)
-        (here (filed_form CiscoIos IsAny) [] t sent (says_one CiscoIos IsAny tt)))
+    pub of_ios : (IsAsa vs → ⊥) → (IsNxOs vs → ⊥) → Finds filed_forms t (Some (CiscoIos, sent))
+    of_ios no_asa no_nx_os = found filed_forms (not_one IsAsa no_asa before not_one IsNxOs no_nx_os before
+        first sent (says_one CiscoIos IsAny tt))

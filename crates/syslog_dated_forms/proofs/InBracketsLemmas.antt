@@ -8,8 +8,7 @@ use Rattle.syslog_text.specs.Pieces.Class.{Values}
 use Rattle.syslog_text.specs.Text.{is_blank}
 use Rattle.syslog_text.proofs.PieceLemmas.Class.{AllDeterministic, ◌also◌, division_front, exactly_det, front_division}
 use Rattle.syslog_text.proofs.PieceLemmas.Class.{front_of, front_same, optional_det, rest_det, row_det, run_det}
-use Rattle.syslog_text.proofs.PieceLemmas.Class.{run_same}
-use Rattle.syslog_text.proofs.PieceLemmas.Class.{some_run_det, unique_division}
+use Rattle.syslog_text.proofs.PieceLemmas.Class.{run_same, some_run_det, unique_division}
 use Rattle.syslog_text.proofs.PieceLemmas.Rules.{such_det}
 use Rattle.syslog_sent.proofs.DateLemmas.{any_date_det}
 use Rattle.syslog_sent.proofs.ZoneLemmas.{bare_word_det}

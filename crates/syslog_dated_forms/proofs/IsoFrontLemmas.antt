@@ -1,59 +1,40 @@
 -- A text that begins with a date that is nearly one of RFC 3339: no form with another beginning divides it.
-use Rattle.std.proofs.Common.{◌≡◌, ◌⊎◌, inl, inr, ℕ, ◌<◌, true, false, [], ◌∷◌, ◌++◌, length, Option, Some}
-use Rattle.std.proofs.Common.{Bool, refl, sym, ap, subst, ◌∙◌, arith, drop}
-use Rattle.std.specs.Prelude.{◌||◌}
+use Rattle.std.proofs.Common.{◌≡◌, ◌⊎◌, inl, inr, ℕ, ◌<◌, true, false, [], ◌∷◌, ◌++◌, length, Option, Some, Bool, refl}
+use Rattle.std.proofs.Common.{sym, ap, subst, ◌∙◌, arith, drop}
+use Rattle.std.specs.Prelude.{◌||◌, nat_eq, not}
 use Rattle.std.proofs.lemmas.Bool.Decides.{nat_tests}
 use Rattle.std.specs.Char.{is_ascii_digit}
 use Rattle.syslog_text.specs.Pieces.Class.{Text, Values, Each, Ends, Front, NoDivision, NoFront, Row, after, exactly}
 use Rattle.syslog_text.specs.Pieces.Class.{run, some_run}
-use Rattle.syslog_text.specs.Text.{is_blank, is_tag_char, colon}
+use Rattle.syslog_text.specs.Text.{is_blank, is_tag_char}
 use Rattle.syslog_pieces.specs.Timestamp.Rfc3339.{pair, year}
 use Rattle.syslog_text.proofs.PieceLemmas.Class.{◌past◌, ◌then◌, each_after, each_append, each_map, front_of}
-use Rattle.syslog_text.proofs.PieceLemmas.Class.{front_same}
-use Rattle.syslog_text.proofs.PieceLemmas.Class.{mapped_front, no_mapped}
-use Rattle.syslog_text.proofs.PieceLemmas.Class.{no_row, no_row_division, optional_none, optional_some, row_of}
-use Rattle.syslog_text.proofs.PieceLemmas.Class.{row_pieces}
-use Rattle.syslog_text.proofs.PieceLemmas.Class.{◌also◌, row_cons, row_nil, rows_none_later, run_det, some_run_det}
+use Rattle.syslog_text.proofs.PieceLemmas.Class.{front_same, mapped_front, no_mapped, no_row, no_row_division}
+use Rattle.syslog_text.proofs.PieceLemmas.Class.{optional_none, optional_some, row_of, row_pieces, some_run_det}
 use Rattle.syslog_text.proofs.PieceLemmas.Lists.{Begins, begins}
-use Rattle.syslog_text.proofs.PieceLemmas.Rules.{no_such_front}
 use Rattle.syslog_text.proofs.TextLemmas.Runs.{no_run}
 use Rattle.syslog_pieces.proofs.TimestampLemmas.MonthDate.{IsBlank, blanks_begin}
-use Rattle.syslog_dated_forms.specs.Cisco.{IsMnemonic, begins_host, counter_row, label, label_row, message_row}
-use Rattle.syslog_dated_forms.specs.Cisco.{mnemonic}
-use Rattle.syslog_dated_forms.specs.Undated.{IsName, name_label, run_clock_row, run_word_row, undated_row, uptime}
+use Rattle.syslog_dated_forms.specs.Cisco.{IsMnemonic, begins_host, counter_row, label, label_row, mnemonic, dated_in}
+use Rattle.syslog_dated_forms.specs.Cisco.{front_year_row, origin}
+use Rattle.syslog_dated_forms.specs.Undated.{run_clock_row, run_word_row, uptime}
 use Rattle.syslog_sent.specs.Date.{date_part, fraction_row, iso_date, iso_row, middle, point, weekday}
-use Rattle.syslog_dated_forms.specs.Dated.{ctime_message_row, ctime_row, journal_row, year_date, year_date_row}
-use Rattle.syslog_dated_forms.specs.Dated.{year_row}
-use Rattle.syslog_dated_forms.specs.Cisco.{dated_in, front_year_row}
-use Rattle.syslog_dated_forms.specs.DatedForms.{journal_forms}
-use Rattle.syslog_sent.specs.Forms.{IsOfNone}
+use Rattle.syslog_dated_forms.specs.Dated.{year_date, year_date_row}
 use Rattle.syslog_dated_forms.specs.IosXr.{card_row, host, host_in, host_row, node, xr_row}
 use Rattle.syslog_sent.specs.Named.{BeginsWith}
-use Rattle.syslog_dated_forms.specs.NetScaler.{month_first_row, netscaler_row, slashed_date, slashed_day, slashed_of}
-use Rattle.syslog_dated_forms.specs.NetScaler.{slashed_row, unnamed_row, year_first_row}
-use Rattle.syslog_dated_forms.specs.OpenWrt.{logread_row}
-use Rattle.syslog_dated_forms.specs.SophosUtm.{colon_of, colon_row, utm_row}
-use Rattle.syslog_dated_forms.specs.UnixSeconds.{meraki_row, short_row, typed_row, unix_date, unix_of, unix_row}
+use Rattle.syslog_dated_forms.specs.NetScaler.{month_first_row, slashed_date, slashed_day, slashed_of, slashed_row}
+use Rattle.syslog_dated_forms.specs.NetScaler.{year_first_row}
+use Rattle.syslog_dated_forms.specs.SophosUtm.{colon_of, colon_row}
+use Rattle.syslog_dated_forms.specs.UnixSeconds.{meraki_row, unix_date, unix_of, unix_row}
 use Rattle.syslog_sent.specs.Runs.{is_word_char}
 use Rattle.syslog_sent.specs.Zone.{bare_word, is_capital}
 use Rattle.syslog_sent.specs.declared.sent.SentDate.{SentDate}
-use Rattle.syslog_dated_forms.proofs.CiscoLemmas.{counter_row_det, message_row_det}
-use Rattle.syslog_dated_forms.proofs.DatedLemmas.{ctime_line_det, ctime_message_det, journal_line_det, year_date_det}
-use Rattle.syslog_dated_forms.proofs.DatedLemmas.{year_line_det}
-use Rattle.syslog_dated_forms.specs.InBrackets.{in_brackets_row}
-use Rattle.syslog_dated_forms.proofs.InBracketsLemmas.{in_brackets_det}
+use Rattle.syslog_dated_forms.proofs.CiscoLemmas.{counter_row_det, at, no_address, origin_det, word_is_origin}
+use Rattle.syslog_dated_forms.proofs.RowLemmas.{year_date_det, card_row_det, host_row_det, xr_row_det}
+use Rattle.syslog_dated_forms.proofs.RowLemmas.{run_clock_row_det}
 use Rattle.syslog_dated_forms.proofs.MonthFrontLemmas.{tag_digit}
-use Rattle.syslog_dated_forms.proofs.OtherDateLemmas.{card_row_det, host_row_det, logread_row_det, netscaler_row_det}
-use Rattle.syslog_dated_forms.proofs.OtherDateLemmas.{unnamed_row_det, utm_row_det, xr_row_det}
-use Rattle.syslog_dated_forms.proofs.UndatedLemmas.{run_clock_row_det, undated_row_det}
-use Rattle.syslog_dated_forms.specs.Ucm.{ucm_row}
-use Rattle.syslog_dated_forms.proofs.UcmLemmas.{ucm_row_det}
-use Rattle.syslog_dated_forms.proofs.UnixLemmas.{short_row_det, typed_row_det}
+use Rattle.syslog_dated_forms.proofs.OtherFormLemmas.{BeginsOtherwise}
 use Rattle.syslog_sent.proofs.NamedLemmas.{no_otherwise}
-use Rattle.std.specs.Prelude.{nat_eq, not}
 use Rattle.syslog_dated_forms.specs.Address.{address}
-use Rattle.syslog_dated_forms.specs.Cisco.{origin}
-use Rattle.syslog_dated_forms.proofs.CiscoLemmas.{at, no_address, origin_det, word_is_origin}
 use Rattle.syslog_sent.proofs.ZoneLemmas.{bare_word_det, day_capital}
 
 -- ---- the word that such a date begins with
@@ -520,6 +501,23 @@ module _ {t : Text} (m : HasIso t) where
       let visible = digit_no_blank m.b m.digits.1.0 in
       let bad : false ≡ true = sym visible ∙ blank in cc
 
+  pub begins_iso : BeginsOtherwise t
+  begins_iso = record {
+    no_gap = no_blank;
+    no_colon = no_char 58 refl;
+    no_bracket = no_char 91 refl;
+    no_counter = iso_no_counter;
+    no_label = iso_no_label;
+    no_uptime = iso_no_uptime;
+    no_mnemonic = iso_no_mnemonic;
+    no_weekday = iso_no_weekday;
+    no_slashed_date = no_slashed_date;
+    no_colon_date = no_mapped (Row colon_row) SentDate colon_of no_colon_date;
+    no_year_date = iso_no_year;
+    no_unix_date = no_unix_date;
+    no_meraki = no_meraki;
+  }
+
 -- ---- the forms with another beginning
 
 module _ {text t : Text} (gap : Front (run is_blank) text t tt) (m : HasIso t) where
@@ -546,29 +544,3 @@ module _ {text t : Text} (gap : Front (run is_blank) text t tt) (m : HasIso t) w
   pub iso_no_xr : NoDivision xr_row text
   iso_no_xr = no_row_division xr_row (no_row xr_row xr_row_det (inl (no_mapped (Row card_row) (Option Text) host_in
       no_card)))
-
-  pub iso_no_other : IsOfNone journal_forms text
-  iso_no_other =
-      no_row_division journal_row (no_row journal_row journal_line_det (gap past inl (iso_no_weekday m))) also
-      no_row_division ucm_row (no_row ucm_row ucm_row_det (gap past inl (iso_no_counter m))) also
-      no_row_division unnamed_row (no_row unnamed_row unnamed_row_det (gap past inl (no_slashed_date m))) also
-      no_row_division netscaler_row (no_row netscaler_row netscaler_row_det (gap past inl (no_slashed_date m))) also
-      no_row_division utm_row (no_row utm_row utm_row_det (gap past inl
-      (no_mapped (Row colon_row) SentDate colon_of (no_colon_date m)))) also
-      no_row_division logread_row (no_row logread_row logread_row_det (gap past inl (iso_no_weekday m))) also
-      no_row_division ctime_message_row (no_row ctime_message_row ctime_message_det
-      (gap past inl (iso_no_weekday m))) also
-      no_row_division ctime_row (no_row ctime_row ctime_line_det (gap past inl (iso_no_weekday m))) also
-      no_row_division year_row (no_row year_row year_line_det (gap past inl (iso_no_year m))) also
-      no_row_division meraki_row (rows_none_later (run is_blank ∷ []) (drop 1 meraki_row)
-      (run_det is_blank also tt) (row_cons (run is_blank) [] gap (row_nil _)) (no_meraki m)) also
-      no_row_division short_row (no_row short_row short_row_det (gap past inl (no_unix_date m))) also
-      no_row_division typed_row (no_row typed_row typed_row_det (gap past inl (no_unix_date m))) also
-      no_row_division undated_row (no_row undated_row undated_row_det (gap
-      past optional_none (exactly colon) (no_char m 58 refl) past no_blank m
-      past optional_none (Row counter_row) (iso_no_counter m) past optional_none (Row counter_row) (iso_no_counter m)
-      past optional_none name_label (no_such_front label IsName (iso_no_label m))
-      past optional_none uptime (iso_no_uptime m) past inl (no_row message_row message_row_det
-      (inl (iso_no_mnemonic m))))) also
-      no_row_division in_brackets_row (no_row in_brackets_row in_brackets_det
-      (gap past inl (no_char m 91 refl))) also tt

@@ -1,7 +1,7 @@
 -- A text without `%` and `#` is no line of Cisco's with a date.
 use Rattle.memchr.specs.Find.{IsFirstByte, is_byte2}
 use Rattle.std.proofs.Common.{◌≡◌, ◌⊎◌, inl, inr, ℕ, ◌+◌, ◌<◌, true, false, List, [], ◌∷◌, None, length, get_or}
-use Rattle.std.proofs.Common.{refl, sym, subst, arith, length-append, nat_eq}
+use Rattle.std.proofs.Common.{◌++◌, refl, sym, subst, arith, length-append, nat_eq}
 use Rattle.std.proofs.lemmas.Bool.{cases_Bool}
 use Rattle.std.proofs.lemmas.Bool.Decides.{nat_tests}
 use Rattle.std.proofs.lemmas.List.{get_or-append-add}
@@ -12,8 +12,9 @@ use Rattle.syslog_text.specs.Pieces.Class.{Text, Class, Values, Each, Front, NoD
 use Rattle.syslog_text.specs.Pieces.Rules.{such_that}
 use Rattle.syslog_text.proofs.PieceLemmas.Class.{division_front, each_after, each_front, front_of, row_pieces}
 use Rattle.syslog_dated_forms.specs.Cisco.{IsAsa, IsMnemonic, IsNxOs, cisco_forms, cisco_row, is_unmarked, message_row}
+use Rattle.syslog_sent.proofs.DialectLemmas.{none_joined}
 use Rattle.syslog_sent.specs.Forms.{IsOfNone}
-use Rattle.syslog_dated_forms.specs.DatedForms.{timed_forms}
+use Rattle.syslog_dated_forms.specs.DatedForms.{marked_forms, timed_forms}
 use Rattle.syslog_dated_forms.specs.Filed.{IsAny, filed_forms, filed_row}
 use Rattle.syslog_dated_forms.specs.Undated.{timed_row}
 use Rattle.syslog_dated_forms.proofs.CiscoLemmas.{none_cisco}
@@ -79,7 +80,7 @@ no_line {t} each p q vs e h =
     let (u, s, (w, d, (x, l, (y, m, more)))) = row_pieces cisco_row (front_of p e h) in
     no_message (left l (left d (left s each))) m.piece y _ m.whole m.is
 
-pub unmarked_cisco : {t : Text} → Each is_unmarked t → IsOfNone cisco_forms t
+unmarked_cisco : {t : Text} → Each is_unmarked t → IsOfNone cisco_forms t
 unmarked_cisco each = none_cisco (no_line each)
 
 not_filed : (P : Values cisco_row → Type 0) {t : Text} → Each is_unmarked t
@@ -89,13 +90,17 @@ not_filed P each vs d =
     (division_front (filed_row (such_that (Row cisco_row) P)) d) in
     no_line (left j (left i (left h (left g (left f each))))) m.piece l _ m.whole m.is.0
 
-pub unmarked_filed : {t : Text} → Each is_unmarked t → IsOfNone filed_forms t
+unmarked_filed : {t : Text} → Each is_unmarked t → IsOfNone filed_forms t
 unmarked_filed each = (not_filed IsAsa each, (not_filed IsNxOs each, (not_filed IsAny each, tt)))
 
-pub unmarked_timed : {t : Text} → Each is_unmarked t → IsOfNone timed_forms t
+unmarked_timed : {t : Text} → Each is_unmarked t → IsOfNone timed_forms t
 unmarked_timed each = (
   λ vs d. (let (a, f, (b, g, (c, h, (e, i, (k, j, (l, m, (n, o, (r, s, (u, w, more))))))))) = row_pieces timed_row
       (division_front timed_row d) in
       no_message (left s (left o (left m (left j (left i (left h (left g (left f each)))))))) w.piece u _ w.whole w.is),
   tt,
 )
+
+pub unmarked_marked : {t : Text} → Each is_unmarked t → IsOfNone marked_forms t
+unmarked_marked {t} each = none_joined cisco_forms (filed_forms ++ timed_forms) t (unmarked_cisco each)
+    (none_joined filed_forms timed_forms t (unmarked_filed each) (unmarked_timed each))

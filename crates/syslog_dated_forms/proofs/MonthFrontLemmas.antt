@@ -1,75 +1,54 @@
 -- A text that begins with a month date: what comes before Cisco's dates is not there, and no form with another
 -- beginning divides it.
 use Rattle.std.proofs.Common.{◌≡◌, inl, inr, ℕ, ◌<◌, ◌≤◌, Bool, true, false, List, [], ◌∷◌, ◌++◌, length, map, Option}
-use Rattle.std.proofs.Common.{Some, None, refl, sym, ap, subst, ◌∙◌, arith}
+use Rattle.std.proofs.Common.{Some, None, drop, refl, sym, ap, subst, ◌∙◌, arith}
 use Rattle.std.proofs.lemmas.Bool.{agree_below_at, and_parts}
 use Rattle.std.proofs.lemmas.Bool.Decides.{nat_tests}
 use Rattle.std.proofs.lemmas.Str.{chars-IsAscii}
 use Rattle.std.proofs.lemmas.Str.Ascii.{lowercase_is}
 use Rattle.std.specs.Char.{is_ascii_digit, to_ascii_lowercase}
 use Rattle.std.specs.Cmp.Lexicographic.{same_text}
-use Rattle.std.specs.Prelude.{◌&&◌, ◌||◌, IsTrue, is_none, nat_le, nat_lt, not}
+use Rattle.std.specs.Prelude.{◌&&◌, ◌||◌, IsTrue, is_none, nat_le, nat_lt, not, nat_eq}
 use Rattle.std.specs.Str.{chars}
 use Rattle.syslog_pieces.specs.Bodies.MonthReading.{small_month}
 use Rattle.syslog_text.specs.Pieces.Class.{Text, Class, Values, Each, Ends, Front, NoDivision, NoFront, Row, exactly}
-use Rattle.syslog_text.specs.Pieces.Class.{optional}
-use Rattle.syslog_text.specs.Pieces.Class.{run, some_run}
+use Rattle.syslog_text.specs.Pieces.Class.{optional, run, some_run}
 use Rattle.syslog_text.specs.Pieces.View.{text_eq}
 use Rattle.syslog_text.specs.Text.{is_blank, is_tag_char, colon, number}
 use Rattle.syslog_pieces.specs.Timestamp.MonthDate.{clock_row, month, month_date, short_number}
 use Rattle.syslog_pieces.specs.Timestamp.Rfc3339.{pair, year}
 use Rattle.syslog_pieces.specs.declared.timestamp.month_date.MonthDate.{MonthDate}
-use Rattle.syslog_text.proofs.PieceLemmas.Class.{◌also◌}
 use Rattle.syslog_text.proofs.PieceLemmas.Class.{◌past◌, ◌then◌, front_of, front_same, mapped_front, no_mapped}
-use Rattle.syslog_text.proofs.PieceLemmas.Class.{each_map, heads, no_row, no_row_division, optional_some}
-use Rattle.syslog_dated_forms.specs.InBrackets.{in_brackets_row}
-use Rattle.syslog_dated_forms.proofs.InBracketsLemmas.{in_brackets_det}
-use Rattle.syslog_text.proofs.PieceLemmas.Class.{optional_none, row_of, row_pieces}
+use Rattle.syslog_text.proofs.PieceLemmas.Class.{each_map, heads, no_row, no_row_division, optional_some, optional_none}
+use Rattle.syslog_text.proofs.PieceLemmas.Class.{row_of, row_pieces}
 use Rattle.syslog_text.proofs.PieceLemmas.Lists.{Begins, begins, begins_apart}
-use Rattle.syslog_sent.proofs.NamedLemmas.{no_otherwise}
+use Rattle.syslog_sent.proofs.NamedLemmas.{no_otherwise, ascii_told}
 use Rattle.syslog_sent.specs.Named.{◌otherwise◌}
-use Rattle.std.proofs.lemmas.Bool.{and_parts}
-use Rattle.std.specs.Prelude.{nat_eq, not}
 use Rattle.syslog_dated_forms.specs.Address.{address, is_address_char}
-use Rattle.syslog_dated_forms.specs.Cisco.{origin}
-use Rattle.syslog_dated_forms.proofs.CiscoLemmas.{no_address, origin_det, word_is_origin}
+use Rattle.syslog_dated_forms.specs.Cisco.{origin, IsMnemonic, begins_host, counter_row, front_year, front_year_row}
+use Rattle.syslog_dated_forms.specs.Cisco.{label, label_row, labelled, mark, mnemonic, start, start_row, task_row}
+use Rattle.syslog_dated_forms.specs.Cisco.{dated_in}
+use Rattle.syslog_dated_forms.proofs.CiscoLemmas.{no_address, origin_det, word_is_origin, counter_row_det}
+use Rattle.syslog_dated_forms.proofs.CiscoLemmas.{front_year_row_det, task_row_det}
 use Rattle.syslog_text.proofs.PieceLemmas.Rules.{no_such_front}
 use Rattle.syslog_text.proofs.TextLemmas.Runs.{no_run}
 use Rattle.syslog_pieces.proofs.TimestampLemmas.MonthDate.{IsBlank, IsLetter, blank_low, blanks_begin, month_letters}
-use Rattle.syslog_dated_forms.specs.Cisco.{IsMnemonic, begins_host, counter_row, front_year, front_year_row, label}
-use Rattle.syslog_dated_forms.specs.Cisco.{label_row}
-use Rattle.syslog_dated_forms.specs.Cisco.{labelled, mark, mnemonic}
-use Rattle.syslog_dated_forms.specs.Cisco.{message_row, start, start_row, task_row}
-use Rattle.syslog_dated_forms.specs.Undated.{IsName, IsUptime, name_label, run_clock_row, run_word_row, undated_row}
-use Rattle.syslog_dated_forms.specs.Undated.{uptime}
-use Rattle.syslog_sent.specs.Date.{bsd_row}
-use Rattle.syslog_sent.specs.Date.{IsDay, day_words, weekday}
-use Rattle.syslog_dated_forms.specs.Dated.{ctime_message_row, ctime_row, journal_row, year_date, year_date_row}
-use Rattle.syslog_dated_forms.specs.Dated.{year_row}
-use Rattle.syslog_dated_forms.specs.Cisco.{dated_in}
-use Rattle.syslog_dated_forms.specs.DatedForms.{journal_forms}
-use Rattle.syslog_sent.specs.Forms.{IsOfNone}
+use Rattle.syslog_dated_forms.specs.Undated.{IsUptime, run_clock_row, run_word_row, uptime}
+use Rattle.syslog_sent.specs.Date.{bsd_row, IsDay, day_words, weekday}
+use Rattle.syslog_dated_forms.specs.Dated.{year_date, year_date_row}
 use Rattle.syslog_dated_forms.specs.IosXr.{IsNode, card_row, host, host_in, host_row, node, xr_row}
-use Rattle.syslog_dated_forms.specs.NetScaler.{day_of, month_first_row, netscaler_row, slashed_date, slashed_of}
-use Rattle.syslog_dated_forms.specs.NetScaler.{slashed_row, unnamed_row, year_first_row}
-use Rattle.syslog_dated_forms.specs.OpenWrt.{logread_row}
+use Rattle.syslog_dated_forms.specs.NetScaler.{day_of, month_first_row, slashed_date, slashed_of, slashed_row}
+use Rattle.syslog_dated_forms.specs.NetScaler.{year_first_row}
 use Rattle.syslog_sent.specs.Runs.{are_ascii}
-use Rattle.syslog_dated_forms.specs.SophosUtm.{colon_of, colon_row, utm_row}
-use Rattle.syslog_dated_forms.specs.UnixSeconds.{IsLate, meraki_row, short_row, typed_row, unix_date, unix_of, unix_row}
+use Rattle.syslog_dated_forms.specs.SophosUtm.{colon_of, colon_row}
+use Rattle.syslog_dated_forms.specs.UnixSeconds.{IsLate, meraki_row, unix_date, unix_of, unix_row}
 use Rattle.syslog_sent.specs.Zone.{bare_word, is_among}
 use Rattle.syslog_sent.specs.declared.sent.SentDate.{SentDate}
-use Rattle.syslog_dated_forms.proofs.CiscoLemmas.{counter_row_det, front_year_row_det, message_row_det, task_row_det}
-use Rattle.syslog_dated_forms.proofs.UndatedLemmas.{run_clock_row_det, run_word_row_det, undated_row_det}
-use Rattle.syslog_dated_forms.proofs.DatedLemmas.{ctime_line_det, ctime_message_det, journal_line_det, year_date_det}
-use Rattle.syslog_dated_forms.proofs.DatedLemmas.{year_line_det}
+use Rattle.syslog_dated_forms.proofs.RowLemmas.{run_clock_row_det, run_word_row_det, year_date_det, card_row_det}
+use Rattle.syslog_dated_forms.proofs.RowLemmas.{colon_row_det, month_first_row_det, slashed_row_det, xr_row_det}
+use Rattle.syslog_dated_forms.proofs.RowLemmas.{year_first_row_det, meraki_row_det, unix_row_det}
 use Rattle.syslog_sent.proofs.LedLemmas.{year_begins}
-use Rattle.syslog_sent.proofs.NamedLemmas.{ascii_told}
-use Rattle.syslog_dated_forms.proofs.OtherDateLemmas.{card_row_det, colon_row_det, logread_row_det, netscaler_row_det}
-use Rattle.syslog_dated_forms.proofs.OtherDateLemmas.{month_first_row_det, slashed_row_det, unnamed_row_det}
-use Rattle.syslog_dated_forms.proofs.OtherDateLemmas.{utm_row_det, xr_row_det, year_first_row_det}
-use Rattle.syslog_dated_forms.specs.Ucm.{ucm_row}
-use Rattle.syslog_dated_forms.proofs.UcmLemmas.{ucm_row_det}
-use Rattle.syslog_dated_forms.proofs.UnixLemmas.{meraki_row_det, short_row_det, typed_row_det, unix_row_det}
+use Rattle.syslog_dated_forms.proofs.OtherFormLemmas.{BeginsOtherwise}
 use Rattle.syslog_sent.proofs.ZoneLemmas.{bare_word_det, either_told}
 
 -- ---- the word that a month is
@@ -366,7 +345,7 @@ month_no_mnemonic p w h = let s = small_letters _ _ _ _ w.names in
 
 -- ---- the forms with another beginning
 
-module _ {text t : Text} (gap : Front (run is_blank) text t tt) (m : HasMonth t) where
+module _ {t : Text} (m : HasMonth t) where
   no_weekday : NoFront weekday t
   no_weekday p q v e h = let same = front_same bare_word bare_word_det (front_of p e h.0) (month_word m) in
       month_no_day m.p m.word (subst IsDay same.1 h.1)
@@ -390,28 +369,24 @@ module _ {text t : Text} (gap : Front (run is_blank) text t tt) (m : HasMonth t)
       (no_row year_date_row year_date_det
       (inl (no_mapped (Row front_year_row) ℕ _ (no_row front_year_row front_year_row_det (inl (no_year m))))))
 
-  pub no_xr : NoDivision xr_row text
-  no_xr = no_row_division xr_row (no_row xr_row xr_row_det (inl (no_mapped (Row card_row) (Option Text) host_in
+  pub begins_month : BeginsOtherwise t
+  begins_month = record {
+    no_gap = no_blank m;
+    no_colon = no_char m 58 (omega arith);
+    no_bracket = no_bracket m;
+    no_counter = no_counter m;
+    no_label = no_label m;
+    no_uptime = no_uptime m;
+    no_mnemonic = no_mnemonic;
+    no_weekday = no_weekday;
+    no_slashed_date = no_slashed_date;
+    no_colon_date = no_mapped (Row colon_row) SentDate colon_of (no_row colon_row colon_row_det (inl (no_year m)));
+    no_year_date = no_year_date;
+    no_unix_date = no_unix_date;
+    no_meraki = no_row (drop 1 meraki_row) meraki_row_det.1 (inl (no_char m 49 (omega arith)));
+  }
+
+  pub no_xr : {text : Text} → Front (run is_blank) text t tt → NoDivision xr_row text
+  no_xr gap = no_row_division xr_row (no_row xr_row xr_row_det (inl (no_mapped (Row card_row) (Option Text) host_in
       (no_row card_row card_row_det (gap past optional_none (Row counter_row) (no_counter m)
       past optional_some host (month_host m) past inl (no_node m))))))
-
-  pub no_other : IsOfNone journal_forms text
-  no_other = no_row_division journal_row (no_row journal_row journal_line_det (gap past inl no_weekday)) also
-      no_row_division ucm_row (no_row ucm_row ucm_row_det (gap past inl (no_counter m))) also
-      no_row_division unnamed_row (no_row unnamed_row unnamed_row_det (gap past inl no_slashed_date)) also
-      no_row_division netscaler_row (no_row netscaler_row netscaler_row_det (gap past inl no_slashed_date)) also
-      no_row_division utm_row (no_row utm_row utm_row_det (gap past inl
-      (no_mapped (Row colon_row) SentDate colon_of (no_row colon_row colon_row_det (inl (no_year m)))))) also
-      no_row_division logread_row (no_row logread_row logread_row_det (gap past inl no_weekday)) also
-      no_row_division ctime_message_row (no_row ctime_message_row ctime_message_det (gap past inl no_weekday)) also
-      no_row_division ctime_row (no_row ctime_row ctime_line_det (gap past inl no_weekday)) also
-      no_row_division year_row (no_row year_row year_line_det (gap past inl no_year_date)) also
-      no_row_division meraki_row (no_row meraki_row meraki_row_det (gap past inl (no_char m 49 (omega arith)))) also
-      no_row_division short_row (no_row short_row short_row_det (gap past inl no_unix_date)) also
-      no_row_division typed_row (no_row typed_row typed_row_det (gap past inl no_unix_date)) also
-      no_row_division undated_row (no_row undated_row undated_row_det (gap
-      past optional_none (exactly colon) (no_char m 58 (omega arith)) past no_blank m
-      past optional_none (Row counter_row) (no_counter m) past optional_none (Row counter_row) (no_counter m)
-      past optional_none name_label (no_such_front label IsName (no_label m)) past optional_none uptime (no_uptime m)
-      past inl (no_row message_row message_row_det (inl no_mnemonic)))) also
-      no_row_division in_brackets_row (no_row in_brackets_row in_brackets_det (gap past inl (no_bracket m))) also tt

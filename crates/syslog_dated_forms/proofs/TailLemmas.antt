@@ -1,13 +1,12 @@
 -- What follows a date means one thing.
 use Rattle.std.proofs.Common.{◌≡◌, [], ◌∷◌, Option, Some, None, refl, sym, ap, ◌∙◌}
-use Rattle.syslog_text.specs.Pieces.Class.{Text, Values, IsDeterministic, Row, rest}
-use Rattle.syslog_text.proofs.PieceLemmas.Class.{AllDeterministic, ◌also◌, all_joined, rest_det, row_det}
+use Rattle.syslog_text.specs.Pieces.Class.{Text, Values, IsDeterministic, Row, rest, exactly}
+use Rattle.syslog_text.proofs.PieceLemmas.Class.{AllDeterministic, ◌also◌, all_joined, rest_det, row_det, exactly_det}
+use Rattle.syslog_text.proofs.PieceLemmas.Class.{mapped_det, optional_det}
 use Rattle.syslog_loose.specs.Rows.{fields_row}
 use Rattle.syslog_loose.specs.Rfc3164.{HasProcess, Names3164}
 use Rattle.syslog_loose.specs.TagForm.{IsIdOf}
 use Rattle.syslog_loose.proofs.Rfc3164Lemmas.{fields_det, one_form, resolves_once}
-use Rattle.syslog_text.specs.Pieces.Class.{exactly}
-use Rattle.syslog_text.proofs.PieceLemmas.Class.{exactly_det, mapped_det, optional_det}
 use Rattle.syslog_sent.proofs.ZoneLemmas.{ended_det}
 use Rattle.syslog_dated_forms.specs.Tail.{TailValue, spare, tail, tail_row, wide_row, wide_tail}
 

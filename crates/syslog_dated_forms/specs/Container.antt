@@ -1,10 +1,11 @@
 -- Container log files in the format of Kubernetes (CRI): a timestamp, the stream, `F` or `P` for a full or a partial
 -- line, and the text. The stream is no host, so that it stays before the message.
 use Rattle.std.specs.Prelude.{◌≡◌, true, List, [], ◌∷◌, Some, None, codes, map, chars}
-use Rattle.syslog_text.specs.Pieces.Class.{Text, Class, Front, Values, Row, run, exactly}
+use Rattle.syslog_text.specs.Pieces.Class.{Text, Class, Row, run, exactly}
 use Rattle.syslog_text.specs.Pieces.Rules.{such_that}
 use Rattle.syslog_text.specs.Text.{is_blank}
 use Rattle.syslog_sent.specs.Date.{iso_date}
+use Rattle.syslog_sent.specs.Named.{beginning}
 use Rattle.syslog_sent.specs.Sent.{Form, loose}
 use Rattle.syslog_sent.specs.Zone.{bare_word, is_among}
 use Rattle.syslog_sent.specs.declared.dialect.Dialect.TheVariants.{Container}
@@ -26,10 +27,7 @@ stream_row = such_that bare_word IsStream ∷ exactly (32 ∷ []) ∷ such_that 
 
 -- all that is left, where the stream and the mark begin it
 abbrev pub output : Class
-output = record {
-  Value = Text;
-  Is = λ p q t. (q ≡ []) × (t ≡ p) × ((r : Text) × (v : Values stream_row) × Front (Row stream_row) p r v);
-}
+output = beginning (Row stream_row)
 
 abbrev pub container_row : List Class
 container_row = run is_blank ∷ iso_date ∷ exactly (32 ∷ []) ∷ output ∷ []

@@ -17,62 +17,13 @@ use Rattle.syslog_dated_forms.specs.Ucm.{ucm_form}
 use Rattle.syslog_dated_forms.specs.Undated.{timed_form, undated_form}
 use Rattle.syslog_dated_forms.specs.UnixSeconds.{meraki_form, short_form, typed_form}
 
-abbrev pub in_brackets_forms : List Form
-in_brackets_forms = in_brackets_form ∷ []
-
-abbrev pub undated_forms : List Form
-undated_forms = undated_form ∷ in_brackets_forms
-
-abbrev pub typed_forms : List Form
-typed_forms = typed_form ∷ undated_forms
-
-abbrev pub short_forms : List Form
-short_forms = short_form ∷ typed_forms
-
-abbrev pub meraki_forms : List Form
-meraki_forms = meraki_form ∷ short_forms
-
-abbrev pub year_forms : List Form
-year_forms = year_form ∷ meraki_forms
-
-abbrev pub ctime_forms : List Form
-ctime_forms = ctime_form ∷ year_forms
-
-abbrev pub ctime_message_forms : List Form
-ctime_message_forms = ctime_message_form ∷ ctime_forms
-
-abbrev pub logread_forms : List Form
-logread_forms = logread_form ∷ ctime_message_forms
-
-abbrev pub utm_forms : List Form
-utm_forms = utm_form ∷ logread_forms
-
-abbrev pub netscaler_forms : List Form
-netscaler_forms = netscaler_form ∷ utm_forms
-
-abbrev pub unnamed_forms : List Form
-unnamed_forms = unnamed_form ∷ netscaler_forms
-
-abbrev pub ucm_forms : List Form
-ucm_forms = ucm_form ∷ unnamed_forms
-
+-- those of texts that begin with no month date and with none of RFC 3339
 abbrev pub journal_forms : List Form
-journal_forms = journal_form ∷ ucm_forms
-
-abbrev pub procurve_forms : List Form
-procurve_forms = procurve_form ∷ journal_forms
-
-abbrev pub kiwi_forms : List Form
-kiwi_forms = kiwi_form ∷ procurve_forms
-
-abbrev pub esxi_forms : List Form
-esxi_forms = esxi_form ∷ kiwi_forms
-
-abbrev pub container_forms : List Form
-container_forms = container_form ∷ esxi_forms
+journal_forms = journal_form ∷ ucm_form ∷ unnamed_form ∷ netscaler_form ∷ utm_form ∷ logread_form ∷ ctime_message_form
+    ∷ ctime_form ∷ year_form ∷ meraki_form ∷ short_form ∷ typed_form ∷ undated_form ∷ in_brackets_form ∷ []
 
 abbrev pub xr_forms : List Form
-xr_forms = xr_form ∷ container_forms
+xr_forms = xr_form ∷ container_form ∷ esxi_form ∷ kiwi_form ∷ procurve_form ∷ journal_forms
 
 abbrev pub timed_forms : List Form
 timed_forms = timed_form ∷ []

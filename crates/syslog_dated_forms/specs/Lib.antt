@@ -17,6 +17,5 @@ pub mod SophosUtm
 pub mod Tail
 pub mod TailViews
 pub mod Ucm
-pub mod UcmViews
 pub mod Undated
 pub mod UnixSeconds

@@ -1,9 +1,8 @@
 -- How clauses see the structs of `netscaler`.
 use Rattle.std.specs.Prelude.{ℕ}
 use Rattle.syslog_text.specs.Pieces.Class.{Values}
-use Rattle.syslog_dated_forms.specs.NetScaler.{month_first_row, slashed_row, year_first_row}
+use Rattle.syslog_dated_forms.specs.NetScaler.{month_first_row, year_first_row}
 use Rattle.syslog_dated_forms.specs.declared.netscaler.Day.{Day}
-use Rattle.syslog_dated_forms.specs.declared.netscaler.SlashedDate.{SlashedDate}
 
 abbrev pub month_first_values : Day → Values month_first_row
 month_first_values d = (d.month, (d.day, (d.year, tt)))
@@ -13,6 +12,3 @@ year_first_values d = (d.year, (d.month, (d.day, tt)))
 
 abbrev pub day_value : Day → ℕ × (ℕ × ℕ)
 day_value d = (d.year, (d.month, d.day))
-
-abbrev pub slashed_values : SlashedDate → Values slashed_row
-slashed_values d = (day_value d.day, (d.hour, (d.minute, (d.second, (d.zone, tt)))))

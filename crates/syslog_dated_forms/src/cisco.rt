@@ -26,6 +26,7 @@ ghost use Rattle.syslog_sent.specs.Zone.{bare_word as any_word};
 ghost use Rattle.syslog_dated_forms.specs.Cisco as spec;
 
 use crate::address::address;
+use crate::readers::{past_any, word_if};
 use syslog_pieces::timestamp::MonthDate;
 use syslog_pieces::timestamp::pairs::year;
 use syslog_sent::date::any_date;
@@ -89,11 +90,7 @@ fn is_asa_tag(tag: &str) -> bool
 fn word_origin(text: &str) -> Option<(&str, &str)>
     ensures { Reads spec.word_origin (λ word. shown word) (chars text.now) result }
 {
-    let (word, rest) = bare_word(text)?;
-    if !is_host(word) {
-        return None;
-    }
-    Some((word, rest))
+    word_if(text, is_host)
 }
 
 /// Returns a host's name at the front, or its address of IPv6, and the text after it.
@@ -134,11 +131,7 @@ fn mnemonic(text: &str) -> Option<(&str, &str)>
     if !begins_with_mark(text) {
         return None;
     }
-    let (word, rest) = bare_word(text)?;
-    if !is_mnemonic(word) {
-        return None;
-    }
-    Some((word, rest))
+    word_if(text, is_mnemonic)
 }
 
 /// Returns the text after a counter, a colon and blanks.
@@ -149,17 +142,6 @@ pub(crate) fn counter(text: &str) -> Option<&str>
         return None;
     }
     digits(text).and_then(colon).and_then(gap)
-}
-
-// Returns the text after a counter, and all of it if it begins with none.
-pub(crate) fn past_counter(text: &str) -> &str
-    ensures { (v : (optional (Row spec.counter_row)).Value)
-        × Front (optional (Row spec.counter_row)) (chars text.now) (shown result) v }
-{
-    match counter(text) {
-        Some(rest) => rest,
-        None => text,
-    }
 }
 
 /// Returns the name of a device before a colon and blanks, and the text after these.
@@ -201,33 +183,12 @@ fn task(text: &str) -> Option<&str>
     star(text).and_then(task_name).and_then(colon).and_then(gap)
 }
 
-// Returns the text after a task, and all of it if it begins with none.
-fn past_task(text: &str) -> &str
-    ensures { (v : (optional (Row spec.task_row)).Value)
-        × Front (optional (Row spec.task_row)) (chars text.now) (shown result) v }
-{
-    match task(text) {
-        Some(rest) => rest,
-        None => text,
-    }
-}
-
 fn mark(text: &str) -> Option<&str>
     ensures { Recognises spec.mark (chars text.now) result }
 {
     match literal(text, '*') {
         Some(rest) => Some(rest),
         None => literal(text, '.'),
-    }
-}
-
-// Returns the text after a mark, and all of it if it begins with none.
-fn past_mark(text: &str) -> &str
-    ensures { (v : (optional spec.mark).Value) × Front (optional spec.mark) (chars text.now) (shown result) v }
-{
-    match mark(text) {
-        Some(rest) => rest,
-        None => text,
     }
 }
 
@@ -238,12 +199,12 @@ fn start(text: &str) -> (Option<&str>, &str)
     let after_gap = blanks(text);
     let after_colon = past_colon(after_gap);
     let begun = blanks(after_colon);
-    let after_counter = past_counter(begun);
-    let after_number = past_counter(after_counter);
+    let after_counter = past_any(begun, counter);
+    let after_number = past_any(after_counter, counter);
     let (host, after_host) = optional_label(after_number);
-    let numbered = past_counter(after_host);
-    let after_task = past_task(numbered);
-    let rest = past_mark(after_task);
+    let numbered = past_any(after_host, counter);
+    let after_task = past_any(numbered, task);
+    let rest = past_any(after_task, mark);
     (host, rest)
 }
 
@@ -328,22 +289,12 @@ fn unit(text: &str) -> Option<&str>
     Some(rest)
 }
 
-// Returns the text after a unit, and all of it if it begins with none.
-fn past_unit(text: &str) -> &str
-    ensures { (v : (optional spec.unit).Value) × Front (optional spec.unit) (chars text.now) (shown result) v }
-{
-    match unit(text) {
-        Some(rest) => rest,
-        None => text,
-    }
-}
-
 // Reads what comes after the date: returns the host, if it comes there, and the text after it.
 fn place(text: &str) -> (Option<&str>, &str)
     ensures { Front spec.place (chars text.now) (shown result.1) (seen result.0) }
 {
     let (host, rest) = optional_origin(blanks(text));
-    (host, past_unit(blanks(past_colon(blanks(rest)))))
+    (host, past_any(blanks(past_colon(blanks(rest))), unit))
 }
 
 /// Reads a mnemonic, a colon and the message: returns the mnemonic and the message.

@@ -4,18 +4,19 @@
 //! message. (Kubernetes, "CRI logging": a timestamp of RFC 3339, `stdout` or `stderr`, `F` or `P`, each before a
 //! space.)
 ghost use Rattle.std.specs.Prelude.{chars, MatchBool};
-ghost use Rattle.syslog_text.specs.Pieces.Class.{Front, Row, Text, run};
+ghost use Rattle.syslog_text.specs.Pieces.Class.{Row, Text};
 ghost use Rattle.syslog_text.specs.Pieces.Rules.{such_that};
 ghost use Rattle.syslog_text.specs.Pieces.View.{Recognises};
-ghost use Rattle.syslog_text.specs.Text.{is_blank};
-ghost use Rattle.syslog_sent.specs.Date.{iso_date};
+ghost use Rattle.syslog_sent.specs.Led.{IsLed};
 ghost use Rattle.syslog_sent.specs.Sent.{Sends};
 ghost use Rattle.syslog_sent.specs.Zone.{bare_word as any_word};
 ghost use Rattle.syslog_dated_forms.specs.Container as spec;
 
-use syslog_sent::sent::{Sent, SentDate};
+use crate::readers::{iso, past_word_if};
+use syslog_sent::led::Led;
+use syslog_sent::sent::Sent;
 use syslog_sent::skips::space;
-use syslog_sent::zone::{bare_word, is_one_of};
+use syslog_sent::zone::is_one_of;
 use syslog_text::text::literal;
 
 const STREAMS: [&str; 2] = ["stdout", "stderr"];
@@ -37,21 +38,13 @@ fn is_mark(word: &str) -> bool
 fn stream(text: &str) -> Option<&str>
     ensures { Recognises (such_that any_word spec.IsStream) (chars text.now) result }
 {
-    let (word, rest) = bare_word(text)?;
-    if !is_stream(word) {
-        return None;
-    }
-    Some(rest)
+    past_word_if(text, is_stream)
 }
 
 fn mark(text: &str) -> Option<&str>
     ensures { Recognises (such_that any_word spec.IsMark) (chars text.now) result }
 {
-    let (word, rest) = bare_word(text)?;
-    if !is_mark(word) {
-        return None;
-    }
-    Some(rest)
+    past_word_if(text, is_mark)
 }
 
 // Returns the text after the stream, a space and the mark.
@@ -61,11 +54,11 @@ fn past_stream(text: &str) -> Option<&str>
     stream(text).and_then(space).and_then(mark)
 }
 
-/// Returns what a line of a container's log file says, which begins with this date, and has `rest` after it.
-pub(crate) fn read_container(date: SentDate, rest: &str) -> Option<Sent<'_>>
-    ensures { (text at : Text) → Front (run is_blank) text at tt → Front iso_date at (chars rest.now) date
-        → Sends spec.container_form text result }
+/// Returns what a line of a container's log file says, which begins with this date.
+pub(crate) fn read_container<'a>(led: &Led<'a>) -> Option<Sent<'a>>
+    ensures { (text : Text) → IsLed text led.now → Sends spec.container_form text result }
 {
+    let (date, rest) = iso(led)?;
     let msg = space(rest)?;
     let _ = past_stream(msg)?;
     Some(Sent {

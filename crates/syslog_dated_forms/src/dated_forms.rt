@@ -1,5 +1,5 @@
 //! The forms that are recognised by their date, in the order in which they are tried.
-ghost use Rattle.std.specs.Prelude.{◌≡◌, ◌++◌, chars, false};
+ghost use Rattle.std.specs.Prelude.{◌≡◌, ◌++◌, MatchOption, None, Some, chars, false};
 ghost use Rattle.syslog_text.specs.Pieces.Class.{Each, Front, NoFront, Row, Text, run};
 ghost use Rattle.syslog_text.specs.Text.{is_blank};
 ghost use Rattle.syslog_dated_forms.specs.Cisco.{cisco_forms, is_unmarked};
@@ -36,86 +36,48 @@ use syslog_sent::dialect::Dialect;
 use syslog_sent::led::{LeadingDate, Led};
 use syslog_sent::sent::{Sent, SentDate};
 
+// Where nothing was found, finds what the reader of the next form says. It is found in place, since it is moved through
+// memory otherwise.
+#[inline(always)]
+fn or_in<'a, T: Copy, F: FnOnce(T) -> Option<Sent<'a>>>(
+    found: &mut Option<(Dialect, Sent<'a>)>,
+    from: T,
+    dialect: Dialect,
+    read: F,
+)
+    requires { F.pre read from }
+    ensures { MatchOption found.old ((sent : _) × F.post read from sent
+        × MatchOption sent (found.new ≡ None) (λ s. found.new ≡ Some (dialect, s))) (λ x. found.new ≡ Some x) }
+{
+    if found.is_some() {
+        return;
+    }
+    if let Some(sent) = read(from) {
+        *found = Some((dialect, sent));
+    }
+}
+
 // Tries the forms that need not begin with a date on a text that begins with none.
 fn from_unled(text: &str) -> Option<(Dialect, Sent<'_>)>
     ensures { IsUnled (chars text.now) → Finds spec.xr_forms (chars text.now) result }
 {
-    if let Some(sent) = read_ios_xr(text) {
-        return Some((Dialect::CiscoIosXr, sent));
-    }
-    if let Some(sent) = read_journal(text) {
-        return Some((Dialect::Journal, sent));
-    }
-    if let Some(sent) = read_ucm(text) {
-        return Some((Dialect::CiscoIos, sent));
-    }
-    if let Some(sent) = read_unnamed(text) {
-        return Some((Dialect::NetScaler, sent));
-    }
-    if let Some(sent) = read_netscaler(text) {
-        return Some((Dialect::NetScaler, sent));
-    }
-    if let Some(sent) = read_utm(text) {
-        return Some((Dialect::SophosUtm, sent));
-    }
-    if let Some(sent) = read_logread(text) {
-        return Some((Dialect::SeverityFirst, sent));
-    }
-    if let Some(sent) = read_ctime_message(text) {
-        return Some((Dialect::Bracketed, sent));
-    }
-    if let Some(sent) = read_ctime(text) {
-        return Some((Dialect::BsdDate, sent));
-    }
-    if let Some(sent) = read_year(text) {
-        return Some((Dialect::BsdDate, sent));
-    }
-    if let Some(sent) = read_meraki(text) {
-        return Some((Dialect::UnixSeconds, sent));
-    }
-    if let Some(sent) = read_short(text) {
-        return Some((Dialect::UnixSeconds, sent));
-    }
-    if let Some(sent) = read_typed(text) {
-        return Some((Dialect::UnixSeconds, sent));
-    }
-    if let Some(sent) = read_undated(text) {
-        return Some((Dialect::CiscoUndated, sent));
-    }
-    if let Some(sent) = read_in_brackets(text) {
-        return Some((Dialect::Bracketed, sent));
-    }
-    None
-}
-
-// Returns what a line of ESXi says, which never begins with a month date.
-fn of_esxi<'a>(led: &Led<'a>) -> Option<Sent<'a>>
-    ensures { (text : Text) → IsLed text led.now → Sends esxi_form text result }
-{
-    match led.date {
-        LeadingDate::Month(_) => None,
-        LeadingDate::Iso(date) => read_esxi(date, led.rest),
-    }
-}
-
-// Returns what a line of Kiwi's says, which never begins with a month date.
-fn of_kiwi<'a>(led: &Led<'a>) -> Option<Sent<'a>>
-    ensures { (text : Text) → IsLed text led.now → Sends kiwi_form text result }
-{
-    match led.date {
-        LeadingDate::Month(_) => None,
-        LeadingDate::Iso(date) => read_kiwi(date, led.rest),
-    }
-}
-
-// Returns what a line of a container's log file says, which never begins with a month date.
-fn of_container<'a>(led: &Led<'a>) -> Option<Sent<'a>>
-    ensures { (text : Text) → IsLed text led.now → Sends container_form text result }
-{
-    match led.date {
-        LeadingDate::Month(_) => None,
-        LeadingDate::Iso(date) => read_container(date, led.rest),
-    }
+    let mut found = None;
+    or_in(&mut found, text, Dialect::CiscoIosXr, read_ios_xr);
+    or_in(&mut found, text, Dialect::Journal, read_journal);
+    or_in(&mut found, text, Dialect::CiscoIos, read_ucm);
+    or_in(&mut found, text, Dialect::NetScaler, read_unnamed);
+    or_in(&mut found, text, Dialect::NetScaler, read_netscaler);
+    or_in(&mut found, text, Dialect::SophosUtm, read_utm);
+    or_in(&mut found, text, Dialect::SeverityFirst, read_logread);
+    or_in(&mut found, text, Dialect::Bracketed, read_ctime_message);
+    or_in(&mut found, text, Dialect::BsdDate, read_ctime);
+    or_in(&mut found, text, Dialect::BsdDate, read_year);
+    or_in(&mut found, text, Dialect::UnixSeconds, read_meraki);
+    or_in(&mut found, text, Dialect::UnixSeconds, read_short);
+    or_in(&mut found, text, Dialect::UnixSeconds, read_typed);
+    or_in(&mut found, text, Dialect::CiscoUndated, read_undated);
+    or_in(&mut found, text, Dialect::Bracketed, read_in_brackets);
+    found
 }
 
 // Tries the forms that begin with a date on a text that begins with this one. No form with another beginning divides
@@ -123,19 +85,12 @@ fn of_container<'a>(led: &Led<'a>) -> Option<Sent<'a>>
 fn from_led<'a>(led: &Led<'a>) -> Option<(Dialect, Sent<'a>)>
     ensures { (text : Text) → IsLed text led.now → Finds spec.xr_forms text result }
 {
-    if let Some(sent) = of_container(led) {
-        return Some((Dialect::Container, sent));
-    }
-    if let Some(sent) = of_esxi(led) {
-        return Some((Dialect::Esxi, sent));
-    }
-    if let Some(sent) = of_kiwi(led) {
-        return Some((Dialect::SeverityFirst, sent));
-    }
-    if let Some(sent) = read_procurve(led.sent, led.rest) {
-        return Some((Dialect::ProCurve, sent));
-    }
-    None
+    let mut found = None;
+    or_in(&mut found, led, Dialect::Container, read_container);
+    or_in(&mut found, led, Dialect::Esxi, read_esxi);
+    or_in(&mut found, led, Dialect::SeverityFirst, read_kiwi);
+    or_in(&mut found, led, Dialect::ProCurve, read_procurve);
+    found
 }
 
 // Returns what a filed line says that begins with this date.

@@ -3,16 +3,17 @@
 //! **Rule.** The level and the priority in brackets name no host; the program follows them. (VMware, "ESXi Log Files":
 //! from 8.0 on a line has the level and the priority after its timestamp.)
 ghost use Rattle.std.specs.Prelude.{◌≡◌, ◌∷◌, [], chars};
-ghost use Rattle.syslog_text.specs.Pieces.Class.{Front, Row, Text, exactly, run};
+ghost use Rattle.syslog_text.specs.Pieces.Class.{Row, Text, exactly};
 ghost use Rattle.syslog_text.specs.Pieces.View.{Recognises};
-ghost use Rattle.syslog_text.specs.Text.{is_blank};
-ghost use Rattle.syslog_sent.specs.Date.{iso_date};
+ghost use Rattle.syslog_sent.specs.Led.{IsLed};
 ghost use Rattle.syslog_sent.specs.Sent.{Sends};
 ghost use Rattle.syslog_dated_forms.specs.Esxi as spec;
 
+use crate::readers::iso;
+use syslog_sent::led::Led;
 use syslog_sent::named::{is_word, read_program};
 use syslog_sent::runs::{Run, split};
-use syslog_sent::sent::{Sent, SentDate};
+use syslog_sent::sent::Sent;
 use syslog_sent::skips::{digits, gap};
 use syslog_text::text::{blanks, literal};
 
@@ -64,11 +65,11 @@ fn mark(text: &str) -> Option<&str>
         .and_then(closing)
 }
 
-/// Returns what a line of ESXi says, which begins with this date, and has `rest` after it.
-pub(crate) fn read_esxi(date: SentDate, rest: &str) -> Option<Sent<'_>>
-    ensures { (text at : Text) → Front (run is_blank) text at tt → Front iso_date at (chars rest.now) date
-        → Sends spec.esxi_form text result }
+/// Returns what a line of ESXi says, which begins with this date.
+pub(crate) fn read_esxi<'a>(led: &Led<'a>) -> Option<Sent<'a>>
+    ensures { (text : Text) → IsLed text led.now → Sends spec.esxi_form text result }
 {
+    let (date, rest) = iso(led)?;
     let (program, after_program) = gap(rest)
         .and_then(mark)
         .and_then(gap)

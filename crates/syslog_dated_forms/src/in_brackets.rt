@@ -9,6 +9,7 @@ ghost use Rattle.syslog_text.specs.Pieces.View.{Recognises, shown};
 ghost use Rattle.syslog_sent.specs.Sent.{Sends};
 ghost use Rattle.syslog_dated_forms.specs.InBrackets as spec;
 
+use crate::readers::past_any;
 use syslog_sent::date::{any_date, weekday};
 use syslog_sent::sent::{Sent, SentDate};
 use syslog_sent::skips::gap;
@@ -37,23 +38,12 @@ fn day(text: &str) -> Option<&str>
     weekday(text).and_then(gap)
 }
 
-// Returns the text after a day of the week, and all of it if it begins with none.
-fn past_day(text: &str) -> &str
-    ensures { (v : (optional (Row spec.day_row)).Value)
-        × Front (optional (Row spec.day_row)) (chars text.now) (shown result) v }
-{
-    match day(text) {
-        Some(rest) => rest,
-        None => text,
-    }
-}
-
 // The date that the whole text shows.
 fn whole_date(text: &str) -> Option<SentDate>
     ensures { MatchOption result (NoDivision spec.stamp_row (chars text.now))
         (λ d. (v : Values spec.stamp_row) × Division spec.stamp_row (chars text.now) v × (d ≡ v.1.0)) }
 {
-    let (date, rest) = any_date(past_day(text))?;
+    let (date, rest) = any_date(past_any(text, day))?;
     match first(rest) {
         Some(_) => None,
         None => Some(date),

@@ -10,12 +10,12 @@ ghost use Rattle.syslog_sent.specs.Named.{BeginsWith};
 ghost use Rattle.syslog_sent.specs.Sent.{Sends};
 ghost use Rattle.syslog_dated_forms.specs.IosXr as spec;
 
-use crate::cisco::{dated_in, optional_front_year, origin, past_counter, starts};
+use crate::cisco::{counter, dated_in, optional_front_year, origin, starts};
+use crate::readers::{past_any, past_word_if};
 use syslog_sent::date::any_date;
 use syslog_sent::named::number;
 use syslog_sent::sent::Sent;
 use syslog_sent::skips::{colon, gap};
-use syslog_sent::zone::bare_word;
 use syslog_text::text::{CharClass, blanks, first, literal, past_colon, split_run};
 
 fn is_node(word: &str) -> bool
@@ -42,11 +42,7 @@ fn node(text: &str) -> Option<&str>
     if !may_be_node(text) {
         return None;
     }
-    let (word, rest) = bare_word(text)?;
-    if !is_node(word) {
-        return None;
-    }
-    Some(rest)
+    past_word_if(text, is_node)
 }
 
 // Returns a host's name before blanks, and the text after these.
@@ -72,7 +68,7 @@ fn card(text: &str) -> Option<(Option<&str>, &str)>
     ensures { Reads spec.card seen (chars text.now) result }
 {
     let after_gap = blanks(text);
-    let after_counter = past_counter(after_gap);
+    let after_counter = past_any(after_gap, counter);
     let (name, after_host) = optional_host(after_counter);
     let after_node = node(after_host)?;
     let rest = colon(after_node)?;

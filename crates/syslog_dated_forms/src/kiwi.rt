@@ -4,14 +4,15 @@
 //! **Rule.** Facility and severity follow the date, and then the host, each after a tab (SolarWinds, "Kiwi Syslog
 //! Server": log file format ISO yyyy-mm-dd). The text is as it was received, less its priority.
 ghost use Rattle.std.specs.Prelude.{◌∷◌, [], chars};
-ghost use Rattle.syslog_text.specs.Pieces.Class.{Front, Row, Text, exactly, run};
+ghost use Rattle.syslog_text.specs.Pieces.Class.{Row, Text, exactly};
 ghost use Rattle.syslog_text.specs.Pieces.View.{Recognises};
-ghost use Rattle.syslog_text.specs.Text.{is_blank};
-ghost use Rattle.syslog_sent.specs.Date.{iso_date};
+ghost use Rattle.syslog_sent.specs.Led.{IsLed};
 ghost use Rattle.syslog_sent.specs.Sent.{Sends};
 ghost use Rattle.syslog_dated_forms.specs.Kiwi as spec;
 
-use syslog_sent::sent::{Sent, SentDate};
+use crate::readers::iso;
+use syslog_sent::led::Led;
+use syslog_sent::sent::Sent;
 use syslog_sent::skips::{dot, plain_word};
 use syslog_text::text::{blanks, host, literal};
 
@@ -32,11 +33,11 @@ fn level(text: &str) -> Option<&str>
         .and_then(tab)
 }
 
-/// Returns what a line of Kiwi's says, which begins with this date, and has `rest` after it.
-pub(crate) fn read_kiwi(date: SentDate, rest: &str) -> Option<Sent<'_>>
-    ensures { (text at : Text) → Front (run is_blank) text at tt → Front iso_date at (chars rest.now) date
-        → Sends spec.kiwi_form text result }
+/// Returns what a line of Kiwi's says, which begins with this date.
+pub(crate) fn read_kiwi<'a>(led: &Led<'a>) -> Option<Sent<'a>>
+    ensures { (text : Text) → IsLed text led.now → Sends spec.kiwi_form text result }
 {
+    let (date, rest) = iso(led)?;
     let at_host = level(rest)?;
     let (hostname, after_host) = host(at_host)?;
     let msg = tab(after_host)?;

@@ -18,6 +18,7 @@ mod kiwi;
 mod netscaler;
 mod open_wrt;
 mod procurve;
+mod readers;
 mod sophos_utm;
 mod tail;
 mod ucm;

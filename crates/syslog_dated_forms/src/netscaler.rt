@@ -9,14 +9,13 @@ ghost use Rattle.syslog_text.specs.Pieces.Class.{Row, after};
 ghost use Rattle.syslog_text.specs.Pieces.View.{Reads};
 ghost use Rattle.syslog_pieces.specs.Timestamp.Rfc3339.{year as any_year};
 ghost use Rattle.syslog_sent.specs.Sent.{Sends};
-ghost use Rattle.syslog_dated_forms.specs.NetScalerViews.{day_value, month_first_values, slashed_values};
-ghost use Rattle.syslog_dated_forms.specs.NetScalerViews.{year_first_values};
+ghost use Rattle.syslog_dated_forms.specs.NetScalerViews.{day_value, month_first_values, year_first_values};
 ghost use Rattle.syslog_dated_forms.specs.NetScaler as spec;
 
 use crate::dated::says;
 use crate::ios_xr::name;
+use crate::sophos_utm::date_of;
 use crate::tail::read_wide_tail;
-use syslog_pieces::timestamp::MonthDate;
 use syslog_pieces::timestamp::pairs::{pair, pair_after, year};
 use syslog_sent::date::optional_zone;
 use syslog_sent::sent::{Sent, SentDate};
@@ -66,59 +65,26 @@ fn slashed_day(text: &str) -> Option<(Day, &str)>
     year_first(text)
 }
 
-/// The numbers of a date with slashes.
-#[derive(Clone, Copy)]
-struct SlashedDate {
-    day: Day,
-    hour: u32,
-    minute: u32,
-    second: u32,
-    zone: Option<Option<i32>>,
-}
-
-impl SlashedDate {
-    fn sent(self) -> SentDate
-        ensures { result ≡ spec.slashed_of (slashed_values self) }
-    {
-        let date = MonthDate {
-            year: Some(u32::from(self.day.year)),
-            month: self.day.month,
-            day: self.day.day,
-            hour: self.hour,
-            minute: self.minute,
-            second: self.second,
-        };
-        SentDate {
-            date,
-            nanosecond: 0,
-            offset: self.zone.flatten(),
-        }
+// The date with these numbers, in the zone that is shown if one is.
+fn slashed_of(day: Day, hour: u32, minute: u32, second: u32, zone: Option<Option<i32>>) -> SentDate
+    ensures { result ≡ spec.slashed_of (day_value day, (hour, (minute, (second, (zone, tt))))) }
+{
+    SentDate {
+        offset: zone.flatten(),
+        ..date_of(day.year, day.month, day.day, hour, minute, second)
     }
 }
 
-fn slashed(text: &str) -> Option<(SlashedDate, &str)>
-    ensures { Reads (Row spec.slashed_row) slashed_values (chars text.now) result }
+// Returns a date with slashes, and the text after it.
+fn slashed_date(text: &str) -> Option<(SentDate, &str)>
+    ensures { Reads spec.slashed_date (λ d. d) (chars text.now) result }
 {
     let (day, rest) = slashed_day(text)?;
     let (hour, rest) = pair_after(rest, ':', 100)?;
     let (minute, rest) = pair_after(rest, ':', 100)?;
     let (second, rest) = pair_after(rest, ':', 100)?;
     let (zone, rest) = optional_zone(rest);
-    let shown = SlashedDate {
-        day,
-        hour,
-        minute,
-        second,
-        zone,
-    };
-    Some((shown, rest))
-}
-
-fn slashed_date(text: &str) -> Option<(SentDate, &str)>
-    ensures { Reads spec.slashed_date (λ d. d) (chars text.now) result }
-{
-    let (date, rest) = slashed(text)?;
-    Some((date.sent(), rest))
+    Some((slashed_of(day, hour, minute, second, zone), rest))
 }
 
 /// Returns what a line of NetScaler says.

@@ -4,29 +4,25 @@
 //! with a letter. (HP, "Event log
 //! message reference": severity, date, event number, system module.)
 ghost use Rattle.std.specs.Prelude.{MatchBool, chars};
-ghost use Rattle.syslog_text.specs.Pieces.Class.{Front, Text, run};
+ghost use Rattle.syslog_text.specs.Pieces.Class.{Text};
 ghost use Rattle.syslog_text.specs.Pieces.View.{Reads, seen, shown};
-ghost use Rattle.syslog_text.specs.Text.{is_blank};
-ghost use Rattle.syslog_sent.specs.Date.{any_date};
+ghost use Rattle.syslog_sent.specs.Led.{IsLed};
 ghost use Rattle.syslog_sent.specs.Sent.{Sends};
 ghost use Rattle.syslog_dated_forms.specs.ProCurve as spec;
 
 use crate::cisco::is_host;
+use crate::readers::word_if;
+use syslog_sent::led::Led;
 use syslog_sent::named::is_letter;
-use syslog_sent::sent::{Sent, SentDate};
+use syslog_sent::sent::Sent;
 use syslog_sent::skips::{colon, digits, gap};
-use syslog_sent::zone::bare_word;
 use syslog_text::text::{blanks, host};
 
 // Returns the name of a module at the front, and the text after it.
 fn system_module(text: &str) -> Option<(&str, &str)>
     ensures { Reads spec.system_module (λ word. shown word) (chars text.now) result }
 {
-    let (word, rest) = bare_word(text)?;
-    if !is_letter(word) {
-        return None;
-    }
-    Some((word, rest))
+    word_if(text, is_letter)
 }
 
 fn is_switch(name: Option<&str>) -> bool
@@ -49,12 +45,11 @@ fn switch(text: &str) -> Option<(Option<&str>, &str)>
     Some((name, rest))
 }
 
-/// Returns what a line of ProCurve says, which begins with this date, and has `rest` after it.
-pub(crate) fn read_procurve(date: SentDate, rest: &str) -> Option<Sent<'_>>
-    ensures { (text at : Text) → Front (run is_blank) text at tt → Front any_date at (chars rest.now) date
-        → Sends spec.procurve_form text result }
+/// Returns what a line of ProCurve says, which begins with this date.
+pub(crate) fn read_procurve<'a>(led: &Led<'a>) -> Option<Sent<'a>>
+    ensures { (text : Text) → IsLed text led.now → Sends spec.procurve_form text result }
 {
-    let (hostname, after_host) = gap(rest).and_then(switch)?;
+    let (hostname, after_host) = gap(led.rest).and_then(switch)?;
     let (app, after_module) = gap(after_host)
         .and_then(digits)
         .and_then(gap)
@@ -62,7 +57,7 @@ pub(crate) fn read_procurve(date: SentDate, rest: &str) -> Option<Sent<'_>>
     let after_colon = colon(after_module)?;
     Some(Sent {
         version: None,
-        date: Some(date),
+        date: Some(led.sent),
         hostname,
         appname: Some(app),
         process: None,

@@ -15,8 +15,15 @@ use syslog_pieces::timestamp::pairs::{pair_after, year};
 use syslog_sent::sent::{Sent, SentDate};
 use syslog_text::text::blanks;
 
-// The date with these numbers.
-fn date_of(year: u16, month: u32, day: u32, hour: u32, minute: u32, second: u32) -> SentDate
+/// Returns the date with these numbers, without a fraction and a zone.
+pub(crate) fn date_of(
+    year: u16,
+    month: u32,
+    day: u32,
+    hour: u32,
+    minute: u32,
+    second: u32,
+) -> SentDate
     ensures { result ≡ spec.colon_of (year, (month, (day, (hour, (minute, (second, tt)))))) }
 {
     let date = MonthDate {

@@ -8,6 +8,7 @@ ghost use Rattle.syslog_text.specs.Pieces.View.{Recognises, shown};
 ghost use Rattle.syslog_dated_forms.specs.TailViews.{tail_value};
 ghost use Rattle.syslog_dated_forms.specs.Tail as spec;
 
+use crate::readers::past_any;
 use syslog_loose::resolve;
 use syslog_sent::zone::ends_word;
 use syslog_text::text::{blanks, host_field, literal, past_colon, tag_field};
@@ -48,20 +49,9 @@ fn past_spare(text: &str) -> Option<&str>
     Some(rest)
 }
 
-// Returns the text after a space that white space or a colon follows, and the whole text if it begins with no such
-// space.
-fn narrowed(text: &str) -> &str
-    ensures { (v : Option (Unit {0})) × Front (optional spec.spare) (chars text.now) (shown result) v }
-{
-    match past_spare(text) {
-        Some(rest) => rest,
-        None => text,
-    }
-}
-
 /// Returns the names and the message of all that follows a date, after one space or two.
 pub(crate) fn read_wide_tail(text: &str) -> Tail<'_>
     ensures { Front spec.wide_tail (chars text.now) [] (tail_value result) }
 {
-    read_tail(narrowed(text))
+    read_tail(past_any(text, past_spare))
 }

@@ -4,10 +4,8 @@
 //! **Rule.** Its clock shows twelve hours (Cisco, "Unified Serviceability": alarm definitions). A counter comes before
 //! the date, and the host between them if it is configured. The mnemonic is the app name, as in other lines of Cisco's.
 ghost use Rattle.std.specs.Prelude.{◌≡◌, chars};
-ghost use Rattle.syslog_text.specs.Pieces.Class.{Row};
 ghost use Rattle.syslog_text.specs.Pieces.View.{Reads, Recognises};
 ghost use Rattle.syslog_sent.specs.Sent.{Sends};
-ghost use Rattle.syslog_dated_forms.specs.UcmViews.{half_values};
 ghost use Rattle.syslog_dated_forms.specs.Ucm as spec;
 
 use crate::cisco::{counter, message, optional_label};
@@ -52,52 +50,35 @@ fn hour_of(is_late: bool, hour: u32) -> u32
     if hour == 12 { 0 } else { hour }
 }
 
-/// A date with a clock of twelve hours.
-#[derive(Clone, Copy)]
-struct HalfDate {
+// The date with these numbers, in the zone that is shown if one is.
+fn date_of(
     date: MonthDate,
     is_late: bool,
-    nanosecond: Option<u32>,
+    fraction: Option<u32>,
     zone: Option<Option<i32>>,
-}
-
-impl HalfDate {
-    fn sent(self) -> SentDate
-        ensures { result ≡ spec.half_of (half_values self) }
-    {
-        let date = MonthDate {
-            hour: hour_of(self.is_late, self.date.hour),
-            ..self.date
-        };
-        SentDate {
-            date,
-            nanosecond: self.nanosecond.unwrap_or(0),
-            offset: self.zone.flatten(),
-        }
+) -> SentDate
+    ensures { result ≡ spec.half_of (date, (is_late, (fraction, (zone, tt)))) }
+{
+    let date = MonthDate {
+        hour: hour_of(is_late, date.hour),
+        ..date
+    };
+    SentDate {
+        date,
+        nanosecond: fraction.unwrap_or(0),
+        offset: zone.flatten(),
     }
 }
 
-fn read_half(text: &str) -> Option<(HalfDate, &str)>
-    ensures { Reads (Row spec.half_row) half_values (chars text.now) result }
+// Returns a date with a clock of twelve hours, and the text after it.
+fn half_date(text: &str) -> Option<(SentDate, &str)>
+    ensures { Reads spec.half_date (λ d. d) (chars text.now) result }
 {
     let (date, after_date) = month_date(text)?;
     let (is_late, after_half) = half(after_date)?;
     let (nanosecond, after_fraction) = optional_fraction(after_half);
     let (zone, rest) = optional_zone(after_fraction);
-    let shown = HalfDate {
-        date,
-        is_late,
-        nanosecond,
-        zone,
-    };
-    Some((shown, rest))
-}
-
-fn half_date(text: &str) -> Option<(SentDate, &str)>
-    ensures { Reads spec.half_date (λ d. d) (chars text.now) result }
-{
-    let (date, rest) = read_half(text)?;
-    Some((date.sent(), rest))
+    Some((date_of(date, is_late, nanosecond, zone), rest))
 }
 
 /// Returns what a line of Cisco Unified Communications Manager says.

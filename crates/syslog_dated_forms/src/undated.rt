@@ -14,8 +14,9 @@ ghost use Rattle.syslog_sent.specs.Zone.{bare_word as any_word};
 ghost use Rattle.syslog_dated_forms.specs.Undated as spec;
 
 use crate::address::has_pair;
-use crate::cisco::{label, message, past_counter};
+use crate::cisco::{counter, label, message};
 use crate::filed::past_front;
+use crate::readers::past_any;
 use syslog_sent::named::is_number;
 use syslog_sent::sent::{Sent, SentDate};
 use syslog_sent::skips::{colon, digits, gap};
@@ -71,17 +72,6 @@ fn uptime(text: &str) -> Option<&str>
     word_uptime(text)
 }
 
-// Returns the text after how long the device has run, and all of it if that is not shown.
-fn past_uptime(text: &str) -> &str
-    ensures { (v : (optional spec.uptime).Value)
-        × Front (optional spec.uptime) (chars text.now) (shown result) v }
-{
-    match uptime(text) {
-        Some(rest) => rest,
-        None => text,
-    }
-}
-
 // Whether the word says how long the device has run, and is no address of IPv6.
 fn is_no_name(word: &str) -> bool
     ensures { result ≡ spec.is_no_name (chars word.now) }
@@ -116,10 +106,10 @@ pub(crate) fn read_undated(text: &str) -> Option<Sent<'_>>
     let after_gap = blanks(text);
     let after_colon = past_colon(after_gap);
     let begun = blanks(after_colon);
-    let after_counter = past_counter(begun);
-    let after_number = past_counter(after_counter);
+    let after_counter = past_any(begun, counter);
+    let after_number = past_any(after_counter, counter);
     let (hostname, after_host) = optional_name(after_number);
-    let rest = past_uptime(after_host);
+    let rest = past_any(after_host, uptime);
     let (tag, msg) = message(rest)?;
     Some(Sent {
         version: None,
@@ -138,9 +128,9 @@ pub(crate) fn read_timed(date: SentDate, rest: &str) -> Option<Sent<'_>>
         → Sends spec.timed_form text result }
 {
     let front = past_front(date, rest)?;
-    let after_counter = past_counter(front.line);
-    let after_number = past_counter(after_counter);
-    let rest = past_uptime(after_number);
+    let after_counter = past_any(front.line, counter);
+    let after_number = past_any(after_counter, counter);
+    let rest = past_any(after_number, uptime);
     let (tag, msg) = message(rest)?;
     Some(Sent {
         version: None,

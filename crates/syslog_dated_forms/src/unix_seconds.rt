@@ -13,6 +13,7 @@ ghost use Rattle.syslog_sent.specs.Zone.{bare_word as any_word};
 ghost use Rattle.syslog_dated_forms.specs.UnixSeconds as spec;
 
 use crate::cisco::origin;
+use crate::readers::past_word_if;
 use jiff::Timestamp;
 use jiff::civil::DateTime;
 use jiff::tz::Offset;
@@ -21,7 +22,7 @@ use syslog_sent::date::fraction;
 use syslog_sent::named::read_program;
 use syslog_sent::sent::{Sent, SentDate};
 use syslog_sent::skips::gap;
-use syslog_sent::zone::{bare_word, is_one_of};
+use syslog_sent::zone::is_one_of;
 use syslog_text::text::{blanks, host, literal, number};
 
 // Returns what a clock in UTC shows so many seconds after 1970 began.
@@ -138,11 +139,7 @@ fn is_event_type(word: &str) -> bool
 fn event_type(text: &str) -> Option<&str>
     ensures { Recognises (such_that any_word spec.IsEventType) (chars text.now) result }
 {
-    let (word, rest) = bare_word(text)?;
-    if !is_event_type(word) {
-        return None;
-    }
-    Some(rest)
+    past_word_if(text, is_event_type)
 }
 
 /// Returns what a line of Meraki without the version says.

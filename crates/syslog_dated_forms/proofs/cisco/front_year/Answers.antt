@@ -1,13 +1,14 @@
 use Rattle.std.proofs.Common.{ℕ, inl, refl}
-use Rattle.syslog_text.proofs.PieceLemmas.Class.{◌past◌, ◌then◌, mapped_front, no_mapped, no_row, row_of}
+use Rattle.syslog_text.proofs.PieceLemmas.Class.{◌past◌, ◌then◌, mapped_front, row_of}
 use Rattle.syslog_text.specs.Pieces.Class.{Row}
 use Rattle.syslog_dated_forms.specs.Cisco.{front_year_row}
 use Rattle.syslog_dated_forms.proofs.CiscoLemmas.{front_year_row_det}
+use Rattle.syslog_sent.proofs.NamedLemmas.{unread}
 use Rattle.syslog_dated_forms.proofs.cisco.front_year.Goals as goal
 
 pub returns-in_err-rest : goal.returns-in_err-rest
-returns-in_err-rest c = rw c.from_residual-in_err-rest.ensures (no_mapped (Row front_year_row) ℕ (λ v. v.0)
-    (no_row front_year_row front_year_row_det (c.in_ok-year.ensures past inl c.in_err-rest.ensures)))
+returns-in_err-rest c = rw c.from_residual-in_err-rest.ensures (unread front_year_row front_year_row_det ℕ (λ v. v.0)
+    (c.in_ok-year.ensures past inl c.in_err-rest.ensures))
 
 pub returns : goal.returns
 returns c = mapped_front (Row front_year_row) ℕ (λ v. v.0)

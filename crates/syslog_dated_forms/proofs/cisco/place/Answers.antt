@@ -1,10 +1,11 @@
 use Rattle.std.proofs.Common.{Option, refl}
 use Rattle.syslog_text.proofs.PieceLemmas.Class.{◌then◌, mapped_front, row_of}
 use Rattle.syslog_text.specs.Pieces.Class.{Row, Text}
-use Rattle.syslog_dated_forms.specs.Cisco.{place_row}
+use Rattle.syslog_dated_forms.specs.Cisco.{place_row, unit}
+use Rattle.syslog_dated_forms.proofs.ReaderLemmas.{skipped}
 use Rattle.syslog_dated_forms.proofs.cisco.place.Goals as goal
 
 pub returns : goal.returns
 returns c = mapped_front (Row place_row) (Option Text) (λ v. v.1.0) (row_of place_row (c.blanks.ensures
     then c.optional_origin.ensures then c.blanks-2.ensures then c.past_colon.ensures.1 then c.blanks-3.ensures
-    then c.past_unit.ensures.1 then refl))
+    then (skipped unit _ _ c.past_any.ensures).1 then refl))

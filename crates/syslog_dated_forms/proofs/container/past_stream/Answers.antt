@@ -1,5 +1,5 @@
 use Rattle.syslog_dated_forms.specs.Container.{stream_row}
-use Rattle.syslog_dated_forms.proofs.ContainerLemmas.{stream_row_det}
+use Rattle.syslog_dated_forms.proofs.RowLemmas.{stream_row_det}
 use Rattle.syslog_dated_forms.proofs.ChainLemmas.{◌next◌, chain_row, end}
 use Rattle.syslog_dated_forms.proofs.container.past_stream.Goals as goal
 

@@ -1,17 +1,18 @@
 use Rattle.std.proofs.Common.{inl, refl}
-use Rattle.syslog_text.proofs.PieceLemmas.Class.{◌past◌, ◌then◌, no_row, no_row_division, row_of}
+use Rattle.syslog_text.proofs.PieceLemmas.Class.{◌past◌, ◌then◌, row_of}
 use Rattle.syslog_pieces.specs.Timestamp.{header_stamp}
 use Rattle.syslog_sent.specs.Date.{iso_date}
 use Rattle.syslog_dated_forms.specs.Dated.{dated_sent, iso_row}
 use Rattle.syslog_sent.proofs.DateLemmas.{no_unless, unless_front}
-use Rattle.syslog_dated_forms.proofs.DatedLemmas.{iso_line_det}
+use Rattle.syslog_dated_forms.proofs.RowLemmas.{iso_line_det}
 use Rattle.syslog_sent.proofs.FormLemmas.{says_once}
 use Rattle.syslog_sent.specs.declared.dialect.Dialect.TheVariants.{NearlyRfc3339}
+use Rattle.syslog_dated_forms.proofs.ChainLemmas.{undivided}
 use Rattle.syslog_dated_forms.proofs.dated.read_iso.Goals as goal
 
 pub returns-in-Some : goal.returns-in-Some
-returns-in-Some c text g d = no_row_division iso_row (no_row iso_row iso_line_det (g past inl
-    (no_unless header_stamp iso_date c.in-Some.ensures)))
+returns-in-Some c text g d = undivided iso_row iso_line_det (g past inl (no_unless header_stamp iso_date
+    c.in-Some.ensures))
 
 pub returns : goal.returns
 returns c text g d = says_once NearlyRfc3339 iso_row (λ v. dated_sent v.1.0 v.1.1.0) iso_line_det

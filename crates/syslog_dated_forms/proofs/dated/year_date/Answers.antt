@@ -1,22 +1,20 @@
-use Rattle.std.proofs.Common.{inl}
-use Rattle.syslog_text.proofs.PieceLemmas.Class.{◌past◌, ◌then◌, mapped_front, no_mapped, no_row, row_of}
-use Rattle.std.proofs.Common.{Some, refl}
+use Rattle.std.proofs.Common.{inl, Some, refl}
+use Rattle.syslog_text.proofs.PieceLemmas.Class.{◌past◌, ◌then◌, mapped_front, row_of}
 use Rattle.syslog_text.specs.Pieces.Class.{Row}
 use Rattle.syslog_dated_forms.specs.Cisco.{dated_in}
 use Rattle.syslog_dated_forms.specs.Dated.{year_date_row}
-use Rattle.syslog_dated_forms.proofs.DatedLemmas.{year_date_det}
+use Rattle.syslog_dated_forms.proofs.RowLemmas.{year_date_det}
 use Rattle.syslog_sent.specs.declared.sent.SentDate.{SentDate}
+use Rattle.syslog_sent.proofs.NamedLemmas.{unread}
 use Rattle.syslog_dated_forms.proofs.dated.year_date.Goals as goal
 
 pub returns-in_err-year : goal.returns-in_err-year
-returns-in_err-year c = rw c.from_residual.ensures
-    (no_mapped (Row year_date_row) SentDate (λ v. dated_in (Some v.0) v.1.0)
-    (no_row year_date_row year_date_det (inl c.in_err-year.ensures)))
+returns-in_err-year c = rw c.from_residual.ensures (unread year_date_row year_date_det SentDate (λ v. dated_in (Some
+    v.0) v.1.0) (inl c.in_err-year.ensures))
 
 pub returns-in_err-date : goal.returns-in_err-date
-returns-in_err-date c = rw c.from_residual-in_err-date.ensures
-    (no_mapped (Row year_date_row) SentDate (λ v. dated_in (Some v.0) v.1.0)
-    (no_row year_date_row year_date_det (c.in_ok-year.ensures past inl c.in_err-date.ensures)))
+returns-in_err-date c = rw c.from_residual-in_err-date.ensures (unread year_date_row year_date_det SentDate (λ v.
+    dated_in (Some v.0) v.1.0) (c.in_ok-year.ensures past inl c.in_err-date.ensures))
 
 pub returns : goal.returns
 returns c = rw c.dated_in.ensures (mapped_front (Row year_date_row) SentDate (λ v. dated_in (Some v.0) v.1.0)

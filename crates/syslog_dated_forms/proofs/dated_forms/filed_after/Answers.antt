@@ -1,13 +1,13 @@
 use Rattle.syslog_sent.proofs.DialectLemmas.{found_early, found_late}
-use Rattle.syslog_sent.proofs.LedLemmas.{any_front}
+use Rattle.syslog_dated_forms.proofs.OtherFormLemmas.{led_date}
 use Rattle.syslog_dated_forms.specs.{DatedForms.timed_forms, Filed.filed_forms}
 use Rattle.syslog_dated_forms.proofs.dated_forms.filed_after.Goals as goal
 
 pub returns-in-Some : goal.returns-in-Some
 returns-in-Some c text led = found_early filed_forms timed_forms _ c.in-Some.found
-    (c.in-Some.ensures _ _ led.gap (rw led.sent (any_front c.args.led.now.date led.date)))
+    (c.in-Some.ensures _ _ led.gap (led_date c.args.led.now led))
 
 pub returns : goal.returns
 returns c text led = found_late filed_forms timed_forms _ c.from_timed.result
-    (c.in_default.ensures _ _ led.gap (rw led.sent (any_front c.args.led.now.date led.date))) (c.from_timed.ensures text
+    (c.in_default.ensures _ _ led.gap (led_date c.args.led.now led)) (c.from_timed.ensures text
     led)

@@ -1,18 +1,13 @@
 use Rattle.syslog_sent.proofs.DialectLemmas.{found_early, found_late}
-use Rattle.syslog_dated_forms.proofs.MarkLemmas.{unmarked_cisco, unmarked_filed, unmarked_timed}
-use Rattle.syslog_sent.proofs.FormLemmas.{found_after}
-use Rattle.std.proofs.Common.{None, refl}
+use Rattle.syslog_dated_forms.proofs.MarkLemmas.{unmarked_marked}
+use Rattle.std.proofs.Common.{refl, ◌++◌}
 use Rattle.syslog_dated_forms.specs.Cisco.{cisco_forms}
-use Rattle.std.proofs.Common.{◌++◌}
 use Rattle.syslog_dated_forms.specs.DatedForms.{timed_forms}
 use Rattle.syslog_dated_forms.specs.Filed.{filed_forms}
 use Rattle.syslog_dated_forms.proofs.dated_forms.of_cisco.Goals as goal
 
 pub returns-then-not-is_marked : goal.returns-then-not-is_marked
-returns-then-not-is_marked c led =
-    let none = c.if-not-is_marked.ensures refl in
-    found_after cisco_forms (filed_forms ++ timed_forms) _ None (unmarked_cisco none)
-    (found_after filed_forms timed_forms _ None (unmarked_filed none) (unmarked_timed none))
+returns-then-not-is_marked c led = unmarked_marked (c.if-not-is_marked.ensures refl)
 
 pub returns-in-Some : goal.returns-in-Some
 returns-in-Some c led =

@@ -1,13 +1,12 @@
-use Rattle.std.proofs.Common.{◌++◌, None, inl, refl}
+use Rattle.std.proofs.Common.{◌++◌, inl, refl}
 use Rattle.syslog_text.specs.Pieces.Class.{Text}
 use Rattle.syslog_text.proofs.PieceLemmas.Class.{◌past◌, no_row, no_row_division, rows_none_here}
-use Rattle.syslog_sent.proofs.FormLemmas.{found_after}
 use Rattle.syslog_sent.specs.Forms.{IsOfNone}
 use Rattle.syslog_sent.specs.Led.{IsUnled}
 use Rattle.syslog_sent.proofs.DialectLemmas.{none_joined}
 use Rattle.syslog_dated_forms.proofs.LedFormLemmas.{found_alone}
 use Rattle.syslog_dated_forms.proofs.FiledLemmas.{filed_front_det, unfiled}
-use Rattle.syslog_dated_forms.proofs.MarkLemmas.{unmarked_cisco, unmarked_filed, unmarked_timed}
+use Rattle.syslog_dated_forms.proofs.MarkLemmas.{unmarked_marked}
 use Rattle.syslog_dated_forms.specs.Cisco.{cisco_forms}
 use Rattle.syslog_dated_forms.specs.DatedForms.{timed_forms}
 use Rattle.syslog_dated_forms.specs.Filed.{filed_forms, filed_front}
@@ -21,10 +20,7 @@ none_filed {text} none = let n = no_row filed_front filed_front_det (none.gap pa
     (no_row_division timed_row (rows_none_here filed_front filed_more n), tt)
 
 pub returns-then-not-is_marked : goal.returns-then-not-is_marked
-returns-then-not-is_marked c unled =
-    let none = c.if-not-is_marked.ensures refl in
-    found_after cisco_forms (filed_forms ++ timed_forms) _ None (unmarked_cisco none)
-    (found_after filed_forms timed_forms _ None (unmarked_filed none) (unmarked_timed none))
+returns-then-not-is_marked c unled = unmarked_marked (c.if-not-is_marked.ensures refl)
 
 pub returns : goal.returns
 returns c unled = found_alone cisco_forms (filed_forms ++ timed_forms) _ c.read_cisco.result (none_filed unled)

@@ -9,13 +9,13 @@ returns-in_err-line c text at g d =
     rw c.from_residual-in_err-line.ensures (none_filed (c.in_ok-front.ensures text at g d) c.in_err-line.ensures)
 
 pub returns-then-is_asa : goal.returns-then-is_asa
-returns-then-is_asa c text at g d =
-    of_asa (c.in_ok-front.ensures text at g d) c.in_ok-line.ensures _ c.sent-sent.ensures c.if-is_asa.ensures
+returns-then-is_asa c text at g d = of_asa (c.in_ok-front.ensures text at g d) c.in_ok-line.ensures
+    c.sent-sent.result c.sent-sent.ensures c.if-is_asa.ensures
 
 pub returns-then-is_nx_os : goal.returns-then-is_nx_os
-returns-then-is_nx_os c text at g d = of_nx_os (c.in_ok-front.ensures text at g d) c.in_ok-line.ensures _
-    c.sent-sent.ensures c.if-is_asa.ensures c.if-is_nx_os.ensures
+returns-then-is_nx_os c text at g d = of_nx_os (c.in_ok-front.ensures text at g d) c.in_ok-line.ensures
+    c.sent-sent.result c.sent-sent.ensures c.if-is_asa.ensures c.if-is_nx_os.ensures
 
 pub returns : goal.returns
-returns c text at g d = of_ios (c.in_ok-front.ensures text at g d) c.in_ok-line.ensures _
-    c.sent-sent.ensures c.if-is_asa.ensures c.if-is_nx_os.ensures
+returns c text at g d = of_ios (c.in_ok-front.ensures text at g d) c.in_ok-line.ensures
+    c.sent-sent.result c.sent-sent.ensures c.if-is_asa.ensures c.if-is_nx_os.ensures

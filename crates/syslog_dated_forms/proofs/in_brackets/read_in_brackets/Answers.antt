@@ -1,28 +1,27 @@
 use Rattle.std.proofs.Common.{None, Some, ap, inl, refl}
 use Rattle.std.specs.Str.{chars}
-use Rattle.syslog_text.proofs.PieceLemmas.Class.{◌past◌, ◌then◌, no_row, no_row_division, rest_front, row_of}
+use Rattle.syslog_text.proofs.PieceLemmas.Class.{◌past◌, ◌then◌, rest_front, row_of}
 use Rattle.syslog_dated_forms.specs.InBrackets.{in_brackets_row, in_brackets_sent}
 use Rattle.syslog_dated_forms.proofs.InBracketsLemmas.{in_brackets_det, no_stamp, stamp_front}
 use Rattle.syslog_sent.proofs.FormLemmas.{says_once}
 use Rattle.syslog_sent.specs.Sent.{loose}
 use Rattle.syslog_sent.specs.declared.dialect.Dialect.TheVariants.{Bracketed}
 use Rattle.syslog_sent.specs.declared.sent.SentDate.{SentDate}
+use Rattle.syslog_dated_forms.proofs.ChainLemmas.{undivided}
 use Rattle.syslog_dated_forms.proofs.in_brackets.read_in_brackets.Goals as goal
 
 pub returns-in_err-at_date : goal.returns-in_err-at_date
-returns-in_err-at_date c = rw c.from_residual.ensures (no_row_division in_brackets_row
-    (no_row in_brackets_row in_brackets_det (c.blanks.ensures past inl c.in_err-at_date.ensures)))
+returns-in_err-at_date c = rw c.from_residual.ensures (undivided in_brackets_row in_brackets_det (c.blanks.ensures
+    past inl c.in_err-at_date.ensures))
 
 pub returns-in_err-date : goal.returns-in_err-date
-returns-in_err-date c = rw c.from_residual-in_err-date.ensures (no_row_division in_brackets_row
-    (no_row in_brackets_row in_brackets_det (c.blanks.ensures past c.in_ok-at_date.ensures
-    past inl (no_stamp c.inside.ensures c.in_err-date.ensures))))
+returns-in_err-date c = rw c.from_residual-in_err-date.ensures (undivided in_brackets_row in_brackets_det
+    (c.blanks.ensures past c.in_ok-at_date.ensures past inl (no_stamp c.inside.ensures c.in_err-date.ensures)))
 
 pub returns-in_err-rest : goal.returns-in_err-rest
-returns-in_err-rest c = rw c.from_residual-in_err-rest.ensures
-    (let (v, division, same) = c.in_ok-date.ensures in no_row_division in_brackets_row
-    (no_row in_brackets_row in_brackets_det (c.blanks.ensures past c.in_ok-at_date.ensures
-    past stamp_front c.inside.ensures division past inl c.in_err-rest.ensures)))
+returns-in_err-rest c = rw c.from_residual-in_err-rest.ensures (let (v, division, same) = c.in_ok-date.ensures in
+    undivided in_brackets_row in_brackets_det (c.blanks.ensures past c.in_ok-at_date.ensures past stamp_front
+    c.inside.ensures division past inl c.in_err-rest.ensures))
 
 pub returns : goal.returns
 returns c = let (v, division, same) = c.in_ok-date.ensures in

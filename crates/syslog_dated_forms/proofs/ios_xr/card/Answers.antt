@@ -1,24 +1,24 @@
 use Rattle.std.proofs.Common.{Option, inl, refl}
-use Rattle.syslog_text.proofs.PieceLemmas.Class.{◌past◌, ◌then◌, mapped_front, no_mapped, no_row, row_of}
+use Rattle.syslog_text.proofs.PieceLemmas.Class.{◌past◌, ◌then◌, mapped_front, row_of}
 use Rattle.syslog_text.specs.Pieces.Class.{Row, Text}
 use Rattle.syslog_dated_forms.specs.IosXr.{card_row, host_in}
-use Rattle.syslog_dated_forms.proofs.OtherDateLemmas.{card_row_det}
+use Rattle.syslog_dated_forms.proofs.RowLemmas.{card_row_det}
+use Rattle.syslog_sent.proofs.NamedLemmas.{unread}
+use Rattle.syslog_dated_forms.specs.Cisco.{counter_row}
+use Rattle.syslog_dated_forms.proofs.ReaderLemmas.{skipped}
 use Rattle.syslog_dated_forms.proofs.ios_xr.card.Goals as goal
 
 pub returns-in_err-after_node : goal.returns-in_err-after_node
-returns-in_err-after_node c = rw c.from_residual.ensures
-    (no_mapped (Row card_row) (Option Text) host_in (no_row card_row card_row_det
-    (c.blanks-after_gap.ensures past c.past_counter-after_counter.ensures.1 past c.optional_host.ensures past inl
-    c.in_err-after_node.ensures)))
+returns-in_err-after_node c = rw c.from_residual.ensures (unread card_row card_row_det (Option Text) host_in
+    (c.blanks-after_gap.ensures past (skipped (Row counter_row) _ _ c.past_any-after_counter.ensures).1
+    past c.optional_host.ensures past inl c.in_err-after_node.ensures))
 
 pub returns-in_err-rest : goal.returns-in_err-rest
-returns-in_err-rest c = rw c.from_residual-in_err-rest.ensures
-    (no_mapped (Row card_row) (Option Text) host_in (no_row card_row card_row_det
-    (c.blanks-after_gap.ensures past c.past_counter-after_counter.ensures.1 past c.optional_host.ensures past
-    c.in_ok-after_node.ensures.1 past inl c.in_err-rest.ensures)))
+returns-in_err-rest c = rw c.from_residual-in_err-rest.ensures (unread card_row card_row_det (Option Text) host_in
+    (c.blanks-after_gap.ensures past (skipped (Row counter_row) _ _ c.past_any-after_counter.ensures).1
+    past c.optional_host.ensures past c.in_ok-after_node.ensures.1 past inl c.in_err-rest.ensures))
 
 pub returns : goal.returns
-returns c = mapped_front (Row card_row) (Option Text) host_in
-    (row_of card_row (c.blanks-after_gap.ensures then c.past_counter-after_counter.ensures.1 then
-    c.optional_host.ensures then c.in_ok-after_node.ensures.1
-    then c.in_ok-rest.ensures.1 then refl))
+returns c = mapped_front (Row card_row) (Option Text) host_in (row_of card_row (c.blanks-after_gap.ensures
+    then (skipped (Row counter_row) _ _ c.past_any-after_counter.ensures).1 then c.optional_host.ensures
+    then c.in_ok-after_node.ensures.1 then c.in_ok-rest.ensures.1 then refl))

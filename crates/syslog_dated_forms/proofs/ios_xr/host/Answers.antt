@@ -1,17 +1,18 @@
 use Rattle.std.proofs.Common.{inl, refl}
-use Rattle.syslog_text.proofs.PieceLemmas.Class.{◌past◌, ◌then◌, mapped_front, no_mapped, no_row, row_of}
+use Rattle.syslog_text.proofs.PieceLemmas.Class.{◌past◌, ◌then◌, mapped_front, row_of}
 use Rattle.syslog_text.specs.Pieces.Class.{Row, Text}
 use Rattle.syslog_dated_forms.specs.IosXr.{host_row}
-use Rattle.syslog_dated_forms.proofs.OtherDateLemmas.{host_row_det}
+use Rattle.syslog_dated_forms.proofs.RowLemmas.{host_row_det}
+use Rattle.syslog_sent.proofs.NamedLemmas.{unread}
 use Rattle.syslog_dated_forms.proofs.ios_xr.host.Goals as goal
 
 pub returns-in_err-name : goal.returns-in_err-name
-returns-in_err-name c = rw c.from_residual.ensures
-    (no_mapped (Row host_row) Text (λ v. v.0) (no_row host_row host_row_det (inl c.in_err-name.ensures)))
+returns-in_err-name c = rw c.from_residual.ensures (unread host_row host_row_det Text (λ v. v.0) (inl
+    c.in_err-name.ensures))
 
 pub returns-in_err-rest : goal.returns-in_err-rest
-returns-in_err-rest c = rw c.from_residual-in_err-rest.ensures (no_mapped (Row host_row) Text (λ v. v.0)
-    (no_row host_row host_row_det (c.in_ok-name.ensures past inl c.in_err-rest.ensures)))
+returns-in_err-rest c = rw c.from_residual-in_err-rest.ensures (unread host_row host_row_det Text (λ v. v.0)
+    (c.in_ok-name.ensures past inl c.in_err-rest.ensures))
 
 pub returns : goal.returns
 returns c = mapped_front (Row host_row) Text (λ v. v.0)

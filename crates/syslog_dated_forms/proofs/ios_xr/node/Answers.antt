@@ -1,12 +1,10 @@
 use Rattle.std.proofs.Common.{◌≡◌, inl, inr, ℕ, true, ◌∷◌, ◌++◌, refl, subst}
 use Rattle.std.specs.Prelude.{codes}
 use Rattle.syslog_text.specs.Pieces.Class.{Text}
-use Rattle.syslog_text.proofs.PieceLemmas.Rules.{no_such_front, no_such_meaning, such_front}
+use Rattle.syslog_dated_forms.proofs.ReaderLemmas.{past_such}
 use Rattle.syslog_dated_forms.specs.Cisco.{Starts}
 use Rattle.syslog_dated_forms.specs.IosXr.{IsNode, begins_node}
 use Rattle.syslog_sent.specs.Named.{BeginsWith}
-use Rattle.syslog_sent.specs.Zone.{bare_word}
-use Rattle.syslog_sent.proofs.ZoneLemmas.{bare_word_det}
 use Rattle.syslog_dated_forms.proofs.ios_xr.node.Goals as goal
 
 starts_so : (c : ℕ) (words w q : Text) → begins_node c ≡ true → Starts (c ∷ words) w → BeginsWith begins_node (w ++ q)
@@ -21,12 +19,5 @@ pub returns-then-not-may_be_node : goal.returns-then-not-may_be_node
 returns-then-not-may_be_node c p q v e ((u, h, is), k) = c.if-not-may_be_node.ensures
     (rw e (subst (λ (x : Text). BeginsWith begins_node (x ++ q)) is (node_begins v q k)))
 
-pub returns-in_err-word : goal.returns-in_err-word
-returns-in_err-word c = rw c.from_residual.ensures (no_such_front bare_word IsNode c.in_err-word.ensures)
-
-pub returns-then-not-is_node : goal.returns-then-not-is_node
-returns-then-not-is_node c = no_such_meaning bare_word IsNode bare_word_det c.in_ok-word.ensures
-    c.if-not-is_node.ensures
-
 pub returns : goal.returns
-returns c = (_, such_front bare_word IsNode c.in_ok-word.ensures c.if-not-is_node.ensures)
+returns c = past_such IsNode _ _ c.past_word_if.ensures

@@ -1,5 +1,5 @@
 use Rattle.syslog_dated_forms.specs.Kiwi.{level_row}
-use Rattle.syslog_dated_forms.proofs.KiwiLemmas.{level_row_det}
+use Rattle.syslog_dated_forms.proofs.RowLemmas.{level_row_det}
 use Rattle.syslog_dated_forms.proofs.ChainLemmas.{◌next◌, chain_row, end}
 use Rattle.syslog_dated_forms.proofs.kiwi.level.Goals as goal
 

@@ -1,16 +1,16 @@
 use Rattle.std.proofs.Common.{inl, refl}
-use Rattle.syslog_text.proofs.PieceLemmas.Class.{◌past◌, ◌then◌, no_row, no_row_division, row_of}
+use Rattle.syslog_text.proofs.PieceLemmas.Class.{◌past◌, ◌then◌, row_of}
 use Rattle.syslog_dated_forms.specs.NetScaler.{netscaler_row}
 use Rattle.syslog_dated_forms.specs.Dated.{dated_sent}
-use Rattle.syslog_dated_forms.proofs.OtherDateLemmas.{netscaler_row_det}
+use Rattle.syslog_dated_forms.proofs.RowLemmas.{netscaler_row_det}
 use Rattle.syslog_sent.proofs.FormLemmas.{says_once}
 use Rattle.syslog_sent.specs.declared.dialect.Dialect.TheVariants.{NetScaler}
+use Rattle.syslog_dated_forms.proofs.ChainLemmas.{undivided}
 use Rattle.syslog_dated_forms.proofs.netscaler.read_netscaler.Goals as goal
 
 pub returns-in_err-date : goal.returns-in_err-date
-returns-in_err-date c = rw c.from_residual.ensures
-    (no_row_division netscaler_row (no_row netscaler_row netscaler_row_det
-    (c.blanks.ensures past inl c.in_err-date.ensures)))
+returns-in_err-date c = rw c.from_residual.ensures (undivided netscaler_row netscaler_row_det (c.blanks.ensures past inl
+    c.in_err-date.ensures))
 
 pub returns : goal.returns
 returns c = says_once NetScaler netscaler_row (λ v. dated_sent v.1.0 v.1.1.0) netscaler_row_det

@@ -1,7 +1,7 @@
 use Rattle.std.proofs.Common.{inl, refl}
 use Rattle.syslog_text.proofs.PieceLemmas.Class.{◌past◌, ◌then◌, no_row, row_of}
 use Rattle.syslog_dated_forms.specs.NetScaler.{year_first_row}
-use Rattle.syslog_dated_forms.proofs.OtherDateLemmas.{year_first_row_det}
+use Rattle.syslog_dated_forms.proofs.RowLemmas.{year_first_row_det}
 use Rattle.syslog_dated_forms.proofs.netscaler.year_first.Goals as goal
 
 pub returns-in_err-year : goal.returns-in_err-year

@@ -5,7 +5,7 @@ use Rattle.syslog_sent.proofs.FormLemmas.{says_once}
 use Rattle.syslog_sent.specs.Date.{any_date}
 use Rattle.syslog_sent.specs.Named.{program}
 use Rattle.syslog_dated_forms.proofs.ChainLemmas.{◌next◌, chain_fails, chain_past, chain_reads, end, undivided}
-use Rattle.syslog_dated_forms.proofs.OtherDateLemmas.{logread_row_det}
+use Rattle.syslog_dated_forms.proofs.RowLemmas.{logread_row_det}
 use Rattle.syslog_sent.specs.declared.dialect.Dialect.TheVariants.{SeverityFirst}
 use Rattle.syslog_dated_forms.proofs.open_wrt.read_logread.Goals as goal
 

@@ -3,7 +3,7 @@ use Rattle.syslog_text.proofs.PieceLemmas.Class.{◌past◌, ◌then◌, mapped_
 use Rattle.syslog_text.specs.Pieces.Class.{Row}
 use Rattle.syslog_dated_forms.specs.SophosUtm.{colon_of, colon_row}
 use Rattle.syslog_sent.proofs.NamedLemmas.{unread}
-use Rattle.syslog_dated_forms.proofs.OtherDateLemmas.{colon_row_det}
+use Rattle.syslog_dated_forms.proofs.RowLemmas.{colon_row_det}
 use Rattle.syslog_sent.specs.declared.sent.SentDate.{SentDate}
 use Rattle.syslog_dated_forms.proofs.sophos_utm.colon_date.Goals as goal
 

@@ -1,15 +1,16 @@
 use Rattle.std.proofs.Common.{inl, refl}
-use Rattle.syslog_text.proofs.PieceLemmas.Class.{◌past◌, ◌then◌, no_row, no_row_division, row_of}
+use Rattle.syslog_text.proofs.PieceLemmas.Class.{◌past◌, ◌then◌, row_of}
 use Rattle.syslog_dated_forms.specs.SophosUtm.{utm_row}
 use Rattle.syslog_dated_forms.specs.Dated.{dated_sent}
-use Rattle.syslog_dated_forms.proofs.OtherDateLemmas.{utm_row_det}
+use Rattle.syslog_dated_forms.proofs.RowLemmas.{utm_row_det}
 use Rattle.syslog_sent.proofs.FormLemmas.{says_once}
 use Rattle.syslog_sent.specs.declared.dialect.Dialect.TheVariants.{SophosUtm}
+use Rattle.syslog_dated_forms.proofs.ChainLemmas.{undivided}
 use Rattle.syslog_dated_forms.proofs.sophos_utm.read_utm.Goals as goal
 
 pub returns-in_err-date : goal.returns-in_err-date
-returns-in_err-date c = rw c.from_residual.ensures (no_row_division utm_row (no_row utm_row utm_row_det
-    (c.blanks.ensures past inl c.in_err-date.ensures)))
+returns-in_err-date c = rw c.from_residual.ensures (undivided utm_row utm_row_det (c.blanks.ensures past inl
+    c.in_err-date.ensures))
 
 pub returns : goal.returns
 returns c = says_once SophosUtm utm_row (λ v. dated_sent v.1.0 v.1.1.0) utm_row_det

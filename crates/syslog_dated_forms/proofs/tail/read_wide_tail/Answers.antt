@@ -1,9 +1,10 @@
 use Rattle.std.proofs.Common.{refl}
 use Rattle.syslog_text.proofs.PieceLemmas.Class.{◌then◌, mapped_front, row_of}
 use Rattle.syslog_text.specs.Pieces.Class.{Row, Values}
-use Rattle.syslog_dated_forms.specs.Tail.{TailValue, wide_row}
+use Rattle.syslog_dated_forms.specs.Tail.{TailValue, wide_row, spare}
+use Rattle.syslog_dated_forms.proofs.ReaderLemmas.{skipped}
 use Rattle.syslog_dated_forms.proofs.tail.read_wide_tail.Goals as goal
 
 pub returns : goal.returns
-returns c = mapped_front (Row wide_row) TailValue (λ (v : Values wide_row). v.1.0)
-    (row_of wide_row (c.narrowed.ensures.1 then c.read_tail.ensures then refl))
+returns c = mapped_front (Row wide_row) TailValue (λ (v : Values wide_row). v.1.0) (row_of wide_row ((skipped spare _ _
+    c.past_any.ensures).1 then c.read_tail.ensures then refl))

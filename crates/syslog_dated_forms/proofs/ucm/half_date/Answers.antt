@@ -1,11 +1,21 @@
-use Rattle.syslog_text.proofs.PieceLemmas.Class.{mapped_front, no_mapped}
+use Rattle.std.proofs.Common.{inl, refl}
+use Rattle.syslog_text.proofs.PieceLemmas.Class.{◌past◌, ◌then◌, mapped_front, row_of}
 use Rattle.syslog_text.specs.Pieces.Class.{Row}
 use Rattle.syslog_dated_forms.specs.Ucm.{half_of, half_row}
+use Rattle.syslog_dated_forms.proofs.RowLemmas.{half_row_det}
+use Rattle.syslog_sent.proofs.NamedLemmas.{unread}
 use Rattle.syslog_sent.specs.declared.sent.SentDate.{SentDate}
 use Rattle.syslog_dated_forms.proofs.ucm.half_date.Goals as goal
 
 pub returns-in_err-date : goal.returns-in_err-date
-returns-in_err-date c = rw c.from_residual.ensures (no_mapped (Row half_row) SentDate half_of c.in_err-date.ensures)
+returns-in_err-date c = rw c.from_residual.ensures (unread half_row half_row_det SentDate half_of
+    (inl c.in_err-date.ensures))
+
+pub returns-in_err-is_late : goal.returns-in_err-is_late
+returns-in_err-is_late c = rw c.from_residual-in_err-is_late.ensures (unread half_row half_row_det SentDate half_of
+    (c.in_ok-date.ensures past inl c.in_err-is_late.ensures))
 
 pub returns : goal.returns
-returns c = rw c.sent.ensures (mapped_front (Row half_row) SentDate half_of c.in_ok-date.ensures)
+returns c = rw c.date_of.ensures (mapped_front (Row half_row) SentDate half_of (row_of half_row (c.in_ok-date.ensures
+    then c.in_ok-is_late.ensures then c.optional_fraction-nanosecond.ensures then c.optional_zone-zone.ensures
+    then refl)))

@@ -1,19 +1,25 @@
 use Rattle.std.proofs.Common.{inl, refl}
-use Rattle.syslog_text.proofs.PieceLemmas.Class.{◌past◌, ◌then◌, no_row, no_row_division, row_of}
-use Rattle.syslog_dated_forms.specs.Undated.{undated_row, undated_sent}
-use Rattle.syslog_dated_forms.proofs.UndatedLemmas.{undated_row_det}
+use Rattle.syslog_text.proofs.PieceLemmas.Class.{◌past◌, ◌then◌, row_of}
+use Rattle.syslog_dated_forms.specs.Undated.{undated_row, undated_sent, uptime}
+use Rattle.syslog_dated_forms.proofs.RowLemmas.{undated_row_det}
 use Rattle.syslog_sent.proofs.FormLemmas.{says_once}
 use Rattle.syslog_sent.specs.declared.dialect.Dialect.TheVariants.{CiscoUndated}
+use Rattle.syslog_dated_forms.proofs.ChainLemmas.{undivided}
+use Rattle.syslog_dated_forms.specs.Cisco.{counter_row}
+use Rattle.syslog_text.specs.Pieces.Class.{Row}
+use Rattle.syslog_dated_forms.proofs.ReaderLemmas.{skipped}
 use Rattle.syslog_dated_forms.proofs.undated.read_undated.Goals as goal
 
 pub returns-in_err-tag : goal.returns-in_err-tag
-returns-in_err-tag c = rw c.from_residual.ensures (no_row_division undated_row (no_row undated_row undated_row_det
-    (c.blanks-after_gap.ensures past c.past_colon-after_colon.ensures.1 past c.blanks-begun.ensures past
-    c.past_counter-after_counter.ensures.1 past c.past_counter-after_number.ensures.1 past
-    c.optional_name.ensures past c.past_uptime-rest.ensures.1 past inl c.in_err-tag.ensures)))
+returns-in_err-tag c = rw c.from_residual.ensures (undivided undated_row undated_row_det (c.blanks-after_gap.ensures
+    past c.past_colon-after_colon.ensures.1 past c.blanks-begun.ensures
+    past (skipped (Row counter_row) _ _ c.past_any-after_counter.ensures).1
+    past (skipped (Row counter_row) _ _ c.past_any-after_number.ensures).1 past c.optional_name.ensures
+    past (skipped uptime _ _ c.past_any-rest.ensures).1 past inl c.in_err-tag.ensures))
 
 pub returns : goal.returns
-returns c = says_once CiscoUndated undated_row undated_sent undated_row_det
-    (row_of undated_row (c.blanks-after_gap.ensures then c.past_colon-after_colon.ensures.1 then c.blanks-begun.ensures
-    then c.past_counter-after_counter.ensures.1 then c.past_counter-after_number.ensures.1 then c.optional_name.ensures
-    then c.past_uptime-rest.ensures.1 then c.in_ok-tag.ensures then refl)) refl
+returns c = says_once CiscoUndated undated_row undated_sent undated_row_det (row_of undated_row
+    (c.blanks-after_gap.ensures then c.past_colon-after_colon.ensures.1 then c.blanks-begun.ensures
+    then (skipped (Row counter_row) _ _ c.past_any-after_counter.ensures).1
+    then (skipped (Row counter_row) _ _ c.past_any-after_number.ensures).1 then c.optional_name.ensures
+    then (skipped uptime _ _ c.past_any-rest.ensures).1 then c.in_ok-tag.ensures then refl)) refl

@@ -1,6 +1,6 @@
 use Rattle.std.proofs.Common.{◌≡◌, ◌*ℤ◌, FitsSigned, pos, rules, w64}
 use Rattle.std.proofs.lemmas.Int.{to_z-of_z}
-use Rattle.syslog_dated_forms.proofs.UnixLemmas.{shown_fields}
+use Rattle.syslog_dated_forms.proofs.RowLemmas.{shown_fields}
 use Rattle.syslog_dated_forms.proofs.unix_seconds.shown_at.Goals as goal
 
 pub returns-in-Ok : goal.returns-in-Ok

@@ -4,7 +4,7 @@ use Rattle.syslog_text.specs.Pieces.Class.{Row}
 use Rattle.syslog_pieces.specs.declared.timestamp.fields.CivilFields.{CivilFields}
 use Rattle.syslog_dated_forms.specs.UnixSeconds.{in_utc, unix_of, unix_row}
 use Rattle.syslog_sent.proofs.NamedLemmas.{unread}
-use Rattle.syslog_dated_forms.proofs.UnixLemmas.{unix_row_det}
+use Rattle.syslog_dated_forms.proofs.RowLemmas.{unix_row_det}
 use Rattle.syslog_sent.specs.declared.sent.SentDate.{SentDate}
 use Rattle.syslog_dated_forms.proofs.unix_seconds.unix_date.Goals as goal
 

@@ -1,8 +1,0 @@
-use Rattle.std.proofs.Common.{Some}
-use Rattle.syslog_text.proofs.PieceLemmas.Class.{optional_some}
-use Rattle.syslog_text.specs.Pieces.Class.{Row}
-use Rattle.syslog_dated_forms.specs.Cisco.{task_row}
-use Rattle.syslog_dated_forms.proofs.cisco.past_task.Goals as goal
-
-pub returns-in-Some : goal.returns-in-Some
-returns-in-Some c = let (v, f) = c.in-Some.ensures in (Some v, optional_some (Row task_row) f)

@@ -1,9 +1,0 @@
-use Rattle.syslog_sent.proofs.LedLemmas.{apart}
-use Rattle.syslog_dated_forms.proofs.LedFormLemmas.{no_container}
-use Rattle.syslog_dated_forms.proofs.dated_forms.of_container.Goals as goal
-
-pub returns-in-Month : goal.returns-in-Month
-returns-in-Month c text led = no_container led.gap (apart (rw c.in-Month.is at led.date))
-
-pub returns-in-Iso : goal.returns-in-Iso
-returns-in-Iso c text led = c.read_container.ensures _ _ led.gap (rw c.in-Iso.is at led.date).1
