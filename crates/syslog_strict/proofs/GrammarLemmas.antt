@@ -1,27 +1,25 @@
 -- A text has one front of each class of the grammar; and elements of the grammar are what elements with such names and
 -- values print.
-use Rattle.syslog_strict.proofs.Words.{◌≡◌, ◌≢◌, inl, inr, ℕ, ◌+◌, ◌/◌, ◌<◌, ◌≤◌, Bool, true, false, List, [], ◌∷◌}
-use Rattle.syslog_strict.proofs.Words.{◌++◌, length, map, refl, sym, ap, ◌∙◌, arith, append_assoc, AllByRecursion, Text}
-use Rattle.syslog_strict.proofs.Words.{Ends, Each, heads, AreDistinct, is_escaped, is_sd_char, flat_map, ElementValue}
+use Rattle.syslog_strict.proofs.Words.{◌≡◌, ◌≢◌, inl, inr, ℕ, ◌+◌, ◌/◌, ◌<◌, Bool, true, false, List, [], ◌∷◌, ◌++◌}
+use Rattle.syslog_strict.proofs.Words.{length, map, refl, sym, ap, ◌∙◌, arith, append_assoc, AllByRecursion, Text, Ends}
+use Rattle.syslog_strict.proofs.Words.{heads, AreDistinct, is_escaped, is_sd_char, flat_map, ElementValue}
 use Rattle.syslog_strict.proofs.Words.{elements_text, joined_elements, element_text, param_text, is_ascii_digit}
 use Rattle.std.proofs.lemmas.List.{append_cancel_right, length-append}
 use Rattle.std.specs.Prelude.{◌↔◌}
-use Rattle.syslog_text.specs.Pieces.Class.{Class, Front, NoFront, IsDeterministic, Row, exactly, after, spaced}
-use Rattle.syslog_text.specs.Pieces.Class.{texted, rest}
-use Rattle.syslog_text.specs.Pieces.Lists.{many}
+use Rattle.syslog_text.specs.Pieces.Class.{Class, Front, NoFront, IsDeterministic, Row, exactly, after, spaced, texted}
+use Rattle.syslog_text.specs.{Pieces.Lists.many, Pieces.Rules.short_run}
 use Rattle.syslog_elements.specs.StructuredData.Escapes.{TextUnit, pair, single, unit_text}
 use Rattle.syslog_text.proofs.PieceLemmas.Class.{AllDeterministic, exactly_det, optional_det, mapped_det, piece_front}
-use Rattle.syslog_text.proofs.PieceLemmas.Class.{◌also◌, rest_det, texted_det, row_det, after_det, row_pieces, front_of}
-use Rattle.syslog_text.proofs.PieceLemmas.Lists.{many_det}
+use Rattle.syslog_text.proofs.PieceLemmas.Class.{◌also◌, texted_det, row_det, after_det, row_pieces, front_of}
+use Rattle.syslog_text.proofs.{PieceLemmas.Lists.many_det, TextLemmas.Bounded.numeral_det}
 use Rattle.syslog_text.proofs.PieceLemmas.Rules.{Opens, Prints, after_prints, exactly_apart, many_prints, or_det}
 use Rattle.syslog_text.proofs.PieceLemmas.Rules.{row_opens, short_run_det, such_det, none_left}
-use Rattle.syslog_text.proofs.TextLemmas.Bounded.{numeral_det}
 use Rattle.syslog_pieces.proofs.TimestampLemmas.Rfc3339.{pair_det, year_det}
 use Rattle.syslog_pieces.specs.Timestamp.Rfc3339.{pair as two_digits, year}
-use Rattle.syslog_strict.specs.Grammar as grammar
 use Rattle.syslog_strict.specs.Grammar.{IsValueUnit, sd_element, sd_elements, sd_param, sd_name, value_unit, param_row}
 use Rattle.syslog_strict.specs.Grammar.{element_row, date_row, partial_time, time_numoffset, date_time, AreElements}
 use Rattle.syslog_strict.specs.Grammar.{IsDate}
+use Rattle.syslog_strict.specs.Grammar as grammar
 
 -- ---- PRI and TIMESTAMP
 
@@ -105,7 +103,7 @@ element_det = mapped_det (Row element_row) ElementValue _ (row_det element_row e
 
 -- one to `most` characters that pass the test
 abbrev pub IsSomeOf : (ℕ → Bool) → ℕ → Text → Type 0
-IsSomeOf test most t = (0 < length t) × (length t ≤ most) × Each test t
+IsSomeOf test most t = grammar.IsAll (short_run test most) t
 
 abbrev pub IsSdName : Text → Type 0
 IsSdName t = IsSomeOf is_sd_char 32 t
@@ -151,13 +149,13 @@ param_prints p q v = (
       let whole : p ++ q ≡ quoted (vs.0, vs.1.1.1.0) ++ q =
       (let e : p ++ q ≡ vs.0 ++ (61 ∷ 34 ∷ (vs.1.1.1.0 ++ (34 ∷ q))) = cc in e ∙ sym (simp append_assoc refl)) in
       let text = append_cancel_right p (quoted (vs.0, vs.1.1.1.0)) q whole in
-      rw same (text, ((rw a ((name.0, name.1, name.2)), (units, b ∙ f, are))))),
+      rw same (text, ((rw a ((tt, (name.0, name.1, name.2, tt))), (units, b ∙ f, are))))),
   (λ (e, (name, (units, f, are))). (
     (v.0, (tt, (tt, (v.1, (tt, tt))))),
     (
       v.0 ∷ (61 ∷ []) ∷ (34 ∷ []) ∷ v.1 ∷ (34 ∷ []) ∷ [],
       e,
-      (tt, (name.0, name.1, name.2, refl), refl) also refl also refl also
+      (tt, (name.1.0, name.1.1, name.1.2, refl), refl) also refl also refl also
           (units, (value_prints v.1 (34 ∷ q) units).1 (f, are, no_unit 34 q (omega arith) refl), refl) also refl also tt,
     ),
     refl,
@@ -189,14 +187,14 @@ element_prints p q e = (
       w ∙ sym (simp append_assoc refl)) in
       rw same (
         append_cancel_right p (element_text (grammar.element_of vs)) q whole,
-        (rw a (name.0, name.1, name.2), are),
+        (rw a (tt, (name.0, name.1, name.2, tt)), are),
       )),
   (λ (w, (name, are)). (
     (tt, (e.id, (e.params, (tt, tt)))),
     (
       (91 ∷ []) ∷ e.id ∷ flat_map param_text e.params ∷ (93 ∷ []) ∷ [],
       w,
-      refl also (tt, (name.0, name.1, name.2, params_end e.params q), refl) also
+      refl also (tt, (name.1.0, name.1.1, name.1.2, params_end e.params q), refl) also
           (params_prints (flat_map param_text e.params) (93 ∷ q) e.params).1
           (refl, are, (λ p' q' v f (t, g, k). let h = heads 93 32 q (t ++ q') (rw g at f) in omega arith)) also
           refl also tt,
@@ -252,6 +250,3 @@ header_det =
     row_det grammar.pri pri_det also numeral_det 1 999 also space also timestamp_det also space also short 255 also
     space
     also short 48 also space also short 128 also space also short 32 also space also tt
-
-pub body_det : AllDeterministic grammar.body
-body_det = data_det also optional_det (spaced rest) (after_det rest rest_det) also tt

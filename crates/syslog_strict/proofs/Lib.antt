@@ -1,7 +1,7 @@
 pub mod ConversionLaws
 pub mod ElementLemmas
 pub mod GrammarLemmas
-pub mod NameLaws
+pub mod NameLemmas
 pub mod Words
 pub mod StampLemmas
 pub mod TextLemmas

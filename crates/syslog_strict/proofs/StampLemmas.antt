@@ -9,29 +9,25 @@ use Rattle.syslog_strict.proofs.Words.{nanos_of_seconds, pad2, pad4, front_text,
 use Rattle.syslog_strict.proofs.Words.{in_utc, micros, is_four_digits, Ends}
 use Rattle.syslog_strict.specs.Grammar.{IsDate, date_row, date_time, partial_time, sign, time_hour, time_minute}
 use Rattle.syslog_strict.specs.Grammar.{time_numoffset, time_offset, time_secfrac, timestamp}
-use Rattle.syslog_text.specs.{Bodies.Looks.is_dot}
-use Rattle.syslog_pieces.specs.{Timestamp.Rfc3339.pair, Timestamp.Rfc3339.year as year_class}
-use Rattle.syslog_text.specs.Pieces.{Class.Class, Class.Front, Class.Row, Class.after, Class.exactly, Class.optional}
-use Rattle.syslog_text.specs.Pieces.Rules.{short_run}
-use Rattle.syslog_text.proofs.PieceLemmas.Class.{◌then◌, front_of, no_spaced_space, optional_none, piece_front, row_of}
-use Rattle.syslog_text.proofs.PieceLemmas.Class.{each_append}
-use Rattle.syslog_text.proofs.PieceLemmas.Rules.{second_front, such_front}
-use Rattle.std.proofs.Common.{length, ◌-ℤ◌, ◌*ℤ◌}
-use Rattle.jiff_core.proofs.CalendarLemmas.{days_in_month_bounds}
-use Rattle.std.proofs.lemmas.{Bool.Decides.eqb_tells, Str.IsAscii-append, Bool.and_parts}
-use Rattle.std.specs.Fmt.{digits}
-use Rattle.syslog_pieces.specs.Front.{clock_text, front_text as printed_front}
-use Rattle.syslog_pieces.specs.{Pri.priority_text, Timestamp.clock_value, Timestamp.stamp_seen}
-use Rattle.syslog_pieces.specs.{declared.timestamp.clock.ClockStamp.ClockStamp, Timestamp.Canonical.IsCanonicalStamp}
-use Rattle.syslog_pieces.specs.Timestamp.{Canonical.own_year, Fields.AreCivil}
-use Rattle.syslog_pieces.specs.declared.timestamp.fields.CivilFields.{CivilFields}
-use Rattle.syslog_text.proofs.{TextLemmas.Words.decimal_ascii}
-use Rattle.syslog_pieces.proofs.{TimestampLemmas.Digits.each_ascii}
-use Rattle.syslog_pieces.proofs.TimestampLemmas.Rfc3339.{printed_stamp-characters}
-use Rattle.syslog_pieces.proofs.TimestampLemmas.Civil.{civil_fields_exist, in_range-at_offset}
+use Rattle.syslog_text.specs.{Bodies.Looks.is_dot, Pieces.Rules.short_run, Text.Digits.pad3}
+use Rattle.syslog_text.specs.Pieces.Class.{Class, Front, Row, after, exactly, optional}
+use Rattle.syslog_pieces.specs.{Front.clock_text, Front.front_text as printed_front, Pri.priority_text}
+use Rattle.syslog_pieces.specs.{Timestamp.clock_value, Timestamp.stamp_seen, Timestamp.Canonical.IsCanonicalStamp}
+use Rattle.syslog_pieces.specs.{Timestamp.Canonical.own_year, Timestamp.Fields.AreCivil, Timestamp.Rfc3339.pair}
+use Rattle.syslog_pieces.specs.{Timestamp.Rfc3339.year as year_class, declared.timestamp.clock.ClockStamp.ClockStamp}
+use Rattle.syslog_pieces.specs.{declared.timestamp.fields.CivilFields.CivilFields}
 use Rattle.syslog_pieces.specs.Timestamp.Printed.{printed_stamp, civil_fields, date_time_text, fraction_text}
 use Rattle.syslog_pieces.specs.Timestamp.Printed.{offset_text, place_fields}
-use Rattle.syslog_text.specs.Text.Digits.{pad3}
+use Rattle.syslog_text.proofs.PieceLemmas.Class.{◌then◌, front_of, no_spaced_space, optional_none, piece_front, row_of}
+use Rattle.syslog_text.proofs.PieceLemmas.Class.{each_append}
+use Rattle.syslog_text.proofs.{PieceLemmas.Rules.second_front, PieceLemmas.Rules.such_front}
+use Rattle.syslog_text.proofs.{TextLemmas.Words.decimal_ascii}
+use Rattle.std.proofs.Common.{length, ◌-ℤ◌, ◌*ℤ◌}
+use Rattle.jiff_core.proofs.CalendarLemmas.{days_in_month_bounds}
+use Rattle.std.proofs.{lemmas.Bool.and_parts, lemmas.Bool.Decides.eqb_tells, lemmas.Str.IsAscii-append}
+use Rattle.std.specs.Fmt.{digits}
+use Rattle.syslog_pieces.proofs.{TimestampLemmas.Civil.civil_fields_exist, TimestampLemmas.Civil.in_range-at_offset}
+use Rattle.syslog_pieces.proofs.{TimestampLemmas.Digits.each_ascii, TimestampLemmas.Rfc3339.printed_stamp-characters}
 use Rattle.jiff_core.specs.Calendar.{days_from_civil}
 
 -- ---- timestamps that are cut, and their texts

@@ -1,23 +1,21 @@
 -- Values, ids of elements, and the ids that were seen.
 use Rattle.syslog_strict.proofs.Words.{◌≡◌, ◌≢◌, inl, inr, ℕ, ◌<◌, ◌≤◌, Bool, true, false, List, [], ◌∷◌, ◌++◌, length}
 use Rattle.syslog_strict.proofs.Words.{map, refl, sym, ap, ap₂, subst, ◌∙◌, arith, cond, Bor, IsUtf8, AllByRecursion}
-use Rattle.syslog_strict.proofs.Words.{AreDistinct, list_any-append, ◌||◌, nat_tests, Text, Each, Ends, shown, text_eq}
-use Rattle.syslog_strict.proofs.Words.{ElementValue, chars, SplitsRun, is_inert_char, is_among, HasSeen, is_escaped}
-use Rattle.syslog_strict.proofs.Words.{cases_Bool}
-use Rattle.std.proofs.Common.{is_eq}
-use Rattle.std.proofs.lemmas.{Bool.or_from, Bool.or_parts, Map.Text.is_eq-slice_cmp}
-use Rattle.std.specs.{BTreeSet.contains, Cmp.Lexicographic.slice_cmp, Ordering.nat_cmp, Prelude.not, Prelude.MatchBool}
-use Rattle.std.specs.Prelude.{◌↔◌}
-use Rattle.syslog_text.specs.Pieces.Class.{Front, NoFront}
-use Rattle.syslog_text.specs.Pieces.Lists.{many}
+use Rattle.syslog_strict.proofs.Words.{AreDistinct, nat_tests, Text, Each, Ends, shown, text_eq, ElementValue, chars}
+use Rattle.syslog_strict.proofs.Words.{SplitsRun, is_inert_char, is_among, HasSeen, is_escaped, cases_Bool, ids_of}
+use Rattle.syslog_strict.proofs.Words.{◌||◌}
+use Rattle.std.proofs.{Common.is_eq, lemmas.Bool.or_from, lemmas.Bool.or_parts, lemmas.Map.Text.is_eq-slice_cmp}
+use Rattle.std.specs.{BTreeSet.contains, Cmp.Lexicographic.slice_cmp, Ordering.nat_cmp}
+use Rattle.std.specs.Prelude.{not, MatchBool, ◌↔◌}
+use Rattle.syslog_text.specs.{Pieces.Class.Front, Pieces.Class.NoFront, Pieces.Lists.many}
 use Rattle.syslog_elements.specs.StructuredData.Escapes.{TextUnit, pair, single}
 use Rattle.syslog_pieces.proofs.Names.{not-false, not-true}
 use Rattle.syslog_text.proofs.PieceLemmas.Class.{front_of, piece_front}
 use Rattle.syslog_text.proofs.PieceLemmas.Rules.{Runs, many_left, no_run, one_run, runs_left}
 use Rattle.syslog_strict.specs.Grammar.{escape, sd_element, sd_elements, value_unit}
 use Rattle.syslog_strict.proofs.GrammarLemmas.{element_det}
-use Rattle.syslog_strict.proofs.{ElementLemmas.bytes_text, NameLaws.no_text, NameLaws.no_text_eq}
-use Rattle.syslog_strict.proofs.{TextLemmas.text_eq_true}
+use Rattle.syslog_strict.proofs.ElementLemmas.{bytes_text, last_among, put}
+use Rattle.syslog_strict.proofs.NameLemmas.{no_text, no_text_eq, text_eq_true}
 use Rattle.syslog_strict.specs.declared.ids.Ids.{Ids}
 
 -- ---- values
@@ -41,9 +39,6 @@ no_unit_after t ends n p q (single d) e (f, is) =
     grind (arith, nat_tests)
 
 -- ---- ids
-
-abbrev pub ids_of : List ElementValue → List Text
-ids_of es = map (λ (e : ElementValue). e.id) es
 
 pub none_tells : (id : Text) (ids : List Text) → is_among id ids ≡ false ↔ AllByRecursion (λ u. u ≢ id) ids
 none_tells id [] = (λ h. tt, λ h. refl)
@@ -123,18 +118,7 @@ pub first_seen : (is_new : Bool) {P : Type 0} → MatchBool is_new ((false ≡ f
 first_seen true h = h.1
 first_seen false h = absurd cc
 
-pub ids_more : (es : List ElementValue) (e : ElementValue) → ids_of (es ++ e ∷ []) ≡ ids_of es ++ e.id ∷ []
-ids_more [] e = refl
-ids_more (d ∷ es) e = ap (λ (x : List Text). d.id ∷ x) (ids_more es e)
-
 -- ---- a set of ids, as the texts that came before
-
-last_among : (t id : Text) (seen : List Text) → is_among t
-    (seen ++ id ∷ []) ≡ (is_among t seen || (text_eq id t || false))
-last_among t id seen = list_any-append (λ u. text_eq u t) seen (id ∷ [])
-
-put : (a b e : Bool) → (a || cond e true b) ≡ ((a || b) || (e || false))
-put a b e = grind arith
 
 right_is : (a b c : Bool) → (a || b) ≡ c → a ≡ false → b ≡ c
 right_is a b c e f = grind arith

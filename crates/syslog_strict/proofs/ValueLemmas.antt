@@ -1,52 +1,13 @@
--- What a converted value means.
-use Rattle.std.proofs.Common.{◌≡◌, ◌∷◌, ◌||◌, ◌∙◌, inl, inr, refl, ap, Bool, true, false, nat_eq, ℕ, List, []}
-use Rattle.std.proofs.Common.{append-nil, sym, if◌then◌else◌}
-use Rattle.std.proofs.lemmas.Bool.{ne_eqb, cases_Bool, cases_eq}
-use Rattle.std.specs.List.{flat_map, AllByRecursion}
-use Rattle.syslog_text.specs.Pieces.Class.{Text}
+-- A converted value, unit by unit: it is a value of the grammar, means what the value meant, and is converted to itself.
+use Rattle.syslog_strict.proofs.Words.{◌≡◌, ◌∷◌, ◌∙◌, ℕ, Bool, true, false, List, [], inl, inr, refl, sym, ap, nat_eq}
+use Rattle.syslog_strict.proofs.Words.{append-nil, arith, cases_Bool, nat_tests, flat_map, AllByRecursion, Text}
+use Rattle.syslog_strict.proofs.Words.{all_map, escaped_from, is_escaped, ◌||◌, Each, is_inert_char, ◌++◌}
+use Rattle.std.proofs.lemmas.Bool.{ne_eqb, cases_eq}
+use Rattle.syslog_elements.specs.StructuredData.{IsValue, IsValueUnit as IsReadUnit}
 use Rattle.syslog_elements.specs.StructuredData.Escapes.{TextUnit, pair, single, unit_text, unit_meaning, IsUnit}
-use Rattle.syslog_elements.specs.StructuredData.Escapes.{IsUnescaped, is_escaped, pair_meaning}
-use Rattle.syslog_strict.specs.Conversion.{converted_value, escaped_from}
-use Rattle.syslog_strict.specs.Value.{meaning, meant_from}
-
--- it means what the value meant
-keeps : (before : Bool) (t : Text) → meant_from false (escaped_from before t) ≡ meant_from before t
-keeps false [] = refl
-keeps true [] = refl
-keeps false (c ∷ t) = elim (cases_Bool (nat_eq c 92)) [
-  | inl slash ↦ rw slash (keeps true t)
-  | inr other ↦ elim (cases_Bool (nat_eq c 34 || nat_eq c 93)) [
-    | inl mark ↦ simp (other, mark) (ap (λ (x : Text). c ∷ x) (keeps false t))
-    | inr none ↦ simp (other, none) (ap (λ (x : Text). c ∷ x) (keeps false t))
-  ]
-]
-keeps true (c ∷ t) = elim (cases_Bool (nat_eq c 92)) [
-  | inl slash ↦ simp slash (ap (λ (x : Text). c ∷ x) (keeps false t))
-  | inr other ↦ elim (cases_Bool (nat_eq c 34 || nat_eq c 93)) [
-    | inl mark ↦ simp (other, mark) (ap (λ (x : Text). c ∷ x) (keeps false t))
-    | inr none ↦ simp (other, none) (ap (λ (x : Text). 92 ∷ c ∷ x) (keeps false t))
-  ]
-]
-
-pub value_keeps_its_meaning : (t : Text) → meaning (converted_value t) ≡ meaning t
-value_keeps_its_meaning t = keeps false t
-
--- ---- its units
-
-abbrev units_from : Bool → Text → List TextUnit
-units_from false [] = []
-units_from true [] = pair 92 ∷ []
-units_from false (c ∷ t) =
-    if nat_eq c 92 then units_from true t
-    else (if is_escaped c then pair c ∷ units_from false t else single c ∷ units_from false t)
-units_from true (c ∷ t) =
-    if is_escaped c then pair c ∷ units_from false t else pair 92 ∷ single c ∷ units_from false t
-
--- the units are the text, what they mean, and units
-record Splits (t : Text) (means : Text) (units : List TextUnit) : Type 0 where
-  whole : t ≡ flat_map unit_text units
-  says : means ≡ flat_map unit_meaning units
-  each : AllByRecursion IsUnit units
+use Rattle.syslog_elements.specs.StructuredData.Escapes.{IsUnescaped, pair_meaning}
+use Rattle.syslog_strict.proofs.GrammarLemmas.{IsParamValue}
+use Rattle.syslog_strict.specs.{Conversion.converted_value, Grammar.IsValueUnit, Value.meaning, Value.meant_from}
 
 escaped_pair : (c : ℕ) → is_escaped c ≡ true → pair_meaning c ≡ c ∷ []
 escaped_pair c h = elim (cases_eq c 110) [
@@ -54,46 +15,88 @@ escaped_pair c h = elim (cases_eq c 110) [
   | inr other ↦ simp (ne_eqb c 110 other, h)
 ]
 
-with_pair : (c : ℕ) {t m : Text} {us : List TextUnit} → is_escaped c ≡ true → Splits t m us
-    → Splits (92 ∷ c ∷ t) (c ∷ m) (pair c ∷ us)
-with_pair c h s = record {
-  whole = ap (λ (x : Text). 92 ∷ c ∷ x) s.whole;
-  says = rw (escaped_pair c h) (ap (λ (x : Text). c ∷ x) s.says);
-  each = (tt, s.each);
-}
+-- the units of the grammar are the text, and mean this
+abbrev IsSplit : Text → Text → Type 0
+IsSplit text means = (units : List TextUnit) × (text ≡ flat_map unit_text units)
+    × (means ≡ flat_map unit_meaning units) × AllByRecursion IsValueUnit units
 
-with_single : (c : ℕ) {t m : Text} {us : List TextUnit} → nat_eq c 92 ≡ false → Splits t m us
-    → Splits (c ∷ t) (c ∷ m) (single c ∷ us)
-with_single c h s = record {
-  whole = ap (λ (x : Text). c ∷ x) s.whole;
-  says = ap (λ (x : Text). c ∷ x) s.says;
-  each = ((λ e. (let t = rw e at h in cc)), s.each);
-}
+on_pair : (c : ℕ) {t m : Text} → is_escaped c ≡ true → IsSplit t m → IsSplit (92 ∷ c ∷ t) (c ∷ m)
+on_pair c h (units, e, f, each) = (
+  pair c ∷ units,
+  ap (λ (x : Text). 92 ∷ c ∷ x) e,
+  rw (escaped_pair c h) (ap (λ (x : Text). c ∷ x) f),
+  (h, each),
+)
 
-splits : (before : Bool) (t : Text) → Splits (escaped_from before t) (meant_from before t) (units_from before t)
-splits false [] = record { whole = refl; says = refl; each = tt }
-splits true [] = record { whole = refl; says = refl; each = (tt, tt) }
+on_single : (c : ℕ) {t m : Text} → is_escaped c ≡ false → IsSplit t m → IsSplit (c ∷ t) (c ∷ m)
+on_single c h (units, e, f, each) =
+    (single c ∷ units, ap (λ (x : Text). c ∷ x) e, ap (λ (x : Text). c ∷ x) f, (h, each))
+
+splits : (before : Bool) (t : Text) → IsSplit (escaped_from before t) (meant_from before t)
+splits false [] = ([], refl, refl, tt)
+splits true [] = (pair 92 ∷ [], refl, refl, (refl, tt))
 splits false (c ∷ t) = elim (cases_Bool (nat_eq c 92)) [
   | inl slash ↦ rw slash (splits true t)
   | inr other ↦ elim (cases_Bool (nat_eq c 34 || nat_eq c 93)) [
-    | inl mark ↦ simp (other, mark) (with_pair c (simp (other, mark)) (splits false t))
-    | inr none ↦ simp (other, none) (with_single c other (splits false t))
+    | inl mark ↦ simp (other, mark) (on_pair c (simp (other, mark)) (splits false t))
+    | inr none ↦ simp (other, none) (on_single c (simp (other, none)) (splits false t))
   ]
 ]
-splits true (c ∷ t) = elim (cases_Bool (nat_eq c 92)) [
-  | inl slash ↦ simp slash (with_pair c (simp slash) (splits false t))
-  | inr other ↦ elim (cases_Bool (nat_eq c 34 || nat_eq c 93)) [
-    | inl mark ↦ simp (other, mark) (with_pair c (simp (other, mark)) (splits false t))
-    | inr none ↦ simp (other, none) (with_pair 92 refl (with_single c other (splits false t)))
-  ]
+splits true (c ∷ t) = elim (cases_Bool (is_escaped c)) [
+  | inl mark ↦ rw mark (on_pair c mark (splits false t))
+  | inr none ↦ rw none (on_pair 92 refl (on_single c none (splits false t)))
 ]
+
+-- such units stay, and are read as what they mean
+stays : (units : List TextUnit) → AllByRecursion IsValueUnit units
+    → (escaped_from false (flat_map unit_text units) ≡ flat_map unit_text units)
+    × (meant_from false (flat_map unit_text units) ≡ flat_map unit_meaning units)
+stays [] each = (refl, refl)
+stays (pair c ∷ units) each = let (e, f) = stays units each.1 in (
+  rw (each.0) (ap (λ (x : Text). 92 ∷ c ∷ x) e),
+  rw (escaped_pair c each.0, each.0) (ap (λ (x : Text). c ∷ x) f),
+)
+stays (single c ∷ units) each =
+    let (e, f) = stays units each.1 in
+    let slash : nat_eq c 92 ≡ false = grind (arith, nat_tests, each.0) in
+    (rw (each.0, slash) (ap (λ (x : Text). c ∷ x) e), rw slash (ap (λ (x : Text). c ∷ x) f))
+
+pub value_is : (t : Text) → IsParamValue (converted_value t)
+value_is t = let (units, e, _, each) = splits false t in (units, e, each)
+
+pub value_same : (t : Text) → IsParamValue t → converted_value t ≡ t
+value_same t (units, e, each) = ap converted_value e ∙ (stays units each).0 ∙ sym e
+
+pub value_keeps_its_meaning : (t : Text) → meaning (converted_value t) ≡ meaning t
+value_keeps_its_meaning t =
+    let (units, e, f, each) = splits false t in ap meaning e ∙ (stays units each).1 ∙ sym f
 
 pub converted_is_unescaped : (t : Text) → IsUnescaped (converted_value t) (meaning t)
 converted_is_unescaped t =
-    let s = splits false t in
+    let (units, e, f, each) = splits false t in
     record {
-      units = units_from false t;
+      units = units;
       lone = false;
-      split = record { whole = s.whole ∙ sym (append-nil (flat_map unit_text (units_from false t))); each = s.each };
-      means = s.says;
+      split = record { whole = e ∙ sym (append-nil (flat_map unit_text units)); each = all_map unit_is units each };
+      means = f;
     }
+  where
+    unit_is : (u : TextUnit) → IsValueUnit u → IsUnit u
+    unit_is (pair c) h = tt
+    unit_is (single c) h = λ e. (let t = rw e at h in cc)
+
+-- a value of the grammar is one that is read
+pub value_back : (t : Text) → IsParamValue t → IsValue t
+value_back t (units, e, each) = (units, e, all_map unit_back units each)
+  where
+    unit_back : (u : TextUnit) → IsValueUnit u → IsReadUnit u
+    unit_back (pair c) h = tt
+    unit_back (single c) h = (grind (arith, nat_tests), grind (arith, nat_tests))
+
+-- plain characters stay
+pub value_run : (w t : Text) → Each is_inert_char w → converted_value (w ++ t) ≡ w ++ converted_value t
+value_run [] t each = refl
+value_run (c ∷ w) t each =
+    let slash : nat_eq c 92 ≡ false = grind (arith, nat_tests, each.0) in
+    let plain : is_escaped c ≡ false = grind (arith, nat_tests, each.0) in
+    rw (plain, slash) (ap (λ (x : Text). c ∷ x) (value_run w t each.1))

@@ -39,8 +39,8 @@ pub use Rattle.syslog_text.specs.Text.{colon, dash, is_blank, name_text, number}
 pub use Rattle.syslog_strict.specs.Conversion.{converted, converted_stamp, cut_stamp, has_text, in_utc, is_four_digits}
 pub use Rattle.syslog_strict.specs.Conversion.{micros, cleaned, converted_element, converted_elements, converted_host}
 pub use Rattle.syslog_strict.specs.Conversion.{converted_name, converted_param, converted_process, converted_word}
-pub use Rattle.syslog_strict.specs.Conversion.{escaped_from, is_among, joined_past, named, or_mark, params_of}
+pub use Rattle.syslog_strict.specs.Conversion.{escaped_from, is_among, firsts, joined, named, params_of}
 pub use Rattle.syslog_strict.specs.Conversion.{without_last_colon, without_lone_colon, kept_char, no_colon}
-pub use Rattle.syslog_strict.specs.Grammar.{AreDistinct, IsSyslogMsg, is_escaped, is_printusascii, is_sd_char}
+pub use Rattle.syslog_strict.specs.Grammar.{AreDistinct, IsSyslogMsg, ids_of, is_escaped, is_printusascii, is_sd_char}
 pub use Rattle.syslog_strict.specs.{Ids.HasSeen, Joined.HasJoined, Joined.joined_text, Joined.text_or_none}
-pub use Rattle.syslog_strict.specs.Pushing.{text_in, front_text, keeps}
+pub use Rattle.syslog_strict.specs.Pushing.{text_in, front_text}

@@ -2,7 +2,7 @@
 -- `?`, 92 a backslash.
 use Rattle.std.specs.Prelude.{negsuc, nat_eq, nat_le, nat_lt, false, if◌then◌else◌, [], Option, unwrap_or, unsigned_abs}
 use Rattle.std.specs.Prelude.{ℕ, ℤ, pos, ◌%◌, ◌-ℤ◌, ◌&&◌, not, ◌==◌, Bool, true, List, ◌∷◌, ◌++◌, map, take, Some, None}
-use Rattle.std.specs.List.{list_any}
+use Rattle.std.specs.List.{filter, flat_map, list_any}
 use Rattle.std.specs.Int.{int_rem_euclid}
 use Rattle.std.specs.Option.{option_and_then, option_map}
 use Rattle.std.proofs.Common.{arith}
@@ -22,7 +22,7 @@ use Rattle.syslog_pieces.specs.declared.procid.ProcId.TheVariants.{PID, Name}
 use Rattle.syslog_pieces.specs.declared.timestamp.OffsetTimestamp.{OffsetTimestamp}
 use Rattle.syslog_loose.specs.Message.{MessageValue}
 use Rattle.syslog_loose.specs.declared.message.Protocol.TheVariants.{RFC5424}
-use Rattle.syslog_strict.specs.Grammar.{is_printusascii, is_sd_char, is_escaped}
+use Rattle.syslog_strict.specs.Grammar.{ids_of, is_printusascii, is_sd_char, is_escaped}
 
 -- ---- names
 
@@ -129,28 +129,25 @@ converted_param p = (converted_name p.0, converted_value p.1)
 abbrev pub converted_element : ElementValue → ElementValue
 converted_element e = record { id = converted_name e.id; params = map converted_param e.params }
 
--- the parameters of all elements with this id, in order
-abbrev pub params_of : Text → List ElementValue → List (Text × Text)
-params_of id [] = []
-params_of id (e ∷ es) = if text_eq e.id id then e.params ++ params_of id es else params_of id es
-
--- the element, with the parameters of those of the later elements that have its id
-abbrev pub joined_with : ElementValue → List ElementValue → ElementValue
-joined_with e es = record { id = e.id; params = e.params ++ params_of e.id es }
-
 -- whether the text is one of these
 abbrev pub is_among : Text → List Text → Bool
 is_among t ts = list_any (λ u. text_eq u t) ts
 
--- one element for each id that is none of these, with the parameters of all elements that have it
-abbrev pub joined_past : List Text → List ElementValue → List ElementValue
-joined_past ids [] = []
-joined_past ids (e ∷ es) = if is_among e.id ids then joined_past ids es
-    else joined_with e es ∷ joined_past (ids ++ e.id ∷ []) es
+-- each text once, where it comes first
+abbrev pub firsts : List Text → List Text
+firsts [] = []
+firsts (t ∷ ts) = t ∷ filter (λ u. not (text_eq t u)) (firsts ts)
+
+-- the parameters of all elements with this id, in order
+abbrev pub params_of : Text → List ElementValue → List (Text × Text)
+params_of id es = flat_map (λ (e : ElementValue). if text_eq e.id id then e.params else []) es
 
 -- elements with one id are joined, in order
+abbrev pub joined : List ElementValue → List ElementValue
+joined es = map (λ id. record { id = id; params = params_of id es }) (firsts (ids_of es))
+
 abbrev pub converted_elements : List ElementValue → List ElementValue
-converted_elements es = joined_past [] (map converted_element es)
+converted_elements es = joined (map converted_element es)
 
 -- ---- the message part
 

@@ -150,9 +150,12 @@ abbrev pub AreDistinct : List Text → Type 0
 AreDistinct [] = ⊤
 AreDistinct (t ∷ ts) = AllByRecursion (λ u. u ≢ t) ts × AreDistinct ts
 
+abbrev pub ids_of : List ElementValue → List Text
+ids_of es = map (λ (e : ElementValue). e.id) es
+
 -- there is an element, and no SD-ID comes twice
 abbrev pub AreElements : List ElementValue → Type 0
-AreElements es = (0 < length es) × AreDistinct (map (λ (e : ElementValue). e.id) es)
+AreElements es = (0 < length es) × AreDistinct (ids_of es)
 
 abbrev pub sd_elements : Class
 sd_elements = such_that (many sd_element) AreElements

@@ -3,18 +3,14 @@ use Rattle.std.specs.Prelude.{◌≡◌, [], ◌∷◌, ◌++◌, List, Option, 
 use Rattle.std.specs.BTreeMap.{get_by_text}
 use Rattle.std.specs.Global.{Global}
 use Rattle.std.specs.List.{flat_map}
-use Rattle.std.specs.Prelude.{ℕ, if◌then◌else◌}
+use Rattle.std.specs.Prelude.{ℕ}
 use Rattle.std.specs.Str.{chars, IsUtf8}
 use Rattle.syslog_text.specs.Pieces.Class.{Text}
 use Rattle.syslog_elements.specs.StructuredData.Element.{ElementValue, param_text}
-use Rattle.syslog_strict.specs.Conversion.{is_among, params_of}
+use Rattle.syslog_strict.specs.Conversion.{firsts, is_among, params_of}
+use Rattle.syslog_strict.specs.Grammar.{ids_of}
 use Rattle.syslog_strict.specs.Pushing.{text_in}
 use Rattle.syslog_strict.specs.declared.joined.Joined.{Joined}
-
--- the ids of the elements that are none of these, each once, in order
-abbrev pub firsts : List Text → List ElementValue → List Text
-firsts ids [] = []
-firsts ids (e ∷ es) = if is_among e.id ids then firsts ids es else e.id ∷ firsts (ids ++ e.id ∷ []) es
 
 -- the text, or none
 abbrev pub text_or_none : Option (String Global) → Text
@@ -23,8 +19,8 @@ text_or_none (Some s) = text_in s
 
 -- it has the ids of these elements, and the parameters of those with each id as they are written
 pub record HasJoined (joined : Joined) (seen : List ElementValue) : Type 0 where
-  pub ids : map (λ s. text_in s) joined.ids.items ≡ firsts [] seen
-  pub known : (id : List ℕ) → IsUtf8 id → is_some (get_by_text joined.params id) ≡ is_among (chars id) (firsts [] seen)
+  pub ids : map (λ s. text_in s) joined.ids.items ≡ firsts (ids_of seen)
+  pub known : (id : List ℕ) → IsUtf8 id → is_some (get_by_text joined.params id) ≡ is_among (chars id) (ids_of seen)
   pub params : (id : List ℕ) → IsUtf8 id
       → text_or_none (get_by_text joined.params id) ≡ flat_map param_text (params_of (chars id) seen)
 

@@ -1,5 +1,5 @@
--- What is appended to a text, and the names of the tests that the code passes on.
-use Rattle.std.specs.Prelude.{◌≡◌, ◌∷◌, ◌++◌, [], ℕ, ℤ, Bool, String, string_bytes}
+-- What is appended to a text.
+use Rattle.std.specs.Prelude.{◌≡◌, ◌∷◌, ◌++◌, [], ℕ, ℤ, String, string_bytes}
 use Rattle.std.specs.Global.{Global}
 use Rattle.std.specs.Fmt.{decimal}
 use Rattle.std.specs.Str.{chars}
@@ -9,9 +9,6 @@ use Rattle.syslog_text.specs.Pieces.Class.{Text}
 use Rattle.syslog_text.specs.Text.{name_text}
 use Rattle.syslog_pieces.specs.declared.timestamp.OffsetTimestamp.{OffsetTimestamp}
 use Rattle.syslog_strict.specs.Conversion.{micros}
-use Rattle.syslog_strict.specs.Grammar.{is_printusascii, is_sd_char}
-use Rattle.syslog_strict.specs.declared.text.Kept.{Kept}
-use Rattle.syslog_strict.specs.declared.text.Kept.TheVariants.{Printable, SdName}
 
 -- the characters of a text
 abbrev pub text_in : String Global → Text
@@ -20,10 +17,6 @@ text_in s = chars (string_bytes s)
 -- the text has this more at its end
 abbrev pub Appends : String Global → Text → String Global → Type 0
 Appends old piece new = text_in new ≡ text_in old ++ piece
-
-abbrev pub keeps : Kept → ℕ → Bool
-keeps Printable c = is_printusascii c
-keeps SdName c = is_sd_char c
 
 -- `<priority>1 timestamp`
 abbrev pub front_text : ℕ → Text → Text

@@ -1,15 +1,16 @@
 //! Writes structured data as strict RFC 5424 (section 6.3) has it.
-ghost use Rattle.std.specs.Prelude.{◌≡◌, [], ◌∷◌, OnOk, map, if◌then◌else◌};
+ghost use Rattle.std.specs.Prelude.{◌≡◌, ◌≤◌, [], ◌∷◌, ◌++◌, false, length, IfOk, OnOk, map};
 ghost use Rattle.std.specs.List.{flat_map};
-ghost use Rattle.std.specs.Str.{chars};
+ghost use Rattle.std.specs.Str.{chars, IsUtf8};
+ghost use Rattle.syslog_text.specs.Pieces.Class.{Ends};
+ghost use Rattle.syslog_text.specs.Text.CharClass.{is_inert_char};
 ghost use Rattle.syslog_elements.specs.StructuredData.Element.{param_text};
 ghost use Rattle.syslog_elements.specs.StructuredData.Visited.{element_seen};
 ghost use Rattle.syslog_strict.specs.Conversion.{converted_name, converted_param};
 ghost use Rattle.syslog_strict.specs.Conversion.{converted_value, or_mark};
-ghost use Rattle.syslog_strict.specs.Grammar.{is_escaped};
-ghost use Rattle.syslog_strict.specs.Pushing.{Appends};
+ghost use Rattle.syslog_strict.specs.Pushing.{Appends, text_in};
 
-use crate::text::{Kept, push_char, push_cleaned, push_text};
+use crate::text::{is_kept, push_char, push_each, push_text};
 use std::alloc::AllocError;
 use syslog_loose::Element;
 use syslog_text::text::{CharClass, first, split_run};
@@ -18,7 +19,7 @@ use syslog_text::text::{CharClass, first, split_run};
 const NAME: usize = 32;
 
 // Returns the text, or `?` if it is empty.
-#[tactic(auto, using(crate::proofs::ElementLemmas::chars_mark))]
+#[tactic(auto, using(syslog_text::proofs::TextLemmas::Runs::char_alone))]
 #[inline(always)]
 fn or_mark(text: &str) -> &str
     ensures { chars result.now ≡ or_mark (chars text.now) }
@@ -34,52 +35,58 @@ fn or_mark(text: &str) -> &str
 pub(crate) fn push_name(out: &mut String, name: &str) -> Result<(), AllocError>
     ensures { OnOk result (Appends out.old (converted_name (chars name.now)) out.new) }
 {
-    push_cleaned(out, or_mark(name), Kept::SdName, NAME)
+    if is_kept(name, CharClass::SdName, NAME) {
+        return push_text(out, name);
+    }
+    push_each(out, or_mark(name), CharClass::SdName, NAME)
 }
 
-// Appends the character that a backslash is before.
-fn push_escaped(out: &mut String, c: char) -> Result<(), AllocError>
-    ensures { OnOk result (Appends out.old (if is_escaped c then 92 ∷ c ∷ [] else 92 ∷ 92 ∷ c ∷ []) out.new) }
+// Appends the plain characters at the front of a value, and returns the text after them.
+#[inline(always)]
+fn push_plain<'a>(out: &mut String, value: &'a str) -> Result<&'a str, AllocError>
+    ensures { IfOk result (λ rest. (text_in out.new ++ converted_value (chars rest.now)
+        ≡ text_in out.old ++ converted_value (chars value.now)) × (length (chars rest.now) ≤ length (chars value.now))
+        × Ends is_inert_char (chars rest.now) × IsUtf8 rest.now) }
+{
+    let (run, rest) = split_run(value, CharClass::Inert);
+    push_text(out, run)?;
+    Ok(rest)
+}
+
+// Appends a quote or a bracket, or a backslash and the character after it, and returns the text after that.
+#[inline(always)]
+fn push_special<'a>(out: &mut String, c: char, more: &'a str) -> Result<&'a str, AllocError>
+    requires { is_inert_char c ≡ false }
+    ensures { IfOk result (λ rest. (text_in out.new ++ converted_value (chars rest.now)
+        ≡ text_in out.old ++ converted_value (c ∷ chars more.now)) × (length (chars rest.now) ≤ length (chars more.now))
+        × IsUtf8 rest.now) }
 {
     push_char(out, '\\')?;
-    if !(c == '\\' || (c == '"' || c == ']')) {
+    if c != '\\' {
+        push_char(out, c)?;
+        return Ok(more);
+    }
+    let Some((escaped, rest)) = first(more) else {
+        push_char(out, '\\')?;
+        return Ok(more);
+    };
+    if !(escaped == '\\' || (escaped == '"' || escaped == ']')) {
         push_char(out, '\\')?;
     }
-    push_char(out, c)
+    push_char(out, escaped)?;
+    Ok(rest)
 }
 
 // Appends a value, escaped.
 fn push_value(out: &mut String, value: &str) -> Result<(), AllocError>
     ensures { OnOk result (Appends out.old (converted_value (chars value.now)) out.new) }
 {
-    let mut rest = value;
-    'stretches: loop {
-        let (run, after) = split_run(rest, CharClass::Inert);
-        push_text(out, run)?;
-        let Some((c, more)) = first(after) else {
-            return Ok(());
-        };
-        if c != '\\' {
-            push_char(out, '\\')?;
-            push_char(out, c)?;
-            rest = more;
-            continue 'stretches;
-        }
-        let Some((escaped, next)) = first(more) else {
-            return push_lone(out);
-        };
-        push_escaped(out, escaped)?;
-        rest = next;
+    let mut rest = push_plain(out, value)?;
+    'stretches: while let Some((c, more)) = first(rest) {
+        let after = push_special(out, c, more)?;
+        rest = push_plain(out, after)?;
     }
-}
-
-// Appends a last backslash, escaped.
-#[cold]
-fn push_lone(out: &mut String) -> Result<(), AllocError>
-    ensures { OnOk result (Appends out.old (92 ∷ 92 ∷ []) out.new) }
-{
-    push_char(out, '\\')?;
-    push_char(out, '\\')
+    Ok(())
 }
 
 // Appends a space, a name, and a value between quotes.

@@ -1,21 +1,20 @@
 //! Writes host, app name, process id and message id as strict RFC 5424 (section 6.2) has them.
-ghost use Rattle.std.specs.Prelude.{◌≡◌, ◌≢◌, ◌⊎◌, ◌<◌, [], MatchBool, OnOk, if◌then◌else◌};
+ghost use Rattle.std.specs.Prelude.{◌≡◌, ◌≢◌, ◌<◌, [], length, MatchBool, OnOk};
 ghost use Rattle.std.specs.Option.{option_and_then, option_map};
 ghost use Rattle.std.specs.Fmt.{signed_decimal};
 ghost use Rattle.std.specs.Str.{chars};
-ghost use Rattle.syslog_text.specs.Pieces.View.{seen};
-ghost use Rattle.syslog_pieces.specs.ProcId.{named_process, procid_text, process_text};
-ghost use Rattle.syslog_text.specs.Text.{name_text};
+ghost use Rattle.syslog_text.specs.Pieces.View.{seen, shown};
+ghost use Rattle.syslog_pieces.specs.ProcId.{named_process, process_text, procid_text, procid_value};
+ghost use Rattle.syslog_text.specs.Text.{colon, name_text};
 ghost use Rattle.syslog_strict.specs.Conversion.{converted_host, converted_process, converted_word, kept_char};
 ghost use Rattle.syslog_strict.specs.Conversion.{no_colon};
-ghost use Rattle.syslog_strict.specs.Grammar.{is_printusascii};
 ghost use Rattle.syslog_strict.specs.Pushing.{Appends};
 
-use crate::text::{Kept, is_kept, push_char, push_cleaned, push_text};
+use crate::text::{is_kept, kept, push_char, push_each, push_text};
 use std::alloc::{AllocError, Global};
 use syslog_pieces::procid::{ProcId, is_bare_word};
 use syslog_text::as_str::is_same_text;
-use syslog_text::text::{ends_in_colon, first};
+use syslog_text::text::{CharClass, ends_in_colon, first};
 
 // How many characters a host has at most, and a process id too.
 const HOST: usize = 255;
@@ -38,18 +37,39 @@ pub(crate) fn push_host(out: &mut String, host: Option<&str>) -> Result<(), Allo
 fn push_host_text(out: &mut String, host: &str) -> Result<(), AllocError>
     ensures { OnOk result (Appends out.old (name_text (converted_host (chars host.now))) out.new) }
 {
-    if is_no_text(host) {
-        return push_char(out, '-');
-    }
-    if is_kept(host, Kept::Printable, HOST) && !ends_in_colon(host.as_bytes()) {
+    if is_kept(host, CharClass::Printable, HOST) && !ends_in_colon(host.as_bytes()) {
         return push_text(out, host);
     }
-    push_host_chars(out, host)
+    push_other_host(out, host)
+}
+
+// Appends the text of a host character by character, each once it is known whether it is the last.
+#[cold]
+#[inline(never)]
+fn push_other_host(out: &mut String, host: &str) -> Result<(), AllocError>
+    ensures { OnOk result (Appends out.old (name_text (converted_host (chars host.now))) out.new) }
+{
+    let Some((c, more)) = first(host) else {
+        return push_char(out, '-');
+    };
+    let mut last = kept(c, CharClass::Printable);
+    let mut rest = more;
+    let mut left = HOST - 1;
+    'chars: while left > 0 {
+        let Some((c, more)) = first(rest) else {
+            break 'chars;
+        };
+        push_char(out, last)?;
+        last = kept(c, CharClass::Printable);
+        rest = more;
+        left -= 1;
+    }
+    push_char(out, without_colon(last))
 }
 
 #[inline(always)]
 fn is_no_text(text: &str) -> bool
-    ensures { MatchBool result (chars text.now ≡ []) (chars text.now ≢ []) }
+    ensures { MatchBool result (chars text.now ≡ []) (0 < length (chars text.now)) }
 {
     match first(text) {
         Some(_) => false,
@@ -57,46 +77,20 @@ fn is_no_text(text: &str) -> bool
     }
 }
 
-// Appends the text of a host character by character.
-#[cold]
-#[inline(never)]
-fn push_host_chars(out: &mut String, host: &str) -> Result<(), AllocError>
-    requires { chars host.now ≢ [] }
-    ensures { OnOk result (Appends out.old (name_text (converted_host (chars host.now))) out.new) }
+#[tactic(auto, using(crate::proofs::NameLemmas::colon_told))]
+#[inline(always)]
+fn is_colon(text: &str) -> bool
+    ensures { MatchBool result (chars text.now ≡ colon) (chars text.now ≢ colon) }
 {
-    let mut rest = host;
-    let mut left = HOST;
-    'chars: while left > 0 {
-        let Some((c, more)) = first(rest) else {
-            return Ok(());
-        };
-        let is_last = is_last_char(left, more);
-        push_char(out, host_char(c, is_last))?;
-        rest = more;
-        left -= 1;
-    }
-    Ok(())
+    is_same_text(&text, &":")
 }
 
-// Whether at most one more character is taken, or the text ends.
+// Returns the last character of a host as it is written: a colon becomes `?`.
 #[inline(always)]
-fn is_last_char(left: usize, more: &str) -> bool
-    ensures { MatchBool result ((left ≡ 1) ⊎ (chars more.now ≡ [])) ((left ≢ 1) × (chars more.now ≢ [])) }
+fn without_colon(c: char) -> char
+    ensures { result ≡ kept_char no_colon c }
 {
-    if left == 1 {
-        return true;
-    }
-    is_no_text(more)
-}
-
-// Returns the character of a host as it is written: a last colon becomes `?`.
-#[inline(always)]
-fn host_char(c: char, is_last: bool) -> char
-    ensures { result ≡ if is_last then kept_char no_colon (kept_char is_printusascii c)
-        else kept_char is_printusascii c }
-{
-    let c = Kept::Printable.kept(c);
-    if is_last && c == ':' { '?' } else { c }
+    if c == ':' { '?' } else { c }
 }
 
 /// Appends an app name or a message id, or `-` for an absent one.
@@ -118,13 +112,26 @@ fn push_word_text(out: &mut String, word: &str, most: usize) -> Result<(), Alloc
     requires { 1 < most }
     ensures { OnOk result (Appends out.old (name_text (converted_word most (chars word.now))) out.new) }
 {
+    if is_kept(word, CharClass::Printable, most) && !is_colon(word) {
+        return push_text(out, word);
+    }
+    push_other_word(out, word, most)
+}
+
+// Appends the text of a word that may have to be changed.
+#[cold]
+#[inline(never)]
+fn push_other_word(out: &mut String, word: &str, most: usize) -> Result<(), AllocError>
+    requires { 1 < most }
+    ensures { OnOk result (Appends out.old (name_text (converted_word most (chars word.now))) out.new) }
+{
     if is_no_text(word) {
         return push_char(out, '-');
     }
-    if is_same_text(&word, &":") {
+    if is_colon(word) {
         return push_char(out, '?');
     }
-    push_cleaned(out, word, Kept::Printable, most)
+    push_each(out, word, CharClass::Printable, most)
 }
 
 /// Appends the process id that the text names, or `-` for an absent one.
@@ -149,12 +156,31 @@ fn push_process_text(alloc: Global, out: &mut String, word: &str) -> Result<(), 
     ensures { OnOk result
         (Appends out.old (process_text (converted_process (named_process (chars word.now)))) out.new) }
 {
-    if word.len() > 1 && is_bare_word(word) && is_kept(word, Kept::Printable, PROCESS) {
+    if word.len() > 1 && is_bare_word(word) && is_kept(word, CharClass::Printable, PROCESS) {
         return push_text(out, word);
     }
-    match ProcId::from(word) {
+    match process_of(word) {
         ProcId::PID(number) => push_number(out, number),
         ProcId::Name(name) => push_process_name(alloc, out, name),
+    }
+}
+
+// Returns the process id that the text names.
+#[tactic(auto, using(syslog_pieces::proofs::ProcIdLemmas::process_same, syslog_pieces::proofs::ProcIdLemmas::named_names))]
+#[inline(always)]
+fn process_of(word: &str) -> ProcId<&str>
+    ensures { procid_value (λ s. shown s) result ≡ named_process (chars word.now) }
+{
+    ProcId::from(word)
+}
+
+// Appends a process id as it is.
+fn push_id(out: &mut String, id: ProcId<&str>) -> Result<(), AllocError>
+    ensures { OnOk result (Appends out.old (procid_text (procid_value (λ s. shown s) id.entry)) out.new) }
+{
+    match id {
+        ProcId::PID(number) => push_number(out, number),
+        ProcId::Name(name) => push_text(out, name),
     }
 }
 
@@ -173,15 +199,5 @@ fn push_process_name(alloc: Global, out: &mut String, name: &str) -> Result<(), 
 {
     let mut word = String::new(alloc);
     push_word_text(&mut word, name, PROCESS)?;
-    push_named(out, word.as_str())
-}
-
-// Appends the process id that a word names.
-fn push_named(out: &mut String, word: &str) -> Result<(), AllocError>
-    ensures { OnOk result (Appends out.old (procid_text (named_process (chars word.now))) out.new) }
-{
-    match ProcId::from(word) {
-        ProcId::PID(number) => push_number(out, number),
-        ProcId::Name(name) => push_text(out, name),
-    }
+    push_id(out, process_of(word.as_str()))
 }

@@ -1,51 +1,22 @@
 //! Texts that are appended as they are, or with `?` for each character that a class lacks.
-ghost use Rattle.std.specs.Prelude.{◌≡◌, [], ◌∷◌, IsTrue, OnOk};
+ghost use Rattle.std.specs.Prelude.{◌≡◌, ◌<◌, ℕ, [], ◌∷◌, IsTrue, OnOk, true};
 ghost use Rattle.std.specs.Str.{chars};
+ghost use Rattle.syslog_text.specs.Pieces.Rules.{short_run};
+ghost use Rattle.syslog_text.specs.Text.CharClass.{has};
 ghost use Rattle.syslog_strict.specs.Conversion.{cleaned as cleaned_text, kept_char};
-ghost use Rattle.syslog_strict.specs.Pushing.{Appends, keeps};
+ghost use Rattle.syslog_strict.specs.Grammar.{IsAll};
+ghost use Rattle.syslog_strict.specs.Pushing.{Appends};
 
 use std::alloc::AllocError;
-use syslog_text::text::first;
+use syslog_text::text::bounded::short_run;
+use syslog_text::text::{CharClass, first};
 
-/// A class of characters that a name keeps.
-#[derive(Clone, Copy)]
-pub(crate) enum Kept {
-    /// PRINTUSASCII.
-    Printable,
-    /// PRINTUSASCII without `=`, `]` and `"`.
-    SdName,
-}
-
-impl Kept {
-    // Whether the character is kept.
-    #[inline(always)]
-    fn has(self, c: char) -> bool
-        ensures { result ≡ keeps self c }
-    {
-        match self {
-            Kept::Printable => '!' <= c && c <= '~',
-            Kept::SdName => ('!' <= c && c <= '~') && !(c == '=' || (c == ']' || c == '"')),
-        }
-    }
-
-    // Returns the character if it is kept, and otherwise `?`.
-    #[inline(always)]
-    pub(crate) fn kept(self, c: char) -> char
-        ensures { result ≡ kept_char (keeps self) c }
-    {
-        if self.has(c) { c } else { '?' }
-    }
-
-    // Whether the ASCII byte is kept.
-    #[inline(always)]
-    fn has_byte(self, b: u8) -> bool
-        ensures { result ≡ keeps self b }
-    {
-        match self {
-            Kept::Printable => b'!' <= b && b <= b'~',
-            Kept::SdName => (b'!' <= b && b <= b'~') && !(b == b'=' || (b == b']' || b == b'"')),
-        }
-    }
+/// Returns the character if it is of the class, and otherwise `?`.
+#[inline(always)]
+pub(crate) fn kept(c: char, class: CharClass) -> char
+    ensures { result ≡ kept_char (has class) c }
+{
+    if class.has(c) { c } else { '?' }
 }
 
 /// Appends a character. It is a function of its own, so that its clause speaks of characters where `push` speaks of
@@ -65,47 +36,31 @@ pub(crate) fn push_text(out: &mut String, text: &str) -> Result<(), AllocError>
     out.push_str(text)
 }
 
-/// Whether each character of the text is kept, and there are at most `most` of them.
+/// Whether the text is one to `most` characters of the class.
 #[inline(always)]
-pub(crate) fn is_kept(text: &str, kept: Kept, most: usize) -> bool
-    ensures same { IsTrue result → cleaned_text (keeps kept) most (chars text.now) ≡ chars text.now }
-    ensures ascii { IsTrue result → chars text.now ≡ text.now }
+pub(crate) fn is_kept(text: &str, class: CharClass, most: usize) -> bool
+    requires { (c : ℕ) → has class c ≡ true → c < 128 }
+    ensures { IsTrue result → IsAll (short_run (has class) most) (chars text.now) }
 {
-    let bytes = text.as_bytes();
-    if bytes.len() > most {
+    if text.len() > most {
         return false;
     }
-    let mut at = 0;
-    'bytes: while at < bytes.len() {
-        if !kept.has_byte(bytes[at]) {
-            return false;
-        }
-        at += 1;
+    match short_run(text, class, most) {
+        Some((_, rest)) => rest.is_empty(),
+        None => false,
     }
-    true
 }
 
-/// Appends the text, cut to at most `most` characters, with `?` for each character that isn't kept.
-#[inline(always)]
-pub(crate) fn push_cleaned(
-    out: &mut String,
-    text: &str,
-    kept: Kept,
-    most: usize,
-) -> Result<(), AllocError>
-    ensures { OnOk result (Appends out.old (cleaned_text (keeps kept) most (chars text.now)) out.new) }
-{
-    if is_kept(text, kept, most) {
-        return push_text(out, text);
-    }
-    push_each(out, text, kept, most)
-}
-
-// Appends the text as `push_cleaned` does, character by character.
+/// Appends the text, cut to at most `most` characters, with `?` for each character that isn't of the class.
 #[cold]
 #[inline(never)]
-fn push_each(out: &mut String, text: &str, kept: Kept, most: usize) -> Result<(), AllocError>
-    ensures { OnOk result (Appends out.old (cleaned_text (keeps kept) most (chars text.now)) out.new) }
+pub(crate) fn push_each(
+    out: &mut String,
+    text: &str,
+    class: CharClass,
+    most: usize,
+) -> Result<(), AllocError>
+    ensures { OnOk result (Appends out.old (cleaned_text (has class) most (chars text.now)) out.new) }
 {
     let mut rest = text;
     let mut left = most;
@@ -113,7 +68,7 @@ fn push_each(out: &mut String, text: &str, kept: Kept, most: usize) -> Result<()
         let Some((c, more)) = first(rest) else {
             return Ok(());
         };
-        push_char(out, kept.kept(c))?;
+        push_char(out, kept(c, class))?;
         rest = more;
         left -= 1;
     }

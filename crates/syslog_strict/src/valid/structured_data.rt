@@ -128,7 +128,7 @@ fn sd_element(text: &str) -> Option<(&str, &str)>
 // Whether one of the elements at the front has this id.
 fn has_id(text: &str, id: &str) -> bool
     ensures { (q : Text) (es : List ElementValue) → Front (many grammar.sd_element) (chars text.now) q es
-        → result ≡ is_among (chars id.now) (map (λ (e : ElementValue). e.id) es) }
+        → result ≡ is_among (chars id.now) (grammar.ids_of es) }
 {
     let mut rest = text;
     'elements: while let Some((other, after)) = sd_element(rest) {

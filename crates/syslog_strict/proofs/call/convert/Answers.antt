@@ -1,4 +1,5 @@
-use Rattle.syslog_strict.proofs.{Words.refl, ConversionLaws.line_written}
+use Rattle.syslog_strict.proofs.Words.{refl}
+use Rattle.syslog_strict.proofs.ConversionLaws.{line_written}
 use Rattle.syslog_loose.proofs.ReadingLemmas.{in_year_map}
 use Rattle.syslog_strict.proofs.call.convert.Goals as goal
 

@@ -1,4 +1,5 @@
-use Rattle.syslog_strict.proofs.{Words.ap, Words.chars, TextLemmas.started}
+use Rattle.syslog_strict.proofs.Words.{ap, chars}
+use Rattle.syslog_strict.proofs.TextLemmas.{started}
 use Rattle.syslog_strict.proofs.call.copy_text.Goals as goal
 
 pub returns-in-Ok : goal.returns-in-Ok

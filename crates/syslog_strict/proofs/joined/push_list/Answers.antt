@@ -1,6 +1,6 @@
 use Rattle.syslog_strict.proofs.Words.{refl, sym, subst, ◌∙◌, list_elements}
 use Rattle.syslog_strict.specs.Grammar.{IsAll, sd_elements}
-use Rattle.syslog_strict.proofs.{ConversionLaws.strict_stay, ElementLemmas.converted_some, ElementLemmas.elements_some}
+use Rattle.syslog_strict.proofs.ElementLemmas.{converted_some, elements_some, strict_stay}
 use Rattle.syslog_strict.proofs.TextLemmas.{appended}
 use Rattle.syslog_elements.proofs.StructuredDataLemmas.Pairs.{are_canonical}
 use Rattle.syslog_strict.proofs.joined.push_list.Goals as goal

@@ -1,9 +1,9 @@
 use Rattle.syslog_strict.proofs.Words.{ap, ap₂, rules, sym, ◌∙◌, ◌+◌, ◌*◌, line_value, timestamp_text, converted}
 use Rattle.syslog_strict.proofs.Words.{front_text}
 use Rattle.std.specs.Prelude.{unwrap_or}
-use Rattle.syslog_pieces.specs.Pri.{facility_number, severity_number}
-use Rattle.syslog_pieces.specs.declared.pri.SyslogFacility.TheVariants.{LOG_USER}
-use Rattle.syslog_pieces.specs.declared.pri.SyslogSeverity.TheVariants.{SEV_NOTICE}
+use Rattle.syslog_pieces.specs.{Pri.facility_number, Pri.severity_number}
+use Rattle.syslog_pieces.specs.{declared.pri.SyslogFacility.TheVariants.LOG_USER}
+use Rattle.syslog_pieces.specs.{declared.pri.SyslogSeverity.TheVariants.SEV_NOTICE}
 use Rattle.syslog_strict.proofs.{StampLemmas.front_chars, TextLemmas.appended}
 use Rattle.syslog_strict.proofs.stamp.push_front.Goals as goal
 

@@ -1,4 +1,5 @@
-use Rattle.syslog_strict.proofs.{Words.IsUtf8-string_bytes, StampLemmas.priority_chars, StampLemmas.written}
+use Rattle.syslog_strict.proofs.Words.{IsUtf8-string_bytes}
+use Rattle.syslog_strict.proofs.StampLemmas.{priority_chars, written}
 use Rattle.syslog_strict.proofs.stamp.push_priority.Goals as goal
 
 pub returns : goal.returns

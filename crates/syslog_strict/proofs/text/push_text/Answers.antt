@@ -1,4 +1,5 @@
-use Rattle.syslog_strict.proofs.{Words.IsUtf8-string_bytes, TextLemmas.pushed}
+use Rattle.syslog_strict.proofs.Words.{IsUtf8-string_bytes}
+use Rattle.syslog_strict.proofs.TextLemmas.{pushed}
 use Rattle.syslog_strict.proofs.text.push_text.Goals as goal
 
 pub returns : goal.returns

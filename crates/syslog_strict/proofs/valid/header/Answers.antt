@@ -1,6 +1,7 @@
 use Rattle.syslog_strict.proofs.Words.{[], ◌∷◌}
-use Rattle.syslog_text.proofs.PieceLemmas.{Class.◌also◌, Rules.row_reads}
-use Rattle.syslog_strict.{proofs.GrammarLemmas.header_det, specs.Grammar.header}
+use Rattle.syslog_text.proofs.{PieceLemmas.Class.◌also◌, PieceLemmas.Rules.row_reads}
+use Rattle.syslog_strict.proofs.GrammarLemmas.{header_det}
+use Rattle.syslog_strict.specs.Grammar.{header}
 use Rattle.syslog_strict.proofs.valid.header.Goals as goal
 
 pub returns : goal.returns

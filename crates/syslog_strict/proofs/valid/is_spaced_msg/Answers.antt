@@ -1,5 +1,5 @@
-use Rattle.syslog_strict.proofs.Words.{◌≡◌, ℕ, [], ◌∷◌, ◌++◌, Some, None, refl, sym, ap, ◌∙◌, nat_eq, arith}
-use Rattle.syslog_strict.proofs.Words.{nat_tests, Text, heads}
+use Rattle.syslog_strict.proofs.Words.{◌≡◌, ℕ, [], ◌∷◌, ◌++◌, Some, None, refl, sym, ap, ◌∙◌, nat_eq, arith, nat_tests}
+use Rattle.syslog_strict.proofs.Words.{Text, heads}
 use Rattle.std.specs.Prelude.{◌↔◌, IsTrue}
 use Rattle.syslog_text.specs.Pieces.Class.{optional, rest, spaced}
 use Rattle.syslog_strict.specs.Grammar.{IsAll}

@@ -1,6 +1,7 @@
 use Rattle.syslog_strict.proofs.Words.{[], ◌∷◌}
-use Rattle.syslog_text.proofs.PieceLemmas.{Class.◌also◌, Rules.row_reads}
-use Rattle.syslog_strict.{proofs.GrammarLemmas.pri_det, specs.Grammar.pri}
+use Rattle.syslog_text.proofs.{PieceLemmas.Class.◌also◌, PieceLemmas.Rules.row_reads}
+use Rattle.syslog_strict.proofs.GrammarLemmas.{pri_det}
+use Rattle.syslog_strict.specs.Grammar.{pri}
 use Rattle.syslog_strict.proofs.valid.pri.Goals as goal
 
 pub returns : goal.returns

@@ -1,10 +1,10 @@
-use Rattle.syslog_strict.proofs.Words.{sym, subst, List, [], ◌∷◌, ◌++◌, arith, append_assoc, append-nil}
-use Rattle.syslog_strict.proofs.Words.{ElementValue, AreDistinct}
+use Rattle.syslog_strict.proofs.Words.{sym, subst, List, [], ◌∷◌, ◌++◌, arith, append_assoc, append-nil, ElementValue}
+use Rattle.syslog_strict.proofs.Words.{AreDistinct, ids_of}
 use Rattle.syslog_text.proofs.PieceLemmas.Lists.{many_cons, many_here}
 use Rattle.syslog_text.proofs.PieceLemmas.Rules.{no_run, one_run, runs_all, runs_more, such_front}
 use Rattle.syslog_text.specs.Pieces.Lists.{many}
 use Rattle.syslog_strict.proofs.GrammarLemmas.{element_shorter, no_elements}
-use Rattle.syslog_strict.proofs.ValidLemmas.{fresh, ids_of, repeats, still_some}
+use Rattle.syslog_strict.proofs.ValidLemmas.{fresh, repeats, still_some}
 use Rattle.syslog_strict.specs.Grammar.{AreElements, sd_element}
 use Rattle.syslog_strict.proofs.valid.structured_data.elements_by_pairs.Goals as goal
 

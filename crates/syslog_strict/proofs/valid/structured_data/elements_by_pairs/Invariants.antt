@@ -1,9 +1,9 @@
+use Rattle.syslog_strict.proofs.Words.{List, length, ◌<◌, ◌++◌, chars, Text, ElementValue, Front, AreDistinct}
 use denote.Text.{Utf8}
 use denote.Shadow.{shadow}
-use Rattle.syslog_strict.proofs.Words.{List, length, ◌<◌, ◌++◌, chars, Text, ElementValue, Front, AreDistinct}
 use Rattle.syslog_text.proofs.PieceLemmas.Rules.{Runs}
 use Rattle.syslog_text.specs.Pieces.Lists.{many}
-use Rattle.syslog_strict.{proofs.ValidLemmas.ids_of, specs.Grammar.sd_element}
+use Rattle.syslog_strict.specs.Grammar.{ids_of, sd_element}
 use Rattle.syslog_strict.proofs.valid.structured_data.elements_by_pairs.Given as goal
 
 abbrev pub invariant-elements : goal.invariant-elements

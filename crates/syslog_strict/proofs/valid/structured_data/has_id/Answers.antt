@@ -3,7 +3,7 @@ use Rattle.syslog_strict.proofs.Words.{Text, chars, is_among, text_eq}
 use Rattle.syslog_text.specs.Pieces.Lists.{many}
 use Rattle.syslog_text.proofs.PieceLemmas.Rules.{many_left, none_left}
 use Rattle.syslog_strict.proofs.GrammarLemmas.{element_det, element_shorter}
-use Rattle.syslog_strict.{proofs.ValidLemmas.ids_of, specs.Grammar.sd_element}
+use Rattle.syslog_strict.specs.Grammar.{ids_of, sd_element}
 use Rattle.syslog_strict.proofs.valid.structured_data.has_id.Goals as goal
 
 -- whether the id is among the elements that are left, by the first of them

@@ -1,8 +1,8 @@
+use Rattle.syslog_strict.proofs.Words.{◌≡◌, List, length, chars, Text, ElementValue, Front, is_among}
 use denote.Text.{Utf8}
 use denote.Shadow.{shadow}
-use Rattle.syslog_strict.proofs.Words.{◌≡◌, List, length, chars, Text, ElementValue, Front, is_among}
 use Rattle.syslog_text.specs.Pieces.Lists.{many}
-use Rattle.syslog_strict.{proofs.ValidLemmas.ids_of, specs.Grammar.sd_element}
+use Rattle.syslog_strict.specs.Grammar.{ids_of, sd_element}
 use Rattle.syslog_strict.proofs.valid.structured_data.has_id.Given as goal
 
 abbrev pub invariant-elements : goal.invariant-elements

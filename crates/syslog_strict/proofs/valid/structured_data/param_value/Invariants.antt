@@ -1,6 +1,6 @@
+use Rattle.syslog_strict.proofs.Words.{List, length, chars}
 use denote.Text.{Utf8}
 use denote.Shadow.{shadow}
-use Rattle.syslog_strict.proofs.Words.{List, length, chars}
 use Rattle.syslog_text.proofs.PieceLemmas.Rules.{Runs}
 use Rattle.syslog_elements.specs.StructuredData.Escapes.{TextUnit}
 use Rattle.syslog_strict.specs.Grammar.{value_unit}

@@ -1,6 +1,6 @@
+use Rattle.syslog_strict.proofs.Words.{List, length, chars, Text}
 use denote.Text.{Utf8}
 use denote.Shadow.{shadow}
-use Rattle.syslog_strict.proofs.Words.{List, length, chars, Text}
 use Rattle.syslog_text.proofs.PieceLemmas.Rules.{Runs}
 use Rattle.syslog_text.specs.Pieces.Class.{spaced}
 use Rattle.syslog_strict.specs.Grammar.{sd_param}

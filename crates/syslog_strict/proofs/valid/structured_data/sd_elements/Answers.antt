@@ -1,8 +1,8 @@
-use Rattle.syslog_strict.proofs.Words.{sym, ap, subst, ◌∙◌, is_among, [], ◌∷◌, ◌++◌, arith, Text, HasSeen}
+use Rattle.syslog_strict.proofs.Words.{sym, ap, subst, ◌∙◌, is_among, [], ◌∷◌, ◌++◌, arith, Text, HasSeen, ids_of}
 use Rattle.syslog_text.proofs.PieceLemmas.Rules.{no_run, one_run, runs_all, runs_more, such_front}
 use Rattle.syslog_text.specs.Pieces.Lists.{many}
-use Rattle.syslog_strict.proofs.GrammarLemmas.{element_shorter, no_elements}
-use Rattle.syslog_strict.proofs.ValidLemmas.{came, distinct_more, first_seen, ids_more, ids_of, still_some}
+use Rattle.syslog_strict.proofs.{GrammarLemmas.element_shorter, GrammarLemmas.no_elements, ElementLemmas.ids_last}
+use Rattle.syslog_strict.proofs.ValidLemmas.{came, distinct_more, first_seen, still_some}
 use Rattle.syslog_strict.specs.Grammar.{AreElements, sd_element}
 use Rattle.syslog_strict.proofs.valid.structured_data.sd_elements.Goals as goal
 
@@ -37,7 +37,7 @@ elements-preserved c = let (es, some, r, h, apart) = c.elements.invariant.1 in
         still_some es (e ∷ []) some,
         runs_more r f,
         subst (HasSeen c.insert-in-Some-sd_element.new.self)
-            (sym (ids_more es e ∙ ap (λ (x : Text). ids_of es ++ x ∷ []) same)) seen,
+            (sym (ids_last es e ∙ ap (λ (x : Text). ids_of es ++ x ∷ []) same)) seen,
         distinct_more es e apart (ap (λ (x : Text). is_among x (ids_of es)) same ∙ new),
       ),
     )

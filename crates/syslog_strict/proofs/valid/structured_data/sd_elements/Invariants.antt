@@ -1,8 +1,8 @@
+use Rattle.syslog_strict.proofs.Words.{List, length, ◌<◌, chars, ElementValue, AreDistinct, HasSeen}
 use denote.Text.{Utf8}
 use denote.Shadow.{shadow}
-use Rattle.syslog_strict.proofs.Words.{List, length, ◌<◌, chars, ElementValue, AreDistinct, HasSeen}
 use Rattle.syslog_text.proofs.PieceLemmas.Rules.{Runs}
-use Rattle.syslog_strict.{proofs.ValidLemmas.ids_of, specs.Grammar.sd_element}
+use Rattle.syslog_strict.specs.Grammar.{ids_of, sd_element}
 use Rattle.syslog_strict.proofs.valid.structured_data.sd_elements.Given as goal
 
 abbrev pub invariant-elements : goal.invariant-elements

@@ -1,6 +1,7 @@
 use Rattle.syslog_strict.proofs.Words.{[], ◌∷◌}
-use Rattle.syslog_text.proofs.PieceLemmas.{Class.◌also◌, Rules.row_reads}
-use Rattle.syslog_strict.{proofs.GrammarLemmas.date_time_det, specs.Grammar.date_time}
+use Rattle.syslog_text.proofs.{PieceLemmas.Class.◌also◌, PieceLemmas.Rules.row_reads}
+use Rattle.syslog_strict.proofs.GrammarLemmas.{date_time_det}
+use Rattle.syslog_strict.specs.Grammar.{date_time}
 use Rattle.syslog_strict.proofs.valid.timestamp.date_time.Goals as goal
 
 pub returns : goal.returns

@@ -2,7 +2,8 @@ use Rattle.syslog_strict.proofs.Words.{inl, refl}
 use Rattle.syslog_text.proofs.PieceLemmas.Class.{◌past◌, ◌then◌, no_row, row_of, row_det}
 use Rattle.syslog_text.proofs.PieceLemmas.Rules.{no_such_front, such_reads}
 use Rattle.syslog_text.specs.Pieces.Class.{Row}
-use Rattle.syslog_strict.{proofs.GrammarLemmas.date_det, specs.Grammar.IsDate, specs.Grammar.date_row}
+use Rattle.syslog_strict.proofs.GrammarLemmas.{date_det}
+use Rattle.syslog_strict.specs.Grammar.{IsDate, date_row}
 use Rattle.syslog_strict.proofs.valid.timestamp.full_date.Goals as goal
 
 pub returns-in_err-month : goal.returns-in_err-month

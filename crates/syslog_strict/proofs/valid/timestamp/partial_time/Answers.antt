@@ -1,7 +1,8 @@
 use Rattle.syslog_strict.proofs.Words.{[], ◌∷◌}
-use Rattle.syslog_text.proofs.PieceLemmas.{Class.◌also◌, Rules.always_on, Rules.row_reads}
+use Rattle.syslog_text.proofs.{PieceLemmas.Class.◌also◌, PieceLemmas.Rules.always_on, PieceLemmas.Rules.row_reads}
 use Rattle.syslog_text.specs.Pieces.Class.{optional}
-use Rattle.syslog_strict.{proofs.GrammarLemmas.time_det, specs.Grammar.partial_time, specs.Grammar.time_secfrac}
+use Rattle.syslog_strict.proofs.GrammarLemmas.{time_det}
+use Rattle.syslog_strict.specs.Grammar.{partial_time, time_secfrac}
 use Rattle.syslog_strict.proofs.valid.timestamp.partial_time.Goals as goal
 
 pub returns : goal.returns

@@ -1,6 +1,7 @@
 use Rattle.syslog_strict.proofs.Words.{[], ◌∷◌}
-use Rattle.syslog_text.proofs.PieceLemmas.{Class.◌also◌, Rules.row_reads}
-use Rattle.syslog_strict.{proofs.GrammarLemmas.numoffset_det, specs.Grammar.time_numoffset}
+use Rattle.syslog_text.proofs.{PieceLemmas.Class.◌also◌, PieceLemmas.Rules.row_reads}
+use Rattle.syslog_strict.proofs.GrammarLemmas.{numoffset_det}
+use Rattle.syslog_strict.specs.Grammar.{time_numoffset}
 use Rattle.syslog_strict.proofs.valid.timestamp.time_numoffset.Goals as goal
 
 pub returns : goal.returns

@@ -1,5 +1,5 @@
-use Rattle.syslog_text.proofs.PieceLemmas.Rules.{first_of, second_of}
 use Rattle.syslog_strict.proofs.Words.{[], ◌∷◌}
+use Rattle.syslog_text.proofs.PieceLemmas.Rules.{first_of, second_of}
 use Rattle.syslog_text.specs.Pieces.Class.{Row, exactly}
 use Rattle.syslog_strict.specs.Grammar.{time_numoffset}
 use Rattle.syslog_strict.proofs.valid.timestamp.time_offset.Goals as goal

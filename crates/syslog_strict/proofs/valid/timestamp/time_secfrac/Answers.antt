@@ -1,6 +1,6 @@
+use Rattle.syslog_strict.proofs.Words.{is_ascii_digit}
 use Rattle.syslog_text.proofs.PieceLemmas.Class.{front_of, no_spaced_space, spaced_front}
 use Rattle.syslog_text.specs.Pieces.Rules.{short_run}
-use Rattle.syslog_strict.proofs.Words.{is_ascii_digit}
 use Rattle.syslog_strict.proofs.valid.timestamp.time_secfrac.Goals as goal
 
 pub returns-in_err-digits : goal.returns-in_err-digits
