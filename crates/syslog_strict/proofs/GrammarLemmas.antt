@@ -3,23 +3,36 @@
 use Rattle.syslog_strict.proofs.Words.{◌≡◌, ◌≢◌, inl, inr, ℕ, ◌+◌, ◌/◌, ◌<◌, Bool, true, false, List, [], ◌∷◌, ◌++◌}
 use Rattle.syslog_strict.proofs.Words.{length, map, refl, sym, ap, ◌∙◌, arith, append_assoc, AllByRecursion, Text, Ends}
 use Rattle.syslog_strict.proofs.Words.{heads, AreDistinct, is_escaped, is_sd_char, flat_map, ElementValue}
-use Rattle.syslog_strict.proofs.Words.{elements_text, joined_elements, element_text, param_text, is_ascii_digit}
+use Rattle.syslog_strict.proofs.Words.{elements_text, joined_elements, element_text, param_text, is_ascii_digit, Option}
+use Rattle.syslog_strict.proofs.Words.{Some, None, Bor, MatchOption, subst}
+use Rattle.syslog_text.proofs.PieceLemmas.Class.{division_front, AllDeterministic, exactly_det, optional_det}
+use Rattle.syslog_text.proofs.PieceLemmas.Class.{mapped_det, piece_front, ◌also◌, texted_det, row_det, after_det}
+use Rattle.syslog_text.proofs.PieceLemmas.Class.{row_pieces, front_of, no_front_no, rest_det, false_is, front_same}
+use Rattle.syslog_text.proofs.PieceLemmas.Class.{front_division}
 use Rattle.std.proofs.lemmas.List.{append_cancel_right, length-append}
-use Rattle.std.specs.Prelude.{◌↔◌}
+use Rattle.std.specs.Prelude.{◌↔◌, IsTrue, MatchBool}
 use Rattle.syslog_text.specs.Pieces.Class.{Class, Front, NoFront, IsDeterministic, Row, exactly, after, spaced, texted}
-use Rattle.syslog_text.specs.{Pieces.Lists.many, Pieces.Rules.short_run}
+use Rattle.syslog_text.specs.Pieces.Class.{rest, Values}
+use Rattle.syslog_text.specs.{Pieces.Lists.many, Pieces.Rules.◌or◌, Pieces.Rules.short_run, Pieces.View.Recognises}
+use Rattle.syslog_text.specs.{Pieces.View.Skips}
 use Rattle.syslog_elements.specs.StructuredData.Escapes.{TextUnit, pair, single, unit_text}
-use Rattle.syslog_text.proofs.PieceLemmas.Class.{AllDeterministic, exactly_det, optional_det, mapped_det, piece_front}
-use Rattle.syslog_text.proofs.PieceLemmas.Class.{◌also◌, texted_det, row_det, after_det, row_pieces, front_of}
 use Rattle.syslog_text.proofs.{PieceLemmas.Lists.many_det, TextLemmas.Bounded.numeral_det}
 use Rattle.syslog_text.proofs.PieceLemmas.Rules.{Opens, Prints, after_prints, exactly_apart, many_prints, or_det}
-use Rattle.syslog_text.proofs.PieceLemmas.Rules.{row_opens, short_run_det, such_det, none_left}
+use Rattle.syslog_text.proofs.PieceLemmas.Rules.{row_opens, short_run_det, such_det, none_left, second_of, first_of}
 use Rattle.syslog_pieces.proofs.TimestampLemmas.Rfc3339.{pair_det, year_det}
 use Rattle.syslog_pieces.specs.Timestamp.Rfc3339.{pair as two_digits, year}
 use Rattle.syslog_strict.specs.Grammar.{IsValueUnit, sd_element, sd_elements, sd_param, sd_name, value_unit, param_row}
 use Rattle.syslog_strict.specs.Grammar.{element_row, date_row, partial_time, time_numoffset, date_time, AreElements}
 use Rattle.syslog_strict.specs.Grammar.{IsDate}
 use Rattle.syslog_strict.specs.Grammar as grammar
+
+-- ---- readers
+
+-- a reader of one text, or else one of another class
+pub either_reads : (C D : Class) (v : C.Value) (t : Text) (r s : Option (Bor (List ℕ))) → Skips C v t r
+    → MatchOption r (Recognises D t s) (λ x. s ≡ Some x) → Recognises (C or D) t s
+either_reads C D v t None s n h = second_of C D s n h
+either_reads C D v t (Some x) s f e = rw e (first_of f)
 
 -- ---- PRI and TIMESTAMP
 
@@ -243,10 +256,30 @@ data_front (e ∷ es) q are apart n = (
 
 -- ---- the whole
 
-pub header_det : AllDeterministic grammar.header
-header_det =
+pub msg_det : AllDeterministic (grammar.header ++ grammar.body)
+msg_det =
     let space = exactly_det (32 ∷ []) in
     let short = λ (most : ℕ). short_run_det grammar.is_printusascii most in
     row_det grammar.pri pri_det also numeral_det 1 999 also space also timestamp_det also space also short 255 also
     space
-    also short 48 also space also short 128 also space also short 32 also space also tt
+    also short 48 also space also short 128 also space also short 32 also space also data_det
+    also optional_det (spaced rest) (after_det rest rest_det) also tt
+
+pub no_msg : {text : Text} → NoFront (Row (grammar.header ++ grammar.body)) text → grammar.IsSyslogMsg text → ⊥
+no_msg n m = no_front_no (Row (grammar.header ++ grammar.body)) n (division_front (grammar.header ++ grammar.body) m.division)
+
+-- whether nothing is left after a message
+pub msg_told : {text q : Text} {vs : Values (grammar.header ++ grammar.body)} (is_end : Bool)
+    → Front (Row (grammar.header ++ grammar.body)) text q vs → MatchBool is_end (q ≡ []) (0 < length q)
+    → IsTrue is_end ↔ grammar.IsSyslogMsg text
+msg_told {text = text} {vs = vs} true f none = (
+  (λ h. record {
+    values = vs;
+    division = front_division (grammar.header ++ grammar.body)
+        (subst (λ (x : Text). Front (Row (grammar.header ++ grammar.body)) text x vs) none f);
+  }),
+  (λ m. refl),
+)
+msg_told {q = q} false f some = false_is (λ m. absurd (let none : q ≡ [] = (front_same
+    (Row (grammar.header ++ grammar.body)) (row_det (grammar.header ++ grammar.body) msg_det) f
+    (division_front (grammar.header ++ grammar.body) m.division)).0 in omega (arith, some, ap length none)))

@@ -10,7 +10,7 @@ ghost use Rattle.syslog_strict.specs.Conversion.{converted_host, converted_proce
 ghost use Rattle.syslog_strict.specs.Conversion.{no_colon};
 ghost use Rattle.syslog_strict.specs.Pushing.{Appends};
 
-use crate::text::{is_kept, kept, push_char, push_each, push_text};
+use crate::text::{is_kept, is_no_text, kept, push_char, push_each, push_text};
 use std::alloc::{AllocError, Global};
 use syslog_pieces::procid::{ProcId, is_bare_word};
 use syslog_text::as_str::is_same_text;
@@ -65,16 +65,6 @@ fn push_other_host(out: &mut String, host: &str) -> Result<(), AllocError>
         left -= 1;
     }
     push_char(out, without_colon(last))
-}
-
-#[inline(always)]
-fn is_no_text(text: &str) -> bool
-    ensures { MatchBool result (chars text.now ≡ []) (0 < length (chars text.now)) }
-{
-    match first(text) {
-        Some(_) => false,
-        None => true,
-    }
 }
 
 #[tactic(auto, using(crate::proofs::NameLemmas::colon_told))]

@@ -1,5 +1,5 @@
 //! Texts that are appended as they are, or with `?` for each character that a class lacks.
-ghost use Rattle.std.specs.Prelude.{◌≡◌, ◌<◌, ℕ, [], ◌∷◌, IsTrue, OnOk, true};
+ghost use Rattle.std.specs.Prelude.{◌≡◌, ◌<◌, ℕ, [], ◌∷◌, length, IsTrue, MatchBool, OnOk, true};
 ghost use Rattle.std.specs.Str.{chars};
 ghost use Rattle.syslog_text.specs.Pieces.Rules.{short_run};
 ghost use Rattle.syslog_text.specs.Text.CharClass.{has};
@@ -73,4 +73,15 @@ pub(crate) fn push_each(
         left -= 1;
     }
     Ok(())
+}
+
+/// Whether the text is empty. It is a function of its own, so that its clause speaks of characters.
+#[inline(always)]
+pub(crate) fn is_no_text(text: &str) -> bool
+    ensures { MatchBool result (chars text.now ≡ []) (0 < length (chars text.now)) }
+{
+    match first(text) {
+        Some(_) => false,
+        None => true,
+    }
 }

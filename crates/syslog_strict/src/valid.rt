@@ -2,20 +2,21 @@
 //!
 //! Each reader is named after its rule of the ABNF. It returns the text after a piece of the rule's class in
 //! `specs/Grammar.antt`, or none if the text does not begin with one.
-ghost use Rattle.std.specs.Prelude.{◌↔◌, ◌∷◌, [], IsTrue};
+ghost use Rattle.std.specs.Prelude.{◌↔◌, ◌∷◌, ◌++◌, [], IsTrue, Option};
 ghost use Rattle.std.specs.Str.{chars};
-ghost use Rattle.syslog_text.specs.Pieces.Class.{Row, exactly, optional, rest as rest_class, spaced};
-ghost use Rattle.syslog_text.specs.Pieces.View.{Recognises};
+ghost use Rattle.syslog_text.specs.Pieces.Class.{Front, Row, Text, exactly, optional, rest as rest_class, spaced};
+ghost use Rattle.syslog_text.specs.Pieces.View.{Recognises, shown};
 ghost use Rattle.syslog_strict.specs.Grammar as grammar;
 
 mod structured_data;
 mod timestamp;
 
+use crate::text::is_no_text;
 use std::alloc::Global;
 pub(crate) use structured_data::are_elements;
 use structured_data::structured_data;
 use syslog_text::text::bounded::{numeral, short_run};
-use syslog_text::text::{CharClass, first, literal};
+use syslog_text::text::{CharClass, literal};
 use timestamp::timestamp;
 
 #[inline(always)]
@@ -94,9 +95,20 @@ fn msgid(text: &str) -> Option<&str>
     Some(rest)
 }
 
+// Returns the text after `SP MSG`, which is all of it, or the text itself if no space begins it.
 #[inline(always)]
-fn header(text: &str) -> Option<&str>
-    ensures { Recognises (Row grammar.header) (chars text.now) result }
+fn spaced_msg(text: &str) -> &str
+    ensures { (msg : Option Text) × Front (optional (spaced rest_class)) (chars text.now) (shown result) msg }
+{
+    match literal(text, ' ') {
+        Some(_) => "",
+        None => text,
+    }
+}
+
+#[inline(always)]
+fn syslog_msg(alloc: Global, text: &str) -> Option<&str>
+    ensures { Recognises (Row (grammar.header ++ grammar.body)) (chars text.now) result }
 {
     pri(text)
         .and_then(version)
@@ -111,17 +123,8 @@ fn header(text: &str) -> Option<&str>
         .and_then(sp)
         .and_then(msgid)
         .and_then(sp)
-}
-
-// Whether the text is `SP MSG`, or empty.
-#[inline(always)]
-fn is_spaced_msg(text: &str) -> bool
-    ensures { IsTrue result ↔ (grammar.IsAll (optional (spaced rest_class)) (chars text.now)) }
-{
-    match first(text) {
-        Some((c, _)) => c == ' ',
-        None => true,
-    }
+        .and_then(|data| structured_data(alloc, data))
+        .map(spaced_msg)
 }
 
 /// Returns whether the text is in the grammar of RFC 5424, whatever its version.
@@ -129,11 +132,8 @@ fn is_spaced_msg(text: &str) -> bool
 pub fn is_syslog_msg(alloc: Global, text: &str) -> bool
     ensures { IsTrue result ↔ grammar.IsSyslogMsg (chars text.now) }
 {
-    let Some(after_header) = header(text) else {
-        return false;
-    };
-    match structured_data(alloc, after_header) {
-        Some(rest) => is_spaced_msg(rest),
+    match syslog_msg(alloc, text) {
+        Some(rest) => is_no_text(rest),
         None => false,
     }
 }

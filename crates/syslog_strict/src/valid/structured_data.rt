@@ -192,16 +192,23 @@ pub(crate) fn are_elements(alloc: Global, text: &str) -> bool
     }
 }
 
-/// Returns the text after STRUCTURED-DATA. If there is no memory for ids, they are compared by pairs.
+// Returns the text after the elements at the front; none if two have the same id. If there is no memory for ids, they
+// are compared by pairs.
 #[inline(always)]
-pub(super) fn structured_data(alloc: Global, text: &str) -> Option<&str>
-    ensures { Recognises grammar.structured_data (chars text.now) result }
+fn some_elements(alloc: Global, text: &str) -> Option<&str>
+    ensures { Recognises grammar.sd_elements (chars text.now) result }
 {
-    if let Some(rest) = literal(text, '-') {
-        return Some(rest);
-    }
     match sd_elements(alloc, text) {
         Ok(read) => read,
         Err(_) => elements_by_pairs(text),
     }
+}
+
+/// Returns the text after STRUCTURED-DATA.
+#[tactic(auto, using(crate::proofs::GrammarLemmas::either_reads))]
+#[inline(always)]
+pub(super) fn structured_data(alloc: Global, text: &str) -> Option<&str>
+    ensures { Recognises grammar.structured_data (chars text.now) result }
+{
+    literal(text, '-').or_else(|| some_elements(alloc, text))
 }

@@ -79,14 +79,12 @@ fn partial_time(text: &str) -> Option<&str>
         .map(secfrac)
 }
 
+#[tactic(auto, using(crate::proofs::GrammarLemmas::either_reads))]
 #[inline(always)]
 fn sign(text: &str) -> Option<&str>
     ensures { Recognises grammar.sign (chars text.now) result }
 {
-    match literal(text, '+') {
-        Some(rest) => Some(rest),
-        None => literal(text, '-'),
-    }
+    literal(text, '+').or_else(|| literal(text, '-'))
 }
 
 #[inline(always)]
@@ -96,14 +94,12 @@ fn time_numoffset(text: &str) -> Option<&str>
     sign(text).and_then(time_hour).and_then(time_minute)
 }
 
+#[tactic(auto, using(crate::proofs::GrammarLemmas::either_reads))]
 #[inline(always)]
 fn time_offset(text: &str) -> Option<&str>
     ensures { Recognises grammar.time_offset (chars text.now) result }
 {
-    match literal(text, 'Z') {
-        Some(rest) => Some(rest),
-        None => time_numoffset(text),
-    }
+    literal(text, 'Z').or_else(|| time_numoffset(text))
 }
 
 #[inline(always)]
@@ -123,12 +119,10 @@ fn date_time(text: &str) -> Option<&str>
         .and_then(time_offset)
 }
 
+#[tactic(auto, using(crate::proofs::GrammarLemmas::either_reads))]
 #[inline(always)]
 pub(super) fn timestamp(text: &str) -> Option<&str>
     ensures { Recognises grammar.timestamp (chars text.now) result }
 {
-    match literal(text, '-') {
-        Some(rest) => Some(rest),
-        None => date_time(text),
-    }
+    literal(text, '-').or_else(|| date_time(text))
 }
