@@ -55,7 +55,7 @@ firsts_are : (P : Text → Type 0) (ts : List Text) → AllByRecursion P ts → 
 firsts_are P [] each = tt
 firsts_are P (t ∷ ts) each = (each.0, all_filter P _ (firsts ts) (firsts_are P ts each.1))
 
-firsts_distinct : (ts : List Text) → AreDistinct (firsts ts)
+pub firsts_distinct : (ts : List Text) → AreDistinct (firsts ts)
 firsts_distinct [] = tt
 firsts_distinct (t ∷ ts) = (others t (firsts ts), filtered _ (firsts ts) (firsts_distinct ts))
   where
@@ -73,7 +73,7 @@ firsts_distinct (t ∷ ts) = (others t (firsts ts), filtered _ (firsts ts) (firs
       | inr e ↦ rw e (filtered p ts apart.1)
     ]
 
-firsts_same : (ts : List Text) → AreDistinct ts → firsts ts ≡ ts
+pub firsts_same : (ts : List Text) → AreDistinct ts → firsts ts ≡ ts
 firsts_same [] apart = refl
 firsts_same (t ∷ ts) apart = ap (λ (us : List Text). t ∷ filter (λ u. not (text_eq t u)) us) (firsts_same ts apart.1)
     ∙ ap (λ (us : List Text). t ∷ us) (kept ts apart.0)

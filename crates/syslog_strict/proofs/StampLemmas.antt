@@ -7,6 +7,7 @@ use Rattle.syslog_strict.proofs.Words.{chars, IsAscii, IsUtf8, is_ascii_digit, o
 use Rattle.syslog_strict.proofs.Words.{int_rem_euclid-parts, Text, Each, timestamp_text, IsCivilDate, OffsetTimestamp}
 use Rattle.syslog_strict.proofs.Words.{nanos_of_seconds, pad2, pad4, front_text, converted_stamp, cut_stamp, has_text}
 use Rattle.syslog_strict.proofs.Words.{in_utc, micros, is_four_digits, Ends}
+use Rattle.syslog_strict.proofs.TextLemmas.{one}
 use Rattle.syslog_strict.specs.Grammar.{IsDate, date_row, date_time, partial_time, sign, time_hour, time_minute}
 use Rattle.syslog_strict.specs.Grammar.{time_numoffset, time_offset, time_secfrac, timestamp}
 use Rattle.syslog_text.specs.{Bodies.Looks.is_dot, Pieces.Rules.short_run, Text.Digits.pad3}
@@ -25,8 +26,8 @@ use Rattle.syslog_text.proofs.{TextLemmas.Words.decimal_ascii}
 use Rattle.std.proofs.Common.{length, ◌-ℤ◌, ◌*ℤ◌}
 use Rattle.jiff_core.proofs.CalendarLemmas.{days_in_month_bounds}
 use Rattle.std.proofs.{lemmas.Bool.and_parts, lemmas.Bool.Decides.eqb_tells, lemmas.Str.IsAscii-append}
-use Rattle.std.specs.Fmt.{digits}
 use Rattle.syslog_pieces.proofs.{TimestampLemmas.Civil.civil_fields_exist, TimestampLemmas.Civil.in_range-at_offset}
+use Rattle.syslog_pieces.proofs.TimestampLemmas.Civil.{from_start}
 use Rattle.syslog_pieces.proofs.{TimestampLemmas.Digits.each_ascii, TimestampLemmas.Rfc3339.printed_stamp-characters}
 use Rattle.jiff_core.specs.Calendar.{days_from_civil}
 
@@ -106,7 +107,7 @@ clock_shown (Some c) = refl
 
 pub front_joined : (priority : ℕ) (stamp : Text) → (60 ∷ (decimal priority ++ (62 ∷ []))) ++ (decimal 1 ++ (32 ∷ stamp))
     ≡ front_text priority stamp
-front_joined priority stamp = simp append_assoc refl
+front_joined priority stamp = simp append_assoc (rw one refl)
 
 -- the bytes of a printed front, in characters
 pub front_chars : (bytes : List ℕ) (priority : ℕ) (c : Option ClockStamp) (stamp : Text)
@@ -122,20 +123,6 @@ priority_chars priority = chars-IsAscii _
     (IsAscii-cons 60 _ (omega arith) (IsAscii-append (decimal priority) (62 ∷ 49 ∷ 32 ∷ []) (decimal_ascii priority)
     (IsAscii-cons 62 (49 ∷ 32 ∷ []) (omega arith) (IsAscii-cons 49 (32 ∷ []) (omega arith)
     (IsAscii-cons 32 [] (omega arith) IsAscii-nil)))))
-
-pub one : decimal 1 ≡ 49 ∷ []
-unfolding digits
-one = refl
-
-parts_joined : (old p stamp : Text) → (old ++ (60 ∷ (p ++ (62 ∷ 49 ∷ 32 ∷ [])))) ++ stamp
-    ≡ old ++ (60 ∷ (p ++ (62 ∷ (decimal 1 ++ (32 ∷ stamp)))))
-parts_joined old p stamp = rw one (simp append_assoc refl)
-
-pub front_parts : (priority : ℕ) (stamp old mid now : Text) → mid ≡ old
-    ++ (60 ∷ (decimal priority ++ (62 ∷ 49 ∷ 32 ∷ [])))
-    → now ≡ mid ++ stamp → now ≡ old ++ front_text priority stamp
-front_parts priority stamp old mid now e f = f ∙ ap (λ (x : Text). x ++ stamp) e
-    ∙ parts_joined old (decimal priority) stamp
 
 -- ---- what the test of a timestamp says
 
@@ -261,10 +248,7 @@ cut_text s n is h =
     let o = s.offset.seconds in
     let fields = civil_fields_exist _ (in_range-at_offset s.instant.nanosecond o s.instant.in_range
     s.offset.in_range) in
-    let (both, day) = and_parts _ _ h in
-    let (year, minutes) = and_parts _ _ both in
-    let (y, shows, small) = four_digits (own_year s) year in
-    fields_is _ o y shows fields.0 (subst (λ (x : ℤ). (civil_fields (x +ℤ nanos_of_seconds o)).nanosecond % 1_000 ≡ 0)
+    fields_is _ o (unsigned_abs (own_year s)) (sym (from_start (own_year s) canonical.year_from)) fields.0 (subst (λ (x : ℤ). (civil_fields (x +ℤ nanos_of_seconds o)).nanosecond % 1_000 ≡ 0)
     (sym is) (whole_fields n o))
     canonical.minutes canonical.day
 

@@ -3,7 +3,7 @@ use Rattle.syslog_strict.proofs.Words.{timestamp_text, ◌≡◌, converted_word
 use Rattle.syslog_strict.proofs.Words.{append-nil, encode_utf8, MessageValue, priority_of, ℕ, chars-nil, name_text}
 use Rattle.syslog_strict.proofs.Words.{front_text, false, length, Option, IsUtf8, decimal, Bool, true, List, ◌++◌, Some}
 use Rattle.syslog_strict.proofs.Words.{None, refl, cond, Text, ◌∷◌, sym, ap, ◌∙◌, nat_eq, empty_is, []}
-use Rattle.std.specs.{Str.chars, Borrow.Bor, Option.option_and_then, Char.IsScalar, Result.is_ok}
+use Rattle.std.specs.{Fmt.digits, Borrow.Bor, Char.IsScalar, Option.option_and_then, Result.is_ok, Str.chars}
 use Rattle.syslog_strict.specs.Pushing.{data_text}
 use Rattle.std.proofs.Common.{Result, Ok, Err, OnOk, is_some}
 use Rattle.syslog_text.specs.Pieces.View.{seen}
@@ -41,12 +41,6 @@ started old new a e none = e ∙ ap (λ (x : Text). x ++ a) (none ∙ chars-nil)
 abbrev space : Text
 space = 32 ∷ []
 
--- the message id and the elements, piece by piece
-pub data_joined : (m : MessageValue) (t0 t1 t2 t3 t4 t5 : Text) → t1 ≡ t0 ++ space → t2 ≡ t1 ++ name_text m.msgid
-    → t3 ≡ t2 ++ space → t4 ≡ t3 ++ elements_text m.structured_data → t5 ≡ t4 ++ space → t5 ≡ t0 ++ data_text m
-data_joined m t0 t1 t2 t3 t4 t5 e1 e2 e3 e4 e5 =
-    rw (e5, e4, e3, e2, e1) (simp append_assoc)
-
 -- ` - - `
 pub no_data : (m : MessageValue) → m.msgid ≡ None → m.structured_data ≡ []
     → chars (32 ∷ 45 ∷ 32 ∷ 45 ∷ 32 ∷ []) ≡ data_text m
@@ -65,9 +59,13 @@ pieces : (front host app process id elements msg : Text)
     ≡ front ++ (32 ∷ (host ++ (32 ∷ (app ++ (32 ∷ (process ++ (32 ∷ (id ++ (32 ∷ (elements ++ (32 ∷ msg)))))))))))
 pieces front host app process id elements msg = simp append_assoc refl
 
-front_before : (p stamp more : Text) → (60 ∷ (p ++ (62 ∷ (decimal 1 ++ (32 ∷ stamp))))) ++ more
+pub one : decimal 1 ≡ 49 ∷ []
+unfolding digits
+one = refl
+
+front_before : (p stamp more : Text) → (60 ∷ (p ++ (62 ∷ 49 ∷ 32 ∷ stamp))) ++ more
     ≡ 60 ∷ (p ++ (62 ∷ (decimal 1 ++ (32 ∷ (stamp ++ more)))))
-front_before p stamp more = simp append_assoc refl
+front_before p stamp more = simp append_assoc (rw one refl)
 
 -- what was appended to no text, piece by piece, is the printed message
 pub line_joined : (m : MessageValue) (t0 t1 t2 t3 t4 t5 t6 t7 t8 t9 : Text) → t0 ≡ []

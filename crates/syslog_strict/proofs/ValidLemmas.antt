@@ -4,6 +4,9 @@ use Rattle.syslog_strict.proofs.Words.{map, refl, sym, ap, ap₂, subst, ◌∙�
 use Rattle.syslog_strict.proofs.Words.{AreDistinct, nat_tests, Text, Each, Ends, shown, text_eq, ElementValue, chars}
 use Rattle.syslog_strict.proofs.Words.{SplitsRun, is_inert_char, is_among, HasSeen, is_escaped, cases_Bool, ids_of}
 use Rattle.syslog_strict.proofs.Words.{◌||◌}
+use Rattle.syslog_strict.proofs.ElementLemmas.{firsts_distinct, firsts_last, firsts_same, ids_last, bytes_text}
+use Rattle.syslog_strict.proofs.ElementLemmas.{last_among, put}
+use Rattle.syslog_strict.specs.Grammar.{AreElements, escape, sd_element, sd_elements, value_unit}
 use Rattle.std.proofs.{Common.is_eq, lemmas.Bool.or_from, lemmas.Bool.or_parts, lemmas.Map.Text.is_eq-slice_cmp}
 use Rattle.std.specs.{BTreeSet.contains, Cmp.Lexicographic.slice_cmp, Ordering.nat_cmp}
 use Rattle.std.specs.Prelude.{not, MatchBool, ◌↔◌}
@@ -12,9 +15,7 @@ use Rattle.syslog_elements.specs.StructuredData.Escapes.{TextUnit, pair, single}
 use Rattle.syslog_pieces.proofs.Names.{not-false, not-true}
 use Rattle.syslog_text.proofs.PieceLemmas.Class.{front_of, piece_front}
 use Rattle.syslog_text.proofs.PieceLemmas.Rules.{Runs, many_left, no_run, one_run, runs_left}
-use Rattle.syslog_strict.specs.Grammar.{escape, sd_element, sd_elements, value_unit}
 use Rattle.syslog_strict.proofs.GrammarLemmas.{element_det}
-use Rattle.syslog_strict.proofs.ElementLemmas.{bytes_text, last_among, put}
 use Rattle.syslog_strict.proofs.NameLemmas.{no_text, no_text_eq, text_eq_true}
 use Rattle.syslog_strict.specs.declared.ids.Ids.{Ids}
 
@@ -67,17 +68,10 @@ repeated (d ∷ es) us e h apart = elim (cases_Bool (text_eq d.id e.id)) [
 
 -- a new one doesn't
 pub distinct_more : (es : List ElementValue) (e : ElementValue) → AreDistinct (ids_of es)
-    → is_among e.id (ids_of es) ≡ false
-    → AreDistinct (ids_of (es ++ e ∷ []))
-distinct_more [] e apart h = (tt, tt)
-distinct_more (d ∷ es) e apart h =
-    let (other, more) = or_parts (text_eq d.id e.id) (is_among e.id (ids_of es)) h in
-    (last es apart.0 (λ same. no_text_eq d.id e.id other (sym same)), distinct_more es e apart.1 more)
-  where
-    last : (xs : List ElementValue) → AllByRecursion (λ u. u ≢ d.id) (ids_of xs) → e.id ≢ d.id
-        → AllByRecursion (λ u. u ≢ d.id) (ids_of (xs ++ e ∷ []))
-    last [] each n = (n, tt)
-    last (x ∷ xs) each n = (each.0, last xs each.1 n)
+    → is_among e.id (ids_of es) ≡ false → AreDistinct (ids_of (es ++ e ∷ []))
+distinct_more es e apart new = rw (ids_last es e) (subst AreDistinct
+    (firsts_last (ids_of es) e.id ∙ rw (new, firsts_same (ids_of es) apart) refl)
+    (firsts_distinct (ids_of es ++ e.id ∷ [])))
 
 -- an element whose id comes again among those after it: then those at the front are not distinct
 pub repeats : {t s u : Text} {e : ElementValue} {id : Text} (es : List ElementValue) → Runs sd_element t es s
@@ -109,14 +103,11 @@ pub fresh : (e : ElementValue) {id : Text} → e.id ≡ id → (us : List Elemen
 fresh e same us new apart =
     (subst (λ (x : Text). AllByRecursion (λ u. u ≢ x) (ids_of us)) (sym same) ((none_tells _ (ids_of us)).0 new), apart)
 
-pub still_some : (es us : List ElementValue) → 0 < length es → 0 < length (es ++ us)
-still_some [] us h = absurd (omega arith)
-still_some (e ∷ es) us h = omega arith
-
--- the first id of all is new
-pub first_seen : (is_new : Bool) {P : Type 0} → MatchBool is_new ((false ≡ false) × P) (false ≡ true) → P
-first_seen true h = h.1
-first_seen false h = absurd cc
+-- whether there is an element, where all are distinct
+pub has_some : (b : Bool) (es : List ElementValue) → MatchBool b (0 < length es) (es ≡ []) → AreDistinct (ids_of es)
+    → MatchBool b (AreElements es) (AreElements es → ⊥)
+has_some true es some apart = (some, apart)
+has_some false es none apart = λ h. (let k = h.0 in omega (arith, ap length none))
 
 -- ---- a set of ids, as the texts that came before
 

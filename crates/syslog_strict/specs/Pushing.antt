@@ -20,7 +20,7 @@ Appends old piece new = text_in new ≡ text_in old ++ piece
 
 -- `<priority>1 timestamp`
 abbrev pub front_text : ℕ → Text → Text
-front_text priority stamp = 60 ∷ (decimal priority ++ (62 ∷ (decimal 1 ++ (32 ∷ stamp))))
+front_text priority stamp = 60 ∷ (decimal priority ++ (62 ∷ 49 ∷ 32 ∷ stamp))
 
 -- the message id and the elements, with a space before each and after them
 abbrev pub data_text : MessageValue → Text

@@ -147,18 +147,16 @@ fn has_id(text: &str, id: &str) -> bool
 fn elements_by_pairs(text: &str) -> Option<&str>
     ensures { Recognises grammar.sd_elements (chars text.now) result }
 {
-    let (first_id, after_first) = sd_element(text)?;
-    if has_id(after_first, first_id) {
-        return None;
-    }
-    let mut rest = after_first;
+    let mut rest = text;
+    let mut has_one = false;
     'elements: while let Some((id, after)) = sd_element(rest) {
         if has_id(after, id) {
             return None;
         }
         rest = after;
+        has_one = true;
     }
-    Some(rest)
+    has_one.then_some(rest)
 }
 
 // Returns the text after the elements at the front; none if two have the same id.
@@ -166,19 +164,17 @@ fn elements_by_pairs(text: &str) -> Option<&str>
 fn sd_elements(alloc: Global, text: &str) -> Result<Option<&str>, AllocError>
     ensures { IfOk result (λ rest. Recognises grammar.sd_elements (chars text.now) rest) }
 {
-    let Some((first_id, after_first)) = sd_element(text) else {
-        return Ok(None);
-    };
     let mut ids = Ids::new(alloc);
-    ids.insert(first_id)?;
-    let mut rest = after_first;
+    let mut rest = text;
+    let mut has_one = false;
     'elements: while let Some((id, after)) = sd_element(rest) {
         if !ids.insert(id)? {
             return Ok(None);
         }
         rest = after;
+        has_one = true;
     }
-    Ok(Some(rest))
+    Ok(has_one.then_some(rest))
 }
 
 /// Whether the text is elements no two of which have the same id. If an allocation fails, it may return false for such
