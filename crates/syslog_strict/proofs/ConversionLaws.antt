@@ -6,9 +6,10 @@ use Rattle.syslog_strict.proofs.Words.{IsBoundedProcess, all_map, nanos_of_secon
 use Rattle.syslog_strict.proofs.Words.{OffsetTimestamp, MessageValue, timestamp_text, priority_of, is_blank, converted}
 use Rattle.syslog_strict.proofs.Words.{converted_stamp, cut_stamp, has_text, in_utc, is_four_digits, micros}
 use Rattle.syslog_strict.proofs.Words.{converted_elements, converted_host, converted_process, converted_word, Front}
-use Rattle.syslog_strict.proofs.Words.{IsSyslogMsg, is_printusascii, ◌≤◌}
+use Rattle.syslog_strict.proofs.Words.{IsSyslogMsg, is_printusascii, ◌≤◌, length}
+use Rattle.std.proofs.lemmas.List.{same_from_push, length-append}
 use Rattle.std.proofs.Common.{Result, Ok, Err, ◌&&◌, nat_lt}
-use Rattle.std.specs.{Prelude.MatchResult, Bool.◌==◌, Char.is_not_whitespace}
+use Rattle.std.specs.{Bool.◌==◌, Char.is_not_whitespace, Prelude.MatchResult}
 use Rattle.syslog_strict.specs.Call.{Converts, IsConvertedText, IsLineText, IsStrictText, NoSyslogMsg}
 use Rattle.syslog_strict.specs.Conversion.{spaced_before, whole}
 use Rattle.syslog_strict.specs.Grammar.{body, header, pri, prival, sp, version}
@@ -132,14 +133,6 @@ converted_strict m b =
 
 -- ---- read back
 
-no_lone : (p : Text) (c : ℕ) (t : Text) → p ++ (c ∷ t) ≡ [] → ⊥
-no_lone [] c t e = cc
-no_lone (d ∷ p) c t e = cc
-
-one_visible : EndsVisibly (93 ∷ [])
-one_visible [] c e = let same : 93 ≡ c = cc in subst (λ (x : ℕ). is_not_whitespace x ≡ true) same refl
-one_visible (d ∷ front) c e = absurd (no_lone front c [] (cc))
-
 -- the message part is that of a message that was read
 pub record HasReadMsg (m : MessageValue) : Type 0 where
   pub front : Ends is_blank m.msg
@@ -162,11 +155,12 @@ begins_unblank u msg (r, e) = subst (λ (x : Text). Ends is_blank (spaced_before
 
 ends_more : (p : Text) (c : ℕ) (t : Text) → EndsVisibly (c ∷ t) → EndsVisibly (p ++ (c ∷ t))
 ends_more [] c t h front x e = h front x e
-ends_more (d ∷ p) c t h [] x e = absurd (no_lone p c t (cc))
+ends_more (d ∷ p) c t h [] x e = absurd (omega (arith, ap length e, length-append p (c ∷ t)))
 ends_more (d ∷ p) c t h (y ∷ front) x e = ends_more p c t h front x (cc)
 
 bracket_visible : (u : Text) → EndsIn 93 u → EndsVisibly u
-bracket_visible u (s, e) = subst EndsVisibly (sym e) (ends_more s 93 [] one_visible)
+bracket_visible u (s, e) front c f =
+    subst (λ (x : ℕ). is_not_whitespace x ≡ true) (same_from_push s front 93 c (sym e ∙ f)).1 refl
 
 ends_visibly : (u msg : Text) → EndsIn 93 u → EndsVisibly msg → EndsVisibly (spaced_before u msg)
 ends_visibly [] msg in_bracket visible = visible

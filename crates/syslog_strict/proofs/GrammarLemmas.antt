@@ -4,7 +4,8 @@ use Rattle.syslog_strict.proofs.Words.{◌≡◌, ◌≢◌, inl, inr, ℕ, ◌+
 use Rattle.syslog_strict.proofs.Words.{length, map, refl, sym, ap, ◌∙◌, arith, append_assoc, AllByRecursion, Text, Ends}
 use Rattle.syslog_strict.proofs.Words.{heads, AreDistinct, is_escaped, is_sd_char, flat_map, ElementValue}
 use Rattle.syslog_strict.proofs.Words.{elements_text, joined_elements, element_text, param_text, is_ascii_digit, Option}
-use Rattle.syslog_strict.proofs.Words.{Some, None, Bor, MatchOption, subst}
+use Rattle.syslog_strict.proofs.Words.{Some, None, Bor, MatchOption, subst, shown}
+use Rattle.syslog_text.proofs.PieceLemmas.Class.{match_map, no_spaced_piece, no_spaced_space, spaced_front}
 use Rattle.syslog_text.proofs.PieceLemmas.Class.{division_front, AllDeterministic, exactly_det, optional_det}
 use Rattle.syslog_text.proofs.PieceLemmas.Class.{mapped_det, piece_front, ◌also◌, texted_det, row_det, after_det}
 use Rattle.syslog_text.proofs.PieceLemmas.Class.{row_pieces, front_of, no_front_no, rest_det, false_is, front_same}
@@ -33,6 +34,12 @@ pub either_reads : (C D : Class) (v : C.Value) (t : Text) (r s : Option (Bor (Li
     → MatchOption r (Recognises D t s) (λ x. s ≡ Some x) → Recognises (C or D) t s
 either_reads C D v t None s n h = second_of C D s n h
 either_reads C D v t (Some x) s f e = rw e (first_of f)
+
+-- a reader of one character, and then one of what follows it
+pub after_reads : (c : ℕ) (C : Class) (t : Text) (r s : Option (Bor (List ℕ))) → Skips (exactly (c ∷ [])) tt t r
+    → MatchOption r (s ≡ None) (λ x. Recognises C (shown x) s) → Recognises (after c C) t s
+after_reads c C t None s n e = rw e (no_spaced_space C n)
+after_reads c C t (Some x) s f h = match_map s (no_spaced_piece C f) (λ y (v, g). (v, spaced_front C f g)) h
 
 -- ---- PRI and TIMESTAMP
 

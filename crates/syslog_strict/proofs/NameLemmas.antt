@@ -1,23 +1,22 @@
 -- Converted names: each is in the grammar, is canonical, and is converted to itself.
 use Rattle.syslog_strict.proofs.Words.{◌≡◌, ◌≢◌, inl, inr, ℕ, suc, ◌<◌, true, false, ◌∷◌, ◌++◌, length, Option, Some}
-use Rattle.syslog_strict.proofs.Words.{None, IfSome, refl, sym, ap, ap₂, ◌∙◌, arith, Bool, map, subst, cases_Bool}
-use Rattle.syslog_strict.proofs.Words.{nat_tests, bytes_decides, heads, option_and_then, Text, Each, text_eq, colon}
-use Rattle.syslog_strict.proofs.Words.{dash, name_text, cleaned, converted_host, converted_word, kept_char, named}
-use Rattle.syslog_strict.proofs.Words.{no_colon, is_printusascii, without_last_colon, without_lone_colon, [], ProcId}
-use Rattle.syslog_strict.proofs.Words.{PID, Name, IsBoundedProcess, NamesProcess, named_process, named_names}
-use Rattle.syslog_strict.proofs.Words.{converted_process, option_map, is_ascii_digit, decimal, signed_decimal}
-use Rattle.syslog_strict.proofs.Words.{process_text, pos, negsuc, ℤ, ◌≤◌, IsUtf8, chars, ◌⊎◌, ◌-◌, List, procid_text}
-use Rattle.std.specs.{Prelude.MatchBool, Char.is_not_whitespace}
+use Rattle.syslog_strict.proofs.Words.{None, IfSome, refl, sym, ap, ap₂, ◌∙◌, arith, Bool, map, cases_Bool, nat_tests}
+use Rattle.syslog_strict.proofs.Words.{bytes_decides, heads, option_and_then, Text, Each, text_eq, colon, dash}
+use Rattle.syslog_strict.proofs.Words.{name_text, cleaned, converted_host, converted_word, kept_char, named, no_colon}
+use Rattle.syslog_strict.proofs.Words.{is_printusascii, without_last_colon, without_lone_colon, [], ProcId, PID, Name}
+use Rattle.syslog_strict.proofs.Words.{IsBoundedProcess, NamesProcess, named_process, named_names, converted_process}
+use Rattle.syslog_strict.proofs.Words.{option_map, is_ascii_digit, decimal, signed_decimal, process_text, pos, negsuc}
+use Rattle.syslog_strict.proofs.Words.{ℤ, ◌≤◌, IsUtf8, chars, ◌⊎◌, ◌-◌, List, procid_text}
+use Rattle.std.specs.{Char.is_not_whitespace, Prelude.MatchBool}
 use Rattle.syslog_text.proofs.TextLemmas.Runs.{char_alone, ascii_chars, low_ascii}
 use Rattle.syslog_strict.proofs.GrammarLemmas.{IsSomeOf}
 use Rattle.std.proofs.Common.{take, zero, FitsSigned, w32, ◌^◌}
-use Rattle.std.proofs.lemmas.List.{take_all, length-map, length-take, length-append, same_from_push}
+use Rattle.std.proofs.lemmas.List.{take_all, length-map, length-take}
 use Rattle.std.proofs.{Math.Seq.take-nil, lemmas.Option.IfSome_then}
 use Rattle.syslog_text.specs.{Text.EndsInColon, Text.Canonical.IsVisible}
 use Rattle.syslog_pieces.proofs.ProcIdLemmas.{process_same as same_process}
 use Rattle.syslog_pieces.specs.ProcId.{IsCanonicalProcess, IsNoI32Text, IsBareWord}
-use Rattle.syslog_text.proofs.PieceLemmas.Class.{each_after, each_append, each_front, each_map}
-use Rattle.syslog_text.proofs.TextLemmas.Words.{ten_long, decimal_digits}
+use Rattle.syslog_text.proofs.{PieceLemmas.Class.each_map, TextLemmas.Words.ten_long, TextLemmas.Words.decimal_digits}
 
 -- ---- texts that are compared
 
@@ -116,6 +115,10 @@ module _ (most : ℕ) (P : Text → Type 0) (replace : Text → Text) (h : 0 < m
   pub made_prints : (t : Text) → 0 < length t → name_text (made t) ≡ replace (cleaned is_printusascii most t)
   made_prints t some = named_prints _ (makes _ (cleaned_is is_printusascii most t refl h some)).0.1.0
 
+  -- one that is clean and has the property prints as it is
+  pub made_stays : (t : Text) → IsSomeOf is_printusascii most t → P t → name_text (made t) ≡ t
+  made_stays t is p = made_prints t is.1.0 ∙ ap replace (cleaned_same is_printusascii most t is) ∙ keeps t p
+
 -- what holds of each result holds of that of a value that may be absent
 pub each_result : {X Y : Type 0} (f : X → Option Y) (P : Y → Type 0) → ((x : X) → IfSome (f x) P) → (v : Option X)
     → IfSome (option_and_then f v) P
@@ -133,58 +136,43 @@ settled f P same (Some x) is = same x is
 abbrev pub NoLastColon : Text → Type 0
 NoLastColon t = EndsInColon t → ⊥
 
--- a text that is not empty, by its last character
-ends_with : (t : Text) → 0 < length t → (front : Text) × (c : ℕ) × (t ≡ front ++ c ∷ [])
-ends_with [] some = absurd (omega arith)
-ends_with (c ∷ []) some = ([], c, refl)
-ends_with (c ∷ d ∷ t) some =
-    let (front, last, e) = ends_with (d ∷ t) (omega arith) in (c ∷ front, last, ap (λ (x : Text). c ∷ x) e)
+replaced : (t : Text) → Each is_printusascii t
+    → (length (without_last_colon t) ≡ length t) × Each is_printusascii (without_last_colon t)
+replaced [] each = (refl, tt)
+replaced (c ∷ []) each = elim (cases_Bool (no_colon c)) [
+  | inl e ↦ rw e (refl, each)
+  | inr e ↦ rw e (refl, (refl, tt))
+]
+replaced (c ∷ d ∷ t) each = let (long, passes) = replaced (d ∷ t) each.1 in (ap suc long, (each.0, passes))
 
-last_replaced : (front : Text) (c : ℕ) → without_last_colon (front ++ c ∷ []) ≡ front ++ kept_char no_colon c ∷ []
-last_replaced [] c = refl
-last_replaced (a ∷ []) c = refl
-last_replaced (a ∷ b ∷ front) c = ap (λ (x : Text). a ∷ x) (last_replaced (b ∷ front) c)
+no_end : (t front : Text) → without_last_colon t ≡ front ++ colon → ⊥
+no_end [] [] e = cc
+no_end [] (d ∷ front) e = cc
+no_end (c ∷ []) [] e = kept c (heads _ _ _ _ e)
+  where
+    kept : (c : ℕ) → kept_char no_colon c ≡ 58 → ⊥
+    kept c e = grind (arith, nat_tests)
+no_end (c ∷ []) (d ∷ []) e = cc
+no_end (c ∷ []) (d ∷ f ∷ front) e = cc
+no_end (c ∷ d ∷ []) [] e = cc
+no_end (c ∷ d ∷ f ∷ t) [] e = cc
+no_end (c ∷ d ∷ t) (f ∷ front) e =
+    no_end (d ∷ t) front (let g : without_last_colon (d ∷ t) ≡ front ++ colon = cc in g)
 
 host_makes : (t : Text) → IsSomeOf is_printusascii 255 t
     → IsSomeOf is_printusascii 255 (without_last_colon t) × NoLastColon (without_last_colon t)
 host_makes t (_, (some, short, each, _)) =
-    let (front, c, e) = ends_with t some in
-    rw (e, last_replaced front c) (
-      (
-        tt,
-        (
-          omega (arith, length-append front (kept_char no_colon c ∷ [])),
-          omega (arith, short, ap length e, length-append front (c ∷ []), length-append front (kept_char no_colon c ∷ [])),
-          each_append is_printusascii front _ (each_front is_printusascii front (c ∷ []) (rw e at each))
-              (replaced c (each_after is_printusascii front (c ∷ []) (rw e at each)).0, tt),
-          tt,
-        ),
-      ),
-      (λ (more, k). kept_no_colon c (same_from_push front more _ 58 k).1),
-    )
-  where
-    replaced : (c : ℕ) → is_printusascii c ≡ true → is_printusascii (kept_char no_colon c) ≡ true
-    replaced c h = elim (cases_Bool (no_colon c)) [ inl e ↦ rw e h | inr e ↦ rw e refl ]
-
-    kept_no_colon : (c : ℕ) → kept_char no_colon c ≡ 58 → ⊥
-    kept_no_colon c e = grind (arith, nat_tests)
+    let (long, passes) = replaced t each in
+    ((tt, (omega (arith, long, some), omega (arith, long, short), passes, tt)), λ (front, e). no_end t front e)
 
 host_keeps : (t : Text) → NoLastColon t → without_last_colon t ≡ t
 host_keeps [] no_end = refl
-host_keeps (a ∷ t) no_end =
-    let (front, c, e) = ends_with (a ∷ t) (omega arith) in
-    subst (λ (x : Text). NoLastColon x → without_last_colon x ≡ x) (sym e) (kept front c) no_end
-  where
-    kept : (front : Text) (c : ℕ) → NoLastColon (front ++ c ∷ [])
-        → without_last_colon (front ++ c ∷ []) ≡ front ++ c ∷ []
-    kept front c no_end = last_replaced front c ∙ ap (λ (x : ℕ). front ++ x ∷ []) (elim (cases_Bool (no_colon c)) [
-      | inl e ↦ rw e refl
-      | inr e ↦ absurd (no_end (
-        front,
-        (let is : c ≡ 58 = grind (arith, nat_tests) in
-            ap (λ (x : ℕ). front ++ x ∷ []) is),
-      ))
-    ])
+host_keeps (c ∷ []) no_end = elim (cases_Bool (no_colon c)) [
+  | inl e ↦ rw e refl
+  | inr e ↦ absurd (no_end ([], (let is : c ≡ 58 = grind (arith, nat_tests) in ap (λ (x : ℕ). x ∷ []) is)))
+]
+host_keeps (c ∷ d ∷ t) no_end = ap (λ (x : Text). c ∷ x)
+    (host_keeps (d ∷ t) (λ (front, e). no_end (c ∷ front, ap (λ (x : Text). c ∷ x) e)))
 
 pub host_is : (v : Option Text) → IfSome (option_and_then converted_host v) (IsName 255 NoLastColon)
 host_is = each_result converted_host _ (made_is 255 NoLastColon without_last_colon (omega arith) refl host_makes host_keeps)
@@ -196,13 +184,12 @@ host_same = made_same 255 NoLastColon without_last_colon (omega arith) refl host
 prints_alone : (bs : List ℕ) → IsUtf8 bs → Each is_printusascii (chars bs) → chars bs ≡ bs
 prints_alone bs u each = ascii_chars bs u (low_ascii is_printusascii (chars bs) (λ c h. grind (arith, nat_tests)) each)
 
--- a host that is clean and ends in no colon prints as it is
+-- a host that is clean and ends in no colon
 pub host_stays : (bs : List ℕ) → IsUtf8 bs → IsSomeOf is_printusascii 255 (chars bs)
     → ((front : List ℕ) → bs ≢ front ++ colon) → name_text (converted_host (chars bs)) ≡ chars bs
 host_stays bs u is no_end =
-    made_prints 255 NoLastColon without_last_colon (omega arith) refl host_makes host_keeps (chars bs) is.1.0
-    ∙ ap without_last_colon (cleaned_same is_printusascii 255 (chars bs) is)
-    ∙ host_keeps (chars bs) (λ (front, e). no_end front (sym (prints_alone bs u is.1.2) ∙ e))
+    made_stays 255 NoLastColon without_last_colon (omega arith) refl host_makes host_keeps (chars bs) is
+    (λ (front, e). no_end front (sym (prints_alone bs u is.1.2) ∙ e))
 
 -- a step of the copy of a host, and its end
 pub host_more : (n last c : ℕ) (t more : Text) → 0 < n → t ≡ c ∷ more
@@ -242,6 +229,9 @@ module _ (most : ℕ) (h : 0 < most) where
   pub word_same : (t : Text) → IsWord most t → converted_word most t ≡ Some t
   word_same = made_same most (λ t. t ≢ colon) without_lone_colon h refl word_makes word_keeps
 
+  pub word_stays : (t : Text) → IsSomeOf is_printusascii most t → t ≢ colon → name_text (converted_word most t) ≡ t
+  word_stays = made_stays most (λ t. t ≢ colon) without_lone_colon h refl word_makes word_keeps
+
 -- what the comparison of a text with a colon says
 pub colon_told : (t : Text) (is : Bool) → is ≡ text_eq t (chars colon) → MatchBool is (t ≡ colon) (t ≢ colon)
 colon_told t true e = text_eq_true t _ (sym e) ∙ char_alone 58 (omega arith)
@@ -268,11 +258,6 @@ word_prints most t h some other = made_prints most (λ t. t ≢ colon) without_l
           | inr k ↦ absurd (let no = rw k at first in omega (arith, no))
         ]
     whole most (c ∷ d ∷ t) h some e = absurd (omega (arith, rw (length-map, length-take) at (ap length e)))
-
--- a word that is clean
-pub word_stays : (most : ℕ) (t : Text) → 1 < most → IsSomeOf is_printusascii most t → t ≢ colon
-    → name_text (converted_word most t) ≡ t
-word_stays most t h is other = word_prints most t h is.1.0 other ∙ cleaned_same is_printusascii most t is
 
 -- ---- process ids
 

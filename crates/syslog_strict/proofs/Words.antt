@@ -17,12 +17,11 @@ pub use Rattle.jiff.specs.Words.{nanos_of_seconds}
 pub use Rattle.jiff_core.proofs.SignedLemmas.{signed_arith, int_rem_euclid-parts}
 pub use Rattle.jiff_core.specs.Calendar.{IsCivilDate}
 pub use Rattle.jiff_fmt.specs.Text.{pad2, pad4}
-pub use Rattle.syslog_loose.specs.{Line.line_value, Message.MessageValue, Printed.printed_5424, Printed.timestamp_text}
+pub use Rattle.syslog_loose.specs.{Line.line_value, Message.MessageValue, Printed.timestamp_text}
 pub use Rattle.syslog_loose.specs.Printed.{priority_of}
 pub use Rattle.syslog_text.proofs.PieceLemmas.Class.{all_map, heads, all_append}
-pub use Rattle.syslog_pieces.proofs.{ProcIdLemmas.named_names, ProcIdLemmas.process_same}
+pub use Rattle.syslog_pieces.proofs.{ProcIdLemmas.named_names}
 pub use Rattle.syslog_text.proofs.{TextLemmas.Runs.empty_is}
-pub use Rattle.syslog_text.proofs.TextLemmas.Words.{one_digit}
 pub use Rattle.syslog_text.specs.{Bodies.Scan.SplitsRun, Pieces.View.text_eq, Pieces.View.shown}
 pub use Rattle.syslog_elements.specs.StructuredData.{Canonical.IsCanonicalElement, Visited.element_seen}
 pub use Rattle.syslog_elements.specs.{StructuredData.Visited.list_elements}
@@ -31,11 +30,11 @@ pub use Rattle.syslog_pieces.specs.Timestamp.Printed.{civil_fields, printed_stam
 pub use Rattle.syslog_pieces.specs.declared.procid.ProcId.{ProcId, TheVariants.PID}
 pub use Rattle.syslog_pieces.specs.declared.procid.ProcId.TheVariants.{Name}
 pub use Rattle.syslog_pieces.specs.declared.timestamp.OffsetTimestamp.{OffsetTimestamp}
-pub use Rattle.syslog_text.specs.Pieces.Class.{Text, join, Ends, Each, Front}
+pub use Rattle.syslog_text.specs.Pieces.Class.{Text, Ends, Each, Front}
 pub use Rattle.syslog_pieces.specs.ProcId.{NamesProcess, named_process, process_text, IsBoundedProcess, procid_text}
 pub use Rattle.syslog_elements.specs.StructuredData.Element.{ElementValue, elements_text, joined_elements, element_text}
 pub use Rattle.syslog_elements.specs.StructuredData.Element.{param_text}
-pub use Rattle.syslog_text.specs.Text.{colon, dash, is_blank, name_text, number}
+pub use Rattle.syslog_text.specs.Text.{colon, dash, is_blank, name_text}
 pub use Rattle.syslog_strict.specs.Conversion.{converted, converted_stamp, cut_stamp, has_text, in_utc, is_four_digits}
 pub use Rattle.syslog_strict.specs.Conversion.{micros, cleaned, converted_element, converted_elements, converted_host}
 pub use Rattle.syslog_strict.specs.Conversion.{converted_name, converted_param, converted_process, converted_word}

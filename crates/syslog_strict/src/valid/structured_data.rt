@@ -95,8 +95,7 @@ fn spaced_param(text: &str) -> Option<&str>
     ensures reads { Recognises (spaced grammar.sd_param) (chars text.now) result }
     ensures utf8 { IfSome result (λ rest. IsUtf8 rest.now) }
 {
-    let param = literal(text, ' ')?;
-    sd_param(param)
+    literal(text, ' ').and_then(sd_param)
 }
 
 // Returns the text after any number of SD-PARAMs, each after a space.

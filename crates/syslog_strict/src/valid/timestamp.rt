@@ -1,8 +1,10 @@
 //! TIMESTAMP of RFC 5424 (section 6.2.3). The functions are named after its rules.
 ghost use Rattle.std.specs.Prelude.{◌∷◌, ◌<◌, [], MatchBool, Option, pos};
+ghost use Rattle.std.specs.Char.{is_ascii_digit};
 ghost use Rattle.std.specs.Str.{chars};
 ghost use Rattle.jiff_core.specs.Calendar.{IsCivilDate};
 ghost use Rattle.syslog_text.specs.Pieces.Class.{Front, Row, after, exactly, optional};
+ghost use Rattle.syslog_text.specs.Pieces.Rules.{short_run};
 ghost use Rattle.syslog_text.specs.Pieces.View.{Recognises, shown};
 ghost use Rattle.syslog_strict.specs.Grammar as grammar;
 
@@ -50,12 +52,19 @@ fn time_minute(text: &str) -> Option<&str>
 }
 
 #[inline(always)]
+fn decimals(text: &str) -> Option<&str>
+    ensures { Recognises (short_run is_ascii_digit 6) (chars text.now) result }
+{
+    let (_, rest) = short_run(text, CharClass::Digit, 6)?;
+    Some(rest)
+}
+
+#[tactic(auto, using(crate::proofs::GrammarLemmas::after_reads))]
+#[inline(always)]
 fn time_secfrac(text: &str) -> Option<&str>
     ensures { Recognises grammar.time_secfrac (chars text.now) result }
 {
-    let digits = literal(text, '.')?;
-    let (_, rest) = short_run(digits, CharClass::Digit, 6)?;
-    Some(rest)
+    literal(text, '.').and_then(decimals)
 }
 
 // The text after TIME-SECFRAC, or all of it if there is none.
