@@ -79,7 +79,7 @@ printed_again m =
       settled (converted_word 48) _ (word_same 48 (omega arith)) _ (word_is 48 (omega arith) m.appname),
       settled converted_process _ process_same _ (process_is m.procid),
       settled (converted_word 32) _ (word_same 32 (omega arith)) _ (word_is 32 (omega arith) m.msgid),
-      distinct_again (converted_elements m.structured_data) (converted_are m.structured_data) (converted_distinct m.structured_data),
+      distinct_again _ (converted_are m.structured_data) (converted_distinct m.structured_data),
     ) refl
 
 -- what is written of a converted text is that text
@@ -126,7 +126,8 @@ converted_strict m b =
     then sp_front _ then name_front 255 _ _ (name_prints 255 _ _ (omega arith) (host_is m.hostname))
     then sp_front _ then name_front 48 _ _ (name_prints 48 _ _ (omega arith) (word_is 48 (omega arith) m.appname))
     then sp_front _ then name_front 128 _ _ (process_prints _ (process_is m.procid) (process_bounded m.procid b))
-    then sp_front _ then name_front 32 _ _ (name_prints 32 _ _ (omega arith) (word_is 32 (omega arith) m.msgid)) then sp_front _ then refl) in
+    then sp_front _ then name_front 32 _ _ (name_prints 32 _ _ (omega arith) (word_is 32 (omega arith) m.msgid))
+    then sp_front _ then refl) in
     let end = row_of body (is_data
     then optional_some (spaced rest) (spaced_front rest (sp_front m.msg) (rest_front m.msg)) then refl) in
     record { values = _; division = front_division (header ++ body) (rows_join header body front end) }

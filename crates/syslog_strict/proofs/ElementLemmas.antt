@@ -1,5 +1,5 @@
--- Converted elements: each is in the grammar and no id comes twice, they are canonical, and are converted to themselves;
--- and how they are joined by their ids in one pass.
+-- Converted elements: each is in the grammar and no id comes twice, they are canonical, and are converted to
+-- themselves; and how they are joined by their ids in one pass.
 use Rattle.syslog_strict.proofs.Words.{◌≡◌, ◌≢◌, ℕ, Bool, true, false, List, [], ◌∷◌, ◌++◌, refl, sym, ap, ◌∙◌, arith}
 use Rattle.syslog_strict.proofs.Words.{if◌then◌else◌, append-nil, inl, inr, cond, map, Option, Some, None, ap₂}
 use Rattle.syslog_strict.proofs.Words.{nat_tests, IsUtf8-string_bytes, chars, bytes_eq, IsUtf8, cases_Bool}
@@ -83,7 +83,8 @@ firsts_same (t ∷ ts) apart = ap (λ (us : List Text). t ∷ filter (λ u. not 
     kept (u ∷ us) each = rw (no_text t u (λ e. each.0 (sym e))) (ap (λ (x : List Text). u ∷ x) (kept us each.1))
 
 -- one text more
-pub firsts_last : (ts : List Text) (t : Text) → firsts (ts ++ t ∷ []) ≡ firsts ts ++ (if is_among t ts then [] else t ∷ [])
+pub firsts_last : (ts : List Text) (t : Text)
+    → firsts (ts ++ t ∷ []) ≡ firsts ts ++ (if is_among t ts then [] else t ∷ [])
 firsts_last [] t = refl
 firsts_last (u ∷ ts) t =
     ap (λ (us : List Text). u ∷ filter (λ v. not (text_eq u v)) us) (firsts_last ts t)
@@ -274,7 +275,8 @@ module _ (old new : Joined) (taken : List ℕ → Option (String Global)) (seen 
         | inr b ↦ inr (sym k ∙ b, put' q ∙ rw b (took q ∙ rw b refl))
       ]
 
-  more_known : (q : List ℕ) → IsUtf8 q → is_some (get_by_text new.params q) ≡ is_among (chars q) (ids_of (seen ++ e ∷ []))
+  more_known : (q : List ℕ) → IsUtf8 q
+      → is_some (get_by_text new.params q) ≡ is_among (chars q) (ids_of (seen ++ e ∷ []))
   more_known q v = rw (ids_last seen e, last_among (chars q) e.id (ids_of seen)) (elim (now q v) [
     | inl (_, is, has) ↦ rw (is, has) (sym (or_true _))
     | inr (is, has) ↦ rw (is, has) (h.known q v ∙ sym (or_false _))

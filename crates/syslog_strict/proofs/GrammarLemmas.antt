@@ -176,7 +176,8 @@ param_prints p q v = (
       v.0 ∷ (61 ∷ []) ∷ (34 ∷ []) ∷ v.1 ∷ (34 ∷ []) ∷ [],
       e,
       (tt, (name.1.0, name.1.1, name.1.2, refl), refl) also refl also refl also
-          (units, (value_prints v.1 (34 ∷ q) units).1 (f, are, no_unit 34 q (omega arith) refl), refl) also refl also tt,
+          (units, (value_prints v.1 (34 ∷ q) units).1 (f, are, no_unit 34 q (omega arith) refl), refl) also
+          refl also tt,
     ),
     refl,
   )),
@@ -273,7 +274,8 @@ msg_det =
     also optional_det (spaced rest) (after_det rest rest_det) also tt
 
 pub no_msg : {text : Text} → NoFront (Row (grammar.header ++ grammar.body)) text → grammar.IsSyslogMsg text → ⊥
-no_msg n m = no_front_no (Row (grammar.header ++ grammar.body)) n (division_front (grammar.header ++ grammar.body) m.division)
+no_msg n m = no_front_no (Row (grammar.header ++ grammar.body)) n
+    (division_front (grammar.header ++ grammar.body) m.division)
 
 -- whether nothing is left after a message
 pub msg_told : {text q : Text} {vs : Values (grammar.header ++ grammar.body)} (is_end : Bool)

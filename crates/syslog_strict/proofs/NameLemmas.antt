@@ -47,7 +47,8 @@ kept_all test [] each = refl
 kept_all test (c ∷ t) each = ap₂ (λ (x : ℕ) (y : Text). x ∷ y) (rw (each.0) refl) (kept_all test t each.1)
 
 pub cleaned_same : (test : ℕ → Bool) (most : ℕ) (t : Text) → IsSomeOf test most t → cleaned test most t ≡ t
-cleaned_same test most t (_, (some, short, each, _)) = ap (map (kept_char test)) (take_all most t short) ∙ kept_all test t each
+cleaned_same test most t (_, (some, short, each, _)) =
+    ap (map (kept_char test)) (take_all most t short) ∙ kept_all test t each
 
 -- ---- texts that name something
 
@@ -175,7 +176,8 @@ host_keeps (c ∷ d ∷ t) no_end = ap (λ (x : Text). c ∷ x)
     (host_keeps (d ∷ t) (λ (front, e). no_end (c ∷ front, ap (λ (x : Text). c ∷ x) e)))
 
 pub host_is : (v : Option Text) → IfSome (option_and_then converted_host v) (IsName 255 NoLastColon)
-host_is = each_result converted_host _ (made_is 255 NoLastColon without_last_colon (omega arith) refl host_makes host_keeps)
+host_is = each_result converted_host _
+    (made_is 255 NoLastColon without_last_colon (omega arith) refl host_makes host_keeps)
 
 pub host_same : (t : Text) → IsName 255 NoLastColon t → converted_host t ≡ Some t
 host_same = made_same 255 NoLastColon without_last_colon (omega arith) refl host_makes host_keeps
@@ -246,13 +248,15 @@ word_colon (suc (suc n)) t h e = rw e refl
 -- another word
 pub word_prints : (most : ℕ) (t : Text) → 1 < most → 0 < length t → t ≢ colon
     → name_text (converted_word most t) ≡ cleaned is_printusascii most t
-word_prints most t h some other = made_prints most (λ t. t ≢ colon) without_lone_colon (omega arith) refl (word_makes most (omega arith)) (word_keeps most (omega arith)) t some
-    ∙ word_keeps most (omega arith) _ (λ e. other (whole most t h some e))
+word_prints most t h some other =
+    made_prints most (λ t. t ≢ colon) without_lone_colon (omega arith) refl (word_makes most (omega arith))
+    (word_keeps most (omega arith)) t some ∙ word_keeps most (omega arith) _ (λ e. other (whole most t h some e))
   where
     whole : (most : ℕ) (t : Text) → 1 < most → 0 < length t → cleaned is_printusascii most t ≡ colon → t ≡ colon
     whole most [] h some e = absurd (omega arith)
     whole most (c ∷ []) h some e =
-        let first = heads _ _ _ _ (sym (ap (map (kept_char is_printusascii)) (take_all most (c ∷ []) (omega arith))) ∙ e) in
+        let whole = ap (map (kept_char is_printusascii)) (take_all most (c ∷ []) (omega arith)) in
+        let first = heads _ _ _ _ (sym whole ∙ e) in
         elim (cases_Bool (is_printusascii c)) [
           | inl k ↦ ap (λ (x : ℕ). x ∷ []) (sym (rw k refl) ∙ first)
           | inr k ↦ absurd (let no = rw k at first in omega (arith, no))
@@ -328,11 +332,16 @@ pub bare_stays : (bs : List ℕ) → IsUtf8 bs → 1 < length bs → IsSomeOf is
     → IsBareWord (chars bs) → process_text (converted_process (named_process (chars bs))) ≡ chars bs
 bare_stays bs u long is bare =
     let t = chars bs in
-    let several : (c : ℕ) → t ≢ c ∷ [] = λ c e. absurd (omega (arith, ap length (prints_alone bs u is.1.2), ap length e)) in
+    let several : (c : ℕ) → t ≢ c ∷ [] =
+    λ c e. absurd (omega (arith, ap length (prints_alone bs u is.1.2), ap length e)) in
     ap process_text (process_same (named_process t)
     (named_is t (named_process t) (is, several 45, several 58) (named_names t)).0) ∙ bare
 
+-- what a text names is computed
+pub ruleset process_named = (same_process, named_names)
+
 -- what a word names prints as what its text names
-pub word_named : (v : Option Text) → process_text (option_map named_process v) ≡ procid_text (named_process (name_text v))
+pub word_named : (v : Option Text)
+    → process_text (option_map named_process v) ≡ procid_text (named_process (name_text v))
 word_named None = refl
 word_named (Some t) = refl

@@ -248,7 +248,8 @@ cut_text s n is h =
     let o = s.offset.seconds in
     let fields = civil_fields_exist _ (in_range-at_offset s.instant.nanosecond o s.instant.in_range
     s.offset.in_range) in
-    fields_is _ o (unsigned_abs (own_year s)) (sym (from_start (own_year s) canonical.year_from)) fields.0 (subst (λ (x : ℤ). (civil_fields (x +ℤ nanos_of_seconds o)).nanosecond % 1_000 ≡ 0)
+    fields_is _ o (unsigned_abs (own_year s)) (sym (from_start (own_year s) canonical.year_from)) fields.0
+    (subst (λ (x : ℤ). (civil_fields (x +ℤ nanos_of_seconds o)).nanosecond % 1_000 ≡ 0)
     (sym is) (whole_fields n o))
     canonical.minutes canonical.day
 

@@ -109,6 +109,15 @@ pub has_some : (b : Bool) (es : List ElementValue) → MatchBool b (0 < length e
 has_some true es some apart = (some, apart)
 has_some false es none apart = λ h. (let k = h.0 in omega (arith, ap length none))
 
+pub still_some : (es us : List ElementValue) → 0 < length es → 0 < length (es ++ us)
+still_some [] us h = absurd (omega arith)
+still_some (e ∷ es) us h = omega arith
+
+-- the first id of all is new
+pub first_seen : (is_new : Bool) {P : Type 0} → MatchBool is_new ((false ≡ false) × P) (false ≡ true) → P
+first_seen true h = h.1
+first_seen false h = absurd cc
+
 -- ---- a set of ids, as the texts that came before
 
 right_is : (a b c : Bool) → (a || b) ≡ c → a ≡ false → b ≡ c

@@ -1,4 +1,5 @@
--- A converted value, unit by unit: it is a value of the grammar, means what the value meant, and is converted to itself.
+-- A converted value, unit by unit: it is a value of the grammar, means what the value meant, and is converted to
+-- itself.
 use Rattle.syslog_strict.proofs.Words.{◌≡◌, ◌∷◌, ◌∙◌, ℕ, Bool, true, false, List, [], inl, inr, refl, sym, ap, nat_eq}
 use Rattle.syslog_strict.proofs.Words.{append-nil, arith, cases_Bool, nat_tests, flat_map, AllByRecursion, Text}
 use Rattle.syslog_strict.proofs.Words.{all_map, escaped_from, is_escaped, ◌||◌, Each, is_inert_char, ◌++◌}

@@ -156,7 +156,7 @@ fn push_process_text(alloc: Global, out: &mut String, word: &str) -> Result<(), 
 }
 
 // Returns the process id that the text names.
-#[tactic(auto, using(syslog_pieces::proofs::ProcIdLemmas::process_same, syslog_pieces::proofs::ProcIdLemmas::named_names))]
+#[tactic(auto, using(crate::proofs::NameLemmas::process_named))]
 #[inline(always)]
 fn process_of(word: &str) -> ProcId<&str>
     ensures { procid_value (λ s. shown s) result ≡ named_process (chars word.now) }

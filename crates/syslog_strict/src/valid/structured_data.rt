@@ -95,7 +95,8 @@ fn spaced_param(text: &str) -> Option<&str>
     ensures reads { Recognises (spaced grammar.sd_param) (chars text.now) result }
     ensures utf8 { IfSome result (λ rest. IsUtf8 rest.now) }
 {
-    literal(text, ' ').and_then(sd_param)
+    let param = literal(text, ' ')?;
+    sd_param(param)
 }
 
 // Returns the text after any number of SD-PARAMs, each after a space.
@@ -163,17 +164,19 @@ fn elements_by_pairs(text: &str) -> Option<&str>
 fn sd_elements(alloc: Global, text: &str) -> Result<Option<&str>, AllocError>
     ensures { IfOk result (λ rest. Recognises grammar.sd_elements (chars text.now) rest) }
 {
+    let Some((first_id, after_first)) = sd_element(text) else {
+        return Ok(None);
+    };
     let mut ids = Ids::new(alloc);
-    let mut rest = text;
-    let mut has_one = false;
+    ids.insert(first_id)?;
+    let mut rest = after_first;
     'elements: while let Some((id, after)) = sd_element(rest) {
         if !ids.insert(id)? {
             return Ok(None);
         }
         rest = after;
-        has_one = true;
     }
-    Ok(has_one.then_some(rest))
+    Ok(Some(rest))
 }
 
 /// Whether the text is elements no two of which have the same id. If an allocation fails, it may return false for such

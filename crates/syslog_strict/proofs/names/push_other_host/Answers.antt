@@ -20,4 +20,5 @@ returns c =
     ] in
     on_ok_weaker c.push_char-2.result
     (λ e. e ∙ ap (λ x. text_in c.chars.out ++ x) (ap (λ x. x ∷ []) c.without_colon.ensures
-    ∙ sym (host_last c.chars.left c.chars.last (chars c.chars.rest.now) ends)) ∙ c.chars.invariant.1) c.push_char-2.ensures
+    ∙ sym (host_last c.chars.left c.chars.last (chars c.chars.rest.now) ends)) ∙ c.chars.invariant.1)
+    c.push_char-2.ensures

@@ -7,5 +7,6 @@ returns c =
     let word = ap chars c.as_str.ensures.value ∙ started _ _ _ c.in_ok-push_word_text.ensures
     (ap chars c.new-word.ensures.bytes) in
     appended c.push_id.result _ _ _ _
-    (ap procid_text c.process_of.ensures ∙ ap (λ x. procid_text (named_process x)) word ∙ sym (word_named (converted_word 128 (chars c.args.name.now))))
+    (ap procid_text c.process_of.ensures ∙ ap (λ x. procid_text (named_process x)) word
+    ∙ sym (word_named (converted_word 128 (chars c.args.name.now))))
     c.push_id.ensures

@@ -9,7 +9,8 @@ returns-then-is_kept c = appended c.push_text.result _ _ _ _ (sym (bare_stays c.
 
 pub returns-in-PID : goal.returns-in-PID
 returns-in-PID c =
-    let names = subst (NamesProcess (chars c.args.word.now)) (sym c.in-PID.ensures) (named_names (chars c.args.word.now)) in
+    let word = chars c.args.word.now in
+    let names = subst (NamesProcess word) (sym c.in-PID.ensures) (named_names word) in
     appended c.push_number.result _ _ _ _ (ap signed_decimal (to_z-of_z _ _ names.1)
     ∙ ap (λ p. process_text (converted_process p)) c.in-PID.ensures) c.push_number.ensures
 

@@ -1,6 +1,5 @@
-use Rattle.syslog_strict.proofs.Words.{ap, append_assoc, sym, ◌∙◌, option_and_then, rules, timestamp_text, converted_stamp}
+use Rattle.syslog_strict.proofs.Words.{append_assoc, rules}
 use Rattle.std.proofs.lemmas.Result.{IfOk-equal}
-use Rattle.syslog_strict.proofs.TextLemmas.{appended}
 use Rattle.syslog_strict.proofs.stamp.push_converted.Goals as goal
 
 pub returns-in-Some : goal.returns-in-Some

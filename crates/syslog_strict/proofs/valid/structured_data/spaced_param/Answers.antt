@@ -1,8 +1,10 @@
-use Rattle.syslog_text.proofs.PieceLemmas.Class.{match_map}
-use Rattle.syslog_strict.proofs.GrammarLemmas.{after_reads}
+use Rattle.syslog_text.proofs.PieceLemmas.Class.{match_map, no_spaced_piece, no_spaced_space, spaced_front}
 use Rattle.syslog_strict.specs.Grammar.{sd_param}
 use Rattle.syslog_strict.proofs.valid.structured_data.spaced_param.Goals as goal
 
+pub returns-in_err-param-clause-reads : goal.returns-in_err-param-clause-reads
+returns-in_err-param-clause-reads c = rw c.from_residual.ensures (no_spaced_space sd_param c.in_err-param.ensures)
+
 pub returns-clause-reads : goal.returns-clause-reads
-returns-clause-reads c = after_reads 32 sd_param _ c.literal.result c.and_then.result c.literal.ensures
-    (match_map c.literal.result (λ e. e) (λ x h. h.0) c.and_then.ensures)
+returns-clause-reads c = let space = c.in_ok-param.ensures in match_map c.sd_param.result
+    (λ n. no_spaced_piece sd_param space n) (λ x (v, f). (v, spaced_front sd_param space f)) c.sd_param.ensures.reads
