@@ -1,5 +1,5 @@
-use Rattle.syslog_strict.proofs.Words.{[], ◌∷◌, Some, None, Text, chars-nil, sym, subst, shown}
-use Rattle.syslog_text.specs.Pieces.Class.{Front, optional, rest, spaced}
+use Rattle.syslog_strict.proofs.Words.{Some, None, chars-nil, shown}
+use Rattle.syslog_text.specs.Pieces.Class.{rest, spaced}
 use Rattle.syslog_text.proofs.PieceLemmas.Class.{no_spaced_space, optional_none, optional_some, rest_front}
 use Rattle.syslog_text.proofs.PieceLemmas.Class.{spaced_front}
 use Rattle.syslog_strict.proofs.valid.spaced_msg.Goals as goal
