@@ -17,17 +17,6 @@ count-append : {X : Type 0} (keep : X → Bool) (xs ys : List X)
     → count_by keep (xs ++ ys) ≡ count_by keep xs + count_by keep ys
 count-append {X = X} keep xs ys = sum_by-append (λ (x : X). cond (keep x) 1 0) xs ys
 
-Grows-none : {X : Type 0} (keep : X → Bool) (count : ℕ) → Grows keep [] count count
-Grows-none keep count = λ n before. omega (arith, before)
-
--- one that doesn't pass the test
-Grows-other : {X : Type 0} (keep : X → Bool) (x : X) (count : ℕ) → keep x ≡ false → Grows keep (x ∷ []) count count
-Grows-other keep x count other = λ n before. rw other (omega (arith, before))
-
-Grows-one : {X : Type 0} (keep : X → Bool) (answer : X) (was is : ℕ) → is ≡ held_count (was + cond (keep answer) 1 0)
-    → Grows keep (answer ∷ []) was is
-Grows-one keep answer was is more = λ n before. omega (arith, more, before)
-
 Grows-append : {X : Type 0} (keep : X → Bool) (first second : List X) (was mid is : ℕ) → Grows keep first was mid
     → Grows keep second mid is → Grows keep (first ++ second) was is
 Grows-append keep first second was mid is grown more = λ n before.
@@ -66,30 +55,21 @@ invalid-append frames R (line ∷ lines) more (answer ∷ first) second each =
     ]
 invalid-append frames R lines more first second each = absurd each
 
-invalid_one : (frames : Frames) (line : List ℕ) (answer : Answer) → is_invalid frames line ≡ true
-    → invalid_answers frames (line ∷ []) (answer ∷ []) ≡ answer ∷ []
-invalid_one frames line answer invalid = rw invalid refl
-
-invalid_none : (frames : Frames) (line : List ℕ) (answer : Answer) → is_invalid frames line ≡ false
-    → invalid_answers frames (line ∷ []) (answer ∷ []) ≡ []
-invalid_none frames line answer valid = rw valid refl
-
 -- ---- all counts
 
 -- nothing was counted
 pub Counts-none : (frames : Frames) (tally : Tally) → Counts frames tally tally [] []
 Counts-none frames tally = record {
-  answered = Grows-none is_answered tally.answered;
-  skipped = Grows-none is_skipped tally.skipped;
-  answered_invalid = Grows-none is_answered tally.answered_invalid;
-  skipped_invalid = Grows-none is_skipped tally.skipped_invalid;
-  too_long = Grows-none (is_too_long frames) tally.too_long;
+  answered = λ n before. omega (arith, before);
+  skipped = λ n before. omega (arith, before);
+  answered_invalid = λ n before. omega (arith, before);
+  skipped_invalid = λ n before. omega (arith, before);
+  too_long = λ n before. omega (arith, before);
 }
 
-skipped_one : (was is : ℕ) (answer : Answer) (answered : Bool) → answered ≡ is_answered answer
-    → is ≡ held_count (was + cond answered 0 1) → is ≡ held_count (was + cond (is_skipped answer) 1 0)
-skipped_one was is answer true same less = rw (← same) less
-skipped_one was is answer false same less = rw (← same) less
+skipped_one : (answered : Bool) → ◌≡◌ {A = ℕ} (cond answered 0 1) (cond (not answered) 1 0)
+skipped_one true = refl
+skipped_one false = refl
 
 -- One line more was counted, by what it gave.
 module _ (frames : Frames) (was is : Tally) (line : List ℕ) (short : is_too_long frames line ≡ false) (answer : Answer)
@@ -99,14 +79,11 @@ module _ (frames : Frames) (was is : Tally) (line : List ℕ) (short : is_too_lo
   pub Counts-valid : IsUtf8 (line_of frames.strips line) → is.answered_invalid ≡ was.answered_invalid
       → is.skipped_invalid ≡ was.skipped_invalid → Counts frames was is (line ∷ []) (answer ∷ [])
   Counts-valid valid kept left = record {
-    answered = Grows-one is_answered answer was.answered is.answered (rw (← same) more);
-    skipped = Grows-one is_skipped answer was.skipped is.skipped
-        (skipped_one was.skipped is.skipped answer answered same less);
-    answered_invalid = rw (invalid_none frames line answer (valid_is frames line short valid), kept)
-        (Grows-none is_answered was.answered_invalid);
-    skipped_invalid = rw (invalid_none frames line answer (valid_is frames line short valid), left)
-        (Grows-none is_skipped was.skipped_invalid);
-    too_long = rw kept_long (Grows-other (is_too_long frames) line was.too_long short);
+    answered = λ n before. rw (← same) (omega (arith, before, more));
+    skipped = λ n before. rw (← same) (omega (arith, before, less, skipped_one answered));
+    answered_invalid = λ n before. rw (valid_is frames line short valid) (omega (arith, before, kept));
+    skipped_invalid = λ n before. rw (valid_is frames line short valid) (omega (arith, before, left));
+    too_long = λ n before. rw short (omega (arith, before, kept_long));
   }
 
   pub Counts-invalid : ¬ (IsUtf8 (line_of frames.strips line))
@@ -114,28 +91,24 @@ module _ (frames : Frames) (was is : Tally) (line : List ℕ) (short : is_too_lo
       → is.skipped_invalid ≡ held_count (was.skipped_invalid + cond answered 0 1)
       → Counts frames was is (line ∷ []) (answer ∷ [])
   Counts-invalid invalid first second = record {
-    answered = Grows-one is_answered answer was.answered is.answered (rw (← same) more);
-    skipped = Grows-one is_skipped answer was.skipped is.skipped
-        (skipped_one was.skipped is.skipped answer answered same less);
-    answered_invalid = rw (invalid_one frames line answer (invalid_is frames line short invalid))
-        (Grows-one is_answered answer was.answered_invalid is.answered_invalid (rw (← same) first));
-    skipped_invalid = rw (invalid_one frames line answer (invalid_is frames line short invalid))
-        (Grows-one is_skipped answer was.skipped_invalid is.skipped_invalid
-        (skipped_one was.skipped_invalid is.skipped_invalid answer answered same second));
-    too_long = rw kept_long (Grows-other (is_too_long frames) line was.too_long short);
+    answered = λ n before. rw (← same) (omega (arith, before, more));
+    skipped = λ n before. rw (← same) (omega (arith, before, less, skipped_one answered));
+    answered_invalid = λ n before.
+        rw (invalid_is frames line short invalid, ← same) (omega (arith, before, first));
+    skipped_invalid = λ n before. rw (invalid_is frames line short invalid, ← same)
+        (omega (arith, before, second, skipped_one answered));
+    too_long = λ n before. rw short (omega (arith, before, kept_long));
   }
 
 -- one that is too long
 pub Counts-long : (frames : Frames) (was is : Tally) (line : List ℕ) → is_too_long frames line ≡ true
     → CountsLong was is → Counts frames was is (line ∷ []) (Omitted ∷ [])
 Counts-long frames was is line long counted = record {
-  answered = rw counted.answered (Grows-other is_answered Omitted was.answered refl);
-  skipped = Grows-one is_skipped Omitted was.skipped is.skipped counted.skipped;
-  answered_invalid = rw (invalid_none frames line Omitted (long_is frames line long), counted.answered_invalid)
-      (Grows-none is_answered was.answered_invalid);
-  skipped_invalid = rw (invalid_none frames line Omitted (long_is frames line long), counted.skipped_invalid)
-      (Grows-none is_skipped was.skipped_invalid);
-  too_long = Grows-one (is_too_long frames) line was.too_long is.too_long (rw long counted.too_long);
+  answered = λ n before. omega (arith, before, counted.answered);
+  skipped = λ n before. omega (arith, before, counted.skipped);
+  answered_invalid = λ n before. rw (long_is frames line long) (omega (arith, before, counted.answered_invalid));
+  skipped_invalid = λ n before. rw (long_is frames line long) (omega (arith, before, counted.skipped_invalid));
+  too_long = λ n before. rw long (omega (arith, before, counted.too_long));
 }
 
 pub Counts-append : (frames : Frames) (R : List ℕ → Answer → Type 0) (was mid is : Tally) (lines more : List (List ℕ))

@@ -6,7 +6,7 @@ use Rattle.syslog_lines.proofs.Names.{◌≤◌, ℕ, [], ap, inl, inr, slice_in
 use Rattle.std.{proofs.Common.length-append, proofs.Math.Seq.drop-append_seam, proofs.Math.Seq.take-append_seam}
 use Rattle.std.proofs.lemmas.List.{get_or-append-add, drop_more, get_or-take, length-take, append_assoc}
 use Rattle.std.proofs.lemmas.List.{take_all, take-append-le}
-use Rattle.std.proofs.lemmas.List.Elements.{All-from_get_or, All-cons, All-head, All-tail, All-drop, All-push, All-take}
+use Rattle.std.proofs.lemmas.List.Elements.{All-from_get_or, All-cons, All-drop, All-push, All-take}
 use Rattle.std.specs.List.{All}
 use Rattle.std.proofs.Common.{Bool, true, false, Option, None, Some, ◌==◌}
 use Rattle.std.proofs.lemmas.Bool.{cases_Bool, cases_lt}
@@ -15,6 +15,7 @@ use Rattle.syslog_lines.specs.Frames.{AreAllFrames, AreFrames, is_above, is_too_
 use Rattle.syslog_lines.specs.Lines.{with_feeds}
 use Rattle.syslog_lines.specs.Place.{IsLongFront}
 use Rattle.syslog_lines.specs.declared.framing.Frames.{Frames}
+use Rattle.syslog_lines.specs.declared.framing.Framing.{Framing}
 use Rattle.syslog_lines.specs.declared.framing.Framing.TheVariants.{LineFeeds}
 use Rattle.memchr.specs.Find.{NoneBefore}
 
@@ -95,23 +96,6 @@ IsLines-cons bytes line rest more some (free, inl feed) cut =
 IsLines-cons bytes line rest more some (free, inr (same, empty)) cut =
     rw (only_nil more (rw empty at cut), same) (one_line line free (rw same at some))
 
--- the bytes of a last line with no line feed don't end in one
-ends_free : (front last : List ℕ) → 0 < length last → NoFeed last → EndsInFeed (front ++ last) → ⊥
-ends_free front last some free closed =
-    let long = length-append front last in
-    let place : length (front ++ last) - 1 ≡ length front + (length last - 1) = omega arith in
-    free (length last - 1) 0 (omega arith)
-    (sym (get_or-append-add front last (length last - 1) 0) ∙ rw place at (closed (omega arith)))
-
--- bytes that end in a line feed are their lines, each with one
-pub closed_lines : (bytes : List ℕ) (lines : List (List ℕ)) → EndsInFeed bytes → IsLines bytes lines
-    → All NoFeed lines × (bytes ≡ with_feeds lines)
-closed_lines bytes lines closed (free, inl joined) = (free, joined)
-closed_lines bytes lines closed (free, inr lacks) =
-    let last = all_after NoFeed lacks.before (lacks.last ∷ []) (rw lacks.listed at free) in
-    absurd (ends_free (with_feeds lacks.before) lacks.last lacks.some (All-head NoFeed lacks.last [] last)
-    (rw lacks.joined at closed))
-
 -- ---- all bytes have lines
 
 -- the lines of bytes after some of their first line
@@ -135,25 +119,23 @@ some_lines bytes = lines_from_front [] bytes (All-nil IsOther)
 
 -- ---- lines as frames
 
-with_feeds_frames : (lines : List (List ℕ)) (rest : List ℕ) → All NoFeed lines
-    → AreFrames LineFeeds (with_feeds lines ++ rest) lines rest
-with_feeds_frames [] rest free = refl
-with_feeds_frames (line ∷ lines) rest free = (
-  line ++ 10 ∷ [],
-  with_feeds lines ++ rest,
-  inr (λ octets after is. is, All-head NoFeed line lines free, refl),
-  simp append_assoc,
-  with_feeds_frames lines rest (All-tail NoFeed line lines free),
-)
+-- what follows some bytes ends in a line feed if all of them do
+after_feed : (front rest : List ℕ) → EndsInFeed (front ++ rest) → EndsInFeed rest
+after_feed front rest closed some =
+    let long = length-append front rest in
+    let place : length (front ++ rest) - 1 ≡ length front + (length rest - 1) = omega arith in
+    sym (get_or-append-add front rest (length rest - 1) 0) ∙ rw place at (closed (omega arith))
 
--- the lines of bytes up to a line feed are the messages of whole frames
-pub lines_are_frames : (bytes : List ℕ) (past : ℕ) (lines : List (List ℕ)) → EndsInFeed (take past bytes)
-    → IsLines (take past bytes) lines → AreFrames LineFeeds bytes lines (drop past bytes)
-lines_are_frames bytes past lines closed found =
-    let whole = closed_lines (take past bytes) lines closed found in
-    subst (λ (l : List ℕ). AreFrames LineFeeds l lines (drop past bytes))
-    (sym (ap (λ (l : List ℕ). l ++ drop past bytes) whole.1) ∙ take-append-drop past bytes)
-    (with_feeds_frames lines (drop past bytes) whole.0)
+-- of bytes that end in a line feed the first line is the message of a frame, and what follows it ends in one too
+pub line_frame : (framing : Framing) (bytes line rest : List ℕ) → framing ≡ LineFeeds → EndsInFeed bytes
+    → 0 < length bytes → IsFirstLine bytes line rest → AreFrames framing bytes (line ∷ []) rest × EndsInFeed rest
+line_frame framing bytes line rest feeds closed some (free, inl feed) =
+    let whole : bytes ≡ (line ++ 10 ∷ []) ++ rest = feed ∙ sym (append_assoc line (10 ∷ []) rest) in (
+      rw feeds (line ++ 10 ∷ [], rest, inr (λ octets after is. is, free, refl), whole, refl),
+      after_feed (line ++ 10 ∷ []) rest (rw whole at closed),
+    )
+line_frame framing bytes line rest feeds closed some (free, inr (same, empty)) =
+    absurd (free (length line - 1) 0 (omega (arith, some, ap length same)) (rw same at (closed some)))
 
 frames_are_feeds : (bytes : List ℕ) (lines : List (List ℕ)) (rest : List ℕ) → AreFrames LineFeeds bytes lines rest
     → All NoFeed lines × (bytes ≡ with_feeds lines ++ rest)

@@ -6,7 +6,7 @@ pub use Rattle.std.proofs.Common.{◌+◌, sym, map, take, ◌++◌, drop, List,
 pub use Rattle.std.proofs.Common.{◌<◌, ◌≡◌, inl, Ok, Err}
 pub use Rattle.std.proofs.KnownBytes.{Appends-kept, Appends-trans}
 pub use Rattle.std.proofs.lemmas.Bool.{eqb-true, cases_eq}
-pub use Rattle.std.proofs.lemmas.List.{take-append-drop, take_at, take_all}
+pub use Rattle.std.proofs.lemmas.List.{drop-drop, take-append-drop, take_at, take_all, take_rest}
 pub use Rattle.std.proofs.lemmas.List.Elements.{All-nil, All-append}
 pub use Rattle.std.proofs.lemmas.Simd.{length-chunk}
 pub use Rattle.std.proofs.lemmas.Slice.{between_is}
@@ -16,8 +16,7 @@ pub use Rattle.syslog_lines.specs.Block.{held_bytes}
 pub use Rattle.syslog_lines.specs.Count.{held_count}
 pub use Rattle.syslog_lines.specs.Lines.{NoFeed, IsLines, EndsInFeed, IsFirstLine}
 pub use Rattle.syslog_lines.specs.Output.{Filter, is_answered, is_skipped, output_of, HasCounted}
-pub use Rattle.syslog_lines.specs.Write.{AddsAnswers, Answered, AnswersBefore, WroteCut, Wrote}
-pub use Rattle.syslog_lines.specs.Write.{AnswersAll}
+pub use Rattle.syslog_lines.specs.Write.{Adds, AddsWhole, Answered, WroteBefore, WroteCut, Wrote}
 pub use Rattle.syslog_lines.specs.declared.summary.RunFault.{RunFault}
 pub use Rattle.syslog_lines.specs.declared.summary.RunFault.TheVariants.{Write, Memory}
 pub use Rattle.syslog_lines.specs.declared.summary.Tally.{Tally}

@@ -1,17 +1,17 @@
 -- The place of the bytes that come next, as more is read and as frames end.
 use Rattle.syslog_lines.proofs.Names.{◌≡◌, ◌≢◌, ◌<◌, ◌≤◌, ℕ, List, [], ◌∷◌, ◌++◌, length, take, inl, inr, refl, sym}
-use Rattle.syslog_lines.proofs.Names.{◌∙◌, ap, subst, arith, append_assoc, append-nil, All-nil, Bool, true}
-use Rattle.std.proofs.Common.{length-append}
+use Rattle.syslog_lines.proofs.Names.{◌∙◌, ap, subst, arith, append_assoc, append-nil, All-nil, Bool, true, Option, Some, ◌+◌}
+use Rattle.std.proofs.Common.{length-append, None}
 use Rattle.std.proofs.Math.Seq.{take-append_seam}
 use Rattle.std.proofs.lemmas.List.Elements.{All-cons}
 use Rattle.syslog_lines.specs.Frames.{AreFrames, HasAllFrames, HasBody, HasFrames, IsCutFrame, IsDigit}
 use Rattle.syslog_lines.specs.Frames.{IsOpen, ending_of, mark}
-use Rattle.syslog_lines.specs.Place.{IsAt, IsHeld, IsMarkFront, IsSeen, Opened, Settles}
+use Rattle.syslog_lines.specs.Place.{IsAt, IsCutBy, IsHeld, IsLongFront, IsMarkFront, IsSeen, Opened}
 use Rattle.syslog_lines.specs.declared.framing.Framing.{Framing}
 use Rattle.syslog_lines.specs.declared.framing.Framing.TheVariants.{LineFeeds, Nuls, OctetCounts}
 use Rattle.syslog_lines.specs.declared.framing.Frames.{Frames}
 use Rattle.syslog_lines.specs.declared.place.Place.{Place}
-use Rattle.syslog_lines.specs.declared.place.Place.TheVariants.{Head, Frame, Ending, Octets}
+use Rattle.syslog_lines.specs.declared.place.Place.TheVariants.{Head, Frame, Long}
 use Rattle.syslog_lines.proofs.FrameLemmas.{AreFrames-append, AreFrames-more, IsOpen-nil, uncounted_byte}
 
 -- ---- more frames, and more bytes
@@ -33,13 +33,6 @@ Opened-read frames input messages bytes piece opened = record {
       (opened.settled (piece ++ more));
   framed = AreFrames-more frames.framing opened.body messages bytes piece opened.framed;
 }
-
-pub Opened-along : (frames : Frames) (input : List ℕ) (messages : List (List ℕ)) (bytes other : List ℕ) → bytes ≡ other
-    → Opened frames input messages bytes → Opened frames input messages other
-Opened-along frames input messages bytes other same opened = subst (Opened frames input messages) same opened
-
-settled_now : (strips : Bool) (input body : List ℕ) → Settles strips input body → HasBody strips input body
-settled_now strips input body settled = rw (append-nil input, append-nil body) at (settled [])
 
 -- ---- a beginning of the byte order mark
 
@@ -87,132 +80,111 @@ front_unmarked strips bytes on front = rw on (inr (
 
 -- ---- what was read, by the place
 
--- the body begins with whole frames of these messages, and these bytes follow
-pub record Ready (frames : Frames) (input : List ℕ) (messages : List (List ℕ)) (cut : List ℕ) : Type 0 where
-  pub body : List ℕ
-  pub opened : HasBody frames.strips input body
-  pub framed : AreFrames frames.framing body messages cut
+-- what is missing of a frame shows that it is cut
+pub cut_is : (framing : Framing) (bytes message : List ℕ) (missing : Option ℕ) → IsCutBy framing bytes message missing
+    → IsCutFrame framing message bytes
+cut_is framing bytes message None cut = inr cut
+cut_is framing bytes message (Some left) (some, counted) = inl (length message + left, omega (arith, some), counted)
 
-pub Opened-ready : (frames : Frames) (input : List ℕ) (messages : List (List ℕ)) (cut : List ℕ)
-    → Opened frames input messages cut → Ready frames input messages cut
-Opened-ready frames input messages cut opened = record {
+pub read_opened : (frames : Frames) (input : List ℕ) (messages : List (List ℕ)) (cut : List ℕ)
+    → Opened frames input messages cut → IsOpen frames.framing cut → HasFrames frames input messages cut
+read_opened frames input messages cut opened unended = record {
   body = opened.body;
-  opened = settled_now frames.strips input opened.body opened.settled;
+  opened = rw (append-nil input, append-nil opened.body) at (opened.settled []);
   framed = opened.framed;
+  unended = unended;
 }
 
-pub Ready-head : (frames : Frames) (input : List ℕ) (messages : List (List ℕ)) (bytes : List ℕ)
-    → IsAt frames Head input messages bytes → IsMarkFront bytes → Ready frames input messages bytes
-Ready-head frames input messages bytes (on, same, none) front = rw (same, none) (record {
+-- a message that is too long: what is there of it
+pub read_long : (frames : Frames) (missing : Option ℕ) (input : List ℕ) (messages : List (List ℕ)) (bytes : List ℕ)
+    → bytes ≡ [] → IsAt frames (Long missing) input messages bytes → (front : List ℕ) × (part : List ℕ)
+    × HasFrames frames input messages front × IsCutFrame frames.framing part front × IsLongFront frames part
+    × (0 < length front)
+read_long frames missing input messages bytes empty (front, part, opened, long, some, cut) =
+    let whole : front ++ bytes ≡ front = ap (λ (l : List ℕ). front ++ l) empty ∙ append-nil front in
+    let unended = cut_is frames.framing front part missing cut in (
+      front,
+      part,
+      read_opened frames input messages front (rw whole at opened) (part, unended),
+      unended,
+      long,
+      omega (arith, some),
+    )
+
+-- what is held there has no whole frame
+pub open_begun : (framing : Framing) (place : Place) (bytes : List ℕ)
+    → ((missing : Option ℕ) → place ≡ Long missing → ⊥) → IsHeld framing place bytes → IsOpen framing bytes
+open_begun framing Head bytes other front = open_front framing bytes front
+open_begun framing Frame bytes other unended = unended
+open_begun framing (Long missing) bytes other held = absurd (other missing refl)
+
+-- what is held there is the beginning of a frame, or nothing
+pub read_begun : (frames : Frames) (place : Place) (input : List ℕ) (messages : List (List ℕ)) (bytes : List ℕ)
+    → ((missing : Option ℕ) → place ≡ Long missing → ⊥) → IsHeld frames.framing place bytes
+    → IsAt frames place input messages bytes → HasFrames frames input messages bytes
+read_begun frames Head input messages bytes other front (on, same, none) = rw (same, none) (record {
   body = bytes;
   opened = front_unmarked frames.strips bytes on front;
   framed = refl;
+  unended = open_front frames.framing bytes front;
 })
+read_begun frames Frame input messages bytes other unended opened =
+    read_opened frames input messages bytes opened unended
+read_begun frames (Long missing) input messages bytes other held at = absurd (other missing refl)
 
 -- what was read has these messages in whole frames, and what is held is all of the frame that is cut, or nothing
 pub HasRead-held : (frames : Frames) (place : Place) (input : List ℕ) (messages : List (List ℕ)) (bytes : List ℕ)
     → IsAt frames place input messages bytes → IsHeld frames.framing place bytes
     → (cut : List ℕ) × HasFrames frames input messages cut × (length bytes ≤ length cut)
-HasRead-held frames Head input messages bytes at front =
-    let ready = Ready-head frames input messages bytes at front in (
-      bytes,
-      record {
-        body = ready.body;
-        opened = ready.opened;
-        framed = ready.framed;
-        unended = open_front frames.framing bytes front;
-      },
-      omega arith,
-    )
-HasRead-held frames Frame input messages bytes opened unended =
-    let ready = Opened-ready frames input messages bytes opened in (
-      bytes,
-      record { body = ready.body; opened = ready.opened; framed = ready.framed; unended = unended },
-      omega arith,
-    )
-HasRead-held frames Ending input messages bytes (front, opened, long, some, none, free) empty =
-    let ready = Opened-ready frames input messages (front ++ bytes) opened in (
-      front,
-      record {
-        body = ready.body;
-        opened = ready.opened;
-        framed = subst (AreFrames frames.framing ready.body messages)
-            (ap (λ (l : List ℕ). front ++ l) empty ∙ append-nil front) ready.framed;
-        unended = (front, inr (none, free, refl));
-      },
-      omega (arith, ap length empty),
-    )
-HasRead-held frames (Octets left) input messages bytes (octets, front, part, opened, long, some, counted, total, more)
-    empty =
-    let ready = Opened-ready frames input messages (front ++ bytes) opened in (
-      front,
-      record {
-        body = ready.body;
-        opened = ready.opened;
-        framed = subst (AreFrames frames.framing ready.body messages)
-            (ap (λ (l : List ℕ). front ++ l) empty ∙ append-nil front) ready.framed;
-        unended = (part, inl (octets, omega (arith, total, more), counted));
-      },
-      omega (arith, ap length empty),
-    )
+HasRead-held frames Head input messages bytes at held =
+    (bytes, read_begun frames Head input messages bytes (λ missing is. cc) held at, omega arith)
+HasRead-held frames Frame input messages bytes at held =
+    (bytes, read_begun frames Frame input messages bytes (λ missing is. cc) held at, omega arith)
+HasRead-held frames (Long missing) input messages bytes at empty =
+    let long = read_long frames missing input messages bytes empty at in
+    (long.0, long.2, omega (arith, ap length empty))
 
 -- one block more
 pub IsAt-read : (frames : Frames) (place : Place) (input : List ℕ) (messages : List (List ℕ)) (bytes piece : List ℕ)
     → IsAt frames place input messages bytes → IsAt frames place (input ++ piece) messages (bytes ++ piece)
 IsAt-read frames Head input messages bytes piece (on, same, none) = (on, ap (λ (l : List ℕ). l ++ piece) same, none)
 IsAt-read frames Frame input messages bytes piece opened = Opened-read frames input messages bytes piece opened
-IsAt-read frames Ending input messages bytes piece (front, opened, long, some, none, free) = (
+IsAt-read frames (Long missing) input messages bytes piece (front, part, opened, long, some, cut) = (
   front,
-  Opened-along frames (input ++ piece) messages ((front ++ bytes) ++ piece) (front ++ (bytes ++ piece))
-      (append_assoc front bytes piece) (Opened-read frames input messages (front ++ bytes) piece opened),
+  part,
+  rw append_assoc at (Opened-read frames input messages (front ++ bytes) piece opened),
   long,
   some,
-  none,
-  free,
+  cut,
 )
-IsAt-read frames (Octets left) input messages bytes piece
-    (octets, front, part, opened, long, some, counted, total, more) = (
-      octets,
-      front,
-      part,
-      Opened-along frames (input ++ piece) messages ((front ++ bytes) ++ piece) (front ++ (bytes ++ piece))
-          (append_assoc front bytes piece) (Opened-read frames input messages (front ++ bytes) piece opened),
-      long,
-      some,
-      counted,
-      total,
-      more,
-    )
 
 pub IsSeen-held : (framing : Framing) (place : Place) (bytes piece : List ℕ) → IsHeld framing place bytes
     → IsSeen framing place (take (length bytes) (bytes ++ piece))
 IsSeen-held framing Head bytes piece held = tt
 IsSeen-held framing Frame bytes piece unended = subst (IsOpen framing) (sym (take-append_seam bytes piece)) unended
-IsSeen-held framing Ending bytes piece held = tt
-IsSeen-held framing (Octets left) bytes piece held = tt
+IsSeen-held framing (Long missing) bytes piece held = tt
 
 -- ---- the end of the input
 
 -- no bytes are left
-pub all_none_left : (frames : Frames) (input : List ℕ) (messages : List (List ℕ)) → Ready frames input messages []
+pub all_none_left : (frames : Frames) (input : List ℕ) (messages : List (List ℕ)) → HasFrames frames input messages []
     → HasAllFrames frames input (messages ++ [])
-all_none_left frames input messages ready =
-    (ready.body, ready.opened, inl (rw (append-nil messages) ready.framed))
+all_none_left frames input messages read = (read.body, read.opened, inl (rw (append-nil messages) read.framed))
 
 -- or those of a frame that is cut
 pub all_cut : (frames : Frames) (input : List ℕ) (messages : List (List ℕ)) (cut last : List ℕ)
-    → Ready frames input messages cut → 0 < length cut → IsCutFrame frames.framing last cut
+    → HasFrames frames input messages cut → 0 < length cut → IsCutFrame frames.framing last cut
     → HasAllFrames frames input (messages ++ last ∷ [])
-all_cut frames input messages cut last ready some unended = (
-  ready.body,
-  ready.opened,
+all_cut frames input messages cut last read some unended = (
+  read.body,
+  read.opened,
   inr record {
     before = messages;
     last = last;
     cut = cut;
     some = some;
     listed = refl;
-    framed = ready.framed;
+    framed = read.framed;
     unended = unended;
   },
 )

@@ -1,24 +1,23 @@
 -- The first frame of bytes, by the first ending among them or by a count.
 use Rattle.syslog_lines.proofs.Names.{◌≡◌, ◌≢◌, ◌+◌, ◌-◌, ◌<◌, ◌≤◌, ℕ, List, [], ◌∷◌, ◌++◌, length, take, drop}
 use Rattle.syslog_lines.proofs.Names.{slice_index, inl, inr, refl, sym, ◌∙◌, ap, subst, arith, append_assoc, append-nil}
-use Rattle.syslog_lines.proofs.Names.{All-append, get_or, take-append-drop, length-drop, take_at, take_all, eq-eqb}
+use Rattle.syslog_lines.proofs.Names.{All-append, get_or, take-append-drop, length-drop, take_at, eq-eqb}
 use Rattle.syslog_lines.proofs.Names.{eqb-true, Passes, Nowhere, is_byte}
-use Rattle.std.proofs.Common.{length-append, length-take, None, Some, true}
-use Rattle.std.proofs.Math.Seq.{take-add, drop-append-add}
-use Rattle.std.proofs.lemmas.List.{drop_more, get_or-take, get_or-drop}
-use Rattle.std.proofs.lemmas.List.Elements.{All-from_get_or, All-get_or}
+use Rattle.std.proofs.Common.{Option, length-append, length-take, None, Some, true, Ok, Err}
+use Rattle.std.proofs.Math.Seq.{take-add}
+use Rattle.std.proofs.lemmas.List.{drop_more, get_or-take, get_or-drop, take_more}
+use Rattle.std.proofs.lemmas.List.Elements.{All-from_get_or}
 use Rattle.memchr.specs.Find.{NoneBefore}
 use Rattle.syslog_lines.specs.Frames.{AreFrames, IsCounted, IsFrame, IsOpen, IsUncounted, NoByte, ending_of}
 use Rattle.syslog_lines.specs.Frames.{is_too_long}
-use Rattle.syslog_lines.specs.Place.{IsAt, IsCutBy, IsLongFront, Opened}
-use Rattle.syslog_lines.specs.Lines.{EndsInFeed}
+use Rattle.syslog_lines.specs.Place.{Ends, IsAt, Opened}
 use Rattle.syslog_lines.specs.declared.framing.Framing.{Framing}
 use Rattle.syslog_lines.specs.declared.framing.Framing.TheVariants.{LineFeeds}
 use Rattle.syslog_lines.specs.declared.framing.Frames.{Frames}
-use Rattle.syslog_lines.specs.declared.place.Place.TheVariants.{Ending, Octets}
+use Rattle.syslog_lines.specs.declared.place.Place.TheVariants.{Long}
 use Rattle.syslog_lines.proofs.FrameLemmas.{IsCounted-cut, IsCounted-more, IsCounted-some, IsUncounted-front}
 use Rattle.syslog_lines.proofs.FrameLemmas.{IsUncounted-more}
-use Rattle.syslog_lines.proofs.PlaceLemmas.{Opened-along, Opened-frames}
+use Rattle.syslog_lines.proofs.PlaceLemmas.{Opened-frames}
 
 -- ---- the first ending
 
@@ -128,161 +127,86 @@ pub one_frame : (framing : Framing) (bytes message : List ℕ) (size : ℕ) → 
 one_frame framing bytes message size is =
     (take size bytes, drop size bytes, is, sym (take-append-drop size bytes), refl)
 
+-- ---- a frame that is cut, and the bytes after it
+
+module _ (framing : Framing) (bytes : List ℕ) where
+  pub ends_octets : (left : ℕ) → left ≤ length bytes → Ends framing (Some left) bytes (Ok left)
+  ends_octets left there front part some (missing, counted) =
+      let size : length part + left ≡ length (part ++ take left bytes) =
+      omega (arith, length-append part (take left bytes), length-take left bytes) in (
+        take left bytes,
+        inl (rw size at (IsCounted-more framing front (length part + left) part (take left bytes) counted)),
+      )
+
+  pub goes_on_octets : (left : ℕ) → length bytes < left → Ends framing (Some left) bytes (Err (Some (left - length bytes)))
+  goes_on_octets left fewer front part some (missing, counted) =
+      let size : length part + left ≡ length (part ++ bytes) + (left - length bytes) =
+      omega (arith, length-append part bytes) in
+      (omega arith, rw size at (IsCounted-more framing front (length part + left) part bytes counted))
+
+  pub ends_ending : (end : ℕ) → NoneBefore (Passes (is_byte (ending_of framing)) bytes) 0 (length bytes) end
+      → Passes (is_byte (ending_of framing)) bytes end → Ends framing None bytes (Ok (end + 1))
+  ends_ending end first at front part some (none, free, same) =
+      let (clear, split) = first_ending (ending_of framing) bytes end first at in
+      let last = rw (eqb-true (get_or bytes end 0) (ending_of framing) at) at (take_more bytes end 0 first.high) in (
+        take end bytes,
+        rw (same, last) (inr (
+          IsUncounted-more framing front (take end bytes ++ ending_of framing ∷ []) some none,
+          All-append (λ (byte : ℕ). byte ≢ ending_of framing) front (take end bytes) free clear,
+          sym (append_assoc front (take end bytes) (ending_of framing ∷ [])),
+        )),
+      )
+
+  pub goes_on_ending : Nowhere (Passes (is_byte (ending_of framing)) bytes) 0 (length bytes)
+      → Ends framing None bytes (Err None)
+  goes_on_ending nowhere front part some (none, free, same) = (
+    IsUncounted-more framing front bytes some none,
+    All-append (λ (byte : ℕ). byte ≢ ending_of framing) front bytes free (no_ending (ending_of framing) bytes nowhere),
+    ap (λ (l : List ℕ). l ++ bytes) same,
+  )
+
 -- ---- a message that is too long
 
 -- it ends in these bytes
-pub long_ended : (frames : Frames) (bytes : List ℕ) (end : ℕ) → NoByte (ending_of frames.framing) (take end bytes)
-    × (bytes ≡ take end bytes ++ ending_of frames.framing ∷ drop (end + 1) bytes) → (input : List ℕ)
-    → (messages : List (List ℕ)) → IsAt frames Ending input messages bytes → (message : List ℕ)
-    × Opened frames input (messages ++ message ∷ []) (drop (end + 1) bytes) × (is_too_long frames message ≡ true)
-long_ended frames bytes end (free, split) input messages (front, opened, long, some, none, clear) =
-    let message : List ℕ = front ++ take end bytes in
-    let rest : List ℕ = drop (end + 1) bytes in
-    let last : List ℕ = ending_of frames.framing ∷ [] in
-    let frame : front ++ bytes ≡ (message ++ last) ++ rest =
-    ap (λ (l : List ℕ). front ++ l) split ∙ sym (append_assoc front (take end bytes) (ending_of frames.framing ∷ rest))
-    ∙ sym (append_assoc message last rest) in
-    let uncounted : IsUncounted frames.framing (message ++ last) =
-    rw (append_assoc front (take end bytes) last) (IsUncounted-more frames.framing front (take end bytes ++ last) some
-    none) in (
-      message,
-      Opened-frames frames input messages (message ∷ []) (front ++ bytes) rest opened (
-        message ++ last,
-        rest,
-        inr (
-          uncounted,
-          All-append (λ (byte : ℕ). byte ≢ ending_of frames.framing) front
-              (take end bytes) clear free,
-          refl,
-        ),
+pub long_ends : (frames : Frames) (missing : Option ℕ) (bytes : List ℕ) (end : ℕ)
+    → Ends frames.framing missing bytes (Ok end) → (input : List ℕ)
+    → (messages : List (List ℕ)) → IsAt frames (Long missing) input messages bytes → (message : List ℕ)
+    × Opened frames input (messages ++ message ∷ []) (drop end bytes) × (is_too_long frames message ≡ true)
+long_ends frames missing bytes end ends input messages (front, part, opened, long, some, cut) =
+    let (more, frame) = ends front part some cut in (
+      part ++ more,
+      Opened-frames frames input messages ((part ++ more) ∷ []) (front ++ bytes) (drop end bytes) opened (
+        front ++ take end bytes,
+        drop end bytes,
         frame,
+        rw (append_assoc, take-append-drop) refl,
         refl,
       ),
-      long (take end bytes),
-    )
-
-pub long_octets : (frames : Frames) (bytes : List ℕ) (left : ℕ) → left ≤ length bytes → (input : List ℕ)
-    → (messages : List (List ℕ)) → IsAt frames (Octets left) input messages bytes → (message : List ℕ)
-    × Opened frames input (messages ++ message ∷ []) (drop left bytes) × (is_too_long frames message ≡ true)
-long_octets frames bytes left there input messages (octets, front, part, opened, long, some, counted, total, more) =
-    let message : List ℕ = part ++ take left bytes in
-    let frame : List ℕ = front ++ take left bytes in
-    let size : octets ≡ length message = omega (
-      arith,
-      total,
-      length-append part (take left bytes),
-      length-take left bytes,
-    ) in
-    let whole : front ++ bytes ≡ frame ++ drop left bytes =
-    ap (λ (l : List ℕ). front ++ l) (sym (take-append-drop left bytes))
-    ∙ sym (append_assoc front (take left bytes) (drop left bytes)) in (
-      message,
-      Opened-frames frames input messages (message ∷ []) (front ++ bytes) (drop left bytes) opened (
-        frame,
-        drop left bytes,
-        inl (subst (λ (n : ℕ). IsCounted frames.framing frame n message) size
-            (IsCounted-more frames.framing front octets part (take left bytes) counted)),
-        whole,
-        refl,
-      ),
-      long (take left bytes),
+      long more,
     )
 
 -- it goes on after them
-pub long_goes_on : (frames : Frames) (bytes : List ℕ) → NoByte (ending_of frames.framing) bytes → (input : List ℕ)
-    → (messages : List (List ℕ)) → IsAt frames Ending input messages bytes → IsAt frames Ending input messages []
-long_goes_on frames bytes free input messages (front, opened, long, some, none, clear) = (
-  front ++ bytes,
-  Opened-along frames input messages (front ++ bytes) ((front ++ bytes) ++ []) (sym (append-nil (front ++ bytes)))
-      opened,
-  λ more. rw (append_assoc front bytes more) (long (bytes ++ more)),
-  omega (arith, length-append front bytes, some),
-  IsUncounted-more frames.framing front bytes some none,
-  All-append (λ (byte : ℕ). byte ≢ ending_of frames.framing) front bytes clear free,
-)
-
-pub octets_go_on : (frames : Frames) (bytes : List ℕ) (left : ℕ) → length bytes < left → (input : List ℕ)
-    → (messages : List (List ℕ)) → IsAt frames (Octets left) input messages bytes
-    → IsAt frames (Octets (left - length bytes)) input messages []
-octets_go_on frames bytes left fewer input messages (octets, front, part, opened, long, some, counted, total, more) = (
-  octets,
+pub long_goes_on : (frames : Frames) (missing left : Option ℕ) (bytes : List ℕ)
+    → Ends frames.framing missing bytes (Err left) → (input : List ℕ) → (messages : List (List ℕ)) → IsAt frames (Long missing) input messages bytes
+    → IsAt frames (Long left) input messages []
+long_goes_on frames missing left bytes goes_on input messages (front, part, opened, long, some, cut) = (
   front ++ bytes,
   part ++ bytes,
-  Opened-along frames input messages (front ++ bytes) ((front ++ bytes) ++ []) (sym (append-nil (front ++ bytes)))
-      opened,
-  λ rest. rw (append_assoc part bytes rest) (long (bytes ++ rest)),
+  rw append-nil opened,
+  λ more. rw append_assoc (long (bytes ++ more)),
   omega (arith, length-append front bytes, some),
-  IsCounted-more frames.framing front octets part bytes counted,
-  omega (arith, total, length-append part bytes),
-  omega arith,
+  goes_on front part some cut,
 )
 
--- it begins with these bytes, which are passed over
-pub long_begins : (frames : Frames) (bytes message : List ℕ) → 10 ≤ length bytes → IsLongFront frames message
-    → IsCutBy frames.framing bytes message None → (input : List ℕ) → (messages : List (List ℕ))
-    → Opened frames input messages bytes → IsAt frames Ending input messages []
-long_begins frames bytes message some long (none, free, same) input messages opened = (
-  bytes,
-  Opened-along frames input messages bytes (bytes ++ []) (sym (append-nil bytes)) opened,
-  subst (IsLongFront frames) same long,
-  some,
-  none,
-  free,
+-- no line feed is among what follows a place
+pub open_after : (bytes : List ℕ) (past : ℕ)
+    → ((k : ℕ) → past ≤ k → k < length bytes → slice_index bytes k ≢ 10) → IsOpen LineFeeds (drop past bytes)
+open_after bytes past none = (
+  drop past bytes,
+  inr (
+    λ octets rest is. is,
+    All-from_get_or (λ (byte : ℕ). byte ≢ 10) (drop past bytes) 0 (λ k below. rw (get_or-drop past bytes k 0)
+        (none (past + k) (omega arith) (omega (arith, length-drop past bytes)))),
+    refl,
+  ),
 )
-
-pub octets_begin : (frames : Frames) (bytes message : List ℕ) (left : ℕ) → 10 ≤ length bytes
-    → IsLongFront frames message
-    → IsCutBy frames.framing bytes message (Some left) → (input : List ℕ) → (messages : List (List ℕ))
-    → Opened frames input messages bytes → IsAt frames (Octets left) input messages []
-octets_begin frames bytes message left some long (more, counted) input messages opened = (
-  length message + left,
-  bytes,
-  message,
-  Opened-along frames input messages bytes (bytes ++ []) (sym (append-nil bytes)) opened,
-  long,
-  omega (arith, some),
-  counted,
-  refl,
-  more,
-)
-
--- ---- line feeds among bytes, by places
-
-module _ (bytes : List ℕ) (past : ℕ) where
-  pub no_feed_before : IsOpen LineFeeds (take past bytes) → past ≤ length bytes → (k : ℕ) → k < past
-      → slice_index bytes k ≢ 10
-  no_feed_before unended within k below =
-      let free = open_free LineFeeds (take past bytes) (λ octets rest is. is) unended in
-      rw (← get_or-take past bytes k 0 below)
-      (All-get_or (λ (byte : ℕ). byte ≢ 10) (take past bytes) k 0 (omega (arith, length-take past bytes)) free)
-
-  pub open_after : ((k : ℕ) → past ≤ k → k < length bytes → slice_index bytes k ≢ 10)
-      → IsOpen LineFeeds (drop past bytes)
-  open_after none = (
-    drop past bytes,
-    inr (
-      λ octets rest is. is,
-      All-from_get_or (λ (byte : ℕ). byte ≢ 10) (drop past bytes) 0 (λ k below. rw (get_or-drop past bytes k 0)
-          (none (past + k) (omega arith) (omega (arith, length-drop past bytes)))),
-      refl,
-    ),
-  )
-
-  pub closed_before : past ≤ length bytes → (0 < past → slice_index bytes (past - 1) ≡ 10)
-      → EndsInFeed (take past bytes)
-  closed_before within closed = λ some.
-      let size : length (take past bytes) ≡ past = omega (arith, length-take past bytes) in
-      rw (size, get_or-take past bytes (past - 1) 0 (omega (arith, size))) (closed (omega (arith, size)))
-
--- ---- slices
-
-pub rest_is : (bytes : List ℕ) (from : ℕ) → take (length bytes - from) (drop from bytes) ≡ drop from bytes
-rest_is bytes from = take_all (length bytes - from) (drop from bytes) (omega (arith, length-drop from bytes))
-
-pub drop_twice : (bytes : List ℕ) (from size : ℕ) → from ≤ length bytes
-    → drop size (drop from bytes) ≡ drop (from + size) bytes
-drop_twice bytes from size within =
-    let long : length (take from bytes) ≡ from = omega (arith, length-take from bytes) in
-    sym (drop-append-add (take from bytes) (drop from bytes) size)
-    ∙ ap (λ (n : ℕ). drop (n + size) (take from bytes ++ drop from bytes)) long
-    ∙ ap (drop (from + size)) (take-append-drop from bytes)

@@ -35,10 +35,9 @@ pub record Filter : Type 1 where
 
 -- what a filter does that is given the line of each message
 abbrev pub stripping : Bool → Filter → Filter
-stripping false filter = filter
-stripping true filter = record {
-  Answers = λ message answer. filter.Answers (line_of true message) answer;
-  Wants = λ message. filter.Wants (line_of true message);
+stripping strips filter = record {
+  Answers = λ message answer. filter.Answers (line_of strips message) answer;
+  Wants = λ message. filter.Wants (line_of strips message);
 }
 
 -- what one does that is given no line that is too long, where nothing is written for these

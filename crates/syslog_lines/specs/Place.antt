@@ -1,20 +1,16 @@
 -- Where in the input the bytes are that were read and are not done with.
 use Rattle.std.specs.Prelude.{◌≡◌, ◌+◌, ◌<◌, ◌≤◌, ⊤, ◌⊎◌, ℕ, Bool, true, false, List, [], ◌∷◌, ◌++◌, Option, Some, None}
-use Rattle.std.specs.Prelude.{length, take, drop}
-use Rattle.syslog_lines.specs.Frames.{AreFrames, HasBody, HasFrames, IsCounted, IsOpen, IsUncounted, NoByte, ending_of}
+use Rattle.std.specs.Prelude.{IfOk, MatchResult, Result, length, take, drop}
+use Rattle.syslog_lines.specs.Frames.{AreFrames, HasBody, HasFrames, IsCounted, IsFrame, IsOpen, IsUncounted, NoByte, ending_of}
 use Rattle.syslog_lines.specs.Frames.{is_too_long}
-use Rattle.syslog_lines.specs.Output.{Filter, taken}
-use Rattle.syslog_lines.specs.Write.{WroteBefore, WroteCut}
 use Rattle.syslog_lines.specs.declared.framing.Framing.{Framing}
 use Rattle.syslog_lines.specs.declared.framing.Frames.{Frames}
 use Rattle.syslog_lines.specs.declared.place.Place.{Place}
-use Rattle.syslog_lines.specs.declared.place.Place.TheVariants.{Head, Frame, Ending, Octets}
+use Rattle.syslog_lines.specs.declared.place.Place.TheVariants.{Head, Frame, Long}
 use Rattle.syslog_lines.specs.declared.place.Entry.{Entry}
 use Rattle.syslog_lines.specs.declared.place.Entry.TheVariants.{After, Only}
 use Rattle.syslog_lines.specs.Count.{held_count}
 use Rattle.syslog_lines.specs.declared.summary.Tally.{Tally}
-use Rattle.syslog_lines.specs.declared.summary.RunFault.{RunFault}
-use Rattle.syslog_lines.specs.declared.summary.RunFault.TheVariants.{Read, Write, Memory}
 
 -- the bytes are a prefix of the byte order mark, and not all of it
 abbrev pub IsMarkFront : List ℕ → Type 0
@@ -34,57 +30,57 @@ pub record Opened (frames : Frames) (input : List ℕ) (messages : List (List �
 abbrev pub IsLongFront : Frames → List ℕ → Type 0
 IsLongFront frames front = (more : List ℕ) → is_too_long frames (front ++ more) ≡ true
 
--- by the place: what was read before has these messages, and these bytes come next
-abbrev pub IsAt : Frames → Place → List ℕ → List (List ℕ) → List ℕ → Type 0
-IsAt frames Head input messages bytes = (frames.strips ≡ true) × (input ≡ bytes) × (messages ≡ [])
-IsAt frames Frame input messages bytes = Opened frames input messages bytes
-IsAt frames Ending input messages bytes = (front : List ℕ) × Opened frames input messages (front ++ bytes)
-    × IsLongFront frames front × (10 ≤ length front) × IsUncounted frames.framing front
-    × NoByte (ending_of frames.framing) front
-IsAt frames (Octets left) input messages bytes = (octets : ℕ) × (front : List ℕ) × (part : List ℕ)
-    × Opened frames input messages (front ++ bytes)
-    × IsLongFront frames part × (0 < length front) × IsCounted frames.framing front octets part
-    × (octets ≡ length part + left) × (0 < left)
-
--- by the place: these bytes have no whole frame
-abbrev pub IsHeld : Framing → Place → List ℕ → Type 0
-IsHeld framing Head bytes = IsMarkFront bytes
-IsHeld framing Frame bytes = IsOpen framing bytes
-IsHeld framing Ending bytes = bytes ≡ []
-IsHeld framing (Octets left) bytes = bytes ≡ []
-
--- by the place: the first of the bytes, which were seen before, have no whole frame
-abbrev pub IsSeen : Framing → Place → List ℕ → Type 0
-IsSeen framing Head bytes = ⊤
-IsSeen framing Frame bytes = IsOpen framing bytes
-IsSeen framing Ending bytes = ⊤
-IsSeen framing (Octets left) bytes = ⊤
-
--- what was read has these messages in whole frames
-abbrev pub HasRead : Frames → List ℕ → List (List ℕ) → Type 0
-HasRead frames input messages = (cut : List ℕ) × HasFrames frames input messages cut
-
--- the place of the first bytes
-abbrev pub StartsAt : Frames → Place → Type 0
-StartsAt frames Head = frames.strips ≡ true
-StartsAt frames Frame = frames.strips ≡ false
-StartsAt frames Ending = ⊥
-StartsAt frames (Octets left) = ⊥
-
 -- what is missing of a frame that is cut: the octets that its count says beyond these, or an ending
 abbrev pub IsCutBy : Framing → List ℕ → List ℕ → Option ℕ → Type 0
 IsCutBy framing bytes message (Some missing) = (0 < missing)
     × IsCounted framing bytes (length message + missing) message
 IsCutBy framing bytes message None = IsUncounted framing bytes × NoByte (ending_of framing) bytes × (message ≡ bytes)
 
+-- a frame that is cut, of which this is missing, ends after so many of the bytes, or goes on after them
+abbrev pub Ends : Framing → Option ℕ → List ℕ → Result ℕ (Option ℕ) → Type 0
+Ends framing missing bytes end = (front : List ℕ) (part : List ℕ) → 10 ≤ length front
+    → IsCutBy framing front part missing
+    → MatchResult end (λ size. (more : List ℕ) × IsFrame framing (part ++ more) (front ++ take size bytes))
+    (λ left. IsCutBy framing (front ++ bytes) (part ++ bytes) left)
+
+-- by the place: what was read before has these messages, and these bytes come next
+abbrev pub IsAt : Frames → Place → List ℕ → List (List ℕ) → List ℕ → Type 0
+IsAt frames Head input messages bytes = (frames.strips ≡ true) × (input ≡ bytes) × (messages ≡ [])
+IsAt frames Frame input messages bytes = Opened frames input messages bytes
+IsAt frames (Long missing) input messages bytes = (front : List ℕ) × (part : List ℕ)
+    × Opened frames input messages (front ++ bytes) × IsLongFront frames part × (10 ≤ length front)
+    × IsCutBy frames.framing front part missing
+
+-- by the place: these bytes have no whole frame
+abbrev pub IsHeld : Framing → Place → List ℕ → Type 0
+IsHeld framing Head bytes = IsMarkFront bytes
+IsHeld framing Frame bytes = IsOpen framing bytes
+IsHeld framing (Long missing) bytes = bytes ≡ []
+
+-- by the place: the first of the bytes, which were seen before, have no whole frame
+abbrev pub IsSeen : Framing → Place → List ℕ → Type 0
+IsSeen framing Head bytes = ⊤
+IsSeen framing Frame bytes = IsOpen framing bytes
+IsSeen framing (Long missing) bytes = ⊤
+
+-- what was read has these messages in whole frames
+abbrev pub HasRead : Frames → List ℕ → List (List ℕ) → Type 0
+HasRead frames input messages = (cut : List ℕ) × HasFrames frames input messages cut
+
+-- and if so many of the bytes are done with, the others come next
+abbrev pub HasReadUpTo : {E : Type 0} → Frames → Place → List ℕ → Result ℕ E → List ℕ → List (List ℕ) → Type 0
+HasReadUpTo frames place bytes result input messages = HasRead frames input messages
+    × IfOk result (λ past. IsAt frames place input messages (drop past bytes))
+
+-- the place of the first bytes
+abbrev pub StartsAt : Frames → Place → Type 0
+StartsAt frames Head = frames.strips ≡ true
+StartsAt frames Frame = frames.strips ≡ false
+StartsAt frames (Long missing) = ⊥
+
 -- after so many bytes the body of the input begins, whatever more of it is read
 abbrev pub HasMark : List ℕ → ℕ → Type 0
 HasMark bytes size = (size ≤ length bytes) × Settles true bytes (drop size bytes)
-
--- at the head of the input, the byte order mark was skipped if there is one; or the bytes don't show it yet
-abbrev pub PassesMark : Place → List ℕ → Entry → Type 0
-PassesMark place bytes (After start seen) = (place ≡ Frame) × (seen ≡ 0) × HasMark bytes start
-PassesMark place bytes (Only size) = (place ≡ Head) × (size ≡ 0) × IsMarkFront bytes
 
 -- from bytes that come next at a place, more messages were reached, and this holds of them
 abbrev pub Goes : Frames → Place → List ℕ → (List ℕ → List (List ℕ) → Type 0) → (List (List ℕ) → Type 0) → Type 0
@@ -113,12 +109,3 @@ Enters frames old new bytes was is (After start seen) = (new ≡ Frame) × (star
 Enters frames old new bytes was is (Only size) = (is ≡ was) × (size ≤ length bytes)
     × IsHeld frames.framing new (drop size bytes) × ((input : List ℕ) (messages : List (List ℕ))
     → IsAt frames old input messages bytes → IsAt frames new input messages (drop size bytes))
-
--- what was written when a filter stopped at a place, since an allocation or a write failed
-abbrev pub Stops : Frames → Filter → Place → List ℕ → (List ℕ → List (List ℕ) → Type 0) → Option (List ℕ)
-    → Option (List ℕ) → Bool → RunFault → Type 0
-Stops frames filter place bytes Reaches out_before out_after failed Read = ⊥
-Stops frames filter place bytes Reaches out_before out_after failed Write = (failed ≡ true)
-    × Goes frames place bytes Reaches (λ more. WroteCut (taken frames filter) more out_before out_after)
-Stops frames filter place bytes Reaches out_before out_after failed Memory = (failed ≡ false)
-    × Goes frames place bytes Reaches (λ more. WroteBefore (taken frames filter) more out_before out_after)

@@ -1,8 +1,7 @@
 -- What is written for some lines.
-use Rattle.std.specs.Prelude.{◌≡◌, ℕ, List, ◌∷◌, ◌++◌, Option, Some, Result, Ok, Err, take}
+use Rattle.std.specs.Prelude.{◌≡◌, ℕ, List, ◌∷◌, ◌++◌, Option, Some, Result, MatchResult, take}
 use Rattle.std.specs.Io.KnownBytes.{Appends}
-use Rattle.syslog_lines.specs.Frames.{AreFrames, IsOpen}
-use Rattle.syslog_lines.specs.Lines.{IsLines}
+use Rattle.syslog_lines.specs.Frames.{AreFrames}
 use Rattle.syslog_lines.specs.Output.{Answer, AreAnswers, Counts, Filter, output_of}
 use Rattle.syslog_lines.specs.declared.summary.Tally.{Tally}
 use Rattle.syslog_lines.specs.declared.framing.Frames.{Frames}
@@ -39,30 +38,24 @@ pub record Answered (frames : Frames) (filter : Filter) (lines : List (List ℕ)
   pub wrote : Wrote filter lines out_before out_after
   pub counted : Counts frames was is lines wrote.answers
 
--- that of all lines of the bytes
-abbrev pub AnswersAll : Frames → Filter → List ℕ → Option (List ℕ) → Option (List ℕ) → Tally → Tally → Type 0
-AnswersAll frames filter bytes out_before out_after was is = (lines : List (List ℕ)) × IsLines bytes lines
-    × Answered frames filter lines out_before out_after was is
-
--- that of their lines before one for which memory may be wanted
-abbrev pub AnswersBefore : Filter → List ℕ → Option (List ℕ) → Option (List ℕ) → Type 0
-AnswersBefore filter bytes out_before out_after = (lines : List (List ℕ)) × IsLines bytes lines
-    × WroteBefore filter lines out_before out_after
-
--- the output of all lines of the bytes was added; or an allocation failed, and the output of those before a line that
--- may need one was added
-abbrev pub AddsAnswers : {X E : Type 0} → Frames → Filter → List ℕ → List ℕ → List ℕ → Tally → Tally → Result X E
+-- the output of the messages was added, and they were counted; or an allocation failed, and the output of those before
+-- one that may need one was added
+abbrev pub Adds : {X E : Type 0} → Frames → Filter → List (List ℕ) → List ℕ → List ℕ → Tally → Tally → Result X E
     → Type 0
-AddsAnswers frames filter bytes old new was is (Ok done) = AnswersAll frames filter bytes (Some old) (Some new) was is
-AddsAnswers frames filter bytes old new was is (Err refused) = AnswersBefore filter bytes (Some old) (Some new)
+Adds frames filter messages old new was is result = MatchResult result
+    (λ done. Answered frames filter messages (Some old) (Some new) was is)
+    (λ refused. WroteBefore filter messages (Some old) (Some new))
 
 -- the output of whole frames that the bytes begin with was written, and these bytes follow
 abbrev pub AddsWhole : Frames → Filter → List ℕ → List ℕ → Option (List ℕ) → Option (List ℕ) → Tally → Tally → Type 0
 AddsWhole frames filter bytes rest out_before out_after was is = (messages : List (List ℕ))
     × AreFrames frames.framing bytes messages rest × Answered frames filter messages out_before out_after was is
 
--- of the whole frames that the bytes begin with, the output of those before one that may need an allocation was written
-abbrev pub StopsWithin : Frames → Filter → List ℕ → Option (List ℕ) → Option (List ℕ) → Type 0
-StopsWithin frames filter bytes out_before out_after = (messages : List (List ℕ)) × (rest : List ℕ)
-    × AreFrames frames.framing bytes messages rest × IsOpen frames.framing rest
-    × WroteBefore filter messages out_before out_after
+-- of whole frames that the bytes begin with, the output was added, and these bytes follow; or an allocation failed, and
+-- the output of those before one that may need one was added
+abbrev pub AddsFrames : {X E : Type 0} → Frames → Filter → List ℕ → (X → List ℕ) → List ℕ → List ℕ → Tally → Tally
+    → Result X E → Type 0
+AddsFrames frames filter bytes rest old new was is result = MatchResult result
+    (λ done. AddsWhole frames filter bytes (rest done) (Some old) (Some new) was is)
+    (λ refused. (messages : List (List ℕ)) × (after : List ℕ) × AreFrames frames.framing bytes messages after
+    × WroteBefore filter messages (Some old) (Some new))

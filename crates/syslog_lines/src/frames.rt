@@ -1,7 +1,7 @@
 //! The first frame of some bytes.
-ghost use Rattle.std.specs.Prelude.{◌<◌, ◌≤◌, length, take, drop, IfSome, MatchOption};
-ghost use Rattle.syslog_lines.specs.Frames.{AreDigits, IsCounted, IsCutFrame, IsFrame, IsOpen, IsUncounted};
-ghost use Rattle.syslog_lines.specs.Place.{IsCutBy};
+ghost use Rattle.std.specs.Prelude.{◌<◌, ◌≤◌, length, take, drop, IfOk, IfSome, MatchOption};
+ghost use Rattle.syslog_lines.specs.Frames.{AreDigits, IsCounted, IsFrame, IsOpen, IsUncounted};
+ghost use Rattle.syslog_lines.specs.Place.{Ends, IsCutBy};
 ghost use Rattle.syslog_lines.specs.declared.framing.Framing.TheVariants.{OctetCounts};
 
 use crate::framing::Framing;
@@ -95,8 +95,7 @@ fn ended_frame(framing: Framing, bytes: &[u8], seen: usize) -> Option<(&[u8], us
 /// missing, if it has one.
 pub fn cut_message(framing: Framing, bytes: &[u8]) -> (&[u8], Option<usize>)
     requires { IsOpen framing bytes.now }
-    ensures cut { IsCutFrame framing result.0.now bytes.now }
-    ensures missing { IsCutBy framing bytes.now result.0.now result.1 }
+    ensures { IsCutBy framing bytes.now result.0.now result.1 }
 {
     match read_count(framing, bytes) {
         Some((head, octets)) => {
@@ -104,5 +103,25 @@ pub fn cut_message(framing: Framing, bytes: &[u8]) -> (&[u8], Option<usize>)
             (message, Some(octets - message.len()))
         }
         None => (bytes, None),
+    }
+}
+
+/// Returns how many of the bytes end a frame that is cut, of which so many octets are missing, or an ending. If it goes
+/// on after them, the error is what is missing then.
+pub fn frame_end(
+    framing: Framing,
+    missing: Option<usize>,
+    bytes: &[u8],
+) -> Result<usize, Option<usize>>
+    ensures within { IfOk result (λ end. end ≤ length bytes.now) }
+    ensures ends { Ends framing missing bytes.now result }
+{
+    match missing {
+        Some(left) if left > bytes.len() => Err(Some(left - bytes.len())),
+        Some(left) => Ok(left),
+        None => match memchr(framing.ending(), bytes) {
+            Some(end) => Ok(end + 1),
+            None => Err(None),
+        },
     }
 }

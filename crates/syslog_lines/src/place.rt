@@ -1,15 +1,12 @@
 //! Where in the input the bytes are that were read and are not done with.
 ghost use Rattle.std.specs.Prelude.{◌≡◌, ◌-◌, ◌≤◌, true, ℕ, List, MatchOption, length, take, drop};
-ghost use Rattle.syslog_lines.specs.declared.place.Entry.TheVariants.{After};
 ghost use Rattle.syslog_lines.specs.Frames.{IsOpen, is_above};
-ghost use Rattle.syslog_lines.specs.Place.{CountsLong, Enters, HasMark, IsAt, IsHeld, IsMarkFront, IsSeen, Opened};
-ghost use Rattle.syslog_lines.specs.Place.{PassesMark, StartsAt};
-ghost use Rattle.syslog_lines.specs.declared.place.Place.TheVariants.{Frame, Head};
+ghost use Rattle.syslog_lines.specs.Place.{Enters, HasMark, IsAt, IsHeld, IsMarkFront, IsSeen, Opened, StartsAt};
+ghost use Rattle.syslog_lines.specs.declared.place.Place.TheVariants.{Frame};
 
-use crate::frames::cut_message;
+use crate::frames::{cut_message, frame_end};
 use crate::framing::Frames;
 use crate::summary::Tally;
-use memchr::memchr;
 
 /// Where in the input the next bytes are.
 #[derive(Clone, Copy, PartialEq, Eq)]
@@ -18,10 +15,8 @@ pub enum Place {
     Head,
     /// Where a frame begins.
     Frame,
-    /// In a message that is too long, and goes on up to an ending byte.
-    Ending,
-    /// In a message that is too long, and goes on for so many octets.
-    Octets(usize),
+    /// In a message that is too long, and goes on for so many octets, or up to an ending byte.
+    Long(Option<usize>),
 }
 
 /// How many of the bytes are done with, and what follows them.
@@ -53,41 +48,26 @@ impl Place {
         ensures { Enters frames self.old self.new bytes.now tally.old tally.new result }
     {
         match *self {
-            Place::Head => self.pass_mark(bytes),
-            Place::Frame => Entry::After(0, seen),
-            Place::Ending => match memchr(frames.framing.ending(), bytes) {
-                Some(end) => self.end_long(end + 1, tally),
-                None => Entry::Only(bytes.len()),
+            Place::Head => match mark_size(bytes) {
+                Some(size) => {
+                    *self = Place::Frame;
+                    Entry::After(size, 0)
+                }
+                None => Entry::Only(0),
             },
-            Place::Octets(left) if left > bytes.len() => {
-                *self = Place::Octets(left - bytes.len());
-                Entry::Only(bytes.len())
-            }
-            Place::Octets(left) => self.end_long(left, tally),
+            Place::Frame => Entry::After(0, seen),
+            Place::Long(missing) => match frame_end(frames.framing, missing, bytes) {
+                Ok(end) => {
+                    tally.count_long();
+                    *self = Place::Frame;
+                    Entry::After(end, 0)
+                }
+                Err(missing) => {
+                    *self = Place::Long(missing);
+                    Entry::Only(bytes.len())
+                }
+            },
         }
-    }
-
-    // Counts a message that is too long and ends here.
-    fn end_long(&mut self, end: usize, tally: &mut Tally) -> Entry
-        ensures place { self.new ≡ Frame }
-        ensures entry { result ≡ After end 0 }
-        ensures counted { CountsLong tally.old tally.new }
-    {
-        tally.count_long();
-        *self = Place::Frame;
-        Entry::After(end, 0)
-    }
-
-    // Skips a byte order mark.
-    fn pass_mark(&mut self, bytes: &[u8]) -> Entry
-        requires { self.old ≡ Head }
-        ensures { PassesMark self.new bytes.now result }
-    {
-        let Some(size) = mark_size(bytes) else {
-            return Entry::Only(0);
-        };
-        *self = Place::Frame;
-        Entry::After(size, 0)
     }
 
     /// For a frame whose end was not read yet, returns how many of its bytes need not be kept: all of them if its
@@ -104,10 +84,7 @@ impl Place {
         if !is_long_front(frames, bytes.len(), message.len()) {
             return 0;
         }
-        *self = match missing {
-            Some(octets) => Place::Octets(octets),
-            None => Place::Ending,
-        };
+        *self = Place::Long(missing);
         bytes.len()
     }
 }

@@ -1,12 +1,10 @@
-use Rattle.syslog_lines.proofs.Names.{arith, length, refl, true, Appends-kept, take_all, Memory, Write, ap}
-use Rattle.syslog_lines.proofs.Names.{sym, held_bytes}
-use Rattle.syslog_lines.specs.Frames.{HasAllFrames}
+use Rattle.syslog_lines.proofs.Names.{arith, length, Appends-kept, take_all, Memory, Write, ap, sym, held_bytes}
 use Rattle.std.proofs.Common.{length-append}
 use Rattle.syslog_lines.proofs.AnswerLemmas.{IfErr-passed}
 use Rattle.syslog_lines.proofs.PlaceLemmas.{IsSeen-held}
-use Rattle.syslog_lines.proofs.PumpLemmas.{EndsEarly-last, EndsEarly-more, EndsEarly-stopped, EndsEarly-unbegun}
-use Rattle.syslog_lines.proofs.PumpLemmas.{held_last, PumpedSoFar-more, PumpedSoFar-start, PumpsAll-last}
-use Rattle.syslog_lines.proofs.WriteLemmas.{Goes-answered, cut_answered}
+use Rattle.syslog_lines.proofs.PumpLemmas.{EndsEarly-cut, EndsEarly-refused, EndsEarly-stopped, EndsEarly-unbegun}
+use Rattle.syslog_lines.proofs.PumpLemmas.{PumpedSoFar-more, PumpedSoFar-start, PumpsAll-last, Reached-last}
+use Rattle.syslog_lines.proofs.PumpLemmas.{Reached-more, held_last}
 use Rattle.syslog_lines.proofs.pump.pump.Goals as goal
 
 pub returns-in_err-block-clause-err : goal.returns-in_err-block-clause-err
@@ -26,8 +24,8 @@ returns-in_err-fill-clause-err g c =
     (EndsEarly-stopped c.loop-block.invariant.so_far _ _ c.in_err-fill.field-0.0 c.in_err-fill.ensures.unchanged
     c.in_err-fill.ensures.err)
 
-pub answer_held-requires-clause-within : goal.answer_held-requires-clause-within
-answer_held-requires-clause-within g c =
+pub filter_held-past-requires-clause-within : goal.filter_held-past-requires-clause-within
+filter_held-past-requires-clause-within g c =
     let filled = rw (c.if-branch.true, ← c.held.ensures) at c.in_ok-fill.ensures.ok in
     omega (
       arith,
@@ -36,58 +34,74 @@ answer_held-requires-clause-within g c =
       c.loop-block.invariant.seen,
     )
 
-pub answer_held-requires-clause-seen : goal.answer_held-requires-clause-seen
-answer_held-requires-clause-seen g c =
+pub filter_held-past-requires-clause-seen : goal.filter_held-past-requires-clause-seen
+filter_held-past-requires-clause-seen g c =
     let filled = rw (c.if-branch.true, ← c.held.ensures) at c.in_ok-fill.ensures.ok in
     rw (c.loop-block.invariant.seen, filled.2) (IsSeen-held _ _ _ filled.0 c.loop-block.invariant.so_far.shut)
+
+pub returns-in_err-write_whole-clause-err : goal.returns-in_err-write_whole-clause-err
+returns-in_err-write_whole-clause-err g c =
+    let filled = rw (c.if-branch.true, ← c.held.ensures) at c.in_ok-fill.ensures.ok in
+    IfErr-passed _ Write _ (rw c.in_err-write_whole.ensures.fault.0 at c.from_residual-in_err-write_whole.ensures.1)
+    (EndsEarly-cut (Reached-more c.loop-block.invariant.so_far _ _ filled _ _ _ _ c.filter_held-past.ensures.adds) _
+    (rw c.deref.ensures.value at c.in_err-write_whole.ensures.err))
+
+pub returns-in_err-past-clause-err : goal.returns-in_err-past-clause-err
+returns-in_err-past-clause-err g c =
+    let filled = rw (c.if-branch.true, ← c.held.ensures) at c.in_ok-fill.ensures.ok in
+    IfErr-passed _ Memory _ c.from_residual-in_err-past.ensures.1
+    (EndsEarly-refused (Reached-more c.loop-block.invariant.so_far _ _ filled _ _ _ _ c.filter_held-past.ensures.adds) _
+    _ c.in_err-past.was (rw c.deref.ensures.value at c.in_ok-write_whole.ensures.ok))
 
 pub loop-block-preserved : goal.loop-block-preserved
 loop-block-preserved g c =
     let filled = rw (c.if-branch.true, ← c.held.ensures) at c.in_ok-fill.ensures.ok in record {
       so_far = rw (c.pass.ensures, ← c.held.ensures) (PumpedSoFar-more c.loop-block.invariant.so_far _ _ filled _ _ _ _
-          c.in_ok-past.ensures.held c.in_ok-past.ensures.ok);
+          c.filter_held-past.ensures.adds _ c.in_ok-past.was c.in_ok-past.ensures.held _
+          (rw c.deref.ensures.value at c.in_ok-write_whole.ensures.ok));
       seen = ap length c.held-seen.ensures;
       reader_well = c.in_ok-fill.ensures.well;
-      writer_well = c.in_ok-past.ensures.well;
+      writer_well = c.in_ok-write_whole.ensures.well;
     }
 
-pub returns-in_err-past-clause-err : goal.returns-in_err-past-clause-err
-returns-in_err-past-clause-err g c =
-    let filled = rw (c.if-branch.true, ← c.held.ensures) at c.in_ok-fill.ensures.ok in
-    IfErr-passed _ c.in_err-past.field-0.0 _ c.from_residual-in_err-past.ensures.1
-    (EndsEarly-more c.loop-block.invariant.so_far _ _ filled _ _ c.in_err-past.field-0.0 c.in_err-past.ensures.err)
-
-pub answer_last-requires-clause-held : goal.answer_last-requires-clause-held
-answer_last-requires-clause-held g c =
+pub filter_last-answered-requires : goal.filter_last-answered-requires
+filter_last-answered-requires g c =
     let ended = rw (c.if-branch.false, ← c.held-2.ensures) at c.in_ok-fill.ensures.ok in
     held_last c.loop-block.invariant.so_far _ _ ended
 
-pub returns-in_err-answer_last-clause-err : goal.returns-in_err-answer_last-clause-err
-returns-in_err-answer_last-clause-err g c =
+pub returns-in_err-write_whole-2-clause-err : goal.returns-in_err-write_whole-2-clause-err
+returns-in_err-write_whole-2-clause-err g c =
     let ended = rw (c.if-branch.false, ← c.held-2.ensures) at c.in_ok-fill.ensures.ok in
-    IfErr-passed _ c.in_err-answer_last.field-0.0 _ c.from_residual-in_err-answer_last.ensures.1
-    (EndsEarly-last c.loop-block.invariant.so_far _ _ ended _ _ c.in_err-answer_last.field-0.0
-    c.in_err-answer_last.ensures.err)
+    IfErr-passed _ Write _ (rw c.in_err-write_whole-2.ensures.fault.0 at c.from_residual-in_err-write_whole-2.ensures.1)
+    (EndsEarly-cut (Reached-last c.loop-block.invariant.so_far _ _ ended _ _ _ c.filter_last-answered.ensures) _
+    (rw c.deref-2.ensures.value at c.in_err-write_whole-2.ensures.err))
+
+pub returns-in_err-answered-clause-err : goal.returns-in_err-answered-clause-err
+returns-in_err-answered-clause-err g c =
+    let ended = rw (c.if-branch.false, ← c.held-2.ensures) at c.in_ok-fill.ensures.ok in
+    IfErr-passed _ Memory _ c.from_residual-in_err-answered.ensures.1
+    (EndsEarly-refused (Reached-last c.loop-block.invariant.so_far _ _ ended _ _ _ c.filter_last-answered.ensures) _ _
+    c.in_err-answered.was (rw c.deref-2.ensures.value at c.in_ok-write_whole-2.ensures.ok))
 
 pub returns-then-is_err-clause-err : goal.returns-then-is_err-clause-err
 returns-then-is_err-clause-err g c =
     let ended = rw (c.if-branch.false, ← c.held-2.ensures) at c.in_ok-fill.ensures.ok in
-    EndsEarly-last c.loop-block.invariant.so_far _ _ ended _ true Write (
-      refl,
-      cut_answered _ _ _ _ _ _ _ _ _ _ (λ output written. (
-        length output,
-        rw (take_all (length output) output (omega arith)) (Appends-kept _ _ _ output written c.flush.ensures.bytes),
-      )) (HasAllFrames c.args.frames) c.in_ok-answer_last.ensures.ok,
+    let output = c.filter_last-answered.new.self.output.items in
+    EndsEarly-cut (Reached-last c.loop-block.invariant.so_far _ _ ended _ _ _ c.filter_last-answered.ensures) _ (
+      length output,
+      rw (take_all (length output) output (omega arith)) (Appends-kept _ _ _ output
+          (rw c.deref-2.ensures.value at c.in_ok-write_whole-2.ensures.ok) c.flush.ensures.bytes),
     )
 
 pub returns-clause-ok : goal.returns-clause-ok
 returns-clause-ok g c =
     let ended = rw (c.if-branch.false, ← c.held-2.ensures) at c.in_ok-fill.ensures.ok in
-    PumpsAll-last c.loop-block.invariant.so_far _ _ ended _ _ (record {
-      answered = c.new-tally.ensures.answered;
-      skipped = c.new-tally.ensures.skipped;
-      answered_invalid = c.new-tally.ensures.answered_invalid;
-      skipped_invalid = c.new-tally.ensures.skipped_invalid;
-      too_long = c.new-tally.ensures.too_long;
-    }) (Goes-answered _ _ _ _ _ _ _ _ (λ output written. Appends-kept _ _ _ output written c.flush.ensures.bytes)
-    (HasAllFrames c.args.frames) _ _ c.in_ok-answer_last.ensures.ok)
+    PumpsAll-last c.loop-block.invariant.so_far _ _ ended _ _ _ c.filter_last-answered.ensures _ c.in_ok-answered.was _
+    (Appends-kept _ _ _ _ (rw c.deref-2.ensures.value at c.in_ok-write_whole-2.ensures.ok) c.flush.ensures.bytes)
+    (record {
+      answered = c.new-3.ensures.answered;
+      skipped = c.new-3.ensures.skipped;
+      answered_invalid = c.new-3.ensures.answered_invalid;
+      skipped_invalid = c.new-3.ensures.skipped_invalid;
+      too_long = c.new-3.ensures.too_long;
+    })

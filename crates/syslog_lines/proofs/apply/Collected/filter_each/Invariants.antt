@@ -1,8 +1,7 @@
-use Rattle.syslog_lines.proofs.Names.{◌≤◌, ◌-◌, Some, length, take, drop}
+use Rattle.syslog_lines.proofs.Names.{◌≤◌, ◌-◌, Some, length, take, drop, AddsWhole}
 use Rattle.syslog_lines.specs.Frames.{IsOpen}
 use Rattle.syslog_lines.specs.Output.{taken}
-use Rattle.syslog_lines.specs.Write.{AddsWhole}
-use Rattle.syslog_lines.proofs.apply.filter_each.Given as goal
+use Rattle.syslog_lines.proofs.apply.Collected.filter_each.Given as goal
 
 abbrev pub invariant-loop-message : goal.invariant-loop-message
 invariant-loop-message g l = record {
@@ -10,7 +9,7 @@ invariant-loop-message g l = record {
   known_within : l.known ≤ length (drop l.past l.bytes);
   unended : IsOpen l.frames.framing (take l.known (drop l.past l.bytes));
   so_far : AddsWhole l.frames (taken l.frames (g.F.LineFilter.answers l.filter)) l.bytes (drop l.past l.bytes)
-      (Some l.fn.output.items) (Some l.output.items) l.fn.tally l.tally;
+      (Some l.fn.self.output.items) (Some l.self.output.items) l.fn.self.tally l.self.tally;
 }
 
 abbrev pub decreases-loop-message : goal.decreases-loop-message
