@@ -1,13 +1,13 @@
 -- The digits that bytes begin with, and the count that they may be.
 use Rattle.syslog_lines.proofs.Names.{◌≡◌, ◌≢◌, ◌+◌, ◌-◌, ◌<◌, ◌≤◌, ℕ, List, [], ◌∷◌, ◌++◌, length, take, drop}
 use Rattle.syslog_lines.proofs.Names.{slice_index, inl, inr, refl, sym, ◌∙◌, ap, subst, arith, cases_eq, All-nil}
-use Rattle.syslog_lines.proofs.Names.{take-append-drop, append_assoc}
+use Rattle.syslog_lines.proofs.Names.{take-append-drop}
 use Rattle.std.proofs.Common.{length-append, length-take, ◌⊎◌, suc, zero, ◌*◌, ◌^◌, add-one}
-use Rattle.std.proofs.Math.Seq.{get_or-append_seam, take-append_seam, drop-append_seam}
+use Rattle.std.proofs.Math.Seq.{get_or-append_seam}
 use Rattle.std.proofs.lemmas.Bool.{cases_lt}
 use Rattle.std.proofs.Math.Nat.{pow-suc}
 use Rattle.std.proofs.lemmas.List.{get_or-take, get_or_append_left, drop_more}
-use Rattle.std.proofs.lemmas.List.Elements.{All-cons, All-get_or}
+use Rattle.std.proofs.lemmas.List.Elements.{All-cons, All-get_or, All-head, All-tail}
 use Rattle.std.specs.List.{All}
 use Rattle.syslog_lines.specs.Frames.{AreDigits, IsCount, IsCounted, IsDigit, IsOpen, IsUncounted, number_after}
 use Rattle.syslog_lines.specs.declared.framing.Framing.{Framing}
@@ -92,6 +92,7 @@ module _ (bytes : List ℕ) (size number : ℕ) (are : AreDigits bytes size numb
 pub count_is : (bytes : List ℕ) (size number : ℕ) → AreDigits bytes size number → 0 < size → slice_index bytes 0 ≢ 48
     → size < length bytes → slice_index bytes size ≡ 32 → IsCounted OctetCounts bytes number (drop (size + 1) bytes)
 count_is bytes size number are some first within space = (
+  refl,
   take size bytes,
   record {
     some = omega (arith, length-take size bytes);
@@ -106,61 +107,47 @@ count_is bytes size number are some first within space = (
 
 pub count_or_not : (framing : Framing) (bytes : List ℕ)
     → ((octets : ℕ) × (rest : List ℕ) × IsCounted framing bytes octets rest) ⊎ IsUncounted framing bytes
-count_or_not LineFeeds bytes = inr (λ octets rest is. absurd is)
-count_or_not Nuls bytes = inr (λ octets rest is. absurd is)
+count_or_not LineFeeds bytes = inr (λ octets rest (on, digits, count, same). cc)
+count_or_not Nuls bytes = inr (λ octets rest (on, digits, count, same). cc)
 count_or_not OctetCounts bytes =
     let (size, few, within, each, last) = digits_within 9 bytes in
     let are : AreDigits bytes size (number_after 0 (take size bytes)) =
     record { few = few; within = within; each = each; value = refl; last = last } in
     elim (le_or_lt (length bytes) size) [
-      | inl short ↦ inr (λ octets rest (digits, count, same).
+      | inl short ↦ inr (λ octets rest (on, digits, count, same).
           omega (arith, count_within bytes size _ are digits octets rest count same))
       | inr inside ↦ elim (cases_eq (slice_index bytes size) 32) [
         | inl space ↦ elim (cases_eq size 0) [
-          | inl none ↦ inr (λ octets rest (digits, count, same).
+          | inl none ↦ inr (λ octets rest (on, digits, count, same).
               omega (arith, count_some bytes size _ are digits octets rest count same))
           | inr some ↦ elim (cases_eq (slice_index bytes 0) 48) [
-            | inl zero_first ↦ inr (λ octets rest (digits, count, same).
+            | inl zero_first ↦ inr (λ octets rest (on, digits, count, same).
                 count_first bytes size _ are digits octets rest count same zero_first)
             | inr first ↦ inl (_, _, count_is bytes size _ are (omega arith) first inside space)
           ]
         ]
-        | inr other ↦ inr (λ octets rest (digits, count, same).
+        | inr other ↦ inr (λ octets rest (on, digits, count, same).
             other (count_ends bytes size _ are digits octets rest count same))
       ]
     ]
 
 -- the count and what follows it are the only ones
-module _ (bytes : List ℕ) where
-  found : (size : ℕ) × (size ≤ 9) × (size ≤ length bytes)
-      × All IsDigit (take size bytes) × (size < 9 → size < length bytes → ¬ (IsDigit (slice_index bytes size)))
-  found = digits_within 9 bytes
-
-  found_are : AreDigits bytes found.0 (number_after 0 (take found.0 bytes))
-  found_are = record { few = found.1; within = found.2; each = found.3; value = refl; last = found.4 }
-
-  found_digits : (digits : List ℕ) (octets : ℕ) (rest : List ℕ) → IsCount digits octets → bytes ≡ digits ++ 32 ∷ rest
-      → (digits ≡ take found.0 bytes) × (rest ≡ drop (found.0 + 1) bytes)
-  found_digits digits octets rest count same =
-      let size = digits_same bytes found.0 (number_after 0 (take found.0 bytes)) found_are digits octets rest count
-      same in
-      let long : length (digits ++ 32 ∷ []) ≡ found.0 + 1 = omega (arith, length-append digits (32 ∷ []), size) in (
-        sym (take-append_seam digits (32 ∷ rest)) ∙ ap (take (length digits)) (sym same)
-            ∙ ap (λ (n : ℕ). take n bytes) size,
-        sym (drop-append_seam (digits ++ 32 ∷ []) rest)
-            ∙ ap (drop (length (digits ++ 32 ∷ []))) (append_assoc digits (32 ∷ []) rest ∙ sym same)
-            ∙ ap (λ (n : ℕ). drop n bytes) long,
-      )
+same_seam : (digits others rest more : List ℕ) → All IsDigit digits → All IsDigit others
+    → digits ++ 32 ∷ rest ≡ others ++ 32 ∷ more → (digits ≡ others) × (rest ≡ more)
+same_seam [] [] rest more each all same = (refl, cc)
+same_seam [] (other ∷ others) rest more each all same =
+    let space : other ≡ 32 = cc in absurd (omega (arith, space, All-head IsDigit other others all))
+same_seam (digit ∷ digits) [] rest more each all same =
+    let space : digit ≡ 32 = cc in absurd (omega (arith, space, All-head IsDigit digit digits each))
+same_seam (digit ∷ digits) (other ∷ others) rest more each all same =
+    let (front, after) = same_seam digits others rest more (All-tail IsDigit digit digits each)
+    (All-tail IsDigit other others all) (cc) in (cc, after)
 
 pub few_octets : (framing : Framing) (bytes : List ℕ) (octets : ℕ) (rest : List ℕ) → IsCounted framing bytes octets rest
     → IsOpen framing bytes → length rest < octets
-few_octets LineFeeds bytes octets rest is unended = absurd is
-few_octets Nuls bytes octets rest is unended = absurd is
-few_octets OctetCounts bytes octets rest is (message, inr (none, free, same)) = absurd (none octets rest is)
-few_octets OctetCounts bytes octets rest (digits, count, same) (message, inl (other, few, (others, counts, equal))) =
-    let first = found_digits bytes digits octets rest count same in
-    let second = found_digits bytes others other message counts equal in
-    let one : octets ≡ other =
-    count.value ∙ ap (number_after 0) (first.0 ∙ sym second.0) ∙ sym counts.value in
-    let rests : rest ≡ message = first.1 ∙ sym second.1 in
-    omega (arith, one, ap length rests, few)
+few_octets framing bytes octets rest is (message, inr (none, free, same)) = absurd (none octets rest is)
+few_octets framing bytes octets rest (on, digits, count, same)
+    (message, inl (other, few, (counts_too, others, counts, equal))) =
+    let (one, rests) = same_seam digits others rest message count.each counts.each (sym same ∙ equal) in
+    let all : octets ≡ other = count.value ∙ ap (number_after 0) one ∙ sym counts.value in
+    omega (arith, ap length rests, few, all)

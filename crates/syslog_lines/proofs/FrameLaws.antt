@@ -52,10 +52,10 @@ counted n some few =
 
 pub framed : (framing : Framing) (message : List ℕ) → CanBeFramed framing message
     → IsFrame framing message (frame_of framing message)
-framed LineFeeds message free = inr ((λ octets rest none. none), free, refl)
-framed Nuls message free = inr ((λ octets rest none. none), free, refl)
+framed LineFeeds message free = inr ((λ octets rest (on, digits, count, same). cc), free, refl)
+framed Nuls message free = inr ((λ octets rest (on, digits, count, same). cc), free, refl)
 framed OctetCounts message (some, few) =
-    inl (decimal (length message), counted (length message) some few, refl)
+    inl (refl, decimal (length message), counted (length message) some few, refl)
 
 pub all_framed : (framing : Framing) (messages : List (List ℕ)) → AllByRecursion (CanBeFramed framing) messages
     → AreFrames framing (flat_map (frame_of framing) messages) messages []

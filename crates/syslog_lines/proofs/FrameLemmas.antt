@@ -1,10 +1,12 @@
 -- Frames: bytes in two, more bytes after them, and that all bytes have them.
 use Rattle.syslog_lines.proofs.Names.{◌≡◌, ◌≢◌, ◌+◌, ◌-◌, ◌<◌, ◌≤◌, ℕ, List, [], ◌∷◌, ◌++◌, length, take, drop}
-use Rattle.syslog_lines.proofs.Names.{slice_index, inl, inr, refl, sym, ◌∙◌, ap, subst, arith, append_assoc, cases_eq}
+use Rattle.syslog_lines.proofs.Names.{inl, inr, refl, sym, ◌∙◌, ap, subst, arith, append_assoc, cases_eq}
 use Rattle.syslog_lines.proofs.Names.{All-nil, take-append-drop}
 use Rattle.std.proofs.Common.{length-append, length-take, ◌⊎◌, suc, zero}
 use Rattle.std.proofs.Math.Seq.{take-append_seam, take-append-add}
-use Rattle.std.proofs.lemmas.List.Elements.{All-cons, All-head}
+use Rattle.std.proofs.lemmas.List.Elements.{All-cons, All-get_or, All-weaker}
+use Rattle.std.proofs.lemmas.List.{get_or_append_left, nil_from_length}
+use Rattle.std.specs.List.{All}
 use Rattle.syslog_lines.specs.Frames.{AreFrames, IsCounted, IsDigit, IsFrame, IsOpen, IsUncounted, NoByte, ending_of}
 use Rattle.syslog_lines.specs.declared.framing.Framing.{Framing}
 use Rattle.syslog_lines.specs.declared.framing.Framing.TheVariants.{LineFeeds, Nuls, OctetCounts}
@@ -14,85 +16,56 @@ use Rattle.syslog_lines.proofs.DigitLemmas.{count_or_not, le_or_lt}
 
 pub IsCounted-more : (framing : Framing) (bytes : List ℕ) (octets : ℕ) (rest more : List ℕ)
     → IsCounted framing bytes octets rest → IsCounted framing (bytes ++ more) octets (rest ++ more)
-IsCounted-more LineFeeds bytes octets rest more is = absurd is
-IsCounted-more Nuls bytes octets rest more is = absurd is
-IsCounted-more OctetCounts bytes octets rest more (digits, count, same) =
-    (digits, count, rw same (append_assoc digits (32 ∷ rest) more))
+IsCounted-more framing bytes octets rest more (on, digits, count, same) =
+    (on, digits, count, rw same (append_assoc digits (32 ∷ rest) more))
 
 pub IsUncounted-front : (framing : Framing) (front more : List ℕ) → IsUncounted framing (front ++ more)
     → IsUncounted framing front
 IsUncounted-front framing front more none = λ octets rest is.
     none octets (rest ++ more) (IsCounted-more framing front octets rest more is)
 
--- so many octets of what a count is followed by
-pub IsCounted-cut : (framing : Framing) (bytes : List ℕ) (octets : ℕ) (part more : List ℕ)
-    → IsCounted framing bytes octets (part ++ more) → (frame : List ℕ) × IsCounted framing frame octets part
-    × (bytes ≡ frame ++ more) × (0 < length frame)
-IsCounted-cut LineFeeds bytes octets part more is = absurd is
-IsCounted-cut Nuls bytes octets part more is = absurd is
-IsCounted-cut OctetCounts bytes octets part more (digits, count, same) = (
-  digits ++ 32 ∷ part,
-  (digits, count, refl),
-  same ∙ sym (append_assoc digits (32 ∷ part) more),
-  omega (arith, length-append digits (32 ∷ part), count.some),
-)
-
 -- what is counted is no longer than the bytes
 pub IsCounted-some : (framing : Framing) (bytes : List ℕ) (octets : ℕ) (rest : List ℕ)
     → IsCounted framing bytes octets rest → length rest < length bytes
-IsCounted-some LineFeeds bytes octets rest is = absurd is
-IsCounted-some Nuls bytes octets rest is = absurd is
-IsCounted-some OctetCounts bytes octets rest (digits, count, same) =
+IsCounted-some framing bytes octets rest (on, digits, count, same) =
     omega (arith, ap length same, length-append digits (32 ∷ rest))
 
 -- ten bytes show whether there is a count
-ten_are_enough : (front more : List ℕ) (octets : ℕ) (rest : List ℕ) → 10 ≤ length front
-    → IsCounted OctetCounts (front ++ more) octets rest → (part : List ℕ) × IsCounted OctetCounts front octets part
-ten_are_enough front more octets rest long (digits, count, same) =
-    let size : ℕ = length front in
-    let few : length (digits ++ 32 ∷ []) ≤ size = omega (arith, length-append digits (32 ∷ []), count.few) in
-    let whole : front ++ more ≡ (digits ++ 32 ∷ []) ++ rest = same ∙ sym (append_assoc digits (32 ∷ []) rest) in
-    let over : ℕ = size - length (digits ++ 32 ∷ []) in
-    let sum : size ≡ length (digits ++ 32 ∷ []) + over = omega arith in
-    let cut : front ≡ take (length (digits ++ 32 ∷ []) + over) ((digits ++ 32 ∷ []) ++ rest) =
-    sym (take-append_seam front more) ∙ ap (take size) whole
-    ∙ ap (λ (n : ℕ). take n ((digits ++ 32 ∷ []) ++ rest)) sum in (
-      take over rest,
-      (
-        digits,
-        count,
-        cut ∙ take-append-add (digits ++ 32 ∷ []) rest over
-            ∙ append_assoc digits (32 ∷ []) (take over rest),
-      ),
-    )
-
 pub IsUncounted-more : (framing : Framing) (front more : List ℕ) → 10 ≤ length front → IsUncounted framing front
     → IsUncounted framing (front ++ more)
-IsUncounted-more LineFeeds front more long none = λ octets rest is. absurd is
-IsUncounted-more Nuls front more long none = λ octets rest is. absurd is
-IsUncounted-more OctetCounts front more long none = λ octets rest is.
-    let (part, found) = ten_are_enough front more octets rest long is in none octets part found
+IsUncounted-more framing front more long none = λ octets rest (on, digits, count, same).
+    let size : ℕ = length (digits ++ 32 ∷ []) in
+    let over : ℕ = length front - size in
+    let sum : length front ≡ size + over = omega (arith, length-append digits (32 ∷ []), count.few) in
+    none octets (take over rest) (
+      on,
+      digits,
+      count,
+      sym (take-append_seam front more) ∙ ap (take (length front)) (same ∙ sym (append_assoc digits (32 ∷ []) rest))
+          ∙ ap (λ (n : ℕ). take n ((digits ++ 32 ∷ []) ++ rest)) sum
+          ∙ take-append-add (digits ++ 32 ∷ []) rest over ∙ append_assoc digits (32 ∷ []) (take over rest),
+    )
 
-pub uncounted_byte : (framing : Framing) (byte : ℕ) (rest : List ℕ) → ¬ (IsDigit byte)
-    → IsUncounted framing (byte ∷ rest)
-uncounted_byte LineFeeds byte rest other = λ octets after is. absurd is
-uncounted_byte Nuls byte rest other = λ octets after is. absurd is
-uncounted_byte OctetCounts byte rest other = λ octets after is. begins is
+-- bytes that are no digit and no ending have no whole frame
+pub open_high : (framing : Framing) (bytes : List ℕ) → All (λ byte. 57 < byte) bytes → IsOpen framing bytes
+open_high framing bytes high = (bytes, inr (uncounted, All-weaker _ _ other bytes high, refl))
   where
-    begins : {octets : ℕ} {after : List ℕ} → IsCounted OctetCounts (byte ∷ rest) octets after → ⊥
-    begins ([], count, same) = absurd (omega (arith, count.some))
-    begins (digit ∷ digits, count, same) =
-        other (subst IsDigit (sym (ap (λ (l : List ℕ). slice_index l 0) same))
-        (All-head IsDigit digit digits count.each))
+    uncounted : IsUncounted framing bytes
+    uncounted octets rest (on, digits, count, same) =
+        let digit = All-get_or IsDigit digits 0 0 count.some count.each in
+        let first = rw same at (high 0 0 (omega (arith, ap length same, length-append digits (32 ∷ rest)))) in
+        omega (arith, digit, first, get_or_append_left digits (32 ∷ rest) 0 0 count.some)
 
-pub uncounted_nil : (framing : Framing) → IsUncounted framing []
-uncounted_nil LineFeeds = λ octets rest is. absurd is
-uncounted_nil Nuls = λ octets rest is. absurd is
-uncounted_nil OctetCounts = λ octets rest (digits, count, same).
-    absurd (omega (arith, ap length same, length-append digits (32 ∷ rest)))
+    other : (byte : ℕ) → 57 < byte → byte ≢ ending_of framing
+    other byte above is = omega (arith, is, above, low framing)
+      where
+        low : (framing : Framing) → ending_of framing ≤ 57
+        low LineFeeds = omega arith
+        low Nuls = omega arith
+        low OctetCounts = omega arith
 
 pub IsOpen-nil : (framing : Framing) → IsOpen framing []
-IsOpen-nil framing = ([], inr (uncounted_nil framing, All-nil (λ (byte : ℕ). byte ≢ ending_of framing), refl))
+IsOpen-nil framing = open_high framing [] (All-nil (λ (byte : ℕ). 57 < byte))
 
 -- ---- whole frames
 
@@ -130,68 +103,58 @@ split_at ending (byte ∷ bytes) = elim (cases_eq byte ending) [
   ]
 ]
 
--- some bytes begin with a whole frame, or have none
-first_frame : (framing : Framing) (bytes : List ℕ) → ((message : List ℕ) × (frame : List ℕ) × (rest : List ℕ)
-    × IsFrame framing message frame × (bytes ≡ frame ++ rest) × (0 < length frame)) ⊎ IsOpen framing bytes
-first_frame framing bytes = elim (count_or_not framing bytes) [
-  | inl (octets, rest, counted) ↦ counted_first octets rest counted
-  | inr none ↦ ended_first none
-]
-  where
-    counted_first : (octets : ℕ) (rest : List ℕ) → IsCounted framing bytes octets rest → ((message : List ℕ)
-        × (frame : List ℕ) × (more : List ℕ) × IsFrame framing message frame × (bytes ≡ frame ++ more)
-        × (0 < length frame)) ⊎ IsOpen framing bytes
-    counted_first octets rest counted = elim (le_or_lt octets (length rest)) [
-      | inl there ↦
-          let whole = subst (IsCounted framing bytes octets) (sym (take-append-drop octets rest)) counted in
-          let (frame, is, same, some) = IsCounted-cut framing bytes octets (take octets rest) (drop octets rest)
-          whole in
-          let size : octets ≡ length (take octets rest) = omega (arith, length-take octets rest) in
-          inl (
-            take octets rest,
-            frame,
-            drop octets rest,
-            inl (subst (λ (n : ℕ). IsCounted framing frame n (take octets rest)) size is),
-            same,
-            some,
-          )
-      | inr cut ↦ inr (rest, inl (octets, cut, counted))
-    ]
+-- the bytes begin with a whole frame
+abbrev Begins : Framing → List ℕ → Type 0
+Begins framing bytes = (message : List ℕ) × (frame : List ℕ) × (rest : List ℕ)
+    × IsFrame framing message frame × (bytes ≡ frame ++ rest) × (0 < length frame)
 
-    ended_first : IsUncounted framing bytes → ((message : List ℕ)
-        × (frame : List ℕ) × (more : List ℕ) × IsFrame framing message frame × (bytes ≡ frame ++ more)
-        × (0 < length frame)) ⊎ IsOpen framing bytes
-    ended_first none = elim (split_at (ending_of framing) bytes) [
-      | inl (front, rest, free, same) ↦
-          let whole : bytes ≡ (front ++ ending_of framing ∷ []) ++ rest =
-          same ∙ sym (append_assoc front (ending_of framing ∷ []) rest) in
-          inl (
-            front,
-            front ++ ending_of framing ∷ [],
-            rest,
-            inr (
-              IsUncounted-front framing (front ++ ending_of framing ∷ []) rest (subst (IsUncounted framing) whole none),
-              free,
-              refl,
-            ),
-            whole,
-            omega (arith, length-append front (ending_of framing ∷ [])),
-          )
-      | inr free ↦ inr (bytes, inr (none, free, refl))
-    ]
+-- all octets of a count are there
+pub counted_frame : (framing : Framing) (bytes : List ℕ) (octets : ℕ) (rest : List ℕ)
+    → IsCounted framing bytes octets rest → octets ≤ length rest → (frame : List ℕ)
+    × IsFrame framing (take octets rest) frame × (bytes ≡ frame ++ drop octets rest) × (0 < length frame)
+counted_frame framing bytes octets rest (on, digits, count, same) there =
+    let message : List ℕ = take octets rest in
+    let size : octets ≡ length message = omega (arith, length-take octets rest) in (
+      digits ++ 32 ∷ message,
+      inl (on, digits, rw size at count, refl),
+      rw (append_assoc digits (32 ∷ message) (drop octets rest), take-append-drop octets rest) same,
+      omega (arith, length-append digits (32 ∷ message)),
+    )
+
+-- an ending is there
+pub ended_frame : (framing : Framing) (bytes front rest : List ℕ) → IsUncounted framing bytes
+    → NoByte (ending_of framing) front → bytes ≡ (front ++ ending_of framing ∷ []) ++ rest
+    → IsFrame framing front (front ++ ending_of framing ∷ [])
+ended_frame framing bytes front rest none free whole =
+    inr (IsUncounted-front framing (front ++ ending_of framing ∷ []) rest (rw whole at none), free, refl)
+
+first_frame : (framing : Framing) (bytes : List ℕ) → Begins framing bytes ⊎ IsOpen framing bytes
+first_frame framing bytes = elim (count_or_not framing bytes) [
+  | inl (octets, rest, counted) ↦ elim (le_or_lt octets (length rest)) [
+    | inl there ↦
+        let (frame, is, same, some) = counted_frame framing bytes octets rest counted there in
+        inl (take octets rest, frame, drop octets rest, is, same, some)
+    | inr cut ↦ inr (rest, inl (octets, cut, counted))
+  ]
+  | inr none ↦ elim (split_at (ending_of framing) bytes) [
+    | inl (front, rest, free, same) ↦
+        let whole : bytes ≡ (front ++ ending_of framing ∷ []) ++ rest =
+        same ∙ sym (append_assoc front (ending_of framing ∷ []) rest) in inl (
+          front,
+          front ++ ending_of framing ∷ [],
+          rest,
+          ended_frame framing bytes front rest none free whole,
+          whole,
+          omega (arith, length-append front (ending_of framing ∷ [])),
+        )
+    | inr free ↦ inr (bytes, inr (none, free, refl))
+  ]
+]
 
 frames_within : (n : ℕ) (framing : Framing) (bytes : List ℕ) → length bytes ≤ n → (messages : List (List ℕ))
     × (rest : List ℕ) × AreFrames framing bytes messages rest × IsOpen framing rest
-frames_within zero framing bytes few = (
-  [],
-  bytes,
-  refl,
-  subst (IsOpen framing) (sym (empty bytes few)) (IsOpen-nil framing),
-)
-  where
-    empty : (l : List ℕ) → length l ≤ 0 → l ≡ []
-    empty [] few = refl
-    empty (x ∷ l) few = absurd (omega arith)
+frames_within zero framing bytes few =
+    ([], bytes, refl, rw (nil_from_length bytes (omega arith)) (IsOpen-nil framing))
 frames_within (suc n) framing bytes few = elim (first_frame framing bytes) [
   | inl (message, frame, after, is, same, some) ↦
       let (messages, rest, framed, unended) = frames_within n framing after

@@ -1,12 +1,12 @@
 -- Lines and the place of the first line feed.
 use Rattle.syslog_lines.proofs.Names.{List, append-nil, cases_eq, take-append-drop, All-append, IsFirstLine, EndsInFeed}
-use Rattle.syslog_lines.proofs.Names.{◌≡◌, length, get_or, eq-eqb, eqb-true, All-nil, NoFeed, IsLines, Nowhere, is_byte}
-use Rattle.syslog_lines.proofs.Names.{◌≢◌, ◌+◌, ◌-◌, ◌<◌, ◌∷◌, ◌++◌, take, drop, refl, sym, ◌∙◌, subst, arith, Passes}
+use Rattle.syslog_lines.proofs.Names.{◌≡◌, length, eq-eqb, eqb-true, All-nil, NoFeed, IsLines}
+use Rattle.syslog_lines.proofs.Names.{◌≢◌, ◌+◌, ◌-◌, ◌<◌, ◌∷◌, ◌++◌, take, drop, refl, sym, ◌∙◌, subst, arith}
 use Rattle.syslog_lines.proofs.Names.{◌≤◌, ℕ, [], ap, inl, inr, slice_index}
 use Rattle.std.{proofs.Common.length-append, proofs.Math.Seq.drop-append_seam, proofs.Math.Seq.take-append_seam}
-use Rattle.std.proofs.lemmas.List.{get_or-append-add, drop_more, get_or-take, length-take, append_assoc}
+use Rattle.std.proofs.lemmas.List.{get_or-append-add, get_or-take, length-take, append_assoc}
 use Rattle.std.proofs.lemmas.List.{take_all, take-append-le}
-use Rattle.std.proofs.lemmas.List.Elements.{All-from_get_or, All-cons, All-drop, All-push, All-take}
+use Rattle.std.proofs.lemmas.List.Elements.{All-cons, All-drop, All-push, All-take}
 use Rattle.std.specs.List.{All}
 use Rattle.std.proofs.Common.{Bool, true, false, Option, None, Some, ◌==◌}
 use Rattle.std.proofs.lemmas.Bool.{cases_Bool, cases_lt}
@@ -16,31 +16,11 @@ use Rattle.syslog_lines.specs.Lines.{with_feeds}
 use Rattle.syslog_lines.specs.Place.{IsLongFront}
 use Rattle.syslog_lines.specs.declared.framing.Frames.{Frames}
 use Rattle.syslog_lines.specs.declared.framing.Framing.{Framing}
-use Rattle.syslog_lines.specs.declared.framing.Framing.TheVariants.{LineFeeds}
-use Rattle.memchr.specs.Find.{NoneBefore}
+use Rattle.syslog_lines.specs.declared.framing.Framing.TheVariants.{LineFeeds, OctetCounts}
 
 -- the byte is no line feed
 abbrev pub IsOther : ℕ → Type 0
 IsOther byte = byte ≢ 10
-
--- the bytes in two, at the first line feed
-pub IsFirstLine-at_feed : (bytes : List ℕ) (end : ℕ) → NoneBefore (Passes (is_byte 10) bytes) 0 (length bytes) end
-    → Passes (is_byte 10) bytes end → IsFirstLine bytes (take end bytes) (drop (end + 1) bytes)
-IsFirstLine-at_feed bytes end first feed =
-    let rest = rw (eqb-true (get_or bytes end 0) 10 feed) at (drop_more bytes end 0 first.high) in (
-      All-from_get_or IsOther (take end bytes) 0
-          (λ k below. let within : k < end = omega (arith, length-take end bytes) in
-          rw (get_or-take end bytes k 0 within) (λ is. first.before k (omega arith) within (eq-eqb _ 10 is))),
-      inl (sym (take-append-drop end bytes) ∙ ap (λ (l : List ℕ). take end bytes ++ l) rest),
-    )
-
--- bytes in which there is none
-pub IsFirstLine-whole : (bytes : List ℕ) → Nowhere (Passes (is_byte 10) bytes) 0 (length bytes)
-    → IsFirstLine bytes bytes []
-IsFirstLine-whole bytes none = (
-  All-from_get_or IsOther bytes 0 (λ k within is. none k (omega arith) within (eq-eqb _ 10 is)),
-  inr (refl, refl),
-)
 
 pub all_front : {X : Type 0} (P : X → Type 0) (xs ys : List X) → All P (xs ++ ys) → All P xs
 all_front P xs ys all = subst (All P) (take-append_seam xs ys) (All-take P (length xs) (xs ++ ys) all)
@@ -131,7 +111,7 @@ pub line_frame : (framing : Framing) (bytes line rest : List ℕ) → framing �
     → 0 < length bytes → IsFirstLine bytes line rest → AreFrames framing bytes (line ∷ []) rest × EndsInFeed rest
 line_frame framing bytes line rest feeds closed some (free, inl feed) =
     let whole : bytes ≡ (line ++ 10 ∷ []) ++ rest = feed ∙ sym (append_assoc line (10 ∷ []) rest) in (
-      rw feeds (line ++ 10 ∷ [], rest, inr (λ octets after is. is, free, refl), whole, refl),
+      rw feeds (line ++ 10 ∷ [], rest, inr (λ octets after (on, digits, count, same). cc, free, refl), whole, refl),
       after_feed (line ++ 10 ∷ []) rest (rw whole at closed),
     )
 line_frame framing bytes line rest feeds closed some (free, inr (same, empty)) =
@@ -140,7 +120,8 @@ line_frame framing bytes line rest feeds closed some (free, inr (same, empty)) =
 frames_are_feeds : (bytes : List ℕ) (lines : List (List ℕ)) (rest : List ℕ) → AreFrames LineFeeds bytes lines rest
     → All NoFeed lines × (bytes ≡ with_feeds lines ++ rest)
 frames_are_feeds bytes [] rest same = (All-nil NoFeed, same)
-frames_are_feeds bytes (line ∷ lines) rest (frame, after, inl counted, same, framed) = absurd counted
+frames_are_feeds bytes (line ∷ lines) rest (frame, after, inl counted, same, framed) =
+    let off : LineFeeds ≡ OctetCounts = counted.0 in cc
 frames_are_feeds bytes (line ∷ lines) rest (frame, after, inr (none, free, is), same, framed) =
     let (others, joined) = frames_are_feeds after lines rest framed in
     (All-cons NoFeed line lines free others, simp (same, is, joined, append_assoc))
@@ -151,7 +132,7 @@ pub frames_are_lines : (bytes : List ℕ) (lines : List (List ℕ)) → AreAllFr
 frames_are_lines bytes lines (inl framed) =
     let (free, joined) = frames_are_feeds bytes lines [] framed in (free, inl (joined ∙ append-nil (with_feeds lines)))
 frames_are_lines bytes lines (inr ends) = elim ends.unended [
-  | inl (octets, few, counted) ↦ absurd counted
+  | inl (octets, few, counted) ↦ let off : LineFeeds ≡ OctetCounts = counted.0 in cc
   | inr (none, free, same) ↦
       let (others, joined) = frames_are_feeds bytes ends.before ends.cut ends.framed in (
         rw ends.listed (All-append NoFeed ends.before (ends.last ∷ []) others

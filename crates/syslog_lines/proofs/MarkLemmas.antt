@@ -1,6 +1,6 @@
 -- The byte order mark, byte by byte.
 use Rattle.syslog_lines.proofs.Names.{◌≡◌, ◌≢◌, ◌<◌, ◌≤◌, ℕ, List, [], ◌∷◌, ◌++◌, length, slice_index}
-use Rattle.syslog_lines.proofs.Names.{inl, inr, refl, sym, ◌∙◌, ap, arith}
+use Rattle.syslog_lines.proofs.Names.{inr, refl, sym, ◌∙◌, ap, arith}
 use Rattle.std.proofs.lemmas.List.{get_or_append_left}
 use Rattle.syslog_lines.specs.Frames.{mark}
 use Rattle.syslog_lines.specs.Place.{HasMark, IsMarkFront}
@@ -17,7 +17,7 @@ module _ (bytes : List ℕ) (k : ℕ) (within : k < length bytes) (inside : k < 
 
 pub mark_front : (bytes : List ℕ) → length bytes ≤ 2 → (0 < length bytes → slice_index bytes 0 ≡ 0xEF)
     → (1 < length bytes → slice_index bytes 1 ≡ 0xBB) → IsMarkFront bytes
-mark_front [] short a b = inl refl
-mark_front (x ∷ []) short a b = inr (inl (rw (a (omega arith)) refl))
-mark_front (x ∷ y ∷ []) short a b = inr (inr (rw (a (omega arith), b (omega arith)) refl))
+mark_front [] short a b = (mark, omega arith, refl)
+mark_front (x ∷ []) short a b = (0xBB ∷ 0xBF ∷ [], omega arith, rw (a (omega arith)) refl)
+mark_front (x ∷ y ∷ []) short a b = (0xBF ∷ [], omega arith, rw (a (omega arith), b (omega arith)) refl)
 mark_front (x ∷ y ∷ z ∷ rest) short a b = absurd (omega arith)

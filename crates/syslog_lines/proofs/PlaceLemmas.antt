@@ -1,18 +1,18 @@
 -- The place of the bytes that come next, as more is read and as frames end.
-use Rattle.syslog_lines.proofs.Names.{◌≡◌, ◌≢◌, ◌<◌, ◌≤◌, ℕ, List, [], ◌∷◌, ◌++◌, length, take, inl, inr, refl, sym}
-use Rattle.syslog_lines.proofs.Names.{◌∙◌, ap, subst, arith, append_assoc, append-nil, All-nil, Bool, true, Option, Some, ◌+◌}
+use Rattle.syslog_lines.proofs.Names.{◌≡◌, ◌<◌, ◌≤◌, ℕ, List, [], ◌∷◌, ◌++◌, length, take, inl, inr, refl, sym}
+use Rattle.syslog_lines.proofs.Names.{◌∙◌, ap, subst, arith, append_assoc, append-nil, Bool, true, Option, Some, ◌+◌}
 use Rattle.std.proofs.Common.{length-append, None}
 use Rattle.std.proofs.Math.Seq.{take-append_seam}
-use Rattle.std.proofs.lemmas.List.Elements.{All-cons}
-use Rattle.syslog_lines.specs.Frames.{AreFrames, HasAllFrames, HasBody, HasFrames, IsCutFrame, IsDigit}
-use Rattle.syslog_lines.specs.Frames.{IsOpen, ending_of, mark}
+use Rattle.std.proofs.lemmas.List.Elements.{All-from_recursion}
+use Rattle.syslog_lines.specs.Frames.{AreFrames, HasAllFrames, HasBody, HasFrames, IsCutFrame}
+use Rattle.syslog_lines.specs.Frames.{IsOpen, mark}
 use Rattle.syslog_lines.specs.Place.{IsAt, IsCutBy, IsHeld, IsLongFront, IsMarkFront, IsSeen, Opened}
 use Rattle.syslog_lines.specs.declared.framing.Framing.{Framing}
-use Rattle.syslog_lines.specs.declared.framing.Framing.TheVariants.{LineFeeds, Nuls, OctetCounts}
 use Rattle.syslog_lines.specs.declared.framing.Frames.{Frames}
 use Rattle.syslog_lines.specs.declared.place.Place.{Place}
 use Rattle.syslog_lines.specs.declared.place.Place.TheVariants.{Head, Frame, Long}
-use Rattle.syslog_lines.proofs.FrameLemmas.{AreFrames-append, AreFrames-more, IsOpen-nil, uncounted_byte}
+use Rattle.syslog_lines.proofs.FrameLemmas.{AreFrames-append, AreFrames-more, open_high}
+use Rattle.syslog_lines.proofs.LineLemmas.{all_front}
 
 -- ---- more frames, and more bytes
 
@@ -36,46 +36,15 @@ Opened-read frames input messages bytes piece opened = record {
 
 -- ---- a beginning of the byte order mark
 
-not_a_digit : (byte : ℕ) → 57 < byte → ¬ (IsDigit byte)
-not_a_digit byte high = λ is. omega (arith, is.1, high)
-
-other_than_ending : (framing : Framing) (byte : ℕ) → 57 < byte → byte ≢ ending_of framing
-other_than_ending LineFeeds byte high = λ is. omega (arith, is, high)
-other_than_ending Nuls byte high = λ is. omega (arith, is, high)
-other_than_ending OctetCounts byte high = λ is. omega (arith, is, high)
-
 pub open_front : (framing : Framing) (bytes : List ℕ) → IsMarkFront bytes → IsOpen framing bytes
-open_front framing bytes (inl none) = rw none (IsOpen-nil framing)
-open_front framing bytes (inr (inl one)) = rw one (
-  0xEF ∷ [],
-  inr (
-    uncounted_byte framing 0xEF [] (not_a_digit 0xEF (omega arith)),
-    All-cons (λ (byte : ℕ). byte ≢ ending_of framing) 0xEF [] (other_than_ending framing 0xEF (omega arith))
-        (All-nil (λ (byte : ℕ). byte ≢ ending_of framing)),
-    refl,
-  ),
-)
-open_front framing bytes (inr (inr two)) = rw two (
-  0xEF ∷ 0xBB ∷ [],
-  inr (
-    uncounted_byte framing 0xEF (0xBB ∷ []) (not_a_digit 0xEF (omega arith)),
-    All-cons (λ (byte : ℕ). byte ≢ ending_of framing) 0xEF (0xBB ∷ []) (other_than_ending framing 0xEF (omega arith))
-        (All-cons (λ (byte : ℕ). byte ≢ ending_of framing) 0xBB [] (other_than_ending framing 0xBB (omega arith))
-        (All-nil (λ (byte : ℕ). byte ≢ ending_of framing))),
-    refl,
-  ),
-)
-
-front_short : (bytes : List ℕ) → IsMarkFront bytes → length bytes < 3
-front_short bytes (inl none) = rw none (omega arith)
-front_short bytes (inr (inl one)) = rw one (omega arith)
-front_short bytes (inr (inr two)) = rw two (omega arith)
+open_front framing bytes (more, some, same) =
+    open_high framing bytes (all_front (λ (byte : ℕ). 57 < byte) bytes more (rw same
+    (All-from_recursion (λ (byte : ℕ). 57 < byte) mark (omega arith, (omega arith, (omega arith, tt))))))
 
 front_unmarked : (strips : Bool) (bytes : List ℕ) → strips ≡ true → IsMarkFront bytes → HasBody strips bytes bytes
-front_unmarked strips bytes on front = rw on (inr (
+front_unmarked strips bytes on (more, some, whole) = rw on (inr (
   refl,
-  λ rest is.
-      omega (arith, front_short bytes front, ap length is, length-append mark rest),
+  λ rest is. omega (arith, some, ap length whole, length-append bytes more, ap length is, length-append mark rest),
 ))
 
 -- ---- what was read, by the place

@@ -10,7 +10,7 @@ use Rattle.syslog_lines.{specs.Block.StopsReading, specs.declared.summary.RunFau
 use proofs.{CountLemmas.IsFresh, CountLemmas.counted_from_zero, CountLemmas.lines_counted}
 use proofs.FrameLemmas.{IsOpen-nil}
 use proofs.PlaceLemmas.{HasRead-held, IsAt-read}
-use Rattle.syslog_lines.specs.Frames.{HasAllFrames, HasBody}
+use Rattle.syslog_lines.specs.Frames.{HasAllFrames, HasBody, mark}
 use Rattle.syslog_lines.specs.Output.{taken}
 use Rattle.syslog_lines.specs.Place.{Goes, HasReadUpTo, IsAt, IsHeld, StartsAt}
 use Rattle.syslog_lines.specs.Pump.{CanAnswer, EndsEarly, ReadAll, ReadFrames, PumpsAll}
@@ -35,7 +35,7 @@ start_at frames Frame off = record { body = []; settled = λ more. rw off refl; 
 start_at frames (Long missing) none = absurd none
 
 start_held : (frames : Frames) (place : Place) → StartsAt frames place → IsHeld frames.framing place []
-start_held frames Head on = inl refl
+start_held frames Head on = (mark, omega arith, refl)
 start_held frames Frame off = IsOpen-nil frames.framing
 start_held frames (Long missing) none = absurd none
 

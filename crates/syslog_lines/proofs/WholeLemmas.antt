@@ -15,7 +15,7 @@ use Rattle.syslog_lines.specs.declared.framing.Framing.{Framing}
 use Rattle.syslog_lines.specs.declared.framing.Framing.TheVariants.{LineFeeds}
 use Rattle.syslog_lines.specs.declared.framing.Frames.{Frames}
 use Rattle.syslog_lines.specs.declared.place.Place.TheVariants.{Long}
-use Rattle.syslog_lines.proofs.FrameLemmas.{IsCounted-cut, IsCounted-more, IsCounted-some, IsUncounted-front}
+use Rattle.syslog_lines.proofs.FrameLemmas.{IsCounted-more, counted_frame, ended_frame, IsCounted-some, IsUncounted-front}
 use Rattle.syslog_lines.proofs.FrameLemmas.{IsUncounted-more}
 use Rattle.syslog_lines.proofs.PlaceLemmas.{Opened-frames}
 
@@ -50,32 +50,15 @@ module _ (framing : Framing) (bytes : List ℕ) (seen : ℕ) (none : IsUncounted
       (subst (IsUncounted framing) (sym (take-append-drop seen bytes)) none)) unended
 
   pub ended_whole : (k : ℕ) → k < length (drop seen bytes) → NoByte (ending_of framing) (take k (drop seen bytes))
-      × (drop seen bytes ≡ take k (drop seen bytes) ++ ending_of framing ∷ drop (k + 1) (drop seen bytes))
+      → slice_index (drop seen bytes) k ≡ ending_of framing
       → IsFrame framing (take (seen + k) bytes) (take (seen + k + 1) bytes)
-  ended_whole k within (free, split) =
-      let front : List ℕ = take seen bytes ++ take k (drop seen bytes) in
-      let rest : List ℕ = drop (k + 1) (drop seen bytes) in
-      let message : take (seen + k) bytes ≡ front = take-add seen k bytes in
-      let whole : bytes ≡ (front ++ ending_of framing ∷ []) ++ rest =
-      sym (take-append-drop seen bytes) ∙ ap (λ (l : List ℕ). take seen bytes ++ l) split
-      ∙ sym (append_assoc (take seen bytes) (take k (drop seen bytes)) (ending_of framing ∷ rest))
-      ∙ sym (append_assoc front (ending_of framing ∷ []) rest) in
-      let size : length (front ++ ending_of framing ∷ []) ≡ seen + k + 1 =
-      omega (
-        arith,
-        length-append front (ending_of framing ∷ []),
-        length-append (take seen bytes) (take k (drop seen bytes)),
-        length-take seen bytes,
-        length-take k (drop seen bytes),
-        length-drop seen bytes,
-      ) in
-      let frame : take (seen + k + 1) bytes ≡ front ++ ending_of framing ∷ [] =
-      ap (take (seen + k + 1)) whole ∙ take_at (front ++ ending_of framing ∷ []) rest (seen + k + 1) size in
-      rw (message, frame) (inr (
-        IsUncounted-front framing (front ++ ending_of framing ∷ []) rest (subst (IsUncounted framing) whole none),
-        All-append (λ (byte : ℕ). byte ≢ ending_of framing) (take seen bytes) (take k (drop seen bytes)) seen_free free,
-        refl,
-      ))
+  ended_whole k within free last =
+      let at : slice_index bytes (seen + k) ≡ ending_of framing = sym (get_or-drop seen bytes k 0) ∙ last in
+      let frame = rw at at (take_more bytes (seen + k) 0 (omega (arith, length-drop seen bytes))) in
+      let clear = rw (← take-add seen k bytes) at (All-append (λ (byte : ℕ). byte ≢ ending_of framing)
+      (take seen bytes) (take k (drop seen bytes)) seen_free free) in
+      rw frame (ended_frame framing bytes (take (seen + k) bytes) (drop (seen + k + 1) bytes) none clear
+      (rw (← frame) (sym (take-append-drop (seen + k + 1) bytes))))
 
   pub not_ended : NoByte (ending_of framing) (drop seen bytes) → IsOpen framing bytes
   not_ended free = (
@@ -95,25 +78,16 @@ module _ (framing : Framing) (bytes : List ℕ) (head octets : ℕ) (within : he
   pub counted_whole : octets ≤ length bytes - head
       → IsFrame framing (take octets (drop head bytes)) (take (head + octets) bytes)
   counted_whole there =
-      let message : List ℕ = take octets (drop head bytes) in
-      let more : List ℕ = drop octets (drop head bytes) in
-      let whole = subst (IsCounted framing bytes octets) (sym (take-append-drop octets (drop head bytes))) counted in
-      let (frame, is, same, some) = IsCounted-cut framing bytes octets message more whole in
-      let size : octets ≡ length message = omega (
-        arith,
-        length-take octets (drop head bytes),
-        length-drop head bytes,
-      ) in
-      let long : head + octets ≡ length frame = omega (
+      let (frame, is, same, some) = counted_frame framing bytes octets (drop head bytes) counted
+      (omega (arith, length-drop head bytes)) in
+      let long : length frame ≡ head + octets = omega (
         arith,
         ap length same,
-        length-append frame more,
+        length-append frame (drop octets (drop head bytes)),
         length-drop octets (drop head bytes),
         length-drop head bytes,
       ) in
-      let cut : take (head + octets) bytes ≡ frame =
-      ap (take (head + octets)) same ∙ take_at frame more (head + octets) (sym long) in
-      rw cut (inl (subst (λ (n : ℕ). IsCounted framing frame n message) size is))
+      rw (ap (take (head + octets)) same ∙ take_at frame (drop octets (drop head bytes)) (head + octets) long) is
 
   pub counted_cut : length bytes - head < octets → IsOpen framing bytes
   counted_cut few = (drop head bytes, inl (octets, omega (arith, length-drop head bytes), counted))
@@ -204,7 +178,7 @@ pub open_after : (bytes : List ℕ) (past : ℕ)
 open_after bytes past none = (
   drop past bytes,
   inr (
-    λ octets rest is. is,
+    λ octets rest (on, digits, count, same). cc,
     All-from_get_or (λ (byte : ℕ). byte ≢ 10) (drop past bytes) 0 (λ k below. rw (get_or-drop past bytes k 0)
         (none (past + k) (omega arith) (omega (arith, length-drop past bytes)))),
     refl,

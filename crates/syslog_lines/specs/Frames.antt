@@ -45,9 +45,8 @@ pub record IsCount (digits : List ℕ) (octets : ℕ) : Type 0 where
 
 -- the bytes begin with a count and a space, if the framing has counts, and these follow
 abbrev pub IsCounted : Framing → List ℕ → ℕ → List ℕ → Type 0
-IsCounted LineFeeds bytes octets rest = ⊥
-IsCounted Nuls bytes octets rest = ⊥
-IsCounted OctetCounts bytes octets rest = (digits : List ℕ) × IsCount digits octets × (bytes ≡ digits ++ 32 ∷ rest)
+IsCounted framing bytes octets rest = (framing ≡ OctetCounts) × (digits : List ℕ) × IsCount digits octets
+    × (bytes ≡ digits ++ 32 ∷ rest)
 
 -- they begin with no count
 abbrev pub IsUncounted : Framing → List ℕ → Type 0

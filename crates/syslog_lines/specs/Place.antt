@@ -1,7 +1,7 @@
 -- Where in the input the bytes are that were read and are not done with.
 use Rattle.std.specs.Prelude.{◌≡◌, ◌+◌, ◌<◌, ◌≤◌, ⊤, ◌⊎◌, ℕ, Bool, true, false, List, [], ◌∷◌, ◌++◌, Option, Some, None}
 use Rattle.std.specs.Prelude.{IfOk, MatchResult, Result, length, take, drop}
-use Rattle.syslog_lines.specs.Frames.{AreFrames, HasBody, HasFrames, IsCounted, IsFrame, IsOpen, IsUncounted, NoByte, ending_of}
+use Rattle.syslog_lines.specs.Frames.{AreFrames, HasBody, HasFrames, IsCounted, IsFrame, IsOpen, IsUncounted, NoByte, ending_of, mark}
 use Rattle.syslog_lines.specs.Frames.{is_too_long}
 use Rattle.syslog_lines.specs.declared.framing.Framing.{Framing}
 use Rattle.syslog_lines.specs.declared.framing.Frames.{Frames}
@@ -14,7 +14,7 @@ use Rattle.syslog_lines.specs.declared.summary.Tally.{Tally}
 
 -- the bytes are a prefix of the byte order mark, and not all of it
 abbrev pub IsMarkFront : List ℕ → Type 0
-IsMarkFront bytes = (bytes ≡ []) ⊎ ((bytes ≡ 0xEF ∷ []) ⊎ (bytes ≡ 0xEF ∷ 0xBB ∷ []))
+IsMarkFront bytes = (more : List ℕ) × (0 < length more) × (bytes ++ more ≡ mark)
 
 -- the body of the input is this, whatever more of it is read
 abbrev pub Settles : Bool → List ℕ → List ℕ → Type 0

@@ -35,3 +35,10 @@ returns-in_err-filter_message-clause-adds g c =
     MatchResult-from_err _ _ _ c.from_residual.ensures.0 (λ e. stops_here c.loop-message.invariant.so_far
     c.in-Some.message.now _ (one_frame c.args.frames.framing (drop past bytes) _ c.in-Some.size frame) _
     c.in_err-filter_message.ensures)
+
+pub whole_frame-requires-clause-open : goal.whole_frame-requires-clause-open
+whole_frame-requires-clause-open g c =
+    rw (take_rest c.args.bytes.now c.loop-message.past) c.loop-message.invariant.unended
+
+pub returns-clause-open : goal.returns-clause-open
+returns-clause-open g c = rw (take_rest c.args.bytes.now c.loop-message.past) at c.in_default.ensures.whole

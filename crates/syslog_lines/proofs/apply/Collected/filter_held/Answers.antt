@@ -27,3 +27,10 @@ returns-clause-adds g c =
     (rw (take_rest bytes start, drop-drop size start bytes, c.clear.ensures.items) at c.in_ok-size.ensures.adds)
     (rw (take_rest bytes (start + size), drop-drop c.leave.result (start + size) bytes) at c.leave.ensures.held)
     (rw (take_rest bytes (start + size), drop-drop c.leave.result (start + size) bytes) at c.leave.ensures.at)
+
+pub leave-requires-clause-open : goal.leave-requires-clause-open
+leave-requires-clause-open g c =
+    let bytes = c.args.bytes.now in
+    let start = c.in-After.start in
+    rw (take_rest bytes (start + c.in_ok-size.size)) (rw (take_rest bytes start, drop-drop c.in_ok-size.size start bytes)
+    at c.in_ok-size.ensures.open)
