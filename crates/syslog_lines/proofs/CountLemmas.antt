@@ -2,7 +2,9 @@
 use Rattle.syslog_lines.proofs.Names.{[], length, count_by, held_count, Filter, HasCounted, is_answered, is_skipped}
 use Rattle.syslog_lines.proofs.Names.{◌≡◌, ℕ, ◌+◌, List, ◌∷◌, ◌++◌, Bool, true, false, refl, cond, arith, Tally, ap}
 use Rattle.syslog_lines.proofs.Names.{◌∙◌, inl, inr}
-use Rattle.std.proofs.lemmas.Bool.{cases_Bool}
+use Rattle.std.proofs.lemmas.Bool.{cases_Bool, false_from_ne_true}
+use Rattle.std.proofs.lemmas.List.Filters.{length-filter_both}
+use Rattle.std.proofs.lemmas.List.Sums.{length-filter}
 use Rattle.std.{proofs.lemmas.List.Sums.sum_by-append, proofs.lemmas.Slice.Zip.AllZip-long, specs.Prelude.not}
 use Rattle.std.proofs.lemmas.Str.{is_utf8-from_IsUtf8, IsUtf8-from_is_utf8}
 use Rattle.std.specs.{List.AllZip, Prelude.IsUtf8, Prelude.if◌then◌else◌, Str.is_utf8}
@@ -23,24 +25,6 @@ Grows-append keep first second was mid is grown more = λ n before.
     omega (arith, more (n + count_by keep first) (grown n before), count-append keep first second)
 
 -- ---- lines that are not UTF-8
-
-not_utf8 : (line : List ℕ) → ¬ (IsUtf8 line) → is_utf8 line ≡ false
-not_utf8 line invalid = elim (cases_Bool (is_utf8 line)) [
-  | inl valid ↦ absurd (invalid (IsUtf8-from_is_utf8 line valid))
-  | inr other ↦ other
-]
-
-valid_is : (frames : Frames) (message : List ℕ) → is_too_long frames message ≡ false
-    → IsUtf8 (line_of frames.strips message) → is_invalid frames message ≡ false
-valid_is frames message short valid =
-    rw (short, is_utf8-from_IsUtf8 (line_of frames.strips message) valid) refl
-
-invalid_is : (frames : Frames) (message : List ℕ) → is_too_long frames message ≡ false
-    → ¬ (IsUtf8 (line_of frames.strips message)) → is_invalid frames message ≡ true
-invalid_is frames message short invalid = rw (short, not_utf8 (line_of frames.strips message) invalid) refl
-
-long_is : (frames : Frames) (message : List ℕ) → is_too_long frames message ≡ true → is_invalid frames message ≡ false
-long_is frames message long = rw long refl
 
 invalid-append : (frames : Frames) (R : List ℕ → Answer → Type 0) (lines more : List (List ℕ))
     (first second : List Answer) → AllZip R lines first
@@ -78,27 +62,29 @@ module _ (frames : Frames) (was is : Tally) (line : List ℕ) (short : is_too_lo
     (less : is.skipped ≡ held_count (was.skipped + cond answered 0 1)) (kept_long : is.too_long ≡ was.too_long) where
   pub Counts-valid : IsUtf8 (line_of frames.strips line) → is.answered_invalid ≡ was.answered_invalid
       → is.skipped_invalid ≡ was.skipped_invalid → Counts frames was is (line ∷ []) (answer ∷ [])
-  Counts-valid valid kept left = record {
-    answered = λ n before. rw (← same) (omega (arith, before, more));
-    skipped = λ n before. rw (← same) (omega (arith, before, less, skipped_one answered));
-    answered_invalid = λ n before. rw (valid_is frames line short valid) (omega (arith, before, kept));
-    skipped_invalid = λ n before. rw (valid_is frames line short valid) (omega (arith, before, left));
-    too_long = λ n before. rw short (omega (arith, before, kept_long));
-  }
+  Counts-valid valid kept left =
+      let taken : is_utf8 (line_of frames.strips line) ≡ true = is_utf8-from_IsUtf8 _ valid in record {
+        answered = λ n before. rw (← same) (omega (arith, before, more));
+        skipped = λ n before. rw (← same) (omega (arith, before, less, skipped_one answered));
+        answered_invalid = λ n before. rw (short, taken) (omega (arith, before, kept));
+        skipped_invalid = λ n before. rw (short, taken) (omega (arith, before, left));
+        too_long = λ n before. rw short (omega (arith, before, kept_long));
+      }
 
   pub Counts-invalid : ¬ (IsUtf8 (line_of frames.strips line))
       → is.answered_invalid ≡ held_count (was.answered_invalid + cond answered 1 0)
       → is.skipped_invalid ≡ held_count (was.skipped_invalid + cond answered 0 1)
       → Counts frames was is (line ∷ []) (answer ∷ [])
-  Counts-invalid invalid first second = record {
-    answered = λ n before. rw (← same) (omega (arith, before, more));
-    skipped = λ n before. rw (← same) (omega (arith, before, less, skipped_one answered));
-    answered_invalid = λ n before.
-        rw (invalid_is frames line short invalid, ← same) (omega (arith, before, first));
-    skipped_invalid = λ n before. rw (invalid_is frames line short invalid, ← same)
-        (omega (arith, before, second, skipped_one answered));
-    too_long = λ n before. rw short (omega (arith, before, kept_long));
-  }
+  Counts-invalid invalid first second =
+      let refused : is_utf8 (line_of frames.strips line) ≡ false =
+      false_from_ne_true _ (λ valid. invalid (IsUtf8-from_is_utf8 _ valid)) in record {
+        answered = λ n before. rw (← same) (omega (arith, before, more));
+        skipped = λ n before. rw (← same) (omega (arith, before, less, skipped_one answered));
+        answered_invalid = λ n before. rw (short, refused, ← same) (omega (arith, before, first));
+        skipped_invalid =
+            λ n before. rw (short, refused, ← same) (omega (arith, before, second, skipped_one answered));
+        too_long = λ n before. rw short (omega (arith, before, kept_long));
+      }
 
 -- one that is too long
 pub Counts-long : (frames : Frames) (was is : Tally) (line : List ℕ) → is_too_long frames line ≡ true
@@ -106,26 +92,25 @@ pub Counts-long : (frames : Frames) (was is : Tally) (line : List ℕ) → is_to
 Counts-long frames was is line long counted = record {
   answered = λ n before. omega (arith, before, counted.answered);
   skipped = λ n before. omega (arith, before, counted.skipped);
-  answered_invalid = λ n before. rw (long_is frames line long) (omega (arith, before, counted.answered_invalid));
-  skipped_invalid = λ n before. rw (long_is frames line long) (omega (arith, before, counted.skipped_invalid));
+  answered_invalid = λ n before. rw long (omega (arith, before, counted.answered_invalid));
+  skipped_invalid = λ n before. rw long (omega (arith, before, counted.skipped_invalid));
   too_long = λ n before. rw long (omega (arith, before, counted.too_long));
 }
 
 pub Counts-append : (frames : Frames) (R : List ℕ → Answer → Type 0) (was mid is : Tally) (lines more : List (List ℕ))
     (first second : List Answer) → AllZip R lines first → Counts frames was mid lines first
     → Counts frames mid is more second → Counts frames was is (lines ++ more) (first ++ second)
-Counts-append frames R was mid is lines more first second each counted next = record {
-  answered = Grows-append is_answered first second was.answered mid.answered is.answered counted.answered next.answered;
-  skipped = Grows-append is_skipped first second was.skipped mid.skipped is.skipped counted.skipped next.skipped;
-  answered_invalid = rw (invalid-append frames R lines more first second each)
-      (Grows-append is_answered (invalid_answers frames lines first) (invalid_answers frames more second)
-      was.answered_invalid mid.answered_invalid is.answered_invalid counted.answered_invalid next.answered_invalid);
-  skipped_invalid = rw (invalid-append frames R lines more first second each)
-      (Grows-append is_skipped (invalid_answers frames lines first) (invalid_answers frames more second)
-      was.skipped_invalid mid.skipped_invalid is.skipped_invalid counted.skipped_invalid next.skipped_invalid);
-  too_long = Grows-append (is_too_long frames) lines more was.too_long mid.too_long is.too_long counted.too_long
-      next.too_long;
-}
+Counts-append frames R was mid is lines more first second each counted next =
+    let one : List Answer = invalid_answers frames lines first in
+    let two : List Answer = invalid_answers frames more second in record {
+      answered = Grows-append is_answered first second _ _ _ counted.answered next.answered;
+      skipped = Grows-append is_skipped first second _ _ _ counted.skipped next.skipped;
+      answered_invalid = rw (invalid-append frames R lines more first second each)
+          (Grows-append is_answered one two _ _ _ counted.answered_invalid next.answered_invalid);
+      skipped_invalid = rw (invalid-append frames R lines more first second each)
+          (Grows-append is_skipped one two _ _ _ counted.skipped_invalid next.skipped_invalid);
+      too_long = Grows-append (is_too_long frames) lines more _ _ _ counted.too_long next.too_long;
+    }
 
 -- a tally of no lines
 pub record IsFresh (tally : Tally) : Type 0 where
@@ -146,28 +131,20 @@ counted_from_zero frames was is lines answers fresh counts = record {
   too_long = omega (arith, counts.too_long 0 (omega (arith, fresh.too_long)));
 }
 
--- each line counts as answered or as skipped
-counted_all : (answers : List Answer) → count_by is_answered answers + count_by is_skipped answers ≡ length answers
-counted_all [] = refl
-counted_all (answer ∷ answers) = omega (
-  arith,
-  counted_all answers,
-  count-append is_answered (answer ∷ []) answers,
-  count-append is_skipped (answer ∷ []) answers,
-  once (is_answered answer),
-)
-  where
-    once : (b : Bool) → cond b 1 0 + cond (not b) 1 0 ≡ 1
-    once true = refl
-    once false = refl
-
--- so the tally's lines are those of the input
+-- each line counts as answered or as skipped, so the tally's lines are those of the input
 pub lines_counted : (frames : Frames) (filter : Filter) (tally : Tally) (lines : List (List ℕ)) (answers : List Answer)
     → AreAnswers filter lines answers → HasCounted frames tally lines answers
     → held_count (tally.answered + tally.skipped) ≡ held_count (length lines)
 lines_counted frames filter tally lines answers answered counted =
-    let long = AllZip-long filter.Answers lines answers answered in
-    omega (arith, counted_all answers, counted.answered, counted.skipped, long)
+    omega (
+      arith,
+      AllZip-long filter.Answers lines answers answered,
+      length-filter_both is_answered is_skipped (λ answer. refl) answers,
+      length-filter is_answered answers,
+      length-filter is_skipped answers,
+      counted.answered,
+      counted.skipped,
+    )
 
 -- the counts of a tally are those of its lines
 pub AreCounts-kept : (frames : Frames) (is_latin1 : Bool) (tally : Tally) (lines : List (List ℕ))

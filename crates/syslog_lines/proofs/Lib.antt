@@ -11,7 +11,6 @@ pub mod BlockLemmas
 pub mod MarkLemmas
 pub mod PlaceLemmas
 pub mod WholeLemmas
-pub mod EnterLemmas
 pub mod HeldLemmas
 pub mod WriteLemmas
 pub mod PumpLemmas

@@ -1,17 +1,17 @@
 -- Lines and the place of the first line feed.
-use Rattle.syslog_lines.proofs.Names.{List, append-nil, cases_eq, take-append-drop, All-append, IsFirstLine, EndsInFeed}
+use Rattle.syslog_lines.proofs.Names.{List, append-nil, take-append-drop, All-append, IsFirstLine, EndsInFeed}
 use Rattle.syslog_lines.proofs.Names.{◌≡◌, length, eq-eqb, eqb-true, All-nil, NoFeed, IsLines}
 use Rattle.syslog_lines.proofs.Names.{◌≢◌, ◌+◌, ◌-◌, ◌<◌, ◌∷◌, ◌++◌, take, drop, refl, sym, ◌∙◌, subst, arith}
 use Rattle.syslog_lines.proofs.Names.{◌≤◌, ℕ, [], ap, inl, inr, slice_index}
 use Rattle.std.{proofs.Common.length-append, proofs.Math.Seq.drop-append_seam, proofs.Math.Seq.take-append_seam}
-use Rattle.std.proofs.lemmas.List.{get_or-append-add, get_or-take, length-take, append_assoc}
-use Rattle.std.proofs.lemmas.List.{take_all, take-append-le}
-use Rattle.std.proofs.lemmas.List.Elements.{All-cons, All-drop, All-push, All-take}
+use Rattle.std.proofs.lemmas.List.{get_or-append-add, get_or-drop, length-drop, append_assoc}
+use Rattle.std.proofs.lemmas.List.Elements.{All-from_get_or, All-cons, All-drop, All-take}
 use Rattle.std.specs.List.{All}
 use Rattle.std.proofs.Common.{Bool, true, false, Option, None, Some, ◌==◌}
-use Rattle.std.proofs.lemmas.Bool.{cases_Bool, cases_lt}
+use Rattle.std.proofs.lemmas.Bool.{cases_Bool}
 use Rattle.std.{proofs.lemmas.Bool.Decides.nat_tests}
-use Rattle.syslog_lines.specs.Frames.{AreAllFrames, AreFrames, is_above, is_too_long, line_of, without_last}
+use Rattle.syslog_lines.specs.Frames.{AreAllFrames, AreFrames, IsOpen, is_above, is_too_long, line_of, without_last}
+use Rattle.syslog_lines.proofs.FrameLemmas.{some_frames}
 use Rattle.syslog_lines.specs.Lines.{with_feeds}
 use Rattle.syslog_lines.specs.Place.{IsLongFront}
 use Rattle.syslog_lines.specs.declared.framing.Frames.{Frames}
@@ -40,26 +40,6 @@ only_nil (line ∷ lines) (free, inl joined) = absurd (omega (arith, simp length
 only_nil (line ∷ lines) (free, inr lacks) =
     absurd (omega (arith, lacks.some, simp length-append at (ap length lacks.joined)))
 
-pub with_feeds-append : (xs ys : List (List ℕ)) → with_feeds (xs ++ ys) ≡ with_feeds xs ++ with_feeds ys
-with_feeds-append [] ys = refl
-with_feeds-append (x ∷ xs) ys = simp (with_feeds-append xs ys, append_assoc)
-
--- lines that each have their line feed, and more lines after them
-pub lines_after : (lines more : List (List ℕ)) (bytes : List ℕ) → All NoFeed lines → IsLines bytes more
-    → IsLines (with_feeds lines ++ bytes) (lines ++ more)
-lines_after lines more bytes free (rest, inl joined) =
-    (All-append NoFeed lines more free rest, inl (simp (joined, with_feeds-append)))
-lines_after lines more bytes free (rest, inr lacks) = (
-  All-append NoFeed lines more free rest,
-  inr record {
-    before = lines ++ lacks.before;
-    last = lacks.last;
-    some = lacks.some;
-    listed = simp (lacks.listed, append_assoc);
-    joined = simp (lacks.joined, with_feeds-append, append_assoc);
-  },
-)
-
 -- one line with no line feed
 one_line : (line : List ℕ) → NoFeed line → 0 < length line → IsLines line (line ∷ [])
 one_line line free some = (
@@ -70,32 +50,20 @@ one_line line free some = (
 -- a first line, and the lines of what follows it
 pub IsLines-cons : (bytes line rest : List ℕ) (more : List (List ℕ)) → 0 < length bytes → IsFirstLine bytes line rest
     → IsLines rest more → IsLines bytes (line ∷ more)
-IsLines-cons bytes line rest more some (free, inl feed) cut =
-    rw (feed, ← append_assoc line (10 ∷ []) rest)
-    (lines_after (line ∷ []) more rest (All-cons NoFeed line [] free (All-nil NoFeed)) cut)
+IsLines-cons bytes line rest more some (free, inl feed) (all, inl joined) =
+    (All-cons NoFeed line more free all, inl (feed ∙ ap (λ (l : List ℕ). line ++ 10 ∷ l) joined))
+IsLines-cons bytes line rest more some (free, inl feed) (all, inr lacks) = (
+  All-cons NoFeed line more free all,
+  inr record {
+    before = line ∷ lacks.before;
+    last = lacks.last;
+    some = lacks.some;
+    listed = ap (λ (l : List (List ℕ)). line ∷ l) lacks.listed;
+    joined = simp (feed, lacks.joined, append_assoc);
+  },
+)
 IsLines-cons bytes line rest more some (free, inr (same, empty)) cut =
     rw (only_nil more (rw empty at cut), same) (one_line line free (rw same at some))
-
--- ---- all bytes have lines
-
--- the lines of bytes after some of their first line
-lines_from_front : (front bytes : List ℕ) → NoFeed front → (lines : List (List ℕ)) × IsLines (front ++ bytes) lines
-lines_from_front [] [] free = ([], IsLines-nil)
-lines_from_front (byte ∷ front) [] free =
-    ((byte ∷ front) ∷ [], rw append-nil (one_line (byte ∷ front) free (omega arith)))
-lines_from_front front (byte ∷ bytes) free = elim (cases_eq byte 10) [
-  | inl feed ↦
-      let (lines, cut) = lines_from_front [] bytes (All-nil IsOther) in (
-        front ∷ lines,
-        IsLines-cons _ front bytes lines (simp length-append (omega arith))
-            (free, inl (ap (λ b. front ++ b ∷ bytes) feed)) cut,
-      )
-  | inr other ↦ rw (← append_assoc front (byte ∷ []) bytes)
-      (lines_from_front (front ++ byte ∷ []) bytes (All-push IsOther front byte free other))
-]
-
-pub some_lines : (bytes : List ℕ) → (lines : List (List ℕ)) × IsLines bytes lines
-some_lines bytes = lines_from_front [] bytes (All-nil IsOther)
 
 -- ---- lines as frames
 
@@ -109,10 +77,14 @@ after_feed front rest closed some =
 -- of bytes that end in a line feed the first line is the message of a frame, and what follows it ends in one too
 pub line_frame : (framing : Framing) (bytes line rest : List ℕ) → framing ≡ LineFeeds → EndsInFeed bytes
     → 0 < length bytes → IsFirstLine bytes line rest → AreFrames framing bytes (line ∷ []) rest × EndsInFeed rest
+    × (length line ≤ length bytes) × (length rest ≤ length bytes)
 line_frame framing bytes line rest feeds closed some (free, inl feed) =
-    let whole : bytes ≡ (line ++ 10 ∷ []) ++ rest = feed ∙ sym (append_assoc line (10 ∷ []) rest) in (
+    let whole : bytes ≡ (line ++ 10 ∷ []) ++ rest = feed ∙ sym (append_assoc line (10 ∷ []) rest) in
+    let long = length-append line (10 ∷ rest) in (
       rw feeds (line ++ 10 ∷ [], rest, inr (λ octets after (on, digits, count, same). cc, free, refl), whole, refl),
       after_feed (line ++ 10 ∷ []) rest (rw whole at closed),
+      omega (arith, ap length feed, long),
+      omega (arith, ap length feed, long),
     )
 line_frame framing bytes line rest feeds closed some (free, inr (same, empty)) =
     absurd (free (length line - 1) 0 (omega (arith, some, ap length same)) (rw same at (closed some)))
@@ -147,14 +119,28 @@ frames_are_lines bytes lines (inr ends) = elim ends.unended [
       )
 ]
 
--- ---- the length of a line
+-- all bytes have lines
+pub some_lines : (bytes : List ℕ) → (lines : List (List ℕ)) × IsLines bytes lines
+some_lines bytes =
+    let (lines, rest, framed, unended) = some_frames LineFeeds bytes in all lines rest framed unended
+  where
+    all : (lines : List (List ℕ)) (rest : List ℕ) → AreFrames LineFeeds bytes lines rest → IsOpen LineFeeds rest
+        → (lines : List (List ℕ)) × IsLines bytes lines
+    all lines [] framed unended = (lines, frames_are_lines bytes lines (inl framed))
+    all lines (byte ∷ rest) framed (last, unended) = (
+      lines ++ last ∷ [],
+      frames_are_lines bytes (lines ++ last ∷ []) (inr record {
+        before = lines;
+        last = last;
+        cut = byte ∷ rest;
+        some = omega arith;
+        listed = refl;
+        framed = framed;
+        unended = unended;
+      }),
+    )
 
-pub first_line_short : (bytes line rest : List ℕ) → IsFirstLine bytes line rest
-    → (length line ≤ length bytes) × (length rest ≤ length bytes)
-first_line_short bytes line rest (free, inl feed) =
-    let long = length-append line (10 ∷ rest) in (omega (arith, ap length feed), omega (arith, ap length feed))
-first_line_short bytes line rest (free, inr (same, empty)) =
-    (omega (arith, ap length same), omega (arith, ap length empty))
+-- ---- the length of a line
 
 -- the byte at the end is left out, or there is none
 pub without_last_none : (byte : ℕ) (message : List ℕ) → length message ≡ 0 → without_last byte message ≡ message
@@ -181,23 +167,50 @@ line_of_other message high =
     let one : without_last 13 message ≡ message = without_last_other 13 message (λ is. omega (arith, is, high)) in
     rw one (without_last_other 0 message (λ is. omega (arith, is, high)))
 
-without_last_size : (byte : ℕ) (message : List ℕ) → (length (without_last byte message) ≤ length message)
-    × (length message ≤ length (without_last byte message) + 1)
-without_last_size byte message = elim (cases_Bool (slice_index message (length message - 1) == byte)) [
-  | inl last ↦ rw last (
-    omega (arith, length-take (length message - 1) message),
-    omega (arith, length-take (length message - 1) message),
-  )
-  | inr other ↦ rw other (omega arith, omega arith)
+-- the line is what the message begins with, and at most so many bytes follow it, up to a carriage return
+pub record IsFront (few : ℕ) (line message : List ℕ) : Type 0 where
+  pub rest : List ℕ
+  pub split : message ≡ line ++ rest
+  pub short : length rest ≤ few
+  pub low : All (λ byte. byte ≤ 13) rest
+
+front_whole : (few : ℕ) (message : List ℕ) → IsFront few message message
+front_whole few message =
+    record { rest = []; split = sym (append-nil message); short = omega arith; low = All-nil (λ (byte : ℕ). byte ≤ 13) }
+
+front_last : (byte : ℕ) (message : List ℕ) → byte ≤ 13 → IsFront 1 (without_last byte message) message
+front_last byte message low = elim (cases_Bool (slice_index message (length message - 1) == byte)) [
+  | inr other ↦ rw other (front_whole 1 message)
+  | inl same ↦
+      let last : ℕ = length message - 1 in
+      let long = length-drop last message in rw same (record {
+        rest = drop last message;
+        split = sym (take-append-drop last message);
+        short = omega (arith, long);
+        low = All-from_get_or (λ (byte : ℕ). byte ≤ 13) (drop last message) 0 (λ k below.
+            let only : last + k ≡ last = omega (arith, long) in
+            rw (get_or-drop last message k 0, only) (omega (arith, low, eqb-true (slice_index message last) byte same)));
+      })
 ]
 
-pub line_size : (strips : Bool) (message : List ℕ) → (length (line_of strips message) ≤ length message)
+pub line_front : (strips : Bool) (message : List ℕ) → IsFront 2 (line_of strips message) message
+line_front false message = front_whole 2 message
+line_front true message =
+    let first = front_last 13 message (omega arith) in
+    let second = front_last 0 (without_last 13 message) (omega arith) in record {
+      rest = second.rest ++ first.rest;
+      split = first.split ∙ ap (λ (l : List ℕ). l ++ first.rest) second.split
+          ∙ append_assoc (line_of true message) second.rest first.rest;
+      short = omega (arith, first.short, second.short, length-append second.rest first.rest);
+      low = All-append (λ (byte : ℕ). byte ≤ 13) second.rest first.rest second.low first.low;
+    }
+
+line_size : (strips : Bool) (message : List ℕ) → (length (line_of strips message) ≤ length message)
     × (length message ≤ length (line_of strips message) + 2)
-line_size false message = (omega arith, omega arith)
-line_size true message =
-    let first = without_last_size 13 message in
-    let second = without_last_size 0 (without_last 13 message) in
-    (omega (arith, first.0, second.0), omega (arith, first.1, second.1))
+line_size strips message =
+    let front = line_front strips message in
+    let long = length-append (line_of strips message) front.rest in
+    (omega (arith, ap length front.split, long), omega (arith, ap length front.split, long, front.short))
 
 pub is_above-less : (longest : Option ℕ) (less more : ℕ) → less ≤ more → is_above longest more ≡ false
     → is_above longest less ≡ false
@@ -221,49 +234,3 @@ pub long_front : (frames : Frames) (front : List ℕ) → is_above frames.longes
 long_front frames front long = λ more. is_above-more frames.longest (length front - 2)
     (length (line_of frames.strips (front ++ more)))
     (omega (arith, (line_size frames.strips (front ++ more)).1, length-append front more)) long
-
--- ---- a line is a front of its message, which goes on with a byte of ASCII
-
-pub record IsFront (line message : List ℕ) : Type 0 where
-  pub short : length line ≤ length message
-  pub front : line ≡ take (length line) message
-  pub next : length line < length message → slice_index message (length line) ≤ 13
-
-front_whole : (message : List ℕ) → IsFront message message
-front_whole message = record {
-  short = omega arith;
-  front = sym (take_all (length message) message (omega arith));
-  next = λ more. absurd (omega arith);
-}
-
-front_last : (byte : ℕ) (message : List ℕ) → byte ≤ 13 → IsFront (without_last byte message) message
-front_last byte message low = elim (cases_Bool (slice_index message (length message - 1) == byte)) [
-  | inr other ↦ rw other (front_whole message)
-  | inl same ↦
-      let size : length (take (length message - 1) message) ≡ length message - 1 =
-      omega (arith, length-take (length message - 1) message) in
-      rw same (record {
-        short = omega (arith, size);
-        front = ap (λ (n : ℕ). take n message) (sym size);
-        next = λ more. rw size (omega (arith, low, eqb-true (slice_index message (length message - 1)) byte same));
-      })
-]
-
-front_of_front : (last line message : List ℕ) → IsFront last line → IsFront line message → IsFront last message
-front_of_front last line message first second = record {
-  short = omega (arith, first.short, second.short);
-  front = first.front ∙ sym (take-append-le (length last) line (drop (length line) message) first.short)
-      ∙ ap (take (length last)) (ap (λ (l : List ℕ). l ++ drop (length line) message) second.front
-      ∙ take-append-drop (length line) message);
-  next = λ more. elim (cases_lt (length last) (length line)) [
-    | inl less ↦ subst (λ (n : ℕ). n ≤ 13) (ap (λ (l : List ℕ). slice_index l (length last)) second.front
-        ∙ get_or-take (length line) message (length last) 0 less) (first.next less)
-    | inr same ↦ let equal : length last ≡ length line = omega (arith, first.short) in
-        subst (λ (n : ℕ). slice_index message n ≤ 13) (sym equal) (second.next (omega (arith, equal, more)))
-  ];
-}
-
-pub line_front : (strips : Bool) (message : List ℕ) → IsFront (line_of strips message) message
-line_front false message = front_whole message
-line_front true message = front_of_front (line_of true message) (without_last 13 message) message
-    (front_last 0 (without_last 13 message) (omega arith)) (front_last 13 message (omega arith))

@@ -3,7 +3,7 @@ use Rattle.std.proofs.lemmas.Result.{MatchResult-from_err}
 use Rattle.syslog_lines.proofs.AnswerLemmas.{Answered-one, WroteBefore-one, some_left}
 use Rattle.syslog_lines.proofs.CountLemmas.{Counts-valid}
 use Rattle.syslog_lines.proofs.HeldLemmas.{stops_here, whole_more, whole_start}
-use Rattle.syslog_lines.proofs.LineLemmas.{first_line_short, line_frame, not_too_long}
+use Rattle.syslog_lines.proofs.LineLemmas.{line_frame, not_too_long}
 use Rattle.syslog_lines.proofs.apply.Collected.filter_text.Goals as goal
 
 pub loop-rest-init : goal.loop-rest-init
@@ -16,27 +16,24 @@ loop-rest-init g c = record {
 
 pub returns-in_err-is_answered : goal.returns-in_err-is_answered
 returns-in_err-is_answered g c =
-    let first = c.first_text_line.ensures.first in
-    let (frame, closed) = line_frame _ _ _ _ c.requires.feeds c.loop-rest.invariant.closed
-    (some_left _ _ c.is_empty.ensures c.loop-rest-test.true) first in
+    let (frame, closed, few, fewer) = line_frame _ _ _ _ c.requires.feeds c.loop-rest.invariant.closed
+    (some_left _ _ c.is_empty.ensures c.loop-rest-test.true) c.first_text_line.ensures.first in
     let short = not_too_long c.args.frames _ (length c.args.lines.now)
-    (omega (arith, (first_line_short _ _ _ first).0, c.loop-rest.invariant.short)) c.requires.short in
+    (omega (arith, few, c.loop-rest.invariant.short)) c.requires.short in
     MatchResult-from_err _ _ _ c.from_residual.ensures.0 (λ e. stops_here c.loop-rest.invariant.so_far _ _ frame _
     (WroteBefore-one c.args.frames (g.F.LineFilter.answers c.args.filter.now) _ _ _ short
     (rw c.text_line-line.ensures.line at c.in_err-is_answered.ensures.refusal) c.in_err-is_answered.ensures.err))
 
 pub loop-rest-preserved : goal.loop-rest-preserved
 loop-rest-preserved g c =
-    let first = c.first_text_line.ensures.first in
-    let (frame, closed) = line_frame _ _ _ _ c.requires.feeds c.loop-rest.invariant.closed
-    (some_left _ _ c.is_empty.ensures c.loop-rest-test.true) first in
-    let sizes = first_line_short _ _ _ first in
+    let (frame, closed, few, fewer) = line_frame _ _ _ _ c.requires.feeds c.loop-rest.invariant.closed
+    (some_left _ _ c.is_empty.ensures c.loop-rest-test.true) c.first_text_line.ensures.first in
     let short = not_too_long c.args.frames _ (length c.args.lines.now)
-    (omega (arith, sizes.0, c.loop-rest.invariant.short)) c.requires.short in
+    (omega (arith, few, c.loop-rest.invariant.short)) c.requires.short in
     let line = c.text_line-line.ensures.line in
     let adds = rw line at c.in_ok-is_answered.ensures.ok in record {
       text = search rules;
-      short = omega (arith, sizes.1, c.loop-rest.invariant.short);
+      short = omega (arith, fewer, c.loop-rest.invariant.short);
       closed = closed;
       so_far = whole_more c.loop-rest.invariant.so_far _ _ frame _ _ (Answered-one c.args.frames _ _ _ _ _ _ _ short
           adds (Counts-valid c.args.frames _ _ _ short _ _ adds.3 c.count.ensures.answered c.count.ensures.skipped

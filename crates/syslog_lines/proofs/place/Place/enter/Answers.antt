@@ -1,17 +1,49 @@
-use Rattle.syslog_lines.proofs.EnterLemmas.{enters_ended, enters_frame, enters_marked, stays_long}
+use Rattle.syslog_lines.proofs.Names.{[], ◌∷◌, inl, inr, refl, arith, append-nil, drop}
+use Rattle.std.proofs.Math.Seq.{drop-length}
+use Rattle.syslog_lines.proofs.FrameLemmas.{IsOpen-nil}
+use Rattle.syslog_lines.proofs.WholeLemmas.{long_ends, long_goes_on}
 use Rattle.syslog_lines.proofs.place.Place.enter.Goals as goal
 
 pub returns-in-Some : goal.returns-in-Some
 returns-in-Some c =
-    rw c.in-Head.is (enters_marked c.args.frames c.args.bytes.now c.args.tally.now _ c.in-Some.ensures)
+    let (within, settled) = c.in-Some.ensures in rw c.in-Head.is (
+      refl,
+      within,
+      omega arith,
+      IsOpen-nil c.args.frames.framing,
+      λ input messages (on, same, empty). (
+        [],
+        rw (append-nil messages, same, empty)
+            (record { body = drop c.in-Some.size c.args.bytes.now; settled = rw on settled; framed = refl }),
+        inl (refl, refl),
+      ),
+    )
 
 pub returns-in-Frame : goal.returns-in-Frame
-returns-in-Frame c = rw c.in-Frame.is (enters_frame c.args.frames c.args.bytes.now c.args.tally.now c.args.seen
-    c.requires.within (rw c.in-Frame.is at c.requires.seen))
+returns-in-Frame c = (
+  c.in-Frame.is,
+  omega arith,
+  c.requires.within,
+  rw c.in-Frame.is at c.requires.seen,
+  rw c.in-Frame.is (λ input messages opened. ([], rw (append-nil messages) opened, inl (refl, refl))),
+)
 
 pub returns-in-Ok : goal.returns-in-Ok
-returns-in-Ok c = rw c.in-Long.is (enters_ended c.args.frames c.args.bytes.now c.args.tally.now _ _ _
-    c.count_long.ensures c.in-Ok.ensures.within c.in-Ok.ensures.ends)
+returns-in-Ok c = rw c.in-Long.is (
+  refl,
+  c.in-Ok.ensures.within,
+  omega arith,
+  IsOpen-nil c.args.frames.framing,
+  λ input messages here.
+      let (message, opened, long) = long_ends c.args.frames _ c.args.bytes.now _ c.in-Ok.ensures.ends input messages
+      here in
+      (message ∷ [], opened, inr (message, refl, long, c.count_long.ensures)),
+)
 
 pub returns-in-Err : goal.returns-in-Err
-returns-in-Err c = rw c.in-Long.is (stays_long c.args.frames c.args.bytes.now c.args.tally.now _ _ c.in-Err.ensures.ends)
+returns-in-Err c = rw (c.in-Long.is, drop-length) (
+  refl,
+  omega arith,
+  refl,
+  λ input messages here. long_goes_on c.args.frames _ _ c.args.bytes.now c.in-Err.ensures.ends input messages here,
+)
