@@ -24,12 +24,6 @@ pub IsUncounted-front : (framing : Framing) (front more : List ℕ) → IsUncoun
 IsUncounted-front framing front more none = λ octets rest is.
     none octets (rest ++ more) (IsCounted-more framing front octets rest more is)
 
--- what is counted is no longer than the bytes
-pub IsCounted-some : (framing : Framing) (bytes : List ℕ) (octets : ℕ) (rest : List ℕ)
-    → IsCounted framing bytes octets rest → length rest < length bytes
-IsCounted-some framing bytes octets rest (on, digits, count, same) =
-    omega (arith, ap length same, length-append digits (32 ∷ rest))
-
 -- ten bytes show whether there is a count
 pub IsUncounted-more : (framing : Framing) (front more : List ℕ) → 10 ≤ length front → IsUncounted framing front
     → IsUncounted framing (front ++ more)

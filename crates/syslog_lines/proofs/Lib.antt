@@ -7,7 +7,6 @@ pub mod FrameLemmas
 pub mod LineLemmas
 pub mod CountLemmas
 pub mod AnswerLemmas
-pub mod BlockLemmas
 pub mod MarkLemmas
 pub mod PlaceLemmas
 pub mod WholeLemmas

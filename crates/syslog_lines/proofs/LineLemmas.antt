@@ -1,11 +1,11 @@
 -- Lines and the place of the first line feed.
-use Rattle.syslog_lines.proofs.Names.{List, append-nil, take-append-drop, All-append, IsFirstLine, EndsInFeed}
+use Rattle.syslog_lines.proofs.Names.{List, append-nil, All-append, IsFirstLine, EndsInFeed}
 use Rattle.syslog_lines.proofs.Names.{◌≡◌, length, eq-eqb, eqb-true, All-nil, NoFeed, IsLines}
-use Rattle.syslog_lines.proofs.Names.{◌≢◌, ◌+◌, ◌-◌, ◌<◌, ◌∷◌, ◌++◌, take, drop, refl, sym, ◌∙◌, subst, arith}
+use Rattle.syslog_lines.proofs.Names.{◌≢◌, ◌+◌, ◌-◌, ◌<◌, ◌∷◌, ◌++◌, take, refl, sym, ◌∙◌, subst, arith}
 use Rattle.syslog_lines.proofs.Names.{◌≤◌, ℕ, [], ap, inl, inr, slice_index}
 use Rattle.std.{proofs.Common.length-append, proofs.Math.Seq.drop-append_seam, proofs.Math.Seq.take-append_seam}
-use Rattle.std.proofs.lemmas.List.{get_or-append-add, get_or-drop, length-drop, append_assoc}
-use Rattle.std.proofs.lemmas.List.Elements.{All-from_get_or, All-cons, All-drop, All-take}
+use Rattle.std.proofs.lemmas.List.{get_or-append-add, length-take, append_assoc}
+use Rattle.std.proofs.lemmas.List.Elements.{All-cons, All-drop, All-take}
 use Rattle.std.specs.List.{All}
 use Rattle.std.proofs.Common.{Bool, true, false, Option, None, Some, ◌==◌}
 use Rattle.std.proofs.lemmas.Bool.{cases_Bool}
@@ -158,59 +158,22 @@ pub without_last_same : (byte : ℕ) (message : List ℕ) → slice_index messag
     → without_last byte message ≡ take (length message - 1) message
 without_last_same byte message same = rw (eq-eqb (slice_index message (length message - 1)) byte same) refl
 
-pub line_of_none : (message : List ℕ) → length message ≡ 0 → line_of true message ≡ message
-line_of_none message none =
-    rw (without_last_none 13 message none, without_last_none 0 message none) refl
-
-pub line_of_other : (message : List ℕ) → 13 < slice_index message (length message - 1) → line_of true message ≡ message
-line_of_other message high =
-    let one : without_last 13 message ≡ message = without_last_other 13 message (λ is. omega (arith, is, high)) in
-    rw one (without_last_other 0 message (λ is. omega (arith, is, high)))
-
--- the line is what the message begins with, and at most so many bytes follow it, up to a carriage return
-pub record IsFront (few : ℕ) (line message : List ℕ) : Type 0 where
-  pub rest : List ℕ
-  pub split : message ≡ line ++ rest
-  pub short : length rest ≤ few
-  pub low : All (λ byte. byte ≤ 13) rest
-
-front_whole : (few : ℕ) (message : List ℕ) → IsFront few message message
-front_whole few message =
-    record { rest = []; split = sym (append-nil message); short = omega arith; low = All-nil (λ (byte : ℕ). byte ≤ 13) }
-
-front_last : (byte : ℕ) (message : List ℕ) → byte ≤ 13 → IsFront 1 (without_last byte message) message
-front_last byte message low = elim (cases_Bool (slice_index message (length message - 1) == byte)) [
-  | inr other ↦ rw other (front_whole 1 message)
-  | inl same ↦
-      let last : ℕ = length message - 1 in
-      let long = length-drop last message in rw same (record {
-        rest = drop last message;
-        split = sym (take-append-drop last message);
-        short = omega (arith, long);
-        low = All-from_get_or (λ (byte : ℕ). byte ≤ 13) (drop last message) 0 (λ k below.
-            let only : last + k ≡ last = omega (arith, long) in
-            rw (get_or-drop last message k 0, only) (omega (arith, low, eqb-true (slice_index message last) byte same)));
-      })
-]
-
-pub line_front : (strips : Bool) (message : List ℕ) → IsFront 2 (line_of strips message) message
-line_front false message = front_whole 2 message
-line_front true message =
-    let first = front_last 13 message (omega arith) in
-    let second = front_last 0 (without_last 13 message) (omega arith) in record {
-      rest = second.rest ++ first.rest;
-      split = first.split ∙ ap (λ (l : List ℕ). l ++ first.rest) second.split
-          ∙ append_assoc (line_of true message) second.rest first.rest;
-      short = omega (arith, first.short, second.short, length-append second.rest first.rest);
-      low = All-append (λ (byte : ℕ). byte ≤ 13) second.rest first.rest second.low first.low;
-    }
+without_last_size : (byte : ℕ) (message : List ℕ) → (length (without_last byte message) ≤ length message)
+    × (length message ≤ length (without_last byte message) + 1)
+without_last_size byte message =
+    let cut = length-take (length message - 1) message in
+    elim (cases_Bool (slice_index message (length message - 1) == byte)) [
+      | inl last ↦ rw last (omega (arith, cut), omega (arith, cut))
+      | inr other ↦ rw other (omega arith, omega arith)
+    ]
 
 line_size : (strips : Bool) (message : List ℕ) → (length (line_of strips message) ≤ length message)
     × (length message ≤ length (line_of strips message) + 2)
-line_size strips message =
-    let front = line_front strips message in
-    let long = length-append (line_of strips message) front.rest in
-    (omega (arith, ap length front.split, long), omega (arith, ap length front.split, long, front.short))
+line_size false message = (omega arith, omega arith)
+line_size true message =
+    let first = without_last_size 13 message in
+    let second = without_last_size 0 (without_last 13 message) in
+    (omega (arith, first.0, second.0), omega (arith, first.1, second.1))
 
 pub is_above-less : (longest : Option ℕ) (less more : ℕ) → less ≤ more → is_above longest more ≡ false
     → is_above longest less ≡ false

@@ -1,12 +1,11 @@
 -- The place of the bytes that come next, as more is read and as frames end.
-use Rattle.syslog_lines.proofs.Names.{◌≡◌, ◌<◌, ◌≤◌, ℕ, List, [], ◌∷◌, ◌++◌, length, take, inl, inr, refl, sym}
-use Rattle.syslog_lines.proofs.Names.{◌∙◌, ap, subst, arith, append_assoc, append-nil, Bool, true, Option, Some, ◌+◌}
+use Rattle.syslog_lines.proofs.Names.{◌≡◌, ◌<◌, ◌≤◌, ℕ, List, [], ◌∷◌, ◌++◌, length, inl, inr, refl}
+use Rattle.syslog_lines.proofs.Names.{◌∙◌, ap, arith, append_assoc, append-nil, Bool, true, Option, Some, ◌+◌}
 use Rattle.std.proofs.Common.{length-append, None}
-use Rattle.std.proofs.Math.Seq.{take-append_seam}
 use Rattle.std.proofs.lemmas.List.Elements.{All-from_recursion}
 use Rattle.syslog_lines.specs.Frames.{AreFrames, HasAllFrames, HasBody, HasFrames, IsCutFrame}
 use Rattle.syslog_lines.specs.Frames.{IsOpen, mark}
-use Rattle.syslog_lines.specs.Place.{IsAt, IsCutBy, IsHeld, IsLongFront, IsMarkFront, IsSeen, Opened}
+use Rattle.syslog_lines.specs.Place.{IsAt, IsCutBy, IsHeld, IsLongFront, IsMarkFront, Opened}
 use Rattle.syslog_lines.specs.declared.framing.Framing.{Framing}
 use Rattle.syslog_lines.specs.declared.framing.Frames.{Frames}
 use Rattle.syslog_lines.specs.declared.place.Place.{Place}
@@ -126,12 +125,6 @@ IsAt-read frames (Long missing) input messages bytes piece (front, part, opened,
   some,
   cut,
 )
-
-pub IsSeen-held : (framing : Framing) (place : Place) (bytes piece : List ℕ) → IsHeld framing place bytes
-    → IsSeen framing place (take (length bytes) (bytes ++ piece))
-IsSeen-held framing Head bytes piece held = tt
-IsSeen-held framing Frame bytes piece unended = subst (IsOpen framing) (sym (take-append_seam bytes piece)) unended
-IsSeen-held framing (Long missing) bytes piece held = tt
 
 -- ---- the end of the input
 

@@ -214,9 +214,6 @@ module _ {frames : Frames} {filter : Filter} {in_before in_mid out_before out_mi
 
   -- the end of the input
   module _ (bytes : List ℕ) (ended : Consumes in_mid in_after [] × IsAtEnd in_after × (bytes ≡ held)) where
-    pub held_last : IsHeld frames.framing place bytes
-    held_last = rw ended.2 so_far.shut
-
     module _ (all : List ℕ) (is : Tally) {X E : Type 0} (r : Result X E)
         (goes : Goes frames place bytes (HasAllFrames frames)
         (λ more. Adds frames (taken frames filter) more [] all was is r)) where

@@ -15,7 +15,7 @@ use Rattle.syslog_lines.specs.declared.framing.Framing.{Framing}
 use Rattle.syslog_lines.specs.declared.framing.Framing.TheVariants.{LineFeeds}
 use Rattle.syslog_lines.specs.declared.framing.Frames.{Frames}
 use Rattle.syslog_lines.specs.declared.place.Place.TheVariants.{Long}
-use Rattle.syslog_lines.proofs.FrameLemmas.{IsCounted-more, counted_frame, ended_frame, IsCounted-some, IsUncounted-front}
+use Rattle.syslog_lines.proofs.FrameLemmas.{IsCounted-more, counted_frame, ended_frame, IsUncounted-front}
 use Rattle.syslog_lines.proofs.FrameLemmas.{IsUncounted-more}
 use Rattle.syslog_lines.proofs.PlaceLemmas.{Opened-frames}
 
@@ -92,9 +92,6 @@ module _ (framing : Framing) (bytes : List ℕ) (head octets : ℕ) (within : he
   pub counted_cut : length bytes - head < octets → IsOpen framing bytes
   counted_cut few = (drop head bytes, inl (octets, omega (arith, length-drop head bytes), counted))
 
-  pub counted_some : 0 < head
-  counted_some = omega (arith, IsCounted-some framing bytes octets (drop head bytes) counted, length-drop head bytes)
-
 -- the frame that bytes begin with, and what follows it
 pub one_frame : (framing : Framing) (bytes message : List ℕ) (size : ℕ) → IsFrame framing message (take size bytes)
     → AreFrames framing bytes (message ∷ []) (drop size bytes)
@@ -111,12 +108,6 @@ module _ (framing : Framing) (bytes : List ℕ) where
         take left bytes,
         inl (rw size at (IsCounted-more framing front (length part + left) part (take left bytes) counted)),
       )
-
-  pub goes_on_octets : (left : ℕ) → length bytes < left → Ends framing (Some left) bytes (Err (Some (left - length bytes)))
-  goes_on_octets left fewer front part some (missing, counted) =
-      let size : length part + left ≡ length (part ++ bytes) + (left - length bytes) =
-      omega (arith, length-append part bytes) in
-      (omega arith, rw size at (IsCounted-more framing front (length part + left) part bytes counted))
 
   pub ends_ending : (end : ℕ) → NoneBefore (Passes (is_byte (ending_of framing)) bytes) 0 (length bytes) end
       → Passes (is_byte (ending_of framing)) bytes end → Ends framing None bytes (Ok (end + 1))

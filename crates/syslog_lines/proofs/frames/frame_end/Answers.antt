@@ -1,5 +1,5 @@
 use Rattle.syslog_lines.proofs.Names.{◌≡◌, arith}
-use Rattle.syslog_lines.proofs.WholeLemmas.{ends_ending, ends_octets, goes_on_ending, goes_on_octets}
+use Rattle.syslog_lines.proofs.WholeLemmas.{ends_ending, ends_octets, goes_on_ending}
 use Rattle.syslog_lines.proofs.frames.frame_end.Goals as goal
 
 pub returns-in-Some-2-clause-ends : goal.returns-in-Some-2-clause-ends
@@ -15,7 +15,3 @@ returns-in-Some-memchr-clause-ends c =
 pub returns-in-None-memchr-clause-ends : goal.returns-in-None-memchr-clause-ends
 returns-in-None-memchr-clause-ends c =
     rw c.in-None.is (goes_on_ending c.args.framing c.args.bytes.now (rw c.ending.ensures at c.in-None-memchr.ensures))
-
-pub returns-in-Some-clause-ends : goal.returns-in-Some-clause-ends
-returns-in-Some-clause-ends c =
-    rw c.in-Some.is (goes_on_octets c.args.framing c.args.bytes.now c.in-Some.left (omega arith))

@@ -1,5 +1,5 @@
 use Rattle.syslog_lines.proofs.Names.{◌≡◌, ◌+◌, ◌-◌, arith}
-use Rattle.syslog_lines.proofs.WholeLemmas.{counted_cut, counted_some, counted_whole}
+use Rattle.syslog_lines.proofs.WholeLemmas.{counted_cut, counted_whole}
 use Rattle.syslog_lines.proofs.frames.whole_frame.Goals as goal
 
 pub returns-then-octets-bytes-clause-whole : goal.returns-then-octets-bytes-clause-whole
@@ -12,8 +12,3 @@ returns-clause-whole c =
     let size : c.in-Some.head + c.in-Some.octets - c.in-Some.head ≡ c.in-Some.octets = omega arith in
     rw size (counted_whole c.args.framing c.args.bytes.now c.in-Some.head c.in-Some.octets c.in-Some.ensures.within
     c.in-Some.ensures.counted c.if-octets-bytes.false)
-
-pub returns-clause-within : goal.returns-clause-within
-returns-clause-within c =
-    let some = counted_some c.args.framing c.args.bytes.now c.in-Some.head c.in-Some.octets c.in-Some.ensures.within
-    c.in-Some.ensures.counted in (omega (arith, some), omega (arith, c.in-Some.ensures.within, c.if-octets-bytes.false))

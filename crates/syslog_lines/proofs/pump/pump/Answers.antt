@@ -1,10 +1,8 @@
-use Rattle.syslog_lines.proofs.Names.{arith, length, Appends-kept, take_all, Memory, Write, ap, sym, held_bytes}
-use Rattle.std.proofs.Common.{length-append}
+use Rattle.syslog_lines.proofs.Names.{arith, length, Appends-kept, take_all, Memory, Write, ap, sym}
 use Rattle.syslog_lines.proofs.AnswerLemmas.{IfErr-passed}
-use Rattle.syslog_lines.proofs.PlaceLemmas.{IsSeen-held}
 use Rattle.syslog_lines.proofs.PumpLemmas.{EndsEarly-cut, EndsEarly-refused, EndsEarly-stopped, EndsEarly-unbegun}
 use Rattle.syslog_lines.proofs.PumpLemmas.{PumpedSoFar-more, PumpedSoFar-start, PumpsAll-last, Reached-last}
-use Rattle.syslog_lines.proofs.PumpLemmas.{Reached-more, held_last}
+use Rattle.syslog_lines.proofs.PumpLemmas.{Reached-more}
 use Rattle.syslog_lines.proofs.pump.pump.Goals as goal
 
 pub returns-in_err-block-clause-err : goal.returns-in_err-block-clause-err
@@ -23,21 +21,6 @@ returns-in_err-fill-clause-err g c =
     IfErr-passed _ c.in_err-fill.field-0.0 _ c.from_residual-in_err-fill.ensures.1
     (EndsEarly-stopped c.loop-block.invariant.so_far _ _ c.in_err-fill.field-0.0 c.in_err-fill.ensures.unchanged
     c.in_err-fill.ensures.err)
-
-pub filter_held-past-requires-clause-within : goal.filter_held-past-requires-clause-within
-filter_held-past-requires-clause-within g c =
-    let filled = rw (c.if-branch.true, ← c.held.ensures) at c.in_ok-fill.ensures.ok in
-    omega (
-      arith,
-      ap length filled.2,
-      length-append (held_bytes c.loop-block.block) filled.0,
-      c.loop-block.invariant.seen,
-    )
-
-pub filter_held-past-requires-clause-seen : goal.filter_held-past-requires-clause-seen
-filter_held-past-requires-clause-seen g c =
-    let filled = rw (c.if-branch.true, ← c.held.ensures) at c.in_ok-fill.ensures.ok in
-    rw (c.loop-block.invariant.seen, filled.2) (IsSeen-held _ _ _ filled.0 c.loop-block.invariant.so_far.shut)
 
 pub returns-in_err-write_whole-clause-err : goal.returns-in_err-write_whole-clause-err
 returns-in_err-write_whole-clause-err g c =
@@ -63,11 +46,6 @@ loop-block-preserved g c =
       reader_well = c.in_ok-fill.ensures.well;
       writer_well = c.in_ok-write_whole.ensures.well;
     }
-
-pub filter_last-answered-requires : goal.filter_last-answered-requires
-filter_last-answered-requires g c =
-    let ended = rw (c.if-branch.false, ← c.held-2.ensures) at c.in_ok-fill.ensures.ok in
-    held_last c.loop-block.invariant.so_far _ _ ended
 
 pub returns-in_err-write_whole-2-clause-err : goal.returns-in_err-write_whole-2-clause-err
 returns-in_err-write_whole-2-clause-err g c =

@@ -2,9 +2,6 @@ use Rattle.syslog_lines.proofs.Names.{◌+◌, drop, drop-drop, take_rest}
 use Rattle.syslog_lines.proofs.HeldLemmas.{held_goes, held_only, held_stops}
 use Rattle.syslog_lines.proofs.apply.Collected.filter_held.Goals as goal
 
-pub filter_frames-requires-clause-within : goal.filter_frames-requires-clause-within
-filter_frames-requires-clause-within g c = rw (take_rest c.args.bytes.now c.in-After.start) c.in-After.ensures.2
-
 pub filter_frames-requires-clause-open : goal.filter_frames-requires-clause-open
 filter_frames-requires-clause-open g c = rw (take_rest c.args.bytes.now c.in-After.start) c.in-After.ensures.3
 

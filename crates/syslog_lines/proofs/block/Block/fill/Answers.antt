@@ -2,19 +2,6 @@ use Rattle.syslog_lines.proofs.Names.{◌≡◌, ◌+◌, ◌++◌, take, drop, 
 use Rattle.std.proofs.Math.Seq.{take-add}
 use Rattle.syslog_lines.proofs.block.Block.fill.Goals as goal
 
-pub returns-then-count-eq0-clause-ok : goal.returns-then-count-eq0-clause-ok
-returns-then-count-eq0-clause-ok g c =
-    let at = c.make_room.new.self.end in
-    let room = c.make_room.new.self.bytes.items in
-    let none = c.in_ok-make_room.ensures.passed ∙ c.keep_held.ensures.passed in
-    let moved : held_bytes c.make_room.new.self ≡ take at room = ap (λ (n : ℕ). drop n (take at room)) none in
-    let cut : held_bytes c.args.self.now ≡ take at c.read_into.new.bytes.items =
-    sym c.keep_held.ensures.held ∙ sym c.in_ok-make_room.ensures.held ∙ moved ∙ sym c.in-Ok.ensures.front in (
-      rw c.if-count-eq0.true at c.in-Ok.ensures.ok,
-      c.in-Ok.ensures.end c.if-count-eq0.true,
-      ap (λ (n : ℕ). drop n (take at c.read_into.new.bytes.items)) none ∙ sym cut,
-    )
-
 pub returns-clause-ok : goal.returns-clause-ok
 returns-clause-ok g c =
     let at = c.make_room.new.self.end in

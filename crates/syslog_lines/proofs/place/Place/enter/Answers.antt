@@ -19,15 +19,6 @@ returns-in-Some c =
       ),
     )
 
-pub returns-in-Frame : goal.returns-in-Frame
-returns-in-Frame c = (
-  c.in-Frame.is,
-  omega arith,
-  c.requires.within,
-  rw c.in-Frame.is at c.requires.seen,
-  rw c.in-Frame.is (λ input messages opened. ([], rw (append-nil messages) opened, inl (refl, refl))),
-)
-
 pub returns-in-Ok : goal.returns-in-Ok
 returns-in-Ok c = rw c.in-Long.is (
   refl,

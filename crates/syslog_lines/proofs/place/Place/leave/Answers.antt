@@ -13,6 +13,3 @@ returns-clause-at c = λ input messages opened.
       some,
       c.cut_message-missing.ensures,
     )
-
-pub returns-clause-held : goal.returns-clause-held
-returns-clause-held c = drop-length c.args.bytes.now
