@@ -13,8 +13,3 @@ returns g c =
     let first = rw c.deref-2.ensures.value at c.begins_unblank_params.ensures in
     let n = id.0 refl in
     ((λ h. (n.0, n.1, params.0 refl, first.0 h)), (λ h. first.1 h.3))
-
-pub returns-then-not-are_canonical_params : goal.returns-then-not-are_canonical_params
-returns-then-not-are_canonical_params g c =
-    let params = rw c.deref.ensures.value at c.if-not-are_canonical_params.ensures in
-    false_is (λ h. no_truth (params.1 h.2))

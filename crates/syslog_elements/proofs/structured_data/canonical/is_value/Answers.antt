@@ -19,6 +19,3 @@ pub returns-in_default-first : goal.returns-in_default-first
 returns-in_default-first c =
     value_lone _ _ _ _ c.split_run.ensures c.units.invariant.1 _ _ c.in-Some.ensures.0 c.if-c-eq34.false
     c.in_default-first.ensures
-
-pub units-smaller : goal.units-smaller
-units-smaller c = after_two c.split_run.ensures c.in-Some.ensures.0 c.in-Some-first.ensures.0

@@ -5,11 +5,5 @@ use Rattle.syslog_elements.proofs.structured_data.escapes.unescape.Goals as goal
 pub texts-init : goal.texts-init
 texts-init c = (search rules, means_here _ _ (ap chars c.new-out.ensures.bytes ∙ chars-nil))
 
-pub returns-in_default : goal.returns-in_default
-returns-in_default c = means_all c.texts.invariant.1 c.in_default.ensures
-
 pub texts-preserved : goal.texts-preserved
 texts-preserved c = (search rules, means_more c.texts.invariant.1 c.in-Some.ensures.0 c.in_ok-push_text.ensures)
-
-pub texts-smaller : goal.texts-smaller
-texts-smaller c = c.in-Some.ensures.1

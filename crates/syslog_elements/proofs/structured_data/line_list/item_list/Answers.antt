@@ -4,9 +4,6 @@ use Rattle.syslog_elements.specs.StructuredData.Unparsed.{IsUnparsed}
 use Rattle.syslog_elements.proofs.StructuredDataLemmas.Tallies.{own_differs, own_items, own_prints}
 use Rattle.syslog_elements.proofs.structured_data.line_list.item_list.Goals as goal
 
-pub broken_part-unparsed-requires : goal.broken_part-unparsed-requires
-broken_part-unparsed-requires c = let (vs, items, t, left) = c.requires in (left.unparsed, left.is)
-
 own_left : (piece own u w rest t : Text) → t ≡ piece ++ rest → t ≡ own ++ rest → w ≡ u → IsUnparsed piece u
     → IsUnparsed own w
 own_left piece own u w rest t e cut same left = subst (λ (x : Text). IsUnparsed own x) (sym same)

@@ -55,6 +55,3 @@ elements-preserved g c =
           ((λ all. and_from _ _ all refl), (λ all. (and_parts _ _ all).0)) c.element.ensures,
       c.elements.invariant.2,
     )
-
-pub elements-smaller : goal.elements-smaller
-elements-smaller g c = let (w, some) = c.in-Some.ensures.walked in element_shorter _ _ _ w.front

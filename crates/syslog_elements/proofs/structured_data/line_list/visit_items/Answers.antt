@@ -73,6 +73,3 @@ items-preserved g c =
             broken = b;
           }) c.or-tally.ensures),
     )
-
-pub items-smaller : goal.items-smaller
-items-smaller g c = item_shorter _ _ None (bracketed_item _ _ c.in-Err.ensures.walked.0 c.in-Some.ensures.1)

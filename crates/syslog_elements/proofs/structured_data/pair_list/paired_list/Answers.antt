@@ -24,9 +24,6 @@ returns-then-not-allows-clause-list c =
     let (ps, f, n) = c.in_ok-count.ensures in
     no_paired_unended (row_of open_row (c.in_ok-inside.ensures then f then refl)) c.if-not-allows.ensures
 
-pub of_pairs-requires : goal.of_pairs-requires
-of_pairs-requires c = (_, c.in_ok-count.ensures)
-
 pub returns-clause-list : goal.returns-clause-list
 returns-clause-list c =
     let (ps, f, n) = c.in_ok-count.ensures in

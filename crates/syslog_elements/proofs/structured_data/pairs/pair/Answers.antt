@@ -4,11 +4,6 @@ use Rattle.syslog_elements.specs.StructuredData.Pairs.{pair_of, pair_row}
 use Rattle.syslog_elements.proofs.StructuredDataLemmas.Pairs.{pair_row_det}
 use Rattle.syslog_elements.proofs.structured_data.pairs.pair.Goals as goal
 
-pub returns-in_err-name : goal.returns-in_err-name
-returns-in_err-name c = rw c.from_residual.ensures (no_mapped (Row pair_row) (Text × Text) pair_of
-    (no_row pair_row pair_row_det
-    (inl c.in_err-name.ensures)))
-
 pub returns-in_err-after_colon : goal.returns-in_err-after_colon
 returns-in_err-after_colon c = rw c.from_residual-in_err-after_colon.ensures
     (no_mapped (Row pair_row) (Text × Text) pair_of (no_row pair_row pair_row_det

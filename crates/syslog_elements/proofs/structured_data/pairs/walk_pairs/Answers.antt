@@ -28,9 +28,6 @@ pairs-preserved c =
       ),
     )
 
-pub pairs-smaller : goal.pairs-smaller
-pairs-smaller c = pair_shorter c.in-Some.ensures
-
 pub returns-in_err-after : goal.returns-in_err-after
 returns-in_err-after c =
     let (ps, runs, same, room) = c.pairs.invariant.1 in

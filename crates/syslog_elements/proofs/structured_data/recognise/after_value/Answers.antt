@@ -15,6 +15,3 @@ pub units-preserved : goal.units-preserved
 units-preserved c =
     let (utf8, u) = c.in_ok-more.ensures in
     (utf8, value_on unescaped_plain c.split_run.ensures c.units.invariant.1 _ u.1 _ u.2)
-
-pub units-smaller : goal.units-smaller
-units-smaller c = let u = c.in_ok-more.ensures.1 in unit_after _ c.split_run.ensures u.0 u.2

@@ -22,6 +22,3 @@ returns c =
     then refl in
     let no_sooner = opens_no_sooner c.in_ok-name.ensures c.in_ok-after_equals.ensures _ c.in_default.ensures in
     (row_of opening_row row, false_is no_sooner)
-
-pub returns-in_err-name : goal.returns-in_err-name
-returns-in_err-name c = rw c.from_residual.ensures (no_row opening_row opening_det (search rules))

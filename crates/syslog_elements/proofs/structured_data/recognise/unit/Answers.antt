@@ -14,6 +14,3 @@ returns-else-c-eq92 c =
     let e = c.in_ok-c.ensures.0 in
     let no_quote = λ (f : c.in_ok-c.c ≡ 34). c.requires (34 ∷ []) (chars c.in_ok-c.more.now) tt (rw f at e) refl in
     (c.in_ok-c.ensures.1, (single c.in_ok-c.c, (c.if-c-eq92.false, no_quote), e, refl))
-
-pub returns-in_err-c : goal.returns-in_err-c
-returns-in_err-c c = rw c.from_residual.ensures (no_quoted_short [] c.in_err-c.ensures (omega arith) (λ r f. cc))

@@ -34,6 +34,3 @@ returns-in-Some-after_value c =
 
 pub returns-in-None : goal.returns-in-None
 returns-in-None c = value_missing _ _ c.units.invariant.1 c.in-None.ensures
-
-pub units-smaller : goal.units-smaller
-units-smaller c = let u = c.in-Some-unit.ensures.1 in unit_after _ c.split_run.ensures u.0 u.2

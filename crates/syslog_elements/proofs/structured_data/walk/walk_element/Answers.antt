@@ -88,12 +88,3 @@ params-preserved g c =
     let o = c.in-Some-open_param.ensures in
     let on = goes_on at o.0 c.value_before.ensures o.1 c.in-Some-literal-3.ensures in
     (search rules, (_, on, c.push.ensures ps noted))
-
-pub returns-in_default-nonempty_run-clause-walked : goal.returns-in_default-nonempty_run-clause-walked
-returns-in_default-nonempty_run-clause-walked g c =
-    (no_start (no_row start_row start_det (c.in-Some.ensures past inl c.in_default-nonempty_run.ensures)), c.requires)
-
-pub params-smaller : goal.params-smaller
-params-smaller g c =
-    next_shorter c.params.invariant.1.1 c.in-Some-open_param.ensures.0 c.value_before.ensures
-    c.in-Some-literal-3.ensures

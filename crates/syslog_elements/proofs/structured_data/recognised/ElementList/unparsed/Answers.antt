@@ -11,12 +11,6 @@ returns-then-is_empty c =
     let none = nil_from_length _ (chars_empty list.unparsed.now (search rules)) in
     ([], subst (IsUnparsed (chars list.text.now)) (nothing_left list.text.now list.unparsed.now none) list.left, refl)
 
-pub returns-then-is_empty-2 : goal.returns-then-is_empty-2
-returns-then-is_empty-2 c =
-    let list = c.args.self.now in
-    let none = none_left_in list.text.now list.unparsed.now (search rules) in
-    ([], subst (IsUnparsed (chars list.text.now)) none list.left, refl)
-
 pub returns-else-is_empty-2 : goal.returns-else-is_empty-2
 returns-else-is_empty-2 c =
     let list = c.args.self.now in
