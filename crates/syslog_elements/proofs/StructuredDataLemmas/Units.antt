@@ -365,13 +365,6 @@ pub copies_more : {X Y V : Type 0} (f : X → V) (h : Y → V) (xs : List X) {x 
 copies_more f h xs {x} ys {new} {y} so_far e same =
     ap (map h) e ∙ rw (map-append h ys (y ∷ []), map-append f xs (x ∷ []), so_far, same) refl
 
-pub copies_step : {X Y V : Type 0} (f : X → V) (h : Y → V) (xs : List X) (i : ℕ) (d : X) (ys : List Y)
-    {new : List Y} {y : Y} → i < length xs → map h ys ≡ map f (take i xs) → new ≡ ys ++ (y ∷ [])
-    → h y ≡ f (get_or xs i d)
-    → map h new ≡ map f (take (i + 1) xs)
-copies_step f h xs i d ys l so_far e same =
-    rw (take_more xs i d l) (copies_more f h (take i xs) ys so_far e same)
-
 -- one parameter more that is the same in both
 pub front_more : {S : Type 0} (text : S → Text) (xs ys : List (S × S)) (i : ℕ) (x y : S × S) → i < length xs → i <
     length ys → x ≡ get_or xs i x → y ≡ get_or ys i y → map (param_value text) (take i xs) ≡ map (param_value text)

@@ -352,12 +352,6 @@ module _ {text inner at id : Text} {ps : List (Text × Text)} {count : ℕ} {mar
           → NoFront element text × IsDead text d
       not_separated n m d e = value_breaks value_passes value_meets f (no_more param 32 93 y n m) d e
 
-      -- what is after a space that follows the value is shorter
-      pub next_shorter : {z : Text} → Front (exactly (32 ∷ [])) y z tt → length z < length at
-      next_shorter g =
-          let l = front_longer (exactly (32 ∷ [])) g in
-          omega (arith, front_longer opening o, ap length (quoted_text f), length-append v (34 ∷ y), l)
-
       more_counted : count + 1 ≡ length (ps ++ ((name, v) ∷ []))
       more_counted = omega (arith, w.counted, length-append ps ((name, v) ∷ []))
 

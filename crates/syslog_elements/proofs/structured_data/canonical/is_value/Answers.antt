@@ -1,4 +1,3 @@
-use Rattle.syslog_text.proofs.TextLemmas.Runs.{after_two}
 use Rattle.syslog_elements.proofs.StructuredDataLemmas.Closing.{value_at_end, value_at_quote, value_lone, value_further}
 use Rattle.syslog_elements.proofs.structured_data.canonical.is_value.Goals as goal
 

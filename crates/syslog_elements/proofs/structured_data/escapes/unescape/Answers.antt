@@ -1,5 +1,5 @@
 use Rattle.syslog_elements.proofs.Names.{rules, ap, ◌∙◌, chars-nil, chars}
-use Rattle.syslog_elements.proofs.StructuredDataLemmas.Units.{means_all, means_here, means_more}
+use Rattle.syslog_elements.proofs.StructuredDataLemmas.Units.{means_here, means_more}
 use Rattle.syslog_elements.proofs.structured_data.escapes.unescape.Goals as goal
 
 pub texts-init : goal.texts-init

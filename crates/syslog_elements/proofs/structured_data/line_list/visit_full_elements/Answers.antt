@@ -1,6 +1,6 @@
 use Rattle.syslog_elements.proofs.Names.{rules, refl, sym, ap, ◌∙◌, ◌+◌, ℕ, full_element, and_from, and_parts, map}
 use Rattle.syslog_elements.proofs.Names.{Some, true}
-use Rattle.syslog_elements.proofs.StructuredDataLemmas.Elements.{strict_some, element_shorter}
+use Rattle.syslog_elements.proofs.StructuredDataLemmas.Elements.{strict_some}
 use Rattle.syslog_elements.proofs.StructuredDataLemmas.Walk.{are_full_items}
 use Rattle.syslog_elements.proofs.StructuredDataLemmas.Tallies.{gone_none, gone_all, gone_within, gone_on}
 use Rattle.syslog_elements.proofs.StructuredDataLemmas.Tallies.{gone_tallied, gone_visits}

@@ -1,6 +1,5 @@
 use Rattle.syslog_elements.proofs.Names.{meets_none}
 use Rattle.syslog_elements.proofs.StructuredDataLemmas.Closing.{unescaped_plain, past_run, value_quoted, value_on}
-use Rattle.syslog_elements.proofs.StructuredDataLemmas.Closing.{unit_after}
 use Rattle.syslog_elements.proofs.structured_data.recognise.after_value.Goals as goal
 
 pub returns-in-Some : goal.returns-in-Some

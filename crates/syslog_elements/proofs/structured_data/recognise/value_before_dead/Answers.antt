@@ -1,6 +1,6 @@
 use Rattle.syslog_elements.proofs.Names.{arith, ◌≤◌, ◌∙◌, chars, byte_count}
 use Rattle.syslog_elements.proofs.StructuredDataLemmas.Closing.{byte_count_slice, past_run, value_quoted, value_missing}
-use Rattle.syslog_elements.proofs.StructuredDataLemmas.Closing.{inert_plain, value_on, value_dead, dead_on, unit_after}
+use Rattle.syslog_elements.proofs.StructuredDataLemmas.Closing.{inert_plain, value_on, value_dead, dead_on}
 use Rattle.syslog_elements.proofs.structured_data.recognise.value_before_dead.Goals as goal
 
 pub returns-in-Some : goal.returns-in-Some

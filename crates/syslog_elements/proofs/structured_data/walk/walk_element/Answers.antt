@@ -1,10 +1,10 @@
 use Rattle.std.proofs.Common.{eq-eqb}
 use Rattle.syslog_elements.proofs.Names.{ElementValue, start_row, eqb-true, length, no_row, rules, arith, subst, refl}
-use Rattle.syslog_elements.proofs.Names.{[], sym, ◌+◌, ◌≤◌, ◌past◌, inl, err_from_is_err_and}
+use Rattle.syslog_elements.proofs.Names.{[], sym, ◌+◌, ◌≤◌, inl, err_from_is_err_and}
 use Rattle.syslog_elements.proofs.StructuredDataLemmas.Closing.{byte_count_slice, dead_suffix, no_start}
 use Rattle.syslog_elements.proofs.StructuredDataLemmas.Walk.{bare_inside, bare_walked, at_first, not_opened}
 use Rattle.syslog_elements.proofs.StructuredDataLemmas.Walk.{value_passes, not_closed, not_separated, ends, ends_walked}
-use Rattle.syslog_elements.proofs.StructuredDataLemmas.Walk.{goes_on, more_room, chars_length, next_shorter}
+use Rattle.syslog_elements.proofs.StructuredDataLemmas.Walk.{goes_on, more_room, chars_length}
 use Rattle.syslog_elements.proofs.StructuredDataLemmas.Elements.{start_det}
 use Rattle.syslog_elements.proofs.structured_data.walk.walk_element.Goals as goal
 
