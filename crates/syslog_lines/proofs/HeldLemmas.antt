@@ -92,7 +92,8 @@ module _ (frames : Frames) (filter : Filter) (place next : Place) (bytes start :
     (entered : Goes frames place bytes (λ input messages. Opened frames input messages start) (Skips frames was then))
     (old new : List ℕ) where
   pub held_goes : (rest left : List ℕ) (is : Tally)
-      → AddsWhole frames (taken frames filter) start rest (Some old) (Some new) then is → IsHeld frames.framing next left
+      → AddsWhole frames (taken frames filter) start rest (Some old) (Some new) then is
+      → IsHeld frames.framing next left
       → ((input : List ℕ) (messages : List (List ℕ)) → Opened frames input messages rest
       → IsAt frames next input messages left)
       → Goes frames place bytes

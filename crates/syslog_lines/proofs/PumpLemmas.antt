@@ -141,7 +141,8 @@ module _ {frames : Frames} {filter : Filter} {in_before in_after out_before out_
       reached.lines ++ reached.more,
       reached.can,
       WroteCut-after reached.wrote
-          (WroteCut-collected frames (taken frames filter) reached.more all out_mid out_after part was is r reached.adds),
+          (WroteCut-collected frames (taken frames filter) reached.more all out_mid out_after part was is r
+          reached.adds),
     )
 
     -- memory was refused for a line

@@ -152,8 +152,8 @@ long_ends frames missing bytes end ends input messages (front, part, opened, lon
 
 -- it goes on after them
 pub long_goes_on : (frames : Frames) (missing left : Option ℕ) (bytes : List ℕ)
-    → Ends frames.framing missing bytes (Err left) → (input : List ℕ) → (messages : List (List ℕ)) → IsAt frames (Long missing) input messages bytes
-    → IsAt frames (Long left) input messages []
+    → Ends frames.framing missing bytes (Err left) → (input : List ℕ) → (messages : List (List ℕ))
+    → IsAt frames (Long missing) input messages bytes → IsAt frames (Long left) input messages []
 long_goes_on frames missing left bytes goes_on input messages (front, part, opened, long, some, cut) = (
   front ++ bytes,
   part ++ bytes,

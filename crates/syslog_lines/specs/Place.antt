@@ -1,8 +1,8 @@
 -- Where in the input the bytes are that were read and are not done with.
 use Rattle.std.specs.Prelude.{◌≡◌, ◌+◌, ◌<◌, ◌≤◌, ⊤, ◌⊎◌, ℕ, Bool, true, false, List, [], ◌∷◌, ◌++◌, Option, Some, None}
 use Rattle.std.specs.Prelude.{IfOk, MatchResult, Result, length, take, drop}
-use Rattle.syslog_lines.specs.Frames.{AreFrames, HasBody, HasFrames, IsCounted, IsFrame, IsOpen, IsUncounted, NoByte, ending_of, mark}
-use Rattle.syslog_lines.specs.Frames.{is_too_long}
+use Rattle.syslog_lines.specs.Frames.{AreFrames, HasBody, HasFrames, IsCounted, IsFrame, IsOpen}
+use Rattle.syslog_lines.specs.Frames.{IsUncounted, NoByte, ending_of, is_too_long, mark}
 use Rattle.syslog_lines.specs.declared.framing.Framing.{Framing}
 use Rattle.syslog_lines.specs.declared.framing.Frames.{Frames}
 use Rattle.syslog_lines.specs.declared.place.Place.{Place}

@@ -15,7 +15,8 @@ pub returns-in-Some-clause-first : goal.returns-in-Some-clause-first
 returns-in-Some-clause-first c =
     let (first, feed) = rw c.as_bytes.ensures.value at c.in-Some.ensures in
     let (free, split) = first_ending 10 c.args.text.now c.in-Some.end first feed in
-    rw (c.range.ensures.value ∙ between_is c.args.text.now 0 c.in-Some.end, c.range_from.ensures.value) (free, inl split)
+    rw (c.range.ensures.value ∙ between_is c.args.text.now 0 c.in-Some.end, c.range_from.ensures.value)
+    (free, inl split)
 
 pub returns-in-None-clause-first : goal.returns-in-None-clause-first
 returns-in-None-clause-first c =

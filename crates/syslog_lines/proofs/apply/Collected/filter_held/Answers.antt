@@ -29,5 +29,5 @@ pub leave-requires-clause-open : goal.leave-requires-clause-open
 leave-requires-clause-open g c =
     let bytes = c.args.bytes.now in
     let start = c.in-After.start in
-    rw (take_rest bytes (start + c.in_ok-size.size)) (rw (take_rest bytes start, drop-drop c.in_ok-size.size start bytes)
-    at c.in_ok-size.ensures.open)
+    rw (take_rest bytes (start + c.in_ok-size.size))
+    (rw (take_rest bytes start, drop-drop c.in_ok-size.size start bytes) at c.in_ok-size.ensures.open)
