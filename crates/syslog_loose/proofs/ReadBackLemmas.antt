@@ -28,7 +28,8 @@ use Rattle.syslog_loose.proofs.CanonicalLemmas.{near_completed}
 use Rattle.syslog_loose.proofs.Rfc3164Lemmas.Near.{read_near, read_nearly, stamp_read}
 use Rattle.syslog_loose.specs.ReadBack.{AnswersItself, FieldsAsRead, AnswersAgain}
 use Rattle.syslog_loose.proofs.ReadingLemmas.{Found, value}
-use Rattle.syslog_loose.proofs.Rfc3164Lemmas.ReadBack.{rfc3164_exact, stamp_low}
+use Rattle.syslog_loose.proofs.Rfc3164Lemmas.ReadBack.{stamp_low}
+use Rattle.syslog_loose.proofs.SettlingLemmas.Falls.{rfc3164_exact}
 use Rattle.std.proofs.Math.Utf8.{scalar, scalars, low_scalar}
 use Rattle.std.proofs.lemmas.Bool.{and_from, and_parts, cond_both}
 use Rattle.syslog_pieces.proofs.TimestampLemmas.Digits.{is_stamp_character, stamp_range}

@@ -19,7 +19,7 @@ use Rattle.syslog_loose.proofs.Names.{front_same, row_det, Begins, begins_apart,
 use Rattle.syslog_loose.proofs.Names.{priority_composed, rfc3164_stamp_det, stamped_date_begins, stamp_text_canonical}
 use Rattle.syslog_loose.proofs.Names.{printed_stamp-visible, printed_stamp-begins, suc, nil_from_length, BeginsNoList}
 use Rattle.syslog_loose.proofs.Names.{IsDashBefore, IsDashed, HasNoNameQuirk, dash_rule, no_full_nil, EndsOnce}
-use Rattle.syslog_loose.proofs.Names.{HasRank, Prints, drop, list_any, BeginsNoDashes}
+use Rattle.syslog_loose.proofs.Names.{HasRank, Prints, drop, list_any, BeginsNoDashes, IsCanonical, IsBounded, IsSome, RFC3164, ◌↔◌}
 use Rattle.std.proofs.lemmas.List.{take-append-drop}
 use Rattle.std.proofs.lemmas.List.Prefix.{end_rest}
 use Rattle.syslog_loose.proofs.SettlingLemmas.Weights.{Decided, decided, find_run, no_char, no_list_by, no_list_inner}
@@ -29,14 +29,14 @@ use Rattle.syslog_loose.proofs.Rfc3164Lemmas.{resolves_once, from_blanks, to_col
 use Rattle.syslog_loose.proofs.Rfc3164Lemmas.{rfc3164_bounded, printed_3164_is, to_stamp, to_stamp_det, from_stamp}
 use Rattle.syslog_loose.proofs.Rfc3164Lemmas.{body_det, told}
 use Rattle.syslog_text.proofs.PieceLemmas.Class.{firsts}
-use Rattle.syslog_loose.proofs.CanonicalLemmas.{canonical_names}
+use Rattle.syslog_loose.proofs.CanonicalLemmas.{canonical_names, near_canonical}
 use Rattle.syslog_loose.proofs.Rfc3164Lemmas.ReadBack.{program_field, resolved, no_tag_colon, names_back, tagged}
 use Rattle.syslog_loose.proofs.Rfc3164Lemmas.ReadBack.{host_field_back, program_text, stamp_low, body_back, stamp_back}
-use Rattle.syslog_loose.proofs.Rfc3164Lemmas.ReadBack.{to_stamp_back, trimmed_whole}
+use Rattle.syslog_loose.proofs.Rfc3164Lemmas.ReadBack.{to_stamp_back, trimmed_whole, canonical_back}
 use Rattle.syslog_pieces.proofs.TimestampLemmas.Rfc3339.{stamp_each, space_ends}
 use Rattle.syslog_loose.specs.Printed.{printed_3164}
 use Rattle.syslog_loose.proofs.PrintedLemmas.{priority_small, message_blanks}
-use Rattle.syslog_loose.proofs.Rfc3164Lemmas.Near.{read_near}
+use Rattle.syslog_loose.proofs.Rfc3164Lemmas.Near.{read_near, read_nearly}
 
 -- ---- what is known of a text
 
@@ -156,10 +156,12 @@ module _ (rule : DashRule) (t : Text) (n : Names3164) (vs : Values (body_row rul
   abbrev pub LosesColon : Option Text → Type 0
   LosesColon h = (x : Text) × (h ≡ Some (x ++ colon)) × IfSome n.hostname (λ y. y ≡ x)
 
-  -- lighter names, and a message part that costs nothing: a process name was cut at a colon, or a host lost one
+  -- lighter names, and, but for a process name with a colon by the crate's rule of the dash, a message part that costs
+  -- nothing: a process name was cut at a colon, or a host lost one
   abbrev pub Moved : Option Text → Option (ProcId Text) → Type 0
   Moved h p = (names_weight n.hostname n.procid < names_weight h p)
-      × (elements_or vs.1.1.1.1.1.0 ≡ [] → BeginsNoList rule vs.1.1.1.1.1.1.1.0)
+      × ((rule ≡ BeforeBlank) ⊎ IfSome p HasNoColon → elements_or vs.1.1.1.1.1.0 ≡ []
+      → BeginsNoList rule vs.1.1.1.1.1.1.1.0)
       × (((IfSome p HasNoColon → ⊥) × HasQuietNames n.hostname n.procid) ⊎ LosesColon h)
 
   abbrev pub Step : Option Text → Option Text → Option (ProcId Text) → Type 0
@@ -189,11 +191,11 @@ module _ (rule : DashRule) (t : Text) (n : Names3164) (vs : Values (body_row rul
         after = after;
       }
 
-  cut_moved : (h a : Option Text) (p : Option (ProcId Text)) → Cut p → rule ≡ BeforeBlank → h ≡ None
-      → AreNamesButQuirks h a p → Reads (names_text h a p t) → Moved h p
-  cut_moved (Some h) a p c blank e near d = cc
-  cut_moved None None p (x, z, is, free) blank e near d = absurd (rw is at near)
-  cut_moved None (Some a) p (x, z, is, free) blank e near d =
+  cut_moved : (h a : Option Text) (p : Option (ProcId Text)) → Cut p → h ≡ None → AreNamesButQuirks h a p
+      → Reads (names_text h a p t) → Moved h p
+  cut_moved (Some h) a p c e near d = cc
+  cut_moved None None p (x, z, is, free) e near d = absurd (rw is at near)
+  cut_moved None (Some a) p (x, z, is, free) e near d =
       let w : Text = a ++ (91 ∷ x) in
       let q : Text = z ++ (93 ∷ 58 ∷ t) in
       let (label, (some, inner, number)) = rw is at near in
@@ -212,7 +214,10 @@ module _ (rule : DashRule) (t : Text) (n : Names3164) (vs : Values (body_row rul
         | inr (form, e) ↦ e
       ] in (
         rw (is, tag_alone, has_colon x z) (omega arith),
-        left_none rule q q vs.1.1.1.1 (no_blanks q no_blank) after (rw blank no_list),
+        λ dashes. elim dashes [
+          | inl blank ↦ left_none rule q q vs.1.1.1.1 (no_blanks q no_blank) after (rw blank no_list)
+          | inr whole ↦ absurd (cut_colon p (x, z, is, free) whole)
+        ],
         inl (cut_colon p (x, z, is, free), rw tag_alone (quiet_names None None tt tt)),
       )
 
@@ -221,7 +226,8 @@ module _ (rule : DashRule) (t : Text) (n : Names3164) (vs : Values (body_row rul
       → names_weight n.hostname n.procid < names_weight (Some h) None → LosesColon (Some h) → Moved (Some h) None
   colon_moved h d l how =
       let gap = piece_front (run is_blank) (32 ∷ []) (58 ∷ t) tt ((refl, tt), refl) in
-      (l, left_none rule _ _ vs.1.1.1.1 gap d (no_list_by rule 58 t (λ e. omega arith) (λ e. omega arith)), inr how)
+      let none = no_list_by rule 58 t (λ e. omega arith) (λ e. omega arith) in
+      (l, λ _. left_none rule _ _ vs.1.1.1.1 gap d none, inr how)
 
   colons_moved : (h : Text) → Each is_not_whitespace (h ++ colon) → Reads (names_text (Some (h ++ colon)) None None t)
       → Moved (Some (h ++ colon)) None
@@ -255,14 +261,10 @@ module _ (rule : DashRule) (t : Text) (n : Names3164) (vs : Values (body_row rul
 
   pub names_step : (h a : Option Text) (p : Option (ProcId Text)) → IfSome h IsVisible
       → IfSome h (λ x. IsOddHost x → a ≡ None) → AreNamesButQuirks h a p → IfSome p HasNoColon ⊎ (h ≡ None)
-      → (rule ≡ BeforeBlank) ⊎ IfSome p HasNoColon → IfSome p IsBoundedProcess → Reads (names_text h a p t) → Step h a p
-  names_step h a p k o near cut dashes b d = elim (whole_or_cut p) [
+      → IfSome p IsBoundedProcess → Reads (names_text h a p t) → Step h a p
+  names_step h a p k o near cut b d = elim (whole_or_cut p) [
     | inl c ↦ whole_step h a p k o (canonical_names h a p near c) c b d
-    | inr c ↦ elim cut [
-      | inl k ↦ absurd (cut_colon p c k)
-      | inr e ↦
-          elim dashes [ inl blank ↦ inr (cut_moved h a p c blank e near d) | inr k ↦ absurd (cut_colon p c k) ]
-    ]
+    | inr c ↦ elim cut [ inl k ↦ absurd (cut_colon p c k) | inr e ↦ inr (cut_moved h a p c e near d) ]
   ]
 
 -- ---- elements and the message after the colon
@@ -364,7 +366,7 @@ no_end : (t : Text) → t ≡ [] → BeginsNoList dash_rule t
 no_end t e = ((λ q f before. let z : [] ≡ 45 ∷ q = sym e ∙ f in cc), λ p q v f h. no_full_nil p q v (sym e ∙ f) h)
 
 module _ (rule : DashRule) (first second : Dating) (text : Text) (m n : MessageValue) (r : IsRead3164 rule first text m)
-    (s : IsRead3164 rule second (printed m) n) (dashes : (rule ≡ BeforeBlank) ⊎ IfSome m.procid HasNoColon) where
+    (s : IsRead3164 rule second (printed m) n) where
   near : HasQuirksAlone m
   near = read_near rule first text m r
 
@@ -401,7 +403,7 @@ module _ (rule : DashRule) (first second : Dating) (text : Text) (m n : MessageV
 
   named_as : Tail (32 ∷ after_space m) → Named
   named_as = names_step rule (tail_text m.structured_data m.msg) s.means.0 s.values.1.1.1 s.means.1 m.hostname m.appname
-      m.procid near.hostname near.odd_host near.names near.colon_process dashes
+      m.procid near.hostname near.odd_host near.names near.colon_process
       (rfc3164_bounded rule first text m r).procid
 
   named : IfSome m.timestamp IsCanonicalStamp → Named
@@ -413,7 +415,8 @@ module _ (rule : DashRule) (first second : Dating) (text : Text) (m n : MessageV
   ended k = end_read rule m.structured_data m.msg near.elements near.parameters near.msg_front _ k.after
 
   -- ---- weights
-  module _ (w v : ℕ) (x : Weighs rule m w) (y : Weighs rule n v) where
+  module _ (dashes : (rule ≡ BeforeBlank) ⊎ IfSome m.procid HasNoColon) (w v : ℕ) (x : Weighs rule m w)
+      (y : Weighs rule n v) where
     z : Weighs rule (told rule second s.values s.means.0) v
     z = subst (λ (u : MessageValue). Weighs rule u v) s.means.2 y
 
@@ -427,7 +430,7 @@ module _ (rule : DashRule) (first second : Dating) (text : Text) (m n : MessageV
     tail_falls : Tail (32 ∷ after_space m)
         → (new < old) ⊎ ((new ≤ old) × (s.values.1.1.0 ≡ m.timestamp → printed n ≡ printed m))
     tail_falls d = elim (named_as d) [
-      | inr (lighter, none, _) ↦ inl (omega (arith, lighter, free z.taken_is none))
+      | inr (lighter, none, _) ↦ inl (omega (arith, lighter, free z.taken_is (none dashes)))
       | inl k ↦ elim (ended k) [
         | inl (es, msg, none) ↦ inr (
           omega (arith, k.light, free z.taken_is (λ e. rw msg (none (sym es ∙ e)))),
@@ -502,6 +505,35 @@ module _ (rule : DashRule) (first second : Dating) (text : Text) (m n : MessageV
     | inr (_, _, inr (x, is, _)) ↦ absurd ((rw is at q.names.no_last_colon) (x, refl))
   ]
 
+-- ---- read back from the printed text exactly where it is canonical
+
+-- a message that is read as itself has not moved, so it has none of the quirks
+read_is_canonical : (rule : DashRule) (dating : Dating) (m : MessageValue) → IsRead3164 rule dating (printed m) m
+    → IsCanonical rule m
+read_is_canonical rule dating m s =
+    let same = s.means.2 in
+    let first = stamped rule dating dating (printed m) m m s s in
+    let (_, _, there, _, _) = priority_composed (priority_of m) (priority_small m) in
+    let facility : IsSome m.facility = rw (ap (λ (x : MessageValue). x.facility) same,
+    ap (λ (x : Values to_stamp). x.0) first.0, there) refl in
+    let stamp = canonical rule dating dating (printed m) m m s s in
+    elim (named rule dating dating (printed m) m m s s stamp) [
+      | inr moved ↦
+          absurd (omega (arith, moved.0, ap (λ (x : MessageValue). names_weight x.hostname x.procid) same))
+      | inl stays ↦ elim (ended rule dating dating (printed m) m m s s stays) [
+        | inr other ↦ absurd (omega (arith, other.2, ap (λ (x : MessageValue). length x.msg) same))
+        | inl kept ↦ near_canonical rule m (
+          read_nearly rule dating (printed m) m s facility,
+          record { timestamp = stamp; names = rw same stays.quiet; no_list = kept.2 },
+        )
+      ]
+    ]
+
+pub rfc3164_exact : (rule : DashRule) (dating : Dating) (m : MessageValue) → m.protocol ≡ RFC3164 → IsBounded m
+    → IsRead3164 rule dating (printed m) m ↔ IsCanonical rule m
+rfc3164_exact rule dating m e b =
+    (read_is_canonical rule dating m, λ c. rw (printed_3164_is m e) (canonical_back rule dating m e b c))
+
 module _ (first second : Dating) (text : Text) (m n : MessageValue) (r : IsRead3164 BeforeBlank first text m)
     (s : IsRead3164 BeforeBlank second (printed m) n) where
   abbrev EndedSo : Type 0
@@ -529,10 +561,10 @@ module _ (first second : Dating) (text : Text) (m n : MessageValue) (r : IsRead3
   ])
 
   abbrev quiet : IfSome m.timestamp IsCanonicalStamp → IfSome m.hostname (λ h. EndsInColon h → ⊥) → HasNoNameQuirk n
-  quiet = quiet_falls BeforeBlank first second text m n r s (inl refl)
+  quiet = quiet_falls BeforeBlank first second text m n r s
 
   abbrev end : HasNoNameQuirk m → EndedSo
-  end = quiet_ended BeforeBlank first second text m n r s (inl refl)
+  end = quiet_ended BeforeBlank first second text m n r s
 
   -- the rank of what a pass prints of a message falls
   pub rank_falls : (x : MessageValue) (k : ℕ) → Prints x m → HasRank (suc k) x → HasRank k n
@@ -544,8 +576,8 @@ module _ (first second : Dating) (text : Text) (m n : MessageValue) (r : IsRead3
       let q = p.quiet still in (quiet q.timestamp q.names.no_last_colon, no_dashes (end q) (p.last_dash still))
   rank_falls x (suc (suc zero)) p (stamp, host) = quiet (rw p.timestamp stamp) (rw (p.host host) host)
   rank_falls x (suc (suc (suc zero))) p stamp = (
-    canonical BeforeBlank first second text m n r s (inl refl),
-    host_falls BeforeBlank first second text m n r s (inl refl) (rw p.timestamp stamp) (p.one_colon stamp),
+    canonical BeforeBlank first second text m n r s,
+    host_falls BeforeBlank first second text m n r s (rw p.timestamp stamp) (p.one_colon stamp),
   )
-  rank_falls x (suc (suc (suc (suc zero)))) p h = canonical BeforeBlank first second text m n r s (inl refl)
+  rank_falls x (suc (suc (suc (suc zero)))) p h = canonical BeforeBlank first second text m n r s
   rank_falls x (suc (suc (suc (suc (suc k))))) p h = tt

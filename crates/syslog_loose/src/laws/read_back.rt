@@ -57,6 +57,7 @@ pub fn canonical_rfc3164_has_no_quirk()
 /// The printed text of a message, read under `Either` or the message's own variant, is read as the message itself
 /// exactly if that meets the written condition, for every year and zone. The message as which a text is read is the
 /// only one.
+#[tactic(auto, using(crate::proofs::ReadBackLemmas::printed_exact, crate::proofs::ReadBackLemmas::only_read_exact))]
 pub fn printed_is_read_back_exactly()
     ensures read { (variant : Variant) (dating : Dating) (m : MessageValue) → ReadsProtocol variant m.protocol
         → IsBounded m
@@ -67,6 +68,7 @@ pub fn printed_is_read_back_exactly()
 {}
 
 /// The message of one line prints as one line: if a text has no line feed, the printed text of its message has none.
+#[tactic(auto, using(crate::proofs::ReadBackLemmas::printed_line))]
 pub fn message_of_one_line_prints_as_one()
     ensures { (variant : Variant) (dating : Dating) (text : Text) (m : MessageValue) → IsRead variant dating text m
         → IsOneLine text

@@ -32,6 +32,7 @@ pub fn settled_text_is_of_a_canonical_message()
 
 /// Rounds become stable, or one of them does not parse. For a text of n characters, one of the rounds 1 to n + 1 is
 /// stable, or there is no round n + 2.
+#[tactic(auto, using(crate::proofs::SettlingLemmas::Settles::rests))]
 pub fn rounds_come_to_rest()
     ensures { (variant : Variant) (dating : Dating) (text u : Text) → NoneSettled variant dating text (length text + 1)
         → IsRound variant dating text (length text + 2) u → ⊥ }

@@ -29,6 +29,7 @@ pub fn each_pass_lowers_the_rank()
 {}
 
 /// A message has one weight, and no more than one.
+#[tactic(auto, using(crate::proofs::SettlingLemmas::Weights::once, crate::proofs::SettlingLemmas::Weights::weight))]
 pub fn one_weight()
     ensures once { (rule : DashRule) (m : MessageValue) (w v : ℕ) → Weighs rule m w → Weighs rule m v → w ≡ v }
     ensures some { (rule : DashRule) (m : MessageValue) → (w : ℕ) × Weighs rule m w }

@@ -1,4 +1,4 @@
-use Rattle.syslog_loose.proofs.Rfc3164Lemmas.ReadBack.{rfc3164_exact}
+use Rattle.syslog_loose.proofs.SettlingLemmas.Falls.{rfc3164_exact}
 use Rattle.syslog_loose.proofs.laws.read_back.rfc3164_is_read_back_exactly.Goals as goal
 
 pub returns : goal.returns
