@@ -1,5 +1,5 @@
 -- What is read as RFC 3164 meets the condition, but for its exceptions.
-use Rattle.syslog_loose.proofs.Names.{◌≡◌, ◌≢◌, ◌<◌, ◌⊎◌, ◌∷◌, ◌++◌, ◌∙◌, ℕ, inl, inr, Bool, List, [], length, Option}
+use Rattle.syslog_loose.proofs.Names.{◌≡◌, ◌≢◌, ◌↔◌, ◌<◌, ◌⊎◌, ◌∷◌, ◌++◌, ◌∙◌, ℕ, inl, inr, Bool, List, [], length, Option}
 use Rattle.syslog_loose.proofs.Names.{Some, None, IfSome, IsSome, refl, sym, ap, subst, append_assoc, arith, option_map}
 use Rattle.syslog_loose.proofs.Names.{IfSome_then, is_not_whitespace, AllByRecursion, unwrap_or, Text, Front, Each, run}
 use Rattle.syslog_loose.proofs.Names.{skip_leading_whitespace, Ends, optional, spaced, IsBareWord, IsMany, priority}
@@ -102,39 +102,31 @@ no_colon_process id (Name t) (none, e) a = rw e a
 
 -- ---- what the two fields mean
 
--- with no colon in the process but where the host field's text names it, and with the host that the host field holds
-pub record NearNames (origin : Option (Option Text)) (n : Names3164) : Type 0 where
+-- with no colon in the process but where a lone text names it
+pub record NearNames (program : Option (Option Text)) (n : Names3164) : Type 0 where
   pub visible : IfSome n.hostname IsVisible
   pub odd_host : IfSome n.hostname (λ h. IsOddHost h → n.appname ≡ None)
   pub names : AreNamesButQuirks n.hostname n.appname n.procid
-  pub colon : IfSome n.procid HasNoColon ⊎ ((h : Text) × (origin ≡ Some (Some h)) × (n.hostname ≡ None))
-  pub host_is : IfSome n.hostname (λ h. origin ≡ Some (Some h))
-
-abbrev CanonicalField : Option (Option Text) → Option Text → Option Text → Type 0
-CanonicalField v host app =
-    IfSome host IsVisible × IfSome host (λ h. IsOddHost h → app ≡ None) × IfSome host (λ h. v ≡ Some (Some h))
+  pub colon : IfSome n.procid HasNoColon ⊎ ((n.hostname ≡ None) × (program ≡ None))
 
 -- before a space the host is not odd
-before_space : (q : Text) (v : Option (Option Text)) (app : Option Text) → HostField q v
-    → ((r : Text) × (q ≡ 32 ∷ r)) → CanonicalField v (unwrap_or v None) app
-before_space q (Some (Some h)) app (v, o) (r, w) = (
-  v,
-  λ x. absurd (let (s, y) = o x in let t : ◌≡◌ {A = ℕ} 58 32 = heads 58 32 s r (sym y ∙ w) in omega arith),
-  refl,
-)
-before_space q field app k s = (tt, tt, tt)
+before_space : (q : Text) (v : Option (Option Text)) (app : Option Text) → HostField q v → ((r : Text) × (q ≡ 32 ∷ r))
+    → IfSome (unwrap_or v None) IsVisible × IfSome (unwrap_or v None) (λ h. IsOddHost h → app ≡ None)
+before_space q (Some (Some h)) app (v, o) (r, w) =
+    (v, λ x. absurd (let (s, y) = o x in let t : ◌≡◌ {A = ℕ} 58 32 = heads 58 32 s r (sym y ∙ w) in omega arith))
+before_space q field app k s = (tt, tt)
 
 pub near_names : (q : Text) (origin program : Option (Option Text)) (n : Names3164) → Resolves origin program n
-    → HostField q origin → TagField q program → NearNames origin n
-near_names q = of_names (λ v t n. HostField q v → TagField q t → NearNames v n) (record {
-  nobody = λ v t a b. record { visible = tt; odd_host = tt; names = tt; colon = inl tt; host_is = tt };
-  host = λ h none a b. record { visible = a.0; odd_host = λ o. refl; names = none; colon = inl tt; host_is = refl };
+    → HostField q origin → TagField q program → NearNames program n
+near_names q = of_names (λ v t n. HostField q v → TagField q t → NearNames t n) (record {
+  nobody = λ v t a b. record { visible = tt; odd_host = tt; names = tt; colon = inl tt };
+  host = λ h none a b. record { visible = a.0; odd_host = λ o. refl; names = none; colon = inl tt };
   lone = λ h tag id p f g a b. let parts = form_parts h tag id f in
       let visible = within_form is_not_whitespace parts a.0.1 in
       let inner = inner_process id p g parts.some visible parts.unclosed in
-      record { visible = tt; odd_host = tt; names = (parts.label, inner); colon = inr (h, refl, refl); host_is = tt };
+      record { visible = tt; odd_host = tt; names = (parts.label, inner); colon = inr (refl, refl) };
   app = λ v t none a b. let o = before_space q v (Some t) a b.1 in
-      record { visible = o.0; odd_host = o.1; names = (b.0.0, b.0.1, b.0.2, none); colon = inl tt; host_is = o.2 };
+      record { visible = o.0; odd_host = o.1; names = (b.0.0, b.0.1, b.0.2, none); colon = inl tt };
   process = λ v t tag id p f g a b.
       let parts = form_parts t tag id f in
       let inside = within_form is_tag_char parts b.0.1 in
@@ -142,7 +134,7 @@ near_names q = of_names (λ v t n. HostField q v → TagField q t → NearNames 
       let o = before_space q v (Some tag) a b.1 in
       let inner = inner_process id p g parts.some visible parts.unclosed in
       let colon = no_colon_process id p g (each_right is_not_whitespace is_no_colon id inside) in
-      record { visible = o.0; odd_host = o.1; names = (parts.label, inner); colon = inl colon; host_is = o.2 };
+      record { visible = o.0; odd_host = o.1; names = (parts.label, inner); colon = inl colon };
 })
 
 -- ---- the message
@@ -158,7 +150,7 @@ module _ (rule : DashRule) (dating : Dating) (text : Text) where
       (tag_field t4 t5 v.1.1.1.1.0 g5) in
       let canonical = field_canonical rule g9.piece t9 v.1.1.1.1.1.1.1.1.0 g9.is in
       let colon : IfSome n.procid HasNoColon ⊎ (n.hostname ≡ None) =
-      elim near.colon [ inl k ↦ inl k | inr (h, e, none) ↦ inr none ] in
+      elim near.colon [ inl k ↦ inl k | inr (none, _) ↦ inr none ] in
       let front = subst (λ (x : Text). Ends is_blank x) (rest_whole g11) g10.is.1 in
       let end = last_ends (stamped_row dating ++ (fields_row ++ (optional (rfc3164_list rule) ∷ run is_blank ∷ []))) row
       (drop_ends (skip_leading_whitespace text)) in rw means (search (canonical.0, canonical.1) parts 1)
@@ -194,12 +186,10 @@ module _ (rule : DashRule) (dating : Dating) (text : Text) where
 -- ---- what is already in printed form
 
 -- a name of the form of a tag and a bare id, before `: `
-formed_prints : (name tag id : Text) (process : ProcId Text) → IsForm name tag id → IsBareWord id
-    → NamesProcess id process → (q : Text) → name ++ (58 ∷ 32 ∷ q) ≡ tag_text (Some tag) (Some process) ++ q
-formed_prints name tag id process f bare named q =
-    let parts = form_parts name tag id f in
-    let e = bare_prints id process bare named in
-    ap (λ (x : Text). x ++ (58 ∷ 32 ∷ q)) parts.whole ∙ simp (e, append_assoc) refl
+formed_prints : {name tag id : Text} → FormParts name tag id → (process : ProcId Text) → IsBareWord id
+    → NamesProcess id process → name ++ (58 ∷ 32 ∷ []) ≡ tag_text (Some tag) (Some process)
+formed_prints {id = id} parts process bare named =
+    rw (parts.whole, bare_prints id process bare named) (simp append_assoc)
 
 -- the text of a number has no bracket
 digits_open : (t : Text) → Each is_ascii_digit t → Each is_open_char t
@@ -230,14 +220,20 @@ form_bare id p tag name between parts named e =
     )
 
 module _ {tail t u name : Text} {origin : Option Text} (f : Front (optional (spaced host)) tail t (Some origin))
-    (g : Front (optional (spaced tag_word)) t u (Some (Some name))) where
-  -- a host field and a program before `: `
-  fields_printed : (msg : Text) (app : Option Text) (process : Option (ProcId Text)) → u ≡ 58 ∷ 32 ∷ msg
-      → name ++ (58 ∷ 32 ∷ msg) ≡ tag_text app process ++ msg → tail ≡ fields_before (names origin app process) msg
-  fields_printed msg app process e prints =
+    (g : Front (optional (spaced tag_word)) t u (Some (Some name))) (between msg : Text) (w : u ≡ between ++ msg) where
+  -- a host field and a program are in printed form where the program and what is before the message print as the tag
+  fields_printed : (app : Option Text) (process : Option (ProcId Text))
+      → (name ++ between ≡ tag_text app process) ↔ (tail ≡ fields_before (names origin app process) msg)
+  fields_printed app process =
       let (x, before, h) = spaced_parts host (present_front (spaced host) f) in
-      let (y, between, i) = spaced_parts tag_word (present_front (spaced tag_word) g) in
-      cc (before, h.whole, verbatim.host_text h.piece _ origin h.is, between, i.whole, i.is.3.0, e, prints)
+      let (y, after, i) = spaced_parts tag_word (present_front (spaced tag_word) g) in
+      let own : tail ≡ 32 ∷ (name_text origin ++ (32 ∷ (name ++ (between ++ msg)))) =
+      cc (before, h.whole, verbatim.host_text h.piece _ origin h.is, after, i.whole, i.is.3.0, w) in (
+        λ same. own ∙ ap (λ (z : Text). 32 ∷ (name_text origin ++ (32 ∷ z)))
+            (sym (append_assoc name between msg) ∙ ap (λ (z : Text). z ++ msg) same),
+        λ e. append_cancel_right (name ++ between) (tag_text app process) msg (append_cancel_left
+            (32 ∷ (name_text origin ++ (32 ∷ []))) _ _ (simp append_assoc (sym own ∙ e))),
+      )
 
   -- what they mean is quiet
   fields_quiet : (app : Text) (process : Option (ProcId Text)) → Resolves (Some origin) (Some (Some name))
@@ -248,60 +244,42 @@ module _ {tail t u name : Text} {origin : Option Text} (f : Front (optional (spa
       record {
         no_dash = IfSome_then origin near.odd_host (λ x odd is. (let none = odd (inl is) in cc));
         no_last_colon = IfSome_then origin near.odd_host (λ x odd is. (let none = odd (inr is) in cc));
-        no_colon = elim near.colon [ inl none ↦ none | inr (z, is, none) ↦ absurd (cc) ];
+        no_colon = elim near.colon [ inl none ↦ none | inr (_, none) ↦ absurd (cc) ];
       }
 
-  abbrev FieldsKnown : Text → Names3164 → Type 0
-  FieldsKnown msg n = (tail ≡ fields_before n msg) × HasQuietNames n.hostname n.procid
+  -- the text of the process is bare, and `: ` is before the message
+  abbrev IsBareBefore : Option Text → Type 0
+  IsBareBefore process = IfSome process IsBareWord × (between ≡ 58 ∷ 32 ∷ [])
 
-  -- so where the text of a process is bare, all of them are in printed form and quiet
-  pub fields_known : (msg : Text) (h a process : Option Text) → u ≡ 58 ∷ 32 ∷ msg → NamesProgram origin name
-      (names h a (option_map named_process process)) → IsIdOf name process → IfSome
-      process IsBareWord → FieldsKnown msg (names h a (option_map named_process process))
-  fields_known msg h a None e (inl (tag, id, p, form, named, same)) of bare =
+  -- so all of them are in printed form exactly where that holds; and they are quiet
+  abbrev FieldsTold : Option Text → Names3164 → Type 0
+  FieldsTold process n = (IsBareBefore process ↔ (tail ≡ fields_before n msg)) × HasQuietNames n.hostname n.procid
+
+  pub fields_told : (h a process : Option Text) → NamesProgram origin name
+      (names h a (option_map named_process process)) → IsIdOf name process
+      → FieldsTold process (names h a (option_map named_process process))
+  fields_told h a None (inl (tag, id, p, form, named, same)) of =
       absurd (let none = ap (λ (x : Names3164). x.procid) same in cc)
-  fields_known msg h a None e (inr (none, same)) of bare =
-      subst (FieldsKnown msg) (sym same) (
-        fields_printed msg (Some name) None e (sym (append_assoc name (58 ∷ 32 ∷ []) msg)),
+  fields_told h a None (inr (none, same)) of =
+      let prints = fields_printed (Some name) None in
+      subst (FieldsTold None) (sym same) (
+        (
+          λ k. prints.0 (ap (λ (x : Text). name ++ x) k.1),
+          λ e. (tt, append_cancel_left name between (58 ∷ 32 ∷ []) (prints.1 e)),
+        ),
         fields_quiet name None (inr (none, refl)),
       )
-  fields_known msg h a (Some word) e (inl (tag, id, p, form, named, same)) (tag', form') bare =
-      let bare' : IsBareWord id = subst IsBareWord (sym (one_form name tag id tag' word form form').1) bare in
-      subst (FieldsKnown msg) (sym same) (
-        fields_printed msg (Some tag) (Some p) e (formed_prints name tag id p form bare' named msg),
+  fields_told h a (Some word) (inl (tag, id, p, form, named, same)) (tag', form') =
+      let prints = fields_printed (Some tag) (Some p) in
+      let parts = form_parts name tag id form in
+      let own = (one_form name tag id tag' word form form').1 in
+      subst (FieldsTold (Some word)) (sym same) (
+        (
+          λ (bare, end). prints.0 (rw end (formed_prints parts p (subst IsBareWord (sym own) bare) named)),
+          λ e. let (bare, end) = form_bare id p tag name between parts named (prints.1 e) in
+              (subst IsBareWord own bare, end),
+        ),
         fields_quiet tag (Some p) (inl (tag, id, p, form, named, refl)),
       )
-  fields_known msg h a (Some word) e (inr (none, same)) of bare =
-      absurd (let none = ap (λ (x : Names3164). x.procid) same in cc)
-
-  -- where they are in printed form, a name and what is before the message print as the tag
-  names_printed : (between msg : Text) (app : Option Text) (process : Option (ProcId Text)) → u ≡ between ++ msg
-      → tail ≡ fields_before (names origin app process) msg → name ++ between ≡ tag_text app process
-  names_printed between msg app process w e =
-      let (x, before, h) = spaced_parts host (present_front (spaced host) f) in
-      let (y, after, i) = spaced_parts tag_word (present_front (spaced tag_word) g) in
-      let own : tail ≡ 32 ∷ (name_text origin ++ (32 ∷ (name ++ (between ++ msg)))) =
-      cc (before, h.whole, verbatim.host_text h.piece _ origin h.is, after, i.whole, i.is.3.0, w) in
-      let named = append_cancel_left (32 ∷ name_text origin) (32 ∷ (name ++ (between ++ msg)))
-      (32 ∷ (tag_text app process ++ msg)) (sym own ∙ e) in
-      let tagged = append_cancel_left (32 ∷ []) (name ++ (between ++ msg)) (tag_text app process ++ msg) named in
-      append_cancel_right (name ++ between) (tag_text app process) msg (append_assoc name between msg ∙ tagged)
-
-  -- so the text of a process is bare, and `: ` is before the message
-  pub fields_bare : (between msg : Text) (h a process : Option Text) → u ≡ between ++ msg → NamesProgram origin name
-      (names h a (option_map named_process process)) → IsIdOf name process
-      → tail ≡ fields_before (names h a (option_map named_process process)) msg
-      → IfSome process IsBareWord × (between ≡ 58 ∷ 32 ∷ [])
-  fields_bare between msg h a None w (inl (tag, id, p, form, named, same)) of e =
-      absurd (let none = ap (λ (x : Names3164). x.procid) same in cc)
-  fields_bare between msg h a None w (inr (none, same)) of e =
-      let printed = names_printed between msg (Some name) None w
-      (subst (λ (x : Names3164). tail ≡ fields_before x msg) same e) in
-      (tt, append_cancel_left name between (58 ∷ 32 ∷ []) printed)
-  fields_bare between msg h a (Some word) w (inl (tag, id, p, form, named, same)) (tag', form') e =
-      let printed = names_printed between msg (Some tag) (Some p) w
-      (subst (λ (x : Names3164). tail ≡ fields_before x msg) same e) in
-      let (is, end) = form_bare id p tag name between (form_parts name tag id form) named printed in
-      (subst IsBareWord (one_form name tag id tag' word form form').1 is, end)
-  fields_bare between msg h a (Some word) w (inr (none, same)) of e =
+  fields_told h a (Some word) (inr (none, same)) of =
       absurd (let none = ap (λ (x : Names3164). x.procid) same in cc)
