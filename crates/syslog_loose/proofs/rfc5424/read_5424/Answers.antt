@@ -1,5 +1,5 @@
-use Rattle.syslog_loose.proofs.Names.{[], List, Class, run, rest, texted, is_blank, ◌∷◌, ◌∙◌, ◌past◌, ◌then◌, inl, refl}
-use Rattle.syslog_loose.proofs.Names.{sym, no_row, row_of, trimmed, rest_front, rows_join, rows_none_here, header_row}
+use Rattle.syslog_loose.proofs.Names.{[], List, Class, run, rest, texted, is_blank, ◌∷◌, ◌past◌, ◌then◌, inl, refl}
+use Rattle.syslog_loose.proofs.Names.{no_row, row_of, trimmed, rest_front, rows_join, rows_none_here, header_row}
 use Rattle.syslog_loose.proofs.Names.{data_row, rfc5424_row, no_row_division, front_division}
 use Rattle.syslog_text.proofs.PieceLemmas.Class.{rows_none_later}
 use Rattle.syslog_elements.specs.StructuredData.{forgiving}
@@ -43,16 +43,4 @@ returns-clause-reads g c whole f =
       parts = front_division text_row own;
       is_printed = rw is (rest_fits c.in-Some.ensures.prints c.blanks-at_list.ensures list.list list.text
           c.are_all-is_printed.ensures c.is_one_space.ensures c.is_printed.ensures c.is_one_space-2.ensures);
-    }
-
-pub returns-clause-form : goal.returns-clause-form
-returns-clause-form g c =
-    let (version, is) = c.in-Some.ensures.version in
-    let list = c.in-Some-visit_forgiving_list.ensures in
-    let fits = rest_fits c.in-Some.ensures.prints c.blanks-at_list.ensures list.list list.text
-    c.are_all-is_printed.ensures c.is_one_space.ensures c.is_printed.ensures c.is_one_space-2.ensures in
-    record {
-      utf8 = c.in-Some.ensures.utf8;
-      prints = λ e. rw is (fits.0 e);
-      quiet = λ e none. absurd (let f = sym is ∙ none in cc);
     }

@@ -1,8 +1,7 @@
 use Rattle.syslog_loose.proofs.Names.{◌≡◌, ◌then◌, ◌past◌, Option, None, inl, refl, Text, row_of, no_row, header_row}
 use Rattle.syslog_loose.proofs.Names.{front_row, names_row, rows_join, Bor, List, ℕ, Line, IfSome, MatchOption, Some}
-use Rattle.syslog_loose.proofs.Names.{shown, subst, sym}
 use Rattle.syslog_text.proofs.PieceLemmas.Class.{Fails, match_map, rows_none_later}
-use Rattle.syslog_loose.specs.Bodies.View5424.{FitsNames, ReadsHeader}
+use Rattle.syslog_loose.specs.Bodies.View5424.{ReadsHeader}
 use Rattle.syslog_loose.proofs.Rfc5424Lemmas.{front_det, header_det}
 use Rattle.syslog_loose.proofs.rfc5424.read_header.Goals as goal
 
@@ -35,8 +34,3 @@ returns-clause-reads g c whole f =
     match_map c.read_names.result (λ n. rows_none_later front_row names_row front_det front n)
     (λ x h. (_, h.0, (rw (h.1, h.2) (rows_join front_row names_row front h.4)), (rw (h.1, h.2, h.3) front), rw h.3 h.5))
     c.read_names.ensures.reads
-
-pub returns-clause-prints : goal.returns-clause-prints
-returns-clause-prints g c = both_known c.read_names.result _ _ _ _
-    (λ x h fits. subst (λ (rest : Bor (List ℕ)). FitsNames (shown rest) x.0 (shown x.1)) (sym h.3) fits)
-    c.read_names.ensures.reads c.read_names.ensures.prints

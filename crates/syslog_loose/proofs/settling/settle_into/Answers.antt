@@ -1,17 +1,7 @@
-use Rattle.syslog_loose.proofs.Names.{◌≡◌, arith, Ok, err_from_is_err_and, chars, dating_of, answer_in}
+use Rattle.syslog_loose.proofs.Names.{◌≡◌, arith, Ok, chars, dating_of, answer_in}
 use Rattle.syslog_loose.proofs.ReadingLemmas.{in_year_map}
 use Rattle.syslog_loose.proofs.SettlingLemmas.Settles.{answer_canonical, last_pass, passes_on}
 use Rattle.syslog_loose.proofs.settling.settle_into.Goals as goal
-
-pub returns-in_err-settled-clause-settles : goal.returns-in_err-settled-clause-settles
-returns-in_err-settled-clause-settles g c =
-    let (_, e, same) = err_from_is_err_and c.from_residual.result c.from_residual.ensures.1 in
-    rw (e, same) c.in_err-settled.ensures
-
-pub returns-in_err-settled-clause-canonical : goal.returns-in_err-settled-clause-canonical
-returns-in_err-settled-clause-canonical g c =
-    in_year_map (λ year h. answer_canonical c.args.variant (dating_of year c.args.tz c.args.local)
-    (chars c.args.input.now) _ h) (returns-in_err-settled-clause-settles g c)
 
 pub returns-then-settled-clause-settles : goal.returns-then-settled-clause-settles
 returns-then-settled-clause-settles g c = in_year_map (λ year h. h.1) (rw c.if-settled.true at c.in_ok-settled.ensures)

@@ -1,5 +1,0 @@
-use Rattle.syslog_pieces.proofs.Names.{arith, common_steps}
-use Rattle.syslog_loose.proofs.message.Message.try_clone.Goals as goal
-
-pub returns : goal.returns
-returns g c = grind (arith, common_steps)
