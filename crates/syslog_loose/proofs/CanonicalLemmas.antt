@@ -1,21 +1,20 @@
 -- The written condition and its quirks: what the tests of both return, and that the condition for RFC 3164 is the
 -- quirks' absence beside all that they leave.
-use Rattle.syslog_loose.proofs.Names.{◌≡◌, ◌<◌, ◌∙◌, ◌↔◌, ℕ, Bool, true, false, not, List, [], length, map, refl, sym}
-use Rattle.syslog_loose.proofs.Names.{ap, subst, arith, IsTrue, MatchBool, chars, IsUtf8, bytes_eq, length-map, Text}
-use Rattle.syslog_loose.proofs.Names.{drop_trailing_whitespace, nil_from_length, bytes_eq-Decides, NoFront, DashRule}
-use Rattle.syslog_loose.proofs.Names.{BeginsNoList, rfc3164_list, EndsVisibly, ◌≢◌, ◌∷◌, ◌++◌, nat_eq, None, Each, dash}
-use Rattle.syslog_loose.proofs.Names.{chars_from_encodes, chars-IsAscii, encodes-append, encodes-chars, encode_utf8_all}
-use Rattle.syslog_loose.proofs.Names.{colon, EndsInColon, is_no_colon, false_is, colon_ascii, ◌&&◌, inl, inr, Option}
-use Rattle.syslog_loose.proofs.Names.{Some, IfSome, IsSome, ProcId, PID, Name, Protocol, RFC3164, IsVisible, HasNoColon}
-use Rattle.syslog_loose.proofs.Names.{IsCanonicalHost, IsBracketedProcess, is_process_char, AreCanonicalNames, each_map}
-use Rattle.syslog_loose.proofs.Names.{IsCanonical3164, IsCanonicalFor, IsCanonical, is_inner_char, HasNoQuirk}
-use Rattle.syslog_loose.proofs.Names.{IsOddHost, IsInnerProcess, AreNamesButQuirks, HasQuirksAlone, each_both}
-use Rattle.syslog_loose.proofs.Names.{IsNearlyCanonical, MessageValue, each_left, each_right, is_not_whitespace}
-use Rattle.syslog_loose.proofs.Names.{IfSome_then, SyslogFacility, SyslogSeverity, trim_end, NonePass, same_chars}
-use Rattle.syslog_loose.proofs.Names.{end_trimmed_chars, no_list_is, dash_ascii}
+use Rattle.syslog_loose.proofs.Names.{◌⊎◌, HasQuietNames, rules, ◌≡◌, ◌<◌, ◌∙◌, ◌↔◌, ℕ, Bool, true, false, not, List}
+use Rattle.syslog_loose.proofs.Names.{[], length, map, refl, sym, ap, subst, arith, IsTrue, MatchBool, chars, IsUtf8}
+use Rattle.syslog_loose.proofs.Names.{bytes_eq, length-map, Text, drop_trailing_whitespace, nil_from_length}
+use Rattle.syslog_loose.proofs.Names.{bytes_eq-Decides, NoFront, DashRule, BeginsNoList, rfc3164_list, EndsVisibly, ◌≢◌}
+use Rattle.syslog_loose.proofs.Names.{◌∷◌, ◌++◌, nat_eq, None, Each, dash, chars_from_encodes, chars-IsAscii}
+use Rattle.syslog_loose.proofs.Names.{encodes-append, encodes-chars, encode_utf8_all, colon, EndsInColon, is_no_colon}
+use Rattle.syslog_loose.proofs.Names.{false_is, colon_ascii, ◌&&◌, inl, inr, Option, Some, IfSome, IsSome, ProcId, PID}
+use Rattle.syslog_loose.proofs.Names.{Name, Protocol, RFC3164, IsVisible, HasNoColon, IsCanonicalHost}
+use Rattle.syslog_loose.proofs.Names.{IsBracketedProcess, is_process_char, AreCanonicalNames, each_map, IsCanonical3164}
+use Rattle.syslog_loose.proofs.Names.{IsCanonicalFor, IsCanonical, is_inner_char, HasNoQuirk, IsOddHost, IsInnerProcess}
+use Rattle.syslog_loose.proofs.Names.{AreNamesButQuirks, HasQuirksAlone, each_both, IsNearlyCanonical, MessageValue}
+use Rattle.syslog_loose.proofs.Names.{each_left, each_right, IfSome_then, SyslogFacility, SyslogSeverity, trim_end}
+use Rattle.syslog_loose.proofs.Names.{NonePass, same_chars, end_trimmed_chars, no_list_is, dash_ascii}
 use Rattle.syslog_pieces.proofs.Names.{common_steps}
 use Rattle.syslog_text.proofs.TextLemmas.Runs.{from_not_true}
-use Rattle.std.proofs.lemmas.Bool.{and_from, and_parts}
 use Rattle.syslog_loose.proofs.PrintedLemmas.{drop_none, drop_ends}
 use Rattle.std.proofs.lemmas.Str.{chars-append, encodes-IsAscii, IsCharBoundary-at_seam, IsUtf8-from_ascii, IsUtf8-take}
 use Rattle.std.proofs.Math.Seq.{take-append_seam}
@@ -26,10 +25,15 @@ use Rattle.std.specs.Str.Pattern.{FindsChar, HasMatch}
 pub visible_told : (bs ts : List ℕ) (b : Bool) → IsUtf8 bs → IsUtf8 ts → ts ≡ trim_end bs → b ≡ bytes_eq ts bs
     → IsTrue b ↔ EndsVisibly (chars bs)
 visible_told bs ts b u v e f =
-    let stays : chars ts ≡ drop_trailing_whitespace (chars bs) = ap chars e ∙ end_trimmed_chars bs u in (
-      (λ h.
-          subst EndsVisibly (sym stays ∙ ap chars ((bytes_eq-Decides ts bs).0 (sym f ∙ h))) (drop_ends (chars bs))),
-      (λ h. f ∙ (bytes_eq-Decides ts bs).1 (same_chars ts bs v u (stays ∙ drop_none (chars bs) h))),
+    search (
+      rules,
+      chars,
+      drop_trailing_whitespace,
+      end_trimmed_chars,
+      bytes_eq-Decides,
+      drop_ends,
+      same_chars,
+      drop_none,
     )
 
 -- a list that is there, seen through a function
@@ -97,33 +101,26 @@ no_colon_told bs false u m = (
 )
 
 -- ---- the host
-pub no_dash_host : (host : Option Text) → IfSome host IsCanonicalHost → IfSome host (λ x. x ≡ dash → ⊥)
-no_dash_host host h = IfSome_then host h (λ x k. k.1)
-
-pub no_colon_host : (host : Option Text) → IfSome host IsCanonicalHost → IfSome host (λ x. EndsInColon x → ⊥)
-no_colon_host host h = IfSome_then host h (λ x k. k.2)
-
 no_odd_host : (host app : Option Text) → IfSome host IsCanonicalHost → IfSome host (λ x. IsOddHost x → app ≡ None)
 no_odd_host host app h = IfSome_then host h (λ x k o. absurd (elim o [ inl d ↦ k.1 d | inr c ↦ k.2 c ]))
 
-pub canonical_host : (host : Option Text) → IfSome host IsVisible → IfSome host (λ x. x ≡ dash → ⊥)
-    → IfSome host (λ x. EndsInColon x → ⊥) → IfSome host IsCanonicalHost
-canonical_host None v d c = tt
-canonical_host (Some x) v d c = (v, d, c)
+pub quiet_names : (host : Option Text) (process : Option (ProcId Text)) → IfSome host IsCanonicalHost
+    → IfSome process HasNoColon → HasQuietNames host process
+quiet_names None p k q = record { no_dash = tt; no_last_colon = tt; no_colon = q }
+quiet_names (Some h) p k q = record { no_dash = k.1; no_last_colon = k.2; no_colon = q }
+
+pub canonical_host : (host : Option Text) (process : Option (ProcId Text)) → IfSome host IsVisible
+    → HasQuietNames host process → IfSome host IsCanonicalHost
+canonical_host None p v q = tt
+canonical_host (Some x) p v q = (v, q.no_dash, q.no_last_colon)
 
 -- ---- the process
 
--- two of three tests, the other way round
-swapped : (a b c : Bool) → (a && b) && c ≡ true → (a && c) && b ≡ true
-swapped a b c h =
-    let (front, last) = and_parts (a && b) c h in
-    let (first, second) = and_parts a b front in and_from (a && c) b (and_from a c first last) second
-
 inner_of : (c : ℕ) → is_inner_char c && is_no_colon c ≡ true → is_process_char c ≡ true
-inner_of c = swapped (is_not_whitespace c) (not (nat_eq c 93)) (is_no_colon c)
+inner_of c h = grind arith
 
 process_of : (c : ℕ) → is_process_char c ≡ true → is_inner_char c && is_no_colon c ≡ true
-process_of c = swapped (is_not_whitespace c) (is_no_colon c) (not (nat_eq c 93))
+process_of c h = grind arith
 
 pub bracketed_of : (process : ProcId Text) → IsInnerProcess process → HasNoColon process → IsBracketedProcess process
 bracketed_of (PID n) h k = tt
@@ -155,56 +152,19 @@ pub canonical_near : (rule : DashRule) (m : MessageValue) → m.protocol ≡ RFC
     → IsNearlyCanonical m × HasNoQuirk rule m
 canonical_near rule m e (canonical, other) =
     let own : IsCanonical3164 rule m = subst (λ (x : Protocol). IsCanonicalFor rule x m) e other in
-    let (names, no_colon) = near_of m.hostname m.appname m.procid own.names in (
-      record {
-        facility = canonical.facility;
-        severity = canonical.severity;
-        rest = record {
-          protocol = e;
-          hostname = IfSome_then m.hostname canonical.hostname (λ x k. k.0);
-          odd_host = no_odd_host m.hostname m.appname canonical.hostname;
-          names = names;
-          colon_process = inl no_colon;
-          msgid = own.msgid;
-          elements = canonical.elements;
-          parameters = own.elements;
-          msg_front = canonical.msg_front;
-          msg_end = canonical.msg_end;
-        };
-      },
-      record {
-        timestamp = canonical.timestamp;
-        names = record {
-          no_dash = no_dash_host m.hostname canonical.hostname;
-          no_last_colon = no_colon_host m.hostname canonical.hostname;
-          no_colon = no_colon;
-        };
-        no_list = own.no_list;
-      },
-    )
+    let (names, no_colon) = near_of m.hostname m.appname m.procid own.names in
+    let visible = IfSome_then m.hostname canonical.hostname (λ x k. k.0) in
+    let odd = no_odd_host m.hostname m.appname canonical.hostname in
+    let quiet = quiet_names m.hostname m.procid canonical.hostname no_colon in
+    let colon : IfSome m.procid HasNoColon ⊎ (m.hostname ≡ None) = inl no_colon in
+    let rest : HasQuirksAlone m = search (canonical.elements, own.elements) parts 1 in
+    (search parts 1, search own.no_list parts 1)
 
 -- the message with this facility and severity instead of its own
 pub near_completed : (rule : DashRule) (m : MessageValue) (f : Option SyslogFacility) (s : Option SyslogSeverity)
     → IsSome f → IsSome s → HasQuirksAlone m → HasNoQuirk rule m
     → IsCanonical rule (record m { facility = f; severity = s })
-near_completed rule m f s facility severity near none =
-    let quiet = none.names in (
-      record {
-        facility = facility;
-        severity = severity;
-        timestamp = none.timestamp;
-        hostname = canonical_host m.hostname near.hostname quiet.no_dash quiet.no_last_colon;
-        elements = near.elements;
-        msg_front = near.msg_front;
-        msg_end = near.msg_end;
-      },
-      rw near.protocol (record {
-        msgid = near.msgid;
-        names = canonical_names m.hostname m.appname m.procid near.names quiet.no_colon;
-        elements = near.parameters;
-        no_list = none.no_list;
-      }),
-    )
+near_completed rule m f s facility severity near none = search (rules, canonical_names)
 
 pub near_canonical : (rule : DashRule) (m : MessageValue) → IsNearlyCanonical m × HasNoQuirk rule m
     → IsCanonical rule m

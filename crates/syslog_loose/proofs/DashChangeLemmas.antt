@@ -1,16 +1,16 @@
 -- Which texts are read differently since the rule of the dash changed, and that the condition only grew.
-use Rattle.syslog_loose.proofs.Names.{◌≡◌, ◌↔◌, ◌⊎◌, ◌∷◌, ◌++◌, ◌≢◌, ◌∙◌, inl, inr, ℕ, Bool, true, false, MatchBool}
-use Rattle.syslog_loose.proofs.Names.{IsTrue, List, [], length, Option, Some, None, refl, sym, ap, arith, append_assoc}
-use Rattle.syslog_loose.proofs.Names.{append-nil, eqb_tells, Text, Class, Values, Front, join, Row, Ends, optional, run}
-use Rattle.syslog_loose.proofs.Names.{shown, ElementValue, IsDashBefore, IsRfc3164List, rfc3164_list, BeginsNoList}
-use Rattle.syslog_loose.proofs.Names.{trimmed, is_blank, dash, Dating, line_value, dash_rule, IsRead, IsUnreadable}
-use Rattle.syslog_loose.proofs.Names.{names_value, IsLineOf, Line, DashRule, BeforeAnything, BeforeBlank}
-use Rattle.syslog_loose.proofs.Names.{AllDeterministic, heads, front_same, row_det, optional_none, optional_some}
-use Rattle.syslog_loose.proofs.Names.{row_cons, row_head, rows_join, division_front, optional_det, both_values}
-use Rattle.syslog_loose.proofs.Names.{all_joined, rows_split, absent_stays, piece_front, decide, dash_rfc3164_list}
-use Rattle.syslog_loose.proofs.Names.{full_begins, no_rfc3164_list, rfc3164_list_det, Protocol, Variant, Either}
-use Rattle.syslog_loose.proofs.Names.{RFC5424, IsCanonicalFor, IsCanonical, MessageValue, Names3164, Resolves}
-use Rattle.syslog_loose.proofs.Names.{rfc3164_row, IsRead3164, stamped_row, fields_row, Divides, IsReadUnder}
+use Rattle.syslog_loose.proofs.Names.{rules, ◌≡◌, ◌↔◌, ◌⊎◌, ◌∷◌, ◌++◌, ◌≢◌, ◌∙◌, inl, inr, ℕ, Bool, true, false}
+use Rattle.syslog_loose.proofs.Names.{MatchBool, IsTrue, List, [], length, Option, Some, None, refl, sym, ap, arith}
+use Rattle.syslog_loose.proofs.Names.{append_assoc, append-nil, eqb_tells, Text, Class, Values, Front, join, Row, Ends}
+use Rattle.syslog_loose.proofs.Names.{optional, run, shown, ElementValue, IsDashBefore, IsRfc3164List, rfc3164_list}
+use Rattle.syslog_loose.proofs.Names.{BeginsNoList, trimmed, is_blank, dash, Dating, line_value, dash_rule, IsRead}
+use Rattle.syslog_loose.proofs.Names.{IsUnreadable, names_value, IsLineOf, Line, DashRule, BeforeAnything, BeforeBlank}
+use Rattle.syslog_loose.proofs.Names.{AllDeterministic, front_same, row_det, optional_none, optional_some, row_cons}
+use Rattle.syslog_loose.proofs.Names.{row_head, rows_join, division_front, optional_det, both_values, all_joined}
+use Rattle.syslog_loose.proofs.Names.{rows_split, absent_stays, piece_front, decide, dash_rfc3164_list, no_rfc3164_list}
+use Rattle.syslog_loose.proofs.Names.{rfc3164_list_det, Protocol, Variant, Either, RFC5424, IsCanonicalFor, IsCanonical}
+use Rattle.syslog_loose.proofs.Names.{MessageValue, Names3164, Resolves, rfc3164_row, IsRead3164, stamped_row}
+use Rattle.syslog_loose.proofs.Names.{fields_row, Divides, IsReadUnder}
 use Rattle.syslog_text.proofs.PieceLemmas.Class.{firsts, lasts}
 use Rattle.std.proofs.Math.Seq.{drop-append_seam}
 use Rattle.syslog_loose.specs.Bodies.View3164.{FieldsAreRead}
@@ -45,12 +45,7 @@ differs_by variant dating text m n r s differ = record {
 -- ---- the condition
 
 own_grows : (p : Protocol) (m : MessageValue) → IsCanonicalFor BeforeAnything p m → IsCanonicalFor BeforeBlank p m
-own_grows protocol.RFC3164 m h = record {
-  msgid = h.msgid;
-  names = h.names;
-  elements = h.elements;
-  no_list = λ e. (λ q f a. (h.no_list e).0 q f tt, (h.no_list e).1);
-}
+own_grows protocol.RFC3164 m h = search rules
 own_grows (protocol.RFC5424 version) m h = h
 
 pub condition_grows : (m : MessageValue) → IsCanonical BeforeAnything m → IsCanonical BeforeBlank m
@@ -77,10 +72,7 @@ dash_change_or_not t = inr (λ h. cc)
 
 -- where no such dash begins the text, the rules agree
 dash_before : (rule : DashRule) (q : Text) → (BeginsDashChange (45 ∷ q) → ⊥) → IsDashBefore rule q
-dash_before BeforeBlank (c ∷ q) n = elim (decide (is_blank c)) [
-  | inl b ↦ b
-  | inr b ↦ absurd (n (record { next = c; after = q; is = refl; no_blank = b }))
-]
+dash_before BeforeBlank (c ∷ q) n = search rules
 dash_before rule q n = tt
 
 list_stays : (rule other : DashRule) (p q : Text) (es : List ElementValue) → (BeginsDashChange (p ++ q) → ⊥)
@@ -181,10 +173,7 @@ module _ (dating : Dating) (text : Text) where
 -- ---- a dash that is dropped
 
 dash_no_list : (c : ℕ) (q : Text) → is_blank c ≡ false → BeginsNoList BeforeBlank (45 ∷ (c ∷ q))
-dash_no_list c q b = (
-  λ r e a. let same : r ≡ c ∷ q = cc in let t : is_blank c ≡ true = (rw same at a) in cc,
-  λ p r v e h. let s = full_begins p r v h in let n = heads 45 91 (c ∷ q) s.0 (e ∙ s.1) in omega (arith, n),
-)
+dash_no_list c q b = search rules
 
 module _ (dating : Dating) (text : Text) where
   -- the values of the row with these at its front, this list and this message

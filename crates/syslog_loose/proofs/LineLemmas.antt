@@ -1,6 +1,6 @@
 -- What a line has of its text.
-use Rattle.syslog_loose.proofs.Names.{◌≡◌, ◌++◌, ◌∙◌, sym, subst, append_cancel_right, Text, Class, Front, texted}
-use Rattle.syslog_loose.proofs.Names.{None, inl, inr, Dating, Line, IsLineOf, shown, trimmed}
+use Rattle.syslog_loose.proofs.Names.{rules, ◌≡◌, ◌++◌, ◌∙◌, sym, subst, append_cancel_right, Text, Class, Front}
+use Rattle.syslog_loose.proofs.Names.{texted, None, Dating, Line, IsLineOf, shown, trimmed}
 use Rattle.syslog_text.proofs.PieceLemmas.Class.{texted_front}
 use Rattle.syslog_loose.specs.Rows.{IsAfterStamp}
 use Rattle.syslog_loose.specs.declared.variant.Variant.{Variant}
@@ -13,7 +13,4 @@ texted_as C {t = t} {q = q} {own = own} f whole =
 -- a line of RFC 3164 has all after its timestamp as its rest
 pub line_rest : {variant : Variant} {dating : Dating} {text : Text} (line : Line) → IsLineOf variant dating text line
     → line.version ≡ None → IsAfterStamp dating (trimmed text) line.priority line.timestamp (shown line.rest)
-line_rest line of none = elim of.shows [
-  | inl strict ↦ absurd (let e = sym strict.has_version ∙ none in cc)
-  | inr loose ↦ loose.front
-]
+line_rest line of none = search rules

@@ -1,11 +1,12 @@
 -- What is printed: what trimming leaves of it, the priority that it begins with, and its bytes.
-use Rattle.syslog_loose.proofs.Names.{append-nil, drop_trailing_whitespace, printed_stamp-visible, printed_stamp-begins}
-use Rattle.syslog_loose.proofs.Names.{◌*◌, facility_composed, severity_composed, is_not_whitespace, printed_stamp-bytes}
-use Rattle.syslog_loose.proofs.Names.{option_and_then, is_whitespace, joined_elements, OffsetTimestamp, facility_number}
-use Rattle.syslog_loose.proofs.Names.{elements_text, severity_number, encode_utf8_all, encodes-decimal, spaced_elements}
-use Rattle.syslog_loose.proofs.Names.{severity_there, ℕ, timestamp_text, SyslogFacility, SyslogSeverity, encodes-append}
-use Rattle.syslog_loose.proofs.Names.{append_assoc, ElementValue, param_text, element_text, option_map_or, MessageValue}
-use Rattle.syslog_loose.proofs.Names.{◌+◌, facility_of, severity_of, printed_row, piece_front, priority_of, number_back}
+use Rattle.syslog_loose.proofs.Names.{rules, append-nil, drop_trailing_whitespace, printed_stamp-visible}
+use Rattle.syslog_loose.proofs.Names.{printed_stamp-begins, ◌*◌, facility_composed, severity_composed}
+use Rattle.syslog_loose.proofs.Names.{is_not_whitespace, printed_stamp-bytes, option_and_then, is_whitespace}
+use Rattle.syslog_loose.proofs.Names.{joined_elements, OffsetTimestamp, facility_number, elements_text, severity_number}
+use Rattle.syslog_loose.proofs.Names.{encode_utf8_all, encodes-decimal, spaced_elements, severity_there, ℕ}
+use Rattle.syslog_loose.proofs.Names.{timestamp_text, SyslogFacility, SyslogSeverity, encodes-append, append_assoc}
+use Rattle.syslog_loose.proofs.Names.{ElementValue, param_text, element_text, option_map_or, MessageValue, ◌+◌}
+use Rattle.syslog_loose.proofs.Names.{facility_of, severity_of, printed_row, piece_front, priority_of, number_back}
 use Rattle.syslog_loose.proofs.Names.{IsSome, rest_whole, row_pieces, clock_value, stamp_seen, protocol_of, encode_utf8}
 use Rattle.syslog_loose.proofs.Names.{no_truth, false, flat_map, nat_tests, row_head, ClockStamp, line_value, rest_text}
 use Rattle.syslog_loose.proofs.Names.{nat_eq, Option, classes, is_blank, exactly, decimal, priority, printed, RFC3164}
@@ -13,7 +14,7 @@ use Rattle.syslog_loose.proofs.Names.{◌&&◌, length, subst, arith, Class, Val
 use Rattle.syslog_loose.proofs.Names.{◌≡◌, ◌++◌, Bool, true, cond, Some, None, List, refl, Text, Each, Ends, rest, Line}
 use Rattle.syslog_loose.proofs.Names.{◌<◌, ◌∷◌, ◌∙◌, inl, inr, not, [], sym, ap, Row, run, ◌≤◌, ◌≢◌}
 use Rattle.syslog_text.proofs.PieceLemmas.Lists.{printed_more}
-use Rattle.syslog_pieces.proofs.PriLemmas.{as_priority, facility_low, severity_low}
+use Rattle.syslog_pieces.proofs.PriLemmas.{as_priority}
 use Rattle.syslog_loose.specs.Canonical.{EndsVisibly}
 unfoldable pub use Rattle.syslog_loose.specs.Bodies.Jumps.{message_end}
 use Rattle.syslog_pieces.specs.Pri.{priority_row}
@@ -26,7 +27,7 @@ use Rattle.syslog_loose.specs.Bodies.Cases.{printed_number}
 
 -- what is no white space is no blank
 pub visible_no_blank : (c : ℕ) → is_not_whitespace c ≡ true → is_blank c ≡ false
-visible_no_blank c h = grind (arith, nat_tests)
+visible_no_blank c h = grind arith
 
 pub visible_ends_blanks : (t q : Text) → 0 < length t → Each is_not_whitespace t → Ends is_blank (t ++ q)
 visible_ends_blanks [] q l h = absurd (omega arith)
@@ -35,7 +36,7 @@ visible_ends_blanks (c ∷ t) q l h = visible_no_blank c h.0
 -- ---- a visible last character keeps all before it
 drop_visible : (c : ℕ) (cs : Text) → is_not_whitespace c ≡ true
     → drop_trailing_whitespace (c ∷ cs) ≡ c ∷ drop_trailing_whitespace cs
-drop_visible c cs h = grind (arith, nat_tests)
+drop_visible c cs h = grind arith
 
 drop_before : (c : ℕ) (cs : Text) → 0 < length (drop_trailing_whitespace cs)
     → drop_trailing_whitespace (c ∷ cs) ≡ c ∷ drop_trailing_whitespace cs
@@ -129,9 +130,7 @@ row_trimmed Fs vs t msg h end =
 -- ---- printed elements and timestamps
 
 element_last : (e : ElementValue) → LastVisible (element_text e)
-element_last e =
-    last_append (91 ∷ e.id) (flat_map param_text e.params ++ (93 ∷ []))
-    (last_append (flat_map param_text e.params) (93 ∷ []) refl)
+element_last e = search (rules, last_append)
 
 pub joined_last : (e : ElementValue) (es : List ElementValue) → LastVisible (joined_elements (e ∷ es))
 joined_last e [] = subst LastVisible (sym (append-nil (element_text e))) (element_last e)
@@ -164,14 +163,8 @@ last_ends (C ∷ Cs) f h = let g = row_head C (Cs ++ (rest ∷ [])) f in last_en
 
 -- ---- the priority that each printed text begins with
 
-or_below : {A : Type 0} (f : A → ℕ) (d n : ℕ) → d < n → ((a : A) → f a < n) → (v : Option A) → option_map_or f v d < n
-or_below f d n h k None = h
-or_below f d n h k (Some a) = k a
-
 pub priority_small : (m : MessageValue) → priority_of m < 192
-priority_small m =
-    let f = or_below facility_number 5 24 (omega arith) facility_low m.facility in
-    let s = or_below severity_number 7 8 (omega arith) severity_low m.severity in omega arith
+priority_small m = search rules
 
 pub priority_low : (m : MessageValue) → priority_of m ≤ 255
 priority_low m = let h = priority_small m in omega arith
@@ -207,11 +200,6 @@ priority_trimmed n q =
 -- what is written piece by piece is the encoded text
 pub ruleset encoded = (append_assoc, encodes-append, encodes-decimal)
 
--- writes in writes, joined
-joined : (a b c d e f g : List ℕ)
-    → a ++ ((b ++ c) ++ ((d ++ (e ++ f)) ++ g)) ≡ a ++ (b ++ (c ++ (d ++ (e ++ (f ++ g)))))
-joined a b c d e f g = simp append_assoc
-
 -- what is written after the timestamp, field by field, is the encoded rest
 pub written_rest : (host app process id elements msg : Text) (m : List ℕ) → encode_utf8_all msg ≡ m
     → (32 ∷ encode_utf8_all host) ++ (((32 ∷ encode_utf8_all app) ++ ((32 ∷ encode_utf8_all process)
@@ -230,10 +218,7 @@ pub written_5424 : (pri priority version : ℕ) (stamp host app process id shown
     ++ (32 ∷ (process ++ (32 ∷ (id ++ (32 ∷ (elements ++ (32 ∷ msg)))))))))))))))))
 unfolding encode_utf8
 written_5424 pri priority version stamp host app process id shown elements msg m e f h =
-    rw (e, f) (joined (60 ∷ (decimal priority ++ (62 ∷ decimal version))) (32 ∷ encode_utf8_all stamp)
-    (32 ∷ encode_utf8_all host) (32 ∷ encode_utf8_all app) (32 ∷ encode_utf8_all process) (32 ∷ encode_utf8_all id)
-    ((32 ∷ encode_utf8_all elements) ++ (32 ∷ m)) ∙ append_assoc (60 ∷ decimal priority) (62 ∷ decimal version) _
-    ∙ sym (simp (encodes-append, encodes-decimal, h)))
+    search (rules, append_assoc, encodes-append, encodes-decimal)
 
 -- the writes of a message of RFC 3164, joined
 joined_3164 : (pri stamp host tag elements msg : List ℕ)
@@ -248,8 +233,7 @@ pub written_3164 : (pri priority : ℕ) (stamp host tag shown elements msg : Tex
     (60 ∷ (decimal priority ++ (62 ∷ 32 ∷ (stamp ++ (32 ∷ (host ++ (32 ∷ (tag ++ (elements ++ msg)))))))))
 unfolding encode_utf8
 written_3164 pri priority stamp host tag shown elements msg m e f h =
-    rw (e, f) (joined_3164 (decimal priority) (encode_utf8_all stamp) (encode_utf8_all host) (encode_utf8_all tag)
-    (encode_utf8_all elements) m ∙ sym (simp (encodes-append, encodes-decimal, h)))
+    search (rules, joined_3164, encodes-append, encodes-decimal)
 
 -- elements, at least one, and a space after them
 pub encodes_spaced : (es : List ElementValue) → 0 < length es

@@ -1,24 +1,25 @@
 -- The printed text of a message, read under `Either` or the message's own variant; that it shows no month date; and its
 -- characters.
-use Rattle.syslog_loose.proofs.Names.{◌⊎◌, inl, inr, Text, Dating, IsBounded, MessageValue, dash_rule, IsRead, Variant}
-use Rattle.syslog_loose.proofs.Names.{IsRead3164, IsRead5424, Either, RFC5424, ◌≡◌, ◌∙◌, Some, refl, sym, unwrap_or, ℕ}
-use Rattle.syslog_loose.proofs.Names.{LOG_SYSLOG, SEV_DEBUG, DashRule, IsCanonical, HasNoQuirk, printed, ◌↔◌, ℤ, Ok}
-use Rattle.syslog_loose.proofs.Names.{List, Option, Result, Err, ap, subst, string_bytes, encodes-chars, IfOk, String}
-use Rattle.syslog_loose.proofs.Names.{chars, IsUtf8, encode_utf8_all, Global, ReadsProtocol, IsFixed, IsOnlyRead, ◌<◌}
-use Rattle.syslog_loose.proofs.Names.{IsUnreadable, Answers, IncompleteDate, InYear, ParseFault, Invalid, Memory, ◌≤◌}
-use Rattle.syslog_loose.proofs.Names.{Protocol, ◌^◌, ◌&&◌, ◌∷◌, ◌++◌, suc, pos, negsuc, Bool, true, nat_eq, [], length}
-use Rattle.syslog_loose.proofs.Names.{None, IfSome, arith, nat_tests, is_ascii_digit, is_whitespace, decimal, flat_map}
-use Rattle.syslog_loose.proofs.Names.{AllByRecursion, skip_leading_whitespace, drop_trailing_whitespace, join, Each}
-use Rattle.syslog_loose.proofs.Names.{IsPart, AreInPieces, text_list, process_texts, ElementValue, param_text, trimmed}
-use Rattle.syslog_loose.proofs.Names.{element_text, joined_elements, elements_text, element_texts, name_text, ProcId}
-use Rattle.syslog_loose.proofs.Names.{PID, Name, OffsetTimestamp, each_map, each_front, each_after, all_left, tag_text}
-use Rattle.syslog_loose.proofs.Names.{all_right, each_append, part_joined, decimal_digits, IsBoundedProcess, nat_le}
-use Rattle.syslog_loose.proofs.Names.{IsBoundedProtocol, message_texts, timestamp_text, spaced_elements, priority_of}
-use Rattle.syslog_loose.proofs.Names.{MatchResult, nat_lt, all_map, printed_stamp-characters, append_assoc, Front, Row}
-use Rattle.syslog_loose.proofs.Names.{is_not_whitespace, is_blank, MonthDate, AsksYear, priority, ShowsMonthDate, IsLow}
-use Rattle.syslog_loose.proofs.Names.{month_date, optional_some, Begins, begins_apart, number_back, month_date_begins}
-use Rattle.syslog_loose.proofs.Names.{IsLetter, printed_stamp-visible, digits_visible, row_of, ◌then◌, piece_front, run}
-use Rattle.syslog_loose.proofs.Names.{row_head, rest, rows_step, division_front, shown}
+use Rattle.syslog_loose.proofs.Names.{rules, ◌⊎◌, inl, inr, Text, Dating, IsBounded, MessageValue, dash_rule, IsRead}
+use Rattle.syslog_loose.proofs.Names.{Variant, IsRead3164, IsRead5424, Either, RFC5424, ◌≡◌, ◌∙◌, Some, refl, sym}
+use Rattle.syslog_loose.proofs.Names.{unwrap_or, ℕ, LOG_SYSLOG, SEV_DEBUG, DashRule, IsCanonical, HasNoQuirk, printed}
+use Rattle.syslog_loose.proofs.Names.{◌↔◌, ℤ, Ok, List, Option, Result, Err, ap, subst, string_bytes, encodes-chars}
+use Rattle.syslog_loose.proofs.Names.{IfOk, String, chars, IsUtf8, encode_utf8_all, Global, ReadsProtocol, IsFixed}
+use Rattle.syslog_loose.proofs.Names.{IsOnlyRead, ◌<◌, IsUnreadable, Answers, IncompleteDate, InYear, ParseFault}
+use Rattle.syslog_loose.proofs.Names.{Invalid, Memory, ◌≤◌, Protocol, ◌^◌, ◌&&◌, ◌∷◌, ◌++◌, suc, pos, negsuc, Bool}
+use Rattle.syslog_loose.proofs.Names.{true, nat_eq, [], length, None, IfSome, arith, nat_tests, is_ascii_digit}
+use Rattle.syslog_loose.proofs.Names.{is_whitespace, decimal, flat_map, AllByRecursion, skip_leading_whitespace}
+use Rattle.syslog_loose.proofs.Names.{drop_trailing_whitespace, join, Each, IsPart, AreInPieces, text_list}
+use Rattle.syslog_loose.proofs.Names.{process_texts, ElementValue, param_text, trimmed, element_text, joined_elements}
+use Rattle.syslog_loose.proofs.Names.{elements_text, element_texts, name_text, ProcId, PID, Name, OffsetTimestamp}
+use Rattle.syslog_loose.proofs.Names.{each_map, each_front, each_after, all_left, tag_text, all_right, each_append}
+use Rattle.syslog_loose.proofs.Names.{part_joined, decimal_digits, IsBoundedProcess, nat_le, IsBoundedProtocol}
+use Rattle.syslog_loose.proofs.Names.{message_texts, timestamp_text, spaced_elements, priority_of, MatchResult, nat_lt}
+use Rattle.syslog_loose.proofs.Names.{all_map, printed_stamp-characters, append_assoc, Front, Row, is_not_whitespace}
+use Rattle.syslog_loose.proofs.Names.{is_blank, MonthDate, AsksYear, priority, ShowsMonthDate, IsLow, month_date}
+use Rattle.syslog_loose.proofs.Names.{optional_some, Begins, begins_apart, number_back, month_date_begins, IsLetter}
+use Rattle.syslog_loose.proofs.Names.{printed_stamp-visible, digits_visible, row_of, ◌then◌, piece_front, run, row_head}
+use Rattle.syslog_loose.proofs.Names.{rest, rows_step, division_front, shown}
 use Rattle.syslog_loose.specs.declared.variant.Variant.TheVariants.{RFC3164}
 use Rattle.syslog_loose.proofs.Rfc5424Lemmas.{read_completed, completed, priority_same, printed_is}
 use Rattle.syslog_loose.proofs.Rfc3164Lemmas.{rfc3164_bounded, printed_3164_is, digit_range, quotes}
@@ -32,7 +33,6 @@ use Rattle.syslog_loose.proofs.Rfc3164Lemmas.ReadBack.{stamp_low}
 use Rattle.syslog_loose.proofs.SettlingLemmas.Falls.{rfc3164_exact}
 use Rattle.std.proofs.Math.Utf8.{scalar, scalars, low_scalar}
 use Rattle.std.proofs.lemmas.Bool.{and_from, and_parts, cond_both}
-use Rattle.syslog_pieces.proofs.TimestampLemmas.Digits.{is_stamp_character, stamp_range}
 use Rattle.syslog_loose.specs.OneLine.{is_no_feed, IsOneLine}
 use Rattle.syslog_loose.proofs.PrintedLemmas.{priority_small, priority_front, priority_low, priority_trimmed}
 use Rattle.syslog_loose.proofs.PrintedLemmas.{visible_no_blank, last_append, drop_after}
@@ -189,14 +189,7 @@ itself variant dating text (Err Memory) a m b h e n = absurd (n refl)
 
 pub fields : (variant : Variant) (dating : Dating) (text : Text) (m : MessageValue) → IsRead variant dating text m
     → FieldsAsRead m.protocol dating text m
-fields variant dating text m r =
-    let of = λ (p : Protocol). FieldsAsRead p dating text m in
-    elim (read_as variant dating text m r) [
-      | inl s ↦ subst of (sym (ap (λ (x : MessageValue). x.protocol) s.means))
-          (λ f. rfc5424.read_canonical dash_rule text m s f)
-      | inr s ↦ subst of (sym (read_near dash_rule dating text m s).protocol)
-          ((λ f. read_nearly dash_rule dating text m s f), stamp_read dash_rule dating text m s)
-    ]
+fields variant dating text m r = search (rules, read_as, rfc5424.read_canonical, read_nearly, stamp_read)
 
 pub answered : {P : MessageValue → Type 0} (variant : Variant) (dating : Dating) (text : Text)
     → ((m : MessageValue) → IsRead variant dating text m → P m) → (r : Result Found ParseFault)
@@ -251,7 +244,7 @@ abbrev pub is_ascii_print : ℕ → Bool
 is_ascii_print c = nat_le 32 c && nat_lt c 127
 
 in_print : (c : ℕ) → 32 ≤ c → c < 127 → is_ascii_print c ≡ true
-in_print c l h = grind (arith, nat_tests)
+in_print c l h = grind arith
 
 -- Where the characters of a text pass a test that those of printable ASCII pass, so do those of the printed text of its
 -- message.
@@ -281,9 +274,7 @@ module _ (test : ℕ → Bool) (ascii : (c : ℕ) → is_ascii_print c ≡ true 
   -- what is in the pieces of a trimmed line is one line
   pieces_line : (text : Text) (ps ts : List Text) → Passes text → trimmed text ≡ join ps → AreInPieces ps ts
       → AllByRecursion Passes ts
-  pieces_line text ps ts h e k =
-      let whole = subst Passes e (drop_line (skip_leading_whitespace text) (skip_line text h)) in
-      all_map (λ t x. part_line (join ps) t whole (part_joined ps t x)) ts k
+  pieces_line text ps ts h e k = search (rules, drop_line, skip_line, all_map, part_line, part_joined)
 
   -- ---- the parts of a printed text
 
@@ -306,11 +297,7 @@ module _ (test : ℕ → Bool) (ascii : (c : ℕ) → is_ascii_print c ≡ true 
 
   timestamp_line : (stamp : Option OffsetTimestamp) → Passes (timestamp_text stamp)
   timestamp_line None = (ascii 45 refl, tt)
-  timestamp_line (Some s) =
-      let text = timestamp_text (Some s) in
-      each_map is_stamp_character test (λ c h. let r = stamp_range c h in
-      ascii c (in_print c (omega (arith, r.0)) (omega (arith, r.1)))) text
-      (printed_stamp-characters _ _ s.instant.in_range s.offset.in_range)
+  timestamp_line (Some s) = search (rules, each_map, printed_stamp-characters)
 
   params_line : (ps : List (Text × Text)) → AllByRecursion Passes (flat_map (λ p. p.0 ∷ p.1 ∷ []) ps)
       → Passes (flat_map param_text ps)
@@ -361,8 +348,7 @@ module _ (test : ℕ → Bool) (ascii : (c : ℕ) → is_ascii_print c ≡ true 
       → Passes (printed_5424 version m)
   unfolding printed_5424
   strict_line version m v b h =
-      let number = number_line version (omega arith) in
-      search (each_append test, ascii, priority_line m, timestamp_line, name_line, process_line, elements_line) depth 34
+      search (rules, number_line, each_append, priority_line, timestamp_line, name_line, process_line, elements_line)
 
   -- ---- what is read
   rfc3164_printed : (dating : Dating) (text : Text) (m : MessageValue) → IsRead3164 dash_rule dating text m

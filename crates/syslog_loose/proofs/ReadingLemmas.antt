@@ -1,20 +1,19 @@
 -- How a text is read: what the pieces at its front say, what is made of it by way of its line, and what the calls
 -- return.
-use Rattle.syslog_loose.proofs.Names.{◌⊎◌, ◌≡◌, ◌≢◌, ◌∙◌, inl, inr, ℕ, ℤ, List, Option, Some, None, w32, to_z, of_z}
-use Rattle.syslog_loose.proofs.Names.{refl, sym, ap, subst, MatchOption, IsSomeAnd, Bor, TimeZone, Text, shown, Dating}
-use Rattle.syslog_loose.proofs.Names.{dating_of, MonthDate, MessageValue, message_value, dash_rule, IsRead, IsOnlyRead}
-use Rattle.syslog_loose.proofs.Names.{IncompleteDate, AsksYear, IsYearAnswered, InYear, IsQuoted, incomplete}
-use Rattle.syslog_loose.proofs.Names.{IsRead5424, Invalid, Memory, Variant, Either, RFC5424, ◌↔◌, ◌then◌, ◌past◌, Err}
-use Rattle.syslog_loose.proofs.Names.{false, true, arith, IsSome, row_of, no_row, Class, Front, NoFront, run, optional}
-use Rattle.syslog_loose.proofs.Names.{priority, trimmed, is_blank, clock_value, header_stamp, stamp_seen, rfc3164_stamp}
-use Rattle.syslog_loose.proofs.Names.{ShowsYearless, ShowsMonthDate, yearless_date, month_date, ClockStamp, front_same}
-use Rattle.syslog_loose.proofs.Names.{optional_det, run_det, Begins, begins_apart, priority_det, some_front_run}
-use Rattle.syslog_loose.proofs.Names.{month_date_begins, IsLetter, IsLow, ReadsProtocol, Answers, IsLeftTo3164}
-use Rattle.syslog_loose.proofs.Names.{HasMonth, stamped_row, IsNot3164, pos, no_truth, OffsetTimestamp, IsNot5424}
+use Rattle.syslog_loose.proofs.Names.{rules, ◌⊎◌, ◌≡◌, ◌≢◌, ◌∙◌, inl, inr, ℕ, ℤ, List, Option, Some, None, w32, to_z}
+use Rattle.syslog_loose.proofs.Names.{of_z, refl, sym, ap, subst, MatchOption, IsSomeAnd, Bor, TimeZone, Text, shown}
+use Rattle.syslog_loose.proofs.Names.{Dating, dating_of, MonthDate, MessageValue, message_value, dash_rule, IsRead}
+use Rattle.syslog_loose.proofs.Names.{IsOnlyRead, IncompleteDate, AsksYear, IsYearAnswered, InYear, IsQuoted}
+use Rattle.syslog_loose.proofs.Names.{incomplete, IsRead5424, Invalid, Memory, Variant, Either, RFC5424, ◌↔◌, ◌then◌}
+use Rattle.syslog_loose.proofs.Names.{◌past◌, Err, false, true, arith, IsSome, row_of, no_row, Class, Front, NoFront}
+use Rattle.syslog_loose.proofs.Names.{run, optional, priority, trimmed, is_blank, clock_value, header_stamp, stamp_seen}
+use Rattle.syslog_loose.proofs.Names.{rfc3164_stamp, ShowsYearless, ShowsMonthDate, yearless_date, month_date}
+use Rattle.syslog_loose.proofs.Names.{ClockStamp, front_same, optional_det, run_det, Begins, begins_apart, priority_det}
+use Rattle.syslog_loose.proofs.Names.{some_front_run, month_date_begins, IsLetter, IsLow, ReadsProtocol, Answers}
+use Rattle.syslog_loose.proofs.Names.{IsLeftTo3164, HasMonth, stamped_row, IsNot3164, no_truth, IsNot5424}
 use Rattle.syslog_loose.proofs.Names.{IsAfterPriority, BeginsWithout, [], Result, Ok, append-nil, ElementValue}
 use Rattle.syslog_loose.proofs.Names.{list_elements, DashRule, line_value, protocol_of, IsRead3164, IsLineOf, Made}
 use Rattle.syslog_loose.proofs.Names.{ParseFault, Line, SFits}
-use Rattle.std.proofs.lemmas.Int.{to_z-of_z}
 use Rattle.syslog_loose.specs.declared.variant.Variant.TheVariants.{RFC3164}
 use Rattle.syslog_loose.specs.declared.message.Message.{Message}
 use Rattle.syslog_loose.proofs.Rfc3164Lemmas.{shown_apart, not_read, date_has_month, shows_month_date}
@@ -78,35 +77,17 @@ pub in_year_map : {post : IncompleteDate → ℤ → Type 0} {variant : Variant}
 in_year_map f h =
     record { answered = h.answered; is_answered = h.is_answered; holds = λ year agrees. f year (h.holds year agrees) }
 
-year_same : (post : IncompleteDate → ℤ → Type 0) (variant : Variant) (text : Text) (year : ℤ)
-    → ((date : IncompleteDate) (y : ℤ) → post date y → y ≡ year) → (answered : Option ℤ)
-    → IsYearAnswered post variant text answered → (date : MonthDate) → AsksYear variant text date → Some year ≡ answered
-year_same post variant text year same None never date asks = absurd (never date asks)
-year_same post variant text year same (Some y) (d, a, p) date asks = ap Some (sym (same (incomplete d) y p))
-
 -- For callers: what holds in the year of a closure that always returns this one, an `i32`.
 pub in_this_year : {post : IncompleteDate → ℤ → Type 0} {variant : Variant} {text : Text} {Holds : Option ℤ → Type 0}
     → InYear post variant text Holds → (year : ℤ) → SFits w32 year → ((date : IncompleteDate) (y : ℤ) → post date y → y
     ≡ to_z w32 (of_z w32 year)) → Holds (Some year)
-in_this_year {post = post} {variant = variant} {text = text} h year fits same = h.holds (Some year)
-    (year_same post variant text year (λ date y is. same date y is ∙ to_z-of_z w32 year fits) h.answered h.is_answered)
-
-told_answered : (post told : IncompleteDate → ℤ → Type 0) (variant : Variant) (text : Text)
-    → ((date : IncompleteDate) (year : ℤ) → post date year → told date year)
-    → (answered : Option ℤ) → IsYearAnswered post variant text answered → IsYearAnswered told variant text answered
-told_answered post told variant text tells None never = never
-told_answered post told variant text tells (Some year) (date, asks, p) = (date, asks, tells (incomplete date) year p)
+in_this_year {post = post} {variant = variant} {text = text} h year fits same = search rules
 
 -- For callers: what holds in the year of a closure, where that is known by what its own clause comes to.
 pub in_year_told : {post told : IncompleteDate → ℤ → Type 0} {variant : Variant} {text : Text} {Holds : Option ℤ
     → Type 0} → InYear post variant text Holds
     → ((date : IncompleteDate) (year : ℤ) → post date year → told date year) → InYear told variant text Holds
-in_year_told {post = post} {told = told} {variant = variant} {text = text} h tells =
-    record {
-      answered = h.answered;
-      is_answered = told_answered post told variant text tells h.answered h.is_answered;
-      holds = h.holds;
-    }
+in_year_told {post = post} {told = told} {variant = variant} {text = text} h tells = search rules
 
 -- ---- faults
 pub invalid_or_memory : Memory ≡ Invalid → ⊥
@@ -154,11 +135,7 @@ asks_is variant text d = (λ h. (tt, h), λ k. k.1)
 
 -- a month date that shows no year is one without a year
 yearless : {t q : Text} (d : MonthDate) → Front month_date t q d → d.year ≡ None → Front yearless_date t q d
-yearless d f none = elim f.is [
-  | inl h ↦ record { piece = f.piece; whole = f.whole; is = h }
-  | inr (vs, h, e) ↦
-      absurd (let y : None ≡ Some vs.1.1.1.1.0 = sym none ∙ ap (λ (x : MonthDate). x.year) e in cc)
-]
+yearless d f none = search rules
 
 -- and the numbers that a closure is asked with are those of one of twelve months
 pub asked_month : {t q : Text} (d : MonthDate) (asked : Option IncompleteDate) (x : IncompleteDate) → Front month_date t
@@ -168,23 +145,11 @@ asked_month d (Some y) x f (none, e) is =
     let same : y ≡ x = cc in subst HasMonth (sym e ∙ same) (date_has_month d (yearless d f none))
 
 -- a date with a year has the same timestamp in each other year
-same_year : (shown : Option ℕ) (year other : Option ℤ) (y : ℤ) → IsSome shown
-    → elim shown [ Some n ↦ Some (pos n) | None ↦ year ] ≡ Some y
-    → elim shown [ Some n ↦ Some (pos n) | None ↦ other ] ≡ Some y
-same_year (Some n) year other y some e = e
-same_year None year other y some e = absurd (no_truth some)
-
-stamp_in_any : (year other : Option ℤ) (tz : Option (Bor TimeZone)) (local : Bor TimeZone) (d : MonthDate)
-    (s : OffsetTimestamp) → IsSome d.year → IsMonthStamp (dating_of year tz local) d s
-    → IsMonthStamp (dating_of other tz local) d s
-stamp_in_any year other tz local d s some (y, dt, is, of, at) =
-    (y, dt, same_year d.year year other y some is, of, at)
-
 answer_in_any : (year other : Option ℤ) (tz : Option (Bor TimeZone)) (local : Bor TimeZone) (d : MonthDate)
-    (r : Option ClockStamp) → IsSome d.year → IsAnswer (IsMonthStamp (dating_of year tz local) d) r
-    → IsAnswer (IsMonthStamp (dating_of other tz local) d) r
-answer_in_any year other tz local d None some none = λ s k. none s (stamp_in_any other year tz local d s some k)
-answer_in_any year other tz local d (Some c) some k = stamp_in_any year other tz local d (clock_value c) some k
+    (r : Option ClockStamp) (shown : Option ℕ) → d.year ≡ shown → IsSome shown
+    → IsAnswer (IsMonthStamp (dating_of year tz local) d) r → IsAnswer (IsMonthStamp (dating_of other tz local) d) r
+answer_in_any year other tz local d r None is some h = absurd (no_truth some)
+answer_in_any year other tz local d r (Some n) is some h = rw is (rw is at h)
 
 module _ (variant : Variant) (text : Text) {follows : Text} {p : Option ℕ}
     (f : IsAfterPriority (trimmed text) p follows) where
@@ -213,7 +178,7 @@ module _ (variant : Variant) (text : Text) {follows : Text} {p : Option ℕ}
         → IsAnswer (IsMonthStamp (dating_of year tz local) d) r
         → InYear post variant text (λ y. IsAnswer (IsMonthStamp (dating_of y tz local) d) r)
     dated_in post tz local None year r some is h =
-        unasked (asks_no_other some) (λ other. answer_in_any year other tz local d r some h)
+        unasked (asks_no_other some) (λ other. answer_in_any year other tz local d r d.year refl some h)
     dated_in post tz local (Some x) None r asked is h = absurd is
     dated_in post tz local (Some x) (Some y) r (none, e) is h = record {
       answered = Some y;

@@ -1,10 +1,10 @@
 -- A date has one year, and a text one dating.
-use Rattle.syslog_loose.proofs.Names.{◌≡◌, ◌∙◌, ℤ, Option, Some, None, ap, refl, sym, Text, Dating, MonthDate}
-use Rattle.syslog_loose.proofs.Names.{AsksYear, IncompleteDate, IsYearAnswered, incomplete, Variant, Either, RFC5424}
+use Rattle.syslog_loose.proofs.Names.{rules, ◌≡◌, ◌∙◌, ℤ, Option, Some, None, refl, sym, Text, Dating, MonthDate}
+use Rattle.syslog_loose.proofs.Names.{AsksYear, IncompleteDate, IsYearAnswered, Variant, Either, RFC5424}
 use Rattle.jiff.specs.Words.{plain_zone}
 use Rattle.syslog_pieces.proofs.TimestampLemmas.MonthDate.{shown_once}
 use Rattle.syslog_loose.specs.declared.variant.Variant.TheVariants.{RFC3164}
-use Rattle.std.proofs.Common.{arith, inl, inr, subst}
+use Rattle.std.proofs.Common.{arith, inl, inr}
 use Rattle.jiff.proofs.SpanFacts.{signed_arith}
 use Rattle.jiff.specs.Types.{Date}
 use Rattle.syslog_loose.specs.Dates.{IsDated}
@@ -43,9 +43,7 @@ answered_once : (today : Today) (variant : Variant) (text : Text) (year other : 
 answered_once today variant text None other never is date asks = absurd (never date asks)
 answered_once today variant text (Some y) None is never date asks = absurd (never date asks)
 answered_once today variant text (Some y) (Some z) (d, shown, is) (e, also, too) date asks =
-    let same : e ≡ d = asked_once variant text e d also shown in
-    ap Some (year_once today (incomplete d) y z is
-    (subst (λ (m : MonthDate). IsYearIn today (incomplete m) z) same too))
+    search (rules, asked_once, year_once)
 
 -- what holds of the dating, and what else does, holds of one
 pub one_dating : {Holds More : Dating → Type 0} (dates : Dates) (variant : Variant) (text : Text)

@@ -2,28 +2,28 @@
 -- 5424.
 pub mod Near
 pub mod ReadBack
-use Rattle.syslog_loose.proofs.Names.{optional_rfc3164_list_quotes, to_ascii_lowercase, rfc3164_stamp_det, some_run_det}
-use Rattle.syslog_loose.proofs.Names.{month_date_begins, AllDeterministic, IsBoundedProcess, rfc3164_list_det, some_run}
-use Rattle.syslog_loose.proofs.Names.{message_of_parts, unique_division, no_row_division, OffsetTimestamp, is_open_char}
-use Rattle.syslog_loose.proofs.Names.{stamp_text-year, division_front, front_division, rows_none_here, some_front_run}
-use Rattle.syslog_loose.proofs.Names.{ShowsMonthDate, is_ascii_digit, chars_nonempty, is_label_char, rfc3164_stamp, ◌≡◌}
-use Rattle.syslog_loose.proofs.Names.{optional_none, ShowsYearless, yearless_date, optional_some, process_texts, ◌also◌}
-use Rattle.syslog_loose.proofs.Names.{element_texts, length-append, NamesProcess, process_same, MessageValue, no_texted}
-use Rattle.syslog_loose.proofs.Names.{optional_det, rfc3164_list, priority_det, exactly_det}
-use Rattle.syslog_loose.proofs.Names.{begins_apart, printed_5424, tag_word_det, full_element, full_shorter, elements_or}
-use Rattle.syslog_loose.proofs.Names.{ElementValue, rfc3164_row, stamped_row, begins_more, rfc5424_row, []}
+use Rattle.syslog_loose.proofs.Names.{rules, optional_rfc3164_list_quotes, to_ascii_lowercase, rfc3164_stamp_det}
+use Rattle.syslog_loose.proofs.Names.{some_run_det, month_date_begins, AllDeterministic, IsBoundedProcess}
+use Rattle.syslog_loose.proofs.Names.{rfc3164_list_det, some_run, message_of_parts, unique_division, no_row_division}
+use Rattle.syslog_loose.proofs.Names.{OffsetTimestamp, is_open_char, stamp_text-year, division_front, front_division}
+use Rattle.syslog_loose.proofs.Names.{rows_none_here, some_front_run, ShowsMonthDate, is_ascii_digit, chars_nonempty}
+use Rattle.syslog_loose.proofs.Names.{is_label_char, rfc3164_stamp, ◌≡◌, optional_none, ShowsYearless, yearless_date}
+use Rattle.syslog_loose.proofs.Names.{optional_some, process_texts, ◌also◌, element_texts, length-append, NamesProcess}
+use Rattle.syslog_loose.proofs.Names.{process_same, MessageValue, no_texted, optional_det, rfc3164_list, priority_det}
+use Rattle.syslog_loose.proofs.Names.{exactly_det, begins_apart, printed_5424, tag_word_det, full_element, full_shorter}
+use Rattle.syslog_loose.proofs.Names.{elements_or, ElementValue, rfc3164_row, stamped_row, begins_more, rfc5424_row, []}
 use Rattle.syslog_loose.proofs.Names.{priority_of, AreInPieces, rest_quotes, host_quotes, part_joined, no_some_run, ◌≢◌}
 use Rattle.syslog_loose.proofs.Names.{absent_none, all_joined, row_pieces, IsRead3164, rest_front, fields_row, form_row}
-use Rattle.syslog_loose.proofs.Names.{month_date, incomplete, front_same, row_quotes, Quotes3164, rows_step}
-use Rattle.syslog_loose.proofs.Names.{unwrap_or, Names3164, IsBounded, Means3164, rows_join, ◌++◌}
-use Rattle.syslog_loose.proofs.Names.{MonthDate, nat_tests, rest_same, IsNot5424, text_list, all_right, IsNoForm, arith}
-use Rattle.syslog_loose.proofs.Names.{Resolves, DashRule, optional, is_blank, tag_word, priority, host_det, body_row, ℕ}
-use Rattle.syslog_loose.proofs.Names.{rest_det, row_cons, HasMonth, Division, run_same, Protocol, flat_map, all_left}
-use Rattle.syslog_loose.proofs.Names.{run_det, NoFront, exactly, RFC3164, trimmed, printed, length, Values, ap}
-use Rattle.syslog_loose.proofs.Names.{texted, IsForm, no_row, Option, ProcId, IfSome, Dating, ◌then◌, row_of, spaced}
-use Rattle.syslog_loose.proofs.Names.{number, Begins, IsPart, Quoted, silent, IsMany, chars, Class, Front, names, colon}
-use Rattle.syslog_loose.proofs.Names.{subst, month, false, List, refl, Text, Some, None, Name, rest, host, true, Each}
-use Rattle.syslog_loose.proofs.Names.{Bool, cond, ◌<◌, ◌∷◌, ◌∙◌, Row, run, inl, inr, sym, PID, ◌↔◌, map, ◌≤◌}
+use Rattle.syslog_loose.proofs.Names.{month_date, incomplete, front_same, row_quotes, Quotes3164, rows_step, unwrap_or}
+use Rattle.syslog_loose.proofs.Names.{Names3164, IsBounded, Means3164, rows_join, ◌++◌, MonthDate, nat_tests, rest_same}
+use Rattle.syslog_loose.proofs.Names.{IsNot5424, text_list, all_right, IsNoForm, arith, Resolves, DashRule, optional}
+use Rattle.syslog_loose.proofs.Names.{is_blank, tag_word, priority, host_det, body_row, ℕ, rest_det, row_cons, HasMonth}
+use Rattle.syslog_loose.proofs.Names.{Division, run_same, Protocol, flat_map, all_left, run_det, NoFront, exactly}
+use Rattle.syslog_loose.proofs.Names.{RFC3164, trimmed, printed, length, Values, ap, texted, IsForm, no_row, Option}
+use Rattle.syslog_loose.proofs.Names.{ProcId, IfSome, Dating, ◌then◌, row_of, spaced, number, Begins, IsPart, Quoted}
+use Rattle.syslog_loose.proofs.Names.{silent, IsMany, chars, Class, Front, names, colon, subst, month, false, List}
+use Rattle.syslog_loose.proofs.Names.{refl, Text, Some, None, Name, rest, host, true, Each, Bool, cond, ◌<◌, ◌∷◌, ◌∙◌}
+use Rattle.syslog_loose.proofs.Names.{Row, run, inl, inr, sym, PID, ◌↔◌, map, ◌≤◌}
 use Rattle.syslog_text.proofs.PieceLemmas.Class.{texted_det, after_det, Fails, all_append, append_more}
 use Rattle.syslog_loose.specs.Rfc3164.{NamesByForm}
 use Rattle.syslog_text.proofs.PieceLemmas.Lists.{first_kind, each_begins, texted_quotes, part_left}
@@ -55,9 +55,7 @@ abbrev pub to_closing : List Class
 to_closing = label ∷ exactly (91 ∷ []) ∷ id_text ∷ []
 
 to_closing_det : AllDeterministic to_closing
-to_closing_det =
-    texted_det (run is_label_char) (run_det is_label_char) also exactly_det (91 ∷ [])
-    also texted_det (some_run is_open_char) (some_run_det is_open_char) also tt
+to_closing_det = search (rules, texted_det, run_det, exactly_det, some_run_det)
 
 pub form_det : AllDeterministic form_row
 form_det = all_joined to_closing (closing ∷ []) to_closing_det (exactly_det (93 ∷ []) also tt)
@@ -75,11 +73,7 @@ label_front s = record { piece = _; whole = s.characters; is = (tt, (s.each, s.e
 
 pub id_front : {bs xs ys : List ℕ} → SplitsRun is_open_char bs xs ys → 0 < length xs
     → Front id_text (chars bs) (chars ys) (chars xs)
-id_front {xs = xs} s l = record {
-  piece = chars xs;
-  whole = s.characters;
-  is = (tt, (chars_nonempty xs s.front_utf8 l, s.each, s.ends), refl);
-}
+id_front {xs = xs} s l = search (rules, chars_nonempty)
 
 pub no_id : {bs xs ys : List ℕ} → SplitsRun is_open_char bs xs ys → length xs ≡ 0 → NoFront id_text (chars bs)
 no_id {bs = bs} {xs = xs} {ys = ys} s z = no_texted (some_run is_open_char) (no_some_run is_open_char bs xs ys s z)
@@ -148,16 +142,8 @@ pub rfc3164_bounded : (rule : DashRule) (dating : Dating) (text : Text) (m : Mes
     → IsBounded m
 rfc3164_bounded rule dating text m r =
     let (n, resolves, means) = r.means in
-    rw means (record {
-      protocol = tt;
-      procid = of_names (λ v t n. IfSome n.procid IsBoundedProcess) (record {
-        nobody = λ v t. tt;
-        host = λ h none. tt;
-        lone = λ h tag id p f g. named_bounded id p g;
-        app = λ v t none. tt;
-        process = λ v t tag id p f g. named_bounded id p g;
-      }) _ _ n resolves;
-    })
+    let of : OfNames (λ v t n. IfSome n.procid IsBoundedProcess) = search (rules, named_bounded) in
+    let procid = of_names (λ v t n. IfSome n.procid IsBoundedProcess) of _ _ n resolves in rw means (search rules)
 
 -- ---- the pieces from each one on
 
@@ -202,10 +188,6 @@ from_tag rule = optional (spaced tag_word) ∷ from_tag_end rule
 abbrev pub from_stamp : DashRule → Dating → List Class
 from_stamp rule dating = rfc3164_stamp dating ∷ body_row rule
 
--- the blanks after the priority
-abbrev pub from_priority_end : DashRule → Dating → List Class
-from_priority_end rule dating = run is_blank ∷ from_stamp rule dating
-
 pub gap_back : (t msg : Text) → Front (run is_blank) t msg tt → Front (Row from_gap) t [] (tt, (msg, tt))
 gap_back t msg f = row_of from_gap (f then rest_front msg then refl)
 
@@ -219,8 +201,21 @@ stamped_det dating = all_joined to_stamp (rfc3164_stamp dating ∷ []) to_stamp_
 
 pub body_det : (rule : DashRule) → AllDeterministic (body_row rule)
 body_det rule =
-    all_joined fields_row (optional (rfc3164_list rule) ∷ run is_blank ∷ rest ∷ []) fields_det
-    (optional_det (rfc3164_list rule) (rfc3164_list_det rule) also run_det is_blank also rest_det also tt)
+    search (
+      rules,
+      all_joined,
+      fields_row,
+      optional,
+      rfc3164_list,
+      run,
+      is_blank,
+      rest,
+      fields_det,
+      optional_det,
+      rfc3164_list_det,
+      run_det,
+      rest_det,
+    )
 
 pub rfc3164_det : (rule : DashRule) (dating : Dating) → AllDeterministic (rfc3164_row rule dating)
 rfc3164_det rule dating = all_joined (stamped_row dating) (body_row rule) (stamped_det dating) (body_det rule)
@@ -249,28 +244,19 @@ not_read rule dating n =
 pub is_read : (rule : DashRule) (dating : Dating) (text t : Text) (vs : Values (rfc3164_row rule dating))
     (m : MessageValue) → t ≡ trimmed text → Means3164 rule dating vs m
     → Front (Row (rfc3164_row rule dating)) t [] vs → IsRead3164 rule dating text m
-is_read rule dating text t vs m e means f = record {
-  values = vs;
-  division = front_division (rfc3164_row rule dating) (rw e at f);
-  means = means;
-}
+is_read rule dating text t vs m e means f = search rules
 
 -- ---- a list that is there is no empty text
 many_shorter : (p q : Text) (es : List ElementValue) → 0 < length es → IsMany full_element p q es
     → length q < length (p ++ q)
 many_shorter p q [] l h = absurd (omega arith)
-many_shorter p q (e ∷ es) l (a, b, whole, is, more) =
-    let f : Front full_element (p ++ q) (b ++ q) e = record { piece = a; whole = append_more p a b q whole; is = is } in
-    omega (arith, full_shorter (p ++ q) (b ++ q) e f, length-append b q)
+many_shorter p q (e ∷ es) l (a, b, whole, is, more) = search (rules, length-append)
 
 pub list_none : (rule : DashRule) {t q : Text} (v : Option (List ElementValue))
     → Front (optional (rfc3164_list rule)) t q v
     → length t ≤ length q → (elements_or v ≡ []) × NoFront (rfc3164_list rule) t
 list_none rule None f l = (refl, absent_none (rfc3164_list rule) f)
-list_none rule {q = q} (Some es) f l = elim f.is [
-  | inl (d, a, z) ↦ absurd (omega (arith, ap length (f.whole ∙ ap (λ (x : Text). x ++ q) d)))
-  | inr (some, many) ↦ absurd (omega (arith, ap length f.whole, many_shorter f.piece q es some many))
-]
+list_none rule {q = q} (Some es) f l = search (rules, many_shorter)
 
 -- ---- nothing after the timestamp can fail
 
@@ -307,19 +293,19 @@ division_is_stamped rule dating text = (
 
 pub date_has_month : {t q : Text} (d : MonthDate) → Front yearless_date t q d → HasMonth (incomplete d)
 date_has_month {t} {q} d f =
-    let (vs, h, e) = f.is in
-    let row : Front (Row yearless_row) t q vs = record { piece = f.piece; whole = f.whole; is = h } in
-    let (_, f1, (_, _, (_, f3, (_, _, (_, f5, (_, _, (_, f7, (_, _, (_, f9, _))))))))) =
-    row_pieces (month ∷ some_run is_blank ∷ short_number ∷ some_run is_blank ∷ clock_row) row in
-    let (before, named, at) = f1.is in
-    let within : before < 12 = slice_get_within month_names before (map to_ascii_lowercase f1.piece) at in
-    rw e (
-      omega arith,
-      omega arith,
-      omega (arith, f3.is.4),
-      omega (arith, f5.is.4),
-      omega (arith, f7.is.4),
-      omega (arith, f9.is.4),
+    search (
+      rules,
+      yearless_row,
+      row_pieces,
+      month,
+      some_run,
+      is_blank,
+      short_number,
+      clock_row,
+      slice_get_within,
+      month_names,
+      map,
+      to_ascii_lowercase,
     )
 
 -- ---- what a text shows
@@ -343,9 +329,7 @@ shown_parts date text d (p, more, division) =
 
 -- a date without a year is a month date
 pub shows_month_date : (text : Text) (d : MonthDate) → ShowsYearless text d → ShowsMonthDate text d
-shows_month_date text d is =
-    let (p, t, u, q, f, gap, date) = shown_parts yearless_date (trimmed text) d is in
-    shows month_date f gap (first_kind MonthDate yearless_date.Is dated_date.Is date)
+shows_month_date text d is = search rules
 
 -- a text shows one month date
 pub shown_once : (text : Text) (d e : MonthDate) → ShowsMonthDate text d → ShowsMonthDate text e → d ≡ e
@@ -358,7 +342,7 @@ abbrev pub IsDigit : ℕ → Type 0
 IsDigit c = is_ascii_digit c ≡ true
 
 pub digit_range : (c : ℕ) → is_ascii_digit c ≡ true → (48 ≤ c) × (c ≤ 57)
-digit_range c h = grind (arith, nat_tests)
+digit_range c h = grind arith
 
 pub number_begins : (limit : ℕ) {t q : Text} {n : ℕ} → Front (number limit) t q n → Begins IsDigit t
 number_begins limit {q = q} f =
@@ -383,11 +367,7 @@ pub record Versioned (t : Text) : Type 0 where
 
 -- digits and a dash are no version
 dash_apart : (y r t : Text) → t ≡ y ++ (45 ∷ r) → Each is_ascii_digit y → Versioned t → ⊥
-dash_apart y r t e h v =
-    let w : y ++ (45 ∷ r) ≡ v.number.piece ++ v.after = sym e ∙ v.number.whole in
-    let same = run_same is_ascii_digit y (45 ∷ r) v.number.piece v.after w h refl v.number.is.1 v.number.is.2 in
-    let a : 45 ∷ r ≡ v.after = rest_same y (45 ∷ r) v.number.piece v.after w same in
-    let b : false ≡ true = rw (sym a) at v.blank in cc
+dash_apart y r t e h v = search (rules, run_same, rest_same)
 
 date_apart : (p q : Text) (d : MonthDate) → month_date.Is p q d → Versioned (p ++ q) → ⊥
 date_apart p q d h v =
@@ -440,8 +420,7 @@ no_digit false ys h = let t : false ≡ true = h in cc
 
 -- the printed text of a message of RFC 3164
 pub printed_3164_is : (m : MessageValue) → m.protocol ≡ RFC3164 → printed m ≡ printed_3164 m
-printed_3164_is m e = ap (λ (x : Protocol). elim x
-    [ RFC5424 version ↦ printed_5424 version m | RFC3164 ↦ printed_3164 m ]) e
+printed_3164_is m e = search rules
 
 pub printed_apart : (m : MessageValue) → IsNot5424 (printed_3164 m)
 unfolding printed_3164
@@ -562,9 +541,6 @@ module _ (dating other : Dating) (zone : dating.zone ≡ other.zone) (local : da
         let undated : (d : MonthDate) → yearless_date.Is stamp.piece q d → ⊥ = λ d k.
         none d (shows yearless_date pri gap (record { piece = stamp.piece; whole = stamp.whole; is = k })) in
         let is = other_stamp stamp.piece q v undated stamp.is in
-        let same : Front (rfc3164_stamp other) u q v = record { piece = stamp.piece; whole = stamp.whole; is = is } in
+        let same : Front (rfc3164_stamp other) u q v = search rules in
         is_read rule other text (trimmed text) r.values m refl r.means
         (row_of (rfc3164_row rule other) (pri then gap then same then body))
-
-    pub other_quotes : (m : MessageValue) → Quotes3164 rule dating text m → Quotes3164 rule other text m
-    other_quotes m k = quotes rule other text m (other_read m k.read)

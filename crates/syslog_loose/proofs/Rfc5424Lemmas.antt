@@ -1,24 +1,25 @@
 -- Texts of RFC 5424: one division, and what is read back of a printed text: the message exactly if it is canonical, and
 -- what is read is canonical, up to an absent facility or severity.
-use Rattle.syslog_loose.proofs.Names.{no_truth, ◌≡◌, ◌∷◌, ◌∙◌, ◌also◌, [], sym, ap, subst, AllDeterministic, run_det, ℕ}
-use Rattle.syslog_loose.proofs.Names.{unique_division, front_division, optional_det, some_run_det, rest_det, all_joined}
-use Rattle.syslog_loose.proofs.Names.{flat_map, Text, Values, Front, NoFront, run, some_run, optional, trimmed, number}
-use Rattle.syslog_loose.proofs.Names.{is_blank, AreInPieces, text_list, process_texts, header_stamp, element_texts, ◌≤◌}
-use Rattle.syslog_loose.proofs.Names.{priority, Quoted, row_quotes, silent, rest_quotes, host_quotes, priority_det, ◌<◌}
-use Rattle.syslog_loose.proofs.Names.{host_det, MessageValue, message_texts, header_row, data_row, front_row, names_row}
-use Rattle.syslog_loose.proofs.Names.{rest, rfc5424_row, message_of, IsRead5424, List, IfSome, is_ascii_digit, decimal}
-use Rattle.syslog_loose.proofs.Names.{is_not_whitespace, Ends, Format, process_word, process_text, host, word, ◌^◌, ◌+◌}
-use Rattle.syslog_loose.proofs.Names.{name_text, IsCanonicalWord, IsCanonicalStamp, timestamp_text, ◌*◌, ◌++◌, ◌then◌}
-use Rattle.syslog_loose.proofs.Names.{Option, Some, None, IsSome, refl, arith, row_cons, row_head, rows_join, row_of}
-use Rattle.syslog_loose.proofs.Names.{both_values, division_front, rest_front, rest_whole, optional_some, front_same}
-use Rattle.syslog_loose.proofs.Names.{row_pieces, option_map_or, option_and_then, unwrap_or, skip_leading_whitespace}
-use Rattle.syslog_loose.proofs.Names.{drop_trailing_whitespace, Division, classes, printed_row, facility_of, LOG_SYSLOG}
-use Rattle.syslog_loose.proofs.Names.{facility_number, severity_number, ElementValue, elements_text, EndsVisibly}
-use Rattle.syslog_loose.proofs.Names.{SyslogFacility, SyslogSeverity, SEV_DEBUG, ProcId, DashRule, BeforeAnything}
-use Rattle.syslog_loose.proofs.Names.{OffsetTimestamp, piece_front, priority_composed, number_back, host_back, Protocol}
-use Rattle.syslog_loose.proofs.Names.{printed_stamp_back, stamp_text_canonical, IsBoundedProtocol, IsBounded, printed}
-use Rattle.syslog_loose.proofs.Names.{IsCanonicalInBoth, IsCanonicalFor, IsCanonical, priority_of, Quotes5424, composed}
-use Rattle.syslog_loose.proofs.Names.{AllByRecursion, Bool, Class, IsTrue, Line, append_cancel_right, true, ◌↔◌}
+use Rattle.syslog_loose.proofs.Names.{rules, no_truth, ◌≡◌, ◌∷◌, ◌∙◌, ◌also◌, [], sym, ap, subst, AllDeterministic}
+use Rattle.syslog_loose.proofs.Names.{run_det, ℕ, unique_division, front_division, optional_det, some_run_det, rest_det}
+use Rattle.syslog_loose.proofs.Names.{all_joined, flat_map, Text, Values, Front, NoFront, run, some_run, optional}
+use Rattle.syslog_loose.proofs.Names.{trimmed, number, is_blank, AreInPieces, text_list, process_texts, header_stamp}
+use Rattle.syslog_loose.proofs.Names.{element_texts, ◌≤◌, priority, Quoted, row_quotes, silent, rest_quotes}
+use Rattle.syslog_loose.proofs.Names.{host_quotes, priority_det, ◌<◌, host_det, MessageValue, message_texts, header_row}
+use Rattle.syslog_loose.proofs.Names.{data_row, front_row, names_row, rest, rfc5424_row, message_of, IsRead5424, List}
+use Rattle.syslog_loose.proofs.Names.{IfSome, is_ascii_digit, decimal, is_not_whitespace, Ends, Format, process_word}
+use Rattle.syslog_loose.proofs.Names.{process_text, host, word, ◌^◌, ◌+◌, name_text, IsCanonicalWord, IsCanonicalStamp}
+use Rattle.syslog_loose.proofs.Names.{timestamp_text, ◌*◌, ◌++◌, ◌then◌, Option, Some, None, IsSome, refl, arith}
+use Rattle.syslog_loose.proofs.Names.{row_cons, row_head, rows_join, row_of, both_values, division_front, rest_front}
+use Rattle.syslog_loose.proofs.Names.{rest_whole, optional_some, front_same, row_pieces, option_map_or, option_and_then}
+use Rattle.syslog_loose.proofs.Names.{unwrap_or, skip_leading_whitespace, drop_trailing_whitespace, Division, classes}
+use Rattle.syslog_loose.proofs.Names.{printed_row, facility_of, LOG_SYSLOG, facility_number, severity_number}
+use Rattle.syslog_loose.proofs.Names.{ElementValue, elements_text, EndsVisibly, SyslogFacility, SyslogSeverity}
+use Rattle.syslog_loose.proofs.Names.{SEV_DEBUG, ProcId, DashRule, BeforeAnything, OffsetTimestamp, piece_front}
+use Rattle.syslog_loose.proofs.Names.{priority_composed, number_back, host_back, Protocol, printed_stamp_back}
+use Rattle.syslog_loose.proofs.Names.{stamp_text_canonical, IsBoundedProtocol, IsBounded, printed, IsCanonicalInBoth}
+use Rattle.syslog_loose.proofs.Names.{IsCanonicalFor, IsCanonical, priority_of, Quotes5424, composed, AllByRecursion}
+use Rattle.syslog_loose.proofs.Names.{Bool, Class, IsTrue, Line, append_cancel_right, true, ◌↔◌}
 use Rattle.syslog_loose.specs.Bodies.View5424.{FitsNames, names_before}
 use Rattle.syslog_text.proofs.PieceLemmas.Class.{front_of}
 use Rattle.syslog_text.proofs.PieceLemmas.Lists.{AllSound, row_back}
@@ -38,7 +39,7 @@ use Rattle.syslog_elements.specs.StructuredData.{forgiving, item}
 use Rattle.syslog_elements.specs.StructuredData.Unparsed.{leaving}
 use Rattle.syslog_elements.proofs.StructuredDataLemmas.Unparsed.{leaving_back}
 use Rattle.syslog_loose.specs.Canonical.{IsCanonical5424}
-use Rattle.syslog_loose.specs.Unparsed.{Leaves5424, leaving_row}
+use Rattle.syslog_loose.specs.Unparsed.{Leaves5424}
 use Rattle.syslog_loose.specs.Printed.{printed_5424}
 use Rattle.syslog_loose.specs.declared.message.Protocol.TheVariants.{RFC5424}
 use Rattle.syslog_loose.proofs.PrintedLemmas.{severity_beside, priority_front, priority_trimmed, visible_ends_blanks}
@@ -46,18 +47,14 @@ use Rattle.syslog_loose.proofs.PrintedLemmas.{priority_small, stamp_unblank, las
 use Rattle.syslog_loose.proofs.PrintedLemmas.{parts_back, priority_low, row_trimmed, last_ends, drop_ends, message_end}
 
 pub front_det : AllDeterministic front_row
-front_det =
-    optional_det priority priority_det also number_det 4294967295 also some_run_det is_blank also header_stamp_det
-    also tt
+front_det = search (rules, optional_det, priority_det, number_det, some_run_det, header_stamp_det)
 
 pub names_det : AllDeterministic names_row
-names_det =
-    some_run_det is_blank also host_det also some_run_det is_blank also word_det also some_run_det is_blank
-    also process_word_det also some_run_det is_blank also word_det also tt
+names_det = search (rules, some_run_det, host_det, word_det, process_word_det)
 
--- the structured data as what is left unparsed of it, and the message part
-abbrev pub tail_row : List Class
-tail_row = run is_blank ∷ leaving ∷ run is_blank ∷ rest ∷ []
+-- the structured data, read by this class, and the message part
+abbrev pub tail_row : Class → List Class
+tail_row C = run is_blank ∷ C ∷ run is_blank ∷ rest ∷ []
 
 pub header_det : AllDeterministic header_row
 header_det = all_joined front_row names_row front_det names_det
@@ -222,10 +219,11 @@ abbrev pub values_of : ℕ → MessageValue → Values (classes fields)
 values_of version m =
     (version, (tt, (m.timestamp, (tt, (m.hostname, (tt, (m.appname, (tt, (m.procid, (tt, (m.msgid, tt)))))))))))
 
-abbrev line_values : ℕ → MessageValue → Values rfc5424_row
-line_values version m = (
+-- with this structured data, as the class means it
+abbrev line_values : (C : Class) → C.Value → ℕ → MessageValue → Values (header_row ++ tail_row C)
+line_values C v version m = (
   Some (priority_of m),
-  both_values (classes fields) data_row (values_of version m) (tt, (m.structured_data, (tt, (m.msg, tt)))),
+  both_values (classes fields) (tail_row C) (values_of version m) (tt, (v, (tt, (m.msg, tt)))),
 )
 
 -- what trimming leaves of it
@@ -250,42 +248,31 @@ module _ (version : ℕ) (m : MessageValue) (bounded : version ≤ 4294967295) (
       also ((q.procid, b.procid), refl)
       also (tt, name_unblank m.msgid _ IsCanonicalWord (λ t k. k.0) q.msgid) also (q.msgid, refl) also tt
 
-  -- the one division, piece by piece
-  line_divided : Division rfc5424_row (trimmed (printed_5424 version m)) (line_values version m)
-  line_divided =
-      let es = m.structured_data in
+  listed : forgiving.Is (elements_text m.structured_data) (message_end m.msg) m.structured_data
+  listed = forgiving_back m.structured_data (message_end m.msg) p.elements (no_item_end m.msg)
+
+  -- the one division, piece by piece, by whichever class the structured data is read
+  line_divided : (C : Class) (v : C.Value) → C.Is (elements_text m.structured_data) (message_end m.msg) v
+      → Division (header_row ++ tail_row C) (trimmed (printed_5424 version m)) (line_values C v version m)
+  line_divided C v is =
+      let text = elements_text m.structured_data in
       let end : Text = message_end m.msg in
-      let body = row_of data_row (piece_front (run is_blank) (32 ∷ []) _ tt ((refl, tt), elements_unblank es end)
-      then piece_front forgiving (elements_text es) end es (forgiving_back es end p.elements (no_item_end m.msg))
+      let body = row_of (tail_row C) (piece_front (run is_blank) (32 ∷ []) _ tt
+      ((refl, tt), elements_unblank m.structured_data end) then piece_front C text end v is
       then message_blanks m.msg p.msg_front then rest_front m.msg then refl) in
-      let header = row_back fields fields_sound (values_of version m) _ (fields_back (elements_text es ++ end)) in
-      front_division rfc5424_row (rw (trimmed_5424 version m p.msg_end)
-      (row_cons (optional priority) (classes fields ++ data_row)
+      let header = row_back fields fields_sound (values_of version m) _ (fields_back (text ++ end)) in
+      front_division (header_row ++ tail_row C) (rw (trimmed_5424 version m p.msg_end)
+      (row_cons (optional priority) (classes fields ++ tail_row C)
       (optional_some priority (priority_front (priority_of m) _ (priority_low m)))
-      (rows_join (classes fields) data_row header body)))
+      (rows_join (classes fields) (tail_row C) header body)))
 
   -- and nothing of its structured data is left unparsed
   leaves_nothing : Leaves5424 (printed_5424 version m) []
-  leaves_nothing =
-      let es = m.structured_data in
-      let end : Text = message_end m.msg in
-      let is = forgiving_back es end p.elements (no_item_end m.msg) in
-      let body = row_of tail_row (piece_front (run is_blank) (32 ∷ []) _ tt ((refl, tt), elements_unblank es end)
-      then piece_front leaving (elements_text es) end [] (leaving_back es end p.elements is)
-      then message_blanks m.msg p.msg_front then rest_front m.msg then refl) in
-      let header = row_back fields fields_sound (values_of version m) _ (fields_back (elements_text es ++ end)) in
-      record {
-        values = (
-          Some (priority_of m),
-          both_values (classes fields) tail_row (values_of version m)
-              (tt, ([], (tt, (m.msg, tt)))),
-        );
-        division = front_division leaving_row (rw (trimmed_5424 version m p.msg_end)
-            (row_cons (optional priority) (classes fields ++ tail_row)
-            (optional_some priority (priority_front (priority_of m) _ (priority_low m)))
-            (rows_join (classes fields) tail_row header body)));
-        means = refl;
-      }
+  leaves_nothing = record {
+    values = line_values leaving [] version m;
+    division = line_divided leaving [] (leaving_back m.structured_data (message_end m.msg) p.elements listed);
+    means = refl;
+  }
 
 -- ---- messages
 
@@ -300,18 +287,15 @@ canonical_read rule version m e b c =
     let bounded : version < 2 ^ 32 = subst IsBoundedProtocol e b.protocol in
     let parts = parts_back m.facility m.severity c.0.facility c.0.severity in
     subst (λ (x : Text). IsRead5424 x m) (sym (printed_is version m e)) (record {
-      values = line_values version m;
-      division = line_divided version m (omega arith) b c.0 own;
+      values = line_values forgiving m.structured_data version m;
+      division = line_divided version m (omega arith) b c.0 own forgiving m.structured_data
+          (listed version m (omega arith) b c.0 own);
       means = λ i. record m { protocol = e i; facility = parts.0 i; severity = parts.1 i };
     })
 
 pub canonical_leaves : (rule : DashRule) (version : ℕ) (m : MessageValue) → m.protocol ≡ RFC5424 version → IsBounded m
     → IsCanonical rule m → Leaves5424 (printed m) []
-canonical_leaves rule version m e b c =
-    let own : IsCanonical5424 m = subst (λ (x : Protocol). IsCanonicalFor rule x m) e c.1 in
-    let bounded : version < 2 ^ 32 = subst IsBoundedProtocol e b.protocol in
-    subst (λ (x : Text). Leaves5424 x []) (sym (printed_is version m e))
-    (leaves_nothing version m (omega arith) b c.0 own)
+canonical_leaves rule version m e b c = search (rules, leaves_nothing)
 
 -- ---- what is read
 
@@ -336,27 +320,17 @@ values_canonical rule text v d =
     let (t8, app, (t9, s4, (t10, process, (t11, s5, after)))) = more in
     let (t12, id, (t13, s6, (t14, list, (t15, s7, (t16, msg, _))))) = after in
     let m = message_of v in
-    let no_colon : NoColonNext t6 = rw s3.whole (blanks_next s3.piece t7 s3.is.0 s3.is.1) in (
-      (
-        record {
-          facility = refl;
-          severity = refl;
-          timestamp = stamp_canonical stamp.piece t4 m.timestamp stamp.is;
-          hostname = host_canonical name.piece t6 m.hostname no_colon name.is;
-          elements = forgiving_canonical list.piece t14 m.structured_data list.is;
-          msg_front = subst (Ends is_blank) (rest_whole msg) s7.is.1;
-          msg_end = last_ends row_before row (drop_ends (skip_leading_whitespace text));
-        },
-        record {
-          appname = word_canonical app.piece t8 m.appname app.is;
-          procid = process_canonical process.piece t10 m.procid process.is;
-          msgid = word_canonical id.piece t12 m.msgid id.is;
-        },
-      ),
-      record {
-        protocol = (let l = number.is.4 in omega arith);
-        procid = process_bounded process.piece t10 m.procid process.is;
-      },
+    let no_colon : NoColonNext t6 = rw s3.whole (blanks_next s3.piece t7 s3.is.0 s3.is.1) in
+    let front : Ends is_blank m.msg = subst (Ends is_blank) (rest_whole msg) s7.is.1 in
+    let end : EndsVisibly m.msg = last_ends row_before row (drop_ends (skip_leading_whitespace text)) in
+    search (
+      rules,
+      stamp_canonical,
+      host_canonical,
+      forgiving_canonical,
+      word_canonical,
+      process_canonical,
+      process_bounded,
     )
 
 pub read_completed : (rule : DashRule) (text : Text) (m : MessageValue) → IsRead5424 text m
@@ -374,14 +348,8 @@ filled (Some x) d h = refl
 pub read_canonical : (rule : DashRule) (text : Text) (m : MessageValue) → IsRead5424 text m → IsSome m.facility
     → IsCanonical rule m
 read_canonical rule text m r f =
-    let there : IsSome (option_and_then facility_of r.values.0) = subst (λ (x : MessageValue). IsSome x.facility)
-    r.means f in
-    let s : IsSome m.severity = subst (λ (x : MessageValue). IsSome x.severity) (sym r.means)
-    (severity_beside r.values.0 there) in
-    let same : completed m ≡ m = λ i. record m {
-      facility = filled m.facility LOG_SYSLOG f i;
-      severity = filled m.severity SEV_DEBUG s i;
-    } in
+    let severity : IsSome m.severity = search (rules, severity_beside) in
+    let same : completed m ≡ m = search (rules, filled) in
     subst (λ (x : MessageValue). IsCanonical rule x) same (read_completed rule text m r).0
 
 -- ---- a printed message that is read back as itself has a facility
@@ -419,10 +387,7 @@ read_is_canonical rule version m e r =
 
 pub printed_again : (version : ℕ) (m : MessageValue) → m.protocol ≡ RFC5424 version → printed (completed m) ≡ printed m
 unfolding printed_5424
-printed_again version m e =
-    let same : printed_5424 version (completed m) ≡ printed_5424 version m =
-    rw (priority_same m.facility m.severity) refl in
-    printed_is version (completed m) e ∙ same ∙ sym (printed_is version m e)
+printed_again version m e = search rules
 
 pub read_again : (text : Text) (m : MessageValue) → IsRead5424 text m
     → IsRead5424 (printed m) (completed m) × (printed (completed m) ≡ printed m)

@@ -1,11 +1,13 @@
 -- What is left unparsed of a text: one text, which is that of its line, and nothing of a printed message.
-use Rattle.syslog_loose.proofs.Names.{◌≡◌, ◌⊎◌, inl, inr, ◌∷◌, ◌++◌, ◌∙◌, ◌also◌, ◌then◌, [], refl, sym, ap, subst}
-use Rattle.syslog_loose.proofs.Names.{List, Option, Some, None, option_map, Text, Class, Values, Front, Row, Division}
+use Rattle.syslog_loose.proofs.Names.{rules, ◌≡◌, ◌⊎◌, inl, inr, ◌∷◌, ◌++◌, ◌∙◌, ◌also◌, ◌then◌, [], refl, sym, ap}
+use Rattle.syslog_loose.proofs.Names.{subst, List, Option, Some, None, option_map, Text, Class, Values, Front, Row}
 use Rattle.syslog_loose.proofs.Names.{AllDeterministic, all_joined, run_det, rest_det, run, rest, texted, optional}
-use Rattle.syslog_loose.proofs.Names.{trimmed, number, is_blank, word, process_word, unique_division, front_division}
+use Rattle.syslog_loose.proofs.Names.{trimmed, is_blank, word, process_word, unique_division, front_division}
 use Rattle.syslog_loose.proofs.Names.{division_front, row_pieces, row_of, rows_join, MessageValue, rfc5424_row}
 use Rattle.syslog_loose.proofs.Names.{IsRead5424, IsRead3164, DashRule, Dating, Line, IsLineOf, named_process}
 use Rattle.syslog_loose.proofs.Names.{named_names, rfc3164_list, ElementValue, names_row, front_row, header_row}
+use Rattle.syslog_loose.proofs.Names.{rows_split, data_row, IsNot5424}
+use Rattle.syslog_text.proofs.PieceLemmas.Class.{firsts, lasts}
 use Rattle.syslog_loose.specs.Words.{forgiving, list_text}
 use Rattle.syslog_pieces.proofs.ProcIdLemmas.{absent_front, process_front}
 use Rattle.syslog_elements.proofs.StructuredDataLemmas.Unparsed.{IsBracketed, full_leaves, leaving_det}
@@ -20,7 +22,7 @@ use Rattle.syslog_loose.specs.declared.variant.Variant.TheVariants.{Either, RFC3
 use Rattle.syslog_loose.proofs.Rfc5424Lemmas.{header_det, tail_row}
 
 leaving_row_det : AllDeterministic leaving_row
-leaving_row_det = all_joined header_row tail_row header_det
+leaving_row_det = all_joined header_row (tail_row leaving) header_det
     (run_det is_blank also leaving_det also run_det is_blank also rest_det also tt)
 
 pub leaves_5424_same : (text u w : Text) → Leaves5424 text u → Leaves5424 text w → u ≡ w
@@ -30,39 +32,36 @@ leaves_5424_same text u w a b =
 leaving_front : {t q u : Text} → Front leaving t q u → (es : List ElementValue) × Front forgiving t q es
 leaving_front f = let ((es, is), left) = f.is in (es, record { piece = f.piece; whole = f.whole; is = is })
 
+-- the pieces of the structured data and of the message part, after the header
+tail_split : {text u : Text} (a : Leaves5424 text u) → (t : Text) × Front (Row header_row) (trimmed text) t
+    (firsts header_row (tail_row leaving) a.values)
+    × Front (Row (tail_row leaving)) t [] (lasts header_row (tail_row leaving) a.values)
+tail_split a = rows_split header_row (tail_row leaving) (division_front leaving_row a.division)
+
 -- what leaves something is read
-leaving_read : (t : Text) (vs : Values leaving_row) → Division leaving_row t vs
-    → (ws : Values rfc5424_row) × Division rfc5424_row t ws
-leaving_read t vs d =
-    let (t1, pri, (t2, number, (t3, s1, (t4, stamp, (t5, s2, (t6, name, (t7, s3, more))))))) =
-    row_pieces leaving_row (division_front leaving_row d) in
-    let (t8, app, (t9, s4, (t10, process, (t11, s5, after)))) = more in
-    let (t12, id, (t13, s6, (t14, list, (t15, s7, (t16, msg, end))))) = after in
-    let (es, forgiven) = leaving_front list in (
-      _,
-      front_division rfc5424_row (row_of rfc5424_row (pri then number then s1 then stamp then s2 then name then s3
-          then app then s4 then process then s5 then id then s6 then forgiven then s7 then msg then end)),
-    )
+leaves_read : {text u : Text} → Leaves5424 text u → IsNot5424 text → ⊥
+leaves_read a none =
+    let (_, header, tail) = tail_split a in
+    let (_, s1, (_, list, (_, s2, (_, msg, end)))) = row_pieces (tail_row leaving) tail in
+    let (es, forgiven) = leaving_front list in
+    none _ (front_division rfc5424_row (rows_join header_row data_row header
+    (row_of data_row (s1 then forgiven then s2 then msg then end))))
 
 pub leaves_same : (variant : Variant) (text u w : Text) → Leaves variant text u → Leaves variant text w → u ≡ w
 leaves_same RFC5424 text u w a b = leaves_5424_same text u w a b
 leaves_same RFC3164 text u w a b = a ∙ sym b
 leaves_same Either text u w (inl a) (inl b) = leaves_5424_same text u w a b
-leaves_same Either text u w (inl a) (inr (n, b)) =
-    absurd (let (ws, d) = leaving_read (trimmed text) a.values a.division in n ws d)
-leaves_same Either text u w (inr (n, a)) (inl b) =
-    absurd (let (ws, d) = leaving_read (trimmed text) b.values b.division in n ws d)
+leaves_same Either text u w (inl a) (inr (n, b)) = absurd (leaves_read a n)
+leaves_same Either text u w (inr (n, a)) (inl b) = absurd (leaves_read b n)
 leaves_same Either text u w (inr (n, a)) (inr (m, b)) = a ∙ sym b
 
 -- ---- what is left begins and ends in brackets
 
 left_shape : (text u : Text) → Leaves5424 text u → (u ≡ []) ⊎ IsBracketed u
 left_shape text u a =
-    let (t1, pri, (t2, number, (t3, s1, (t4, stamp, (t5, s2, (t6, name, (t7, s3, more))))))) =
-    row_pieces leaving_row (division_front leaving_row a.division) in
-    let (t8, app, (t9, s4, (t10, process, (t11, s5, after)))) = more in
-    let (t12, id, (t13, s6, (t14, list, (t15, s7, (t16, msg, end))))) = after in
-    subst (λ (x : Text). (x ≡ []) ⊎ IsBracketed x) (sym a.means) (left_bracketed list.piece t14 _ list.is)
+    let (_, _, tail) = tail_split a in
+    let (_, _, (t, list, _)) = row_pieces (tail_row leaving) tail in
+    subst (λ (x : Text). (x ≡ []) ⊎ IsBracketed x) (sym a.means) (left_bracketed list.piece t _ list.is)
 
 pub leaves_shape : (variant : Variant) (text u : Text) → Leaves variant text u → (u ≡ []) ⊎ IsBracketed u
 leaves_shape RFC5424 text u a = left_shape text u a
@@ -98,20 +97,18 @@ strict_leaves text line u is left =
       whole = list.whole;
       is = ((es, forgiven), subst (λ (x : Text). IsUnparsed x u) own left);
     } in
-    let tail = row_of tail_row (s1 then what then s2 then msg then end) in
+    let tail = row_of (tail_row leaving) (s1 then what then s2 then msg then end) in
     record {
       values = _;
-      division = front_division leaving_row (rows_join front_row (names_row ++ tail_row) is.front
-          (rows_join names_row tail_row names tail));
+      division = front_division leaving_row (rows_join front_row (names_row ++ tail_row leaving) is.front
+          (rows_join names_row (tail_row leaving) names tail));
       means = refl;
     }
 
 -- no message is read by both protocols
 apart : {rule : DashRule} {dating : Dating} {text : Text} {m : MessageValue} → IsRead5424 text m
     → IsRead3164 rule dating text m → ⊥
-apart {m = m} r s =
-    let e = sym (ap (λ (x : MessageValue). x.protocol) r.means)
-    ∙ ap (λ (x : MessageValue). x.protocol) s.means.2 in absurd cc
+apart {m = m} r s = search rules
 
 loose_list : (rule : DashRule) (p q : Text) (v : Option (List ElementValue)) → (optional (rfc3164_list rule)).Is p q v
     → IsUnparsed p []
@@ -139,10 +136,4 @@ leaves_of RFC3164 dating text line u of left = elim of.shows [
   | inl strict ↦ absurd (apart strict.read of.only.read)
   | inr loose ↦ loose_leaves dating text line u loose left
 ]
-leaves_of Either dating text line u of left = elim of.shows [
-  | inl strict ↦ inl (strict_leaves text line u strict left)
-  | inr loose ↦ elim of.only.read [
-    | inl read ↦ absurd (apart read loose.read)
-    | inr read ↦ inr (read.0, loose_leaves dating text line u loose left)
-  ]
-]
+leaves_of Either dating text line u of left = search (rules, strict_leaves, loose_leaves)

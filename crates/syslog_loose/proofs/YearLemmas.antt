@@ -1,8 +1,9 @@
 -- The last year that puts a date on a day or before it.
+use Rattle.std.proofs.Common.{rules}
 use Rattle.std.proofs.Common.{◌≡◌, ◌≢◌, ℕ, ℤ, ◌+◌, ◌-◌, ◌%◌, ◌≤◌, zero, suc, negsuc, ◌<ℤ◌, ◌≤ℤ◌, ◌+ℤ◌, Bool, true}
 use Rattle.std.proofs.Common.{inl, inr, ◌⊎◌, ◌==◌, refl, pos, arith, ◌&&◌, ◌||◌, not, subst, ◌∙◌}
 use Rattle.std.proofs.Common.{Ordering, Less, Equal, Greater, int_cmp, is_le, ◌↔◌}
-use Rattle.std.proofs.lemmas.Bool.{cases_eq, cases_lt}
+use Rattle.std.proofs.lemmas.Bool.{cases_lt}
 use Rattle.std.proofs.lemmas.Int.{by_lt_z, ints}
 use Rattle.std.specs.Cmp.{int_ranks}
 use Rattle.std.specs.Ordering.{MatchOrdering}
@@ -17,15 +18,9 @@ use Rattle.syslog_loose.specs.Reckoning.{IsDateBy}
 abbrev is_leap : ℕ → Bool
 is_leap n = (n % 4 == 0) && (not (n % 100 == 0) || (n % 400 == 0))
 
-leap_test : (n : ℕ) → n % 4 ≡ 0 → n % 100 ≢ 0 → is_leap n ≡ true
-leap_test n four hundred = grind (arith, four, hundred)
-
 -- of two years four apart that are divided by 4, one is a leap year
 one_of_two : (n : ℕ) → n % 4 ≡ 0 → (is_leap n ≡ true) ⊎ (is_leap (n + 4) ≡ true)
-one_of_two n four = elim (cases_eq (n % 100) 0) [
-  | inl century ↦ inr (leap_test (n + 4) (omega (arith, four)) (λ other. omega (arith, century, other)))
-  | inr none ↦ inl (leap_test n four none)
-]
+one_of_two n four = search rules
 
 abbrev LeapBefore : ℤ → Type 0
 LeapBefore y = (z : ℤ) × (y ≤ℤ (z +ℤ pos 8)) × (z <ℤ y) × (is_leap_year z ≡ true)

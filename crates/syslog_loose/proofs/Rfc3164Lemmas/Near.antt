@@ -1,20 +1,21 @@
 -- What is read as RFC 3164 meets the condition, but for its exceptions.
-use Rattle.syslog_loose.proofs.Names.{◌≡◌, ◌≢◌, ◌↔◌, ◌<◌, ◌⊎◌, ◌∷◌, ◌++◌, ◌∙◌, ℕ, inl, inr, Bool, List, [], length, Option}
-use Rattle.syslog_loose.proofs.Names.{Some, None, IfSome, IsSome, refl, sym, ap, subst, append_assoc, arith, option_map}
-use Rattle.syslog_loose.proofs.Names.{IfSome_then, is_not_whitespace, AllByRecursion, unwrap_or, Text, Front, Each, run}
-use Rattle.syslog_loose.proofs.Names.{skip_leading_whitespace, Ends, optional, spaced, IsBareWord, IsMany, priority}
-use Rattle.syslog_loose.proofs.Names.{NamesProcess, named_process, ElementValue, full_element, rfc3164_list, trimmed}
-use Rattle.syslog_loose.proofs.Names.{elements_or, is_blank, is_tag_char, dash, IsHost, host, tag_word, is_label_char}
-use Rattle.syslog_loose.proofs.Names.{is_open_char, rfc3164_stamp, month_date, IsCanonicalStamp, Dating, ProcId, PID}
-use Rattle.syslog_loose.proofs.Names.{Name, DashRule, OffsetTimestamp, division_front, heads, rest_whole, spaced_parts}
-use Rattle.syslog_loose.proofs.Names.{present_front, bare_prints, stamp_text_canonical, IsVisible, IsCanonicalElement}
-use Rattle.syslog_loose.proofs.Names.{HasQuietNames, is_no_colon, HasNoColon, IsOddHost, IsInnerProcess, MessageValue}
-use Rattle.syslog_loose.proofs.Names.{AreNamesButQuirks, HasQuirksAlone, IsNearlyCanonical, tag_text, Names3164}
-use Rattle.syslog_loose.proofs.Names.{Resolves, names, rfc3164_row, IsRead3164, stamped_row, fields_row, NamesProgram}
-use Rattle.syslog_loose.proofs.Names.{fields_before, form_row, IsForm, each_after, each_both, each_left, each_front}
-use Rattle.syslog_loose.proofs.Names.{each_right, begins, row_pieces, IsOfMonthDate, append_cancel_right, decimal}
-use Rattle.syslog_loose.proofs.Names.{decimal_digits, each_map, is_ascii_digit, name_text, named_names, nat_tests}
-use Rattle.syslog_loose.proofs.Names.{negsuc, pos, process_same, procid_text, rest_same, run_same, suc}
+use Rattle.syslog_loose.proofs.Names.{rules, ◌≡◌, ◌≢◌, ◌↔◌, ◌<◌, ◌⊎◌, ◌∷◌, ◌++◌, ◌∙◌, ℕ, inl, inr, Bool, List, []}
+use Rattle.syslog_loose.proofs.Names.{length, Option, Some, None, IfSome, IsSome, refl, sym, ap, subst, append_assoc}
+use Rattle.syslog_loose.proofs.Names.{arith, option_map, IfSome_then, is_not_whitespace, AllByRecursion, unwrap_or}
+use Rattle.syslog_loose.proofs.Names.{Text, Front, Each, run, skip_leading_whitespace, Ends, optional, spaced}
+use Rattle.syslog_loose.proofs.Names.{IsBareWord, IsMany, priority, NamesProcess, named_process, ElementValue}
+use Rattle.syslog_loose.proofs.Names.{full_element, rfc3164_list, trimmed, elements_or, is_blank, is_tag_char, dash}
+use Rattle.syslog_loose.proofs.Names.{IsHost, host, tag_word, is_label_char, is_open_char, rfc3164_stamp, month_date}
+use Rattle.syslog_loose.proofs.Names.{IsCanonicalStamp, Dating, ProcId, PID, Name, DashRule, OffsetTimestamp}
+use Rattle.syslog_loose.proofs.Names.{division_front, heads, rest_whole, spaced_parts, present_front, bare_prints}
+use Rattle.syslog_loose.proofs.Names.{stamp_text_canonical, IsVisible, IsCanonicalElement, HasQuietNames, is_no_colon}
+use Rattle.syslog_loose.proofs.Names.{HasNoColon, IsOddHost, IsInnerProcess, MessageValue, AreNamesButQuirks}
+use Rattle.syslog_loose.proofs.Names.{HasQuirksAlone, IsNearlyCanonical, tag_text, Names3164, Resolves, names}
+use Rattle.syslog_loose.proofs.Names.{rfc3164_row, IsRead3164, stamped_row, fields_row, NamesProgram, fields_before}
+use Rattle.syslog_loose.proofs.Names.{form_row, IsForm, each_after, each_both, each_left, each_front, each_right}
+use Rattle.syslog_loose.proofs.Names.{begins, row_pieces, IsOfMonthDate, append_cancel_right, decimal, decimal_digits}
+use Rattle.syslog_loose.proofs.Names.{each_map, is_ascii_digit, name_text, named_names, nat_tests, negsuc, pos}
+use Rattle.syslog_loose.proofs.Names.{process_same, procid_text, rest_same, run_same, suc}
 use Rattle.syslog_elements.proofs.StructuredDataLemmas.Elements.{element_canonical}
 use Rattle.syslog_loose.proofs.Rfc3164Lemmas.{of_names, shows, one_form}
 use Rattle.syslog_loose.proofs.PrintedLemmas.{drop_ends, last_ends, severity_beside}
@@ -60,9 +61,7 @@ TagField t (Some (Some w)) = ((0 < length w) × Each is_tag_char w × (w ≢ das
 TagField t field = Unit {0}
 
 pub tag_field : (t q : Text) (v : Option (Option Text)) → Front (optional (spaced tag_word)) t q v → TagField t v
-tag_field t q (Some (Some w)) f =
-    let (r, e, g) = spaced_parts tag_word (present_front (spaced tag_word) f) in
-    let (l, a, b, (i, d)) = g.is in (rw i (l, a, d), (r, e))
+tag_field t q (Some (Some w)) f = search rules
 tag_field t q field f = tt
 
 -- ---- the form
@@ -76,18 +75,12 @@ pub form_parts : (text tag id : Text) → IsForm text tag id → FormParts text 
 form_parts text tag id d =
     let (t1, g1, (t2, g2, (t3, g3, (t4, g4, end)))) = row_pieces form_row (division_front form_row d) in
     let e : id ≡ g3.piece = g3.is.2 in
-    record {
-      whole = cc (g1.whole, g1.is.2, (begins 91 t1 t2 g2), g3.whole, e, (begins 93 t3 t4 g4), end);
-      label = rw g1.is.2 g1.is.1.0;
-      some = rw e g3.is.1.0;
-      unclosed = rw e g3.is.1.1;
-    }
+    let whole : text ≡ tag ++ (91 ∷ (id ++ (93 ∷ []))) =
+    cc (g1.whole, g1.is.2, (begins 91 t1 t2 g2), g3.whole, e, (begins 93 t3 t4 g4), end) in search rules
 
 -- and what holds of each character of the text, of those of the id
 within_form : {text tag id : Text} (f : ℕ → Bool) → FormParts text tag id → Each f text → Each f id
-within_form {tag = tag} {id = id} f parts h =
-    let after = each_after f tag (91 ∷ (id ++ (93 ∷ []))) (rw parts.whole at h) in
-    each_front f id (93 ∷ []) after.1
+within_form {tag = tag} {id = id} f parts h = search (rules, each_after, each_front)
 
 -- what an id names
 inner_process : (id : Text) (process : ProcId Text) → NamesProcess id process → 0 < length id
@@ -206,17 +199,18 @@ process_open id (Name s) h each = subst (λ (x : Text). Each is_open_char x) (sy
 form_bare : (id : Text) (p : ProcId Text) (tag name between : Text) → FormParts name tag id → NamesProcess id p
     → name ++ between ≡ tag_text (Some tag) (Some p) → IsBareWord id × (between ≡ 58 ∷ 32 ∷ [])
 form_bare id p tag name between parts named e =
-    let own = ap (λ (x : Text). x ++ between) parts.whole ∙ append_assoc tag (91 ∷ (id ++ (93 ∷ []))) between in
-    let text = procid_text p in
-    let close : Text = 93 ∷ 58 ∷ 32 ∷ [] in
-    let after = append_cancel_left tag (91 ∷ ((id ++ (93 ∷ [])) ++ between)) (91 ∷ (text ++ close)) (sym own ∙ e) in
-    let inner = append_cancel_left (91 ∷ []) ((id ++ (93 ∷ [])) ++ between) (text ++ close) after in
-    let whole = sym (append_assoc id (93 ∷ []) between) ∙ inner in
-    let unclosed = process_open id p named parts.unclosed in
-    let same = run_same is_open_char id (93 ∷ between) text close whole parts.unclosed refl unclosed refl in
-    let end = rest_same id (93 ∷ between) text close whole same in (
-      ap procid_text (process_same id (named_process id) p (named_names id) named) ∙ sym same,
-      append_cancel_left (93 ∷ []) between (58 ∷ 32 ∷ []) end,
+    search (
+      rules,
+      append_assoc,
+      procid_text,
+      append_cancel_left,
+      process_open,
+      run_same,
+      is_open_char,
+      rest_same,
+      process_same,
+      named_process,
+      named_names,
     )
 
 module _ {tail t u name : Text} {origin : Option Text} (f : Front (optional (spaced host)) tail t (Some origin))
@@ -225,14 +219,19 @@ module _ {tail t u name : Text} {origin : Option Text} (f : Front (optional (spa
   fields_printed : (app : Option Text) (process : Option (ProcId Text))
       → (name ++ between ≡ tag_text app process) ↔ (tail ≡ fields_before (names origin app process) msg)
   fields_printed app process =
-      let (x, before, h) = spaced_parts host (present_front (spaced host) f) in
-      let (y, after, i) = spaced_parts tag_word (present_front (spaced tag_word) g) in
-      let own : tail ≡ 32 ∷ (name_text origin ++ (32 ∷ (name ++ (between ++ msg)))) =
-      cc (before, h.whole, verbatim.host_text h.piece _ origin h.is, after, i.whole, i.is.3.0, w) in (
-        λ same. own ∙ ap (λ (z : Text). 32 ∷ (name_text origin ++ (32 ∷ z)))
-            (sym (append_assoc name between msg) ∙ ap (λ (z : Text). z ++ msg) same),
-        λ e. append_cancel_right (name ++ between) (tag_text app process) msg (append_cancel_left
-            (32 ∷ (name_text origin ++ (32 ∷ []))) _ _ (simp append_assoc (sym own ∙ e))),
+      search (
+        rules,
+        spaced_parts,
+        host,
+        present_front,
+        spaced,
+        tag_word,
+        name_text,
+        verbatim.host_text,
+        append_assoc,
+        append_cancel_right,
+        tag_text,
+        append_cancel_left,
       )
 
   -- what they mean is quiet
@@ -241,11 +240,7 @@ module _ {tail t u name : Text} {origin : Option Text} (f : Front (optional (spa
   fields_quiet app process r =
       let near = near_names t (Some origin) (Some (Some name)) (names origin (Some app) process) r
       (host_field tail t (Some origin) f) (tag_field t u (Some (Some name)) g) in
-      record {
-        no_dash = IfSome_then origin near.odd_host (λ x odd is. (let none = odd (inl is) in cc));
-        no_last_colon = IfSome_then origin near.odd_host (λ x odd is. (let none = odd (inr is) in cc));
-        no_colon = elim near.colon [ inl none ↦ none | inr (_, none) ↦ absurd (cc) ];
-      }
+      search (rules, IfSome_then)
 
   -- the text of the process is bare, and `: ` is before the message
   abbrev IsBareBefore : Option Text → Type 0
@@ -260,15 +255,7 @@ module _ {tail t u name : Text} {origin : Option Text} (f : Front (optional (spa
       → FieldsTold process (names h a (option_map named_process process))
   fields_told h a None (inl (tag, id, p, form, named, same)) of =
       absurd (let none = ap (λ (x : Names3164). x.procid) same in cc)
-  fields_told h a None (inr (none, same)) of =
-      let prints = fields_printed (Some name) None in
-      subst (FieldsTold None) (sym same) (
-        (
-          λ k. prints.0 (ap (λ (x : Text). name ++ x) k.1),
-          λ e. (tt, append_cancel_left name between (58 ∷ 32 ∷ []) (prints.1 e)),
-        ),
-        fields_quiet name None (inr (none, refl)),
-      )
+  fields_told h a None (inr (none, same)) of = search (rules, fields_printed, append_cancel_left)
   fields_told h a (Some word) (inl (tag, id, p, form, named, same)) (tag', form') =
       let prints = fields_printed (Some tag) (Some p) in
       let parts = form_parts name tag id form in

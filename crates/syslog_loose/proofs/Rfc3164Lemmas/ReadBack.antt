@@ -1,24 +1,22 @@
 -- The printed text of a message of RFC 3164 is read as the message exactly if that is canonical: its division, piece by
 -- piece.
-use Rattle.syslog_loose.proofs.Names.{◌≡◌, ◌∷◌, ◌++◌, ◌∙◌, List, [], Option, Some, None, refl, sym, ap, append_assoc, ℕ}
-use Rattle.syslog_loose.proofs.Names.{decimal, drop_trailing_whitespace, Text, ElementValue, joined_elements, trimmed}
-use Rattle.syslog_loose.proofs.Names.{procid_text, ProcId, MessageValue, timestamp_text, tag_text, spaced_elements, ◌≢◌}
-use Rattle.syslog_loose.proofs.Names.{priority_of, ◌<◌, ◌then◌, suc, pos, inl, inr, not, negsuc, true, false, nat_eq}
-use Rattle.syslog_loose.proofs.Names.{length, IfSome, subst, arith, length-append, row_of, nat_tests, Values}
-use Rattle.syslog_loose.proofs.Names.{is_ascii_digit, AllByRecursion, Front, NoFront, Row, Each, Ends, run, exactly}
-use Rattle.syslog_loose.proofs.Names.{optional, spaced, IsMany, priority, NamesProcess, element_text, full_element, PID}
-use Rattle.syslog_loose.proofs.Names.{BeginsNoList, rfc3164_list, elements_or, is_blank, is_tag_char, dash, colon, host}
-use Rattle.syslog_loose.proofs.Names.{name_text, tag_word, is_label_char, is_open_char, rfc3164_stamp, IsCanonicalStamp}
-use Rattle.syslog_loose.proofs.Names.{Dating, Name, DashRule, OffsetTimestamp, both_values, heads, front_division}
-use Rattle.syslog_loose.proofs.Names.{optional_some, row_cons, rows_join, optional_none, rest_front, spaced_front}
-use Rattle.syslog_loose.proofs.Names.{no_spaced_piece, piece_front, host_back, decimal_digits, full_begins, no_full_nil}
-use Rattle.syslog_loose.proofs.Names.{no_rfc3164_list, printed_stamp_back, IsBoundedProcess, IsBounded, IsCanonicalHost}
-use Rattle.syslog_loose.proofs.Names.{IsCanonicalElement, is_process_char, IsBracketedProcess, AreCanonicalNames, names}
-use Rattle.syslog_loose.proofs.Names.{IsCanonical3164, IsCanonicalFor, IsCanonical, Resolves, rfc3164_row, IsRead3164}
-use Rattle.syslog_loose.proofs.Names.{body_row, IsForm, Protocol, RFC3164, each_map, each_left, each_right, each_append}
-use Rattle.syslog_loose.proofs.Names.{Begins}
-use Rattle.syslog_loose.proofs.Names.{begins_with}
-use Rattle.syslog_loose.proofs.Names.{IsLow}
+use Rattle.syslog_loose.proofs.Names.{rules, ◌≡◌, ◌∷◌, ◌++◌, ◌∙◌, List, [], Option, Some, None, refl, ap, append_assoc}
+use Rattle.syslog_loose.proofs.Names.{ℕ, decimal, drop_trailing_whitespace, Text, ElementValue, joined_elements}
+use Rattle.syslog_loose.proofs.Names.{trimmed, procid_text, ProcId, MessageValue, timestamp_text, tag_text}
+use Rattle.syslog_loose.proofs.Names.{spaced_elements, ◌≢◌, priority_of, ◌<◌, ◌then◌, suc, pos, inl, inr, not, negsuc}
+use Rattle.syslog_loose.proofs.Names.{true, false, nat_eq, length, IfSome, subst, arith, length-append, row_of}
+use Rattle.syslog_loose.proofs.Names.{nat_tests, Values, is_ascii_digit, AllByRecursion, Front, NoFront, Row, Each}
+use Rattle.syslog_loose.proofs.Names.{Ends, run, exactly, optional, spaced, IsMany, priority, NamesProcess}
+use Rattle.syslog_loose.proofs.Names.{element_text, full_element, PID, BeginsNoList, rfc3164_list, elements_or}
+use Rattle.syslog_loose.proofs.Names.{is_blank, is_tag_char, dash, colon, host, name_text, tag_word, is_label_char}
+use Rattle.syslog_loose.proofs.Names.{is_open_char, rfc3164_stamp, IsCanonicalStamp, Dating, Name, DashRule}
+use Rattle.syslog_loose.proofs.Names.{OffsetTimestamp, both_values, heads, front_division, optional_some, row_cons}
+use Rattle.syslog_loose.proofs.Names.{rows_join, optional_none, rest_front, spaced_front, no_spaced_piece, piece_front}
+use Rattle.syslog_loose.proofs.Names.{host_back, decimal_digits, no_full_nil, no_rfc3164_list, printed_stamp_back}
+use Rattle.syslog_loose.proofs.Names.{IsBoundedProcess, IsBounded, IsCanonicalHost, IsCanonicalElement, is_process_char}
+use Rattle.syslog_loose.proofs.Names.{IsBracketedProcess, AreCanonicalNames, names, IsCanonical3164, IsCanonicalFor}
+use Rattle.syslog_loose.proofs.Names.{IsCanonical, Resolves, rfc3164_row, IsRead3164, body_row, IsForm, Protocol}
+use Rattle.syslog_loose.proofs.Names.{RFC3164, each_map, each_left, each_right, each_append, Begins, begins_with, IsLow}
 use Rattle.syslog_loose.proofs.Names.{printed_stamp-begins, signed_writes}
 use Rattle.syslog_loose.specs.Printed.{printed_3164}
 use Rattle.syslog_loose.specs.Canonical.{EndsVisibly}
@@ -104,8 +102,7 @@ many_back (e ∷ es) q h k n = (
 no_full_end : (msg : Text) → NoFront full_element (message_end msg)
 unfolding message_end
 no_full_end [] = no_full_nil
-no_full_end (c ∷ cs) = λ p q v e h.
-    let (r, w) = full_begins p q v h in let u : ◌≡◌ {A = ℕ} 32 91 = heads 32 91 (c ∷ cs) r (e ∙ w) in omega arith
+no_full_end (c ∷ cs) = search rules
 
 abbrev pub list_field : List ElementValue → Option (List ElementValue)
 list_field [] = None
@@ -225,9 +222,7 @@ host_field_back origin q h =
 pub stamp_back : (dating : Dating) (v : Option OffsetTimestamp) (q : Text) → IfSome v IsCanonicalStamp
     → Front (rfc3164_stamp dating) (timestamp_text v ++ (32 ∷ q)) (32 ∷ q) v
 stamp_back dating None q h = piece_front (rfc3164_stamp dating) dash (32 ∷ q) None (inl refl)
-stamp_back dating (Some s) q h =
-    piece_front (rfc3164_stamp dating) (timestamp_text (Some s)) (32 ∷ q) (Some s)
-    (inl (printed_stamp_back s h, (q, refl)))
+stamp_back dating (Some s) q h = search (rules, printed_stamp_back)
 
 -- the names up to the colon, as they are printed
 pub names_back : (h a : Option Text) (p : Option (ProcId Text)) (t : Text) → IfSome h IsCanonicalHost
@@ -268,27 +263,10 @@ module _ (rule : DashRule) (dating : Dating) (m : MessageValue) (e : m.protocol 
       own.elements c.0.msg_front own.no_list)))
 
   means_back : m ≡ told rule dating values (names m.hostname m.appname m.procid)
-  means_back =
-      let parts = parts_back m.facility m.severity c.0.facility c.0.severity in
-      λ i. record m {
-        protocol = e i;
-        facility = parts.0 i;
-        severity = parts.1 i;
-        msgid = own.msgid i;
-        structured_data = list_same m.structured_data i;
-      }
+  means_back = search (rules, parts_back)
 
   pub canonical_back : IsRead3164 rule dating (printed_3164 m) m
-  canonical_back = record {
-    values = values;
-    division = front_division (rfc3164_row rule dating) (subst (λ (x : Text). Front (Row (rfc3164_row rule dating)) x []
-        values) (sym (trimmed_whole m c.0.msg_end)) row_back);
-    means = (
-      names m.hostname m.appname m.procid,
-      resolved m.hostname m.appname m.procid own.names b.procid,
-      means_back,
-    );
-  }
+  canonical_back = grind (arith, front_division, trimmed_whole, row_back, resolved, means_back)
 
 -- ---- the timestamp
 pub stamp_low : (s : OffsetTimestamp) → Begins IsLow (printed_stamp s.instant.nanosecond s.offset.seconds)

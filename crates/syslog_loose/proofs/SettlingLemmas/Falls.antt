@@ -1,25 +1,26 @@
 -- What the printed text of a message is read as: one that prints the same, or a lighter one; and its rank falls.
-use Rattle.syslog_loose.proofs.Names.{◌≡◌, ◌≢◌, ◌<◌, ◌≤◌, ◌⊎◌, ◌∷◌, ◌++◌, ◌∙◌, ◌-◌, ◌then◌, ℕ, inl, inr, true, false}
-use Rattle.syslog_loose.proofs.Names.{not, nat_eq, [], length, Option, None, IfSome, refl, sym, ap, subst, arith, Some}
-use Rattle.syslog_loose.proofs.Names.{append_assoc, append-nil, take, length-append, row_pieces, row_of, nat_tests, Row}
-use Rattle.syslog_loose.proofs.Names.{bytes_eq-Decides, is_not_whitespace, bytes_eq, Text, Values, Front, NoFront, Each}
-use Rattle.syslog_loose.proofs.Names.{Ends, run, exactly, optional, spaced, is_blank, dash, colon, EndsInColon, host}
-use Rattle.syslog_loose.proofs.Names.{name_text, tag_word, is_tag_char, ProcId, PID, Name, DashRule, BeforeBlank, names}
-use Rattle.syslog_loose.proofs.Names.{each_both, each_left, each_right, each_front, each_after, each_append, rows_step}
-use Rattle.syslog_loose.proofs.Names.{piece_front, IsBoundedProcess, IsVisible, IsCanonicalHost, AreCanonicalNames, ◌+◌}
-use Rattle.syslog_loose.proofs.Names.{is_no_colon, HasNoColon, is_inner_char, IsOddHost, AreNamesButQuirks, heads}
-use Rattle.syslog_loose.proofs.Names.{HasQuietNames, tag_text, Names3164, Resolves, body_row, names_weight, elements_or}
-use Rattle.syslog_loose.proofs.Names.{is_open_char, run_same, division_front, optional_some, optional_none, form_row}
-use Rattle.syslog_loose.proofs.Names.{spaced_front, no_spaced_space, no_spaced_piece, IsNoForm, ◌*◌, List, ElementValue}
-use Rattle.syslog_loose.proofs.Names.{option_map_or, rfc3164_stamp, IsCanonicalStamp, Dating, OffsetTimestamp, step}
-use Rattle.syslog_loose.proofs.Names.{step_value, IsCanonicalElement, HasQuirksAlone, MessageValue, timestamp_text}
-use Rattle.syslog_loose.proofs.Names.{priority_of, printed, rfc3164_row, IsRead3164, Weighs, tail_text, AllByRecursion}
-use Rattle.syslog_loose.proofs.Names.{facility_number, severity_number, facility_of, severity_of, rest_same, row_head}
-use Rattle.syslog_loose.proofs.Names.{front_same, row_det, Begins, begins_apart, begins_more, begins_with, IsLow, zero}
-use Rattle.syslog_loose.proofs.Names.{priority_composed, rfc3164_stamp_det, stamped_date_begins, stamp_text_canonical}
-use Rattle.syslog_loose.proofs.Names.{printed_stamp-visible, printed_stamp-begins, suc, nil_from_length, BeginsNoList}
-use Rattle.syslog_loose.proofs.Names.{IsDashBefore, IsDashed, HasNoNameQuirk, dash_rule, no_full_nil, EndsOnce}
-use Rattle.syslog_loose.proofs.Names.{HasRank, Prints, drop, list_any, BeginsNoDashes, IsCanonical, IsBounded, IsSome, RFC3164, ◌↔◌}
+use Rattle.syslog_loose.proofs.Names.{rules, ◌≡◌, ◌≢◌, ◌<◌, ◌≤◌, ◌⊎◌, ◌∷◌, ◌++◌, ◌∙◌, ◌-◌, ◌then◌, ℕ, inl, inr, true}
+use Rattle.syslog_loose.proofs.Names.{false, not, nat_eq, [], length, Option, None, IfSome, refl, sym, ap, subst, arith}
+use Rattle.syslog_loose.proofs.Names.{Some, append_assoc, append-nil, take, length-append, row_pieces, row_of}
+use Rattle.syslog_loose.proofs.Names.{nat_tests, Row, bytes_eq-Decides, is_not_whitespace, bytes_eq, Text, Values}
+use Rattle.syslog_loose.proofs.Names.{Front, NoFront, Each, Ends, run, exactly, optional, spaced, is_blank, dash, colon}
+use Rattle.syslog_loose.proofs.Names.{EndsInColon, host, name_text, tag_word, is_tag_char, ProcId, PID, Name, DashRule}
+use Rattle.syslog_loose.proofs.Names.{BeforeBlank, names, each_both, each_left, each_right, each_front, each_after}
+use Rattle.syslog_loose.proofs.Names.{each_append, rows_step, piece_front, IsBoundedProcess, IsVisible, IsCanonicalHost}
+use Rattle.syslog_loose.proofs.Names.{AreCanonicalNames, ◌+◌, is_no_colon, HasNoColon, is_inner_char, IsOddHost}
+use Rattle.syslog_loose.proofs.Names.{AreNamesButQuirks, heads, HasQuietNames, tag_text, Names3164, Resolves, body_row}
+use Rattle.syslog_loose.proofs.Names.{names_weight, elements_or, is_open_char, run_same, division_front, optional_some}
+use Rattle.syslog_loose.proofs.Names.{optional_none, form_row, spaced_front, no_spaced_space, no_spaced_piece, IsNoForm}
+use Rattle.syslog_loose.proofs.Names.{◌*◌, List, ElementValue, option_map_or, rfc3164_stamp, IsCanonicalStamp, Dating}
+use Rattle.syslog_loose.proofs.Names.{OffsetTimestamp, step, step_value, IsCanonicalElement, HasQuirksAlone}
+use Rattle.syslog_loose.proofs.Names.{MessageValue, timestamp_text, priority_of, printed, rfc3164_row, IsRead3164}
+use Rattle.syslog_loose.proofs.Names.{Weighs, tail_text, AllByRecursion, facility_number, severity_number, facility_of}
+use Rattle.syslog_loose.proofs.Names.{severity_of, rest_same, row_head, front_same, row_det, Begins, begins_apart}
+use Rattle.syslog_loose.proofs.Names.{begins_more, begins_with, zero, priority_composed, rfc3164_stamp_det}
+use Rattle.syslog_loose.proofs.Names.{stamped_date_begins, stamp_text_canonical, printed_stamp-visible}
+use Rattle.syslog_loose.proofs.Names.{printed_stamp-begins, suc, nil_from_length, BeginsNoList, IsDashBefore, IsDashed}
+use Rattle.syslog_loose.proofs.Names.{HasNoNameQuirk, dash_rule, no_full_nil, EndsOnce, HasRank, Prints, drop, list_any}
+use Rattle.syslog_loose.proofs.Names.{BeginsNoDashes, IsCanonical, IsBounded, IsSome, RFC3164, ◌↔◌}
 use Rattle.std.proofs.lemmas.List.{take-append-drop}
 use Rattle.std.proofs.lemmas.List.Prefix.{end_rest}
 use Rattle.syslog_loose.proofs.SettlingLemmas.Weights.{Decided, decided, find_run, no_char, no_list_by, no_list_inner}
@@ -29,7 +30,7 @@ use Rattle.syslog_loose.proofs.Rfc3164Lemmas.{resolves_once, from_blanks, to_col
 use Rattle.syslog_loose.proofs.Rfc3164Lemmas.{rfc3164_bounded, printed_3164_is, to_stamp, to_stamp_det, from_stamp}
 use Rattle.syslog_loose.proofs.Rfc3164Lemmas.{body_det, told}
 use Rattle.syslog_text.proofs.PieceLemmas.Class.{firsts}
-use Rattle.syslog_loose.proofs.CanonicalLemmas.{canonical_names, near_canonical}
+use Rattle.syslog_loose.proofs.CanonicalLemmas.{canonical_names, near_canonical, quiet_names}
 use Rattle.syslog_loose.proofs.Rfc3164Lemmas.ReadBack.{program_field, resolved, no_tag_colon, names_back, tagged}
 use Rattle.syslog_loose.proofs.Rfc3164Lemmas.ReadBack.{host_field_back, program_text, stamp_low, body_back, stamp_back}
 use Rattle.syslog_loose.proofs.Rfc3164Lemmas.ReadBack.{to_stamp_back, trimmed_whole, canonical_back}
@@ -138,11 +139,6 @@ has_colon (c ∷ x) z = grind (arith, has_colon x z)
 
 -- ---- what is read
 
-quiet_names : (h : Option Text) (p : Option (ProcId Text)) → IfSome h IsCanonicalHost → IfSome p HasNoColon
-    → HasQuietNames h p
-quiet_names None p k q = record { no_dash = tt; no_last_colon = tt; no_colon = q }
-quiet_names (Some h) p k q = record { no_dash = k.1; no_last_colon = k.2; no_colon = q }
-
 module _ (rule : DashRule) (t : Text) (n : Names3164) (vs : Values (body_row rule)) (r : Resolves vs.0 vs.1.0 n) where
   -- names that print the same and weigh no more, and after their colon what was printed there
   pub record Stays (h a : Option Text) (p : Option (ProcId Text)) : Type 0 where
@@ -183,13 +179,7 @@ module _ (rule : DashRule) (t : Text) (n : Names3164) (vs : Values (body_row rul
   canonical_stays g h a p same less k c q b d =
       let (means, after) = known (names_back g a p t k c b) (rw (← same) at d) in
       let e : n ≡ names g a p = resolves_once (Some g) (program_field a p) n (names g a p) means (resolved g a p c b) in
-      record {
-        light = rw e less;
-        host_is = ap (λ (x : Names3164). name_text x.hostname) e ∙ same;
-        tag_is = ap (λ (x : Names3164). tag_text x.appname x.procid) e;
-        quiet = rw e (quiet_names g p k q);
-        after = after;
-      }
+      search (rules, less, quiet_names)
 
   cut_moved : (h a : Option Text) (p : Option (ProcId Text)) → Cut p → h ≡ None → AreNamesButQuirks h a p
       → Reads (names_text h a p t) → Moved h p
@@ -324,9 +314,7 @@ stamp_step dating s q p r (Some z) e (inl (h, (more, f))) =
     let same = run_same is_not_whitespace (timestamp_text (Some s)) (32 ∷ q) p r e (printed_stamp-visible s) refl
     (stamp_each p z h) (space_ends r more f) in
     (stamp_text_canonical p z h, inl (sym (rest_same (timestamp_text (Some s)) (32 ∷ q) p r e same)))
-stamp_step dating s q p r v e (inr h) =
-    absurd (begins_apart (p ++ r) (λ c l k. omega arith) (subst (λ (y : Text). Begins IsLow y) e (begins_more IsLow
-    (timestamp_text (Some s)) (32 ∷ q) (stamp_low s))) (stamped_date_begins dating p r v h))
+stamp_step dating s q p r v e (inr h) = search (rules, begins_apart, begins_more, stamp_low, stamped_date_begins)
 
 -- ---- the message
 pub priority_again : (p : ℕ) → p < 192
@@ -485,25 +473,13 @@ module _ (rule : DashRule) (first second : Dating) (text : Text) (m n : MessageV
 
   host_falls : IfSome m.timestamp IsCanonicalStamp → IfSome m.hostname EndsOnce
       → IfSome n.hostname (λ h. EndsInColon h → ⊥)
-  host_falls k once = elim (named k) [
-    | inl stays ↦ (quiet_so stays.quiet).names.no_last_colon
-    | inr (_, _, inl (_, quiet)) ↦ (quiet_so quiet).names.no_last_colon
-    | inr (_, _, inr (x, is, host)) ↦ rw s.means.2 (host_is s.means.0.hostname x host ((rw is at once) x refl))
-  ]
+  host_falls k once = search (rules, named)
 
   quiet_falls : IfSome m.timestamp IsCanonicalStamp → IfSome m.hostname (λ h. EndsInColon h → ⊥) → HasNoNameQuirk n
-  quiet_falls k none = elim (named k) [
-    | inl stays ↦ quiet_so stays.quiet
-    | inr (_, _, inl (_, quiet)) ↦ quiet_so quiet
-    | inr (_, _, inr (x, is, host)) ↦ absurd ((rw is at none) (x, refl))
-  ]
+  quiet_falls k none = search (rules, named, quiet_so)
 
   quiet_ended : HasNoNameQuirk m → Ended rule m.structured_data m.msg s.values.1.1.1.1.1.1.1
-  quiet_ended q = elim (named q.timestamp) [
-    | inl stays ↦ ended stays
-    | inr (_, _, inl (cut, _)) ↦ absurd (cut q.names.no_colon)
-    | inr (_, _, inr (x, is, _)) ↦ absurd ((rw is at q.names.no_last_colon) (x, refl))
-  ]
+  quiet_ended q = search (rules, named, ended)
 
 -- ---- read back from the printed text exactly where it is canonical
 
@@ -514,8 +490,11 @@ read_is_canonical rule dating m s =
     let same = s.means.2 in
     let first = stamped rule dating dating (printed m) m m s s in
     let (_, _, there, _, _) = priority_composed (priority_of m) (priority_small m) in
-    let facility : IsSome m.facility = rw (ap (λ (x : MessageValue). x.facility) same,
-    ap (λ (x : Values to_stamp). x.0) first.0, there) refl in
+    let facility : IsSome m.facility = rw (
+      ap (λ (x : MessageValue). x.facility) same,
+      ap (λ (x : Values to_stamp). x.0) first.0,
+      there,
+    ) refl in
     let stamp = canonical rule dating dating (printed m) m m s s in
     elim (named rule dating dating (printed m) m m s s stamp) [
       | inr moved ↦
@@ -539,26 +518,25 @@ module _ (first second : Dating) (text : Text) (m n : MessageValue) (r : IsRead3
   abbrev EndedSo : Type 0
   EndedSo = Ended BeforeBlank m.structured_data m.msg s.values.1.1.1.1.1.1.1
 
-  no_list : EndedSo → BeginsNoDashes m → n.structured_data ≡ [] → BeginsNoList dash_rule n.msg
-  no_list end bare = rw s.means.2 (λ e. elim end [
-    | inl (es, msg, none) ↦ rw msg (none (sym es ∙ e))
+  -- without elements, what is left of the message part begins with no list, or follows a dash
+  left : EndedSo → n.structured_data ≡ []
+      → BeginsNoList dash_rule n.msg ⊎ ((m.structured_data ≡ []) × IsDashed m.msg n.msg)
+  left end = rw s.means.2 (λ e. elim end [
+    | inl (es, msg, none) ↦ inl (rw msg (none (sym es ∙ e)))
     | inr (es, _, _, dashed) ↦
         let (rest, is, before, gap) = dashed e in
-        elim (end_or_dashed m.msg rest _ is before gap) [ inl z ↦ no_end _ z | inr d ↦ absurd (bare es _ d) ]
+        elim (end_or_dashed m.msg rest _ is before gap) [ inl z ↦ inl (no_end _ z) | inr d ↦ inr (es, d) ]
   ])
+
+  no_list : EndedSo → BeginsNoDashes m → n.structured_data ≡ [] → BeginsNoList dash_rule n.msg
+  no_list end bare e = elim (left end e) [ inl none ↦ none | inr (es, d) ↦ absurd (bare es _ d) ]
 
   no_dashes : EndedSo → (m.structured_data ≡ [] → (p q : Text) → IsDashed m.msg p → IsDashed p q → ⊥)
       → BeginsNoDashes n
-  no_dashes end last = rw s.means.2 (λ e next d. elim end [
-    | inl (es, msg, none) ↦
-        (none (sym es ∙ e)).0 (d.blanks ++ next) (sym msg ∙ d.whole) (dash_before d.blanks next d.some d.each)
-    | inr (es, _, _, dashed) ↦
-        let (rest, is, before, gap) = dashed e in
-        elim (end_or_dashed m.msg rest _ is before gap) [
-          | inl z ↦ let k = sym z ∙ d.whole in cc
-          | inr f ↦ last es _ next f d
-        ]
-  ])
+  no_dashes end last e next d = elim (left end e) [
+    | inl none ↦ none.0 (d.blanks ++ next) d.whole (dash_before d.blanks next d.some d.each)
+    | inr (es, f) ↦ last es _ next f d
+  ]
 
   abbrev quiet : IfSome m.timestamp IsCanonicalStamp → IfSome m.hostname (λ h. EndsInColon h → ⊥) → HasNoNameQuirk n
   quiet = quiet_falls BeforeBlank first second text m n r s

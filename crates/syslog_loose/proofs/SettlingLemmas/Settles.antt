@@ -1,24 +1,25 @@
 -- Rounds of a text: one is stable first, or one is missing; and the rounds that are skipped, with what is written of
 -- them.
-use Rattle.syslog_loose.proofs.Names.{subst, is_not_whitespace, chars_from_encodes, IsCanonicalStamp, dash_rfc3164_list}
-use Rattle.syslog_loose.proofs.Names.{IsUnreadable, encode_utf8_all, IsReportedRound, IsAfterPriority, IsBoundedProcess}
-use Rattle.syslog_loose.proofs.Names.{IsFirstSettled, ShowsMonthDate, HasQuirksAlone, nil_from_length, joined_elements}
-use Rattle.syslog_loose.proofs.Names.{◌≡◌, optional_some, ReadsProtocol, HasNoNameQuirk, front_division, encodes-append}
-use Rattle.syslog_loose.proofs.Names.{Dating, BeginsWithout, length-append, rfc3164_stamp, colons_before, encodes-chars}
-use Rattle.syslog_loose.proofs.Names.{leb_tells, append_assoc, MessageValue, string_bytes, elements_text, chars-IsAscii}
-use Rattle.syslog_loose.proofs.Names.{NoneSettled, priority_of, IsCanonical, ElementValue, rfc3164_list, PassesDashes}
-use Rattle.syslog_loose.proofs.Names.{◌<◌, piece_front, EndsInColon, BeforeBlank, past_colons, rfc3164_row, facility_of}
-use Rattle.syslog_loose.proofs.Names.{zero, month_date, severity_of, MatchOption, encode_utf8, chars_empty, colon_ascii}
-use Rattle.syslog_loose.proofs.Names.{IsSettled, HasNoQuirk, IsRead3164, ParseFault, line_value, each_front, EndsColons}
-use Rattle.syslog_loose.proofs.Names.{dash_rule, tail_text, Names3164, rest_front, append-nil, CutsColons, front_same}
-use Rattle.syslog_loose.proofs.Names.{is_blank, Protocol, IsDashed, with_msg, Resolves, body_row, row_cons, rows_join}
-use Rattle.syslog_loose.proofs.Names.{printed, IsRound, Reaches, Variant, trimmed, RFC5424, Invalid, EndsOnce, some_run}
-use Rattle.syslog_loose.proofs.Names.{ap, IsNext, length, IsFixed, HasRank, IsLater, exactly, run_det, is_some, IsAscii}
-use Rattle.syslog_loose.proofs.Names.{ℕ, Option, IsRead, Either, IsUtf8, Weighs, Memory, Result, Global, String, row_of}
-use Rattle.syslog_loose.proofs.Names.{arith, Front, false, chars, ◌then◌, IfSome, Values, colon, colons, Prints, begins}
-use Rattle.syslog_loose.proofs.Names.{refl, Text, ◌++◌, true, None, Some, Bool, List, IfOk, Made, names, shown, Skips}
-use Rattle.syslog_loose.proofs.Names.{◌⊎◌, ◌∙◌, suc, inl, inr, sym, ◌≤◌, ◌∷◌, ◌+◌, ◌↔◌, Err, Row, rest, run, ◌-◌, Ends}
-use Rattle.syslog_loose.proofs.Names.{[], Ok, Bor, ◌*◌}
+use Rattle.syslog_loose.proofs.Names.{rules, subst, is_not_whitespace, chars_from_encodes, IsCanonicalStamp}
+use Rattle.syslog_loose.proofs.Names.{dash_rfc3164_list, IsUnreadable, encode_utf8_all, IsReportedRound}
+use Rattle.syslog_loose.proofs.Names.{IsAfterPriority, IsBoundedProcess, IsFirstSettled, ShowsMonthDate, HasQuirksAlone}
+use Rattle.syslog_loose.proofs.Names.{nil_from_length, ◌≡◌, optional_some, ReadsProtocol, HasNoNameQuirk}
+use Rattle.syslog_loose.proofs.Names.{front_division, encodes-append, Dating, BeginsWithout, length-append}
+use Rattle.syslog_loose.proofs.Names.{rfc3164_stamp, colons_before, encodes-chars, leb_tells, append_assoc}
+use Rattle.syslog_loose.proofs.Names.{MessageValue, string_bytes, elements_text, chars-IsAscii, NoneSettled}
+use Rattle.syslog_loose.proofs.Names.{priority_of, IsCanonical, ElementValue, rfc3164_list, PassesDashes, ◌<◌}
+use Rattle.syslog_loose.proofs.Names.{piece_front, EndsInColon, BeforeBlank, past_colons, rfc3164_row, zero, month_date}
+use Rattle.syslog_loose.proofs.Names.{MatchOption, encode_utf8, chars_empty, colon_ascii, IsSettled, HasNoQuirk}
+use Rattle.syslog_loose.proofs.Names.{IsRead3164, ParseFault, line_value, each_front, EndsColons, dash_rule, tail_text}
+use Rattle.syslog_loose.proofs.Names.{Names3164, rest_front, append-nil, CutsColons, front_same, is_blank, Protocol}
+use Rattle.syslog_loose.proofs.Names.{IsDashed, with_msg, Resolves, body_row, row_cons, rows_join, printed, IsRound}
+use Rattle.syslog_loose.proofs.Names.{Reaches, Variant, trimmed, RFC5424, Invalid, EndsOnce, some_run, ap, IsNext}
+use Rattle.syslog_loose.proofs.Names.{length, IsFixed, HasRank, IsLater, exactly, run_det, is_some, IsAscii, ℕ, Option}
+use Rattle.syslog_loose.proofs.Names.{IsRead, Either, IsUtf8, Weighs, Memory, Result, Global, String, row_of, arith}
+use Rattle.syslog_loose.proofs.Names.{Front, false, chars, ◌then◌, IfSome, Values, colon, colons, Prints, begins, refl}
+use Rattle.syslog_loose.proofs.Names.{Text, ◌++◌, true, None, Some, Bool, List, IfOk, Made, names, shown, Skips, ◌⊎◌}
+use Rattle.syslog_loose.proofs.Names.{◌∙◌, suc, inl, inr, sym, ◌≤◌, ◌∷◌, ◌+◌, ◌↔◌, Err, Row, rest, run, ◌-◌, Ends, []}
+use Rattle.syslog_loose.proofs.Names.{Ok, Bor, ◌*◌}
 use Rattle.syslog_loose.proofs.ReadingLemmas.{read_once, invalid_or_memory}
 use Rattle.syslog_loose.specs.Printed.{printed_3164}
 use Rattle.syslog_loose.specs.declared.variant.Variant.TheVariants.{RFC3164}
@@ -50,8 +51,7 @@ last_or_before k n l = elim (leb_tells n k) [ inl a ↦ inl (omega (arith, a.1))
 
 module _ (variant : Variant) (dating : Dating) where
   one_next : (t u x : Text) → IsNext variant dating t u → IsNext variant dating t x → u ≡ x
-  one_next t u x a b = a.is_printed ∙ ap printed (read_once variant dating t a.message b.message a.read b.read)
-      ∙ sym b.is_printed
+  one_next t u x a b = search (rules, read_once)
 
   one_round : (t : Text) (n : ℕ) (u x : Text) → IsRound variant dating t n u → IsRound variant dating t n x → u ≡ x
   one_round t zero u x a b = a ∙ sym b
@@ -143,10 +143,7 @@ module _ (variant : Variant) (dating : Dating) where
   -- the message of a settled text is canonical
   pub settled_canonical : (text : Text) (m : MessageValue) → IsSettled variant dating text
       → IsRead variant dating text m → IsCanonical dash_rule m
-  settled_canonical text m s r =
-      let same = read_once variant dating text s.message m s.read r in
-      (printed_exact dating m (read_bounded variant dating text m r) variant (read_protocol variant dating text m r)).0
-      (subst (λ (x : Text). IsRead variant dating x m) (s.is_printed ∙ ap printed same) r)
+  settled_canonical text m s r = search (rules, read_once, printed_exact, read_bounded)
 
   -- so a text is not settled whose message of RFC 3164 has an exception
   pub odd_unsettled : (text : Text) (m : MessageValue) → IsRead variant dating text m → m.protocol ≡ protocol.RFC3164
@@ -158,11 +155,7 @@ module _ (variant : Variant) (dating : Dating) where
   -- before a text that is not stable is one that is read as RFC 3164
   unsettled_rfc3164 : (text u : Text) (h : IsNext variant dating text u) → (IsSettled variant dating u → ⊥)
       → IsRead3164 dash_rule dating text h.message
-  unsettled_rfc3164 text u h unsettled = elim (read_as variant dating text h.message h.read) [
-    | inl s ↦
-        absurd (unsettled (rw h.is_printed (fixed_settled text h.message h.read (inr (inl (text, s))))))
-    | inr s ↦ s
-  ]
+  unsettled_rfc3164 text u h unsettled = search (rules, fixed_settled)
 
   -- the message of round n weighs n less than the text has characters
   weighs_less : (t : Text) (n : ℕ) (u : Text) (m : MessageValue) (w : ℕ) → IsRound variant dating t n u
@@ -238,19 +231,12 @@ module _ (variant : Variant) (dating : Dating) where
         → IsReportedRound variant dating text (chars bytes) true
     told_settled bytes u w rest =
         let next : IsNext variant dating text (chars bytes) =
-        record { message = m; read = r; is_printed = sym (chars_from_encodes (printed m) bytes u (sym w)) } in (
-          next,
-          rw next.is_printed (fixed_settled text m r (inr (elim (read_as variant dating text m r) [
-            | inl s ↦ inl (text, s)
-            | inr s ↦ inr (
-              text,
-              dating,
-              s,
-              subst (λ (p : Protocol). IsStable p m)
-                  (read_near dash_rule dating text m s).protocol rest,
-            )
-          ]))),
-        )
+        record { message = m; read = r; is_printed = sym (chars_from_encodes (printed m) bytes u (sym w)) } in
+        let stable = λ (p : Protocol). IsStable p m in
+        let fixed : IsFixed m = inr (elim (read_as variant dating text m r) [
+          | inl s ↦ inl (text, s)
+          | inr s ↦ inr (text, dating, s, subst stable (read_near dash_rule dating text m s).protocol rest)
+        ]) in (next, rw next.is_printed (fixed_settled text m r fixed))
 
     -- where it has a quirk, a later one may take its place, and what is read of that has a lower rank
     pub told_later : (later : Text) → m.protocol ≡ protocol.RFC3164 → (HasNoQuirk dash_rule m → ⊥)
@@ -330,9 +316,7 @@ module _ (variant : Variant) (dating : Dating) where
 
 -- what is read back has the priority of the message, so that what is read of its print is read with that
 read_twice : (m : MessageValue) (n : Names3164) (t : Text) → read_with (read_with m n t) n t ≡ read_with m n t
-read_twice m n t =
-    ap (λ (p : ℕ). record (read_with m n t) { facility = facility_of p; severity = severity_of p })
-    (priority_again (priority_of m) (priority_small m))
+read_twice m n t = search (rules, priority_again)
 
 abbrev names_of : MessageValue → Names3164
 names_of m = names m.hostname m.appname m.procid
@@ -431,7 +415,7 @@ module _ (dating : Dating) (text : Text) (m : MessageValue) (r : IsRead3164 Befo
       after_stamp (Some m.hostname, (program_field m.appname m.procid, (tt, (Some tt, from)))) (names_of m)
       none.timestamp
       (rows_join to_colon (from_blanks BeforeBlank) (names_back m.hostname m.appname m.procid tail
-      (canonical_host m.hostname near.hostname none.names.no_dash none.names.no_last_colon) canonical bounded)
+      (canonical_host m.hostname m.procid near.hostname none.names) canonical bounded)
       (rw (es, d.whole) list))
       (resolved m.hostname m.appname m.procid canonical bounded)
 
@@ -442,16 +426,7 @@ module _ (variant : Variant) (dating : Dating) (input : Text) (m : MessageValue)
   Known n y = (text : Text) × IsRead3164 BeforeBlank dating text y × Reaches variant dating input (suc n) (printed y)
 
   known : Known 0 m
-  known = (
-    input,
-    elim (read_as variant dating input m r) [
-      | inl s ↦ absurd (let other = sym e ∙ ap (λ (x : MessageValue). x.protocol) s.means in cc)
-      | inr s ↦ s
-    ],
-    reached_next variant dating input 0 input (printed m)
-        (reached_none variant dating input) (λ l. absurd (omega arith))
-        (record { message = m; read = r; is_printed = refl }),
-  )
+  known = search rules
 
   -- the next round, which has an exception itself
   next_known : (n : ℕ) (y z : MessageValue) → Known n y → IsRead3164 BeforeBlank dating (printed_3164 y) z
@@ -470,15 +445,7 @@ module _ (variant : Variant) (dating : Dating) (input : Text) (m : MessageValue)
 
   known_later : (n : ℕ) (y : MessageValue) (later : Text) → Known n y → later ≡ printed y → Prints m y
       → IsLater variant dating input m later
-  known_later n y later (text, read, reaches) is prints = record {
-    before = n;
-    reaches = rw is reaches;
-    text = text;
-    message = y;
-    read = read;
-    is_printed = is;
-    passes = prints;
-  }
+  known_later n y later (text, read, reaches) is prints = search rules
 
   -- ---- rounds in which a host loses its colons
   module _ (stamp : IfSome m.timestamp IsCanonicalStamp) where
@@ -503,14 +470,9 @@ module _ (variant : Variant) (dating : Dating) (input : Text) (m : MessageValue)
     colons_later h n k once =
         let odd : IfSome m.hostname (λ x. EndsInColon x → ⊥) → ⊥ = λ none. (rw k.hostname at none)
         (h ++ colons n, rw (append_assoc, repeat_sum colon n 1 (suc n) (omega arith)) refl) in
-        known_later (suc n) (past_colons m h n) _ (all_colons h n k.hostname k.keeps) refl (record {
-          timestamp = refl;
-          one_colon = λ canonical. once;
-          host = λ none. absurd (odd none);
-          quiet = λ q. absurd (odd q.names.no_last_colon);
-          last_dash = λ q. absurd (odd q.names.no_last_colon);
-          no_dashes = λ q. absurd (odd q.names.no_last_colon);
-        })
+        let none : HasNoNameQuirk m → ⊥ = λ q. odd q.names.no_last_colon in
+        let prints : Prints m (past_colons m h n) = search (rules, none) in
+        known_later (suc n) (past_colons m h n) _ (all_colons h n k.hostname k.keeps) refl prints
 
   -- ---- rounds in which a message part loses its dashes
   next_dash : (n : ℕ) (y : MessageValue) (u next : Text) → Known n y → HasNoNameQuirk y → y.structured_data ≡ []
@@ -537,27 +499,14 @@ module _ (variant : Variant) (dating : Dating) (input : Text) (m : MessageValue)
       → (IfSome m.timestamp IsCanonicalStamp → IfSome m.hostname EndsOnce)
       → IsLater variant dating input m (printed (with_msg m u))
   dashes_later zero u is some last once =
-      known_later 0 m _ known (ap (λ (x : Text). printed (with_msg m x)) is) (record {
-        timestamp = refl;
-        one_colon = once;
-        host = λ none. refl;
-        quiet = λ q. q;
-        last_dash = λ q es p next d. last q es p next (rw is d);
-        no_dashes = λ q bare. bare;
-      })
+      known_later 0 m _ known (ap (λ (x : Text). printed (with_msg m x)) is) (search (rules, rw is at last))
   dashes_later (suc n) u p some last once =
       let (none, es) = some (omega arith) in
       let same : printed (with_msg m u) ≡ printed (read_with m (names_of m) u) = printed_3164_is (with_msg m u) e
       ∙ sym (printed_same (with_msg m u) (read_with m (names_of m) u)
       (priority_again (priority_of m) (priority_small m)) refl refl refl (sym es) refl) in
-      known_later (suc n) (read_with m (names_of m) u) _ (all_dashes none es n u p) same (record {
-        timestamp = refl;
-        one_colon = once;
-        host = λ none. refl;
-        quiet = λ q. record { timestamp = q.timestamp; names = q.names };
-        last_dash = λ q _. last q es;
-        no_dashes = λ q bare. absurd (let (next, d) = passes_dashed n m.msg u p in bare es next d);
-      })
+      known_later (suc n) (read_with m (names_of m) u) _ (all_dashes none es n u p) same
+      (search (rules, passes_dashed n m.msg u p, last none es))
 
 -- ---- what the code finds and writes
 
@@ -628,12 +577,7 @@ pub tail_pushed : (old mid new : List ℕ) (es : List ElementValue) (msg : Text)
     → new ≡ old ++ encode_utf8_all (tail_text es msg)
 unfolding encode_utf8
 tail_pushed old mid new [] msg n e f = absurd (n refl)
-tail_pushed old mid new (x ∷ es) msg n e f = rw (
-  f,
-  e,
-  encodes-append (joined_elements (x ∷ es)) (message_end msg),
-  append_assoc,
-) refl
+tail_pushed old mid new (x ∷ es) msg n e f = search (rules, encodes-append, append_assoc)
 
 -- what `strip_suffix` of a text gives
 pub suffix_bytes : (run bytes short : List ℕ) → StripsSuffix (FindsTextSuffix run) bytes short → bytes ≡ short ++ run
@@ -647,8 +591,7 @@ cut_on name host shorter c n k e o =
 
 cut_twice : (name host shorter : List ℕ) (c n : ℕ) → CutsColons name host c → CutsColons host shorter n
     → CutsColons name shorter (c + n)
-cut_twice name host shorter c zero k l = cut_on name host shorter c zero k l.whole
-    (λ p. subst EndsInColon (l.whole ∙ append-nil shorter) (k.keeps (omega (arith, p))))
+cut_twice name host shorter c zero k l = search rules
 cut_twice name host shorter c (suc n) k l = cut_on name host shorter c (suc n) k l.whole (λ p. l.keeps (omega arith))
 
 repeat_ascii : (n : ℕ) → IsAscii (colons n)
@@ -660,14 +603,7 @@ pub cut_chars : (name host shorter : List ℕ) (c n : ℕ) → IsUtf8 shorter �
     → CutsColons host shorter n → CutsColons (chars name) (chars shorter) (c + n)
 cut_chars name host shorter c n u k l =
     let both = cut_twice name host shorter c n k l in
-    record {
-      whole = rw (
-        both.whole,
-        chars-append shorter (colons (c + n)) u,
-        chars-IsAscii (colons (c + n)) (repeat_ascii (c + n)),
-      ) refl;
-      keeps = λ p. colon_end shorter u (both.keeps p);
-    }
+    search (rules, both, chars-append, chars-IsAscii, repeat_ascii, colon_end)
 
 pub once_chars : (bs : List ℕ) → IsUtf8 bs → EndsOnce bs → EndsOnce (chars bs)
 once_chars bs u n front e (g, f) =

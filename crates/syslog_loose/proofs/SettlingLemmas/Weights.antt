@@ -1,21 +1,20 @@
 -- What a message weighs: one weight, no more than its text has characters; and which texts begin with a list.
-use Rattle.syslog_loose.proofs.Names.{drop_trailing_whitespace, skip_leading_whitespace, stamp_text_canonical, run_same}
-use Rattle.syslog_loose.proofs.Names.{is_not_whitespace, AllDeterministic, bytes_eq-Decides, IsCanonicalStamp, row_cons}
+use Rattle.syslog_loose.proofs.Names.{rules, drop_trailing_whitespace, skip_leading_whitespace, stamp_text_canonical}
+use Rattle.syslog_loose.proofs.Names.{run_same, is_not_whitespace, AllDeterministic, IsCanonicalStamp, row_cons}
 use Rattle.syslog_loose.proofs.Names.{no_full_opening, OffsetTimestamp, no_rfc3164_list, BeforeAnything, begins_no_list}
 use Rattle.syslog_loose.proofs.Names.{division_front, no_full_start, is_inner_char, length-append, option_map_or, false}
 use Rattle.syslog_loose.proofs.Names.{IsRfc3164List, present_front, rfc3164_stamp, full_element, IsDashBefore, some_run}
 use Rattle.syslog_loose.proofs.Names.{BeginsNoList, front_longer, is_name_char, is_open_char, ElementValue, BeforeBlank}
-use Rattle.syslog_loose.proofs.Names.{rfc3164_list, absent_stays, MessageValue, names_weight, full_shorter, opening_row}
-use Rattle.syslog_loose.proofs.Names.{spaced_parts, unsigned_abs, opening_det, piece_front, full_begins, elements_or, ℕ}
-use Rattle.syslog_loose.proofs.Names.{absent_none, rfc3164_row, is_id_char, each_right, row_pieces, front_same, NoFront}
-use Rattle.syslog_loose.proofs.Names.{rest_whole, IsRead3164, month_date, prefix_len, no_texted, eqb_tells, start_row}
-use Rattle.syslog_loose.proofs.Names.{each_both, each_left, leb_tells, Names3164, MonthDate, unwrap_or, is_blank, subst}
-use Rattle.syslog_loose.proofs.Names.{DashRule, bytes_eq, optional, Resolves, row_head, tag_word, body_row, priority}
-use Rattle.syslog_loose.proofs.Names.{own_year, exactly, run_det, ◌then◌, ◌also◌, length, row_of, texted, decide, arith}
-use Rattle.syslog_loose.proofs.Names.{begins, nat_eq, no_row, Option, IfSome, Values, ProcId, Weighs, spaced, IsHost}
-use Rattle.syslog_loose.proofs.Names.{Dating, heads, Class, Front, start, colon, Costs, month, ◌++◌, zero, Bool, true}
-use Rattle.syslog_loose.proofs.Names.{List, refl, Text, Each, Ends, None, Some, dash, Name, step, join, host, ◌≡◌, ◌≤◌}
-use Rattle.syslog_loose.proofs.Names.{◌⊎◌, ◌∷◌, ◌∙◌, suc, inl, inr, sym, Row, run, ◌<◌, not, ◌+◌, ◌%◌, pos, PID, [], ap}
+use Rattle.syslog_loose.proofs.Names.{rfc3164_list, absent_stays, MessageValue, names_weight, opening_row, opening_det}
+use Rattle.syslog_loose.proofs.Names.{piece_front, full_begins, elements_or, ℕ, absent_none, rfc3164_row, is_id_char}
+use Rattle.syslog_loose.proofs.Names.{each_right, row_pieces, front_same, NoFront, rest_whole, IsRead3164, month_date}
+use Rattle.syslog_loose.proofs.Names.{no_texted, eqb_tells, start_row, each_both, each_left, Names3164, MonthDate}
+use Rattle.syslog_loose.proofs.Names.{unwrap_or, is_blank, subst, DashRule, optional, Resolves, row_head, tag_word}
+use Rattle.syslog_loose.proofs.Names.{exactly, run_det, ◌then◌, ◌also◌, length, row_of, texted, decide, arith, begins}
+use Rattle.syslog_loose.proofs.Names.{nat_eq, no_row, Option, IfSome, Values, ProcId, Weighs, spaced, IsHost, Dating}
+use Rattle.syslog_loose.proofs.Names.{heads, Class, Front, start, colon, Costs, month, ◌++◌, zero, Bool, true, List}
+use Rattle.syslog_loose.proofs.Names.{refl, Text, Each, Ends, None, Some, Name, step, join, ◌≡◌, ◌≤◌, ◌⊎◌, ◌∷◌, ◌∙◌}
+use Rattle.syslog_loose.proofs.Names.{suc, inl, inr, sym, Row, run, ◌<◌, not, ◌+◌, PID, [], ap, rows_split, stamped_row}
 use Rattle.syslog_text.proofs.PieceLemmas.Class.{row_nil, row_none_here, row_none_later, texted_front, no_front_no}
 use Rattle.syslog_text.proofs.PieceLemmas.Class.{Meets, meets_here, meets_none}
 use Rattle.syslog_text.proofs.PieceLemmas.Lists.{no_more, no_more_after}
@@ -32,11 +31,10 @@ use Rattle.syslog_elements.specs.StructuredData.Escapes.{pair, single}
 use Rattle.syslog_elements.specs.StructuredData.{param}
 use Rattle.syslog_loose.proofs.PrintedLemmas.{visible_no_blank}
 use Rattle.std.proofs.lemmas.List.{reverse-append}
-use Rattle.std.proofs.lemmas.Int.{ints, by_lt_z}
 use Rattle.std.proofs.lemmas.List.Sums.{suffix_len-le-length}
 use Rattle.syslog_loose.specs.Settling.{end_colons, colons_weight, host_weight, process_weight}
-use Rattle.syslog_loose.proofs.Rfc3164Lemmas.{from_list, from_blanks, from_colon, from_tag_end, from_tag, from_stamp}
-use Rattle.syslog_loose.proofs.Rfc3164Lemmas.{from_priority_end, of_names}
+use Rattle.syslog_loose.proofs.Rfc3164Lemmas.{from_list, from_blanks}
+use Rattle.syslog_loose.proofs.Rfc3164Lemmas.{to_colon, of_names}
 
 -- ---- whether a list begins a text can be decided, piece by piece
 
@@ -241,10 +239,7 @@ no_full t i p q v e h =
 -- the text is the message
 pub no_list_inner : (z s : Text) → Each is_inner_char z
     → Ends is_blank (z ++ (93 ∷ s)) × BeginsNoList BeforeBlank (z ++ (93 ∷ s))
-no_list_inner z s h =
-    let i = inner_name z s h in
-    let none = no_full (z ++ (93 ∷ s)) i in
-    (ends_blank (z ++ (93 ∷ s)) i, (λ q e a. no_dash q (inner_on (45 ∷ []) q e (refl, tt) i).1 a, none))
+no_list_inner z s h = search (rules, inner_name, no_full)
 
 -- a text that begins with a dash and a blank begins with a list
 pub dash_before : (blanks next : Text) → 0 < length blanks → Each is_blank blanks
@@ -277,17 +272,7 @@ once rule m w v a b = omega (arith, a.total, b.total, cost_once a.stamp_is b.sta
 -- whether the timestamp is canonical can be decided
 stamp_decided : (s : Option OffsetTimestamp) → Decided (IfSome s IsCanonicalStamp)
 stamp_decided None = inl tt
-stamp_decided (Some s) =
-    by_lt_z {P = Decided (IsCanonicalStamp s)} (own_year s) (pos 0) (λ l. inr
-    (λ k. let e = k.year_from in omega (arith, ints, e, l))) (λ from. by_lt_z {P = Decided (IsCanonicalStamp s)}
-    (pos 9999) (own_year s) (λ l. inr (λ k. let e = k.year_to in omega (arith, ints, e, l))) (λ to.
-    elim (eqb_tells (unsigned_abs s.offset.seconds % 60) 0) [
-      | inl m ↦ elim (leb_tells 86_400 (unsigned_abs s.offset.seconds)) [
-        | inl d ↦ inr (λ k. let e = k.day in let f = d.1 in omega (arith, e, f))
-        | inr d ↦ inl (record { year_from = from; year_to = to; minutes = m.1; day = d.1 })
-      ]
-      | inr m ↦ inr (λ k. m.1 k.minutes)
-    ]))
+stamp_decided (Some s) = search rules
 
 -- so can whether the message begins with a list although there is no element
 list_free : (rule : DashRule) (es : List ElementValue) (msg : Text) → Decided (es ≡ [] → BeginsNoList rule msg)
@@ -305,21 +290,12 @@ weight rule m =
     (_, record { stamp = a; taken = b; stamp_is = x; taken_is = y; total = refl })
 
 -- ---- the names weigh no more than the fields that they are in
-colons_light : (n : ℕ) → colons_weight n ≤ n + 1
-colons_light zero = omega arith
-colons_light (suc n) = omega arith
-
 -- a dash does not end in a colon
 pub host_light : (h : Text) → host_weight h ≤ end_colons h + 1
-host_light h = elim (decide (bytes_eq h dash)) [
-  | inl e ↦ rw ((bytes_eq-Decides h dash).0 e) (omega arith)
-  | inr e ↦ rw e (omega (arith, colons_light (end_colons h)))
-]
+host_light h = search rules
 
 pub colon_weight : (h : Text) → end_colons h + 2 ≤ host_weight (h ++ colon)
-colon_weight h =
-    let e : end_colons (h ++ colon) ≡ 1 + end_colons h = ap (prefix_len (λ c. nat_eq c 58)) (reverse-append h colon) in
-    let more : end_colons (h ++ colon) ≡ suc (end_colons h) = omega arith in omega (arith, ap colons_weight more)
+colon_weight h = search (rules, reverse-append)
 
 pub process_light : (p : ProcId Text) → process_weight p ≤ 1
 process_light (PID n) = omega arith
@@ -352,13 +328,7 @@ module _ (rule : DashRule) where
   list_some : (p q : Text) (es : List ElementValue) → IsRfc3164List rule p q es → 0 < length p
   list_some p q es (inl (d, a, e)) = omega (arith, ap length d)
   list_some p q [] (inr (l, h)) = absurd (omega arith)
-  list_some p q (e ∷ es) (inr (l, (a, b, i, k, more))) = omega (
-    arith,
-    full_shorter (a ++ (b ++ q)) (b ++ q) e (piece_front full_element a (b ++ q) e k),
-    length-append a (b ++ q),
-    length-append a b,
-    ap length i,
-  )
+  list_some p q (e ∷ es) (inr (l, (a, b, i, k, more))) = search rules
 
   -- What is left of a text from which a list may be taken: all of it, or less where a list begins it. Where that has no
   -- element, it follows a dash.
@@ -445,9 +415,7 @@ field_short : (Is : Text → Text → Option Text → Type 0) → ((p q : Text) 
     (Some v) ≤ suc (length p)) → {t q : Text} (v : Option (Option Text)) → Front (optional
     (spaced (record { Value = Option Text; Is = Is }))) t q v → field_length v + length q ≤ length t
 field_short Is short None f = omega (arith, front_longer _ f)
-field_short Is short {q = q} (Some v) f =
-    let (r, e, g) = spaced_parts (record { Value = Option Text; Is = Is }) (present_front _ f) in
-    omega (arith, short g.piece q v g.is, ap length e, ap length g.whole, length-append g.piece q)
+field_short Is short {q = q} (Some v) f = search (rules, length-append)
 
 -- ---- the message
 pub light : (rule : DashRule) (dating : Dating) (text : Text) (m : MessageValue) (w : ℕ) → IsRead3164 rule dating text m
@@ -455,14 +423,11 @@ pub light : (rule : DashRule) (dating : Dating) (text : Text) (m : MessageValue)
 light rule dating text m w r x =
     let (n, resolves, means) = r.means in
     let y = subst (λ (z : MessageValue). Weighs rule z w) means x in
-    let (_, pri, f1) = row_head (optional priority) (from_priority_end rule dating)
+    let front_row = stamped_row dating ++ to_colon in
+    let (u, front, left) = rows_split front_row (from_blanks rule)
     (division_front (rfc3164_row rule dating) r.division) in
-    let (_, blanks, f2) = row_head (run is_blank) (from_stamp rule dating) f1 in
-    let (v, stamp, f3) = row_head (rfc3164_stamp dating) (body_row rule) f2 in
-    let (_, origin, f4) = row_head (optional (spaced host)) (from_tag rule) f3 in
-    let (_, program, f5) = row_head (optional (spaced tag_word)) (from_tag_end rule) f4 in
-    let (_, gap, f6) = row_head (run is_blank) (from_colon rule) f5 in
-    let (u, mark, f7) = row_head (optional (exactly colon)) (from_blanks rule) f6 in
+    let (_, pri, (_, blanks, (v, stamp, (_, origin, (_, program, (_, gap, (_, mark, end))))))) =
+    row_pieces front_row front in
     omega (
       arith,
       y.total,
@@ -472,7 +437,8 @@ light rule dating text m w r x =
       field_short tag_word.Is tag_length r.values.1.1.1.1.0 program,
       front_longer _ gap,
       front_longer _ mark,
-      message_short rule u r.values.1.1.1.1.1.1.1 f7,
+      message_short rule u r.values.1.1.1.1.1.1.1 left,
+      ap length end,
       at_most y.taken_is,
       ap length stamp.whole,
       length-append stamp.piece v,

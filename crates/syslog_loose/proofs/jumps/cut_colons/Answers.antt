@@ -3,9 +3,7 @@ use Rattle.syslog_loose.proofs.SettlingLemmas.Settles.{cut_chars, once_chars}
 use Rattle.syslog_loose.proofs.jumps.cut_colons.Goals as goal
 
 pub returns-clause-cuts : goal.returns-clause-cuts
-returns-clause-cuts c =
-    let u : IsUtf8 c.cut_runs-few.result.0.now = search rules in
-    cut_chars _ _ _ _ _ u c.cut_runs-many.ensures.cuts c.cut_runs-few.ensures.cuts
+returns-clause-cuts c = search (rules, cut_chars)
 
 pub returns-clause-once : goal.returns-clause-once
 returns-clause-once c =

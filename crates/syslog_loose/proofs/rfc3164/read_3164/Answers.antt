@@ -1,12 +1,12 @@
-use Rattle.syslog_loose.proofs.Names.{◌≡◌, ◌↔◌, ◌∙◌, ◌++◌, ◌then◌, List, ℕ, [], Option, refl, sym, ap, arith, Text, Ends}
-use Rattle.syslog_loose.proofs.Names.{ElementValue, elements_or, rfc3164_list, is_blank, front_same, run_det, rows_join}
-use Rattle.syslog_loose.proofs.Names.{rest_front, begins_no_list, dash_rule, row_of, spaced_elements, optional, run}
-use Rattle.syslog_loose.proofs.Names.{stamped_row, fields_row, body_row, fields_before, names_value, ◌∷◌, Class}
-use Rattle.syslog_loose.proofs.Names.{rest, texted, front_division, BeginsNoList, chars_empty, nil_from_length, Front}
-use Rattle.syslog_loose.proofs.Names.{empty_is, length, IsTrue, ◌&&◌, encode_utf8_all, encodes-chars, chars, Bool}
-use Rattle.syslog_loose.proofs.Names.{Names3164, nat_eq, IsUtf8, piece_front}
+use Rattle.syslog_loose.proofs.Names.{rules, ◌≡◌, ◌↔◌, ◌∙◌, ◌++◌, ◌then◌, List, ℕ, [], Option, refl, sym, ap, arith}
+use Rattle.syslog_loose.proofs.Names.{Text, Ends, ElementValue, elements_or, rfc3164_list, is_blank, front_same}
+use Rattle.syslog_loose.proofs.Names.{run_det, rows_join, rest_front, begins_no_list, dash_rule, row_of}
+use Rattle.syslog_loose.proofs.Names.{spaced_elements, optional, run, stamped_row, fields_row, body_row, fields_before}
+use Rattle.syslog_loose.proofs.Names.{names_value, ◌∷◌, Class, rest, texted, front_division, BeginsNoList, chars_empty}
+use Rattle.syslog_loose.proofs.Names.{nil_from_length, Front, empty_is, length, IsTrue, ◌&&◌, encode_utf8_all}
+use Rattle.syslog_loose.proofs.Names.{encodes-chars, chars, Bool, Names3164, nat_eq, IsUtf8, piece_front}
 use Rattle.std.proofs.Common.{eq-eqb}
-use Rattle.std.proofs.lemmas.Bool.{and_from, and_parts}
+use Rattle.std.proofs.lemmas.Bool.{and_parts}
 use Rattle.syslog_loose.proofs.LineLemmas.{texted_as}
 use Rattle.syslog_loose.proofs.Rfc3164Lemmas.{is_read, from_list, list_none}
 use Rattle.syslog_loose.proofs.rfc3164.read_3164.Goals as goal
@@ -38,13 +38,7 @@ module _ {rest after msg own : Text} {es : Option (List ElementValue)} {elements
       → IsTrue b ↔ (Host × Tag × (text ≡ fields_before names rest)) → IsTrue empty ↔ (own ≡ [])
       → IsTrue (b && empty) ↔ (Host × Tag × (own ≡ [])
       × (text ≡ fields_before names (spaced_elements elements ++ msg)))
-  fits names {b = b} {empty = empty} printed none = (
-    λ e. let (f, h) = and_parts b empty e in
-        let (host, tag, is) = printed.0 f in
-        (host, tag, none.0 h, is ∙ ap (λ (x : Text). fields_before names x) (sym (bare (none.0 h)).0)),
-    λ k. and_from b empty (printed.1 (k.0, k.1, k.3 ∙ ap (λ (x : Text). fields_before names x) (bare k.2).0))
-        (none.1 k.2),
-  )
+  fits names {b = b} {empty = empty} printed none = search (rules, bare)
 
 pub returns-clause-reads : goal.returns-clause-reads
 returns-clause-reads g c dating whole f =
@@ -55,7 +49,8 @@ returns-clause-reads g c dating whole f =
     let text = c.visit_rfc3164_list.ensures.text in
     let empty = empty_told c.is_empty.result c.text.result.now c.text.utf8 c.is_empty.ensures in
     record {
-      read = is_read dash_rule dating whole _ _ _ refl (names, fields.means, rw same refl) (rows_join (stamped_row dating) (body_row dash_rule) f (rows_join fields_row (from_list dash_rule)
+      read = is_read dash_rule dating whole _ _ _ refl (names, fields.means, rw same refl)
+          (rows_join (stamped_row dating) (body_row dash_rule) f (rows_join fields_row (from_list dash_rule)
           fields.front (row_of (from_list dash_rule) (list then c.blanks.ensures then rest_front _ then refl))));
       front = f;
       after = _;

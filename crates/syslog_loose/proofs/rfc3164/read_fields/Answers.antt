@@ -1,12 +1,11 @@
 use Rattle.syslog_loose.proofs.Names.{◌≡◌, ◌↔◌, ◌∷◌, ◌∙◌, ◌then◌, [], List, ℕ, refl, sym, ap, arith, true, row_of}
 use Rattle.syslog_loose.proofs.Names.{chars, run, optional, exactly, seen, shown, is_blank, colon, one_ascii, text_is}
 use Rattle.syslog_loose.proofs.Names.{HasQuietNames, fields_row, fields_before, names_value, Option, Some, None, Text}
-use Rattle.syslog_loose.proofs.Names.{IfSome, IsBareWord}
+use Rattle.syslog_loose.proofs.Names.{IfSome, IsBareWord, field_seen, rules}
 use Rattle.std.specs.Borrow.{Bor}
 use Rattle.std.specs.Option.{is_some, option_flatten}
 use Rattle.std.proofs.lemmas.Str.Ascii.{IsAscii-cons}
 use Rattle.syslog_text.proofs.TextLemmas.Runs.{text_same}
-use Rattle.syslog_loose.proofs.Names.{field_seen, rules}
 use Rattle.syslog_loose.proofs.Rfc3164Lemmas.Near.{fields_told}
 use Rattle.syslog_loose.proofs.rfc3164.read_fields.Goals as goal
 

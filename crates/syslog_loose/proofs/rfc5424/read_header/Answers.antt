@@ -1,5 +1,5 @@
 use Rattle.syslog_loose.proofs.Names.{◌≡◌, ◌then◌, ◌past◌, Option, None, inl, refl, Text, row_of, no_row, header_row}
-use Rattle.syslog_loose.proofs.Names.{front_row, names_row, rows_join, Bor, List, ℕ, Line, IfSome, MatchOption, Some}
+use Rattle.syslog_loose.proofs.Names.{front_row, names_row, rows_join, Bor, List, ℕ, Line}
 use Rattle.syslog_text.proofs.PieceLemmas.Class.{Fails, match_map, rows_none_later}
 use Rattle.syslog_loose.specs.Bodies.View5424.{ReadsHeader}
 use Rattle.syslog_loose.proofs.Rfc5424Lemmas.{front_det, header_det}
@@ -9,12 +9,6 @@ use Rattle.syslog_loose.proofs.rfc5424.read_header.Goals as goal
 
 unread : {text : Text} (r : Option (Line × Bor (List ℕ))) → r ≡ None → Fails header_row text → ReadsHeader text r
 unread r e fails = rw e (no_row header_row header_det fails)
-
--- what a clause says of a line and what another says of it, together
-both_known : {X : Type 0} (r : Option X) (N : Type 0) (P Q R : X → Type 0) → ((x : X) → P x → Q x → R x)
-    → MatchOption r N P → IfSome r Q → IfSome r R
-both_known None N P Q R f p q = tt
-both_known (Some x) N P Q R f p q = f x p q
 
 pub returns-in_err-version-clause-reads : goal.returns-in_err-version-clause-reads
 returns-in_err-version-clause-reads g c whole f = unread _ c.from_residual.ensures (f past inl c.in_err-version.ensures)

@@ -1,8 +1,8 @@
-use Rattle.syslog_loose.proofs.Names.{◌≡◌, ◌⊎◌, ◌∙◌, ◌∷◌, ◌++◌, ◌then◌, ◌past◌, Option, Some, None, IfSome}
-use Rattle.syslog_loose.proofs.Names.{sym, ap, arith, inl, inr, refl, option_map, IsBareWord, Text, Class, Front}
-use Rattle.syslog_loose.proofs.Names.{named_process, process_text, process_word, named_names, host, word, name_text}
-use Rattle.syslog_loose.proofs.Names.{row_of, no_row, names_row, seen, shown, some_run, is_blank, is_not_whitespace}
-use Rattle.syslog_loose.proofs.Names.{[], append_cancel_right, front_same, some_run_det, Ends, NoFront}
+use Rattle.syslog_loose.proofs.Names.{◌≡◌, ◌⊎◌, ◌∙◌, ◌∷◌, ◌++◌, ◌then◌, ◌past◌, Option, Some, None, IfSome, sym, ap}
+use Rattle.syslog_loose.proofs.Names.{arith, inl, inr, refl, option_map, IsBareWord, Text, Class, Front, named_process}
+use Rattle.syslog_loose.proofs.Names.{process_text, process_word, named_names, host, word, name_text, row_of, no_row}
+use Rattle.syslog_loose.proofs.Names.{names_row, seen, shown, some_run, is_blank, is_not_whitespace, []}
+use Rattle.syslog_loose.proofs.Names.{append_cancel_right, front_same, some_run_det, Ends, NoFront}
 use Rattle.std.proofs.lemmas.List.{append_cancel_left}
 use Rattle.syslog_text.proofs.PieceLemmas.Class.{front_of}
 use Rattle.syslog_pieces.proofs.ProcIdLemmas.{absent_front, process_front, no_process}

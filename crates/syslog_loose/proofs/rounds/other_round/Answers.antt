@@ -1,4 +1,4 @@
-use Rattle.syslog_loose.proofs.Names.{IsUtf8-string_bytes, refl, ap, line_value, protocol_of, no_truth}
+use Rattle.syslog_loose.proofs.Names.{rules, IsUtf8-string_bytes, refl, line_value}
 use Rattle.syslog_loose.proofs.SettlingLemmas.Settles.{rests_so, told_later, told_settled}
 use Rattle.syslog_loose.proofs.rounds.other_round.Goals as goal
 
@@ -9,6 +9,4 @@ returns-then-has_no_quirk c = λ variant dating whole r.
     (rests_so m.protocol m (c.if-has_no_quirk.ensures.0 refl))
 
 pub returns : goal.returns
-returns c = λ variant dating whole r. told_later variant dating whole (line_value c.args.line.now) r _
-    (ap protocol_of c.requires.rfc3164) (λ h. no_truth (c.if-has_no_quirk.ensures.1 h)) (c.in_ok-write_round.ensures
-    variant dating whole r c.requires.rfc3164)
+returns c = search (rules, told_later)

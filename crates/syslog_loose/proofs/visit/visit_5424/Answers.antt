@@ -1,15 +1,11 @@
-use Rattle.syslog_loose.proofs.Names.{◌past◌, no_row, inl, refl, rows_none_here, no_row_division}
-use Rattle.syslog_loose.proofs.Names.{visits_none, data_row, header_row, no_number, rfc5424_row}
+use Rattle.syslog_loose.proofs.Names.{rules, ◌past◌, no_row, inl, refl, rows_none_here, no_row_division, visits_none}
+use Rattle.syslog_loose.proofs.Names.{data_row, header_row, no_number, rfc5424_row}
 use Rattle.syslog_loose.proofs.Rfc5424Lemmas.{header_det}
 use Rattle.syslog_text.proofs.PieceLemmas.Class.{match_map}
 use Rattle.syslog_loose.proofs.visit.visit_5424.Goals as goal
 
 pub returns-then-not-reads_rfc5424 : goal.returns-then-not-reads_rfc5424
-returns-then-not-reads_rfc5424 g c whole f = (
-  (λ n. absurd (n c.if-not-reads_rfc5424.ensures)),
-  refl,
-  visits_none g.E.ElementVisitor.was_given c.args.elements.now,
-)
+returns-then-not-reads_rfc5424 g c whole f = search rules
 
 pub returns-then-not-begins_with_digit : goal.returns-then-not-begins_with_digit
 returns-then-not-begins_with_digit g c whole f =

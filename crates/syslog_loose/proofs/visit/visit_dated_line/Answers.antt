@@ -1,4 +1,4 @@
-use Rattle.syslog_loose.proofs.Names.{◌∙◌, Some, None, refl, sym, chars, dating_of, visits_none}
+use Rattle.syslog_loose.proofs.Names.{rules, ◌∙◌, Some, None, refl, sym, chars, dating_of, visits_none}
 use Rattle.syslog_loose.proofs.ReadingLemmas.{dated_in, dated_invalid, undated_invalid, strict_shows_none, visits_after}
 use Rattle.syslog_loose.proofs.ReadingLemmas.{asked_month, dated_front, left_to_try, other_front, in_year_map, unasked}
 use Rattle.syslog_loose.proofs.ReadingLemmas.{asks_none, dated_left, line_3164, line_5424, shows_date, shows_none}
@@ -33,16 +33,7 @@ returns-in-Some-visit_5424-clause-makes g c =
     (line, line_5424 c.args.variant (dating_of year c.args.tz c.args.local) line read, makes, given))
 
 pub returns-in_default-front_stamp-clause-makes : goal.returns-in_default-front_stamp-clause-makes
-returns-in_default-front_stamp-clause-makes g c =
-    let f = rw c.trimmed.ensures at c.optional_priority-priority.ensures in
-    let whole = chars c.args.input.now in
-    let (strict, same, given) = c.in_default-visit_5424.ensures whole f in
-    unasked (asks_none c.args.variant whole f c.in-None.ensures) (λ year. (
-      undated_invalid c.args.variant whole f c.in-None.ensures c.in_default-front_stamp.ensures strict
-          (dating_of year c.args.tz c.args.local),
-      same,
-      given,
-    ))
+returns-in_default-front_stamp-clause-makes g c = search (rules, asks_none, undated_invalid)
 
 pub returns-clause-makes : goal.returns-clause-makes
 returns-clause-makes g c =

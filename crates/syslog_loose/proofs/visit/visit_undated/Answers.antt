@@ -1,4 +1,4 @@
-use Rattle.syslog_loose.proofs.Names.{sym}
+use Rattle.syslog_loose.proofs.Names.{rules, sym}
 use Rattle.syslog_loose.proofs.ReadingLemmas.{left_to_try, other_front, undated_invalid, line_3164, line_5424}
 use Rattle.syslog_loose.proofs.ReadingLemmas.{visits_after}
 use Rattle.syslog_loose.proofs.visit.visit_undated.Goals as goal
@@ -9,9 +9,7 @@ returns-in-Some g c whole f without dating =
     (line, line_5424 c.args.variant dating line read, makes, given)
 
 pub returns-in_default-front_stamp : goal.returns-in_default-front_stamp
-returns-in_default-front_stamp g c whole f without dating =
-    let (strict, same, given) = c.in_default.ensures whole f in
-    (undated_invalid c.args.variant whole f without c.in_default-front_stamp.ensures strict dating, same, given)
+returns-in_default-front_stamp g c whole f without dating = search (rules, undated_invalid)
 
 pub returns : goal.returns
 returns g c whole f without dating =

@@ -1,5 +1,5 @@
-use Rattle.syslog_loose.proofs.Names.{◌≡◌, ◌++◌, ◌∙◌, [], ℕ, List, Result, Ok, Err, string_bytes, sym, ap, on_ok_weaker}
-use Rattle.syslog_loose.proofs.Names.{encodes-chars, encode_utf8_all, line_value, printed, OnOk, refl, ap₂}
+use Rattle.syslog_loose.proofs.Names.{rules, ◌≡◌, ◌++◌, ◌∙◌, [], ℕ, List, Result, Ok, Err, string_bytes, sym, ap}
+use Rattle.syslog_loose.proofs.Names.{encodes-chars, encode_utf8_all, line_value, printed, OnOk, ap₂}
 use Rattle.std.specs.Bool.{if◌then◌else◌}
 use Rattle.std.specs.Result.{is_ok}
 use Rattle.syslog_loose.proofs.PrintedLemmas.{printed_line}
@@ -16,9 +16,7 @@ pushed (Ok x) new old piece all e h = e ∙ h
 pushed (Err x) new old piece all e h = tt
 
 pub returns-then-not-line : goal.returns-then-not-line
-returns-then-not-line c =
-    on_ok_weaker c.push_line.result (started _ _ _ _ (c.in_ok-reserve.ensures.bytes ∙ c.clear.ensures.bytes) refl)
-    c.push_line.ensures
+returns-then-not-line c = search rules
 
 pub returns : goal.returns
 returns c =

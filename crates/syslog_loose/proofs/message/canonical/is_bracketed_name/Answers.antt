@@ -1,5 +1,5 @@
-use Rattle.syslog_loose.proofs.Names.{refl, false_is, no_truth, each_both, each_left, each_right, is_tag_char}
-use Rattle.syslog_loose.proofs.Names.{is_open_char, chars, no_number_told}
+use Rattle.syslog_loose.proofs.Names.{rules, false_is, no_truth, each_both, each_left, each_right, is_tag_char}
+use Rattle.syslog_loose.proofs.Names.{is_open_char}
 use Rattle.syslog_loose.proofs.message.canonical.is_bracketed_name.Goals as goal
 
 pub returns-then-not-is_some_of : goal.returns-then-not-is_some_of
@@ -11,8 +11,4 @@ returns-then-not-is_only c =
     false_is (λ h. no_truth (c.if-not-is_only.ensures.1 (each_right is_tag_char is_open_char _ h.1)))
 
 pub returns : goal.returns
-returns c =
-    let (long, tags) = c.if-not-is_some_of.ensures.0 refl in
-    let unclosed = c.if-not-is_only.ensures.0 refl in
-    let number = no_number_told (chars c.args.name.now) _ c.names_number.ensures in
-    ((λ h. (long, each_both is_tag_char is_open_char _ tags unclosed, number.0 h)), (λ h. number.1 h.2))
+returns c = search (rules, each_both)

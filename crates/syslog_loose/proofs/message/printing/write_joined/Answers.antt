@@ -1,5 +1,5 @@
-use Rattle.syslog_loose.proofs.Names.{sym, ap, refl, [], has_written_of_eq, put_two, encode_utf8_all, element_text}
-use Rattle.syslog_loose.proofs.Names.{element_value, text_of, take_all, encodes_step, flat_map-map}
+use Rattle.syslog_loose.proofs.Names.{arith, refl, [], put_two, element_text, element_value, text_of, take_all}
+use Rattle.syslog_loose.proofs.Names.{encodes_step, flat_map-map}
 use Rattle.syslog_loose.proofs.message.printing.write_joined.Goals as goal
 
 pub loop-element-preserved : goal.loop-element-preserved
@@ -10,8 +10,4 @@ loop-element-preserved g c = λ canonical.
     c.loop-element-test.true c.element-item.is refl)
 
 pub returns : goal.returns
-returns g c canonical ok =
-    let elements = c.args.elements.now in
-    let value = element_value (text_of g.S.AsStr.text) in
-    let all = rw (take_all _ elements c.loop-element-test.false) at c.loop-element.invariant canonical in
-    has_written_of_eq _ _ _ _ _ (ap encode_utf8_all (sym (flat_map-map element_text value elements))) all
+returns g c canonical ok = grind (arith, take_all, flat_map-map)
