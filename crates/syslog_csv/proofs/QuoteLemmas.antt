@@ -7,10 +7,10 @@ use Rattle.std.proofs.lemmas.Bool.{eqb-true}
 use Rattle.std.proofs.lemmas.List.{length-drop}
 use Rattle.syslog_csv.specs.Records.{doubled}
 
-pub doubled_quote : (byte : ℕ) (bytes : List ℕ) → (byte == 34) ≡ true → doubled (byte ∷ bytes) ≡ 34 ∷ 34 ∷ doubled bytes
+doubled_quote : (byte : ℕ) (bytes : List ℕ) → (byte == 34) ≡ true → doubled (byte ∷ bytes) ≡ 34 ∷ 34 ∷ doubled bytes
 doubled_quote byte bytes is = rw is refl
 
-pub doubled_other : (byte : ℕ) (bytes : List ℕ) → (byte == 34) ≡ false → doubled (byte ∷ bytes) ≡ byte ∷ doubled bytes
+doubled_other : (byte : ℕ) (bytes : List ℕ) → (byte == 34) ≡ false → doubled (byte ∷ bytes) ≡ byte ∷ doubled bytes
 doubled_other byte bytes is = rw is refl
 
 not_true : (x : Bool) → (x ≡ true → ⊥) → x ≡ false

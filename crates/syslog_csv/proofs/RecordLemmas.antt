@@ -1,15 +1,14 @@
 -- A text is divided into records in one way at most, and those that are written are read back.
 use Rattle.std.proofs.Common.{◌≡◌, ◌≢◌, ◌⊎◌, ◌==◌, ℕ, Bool, true, false, List, [], ◌∷◌, ◌++◌, refl, sym, ap, subst, ◌∙◌}
-use Rattle.std.proofs.Common.{inl, inr, append_assoc, arith}
+use Rattle.std.proofs.Common.{inl, inr, append_assoc, arith, if◌then◌else◌}
 use Rattle.std.proofs.lemmas.Grind.{flat_map-append}
 use Rattle.std.proofs.lemmas.List.{append-nil}
 use Rattle.std.specs.Prelude.{⊤}
 use Rattle.std.specs.List.{AllByRecursion, flat_map, list_any}
 use Rattle.std.proofs.lemmas.Bool.{cases_Bool, eqb-true, or_parts}
-use Rattle.syslog_csv.specs.Records.{is_mark, doubled, quoted, IsField, AreLaterFields, IsRecord, IsOnlyRecord}
+use Rattle.syslog_csv.specs.Records.{is_mark, doubled, IsField, AreLaterFields, IsRecord, IsOnlyRecord}
 use Rattle.syslog_csv.specs.Records.{AreRecords}
 use Rattle.syslog_csv.specs.Records.{AddsFields, field_text, record_text}
-use Rattle.syslog_csv.proofs.QuoteLemmas.{doubled_quote, doubled_other}
 
 -- what may follow a field: nothing, a comma or CR
 abbrev Ends : List ℕ → Type 0
@@ -21,113 +20,61 @@ abbrev RecordEnds : List ℕ → Type 0
 RecordEnds [] = ⊤
 RecordEnds (byte ∷ rest) = byte ≡ 13
 
-ends_at_mark : (byte : ℕ) → (byte ≡ 44) ⊎ (byte ≡ 13) → is_mark byte ≡ true
-ends_at_mark byte (inl is) = rw is refl
-ends_at_mark byte (inr is) = rw is refl
+-- ---- a field is read in one way
 
-no_quote : (byte : ℕ) → byte ≡ 34 → (byte ≡ 44) ⊎ (byte ≡ 13) → ⊥
-no_quote byte is (inl e) = absurd (omega arith)
-no_quote byte is (inr e) = absurd (omega arith)
+-- what a field between quotes says after its first quote, and what follows it; `closed` is whether a quote came that
+-- closes it, unless another follows
+abbrev read_quoted : Bool → List ℕ → List ℕ × List ℕ
+read_quoted closed [] = ([], [])
+read_quoted false (byte ∷ bytes) = if byte == 34 then read_quoted true bytes
+    else (byte ∷ (read_quoted false bytes).0, (read_quoted false bytes).1)
+read_quoted true (byte ∷ bytes) = if byte == 34
+    then (34 ∷ (read_quoted false bytes).0, (read_quoted false bytes).1) else ([], byte ∷ bytes)
 
-no_quote_ends : (x rest : List ℕ) → Ends x → x ≡ 34 ∷ rest → ⊥
-no_quote_ends x rest ends e = no_quote 34 refl (subst Ends e ends)
+-- the bytes up to a mark, and what follows them
+abbrev read_plain : List ℕ → List ℕ × List ℕ
+read_plain [] = ([], [])
+read_plain (byte ∷ bytes) = if is_mark byte then ([], byte ∷ bytes)
+    else (byte ∷ (read_plain bytes).0, (read_plain bytes).1)
 
-is_quote : (byte : ℕ) → byte ≡ 34 → (byte == 34) ≡ true
-is_quote byte e = rw e refl
+abbrev read_field : List ℕ → List ℕ × List ℕ
+read_field [] = ([], [])
+read_field (byte ∷ bytes) = if byte == 34 then read_quoted false bytes else read_plain (byte ∷ bytes)
 
-mark_quote : (byte : ℕ) → byte ≡ 34 → is_mark byte ≡ true
-mark_quote byte e = rw e refl
-
-not_both : (b : Bool) → b ≡ true → b ≡ false → ⊥
-not_both b is other = absurd (cc (is, other))
-
--- ---- a field without a mark
-
-plain_once : (v w x y : List ℕ) → list_any is_mark v ≡ false → list_any is_mark w ≡ false → Ends x → Ends y
-    → v ++ x ≡ w ++ y → (v ≡ w) × (x ≡ y)
-plain_once [] [] x y pv pw ex ey e = (refl, e)
-plain_once [] (q ∷ w) x y pv pw ex ey e =
-    absurd (not_both _ (ends_at_mark q (subst Ends e ex)) (or_parts _ _ pw).0)
-plain_once (p ∷ v) [] x y pv pw ex ey e =
-    absurd (not_both _ (ends_at_mark p (subst Ends (sym e) ey)) (or_parts _ _ pv).0)
-plain_once (p ∷ v) (q ∷ w) x y pv pw ex ey e =
-    let first : p ≡ q = cc in
-    let later : v ++ x ≡ w ++ y = cc in
-    let both = plain_once v w x y (or_parts _ _ pv).1 (or_parts _ _ pw).1 ex ey later in
-    (cc (first, both.0), both.1)
-
--- such a field begins with no quote, nor does what follows it
-plain_first : (w y t : List ℕ) → list_any is_mark w ≡ false → Ends y → 34 ∷ t ≡ w ++ y → ⊥
-plain_first [] y t plain ends e = no_quote_ends y t ends (sym e)
-plain_first (q ∷ w) y t plain ends e =
-    let first : q ≡ 34 = cc in not_both _ (mark_quote q first) (or_parts _ _ plain).0
-
--- ---- a field between quotes
-
-quote_closes : (q : ℕ) (w x y : List ℕ) → Ends x → 34 ∷ x ≡ doubled (q ∷ w) ++ (34 ∷ y) → ⊥
-quote_closes q w x y ends e = elim (cases_Bool (q == 34)) [
-  | inl same ↦
-      let two : 34 ∷ x ≡ 34 ∷ 34 ∷ (doubled w ++ (34 ∷ y)) = e
-      ∙ ap (λ (l : List ℕ). l ++ (34 ∷ y)) (doubled_quote q w same) in
-      no_quote_ends x (doubled w ++ (34 ∷ y)) ends (cc two)
-  | inr other ↦
-      let one : 34 ∷ x ≡ q ∷ (doubled w ++ (34 ∷ y)) = e
-      ∙ ap (λ (l : List ℕ). l ++ (34 ∷ y)) (doubled_other q w other) in
-      let first : q ≡ 34 = cc one in not_both _ (is_quote q first) other
+quoted_read : (v x : List ℕ) → Ends x → read_quoted false (doubled v ++ (34 ∷ x)) ≡ (v, x)
+quoted_read [] [] ends = refl
+quoted_read [] (byte ∷ x) (inl is) = rw is refl
+quoted_read [] (byte ∷ x) (inr is) = rw is refl
+quoted_read (p ∷ v) x ends = elim (cases_Bool (p == 34)) [
+  | inl same ↦ rw (same, quoted_read v x ends, eqb-true p 34 same) refl
+  | inr other ↦ rw (other, other, quoted_read v x ends) refl
 ]
 
-quoted_once : (v w x y : List ℕ) → Ends x → Ends y → doubled v ++ (34 ∷ x) ≡ doubled w ++ (34 ∷ y) → (v ≡ w) × (x ≡ y)
-quoted_once [] [] x y ex ey e = (refl, cc)
-quoted_once [] (q ∷ w) x y ex ey e = absurd (quote_closes q w x y ex e)
-quoted_once (p ∷ v) [] x y ex ey e = absurd (quote_closes p v y x ey (sym e))
-quoted_once (p ∷ v) (q ∷ w) x y ex ey e = elim (cases_Bool (p == 34)) [
-  | inl opened ↦ elim (cases_Bool (q == 34)) [
-    | inl closed ↦
-        let two : 34 ∷ 34 ∷ (doubled v ++ (34 ∷ x)) ≡ 34 ∷ 34 ∷ (doubled w ++ (34 ∷ y)) =
-        sym (ap (λ (l : List ℕ). l ++ (34 ∷ x)) (doubled_quote p v opened)) ∙ e
-        ∙ ap (λ (l : List ℕ). l ++ (34 ∷ y)) (doubled_quote q w closed) in
-        let both = quoted_once v w x y ex ey (cc two) in
-        let first : p ≡ q = eqb-true p 34 opened ∙ sym (eqb-true q 34 closed) in (cc (first, both.0), both.1)
-    | inr closed ↦
-        let one : 34 ∷ 34 ∷ (doubled v ++ (34 ∷ x)) ≡ q ∷ (doubled w ++ (34 ∷ y)) =
-        sym (ap (λ (l : List ℕ). l ++ (34 ∷ x)) (doubled_quote p v opened)) ∙ e
-        ∙ ap (λ (l : List ℕ). l ++ (34 ∷ y)) (doubled_other q w closed) in
-        let first : q ≡ 34 = cc one in absurd (not_both _ (is_quote q first) closed)
-  ]
-  | inr opened ↦ elim (cases_Bool (q == 34)) [
-    | inl closed ↦
-        let one : p ∷ (doubled v ++ (34 ∷ x)) ≡ 34 ∷ 34 ∷ (doubled w ++ (34 ∷ y)) =
-        sym (ap (λ (l : List ℕ). l ++ (34 ∷ x)) (doubled_other p v opened)) ∙ e
-        ∙ ap (λ (l : List ℕ). l ++ (34 ∷ y)) (doubled_quote q w closed) in
-        let first : p ≡ 34 = cc one in absurd (not_both _ (is_quote p first) opened)
-    | inr closed ↦
-        let one : p ∷ (doubled v ++ (34 ∷ x)) ≡ q ∷ (doubled w ++ (34 ∷ y)) =
-        sym (ap (λ (l : List ℕ). l ++ (34 ∷ x)) (doubled_other p v opened)) ∙ e
-        ∙ ap (λ (l : List ℕ). l ++ (34 ∷ y)) (doubled_other q w closed) in
-        let both = quoted_once v w x y ex ey (cc one) in
-        let first : p ≡ q = cc one in (cc (first, both.0), both.1)
-  ]
-]
+plain_read : (v x : List ℕ) → list_any is_mark v ≡ false → Ends x → read_plain (v ++ x) ≡ (v, x)
+plain_read [] [] plain ends = refl
+plain_read [] (byte ∷ x) plain (inl is) = rw is refl
+plain_read [] (byte ∷ x) plain (inr is) = rw is refl
+plain_read (p ∷ v) x plain ends =
+    let bare : is_mark p ≡ false = (or_parts _ _ plain).0 in
+    let more : list_any is_mark v ≡ false = (or_parts _ _ plain).1 in
+    rw (bare, plain_read v x more ends) refl
 
--- ---- any field
+bare_read : (v x : List ℕ) → list_any is_mark v ≡ false → Ends x → read_field (v ++ x) ≡ (v, x)
+bare_read [] [] plain ends = refl
+bare_read [] (byte ∷ x) plain (inl is) = rw is refl
+bare_read [] (byte ∷ x) plain (inr is) = rw is refl
+bare_read (p ∷ v) x plain ends =
+    let other : (p == 34) ≡ false = (or_parts _ _ (or_parts _ _ (or_parts _ _ (or_parts _ _ plain).0).0).0).0 in
+    rw other (rw other at (plain_read (p ∷ v) x plain ends))
 
-quoted_follows : (v x : List ℕ) → quoted v ++ x ≡ 34 ∷ (doubled v ++ (34 ∷ x))
-quoted_follows v x = ap (λ (l : List ℕ). 34 ∷ l) (append_assoc (doubled v) (34 ∷ []) x)
+field_read : (a v x : List ℕ) → IsField a v → Ends x → read_field (a ++ x) ≡ (v, x)
+field_read a v x (inl is) ends = rw (is, append_assoc (doubled v) (34 ∷ []) x) (quoted_read v x ends)
+field_read a v x (inr (is, plain)) ends = ap (λ (t : List ℕ). read_field (t ++ x)) is ∙ bare_read v x plain ends
 
 field_once : (a b x y v w : List ℕ) → IsField a v → IsField b w → Ends x → Ends y → a ++ x ≡ b ++ y → (v ≡ w) × (x ≡ y)
-field_once a b x y v w (inl qa) (inl qb) ex ey e =
-    let whole : 34 ∷ (doubled v ++ (34 ∷ x)) ≡ 34 ∷ (doubled w ++ (34 ∷ y)) =
-    sym (ap (λ (l : List ℕ). l ++ x) qa ∙ quoted_follows v x) ∙ e ∙ ap (λ (l : List ℕ). l ++ y) qb
-    ∙ quoted_follows w y in
-    quoted_once v w x y ex ey (cc whole)
-field_once a b x y v w (inl qa) (inr (is, plain)) ex ey e =
-    absurd (plain_first w y (doubled v ++ (34 ∷ x)) plain ey
-    (sym (ap (λ (l : List ℕ). l ++ x) qa ∙ quoted_follows v x) ∙ e ∙ ap (λ (l : List ℕ). l ++ y) is))
-field_once a b x y v w (inr (is, plain)) (inl qb) ex ey e =
-    absurd (plain_first v x (doubled w ++ (34 ∷ y)) plain ex
-    (sym (ap (λ (l : List ℕ). l ++ y) qb ∙ quoted_follows w y) ∙ sym e ∙ ap (λ (l : List ℕ). l ++ x) is))
-field_once a b x y v w (inr (is, plain)) (inr (also, bare)) ex ey e =
-    plain_once v w x y plain bare ex ey (sym (ap (λ (l : List ℕ). l ++ x) is) ∙ e ∙ ap (λ (l : List ℕ). l ++ y) also)
+field_once a b x y v w is also ex ey e =
+    let both = sym (field_read a v x is ex) ∙ ap read_field e ∙ field_read b w y also ey in
+    (ap (λ (read : List ℕ × List ℕ). read.0) both, ap (λ (read : List ℕ × List ℕ). read.1) both)
 
 -- ---- records
 
@@ -140,39 +87,31 @@ later_ends [] rest x none ends = subst (λ (l : List ℕ). Ends (l ++ x)) (sym n
 later_ends (f ∷ fields) rest x (first, more, e, field, later) ends =
     subst (λ (l : List ℕ). Ends (l ++ x)) (sym e) (inl refl)
 
-no_comma : (byte : ℕ) → byte ≡ 44 → byte ≡ 13 → ⊥
-no_comma byte is e = absurd (omega arith)
-
 comma_ends : (x t : List ℕ) → RecordEnds x → x ≡ 44 ∷ t → ⊥
-comma_ends x t ends e = no_comma 44 refl (subst RecordEnds e ends)
+comma_ends x t ends e = let byte : ℕ = 44 in let same : byte ≡ 13 = subst RecordEnds e ends in omega arith
 
 later_once : (fs gs : List (List ℕ)) (a b x y : List ℕ) → AreLaterFields a fs → AreLaterFields b gs → RecordEnds x
     → RecordEnds y → a ++ x ≡ b ++ y → (fs ≡ gs) × (x ≡ y)
-later_once [] [] a b x y none bare ex ey e =
-    (refl, sym (ap (λ (l : List ℕ). l ++ x) none) ∙ e ∙ ap (λ (l : List ℕ). l ++ y) bare)
-later_once [] (g ∷ gs) a b x y none (second, more, f, field, later) ex ey e =
-    absurd (comma_ends x ((second ++ more) ++ y) ex
-    (sym (ap (λ (l : List ℕ). l ++ x) none) ∙ e ∙ ap (λ (l : List ℕ). l ++ y) f))
-later_once (f ∷ fs) [] a b x y (first, rest, e, field, later) none ex ey same =
-    absurd (comma_ends y ((first ++ rest) ++ x) ey
-    (sym (ap (λ (l : List ℕ). l ++ y) none) ∙ sym same ∙ ap (λ (l : List ℕ). l ++ x) e))
+later_once [] [] a b x y none bare ex ey same = (refl, rw (none, bare) at same)
+later_once [] (g ∷ gs) a b x y none (second, more, h, other, after) ex ey same =
+    absurd (comma_ends x ((second ++ more) ++ y) ex (rw (none, h) at same))
+later_once (f ∷ fs) [] a b x y (first, rest, e, one, later) none ex ey same =
+    absurd (comma_ends y ((first ++ rest) ++ x) ey (sym (rw (e, none) at same)))
 later_once (f ∷ fs) (g ∷ gs) a b x y (first, rest, e, one, later) (second, more, h, other, after) ex ey same =
-    let whole : 44 ∷ ((first ++ rest) ++ x) ≡ 44 ∷ ((second ++ more) ++ y) =
-    sym (ap (λ (l : List ℕ). l ++ x) e) ∙ same ∙ ap (λ (l : List ℕ). l ++ y) h in
-    let both = field_once first second (rest ++ x) (more ++ y) f g one other (later_ends fs rest x later ex)
-    (later_ends gs more y after ey) (sym (append_assoc first rest x) ∙ cc whole ∙ append_assoc second more y) in
-    let others = later_once fs gs rest more x y later after ex ey both.1 in (cc (both.0, others.0), others.1)
-
-record_once : (fs gs : List (List ℕ)) (a b x y : List ℕ) → IsRecord a fs → IsRecord b gs → RecordEnds x → RecordEnds y
-    → a ++ x ≡ b ++ y → (fs ≡ gs) × (x ≡ y)
-record_once [] gs a b x y none is ex ey e = absurd none
-record_once (f ∷ fs) [] a b x y is none ex ey e = absurd none
-record_once (f ∷ fs) (g ∷ gs) a b x y (first, rest, e, one, later) (second, more, h, other, after) ex ey same =
-    let whole : (first ++ rest) ++ x ≡ (second ++ more) ++ y =
-    sym (ap (λ (l : List ℕ). l ++ x) e) ∙ same ∙ ap (λ (l : List ℕ). l ++ y) h in
+    let whole : (first ++ rest) ++ x ≡ (second ++ more) ++ y = let is = rw (e, h) at same in cc in
     let both = field_once first second (rest ++ x) (more ++ y) f g one other (later_ends fs rest x later ex)
     (later_ends gs more y after ey) (sym (append_assoc first rest x) ∙ whole ∙ append_assoc second more y) in
     let others = later_once fs gs rest more x y later after ex ey both.1 in (cc (both.0, others.0), others.1)
+
+-- a record after a comma is later fields
+record_once : (fs gs : List (List ℕ)) (a b x y : List ℕ) → IsRecord a fs → IsRecord b gs → RecordEnds x → RecordEnds y
+    → a ++ x ≡ b ++ y → (fs ≡ gs) × (x ≡ y)
+record_once [] gs a b x y none is ex ey same = absurd none
+record_once (f ∷ fs) [] a b x y is none ex ey same = absurd none
+record_once (f ∷ fs) (g ∷ gs) a b x y (first, rest, e, one, later) (second, more, h, other, after) ex ey same =
+    let comma : List ℕ → List ℕ = λ bytes. 44 ∷ bytes in
+    later_once (f ∷ fs) (g ∷ gs) (44 ∷ a) (44 ∷ b) x y (first, rest, ap comma e, one, later)
+    (second, more, ap comma h, other, after) ex ey (ap comma same)
 
 no_record_end : (first rest : List ℕ) → [] ≡ first ++ (13 ∷ 10 ∷ rest) → ⊥
 no_record_end [] rest e = absurd (cc e)
