@@ -1,13 +1,13 @@
 -- The day and the zone that options name.
-use Rattle.syslog_c.proofs.Words.{◌≡◌, ◌∙◌, ◌<◌, ◌⊎◌, ◌∷◌, ◌++◌, [], ℕ, ℤ, ap, append-nil, arith, inl, inr, length}
+use Rattle.syslog_c.proofs.Words.{◌≡◌, ◌∙◌, ◌<◌, ◌∷◌, ◌++◌, [], ℕ, ℤ, ap, append-nil, arith, inl, inr, length}
 use Rattle.syslog_c.proofs.Words.{refl, subst, sym, List, Option, Some, None, Result, Ok, Err, IsUtf8, Options}
-use Rattle.std.proofs.Common.{◌↔◌, ◌≢◌, drop, get_or, pos, true≢false}
+use Rattle.std.proofs.Common.{◌==◌, false, rules, if◌then◌else◌, ◌↔◌, ◌≢◌, get_or, pos, true≢false}
 use Rattle.std.proofs.lemmas.Int.{ints}
 use Rattle.std.proofs.lemmas.List.Elements.{All-head, All-nil, All-tail}
 use Rattle.std.specs.Prelude.{IfOk, IsOk, MatchOption}
 use Rattle.std.specs.Result.{OkIff, result_ok}
 use Rattle.jiff.specs.Placed.{IsPosixZone}
-use Rattle.jiff.specs.Types.{Date, Fixed, Posix, TimeZone, Tzif, UTC, Unknown}
+use Rattle.jiff.specs.Types.{Date, Posix, TimeZone}
 use Rattle.jiff.specs.Words.{IsDate, IsOffsetSeconds, IsYmd, plain_zone, read_whole}
 use Rattle.jiff.specs.declared.tz.timezone.TimeZone.{TimeZone as Held}
 use Rattle.syslog_lines.specs.Frames.{NoByte}
@@ -59,38 +59,26 @@ day_known options (Day date) some none is = none date is
 
 -- ---- the text in an array
 
--- what follows a text that C has in an array
-abbrev IsRest : List ℕ → Type 0
-IsRest rest = (rest ≡ []) ⊎ ((after : List ℕ) × (rest ≡ 0 ∷ after))
+-- the bytes before the first zero byte
+abbrev before_zero : List ℕ → List ℕ
+before_zero [] = []
+before_zero (byte ∷ bytes) = if byte == 0 then [] else byte ∷ before_zero bytes
 
-with_rest : (array text : List ℕ) → IsTextIn array text → (rest : List ℕ) × IsRest rest × (array ≡ text ++ rest)
-with_rest array text (free, inl same) = ([], inl refl, same ∙ sym (append-nil text))
-with_rest array text (free, inr (after, same)) = (0 ∷ after, inr (after, refl), same)
+before_rest : (text rest : List ℕ) → NoByte 0 text → before_zero rest ≡ [] → before_zero (text ++ rest) ≡ text
+before_rest [] rest free none = none
+before_rest (byte ∷ text) rest free none =
+    let apart : byte ≢ 0 = All-head (λ (b : ℕ). b ≢ 0) byte text free in
+    let other : (byte == 0) ≡ false = search (rules, apart) in
+    rw (other, before_rest text rest (All-tail (λ (b : ℕ). b ≢ 0) byte text free) none) refl
 
--- a text without zero bytes is no longer than the one before such a rest
-no_longer : (byte : ℕ) (text more rest : List ℕ) → NoByte 0 (byte ∷ text) → IsRest rest
-    → rest ≡ byte ∷ (text ++ more) → ⊥
-no_longer byte text more rest free (inl none) same = omega (arith, ap length (sym none ∙ same))
-no_longer byte text more rest free (inr (after, zero)) same =
-    All-head (λ (b : ℕ). b ≢ 0) byte text free (sym (ap (λ (l : List ℕ). get_or l 0 0) (sym zero ∙ same)))
-
-one_front : (a b x y : List ℕ) → NoByte 0 a → NoByte 0 b → IsRest x → IsRest y → a ++ x ≡ b ++ y → a ≡ b
-one_front [] [] x y free also at too same = refl
-one_front [] (c ∷ b) x y free also at too same = absurd (no_longer c b y x also at same)
-one_front (c ∷ a) [] x y free also at too same = absurd (no_longer c a x y free too (sym same))
-one_front (c ∷ a) (d ∷ b) x y free also at too same =
-    let head : c ≡ d = ap (λ (l : List ℕ). get_or l 0 0) same in
-    let tail : a ++ x ≡ b ++ y = ap (drop 1) same in
-    let rest : a ≡ b = one_front a b x y (All-tail (λ (it : ℕ). it ≢ 0) c a free)
-    (All-tail (λ (it : ℕ). it ≢ 0) d b also) at too tail in
-    rw (head, rest) refl
+is_before_zero : (array text : List ℕ) → IsTextIn array text → before_zero array ≡ text
+is_before_zero array text (free, inl same) =
+    ap before_zero (same ∙ sym (append-nil text)) ∙ before_rest text [] free refl
+is_before_zero array text (free, inr (after, same)) = ap before_zero same ∙ before_rest text (0 ∷ after) free refl
 
 -- an array has one text
 text_once : (array a b : List ℕ) → IsTextIn array a → IsTextIn array b → a ≡ b
-text_once array a b is too =
-    let (x, at, here) = with_rest array a is in
-    let (y, ends, there) = with_rest array b too in
-    one_front a b x y is.0 too.0 at ends (sym here ∙ there)
+text_once array a b is too = sym (is_before_zero array a is) ∙ is_before_zero array b too
 
 -- an array that begins with a zero byte has no text
 pub text_none : (array : List ℕ) → 0 < length array → get_or array 0 0 ≡ 0 → IsTextIn array []
@@ -102,10 +90,7 @@ text_none (byte ∷ after) some zero =
 
 no_rule : (text : List ℕ) (zone : TimeZone) → read_whole text ≡ None → IsPosixZone text zone → ⊥
 no_rule text (Posix rule) none is = cc
-no_rule text UTC none is = is
-no_rule text Unknown none is = is
-no_rule text (Fixed offset) none is = is
-no_rule text (Tzif zone) none is = is
+no_rule text zone none is = absurd is
 
 module _ (rule : List ℕ) (offset : ℤ) where
   -- there is no such zone, or it is this one

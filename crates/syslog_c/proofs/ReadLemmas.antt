@@ -16,7 +16,7 @@ use Rattle.syslog_elements.specs.StructuredData.Visited.{Visits}
 use Rattle.syslog_elements.specs.declared.structured_data.recognised.ElementList.{ElementList}
 use Rattle.syslog_c.{specs.OfLine.AreOfLine, specs.declared.arrays.Arrays.Arrays, specs.declared.fields.Element.Element}
 use Rattle.syslog_c.{proofs.ArrayLemmas.begun_none, proofs.ArrayLemmas.begun_nothing, specs.declared.fields.Param.Param}
-use Rattle.syslog_c.specs.declared.outcome.Outcome.TheVariants.{Done, NotUtf8, NoMemory, NoRoom, BadArgument}
+use Rattle.syslog_c.specs.declared.outcome.Outcome.TheVariants.{Done, NoRoom}
 
 -- nothing is put yet
 start : (a : Arrays) → a.count ≡ 0 → a.filled ≡ 0 → HasPut a a []
@@ -92,10 +92,7 @@ module _ (rules : Rules) (dating : Dating) (text : Text) (old mid new : Fields) 
               (λ e p. over (omega (arith, e, meant.are.elements)) (omega (arith, p, meant.are.params))),
         ),
       )
-  into NoReading es meant given none = absurd none
-  into NotUtf8 es meant given none = absurd none
-  into NoMemory es meant given none = absurd none
-  into BadArgument es meant given none = absurd none
+  into outcome es meant given none = absurd none
 
   put_own : (own : Option ElementList) (port es : List ElementValue) → HasPut before after port
       → MatchOption own (es ≡ port) (λ list. (port ≡ []) × (es ≡ list_elements list)) → PutsOwn own

@@ -3,7 +3,7 @@ use Rattle.syslog_c.proofs.Words.{◌≡◌, ◌∙◌, Option, None, Some, ap, 
 use Rattle.syslog_c.proofs.Words.{IsStamp, List, MessageValue, OffsetTimestamp, Rules, ShowsNoDate, Stamp}
 use Rattle.syslog_c.proofs.Words.{dating_in, in_year_map, inr, list_elements, NoReading, Outcome}
 use Rattle.std.proofs.Common.{ℤ}
-use Rattle.syslog_c.proofs.Words.{[], ◌∷◌, ◌++◌}
+use Rattle.syslog_c.proofs.Words.{◌++◌}
 use Rattle.std.specs.Prelude.{Bool, true, false, codes}
 use Rattle.syslog_text.specs.Pieces.Class.{NoFront, exactly}
 use Rattle.syslog_text.specs.Text.{trimmed}
@@ -31,7 +31,7 @@ use Rattle.syslog_c.specs.Sent.{IsMeant, IsNoNote, IsOnlyMeant, IsUnnoted}
 use Rattle.syslog_c.specs.Shown.{IsShown, IsShownIn, flag_number}
 use Rattle.syslog_c.specs.Reported.{AreMeant, AreTaken, MeansOnly, ReportsFields}
 use Rattle.syslog_c.specs.declared.fields.Fields.{Fields}
-use Rattle.syslog_c.specs.declared.outcome.Outcome.TheVariants.{Done, NotUtf8, NoMemory, NoRoom, BadArgument}
+use Rattle.syslog_c.specs.declared.outcome.Outcome.TheVariants.{Done}
 use Rattle.syslog_c.proofs.ShownLemmas.{restamped_line, strict_shows_none}
 
 -- a text is read as one message
@@ -242,7 +242,4 @@ pub unread_reported : (rules : Rules) (dating : Dating) (text : Text) (old mid n
     → mid ≡ old → MeansOnly rules dating text mid new outcome → ReportsFields rules dating text old new outcome
 unread_reported rules dating text old mid new Done same (es, meant) = reported rules dating text es old new meant
 unread_reported rules dating text old mid new NoReading same (unsent, is) = inr ((refl, unsent), is ∙ same)
-unread_reported rules dating text old mid new NotUtf8 same none = absurd none
-unread_reported rules dating text old mid new NoMemory same none = absurd none
-unread_reported rules dating text old mid new NoRoom same none = absurd none
-unread_reported rules dating text old mid new BadArgument same none = absurd none
+unread_reported rules dating text old mid new outcome same none = absurd none

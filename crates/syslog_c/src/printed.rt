@@ -1,6 +1,5 @@
 //! The printed text of a line, after one round or as the stable text, in a buffer of the caller's.
 ghost use Rattle.std.specs.Str.{encode_utf8_all};
-ghost use Rattle.syslog_loose.specs.Today.{IsYearIn};
 ghost use Rattle.syslog_loose.specs.Line.{line_value};
 ghost use Rattle.syslog_loose.specs.Printed.{printed};
 ghost use Rattle.syslog_c.specs.Line.{OnLine};
@@ -15,7 +14,7 @@ use crate::read_line::read_line;
 use crate::room::{Buffer, put_answer};
 use crate::rules::Rules;
 use std::alloc::Global;
-use syslog_loose::{IncompleteDate, Line, settle};
+use syslog_loose::{Line, settle};
 use syslog_utf8::from_utf8;
 
 /// Writes the printed text of the line's message to the front of `room`, and its length in bytes to `needed`. If it is
@@ -88,9 +87,7 @@ fn write_settled(
         return Outcome::NotUtf8;
     };
     let dates = &rules.dates;
-    let get_year = |date: IncompleteDate| -> i32
-        ensures { IsYearIn dates.entry.now.today date result }
-    { dates.year_of(date) };
+    let get_year = |date| dates.year_of(date);
     let settled = settle(alloc, text, get_year, None, rules.variant, &dates.zone);
     put_answer(settled, room, needed)
 }

@@ -3,7 +3,6 @@ ghost use Rattle.std.specs.Prelude.{◌≡◌, ◌⊎◌, IsUtf8, MatchOption};
 ghost use Rattle.std.specs.Str.{chars};
 ghost use Rattle.syslog_pieces.specs.Timestamp.Zone.{Dating};
 ghost use Rattle.syslog_loose.specs.Dates.{IsDated};
-ghost use Rattle.syslog_loose.specs.Today.{IsYearIn};
 ghost use Rattle.syslog_loose.specs.Reading.{IsUnreadable};
 ghost use Rattle.syslog_elements.specs.StructuredData.Visited.{Visits, list_elements};
 ghost use Rattle.syslog_c.specs.Arrays.{HasPut, IsFilled};
@@ -20,7 +19,7 @@ use crate::outcome::Outcome;
 use crate::rules::Rules;
 use crate::sent::{is_note, take_read, take_unread};
 use syslog_elements::structured_data::{NoElements, visit_list};
-use syslog_loose::{DateForm, ElementList, IncompleteDate, Itself, LineVisitor, visit_dated_line};
+use syslog_loose::{DateForm, ElementList, Itself, LineVisitor, visit_dated_line};
 use syslog_utf8::from_utf8;
 
 /// Reads the line: its fields into `fields`, and its elements and their parameters into the two arrays.
@@ -128,13 +127,10 @@ fn read_into<'a>(
         filled: 0,
     };
     let dates = &rules.dates;
-    let get_year = |date: IncompleteDate| -> i32
-        ensures { IsYearIn dates.entry.now.today date result }
-    { dates.year_of(date) };
     let mut form = DateForm::Whole;
     let Some(is_ordinary) = visit_dated_line(
         text,
-        get_year,
+        |date| dates.year_of(date),
         None,
         rules.variant,
         &dates.zone,
@@ -214,14 +210,11 @@ pub(crate) fn read_fields<'a>(line: &'a [u8], options: &Options, fields: &mut Fi
         return Outcome::NoReading;
     }
     let dates = &rules.dates;
-    let get_year = |date: IncompleteDate| -> i32
-        ensures { IsYearIn dates.entry.now.today date result }
-    { dates.year_of(date) };
     // (by the visitor alone LLVM inlines neither of the two readings)
     let mut form = DateForm::Whole;
     let Some(line) = visit_dated_line(
         text,
-        get_year,
+        |date| dates.year_of(date),
         None,
         rules.variant,
         &dates.zone,

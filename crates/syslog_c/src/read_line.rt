@@ -1,7 +1,6 @@
 //! Reads a line of bytes by the options.
 ghost use Rattle.std.specs.Prelude.{◌≡◌, MatchResult, ⊤};
 ghost use Rattle.syslog_text.specs.Pieces.View.{shown};
-ghost use Rattle.syslog_loose.specs.Today.{IsYearIn};
 ghost use Rattle.syslog_loose.specs.Line.{line_value};
 ghost use Rattle.syslog_loose.specs.Reading.{IsOnlyRead};
 ghost use Rattle.syslog_c.specs.Line.{IsTried, OnLine, Refuses};
@@ -11,7 +10,7 @@ use crate::options::Options;
 use crate::outcome::Outcome;
 use crate::rules::Rules;
 use syslog_dialects::{SentLine, parse_sent_line};
-use syslog_loose::{IncompleteDate, Line, parse_line};
+use syslog_loose::{Line, parse_line};
 use syslog_utf8::from_utf8;
 
 /// Returns the text of the line and what the port parsed it as, or why there is nothing.
@@ -33,9 +32,7 @@ pub(crate) fn read_line<'a>(
         return Err(Outcome::NotUtf8);
     };
     let dates = &rules.dates;
-    let get_year = |date: IncompleteDate| -> i32
-        ensures { IsYearIn dates.entry.now.today date result }
-    { dates.year_of(date) };
+    let get_year = |date| dates.year_of(date);
     match parse_line(text, get_year, None, rules.variant, &dates.zone) {
         Some(line) => Ok((text, line)),
         None => Err(Outcome::NoReading),

@@ -12,4 +12,4 @@ returns c =
     let holds = in_year_map (λ year s. settled_answer _ _ _ _ _ _ _ _ s c.put_answer.ensures)
     c.settle-settled.ensures.settles in
     inr (inr (tried_line _ _ _ _ _ (c.take.ensures.taken c.if-not-take.false) c.in-Ok.ensures
-    (in_year_told holds (λ date y is. is.1))))
+    (in_year_told holds (λ date y is. search (rules, is)))))

@@ -26,7 +26,7 @@ returns-in_default-visit_dated_line c =
     c.read_unread.result) _ _ _ _ (c.take.ensures.taken c.if-not-take.false) c.in-Ok.ensures
     (in_year_told (in_year_map (λ year none. unread_reported by (dating_in _ year) text a.fields.now a.fields.now
     c.read_unread.new.fields c.read_unread.result refl (c.read_unread.ensures (dating_in _ year) none.0))
-    c.in_default-visit_dated_line.ensures.makes) (λ date year is. is.1))))
+    c.in_default-visit_dated_line.ensures.makes) (λ date year is. search (rules, is)))))
 
 pub line-is_ordinary-requires : goal.line-is_ordinary-requires
 line-is_ordinary-requires c =
@@ -43,4 +43,4 @@ returns c =
     (in_year_map (λ year is. reported by (dating_in _ year) text _ a.fields.now c.take_read.new.fields
     (c.take_read.ensures c.in-Some.ensures.form (dating_in _ year) c.in-Some.line (rw is.0.2.0 is.0.1)
     c.line-is_ordinary.ensures.0 c.line-is_ordinary.ensures.1 is.1).1)
-    (with_unnoted by text c.if-is_note.ensures (in_year_told c.in-Some.ensures.makes (λ date year is. is.1))))))
+    (with_unnoted by text c.if-is_note.ensures (in_year_told c.in-Some.ensures.makes (λ date year is. search (rules, is)))))))

@@ -36,7 +36,7 @@ returns-in_default-take_unread c =
     (in_year_told (in_year_map (λ year h. none_into by (dating_in _ year) text a.fields.now
     c.visit_dated_line.new.visitor fields _ mid arrays refl refl h refl
     (λ none. c.in_default-take_unread.ensures (dating_in _ year) none)) in_year)
-    (λ date year is. is.1)))))
+    (λ date year is. search (rules, is))))))
 
 pub returns-in_default : goal.returns-in_default
 returns-in_default c =
@@ -63,14 +63,14 @@ returns-in_default c =
     c.visit_dated_line.new.visitor fields _ mid arrays refl refl c.in-Some-take_unread.own
     c.put_own.result h (λ none. c.in-Some-take_unread.ensures (dating_in _ year) none) c.put_own.ensures.given
     c.put_own.ensures.filled) in_year)
-    (λ date year is. is.1)))))
+    (λ date year is. search (rules, is))))))
 
 pub returns : goal.returns
 returns c =
     let a = c.args in
     let by = c.take.new.self in
     let text = chars a.text.now in
-    let told = in_year_told c.in-Some.ensures.makes (λ date year is. is.1) in
+    let told = in_year_told c.in-Some.ensures.makes (λ date year is. search (rules, is)) in
     let in_year = with_unnoted by text c.if-is_note.ensures told in
     let made = in_year.holds in_year.answered (λ date asks. refl) in
     let takes = c.take_read-own.ensures c.in-Some.ensures.form in

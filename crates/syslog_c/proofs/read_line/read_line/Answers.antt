@@ -9,10 +9,10 @@ returns-in_default c =
 
 pub returns-in-Some : goal.returns-in-Some
 returns-in-Some c = tried_line _ _ _ _ _ (c.take.ensures.taken c.if-not-take.false) c.in-Ok.ensures
-    (in_year_told (in_year_map (λ year of. (refl, of.only)) c.in-Some.ensures.reads) (λ date y is. is.1))
+    (in_year_told (in_year_map (λ year of. (refl, of.only)) c.in-Some.ensures.reads) (λ date y is. search (rules, is)))
 
 pub returns-in-None : goal.returns-in-None
 returns-in-None c =
     inr (inr (tried_line (λ rules dating text. Refuses rules.variant dating text NoReading) _ _ _ _
     (c.take.ensures.taken c.if-not-take.false) c.in-Ok.ensures
-    (in_year_told (in_year_map (λ year none. (refl, none)) c.in-None.ensures.reads) (λ date y is. is.1))))
+    (in_year_told (in_year_map (λ year none. (refl, none)) c.in-None.ensures.reads) (λ date y is. search (rules, is)))))
