@@ -13,7 +13,7 @@ use report::{HELP, USAGE};
 use std::process::ExitCode;
 use syslog_choice::Choice;
 use syslog_command_line::report::{report_lines, say, say_version};
-use syslog_command_line::{Flag, Options, Task, program_words, read_task, refuse_words};
+use syslog_command_line::{Flag, Task, program_words, read_task, refuse_words};
 use syslog_lines::{Frames, Watched};
 use syslog_loose::VERSION;
 
@@ -39,20 +39,6 @@ fn filter_input(rt: &HostRuntime, frames: Frames, filter: &Conversions<'_>) -> u
     report_lines("syslog_5424", &outcome, &mut Watched::new(rt.stderr()))
 }
 
-// Returns which messages are asked for; none if all are.
-fn choice_of<'a>(options: &Options<'a>) -> Option<Choice<'a>> {
-    let choice = Choice {
-        severity: options.severity,
-        host: options.host,
-        app: options.app,
-    };
-    if choice.is_everything() {
-        None
-    } else {
-        Some(choice)
-    }
-}
-
 // Does what the words ask for, and then returns the exit status.
 fn run(rt: &HostRuntime, words: &[String]) -> u8 {
     let mut out = Watched::new(rt.stdout());
@@ -62,13 +48,12 @@ fn run(rt: &HostRuntime, words: &[String]) -> u8 {
         Ok(Task::Version) => say_version("syslog_5424", VERSION, &mut out, &mut errors),
         Ok(Task::Lines(options)) => {
             let frames = Frames::messages(options.framing, options.max_line);
-            let choice = choice_of(&options);
             let filter = Conversions {
                 framing: options.framing,
                 dialects: options.dialects,
                 latin1: options.latin1,
                 dates: options.dates,
-                choice,
+                choice: Choice::of(options.severity, options.host, options.app),
             };
             filter_input(rt, frames, &filter)
         }

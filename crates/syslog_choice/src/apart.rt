@@ -4,14 +4,13 @@ ghost use Rattle.std.specs.Str.{chars};
 ghost use Rattle.syslog_loose.specs.Dates.{IsDated};
 ghost use Rattle.syslog_loose.specs.Line.{KnowsForm};
 ghost use Rattle.syslog_loose.specs.Reading.{IsUnreadable};
-ghost use Rattle.syslog_loose.specs.Today.{IsYearIn};
 ghost use Rattle.syslog_loose.specs.Visit.{IsLineOf};
 ghost use Rattle.syslog_loose.specs.declared.variant.Variant.TheVariants.{Either};
 ghost use Rattle.syslog_dialects.specs.SentReading.{IsSentAnswer};
 
 use syslog_dialects::{SentLine, sent_line, unread_line};
 use syslog_elements::structured_data::NoElements;
-use syslog_loose::{Dates, IncompleteDate, Line, LineVisitor, Variant, visit_line};
+use syslog_loose::{Dates, Line, LineVisitor, Variant, visit_line};
 
 /// The visitor that returns the line, as `Itself` of `syslog_loose` does. It is for a filter's second way of reading: a
 /// reader that is compiled for two callers is compiled into neither.
@@ -41,12 +40,9 @@ fn parse_apart<'a>(input: &'a str, dates: &Dates) -> Option<Line<'a>>
         (IsUnreadable Either dating (chars input.entry.now)) (IsLineOf Either dating (chars input.entry.now))) }
     ensures form { IfSome result KnowsForm }
 {
-    let get_year = |date: IncompleteDate| -> i32
-        ensures { IsYearIn dates.entry.now.today date result }
-    { dates.year_of(date) };
     visit_line(
         input,
-        get_year,
+        |date| dates.year_of(date),
         None,
         Variant::Either,
         &dates.zone,

@@ -3,7 +3,7 @@
 //! The choice of the severity `err` and the host `gw` chooses the messages of that host that are errors or worse.
 #![tactic(auto)]
 
-ghost use Rattle.std.specs.Prelude.{◌≡◌, ◌↔◌, IfSome, IsTrue, Some};
+ghost use Rattle.std.specs.Prelude.{◌≡◌, ◌↔◌, IfSome, IsTrue, MatchOption, None, Some};
 ghost use Rattle.std.specs.Str.{chars};
 ghost use Rattle.syslog_loose.specs.Line.{line_value};
 ghost use Rattle.syslog_text.specs.Pieces.View.{seen};
@@ -25,7 +25,30 @@ pub struct Choice<'a> {
     pub app: Option<&'a str>,
 }
 
-impl Choice<'_> {
+impl<'a> Choice<'a> {
+    /// Returns the choice of the messages that match all of these; none if nothing is given, so that every message is
+    /// chosen.
+    pub fn of(
+        severity: Option<SyslogSeverity>,
+        host: Option<&'a str>,
+        app: Option<&'a str>,
+    ) -> Option<Choice<'a>>
+        ensures { MatchOption result ((severity ≡ None) × (host.entry ≡ None) × (app.entry ≡ None))
+            (λ choice. (choice.severity ≡ severity) × (choice.host ≡ host.entry) × (choice.app ≡ app.entry)
+            × (¬ (IsEverything choice))) }
+    {
+        let choice = Choice {
+            severity,
+            host,
+            app,
+        };
+        if choice.is_everything() {
+            None
+        } else {
+            Some(choice)
+        }
+    }
+
     /// Returns whether nothing is given, so that every message is chosen.
     #[inline(always)]
     pub fn is_everything(&self) -> bool
@@ -51,17 +74,10 @@ fn is_severe(least: Option<SyslogSeverity>, line: &Line<'_>) -> bool
     ensures { IsTrue result ↔ IfSome least (λ it. IsAsSevere it (line_value line.now)) }
 {
     match least {
-        Some(least) => has_severity(least, line),
+        Some(least) => line
+            .severity()
+            .is_some_and(|severity| severity as u8 <= least as u8),
         None => true,
-    }
-}
-
-fn has_severity(least: SyslogSeverity, line: &Line<'_>) -> bool
-    ensures { IsTrue result ↔ IsAsSevere least (line_value line.now) }
-{
-    match line.severity() {
-        Some(severity) => severity as u8 <= least as u8,
-        None => false,
     }
 }
 
@@ -71,10 +87,7 @@ fn is_named(given: Option<&str>, name: Option<&str>) -> bool
     ensures { IsTrue result ↔ IfSome given.entry (λ it. seen name.entry ≡ Some (chars it.now)) }
 {
     match given {
-        Some(given) => match name {
-            Some(name) => is_same(name, given),
-            None => false,
-        },
+        Some(given) => name.is_some_and(|name| is_same(name, given)),
         None => true,
     }
 }

@@ -1,7 +1,6 @@
 //! The filter that writes the object of each line, as JSON or as a row of CSV.
 ghost use Rattle.std.specs.Prelude.{◌≡◌, ◌++◌, ◌∷◌, [], List, ℕ, false, IfErr, IfOk, OnErr, OnOk};
 ghost use Rattle.std.specs.Str.{chars};
-ghost use Rattle.syslog_loose.specs.Today.{IsYearIn};
 ghost use Rattle.syslog_lines.specs.Pump.{FailedAs};
 ghost use Rattle.syslog_object.specs.Writer.{HasWritten};
 ghost use Rattle.syslog_json.specs.Marked.{mark_text, marked_output};
@@ -15,7 +14,7 @@ use std::io::{Read, Write};
 use syslog_dialects::{SentLine, sent_line, unread_line};
 use syslog_lines::pump::pump;
 use syslog_lines::{Frames, LineCounts, LineFilter, RunFault, Watched};
-use syslog_loose::{IncompleteDate, Itself, Variant, visit_line};
+use syslog_loose::{Itself, Variant, visit_line};
 use syslog_object::ObjectWriter;
 use syslog_utf8::decode;
 
@@ -65,12 +64,9 @@ impl Objects<'_> {
         ensures { IsLineRead self.now (chars line.now) result writer.new }
     {
         let dates = &self.dates;
-        let get_year = |date: IncompleteDate| -> i32
-            ensures { IsYearIn dates.entry.now.today date result }
-        { dates.year_of(date) };
         match visit_line(
             line,
-            get_year,
+            |date| dates.year_of(date),
             None,
             Variant::Either,
             &dates.zone,

@@ -20,7 +20,7 @@ use std::cell::Cell;
 use std::process::ExitCode;
 use syslog_choice::Choice;
 use syslog_command_line::report::{report_lines, say, say_version};
-use syslog_command_line::{Flag, Options, Task, program_words, read_task, refuse_words};
+use syslog_command_line::{Flag, Task, program_words, read_task, refuse_words};
 use syslog_lines::{Frames, Watched};
 use syslog_loose::VERSION;
 
@@ -48,20 +48,6 @@ fn filter_input(rt: &HostRuntime, frames: Frames, filter: &Objects<'_>) -> u8 {
     report_lines("syslog_json", &outcome, &mut Watched::new(rt.stderr()))
 }
 
-// Returns which messages are asked for; none if all are.
-fn choice_of<'a>(options: &Options<'a>) -> Option<Choice<'a>> {
-    let choice = Choice {
-        severity: options.severity,
-        host: options.host,
-        app: options.app,
-    };
-    if choice.is_everything() {
-        None
-    } else {
-        Some(choice)
-    }
-}
-
 // Does what the words ask for, and then returns the exit status.
 fn run(rt: &HostRuntime, words: &[String]) -> u8 {
     let mut out = Watched::new(rt.stdout());
@@ -71,14 +57,13 @@ fn run(rt: &HostRuntime, words: &[String]) -> u8 {
         Ok(Task::Version) => say_version("syslog_json", VERSION, &mut out, &mut errors),
         Ok(Task::Lines(options)) => {
             let frames = Frames::messages(options.framing, options.max_line);
-            let choice = choice_of(&options);
             let filter = Objects {
                 csv: options.csv,
                 raw: options.raw,
                 dialects: options.dialects,
                 latin1: options.latin1,
                 dates: options.dates,
-                choice,
+                choice: Choice::of(options.severity, options.host, options.app),
                 memory: Cell::new(Vec::new(rt.alloc())),
             };
             filter_input(rt, frames, &filter)

@@ -17,7 +17,7 @@ use std::alloc::{AllocError, Global};
 use std::io::{Read, Write};
 use syslog_lines::pump::pump;
 use syslog_lines::{Frames, LineFilter, RunFault, Summary, Watched, push_line};
-use syslog_loose::{IncompleteDate, ParseFault, TimeZone, Variant, reads_differently, settle_into};
+use syslog_loose::{ParseFault, TimeZone, Variant, reads_differently, settle_into};
 
 /// Reads lines to the end of the input, and writes the stable printed form of each message, with dates completed in the
 /// given year. The stable form is the first round that is printed again as it is.
@@ -76,14 +76,11 @@ impl Tidy {
         ensures refusal { IsUnreadable Either (in_utc self.now.year) (chars line.now) → result ≡ Err Invalid }
     {
         let year = self.year;
-        let answer_year = move |_: IncompleteDate| -> i32
-            ensures { result ≡ year }
-        { year };
         settle_into(
             alloc,
             text,
             line,
-            answer_year,
+            |_| year,
             None,
             Variant::Either,
             &TimeZone::UTC,
@@ -231,17 +228,7 @@ impl ChangedLines {
             ↔ ReadsDifferently Either (in_utc self.now.year) (chars line.now)) }
     {
         let year = self.year;
-        let answer_year = move |_: IncompleteDate| -> i32
-            ensures { result ≡ year }
-        { year };
-        reads_differently(
-            alloc,
-            line,
-            answer_year,
-            None,
-            Variant::Either,
-            &TimeZone::UTC,
-        )
+        reads_differently(alloc, line, |_| year, None, Variant::Either, &TimeZone::UTC)
     }
 }
 

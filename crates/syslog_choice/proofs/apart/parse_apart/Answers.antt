@@ -1,11 +1,11 @@
-use Rattle.std.proofs.Common.{refl}
+use Rattle.std.proofs.Common.{refl, rules}
 use Rattle.syslog_text.proofs.PieceLemmas.Class.{match_map}
 use Rattle.syslog_loose.proofs.ReadingLemmas.{in_year_map, in_year_told}
 use Rattle.syslog_choice.proofs.apart.parse_apart.Goals as goal
 
 pub returns-clause-reads : goal.returns-clause-reads
 returns-clause-reads c = in_year_told (in_year_map (λ year. match_map c.visit_line.result (λ none. none.0)
-    (λ made of. rw of.2.0 of.1)) c.visit_line.ensures) (λ date y is. is.1)
+    (λ made of. rw of.2.0 of.1)) c.visit_line.ensures) (λ date y is. search (rules, is))
 
 pub returns-clause-form : goal.returns-clause-form
 returns-clause-form c =
