@@ -33,18 +33,13 @@ IsRow flag = (flag_at (flag_number flag) ≡ flag) × (flag_with (flag_word flag
     × (takes_value flag ≡ false → IsValue flag [])
 
 row : (flag : Flag) → IsRow flag
-row Raw = (refl, refl, omega arith, refl, omega arith, λ text none is. is, λ none. refl)
-row NoDialects = (refl, refl, omega arith, refl, omega arith, λ text none is. is, λ none. refl)
-row Latin1 = (refl, refl, omega arith, refl, omega arith, λ text none is. is, λ none. refl)
 row Offset = (refl, refl, omega arith, refl, omega arith, λ text none is. cc, λ none. cc)
 row Zone = (refl, refl, omega arith, refl, omega arith, λ text none is. cc, λ none. cc)
-row Nul = (refl, refl, omega arith, refl, omega arith, λ text none is. is, λ none. refl)
-row OctetCounted = (refl, refl, omega arith, refl, omega arith, λ text none is. is, λ none. refl)
 row MaxLine = (refl, refl, omega arith, refl, omega arith, λ text none is. cc, λ none. cc)
 row Severity = (refl, refl, omega arith, refl, omega arith, λ text none is. cc, λ none. cc)
 row Host = (refl, refl, omega arith, refl, omega arith, λ text none is. cc, λ none. cc)
 row App = (refl, refl, omega arith, refl, omega arith, λ text none is. cc, λ none. cc)
-row Csv = (refl, refl, omega arith, refl, omega arith, λ text none is. is, λ none. refl)
+row flag = (refl, refl, omega arith, refl, omega arith, λ text none is. is, λ none. refl)
 
 pub number_within : (flag : Flag) → flag_number flag < 12
 number_within flag = (row flag).2

@@ -296,31 +296,35 @@ module _ (given : List GivenFlag) (flag : Flag) where
       (λ value same valid. given_so (is ∙ ap (λ (o : Option (Bor (List ℕ))). is_some o) same) value.now)
       (λ none. left_so (is ∙ ap (λ (o : Option (Bor (List ℕ))). is_some o) none))
 
+  -- what a reader returns of the value that was given
+  pub by_reader : {X : Type 0} (Names : List ℕ → X → Type 0) (Wrong : List ℕ → Type 0)
+      → ((text : List ℕ) → Wrong text → IsValue flag text → ⊥) → (held : Given) (r : Option X) → Holds held given
+      → MatchOption (value_at held flag) (r ≡ None) (λ text. MatchOption r (Wrong text.now) (λ x. Names text.now x))
+      → ByFlag given flag (λ text. IsSomeAnd r (λ x. Names text x)) (r ≡ None)
+  by_reader {X} Names Wrong unless held r holds = read_of (value_at held flag) r (holds.each flag)
+    where
+      read_of : (o : Option (Bor (List ℕ))) (r : Option X) → Has given flag o
+          → MatchOption o (r ≡ None) (λ text. MatchOption r (Wrong text.now) (λ x. Names text.now x))
+          → ByFlag given flag (λ text. IsSomeAnd r (λ x. Names text x)) (r ≡ None)
+      read_of None r left none = inr (left, none)
+      read_of (Some value) (Some x) at is = inl (value.now, at, is)
+      read_of (Some value) None at wrong =
+          absurd (unless value.now wrong (is_valid given flag value.now at holds.valued))
+
   pub text_given : (o answer : Option (Bor (List ℕ))) → Has given flag o → answer ≡ o
       → ByFlag given flag (λ text. IsSomeAnd answer (λ it. it.now ≡ text)) (answer ≡ None)
   text_given (Some value) answer held is =
       inl (value.now, held, subst (λ (r : Option (Bor (List ℕ))). IsSomeAnd r (λ it. it.now ≡ value.now)) (sym is) refl)
   text_given None answer held is = inr (held, is)
 
--- a text that is held is the one that was given
-pub held_text : (o : Option (Bor (List ℕ))) (text value : Bor (List ℕ)) → Some text ≡ o → o ≡ Some value
-    → text.now ≡ value.now
-held_text o text value is same =
-    let both : text ≡ value = cc in ap (λ (t : Bor (List ℕ)). t.now) both
-
--- what a reader of values returns for one
-pub named_value : {X : Type 0} (Names : List ℕ → X → Type 0) (r : Option X) (text value : List ℕ)
-    → MatchOption r ((x : X) → Names text x → ⊥) (λ x. Names text x) → text ≡ value → (x : X) × Names value x
-    → IsSomeAnd r (λ x. Names value x)
-named_value Names (Some x) text value read same is = subst (λ (t : List ℕ). Names t x) same read
-named_value Names None text value read same (x, is) =
-    absurd (read x (subst (λ (t : List ℕ). Names t x) (sym same) is))
-
--- and what stays of it where another is taken if it returns none
-pub named_or : {X : Type 0} (Names : List ℕ → X → Type 0) (r : Option X) (usual : X) (value : List ℕ)
-    → IsSomeAnd r (λ x. Names value x) → Names value (unwrap_or r usual)
-named_or Names (Some x) usual value is = is
-named_or Names None usual value is = absurd is
+-- and where another is taken for none
+pub or_usual : {X : Type 0} (Names : List ℕ → X → Type 0) (given : List GivenFlag) (flag : Flag) (r : Option X)
+    (usual : X) → ByFlag given flag (λ text. IsSomeAnd r (λ x. Names text x)) (r ≡ None)
+    → ByFlag given flag (λ text. Names text (unwrap_or r usual)) (unwrap_or r usual ≡ usual)
+or_usual Names given flag (Some x) usual (inl is) = inl is
+or_usual Names given flag (Some x) usual (inr (left, none)) = cc
+or_usual Names given flag None usual (inl (text, at, none)) = absurd none
+or_usual Names given flag None usual (inr (left, none)) = inr (left, refl)
 
 -- the zone, by the offset that was named
 pub zone_by : (given : List GivenFlag) (offset : ℤ) (zone : TimeZone)

@@ -2,14 +2,14 @@
 use Rattle.syslog_command_line.proofs.Names.{◌≡◌, ◌<◌, ◌≤◌, ◌∙◌, ℕ, List, Ok, Err, Result, arith, get_or, length, refl}
 use Rattle.syslog_command_line.proofs.Names.{sym, IsInRange, numerals_by_value, tells_by_index, Bool, MatchOption, None}
 use Rattle.syslog_command_line.proofs.Names.{Option, Some, true}
-use Rattle.std.proofs.Common.{All, IsSomeAnd, is_some, subst, ◌^◌, ◌↔◌}
+use Rattle.std.proofs.Common.{All, is_some, ◌^◌, ◌↔◌}
 use Rattle.std.proofs.lemmas.Str.Parse.{parse_digits}
 use Rattle.std.specs.Char.{IsAsciiDigit}
 use Rattle.std.specs.Result.{OkIff}
 use Rattle.std.specs.Str.Parse.{ParsesUnsigned, digits_value}
 use Rattle.syslog_command_line.specs.Flags.{NamesSize}
 use Rattle.jiff.specs.Placed.{IsPosixZone}
-use Rattle.jiff.specs.Types.{TimeZone, Fixed, Posix, Tzif, UTC, Unknown}
+use Rattle.jiff.specs.Types.{TimeZone, Posix}
 use Rattle.jiff.specs.Words.{plain_zone, read_whole}
 use Rattle.jiff.specs.declared.tz.timezone.TimeZone.{TimeZone as Held}
 
@@ -59,12 +59,9 @@ some_iff Names None found read is = (λ on. cc, λ named. absurd (read named.0 n
 
 -- ---- rules of zones
 
-no_rule : (text : List ℕ) (zone : TimeZone) → read_whole text ≡ None → IsPosixZone text zone → ⊥
+pub no_rule : (text : List ℕ) (zone : TimeZone) → read_whole text ≡ None → IsPosixZone text zone → ⊥
 no_rule text (Posix rule) none is = cc
-no_rule text UTC none is = is
-no_rule text Unknown none is = is
-no_rule text (Fixed offset) none is = is
-no_rule text (Tzif zone) none is = is
+no_rule text zone none is = absurd is
 
 -- a reader of rules returns a zone exactly if the text is one
 pub zone_iff : (text : List ℕ) (r : Option Held) (found : Bool)
@@ -72,11 +69,3 @@ pub zone_iff : (text : List ℕ) (r : Option Held) (found : Bool)
     → (found ≡ true) ↔ ((zone : TimeZone) × IsPosixZone text zone)
 zone_iff text (Some it) found read is = (λ on. (plain_zone it, read), λ named. is)
 zone_iff text None found read is = (λ on. cc, λ named. absurd (no_rule text named.0 read named.1))
-
--- and of a rule it returns the zone
-pub zone_of_value : (text value : List ℕ) (r : Option Held)
-    → MatchOption r (read_whole text ≡ None) (λ it. IsPosixZone text (plain_zone it)) → text ≡ value
-    → (zone : TimeZone) × IsPosixZone value zone → IsSomeAnd r (λ it. IsPosixZone value (plain_zone it))
-zone_of_value text value (Some it) read same is = subst (λ (t : List ℕ). IsPosixZone t (plain_zone it)) same read
-zone_of_value text value None none same (zone, is) =
-    absurd (no_rule text zone none (subst (λ (t : List ℕ). IsPosixZone t zone) (sym same) is))

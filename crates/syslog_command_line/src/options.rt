@@ -95,10 +95,10 @@ fn max_line_of(given: &Given<'_>) -> usize
     ensures { (flags : List GivenFlag) → Holds given.now flags
         → ByFlag flags Flag.MaxLine (λ text. NamesSize text result) (result ≡ usual_max_line) }
 {
-    match given.value(Flag::MaxLine) {
-        Some(text) => read_size(text).unwrap_or(MAX_LINE),
-        None => MAX_LINE,
-    }
+    given
+        .value(Flag::MaxLine)
+        .and_then(read_size)
+        .unwrap_or(MAX_LINE)
 }
 
 // Returns the least severe severity that is written.
@@ -107,10 +107,7 @@ fn severity_of(given: &Given<'_>) -> Option<SyslogSeverity>
         → ByFlag flags Flag.Severity (λ text. IsSomeAnd result (λ severity. NamesSeverity text severity))
         (result ≡ None) }
 {
-    match given.value(Flag::Severity) {
-        Some(text) => read_severity(text),
-        None => None,
-    }
+    given.value(Flag::Severity).and_then(read_severity)
 }
 
 // Returns how dates are completed, on this day.
@@ -143,10 +140,7 @@ fn offset_of(given: &Given<'_>) -> i32
         → ByFlag flags Flag.Offset (λ text. NamesOffset text result) (result ≡ pos 0) }
     ensures range { (negsuc 86_399 ≤ℤ result) × (result ≤ℤ pos 86_399) }
 {
-    match given.value(Flag::Offset) {
-        Some(text) => read_offset(text).unwrap_or(0),
-        None => 0,
-    }
+    given.value(Flag::Offset).and_then(read_offset).unwrap_or(0)
 }
 
 // Reads the flags before the date. Returns them and the words after them.

@@ -79,6 +79,13 @@ fn report_counts<W: Write>(program: &str, counts: &LineCounts, errors: &mut Watc
         .and_str(refused.as_str(), LINES)
         .and_str(replaced.as_str(), LINES);
     write_text(text.as_str(), errors);
+    status_of(counts)
+}
+
+// Returns the exit status after these counts.
+fn status_of(counts: &LineCounts) -> u8
+    ensures { result ≡ counts_status counts.now }
+{
     if counts.refused == 0 && counts.replaced == 0 {
         0
     } else {

@@ -1,16 +1,9 @@
-use Rattle.syslog_command_line.proofs.Names.{refl}
-use Rattle.syslog_command_line.proofs.OptionLemmas.{by_flag, held_text, named_or, named_value}
+use Rattle.syslog_command_line.proofs.OptionLemmas.{by_reader, or_usual}
 use Rattle.syslog_command_line.specs.Flags.{NamesSize}
 use Rattle.syslog_command_line.specs.declared.flags.Flag.TheVariants.{MaxLine}
 use Rattle.syslog_command_line.proofs.options.max_line_of.Goals as goal
 
-pub returns-in-Some : goal.returns-in-Some
-returns-in-Some c = λ flags holds. by_flag flags MaxLine c.args.given.now _ _ holds
-    (λ value same is. rw c.unwrap_or.ensures (named_or NamesSize _ _ value.now
-    (named_value NamesSize _ _ value.now c.read_size.ensures
-    (held_text _ c.in-Some.text value c.in-Some.ensures same) is)))
-    (λ none. cc c.in-Some.ensures)
-
-pub returns-in-None : goal.returns-in-None
-returns-in-None c = λ flags holds. by_flag flags MaxLine c.args.given.now _ _ holds
-    (λ value same is. cc c.in-None.ensures) (λ none. refl)
+pub returns : goal.returns
+returns c = λ flags holds. rw c.unwrap_or.ensures (or_usual NamesSize flags MaxLine _ _
+    (by_reader flags MaxLine NamesSize _ (λ text none is. none is.0 is.1) c.args.given.now _ holds
+    (rw c.value.ensures at c.and_then.ensures)))

@@ -1,4 +1,4 @@
-use Rattle.syslog_command_line.proofs.Names.{◌≡◌, ◌++◌, ◌≤◌, ◌∙◌, ap, arith, false, length, refl, rules}
+use Rattle.syslog_command_line.proofs.Names.{◌≡◌, ◌≤◌, ◌∙◌, arith, false, length, refl, rules}
 use Rattle.std.proofs.Common.{◌==◌}
 use Rattle.std.proofs.lemmas.List.{length-append}
 use Rattle.syslog_command_line.specs.Counts.{reasons}
