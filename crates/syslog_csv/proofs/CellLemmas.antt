@@ -24,7 +24,6 @@ use Rattle.syslog_pieces.specs.Front.{clock_text}
 use Rattle.syslog_elements.specs.StructuredData.Element.{ElementValue}
 use Rattle.syslog_pieces.specs.Timestamp.{stamp_seen}
 use Rattle.syslog_pieces.specs.declared.timestamp.clock.ClockStamp.{ClockStamp}
-use Rattle.syslog_loose.specs.Line.{protocol_of}
 use Rattle.syslog_object.specs.Elements.{IsStructuredText}
 use Rattle.syslog_csv.proofs.RecordLemmas.{only_record}
 use Rattle.syslog_csv.specs.Records.{record_text}
@@ -101,11 +100,6 @@ pub cells_of_refused : (line : List ℕ) → cells_of (refused_json line)
     ≡ [] ∷ [] ∷ [] ∷ [] ∷ [] ∷ [] ∷ [] ∷ [] ∷ [] ∷ [] ∷ [] ∷ [] ∷ [] ∷ [] ∷ line ∷ [] ∷ codes "true" ∷ [] ∷ []
 unfolding print_from
 cells_of_refused line = refl
-
-pub version_same : (version : Option ℕ) → cell_of (option_map number_json version) ≡ cell_of
-    (version_json (protocol_of version))
-version_same None = refl
-version_same (Some n) = refl
 
 pub stamp_same : (stamp : Option ClockStamp)
     → unwrap_or (option_map (λ s. clock_text (Some s)) stamp) [] ≡ cell_of

@@ -1,7 +1,7 @@
 -- A field between quotes, written up to one of its quotes after the other.
 use Rattle.std.proofs.Common.{◌≡◌, ◌==◌, ◌+◌, ◌<◌, ◌≤◌, ◌++◌, ◌∷◌, [], ℕ, zero, suc, List, Bool, true, false, length}
 use Rattle.std.proofs.Common.{take}
-use Rattle.std.proofs.Common.{drop, refl, sym, ap, ◌∙◌, add-one, arith, append_assoc}
+use Rattle.std.proofs.Common.{drop, refl, sym, ap, ◌∙◌, add-one, arith}
 use Rattle.std.specs.Prelude.{slice_index}
 use Rattle.std.proofs.lemmas.Bool.{eqb-true}
 use Rattle.std.proofs.lemmas.List.{length-drop}
@@ -48,17 +48,3 @@ quote_found text front rest at within before here first second = (
       ∙ rw (first, second, add-one) refl,
   rw (second, length-drop) (omega arith),
 )
-
--- a piece up to a quote was written, and the quote again
-pub quote_written : (out mid new front rest text all : List ℕ) → mid ≡ out ++ front → new ≡ mid ++ (34 ∷ [])
-    → doubled text ≡ front ++ (34 ∷ doubled rest) → out ++ doubled text ≡ all → new ++ doubled rest ≡ all
-quote_written out mid new front rest text all first second split before =
-    rw (second, first, ← before, split) (simp append_assoc)
-
--- the rest was written, and the quote at the end
-pub quote_closed : (old out mid new rest field : List ℕ) → mid ≡ out ++ rest → new ≡ mid ++ (34 ∷ [])
-    → doubled rest ≡ rest
-    → out ++ doubled rest ≡ old ++ (34 ∷ doubled field) → new ≡ old ++ (34 ∷ (doubled field ++ (34 ∷ [])))
-quote_closed old out mid new rest field first second plain before =
-    second ∙ ap (λ (l : List ℕ). l ++ (34 ∷ []))
-    (first ∙ ap (λ (l : List ℕ). out ++ l) (sym plain) ∙ before) ∙ append_assoc old (34 ∷ doubled field) (34 ∷ [])

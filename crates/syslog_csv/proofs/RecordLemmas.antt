@@ -166,13 +166,6 @@ read_back ((f ∷ fields) ∷ records) all = (
 
 -- ---- fields that are added after others
 
-pub adds_one : (old mid new field : List ℕ) → mid ≡ old ++ (44 ∷ []) → new ≡ mid ++ field_text field
-    → AddsFields old new (field ∷ [])
-adds_one old mid new field first second = record {
-  added = second ∙ ap (λ (l : List ℕ). l ++ field_text field) first ∙ append_assoc old (44 ∷ []) (field_text field)
-      ∙ ap (λ (l : List ℕ). old ++ (44 ∷ l)) (sym (append-nil (field_text field)));
-}
-
 pub adds_none : (old : List ℕ) → AddsFields old old []
 adds_none old = record { added = sym (append-nil old) }
 

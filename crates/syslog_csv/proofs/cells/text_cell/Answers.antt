@@ -1,4 +1,0 @@
-use Rattle.syslog_csv.proofs.cells.text_cell.Goals as goal
-
-pub returns-in-Some : goal.returns-in-Some
-returns-in-Some c = rw c.in-Some.is c.bytes_of.ensures
