@@ -1,21 +1,17 @@
 -- The day and the zone that options name.
 use Rattle.syslog_c.proofs.Words.{◌≡◌, ◌∙◌, ◌<◌, ◌∷◌, ◌++◌, [], ℕ, ℤ, ap, append-nil, arith, inl, inr, length}
-use Rattle.syslog_c.proofs.Words.{refl, subst, sym, List, Option, Some, None, Result, Ok, Err, IsUtf8, Options}
+use Rattle.syslog_c.proofs.Words.{refl, subst, sym, List, Option, Some, None, Result, Ok, Err, Options}
 use Rattle.std.proofs.Common.{◌==◌, false, rules, if◌then◌else◌, ◌↔◌, ◌≢◌, get_or, pos, true≢false}
 use Rattle.std.proofs.lemmas.Int.{ints}
 use Rattle.std.proofs.lemmas.List.Elements.{All-head, All-nil, All-tail}
 use Rattle.std.specs.Prelude.{IfOk, IsOk, MatchOption}
 use Rattle.std.specs.Result.{OkIff, result_ok}
-use Rattle.jiff.specs.Placed.{IsPosixZone}
-use Rattle.jiff.specs.Types.{Date, Posix, TimeZone}
-use Rattle.jiff.specs.Words.{IsDate, IsOffsetSeconds, IsYmd, plain_zone, read_whole}
+use Rattle.jiff.specs.Types.{Date, TimeZone}
+use Rattle.jiff.specs.Words.{IsDate, IsOffsetSeconds, IsYmd, plain_zone}
 use Rattle.jiff.specs.declared.tz.timezone.TimeZone.{TimeZone as Held}
 use Rattle.syslog_lines.specs.Frames.{NoByte}
 use Rattle.syslog_loose.specs.Reckoning.{IsZoneAt}
-use Rattle.syslog_loose.specs.Today.{HasYear}
-use Rattle.syslog_loose.specs.declared.today.Today.{Today}
-use Rattle.syslog_loose.specs.declared.today.Today.TheVariants.{Day, Month, Year}
-use Rattle.syslog_c.specs.Options.{IsTextIn, IsToday, IsZoneBy, IsZoneOf}
+use Rattle.syslog_c.specs.Options.{IsTextIn, IsZoneBy, IsZoneOf}
 
 -- a number of another type is the same number
 pub converted : {E : Type 0} (P : Type 0) (r : Result ℤ E) (x v : ℤ) → Some x ≡ result_ok r → OkIff r P v → x ≡ v
@@ -43,19 +39,6 @@ date_found year month day y m d (Ok date) found same at_year at_month at_day the
     rw same (rw (at_year, at_month, at_day) at is)
 date_found year month day y m d (Err fault) found same at_year at_month at_day there is = rw same (λ date named.
     absurd (true≢false (sym (there.1 (rw (at_year, at_month, at_day) (is_date year month day date named))))))
-
--- the year of what is known is one of the calendar
-pub has_year : (options : Options) (today : Today) → IsToday options today → HasYear today
-has_year options (Year year) is = is.0
-has_year options (Month year month) is = is.0
-has_year options (Day date) is = tt
-
--- where there is a day, only that is known
-pub day_known : (options : Options) (today : Today) → (options.day ≡ 0 → ⊥)
-    → ((date : Date) → IsYmd options.year (pos options.month) (pos options.day) date → ⊥) → IsToday options today → ⊥
-day_known options (Year year) some none is = some is.3
-day_known options (Month year month) some none is = some is.5
-day_known options (Day date) some none is = none date is
 
 -- ---- the text in an array
 
@@ -88,10 +71,6 @@ text_none (byte ∷ after) some zero =
 
 -- ---- zones
 
-no_rule : (text : List ℕ) (zone : TimeZone) → read_whole text ≡ None → IsPosixZone text zone → ⊥
-no_rule text (Posix rule) none is = cc
-no_rule text zone none is = absurd is
-
 module _ (rule : List ℕ) (offset : ℤ) where
   -- there is no such zone, or it is this one
   abbrev pub NamesZone : Option Held → Type 0
@@ -105,22 +84,6 @@ pub zone_at_offset : (rule : List ℕ) (offset : ℤ) (found : Option Held) → 
 zone_at_offset [] offset (Some it) none is = is
 zone_at_offset [] offset None none out = λ zone is. out is.0
 zone_at_offset (byte ∷ more) offset found none is = absurd (omega (arith, ap length none))
-
--- with a rule it is the one of that
-pub zone_by_rule : (rule text : List ℕ) (offset : ℤ) (found : Option Held) → 0 < length rule → offset ≡ pos 0
-    → (text ≡ rule) × IsUtf8 rule
-    → MatchOption found (read_whole text ≡ None) (λ it. IsPosixZone text (plain_zone it)) → NamesZone rule offset found
-zone_by_rule [] text offset found some zero utf8 is = absurd (omega (arith, some))
-zone_by_rule (byte ∷ more) text offset (Some it) some zero (same, utf8) is =
-    (zero, utf8, subst (λ (t : List ℕ). IsPosixZone t (plain_zone it)) same is)
-zone_by_rule (byte ∷ more) text offset None some zero (same, utf8) none = λ zone is.
-    no_rule text zone none (subst (λ (t : List ℕ). IsPosixZone t zone) (sym same) is.2)
-
--- a rule that has an offset beside it, or is not UTF-8, names none
-pub no_zone : (rule : List ℕ) (offset : ℤ) (zone : TimeZone) → 0 < length rule
-    → (offset ≡ pos 0 → IsUtf8 rule → ⊥) → IsZoneBy rule offset zone → ⊥
-no_zone [] offset zone some wrong is = omega (arith, some)
-no_zone (byte ∷ more) offset zone some wrong is = wrong is.0 is.1
 
 -- the zone that options name, by the rule that is in their array
 pub zone_named : (options : Options) (rule : List ℕ) (found : Option Held) → IsTextIn options.zone rule

@@ -2,6 +2,10 @@
 use Rattle.syslog_c.proofs.Words.{List, list_elements, IsElement, all_params, ReadsInto, NoReading}
 use Rattle.syslog_c.proofs.Words.{◌≡◌, ◌⊎◌, ◌<◌, ◌≤◌, ℕ, Option, None, Some, refl, arith, length, Text, Dating, IsParam}
 use Rattle.syslog_c.proofs.Words.{◌∙◌, [], inl, inr, sym, subst, Outcome, Rules}
+use Rattle.syslog_c.proofs.Words.{AreRules, IsUtf8, OnLine, Options, in_year_map}
+use Rattle.syslog_c.proofs.LineLemmas.{tried_line}
+use Rattle.std.specs.Str.{chars}
+use Rattle.syslog_loose.specs.Dates.{IsDated}
 use Rattle.std.proofs.lemmas.Bool.{cases_lt}
 use Rattle.std.specs.Prelude.{Bool, MatchBool, MatchOption}
 use Rattle.syslog_elements.specs.StructuredData.Element.{ElementValue}
@@ -43,10 +47,20 @@ too_few e p n m over = elim (cases_lt n e) [
   | inr fits ↦ inr (too_many p m (over fits))
 ]
 
--- what holds of the arrays that come back holds of the caller's
-pub with_arrays : (P : List Element → List Param → Type 0) (es fs : List Element) (ps qs : List Param) → fs ≡ es
-    → qs ≡ ps → P es ps → P fs qs
-with_arrays P es fs ps qs e p h = rw (e, p) h
+-- what a reading leaves in the arrays is in the caller's, since they stay these
+pub tried_arrays : {Stay : Type 0} (options : Options) (line : List ℕ) (rules : Rules) (outcome : Outcome)
+    (old new : Fields) (old_es : List Element) (old_ps : List Param) (last : Arrays) (es : List Element)
+    (ps : List Param) → AreRules options rules → IsUtf8 line
+    → IsDated rules.dates rules.variant (chars line) (λ dating. Stay × ReadsInto rules dating (chars line) old new
+    old_es last.elements.now old_ps last.params.now outcome)
+    → (Stay → es ≡ last.elements.now) → (Stay → ps ≡ last.params.now)
+    → OnLine options line outcome ((new ≡ old) × (es ≡ old_es) × (ps ≡ old_ps))
+    (λ by dating text. ReadsInto by dating text old new old_es es old_ps ps outcome)
+tried_arrays options line rules outcome old new old_es old_ps last es ps are utf8 holds same_elements same_params =
+    let stay = (holds.holds holds.answered (λ date asks. refl)).0 in
+    rw (same_elements stay, same_params stay) (inr (inr (tried_line
+    (λ by dating text. ReadsInto by dating text old new old_es last.elements.now old_ps last.params.now outcome)
+    options line line rules are (refl, utf8) (in_year_map (λ year h. h.1) holds))))
 
 module _ (rules : Rules) (dating : Dating) (text : Text) (old mid new : Fields) (before after last : Arrays)
     (none_put : before.count ≡ 0) (none_filled : before.filled ≡ 0) where
@@ -108,55 +122,40 @@ module _ (rules : Rules) (dating : Dating) (text : Text) (old mid new : Fields) 
       → AreOfLine mid None line → MatchBool is_ordinary (IsOrdinary line) (IsOrdinary line → ⊥)
       → AreTaken rules dating text (list_elements line.list) own new
 
-  read_taken : (is_ordinary : Bool) (own : Option ElementList) → Reads (Some is_ordinary) → Takes is_ordinary own
-      → PutsOwn own → (es : List ElementValue) × AreMeant rules dating text es new × HasPut before last es
-  read_taken is_ordinary own (line, of, (are, keeps), v) says puts =
-      let (es, meant, which) = says line of are keeps in
-      (es, meant, put_own own (list_elements line.list) es (v before [] (start before none_put none_filled)) which puts)
-
-  pub read_stay : (is_ordinary : Bool) (own : Option ElementList) → Reads (Some is_ordinary) → Takes is_ordinary own
-      → PutsOwn own → Stay
-  read_stay is_ordinary own reads says puts =
-      let (es, meant, put) = read_taken is_ordinary own reads says puts in (put.same_elements, put.same_params)
+  abbrev Ends : Outcome → Type 0
+  Ends outcome = Stay × Into outcome
 
   pub read_into : (is_ordinary : Bool) (own : Option ElementList) (outcome : Outcome) → Reads (Some is_ordinary)
-      → Takes is_ordinary own → PutsOwn own → IsFilled last new outcome → Into outcome
-  read_into is_ordinary own outcome reads says puts filled =
-      let (es, meant, put) = read_taken is_ordinary own reads says puts in into outcome es meant put filled
+      → Takes is_ordinary own → PutsOwn own → IsFilled last new outcome → Ends outcome
+  read_into is_ordinary own outcome (line, of, (are, keeps), v) says puts filled =
+      let (es, meant, which) = says line of are keeps in
+      let put = put_own own (list_elements line.list) es (v before [] (start before none_put none_filled)) which puts in
+      ((put.same_elements, put.same_params), into outcome es meant put filled)
 
   -- where the port reads no line, it is of a dialect
-  unread_taken : (list : ElementList) → Reads None → PutsOwn (Some list) → HasPut before last (list_elements list)
-  unread_taken list (none, same, v) puts =
-      puts before [] (v before [] (start before none_put none_filled))
-
-  pub unread_stay : (list : ElementList) → Reads None → PutsOwn (Some list) → Stay
-  unread_stay list reads puts = let put = unread_taken list reads puts in (put.same_elements, put.same_params)
-
   pub unread_into : (list : ElementList) (outcome : Outcome) → Reads None
       → (IsUnreadable rules.variant dating text → AreMeant rules dating text (list_elements list) new)
-      → PutsOwn (Some list) → IsFilled last new outcome → Into outcome
+      → PutsOwn (Some list) → IsFilled last new outcome → Ends outcome
   unread_into list outcome (none, same, v) says puts filled =
-      into outcome (list_elements list) (says none) (unread_taken list (none, same, v) puts) filled
+      let put = puts before [] (v before [] (start before none_put none_filled)) in
+      ((put.same_elements, put.same_params), into outcome (list_elements list) (says none) put filled)
 
   -- or there is none, and all is as it was
-  nothing_put : Reads None → last ≡ after → HasPut before last []
-  nothing_put (none, same, v) kept =
-      subst (λ (a : Arrays). HasPut before a []) (sym kept) (v before [] (start before none_put none_filled))
-
-  pub none_stay : Reads None → last ≡ after → Stay
-  none_stay reads kept = let put = nothing_put reads kept in (put.same_elements, put.same_params)
-
   pub none_into : Reads None → last ≡ after → (IsUnreadable rules.variant dating text
-      → IsUnsent rules.dates dating rules.dialects rules.variant text × (new ≡ mid)) → Into NoReading
+      → IsUnsent rules.dates dating rules.dialects rules.variant text × (new ≡ mid)) → Ends NoReading
   none_into (none, same, v) kept says =
       let (unsent, is) = says none in
-      let put = (nothing_put (none, same, v) kept).put record {
+      let has = subst (λ (a : Arrays). HasPut before a []) (sym kept)
+      (v before [] (start before none_put none_filled)) in
+      let put = has.put record {
         elements = omega arith;
         params = omega arith;
-      } in
-      inr (
-        (refl, unsent),
-        is ∙ same,
-        begun_nothing IsElement _ _ put.elements,
-        begun_nothing IsParam _ _ put.params,
+      } in (
+        (has.same_elements, has.same_params),
+        inr (
+          (refl, unsent),
+          is ∙ same,
+          begun_nothing IsElement _ _ put.elements,
+          begun_nothing IsParam _ _ put.params,
+        ),
       )

@@ -6,7 +6,7 @@ use Rattle.syslog_lines.proofs.Names.{eqb, eqb-true}
 use Rattle.std.proofs.Math.Seq.{take-append_seam}
 use Rattle.syslog_lines.specs.Lines.{IsLines, IsFirstLine}
 use Rattle.syslog_lines.proofs.LineLemmas.{IsLines-cons, IsLines-nil, some_lines}
-use Rattle.syslog_c.proofs.ArrayLemmas.{begun_next, begun_none}
+use Rattle.syslog_c.proofs.ArrayLemmas.{begun_next}
 use Rattle.syslog_c.specs.Rows.{IsRow}
 use Rattle.syslog_c.specs.declared.fields.Row.{Row}
 
@@ -20,10 +20,6 @@ pub record AreRead (options : Options) (buffer rest : List ℕ) (old new : List 
 pub none_left : (rest : List ℕ) (empty : Bool) → empty ≡ eqb (length rest) 0 → empty ≡ true → rest ≡ []
 none_left [] empty same none = refl
 none_left (byte ∷ rest) empty same none = absurd (omega (arith, eqb-true (length (byte ∷ rest)) 0 (sym same ∙ none)))
-
-pub none_read : (options : Options) (buffer : List ℕ) (rows : List Row) → AreRead options buffer buffer rows rows 0
-none_read options buffer rows =
-    record { done = []; lines = λ more cut. cut; counted = refl; rows = begun_none (IsRow options) rows }
 
 -- one more line
 pub one_more : (options : Options) (buffer rest line after : List ℕ) (old new : List Row) (count : ℕ) (row : Row)

@@ -1,14 +1,13 @@
 -- A line that is read as its sender meant it, and what its timestamp shows.
-use Rattle.syslog_c.proofs.Words.{◌≡◌, ◌∙◌, Option, None, Some, ap, inl, refl, sym, subst, Text, Dating, line_value}
+use Rattle.syslog_c.proofs.Words.{◌≡◌, ◌∙◌, Option, None, Some, inl, refl, sym, subst, Text, Dating, line_value}
 use Rattle.syslog_c.proofs.Words.{IsStamp, List, MessageValue, OffsetTimestamp, Rules, ShowsNoDate, Stamp}
 use Rattle.syslog_c.proofs.Words.{dating_in, in_year_map, inr, list_elements, NoReading, Outcome}
 use Rattle.std.proofs.Common.{ℤ}
 use Rattle.syslog_c.proofs.Words.{◌++◌}
-use Rattle.std.specs.Prelude.{Bool, true, false, codes}
+use Rattle.std.specs.Prelude.{true, false, codes}
 use Rattle.syslog_text.specs.Pieces.Class.{NoFront, exactly}
 use Rattle.syslog_text.specs.Text.{trimmed}
 use Rattle.syslog_dialects.specs.Note.{IsNote}
-use Rattle.std.specs.Int.{from_bool}
 use Rattle.syslog_elements.specs.StructuredData.Element.{ElementValue}
 use Rattle.jiff.specs.Words.{plain_zone}
 use Rattle.syslog_loose.proofs.ReckoningLemmas.{one_dating}
@@ -76,32 +75,6 @@ with_unnoted rules text (inr never) h =
         never.holds year (λ date asks. agrees date asks ∙ sym (this date asks) ∙ that date asks),
       );
     }
-
--- ---- the flags of a timestamp
-
-pub flag_of : (flag : Bool) → from_bool flag ≡ flag_number flag
-flag_of true = refl
-flag_of false = refl
-
--- a timestamp of the same instant, with other flags
-pub reflagged : (s t : Stamp) (year offset : Bool) → t.seconds ≡ s.seconds → t.nanoseconds ≡ s.nanoseconds
-    → t.offset ≡ s.offset → t.present ≡ s.present → t.shows_year ≡ flag_number year
-    → t.shows_offset ≡ flag_number offset → (at : Option OffsetTimestamp)
-    → (at ≡ None → (year ≡ false) × (offset ≡ false)) → IsStamp s at → IsStamp t at
-reflagged s t year offset e f g h y o None absent is = (
-  h ∙ is.0,
-  e ∙ is.1,
-  f ∙ is.2,
-  g ∙ is.3,
-  y ∙ ap flag_number (absent refl).0,
-  o ∙ ap flag_number (absent refl).1,
-)
-reflagged s t year offset e f g h y o (Some at) absent is = record {
-  present = h ∙ is.present;
-  seconds = e ∙ is.seconds;
-  nanoseconds = f ∙ is.nanoseconds;
-  offset = g ∙ is.offset;
-}
 
 -- ---- the fields of a line
 

@@ -1,12 +1,9 @@
 use Rattle.syslog_c.proofs.Words.{◌≡◌, ap, arith, length}
 use Rattle.std.proofs.lemmas.List.{length-set}
 use Rattle.syslog_lines.proofs.AnswerLemmas.{some_left}
-use Rattle.syslog_c.proofs.RowLemmas.{all_lines, first_lines, none_left, none_read, one_more}
+use Rattle.syslog_c.proofs.RowLemmas.{all_lines, first_lines, none_left, one_more}
 use Rattle.syslog_c.proofs.lines.read_rows.Goals.{then-loop-count-test+else-not-is_empty, else-loop-count-test}
 use Rattle.syslog_c.proofs.lines.read_rows.Goals as goal
-
-pub loop-count-init : goal.loop-count-init
-loop-count-init c = (none_read _ _ _, omega arith)
 
 pub loop-count-preserved : goal.loop-count-preserved
 loop-count-preserved c = (

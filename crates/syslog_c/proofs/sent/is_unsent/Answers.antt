@@ -10,6 +10,3 @@ pub returns-in-Some-parse_sent_line : goal.returns-in-Some-parse_sent_line
 returns-in-Some-parse_sent_line c =
     inr (in_year_map (λ year read. read_unnoted c.args.rules.now _ (chars c.args.text.now) _ _ read)
     c.in-Some-parse_sent_line.ensures.reads)
-
-pub returns-in-None : goal.returns-in-None
-returns-in-None c = c.in-None.ensures.reads

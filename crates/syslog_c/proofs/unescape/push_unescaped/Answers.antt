@@ -1,14 +1,10 @@
 use Rattle.syslog_c.{proofs.TextLemmas.text_after, proofs.TextLemmas.text_none}
 use Rattle.syslog_pieces.proofs.Names.{rules, refl, [], ◌++◌, chars}
-use Rattle.syslog_elements.proofs.StructuredDataLemmas.Units.{means_all, means_here, means_more}
+use Rattle.syslog_elements.proofs.StructuredDataLemmas.Units.{means_here, means_more}
 use Rattle.syslog_c.proofs.unescape.push_unescaped.Goals as goal
 
 pub texts-init : goal.texts-init
 texts-init c = (search rules, ([], text_none c.args.buffer.now, means_here _ _ refl))
-
-pub returns-in_default : goal.returns-in_default
-returns-in_default c =
-    let (put, takes, means) = c.texts.invariant.1 in (put, means_all means c.in_default.ensures, takes)
 
 pub texts-preserved : goal.texts-preserved
 texts-preserved c =
@@ -21,6 +17,3 @@ texts-preserved c =
         means_more means c.in-Some.ensures.0 refl,
       ),
     )
-
-pub texts-smaller : goal.texts-smaller
-texts-smaller c = c.in-Some.ensures.1
