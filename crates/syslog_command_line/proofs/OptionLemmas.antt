@@ -2,11 +2,10 @@
 use Rattle.syslog_command_line.proofs.Names.{◌≡◌, ◌≢◌, ◌<◌, ◌∷◌, ◌++◌, ◌∙◌, ℕ, ℤ, [], List, MatchOption, None, Option}
 use Rattle.syslog_command_line.proofs.Names.{Some, append_assoc, ap, arith, get_or, inl, inr, length, pos, refl, subst}
 use Rattle.syslog_command_line.proofs.Names.{sym, true, false}
-use Rattle.std.proofs.Common.{All, Bool, Bor, Contains, IsSomeAnd, flat_map, is_some, replicate, set, unwrap_or, ◌⊎◌}
+use Rattle.std.proofs.Common.{All, Bool, Bor, Contains, IsSomeAnd, flat_map, is_some, set, unwrap_or, ◌⊎◌}
 use Rattle.std.proofs.lemmas.{Bool.cases_eq, List.flat_map_more, List.length-append, List.length-set}
-use Rattle.std.proofs.lemmas.List.{get_or_append_left, get_or-replicate, get_or-set_other, get_or-set_same}
-use Rattle.std.proofs.lemmas.List.{length-replicate}
-use Rattle.std.proofs.lemmas.List.Elements.{All-nil, All-push, Contains-append_left, Contains-push}
+use Rattle.std.proofs.lemmas.List.{get_or_append_left, get_or-set_other, get_or-set_same}
+use Rattle.std.proofs.lemmas.List.Elements.{All-push, Contains-append_left, Contains-push}
 use Rattle.std.proofs.lemmas.List.Quantifiers.{all_pairs_push}
 use Rattle.std.proofs.Math.Seq.{get_or-append_seam}
 use Rattle.syslog_command_line.proofs.FlagLemmas.{flag_no_date, number_within, one_beginning, same_by_number}
@@ -112,19 +111,6 @@ held_more held after given flag value holds is same = record {
         (ap flag_number (sym same_flag)))
         (holds.each other))
 
--- none are held at first
-pub held_none : (held : Given) → held.values ≡ replicate 12 None → Holds held []
-held_none held same = record {
-  size = rw same (length-replicate {A = Option (Bor (List ℕ))} 12 None);
-  each = λ flag. subst (λ (o : Option (Bor (List ℕ))). Has [] flag o) (sym (nothing flag))
-      (All-nil (λ (it : GivenFlag). it.flag ≢ flag));
-  valued = All-nil (λ (it : GivenFlag). IsValue it.flag it.value);
-}
-  where
-    nothing : (flag : Flag) → value_at held flag ≡ None
-    nothing flag = ap (λ (vs : List (Option (Bor (List ℕ)))). get_or vs (flag_number flag) None) same
-        ∙ get_or-replicate 12 (flag_number flag) None None (number_within flag)
-
 -- ---- the flag that begins the words
 
 -- where the first word is a flag's, it is this flag that begins them
@@ -158,20 +144,6 @@ pub record ReadSoFar (offered : List Flag) (words : List (List ℕ)) (held : Giv
   pub goes_on : (flags : List GivenFlag) (today : Today)
       → (all : AreFlagsAndDate offered words flags today)
       → (more : List GivenFlag) × (flags ≡ given ++ more) × (rest ≡ flat_map given_words more ++ all.rest)
-
-pub ReadSoFar-start : (offered : List Flag) (words : List (List ℕ)) (held : Given) → Holds held []
-    → ReadSoFar offered words held words
-ReadSoFar-start offered words held holds = record {
-  given = [];
-  listed = refl;
-  allowed = record {
-    known = All-nil (λ (it : GivenFlag). Contains offered it.flag);
-    valued = All-nil (λ (it : GivenFlag). IsValue it.flag it.value);
-    together = λ i j d before within. absurd (omega arith);
-  };
-  holds = holds;
-  goes_on = λ flags today all. (flags, refl, all.listed);
-}
 
 -- after one more flag
 goes_on_more : (offered : List Flag) (given flags : List GivenFlag) (one : GivenFlag) (rest left last : List (List ℕ))
@@ -259,12 +231,6 @@ ReadSoFar-wrong offered words held rest wrong so_far among (flag, after, first) 
   λ flags today all. flag_no_date flag rest after today first
       ((ReadSoFar-end offered words held rest so_far none).dated flags today all),
 )
-
--- the flag takes at least a word
-pub takes_a_word : (offered : List Flag) (held : Given) (words : List (List ℕ)) (one : GivenFlag) (rest : List (List ℕ))
-    → BeginsWith offered held words one rest → length rest < length words
-takes_a_word offered held words one rest begins =
-    rw begins.listed (omega (arith, length-append (value_words one.flag one.value) rest))
 
 -- ---- what was asked for
 

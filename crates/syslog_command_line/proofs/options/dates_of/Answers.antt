@@ -1,11 +1,6 @@
-use Rattle.syslog_command_line.proofs.Names.{◌≡◌, arith, of_z, rules, to_z, w32}
-use Rattle.std.proofs.lemmas.Int.{ints}
+use Rattle.syslog_command_line.proofs.Names.{◌≡◌, of_z, rules, to_z, w32}
 use Rattle.syslog_command_line.proofs.OptionLemmas.{zone_by_rule, zone_without_rule}
 use Rattle.syslog_command_line.proofs.options.dates_of.Goals as goal
-
-pub ahead-requires-clause-offset : goal.ahead-requires-clause-offset
-ahead-requires-clause-offset c =
-    let (low, high) = c.offset_of.ensures.range in (omega (arith, ints, low), omega (arith, ints, high))
 
 pub returns-in-Some-clause-zone : goal.returns-in-Some-clause-zone
 returns-in-Some-clause-zone c = λ flags holds.

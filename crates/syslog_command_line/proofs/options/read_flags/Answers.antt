@@ -1,10 +1,6 @@
 use Rattle.std.proofs.lemmas.Result.{err_from_is_err_and}
-use Rattle.syslog_command_line.proofs.OptionLemmas.{ReadSoFar-end, ReadSoFar-more, ReadSoFar-start, ReadSoFar-wrong}
-use Rattle.syslog_command_line.proofs.OptionLemmas.{takes_a_word}
+use Rattle.syslog_command_line.proofs.OptionLemmas.{ReadSoFar-end, ReadSoFar-more, ReadSoFar-wrong}
 use Rattle.syslog_command_line.proofs.options.read_flags.Goals as goal
-
-pub flags-init : goal.flags-init
-flags-init c = ReadSoFar-start _ _ _ c.new-given.ensures
 
 pub returns-in_err-flag : goal.returns-in_err-flag
 returns-in_err-flag c =
@@ -15,9 +11,6 @@ returns-in_err-flag c =
 pub flags-preserved : goal.flags-preserved
 flags-preserved c = ReadSoFar-more _ _ _ _ _ _ c.in-Some.flag c.in-Some.value c.flags.invariant
     (rw c.in-Some.is at c.in_ok-flag.ensures) c.add.ensures
-
-pub flags-smaller : goal.flags-smaller
-flags-smaller c = takes_a_word _ _ _ _ _ (rw c.in-Some.is at c.in_ok-flag.ensures)
 
 pub returns : goal.returns
 returns c = ReadSoFar-end _ _ _ _ c.flags.invariant (rw c.in_default.is at c.in_ok-flag.ensures)

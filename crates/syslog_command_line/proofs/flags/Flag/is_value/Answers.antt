@@ -1,4 +1,4 @@
-use Rattle.syslog_command_line.proofs.ValueLemmas.{some_iff, zone_iff}
+use Rattle.syslog_command_line.proofs.ValueLemmas.{some_iff}
 use Rattle.syslog_command_line.specs.Arguments.{NamesOffset}
 use Rattle.syslog_command_line.proofs.flags.Flag.is_value.Goals as goal
 
@@ -6,7 +6,3 @@ pub returns-in-Offset : goal.returns-in-Offset
 returns-in-Offset c = rw c.in-Offset.is (some_iff (λ seconds. NamesOffset c.args.text.now seconds)
     c.read_offset.result _
     c.read_offset.ensures c.is_some.ensures)
-
-pub returns-in-Zone : goal.returns-in-Zone
-returns-in-Zone c = rw c.in-Zone.is (zone_iff c.args.text.now c.zone_of_rule.result _ c.zone_of_rule.ensures
-    c.is_some-in-Zone.ensures)
