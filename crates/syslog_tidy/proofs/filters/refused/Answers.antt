@@ -4,10 +4,8 @@ use Rattle.syslog_tidy.proofs.filters.refused.Goals as goal
 
 pub returns-in_err-tally-clause-err : goal.returns-in_err-tally-clause-err
 returns-in_err-tally-clause-err g c =
-    IfErr-passed _ _ _ c.from_residual.ensures.1 (rw (
-      c.plain.ensures,
-      to_z-of_z _ _ c.ranges.year,
-    ) at c.in_err-tally.ensures.err)
+    let early = rw (c.plain.ensures, to_z-of_z _ _ c.ranges.year) at c.in_err-tally.ensures.err in
+    IfErr-passed _ _ _ c.from_residual.ensures.1 early
 
 pub returns-clause-ok : goal.returns-clause-ok
 returns-clause-ok g c =
