@@ -43,4 +43,5 @@ returns c =
     (in_year_map (λ year is. reported by (dating_in _ year) text _ a.fields.now c.take_read.new.fields
     (c.take_read.ensures c.in-Some.ensures.form (dating_in _ year) c.in-Some.line (rw is.0.2.0 is.0.1)
     c.line-is_ordinary.ensures.0 c.line-is_ordinary.ensures.1 is.1).1)
-    (with_unnoted by text c.if-is_note.ensures (in_year_told c.in-Some.ensures.makes (λ date year is. search (rules, is)))))))
+    (with_unnoted by text c.if-is_note.ensures
+    (in_year_told c.in-Some.ensures.makes (λ date year is. search (rules, is)))))))
