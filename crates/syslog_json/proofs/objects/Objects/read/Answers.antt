@@ -21,7 +21,8 @@ pub returns-in-Some-sent_line : goal.returns-in-Some-sent_line
 returns-in-Some-sent_line c =
     line_read {V = Itself} c.args.self.now (chars c.args.line.now) c.args.writer.now c.visit_line.new.elements
     c.in-Some.found
-    (in_year_map (λ year made. (_, _, made)) c.in-Some.ensures) (λ date y is. search (rules, is)) c.requires c.in-Some-sent_line.sent
+    (in_year_map (λ year made. (_, _, made)) c.in-Some.ensures) (λ date y is. search (rules, is)) c.requires
+    c.in-Some-sent_line.sent
     c.visit_own.new.elements c.in-Some-sent_line.ensures.reads c.in-Some-sent_line.ensures.elements c.visit_own.ensures
     c.in-Some-sent_line.ensures.leaves
 
