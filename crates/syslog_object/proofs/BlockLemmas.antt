@@ -5,7 +5,7 @@ use Rattle.syslog_object.proofs.Names.{◌≡◌, ℕ, suc, zero, ◌<◌, ◌�
 use Rattle.syslog_object.proofs.Names.{not, map, inl, inr, subst, OnTrue, ◌⊎◌, Result, Ok, Err}
 use Rattle.std.proofs.lemmas.Bool.Decides.{nat_tests}
 use Rattle.std.specs.Prelude.{IfOk, replicate}
-use Rattle.std.proofs.lemmas.Simd.{length-put_chunk, length-chunk, take_more_put_chunk, bit_mask_l, get_or-chunk}
+use Rattle.std.proofs.lemmas.Simd.{length-chunk, take_more_put_chunk, bit_mask_l, get_or-chunk}
 use Rattle.std.proofs.lemmas.Simd.{mask_l-lt, mask_l-mod, map-map, length-replicate}
 use Rattle.std.proofs.lemmas.Nat.Bits.{bit_at-trailing_zeros, bit_at_clear_same, bit_at_clear_other, bit_at_above}
 use Rattle.std.proofs.lemmas.Nat.Bits.{bit_at-zero}

@@ -5,7 +5,7 @@ ghost use Rattle.syslog_object.specs.Gathered.{gathered};
 ghost use Rattle.syslog_object.specs.Object.{element_json, element_pair};
 ghost use Rattle.syslog_object.specs.Parts.{compact_text};
 
-use crate::gather::{FEW, Member, push_members};
+use crate::gather::{Member, push_members};
 use crate::output::Output;
 use std::alloc::{AllocError, Global};
 use syslog_loose::{Element, ElementList};
@@ -63,66 +63,18 @@ impl<'a> Member<'a> for Element<'a> {
         self.id()
     }
 
-    #[inline(always)]
     fn push_json(&self, alloc: Global, out: &mut Output) -> Result<(), AllocError> {
-        if self.params_len() <= FEW {
-            return push_few_params(alloc, out, self);
+        let mut params = Vec::new(alloc);
+        for param in self.params() {
+            params.push(param)?;
         }
-        push_many_params(alloc, out, self)
+        push_members(alloc, out, params.as_slice())
     }
 }
 
-// Appends the object of an element that has few parameters.
-fn push_few_params(alloc: Global, out: &mut Output, element: &Element<'_>) -> Result<(), AllocError>
-    requires { length (element_seen element.now).params ≤ 16 }
-    ensures { OnOk result (out.new ≡ out.old ++ compact_text (element_json (element_seen element.now))) }
-{
-    let mut params = [("", ""); FEW];
-    let mut count = 0;
-    for param in element.params() {
-        params[count] = param;
-        count += 1;
-    }
-    push_members(alloc, out, &params[..count])
-}
-
-// Appends the object of an element that has many parameters, for which it allocates.
-#[inline(never)]
-fn push_many_params(
-    alloc: Global,
-    out: &mut Output,
-    element: &Element<'_>,
-) -> Result<(), AllocError>
-    ensures { OnOk result (out.new ≡ out.old ++ compact_text (element_json (element_seen element.now))) }
-{
-    let mut params = Vec::new(alloc);
-    for param in element.params() {
-        params.push(param)?;
-    }
-    push_members(alloc, out, params.as_slice())
-}
-
-/// Appends the object of the elements of a list. It allocates if there is more than one.
+/// Appends the object of the elements of a list.
 #[inline(never)]
 pub(crate) fn push_elements(
-    alloc: Global,
-    out: &mut Output,
-    list: &ElementList<'_>,
-) -> Result<(), AllocError>
-    ensures { OnOk result (out.new
-        ≡ out.old ++ compact_text (gathered (map element_pair (list_elements list.now)))) }
-{
-    let mut left = list.elements();
-    if list.len() == 1
-        && let Some(only) = left.next()
-    {
-        return push_members(alloc, out, &[only]);
-    }
-    push_many_elements(alloc, out, list)
-}
-
-// Appends the object of more than one element, for which it allocates.
-fn push_many_elements(
     alloc: Global,
     out: &mut Output,
     list: &ElementList<'_>,

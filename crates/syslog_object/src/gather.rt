@@ -13,7 +13,7 @@ use std::alloc::{AllocError, Global};
 use std::collections::BTreeMap;
 
 /// How many keys are compared with each other; if there are more, they are sorted.
-pub(crate) const FEW: usize = 16;
+const FEW: usize = 16;
 
 /// A member of an object: a key and a value.
 pub(crate) trait Member<'a>: Copy {

@@ -101,8 +101,7 @@ fn push_fields(
 /// member: the line as it came. The structured data that was left unparsed has a member too.
 ///
 /// What the message lacks has no key. An id or a name that is repeated has an array of all its values, at its first
-/// place. The call allocates if the vector's memory is too little. It also does if a line has more than one element, an
-/// element has more than sixteen parameters, or a name is repeated.
+/// place. The call allocates if the vector's memory is too little or the line has elements.
 pub fn line_object(
     alloc: Global,
     memory: Vec<u8>,

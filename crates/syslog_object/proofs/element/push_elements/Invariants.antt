@@ -1,6 +1,6 @@
 use Rattle.syslog_object.proofs.Names.{◌≡◌, ◌++◌, map, element_seen, list_elements}
 use Rattle.syslog_elements.specs.StructuredData.Visited.{elements_left}
-use Rattle.syslog_object.proofs.element.push_many_elements.Given as goal
+use Rattle.syslog_object.proofs.element.push_elements.Given as goal
 
 abbrev pub invariant-loop-element : goal.invariant-loop-element
 invariant-loop-element l =
