@@ -6,14 +6,14 @@ use proofs.Names.{append_assoc, ElementValue, MessageValue, element_pair, messag
 use proofs.Names.{procid_text, back_fields, compact_text, AreDistinct, option_map, map-append, param_pair, object_text}
 use proofs.Names.{field_text, front_text, text_field, bytes_eq, Protocol, gathered, text_json, rest_text, IsNewKey, ◌∷◌}
 use proofs.Names.{Option, List, length, Result, OnTrue, quoted, ◌++◌, Some, None, codes, false, arith, string, Field, ℕ}
-use proofs.Names.{refl, Bool, true, cond, take, drop, OnOk, [], sym, ap, ◌∙◌, map, ◌+◌, ◌<◌, Ok, Err, Bor, Text, Json}
+use proofs.Names.{refl, Bool, true, cond, take, drop, OnOk, [], sym, ap, ◌∙◌, map, ◌+◌, ◌<◌, Ok, Err, Bor, Text, Json, ◌==◌}
 use Rattle.std.proofs.Common.{◌≢◌, if◌then◌else◌, slice_set}
 use Rattle.std.specs.Result.{is_ok}
 use Rattle.std.{proofs.Math.Seq.drop-append_seam, proofs.lemmas.List.take_more_set, specs.Result.is_err}
-use Rattle.std.proofs.{lemmas.List.length-map, Math.Seq.take-append_seam}
+use Rattle.std.proofs.{lemmas.Bool.ne_eqb, lemmas.List.length-map, Math.Seq.take-append_seam}
 use Rattle.syslog_pieces.specs.declared.procid.ProcId.{ProcId}
 use Rattle.json.specs.Print.{escape_byte}
-use specs.{Object.Beside, Object.object_of, Object.protocol_text, Parts.open_text, Places.before_member}
+use specs.{Elements.elements_text, Object.Beside, Object.object_of, Object.protocol_text, Parts.open_text, Places.before_member}
 use specs.{Writer.AreWritten, Writer.HasWritten, Writer.element_keys, declared.writer.ObjectWriter.ObjectWriter}
 use proofs.GatherLemmas.{Param, differs_back, distinct_gathered, open_closed, open_more, pairs_of, param_json}
 use proofs.GatherLemmas.{param_key, param_seen, seen_text}
@@ -86,13 +86,6 @@ process_written out now all key prefix process fields is e before =
     name_written out now all key prefix (option_map procid_text process) fields is e
     (ap (λ (v : Option Json). out ++ rest_text ((key, v) ∷ fields)) (process_field process) ∙ before)
 
--- the structured data was
-pub list_field : (elements : List ElementValue) → (elements ≡ [] → ⊥)
-    → field_text (codes "structured_data") (structured_json elements)
-    ≡ 44 ∷ (quoted (codes "structured_data") ++ 58 ∷ compact_text (gathered (map element_pair elements)))
-list_field [] some = absurd (some refl)
-list_field (e ∷ es) some = refl
-
 pub two_appended : (old a b x y z : List ℕ) → a ≡ old ++ x → b ≡ a ++ y → x ++ y ≡ z → b ≡ old ++ z
 two_appended old a b x y z first second both = rw (second, first, ← both) (simp append_assoc)
 
@@ -126,16 +119,6 @@ message_whole m b =
     (fields_written p1 p2 _ (codes "facility") _ (codes "facility_code") _ _ refl
     (name_written p0 p1 _ (codes "dialect") _ b.dialect _ refl refl
     (opened [] p0 m.protocol _ refl)))))))))
-
--- so they are the object, where they were written one after the other
-pub whole_written : (m : MessageValue) (b : Beside) (old front list now : List ℕ) → front ≡ old
-    ++ front_text m b.dialect
-    → list ≡ front ++ field_text (codes "structured_data") (structured_json m.structured_data)
-    → now ≡ list ++ rest_text (back_fields m b.unparsed b.raw) → now ≡ old ++ compact_text (message_json m b)
-whole_written m b old front list now first second third =
-    let more_text = field_text (codes "structured_data") (structured_json m.structured_data) in
-    two_appended old list now (front_text m b.dialect ++ more_text) (rest_text (back_fields m b.unparsed b.raw)) _
-    (more old front list (front_text m b.dialect) more_text first second) third (message_whole m b)
 
 -- ---- one element more
 
@@ -190,50 +173,34 @@ keys_distinct es e id keys distinct held same new =
 
 -- ---- the whole
 
-elements_closed : (es : List ElementValue) → es ≢ [] → AreDistinct (element_keys es)
-    → open_text (map element_pair es) ++ 125 ∷ [] ≡ compact_text (gathered (map element_pair es))
-elements_closed [] some distinct = absurd (some refl)
-elements_closed (e ∷ es) some distinct =
-    open_closed (map element_pair (e ∷ es)) (λ none. cc)
-    ∙ distinct_gathered (λ e. (element_pair e).0) (λ e. (element_pair e).1) (e ∷ es) distinct
-
 -- bytes were appended, if there was memory
 pub on_extended : {T E : Type 0} (r : Result T E) (now old more all : List ℕ)
     → now ≡ (if is_ok r then old ++ more else old) → more ≡ all → OnOk r (now ≡ old ++ all)
 on_extended (Ok x) now old more all e same = e ∙ ap (λ xs. old ++ xs) same
 on_extended (Err x) now old more all e same = tt
 
--- the fields and the elements, where their object was written before and is copied, or is written now
-pub object_of_parts : (w : ObjectWriter) (has : Bool) (m : MessageValue) (b : Beside)
-    (elements front list now : List ℕ)
-    → OnTrue has ((es : List ElementValue) → HasWritten w es → (es ≢ []) × AreWritten w es)
-    → HasWritten w m.structured_data → elements ≡ cond has (w.text ++ 125 ∷ []) []
-    → front ≡ elements ++ front_text m b.dialect
-    → list ≡ front ++ cond has (44 ∷ (quoted (codes "structured_data") ++ 58 ∷ take (length elements) front))
-    (field_text (codes "structured_data") (structured_json m.structured_data))
+-- the fields, with the object of the elements copied to its place
+pub object_of_parts : (m : MessageValue) (b : Beside) (elements front list now : List ℕ)
+    → elements ≡ elements_text m.structured_data → front ≡ elements ++ front_text m b.dialect
+    → list ≡ front ++ cond (length elements == 0) []
+    (44 ∷ (quoted (codes "structured_data") ++ 58 ∷ take (length elements) front))
     → now ≡ list ++ rest_text (back_fields m b.unparsed b.raw)
     → drop (length elements) now ≡ compact_text (message_json m b)
-object_of_parts w has m b elements front list now given written is first second third =
+object_of_parts m b elements front list now is first second third =
     let f = front_text m b.dialect in
     let back = rest_text (back_fields m b.unparsed b.raw) in
+    let copied : take (length elements) front ≡ elements =
+    ap (take (length elements)) first ∙ take-append_seam elements f in
     let all : now ≡ elements ++ ((f ++ listed) ++ back) =
-    rw (third, second, middle has given is, first)
+    rw (third, second, copied, middle m.structured_data elements is, first)
     (ap (λ xs. xs ++ back) (append_assoc elements f listed) ∙ append_assoc elements (f ++ listed) back) in
     ap (drop (length elements)) all ∙ drop-append_seam elements ((f ++ listed) ++ back) ∙ message_whole m b
   where
     listed : List ℕ
     listed = field_text (codes "structured_data") (structured_json m.structured_data)
 
-    middle : (h : Bool) → OnTrue h ((es : List ElementValue) → HasWritten w es → (es ≢ []) × AreWritten w es)
-        → elements ≡ cond h (w.text ++ 125 ∷ []) []
-        → cond h (44 ∷ (quoted (codes "structured_data") ++ 58 ∷ take (length elements) front))
-        (field_text (codes "structured_data") (structured_json m.structured_data))
-        ≡ field_text (codes "structured_data") (structured_json m.structured_data)
-    middle false g e = refl
-    middle true g e =
-        let es = m.structured_data in
-        let (some, held) = g es written in
-        let copied : take (length elements) front ≡ compact_text (gathered (map element_pair es)) =
-        ap (take (length elements)) first ∙ take-append_seam elements (front_text m b.dialect) ∙ e
-        ∙ ap (λ xs. xs ++ 125 ∷ []) held.text ∙ elements_closed es some held.distinct in
-        rw copied (sym (list_field es some))
+    middle : (es : List ElementValue) (bytes : List ℕ) → bytes ≡ elements_text es
+        → cond (length bytes == 0) [] (44 ∷ (quoted (codes "structured_data") ++ 58 ∷ bytes))
+        ≡ field_text (codes "structured_data") (structured_json es)
+    middle [] bytes none = rw none refl
+    middle (e ∷ es) bytes some = rw (some, ne_eqb (length (elements_text (e ∷ es))) 0 (λ none. absurd (omega (arith, none)))) refl

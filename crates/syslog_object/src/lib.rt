@@ -13,5 +13,4 @@ mod object;
 mod output;
 mod writer;
 
-pub use object::line_object;
-pub use writer::ObjectWriter;
+pub use writer::{ObjectWriter, line_object};

@@ -18,23 +18,6 @@ use crate::output::Output;
 use std::alloc::{AllocError, Global};
 use syslog_loose::{ElementList, Line};
 
-/// Appends the structured data, if there are elements.
-#[inline(always)]
-pub(crate) fn push_list(
-    alloc: Global,
-    out: &mut Output,
-    list: &ElementList<'_>,
-) -> Result<(), AllocError>
-    ensures { OnOk result (out.new
-        ≡ out.old ++ field_text (codes "structured_data") (structured_json (list_elements list.now))) }
-{
-    if list.is_empty() {
-        return Ok(());
-    }
-    out.push(b",\"structured_data\":")?;
-    push_elements(alloc, out, list)
-}
-
 /// Appends the opening brace and the fields before the elements. The line was read in this dialect, or in none.
 #[inline(always)]
 pub(crate) fn push_front(
@@ -72,48 +55,4 @@ pub(crate) fn push_back(
     push_field(out, b",\"message\":\"", Some(line.msg))?;
     push_field(out, b",\"raw\":\"", raw)?;
     out.push(b"}")
-}
-
-// Appends all members, between braces.
-#[inline(always)]
-fn push_fields(
-    alloc: Global,
-    out: &mut Output,
-    line: &Line<'_>,
-    dialect: Option<&str>,
-    raw: Option<&str>,
-) -> Result<(), AllocError>
-    ensures text { OnOk result ((unparsed : Text) × IsLeftUnparsed line.now unparsed × (out.new ≡ out.old
-        ++ compact_text (message_json (line_value line.now)
-        (beside_line (seen dialect.entry) unparsed (seen raw.entry))))) }
-    ensures small { IsSmallVersion (line_value line.now).protocol }
-{
-    let unparsed = line.list.unparsed();
-    push_front(out, line, dialect)?;
-    push_list(alloc, out, &line.list)?;
-    push_back(out, line, unparsed, raw)
-}
-
-/// Returns the JSON object of a line, as `{"protocol":"RFC3164","facility":"auth",..}`, written into the vector's
-/// memory.
-///
-/// `dialect` is the name of the dialect in which the line was read, if it was one. If `raw` is given, it is the last
-/// member: the line as it came. The structured data that was left unparsed has a member too.
-///
-/// What the message lacks has no key. An id or a name that is repeated has an array of all its values, at its first
-/// place. The call allocates if the vector's memory is too little or the line has elements.
-pub fn line_object(
-    alloc: Global,
-    memory: Vec<u8>,
-    line: &Line<'_>,
-    dialect: Option<&str>,
-    raw: Option<&str>,
-) -> Result<Vec<u8>, AllocError>
-    ensures { IfOk result (λ object. (unparsed : Text) × IsLeftUnparsed line.now unparsed
-        × IsTextOf (message_json (line_value line.now) (beside_line (seen dialect.entry) unparsed (seen raw.entry)))
-        object.items) }
-{
-    let mut text = Output::over(memory);
-    push_fields(alloc, &mut text, line, dialect, raw)?;
-    Ok(text.into_bytes())
 }

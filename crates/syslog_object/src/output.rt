@@ -53,13 +53,15 @@ impl Output {
         &self.bytes[..self.at]
     }
 
-    /// Returns the vector, cut to the bytes that were written.
+    /// Returns the vector, cut to the bytes that were written from `start` on.
     #[inline(always)]
-    pub(crate) fn into_bytes(self) -> Vec<u8>
-        ensures { result.items ≡ self }
+    pub(crate) fn into_bytes(self, start: usize) -> Vec<u8>
+        requires { start ≤ length self }
+        ensures { result.items ≡ drop start self }
     {
         let Output { mut bytes, at } = self;
-        bytes.truncate(at);
+        bytes.copy_within(start..at, 0);
+        bytes.truncate(at - start);
         bytes
     }
 

@@ -1,6 +1,6 @@
 //! The writer of a line's JSON object that is given the elements while the line is read.
-ghost use Rattle.std.specs.Prelude.{◌≡◌, ◌≢◌, ◌≤◌, ◌++◌, ◌∷◌, [], List, ℕ, IfOk, OnErr, OnOk};
-ghost use Rattle.std.specs.Prelude.{codes, cond, length, map, take};
+ghost use Rattle.std.specs.Prelude.{◌≡◌, ◌≢◌, ◌≤◌, ◌==◌, ◌++◌, ◌∷◌, [], List, ℕ, IfOk, OnErr, OnOk};
+ghost use Rattle.std.specs.Prelude.{codes, cond, drop, length, map, take};
 ghost use Rattle.std.specs.Bool.{OnTrue};
 ghost use Rattle.json.specs.Print.{quoted};
 ghost use Rattle.syslog_text.specs.Pieces.View.{seen, shown};
@@ -19,7 +19,7 @@ ghost use Rattle.syslog_object.specs.Writer.{AreWritten, HasWritten};
 
 use crate::element::push_elements;
 use crate::gather::{are_distinct, push_each, push_key};
-use crate::object::{push_back, push_front, push_list};
+use crate::object::{push_back, push_front};
 use crate::output::Output;
 use std::alloc::{AllocError, Global};
 use syslog_elements::structured_data::{Element, ElementVisitor, FewParams};
@@ -103,16 +103,8 @@ impl<'a> ObjectWriter<'a> {
             × (output.new.items ≡ output.old.items ++ bytes))) }
         ensures err { OnErr result (output.new.items ≡ output.old.items) }
     {
-        let has_elements = self.is_whole && self.count > 0;
-        let alloc = self.alloc;
-        let unparsed = line.list.unparsed();
-        let text = &mut self.text;
-        close_elements(text, has_elements)?;
-        let start = text.len();
-        push_front(text, line, dialect)?;
-        push_again_or_list(alloc, text, &line.list, has_elements, start)?;
-        push_back(text, line, unparsed, raw)?;
-        output.extend_from_slice(&text.as_slice()[start..])
+        let start = self.put_line(line, dialect, raw)?;
+        output.extend_from_slice(&self.text.as_slice()[start..])
     }
 
     /// Appends the JSON object of a line that is no message, as `{"message":"..","refused":true}`, to `output`, or
@@ -134,18 +126,48 @@ impl<'a> ObjectWriter<'a> {
         requires { HasWritten self (list_elements list.now) }
         ensures { IfOk result (λ text. IsStructuredText (list_elements list.now) text.items) }
     {
-        let has_elements = self.is_whole && self.count > 0;
-        let ObjectWriter {
-            alloc,
-            mut text,
-            ..
-        } = self;
-        close_elements(&mut text, has_elements)?;
-        if has_elements {
-            return Ok(text.into_bytes());
+        let mut writer = self;
+        writer.close(list)?;
+        Ok(writer.text.into_bytes(0))
+    }
+
+    // Writes the object of the line after that of its elements, and returns where it begins.
+    fn put_line(
+        &mut self,
+        line: &Line<'_>,
+        dialect: Option<&str>,
+        raw: Option<&str>,
+    ) -> Result<usize, AllocError>
+        requires { HasWritten self.old (list_elements line.now.list) }
+        ensures within { IfOk result (λ start. start ≤ length self.new.text) }
+        ensures text { IfOk result (λ start. (unparsed : Text) × IsLeftUnparsed line.now unparsed
+            × IsTextOf (message_json (line_value line.now) (beside_line (seen dialect.entry) unparsed (seen raw.entry)))
+            (drop start self.new.text)) }
+    {
+        let unparsed = line.list.unparsed();
+        self.close(&line.list)?;
+        let text = &mut self.text;
+        let start = text.len();
+        push_front(text, line, dialect)?;
+        push_again(text, start)?;
+        push_back(text, line, unparsed, raw)?;
+        Ok(start)
+    }
+
+    // Makes the text the object of the elements, or nothing if there are none.
+    #[inline(always)]
+    fn close(&mut self, list: &ElementList<'_>) -> Result<(), AllocError>
+        requires { HasWritten self.old (list_elements list.now) }
+        ensures { OnOk result (self.new.text ≡ elements_text (list_elements list.now)) }
+    {
+        if self.is_whole && self.count > 0 {
+            return self.text.push(b"}");
         }
-        push_any_elements(alloc, &mut text, list)?;
-        Ok(text.into_bytes())
+        self.text.clear();
+        if list.is_empty() {
+            return Ok(());
+        }
+        push_elements(self.alloc, &mut self.text, list)
     }
 
     /// Returns the vector that the writer was given or grew, for another writer. What that holds doesn't count, but the
@@ -155,6 +177,32 @@ impl<'a> ObjectWriter<'a> {
         let ObjectWriter { text, .. } = self;
         text.into_memory()
     }
+}
+
+/// Returns the JSON object of a line, as `{"protocol":"RFC3164","facility":"auth",..}`, written into the vector's
+/// memory.
+///
+/// `dialect` is the name of the dialect in which the line was read, if it was one. If `raw` is given, it is the last
+/// member: the line as it came. The structured data that was left unparsed has a member too.
+///
+/// What the message lacks has no key. An id or a name that is repeated has an array of all its values, at its first
+/// place. The call allocates if the vector's memory is too little or the line has elements.
+pub fn line_object(
+    alloc: Global,
+    memory: Vec<u8>,
+    line: &Line<'_>,
+    dialect: Option<&str>,
+    raw: Option<&str>,
+) -> Result<Vec<u8>, AllocError>
+    ensures { IfOk result (λ object. (unparsed : Text) × IsLeftUnparsed line.now unparsed
+        × IsTextOf (message_json (line_value line.now) (beside_line (seen dialect.entry) unparsed (seen raw.entry)))
+        object.items) }
+{
+    let mut writer = ObjectWriter::new(alloc, memory);
+    // it was given no element
+    writer.is_whole = false;
+    let start = writer.put_line(line, dialect, raw)?;
+    Ok(writer.text.into_bytes(start))
 }
 
 // Whether none of the ids is this one.
@@ -186,53 +234,18 @@ fn push_element(
     push_each(alloc, out, params)
 }
 
-// Closes the object of the elements if it was written, and clears the text otherwise.
+// Appends the key of the elements and the first bytes again, which are their object; nothing if there are none.
 #[inline(always)]
-fn close_elements(text: &mut Output, has_elements: bool) -> Result<(), AllocError>
-    ensures { OnOk result (text.new ≡ cond has_elements (text.old ++ 125 ∷ []) []) }
-{
-    if has_elements {
-        text.push(b"}")?;
-    } else {
-        text.clear();
-    }
-    Ok(())
-}
-
-// Appends the key of the elements and their object: the first bytes again if it was written while the line was read.
-#[inline(always)]
-fn push_again_or_list(
-    alloc: Global,
-    text: &mut Output,
-    list: &ElementList<'_>,
-    has_elements: bool,
-    end: usize,
-) -> Result<(), AllocError>
+fn push_again(text: &mut Output, end: usize) -> Result<(), AllocError>
     requires { end ≤ length text.old }
-    ensures { OnOk result (text.new ≡ text.old ++ cond has_elements
-        (44 ∷ (quoted (codes "structured_data") ++ 58 ∷ take end text.old))
-        (field_text (codes "structured_data") (structured_json (list_elements list.now)))) }
+    ensures { OnOk result (text.new ≡ text.old
+        ++ cond (end == 0) [] (44 ∷ (quoted (codes "structured_data") ++ 58 ∷ take end text.old))) }
 {
-    if has_elements {
-        text.push(b",\"structured_data\":")?;
-        text.push_again(end)
-    } else {
-        push_list(alloc, text, list)
-    }
-}
-
-// Appends the object of the elements, if there are any.
-fn push_any_elements(
-    alloc: Global,
-    out: &mut Output,
-    list: &ElementList<'_>,
-) -> Result<(), AllocError>
-    ensures { OnOk result (out.new ≡ out.old ++ elements_text (list_elements list.now)) }
-{
-    if list.is_empty() {
+    if end == 0 {
         return Ok(());
     }
-    push_elements(alloc, out, list)
+    text.push(b",\"structured_data\":")?;
+    text.push_again(end)
 }
 
 impl<'a> ElementVisitor<'a> for ObjectWriter<'a> {
