@@ -41,37 +41,21 @@ shorter at n room m text less within =
     ap (λ (k : ℕ). take k (take at room ++ take m text)) long ∙ take-append-add (take at room) (take m text) n
     ∙ ap (λ xs. take at room ++ xs) (take-take n m text less)
 
--- sixteen more bytes of a text were stored
-pub stored_more : (at seen : ℕ) (old room now text : List ℕ) → take (at + seen) room ≡ take at old ++ take seen text
-    → take (at + seen + 16) now ≡ take (at + seen) room ++ take 16 (drop seen text)
-    → take (at + (seen + 16)) now ≡ take at old ++ take (seen + 16) text
-stored_more at seen old room now text before added =
-    let place : at + (seen + 16) ≡ at + seen + 16 = omega arith in
-    ap (λ (k : ℕ). take k now) place ∙ added ∙ ap (λ xs. xs ++ take 16 (drop seen text)) before
-    ∙ append_assoc (take at old) (take seen text) (take 16 (drop seen text))
-    ∙ ap (λ xs. take at old ++ xs) (sym (take-add seen 16 text))
+-- so many more bytes of a text were stored
+pub stored_more : (n at seen : ℕ) (old room now text : List ℕ) → take (at + seen) room ≡ take at old ++ take seen text
+    → take (at + seen + n) now ≡ take (at + seen) room ++ take n (drop seen text)
+    → take (at + (seen + n)) now ≡ take at old ++ take (seen + n) text
+stored_more n at seen old room now text before added =
+    let place : at + (seen + n) ≡ at + seen + n = omega arith in
+    ap (λ (k : ℕ). take k now) place ∙ added ∙ ap (λ xs. xs ++ take n (drop seen text)) before
+    ∙ append_assoc (take at old) (take seen text) (take n (drop seen text))
+    ∙ ap (λ xs. take at old ++ xs) (sym (take-add seen n text))
 
 -- and so were fewer
 pub stored_less : (at n m : ℕ) (old now text : List ℕ) → take (at + m) now ≡ take at old ++ take m text → n ≤ m
     → at ≤ length old → take (at + n) now ≡ take at old ++ take n text
 stored_less at n m old now text held less within =
     sym (take-take (at + n) (at + m) now (omega arith)) ∙ ap (take (at + n)) held ∙ shorter at n old m text less within
-
--- a text of eight to sixteen bytes was stored by two stores
-pub stored_twice : (at : ℕ) (old mid now text : List ℕ) → at ≤ length old → 8 ≤ length text → length text ≤ 16
-    → take (at + 8) mid ≡ take at old ++ take 8 text
-    → take (at + length text - 8 + 8) now ≡ take (at + length text - 8) mid ++ take 8 (drop (length text - 8) text)
-    → take (at + length text) now ≡ take at old ++ text
-stored_twice at old mid now text within long short first second =
-    let n = length text - 8 in
-    let last = drop n text in
-    let place : at + length text - 8 ≡ at + n = omega arith in
-    let end : at + length text ≡ at + length text - 8 + 8 = omega arith in
-    ap (λ (k : ℕ). take k now) end ∙ second ∙ ap (λ (k : ℕ). take k mid ++ take 8 last) place
-    ∙ ap (λ xs. xs ++ take 8 last) (stored_less at n 8 old mid text first (omega arith) within)
-    ∙ append_assoc (take at old) (take n text) (take 8 last)
-    ∙ ap (λ xs. take at old ++ (take n text ++ xs)) (take_all 8 last (omega (arith, length-drop n text)))
-    ∙ ap (λ xs. take at old ++ xs) (take-append-drop n text)
 
 -- no byte up to there needs an escape
 pub plain_to : (text : List ℕ) (seen n : ℕ) → PlainBetween text 0 seen
@@ -119,17 +103,6 @@ bit_off b e = grind arith
 pub no_stop : {n : ℕ} {text : List ℕ} {first passed left : ℕ} → AreStops n text first passed left → left ≡ 0
     → (i : ℕ) → passed ≤ i → i < n → is_stop (get_or text (first + i) 0) ≡ false
 no_stop {left = left} stops none i low high = bit_off _ (sym (stops.each i low high) ∙ rw none (bit_at-zero i))
-
--- no byte does where no bit is set
-pub none_stop : {n : ℕ} {text : List ℕ} {first left : ℕ} → AreStops n text first 0 left
-    → OnTrue (nat_eq left 0) (PlainBetween text first (first + n))
-none_stop {n = n} {text = text} {first = first} {left = left} stops = elim (cases_Bool (nat_eq left 0)) [
-  | inl is ↦ rw is (λ k low high.
-      let place : first + (k - first) ≡ k = omega arith in
-      ap (λ (j : ℕ). not (is_stop (get_or text j 0))) (sym place)
-      ∙ ap not (no_stop stops (eqb-true left 0 is) (k - first) (omega arith) (omega arith)))
-  | inr some ↦ rw some tt
-]
 
 pub first_stop : {n : ℕ} {text : List ℕ} {first passed left : ℕ} → n ≤ 64 → AreStops n text first passed left
     → 0 < left → IsStopAt n text first passed (trailing_zeros w64 left)

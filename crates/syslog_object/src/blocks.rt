@@ -57,32 +57,6 @@ fn stops<const N: usize>(text: &[u8], first: usize) -> u64
         | lanes.simd_lt(Simd::splat(0x20))).to_bitmask()
 }
 
-#[inline(always)]
-fn is_stop(byte: u8) -> bool
-    ensures { result ≡ is_stop byte }
-{
-    byte == b'"' || byte == b'\\' || byte < 0x20
-}
-
-#[inline(always)]
-fn is_plain_8(text: &[u8], first: usize) -> bool
-    requires { first + 8 ≤ length text.now }
-    ensures { OnTrue result (PlainBetween text.now first (first + 8)) }
-{
-    stops::<8>(text, first) == 0
-}
-
-// Writes a text of eight to sixteen bytes, by two stores that overlap.
-#[inline(always)]
-fn put_by_8(room: &mut [u8], at: usize, text: &[u8])
-    requires room { at + length text.now ≤ length room.old }
-    requires sized { (8 ≤ length text.now) × (length text.now ≤ 16) }
-    ensures { take (at + length text.now) room.new ≡ take at room.old ++ text.now }
-{
-    put_lanes::<8>(room, at, text, 0);
-    put_lanes::<8>(room, at + text.len() - 8, text, text.len() - 8);
-}
-
 /// Writes the bytes at the front of the text of which none needs an escape, and returns how many it wrote.
 #[inline(always)]
 pub(crate) fn put_plain(room: &mut [u8], at: usize, text: &[u8]) -> usize
@@ -93,40 +67,27 @@ pub(crate) fn put_plain(room: &mut [u8], at: usize, text: &[u8]) -> usize
 {
     let length = text.len();
     if length >= 16 {
-        return put_plain_blocks(room, at, text);
+        return put_plain_blocks::<16>(room, at, text);
     }
     if length >= 8 {
-        put_by_8(room, at, text);
-        let is_plain = is_plain_8(text, 0) && is_plain_8(text, length - 8);
-        return if is_plain { length } else { 0 };
+        return put_plain_blocks::<8>(room, at, text);
     }
-    put_plain_bytes(room, at, text)
+    if length >= 4 {
+        return put_plain_blocks::<4>(room, at, text);
+    }
+    if length > 0 {
+        return put_plain_blocks::<1>(room, at, text);
+    }
+    0
 }
 
+// Writes them by blocks, of which the last may overlap the one before. (They are looked at in the text: bytes that were
+// just copied are slow to load.)
 #[inline(always)]
-fn put_plain_bytes(room: &mut [u8], at: usize, text: &[u8]) -> usize
-    requires { at + length text.now ≤ length room.old }
-    ensures within { result ≤ length text.now }
-    ensures plain { PlainBetween text.now 0 result }
-    ensures text { take (at + result) room.new ≡ take at room.old ++ take result text.now }
-{
-    let mut seen = 0;
-    'bytes: while seen < text.len() {
-        let byte = text[seen];
-        if is_stop(byte) {
-            return seen;
-        }
-        room[at + seen] = byte;
-        seen += 1;
-    }
-    seen
-}
-
-// (They are looked at in the text: bytes that were just copied are slow to load by sixteen.)
-#[inline(always)]
-fn put_plain_blocks(room: &mut [u8], at: usize, text: &[u8]) -> usize
+fn put_plain_blocks<const N: usize>(room: &mut [u8], at: usize, text: &[u8]) -> usize
     requires room { at + length text.now ≤ length room.old }
-    requires long { 16 ≤ length text.now }
+    requires long { N ≤ length text.now }
+    requires lanes { (0 < N) × (N ≤ 32) }
     ensures within { result ≤ length text.now }
     ensures plain { PlainBetween text.now 0 result }
     ensures text { take (at + result) room.new ≡ take at room.old ++ take result text.now }
@@ -134,15 +95,15 @@ fn put_plain_blocks(room: &mut [u8], at: usize, text: &[u8]) -> usize
     let length = text.len();
     let mut seen = 0;
     'blocks: loop {
-        put_lanes::<16>(room, at + seen, text, seen);
-        let stops = stops::<16>(text, seen);
+        put_lanes::<N>(room, at + seen, text, seen);
+        let stops = stops::<N>(text, seen);
         if stops != 0 {
             return seen + stops.trailing_zeros() as usize;
         }
-        if seen + 16 == length {
+        if seen + N == length {
             return length;
         }
-        seen = (seen + 16).min(length - 16);
+        seen = (seen + N).min(length - N);
     }
 }
 
