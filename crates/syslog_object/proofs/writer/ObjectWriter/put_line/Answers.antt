@@ -13,6 +13,9 @@ returns-clause-text c =
     let back = rw same at c.in_ok-push_back.ensures in
     let again = rw (c.len-start.ensures) at c.in_ok-push_again.ensures in
     let whole = ap (λ (k : ℕ). drop k c.push_back.new.out) c.len-start.ensures
-    ∙ object_of_parts m beside _ _ _ _ c.in_ok-close.ensures c.in_ok-push_front.ensures.text again back in
-    (u, left, subst (IsTextOf (message_json m beside)) (sym whole)
-    (text_of_message m beside c.in_ok-push_front.ensures.small))
+    ∙ object_of_parts m beside _ _ _ _ c.in_ok-close.ensures c.in_ok-push_front.ensures.text again back in (
+      u,
+      left,
+      subst (IsTextOf (message_json m beside)) (sym whole)
+          (text_of_message m beside c.in_ok-push_front.ensures.small),
+    )
