@@ -1,12 +1,11 @@
 -- Readers chained by `and_then`: the pieces that they read, or the first of them that is missing. The last of them may
 -- also return what its piece means.
-use Rattle.std.proofs.Common.{◌≡◌, List, [], ◌∷◌, ◌++◌, Option, Some, None, MatchOption, inl, inr, refl, subst, sym}
-use Rattle.std.specs.Borrow.{Bor}
+use Rattle.syslog_dated_forms.proofs.Names.{[], ◌++◌, ◌∷◌, ◌≡◌, AllDeterministic, Bor, Class, Front, inl, inr, List}
+use Rattle.syslog_dated_forms.proofs.Names.{match_map, MatchOption, no_row, no_row_division, NoDivision, NoFront, None}
+use Rattle.syslog_dated_forms.proofs.Names.{Option, Recognises, refl, Row, row_cons, row_nil, row_none_here}
+use Rattle.syslog_dated_forms.proofs.Names.{row_none_later, shown, Some, subst, sym, Text, Values}
 use Rattle.std.specs.Prelude.{ℕ}
-use Rattle.syslog_text.specs.Pieces.Class.{Text, Class, Values, Front, NoFront, NoDivision, Row}
-use Rattle.syslog_text.specs.Pieces.View.{Recognises, shown}
-use Rattle.syslog_text.proofs.PieceLemmas.Class.{AllDeterministic, Fails, Pieces, both_values, match_map, no_row}
-use Rattle.syslog_text.proofs.PieceLemmas.Class.{no_row_division, row_cons, row_nil, row_none_here, row_none_later}
+use Rattle.syslog_text.proofs.PieceLemmas.Class.{Fails, Pieces, both_values}
 
 -- what a reader of texts returns
 abbrev pub Left : Type 0

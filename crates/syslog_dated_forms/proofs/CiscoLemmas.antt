@@ -1,40 +1,28 @@
 -- A text has one front of each class of a line of Cisco's.
-use Rattle.std.proofs.Common.{◌≡◌, ℕ, [], ◌∷◌, ◌++◌, Option, Some, refl, arith, append_assoc, ap, subst, sym, ◌∙◌, drop}
-use Rattle.std.proofs.Common.{false, get_or, inl, inr, true, length}
-use Rattle.std.proofs.lemmas.Bool.{and_parts, not-true, or_parts}
-use Rattle.std.proofs.lemmas.Bool.Decides.{nat_tests}
-use Rattle.std.specs.Prelude.{◌&&◌, nat_eq, not}
-use Rattle.syslog_dated_forms.specs.Address.{address, are_address_chars, has_pair, is_address_char, is_hex, may_begin}
-use Rattle.std.specs.Char.{is_ascii_digit}
-use Rattle.syslog_text.specs.Pieces.Class.{Text, Values, Front, NoFront, NoDivision, IsDeterministic, Row, exactly}
-use Rattle.syslog_text.specs.Pieces.Class.{Each, optional, run, some_run}
-use Rattle.syslog_text.specs.Pieces.Rules.{such_that}
-use Rattle.syslog_text.specs.Text.{IsHost, is_blank, colon}
-use Rattle.syslog_text.proofs.TextLemmas.Words.{host_det}
-use Rattle.syslog_text.proofs.PieceLemmas.Class.{AllDeterministic, ◌also◌, exactly_det, optional_det, mapped_det}
-use Rattle.syslog_text.proofs.PieceLemmas.Class.{front_of, front_same, mapped_front, row_det, run_det, some_run_det}
-use Rattle.syslog_text.proofs.PieceLemmas.Class.{rest_det, ◌then◌, no_row_division, row_none_here, row_of}
-use Rattle.syslog_text.proofs.PieceLemmas.Rules.{exactly_apart, or_det, such_det, no_such_front, no_such_meaning}
-use Rattle.syslog_text.proofs.PieceLemmas.Rules.{such_front}
-use Rattle.syslog_pieces.proofs.TimestampLemmas.Rfc3339.{year_det}
-use Rattle.syslog_dated_forms.specs.Cisco.{begins_host, IsMnemonic, origin, mnemonic, counter_row, label_row, label}
-use Rattle.syslog_dated_forms.specs.Cisco.{begins_mnemonic, context_row, dell_row, unit, unit_row, task_row, mark}
-use Rattle.syslog_dated_forms.specs.Cisco.{start_row, labelled, start, front_year_row, front_year, date_row, host_of}
-use Rattle.syslog_dated_forms.specs.Cisco.{word_origin, place_row, place, message_row, cisco_row, IsAsa, IsNxOs}
-use Rattle.syslog_dated_forms.specs.Cisco.{IsDated, cisco_forms, cisco_sent}
-use Rattle.syslog_sent.specs.Forms.{Finds, IsOfNone}
-use Rattle.syslog_sent.specs.Sent.{sent_value}
-use Rattle.syslog_sent.specs.declared.sent.Sent.{Sent}
-use Rattle.syslog_sent.specs.declared.dialect.Dialect.TheVariants.{CiscoAsa, CiscoIos, CiscoNxOs}
-use Rattle.syslog_sent.specs.Named.{◌otherwise◌, BeginsWith}
-use Rattle.syslog_sent.specs.Runs.{is_plain_char}
-use Rattle.syslog_sent.specs.Zone.{bare_word}
-use Rattle.syslog_sent.proofs.DateLemmas.{any_date_det}
-use Rattle.syslog_sent.proofs.FormLemmas.{◌before◌, first, found, says_once}
-use Rattle.syslog_sent.proofs.NamedLemmas.{otherwise_det, second_front}
-use Rattle.syslog_sent.specs.Date.{any_date}
-use Rattle.syslog_sent.specs.declared.sent.SentDate.{SentDate}
-use Rattle.syslog_sent.proofs.ZoneLemmas.{bare_word_det}
+use Rattle.syslog_dated_forms.proofs.Names.{[], ◌&&◌, ◌++◌, ◌also◌, ◌before◌, ◌otherwise◌, ◌then◌, ◌∙◌, ◌∷◌, ◌≡◌}
+use Rattle.syslog_dated_forms.proofs.Names.{address, AllDeterministic, and_parts, any_date, any_date_det, ap}
+use Rattle.syslog_dated_forms.proofs.Names.{are_address_chars, arith, bare_word, bare_word_det, begins_host}
+use Rattle.syslog_dated_forms.proofs.Names.{begins_mnemonic, BeginsWith, cisco_forms, cisco_row, CiscoAsa, CiscoIos}
+use Rattle.syslog_dated_forms.proofs.Names.{CiscoNxOs, colon, context_row, counter_row, date_row, dell_row, drop, Each}
+use Rattle.syslog_dated_forms.proofs.Names.{exactly, exactly_det, false, Finds, first, found, Front, front_of}
+use Rattle.syslog_dated_forms.proofs.Names.{front_same, front_year, front_year_row, get_or, has_pair, host_det, host_of}
+use Rattle.syslog_dated_forms.proofs.Names.{inl, inr, is_address_char, is_ascii_digit, is_blank, is_plain_char, IsAsa}
+use Rattle.syslog_dated_forms.proofs.Names.{IsDeterministic, IsMnemonic, IsNxOs, IsOfNone, label, label_row, labelled}
+use Rattle.syslog_dated_forms.proofs.Names.{length, mapped_det, mapped_front, mark, may_begin, message_row, mnemonic}
+use Rattle.syslog_dated_forms.proofs.Names.{nat_tests, no_row_division, no_such_front, no_such_meaning, NoDivision}
+use Rattle.syslog_dated_forms.proofs.Names.{NoFront, not, Option, optional, optional_det, origin, otherwise_det}
+use Rattle.syslog_dated_forms.proofs.Names.{place_row, refl, rest_det, Row, row_det, row_none_here, row_of, run}
+use Rattle.syslog_dated_forms.proofs.Names.{run_det, says_once, second_front, Sent, sent_value, SentDate, Some}
+use Rattle.syslog_dated_forms.proofs.Names.{some_run, some_run_det, start, start_row, subst, such_det, such_front}
+use Rattle.syslog_dated_forms.proofs.Names.{such_that, sym, task_row, Text, true, unit, unit_row, Values, word_origin}
+use Rattle.syslog_dated_forms.proofs.Names.{year_det, ℕ}
+use Rattle.std.proofs.Common.{append_assoc}
+use Rattle.std.proofs.lemmas.Bool.{not-true, or_parts}
+use Rattle.std.specs.Prelude.{nat_eq}
+use Rattle.syslog_dated_forms.specs.Address.{is_hex}
+use Rattle.syslog_text.specs.Text.{IsHost}
+use Rattle.syslog_text.proofs.PieceLemmas.Rules.{exactly_apart, or_det}
+use Rattle.syslog_dated_forms.specs.Cisco.{place, IsDated, cisco_sent}
 
 some_is : (s t : Text) → Some s ≡ Some t → s ≡ t
 some_is s t e = cc

@@ -1,23 +1,15 @@
 -- What is found of lines that a collector files: by whether such a line is there, and of which system it is.
-use Rattle.std.proofs.Common.{◌≡◌, [], ◌∷◌, Some}
-use Rattle.syslog_text.specs.Pieces.Class.{Text, Class, Values, Front, NoFront, Row, NoDivision}
-use Rattle.syslog_text.specs.Pieces.Rules.{such_that}
-use Rattle.syslog_text.specs.Text.{is_blank}
-use Rattle.syslog_text.proofs.PieceLemmas.Class.{AllDeterministic, ◌also◌, all_joined, no_row_division, row_cons}
-use Rattle.syslog_text.proofs.PieceLemmas.Class.{row_det, row_nil, row_none_here, rows_join, rows_none_here}
-use Rattle.syslog_text.proofs.PieceLemmas.Class.{rows_none_later, run_det, some_run_det}
-use Rattle.syslog_text.proofs.PieceLemmas.Rules.{no_such_front, no_such_meaning, such_det, such_front}
-use Rattle.syslog_dated_forms.specs.Cisco.{IsAsa, IsNxOs, cisco_row}
-use Rattle.syslog_sent.specs.Forms.{Finds, IsOfNone}
-use Rattle.syslog_dated_forms.specs.Filed.{IsAny, filed_form, filed_forms, filed_front, filed_row, filed_sent}
-use Rattle.syslog_sent.specs.Sent.{IsOnlySent, sent_value}
-use Rattle.syslog_sent.specs.declared.sent.Sent.{Sent}
-use Rattle.syslog_sent.specs.declared.dialect.Dialect.{Dialect}
-use Rattle.syslog_sent.specs.declared.dialect.Dialect.TheVariants.{CiscoAsa, CiscoIos, CiscoNxOs}
-use Rattle.syslog_sent.specs.declared.sent.SentDate.{SentDate}
+use Rattle.syslog_dated_forms.proofs.Names.{[], ◌also◌, ◌before◌, ◌∷◌, ◌≡◌, all_joined, AllDeterministic, any_date_det}
+use Rattle.syslog_dated_forms.proofs.Names.{cisco_row, CiscoAsa, CiscoIos, CiscoNxOs, Class, Dialect, filed_forms}
+use Rattle.syslog_dated_forms.proofs.Names.{filed_front, filed_row, Finds, first, found, Front, is_blank, IsAny, IsAsa}
+use Rattle.syslog_dated_forms.proofs.Names.{IsNxOs, IsOfNone, no_row_division, no_such_front, no_such_meaning}
+use Rattle.syslog_dated_forms.proofs.Names.{NoDivision, NoFront, Row, row_cons, row_det, row_nil, row_none_here}
+use Rattle.syslog_dated_forms.proofs.Names.{rows_join, rows_none_here, rows_none_later, run_det, says_once, Sent}
+use Rattle.syslog_dated_forms.proofs.Names.{sent_value, SentDate, Some, some_run_det, such_det, such_front, such_that}
+use Rattle.syslog_dated_forms.proofs.Names.{Text, Values}
+use Rattle.syslog_dated_forms.specs.Filed.{filed_form, filed_sent}
+use Rattle.syslog_sent.specs.Sent.{IsOnlySent}
 use Rattle.syslog_dated_forms.proofs.CiscoLemmas.{cisco_row_det, origin_det}
-use Rattle.syslog_sent.proofs.DateLemmas.{any_date_det}
-use Rattle.syslog_sent.proofs.FormLemmas.{◌before◌, first, found, says_once}
 
 pub filed_front_det : AllDeterministic filed_front
 filed_front_det = run_det is_blank also any_date_det also some_run_det is_blank also origin_det also some_run_det

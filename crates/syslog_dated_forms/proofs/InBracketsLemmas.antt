@@ -1,20 +1,16 @@
 -- A date in brackets: one front of each class, and what a search of the bracket says.
-use Rattle.std.proofs.Common.{◌≡◌, ℕ, List, [], ◌∷◌, refl, sym, subst, ◌∙◌, nat_eq}
-use Rattle.std.specs.Str.{IsUtf8, NoCharPasses, NonePass, chars}
+use Rattle.syslog_dated_forms.proofs.Names.{[], ◌also◌, ◌∙◌, ◌∷◌, ◌≡◌, AllDeterministic, any_date_det, bare_word}
+use Rattle.syslog_dated_forms.proofs.Names.{bare_word_det, chars, day_row, division_front, Each, exactly_det, Front}
+use Rattle.syslog_dated_forms.proofs.Names.{front_of, front_same, in_brackets_row, is_blank, is_open, IsDay}
+use Rattle.syslog_dated_forms.proofs.Names.{IsDeterministic, IsUtf8, List, nat_eq, NoDivision, NoFront, optional_det}
+use Rattle.syslog_dated_forms.proofs.Names.{refl, rest_det, Row, row_det, run_det, some_run_det, stamp_row, subst}
+use Rattle.syslog_dated_forms.proofs.Names.{such_det, sym, Text, Values, ℕ}
+use Rattle.std.specs.Str.{NoCharPasses, NonePass}
 use Rattle.std.proofs.lemmas.Str.{chars_from_encodes}
 use Rattle.syslog_text.specs.Bodies.Scan.{SplitsRun}
-use Rattle.syslog_text.specs.Pieces.Class.{Division, Each, Front, IsDeterministic, NoDivision, NoFront, Row, Text}
-use Rattle.syslog_text.specs.Pieces.Class.{Values}
-use Rattle.syslog_text.specs.Text.{is_blank}
-use Rattle.syslog_text.proofs.PieceLemmas.Class.{AllDeterministic, ◌also◌, division_front, exactly_det, front_division}
-use Rattle.syslog_text.proofs.PieceLemmas.Class.{front_of, front_same, optional_det, rest_det, row_det, run_det}
-use Rattle.syslog_text.proofs.PieceLemmas.Class.{run_same, some_run_det, unique_division}
-use Rattle.syslog_text.proofs.PieceLemmas.Rules.{such_det}
-use Rattle.syslog_sent.proofs.DateLemmas.{any_date_det}
-use Rattle.syslog_sent.proofs.ZoneLemmas.{bare_word_det}
-use Rattle.syslog_sent.specs.Date.{IsDay}
-use Rattle.syslog_sent.specs.Zone.{bare_word}
-use Rattle.syslog_dated_forms.specs.InBrackets.{day_row, in_brackets_row, is_open, stamp, stamp_row}
+use Rattle.syslog_text.specs.Pieces.Class.{Division}
+use Rattle.syslog_text.proofs.PieceLemmas.Class.{front_division, run_same, unique_division}
+use Rattle.syslog_dated_forms.specs.InBrackets.{stamp}
 
 pub day_det : AllDeterministic day_row
 day_det = such_det bare_word IsDay bare_word_det also some_run_det is_blank also tt

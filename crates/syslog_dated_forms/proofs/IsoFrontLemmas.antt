@@ -1,41 +1,30 @@
 -- A text that begins with a date that is nearly one of RFC 3339: no form with another beginning divides it.
-use Rattle.std.proofs.Common.{◌≡◌, ◌⊎◌, inl, inr, ℕ, ◌<◌, true, false, [], ◌∷◌, ◌++◌, length, Option, Some, Bool, refl}
-use Rattle.std.proofs.Common.{sym, ap, subst, ◌∙◌, arith, drop}
-use Rattle.std.specs.Prelude.{◌||◌, nat_eq, not}
-use Rattle.std.proofs.lemmas.Bool.Decides.{nat_tests}
-use Rattle.std.specs.Char.{is_ascii_digit}
-use Rattle.syslog_text.specs.Pieces.Class.{Text, Values, Each, Ends, Front, NoDivision, NoFront, Row, after, exactly}
-use Rattle.syslog_text.specs.Pieces.Class.{run, some_run}
-use Rattle.syslog_text.specs.Text.{is_blank, is_tag_char}
-use Rattle.syslog_pieces.specs.Timestamp.Rfc3339.{pair, year}
-use Rattle.syslog_text.proofs.PieceLemmas.Class.{◌past◌, ◌then◌, each_after, each_append, each_map, front_of}
-use Rattle.syslog_text.proofs.PieceLemmas.Class.{front_same, mapped_front, no_mapped, no_row, no_row_division}
-use Rattle.syslog_text.proofs.PieceLemmas.Class.{optional_none, optional_some, row_of, row_pieces, some_run_det}
-use Rattle.syslog_text.proofs.PieceLemmas.Lists.{Begins, begins}
-use Rattle.syslog_text.proofs.TextLemmas.Runs.{no_run}
-use Rattle.syslog_pieces.proofs.TimestampLemmas.MonthDate.{IsBlank, blanks_begin}
-use Rattle.syslog_dated_forms.specs.Cisco.{IsMnemonic, begins_host, counter_row, label, label_row, mnemonic, dated_in}
-use Rattle.syslog_dated_forms.specs.Cisco.{front_year_row, origin}
-use Rattle.syslog_dated_forms.specs.Undated.{run_clock_row, run_word_row, uptime}
-use Rattle.syslog_sent.specs.Date.{date_part, fraction_row, iso_date, iso_row, middle, point, weekday}
-use Rattle.syslog_dated_forms.specs.Dated.{year_date, year_date_row}
-use Rattle.syslog_dated_forms.specs.IosXr.{card_row, host, host_in, host_row, node, xr_row}
-use Rattle.syslog_sent.specs.Named.{BeginsWith}
-use Rattle.syslog_dated_forms.specs.NetScaler.{month_first_row, slashed_date, slashed_day, slashed_of, slashed_row}
-use Rattle.syslog_dated_forms.specs.NetScaler.{year_first_row}
-use Rattle.syslog_dated_forms.specs.SophosUtm.{colon_of, colon_row}
-use Rattle.syslog_dated_forms.specs.UnixSeconds.{meraki_row, unix_date, unix_of, unix_row}
+use Rattle.syslog_dated_forms.proofs.Names.{[], ◌++◌, ◌<◌, ◌past◌, ◌then◌, ◌||◌, ◌∙◌, ◌∷◌, ◌≡◌, ◌⊎◌, address, ap, arith}
+use Rattle.syslog_dated_forms.proofs.Names.{bare_word, bare_word_det, Begins, begins, begins_host, BeginsWith}
+use Rattle.syslog_dated_forms.proofs.Names.{blanks_begin, Bool, card_row, colon_of, colon_row, counter_row, dated_in}
+use Rattle.syslog_dated_forms.proofs.Names.{drop, Each, each_after, each_map, Ends, exactly, false, fraction_row, Front}
+use Rattle.syslog_dated_forms.proofs.Names.{front_of, front_same, front_year_row, host, host_in, host_row, inl, inr}
+use Rattle.syslog_dated_forms.proofs.Names.{is_ascii_digit, is_blank, is_tag_char, IsBlank, IsMnemonic, iso_date, label}
+use Rattle.syslog_dated_forms.proofs.Names.{label_row, length, mapped_front, meraki_row, mnemonic, month_first_row}
+use Rattle.syslog_dated_forms.proofs.Names.{nat_tests, no_mapped, no_otherwise, no_row, no_row_division, no_run, node}
+use Rattle.syslog_dated_forms.proofs.Names.{NoDivision, NoFront, not, Option, optional_none, optional_some, origin}
+use Rattle.syslog_dated_forms.proofs.Names.{pair, refl, Row, row_of, row_pieces, run, run_clock_row, run_word_row}
+use Rattle.syslog_dated_forms.proofs.Names.{SentDate, slashed_date, slashed_of, slashed_row, Some, some_run}
+use Rattle.syslog_dated_forms.proofs.Names.{some_run_det, subst, sym, Text, true, unix_date, unix_of, unix_row, uptime}
+use Rattle.syslog_dated_forms.proofs.Names.{Values, weekday, xr_row, year, year_date, year_date_row, year_first_row, ℕ}
+use Rattle.std.specs.Prelude.{nat_eq}
+use Rattle.syslog_text.proofs.PieceLemmas.Class.{each_append}
+use Rattle.syslog_sent.specs.Date.{date_part, iso_row, middle, point}
+use Rattle.syslog_dated_forms.specs.NetScaler.{slashed_day}
 use Rattle.syslog_sent.specs.Runs.{is_word_char}
-use Rattle.syslog_sent.specs.Zone.{bare_word, is_capital}
-use Rattle.syslog_sent.specs.declared.sent.SentDate.{SentDate}
+use Rattle.syslog_sent.specs.Zone.{is_capital}
 use Rattle.syslog_dated_forms.proofs.CiscoLemmas.{counter_row_det, at, no_address, origin_det, word_is_origin}
 use Rattle.syslog_dated_forms.proofs.RowLemmas.{year_date_det, card_row_det, host_row_det, xr_row_det}
 use Rattle.syslog_dated_forms.proofs.RowLemmas.{run_clock_row_det}
 use Rattle.syslog_dated_forms.proofs.MonthFrontLemmas.{tag_digit}
 use Rattle.syslog_dated_forms.proofs.OtherFormLemmas.{BeginsOtherwise}
-use Rattle.syslog_sent.proofs.NamedLemmas.{no_otherwise}
-use Rattle.syslog_dated_forms.specs.Address.{address}
-use Rattle.syslog_sent.proofs.ZoneLemmas.{bare_word_det, day_capital}
+use Rattle.syslog_sent.proofs.ZoneLemmas.{day_capital}
+use Rattle.syslog_text.specs.Pieces.Class.{after}
 
 -- ---- the word that such a date begins with
 

@@ -1,26 +1,14 @@
 -- Texts that begin with no date of a form are not of that form.
-use Rattle.std.proofs.Common.{List, ◌++◌, Option, Some, None, drop}
-use Rattle.syslog_text.specs.Pieces.Class.{Text, Front, NoFront, NoDivision, Row, run}
-use Rattle.syslog_text.specs.Pieces.Rules.{such_that}
-use Rattle.syslog_text.specs.Text.{is_blank}
-use Rattle.syslog_pieces.specs.Timestamp.{header_stamp}
-use Rattle.syslog_text.proofs.PieceLemmas.Class.{no_mapped}
-use Rattle.syslog_text.proofs.PieceLemmas.Rules.{no_such_front}
-use Rattle.syslog_sent.specs.Date.{IsOdd, bsd_of, bsd_row, iso_date, odd_bsd_date, odd_iso_date}
+use Rattle.syslog_dated_forms.proofs.Names.{◌++◌, bsd_of, bsd_row, Dialect, drop, Finds, Form, found_early, Front}
+use Rattle.syslog_dated_forms.proofs.Names.{header_stamp, is_blank, IsLed, Iso, iso_date, IsOdd, IsOfNone}
+use Rattle.syslog_dated_forms.proofs.Names.{journal_forms, Led, List, Month, no_mapped, no_such_front, NoDivision}
+use Rattle.syslog_dated_forms.proofs.Names.{NoFront, None, none_joined, Option, Row, run, Sent, SentDate, Some}
+use Rattle.syslog_dated_forms.proofs.Names.{such_that, Text, xr_row}
+use Rattle.syslog_sent.specs.Date.{odd_bsd_date, odd_iso_date}
 use Rattle.syslog_dated_forms.specs.Dated as dated
-use Rattle.syslog_sent.specs.declared.sent.SentDate.{SentDate}
 use Rattle.syslog_sent.proofs.DateLemmas.{no_unless_later}
-use Rattle.syslog_sent.proofs.DialectLemmas.{found_early, none_joined}
-use Rattle.syslog_sent.specs.Forms.{Finds, IsOfNone}
-use Rattle.syslog_sent.specs.Sent.{Form}
-use Rattle.syslog_sent.specs.declared.dialect.Dialect.{Dialect}
-use Rattle.syslog_sent.specs.declared.sent.Sent.{Sent}
-use Rattle.syslog_sent.specs.Led.{IsDate, IsLed}
-use Rattle.syslog_sent.specs.declared.led.Led.{Led}
+use Rattle.syslog_sent.specs.Led.{IsDate}
 use Rattle.syslog_sent.specs.declared.led.LeadingDate.{LeadingDate}
-use Rattle.syslog_sent.specs.declared.led.LeadingDate.TheVariants.{Month, Iso}
-use Rattle.syslog_dated_forms.specs.DatedForms.{journal_forms}
-use Rattle.syslog_dated_forms.specs.IosXr.{xr_row}
 use Rattle.syslog_dated_forms.proofs.IsoFrontLemmas.{begins_iso, has_iso, iso_no_xr}
 use Rattle.syslog_dated_forms.proofs.MonthFrontLemmas.{begins_month, has_month, no_xr}
 use Rattle.syslog_dated_forms.proofs.OtherFormLemmas.{not_begun, of_no_other}

@@ -6,6 +6,7 @@ pub mod IsoFrontLemmas
 pub mod LedFormLemmas
 pub mod MarkLemmas
 pub mod MonthFrontLemmas
+pub mod Names
 pub mod OtherFormLemmas
 pub mod ReaderLemmas
 pub mod RowLemmas

@@ -1,22 +1,19 @@
 -- A text without `%` and `#` is no line of Cisco's with a date.
+use Rattle.syslog_dated_forms.proofs.Names.{[], ◌++◌, ◌<◌, ◌∷◌, ◌≡◌, ◌⊎◌, arith, chars, cisco_forms, cisco_row, Class}
+use Rattle.syslog_dated_forms.proofs.Names.{division_front, Each, each_after, false, filed_forms, filed_row, Front}
+use Rattle.syslog_dated_forms.proofs.Names.{front_of, get_or, inl, inr, IsAny, IsAsa, IsMnemonic, IsNxOs, IsOfNone}
+use Rattle.syslog_dated_forms.proofs.Names.{IsUtf8, length, List, marked_forms, message_row, nat_eq, nat_tests}
+use Rattle.syslog_dated_forms.proofs.Names.{NoDivision, NoFront, None, none_joined, refl, Row, row_pieces, subst}
+use Rattle.syslog_dated_forms.proofs.Names.{such_that, sym, Text, timed_forms, timed_row, true, Values, ℕ}
 use Rattle.memchr.specs.Find.{IsFirstByte, is_byte2}
-use Rattle.std.proofs.Common.{◌≡◌, ◌⊎◌, inl, inr, ℕ, ◌+◌, ◌<◌, true, false, List, [], ◌∷◌, None, length, get_or}
-use Rattle.std.proofs.Common.{◌++◌, refl, sym, subst, arith, length-append, nat_eq}
+use Rattle.std.proofs.Common.{◌+◌, length-append}
 use Rattle.std.proofs.lemmas.Bool.{cases_Bool}
-use Rattle.std.proofs.lemmas.Bool.Decides.{nat_tests}
 use Rattle.std.proofs.lemmas.List.{get_or-append-add}
 use Rattle.std.proofs.lemmas.Str.{encodes-chars}
 use Rattle.std.specs.Char.{encode_utf8}
-use Rattle.std.specs.Str.{IsUtf8, chars, encode_utf8_all}
-use Rattle.syslog_text.specs.Pieces.Class.{Text, Class, Values, Each, Front, NoDivision, NoFront, Row}
-use Rattle.syslog_text.specs.Pieces.Rules.{such_that}
-use Rattle.syslog_text.proofs.PieceLemmas.Class.{division_front, each_after, each_front, front_of, row_pieces}
-use Rattle.syslog_dated_forms.specs.Cisco.{IsAsa, IsMnemonic, IsNxOs, cisco_forms, cisco_row, is_unmarked, message_row}
-use Rattle.syslog_sent.proofs.DialectLemmas.{none_joined}
-use Rattle.syslog_sent.specs.Forms.{IsOfNone}
-use Rattle.syslog_dated_forms.specs.DatedForms.{marked_forms, timed_forms}
-use Rattle.syslog_dated_forms.specs.Filed.{IsAny, filed_forms, filed_row}
-use Rattle.syslog_dated_forms.specs.Undated.{timed_row}
+use Rattle.std.specs.Str.{encode_utf8_all}
+use Rattle.syslog_text.proofs.PieceLemmas.Class.{each_front}
+use Rattle.syslog_dated_forms.specs.Cisco.{is_unmarked}
 use Rattle.syslog_dated_forms.proofs.CiscoLemmas.{none_cisco}
 
 -- ---- what a search of the bytes says

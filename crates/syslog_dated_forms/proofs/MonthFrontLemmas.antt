@@ -1,55 +1,46 @@
 -- A text that begins with a month date: what comes before Cisco's dates is not there, and no form with another
 -- beginning divides it.
-use Rattle.std.proofs.Common.{◌≡◌, inl, inr, ℕ, ◌<◌, ◌≤◌, Bool, true, false, List, [], ◌∷◌, ◌++◌, length, map, Option}
-use Rattle.std.proofs.Common.{Some, None, drop, refl, sym, ap, subst, ◌∙◌, arith}
-use Rattle.std.proofs.lemmas.Bool.{agree_below_at, and_parts}
-use Rattle.std.proofs.lemmas.Bool.Decides.{nat_tests}
+use Rattle.syslog_dated_forms.proofs.Names.{[], ◌&&◌, ◌++◌, ◌<◌, ◌otherwise◌, ◌past◌, ◌then◌, ◌||◌, ◌∙◌, ◌∷◌, ◌≡◌}
+use Rattle.syslog_dated_forms.proofs.Names.{address, and_parts, ap, arith, bare_word, bare_word_det, Begins, begins}
+use Rattle.syslog_dated_forms.proofs.Names.{begins_host, blanks_begin, Bool, bsd_row, card_row, chars, Class, colon}
+use Rattle.syslog_dated_forms.proofs.Names.{colon_of, colon_row, counter_row, dated_in, day_of, drop, Each, each_map}
+use Rattle.syslog_dated_forms.proofs.Names.{Ends, exactly, false, Front, front_of, front_same, front_year}
+use Rattle.syslog_dated_forms.proofs.Names.{front_year_row, host, host_in, host_row, inl, inr, is_address_char}
+use Rattle.syslog_dated_forms.proofs.Names.{is_among, is_ascii_digit, is_blank, is_tag_char, IsBlank, IsDay, IsLate}
+use Rattle.syslog_dated_forms.proofs.Names.{IsMnemonic, IsNode, IsUptime, label, label_row, labelled, length, List}
+use Rattle.syslog_dated_forms.proofs.Names.{mapped_front, mark, meraki_row, mnemonic, month_first_row, nat_tests}
+use Rattle.syslog_dated_forms.proofs.Names.{no_mapped, no_otherwise, no_row, no_row_division, no_run, no_such_front}
+use Rattle.syslog_dated_forms.proofs.Names.{node, NoDivision, NoFront, None, not, number, Option, optional}
+use Rattle.syslog_dated_forms.proofs.Names.{optional_none, optional_some, origin, pair, refl, Row, row_of, row_pieces}
+use Rattle.syslog_dated_forms.proofs.Names.{run, run_clock_row, run_word_row, SentDate, slashed_date, slashed_of}
+use Rattle.syslog_dated_forms.proofs.Names.{slashed_row, Some, some_run, start, start_row, subst, sym, task_row, Text}
+use Rattle.syslog_dated_forms.proofs.Names.{true, unix_date, unix_of, unix_row, uptime, Values, weekday, xr_row, year}
+use Rattle.syslog_dated_forms.proofs.Names.{year_date, year_date_row, year_first_row, ℕ}
+use Rattle.std.proofs.Common.{◌≤◌, map}
+use Rattle.std.proofs.lemmas.Bool.{agree_below_at}
 use Rattle.std.proofs.lemmas.Str.{chars-IsAscii}
 use Rattle.std.proofs.lemmas.Str.Ascii.{lowercase_is}
-use Rattle.std.specs.Char.{is_ascii_digit, to_ascii_lowercase}
+use Rattle.std.specs.Char.{to_ascii_lowercase}
 use Rattle.std.specs.Cmp.Lexicographic.{same_text}
-use Rattle.std.specs.Prelude.{◌&&◌, ◌||◌, IsTrue, is_none, nat_le, nat_lt, not, nat_eq}
-use Rattle.std.specs.Str.{chars}
+use Rattle.std.specs.Prelude.{is_none, nat_le, nat_lt, nat_eq, IsTrue}
 use Rattle.syslog_pieces.specs.Bodies.MonthReading.{small_month}
-use Rattle.syslog_text.specs.Pieces.Class.{Text, Class, Values, Each, Ends, Front, NoDivision, NoFront, Row, exactly}
-use Rattle.syslog_text.specs.Pieces.Class.{optional, run, some_run}
 use Rattle.syslog_text.specs.Pieces.View.{text_eq}
-use Rattle.syslog_text.specs.Text.{is_blank, is_tag_char, colon, number}
 use Rattle.syslog_pieces.specs.Timestamp.MonthDate.{clock_row, month, month_date, short_number}
-use Rattle.syslog_pieces.specs.Timestamp.Rfc3339.{pair, year}
 use Rattle.syslog_pieces.specs.declared.timestamp.month_date.MonthDate.{MonthDate}
-use Rattle.syslog_text.proofs.PieceLemmas.Class.{◌past◌, ◌then◌, front_of, front_same, mapped_front, no_mapped}
-use Rattle.syslog_text.proofs.PieceLemmas.Class.{each_map, heads, no_row, no_row_division, optional_some, optional_none}
-use Rattle.syslog_text.proofs.PieceLemmas.Class.{row_of, row_pieces}
-use Rattle.syslog_text.proofs.PieceLemmas.Lists.{Begins, begins, begins_apart}
-use Rattle.syslog_sent.proofs.NamedLemmas.{no_otherwise, ascii_told}
-use Rattle.syslog_sent.specs.Named.{◌otherwise◌}
-use Rattle.syslog_dated_forms.specs.Address.{address, is_address_char}
-use Rattle.syslog_dated_forms.specs.Cisco.{origin, IsMnemonic, begins_host, counter_row, front_year, front_year_row}
-use Rattle.syslog_dated_forms.specs.Cisco.{label, label_row, labelled, mark, mnemonic, start, start_row, task_row}
-use Rattle.syslog_dated_forms.specs.Cisco.{dated_in}
+use Rattle.syslog_text.proofs.PieceLemmas.Class.{heads}
+use Rattle.syslog_text.proofs.PieceLemmas.Lists.{begins_apart}
+use Rattle.syslog_sent.proofs.NamedLemmas.{ascii_told}
 use Rattle.syslog_dated_forms.proofs.CiscoLemmas.{no_address, origin_det, word_is_origin, counter_row_det}
 use Rattle.syslog_dated_forms.proofs.CiscoLemmas.{front_year_row_det, task_row_det}
-use Rattle.syslog_text.proofs.PieceLemmas.Rules.{no_such_front}
-use Rattle.syslog_text.proofs.TextLemmas.Runs.{no_run}
-use Rattle.syslog_pieces.proofs.TimestampLemmas.MonthDate.{IsBlank, IsLetter, blank_low, blanks_begin, month_letters}
-use Rattle.syslog_dated_forms.specs.Undated.{IsUptime, run_clock_row, run_word_row, uptime}
-use Rattle.syslog_sent.specs.Date.{bsd_row, IsDay, day_words, weekday}
-use Rattle.syslog_dated_forms.specs.Dated.{year_date, year_date_row}
-use Rattle.syslog_dated_forms.specs.IosXr.{IsNode, card_row, host, host_in, host_row, node, xr_row}
-use Rattle.syslog_dated_forms.specs.NetScaler.{day_of, month_first_row, slashed_date, slashed_of, slashed_row}
-use Rattle.syslog_dated_forms.specs.NetScaler.{year_first_row}
+use Rattle.syslog_pieces.proofs.TimestampLemmas.MonthDate.{IsLetter, blank_low, month_letters}
+use Rattle.syslog_sent.specs.Date.{day_words}
 use Rattle.syslog_sent.specs.Runs.{are_ascii}
-use Rattle.syslog_dated_forms.specs.SophosUtm.{colon_of, colon_row}
-use Rattle.syslog_dated_forms.specs.UnixSeconds.{IsLate, meraki_row, unix_date, unix_of, unix_row}
-use Rattle.syslog_sent.specs.Zone.{bare_word, is_among}
-use Rattle.syslog_sent.specs.declared.sent.SentDate.{SentDate}
 use Rattle.syslog_dated_forms.proofs.RowLemmas.{run_clock_row_det, run_word_row_det, year_date_det, card_row_det}
 use Rattle.syslog_dated_forms.proofs.RowLemmas.{colon_row_det, month_first_row_det, slashed_row_det, xr_row_det}
 use Rattle.syslog_dated_forms.proofs.RowLemmas.{year_first_row_det, meraki_row_det, unix_row_det}
 use Rattle.syslog_sent.proofs.LedLemmas.{year_begins}
 use Rattle.syslog_dated_forms.proofs.OtherFormLemmas.{BeginsOtherwise}
-use Rattle.syslog_sent.proofs.ZoneLemmas.{bare_word_det, either_told}
+use Rattle.syslog_sent.proofs.ZoneLemmas.{either_told}
 
 -- ---- the word that a month is
 

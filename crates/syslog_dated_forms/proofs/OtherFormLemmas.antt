@@ -1,28 +1,16 @@
 -- Texts that begin with a date are of no form with another beginning.
-use Rattle.std.proofs.Common.{[], ◌∷◌, List, drop, inl}
-use Rattle.syslog_text.specs.Pieces.Class.{Text, Class, Front, NoDivision, NoFront, Row, exactly, run}
-use Rattle.syslog_text.specs.Text.{colon, is_blank}
-use Rattle.syslog_text.proofs.PieceLemmas.Class.{◌also◌, ◌past◌, no_row, no_row_division, optional_none}
-use Rattle.syslog_text.proofs.PieceLemmas.Class.{row_none_here, row_none_later, run_det}
-use Rattle.syslog_text.proofs.PieceLemmas.Rules.{no_such_front}
-use Rattle.syslog_dated_forms.specs.Cisco.{counter_row, label, message_row, mnemonic}
-use Rattle.syslog_dated_forms.specs.Dated.{ctime_message_row, ctime_row, journal_row, year_date, year_row}
-use Rattle.syslog_dated_forms.specs.DatedForms.{journal_forms}
-use Rattle.syslog_dated_forms.specs.InBrackets.{in_brackets_row}
-use Rattle.syslog_dated_forms.specs.NetScaler.{netscaler_row, slashed_date, unnamed_row}
-use Rattle.syslog_dated_forms.specs.OpenWrt.{logread_row}
-use Rattle.syslog_dated_forms.specs.SophosUtm.{colon_date, utm_row}
-use Rattle.syslog_dated_forms.specs.Ucm.{ucm_row}
-use Rattle.syslog_dated_forms.specs.Undated.{IsName, name_label, undated_row, uptime}
-use Rattle.syslog_dated_forms.specs.UnixSeconds.{meraki_row, short_row, typed_row, unix_date}
+use Rattle.syslog_dated_forms.proofs.Names.{[], ◌also◌, ◌past◌, ◌∷◌, any_date, any_front, Class, colon, counter_row}
+use Rattle.syslog_dated_forms.proofs.Names.{ctime_message_row, ctime_row, drop, exactly, Front, in_brackets_row, inl}
+use Rattle.syslog_dated_forms.proofs.Names.{is_blank, IsLed, IsName, IsOfNone, journal_forms, journal_row, label, Led}
+use Rattle.syslog_dated_forms.proofs.Names.{List, logread_row, meraki_row, message_row, mnemonic, netscaler_row, no_row}
+use Rattle.syslog_dated_forms.proofs.Names.{no_row_division, no_such_front, NoDivision, NoFront, optional_none, Row}
+use Rattle.syslog_dated_forms.proofs.Names.{row_none_here, row_none_later, run, run_det, short_row, shown, slashed_date}
+use Rattle.syslog_dated_forms.proofs.Names.{Text, typed_row, ucm_row, undated_row, unix_date, unnamed_row, uptime}
+use Rattle.syslog_dated_forms.proofs.Names.{utm_row, weekday, year_date, year_row}
+use Rattle.syslog_dated_forms.specs.SophosUtm.{colon_date}
 use Rattle.syslog_dated_forms.proofs.CiscoLemmas.{message_row_det}
 use Rattle.syslog_dated_forms.proofs.RowLemmas.{undated_row_det}
-use Rattle.syslog_sent.specs.Date.{any_date, weekday}
-use Rattle.syslog_sent.specs.Led.{IsLed}
-use Rattle.syslog_sent.specs.declared.led.Led.{Led}
-use Rattle.syslog_sent.proofs.LedLemmas.{any_front}
-use Rattle.syslog_text.specs.Pieces.View.{shown}
-use Rattle.syslog_sent.specs.Forms.{IsOfNone}
+use Rattle.syslog_dated_forms.specs.Undated.{name_label}
 
 -- a text whose first piece after blanks is missing is not of the form
 pub not_begun : (C : Class) (Cs : List Class) {text t : Text} → Front (run is_blank) text t tt → NoFront C t

@@ -1,14 +1,10 @@
 -- What readers made of other readers return.
-use Rattle.std.proofs.Common.{◌≡◌, ◌⊎◌, inl, inr, List, Option, Some, None, MatchOption}
-use Rattle.std.specs.Borrow.{Bor}
+use Rattle.syslog_dated_forms.proofs.Names.{◌≡◌, ◌⊎◌, bare_word, bare_word_det, Bor, Class, Front, inl, inr, List}
+use Rattle.syslog_dated_forms.proofs.Names.{match_map, MatchOption, no_such_front, no_such_meaning, NoFront, None}
+use Rattle.syslog_dated_forms.proofs.Names.{Option, optional, optional_none, optional_some, Recognises, shown, Some}
+use Rattle.syslog_dated_forms.proofs.Names.{such_front, such_that, Text}
 use Rattle.std.specs.Prelude.{ℕ}
-use Rattle.syslog_text.specs.Pieces.Class.{Text, Class, Front, NoFront, optional}
-use Rattle.syslog_text.specs.Pieces.Rules.{such_that}
-use Rattle.syslog_text.specs.Pieces.View.{Reads, Recognises, shown}
-use Rattle.syslog_text.proofs.PieceLemmas.Class.{match_map, optional_none, optional_some}
-use Rattle.syslog_text.proofs.PieceLemmas.Rules.{no_such_front, no_such_meaning, such_front}
-use Rattle.syslog_sent.specs.Zone.{bare_word}
-use Rattle.syslog_sent.proofs.ZoneLemmas.{bare_word_det}
+use Rattle.syslog_text.specs.Pieces.View.{Reads}
 
 -- no word is there, or one that fails it
 abbrev Fails : (Text → Type 0) → Text → Type 0

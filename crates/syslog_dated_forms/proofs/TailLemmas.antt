@@ -1,14 +1,15 @@
 -- What follows a date means one thing.
-use Rattle.std.proofs.Common.{◌≡◌, [], ◌∷◌, Option, Some, None, refl, sym, ap, ◌∙◌}
-use Rattle.syslog_text.specs.Pieces.Class.{Text, Values, IsDeterministic, Row, rest, exactly}
-use Rattle.syslog_text.proofs.PieceLemmas.Class.{AllDeterministic, ◌also◌, all_joined, rest_det, row_det, exactly_det}
-use Rattle.syslog_text.proofs.PieceLemmas.Class.{mapped_det, optional_det}
+use Rattle.syslog_dated_forms.proofs.Names.{[], ◌also◌, ◌∙◌, ◌∷◌, ◌≡◌, all_joined, AllDeterministic, ap, exactly}
+use Rattle.syslog_dated_forms.proofs.Names.{exactly_det, IsDeterministic, mapped_det, None, Option, optional_det, refl}
+use Rattle.syslog_dated_forms.proofs.Names.{rest_det, Row, row_det, Some, spare, sym, tail_row, TailValue, Text, Values}
+use Rattle.syslog_dated_forms.proofs.Names.{wide_row}
+use Rattle.syslog_text.specs.Pieces.Class.{rest}
 use Rattle.syslog_loose.specs.Rows.{fields_row}
 use Rattle.syslog_loose.specs.Rfc3164.{HasProcess, Names3164}
 use Rattle.syslog_loose.specs.TagForm.{IsIdOf}
 use Rattle.syslog_loose.proofs.Rfc3164Lemmas.{fields_det, one_form, resolves_once}
 use Rattle.syslog_sent.proofs.ZoneLemmas.{ended_det}
-use Rattle.syslog_dated_forms.specs.Tail.{TailValue, spare, tail, tail_row, wide_row, wide_tail}
+use Rattle.syslog_dated_forms.specs.Tail.{tail, wide_tail}
 
 id_once : (t : Text) (x y : Option Text) → IsIdOf t x → IsIdOf t y → x ≡ y
 id_once t (Some i) (Some j) (tag, f) (tag', f') = ap Some (one_form t tag i tag' j f f').1

@@ -1,16 +1,10 @@
 -- Forms that are tried one after the other, each where those before it found nothing.
-use Rattle.std.proofs.Common.{◌≡◌, List, [], ◌∷◌, ◌++◌, Option, Some, None, MatchOption, subst, sym}
-use Rattle.syslog_text.specs.Pieces.Class.{Text, NoDivision}
-use Rattle.syslog_sent.proofs.DialectLemmas.{here}
+use Rattle.syslog_dated_forms.proofs.Names.{[], ◌++◌, ◌∷◌, ◌≡◌, Dialect, Finds, Form, here, IsLed, IsOfNone, Led, List}
+use Rattle.syslog_dated_forms.proofs.Names.{match_map, MatchOption, NoDivision, None, Option, Sent, sent_value, Some}
+use Rattle.syslog_dated_forms.proofs.Names.{subst, sym, Text}
 use Rattle.syslog_sent.proofs.FormLemmas.{found_later}
-use Rattle.syslog_sent.specs.Forms.{Finds, IsOfNone}
 use Rattle.syslog_dated_forms.proofs.LedFormLemmas.{found_alone}
-use Rattle.syslog_sent.specs.Sent.{Form, Sends, sent_value}
-use Rattle.syslog_sent.specs.declared.dialect.Dialect.{Dialect}
-use Rattle.syslog_sent.specs.declared.sent.Sent.{Sent}
-use Rattle.syslog_sent.specs.Led.{IsLed}
-use Rattle.syslog_sent.specs.declared.led.Led.{Led}
-use Rattle.syslog_text.proofs.PieceLemmas.Class.{match_map}
+use Rattle.syslog_sent.specs.Sent.{Sends}
 
 -- what a reader of forms returns
 abbrev pub Answer : Type 0

@@ -1,8 +1,6 @@
-use Rattle.std.proofs.Common.{◌≡◌, ◌∙◌, None, Some, ap, false, sym, true}
-use Rattle.std.specs.Str.{chars}
+use Rattle.syslog_dated_forms.proofs.Names.{◌∙◌, ◌≡◌, ap, chars, false, front_of, front_same, host_det, None, Some, sym}
+use Rattle.syslog_dated_forms.proofs.Names.{true}
 use Rattle.syslog_text.specs.Text.{host}
-use Rattle.syslog_text.proofs.PieceLemmas.Class.{front_of, front_same}
-use Rattle.syslog_text.proofs.TextLemmas.Words.{host_det}
 use Rattle.syslog_dated_forms.specs.Address.{is_address}
 use Rattle.syslog_dated_forms.proofs.CiscoLemmas.{none_begun}
 use Rattle.syslog_dated_forms.proofs.address.address.Goals as goal

@@ -1,8 +1,4 @@
-use denote.Text.{Utf8}
-use denote.Shadow.{shadow}
-use Rattle.std.proofs.Common.{◌≡◌, length}
-use Rattle.std.specs.Str.{chars}
-use Rattle.syslog_dated_forms.specs.Address.{are_address_chars}
+use Rattle.syslog_dated_forms.proofs.Names.{◌≡◌, are_address_chars, chars, length, shadow, Utf8}
 use Rattle.syslog_dated_forms.proofs.address.are_address_chars.Given as goal
 
 abbrev pub invariant-characters : goal.invariant-characters

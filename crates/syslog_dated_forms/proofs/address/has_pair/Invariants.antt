@@ -1,8 +1,4 @@
-use denote.Text.{Utf8}
-use denote.Shadow.{shadow}
-use Rattle.std.proofs.Common.{◌≡◌, length}
-use Rattle.std.specs.Str.{chars}
-use Rattle.syslog_dated_forms.specs.Address.{has_pair}
+use Rattle.syslog_dated_forms.proofs.Names.{◌≡◌, chars, has_pair, length, shadow, Utf8}
 use Rattle.syslog_dated_forms.proofs.address.has_pair.Given as goal
 
 abbrev pub invariant-characters : goal.invariant-characters

@@ -1,5 +1,4 @@
-use Rattle.std.proofs.Common.{◌≡◌, length, arith}
-use Rattle.std.proofs.lemmas.Bool.Decides.{nat_tests}
+use Rattle.syslog_dated_forms.proofs.Names.{◌≡◌, arith, length, nat_tests}
 use Rattle.syslog_sent.proofs.LedLemmas.{one_end}
 use Rattle.syslog_dated_forms.proofs.cisco.are_one_end.Goals as goal
 

@@ -1,4 +1,5 @@
-use Rattle.syslog_dated_forms.{proofs.CiscoLemmas.context_row_det, specs.Cisco.context_row}
+use Rattle.syslog_dated_forms.proofs.Names.{context_row}
+use Rattle.syslog_dated_forms.proofs.CiscoLemmas.{context_row_det}
 use Rattle.syslog_dated_forms.proofs.ChainLemmas.{◌next◌, chain_row, end}
 use Rattle.syslog_dated_forms.proofs.cisco.context_end.Goals as goal
 

@@ -1,10 +1,5 @@
-use Rattle.std.proofs.Common.{inl}
-use Rattle.std.specs.Char.{is_ascii_digit}
-use Rattle.std.specs.Str.{chars}
-use Rattle.syslog_text.specs.Pieces.Class.{some_run}
-use Rattle.syslog_text.proofs.TextLemmas.Runs.{ends_digits, no_run}
-use Rattle.syslog_text.proofs.PieceLemmas.Class.{no_row}
-use Rattle.syslog_dated_forms.specs.Cisco.{counter_row}
+use Rattle.syslog_dated_forms.proofs.Names.{chars, counter_row, inl, is_ascii_digit, no_row, no_run, some_run}
+use Rattle.syslog_text.proofs.TextLemmas.Runs.{ends_digits}
 use Rattle.syslog_dated_forms.proofs.CiscoLemmas.{counter_row_det}
 use Rattle.syslog_dated_forms.proofs.ChainLemmas.{◌next◌, chain_row, end}
 use Rattle.syslog_dated_forms.proofs.cisco.counter.Goals as goal

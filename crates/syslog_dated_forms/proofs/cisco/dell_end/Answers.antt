@@ -1,4 +1,5 @@
-use Rattle.syslog_dated_forms.{proofs.CiscoLemmas.dell_row_det, specs.Cisco.dell_row}
+use Rattle.syslog_dated_forms.proofs.Names.{dell_row}
+use Rattle.syslog_dated_forms.proofs.CiscoLemmas.{dell_row_det}
 use Rattle.syslog_dated_forms.proofs.ChainLemmas.{◌next◌, chain_row, end}
 use Rattle.syslog_dated_forms.proofs.cisco.dell_end.Goals as goal
 

@@ -1,9 +1,6 @@
-use Rattle.std.proofs.Common.{ℕ, inl, refl}
-use Rattle.syslog_text.proofs.PieceLemmas.Class.{◌past◌, ◌then◌, mapped_front, row_of}
-use Rattle.syslog_text.specs.Pieces.Class.{Row}
-use Rattle.syslog_dated_forms.specs.Cisco.{front_year_row}
+use Rattle.syslog_dated_forms.proofs.Names.{◌past◌, ◌then◌, front_year_row, inl, mapped_front, refl, Row, row_of}
+use Rattle.syslog_dated_forms.proofs.Names.{unread, ℕ}
 use Rattle.syslog_dated_forms.proofs.CiscoLemmas.{front_year_row_det}
-use Rattle.syslog_sent.proofs.NamedLemmas.{unread}
 use Rattle.syslog_dated_forms.proofs.cisco.front_year.Goals as goal
 
 pub returns-in_err-rest : goal.returns-in_err-rest

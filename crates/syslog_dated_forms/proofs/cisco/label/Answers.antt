@@ -1,9 +1,6 @@
-use Rattle.std.proofs.Common.{inl, refl}
-use Rattle.syslog_text.proofs.PieceLemmas.Class.{◌past◌, ◌then◌, mapped_front, row_of}
-use Rattle.syslog_text.specs.Pieces.Class.{Row, Text}
-use Rattle.syslog_dated_forms.specs.Cisco.{label_row}
+use Rattle.syslog_dated_forms.proofs.Names.{◌past◌, ◌then◌, inl, label_row, mapped_front, refl, Row, row_of, Text}
+use Rattle.syslog_dated_forms.proofs.Names.{unread}
 use Rattle.syslog_dated_forms.proofs.CiscoLemmas.{label_row_det}
-use Rattle.syslog_sent.proofs.NamedLemmas.{unread}
 use Rattle.syslog_dated_forms.proofs.cisco.label.Goals as goal
 
 pub returns-in_err-host : goal.returns-in_err-host

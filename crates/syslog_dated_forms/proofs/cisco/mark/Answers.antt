@@ -1,6 +1,5 @@
-use Rattle.std.proofs.Common.{[], ◌∷◌}
+use Rattle.syslog_dated_forms.proofs.Names.{[], ◌∷◌, exactly}
 use Rattle.syslog_text.proofs.PieceLemmas.Rules.{first_of, second_of, skips}
-use Rattle.syslog_text.specs.Pieces.Class.{exactly}
 use Rattle.syslog_dated_forms.proofs.cisco.mark.Goals as goal
 
 pub returns-in-Some : goal.returns-in-Some

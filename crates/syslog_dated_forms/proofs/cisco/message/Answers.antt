@@ -1,6 +1,4 @@
-use Rattle.std.proofs.Common.{inl, refl}
-use Rattle.syslog_text.proofs.PieceLemmas.Class.{◌past◌, ◌then◌, no_row, rest_front, row_of}
-use Rattle.syslog_dated_forms.specs.Cisco.{message_row}
+use Rattle.syslog_dated_forms.proofs.Names.{◌past◌, ◌then◌, inl, message_row, no_row, refl, rest_front, row_of}
 use Rattle.syslog_dated_forms.proofs.CiscoLemmas.{message_row_det}
 use Rattle.syslog_dated_forms.proofs.cisco.message.Goals as goal
 

@@ -1,10 +1,6 @@
-use Rattle.std.proofs.Common.{[], ◌∷◌, ◌++◌, nat_eq, subst}
-use Rattle.std.proofs.lemmas.Bool.{and_parts}
-use Rattle.std.specs.Prelude.{◌||◌}
-use Rattle.syslog_text.specs.Pieces.Class.{Text}
+use Rattle.syslog_dated_forms.proofs.Names.{[], ◌++◌, ◌||◌, ◌∷◌, and_parts, begins_mnemonic, BeginsWith, is_letter}
+use Rattle.syslog_dated_forms.proofs.Names.{IsMnemonic, nat_eq, subst, Text}
 use Rattle.syslog_dated_forms.proofs.ReaderLemmas.{such_word}
-use Rattle.syslog_dated_forms.specs.Cisco.{IsMnemonic, begins_mnemonic}
-use Rattle.syslog_sent.specs.Named.{BeginsWith, is_letter}
 use Rattle.syslog_dated_forms.proofs.cisco.mnemonic.Goals as goal
 
 mnemonic_begins : (w q : Text) → IsMnemonic w → BeginsWith begins_mnemonic (w ++ q)

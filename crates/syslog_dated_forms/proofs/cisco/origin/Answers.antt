@@ -1,10 +1,5 @@
-use Rattle.std.proofs.Common.{inl}
-use Rattle.syslog_text.proofs.PieceLemmas.Class.{front_of, mapped_front, match_map, no_mapped}
-use Rattle.syslog_text.specs.Pieces.Class.{Text}
-use Rattle.syslog_sent.specs.Named.{◌otherwise◌}
-use Rattle.syslog_sent.proofs.NamedLemmas.{no_otherwise, second_front}
-use Rattle.syslog_dated_forms.specs.Address.{address}
-use Rattle.syslog_dated_forms.specs.Cisco.{host_of, word_origin}
+use Rattle.syslog_dated_forms.proofs.Names.{◌otherwise◌, address, front_of, host_of, inl, mapped_front, match_map}
+use Rattle.syslog_dated_forms.proofs.Names.{no_mapped, no_otherwise, second_front, Text, word_origin}
 use Rattle.syslog_dated_forms.proofs.cisco.origin.Goals as goal
 
 pub returns-in-Some : goal.returns-in-Some

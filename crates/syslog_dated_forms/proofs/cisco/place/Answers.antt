@@ -1,7 +1,4 @@
-use Rattle.std.proofs.Common.{Option, refl}
-use Rattle.syslog_text.proofs.PieceLemmas.Class.{◌then◌, mapped_front, row_of}
-use Rattle.syslog_text.specs.Pieces.Class.{Row, Text}
-use Rattle.syslog_dated_forms.specs.Cisco.{place_row, unit}
+use Rattle.syslog_dated_forms.proofs.Names.{◌then◌, mapped_front, Option, place_row, refl, Row, row_of, Text, unit}
 use Rattle.syslog_dated_forms.proofs.ReaderLemmas.{skipped}
 use Rattle.syslog_dated_forms.proofs.cisco.place.Goals as goal
 

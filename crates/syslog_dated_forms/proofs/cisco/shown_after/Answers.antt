@@ -1,6 +1,4 @@
-use Rattle.std.proofs.Common.{inl, refl}
-use Rattle.syslog_text.proofs.PieceLemmas.Class.{◌past◌, ◌then◌, no_row, row_of}
-use Rattle.syslog_dated_forms.specs.Cisco.{cisco_row, date_row}
+use Rattle.syslog_dated_forms.proofs.Names.{◌past◌, ◌then◌, cisco_row, date_row, inl, no_row, refl, row_of}
 use Rattle.syslog_dated_forms.proofs.CiscoLemmas.{cisco_row_det}
 use Rattle.syslog_dated_forms.proofs.cisco.shown_after.Goals as goal
 

@@ -1,6 +1,5 @@
-use Rattle.syslog_sent.proofs.LedLemmas.{any_front}
+use Rattle.syslog_dated_forms.proofs.Names.{any_front, Iso, Month}
 use Rattle.syslog_dated_forms.proofs.MonthFrontLemmas.{bare_start, bare_year, has_month}
-use Rattle.syslog_sent.specs.declared.led.LeadingDate.TheVariants.{Month, Iso}
 use Rattle.syslog_dated_forms.proofs.cisco.shown_led.Goals as goal
 
 pub returns-in-Month : goal.returns-in-Month

@@ -1,6 +1,4 @@
-use Rattle.std.proofs.Common.{inl}
-use Rattle.syslog_text.proofs.PieceLemmas.Class.{◌past◌, no_row}
-use Rattle.syslog_dated_forms.specs.Cisco.{cisco_row, date_row}
+use Rattle.syslog_dated_forms.proofs.Names.{◌past◌, cisco_row, date_row, inl, no_row}
 use Rattle.syslog_dated_forms.proofs.CiscoLemmas.{cisco_row_det, date_row_det}
 use Rattle.syslog_dated_forms.proofs.cisco.shown_line.Goals as goal
 

@@ -1,7 +1,5 @@
-use Rattle.std.proofs.Common.{Option, refl}
-use Rattle.syslog_text.proofs.PieceLemmas.Class.{◌then◌, mapped_front, row_of}
-use Rattle.syslog_text.specs.Pieces.Class.{Row, Text}
-use Rattle.syslog_dated_forms.specs.Cisco.{labelled, start_row, counter_row, task_row, mark}
+use Rattle.syslog_dated_forms.proofs.Names.{◌then◌, counter_row, labelled, mapped_front, mark, Option, refl, Row}
+use Rattle.syslog_dated_forms.proofs.Names.{row_of, start_row, task_row, Text}
 use Rattle.syslog_dated_forms.proofs.ReaderLemmas.{skipped}
 use Rattle.syslog_dated_forms.proofs.cisco.start.Goals as goal
 

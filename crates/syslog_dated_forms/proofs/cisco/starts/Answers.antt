@@ -1,5 +1,5 @@
+use Rattle.syslog_dated_forms.proofs.Names.{exactly}
 use Rattle.syslog_text.proofs.PieceLemmas.Class.{no_front_no}
-use Rattle.syslog_text.specs.Pieces.Class.{exactly}
 use Rattle.syslog_dated_forms.proofs.cisco.starts.Goals as goal
 
 pub returns-in-Some : goal.returns-in-Some

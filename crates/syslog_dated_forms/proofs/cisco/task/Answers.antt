@@ -1,4 +1,4 @@
-use Rattle.syslog_dated_forms.specs.Cisco.{task_row}
+use Rattle.syslog_dated_forms.proofs.Names.{task_row}
 use Rattle.syslog_dated_forms.proofs.CiscoLemmas.{task_row_det}
 use Rattle.syslog_dated_forms.proofs.ChainLemmas.{◌next◌, chain_row, end}
 use Rattle.syslog_dated_forms.proofs.cisco.task.Goals as goal

@@ -1,4 +1,5 @@
-use Rattle.syslog_dated_forms.{proofs.CiscoLemmas.unit_row_det, specs.Cisco.unit_row}
+use Rattle.syslog_dated_forms.proofs.Names.{unit_row}
+use Rattle.syslog_dated_forms.proofs.CiscoLemmas.{unit_row_det}
 use Rattle.syslog_dated_forms.proofs.ChainLemmas.{◌next◌, chain_row, end}
 use Rattle.syslog_dated_forms.proofs.cisco.unit_end.Goals as goal
 

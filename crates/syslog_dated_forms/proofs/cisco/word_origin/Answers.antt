@@ -1,5 +1,5 @@
-use Rattle.syslog_sent.specs.Named.{BeginsWith}
-use Rattle.syslog_dated_forms.{proofs.ReaderLemmas.such_word, specs.Cisco.begins_host}
+use Rattle.syslog_dated_forms.proofs.Names.{begins_host, BeginsWith}
+use Rattle.syslog_dated_forms.proofs.ReaderLemmas.{such_word}
 use Rattle.syslog_dated_forms.proofs.cisco.word_origin.Goals as goal
 
 pub returns : goal.returns

@@ -1,4 +1,4 @@
-use Rattle.syslog_dated_forms.specs.Container.{stream_row}
+use Rattle.syslog_dated_forms.proofs.Names.{stream_row}
 use Rattle.syslog_dated_forms.proofs.RowLemmas.{stream_row_det}
 use Rattle.syslog_dated_forms.proofs.ChainLemmas.{◌next◌, chain_row, end}
 use Rattle.syslog_dated_forms.proofs.container.past_stream.Goals as goal

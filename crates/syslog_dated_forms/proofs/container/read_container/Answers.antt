@@ -1,10 +1,6 @@
-use Rattle.std.proofs.Common.{Some, None, inl, refl}
-use Rattle.syslog_text.proofs.PieceLemmas.Class.{◌past◌, ◌then◌, row_of}
-use Rattle.syslog_dated_forms.specs.Container.{container_row}
-use Rattle.syslog_sent.specs.Sent.{loose}
+use Rattle.syslog_dated_forms.proofs.Names.{◌past◌, ◌then◌, beginning_front, container_row, inl, loose, no_beginning}
+use Rattle.syslog_dated_forms.proofs.Names.{None, refl, row_of, says_once, Some}
 use Rattle.syslog_dated_forms.proofs.RowLemmas.{container_row_det}
-use Rattle.syslog_sent.proofs.NamedLemmas.{beginning_front, no_beginning}
-use Rattle.syslog_sent.proofs.FormLemmas.{says_once}
 use Rattle.syslog_sent.specs.declared.dialect.Dialect.TheVariants.{Container}
 use Rattle.syslog_dated_forms.proofs.ChainLemmas.{undivided}
 use Rattle.syslog_dated_forms.proofs.container.read_container.Goals as goal

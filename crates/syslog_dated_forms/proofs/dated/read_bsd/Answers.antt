@@ -1,15 +1,10 @@
-use Rattle.std.proofs.Common.{inl, refl}
-use Rattle.syslog_text.proofs.PieceLemmas.Class.{◌past◌, ◌then◌, mapped_front, no_mapped, row_det, row_of}
-use Rattle.syslog_text.proofs.PieceLemmas.Rules.{no_such_meaning, such_front}
-use Rattle.syslog_text.specs.Pieces.Class.{Row}
-use Rattle.syslog_text.specs.Pieces.Rules.{such_that}
-use Rattle.syslog_sent.specs.Date.{IsOdd, bsd_of, bsd_row as date_row}
-use Rattle.syslog_dated_forms.specs.Dated.{dated_sent, bsd_row}
+use Rattle.syslog_dated_forms.proofs.Names.{◌past◌, ◌then◌, bsd_of, BsdDate, dated_sent, inl, IsOdd, mapped_front}
+use Rattle.syslog_dated_forms.proofs.Names.{no_mapped, no_such_meaning, refl, Row, row_det, row_of, says_once, SentDate}
+use Rattle.syslog_dated_forms.proofs.Names.{such_front, such_that}
+use Rattle.syslog_sent.specs.Date.{bsd_row as date_row}
+use Rattle.syslog_dated_forms.specs.Dated.{bsd_row}
 use Rattle.syslog_sent.proofs.DateLemmas.{bsd_det, not_plain, odd_told}
 use Rattle.syslog_dated_forms.proofs.RowLemmas.{bsd_line_det}
-use Rattle.syslog_sent.proofs.FormLemmas.{says_once}
-use Rattle.syslog_sent.specs.declared.dialect.Dialect.TheVariants.{BsdDate}
-use Rattle.syslog_sent.specs.declared.sent.SentDate.{SentDate}
 use Rattle.syslog_dated_forms.proofs.ChainLemmas.{undivided}
 use Rattle.syslog_dated_forms.proofs.dated.read_bsd.Goals as goal
 

@@ -1,11 +1,7 @@
-use Rattle.std.proofs.Common.{drop, refl, take}
-use Rattle.syslog_text.proofs.PieceLemmas.Class.{◌past◌, ◌then◌, row_of}
-use Rattle.syslog_dated_forms.specs.Dated.{ctime_row, dated_sent}
+use Rattle.syslog_dated_forms.proofs.Names.{◌past◌, ◌then◌, bsd_date, BsdDate, ctime_row, dated_sent, drop, refl}
+use Rattle.syslog_dated_forms.proofs.Names.{row_of, says_once, take}
 use Rattle.syslog_dated_forms.proofs.ChainLemmas.{◌next◌, chain_fails, chain_reads, end, undivided}
 use Rattle.syslog_dated_forms.proofs.RowLemmas.{ctime_line_det}
-use Rattle.syslog_sent.proofs.FormLemmas.{says_once}
-use Rattle.syslog_sent.specs.Date.{bsd_date}
-use Rattle.syslog_sent.specs.declared.dialect.Dialect.TheVariants.{BsdDate}
 use Rattle.syslog_dated_forms.proofs.dated.read_ctime.Goals as goal
 
 pub returns-in_err-date : goal.returns-in_err-date

@@ -1,12 +1,8 @@
-use Rattle.std.proofs.Common.{drop, inl, refl, take}
-use Rattle.syslog_text.proofs.PieceLemmas.Class.{◌past◌, ◌then◌, row_of}
-use Rattle.syslog_dated_forms.specs.Dated.{ctime_message_row, ctime_message_sent}
+use Rattle.syslog_dated_forms.proofs.Names.{◌past◌, ◌then◌, beginning_front, Bracketed, bsd_date, ctime_message_row}
+use Rattle.syslog_dated_forms.proofs.Names.{drop, inl, no_beginning, refl, row_of, says_once, take}
+use Rattle.syslog_dated_forms.specs.Dated.{ctime_message_sent}
 use Rattle.syslog_dated_forms.proofs.ChainLemmas.{◌next◌, chain_fails, chain_past, chain_reads, end, undivided}
 use Rattle.syslog_dated_forms.proofs.RowLemmas.{ctime_message_det}
-use Rattle.syslog_sent.proofs.FormLemmas.{says_once}
-use Rattle.syslog_sent.proofs.NamedLemmas.{beginning_front, no_beginning}
-use Rattle.syslog_sent.specs.Date.{bsd_date}
-use Rattle.syslog_sent.specs.declared.dialect.Dialect.TheVariants.{Bracketed}
 use Rattle.syslog_dated_forms.proofs.dated.read_ctime_message.Goals as goal
 
 pub returns-in_err-date : goal.returns-in_err-date

@@ -1,12 +1,7 @@
-use Rattle.std.proofs.Common.{inl, refl}
-use Rattle.syslog_text.proofs.PieceLemmas.Class.{◌past◌, ◌then◌, row_of}
-use Rattle.syslog_pieces.specs.Timestamp.{header_stamp}
-use Rattle.syslog_sent.specs.Date.{iso_date}
-use Rattle.syslog_dated_forms.specs.Dated.{dated_sent, iso_row}
+use Rattle.syslog_dated_forms.proofs.Names.{◌past◌, ◌then◌, dated_sent, header_stamp, inl, iso_date, iso_row}
+use Rattle.syslog_dated_forms.proofs.Names.{NearlyRfc3339, refl, row_of, says_once}
 use Rattle.syslog_sent.proofs.DateLemmas.{no_unless, unless_front}
 use Rattle.syslog_dated_forms.proofs.RowLemmas.{iso_line_det}
-use Rattle.syslog_sent.proofs.FormLemmas.{says_once}
-use Rattle.syslog_sent.specs.declared.dialect.Dialect.TheVariants.{NearlyRfc3339}
 use Rattle.syslog_dated_forms.proofs.ChainLemmas.{undivided}
 use Rattle.syslog_dated_forms.proofs.dated.read_iso.Goals as goal
 

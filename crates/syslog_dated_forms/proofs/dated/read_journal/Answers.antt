@@ -1,10 +1,7 @@
-use Rattle.std.proofs.Common.{drop, refl, take}
-use Rattle.syslog_text.proofs.PieceLemmas.Class.{◌past◌, ◌then◌, row_of}
-use Rattle.syslog_dated_forms.specs.Dated.{dated_sent, journal_row}
+use Rattle.syslog_dated_forms.proofs.Names.{◌past◌, ◌then◌, dated_sent, drop, iso_date, journal_row, refl, row_of}
+use Rattle.syslog_dated_forms.proofs.Names.{says_once, take}
 use Rattle.syslog_dated_forms.proofs.ChainLemmas.{◌next◌, chain_fails, chain_reads, end, undivided}
 use Rattle.syslog_dated_forms.proofs.RowLemmas.{journal_line_det}
-use Rattle.syslog_sent.proofs.FormLemmas.{says_once}
-use Rattle.syslog_sent.specs.Date.{iso_date}
 use Rattle.syslog_sent.specs.declared.dialect.Dialect.TheVariants.{Journal}
 use Rattle.syslog_dated_forms.proofs.dated.read_journal.Goals as goal
 

@@ -1,9 +1,5 @@
-use Rattle.std.proofs.Common.{inl, refl}
-use Rattle.syslog_text.proofs.PieceLemmas.Class.{◌past◌, ◌then◌, row_of}
-use Rattle.syslog_dated_forms.specs.Dated.{dated_sent, year_row}
+use Rattle.syslog_dated_forms.proofs.Names.{◌past◌, ◌then◌, BsdDate, dated_sent, inl, refl, row_of, says_once, year_row}
 use Rattle.syslog_dated_forms.proofs.RowLemmas.{year_line_det}
-use Rattle.syslog_sent.proofs.FormLemmas.{says_once}
-use Rattle.syslog_sent.specs.declared.dialect.Dialect.TheVariants.{BsdDate}
 use Rattle.syslog_dated_forms.proofs.ChainLemmas.{undivided}
 use Rattle.syslog_dated_forms.proofs.dated.read_year.Goals as goal
 

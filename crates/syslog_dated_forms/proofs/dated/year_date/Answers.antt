@@ -1,11 +1,6 @@
-use Rattle.std.proofs.Common.{inl, Some, refl}
-use Rattle.syslog_text.proofs.PieceLemmas.Class.{◌past◌, ◌then◌, mapped_front, row_of}
-use Rattle.syslog_text.specs.Pieces.Class.{Row}
-use Rattle.syslog_dated_forms.specs.Cisco.{dated_in}
-use Rattle.syslog_dated_forms.specs.Dated.{year_date_row}
+use Rattle.syslog_dated_forms.proofs.Names.{◌past◌, ◌then◌, dated_in, inl, mapped_front, refl, Row, row_of, SentDate}
+use Rattle.syslog_dated_forms.proofs.Names.{Some, unread, year_date_row}
 use Rattle.syslog_dated_forms.proofs.RowLemmas.{year_date_det}
-use Rattle.syslog_sent.specs.declared.sent.SentDate.{SentDate}
-use Rattle.syslog_sent.proofs.NamedLemmas.{unread}
 use Rattle.syslog_dated_forms.proofs.dated.year_date.Goals as goal
 
 pub returns-in_err-year : goal.returns-in_err-year

@@ -1,8 +1,6 @@
-use Rattle.std.proofs.Common.{[], ◌∷◌}
-use Rattle.syslog_sent.proofs.DialectLemmas.{here, later}
+use Rattle.syslog_dated_forms.proofs.Names.{[], ◌∷◌, bsd_form, here, iso_form, NearlyRfc3339}
+use Rattle.syslog_sent.proofs.DialectLemmas.{later}
 use Rattle.syslog_dated_forms.proofs.LedFormLemmas.{no_odd_month}
-use Rattle.syslog_dated_forms.specs.Dated.{bsd_form, iso_form}
-use Rattle.syslog_sent.specs.declared.dialect.Dialect.TheVariants.{NearlyRfc3339}
 use Rattle.syslog_dated_forms.proofs.dated_forms.after_iso.Goals as goal
 
 pub returns-in_err-sent : goal.returns-in_err-sent

@@ -1,8 +1,5 @@
-use Rattle.std.proofs.Common.{[], ◌∷◌}
-use Rattle.syslog_sent.proofs.DialectLemmas.{here}
-use Rattle.syslog_sent.proofs.LedLemmas.{apart}
+use Rattle.syslog_dated_forms.proofs.Names.{[], ◌∷◌, apart, bsd_form, here, iso_form}
 use Rattle.syslog_dated_forms.proofs.LedFormLemmas.{no_odd_iso}
-use Rattle.syslog_dated_forms.specs.Dated.{bsd_form, iso_form}
 use Rattle.syslog_dated_forms.proofs.dated_forms.after_month.Goals as goal
 
 pub returns-in_err-sent : goal.returns-in_err-sent

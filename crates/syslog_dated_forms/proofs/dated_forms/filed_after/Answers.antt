@@ -1,6 +1,5 @@
-use Rattle.syslog_sent.proofs.DialectLemmas.{found_early, found_late}
+use Rattle.syslog_dated_forms.proofs.Names.{filed_forms, found_early, found_late, timed_forms}
 use Rattle.syslog_dated_forms.proofs.OtherFormLemmas.{led_date}
-use Rattle.syslog_dated_forms.specs.{DatedForms.timed_forms, Filed.filed_forms}
 use Rattle.syslog_dated_forms.proofs.dated_forms.filed_after.Goals as goal
 
 pub returns-in-Some : goal.returns-in-Some

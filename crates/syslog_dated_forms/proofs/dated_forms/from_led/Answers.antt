@@ -1,8 +1,10 @@
-use Rattle.std.proofs.Common.{None, refl, take}
+use Rattle.syslog_dated_forms.proofs.Names.{journal_forms, None, refl, take, xr_forms}
 use Rattle.syslog_dated_forms.proofs.LedFormLemmas.{no_led_other, no_led_xr}
 use Rattle.syslog_dated_forms.proofs.TriedLemmas.{Tried, ◌pass◌, ◌turn◌, led_turn, none_after, over}
-use Rattle.syslog_dated_forms.specs.DatedForms.{journal_forms, xr_forms}
-use Rattle.syslog_dated_forms.specs.{Container.container_form, Esxi.esxi_form, Kiwi.kiwi_form, ProCurve.procurve_form}
+use Rattle.syslog_dated_forms.specs.Container.{container_form}
+use Rattle.syslog_dated_forms.specs.Esxi.{esxi_form}
+use Rattle.syslog_dated_forms.specs.Kiwi.{kiwi_form}
+use Rattle.syslog_dated_forms.specs.ProCurve.{procurve_form}
 use Rattle.syslog_dated_forms.proofs.dated_forms.from_led.Goals as goal
 
 pub returns : goal.returns

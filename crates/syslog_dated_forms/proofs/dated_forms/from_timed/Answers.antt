@@ -1,5 +1,4 @@
-use Rattle.std.proofs.Common.{[]}
-use Rattle.syslog_sent.proofs.DialectLemmas.{here}
+use Rattle.syslog_dated_forms.proofs.Names.{[], here}
 use Rattle.syslog_dated_forms.proofs.OtherFormLemmas.{led_date}
 use Rattle.syslog_dated_forms.specs.Undated.{timed_form}
 use Rattle.syslog_dated_forms.proofs.dated_forms.from_timed.Goals as goal

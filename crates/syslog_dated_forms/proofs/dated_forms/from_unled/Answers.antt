@@ -1,10 +1,8 @@
-use Rattle.std.proofs.Common.{None, drop, refl}
+use Rattle.syslog_dated_forms.proofs.Names.{any_date, container_row, drop, esxi_row, iso_date, kiwi_row, None}
+use Rattle.syslog_dated_forms.proofs.Names.{procurve_row, refl, xr_forms}
 use Rattle.syslog_sent.proofs.LedLemmas.{not_iso}
-use Rattle.syslog_sent.specs.Date.{any_date, iso_date}
 use Rattle.syslog_dated_forms.proofs.OtherFormLemmas.{not_begun}
 use Rattle.syslog_dated_forms.proofs.TriedLemmas.{Tried, ◌pass◌, ◌turn◌, over, tried}
-use Rattle.syslog_dated_forms.specs.{Container.container_row, DatedForms.xr_forms, Esxi.esxi_row, Kiwi.kiwi_row}
-use Rattle.syslog_dated_forms.specs.ProCurve.{procurve_row}
 use Rattle.syslog_dated_forms.proofs.dated_forms.from_unled.Goals as goal
 
 pub returns : goal.returns

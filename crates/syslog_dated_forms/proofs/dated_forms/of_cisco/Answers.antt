@@ -1,9 +1,5 @@
-use Rattle.syslog_sent.proofs.DialectLemmas.{found_early, found_late}
+use Rattle.syslog_dated_forms.proofs.Names.{◌++◌, cisco_forms, filed_forms, found_early, found_late, refl, timed_forms}
 use Rattle.syslog_dated_forms.proofs.MarkLemmas.{unmarked_marked}
-use Rattle.std.proofs.Common.{refl, ◌++◌}
-use Rattle.syslog_dated_forms.specs.Cisco.{cisco_forms}
-use Rattle.syslog_dated_forms.specs.DatedForms.{timed_forms}
-use Rattle.syslog_dated_forms.specs.Filed.{filed_forms}
 use Rattle.syslog_dated_forms.proofs.dated_forms.of_cisco.Goals as goal
 
 pub returns-then-not-is_marked : goal.returns-then-not-is_marked

@@ -1,16 +1,10 @@
-use Rattle.std.proofs.Common.{◌++◌, inl, refl}
-use Rattle.syslog_text.specs.Pieces.Class.{Text}
-use Rattle.syslog_text.proofs.PieceLemmas.Class.{◌past◌, no_row, no_row_division, rows_none_here}
-use Rattle.syslog_sent.specs.Forms.{IsOfNone}
+use Rattle.syslog_dated_forms.proofs.Names.{◌++◌, ◌past◌, cisco_forms, filed_forms, filed_front, filed_more, inl}
+use Rattle.syslog_dated_forms.proofs.Names.{IsOfNone, no_row, no_row_division, none_joined, refl, rows_none_here, Text}
+use Rattle.syslog_dated_forms.proofs.Names.{timed_forms, timed_row}
 use Rattle.syslog_sent.specs.Led.{IsUnled}
-use Rattle.syslog_sent.proofs.DialectLemmas.{none_joined}
 use Rattle.syslog_dated_forms.proofs.LedFormLemmas.{found_alone}
 use Rattle.syslog_dated_forms.proofs.FiledLemmas.{filed_front_det, unfiled}
 use Rattle.syslog_dated_forms.proofs.MarkLemmas.{unmarked_marked}
-use Rattle.syslog_dated_forms.specs.Cisco.{cisco_forms}
-use Rattle.syslog_dated_forms.specs.DatedForms.{timed_forms}
-use Rattle.syslog_dated_forms.specs.Filed.{filed_forms, filed_front}
-use Rattle.syslog_dated_forms.specs.Undated.{filed_more, timed_row}
 use Rattle.syslog_dated_forms.proofs.dated_forms.of_unled_cisco.Goals as goal
 
 -- a line that a collector files begins with a date

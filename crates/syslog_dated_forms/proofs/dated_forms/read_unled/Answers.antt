@@ -1,5 +1,4 @@
-use Rattle.syslog_sent.proofs.DialectLemmas.{found_early, found_late}
-use Rattle.syslog_dated_forms.specs.DatedForms.{marked_forms, xr_forms}
+use Rattle.syslog_dated_forms.proofs.Names.{found_early, found_late, marked_forms, xr_forms}
 use Rattle.syslog_dated_forms.proofs.dated_forms.read_unled.Goals as goal
 
 pub returns-in-Some : goal.returns-in-Some

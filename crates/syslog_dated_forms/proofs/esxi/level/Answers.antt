@@ -1,7 +1,6 @@
-use Rattle.std.proofs.Common.{refl}
+use Rattle.syslog_dated_forms.proofs.Names.{is_plain_char, refl}
 use Rattle.syslog_sent.proofs.NamedLemmas.{told}
 use Rattle.syslog_dated_forms.specs.Esxi.{is_level}
-use Rattle.syslog_sent.specs.Runs.{is_plain_char}
 use Rattle.syslog_dated_forms.proofs.esxi.level.Goals as goal
 
 pub returns : goal.returns

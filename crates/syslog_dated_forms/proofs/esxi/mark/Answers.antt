@@ -1,4 +1,4 @@
-use Rattle.syslog_dated_forms.specs.Esxi.{mark_row}
+use Rattle.syslog_dated_forms.proofs.Names.{mark_row}
 use Rattle.syslog_dated_forms.proofs.ChainLemmas.{◌next◌, chain_row, end}
 use Rattle.syslog_dated_forms.proofs.RowLemmas.{mark_row_det}
 use Rattle.syslog_dated_forms.proofs.esxi.mark.Goals as goal

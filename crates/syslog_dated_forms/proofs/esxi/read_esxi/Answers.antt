@@ -1,8 +1,6 @@
-use Rattle.std.proofs.Common.{drop, inl, refl, take}
-use Rattle.syslog_text.proofs.PieceLemmas.Class.{◌past◌, ◌then◌, rest_front, row_of}
-use Rattle.syslog_dated_forms.specs.Esxi.{esxi_row, esxi_sent}
-use Rattle.syslog_sent.proofs.FormLemmas.{says_once}
-use Rattle.syslog_sent.specs.Named.{program}
+use Rattle.syslog_dated_forms.proofs.Names.{◌past◌, ◌then◌, drop, esxi_row, inl, program, refl, rest_front, row_of}
+use Rattle.syslog_dated_forms.proofs.Names.{says_once, take}
+use Rattle.syslog_dated_forms.specs.Esxi.{esxi_sent}
 use Rattle.syslog_dated_forms.proofs.ChainLemmas.{◌next◌, chain_fails, chain_reads, end, undivided}
 use Rattle.syslog_dated_forms.proofs.RowLemmas.{esxi_row_det}
 use Rattle.syslog_sent.specs.declared.dialect.Dialect.TheVariants.{Esxi}

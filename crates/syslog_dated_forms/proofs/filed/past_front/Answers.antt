@@ -1,6 +1,4 @@
-use Rattle.std.proofs.Common.{inl, refl}
-use Rattle.syslog_text.proofs.PieceLemmas.Class.{◌past◌, ◌then◌, no_row, row_of}
-use Rattle.syslog_dated_forms.specs.Filed.{filed_front}
+use Rattle.syslog_dated_forms.proofs.Names.{◌past◌, ◌then◌, filed_front, inl, no_row, refl, row_of}
 use Rattle.syslog_dated_forms.proofs.FiledLemmas.{filed_front_det}
 use Rattle.syslog_dated_forms.proofs.filed.past_front.Goals as goal
 

@@ -1,4 +1,5 @@
-use Rattle.syslog_dated_forms.{proofs.InBracketsLemmas.day_det, specs.InBrackets.day_row}
+use Rattle.syslog_dated_forms.proofs.Names.{day_row}
+use Rattle.syslog_dated_forms.proofs.InBracketsLemmas.{day_det}
 use Rattle.syslog_dated_forms.proofs.ChainLemmas.{◌next◌, chain_row, end}
 use Rattle.syslog_dated_forms.proofs.in_brackets.day.Goals as goal
 

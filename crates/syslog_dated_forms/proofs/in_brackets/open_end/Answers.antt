@@ -1,9 +1,8 @@
-use Rattle.std.proofs.Common.{length, take, drop, arith, refl}
+use Rattle.syslog_dated_forms.proofs.Names.{arith, drop, is_open, length, refl, take}
 use Rattle.std.proofs.lemmas.List.{take_all, drop_all}
 use Rattle.std.proofs.lemmas.Str.{IsCharBoundary-end, IsUtf8-take, IsUtf8-drop, chars_past_char, chars-nil}
 use Rattle.syslog_text.proofs.TextLemmas.Runs.{ends_run}
 use Rattle.syslog_dated_forms.proofs.InBracketsLemmas.{each_open}
-use Rattle.syslog_dated_forms.specs.InBrackets.{is_open}
 use Rattle.syslog_dated_forms.proofs.in_brackets.open_end.Goals as goal
 
 pub returns-in-Some : goal.returns-in-Some

@@ -1,12 +1,7 @@
-use Rattle.std.proofs.Common.{None, Some, ap, inl, refl}
-use Rattle.std.specs.Str.{chars}
-use Rattle.syslog_text.proofs.PieceLemmas.Class.{◌past◌, ◌then◌, rest_front, row_of}
-use Rattle.syslog_dated_forms.specs.InBrackets.{in_brackets_row, in_brackets_sent}
+use Rattle.syslog_dated_forms.proofs.Names.{◌past◌, ◌then◌, ap, Bracketed, chars, in_brackets_row, inl, loose, None}
+use Rattle.syslog_dated_forms.proofs.Names.{refl, rest_front, row_of, says_once, SentDate, Some}
+use Rattle.syslog_dated_forms.specs.InBrackets.{in_brackets_sent}
 use Rattle.syslog_dated_forms.proofs.InBracketsLemmas.{in_brackets_det, no_stamp, stamp_front}
-use Rattle.syslog_sent.proofs.FormLemmas.{says_once}
-use Rattle.syslog_sent.specs.Sent.{loose}
-use Rattle.syslog_sent.specs.declared.dialect.Dialect.TheVariants.{Bracketed}
-use Rattle.syslog_sent.specs.declared.sent.SentDate.{SentDate}
 use Rattle.syslog_dated_forms.proofs.ChainLemmas.{undivided}
 use Rattle.syslog_dated_forms.proofs.in_brackets.read_in_brackets.Goals as goal
 

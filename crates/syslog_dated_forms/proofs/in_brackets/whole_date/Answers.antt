@@ -1,9 +1,6 @@
-use Rattle.std.proofs.Common.{inl, refl}
-use Rattle.syslog_text.proofs.PieceLemmas.Class.{◌past◌, ◌then◌, row_of}
-use Rattle.syslog_dated_forms.specs.InBrackets.{stamp_row, day_row}
+use Rattle.syslog_dated_forms.proofs.Names.{◌past◌, ◌then◌, day_row, inl, refl, Row, row_of, stamp_row}
 use Rattle.syslog_dated_forms.proofs.InBracketsLemmas.{not_whole, stamp_row_det, whole_is}
 use Rattle.syslog_dated_forms.proofs.ChainLemmas.{undivided}
-use Rattle.syslog_text.specs.Pieces.Class.{Row}
 use Rattle.syslog_dated_forms.proofs.ReaderLemmas.{skipped}
 use Rattle.syslog_dated_forms.proofs.in_brackets.whole_date.Goals as goal
 

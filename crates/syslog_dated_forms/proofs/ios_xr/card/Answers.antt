@@ -1,10 +1,6 @@
-use Rattle.std.proofs.Common.{Option, inl, refl}
-use Rattle.syslog_text.proofs.PieceLemmas.Class.{◌past◌, ◌then◌, mapped_front, row_of}
-use Rattle.syslog_text.specs.Pieces.Class.{Row, Text}
-use Rattle.syslog_dated_forms.specs.IosXr.{card_row, host_in}
+use Rattle.syslog_dated_forms.proofs.Names.{◌past◌, ◌then◌, card_row, counter_row, host_in, inl, mapped_front, Option}
+use Rattle.syslog_dated_forms.proofs.Names.{refl, Row, row_of, Text, unread}
 use Rattle.syslog_dated_forms.proofs.RowLemmas.{card_row_det}
-use Rattle.syslog_sent.proofs.NamedLemmas.{unread}
-use Rattle.syslog_dated_forms.specs.Cisco.{counter_row}
 use Rattle.syslog_dated_forms.proofs.ReaderLemmas.{skipped}
 use Rattle.syslog_dated_forms.proofs.ios_xr.card.Goals as goal
 

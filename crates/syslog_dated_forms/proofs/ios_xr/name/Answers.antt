@@ -1,7 +1,7 @@
-use Rattle.std.proofs.Common.{refl}
+use Rattle.syslog_dated_forms.proofs.Names.{refl, some_run}
 use Rattle.syslog_text.proofs.TextLemmas.Runs.{chars_nonempty, empty_is, nonempty_is, no_run_front}
 use Rattle.syslog_text.specs.Text.CharClass.{is_label_char}
-use Rattle.syslog_text.specs.Pieces.Class.{some_run, texted}
+use Rattle.syslog_text.specs.Pieces.Class.{texted}
 use Rattle.syslog_dated_forms.proofs.ios_xr.name.Goals as goal
 
 pub returns-then-is_empty : goal.returns-then-is_empty

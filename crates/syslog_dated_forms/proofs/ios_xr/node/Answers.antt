@@ -1,10 +1,8 @@
-use Rattle.std.proofs.Common.{◌≡◌, inl, inr, ℕ, true, ◌∷◌, ◌++◌, refl, subst}
-use Rattle.std.specs.Prelude.{codes}
-use Rattle.syslog_text.specs.Pieces.Class.{Text}
+use Rattle.syslog_dated_forms.proofs.Names.{◌++◌, ◌∷◌, ◌≡◌, BeginsWith, inl, inr, IsNode, refl, subst, Text, true, ℕ}
 use Rattle.syslog_dated_forms.proofs.ReaderLemmas.{past_such}
 use Rattle.syslog_dated_forms.specs.Cisco.{Starts}
-use Rattle.syslog_dated_forms.specs.IosXr.{IsNode, begins_node}
-use Rattle.syslog_sent.specs.Named.{BeginsWith}
+use Rattle.syslog_dated_forms.specs.IosXr.{begins_node}
+use Rattle.std.specs.Prelude.{codes}
 use Rattle.syslog_dated_forms.proofs.ios_xr.node.Goals as goal
 
 starts_so : (c : ℕ) (words w q : Text) → begins_node c ≡ true → Starts (c ∷ words) w → BeginsWith begins_node (w ++ q)

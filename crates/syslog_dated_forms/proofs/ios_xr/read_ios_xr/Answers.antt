@@ -1,10 +1,7 @@
-use Rattle.std.proofs.Common.{inl, refl}
-use Rattle.syslog_text.proofs.PieceLemmas.Class.{◌past◌, ◌then◌, no_row, row_of}
-use Rattle.syslog_dated_forms.specs.Cisco.{date_row}
-use Rattle.syslog_dated_forms.specs.IosXr.{xr_row, xr_sent}
+use Rattle.syslog_dated_forms.proofs.Names.{◌past◌, ◌then◌, date_row, inl, no_row, refl, row_of, says_once, xr_row}
+use Rattle.syslog_dated_forms.specs.IosXr.{xr_sent}
 use Rattle.syslog_dated_forms.proofs.CiscoLemmas.{date_row_det}
 use Rattle.syslog_dated_forms.proofs.RowLemmas.{xr_row_det}
-use Rattle.syslog_sent.proofs.FormLemmas.{says_once}
 use Rattle.syslog_sent.specs.declared.dialect.Dialect.TheVariants.{CiscoIosXr}
 use Rattle.syslog_dated_forms.proofs.ChainLemmas.{undivided}
 use Rattle.syslog_dated_forms.proofs.ios_xr.read_ios_xr.Goals as goal

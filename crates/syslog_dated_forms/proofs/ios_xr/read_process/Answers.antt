@@ -1,9 +1,7 @@
-use Rattle.std.proofs.Common.{inl, refl}
-use Rattle.syslog_text.proofs.PieceLemmas.Class.{◌past◌, ◌then◌, mapped_front, rest_front, row_of}
-use Rattle.syslog_text.specs.Pieces.Class.{Row, Text}
-use Rattle.syslog_dated_forms.specs.IosXr.{process_in, process_row}
+use Rattle.syslog_dated_forms.proofs.Names.{◌past◌, ◌then◌, inl, mapped_front, process_row, refl, rest_front, Row}
+use Rattle.syslog_dated_forms.proofs.Names.{row_of, Text, unread}
 use Rattle.syslog_dated_forms.proofs.RowLemmas.{process_row_det}
-use Rattle.syslog_sent.proofs.NamedLemmas.{unread}
+use Rattle.syslog_dated_forms.specs.IosXr.{process_in}
 use Rattle.syslog_dated_forms.proofs.ios_xr.read_process.Goals as goal
 
 pub returns-in_err-app : goal.returns-in_err-app

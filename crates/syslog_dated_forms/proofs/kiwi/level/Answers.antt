@@ -1,4 +1,4 @@
-use Rattle.syslog_dated_forms.specs.Kiwi.{level_row}
+use Rattle.syslog_dated_forms.proofs.Names.{level_row}
 use Rattle.syslog_dated_forms.proofs.RowLemmas.{level_row_det}
 use Rattle.syslog_dated_forms.proofs.ChainLemmas.{◌next◌, chain_row, end}
 use Rattle.syslog_dated_forms.proofs.kiwi.level.Goals as goal

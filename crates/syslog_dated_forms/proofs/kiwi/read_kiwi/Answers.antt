@@ -1,9 +1,7 @@
-use Rattle.std.proofs.Common.{inl, refl}
-use Rattle.syslog_text.proofs.PieceLemmas.Class.{◌past◌, ◌then◌, rest_front, row_of}
-use Rattle.syslog_dated_forms.specs.Kiwi.{kiwi_row, kiwi_sent}
-use Rattle.syslog_sent.proofs.FormLemmas.{says_once}
+use Rattle.syslog_dated_forms.proofs.Names.{◌past◌, ◌then◌, inl, kiwi_row, refl, rest_front, row_of, says_once}
+use Rattle.syslog_dated_forms.proofs.Names.{SeverityFirst}
+use Rattle.syslog_dated_forms.specs.Kiwi.{kiwi_sent}
 use Rattle.syslog_dated_forms.proofs.RowLemmas.{kiwi_row_det}
-use Rattle.syslog_sent.specs.declared.dialect.Dialect.TheVariants.{SeverityFirst}
 use Rattle.syslog_dated_forms.proofs.ChainLemmas.{undivided}
 use Rattle.syslog_dated_forms.proofs.kiwi.read_kiwi.Goals as goal
 

@@ -1,10 +1,6 @@
-use Rattle.std.proofs.Common.{inl, refl}
-use Rattle.syslog_text.proofs.PieceLemmas.Class.{◌past◌, ◌then◌, row_of}
-use Rattle.syslog_dated_forms.specs.NetScaler.{netscaler_row}
-use Rattle.syslog_dated_forms.specs.Dated.{dated_sent}
+use Rattle.syslog_dated_forms.proofs.Names.{◌past◌, ◌then◌, dated_sent, inl, NetScaler, netscaler_row, refl, row_of}
+use Rattle.syslog_dated_forms.proofs.Names.{says_once}
 use Rattle.syslog_dated_forms.proofs.RowLemmas.{netscaler_row_det}
-use Rattle.syslog_sent.proofs.FormLemmas.{says_once}
-use Rattle.syslog_sent.specs.declared.dialect.Dialect.TheVariants.{NetScaler}
 use Rattle.syslog_dated_forms.proofs.ChainLemmas.{undivided}
 use Rattle.syslog_dated_forms.proofs.netscaler.read_netscaler.Goals as goal
 

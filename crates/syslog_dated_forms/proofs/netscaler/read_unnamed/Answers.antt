@@ -1,9 +1,7 @@
-use Rattle.std.proofs.Common.{inl, refl}
-use Rattle.syslog_text.proofs.PieceLemmas.Class.{◌past◌, ◌then◌, rest_front, row_of}
-use Rattle.syslog_dated_forms.specs.NetScaler.{unnamed_row, unnamed_sent}
+use Rattle.syslog_dated_forms.proofs.Names.{◌past◌, ◌then◌, inl, NetScaler, refl, rest_front, row_of, says_once}
+use Rattle.syslog_dated_forms.proofs.Names.{unnamed_row}
+use Rattle.syslog_dated_forms.specs.NetScaler.{unnamed_sent}
 use Rattle.syslog_dated_forms.proofs.RowLemmas.{unnamed_row_det}
-use Rattle.syslog_sent.proofs.FormLemmas.{says_once}
-use Rattle.syslog_sent.specs.declared.dialect.Dialect.TheVariants.{NetScaler}
 use Rattle.syslog_dated_forms.proofs.ChainLemmas.{undivided}
 use Rattle.syslog_dated_forms.proofs.netscaler.read_unnamed.Goals as goal
 

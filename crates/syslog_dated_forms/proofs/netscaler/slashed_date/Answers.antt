@@ -1,10 +1,6 @@
-use Rattle.std.proofs.Common.{inl, refl}
-use Rattle.syslog_text.proofs.PieceLemmas.Class.{◌past◌, ◌then◌, mapped_front, row_of}
-use Rattle.syslog_text.specs.Pieces.Class.{Row}
-use Rattle.syslog_dated_forms.specs.NetScaler.{slashed_of, slashed_row}
+use Rattle.syslog_dated_forms.proofs.Names.{◌past◌, ◌then◌, inl, mapped_front, refl, Row, row_of, SentDate, slashed_of}
+use Rattle.syslog_dated_forms.proofs.Names.{slashed_row, unread}
 use Rattle.syslog_dated_forms.proofs.RowLemmas.{slashed_row_det}
-use Rattle.syslog_sent.proofs.NamedLemmas.{unread}
-use Rattle.syslog_sent.specs.declared.sent.SentDate.{SentDate}
 use Rattle.syslog_dated_forms.proofs.netscaler.slashed_date.Goals as goal
 
 pub returns-in_err-day : goal.returns-in_err-day

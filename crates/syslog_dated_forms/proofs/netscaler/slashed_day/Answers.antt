@@ -1,9 +1,5 @@
-use Rattle.std.proofs.Common.{ℕ}
-use Rattle.syslog_text.proofs.PieceLemmas.Class.{match_map, mapped_front, no_mapped}
-use Rattle.syslog_text.specs.Pieces.Class.{Row}
-use Rattle.syslog_dated_forms.specs.NetScaler.{day_of, month_first_row, year_first_row}
-use Rattle.syslog_sent.proofs.NamedLemmas.{first_front, no_otherwise, second_front}
-use Rattle.syslog_sent.specs.Named.{◌otherwise◌}
+use Rattle.syslog_dated_forms.proofs.Names.{◌otherwise◌, day_of, first_front, mapped_front, match_map, month_first_row}
+use Rattle.syslog_dated_forms.proofs.Names.{no_mapped, no_otherwise, Row, second_front, year_first_row, ℕ}
 use Rattle.syslog_dated_forms.proofs.netscaler.slashed_day.Goals as goal
 
 pub returns-in-Some : goal.returns-in-Some

@@ -1,5 +1,5 @@
-use Rattle.syslog_text.proofs.PieceLemmas.Class.{match_map, no_spaced_piece, no_spaced_space, spaced_front}
-use Rattle.syslog_pieces.specs.Timestamp.Rfc3339.{year}
+use Rattle.syslog_dated_forms.proofs.Names.{match_map, year}
+use Rattle.syslog_text.proofs.PieceLemmas.Class.{no_spaced_piece, no_spaced_space, spaced_front}
 use Rattle.syslog_dated_forms.proofs.netscaler.slashed_year.Goals as goal
 
 pub returns-in_err-rest : goal.returns-in_err-rest

@@ -1,6 +1,4 @@
-use Rattle.std.proofs.Common.{inl, refl}
-use Rattle.syslog_text.proofs.PieceLemmas.Class.{◌past◌, ◌then◌, no_row, row_of}
-use Rattle.syslog_dated_forms.specs.NetScaler.{year_first_row}
+use Rattle.syslog_dated_forms.proofs.Names.{◌past◌, ◌then◌, inl, no_row, refl, row_of, year_first_row}
 use Rattle.syslog_dated_forms.proofs.RowLemmas.{year_first_row_det}
 use Rattle.syslog_dated_forms.proofs.netscaler.year_first.Goals as goal
 

@@ -1,12 +1,8 @@
-use Rattle.std.proofs.Common.{drop, refl, take}
-use Rattle.syslog_text.proofs.PieceLemmas.Class.{◌past◌, ◌then◌, rest_front, row_of}
-use Rattle.syslog_dated_forms.specs.OpenWrt.{logread_row, logread_sent}
-use Rattle.syslog_sent.proofs.FormLemmas.{says_once}
-use Rattle.syslog_sent.specs.Date.{any_date}
-use Rattle.syslog_sent.specs.Named.{program}
+use Rattle.syslog_dated_forms.proofs.Names.{◌past◌, ◌then◌, any_date, drop, logread_row, program, refl, rest_front}
+use Rattle.syslog_dated_forms.proofs.Names.{row_of, says_once, SeverityFirst, take}
+use Rattle.syslog_dated_forms.specs.OpenWrt.{logread_sent}
 use Rattle.syslog_dated_forms.proofs.ChainLemmas.{◌next◌, chain_fails, chain_past, chain_reads, end, undivided}
 use Rattle.syslog_dated_forms.proofs.RowLemmas.{logread_row_det}
-use Rattle.syslog_sent.specs.declared.dialect.Dialect.TheVariants.{SeverityFirst}
 use Rattle.syslog_dated_forms.proofs.open_wrt.read_logread.Goals as goal
 
 pub returns-in_err-date : goal.returns-in_err-date

@@ -1,7 +1,6 @@
-use Rattle.std.proofs.Common.{drop, inl, refl, take}
-use Rattle.syslog_text.proofs.PieceLemmas.Class.{◌past◌, ◌then◌, rest_front, row_of}
-use Rattle.syslog_dated_forms.specs.ProCurve.{procurve_row, procurve_sent, switch, system_module}
-use Rattle.syslog_sent.proofs.FormLemmas.{says_once}
+use Rattle.syslog_dated_forms.proofs.Names.{◌past◌, ◌then◌, drop, inl, procurve_row, refl, rest_front, row_of}
+use Rattle.syslog_dated_forms.proofs.Names.{says_once, take}
+use Rattle.syslog_dated_forms.specs.ProCurve.{procurve_sent, switch, system_module}
 use Rattle.syslog_dated_forms.proofs.ChainLemmas.{◌next◌, chain_fails, chain_past, chain_reads, end, undivided}
 use Rattle.syslog_dated_forms.proofs.RowLemmas.{procurve_row_det}
 use Rattle.syslog_sent.specs.declared.dialect.Dialect.TheVariants.{ProCurve}

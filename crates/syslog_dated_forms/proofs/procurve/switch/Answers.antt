@@ -1,5 +1,4 @@
-use Rattle.syslog_text.proofs.PieceLemmas.Rules.{no_such_front, no_such_meaning, such_front}
-use Rattle.syslog_text.proofs.TextLemmas.Words.{host_det}
+use Rattle.syslog_dated_forms.proofs.Names.{host_det, no_such_front, no_such_meaning, such_front}
 use Rattle.syslog_text.specs.Text.{host}
 use Rattle.syslog_dated_forms.specs.ProCurve.{IsSwitch}
 use Rattle.syslog_dated_forms.proofs.procurve.switch.Goals as goal

@@ -1,4 +1,4 @@
-use Rattle.syslog_sent.specs.Named.{BeginsWith, is_letter}
+use Rattle.syslog_dated_forms.proofs.Names.{BeginsWith, is_letter}
 use Rattle.syslog_dated_forms.proofs.ReaderLemmas.{such_word}
 use Rattle.syslog_dated_forms.proofs.procurve.system_module.Goals as goal
 

@@ -1,4 +1,4 @@
-use Rattle.syslog_sent.proofs.LedLemmas.{apart}
+use Rattle.syslog_dated_forms.proofs.Names.{apart}
 use Rattle.syslog_dated_forms.proofs.readers.iso.Goals as goal
 
 pub returns-in-Month : goal.returns-in-Month

@@ -1,10 +1,6 @@
-use Rattle.std.proofs.Common.{inl, refl}
-use Rattle.syslog_text.proofs.PieceLemmas.Class.{◌past◌, ◌then◌, mapped_front, row_of}
-use Rattle.syslog_text.specs.Pieces.Class.{Row}
-use Rattle.syslog_dated_forms.specs.SophosUtm.{colon_of, colon_row}
-use Rattle.syslog_sent.proofs.NamedLemmas.{unread}
+use Rattle.syslog_dated_forms.proofs.Names.{◌past◌, ◌then◌, colon_of, colon_row, inl, mapped_front, refl, Row, row_of}
+use Rattle.syslog_dated_forms.proofs.Names.{SentDate, unread}
 use Rattle.syslog_dated_forms.proofs.RowLemmas.{colon_row_det}
-use Rattle.syslog_sent.specs.declared.sent.SentDate.{SentDate}
 use Rattle.syslog_dated_forms.proofs.sophos_utm.colon_date.Goals as goal
 
 pub returns-in_err-year : goal.returns-in_err-year

@@ -1,9 +1,5 @@
-use Rattle.std.proofs.Common.{inl, refl}
-use Rattle.syslog_text.proofs.PieceLemmas.Class.{◌past◌, ◌then◌, row_of}
-use Rattle.syslog_dated_forms.specs.SophosUtm.{utm_row}
-use Rattle.syslog_dated_forms.specs.Dated.{dated_sent}
+use Rattle.syslog_dated_forms.proofs.Names.{◌past◌, ◌then◌, dated_sent, inl, refl, row_of, says_once, utm_row}
 use Rattle.syslog_dated_forms.proofs.RowLemmas.{utm_row_det}
-use Rattle.syslog_sent.proofs.FormLemmas.{says_once}
 use Rattle.syslog_sent.specs.declared.dialect.Dialect.TheVariants.{SophosUtm}
 use Rattle.syslog_dated_forms.proofs.ChainLemmas.{undivided}
 use Rattle.syslog_dated_forms.proofs.sophos_utm.read_utm.Goals as goal

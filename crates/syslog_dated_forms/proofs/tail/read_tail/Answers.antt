@@ -1,6 +1,4 @@
-use Rattle.std.proofs.Common.{refl}
-use Rattle.syslog_text.proofs.PieceLemmas.Class.{◌then◌, rest_front, row_of}
-use Rattle.syslog_dated_forms.specs.Tail.{tail_row}
+use Rattle.syslog_dated_forms.proofs.Names.{◌then◌, refl, rest_front, row_of, tail_row}
 use Rattle.syslog_loose.specs.Bodies.View3164.{names_value}
 use Rattle.syslog_dated_forms.proofs.tail.read_tail.Goals as goal
 

@@ -1,7 +1,4 @@
-use Rattle.std.proofs.Common.{refl}
-use Rattle.syslog_text.proofs.PieceLemmas.Class.{◌then◌, mapped_front, row_of}
-use Rattle.syslog_text.specs.Pieces.Class.{Row, Values}
-use Rattle.syslog_dated_forms.specs.Tail.{TailValue, wide_row, spare}
+use Rattle.syslog_dated_forms.proofs.Names.{◌then◌, mapped_front, refl, Row, row_of, spare, TailValue, Values, wide_row}
 use Rattle.syslog_dated_forms.proofs.ReaderLemmas.{skipped}
 use Rattle.syslog_dated_forms.proofs.tail.read_wide_tail.Goals as goal
 

@@ -1,8 +1,6 @@
-use Rattle.std.proofs.Common.{Bool}
-use Rattle.syslog_text.proofs.PieceLemmas.Class.{mapped_front, no_mapped}
+use Rattle.syslog_dated_forms.proofs.Names.{◌otherwise◌, Bool, first_front, mapped_front, no_mapped, no_otherwise}
+use Rattle.syslog_dated_forms.proofs.Names.{second_front}
 use Rattle.syslog_dated_forms.specs.Ucm.{afternoon, is_late, morning}
-use Rattle.syslog_sent.proofs.NamedLemmas.{first_front, no_otherwise, second_front}
-use Rattle.syslog_sent.specs.Named.{◌otherwise◌}
 use Rattle.syslog_dated_forms.proofs.ucm.half.Goals as goal
 
 pub returns-in-Some : goal.returns-in-Some

@@ -1,10 +1,7 @@
-use Rattle.std.proofs.Common.{inl, refl}
-use Rattle.syslog_text.proofs.PieceLemmas.Class.{◌past◌, ◌then◌, mapped_front, row_of}
-use Rattle.syslog_text.specs.Pieces.Class.{Row}
-use Rattle.syslog_dated_forms.specs.Ucm.{half_of, half_row}
+use Rattle.syslog_dated_forms.proofs.Names.{◌past◌, ◌then◌, half_row, inl, mapped_front, refl, Row, row_of, SentDate}
+use Rattle.syslog_dated_forms.proofs.Names.{unread}
 use Rattle.syslog_dated_forms.proofs.RowLemmas.{half_row_det}
-use Rattle.syslog_sent.proofs.NamedLemmas.{unread}
-use Rattle.syslog_sent.specs.declared.sent.SentDate.{SentDate}
+use Rattle.syslog_dated_forms.specs.Ucm.{half_of}
 use Rattle.syslog_dated_forms.proofs.ucm.half_date.Goals as goal
 
 pub returns-in_err-date : goal.returns-in_err-date

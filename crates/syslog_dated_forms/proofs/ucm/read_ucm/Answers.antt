@@ -1,9 +1,6 @@
-use Rattle.std.proofs.Common.{inl, refl}
-use Rattle.syslog_text.proofs.PieceLemmas.Class.{◌past◌, ◌then◌, row_of}
-use Rattle.syslog_dated_forms.specs.Ucm.{ucm_row, ucm_sent}
+use Rattle.syslog_dated_forms.proofs.Names.{◌past◌, ◌then◌, CiscoIos, inl, refl, row_of, says_once, ucm_row}
+use Rattle.syslog_dated_forms.specs.Ucm.{ucm_sent}
 use Rattle.syslog_dated_forms.proofs.RowLemmas.{ucm_row_det}
-use Rattle.syslog_sent.proofs.FormLemmas.{says_once}
-use Rattle.syslog_sent.specs.declared.dialect.Dialect.TheVariants.{CiscoIos}
 use Rattle.syslog_dated_forms.proofs.ChainLemmas.{undivided}
 use Rattle.syslog_dated_forms.proofs.ucm.read_ucm.Goals as goal
 

@@ -1,4 +1,5 @@
-use Rattle.syslog_dated_forms.{proofs.RowLemmas.run_clock_row_det, specs.Undated.run_clock_row}
+use Rattle.syslog_dated_forms.proofs.Names.{run_clock_row}
+use Rattle.syslog_dated_forms.proofs.RowLemmas.{run_clock_row_det}
 use Rattle.syslog_dated_forms.proofs.ChainLemmas.{◌next◌, chain_row, end}
 use Rattle.syslog_dated_forms.proofs.undated.clock_uptime.Goals as goal
 

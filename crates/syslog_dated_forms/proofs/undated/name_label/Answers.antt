@@ -1,8 +1,6 @@
-use Rattle.std.proofs.Common.{◌∙◌, sym}
+use Rattle.syslog_dated_forms.proofs.Names.{◌∙◌, IsName, label, no_such_front, no_such_meaning, such_front, sym}
 use Rattle.std.specs.Prelude.{◌≡◌, false, true}
-use Rattle.syslog_text.proofs.PieceLemmas.Rules.{no_such_front, no_such_meaning, such_front}
 use Rattle.syslog_dated_forms.proofs.CiscoLemmas.{label_det}
-use Rattle.syslog_dated_forms.specs.{Cisco.label, Undated.IsName}
 use Rattle.syslog_dated_forms.proofs.undated.name_label.Goals as goal
 
 pub returns-in_err-name : goal.returns-in_err-name

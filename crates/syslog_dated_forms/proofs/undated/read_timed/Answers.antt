@@ -1,14 +1,9 @@
-use Rattle.std.proofs.Common.{inl, refl}
-use Rattle.syslog_text.proofs.PieceLemmas.Class.{◌past◌, ◌then◌, no_row, no_row_division, row_of, rows_join}
-use Rattle.syslog_text.proofs.PieceLemmas.Class.{rows_none_here, rows_none_later}
-use Rattle.syslog_dated_forms.specs.Filed.{filed_front}
-use Rattle.syslog_dated_forms.specs.Undated.{filed_more, timed_row, timed_sent, uptime}
+use Rattle.syslog_dated_forms.proofs.Names.{◌past◌, ◌then◌, CiscoUndated, counter_row, filed_front, filed_more, inl}
+use Rattle.syslog_dated_forms.proofs.Names.{no_row, no_row_division, refl, Row, row_of, rows_join, rows_none_here}
+use Rattle.syslog_dated_forms.proofs.Names.{rows_none_later, says_once, timed_row, uptime}
+use Rattle.syslog_dated_forms.specs.Undated.{timed_sent}
 use Rattle.syslog_dated_forms.proofs.FiledLemmas.{filed_front_det}
 use Rattle.syslog_dated_forms.proofs.RowLemmas.{filed_more_det, timed_row_det}
-use Rattle.syslog_sent.proofs.FormLemmas.{says_once}
-use Rattle.syslog_sent.specs.declared.dialect.Dialect.TheVariants.{CiscoUndated}
-use Rattle.syslog_dated_forms.specs.Cisco.{counter_row}
-use Rattle.syslog_text.specs.Pieces.Class.{Row}
 use Rattle.syslog_dated_forms.proofs.ReaderLemmas.{skipped}
 use Rattle.syslog_dated_forms.proofs.undated.read_timed.Goals as goal
 

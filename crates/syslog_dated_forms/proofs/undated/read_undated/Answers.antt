@@ -1,12 +1,8 @@
-use Rattle.std.proofs.Common.{inl, refl}
-use Rattle.syslog_text.proofs.PieceLemmas.Class.{◌past◌, ◌then◌, row_of}
-use Rattle.syslog_dated_forms.specs.Undated.{undated_row, undated_sent, uptime}
+use Rattle.syslog_dated_forms.proofs.Names.{◌past◌, ◌then◌, CiscoUndated, counter_row, inl, refl, Row, row_of}
+use Rattle.syslog_dated_forms.proofs.Names.{says_once, undated_row, uptime}
+use Rattle.syslog_dated_forms.specs.Undated.{undated_sent}
 use Rattle.syslog_dated_forms.proofs.RowLemmas.{undated_row_det}
-use Rattle.syslog_sent.proofs.FormLemmas.{says_once}
-use Rattle.syslog_sent.specs.declared.dialect.Dialect.TheVariants.{CiscoUndated}
 use Rattle.syslog_dated_forms.proofs.ChainLemmas.{undivided}
-use Rattle.syslog_dated_forms.specs.Cisco.{counter_row}
-use Rattle.syslog_text.specs.Pieces.Class.{Row}
 use Rattle.syslog_dated_forms.proofs.ReaderLemmas.{skipped}
 use Rattle.syslog_dated_forms.proofs.undated.read_undated.Goals as goal
 

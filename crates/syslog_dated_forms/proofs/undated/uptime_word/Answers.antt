@@ -1,9 +1,6 @@
-use Rattle.std.proofs.Common.{◌∙◌, sym}
+use Rattle.syslog_dated_forms.proofs.Names.{◌∙◌, bare_word, bare_word_det, IsUptime, no_such_front, no_such_meaning}
+use Rattle.syslog_dated_forms.proofs.Names.{such_front, sym}
 use Rattle.std.specs.Prelude.{◌≡◌, false, true}
-use Rattle.syslog_text.proofs.PieceLemmas.Rules.{no_such_front, no_such_meaning, such_front}
-use Rattle.syslog_sent.proofs.ZoneLemmas.{bare_word_det}
-use Rattle.syslog_sent.specs.Zone.{bare_word}
-use Rattle.syslog_dated_forms.specs.Undated.{IsUptime}
 use Rattle.syslog_dated_forms.proofs.undated.uptime_word.Goals as goal
 
 pub returns-in_err-word : goal.returns-in_err-word

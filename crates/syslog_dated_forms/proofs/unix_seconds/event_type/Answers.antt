@@ -1,4 +1,5 @@
-use Rattle.syslog_dated_forms.{proofs.ReaderLemmas.past_such, specs.UnixSeconds.IsEventType}
+use Rattle.syslog_dated_forms.proofs.ReaderLemmas.{past_such}
+use Rattle.syslog_dated_forms.specs.UnixSeconds.{IsEventType}
 use Rattle.syslog_dated_forms.proofs.unix_seconds.event_type.Goals as goal
 
 pub returns : goal.returns

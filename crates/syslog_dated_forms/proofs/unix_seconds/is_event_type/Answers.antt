@@ -1,7 +1,6 @@
-use Rattle.std.proofs.Common.{◌≡◌, Bool, false, refl, true}
+use Rattle.syslog_dated_forms.proofs.Names.{◌≡◌, Bool, false, is_among, refl, true}
 use Rattle.std.specs.Prelude.{MatchBool, chars}
 use Rattle.syslog_dated_forms.specs.UnixSeconds.{event_types}
-use Rattle.syslog_sent.specs.Zone.{is_among}
 use Rattle.syslog_dated_forms.proofs.unix_seconds.is_event_type.Goals as goal
 
 decided : (b : Bool) → MatchBool b (b ≡ true) (b ≡ true → ⊥)

@@ -1,9 +1,7 @@
-use Rattle.std.proofs.Common.{inl, refl}
-use Rattle.syslog_text.proofs.PieceLemmas.Class.{◌past◌, ◌then◌, rest_front, row_of}
-use Rattle.syslog_dated_forms.specs.UnixSeconds.{meraki_row, meraki_sent}
-use Rattle.syslog_sent.proofs.FormLemmas.{says_once}
+use Rattle.syslog_dated_forms.proofs.Names.{◌past◌, ◌then◌, inl, meraki_row, refl, rest_front, row_of, says_once}
+use Rattle.syslog_dated_forms.proofs.Names.{UnixSeconds}
+use Rattle.syslog_dated_forms.specs.UnixSeconds.{meraki_sent}
 use Rattle.syslog_dated_forms.proofs.RowLemmas.{meraki_row_det}
-use Rattle.syslog_sent.specs.declared.dialect.Dialect.TheVariants.{UnixSeconds}
 use Rattle.syslog_dated_forms.proofs.ChainLemmas.{undivided}
 use Rattle.syslog_dated_forms.proofs.unix_seconds.read_meraki.Goals as goal
 

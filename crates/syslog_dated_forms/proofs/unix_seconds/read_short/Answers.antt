@@ -1,9 +1,7 @@
-use Rattle.std.proofs.Common.{inl, refl}
-use Rattle.syslog_text.proofs.PieceLemmas.Class.{◌past◌, ◌then◌, rest_front, row_of}
-use Rattle.syslog_dated_forms.specs.UnixSeconds.{short_row, short_sent}
-use Rattle.syslog_sent.proofs.FormLemmas.{says_once}
+use Rattle.syslog_dated_forms.proofs.Names.{◌past◌, ◌then◌, inl, refl, rest_front, row_of, says_once, short_row}
+use Rattle.syslog_dated_forms.proofs.Names.{UnixSeconds}
+use Rattle.syslog_dated_forms.specs.UnixSeconds.{short_sent}
 use Rattle.syslog_dated_forms.proofs.RowLemmas.{short_row_det}
-use Rattle.syslog_sent.specs.declared.dialect.Dialect.TheVariants.{UnixSeconds}
 use Rattle.syslog_dated_forms.proofs.ChainLemmas.{undivided}
 use Rattle.syslog_dated_forms.proofs.unix_seconds.read_short.Goals as goal
 

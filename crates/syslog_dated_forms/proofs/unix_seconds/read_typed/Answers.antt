@@ -1,10 +1,7 @@
-use Rattle.std.proofs.Common.{inl, refl}
-use Rattle.syslog_text.proofs.PieceLemmas.Class.{◌past◌, ◌then◌, row_of}
-use Rattle.syslog_dated_forms.specs.UnixSeconds.{typed_row, typed_sent}
+use Rattle.syslog_dated_forms.proofs.Names.{◌past◌, ◌then◌, beginning_front, inl, no_beginning, refl, row_of, says_once}
+use Rattle.syslog_dated_forms.proofs.Names.{typed_row, UnixSeconds}
+use Rattle.syslog_dated_forms.specs.UnixSeconds.{typed_sent}
 use Rattle.syslog_dated_forms.proofs.RowLemmas.{typed_row_det}
-use Rattle.syslog_sent.proofs.FormLemmas.{says_once}
-use Rattle.syslog_sent.proofs.NamedLemmas.{beginning_front, no_beginning}
-use Rattle.syslog_sent.specs.declared.dialect.Dialect.TheVariants.{UnixSeconds}
 use Rattle.syslog_dated_forms.proofs.ChainLemmas.{undivided}
 use Rattle.syslog_dated_forms.proofs.unix_seconds.read_typed.Goals as goal
 

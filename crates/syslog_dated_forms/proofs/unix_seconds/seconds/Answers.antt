@@ -1,8 +1,5 @@
-use Rattle.syslog_text.proofs.PieceLemmas.Rules.{no_such_front, no_such_meaning, such_front}
-use Rattle.syslog_text.proofs.TextLemmas.Words.{number_det}
-use Rattle.syslog_text.specs.Text.{number}
-use Rattle.std.proofs.Common.{arith}
-use Rattle.syslog_dated_forms.specs.UnixSeconds.{IsLate}
+use Rattle.syslog_dated_forms.proofs.Names.{arith, IsLate, no_such_front, no_such_meaning, number, number_det}
+use Rattle.syslog_dated_forms.proofs.Names.{such_front}
 use Rattle.syslog_dated_forms.proofs.unix_seconds.seconds.Goals as goal
 
 pub returns-in_err-seconds : goal.returns-in_err-seconds

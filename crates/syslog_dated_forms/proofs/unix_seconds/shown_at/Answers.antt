@@ -1,4 +1,5 @@
-use Rattle.std.proofs.Common.{◌≡◌, ◌*ℤ◌, FitsSigned, pos, rules, w64}
+use Rattle.syslog_dated_forms.proofs.Names.{◌*ℤ◌, ◌≡◌, pos}
+use Rattle.std.proofs.Common.{FitsSigned, rules, w64}
 use Rattle.std.proofs.lemmas.Int.{to_z-of_z}
 use Rattle.syslog_dated_forms.proofs.RowLemmas.{shown_fields}
 use Rattle.syslog_dated_forms.proofs.unix_seconds.shown_at.Goals as goal

@@ -1,11 +1,8 @@
-use Rattle.std.proofs.Common.{ap, ◌∙◌, inl, refl}
-use Rattle.syslog_text.proofs.PieceLemmas.Class.{◌past◌, ◌then◌, mapped_front, row_of}
-use Rattle.syslog_text.specs.Pieces.Class.{Row}
+use Rattle.syslog_dated_forms.proofs.Names.{◌past◌, ◌then◌, ◌∙◌, ap, inl, mapped_front, refl, Row, row_of, SentDate}
+use Rattle.syslog_dated_forms.proofs.Names.{unix_of, unix_row, unread}
 use Rattle.syslog_pieces.specs.declared.timestamp.fields.CivilFields.{CivilFields}
-use Rattle.syslog_dated_forms.specs.UnixSeconds.{in_utc, unix_of, unix_row}
-use Rattle.syslog_sent.proofs.NamedLemmas.{unread}
+use Rattle.syslog_dated_forms.specs.UnixSeconds.{in_utc}
 use Rattle.syslog_dated_forms.proofs.RowLemmas.{unix_row_det}
-use Rattle.syslog_sent.specs.declared.sent.SentDate.{SentDate}
 use Rattle.syslog_dated_forms.proofs.unix_seconds.unix_date.Goals as goal
 
 pub returns-in_err-seconds : goal.returns-in_err-seconds
