@@ -1,84 +1,51 @@
 -- Each character of a dialect's line is of a text or of the date that it says, or is left out.
-use Rattle.std.proofs.Common.{◌≡◌, ◌⊎◌, inl, inr, ℕ, Bool, true, false, List, [], ◌∷◌, ◌++◌, Option, Some, None}
-use Rattle.std.proofs.Common.{refl, sym, ap, subst, ◌∙◌, append_assoc, drop, if◌then◌else◌, take}
-use Rattle.std.specs.Char.{is_ascii_digit}
-use Rattle.syslog_text.specs.Pieces.Class.{Text, Class, Each, Ends, Front, Row, Values, exactly, mapped, rest}
-use Rattle.std.specs.Prelude.{codes}
-use Rattle.syslog_dialects.specs.Found.{is_sign}
-use Rattle.syslog_text.specs.Pieces.Class.{run}
-use Rattle.syslog_text.specs.Pieces.Class.{some_run, texted}
+use Rattle.syslog_dialects.proofs.Names.{[], ◌++◌, ◌also◌, ◌otherwise◌, ◌then◌, ◌∙◌, ◌∷◌, ◌≡◌, ◌⊎◌, alone_row, any_date}
+use Rattle.syslog_dialects.proofs.Names.{ap, append_assoc, AreFound, beginning, beside, Bool, Class, Date, Dates}
+use Rattle.syslog_dialects.proofs.Names.{Dialect, division_front, drop, early_forms, Ends, exactly, false, Form}
+use Rattle.syslog_dialects.proofs.Names.{forms_of, Front, front_of, host, inl, inr, is_blank, is_word_char, IsOfFirst}
+use Rattle.syslog_dialects.proofs.Names.{IsSentIn, late_forms, left_of, left_out, List, loose, mapped, MessageValue}
+use Rattle.syslog_dialects.proofs.Names.{monotonic_row, Name, named_forms, None, number, Option, optional, pair}
+use Rattle.syslog_dialects.proofs.Names.{pair_row, Part, plain_forms, point_sent, program_row, program_sent, refl, Row}
+use Rattle.syslog_dialects.proofs.Names.{row_head, row_of, run, SentValue, Some, some_run, spread_forms, subst, sym}
+use Rattle.syslog_dialects.proofs.Names.{Text, texted, trimmed, true, undated_forms, undated_row, Values, ℕ}
+use Rattle.std.proofs.Common.{if◌then◌else◌, take}
 use Rattle.syslog_text.specs.Pieces.Lists.{many}
-use Rattle.syslog_text.specs.Pieces.Rules.{such_that}
-use Rattle.syslog_text.specs.Text.{host, is_blank, is_tag_char, number, trimmed}
-use Rattle.syslog_text.proofs.PieceLemmas.Class.{◌also◌, ◌then◌, division_front, front_of, row_head}
-use Rattle.syslog_text.proofs.PieceLemmas.Class.{firsts, lasts, present_front, row_of, rows_split}
+use Rattle.syslog_text.proofs.PieceLemmas.Class.{firsts, lasts, rows_split}
 use Rattle.syslog_text.proofs.PieceLemmas.Lists.{many_parts}
-use Rattle.syslog_loose.specs.Message.{MessageValue}
-use Rattle.syslog_loose.specs.declared.dates.Dates.{Dates}
 use Rattle.syslog_dated_forms.specs.DatedForms as dated
-use Rattle.syslog_sent.specs.Forms.{IsOfFirst}
-use Rattle.syslog_dialects.specs.Dialects.{dated_forms, early_forms, forms_of, last_forms, late_forms, named_forms}
-use Rattle.syslog_dialects.specs.Dialects.{plain_forms}
-use Rattle.syslog_dialects.specs.Found.{AreFound, AreInOrder, IsFoundIn, Part}
-use Rattle.syslog_dialects.specs.Found.{Date, Name, Version, beside, if_there}
-use Rattle.syslog_dialects.specs.Found.{forwarded_words}
-use Rattle.syslog_dialects.specs.Found.{first_serial, left_of, left_out, relay, serial}
-use Rattle.syslog_named_forms.specs.NearHeader.{head_row, heroku_row, heroku_says, vendor_row, vendor_says}
-use Rattle.syslog_sent.specs.Named.{program}
-use Rattle.std.specs.Prelude.{IsTrue}
-use Rattle.syslog_sent.specs.Named.{BeginsWith, NamedTexts, after_row, beginning, is_letter}
-use Rattle.syslog_sent.specs.Named.{◌otherwise◌}
-use Rattle.syslog_elements.specs.StructuredData.Pairs.{paired as element}
+use Rattle.syslog_dialects.specs.Dialects.{dated_forms, last_forms}
+use Rattle.syslog_dialects.specs.Found.{AreInOrder, IsFoundIn, forwarded_words, first_serial, relay, serial}
+use Rattle.syslog_named_forms.specs.NearHeader.{heroku_says, vendor_says, bare_says, nil, nil_says, tag_row, tag_says}
+use Rattle.syslog_named_forms.specs.NearHeader.{bare_row, heroku_row, nil_row, vendor_row}
+use Rattle.syslog_sent.specs.Named.{NamedTexts, after_row, untagged}
 use Rattle.syslog_named_forms.specs.NearHeader as near
-use Rattle.syslog_named_forms.specs.NearHeader.{bare_row, bare_says, nil, nil_row, nil_says, tag_row, tag_says}
-use Rattle.syslog_named_forms.specs.Monotonic.{is_service, monotonic_form, monotonic_row, monotonic_says, seconds_row}
-use Rattle.syslog_named_forms.specs.NamedForms.{Tail, access_tail, dated_form, dated_row, forwarded_tail}
-use Rattle.syslog_named_forms.specs.NamedForms.{front_row, hostless_tail}
-use Rattle.syslog_named_forms.specs.NamedForms.{marked_tail, marked_tails, message_tails, program_forms}
-use Rattle.syslog_named_forms.specs.NamedForms.{program_tails, says, unified_tail, untagged_tail}
-use Rattle.syslog_named_forms.specs.NamedForms.{addressed_tail, compact_tail, device_forms, device_tails, graded_tail}
-use Rattle.syslog_named_forms.specs.NamedForms.{event_tail, graded_tails, leveled_tail, marked_forms, sourced_tail}
-use Rattle.syslog_named_forms.specs.NamedForms.{counted_tail, numbered_tail, opened_tail, padded_tail, threaded_tail}
-use Rattle.syslog_named_forms.specs.NamedForms.{titled_tail}
-use Rattle.syslog_named_forms.specs.Graded.{counted_row, numbered_row}
-use Rattle.syslog_named_forms.specs.Devices.{addressed_row, point_word, title_row, titled_row}
-use Rattle.syslog_named_forms.specs.Graded.{event_end_row, event_row, grade_row, graded_row, level_row, leveled_row}
-use Rattle.syslog_named_forms.specs.Graded.{padded_row, source_row, sourced_row, threaded_row, threads_row}
-use Rattle.syslog_named_forms.specs.Unified.{close_row, compact_row, entry_name, kept_row, kind, log_of, log_row}
-use Rattle.syslog_named_forms.specs.Unified.{thread_row}
-use Rattle.syslog_named_forms.specs.Untagged.{some_digits}
-use Rattle.syslog_named_forms.specs.NamedForms.{serial_tail}
-use Rattle.syslog_named_forms.specs.NamedForms.{severity_tail, tail_forms, undated_form, undated_forms, undated_row}
-use Rattle.syslog_named_forms.specs.NamedForms.{spread_forms, spread_tail, worded_tail}
-use Rattle.syslog_named_forms.specs.Pairs.{bare, either_text, first_value, is_host_key, pair, pair_row, paired, value}
-use Rattle.syslog_named_forms.specs.Pairs.{listed, pairs_form, pairs_row, quoted, quoted_row, unquoted}
-use Rattle.syslog_text.specs.Pieces.Class.{optional}
-use Rattle.syslog_dialects.specs.PriorityAlone.{IsAlone, alone_form, alone_row, point_form as point_alone_form}
-use Rattle.syslog_dialects.specs.PriorityAlone.{point_row as point_alone_row, point_sent, program_form, program_row}
-use Rattle.syslog_dialects.specs.PriorityAlone.{program_sent}
-use Rattle.syslog_named_forms.specs.Programs.{forwarded_of, forwarded_row, grade, hostless_row, name_in, passed_on}
-use Rattle.syslog_named_forms.specs.Programs.{process_in}
-use Rattle.syslog_named_forms.specs.Programs.{access_row, box_of, box_row, point_row, serial_of, serial_row}
-use Rattle.syslog_named_forms.specs.Programs.{severity_row, worded_row}
-use Rattle.syslog_named_forms.specs.Programs.{number_word, spread_row, untagged_row, words_row}
-use Rattle.syslog_sent.specs.Runs.{is_plain_char, is_unquoted, is_word_char}
-use Rattle.syslog_sent.specs.Sent.{Form, SentValue, loose}
-use Rattle.syslog_dialects.specs.SentReading.{IsSentIn}
+use Rattle.syslog_named_forms.specs.Monotonic.{monotonic_says}
+use Rattle.syslog_named_forms.specs.NamedForms.{Tail, dated_form, dated_row, forwarded_tail, marked_tail, marked_tails}
+use Rattle.syslog_named_forms.specs.NamedForms.{message_tails, program_forms, program_tails, says, unified_tail}
+use Rattle.syslog_named_forms.specs.NamedForms.{device_forms, device_tails, graded_tails, marked_forms, serial_tail}
+use Rattle.syslog_named_forms.specs.NamedForms.{tail_forms}
+use Rattle.syslog_named_forms.specs.Graded.{counted_row, numbered_row, event_row, graded_row, leveled_row, padded_row}
+use Rattle.syslog_named_forms.specs.Graded.{sourced_row, threaded_row, event_of, graded_of, leveled_of, numbered_of}
+use Rattle.syslog_named_forms.specs.Graded.{padded_of, sourced_of, threaded_of}
+use Rattle.syslog_named_forms.specs.Devices.{addressed_of, addressed_row, titled_of, titled_row}
+use Rattle.syslog_named_forms.specs.Unified.{compact_of, compact_row, entry_name, kind, log_of, log_row}
+use Rattle.syslog_named_forms.specs.Pairs.{bare, either_text, first_value, is_host_key, paired, value, listed}
+use Rattle.syslog_named_forms.specs.Pairs.{pairs_form, pairs_row, quoted, quoted_row, unquoted}
+use Rattle.syslog_dialects.specs.PriorityAlone.{point_row as point_alone_row}
+use Rattle.syslog_named_forms.specs.Programs.{forwarded_of, forwarded_row, hostless_row, passed_on, access_row, box_of}
+use Rattle.syslog_named_forms.specs.Programs.{box_row, serial_of, serial_row, access_of, hostless_of, severity_of}
+use Rattle.syslog_named_forms.specs.Programs.{severity_row, worded_of, worded_row, spread_of, untagged_of, spread_row}
+use Rattle.syslog_named_forms.specs.Programs.{untagged_row}
+use Rattle.syslog_sent.specs.Runs.{is_unquoted}
 use Rattle.syslog_named_forms.specs.Untagged.{dialect_of, mark_class, marks}
-use Rattle.syslog_sent.specs.declared.dialect.Dialect.{Dialect}
 use Rattle.syslog_sent.specs.declared.dialect.Dialect.TheVariants as dialect
 use Rattle.syslog_named_forms.specs.declared.untagged.Mark.{Mark}
 use Rattle.syslog_named_forms.specs.declared.untagged.Mark.TheVariants as mark_of
-use Rattle.syslog_dialects.proofs.OrderLemmas.{Ending, Has, Shows, a_colon, a_gap, a_host, a_name, a_program, a_sign}
-use Rattle.syslog_dialects.proofs.OrderLemmas.{a_word, an_id, before_rest, blank_signs, blanks}
-use Rattle.syslog_dialects.proofs.OrderLemmas.{Told, after_gap, before_message, before_spaced_rest, end_of}
-use Rattle.syslog_dialects.proofs.OrderLemmas.{mapped_found, run_gap}
-use Rattle.syslog_dialects.proofs.OrderLemmas.{maybe, no_field, out_more, passed}
-use Rattle.syslog_dialects.proofs.OrderLemmas.{row_more, shown, such}
-use Rattle.syslog_dialects.proofs.OrderLemmas.{text_of}
-use Rattle.syslog_dialects.proofs.OrderLemmas.{IsOut, whole_found}
-use Rattle.syslog_dialects.proofs.DatedFoundLemmas.{IsFoundForm, AllFound, both_found, said_so, said}
-use Rattle.syslog_dialects.proofs.DatedFoundLemmas.{an_any_date, three, dated_all, plain_dated_all}
+use Rattle.syslog_dialects.proofs.OrderLemmas.{Ending, SaysOne, SaysSo, Shows, Told, Way, begun, blank_signs, end_of}
+use Rattle.syslog_dialects.proofs.OrderLemmas.{first, later, listed as left_out_one, mapped_found, out_more, passed}
+use Rattle.syslog_dialects.proofs.OrderLemmas.{pieces, row_has, shown, so_found, way_ends, ways, whole_found}
+use Rattle.syslog_dialects.proofs.DatedFoundLemmas.{IsFoundForm, AllFound, both_found, said_so, said, an_any_date}
+use Rattle.syslog_dialects.proofs.DatedFoundLemmas.{three, dated_all, plain_dated_all}
 
 -- ---- what follows the date
 
@@ -89,7 +56,7 @@ abbrev TailFound : Tail → Type 0
 TailFound T = (t : Text) (v : T.after.Value) → Ends is_blank t → Front T.after t [] v
     → Told (left_of T.dialect (T.names v).hostname) t (texts_of (T.names v)) (T.names v).msg
 
--- a date and blanks before the text
+-- after a date and blanks
 module _ (C : Class) (names : C.Value → NamedTexts) {t : Text} {v : Values (dated_row C names)}
     (f : Front (Row (dated_row C names)) t [] v) where
   abbrev After : Type 1
@@ -99,18 +66,21 @@ module _ (C : Class) (names : C.Value → NamedTexts) {t : Text} {v : Values (da
 
   after_date : After
   after_date =
-      let (u, a, b) = rows_split (take 2 front_row) (some_run is_blank ∷ mapped C NamedTexts names ∷ []) f in
-      let (q, gap, more) = row_head (some_run is_blank) (mapped C NamedTexts names ∷ []) b in
-      let it = end_of (mapped C NamedTexts names) more in
+      let row = dated_row C names in
+      let (u, blank, f1) = row_head (run is_blank) (drop 1 row) f in
+      let (x, dated, f2) = row_head any_date (drop 2 row) f1 in
+      let (q, space, f3) = row_head (some_run is_blank) (drop 3 row) f2 in
+      let it = end_of (mapped C NamedTexts names) f3 in
       let (w, is, same) = it.is in (
         q,
         w,
-        gap.is.2,
+        space.is.2,
         front_of it.piece it.whole is,
         same,
         λ left parts msg told.
-            row_more (take 2 front_row) (blanks also an_any_date also tt) a
-            (out_more (some_run is_blank) gap (inl (blank_signs gap.piece gap.is.1)) told),
+            out_more (run is_blank) blank (inl (blank_signs blank.piece blank.is.0))
+            (an_any_date.has u x v.1.0 dated parts msg
+            (out_more (some_run is_blank) space (inl (blank_signs space.piece space.is.1)) told)),
       )
 
 tail_of : (T : Tail) → TailFound T → IsFoundForm (dated_form T.dialect T.after T.names)
@@ -120,12 +90,20 @@ tail_of T found = said_so T.dialect (dated_row T.after T.names) (λ v. says v.1.
     (subst (λ (n : NamedTexts). Told (left_of T.dialect n.hostname) q (texts_of n) n.msg) (sym same)
     (found q w front it))))
 
+-- a row
+row_tail : (it : Dialect) (Cs : List Class) (names : Values Cs → NamedTexts)
+    (way : (h : Option Text) → Way (left_of it h) Cs)
+    → ((h : Option Text) → SaysSo (way h) (λ v. texts_of (names v)) (λ v. (names v).msg))
+    → IsFoundForm (dated_form it (Row Cs) names)
+row_tail it Cs names way same = tail_of (record { dialect = it; after = Row Cs; names = names }) (λ t v front.
+    let h = (names v).hostname in
+    so_found Cs (way h) (λ w. texts_of (names w)) (λ w. (names w).msg) (same h) t v)
+
 -- a message by its mark, or a host before it
 marked_found : (m : Mark) → TailFound (marked_tail m)
-marked_found m t (inl msg) front f = whole_found (left_of (dialect_of m) None) (beginning (mark_class m)) (λ x. x)
-    (λ p x is. is.1) t msg front (front_of f.piece f.whole f.is)
-marked_found m t (inr w) front f = before_message (left_of (dialect_of m) w.0)
-    (take 1 (after_row (beginning (mark_class m)))) (a_host also tt) (mark_class m) t w
+marked_found m t (inl msg) front f =
+    whole_found begun (left_of (dialect_of m) None) t msg front (front_of f.piece f.whole f.is)
+marked_found m t (inr w) front f = way_ends (after_row (beginning (mark_class m))) (search ways depth 9) t w
     (front_of f.piece f.whole f.is.1)
 
 messages_all : (ms : List Mark) → AllFound (tail_forms (marked_tails ms))
@@ -134,24 +112,9 @@ messages_all (m ∷ ms) = (tail_of (marked_tail m) (marked_found m), messages_al
 
 -- ---- programs
 
--- a program's name and the id of its process, or neither
-maybe_program : (left : List Class)
-    → Has left (optional program) (λ p parts. if_there Name (name_in p) (if_there Name (process_in p) parts))
-maybe_program left t q None f parts msg told = no_field program f told
-maybe_program left t q (Some p) f parts msg told =
-    (a_program {left = left}).has t q p (present_front program f) parts msg told
-
-abbrev a_program_or_none : {left : List Class} → Shows left (optional program)
-a_program_or_none {left} = record {
-  adds = λ p parts. if_there Name (name_in p) (if_there Name (process_in p) parts);
-  has = maybe_program left;
-}
-
 line_passed : (Cs : List Class) → Ending (left_out dialect.Forwarded ++ Cs) (Row forwarded_row)
     (λ v. texts_of (forwarded_of v)) (λ v. (forwarded_of v).msg)
-line_passed Cs = before_rest (left_out dialect.Forwarded ++ Cs) (take 5 forwarded_row)
-    (passed forwarded_words (λ p q v is. inr (inl (v, is))) also text_of (some_run is_tag_char)
-    also a_colon also blanks also a_program_or_none also tt)
+line_passed Cs = way_ends forwarded_row (search ways depth 16)
 
 -- with its host another one is left out
 forwarded_found : TailFound forwarded_tail
@@ -172,29 +135,6 @@ forwarded_found t (inr w) front f =
     (out_more host relayed (inr (inr (inl (w.0, (relayed.is, (y, (tt, (tt, tt)), after))))))
     (out_more (some_run is_blank) gap (inl (blank_signs gap.piece gap.is.1)) (line_passed (relay ∷ []) x vs line)))
 
-grade_out : (Cs : List Class) → IsOut (left_out dialect.SeverityFirst ++ Cs) grade
-grade_out Cs p q (inl v) is = inr (inr (inl (v, is)))
-grade_out Cs p q (inr (inl v)) is = inr (inr (inr (inl (v, is.1))))
-grade_out Cs p q (inr (inr v)) is = inr (inr (inr (inr (inr (inr (inl (v, is.1.1)))))))
-
-severity_found : TailFound severity_tail
-severity_found t v front = before_rest (left_of dialect.SeverityFirst v.0) (take 5 severity_row)
-    (a_host also a_gap also passed grade (grade_out (beside v.0 [])) also a_gap also a_program also tt) t v
-
-worded_found : TailFound worded_tail
-worded_found t v front = before_rest (left_of dialect.SpacedName v.0) (take 5 worded_row)
-    (a_host also a_gap also such (texted (Row words_row)) (BeginsWith is_letter) (text_of (Row words_row)) also an_id
-    also a_colon also tt) t v
-
-access_found : TailFound access_tail
-access_found t v front = before_rest (left_of dialect.UniFi (Some v.0)) (take 4 access_row)
-    (text_of (Row point_row) also a_colon also a_gap
-    also a_program also tt) t v
-
-hostless_found : TailFound hostless_tail
-hostless_found t v front = before_spaced_rest (left_of dialect.NoHost None) (take 1 hostless_row)
-    (a_program also tt) t v
-
 -- the serial number and the date in brackets are left out as one piece
 number_found : (h : Option Text) → Ending (left_of dialect.WatchGuard h) (Row serial_row)
     (λ v. texts_of (serial_of v)) (λ v. (serial_of v).msg)
@@ -202,20 +142,16 @@ number_found h t v f =
     let left = left_of dialect.WatchGuard h in
     let (u, a, b) = rows_split (take 2 serial_row) (drop 2 serial_row) f in
     let (w, c, d) = rows_split serial (drop 7 serial_row) b in
-    row_more (take 2 serial_row) (a_host also a_gap also tt) a
+    row_has left (take 2 serial_row) (search pieces depth 9) t u (firsts (take 2 serial_row) (drop 2 serial_row) v) a _ _
     (out_more (Row serial) c (inr (inl (firsts serial (drop 7 serial_row) v.1.1, c.is)))
-    (before_rest left (take 2 (drop 7 serial_row))
-    (a_gap also a_program also tt) w
-    (lasts serial (drop 7 serial_row) v.1.1) d))
+    (way_ends (drop 7 serial_row) (search ways depth 9) w (lasts serial (drop 7 serial_row) v.1.1) d))
 
 box_found : (h : Option Text) → Ending (left_of dialect.WatchGuard h) (Row box_row) (λ v. texts_of (box_of v))
     (λ v. (box_of v).msg)
 box_found h t v f =
     let (u, a, b) = rows_split first_serial (drop 5 box_row) f in
     out_more (Row first_serial) a (inr (inr (inl (firsts first_serial (drop 5 box_row) v, a.is))))
-    (before_rest (left_of dialect.WatchGuard h) (take 2 (drop 5 box_row))
-    (a_gap also a_program also tt) u
-    (lasts first_serial (drop 5 box_row) v) b)
+    (way_ends (drop 5 box_row) (search ways depth 9) u (lasts first_serial (drop 5 box_row) v) b)
 
 serial_found : TailFound serial_tail
 serial_found t (inl n) front f = mapped_found (left_of dialect.WatchGuard n.hostname) (Row serial_row) NamedTexts
@@ -227,19 +163,23 @@ serial_found t (inr n) front f = mapped_found (left_of dialect.WatchGuard n.host
 abbrev columns_of : NamedTexts → List Part
 columns_of n = three n.hostname n.process n.appname
 
-entry_name_is : (p q : Text) (t : Text) → entry_name.Is p q t → p ≡ t
+pub entry_name_is : (p q : Text) (t : Text) → entry_name.Is p q t → p ≡ t
 entry_name_is p q t (inl v, is, same) = sym (is.0.2) ∙ sym same
 entry_name_is p q t (inr v, is, same) = sym (is.1.0.2) ∙ sym same
 
 -- a name of several words or of one
-abbrev an_entry_name : {left : List Class} → Shows left entry_name
+abbrev pub an_entry_name : {left : List Class} → SaysOne left entry_name
 an_entry_name = shown entry_name Name entry_name_is
 
-columns_found : Ending (left_of dialect.UnifiedLog None) (Row log_row) (λ v. columns_of (log_of v)) (λ v. (log_of
-    v).msg)
-columns_found = before_rest (left_of dialect.UnifiedLog None) (take 6 log_row)
-    (passed (Row thread_row) (λ p q v is. inr (inl (v, is))) also text_of some_digits also a_gap
-    also maybe (Row kept_row) (λ p q v is. inr (inr (inl (v, is)))) also an_entry_name also a_colon also tt)
+-- the type of an entry is a word too
+abbrev a_kind : {Cs : List Class} → Shows (left_out dialect.UnifiedLog ++ Cs) kind
+a_kind = passed (left_out_one (later (later first)))
+
+ruleset named_ways = (an_any_date, an_entry_name, a_kind, ways)
+
+columns_found : Ending (left_of dialect.UnifiedLog None) (Row log_row) (λ v. columns_of (log_of v))
+    (λ v. (log_of v).msg)
+columns_found = way_ends log_row (search named_ways depth 16)
 
 unified_found : IsFoundForm (dated_form unified_tail.dialect unified_tail.after unified_tail.names)
 unified_found text sent s =
@@ -253,90 +193,41 @@ unified_found text sent s =
     subst (λ (x : SentValue). AreFound dialect.UnifiedLog text x × Ends is_blank x.msg) (sym s.means)
     (inr (inr (refl, told.tells)), told.front)
 
-untagged_found : TailFound untagged_tail
-untagged_found t v front =
-    before_message (left_of dialect.Untagged v.0) (take 1 untagged_row) (a_host also tt) number_word t v
-
 programs_all : AllFound (tail_forms program_tails)
 programs_all =
-    tail_of forwarded_tail forwarded_found also tail_of severity_tail severity_found
-    also tail_of worded_tail worded_found also tail_of access_tail access_found
-    also tail_of hostless_tail hostless_found
+    tail_of forwarded_tail forwarded_found
+    also row_tail dialect.SeverityFirst severity_row severity_of (λ h. search named_ways depth 24) (λ h v. (refl, refl))
+    also row_tail dialect.SpacedName worded_row worded_of (λ h. search named_ways depth 24) (λ h v. (refl, refl))
+    also row_tail dialect.UniFi access_row access_of (λ h. search named_ways depth 24) (λ h v. (refl, refl))
+    also row_tail dialect.NoHost hostless_row hostless_of (λ h. search named_ways depth 24) (λ h v. (refl, refl))
     also tail_of serial_tail serial_found also unified_found
-    also tail_of untagged_tail untagged_found also tt
-
--- ---- devices
-
-addressed_found : TailFound addressed_tail
-addressed_found t v front = before_rest (left_of dialect.UniFi v.0) (take 6 addressed_row)
-    (a_host also a_gap also passed point_word (λ p q w is. inr (inl (w, is))) also a_colon also a_gap
-    also a_program also tt) t v
-
-titled_found : TailFound titled_tail
-titled_found t v front = before_rest (left_of dialect.SpacedName v.0) (take 4 titled_row)
-    (a_host also a_gap also text_of (Row title_row) also a_colon also tt) t v
-
-compact_found : TailFound compact_tail
-compact_found t v front = before_spaced_rest (left_of dialect.UnifiedLog None) (take 6 compact_row)
-    (passed kind (λ p q w is. inr (inr (inr (inl (w, is))))) also a_gap also an_entry_name also a_sign 91 refl
-    also text_of some_digits also passed (Row close_row) (λ p q w is. inr (inr (inr (inr (inl (w, is)))))) also tt) t v
+    also row_tail dialect.Untagged untagged_row untagged_of (λ h. search named_ways depth 24) (λ h v. (refl, refl))
+    also tt
 
 devices_all : AllFound (tail_forms device_tails)
-devices_all = tail_of addressed_tail addressed_found also tail_of titled_tail titled_found
-    also tail_of compact_tail compact_found also tt
+devices_all =
+    row_tail dialect.UniFi addressed_row addressed_of (λ h. search named_ways depth 24) (λ h v. (refl, refl))
+    also row_tail dialect.SpacedName titled_row titled_of (λ h. search named_ways depth 24) (λ h v. (refl, refl))
+    also row_tail dialect.UnifiedLog compact_row compact_of (λ h. search named_ways depth 24) (λ h v. (refl, refl))
+    also tt
 
--- ---- severities in angles or in brackets
-
-graded_found : TailFound graded_tail
-graded_found t v front = before_rest (left_of dialect.SeverityFirst v.1.1.0) (take 5 graded_row)
-    (passed (Row grade_row) (λ p q w is. inr (inr (inr (inr (inl (w, is)))))) also a_gap also a_host also a_gap
-    also a_program also tt) t v
-
-leveled_found : TailFound leveled_tail
-leveled_found t v front = before_rest (left_of dialect.SeverityFirst v.0) (take 5 leveled_row)
-    (a_host also a_gap also passed (Row level_row) (λ p q w is. inr (inr (inr (inr (inr (inl (w, is))))))) also a_gap
-    also a_program also tt) t v
-
-event_found : TailFound event_tail
-event_found t v front = before_rest (left_of dialect.Bracketed (Some v.1.0)) (take 6 event_row)
-    (a_sign 91 refl also text_of (some_run is_plain_char) also a_colon also blanks also text_of (some_run is_word_char)
-    also passed (Row event_end_row) (λ p q w is. inr (inr (inl (w, is)))) also tt) t v
-
-sourced_found : TailFound sourced_tail
-sourced_found t v front = before_rest (left_of dialect.BsdDate v.0) (take 5 sourced_row)
-    (a_host also a_gap also passed (Row source_row) (λ p q w is. inr (inr (inr (inl (w, is))))) also a_gap
-    also a_program also tt) t v
-
-threaded_found : TailFound threaded_tail
-threaded_found t v front = before_rest (left_of dialect.NoHost None) (take 5 threaded_row)
-    (a_name also a_gap also a_sign 91 refl also text_of (Row threads_row) also passed (exactly (codes "]:"))
-    (λ p q v is. inl (subst (Each is_sign) (sym is) (refl, (refl, tt)))) also tt) t v
-
-padded_found : TailFound padded_tail
-padded_found t v front = before_rest (left_of dialect.NoHost None) (take 6 padded_row)
-    (a_name also passed (exactly (32 ∷ 32 ∷ [])) (λ p q v is. inl (subst (Each is_sign) (sym is) (refl, (refl, tt))))
-    also blanks also a_sign 91 refl also text_of (some_run is_ascii_digit) also passed (exactly (codes "]:"))
-    (λ p q v is. inl (subst (Each is_sign) (sym is) (refl, (refl, tt)))) also tt) t v
-
-numbered_found : TailFound numbered_tail
-numbered_found t v front = before_spaced_rest (left_of dialect.Bracketed None) (take 3 numbered_row)
-    (a_sign 91 refl also text_of (some_run is_ascii_digit) also a_sign 93 refl also tt) t v
-
-counted_found : TailFound counted_tail
-counted_found =
-    whole_found (left_of dialect.Bracketed None) (beginning (Row counted_row)) (λ x. x) (λ p x is. is.1)
-
-opened_found : TailFound opened_tail
-opened_found = whole_found (left_of dialect.Bracketed None) (beginning (mark_class mark_of.Bracket)) (λ x. x)
-    (λ p x is. is.1)
+-- all is the message
+begun_found : (it : Dialect) (C : Class)
+    → IsFoundForm (dated_form it (beginning C) (untagged None))
+begun_found it C = tail_of (record { dialect = it; after = beginning C; names = untagged None })
+    (λ t v front f. whole_found begun (left_of it None) t v front f)
 
 graded_all : AllFound (tail_forms graded_tails)
-graded_all = tail_of graded_tail graded_found also tail_of leveled_tail leveled_found
-    also tail_of event_tail event_found
-    also tail_of sourced_tail sourced_found also tail_of threaded_tail threaded_found
-    also tail_of padded_tail padded_found
-    also tail_of numbered_tail numbered_found also tail_of counted_tail counted_found
-    also tail_of opened_tail opened_found also tt
+graded_all =
+    row_tail dialect.SeverityFirst graded_row graded_of (λ h. search named_ways depth 24) (λ h v. (refl, refl))
+    also row_tail dialect.SeverityFirst leveled_row leveled_of (λ h. search named_ways depth 24) (λ h v. (refl, refl))
+    also row_tail dialect.Bracketed event_row event_of (λ h. search named_ways depth 24) (λ h v. (refl, refl))
+    also row_tail dialect.BsdDate sourced_row sourced_of (λ h. search named_ways depth 24) (λ h v. (refl, refl))
+    also row_tail dialect.NoHost threaded_row threaded_of (λ h. search named_ways depth 24) (λ h v. (refl, refl))
+    also row_tail dialect.NoHost padded_row padded_of (λ h. search named_ways depth 24) (λ h v. (refl, refl))
+    also row_tail dialect.Bracketed numbered_row numbered_of (λ h. search named_ways depth 24) (λ h v. (refl, refl))
+    also begun_found dialect.Bracketed (Row counted_row)
+    also begun_found dialect.Bracketed (mark_class mark_of.Bracket) also tt
 
 -- ---- pairs, whose names are in the message
 
@@ -427,64 +318,35 @@ pairs_found text sent s =
     let pairs = subst (λ (x : Text). Front (many pair) x r ps) (sym same) front in
     let found = subst (λ (x : Option Text). AreInOrder (only x) v.2) (sym device) (value_found is_host_key ps pairs) in
     let told = out_more (run is_blank) gap (inl (blank_signs gap.piece gap.is.0))
-    (whole_found [] paired (λ v. v.2) (λ p v is. is.1) q v gap.is.1 it) in
+    (whole_found {C = paired} (record { msg = λ w. w.2; is = λ p w is. is.1 }) [] q v gap.is.1 it) in
     subst (λ (x : SentValue). AreFound dialect.KeyValue text x × Ends is_blank x.msg) (sym s.means)
     (inr (inl (refl, (told.tells, found, (v.0, refl, (ps, r, pairs, shows))))), told.front)
 
 -- ---- without a date
 
-marked_alone : (it : Dialect) (m : Mark) → IsFoundForm (undated_form it m)
-marked_alone it m = said it (undated_row m) (λ v. loose None None None None v.1.0) (λ h.
-    after_gap (left_of it h) [] tt (run is_blank) run_gap (beginning (mark_class m)) (λ x. x) (λ p x is. is.1))
-
-vendor_found : (m : Mark) → IsFoundForm (near.vendor_form m)
-vendor_found m = said (dialect_of m) (vendor_row m) (vendor_says m) (λ h.
-    before_message (left_of (dialect_of m) h) (take 5 (vendor_row m))
-    (shown (number 999) Version (λ p q n is. is) also a_gap also an_any_date also a_gap also a_host also tt)
-    (mark_class m))
-
-heroku_found : IsFoundForm near.heroku_form
-heroku_found = said dialect.Heroku heroku_row heroku_says (λ h.
-    before_spaced_rest (left_of dialect.Heroku h) (take 11 heroku_row)
-    (shown (number 999) Version (λ p q n is. is) also a_gap also an_any_date also a_gap also a_host also a_gap
-    also a_word also a_gap also a_word also a_gap also a_sign 45 refl also tt))
-
-monotonic_found : IsFoundForm monotonic_form
-monotonic_found = said dialect.Monotonic monotonic_row monotonic_says (λ h.
-    before_rest (left_of dialect.Monotonic h) (take 5 monotonic_row)
-    (passed (Row seconds_row) (λ p q v is. inr (inl (v, is))) also a_gap also a_host also a_gap
-    also such program (λ p. IsTrue (is_service p)) a_program also tt))
-
-nil_found : IsFoundForm near.nil_form
-nil_found = said dialect.NearlyRfc5424 nil_row nil_says (λ h.
-    before_rest (left_of dialect.NearlyRfc5424 h) (take 13 nil_row)
-    (shown (number 999) Version (λ p q n is. is) also a_gap also an_any_date also a_gap also a_host also a_gap
-    also a_word also a_gap also a_word also a_gap also a_word also a_gap
-    also passed nil (λ p q v is. inl (rw is.0 (refl, tt))) also tt))
-
-headed_found : IsFoundForm near.tag_form
-headed_found = said dialect.NearlyRfc5424 tag_row tag_says (λ h.
-    before_rest (left_of dialect.NearlyRfc5424 h) (take 7 tag_row)
-    (shown (number 999) Version (λ p q n is. is) also a_gap also an_any_date also a_gap also a_host also a_gap
-    also a_program also tt))
-
-paired_found : IsFoundForm near.paired_form
-paired_found = said dialect.CheckPoint near.paired_row near.paired_says (λ h.
-    before_message (left_of dialect.CheckPoint h) (take 11 near.paired_row)
-    (shown (number 999) Version (λ p q n is. is) also a_gap also an_any_date also a_gap also a_host also a_gap
-    also a_word also a_gap also a_word also a_gap also a_word also tt) element)
-
-bare_found : IsFoundForm near.bare_form
-bare_found = said dialect.NearlyRfc5424 bare_row bare_says (λ h.
-    before_spaced_rest (left_of dialect.NearlyRfc5424 h) (take 11 bare_row)
-    (shown (number 999) Version (λ p q n is. is) also a_gap also an_any_date also a_gap also a_host also a_gap
-    also a_word also a_gap also a_word also a_gap also a_word also tt))
-
 undated_all : AllFound undated_forms
 undated_all =
-    marked_alone dialect.Cef mark_of.Cef also marked_alone dialect.Leef mark_of.Leef also pairs_found
-    also vendor_found mark_of.Cef also vendor_found mark_of.Leef also paired_found also nil_found also headed_found
-    also heroku_found also bare_found also monotonic_found also tt
+    said dialect.Cef (undated_row mark_of.Cef) (λ v. loose None None None None v.1.0)
+    (λ h. search named_ways depth 9) (λ h v. (refl, refl))
+    also said dialect.Leef (undated_row mark_of.Leef) (λ v. loose None None None None v.1.0)
+    (λ h. search named_ways depth 9) (λ h v. (refl, refl))
+    also pairs_found
+    also said dialect.Cef (near.vendor_row mark_of.Cef) (near.vendor_says mark_of.Cef)
+    (λ h. search named_ways depth 24) (λ h v. (refl, refl))
+    also said dialect.Leef (near.vendor_row mark_of.Leef) (near.vendor_says mark_of.Leef)
+    (λ h. search named_ways depth 24) (λ h v. (refl, refl))
+    also said dialect.CheckPoint near.paired_row near.paired_says
+    (λ h. search named_ways depth 24) (λ h v. (refl, refl))
+    also said dialect.NearlyRfc5424 near.nil_row near.nil_says
+    (λ h. search named_ways depth 24) (λ h v. (refl, refl))
+    also said dialect.NearlyRfc5424 near.tag_row near.tag_says
+    (λ h. search named_ways depth 24) (λ h v. (refl, refl))
+    also said dialect.Heroku near.heroku_row near.heroku_says
+    (λ h. search named_ways depth 24) (λ h v. (refl, refl))
+    also said dialect.NearlyRfc5424 near.bare_row near.bare_says
+    (λ h. search named_ways depth 24) (λ h v. (refl, refl))
+    also said dialect.Monotonic monotonic_row monotonic_says
+    (λ h. search named_ways depth 24) (λ h v. (refl, refl)) also tt
 
 named_all : AllFound named_forms
 named_all = both_found (tail_forms graded_tails) marked_forms graded_all
@@ -492,36 +354,20 @@ named_all = both_found (tail_forms graded_tails) marked_forms graded_all
     (both_found (tail_forms program_tails) device_forms programs_all
     (both_found (tail_forms device_tails) undated_forms devices_all undated_all)))
 
-spread_found : TailFound spread_tail
-spread_found t v front = before_rest (left_of dialect.SpacedName v.0) (take 5 spread_row)
-    (a_host also a_gap also a_name also an_id also a_colon also tt) t v
-
 plain_all : AllFound plain_forms
-plain_all = both_found dated.plain_forms spread_forms plain_dated_all (tail_of spread_tail spread_found also tt)
+plain_all = both_found dated.plain_forms spread_forms plain_dated_all
+    (row_tail dialect.SpacedName spread_row spread_of (λ h. search named_ways depth 24) (λ h v. (refl, refl)) also tt)
 
 early_all : AllFound early_forms
 early_all = both_found dated_forms (named_forms ++ plain_forms) dated_all
     (both_found named_forms plain_forms named_all plain_all)
 
-program_alone : IsFoundForm program_form
-program_alone = said dialect.NoHost program_row program_sent (λ h.
-    before_rest (left_of dialect.NoHost h) (take 6 program_row)
-    (blanks also a_name also a_sign 91 refl also text_of (some_run is_ascii_digit) also a_sign 93 refl
-    also a_colon also tt))
-
-point_alone : IsFoundForm point_alone_form
-point_alone = said dialect.UniFi point_alone_row point_sent (λ h.
-    before_rest (left_of dialect.UniFi h) (take 7 point_alone_row)
-    (blanks also a_host also a_gap also passed point_word (λ p q w is. inr (inl (w, is))) also a_colon also a_gap
-    also a_program also tt))
-
-message_alone : IsFoundForm alone_form
-message_alone = said dialect.PriorityAlone alone_row (λ v. loose None None None None v.1.0) (λ h.
-    after_gap (left_of dialect.PriorityAlone h) [] tt (run is_blank) run_gap (such_that rest IsAlone) (λ x. x)
-    (λ p x is. is.0.1))
-
 last_all : AllFound last_forms
-last_all = program_alone also point_alone also message_alone also tt
+last_all =
+    said dialect.NoHost program_row program_sent (λ h. search named_ways depth 24) (λ h v. (refl, refl))
+    also said dialect.UniFi point_alone_row point_sent (λ h. search named_ways depth 24) (λ h v. (refl, refl))
+    also said dialect.PriorityAlone alone_row (λ v. loose None None None None v.1.0)
+    (λ h. search named_ways depth 9) (λ h v. (refl, refl)) also tt
 
 -- ---- each form
 

@@ -1,6 +1,7 @@
 pub mod DatedFoundLemmas
 pub mod FoundLemmas
 pub mod MessageLemmas
+pub mod Names
 pub mod NoteLemmas
 pub mod OddLemmas
 pub mod OrderLemmas

@@ -1,25 +1,16 @@
 -- The message of a dialect's line is the end of the text, and begins with no blank.
-use Rattle.std.proofs.Common.{◌≡◌, inl, inr, Bool, List, [], ◌∷◌, ◌++◌, Option, Some, None}
-use Rattle.std.proofs.Common.{refl, sym, ap, subst, ◌∙◌, append_assoc}
-use Rattle.std.specs.Prelude.{IfSome, option_map}
-use Rattle.std.specs.Str.{skip_leading_whitespace}
-use Rattle.syslog_elements.specs.StructuredData.Pairs.{paired}
-use Rattle.syslog_text.specs.Pieces.Class.{Text, Class, Ends, join, rest, run}
-use Rattle.syslog_text.specs.Text.{is_blank, trimmed}
+use Rattle.syslog_dialects.proofs.Names.{[], ◌++◌, ◌∙◌, ◌∷◌, ◌≡◌, ap, append_assoc, AreFound, Bool, Class, Dates}
+use Rattle.syslog_dialects.proofs.Names.{Dialect, division_front, Ends, IfSome, inl, inr, is_blank, IsOpened, IsSentIn}
+use Rattle.syslog_dialects.proofs.Names.{join, List, MessageValue, None, opened_row, Option, paired, Part, ProcId, refl}
+use Rattle.syslog_dialects.proofs.Names.{rest, row_head, run, SentValue, skip_leading_whitespace, Some, subst, sym}
+use Rattle.syslog_dialects.proofs.Names.{Tells, Text, trimmed}
+use Rattle.std.specs.Prelude.{option_map}
 use Rattle.syslog_text.specs.Text.Canonical.{EndsVisibly}
-use Rattle.syslog_text.proofs.PieceLemmas.Class.{division_front, rest_whole, row_head}
+use Rattle.syslog_text.proofs.PieceLemmas.Class.{rest_whole}
 use Rattle.syslog_pieces.specs.ProcId.{IsBoundedProcess, NamesProcess, named_process}
-use Rattle.syslog_pieces.specs.declared.procid.ProcId.{ProcId}
 use Rattle.syslog_pieces.specs.declared.procid.ProcId.TheVariants.{PID, Name}
 use Rattle.syslog_pieces.proofs.ProcIdLemmas.{named_names}
 use Rattle.syslog_loose.proofs.PrintedLemmas.{drop_ends}
-use Rattle.syslog_loose.specs.Message.{MessageValue}
-use Rattle.syslog_loose.specs.declared.dates.Dates.{Dates}
-use Rattle.syslog_sent.specs.Sent.{SentValue}
-use Rattle.syslog_sent.specs.declared.dialect.Dialect.{Dialect}
-use Rattle.syslog_dialects.specs.Found.{AreFound, Part, Tells}
-use Rattle.syslog_dialects.specs.Paired.{IsOpened, opened_row}
-use Rattle.syslog_dialects.specs.SentReading.{IsSentIn}
 use Rattle.syslog_dialects.proofs.FoundLemmas.{said_visibly}
 use Rattle.syslog_dialects.proofs.OrderLemmas.{end_of}
 use Rattle.syslog_dialects.proofs.PairedLemmas.{opened_keeps}

@@ -1,25 +1,21 @@
 -- What the readers of the lines that journalctl writes between messages return, and that none is of a dialect.
-use Rattle.std.proofs.Common.{◌≡◌, ◌≢◌, ◌<◌, ◌≤◌, ℕ, false, List, [], ◌∷◌, ◌++◌, length, Option, Some, None}
-use Rattle.std.proofs.Common.{refl, sym, ap, subst, ◌∙◌, arith}
+use Rattle.syslog_dialects.proofs.Names.{[], ◌++◌, ◌<◌, ◌↔◌, ◌∙◌, ◌∷◌, ◌≡◌, ◌≢◌, ap, arith, Bor, chars, chars_cut}
+use Rattle.syslog_dialects.proofs.Names.{encode_utf8_all, encodes-append, encodes-chars, exactly, false, heads, is_some}
+use Rattle.syslog_dialects.proofs.Names.{IsAscii, IsAscii-nil, IsNote, IsTrue, IsUtf8, length, List, MayBegin, nat_le}
+use Rattle.syslog_dialects.proofs.Names.{nat_tests, NoFront, None, one_ascii, Option, refl, shown}
+use Rattle.syslog_dialects.proofs.Names.{skip_leading_whitespace, Skips, Some, subst, sym, Text, trimmed, ℕ}
+use Rattle.std.proofs.Common.{◌≤◌}
 use Rattle.std.proofs.lemmas.List.{append_cancel_right}
-use Rattle.std.proofs.lemmas.Bool.Decides.{nat_tests}
-use Rattle.std.proofs.lemmas.Str.{IsUtf8-from_ascii, chars-IsAscii, encodes-append, encodes-chars, encodes-IsAscii}
-use Rattle.std.proofs.lemmas.Str.Ascii.{IsAscii-nil}
-use Rattle.std.specs.Borrow.{Bor}
+use Rattle.std.proofs.lemmas.Str.{IsUtf8-from_ascii, chars-IsAscii, encodes-IsAscii}
 use Rattle.std.specs.Char.{is_whitespace}
-use Rattle.std.specs.Option.{is_some}
-use Rattle.std.specs.Prelude.{◌↔◌, IsTrue, MatchOption, codes, nat_le, slice_index_or}
-use Rattle.std.specs.Str.{IsAscii, IsUtf8, chars, drop_trailing_whitespace, encode_utf8_all, skip_leading_whitespace}
+use Rattle.std.specs.Prelude.{MatchOption, codes, slice_index_or}
+use Rattle.std.specs.Str.{drop_trailing_whitespace}
 use Rattle.std.specs.Str.Pattern.{FindsTextSuffix, StripsSuffix}
-use Rattle.syslog_text.specs.Pieces.Class.{NoFront, Text, exactly}
-use Rattle.syslog_text.specs.Pieces.View.{Skips, shown}
-use Rattle.syslog_text.specs.Text.{trimmed}
-use Rattle.syslog_text.proofs.PieceLemmas.Class.{heads}
-use Rattle.syslog_text.proofs.TextLemmas.Runs.{ascii_front, before_utf8, chars_cut, one_ascii}
+use Rattle.syslog_text.proofs.TextLemmas.Runs.{ascii_front, before_utf8}
 use Rattle.syslog_sent.proofs.NamedLemmas.{ascii_told}
 use Rattle.syslog_loose.proofs.SettlingLemmas.Settles.{suffix_bytes}
-use Rattle.syslog_dialects.specs.Note.{BeginsNote, BeginsWith, IsNote}
-use Rattle.syslog_dialects.specs.SentReading.{MayBegin, begins}
+use Rattle.syslog_dialects.specs.Note.{BeginsNote, BeginsWith}
+use Rattle.syslog_dialects.specs.SentReading.{begins}
 
 -- ---- what the readers return
 

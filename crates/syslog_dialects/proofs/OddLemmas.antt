@@ -1,19 +1,17 @@
 -- What an odd app name begins with, a host that is the level of a line of ESXi, and the address of an access point.
-use Rattle.std.proofs.Common.{◌≡◌, ◌<◌, ◌≤◌, ℕ, true, false, List, [], ◌∷◌, ◌++◌, length, refl, sym, ap, ◌∙◌, inl, inr}
-use Rattle.std.proofs.Common.{◌+◌, append_assoc, arith, length-append, suc, subst}
-use Rattle.std.proofs.Common.{inl, inr, ◌⊎◌}
+use Rattle.syslog_dialects.proofs.Names.{[], ◌&&◌, ◌++◌, ◌<◌, ◌∙◌, ◌∷◌, ◌≡◌, ◌⊎◌, and_parts, ap, append_assoc, arith}
+use Rattle.syslog_dialects.proofs.Names.{Bool, chars, encode_utf8_all, false, inl, inr, is_ascii_digit, IsAscii}
+use Rattle.syslog_dialects.proofs.Names.{IsAscii-nil, IsTrue, IsUtf8, length, List, nat_tests, one_ascii, refl, subst}
+use Rattle.syslog_dialects.proofs.Names.{sym, Text, true, ℕ}
+use Rattle.std.proofs.Common.{◌-◌, ◌+◌, length-append, suc}
 use Rattle.std.proofs.Math.Seq.{get_or-append_seam}
-use Rattle.std.proofs.lemmas.Bool.{and_parts, cases_Bool}
-use Rattle.std.proofs.lemmas.Bool.Decides.{nat_tests}
-use Rattle.std.proofs.lemmas.Str.Ascii.{IsAscii-cons, IsAscii-nil, IsAscii-push}
-use Rattle.std.specs.Char.{is_ascii_digit}
-use Rattle.std.specs.Prelude.{nat_eq, slice_index, ◌&&◌, IsTrue}
-use Rattle.std.specs.Str.{IsAscii, IsUtf8, chars, encode_utf8_all}
-use Rattle.syslog_text.specs.Pieces.Class.{Text}
-use Rattle.syslog_text.proofs.TextLemmas.Runs.{ascii_ahead, chars_nonempty, one_ascii}
+use Rattle.std.proofs.lemmas.Bool.{cases_Bool}
+use Rattle.std.proofs.lemmas.Str.Ascii.{IsAscii-cons, IsAscii-push}
+use Rattle.std.specs.Prelude.{nat_eq, slice_index}
+use Rattle.syslog_text.proofs.TextLemmas.Runs.{ascii_ahead, chars_nonempty}
 use Rattle.syslog_sent.specs.Named.{is_letter}
-use Rattle.syslog_dialects.specs.Ordinary.{BeginsPlainly, begin_no_word, begins_oddly, has_bracket, is_level_mark}
-use Rattle.syslog_dialects.specs.Ordinary.{has_comma, has_percent, is_odd_app, opens_day, opens_mnemonic}
+use Rattle.syslog_dialects.specs.Ordinary.{BeginsPlainly, begin_no_word, begins_oddly, has_byte, is_level_mark}
+use Rattle.syslog_dialects.specs.Ordinary.{is_odd_app, opens_day, opens_mnemonic}
 use Rattle.syslog_named_forms.specs.Devices.{goes_on, is_hex, opens_address}
 
 oddly_low : (c : ℕ) → begins_oddly c ≡ true → c < 128
@@ -102,124 +100,99 @@ not_odd bs (c ∷ t) u e (some, plain) = elim (cases_Bool (begins_oddly c)) [
 pub plain_not_odd : (bs : List ℕ) → IsUtf8 bs → BeginsPlainly bs → is_odd_app (chars bs) ≡ false
 plain_not_odd bs u plain = not_odd bs (chars bs) u refl plain
 
+-- ---- the byte of a character after others of ASCII
+
+record HasChar (place c : ℕ) (t : Text) : Type 0 where
+  front : Text
+  more : Text
+  is : t ≡ front ++ (c ∷ more)
+  ascii : IsAscii front
+  long : length front ≡ place
+
+byte_there : (bs : List ℕ) (place c : ℕ) → IsUtf8 bs → c < 128 → HasChar place c (chars bs) → has_byte place c bs ≡ true
+byte_there bs place c u low it =
+    let front = it.front ++ c ∷ [] in
+    let bytes : bs ≡ front ++ encode_utf8_all it.more = ascii_ahead front it.more bs u
+    (IsAscii-push it.front c it.ascii low) (it.is ∙ sym (append_assoc it.front (c ∷ []) it.more)) in
+    let whole : bs ≡ it.front ++ (c ∷ encode_utf8_all it.more) =
+    bytes ∙ append_assoc it.front (c ∷ []) (encode_utf8_all it.more) in
+    let there : slice_index bs place ≡ c = rw whole
+    (subst (λ (n : ℕ). slice_index (it.front ++ (c ∷ encode_utf8_all it.more)) n ≡ c) it.long
+    (get_or-append_seam it.front c (encode_utf8_all it.more) 0)) in
+    let length_is = it.long in
+    let long : place < length bs =
+    omega (arith, ap length whole, length-append it.front (c ∷ encode_utf8_all it.more), length_is) in
+    grind (arith, nat_tests, there, long)
+
+-- where another byte is there, the text is none of those that have it
+none_without : (bs : List ℕ) (place c : ℕ) (test : Text → Bool) → IsUtf8 bs → c < 128
+    → ((t : Text) → test t ≡ true → HasChar place c t) → false ≡ has_byte place c bs → test (chars bs) ≡ false
+none_without bs place c test u low there n = elim (cases_Bool (test (chars bs))) [
+  | inl is ↦ (let bad : false ≡ true = n ∙ byte_there bs place c u low (there (chars bs) is) in cc)
+  | inr not ↦ not
+]
+
+-- ---- a level
+
 letter_low : (c : ℕ) → IsTrue (is_letter c) → c < 128
 letter_low c h = grind (arith, nat_tests)
 
--- two letters and a bracket, in characters and in bytes
-record HasLevel (t : Text) : Type 0 where
-  a : ℕ
-  b : ℕ
-  more : Text
-  is : t ≡ (a ∷ b ∷ 40 ∷ []) ++ more
-  low_a : a < 128
-  low_b : b < 128
-
-level_of : (t : Text) → is_level_mark t ≡ true → HasLevel t
+level_of : (t : Text) → is_level_mark t ≡ true → HasChar 2 40 t
 level_of (a ∷ b ∷ c ∷ more) h =
     let (letters, bracket) = and_parts (is_letter a && is_letter b) (nat_eq c 40) h in
     let (first, second) = and_parts (is_letter a) (is_letter b) letters in
     let same : c ≡ 40 = grind (arith, nat_tests, bracket) in record {
-      a = a;
-      b = b;
+      front = a ∷ b ∷ [];
       more = more;
       is = ap (λ (x : ℕ). a ∷ b ∷ x ∷ more) same;
-      low_a = letter_low a first;
-      low_b = letter_low b second;
+      ascii = IsAscii-cons a (b ∷ []) (letter_low a first) (one_ascii b (letter_low b second));
+      long = refl;
     }
 level_of [] h = absurd (let f : false ≡ true = h in cc)
 level_of (a ∷ []) h = absurd (let f : false ≡ true = h in cc)
 level_of (a ∷ b ∷ []) h = absurd (let f : false ≡ true = h in cc)
 
-level_bytes : (bs : List ℕ) → IsUtf8 bs → HasLevel (chars bs) → has_bracket bs ≡ true
-level_bytes bs u l =
-    let ascii = IsAscii-cons l.a (l.b ∷ 40 ∷ []) l.low_a (IsAscii-cons l.b (40 ∷ []) l.low_b
-    (IsAscii-cons 40 [] (omega arith) IsAscii-nil)) in
-    let bytes : bs ≡ (l.a ∷ l.b ∷ 40 ∷ []) ++ encode_utf8_all l.more = ascii_ahead (l.a ∷ l.b ∷ 40 ∷ []) l.more bs u
-    ascii l.is in
-    let long : 2 < length bs = rw bytes (omega arith) in
-    let third : slice_index bs 2 ≡ 40 = rw bytes refl in
-    grind (arith, nat_tests)
-
-pub no_level : (bs : List ℕ) → IsUtf8 bs → false ≡ has_bracket bs → is_level_mark (chars bs) ≡ false
-no_level bs u n = elim (cases_Bool (is_level_mark (chars bs))) [
-  | inl is ↦ (let bad : false ≡ true = n ∙ level_bytes bs u (level_of (chars bs) is) in cc)
-  | inr not ↦ not
-]
+pub no_level : (bs : List ℕ) → IsUtf8 bs → false ≡ has_byte 2 40 bs → is_level_mark (chars bs) ≡ false
+no_level bs u = none_without bs 2 40 is_level_mark u (omega arith) level_of
 
 -- ---- an address
 
 hex_low : (c : ℕ) → IsTrue (is_hex c) → c < 128
 hex_low c h = grind (arith, nat_tests)
 
--- the digits that are left of an address, and the comma after them
-record HasComma (n : ℕ) (t : Text) : Type 0 where
-  digits : Text
-  more : Text
-  is : t ≡ digits ++ (44 ∷ more)
-  ascii : IsAscii digits
-  all : n + length digits ≡ 12
-
-comma_of : (n : ℕ) (t : Text) → n ≤ 12 → goes_on n t ≡ true → HasComma n t
-comma_of n [] l g = absurd (let f : false ≡ true = g in cc)
-comma_of n (c ∷ cs) l g = elim (cases_Bool (nat_eq n 12)) [
+-- the comma after so many digits more, of twelve
+comma_of : (n left : ℕ) (t : Text) → n + left ≡ 12 → goes_on n t ≡ true → HasChar left 44 t
+comma_of n left [] l g = absurd (let f : false ≡ true = g in cc)
+comma_of n left (c ∷ cs) l g = elim (cases_Bool (nat_eq n 12)) [
   | inl e ↦ (let comma : nat_eq c 44 ≡ true = rw e at g in
       let same : c ≡ 44 = grind (arith, nat_tests, comma) in record {
-        digits = [];
+        front = [];
         more = cs;
         is = ap (λ (x : ℕ). x ∷ cs) same;
         ascii = IsAscii-nil;
-        all = grind (arith, nat_tests, e);
+        long = grind (arith, nat_tests, e, l);
       })
   | inr e ↦ (let (hex, on) = and_parts (is_hex c) (goes_on (suc n) cs) (rw e at g) in
-      let low : n < 12 = grind (arith, nat_tests, l, e) in
-      let it = comma_of (suc n) cs (omega (arith, low)) on in record {
-        digits = c ∷ it.digits;
+      let low : 0 < left = grind (arith, nat_tests, l, e) in
+      let it = comma_of (suc n) (left - 1) cs (omega (arith, low, l)) on in
+      let length_is = it.long in record {
+        front = c ∷ it.front;
         more = it.more;
         is = ap (λ (x : Text). c ∷ x) it.is;
-        ascii = IsAscii-cons c it.digits (hex_low c hex) it.ascii;
-        all = omega (arith, it.all);
+        ascii = IsAscii-cons c it.front (hex_low c hex) it.ascii;
+        long = omega (arith, length_is, low);
       })
 ]
 
-comma_bytes : (bs : List ℕ) → IsUtf8 bs → HasComma 0 (chars bs) → has_comma bs ≡ true
-comma_bytes bs u it =
-    let front = it.digits ++ 44 ∷ [] in
-    let bytes : bs ≡ front ++ encode_utf8_all it.more = ascii_ahead front it.more bs u
-    (IsAscii-push it.digits 44 it.ascii (omega arith)) (it.is ∙ sym (append_assoc it.digits (44 ∷ []) it.more)) in
-    let whole : bs ≡ it.digits ++ (44 ∷ encode_utf8_all it.more) =
-    bytes ∙ append_assoc it.digits (44 ∷ []) (encode_utf8_all it.more) in
-    let twelve : length it.digits ≡ 12 = omega (arith, it.all) in
-    let there : slice_index bs 12 ≡ 44 = rw whole
-    (subst (λ (n : ℕ). slice_index (it.digits ++ (44 ∷ encode_utf8_all it.more)) n ≡ 44) twelve
-    (get_or-append_seam it.digits 44 (encode_utf8_all it.more) 0)) in
-    let long : 12 < length bs =
-    omega (arith, ap length whole, length-append it.digits (44 ∷ encode_utf8_all it.more), twelve) in
-    grind (arith, nat_tests, there, long)
-
--- where the byte after twelve is no comma, no address begins the text
-pub no_address : (bs : List ℕ) → IsUtf8 bs → false ≡ has_comma bs → opens_address (chars bs) ≡ false
-no_address bs u n = elim (cases_Bool (opens_address (chars bs))) [
-  | inl is ↦ (let bad : false ≡ true = n ∙ comma_bytes bs u (comma_of 0 (chars bs) (omega arith) is) in cc)
-  | inr not ↦ not
-]
+pub no_address : (bs : List ℕ) → IsUtf8 bs → false ≡ has_byte 12 44 bs → opens_address (chars bs) ≡ false
+no_address bs u = none_without bs 12 44 opens_address u (omega arith) (λ t. comma_of 0 12 t refl)
 
 -- ---- a mnemonic
 
-percent_bytes : (bs : List ℕ) (t : Text) → IsUtf8 bs → chars bs ≡ 37 ∷ t → has_percent bs ≡ true
-percent_bytes bs t u e =
-    let bytes : bs ≡ (37 ∷ []) ++ encode_utf8_all t = ascii_ahead (37 ∷ []) t bs u (one_ascii 37 (omega arith)) e in
-    let some : 0 < length bs = rw bytes (omega arith) in
-    let first : slice_index bs 0 ≡ 37 = rw bytes refl in
-    grind (arith, nat_tests, some, first)
+percent_of : (t : Text) → opens_mnemonic t ≡ true → HasChar 0 37 t
+percent_of [] h = absurd (let f : false ≡ true = h in cc)
+percent_of (c ∷ t) h = let same : c ≡ 37 = grind (arith, nat_tests, h) in
+    record { front = []; more = t; is = ap (λ (x : ℕ). x ∷ t) same; ascii = IsAscii-nil; long = refl }
 
-percent_of : (bs : List ℕ) (t : Text) → IsUtf8 bs → chars bs ≡ t → false ≡ has_percent bs → opens_mnemonic t ≡ false
-percent_of bs [] u e n = refl
-percent_of bs (c ∷ t) u e n = elim (cases_Bool (nat_eq c 37)) [
-  | inl is ↦ (let same : c ≡ 37 = grind (arith, nat_tests, is) in
-      let bad : false ≡ true = n ∙ percent_bytes bs t u (e ∙ ap (λ (x : ℕ). x ∷ t) same) in cc)
-  | inr not ↦ not
-]
-
--- where the first byte is another, no mnemonic begins the text
-pub no_percent : (bs : List ℕ) → IsUtf8 bs → false ≡ has_percent bs → opens_mnemonic (chars bs) ≡ false
-no_percent bs u n = percent_of bs (chars bs) u refl n
+pub no_percent : (bs : List ℕ) → IsUtf8 bs → false ≡ has_byte 0 37 bs → opens_mnemonic (chars bs) ≡ false
+no_percent bs u = none_without bs 0 37 opens_mnemonic u (omega arith) percent_of

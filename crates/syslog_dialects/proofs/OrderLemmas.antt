@@ -1,22 +1,18 @@
--- What a text tells, by the pieces of a row that tell it.
-use Rattle.std.proofs.Common.{◌≡◌, ◌⊎◌, ◌||◌, inl, inr, ℕ, nat_eq, true, List, [], ◌∷◌, ◌++◌, Option, Some, None}
-use Rattle.std.proofs.Common.{refl, sym, ap, subst, ◌∙◌, append_assoc, MatchOption}
+-- What a text tells, by the pieces of a row that tell it. `search ways` finds how a row does, by its classes.
+use Rattle.syslog_dialects.proofs.Names.{[], ◌++◌, ◌otherwise◌, ◌∙◌, ◌∷◌, ◌≡◌, ◌⊎◌, and_parts, ap, append_assoc}
+use Rattle.syslog_dialects.proofs.Names.{beginning, Bool, Class, date_first, Each, ended, Ends, exactly, Front}
+use Rattle.syslog_dialects.proofs.Names.{front_of, host, host_first, if_there, inl, inr, is_blank, join, List, mapped}
+use Rattle.syslog_dialects.proofs.Names.{MatchOption, Name, nat_eq, None, number, Option, optional, Part, present_front}
+use Rattle.syslog_dialects.proofs.Names.{refl, rest, Row, row_head, run, SentValue, Some, some_run, spaced, subst}
+use Rattle.syslog_dialects.proofs.Names.{such_that, sym, tag_word, Tells, Text, texted, true, Values}
+use Rattle.std.proofs.Common.{◌||◌, ◌&&◌}
 use Rattle.std.proofs.lemmas.Bool.{or_left}
 use Rattle.std.proofs.lemmas.List.{append-nil}
-use Rattle.syslog_text.specs.Pieces.Class.{Text, Class, Each, Ends, Values, Front, Row, join}
-use Rattle.syslog_text.specs.Pieces.Class.{exactly, mapped, optional, rest, run, some_run, spaced, texted}
-use Rattle.syslog_text.specs.Pieces.Rules.{such_that}
-use Rattle.syslog_text.specs.Text.{IsHost, Names, colon, dash, host, is_blank, is_tag_char, tag_word, word}
-use Rattle.syslog_text.specs.Text.CharClass.{is_id_char, is_label_char}
-use Rattle.syslog_text.proofs.PieceLemmas.Class.{◌also◌, absent_stays, each_map, firsts, front_of, lasts, nil_front}
-use Rattle.syslog_text.proofs.PieceLemmas.Class.{present_front, row_head, rows_split, spaced_parts}
-use Rattle.syslog_dialects.specs.Found.{Date, IsDateOf, IsLeftOut, IsTold, Name, Part, Says, Tells, date_first}
-use Rattle.syslog_dialects.specs.Found.{host_first, if_there, is_sign}
-use Rattle.syslog_sent.specs.Named.{BeginsWith, ProgramText, beginning, begins_name, id_of, id_row, name, process_id}
-use Rattle.syslog_sent.specs.Named.{program, program_of, program_row}
-use Rattle.syslog_sent.specs.Sent.{SentValue}
-use Rattle.syslog_sent.specs.Zone.{bare_word}
-use Rattle.syslog_sent.specs.declared.sent.SentDate.{SentDate}
+use Rattle.syslog_text.specs.Text.{IsHost, Names, dash, word}
+use Rattle.syslog_text.proofs.PieceLemmas.Class.{absent_stays, each_map, nil_front, spaced_parts}
+use Rattle.syslog_dialects.specs.Found.{IsLeftOut, IsOfOne, IsTold, Says, Version, is_sign}
+use Rattle.syslog_named_forms.specs.Programs.{name_in, process_in}
+use Rattle.syslog_sent.specs.Named.{ProgramText, id_of, id_row, process_id, program, program_of, program_row}
 
 -- ---- the end of a text
 
@@ -67,10 +63,6 @@ says_more C x {parts} {msg} f says told =
       front = told.front;
     }
 
--- nothing more is told
-pub nothing_more : (left : List Class) (t : Text) → Ends is_blank t → Told left t [] t
-nothing_more left t front = record { tells = record { pieces = []; whole = refl; each = refl }; front = front }
-
 -- what a line says is told, with the date before the host or after it
 abbrev pub ToldSo : List Class → Text → SentValue → Type 0
 ToldSo left text sent = Told left text (date_first sent) sent.msg ⊎ Told left text (host_first sent) sent.msg
@@ -113,6 +105,62 @@ pub host_named : (p q : Text) (v : Option Text) → IsHost p q v → IsNamed p v
 host_named p q v (some, each, inl (no_colon, ends, is)) = names_named p v is
 host_named p q v (some, each, inr (s, follows, ends, same)) = subst (IsNamed p) (sym same) refl
 
+-- ---- pieces that are left out
+
+-- each piece of the class is
+pub record IsOut (left : List Class) (C : Class) : Type 0 where
+  pub is_out : (p q : Text) (v : C.Value) → C.Is p q v → IsLeftOut left p q
+
+-- one of the list
+pub data Among (C : Class) : List Class → Type 1 where
+  first : {Cs : List Class} → Among C (C ∷ Cs)
+  later : {D : Class} {Cs : List Class} → Among C Cs → Among C (D ∷ Cs)
+
+of_one : {C : Class} {Cs : List Class} → Among C Cs → (p q : Text) (v : C.Value) → C.Is p q v → IsOfOne Cs p q
+of_one first p q v is = inl (v, is)
+of_one (later a) p q v is = inr (of_one a p q v is)
+
+pub listed : {left : List Class} {C : Class} → Among C left → IsOut left C
+listed a = record { is_out = λ p q v is. inr (of_one a p q v is) }
+
+-- signs
+abbrev are_signs : Text → Bool
+are_signs [] = true
+are_signs (c ∷ t) = is_sign c && are_signs t
+
+each_sign : (t : Text) → are_signs t ≡ true → Each is_sign t
+each_sign [] h = tt
+each_sign (c ∷ t) h = let (here, more) = and_parts (is_sign c) (are_signs t) h in (here, each_sign t more)
+
+pub signs : {left : List Class} {t : Text} → are_signs t ≡ true → IsOut left (exactly t)
+signs {t = t} h = record { is_out = λ p q v is. inl (subst (Each is_sign) (sym is) (each_sign t h)) }
+
+pub blanks : {left : List Class} → IsOut left (run is_blank)
+blanks = record { is_out = λ p q v is. inl (blank_signs p is.0) }
+
+pub gap : {left : List Class} → IsOut left (some_run is_blank)
+gap = record { is_out = λ p q v is. inl (blank_signs p is.1) }
+
+-- of two classes
+either_out : {left : List Class} {C D : Class} → IsOut left C → IsOut left D → (p q : Text) (v : C.Value ⊎ D.Value)
+    → (C otherwise D).Is p q v → IsLeftOut left p q
+either_out c d p q (inl v) is = c.is_out p q v is
+either_out c d p q (inr v) is = d.is_out p q v is.1
+
+pub either : {left : List Class} {C D : Class} → IsOut left C → IsOut left D → IsOut left (C otherwise D)
+either c d = record { is_out = either_out c d }
+
+pub at_end : {left : List Class} {C : Class} → IsOut left C → IsOut left (ended C)
+at_end out = record { is_out = λ p q v is. out.is_out p q v is.0 }
+
+maybe_out : {left : List Class} {C : Class} → IsOut left C → (p q : Text) (v : Option C.Value)
+    → (optional C).Is p q v → IsLeftOut left p q
+maybe_out out p q None is = inl (subst (Each is_sign) (sym is.0) tt)
+maybe_out out p q (Some v) is = out.is_out p q v is
+
+pub maybe : {left : List Class} {C : Class} → IsOut left C → IsOut left (optional C)
+maybe out = record { is_out = maybe_out out }
+
 -- ---- what a piece of a class adds
 
 abbrev pub Has : (left : List Class) (C : Class) → (C.Value → List Part → List Part) → Type 0
@@ -123,59 +171,27 @@ pub record Shows (left : List Class) (C : Class) : Type 0 where
   pub adds : C.Value → List Part → List Part
   pub has : Has left C adds
 
--- each piece of the class is left out
-abbrev pub IsOut : List Class → Class → Type 0
-IsOut left C = (p q : Text) (v : C.Value) → C.Is p q v → IsLeftOut left p q
-
-abbrev pub passed : {left : List Class} (C : Class) → IsOut left C → Shows left C
-passed C out = record {
+abbrev pub passed : {left : List Class} {C : Class} → IsOut left C → Shows left C
+passed {C = C} out = record {
   adds = λ v parts. parts;
-  has = λ t q v f parts msg told. out_more C f (out f.piece q v f.is) told;
-}
-
-pub maybe_out : (left : List Class) (C : Class) → IsOut left C → IsOut left (optional C)
-maybe_out left C out p q None is = inl (subst (Each is_sign) (sym is.0) tt)
-maybe_out left C out p q (Some v) is = out p q v is
-
-abbrev pub maybe : {left : List Class} (C : Class) → IsOut left C → Shows left (optional C)
-maybe {left} C out = passed (optional C) (maybe_out left C out)
-
--- a part
-abbrev pub shown : {left : List Class} (C : Class) (part : C.Value → Part)
-    → ((p q : Text) (v : C.Value) → C.Is p q v → Says p q (part v)) → Shows left C
-shown C part says = record {
-  adds = λ v parts. part v ∷ parts;
-  has = λ t q v f parts msg told. says_more C (part v) f (says f.piece q v f.is) told;
+  has = λ t q v f parts msg told. out_more C f (out.is_out f.piece q v f.is) told;
 }
 
 -- a name or none
-abbrev pub named : {left : List Class} (C : Class) (name_in : C.Value → Option Text)
-    → ((p q : Text) (v : C.Value) → C.Is p q v → IsNamed p (name_in v)) → Shows left C
-named C name_in is = record {
-  adds = λ v parts. if_there Name (name_in v) parts;
-  has = λ t q v f parts msg told. name_more C (name_in v) f (is f.piece q v f.is) told;
-}
-
--- the part of a piece that may be absent
-pub optional_has : (left : List Class) (C : Class) (part : C.Value → Part) → Has left C (λ v parts. part v ∷ parts)
-    → Has left (optional C) (λ o parts. if_there part o parts)
-optional_has left C part has t q None f parts msg told =
-    subst (λ (x : Text). Told left x parts msg) (sym (absent_stays C f)) told
-optional_has left C part has t q (Some v) f parts msg told = has t q v (present_front C f) parts msg told
-
-abbrev pub perhaps : {left : List Class} (C : Class) (part : C.Value → Part) → Has left C (λ v parts. part v ∷ parts)
-    → Shows left (optional C)
-perhaps {left} C part has = record {
-  adds = λ o parts. if_there part o parts;
-  has = optional_has left C part has;
+abbrev pub named : {left : List Class} (C : Class) (name_of : C.Value → Option Text)
+    → ((p q : Text) (v : C.Value) → C.Is p q v → IsNamed p (name_of v)) → Shows left C
+named C name_of is = record {
+  adds = λ v parts. if_there Name (name_of v) parts;
+  has = λ t q v f parts msg told. name_more C (name_of v) f (is f.piece q v f.is) told;
 }
 
 -- of a piece whose meaning has a property
-abbrev pub such : {left : List Class} (C : Class) (P : C.Value → Type 0) → Shows left C → Shows left (such_that C P)
-such C P shows = record {
-  adds = shows.adds;
-  has = λ t q v f parts msg told. shows.has t q v (front_of f.piece f.whole f.is.0) parts msg told;
-}
+pub such_has : {left : List Class} {C : Class} {P : C.Value → Type 0} (adds : C.Value → List Part → List Part)
+    → Has left C adds → Has left (such_that C P) adds
+such_has adds has t q v f parts msg told = has t q v (front_of f.piece f.whole f.is.0) parts msg told
+
+abbrev pub such : {left : List Class} {C : Class} {P : C.Value → Type 0} → Shows left C → Shows left (such_that C P)
+such s = record { adds = s.adds; has = such_has s.adds s.has }
 
 -- of a piece with another meaning
 pub mapped_has : (left : List Class) (C : Class) (B : Type 0) (meaning : C.Value → B)
@@ -189,55 +205,68 @@ abbrev pub meant : {left : List Class} (C : Class) (B : Type 0) (meaning : C.Val
     (adds : B → List Part → List Part) → Has left C (λ v. adds (meaning v)) → Shows left (mapped C B meaning)
 meant {left} C B meaning adds has = record { adds = adds; has = mapped_has left C B meaning adds has }
 
+-- one part
+pub record SaysOne (left : List Class) (C : Class) : Type 0 where
+  pub part : C.Value → Part
+  pub has : Has left C (λ v parts. part v ∷ parts)
+
+abbrev pub shown : {left : List Class} (C : Class) (part : C.Value → Part)
+    → ((p q : Text) (v : C.Value) → C.Is p q v → Says p q (part v)) → SaysOne left C
+shown C part says = record {
+  part = part;
+  has = λ t q v f parts msg told. says_more C (part v) f (says f.piece q v f.is) told;
+}
+
+abbrev pub such_one : {left : List Class} {C : Class} {P : C.Value → Type 0} → SaysOne left C
+    → SaysOne left (such_that C P)
+such_one s = record { part = s.part; has = such_has (λ v parts. s.part v ∷ parts) s.has }
+
+abbrev pub meant_one : {left : List Class} (C : Class) (meaning : C.Value → Text)
+    → Has left C (λ v parts. Name (meaning v) ∷ parts) → SaysOne left (mapped C Text meaning)
+meant_one {left} C meaning has =
+    record { part = Name; has = mapped_has left C Text meaning (λ t parts. Name t ∷ parts) has }
+
+abbrev pub one : {left : List Class} {C : Class} → SaysOne left C → Shows left C
+one s = record { adds = λ v parts. s.part v ∷ parts; has = s.has }
+
+-- the part of a piece that may be absent
+pub perhaps_has : {left : List Class} {C : Class} (s : SaysOne left C)
+    → Has left (optional C) (λ o parts. if_there s.part o parts)
+perhaps_has {left} {C} s t q None f parts msg told =
+    subst (λ (x : Text). Told left x parts msg) (sym (absent_stays C f)) told
+perhaps_has {C = C} s t q (Some v) f parts msg told = s.has t q v (present_front C f) parts msg told
+
+abbrev pub perhaps : {left : List Class} {C : Class} → SaysOne left C → Shows left (optional C)
+perhaps s = record { adds = λ o parts. if_there s.part o parts; has = perhaps_has s }
+
 -- ---- rows
 
-abbrev pub AllShow : List Class → List Class → Type 0
-AllShow left [] = Unit {0}
-AllShow left (C ∷ Cs) = Shows left C × AllShow left Cs
+-- what each class of a row shows
+infixr 20 ◌with◌
+pub data AllShow (left : List Class) : List Class → Type 1 where
+  none : AllShow left []
+  ◌with◌ : {C : Class} {Cs : List Class} → Shows left C → AllShow left Cs → AllShow left (C ∷ Cs)
 
 -- what the pieces of a row add
-abbrev pub added : (left Cs : List Class) → AllShow left Cs → Values Cs → List Part → List Part
-added left [] shows vs parts = parts
-added left (C ∷ Cs) shows vs parts = shows.0.adds vs.0 (added left Cs shows.1 vs.1 parts)
+abbrev pub added : {left Cs : List Class} → AllShow left Cs → Values Cs → List Part → List Part
+added none vs parts = parts
+added (s with ss) vs parts = s.adds vs.0 (added ss vs.1 parts)
 
-pub row_has : (left Cs : List Class) (shows : AllShow left Cs) → Has left (Row Cs) (added left Cs shows)
-row_has left [] shows t q vs f parts msg told =
+pub row_has : (left Cs : List Class) (shows : AllShow left Cs) → Has left (Row Cs) (added shows)
+row_has left _ none t q vs f parts msg told =
     subst (λ (x : Text). Told left x parts msg) (sym (nil_front f)) told
-row_has left (C ∷ Cs) shows t q vs f parts msg told =
-    let (u, first, others) = row_head C Cs f in
-    shows.0.has t u vs.0 first (added left Cs shows.1 vs.1 parts) msg
-    (row_has left Cs shows.1 u q vs.1 others parts msg told)
+row_has left _ (◌with◌ {C = C} {Cs = Cs} s ss) t q vs f parts msg told =
+    let (u, here, others) = row_head C Cs f in
+    s.has t u vs.0 here (added ss vs.1 parts) msg (row_has left Cs ss u q vs.1 others parts msg told)
 
-pub row_more : {left : List Class} (Cs : List Class) (shows : AllShow left Cs) {t q : Text} {vs : Values Cs}
-    {parts : List Part} {msg : Text} → Front (Row Cs) t q vs → Told left q parts msg
-    → Told left t (added left Cs shows vs parts) msg
-row_more {left} Cs shows {t} {q} {vs} {parts} {msg} f told = row_has left Cs shows t q vs f parts msg told
-
--- ---- blanks and other signs
-
-abbrev pub blanks : {left : List Class} → Shows left (run is_blank)
-blanks = passed (run is_blank) (λ p q v is. inl (blank_signs p is.0))
-
-abbrev pub a_gap : {left : List Class} → Shows left (some_run is_blank)
-a_gap = passed (some_run is_blank) (λ p q v is. inl (blank_signs p is.1))
-
-pub sign_out : (left : List Class) (c : ℕ) → is_sign c ≡ true → IsOut left (exactly (c ∷ []))
-sign_out left c sign p q v is = inl (subst (Each is_sign) (sym is) (sign, tt))
-
-abbrev pub a_sign : {left : List Class} (c : ℕ) → is_sign c ≡ true → Shows left (exactly (c ∷ []))
-a_sign {left} c sign = passed (exactly (c ∷ [])) (sign_out left c sign)
-
-abbrev pub a_colon : {left : List Class} → Shows left (exactly colon)
-a_colon = a_sign 58 refl
-
-abbrev pub maybe_colon : {left : List Class} → Shows left (optional (exactly colon))
-maybe_colon {left} = maybe (exactly colon) (sign_out left 58 refl)
-
--- ---- names
+-- ---- what shows a name, or several
 
 -- the piece itself
-abbrev pub text_of : {left : List Class} (C : Class) → Shows left (texted C)
-text_of C = shown (texted C) Name (λ p q t is. sym is.2)
+abbrev pub a_text : {left : List Class} {C : Class} → SaysOne left (texted C)
+a_text {C = C} = shown (texted C) Name (λ p q t is. sym is.2)
+
+abbrev pub a_version : {left : List Class} → SaysOne left (number 999)
+a_version = shown (number 999) Version (λ p q n is. is)
 
 abbrev pub a_host : {left : List Class} → Shows left host
 a_host = named host (λ v. v) host_named
@@ -245,25 +274,41 @@ a_host = named host (λ v. v) host_named
 abbrev pub a_word : {left : List Class} → Shows left word
 a_word = named word (λ v. v) (λ p q v is. names_named p v is.4)
 
--- a word that begins so
-abbrev pub bare : {left : List Class} (P : Text → Type 0) → Shows left (such_that bare_word P)
-bare P = such bare_word P (text_of (some_run is_tag_char))
+pub ruleset outs = (passed, blanks, gap, signs, maybe, listed, first, later, either, at_end)
+
+-- what finds how pieces show what they do
+pub ruleset pieces = (none, ◌with◌, outs, one, a_text, such_one, perhaps, a_version, a_host, a_word, such)
 
 -- the id of a process
-abbrev pub an_id : {left : List Class} → Shows left process_id
-an_id {left} = meant (Row id_row) Text id_of (λ t parts. Name t ∷ parts)
-    (row_has left id_row (a_sign 91 refl also text_of (some_run is_id_char) also a_sign 93 refl also tt))
+pub id_has : (left : List Class) → Has left (Row id_row) (λ v parts. Name (id_of v) ∷ parts)
+id_has left = row_has left id_row (search pieces depth 9)
+
+abbrev pub an_id : {left : List Class} → SaysOne left process_id
+an_id {left} = meant_one (Row id_row) id_of (id_has left)
 
 -- a program's name, and the id of its process
 abbrev pub program_parts : ProgramText → List Part → List Part
 program_parts p parts = Name p.name ∷ if_there Name p.process parts
 
-abbrev pub a_name : {left : List Class} → Shows left name
-a_name = such (texted (some_run is_label_char)) (BeginsWith begins_name) (text_of (some_run is_label_char))
+pub program_has : (left : List Class) → Has left (Row program_row) (λ v. program_parts (program_of v))
+program_has left = row_has left program_row (search (an_id, pieces) depth 9)
 
 abbrev pub a_program : {left : List Class} → Shows left program
-a_program {left} = meant (Row program_row) ProgramText program_of program_parts
-    (row_has left program_row (a_name also perhaps process_id Name (an_id {left = left}).has also a_colon also tt))
+a_program {left} = meant (Row program_row) ProgramText program_of program_parts (program_has left)
+
+-- or neither
+pub maybe_program : (left : List Class)
+    → Has left (optional program) (λ p parts. if_there Name (name_in p) (if_there Name (process_in p) parts))
+maybe_program left t q None f parts msg told =
+    subst (λ (x : Text). Told left x parts msg) (sym (absent_stays program f)) told
+maybe_program left t q (Some p) f parts msg told =
+    (a_program {left = left}).has t q p (present_front program f) parts msg told
+
+abbrev pub a_program_or_none : {left : List Class} → Shows left (optional program)
+a_program_or_none {left} = record {
+  adds = λ p parts. if_there Name (name_in p) (if_there Name (process_in p) parts);
+  has = maybe_program left;
+}
 
 -- ---- fields, which may be there and empty
 
@@ -299,86 +344,97 @@ no_field {left} C {parts = parts} {msg = msg} g told =
 pub tag_named : (p q : Text) (v : Option Text) → tag_word.Is p q v → IsNamed p v
 tag_named p q v is = names_named p v is.3
 
--- ---- dates
-
--- a piece of the class is a date
-abbrev pub a_date : {left : List Class} (C : Class) (date_in : C.Value → SentDate)
-    → ((p q : Text) (v : C.Value) → C.Is p q v → IsDateOf p q (date_in v)) → Shows left C
-a_date C date_in is = shown C (λ v. Date (date_in v)) is
-
 -- ---- the message at the end
 
 -- a text that is a piece of the class tells these parts, and ends in the message
 abbrev pub Ending : (left : List Class) (C : Class) → (C.Value → List Part) → (C.Value → Text) → Type 0
 Ending left C parts msg = (t : Text) (v : C.Value) → Front C t [] v → Told left t (parts v) (msg v)
 
--- the whole text is the message
-pub whole_found : (left : List Class) (C : Class) (msg : C.Value → Text)
-    → ((p : Text) (v : C.Value) → C.Is p [] v → msg v ≡ p) → (t : Text) (v : C.Value) → Ends is_blank t
-    → Front C t [] v → Told left t [] (msg v)
-whole_found left C msg is_whole t v front f =
-    let same = is_whole f.piece v f.is ∙ whole_of C f in
-    subst (λ (x : Text). Told left x [] (msg v)) same
-    (nothing_more left (msg v) (subst (Ends is_blank) (sym same) front))
+pub record EndsSo (left : List Class) (C : Class) : Type 0 where
+  pub parts : C.Value → List Part
+  pub msg : C.Value → Text
+  pub ends : Ending left C parts msg
 
--- a row whose last class ends so
-pub last_found : (left As : List Class) (shows : AllShow left As) (C : Class) (parts : C.Value → List Part)
-    (msg : C.Value → Text) → Ending left C parts msg
-    → Ending left (Row (As ++ (C ∷ [])))
-    (λ v. added left As shows (firsts As (C ∷ []) v) (parts (lasts As (C ∷ []) v).0))
-    (λ v. msg (lasts As (C ∷ []) v).0)
-last_found left As shows C parts msg ends t v f =
-    let (u, a, b) = rows_split As (C ∷ []) f in
-    let w = (lasts As (C ∷ []) v).0 in
-    row_has left As shows t u (firsts As (C ∷ []) v) a (parts w) (msg w) (ends u w (end_of C b))
-
--- all blanks that are there
-abbrev pub IsGap : Class → Type 0
-IsGap B = (p q : Text) (v : B.Value) → B.Is p q v → Each is_blank p × Ends is_blank q
-
-pub run_gap : IsGap (run is_blank)
-run_gap p q v is = is
-
-pub some_gap : IsGap (some_run is_blank)
-some_gap p q v is = (is.1, is.2)
-
--- a row whose last class is all that follows blanks
-pub after_gap : (left As : List Class) (shows : AllShow left As) (B : Class) → IsGap B → (C : Class)
-    (msg : C.Value → Text) → ((p : Text) (v : C.Value) → C.Is p [] v → msg v ≡ p)
-    → Ending left (Row (As ++ (B ∷ C ∷ []))) (λ v. added left As shows (firsts As (B ∷ C ∷ []) v) [])
-    (λ v. msg (lasts As (B ∷ C ∷ []) v).1.0)
-after_gap left As shows B is_gap C msg is_whole t v f =
-    let (u, a, b) = rows_split As (B ∷ C ∷ []) f in
-    let w = lasts As (B ∷ C ∷ []) v in
-    let (q, gap, more) = row_head B (C ∷ []) b in
-    let (blank, front) = is_gap gap.piece q w.0 gap.is in
-    row_has left As shows t u (firsts As (B ∷ C ∷ []) v) a [] (msg w.1.0)
-    (out_more B gap (inl (blank_signs gap.piece blank)) (whole_found left C msg is_whole q w.1.0 front (end_of C more)))
-
--- or the rest
-pub before_rest : (left As : List Class) (shows : AllShow left As)
-    → Ending left (Row (As ++ (run is_blank ∷ rest ∷ [])))
-    (λ v. added left As shows (firsts As (run is_blank ∷ rest ∷ []) v) [])
-    (λ v. (lasts As (run is_blank ∷ rest ∷ []) v).1.0)
-before_rest left As shows = after_gap left As shows (run is_blank) run_gap rest (λ v. v) (λ p v is. is.1)
-
-pub before_spaced_rest : (left As : List Class) (shows : AllShow left As)
-    → Ending left (Row (As ++ (some_run is_blank ∷ rest ∷ [])))
-    (λ v. added left As shows (firsts As (some_run is_blank ∷ rest ∷ []) v) [])
-    (λ v. (lasts As (some_run is_blank ∷ rest ∷ []) v).1.0)
-before_spaced_rest left As shows = after_gap left As shows (some_run is_blank) some_gap rest (λ v. v) (λ p v is. is.1)
-
--- or a message that a piece of the class begins
-pub before_message : (left As : List Class) (shows : AllShow left As) (D : Class)
-    → Ending left (Row (As ++ (some_run is_blank ∷ beginning D ∷ [])))
-    (λ v. added left As shows (firsts As (some_run is_blank ∷ beginning D ∷ []) v) [])
-    (λ v. (lasts As (some_run is_blank ∷ beginning D ∷ []) v).1.0)
-before_message left As shows D =
-    after_gap left As shows (some_run is_blank) some_gap (beginning D) (λ x. x) (λ p x is. is.1)
-
+-- of a piece with another meaning
 pub mapped_found : (left : List Class) (C : Class) (B : Type 0) (meaning : C.Value → B) (parts : B → List Part)
     (msg : B → Text) → Ending left C (λ v. parts (meaning v)) (λ v. msg (meaning v))
     → Ending left (mapped C B meaning) parts msg
 mapped_found left C B meaning parts msg ends t b f =
     let (v, is, same) = f.is in
     subst (λ (x : B). Told left t (parts x) (msg x)) (sym same) (ends t v (front_of f.piece f.whole is))
+
+-- a piece that ends the text is the message
+pub record IsMessage (C : Class) : Type 0 where
+  pub msg : C.Value → Text
+  pub is : (p : Text) (v : C.Value) → C.Is p [] v → msg v ≡ p
+
+abbrev pub the_rest : IsMessage rest
+the_rest = record { msg = λ v. v; is = λ p v is. is.1 }
+
+abbrev pub begun : {D : Class} → IsMessage (beginning D)
+begun = record { msg = λ v. v; is = λ p v is. is.1 }
+
+abbrev pub such_message : {C : Class} {P : C.Value → Type 0} → IsMessage C → IsMessage (such_that C P)
+such_message m = record { msg = m.msg; is = λ p v is. m.is p v is.0 }
+
+pub whole_found : {C : Class} (m : IsMessage C) (left : List Class) (t : Text) (v : C.Value) → Ends is_blank t
+    → Front C t [] v → Told left t [] (m.msg v)
+whole_found {C} m left t v front f =
+    let same = m.is f.piece v f.is ∙ whole_of C f in
+    subst (λ (x : Text). Told left x [] (m.msg v)) same (record {
+      tells = record { pieces = []; whole = refl; each = refl };
+      front = subst (Ends is_blank) (sym same) front;
+    })
+
+-- all blanks that are there
+pub record IsGap (B : Class) : Type 0 where
+  pub is : (p q : Text) (v : B.Value) → B.Is p q v → Each is_blank p × Ends is_blank q
+
+pub run_gap : IsGap (run is_blank)
+run_gap = record { is = λ p q v is. is }
+
+pub some_gap : IsGap (some_run is_blank)
+some_gap = record { is = λ p q v is. (is.1, is.2) }
+
+-- how a row tells its parts: what its pieces show, and the message after blanks, or a piece that ends in it
+infixr 20 ◌on◌
+pub data Way (left : List Class) : List Class → Type 1 where
+  all : {B C : Class} → IsGap B → IsMessage C → Way left (B ∷ C ∷ [])
+  ending : {C : Class} → EndsSo left C → Way left (C ∷ [])
+  ◌on◌ : {C : Class} {Cs : List Class} → Shows left C → Way left Cs → Way left (C ∷ Cs)
+
+abbrev pub parts_of : {left Cs : List Class} → Way left Cs → Values Cs → List Part
+parts_of (all g m) vs = []
+parts_of (ending e) vs = e.parts vs.0
+parts_of (s on w) vs = s.adds vs.0 (parts_of w vs.1)
+
+abbrev pub msg_of : {left Cs : List Class} → Way left Cs → Values Cs → Text
+msg_of (all g m) vs = m.msg vs.1.0
+msg_of (ending e) vs = e.msg vs.0
+msg_of (s on w) vs = msg_of w vs.1
+
+pub way_ends : {left : List Class} (Cs : List Class) (w : Way left Cs) → Ending left (Row Cs) (parts_of w) (msg_of w)
+way_ends {left} _ (all {B = B} {C = C} g m) t vs f =
+    let (q, here, more) = row_head B (C ∷ []) f in
+    let (blank, front) = g.is here.piece q vs.0 here.is in
+    out_more B here (inl (blank_signs here.piece blank)) (whole_found m left q vs.1.0 front (end_of C more))
+way_ends _ (ending {C = C} e) t vs f = e.ends t vs.0 (end_of C f)
+way_ends _ (◌on◌ {C = C} {Cs = Cs} s w) t vs f =
+    let (u, here, others) = row_head C Cs f in
+    s.has t u vs.0 here (parts_of w vs.1) (msg_of w vs.1) (way_ends Cs w u vs.1 others)
+
+-- the row says these parts and this message
+abbrev pub SaysSo : {left Cs : List Class} → Way left Cs → (Values Cs → List Part) → (Values Cs → Text) → Type 0
+SaysSo {Cs = Cs} w parts msg = (vs : Values Cs) → (parts_of w vs ≡ parts vs) × (msg_of w vs ≡ msg vs)
+
+pub so_found : {left : List Class} (Cs : List Class) (w : Way left Cs) (parts : Values Cs → List Part)
+    (msg : Values Cs → Text) → SaysSo w parts msg → Ending left (Row Cs) parts msg
+so_found {left} Cs w parts msg same t vs f =
+    let (says, ends) = same vs in
+    subst (λ (x : Text). Told left t (parts vs) x) ends
+    (subst (λ (x : List Part). Told left t x (msg_of w vs)) says (way_ends Cs w t vs f))
+
+pub ruleset endings = (all, ◌on◌, ending, run_gap, some_gap, the_rest, begun, such_message)
+
+-- what finds the way of a row
+pub ruleset ways = (endings, a_program, a_program_or_none, an_id, pieces)

@@ -1,34 +1,22 @@
 -- Tags, and that a text has ordinary lines alone or none.
-use Rattle.std.proofs.Common.{◌≡◌, inl, inr, ℕ, Bool, true, false, List, [], ◌∷◌, ◌++◌, Option, Some, None, MatchOption}
-use Rattle.std.proofs.Common.{refl, sym, ap, subst, ◌∙◌, append_assoc}
-use Rattle.std.proofs.lemmas.Str.{encodes-append, encodes-chars}
-use Rattle.std.specs.Borrow.{Bor}
-use Rattle.std.specs.Option.{is_some}
-use Rattle.std.specs.Prelude.{IsSome, IsTrue, MatchBool}
-use Rattle.std.specs.Str.{IsUtf8, chars, encode_utf8_all}
+use Rattle.syslog_dialects.proofs.Names.{[], ◌++◌, ◌also◌, ◌then◌, ◌∙◌, ◌∷◌, ◌≡◌, AllDeterministic, ap, append_assoc}
+use Rattle.syslog_dialects.proofs.Names.{Bool, Bor, chars, chars_cut, ClockStamp, Dating, encode_utf8_all}
+use Rattle.syslog_dialects.proofs.Names.{encodes-append, encodes-chars, ended, exactly, exactly_det, false, Front}
+use Rattle.syslog_dialects.proofs.Names.{front_of, front_same, heads, inl, inr, is_some, IsLineOf, IsOrdinary, IsSome}
+use Rattle.syslog_dialects.proofs.Names.{IsTrue, IsUtf8, KnowsForm, Line, line_value, List, MatchBool, MatchOption}
+use Rattle.syslog_dialects.proofs.Names.{MessageValue, no_front_no, NoFront, None, Option, ProcId, protocol_of, refl}
+use Rattle.syslog_dialects.proofs.Names.{Row, row_det, row_of, seen, shown, Skips, Some, subst, sym, tag_row, Text}
+use Rattle.syslog_dialects.proofs.Names.{true, Variant, ℕ}
 use Rattle.std.specs.Str.Pattern.{FindsTextPrefix, StripsPrefix}
-use Rattle.syslog_text.specs.Pieces.Class.{Front, Text, NoFront, IsDeterministic, Row, exactly}
-use Rattle.syslog_text.specs.Pieces.View.{Skips, seen, shown}
+use Rattle.syslog_text.specs.Pieces.Class.{IsDeterministic}
 use Rattle.syslog_pieces.specs.ProcId.{procid_text}
 use Rattle.syslog_pieces.specs.Timestamp.{stamp_seen}
-use Rattle.syslog_pieces.specs.Timestamp.Zone.{Dating}
-use Rattle.syslog_pieces.specs.declared.procid.ProcId.{ProcId}
-use Rattle.syslog_pieces.specs.declared.timestamp.clock.ClockStamp.{ClockStamp}
-use Rattle.syslog_text.proofs.PieceLemmas.Class.{AllDeterministic, ◌also◌, ◌then◌, exactly_det, front_of}
-use Rattle.syslog_text.proofs.PieceLemmas.Class.{front_same, heads, no_front_no, piece_front}
-use Rattle.syslog_text.proofs.PieceLemmas.Class.{row_det, row_of}
-use Rattle.syslog_text.proofs.TextLemmas.Runs.{chars_cut}
+use Rattle.syslog_text.proofs.PieceLemmas.Class.{piece_front}
 use Rattle.syslog_loose.proofs.LineLemmas.{line_rest}
-use Rattle.syslog_sent.specs.Zone.{ended}
 use Rattle.syslog_loose.proofs.Rfc3164Lemmas.{stamped_det}
 use Rattle.syslog_loose.specs.Rows.{stamped_row}
-use Rattle.syslog_loose.specs.Line.{KnowsForm, line_value, protocol_of}
-use Rattle.syslog_loose.specs.Message.{MessageValue}
 use Rattle.syslog_loose.specs.Printed.{rest_text, spaced_elements, tag_text}
-use Rattle.syslog_loose.specs.Visit.{IsLineOf}
-use Rattle.syslog_loose.specs.declared.line.Line.{Line}
-use Rattle.syslog_loose.specs.declared.variant.Variant.{Variant}
-use Rattle.syslog_dialects.specs.Ordinary.{IsOrdinary, IsTag, IsTagged, is_odd, mark, tag_row}
+use Rattle.syslog_dialects.specs.Ordinary.{IsTag, IsTagged, is_odd, mark}
 use Rattle.syslog_dialects.proofs.PairedLemmas.{paired_too}
 
 -- ---- what `strip_prefix` gives

@@ -1,40 +1,25 @@
 -- Check Point's element: a message is opened in one way, and keeps all but its message part.
-use Rattle.std.proofs.Common.{◌≡◌, ◌≢◌, inl, inr, ℕ, true, List, [], ◌∷◌, ◌++◌, Option, Some, None, refl, sym, ap}
-use Rattle.std.proofs.Common.{subst}
-use Rattle.std.proofs.Common.{◌∙◌}
-use Rattle.std.specs.Prelude.{IsSome, MatchBool}
-use Rattle.syslog_text.specs.Pieces.Class.{Text, Values, Front, NoFront, Row, rest, run}
-use Rattle.syslog_text.specs.Pieces.View.{shown}
-use Rattle.syslog_text.specs.Text.{is_blank}
-use Rattle.syslog_text.proofs.PieceLemmas.Class.{AllDeterministic, ◌also◌, ◌then◌, division_front}
-use Rattle.syslog_text.proofs.PieceLemmas.Class.{front_same, no_front_no, rest_det, row_det}
-use Rattle.syslog_text.proofs.PieceLemmas.Class.{row_head, row_of, run_det, some_run_det, unique_division}
-use Rattle.syslog_text.proofs.TextLemmas.Words.{host_det, word_det}
-use Rattle.syslog_elements.specs.StructuredData.Element.{ElementValue}
-use Rattle.syslog_elements.specs.StructuredData.Pairs.{paired}
-use Rattle.syslog_elements.specs.StructuredData.Visited.{list_elements, list_text}
-use Rattle.std.specs.Borrow.{Bor}
-use Rattle.std.specs.Option.{is_none, is_some}
-use Rattle.syslog_text.proofs.PieceLemmas.Class.{row_none_here, rows_join, rows_none_here, rows_none_later}
-use Rattle.syslog_text.specs.Pieces.View.{Reads, seen}
+use Rattle.syslog_dialects.proofs.Names.{[], ◌++◌, ◌also◌, ◌then◌, ◌∙◌, ◌∷◌, ◌≡◌, ◌≢◌, AllDeterministic, ap, Bor}
+use Rattle.syslog_dialects.proofs.Names.{Dating, Dialect, division_front, ElementValue, Front, front_same, inl, inr}
+use Rattle.syslog_dialects.proofs.Names.{is_blank, is_some, IsLeftUnparsed, IsLineOf, IsOpened, IsSome, leaves_of}
+use Rattle.syslog_dialects.proofs.Names.{leaves_same, Line, line_value, List, list_elements, list_text, MatchBool}
+use Rattle.syslog_dialects.proofs.Names.{MessageValue, names_row, NamesPairs, no_front_no, NoFront, None, opened_row}
+use Rattle.syslog_dialects.proofs.Names.{Option, paired, protocol_of, refl, rest, rest_det, Row, row_det, row_head}
+use Rattle.syslog_dialects.proofs.Names.{row_of, rows_none_here, run, seen, shown, Some, subst, sym, Text, true}
+use Rattle.syslog_dialects.proofs.Names.{unique_division, unparsed_same, Values, Variant, ℕ}
+use Rattle.syslog_text.specs.Pieces.View.{Reads}
+use Rattle.syslog_text.proofs.PieceLemmas.Class.{row_none_here, rows_join, rows_none_later, run_det}
+use Rattle.std.specs.Option.{is_none}
 use Rattle.syslog_elements.specs.StructuredData.Unparsed.{if_any}
 use Rattle.syslog_elements.specs.declared.structured_data.recognised.ElementList.{ElementList}
 use Rattle.syslog_elements.proofs.StructuredDataLemmas.Pairs.{paired_det}
-use Rattle.syslog_elements.proofs.StructuredDataLemmas.Unparsed.{any_none, unparsed_same}
-use Rattle.syslog_loose.specs.Unparsed.{IsLeftUnparsed}
-use Rattle.syslog_pieces.specs.Timestamp.Zone.{Dating}
-use Rattle.syslog_loose.specs.Line.{line_value, protocol_of}
+use Rattle.syslog_elements.proofs.StructuredDataLemmas.Unparsed.{any_none}
 use Rattle.syslog_loose.specs.LineTexts.{IsLine5424}
 use Rattle.syslog_loose.specs.declared.message.Protocol.TheVariants.{RFC3164}
-use Rattle.syslog_loose.specs.Message.{MessageValue}
 use Rattle.syslog_loose.specs.Rows.{front_row}
-use Rattle.syslog_loose.specs.Visit.{IsLineOf}
-use Rattle.syslog_loose.specs.declared.line.Line.{Line}
-use Rattle.syslog_loose.specs.declared.variant.Variant.{Variant}
 use Rattle.syslog_loose.proofs.Rfc5424Lemmas.{front_det}
-use Rattle.syslog_loose.proofs.UnparsedLemmas.{leaves_of, leaves_same}
-use Rattle.syslog_sent.specs.declared.dialect.Dialect.{Dialect}
-use Rattle.syslog_dialects.specs.Paired.{IsOpened, IsPaired, NamesPairs, Opens, names_row, opened_row, with_list}
+use Rattle.syslog_named_forms.proofs.RowLemmas.{dets}
+use Rattle.syslog_dialects.specs.Paired.{IsPaired, Opens, with_list}
 
 -- ---- one way
 
@@ -42,8 +27,7 @@ pub opened_det : AllDeterministic opened_row
 opened_det = paired_det also run_det is_blank also rest_det also tt
 
 pub names_det : AllDeterministic names_row
-names_det = let gap = some_run_det is_blank in
-    gap also host_det also gap also word_det also gap also word_det also gap also word_det also gap also tt
+names_det = search dets depth 24
 
 opened_front : {whole m : MessageValue} → Opens whole m → NoFront paired whole.msg → ⊥
 opened_front it none =

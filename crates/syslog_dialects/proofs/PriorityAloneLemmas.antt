@@ -1,38 +1,27 @@
 -- A priority alone: one front of each class, and what its reader returns.
-use Rattle.std.proofs.Common.{◌≡◌, inl, None, Bool, true, false, List, not, nat_eq, ℕ, length, refl, sym, ap, ◌∙◌}
-use Rattle.std.specs.Prelude.{MatchBool}
-use Rattle.std.specs.Str.{IsUtf8, chars}
-use Rattle.syslog_text.specs.Pieces.Class.{Text, Front, NoFront, Division, NoDivision, Row, Values, rest, run}
-use Rattle.syslog_text.specs.Text.{is_blank}
-use Rattle.syslog_pieces.specs.Timestamp.MonthDate.{month_date}
-use Rattle.syslog_text.proofs.PieceLemmas.Class.{AllDeterministic, ◌also◌, ◌past◌, ◌then◌, front_division, no_row}
-use Rattle.syslog_text.proofs.PieceLemmas.Class.{no_row_division, rest_det, rest_front, row_of, run_det}
-use Rattle.syslog_text.proofs.PieceLemmas.Class.{some_run_det, unique_division}
-use Rattle.syslog_text.proofs.PieceLemmas.Rules.{no_such_meaning, such_det, such_front}
-use Rattle.syslog_text.proofs.TextLemmas.Words.{end_told, host_det, number_det}
-use Rattle.std.specs.Char.{is_ascii_digit}
-use Rattle.syslog_text.proofs.PieceLemmas.Class.{exactly_det, texted_det}
-use Rattle.syslog_text.specs.Pieces.Class.{some_run}
-use Rattle.syslog_named_forms.proofs.DeviceLemmas.{point_word_det}
-use Rattle.syslog_sent.proofs.NamedLemmas.{name_det, program_det}
-use Rattle.syslog_dialects.specs.PriorityAlone.{IsAlone, alone_form, alone_row, point_row, program_row}
-use Rattle.syslog_dialects.specs.PriorityAlone.{version_row}
-use Rattle.syslog_sent.specs.Sent.{IsOnlySent, SentValue, loose}
+use Rattle.syslog_dialects.proofs.Names.{◌past◌, ◌then◌, ◌∙◌, ◌≡◌, AllDeterministic, alone_form, alone_row, ap, Bool}
+use Rattle.syslog_dialects.proofs.Names.{chars, false, Front, front_division, inl, is_blank, IsUtf8, length, List}
+use Rattle.syslog_dialects.proofs.Names.{loose, MatchBool, month_date, nat_eq, no_row, no_row_division, NoFront, None}
+use Rattle.syslog_dialects.proofs.Names.{not, point_row, program_row, refl, rest, rest_det, rest_front, Row, row_of}
+use Rattle.syslog_dialects.proofs.Names.{run, SentValue, sym, Text, true, unique_division, Values, version_row, ℕ}
+use Rattle.syslog_text.specs.Pieces.Class.{Division, NoDivision}
+use Rattle.syslog_text.proofs.PieceLemmas.Rules.{no_such_meaning, such_front}
+use Rattle.syslog_text.proofs.TextLemmas.Words.{end_told}
+use Rattle.syslog_dialects.specs.PriorityAlone.{IsAlone}
+use Rattle.syslog_sent.specs.Sent.{IsOnlySent}
+use Rattle.syslog_named_forms.proofs.RowLemmas.{dets}
 
 pub version_det : AllDeterministic version_row
-version_det = number_det 4294967295 also some_run_det is_blank also tt
+version_det = search dets depth 9
 
 pub program_alone_det : AllDeterministic program_row
-program_alone_det = run_det is_blank also name_det also exactly_det _
-    also texted_det (some_run is_ascii_digit) (some_run_det is_ascii_digit) also exactly_det _ also exactly_det _
-    also run_det is_blank also rest_det also tt
+program_alone_det = search dets depth 24
 
 pub point_alone_det : AllDeterministic point_row
-point_alone_det = run_det is_blank also host_det also some_run_det is_blank also point_word_det also exactly_det _
-    also some_run_det is_blank also program_det also run_det is_blank also rest_det also tt
+point_alone_det = search dets depth 24
 
 pub alone_det : AllDeterministic alone_row
-alone_det = run_det is_blank also such_det rest IsAlone rest_det also tt
+alone_det = search dets depth 9
 
 pub alone_told : (bs : List ℕ) (b : Bool) → IsUtf8 bs → b ≡ nat_eq (length bs) 0 → NoFront month_date (chars bs)
     → NoFront (Row version_row) (chars bs) → MatchBool (not b) (IsAlone (chars bs)) (IsAlone (chars bs) → ⊥)

@@ -1,12 +1,12 @@
 -- The timestamp of a date that a line shows.
-use Rattle.std.proofs.Common.{◌≡◌, ℕ, ℤ, Option, Some, None, arith, pos, refl, sym, ap, ◌∙◌, ◌<ℤ◌}
+use Rattle.syslog_dialects.proofs.Names.{◌∙◌, ◌≡◌, ap, arith, ClockStamp, Dates, HasStamp, None, OffsetTimestamp}
+use Rattle.syslog_dialects.proofs.Names.{Option, refl, SentDate, Some, sym, ℕ}
+use Rattle.std.proofs.Common.{ℤ, pos, ◌<ℤ◌}
 use Rattle.jiff.specs.Types.{Offset}
 use Rattle.jiff.specs.Words.{plain_zone}
 use Rattle.syslog_pieces.specs.Timestamp.{IsAnswer}
 use Rattle.syslog_pieces.specs.Timestamp.Fields.{IsStampOfClock}
 use Rattle.syslog_pieces.specs.Timestamp.Zone.{IsStampOfFields}
-use Rattle.syslog_pieces.specs.declared.timestamp.OffsetTimestamp.{OffsetTimestamp}
-use Rattle.syslog_pieces.specs.declared.timestamp.clock.ClockStamp.{ClockStamp}
 use Rattle.syslog_pieces.specs.declared.timestamp.fields.CivilFields.{CivilFields}
 use Rattle.syslog_pieces.proofs.TimestampLemmas.MonthDate.{in_any_once, one_datetime}
 use Rattle.syslog_pieces.proofs.TimestampLemmas.Rfc3339.{answer_same, same_offset, same_timestamp}
@@ -14,9 +14,7 @@ use Rattle.syslog_pieces.specs.declared.timestamp.month_date.MonthDate.{MonthDat
 use Rattle.syslog_loose.proofs.ReckoningLemmas.{year_once}
 use Rattle.syslog_loose.specs.Reading.{IncompleteDate}
 use Rattle.jiff.proofs.SpanFacts.{signed_arith}
-use Rattle.syslog_loose.specs.declared.dates.Dates.{Dates}
-use Rattle.syslog_dialects.specs.SentLine.{HasStamp, IsSentStamp, IsSentYear, IsStampIn, IsYearWith, sent_fields}
-use Rattle.syslog_sent.specs.declared.sent.SentDate.{SentDate}
+use Rattle.syslog_dialects.specs.SentLine.{IsSentStamp, IsSentYear, IsStampIn, IsYearWith, sent_fields}
 
 stamp_in_once : (dates : Dates) (offset : Option ℤ) (f : CivilFields) (s t : OffsetTimestamp)
     → IsStampIn dates offset f s

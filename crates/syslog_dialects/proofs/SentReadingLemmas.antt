@@ -1,38 +1,24 @@
 -- A text has one dialect and one message, and what the readers of lines return.
-use Rattle.std.proofs.Common.{◌≡◌, ◌≢◌, inl, inr, ℕ, Bool, true, false, List, [], Option, Some, None}
-use Rattle.std.proofs.Common.{refl, sym, ap, subst, ◌∙◌}
-use Rattle.std.specs.Prelude.{◌↔◌, IfSome, IsSome, IsTrue, MatchOption}
-use Rattle.syslog_elements.specs.StructuredData.Element.{ElementValue}
-use Rattle.syslog_text.specs.Pieces.Class.{Text, optional}
+use Rattle.syslog_dialects.proofs.Names.{[], ◌↔◌, ◌∙◌, ◌≡◌, ◌≢◌, ap, AreAsked, Bool, Dates, Dating, Dialect}
+use Rattle.syslog_dialects.proofs.Names.{ElementValue, false, forms_of, front_same, HasStamp, IfSome, inl, inr}
+use Rattle.syslog_dialects.proofs.Names.{IsLeftUnparsed, IsLineOf, IsNote, IsOfFirst, IsOfNone, IsOpened, IsOrdinary}
+use Rattle.syslog_dialects.proofs.Names.{IsSentIn, IsSome, IsTrue, leaves_of, leaves_same, Line, line_value, List}
+use Rattle.syslog_dialects.proofs.Names.{list_elements, list_text, MayBegin, MessageValue, None, OffsetTimestamp}
+use Rattle.syslog_dialects.proofs.Names.{Option, optional, refl, SentDate, SentValue, Some, subst, sym, Text, trimmed}
+use Rattle.syslog_dialects.proofs.Names.{true, unparsed_same, Variant, ℕ}
+use Rattle.std.specs.Prelude.{MatchOption}
 use Rattle.syslog_pieces.specs.Pri.{priority}
-use Rattle.syslog_elements.specs.StructuredData.Visited.{Visits, list_elements, list_text}
-use Rattle.syslog_text.specs.Text.{trimmed}
-use Rattle.syslog_pieces.specs.Timestamp.Zone.{Dating}
-use Rattle.syslog_pieces.specs.declared.timestamp.OffsetTimestamp.{OffsetTimestamp}
-use Rattle.syslog_text.proofs.PieceLemmas.Class.{front_same, optional_det}
+use Rattle.syslog_elements.specs.StructuredData.Visited.{Visits}
+use Rattle.syslog_text.proofs.PieceLemmas.Class.{optional_det}
 use Rattle.syslog_pieces.proofs.PriLemmas.{priority_det}
 use Rattle.syslog_loose.specs.Bodies.Start.{IsAfterPriority}
-use Rattle.syslog_loose.specs.Line.{line_value}
-use Rattle.syslog_loose.specs.Message.{MessageValue}
 use Rattle.syslog_loose.specs.Reading.{IsOnlyRead, IsUnreadable}
-use Rattle.syslog_loose.specs.Unparsed.{IsLeftUnparsed}
-use Rattle.syslog_loose.specs.Visit.{IsLineOf}
-use Rattle.syslog_loose.proofs.UnparsedLemmas.{leaves_of, leaves_same}
-use Rattle.syslog_elements.proofs.StructuredDataLemmas.Unparsed.{nothing_leaves, unparsed_same}
-use Rattle.syslog_loose.specs.declared.dates.Dates.{Dates}
-use Rattle.syslog_loose.specs.declared.line.Line.{Line}
-use Rattle.syslog_loose.specs.declared.variant.Variant.{Variant}
-use Rattle.syslog_sent.specs.Forms.{IsOfFirst, IsOfNone, IsOnlyOf}
-use Rattle.syslog_dialects.specs.Dialects.{forms_of}
-use Rattle.syslog_dialects.specs.Note.{IsNote}
-use Rattle.syslog_dialects.specs.Ordinary.{IsOrdinary}
-use Rattle.syslog_sent.specs.Sent.{SentValue}
-use Rattle.syslog_dialects.specs.SentLine.{HasNoStamp, HasStamp, sent_message}
-use Rattle.syslog_dialects.specs.SentReading.{AreAsked, IsDialectLine, IsInNone, IsInstead, IsLeft, IsNone, IsUnsent}
-use Rattle.syslog_dialects.specs.SentReading.{HasFlags, IsReadSent, IsSentAnswer, IsSentIn, LeavesSent, MayBegin}
-use Rattle.syslog_dialects.specs.SentReading.{GivesOwn, HasElementsOf, Shows, Stands, shows_offset, shows_year}
-use Rattle.syslog_sent.specs.declared.dialect.Dialect.{Dialect}
-use Rattle.syslog_sent.specs.declared.sent.SentDate.{SentDate}
+use Rattle.syslog_elements.proofs.StructuredDataLemmas.Unparsed.{nothing_leaves}
+use Rattle.syslog_sent.specs.Forms.{IsOnlyOf}
+use Rattle.syslog_dialects.specs.SentLine.{HasNoStamp, sent_message}
+use Rattle.syslog_dialects.specs.SentReading.{IsDialectLine, IsInNone, IsInstead, IsLeft, IsNone, IsUnsent, HasFlags}
+use Rattle.syslog_dialects.specs.SentReading.{IsReadSent, IsSentAnswer, LeavesSent, GivesOwn, HasElementsOf, Shows}
+use Rattle.syslog_dialects.specs.SentReading.{Stands, shows_offset, shows_year}
 use Rattle.syslog_dialects.specs.declared.visit.Instead.{Instead}
 use Rattle.syslog_dialects.specs.declared.visit.Instead.TheVariants.{Kept, Note, Sent}
 use Rattle.syslog_dialects.specs.declared.visit.SentLine.{SentLine}
@@ -41,7 +27,6 @@ use Rattle.syslog_dialects.proofs.NoteLemmas.{note_begins_none}
 use Rattle.syslog_dialects.proofs.OrdinaryLemmas.{ordinary_too}
 use Rattle.syslog_dialects.proofs.PairedLemmas.{no_list, opened_keeps, opened_once}
 use Rattle.syslog_dialects.proofs.SentLemmas.{stamp_once}
-use Rattle.syslog_dialects.specs.Paired.{IsOpened}
 
 -- ---- the dialect of a text
 module _ (dates : Dates) (is_read : Bool) (text : Text) where

@@ -1,22 +1,20 @@
 -- Texts that begin with a date, and texts that begin with none: which forms divide neither of them.
-use Rattle.std.proofs.Common.{◌≡◌, inl, inr, ℕ, true, false, [], ◌∷◌, ◌++◌, refl, sym, ap, subst, ◌∙◌, arith}
-use Rattle.std.proofs.lemmas.Bool.{agree_below_at}
-use Rattle.std.proofs.lemmas.Bool.Decides.{nat_tests}
-use Rattle.std.specs.Char.{is_ascii_digit, to_ascii_lowercase}
-use Rattle.std.specs.Prelude.{◌&&◌, ◌||◌, nat_le, nat_lt, not}
-use Rattle.syslog_text.specs.Pieces.Class.{Text, Each, Ends, Front, NoFront, Row, exactly, run, some_run, texted}
-use Rattle.syslog_text.specs.Text.{is_blank, number}
-use Rattle.syslog_text.proofs.PieceLemmas.Class.{◌past◌, front_of, front_same, no_mapped, no_row, no_row_division}
-use Rattle.syslog_text.proofs.PieceLemmas.Class.{optional_none, row_pieces, rows_none_here, some_run_det}
+use Rattle.syslog_dialects.proofs.Names.{[], ◌&&◌, ◌++◌, ◌also◌, ◌past◌, ◌∙◌, ◌∷◌, ◌≡◌, agree_below_at, ap, arith}
+use Rattle.syslog_dialects.proofs.Names.{Class, dated_forms, Each, Ends, exactly, false, Front, front_of, front_same}
+use Rattle.syslog_dialects.proofs.Names.{inl, inr, is_ascii_digit, is_blank, is_word_char, IsOfNone, List}
+use Rattle.syslog_dialects.proofs.Names.{monotonic_row, nat_le, nat_tests, no_row, no_row_division, NoFront, number}
+use Rattle.syslog_dialects.proofs.Names.{pair, pair_row, plain_forms, refl, Row, rows_none_here, run, some_run}
+use Rattle.syslog_dialects.proofs.Names.{spread_forms, subst, sym, Text, texted, true, undated_forms, undated_row, ℕ}
+use Rattle.std.specs.Char.{to_ascii_lowercase}
+use Rattle.std.specs.Prelude.{◌||◌, nat_lt, not}
+use Rattle.syslog_text.proofs.PieceLemmas.Class.{no_mapped, optional_none, row_pieces, some_run_det}
 use Rattle.syslog_text.proofs.PieceLemmas.Lists.{Begins, many_here}
 use Rattle.syslog_text.proofs.TextLemmas.Runs.{no_run}
 use Rattle.syslog_pieces.proofs.TimestampLemmas.MonthDate.{IsBlank, blanks_begin}
 use Rattle.syslog_sent.proofs.DialectLemmas.{none_joined}
 use Rattle.syslog_sent.proofs.LedLemmas.{not_iso, not_month}
 use Rattle.syslog_sent.proofs.NamedLemmas.{no_beginning}
-use Rattle.syslog_sent.specs.Forms.{IsOfNone}
 use Rattle.syslog_sent.specs.Led.{IsDate, IsLed, IsUnled}
-use Rattle.syslog_sent.specs.Runs.{is_word_char}
 use Rattle.syslog_sent.specs.declared.led.Led.{Led}
 use Rattle.syslog_sent.specs.declared.led.LeadingDate.{LeadingDate}
 use Rattle.syslog_sent.specs.declared.led.LeadingDate.TheVariants.{Month, Iso}
@@ -25,24 +23,19 @@ use Rattle.syslog_dated_forms.specs.DatedForms as dated
 use Rattle.syslog_dated_forms.proofs.LedFormLemmas.{no_odd_iso, no_odd_month}
 use Rattle.syslog_dated_forms.proofs.IsoFrontLemmas as iso
 use Rattle.syslog_dated_forms.proofs.IsoFrontLemmas.{HasIso, digit_is, has_iso, mark_no_blank, year_front}
-use Rattle.syslog_dated_forms.proofs.MonthFrontLemmas.{HasMonth, IsSmall, first_letter, has_month, no_blank}
-use Rattle.syslog_dated_forms.proofs.MonthFrontLemmas.{no_bracket, no_char}
-use Rattle.syslog_dated_forms.proofs.MonthFrontLemmas.{small_letters, small_low}
-use Rattle.syslog_named_forms.specs.Monotonic.{monotonic_row, seconds_row}
-use Rattle.syslog_named_forms.specs.NamedForms.{dated_forms, front_row, header_forms, spread_forms, spread_tail}
-use Rattle.syslog_named_forms.specs.NamedForms.{undated_forms, undated_row}
-use Rattle.syslog_named_forms.specs.NearHeader.{bare_more, bare_row, head_row, heroku_more, heroku_row, nil_more}
-use Rattle.syslog_named_forms.specs.NearHeader.{nil_row}
-use Rattle.syslog_named_forms.specs.NearHeader.{paired_more, paired_row, tag_more, tag_row, vendor_more, vendor_row}
-use Rattle.syslog_named_forms.specs.Pairs.{pair, pair_row}
-use Rattle.syslog_named_forms.specs.Untagged.{cef_row, leef_row}
+use Rattle.syslog_dated_forms.proofs.MonthFrontLemmas.{HasMonth, IsSmall, first_letter, has_month, no_blank, no_bracket}
+use Rattle.syslog_dated_forms.proofs.MonthFrontLemmas.{no_char, small_letters, small_low}
+use Rattle.syslog_named_forms.specs.Monotonic.{seconds_row}
+use Rattle.syslog_named_forms.specs.NamedForms.{front_row, header_forms, spread_tail}
+use Rattle.syslog_named_forms.specs.NearHeader.{bare_more, head_row, heroku_more, nil_more, paired_more, tag_more}
+use Rattle.syslog_named_forms.specs.NearHeader.{vendor_more}
+use Rattle.syslog_named_forms.specs.Untagged.{cef_row, leef_row, mark_class}
+use Rattle.syslog_named_forms.specs.declared.untagged.Mark.{Mark}
 use Rattle.syslog_named_forms.specs.declared.untagged.Mark.TheVariants as mark
-use Rattle.syslog_named_forms.proofs.MonotonicLemmas.{monotonic_det, seconds_det}
 use Rattle.syslog_named_forms.proofs.NamedFormLemmas.{front_det, none_dated, none_undated, undated_det}
 use Rattle.syslog_named_forms.proofs.NearHeaderLemmas.{head_det}
 use Rattle.syslog_named_forms.proofs.PairLemmas.{no_pairs, pair_row_det}
-use Rattle.syslog_named_forms.proofs.UntaggedLemmas.{cef_det, leef_det}
-use Rattle.syslog_dialects.specs.Dialects.{plain_forms}
+use Rattle.syslog_named_forms.proofs.RowLemmas.{cef_det, leef_det, monotonic_det, seconds_det}
 
 -- ---- a text that begins with no date
 
@@ -60,40 +53,19 @@ unled_no_plain {text} none = none_joined dated.plain_forms spread_forms text
 -- ---- what the forms of a text without a date begin with
 
 header_none : {text : Text} → NoFront (Row head_row) text → NoFront (Row seconds_row) text → IsOfNone header_forms text
-header_none head seconds = (
-  no_row_division (vendor_row mark.Cef) (rows_none_here head_row (vendor_more mark.Cef) head),
-  (
-    no_row_division (vendor_row mark.Leef) (rows_none_here head_row (vendor_more mark.Leef) head),
-    (
-      no_row_division paired_row (rows_none_here head_row paired_more head),
-      (
-        no_row_division nil_row (rows_none_here head_row nil_more head),
-        (
-          no_row_division tag_row (rows_none_here head_row tag_more head),
-          (
-            no_row_division heroku_row (rows_none_here head_row heroku_more head),
-            (
-              no_row_division bare_row (rows_none_here head_row bare_more head),
-              (no_row_division monotonic_row (no_row monotonic_row monotonic_det (inl seconds)), tt),
-            ),
-          ),
-        ),
-      ),
-    ),
-  ),
-)
+header_none head seconds =
+    let none = λ (more : List Class). no_row_division (head_row ++ more) (rows_none_here head_row more head) in
+    none (vendor_more mark.Cef) also none (vendor_more mark.Leef) also none paired_more also none nil_more
+    also none tag_more also none heroku_more also none bare_more
+    also no_row_division monotonic_row (no_row monotonic_row monotonic_det (inl seconds)) also tt
 
 undated_none : {text t : Text} → Front (run is_blank) text t tt → NoFront (Row cef_row) t → NoFront (Row leef_row) t
     → NoFront pair t → IsOfNone header_forms text → IsOfNone undated_forms text
-undated_none {t = t} gap cef leef no_pair header = (
-  no_row_division (undated_row mark.Cef) (no_row (undated_row mark.Cef) (undated_det mark.Cef) (gap
-      past inl (no_beginning cef))),
-  (
-    no_row_division (undated_row mark.Leef) (no_row (undated_row mark.Leef) (undated_det mark.Leef) (gap
-        past inl (no_beginning leef))),
-    (no_pairs gap (many_here pair t no_pair) (λ d shown. shown.moment), header),
-  ),
-)
+undated_none {t = t} gap cef leef no_pair header =
+    let none = λ (m : Mark) (n : NoFront (mark_class m) t). no_row_division (undated_row m)
+    (no_row (undated_row m) (undated_det m) (gap past inl (no_beginning n))) in
+    none mark.Cef cef also none mark.Leef leef
+    also no_pairs gap (many_here pair t no_pair) (λ d shown. shown.moment) also header
 
 -- ---- a text that begins with a month date
 

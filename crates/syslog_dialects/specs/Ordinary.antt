@@ -65,22 +65,14 @@ abbrev pub is_level_mark : Text → Bool
 is_level_mark (a ∷ b ∷ c ∷ more) = (is_letter a && is_letter b) && nat_eq c 40
 is_level_mark _ = false
 
--- the third byte is a bracket
-abbrev pub has_bracket : List ℕ → Bool
-has_bracket bytes = nat_lt 2 (length bytes) && nat_eq (slice_index bytes 2) 40
-
--- the byte after the twelve digits of an address is a comma
-abbrev pub has_comma : List ℕ → Bool
-has_comma bytes = nat_lt 12 (length bytes) && nat_eq (slice_index bytes 12) 44
-
 -- with `%` begins a mnemonic of Cisco's, or a unit of Dell's, and no host
 abbrev pub opens_mnemonic : Text → Bool
 opens_mnemonic [] = false
 opens_mnemonic (c ∷ cs) = nat_eq c 37
 
--- the first byte is `%`
-abbrev pub has_percent : List ℕ → Bool
-has_percent bytes = nat_lt 0 (length bytes) && nat_eq (slice_index bytes 0) 37
+-- this byte is at this place
+abbrev pub has_byte : ℕ → ℕ → List ℕ → Bool
+has_byte place byte bytes = nat_lt place (length bytes) && nat_eq (slice_index bytes place) byte
 
 -- the two together are no host and no tag
 abbrev pub is_odd : Text → Text → Bool

@@ -201,19 +201,20 @@ fn opens_level(host: &str) -> bool
     }
 }
 
-// Whether the third byte is a bracket.
+// Whether this byte is at this place. Where a text of the kinds below has another, it needs no further look.
 #[inline(always)]
-fn has_bracket(host: &[u8]) -> bool
-    ensures { result ≡ spec.has_bracket host.now }
+fn has_byte(text: &str, place: usize, byte: u8) -> bool
+    ensures { result ≡ spec.has_byte place byte text.now }
 {
-    2 < host.len() && host[2] == b'('
+    let bytes = text.as_bytes();
+    place < bytes.len() && bytes[place] == byte
 }
 
 #[inline(always)]
 fn is_level_mark(host: &str) -> bool
     ensures { result ≡ spec.is_level_mark (chars host.now) }
 {
-    if has_bracket(host.as_bytes()) {
+    if has_byte(host, 2, b'(') {
         opens_level(host)
     } else {
         false
@@ -221,7 +222,7 @@ fn is_level_mark(host: &str) -> bool
 }
 
 // Whether the app name begins with the address of an access point. It is a call of its own, since few have a comma
-// there.
+// after twelve digits.
 #[cold]
 #[inline(never)]
 fn is_point(app: &str) -> bool
@@ -230,19 +231,11 @@ fn is_point(app: &str) -> bool
     opens_address(app)
 }
 
-// Whether the byte after the twelve digits of an address is a comma.
-#[inline(always)]
-fn has_comma(app: &[u8]) -> bool
-    ensures { result ≡ spec.has_comma app.now }
-{
-    12 < app.len() && app[12] == b','
-}
-
 #[inline(always)]
 fn is_address(app: &str) -> bool
     ensures { result ≡ opens_address_text (chars app.now) }
 {
-    if has_comma(app.as_bytes()) {
+    if has_byte(app, 12, b',') {
         is_point(app)
     } else {
         false
@@ -262,19 +255,11 @@ fn opens_mnemonic(host: &str) -> bool
     }
 }
 
-// Whether the first byte is `%`.
-#[inline(always)]
-fn has_percent(host: &[u8]) -> bool
-    ensures { result ≡ spec.has_percent host.now }
-{
-    0 < host.len() && host[0] == b'%'
-}
-
 #[inline(always)]
 fn is_mnemonic(host: &str) -> bool
     ensures { result ≡ spec.opens_mnemonic (chars host.now) }
 {
-    if has_percent(host.as_bytes()) {
+    if has_byte(host, 0, b'%') {
         opens_mnemonic(host)
     } else {
         false

@@ -1,21 +1,19 @@
 -- Lines that have blanks between a program's name and the bracket before its process. The name is what is read as a
 -- host, so the bracket follows what is read before it.
-use Rattle.std.proofs.Common.{◌≡◌, ◌<◌, true, false, [], ◌∷◌, ◌++◌, length, Option, Some, None, sym}
-use Rattle.std.proofs.Common.{ap, subst, ◌∙◌, refl, arith}
-use Rattle.std.proofs.lemmas.Bool.Decides.{nat_tests}
-use Rattle.std.specs.Char.{is_not_whitespace}
-use Rattle.syslog_text.specs.Pieces.Class.{Each, Ends, Front, NoFront, Row, Text, some_run}
-use Rattle.syslog_text.specs.Text.{EndsInColon, colon, dash, host, is_blank}
+use Rattle.syslog_named_forms.proofs.Names.{[], ◌++◌, ◌<◌, ◌then◌, ◌∙◌, ◌∷◌, ◌≡◌, AfterHost, ap, arith, BeginsWith}
+use Rattle.syslog_named_forms.proofs.Names.{colon, dash, Each, each_map, Ends, false, Front, front_of, front_same, host}
+use Rattle.syslog_named_forms.proofs.Names.{host_row, is_blank, is_not_whitespace, length, NamedTexts, nat_tests}
+use Rattle.syslog_named_forms.proofs.Names.{no_front_no, no_mapped, NoFront, None, Option, padded_of, padded_row}
+use Rattle.syslog_named_forms.proofs.Names.{ReadsHost, refl, Row, row_det, row_of, row_pieces, Some, some_run, subst}
+use Rattle.syslog_named_forms.proofs.Names.{sym, Text, threaded_of, threaded_row, true}
+use Rattle.syslog_text.specs.Text.{EndsInColon}
 use Rattle.syslog_text.specs.Text.CharClass.{is_label_char}
-use Rattle.syslog_text.proofs.PieceLemmas.Class.{◌then◌, each_after, each_map, front_of, front_same, no_front_no}
-use Rattle.syslog_text.proofs.PieceLemmas.Class.{no_mapped, piece_front, row_det, row_of, row_pieces}
+use Rattle.syslog_text.proofs.PieceLemmas.Class.{each_after, piece_front}
 use Rattle.syslog_text.proofs.TextLemmas.Words.{host_back}
-use Rattle.syslog_sent.specs.Named.{BeginsWith, NamedTexts, begins_name}
-use Rattle.syslog_named_forms.specs.Graded.{padded, padded_of, padded_row, threaded, threaded_of, threaded_row}
-use Rattle.syslog_named_forms.specs.Hosts.{ReadsHost, host_row}
-use Rattle.syslog_named_forms.specs.declared.hosts.AfterHost.{AfterHost}
+use Rattle.syslog_sent.specs.Named.{begins_name}
+use Rattle.syslog_named_forms.specs.Graded.{padded, threaded}
 use Rattle.syslog_named_forms.specs.Untagged.{opens_bracket, opens_square}
-use Rattle.syslog_named_forms.proofs.UntaggedLemmas.{host_row_det}
+use Rattle.syslog_named_forms.proofs.RowLemmas.{host_row_det}
 
 name_no_colon : (n : Text) → Each is_label_char n → EndsInColon n → ⊥
 name_no_colon n each (front, e) =

@@ -1,21 +1,17 @@
 -- Lines whose first word ends in a colon, with a blank after it: no host and blanks begin them.
-use Rattle.std.proofs.Common.{◌≡◌, ℕ, ◌<◌, true, false, [], ◌∷◌, ◌++◌, length, Option, Some, None, sym, ap, subst, ◌∙◌}
-use Rattle.std.proofs.Common.{refl, arith, inl, inr, append_assoc}
-use Rattle.std.proofs.lemmas.Bool.Decides.{nat_tests}
-use Rattle.std.specs.Char.{is_not_whitespace}
-use Rattle.syslog_text.specs.Pieces.Class.{Class, Each, Ends, Front, NoFront, Row, Text, Values, optional, some_run}
-use Rattle.syslog_text.specs.Pieces.Class.{texted}
-use Rattle.syslog_text.specs.Text.{IsHost, colon, is_blank, is_tag_char}
+use Rattle.syslog_named_forms.proofs.Names.{[], ◌++◌, ◌<◌, ◌∙◌, ◌∷◌, ◌≡◌, access_of, access_row, ap, arith, Class}
+use Rattle.syslog_named_forms.proofs.Names.{colon, Each, each_map, Ends, false, Front, front_of, front_same, heads}
+use Rattle.syslog_named_forms.proofs.Names.{host_row, hostless_of, hostless_row, inl, inr, is_blank, is_not_whitespace}
+use Rattle.syslog_named_forms.proofs.Names.{is_plain_char, is_tag_char, length, NamedTexts, nat_tests, no_mapped}
+use Rattle.syslog_named_forms.proofs.Names.{NoFront, None, Option, optional, point_row, program, refl, Row, row_pieces}
+use Rattle.syslog_named_forms.proofs.Names.{Some, some_run, some_run_det, subst, sym, Text, texted, texted_det}
+use Rattle.syslog_named_forms.proofs.Names.{topic_row, true, Values, ℕ}
+use Rattle.std.proofs.Common.{append_assoc}
+use Rattle.syslog_text.specs.Text.{IsHost}
 use Rattle.syslog_text.specs.Text.CharClass.{is_id_char}
-use Rattle.syslog_text.proofs.PieceLemmas.Class.{each_append, each_map, front_of, front_same, heads}
-use Rattle.syslog_text.proofs.PieceLemmas.Class.{no_mapped, row_pieces}
-use Rattle.syslog_text.proofs.PieceLemmas.Class.{some_run_det, texted_det}
-use Rattle.syslog_sent.specs.Named.{NamedTexts, id_row, process_id, program, program_row}
-use Rattle.syslog_sent.specs.Runs.{is_plain_char}
-use Rattle.syslog_named_forms.specs.Programs.{access_of, access_point, access_row, hostless, hostless_of, hostless_row}
-use Rattle.syslog_named_forms.specs.Programs.{point_row}
-use Rattle.syslog_named_forms.specs.Hosts.{host_row}
-use Rattle.syslog_named_forms.specs.Untagged.{topic_row}
+use Rattle.syslog_text.proofs.PieceLemmas.Class.{each_append}
+use Rattle.syslog_sent.specs.Named.{id_row, process_id, program_row}
+use Rattle.syslog_named_forms.specs.Programs.{access_point, hostless}
 use Rattle.syslog_named_forms.proofs.BracketLemmas.{blank_ends, name_visible}
 
 -- ---- no host ends in the colon

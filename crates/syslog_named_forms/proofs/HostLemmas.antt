@@ -1,15 +1,9 @@
 -- Lines of which the host is read before anything else: what is said after it, the line says with it.
-use Rattle.std.proofs.Common.{List, ◌++◌, Option, refl}
-use Rattle.syslog_text.specs.Pieces.Class.{Class, Front, NoFront, Row, Text, Values, mapped}
-use Rattle.syslog_text.specs.Pieces.View.{seen, shown}
-use Rattle.syslog_text.proofs.PieceLemmas.Class.{no_mapped, rows_none_here}
-use Rattle.syslog_sent.specs.Named.{NamedTexts}
-use Rattle.syslog_sent.specs.Views.{Names, named_value}
-use Rattle.syslog_sent.specs.declared.named.Named.{Named}
+use Rattle.syslog_named_forms.proofs.Names.{◌++◌, AfterHost, Class, Front, host_row, List, mapped, Named, named_value}
+use Rattle.syslog_named_forms.proofs.Names.{NamedTexts, Names, no_mapped, NoFront, Option, refl, Row, rows_none_here}
+use Rattle.syslog_named_forms.proofs.Names.{seen, shown, Text, Values}
 use Rattle.syslog_named_forms.proofs.ReaderLemmas.{goes_on}
-use Rattle.syslog_named_forms.proofs.UntaggedLemmas.{host_row_det}
-use Rattle.syslog_named_forms.specs.Hosts.{host_row}
-use Rattle.syslog_named_forms.specs.declared.hosts.AfterHost.{AfterHost}
+use Rattle.syslog_named_forms.proofs.RowLemmas.{host_row_det}
 
 module _ (more : List Class) (of : Values (host_row ++ more) → NamedTexts) {text : Text} where
   pub no_host : NoFront (Row host_row) text → NoFront (mapped (Row (host_row ++ more)) NamedTexts of) text

@@ -1,11 +1,11 @@
 pub mod BracketLemmas
 pub mod ColonLemmas
-pub mod DeviceLemmas
 pub mod HostLemmas
-pub mod MonotonicLemmas
 pub mod NamedFormLemmas
+pub mod Names
 pub mod NearHeaderLemmas
 pub mod PairLemmas
 pub mod ProgramLemmas
 pub mod ReaderLemmas
+pub mod RowLemmas
 pub mod UntaggedLemmas

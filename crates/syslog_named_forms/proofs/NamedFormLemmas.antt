@@ -1,35 +1,22 @@
 -- What is found in a list of forms, and what forms after a date say.
-use Rattle.std.proofs.Common.{◌≡◌, inl, List, [], ◌∷◌, ◌++◌, Option, Some, None, refl}
-use Rattle.syslog_text.specs.Pieces.Class.{Text, Class, Front, NoFront, IsDeterministic}
-use Rattle.syslog_text.specs.Pieces.Class.{NoDivision, Row}
-use Rattle.syslog_text.specs.Pieces.Class.{run, mapped}
-use Rattle.syslog_text.specs.Text.{is_blank}
-use Rattle.syslog_text.proofs.PieceLemmas.Class.{AllDeterministic, ◌also◌, all_joined, mapped_det}
-use Rattle.syslog_text.proofs.PieceLemmas.Class.{match_map, row_cons}
-use Rattle.syslog_text.proofs.PieceLemmas.Class.{row_nil, rows_join, rows_none_here, rows_none_later, row_none_here}
-use Rattle.syslog_text.proofs.PieceLemmas.Class.{row_of, no_row, ◌past◌, ◌then◌}
-use Rattle.syslog_text.proofs.PieceLemmas.Class.{no_row_division, run_det, some_run_det}
-use Rattle.syslog_sent.proofs.DateLemmas.{any_date_det}
-use Rattle.syslog_sent.proofs.DialectLemmas.{here, in_first, in_second, later, none_joined}
+use Rattle.syslog_named_forms.proofs.Names.{[], ◌++◌, ◌also◌, ◌past◌, ◌then◌, ◌∷◌, ◌≡◌, all_joined, AllDeterministic}
+use Rattle.syslog_named_forms.proofs.Names.{any_date_det, beginning, beginning_det, beginning_front, Class}
+use Rattle.syslog_named_forms.proofs.Names.{dated_marked_forms, dated_program_forms, device_tails, Dialect, FindsNamed}
+use Rattle.syslog_named_forms.proofs.Names.{Front, front_row, graded_tails, here, hosted, hosted_det, inl, is_blank}
+use Rattle.syslog_named_forms.proofs.Names.{IsDeterministic, IsOnlySent, List, loose, mapped, mapped_det, Mark}
+use Rattle.syslog_named_forms.proofs.Names.{mark_class, marked, marked_of, marked_tails, match_map, message}
+use Rattle.syslog_named_forms.proofs.Names.{message_tails, Named, named_value, NamedTexts, no_beginning, no_row}
+use Rattle.syslog_named_forms.proofs.Names.{no_row_division, NoDivision, NoFront, None, Option, program_tails, refl}
+use Rattle.syslog_named_forms.proofs.Names.{Row, row_cons, row_nil, row_none_here, row_of, rows_join, rows_none_here}
+use Rattle.syslog_named_forms.proofs.Names.{rows_none_later, run, run_det, says_once, SentDate, SentValue, Some}
+use Rattle.syslog_named_forms.proofs.Names.{some_run_det, tail_forms, Text}
+use Rattle.syslog_sent.proofs.DialectLemmas.{in_first, in_second, later, none_joined}
 use Rattle.syslog_sent.specs.Forms.{IsOfNone, IsOnlyOf}
-use Rattle.syslog_sent.specs.Named.{NamedTexts}
-use Rattle.syslog_sent.proofs.NamedLemmas.{beginning_det, beginning_front, no_beginning}
-use Rattle.syslog_named_forms.specs.NamedForms.{Tail, dated_form, dated_row, front_row, says, tail_forms, undated_form}
-use Rattle.syslog_named_forms.specs.NamedForms.{marked_tails, undated_row}
-use Rattle.syslog_named_forms.specs.NamedForms.{dated_forms, dated_marked_forms, dated_program_forms, device_tails}
-use Rattle.syslog_named_forms.specs.NamedForms.{graded_tails, message_tails, program_tails}
-use Rattle.syslog_named_forms.specs.NamedFinds.{FindsNamed, FindsSaid}
-use Rattle.syslog_sent.specs.Views.{named_value}
-use Rattle.syslog_sent.specs.declared.named.Named.{Named}
-use Rattle.syslog_sent.specs.Sent.{Form, IsOnlySent, SentValue, loose}
-use Rattle.syslog_sent.specs.declared.dialect.Dialect.{Dialect}
+use Rattle.syslog_named_forms.specs.NamedForms.{Tail, dated_form, dated_row, says, undated_form, undated_row}
+use Rattle.syslog_named_forms.specs.NamedForms.{dated_forms}
+use Rattle.syslog_named_forms.specs.NamedFinds.{FindsSaid}
+use Rattle.syslog_sent.specs.Sent.{Form}
 use Rattle.syslog_sent.specs.declared.dialect.Dialect.TheVariants as dialect
-use Rattle.syslog_sent.specs.declared.sent.SentDate.{SentDate}
-use Rattle.syslog_named_forms.specs.declared.untagged.Mark.{Mark}
-use Rattle.syslog_named_forms.specs.Untagged.{mark_class, marked, marked_of, message}
-use Rattle.syslog_sent.specs.Named.{beginning, hosted}
-use Rattle.syslog_sent.proofs.NamedLemmas.{hosted_det}
-use Rattle.syslog_sent.proofs.FormLemmas.{says_once}
 
 -- ---- forms after a date
 

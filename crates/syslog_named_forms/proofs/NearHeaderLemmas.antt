@@ -1,19 +1,12 @@
 -- Headers nearly of RFC 5424: one front of each class.
-use Rattle.std.proofs.Common.{◌≡◌, inl, inr, List, [], ◌∷◌, ◌++◌}
-use Rattle.syslog_text.specs.Text.{dash, is_blank, word}
-use Rattle.syslog_text.specs.Pieces.Class.{Class, Front, IsDeterministic, NoDivision, NoFront, Row, Text, Values}
-use Rattle.syslog_text.specs.Pieces.Class.{exactly, some_run}
-use Rattle.syslog_text.proofs.PieceLemmas.Class.{AllDeterministic, Fails, ◌also◌, all_joined, both_values}
-use Rattle.syslog_text.proofs.PieceLemmas.Class.{exactly_det, no_row, no_row_division, rest_det, rows_join}
-use Rattle.syslog_text.proofs.PieceLemmas.Class.{rows_none_here, rows_none_later, run_det, some_run_det}
-use Rattle.syslog_text.proofs.TextLemmas.Words.{host_det, number_det, word_det}
-use Rattle.syslog_sent.proofs.DateLemmas.{any_date_det}
-use Rattle.syslog_sent.proofs.FormLemmas.{says_once}
-use Rattle.syslog_sent.proofs.NamedLemmas.{program_det}
-use Rattle.syslog_sent.proofs.ZoneLemmas.{ended_det}
-use Rattle.syslog_sent.specs.Sent.{IsOnlySent, SentValue}
-use Rattle.syslog_sent.specs.declared.dialect.Dialect.{Dialect}
-use Rattle.syslog_named_forms.specs.NearHeader.{head_row, heroku_last, ids_row, nil, nil_last, source_row, tag_more}
+use Rattle.syslog_named_forms.proofs.Names.{[], ◌++◌, ◌also◌, ◌∷◌, ◌≡◌, all_joined, AllDeterministic, any_date_det}
+use Rattle.syslog_named_forms.proofs.Names.{both_values, Class, dash, Dialect, ended_det, exactly, exactly_det, Fails}
+use Rattle.syslog_named_forms.proofs.Names.{Front, head_row, heroku_last, host_det, ids_row, inl, inr, is_blank}
+use Rattle.syslog_named_forms.proofs.Names.{IsDeterministic, IsOnlySent, List, nil_last, no_row, no_row_division}
+use Rattle.syslog_named_forms.proofs.Names.{NoDivision, NoFront, number_det, program_det, rest_det, Row, rows_join}
+use Rattle.syslog_named_forms.proofs.Names.{rows_none_here, rows_none_later, run_det, says_once, SentValue, some_run}
+use Rattle.syslog_named_forms.proofs.Names.{some_run_det, source_row, tag_more, Text, Values, word, word_det}
+use Rattle.syslog_named_forms.specs.NearHeader.{nil}
 
 pub head_det : AllDeterministic head_row
 head_det = number_det 999 also some_run_det is_blank also any_date_det also some_run_det is_blank also host_det

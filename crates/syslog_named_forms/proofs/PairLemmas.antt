@@ -1,48 +1,28 @@
 -- Pairs of a key and a value: one front of each class, what is noted of them, and the date that they show.
-use Rattle.std.proofs.Common.{◌≡◌, inl, inr, ℕ, ℤ, ◌<◌, Bool, true, false, List, [], ◌∷◌, ◌++◌, length, Option, Some}
-use Rattle.std.proofs.Common.{None}
-use Rattle.std.proofs.Common.{refl, sym, ap, subst, ◌∙◌, arith, length-append, append-nil}
+use Rattle.syslog_named_forms.proofs.Names.{[], ◌++◌, ◌<◌, ◌also◌, ◌otherwise◌, ◌past◌, ◌then◌, ◌∙◌, ◌∷◌, ◌≡◌}
+use Rattle.syslog_named_forms.proofs.Names.{after_det, AllDeterministic, ap, arith, bare, Bool, chars, Class, clock_row}
+use Rattle.syslog_named_forms.proofs.Names.{day_row, drop, either_text, exactly, exactly_det, false, Front, front_of}
+use Rattle.syslog_named_forms.proofs.Names.{front_same, heads, inl, inr, is_blank, is_not_whitespace, is_unquoted}
+use Rattle.syslog_named_forms.proofs.Names.{is_word_char, IsDeterministic, iso_date, iso_date_det, IsOnlySent, IsShown}
+use Rattle.syslog_named_forms.proofs.Names.{length, List, listed, listed_row, loose, many, many_det, mapped_det}
+use Rattle.syslog_named_forms.proofs.Names.{nat_tests, next_row, no_front_no, no_row, no_row_division, no_texted}
+use Rattle.syslog_named_forms.proofs.Names.{NoDivision, NoFront, None, Noted, noted, noted_more, offset_row, Option}
+use Rattle.syslog_named_forms.proofs.Names.{optional, optional_det, otherwise_det, pair_of, part_row, quoted, quoted_of}
+use Rattle.syslog_named_forms.proofs.Names.{quoted_row, refl, Row, row_det, row_head, row_of, run, run_det, says_once}
+use Rattle.syslog_named_forms.proofs.Names.{SentDate, SentValue, Some, some_run, some_run_det, SplitsRun, subst, sym}
+use Rattle.syslog_named_forms.proofs.Names.{Text, texted, texted_det, true, unquoted, Values, year_det, ℕ}
+use Rattle.std.proofs.Common.{ℤ, length-append, append-nil}
 use Rattle.std.proofs.lemmas.Bool.{cases_Bool}
-use Rattle.std.proofs.lemmas.Bool.Decides.{nat_tests}
-use Rattle.std.specs.Char.{is_not_whitespace}
-use Rattle.std.specs.Str.{chars}
-use Rattle.syslog_text.specs.Bodies.Scan.{SplitsRun}
-use Rattle.syslog_text.specs.Pieces.Class.{Text, Class, Values, Front, NoFront, IsDeterministic, Division}
-use Rattle.syslog_text.specs.Pieces.Class.{NoDivision, Row}
-use Rattle.syslog_text.specs.Pieces.Class.{run, some_run, exactly, texted}
-use Rattle.syslog_text.specs.Pieces.Lists.{many}
-use Rattle.syslog_text.specs.Text.{is_blank}
+use Rattle.syslog_text.specs.Pieces.Class.{Division}
 use Rattle.syslog_pieces.specs.Timestamp.Rfc3339.{pair as two, seconds_of, sign}
-use Rattle.syslog_text.proofs.PieceLemmas.Class.{AllDeterministic, ◌also◌, ◌past◌, ◌then◌, after_det}
-use Rattle.syslog_text.proofs.PieceLemmas.Class.{division_front, exactly_det}
-use Rattle.syslog_text.proofs.PieceLemmas.Class.{front_division, front_longer, front_of, front_same, mapped_det}
-use Rattle.syslog_text.proofs.PieceLemmas.Class.{no_row}
-use Rattle.syslog_text.proofs.PieceLemmas.Class.{no_row_division, row_det, row_head, row_of, run_det, some_run_det}
-use Rattle.syslog_text.proofs.PieceLemmas.Class.{texted_det}
-use Rattle.syslog_text.proofs.PieceLemmas.Class.{heads, unique_division}
-use Rattle.syslog_text.proofs.PieceLemmas.Lists.{many_det}
-use Rattle.syslog_pieces.proofs.TimestampLemmas.Rfc3339.{pair_det as two_det, year_det}
-use Rattle.syslog_sent.specs.Named.{◌otherwise◌}
-use Rattle.syslog_named_forms.specs.Pairs.{pair, pair_row, pair_of, quoted, quoted_row, quoted_of, bare, value}
-use Rattle.syslog_named_forms.specs.Pairs.{either_text, listed, listed_row, next_row, part_row, unquoted}
-use Rattle.std.proofs.Common.{drop}
-use Rattle.syslog_text.specs.Pieces.Class.{optional}
-use Rattle.syslog_text.proofs.PieceLemmas.Class.{no_front_no, no_texted}
-use Rattle.syslog_named_forms.specs.Pairs.{first_value, may_be_noted, or_value, noted, noted_more, Noted, day_row}
-use Rattle.syslog_named_forms.specs.Pairs.{clock_row}
-use Rattle.syslog_named_forms.specs.Pairs.{offset_row, IsApart, IsTogether}
-use Rattle.syslog_named_forms.specs.Pairs.{IsMoment, IsOffset, IsShown, at_offset, paired, pairs_row, pairs_form}
-use Rattle.syslog_named_forms.specs.Pairs.{is_date_key, is_time_key}
-use Rattle.syslog_named_forms.specs.Pairs.{is_zone_key, is_host_key, is_stamp_key}
-use Rattle.syslog_sent.specs.Runs.{is_unquoted, is_word_char}
-use Rattle.syslog_sent.specs.Sent.{IsOnlySent, SentValue, loose}
-use Rattle.syslog_sent.proofs.FormLemmas.{says_once}
+use Rattle.syslog_text.proofs.PieceLemmas.Class.{division_front, front_division, front_longer, unique_division}
+use Rattle.syslog_pieces.proofs.TimestampLemmas.Rfc3339.{pair_det as two_det}
+use Rattle.syslog_named_forms.specs.Pairs.{pair, pair_row, value, first_value, may_be_noted, or_value, IsApart}
+use Rattle.syslog_named_forms.specs.Pairs.{IsTogether, IsMoment, IsOffset, at_offset, paired, pairs_row, pairs_form}
+use Rattle.syslog_named_forms.specs.Pairs.{is_date_key, is_time_key, is_zone_key, is_host_key, is_stamp_key}
 use Rattle.syslog_sent.specs.declared.dialect.Dialect.TheVariants.{KeyValue}
-use Rattle.syslog_sent.specs.declared.sent.SentDate.{SentDate}
-use Rattle.syslog_sent.proofs.NamedLemmas.{otherwise_det}
-use Rattle.syslog_sent.proofs.DateLemmas.{fraction_row_det, iso_date_det}
-use Rattle.syslog_sent.specs.Date.{fraction, fraction_row, iso_date}
-use Rattle.syslog_text.proofs.PieceLemmas.Class.{optional_det}
+use Rattle.syslog_sent.proofs.DateLemmas.{fraction_row_det}
+use Rattle.syslog_sent.specs.Date.{fraction, fraction_row}
 
 -- ---- runs
 

@@ -1,19 +1,16 @@
 -- What readers return that go on where others left the text.
-use Rattle.std.proofs.Common.{◌≡◌, inl, inr, ℕ, List, [], ◌∷◌, ◌++◌, Bor, Option, Some, None, MatchOption, refl, sym}
-use Rattle.std.proofs.Common.{subst, ◌∙◌}
-use Rattle.syslog_text.specs.Pieces.Class.{Text, Class, Values, Front, Row, mapped}
-use Rattle.syslog_text.specs.Pieces.View.{Reads, Recognises, shown}
-use Rattle.syslog_text.proofs.PieceLemmas.Class.{◌also◌, AllDeterministic, both_values, exactly_det, front_of}
-use Rattle.syslog_text.proofs.PieceLemmas.Class.{mapped_front, match_map, no_mapped, rest_det, row_cons, row_nil}
-use Rattle.syslog_text.proofs.PieceLemmas.Class.{row_none_here, rows_join, rows_none_here, rows_none_later, run_det}
-use Rattle.syslog_text.proofs.PieceLemmas.Rules.{Chained, last_of, row_reads}
-use Rattle.syslog_sent.specs.Named.{◌otherwise◌, NamedTexts, beginning, untagged}
-use Rattle.syslog_sent.specs.Views.{Names, named_value}
-use Rattle.syslog_sent.specs.declared.named.Named.{Named}
-use Rattle.syslog_text.specs.Text.{is_blank}
-use Rattle.syslog_sent.proofs.NamedLemmas.{beginning_front, first_front, id_det, no_beginning, no_otherwise}
-use Rattle.syslog_sent.proofs.NamedLemmas.{program_det, second_front}
-use Rattle.syslog_named_forms.specs.Hosts.{IsUntagged, Tells, process_tail, program_tail}
+use Rattle.syslog_named_forms.proofs.Names.{[], ◌++◌, ◌also◌, ◌otherwise◌, ◌∙◌, ◌∷◌, ◌≡◌, AllDeterministic, beginning}
+use Rattle.syslog_named_forms.proofs.Names.{beginning_front, both_values, Class, exactly_det, first_front, Front}
+use Rattle.syslog_named_forms.proofs.Names.{front_of, id_det, inl, inr, is_blank, List, mapped, mapped_front, match_map}
+use Rattle.syslog_named_forms.proofs.Names.{Named, named_value, NamedTexts, Names, no_beginning, no_mapped}
+use Rattle.syslog_named_forms.proofs.Names.{no_otherwise, None, Option, process_tail, program_det, program_tail, refl}
+use Rattle.syslog_named_forms.proofs.Names.{rest_det, Row, row_cons, row_nil, row_none_here, row_reads, rows_join}
+use Rattle.syslog_named_forms.proofs.Names.{rows_none_here, rows_none_later, run_det, second_front, shown, Some, subst}
+use Rattle.syslog_named_forms.proofs.Names.{sym, Text, untagged, Values, ℕ}
+use Rattle.std.proofs.Common.{Bor, MatchOption}
+use Rattle.syslog_text.specs.Pieces.View.{Reads, Recognises}
+use Rattle.syslog_text.proofs.PieceLemmas.Rules.{Chained, last_of}
+use Rattle.syslog_named_forms.specs.Hosts.{IsUntagged, Tells}
 
 -- ---- how forms end
 

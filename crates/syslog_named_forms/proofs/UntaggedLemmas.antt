@@ -1,115 +1,28 @@
 -- A text has one front of each class of marks.
-use Rattle.std.proofs.Common.{◌≡◌, inl, inr, ℕ, Bool, true, false, List, [], ◌∷◌, ◌++◌, Some, None, refl, sym, ap}
-use Rattle.std.proofs.Common.{Option, subst, ◌∙◌, arith}
-use Rattle.std.proofs.lemmas.Bool.Decides.{nat_tests}
-use Rattle.std.specs.Char.{is_not_whitespace}
-use Rattle.std.specs.Prelude.{◌&&◌, ◌+◌, ◌/◌, chars, codes, drop, nat_le}
-use Rattle.syslog_text.specs.Pieces.Class.{Text, Class, Ends, Front, NoFront, Row, Values, after, exactly, join}
-use Rattle.syslog_text.specs.Bodies.Scan.{SplitsRun}
-use Rattle.syslog_text.specs.Pieces.Class.{optional, run}
-use Rattle.syslog_text.proofs.PieceLemmas.Class.{each_map, front_of, front_same, heads, no_mapped, row_none_here}
-use Rattle.syslog_text.proofs.PieceLemmas.Class.{row_pieces, rows_none_here, rows_none_later}
+use Rattle.syslog_named_forms.proofs.Names.{[], ◌++◌, ◌otherwise◌, ◌∙◌, ◌∷◌, ◌≡◌, AfterHost, ap, AreMarks, arith}
+use Rattle.syslog_named_forms.proofs.Names.{beginning, begins, begins_other, Bool, Bracket, Cef, Class, codes}
+use Rattle.syslog_named_forms.proofs.Names.{dashed_row, Dated, each_map, Ends, exactly, false, Front, front_of}
+use Rattle.syslog_named_forms.proofs.Names.{front_same, heads, holds, host_row, Idrac, inl, inr, is_blank, is_level}
+use Rattle.syslog_named_forms.proofs.Names.{is_month, is_not_whitespace, is_plain_char, is_word_char, IsTrue, Json}
+use Rattle.syslog_named_forms.proofs.Names.{later_topic_row, Leef, Level, List, Mark, mark_class, marked, marked_of}
+use Rattle.syslog_named_forms.proofs.Names.{message, month_row, NamedTexts, nat_tests, no_beginning, no_mapped}
+use Rattle.syslog_named_forms.proofs.Names.{no_otherwise, NoFront, None, number_row, Option, optional, Pair, pair}
+use Rattle.syslog_named_forms.proofs.Names.{pair_row, palo_alto_row, PaloAlto, ReadsHost, refl, Repeated, repeated_tail}
+use Rattle.syslog_named_forms.proofs.Names.{repeats_row, Row, row_none_here, row_pieces, rows_none_here}
+use Rattle.syslog_named_forms.proofs.Names.{rows_none_later, run, run_det, slashed_row, Some, some_run, SplitsRun}
+use Rattle.syslog_named_forms.proofs.Names.{subst, sym, Text, topic_row, Topics, topics_row, true, Values, ℕ}
+use Rattle.std.specs.Prelude.{◌&&◌, ◌+◌, ◌/◌, chars, drop, nat_le}
+use Rattle.syslog_text.specs.Pieces.Class.{after, join}
 use Rattle.syslog_text.proofs.PieceLemmas.Lists.{Begins, begins as begins_with_it}
 use Rattle.syslog_text.proofs.PieceLemmas.Rules.{Opens, row_opens}
-use Rattle.syslog_text.proofs.TextLemmas.Words.{host_det}
-use Rattle.syslog_sent.specs.Named.{◌otherwise◌, NamedTexts, beginning}
-use Rattle.syslog_named_forms.specs.Hosts.{ReadsHost, host_row}
-use Rattle.syslog_named_forms.specs.declared.hosts.AfterHost.{AfterHost}
-use Rattle.syslog_named_forms.specs.Untagged.{begins, here, is_level, mark_class, repeated_row, repeats}
-use Rattle.syslog_named_forms.specs.declared.untagged.Mark.{Mark}
-use Rattle.syslog_named_forms.specs.declared.untagged.Mark.TheVariants.{Cef, Leef, Repeated, PaloAlto, Pair, Json}
-use Rattle.syslog_named_forms.specs.declared.untagged.Mark.TheVariants.{Idrac}
-use Rattle.syslog_named_forms.specs.declared.untagged.Mark.TheVariants.{Level}
-use Rattle.syslog_named_forms.specs.declared.untagged.Mark.TheVariants.{Bracket, Dated, Topics}
-use Rattle.std.specs.Char.{is_ascii_digit}
-use Rattle.syslog_text.specs.Text.{is_blank}
-use Rattle.syslog_pieces.specs.Timestamp.Rfc3339.{pair, year}
-use Rattle.syslog_text.proofs.PieceLemmas.Class.{AllDeterministic, ◌also◌, after_det, exactly_det, run_det}
-use Rattle.syslog_text.proofs.PieceLemmas.Class.{some_run_det}
-use Rattle.syslog_pieces.proofs.TimestampLemmas.Rfc3339.{pair_det as two_det, year_det}
-use Rattle.syslog_text.specs.Pieces.Class.{IsDeterministic, some_run, texted}
-use Rattle.std.specs.Prelude.{IsTrue}
-use Rattle.syslog_text.proofs.PieceLemmas.Class.{row_det, texted_det}
-use Rattle.syslog_text.proofs.PieceLemmas.Rules.{such_det}
-use Rattle.syslog_sent.proofs.NamedLemmas.{no_beginning, no_otherwise, otherwise_det}
-use Rattle.syslog_sent.specs.Runs.{is_either_char, is_plain_char, is_word_char}
-use Rattle.syslog_named_forms.specs.Untagged.{cef_row, leef_row, pair_row, palo_alto_row, repeated_tail, repeats_row}
+use Rattle.syslog_named_forms.specs.Untagged.{here, repeated_row, repeats, main_topic, AreAll, ends_list, angle}
+use Rattle.syslog_named_forms.specs.Untagged.{clock_row, day, month_word, name_or_end}
+use Rattle.syslog_pieces.specs.Timestamp.Rfc3339.{year}
+use Rattle.syslog_sent.specs.Runs.{is_either_char}
 use Rattle.syslog_sent.specs.Date.{unless}
-use Rattle.syslog_named_forms.specs.Untagged.{is_main_topic, later_topic_row, main_topic, number_row, topic_row}
 use Rattle.syslog_named_forms.specs.declared.marks.MessageMarks.{MessageMarks}
-use Rattle.syslog_named_forms.specs.Untagged.{AreAll, AreMarks, begins_other, ends_list, holds, marked}
-use Rattle.syslog_named_forms.specs.Untagged.{marked_of, message}
-use Rattle.syslog_named_forms.specs.Untagged.{angle, clock_row, dashed_row, day, is_month, month_row, month_word}
-use Rattle.syslog_named_forms.specs.Untagged.{name_or_end, object_row, slashed_row, topics_row}
-
-pub cef_det : AllDeterministic cef_row
-cef_det = exactly_det _ also run_det is_blank also some_run_det is_ascii_digit also exactly_det _ also tt
-
-pub leef_det : AllDeterministic leef_row
-leef_det = exactly_det _ also run_det is_blank also some_run_det is_ascii_digit also exactly_det _
-    also some_run_det is_ascii_digit also exactly_det _ also tt
-
-pub repeated_det : AllDeterministic repeated_tail
-repeated_det = exactly_det _ also some_run_det is_ascii_digit also exactly_det _ also tt
-
-pub palo_alto_det : AllDeterministic palo_alto_row
-palo_alto_det =
-    let two = two_det 100 (omega arith) in
-    some_run_det is_ascii_digit also exactly_det _ also year_det also after_det (pair 100) two also after_det
-    (pair 100) two
-    also exactly_det _ also two also after_det (pair 100) two also after_det (pair 100) two also exactly_det _ also tt
-
-pub dashed_det : AllDeterministic dashed_row
-dashed_det =
-    let two = after_det (pair 100) (two_det 100 (omega arith)) in
-    year_det also two also two also tt
-
-pub slashed_det : AllDeterministic slashed_row
-slashed_det =
-    let two = after_det (pair 100) (two_det 100 (omega arith)) in
-    year_det also two also two also tt
-
-pub clock_det : AllDeterministic clock_row
-clock_det =
-    let two = two_det 100 (omega arith) in
-    otherwise_det (row_det dashed_row dashed_det) (row_det slashed_row slashed_det)
-    also otherwise_det (exactly_det _) (exactly_det _) also two also after_det (pair 100) two also tt
-
-pub month_det : AllDeterministic month_row
-month_det =
-    let two = two_det 100 (omega arith) in
-    such_det (texted (some_run is_plain_char)) (λ t. IsTrue (is_month t))
-    (texted_det (some_run is_plain_char) (some_run_det is_plain_char)) also some_run_det is_blank
-    also some_run_det is_ascii_digit also some_run_det is_blank also two also after_det (pair 100) two also tt
-
-pub pair_det : AllDeterministic pair_row
-pair_det = some_run_det is_word_char also exactly_det _ also tt
-
-pub repeats_det : AllDeterministic repeats_row
-repeats_det = otherwise_det (exactly_det _) (exactly_det _) also some_run_det is_ascii_digit also exactly_det _ also tt
-
-pub topic_det : AllDeterministic topic_row
-topic_det = some_run_det is_plain_char also exactly_det _ also tt
-
-main_topic_det : IsDeterministic main_topic
-main_topic_det = such_det (texted (some_run is_plain_char)) (λ t. IsTrue (is_main_topic t))
-    (texted_det (some_run is_plain_char) (some_run_det is_plain_char))
-
-pub later_topic_det : AllDeterministic later_topic_row
-later_topic_det = row_det topic_row topic_det also main_topic_det also tt
-
-pub topics_det : AllDeterministic topics_row
-topics_det = row_det topic_row topic_det also otherwise_det main_topic_det (row_det later_topic_row later_topic_det)
-    also tt
-
-pub number_row_det : AllDeterministic number_row
-number_row_det = exactly_det _ also some_run_det is_ascii_digit also exactly_det _ also tt
-
-pub object_det : AllDeterministic object_row
-object_det = exactly_det _ also run_det is_blank also otherwise_det (exactly_det _) (exactly_det _) also tt
-
-pub host_row_det : AllDeterministic host_row
-host_row_det = host_det also some_run_det is_blank also tt
+use Rattle.syslog_named_forms.proofs.RowLemmas.{host_row_det}
+use Rattle.std.specs.Char.{is_ascii_digit}
 
 -- ---- what a mark begins with
 

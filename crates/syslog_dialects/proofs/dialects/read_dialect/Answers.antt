@@ -1,5 +1,4 @@
-use Rattle.syslog_sent.proofs.DialectLemmas.{found_early, found_late}
-use Rattle.syslog_dialects.specs.Dialects.{early_forms, late_forms}
+use Rattle.syslog_dialects.proofs.Names.{early_forms, found_early, found_late, late_forms}
 use Rattle.syslog_dialects.proofs.dialects.read_dialect.Goals as goal
 
 pub returns-in-Some : goal.returns-in-Some

@@ -1,7 +1,7 @@
-use Rattle.std.proofs.Common.{[], ◌∷◌}
+use Rattle.syslog_dialects.proofs.Names.{[], ◌∷◌, alone_form, UniFi}
 use Rattle.syslog_sent.proofs.DialectLemmas.{here, later}
-use Rattle.syslog_dialects.specs.PriorityAlone.{alone_form, point_form, program_form}
-use Rattle.syslog_sent.specs.declared.dialect.Dialect.TheVariants.{PriorityAlone, UniFi}
+use Rattle.syslog_dialects.specs.PriorityAlone.{point_form, program_form}
+use Rattle.syslog_sent.specs.declared.dialect.Dialect.TheVariants.{PriorityAlone}
 use Rattle.syslog_dialects.proofs.dialects.read_last.Goals as goal
 
 pub returns-in-Some : goal.returns-in-Some

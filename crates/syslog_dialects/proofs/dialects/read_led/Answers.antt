@@ -1,9 +1,7 @@
-use Rattle.std.proofs.Common.{◌++◌, Some}
-use Rattle.syslog_sent.proofs.DialectLemmas.{found_early, found_late}
+use Rattle.syslog_dialects.proofs.Names.{◌++◌, dated_forms, found_early, found_late, named_forms, plain_forms, Some}
+use Rattle.syslog_dialects.proofs.Names.{undated_forms}
 use Rattle.syslog_dialects.proofs.UndatedLemmas.{led_no_undated}
-use Rattle.syslog_dialects.specs.Dialects.{named_forms, plain_forms}
 use Rattle.syslog_dialects.specs.Dialects as dialects
-use Rattle.syslog_named_forms.specs.NamedForms.{dated_forms, undated_forms}
 use Rattle.syslog_dialects.proofs.dialects.read_led.Goals as goal
 
 pub returns-in-Some : goal.returns-in-Some

@@ -1,6 +1,5 @@
-use Rattle.syslog_sent.proofs.DialectLemmas.{found_early, found_late}
+use Rattle.syslog_dialects.proofs.Names.{found_early, found_late, spread_forms}
 use Rattle.syslog_dated_forms.specs.DatedForms as dated
-use Rattle.syslog_named_forms.specs.NamedForms.{spread_forms}
 use Rattle.syslog_dialects.proofs.dialects.read_plain.Goals as goal
 
 pub returns-in-Some : goal.returns-in-Some

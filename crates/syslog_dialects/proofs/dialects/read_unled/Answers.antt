@@ -1,10 +1,8 @@
-use Rattle.std.proofs.Common.{◌++◌}
-use Rattle.syslog_sent.proofs.DialectLemmas.{found_early, found_late}
+use Rattle.syslog_dialects.proofs.Names.{◌++◌, dated_forms, found_early, found_late, named_forms, plain_forms}
+use Rattle.syslog_dialects.proofs.Names.{undated_forms}
 use Rattle.syslog_dated_forms.proofs.LedFormLemmas.{found_alone}
 use Rattle.syslog_dialects.proofs.UndatedLemmas.{unled_no_named, unled_no_plain}
-use Rattle.syslog_dialects.specs.Dialects.{named_forms, plain_forms}
 use Rattle.syslog_dialects.specs.Dialects as dialects
-use Rattle.syslog_named_forms.specs.NamedForms.{dated_forms, undated_forms}
 use Rattle.syslog_dialects.proofs.dialects.read_unled.Goals as goal
 
 pub returns-in-Some : goal.returns-in-Some

@@ -1,4 +1,4 @@
-use Rattle.std.proofs.Common.{inl}
+use Rattle.syslog_dialects.proofs.Names.{inl}
 use Rattle.syslog_dialects.proofs.laws.texts_are_the_ports_without_dialects.Goals as goal
 
 pub returns-clause-read : goal.returns-clause-read

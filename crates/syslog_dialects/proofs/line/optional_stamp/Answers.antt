@@ -1,4 +1,4 @@
-use Rattle.std.proofs.Common.{refl}
+use Rattle.syslog_dialects.proofs.Names.{refl}
 use Rattle.syslog_dialects.proofs.line.optional_stamp.Goals as goal
 
 pub returns-in_ok-stamp_of-in-Some : goal.returns-in_ok-stamp_of-in-Some

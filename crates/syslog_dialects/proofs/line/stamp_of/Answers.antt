@@ -1,4 +1,5 @@
-use Rattle.std.proofs.Common.{◌≡◌, FitsSigned, rules, to_z-of_z, w32}
+use Rattle.syslog_dialects.proofs.Names.{◌≡◌, rules}
+use Rattle.std.proofs.Common.{FitsSigned, to_z-of_z, w32}
 use Rattle.syslog_dialects.proofs.SentLemmas.{never_stamped, stamped_at, stamped_there}
 use Rattle.syslog_dialects.proofs.line.stamp_of.Goals as goal
 

@@ -1,6 +1,4 @@
-use Rattle.std.proofs.Common.{◌++◌, ap, sym, ◌∙◌}
-use Rattle.std.specs.Str.{chars}
-use Rattle.syslog_text.specs.Pieces.Class.{Text}
+use Rattle.syslog_dialects.proofs.Names.{◌++◌, ◌∙◌, ap, chars, sym, Text}
 use Rattle.syslog_dialects.proofs.NoteLemmas.{note_is, not_opened}
 use Rattle.syslog_dialects.proofs.note.is_note.Goals as goal
 

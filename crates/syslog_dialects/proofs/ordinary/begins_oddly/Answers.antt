@@ -1,6 +1,7 @@
 -- The table is held against the definition at each of the 256 bytes, by computing.
-use Rattle.std.proofs.Common.{◌≡◌, ℕ, Bool, true, not, nat_eq, refl, arith, get_or}
-use Rattle.std.proofs.lemmas.Bool.{agree_below, agree_below_at}
+use Rattle.syslog_dialects.proofs.Names.{◌≡◌, agree_below_at, arith, Bool, nat_eq, not, refl, true, ℕ}
+use Rattle.std.proofs.Common.{get_or}
+use Rattle.std.proofs.lemmas.Bool.{agree_below}
 use Rattle.syslog_dialects.specs.Ordinary as spec
 use Rattle.syslog_dialects.specs.declared.ordinary.TheConstants.{ODD}
 use Rattle.syslog_dialects.proofs.ordinary.begins_oddly.Goals as goal

@@ -1,4 +1,4 @@
-use Rattle.std.proofs.Common.{refl, sym}
+use Rattle.syslog_dialects.proofs.Names.{refl, sym}
 use Rattle.syslog_dialects.proofs.OddLemmas.{plain_not_odd}
 use Rattle.syslog_dialects.proofs.ordinary.is_odd_app.Goals as goal
 

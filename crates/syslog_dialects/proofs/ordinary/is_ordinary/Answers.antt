@@ -1,6 +1,4 @@
-use Rattle.std.proofs.Common.{rules, ◌≡◌, true, inl, subst, sym}
-use Rattle.std.specs.Prelude.{IsSome, MatchBool}
-use Rattle.syslog_dialects.specs.Ordinary.{IsOrdinary}
+use Rattle.syslog_dialects.proofs.Names.{◌≡◌, inl, IsOrdinary, IsSome, MatchBool, rules, subst, sym, true}
 use Rattle.syslog_dialects.proofs.PairedLemmas.{nothing_paired}
 use Rattle.syslog_dialects.proofs.ordinary.is_ordinary.Goals as goal
 

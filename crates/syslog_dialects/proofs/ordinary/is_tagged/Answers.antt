@@ -1,4 +1,4 @@
-use Rattle.std.proofs.Common.{sym}
+use Rattle.syslog_dialects.proofs.Names.{sym}
 use Rattle.syslog_dialects.proofs.OrdinaryLemmas.{odd_answer, printed_answer, tag_answer}
 use Rattle.syslog_dialects.proofs.ordinary.is_tagged.Goals as goal
 

@@ -1,6 +1,4 @@
-use Rattle.std.proofs.Common.{[], ◌∷◌}
-use Rattle.syslog_text.specs.Pieces.Class.{exactly}
-use Rattle.syslog_text.proofs.PieceLemmas.Class.{exactly_det}
+use Rattle.syslog_dialects.proofs.Names.{[], ◌∷◌, exactly, exactly_det}
 use Rattle.syslog_sent.proofs.ZoneLemmas.{ended_front, no_ended, not_ended}
 use Rattle.syslog_dialects.proofs.ordinary.past_colon.Goals as goal
 

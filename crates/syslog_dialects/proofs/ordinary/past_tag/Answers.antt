@@ -1,8 +1,5 @@
-use Rattle.std.proofs.Common.{inl, refl}
-use Rattle.std.specs.Str.{chars}
-use Rattle.syslog_text.proofs.PieceLemmas.Class.{◌past◌, ◌then◌, match_map, no_row, row_of}
+use Rattle.syslog_dialects.proofs.Names.{◌past◌, ◌then◌, chars, inl, match_map, no_row, refl, row_of, tag_row}
 use Rattle.syslog_dialects.proofs.OrdinaryLemmas.{tag_det}
-use Rattle.syslog_dialects.specs.Ordinary.{tag_row}
 use Rattle.syslog_dialects.proofs.ordinary.past_tag.Goals as goal
 
 pub returns-in_err-rest : goal.returns-in_err-rest

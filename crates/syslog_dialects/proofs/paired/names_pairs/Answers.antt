@@ -1,8 +1,5 @@
+use Rattle.syslog_dialects.proofs.Names.{chars, MatchBool, NamesPairs, subst, sym}
 use Rattle.syslog_dialects.proofs.PairedLemmas.{names_told, no_names}
-use Rattle.std.specs.Prelude.{MatchBool}
-use Rattle.syslog_dialects.specs.Paired.{NamesPairs}
-use Rattle.std.specs.Str.{chars}
-use Rattle.std.proofs.Common.{subst, sym}
 use Rattle.syslog_dialects.proofs.paired.names_pairs.Goals as goal
 
 pub returns-in-Some : goal.returns-in-Some

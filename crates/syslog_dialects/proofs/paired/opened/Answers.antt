@@ -1,6 +1,4 @@
-use Rattle.std.proofs.Common.{inl, refl}
-use Rattle.syslog_text.proofs.PieceLemmas.Class.{◌then◌, front_division, rest_front, row_of}
-use Rattle.syslog_dialects.specs.Paired.{opened_row}
+use Rattle.syslog_dialects.proofs.Names.{◌then◌, front_division, inl, opened_row, refl, rest_front, row_of}
 use Rattle.syslog_dialects.proofs.paired.opened.Goals as goal
 
 pub returns-clause-opened : goal.returns-clause-opened

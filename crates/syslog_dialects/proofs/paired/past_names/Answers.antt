@@ -1,6 +1,4 @@
-use Rattle.std.proofs.Common.{inl, refl}
-use Rattle.syslog_text.proofs.PieceLemmas.Class.{◌past◌, ◌then◌, match_map, no_row, row_of}
-use Rattle.syslog_dialects.specs.Paired.{names_row}
+use Rattle.syslog_dialects.proofs.Names.{◌past◌, ◌then◌, inl, match_map, names_row, no_row, refl, row_of}
 use Rattle.syslog_dialects.proofs.PairedLemmas.{names_det}
 use Rattle.syslog_dialects.proofs.paired.past_names.Goals as goal
 

@@ -1,7 +1,4 @@
-use Rattle.syslog_text.proofs.PieceLemmas.Class.{no_front_no}
-use Rattle.syslog_text.specs.Pieces.Class.{Row}
-use Rattle.syslog_pieces.specs.Timestamp.MonthDate.{month_date}
-use Rattle.syslog_dialects.specs.PriorityAlone.{version_row}
+use Rattle.syslog_dialects.proofs.Names.{month_date, no_front_no, Row, version_row}
 use Rattle.syslog_dialects.proofs.PriorityAloneLemmas.{alone_told}
 use Rattle.syslog_dialects.proofs.priority_alone.is_alone.Goals as goal
 

@@ -1,6 +1,4 @@
-use Rattle.std.proofs.Common.{inl, refl}
-use Rattle.syslog_text.proofs.PieceLemmas.Class.{◌past◌, ◌then◌, match_map, no_row, row_of}
-use Rattle.syslog_dialects.specs.PriorityAlone.{version_row}
+use Rattle.syslog_dialects.proofs.Names.{◌past◌, ◌then◌, inl, match_map, no_row, refl, row_of, version_row}
 use Rattle.syslog_dialects.proofs.PriorityAloneLemmas.{version_det}
 use Rattle.syslog_dialects.proofs.priority_alone.past_version.Goals as goal
 

@@ -1,4 +1,4 @@
-use Rattle.std.proofs.Common.{refl}
+use Rattle.syslog_dialects.proofs.Names.{refl}
 use Rattle.syslog_dialects.proofs.PriorityAloneLemmas.{alone_none, alone_said}
 use Rattle.syslog_dialects.proofs.priority_alone.read_alone.Goals as goal
 

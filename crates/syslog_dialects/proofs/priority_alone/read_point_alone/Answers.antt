@@ -1,9 +1,6 @@
-use Rattle.std.proofs.Common.{inl, refl}
-use Rattle.syslog_text.proofs.PieceLemmas.Class.{◌past◌, ◌then◌, no_row, no_row_division, rest_front, row_of}
-use Rattle.syslog_dialects.specs.PriorityAlone.{point_row, point_sent}
-use Rattle.syslog_sent.proofs.FormLemmas.{says_once}
+use Rattle.syslog_dialects.proofs.Names.{◌past◌, ◌then◌, inl, no_row, no_row_division, point_row, point_sent, refl}
+use Rattle.syslog_dialects.proofs.Names.{rest_front, row_of, says_once, UniFi}
 use Rattle.syslog_dialects.proofs.PriorityAloneLemmas.{point_alone_det}
-use Rattle.syslog_sent.specs.declared.dialect.Dialect.TheVariants.{UniFi}
 use Rattle.syslog_dialects.proofs.priority_alone.read_point_alone.Goals as goal
 
 pub returns-in_err-hostname : goal.returns-in_err-hostname

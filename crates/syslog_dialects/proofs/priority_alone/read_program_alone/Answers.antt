@@ -1,7 +1,5 @@
-use Rattle.std.proofs.Common.{inl, refl}
-use Rattle.syslog_text.proofs.PieceLemmas.Class.{◌past◌, ◌then◌, no_row, no_row_division, rest_front, row_of}
-use Rattle.syslog_dialects.specs.PriorityAlone.{program_row, program_sent}
-use Rattle.syslog_sent.proofs.FormLemmas.{says_once}
+use Rattle.syslog_dialects.proofs.Names.{◌past◌, ◌then◌, inl, no_row, no_row_division, program_row, program_sent, refl}
+use Rattle.syslog_dialects.proofs.Names.{rest_front, row_of, says_once}
 use Rattle.syslog_dialects.proofs.PriorityAloneLemmas.{program_alone_det}
 use Rattle.syslog_sent.specs.declared.dialect.Dialect.TheVariants.{NoHost}
 use Rattle.syslog_dialects.proofs.priority_alone.read_program_alone.Goals as goal

@@ -1,10 +1,6 @@
-use Rattle.std.proofs.Common.{sym, ap, subst, ◌∙◌}
-use Rattle.std.specs.Str.{chars}
-use Rattle.syslog_elements.specs.StructuredData.Visited.{list_text}
-use Rattle.syslog_loose.specs.{Line.KnowsForm, Line.line_value, declared.line.Line.Line}
+use Rattle.syslog_dialects.proofs.Names.{◌∙◌, ap, chars, IsOpened, KnowsForm, Line, line_value, list_text, subst, sym}
 use Rattle.syslog_dialects.proofs.SentReadingLemmas.{no_stamp, unformed}
 use Rattle.syslog_sent.specs.Sent.{sent_value}
-use Rattle.syslog_dialects.specs.Paired.{IsOpened}
 use Rattle.syslog_dialects.proofs.visit.dialect_line.Goals as goal
 
 pub returns-in_err-dialect : goal.returns-in_err-dialect

@@ -1,6 +1,5 @@
-use Rattle.std.specs.Str.{chars}
+use Rattle.syslog_dialects.proofs.Names.{AreAsked, chars}
 use Rattle.syslog_dialects.proofs.SentReadingLemmas.{instead_given}
-use Rattle.syslog_dialects.specs.SentReading.{AreAsked}
 use Rattle.syslog_dialects.proofs.visit.line_instead.Goals as goal
 
 pub returns : goal.returns

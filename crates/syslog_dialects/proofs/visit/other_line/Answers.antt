@@ -1,7 +1,5 @@
-use Rattle.std.specs.Prelude.{IsTrue}
-use Rattle.std.specs.Str.{chars}
+use Rattle.syslog_dialects.proofs.Names.{chars, IsOrdinary, IsTrue}
 use Rattle.syslog_dialects.proofs.SentReadingLemmas.{instead_given}
-use Rattle.syslog_dialects.specs.Ordinary.{IsOrdinary}
 use Rattle.syslog_dialects.proofs.visit.other_line.Goals as goal
 
 pub returns : goal.returns

@@ -1,5 +1,4 @@
-use Rattle.std.proofs.Common.{refl}
-use Rattle.syslog_text.proofs.PieceLemmas.Class.{match_map}
+use Rattle.syslog_dialects.proofs.Names.{match_map, refl}
 use Rattle.syslog_loose.proofs.ReadingLemmas.{in_year_map, in_year_told}
 use Rattle.syslog_dialects.proofs.visit.parse_sent_line.Goals as goal
 

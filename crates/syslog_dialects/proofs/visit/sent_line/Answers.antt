@@ -1,5 +1,4 @@
-use Rattle.std.proofs.Common.{true, inr}
-use Rattle.std.specs.Str.{chars}
+use Rattle.syslog_dialects.proofs.Names.{chars, inr, true}
 use Rattle.syslog_dialects.proofs.SentReadingLemmas.{dialect_before, dialect_leaves, flags, no_flags, port_leaves}
 use Rattle.syslog_dialects.proofs.SentReadingLemmas.{odd_elements, port_stands}
 use Rattle.syslog_dialects.proofs.visit.sent_line.Goals as goal

@@ -1,4 +1,4 @@
-use Rattle.std.specs.Str.{chars}
+use Rattle.syslog_dialects.proofs.Names.{chars}
 use Rattle.syslog_dialects.proofs.SentReadingLemmas.{found_leaves, unread, unread_flags}
 use Rattle.syslog_dialects.proofs.visit.unread_line.Goals as goal
 

@@ -1,12 +1,9 @@
-use Rattle.std.proofs.Common.{[], ◌∷◌, drop, refl}
-use Rattle.syslog_text.proofs.PieceLemmas.Class.{◌also◌}
-use Rattle.syslog_text.specs.Pieces.Class.{exactly, some_run}
-use Rattle.syslog_text.specs.Text.{colon, is_blank}
-use Rattle.syslog_named_forms.specs.Devices.{addressed_of, addressed_row, point_word}
-use Rattle.syslog_named_forms.proofs.DeviceLemmas.{addressed_det}
+use Rattle.syslog_named_forms.proofs.Names.{[], ◌also◌, ◌∷◌, addressed_row, colon, drop, exactly, is_blank, point_word}
+use Rattle.syslog_named_forms.proofs.Names.{program_tail, refl, some_run}
+use Rattle.syslog_named_forms.specs.Devices.{addressed_of}
 use Rattle.syslog_named_forms.proofs.ReaderLemmas.{passed}
-use Rattle.syslog_named_forms.specs.Hosts.{program_tail}
 use Rattle.syslog_named_forms.proofs.HostLemmas.{no_host, past_host}
+use Rattle.syslog_named_forms.proofs.RowLemmas.{addressed_det}
 use Rattle.syslog_named_forms.proofs.devices.addressed.Goals as goal
 
 pub returns-in_err-host : goal.returns-in_err-host

@@ -1,8 +1,6 @@
-use denote.Text.{Utf8}
-use denote.Shadow.{shadow}
-use Rattle.std.proofs.Common.{◌≡◌, ◌≤◌, length}
-use Rattle.std.specs.Str.{chars}
-use Rattle.syslog_named_forms.specs.Devices.{goes_on, opens_address}
+use Rattle.syslog_named_forms.proofs.Names.{◌≡◌, chars, length, opens_address, shadow, Utf8}
+use Rattle.std.proofs.Common.{◌≤◌}
+use Rattle.syslog_named_forms.specs.Devices.{goes_on}
 use Rattle.syslog_named_forms.proofs.devices.opens_address.Given as goal
 
 abbrev pub invariant-characters : goal.invariant-characters

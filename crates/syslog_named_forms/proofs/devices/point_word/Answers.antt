@@ -1,7 +1,4 @@
-use Rattle.std.proofs.Common.{refl}
-use Rattle.syslog_text.specs.Text.{is_tag_char}
-use Rattle.syslog_sent.proofs.NamedLemmas.{told}
-use Rattle.syslog_named_forms.specs.Devices.{opens_address}
+use Rattle.syslog_named_forms.proofs.Names.{is_tag_char, opens_address, refl, told}
 use Rattle.syslog_named_forms.proofs.devices.point_word.Goals as goal
 
 pub returns : goal.returns

@@ -1,13 +1,9 @@
-use Rattle.std.proofs.Common.{Option, drop, inl, refl}
-use Rattle.syslog_text.specs.Pieces.Class.{Front, NoFront, Row, Text, mapped}
-use Rattle.syslog_text.proofs.PieceLemmas.Class.{◌past◌, ◌then◌, Fails, mapped_front, no_mapped, no_row, rest_front}
-use Rattle.syslog_text.proofs.PieceLemmas.Class.{row_of, rows_join, rows_none_later}
-use Rattle.syslog_sent.specs.Named.{NamedTexts}
-use Rattle.syslog_named_forms.proofs.DeviceLemmas.{titled_det}
+use Rattle.syslog_named_forms.proofs.Names.{◌past◌, ◌then◌, drop, Fails, Front, host_row, inl, mapped, mapped_front}
+use Rattle.syslog_named_forms.proofs.Names.{NamedTexts, no_mapped, no_row, NoFront, Option, refl, rest_front, Row}
+use Rattle.syslog_named_forms.proofs.Names.{row_of, rows_join, rows_none_later, Text, titled_row}
 use Rattle.syslog_named_forms.proofs.HostLemmas.{no_host}
-use Rattle.syslog_named_forms.proofs.UntaggedLemmas.{host_row_det}
-use Rattle.syslog_named_forms.specs.Devices.{titled_of, titled_row}
-use Rattle.syslog_named_forms.specs.Hosts.{host_row}
+use Rattle.syslog_named_forms.specs.Devices.{titled_of}
+use Rattle.syslog_named_forms.proofs.RowLemmas.{host_row_det, titled_det}
 use Rattle.syslog_named_forms.proofs.devices.titled.Goals as goal
 
 -- not what follows the host

@@ -1,6 +1,5 @@
-use Rattle.syslog_text.specs.Pieces.Class.{Row}
+use Rattle.syslog_named_forms.proofs.Names.{counted_row, Row}
 use Rattle.syslog_named_forms.proofs.ReaderLemmas.{begun}
-use Rattle.syslog_named_forms.specs.Graded.{counted_row}
 use Rattle.syslog_named_forms.proofs.graded.counted.Goals as goal
 
 pub returns : goal.returns

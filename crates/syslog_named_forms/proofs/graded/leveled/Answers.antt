@@ -1,12 +1,9 @@
-use Rattle.std.proofs.Common.{[], ◌∷◌, drop, refl}
-use Rattle.syslog_text.proofs.PieceLemmas.Class.{◌also◌}
-use Rattle.syslog_text.specs.Pieces.Class.{Row, some_run}
-use Rattle.syslog_text.specs.Text.{is_blank}
-use Rattle.syslog_named_forms.specs.Graded.{level_row, leveled_of, leveled_row}
-use Rattle.syslog_named_forms.proofs.DeviceLemmas.{leveled_det}
+use Rattle.syslog_named_forms.proofs.Names.{[], ◌also◌, ◌∷◌, drop, is_blank, level_row, leveled_row, program_tail, refl}
+use Rattle.syslog_named_forms.proofs.Names.{Row, some_run}
+use Rattle.syslog_named_forms.specs.Graded.{leveled_of}
 use Rattle.syslog_named_forms.proofs.ReaderLemmas.{passed}
-use Rattle.syslog_named_forms.specs.Hosts.{program_tail}
 use Rattle.syslog_named_forms.proofs.HostLemmas.{no_host, past_host}
+use Rattle.syslog_named_forms.proofs.RowLemmas.{leveled_det}
 use Rattle.syslog_named_forms.proofs.graded.leveled.Goals as goal
 
 pub returns-in_err-host : goal.returns-in_err-host

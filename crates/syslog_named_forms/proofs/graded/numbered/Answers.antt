@@ -1,10 +1,7 @@
-use Rattle.syslog_text.proofs.PieceLemmas.Class.{◌past◌, ◌then◌, mapped_front, rest_front, row_of}
-use Rattle.syslog_text.specs.Pieces.Class.{Row}
-use Rattle.std.proofs.Common.{inl, refl}
-use Rattle.syslog_named_forms.proofs.DeviceLemmas.{numbered_det}
-use Rattle.syslog_sent.proofs.NamedLemmas.{unread}
-use Rattle.syslog_sent.specs.Named.{NamedTexts}
-use Rattle.syslog_named_forms.specs.Graded.{numbered_of, numbered_row}
+use Rattle.syslog_named_forms.proofs.Names.{◌past◌, ◌then◌, inl, mapped_front, NamedTexts, numbered_row, refl}
+use Rattle.syslog_named_forms.proofs.Names.{rest_front, Row, row_of, unread}
+use Rattle.syslog_named_forms.specs.Graded.{numbered_of}
+use Rattle.syslog_named_forms.proofs.RowLemmas.{numbered_det}
 use Rattle.syslog_named_forms.proofs.graded.numbered.Goals as goal
 
 pub returns-in_err-at_id : goal.returns-in_err-at_id

@@ -1,6 +1,5 @@
+use Rattle.syslog_named_forms.proofs.Names.{Bracket, mark_class}
 use Rattle.syslog_named_forms.proofs.ReaderLemmas.{begun}
-use Rattle.syslog_named_forms.specs.Untagged.{mark_class}
-use Rattle.syslog_named_forms.specs.declared.untagged.Mark.TheVariants.{Bracket}
 use Rattle.syslog_named_forms.proofs.graded.opened.Goals as goal
 
 pub returns : goal.returns

@@ -1,11 +1,7 @@
-use Rattle.syslog_text.proofs.PieceLemmas.Class.{◌past◌, ◌then◌, mapped_front, rest_front, row_of}
-use Rattle.syslog_text.specs.Pieces.Class.{Row}
-use Rattle.std.proofs.Common.{inl, refl, sym}
-use Rattle.syslog_named_forms.proofs.DeviceLemmas.{padded_det}
+use Rattle.syslog_named_forms.proofs.Names.{◌past◌, ◌then◌, inl, mapped_front, NamedTexts, padded_of, padded_row, refl}
+use Rattle.syslog_named_forms.proofs.Names.{rest_front, Row, row_of, sym, unread}
 use Rattle.syslog_named_forms.proofs.BracketLemmas.{no_padded}
-use Rattle.syslog_sent.proofs.NamedLemmas.{unread}
-use Rattle.syslog_sent.specs.Named.{NamedTexts}
-use Rattle.syslog_named_forms.specs.Graded.{padded_of, padded_row}
+use Rattle.syslog_named_forms.proofs.RowLemmas.{padded_det}
 use Rattle.syslog_named_forms.proofs.graded.padded.Goals as goal
 
 pub returns-then-not-opens_bracket : goal.returns-then-not-opens_bracket

@@ -1,11 +1,7 @@
-use Rattle.syslog_text.proofs.PieceLemmas.Class.{◌past◌, ◌then◌, mapped_front, rest_front, row_of}
-use Rattle.syslog_text.specs.Pieces.Class.{Row}
-use Rattle.std.proofs.Common.{inl, refl, sym}
-use Rattle.syslog_named_forms.proofs.DeviceLemmas.{threaded_det}
+use Rattle.syslog_named_forms.proofs.Names.{◌past◌, ◌then◌, inl, mapped_front, NamedTexts, refl, rest_front, Row}
+use Rattle.syslog_named_forms.proofs.Names.{row_of, sym, threaded_of, threaded_row, unread}
 use Rattle.syslog_named_forms.proofs.BracketLemmas.{no_threaded}
-use Rattle.syslog_sent.proofs.NamedLemmas.{unread}
-use Rattle.syslog_sent.specs.Named.{NamedTexts}
-use Rattle.syslog_named_forms.specs.Graded.{threaded_of, threaded_row}
+use Rattle.syslog_named_forms.proofs.RowLemmas.{threaded_det}
 use Rattle.syslog_named_forms.proofs.graded.threaded.Goals as goal
 
 pub returns-then-not-opens_bracket : goal.returns-then-not-opens_bracket

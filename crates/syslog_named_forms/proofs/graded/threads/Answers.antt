@@ -1,6 +1,4 @@
-use Rattle.syslog_text.proofs.PieceLemmas.Class.{no_texted}
-use Rattle.syslog_text.specs.Pieces.Class.{Row}
-use Rattle.syslog_named_forms.specs.Graded.{threads_row}
+use Rattle.syslog_named_forms.proofs.Names.{no_texted, Row, threads_row}
 use Rattle.syslog_named_forms.proofs.ProgramLemmas.{named}
 use Rattle.syslog_named_forms.proofs.graded.threads.Goals as goal
 

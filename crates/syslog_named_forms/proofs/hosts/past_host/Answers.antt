@@ -1,7 +1,5 @@
-use Rattle.std.proofs.Common.{inl, refl}
-use Rattle.syslog_text.proofs.PieceLemmas.Class.{◌past◌, ◌then◌, no_row, row_of}
-use Rattle.syslog_named_forms.specs.Hosts.{host_row}
-use Rattle.syslog_named_forms.proofs.UntaggedLemmas.{host_row_det}
+use Rattle.syslog_named_forms.proofs.Names.{◌past◌, ◌then◌, host_row, inl, no_row, refl, row_of}
+use Rattle.syslog_named_forms.proofs.RowLemmas.{host_row_det}
 use Rattle.syslog_named_forms.proofs.hosts.past_host.Goals as goal
 
 pub returns-in_err-hostname : goal.returns-in_err-hostname

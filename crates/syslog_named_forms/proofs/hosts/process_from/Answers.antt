@@ -1,10 +1,6 @@
-use Rattle.std.proofs.Common.{inl, refl}
-use Rattle.syslog_text.specs.Pieces.Class.{Row}
-use Rattle.syslog_text.specs.Pieces.View.{seen, shown}
-use Rattle.syslog_text.proofs.PieceLemmas.Class.{◌past◌, ◌then◌, mapped_front, rest_front, row_of}
-use Rattle.syslog_sent.proofs.NamedLemmas.{unread}
-use Rattle.syslog_sent.specs.Named.{NamedTexts}
-use Rattle.syslog_named_forms.specs.Hosts.{process_said, process_tail}
+use Rattle.syslog_named_forms.proofs.Names.{◌past◌, ◌then◌, inl, mapped_front, NamedTexts, process_tail, refl}
+use Rattle.syslog_named_forms.proofs.Names.{rest_front, Row, row_of, seen, shown, unread}
+use Rattle.syslog_named_forms.specs.Hosts.{process_said}
 use Rattle.syslog_named_forms.proofs.ReaderLemmas.{process_tail_det}
 use Rattle.syslog_named_forms.proofs.hosts.process_from.Goals as goal
 

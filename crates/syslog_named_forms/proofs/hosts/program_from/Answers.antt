@@ -1,10 +1,5 @@
-use Rattle.std.proofs.Common.{inl, refl}
-use Rattle.syslog_text.specs.Pieces.Class.{Row}
-use Rattle.syslog_text.specs.Pieces.View.{seen}
-use Rattle.syslog_text.proofs.PieceLemmas.Class.{◌then◌, mapped_front, rest_front, row_of}
-use Rattle.syslog_sent.proofs.NamedLemmas.{unread}
-use Rattle.syslog_sent.specs.Named.{NamedTexts}
-use Rattle.syslog_named_forms.specs.Hosts.{program_said, program_tail}
+use Rattle.syslog_named_forms.proofs.Names.{◌then◌, inl, mapped_front, NamedTexts, program_said, program_tail, refl}
+use Rattle.syslog_named_forms.proofs.Names.{rest_front, Row, row_of, seen, unread}
 use Rattle.syslog_named_forms.proofs.ReaderLemmas.{program_tail_det}
 use Rattle.syslog_named_forms.proofs.hosts.program_from.Goals as goal
 

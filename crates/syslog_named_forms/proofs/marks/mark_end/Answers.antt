@@ -1,4 +1,4 @@
-use Rattle.std.proofs.Common.{◌∙◌}
+use Rattle.syslog_named_forms.proofs.Names.{◌∙◌}
 use Rattle.syslog_named_forms.proofs.UntaggedLemmas.{no_mark, no_mark_empty}
 use Rattle.syslog_named_forms.proofs.marks.mark_end.Goals as goal
 

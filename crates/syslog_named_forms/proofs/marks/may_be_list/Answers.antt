@@ -1,4 +1,4 @@
-use Rattle.std.proofs.Common.{sym, ◌∙◌}
+use Rattle.syslog_named_forms.proofs.Names.{◌∙◌, sym}
 use Rattle.syslog_named_forms.proofs.UntaggedLemmas.{list_told, no_list_end}
 use Rattle.syslog_named_forms.proofs.marks.may_be_list.Goals as goal
 

@@ -1,15 +1,8 @@
-use Rattle.std.proofs.Common.{[], ◌∷◌}
-use Rattle.syslog_text.specs.Pieces.Class.{Class}
-use Rattle.syslog_text.proofs.PieceLemmas.Class.{mapped_front, no_mapped, row_cons, row_nil, row_none_here, rows_join}
-use Rattle.syslog_text.proofs.PieceLemmas.Class.{rows_none_here, rows_none_later}
-use Rattle.syslog_sent.proofs.NamedLemmas.{beginning_front, first_front, no_beginning, no_otherwise, second_front}
-use Rattle.syslog_named_forms.proofs.UntaggedLemmas.{host_row_det}
-use Rattle.syslog_sent.specs.Named.{NamedTexts, beginning}
-use Rattle.syslog_named_forms.specs.Hosts.{host_row}
-use Rattle.syslog_named_forms.specs.Untagged.{mark_class}
-use Rattle.syslog_named_forms.specs.Untagged.{marked}
-use Rattle.syslog_named_forms.specs.Untagged.{marked_of}
-use Rattle.syslog_named_forms.specs.declared.untagged.Mark.{Mark}
+use Rattle.syslog_named_forms.proofs.Names.{[], ◌∷◌, beginning, beginning_front, Class, first_front, host_row}
+use Rattle.syslog_named_forms.proofs.Names.{mapped_front, Mark, mark_class, marked, marked_of, NamedTexts, no_beginning}
+use Rattle.syslog_named_forms.proofs.Names.{no_mapped, no_otherwise, row_cons, row_nil, row_none_here, rows_join}
+use Rattle.syslog_named_forms.proofs.Names.{rows_none_here, rows_none_later, second_front}
+use Rattle.syslog_named_forms.proofs.RowLemmas.{host_row_det}
 use Rattle.syslog_named_forms.proofs.marks.message.Goals as goal
 
 abbrev begun : Mark → Class

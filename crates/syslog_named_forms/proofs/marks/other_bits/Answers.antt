@@ -1,10 +1,7 @@
 -- The table is held against the definition at each character of ASCII, by computing.
-use Rattle.std.proofs.Common.{◌≡◌, ℕ, true, refl, arith, get_or}
-use Rattle.std.proofs.lemmas.Bool.{agree_below, agree_below_at}
-use Rattle.syslog_named_forms.specs.Untagged.{begins_other, holds}
-use Rattle.syslog_named_forms.specs.declared.untagged.Mark.{Mark}
-use Rattle.syslog_named_forms.specs.declared.untagged.Mark.TheVariants.{Cef, Leef, Repeated, PaloAlto, Pair, Json}
-use Rattle.syslog_named_forms.specs.declared.untagged.Mark.TheVariants.{Idrac, Level, Topics, Bracket, Dated}
+use Rattle.syslog_named_forms.proofs.Names.{◌≡◌, agree_below, agree_below_at, arith, begins_other, Bracket, Cef, Dated}
+use Rattle.syslog_named_forms.proofs.Names.{get_or, holds, Idrac, Json, Leef, Level, Mark, Pair, PaloAlto, refl}
+use Rattle.syslog_named_forms.proofs.Names.{Repeated, Topics, true, ℕ}
 use Rattle.syslog_named_forms.specs.declared.marks.TheConstants.{OTHERS}
 use Rattle.syslog_named_forms.proofs.marks.other_bits.Goals as goal
 

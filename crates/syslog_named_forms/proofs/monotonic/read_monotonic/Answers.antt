@@ -1,9 +1,8 @@
-use Rattle.std.proofs.Common.{inl, refl}
-use Rattle.syslog_text.proofs.PieceLemmas.Class.{◌past◌, ◌then◌, no_row, no_row_division, rest_front, row_of}
-use Rattle.syslog_named_forms.specs.Monotonic.{monotonic_row, monotonic_says}
-use Rattle.syslog_named_forms.proofs.MonotonicLemmas.{monotonic_det}
-use Rattle.syslog_sent.proofs.FormLemmas.{says_once}
+use Rattle.syslog_named_forms.proofs.Names.{◌past◌, ◌then◌, inl, monotonic_row, no_row, no_row_division, refl}
+use Rattle.syslog_named_forms.proofs.Names.{rest_front, row_of, says_once}
+use Rattle.syslog_named_forms.specs.Monotonic.{monotonic_says}
 use Rattle.syslog_sent.specs.declared.dialect.Dialect.TheVariants.{Monotonic}
+use Rattle.syslog_named_forms.proofs.RowLemmas.{monotonic_det}
 use Rattle.syslog_named_forms.proofs.monotonic.read_monotonic.Goals as goal
 
 pub returns-in_err-after_seconds : goal.returns-in_err-after_seconds

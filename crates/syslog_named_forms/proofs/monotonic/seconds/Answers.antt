@@ -1,9 +1,5 @@
-use Rattle.std.proofs.Common.{[], ◌∷◌}
-use Rattle.syslog_text.proofs.PieceLemmas.{Class.◌also◌, Rules.always_on, Rules.row_reads}
-use Rattle.syslog_text.specs.Pieces.Class.{run}
-use Rattle.syslog_text.specs.Text.{is_blank}
-use Rattle.syslog_named_forms.specs.Monotonic.{seconds_row}
-use Rattle.syslog_named_forms.proofs.MonotonicLemmas.{seconds_det}
+use Rattle.syslog_named_forms.proofs.Names.{[], ◌also◌, ◌∷◌, always_on, is_blank, row_reads, run, seconds_row}
+use Rattle.syslog_named_forms.proofs.RowLemmas.{seconds_det}
 use Rattle.syslog_named_forms.proofs.monotonic.seconds.Goals as goal
 
 pub returns : goal.returns

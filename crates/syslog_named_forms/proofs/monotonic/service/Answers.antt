@@ -1,8 +1,7 @@
-use Rattle.std.specs.Prelude.{◌≡◌, IsTrue, false, true}
-use Rattle.std.proofs.Common.{sym, ◌∙◌}
-use Rattle.syslog_text.proofs.PieceLemmas.Rules.{no_such_front, no_such_meaning, such_front}
-use Rattle.syslog_sent.proofs.NamedLemmas.{program_det}
-use Rattle.syslog_sent.specs.Named.{ProgramText, program}
+use Rattle.syslog_named_forms.proofs.Names.{◌∙◌, IsTrue, no_such_front, no_such_meaning, program, program_det}
+use Rattle.syslog_named_forms.proofs.Names.{such_front, sym}
+use Rattle.std.specs.Prelude.{◌≡◌, false, true}
+use Rattle.syslog_sent.specs.Named.{ProgramText}
 use Rattle.syslog_named_forms.specs.Monotonic.{is_service}
 use Rattle.syslog_named_forms.proofs.monotonic.service.Goals as goal
 

@@ -1,14 +1,9 @@
-use Rattle.syslog_sent.proofs.NamedLemmas.{beginning_det}
-use Rattle.syslog_text.proofs.PieceLemmas.Class.{row_det}
-use Rattle.syslog_text.specs.Pieces.Class.{Row}
-use Rattle.syslog_named_forms.proofs.DeviceLemmas.{event_det, graded_det, leveled_det, numbered_det, sourced_det}
-use Rattle.syslog_named_forms.proofs.DeviceLemmas.{padded_det, threaded_det}
+use Rattle.syslog_named_forms.proofs.Names.{beginning_det, Bracket, counted_row, dated_marked_forms, event_row}
+use Rattle.syslog_named_forms.proofs.Names.{graded_row, graded_tails, leveled_row, mark_class, numbered_row, padded_row}
+use Rattle.syslog_named_forms.proofs.Names.{Row, row_det, sourced_row, threaded_row}
 use Rattle.syslog_named_forms.proofs.NamedFormLemmas.{◌before◌, first_tail, found_after}
-use Rattle.syslog_named_forms.specs.Graded.{counted_row, event_row, graded_row, leveled_row, numbered_row, sourced_row}
-use Rattle.syslog_named_forms.specs.Graded.{padded_row, threaded_row}
-use Rattle.syslog_named_forms.specs.NamedForms.{dated_marked_forms, graded_tails}
-use Rattle.syslog_named_forms.specs.Untagged.{mark_class}
-use Rattle.syslog_named_forms.specs.declared.untagged.Mark.TheVariants.{Bracket}
+use Rattle.syslog_named_forms.proofs.RowLemmas.{event_det, graded_det, leveled_det, numbered_det, padded_det}
+use Rattle.syslog_named_forms.proofs.RowLemmas.{sourced_det, threaded_det}
 use Rattle.syslog_named_forms.proofs.named_forms.of_dated.Goals as goal
 
 pub returns-in-Some : goal.returns-in-Some

@@ -1,11 +1,7 @@
-use Rattle.syslog_text.proofs.PieceLemmas.Class.{row_det}
-use Rattle.syslog_named_forms.proofs.DeviceLemmas.{addressed_det, compact_det, titled_det}
+use Rattle.syslog_named_forms.proofs.Names.{[], addressed_row, compact_row, device_tails, row_det, titled_row}
 use Rattle.syslog_named_forms.proofs.NamedFormLemmas.{◌before◌, first_tail, found_after, no_tail}
-use Rattle.syslog_named_forms.specs.Devices.{addressed_row, titled_row}
-use Rattle.syslog_named_forms.specs.NamedForms.{device_tails}
-use Rattle.syslog_named_forms.specs.Unified.{compact_row}
+use Rattle.syslog_named_forms.proofs.RowLemmas.{addressed_det, compact_det, titled_det}
 use Rattle.syslog_named_forms.proofs.named_forms.of_device.Goals as goal
-use Rattle.std.proofs.Common.{[]}
 
 pub returns-in-Some : goal.returns-in-Some
 returns-in-Some c after = found_after device_tails []

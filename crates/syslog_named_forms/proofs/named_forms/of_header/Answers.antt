@@ -1,8 +1,5 @@
-use Rattle.std.proofs.Common.{List, ◌++◌}
-use Rattle.syslog_text.specs.Pieces.Class.{Class}
-use Rattle.syslog_text.proofs.PieceLemmas.Class.{no_row_division, rows_none_here}
-use Rattle.syslog_sent.proofs.FormLemmas.{◌before◌, found}
-use Rattle.syslog_named_forms.specs.NamedForms.{header_forms}
+use Rattle.syslog_named_forms.proofs.Names.{◌++◌, ◌before◌, Class, found, header_forms, List, no_row_division}
+use Rattle.syslog_named_forms.proofs.Names.{rows_none_here}
 use Rattle.syslog_named_forms.specs.NearHeader as header
 use Rattle.syslog_named_forms.specs.declared.untagged.Mark.TheVariants as mark
 use Rattle.syslog_named_forms.proofs.named_forms.of_header.Goals as goal

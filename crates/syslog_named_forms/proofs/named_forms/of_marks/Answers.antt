@@ -1,11 +1,11 @@
-use Rattle.std.proofs.Common.{None, Some, drop, ◌+◌, refl, sym}
+use Rattle.syslog_named_forms.proofs.Names.{drop, marked_tails, None, refl, Some, sym, tail_forms}
+use Rattle.std.proofs.Common.{◌+◌, drop_of_length-le}
 use Rattle.std.proofs.lemmas.Bool.{or_parts}
-use Rattle.std.proofs.Common.{drop_of_length-le}
 use Rattle.std.proofs.lemmas.List.{drop_more}
 use Rattle.syslog_named_forms.specs.declared.untagged.Mark.TheVariants as mark
 use Rattle.syslog_named_forms.proofs.NamedFormLemmas.{marked_det, named_later, none_of_marks, tail_here}
 use Rattle.syslog_named_forms.proofs.UntaggedLemmas.{no_message_of, no_messages}
-use Rattle.syslog_named_forms.specs.NamedForms.{marked_tail, marked_tails, tail_forms}
+use Rattle.syslog_named_forms.specs.NamedForms.{marked_tail}
 use Rattle.syslog_named_forms.proofs.named_forms.of_marks.Goals.{then-has+in_default, else-has}
 use Rattle.syslog_named_forms.proofs.named_forms.of_marks.Goals as goal
 

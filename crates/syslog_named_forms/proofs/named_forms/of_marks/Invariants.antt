@@ -1,10 +1,6 @@
-use Rattle.std.proofs.Common.{Option, drop, chars}
-use Rattle.syslog_sent.specs.declared.dialect.Dialect.{Dialect}
-use Rattle.syslog_sent.specs.declared.named.Named.{Named}
-use Rattle.syslog_named_forms.specs.NamedFinds.{FindsNamed}
-use Rattle.syslog_named_forms.specs.NamedForms.{marked_tails, tail_forms}
-use Rattle.syslog_named_forms.specs.Hosts.{ReadsHost}
-use Rattle.syslog_named_forms.specs.Untagged.{AreMarks}
+use Rattle.syslog_named_forms.proofs.Names.{AreMarks, Dialect, drop, FindsNamed, marked_tails, Named, Option, ReadsHost}
+use Rattle.syslog_named_forms.proofs.Names.{tail_forms}
+use Rattle.std.proofs.Common.{chars}
 use Rattle.syslog_named_forms.proofs.named_forms.of_marks.Given as goal
 
 -- what is found by the marks that are left is found by all of them

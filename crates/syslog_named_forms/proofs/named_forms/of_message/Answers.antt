@@ -1,5 +1,5 @@
+use Rattle.syslog_named_forms.proofs.Names.{dated_program_forms, message_tails, tail_forms}
 use Rattle.syslog_named_forms.proofs.NamedFormLemmas.{named_early, named_late}
-use Rattle.syslog_named_forms.specs.NamedForms.{dated_program_forms, message_tails, tail_forms}
 use Rattle.syslog_named_forms.proofs.named_forms.of_message.Goals as goal
 
 pub returns-in-Some : goal.returns-in-Some

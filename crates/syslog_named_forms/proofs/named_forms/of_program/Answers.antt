@@ -1,14 +1,8 @@
-use Rattle.std.proofs.Common.{[]}
-use Rattle.syslog_sent.proofs.NamedLemmas.{hosted_det}
-use Rattle.syslog_text.proofs.PieceLemmas.Class.{row_det}
+use Rattle.syslog_named_forms.proofs.Names.{[], access_row, hosted_det, hostless_row, log_row, passed_on, program_tails}
+use Rattle.syslog_named_forms.proofs.Names.{row_det, severity_row, untagged_row, worded_row}
 use Rattle.syslog_named_forms.proofs.NamedFormLemmas.{◌before◌, first_tail, found_after, no_tail}
-use Rattle.syslog_named_forms.proofs.ProgramLemmas.{access_det, either_box_det, hostless_det, log_det, passed_on_det}
-use Rattle.syslog_named_forms.proofs.ProgramLemmas.{severity_det, untagged_det}
-use Rattle.syslog_named_forms.proofs.ProgramLemmas.{worded_det}
-use Rattle.syslog_named_forms.specs.NamedForms.{program_tails}
-use Rattle.syslog_named_forms.specs.Programs.{access_row, hostless_row, passed_on, severity_row}
-use Rattle.syslog_named_forms.specs.Programs.{untagged_row, worded_row}
-use Rattle.syslog_named_forms.specs.Unified.{log_row}
+use Rattle.syslog_named_forms.proofs.RowLemmas.{access_det, either_box_det, hostless_det, log_det, passed_on_det}
+use Rattle.syslog_named_forms.proofs.RowLemmas.{severity_det, untagged_det, worded_det}
 use Rattle.syslog_named_forms.proofs.named_forms.of_program.Goals as goal
 
 pub returns-in-Some : goal.returns-in-Some

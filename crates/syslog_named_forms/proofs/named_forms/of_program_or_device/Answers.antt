@@ -1,5 +1,5 @@
+use Rattle.syslog_named_forms.proofs.Names.{device_tails, program_tails, tail_forms}
 use Rattle.syslog_named_forms.proofs.NamedFormLemmas.{named_early, named_late}
-use Rattle.syslog_named_forms.specs.NamedForms.{device_tails, program_tails, tail_forms}
 use Rattle.syslog_named_forms.proofs.named_forms.of_program_or_device.Goals as goal
 
 pub returns-in-Some : goal.returns-in-Some

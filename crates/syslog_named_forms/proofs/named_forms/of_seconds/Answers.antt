@@ -1,5 +1,4 @@
-use Rattle.std.proofs.Common.{[]}
-use Rattle.syslog_sent.proofs.DialectLemmas.{here}
+use Rattle.syslog_named_forms.proofs.Names.{[], here}
 use Rattle.syslog_named_forms.specs.Monotonic.{monotonic_form}
 use Rattle.syslog_named_forms.proofs.named_forms.of_seconds.Goals as goal
 

@@ -1,9 +1,6 @@
-use Rattle.std.proofs.Common.{[]}
-use Rattle.syslog_text.proofs.PieceLemmas.Class.{row_det}
+use Rattle.syslog_named_forms.proofs.Names.{[], row_det, spread_row, spread_tail}
 use Rattle.syslog_named_forms.proofs.NamedFormLemmas.{none_after, tail_here}
-use Rattle.syslog_named_forms.proofs.ProgramLemmas.{spread_det}
-use Rattle.syslog_named_forms.specs.NamedForms.{spread_tail}
-use Rattle.syslog_named_forms.specs.Programs.{spread_row}
+use Rattle.syslog_named_forms.proofs.RowLemmas.{spread_det}
 use Rattle.syslog_named_forms.proofs.named_forms.of_spread.Goals as goal
 
 pub returns-in_err-named : goal.returns-in_err-named

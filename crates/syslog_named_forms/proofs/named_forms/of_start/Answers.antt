@@ -1,5 +1,4 @@
-use Rattle.syslog_sent.proofs.FormLemmas.{◌before◌, first, found}
-use Rattle.syslog_named_forms.specs.NamedForms.{header_forms}
+use Rattle.syslog_named_forms.proofs.Names.{◌before◌, first, found, header_forms}
 use Rattle.syslog_named_forms.proofs.named_forms.of_start.Goals as goal
 
 pub returns-in-Some : goal.returns-in-Some

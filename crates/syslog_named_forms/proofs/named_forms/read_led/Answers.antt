@@ -1,8 +1,5 @@
-use Rattle.std.proofs.Common.{inl, refl}
-use Rattle.syslog_text.proofs.PieceLemmas.Class.{◌past◌, ◌then◌, no_row, row_of}
-use Rattle.syslog_sent.proofs.LedLemmas.{any_front}
+use Rattle.syslog_named_forms.proofs.Names.{◌past◌, ◌then◌, any_front, front_row, inl, no_row, refl, row_of}
 use Rattle.syslog_named_forms.proofs.NamedFormLemmas.{front_det, none_dated}
-use Rattle.syslog_named_forms.specs.NamedForms.{front_row}
 use Rattle.syslog_named_forms.proofs.named_forms.read_led.Goals as goal
 
 pub returns-in_err-rest : goal.returns-in_err-rest

@@ -1,4 +1,4 @@
-use Rattle.syslog_sent.proofs.FormLemmas.{◌before◌, first, found}
+use Rattle.syslog_named_forms.proofs.Names.{◌before◌, first, found}
 use Rattle.syslog_sent.specs.declared.dialect.Dialect.TheVariants as dialect
 use Rattle.syslog_named_forms.proofs.NamedFormLemmas.{no_undated, undated_said}
 use Rattle.syslog_named_forms.specs.NamedForms.{undated_forms}

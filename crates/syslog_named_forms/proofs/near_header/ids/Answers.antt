@@ -1,10 +1,6 @@
-use Rattle.std.proofs.Common.{List, [], ◌∷◌, inl, refl}
-use Rattle.syslog_text.proofs.PieceLemmas.Class.{AllDeterministic, ◌also◌, ◌past◌, ◌then◌, no_row, row_of, rows_join}
-use Rattle.syslog_text.proofs.PieceLemmas.Class.{rows_none_here, rows_none_later, some_run_det}
-use Rattle.syslog_text.proofs.TextLemmas.Words.{word_det}
-use Rattle.syslog_text.specs.Pieces.Class.{Class, some_run}
-use Rattle.syslog_text.specs.Text.{is_blank, word}
-use Rattle.syslog_named_forms.specs.NearHeader.{source_row}
+use Rattle.syslog_named_forms.proofs.Names.{[], ◌also◌, ◌past◌, ◌then◌, ◌∷◌, AllDeterministic, Class, inl, is_blank}
+use Rattle.syslog_named_forms.proofs.Names.{List, no_row, refl, row_of, rows_join, rows_none_here, rows_none_later}
+use Rattle.syslog_named_forms.proofs.Names.{some_run, some_run_det, source_row, word, word_det}
 use Rattle.syslog_named_forms.proofs.NearHeaderLemmas.{source_det}
 use Rattle.syslog_named_forms.proofs.near_header.ids.Goals as goal
 

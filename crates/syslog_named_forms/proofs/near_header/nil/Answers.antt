@@ -1,6 +1,4 @@
-use Rattle.syslog_text.specs.Pieces.Class.{exactly}
-use Rattle.syslog_text.specs.Text.{dash}
-use Rattle.syslog_text.proofs.PieceLemmas.Class.{exactly_det}
+use Rattle.syslog_named_forms.proofs.Names.{dash, exactly, exactly_det}
 use Rattle.syslog_sent.proofs.ZoneLemmas.{ended_front, no_ended, not_ended}
 use Rattle.syslog_named_forms.proofs.near_header.nil.Goals as goal
 

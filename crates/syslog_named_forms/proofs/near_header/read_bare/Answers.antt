@@ -1,8 +1,6 @@
-use Rattle.std.proofs.Common.{[], ◌∷◌, inl, refl}
-use Rattle.syslog_text.proofs.PieceLemmas.Class.{◌also◌, ◌then◌, rest_det, rest_front, row_of}
-use Rattle.syslog_text.specs.Pieces.Class.{rest}
-use Rattle.syslog_sent.specs.declared.dialect.Dialect.TheVariants.{NearlyRfc5424}
-use Rattle.syslog_named_forms.specs.NearHeader.{bare_says, ids_row}
+use Rattle.syslog_named_forms.proofs.Names.{[], ◌also◌, ◌then◌, ◌∷◌, ids_row, inl, NearlyRfc5424, refl, rest, rest_det}
+use Rattle.syslog_named_forms.proofs.Names.{rest_front, row_of}
+use Rattle.syslog_named_forms.specs.NearHeader.{bare_says}
 use Rattle.syslog_named_forms.proofs.NearHeaderLemmas.{ids_det, named, unnamed}
 use Rattle.syslog_named_forms.proofs.near_header.read_bare.Goals as goal
 

@@ -1,7 +1,6 @@
-use Rattle.std.proofs.Common.{inl, refl}
-use Rattle.syslog_text.proofs.PieceLemmas.Class.{◌past◌, ◌then◌, rest_front, row_of}
+use Rattle.syslog_named_forms.proofs.Names.{◌past◌, ◌then◌, heroku_last, inl, refl, rest_front, row_of, source_row}
 use Rattle.syslog_sent.specs.declared.dialect.Dialect.TheVariants.{Heroku}
-use Rattle.syslog_named_forms.specs.NearHeader.{heroku_last, heroku_says, source_row}
+use Rattle.syslog_named_forms.specs.NearHeader.{heroku_says}
 use Rattle.syslog_named_forms.proofs.NearHeaderLemmas.{heroku_last_det, named, source_det, unnamed}
 use Rattle.syslog_named_forms.proofs.near_header.read_heroku.Goals as goal
 

@@ -1,7 +1,6 @@
-use Rattle.std.proofs.Common.{inl, refl}
-use Rattle.syslog_text.proofs.PieceLemmas.Class.{◌past◌, ◌then◌, rest_front, row_of}
-use Rattle.syslog_sent.specs.declared.dialect.Dialect.TheVariants.{NearlyRfc5424}
-use Rattle.syslog_named_forms.specs.NearHeader.{ids_row, nil_last, nil_says}
+use Rattle.syslog_named_forms.proofs.Names.{◌past◌, ◌then◌, ids_row, inl, NearlyRfc5424, nil_last, refl, rest_front}
+use Rattle.syslog_named_forms.proofs.Names.{row_of}
+use Rattle.syslog_named_forms.specs.NearHeader.{nil_says}
 use Rattle.syslog_named_forms.proofs.NearHeaderLemmas.{ids_det, named, nil_last_det, unnamed}
 use Rattle.syslog_named_forms.proofs.near_header.read_nil.Goals as goal
 

@@ -1,10 +1,8 @@
-use Rattle.std.proofs.Common.{[], ◌∷◌, inl, refl}
-use Rattle.syslog_text.proofs.PieceLemmas.Class.{◌also◌, ◌past◌, ◌then◌, row_of}
+use Rattle.syslog_named_forms.proofs.Names.{[], ◌also◌, ◌past◌, ◌then◌, ◌∷◌, beginning, beginning_det, beginning_front}
+use Rattle.syslog_named_forms.proofs.Names.{ids_row, inl, no_beginning, refl, row_of}
 use Rattle.syslog_elements.specs.StructuredData.Pairs.{paired}
-use Rattle.syslog_sent.specs.Named.{beginning}
 use Rattle.syslog_sent.specs.declared.dialect.Dialect.TheVariants.{CheckPoint}
-use Rattle.syslog_sent.proofs.NamedLemmas.{beginning_det, beginning_front, no_beginning}
-use Rattle.syslog_named_forms.specs.NearHeader.{ids_row, paired_says}
+use Rattle.syslog_named_forms.specs.NearHeader.{paired_says}
 use Rattle.syslog_named_forms.proofs.NearHeaderLemmas.{ids_det, named, unnamed}
 use Rattle.syslog_named_forms.proofs.near_header.read_paired.Goals as goal
 

@@ -1,7 +1,5 @@
-use Rattle.std.proofs.Common.{inl, refl}
-use Rattle.syslog_text.proofs.PieceLemmas.Class.{◌then◌, no_row, rest_front, row_of}
-use Rattle.syslog_sent.specs.declared.dialect.Dialect.TheVariants.{NearlyRfc5424}
-use Rattle.syslog_named_forms.specs.NearHeader.{tag_more, tag_says}
+use Rattle.syslog_named_forms.proofs.Names.{◌then◌, inl, NearlyRfc5424, no_row, refl, rest_front, row_of, tag_more}
+use Rattle.syslog_named_forms.specs.NearHeader.{tag_says}
 use Rattle.syslog_named_forms.proofs.NearHeaderLemmas.{said_of, tag_more_det, unsaid}
 use Rattle.syslog_named_forms.proofs.near_header.read_tag.Goals as goal
 

@@ -1,8 +1,7 @@
-use Rattle.std.proofs.Common.{inl, refl}
-use Rattle.syslog_text.proofs.PieceLemmas.Class.{◌also◌, ◌then◌, no_row, row_of}
-use Rattle.syslog_sent.proofs.NamedLemmas.{beginning_det, beginning_front, no_beginning}
+use Rattle.syslog_named_forms.proofs.Names.{◌also◌, ◌then◌, beginning_det, beginning_front, inl, mark_class}
+use Rattle.syslog_named_forms.proofs.Names.{no_beginning, no_row, refl, row_of}
 use Rattle.syslog_named_forms.specs.NearHeader.{vendor_more, vendor_says}
-use Rattle.syslog_named_forms.specs.Untagged.{dialect_of, mark_class}
+use Rattle.syslog_named_forms.specs.Untagged.{dialect_of}
 use Rattle.syslog_named_forms.proofs.NearHeaderLemmas.{said_of, unsaid}
 use Rattle.syslog_named_forms.proofs.near_header.read_vendor.Goals as goal
 

@@ -1,6 +1,4 @@
-use Rattle.std.proofs.Common.{inl, refl}
-use Rattle.syslog_text.proofs.PieceLemmas.Class.{◌past◌, ◌then◌, no_row, row_of}
-use Rattle.syslog_named_forms.specs.NearHeader.{source_row}
+use Rattle.syslog_named_forms.proofs.Names.{◌past◌, ◌then◌, inl, no_row, refl, row_of, source_row}
 use Rattle.syslog_named_forms.proofs.NearHeaderLemmas.{source_det}
 use Rattle.syslog_named_forms.proofs.near_header.source.Goals as goal
 

@@ -1,8 +1,5 @@
-use Rattle.syslog_text.proofs.PieceLemmas.Class.{mapped_front}
-use Rattle.syslog_text.specs.Pieces.Class.{Text}
-use Rattle.syslog_sent.proofs.NamedLemmas.{first_front, second_front}
-use Rattle.syslog_sent.specs.Named.{◌otherwise◌}
-use Rattle.syslog_named_forms.specs.Pairs.{either_text, quoted, unquoted}
+use Rattle.syslog_named_forms.proofs.Names.{◌otherwise◌, either_text, first_front, mapped_front, quoted, second_front}
+use Rattle.syslog_named_forms.proofs.Names.{Text, unquoted}
 use Rattle.syslog_named_forms.proofs.pairs.any_value.Goals as goal
 
 pub returns-in-Some-clause-reads : goal.returns-in-Some-clause-reads

@@ -1,7 +1,6 @@
-use Rattle.syslog_text.specs.Pieces.Class.{Row}
+use Rattle.syslog_named_forms.proofs.Names.{listed_row, Row}
 use Rattle.syslog_named_forms.proofs.PairLemmas.{listed_front, no_listed, not_listed}
 use Rattle.syslog_named_forms.proofs.ProgramLemmas.{named}
-use Rattle.syslog_named_forms.specs.Pairs.{listed_row}
 use Rattle.syslog_named_forms.proofs.pairs.listed.Goals as goal
 
 pub returns-in_err-rest-clause-reads : goal.returns-in_err-rest-clause-reads

@@ -1,8 +1,6 @@
-use Rattle.std.proofs.Common.{inl, refl}
-use Rattle.syslog_text.proofs.PieceLemmas.Class.{◌then◌, no_row, row_of}
-use Rattle.syslog_text.proofs.TextLemmas.Runs.{empty_is, nonempty_is, no_some_run, some_run_front}
+use Rattle.syslog_named_forms.proofs.Names.{◌then◌, empty_is, inl, listed_row, no_row, no_some_run, nonempty_is, refl}
+use Rattle.syslog_named_forms.proofs.Names.{row_of, some_run_front}
 use Rattle.syslog_named_forms.proofs.PairLemmas.{listed_row_det}
-use Rattle.syslog_named_forms.specs.Pairs.{listed_row}
 use Rattle.syslog_named_forms.proofs.pairs.listed_end.Goals as goal
 
 pub returns-then-is_empty-clause-reads : goal.returns-then-is_empty-clause-reads

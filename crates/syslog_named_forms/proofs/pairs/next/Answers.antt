@@ -1,6 +1,5 @@
-use Rattle.std.proofs.Common.{[], ◌∷◌}
-use Rattle.syslog_text.proofs.PieceLemmas.{Class.◌also◌, Rules.row_reads}
-use Rattle.syslog_named_forms.{proofs.PairLemmas.next_det, specs.Pairs.next_row}
+use Rattle.syslog_named_forms.proofs.Names.{[], ◌also◌, ◌∷◌, next_row, row_reads}
+use Rattle.syslog_named_forms.proofs.PairLemmas.{next_det}
 use Rattle.syslog_named_forms.proofs.pairs.next.Goals as goal
 
 pub returns : goal.returns

@@ -1,5 +1,4 @@
-use Rattle.syslog_text.specs.Pieces.View.{shown}
-use Rattle.syslog_named_forms.specs.PairViews.{notes_value}
+use Rattle.syslog_named_forms.proofs.Names.{notes_value, shown}
 use Rattle.syslog_named_forms.proofs.PairLemmas.{unnoted}
 use Rattle.syslog_named_forms.proofs.pairs.noted_more.Goals as goal
 

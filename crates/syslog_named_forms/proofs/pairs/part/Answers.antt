@@ -1,6 +1,5 @@
-use Rattle.std.proofs.Common.{[], ◌∷◌}
-use Rattle.syslog_text.proofs.PieceLemmas.{Class.◌also◌, Rules.row_reads}
-use Rattle.syslog_named_forms.{proofs.PairLemmas.part_det, specs.Pairs.part_row}
+use Rattle.syslog_named_forms.proofs.Names.{[], ◌also◌, ◌∷◌, part_row, row_reads}
+use Rattle.syslog_named_forms.proofs.PairLemmas.{part_det}
 use Rattle.syslog_named_forms.proofs.pairs.part.Goals as goal
 
 pub returns : goal.returns

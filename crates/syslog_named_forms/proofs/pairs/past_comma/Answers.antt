@@ -1,6 +1,4 @@
-use Rattle.std.proofs.Common.{[], ◌∷◌, Some}
-use Rattle.syslog_text.proofs.PieceLemmas.Class.{optional_some}
-use Rattle.syslog_text.specs.Pieces.Class.{exactly}
+use Rattle.syslog_named_forms.proofs.Names.{[], ◌∷◌, exactly, optional_some, Some}
 use Rattle.syslog_named_forms.proofs.pairs.past_comma.Goals as goal
 
 pub returns-in-Some : goal.returns-in-Some

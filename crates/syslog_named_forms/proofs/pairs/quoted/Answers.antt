@@ -1,10 +1,6 @@
-use Rattle.std.proofs.Common.{inl, refl}
-use Rattle.syslog_text.proofs.PieceLemmas.Class.{◌past◌, ◌then◌, mapped_front, row_of}
-use Rattle.syslog_text.specs.Pieces.Class.{Row, Text}
-use Rattle.syslog_sent.proofs.NamedLemmas.{unread}
+use Rattle.syslog_named_forms.proofs.Names.{◌past◌, ◌then◌, inl, is_unquoted, mapped_front, quoted_of, quoted_row, refl}
+use Rattle.syslog_named_forms.proofs.Names.{Row, row_of, Text, unread}
 use Rattle.syslog_named_forms.proofs.PairLemmas.{quoted_det, run_texted}
-use Rattle.syslog_named_forms.specs.Pairs.{quoted_of, quoted_row}
-use Rattle.syslog_sent.specs.Runs.{is_unquoted}
 use Rattle.syslog_named_forms.proofs.pairs.quoted.Goals as goal
 
 pub returns-in_err-after_quote-clause-reads : goal.returns-in_err-after_quote-clause-reads

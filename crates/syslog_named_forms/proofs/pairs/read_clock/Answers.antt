@@ -1,6 +1,5 @@
-use Rattle.std.proofs.Common.{inl, refl}
-use Rattle.syslog_text.proofs.PieceLemmas.Class.{◌past◌, ◌then◌, no_row, row_of}
-use Rattle.syslog_named_forms.{proofs.PairLemmas.clock_det, specs.Pairs.clock_row}
+use Rattle.syslog_named_forms.proofs.Names.{◌past◌, ◌then◌, clock_row, inl, no_row, refl, row_of}
+use Rattle.syslog_named_forms.proofs.PairLemmas.{clock_det}
 use Rattle.syslog_named_forms.proofs.pairs.read_clock.Goals as goal
 
 pub returns-in_err-hour : goal.returns-in_err-hour

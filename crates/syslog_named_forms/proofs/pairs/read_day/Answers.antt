@@ -1,6 +1,5 @@
-use Rattle.std.proofs.Common.{inl, refl}
-use Rattle.syslog_text.proofs.PieceLemmas.Class.{◌past◌, ◌then◌, no_row, row_of}
-use Rattle.syslog_named_forms.{proofs.PairLemmas.day_det, specs.Pairs.day_row}
+use Rattle.syslog_named_forms.proofs.Names.{◌past◌, ◌then◌, day_row, inl, no_row, refl, row_of}
+use Rattle.syslog_named_forms.proofs.PairLemmas.{day_det}
 use Rattle.syslog_named_forms.proofs.pairs.read_day.Goals as goal
 
 pub returns-in_err-year : goal.returns-in_err-year

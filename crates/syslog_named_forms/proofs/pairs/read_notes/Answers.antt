@@ -1,8 +1,7 @@
-use Rattle.std.proofs.Common.{[], ◌∷◌, ◌++◌, refl, sym, ap, ◌∙◌}
-use Rattle.syslog_text.proofs.PieceLemmas.Rules.{no_run, runs_all, runs_more}
-use Rattle.syslog_text.specs.Pieces.View.{shown}
+use Rattle.syslog_named_forms.proofs.Names.{[], ◌++◌, ◌∙◌, ◌∷◌, ap, no_run, Noted, noted_more, refl, runs_all}
+use Rattle.syslog_named_forms.proofs.Names.{runs_more, shown, sym}
 use Rattle.syslog_named_forms.proofs.PairLemmas.{noted_push, pair_shorter}
-use Rattle.syslog_named_forms.specs.{PairViews.pair_value, Pairs.Noted, Pairs.noted_more}
+use Rattle.syslog_named_forms.specs.PairViews.{pair_value}
 use Rattle.syslog_named_forms.proofs.pairs.read_notes.Goals as goal
 
 pub pairs-init : goal.pairs-init

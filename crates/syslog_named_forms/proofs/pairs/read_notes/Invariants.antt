@@ -1,10 +1,5 @@
-use denote.Text.{Utf8}
-use denote.Shadow.{shadow}
-use Rattle.std.proofs.Common.{◌≡◌, List, length}
-use Rattle.std.specs.Str.{chars}
-use Rattle.syslog_text.proofs.PieceLemmas.Rules.{Runs}
-use Rattle.syslog_text.specs.Pieces.Class.{Text}
-use Rattle.syslog_named_forms.specs.{PairViews.notes_value, Pairs.noted, Pairs.pair}
+use Rattle.syslog_named_forms.proofs.Names.{◌≡◌, chars, length, List, noted, notes_value, Runs, shadow, Text, Utf8}
+use Rattle.syslog_named_forms.specs.Pairs.{pair}
 use Rattle.syslog_named_forms.proofs.pairs.read_notes.Given as goal
 
 abbrev pub invariant-pairs : goal.invariant-pairs

@@ -1,8 +1,7 @@
-use Rattle.std.proofs.Common.{inl, refl, rules, FitsSigned, w32}
+use Rattle.syslog_named_forms.proofs.Names.{◌past◌, ◌then◌, inl, no_row, no_row_division, offset_row, refl, row_of}
+use Rattle.std.proofs.Common.{rules, FitsSigned, w32}
 use Rattle.std.proofs.lemmas.Int.{to_z-of_z}
-use Rattle.syslog_text.proofs.PieceLemmas.Class.{◌past◌, ◌then◌, no_row, no_row_division, row_of}
 use Rattle.syslog_named_forms.proofs.PairLemmas.{offset_det, not_whole, whole_is}
-use Rattle.syslog_named_forms.specs.Pairs.{offset_row}
 use Rattle.syslog_named_forms.proofs.pairs.read_offset.Goals as goal
 
 pub returns-in_err-is_behind : goal.returns-in_err-is_behind

@@ -1,11 +1,8 @@
-use Rattle.std.proofs.Common.{inl, refl}
-use Rattle.syslog_text.proofs.PieceLemmas.Class.{◌past◌, ◌then◌, mapped_front, no_mapped, no_row, no_texted, row_of}
-use Rattle.syslog_text.proofs.TextLemmas.Runs.{empty_is, nonempty_is, no_some_run}
-use Rattle.syslog_text.specs.Pieces.Class.{Row, Text, some_run}
-use Rattle.syslog_sent.proofs.NamedLemmas.{run_text, unread}
+use Rattle.syslog_named_forms.proofs.Names.{◌past◌, ◌then◌, empty_is, inl, is_word_char, mapped_front, no_mapped}
+use Rattle.syslog_named_forms.proofs.Names.{no_row, no_some_run, no_texted, nonempty_is, pair_of, refl, Row, row_of}
+use Rattle.syslog_named_forms.proofs.Names.{run_text, some_run, Text, unread}
 use Rattle.syslog_named_forms.proofs.PairLemmas.{pair_row_det}
-use Rattle.syslog_named_forms.specs.Pairs.{pair_of, pair_row}
-use Rattle.syslog_sent.specs.Runs.{is_word_char}
+use Rattle.syslog_named_forms.specs.Pairs.{pair_row}
 use Rattle.syslog_named_forms.proofs.pairs.read_pair.Goals as goal
 
 pub returns-then-is_empty-clause-reads : goal.returns-then-is_empty-clause-reads

@@ -1,9 +1,5 @@
-use Rattle.std.proofs.Common.{Option, Some, None, sym, ap, subst}
+use Rattle.syslog_named_forms.proofs.Names.{ap, IsShown, loose, None, Noted, Option, shown, Some, subst, sym, Text}
 use Rattle.syslog_named_forms.proofs.PairLemmas.{no_pairs, pairs_said}
-use Rattle.syslog_text.specs.Pieces.Class.{Text}
-use Rattle.syslog_text.specs.Pieces.View.{shown}
-use Rattle.syslog_named_forms.specs.Pairs.{IsShown, Noted}
-use Rattle.syslog_sent.specs.Sent.{loose}
 use Rattle.syslog_named_forms.proofs.pairs.read_pairs.Goals as goal
 
 pub returns-in_err-date : goal.returns-in_err-date

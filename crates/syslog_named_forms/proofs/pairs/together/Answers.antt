@@ -1,7 +1,5 @@
-use Rattle.std.proofs.Common.{[], ◌∷◌, inl, refl}
-use Rattle.syslog_text.proofs.PieceLemmas.Class.{◌then◌, no_row, no_row_division, row_of}
+use Rattle.syslog_named_forms.proofs.Names.{[], ◌then◌, ◌∷◌, inl, iso_date, no_row, no_row_division, refl, row_of}
 use Rattle.syslog_named_forms.proofs.PairLemmas.{not_whole, together_det, whole_is}
-use Rattle.syslog_sent.specs.Date.{iso_date}
 use Rattle.syslog_named_forms.proofs.pairs.together.Goals as goal
 
 pub returns-in_err-date : goal.returns-in_err-date

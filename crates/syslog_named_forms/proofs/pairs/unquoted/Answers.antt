@@ -1,10 +1,6 @@
-use Rattle.std.specs.Char.{is_not_whitespace}
-use Rattle.syslog_text.proofs.PieceLemmas.Class.{mapped_front}
-use Rattle.syslog_text.specs.Pieces.Class.{Text}
-use Rattle.syslog_sent.proofs.NamedLemmas.{first_front, second_front}
+use Rattle.syslog_named_forms.proofs.Names.{◌otherwise◌, bare, either_text, first_front, is_not_whitespace, listed}
+use Rattle.syslog_named_forms.proofs.Names.{mapped_front, second_front, Text}
 use Rattle.syslog_named_forms.proofs.PairLemmas.{run_texted}
-use Rattle.syslog_sent.specs.Named.{◌otherwise◌}
-use Rattle.syslog_named_forms.specs.Pairs.{bare, either_text, listed}
 use Rattle.syslog_named_forms.proofs.pairs.unquoted.Goals as goal
 
 pub returns-in-Some-clause-reads : goal.returns-in-Some-clause-reads

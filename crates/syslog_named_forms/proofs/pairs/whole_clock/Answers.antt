@@ -1,6 +1,5 @@
-use Rattle.syslog_text.proofs.PieceLemmas.Class.{no_row_division}
+use Rattle.syslog_named_forms.proofs.Names.{clock_row, no_row_division}
 use Rattle.syslog_named_forms.proofs.PairLemmas.{clock_det, not_whole, whole_is}
-use Rattle.syslog_named_forms.specs.Pairs.{clock_row}
 use Rattle.syslog_named_forms.proofs.pairs.whole_clock.Goals as goal
 
 pub returns-in_err-clock : goal.returns-in_err-clock

@@ -1,6 +1,5 @@
-use Rattle.syslog_text.proofs.PieceLemmas.Class.{no_row_division}
+use Rattle.syslog_named_forms.proofs.Names.{day_row, no_row_division}
 use Rattle.syslog_named_forms.proofs.PairLemmas.{day_det, not_whole, whole_is}
-use Rattle.syslog_named_forms.specs.Pairs.{day_row}
 use Rattle.syslog_named_forms.proofs.pairs.whole_day.Goals as goal
 
 pub returns-in_err-day : goal.returns-in_err-day

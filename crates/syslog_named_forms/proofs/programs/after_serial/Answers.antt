@@ -1,11 +1,8 @@
-use Rattle.syslog_text.specs.Pieces.Class.{Row}
-use Rattle.syslog_text.proofs.PieceLemmas.Class.{mapped_front, match_map, no_mapped, rows_none_here}
-use Rattle.syslog_sent.proofs.NamedLemmas.{first_front, no_otherwise, second_front}
-use Rattle.syslog_sent.specs.Named.{◌otherwise◌, NamedTexts}
-use Rattle.std.proofs.Common.{drop}
+use Rattle.syslog_named_forms.proofs.Names.{◌otherwise◌, box, box_of, box_row, drop, first_front, host_row}
+use Rattle.syslog_named_forms.proofs.Names.{mapped_front, match_map, NamedTexts, no_mapped, no_otherwise, Row}
+use Rattle.syslog_named_forms.proofs.Names.{rows_none_here, second_front, serial, serial_of, serial_row}
 use Rattle.syslog_named_forms.proofs.ProgramLemmas.{no_box_alone, no_box_open, no_serial_open}
-use Rattle.syslog_named_forms.specs.Programs.{box, box_of, box_row, one_of_names, serial, serial_of, serial_row}
-use Rattle.syslog_named_forms.specs.Hosts.{host_row}
+use Rattle.syslog_named_forms.specs.Programs.{one_of_names}
 use Rattle.syslog_named_forms.proofs.programs.after_serial.Goals as goal
 
 pub returns-in_err-host : goal.returns-in_err-host

@@ -1,9 +1,7 @@
-use Rattle.std.proofs.Common.{◌||◌, refl}
-use Rattle.std.specs.Char.{is_not_whitespace}
-use Rattle.syslog_text.specs.Pieces.Class.{Text}
-use Rattle.syslog_sent.proofs.NamedLemmas.{told}
-use Rattle.syslog_sent.specs.Selector.{is_severity}
+use Rattle.syslog_named_forms.proofs.Names.{is_not_whitespace, refl, Text, told}
+use Rattle.std.proofs.Common.{◌||◌}
 use Rattle.syslog_named_forms.specs.Programs.{is_double_severity}
+use Rattle.syslog_sent.specs.Selector.{is_severity}
 use Rattle.syslog_named_forms.proofs.programs.aix_severity.Goals as goal
 
 pub returns : goal.returns

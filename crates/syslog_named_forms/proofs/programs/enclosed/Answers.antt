@@ -1,7 +1,5 @@
-use Rattle.std.proofs.Common.{inl, refl}
-use Rattle.syslog_text.proofs.PieceLemmas.Class.{◌past◌, ◌then◌, match_map, no_row, row_of}
-use Rattle.syslog_named_forms.specs.Programs.{enclosed_row}
-use Rattle.syslog_named_forms.proofs.ProgramLemmas.{enclosed_det}
+use Rattle.syslog_named_forms.proofs.Names.{◌past◌, ◌then◌, enclosed_row, inl, match_map, no_row, refl, row_of}
+use Rattle.syslog_named_forms.proofs.RowLemmas.{enclosed_det}
 use Rattle.syslog_named_forms.proofs.programs.enclosed.Goals as goal
 
 pub returns-in_err-inner-clause-reads : goal.returns-in_err-inner-clause-reads

@@ -1,11 +1,8 @@
-use Rattle.std.proofs.Common.{[], ◌∷◌}
-use Rattle.syslog_text.proofs.PieceLemmas.Class.{mapped_front, match_map, no_mapped, row_cons, row_nil, row_none_here}
-use Rattle.syslog_text.proofs.PieceLemmas.Class.{rows_join, rows_none_here, rows_none_later}
-use Rattle.syslog_sent.proofs.NamedLemmas.{first_front, no_otherwise, second_front}
-use Rattle.syslog_named_forms.proofs.UntaggedLemmas.{host_row_det}
-use Rattle.syslog_sent.specs.Named.{NamedTexts, hosted}
-use Rattle.syslog_named_forms.specs.Programs.{passed_on, relayed_of}
-use Rattle.syslog_named_forms.specs.Hosts.{host_row}
+use Rattle.syslog_named_forms.proofs.Names.{[], ◌∷◌, first_front, host_row, hosted, mapped_front, match_map, NamedTexts}
+use Rattle.syslog_named_forms.proofs.Names.{no_mapped, no_otherwise, passed_on, row_cons, row_nil, row_none_here}
+use Rattle.syslog_named_forms.proofs.Names.{rows_join, rows_none_here, rows_none_later, second_front}
+use Rattle.syslog_named_forms.specs.Programs.{relayed_of}
+use Rattle.syslog_named_forms.proofs.RowLemmas.{host_row_det}
 use Rattle.syslog_named_forms.proofs.programs.forwarded.Goals as goal
 
 pub returns-in-Some : goal.returns-in-Some

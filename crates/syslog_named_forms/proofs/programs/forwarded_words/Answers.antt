@@ -1,4 +1,4 @@
-use Rattle.std.specs.Prelude.{codes}
+use Rattle.syslog_named_forms.proofs.Names.{codes}
 use Rattle.syslog_sent.proofs.NamedLemmas.{no_longer}
 use Rattle.syslog_named_forms.proofs.programs.forwarded_words.Goals as goal
 

@@ -1,6 +1,4 @@
-use Rattle.std.proofs.Common.{inr}
-use Rattle.syslog_text.proofs.PieceLemmas.Class.{match_map}
-use Rattle.syslog_sent.proofs.NamedLemmas.{first_front, no_otherwise, second_front}
+use Rattle.syslog_named_forms.proofs.Names.{first_front, inr, match_map, no_otherwise, second_front}
 use Rattle.syslog_named_forms.proofs.programs.grade.Goals as goal
 
 pub returns-in-Some : goal.returns-in-Some

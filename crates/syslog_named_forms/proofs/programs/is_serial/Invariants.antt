@@ -1,7 +1,4 @@
-use denote.Text.{Utf8}
-use denote.Shadow.{shadow}
-use Rattle.std.proofs.Common.{◌≡◌, length}
-use Rattle.std.specs.Str.{chars}
+use Rattle.syslog_named_forms.proofs.Names.{◌≡◌, chars, length, shadow, Utf8}
 use Rattle.syslog_named_forms.specs.Programs.{is_serial}
 use Rattle.syslog_named_forms.proofs.programs.is_serial.Given as goal
 

@@ -1,6 +1,4 @@
-use Rattle.std.proofs.Common.{inl, inr}
-use Rattle.syslog_text.proofs.PieceLemmas.Class.{match_map}
-use Rattle.syslog_sent.proofs.NamedLemmas.{first_front, no_otherwise, second_front}
+use Rattle.syslog_named_forms.proofs.Names.{first_front, inl, inr, match_map, no_otherwise, second_front}
 use Rattle.syslog_named_forms.proofs.programs.later_word.Goals as goal
 
 pub returns-in-Some-clause-reads : goal.returns-in-Some-clause-reads

@@ -1,6 +1,5 @@
-use Rattle.std.proofs.Common.{[], ◌∷◌, ◌++◌}
-use Rattle.syslog_text.proofs.PieceLemmas.Rules.{after_shorter, no_run, runs_all, runs_more}
-use Rattle.syslog_named_forms.specs.Programs.{later_word}
+use Rattle.syslog_named_forms.proofs.Names.{[], ◌++◌, ◌∷◌, later_word, no_run, runs_all, runs_more}
+use Rattle.syslog_text.proofs.PieceLemmas.Rules.{after_shorter}
 use Rattle.syslog_named_forms.proofs.programs.more_words.Goals as goal
 
 pub words-init : goal.words-init

@@ -1,10 +1,4 @@
-use denote.Text.{Utf8}
-use denote.Shadow.{shadow}
-use Rattle.std.proofs.Common.{List, length}
-use Rattle.std.specs.Str.{chars}
-use Rattle.syslog_text.proofs.PieceLemmas.Rules.{Runs}
-use Rattle.syslog_text.specs.Pieces.Class.{spaced}
-use Rattle.syslog_named_forms.specs.Programs.{later_word}
+use Rattle.syslog_named_forms.proofs.Names.{chars, later_word, length, List, Runs, shadow, spaced, Utf8}
 use Rattle.syslog_named_forms.proofs.programs.more_words.Given as goal
 
 abbrev pub invariant-words : goal.invariant-words

@@ -1,9 +1,7 @@
-use Rattle.std.proofs.Common.{◌≡◌, ◌++◌, true, false, [], ◌∷◌, refl, subst, ◌∙◌}
+use Rattle.syslog_named_forms.proofs.Names.{[], ◌++◌, ◌∙◌, ◌∷◌, ◌≡◌, false, is_not_whitespace, refl, subst, Text, told}
+use Rattle.syslog_named_forms.proofs.Names.{true}
 use Rattle.std.proofs.lemmas.Bool.{and_parts}
-use Rattle.std.specs.Char.{is_not_whitespace}
-use Rattle.syslog_sent.proofs.NamedLemmas.{told}
 use Rattle.syslog_sent.specs.Named.{is_number}
-use Rattle.syslog_text.specs.Pieces.Class.{Text}
 use Rattle.syslog_named_forms.specs.Programs.{names_none, opens_number}
 use Rattle.syslog_named_forms.proofs.programs.number_word.Goals as goal
 

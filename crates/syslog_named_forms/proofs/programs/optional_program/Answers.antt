@@ -1,5 +1,4 @@
-use Rattle.syslog_text.proofs.PieceLemmas.Class.{optional_none, optional_some}
-use Rattle.syslog_sent.specs.Named.{program}
+use Rattle.syslog_named_forms.proofs.Names.{optional_none, optional_some, program}
 use Rattle.syslog_named_forms.proofs.programs.optional_program.Goals as goal
 
 pub returns-in-Some : goal.returns-in-Some

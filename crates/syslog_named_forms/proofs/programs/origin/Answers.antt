@@ -1,8 +1,5 @@
-use Rattle.syslog_text.proofs.PieceLemmas.Class.{no_texted}
-use Rattle.syslog_text.proofs.TextLemmas.Runs.{empty_is, nonempty_is, no_some_run}
-use Rattle.syslog_text.specs.Pieces.Class.{some_run}
-use Rattle.syslog_text.specs.Text.{is_tag_char}
-use Rattle.syslog_sent.proofs.NamedLemmas.{run_text}
+use Rattle.syslog_named_forms.proofs.Names.{empty_is, is_tag_char, no_some_run, no_texted, nonempty_is, run_text}
+use Rattle.syslog_named_forms.proofs.Names.{some_run}
 use Rattle.syslog_named_forms.proofs.programs.origin.Goals as goal
 
 pub returns-then-is_empty : goal.returns-then-is_empty

@@ -1,7 +1,4 @@
-use Rattle.std.proofs.Common.{Some, None}
-use Rattle.std.specs.Prelude.{codes}
-use Rattle.syslog_text.specs.Pieces.Class.{exactly}
-use Rattle.syslog_text.proofs.PieceLemmas.Class.{optional_none, optional_some}
+use Rattle.syslog_named_forms.proofs.Names.{codes, exactly, None, optional_none, optional_some, Some}
 use Rattle.syslog_named_forms.proofs.programs.past_security.Goals as goal
 
 pub returns-in-Some : goal.returns-in-Some

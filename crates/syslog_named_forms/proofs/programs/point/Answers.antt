@@ -1,6 +1,4 @@
-use Rattle.syslog_text.proofs.PieceLemmas.Class.{no_texted}
-use Rattle.syslog_text.specs.Pieces.Class.{Row}
-use Rattle.syslog_named_forms.specs.Programs.{point_row}
+use Rattle.syslog_named_forms.proofs.Names.{no_texted, point_row, Row}
 use Rattle.syslog_named_forms.proofs.ProgramLemmas.{named}
 use Rattle.syslog_named_forms.proofs.programs.point.Goals as goal
 

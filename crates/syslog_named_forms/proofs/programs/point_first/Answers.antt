@@ -1,13 +1,7 @@
-use Rattle.std.proofs.Common.{[], ◌∷◌, inl, refl}
-use Rattle.syslog_text.specs.Pieces.Class.{Row, exactly, some_run, texted}
-use Rattle.syslog_text.specs.Text.{colon, is_blank}
-use Rattle.syslog_text.proofs.PieceLemmas.Class.{◌also◌}
-use Rattle.syslog_sent.proofs.NamedLemmas.{unread}
-use Rattle.syslog_sent.specs.Named.{NamedTexts}
-use Rattle.syslog_named_forms.proofs.ProgramLemmas.{access_det}
+use Rattle.syslog_named_forms.proofs.Names.{[], ◌also◌, ◌∷◌, access_of, access_row, colon, exactly, inl, is_blank}
+use Rattle.syslog_named_forms.proofs.Names.{NamedTexts, point_row, program_tail, refl, Row, some_run, texted, unread}
 use Rattle.syslog_named_forms.proofs.ReaderLemmas.{known, passed}
-use Rattle.syslog_named_forms.specs.Hosts.{program_tail}
-use Rattle.syslog_named_forms.specs.Programs.{access_of, access_row, point_row}
+use Rattle.syslog_named_forms.proofs.RowLemmas.{access_det}
 use Rattle.syslog_named_forms.proofs.programs.point_first.Goals as goal
 
 pub returns-in_err-host : goal.returns-in_err-host

@@ -1,10 +1,6 @@
-use Rattle.syslog_text.proofs.PieceLemmas.Class.{◌past◌, ◌then◌, mapped_front, rest_front, row_of}
-use Rattle.syslog_text.specs.Pieces.Class.{Row}
-use Rattle.std.proofs.Common.{inl, refl}
-use Rattle.syslog_named_forms.proofs.ProgramLemmas.{hostless_det}
-use Rattle.syslog_sent.proofs.NamedLemmas.{unread}
-use Rattle.syslog_sent.specs.Named.{NamedTexts}
-use Rattle.syslog_named_forms.specs.Programs.{hostless_of, hostless_row}
+use Rattle.syslog_named_forms.proofs.Names.{◌past◌, ◌then◌, hostless_of, hostless_row, inl, mapped_front, NamedTexts}
+use Rattle.syslog_named_forms.proofs.Names.{refl, rest_front, Row, row_of, unread}
+use Rattle.syslog_named_forms.proofs.RowLemmas.{hostless_det}
 use Rattle.syslog_named_forms.proofs.programs.program_first.Goals as goal
 
 pub returns-in_err-program : goal.returns-in_err-program

@@ -1,12 +1,8 @@
-use Rattle.std.proofs.Common.{[], ◌∷◌, drop, refl}
-use Rattle.syslog_text.proofs.PieceLemmas.Class.{◌also◌}
-use Rattle.syslog_text.specs.Pieces.Class.{some_run}
-use Rattle.syslog_text.specs.Text.{is_blank}
-use Rattle.syslog_named_forms.specs.Programs.{grade, severity_of, severity_row}
-use Rattle.syslog_named_forms.proofs.ProgramLemmas.{severity_det}
+use Rattle.syslog_named_forms.proofs.Names.{[], ◌also◌, ◌∷◌, drop, is_blank, program_tail, refl, severity_row, some_run}
+use Rattle.syslog_named_forms.specs.Programs.{severity_of, grade}
 use Rattle.syslog_named_forms.proofs.ReaderLemmas.{passed}
-use Rattle.syslog_named_forms.specs.Hosts.{program_tail}
 use Rattle.syslog_named_forms.proofs.HostLemmas.{no_host, past_host}
+use Rattle.syslog_named_forms.proofs.RowLemmas.{severity_det}
 use Rattle.syslog_named_forms.proofs.programs.severity_first.Goals as goal
 
 pub returns-in_err-host : goal.returns-in_err-host

@@ -1,5 +1,5 @@
-use Rattle.syslog_text.proofs.PieceLemmas.Class.{match_map, no_spaced_piece, no_spaced_space, spaced_front}
-use Rattle.syslog_named_forms.specs.Programs.{later_word}
+use Rattle.syslog_named_forms.proofs.Names.{later_word, match_map}
+use Rattle.syslog_text.proofs.PieceLemmas.Class.{no_spaced_piece, no_spaced_space, spaced_front}
 use Rattle.syslog_named_forms.proofs.programs.spaced_word.Goals as goal
 
 pub returns-in_err-rest-clause-reads : goal.returns-in_err-rest-clause-reads

@@ -1,10 +1,8 @@
-use Rattle.std.proofs.Common.{drop}
-use Rattle.syslog_named_forms.proofs.ProgramLemmas.{spread_det}
+use Rattle.syslog_named_forms.proofs.Names.{drop, name, process_tail, spread_row}
 use Rattle.syslog_named_forms.proofs.ReaderLemmas.{read}
-use Rattle.syslog_named_forms.specs.Hosts.{process_tail}
-use Rattle.syslog_sent.specs.Named.{name}
-use Rattle.syslog_named_forms.specs.Programs.{spread_of, spread_row}
+use Rattle.syslog_named_forms.specs.Programs.{spread_of}
 use Rattle.syslog_named_forms.proofs.HostLemmas.{no_host, past_host}
+use Rattle.syslog_named_forms.proofs.RowLemmas.{spread_det}
 use Rattle.syslog_named_forms.proofs.programs.spread.Goals as goal
 
 pub returns-in_err-host : goal.returns-in_err-host

@@ -1,8 +1,6 @@
-use Rattle.std.proofs.Common.{drop}
-use Rattle.syslog_sent.specs.Named.{beginning, untagged}
-use Rattle.syslog_text.specs.Pieces.View.{seen}
+use Rattle.syslog_named_forms.proofs.Names.{beginning, drop, seen, untagged, untagged_row}
 use Rattle.syslog_named_forms.proofs.ReaderLemmas.{alone, begun}
-use Rattle.syslog_named_forms.specs.Programs.{number_word, untagged_of, untagged_row}
+use Rattle.syslog_named_forms.specs.Programs.{untagged_of, number_word}
 use Rattle.syslog_named_forms.proofs.HostLemmas.{no_host, past_host}
 use Rattle.syslog_named_forms.proofs.programs.untagged_message.Goals as goal
 

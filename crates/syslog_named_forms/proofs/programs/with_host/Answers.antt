@@ -1,12 +1,8 @@
-use Rattle.std.proofs.Common.{[], ◌∷◌, drop, refl}
-use Rattle.syslog_text.proofs.PieceLemmas.Class.{◌also◌, match_map}
-use Rattle.syslog_text.specs.Pieces.Class.{exactly, some_run}
-use Rattle.syslog_sent.specs.Runs.{is_plain_char}
-use Rattle.syslog_named_forms.proofs.ProgramLemmas.{serial_det}
+use Rattle.syslog_named_forms.proofs.Names.{[], ◌also◌, ◌∷◌, drop, exactly, is_plain_char, match_map, program_tail}
+use Rattle.syslog_named_forms.proofs.Names.{refl, serial_of, serial_row, some_run, time_row}
 use Rattle.syslog_named_forms.proofs.HostLemmas.{past_host}
 use Rattle.syslog_named_forms.proofs.ReaderLemmas.{passed}
-use Rattle.syslog_named_forms.specs.Hosts.{program_tail}
-use Rattle.syslog_named_forms.specs.Programs.{serial_of, serial_row, time_row}
+use Rattle.syslog_named_forms.proofs.RowLemmas.{serial_det}
 use Rattle.syslog_named_forms.proofs.programs.with_host.Goals as goal
 
 pub returns : goal.returns

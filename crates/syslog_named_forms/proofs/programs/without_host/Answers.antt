@@ -1,11 +1,8 @@
-use Rattle.std.proofs.Common.{[], ◌∷◌, None, drop, refl}
-use Rattle.syslog_text.specs.Pieces.Class.{Row, exactly}
-use Rattle.syslog_text.proofs.PieceLemmas.Class.{◌also◌, match_map, no_mapped}
-use Rattle.syslog_sent.specs.Named.{NamedTexts}
-use Rattle.syslog_named_forms.proofs.ProgramLemmas.{as_serial, box_det, box_front, box_front_det, box_more, no_box_word}
+use Rattle.syslog_named_forms.proofs.Names.{[], ◌also◌, ◌∷◌, box_of, box_row, drop, exactly, match_map, NamedTexts}
+use Rattle.syslog_named_forms.proofs.Names.{no_mapped, None, program_said, program_tail, refl, Row, time_row}
+use Rattle.syslog_named_forms.proofs.ProgramLemmas.{as_serial, box_front, box_front_det, box_more, no_box_word}
 use Rattle.syslog_named_forms.proofs.ReaderLemmas.{goes_on, known, passed}
-use Rattle.syslog_named_forms.specs.Hosts.{program_said, program_tail}
-use Rattle.syslog_named_forms.specs.Programs.{box_of, box_row, time_row}
+use Rattle.syslog_named_forms.proofs.RowLemmas.{box_det}
 use Rattle.syslog_named_forms.proofs.programs.without_host.Goals as goal
 
 pub returns-then-not-is_serial_word : goal.returns-then-not-is_serial_word

@@ -1,4 +1,4 @@
-use Rattle.syslog_text.proofs.TextLemmas.Runs.{empty_is, nonempty_is, no_some_run, some_run_front}
+use Rattle.syslog_named_forms.proofs.Names.{empty_is, no_some_run, nonempty_is, some_run_front}
 use Rattle.syslog_named_forms.proofs.programs.word.Goals as goal
 
 pub returns-then-is_empty-clause-reads : goal.returns-then-is_empty-clause-reads

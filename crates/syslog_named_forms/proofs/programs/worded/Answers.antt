@@ -1,9 +1,8 @@
-use Rattle.std.proofs.Common.{drop}
-use Rattle.syslog_named_forms.proofs.ProgramLemmas.{worded_det}
+use Rattle.syslog_named_forms.proofs.Names.{drop, process_tail, worded_row, words}
 use Rattle.syslog_named_forms.proofs.ReaderLemmas.{read}
-use Rattle.syslog_named_forms.specs.Hosts.{process_tail}
-use Rattle.syslog_named_forms.specs.Programs.{worded_of, worded_row, words}
+use Rattle.syslog_named_forms.specs.Programs.{worded_of}
 use Rattle.syslog_named_forms.proofs.HostLemmas.{no_host, past_host}
+use Rattle.syslog_named_forms.proofs.RowLemmas.{worded_det}
 use Rattle.syslog_named_forms.proofs.programs.worded.Goals as goal
 
 pub returns-in_err-host : goal.returns-in_err-host

@@ -1,9 +1,8 @@
-use Rattle.syslog_text.proofs.PieceLemmas.Class.{no_texted, row_det, texted_det}
-use Rattle.syslog_text.proofs.PieceLemmas.Rules.{no_such_front, no_such_meaning, such_front}
-use Rattle.syslog_text.specs.Pieces.Class.{Class, Row, Text, texted}
-use Rattle.syslog_sent.specs.Named.{BeginsWith, is_letter}
-use Rattle.syslog_named_forms.specs.Programs.{words_row}
-use Rattle.syslog_named_forms.proofs.ProgramLemmas.{named, words_row_det}
+use Rattle.syslog_named_forms.proofs.Names.{BeginsWith, Class, no_such_front, no_such_meaning, no_texted, Row, row_det}
+use Rattle.syslog_named_forms.proofs.Names.{such_front, Text, texted, texted_det, words_row}
+use Rattle.syslog_named_forms.proofs.ProgramLemmas.{named}
+use Rattle.syslog_named_forms.proofs.RowLemmas.{words_row_det}
+use Rattle.syslog_sent.specs.Named.{is_letter}
 use Rattle.syslog_named_forms.proofs.programs.words.Goals as goal
 
 abbrev text : Class

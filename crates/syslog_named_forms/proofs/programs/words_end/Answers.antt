@@ -1,9 +1,6 @@
-use Rattle.std.proofs.Common.{[], ◌∷◌}
-use Rattle.syslog_text.proofs.PieceLemmas.{Class.◌also◌, Class.match_map, Rules.always_on, Rules.row_reads}
-use Rattle.syslog_text.specs.Pieces.Class.{spaced}
-use Rattle.syslog_text.specs.Pieces.Lists.{many}
-use Rattle.syslog_named_forms.specs.Programs.{later_word, words_row}
-use Rattle.syslog_named_forms.proofs.ProgramLemmas.{words_row_det}
+use Rattle.syslog_named_forms.proofs.Names.{[], ◌also◌, ◌∷◌, always_on, later_word, many, match_map, row_reads, spaced}
+use Rattle.syslog_named_forms.proofs.Names.{words_row}
+use Rattle.syslog_named_forms.proofs.RowLemmas.{words_row_det}
 use Rattle.syslog_named_forms.proofs.programs.words_end.Goals as goal
 
 pub returns : goal.returns

@@ -1,10 +1,7 @@
-use Rattle.syslog_text.proofs.PieceLemmas.Class.{◌past◌, ◌then◌, mapped_front, rest_front, row_of}
-use Rattle.syslog_text.specs.Pieces.Class.{Row}
-use Rattle.std.proofs.Common.{inl, refl}
-use Rattle.syslog_named_forms.proofs.DeviceLemmas.{compact_det}
-use Rattle.syslog_sent.proofs.NamedLemmas.{unread}
-use Rattle.syslog_sent.specs.Named.{NamedTexts}
-use Rattle.syslog_named_forms.specs.Unified.{compact_of, compact_row}
+use Rattle.syslog_named_forms.proofs.Names.{◌past◌, ◌then◌, compact_row, inl, mapped_front, NamedTexts, refl}
+use Rattle.syslog_named_forms.proofs.Names.{rest_front, Row, row_of, unread}
+use Rattle.syslog_named_forms.specs.Unified.{compact_of}
+use Rattle.syslog_named_forms.proofs.RowLemmas.{compact_det}
 use Rattle.syslog_named_forms.proofs.unified.compact.Goals as goal
 
 pub returns-in_err-after_kind : goal.returns-in_err-after_kind

@@ -1,8 +1,5 @@
-use Rattle.syslog_text.proofs.PieceLemmas.Class.{match_map, mapped_front, no_mapped}
-use Rattle.syslog_text.specs.Pieces.Class.{Text}
-use Rattle.syslog_sent.proofs.NamedLemmas.{first_front, no_otherwise, second_front}
-use Rattle.syslog_sent.specs.Named.{◌otherwise◌, name}
-use Rattle.syslog_named_forms.specs.Programs.{words}
+use Rattle.syslog_named_forms.proofs.Names.{◌otherwise◌, first_front, mapped_front, match_map, name, no_mapped}
+use Rattle.syslog_named_forms.proofs.Names.{no_otherwise, second_front, Text, words}
 use Rattle.syslog_named_forms.specs.Unified.{either_name}
 use Rattle.syslog_named_forms.proofs.unified.entry_name.Goals as goal
 

@@ -1,6 +1,4 @@
-use Rattle.std.proofs.Common.{refl}
-use Rattle.syslog_sent.proofs.NamedLemmas.{told}
-use Rattle.syslog_sent.specs.Runs.{is_plain_char}
+use Rattle.syslog_named_forms.proofs.Names.{is_plain_char, refl, told}
 use Rattle.syslog_named_forms.specs.Unified.{is_kind}
 use Rattle.syslog_named_forms.proofs.unified.kind.Goals as goal
 

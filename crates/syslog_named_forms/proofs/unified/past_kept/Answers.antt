@@ -1,7 +1,4 @@
-use Rattle.std.proofs.Common.{Some}
-use Rattle.syslog_text.proofs.PieceLemmas.Class.{optional_some}
-use Rattle.syslog_text.specs.Pieces.Class.{Row}
-use Rattle.syslog_named_forms.specs.Unified.{kept_row}
+use Rattle.syslog_named_forms.proofs.Names.{kept_row, optional_some, Row, Some}
 use Rattle.syslog_named_forms.proofs.unified.past_kept.Goals as goal
 
 pub returns-in-Some : goal.returns-in-Some

@@ -1,10 +1,7 @@
-use Rattle.syslog_text.proofs.PieceLemmas.Class.{◌past◌, ◌then◌, mapped_front, rest_front, row_of}
-use Rattle.syslog_text.specs.Pieces.Class.{Row}
-use Rattle.std.proofs.Common.{inl, refl}
-use Rattle.syslog_named_forms.proofs.ProgramLemmas.{log_det}
-use Rattle.syslog_sent.proofs.NamedLemmas.{unread}
-use Rattle.syslog_sent.specs.Named.{NamedTexts}
-use Rattle.syslog_named_forms.specs.Unified.{log_of, log_row}
+use Rattle.syslog_named_forms.proofs.Names.{◌past◌, ◌then◌, inl, log_row, mapped_front, NamedTexts, refl, rest_front}
+use Rattle.syslog_named_forms.proofs.Names.{Row, row_of, unread}
+use Rattle.syslog_named_forms.specs.Unified.{log_of}
+use Rattle.syslog_named_forms.proofs.RowLemmas.{log_det}
 use Rattle.syslog_named_forms.proofs.unified.unified.Goals as goal
 
 pub returns-in_err-at_id : goal.returns-in_err-at_id

@@ -1,8 +1,5 @@
-use Rattle.std.proofs.Common.{[], ◌∷◌}
-use Rattle.syslog_text.proofs.PieceLemmas.{Class.◌also◌, Rules.always_on, Rules.row_reads}
-use Rattle.syslog_text.specs.Pieces.Class.{run}
-use Rattle.syslog_text.specs.Text.{is_blank}
-use Rattle.syslog_named_forms.{proofs.UntaggedLemmas.cef_det, specs.Untagged.cef_row}
+use Rattle.syslog_named_forms.proofs.Names.{[], ◌also◌, ◌∷◌, always_on, cef_row, is_blank, row_reads, run}
+use Rattle.syslog_named_forms.proofs.RowLemmas.{cef_det}
 use Rattle.syslog_named_forms.proofs.untagged.cef.Goals as goal
 
 pub returns : goal.returns

@@ -1,6 +1,5 @@
-use Rattle.std.proofs.Common.{inl, refl}
-use Rattle.syslog_text.proofs.PieceLemmas.Class.{◌past◌, ◌then◌, match_map, no_row, row_of}
-use Rattle.syslog_named_forms.{proofs.UntaggedLemmas.object_det, specs.Untagged.object_row}
+use Rattle.syslog_named_forms.proofs.Names.{◌past◌, ◌then◌, inl, match_map, no_row, object_row, refl, row_of}
+use Rattle.syslog_named_forms.proofs.RowLemmas.{object_det}
 use Rattle.syslog_named_forms.proofs.untagged.json.Goals as goal
 
 pub returns-in_err-inner : goal.returns-in_err-inner

@@ -1,8 +1,5 @@
-use Rattle.std.proofs.Common.{[], ◌∷◌}
-use Rattle.syslog_text.proofs.PieceLemmas.{Class.◌also◌, Rules.always_on, Rules.row_reads}
-use Rattle.syslog_text.specs.Pieces.Class.{run}
-use Rattle.syslog_text.specs.Text.{is_blank}
-use Rattle.syslog_named_forms.{proofs.UntaggedLemmas.leef_det, specs.Untagged.leef_row}
+use Rattle.syslog_named_forms.proofs.Names.{[], ◌also◌, ◌∷◌, always_on, is_blank, leef_row, row_reads, run}
+use Rattle.syslog_named_forms.proofs.RowLemmas.{leef_det}
 use Rattle.syslog_named_forms.proofs.untagged.leef.Goals as goal
 
 pub returns : goal.returns

@@ -1,7 +1,4 @@
-use Rattle.std.proofs.Common.{refl}
-use Rattle.std.specs.Char.{is_not_whitespace}
-use Rattle.syslog_sent.proofs.NamedLemmas.{told}
-use Rattle.syslog_named_forms.specs.Untagged.{is_level}
+use Rattle.syslog_named_forms.proofs.Names.{is_level, is_not_whitespace, refl, told}
 use Rattle.syslog_named_forms.proofs.untagged.level.Goals as goal
 
 pub returns : goal.returns

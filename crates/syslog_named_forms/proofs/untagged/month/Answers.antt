@@ -1,10 +1,9 @@
-use Rattle.std.proofs.Common.{[], ◌∷◌}
-use Rattle.syslog_text.proofs.PieceLemmas.{Class.◌also◌, Rules.row_reads}
-use Rattle.syslog_named_forms.{proofs.UntaggedLemmas.month_det, specs.Untagged.month_row}
+use Rattle.syslog_named_forms.proofs.Names.{[], ◌also◌, ◌∷◌, month_row, row_reads}
+use Rattle.syslog_named_forms.proofs.RowLemmas.{dets}
 use Rattle.syslog_named_forms.proofs.untagged.month.Goals as goal
 
 pub returns : goal.returns
-returns c = row_reads month_row month_det c.args.text
+returns c = row_reads month_row (search dets depth 24) c.args.text
     (c.month_word.result ∷ c.and_then.result ∷ c.and_then-2.result ∷ c.and_then-3.result ∷ c.and_then-4.result
     ∷ c.and_then-5.result ∷ [])
     (c.month_word.ensures also c.and_then.ensures also c.and_then-2.ensures also c.and_then-3.ensures

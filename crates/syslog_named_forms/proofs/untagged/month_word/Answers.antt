@@ -1,7 +1,4 @@
-use Rattle.std.proofs.Common.{refl}
-use Rattle.syslog_sent.proofs.NamedLemmas.{told}
-use Rattle.syslog_sent.specs.Runs.{is_plain_char}
-use Rattle.syslog_named_forms.specs.Untagged.{is_month}
+use Rattle.syslog_named_forms.proofs.Names.{is_month, is_plain_char, refl, told}
 use Rattle.syslog_named_forms.proofs.untagged.month_word.Goals as goal
 
 pub returns : goal.returns

@@ -1,9 +1,8 @@
-use Rattle.std.proofs.Common.{[], ◌∷◌}
-use Rattle.syslog_text.proofs.PieceLemmas.{Class.◌also◌, Rules.row_reads}
-use Rattle.syslog_named_forms.{proofs.UntaggedLemmas.pair_det, specs.Untagged.pair_row}
+use Rattle.syslog_named_forms.proofs.Names.{[], ◌also◌, ◌∷◌, pair_row, row_reads}
+use Rattle.syslog_named_forms.proofs.RowLemmas.{dets}
 use Rattle.syslog_named_forms.proofs.untagged.pair_start.Goals as goal
 
 pub returns : goal.returns
-returns c = row_reads pair_row pair_det c.args.text
+returns c = row_reads pair_row (search dets depth 24) c.args.text
     (c.name_word.result ∷ c.and_then.result ∷ [])
     (c.name_word.ensures also c.and_then.ensures also tt)

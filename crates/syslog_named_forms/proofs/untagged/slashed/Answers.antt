@@ -1,9 +1,8 @@
-use Rattle.std.proofs.Common.{[], ◌∷◌}
-use Rattle.syslog_text.proofs.PieceLemmas.{Class.◌also◌, Rules.row_reads}
-use Rattle.syslog_named_forms.{proofs.UntaggedLemmas.slashed_det, specs.Untagged.slashed_row}
+use Rattle.syslog_named_forms.proofs.Names.{[], ◌also◌, ◌∷◌, row_reads, slashed_row}
+use Rattle.syslog_named_forms.proofs.RowLemmas.{dets}
 use Rattle.syslog_named_forms.proofs.untagged.slashed.Goals as goal
 
 pub returns : goal.returns
-returns c = row_reads slashed_row slashed_det c.args.text
+returns c = row_reads slashed_row (search dets depth 24) c.args.text
     (c.four_digits.result ∷ c.and_then.result ∷ c.and_then-2.result ∷ [])
     (c.four_digits.ensures also c.and_then.ensures also c.and_then-2.ensures also tt)

@@ -1,8 +1,5 @@
-use Rattle.std.proofs.Common.{[], ◌∷◌}
-use Rattle.syslog_text.specs.Pieces.Class.{Row, exactly}
-use Rattle.syslog_text.proofs.PieceLemmas.Class.{match_map}
+use Rattle.syslog_named_forms.proofs.Names.{[], ◌∷◌, exactly, match_map, number_row, Row}
 use Rattle.syslog_sent.proofs.DateLemmas.{no_unless, no_unless_later, unless_front}
-use Rattle.syslog_named_forms.specs.Untagged.{number_row}
 use Rattle.syslog_named_forms.proofs.untagged.square.Goals as goal
 
 pub returns-in-Some : goal.returns-in-Some

@@ -1,8 +1,7 @@
-use Rattle.std.proofs.Common.{[], ◌∷◌}
-use Rattle.syslog_text.proofs.PieceLemmas.{Class.◌also◌, Rules.row_reads}
-use Rattle.syslog_named_forms.{proofs.UntaggedLemmas.topic_det, specs.Untagged.topic_row}
+use Rattle.syslog_named_forms.proofs.Names.{[], ◌also◌, ◌∷◌, row_reads, topic_row}
+use Rattle.syslog_named_forms.proofs.RowLemmas.{dets}
 use Rattle.syslog_named_forms.proofs.untagged.topic.Goals as goal
 
 pub returns : goal.returns
-returns c = row_reads topic_row topic_det c.args.text (c.plain_word.result ∷ c.and_then.result ∷ [])
+returns c = row_reads topic_row (search dets depth 24) c.args.text (c.plain_word.result ∷ c.and_then.result ∷ [])
     (c.plain_word.ensures also c.and_then.ensures also tt)

@@ -1,4 +1,4 @@
-use Rattle.std.proofs.Common.{refl}
+use Rattle.syslog_named_forms.proofs.Names.{refl}
 use Rattle.syslog_named_forms.proofs.UntaggedLemmas.{all_begun, all_others, no_mark_empty}
 use Rattle.syslog_named_forms.proofs.marks.Marks.of.Goals as goal
 
