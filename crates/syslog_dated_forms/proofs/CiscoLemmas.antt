@@ -1,28 +1,29 @@
 -- A text has one front of each class of a line of Cisco's.
 use Rattle.syslog_dated_forms.proofs.Names.{[], ◌&&◌, ◌++◌, ◌also◌, ◌before◌, ◌otherwise◌, ◌then◌, ◌∙◌, ◌∷◌, ◌≡◌}
-use Rattle.syslog_dated_forms.proofs.Names.{address, AllDeterministic, and_parts, any_date, any_date_det, ap}
-use Rattle.syslog_dated_forms.proofs.Names.{are_address_chars, arith, bare_word, bare_word_det, begins_host}
+use Rattle.syslog_dated_forms.proofs.Names.{address, AllDeterministic, and_parts, any_date, ap}
+use Rattle.syslog_dated_forms.proofs.Names.{are_address_chars, arith, bare_word, begins_host}
 use Rattle.syslog_dated_forms.proofs.Names.{begins_mnemonic, BeginsWith, cisco_forms, cisco_row, CiscoAsa, CiscoIos}
-use Rattle.syslog_dated_forms.proofs.Names.{CiscoNxOs, colon, context_row, counter_row, date_row, dell_row, drop, Each}
+use Rattle.syslog_dated_forms.proofs.Names.{CiscoNxOs, context_row, counter_row, date_row, dell_row, drop, Each}
 use Rattle.syslog_dated_forms.proofs.Names.{exactly, exactly_det, false, Finds, first, found, Front, front_of}
 use Rattle.syslog_dated_forms.proofs.Names.{front_same, front_year, front_year_row, get_or, has_pair, host_det, host_of}
-use Rattle.syslog_dated_forms.proofs.Names.{inl, inr, is_address_char, is_ascii_digit, is_blank, is_plain_char, IsAsa}
-use Rattle.syslog_dated_forms.proofs.Names.{IsDeterministic, IsMnemonic, IsNxOs, IsOfNone, label, label_row, labelled}
-use Rattle.syslog_dated_forms.proofs.Names.{length, mapped_det, mapped_front, mark, may_begin, message_row, mnemonic}
+use Rattle.syslog_dated_forms.proofs.Names.{inl, inr, is_address_char, is_blank, IsAsa}
+use Rattle.syslog_dated_forms.proofs.Names.{IsDeterministic, IsNxOs, IsOfNone, label, label_row}
+use Rattle.syslog_dated_forms.proofs.Names.{length, mapped_front, mark, may_begin, message_row}
 use Rattle.syslog_dated_forms.proofs.Names.{nat_tests, no_row_division, no_such_front, no_such_meaning, NoDivision}
-use Rattle.syslog_dated_forms.proofs.Names.{NoFront, not, Option, optional, optional_det, origin, otherwise_det}
-use Rattle.syslog_dated_forms.proofs.Names.{place_row, refl, rest_det, Row, row_det, row_none_here, row_of, run}
-use Rattle.syslog_dated_forms.proofs.Names.{run_det, says_once, second_front, Sent, sent_value, SentDate, Some}
-use Rattle.syslog_dated_forms.proofs.Names.{some_run, some_run_det, start, start_row, subst, such_det, such_front}
+use Rattle.syslog_dated_forms.proofs.Names.{NoFront, not, Option, optional, origin}
+use Rattle.syslog_dated_forms.proofs.Names.{refl, Row, row_det, row_none_here, row_of, run}
+use Rattle.syslog_dated_forms.proofs.Names.{says_once, second_front, Sent, sent_value, SentDate, Some}
+use Rattle.syslog_dated_forms.proofs.Names.{start, subst, such_det, such_front}
 use Rattle.syslog_dated_forms.proofs.Names.{such_that, sym, task_row, Text, true, unit, unit_row, Values, word_origin}
-use Rattle.syslog_dated_forms.proofs.Names.{year_det, ℕ}
+use Rattle.syslog_dated_forms.proofs.Names.{ℕ}
+use Rattle.syslog_dated_forms.proofs.Names.{of_forms}
 use Rattle.std.proofs.Common.{append_assoc}
 use Rattle.std.proofs.lemmas.Bool.{not-true, or_parts}
 use Rattle.std.specs.Prelude.{nat_eq}
 use Rattle.syslog_dated_forms.specs.Address.{is_hex}
 use Rattle.syslog_text.specs.Text.{IsHost}
 use Rattle.syslog_text.proofs.PieceLemmas.Rules.{exactly_apart, or_det}
-use Rattle.syslog_dated_forms.specs.Cisco.{place, IsDated, cisco_sent}
+use Rattle.syslog_dated_forms.specs.Cisco.{IsDated, cisco_sent}
 
 some_is : (s t : Text) → Some s ≡ Some t → s ≡ t
 some_is s t e = cc
@@ -32,34 +33,21 @@ pub address_is : (p q t : Text) → IsHost p q (Some t) → t ≡ p
 address_is p q t (some, each, inl (no_colon, ends, is)) = is.0
 address_is p q t (some, each, inr (s, follows, ends, same)) = some_is t p same
 
-pub colon_det : IsDeterministic (exactly colon)
-colon_det = exactly_det colon
-
-pub gap_det : IsDeterministic (some_run is_blank)
-gap_det = some_run_det is_blank
-
-pub blanks_det : IsDeterministic (run is_blank)
-blanks_det = run_det is_blank
-
 address_det : IsDeterministic address
 address_det p q p' q' t t' e h h' =
     let r = host_det p q p' q' (Some t) (Some t') e h.0 h'.0 in (r.0, some_is t t' r.1)
 
 pub origin_det : IsDeterministic origin
-origin_det = mapped_det (address otherwise word_origin) Text host_of
-    (otherwise_det address_det (such_det bare_word (BeginsWith begins_host) bare_word_det))
-
-mnemonic_det : IsDeterministic mnemonic
-mnemonic_det = such_det bare_word IsMnemonic bare_word_det
+origin_det = search (address_det, of_forms) depth 32
 
 pub counter_row_det : AllDeterministic counter_row
-counter_row_det = some_run_det is_ascii_digit also colon_det also gap_det also tt
+counter_row_det = search of_forms depth 32
 
 pub label_row_det : AllDeterministic label_row
-label_row_det = origin_det also colon_det also gap_det also tt
+label_row_det = search (origin_det, of_forms) depth 32
 
 pub label_det : IsDeterministic label
-label_det = mapped_det (Row label_row) Text _ (row_det label_row label_row_det)
+label_det = search (label_row_det, of_forms) depth 32
 
 -- the character at a place of two texts that are one
 pub at : (n : ℕ) {s t : Text} → s ≡ t → get_or s n 0 ≡ get_or t n 0
@@ -115,39 +103,26 @@ no_address ws x rest w n p q t e (is, h) =
     let f : true ≡ false = sym (rw same at pair) ∙ bad in cc
 
 pub task_row_det : AllDeterministic task_row
-task_row_det = exactly_det _ also bare_word_det also colon_det also gap_det also tt
+task_row_det = search of_forms depth 32
 
 mark_det : IsDeterministic mark
 mark_det = or_det (exactly_det _) (exactly_det _) (exactly_apart 42
     (exactly (46 ∷ [])) (λ p q v h. (46, [], h, omega arith)))
 
-start_row_det : AllDeterministic start_row
-start_row_det =
-    let count = optional_det (Row counter_row) (row_det counter_row counter_row_det) in
-    blanks_det also optional_det (exactly colon) colon_det also blanks_det also count also count
-    also optional_det label label_det also count also optional_det (Row task_row) (row_det task_row task_row_det)
-    also optional_det mark mark_det also tt
-
-start_det : IsDeterministic start
-start_det = mapped_det (Row start_row) (Option Text) labelled (row_det start_row start_row_det)
-
 pub front_year_row_det : AllDeterministic front_year_row
-front_year_row_det = year_det also gap_det also tt
+front_year_row_det = search of_forms depth 32
 
 pub date_row_det : AllDeterministic date_row
-date_row_det = optional_det front_year (mapped_det (Row front_year_row) ℕ _ (row_det front_year_row front_year_row_det))
-    also any_date_det also tt
+date_row_det = search of_forms depth 32
 
 pub dell_row_det : AllDeterministic dell_row
-dell_row_det = some_run_det is_plain_char also colon_det also some_run_det is_plain_char also gap_det also tt
+dell_row_det = search of_forms depth 32
 
 pub context_row_det : AllDeterministic context_row
-context_row_det = exactly_det _ also exactly_det _ also some_run_det is_plain_char also exactly_det _ also exactly_det _
-    also exactly_det _ also gap_det also tt
+context_row_det = search of_forms depth 32
 
 pub unit_row_det : AllDeterministic unit_row
-unit_row_det = exactly_det _
-    also otherwise_det (row_det dell_row dell_row_det) (row_det context_row context_row_det) also tt
+unit_row_det = search of_forms depth 32
 
 unit_det : IsDeterministic unit
 unit_det p q p' q' v v' e h h' = row_det unit_row unit_row_det p q p' q' v v' e h.0 h'.0
@@ -165,20 +140,11 @@ pub not_unit : {t q : Text} {v : Values unit_row} → Front (Row unit_row) t q v
 not_unit f n p q v e h = n (subst (λ (x : Text). BeginsWith begins_mnemonic x)
     (front_same (Row unit_row) (row_det unit_row unit_row_det) (front_of p e h.0) f).0 h.1)
 
-place_row_det : AllDeterministic place_row
-place_row_det = blanks_det also optional_det origin origin_det also blanks_det also optional_det (exactly colon)
-    colon_det
-    also blanks_det also optional_det unit unit_det also tt
-
-place_det : IsDeterministic place
-place_det = mapped_det (Row place_row) (Option Text) _ (row_det place_row place_row_det)
-
 pub message_row_det : AllDeterministic message_row
-message_row_det = mnemonic_det also blanks_det also colon_det also blanks_det also rest_det also tt
+message_row_det = search of_forms depth 32
 
 pub cisco_row_det : AllDeterministic cisco_row
-cisco_row_det = start_det also row_det date_row date_row_det also place_det also row_det message_row message_row_det
-    also tt
+cisco_row_det = search (mark_det, unit_det, origin_det, label_det, date_row_det, of_forms) depth 60
 
 pub asa_row_det : AllDeterministic (such_that (Row cisco_row) IsAsa ∷ [])
 asa_row_det = such_det (Row cisco_row) IsAsa (row_det cisco_row cisco_row_det) also tt

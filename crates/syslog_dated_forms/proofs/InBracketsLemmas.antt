@@ -1,10 +1,11 @@
 -- A date in brackets: one front of each class, and what a search of the bracket says.
-use Rattle.syslog_dated_forms.proofs.Names.{[], ◌also◌, ◌∙◌, ◌∷◌, ◌≡◌, AllDeterministic, any_date_det, bare_word}
-use Rattle.syslog_dated_forms.proofs.Names.{bare_word_det, chars, day_row, division_front, Each, exactly_det, Front}
-use Rattle.syslog_dated_forms.proofs.Names.{front_of, front_same, in_brackets_row, is_blank, is_open, IsDay}
-use Rattle.syslog_dated_forms.proofs.Names.{IsDeterministic, IsUtf8, List, nat_eq, NoDivision, NoFront, optional_det}
-use Rattle.syslog_dated_forms.proofs.Names.{refl, rest_det, Row, row_det, run_det, some_run_det, stamp_row, subst}
-use Rattle.syslog_dated_forms.proofs.Names.{such_det, sym, Text, Values, ℕ}
+use Rattle.syslog_dated_forms.proofs.Names.{[], ◌∙◌, ◌∷◌, ◌≡◌, AllDeterministic}
+use Rattle.syslog_dated_forms.proofs.Names.{chars, day_row, division_front, Each, Front}
+use Rattle.syslog_dated_forms.proofs.Names.{front_of, front_same, in_brackets_row, is_open}
+use Rattle.syslog_dated_forms.proofs.Names.{IsDeterministic, IsUtf8, List, nat_eq, NoDivision, NoFront}
+use Rattle.syslog_dated_forms.proofs.Names.{refl, Row, row_det, stamp_row, subst}
+use Rattle.syslog_dated_forms.proofs.Names.{sym, Text, Values, ℕ}
+use Rattle.syslog_dated_forms.proofs.Names.{of_forms}
 use Rattle.std.specs.Str.{NoCharPasses, NonePass}
 use Rattle.std.proofs.lemmas.Str.{chars_from_encodes}
 use Rattle.syslog_text.specs.Bodies.Scan.{SplitsRun}
@@ -13,10 +14,10 @@ use Rattle.syslog_text.proofs.PieceLemmas.Class.{front_division, run_same, uniqu
 use Rattle.syslog_dated_forms.specs.InBrackets.{stamp}
 
 pub day_det : AllDeterministic day_row
-day_det = such_det bare_word IsDay bare_word_det also some_run_det is_blank also tt
+day_det = search of_forms depth 32
 
 pub stamp_row_det : AllDeterministic stamp_row
-stamp_row_det = optional_det (Row day_row) (row_det day_row day_det) also any_date_det also tt
+stamp_row_det = search of_forms depth 32
 
 stamp_det : IsDeterministic stamp
 stamp_det p q p' q' v v' e h h' =
@@ -24,8 +25,7 @@ stamp_det p q p' q' v v' e h h' =
     (same, (unique_division stamp_row stamp_row_det (subst (λ (x : Text). Division stamp_row x v) same h.1) h'.1).1)
 
 pub in_brackets_det : AllDeterministic in_brackets_row
-in_brackets_det = run_det is_blank also exactly_det _ also stamp_det also exactly_det _ also run_det is_blank
-    also rest_det also tt
+in_brackets_det = search (stamp_det, of_forms) depth 32
 
 -- ---- the text before the bracket
 

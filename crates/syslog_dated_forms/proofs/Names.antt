@@ -34,8 +34,9 @@ pub use Rattle.syslog_sent.proofs.DateLemmas.{any_date_det}
 pub use Rattle.syslog_sent.proofs.DialectLemmas.{found_early, found_late, here, none_joined}
 pub use Rattle.syslog_sent.proofs.FormLemmas.{◌before◌, first, found, says_once}
 pub use Rattle.syslog_sent.proofs.LedLemmas.{any_front, apart}
-pub use Rattle.syslog_sent.proofs.NamedLemmas.{beginning_front, first_front, no_beginning, no_otherwise, otherwise_det}
+pub use Rattle.syslog_sent.proofs.NamedLemmas.{beginning_front, first_front, no_beginning, no_otherwise}
 pub use Rattle.syslog_sent.proofs.NamedLemmas.{second_front, unread}
+pub use Rattle.syslog_sent.proofs.FormLemmas.{of_forms}
 pub use Rattle.syslog_sent.proofs.ZoneLemmas.{bare_word_det}
 pub use Rattle.syslog_sent.specs.Date.{any_date, bsd_date, bsd_of, bsd_row, fraction_row, IsDay, iso_date, IsOdd}
 pub use Rattle.syslog_sent.specs.Date.{weekday}

@@ -1,165 +1,145 @@
 -- A text has one division into the row of each form.
-use Rattle.syslog_dated_forms.proofs.Names.{◌*ℤ◌, ◌also◌, ◌≡◌, AllDeterministic, any_date_det, arith, bare_word_det}
+use Rattle.syslog_dated_forms.proofs.Names.{◌*ℤ◌, ◌≡◌, AllDeterministic, arith}
 use Rattle.syslog_dated_forms.proofs.Names.{card_row, colon_row, container_row, ctime_message_row, ctime_row, esxi_row}
-use Rattle.syslog_dated_forms.proofs.Names.{exactly_det, filed_more, fraction_row, half_row, host_det, host_row}
+use Rattle.syslog_dated_forms.proofs.Names.{filed_more, half_row, host_row}
 use Rattle.syslog_dated_forms.proofs.Names.{IsDeterministic, iso_row, journal_row, kiwi_row, level_row, logread_row}
 use Rattle.syslog_dated_forms.proofs.Names.{mapped_det, mark_row, meraki_row, month_first_row, netscaler_row}
-use Rattle.syslog_dated_forms.proofs.Names.{number_det, optional_det, otherwise_det, pair, pos, process_row}
-use Rattle.syslog_dated_forms.proofs.Names.{procurve_row, rest_det, Row, row_det, run_clock_row, run_det, run_word_row}
-use Rattle.syslog_dated_forms.proofs.Names.{SentDate, short_row, slashed_date, slashed_of, slashed_row, some_run_det}
-use Rattle.syslog_dated_forms.proofs.Names.{stream_row, such_det, sym, timed_row, typed_row, ucm_row, undated_row}
-use Rattle.syslog_dated_forms.proofs.Names.{unix_row, unnamed_row, utm_row, xr_row, year_date_row, year_det}
+use Rattle.syslog_dated_forms.proofs.Names.{pos, process_row}
+use Rattle.syslog_dated_forms.proofs.Names.{procurve_row, Row, row_det, run_clock_row, run_word_row}
+use Rattle.syslog_dated_forms.proofs.Names.{SentDate, short_row, slashed_date, slashed_of, slashed_row}
+use Rattle.syslog_dated_forms.proofs.Names.{stream_row, sym, timed_row, typed_row, ucm_row, undated_row}
+use Rattle.syslog_dated_forms.proofs.Names.{unix_row, unnamed_row, utm_row, xr_row, year_date_row}
 use Rattle.syslog_dated_forms.proofs.Names.{year_first_row, year_row, ℕ}
-use Rattle.syslog_text.proofs.PieceLemmas.Class.{texted_det, after_det}
-use Rattle.syslog_sent.specs.Date.{fraction}
 use Rattle.syslog_dated_forms.specs.Dated.{bsd_row}
-use Rattle.syslog_dated_forms.proofs.CiscoLemmas.{front_year_row_det, counter_row_det}
 use Rattle.syslog_dated_forms.proofs.CiscoLemmas.{label_det, message_row_det, origin_det, date_row_det}
 use Rattle.std.proofs.Common.{ℤ, ◌*◌, ◌+ℤ◌}
-use Rattle.syslog_sent.proofs.DateLemmas.{bsd_date_det, iso_date_det, odd_bsd_date_det, odd_iso_date_det}
-use Rattle.syslog_sent.proofs.DateLemmas.{fraction_row_det}
-use Rattle.syslog_sent.proofs.NamedLemmas.{beginning_det, program_det, selector_det}
+use Rattle.syslog_sent.proofs.DateLemmas.{bsd_det}
+use Rattle.syslog_dated_forms.proofs.Names.{of_forms}
 use Rattle.syslog_dated_forms.proofs.TailLemmas.{wide_tail_det}
 use Rattle.syslog_sent.proofs.ZoneLemmas.{zone_det}
-use Rattle.syslog_pieces.proofs.TimestampLemmas.MonthDate.{month_date_det}
 use Rattle.syslog_pieces.proofs.Names.{signed_arith}
 use Rattle.jiff.specs.Types.{DateTime}
 use Rattle.jiff.specs.Words.{civil_nanos, nanos_of_seconds}
 use Rattle.syslog_pieces.specs.Timestamp.Fields.{fields_of}
 use Rattle.syslog_pieces.specs.Timestamp.Printed.{civil_fields}
 use Rattle.syslog_pieces.proofs.TimestampLemmas.Civil.{civil_fields-is}
-use Rattle.syslog_pieces.proofs.TimestampLemmas.Rfc3339.{pair_det}
 
--- a number of two digits
-two_det : IsDeterministic (pair 100)
-two_det = pair_det 100 (omega arith)
-
-fraction_det : IsDeterministic fraction
-fraction_det = mapped_det (Row fraction_row) ℕ _ (row_det fraction_row fraction_row_det)
-
-ruleset dates = (any_date_det, bsd_date_det, iso_date_det, odd_bsd_date_det, odd_iso_date_det, month_date_det, zone_det)
-
-ruleset words = (host_det, number_det, program_det, origin_det, label_det, selector_det, bare_word_det, year_det, two_det)
-
-ruleset parts = (wide_tail_det, fraction_det, counter_row_det, message_row_det, front_year_row_det, date_row_det)
-
-ruleset runs = (run_det, some_run_det, exactly_det, rest_det, beginning_det, texted_det, such_det, optional_det)
-
-ruleset dets = (words, dates, parts, ◌also◌, runs, after_det, otherwise_det, row_det, mapped_det)
+-- that one text has one front of what these rows are made of
+ruleset of_rows = (wide_tail_det, origin_det, label_det, date_row_det, message_row_det, bsd_det, zone_det, of_forms)
 
 pub bsd_line_det : AllDeterministic bsd_row
-bsd_line_det = search dets depth 32
+bsd_line_det = search of_rows depth 32
 
 pub iso_line_det : AllDeterministic iso_row
-iso_line_det = search dets depth 32
+iso_line_det = search of_rows depth 32
 
 pub ctime_line_det : AllDeterministic ctime_row
-ctime_line_det = search dets depth 32
+ctime_line_det = search of_rows depth 32
 
 pub journal_line_det : AllDeterministic journal_row
-journal_line_det = search dets depth 32
+journal_line_det = search of_rows depth 32
 
 pub ctime_message_det : AllDeterministic ctime_message_row
-ctime_message_det = search dets depth 32
+ctime_message_det = search of_rows depth 32
 
 pub year_date_det : AllDeterministic year_date_row
-year_date_det = search dets depth 32
+year_date_det = search of_rows depth 32
 
 pub year_line_det : AllDeterministic year_row
-year_line_det = search dets depth 32
+year_line_det = search of_rows depth 32
 
 pub stream_row_det : AllDeterministic stream_row
-stream_row_det = search dets depth 32
+stream_row_det = search of_rows depth 32
 
 pub container_row_det : AllDeterministic container_row
-container_row_det = search dets depth 32
+container_row_det = search of_rows depth 32
 
 pub mark_row_det : AllDeterministic mark_row
-mark_row_det = search dets depth 32
+mark_row_det = search of_rows depth 32
 
 pub esxi_row_det : AllDeterministic esxi_row
-esxi_row_det = search dets depth 32
+esxi_row_det = search of_rows depth 32
 
 pub level_row_det : AllDeterministic level_row
-level_row_det = search dets depth 32
+level_row_det = search of_rows depth 32
 
 pub kiwi_row_det : AllDeterministic kiwi_row
-kiwi_row_det = search dets depth 32
+kiwi_row_det = search of_rows depth 32
 
 pub half_row_det : AllDeterministic half_row
-half_row_det = search dets depth 32
+half_row_det = search of_rows depth 32
 
 pub ucm_row_det : AllDeterministic ucm_row
-ucm_row_det = search dets depth 32
+ucm_row_det = search of_rows depth 32
 
 pub run_word_row_det : AllDeterministic run_word_row
-run_word_row_det = search dets depth 32
+run_word_row_det = search of_rows depth 32
 
 pub run_clock_row_det : AllDeterministic run_clock_row
-run_clock_row_det = search dets depth 32
+run_clock_row_det = search of_rows depth 32
 
 pub undated_row_det : AllDeterministic undated_row
-undated_row_det = search dets depth 32
+undated_row_det = search of_rows depth 32
 
 pub filed_more_det : AllDeterministic filed_more
-filed_more_det = search dets depth 32
+filed_more_det = search of_rows depth 32
 
 pub timed_row_det : AllDeterministic timed_row
-timed_row_det = search dets depth 32
+timed_row_det = search of_rows depth 32
 
 pub unix_row_det : AllDeterministic unix_row
-unix_row_det = search dets depth 32
+unix_row_det = search of_rows depth 32
 
 pub meraki_row_det : AllDeterministic meraki_row
-meraki_row_det = search dets depth 32
+meraki_row_det = search of_rows depth 32
 
 pub short_row_det : AllDeterministic short_row
-short_row_det = search dets depth 32
+short_row_det = search of_rows depth 32
 
 pub typed_row_det : AllDeterministic typed_row
-typed_row_det = search dets depth 32
+typed_row_det = search of_rows depth 32
 
 pub host_row_det : AllDeterministic host_row
-host_row_det = search dets depth 32
+host_row_det = search of_rows depth 32
 
 pub card_row_det : AllDeterministic card_row
-card_row_det = search dets depth 32
+card_row_det = search of_rows depth 32
 
 pub process_row_det : AllDeterministic process_row
-process_row_det = search dets depth 32
+process_row_det = search of_rows depth 32
 
 pub xr_row_det : AllDeterministic xr_row
-xr_row_det = search (card_row_det, process_row_det, dets) depth 32
+xr_row_det = search (card_row_det, process_row_det, of_rows) depth 32
 
 pub month_first_row_det : AllDeterministic month_first_row
-month_first_row_det = search dets depth 32
+month_first_row_det = search of_rows depth 32
 
 pub year_first_row_det : AllDeterministic year_first_row
-year_first_row_det = search dets depth 32
+year_first_row_det = search of_rows depth 32
 
 pub slashed_row_det : AllDeterministic slashed_row
-slashed_row_det = search dets depth 32
+slashed_row_det = search of_rows depth 32
 
 slashed_date_det : IsDeterministic slashed_date
 slashed_date_det = mapped_det (Row slashed_row) SentDate slashed_of (row_det slashed_row slashed_row_det)
 
 pub netscaler_row_det : AllDeterministic netscaler_row
-netscaler_row_det = search (slashed_date_det, dets) depth 32
+netscaler_row_det = search (slashed_date_det, of_rows) depth 32
 
 pub unnamed_row_det : AllDeterministic unnamed_row
-unnamed_row_det = search (slashed_date_det, dets) depth 32
+unnamed_row_det = search (slashed_date_det, of_rows) depth 32
 
 pub procurve_row_det : AllDeterministic procurve_row
-procurve_row_det = search dets depth 32
+procurve_row_det = search of_rows depth 32
 
 pub colon_row_det : AllDeterministic colon_row
-colon_row_det = search dets depth 32
+colon_row_det = search of_rows depth 32
 
 pub utm_row_det : AllDeterministic utm_row
-utm_row_det = search dets depth 32
+utm_row_det = search of_rows depth 32
 
 pub logread_row_det : AllDeterministic logread_row
-logread_row_det = search dets depth 32
+logread_row_det = search of_rows depth 32
 
 -- ---- seconds since 1970
 

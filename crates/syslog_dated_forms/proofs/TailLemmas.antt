@@ -1,14 +1,13 @@
 -- What follows a date means one thing.
-use Rattle.syslog_dated_forms.proofs.Names.{[], ◌also◌, ◌∙◌, ◌∷◌, ◌≡◌, all_joined, AllDeterministic, ap, exactly}
-use Rattle.syslog_dated_forms.proofs.Names.{exactly_det, IsDeterministic, mapped_det, None, Option, optional_det, refl}
-use Rattle.syslog_dated_forms.proofs.Names.{rest_det, Row, row_det, Some, spare, sym, tail_row, TailValue, Text, Values}
-use Rattle.syslog_dated_forms.proofs.Names.{wide_row}
+use Rattle.syslog_dated_forms.proofs.Names.{[], ◌also◌, ◌∙◌, ◌∷◌, ◌≡◌, all_joined, AllDeterministic, ap}
+use Rattle.syslog_dated_forms.proofs.Names.{IsDeterministic, None, Option, refl}
+use Rattle.syslog_dated_forms.proofs.Names.{rest_det, row_det, Some, sym, tail_row, TailValue, Text, Values}
 use Rattle.syslog_text.specs.Pieces.Class.{rest}
 use Rattle.syslog_loose.specs.Rows.{fields_row}
 use Rattle.syslog_loose.specs.Rfc3164.{HasProcess, Names3164}
 use Rattle.syslog_loose.specs.TagForm.{IsIdOf}
 use Rattle.syslog_loose.proofs.Rfc3164Lemmas.{fields_det, one_form, resolves_once}
-use Rattle.syslog_sent.proofs.ZoneLemmas.{ended_det}
+use Rattle.syslog_dated_forms.proofs.Names.{of_forms}
 use Rattle.syslog_dated_forms.specs.Tail.{tail, wide_tail}
 
 id_once : (t : Text) (x y : Option Text) → IsIdOf t x → IsIdOf t y → x ≡ y
@@ -42,11 +41,5 @@ tail_det p q p' q' v v' e (o, g, m, n, h, r, eh, ea, pr) (o', g', m', n', h', r'
           (ea ∙ ap (λ (x : Names3164). x.appname) sn ∙ sym ea') sp sm,
     )
 
-pub spare_det : IsDeterministic spare
-spare_det = ended_det (exactly (32 ∷ [])) (exactly_det _)
-
-pub wide_row_det : AllDeterministic wide_row
-wide_row_det = optional_det spare spare_det also tail_det also tt
-
 pub wide_tail_det : IsDeterministic wide_tail
-wide_tail_det = mapped_det (Row wide_row) TailValue _ (row_det wide_row wide_row_det)
+wide_tail_det = search (tail_det, of_forms) depth 32

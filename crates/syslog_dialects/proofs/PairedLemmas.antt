@@ -18,7 +18,7 @@ use Rattle.syslog_loose.specs.LineTexts.{IsLine5424}
 use Rattle.syslog_loose.specs.declared.message.Protocol.TheVariants.{RFC3164}
 use Rattle.syslog_loose.specs.Rows.{front_row}
 use Rattle.syslog_loose.proofs.Rfc5424Lemmas.{front_det}
-use Rattle.syslog_named_forms.proofs.RowLemmas.{dets}
+use Rattle.syslog_sent.proofs.FormLemmas.{of_forms}
 use Rattle.syslog_dialects.specs.Paired.{IsPaired, Opens, with_list}
 
 -- ---- one way
@@ -27,7 +27,7 @@ pub opened_det : AllDeterministic opened_row
 opened_det = paired_det also run_det is_blank also rest_det also tt
 
 pub names_det : AllDeterministic names_row
-names_det = search dets depth 24
+names_det = search of_forms depth 24
 
 opened_front : {whole m : MessageValue} → Opens whole m → NoFront paired whole.msg → ⊥
 opened_front it none =

@@ -9,19 +9,19 @@ use Rattle.syslog_text.proofs.PieceLemmas.Rules.{no_such_meaning, such_front}
 use Rattle.syslog_text.proofs.TextLemmas.Words.{end_told}
 use Rattle.syslog_dialects.specs.PriorityAlone.{IsAlone}
 use Rattle.syslog_sent.specs.Sent.{IsOnlySent}
-use Rattle.syslog_named_forms.proofs.RowLemmas.{dets}
+use Rattle.syslog_sent.proofs.FormLemmas.{of_forms}
 
 pub version_det : AllDeterministic version_row
-version_det = search dets depth 9
+version_det = search of_forms depth 9
 
 pub program_alone_det : AllDeterministic program_row
-program_alone_det = search dets depth 24
+program_alone_det = search of_forms depth 24
 
 pub point_alone_det : AllDeterministic point_row
-point_alone_det = search dets depth 24
+point_alone_det = search of_forms depth 24
 
 pub alone_det : AllDeterministic alone_row
-alone_det = search dets depth 9
+alone_det = search of_forms depth 9
 
 pub alone_told : (bs : List ℕ) (b : Bool) → IsUtf8 bs → b ≡ nat_eq (length bs) 0 → NoFront month_date (chars bs)
     → NoFront (Row version_row) (chars bs) → MatchBool (not b) (IsAlone (chars bs)) (IsAlone (chars bs) → ⊥)

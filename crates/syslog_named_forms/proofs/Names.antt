@@ -33,10 +33,11 @@ pub use Rattle.syslog_sent.proofs.DateLemmas.{any_date_det, iso_date_det}
 pub use Rattle.syslog_sent.proofs.DialectLemmas.{here}
 pub use Rattle.syslog_sent.proofs.FormLemmas.{◌before◌, first, found, says_once}
 pub use Rattle.syslog_sent.proofs.LedLemmas.{any_front}
-pub use Rattle.syslog_sent.proofs.NamedLemmas.{beginning_det, beginning_front, first_front, hosted_det, id_det}
-pub use Rattle.syslog_sent.proofs.NamedLemmas.{no_beginning, no_otherwise, otherwise_det, program_det, run_text}
+pub use Rattle.syslog_sent.proofs.NamedLemmas.{beginning_front, first_front, hosted_det}
+pub use Rattle.syslog_sent.proofs.NamedLemmas.{no_beginning, no_otherwise, program_det, run_text}
 pub use Rattle.syslog_sent.proofs.NamedLemmas.{second_front, told, unread}
-pub use Rattle.syslog_sent.proofs.ZoneLemmas.{ended_det}
+pub use Rattle.syslog_sent.proofs.Determined.{beginning_det, otherwise_det}
+pub use Rattle.syslog_sent.proofs.FormLemmas.{of_forms}
 pub use Rattle.syslog_sent.specs.Date.{iso_date}
 pub use Rattle.syslog_sent.specs.Named.{◌otherwise◌, beginning, BeginsWith, hosted, name, NamedTexts, program, untagged}
 pub use Rattle.syslog_sent.specs.Runs.{is_plain_char, is_unquoted, is_word_char}

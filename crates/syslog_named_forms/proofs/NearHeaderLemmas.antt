@@ -1,6 +1,6 @@
 -- Headers nearly of RFC 5424: one front of each class.
 use Rattle.syslog_named_forms.proofs.Names.{[], ◌++◌, ◌also◌, ◌∷◌, ◌≡◌, all_joined, AllDeterministic, any_date_det}
-use Rattle.syslog_named_forms.proofs.Names.{both_values, Class, dash, Dialect, ended_det, exactly, exactly_det, Fails}
+use Rattle.syslog_named_forms.proofs.Names.{both_values, Class, Dialect, of_forms, exactly_det, Fails}
 use Rattle.syslog_named_forms.proofs.Names.{Front, head_row, heroku_last, host_det, ids_row, inl, inr, is_blank}
 use Rattle.syslog_named_forms.proofs.Names.{IsDeterministic, IsOnlySent, List, nil_last, no_row, no_row_division}
 use Rattle.syslog_named_forms.proofs.Names.{NoDivision, NoFront, number_det, program_det, rest_det, Row, rows_join}
@@ -13,7 +13,7 @@ head_det = number_det 999 also some_run_det is_blank also any_date_det also some
     also some_run_det is_blank also tt
 
 nil_class_det : IsDeterministic nil
-nil_class_det = ended_det (exactly dash) (exactly_det _)
+nil_class_det = search of_forms depth 32
 
 pub source_det : AllDeterministic source_row
 source_det = let gap = some_run_det is_blank in word_det also gap also word_det also gap also tt

@@ -20,7 +20,8 @@ use Rattle.std.proofs.lemmas.List.{append_cancel_right}
 use Rattle.syslog_text.proofs.TextLemmas.Runs.{no_run}
 use Rattle.syslog_text.specs.Pieces.Rules.{such_that}
 use Rattle.std.specs.Prelude.{MatchBool}
-use Rattle.syslog_named_forms.proofs.RowLemmas.{dets, host_row_det}
+use Rattle.syslog_named_forms.proofs.RowLemmas.{host_row_det}
+use Rattle.syslog_named_forms.proofs.Names.{of_forms}
 
 -- ---- a Firebox's line without a host: its first word is where a host is elsewhere
 abbrev pub box_front : List Class
@@ -34,7 +35,7 @@ after_host = some_run is_plain_char ∷ exactly (32 ∷ []) ∷ exactly (40 ∷ 
     ∷ some_run is_blank ∷ program ∷ run is_blank ∷ rest ∷ []
 
 pub box_front_det : AllDeterministic box_front
-box_front_det = search dets depth 24
+box_front_det = search of_forms depth 24
 
 pub as_serial : {t u : Text} {v : Option Text} → Front (Row host_row) t u (v, (tt, tt)) → IsSerial v
     → Front (Row box_front) t u (v, (tt, tt))

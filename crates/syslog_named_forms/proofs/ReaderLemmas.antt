@@ -1,11 +1,11 @@
 -- What readers return that go on where others left the text.
 use Rattle.syslog_named_forms.proofs.Names.{[], ◌++◌, ◌also◌, ◌otherwise◌, ◌∙◌, ◌∷◌, ◌≡◌, AllDeterministic, beginning}
-use Rattle.syslog_named_forms.proofs.Names.{beginning_front, both_values, Class, exactly_det, first_front, Front}
-use Rattle.syslog_named_forms.proofs.Names.{front_of, id_det, inl, inr, is_blank, List, mapped, mapped_front, match_map}
+use Rattle.syslog_named_forms.proofs.Names.{beginning_front, both_values, Class, first_front, Front}
+use Rattle.syslog_named_forms.proofs.Names.{front_of, of_forms, inl, inr, List, mapped, mapped_front, match_map}
 use Rattle.syslog_named_forms.proofs.Names.{Named, named_value, NamedTexts, Names, no_beginning, no_mapped}
-use Rattle.syslog_named_forms.proofs.Names.{no_otherwise, None, Option, process_tail, program_det, program_tail, refl}
-use Rattle.syslog_named_forms.proofs.Names.{rest_det, Row, row_cons, row_nil, row_none_here, row_reads, rows_join}
-use Rattle.syslog_named_forms.proofs.Names.{rows_none_here, rows_none_later, run_det, second_front, shown, Some, subst}
+use Rattle.syslog_named_forms.proofs.Names.{no_otherwise, None, Option, process_tail, program_tail, refl}
+use Rattle.syslog_named_forms.proofs.Names.{Row, row_cons, row_nil, row_none_here, row_reads, rows_join}
+use Rattle.syslog_named_forms.proofs.Names.{rows_none_here, rows_none_later, second_front, shown, Some, subst}
 use Rattle.syslog_named_forms.proofs.Names.{sym, Text, untagged, Values, ℕ}
 use Rattle.std.proofs.Common.{Bor, MatchOption}
 use Rattle.syslog_text.specs.Pieces.View.{Reads, Recognises}
@@ -15,10 +15,10 @@ use Rattle.syslog_named_forms.specs.Hosts.{IsUntagged, Tells}
 -- ---- how forms end
 
 pub program_tail_det : AllDeterministic program_tail
-program_tail_det = program_det also run_det is_blank also rest_det also tt
+program_tail_det = search of_forms depth 32
 
 pub process_tail_det : AllDeterministic process_tail
-process_tail_det = id_det also exactly_det _ also run_det is_blank also rest_det also tt
+process_tail_det = search of_forms depth 32
 
 -- ---- a row, of which the first pieces are read
 

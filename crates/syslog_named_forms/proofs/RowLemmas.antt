@@ -1,129 +1,116 @@
--- A text has one front of each class, and so one division into each row. `search dets` finds that by the classes.
-use Rattle.syslog_named_forms.proofs.Names.{◌also◌, ◌otherwise◌, access_row, addressed_row, after_det, AllDeterministic}
-use Rattle.syslog_named_forms.proofs.Names.{any_date_det, arith, beginning_det, box, box_of, box_row, cef_row}
-use Rattle.syslog_named_forms.proofs.Names.{compact_row, enclosed_row, ended_det, event_row, exactly_det, forwarded_row}
-use Rattle.syslog_named_forms.proofs.Names.{graded_row, hardware_row, host_det, host_row, hostless_row, id_det}
-use Rattle.syslog_named_forms.proofs.Names.{IsDeterministic, iso_date_det, leef_row, leveled_row, log_row, many_det}
-use Rattle.syslog_named_forms.proofs.Names.{mapped_det, monotonic_row, NamedTexts, number_det, numbered_row, object_row}
-use Rattle.syslog_named_forms.proofs.Names.{optional_det, otherwise_det, padded_row, pair, passed_on, point_word}
-use Rattle.syslog_named_forms.proofs.Names.{program_det, rest_det, Row, row_det, run_det, seconds_row, serial}
-use Rattle.syslog_named_forms.proofs.Names.{serial_of, serial_row, severity_row, some_run_det, sourced_row, spread_row}
-use Rattle.syslog_named_forms.proofs.Names.{texted_det, threaded_row, titled_row, untagged_row, word_det, worded_row}
-use Rattle.syslog_named_forms.proofs.Names.{words, words_row, year_det}
-use Rattle.syslog_pieces.proofs.TimestampLemmas.Rfc3339.{pair_det}
+-- A text has one front of each class, and so one division into each row, as `search of_forms` finds it.
+use Rattle.syslog_named_forms.proofs.Names.{◌otherwise◌, access_row, addressed_row, AllDeterministic}
+use Rattle.syslog_named_forms.proofs.Names.{box, box_of, box_row, cef_row}
+use Rattle.syslog_named_forms.proofs.Names.{compact_row, enclosed_row, event_row, forwarded_row}
+use Rattle.syslog_named_forms.proofs.Names.{graded_row, hardware_row, host_row, hostless_row, of_forms}
+use Rattle.syslog_named_forms.proofs.Names.{IsDeterministic, leef_row, leveled_row, log_row}
+use Rattle.syslog_named_forms.proofs.Names.{mapped_det, monotonic_row, NamedTexts, numbered_row, object_row}
+use Rattle.syslog_named_forms.proofs.Names.{otherwise_det, padded_row, passed_on, point_word}
+use Rattle.syslog_named_forms.proofs.Names.{Row, row_det, seconds_row, serial}
+use Rattle.syslog_named_forms.proofs.Names.{serial_of, serial_row, severity_row, sourced_row, spread_row}
+use Rattle.syslog_named_forms.proofs.Names.{threaded_row, titled_row, untagged_row, worded_row}
+use Rattle.syslog_named_forms.proofs.Names.{words, words_row}
 use Rattle.syslog_named_forms.specs.Unified.{entry_name}
-use Rattle.syslog_sent.proofs.NamedLemmas.{name_det}
-use Rattle.syslog_text.proofs.PieceLemmas.Rules.{such_det}
-
--- a number of two digits
-pub two_det : IsDeterministic (pair 100)
-two_det = pair_det 100 (omega arith)
-
-pub ruleset names = (host_det, word_det, number_det, program_det, name_det, id_det, any_date_det, iso_date_det, year_det)
-
-pub ruleset runs = (run_det, some_run_det, exactly_det, rest_det, beginning_det, texted_det, such_det, optional_det)
-
-pub ruleset dets = (names, two_det, ◌also◌, runs, after_det, many_det, ended_det, otherwise_det, row_det, mapped_det)
 
 pub serial_det : AllDeterministic serial_row
-serial_det = search dets depth 32
+serial_det = search of_forms depth 32
 
 pub box_det : AllDeterministic box_row
-box_det = search dets depth 32
+box_det = search of_forms depth 32
 
 pub either_box_det : IsDeterministic (serial otherwise box)
 either_box_det = otherwise_det (mapped_det (Row serial_row) NamedTexts serial_of (row_det serial_row serial_det))
     (mapped_det (Row box_row) NamedTexts box_of (row_det box_row box_det))
 
 pub hostless_det : AllDeterministic hostless_row
-hostless_det = search dets depth 32
+hostless_det = search of_forms depth 32
 
 pub severity_det : AllDeterministic severity_row
-severity_det = search dets depth 32
+severity_det = search of_forms depth 32
 
 pub enclosed_det : AllDeterministic enclosed_row
-enclosed_det = search dets depth 32
+enclosed_det = search of_forms depth 32
 
 pub words_row_det : AllDeterministic words_row
-words_row_det = search dets depth 32
+words_row_det = search of_forms depth 32
 
 words_det : IsDeterministic words
-words_det = search (words_row_det, dets) depth 9
+words_det = search (words_row_det, of_forms) depth 9
 
 pub worded_det : AllDeterministic worded_row
-worded_det = search (words_det, dets) depth 32
+worded_det = search (words_det, of_forms) depth 32
 
 entry_name_det : IsDeterministic entry_name
-entry_name_det = search (words_det, dets) depth 9
+entry_name_det = search (words_det, of_forms) depth 9
 
 pub access_det : AllDeterministic access_row
-access_det = search dets depth 32
+access_det = search of_forms depth 32
 
 pub log_det : AllDeterministic log_row
-log_det = search (entry_name_det, dets) depth 32
+log_det = search (entry_name_det, of_forms) depth 32
 
 pub untagged_det : AllDeterministic untagged_row
-untagged_det = search dets depth 32
+untagged_det = search of_forms depth 32
 
 pub spread_det : AllDeterministic spread_row
-spread_det = search dets depth 32
+spread_det = search of_forms depth 32
 
 pub forwarded_det : AllDeterministic forwarded_row
-forwarded_det = search dets depth 32
+forwarded_det = search of_forms depth 32
 
 pub passed_on_det : IsDeterministic passed_on
-passed_on_det = search dets depth 32
+passed_on_det = search of_forms depth 32
 
 pub point_word_det : IsDeterministic point_word
-point_word_det = search dets depth 32
+point_word_det = search of_forms depth 32
 
 pub addressed_det : AllDeterministic addressed_row
-addressed_det = search dets depth 32
+addressed_det = search of_forms depth 32
 
 pub titled_det : AllDeterministic titled_row
-titled_det = search dets depth 32
+titled_det = search of_forms depth 32
 
 pub compact_det : AllDeterministic compact_row
-compact_det = search (entry_name_det, dets) depth 32
+compact_det = search (entry_name_det, of_forms) depth 32
 
 pub graded_det : AllDeterministic graded_row
-graded_det = search dets depth 32
+graded_det = search of_forms depth 32
 
 pub leveled_det : AllDeterministic leveled_row
-leveled_det = search dets depth 32
+leveled_det = search of_forms depth 32
 
 pub event_det : AllDeterministic event_row
-event_det = search dets depth 32
+event_det = search of_forms depth 32
 
 hardware_det : AllDeterministic hardware_row
-hardware_det = search dets depth 32
+hardware_det = search of_forms depth 32
 
 pub sourced_det : AllDeterministic sourced_row
-sourced_det = search (hardware_det, dets) depth 32
+sourced_det = search (hardware_det, of_forms) depth 32
 
 pub threaded_det : AllDeterministic threaded_row
-threaded_det = search dets depth 32
+threaded_det = search of_forms depth 32
 
 pub padded_det : AllDeterministic padded_row
-padded_det = search dets depth 32
+padded_det = search of_forms depth 32
 
 pub numbered_det : AllDeterministic numbered_row
-numbered_det = search dets depth 32
+numbered_det = search of_forms depth 32
 
 pub seconds_det : AllDeterministic seconds_row
-seconds_det = search dets depth 32
+seconds_det = search of_forms depth 32
 
 pub monotonic_det : AllDeterministic monotonic_row
-monotonic_det = search dets depth 32
+monotonic_det = search of_forms depth 32
 
 pub cef_det : AllDeterministic cef_row
-cef_det = search dets depth 32
+cef_det = search of_forms depth 32
 
 pub leef_det : AllDeterministic leef_row
-leef_det = search dets depth 32
+leef_det = search of_forms depth 32
 
 pub object_det : AllDeterministic object_row
-object_det = search dets depth 32
+object_det = search of_forms depth 32
 
 pub host_row_det : AllDeterministic host_row
-host_row_det = search dets depth 32
+host_row_det = search of_forms depth 32

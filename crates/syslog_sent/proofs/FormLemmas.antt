@@ -9,6 +9,11 @@ use Rattle.syslog_sent.proofs.DialectLemmas.{here, later}
 use Rattle.syslog_sent.specs.declared.dialect.Dialect.{Dialect}
 use Rattle.std.proofs.Common.{◌++◌}
 use Rattle.syslog_sent.specs.Forms.{IsOfNone}
+use Rattle.syslog_sent.proofs.{DateLemmas.any_date_det, DateLemmas.iso_date_det, Determined.determined}
+use Rattle.syslog_sent.proofs.NamedLemmas.{hosted_det, name_det, program_det}
+
+-- that one text has one front of what forms are made of, as `search of_forms depth 60` finds it
+pub ruleset of_forms = (any_date_det, iso_date_det, name_det, program_det, hosted_det, determined)
 
 -- a form whose pieces mean one thing each says one thing
 pub says_once : (dialect : Dialect) (Cs : List Class) (says : Values Cs → SentValue) → AllDeterministic Cs

@@ -1,4 +1,5 @@
 pub mod DateLemmas
+pub mod Determined
 pub mod DialectLemmas
 pub mod FormLemmas
 pub mod LedLemmas

@@ -14,36 +14,24 @@ use Rattle.std.specs.Str.Pattern.{FindsTextPrefix, StripsPrefix}
 use Rattle.syslog_text.specs.Pieces.Class.{Each}
 use Rattle.syslog_text.specs.Pieces.View.{Reads, Recognises, Skips, shown, text_eq}
 use Rattle.std.specs.Str.{chars}
-use Rattle.std.specs.Char.{is_not_whitespace}
 use Rattle.syslog_text.specs.Bodies.Scan.{SplitsRun}
 use Rattle.syslog_text.specs.Pieces.Class.{Text, Class, Values, Front, NoFront, IsDeterministic, Row, some_run}
 use Rattle.syslog_text.specs.Pieces.Class.{exactly}
 use Rattle.syslog_text.specs.Pieces.Class.{mapped, texted}
 use Rattle.syslog_text.specs.Pieces.Rules.{such_that}
-use Rattle.syslog_text.specs.Text.{is_blank}
-use Rattle.syslog_text.specs.Text.CharClass.{is_id_char, is_label_char}
-use Rattle.syslog_text.proofs.PieceLemmas.Class.{AllDeterministic, ◌also◌, exactly_det, rest_det, optional_det}
-use Rattle.syslog_text.proofs.PieceLemmas.Class.{mapped_det}
-use Rattle.syslog_text.proofs.PieceLemmas.Class.{texted_det, row_det, some_run_det, front_of, no_front_no}
+use Rattle.syslog_text.proofs.PieceLemmas.Class.{AllDeterministic}
+use Rattle.syslog_text.proofs.PieceLemmas.Class.{front_of, no_front_no}
 use Rattle.syslog_text.proofs.PieceLemmas.Class.{Fails}
 use Rattle.syslog_text.proofs.PieceLemmas.Class.{no_row, no_mapped}
-use Rattle.syslog_text.proofs.PieceLemmas.Rules.{such_det}
 use Rattle.syslog_text.proofs.TextLemmas.Runs.{ascii_ahead, ascii_front, chars_nonempty, run_is}
-use Rattle.syslog_text.proofs.TextLemmas.Words.{host_det}
-use Rattle.syslog_sent.specs.Named.{◌otherwise◌, after_row, beginning, hosted, BeginsWith, begins_name, name}
-use Rattle.syslog_sent.specs.Named.{id_row, id_of, process_id}
-use Rattle.syslog_sent.specs.Named.{program_row, program_of, program, ProgramText}
-use Rattle.syslog_sent.specs.Runs.{are_ascii, is_plain_char}
-use Rattle.syslog_sent.specs.Selector.{facility, is_facility, is_severity, selector_row}
-use Rattle.syslog_sent.specs.Selector.{severity}
+use Rattle.syslog_sent.specs.Named.{◌otherwise◌, beginning, hosted, BeginsWith, name}
+use Rattle.syslog_sent.specs.Named.{id_row}
+use Rattle.syslog_sent.specs.Named.{program_row, program}
+use Rattle.syslog_sent.specs.Runs.{are_ascii}
+use Rattle.syslog_sent.specs.Selector.{selector_row}
+use Rattle.syslog_sent.proofs.Determined.{determined}
 
 -- ---- words of the theory
-
-pub otherwise_det : {C D : Class} → IsDeterministic C → IsDeterministic D → IsDeterministic (C otherwise D)
-otherwise_det c d p q p' q' (inl v) (inl w) e h h' = let r = c p q p' q' v w e h h' in (r.0, ap inl r.1)
-otherwise_det c d p q p' q' (inl v) (inr w) e h (n, h') = absurd (n p q v (sym e) h)
-otherwise_det c d p q p' q' (inr v) (inl w) e (n, h) h' = absurd (n p' q' w e h')
-otherwise_det c d p q p' q' (inr v) (inr w) e (n, h) (m, h') = let r = d p q p' q' v w e h h' in (r.0, ap inr r.1)
 
 pub first_front : {C D : Class} {t q : Text} {v : C.Value} → Front C t q v → Front (C otherwise D) t q (inl v)
 first_front f = front_of f.piece f.whole f.is
@@ -59,9 +47,6 @@ no_otherwise n m p q (inr w) e h = m p q w e h.1
 -- a text that does not begin with the first character of a longer one does not begin with that
 pub no_longer : (c : ℕ) (w : Text) {t : Text} → NoFront (exactly (c ∷ [])) t → NoFront (exactly (c ∷ w)) t
 no_longer c w n p q v e h = n (c ∷ []) (w ++ q) tt (e ∙ ap (λ (x : Text). x ++ q) h) refl
-
-pub beginning_det : (C : Class) → IsDeterministic (beginning C)
-beginning_det C p q p' q' t t' e h h' = rest_det p q p' q' t t' e (h.0, h.1) (h'.0, h'.1)
 
 pub beginning_front : {C : Class} {t r : Text} {v : C.Value} → Front C t r v → Front (beginning C) t [] t
 beginning_front {t = t} {r = r} {v = v} f = front_of t (sym (append-nil t)) (refl, refl, (r, v, f))
@@ -154,32 +139,20 @@ unread Cs d B f h = no_mapped (Row Cs) B f (no_row Cs d h)
 
 -- ---- one front of each
 
-pub name_det : IsDeterministic name
-name_det = such_det (texted (some_run is_label_char)) (BeginsWith begins_name)
-    (texted_det (some_run is_label_char) (some_run_det is_label_char))
-
 pub id_row_det : AllDeterministic id_row
-id_row_det = exactly_det _ also texted_det (some_run is_id_char) (some_run_det is_id_char) also exactly_det _ also tt
+id_row_det = search determined depth 60
 
-pub id_det : IsDeterministic process_id
-id_det = mapped_det (Row id_row) Text id_of (row_det id_row id_row_det)
+pub name_det : IsDeterministic name
+name_det = search determined depth 60
 
 pub program_row_det : AllDeterministic program_row
-program_row_det = name_det also optional_det process_id id_det also exactly_det _ also tt
+program_row_det = search (name_det, determined) depth 60
 
 pub program_det : IsDeterministic program
-program_det = mapped_det (Row program_row) ProgramText program_of (row_det program_row program_row_det)
-
-pub severity_word_det : IsDeterministic severity
-severity_word_det = such_det (texted (some_run is_not_whitespace)) (λ t. IsTrue (is_severity t))
-    (texted_det (some_run is_not_whitespace) (some_run_det is_not_whitespace))
-
-facility_det : IsDeterministic facility
-facility_det = such_det (texted (some_run is_plain_char)) (λ t. IsTrue (is_facility t))
-    (texted_det (some_run is_plain_char) (some_run_det is_plain_char))
+program_det = search (program_row_det, determined) depth 60
 
 pub selector_det : AllDeterministic selector_row
-selector_det = facility_det also exactly_det _ also severity_word_det also tt
+selector_det = search determined depth 60
 
 -- a text that begins with a character is not empty
 pub begins_some : (test : ℕ → Bool) (t : Text) → BeginsWith test t → 0 < length t
@@ -188,8 +161,5 @@ begins_some test (c ∷ t) h = omega arith
 
 -- ---- after a host
 
-pub after_row_det : (C : Class) → IsDeterministic C → AllDeterministic (after_row C)
-after_row_det C d = host_det also some_run_det is_blank also d also tt
-
 pub hosted_det : (C : Class) → IsDeterministic C → IsDeterministic (hosted C)
-hosted_det C d = otherwise_det d (row_det (after_row C) (after_row_det C d))
+hosted_det C d = search determined depth 60

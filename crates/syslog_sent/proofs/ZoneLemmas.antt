@@ -1,16 +1,12 @@
 -- A text has one front of each class of a zone.
 use Rattle.std.proofs.Common.{◌≡◌, ◌∙◌, ◌++◌, ℕ, ℤ, Bool, true, false, List, [], ◌∷◌, Option, refl, sym, subst, arith}
 use Rattle.syslog_text.specs.Pieces.Class.{Text, Class, Front, NoFront, IsDeterministic, Row, Ends, exactly}
-use Rattle.syslog_text.specs.Pieces.Class.{optional, some_run}
-use Rattle.syslog_text.specs.Text.{is_tag_char, is_blank, colon}
+use Rattle.syslog_text.specs.Text.{is_tag_char}
 use Rattle.syslog_pieces.specs.Timestamp.Rfc3339.{sign, seconds_of}
-use Rattle.syslog_text.proofs.PieceLemmas.Class.{AllDeterministic, ◌also◌, exactly_det, optional_det, mapped_det}
-use Rattle.syslog_text.proofs.PieceLemmas.Class.{texted_det, row_det}
-use Rattle.syslog_text.proofs.PieceLemmas.Class.{some_run_det, run_det, front_of, front_same, Fails, no_row}
+use Rattle.syslog_text.proofs.PieceLemmas.Class.{AllDeterministic}
+use Rattle.syslog_text.proofs.PieceLemmas.Class.{front_of, front_same, Fails, no_row}
 use Rattle.syslog_text.proofs.PieceLemmas.Class.{no_mapped}
-use Rattle.syslog_text.proofs.PieceLemmas.Rules.{such_det}
-use Rattle.syslog_pieces.proofs.TimestampLemmas.Rfc3339.{pair_det, numeric_det}
-use Rattle.syslog_sent.specs.Zone.{bare_word, ended, minutes_row, minutes, offset_row}
+use Rattle.syslog_sent.specs.Zone.{bare_word, ended, minutes_row, offset_row}
 use Rattle.syslog_sent.specs.Named.{◌otherwise◌, BeginsWith}
 use Rattle.syslog_sent.specs.Zone.{mapped_offset, numeric_offset}
 use Rattle.syslog_sent.specs.Zone.{IsZoneName, zone_name, offset_of, zone_mark, zone_row, zone}
@@ -25,13 +21,11 @@ use Rattle.syslog_text.proofs.TextLemmas.Runs.{same_chars}
 use Rattle.syslog_sent.specs.Runs.{are_ascii}
 use Rattle.syslog_sent.specs.Date.{IsDay, day_words}
 use Rattle.syslog_sent.specs.Zone.{begins_zone, has_shape, is_among, is_capital, zone_words}
-use Rattle.syslog_sent.proofs.NamedLemmas.{ascii_told, no_otherwise, otherwise_det}
+use Rattle.syslog_sent.proofs.NamedLemmas.{ascii_told, no_otherwise}
 use Rattle.std.proofs.lemmas.Bool.Decides.{nat_tests}
+use Rattle.syslog_sent.proofs.Determined.{determined}
 
 -- ---- a piece that ends a word
-pub ended_det : (C : Class) → IsDeterministic C → IsDeterministic (ended C)
-ended_det C d p q p' q' v v' e h h' = d p q p' q' v v' e h.0 h'.0
-
 pub ended_front : (C : Class) {t q : Text} {v : C.Value} → Front C t q v → Ends is_tag_char q → Front (ended C) t q v
 ended_front C f ends = front_of f.piece f.whole (f.is, ends)
 
@@ -44,34 +38,22 @@ not_ended C d f n p q v e h = n (subst (λ (x : Text). Ends is_tag_char x) (fron
 
 -- ---- the classes
 pub bare_word_det : IsDeterministic bare_word
-bare_word_det = texted_det (some_run is_tag_char) (some_run_det is_tag_char)
+bare_word_det = search determined depth 60
 
 pub minutes_row_det : AllDeterministic minutes_row
-minutes_row_det = optional_det (exactly colon) (exactly_det colon) also pair_det 60 (omega arith) also tt
+minutes_row_det = search determined depth 60
 
-minutes_det : IsDeterministic minutes
-minutes_det = mapped_det (Row minutes_row) ℕ _ (row_det minutes_row minutes_row_det)
-
-pub offset_row_det : AllDeterministic offset_row
-offset_row_det = numeric_det.0 also pair_det 24 (omega arith) also mapped_det (optional minutes)
-    ℕ _ (optional_det minutes minutes_det)
-    also tt
+offset_row_det : AllDeterministic offset_row
+offset_row_det = search determined depth 60
 
 pub seconds_det : IsDeterministic mapped_offset
-seconds_det = mapped_det (Row offset_row) ℤ seconds_of (row_det offset_row offset_row_det)
-
-numeric_offset_det : IsDeterministic numeric_offset
-numeric_offset_det = ended_det mapped_offset seconds_det
-
-zone_mark_det : IsDeterministic zone_mark
-zone_mark_det = mapped_det (numeric_offset otherwise zone_name) (Option ℤ) offset_of
-    (otherwise_det numeric_offset_det (such_det bare_word IsZoneName bare_word_det))
+seconds_det = search (offset_row_det, determined) depth 60
 
 pub zone_row_det : AllDeterministic zone_row
-zone_row_det = run_det is_blank also zone_mark_det also tt
+zone_row_det = search (seconds_det, determined) depth 60
 
 pub zone_det : IsDeterministic zone
-zone_det = mapped_det (Row zone_row) (Option ℤ) _ (row_det zone_row zone_row_det)
+zone_det = search (zone_row_det, determined) depth 60
 
 -- ---- what their readers return
 pub no_sign : {t : Text} → NoFront (exactly (45 ∷ [])) t → NoFront (exactly (43 ∷ [])) t → NoFront sign t

@@ -11,7 +11,8 @@ use Rattle.syslog_text.proofs.PieceLemmas.Class.{mapped_det, piece_front, ◌als
 use Rattle.syslog_text.proofs.PieceLemmas.Class.{row_pieces, front_of, no_front_no, rest_det, false_is, front_same}
 use Rattle.syslog_text.proofs.PieceLemmas.Class.{front_division}
 use Rattle.std.proofs.lemmas.List.{append_cancel_right, length-append}
-use Rattle.std.specs.Prelude.{◌↔◌, IsTrue, MatchBool}
+use Rattle.std.specs.Prelude.{◌↔◌, IsTrue, MatchBool, nat_le}
+use Rattle.syslog_strict.proofs.Words.{nat_tests}
 use Rattle.syslog_text.specs.Pieces.Class.{Class, Front, NoFront, IsDeterministic, Row, exactly, after, spaced, texted}
 use Rattle.syslog_text.specs.Pieces.Class.{rest, Values}
 use Rattle.syslog_text.specs.{Pieces.Lists.many, Pieces.Rules.◌or◌, Pieces.Rules.short_run, Pieces.View.Recognises}
@@ -25,6 +26,7 @@ use Rattle.syslog_pieces.specs.Timestamp.Rfc3339.{pair as two_digits, year}
 use Rattle.syslog_strict.specs.Grammar.{IsValueUnit, sd_element, sd_elements, sd_param, sd_name, value_unit, param_row}
 use Rattle.syslog_strict.specs.Grammar.{element_row, date_row, partial_time, time_numoffset, date_time, AreElements}
 use Rattle.syslog_strict.specs.Grammar.{IsDate}
+use Rattle.syslog_text.proofs.Determined.{determined}
 use Rattle.syslog_strict.specs.Grammar as grammar
 
 -- ---- readers
@@ -41,58 +43,33 @@ pub after_reads : (c : ℕ) (C : Class) (t : Text) (r s : Option (Bor (List ℕ)
 after_reads c C t None s n e = rw e (no_spaced_space C n)
 after_reads c C t (Some x) s f h = match_map s (no_spaced_piece C f) (λ y (v, g). (v, spaced_front C f g)) h
 
--- ---- PRI and TIMESTAMP
-
-pub pri_det : AllDeterministic grammar.pri
-pri_det = exactly_det _ also numeral_det 0 191 also exactly_det _ also tt
-
-two_det : IsDeterministic (after 45 (two_digits 100))
-two_det = after_det (two_digits 100) (pair_det 100 (omega arith))
-
-pub date_det : AllDeterministic date_row
-date_det = year_det also two_det also two_det also tt
-
-full_date_det : IsDeterministic grammar.full_date
-full_date_det = such_det (Row date_row) IsDate (row_det date_row date_det)
-
-minute_det : IsDeterministic (after 58 grammar.time_minute)
-minute_det = after_det grammar.time_minute (pair_det 60 (omega arith))
-
-pub time_det : AllDeterministic partial_time
-time_det = pair_det 24 (omega arith) also minute_det also minute_det
-    also optional_det grammar.time_secfrac (after_det _ (short_run_det is_ascii_digit 6)) also tt
-
-sign_det : IsDeterministic grammar.sign
-sign_det = or_det (exactly_det _) (exactly_det _) (exactly_apart 43
-    (exactly (45 ∷ [])) (λ p q v h. (45, [], h, omega arith)))
+-- ---- one front of each class
 
 sign_opens : Opens grammar.sign (λ d. d ≢ 90)
 sign_opens p q (inl v) h = (43, [], h, omega arith)
 sign_opens p q (inr v) h = (45, [], h, omega arith)
 
-pub numoffset_det : AllDeterministic time_numoffset
-numoffset_det = sign_det also pair_det 24 (omega arith) also minute_det also tt
-
-offset_det : IsDeterministic grammar.time_offset
-offset_det = or_det (exactly_det _) (row_det time_numoffset numoffset_det) (exactly_apart 90 (Row time_numoffset)
-    (row_opens grammar.sign (grammar.time_hour ∷ after 58 grammar.time_minute ∷ []) (λ d. d ≢ 90) sign_opens))
-
-pub date_time_det : AllDeterministic date_time
-date_time_det = full_date_det also exactly_det _ also row_det partial_time time_det also offset_det also tt
-
 date_opens : Opens grammar.full_date (λ d. d ≢ 45)
 date_opens p q vs (h, _) = row_opens year (after 45 (two_digits 100) ∷ after 45 (two_digits 100) ∷ []) (λ d. d ≢ 45)
     (λ p q n h. (48 + n / 100 / 10, _, h.0, omega arith)) p q vs h
 
-pub timestamp_det : IsDeterministic grammar.timestamp
-timestamp_det = or_det (exactly_det _) (row_det date_time date_time_det) (exactly_apart 45 (Row date_time)
+sign_det : IsDeterministic grammar.sign
+sign_det = or_det (exactly_det _) (exactly_det _) (exactly_apart 43
+    (exactly (45 ∷ [])) (λ p q v h. (45, [], h, omega arith)))
+
+small_pair_det : (limit : ℕ) → nat_le limit 100 ≡ true → IsDeterministic (two_digits limit)
+small_pair_det limit small = pair_det limit (grind (arith, nat_tests))
+
+ruleset of_times = (small_pair_det, year_det, sign_det, determined)
+
+offset_det : IsDeterministic grammar.time_offset
+offset_det = or_det (exactly_det _) (search of_times depth 60) (exactly_apart 90 (Row time_numoffset)
+    (row_opens grammar.sign (grammar.time_hour ∷ after 58 grammar.time_minute ∷ []) (λ d. d ≢ 90) sign_opens))
+
+timestamp_det : IsDeterministic grammar.timestamp
+timestamp_det = or_det (exactly_det _) (search (offset_det, of_times) depth 60) (exactly_apart 45 (Row date_time)
     (row_opens grammar.full_date (exactly (84 ∷ []) ∷ Row partial_time ∷ grammar.time_offset ∷ []) (λ d. d ≢ 45)
     date_opens))
-
--- ---- elements
-
-name_det : IsDeterministic (texted sd_name)
-name_det = texted_det sd_name (short_run_det is_sd_char 32)
 
 plain_first : (d : ℕ) → is_escaped d ≡ false → 92 ≡ d → ⊥
 plain_first d k e = let same = ap is_escaped e in cc
@@ -105,19 +82,32 @@ unit_det p q p' q' (single c) (pair d) e (f, a) (g, b) =
     absurd (plain_first c a (sym (heads _ _ _ _ (rw (f, g) at e))))
 unit_det p q p' q' (single c) (single d) e (f, a) (g, b) = (let h = rw (f, g) at e in cc, let h = rw (f, g) at e in cc)
 
-pub param_det : AllDeterministic param_row
-param_det = name_det also exactly_det _ also exactly_det _ also texted_det grammar.param_value
-    (many_det value_unit unit_det)
-    also exactly_det _ also tt
+-- that one text has one front of each class of the grammar, as `search of_grammar depth 60` finds it
+ruleset of_grammar = (unit_det, offset_det, timestamp_det, of_times)
 
-pub sp_param_det : IsDeterministic (spaced sd_param)
-sp_param_det = after_det sd_param (mapped_det (Row param_row) (Text × Text) _ (row_det param_row param_det))
+pub pri_det : AllDeterministic grammar.pri
+pri_det = search of_grammar depth 60
+
+pub date_det : AllDeterministic date_row
+date_det = search of_grammar depth 60
+
+pub time_det : AllDeterministic partial_time
+time_det = search of_grammar depth 60
+
+pub numoffset_det : AllDeterministic time_numoffset
+numoffset_det = search of_grammar depth 60
+
+pub date_time_det : AllDeterministic date_time
+date_time_det = search of_grammar depth 60
+
+pub param_det : AllDeterministic param_row
+param_det = search of_grammar depth 60
 
 pub element_row_det : AllDeterministic element_row
-element_row_det = exactly_det _ also name_det also many_det (spaced sd_param) sp_param_det also exactly_det _ also tt
+element_row_det = search of_grammar depth 60
 
 pub element_det : IsDeterministic sd_element
-element_det = mapped_det (Row element_row) ElementValue _ (row_det element_row element_row_det)
+element_det = search of_grammar depth 60
 
 -- ---- what they print
 
@@ -244,8 +234,8 @@ elements_open : Opens sd_elements (λ d. d ≢ 45)
 elements_open p q [] (h, (some, apart)) = absurd (omega arith)
 elements_open p q (e ∷ es) (h, (some, apart)) = (91, _, ((elements_prints p q (e ∷ es)).0 h).0, omega arith)
 
-pub data_det : IsDeterministic grammar.structured_data
-data_det = or_det (exactly_det _) (such_det (many sd_element) AreElements (many_det sd_element element_det))
+data_det : IsDeterministic grammar.structured_data
+data_det = or_det (exactly_det _) (such_det (many sd_element) AreElements (search of_grammar depth 60))
     (exactly_apart 45 sd_elements elements_open)
 
 pub no_element : (c : ℕ) (q : Text) → c ≢ 91 → NoFront sd_element (c ∷ q)
@@ -265,13 +255,7 @@ data_front (e ∷ es) q are apart n = (
 -- ---- the whole
 
 pub msg_det : AllDeterministic (grammar.header ++ grammar.body)
-msg_det =
-    let space = exactly_det (32 ∷ []) in
-    let short = λ (most : ℕ). short_run_det grammar.is_printusascii most in
-    row_det grammar.pri pri_det also numeral_det 1 999 also space also timestamp_det also space also short 255 also
-    space
-    also short 48 also space also short 128 also space also short 32 also space also data_det
-    also optional_det (spaced rest) (after_det rest rest_det) also tt
+msg_det = search (data_det, of_grammar) depth 60
 
 pub no_msg : {text : Text} → NoFront (Row (grammar.header ++ grammar.body)) text → grammar.IsSyslogMsg text → ⊥
 no_msg n m = no_front_no (Row (grammar.header ++ grammar.body)) n

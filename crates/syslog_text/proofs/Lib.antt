@@ -1,3 +1,4 @@
+pub mod Determined
 pub mod Names
 pub mod PieceLemmas
 pub mod TextLemmas

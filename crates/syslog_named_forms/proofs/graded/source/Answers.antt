@@ -1,10 +1,10 @@
 use Rattle.syslog_named_forms.proofs.Names.{[], ◌also◌, ◌∷◌, row_reads}
 use Rattle.syslog_named_forms.specs.Graded.{source_row}
-use Rattle.syslog_named_forms.proofs.RowLemmas.{dets}
+use Rattle.syslog_named_forms.proofs.Names.{of_forms}
 use Rattle.syslog_named_forms.proofs.graded.source.Goals as goal
 
 pub returns : goal.returns
-returns c = row_reads source_row (search dets depth 24) c.args.text
+returns c = row_reads source_row (search of_forms depth 24) c.args.text
     (c.open_angle.result ∷ c.and_then.result ∷ c.and_then-2.result ∷ c.and_then-3.result ∷ c.and_then-4.result ∷ [])
     (c.open_angle.ensures also c.and_then.ensures also c.and_then-2.ensures also c.and_then-3.ensures
     also c.and_then-4.ensures also tt)
