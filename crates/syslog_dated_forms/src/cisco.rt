@@ -87,6 +87,7 @@ fn is_asa_tag(tag: &str) -> bool
 }
 
 // Returns a word at the front that begins as a host's name does, and the text after it.
+#[tactic(auto, using(crate::proofs::ReaderLemmas::such_word))]
 fn word_origin(text: &str) -> Option<(&str, &str)>
     ensures { Reads spec.word_origin (λ word. shown word) (chars text.now) result }
 {

@@ -35,12 +35,14 @@ fn is_mark(word: &str) -> bool
     is_one_of(&MARKS, word)
 }
 
+#[tactic(auto, using(crate::proofs::ReaderLemmas::past_such))]
 fn stream(text: &str) -> Option<&str>
     ensures { Recognises (such_that any_word spec.IsStream) (chars text.now) result }
 {
     past_word_if(text, is_stream)
 }
 
+#[tactic(auto, using(crate::proofs::ReaderLemmas::past_such))]
 fn mark(text: &str) -> Option<&str>
     ensures { Recognises (such_that any_word spec.IsMark) (chars text.now) result }
 {

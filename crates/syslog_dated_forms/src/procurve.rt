@@ -19,6 +19,7 @@ use syslog_sent::skips::{colon, digits, gap};
 use syslog_text::text::{blanks, host};
 
 // Returns the name of a module at the front, and the text after it.
+#[tactic(auto, using(crate::proofs::ReaderLemmas::such_word))]
 fn system_module(text: &str) -> Option<(&str, &str)>
     ensures { Reads spec.system_module (λ word. shown word) (chars text.now) result }
 {

@@ -136,6 +136,7 @@ fn is_event_type(word: &str) -> bool
 }
 
 // Returns the text after a type of Meraki's messages.
+#[tactic(auto, using(crate::proofs::ReaderLemmas::past_such))]
 fn event_type(text: &str) -> Option<&str>
     ensures { Recognises (such_that any_word spec.IsEventType) (chars text.now) result }
 {

@@ -81,8 +81,8 @@ said_so it row says_of told text sent s =
     subst (λ (x : SentValue). AreFound it text x × Ends is_blank x.msg) (sym s.means) (inl is, front)
 
 -- the row says it in this order, whichever host it says
-abbrev pub RowSays : (order : SentValue → List Part) (it : Dialect) (row : List Class) (says_of : Values row → SentValue)
-    → ((h : Option Text) → Way (left_of it h) row) → Type 0
+abbrev pub RowSays : (order : SentValue → List Part) (it : Dialect) (row : List Class)
+    (says_of : Values row → SentValue) → ((h : Option Text) → Way (left_of it h) row) → Type 0
 RowSays order it row says_of way =
     (h : Option Text) → SaysSo (way h) (λ v. order (says_of v)) (λ v. (says_of v).msg)
 
@@ -327,7 +327,8 @@ an_xr_host {left} = meant_one (Row xr.host_row) (λ v. v.0) (xr_host_has left)
 abbrev a_node : {Cs : List Class} → Shows (left_out dialect.CiscoIosXr ++ Cs) node
 a_node = passed (listed (later first))
 
-pub card_has : (Cs : List Class) → Has (left_out dialect.CiscoIosXr ++ Cs) (Row card_row) (λ v. if_there Name (host_in v))
+pub card_has : (Cs : List Class)
+    → Has (left_out dialect.CiscoIosXr ++ Cs) (Row card_row) (λ v. if_there Name (host_in v))
 card_has Cs = row_has (left_out dialect.CiscoIosXr ++ Cs) card_row (search (an_xr_host, a_node, pieces) depth 12)
 
 abbrev pub a_card : {Cs : List Class} → Shows (left_out dialect.CiscoIosXr ++ Cs) card

@@ -142,7 +142,8 @@ number_found h t v f =
     let left = left_of dialect.WatchGuard h in
     let (u, a, b) = rows_split (take 2 serial_row) (drop 2 serial_row) f in
     let (w, c, d) = rows_split serial (drop 7 serial_row) b in
-    row_has left (take 2 serial_row) (search pieces depth 9) t u (firsts (take 2 serial_row) (drop 2 serial_row) v) a _ _
+    let before = firsts (take 2 serial_row) (drop 2 serial_row) v in
+    row_has left (take 2 serial_row) (search pieces depth 9) t u before a _ _
     (out_more (Row serial) c (inr (inl (firsts serial (drop 7 serial_row) v.1.1, c.is)))
     (way_ends (drop 7 serial_row) (search ways depth 9) w (lasts serial (drop 7 serial_row) v.1.1) d))
 

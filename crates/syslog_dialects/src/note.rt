@@ -9,6 +9,7 @@ use syslog_sent::named::past;
 use syslog_text::text::trimmed;
 
 // Whether these words begin the text.
+#[tactic(auto, using(crate::proofs::NoteLemmas::begins_told))]
 fn begins_with(text: &str, words: &str) -> bool
     requires { IsTrue (are_ascii words.now) }
     ensures { IsTrue result ↔ spec.BeginsWith words.now (chars text.now) }
@@ -17,6 +18,7 @@ fn begins_with(text: &str, words: &str) -> bool
 }
 
 // Returns the text before the two dashes that end it.
+#[tactic(auto, using(crate::proofs::NoteLemmas::suffix_told))]
 fn before_dashes(text: &str) -> Option<&str>
     ensures { MatchOption result ((inner : Text) → chars text.now ≢ inner ++ codes " --")
         (λ inner. chars text.now ≡ shown inner ++ codes " --") }

@@ -20,6 +20,7 @@ use syslog_sent::zone::ends_word;
 use syslog_text::text::{first, literal};
 
 // Returns the text after `front`, if that begins it.
+#[tactic(auto, using(crate::proofs::OrdinaryLemmas::prefix_told))]
 fn past<'a>(text: &'a str, front: &str) -> Option<&'a str>
     ensures { Skips (exactly (chars front.now)) tt (chars text.entry.now) result }
 {
@@ -62,6 +63,7 @@ fn past_tag<'a>(text: &'a str, host: &str, app: &str) -> Option<&'a str>
 }
 
 // Whether host and app name begin the text as a tag. It is a call of its own, since most lines are in printed form.
+#[tactic(auto, using(crate::proofs::OrdinaryLemmas::tag_told))]
 #[cold]
 #[inline(never)]
 fn begins_with_tag(text: &str, host: &str, app: &str) -> bool
@@ -210,6 +212,7 @@ fn has_byte(text: &str, place: usize, byte: u8) -> bool
     place < bytes.len() && bytes[place] == byte
 }
 
+#[tactic(auto, using(crate::proofs::OddLemmas::no_level))]
 #[inline(always)]
 fn is_level_mark(host: &str) -> bool
     ensures { result ≡ spec.is_level_mark (chars host.now) }
@@ -231,6 +234,7 @@ fn is_point(app: &str) -> bool
     opens_address(app)
 }
 
+#[tactic(auto, using(crate::proofs::OddLemmas::no_address))]
 #[inline(always)]
 fn is_address(app: &str) -> bool
     ensures { result ≡ opens_address_text (chars app.now) }
@@ -255,6 +259,7 @@ fn opens_mnemonic(host: &str) -> bool
     }
 }
 
+#[tactic(auto, using(crate::proofs::OddLemmas::no_percent))]
 #[inline(always)]
 fn is_mnemonic(host: &str) -> bool
     ensures { result ≡ spec.opens_mnemonic (chars host.now) }

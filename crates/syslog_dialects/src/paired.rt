@@ -5,6 +5,7 @@
 ghost use Rattle.std.specs.Prelude.{◌≡◌, [], MatchBool, chars};
 ghost use Rattle.syslog_text.specs.Pieces.Class.{Row};
 ghost use Rattle.syslog_text.specs.Pieces.View.{Recognises};
+ghost use Rattle.syslog_text.specs.Text.{host as host_class, word as word_class};
 ghost use Rattle.syslog_elements.specs.StructuredData.Visited.{list_text};
 ghost use Rattle.syslog_loose.specs.Line.{KnowsForm, line_value};
 ghost use Rattle.syslog_sent.specs.declared.dialect.Dialect.TheVariants.{CheckPoint};
@@ -13,21 +14,36 @@ ghost use Rattle.syslog_dialects.specs.Paired as spec;
 use syslog_elements::structured_data::paired_list;
 use syslog_loose::Line;
 use syslog_sent::dialect::Dialect;
-use syslog_text::text::{blanks, host, some_blanks, word};
+use syslog_sent::skips::gap;
+use syslog_text::text::{blanks, host, word};
+
+fn past_host(text: &str) -> Option<&str>
+    ensures { Recognises host_class (chars text.now) result }
+{
+    let (_, rest) = host(text)?;
+    Some(rest)
+}
+
+fn past_word(text: &str) -> Option<&str>
+    ensures { Recognises word_class (chars text.now) result }
+{
+    let (_, rest) = word(text)?;
+    Some(rest)
+}
 
 // Returns the text after the names of a header of RFC 5424, from after its timestamp on.
 fn past_names(text: &str) -> Option<&str>
     ensures { Recognises (Row spec.names_row) (chars text.now) result }
 {
-    let at_host = some_blanks(text)?;
-    let (_, after_host) = host(at_host)?;
-    let at_app = some_blanks(after_host)?;
-    let (_, after_app) = word(at_app)?;
-    let at_process = some_blanks(after_app)?;
-    let (_, after_process) = word(at_process)?;
-    let at_id = some_blanks(after_process)?;
-    let (_, after_id) = word(at_id)?;
-    some_blanks(after_id)
+    gap(text)
+        .and_then(past_host)
+        .and_then(gap)
+        .and_then(past_word)
+        .and_then(gap)
+        .and_then(past_word)
+        .and_then(gap)
+        .and_then(past_word)
+        .and_then(gap)
 }
 
 // Whether the text has names and then Check Point's element. It is a call of its own, since few lines come here, and of

@@ -243,6 +243,7 @@ pub(crate) fn numbered(text: &str) -> Option<Named<'_>>
 }
 
 // Returns the text after a bracket or a level.
+#[tactic(auto, using(crate::proofs::ReaderLemmas::either_reads))]
 fn bracket_or_level(text: &str) -> Option<&str>
     ensures { Recognises spec.bracket_or_level (chars text.now) result }
 {

@@ -15,7 +15,7 @@ ghost use Rattle.syslog_sent.specs.Date.{iso_date as iso_date_class};
 ghost use Rattle.syslog_sent.specs.Views.{Names, named_value, program_seen};
 
 use crate::hosts::{AfterHost, process_from, program_from, untagged_from};
-use crate::untagged::topic;
+use crate::untagged::{either, topic};
 use syslog_sent::date::iso_date;
 use syslog_sent::named::{
     Named, Program, is_letter, is_number, is_word, name, past, process_id, read_program, tagged,
@@ -94,13 +94,11 @@ fn aix(text: &str) -> Option<&str>
 }
 
 // Returns the text after a facility and a severity.
+#[tactic(auto, using(crate::proofs::ReaderLemmas::either_reads))]
 fn pair(text: &str) -> Option<&str>
     ensures { Recognises (Row selector_row otherwise Row spec.aix_row) (chars text.now) result }
 {
-    if let Some(rest) = selector(text) {
-        return Some(rest);
-    }
-    aix(text)
+    either(text, selector, aix)
 }
 
 // Returns the text after a severity, or after a facility and a severity.
@@ -164,6 +162,7 @@ fn is_serial(text: &str) -> bool
 }
 
 // Whether the word after the date is a serial number.
+#[tactic(auto, using(crate::proofs::ProgramLemmas::test_told))]
 fn is_serial_word(word: Option<&str>) -> bool
     ensures { MatchBool result (spec.IsSerial (seen word.entry)) (spec.IsSerial (seen word.entry) → ⊥) }
 {

@@ -158,6 +158,7 @@ fn above_words(text: &str) -> Option<&str>
     past(text, "above message repeats ")
 }
 
+#[tactic(auto, using(crate::proofs::ReaderLemmas::either_reads))]
 fn repeats_words(text: &str) -> Option<&str>
     ensures { Recognises spec.repeats (chars text.now) result }
 {
@@ -176,17 +177,19 @@ fn here(text: &str) -> Option<&str>
     past(text, "-- MARK --")
 }
 
+#[tactic(auto, using(crate::proofs::ReaderLemmas::either_reads))]
+fn repeats_or_here(text: &str) -> Option<&str>
+    ensures { Recognises (Row spec.repeats_row otherwise spec.here) (chars text.now) result }
+{
+    either(text, repeats, here)
+}
+
 // Returns the text after what a daemon says of itself.
+#[tactic(auto, using(crate::proofs::ReaderLemmas::either_reads))]
 fn repeated(text: &str) -> Option<&str>
     ensures { Recognises (spec.mark_class Repeated) (chars text.now) result }
 {
-    if let Some(rest) = last_repeated(text) {
-        return Some(rest);
-    }
-    if let Some(rest) = repeats(text) {
-        return Some(rest);
-    }
-    here(text)
+    either(text, last_repeated, repeats_or_here)
 }
 
 fn four_digits(text: &str) -> Option<&str>
@@ -254,6 +257,7 @@ fn slashed(text: &str) -> Option<&str>
 }
 
 // Returns the text after a year, a month and a day with dashes or slashes between them.
+#[tactic(auto, using(crate::proofs::ReaderLemmas::either_reads))]
 fn day(text: &str) -> Option<&str>
     ensures { Recognises spec.day (chars text.now) result }
 {
@@ -266,6 +270,7 @@ fn letter_t(text: &str) -> Option<&str>
     literal(text, 'T')
 }
 
+#[tactic(auto, using(crate::proofs::ReaderLemmas::either_reads))]
 fn day_end(text: &str) -> Option<&str>
     ensures { Recognises spec.day_end (chars text.now) result }
 {
@@ -317,6 +322,7 @@ fn month(text: &str) -> Option<&str>
 }
 
 // Returns the text after a date and the time to the minute.
+#[tactic(auto, using(crate::proofs::ReaderLemmas::either_reads))]
 fn dated(text: &str) -> Option<&str>
     ensures { Recognises (spec.mark_class Dated) (chars text.now) result }
 {
@@ -413,6 +419,7 @@ fn later_topic(text: &str) -> Option<&str>
 }
 
 // The text after such a topic, or after a topic and such a one.
+#[tactic(auto, using(crate::proofs::ReaderLemmas::either_reads))]
 fn either_topic(text: &str) -> Option<&str>
     ensures { Recognises (spec.main_topic otherwise Row spec.later_topic_row) (chars text.now) result }
 {
@@ -448,6 +455,7 @@ fn quote(text: &str) -> Option<&str>
     literal(text, '"')
 }
 
+#[tactic(auto, using(crate::proofs::ReaderLemmas::either_reads))]
 fn angle(text: &str) -> Option<&str>
     ensures { Recognises spec.angle (chars text.now) result }
 {
@@ -455,6 +463,7 @@ fn angle(text: &str) -> Option<&str>
 }
 
 // The text after such a bracket, after `<`, or after a quote.
+#[tactic(auto, using(crate::proofs::ReaderLemmas::either_reads))]
 fn open_bracket(text: &str) -> Option<&str>
     ensures { Recognises (spec.mark_class Bracket) (chars text.now) result }
 {

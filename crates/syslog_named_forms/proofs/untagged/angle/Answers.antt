@@ -1,5 +1,0 @@
-use Rattle.syslog_named_forms.proofs.ReaderLemmas.{either_reads}
-use Rattle.syslog_named_forms.proofs.untagged.angle.Goals as goal
-
-pub returns : goal.returns
-returns c = either_reads _ _ _ _ c.either.ensures
