@@ -10,8 +10,9 @@ use Rattle.std.proofs.lemmas.Simd.{mask_l-lt, mask_l-mod, map-map, length-replic
 use Rattle.std.proofs.lemmas.Nat.Bits.{bit_at-trailing_zeros, bit_at_clear_same, bit_at_clear_other, bit_at_above}
 use Rattle.std.proofs.lemmas.Nat.Bits.{bit_at-zero}
 use Rattle.std.proofs.lemmas.List.{get_or-map, length-map, take-append-drop, length-take, length-drop, length-append}
-use Rattle.std.proofs.lemmas.List.{take-take, drop-drop, length-take-le, take_all, take-append-le, drop_all}
+use Rattle.std.proofs.lemmas.List.{take-take, drop-drop, length-take-le, take-append-le, drop_all}
 use Rattle.std.proofs.lemmas.List.{drop-replicate}
+use Rattle.std.proofs.lemmas.Slice.{drop-append-drop}
 use Rattle.std.proofs.lemmas.Nat.{and_le_l}
 use Rattle.std.proofs.lemmas.Bool.{cases_lt, ne_eqb, cases_Bool}
 use Rattle.std.specs.Int.{trailing_zeros, bit_not}
@@ -22,10 +23,10 @@ use Rattle.json.specs.Run.{is_stop}
 use Rattle.syslog_text.proofs.TextLemmas.Runs.{IsLanes}
 use Rattle.syslog_object.specs.Blocks.{AreStops, in_json}
 use Rattle.syslog_object.proofs.EscapeLemmas.{Plain, plain_escape, plain_front, plain_unescaped, escape-append}
-use Rattle.std.proofs.Math.Seq.{take-append-add, take-append_seam, take-add, drop-cons, drop-append-add}
+use Rattle.std.proofs.Math.Seq.{take-append-add, take-append_seam, take-add, drop-cons}
 use Rattle.syslog_object.specs.Object.{after_backslash}
 use Rattle.syslog_elements.specs.StructuredData.Escapes.{pair_meaning}
-use Rattle.std.proofs.Common.{add-one, eqb-true, get_or-take, get_or-drop, nat_eq}
+use Rattle.std.proofs.Common.{add-one, get_or-take, get_or-drop, nat_eq}
 use Rattle.json.specs.Print.{escape_byte}
 
 -- `n` bytes of a text were stored
@@ -88,11 +89,12 @@ stops_found {n = n} {d = d} {i = i} {r = r} {z = z} {f = f} wide room found by_l
     }
 
 -- the first byte that needs an escape, of those that are not passed
-pub record IsStopAt (n : ℕ) (text : List ℕ) (first passed at : ℕ) : Type 0 where
+pub record IsStopAt (n : ℕ) (text : List ℕ) (first passed left at : ℕ) : Type 0 where
   pub after : passed ≤ at
   pub within : at < n
   pub here : is_stop (get_or text (first + at) 0) ≡ true
   pub plain : (i : ℕ) → passed ≤ i → i < at → is_stop (get_or text (first + i) 0) ≡ false
+  pub below : (i : ℕ) → i < at → bit_at left i ≡ 0
 
 bit_on : (b : Bool) → ◌≡◌ {A = ℕ} (cond b 1 0) 1 → b ≡ true
 bit_on b e = grind arith
@@ -105,7 +107,7 @@ pub no_stop : {n : ℕ} {text : List ℕ} {first passed left : ℕ} → AreStops
 no_stop {left = left} stops none i low high = bit_off _ (sym (stops.each i low high) ∙ rw none (bit_at-zero i))
 
 pub first_stop : {n : ℕ} {text : List ℕ} {first passed left : ℕ} → n ≤ 64 → AreStops n text first passed left
-    → 0 < left → IsStopAt n text first passed (trailing_zeros w64 left)
+    → 0 < left → IsStopAt n text first passed left (trailing_zeros w64 left)
 first_stop {n = n} {text = text} {first = first} {passed = passed} {left = left} wide stops some =
     let few : left < 2 ^ n = stops.few in
     let (fits, on, below) = bit_at-trailing_zeros w64 left some (omega (arith, few, pow_mono wide)) in
@@ -122,19 +124,11 @@ first_stop {n = n} {text = text} {first = first} {passed = passed} {left = left}
       within = within;
       here = bit_on _ (sym (stops.each at after within) ∙ on);
       plain = λ i low high. bit_off _ (sym (stops.each i low (omega arith)) ∙ below i high);
+      below = below;
     }
 
-bit_below : {n : ℕ} {text : List ℕ} {first passed left : ℕ} (at : ℕ) → AreStops n text first passed left
-    → IsStopAt n text first passed at → (i : ℕ) → i < at → bit_at left i ≡ 0
-bit_below {n = n} {passed = passed} at stops stop i less = elim (cases_lt i passed) [
-  | inl low ↦ stops.before i low
-  | inr high ↦ let none = stop.plain i high less in
-      let within : i < n = omega (arith, stop.within, less) in
-      stops.each i high within ∙ rw none refl
-]
-
 -- the bit of a byte is cleared, where none before it is set
-pub cleared : {n : ℕ} {text : List ℕ} {first passed left : ℕ} (at : ℕ) → n ≤ 64 → AreStops n text first passed left
+cleared : {n : ℕ} {text : List ℕ} {first passed left : ℕ} (at : ℕ) → n ≤ 64 → AreStops n text first passed left
     → passed ≤ at → at < n → ((i : ℕ) → i < at → bit_at left i ≡ 0)
     → AreStops n text first (at + 1) (bit_and left (bit_not w64 (1 * 2 ^ at % 2 ^ 64)))
 cleared {left = left} at lanes stops after within below =
@@ -147,11 +141,6 @@ cleared {left = left} at lanes stops after within below =
       each = λ i low high. bit_at_clear_other w64 left at wide i (omega arith) (λ same. omega (arith, same))
           ∙ stops.each i (omega arith) high;
     }
-
-pub stop_cleared : {n : ℕ} {text : List ℕ} {first passed left : ℕ} (at : ℕ) → n ≤ 64
-    → AreStops n text first passed left → IsStopAt n text first passed at
-    → AreStops n text first (at + 1) (bit_and left (bit_not w64 (1 * 2 ^ at % 2 ^ 64)))
-stop_cleared at lanes stops stop = cleared at lanes stops stop.after stop.within (bit_below at stops stop)
 
 -- ---- a block, a byte that needs an escape after the other
 
@@ -240,7 +229,7 @@ stay_plain {n = n} {raw = raw} {base = base} {text = text} {at = at} {first = fi
     subst (λ (k : ℕ). InBlock n raw base text at first room end k) there (stay m b (omega arith) more kept)
 
 -- what is written before the next byte
-pub before_next : {n : ℕ} {raw : Bool} {base text : List ℕ} {at first : ℕ} {room : List ℕ} {end passed : ℕ}
+before_next : {n : ℕ} {raw : Bool} {base text : List ℕ} {at first : ℕ} {room : List ℕ} {end passed : ℕ}
     (b : InBlock n raw base text at first room end passed) → take (end + passed - n) room ≡ b.done
 before_next {n = n} {room = room} {end = end} {passed = passed} b =
     let place : end + passed - n ≡ length b.done = omega (arith, b.placed, b.few) in
@@ -435,7 +424,7 @@ are_left {n = n} {raw = raw} {base = base} {text = text} {at = begin} {first = f
     next some =
         let stop = first_stop lanes stops some in
         let at = trailing_zeros w64 left in
-        let rest = stop_cleared at lanes stops stop in
+        let rest = cleared at lanes stops stop.after stop.within stop.below in
         let on : bit_at left at ≡ 1 = (stops.each at stop.after stop.within) ∙ rw (stop.here) refl in
         let below : at < at + 1 = omega arith in
         let less = and_le_l left (bit_not w64 (1 * 2 ^ at % 2 ^ 64)) in
@@ -447,33 +436,12 @@ are_left {n = n} {raw = raw} {base = base} {text = text} {at = begin} {first = f
           falls = omega (arith, less, differs);
         }
 
--- a pair goes past its end
-pub pair_ends : {n : ℕ} {raw : Bool} {base text : List ℕ} {at first : ℕ} {room : List ℕ} {end : ℕ} (stop : ℕ) (now :
-    List ℕ)
-    → (b : InBlock n raw base text at first room end stop) → stop + 1 ≡ n
-    → first + 2 * n ≤ length text
-    → in_json raw (drop (first + stop) text)
-    ≡ take 2 (drop (first + stop) text) ++ in_json raw (drop (first + stop + 2) text)
-    → take (end + 1) now ≡ take end room ++ get_or text (first + stop + 1) 0 ∷ []
-    → take (end + 1) now ++ in_json raw (drop (first + n + 1) text) ≡ base ++ in_json raw (drop first text)
-pair_ends {n = n} {raw = raw} {text = text} {first = first} {room = room} {end = end} stop now b last more kept
-    written =
-    let rest = drop (first + stop) text in
-    let one = next_byte text (first + stop) (omega arith) in
-    let two = next_byte text (first + stop + 1) (omega arith) in
-    let x = get_or text (first + stop) 0 in
-    let y = get_or text (first + stop + 1) 0 in
-    let left : n - stop ≡ 1 = omega arith in
-    let end_of : first + stop + 2 ≡ first + n + 1 = omega arith in
-    let both : take 2 rest ≡ x ∷ y ∷ [] = ap (take 2) (one ∙ ap (λ xs. x ∷ xs) two) in
-    let held : take end room ≡ b.done ++ x ∷ [] =
-    b.copied ∙ ap (λ (k : ℕ). b.done ++ take k rest) left ∙ ap (λ xs. b.done ++ take 1 xs) one in
-    let all : take (end + 1) now ≡ b.done ++ x ∷ y ∷ [] =
-    written ∙ ap (λ xs. xs ++ y ∷ []) held ∙ append_assoc b.done (x ∷ []) (y ∷ []) in
-    ap (λ xs. xs ++ in_json raw (drop (first + n + 1) text)) all ∙ append_assoc b.done (x ∷ y ∷ []) _
-    ∙ ap (λ xs. b.done ++ (xs ++ in_json raw (drop (first + n + 1) text))) (sym both)
-    ∙ ap (λ (k : ℕ). b.done ++ (take 2 rest ++ in_json raw (drop k text))) (sym end_of)
-    ∙ ap (λ xs. b.done ++ xs) (sym kept) ∙ b.same
+-- a pair goes past its end, and is left to the next block
+pub pair_ends : {n : ℕ} {raw : Bool} {base text : List ℕ} {at first : ℕ} {room : List ℕ} {end stop : ℕ}
+    → InBlock n raw base text at first room end stop
+    → take (end + stop - n) room ++ in_json raw (drop (first + stop) text) ≡ base ++ in_json raw (drop first text)
+pair_ends {raw = raw} {text = text} {first = first} {stop = stop} b =
+    ap (λ xs. xs ++ in_json raw (drop (first + stop) text)) (before_next b) ∙ b.same
 
 -- and a pair within it is passed
 pub pair_passed : {n : ℕ} {raw : Bool} {base text : List ℕ} {at first : ℕ} {room : List ℕ} {end left stop : ℕ}
@@ -503,20 +471,22 @@ pair_stays {raw = raw} {text = text} {first = first} {stop = stop} a other more 
     stay 2 a.block (omega (arith, other, a.within)) (omega arith)
     (kept ∙ ap (λ (k : ℕ). take 2 (drop (first + stop) text) ++ in_json raw (drop k text)) there)
 
--- a backslash was written, and `n` bytes from the byte on
+-- a backslash was written, and then `n` bytes from the byte on
 pub backslash_written : {n : ℕ} {raw : Bool} {base text : List ℕ} {at first : ℕ} {room : List ℕ} {end left stop : ℕ}
-    (now : List ℕ) (k : ℕ) → AtStop n raw base text at first room end left stop → k + 1 ≡ n
-    → first + 2 * n ≤ length text
-    → take (end + stop - n + 1 + n) now ≡ take (end + stop - n) room ++ (92 ∷ take n (drop (first + stop) text))
+    (mid now : List ℕ) (k : ℕ) → AtStop n raw base text at first room end left stop → k + 1 ≡ n
+    → first + 2 * n ≤ length text → take (end + stop - n + 1) mid ≡ take (end + stop - n) room ++ 92 ∷ []
+    → take (end + stop - n + 1 + n) now ≡ take (end + stop - n + 1) mid ++ take n (drop (first + stop) text)
     → in_json raw (drop (first + stop) text)
     ≡ 92 ∷ get_or text (first + stop) 0 ∷ in_json raw (drop (first + stop + 1) text)
     → InBlock n raw base text at first now (end + 1) (stop + 1)
-backslash_written {n = n} {text = text} {first = first} {room = room} {end = end} {stop = stop} now k a is_n more
-    written is =
+backslash_written {n = n} {text = text} {first = first} {room = room} {end = end} {stop = stop} mid now k a
+    is_n more first_written written is =
     let here = next_byte text (first + stop) (omega (arith, a.within)) in
     let next = get_or text (first + stop) 0 ∷ drop (first + stop + 1) text in
     byte_written (92 ∷ get_or text (first + stop) 0 ∷ []) now (end + stop - n + 1 + n) k (end + 1) a.block a.within
-    (written ∙ ap (λ xs. take (end + stop - n) room ++ (92 ∷ take n xs)) here
+    (written ∙ ap (λ xs. xs ++ take n (drop (first + stop) text)) first_written
+    ∙ append_assoc (take (end + stop - n) room) (92 ∷ []) _
+    ∙ ap (λ xs. take (end + stop - n) room ++ (92 ∷ take n xs)) here
     ∙ ap (λ (m : ℕ). take (end + stop - n) room ++ (92 ∷ take m next)) (sym is_n ∙ add-one k))
     (omega arith) (omega arith) (omega arith) (omega arith) is
 
@@ -563,40 +533,36 @@ pub brackets_off : (raw : Bool) (text out base padded : List ℕ) (at next : ℕ
     → (next - length text ≤ at) × (take (at - (next - length text)) out ≡ base ++ in_json raw text)
 brackets_off raw text out base padded at next copied few after most within held =
     let n = length text in
-    let is : padded ≡ text ++ replicate (96 - n) 93 = copied ∙ ap (λ xs. text ++ xs) (drop-replicate n 96 93) in
     let more = 95 - n in
     let count : 96 - n ≡ suc more = omega arith in
-    let whole : in_json raw padded ≡ in_json raw text ++ replicate (96 - n) 93 =
-    ap (in_json raw) (is ∙ ap (λ (k : ℕ). text ++ replicate k 93) count) ∙ in_json_brackets raw text more
-    ∙ ap (λ (k : ℕ). in_json raw text ++ replicate k 93) (sym count) in
-    let place : next ≡ n + (next - n) = omega arith in
-    let fewer : 96 - n - (next - n) ≡ 96 - next = omega arith in
+    let is : padded ≡ text ++ replicate (suc more) 93 =
+    copied ∙ ap (λ xs. text ++ xs) (drop-replicate n 96 93) ∙ ap (λ (k : ℕ). text ++ replicate k 93) count in
     let left : in_json raw (drop next padded) ≡ replicate (96 - next) 93 =
-    ap (λ xs. in_json raw (drop next xs)) is
-    ∙ ap (λ (k : ℕ). in_json raw (drop k (text ++ replicate (96 - n) 93))) place
-    ∙ ap (in_json raw) (drop-append-add text (replicate (96 - n) 93) (next - n) ∙ drop-replicate (next - n) (96 - n) 93
-    ∙ ap (λ (k : ℕ). replicate k 93) fewer) ∙ only_brackets raw (96 - next) in
+    ap (λ xs. in_json raw (drop next xs)) copied
+    ∙ ap (in_json raw) (drop-append-drop n (replicate 96 93) text next after refl ∙ drop-replicate next 96 93)
+    ∙ only_brackets raw (96 - next) in
     let wanted = base ++ in_json raw text in
-    let both : take at out ++ replicate (96 - next) 93 ≡ wanted ++ replicate (96 - n) 93 =
-    ap (λ xs. take at out ++ xs) (sym left) ∙ held ∙ ap (λ xs. base ++ xs) whole
-    ∙ sym (append_assoc base (in_json raw text) (replicate (96 - n) 93)) in
+    let both : take at out ++ replicate (96 - next) 93 ≡ wanted ++ replicate (suc more) 93 =
+    ap (λ xs. take at out ++ xs) (sym left) ∙ held
+    ∙ ap (λ xs. base ++ xs) (ap (in_json raw) is ∙ in_json_brackets raw text more)
+    ∙ sym (append_assoc base (in_json raw text) _) in
     let front : length (take at out) ≡ at = length-take-le at out within in
-    let long : at + (96 - next) ≡ length wanted + (96 - n) =
+    let long : at + (96 - next) ≡ length wanted + suc more =
     omega (
       arith,
       front,
       ap length both,
       length-append (take at out) (replicate (96 - next) 93),
-      length-append wanted (replicate (96 - n) 93),
+      length-append wanted (replicate (suc more) 93),
       length-replicate {A = ℕ} (96 - next) 93,
-      length-replicate {A = ℕ} (96 - n) 93,
+      length-replicate {A = ℕ} (suc more) 93,
     ) in
     let size : at - (next - n) ≡ length wanted = omega arith in
     let shorter : length wanted ≤ length (take at out) = omega arith in (
       omega arith,
       ap (λ (k : ℕ). take k out) size ∙ sym (take-take (length wanted) at out (omega arith))
           ∙ sym (take-append-le (length wanted) (take at out) (replicate (96 - next) 93) shorter)
-          ∙ ap (take (length wanted)) both ∙ take-append_seam wanted (replicate (96 - n) 93),
+          ∙ ap (take (length wanted)) both ∙ take-append_seam wanted (replicate (suc more) 93),
     )
 
 -- ---- a text, whose first bytes need no escape

@@ -1,10 +1,10 @@
 -- The object of elements alone.
 use Rattle.syslog_object.proofs
 use Rattle.syslog_object.specs
-use proofs.Names.{◌≡◌, ℕ, [], ◌∷◌, ◌++◌, Bool, List, OnTrue, ElementValue, true, false, ap, refl, ◌∙◌, arith}
-use proofs.Names.{◌<◌, compact_text, cond, length, element_pair, gathered, map, subst, sym}
+use proofs.Names.{◌≡◌, ℕ, [], ◌∷◌, ◌++◌, List, ElementValue, ap, refl, ◌∙◌, arith}
+use proofs.Names.{◌<◌, compact_text, length, element_pair, gathered, map, subst, sym}
 use Rattle.std.proofs.Common.{◌≢◌}
-use specs.{Elements.IsStructuredText, Elements.elements_text, Writer.AreWritten, Writer.HasWritten, Written.IsTextOf}
+use specs.{Elements.IsStructuredText, Elements.elements_text, Writer.AreWritten, Written.IsTextOf}
 use specs.declared.writer.ObjectWriter.{ObjectWriter}
 use proofs.{GatherLemmas.distinct_gathered, GatherLemmas.open_closed}
 use proofs.{WrittenLemmas.flat_structured, WrittenLemmas.text_of_small}

@@ -1,62 +1,35 @@
 -- The fields of an object, and the object of the elements that a writer was given.
 use Rattle.syslog_object.proofs
 use Rattle.syslog_object.specs
-use proofs.Names.{encode_utf8_all, structured_json, facility_fields, protocol_fields, severity_fields, timestamp_json}
-use proofs.Names.{append_assoc, ElementValue, MessageValue, element_pair, message_json, version_json, element_json, ◌≡◌}
+use proofs.Names.{encode_utf8_all, structured_json}
+use proofs.Names.{append_assoc, ElementValue, MessageValue, element_pair, message_json, element_json, ◌≡◌}
 use proofs.Names.{procid_text, back_fields, compact_text, AreDistinct, option_map, map-append, param_pair, object_text}
-use proofs.Names.{field_text, front_text, text_field, bytes_eq, Protocol, gathered, text_json, rest_text, IsNewKey, ◌∷◌}
-use proofs.Names.{Option, List, length, Result, OnTrue, quoted, ◌++◌, Some, None, codes, false, arith, string, Field, ℕ}
-use proofs.Names.{refl, Bool, true, cond, take, drop, OnOk, [], sym, ap, ◌∙◌, map, ◌+◌, ◌<◌, Ok, Err, Bor, Text, Json, ◌==◌}
-use Rattle.std.proofs.Common.{◌≢◌, if◌then◌else◌, slice_set}
+use proofs.Names.{field_text, front_text, text_field, bytes_eq, text_json, rest_text, IsNewKey, ◌∷◌}
+use proofs.Names.{Option, List, length, Result, quoted, ◌++◌, Some, None, codes, false, arith, Field, ℕ}
+use proofs.Names.{refl, cond, take, drop, OnOk, [], sym, ap, ◌∙◌, map, ◌+◌, ◌<◌, Ok, Err, Bor, Text, ◌==◌}
+use Rattle.std.proofs.Common.{get_or, if◌then◌else◌, slice_set}
 use Rattle.std.specs.Result.{is_ok}
 use Rattle.std.{proofs.Math.Seq.drop-append_seam, proofs.lemmas.List.take_more_set, specs.Result.is_err}
 use Rattle.std.proofs.{lemmas.Bool.ne_eqb, lemmas.List.length-map, Math.Seq.take-append_seam}
 use Rattle.syslog_pieces.specs.declared.procid.ProcId.{ProcId}
 use Rattle.json.specs.Print.{escape_byte}
-use specs.{Elements.elements_text, Object.Beside, Object.object_of, Object.protocol_text, Parts.open_text, Places.before_member}
-use specs.{Writer.AreWritten, Writer.HasWritten, Writer.element_keys, declared.writer.ObjectWriter.ObjectWriter}
-use proofs.GatherLemmas.{Param, differs_back, distinct_gathered, open_closed, open_more, pairs_of, param_json}
+use specs.{Elements.elements_text, Object.Beside, Object.fields_of, Object.protocol_text, Parts.open_text}
+use specs.Places.{before_member}
+use specs.{Writer.element_keys}
+use proofs.GatherLemmas.{Param, differs_back, distinct_gathered, open_more, pairs_of, param_json}
 use proofs.GatherLemmas.{param_key, param_seen, seen_text}
 
 -- ---- the fields of an object, one after the other
 
--- a field comes before the rest
-rest_more : (key : List ℕ) (value : Option Json) (fields : List Field)
-    → rest_text ((key, value) ∷ fields) ≡ field_text key value ++ rest_text fields
-rest_more key None fields = refl
-rest_more key (Some value) fields = simp append_assoc
+-- each field, and the brace
+abbrev fields_text : List Field → List ℕ
+fields_text [] = 125 ∷ []
+fields_text ((key, value) ∷ fields) = field_text key value ++ fields_text fields
 
--- a field was written
-pub field_written : (out now all : List ℕ) (key : List ℕ) (value : Option Json) (fields : List Field)
-    → now ≡ out ++ field_text key value → out ++ rest_text ((key, value) ∷ fields) ≡ all → now ++ rest_text fields ≡ all
-field_written out now all key value fields e before =
-    rw (e, ← before, rest_more key value fields) (simp append_assoc)
-
--- two fields were
-pub fields_written : (out now all : List ℕ) (key : List ℕ) (value : Option Json) (other : List ℕ) (more : Option Json)
-    (fields : List Field) → now ≡ out ++ (field_text key value ++ field_text other more)
-    → out ++ rest_text ((key, value) ∷ (other, more) ∷ fields) ≡ all → now ++ rest_text fields ≡ all
-fields_written out now all key value other more fields e before =
-    field_written (out ++ field_text key value) now all other more fields
-    (e ∙ sym (append_assoc out (field_text key value) (field_text other more)))
-    (field_written out (out ++ field_text key value) all key value ((other, more) ∷ fields) refl before)
-
-pub closed : (out now all : List ℕ) → now ≡ out ++ 125 ∷ [] → out ++ rest_text [] ≡ all → now ≡ all
-closed out now all e before = e ∙ before
-
-pub opened : (old now : List ℕ) (protocol : Protocol) (fields : List Field) → now ≡ old ++ protocol_fields protocol
-    → now ++ rest_text fields ≡ old ++ compact_text (object_of
-    ((codes "protocol", Some (string (protocol_text protocol)))
-    ∷ (codes "version", version_json protocol) ∷ fields))
-opened old now protocol fields e =
-    let version = field_text (codes "version") (version_json protocol) in
-    ap (λ xs. xs ++ rest_text fields) e ∙ append_assoc old (protocol_fields protocol) (rest_text fields)
-    ∙ ap (λ xs. old ++ (123 ∷ xs)) (append_assoc (quoted (codes "protocol"))
-    (58 ∷ (quoted (protocol_text protocol) ++ version)) (rest_text fields)
-    ∙ ap (λ xs. quoted (codes "protocol") ++ 58 ∷ xs) (append_assoc (quoted (protocol_text protocol)) version
-    (rest_text fields)
-    ∙ ap (λ xs. quoted (protocol_text protocol) ++ xs)
-    (sym (rest_more (codes "version") (version_json protocol) fields))))
+each_field : (fields : List Field) → rest_text fields ≡ fields_text fields
+each_field [] = refl
+each_field ((key, None) ∷ fields) = each_field fields
+each_field ((key, Some value) ∷ fields) = simp append_assoc (rw (each_field fields) refl)
 
 -- a field with the bytes before its text
 pub named : (key prefix : List ℕ) (text : Option Text) → prefix ≡ 44 ∷ (quoted key ++ 58 ∷ 34 ∷ [])
@@ -64,34 +37,45 @@ pub named : (key prefix : List ℕ) (text : Option Text) → prefix ≡ 44 ∷ (
 named key prefix None is = refl
 named key prefix (Some text) is = rw is (simp append_assoc)
 
--- a field was written with the bytes before its text
-pub name_written : (out now all key prefix : List ℕ) (text : Option Text) (fields : List Field)
-    → prefix ≡ 44 ∷ (quoted key ++ 58 ∷ 34 ∷ []) → now ≡ out ++ text_field prefix text
-    → out ++ rest_text ((key, option_map text_json text) ∷ fields) ≡ all → now ++ rest_text fields ≡ all
-name_written out now all key prefix text fields is e before =
-    field_written out now all key (option_map text_json text) fields
-    (e ∙ ap (λ xs. out ++ xs) (named key prefix text is)) before
-
 process_field : (process : Option (ProcId Text))
     → option_map text_json (option_map procid_text process) ≡ option_map (λ p. text_json (procid_text p)) process
 process_field None = refl
 process_field (Some p) = refl
 
--- the process id was
-pub process_written : (out now all key prefix : List ℕ) (process : Option (ProcId Text)) (fields : List Field)
-    → prefix ≡ 44 ∷ (quoted key ++ 58 ∷ 34 ∷ []) → now ≡ out ++ text_field prefix (option_map procid_text process)
-    → out ++ rest_text ((key, option_map (λ p. text_json (procid_text p)) process) ∷ fields) ≡ all
-    → now ++ rest_text fields ≡ all
-process_written out now all key prefix process fields is e before =
-    name_written out now all key prefix (option_map procid_text process) fields is e
-    (ap (λ (v : Option Json). out ++ rest_text ((key, v) ∷ fields)) (process_field process) ∙ before)
-
 pub two_appended : (old a b x y z : List ℕ) → a ≡ old ++ x → b ≡ a ++ y → x ++ y ≡ z → b ≡ old ++ z
 two_appended old a b x y z first second both = rw (second, first, ← both) (simp append_assoc)
 
--- one more piece was written
-pub more : (old a b x y : List ℕ) → a ≡ old ++ x → b ≡ a ++ y → b ≡ old ++ (x ++ y)
-more old a b x y first second = two_appended old a b x y (x ++ y) first second refl
+-- nine pieces were written
+pub nine_appended : (o a b c d e f g h i p q r s t u v w x : List ℕ) → a ≡ o ++ p → b ≡ a ++ q → c ≡ b ++ r → d ≡ c ++ s
+    → e ≡ d ++ t → f ≡ e ++ u → g ≡ f ++ v → h ≡ g ++ w → i ≡ h ++ x
+    → i ≡ o ++ ((((((((p ++ q) ++ r) ++ s) ++ t) ++ u) ++ v) ++ w) ++ x)
+nine_appended o a b c d e f g h i p q r s t u v w x e0 e1 e2 e3 e4 e5 e6 e7 e8 =
+    rw (e8, e7, e6, e5, e4, e3, e2, e1, e0) (simp append_assoc)
+
+-- the fields after the elements, and the brace
+back_text : (m : MessageValue) (unparsed raw : Option Text) → rest_text (back_fields m unparsed raw)
+    ≡ text_field (codes ",\"unparsed_structured_data\":\"") unparsed
+    ++ (text_field (codes ",\"message\":\"") (Some m.msg) ++ (text_field (codes ",\"raw\":\"") raw ++ 125 ∷ []))
+unfolding escape_byte
+back_text m unparsed raw =
+    rw (
+      named (codes "unparsed_structured_data") (codes ",\"unparsed_structured_data\":\"") unparsed refl,
+      named (codes "raw") (codes ",\"raw\":\"") raw refl,
+      each_field (back_fields m unparsed raw),
+    ) refl
+
+-- were written
+pub back_written : (m : MessageValue) (unparsed raw : Option Text) (old a b c now : List ℕ)
+    → a ≡ old ++ text_field (codes ",\"unparsed_structured_data\":\"") unparsed
+    → b ≡ a ++ text_field (codes ",\"message\":\"") (Some m.msg) → c ≡ b ++ text_field (codes ",\"raw\":\"") raw
+    → now ≡ c ++ 125 ∷ [] → now ≡ old ++ rest_text (back_fields m unparsed raw)
+back_written m unparsed raw old a b c now e0 e1 e2 e3 =
+    rw (e3, e2, e1, e0, back_text m unparsed raw) (simp append_assoc)
+
+regroup : (k q v d f g s t ts h a pr mi sd back : List ℕ)
+    → ((((((((((k ++ (q ++ v)) ++ d) ++ (f ++ g)) ++ (s ++ t)) ++ ts) ++ h) ++ a) ++ pr) ++ mi) ++ sd) ++ back
+    ≡ k ++ (q ++ (v ++ (d ++ (f ++ (g ++ (s ++ (t ++ (ts ++ (h ++ (a ++ (pr ++ (mi ++ (sd ++ back)))))))))))))
+regroup k q v d f g s t ts h a pr mi sd back = simp append_assoc
 
 -- the fields before the elements, those of the elements and those after them are the whole
 pub message_whole : (m : MessageValue) (b : Beside)
@@ -99,26 +83,19 @@ pub message_whole : (m : MessageValue) (b : Beside)
     ++ rest_text (back_fields m b.unparsed b.raw) ≡ compact_text (message_json m b)
 unfolding escape_byte
 message_whole m b =
-    let p0 = protocol_fields m.protocol in
-    let p1 = p0 ++ text_field (codes ",\"dialect\":\"") b.dialect in
-    let p2 = p1 ++ facility_fields m.facility in
-    let p3 = p2 ++ severity_fields m.severity in
-    let p4 = p3 ++ field_text (codes "timestamp") (option_map timestamp_json m.timestamp) in
-    let p5 = p4 ++ text_field (codes ",\"hostname\":\"") m.hostname in
-    let p6 = p5 ++ text_field (codes ",\"appname\":\"") m.appname in
-    let p7 = p6 ++ text_field (codes ",\"procid\":\"") (option_map procid_text m.procid) in
-    let p8 = p7 ++ text_field (codes ",\"msgid\":\"") m.msgid in
-    field_written p8 _ _ (codes "structured_data") (structured_json m.structured_data)
-    (back_fields m b.unparsed b.raw) refl
-    (name_written p7 p8 _ (codes "msgid") _ m.msgid _ refl refl
-    (process_written p6 p7 _ (codes "procid") _ m.procid _ refl refl
-    (name_written p5 p6 _ (codes "appname") _ m.appname _ refl refl
-    (name_written p4 p5 _ (codes "hostname") _ m.hostname _ refl refl
-    (field_written p3 p4 _ (codes "timestamp") (option_map timestamp_json m.timestamp) _ refl
-    (fields_written p2 p3 _ (codes "severity") _ (codes "severity_code") _ _ refl
-    (fields_written p1 p2 _ (codes "facility") _ (codes "facility_code") _ _ refl
-    (name_written p0 p1 _ (codes "dialect") _ b.dialect _ refl refl
-    (opened [] p0 m.protocol _ refl)))))))))
+    let field = λ (i : ℕ). get_or (fields_of m b) i ([], None) in
+    let t = λ (i : ℕ). field_text (field i).0 (field i).1 in
+    rw (
+      named (codes "dialect") (codes ",\"dialect\":\"") b.dialect refl,
+      named (codes "hostname") (codes ",\"hostname\":\"") m.hostname refl,
+      named (codes "appname") (codes ",\"appname\":\"") m.appname refl,
+      named (codes "procid") (codes ",\"procid\":\"") (option_map procid_text m.procid) refl,
+      named (codes "msgid") (codes ",\"msgid\":\"") m.msgid refl,
+      process_field m.procid,
+      each_field (drop 1 (fields_of m b)),
+      each_field (back_fields m b.unparsed b.raw),
+    ) (regroup (codes "{\"protocol\":") (quoted (protocol_text m.protocol)) (t 1) (t 2) (t 3) (t 4) (t 5) (t 6) (t 7)
+    (t 8) (t 9) (t 10) (t 11) (t 12) (fields_text (back_fields m b.unparsed b.raw)))
 
 -- ---- one element more
 

@@ -168,22 +168,10 @@ fn put_control<const N: usize>(
     length
 }
 
-// Writes a backslash at the place, and after it `N` bytes of the text.
-#[inline(always)]
-fn put_backslash<const N: usize>(room: &mut [u8], at: usize, text: &[u8], next: usize)
-    requires room { at + 1 + N ≤ length room.old }
-    requires more { next + N ≤ length text.now }
-    ensures { take (at + 1 + N) room.new ≡ take at room.old ++ (92 ∷ take N (drop next text.now)) }
-{
-    put(room, at, b"\\");
-    put_lanes::<N>(room, at + 1, text, next);
-}
-
-/// Writes the next `N` bytes of the text, or one more if a pair goes past their end. Returns the place after what was
+/// Writes the next `N` bytes of the text, or one less if a pair goes past their end. Returns the place after what was
 /// written, and the place after what was read.
 ///
-/// It needs space for six bytes for each of the `N`, for one more if a pair ends after them, and for `N` that are
-/// copied again.
+/// It needs space for six bytes for each of the `N`, and for `N` that are copied again.
 #[inline(always)]
 pub(crate) fn put_block<const N: usize>(
     room: &mut [u8],
@@ -197,8 +185,8 @@ pub(crate) fn put_block<const N: usize>(
     requires more { first + 2 * N ≤ length text.now }
     ensures text { take result.0 room.new ++ in_json is_raw (drop result.1 text.now)
         ≡ take at room.old ++ in_json is_raw (drop first text.now) }
-    ensures end { result.0 ≤ at + 6 * N + 1 }
-    ensures next { (first < result.1) × (result.1 ≤ first + N + 1) }
+    ensures end { result.0 ≤ at + 6 * N }
+    ensures next { (first < result.1) × (result.1 ≤ first + N) }
 {
     put_lanes::<N>(room, at, text, first);
     let mut end = at + N;
@@ -218,13 +206,13 @@ pub(crate) fn put_block<const N: usize>(
             }
             Escape::Pair => {
                 if stop == N - 1 {
-                    room[end] = text[from + 1];
-                    return (end + 1, first + N + 1);
+                    return (place, from);
                 }
                 left &= !(1 << (stop + 1) as u32);
             }
             Escape::Backslash => {
-                put_backslash::<N>(room, place, text, from);
+                put(room, place, b"\\");
+                put_lanes::<N>(room, place + 1, text, from);
                 end += 1;
             }
         }

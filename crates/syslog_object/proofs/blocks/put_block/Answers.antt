@@ -1,5 +1,4 @@
 use Rattle.syslog_object.proofs.Names.{◌-◌, [], arith}
-use Rattle.std.proofs.lemmas.List.{take_more_set}
 use Rattle.syslog_object.proofs.BlockLemmas.{are_left, backslash_written, block_begins, byte_written, pair_ends}
 use Rattle.syslog_object.proofs.BlockLemmas.{pair_passed, pair_stays}
 use Rattle.syslog_object.proofs.blocks.put_block.Goals as goal
@@ -31,10 +30,7 @@ stops-preserved-in-Nothing g c =
     c.in-Nothing.ensures) c.requires.more
 
 pub returns-then-stop-clause-text : goal.returns-then-stop-clause-text
-returns-then-stop-clause-text g c =
-    let a = c.stops.invariant.next (omega arith) in
-    pair_ends _ _ a.block (omega (arith, c.if-stop.true)) c.requires.more c.in-Pair.ensures
-    (take_more_set c.stops.room c.stops.end _ (omega (arith, a.block.bound, a.within)))
+returns-then-stop-clause-text g c = pair_ends (c.stops.invariant.next (omega arith)).block
 
 pub stops-smaller-in-Pair : goal.stops-smaller-in-Pair
 stops-smaller-in-Pair g c = (pair_passed (c.stops.invariant.next (omega arith)) (λ is. c.if-stop.false (omega (
@@ -51,9 +47,9 @@ stops-preserved-in-Pair g c =
 pub stops-preserved : goal.stops-preserved
 stops-preserved g c =
     let a = c.stops.invariant.next (omega arith) in
-    are_left _ (omega arith) a.rest (backslash_written c.put_backslash.new.room (g.row.N - 1) a (omega arith)
-    c.requires.more c.put_backslash.ensures
-    c.in-Backslash.ensures) c.requires.more
+    are_left _ (omega arith) a.rest (backslash_written c.put.new.room c.put_lanes-in-Backslash.new.room (g.row.N - 1) a
+    (omega arith) c.requires.more c.put.ensures.text c.put_lanes-in-Backslash.ensures c.in-Backslash.ensures)
+    c.requires.more
 
 pub returns-clause-text : goal.returns-clause-text
 returns-clause-text g c = c.stops.invariant.ends (omega arith)

@@ -1,4 +1,4 @@
-use Rattle.syslog_object.proofs.Names.{◌∙◌, [], arith, list_elements, on_ok_weaker, rules}
+use Rattle.syslog_object.proofs.Names.{◌∙◌, [], arith, on_ok_weaker, rules}
 use Rattle.syslog_object.proofs.ElementsLemmas.{any_written, not_empty, written_closed}
 use Rattle.syslog_object.proofs.writer.ObjectWriter.close.Goals as goal
 
