@@ -2,9 +2,9 @@
 use Rattle.syslog_object.proofs.Names.{[], append_assoc, append-nil, is_plain, PlainBetween, unescaped, cond, bit_at}
 use Rattle.syslog_object.proofs.Names.{w64, true, false, List, ◌++◌, length, take, drop, refl, arith, escape, get_or}
 use Rattle.syslog_object.proofs.Names.{◌≡◌, ℕ, suc, zero, ◌<◌, ◌≤◌, ◌∷◌, sym, ap, ◌∙◌, ◌+◌, ◌-◌, ◌%◌, ◌^◌, ◌*◌, Bool}
-use Rattle.syslog_object.proofs.Names.{not, map, inl, inr, subst, OnTrue, ◌⊎◌, Result, Ok, Err}
+use Rattle.syslog_object.proofs.Names.{not, map, inl, inr, subst, OnTrue, ◌⊎◌}
 use Rattle.std.proofs.lemmas.Bool.Decides.{nat_tests}
-use Rattle.std.specs.Prelude.{IfOk, replicate}
+use Rattle.std.specs.Prelude.{replicate}
 use Rattle.std.proofs.lemmas.Simd.{length-chunk, take_more_put_chunk, bit_mask_l, get_or-chunk}
 use Rattle.std.proofs.lemmas.Simd.{mask_l-lt, mask_l-mod, map-map, length-replicate}
 use Rattle.std.proofs.lemmas.Nat.Bits.{bit_at-trailing_zeros, bit_at_clear_same, bit_at_clear_other, bit_at_above}
@@ -279,10 +279,6 @@ on_other true b other = ne_eqb b 92 other
 pub on_no_raw : (raw : Bool) (b : ℕ) → raw ≡ false → OnTrue raw (nat_eq b 92 ≡ false)
 on_no_raw raw b is = rw is tt
 
--- a pair that is a bracket is the bracket
-pub json_bracket : (rest : List ℕ) → in_json true (92 ∷ 93 ∷ rest) ≡ in_json true (93 ∷ rest)
-json_bracket rest = refl
-
 -- JSON has the same escapes as some pairs
 pub json_kept : (c : ℕ) (rest : List ℕ) → (c ≡ 110) ⊎ ((c ≡ 34) ⊎ (c ≡ 92))
     → in_json true (92 ∷ c ∷ rest) ≡ 92 ∷ c ∷ in_json true rest
@@ -317,23 +313,27 @@ backslash_at raw text at within stop high other =
     ap (in_json raw) (next_byte text at within) ∙ json_byte raw b (drop (at + 1) text) other
     ∙ ap (λ xs. xs ++ in_json raw (drop (at + 1) text)) (escaped b (stop_is b stop high))
 
+second_byte : (text : List ℕ) (at : ℕ) → at + 1 < length text
+    → drop (at + 1) text ≡ get_or text (at + 1) 0 ∷ drop (at + 2) text
+second_byte text at within =
+    let two : at + 1 + 1 ≡ at + 2 = omega arith in
+    next_byte text (at + 1) within ∙ ap (λ (k : ℕ). get_or text (at + 1) 0 ∷ drop k text) two
+
 -- a pair, by its second byte
 pair_text : (text : List ℕ) (at : ℕ) → at + 1 < length text → get_or text at 0 ≡ 92
     → drop at text ≡ 92 ∷ get_or text (at + 1) 0 ∷ drop (at + 2) text
 pair_text text at within first =
-    let two : at + 1 + 1 ≡ at + 2 = omega arith in
     next_byte text at (omega arith) ∙ ap (λ (b : ℕ). b ∷ drop (at + 1) text) first
-    ∙ ap (λ xs. 92 ∷ xs) (next_byte text (at + 1) within)
-    ∙ ap (λ (k : ℕ). 92 ∷ get_or text (at + 1) 0 ∷ drop k text) two
+    ∙ ap (λ xs. 92 ∷ xs) (second_byte text at within)
 
+-- a pair that is a bracket is the bracket
 pub nothing_at : (raw : Bool) (text : List ℕ) (at : ℕ) → raw ≡ true → at + 1 < length text → get_or text at 0 ≡ 92
     → get_or text (at + 1) 0 ≡ 93 → in_json raw (drop at text) ≡ in_json raw (drop (at + 1) text)
-nothing_at raw text at is within first second =
-    let one = next_byte text (at + 1) within in
-    let both = next_byte text at (omega arith) ∙ ap (λ (b : ℕ). b ∷ drop (at + 1) text) first in
-    let rest = drop (at + 1 + 1) text in
-    let bracket = one ∙ ap (λ (b : ℕ). b ∷ rest) second in
-    rw is (ap (in_json true) (both ∙ ap (λ xs. 92 ∷ xs) bracket) ∙ json_bracket rest ∙ ap (in_json true) (sym bracket))
+nothing_at raw text at is within first bracket =
+    let rest = drop (at + 2) text in
+    rw is (ap (in_json true) (pair_text text at within first)
+    ∙ ap (λ (c : ℕ). in_json true (92 ∷ c ∷ rest)) bracket
+    ∙ sym (ap (in_json true) (second_byte text at within) ∙ ap (λ (c : ℕ). in_json true (c ∷ rest)) bracket))
 
 pub pair_at : (raw : Bool) (text : List ℕ) (at : ℕ) → raw ≡ true → at + 1 < length text → get_or text at 0 ≡ 92
     → (get_or text (at + 1) 0 ≡ 110) ⊎ ((get_or text (at + 1) 0 ≡ 34) ⊎ (get_or text (at + 1) 0 ≡ 92))
@@ -352,13 +352,10 @@ pub other_at : (raw : Bool) (text : List ℕ) (at : ℕ) → raw ≡ true → at
 other_at raw text at is within first bracket letter quote backslash =
     let c = get_or text (at + 1) 0 in
     let rest = drop (at + 2) text in
-    let two : at + 1 + 1 ≡ at + 2 = omega arith in
-    let one : drop (at + 1) text ≡ c ∷ rest =
-    next_byte text (at + 1) within ∙ ap (λ (k : ℕ). c ∷ drop k text) two in
     rw is (ap (in_json true) (pair_text text at within first)
     ∙ json_other c rest (ne_eqb c 93 bracket) (ne_eqb c 110 letter) (ne_eqb c 34 quote) (ne_eqb c 92 backslash)
     ∙ ap (λ (b : ℕ). 92 ∷ b ∷ in_json true (c ∷ rest)) (sym first)
-    ∙ ap (λ xs. 92 ∷ get_or text at 0 ∷ in_json true xs) (sym one))
+    ∙ ap (λ xs. 92 ∷ get_or text at 0 ∷ in_json true xs) (sym (second_byte text at within)))
 
 -- an escape was written, and `m` bytes after it
 pub control_written : (m at n : ℕ) (old room now piece escape text : List ℕ)
@@ -591,10 +588,6 @@ text_written raw text old mid now rest at n end within plain is first second =
     second ∙ ap (λ xs. take (at + n) mid ++ in_json raw xs) is ∙ ap (λ xs. xs ++ in_json raw (drop n text)) first
     ∙ append_assoc (take at old) (take n text) (in_json raw (drop n text))
     ∙ ap (λ xs. take at old ++ xs) (sym (plain_written raw text n within plain))
-
-pub on_ok : {T E : Type 0} {P Q : T → Type 0} (r : Result T E) → ((x : T) → P x → Q x) → IfOk r P → IfOk r Q
-on_ok (Ok x) f p = f x p
-on_ok (Err e) f p = p
 
 pub kept_less : (n at : ℕ) (old now : List ℕ) → take at now ≡ take at old → n ≤ at → take n now ≡ take n old
 kept_less n at old now kept less = sym (take-take n at now less) ∙ ap (take n) kept ∙ take-take n at old less

@@ -5,10 +5,10 @@ use proofs.Names.{drop_more, map-append, cases_Bool, AreDistinct, compact_text, 
 use proofs.Names.{[], bytes_eq, list_any, items_of, first_keys, gathered, one_or_all, values_at, items_text, param_pair}
 use proofs.Names.{Bool, true, false, List, ◌++◌, length, take, drop, get_or, ap, subst, filter, quoted, IsNewKey}
 use proofs.Names.{escape}
-use proofs.Names.{◌≡◌, ℕ, zero, suc, ◌+◌, ◌<◌, ◌≤◌, not, ◌∷◌, map, refl, sym, ◌∙◌, cond, inl, inr, ◌||◌, ◌==◌, Bor}
+use proofs.Names.{◌≡◌, ℕ, zero, suc, ◌+◌, ◌<◌, ◌≤◌, not, ◌∷◌, map, refl, sym, ◌∙◌, cond, inl, inr, ◌==◌, Bor}
 use proofs.Names.{Json}
 use proofs.Names.{Text, Option, Some, arith}
-use Rattle.std.proofs.Common.{◌≢◌, ◌-◌, nat_cmp, nat_lt, replicate, slice_set, drop_of_length-le}
+use Rattle.std.proofs.Common.{◌≢◌, ◌-◌, nat_cmp, nat_lt, replicate, slice_set}
 use Rattle.std.proofs.lemmas.Bool.{cases_eq, ne_eqb, true≢false, Decides.nat_tests}
 use Rattle.std.proofs.lemmas.List.{drop-drop, drop_all, get_or-drop, get_or-map, get_or-set_other, get_or-set_same}
 use Rattle.std.proofs.lemmas.List.{get_or_default, length-drop, length-map, length-replicate, length-set}
@@ -16,6 +16,7 @@ use Rattle.std.proofs.lemmas.List.{length-take, take_all}
 use Rattle.std.proofs.lemmas.List.{take_more}
 use Rattle.std.proofs.lemmas.{List.Elements.filter-append, Map.Text.btree_map_updates_str, Slice.Eq.bytes_eq-Decides}
 use Rattle.std.proofs.lemmas.Simd.{map-map}
+use Rattle.std.proofs.Math.Bool.{or-true}
 use Rattle.std.specs.BTreeMap.{BTreeMap, UpdatesBy, get_by}
 use Rattle.std.specs.{Cmp.Lexicographic.slice_cmp, Option.unwrap_or}
 use Rattle.syslog_text.specs.Pieces.View.{shown}
@@ -33,9 +34,6 @@ Pair = List ℕ × Json
 pub at_place : {X : Type 0} (xs : List X) (i : ℕ) (x : X) → i < length xs → x ≡ get_or xs i x
     → drop i xs ≡ x ∷ drop (i + 1) xs
 at_place xs i x inside is = drop_more xs i x inside ∙ ap (λ y. y ∷ drop (i + 1) xs) (sym is)
-
-pub nothing_after : {X : Type 0} (xs : List X) (i : ℕ) → length xs ≤ i → drop i xs ≡ []
-nothing_after xs i past = drop_of_length-le xs past
 
 pub taken_more : {X : Type 0} (xs : List X) (i : ℕ) (x : X) → i < length xs → x ≡ get_or xs i x
     → take (i + 1) xs ≡ take i xs ++ x ∷ []
@@ -119,9 +117,7 @@ ended ps n base out now first later held is =
         rw (ne_eqb n 0 (λ e. absurd (omega (arith, empty e)))) (open_closed (q ∷ qs) (λ e. cc))
 
 regroup : (a b k v : List ℕ) (x : ℕ) → ((a ++ b) ++ (x ∷ (k ++ 58 ∷ []))) ++ v ≡ a ++ (b ++ (x ∷ (k ++ 58 ∷ v)))
-regroup a b k v x =
-    append_assoc (a ++ b) (x ∷ (k ++ 58 ∷ [])) v ∙ append_assoc a b _
-    ∙ ap (λ xs. a ++ (b ++ (x ∷ xs))) (append_assoc k (58 ∷ []) v)
+regroup a b k v x = simp append_assoc
 
 -- a member was written after those before it
 pub member_added : (ps : List Pair) (i : ℕ) (p : Pair) (base out key_out now name : List ℕ) → i < length ps
@@ -152,10 +148,6 @@ differs_back k l e = elim (cases_Bool (bytes_eq l k)) [
   | inl same ↦ absurd (true≢false (sym (equal_back l k same) ∙ e))
   | inr other ↦ other
 ]
-
-or-true : (b : Bool) → (b || true) ≡ true
-or-true true = refl
-or-true false = refl
 
 -- whether a key is among those of the pairs
 abbrev pub is_present : {V : Type 0} → List ℕ → List (List ℕ × V) → Bool

@@ -11,11 +11,11 @@ use Rattle.syslog_elements.specs.StructuredData.Escapes.{IsUnit, IsUnescaped, is
 use Rattle.syslog_object.specs.Object.{unescaped, after_backslash}
 
 -- no byte is a backslash
-abbrev NoBackslash : List ℕ → Type 0
+abbrev pub NoBackslash : List ℕ → Type 0
 NoBackslash xs = (k : ℕ) → k < length xs → get_or xs k 0 ≢ 92
 
 -- bytes that are no backslash stay
-stay : (xs rest : List ℕ) → NoBackslash xs → unescaped (xs ++ rest) ≡ xs ++ unescaped rest
+pub stay : (xs rest : List ℕ) → NoBackslash xs → unescaped (xs ++ rest) ≡ xs ++ unescaped rest
 stay [] rest h = refl
 stay (x ∷ xs) rest h =
     rw (ne_eqb x 92 (h 0 (omega arith))) (ap (λ (l : List ℕ). x ∷ l)

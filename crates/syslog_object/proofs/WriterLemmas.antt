@@ -52,25 +52,22 @@ pub nine_appended : (o a b c d e f g h i p q r s t u v w x : List ℕ) → a ≡
 nine_appended o a b c d e f g h i p q r s t u v w x e0 e1 e2 e3 e4 e5 e6 e7 e8 =
     rw (e8, e7, e6, e5, e4, e3, e2, e1, e0) (simp append_assoc)
 
--- the fields after the elements, and the brace
-back_text : (m : MessageValue) (unparsed raw : Option Text) → rest_text (back_fields m unparsed raw)
-    ≡ text_field (codes ",\"unparsed_structured_data\":\"") unparsed
-    ++ (text_field (codes ",\"message\":\"") (Some m.msg) ++ (text_field (codes ",\"raw\":\"") raw ++ 125 ∷ []))
-unfolding escape_byte
-back_text m unparsed raw =
-    rw (
-      named (codes "unparsed_structured_data") (codes ",\"unparsed_structured_data\":\"") unparsed refl,
-      named (codes "raw") (codes ",\"raw\":\"") raw refl,
-      each_field (back_fields m unparsed raw),
-    ) refl
-
--- were written
+-- the fields after the elements were written, and the brace
 pub back_written : (m : MessageValue) (unparsed raw : Option Text) (old a b c now : List ℕ)
     → a ≡ old ++ text_field (codes ",\"unparsed_structured_data\":\"") unparsed
     → b ≡ a ++ text_field (codes ",\"message\":\"") (Some m.msg) → c ≡ b ++ text_field (codes ",\"raw\":\"") raw
     → now ≡ c ++ 125 ∷ [] → now ≡ old ++ rest_text (back_fields m unparsed raw)
+unfolding escape_byte
 back_written m unparsed raw old a b c now e0 e1 e2 e3 =
-    rw (e3, e2, e1, e0, back_text m unparsed raw) (simp append_assoc)
+    rw (
+      e3,
+      e2,
+      e1,
+      e0,
+      named (codes "unparsed_structured_data") (codes ",\"unparsed_structured_data\":\"") unparsed refl,
+      named (codes "raw") (codes ",\"raw\":\"") raw refl,
+      each_field (back_fields m unparsed raw),
+    ) (simp append_assoc)
 
 regroup : (k q v d f g s t ts h a pr mi sd back : List ℕ)
     → ((((((((((k ++ (q ++ v)) ++ d) ++ (f ++ g)) ++ (s ++ t)) ++ ts) ++ h) ++ a) ++ pr) ++ mi) ++ sd) ++ back
@@ -180,4 +177,5 @@ object_of_parts m b elements front list now is first second third =
         → cond (length bytes == 0) [] (44 ∷ (quoted (codes "structured_data") ++ 58 ∷ bytes))
         ≡ field_text (codes "structured_data") (structured_json es)
     middle [] bytes none = rw none refl
-    middle (e ∷ es) bytes some = rw (some, ne_eqb (length (elements_text (e ∷ es))) 0 (λ none. absurd (omega (arith, none)))) refl
+    middle (e ∷ es) bytes some =
+        rw (some, ne_eqb (length (elements_text (e ∷ es))) 0 (λ none. absurd (omega (arith, none)))) refl

@@ -19,7 +19,7 @@ use Rattle.syslog_pieces.proofs.PriLemmas.{facility_low, severity_low}
 use Rattle.syslog_loose.specs.declared.message.Protocol.TheVariants.{RFC3164, RFC5424}
 use Rattle.syslog_object.specs.{Parts.comma_if, Parts.members_text, Parts.IsSmallVersion, Gathered.members_of}
 use Rattle.syslog_object.specs.Written.{HasSmallNumbers, ItemsHaveSmallNumbers, MembersHaveSmallNumbers, IsTextOf}
-use Rattle.syslog_text.proofs.PieceLemmas.Class.{◌also◌}
+use Rattle.syslog_text.proofs.PieceLemmas.Class.{all_append, ◌also◌}
 use Rattle.syslog_object.specs.Object.{Beside, fields_of, present, refused_json}
 
 -- ---- the numbers are numbers of JSON
@@ -89,10 +89,6 @@ printed j = sym (ap print (sym (append-nil (json_tokens j))) ∙ print_value fal
 abbrev pub Printable : List ℕ → Type 0
 Printable bytes = AllByRecursion (λ byte. 32 ≤ byte) bytes
 
-joined : (xs ys : List ℕ) → Printable xs → Printable ys → Printable (xs ++ ys)
-joined [] ys h k = k
-joined (x ∷ xs) ys h k = (h.0, joined xs ys h.1 k)
-
 -- ---- strings
 
 hex : (d : ℕ) → 32 ≤ digit_char d
@@ -110,10 +106,10 @@ escaped_byte x = cond_both (nat_lt 0 (escape_letter x)) _ _ Printable
 
 escaped : (s : List ℕ) → Printable (escape s)
 escaped [] = tt
-escaped (x ∷ s) = joined (escape_byte x) (escape s) (escaped_byte x) (escaped s)
+escaped (x ∷ s) = all_append _ (escape_byte x) (escape s) (escaped_byte x) (escaped s)
 
 in_quotes : (s : List ℕ) → Printable (quoted s)
-in_quotes s = (omega arith, joined (escape s) (34 ∷ []) (escaped s) (omega arith, tt))
+in_quotes s = (omega arith, all_append _ (escape s) (34 ∷ []) (escaped s) (omega arith, tt))
 
 -- ---- numbers
 
@@ -145,15 +141,16 @@ mutual
   items : (later : Bool) (js : Items) → ItemsHaveSmallNumbers js → Printable (items_text later js)
   items later no_items h = (omega arith, tt)
   items later (item j js) h =
-      joined (comma_if later) _ (comma later) (joined (compact_text j) _ (printable j h.0) (items true js h.1))
+      all_append _ (comma_if later) _ (comma later)
+      (all_append _ (compact_text j) _ (printable j h.0) (items true js h.1))
 
   members : (later : Bool) (ms : Members) → MembersHaveSmallNumbers ms → Printable (members_text later ms)
   members later no_members h = (omega arith, tt)
   members later (member k j ms) h =
-      joined (comma_if later) _ (comma later)
-      (joined (quoted k) _ (in_quotes k) (
+      all_append _ (comma_if later) _ (comma later)
+      (all_append _ (quoted k) _ (in_quotes k) (
         omega arith,
-        joined (compact_text j) _ (printable j h.0)
+        all_append _ (compact_text j) _ (printable j h.0)
             (members true ms h.1),
       ))
 

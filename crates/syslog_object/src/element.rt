@@ -19,15 +19,6 @@ fn name<'a>(param: &(&'a str, &'a str)) -> &'a str
     param.0
 }
 
-// Returns the raw value of a parameter. It is a function of its own, since what a call returns is known to be UTF-8,
-// and a field is not.
-#[inline(always)]
-fn value<'a>(param: &(&'a str, &'a str)) -> &'a str
-    ensures { result.now ≡ param.now.1.now }
-{
-    param.1
-}
-
 // A parameter as a member: its name is the key, and its raw value the value.
 impl<'a> Member<'a> for (&'a str, &'a str) {
     ghost use Rattle.syslog_text.specs.Pieces.View.{shown};
@@ -45,7 +36,7 @@ impl<'a> Member<'a> for (&'a str, &'a str) {
 
     #[inline(always)]
     fn push_json(&self, _: Global, out: &mut Output) -> Result<(), AllocError> {
-        out.push_between(b"\"", value(self), b"\"", true)
+        out.push_between(b"\"", self.1, b"\"", true)
     }
 }
 

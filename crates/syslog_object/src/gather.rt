@@ -167,30 +167,7 @@ fn push_values<'a, M: Member<'a>>(
     out.push(b"]")
 }
 
-// Appends the key of a place and all its values, if this is the first place of the key.
-fn push_group<'a, M: Member<'a>>(
-    alloc: Global,
-    out: &mut Output,
-    members: &[M],
-    places: &Places,
-    at: usize,
-) -> Result<(), AllocError>
-    requires within { at < length members.now }
-    requires places { ArePlaces (map (λ m. (M.key_of m, M.json m)) members.now)
-        places.now.next.items places.now.again.items }
-    ensures { OnOk result ((before : List ℕ)
-        → out.old ≡ before ++ open_text (begun (map (λ m. (M.key_of m, M.json m)) members.now) at)
-        → out.new ≡ before ++ open_text (begun (map (λ m. (M.key_of m, M.json m)) members.now) (at + 1))) }
-{
-    let member = members[at];
-    if places.again[at] {
-        return Ok(());
-    }
-    push_key(out, at, member.key())?;
-    push_values(alloc, out, members, places.next.as_slice(), at)
-}
-
-// Appends the object of members whose keys may be repeated.
+// Appends the object of members whose keys may be repeated. All values of a key are written at its first place.
 #[inline(never)]
 fn push_gathered<'a, M: Member<'a>>(
     alloc: Global,
@@ -202,7 +179,12 @@ fn push_gathered<'a, M: Member<'a>>(
 {
     let places = find_places(alloc, members)?;
     for at in 0..members.len() {
-        push_group(alloc, out, members, &places, at)?;
+        let member = members[at];
+        if places.again[at] {
+            continue;
+        }
+        push_key(out, at, member.key())?;
+        push_values(alloc, out, members, places.next.as_slice(), at)?;
     }
     push_end(out, members.len())
 }

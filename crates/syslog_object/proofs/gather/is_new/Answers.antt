@@ -1,10 +1,11 @@
 use Rattle.syslog_object.proofs.Names.{sym, IsNewKey}
-use Rattle.syslog_object.proofs.GatherLemmas.{at_place, nothing_after, of_keys}
+use Rattle.std.proofs.Common.{drop_of_length-le}
+use Rattle.syslog_object.proofs.GatherLemmas.{at_place, of_keys}
 use Rattle.syslog_object.proofs.gather.is_new.Goals as goal
 
 pub returns : goal.returns
 returns g c = c.loop-member.invariant (of_keys (IsNewKey c.args.key.now) g.M.Member.key_of _ _
-    (nothing_after c.args.members.now c.loop-member.member-index c.loop-member-test.false) tt)
+    (drop_of_length-le c.args.members.now c.loop-member-test.false) tt)
 
 pub loop-member-preserved : goal.loop-member-preserved
 loop-member-preserved g c = λ new. c.loop-member.invariant (of_keys (IsNewKey c.args.key.now) g.M.Member.key_of _ _

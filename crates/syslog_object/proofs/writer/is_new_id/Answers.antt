@@ -1,10 +1,11 @@
 use Rattle.syslog_object.proofs.Names.{List, ℕ, sym, drop_more, Bor, IsNewKey}
-use Rattle.syslog_object.proofs.GatherLemmas.{nothing_after, of_keys}
+use Rattle.std.proofs.Common.{drop_of_length-le}
+use Rattle.syslog_object.proofs.GatherLemmas.{of_keys}
 use Rattle.syslog_object.proofs.writer.is_new_id.Goals as goal
 
 pub returns : goal.returns
 returns c = c.loop-other.invariant (of_keys (IsNewKey c.args.id.now) (λ (s : Bor (List ℕ)). s.now) _ _
-    (nothing_after c.args.ids.now c.loop-other.other-index c.loop-other-test.false) tt)
+    (drop_of_length-le c.args.ids.now c.loop-other-test.false) tt)
 
 pub loop-other-preserved : goal.loop-other-preserved
 loop-other-preserved c = λ new. c.loop-other.invariant
