@@ -42,21 +42,18 @@ shorter at n room m text less within =
     ap (λ (k : ℕ). take k (take at room ++ take m text)) long ∙ take-append-add (take at room) (take m text) n
     ∙ ap (λ xs. take at room ++ xs) (take-take n m text less)
 
--- so many more bytes of a text were stored
-pub stored_more : (n at seen : ℕ) (old room now text : List ℕ) → take (at + seen) room ≡ take at old ++ take seen text
-    → take (at + seen + n) now ≡ take (at + seen) room ++ take n (drop seen text)
-    → take (at + (seen + n)) now ≡ take at old ++ take (seen + n) text
-stored_more n at seen old room now text before added =
+-- so many more bytes of a text were stored, or fewer
+pub stored_to : (n at seen m : ℕ) (old room now text : List ℕ) → take (at + seen) room ≡ take at old ++ take seen text
+    → take (at + seen + n) now ≡ take (at + seen) room ++ take n (drop seen text) → m ≤ seen + n → at ≤ length old
+    → take (at + m) now ≡ take at old ++ take m text
+stored_to n at seen m old room now text before added less within =
     let place : at + (seen + n) ≡ at + seen + n = omega arith in
+    let all : take (at + (seen + n)) now ≡ take at old ++ take (seen + n) text =
     ap (λ (k : ℕ). take k now) place ∙ added ∙ ap (λ xs. xs ++ take n (drop seen text)) before
     ∙ append_assoc (take at old) (take seen text) (take n (drop seen text))
-    ∙ ap (λ xs. take at old ++ xs) (sym (take-add seen n text))
-
--- and so were fewer
-pub stored_less : (at n m : ℕ) (old now text : List ℕ) → take (at + m) now ≡ take at old ++ take m text → n ≤ m
-    → at ≤ length old → take (at + n) now ≡ take at old ++ take n text
-stored_less at n m old now text held less within =
-    sym (take-take (at + n) (at + m) now (omega arith)) ∙ ap (take (at + n)) held ∙ shorter at n old m text less within
+    ∙ ap (λ xs. take at old ++ xs) (sym (take-add seen n text)) in
+    sym (take-take (at + m) (at + (seen + n)) now (omega arith)) ∙ ap (take (at + m)) all
+    ∙ shorter at m old (seen + n) text less within
 
 -- no byte up to there needs an escape
 pub plain_to : (text : List ℕ) (seen n : ℕ) → PlainBetween text 0 seen
