@@ -41,9 +41,8 @@ pub use Rattle.syslog_text.specs.Pieces.View.{shown, text_of}
 pub use Rattle.syslog_elements.specs.StructuredData.{value, param_row, param, element_row, element_of, element, item}
 pub use Rattle.syslog_elements.specs.StructuredData.{strict, forgiving, param_of, IsValueUnit, IsValue, bracketed}
 pub use Rattle.syslog_elements.specs.StructuredData.Canonical.{IsCanonicalParam, IsCanonicalElement, BeginsUnblank}
-pub use Rattle.syslog_elements.specs.StructuredData.Element.{ElementValue, param_text, param_value, element_value}
-pub use Rattle.syslog_elements.specs.StructuredData.Element.{element_text, elements_text, joined_elements}
-pub use Rattle.syslog_elements.specs.StructuredData.Element.{element_texts}
+pub use Rattle.syslog_elements.specs.StructuredData.Element.{param_value, element_value, elements_text, joined_elements}
+pub use Rattle.syslog_elements.specs.StructuredData.Element.{ElementValue, param_text, element_text, element_texts}
 pub use Rattle.syslog_elements.specs.StructuredData.Equal.{param_eq, counts_agree, param_count, same_params, element_eq}
 pub use Rattle.syslog_elements.specs.StructuredData.Escapes.{TextUnit, pair, single, unit_text, escaped, IsUnescaped}
 pub use Rattle.syslog_elements.specs.StructuredData.Rfc3164List.{full_element, rfc3164_list, IsDashBefore, BeginsNoList}

@@ -60,6 +60,7 @@ impl<S: AsStr> StructuredElement<S> {
 impl<S: AsStr> fmt::Display for StructuredElement<S> {
     ghost output = { λ e. Some (encode_utf8_all (element_text (element_value (text_of S.text) e))) };
 
+    #[tactic(auto, using(crate::proofs::StructuredDataLemmas::Units::put_element))]
     fn fmt<W: fmt::Write>(&self, f: &mut fmt::Formatter<W>) -> fmt::Result {
         let id = self.id.as_str();
         f.write_str("[")?;

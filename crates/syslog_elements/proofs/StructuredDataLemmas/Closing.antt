@@ -377,6 +377,8 @@ module _ (text bs xs ys : List ℕ) (s : SplitsRun is_unescaped_char bs xs ys)
       pub value_further : (d : ℕ) (r : Text) → q ≡ d ∷ r → ExtendsValue (chars text) r
       value_further d r z = extends_unit (pair d) (chars text) r tt (rw (e, is_backslash, z) at to_end)
 
+pub ruleset value_tests = (value_at_end, value_at_quote, value_lone)
+
 -- ---- lists of parameters and of elements
 
 module _ {X Y : Type 0} (f : X → Y) (P : Y → Type 0) where

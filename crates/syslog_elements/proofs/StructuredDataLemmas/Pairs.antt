@@ -16,7 +16,7 @@ use Rattle.syslog_elements.specs.StructuredData.Unparsed.{IsUnparsed}
 use Rattle.syslog_text.specs.Text.{is_blank, is_tag_char}
 use Rattle.syslog_text.specs.Text.CharClass.{is_sd_name_char}
 use Rattle.syslog_text.proofs.PieceLemmas.Class.{front_longer, front_of, row_cons, present_front}
-use Rattle.syslog_text.proofs.PieceLemmas.Rules.{many_left, none_left, such_det}
+use Rattle.syslog_text.proofs.PieceLemmas.Rules.{many_left, no_run, none_left, such_det}
 use Rattle.syslog_elements.specs.StructuredData.Pairs.{EndsPair, IsNextParam, IsSdName, NoNextParam, inside_of, left_in}
 use Rattle.syslog_elements.specs.StructuredData.Pairs.{pair, pair_end, pair_name, pair_of, pair_row, pairs, pairs_in}
 use Rattle.syslog_elements.specs.StructuredData.Pairs.{open_row, paired, paired_element, pairs_row, with_pairs, pair_id}
@@ -31,7 +31,7 @@ use Rattle.syslog_elements.proofs.StructuredDataLemmas.Elements.{element_prop, e
 use Rattle.syslog_elements.proofs.StructuredDataLemmas.Elements.{no_items_here, quoted_det}
 use Rattle.syslog_elements.proofs.StructuredDataLemmas.Unparsed.{nothing_leaves, unparsed_same}
 use Rattle.syslog_elements.proofs.StructuredDataLemmas.Walk.{items_same, no_params, not_inside, one_meaning}
-use Rattle.syslog_elements.proofs.StructuredDataLemmas.Walk.{params_less}
+use Rattle.syslog_elements.proofs.StructuredDataLemmas.Walk.{chars_length, params_less}
 
 -- ---- one front
 
@@ -91,6 +91,8 @@ bracket_ends {t} {r} f = front_of [] refl (inr (refl, (r, begins 93 t r f)))
 pub no_end : {t : Text} → NoFront (exactly (59 ∷ [])) t → NoFront (exactly (93 ∷ [])) t → NoFront pair_end t
 no_end n m p q v e (inl (b, f, each, ends)) = n (59 ∷ []) (b ++ q) tt (e ∙ ap (λ (x : Text). x ++ q) f) refl
 no_end n m p q v e (inr (f, (r, g))) = m (93 ∷ []) r tt (e ∙ ap (λ (x : Text). x ++ q) f ∙ g) refl
+
+pub ruleset pair_ends = (semicolon_ends, bracket_ends)
 
 -- ---- lengths
 
@@ -183,6 +185,8 @@ next_left Colons m none f = pairs_less m f
 pub one_more : {s u : Text} {v : Text × Text} (n : ℕ) (ps : List (Text × Text)) → Front pair s u v → n ≡ length ps
     → n + 1 ≡ length (ps ++ v ∷ [])
 one_more {v = v} n ps f same = omega (arith, same, length-append ps (v ∷ []))
+
+pub ruleset counted_pairs = (pair_shorter, chars_length, no_run)
 
 pub no_paired : {t : Text} → NoFront (Row open_row) t → NoFront paired t
 no_paired n p q es e (vs, is, some, blank, same) = n p q vs e is
@@ -293,6 +297,8 @@ seen_pairs m same f = ap (λ (x : Text). element_with x (one_value m).0) same
 pub no_pairs_of : (bs us : List ℕ) → 0 < length bs → pairs_in bs us ≡ []
 no_pairs_of [] us some = absurd (omega arith)
 no_pairs_of (b ∷ bs) us some = refl
+
+pub ruleset no_pairs_there = (no_pairs_of, chars-nil)
 
 pub nothing_left : (bs us : List ℕ) → chars us ≡ [] → left_in bs us ≡ []
 nothing_left [] us none = refl

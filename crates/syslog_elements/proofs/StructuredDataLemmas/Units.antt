@@ -12,7 +12,7 @@ use Rattle.syslog_elements.proofs.Names.{param_of, is_blank, take_more, AllByRec
 use Rattle.syslog_elements.proofs.Names.{element_texts, escaped, all_append, cases_Bool, is_id_char, element_of}
 use Rattle.syslog_elements.proofs.Names.{length-map, sum_by-cons, IsUnescaped, IsValueUnit, rfc3164_list, counts_agree}
 use Rattle.syslog_elements.proofs.Names.{list_all-map, is_bare_char, IsValue, DashRule, count_by, take_all, list_all}
-use Rattle.syslog_elements.proofs.Names.{param_eq, encode_utf8_all, encodes-append, param_text}
+use Rattle.syslog_elements.proofs.Names.{param_eq, encode_utf8_all, encodes-append, param_text, IsUtf8-string_bytes}
 use Rattle.std.specs.Char.{encode_utf8}
 use Rattle.std.specs.Global.{Global}
 use Rattle.std.specs.Iterator.{Drains}
@@ -26,6 +26,8 @@ use Rattle.syslog_elements.specs.StructuredData.EqualLaws.{same_params-counts, s
 use Rattle.syslog_elements.specs.StructuredData.EqualLaws.{counts_of_permutation, permuted, length_of_counts}
 use Rattle.syslog_text.proofs.PieceLemmas.Lists.{Quotes, Quoted, row_texts, row_quotes, part_same, part_left}
 use Rattle.syslog_text.proofs.PieceLemmas.Lists.{part_right, part_joined, silent, texted_quotes}
+use Rattle.syslog_text.proofs.TextLemmas.Words.{encodes_shown}
+use Rattle.std.proofs.lemmas.Grind.{put_two}
 pub use Rattle.std.proofs.lemmas.Bool.{cases_Bool as decide}
 
 -- ---- a text has one split
@@ -122,6 +124,8 @@ pub pushed : {T E : Type 0} (r : Result T E) (bytes old now : List ℕ) → IsUt
 pushed (Ok x) bytes old now u e = ap chars e ∙ chars-append old bytes u
 pushed (Err x) bytes old now u e = tt
 
+pub ruleset appended = (pushed, IsUtf8-string_bytes)
+
 -- ---- values
 each_piece : (us : List TextUnit) → AllByRecursion IsValueUnit us → AllByRecursion IsUnit us
     × AllByRecursion IsUnquoted us
@@ -210,6 +214,8 @@ module _ {bs xs ys : List ℕ} (s : SplitsRun is_bare_char bs xs ys) where
               let (v, j, h) = single_first d q' w n (subst (λ (x : Text). IsUnescaped x w) f i) in
               rw (whole, g, h) (rw m at (unescaped_on (pair d) tt j));
         }
+
+pub ruleset taken = (means_here, means_more, chars-nil)
 
 -- ---- what an iterator over parameters gives in all
 pub param_items_drained : {S : Type 0} (bytes : S → List ℕ) (params : List (S × S)) (items : List (Result (Bor S ×
@@ -396,3 +402,5 @@ pub encodes_closed : (text : Text) (all : Text) → all ≡ text ++ (93 ∷ [])
     → encode_utf8_all text ++ (93 ∷ []) ≡ encode_utf8_all all
 unfolding encode_utf8
 encodes_closed text all e = sym (encodes-append text (93 ∷ [])) ∙ ap encode_utf8_all (sym e)
+
+pub ruleset put_element = (put_two, encodes_shown, encodes_opening)

@@ -1,22 +1,21 @@
 -- The walk over lists: where an element ends, what is left, and the counts; and the list of RFC 3164.
-use Rattle.syslog_elements.proofs.Names.{length-le-encodes, IsDeterministic, nil_from_length, length, encode_utf8_all}
-use Rattle.syslog_elements.proofs.Names.{flat_map-append, length-append, row_none_here, optional_some, optional_none}
-use Rattle.syslog_elements.proofs.Names.{encodes-chars, Class, full_element, IsDashBefore, rfc3164_list, BeginsNoList}
-use Rattle.syslog_elements.proofs.Names.{append_assoc, inside_row, ElementValue, is_name_char, element_text}
-use Rattle.syslog_elements.proofs.Names.{element_seen, one_value-is, param_text, is_open_char, opening_row, list_before}
-use Rattle.syslog_elements.proofs.Names.{element_row, more_before, no_front_no, ℕ, elements_or, meets_none, name_alone}
-use Rattle.syslog_elements.proofs.Names.{OneMeaning, element_of, IsUtf8, is_id_char, no_many_no, row_pieces, append-nil}
-use Rattle.syslog_elements.proofs.Names.{byte_count, front_same, row_goes, start_row, many_cons, many_none, rows_step}
-use Rattle.syslog_elements.proofs.Names.{and_parts, list_here, list_goes, ◌≡◌, more_goes, row_first, more_here}
-use Rattle.syslog_elements.proofs.Names.{many_here, one_value, forgiving, bracketed, ◌<◌, ∥∥₁_elim, row_head, param_of}
-use Rattle.syslog_elements.proofs.Names.{is_blank, optional, DashRule, many_det, flat_map, some_run, id_alone, meets_on}
-use Rattle.syslog_elements.proofs.Names.{tail_row, IsWalked, opening, closing, NoFront, inl, exactly, element, no_more}
-use Rattle.syslog_elements.proofs.Names.{no_list, IsAlone, IsTrue, texted, IsMany, [], strict, Values, append_more}
-use Rattle.syslog_elements.proofs.Names.{inside, quoted, IsDead, Leaves, row_of, ◌also◌, begins, Walked, Option, Σ_prop}
-use Rattle.syslog_elements.proofs.Names.{⊥_prop, heads, value, subst, Some, arith, start, Front, param, Meets, shown}
-use Rattle.syslog_elements.proofs.Names.{chars, None, List, ◌++◌, refl, Text, many, dash, Bool, ◌&&◌, item, inr, ◌∷◌}
-use Rattle.syslog_elements.proofs.Names.{sym, ◌∙◌, Row, ◌↔◌, ◌+◌, ◌≤◌, ◌⊎◌, map, run, ap, ◌then◌, ◌≢◌, cases_Bool}
-use Rattle.syslog_elements.proofs.Names.{and_from, bare_param_text, row_det}
+use Rattle.syslog_elements.proofs.Names.{length-le-encodes, IsDeterministic, nil_from_length, encode_utf8_all, row_goes}
+use Rattle.syslog_elements.proofs.Names.{flat_map-append, length-append, row_none_here, optional_none, bare_param_text}
+use Rattle.syslog_elements.proofs.Names.{encodes-chars, full_element, IsDashBefore, rfc3164_list, BeginsNoList, opening}
+use Rattle.syslog_elements.proofs.Names.{append_assoc, ElementValue, is_name_char, element_text, element_seen, ∥∥₁_elim}
+use Rattle.syslog_elements.proofs.Names.{one_value-is, is_open_char, opening_row, list_before, element_row, more_before}
+use Rattle.syslog_elements.proofs.Names.{inside_row, param_text, no_front_no, elements_or, meets_none, ◌≡◌, append_more}
+use Rattle.syslog_elements.proofs.Names.{length, name_alone, OneMeaning, element_of, is_id_char, no_many_no, row_pieces}
+use Rattle.syslog_elements.proofs.Names.{append-nil, byte_count, front_same, start_row, many_cons, row_head, cases_Bool}
+use Rattle.syslog_elements.proofs.Names.{ℕ, many_none, rows_step, and_parts, list_here, list_goes, more_goes, row_first}
+use Rattle.syslog_elements.proofs.Names.{more_here, many_here, one_value, forgiving, bracketed, ◌<◌, param_of, is_blank}
+use Rattle.syslog_elements.proofs.Names.{optional, DashRule, many_det, flat_map, some_run, id_alone, meets_on, tail_row}
+use Rattle.syslog_elements.proofs.Names.{IsWalked, closing, NoFront, exactly, element, no_more, no_list, Some, and_from}
+use Rattle.syslog_elements.proofs.Names.{IsUtf8, IsAlone, IsTrue, texted, IsMany, strict, Values, inside, None, row_det}
+use Rattle.syslog_elements.proofs.Names.{quoted, IsDead, Leaves, row_of, ◌also◌, begins, Walked, Option, Σ_prop, ⊥_prop}
+use Rattle.syslog_elements.proofs.Names.{Class, heads, value, subst, arith, start, Front, param, Meets, shown, ◌then◌}
+use Rattle.syslog_elements.proofs.Names.{inl, [], chars, List, ◌++◌, refl, Text, many, dash, Bool, ◌&&◌, item, inr, ◌∷◌}
+use Rattle.syslog_elements.proofs.Names.{sym, ◌∙◌, Row, ◌↔◌, ◌+◌, ◌≤◌, ◌⊎◌, map, run, ap, ◌≢◌}
 use Rattle.syslog_elements.specs.StructuredData.Recognised.{OneInside-prop, OneItems-prop, params_set, items_set}
 use Rattle.syslog_elements.specs.StructuredData.Pairs.{IsNext, inside_of}
 use Rattle.syslog_elements.specs.StructuredData.Visited.{AreItems}
@@ -76,9 +75,6 @@ rfc3164_list_det rule p q p' q' es es' e (inr (l, m)) (inr (l', m')) =
 pub dash_rfc3164_list : (rule : DashRule) (t q : Text) → t ≡ 45 ∷ q → IsDashBefore rule q
     → Front (rfc3164_list rule) t q []
 dash_rfc3164_list rule t q e a = record { piece = dash; whole = e; is = inl (refl, a, refl) }
-
--- what the reader of a list that is a dash cites
-pub ruleset dash_list = (dash_rfc3164_list, optional_some)
 
 -- no list begins the text where neither of its two kinds does
 pub no_rfc3164_list : (rule : DashRule) (t : Text) → BeginsNoList rule t → NoFront (rfc3164_list rule) t

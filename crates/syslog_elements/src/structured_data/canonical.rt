@@ -12,6 +12,7 @@ use syslog_text::text::canonical::{begins_unblank, is_some_of};
 use syslog_text::text::{CharClass, first, split_run};
 
 // Whether the text is a list of units, as the value of a parameter is.
+#[tactic(auto, using(crate::proofs::StructuredDataLemmas::Closing::value_tests))]
 fn is_value(text: &str) -> bool
     ensures { IsTrue result ↔ IsValue (chars text.now) }
 {

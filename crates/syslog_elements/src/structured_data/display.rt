@@ -12,6 +12,7 @@ use syslog_text::as_str::AsStr;
 impl fmt::Display for Element<'_> {
     ghost output = { λ e. Some (encode_utf8_all (element_text (element_seen e))) };
 
+    #[tactic(auto, using(crate::proofs::StructuredDataLemmas::Units::put_element))]
     fn fmt<W: fmt::Write>(&self, f: &mut fmt::Formatter<W>) -> fmt::Result {
         f.write_str("[")?;
         f.write_str(self.id())?;
@@ -39,6 +40,7 @@ fn write_joined<W: fmt::Write>(f: &mut fmt::Formatter<W>, list: &ElementList<'_>
 impl fmt::Display for ElementList<'_> {
     ghost output = { λ list. Some (encode_utf8_all (elements_text (list_elements list))) };
 
+    #[tactic(auto, using(crate::proofs::StructuredDataLemmas::Units::put_element))]
     fn fmt<W: fmt::Write>(&self, f: &mut fmt::Formatter<W>) -> fmt::Result {
         if let Some(printed) = self.printed() {
             return f.write_str(printed.as_str());

@@ -38,6 +38,7 @@ fn have_same_params<S: AsStr>(a: &[(S, S)], b: &[(S, S)]) -> bool
 }
 
 // Returns how many parameters at the front of two lists of the same length are the same.
+#[tactic(auto, using(crate::proofs::StructuredDataLemmas::Units::front_more))]
 fn first_difference<S: AsStr>(a: &[(S, S)], b: &[(S, S)]) -> usize
     requires { length a.now ≡ length b.now }
     ensures within { result ≤ length a.now }

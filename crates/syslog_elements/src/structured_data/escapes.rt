@@ -10,6 +10,7 @@ use std::alloc::{AllocError, Global};
 use syslog_text::text::{CharClass, first, split_run};
 
 // Returns what a backslash and this character mean; none if they mean themselves.
+#[tactic(auto, using(syslog_text::proofs::TextLemmas::Runs::char_alone))]
 fn meaning(c: char) -> Option<&'static str>
     ensures { MatchOption result ((pair_meaning c ≡ 92 ∷ c ∷ []) × (c ≢ 92)) (λ text. chars text.now ≡ pair_meaning c) }
 {
@@ -42,6 +43,7 @@ pub fn next_unescaped(value: &str) -> Option<(&str, &str)>
 
 // Appends a text. It is a function of its own, so that its clause speaks of characters where `push_str` speaks of
 // bytes.
+#[tactic(auto, using(crate::proofs::StructuredDataLemmas::Units::appended))]
 fn push_text(out: &mut String, text: &str) -> Result<(), AllocError>
     ensures { IfOk result (λ _. chars (string_bytes out.new) ≡ chars (string_bytes out.old) ++ chars text.now) }
 {
@@ -49,6 +51,7 @@ fn push_text(out: &mut String, text: &str) -> Result<(), AllocError>
 }
 
 /// Returns the value of a parameter with its escapes removed. It fails only if an allocation does.
+#[tactic(auto, using(crate::proofs::StructuredDataLemmas::Units::taken))]
 pub fn unescape(alloc: Global, value: &str) -> Result<String, AllocError>
     ensures { IfOk result (λ unescaped. IsUnescaped (chars value.now) (chars (string_bytes unescaped))) }
 {

@@ -38,6 +38,7 @@ fn dash_list<'a>(text: &'a str, rest: &str) -> ElementList<'a>
 
 // Returns the part of the list from the first item on that is not strict, which is before the rest.
 #[inline(always)]
+#[tactic(auto, using(crate::proofs::Names::append_cancel_right))]
 fn broken_part<'a>(broken: Option<&'a str>, rest: &str) -> &'a str
     requires { (unparsed : Text) × IsBroken broken unparsed (chars rest.now) }
     ensures { (unparsed : Text) → IsBroken broken.entry unparsed (chars rest.now) → shown result ≡ unparsed }

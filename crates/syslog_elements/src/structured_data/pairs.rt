@@ -57,6 +57,7 @@ fn pair_name(text: &str) -> Option<(&str, &str)>
 }
 
 // Returns the text after what ends a pair.
+#[tactic(auto, using(crate::proofs::StructuredDataLemmas::Pairs::pair_ends))]
 fn pair_end(text: &str) -> Option<&str>
     ensures { Skips spec.pair_end tt (chars text.now) result }
 {
@@ -80,6 +81,7 @@ fn pair(text: &str) -> Option<((&str, &str), &str)>
 }
 
 /// Returns the number of the pairs at the front, and the text after the bracket that closes them.
+#[tactic(auto, using(crate::proofs::StructuredDataLemmas::Pairs::counted_pairs))]
 pub(super) fn walk_pairs(text: &str) -> Option<(usize, &str)>
     ensures { MatchOption result (NoFront spec.pairs (chars text.now)) (λ x. (ps : List (Text × Text))
         × Front spec.pairs (chars text.now) (shown x.1) (ps, (tt, tt)) × (x.0 ≡ length ps)) }

@@ -159,6 +159,7 @@ impl<'a> ElementList<'a> {
     }
 
     // Returns Check Point's pairs, from the first one on; nothing if the list has none.
+    #[tactic(auto, using(crate::proofs::StructuredDataLemmas::Pairs::no_pairs_there))]
     pub(super) fn pairs(&self) -> &'a str
         ensures { chars result.now ≡ pairs_in self.now.text.now self.now.unparsed.now }
     {
@@ -186,6 +187,7 @@ impl<'a> ElementList<'a> {
 
     /// Returns the printed text of the list's elements, or `-` if there are none, if the list's own text begins with
     /// that. It may be none even then.
+    #[tactic(auto, using(crate::proofs::Names::append_cancel_right))]
     pub fn printed(&self) -> Option<&'a str>
         ensures prints { IfSome result (λ p. shown p ≡ elements_text (list_elements self.now)) }
         ensures begins { IfSome result (λ p. (left : Text) × (list_text self.now ≡ shown p ++ left)) }

@@ -4,12 +4,6 @@ use Rattle.syslog_text.proofs.TextLemmas.Words.{encodes_shown, encodes_step, fla
 use Rattle.syslog_elements.proofs.StructuredDataLemmas.Units.{encodes_param, encodes_opening, encodes_closed}
 use Rattle.syslog_elements.proofs.structured_data.StructuredElementDisplay.fmt.Goals as goal
 
-pub loop-name-init : goal.loop-name-init
-loop-name-init g c = λ canonical.
-    let id = encodes_shown c.as_str-id.result.now _ c.as_str-id.utf8 c.as_str-id.ensures in
-    let bracket = c.in_ok-write_str.ensures.writes canonical refl in
-    put_two _ _ _ _ _ _ _ bracket (c.in_ok-write_str-2.ensures.writes bracket.plain refl) (sym (encodes_opening _ _ id))
-
 pub loop-name-preserved : goal.loop-name-preserved
 loop-name-preserved g c = λ canonical.
     let so_far = c.loop-name.invariant canonical in

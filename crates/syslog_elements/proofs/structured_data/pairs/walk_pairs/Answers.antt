@@ -1,20 +1,9 @@
 use Rattle.std.proofs.Common.{inl, refl}
-use Rattle.syslog_elements.proofs.Names.{rules, arith, length, ◌+◌, ◌≤◌, [], no_row, row_of, ◌past◌, ◌then◌}
-use Rattle.syslog_text.proofs.PieceLemmas.Rules.{no_run, runs_all, runs_more}
+use Rattle.syslog_elements.proofs.Names.{rules, arith, no_row, row_of, ◌past◌, ◌then◌}
+use Rattle.syslog_text.proofs.PieceLemmas.Rules.{runs_all, runs_more}
 use Rattle.syslog_elements.specs.StructuredData.Pairs.{pairs_row}
 use Rattle.syslog_elements.proofs.StructuredDataLemmas.Pairs.{one_more, pair_shorter, pairs_row_det}
-use Rattle.syslog_elements.proofs.StructuredDataLemmas.Walk.{chars_length}
 use Rattle.syslog_elements.proofs.structured_data.pairs.walk_pairs.Goals as goal
-
-pub pairs-init : goal.pairs-init
-pairs-init c = (search rules, ([], no_run, refl, omega arith))
-
-pub overflow_add-count : goal.overflow_add-count
-overflow_add-count c =
-    let (ps, runs, same, room) = c.pairs.invariant.1 in
-    let le : c.pairs.count + 1 ≤ length c.args.text.now =
-    omega (arith, room, pair_shorter c.in-Some.ensures, chars_length c.args.text.now c.utf8.text) in
-    search rules
 
 pub pairs-preserved : goal.pairs-preserved
 pairs-preserved c =

@@ -5,13 +5,6 @@ use Rattle.syslog_elements.proofs.StructuredDataLemmas.Units.{encodes_closed, en
 use Rattle.syslog_text.proofs.TextLemmas.Words.{encodes_more, encodes_shown}
 use Rattle.syslog_elements.proofs.structured_data.display.ElementDisplay.fmt.Goals as goal
 
-pub loop-name-init : goal.loop-name-init
-loop-name-init g c = λ canonical.
-    let id = encodes_shown c.id.result.now _ c.id.utf8 refl in
-    let bracket = c.in_ok-write_str.ensures.writes canonical refl in
-    put_two _ _ _ _ _ _ _ bracket (c.in_ok-write_str-2.ensures.writes bracket.plain refl)
-    (sym (encodes_opening _ _ (ap encode_utf8_all (sym c.id.ensures) ∙ id)))
-
 pub loop-name-preserved : goal.loop-name-preserved
 loop-name-preserved g c = λ canonical.
     let so_far = c.loop-name.invariant canonical in
