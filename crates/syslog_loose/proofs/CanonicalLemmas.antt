@@ -7,17 +7,17 @@ use Rattle.syslog_loose.proofs.Names.{bytes_eq-Decides, NoFront, DashRule, Begin
 use Rattle.syslog_loose.proofs.Names.{◌∷◌, ◌++◌, nat_eq, None, Each, dash, chars_from_encodes, chars-IsAscii}
 use Rattle.syslog_loose.proofs.Names.{encodes-append, encodes-chars, encode_utf8_all, colon, EndsInColon, is_no_colon}
 use Rattle.syslog_loose.proofs.Names.{false_is, colon_ascii, ◌&&◌, inl, inr, Option, Some, IfSome, IsSome, ProcId, PID}
-use Rattle.syslog_loose.proofs.Names.{Name, Protocol, RFC3164, IsVisible, HasNoColon, IsCanonicalHost}
 use Rattle.syslog_loose.proofs.Names.{IsBracketedProcess, is_process_char, AreCanonicalNames, each_map, IsCanonical3164}
 use Rattle.syslog_loose.proofs.Names.{IsCanonicalFor, IsCanonical, is_inner_char, HasNoQuirk, IsOddHost, IsInnerProcess}
 use Rattle.syslog_loose.proofs.Names.{AreNamesButQuirks, HasQuirksAlone, each_both, IsNearlyCanonical, MessageValue}
 use Rattle.syslog_loose.proofs.Names.{each_left, each_right, IfSome_then, SyslogFacility, SyslogSeverity, trim_end}
 use Rattle.syslog_loose.proofs.Names.{NonePass, same_chars, end_trimmed_chars, no_list_is, dash_ascii}
+use Rattle.syslog_loose.proofs.Names.{Name, Protocol, RFC3164, IsVisible, HasNoColon, IsCanonicalHost}
 use Rattle.syslog_pieces.proofs.Names.{common_steps}
 use Rattle.syslog_text.proofs.TextLemmas.Runs.{from_not_true}
 use Rattle.syslog_loose.proofs.PrintedLemmas.{drop_none, drop_ends}
 use Rattle.std.proofs.lemmas.Str.{chars-append, encodes-IsAscii, IsCharBoundary-at_seam, IsUtf8-from_ascii, IsUtf8-take}
-use Rattle.std.proofs.Math.Seq.{take-append_seam}
+use Rattle.std.{proofs.Math.Seq.take-append_seam, specs.Cmp.Derive.Mapped.pointwise-map}
 use Rattle.std.proofs.lemmas.Str.Pattern.{contains_char, NoCharPasses-char}
 use Rattle.std.specs.Str.Pattern.{FindsChar, HasMatch}
 
@@ -47,6 +47,8 @@ pub some_items : {X Y : Type 0} (f : X → Y) (xs : List X) → 0 < length xs �
 some_items f xs h e = omega (arith, length-map xs f, ap length e)
 
 pub ruleset emptiness = (no_items, some_items, common_steps)
+
+pub ruleset mapped = (pointwise-map)
 
 -- a message that begins no list
 pub no_list_told : (rule : DashRule) (t : Text) (b : Bool) → MatchBool b (NoFront (rfc3164_list rule) t → ⊥)

@@ -1,21 +1,19 @@
 -- Which texts are read differently since the rule of the dash changed, and that the condition only grew.
-use Rattle.syslog_loose.proofs.Names.{rules, ◌≡◌, ◌↔◌, ◌⊎◌, ◌∷◌, ◌++◌, ◌≢◌, ◌∙◌, inl, inr, ℕ, Bool, true, false}
-use Rattle.syslog_loose.proofs.Names.{MatchBool, IsTrue, List, [], length, Option, Some, None, refl, sym, ap, arith}
-use Rattle.syslog_loose.proofs.Names.{append_assoc, append-nil, eqb_tells, Text, Class, Values, Front, join, Row, Ends}
-use Rattle.syslog_loose.proofs.Names.{optional, run, shown, ElementValue, IsDashBefore, IsRfc3164List, rfc3164_list}
-use Rattle.syslog_loose.proofs.Names.{BeginsNoList, trimmed, is_blank, dash, Dating, line_value, dash_rule, IsRead}
-use Rattle.syslog_loose.proofs.Names.{IsUnreadable, names_value, IsLineOf, Line, DashRule, BeforeAnything, BeforeBlank}
-use Rattle.syslog_loose.proofs.Names.{AllDeterministic, front_same, row_det, optional_none, optional_some, row_cons}
-use Rattle.syslog_loose.proofs.Names.{row_head, rows_join, division_front, optional_det, both_values, all_joined}
-use Rattle.syslog_loose.proofs.Names.{rows_split, absent_stays, piece_front, decide, dash_rfc3164_list, no_rfc3164_list}
-use Rattle.syslog_loose.proofs.Names.{rfc3164_list_det, Protocol, Variant, Either, RFC5424, IsCanonicalFor, IsCanonical}
-use Rattle.syslog_loose.proofs.Names.{MessageValue, Names3164, Resolves, rfc3164_row, IsRead3164, stamped_row}
-use Rattle.syslog_loose.proofs.Names.{fields_row, Divides, IsReadUnder}
+use Rattle.syslog_loose.proofs.Names.{MatchBool, AllDeterministic, dash_rfc3164_list, no_rfc3164_list, rfc3164_list_det}
+use Rattle.syslog_loose.proofs.Names.{◌≡◌, IsRfc3164List, BeforeAnything, optional_none, division_front, IsCanonicalFor}
+use Rattle.syslog_loose.proofs.Names.{append_assoc, append-nil, ElementValue, IsDashBefore, rfc3164_list, optional_some}
+use Rattle.syslog_loose.proofs.Names.{BeginsNoList, IsUnreadable, names_value, optional_det, absent_stays, MessageValue}
+use Rattle.syslog_loose.proofs.Names.{◌↔◌, BeforeBlank, both_values, piece_front, IsCanonical, rfc3164_row, stamped_row}
+use Rattle.syslog_loose.proofs.Names.{optional, line_value, front_same, all_joined, rows_split, IsRead3164, IsReadUnder}
+use Rattle.syslog_loose.proofs.Names.{rules, eqb_tells, is_blank, dash_rule, IsLineOf, rows_join, Names3164, fields_row}
+use Rattle.syslog_loose.proofs.Names.{◌++◌, trimmed, DashRule, row_det, row_cons, row_head, Protocol, Variant, Resolves}
+use Rattle.syslog_loose.proofs.Names.{IsTrue, length, Option, Values, Dating, IsRead, decide, Either, RFC5424, Divides}
+use Rattle.syslog_loose.proofs.Names.{Bool, true, false, List, Some, None, refl, arith, Text, Class, Front, join, shown}
+use Rattle.syslog_loose.proofs.Names.{◌⊎◌, ◌∷◌, ◌≢◌, ◌∙◌, inl, inr, ℕ, [], sym, ap, Row, Ends, run, dash, Line}
 use Rattle.syslog_text.proofs.PieceLemmas.Class.{firsts, lasts}
 use Rattle.std.proofs.Math.Seq.{drop-append_seam}
-use Rattle.syslog_loose.specs.Bodies.View3164.{FieldsAreRead}
-use Rattle.syslog_loose.specs.declared.variant.Variant.TheVariants.{RFC3164}
-use Rattle.syslog_loose.specs.declared.rfc3164.NameFields.{NameFields}
+use Rattle.syslog_loose.{proofs.LineLemmas.line_rest, specs.Bodies.View3164.FieldsAreRead}
+use Rattle.syslog_loose.specs.declared.{rfc3164.NameFields.NameFields, variant.Variant.TheVariants.RFC3164}
 use Rattle.syslog_loose.specs.DashChange.{ReadsDifferently, BeginsDashChange, HasDashChange3164, HasDashChange}
 use Rattle.syslog_loose.specs.DashChange.{IsReadingUnder, WasUnreadable}
 use Rattle.syslog_loose.proofs.Rfc3164Lemmas.{is_read, from_gap, from_list, gap_back}
@@ -23,7 +21,6 @@ use Rattle.syslog_loose.proofs.ReadingLemmas.{unversioned, versioned}
 use Rattle.syslog_loose.proofs.Rfc3164Lemmas as rfc3164
 use Rattle.syslog_loose.specs.declared.message.Protocol.TheVariants as protocol
 use Rattle.syslog_loose.proofs.Rfc5424Lemmas as strict
-use Rattle.syslog_loose.proofs.LineLemmas.{line_rest}
 
 -- ---- two readings
 

@@ -1,5 +1,4 @@
 pub mod CanonicalLemmas
-pub mod EqualityLemmas
 pub mod DashChangeLemmas
 pub mod LineLemmas
 pub mod Names

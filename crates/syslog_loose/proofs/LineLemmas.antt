@@ -2,8 +2,7 @@
 use Rattle.syslog_loose.proofs.Names.{rules, ◌≡◌, ◌++◌, ◌∙◌, sym, subst, append_cancel_right, Text, Class, Front}
 use Rattle.syslog_loose.proofs.Names.{texted, None, Dating, Line, IsLineOf, shown, trimmed}
 use Rattle.syslog_text.proofs.PieceLemmas.Class.{texted_front}
-use Rattle.syslog_loose.specs.Rows.{IsAfterStamp}
-use Rattle.syslog_loose.specs.declared.variant.Variant.{Variant}
+use Rattle.syslog_loose.specs.{Rows.IsAfterStamp, declared.variant.Variant.Variant}
 
 -- the text of a piece, which is all before what follows
 pub texted_as : (C : Class) {t q own : Text} {v : C.Value} → Front C t q v → t ≡ own ++ q → Front (texted C) t q own

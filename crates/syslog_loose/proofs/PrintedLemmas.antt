@@ -1,27 +1,25 @@
 -- What is printed: what trimming leaves of it, the priority that it begins with, and its bytes.
-use Rattle.syslog_loose.proofs.Names.{rules, append-nil, drop_trailing_whitespace, printed_stamp-visible}
-use Rattle.syslog_loose.proofs.Names.{printed_stamp-begins, ◌*◌, facility_composed, severity_composed}
-use Rattle.syslog_loose.proofs.Names.{is_not_whitespace, printed_stamp-bytes, option_and_then, is_whitespace}
-use Rattle.syslog_loose.proofs.Names.{joined_elements, OffsetTimestamp, facility_number, elements_text, severity_number}
-use Rattle.syslog_loose.proofs.Names.{encode_utf8_all, encodes-decimal, spaced_elements, severity_there, ℕ}
-use Rattle.syslog_loose.proofs.Names.{timestamp_text, SyslogFacility, SyslogSeverity, encodes-append, append_assoc}
-use Rattle.syslog_loose.proofs.Names.{ElementValue, param_text, element_text, option_map_or, MessageValue, ◌+◌}
-use Rattle.syslog_loose.proofs.Names.{facility_of, severity_of, printed_row, piece_front, priority_of, number_back}
-use Rattle.syslog_loose.proofs.Names.{IsSome, rest_whole, row_pieces, clock_value, stamp_seen, protocol_of, encode_utf8}
-use Rattle.syslog_loose.proofs.Names.{no_truth, false, flat_map, nat_tests, row_head, ClockStamp, line_value, rest_text}
-use Rattle.syslog_loose.proofs.Names.{nat_eq, Option, classes, is_blank, exactly, decimal, priority, printed, RFC3164}
-use Rattle.syslog_loose.proofs.Names.{◌&&◌, length, subst, arith, Class, Values, Front, Format, ◌then◌, row_of, number}
-use Rattle.syslog_loose.proofs.Names.{◌≡◌, ◌++◌, Bool, true, cond, Some, None, List, refl, Text, Each, Ends, rest, Line}
-use Rattle.syslog_loose.proofs.Names.{◌<◌, ◌∷◌, ◌∙◌, inl, inr, not, [], sym, ap, Row, run, ◌≤◌, ◌≢◌}
+use Rattle.syslog_loose.proofs.Names.{append-nil, drop_trailing_whitespace, printed_stamp-visible, printed_stamp-begins}
+use Rattle.syslog_loose.proofs.Names.{◌*◌, facility_composed, severity_composed, is_not_whitespace, printed_stamp-bytes}
+use Rattle.syslog_loose.proofs.Names.{option_and_then, is_whitespace, joined_elements, OffsetTimestamp, facility_number}
+use Rattle.syslog_loose.proofs.Names.{elements_text, severity_number, encode_utf8_all, encodes-decimal, spaced_elements}
+use Rattle.syslog_loose.proofs.Names.{severity_there, ℕ, timestamp_text, SyslogFacility, SyslogSeverity, encodes-append}
+use Rattle.syslog_loose.proofs.Names.{append_assoc, ElementValue, element_text, option_map_or, nat_tests, encodes_shown}
+use Rattle.syslog_loose.proofs.Names.{MessageValue, facility_of, severity_of, printed_row, piece_front, priority_of, []}
+use Rattle.syslog_loose.proofs.Names.{rules, number_back, rest_whole, row_pieces, clock_value, protocol_of, encode_utf8}
+use Rattle.syslog_loose.proofs.Names.{stamp_seen, no_truth, row_head, ClockStamp, line_value, rest_text, ap, length-map}
+use Rattle.syslog_loose.proofs.Names.{IsSome, classes, is_blank, exactly, decimal, priority, printed, RFC3164, put_four}
+use Rattle.syslog_loose.proofs.Names.{false, nat_eq, Option, length, Values, Format, ◌then◌, row_of, number, put_two}
+use Rattle.syslog_loose.proofs.Names.{◌&&◌, subst, arith, Class, Front, ◌++◌, Bool, true, cond, Some, None, List, refl}
+use Rattle.syslog_loose.proofs.Names.{◌+◌, ◌≡◌, Text, Each, Ends, rest, Line, ◌<◌, ◌∷◌, ◌∙◌, inl, inr, not, sym, Row}
+use Rattle.syslog_loose.proofs.Names.{run, ◌≤◌, ◌≢◌}
 use Rattle.syslog_text.proofs.PieceLemmas.Lists.{printed_more}
-use Rattle.syslog_pieces.proofs.PriLemmas.{as_priority}
-use Rattle.syslog_loose.specs.Canonical.{EndsVisibly}
+use Rattle.syslog_pieces.{proofs.PriLemmas.as_priority, specs.Pri.priority_row}
+use Rattle.syslog_loose.specs.{Bodies.Cases.printed_number, Canonical.EndsVisibly}
 unfoldable pub use Rattle.syslog_loose.specs.Bodies.Jumps.{message_end}
-use Rattle.syslog_pieces.specs.Pri.{priority_row}
 use Rattle.syslog_loose.specs.Printed.{printed_3164, printed_5424, rest_3164, rest_5424}
 use Rattle.syslog_pieces.specs.Front.{clock_text, front_text}
 use Rattle.syslog_loose.specs.declared.message.Protocol.TheVariants.{RFC5424}
-use Rattle.syslog_loose.specs.Bodies.Cases.{printed_number}
 
 -- ---- characters
 
@@ -200,6 +198,8 @@ priority_trimmed n q =
 -- what is written piece by piece is the encoded text
 pub ruleset encoded = (append_assoc, encodes-append, encodes-decimal)
 
+pub ruleset put_encoded = (encodes_shown, put_two, put_four, printed_stamp-bytes, encoded)
+
 -- what is written after the timestamp, field by field, is the encoded rest
 pub written_rest : (host app process id elements msg : Text) (m : List ℕ) → encode_utf8_all msg ≡ m
     → (32 ∷ encode_utf8_all host) ++ (((32 ∷ encode_utf8_all app) ++ ((32 ∷ encode_utf8_all process)
@@ -220,12 +220,6 @@ unfolding encode_utf8
 written_5424 pri priority version stamp host app process id shown elements msg m e f h =
     search (rules, append_assoc, encodes-append, encodes-decimal)
 
--- the writes of a message of RFC 3164, joined
-joined_3164 : (pri stamp host tag elements msg : List ℕ)
-    → (60 ∷ (pri ++ (62 ∷ []))) ++ (((32 ∷ stamp) ++ (32 ∷ host)) ++ ((32 ∷ tag) ++ (elements ++ msg)))
-    ≡ 60 ∷ (pri ++ (62 ∷ 32 ∷ (stamp ++ (32 ∷ (host ++ (32 ∷ (tag ++ (elements ++ msg))))))))
-joined_3164 pri stamp host tag elements msg = simp append_assoc refl
-
 -- `<priority>` and the fields of RFC 3164
 pub written_3164 : (pri priority : ℕ) (stamp host tag shown elements msg : Text) (m : List ℕ) → pri ≡ priority → shown
     ≡ elements → encode_utf8_all msg ≡ m → (60 ∷ (decimal pri ++ (62 ∷ []))) ++ (((32 ∷ encode_utf8_all stamp)
@@ -233,7 +227,7 @@ pub written_3164 : (pri priority : ℕ) (stamp host tag shown elements msg : Tex
     (60 ∷ (decimal priority ++ (62 ∷ 32 ∷ (stamp ++ (32 ∷ (host ++ (32 ∷ (tag ++ (elements ++ msg)))))))))
 unfolding encode_utf8
 written_3164 pri priority stamp host tag shown elements msg m e f h =
-    search (rules, joined_3164, encodes-append, encodes-decimal)
+    search (rules, append_assoc, encodes-append, encodes-decimal)
 
 -- elements, at least one, and a space after them
 pub encodes_spaced : (es : List ElementValue) → 0 < length es
@@ -241,6 +235,8 @@ pub encodes_spaced : (es : List ElementValue) → 0 < length es
 unfolding encode_utf8
 encodes_spaced [] h = absurd (omega arith)
 encodes_spaced (e ∷ es) h = encodes-append (joined_elements (e ∷ es)) (32 ∷ [])
+
+pub ruleset put_spaced = (put_two, encodes_spaced, length-map)
 
 -- ---- the bytes of printed lines
 

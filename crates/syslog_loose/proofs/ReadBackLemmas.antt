@@ -1,36 +1,33 @@
 -- The printed text of a message, read under `Either` or the message's own variant; that it shows no month date; and its
 -- characters.
-use Rattle.syslog_loose.proofs.Names.{rules, ◌⊎◌, inl, inr, Text, Dating, IsBounded, MessageValue, dash_rule, IsRead}
-use Rattle.syslog_loose.proofs.Names.{Variant, IsRead3164, IsRead5424, Either, RFC5424, ◌≡◌, ◌∙◌, Some, refl, sym}
-use Rattle.syslog_loose.proofs.Names.{unwrap_or, ℕ, LOG_SYSLOG, SEV_DEBUG, DashRule, IsCanonical, HasNoQuirk, printed}
-use Rattle.syslog_loose.proofs.Names.{◌↔◌, ℤ, Ok, List, Option, Result, Err, ap, subst, string_bytes, encodes-chars}
-use Rattle.syslog_loose.proofs.Names.{IfOk, String, chars, IsUtf8, encode_utf8_all, Global, ReadsProtocol, IsFixed}
-use Rattle.syslog_loose.proofs.Names.{IsOnlyRead, ◌<◌, IsUnreadable, Answers, IncompleteDate, InYear, ParseFault}
-use Rattle.syslog_loose.proofs.Names.{Invalid, Memory, ◌≤◌, Protocol, ◌^◌, ◌&&◌, ◌∷◌, ◌++◌, suc, pos, negsuc, Bool}
-use Rattle.syslog_loose.proofs.Names.{true, nat_eq, [], length, None, IfSome, arith, nat_tests, is_ascii_digit}
-use Rattle.syslog_loose.proofs.Names.{is_whitespace, decimal, flat_map, AllByRecursion, skip_leading_whitespace}
-use Rattle.syslog_loose.proofs.Names.{drop_trailing_whitespace, join, Each, IsPart, AreInPieces, text_list}
-use Rattle.syslog_loose.proofs.Names.{process_texts, ElementValue, param_text, trimmed, element_text, joined_elements}
-use Rattle.syslog_loose.proofs.Names.{elements_text, element_texts, name_text, ProcId, PID, Name, OffsetTimestamp}
-use Rattle.syslog_loose.proofs.Names.{each_map, each_front, each_after, all_left, tag_text, all_right, each_append}
-use Rattle.syslog_loose.proofs.Names.{part_joined, decimal_digits, IsBoundedProcess, nat_le, IsBoundedProtocol}
-use Rattle.syslog_loose.proofs.Names.{message_texts, timestamp_text, spaced_elements, priority_of, MatchResult, nat_lt}
-use Rattle.syslog_loose.proofs.Names.{all_map, printed_stamp-characters, append_assoc, Front, Row, is_not_whitespace}
-use Rattle.syslog_loose.proofs.Names.{is_blank, MonthDate, AsksYear, priority, ShowsMonthDate, IsLow, month_date}
-use Rattle.syslog_loose.proofs.Names.{optional_some, Begins, begins_apart, number_back, month_date_begins, IsLetter}
-use Rattle.syslog_loose.proofs.Names.{printed_stamp-visible, digits_visible, row_of, ◌then◌, piece_front, run, row_head}
-use Rattle.syslog_loose.proofs.Names.{rest, rows_step, division_front, shown}
-use Rattle.syslog_loose.specs.declared.variant.Variant.TheVariants.{RFC3164}
+use Rattle.syslog_loose.proofs.Names.{Text, skip_leading_whitespace, drop_trailing_whitespace, printed_stamp-characters}
+use Rattle.syslog_loose.proofs.Names.{ℕ, IsBoundedProtocol, is_not_whitespace, month_date_begins, printed_stamp-visible}
+use Rattle.syslog_loose.proofs.Names.{MessageValue, encode_utf8_all, joined_elements, OffsetTimestamp, IsBoundedProcess}
+use Rattle.syslog_loose.proofs.Names.{IncompleteDate, is_ascii_digit, AllByRecursion, decimal_digits, spaced_elements}
+use Rattle.syslog_loose.proofs.Names.{Ok, encodes-chars, timestamp_text, ShowsMonthDate, digits_visible, division_front}
+use Rattle.syslog_loose.proofs.Names.{Dating, ReadsProtocol, is_whitespace, process_texts, elements_text, element_texts}
+use Rattle.syslog_loose.proofs.Names.{IsBounded, string_bytes, IsUnreadable, ElementValue, message_texts, optional_some}
+use Rattle.syslog_loose.proofs.Names.{IsCanonical, AreInPieces, element_text, each_append, append_assoc, begins_apart}
+use Rattle.syslog_loose.proofs.Names.{IsRead3164, Some, part_joined, priority_of, MatchResult, number_back, piece_front}
+use Rattle.syslog_loose.proofs.Names.{dash_rule, IsRead5424, LOG_SYSLOG, HasNoQuirk, IsOnlyRead, ParseFault, param_text}
+use Rattle.syslog_loose.proofs.Names.{unwrap_or, SEV_DEBUG, ℤ, nat_tests, text_list, each_front, each_after, month_date}
+use Rattle.syslog_loose.proofs.Names.{Variant, DashRule, Protocol, flat_map, name_text, all_right, MonthDate, rows_step}
+use Rattle.syslog_loose.proofs.Names.{each_map, all_left, tag_text, is_blank, AsksYear, priority, IsLetter, row_head}
+use Rattle.syslog_loose.proofs.Names.{IsRead, RFC5424, printed, IsFixed, Answers, Invalid, decimal, trimmed, all_map}
+use Rattle.syslog_loose.proofs.Names.{Either, Option, Result, String, IsUtf8, Global, InYear, Memory, negsuc, nat_eq}
+use Rattle.syslog_loose.proofs.Names.{rules, ap, length, IfSome, IsPart, ProcId, nat_le, nat_lt, Begins, row_of, ◌then◌}
+use Rattle.syslog_loose.proofs.Names.{◌⊎◌, refl, List, subst, IfOk, chars, ◌&&◌, ◌++◌, Bool, arith, Front, IsLow, shown}
+use Rattle.syslog_loose.proofs.Names.{inl, inr, ◌≡◌, ◌∙◌, sym, ◌↔◌, Err, ◌<◌, ◌≤◌, true, None, join, Each, Name, rest}
+use Rattle.syslog_loose.proofs.Names.{◌^◌, ◌∷◌, suc, pos, [], PID, Row, run}
+use Rattle.syslog_loose.{proofs.SettlingLemmas.Falls.rfc3164_exact, specs.declared.variant.Variant.TheVariants.RFC3164}
 use Rattle.syslog_loose.proofs.Rfc5424Lemmas.{read_completed, completed, priority_same, printed_is}
-use Rattle.syslog_loose.proofs.Rfc3164Lemmas.{rfc3164_bounded, printed_3164_is, digit_range, quotes}
-use Rattle.syslog_loose.proofs.Rfc3164Lemmas.{shows_month_date, to_stamp, to_stamp_det, told, printed_unlike}
+use Rattle.syslog_loose.proofs.Rfc3164Lemmas.{rfc3164_bounded, printed_3164_is, digit_range, quotes, shows_month_date}
+use Rattle.syslog_loose.proofs.Rfc3164Lemmas.{to_stamp, to_stamp_det, told, printed_unlike}
 use Rattle.syslog_loose.specs.Printed.{printed_3164, process_text, printed_5424}
-use Rattle.syslog_loose.proofs.CanonicalLemmas.{near_completed}
+use Rattle.syslog_loose.proofs.{CanonicalLemmas.near_completed, Rfc3164Lemmas.ReadBack.stamp_low}
 use Rattle.syslog_loose.proofs.Rfc3164Lemmas.Near.{read_near, read_nearly, stamp_read}
 use Rattle.syslog_loose.specs.ReadBack.{AnswersItself, FieldsAsRead, AnswersAgain}
 use Rattle.syslog_loose.proofs.ReadingLemmas.{Found, value}
-use Rattle.syslog_loose.proofs.Rfc3164Lemmas.ReadBack.{stamp_low}
-use Rattle.syslog_loose.proofs.SettlingLemmas.Falls.{rfc3164_exact}
 use Rattle.std.proofs.Math.Utf8.{scalar, scalars, low_scalar}
 use Rattle.std.proofs.lemmas.Bool.{and_from, and_parts, cond_both}
 use Rattle.syslog_loose.specs.OneLine.{is_no_feed, IsOneLine}
@@ -46,8 +43,7 @@ pub read_as : (variant : Variant) (dating : Dating) (text : Text) (m : MessageVa
     → IsRead5424 text m ⊎ IsRead3164 dash_rule dating text m
 read_as RFC5424 dating text m r = inl r
 read_as RFC3164 dating text m r = inr r
-read_as Either dating text m (inl r) = inl r
-read_as Either dating text m (inr (none, r)) = inr r
+read_as Either dating text m r = search rules
 
 pub read_bounded : (variant : Variant) (dating : Dating) (text : Text) (m : MessageValue) → IsRead variant dating text m
     → IsBounded m
@@ -170,8 +166,7 @@ read_shows_none variant dating text m r = shows_none_as m.protocol m refl
 asks_shown : (variant : Variant) (text : Text) (date : MonthDate) → AsksYear variant text date
     → ShowsMonthDate text date
 asks_shown RFC5424 text date asks = absurd asks
-asks_shown RFC3164 text date asks = shows_month_date text date asks
-asks_shown Either text date asks = shows_month_date text date asks
+asks_shown variant text date asks = shows_month_date text date asks
 
 pub printed_quiet : (variant : Variant) (dating : Dating) (text : Text) (m : MessageValue)
     → IsRead variant dating text m → (date : MonthDate) → AsksYear variant (printed m) date → ⊥
@@ -271,11 +266,6 @@ module _ (test : ℕ → Bool) (ascii : (c : ℕ) → is_ascii_print c ≡ true 
   part_line : (p t : Text) → Passes p → IsPart p t → Passes t
   part_line p t h (before, after, e) = each_front test t after (each_after test before (t ++ after) (subst Passes e h))
 
-  -- what is in the pieces of a trimmed line is one line
-  pieces_line : (text : Text) (ps ts : List Text) → Passes text → trimmed text ≡ join ps → AreInPieces ps ts
-      → AllByRecursion Passes ts
-  pieces_line text ps ts h e k = search (rules, drop_line, skip_line, all_map, part_line, part_joined)
-
   -- ---- the parts of a printed text
 
   name_line : (name : Option Text) → AllByRecursion Passes (text_list name) → Passes (name_text name)
@@ -333,47 +323,50 @@ module _ (test : ℕ → Bool) (ascii : (c : ℕ) → is_ascii_print c ≡ true 
     elements : AllByRecursion Passes (flat_map element_texts m.structured_data)
     msg : AllByRecursion Passes (m.msg ∷ [])
 
-  texts_lines : (m : MessageValue) → AllByRecursion Passes (message_texts m) → AreLines m
-  texts_lines m h = search (all_left Passes, all_right Passes) depth 8
+  -- the texts of a message that are in the pieces of a trimmed line are in that line
+  are_lines : (text : Text) (ps : List Text) (m : MessageValue) → Passes text → trimmed text ≡ join ps
+      → AreInPieces ps (message_texts m) → AreLines m
+  are_lines text ps m h e k =
+      let all : AllByRecursion Passes (message_texts m) =
+      search (rules, drop_line, skip_line, all_map, part_line, part_joined) in
+      search (all_left Passes, all_right Passes) depth 8
 
   priority_line : (m : MessageValue) → Passes (decimal (priority_of m))
   priority_line m = let small = priority_small m in number_line (priority_of m) (omega arith)
 
-  rfc3164_line : (m : MessageValue) → IfSome m.procid IsBoundedProcess → AreLines m → Passes (printed_3164 m)
-  unfolding printed_3164
-  rfc3164_line m b h =
-      search (each_append test, ascii, priority_line m, timestamp_line, name_line, tag_line, spaced_line) depth 24
-
-  strict_line : (version : ℕ) (m : MessageValue) → version < 2 ^ 32 → IfSome m.procid IsBoundedProcess → AreLines m
-      → Passes (printed_5424 version m)
-  unfolding printed_5424
-  strict_line version m v b h =
-      search (rules, number_line, each_append, priority_line, timestamp_line, name_line, process_line, elements_line)
-
-  -- ---- what is read
-  rfc3164_printed : (dating : Dating) (text : Text) (m : MessageValue) → IsRead3164 dash_rule dating text m
-      → Passes text → Passes (printed m)
-  rfc3164_printed dating text m r h =
-      let q = quotes dash_rule dating text m r in
-      subst Passes (sym (rfc3164.printed_3164_is m (read_near dash_rule dating text m r).protocol))
-      (rfc3164_line m (rfc3164_bounded dash_rule dating text m r).procid
-      (texts_lines m (pieces_line text q.read.division.pieces (message_texts m) h q.read.division.whole q.each)))
-
-  strict_printed : (text : Text) (m : MessageValue) → IsRead5424 text m → Passes text → Passes (printed m)
-  strict_printed text m r h =
-      let q = rfc5424.quotes text m r in
-      let e = ap (λ (x : MessageValue). x.protocol) r.means in
-      let b = (read_completed dash_rule text m r).1 in
-      subst Passes (sym (printed_is r.values.1.0 m e))
-      (strict_line r.values.1.0 m (subst IsBoundedProtocol e b.protocol) b.procid
-      (texts_lines m (pieces_line text q.read.division.pieces (message_texts m) h q.read.division.whole q.each)))
+  printed_as : (p : Protocol) (m : MessageValue) → m.protocol ≡ p → IsBoundedProtocol p
+      → IfSome m.procid IsBoundedProcess → AreLines m → Passes (printed m)
+  unfolding printed_3164 printed_5424
+  printed_as protocol.RFC3164 m e l b h = rw (printed_3164_is m e) (search (
+    each_append test,
+    ascii,
+    priority_line m,
+    timestamp_line,
+    name_line,
+    tag_line,
+    spaced_line,
+  ) depth 24)
+  printed_as (protocol.RFC5424 version) m e l b h = rw (printed_is version m e) (search (
+    rules,
+    number_line,
+    each_append,
+    priority_line,
+    timestamp_line,
+    name_line,
+    process_line,
+    elements_line,
+  ))
 
   pub printed_passes : (variant : Variant) (dating : Dating) (text : Text) (m : MessageValue)
       → IsRead variant dating text m → Passes text → Passes (printed m)
-  printed_passes variant dating text m r h = elim (read_as variant dating text m r) [
-    | inl s ↦ strict_printed text m s h
-    | inr s ↦ rfc3164_printed dating text m s h
-  ]
+  printed_passes variant dating text m r h =
+      let b = read_bounded variant dating text m r in
+      let (ps, whole, each) : (ps : List Text) × (trimmed text ≡ join ps) × AreInPieces ps (message_texts m) =
+      elim (read_as variant dating text m r) [
+        | inl s ↦ (let q = rfc5424.quotes text m s in (q.read.division.pieces, q.read.division.whole, q.each))
+        | inr s ↦ (let q = quotes dash_rule dating text m s in (q.read.division.pieces, q.read.division.whole, q.each))
+      ] in
+      printed_as m.protocol m refl b.protocol b.procid (are_lines text ps m h whole each)
 
 -- ---- one line
 pub printed_line : (variant : Variant) (dating : Dating) (text : Text) (m : MessageValue) → IsRead variant dating text m

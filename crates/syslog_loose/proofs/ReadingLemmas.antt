@@ -3,35 +3,27 @@
 use Rattle.syslog_loose.proofs.Names.{rules, ◌⊎◌, ◌≡◌, ◌≢◌, ◌∙◌, inl, inr, ℕ, ℤ, List, Option, Some, None, w32, to_z}
 use Rattle.syslog_loose.proofs.Names.{of_z, refl, sym, ap, subst, MatchOption, IsSomeAnd, Bor, TimeZone, Text, shown}
 use Rattle.syslog_loose.proofs.Names.{Dating, dating_of, MonthDate, MessageValue, message_value, dash_rule, IsRead}
-use Rattle.syslog_loose.proofs.Names.{IsOnlyRead, IncompleteDate, AsksYear, IsYearAnswered, InYear, IsQuoted}
-use Rattle.syslog_loose.proofs.Names.{incomplete, IsRead5424, Invalid, Memory, Variant, Either, RFC5424, ◌↔◌, ◌then◌}
-use Rattle.syslog_loose.proofs.Names.{◌past◌, Err, false, true, arith, IsSome, row_of, no_row, Class, Front, NoFront}
-use Rattle.syslog_loose.proofs.Names.{run, optional, priority, trimmed, is_blank, clock_value, header_stamp, stamp_seen}
-use Rattle.syslog_loose.proofs.Names.{rfc3164_stamp, ShowsYearless, ShowsMonthDate, yearless_date, month_date}
-use Rattle.syslog_loose.proofs.Names.{ClockStamp, front_same, optional_det, run_det, Begins, begins_apart, priority_det}
-use Rattle.syslog_loose.proofs.Names.{some_front_run, month_date_begins, IsLetter, IsLow, ReadsProtocol, Answers}
-use Rattle.syslog_loose.proofs.Names.{IsLeftTo3164, HasMonth, stamped_row, IsNot3164, no_truth, IsNot5424}
-use Rattle.syslog_loose.proofs.Names.{IsAfterPriority, BeginsWithout, [], Result, Ok, append-nil, ElementValue}
-use Rattle.syslog_loose.proofs.Names.{list_elements, DashRule, line_value, protocol_of, IsRead3164, IsLineOf, Made}
-use Rattle.syslog_loose.proofs.Names.{ParseFault, Line, SFits}
-use Rattle.syslog_loose.specs.declared.variant.Variant.TheVariants.{RFC3164}
-use Rattle.syslog_loose.specs.declared.message.Message.{Message}
-use Rattle.syslog_loose.proofs.Rfc3164Lemmas.{shown_apart, not_read, date_has_month, shows_month_date}
-use Rattle.syslog_loose.proofs.Rfc3164Lemmas.{shown_once, shown_parts, shows, stamped_det}
+use Rattle.syslog_loose.proofs.Names.{IsOnlyRead, IncompleteDate, AsksYear, InYear, IsQuoted, incomplete, IsRead5424}
+use Rattle.syslog_loose.proofs.Names.{Invalid, Memory, Variant, Either, RFC5424, ◌↔◌, ◌then◌, ◌past◌, Err, false, true}
+use Rattle.syslog_loose.proofs.Names.{arith, IsSome, row_of, no_row, Class, Front, NoFront, run, optional, priority}
+use Rattle.syslog_loose.proofs.Names.{trimmed, is_blank, clock_value, header_stamp, stamp_seen, rfc3164_stamp}
+use Rattle.syslog_loose.proofs.Names.{ShowsYearless, ShowsMonthDate, yearless_date, month_date, ClockStamp, front_same}
+use Rattle.syslog_loose.proofs.Names.{optional_det, run_det, Begins, begins_apart, priority_det, some_front_run}
+use Rattle.syslog_loose.proofs.Names.{month_date_begins, IsLetter, IsLow, ReadsProtocol, Answers, IsLeftTo3164}
+use Rattle.syslog_loose.proofs.Names.{BeginsWithout, [], Result, Ok, append-nil, ElementValue, list_elements, DashRule}
+use Rattle.syslog_loose.proofs.Names.{line_value, protocol_of, IsRead3164, IsLineOf, Made, ParseFault, Line, SFits}
+use Rattle.syslog_loose.proofs.Names.{HasMonth, stamped_row, IsNot3164, no_truth, IsNot5424, IsAfterPriority}
+use Rattle.syslog_loose.specs.{LineTexts.IsLine3164, LineTexts.IsLine5424, declared.variant.Variant.TheVariants.RFC3164}
+use Rattle.syslog_loose.specs.{Bodies.Start.BeginsWith, declared.message.Message.Message}
+use Rattle.syslog_loose.proofs.Rfc3164Lemmas.{shown_apart, not_read, date_has_month, shows_month_date, shown_once}
+use Rattle.syslog_loose.proofs.Rfc3164Lemmas.{shown_parts, shows, stamped_det}
 use Rattle.syslog_text.specs.Pieces.View.{Reads}
-use Rattle.syslog_pieces.specs.Timestamp.{IsAnswer}
-use Rattle.syslog_pieces.specs.Timestamp.Zone.{IsMonthStamp}
+use Rattle.syslog_pieces.specs.Timestamp.{IsAnswer, Zone.IsMonthStamp}
 use Rattle.syslog_pieces.proofs.TimestampLemmas.MonthDate.{date_front, header_front, header_stamp_begins, no_date}
 use Rattle.syslog_pieces.proofs.TimestampLemmas.MonthDate.{no_stamp_of_date}
-use Rattle.syslog_loose.specs.Bodies.Start.{BeginsWith}
-use Rattle.syslog_loose.specs.DateForm.{ShowsNoDate}
-use Rattle.syslog_loose.specs.Rows.{IsAfterStamp}
-use Rattle.syslog_elements.specs.StructuredData.Visited.{Visits}
-use Rattle.syslog_elements.specs.StructuredData.Collected.{HasCollected}
+use Rattle.syslog_loose.specs.{DateForm.ShowsNoDate, Message.with_elements, Rows.IsAfterStamp, Visit.IsCompleted}
+use Rattle.syslog_elements.specs.StructuredData.{Collected.HasCollected, Visited.Visits}
 use Rattle.syslog_elements.specs.declared.structured_data.collect.Collect.{Collect}
-use Rattle.syslog_loose.specs.Message.{with_elements}
-use Rattle.syslog_loose.specs.LineTexts.{IsLine3164, IsLine5424}
-use Rattle.syslog_loose.specs.Visit.{IsCompleted}
 use Rattle.syslog_loose.proofs.Rfc3164Lemmas as rfc3164
 use Rattle.syslog_loose.proofs.Rfc5424Lemmas as strict
 use Rattle.syslog_loose.specs.declared.message.Protocol.TheVariants as protocol
@@ -56,8 +48,7 @@ pub quoted : (variant : Variant) (dating : Dating) (text : Text) (m : MessageVal
     → IsQuoted variant dating text m
 quoted RFC5424 dating text m r = strict.quotes text m r
 quoted RFC3164 dating text m r = rfc3164.quotes dash_rule dating text m r
-quoted Either dating text m (inl r) = inl (strict.quotes text m r)
-quoted Either dating text m (inr (none, r)) = inr (none, rfc3164.quotes dash_rule dating text m r)
+quoted Either dating text m r = search (rules, strict.quotes, rfc3164.quotes)
 
 pub only_read : (variant : Variant) (dating : Dating) (text : Text) (m : MessageValue) → IsRead variant dating text m
     → IsOnlyRead variant dating text m
@@ -246,12 +237,9 @@ module _ (variant : Variant) (text : Text) {follows : Text} {p : Option ℕ}
 read_by : (variant : Variant) (dating : Dating) (text : Text) (m : MessageValue) → (variant ≢ RFC3164
     × IsRead5424 text m) ⊎ (IsLeftTo3164 variant text × IsRead3164 dash_rule dating text m)
     → IsRead variant dating text m
-read_by RFC5424 dating text m (inl (n, r)) = r
-read_by RFC5424 dating text m (inr (left, r)) = absurd left
-read_by RFC3164 dating text m (inl (n, r)) = absurd (n refl)
-read_by RFC3164 dating text m (inr (left, r)) = r
-read_by Either dating text m (inl (n, r)) = inl r
-read_by Either dating text m (inr both) = inr both
+read_by RFC5424 dating text m r = search rules
+read_by RFC3164 dating text m r = search rules
+read_by Either dating text m r = search rules
 
 -- a text that is read by RFC 5424 shows no month date
 pub strict_shows_none : (text : Text) (m : MessageValue) → IsRead5424 text m → ShowsNoDate text

@@ -1,24 +1,16 @@
 -- A date has one year, and a text one dating.
 use Rattle.syslog_loose.proofs.Names.{rules, ◌≡◌, ◌∙◌, ℤ, Option, Some, None, refl, sym, Text, Dating, MonthDate}
-use Rattle.syslog_loose.proofs.Names.{AsksYear, IncompleteDate, IsYearAnswered, Variant, Either, RFC5424}
-use Rattle.jiff.specs.Words.{plain_zone}
+use Rattle.syslog_loose.proofs.Names.{AsksYear, IncompleteDate, IsYearAnswered, Variant, RFC5424}
+use Rattle.jiff.{proofs.SpanFacts.signed_arith, specs.Types.Date, specs.Words.plain_zone}
 use Rattle.syslog_pieces.proofs.TimestampLemmas.MonthDate.{shown_once}
-use Rattle.syslog_loose.specs.declared.variant.Variant.TheVariants.{RFC3164}
 use Rattle.std.proofs.Common.{arith, inl, inr}
-use Rattle.jiff.proofs.SpanFacts.{signed_arith}
-use Rattle.jiff.specs.Types.{Date}
-use Rattle.syslog_loose.specs.Dates.{IsDated}
-use Rattle.syslog_loose.specs.Reckoning.{IsYearOnDay, dating_in}
-use Rattle.syslog_loose.specs.Today.{IsYearIn}
-use Rattle.syslog_loose.specs.declared.today.Today.{Today}
-use Rattle.syslog_loose.specs.declared.today.Today.TheVariants.{Year, Month, Day}
-use Rattle.syslog_loose.specs.declared.dates.Dates.{Dates}
+use Rattle.syslog_loose.specs.{Dates.IsDated, Today.IsYearIn, declared.dates.Dates.Dates, declared.today.Today.Today}
+use Rattle.syslog_loose.specs.{Reckoning.IsYearOnDay, Reckoning.dating_in, declared.today.Today.TheVariants.Day}
 
 asked_once : (variant : Variant) (text : Text) (d e : MonthDate) → AsksYear variant text d → AsksYear variant text e
     → d ≡ e
 asked_once RFC5424 text d e asks also = absurd asks
-asked_once RFC3164 text d e asks also = shown_once text d e asks also
-asked_once Either text d e asks also = shown_once text d e asks also
+asked_once variant text d e asks also = shown_once text d e asks also
 
 -- ---- a date has one year
 
@@ -31,9 +23,8 @@ latest_once day date y z (inr is) (inr too) = is.1 ∙ sym too.1
 
 pub year_once : (today : Today) (date : IncompleteDate) (y z : ℤ) → IsYearIn today date y → IsYearIn today date z
     → y ≡ z
-year_once (Year year) date y z is too = is ∙ sym too
-year_once (Month year month) date y z is too = is ∙ sym too
 year_once (Day day) date y z is too = latest_once day date y z is too
+year_once today date y z is too = is ∙ sym too
 
 -- ---- a text has one dating
 

@@ -2,43 +2,38 @@
 -- 5424.
 pub mod Near
 pub mod ReadBack
-use Rattle.syslog_loose.proofs.Names.{rules, optional_rfc3164_list_quotes, to_ascii_lowercase, rfc3164_stamp_det}
-use Rattle.syslog_loose.proofs.Names.{some_run_det, month_date_begins, AllDeterministic, IsBoundedProcess}
-use Rattle.syslog_loose.proofs.Names.{rfc3164_list_det, some_run, message_of_parts, unique_division, no_row_division}
-use Rattle.syslog_loose.proofs.Names.{OffsetTimestamp, is_open_char, stamp_text-year, division_front, front_division}
-use Rattle.syslog_loose.proofs.Names.{rows_none_here, some_front_run, ShowsMonthDate, is_ascii_digit, chars_nonempty}
-use Rattle.syslog_loose.proofs.Names.{is_label_char, rfc3164_stamp, ◌≡◌, optional_none, ShowsYearless, yearless_date}
-use Rattle.syslog_loose.proofs.Names.{optional_some, process_texts, ◌also◌, element_texts, length-append, NamesProcess}
-use Rattle.syslog_loose.proofs.Names.{process_same, MessageValue, no_texted, optional_det, rfc3164_list, priority_det}
-use Rattle.syslog_loose.proofs.Names.{exactly_det, begins_apart, printed_5424, tag_word_det, full_element, full_shorter}
-use Rattle.syslog_loose.proofs.Names.{elements_or, ElementValue, rfc3164_row, stamped_row, begins_more, rfc5424_row, []}
-use Rattle.syslog_loose.proofs.Names.{priority_of, AreInPieces, rest_quotes, host_quotes, part_joined, no_some_run, ◌≢◌}
-use Rattle.syslog_loose.proofs.Names.{absent_none, all_joined, row_pieces, IsRead3164, rest_front, fields_row, form_row}
-use Rattle.syslog_loose.proofs.Names.{month_date, incomplete, front_same, row_quotes, Quotes3164, rows_step, unwrap_or}
-use Rattle.syslog_loose.proofs.Names.{Names3164, IsBounded, Means3164, rows_join, ◌++◌, MonthDate, nat_tests, rest_same}
-use Rattle.syslog_loose.proofs.Names.{IsNot5424, text_list, all_right, IsNoForm, arith, Resolves, DashRule, optional}
-use Rattle.syslog_loose.proofs.Names.{is_blank, tag_word, priority, host_det, body_row, ℕ, rest_det, row_cons, HasMonth}
-use Rattle.syslog_loose.proofs.Names.{Division, run_same, Protocol, flat_map, all_left, run_det, NoFront, exactly}
-use Rattle.syslog_loose.proofs.Names.{RFC3164, trimmed, printed, length, Values, ap, texted, IsForm, no_row, Option}
-use Rattle.syslog_loose.proofs.Names.{ProcId, IfSome, Dating, ◌then◌, row_of, spaced, number, Begins, IsPart, Quoted}
-use Rattle.syslog_loose.proofs.Names.{silent, IsMany, chars, Class, Front, names, colon, subst, month, false, List}
-use Rattle.syslog_loose.proofs.Names.{refl, Text, Some, None, Name, rest, host, true, Each, Bool, cond, ◌<◌, ◌∷◌, ◌∙◌}
-use Rattle.syslog_loose.proofs.Names.{Row, run, inl, inr, sym, PID, ◌↔◌, map, ◌≤◌}
+use Rattle.syslog_loose.proofs.Names.{optional_rfc3164_list_quotes, to_ascii_lowercase, rfc3164_stamp_det, some_run_det}
+use Rattle.syslog_loose.proofs.Names.{month_date_begins, AllDeterministic, IsBoundedProcess, rfc3164_list_det, some_run}
+use Rattle.syslog_loose.proofs.Names.{message_of_parts, unique_division, no_row_division, OffsetTimestamp, is_open_char}
+use Rattle.syslog_loose.proofs.Names.{stamp_text-year, division_front, front_division, rows_none_here, some_front_run}
+use Rattle.syslog_loose.proofs.Names.{ShowsMonthDate, is_ascii_digit, chars_nonempty, is_label_char, rfc3164_stamp, ◌≡◌}
+use Rattle.syslog_loose.proofs.Names.{optional_none, ShowsYearless, yearless_date, optional_some, process_texts, ◌also◌}
+use Rattle.syslog_loose.proofs.Names.{element_texts, length-append, NamesProcess, process_same, MessageValue, no_texted}
+use Rattle.syslog_loose.proofs.Names.{optional_det, rfc3164_list, priority_det, exactly_det, begins_apart, tag_word_det}
+use Rattle.syslog_loose.proofs.Names.{full_element, elements_or, ElementValue, rfc3164_row, stamped_row, begins_more, ℕ}
+use Rattle.syslog_loose.proofs.Names.{rfc5424_row, priority_of, AreInPieces, rest_quotes, host_quotes, part_joined, ◌≢◌}
+use Rattle.syslog_loose.proofs.Names.{no_some_run, absent_none, all_joined, row_pieces, IsRead3164, rest_front, run_det}
+use Rattle.syslog_loose.proofs.Names.{fields_row, month_date, incomplete, front_same, row_quotes, Quotes3164, rows_step}
+use Rattle.syslog_loose.proofs.Names.{unwrap_or, Names3164, IsBounded, Means3164, rows_join, ◌++◌, MonthDate, rest_same}
+use Rattle.syslog_loose.proofs.Names.{form_row, IsNot5424, text_list, all_right, IsNoForm, Resolves, DashRule, optional}
+use Rattle.syslog_loose.proofs.Names.{is_blank, tag_word, priority, host_det, body_row, rest_det, row_cons, HasMonth}
+use Rattle.syslog_loose.proofs.Names.{rules, Division, run_same, flat_map, all_left, NoFront, exactly, RFC3164, trimmed}
+use Rattle.syslog_loose.proofs.Names.{printed, length, Values, texted, IsForm, no_row, Option, ProcId, IfSome, Dating}
+use Rattle.syslog_loose.proofs.Names.{[], arith, ◌then◌, row_of, spaced, number, Begins, IsPart, Quoted, silent, IsMany}
+use Rattle.syslog_loose.proofs.Names.{chars, Class, Front, names, colon, subst, month, false, List, refl, Text, Some}
+use Rattle.syslog_loose.proofs.Names.{None, Name, rest, host, true, Each, Bool, cond, ◌<◌, ◌∷◌, ◌∙◌, Row, run, inl, inr}
+use Rattle.syslog_loose.proofs.Names.{ap, sym, PID, ◌↔◌, map, ◌≤◌}
 use Rattle.syslog_text.proofs.PieceLemmas.Class.{texted_det, after_det, Fails, all_append, append_more}
-use Rattle.syslog_loose.specs.Rfc3164.{NamesByForm}
-use Rattle.syslog_text.proofs.PieceLemmas.Lists.{first_kind, each_begins, texted_quotes, part_left}
+use Rattle.syslog_loose.specs.{Printed.printed_3164, Rfc3164.NamesByForm}
+use Rattle.syslog_text.proofs.PieceLemmas.Lists.{each_begins, texted_quotes, part_left, optional_quotes, optional_texts}
+use Rattle.syslog_text.proofs.PieceLemmas.Lists.{spaced_quotes, part_right}
 use Rattle.syslog_text.proofs.TextLemmas.Quotes.{tag_word_quotes}
-use Rattle.syslog_text.proofs.PieceLemmas.Lists.{optional_quotes, optional_texts, spaced_quotes, part_right}
-use Rattle.syslog_pieces.proofs.TimestampLemmas.MonthDate.{month_date_det, dated_date, IsBlank, blanks_begin, blank_low}
-use Rattle.syslog_text.specs.Bodies.Scan.{SplitsRun}
-use Rattle.syslog_text.specs.Pieces.Class.{NoDivision}
+use Rattle.syslog_pieces.proofs.TimestampLemmas.MonthDate.{month_date_det, IsBlank, blanks_begin, blank_low}
+use Rattle.syslog_text.specs.{Bodies.Scan.SplitsRun, Pieces.Class.NoDivision, Pieces.Parts.IsInPieces}
 use Rattle.syslog_pieces.specs.Timestamp.MonthDate.{month_names, short_number, clock_row, yearless_row}
 use Rattle.std.proofs.lemmas.Option.{slice_get_within}
 use Rattle.syslog_pieces.specs.Bodies.MonthReading.{BeginsWithDate, showing_row}
-use Rattle.syslog_loose.specs.Printed.{printed_3164}
-use Rattle.syslog_loose.specs.declared.message.Protocol.TheVariants.{RFC5424}
 use Rattle.syslog_loose.proofs.PrintedLemmas.{priority_low, priority_front, priority_trimmed}
-use Rattle.syslog_text.specs.Pieces.Parts.{IsInPieces}
 
 -- ---- the form `tag[id]`: a text is of it in one way
 
@@ -200,22 +195,7 @@ pub stamped_det : (dating : Dating) → AllDeterministic (stamped_row dating)
 stamped_det dating = all_joined to_stamp (rfc3164_stamp dating ∷ []) to_stamp_det (rfc3164_stamp_det dating also tt)
 
 pub body_det : (rule : DashRule) → AllDeterministic (body_row rule)
-body_det rule =
-    search (
-      rules,
-      all_joined,
-      fields_row,
-      optional,
-      rfc3164_list,
-      run,
-      is_blank,
-      rest,
-      fields_det,
-      optional_det,
-      rfc3164_list_det,
-      run_det,
-      rest_det,
-    )
+body_det rule = search (rules, all_joined, fields_det, optional_det, rfc3164_list_det, run_det, rest_det)
 
 pub rfc3164_det : (rule : DashRule) (dating : Dating) → AllDeterministic (rfc3164_row rule dating)
 rfc3164_det rule dating = all_joined (stamped_row dating) (body_row rule) (stamped_det dating) (body_det rule)

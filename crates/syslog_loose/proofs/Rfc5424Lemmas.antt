@@ -1,50 +1,46 @@
 -- Texts of RFC 5424: one division, and what is read back of a printed text: the message exactly if it is canonical, and
 -- what is read is canonical, up to an absent facility or severity.
-use Rattle.syslog_loose.proofs.Names.{rules, no_truth, ◌≡◌, ◌∷◌, ◌∙◌, ◌also◌, [], sym, ap, subst, AllDeterministic}
-use Rattle.syslog_loose.proofs.Names.{run_det, ℕ, unique_division, front_division, optional_det, some_run_det, rest_det}
-use Rattle.syslog_loose.proofs.Names.{all_joined, flat_map, Text, Values, Front, NoFront, run, some_run, optional}
-use Rattle.syslog_loose.proofs.Names.{trimmed, number, is_blank, AreInPieces, text_list, process_texts, header_stamp}
-use Rattle.syslog_loose.proofs.Names.{element_texts, ◌≤◌, priority, Quoted, row_quotes, silent, rest_quotes}
-use Rattle.syslog_loose.proofs.Names.{host_quotes, priority_det, ◌<◌, host_det, MessageValue, message_texts, header_row}
-use Rattle.syslog_loose.proofs.Names.{data_row, front_row, names_row, rest, rfc5424_row, message_of, IsRead5424, List}
-use Rattle.syslog_loose.proofs.Names.{IfSome, is_ascii_digit, decimal, is_not_whitespace, Ends, Format, process_word}
-use Rattle.syslog_loose.proofs.Names.{process_text, host, word, ◌^◌, ◌+◌, name_text, IsCanonicalWord, IsCanonicalStamp}
-use Rattle.syslog_loose.proofs.Names.{timestamp_text, ◌*◌, ◌++◌, ◌then◌, Option, Some, None, IsSome, refl, arith}
-use Rattle.syslog_loose.proofs.Names.{row_cons, row_head, rows_join, row_of, both_values, division_front, rest_front}
-use Rattle.syslog_loose.proofs.Names.{rest_whole, optional_some, front_same, row_pieces, option_map_or, option_and_then}
-use Rattle.syslog_loose.proofs.Names.{unwrap_or, skip_leading_whitespace, drop_trailing_whitespace, Division, classes}
-use Rattle.syslog_loose.proofs.Names.{printed_row, facility_of, LOG_SYSLOG, facility_number, severity_number}
-use Rattle.syslog_loose.proofs.Names.{ElementValue, elements_text, EndsVisibly, SyslogFacility, SyslogSeverity}
-use Rattle.syslog_loose.proofs.Names.{SEV_DEBUG, ProcId, DashRule, BeforeAnything, OffsetTimestamp, piece_front}
-use Rattle.syslog_loose.proofs.Names.{priority_composed, number_back, host_back, Protocol, printed_stamp_back}
-use Rattle.syslog_loose.proofs.Names.{stamp_text_canonical, IsBoundedProtocol, IsBounded, printed, IsCanonicalInBoth}
-use Rattle.syslog_loose.proofs.Names.{IsCanonicalFor, IsCanonical, priority_of, Quotes5424, composed, AllByRecursion}
-use Rattle.syslog_loose.proofs.Names.{Bool, Class, IsTrue, Line, append_cancel_right, true, ◌↔◌}
+use Rattle.syslog_loose.proofs.Names.{no_truth, skip_leading_whitespace, drop_trailing_whitespace, stamp_text_canonical}
+use Rattle.syslog_loose.proofs.Names.{[], is_not_whitespace, priority_composed, printed_stamp_back, append_cancel_right}
+use Rattle.syslog_loose.proofs.Names.{AllDeterministic, run_det, IsCanonicalStamp, IsBoundedProtocol, IsCanonicalInBoth}
+use Rattle.syslog_loose.proofs.Names.{unique_division, process_texts, IsCanonicalWord, option_and_then, facility_number}
+use Rattle.syslog_loose.proofs.Names.{front_division, is_ascii_digit, timestamp_text, severity_number, OffsetTimestamp}
+use Rattle.syslog_loose.proofs.Names.{ℕ, division_front, SyslogFacility, SyslogSeverity, BeforeAnything, IsCanonicalFor}
+use Rattle.syslog_loose.proofs.Names.{rules, element_texts, message_texts, optional_some, option_map_or, AllByRecursion}
+use Rattle.syslog_loose.proofs.Names.{optional_det, some_run_det, text_list, header_stamp, elements_text, named_process}
+use Rattle.syslog_loose.proofs.Names.{AreInPieces, priority_det, MessageValue, process_word, process_text, ElementValue}
+use Rattle.syslog_loose.proofs.Names.{◌≡◌, rest_quotes, host_quotes, rfc5424_row, both_values, printed_row, facility_of}
+use Rattle.syslog_loose.proofs.Names.{◌∷◌, EndsVisibly, piece_front, number_back, IsCanonical, priority_of, named_names}
+use Rattle.syslog_loose.proofs.Names.{all_joined, row_quotes, header_row, front_row, message_of, IsRead5424, rest_front}
+use Rattle.syslog_loose.proofs.Names.{names_row, rest_whole, front_same, row_pieces, LOG_SYSLOG, Quotes5424, option_map}
+use Rattle.syslog_loose.proofs.Names.{Text, name_text, rows_join, unwrap_or, SEV_DEBUG, host_back, IsBounded, words_row}
+use Rattle.syslog_loose.proofs.Names.{rest_det, flat_map, some_run, optional, is_blank, priority, host_det, data_row}
+use Rattle.syslog_loose.proofs.Names.{ap, NoFront, row_cons, row_head, Division, DashRule, Protocol, composed, tail_row}
+use Rattle.syslog_loose.proofs.Names.{◌also◌, subst, Values, trimmed, number, Quoted, silent, decimal, classes, printed}
+use Rattle.syslog_loose.proofs.Names.{◌∙◌, Front, IfSome, Format, ◌then◌, Option, IsSome, arith, row_of, ProcId, IsTrue}
+use Rattle.syslog_loose.proofs.Names.{rest, List, Ends, host, word, ◌++◌, Some, None, refl, Bool, Class, Line, true}
+use Rattle.syslog_loose.proofs.Names.{sym, run, ◌≤◌, ◌<◌, ◌^◌, ◌+◌, ◌*◌, ◌↔◌, Row}
 use Rattle.syslog_loose.specs.Bodies.View5424.{FitsNames, names_before}
-use Rattle.syslog_text.proofs.PieceLemmas.Class.{front_of}
+use Rattle.syslog_text.proofs.{PieceLemmas.Class.front_of, TextLemmas.Quotes.word_quotes}
 use Rattle.syslog_text.proofs.PieceLemmas.Lists.{AllSound, row_back}
-use Rattle.syslog_text.proofs.TextLemmas.Quotes.{word_quotes}
-use Rattle.syslog_pieces.proofs.ProcIdLemmas.{process_quotes}
+use Rattle.syslog_pieces.proofs.ProcIdLemmas.{process_quotes, process_word_det, process_back, process_canonical}
+use Rattle.syslog_pieces.proofs.ProcIdLemmas.{process_bounded, absent_front, process_front}
 use Rattle.syslog_text.proofs.TextLemmas.Words.{number_det, word_det, word_back, word_canonical, host_canonical}
 use Rattle.syslog_text.proofs.TextLemmas.Words.{NoColonNext, blanks_next}
 use Rattle.syslog_elements.proofs.StructuredDataLemmas.Elements.{forgiving_det, forgiving_back, forgiving_canonical}
 use Rattle.syslog_elements.proofs.StructuredDataLemmas.Elements.{no_item_nil, no_item_before}
 use Rattle.syslog_elements.proofs.StructuredDataLemmas.Units.{forgiving_quotes}
-use Rattle.syslog_pieces.proofs.ProcIdLemmas.{process_word_det, process_back, process_canonical, process_bounded}
 use Rattle.syslog_pieces.proofs.TimestampLemmas.Rfc3339.{header_stamp_det}
 use Rattle.syslog_pieces.specs.ProcId.{IsCanonicalProcess, IsBoundedProcess}
 use Rattle.syslog_text.specs.Text.Canonical.{IsCanonicalHost, IsVisible}
 use Rattle.syslog_text.specs.Pieces.Format.{IsSound, RowReadsBack}
 use Rattle.syslog_elements.specs.StructuredData.{forgiving, item}
-use Rattle.syslog_elements.specs.StructuredData.Unparsed.{leaving}
-use Rattle.syslog_elements.proofs.StructuredDataLemmas.Unparsed.{leaving_back}
-use Rattle.syslog_loose.specs.Canonical.{IsCanonical5424}
-use Rattle.syslog_loose.specs.Unparsed.{Leaves5424}
-use Rattle.syslog_loose.specs.Printed.{printed_5424}
+use Rattle.syslog_elements.{proofs.StructuredDataLemmas.Unparsed.leaving_back, specs.StructuredData.Unparsed.leaving}
+use Rattle.syslog_loose.specs.{Canonical.IsCanonical5424, Printed.printed_5424, Unparsed.Leaves5424}
 use Rattle.syslog_loose.specs.declared.message.Protocol.TheVariants.{RFC5424}
-use Rattle.syslog_loose.proofs.PrintedLemmas.{severity_beside, priority_front, priority_trimmed, visible_ends_blanks}
 use Rattle.syslog_loose.proofs.PrintedLemmas.{priority_small, stamp_unblank, last_append, elements_last, message_blanks}
 use Rattle.syslog_loose.proofs.PrintedLemmas.{parts_back, priority_low, row_trimmed, last_ends, drop_ends, message_end}
+use Rattle.syslog_loose.proofs.PrintedLemmas.{severity_beside, priority_front, priority_trimmed, visible_ends_blanks}
 
 pub front_det : AllDeterministic front_row
 front_det = search (rules, optional_det, priority_det, number_det, some_run_det, header_stamp_det)
@@ -52,9 +48,21 @@ front_det = search (rules, optional_det, priority_det, number_det, some_run_det,
 pub names_det : AllDeterministic names_row
 names_det = search (rules, some_run_det, host_det, word_det, process_word_det)
 
--- the structured data, read by this class, and the message part
-abbrev pub tail_row : Class → List Class
-tail_row C = run is_blank ∷ C ∷ run is_blank ∷ rest ∷ []
+-- the process id that a word names
+pub named_front : {t q : Text} {v : Option Text} → Front word t q v
+    → Front process_word t q (option_map named_process v)
+named_front {v = None} f = absent_front f
+named_front {v = Some t} f = process_front (named_process t) f (named_names t)
+
+-- so the names, one of which is a word, are there with the process that it names
+pub names_front : {t q : Text} {vs : Values words_row} → Front (Row words_row) t q vs → Front (Row names_row) t q (
+  tt,
+  (vs.1.0, (tt, (vs.1.1.1.0, (tt, (option_map named_process vs.1.1.1.1.1.0, (tt, (vs.1.1.1.1.1.1.1.0, tt))))))),
+)
+names_front f =
+    let (t1, s1, (t2, name, (t3, s2, (t4, app, (t5, s3, (t6, process, (t7, s4, (t8, id, end)))))))) =
+    row_pieces words_row f in
+    row_of names_row (s1 then name then s2 then app then s3 then named_front process then s4 then id then end)
 
 pub header_det : AllDeterministic header_row
 header_det = all_joined front_row names_row front_det names_det
@@ -357,10 +365,7 @@ read_canonical rule text m r f =
 -- what an absent facility and severity print as
 pub priority_same : (f : Option SyslogFacility) (s : Option SyslogSeverity) → composed (unwrap_or f LOG_SYSLOG)
     (unwrap_or s SEV_DEBUG) ≡ option_map_or facility_number f 5 * 8 + option_map_or severity_number s 7
-priority_same None None = refl
-priority_same None (Some s) = refl
-priority_same (Some f) None = refl
-priority_same (Some f) (Some s) = refl
+priority_same f s = grind arith
 
 begun_read : (n : ℕ) (more : Text) (v : Values rfc5424_row) → n < 192
     → Division rfc5424_row (trimmed (60 ∷ (decimal n ++ (62 ∷ more)))) v → v.0 ≡ Some n

@@ -1,25 +1,19 @@
 -- What is left unparsed of a text: one text, which is that of its line, and nothing of a printed message.
-use Rattle.syslog_loose.proofs.Names.{rules, ◌≡◌, ◌⊎◌, inl, inr, ◌∷◌, ◌++◌, ◌∙◌, ◌also◌, ◌then◌, [], refl, sym, ap}
-use Rattle.syslog_loose.proofs.Names.{subst, List, Option, Some, None, option_map, Text, Class, Values, Front, Row}
-use Rattle.syslog_loose.proofs.Names.{AllDeterministic, all_joined, run_det, rest_det, run, rest, texted, optional}
-use Rattle.syslog_loose.proofs.Names.{trimmed, is_blank, word, process_word, unique_division, front_division}
+use Rattle.syslog_loose.proofs.Names.{rules, ◌≡◌, ◌⊎◌, inl, inr, ◌++◌, ◌∙◌, ◌also◌, ◌then◌, [], refl, sym, ap, subst}
+use Rattle.syslog_loose.proofs.Names.{List, Option, Some, None, Text, Front, Row, AllDeterministic, all_joined, run_det}
+use Rattle.syslog_loose.proofs.Names.{rest_det, texted, optional, trimmed, is_blank, unique_division, front_division}
 use Rattle.syslog_loose.proofs.Names.{division_front, row_pieces, row_of, rows_join, MessageValue, rfc5424_row}
-use Rattle.syslog_loose.proofs.Names.{IsRead5424, IsRead3164, DashRule, Dating, Line, IsLineOf, named_process}
-use Rattle.syslog_loose.proofs.Names.{named_names, rfc3164_list, ElementValue, names_row, front_row, header_row}
-use Rattle.syslog_loose.proofs.Names.{rows_split, data_row, IsNot5424}
+use Rattle.syslog_loose.proofs.Names.{IsRead5424, IsRead3164, DashRule, Dating, Line, IsLineOf, rfc3164_list}
+use Rattle.syslog_loose.proofs.Names.{ElementValue, names_row, front_row, header_row, rows_split, data_row, IsNot5424}
+use Rattle.syslog_loose.proofs.{Names.tail_row, Names.list_row, Rfc5424Lemmas.header_det, Rfc5424Lemmas.names_front}
 use Rattle.syslog_text.proofs.PieceLemmas.Class.{firsts, lasts}
-use Rattle.syslog_loose.specs.Words.{forgiving, list_text}
-use Rattle.syslog_pieces.proofs.ProcIdLemmas.{absent_front, process_front}
-use Rattle.syslog_elements.proofs.StructuredDataLemmas.Unparsed.{IsBracketed, full_leaves, leaving_det}
-use Rattle.syslog_elements.proofs.StructuredDataLemmas.Unparsed.{left_bracketed, nothing_leaves, unparsed_same}
+use Rattle.syslog_loose.specs.{Reading.dash_rule, Words.forgiving, Words.list_text, declared.variant.Variant.Variant}
+use Rattle.syslog_elements.proofs.StructuredDataLemmas.Unparsed.{IsBracketed, full_leaves, leaving_det, left_bracketed}
+use Rattle.syslog_elements.proofs.StructuredDataLemmas.Unparsed.{nothing_leaves, unparsed_same}
 use Rattle.syslog_elements.specs.StructuredData.Unparsed.{IsUnparsed, leaving}
-use Rattle.syslog_loose.specs.Rows.{words_row}
 use Rattle.syslog_loose.specs.LineTexts.{IsLine3164, IsLine5424}
-use Rattle.syslog_loose.specs.Reading.{dash_rule}
 use Rattle.syslog_loose.specs.Unparsed.{Leaves, Leaves5424, left_of, leaving_row}
-use Rattle.syslog_loose.specs.declared.variant.Variant.{Variant}
 use Rattle.syslog_loose.specs.declared.variant.Variant.TheVariants.{Either, RFC3164, RFC5424}
-use Rattle.syslog_loose.proofs.Rfc5424Lemmas.{header_det, tail_row}
 
 leaving_row_det : AllDeterministic leaving_row
 leaving_row_det = all_joined header_row (tail_row leaving) header_det
@@ -66,31 +60,16 @@ left_shape text u a =
 pub leaves_shape : (variant : Variant) (text u : Text) → Leaves variant text u → (u ≡ []) ⊎ IsBracketed u
 leaves_shape RFC5424 text u a = left_shape text u a
 leaves_shape RFC3164 text u a = inl a
-leaves_shape Either text u (inl a) = left_shape text u a
-leaves_shape Either text u (inr (n, a)) = inl a
+leaves_shape Either text u a = search (rules, left_shape)
 
 -- ---- of a line
-
-named_front : {t q : Text} {v : Option Text} → Front word t q v → Front process_word t q (option_map named_process v)
-named_front {v = None} f = absent_front f
-named_front {v = Some t} f = process_front (named_process t) f (named_names t)
-
-names_front : {t q : Text} {vs : Values words_row} → Front (Row words_row) t q vs
-    → (ws : Values names_row) × Front (Row names_row) t q ws
-names_front f =
-    let (t1, s1, (t2, name, (t3, s2, (t4, app, (t5, s3, (t6, process, (t7, s4, (t8, id, end)))))))) =
-    row_pieces words_row f in
-    (_, row_of names_row (s1 then name then s2 then app then s3 then named_front process then s4 then id then end))
-
--- the list, as its text, and the message part
-abbrev text_row : List Class
-text_row = run is_blank ∷ texted forgiving ∷ run is_blank ∷ rest ∷ []
 
 strict_leaves : (text : Text) (line : Line) (u : Text) → IsLine5424 text line → IsUnparsed (list_text line.list) u
     → Leaves5424 text u
 strict_leaves text line u is left =
-    let (ws, names) = names_front is.names in
-    let (t1, s1, (t2, list, (t3, s2, (t4, msg, end)))) = row_pieces text_row (division_front text_row is.parts) in
+    let names = names_front is.names in
+    let (t1, s1, (t2, list, (t3, s2, (t4, msg, end)))) =
+    row_pieces (tail_row (texted forgiving)) (division_front (tail_row (texted forgiving)) is.parts) in
     let (es, forgiven, own) = list.is in
     let what : Front leaving t1 t2 u = record {
       piece = list.piece;
@@ -120,8 +99,7 @@ loose_list rule p q (Some es) (inr (some, h)) = full_leaves p q es some h
 loose_leaves : (dating : Dating) (text : Text) (line : Line) (u : Text) → IsLine3164 dating text line
     → IsUnparsed (list_text line.list) u → u ≡ []
 loose_leaves dating text line u is left =
-    let (t1, list, _) =
-    row_pieces (texted (optional (rfc3164_list dash_rule)) ∷ run is_blank ∷ rest ∷ []) (division_front _ is.parts) in
+    let (t1, list, _) = row_pieces (list_row dash_rule) (division_front (list_row dash_rule) is.parts) in
     let (es, forgiven, own) = list.is in
     unparsed_same (list_text line.list) u [] left
     (subst (λ (x : Text). IsUnparsed x []) (sym own) (loose_list dash_rule list.piece t1 es forgiven))

@@ -1,15 +1,10 @@
 -- The last year that puts a date on a day or before it.
-use Rattle.std.proofs.Common.{rules}
-use Rattle.std.proofs.Common.{◌≡◌, ◌≢◌, ℕ, ℤ, ◌+◌, ◌-◌, ◌%◌, ◌≤◌, zero, suc, negsuc, ◌<ℤ◌, ◌≤ℤ◌, ◌+ℤ◌, Bool, true}
-use Rattle.std.proofs.Common.{inl, inr, ◌⊎◌, ◌==◌, refl, pos, arith, ◌&&◌, ◌||◌, not, subst, ◌∙◌}
-use Rattle.std.proofs.Common.{Ordering, Less, Equal, Greater, int_cmp, is_le, ◌↔◌}
-use Rattle.std.proofs.lemmas.Bool.{cases_lt}
-use Rattle.std.proofs.lemmas.Int.{by_lt_z, ints}
-use Rattle.std.specs.Cmp.{int_ranks}
-use Rattle.std.specs.Ordering.{MatchOrdering}
+use Rattle.std.proofs.Common.{rules, ◌≡◌, ℕ, ℤ, ◌+◌, ◌-◌, ◌%◌, ◌≤◌, zero, suc, negsuc, ◌<ℤ◌, ◌≤ℤ◌, ◌+ℤ◌, Bool, true}
+use Rattle.std.proofs.Common.{inl, inr, ◌⊎◌, ◌==◌, refl, pos, arith, ◌&&◌, ◌||◌, not, subst, ◌∙◌, Ordering, Less, Equal}
+use Rattle.std.proofs.{Common.Greater, Common.int_cmp, Common.is_le, Common.◌↔◌, lemmas.Int.by_lt_z, lemmas.Int.ints}
+use Rattle.std.{proofs.lemmas.Bool.cases_lt, specs.Cmp.int_ranks, specs.Ordering.MatchOrdering}
 use Rattle.jiff.proofs.Family.{epoch_day_range, epoch_day-lt}
-use Rattle.jiff.proofs.SpanFacts.{signed_arith}
-use Rattle.jiff.specs.Types.{Date}
+use Rattle.jiff.{proofs.SpanFacts.signed_arith, specs.Types.Date}
 use Rattle.jiff.specs.Words.{IsYear, IsYmd, days_in_month, epoch_day, is_leap_year}
 use Rattle.syslog_loose.specs.Reckoning.{IsDateBy}
 

@@ -10,10 +10,8 @@ pub use Rattle.syslog_elements.specs.StructuredData.Canonical.{IsCanonicalElemen
 pub use Rattle.syslog_text.specs.Text.Canonical.{IsVisible, IsCanonicalHost, IsCanonicalWord, EndsVisibly}
 pub use Rattle.syslog_pieces.specs.Timestamp.Canonical.{IsCanonicalStamp}
 use Rattle.syslog_loose.specs.declared.message.canonical.CheckedFields.{CheckedFields}
-use Rattle.syslog_loose.specs.declared.message.Protocol.{Protocol}
+use Rattle.syslog_loose.specs.{Message.MessageValue, TagForm.IsNoForm, declared.message.Protocol.Protocol}
 use Rattle.syslog_loose.specs.declared.message.Protocol.TheVariants.{RFC3164, RFC5424}
-use Rattle.syslog_loose.specs.Message.{MessageValue}
-use Rattle.syslog_loose.specs.TagForm.{IsNoForm}
 
 -- ---- the bounds of a message's numbers, which those of the program always meet
 

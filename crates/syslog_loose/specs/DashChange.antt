@@ -4,13 +4,9 @@ use Rattle.std.specs.Prelude.{◌≡◌, ◌≢◌, ◌∷◌, ◌++◌, false}
 use Rattle.syslog_loose.specs.Words.{ℕ, List, [], length, Option, Some, None, Text, Class, rfc3164_list, is_blank, dash}
 use Rattle.syslog_loose.specs.Words.{Dating, DashRule, join}
 use Rattle.syslog_elements.specs.declared.structured_data.rfc3164_list.DashRule.TheVariants.{BeforeAnything}
-use Rattle.syslog_loose.specs.declared.variant.Variant.{Variant}
+use Rattle.syslog_loose.specs.{Reading.IsReadUnder, Reading.dash_rule, declared.variant.Variant.Variant}
 use Rattle.syslog_loose.specs.declared.variant.Variant.TheVariants.{Either, RFC3164, RFC5424}
-use Rattle.syslog_loose.specs.Canonical.{IsCanonical}
-use Rattle.syslog_loose.specs.Message.{MessageValue}
-use Rattle.syslog_loose.specs.Reading.{IsReadUnder, dash_rule}
-use Rattle.syslog_loose.specs.Rfc3164.{IsRead3164}
-use Rattle.syslog_loose.specs.Rfc5424.{IsNot5424}
+use Rattle.syslog_loose.specs.{Canonical.IsCanonical, Message.MessageValue, Rfc3164.IsRead3164, Rfc5424.IsNot5424}
 
 -- ---- how it was
 

@@ -1,11 +1,7 @@
 -- The dating of a text, where the year and the zone of dates that show none are one value.
 use Rattle.jiff.specs.Words.{plain_zone}
-use Rattle.syslog_loose.specs.Words.{Text, Dating}
-use Rattle.syslog_loose.specs.Reading.{InYear}
-use Rattle.syslog_loose.specs.Reckoning.{dating_in}
-use Rattle.syslog_loose.specs.Today.{IsYearIn}
-use Rattle.syslog_loose.specs.declared.dates.Dates.{Dates}
-use Rattle.syslog_loose.specs.declared.variant.Variant.{Variant}
+use Rattle.syslog_loose.specs.{Words.Text, Words.Dating, declared.variant.Variant.Variant}
+use Rattle.syslog_loose.specs.{Reading.InYear, Reckoning.dating_in, Today.IsYearIn, declared.dates.Dates.Dates}
 
 -- this holds of the dating of the text by the dates
 abbrev pub IsDated : Dates → Variant → Text → (Dating → Type 0) → Type 0

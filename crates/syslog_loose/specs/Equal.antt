@@ -2,8 +2,7 @@
 -- offsets; elements in order, each with its parameters in any order (the rule of the Rust crate, but for those).
 use Rattle.std.specs.Prelude.{◌&&◌}
 use Rattle.syslog_loose.specs.Words.{Bool, pointwise, option_eq, text_eq, facility_eq, severity_eq, procid_eq}
-use Rattle.syslog_loose.specs.Words.{element_eq, OffsetTimestamp, int_eq}
-use Rattle.syslog_loose.specs.Message.{MessageValue}
+use Rattle.syslog_loose.specs.{Message.MessageValue, Words.element_eq, Words.OffsetTimestamp, Words.int_eq}
 
 -- whether two timestamps are one instant
 abbrev pub stamp_eq : OffsetTimestamp → OffsetTimestamp → Bool

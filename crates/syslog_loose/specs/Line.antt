@@ -2,12 +2,8 @@
 use Rattle.std.specs.Prelude.{◌≡◌}
 use Rattle.syslog_loose.specs.Words.{ℕ, IsTrue, Option, Some, None, IfSome, option_map, IsUtf8, seen, shown}
 use Rattle.syslog_loose.specs.Words.{named_process, list_elements, stamp_seen, IsCanonicalStamp}
-use Rattle.syslog_loose.specs.Quirks.{HasNoQuirk}
-use Rattle.syslog_loose.specs.Message.{MessageValue, message_of_parts}
-use Rattle.syslog_loose.specs.Printed.{rest_text}
-use Rattle.syslog_loose.specs.Reading.{dash_rule}
-use Rattle.syslog_loose.specs.declared.line.Line.{Line}
-use Rattle.syslog_loose.specs.declared.message.Protocol.{Protocol}
+use Rattle.syslog_loose.specs.{Printed.rest_text, Quirks.HasNoQuirk, Reading.dash_rule, declared.line.Line.Line}
+use Rattle.syslog_loose.specs.{Message.MessageValue, Message.message_of_parts, declared.message.Protocol.Protocol}
 use Rattle.syslog_loose.specs.declared.message.Protocol.TheVariants.{RFC3164, RFC5424}
 
 -- RFC 5424 has a version, and RFC 3164 none

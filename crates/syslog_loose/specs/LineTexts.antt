@@ -1,17 +1,11 @@
 -- Which pieces of the trimmed text the fields of a line are. So each text is there as it came, and not only what it
 -- means: a process id as its text, a priority as its number, a list as its whole text.
-use Rattle.std.specs.Option.{option_flatten}
-use Rattle.std.specs.Prelude.{◌≡◌, ◌↔◌, ◌∷◌}
-use Rattle.syslog_loose.specs.Words.{ℕ, [], IsSome, IsTrue, Option, Some, Text, Division, Front, Row, run, rest}
-use Rattle.syslog_loose.specs.Words.{optional, texted, seen, shown, list_text, is_blank, forgiving, rfc3164_list}
-use Rattle.syslog_loose.specs.Words.{trimmed, Dating}
-use Rattle.syslog_loose.specs.Line.{line_value}
-use Rattle.syslog_loose.specs.Printed.{rest_text}
-use Rattle.syslog_loose.specs.Reading.{dash_rule}
-use Rattle.syslog_loose.specs.Rfc3164.{HasProcess, IsRead3164}
-use Rattle.syslog_loose.specs.Rfc5424.{IsRead5424}
-use Rattle.syslog_loose.specs.Rows.{IsAfterStamp, fields_row, front_row, front_values, word_values, words_row}
-use Rattle.syslog_loose.specs.declared.line.Line.{Line}
+use Rattle.std.specs.{Option.option_flatten, Prelude.◌≡◌, Prelude.◌↔◌}
+use Rattle.syslog_loose.specs.Words.{ℕ, [], IsSome, IsTrue, Option, Some, Text, Division, Front, Row, texted, seen}
+use Rattle.syslog_loose.specs.Words.{shown, list_text, forgiving, trimmed, Dating}
+use Rattle.syslog_loose.specs.{Line.line_value, Printed.rest_text, Reading.dash_rule, Rows.words_row}
+use Rattle.syslog_loose.specs.{Rfc3164.HasProcess, Rfc3164.IsRead3164, Rfc5424.IsRead5424, declared.line.Line.Line}
+use Rattle.syslog_loose.specs.Rows.{IsAfterStamp, fields_row, front_row, front_values, list_row, tail_row, word_values}
 
 -- The text is read as the line. Priority, version and timestamp begin it, then come the names, and then the list and
 -- the message part, with blanks or none before each. The line says whether all after its timestamp is as it prints.
@@ -22,8 +16,7 @@ pub record IsLine5424 (text : Text) (line : Line) : Type 0 where
   pub front : Front (Row front_row) (trimmed text) (shown line.rest) (front_values line version)
   pub after : Text
   pub names : Front (Row words_row) (shown line.rest) after (word_values line)
-  pub parts : Division (run is_blank ∷ texted forgiving ∷ run is_blank ∷ rest ∷ []) after
-      (tt, (list_text line.list, (tt, (shown line.msg, tt))))
+  pub parts : Division (tail_row (texted forgiving)) after (tt, (list_text line.list, (tt, (shown line.msg, tt))))
   pub is_printed : IsTrue line.is_printed ↔ (shown line.rest ≡ rest_text (line_value line))
 
 -- The text is read as the line. Priority and timestamp begin it, then come the two fields of names, one of which has
@@ -38,7 +31,6 @@ pub record IsLine3164 (dating : Dating) (text : Text) (line : Line) : Type 0 whe
   pub colon : Option (Unit {0})
   pub names : Front (Row fields_row) (shown line.rest) after (host, (tag, (tt, (colon, (tt, tt)))))
   pub process : HasProcess host tag (seen line.process)
-  pub parts : Division (texted (optional (rfc3164_list dash_rule)) ∷ run is_blank ∷ rest ∷ []) after
-      (list_text line.list, (tt, (shown line.msg, tt)))
+  pub parts : Division (list_row dash_rule) after (list_text line.list, (tt, (shown line.msg, tt)))
   pub is_printed : IsTrue line.is_printed ↔ (IsSome host × IsSome (option_flatten tag) × (list_text line.list ≡ [])
       × (shown line.rest ≡ rest_text (line_value line)))

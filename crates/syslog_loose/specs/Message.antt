@@ -3,10 +3,8 @@ use Rattle.std.specs.Prelude.{◌∷◌, ◌++◌}
 use Rattle.syslog_loose.specs.Words.{ℕ, List, [], Option, map, flat_map, option_and_then, option_map, Text}
 use Rattle.syslog_loose.specs.Words.{ElementValue, element_value, facility_of, severity_of, procid_value, ProcId}
 use Rattle.syslog_loose.specs.Words.{OffsetTimestamp, element_texts, text_list, process_texts}
-use Rattle.syslog_pieces.specs.declared.pri.SyslogFacility.{SyslogFacility}
-use Rattle.syslog_pieces.specs.declared.pri.SyslogSeverity.{SyslogSeverity}
-use Rattle.syslog_loose.specs.declared.message.Message.{Message}
-use Rattle.syslog_loose.specs.declared.message.Protocol.{Protocol}
+use Rattle.syslog_pieces.specs.declared.pri.{SyslogFacility.SyslogFacility, SyslogSeverity.SyslogSeverity}
+use Rattle.syslog_loose.specs.declared.message.{Message.Message, Protocol.Protocol}
 
 -- a message, each text of it as a list of characters
 pub record MessageValue : Type 0 where

@@ -3,21 +3,13 @@
 use Rattle.std.specs.Prelude.{◌≡◌, ◌⊎◌, ◌++◌}
 use Rattle.syslog_loose.specs.Words.{⊤, ℕ, zero, suc, List, [], Bool, MatchBool, Option, Some, None, IfSome, Result, Ok}
 use Rattle.syslog_loose.specs.Words.{Err, MatchResult, chars, AllocError, Text, colon, EndsInColon, IsCanonicalStamp}
-use Rattle.syslog_loose.specs.Words.{Dating}
-use Rattle.syslog_loose.specs.Quirks.{HasNoQuirk, HasNoNameQuirk}
-use Rattle.syslog_loose.specs.Bodies.Jumps.{IsDashed}
-use Rattle.syslog_loose.specs.Line.{line_value}
-use Rattle.syslog_loose.specs.Message.{MessageValue}
-use Rattle.syslog_loose.specs.Printed.{printed}
-use Rattle.syslog_loose.specs.Reading.{dash_rule, IsRead}
-use Rattle.syslog_loose.specs.Rfc3164.{IsRead3164}
+use Rattle.syslog_loose.specs.{Line.line_value, Message.MessageValue, Printed.printed, Rfc3164.IsRead3164, Words.Dating}
+use Rattle.syslog_loose.specs.{Quirks.HasNoQuirk, Quirks.HasNoNameQuirk, Reading.dash_rule, Reading.IsRead}
+use Rattle.syslog_loose.specs.{Bodies.Jumps.IsDashed, declared.line.Line.Line, declared.variant.Variant.Variant}
 use Rattle.syslog_loose.specs.Settling.{IsNext, IsSettled, IsSettlingFault, Reaches, SettlesAs}
-use Rattle.syslog_loose.specs.declared.fault.ParseFault.{ParseFault}
+use Rattle.syslog_loose.specs.declared.{fault.ParseFault.ParseFault, message.Protocol.Protocol}
 use Rattle.syslog_loose.specs.declared.fault.ParseFault.TheVariants.{Invalid, Memory}
-use Rattle.syslog_loose.specs.declared.line.Line.{Line}
-use Rattle.syslog_loose.specs.declared.message.Protocol.{Protocol}
 use Rattle.syslog_loose.specs.declared.message.Protocol.TheVariants.{RFC3164, RFC5424}
-use Rattle.syslog_loose.specs.declared.variant.Variant.{Variant}
 
 -- ---- ranks
 

@@ -1,12 +1,11 @@
 -- The printed text of a message, which is the form of RFC 5424 section 6, or of RFC 3164 section 4.
 use Rattle.std.specs.Prelude.{◌+◌, ◌*◌, ◌∷◌, ◌++◌, decimal}
-use Rattle.syslog_loose.specs.Words.{ℕ, List, [], Option, None, Some, option_map_or, flat_map, Text, ElementValue}
 use Rattle.syslog_loose.specs.Words.{facility_number, severity_number, dash, ProcId, OffsetTimestamp, element_text}
+use Rattle.syslog_loose.specs.Words.{ℕ, List, [], Option, None, Some, option_map_or, flat_map, Text, ElementValue}
 pub use Rattle.syslog_elements.specs.StructuredData.Element.{joined_elements, elements_text}
-use Rattle.syslog_pieces.specs.ProcId.{procid_text}
+use Rattle.syslog_pieces.specs.{ProcId.procid_text, Timestamp.Printed.printed_stamp}
 pub use Rattle.syslog_pieces.specs.ProcId.{process_text}
 pub use Rattle.syslog_text.specs.Text.{name_text}
-use Rattle.syslog_pieces.specs.Timestamp.Printed.{printed_stamp}
 use Rattle.syslog_loose.specs.declared.message.Protocol.TheVariants.{RFC3164, RFC5424}
 use Rattle.syslog_loose.specs.Message.{MessageValue}
 

@@ -1,15 +1,12 @@
 -- What a message that was read as RFC 3164 may lack of the written condition: five quirks, and no more. So the messages
 -- that have one are read as another message, or not at all, when they are printed. (This project's own.)
-use Rattle.std.specs.Prelude.{◌≡◌, ◌≢◌, ◌⊎◌, ◌<◌, ◌&&◌}
+use Rattle.std.specs.{Char.is_not_whitespace, Prelude.◌≡◌, Prelude.◌≢◌, Prelude.◌⊎◌, Prelude.◌<◌, Prelude.◌&&◌}
 use Rattle.syslog_loose.specs.Words.{⊤, ℕ, nat_eq, not, Bool, [], length, Option, Some, None, IfSome, IsSome}
 use Rattle.syslog_loose.specs.Words.{AllByRecursion, Text, Each, Ends, BeginsNoList, is_blank, is_tag_char, dash}
 use Rattle.syslog_loose.specs.Words.{EndsInColon, is_label_char, ShowsMonthDate, IsCanonicalStamp, Dating, ProcId, PID}
 use Rattle.syslog_loose.specs.Words.{Name, DashRule, OffsetTimestamp, MonthDate, IsMonthStamp}
-use Rattle.std.specs.Char.{is_not_whitespace}
-use Rattle.syslog_loose.specs.declared.message.Protocol.TheVariants.{RFC3164}
+use Rattle.syslog_loose.specs.{Message.MessageValue, TagForm.IsNoForm, declared.message.Protocol.TheVariants.RFC3164}
 use Rattle.syslog_loose.specs.Canonical.{IsVisible, IsNoI32Text, IsCanonicalElement, EndsVisibly}
-use Rattle.syslog_loose.specs.Message.{MessageValue}
-use Rattle.syslog_loose.specs.TagForm.{IsNoForm}
 
 -- ---- the quirks
 

@@ -2,18 +2,11 @@
 use Rattle.std.specs.Prelude.{◌≡◌, ◌≢◌, ◌↔◌, ◌⊎◌}
 use Rattle.syslog_loose.specs.Words.{⊤, ℕ, List, Result, Err, String, string_bytes, IfSome, IsSome, IsOkAnd, Global}
 use Rattle.syslog_loose.specs.Words.{Bor, Text, shown, IsCanonicalStamp, Dating}
-use Rattle.syslog_loose.specs.Canonical.{IsBounded, IsCanonical}
+use Rattle.syslog_loose.specs.{Canonical.IsBounded, Canonical.IsCanonical, Message.MessageValue, Message.message_value}
 use Rattle.syslog_loose.specs.Quirks.{HasNoQuirk, IsNearlyCanonical, IsOfMonthDate}
-use Rattle.syslog_loose.specs.Message.{MessageValue, message_value}
-use Rattle.syslog_loose.specs.Printed.{printed}
-use Rattle.syslog_loose.specs.Reading.{dash_rule}
-use Rattle.syslog_loose.specs.Rfc3164.{IsRead3164}
-use Rattle.syslog_loose.specs.Rfc5424.{IsRead5424}
-use Rattle.syslog_loose.specs.declared.fault.ParseFault.{ParseFault}
-use Rattle.syslog_loose.specs.declared.fault.ParseFault.TheVariants.{Memory}
-use Rattle.syslog_loose.specs.declared.message.Message.{Message}
-use Rattle.syslog_loose.specs.declared.message.Protocol.{Protocol}
-use Rattle.syslog_loose.specs.declared.variant.Variant.{Variant}
+use Rattle.syslog_loose.specs.{Printed.printed, Reading.dash_rule, Rfc3164.IsRead3164, Rfc5424.IsRead5424}
+use Rattle.syslog_loose.specs.declared.fault.ParseFault.{ParseFault, TheVariants.Memory}
+use Rattle.syslog_loose.specs.declared.{message.Message.Message, message.Protocol.Protocol, variant.Variant.Variant}
 use Rattle.syslog_loose.specs.declared.variant.Variant.TheVariants.{Either, RFC3164, RFC5424}
 use Rattle.syslog_loose.specs.declared.message.Protocol.TheVariants as protocol
 

@@ -2,10 +2,8 @@
 use Rattle.std.specs.Prelude.{◌≡◌, ◌⊎◌, ◌<◌, ◌≤◌, ◌^◌}
 use Rattle.syslog_loose.specs.Words.{⊤, ℕ, ℤ, List, [], Option, Some, None, Result, MatchResult, Bor, AllocError, Text}
 use Rattle.syslog_loose.specs.Words.{shown, Dating, DashRule, BeforeBlank, MonthDate, UTC, yearless_date, ShowsOf}
-use Rattle.syslog_loose.specs.declared.fault.ParseFault.{ParseFault}
+use Rattle.syslog_loose.specs.declared.{fault.ParseFault.ParseFault, message.Message.Message, variant.Variant.Variant}
 use Rattle.syslog_loose.specs.declared.fault.ParseFault.TheVariants.{Invalid, Memory}
-use Rattle.syslog_loose.specs.declared.message.Message.{Message}
-use Rattle.syslog_loose.specs.declared.variant.Variant.{Variant}
 use Rattle.syslog_loose.specs.declared.variant.Variant.TheVariants.{Either, RFC3164, RFC5424}
 use Rattle.syslog_loose.specs.Message.{MessageValue, message_of_parts, message_value}
 use Rattle.syslog_loose.specs.Rfc3164.{IsRead3164, Quotes3164}

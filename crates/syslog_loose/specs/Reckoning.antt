@@ -1,8 +1,6 @@
 -- The year and the zone of dates that show none: this project's own choice.
 use Rattle.std.specs.Prelude.{◌≡◌, ◌⊎◌, ◌≤ℤ◌, ◌+ℤ◌, ◌-ℤ◌, if◌then◌else◌, pos}
-use Rattle.jiff.specs.Placed.{fixed_zone}
-use Rattle.jiff.specs.Types.{Date}
-use Rattle.jiff.specs.Words.{IsYmd, epoch_day}
+use Rattle.jiff.specs.{Placed.fixed_zone, Types.Date, Words.IsYmd, Words.epoch_day}
 use Rattle.syslog_loose.specs.Words.{ℕ, ℤ, nat_eq, Option, Some, None, Dating, Offset, TimeZone}
 use Rattle.syslog_loose.specs.Reading.{IncompleteDate}
 

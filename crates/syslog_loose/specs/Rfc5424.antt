@@ -2,8 +2,7 @@
 use Rattle.std.specs.Prelude.{◌≡◌, ◌∷◌}
 use Rattle.syslog_loose.specs.Words.{List, [], Text, Class, Values, Division, run, some_run, rest, optional, priority}
 use Rattle.syslog_loose.specs.Words.{process_word, forgiving, trimmed, is_blank, number, host, word, header_stamp}
-use Rattle.syslog_loose.specs.Words.{AreInPieces}
-use Rattle.syslog_loose.specs.declared.message.Protocol.TheVariants.{RFC5424}
+use Rattle.syslog_loose.specs.{Words.AreInPieces, declared.message.Protocol.TheVariants.RFC5424}
 use Rattle.syslog_loose.specs.Message.{MessageValue, message_of_parts, message_texts}
 
 -- priority, version, timestamp, host, app name, process id, message id, elements, message, with blanks between two

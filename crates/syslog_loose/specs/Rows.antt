@@ -2,9 +2,9 @@
 use Rattle.std.specs.Prelude.{◌∷◌}
 use Rattle.syslog_loose.specs.Words.{ℕ, List, [], Option, Text, Class, Values, Front, Row, run, some_run, exactly}
 use Rattle.syslog_loose.specs.Words.{optional, priority, is_blank, number, colon, host, word, tag_word, header_stamp}
-use Rattle.syslog_loose.specs.Words.{rfc3164_stamp, Dating, spaced, seen, stamp_seen, OffsetTimestamp}
+use Rattle.syslog_loose.specs.Words.{rfc3164_stamp, Dating, spaced, seen, stamp_seen, OffsetTimestamp, rest, texted}
+use Rattle.syslog_loose.specs.{Words.rfc3164_list, Words.DashRule, declared.line.Line.Line}
 use Rattle.syslog_pieces.specs.declared.timestamp.clock.ClockStamp.{ClockStamp}
-use Rattle.syslog_loose.specs.declared.line.Line.{Line}
 
 -- ---- of RFC 5424
 
@@ -16,6 +16,10 @@ front_row = optional priority ∷ number 4294967295 ∷ some_run is_blank ∷ he
 abbrev pub words_row : List Class
 words_row =
     some_run is_blank ∷ host ∷ some_run is_blank ∷ word ∷ some_run is_blank ∷ word ∷ some_run is_blank ∷ word ∷ []
+
+-- the structured data, read by this class, and the message part, with blanks or none before each
+abbrev pub tail_row : Class → List Class
+tail_row C = run is_blank ∷ C ∷ run is_blank ∷ rest ∷ []
 
 -- what the pieces up to the timestamp mean, of this version
 abbrev pub front_values : Line → ℕ → Values front_row
@@ -38,6 +42,10 @@ stamped_row dating = optional priority ∷ run is_blank ∷ rfc3164_stamp dating
 abbrev pub fields_row : List Class
 fields_row =
     optional (spaced host) ∷ optional (spaced tag_word) ∷ run is_blank ∷ optional (exactly colon) ∷ run is_blank ∷ []
+
+-- the list, which may be absent, as its text, and the message part, with blanks or none before it
+abbrev pub list_row : DashRule → List Class
+list_row rule = texted (optional (rfc3164_list rule)) ∷ run is_blank ∷ rest ∷ []
 
 abbrev pub stamped_values : Option ℕ → Option ClockStamp → Option ℕ × (Unit {0} × (Option OffsetTimestamp × Unit {0}))
 stamped_values priority timestamp = (priority, (tt, (stamp_seen timestamp, tt)))

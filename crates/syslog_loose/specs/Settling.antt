@@ -5,12 +5,9 @@ use Rattle.syslog_loose.specs.Words.{ℕ, zero, suc, List, [], length, nat_eq, O
 use Rattle.syslog_loose.specs.Words.{MatchResult, String, string_bytes, Global, option_map_or, chars, bytes_eq, Text}
 use Rattle.syslog_loose.specs.Words.{ElementValue, BeginsNoList, dash, IsCanonicalStamp, Dating, ProcId, PID, Name}
 use Rattle.syslog_loose.specs.Words.{DashRule, list_any, suffix_len}
-use Rattle.syslog_loose.specs.Message.{MessageValue}
-use Rattle.syslog_loose.specs.Printed.{printed}
-use Rattle.syslog_loose.specs.Reading.{IsRead, IsUnreadable}
-use Rattle.syslog_loose.specs.declared.fault.ParseFault.{ParseFault}
+use Rattle.syslog_loose.specs.{Message.MessageValue, Printed.printed, declared.variant.Variant.Variant}
+use Rattle.syslog_loose.specs.{Reading.IsRead, Reading.IsUnreadable, declared.fault.ParseFault.ParseFault}
 use Rattle.syslog_loose.specs.declared.fault.ParseFault.TheVariants.{Invalid, Memory}
-use Rattle.syslog_loose.specs.declared.variant.Variant.{Variant}
 
 -- ---- rounds
 

@@ -1,10 +1,8 @@
 -- What is known of the current day, and the year of a date that shows none: this project's own choice.
-use Rattle.std.specs.Prelude.{◌≡◌}
-use Rattle.std.proofs.Props.{props}
+use Rattle.std.{proofs.Props.props, specs.Prelude.◌≡◌}
 use Rattle.syslog_loose.specs.Words.{⊤, ℤ, IsYear, Some}
-use Rattle.syslog_loose.specs.Reading.{IncompleteDate}
+use Rattle.syslog_loose.specs.{Reading.IncompleteDate, declared.today.Today.Today}
 use Rattle.syslog_loose.specs.Reckoning.{IsYearOnDay, reckoned_year}
-use Rattle.syslog_loose.specs.declared.today.Today.{Today}
 use Rattle.syslog_loose.specs.declared.today.Today.TheVariants.{Year, Month, Day}
 
 -- its year is one of the calendar

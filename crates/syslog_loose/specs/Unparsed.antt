@@ -3,9 +3,7 @@ use Rattle.std.specs.Prelude.{◌≡◌, ◌⊎◌, ◌∷◌}
 use Rattle.syslog_loose.specs.Words.{List, [], Text, Class, Values, Division, run, some_run, rest, optional, priority}
 use Rattle.syslog_loose.specs.Words.{process_word, trimmed, is_blank, number, host, word, header_stamp, list_text}
 use Rattle.syslog_elements.specs.StructuredData.Unparsed.{IsUnparsed, leaving}
-use Rattle.syslog_loose.specs.Rfc5424.{IsNot5424}
-use Rattle.syslog_loose.specs.declared.line.Line.{Line}
-use Rattle.syslog_loose.specs.declared.variant.Variant.{Variant}
+use Rattle.syslog_loose.specs.{Rfc5424.IsNot5424, declared.line.Line.Line, declared.variant.Variant.Variant}
 use Rattle.syslog_loose.specs.declared.variant.Variant.TheVariants.{Either, RFC3164, RFC5424}
 
 -- the pieces of RFC 5424, of which the structured data means what is left unparsed of it

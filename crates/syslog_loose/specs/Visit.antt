@@ -2,15 +2,11 @@
 use Rattle.std.specs.Prelude.{◌≡◌, ◌≢◌, ◌⊎◌}
 use Rattle.syslog_loose.specs.Words.{ℕ, List, [], Option, MatchOption, Result, MatchResult, Bor, Text, shown}
 use Rattle.syslog_loose.specs.Words.{ElementValue, list_elements, Visits, Dating}
-use Rattle.syslog_loose.specs.Line.{line_value}
+use Rattle.syslog_loose.specs.{Line.line_value, declared.line.Line.Line, declared.message.Message.Message}
 use Rattle.syslog_loose.specs.Message.{message_value, with_elements}
-use Rattle.syslog_loose.specs.declared.fault.ParseFault.{ParseFault}
+use Rattle.syslog_loose.specs.declared.{fault.ParseFault.ParseFault, variant.Variant.Variant}
 use Rattle.syslog_loose.specs.declared.fault.ParseFault.TheVariants.{Invalid, Memory}
-use Rattle.syslog_loose.specs.declared.message.Message.{Message}
-use Rattle.syslog_loose.specs.Reading.{IsOnlyRead, IsUnreadable}
-use Rattle.syslog_loose.specs.LineTexts.{IsLine3164, IsLine5424}
-use Rattle.syslog_loose.specs.declared.line.Line.{Line}
-use Rattle.syslog_loose.specs.declared.variant.Variant.{Variant}
+use Rattle.syslog_loose.specs.{LineTexts.IsLine3164, LineTexts.IsLine5424, Reading.IsOnlyRead, Reading.IsUnreadable}
 
 -- The line means the one message as which the text is read, and each of its texts is a piece of the text.
 pub record IsLineOf (variant : Variant) (dating : Dating) (text : Text) (line : Line) : Type 0 where

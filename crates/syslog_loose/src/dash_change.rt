@@ -45,6 +45,7 @@ pub fn reads_differently<F: FnOnce(IncompleteDate) -> i32>(
 }
 
 // Whether the text of the line reads differently, by what follows its timestamp. RFC 5424 has no such dash.
+#[tactic(auto, using(crate::proofs::DashChangeLemmas::unchanged_5424))]
 fn has_dash_change(line: &Line<'_>) -> bool
     ensures { (variant : Variant) (dating : AnyDating) (text : Text) → IsLineOf variant dating text line.now
         → IsTrue result ↔ HasDashChange variant dating text }

@@ -72,6 +72,7 @@ fn last_colons<'a>(line: &Line<'a>) -> Option<(&'a str, usize)>
 }
 
 // Returns the name with only one of the colons that it ends in, and how many were cut: by thirty-two, then one by one.
+#[tactic(auto, using(crate::proofs::SettlingLemmas::Settles::once_chars))]
 fn cut_colons(name: &str) -> (&str, usize)
     ensures cuts { CutsColons (chars name.now) (chars result.0.now) result.1 }
     ensures once { EndsOnce (chars result.0.now) }
@@ -127,8 +128,6 @@ fn write_past_colons(
 {
     let front = Line {
         version: None,
-        priority: line.priority,
-        timestamp: line.timestamp,
         hostname: Some(host),
         appname: None,
         process: None,
@@ -137,6 +136,7 @@ fn write_past_colons(
         msg: ":",
         rest: "",
         is_printed: false,
+        ..*line
     };
     print_line(text, &front)?;
     push_colons(text, cut - 1)?;

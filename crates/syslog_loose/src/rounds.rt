@@ -129,6 +129,7 @@ fn is_known_settled(line: &Line<'_>) -> bool
 
 // Writes the round of a line of RFC 3164, and returns whether it is known to be stable.
 #[inline(never)]
+#[tactic(auto, using(crate::proofs::SettlingLemmas::Settles::told_later))]
 fn other_round(text: &mut String, line: &Line<'_>) -> Result<bool, AllocError>
     requires form { KnowsForm line.now }
     requires rfc3164 { line.now.version ≡ None }

@@ -139,6 +139,7 @@ fn asked_numbers(date: MonthDate) -> Option<IncompleteDate>
 
 /// Returns what the visitor makes of the line of a text that begins with no month date, from after its priority on.
 #[inline(always)]
+#[tactic(auto, using(crate::proofs::ReadingLemmas::undated_invalid))]
 pub(crate) fn visit_undated<'a, E: ElementVisitor<'a>, V: LineVisitor<'a>>(
     priority: Option<u8>,
     text: &'a str,

@@ -1,21 +1,20 @@
 -- What is read as RFC 3164 meets the condition, but for its exceptions.
-use Rattle.syslog_loose.proofs.Names.{rules, ◌≡◌, ◌≢◌, ◌↔◌, ◌<◌, ◌⊎◌, ◌∷◌, ◌++◌, ◌∙◌, ℕ, inl, inr, Bool, List, []}
-use Rattle.syslog_loose.proofs.Names.{length, Option, Some, None, IfSome, IsSome, refl, sym, ap, subst, append_assoc}
-use Rattle.syslog_loose.proofs.Names.{arith, option_map, IfSome_then, is_not_whitespace, AllByRecursion, unwrap_or}
-use Rattle.syslog_loose.proofs.Names.{Text, Front, Each, run, skip_leading_whitespace, Ends, optional, spaced}
-use Rattle.syslog_loose.proofs.Names.{IsBareWord, IsMany, priority, NamesProcess, named_process, ElementValue}
-use Rattle.syslog_loose.proofs.Names.{full_element, rfc3164_list, trimmed, elements_or, is_blank, is_tag_char, dash}
-use Rattle.syslog_loose.proofs.Names.{IsHost, host, tag_word, is_label_char, is_open_char, rfc3164_stamp, month_date}
-use Rattle.syslog_loose.proofs.Names.{IsCanonicalStamp, Dating, ProcId, PID, Name, DashRule, OffsetTimestamp}
-use Rattle.syslog_loose.proofs.Names.{division_front, heads, rest_whole, spaced_parts, present_front, bare_prints}
-use Rattle.syslog_loose.proofs.Names.{stamp_text_canonical, IsVisible, IsCanonicalElement, HasQuietNames, is_no_colon}
-use Rattle.syslog_loose.proofs.Names.{HasNoColon, IsOddHost, IsInnerProcess, MessageValue, AreNamesButQuirks}
-use Rattle.syslog_loose.proofs.Names.{HasQuirksAlone, IsNearlyCanonical, tag_text, Names3164, Resolves, names}
-use Rattle.syslog_loose.proofs.Names.{rfc3164_row, IsRead3164, stamped_row, fields_row, NamesProgram, fields_before}
-use Rattle.syslog_loose.proofs.Names.{form_row, IsForm, each_after, each_both, each_left, each_front, each_right}
-use Rattle.syslog_loose.proofs.Names.{begins, row_pieces, IsOfMonthDate, append_cancel_right, decimal, decimal_digits}
-use Rattle.syslog_loose.proofs.Names.{each_map, is_ascii_digit, name_text, named_names, nat_tests, negsuc, pos}
-use Rattle.syslog_loose.proofs.Names.{process_same, procid_text, rest_same, run_same, suc}
+use Rattle.syslog_loose.proofs.Names.{skip_leading_whitespace, named_process, stamp_text_canonical, append_cancel_right}
+use Rattle.syslog_loose.proofs.Names.{◌++◌, is_not_whitespace, IsCanonicalElement, AreNamesButQuirks, IsNearlyCanonical}
+use Rattle.syslog_loose.proofs.Names.{AllByRecursion, IsCanonicalStamp, OffsetTimestamp, division_front, IsInnerProcess}
+use Rattle.syslog_loose.proofs.Names.{◌≡◌, is_label_char, rfc3164_stamp, HasQuirksAlone, decimal_digits, is_ascii_digit}
+use Rattle.syslog_loose.proofs.Names.{append_assoc, trimmed, present_front, HasQuietNames, fields_before, IsOfMonthDate}
+use Rattle.syslog_loose.proofs.Names.{IfSome_then, NamesProcess, ElementValue, full_element, rfc3164_list, is_open_char}
+use Rattle.syslog_loose.proofs.Names.{elements_or, is_tag_char, spaced_parts, MessageValue, NamesProgram, process_same}
+use Rattle.syslog_loose.proofs.Names.{◌≢◌, bare_prints, is_no_colon, rfc3164_row, stamped_row, named_names, procid_text}
+use Rattle.syslog_loose.proofs.Names.{option_map, unwrap_or, IsBareWord, month_date, rest_whole, HasNoColon, IsRead3164}
+use Rattle.syslog_loose.proofs.Names.{IsVisible, IsOddHost, fields_row, each_after, each_front, each_right, row_pieces}
+use Rattle.syslog_loose.proofs.Names.{rules, optional, Names3164, each_both, each_left, name_text, nat_tests, rest_same}
+use Rattle.syslog_loose.proofs.Names.{ℕ, priority, is_blank, tag_word, DashRule, tag_text, Resolves, form_row, each_map}
+use Rattle.syslog_loose.proofs.Names.{length, Option, IfSome, IsSome, spaced, IsMany, IsHost, Dating, decimal, run_same}
+use Rattle.syslog_loose.proofs.Names.{Bool, List, [], subst, arith, Front, ProcId, heads, names, IsForm, begins, negsuc}
+use Rattle.syslog_loose.proofs.Names.{◌↔◌, ◌<◌, ◌⊎◌, ◌∷◌, ◌∙◌, Some, None, refl, ap, Text, Each, Ends, dash, host, Name}
+use Rattle.syslog_loose.proofs.Names.{inl, inr, sym, run, PID, pos, suc}
 use Rattle.syslog_elements.proofs.StructuredDataLemmas.Elements.{element_canonical}
 use Rattle.syslog_loose.proofs.Rfc3164Lemmas.{of_names, shows, one_form}
 use Rattle.syslog_loose.proofs.PrintedLemmas.{drop_ends, last_ends, severity_beside}
@@ -142,8 +141,7 @@ module _ (rule : DashRule) (dating : Dating) (text : Text) where
       let near = near_names t4 v.1.1.1.0 v.1.1.1.1.0 n resolves (host_field t3 t4 v.1.1.1.0 g4)
       (tag_field t4 t5 v.1.1.1.1.0 g5) in
       let canonical = field_canonical rule g9.piece t9 v.1.1.1.1.1.1.1.1.0 g9.is in
-      let colon : IfSome n.procid HasNoColon ⊎ (n.hostname ≡ None) =
-      elim near.colon [ inl k ↦ inl k | inr (none, _) ↦ inr none ] in
+      let colon : IfSome n.procid HasNoColon ⊎ (n.hostname ≡ None) = search rules in
       let front = subst (λ (x : Text). Ends is_blank x) (rest_whole g11) g10.is.1 in
       let end = last_ends (stamped_row dating ++ (fields_row ++ (optional (rfc3164_list rule) ∷ run is_blank ∷ []))) row
       (drop_ends (skip_leading_whitespace text)) in rw means (search (canonical.0, canonical.1) parts 1)

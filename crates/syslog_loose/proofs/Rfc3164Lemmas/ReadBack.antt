@@ -1,28 +1,25 @@
 -- The printed text of a message of RFC 3164 is read as the message exactly if that is canonical: its division, piece by
 -- piece.
-use Rattle.syslog_loose.proofs.Names.{rules, ◌≡◌, ◌∷◌, ◌++◌, ◌∙◌, List, [], Option, Some, None, refl, ap, append_assoc}
-use Rattle.syslog_loose.proofs.Names.{ℕ, decimal, drop_trailing_whitespace, Text, ElementValue, joined_elements}
-use Rattle.syslog_loose.proofs.Names.{trimmed, procid_text, ProcId, MessageValue, timestamp_text, tag_text}
-use Rattle.syslog_loose.proofs.Names.{spaced_elements, ◌≢◌, priority_of, ◌<◌, ◌then◌, suc, pos, inl, inr, not, negsuc}
-use Rattle.syslog_loose.proofs.Names.{true, false, nat_eq, length, IfSome, subst, arith, length-append, row_of}
-use Rattle.syslog_loose.proofs.Names.{nat_tests, Values, is_ascii_digit, AllByRecursion, Front, NoFront, Row, Each}
-use Rattle.syslog_loose.proofs.Names.{Ends, run, exactly, optional, spaced, IsMany, priority, NamesProcess}
-use Rattle.syslog_loose.proofs.Names.{element_text, full_element, PID, BeginsNoList, rfc3164_list, elements_or}
-use Rattle.syslog_loose.proofs.Names.{is_blank, is_tag_char, dash, colon, host, name_text, tag_word, is_label_char}
-use Rattle.syslog_loose.proofs.Names.{is_open_char, rfc3164_stamp, IsCanonicalStamp, Dating, Name, DashRule}
-use Rattle.syslog_loose.proofs.Names.{OffsetTimestamp, both_values, heads, front_division, optional_some, row_cons}
-use Rattle.syslog_loose.proofs.Names.{rows_join, optional_none, rest_front, spaced_front, no_spaced_piece, piece_front}
-use Rattle.syslog_loose.proofs.Names.{host_back, decimal_digits, no_full_nil, no_rfc3164_list, printed_stamp_back}
-use Rattle.syslog_loose.proofs.Names.{IsBoundedProcess, IsBounded, IsCanonicalHost, IsCanonicalElement, is_process_char}
-use Rattle.syslog_loose.proofs.Names.{IsBracketedProcess, AreCanonicalNames, names, IsCanonical3164, IsCanonicalFor}
-use Rattle.syslog_loose.proofs.Names.{IsCanonical, Resolves, rfc3164_row, IsRead3164, body_row, IsForm, Protocol}
-use Rattle.syslog_loose.proofs.Names.{RFC3164, each_map, each_left, each_right, each_append, Begins, begins_with, IsLow}
-use Rattle.syslog_loose.proofs.Names.{printed_stamp-begins, signed_writes}
-use Rattle.syslog_loose.specs.Printed.{printed_3164}
-use Rattle.syslog_loose.specs.Canonical.{EndsVisibly}
+use Rattle.syslog_loose.proofs.Names.{drop_trailing_whitespace, length-append, printed_stamp_back, printed_stamp-begins}
+use Rattle.syslog_loose.proofs.Names.{◌++◌, IsCanonicalStamp, IsCanonicalElement, IsBracketedProcess, AreCanonicalNames}
+use Rattle.syslog_loose.proofs.Names.{append_assoc, joined_elements, spaced_elements, OffsetTimestamp, IsBoundedProcess}
+use Rattle.syslog_loose.proofs.Names.{is_label_char, no_spaced_piece, no_rfc3164_list, IsCanonicalHost, is_process_char}
+use Rattle.syslog_loose.proofs.Names.{timestamp_text, is_ascii_digit, AllByRecursion, front_division, IsCanonical3164}
+use Rattle.syslog_loose.proofs.Names.{List, rfc3164_stamp, optional_some, optional_none, decimal_digits, IsCanonicalFor}
+use Rattle.syslog_loose.proofs.Names.{ElementValue, MessageValue, NamesProcess, element_text, rest_front, signed_writes}
+use Rattle.syslog_loose.proofs.Names.{procid_text, full_element, BeginsNoList, rfc3164_list, is_open_char, spaced_front}
+use Rattle.syslog_loose.proofs.Names.{◌≡◌, priority_of, elements_or, is_tag_char, both_values, piece_front, no_full_nil}
+use Rattle.syslog_loose.proofs.Names.{rules, IsCanonical, rfc3164_row, IsRead3164, each_right, each_append, begins_with}
+use Rattle.syslog_loose.proofs.Names.{tag_text, false, nat_tests, name_text, rows_join, host_back, IsBounded, each_left}
+use Rattle.syslog_loose.proofs.Names.{ℕ, optional, priority, is_blank, tag_word, DashRule, row_cons, Resolves, body_row}
+use Rattle.syslog_loose.proofs.Names.{Option, decimal, trimmed, ProcId, NoFront, exactly, Protocol, RFC3164, each_map}
+use Rattle.syslog_loose.proofs.Names.{◌then◌, negsuc, nat_eq, length, IfSome, row_of, Values, spaced, IsMany, Dating}
+use Rattle.syslog_loose.proofs.Names.{Some, None, refl, subst, arith, Front, colon, heads, names, IsForm, Begins, IsLow}
+use Rattle.syslog_loose.proofs.Names.{◌∷◌, ◌∙◌, Text, ◌≢◌, ◌<◌, suc, pos, inl, inr, true, Each, Ends, dash, host, Name}
+use Rattle.syslog_loose.proofs.Names.{[], ap, not, Row, run, PID}
+use Rattle.syslog_loose.{proofs.PrintedLemmas.parts_back, specs.Canonical.EndsVisibly, specs.Printed.printed_3164}
 use Rattle.syslog_loose.proofs.PrintedLemmas.{joined_last, LastVisible, last_append, drop_after, message_end_is}
 use Rattle.syslog_loose.proofs.PrintedLemmas.{priority_low, priority_front, stamp_unblank, message_end, message_blanks}
-use Rattle.syslog_loose.proofs.PrintedLemmas.{parts_back}
 pub use Rattle.syslog_loose.specs.Bodies.Jumps.{tail_text}
 use Rattle.syslog_elements.proofs.StructuredDataLemmas.Elements.{element_back}
 use Rattle.syslog_loose.proofs.Rfc3164Lemmas.{from_blanks, to_stamp, to_colon, from_stamp, told, digit_range}

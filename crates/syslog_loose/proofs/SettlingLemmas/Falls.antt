@@ -1,41 +1,38 @@
 -- What the printed text of a message is read as: one that prints the same, or a lighter one; and its rank falls.
-use Rattle.syslog_loose.proofs.Names.{rules, ◌≡◌, ◌≢◌, ◌<◌, ◌≤◌, ◌⊎◌, ◌∷◌, ◌++◌, ◌∙◌, ◌-◌, ◌then◌, ℕ, inl, inr, true}
-use Rattle.syslog_loose.proofs.Names.{false, not, nat_eq, [], length, Option, None, IfSome, refl, sym, ap, subst, arith}
-use Rattle.syslog_loose.proofs.Names.{Some, append_assoc, append-nil, take, length-append, row_pieces, row_of}
-use Rattle.syslog_loose.proofs.Names.{nat_tests, Row, bytes_eq-Decides, is_not_whitespace, bytes_eq, Text, Values}
-use Rattle.syslog_loose.proofs.Names.{Front, NoFront, Each, Ends, run, exactly, optional, spaced, is_blank, dash, colon}
-use Rattle.syslog_loose.proofs.Names.{EndsInColon, host, name_text, tag_word, is_tag_char, ProcId, PID, Name, DashRule}
-use Rattle.syslog_loose.proofs.Names.{BeforeBlank, names, each_both, each_left, each_right, each_front, each_after}
-use Rattle.syslog_loose.proofs.Names.{each_append, rows_step, piece_front, IsBoundedProcess, IsVisible, IsCanonicalHost}
-use Rattle.syslog_loose.proofs.Names.{AreCanonicalNames, ◌+◌, is_no_colon, HasNoColon, is_inner_char, IsOddHost}
-use Rattle.syslog_loose.proofs.Names.{AreNamesButQuirks, heads, HasQuietNames, tag_text, Names3164, Resolves, body_row}
-use Rattle.syslog_loose.proofs.Names.{names_weight, elements_or, is_open_char, run_same, division_front, optional_some}
-use Rattle.syslog_loose.proofs.Names.{optional_none, form_row, spaced_front, no_spaced_space, no_spaced_piece, IsNoForm}
-use Rattle.syslog_loose.proofs.Names.{◌*◌, List, ElementValue, option_map_or, rfc3164_stamp, IsCanonicalStamp, Dating}
-use Rattle.syslog_loose.proofs.Names.{OffsetTimestamp, step, step_value, IsCanonicalElement, HasQuirksAlone}
-use Rattle.syslog_loose.proofs.Names.{MessageValue, timestamp_text, priority_of, printed, rfc3164_row, IsRead3164}
-use Rattle.syslog_loose.proofs.Names.{Weighs, tail_text, AllByRecursion, facility_number, severity_number, facility_of}
-use Rattle.syslog_loose.proofs.Names.{severity_of, rest_same, row_head, front_same, row_det, Begins, begins_apart}
-use Rattle.syslog_loose.proofs.Names.{begins_more, begins_with, zero, priority_composed, rfc3164_stamp_det}
-use Rattle.syslog_loose.proofs.Names.{stamped_date_begins, stamp_text_canonical, printed_stamp-visible}
-use Rattle.syslog_loose.proofs.Names.{printed_stamp-begins, suc, nil_from_length, BeginsNoList, IsDashBefore, IsDashed}
-use Rattle.syslog_loose.proofs.Names.{HasNoNameQuirk, dash_rule, no_full_nil, EndsOnce, HasRank, Prints, drop, list_any}
-use Rattle.syslog_loose.proofs.Names.{BeginsNoDashes, IsCanonical, IsBounded, IsSome, RFC3164, ◌↔◌}
-use Rattle.std.proofs.lemmas.List.{take-append-drop}
-use Rattle.std.proofs.lemmas.List.Prefix.{end_rest}
-use Rattle.syslog_loose.proofs.SettlingLemmas.Weights.{Decided, decided, find_run, no_char, no_list_by, no_list_inner}
-use Rattle.syslog_loose.proofs.SettlingLemmas.Weights.{left_none, colon_weight, fields_light, host_light, process_light}
-use Rattle.syslog_loose.proofs.SettlingLemmas.Weights.{free, paid, at_most, list_read, dash_before}
+use Rattle.syslog_loose.proofs.Names.{some_front_run, stamp_text_canonical, printed_stamp-visible, printed_stamp-begins}
+use Rattle.syslog_loose.proofs.Names.{[], is_not_whitespace, AreCanonicalNames, IsCanonicalElement, stamped_date_begins}
+use Rattle.syslog_loose.proofs.Names.{◌then◌, bytes_eq-Decides, AreNamesButQuirks, priority_composed, rfc3164_stamp_det}
+use Rattle.syslog_loose.proofs.Names.{EndsInColon, IsBoundedProcess, IsCanonicalHost, no_spaced_space, IsCanonicalStamp}
+use Rattle.syslog_loose.proofs.Names.{length-append, no_spaced_piece, OffsetTimestamp, facility_number, severity_number}
+use Rattle.syslog_loose.proofs.Names.{division_front, HasQuirksAlone, timestamp_text, AllByRecursion, nil_from_length}
+use Rattle.syslog_loose.proofs.Names.{HasNoNameQuirk, is_inner_char, HasQuietNames, optional_some, BeginsNoDashes, ◌++◌}
+use Rattle.syslog_loose.proofs.Names.{optional_none, append_assoc, names_weight, option_map_or, rfc3164_stamp, bytes_eq}
+use Rattle.syslog_loose.proofs.Names.{is_open_char, is_tag_char, spaced_front, ElementValue, MessageValue, begins_apart}
+use Rattle.syslog_loose.proofs.Names.{BeginsNoList, BeforeBlank, each_append, piece_front, is_no_colon, IsDashBefore, ℕ}
+use Rattle.syslog_loose.proofs.Names.{elements_or, ◌≡◌, priority_of, rfc3164_row, facility_of, severity_of, begins_more}
+use Rattle.syslog_loose.proofs.Names.{begins_with, append-nil, row_pieces, each_right, no_full_nil, IsCanonical, nat_eq}
+use Rattle.syslog_loose.proofs.Names.{nat_tests, each_front, each_after, HasNoColon, step_value, IsRead3164, front_same}
+use Rattle.syslog_loose.proofs.Names.{name_text, each_both, each_left, rows_step, IsVisible, IsOddHost, Names3164, true}
+use Rattle.syslog_loose.proofs.Names.{NoFront, tail_text, rest_same, optional, is_blank, tag_word, dash_rule, IsBounded}
+use Rattle.syslog_loose.proofs.Names.{DashRule, tag_text, Resolves, body_row, run_same, form_row, IsNoForm, row_head}
+use Rattle.syslog_loose.proofs.Names.{IsDashed, EndsOnce, length, exactly, printed, row_det, HasRank, list_any, RFC3164}
+use Rattle.syslog_loose.proofs.Names.{Option, IfSome, row_of, Values, spaced, ProcId, Dating, Weighs, Begins, Prints}
+use Rattle.syslog_loose.proofs.Names.{rules, IsSome, false, None, refl, subst, arith, Some, Front, colon, names, heads}
+use Rattle.syslog_loose.proofs.Names.{take, ◌≢◌, ◌<◌, ◌≤◌, Text, Each, Ends, dash, host, Name, List, step, zero, drop}
+use Rattle.syslog_loose.proofs.Names.{ap, ◌⊎◌, ◌∷◌, ◌∙◌, ◌-◌, inl, inr, not, sym, Row, run, PID, ◌+◌, ◌*◌, suc, ◌↔◌}
+use Rattle.std.proofs.lemmas.List.{take-append-drop, Prefix.end_rest}
+use Rattle.syslog_loose.proofs.SettlingLemmas.Weights.{Decided, decided, no_char, no_list_by, no_list_inner, left_none}
+use Rattle.syslog_loose.proofs.SettlingLemmas.Weights.{colon_weight, fields_light, host_light, process_light, free}
+use Rattle.syslog_loose.proofs.SettlingLemmas.Weights.{paid, at_most, list_read, dash_before}
 use Rattle.syslog_loose.proofs.Rfc3164Lemmas.{resolves_once, from_blanks, to_colon, to_colon_det, IsDigit, digit_range}
 use Rattle.syslog_loose.proofs.Rfc3164Lemmas.{rfc3164_bounded, printed_3164_is, to_stamp, to_stamp_det, from_stamp}
-use Rattle.syslog_loose.proofs.Rfc3164Lemmas.{body_det, told}
+use Rattle.syslog_loose.{proofs.Rfc3164Lemmas.body_det, proofs.Rfc3164Lemmas.told, specs.Printed.printed_3164}
 use Rattle.syslog_text.proofs.PieceLemmas.Class.{firsts}
 use Rattle.syslog_loose.proofs.CanonicalLemmas.{canonical_names, near_canonical, quiet_names}
 use Rattle.syslog_loose.proofs.Rfc3164Lemmas.ReadBack.{program_field, resolved, no_tag_colon, names_back, tagged}
 use Rattle.syslog_loose.proofs.Rfc3164Lemmas.ReadBack.{host_field_back, program_text, stamp_low, body_back, stamp_back}
 use Rattle.syslog_loose.proofs.Rfc3164Lemmas.ReadBack.{to_stamp_back, trimmed_whole, canonical_back}
 use Rattle.syslog_pieces.proofs.TimestampLemmas.Rfc3339.{stamp_each, space_ends}
-use Rattle.syslog_loose.specs.Printed.{printed_3164}
 use Rattle.syslog_loose.proofs.PrintedLemmas.{priority_small, message_blanks}
 use Rattle.syslog_loose.proofs.Rfc3164Lemmas.Near.{read_near, read_nearly}
 
@@ -121,7 +118,7 @@ Cut p = (before : Text) × (after : Text) × (p ≡ Some (Name (before ++ (58 �
 whole_or_cut : (p : Option (ProcId Text)) → IfSome p HasNoColon ⊎ Cut p
 whole_or_cut None = inl tt
 whole_or_cut (Some (PID i)) = inl tt
-whole_or_cut (Some (Name i)) = let (before, q, e, k, ends) = find_run is_no_colon i in by before q e k ends
+whole_or_cut (Some (Name i)) = let (q, f) = some_front_run is_no_colon i in by f.piece q f.whole f.is.0 f.is.1
   where
     by : (before q : Text) → i ≡ before ++ q → Each is_no_colon before → Ends is_no_colon q
         → Each is_no_colon i ⊎ Cut (Some (Name i))

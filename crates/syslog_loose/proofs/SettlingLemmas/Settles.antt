@@ -1,34 +1,30 @@
 -- Rounds of a text: one is stable first, or one is missing; and the rounds that are skipped, with what is written of
 -- them.
-use Rattle.syslog_loose.proofs.Names.{rules, subst, is_not_whitespace, chars_from_encodes, IsCanonicalStamp}
-use Rattle.syslog_loose.proofs.Names.{dash_rfc3164_list, IsUnreadable, encode_utf8_all, IsReportedRound}
-use Rattle.syslog_loose.proofs.Names.{IsAfterPriority, IsBoundedProcess, IsFirstSettled, ShowsMonthDate, HasQuirksAlone}
-use Rattle.syslog_loose.proofs.Names.{nil_from_length, ◌≡◌, optional_some, ReadsProtocol, HasNoNameQuirk}
-use Rattle.syslog_loose.proofs.Names.{front_division, encodes-append, Dating, BeginsWithout, length-append}
-use Rattle.syslog_loose.proofs.Names.{rfc3164_stamp, colons_before, encodes-chars, leb_tells, append_assoc}
-use Rattle.syslog_loose.proofs.Names.{MessageValue, string_bytes, elements_text, chars-IsAscii, NoneSettled}
-use Rattle.syslog_loose.proofs.Names.{priority_of, IsCanonical, ElementValue, rfc3164_list, PassesDashes, ◌<◌}
-use Rattle.syslog_loose.proofs.Names.{piece_front, EndsInColon, BeforeBlank, past_colons, rfc3164_row, zero, month_date}
-use Rattle.syslog_loose.proofs.Names.{MatchOption, encode_utf8, chars_empty, colon_ascii, IsSettled, HasNoQuirk}
-use Rattle.syslog_loose.proofs.Names.{IsRead3164, ParseFault, line_value, each_front, EndsColons, dash_rule, tail_text}
-use Rattle.syslog_loose.proofs.Names.{Names3164, rest_front, append-nil, CutsColons, front_same, is_blank, Protocol}
-use Rattle.syslog_loose.proofs.Names.{IsDashed, with_msg, Resolves, body_row, row_cons, rows_join, printed, IsRound}
-use Rattle.syslog_loose.proofs.Names.{Reaches, Variant, trimmed, RFC5424, Invalid, EndsOnce, some_run, ap, IsNext}
-use Rattle.syslog_loose.proofs.Names.{length, IsFixed, HasRank, IsLater, exactly, run_det, is_some, IsAscii, ℕ, Option}
-use Rattle.syslog_loose.proofs.Names.{IsRead, Either, IsUtf8, Weighs, Memory, Result, Global, String, row_of, arith}
-use Rattle.syslog_loose.proofs.Names.{Front, false, chars, ◌then◌, IfSome, Values, colon, colons, Prints, begins, refl}
-use Rattle.syslog_loose.proofs.Names.{Text, ◌++◌, true, None, Some, Bool, List, IfOk, Made, names, shown, Skips, ◌⊎◌}
-use Rattle.syslog_loose.proofs.Names.{◌∙◌, suc, inl, inr, sym, ◌≤◌, ◌∷◌, ◌+◌, ◌↔◌, Err, Row, rest, run, ◌-◌, Ends, []}
-use Rattle.syslog_loose.proofs.Names.{Ok, Bor, ◌*◌}
+use Rattle.syslog_loose.proofs.Names.{rules, is_not_whitespace, chars_from_encodes, IsCanonicalStamp, dash_rfc3164_list}
+use Rattle.syslog_loose.proofs.Names.{IsUnreadable, encode_utf8_all, IsReportedRound, IsAfterPriority, IsBoundedProcess}
+use Rattle.syslog_loose.proofs.Names.{IsFirstSettled, ShowsMonthDate, HasQuirksAlone, nil_from_length, HasNoNameQuirk}
+use Rattle.syslog_loose.proofs.Names.{optional_some, ReadsProtocol, front_division, encodes-append, BeginsWithout, zero}
+use Rattle.syslog_loose.proofs.Names.{Dating, length-append, rfc3164_stamp, colons_before, encodes-chars, elements_text}
+use Rattle.syslog_loose.proofs.Names.{append_assoc, MessageValue, string_bytes, chars-IsAscii, ElementValue, month_date}
+use Rattle.syslog_loose.proofs.Names.{NoneSettled, priority_of, IsCanonical, rfc3164_list, PassesDashes, piece_front, ℕ}
+use Rattle.syslog_loose.proofs.Names.{◌≡◌, EndsInColon, BeforeBlank, past_colons, rfc3164_row, MatchOption, encode_utf8}
+use Rattle.syslog_loose.proofs.Names.{chars_empty, colon_ascii, HasNoQuirk, IsRead3164, ParseFault, line_value, printed}
+use Rattle.syslog_loose.proofs.Names.{leb_tells, each_front, EndsColons, rest_front, append-nil, CutsColons, front_same}
+use Rattle.syslog_loose.proofs.Names.{IsSettled, dash_rule, tail_text, Names3164, is_blank, Protocol, rows_join, IsNext}
+use Rattle.syslog_loose.proofs.Names.{IsDashed, with_msg, Resolves, body_row, row_cons, IsRound, EndsOnce, some_run, ap}
+use Rattle.syslog_loose.proofs.Names.{Reaches, Variant, trimmed, RFC5424, Invalid, IsFixed, HasRank, IsLater, exactly}
+use Rattle.syslog_loose.proofs.Names.{length, run_det, is_some, IsAscii, Option, IsRead, Either, IsUtf8, Weighs, Memory}
+use Rattle.syslog_loose.proofs.Names.{Result, Global, String, row_of, ◌then◌, IfSome, Values, colons, Prints, begins}
+use Rattle.syslog_loose.proofs.Names.{subst, arith, Front, false, chars, colon, refl, Text, ◌++◌, names, shown, Skips}
+use Rattle.syslog_loose.proofs.Names.{◌<◌, true, None, Some, Bool, List, IfOk, Made, ◌⊎◌, ◌∙◌, suc, inl, rest, Ends, []}
+use Rattle.syslog_loose.proofs.Names.{inr, sym, ◌≤◌, ◌∷◌, ◌+◌, ◌↔◌, Err, Row, run, ◌-◌, Ok, Bor, ◌*◌}
 use Rattle.syslog_loose.proofs.ReadingLemmas.{read_once, invalid_or_memory}
-use Rattle.syslog_loose.specs.Printed.{printed_3164}
-use Rattle.syslog_loose.specs.declared.variant.Variant.TheVariants.{RFC3164}
-use Rattle.syslog_loose.proofs.PrintedLemmas.{priority_small}
+use Rattle.syslog_loose.{proofs.PrintedLemmas.priority_small, specs.Printed.printed_3164}
+use Rattle.syslog_loose.{proofs.Rfc3164Lemmas.Near.read_near, specs.declared.variant.Variant.TheVariants.RFC3164}
 use Rattle.syslog_loose.proofs.Rfc3164Lemmas.{printed_3164_is, to_stamp, printed_apart, shows, rfc3164_bounded}
 use Rattle.syslog_loose.proofs.Rfc3164Lemmas.{from_blanks, from_stamp, to_colon, told}
 use Rattle.syslog_loose.proofs.Rfc3164Lemmas.ReadBack.{body_back, names_back, program_field, resolved, stamp_back}
 use Rattle.syslog_loose.proofs.Rfc3164Lemmas.ReadBack.{to_stamp_back, trimmed_whole}
-use Rattle.syslog_loose.proofs.Rfc3164Lemmas.Near.{read_near}
 use Rattle.syslog_loose.specs.Settling.{SettlesAs, IsSettlingFault, Settles}
 use Rattle.syslog_loose.specs.Passes.{IsStable, AnswersPass, PassesLead, WritesRound, round_answer}
 use Rattle.syslog_loose.proofs.ReadBackLemmas.{read_as, read_bounded, printed_exact, fixed_again, read_shows_none}
@@ -36,11 +32,9 @@ use Rattle.syslog_loose.proofs.CanonicalLemmas.{canonical_near, canonical_host, 
 use Rattle.syslog_loose.proofs.SettlingLemmas.Falls.{falls, same_text, rank_falls, after_space, priority_again}
 use Rattle.syslog_loose.proofs.SettlingLemmas.Falls.{printed_same, host_left, no_form_open}
 use Rattle.syslog_loose.proofs.SettlingLemmas.Weights.{light, weight, dash_before, no_list_by}
-use Rattle.std.specs.declared.alloc.AllocError.{AllocError}
+use Rattle.std.{proofs.lemmas.Str.Ascii.IsAscii-nil, specs.List.repeat, specs.declared.alloc.AllocError.AllocError}
 use Rattle.syslog_loose.specs.Bodies.Jumps.{message_end, read_with}
-use Rattle.std.specs.List.{repeat}
 use Rattle.std.proofs.lemmas.Str.{IsAscii-append, chars-append, encodes-IsAscii}
-use Rattle.std.proofs.lemmas.Str.Ascii.{IsAscii-nil}
 use Rattle.std.specs.Str.Pattern.{FindsTextPrefix, FindsTextSuffix, StripsPrefix, StripsSuffix}
 use Rattle.syslog_loose.specs.declared.message.Protocol.TheVariants as protocol
 

@@ -1,40 +1,36 @@
 -- What a message weighs: one weight, no more than its text has characters; and which texts begin with a list.
-use Rattle.syslog_loose.proofs.Names.{rules, drop_trailing_whitespace, skip_leading_whitespace, stamp_text_canonical}
-use Rattle.syslog_loose.proofs.Names.{run_same, is_not_whitespace, AllDeterministic, IsCanonicalStamp, row_cons}
-use Rattle.syslog_loose.proofs.Names.{no_full_opening, OffsetTimestamp, no_rfc3164_list, BeforeAnything, begins_no_list}
-use Rattle.syslog_loose.proofs.Names.{division_front, no_full_start, is_inner_char, length-append, option_map_or, false}
-use Rattle.syslog_loose.proofs.Names.{IsRfc3164List, present_front, rfc3164_stamp, full_element, IsDashBefore, some_run}
-use Rattle.syslog_loose.proofs.Names.{BeginsNoList, front_longer, is_name_char, is_open_char, ElementValue, BeforeBlank}
-use Rattle.syslog_loose.proofs.Names.{rfc3164_list, absent_stays, MessageValue, names_weight, opening_row, opening_det}
-use Rattle.syslog_loose.proofs.Names.{piece_front, full_begins, elements_or, ℕ, absent_none, rfc3164_row, is_id_char}
-use Rattle.syslog_loose.proofs.Names.{each_right, row_pieces, front_same, NoFront, rest_whole, IsRead3164, month_date}
-use Rattle.syslog_loose.proofs.Names.{no_texted, eqb_tells, start_row, each_both, each_left, Names3164, MonthDate}
-use Rattle.syslog_loose.proofs.Names.{unwrap_or, is_blank, subst, DashRule, optional, Resolves, row_head, tag_word}
-use Rattle.syslog_loose.proofs.Names.{exactly, run_det, ◌then◌, ◌also◌, length, row_of, texted, decide, arith, begins}
-use Rattle.syslog_loose.proofs.Names.{nat_eq, no_row, Option, IfSome, Values, ProcId, Weighs, spaced, IsHost, Dating}
-use Rattle.syslog_loose.proofs.Names.{heads, Class, Front, start, colon, Costs, month, ◌++◌, zero, Bool, true, List}
-use Rattle.syslog_loose.proofs.Names.{refl, Text, Each, Ends, None, Some, Name, step, join, ◌≡◌, ◌≤◌, ◌⊎◌, ◌∷◌, ◌∙◌}
-use Rattle.syslog_loose.proofs.Names.{suc, inl, inr, sym, Row, run, ◌<◌, not, ◌+◌, PID, [], ap, rows_split, stamped_row}
+use Rattle.syslog_loose.proofs.Names.{drop_trailing_whitespace, skip_leading_whitespace, stamp_text_canonical, run_same}
+use Rattle.syslog_loose.proofs.Names.{is_not_whitespace, AllDeterministic, IsCanonicalStamp, no_full_opening, no_texted}
+use Rattle.syslog_loose.proofs.Names.{some_front_run, OffsetTimestamp, no_rfc3164_list, begins_no_list, division_front}
+use Rattle.syslog_loose.proofs.Names.{no_full_start, is_inner_char, length-append, option_map_or, IsRfc3164List, ◌then◌}
+use Rattle.syslog_loose.proofs.Names.{present_front, rfc3164_stamp, full_element, IsDashBefore, BeginsNoList, eqb_tells}
+use Rattle.syslog_loose.proofs.Names.{front_longer, is_name_char, is_open_char, ElementValue, BeforeBlank, rfc3164_list}
+use Rattle.syslog_loose.proofs.Names.{absent_stays, MessageValue, names_weight, opening_row, opening_det, piece_front}
+use Rattle.syslog_loose.proofs.Names.{full_begins, elements_or, absent_none, rfc3164_row, is_id_char, ◌++◌, stamped_row}
+use Rattle.syslog_loose.proofs.Names.{each_right, row_pieces, front_same, rest_whole, IsRead3164, month_date, start_row}
+use Rattle.syslog_loose.proofs.Names.{row_cons, each_both, each_left, Names3164, MonthDate, unwrap_or, zero, rows_split}
+use Rattle.syslog_loose.proofs.Names.{some_run, NoFront, is_blank, DashRule, optional, Resolves, row_head, tag_word, []}
+use Rattle.syslog_loose.proofs.Names.{exactly, run_det, ◌also◌, length, row_of, texted, begins, nat_eq, no_row, Option}
+use Rattle.syslog_loose.proofs.Names.{rules, false, subst, IfSome, Values, ProcId, Weighs, spaced, IsHost, Dating, Bool}
+use Rattle.syslog_loose.proofs.Names.{ℕ, arith, heads, Class, Front, start, colon, Costs, month, true, List, refl, Text}
+use Rattle.syslog_loose.proofs.Names.{Each, Ends, None, Some, Name, step, join, ◌≡◌, ◌≤◌, ◌⊎◌, ◌∷◌, ◌∙◌, suc, inl, inr}
+use Rattle.syslog_loose.proofs.Names.{sym, Row, run, ◌<◌, not, ◌+◌, PID, ap}
 use Rattle.syslog_text.proofs.PieceLemmas.Class.{row_nil, row_none_here, row_none_later, texted_front, no_front_no}
 use Rattle.syslog_text.proofs.PieceLemmas.Class.{Meets, meets_here, meets_none}
 use Rattle.syslog_text.proofs.PieceLemmas.Lists.{no_more, no_more_after}
 use Rattle.syslog_elements.proofs.StructuredDataLemmas.Elements.{start_det, value_here, unit_goes}
-use Rattle.syslog_elements.proofs.StructuredDataLemmas.Closing.{no_closing, closing_goes, quoted_goes}
-use Rattle.syslog_elements.proofs.StructuredDataLemmas.Closing.{no_opening, no_quoted_short, passes_here, value_ends}
-use Rattle.syslog_elements.proofs.StructuredDataLemmas.Closing.{value_breaks, value_goes}
-use Rattle.syslog_elements.proofs.StructuredDataLemmas.Walk.{full_goes}
+use Rattle.syslog_elements.proofs.StructuredDataLemmas.Closing.{no_closing, closing_goes, quoted_goes, no_opening}
+use Rattle.syslog_elements.proofs.StructuredDataLemmas.Closing.{no_quoted_short, passes_here, value_ends, value_breaks}
+use Rattle.syslog_elements.proofs.StructuredDataLemmas.Closing.{value_goes}
+use Rattle.syslog_elements.{proofs.StructuredDataLemmas.Walk.full_goes, specs.StructuredData.param}
 use Rattle.syslog_pieces.proofs.TimestampLemmas.MonthDate.{month_begins}
-use Rattle.std.proofs.lemmas.Bool.Decides.{not_from_Decides}
+use Rattle.std.{proofs.lemmas.Bool.Decides.not_from_Decides, proofs.lemmas.List.reverse-append, specs.Bool.Decides}
 use Rattle.syslog_elements.specs.Bodies.Closing.{opening, quoted_row, quoted, closing}
-use Rattle.std.specs.Bool.{Decides}
 use Rattle.syslog_elements.specs.StructuredData.Escapes.{pair, single}
-use Rattle.syslog_elements.specs.StructuredData.{param}
 use Rattle.syslog_loose.proofs.PrintedLemmas.{visible_no_blank}
-use Rattle.std.proofs.lemmas.List.{reverse-append}
 use Rattle.std.proofs.lemmas.List.Sums.{suffix_len-le-length}
-use Rattle.syslog_loose.specs.Settling.{end_colons, colons_weight, host_weight, process_weight}
-use Rattle.syslog_loose.proofs.Rfc3164Lemmas.{from_list, from_blanks}
-use Rattle.syslog_loose.proofs.Rfc3164Lemmas.{to_colon, of_names}
+use Rattle.syslog_loose.specs.Settling.{end_colons, host_weight, process_weight}
+use Rattle.syslog_loose.proofs.Rfc3164Lemmas.{from_list, from_blanks, to_colon, of_names}
 
 -- ---- whether a list begins a text can be decided, piece by piece
 
@@ -65,18 +61,11 @@ find_char c (d ∷ t) = elim (eqb_tells d c) [
   | inr r ↦ inr (no_char c d t r.1)
 ]
 
-pub find_run : (test : ℕ → Bool) (t : Text) → (p : Text) × (q : Text) × (t ≡ p ++ q) × Each test p × Ends test q
-find_run test [] = ([], [], refl, tt, tt)
-find_run test (c ∷ t) = elim (decide (test c)) [
-  | inl h ↦ (let (p, q, e, a, b) = find_run test t in (c ∷ p, q, ap (λ (x : Text). c ∷ x) e, (h, a), b))
-  | inr h ↦ ([], c ∷ t, refl, tt, h)
-]
-
 find_blanks : (t : Text) → Finds (run is_blank) t
-find_blanks t = let (p, q, e, a, b) = find_run is_blank t in inl (q, tt, record { piece = p; whole = e; is = (a, b) })
+find_blanks t = let (q, f) = some_front_run is_blank t in inl (q, tt, f)
 
 find_text : (test : ℕ → Bool) (t : Text) → Finds (texted (some_run test)) t
-find_text test t = let (p, q, e, a, b) = find_run test t in by p q e a b
+find_text test t = let (q, f) = some_front_run test t in by f.piece q f.whole f.is.0 f.is.1
   where
     by : (p q : Text) → t ≡ p ++ q → Each test p → Ends test q → Finds (texted (some_run test)) t
     by [] q e a b = inr (no_texted (some_run test) (λ p r v f h.
@@ -159,9 +148,8 @@ find_full t = elim (find_row start_row start_det (find_char 91 also find_text is
 
 -- ---- lists
 dash_before_decided : (rule : DashRule) (q : Text) → Decided (IsDashBefore rule q)
-dash_before_decided BeforeAnything q = inl tt
-dash_before_decided BeforeBlank [] = inl tt
 dash_before_decided BeforeBlank (c ∷ q) = decided (is_blank c) ((λ h. h), (λ h. h))
+dash_before_decided rule q = inl tt
 
 dash_decided : (rule : DashRule) (t : Text) → Decided ((q : Text) → t ≡ 45 ∷ q → IsDashBefore rule q → ⊥)
 dash_decided rule [] = inl (λ q e a. cc)
@@ -249,10 +237,7 @@ dash_before (c ∷ cs) next l k = k.0
 
 -- ---- one weight
 cost_once : {A : Type 0} {n w v : ℕ} → Costs A n w → Costs A n v → w ≡ v
-cost_once (inl (a, e)) (inl (b, f)) = e ∙ sym f
-cost_once (inl (a, e)) (inr (b, f)) = absurd (b a)
-cost_once (inr (a, e)) (inl (b, f)) = absurd (a b)
-cost_once (inr (a, e)) (inr (b, f)) = e ∙ sym f
+cost_once a b = search rules
 
 pub free : {A : Type 0} {n w : ℕ} → Costs A n w → A → w ≡ 0
 free c a = cost_once c (inl (a, refl))
@@ -261,8 +246,7 @@ pub paid : {A : Type 0} {n w : ℕ} → Costs A n w → (A → ⊥) → w ≡ n
 paid c k = cost_once c (inr (k, refl))
 
 pub at_most : {A : Type 0} {n w : ℕ} → Costs A n w → w ≤ n
-at_most (inl (a, e)) = omega arith
-at_most (inr (k, e)) = omega arith
+at_most c = grind arith
 
 pub once : (rule : DashRule) (m : MessageValue) (w v : ℕ) → Weighs rule m w → Weighs rule m v → w ≡ v
 once rule m w v a b = omega (arith, a.total, b.total, cost_once a.stamp_is b.stamp_is, cost_once a.taken_is b.taken_is)
@@ -308,9 +292,8 @@ field_length (Some None) = 0
 field_length (Some (Some t)) = suc (length t)
 
 field_light : (v : Option (Option Text)) → option_map_or host_weight (unwrap_or v None) 0 ≤ field_length v
-field_light None = omega arith
-field_light (Some None) = omega arith
 field_light (Some (Some h)) = omega (arith, host_light h, suffix_len-le-length (λ c. nat_eq c 58) h)
+field_light v = omega arith
 
 pub fields_light : (v t : Option (Option Text)) (n : Names3164) → Resolves v t n
     → names_weight n.hostname n.procid ≤ field_length v + field_length t
@@ -404,8 +387,7 @@ stamp_light dating p q (Some s) w (inr (d, h, k)) c = omega (arith, at_most c, d
 -- ---- the names
 host_length : (p q : Text) (v : Option Text) → IsHost p q v → field_length (Some v) ≤ suc (length p)
 host_length p q None h = omega arith
-host_length p q (Some x) (l, a, inl (n, b, (w, d))) = omega (arith, ap length w)
-host_length p q (Some x) (l, a, inr (r, w, b, z)) = omega (arith, ap (λ (o : Option Text). field_length (Some o)) z)
+host_length p q (Some x) h = grind arith
 
 tag_length : (p q : Text) (v : Option Text) → tag_word.Is p q v → field_length (Some v) ≤ suc (length p)
 tag_length p q None h = omega arith

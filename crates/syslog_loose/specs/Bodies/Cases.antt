@@ -2,8 +2,7 @@
 use Rattle.std.specs.Prelude.{◌+◌, ◌*◌, ◌<◌, ◌≤◌, ◌^◌}
 use Rattle.syslog_loose.specs.Words.{⊤, ℕ, Option, option_and_then, option_map_or, facility_of, severity_of}
 use Rattle.syslog_loose.specs.Words.{facility_number, severity_number, MonthDate}
-use Rattle.syslog_loose.specs.Reading.{IncompleteDate}
-use Rattle.syslog_loose.specs.declared.message.Protocol.{Protocol}
+use Rattle.syslog_loose.specs.{Reading.IncompleteDate, declared.message.Protocol.Protocol}
 use Rattle.syslog_loose.specs.declared.message.Protocol.TheVariants.{RFC3164, RFC5424}
 
 -- a version has 32 bits

@@ -1,14 +1,11 @@
 -- Rounds whose texts are known before they are read: those in which a host loses a colon each time, and those in which
 -- a message part loses a dash. (All of it is this project's own.)
-use Rattle.std.specs.Prelude.{◌≡◌, ◌<◌, ◌∷◌, ◌++◌}
+use Rattle.std.specs.{List.repeat, Prelude.◌≡◌, Prelude.◌<◌, Prelude.◌∷◌, Prelude.◌++◌}
 use Rattle.syslog_loose.specs.Words.{ℕ, zero, suc, List, [], length, Some, None, IfSome, Text, Each, Ends, facility_of}
 use Rattle.syslog_loose.specs.Words.{severity_of, ElementValue, is_blank, EndsInColon, IsCanonicalStamp, colon}
-use Rattle.std.specs.List.{repeat}
 use Rattle.syslog_elements.specs.StructuredData.Element.{joined_elements}
-use Rattle.syslog_loose.specs.Message.{MessageValue}
-use Rattle.syslog_loose.specs.Printed.{priority_of}
+use Rattle.syslog_loose.specs.{Message.MessageValue, Printed.priority_of, declared.message.Protocol.TheVariants.RFC3164}
 use Rattle.syslog_loose.specs.Rfc3164.{Names3164, names}
-use Rattle.syslog_loose.specs.declared.message.Protocol.TheVariants.{RFC3164}
 
 -- ---- a host that ends in colons
 

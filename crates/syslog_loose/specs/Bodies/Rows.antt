@@ -2,8 +2,7 @@
 use Rattle.std.specs.Prelude.{◌∷◌, ◌++◌}
 use Rattle.syslog_loose.specs.Words.{List, [], Text, Class, Values, Front, Row, run, some_run, rest, optional}
 use Rattle.syslog_loose.specs.Words.{process_word, forgiving, rfc3164_list, is_blank, host, word, DashRule}
-use Rattle.syslog_loose.specs.Rfc3164.{Names3164, Resolves}
-use Rattle.syslog_loose.specs.Rows.{fields_row, front_row}
+use Rattle.syslog_loose.specs.{Rfc3164.Names3164, Rfc3164.Resolves, Rows.fields_row, Rows.front_row, Rows.tail_row}
 
 -- ---- of RFC 5424
 
@@ -18,7 +17,7 @@ header_row = front_row ++ names_row
 
 -- the elements and the message, with blanks or none before each
 abbrev pub data_row : List Class
-data_row = run is_blank ∷ forgiving ∷ run is_blank ∷ rest ∷ []
+data_row = tail_row forgiving
 
 -- ---- of RFC 3164
 

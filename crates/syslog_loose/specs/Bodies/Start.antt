@@ -1,8 +1,7 @@
 -- What a text begins with, up to its timestamp. (Words of the bodies alone.)
 use Rattle.syslog_loose.specs.Words.{ℕ, Option, Text, Class, Front, NoFront, run, optional, priority, is_blank}
-use Rattle.syslog_loose.specs.ReadBack.{ReadsProtocol}
+use Rattle.syslog_loose.specs.{ReadBack.ReadsProtocol, declared.variant.Variant.Variant}
 use Rattle.syslog_loose.specs.declared.message.Protocol.TheVariants.{RFC3164}
-use Rattle.syslog_loose.specs.declared.variant.Variant.{Variant}
 
 -- a priority or none, and what follows
 abbrev pub IsAfterPriority : Text → Option ℕ → Text → Type 0

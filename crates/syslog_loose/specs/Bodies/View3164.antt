@@ -1,14 +1,10 @@
 -- What the reader of the header holds, as names over texts and as the meanings of its pieces.
-use Rattle.std.specs.Option.{option_flatten}
-use Rattle.std.specs.Prelude.{◌≡◌, ◌↔◌, ◌∷◌, ◌++◌}
+use Rattle.std.specs.{Option.option_flatten, Prelude.◌≡◌, Prelude.◌↔◌, Prelude.◌∷◌, Prelude.◌++◌}
 use Rattle.syslog_loose.specs.Words.{IsSome, IsTrue, Option, option_map, named_process, Text, Ends, seen, shown}
 use Rattle.syslog_loose.specs.Words.{is_blank, Some, None}
-use Rattle.syslog_loose.specs.Quirks.{HasQuietNames}
-use Rattle.syslog_loose.specs.Printed.{name_text, tag_text}
+use Rattle.syslog_loose.specs.{Bodies.Rows.ReadsNames, Quirks.HasQuietNames, declared.rfc3164.NameFields.NameFields}
+use Rattle.syslog_loose.specs.{Printed.name_text, Printed.tag_text, declared.rfc3164.HeaderNames.HeaderNames}
 use Rattle.syslog_loose.specs.Rfc3164.{HasProcess, Names3164, names, NamesByForm}
-use Rattle.syslog_loose.specs.declared.rfc3164.NameFields.{NameFields}
-use Rattle.syslog_loose.specs.declared.rfc3164.HeaderNames.{HeaderNames}
-use Rattle.syslog_loose.specs.Bodies.Rows.{ReadsNames}
 
 abbrev pub names_value : HeaderNames → Names3164
 names_value n = names (seen n.hostname) (seen n.appname) (option_map named_process (seen n.process))

@@ -1,13 +1,12 @@
 -- What the reader of the header holds, as the meanings of its pieces, and how it appears in the text.
 use Rattle.std.specs.Prelude.{◌≡◌, ◌⊎◌, ◌↔◌, ◌∷◌, ◌++◌}
 use Rattle.syslog_loose.specs.Words.{ℕ, Bool, IsTrue, Option, Some, IfSome, MatchOption, Bor, List, option_map, Text}
-use Rattle.syslog_loose.specs.Words.{Class, Front, NoFront, Row, some_run, is_blank}
-use Rattle.syslog_loose.specs.Words.{Values, seen, shown, named_process, stamp_seen, process_text}
+use Rattle.syslog_loose.specs.Words.{Class, Front, NoFront, Row, some_run, is_blank, Values, seen, shown, named_process}
+use Rattle.syslog_loose.specs.{Words.stamp_seen, Words.process_text, declared.line.Line.Line}
 use Rattle.syslog_text.specs.Text.{name_text}
 use Rattle.syslog_pieces.specs.declared.timestamp.clock.ClockStamp.{ClockStamp}
 use Rattle.syslog_loose.specs.Bodies.Rows.{header_row, names_row}
 use Rattle.syslog_loose.specs.Rows.{front_row, front_values, word_values, words_row}
-use Rattle.syslog_loose.specs.declared.line.Line.{Line}
 
 -- blanks and such a name are at the front, before the rest; or one of the two is missing
 abbrev pub ReadsSpaced : (C : Class) → (Option (Bor (List ℕ)) → C.Value) → Text

@@ -174,6 +174,7 @@ fn is_bracketed<S: AsStr>(process: &ProcId<S>) -> bool
     }
 }
 
+#[tactic(auto, using(crate::proofs::Names::each_both))]
 fn is_bracketed_name(name: &str) -> bool
     ensures { IsTrue result ↔ spec.IsBracketedProcess (Name (chars name.now)) }
 {
@@ -226,6 +227,7 @@ fn have_params<S: AsStr>(elements: &[StructuredElement<S>]) -> bool
 }
 
 /// Whether the message part is not taken for a list of elements, if there is no element before it.
+#[tactic(auto, using(crate::proofs::CanonicalLemmas::no_list_told))]
 pub(crate) fn begins_no_list(no_elements: bool, msg: &str) -> bool
     ensures { (es : List ElementValue) → MatchBool no_elements (es ≡ []) (es ≢ [])
         → IsTrue result ↔ (es ≡ [] → BeginsNoList dash_rule (chars msg.now)) }

@@ -13,7 +13,7 @@ impl<S: AsStr> PartialEq for Message<S> {
 
     ghost laws = { on_per (message_value (text_of S.text)) (partial_equiv_from_equiv message_equivalence) };
 
-    #[tactic(auto, using(crate::proofs::EqualityLemmas::mapped))]
+    #[tactic(auto, using(crate::proofs::CanonicalLemmas::mapped))]
     fn eq(&self, other: &Message<S>) -> bool {
         is_same_facility(self.facility, other.facility)
             && is_same_severity(self.severity, other.severity)

@@ -45,6 +45,7 @@ pub(crate) fn write_name<S: AsStr, W: fmt::Write>(
 
 /// Writes a space and a timestamp, or `-` for an absent one.
 #[inline]
+#[tactic(auto, using(crate::proofs::PrintedLemmas::put_encoded))]
 pub(crate) fn write_timestamp<W: fmt::Write>(
     f: &mut fmt::Formatter<W>,
     timestamp: Option<OffsetTimestamp>,
@@ -110,6 +111,7 @@ fn write_joined<S: AsStr, W: fmt::Write>(
 }
 
 /// Writes the elements and a space after them, or nothing if there are none.
+#[tactic(auto, using(crate::proofs::PrintedLemmas::put_spaced))]
 pub(crate) fn write_elements_before<S: AsStr, W: fmt::Write>(
     f: &mut fmt::Formatter<W>,
     elements: &[StructuredElement<S>],
@@ -125,6 +127,7 @@ pub(crate) fn write_elements_before<S: AsStr, W: fmt::Write>(
 }
 
 /// Writes a space, the app name and the process id as RFC 3164 does, and what ends them.
+#[tactic(auto, using(crate::proofs::PrintedLemmas::put_encoded), unfolding(crate::proofs::Names::encode_utf8))]
 pub(crate) fn write_tag<S: AsStr, W: fmt::Write>(
     f: &mut fmt::Formatter<W>,
     app: &Option<S>,

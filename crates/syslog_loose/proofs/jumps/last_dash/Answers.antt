@@ -1,5 +1,4 @@
-use Rattle.syslog_loose.proofs.Names.{rules, suc, chars}
-use Rattle.syslog_loose.proofs.SettlingLemmas.Settles.{last_of_all}
+use Rattle.syslog_loose.proofs.{Names.rules, Names.suc, Names.chars, SettlingLemmas.Settles.last_of_all}
 use Rattle.syslog_loose.proofs.jumps.last_dash.Goals as goal
 
 pub dashes-preserved : goal.dashes-preserved

@@ -1,5 +1,4 @@
-use Rattle.syslog_loose.proofs.Names.{unique_division, rfc3164_row}
-use Rattle.syslog_loose.proofs.Rfc3164Lemmas.{rfc3164_det}
+use Rattle.syslog_loose.proofs.{Names.unique_division, Names.rfc3164_row, Rfc3164Lemmas.rfc3164_det}
 use Rattle.syslog_loose.proofs.laws.one_rfc3164_division.Goals as goal
 
 pub returns-clause-pieces : goal.returns-clause-pieces

@@ -1,5 +1,4 @@
-use Rattle.syslog_loose.proofs.Names.{unique_division, rfc5424_row}
-use Rattle.syslog_loose.proofs.Rfc5424Lemmas.{rfc5424_det}
+use Rattle.syslog_loose.proofs.{Names.unique_division, Names.rfc5424_row, Rfc5424Lemmas.rfc5424_det}
 use Rattle.syslog_loose.proofs.laws.one_rfc5424_division.Goals as goal
 
 pub returns-clause-pieces : goal.returns-clause-pieces

@@ -1,7 +1,5 @@
-use Rattle.std.proofs.Common.{arith, pos, sym, true≢false}
-use Rattle.std.proofs.lemmas.Int.{by_lt_z}
-use Rattle.jiff.specs.Words.{epoch_day}
-use Rattle.jiff.proofs.SpanFacts.{signed_arith}
+use Rattle.std.proofs.{Common.arith, Common.pos, Common.sym, Common.true≢false, lemmas.Int.by_lt_z}
+use Rattle.jiff.{proofs.SpanFacts.signed_arith, specs.Words.epoch_day}
 use Rattle.syslog_loose.proofs.YearLemmas.{last_day}
 use Rattle.syslog_loose.proofs.reckoning.day_after.Goals as goal
 

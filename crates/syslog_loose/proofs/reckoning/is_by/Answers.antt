@@ -1,7 +1,6 @@
 use Rattle.std.proofs.Common.{◌≡◌, ◌∙◌, arith, of_z, rules, sym, to_z, w16, w8}
 use Rattle.std.proofs.lemmas.Int.{ints}
-use Rattle.jiff.proofs.Family.{epoch_day_same}
-use Rattle.jiff.specs.Words.{epoch_day}
+use Rattle.jiff.{proofs.Family.epoch_day_same, specs.Words.epoch_day}
 use Rattle.syslog_loose.proofs.YearLemmas.{le_iff}
 use Rattle.syslog_loose.proofs.reckoning.is_by.Goals as goal
 

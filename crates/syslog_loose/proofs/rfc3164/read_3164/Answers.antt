@@ -2,18 +2,13 @@ use Rattle.syslog_loose.proofs.Names.{rules, ◌≡◌, ◌↔◌, ◌∙◌, �
 use Rattle.syslog_loose.proofs.Names.{Text, Ends, ElementValue, elements_or, rfc3164_list, is_blank, front_same}
 use Rattle.syslog_loose.proofs.Names.{run_det, rows_join, rest_front, begins_no_list, dash_rule, row_of}
 use Rattle.syslog_loose.proofs.Names.{spaced_elements, optional, run, stamped_row, fields_row, body_row, fields_before}
-use Rattle.syslog_loose.proofs.Names.{names_value, ◌∷◌, Class, rest, texted, front_division, BeginsNoList, chars_empty}
-use Rattle.syslog_loose.proofs.Names.{nil_from_length, Front, empty_is, length, IsTrue, ◌&&◌, encode_utf8_all}
-use Rattle.syslog_loose.proofs.Names.{encodes-chars, chars, Bool, Names3164, nat_eq, IsUtf8, piece_front}
-use Rattle.std.proofs.Common.{eq-eqb}
-use Rattle.std.proofs.lemmas.Bool.{and_parts}
+use Rattle.syslog_loose.proofs.Names.{names_value, rest, front_division, BeginsNoList, chars_empty, nil_from_length}
+use Rattle.syslog_loose.proofs.Names.{Front, empty_is, length, IsTrue, ◌&&◌, encode_utf8_all, encodes-chars, chars}
+use Rattle.syslog_loose.proofs.Names.{Bool, Names3164, nat_eq, IsUtf8, piece_front, list_row}
+use Rattle.std.proofs.{Common.eq-eqb, lemmas.Bool.and_parts}
 use Rattle.syslog_loose.proofs.LineLemmas.{texted_as}
 use Rattle.syslog_loose.proofs.Rfc3164Lemmas.{is_read, from_list, list_none}
 use Rattle.syslog_loose.proofs.rfc3164.read_3164.Goals as goal
-
--- the list, as its text, and the message part
-abbrev list_row : List Class
-list_row = texted (optional (rfc3164_list dash_rule)) ∷ run is_blank ∷ rest ∷ []
 
 empty_told : (b : Bool) (bytes : List ℕ) → IsUtf8 bytes → b ≡ nat_eq (length bytes) 0 → IsTrue b ↔ (chars bytes ≡ [])
 empty_told b bytes u e = (
@@ -59,8 +54,8 @@ returns-clause-reads g c dating whole f =
       colon = fields.values.1.1.1.0;
       names = fields.front;
       process = known.process;
-      parts = front_division list_row (row_of list_row (texted_as (optional (rfc3164_list dash_rule)) list text
-          then c.blanks.ensures then rest_front _ then refl));
+      parts = front_division (list_row dash_rule) (row_of (list_row dash_rule) (texted_as (optional
+          (rfc3164_list dash_rule)) list text then c.blanks.ensures then rest_front _ then refl));
       is_printed = fits list text same known.ends c.blanks.ensures names known.prints (rw c.text.ensures at empty);
     }
 

@@ -2,9 +2,8 @@ use Rattle.syslog_loose.proofs.Names.{◌≡◌, ◌↔◌, ◌∷◌, ◌∙◌
 use Rattle.syslog_loose.proofs.Names.{chars, run, optional, exactly, seen, shown, is_blank, colon, one_ascii, text_is}
 use Rattle.syslog_loose.proofs.Names.{HasQuietNames, fields_row, fields_before, names_value, Option, Some, None, Text}
 use Rattle.syslog_loose.proofs.Names.{IfSome, IsBareWord, field_seen, rules}
-use Rattle.std.specs.Borrow.{Bor}
+use Rattle.std.{proofs.lemmas.Str.Ascii.IsAscii-cons, specs.Borrow.Bor}
 use Rattle.std.specs.Option.{is_some, option_flatten}
-use Rattle.std.proofs.lemmas.Str.Ascii.{IsAscii-cons}
 use Rattle.syslog_text.proofs.TextLemmas.Runs.{text_same}
 use Rattle.syslog_loose.proofs.Rfc3164Lemmas.Near.{fields_told}
 use Rattle.syslog_loose.proofs.rfc3164.read_fields.Goals as goal
@@ -23,8 +22,7 @@ there None e = cc
 flat : (field : Option (Option Text)) → is_some (option_flatten field) ≡ true
     → (text : Text) × (field ≡ Some (Some text))
 flat (Some (Some text)) e = (text, refl)
-flat (Some None) e = cc
-flat None e = cc
+flat field e = cc
 
 seen_some : (name : Option (Bor (List ℕ))) → is_some (seen name) ≡ is_some name
 seen_some None = refl

@@ -1,15 +1,10 @@
-use Rattle.syslog_loose.proofs.Names.{[], List, Class, run, rest, texted, is_blank, ◌∷◌, ◌past◌, ◌then◌, inl, refl}
-use Rattle.syslog_loose.proofs.Names.{no_row, row_of, trimmed, rest_front, rows_join, rows_none_here, header_row}
-use Rattle.syslog_loose.proofs.Names.{data_row, rfc5424_row, no_row_division, front_division}
+use Rattle.syslog_loose.proofs.Names.{texted, ◌past◌, ◌then◌, inl, refl, no_row, row_of, trimmed, rest_front, rows_join}
+use Rattle.syslog_loose.proofs.Names.{rows_none_here, header_row, data_row, rfc5424_row, no_row_division}
+use Rattle.syslog_loose.proofs.{LineLemmas.texted_as, Names.front_division, Names.tail_row}
 use Rattle.syslog_text.proofs.PieceLemmas.Class.{rows_none_later}
 use Rattle.syslog_elements.specs.StructuredData.{forgiving}
-use Rattle.syslog_loose.proofs.LineLemmas.{texted_as}
 use Rattle.syslog_loose.proofs.Rfc5424Lemmas.{data_det, header_det, rest_fits}
 use Rattle.syslog_loose.proofs.rfc5424.read_5424.Goals as goal
-
--- the list, as its text, and the message part
-abbrev text_row : List Class
-text_row = run is_blank ∷ texted forgiving ∷ run is_blank ∷ rest ∷ []
 
 pub returns-in_default-clause-reads : goal.returns-in_default-clause-reads
 returns-in_default-clause-reads g c whole f =
@@ -27,8 +22,8 @@ returns-clause-reads g c whole f =
     let list = c.in-Some-visit_forgiving_list.ensures in
     let body = row_of data_row (c.blanks-at_list.ensures then list.list then c.blanks-msg.ensures then rest_front _
     then refl) in
-    let own = row_of text_row (c.blanks-at_list.ensures then texted_as forgiving list.list list.text
-    then c.blanks-msg.ensures then rest_front _ then refl) in
+    let own = row_of (tail_row (texted forgiving)) (c.blanks-at_list.ensures then texted_as forgiving list.list
+    list.text then c.blanks-msg.ensures then rest_front _ then refl) in
     record {
       read = record {
         values = _;
@@ -40,7 +35,7 @@ returns-clause-reads g c whole f =
       front = front;
       after = _;
       names = names;
-      parts = front_division text_row own;
+      parts = front_division (tail_row (texted forgiving)) own;
       is_printed = rw is (rest_fits c.in-Some.ensures.prints c.blanks-at_list.ensures list.list list.text
           c.are_all-is_printed.ensures c.is_one_space.ensures c.is_printed.ensures c.is_one_space-2.ensures);
     }

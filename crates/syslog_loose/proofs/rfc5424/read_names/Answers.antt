@@ -1,16 +1,15 @@
 use Rattle.syslog_loose.proofs.Names.{◌≡◌, ◌⊎◌, ◌∙◌, ◌∷◌, ◌++◌, ◌then◌, ◌past◌, Option, Some, None, IfSome, sym, ap}
 use Rattle.syslog_loose.proofs.Names.{arith, inl, inr, refl, option_map, IsBareWord, Text, Class, Front, named_process}
-use Rattle.syslog_loose.proofs.Names.{process_text, process_word, named_names, host, word, name_text, row_of, no_row}
+use Rattle.syslog_loose.proofs.Names.{process_text, process_word, words_row, host, word, name_text, row_of, no_row}
 use Rattle.syslog_loose.proofs.Names.{names_row, seen, shown, some_run, is_blank, is_not_whitespace, []}
 use Rattle.syslog_loose.proofs.Names.{append_cancel_right, front_same, some_run_det, Ends, NoFront}
 use Rattle.std.proofs.lemmas.List.{append_cancel_left}
 use Rattle.syslog_text.proofs.PieceLemmas.Class.{front_of}
-use Rattle.syslog_pieces.proofs.ProcIdLemmas.{absent_front, process_front, no_process}
-use Rattle.syslog_pieces.proofs.ProcIdLemmas.{process_back, process_bounded, process_canonical, process_word_det}
+use Rattle.syslog_pieces.proofs.ProcIdLemmas.{no_process, process_back, process_bounded, process_canonical}
+use Rattle.syslog_pieces.proofs.ProcIdLemmas.{process_word_det}
 use Rattle.syslog_text.proofs.TextLemmas.Runs.{host_stands, host_text, names_text, word_stands}
 use Rattle.syslog_loose.proofs.PrintedLemmas.{visible_ends_blanks}
-use Rattle.syslog_loose.proofs.Rfc5424Lemmas.{names_det, process_unblank}
-use Rattle.syslog_loose.specs.Rows.{words_row}
+use Rattle.syslog_loose.proofs.Rfc5424Lemmas.{named_front, names_det, names_front, process_unblank}
 use Rattle.syslog_loose.proofs.rfc5424.read_names.Goals as goal
 
 -- ---- a piece after blanks
@@ -28,10 +27,6 @@ fails P (inl n) = inl n
 fails P (inr (u, g, n)) = inr (u, tt, g, inl n)
 
 -- ---- the process id that a word names
-named_front : {u q : Text} {v : Option Text} → Front word u q v → Front process_word u q (option_map named_process v)
-named_front {v = None} f = absent_front f
-named_front {v = Some t} f = process_front (named_process t) f (named_names t)
-
 process_named : {t q : Text} {v : Option Text} → IsSpaced word t q v
     → IsSpaced process_word t q (option_map named_process v)
 process_named (u, g, f) = (u, g, named_front f)
@@ -130,16 +125,9 @@ returns-clause-reads g c =
     let host = c.in_ok-hostname.ensures.reads in
     let app = c.in_ok-appname.ensures.reads in
     let word = c.in_ok-process.ensures.reads in
-    let process = process_named word in
-    let id = c.in_ok-msgid.ensures.reads in (
-      refl,
-      refl,
-      refl,
-      refl,
-      row_of names_row (host.1 then host.2 then app.1 then app.2 then process.1 then process.2 then id.1 then id.2
-          then refl),
-      row_of words_row (host.1 then host.2 then app.1 then app.2 then word.1 then word.2 then id.1 then id.2 then refl),
-    )
+    let id = c.in_ok-msgid.ensures.reads in
+    let words = row_of words_row (host.1 then host.2 then app.1 then app.2 then word.1 then word.2 then id.1 then id.2
+    then refl) in (refl, refl, refl, refl, names_front words, words)
 
 pub returns-clause-prints : goal.returns-clause-prints
 returns-clause-prints g c =

@@ -1,5 +1,4 @@
-use Rattle.syslog_loose.proofs.Names.{⊤, chars, dating_of}
-use Rattle.syslog_loose.proofs.ReadingLemmas.{in_year_map}
+use Rattle.syslog_loose.proofs.{Names.⊤, Names.chars, Names.dating_of, ReadingLemmas.in_year_map}
 use Rattle.syslog_loose.proofs.SettlingLemmas.Settles.{made_answer, reached_none}
 use Rattle.syslog_loose.proofs.rounds.next_round.Goals as goal
 

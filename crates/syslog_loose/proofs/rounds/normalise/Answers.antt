@@ -1,6 +1,5 @@
 use Rattle.syslog_loose.proofs.Names.{refl, err_from_is_err_and, line_value}
-use Rattle.syslog_loose.proofs.ReadBackLemmas.{again_in}
-use Rattle.syslog_loose.proofs.ReadingLemmas.{in_year_map, invalid_or_memory}
+use Rattle.syslog_loose.proofs.{ReadBackLemmas.again_in, ReadingLemmas.in_year_map, ReadingLemmas.invalid_or_memory}
 use Rattle.syslog_loose.proofs.rounds.normalise.Goals as goal
 
 pub returns-in_default-clause-again : goal.returns-in_default-clause-again

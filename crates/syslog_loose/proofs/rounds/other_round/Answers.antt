@@ -7,6 +7,3 @@ returns-then-has_no_quirk c = λ variant dating whole r.
     let m = line_value c.args.line.now in
     told_settled variant dating whole m r _ (IsUtf8-string_bytes c.print_line.new.text) c.in_ok-print_line.ensures
     (rests_so m.protocol m (c.if-has_no_quirk.ensures.0 refl))
-
-pub returns : goal.returns
-returns c = search (rules, told_later)

@@ -1,5 +1,4 @@
-use Rattle.syslog_loose.proofs.Names.{month_date}
-use Rattle.syslog_loose.proofs.ReadingLemmas.{front_read}
+use Rattle.syslog_loose.proofs.{Names.month_date, ReadingLemmas.front_read}
 use Rattle.syslog_loose.proofs.visit.front_date.Goals as goal
 
 pub returns-then-reads_rfc3164 : goal.returns-then-reads_rfc3164

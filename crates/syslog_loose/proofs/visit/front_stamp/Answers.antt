@@ -1,5 +1,4 @@
-use Rattle.syslog_loose.proofs.Names.{header_stamp, stamp_seen}
-use Rattle.syslog_loose.proofs.ReadingLemmas.{front_read}
+use Rattle.syslog_loose.proofs.{Names.header_stamp, Names.stamp_seen, ReadingLemmas.front_read}
 use Rattle.syslog_loose.proofs.visit.front_stamp.Goals as goal
 
 pub returns-then-reads_rfc3164 : goal.returns-then-reads_rfc3164

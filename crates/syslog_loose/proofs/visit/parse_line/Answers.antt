@@ -1,6 +1,5 @@
-use Rattle.syslog_loose.proofs.Names.{refl}
+use Rattle.syslog_loose.proofs.{Names.refl, ReadingLemmas.in_year_map}
 use Rattle.syslog_text.proofs.PieceLemmas.Class.{match_map}
-use Rattle.syslog_loose.proofs.ReadingLemmas.{in_year_map}
 use Rattle.syslog_loose.proofs.visit.parse_line.Goals as goal
 
 pub returns-clause-reads : goal.returns-clause-reads

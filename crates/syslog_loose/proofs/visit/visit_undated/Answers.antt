@@ -1,15 +1,11 @@
-use Rattle.syslog_loose.proofs.Names.{rules, sym}
-use Rattle.syslog_loose.proofs.ReadingLemmas.{left_to_try, other_front, undated_invalid, line_3164, line_5424}
-use Rattle.syslog_loose.proofs.ReadingLemmas.{visits_after}
+use Rattle.syslog_loose.proofs.Names.{sym}
+use Rattle.syslog_loose.proofs.ReadingLemmas.{left_to_try, other_front, line_3164, line_5424, visits_after}
 use Rattle.syslog_loose.proofs.visit.visit_undated.Goals as goal
 
 pub returns-in-Some : goal.returns-in-Some
 returns-in-Some g c whole f without dating =
     let (line, read, makes, given) = c.in-Some.ensures whole f in
     (line, line_5424 c.args.variant dating line read, makes, given)
-
-pub returns-in_default-front_stamp : goal.returns-in_default-front_stamp
-returns-in_default-front_stamp g c whole f without dating = search (rules, undated_invalid)
 
 pub returns : goal.returns
 returns g c whole f without dating =

@@ -1,7 +1,6 @@
 use Rattle.syslog_loose.proofs.Names.{◌∙◌, ap, sym, text_of, MessageValue, message_value}
 use Rattle.std.specs.Cmp.{partial_equiv_from_equiv}
-use Rattle.syslog_loose.specs.Equal.{message_eq}
-use Rattle.syslog_loose.specs.EqualLaws.{message_equivalence}
+use Rattle.syslog_loose.specs.{Equal.message_eq, EqualLaws.message_equivalence}
 use Rattle.syslog_loose.proofs.laws.comparison.messages_are_equal_but_for_the_protocol.Goals as goal
 
 pub returns-clause-reflexive : goal.returns-clause-reflexive

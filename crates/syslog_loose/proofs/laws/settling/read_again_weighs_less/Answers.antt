@@ -1,5 +1,4 @@
-use Rattle.syslog_loose.proofs.Names.{inl, inr}
-use Rattle.syslog_loose.proofs.SettlingLemmas.Falls.{falls}
+use Rattle.syslog_loose.proofs.{Names.inl, Names.inr, SettlingLemmas.Falls.falls}
 use Rattle.syslog_loose.proofs.laws.settling.read_again_weighs_less.Goals as goal
 
 pub returns : goal.returns

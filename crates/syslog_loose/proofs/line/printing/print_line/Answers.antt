@@ -1,7 +1,6 @@
 use Rattle.syslog_loose.proofs.Names.{rules, ◌≡◌, ◌++◌, ◌∙◌, [], ℕ, List, Result, Ok, Err, string_bytes, sym, ap}
 use Rattle.syslog_loose.proofs.Names.{encodes-chars, encode_utf8_all, line_value, printed, OnOk, ap₂}
-use Rattle.std.specs.Bool.{if◌then◌else◌}
-use Rattle.std.specs.Result.{is_ok}
+use Rattle.std.specs.{Bool.if◌then◌else◌, Result.is_ok}
 use Rattle.syslog_loose.proofs.PrintedLemmas.{printed_line}
 use Rattle.syslog_loose.proofs.line.printing.print_line.Goals as goal
 

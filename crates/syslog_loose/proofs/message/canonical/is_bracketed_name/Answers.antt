@@ -1,5 +1,4 @@
-use Rattle.syslog_loose.proofs.Names.{rules, false_is, no_truth, each_both, each_left, each_right, is_tag_char}
-use Rattle.syslog_loose.proofs.Names.{is_open_char}
+use Rattle.syslog_loose.proofs.Names.{false_is, no_truth, each_left, each_right, is_tag_char, is_open_char}
 use Rattle.syslog_loose.proofs.message.canonical.is_bracketed_name.Goals as goal
 
 pub returns-then-not-is_some_of : goal.returns-then-not-is_some_of
@@ -9,6 +8,3 @@ returns-then-not-is_some_of c =
 pub returns-then-not-is_only : goal.returns-then-not-is_only
 returns-then-not-is_only c =
     false_is (λ h. no_truth (c.if-not-is_only.ensures.1 (each_right is_tag_char is_open_char _ h.1)))
-
-pub returns : goal.returns
-returns c = search (rules, each_both)

@@ -1,5 +1,4 @@
-use Rattle.syslog_loose.proofs.Names.{rules}
-use Rattle.syslog_loose.proofs.CanonicalLemmas.{visible_told}
+use Rattle.syslog_loose.proofs.{CanonicalLemmas.visible_told, Names.rules}
 use Rattle.syslog_loose.proofs.message.canonical.is_canonical_msg.Goals as goal
 
 pub returns-then-begins_unblank : goal.returns-then-begins_unblank

@@ -1,5 +1,4 @@
-use Rattle.syslog_loose.proofs.Names.{IsUtf8-string_bytes, line_value}
-use Rattle.syslog_loose.proofs.SettlingLemmas.Settles.{told_settled}
+use Rattle.syslog_loose.proofs.{Names.IsUtf8-string_bytes, Names.line_value, SettlingLemmas.Settles.told_settled}
 use Rattle.syslog_loose.proofs.rounds.StringLineVisitor.line.Goals as goal
 
 pub returns-then-is_known_settled : goal.returns-then-is_known_settled
