@@ -15,12 +15,11 @@ pub mod Visited
 use Rattle.std.specs.Prelude.{◌≡◌, ◌≢◌, ◌<◌, ◌⊎◌, List, [], ◌∷◌, ◌++◌, filter_map, length, Option, Some, None}
 use Rattle.std.specs.List.{flat_map, AllByRecursion}
 use Rattle.syslog_text.specs.Text.CharClass.{is_name_char, is_id_char, is_open_char}
-use Rattle.syslog_text.specs.Pieces.Class.{Text, Class, Values, Front, NoFront, Row}
-use Rattle.syslog_text.specs.Pieces.Class.{run, some_run, exactly, mapped, texted}
+use Rattle.syslog_text.specs.Pieces.Class.{Text, Class, Values, Front, NoFront, Row, run, some_run, exactly, mapped}
+use Rattle.syslog_text.specs.{Pieces.Class.texted, Text.is_blank, Text.dash}
 use Rattle.syslog_elements.specs.StructuredData.Element.{ElementValue}
 use Rattle.syslog_elements.specs.StructuredData.Escapes.{TextUnit, pair, single, unit_text}
 use Rattle.syslog_text.specs.Pieces.Lists.{many, list_before}
-use Rattle.syslog_text.specs.Text.{is_blank, dash}
 
 -- a unit of a value: a single character is neither a backslash nor a quote
 abbrev pub IsValueUnit : TextUnit → Type 0

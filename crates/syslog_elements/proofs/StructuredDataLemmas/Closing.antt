@@ -18,9 +18,8 @@ use Rattle.std.specs.Char.{encode_utf8}
 use Rattle.syslog_text.proofs.PieceLemmas.Class.{row_cons, row_none_later, meets_none_on, rows_go, each_right, front_of}
 use Rattle.syslog_elements.proofs.StructuredDataLemmas.Elements.{space_is_no_close, no_unit_at_end, no_quote_unit}
 use Rattle.syslog_elements.proofs.StructuredDataLemmas.Elements.{opening_det, quoted_text, value_here, quoted_det}
-use Rattle.syslog_elements.proofs.StructuredDataLemmas.Elements.{unit_goes, start_det}
+use Rattle.syslog_elements.proofs.StructuredDataLemmas.{Elements.unit_goes, Elements.start_det, Units.unit_same}
 use Rattle.syslog_text.proofs.TextLemmas.Runs.{one_ascii, rest_shorter, front_chars, front_cut}
-use Rattle.syslog_elements.proofs.StructuredDataLemmas.Units.{unit_same}
 
 -- ---- bytes, and where a bracket is in two joined texts
 pub byte_count_slice : (bs : Text) → IsUtf8 bs → byte_count (chars bs) ≡ length bs

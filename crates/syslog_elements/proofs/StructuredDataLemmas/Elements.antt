@@ -1,7 +1,6 @@
 -- Values, parameters, elements and items: a text has one of each at its front.
 -- Canonical elements are read back from their print, and what is read is canonical.
 use Rattle.syslog_elements.proofs.Names.{AllByRecursion-prop, IsCanonicalElement, AllDeterministic, IsCanonicalParam}
-use Rattle.syslog_elements.proofs.Names.{◌≡◌, drop-append_seam, bare_param_text, exactly_det, IsDeterministic}
 use Rattle.syslog_elements.proofs.Names.{joined_elements, AllByRecursion, BeginsUnblank, elements_text, is_prop→PathP}
 use Rattle.syslog_elements.proofs.Names.{length-append, Class, append_assoc, is_name_char, is_open_char, ElementValue}
 use Rattle.syslog_elements.proofs.Names.{some_run_det, is_id_char, element_text, one_value-is, list_before, IsValueUnit}
@@ -14,10 +13,10 @@ use Rattle.syslog_elements.proofs.Names.{IsMany, IsList, IsMore, quoted, ◌<◌
 use Rattle.syslog_elements.proofs.Names.{append_more, ◌also◌, begins, Values, param, heads, Meets, props, false, arith}
 use Rattle.syslog_elements.proofs.Names.{subst, Front, Each, pair, many, item, dash, Ends, Bool, drop, Some, None, refl}
 use Rattle.syslog_elements.proofs.Names.{Text, join, ◌++◌, List, ap, inl, inr, ◌∷◌, sym, ◌∙◌, map, Row, run, [], ℕ}
+use Rattle.syslog_elements.proofs.Names.{◌≡◌, drop-append_seam, bare_param_text, exactly_det, IsDeterministic}
 use Rattle.std.proofs.lemmas.List.Elements.{filter_map-append}
-use Rattle.syslog_text.proofs.PieceLemmas.Lists.{list_before_det}
+use Rattle.syslog_text.proofs.PieceLemmas.{Class.all_joined, Class.front_of, Lists.list_before_det}
 use Rattle.syslog_elements.proofs.StructuredDataLemmas.Units.{unit_same, units_same}
-use Rattle.syslog_text.proofs.PieceLemmas.Class.{all_joined, front_of}
 
 -- ---- values
 

@@ -1,30 +1,26 @@
 -- Check Point's pairs: a text has one front of each class, and what is left after the first of them.
-use Rattle.std.proofs.lemmas.List.{append_cancel_left}
-use Rattle.std.proofs.Math.Logic.{∥∥₁_elim}
+use Rattle.std.{proofs.Math.Logic.∥∥₁_elim, proofs.lemmas.List.append_cancel_left, specs.Str.IsAscii}
 use Rattle.syslog_elements.proofs.Names.{◌≡◌, ◌<◌, inl, inr, ℕ, List, [], ◌∷◌, ◌++◌, Option, Some, None, refl, sym, ap}
 use Rattle.syslog_elements.proofs.Names.{subst, ◌∙◌, arith, length, length-append, nat_tests, true, chars, chars-nil}
 use Rattle.syslog_elements.proofs.Names.{Text, Values, Front, NoFront, IsDeterministic, exactly, optional, many, Row}
 use Rattle.syslog_elements.proofs.Names.{run, some_run, texted, Each, Ends, Σ_prop, ⊥_prop, OneMeaning, one_value}
 use Rattle.syslog_elements.proofs.Names.{one_value-is, AllDeterministic, ◌also◌, ◌then◌, exactly_det, some_run_det}
-use Rattle.syslog_elements.proofs.Names.{texted_det, mapped_det, row_det, row_of, row_pieces, row_head, many_det}
 use Rattle.syslog_elements.proofs.Names.{many_here, run_det, begins, heads, optional_none, optional_some, quoted}
 use Rattle.syslog_elements.proofs.Names.{ElementValue, strict, item, AllByRecursion, AllByRecursion-prop, BeginsUnblank}
 use Rattle.syslog_elements.proofs.Names.{IsCanonicalElement, IsCanonicalParam, IsMany, IsValue, each_map, is_id_char}
 use Rattle.syslog_elements.proofs.Names.{is_name_char, list_elements, quoted_row, Bool, IsDashBefore, front_same}
+use Rattle.syslog_elements.proofs.Names.{texted_det, mapped_det, row_det, row_of, row_pieces, row_head, many_det}
 use Rattle.syslog_elements.specs.StructuredData.Recognised.{OneInside-prop, OnePairs-prop, params_set}
-use Rattle.syslog_elements.specs.StructuredData.Unparsed.{IsUnparsed}
+use Rattle.syslog_elements.specs.{StructuredData.Unparsed.IsUnparsed, declared.structured_data.pairs.Notation.Notation}
 use Rattle.syslog_text.specs.Text.{is_blank, is_tag_char}
-use Rattle.syslog_text.specs.Text.CharClass.{is_sd_name_char}
+use Rattle.syslog_text.{proofs.TextLemmas.Runs.low_ascii, specs.Text.CharClass.is_sd_name_char}
 use Rattle.syslog_text.proofs.PieceLemmas.Class.{front_longer, front_of, row_cons, present_front}
 use Rattle.syslog_text.proofs.PieceLemmas.Rules.{many_left, no_run, none_left, such_det}
 use Rattle.syslog_elements.specs.StructuredData.Pairs.{EndsPair, IsNextParam, IsSdName, NoNextParam, inside_of, left_in}
-use Rattle.syslog_elements.specs.StructuredData.Pairs.{pair, pair_end, pair_name, pair_of, pair_row, pairs, pairs_in}
 use Rattle.syslog_elements.specs.StructuredData.Pairs.{open_row, paired, paired_element, pairs_row, with_pairs, pair_id}
-use Rattle.syslog_elements.specs.declared.structured_data.pairs.Notation.{Notation}
+use Rattle.syslog_elements.specs.StructuredData.Pairs.{pair, pair_end, pair_name, pair_of, pair_row, pairs, pairs_in}
 use Rattle.syslog_elements.specs.declared.structured_data.pairs.Notation.TheVariants.{Colons, Equals}
 use Rattle.std.specs.Prelude.{◌+◌, nat_lt}
-use Rattle.std.specs.Str.{IsAscii}
-use Rattle.syslog_text.proofs.TextLemmas.Runs.{low_ascii}
 use Rattle.syslog_elements.specs.declared.structured_data.rfc3164_list.DashRule.TheVariants.{BeforeBlank}
 use Rattle.syslog_elements.specs.declared.structured_data.recognised.ElementList.{ElementList}
 use Rattle.syslog_elements.proofs.StructuredDataLemmas.Elements.{element_prop, element_with, items_are, items_canonical}

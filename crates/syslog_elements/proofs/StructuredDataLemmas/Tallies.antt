@@ -1,6 +1,6 @@
 -- The own text of a list; and a list as far as it was walked: its elements and counts, and the first broken one.
 use Rattle.std.specs.Prelude.{MatchOption, is_some, not}
-use Rattle.std.specs.Option.{option_or}
+use Rattle.std.{proofs.lemmas.List.append_cancel_left, specs.Option.option_or}
 use Rattle.syslog_elements.proofs.StructuredDataLemmas.Walk.{chars_length, flat_map_more}
 use Rattle.syslog_elements.proofs.Names.{Bor, append_cancel_right, length, joined_elements, length-append}
 use Rattle.syslog_elements.proofs.Names.{elements_text, has_read_more, Class, append_assoc, ElementValue, element_text}
@@ -13,9 +13,7 @@ use Rattle.syslog_elements.specs.StructuredData.Visited.{IsTallied, AreItems, st
 use Rattle.syslog_elements.specs.declared.structured_data.line_list.Tally.{Tally}
 use Rattle.syslog_elements.proofs.StructuredDataLemmas.Elements.{element_shorter, element_det, item_begins}
 use Rattle.syslog_elements.proofs.StructuredDataLemmas.Elements.{element_back, element_canonical}
-use Rattle.std.proofs.lemmas.List.{append_cancel_left}
-use Rattle.syslog_text.proofs.PieceLemmas.Lists.{many_parts}
-use Rattle.syslog_text.proofs.TextLemmas.Runs.{bytes}
+use Rattle.syslog_text.proofs.{PieceLemmas.Lists.many_parts, TextLemmas.Runs.bytes}
 use Rattle.syslog_text.proofs.PieceLemmas.Class.{front_longer, front_of}
 
 -- ---- the own text of a list
@@ -52,7 +50,8 @@ some_joined (e ∷ es) l = refl
 
 -- where it says so, the printed form is all before what is left unparsed
 pub own_prints : {t rest : Text} (own unparsed : Text) (vs : List (Option ElementValue)) {tally : Tally}
-    → t ≡ own ++ rest → IsTallied t rest (strict vs) tally → strict_end tally.broken rest ≡ unparsed ++ rest → IsTrue tally.prints
+    → t ≡ own ++ rest → IsTallied t rest (strict vs) tally → strict_end tally.broken rest ≡ unparsed ++ rest
+    → IsTrue tally.prints
     → 0 < tally.elements → own ≡ elements_text (strict vs) ++ unparsed
 own_prints {rest = rest} own unparsed vs cut tallied e marked some =
     let es = strict vs in

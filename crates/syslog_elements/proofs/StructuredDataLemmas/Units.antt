@@ -1,33 +1,29 @@
 -- Texts split into units in one way, escapes, and the texts and the equality of elements.
-use Rattle.syslog_elements.proofs.Names.{◌≡◌, Bool, true, cond, List, ◌++◌, refl, arith, IfOk, chars, is_ok, Class}
-use Rattle.syslog_elements.proofs.Names.{param, ◌≢◌, inl, inr, ◌∷◌, sym, Text, Each, Ends, pair, item, Some, None, take}
-use Rattle.syslog_elements.proofs.Names.{drop, ℕ, eqb_tells, nat_tests, unit_text, SplitsRun, param_row, map-append}
-use Rattle.syslog_elements.proofs.Names.{one_answer, false, Result, IsUtf8, single, String, Option, Values, exactly}
-use Rattle.syslog_elements.proofs.Names.{element, all_map, [], element_row, elements_or, length-drop, param_value}
-use Rattle.syslog_elements.proofs.Names.{param_count, same_params, ap, chars-nil, ◌∙◌, Err, Ok, ◌↔◌, Bor, Row, run, ◌+◌}
-use Rattle.syslog_elements.proofs.Names.{◌<◌, map, ◌-◌, subst, mapped, IsMany, IsMore, IsList, strict, ◌also◌, length}
-use Rattle.syslog_elements.proofs.Names.{get_or, nat_eq, append_assoc, append-nil, chars-append, is_name_char}
-use Rattle.syslog_elements.proofs.Names.{ElementValue, full_element, flat_map, TextUnit, some_run, optional, forgiving}
-use Rattle.syslog_elements.proofs.Names.{param_of, is_blank, take_more, AllByRecursion, take-append-drop, sum_by-append}
-use Rattle.syslog_elements.proofs.Names.{element_texts, escaped, all_append, cases_Bool, is_id_char, element_of}
-use Rattle.syslog_elements.proofs.Names.{length-map, sum_by-cons, IsUnescaped, IsValueUnit, rfc3164_list, counts_agree}
-use Rattle.syslog_elements.proofs.Names.{list_all-map, is_bare_char, IsValue, DashRule, count_by, take_all, list_all}
-use Rattle.syslog_elements.proofs.Names.{param_eq, encode_utf8_all, encodes-append, param_text, IsUtf8-string_bytes}
-use Rattle.std.specs.Char.{encode_utf8}
-use Rattle.std.specs.Global.{Global}
-use Rattle.std.specs.Iterator.{Drains}
+use Rattle.syslog_elements.proofs.Names.{nil_from_length, arith, take-append-drop, encode_utf8_all, IsUtf8-string_bytes}
+use Rattle.syslog_elements.proofs.Names.{[], ElementValue, AllByRecursion, sum_by-append, element_texts, encodes-append}
+use Rattle.syslog_elements.proofs.Names.{full_element, flat_map, rfc3164_list, counts_agree, list_all-map, is_bare_char}
+use Rattle.syslog_elements.proofs.Names.{map-append, element_row, elements_or, append_assoc, chars-append, is_name_char}
+use Rattle.syslog_elements.proofs.Names.{length-drop, param_value, param_count, same_params, sum_by-cons, IsUnescaped}
+use Rattle.syslog_elements.proofs.Names.{chars, one_answer, all_append, cases_Bool, is_id_char, element_of, IsValueUnit}
+use Rattle.syslog_elements.proofs.Names.{eqb_tells, nat_tests, unit_text, SplitsRun, length-map, param_text, append-nil}
+use Rattle.syslog_elements.proofs.Names.{Bool, param_row, chars-nil, TextUnit, some_run, optional, forgiving, take_more}
+use Rattle.syslog_elements.proofs.Names.{exactly, param_of, is_blank, DashRule, count_by, take_all, list_all, param_eq}
+use Rattle.syslog_elements.proofs.Names.{Result, IsUtf8, single, String, Option, element, all_map, ap, escaped, IsValue}
+use Rattle.syslog_elements.proofs.Names.{Values, mapped, IsMany, IsMore, IsList, strict, ◌also◌, length, get_or, nat_eq}
+use Rattle.syslog_elements.proofs.Names.{true, cond, List, ◌++◌, refl, IfOk, is_ok, Class, param, Text, ℕ, false, subst}
+use Rattle.syslog_elements.proofs.Names.{◌≡◌, ◌≢◌, inl, inr, ◌∷◌, sym, Each, Ends, pair, item, Some, None, take, drop}
+use Rattle.syslog_elements.proofs.Names.{◌∙◌, Err, Ok, ◌↔◌, Bor, Row, run, ◌+◌, ◌<◌, map, ◌-◌}
+use Rattle.std.{proofs.lemmas.Grind.put_two, specs.Char.encode_utf8, specs.Global.Global, specs.Iterator.Drains}
 use Rattle.std.specs.declared.alloc.AllocError.{AllocError}
 use Rattle.syslog_elements.specs.StructuredData.Escapes.{IsUnit, IsUnquoted, lone_backslash, SplitsUnits, is_escaped}
 use Rattle.syslog_elements.specs.StructuredData.Escapes.{MeansFirst, pair_meaning, unit_meaning}
 use Rattle.syslog_elements.specs.StructuredData.Params.{NextParam, AreParamItems}
-use Rattle.syslog_text.specs.Pieces.Parts.{IsPart}
+use Rattle.syslog_text.{proofs.TextLemmas.Words.encodes_shown, specs.Pieces.Parts.IsPart}
 use Rattle.syslog_elements.specs.StructuredData.EqualLaws.{Param, param_eq-same, counts_agree-at, counts_agree-from}
 use Rattle.syslog_elements.specs.StructuredData.EqualLaws.{same_params-counts, same_params-from, same_params-decides}
 use Rattle.syslog_elements.specs.StructuredData.EqualLaws.{counts_of_permutation, permuted, length_of_counts}
 use Rattle.syslog_text.proofs.PieceLemmas.Lists.{Quotes, Quoted, row_texts, row_quotes, part_same, part_left}
 use Rattle.syslog_text.proofs.PieceLemmas.Lists.{part_right, part_joined, silent, texted_quotes}
-use Rattle.syslog_text.proofs.TextLemmas.Words.{encodes_shown}
-use Rattle.std.proofs.lemmas.Grind.{put_two}
 pub use Rattle.std.proofs.lemmas.Bool.{cases_Bool as decide}
 
 -- ---- a text has one split
@@ -183,9 +179,9 @@ module _ {bs xs ys : List ℕ} (s : SplitsRun is_bare_char bs xs ys) where
   pub means_run : MeansFirst (chars bs) (chars xs) (chars ys)
   means_run = record { on = λ w i. rw s.characters (unescaped_run (chars xs) (chars ys) w s.each i) }
 
-  module _ (none : xs ≡ []) where
+  module _ (none : length xs ≡ 0) where
     no_run : chars bs ≡ chars ys
-    no_run = s.characters ∙ ap (λ (x : List ℕ). chars x ++ chars ys) none
+    no_run = s.characters ∙ ap (λ (x : List ℕ). chars x ++ chars ys) (nil_from_length xs none)
         ∙ ap (λ (x : Text). x ++ chars ys) chars-nil
 
     pub means_no_text : chars ys ≡ [] → IsUnescaped (chars bs) []

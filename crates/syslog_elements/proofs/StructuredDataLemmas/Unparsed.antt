@@ -7,16 +7,15 @@ use Rattle.syslog_elements.proofs.Names.{Bor, props, Option, subst, arith, lengt
 use Rattle.syslog_elements.proofs.Names.{◌≡◌, ◌≢◌, ◌⊎◌, List, [], ◌++◌, Some, None, refl, Text, many, param, item, dash}
 use Rattle.syslog_elements.proofs.Names.{◌<◌, inl, inr, ◌∷◌, sym, ap, ◌∙◌, map, run}
 use Rattle.std.specs.List.{AllByRecursion}
-use Rattle.syslog_text.specs.Pieces.Class.{Divides, join}
+use Rattle.syslog_text.{proofs.PieceLemmas.Class.front_of, specs.Pieces.Class.Divides, specs.Pieces.Class.join}
 use Rattle.syslog_elements.specs.StructuredData.Canonical.{IsCanonicalElement}
 use Rattle.syslog_elements.specs.StructuredData.Unparsed.{FollowsStrict, IsUnparsed, if_any, leaving}
-use Rattle.syslog_elements.specs.StructuredData.Visited.{LeavesBroken}
+use Rattle.syslog_elements.{proofs.StructuredDataLemmas.Walk.items_alone, specs.StructuredData.Visited.LeavesBroken}
 use Rattle.syslog_elements.specs.declared.structured_data.line_list.Tally.{Tally}
 use Rattle.syslog_elements.proofs.StructuredDataLemmas.Tallies.{Gone, Unbroken, gone_all, no_dash_items, own_items}
-use Rattle.syslog_text.proofs.PieceLemmas.Class.{front_of}
-use Rattle.syslog_elements.proofs.StructuredDataLemmas.Elements.{element_back, element_det, forgiving_det}
-use Rattle.syslog_elements.proofs.StructuredDataLemmas.Elements.{item_begins, no_item_nil}
-use Rattle.syslog_elements.proofs.StructuredDataLemmas.Walk.{are_full_items, are_items, element_alone, full_begins, items_alone}
+use Rattle.syslog_elements.proofs.StructuredDataLemmas.Elements.{element_back, element_det, forgiving_det, item_begins}
+use Rattle.syslog_elements.proofs.StructuredDataLemmas.Elements.{no_item_nil}
+use Rattle.syslog_elements.proofs.StructuredDataLemmas.Walk.{are_full_items, are_items, element_alone, full_begins}
 
 -- ---- a text that may be empty
 

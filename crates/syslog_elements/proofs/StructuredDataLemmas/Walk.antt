@@ -18,20 +18,18 @@ use Rattle.syslog_elements.proofs.Names.{inl, [], chars, List, ◌++◌, refl, T
 use Rattle.syslog_elements.proofs.Names.{sym, ◌∙◌, Row, ◌↔◌, ◌+◌, ◌≤◌, ◌⊎◌, map, run, ap, ◌≢◌}
 use Rattle.syslog_elements.specs.StructuredData.Recognised.{OneInside-prop, OneItems-prop, params_set, items_set}
 use Rattle.syslog_elements.specs.StructuredData.Pairs.{IsNext, inside_of}
-use Rattle.syslog_elements.specs.StructuredData.Visited.{AreItems}
-use Rattle.syslog_elements.specs.declared.structured_data.pairs.Notation.{Notation}
+use Rattle.syslog_elements.specs.{StructuredData.Visited.AreItems, declared.structured_data.pairs.Notation.Notation}
 use Rattle.syslog_elements.specs.declared.structured_data.pairs.Notation.TheVariants.{Equals}
-use Rattle.syslog_elements.proofs.StructuredDataLemmas.Closing.{passes_opening, element_starts, passes_quoted}
 use Rattle.syslog_elements.proofs.StructuredDataLemmas.Closing.{start_shut, element_read, value_breaks, passes_here}
 use Rattle.syslog_elements.proofs.StructuredDataLemmas.Closing.{param_opens, passes_shut, param_read, dead_whole}
 use Rattle.syslog_elements.proofs.StructuredDataLemmas.Closing.{no_opening, no_start, passes_row, one_shut, Passes}
+use Rattle.syslog_elements.proofs.StructuredDataLemmas.Closing.{passes_opening, element_starts, passes_quoted}
 use Rattle.syslog_elements.proofs.StructuredDataLemmas.Elements.{space_is_no_close, element_shorter, run_no_close}
 use Rattle.syslog_elements.proofs.StructuredDataLemmas.Elements.{item_shorter, element_det, item_begins, quoted_text}
 use Rattle.syslog_elements.proofs.StructuredDataLemmas.Elements.{no_item_nil, dash_apart, quoted_det, inside_det}
 use Rattle.syslog_elements.proofs.StructuredDataLemmas.Elements.{no_blanks, param_det, start_det, item_det}
 use Rattle.syslog_elements.proofs.StructuredDataLemmas.Elements.{element_canonical, element_with}
-use Rattle.std.proofs.lemmas.List.{append_cancel_left}
-use Rattle.std.specs.List.{AllByRecursion}
+use Rattle.std.{proofs.lemmas.List.append_cancel_left, specs.List.AllByRecursion}
 use Rattle.syslog_text.specs.Pieces.Class.{Divides, Each, Ends}
 use Rattle.syslog_elements.specs.StructuredData.Canonical.{BeginsUnblank, IsCanonicalParam}
 use Rattle.syslog_text.proofs.TextLemmas.Runs.{same_bytes, chars_empty, bytes}
@@ -444,6 +442,8 @@ module _ {text inner at id : Text} {ps : List (Text × Text)} {count : ℕ} {mar
               counted = more_counted;
               room = omega (arith, more_room, front_longer (exactly (32 ∷ [])) g);
             }
+
+pub ruleset few_params = (more_room, chars_length)
 
 -- ---- what is left of a recognised element and of a recognised list, one parameter or one item less
 pub inside_same : (n : Notation) {t : Text} (m k : OneMeaning (inside_of n) t) → (one_value m).0 ≡ (one_value k).0

@@ -4,10 +4,8 @@ use Rattle.std.specs.Prelude.{◌≡◌, ℕ, ◌≤◌, List, [], ◌∷◌, �
 use Rattle.std.specs.Str.{encode_utf8_all}
 use Rattle.syslog_text.specs.Text.CharClass.{is_name_char, is_id_char}
 use Rattle.syslog_text.specs.Pieces.Class.{Text, Class, Values, NoFront, Row, run, some_run, exactly, texted}
-use Rattle.syslog_elements.specs.StructuredData.Escapes.{TextUnit, pair, single}
-use Rattle.syslog_text.specs.Pieces.Lists.{list_before, more_before}
-use Rattle.syslog_elements.specs.StructuredData.{value, param}
-use Rattle.syslog_text.specs.Text.{is_blank}
+use Rattle.syslog_elements.specs.StructuredData.{value, param, Escapes.TextUnit, Escapes.pair, Escapes.single}
+use Rattle.syslog_text.specs.{Pieces.Lists.list_before, Pieces.Lists.more_before, Text.is_blank}
 
 -- an element up to its parameters
 abbrev pub start_row : List Class

@@ -2,10 +2,8 @@
 use Rattle.std.specs.Prelude.{◌<◌, ⊤, List, [], ◌∷◌, length}
 use Rattle.std.specs.List.{AllByRecursion}
 use Rattle.syslog_text.specs.Pieces.Class.{Text, Each, Ends}
-use Rattle.syslog_elements.specs.StructuredData.{IsValue}
-use Rattle.syslog_elements.specs.StructuredData.Element.{ElementValue}
-use Rattle.syslog_text.specs.Text.{is_blank}
-use Rattle.syslog_text.specs.Text.CharClass.{is_id_char, is_name_char}
+use Rattle.syslog_elements.specs.StructuredData.{IsValue, Element.ElementValue}
+use Rattle.syslog_text.specs.Text.{is_blank, CharClass.is_id_char, CharClass.is_name_char}
 
 -- the name is nonempty, without `]` and `=`, and the value is a list of units
 abbrev pub IsCanonicalParam : Text × Text → Type 0

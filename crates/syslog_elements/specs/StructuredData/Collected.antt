@@ -1,11 +1,9 @@
 -- What was noted of an element's parameters, and what was collected of a list.
 use Rattle.std.specs.Prelude.{◌≡◌, ◌≢◌, ◌<◌, ◌≤◌, List, [], length, map, take}
 use Rattle.std.specs.Result.{MatchResult}
-use Rattle.syslog_text.specs.Pieces.Class.{Text}
-use Rattle.syslog_text.specs.Pieces.View.{shown}
+use Rattle.syslog_text.specs.Pieces.{Class.Text, View.shown}
 use Rattle.syslog_elements.specs.StructuredData.Element.{ElementValue, element_value, param_value}
-use Rattle.syslog_elements.specs.declared.structured_data.collect.Collect.{Collect}
-use Rattle.syslog_elements.specs.declared.structured_data.few_params.FewParams.{FewParams}
+use Rattle.syslog_elements.specs.declared.structured_data.{collect.Collect.Collect, few_params.FewParams.FewParams}
 
 -- the first of these parameters were noted; all of them, where space is left
 pub record HasNoted (notes : FewParams) (ps : List (Text × Text)) : Type 0 where

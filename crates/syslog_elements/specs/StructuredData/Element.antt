@@ -1,8 +1,6 @@
 -- Elements as values over texts, and their printed text.
-use Rattle.std.specs.Prelude.{List, [], ◌∷◌, ◌++◌, map}
-use Rattle.std.specs.List.{flat_map}
-use Rattle.syslog_text.specs.Pieces.Class.{Text}
-use Rattle.syslog_text.specs.Text.{dash}
+use Rattle.std.specs.{List.flat_map, Prelude.List, Prelude.[], Prelude.◌∷◌, Prelude.◌++◌, Prelude.map}
+use Rattle.syslog_text.specs.{Pieces.Class.Text, Text.dash}
 use Rattle.syslog_elements.specs.declared.structured_data.StructuredElement.{StructuredElement}
 
 -- an element over texts: its id, and the names and values of its parameters in order

@@ -2,8 +2,7 @@
 -- order (RFC 5424 section 6.3.3 gives their order no meaning; own).
 use Rattle.std.specs.Prelude.{◌≡◌, ℕ, Bool, List, ◌++◌, ◌&&◌, nat_eq, count_by, IsPermutation}
 use Rattle.std.specs.List.{list_all}
-use Rattle.syslog_text.specs.Pieces.Class.{Text}
-use Rattle.syslog_text.specs.Pieces.View.{text_eq}
+use Rattle.syslog_text.specs.Pieces.{Class.Text, View.text_eq}
 use Rattle.syslog_elements.specs.StructuredData.Element.{ElementValue}
 
 -- whether two parameters have the same name and the same value

@@ -1,18 +1,15 @@
 -- Equality of elements is an equivalence, and says that the parameters are the same in some order.
 use Rattle.std.specs.Prelude.{◌≡◌, ◌<◌, ◌+◌, true, cond, List, [], ◌∷◌, ◌++◌, length, nat_eq, refl, IsPermutation}
-use Rattle.std.specs.Cmp.{IsEquivalence, on_equiv, and_equiv}
-use Rattle.std.specs.Bool.{Decides, one_answer}
+use Rattle.std.specs.{Bool.Decides, Bool.one_answer, Cmp.IsEquivalence, Cmp.on_equiv, Cmp.and_equiv}
 use Rattle.std.specs.Cmp.Lexicographic.{nat_list_eq_equiv, bytes_decides}
 use Rattle.std.proofs.Common.{sym, ◌∙◌, arith, inl, inr, ap, subst, zero-add}
 use Rattle.std.proofs.lemmas.Bool.{and_parts, and_from, eqb-true, eq-eqb, cases_Bool, cases_lt}
 use Rattle.std.proofs.lemmas.List.Sums.{sum_by-cons, sum_by-append}
 use Rattle.std.proofs.lemmas.List.Sorted.{IsPermutation-refl, IsPermutation-sym, IsPermutation-cons, length_permutation}
 use Rattle.std.proofs.lemmas.List.Sorted.{IsPermutation-trans, IsPermutation-middle, sum_by-IsPermutation}
-use Rattle.syslog_text.specs.Pieces.Class.{Text}
-use Rattle.syslog_text.specs.Pieces.View.{text_eq}
-use Rattle.syslog_elements.specs.StructuredData.Element.{ElementValue}
+use Rattle.syslog_text.specs.Pieces.{Class.Text, View.text_eq}
+use Rattle.syslog_elements.specs.StructuredData.{Element.ElementValue, Equal.param_count, Equal.param_eq}
 use Rattle.syslog_elements.specs.StructuredData.Equal.{IsSameInSomeOrder, element_eq, same_params, counts_agree}
-use Rattle.syslog_elements.specs.StructuredData.Equal.{param_count, param_eq}
 
 abbrev pub Param : Type 0
 Param = Text × Text

@@ -5,15 +5,10 @@
 -- 34 is `"`, 58 `:`, 59 `;`, 91 `[`, 93 `]`.
 use Rattle.std.specs.Prelude.{◌≡◌, ◌⊎◌, ◌<◌, ℕ, List, [], ◌∷◌, length, Option, None, Some, chars, codes}
 use Rattle.syslog_text.specs.Pieces.Class.{Text, Class, Values, Each, Ends, Front, NoFront, Row, exactly, mapped}
-use Rattle.syslog_text.specs.Pieces.Class.{some_run, texted}
-use Rattle.syslog_text.specs.Pieces.Lists.{many}
-use Rattle.syslog_text.specs.Pieces.Rules.{such_that}
-use Rattle.syslog_text.specs.Text.{is_blank, is_tag_char}
-use Rattle.syslog_text.specs.Text.CharClass.{is_sd_name_char}
+use Rattle.syslog_text.specs.{Pieces.Class.some_run, Pieces.Class.texted, Text.is_blank, Text.is_tag_char}
+use Rattle.syslog_text.specs.{Pieces.Lists.many, Pieces.Rules.such_that, Text.CharClass.is_sd_name_char}
 use Rattle.syslog_elements.specs.Bodies.Closing.{inside, inside_row, quoted}
-use Rattle.syslog_elements.specs.StructuredData.{param}
-use Rattle.syslog_elements.specs.StructuredData.Element.{ElementValue}
-use Rattle.syslog_elements.specs.StructuredData.Rfc3164List.{IsDashBefore}
+use Rattle.syslog_elements.specs.StructuredData.{param, Element.ElementValue, Rfc3164List.IsDashBefore}
 use Rattle.syslog_elements.specs.declared.structured_data.pairs.Notation.{Notation}
 use Rattle.syslog_elements.specs.declared.structured_data.pairs.Notation.TheVariants.{Colons, Equals}
 use Rattle.syslog_elements.specs.declared.structured_data.rfc3164_list.DashRule.TheVariants.{BeforeBlank}

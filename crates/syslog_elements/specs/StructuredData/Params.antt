@@ -1,9 +1,6 @@
 -- What the iterator over an element's parameters gives.
 use Rattle.std.specs.Prelude.{◌≡◌, ℕ, List, [], ◌∷◌, Option, None, Result, IsSomeAnd, IfOk, String, string_bytes}
-use Rattle.std.specs.Global.{Global}
-use Rattle.std.specs.Borrow.{Bor}
-use Rattle.std.specs.Str.{chars}
-use Rattle.std.specs.declared.alloc.AllocError.{AllocError}
+use Rattle.std.specs.{Borrow.Bor, Global.Global, Str.chars, declared.alloc.AllocError.AllocError}
 use Rattle.syslog_elements.specs.StructuredData.Escapes.{IsUnescaped}
 use Rattle.syslog_text.specs.Pieces.View.{text_of}
 

@@ -1,15 +1,10 @@
 -- What a recognised text means, where nothing of that was collected: its meaning is kept for proofs alone.
 use Rattle.std.specs.Prelude.{◌≡◌, List, Option}
-use Rattle.std.proofs.Common.{sym}
-use Rattle.std.proofs.Math.Logic.{∥∥₁_elim, ∥∥₁_prop}
+use Rattle.std.proofs.{Common.sym, Math.Logic.∥∥₁_elim, Math.Logic.∥∥₁_prop, Props.props}
 use mathlib.Core.HLevel.{Σ_prop_path, Σ_prop, Π_prop}
-use Rattle.syslog_text.specs.Pieces.Class.{Text, Class, Front, optional}
-use Rattle.syslog_elements.specs.StructuredData.Element.{ElementValue}
-use Rattle.syslog_elements.specs.StructuredData.{item}
-use Rattle.syslog_text.specs.Pieces.Lists.{many}
-use Rattle.syslog_elements.specs.StructuredData.Pairs.{inside_of, pairs}
+use Rattle.syslog_text.specs.Pieces.{Class.Text, Class.Class, Class.Front, Class.optional, Lists.many}
+use Rattle.syslog_elements.specs.StructuredData.{item, Element.ElementValue, Pairs.inside_of, Pairs.pairs}
 use Rattle.syslog_elements.specs.declared.structured_data.pairs.Notation.{Notation}
-use Rattle.std.proofs.Props.{props}
 
 -- a meaning of the front of the class that begins the text, and that there is no other
 abbrev pub OneMeaning : (C : Class) → Text → Type 0

@@ -2,13 +2,10 @@
 -- of it is this project's own choice.)
 use Rattle.std.specs.Prelude.{◌≡◌, ◌<◌, ◌⊎◌, ⊤, true, List, [], ◌∷◌, length, Option, unwrap_or}
 use Rattle.syslog_text.specs.Pieces.Class.{Text, Class, NoFront}
-use Rattle.syslog_text.specs.Pieces.Lists.{many}
-use Rattle.syslog_elements.specs.StructuredData.{element}
-use Rattle.syslog_elements.specs.StructuredData.Element.{ElementValue}
-use Rattle.syslog_text.specs.Text.{is_blank, dash}
-use Rattle.syslog_elements.specs.declared.structured_data.rfc3164_list.DashRule.{DashRule}
+use Rattle.syslog_text.specs.{Pieces.Lists.many, Text.is_blank, Text.dash}
+use Rattle.syslog_elements.specs.StructuredData.{element, Element.ElementValue}
+use Rattle.syslog_elements.specs.declared.structured_data.rfc3164_list.DashRule.{DashRule, TheVariants.BeforeBlank}
 use Rattle.syslog_elements.specs.declared.structured_data.rfc3164_list.DashRule.TheVariants.{BeforeAnything}
-use Rattle.syslog_elements.specs.declared.structured_data.rfc3164_list.DashRule.TheVariants.{BeforeBlank}
 
 -- a strict element with a parameter
 abbrev pub full_element : Class

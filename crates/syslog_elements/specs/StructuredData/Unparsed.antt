@@ -1,10 +1,7 @@
 -- What is left unparsed of a list (this project's own choice).
 use Rattle.std.specs.Prelude.{◌≡◌, ◌≢◌, ◌⊎◌, List, [], ◌∷◌, Option, Some, None}
-use Rattle.syslog_text.specs.Pieces.Class.{Text, Class, Front}
-use Rattle.syslog_text.specs.Pieces.Lists.{many}
-use Rattle.syslog_elements.specs.StructuredData.{element, forgiving}
-use Rattle.syslog_elements.specs.StructuredData.Element.{ElementValue}
-use Rattle.syslog_text.specs.Text.{dash}
+use Rattle.syslog_text.specs.{Pieces.Class.Text, Pieces.Class.Class, Pieces.Class.Front, Pieces.Lists.many, Text.dash}
+use Rattle.syslog_elements.specs.StructuredData.{element, forgiving, Element.ElementValue}
 
 -- strict elements begin the list's own text, as many as there are, and this is after them; nothing is left of `-`
 abbrev pub FollowsStrict : Text → Text → Type 0

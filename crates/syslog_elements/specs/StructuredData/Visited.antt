@@ -1,22 +1,14 @@
 -- What recognised elements and lists mean, and what a visitor was given of them.
-use Rattle.std.specs.Prelude.{◌≡◌, ◌≢◌, ◌⊎◌, ◌↔◌, ℕ, List, [], ◌++◌, ◌+◌, ◌≤◌, Option, Some, None, IfSome, IsTrue, length}
-use Rattle.std.specs.Prelude.{sum_by}
-use Rattle.std.specs.Borrow.{Bor}
-use Rattle.std.specs.Str.{IsUtf8}
-use Rattle.syslog_text.specs.Pieces.Class.{Text, Front}
-use Rattle.syslog_text.specs.Pieces.Lists.{many}
-use Rattle.syslog_text.specs.Pieces.View.{shown}
+use Rattle.std.specs.Prelude.{◌≡◌, ◌≢◌, ◌⊎◌, ◌↔◌, ℕ, List, [], ◌++◌, ◌+◌, ◌≤◌, Option, Some, None, IfSome, IsTrue}
+use Rattle.std.specs.{Borrow.Bor, Prelude.length, Prelude.sum_by, Str.IsUtf8}
+use Rattle.syslog_text.specs.Pieces.{Class.Text, Class.Front, Lists.many, View.shown}
 use Rattle.syslog_elements.specs.StructuredData.{strict, element, item}
 use Rattle.syslog_elements.specs.StructuredData.Element.{ElementValue, element_text, joined_elements}
-use Rattle.syslog_elements.specs.StructuredData.Pairs.{with_pairs}
-use Rattle.syslog_elements.specs.StructuredData.Recognised.{one_value}
-use Rattle.syslog_elements.specs.StructuredData.Unparsed.{IsUnparsed}
-use Rattle.syslog_elements.specs.declared.structured_data.recognised.Element.{Element}
+use Rattle.syslog_elements.specs.StructuredData.{Pairs.with_pairs, Recognised.one_value, Unparsed.IsUnparsed}
+use Rattle.syslog_elements.specs.declared.structured_data.{recognised.Element.Element, recognised_items.Params.Params}
 use Rattle.syslog_elements.specs.declared.structured_data.recognised.ElementList.{ElementList}
 use Rattle.syslog_elements.specs.declared.structured_data.recognised_items.Elements.{Elements}
-use Rattle.syslog_elements.specs.declared.structured_data.recognised_items.Params.{Params}
-use Rattle.syslog_elements.specs.declared.structured_data.walk.Walked.{Walked}
-use Rattle.syslog_elements.specs.declared.structured_data.line_list.Tally.{Tally}
+use Rattle.syslog_elements.specs.declared.structured_data.{line_list.Tally.Tally, walk.Walked.Walked}
 
 -- what a recognised element means
 abbrev pub element_seen : Element → ElementValue

@@ -59,6 +59,7 @@ fn odd_gap(text: &str) -> (&str, bool)
 
 /// Walks the strict element at the front, and notes its parameters. An error is a new `dead`, as that of `live_value`.
 #[inline(always)]
+#[tactic(auto, using(crate::proofs::StructuredDataLemmas::Walk::few_params))]
 pub(super) fn walk_element<'a, N: ParamNotes<'a>>(
     text: &'a str,
     dead: usize,

@@ -1,6 +1,5 @@
 use Rattle.syslog_elements.proofs.Names.{arith, refl, sym, ◌≡◌, ◌∙◌, ◌++◌, [], ◌∷◌, append_cancel_right, Text, inl, ap}
-use Rattle.syslog_elements.proofs.Names.{chars-nil}
-use Rattle.syslog_elements.proofs.StructuredDataLemmas.Elements.{dash_items}
+use Rattle.syslog_elements.proofs.{Names.chars-nil, StructuredDataLemmas.Elements.dash_items}
 use Rattle.syslog_elements.proofs.structured_data.line_list.dash_list.Goals as goal
 
 own_dash : (t own rest : Text) → t ≡ own ++ rest → t ≡ 45 ∷ rest → own ≡ 45 ∷ []

@@ -1,6 +1,5 @@
 use Rattle.syslog_elements.proofs.Names.{◌≡◌, subst, append_cancel_right, ◌∙◌, sym, strict, Text, ap, elements_text}
-use Rattle.syslog_elements.proofs.Names.{◌++◌}
-use Rattle.syslog_elements.specs.StructuredData.Unparsed.{IsUnparsed}
+use Rattle.syslog_elements.{proofs.Names.◌++◌, specs.StructuredData.Unparsed.IsUnparsed}
 use Rattle.syslog_elements.proofs.StructuredDataLemmas.Tallies.{own_differs, own_items, own_prints}
 use Rattle.syslog_elements.proofs.structured_data.line_list.item_list.Goals as goal
 
@@ -22,7 +21,8 @@ new-requires c =
         t.params,
         own_left _ _ _ _ _ _ left.whole cut is left.left,
         (λ some. (let (marked, many) = c.counted_if-printed.ensures.printed some in
-            own_prints _ left.unparsed vs cut t left.is.1 marked many ∙ ap (λ (x : Text). elements_text (strict vs) ++ x) (sym is))),
+            own_prints _ left.unparsed vs cut t left.is.1 marked many
+            ∙ ap (λ (x : Text). elements_text (strict vs) ++ x) (sym is))),
         (λ none. own_differs cut items t (c.counted_if-printed.ensures.unprinted none)),
       ),
     )

@@ -1,10 +1,7 @@
 use Rattle.syslog_elements.proofs.Names.{rules, refl, sym, ap, ◌∙◌, ◌+◌, ℕ, full_element, and_from, and_parts, map}
-use Rattle.syslog_elements.proofs.Names.{Some, true}
-use Rattle.syslog_elements.proofs.StructuredDataLemmas.Elements.{strict_some}
-use Rattle.syslog_elements.proofs.StructuredDataLemmas.Walk.{are_full_items}
-use Rattle.syslog_elements.proofs.StructuredDataLemmas.Tallies.{gone_none, gone_all, gone_within, gone_on}
-use Rattle.syslog_elements.proofs.StructuredDataLemmas.Tallies.{gone_tallied, gone_visits}
-use Rattle.syslog_elements.proofs.StructuredDataLemmas.Unparsed.{full_leaves_none}
+use Rattle.syslog_elements.proofs.{Names.Some, Names.true, StructuredDataLemmas.Unparsed.full_leaves_none}
+use Rattle.syslog_elements.proofs.StructuredDataLemmas.{Elements.strict_some, Tallies.gone_visits, Walk.are_full_items}
+use Rattle.syslog_elements.proofs.StructuredDataLemmas.Tallies.{gone_none, gone_all, gone_within, gone_on, gone_tallied}
 use Rattle.syslog_elements.proofs.structured_data.line_list.visit_full_elements.Goals as goal
 
 pub elements-init : goal.elements-init

@@ -2,8 +2,7 @@ use Rattle.syslog_elements.proofs.Names.{rules, refl, sym, ap, subst, ◌+◌, �
 use Rattle.syslog_elements.proofs.Names.{IsDead, append-nil}
 use Rattle.syslog_elements.proofs.StructuredDataLemmas.Closing.{dead_bytes, dead_suffix, dead_least}
 use Rattle.syslog_elements.proofs.StructuredDataLemmas.Elements.{no_item, bracketed_item, strict_append}
-use Rattle.syslog_elements.proofs.StructuredDataLemmas.Walk.{are_items}
-use Rattle.syslog_elements.proofs.StructuredDataLemmas.Unparsed.{gone_leaves}
+use Rattle.syslog_elements.proofs.StructuredDataLemmas.{Unparsed.gone_leaves, Walk.are_items}
 use Rattle.syslog_elements.proofs.StructuredDataLemmas.Tallies.{none_told, gone_none, gone_all, gone_within, gone_on}
 use Rattle.syslog_elements.proofs.StructuredDataLemmas.Tallies.{gone_past, gone_tallied, gone_visits}
 use Rattle.syslog_elements.proofs.structured_data.line_list.visit_items.Goals as goal

@@ -1,6 +1,5 @@
 use Rattle.syslog_elements.proofs.Names.{some_run, some_run_det, texted, texted_det, no_truth}
-use Rattle.syslog_text.specs.Text.{is_tag_char}
-use Rattle.syslog_text.proofs.PieceLemmas.Rules.{no_such_meaning}
+use Rattle.syslog_text.{proofs.PieceLemmas.Rules.no_such_meaning, specs.Text.is_tag_char}
 use Rattle.syslog_elements.specs.StructuredData.Pairs.{IsSdName}
 use Rattle.syslog_elements.proofs.structured_data.pairs.pair_name.Goals as goal
 

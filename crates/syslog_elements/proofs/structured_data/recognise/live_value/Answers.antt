@@ -1,5 +1,4 @@
-use Rattle.syslog_elements.proofs.Names.{meets_here, quoted}
-use Rattle.syslog_elements.proofs.StructuredDataLemmas.Closing.{value_missing}
+use Rattle.syslog_elements.proofs.{Names.meets_here, Names.quoted, StructuredDataLemmas.Closing.value_missing}
 use Rattle.syslog_elements.proofs.structured_data.recognise.live_value.Goals as goal
 
 pub returns-in-None : goal.returns-in-None

@@ -1,6 +1,5 @@
 use Rattle.syslog_elements.proofs.Names.{has, some_run}
-use Rattle.syslog_text.proofs.TextLemmas.Runs.{empty_is, no_some_run}
-use Rattle.syslog_text.proofs.PieceLemmas.Class.{no_texted}
+use Rattle.syslog_text.proofs.{PieceLemmas.Class.no_texted, TextLemmas.Runs.empty_is, TextLemmas.Runs.no_some_run}
 use Rattle.syslog_elements.proofs.structured_data.recognise.nonempty_run.Goals as goal
 
 pub returns-then-is_empty : goal.returns-then-is_empty

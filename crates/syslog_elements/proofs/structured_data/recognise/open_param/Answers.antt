@@ -1,6 +1,5 @@
 use Rattle.syslog_elements.proofs.Names.{refl, false_is, opening_row, row_of, no_row, ◌then◌, ◌past◌, rules}
-use Rattle.syslog_elements.proofs.StructuredDataLemmas.Elements.{opening_det}
-use Rattle.syslog_elements.proofs.StructuredDataLemmas.Walk.{opens_at_once, opens_no_sooner}
+use Rattle.syslog_elements.proofs.StructuredDataLemmas.{Elements.opening_det, Walk.opens_at_once, Walk.opens_no_sooner}
 use Rattle.syslog_elements.proofs.structured_data.recognise.open_param.Goals as goal
 
 pub returns-in_err-after_equals : goal.returns-in_err-after_equals

@@ -1,11 +1,9 @@
 use Rattle.std.proofs.Common.{eq-eqb}
-use Rattle.syslog_elements.proofs.Names.{ElementValue, start_row, eqb-true, length, no_row, rules, arith, subst, refl}
-use Rattle.syslog_elements.proofs.Names.{[], sym, ◌+◌, ◌≤◌, inl, err_from_is_err_and}
-use Rattle.syslog_elements.proofs.StructuredDataLemmas.Closing.{byte_count_slice, dead_suffix, no_start}
-use Rattle.syslog_elements.proofs.StructuredDataLemmas.Walk.{bare_inside, bare_walked, at_first, not_opened}
+use Rattle.syslog_elements.proofs.Names.{ElementValue, start_row, eqb-true, no_row, rules, subst, refl, [], sym, inl}
+use Rattle.syslog_elements.proofs.{Names.err_from_is_err_and, StructuredDataLemmas.Elements.start_det}
 use Rattle.syslog_elements.proofs.StructuredDataLemmas.Walk.{value_passes, not_closed, not_separated, ends, ends_walked}
-use Rattle.syslog_elements.proofs.StructuredDataLemmas.Walk.{goes_on, more_room, chars_length}
-use Rattle.syslog_elements.proofs.StructuredDataLemmas.Elements.{start_det}
+use Rattle.syslog_elements.proofs.StructuredDataLemmas.Walk.{goes_on, bare_inside, bare_walked, at_first, not_opened}
+use Rattle.syslog_elements.proofs.StructuredDataLemmas.Closing.{byte_count_slice, dead_suffix, no_start}
 use Rattle.syslog_elements.proofs.structured_data.walk.walk_element.Goals as goal
 
 pub returns-in_default-clause-walked : goal.returns-in_default-clause-walked
@@ -47,13 +45,6 @@ returns-in_err-after-clause-walked g c =
     let (d, e, same) = err_from_is_err_and c.from_residual.result c.from_residual.ensures.1 in
     rw (e, same) (not_closed c.params.invariant.1.1 c.in-Some-open_param.ensures.0 _ c.in_err-after.ensures.0
     c.in_err-after.ensures.1)
-
-pub overflow_add-count : goal.overflow_add-count
-overflow_add-count g c =
-    let l = more_room c.params.invariant.1.1 c.in-Some-open_param.ensures.0 c.value_before.ensures in
-    let le : c.params.count + 1 ≤ length c.args.text.now =
-    omega (arith, l, chars_length c.args.text.now c.utf8.text) in
-    search rules
 
 pub new-requires-in-Some-literal-2 : goal.new-requires-in-Some-literal-2
 new-requires-in-Some-literal-2 g c =

@@ -1,6 +1,5 @@
 use Rattle.syslog_elements.proofs.Names.{sym, ◌∙◌, rules}
-use Rattle.syslog_elements.proofs.StructuredDataLemmas.Closing.{dead_bytes}
-use Rattle.syslog_elements.proofs.StructuredDataLemmas.Walk.{bare_is_not_full}
+use Rattle.syslog_elements.proofs.StructuredDataLemmas.{Closing.dead_bytes, Walk.bare_is_not_full}
 use Rattle.syslog_elements.proofs.structured_data.walk.walk_full_element.Goals as goal
 
 pub walk_element-requires : goal.walk_element-requires

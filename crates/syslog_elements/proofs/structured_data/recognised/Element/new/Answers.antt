@@ -1,8 +1,7 @@
 use Rattle.syslog_elements.proofs.Names.{rules, ap, length, ◌∙◌, sym, one_value-is}
 use Rattle.syslog_elements.proofs.StructuredDataLemmas.Elements.{inside_det, seen_is}
-use Rattle.syslog_elements.specs.StructuredData.Pairs.{inside_of}
+use Rattle.syslog_elements.{proofs.StructuredDataLemmas.Walk.one_meaning, specs.StructuredData.Pairs.inside_of}
 use Rattle.syslog_elements.specs.declared.structured_data.pairs.Notation.TheVariants.{Equals}
-use Rattle.syslog_elements.proofs.StructuredDataLemmas.Walk.{one_meaning}
 use Rattle.syslog_elements.proofs.structured_data.recognised.Element.new.Goals as goal
 
 pub invariant_of-result : goal.invariant_of-result

@@ -1,7 +1,6 @@
 use Rattle.syslog_elements.proofs.Names.{rules, sym, subst, OneMeaning, optional}
-use Rattle.syslog_elements.specs.StructuredData.Pairs.{pairs}
+use Rattle.syslog_elements.{proofs.StructuredDataLemmas.Pairs.left_same, specs.StructuredData.Pairs.pairs}
 use Rattle.syslog_elements.proofs.StructuredDataLemmas.Closing.{dead_bytes}
-use Rattle.syslog_elements.proofs.StructuredDataLemmas.Pairs.{left_same}
 use Rattle.syslog_elements.proofs.structured_data.recognised.ElementList.elements.Goals as goal
 
 pub invariant_of-result : goal.invariant_of-result

@@ -2,10 +2,9 @@ use Rattle.std.specs.Prelude.{chars}
 use Rattle.syslog_elements.proofs.Names.{◌++◌, rules, List, length, ap, sym, ◌∙◌, many, item, optional, optional_none}
 use Rattle.syslog_elements.proofs.Names.{many_det, ElementValue, sum_by, elements_text}
 use Rattle.syslog_text.proofs.PieceLemmas.Class.{optional_det}
-use Rattle.syslog_elements.specs.StructuredData.Pairs.{pairs}
+use Rattle.syslog_elements.{proofs.StructuredDataLemmas.Walk.one_meaning, specs.StructuredData.Pairs.pairs}
 use Rattle.syslog_elements.proofs.StructuredDataLemmas.Elements.{item_det}
 use Rattle.syslog_elements.proofs.StructuredDataLemmas.Pairs.{elements_are, left_of_text, no_pairs_in, pairs_det}
-use Rattle.syslog_elements.proofs.StructuredDataLemmas.Walk.{one_meaning}
 use Rattle.syslog_elements.proofs.structured_data.recognised.ElementList.new.Goals as goal
 
 pub invariant_of-result : goal.invariant_of-result

@@ -1,7 +1,6 @@
 use Rattle.syslog_elements.proofs.Names.{arith, refl, sym, chars-nil, [], ◌∙◌, subst, Text, chars}
-use Rattle.syslog_elements.proofs.StructuredDataLemmas.Elements.{no_items_here}
+use Rattle.syslog_elements.proofs.StructuredDataLemmas.{Elements.no_items_here, Unparsed.nothing_leaves}
 use Rattle.syslog_elements.specs.StructuredData.Unparsed.{IsUnparsed}
-use Rattle.syslog_elements.proofs.StructuredDataLemmas.Unparsed.{nothing_leaves}
 use Rattle.syslog_elements.proofs.structured_data.recognised.ElementList.none.Goals as goal
 
 pub new-requires : goal.new-requires

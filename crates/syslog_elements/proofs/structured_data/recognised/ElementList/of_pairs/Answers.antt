@@ -1,11 +1,9 @@
 use Rattle.syslog_elements.proofs.Names.{rules, List, length, ap, sym, ◌∙◌, arith, many, item, many_det, sum_by}
 use Rattle.syslog_elements.proofs.Names.{ElementValue, chars-nil, elements_text, optional, optional_some}
 use Rattle.syslog_text.proofs.PieceLemmas.Class.{optional_det}
-use Rattle.syslog_elements.specs.StructuredData.Pairs.{pairs}
+use Rattle.syslog_elements.{proofs.StructuredDataLemmas.Walk.one_meaning, specs.StructuredData.Pairs.pairs}
 use Rattle.syslog_elements.proofs.StructuredDataLemmas.Elements.{item_det, no_items_here}
-use Rattle.syslog_elements.proofs.StructuredDataLemmas.Pairs.{pairs_are, pairs_det}
-use Rattle.syslog_elements.proofs.StructuredDataLemmas.Unparsed.{nothing_leaves}
-use Rattle.syslog_elements.proofs.StructuredDataLemmas.Walk.{one_meaning}
+use Rattle.syslog_elements.proofs.StructuredDataLemmas.{Pairs.pairs_are, Pairs.pairs_det, Unparsed.nothing_leaves}
 use Rattle.syslog_elements.proofs.structured_data.recognised.ElementList.of_pairs.Goals as goal
 
 pub invariant_of-result : goal.invariant_of-result

@@ -1,8 +1,7 @@
 use Rattle.syslog_elements.proofs.Names.{rules, refl, chars, [], subst, nil_from_length}
 use Rattle.syslog_text.proofs.TextLemmas.Runs.{chars_empty, chars_nonempty}
-use Rattle.syslog_elements.specs.StructuredData.Unparsed.{IsUnparsed}
+use Rattle.syslog_elements.{proofs.StructuredDataLemmas.Unparsed.any_of_some, specs.StructuredData.Unparsed.IsUnparsed}
 use Rattle.syslog_elements.proofs.StructuredDataLemmas.Pairs.{nothing_left, some_left_in}
-use Rattle.syslog_elements.proofs.StructuredDataLemmas.Unparsed.{any_of_some}
 use Rattle.syslog_elements.proofs.structured_data.recognised.ElementList.unparsed.Goals as goal
 
 pub returns-then-is_empty : goal.returns-then-is_empty

@@ -1,11 +1,9 @@
-use Rattle.syslog_elements.proofs.Names.{rules, ap, sym, subst, ◌∙◌, ℕ, chars}
-use Rattle.syslog_elements.proofs.Names.{IsDead, strict, optional, optional_none, chars-nil}
+use Rattle.syslog_elements.proofs.Names.{rules, ap, sym, subst, ◌∙◌, ℕ, chars, IsDead, strict, optional, optional_none}
+use Rattle.syslog_elements.{proofs.Names.chars-nil, specs.StructuredData.Pairs.pairs}
 use Rattle.syslog_text.proofs.PieceLemmas.Class.{optional_det}
-use Rattle.syslog_elements.specs.StructuredData.Pairs.{pairs}
-use Rattle.syslog_elements.proofs.StructuredDataLemmas.Closing.{dead_suffix, dead_least}
+use Rattle.syslog_elements.proofs.StructuredDataLemmas.{Closing.dead_suffix, Closing.dead_least, Pairs.strict_left}
 use Rattle.syslog_elements.proofs.StructuredDataLemmas.Elements.{element_item, no_item, bracketed_item}
 use Rattle.syslog_elements.proofs.StructuredDataLemmas.Pairs.{after_item, after_pairs, no_pairs_empty, pairs_det}
-use Rattle.syslog_elements.proofs.StructuredDataLemmas.Pairs.{strict_left}
 use Rattle.syslog_elements.proofs.StructuredDataLemmas.Walk.{items_less, no_elements, one_meaning}
 use Rattle.syslog_elements.proofs.structured_data.recognised_items.ElementsIterator.next.Goals as goal
 
