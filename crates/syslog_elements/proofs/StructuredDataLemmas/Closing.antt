@@ -259,14 +259,6 @@ module _ {test : ℕ → Bool} (a : AllPlain test) {text bs xs ys : Text} (s : S
         cc (s.characters, e, f, append_assoc a (93 ∷ []) q, append_assoc (chars xs) a (93 ∷ q)) in
         meets_none _ _ _ _ (closing_goes value_on) (i (chars xs ++ a) q before k)
 
--- what follows a unit after a run is shorter than the text
-pub unit_after : {test : ℕ → Bool} {bs xs ys : List ℕ} (q : Text) → SplitsRun test bs xs ys → (u : TextUnit)
-    → chars ys ≡ unit_text u ++ q → length q < length (chars bs)
-unit_after {xs = xs} {ys = ys} q s (pair c) e =
-    omega (arith, ap length s.characters, length-append (chars xs) (chars ys), ap length e)
-unit_after {xs = xs} {ys = ys} q s (single c) e =
-    omega (arith, ap length s.characters, length-append (chars xs) (chars ys), ap length e)
-
 -- where no quote ends the value
 pub value_missing : (text t : Text) → Meets quoted text quoted t → NoFront quoted t
     → NoFront closing text × IsDead text 0

@@ -300,10 +300,6 @@ pub nothing_left : (bs us : List ℕ) → chars us ≡ [] → left_in bs us ≡ 
 nothing_left [] us none = refl
 nothing_left (b ∷ bs) us none = none
 
-pub none_left_in : (bs us : List ℕ) → length bs ≡ 0 → left_in bs us ≡ []
-none_left_in [] us none = refl
-none_left_in (b ∷ bs) us none = absurd (omega (arith, none))
-
 pub some_left_in : (bs us : List ℕ) → 0 < length bs → left_in bs us ≡ chars us
 some_left_in [] us some = absurd (omega arith)
 some_left_in (b ∷ bs) us some = refl

@@ -151,10 +151,6 @@ pub means_more : {t r r' out front out' : Text} → MeansFirst t out r → Means
     → MeansFirst t out' r'
 means_more {front = front} m n e = record { on = λ w i. rw (e, append_assoc) (m.on (front ++ w) (n.on w i)) }
 
--- all that it means was taken
-pub means_all : {t r out : Text} → MeansFirst t out r → IsUnescaped r [] → IsUnescaped t out
-means_all m i = rw append-nil at (m.on [] i)
-
 means_nothing : {t : Text} (lone : Bool) → t ≡ lone_backslash lone → IsUnescaped t []
 means_nothing lone e =
     record { units = []; lone = lone; split = record { whole = e; each = tt }; means = refl }
@@ -360,12 +356,6 @@ unlike_lists text xs ys differ =
           ∙ length_of_counts _ _ (same_params-counts (map view xs) (map view ys) same) ∙ length-map ys view))
       | inr unlike ↦ sym unlike
     ]
-
--- one copy more, of the next item
-pub copies_more : {X Y V : Type 0} (f : X → V) (h : Y → V) (xs : List X) {x : X} (ys : List Y) {new : List Y}
-    {y : Y} → map h ys ≡ map f xs → new ≡ ys ++ (y ∷ []) → h y ≡ f x → map h new ≡ map f (xs ++ (x ∷ []))
-copies_more f h xs {x} ys {new} {y} so_far e same =
-    ap (map h) e ∙ rw (map-append h ys (y ∷ []), map-append f xs (x ∷ []), so_far, same) refl
 
 -- one parameter more that is the same in both
 pub front_more : {S : Type 0} (text : S → Text) (xs ys : List (S × S)) (i : ℕ) (x y : S × S) → i < length xs → i <
