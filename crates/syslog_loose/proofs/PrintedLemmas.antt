@@ -7,12 +7,12 @@ use Rattle.syslog_loose.proofs.Names.{severity_there, ℕ, timestamp_text, Syslo
 use Rattle.syslog_loose.proofs.Names.{append_assoc, ElementValue, element_text, option_map_or, nat_tests, encodes_shown}
 use Rattle.syslog_loose.proofs.Names.{MessageValue, facility_of, severity_of, printed_row, piece_front, priority_of, []}
 use Rattle.syslog_loose.proofs.Names.{rules, number_back, rest_whole, row_pieces, clock_value, protocol_of, encode_utf8}
-use Rattle.syslog_loose.proofs.Names.{stamp_seen, no_truth, row_head, ClockStamp, line_value, rest_text, ap, length-map}
-use Rattle.syslog_loose.proofs.Names.{IsSome, classes, is_blank, exactly, decimal, priority, printed, RFC3164, put_four}
-use Rattle.syslog_loose.proofs.Names.{false, nat_eq, Option, length, Values, Format, ◌then◌, row_of, number, put_two}
-use Rattle.syslog_loose.proofs.Names.{◌&&◌, subst, arith, Class, Front, ◌++◌, Bool, true, cond, Some, None, List, refl}
-use Rattle.syslog_loose.proofs.Names.{◌+◌, ◌≡◌, Text, Each, Ends, rest, Line, ◌<◌, ◌∷◌, ◌∙◌, inl, inr, not, sym, Row}
-use Rattle.syslog_loose.proofs.Names.{run, ◌≤◌, ◌≢◌}
+use Rattle.syslog_loose.proofs.Names.{put_five, stamp_seen, no_truth, ClockStamp, line_value, rest_text, ap, length-map}
+use Rattle.syslog_loose.proofs.Names.{row_head, classes, is_blank, exactly, decimal, priority, printed, put_four, false}
+use Rattle.syslog_loose.proofs.Names.{IsSome, RFC3164, nat_eq, Option, length, Values, Format, ◌then◌, row_of, put_two}
+use Rattle.syslog_loose.proofs.Names.{number, ◌&&◌, subst, arith, Class, Front, ◌++◌, Bool, true, cond, Some, None, ◌+◌}
+use Rattle.syslog_loose.proofs.Names.{List, refl, ◌≡◌, Text, Each, Ends, rest, Line, ◌<◌, ◌∷◌, ◌∙◌, inl, inr, not, sym}
+use Rattle.syslog_loose.proofs.Names.{Row, run, ◌≤◌, ◌≢◌}
 use Rattle.syslog_text.proofs.PieceLemmas.Lists.{printed_more}
 use Rattle.syslog_pieces.{proofs.PriLemmas.as_priority, specs.Pri.priority_row}
 use Rattle.syslog_loose.specs.{Bodies.Cases.printed_number, Canonical.EndsVisibly}
@@ -198,16 +198,7 @@ priority_trimmed n q =
 -- what is written piece by piece is the encoded text
 pub ruleset encoded = (append_assoc, encodes-append, encodes-decimal)
 
-pub ruleset put_encoded = (encodes_shown, put_two, put_four, printed_stamp-bytes, encoded)
-
--- what is written after the timestamp, field by field, is the encoded rest
-pub written_rest : (host app process id elements msg : Text) (m : List ℕ) → encode_utf8_all msg ≡ m
-    → (32 ∷ encode_utf8_all host) ++ (((32 ∷ encode_utf8_all app) ++ ((32 ∷ encode_utf8_all process)
-    ++ (32 ∷ encode_utf8_all id))) ++ ((32 ∷ []) ++ (encode_utf8_all elements ++ (32 ∷ m))))
-    ≡ encode_utf8_all
-    (32 ∷ (host ++ (32 ∷ (app ++ (32 ∷ (process ++ (32 ∷ (id ++ (32 ∷ (elements ++ (32 ∷ msg)))))))))))
-unfolding encode_utf8
-written_rest host app process id elements msg m e = simp (encoded, e)
+pub ruleset put_encoded = (encodes_shown, put_two, put_four, put_five, printed_stamp-bytes, encoded)
 
 -- what is written, field by field, is the encoded text
 pub written_5424 : (pri priority version : ℕ) (stamp host app process id shown elements msg : Text) (m : List ℕ) → pri

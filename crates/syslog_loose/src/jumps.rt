@@ -64,9 +64,7 @@ fn last_colons<'a>(line: &Line<'a>) -> Option<(&'a str, usize)>
     if !is_canonical_clock(line.timestamp) {
         return None;
     }
-    let Some(name) = line.hostname else {
-        return None;
-    };
+    let name = line.hostname?;
     let (host, cut) = cut_colons(name);
     if cut == 0 { None } else { Some((host, cut)) }
 }

@@ -66,6 +66,7 @@ fn write_rest<W: fmt::Write>(f: &mut fmt::Formatter<W>, line: &Line<'_>) -> fmt:
 }
 
 // Writes the rest of a line of RFC 5424.
+#[tactic(auto, using(crate::proofs::PrintedLemmas::put_encoded), unfolding(crate::proofs::Names::encode_utf8))]
 fn write_rest_5424<W: fmt::Write>(f: &mut fmt::Formatter<W>, line: &Line<'_>) -> fmt::Result
     ensures { WritesOnOk W.write_str_gives f.old result (encode_utf8_all (rest_5424 (line_value line.now))) f.new }
 {
