@@ -8,10 +8,9 @@ ghost use Rattle.syslog_loose.specs.Words.{Visits, header_stamp, stamp_seen, dat
 ghost use Rattle.syslog_text.specs.Text.{trimmed as trimmed_text};
 ghost use Rattle.syslog_pieces.specs.Timestamp.Zone.{Dating as AnyDating};
 ghost use Rattle.syslog_loose.specs.declared.variant.Variant.TheVariants.{RFC3164};
-ghost use Rattle.syslog_loose.specs.Clauses.{KnowsForm, AnswersEachMonth, InYear, IsUnreadable};
-ghost use Rattle.syslog_loose.specs.Clauses.{IsLine3164, IsLine5424, IsNot5424, BeginsWith, BeginsWithout};
-ghost use Rattle.syslog_loose.specs.Clauses.{IsAfterPriority, IsAfterStamp, IsLineOf, Made, Line, Variant};
-ghost use Rattle.syslog_loose.specs.Clauses.{incomplete, HasDateForm, MadeOf};
+ghost use Rattle.syslog_loose.specs.Clauses.{KnowsForm, AnswersEachMonth, InYear, IsUnreadable, IsLine3164, IsLine5424};
+ghost use Rattle.syslog_loose.specs.Clauses.{IsNot5424, BeginsWith, BeginsWithout, IsAfterPriority, IsAfterStamp};
+ghost use Rattle.syslog_loose.specs.Clauses.{IsLineOf, Made, Line, Variant, incomplete, HasDateForm, MadeOf};
 
 use crate::date_form::{DateForm, form_of};
 use crate::line::Line;
@@ -192,6 +191,7 @@ pub fn visit_line<'a, F: FnOnce(IncompleteDate) -> i32, E: ElementVisitor<'a>, V
 /// Returns what `visit_line` does, and sets `form` to the form of the date that the text shows. The other arguments are
 /// those of `visit_line`.
 #[inline(always)]
+#[tactic(auto, using(crate::proofs::ReadingLemmas::asks_none, crate::proofs::ReadingLemmas::undated_invalid))]
 pub fn visit_dated_line<
     'a,
     F: FnOnce(IncompleteDate) -> i32,

@@ -32,9 +32,6 @@ returns-in-Some-visit_5424-clause-makes g c =
     unasked (asks_none c.args.variant whole f c.in-None.ensures) (λ year.
     (line, line_5424 c.args.variant (dating_of year c.args.tz c.args.local) line read, makes, given))
 
-pub returns-in_default-front_stamp-clause-makes : goal.returns-in_default-front_stamp-clause-makes
-returns-in_default-front_stamp-clause-makes g c = search (rules, asks_none, undated_invalid)
-
 pub returns-clause-makes : goal.returns-clause-makes
 returns-clause-makes g c =
     let f = rw c.trimmed.ensures at c.optional_priority-priority.ensures in
