@@ -1,15 +1,11 @@
 //! Laws over the definitions alone: each function does nothing, and its contract is the law.
 ghost use Rattle.std.specs.Prelude.{◌≡◌, ◌↔◌, Bool, false, List, Result, String, IsTrue};
-ghost use Rattle.std.specs.Borrow.{Bor};
-ghost use Rattle.std.specs.Global.{Global};
-ghost use Rattle.syslog_elements.specs.Words.{Drains, NoFront, text_of, IsValue, item, AllByRecursion, Text};
-ghost use Rattle.syslog_elements.specs.Words.{element_value, BeginsNoList, rfc3164_list, elements_text, forgiving};
-ghost use Rattle.syslog_elements.specs.Words.{ElementValue};
-ghost use Rattle.std.specs.declared.alloc.AllocError.{AllocError};
+ghost use Rattle.std.specs.{Borrow.Bor, Global.Global, declared.alloc.AllocError.AllocError};
+ghost use Rattle.syslog_elements.specs.Words.{AllByRecursion, element_value, BeginsNoList, rfc3164_list, elements_text};
+ghost use Rattle.syslog_elements.specs.Words.{Drains, NoFront, text_of, IsValue, item, Text, forgiving, ElementValue};
 ghost use Rattle.syslog_elements.specs.StructuredData.Escapes.{TextUnit, SplitsUnits, IsUnescaped, IsUnquoted, escaped};
 ghost use Rattle.syslog_elements.specs.StructuredData.Params.{NextParam, AreParamItems};
-ghost use Rattle.syslog_elements.specs.StructuredData.Equal.{IsSameInSomeOrder};
-ghost use Rattle.syslog_elements.specs.StructuredData.Canonical.{IsCanonicalElement};
+ghost use Rattle.syslog_elements.specs.StructuredData.{Canonical.IsCanonicalElement, Equal.IsSameInSomeOrder};
 ghost use Rattle.syslog_elements.specs.declared.structured_data.rfc3164_list.DashRule.{DashRule};
 ghost use Rattle.syslog_elements.specs.declared.structured_data.StructuredElement.{StructuredElement};
 

@@ -19,8 +19,7 @@ pub struct Dates {
 impl Dates {
     ghost use Rattle.std.specs.Prelude.{◌≡◌};
     ghost use Rattle.jiff.specs.Words.{IsOffsetSeconds, plain_zone};
-    ghost use Rattle.syslog_loose.specs.Reckoning.{IsZoneAt};
-    ghost use Rattle.syslog_loose.specs.Today.{HasYear, IsYearIn};
+    ghost use Rattle.syslog_loose.specs.{Reckoning.IsZoneAt, Today.HasYear, Today.IsYearIn};
 
     /// Returns a `Dates` for this current day and this zone.
     pub fn new(today: Today, zone: TimeZone<'static>) -> Dates

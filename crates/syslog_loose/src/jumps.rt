@@ -7,10 +7,9 @@ ghost use Rattle.std.specs.Prelude.{◌≡◌, ◌+◌, ◌++◌, ◌<◌, ◌�
 ghost use Rattle.std.specs.List.{repeat};
 ghost use Rattle.syslog_loose.specs.Words.{ℕ, [], IfSome, MatchOption, None, OnOk, Some, length, string_bytes, chars};
 ghost use Rattle.syslog_loose.specs.Words.{encode_utf8_all, Text, shown, list_elements, EndsInColon, IsCanonicalStamp};
-ghost use Rattle.syslog_loose.specs.Words.{Dating};
+ghost use Rattle.syslog_loose.specs.{Clauses.EndsOnce, Clauses.IsLater, Clauses.IsRead, Clauses.Variant, Words.Dating};
 ghost use Rattle.syslog_loose.specs.Clauses.{CutsColons, EndsColons, IsDashed, PassesDashes, colons, colons_before};
 ghost use Rattle.syslog_loose.specs.Clauses.{message_end, past_colons, tail_text, with_msg, line_value, printed};
-ghost use Rattle.syslog_loose.specs.Clauses.{EndsOnce, IsLater, IsRead, Variant};
 
 use crate::line::{Line, has_quiet_names, print_line};
 use std::alloc::AllocError;

@@ -2,10 +2,9 @@
 ghost use Rattle.std.specs.Prelude.{◌≡◌, ◌↔◌};
 ghost use Rattle.syslog_loose.specs.Words.{Option, Text, Division, NoFront, Row, Values, ShowsMonthDate, Dating};
 ghost use Rattle.syslog_loose.specs.Words.{DashRule, MonthDate, NoDivision, ShowsYearless};
-ghost use Rattle.syslog_loose.specs.declared.message.Protocol.TheVariants.{RFC3164};
+ghost use Rattle.syslog_loose.specs.{Clauses.IsNot5424, Clauses.IsForm, declared.message.Protocol.TheVariants.RFC3164};
 ghost use Rattle.syslog_loose.specs.Clauses.{MessageValue, printed, IsRead, IsQuoted, Variant, Names3164, Resolves};
 ghost use Rattle.syslog_loose.specs.Clauses.{rfc3164_row, IsRead3164, Quotes3164, stamped_row, rfc5424_row, IsRead5424};
-ghost use Rattle.syslog_loose.specs.Clauses.{IsNot5424, IsForm};
 
 pub mod comparison;
 pub mod dash_change;

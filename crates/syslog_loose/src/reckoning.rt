@@ -2,8 +2,7 @@
 //!
 //! The programs and the library for C use it, so that all of them complete such dates in one way.
 ghost use Rattle.std.specs.Prelude.{◌≡◌, ◌↔◌, ◌+ℤ◌, IsTrue, None, pos, ℕ, ℤ};
-ghost use Rattle.jiff.specs.Words.{epoch_day, read_whole};
-ghost use Rattle.jiff.specs.Placed.{IsPosixZone};
+ghost use Rattle.jiff.specs.{Placed.IsPosixZone, Words.epoch_day, Words.read_whole};
 ghost use Rattle.syslog_loose.specs.Words.{MatchOption, plain_zone, IsOffsetSeconds, IsYear};
 ghost use Rattle.syslog_loose.specs.Reckoning.{IsDateBy, IsYearOnDay, IsZoneAt, reckoned_year};
 

@@ -5,11 +5,10 @@
 //! the pieces from the left, by the readers of the crates below. `resolve` says what the host field and the tag field
 //! mean together.
 ghost use Rattle.std.specs.Prelude.{◌≡◌};
-ghost use Rattle.syslog_loose.specs.Words.{chars, Text, seen, list_elements, Visits};
-ghost use Rattle.syslog_loose.specs.Words.{trimmed, Dating, field_seen};
+ghost use Rattle.syslog_loose.specs.Words.{chars, Text, seen, list_elements, Visits, trimmed, Dating, field_seen};
 ghost use Rattle.syslog_loose.specs.Rfc3164 as spec;
-ghost use Rattle.syslog_loose.specs.Clauses.{KnowsForm, FieldsAreRead, IsAfterStamp, IsIdOf, IsLine3164};
-ghost use Rattle.syslog_loose.specs.Clauses.{names_value, NamesHost, NamesProgram};
+ghost use Rattle.syslog_loose.specs.Clauses.{KnowsForm, FieldsAreRead, IsAfterStamp, IsIdOf, IsLine3164, names_value};
+ghost use Rattle.syslog_loose.specs.Clauses.{NamesHost, NamesProgram};
 
 use crate::line::Line;
 use crate::rfc5424::{are_all, is_bare};

@@ -1,7 +1,6 @@
 //! The form `tag[id]` of a program's name in RFC 3164. Section 5.3 shows it by example; where it ends is the Rust
 //! crate's rule.
-ghost use Rattle.syslog_loose.specs.Words.{MatchOption, chars, shown};
-ghost use Rattle.syslog_loose.specs.TagForm.{IsForm, IsNoForm};
+ghost use Rattle.syslog_loose.specs.{TagForm.IsForm, TagForm.IsNoForm, Words.MatchOption, Words.chars, Words.shown};
 
 use syslog_text::text::{CharClass, literal, split_run};
 

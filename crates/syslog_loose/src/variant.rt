@@ -1,7 +1,6 @@
 //! What a caller says of how a text is to be read: by which protocol, and which year a date without one is of.
 ghost use Rattle.std.specs.Prelude.{◌≡◌, ◌≢◌};
-ghost use Rattle.syslog_loose.specs.Words.{MatchBool};
-ghost use Rattle.syslog_loose.specs.ReadBack.{ReadsProtocol};
+ghost use Rattle.syslog_loose.specs.{ReadBack.ReadsProtocol, Words.MatchBool};
 ghost use Rattle.syslog_loose.specs.declared.message.Protocol.TheVariants as protocol;
 ghost use Rattle.syslog_loose.specs.declared.variant.Variant.TheVariants as variants;
 

@@ -1,7 +1,6 @@
 //! The parameters of an element, one after the other.
 ghost use Rattle.std.specs.Prelude.{◌≡◌, List};
-ghost use Rattle.syslog_elements.specs.Words.{item_count};
-ghost use Rattle.syslog_elements.specs.StructuredData.Params.{NextParam};
+ghost use Rattle.syslog_elements.specs.{StructuredData.Params.NextParam, Words.item_count};
 
 use super::escapes::unescape;
 use std::alloc::{AllocError, Global};

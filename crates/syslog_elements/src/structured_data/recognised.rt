@@ -1,12 +1,9 @@
 //! Elements and lists that were recognised and not collected: they are `Copy`, and hold no memory of their own.
 ghost use Rattle.std.specs.Prelude.{◌≡◌, ◌≢◌, ◌++◌, ◌<◌, IfSome, IsTrue, length, sum_by, chars, IsUtf8};
 ghost use Rattle.std.proofs.Props.{props};
-ghost use Rattle.syslog_elements.specs.Bodies.Closing.{inside as inside_class};
-ghost use Rattle.syslog_text.specs.Pieces.Class.{Text, optional};
-ghost use Rattle.syslog_text.specs.Pieces.Lists.{many};
-ghost use Rattle.syslog_text.specs.Pieces.View.{seen, shown};
+ghost use Rattle.syslog_elements.specs.{Bodies.Closing.inside as inside_class, StructuredData.Element.elements_text};
+ghost use Rattle.syslog_text.specs.Pieces.{Class.Text, Class.optional, Lists.many, View.seen, View.shown};
 ghost use Rattle.syslog_elements.specs.StructuredData.{item as item_class, strict as strict_of};
-ghost use Rattle.syslog_elements.specs.StructuredData.Element.{elements_text};
 ghost use Rattle.syslog_elements.specs.StructuredData.Unparsed.{IsUnparsed, if_any as any_of};
 ghost use Rattle.syslog_elements.specs.StructuredData.Pairs.{inside_of, left_in, paired_element, pairs as pairs_class};
 ghost use Rattle.syslog_elements.specs.StructuredData.Pairs.{pairs_in, with_pairs};

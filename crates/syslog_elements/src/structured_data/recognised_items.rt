@@ -1,10 +1,7 @@
 //! The elements of a recognised list, and the parameters of a recognised element, one after the other.
-ghost use Rattle.std.specs.Prelude.{◌≡◌, chars, IsUtf8};
-ghost use Rattle.std.proofs.Props.{props};
-ghost use Rattle.syslog_elements.specs.Bodies.Closing.{IsDead};
-ghost use Rattle.syslog_text.specs.Pieces.Class.{optional};
-ghost use Rattle.syslog_text.specs.Pieces.Lists.{many};
-ghost use Rattle.syslog_elements.specs.StructuredData.{item as item_class};
+ghost use Rattle.std.{proofs.Props.props, specs.Prelude.◌≡◌, specs.Prelude.chars, specs.Prelude.IsUtf8};
+ghost use Rattle.syslog_elements.specs.{Bodies.Closing.IsDead, StructuredData.item as item_class};
+ghost use Rattle.syslog_text.specs.Pieces.{Class.optional, Lists.many};
 ghost use Rattle.syslog_elements.specs.StructuredData.Pairs.{inside_of, pairs as pairs_class};
 ghost use Rattle.syslog_elements.specs.StructuredData.Recognised.{OneMeaning, OneInside-prop, OneItems-prop};
 ghost use Rattle.syslog_elements.specs.StructuredData.Recognised.{OnePairs-prop};

@@ -2,9 +2,8 @@
 //! whether it is already in printed form.
 ghost use Rattle.std.specs.Prelude.{◌≡◌, ◌↔◌, ◌++◌, ◌<◌, ◌∷◌, IfOk, IfSome, IsTrue, MatchOption, MatchResult, chars};
 ghost use Rattle.std.specs.Prelude.{length};
-ghost use Rattle.syslog_elements.specs.Bodies.Closing.{IsDead};
+ghost use Rattle.syslog_elements.specs.{Bodies.Closing.IsDead, StructuredData.element as element_class};
 ghost use Rattle.syslog_elements.specs.Words.{Front, NoFront, run, shown, full_element, IsWalked, element_seen};
-ghost use Rattle.syslog_elements.specs.StructuredData.{element as element_class};
 ghost use Rattle.syslog_text.specs.Text as spec;
 
 use super::recognise::{live_value, nonempty_run, open_param, value_before};

@@ -2,10 +2,9 @@
 ghost use Rattle.std.specs.Prelude.{◌≡◌, ◌↔◌, ◌⊎◌};
 ghost use Rattle.syslog_loose.specs.Words.{ℕ, IfSome, IsSome, Text, IsCanonicalStamp, Dating, DashRule};
 ghost use Rattle.syslog_loose.specs.declared.message.Protocol.TheVariants.{RFC3164};
-ghost use Rattle.syslog_loose.specs.Clauses.{IsBounded, IsCanonical, HasNoQuirk, HasQuirksAlone};
-ghost use Rattle.syslog_loose.specs.Clauses.{IsNearlyCanonical, IsOfMonthDate, MessageValue, IsOneLine, printed};
-ghost use Rattle.syslog_loose.specs.Clauses.{ReadsProtocol, dash_rule, IsRead, IsOnlyRead, IsRead3164, IsRead5424};
-ghost use Rattle.syslog_loose.specs.Clauses.{RFC5424, Variant};
+ghost use Rattle.syslog_loose.specs.Clauses.{IsBounded, IsCanonical, HasNoQuirk, HasQuirksAlone, IsNearlyCanonical};
+ghost use Rattle.syslog_loose.specs.Clauses.{IsOfMonthDate, MessageValue, IsOneLine, printed, ReadsProtocol, dash_rule};
+ghost use Rattle.syslog_loose.specs.Clauses.{IsRead, IsOnlyRead, IsRead3164, IsRead5424, RFC5424, Variant};
 
 /// The printed text of a message of RFC 5424 is read as the same message exactly if the message is canonical, under
 /// either rule of the dash.

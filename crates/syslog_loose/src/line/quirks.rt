@@ -1,10 +1,9 @@
 //! The quirks, tested on the fields of a line. What was read as RFC 3164 meets all else of the written condition but
 //! for an absent facility and severity, so without a quirk its printed text is stable. The tests look at a few bytes.
 ghost use Rattle.std.specs.Prelude.{◌≡◌, ◌≢◌, ◌↔◌};
-ghost use Rattle.syslog_loose.specs.Words.{IfSome, IsTrue, MatchBool, option_map, seen, shown};
-ghost use Rattle.syslog_loose.specs.Words.{procid_value, EndsInColon, dash};
+ghost use Rattle.syslog_loose.specs.Words.{IfSome, IsTrue, MatchBool, option_map, seen, shown, procid_value};
+ghost use Rattle.syslog_loose.specs.{Clauses.line_value, Clauses.dash_rule, Words.EndsInColon, Words.dash};
 ghost use Rattle.syslog_loose.specs.Quirks as spec;
-ghost use Rattle.syslog_loose.specs.Clauses.{line_value, dash_rule};
 
 use super::Line;
 use crate::message::begins_no_list;

@@ -1,8 +1,7 @@
 //! Copies of messages. The memory for each list is allocated once, at its final size.
 ghost use Rattle.std.specs.Prelude.{◌≡◌};
 ghost use Rattle.syslog_loose.specs.Words.{option_map, IfOk, map, string_bytes, shown, text_of, procid_value};
-ghost use Rattle.syslog_loose.specs.Words.{element_value, ClonesKeepText};
-ghost use Rattle.syslog_loose.specs.Message.{message_value};
+ghost use Rattle.syslog_loose.specs.{Message.message_value, Words.element_value, Words.ClonesKeepText};
 
 use super::Message;
 use std::alloc::{AllocError, Global};

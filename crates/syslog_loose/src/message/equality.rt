@@ -1,7 +1,6 @@
 //! Equality of messages: all fields but the protocol are compared. Nothing is allocated.
-ghost use Rattle.std.specs.Prelude.{◌≡◌};
+ghost use Rattle.std.specs.{Cmp.on_per, Cmp.partial_equiv_from_equiv, Prelude.◌≡◌};
 ghost use Rattle.syslog_loose.specs.Words.{option_eq, option_map, text_eq, text_of, facility_eq, severity_eq, on};
-ghost use Rattle.std.specs.Cmp.{on_per, partial_equiv_from_equiv};
 ghost use Rattle.syslog_loose.specs.Clauses.{message_eq, message_equivalence, message_value};
 
 use super::Message;

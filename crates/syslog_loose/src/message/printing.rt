@@ -1,8 +1,7 @@
 //! The parts of a printed message. Each field is written after a space, and as `-` if it is absent.
 ghost use Rattle.std.specs.Prelude.{◌≡◌, ◌∷◌};
 ghost use Rattle.syslog_loose.specs.Words.{WritesOnOk, option_map, map, encode_utf8_all, text_of, procid_value};
-ghost use Rattle.syslog_loose.specs.Words.{element_value};
-ghost use Rattle.syslog_loose.specs.Bodies.Cases.{printed_number};
+ghost use Rattle.syslog_loose.specs.{Bodies.Cases.printed_number, Words.element_value};
 ghost use Rattle.syslog_loose.specs.Printed as spec;
 
 use super::priority;
