@@ -46,15 +46,8 @@ sign_det = numeric_det.0
 pub small_pair_det : (limit : ℕ) → nat_le limit 100 ≡ true → IsDeterministic (pair limit)
 small_pair_det limit small = pair_det limit (grind (arith, nat_tests))
 
-pub ruleset of_dates = (
-  small_pair_det,
-  year_det,
-  sign_det,
-  point_det,
-  middle_sign_det,
-  whole_year_det,
-  decimals_det,
-  month_date_det,
-)
+pub ruleset of_numbers = (small_pair_det, year_det, whole_year_det, decimals_det)
+
+pub ruleset of_dates = (of_numbers, sign_det, point_det, middle_sign_det, month_date_det)
 
 pub ruleset determined = (of_text, otherwise_det, beginning_det, ended_det, unless_det, of_dates, of_others)

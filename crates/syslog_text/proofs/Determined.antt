@@ -15,9 +15,12 @@ none_det = tt
 pub more_det : (C : Class) (Cs : List Class) → IsDeterministic C → AllDeterministic Cs → AllDeterministic (C ∷ Cs)
 more_det C Cs d ds = (d, ds)
 
-pub ruleset of_text = (run_det, some_run_det, short_run_det, exactly_det, rest_det, number_det, numeral_det, word_det,
-    tag_word_det, host_det)
+pub ruleset of_words = (number_det, numeral_det, word_det, tag_word_det, host_det)
 
-pub ruleset of_others = (none_det, more_det, optional_det, mapped_det, texted_det, row_det, after_det, such_det, many_det)
+pub ruleset of_text = (run_det, some_run_det, short_run_det, exactly_det, rest_det, of_words)
+
+pub ruleset of_rows = (none_det, more_det, row_det, many_det)
+
+pub ruleset of_others = (of_rows, optional_det, mapped_det, texted_det, after_det, such_det)
 
 pub ruleset determined = (of_text, of_others)

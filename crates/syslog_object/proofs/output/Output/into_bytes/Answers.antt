@@ -13,7 +13,8 @@ returns c =
     let piece = take count (drop start out.bytes.items) in
     let rest = drop (0 + count) out.bytes.items in
     let long : length piece ≡ count =
-    length-take-le count (drop start out.bytes.items) (omega (arith, length-drop start out.bytes.items, c.self.invariant)) in
+    length-take-le count (drop start out.bytes.items)
+    (omega (arith, length-drop start out.bytes.items, c.self.invariant)) in
     c.truncate.ensures.items ∙ ap (take count) c.copy_within.ensures.items
     ∙ ap (λ (k : ℕ). take k (piece ++ rest)) (sym long) ∙ take-append_seam piece rest
     ∙ sym (drop-take start count out.bytes.items) ∙ ap (λ (k : ℕ). drop start (take k out.bytes.items)) at
