@@ -5,7 +5,7 @@ use Rattle.syslog_named_forms.proofs.Names.{compact_row, enclosed_row, event_row
 use Rattle.syslog_named_forms.proofs.Names.{graded_row, hardware_row, host_row, hostless_row, of_forms}
 use Rattle.syslog_named_forms.proofs.Names.{IsDeterministic, leef_row, leveled_row, log_row}
 use Rattle.syslog_named_forms.proofs.Names.{mapped_det, monotonic_row, NamedTexts, numbered_row, object_row}
-use Rattle.syslog_named_forms.proofs.Names.{otherwise_det, padded_row, passed_on, point_word}
+use Rattle.syslog_named_forms.proofs.Names.{otherwise_det, padded_row, passed_on}
 use Rattle.syslog_named_forms.proofs.Names.{Row, row_det, seconds_row, serial}
 use Rattle.syslog_named_forms.proofs.Names.{serial_of, serial_row, severity_row, sourced_row, spread_row}
 use Rattle.syslog_named_forms.proofs.Names.{threaded_row, titled_row, untagged_row, worded_row}
@@ -60,9 +60,6 @@ forwarded_det = search of_forms depth 32
 
 pub passed_on_det : IsDeterministic passed_on
 passed_on_det = search of_forms depth 32
-
-pub point_word_det : IsDeterministic point_word
-point_word_det = search of_forms depth 32
 
 pub addressed_det : AllDeterministic addressed_row
 addressed_det = search of_forms depth 32

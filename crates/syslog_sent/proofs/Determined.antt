@@ -1,15 +1,12 @@
 -- That one text has one front of a class, or of each class of a row, as `search determined depth 60` finds it.
-use Rattle.std.proofs.Common.{◌≡◌, inl, inr, ℕ, true, [], ◌∷◌, sym, ap, arith}
-use Rattle.std.proofs.lemmas.Bool.Decides.{nat_tests}
-use Rattle.std.specs.Prelude.{nat_le}
+use Rattle.std.proofs.Common.{◌≡◌, inl, inr, [], ◌∷◌, sym, ap, arith}
 use Rattle.syslog_text.specs.Pieces.Class.{Class, IsDeterministic, exactly}
 use Rattle.syslog_text.specs.Pieces.Rules.{◌or◌}
 use Rattle.syslog_text.proofs.Determined.{of_text, of_others}
 use Rattle.syslog_text.proofs.PieceLemmas.Class.{exactly_det, rest_det}
 use Rattle.syslog_text.proofs.PieceLemmas.Rules.{exactly_apart, or_det}
-use Rattle.syslog_pieces.specs.Timestamp.Rfc3339.{pair, sign}
 use Rattle.syslog_pieces.proofs.TimestampLemmas.MonthDate.{month_date_det}
-use Rattle.syslog_pieces.proofs.TimestampLemmas.Rfc3339.{pair_det, year_det, decimals_det, numeric_det}
+use Rattle.syslog_pieces.proofs.TimestampLemmas.Rfc3339.{decimals_det, sign_det, small_pair_det, year_det}
 use Rattle.syslog_sent.specs.Date.{point, unless, whole_year}
 use Rattle.syslog_sent.specs.Named.{◌otherwise◌, beginning}
 use Rattle.syslog_sent.specs.Zone.{ended}
@@ -39,12 +36,6 @@ middle_sign_det = or_det (exactly_det _) (exactly_det _)
 
 pub whole_year_det : IsDeterministic whole_year
 whole_year_det p q p' q' v v' e h h' = year_det p q p' q' v v' e h.0 h'.0
-
-pub sign_det : IsDeterministic sign
-sign_det = numeric_det.0
-
-pub small_pair_det : (limit : ℕ) → nat_le limit 100 ≡ true → IsDeterministic (pair limit)
-small_pair_det limit small = pair_det limit (grind (arith, nat_tests))
 
 pub ruleset of_numbers = (small_pair_det, year_det, whole_year_det, decimals_det)
 

@@ -3,25 +3,23 @@
 use Rattle.syslog_strict.proofs.Words.{◌≡◌, ◌≢◌, inl, inr, ℕ, ◌+◌, ◌/◌, ◌<◌, Bool, true, false, List, [], ◌∷◌, ◌++◌}
 use Rattle.syslog_strict.proofs.Words.{length, map, refl, sym, ap, ◌∙◌, arith, append_assoc, AllByRecursion, Text, Ends}
 use Rattle.syslog_strict.proofs.Words.{heads, AreDistinct, is_escaped, is_sd_char, flat_map, ElementValue}
-use Rattle.syslog_strict.proofs.Words.{elements_text, joined_elements, element_text, param_text, is_ascii_digit, Option}
+use Rattle.syslog_strict.proofs.Words.{elements_text, joined_elements, element_text, param_text, Option}
 use Rattle.syslog_strict.proofs.Words.{Some, None, Bor, MatchOption, subst, shown}
 use Rattle.syslog_text.proofs.PieceLemmas.Class.{match_map, no_spaced_piece, no_spaced_space, spaced_front}
-use Rattle.syslog_text.proofs.PieceLemmas.Class.{division_front, AllDeterministic, exactly_det, optional_det}
-use Rattle.syslog_text.proofs.PieceLemmas.Class.{mapped_det, piece_front, ◌also◌, texted_det, row_det, after_det}
-use Rattle.syslog_text.proofs.PieceLemmas.Class.{row_pieces, front_of, no_front_no, rest_det, false_is, front_same}
+use Rattle.syslog_text.proofs.PieceLemmas.Class.{division_front, AllDeterministic, exactly_det}
+use Rattle.syslog_text.proofs.PieceLemmas.Class.{piece_front, ◌also◌, row_det}
+use Rattle.syslog_text.proofs.PieceLemmas.Class.{row_pieces, front_of, no_front_no, false_is, front_same}
 use Rattle.syslog_text.proofs.PieceLemmas.Class.{front_division}
 use Rattle.std.proofs.lemmas.List.{append_cancel_right, length-append}
-use Rattle.std.specs.Prelude.{◌↔◌, IsTrue, MatchBool, nat_le}
-use Rattle.syslog_strict.proofs.Words.{nat_tests}
-use Rattle.syslog_text.specs.Pieces.Class.{Class, Front, NoFront, IsDeterministic, Row, exactly, after, spaced, texted}
-use Rattle.syslog_text.specs.Pieces.Class.{rest, Values}
+use Rattle.std.specs.Prelude.{◌↔◌, IsTrue, MatchBool}
+use Rattle.syslog_text.specs.Pieces.Class.{Class, Front, NoFront, IsDeterministic, Row, exactly, after, spaced}
+use Rattle.syslog_text.specs.Pieces.Class.{Values}
 use Rattle.syslog_text.specs.{Pieces.Lists.many, Pieces.Rules.◌or◌, Pieces.Rules.short_run, Pieces.View.Recognises}
 use Rattle.syslog_text.specs.{Pieces.View.Skips}
 use Rattle.syslog_elements.specs.StructuredData.Escapes.{TextUnit, pair, single, unit_text}
-use Rattle.syslog_text.proofs.{PieceLemmas.Lists.many_det, TextLemmas.Bounded.numeral_det}
 use Rattle.syslog_text.proofs.PieceLemmas.Rules.{Opens, Prints, after_prints, exactly_apart, many_prints, or_det}
-use Rattle.syslog_text.proofs.PieceLemmas.Rules.{row_opens, short_run_det, such_det, none_left, second_of, first_of}
-use Rattle.syslog_pieces.proofs.TimestampLemmas.Rfc3339.{pair_det, year_det}
+use Rattle.syslog_text.proofs.PieceLemmas.Rules.{row_opens, such_det, none_left, second_of, first_of}
+use Rattle.syslog_pieces.proofs.TimestampLemmas.Rfc3339.{small_pair_det, year_det}
 use Rattle.syslog_pieces.specs.Timestamp.Rfc3339.{pair as two_digits, year}
 use Rattle.syslog_strict.specs.Grammar.{IsValueUnit, sd_element, sd_elements, sd_param, sd_name, value_unit, param_row}
 use Rattle.syslog_strict.specs.Grammar.{element_row, date_row, partial_time, time_numoffset, date_time, AreElements}
@@ -56,9 +54,6 @@ date_opens p q vs (h, _) = row_opens year (after 45 (two_digits 100) ∷ after 4
 sign_det : IsDeterministic grammar.sign
 sign_det = or_det (exactly_det _) (exactly_det _) (exactly_apart 43
     (exactly (45 ∷ [])) (λ p q v h. (45, [], h, omega arith)))
-
-small_pair_det : (limit : ℕ) → nat_le limit 100 ≡ true → IsDeterministic (two_digits limit)
-small_pair_det limit small = pair_det limit (grind (arith, nat_tests))
 
 ruleset of_times = (small_pair_det, year_det, sign_det, determined)
 

@@ -1,16 +1,16 @@
 -- Dates with the name of a month, their timestamps in a zone, and the timestamps of RFC 3164.
 use Rattle.syslog_pieces.proofs.Names.{AllDeterministic, nanos_of_seconds, AmbiguousOffset, OffsetTimestamp, either_det}
 use Rattle.syslog_pieces.proofs.Names.{IsDeterministic, rows_none_later, agree_below_at, is_ascii_digit, rows_none_here}
-use Rattle.syslog_pieces.proofs.Names.{IsStampOfClock, same_datetime, rfc3164_stamp, IsAscii-cons, some_run_det, nat_eq}
+use Rattle.syslog_pieces.proofs.Names.{IsStampOfClock, same_datetime, rfc3164_stamp, IsAscii-cons, nat_eq}
 use Rattle.syslog_pieces.proofs.Names.{mapped_front, begins_apart, common_steps, IsMonthStamp, header_stamp, first_kind}
-use Rattle.syslog_pieces.proofs.Names.{lowercase_is, begins_with, exactly_det, begins_more, second_kind, MatchOption, ℕ}
-use Rattle.syslog_pieces.proofs.Names.{Unambiguous, CivilFields, no_front_no, row_pieces, mapped_det, month_date, subst}
+use Rattle.syslog_pieces.proofs.Names.{lowercase_is, begins_with, begins_more, second_kind, MatchOption, ℕ}
+use Rattle.syslog_pieces.proofs.Names.{Unambiguous, CivilFields, no_front_no, row_pieces, month_date, subst}
 use Rattle.syslog_pieces.proofs.Names.{ClockStamp, front_same, fields_of, unwrap_or, IsStampAt, slice_get, nat_tests, ℤ}
 use Rattle.syslog_pieces.proofs.Names.{clock_row, MonthDate, rest_same, no_mapped, rows_join, no_either, rows_step, ◌≡◌}
-use Rattle.syslog_pieces.proofs.Names.{year_row, some_run, priority, is_blank, run_same, row_head, DateTime, TimeZone}
-use Rattle.syslog_pieces.proofs.Names.{IsAnswer, row_det, IsAscii, NoFront, day_row, run_det, IsAlone, get_or, length}
-use Rattle.syslog_pieces.proofs.Names.{Option, Begins, Values, ◌also◌, Offset, Dating, mapped, arith, Front, month, ◌-◌}
-use Rattle.syslog_pieces.proofs.Names.{Class, colon, Apart, drop, Some, None, refl, Text, ◌-ℤ◌, Fold, Bool, true, List}
+use Rattle.syslog_pieces.proofs.Names.{year_row, some_run, is_blank, run_same, row_head, DateTime, TimeZone}
+use Rattle.syslog_pieces.proofs.Names.{IsAnswer, IsAscii, NoFront, day_row, IsAlone, get_or, length}
+use Rattle.syslog_pieces.proofs.Names.{Option, Begins, Values, Offset, Dating, mapped, arith, Front, month, ◌-◌}
+use Rattle.syslog_pieces.proofs.Names.{Class, Apart, drop, Some, None, refl, Text, ◌-ℤ◌, Fold, Bool, true, List}
 use Rattle.syslog_pieces.proofs.Names.{◌++◌, take, ◌<◌, ◌≤◌, ◌∷◌, sym, ◌∙◌, map, inl, inr, Row, pos, Gap, ◌+◌, [], ap}
 use Rattle.std.specs.Char.{to_ascii_lowercase}
 use Rattle.std.proofs.lemmas.Option.{slice_get_within}
@@ -25,14 +25,14 @@ use Rattle.syslog_pieces.specs.Bodies.Clock.{zone_of, civil_of, year_of}
 use Rattle.syslog_pieces.specs.Timestamp.Zone.{IsStampOfFields}
 use Rattle.syslog_pieces.specs.Timestamp.Zone.{earlier, IsStampOf, IsStampInGap, IsStampInAny}
 use Rattle.syslog_text.proofs.TextLemmas.Runs.{one_ascii}
-use Rattle.syslog_text.proofs.PieceLemmas.Class.{all_joined, rest_det, optional_det, unique_division, rows_split}
+use Rattle.syslog_text.proofs.PieceLemmas.Class.{unique_division, rows_split}
 use Rattle.syslog_text.proofs.PieceLemmas.Lists.{each_begins}
 use Rattle.syslog_pieces.proofs.PriLemmas.{priority_det}
-use Rattle.syslog_text.proofs.TextLemmas.Words.{number_det}
 use Rattle.syslog_pieces.proofs.TimestampLemmas.Rfc3339.{answer_same, same_timestamp, same_offset, header_stamp_det}
 use Rattle.syslog_pieces.proofs.TimestampLemmas.Rfc3339.{writes-first}
 use Rattle.syslog_pieces.proofs.TimestampLemmas.Civil.{civil_nanos-fields, civil-fields, datetime_of, has_fields}
 use Rattle.syslog_pieces.proofs.TimestampLemmas.Civil.{is_datetime}
+use Rattle.syslog_text.proofs.Determined.{determined}
 
 -- ---- the names of the months, letter by letter
 
@@ -139,32 +139,27 @@ no_month_letters bs low p q n f h =
 
 -- ---- a text has one month date at its front, and shows one; and what the readers of month dates return
 pub clock_det : AllDeterministic clock_row
-clock_det =
-    number_det 4294967295 also exactly_det colon also number_det 4294967295 also exactly_det colon
-    also number_det 4294967295 also optional_det _ (exactly_det colon) also tt
+clock_det = search (month_det, determined) depth 32
 
 pub day_det : AllDeterministic day_row
-day_det = month_det also some_run_det is_blank also number_det 4294967295 also some_run_det is_blank also tt
+day_det = search (month_det, determined) depth 32
 
 pub year_det : AllDeterministic year_row
-year_det = number_det 2147483647 also some_run_det is_blank also tt
+year_det = search (month_det, determined) depth 32
 
 abbrev from_year : List Class
 from_year = year_row ++ clock_row
 
 -- a text has one date without a year at its front
 pub yearless_det : IsDeterministic yearless_date
-yearless_det = mapped_det (Row yearless_row) MonthDate yearless_of
-    (row_det yearless_row (all_joined day_row clock_row day_det clock_det))
+yearless_det = search (month_det, determined) depth 32
 
--- and one with a year
--- a month date with a year
+-- a month date with a year, of which it has one too
 abbrev pub dated_date : Class
 dated_date = mapped (Row dated_row) MonthDate dated_of
 
 pub dated_det : IsDeterministic dated_date
-dated_det = mapped_det (Row dated_row) MonthDate dated_of
-    (row_det dated_row (all_joined day_row from_year day_det (all_joined year_row clock_row year_det clock_det)))
+dated_det = search (month_det, determined) depth 32
 
 -- ---- it has not both: after the day, the one has a number before a colon, the other a number before a blank
 
@@ -211,7 +206,7 @@ month_date_begins p q v (inr (vs, h, i)) = row_begins (after_month ++ from_year)
 
 -- ---- a text shows one date without a year
 showing_det : AllDeterministic (showing_row yearless_date)
-showing_det = optional_det priority priority_det also run_det is_blank also yearless_det also rest_det also tt
+showing_det = search (priority_det, yearless_det, determined) depth 32
 
 pub shown_once : (text : Text) (d d' : MonthDate) → ShowsYearless text d → ShowsYearless text d' → d ≡ d'
 shown_once text d d' (p, more, h) (p', more', h') = ap (λ (x : Values (showing_row yearless_date)). x.1.1.0)

@@ -4,17 +4,19 @@ use Rattle.syslog_pieces.proofs.Names.{days_in_month_bounds, fields_of_rfc3339, 
 use Rattle.syslog_pieces.proofs.Names.{IsStampOfRfc3339, AllDeterministic, nanos_of_seconds, encode_utf8_all, no_mapped}
 use Rattle.syslog_pieces.proofs.Names.{IsOffsetSeconds, IsDeterministic, OffsetTimestamp, nanos_of_fields, append_assoc}
 use Rattle.syslog_pieces.proofs.Names.{encodes-IsAscii, is_ascii_digit, IsStampOfClock, is_prop→PathP, Rfc3339Fields, ℕ}
-use Rattle.syslog_pieces.proofs.Names.{length-append, fraction_text, if◌then◌else◌, some_run_det, mapped_front, IsAlone}
+use Rattle.syslog_pieces.proofs.Names.{length-append, fraction_text, if◌then◌else◌, mapped_front, IsAlone}
 use Rattle.syslog_pieces.proofs.Names.{IsAsciiDigit, header_stamp, unsigned_abs, signed_arith, civil_fields, front_same}
 use Rattle.syslog_pieces.proofs.Names.{IsStampText, clock_value, numeric_row, CivilFields, second_kind, piece_front, ap}
-use Rattle.syslog_pieces.proofs.Names.{each_append, stamp_text, written_of, ClockStamp, mapped_det, texted_det, row_det}
+use Rattle.syslog_pieces.proofs.Names.{each_append, stamp_text, written_of, ClockStamp, mapped_det, row_det}
 use Rattle.syslog_pieces.proofs.Names.{either_det, append-nil, row_pieces, seconds_of, no_either, nat_tests, year_sign}
-use Rattle.syslog_pieces.proofs.Names.{Timestamp, stamp_row, IsAnswer, HasStamp, decimals, fraction, AreCivil, some_run}
-use Rattle.syslog_pieces.proofs.Names.{exactly, Divides, NoFront, length, negsuc, Option, Offset, Values, texted, neg_ℤ}
+use Rattle.syslog_pieces.proofs.Names.{Timestamp, stamp_row, IsAnswer, HasStamp, decimals, fraction, AreCivil}
+use Rattle.syslog_pieces.proofs.Names.{exactly, Divides, NoFront, length, negsuc, Option, Offset, Values, neg_ℤ}
 use Rattle.syslog_pieces.proofs.Names.{mapped, is_dot, letter, offset, ◌also◌, false, subst, arith, props, Front, after}
 use Rattle.syslog_pieces.proofs.Names.{heads, Apart, Class, rules, Each, dash, ◌+ℤ◌, ◌≤ℤ◌, ◌-ℤ◌, List, ◌++◌, Bool, true}
 use Rattle.syslog_pieces.proofs.Names.{Some, None, refl, pad2, pad4, Text, Ends, sign, year, ◌≡◌, inl, inr, ◌+◌, ◌/◌, ℤ}
 use Rattle.syslog_pieces.proofs.Names.{◌%◌, ◌<◌, ◌≤◌, ◌∷◌, sym, ◌∙◌, Row, pos, suc, ◌*◌, min, unsigned_date_time}
+use Rattle.std.specs.Prelude.{nat_le}
+use Rattle.syslog_text.proofs.Determined.{determined}
 use Rattle.jiff_core.specs.Calendar.{IsWithin}
 use Rattle.syslog_pieces.specs.Timestamp.Rfc3339.{pair, HasRfc3339Stamp}
 use Rattle.syslog_pieces.specs.Timestamp.Printed.{printed_stamp, date_time_text, offset_text, offset_sign}
@@ -32,6 +34,10 @@ use Rattle.syslog_pieces.proofs.TimestampLemmas.Digits.{fraction_characters, pai
 pub pair_det : (limit : ℕ) → limit ≤ 100 → IsDeterministic (pair limit)
 pair_det limit small p q p' q' n n' e h h' = grind arith
 
+-- the same, where a computed test says that the limit is small: so a search finds it
+pub small_pair_det : (limit : ℕ) → nat_le limit 100 ≡ true → IsDeterministic (pair limit)
+small_pair_det limit small = pair_det limit (grind (arith, nat_tests))
+
 pub year_det : IsDeterministic year
 year_det p q p' q' n n' e h h' = grind arith
 
@@ -39,7 +45,7 @@ letter_det : (upper : ℕ) → IsDeterministic (letter upper)
 letter_det upper p q p' q' v v' e h h' = grind arith
 
 pub decimals_det : IsDeterministic decimals
-decimals_det = mapped_det (texted (some_run is_ascii_digit)) ℕ _ (texted_det _ (some_run_det is_ascii_digit))
+decimals_det = search determined depth 32
 
 no_dot_det : IsDeterministic (record { Value = ℕ; Is = λ p q n. (p ≡ []) × Ends is_dot q × (n ≡ 0) })
 no_dot_det p q p' q' n n' e h h' = (h.0 ∙ sym h'.0, h.2 ∙ sym h'.2)
@@ -53,11 +59,11 @@ fraction_det : IsDeterministic fraction
 fraction_det = either_det ℕ (λ p q n. (p ≡ []) × Ends is_dot q × (n ≡ 0)) (after 46 decimals).Is no_dot_det
     (after_det decimals decimals_det) dot_apart
 
-sign_det : IsDeterministic sign
+pub sign_det : IsDeterministic sign
 sign_det p q p' q' b c e h h' = grind arith
 
 pub numeric_det : AllDeterministic numeric_row
-numeric_det = sign_det also pair_det 24 (omega arith) also after_det (pair 60) (pair_det 60 (omega arith)) also tt
+numeric_det = search (small_pair_det, sign_det, determined) depth 32
 
 -- a letter and a sign
 abbrev zulu : Class
@@ -83,14 +89,10 @@ module _ {t : Text} where
       (mapped_front (Row numeric_row) ℤ seconds_of f)
 
 pub stamp_pieces_det : AllDeterministic stamp_row
-stamp_pieces_det =
-    let two = pair_det 100 (omega arith) in
-    year_det also after_det (pair 100) two also after_det (pair 100) two also letter_det 84 also two
-    also after_det (pair 100) two also after_det (pair 61) (pair_det 61 (omega arith)) also fraction_det
-    also offset_det also tt
+stamp_pieces_det = search (small_pair_det, year_det, letter_det, fraction_det, offset_det, determined) depth 32
 
 pub stamp_text_det : IsDeterministic stamp_text
-stamp_text_det = mapped_det (Row stamp_row) Rfc3339Fields written_of (row_det stamp_row stamp_pieces_det)
+stamp_text_det = search (stamp_pieces_det, determined) depth 32
 
 pub no_stamp_text : {t : Text} → Fails stamp_row t → NoFront stamp_text t
 no_stamp_text h = no_mapped (Row stamp_row) Rfc3339Fields written_of (no_row stamp_row stamp_pieces_det h)
